@@ -1,0 +1,3 @@
+pub mod Counts
+pub mod Known
+pub mod Numbers

@@ -1,0 +1,69 @@
+ghost use Rattle.std.specs.Prelude.{◌≡◌, [], ◌∷◌, ◌++◌, OnOk, OnErr};
+
+use crate::word::Word;
+use rg_bytes::Memory;
+use std::alloc::Global;
+use std::marker::Model;
+
+/// What the values of a column are.
+#[derive(Clone, Copy, Debug, PartialEq, Eq, Hash)]
+pub enum Kind {
+    /// A whole number from -10^12 to 10^12, as an amount in the smallest unit.
+    Int,
+    /// A number below 2^64.
+    Id,
+    /// UTF-8 of at most 255 bytes.
+    Text,
+    /// True or false.
+    Flag,
+}
+
+/// The value of a column in one event.
+#[derive(Debug, Drop)]
+pub enum Value {
+    Int(i64),
+    Id(u64),
+    Text(Word),
+    Flag(bool),
+}
+
+/// A list of values.
+#[derive(Debug, Drop)]
+pub struct Values {
+    list: Vec<Value>,
+}
+
+impl Model for Values {
+    ghost use Rattle.std.specs.Prelude.{List};
+    ghost use Rattle.rg_event.specs.declared.value.Value.{Value as TheValue};
+
+    ghost Value = { List TheValue };
+
+    ghost view = { λ v. v.list.items };
+}
+
+impl Values {
+    /// No values.
+    pub fn new(alloc: Global) -> Values
+        ensures { result ≡ [] }
+    {
+        Values {
+            list: Vec::new(alloc),
+        }
+    }
+
+    /// Adds a value at the end.
+    pub fn push(&mut self, value: Value) -> Result<(), Memory>
+        ensures ok { OnOk result (self.new ≡ self.old ++ value ∷ []) }
+        ensures err { OnErr result (self.new ≡ self.old) }
+    {
+        self.list.push(value)?;
+        Ok(())
+    }
+
+    pub fn as_slice(&self) -> &[Value]
+        ensures { result.now ≡ self.now }
+    {
+        &self.list
+    }
+}

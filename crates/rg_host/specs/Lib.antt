@@ -1,0 +1,5 @@
+pub mod Lines
+pub mod Reading
+pub mod Moments
+pub mod Puts
+pub mod PutLaws

@@ -1,0 +1,6 @@
+//! The events so far, read through spots.
+#![tactic(auto)]
+
+mod past;
+
+pub use past::{Past, PastFault, Spot};

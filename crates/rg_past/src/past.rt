@@ -1,0 +1,146 @@
+ghost use Rattle.std.specs.Prelude.{◌≡◌, ◌↔◌, ℕ, ◌+◌, ◌<◌, ◌≤◌, ◌^◌, List, [], ◌∷◌, ◌++◌, length, OnOk, OnErr, IsErrOf};
+ghost use Rattle.std.specs.Borrow.{sem};
+ghost use Rattle.std.specs.Io.BufRead.{Rests};
+ghost use Rattle.rg_bytes.specs.Counts.{Rose};
+ghost use Rattle.rg_event.specs.declared.event.Event.{Event};
+ghost use Rattle.rg_past.specs.declared.past.Spot.{Spot};
+ghost use Rattle.rg_past.specs.Order.{IsRising, MayFollow};
+ghost use Rattle.rg_past.specs.Peek.{IsWithin, Shows};
+
+use rg_event::Event;
+
+/// A spot of a past: it names event `number`, or the end where that is the count.
+#[derive(Clone, Copy, Debug, PartialEq, Eq, Hash)]
+pub struct Spot {
+    /// Where the event's chunk stands, in bytes.
+    pub place: u64,
+    /// The event's index in its chunk.
+    pub index: u32,
+    /// The event's number, from 0.
+    pub number: u64,
+}
+
+/// Why a call on a past was refused.
+#[derive(Clone, Copy, Debug, PartialEq, Eq, Hash)]
+pub enum PastFault {
+    /// A call on the disk failed.
+    Disk,
+    /// What stands at that place is damaged.
+    Damaged(u64),
+    /// The past holds as many events as it may.
+    Full,
+    /// Memory ran out.
+    Memory,
+    /// An earlier failure ended the past.
+    Ended,
+}
+
+/// The events so far.
+pub trait Past {
+    /// The events, the first one first.
+    ghost events: { Self → List Event };
+
+    /// How many events it may hold.
+    ghost limit: { Self → ℕ };
+
+    /// How often a call on its disk has failed, up to 2^64 - 1.
+    ghost faults: { Self → ℕ };
+
+    /// An earlier failure ended it.
+    ghost ended: { Self → Type 0 };
+
+    /// What it reads is what was stored.
+    ghost sound: { Self → Type 0 };
+
+    /// There is room for one event more before the next commit.
+    ghost has_room: { Self → Type 0 };
+
+    /// The event is one of the past's schema, within its ranges.
+    ghost fits: { Self → Event → Type 0 };
+
+    /// What stands at that place is damaged.
+    ghost illegal: { Self → ℕ → Type 0 };
+
+    /// The spot's number is at most the count, and its place and index are a spelling of that event or of the end.
+    ghost spells: { Self → Spot → Type 0 };
+
+    /// The same, in the later one of two spellings.
+    ghost spells_later: { Self → Spot → Type 0 };
+
+    /// From an earlier state of one past to a later one.
+    ghost goes: { Self → Self → Type 0 };
+
+    /// Adds an event at the end.
+    fn append(&mut self, event: Event) -> Result<(), PastFault>
+        requires room { has_room self.old }
+        requires fits { fits self.old event }
+        requires follows { MayFollow (events self.old) event }
+        ensures ok { OnOk result (events self.new ≡ events self.old ++ event ∷ []) }
+        ensures err { OnErr result (events self.new ≡ events self.old) }
+        ensures keeps_room { OnErr result (has_room self.old → has_room self.new) }
+
+        // Ended is looked at first, and then Full.
+        ensures ended { IsErrOf result PastFault.Ended ↔ ended self.old }
+        ensures full { IsErrOf result PastFault.Full → limit self.old ≤ length (events self.old) }
+        ensures below { OnOk result (length (events self.old) < limit self.old) }
+        ensures no_disk { IsErrOf result PastFault.Disk → ⊥ }
+        ensures no_damage { (place : ℕ) → IsErrOf result (PastFault.Damaged place) → ⊥ }
+
+        ensures goes { goes self.old self.new }
+        ensures keeps_ended { ended self.new ↔ ended self.old }
+        ensures sound { sound self.old → sound self.new }
+        ensures later { faults self.old ≤ faults self.new };
+
+    /// Looks at the event of a spot. Over a sound past an answer leaves the spot in its later spelling.
+    fn peek(&mut self, spot: &mut Spot) -> Result<Option<&Event>, PastFault>
+        requires { spot.old.number ≤ length (events self.old) }
+        ensures* after { sem 𝓛 (Rests Self.row self.entry (λ new.
+            (events new ≡ events self.old)
+            × goes self.old new
+            × (ended new ↔ ended self.old)
+            × (sound self.old → sound new)
+            × (has_room self.old → has_room new)
+            × (faults self.old ≤ faults new)
+            × (IsErrOf result PastFault.Disk → Rose (faults self.old) (faults new))
+            × ((place : ℕ) → IsErrOf result (PastFault.Damaged place) → illegal new place)
+            × (sound self.old → spells self.old spot.old → spells new spot.new × OnOk result (spells_later new spot.new)))) }
+        ensures number { spot.new.number ≡ spot.old.number }
+        ensures within { IsWithin (events self.old) spot.new result }
+        ensures event { sound self.old → spells self.old spot.old → Shows (events self.old) spot.old.number result }
+        ensures ended { IsErrOf result PastFault.Ended ↔ ended self.old }
+        ensures no_full { IsErrOf result PastFault.Full → ⊥ };
+
+    /// Moves a spot on to the next event.
+    fn advance(&self, spot: &mut Spot)
+        requires number { spot.old.number < length (events self.now) }
+        requires index { spot.old.index < 4096 }
+        ensures next { spot.new.number ≡ spot.old.number + 1 }
+        ensures spells { sound self.now → spells_later self.now spot.old → spells self.now spot.new };
+
+    /// How many events there are.
+    fn count(&self) -> u64
+        ensures { result ≡ length (events self.now) };
+
+    /// The spot of event 0.
+    fn start(&self) -> Spot
+        ensures number { result.number ≡ 0 }
+        ensures spells { sound self.now → (ended self.now → ⊥) → spells self.now result };
+
+    ghost reflexive: { (p : Self) → goes p p };
+
+    ghost transitive: { (p q r : Self) → goes p q → goes q r → goes p r };
+
+    ghost limit_stays: { (p q : Self) → goes p q → limit q ≡ limit p };
+
+    /// The limit of a sound past is at most 2^40.
+    ghost small_limit: { (p : Self) → sound p → limit p ≤ 2 ^ 40 };
+
+    ghost count_grows: { (p q : Self) → goes p q → length (events p) ≤ length (events q) };
+
+    ghost stays_spelled: { (p q : Self) (s : Spot) → goes p q → sound p → spells p s → spells q s };
+
+    ghost later_is_spelled: { (p : Self) (s : Spot) → spells_later p s → spells p s };
+
+    /// The events of a sound past that hasn't ended are at most 2^40 and in order.
+    ghost in_order: { (p : Self) → sound p → (ended p → ⊥) → IsRising (events p) × (length (events p) ≤ 2 ^ 40) };
+}

@@ -1,0 +1,6 @@
+//! The text of replies and marks.
+#![tactic(auto)]
+
+mod mark;
+
+pub use mark::Mark;

@@ -2,5 +2,7 @@
 #![tactic(auto)]
 
 mod memory;
+mod number;
 
 pub use memory::Memory;
+pub use number::{read_signed, read_whole};

@@ -29,6 +29,16 @@ impl Model for Answers {
     ghost view = { λ a. a.list.items };
 }
 
+impl From<Vec<Answer>> for Answers {
+    ghost use Rattle.std.specs.Prelude.{◌≡◌};
+
+    ghost from_gives = { λ list answers. answers ≡ list.items };
+
+    fn from(list: Vec<Answer>) -> Answers {
+        Answers { list }
+    }
+}
+
 impl Answers {
     /// No answers.
     pub fn new(alloc: Global) -> Answers

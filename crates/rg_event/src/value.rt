@@ -1,4 +1,4 @@
-ghost use Rattle.std.specs.Prelude.{◌≡◌, [], ◌∷◌, ◌++◌, OnOk, OnErr};
+ghost use Rattle.std.specs.Prelude.{◌≡◌, [], ◌∷◌, ◌++◌, OnOk, OnErr, IfOk};
 
 use crate::word::Word;
 use rg_bytes::Memory;
@@ -19,12 +19,26 @@ pub enum Kind {
 }
 
 /// The value of a column in one event.
-#[derive(Debug, Drop)]
+#[derive(Debug, PartialEq, Eq, Drop)]
 pub enum Value {
     Int(i64),
     Id(u64),
     Text(Word),
     Flag(bool),
+}
+
+impl Value {
+    /// A value of the same kind, and equal.
+    pub fn copy(&self, alloc: Global) -> Result<Value, Memory>
+        ensures { IfOk result (λ value. value ≡ self.now) }
+    {
+        match self {
+            Value::Int(number) => Ok(Value::Int(*number)),
+            Value::Id(number) => Ok(Value::Id(*number)),
+            Value::Text(word) => Ok(Value::Text(word.copy(alloc)?)),
+            Value::Flag(flag) => Ok(Value::Flag(*flag)),
+        }
+    }
 }
 
 /// A list of values.
@@ -59,6 +73,17 @@ impl Values {
     {
         self.list.push(value)?;
         Ok(())
+    }
+
+    /// The same values, in order.
+    pub fn copy(&self, alloc: Global) -> Result<Values, Memory>
+        ensures { IfOk result (λ values. values ≡ self.now) }
+    {
+        let mut list = Vec::with_capacity(alloc, self.list.len())?;
+        for value in &self.list {
+            list.push(value.copy(alloc)?)?;
+        }
+        Ok(Values { list })
     }
 
     pub fn as_slice(&self) -> &[Value]

@@ -1,2 +1,4 @@
+pub mod Held
+pub mod HeldLaws
 pub mod Order
 pub mod Peek

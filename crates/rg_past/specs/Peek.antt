@@ -1,12 +1,10 @@
 -- A look at a spot.
-use Rattle.std.specs.Prelude.{◌≡◌, ℕ, ◌<◌, ◌≤◌, List, Option, Result, IfOk, IfSome, OnOk, IsErrOf, length, slice_get}
+use Rattle.std.specs.Prelude.{◌≡◌, ℕ, ◌<◌, List, Option, Result, IfOk, IfSome, length, slice_get}
 use Rattle.std.specs.Borrow.{Bor}
 use Rattle.std.specs.Option.{option_copied}
-use Rattle.rg_bytes.specs.Counts.{Rose}
 use Rattle.rg_event.specs.declared.event.Event.{Event}
 use Rattle.rg_past.specs.declared.past.Spot.{Spot}
 use Rattle.rg_past.specs.declared.past.PastFault.{PastFault}
-use Rattle.rg_past.specs.declared.past.PastFault.TheVariants.{Disk, Damaged}
 
 -- what a look answers
 abbrev pub Look : Type 0

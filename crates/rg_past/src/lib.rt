@@ -2,5 +2,7 @@
 #![tactic(auto)]
 
 mod past;
+mod vec_past;
 
 pub use past::{Past, PastFault, Spot};
+pub use vec_past::VecPast;

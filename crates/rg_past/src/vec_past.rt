@@ -1,0 +1,140 @@
+ghost use Rattle.std.specs.Prelude.{◌≡◌, ◌≤◌, ◌<◌, ◌^◌, [], IfSome, length, slice_get};
+ghost use Rattle.std.specs.Option.{option_copied};
+
+use crate::past::{Past, PastFault, Spot};
+use rg_event::Event;
+use std::alloc::Global;
+use std::marker::Model;
+
+/// A past whose events stand in memory.
+#[derive(Debug, Drop)]
+pub struct VecPast {
+    events: Vec<Event>,
+    limit: u64,
+}
+
+impl Model for VecPast {
+    ghost use Rattle.rg_past.specs.Held.{Held};
+
+    ghost Value = { Held };
+
+    ghost view = { λ p. record { events = p.events.items; limit = p.limit } };
+}
+
+impl VecPast {
+    /// An empty past of at most `limit` events.
+    pub fn new(alloc: Global, limit: u64) -> VecPast
+        requires { limit ≤ 2 ^ 40 }
+        ensures empty { result.events ≡ [] }
+        ensures limit { result.limit ≡ limit }
+        ensures sound { ⟦<VecPast as Past>⟧.sound result }
+    {
+        VecPast {
+            events: Vec::new(alloc),
+            limit,
+        }
+    }
+
+    /// The events, the first one first.
+    pub fn events(&self) -> &[Event]
+        ensures { result.now ≡ self.now.events }
+    {
+        &self.events
+    }
+
+    /// How many events it may hold.
+    pub fn limit(&self) -> u64
+        ensures { result ≡ self.now.limit }
+    {
+        self.limit
+    }
+}
+
+impl Past for VecPast {
+    ghost use Rattle.std.specs.Prelude.{⊤};
+    ghost use Rattle.rg_past.specs.Held.{IsSound, IsInRange, Spells, Goes};
+    ghost use Rattle.rg_past.specs.HeldLaws.{Goes-same, Goes-join, Goes-length, Goes-spells, IsSound-in_order};
+
+    ghost events = { λ p. p.events };
+
+    ghost limit = { λ p. p.limit };
+
+    ghost faults = { λ _. 0 };
+
+    ghost ended = { λ _. ⊥ };
+
+    ghost sound = { IsSound };
+
+    ghost has_room = { λ _. ⊤ };
+
+    ghost fits = { λ _ event. IsInRange event };
+
+    ghost illegal = { λ _ _. ⊥ };
+
+    ghost spells = { Spells };
+
+    ghost spells_later = { Spells };
+
+    ghost goes = { Goes };
+
+    fn append(&mut self, event: Event) -> Result<(), PastFault> {
+        if self.events.len() as u64 >= self.limit {
+            return Err(PastFault::Full);
+        }
+        if self.events.push(event).is_err() {
+            return Err(PastFault::Memory);
+        }
+        Ok(())
+    }
+
+    fn peek(&mut self, spot: &mut Spot) -> Result<Option<&Event>, PastFault> {
+        if spot.index >= 4096 {
+            return Ok(None);
+        }
+        Ok(event_at(&self.events, spot.number))
+    }
+
+    fn advance(&self, spot: &mut Spot) {
+        prove!(spot.number < self.count());
+        spot.number += 1;
+    }
+
+    fn count(&self) -> u64 {
+        self.events.len() as u64
+    }
+
+    fn start(&self) -> Spot {
+        Spot {
+            place: 0,
+            index: 0,
+            number: 0,
+        }
+    }
+
+    ghost reflexive = { Goes-same };
+
+    ghost transitive = { Goes-join };
+
+    ghost limit_stays = { λ p q goes. goes.limit };
+
+    ghost small_limit = { λ p sound. sound.small };
+
+    ghost count_grows = { Goes-length };
+
+    ghost stays_spelled = { λ p q s goes _ spells. Goes-spells p q s goes spells };
+
+    ghost later_is_spelled = { λ p s spells. spells };
+
+    ghost in_order = { λ p sound _. IsSound-in_order p sound };
+}
+
+/// The event of that number, where there is one.
+fn event_at(events: &[Event], number: u64) -> Option<&Event>
+    ensures event { option_copied result ≡ slice_get events.now number }
+    ensures within { IfSome result (λ _. number < length events.now) }
+{
+    events.get(number as usize)
+}
+
+#[cfg(test)]
+mod tests;

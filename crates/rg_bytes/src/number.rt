@@ -1,6 +1,12 @@
-ghost use Rattle.std.specs.Prelude.{◌≡◌, ◌≤◌, length, Some, None, if◌then◌else◌};
+ghost use Rattle.std.specs.Prelude.{◌≡◌, ◌≤◌, ◌<◌, ◌^◌, ◌++◌, ◌+◌, length, vec_len, vec_capacity, Some, None, if◌then◌else◌, decimal, OnOk, OnErr};
+ghost use Rattle.std.specs.Fmt.{signed_decimal};
+ghost use Rattle.std.specs.Int.RustNames.{unsigned_abs};
 ghost use Rattle.std.specs.Str.{all_ascii_digits};
 ghost use Rattle.rg_bytes.specs.Numbers.{value_of, number_of, whole_of, signed_of};
+
+use crate::memory::Memory;
+use crate::put::put_bytes;
+use itoa::Buffer;
 
 /// The greatest number of digits whose every number is below 2^64.
 const SAFE_DIGITS: usize = 19;
@@ -24,6 +30,26 @@ pub fn read_signed(text: &[u8]) -> Option<i64>
         (b'+', digits) => Some(read_number(digits, SIGNED_MOST)? as i64),
         _ => Some(read_number(text, SIGNED_MOST)? as i64),
     }
+}
+
+/// Writes the digits of a number at the end.
+pub fn write_whole(out: &mut Vec<u8>, v: u64) -> Result<(), Memory>
+    ensures ok { OnOk result (out.new.items ≡ out.old.items ++ decimal v) }
+    ensures err { OnErr result (out.new.items ≡ out.old.items) }
+    ensures full { OnErr result (vec_capacity out.old < vec_len out.old + length (decimal v)) }
+    ensures reads_back { whole_of (decimal v) ≡ Some v }
+{
+    put_bytes(out, Buffer::new().format(v).as_bytes())
+}
+
+/// Writes a number at the end: `-` where it is below 0, and its digits.
+pub fn write_signed(out: &mut Vec<u8>, v: i128) -> Result<(), Memory>
+    ensures ok { OnOk result (out.new.items ≡ out.old.items ++ signed_decimal v) }
+    ensures err { OnErr result (out.new.items ≡ out.old.items) }
+    ensures full { OnErr result (vec_capacity out.old < vec_len out.old + length (signed_decimal v)) }
+    ensures reads_back { unsigned_abs v < 2 ^ 63 → signed_of (signed_decimal v) ≡ Some v }
+{
+    put_bytes(out, Buffer::new().format(v).as_bytes())
 }
 
 /// Reads a number of 1 to 20 digits that is at most `most`.

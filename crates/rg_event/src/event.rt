@@ -27,3 +27,41 @@ impl Event {
         })
     }
 }
+
+#[cfg(test)]
+mod tests {
+    use super::*;
+    use crate::value::Value;
+    use crate::word::Word;
+
+    #[test]
+    fn a_copy_has_a_value_of_each_kind(rt: HostRuntime) -> Result<(), Memory> {
+        let alloc = rt.alloc();
+        let mut values = Values::new(alloc);
+        values.push(Value::Int(-3))?;
+        values.push(Value::Id(u64::MAX))?;
+        values.push(Value::Text(Word::new(alloc, b"card")?))?;
+        values.push(Value::Flag(true))?;
+        let event = Event {
+            offset: 40,
+            time: 7,
+            values,
+        };
+        let copy = event.copy(alloc)?;
+        assert_eq!(rt; copy.offset, 40);
+        assert_eq!(rt; copy.time, 7);
+        assert_eq!(rt; copy.values.as_slice(), event.values.as_slice());
+        match copy.values.as_slice() {
+            [
+                Value::Int(-3),
+                Value::Id(u64::MAX),
+                Value::Text(word),
+                Value::Flag(true),
+            ] => {
+                assert_eq!(rt; word.as_bytes(), b"card".as_slice());
+            }
+            other => panic!(rt; "{other:?}"),
+        }
+        Ok(())
+    }
+}

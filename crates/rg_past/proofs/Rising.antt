@@ -1,5 +1,5 @@
 -- Events that rise, and one event more.
-use Rattle.std.proofs.Common.{◌≡◌, ◌<◌, List, [], ◌∷◌, ◌++◌, length, ap, arith, length-append}
+use Rattle.std.proofs.Common.{◌≡◌, ℕ, ◌<◌, List, [], ◌∷◌, ◌++◌, length, ap, arith, length-append}
 use Rattle.rg_event.specs.declared.event.Event.{Event}
 use Rattle.rg_past.specs.Held.{Held, IsSound}
 use Rattle.rg_past.specs.Order.{IsRising, MayFollow}
@@ -12,8 +12,8 @@ IsRising-append (x ∷ (y ∷ events)) event rising follows =
     (rising.0, rising.1, IsRising-append (y ∷ events) event rising.2 (record { offset = follows.offset; time = follows.time }))
 
 -- below the limit a past stays sound when such an event is added
-pub stays_sound : (old new : Held) (event : Event) → IsSound old → MayFollow old.events event → length old.events < old.limit → new.events ≡ old.events ++ event ∷ [] → new.limit ≡ old.limit → IsSound new
-stays_sound old new event sound follows room added same = record {
+pub stays_sound : (old : Held) (events : List Event) (limit : ℕ) (event : Event) → IsSound old → MayFollow old.events event → limit ≡ old.limit → events ≡ old.events ++ event ∷ [] → length old.events < limit → IsSound (record { events = events; limit = limit })
+stays_sound old events limit event sound follows same added room = record {
   rising = rw added (IsRising-append old.events event sound.rising follows);
   within = omega (arith, ap length added, length-append old.events (event ∷ []), sound.within);
   small = omega (arith, sound.small);

@@ -77,6 +77,7 @@ impl Past for VecPast {
 
     ghost goes = { Goes };
 
+    #[tactic(auto, using(crate::proofs::Rising::stays_sound))]
     fn append(&mut self, event: Event) -> Result<(), PastFault> {
         if self.events.len() as u64 >= self.limit {
             return Err(PastFault::Full);

@@ -1,5 +1,5 @@
 -- Counting, one element more.
-use Rattle.std.proofs.Common.{◌≡◌, ℕ, ◌<◌, ◌≤◌, ◌+◌, Bool, true, false, List, length, take, get_or, Some, refl, ap, sym, ◌∙◌, add-zero, arith, count_by}
+use Rattle.std.proofs.Common.{◌≡◌, ℕ, ◌<◌, ◌≤◌, ◌+◌, Bool, true, false, List, length, take, get_or, Some, ap, sym, ◌∙◌, add-zero, arith, count_by}
 use Rattle.std.specs.Prelude.{slice_get}
 use Rattle.std.proofs.lemmas.List.Sums.{count_by_more_yes, count_by_more_no}
 use Rattle.std.proofs.lemmas.Option.{slice_get_within, slice_get-get_or}

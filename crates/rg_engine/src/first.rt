@@ -125,3 +125,6 @@ fn count_in<P: Past>(past: &mut P, length: u64, time: u64, key: &Key) -> Result<
     }
     Ok(counted)
 }
+
+#[cfg(test)]
+mod tests;

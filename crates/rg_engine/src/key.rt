@@ -1,4 +1,4 @@
-ghost use Rattle.std.specs.Prelude.{◌≡◌, IfOk};
+ghost use Rattle.std.specs.Prelude.{◌≡◌, ◌↔◌, IsTrue, IfOk};
 ghost use Rattle.rg_engine.specs.Answering.{key_of, same_key};
 
 use rg_bytes::Memory;
@@ -35,8 +35,10 @@ impl Key {
     }
 
     /// Whether it is the key of this event too.
+    #[tactic(auto, using(crate::proofs::Same::same_key_decides))]
     pub(crate) fn is_of(&self, event: &Event) -> bool
-        ensures { result ≡ same_key (key_of event.now) self.now }
+        ensures value { result ≡ same_key (key_of event.now) self.now }
+        ensures same { IsTrue result ↔ (key_of event.now ≡ self.now) }
     {
         event.values.as_slice().first() == self.first.as_ref()
     }

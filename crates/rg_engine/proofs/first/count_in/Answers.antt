@@ -1,8 +1,7 @@
-use Rattle.std.proofs.Common.{rules, ◌≡◌, ◌+◌, ◌≤◌, ◌<◌, ◌∙◌, ap, sym, subst, arith, Some, length, take, ◌&&◌}
+use Rattle.std.proofs.Common.{◌≡◌, ◌+◌, ◌≤◌, ◌∙◌, ap, sym, arith, Some, ◌&&◌}
 use Rattle.std.specs.Prelude.{slice_get}
 use Rattle.std.specs.Option.{option_copied}
 use Rattle.rg_engine.specs.Answering.{in_window, key_of, same_key}
-use Rattle.rg_engine.specs.Counting.{count_at}
 use Rattle.rg_engine.proofs.Counts.{count_by-take-more, bool_byte_small}
 use Rattle.rg_engine.proofs.first.count_in.Goals as goal
 

@@ -1,0 +1,11 @@
+pub mod Asking
+pub mod DeedPuts
+pub mod Filling
+pub mod Finds
+pub mod Images
+pub mod LineLaws
+pub mod Logs
+pub mod Nexts
+pub mod Ranges
+pub mod Taking
+pub mod Told

@@ -1,5 +1,14 @@
+pub mod Held
 pub mod Lines
 pub mod Reading
 pub mod Moments
 pub mod Puts
 pub mod PutLaws
+pub mod CallCounts
+pub mod DeedLaws
+pub mod Deeds
+pub mod Image
+pub mod Log
+pub mod MemHost
+pub mod MemSource
+pub mod Scan

@@ -1,5 +1,5 @@
 -- How puts join.
-use Rattle.std.proofs.Common.{◌≡◌, ◌⊎◌, inl, inr, ⊎_elim, ℕ, ◌≤◌, ◌-◌, List, [], ◌++◌, length, take, drop, Option, Some, None, Result, Ok, Err, refl, sym, ◌∙◌, ap, arith, append_assoc, take-append-drop, length-drop}
+use Rattle.std.proofs.Common.{◌≡◌, inl, inr, ⊎_elim, ℕ, ◌≤◌, ◌-◌, List, [], ◌++◌, length, take, drop, Option, Some, None, Result, Ok, Err, refl, sym, ◌∙◌, ap, arith, append_assoc, take-append-drop, length-drop}
 use Rattle.std.proofs.lemmas.List.{append-nil, take_all}
 use Rattle.std.specs.Option.{ForSome}
 use Rattle.rg_bytes.specs.Known.{after}

@@ -1,11 +1,11 @@
 -- The reading of lines from a source.
-use Rattle.std.specs.Prelude.{◌≡◌, ◌⊎◌, ◌↔◌, ℕ, ◌+◌, ◌<◌, ◌≤◌, ◌^◌, Bool, true, List, [], ◌∷◌, ◌++◌, length, Option, Some, None, Result, Ok, Err, IfOk, IsErr, OnOk, MatchOption, MatchResult}
+use Rattle.std.specs.Prelude.{◌≡◌, ◌⊎◌, ◌↔◌, ℕ, ◌+◌, ◌<◌, ◌≤◌, ◌^◌, Bool, true, false, List, [], ◌∷◌, ◌++◌, length, Option, Some, None, Result, Ok, Err, IfOk, IsErr, OnOk, MatchOption, MatchResult}
 use Rattle.rg_bytes.specs.Known.{before, IsAtEnd}
 use Rattle.rg_host.specs.Lines.{lines_of, HasNoLf}
 use Rattle.rg_host.specs.declared.lines.Line.{Line}
 use Rattle.rg_host.specs.declared.lines.Line.TheVariants.{Text, Long, End}
 use Rattle.rg_host.specs.declared.lines.LineFault.{LineFault}
-use Rattle.rg_host.specs.declared.lines.LineFault.TheVariants.{Read, Limit}
+use Rattle.rg_host.specs.declared.lines.LineFault.TheVariants.{Limit}
 
 -- Where a reading of lines stands.
 pub record Reading : Type 0 where
@@ -13,7 +13,7 @@ pub record Reading : Type 0 where
   pub pending : List ℕ
   -- how many bytes were taken; one above the limit where a byte past it came
   pub taken : ℕ
-  -- how many bytes were handed out or read past
+  -- how many bytes were handed out or read past; of a line that is being read past, all but one
   pub spent : ℕ
   -- the end was handed out
   pub ended : Bool
@@ -32,9 +32,11 @@ pub record Next (old new : Reading) (left now : Option (List ℕ)) (result : Res
   pub took : left ≡ before (got ++ past) now
   pub count : new.taken ≡ old.taken + length (got ++ past)
   pub none_past : (past ≡ []) ⊎ (result ≡ Err Limit)
-  -- whatever comes behind them, the line is the first of those to come; at the end there is none
-  pub line : IfOk result (λ line. MatchOption (handed line) ((old.pending ++ got ≡ []) × IsAtEnd now)
-      (λ item. (rest : List ℕ) → lines_of ((old.pending ++ got) ++ rest) ≡ item ∷ lines_of (new.pending ++ rest)))
+  pub one_past : length past ≤ 1
+  pub most : new.taken ≤ 2 ^ 50 + 1
+  -- whatever comes behind them, the line is the first of those to come; behind a last text without LF, at the end of the source, nothing comes. At the end there is no line, and when it is first handed out the source is at its end
+  pub line : IfOk result (λ line. MatchOption (handed line) ((old.pending ++ got ≡ []) × (old.ended ≡ false → IsAtEnd now))
+      (λ item. (rest : List ℕ) → (HasNoLf (old.pending ++ got) → IsAtEnd now → rest ≡ []) → lines_of ((old.pending ++ got) ++ rest) ≡ item ∷ lines_of (new.pending ++ rest)))
   -- after a refusal the same lines are to come, and none of them has come whole
   pub nothing_lost : IsErr result → (rest : List ℕ) → lines_of (new.pending ++ rest) ≡ lines_of ((old.pending ++ got) ++ rest)
   pub no_line_held : IsErr result → HasNoLf new.pending

@@ -1,3 +1,12 @@
+ghost use Rattle.std.specs.Prelude.{◌≡◌, ◌<◌, ◌≤◌, ◌^◌, [], true, false, IfOk, IsErrOf};
+ghost use Rattle.rg_bytes.specs.Counts.{Rose};
+
+use crate::scanner::{Found, Scanner};
+use crate::source::Source;
+use rg_bytes::Memory;
+use std::alloc::Global;
+use std::marker::Model;
+
 /// Why `Lines::next` refused.
 #[derive(Clone, Copy, Debug, PartialEq, Eq, Hash)]
 pub enum LineFault {
@@ -17,3 +26,56 @@ pub enum Line<'a> {
     /// The end of the source, which stays.
     End,
 }
+
+/// The lines of a source.
+#[derive(Drop)]
+pub struct Lines {
+    scanner: Scanner,
+}
+
+impl Model for Lines {
+    ghost use Rattle.rg_host.specs.Reading.{Reading};
+
+    ghost Value = { Reading };
+
+    ghost view = { λ lines. lines.scanner.reading };
+}
+
+impl Lines {
+    ghost use Rattle.std.specs.Borrow.{sem};
+    ghost use Rattle.std.specs.Io.BufRead.{Rests};
+    ghost use Rattle.rg_host.specs.Reading.{Next};
+    ghost use Rattle.rg_host.specs.contracts.lines.Lines.{the_row};
+
+    /// Takes its buffer of 128 KiB here, and no memory later.
+    pub fn new(alloc: Global) -> Result<Lines, Memory>
+        ensures pending { IfOk result (λ lines. lines.pending ≡ []) }
+        ensures taken { IfOk result (λ lines. lines.taken ≡ 0) }
+        ensures spent { IfOk result (λ lines. lines.spent ≡ 0) }
+        ensures ended { IfOk result (λ lines. lines.ended ≡ false) }
+    {
+        let scanner = Scanner::new(alloc)?;
+        Ok(Lines { scanner })
+    }
+
+    /// Hands out the next line of the source, without its LF. A last text without LF is a line
+    /// where it has a byte. At most 2^50 bytes are taken, and no memory. After `Read` the same
+    /// lines are to come. After `End` or `Limit` the source is asked for nothing more.
+    pub fn next<S: Source>(&mut self, src: &mut S) -> Result<Line<'_>, LineFault>
+        ensures* after { sem 𝓛 (Rests the_row self.entry (λ new. Next self.old new (S.left src.old) (S.left src.new) result)) }
+        ensures cause { IsErrOf result LineFault.Read → Rose (S.faults src.old) (S.faults src.new) }
+        ensures later { S.faults src.old ≤ S.faults src.new }
+        ensures after_end { self.old.ended ≡ true → src.new ≡ src.old }
+        ensures after_limit { 2 ^ 50 < self.old.taken → src.new ≡ src.old }
+    {
+        match self.scanner.load(src) {
+            Err(fault) => Err(fault),
+            Ok(Found::Text) => Ok(Line::Text(self.scanner.line())),
+            Ok(Found::Long) => Ok(Line::Long),
+            Ok(Found::End) => Ok(Line::End),
+        }
+    }
+}
+
+#[cfg(test)]
+mod tests;

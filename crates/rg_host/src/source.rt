@@ -1,7 +1,9 @@
-ghost use Rattle.std.specs.Prelude.{◌≡◌, ℕ, ◌<◌, ◌≤◌, List, length, take, Option, IfOk, OnErr};
+ghost use Rattle.std.specs.Prelude.{◌≡◌, ℕ, ◌+◌, ◌<◌, ◌≤◌, List, length, take, Option, IfOk, OnOk, OnErr, IsErrOf};
 ghost use Rattle.rg_bytes.specs.Counts.{Rose};
 ghost use Rattle.rg_bytes.specs.Known.{before, IsAtEnd};
 
+use rg_bytes::Memory;
+use std::alloc::Global;
 use std::error::Error;
 use std::fmt;
 
@@ -45,4 +47,50 @@ pub enum AllFault {
     Limit,
     /// Memory ran out.
     Memory,
+}
+
+impl From<Memory> for AllFault {
+    ghost use Rattle.rg_host.specs.declared.source.AllFault.TheVariants.{Memory};
+
+    ghost from_gives = { λ _ fault. fault ≡ Memory };
+
+    fn from(_error: Memory) -> AllFault {
+        AllFault::Memory
+    }
+}
+
+/// How many bytes `read_all` asks for at once, at most.
+const PIECE: usize = 8192;
+
+/// Reads all there is, at most `max` bytes. What was taken before a refusal is lost: at `Limit`,
+/// one byte more than the limit.
+pub fn read_all<S: Source>(alloc: Global, src: &mut S, max: usize) -> Result<Vec<u8>, AllFault>
+    ensures all { IfOk result (λ all. S.left src.old ≡ before all.items (S.left src.new)) }
+    ensures end { OnOk result (IsAtEnd (S.left src.new)) }
+    ensures within { IfOk result (λ all. length all.items ≤ max) }
+
+    // Whatever the answer, some bytes were taken; before `Limit`, more than `max`.
+    ensures taken { (got : List ℕ) × (S.left src.old ≡ before got (S.left src.new)) }
+    ensures limit { IsErrOf result AllFault.Limit
+        → (got : List ℕ) × (S.left src.old ≡ before got (S.left src.new)) × (length got ≡ max + 1) }
+    ensures read { IsErrOf result AllFault.Read → Rose (S.faults src.old) (S.faults src.new) }
+    ensures later { S.faults src.old ≤ S.faults src.new }
+{
+    let mut all = Vec::new(alloc);
+    let mut piece = [0u8; PIECE];
+    'pieces: loop {
+        let asked = (max - all.len()).saturating_add(1).min(PIECE);
+        let count = match src.read(&mut piece[..asked]) {
+            Err(_) => return Err(AllFault::Read),
+            Ok(count) => count,
+        };
+        if count == 0 {
+            return Ok(all);
+        }
+        if count > max - all.len() {
+            return Err(AllFault::Limit);
+        }
+        all.extend_from_slice(&piece[..count])
+            .map_err(Memory::from)?;
+    }
 }

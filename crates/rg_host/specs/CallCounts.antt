@@ -1,0 +1,6 @@
+-- Counts of calls.
+use Rattle.std.specs.Prelude.{ℕ, ◌+◌, ◌-◌, ◌^◌, min}
+
+-- one more, up to the greatest number
+abbrev pub raised : ℕ → ℕ
+raised count = min (count + 1) (2 ^ 64 - 1)

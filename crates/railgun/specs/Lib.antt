@@ -1,0 +1,8 @@
+pub mod Plan
+pub mod Row
+pub mod Output
+pub mod Put
+pub mod Session
+pub mod Turn
+pub mod Run
+pub mod Call

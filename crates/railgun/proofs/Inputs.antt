@@ -1,0 +1,31 @@
+-- What is known of an input that tells its bytes.
+use Rattle.std.proofs.Common.{◌≡◌, List, [], ◌++◌, Option, Some, None, Result, Ok, Err, refl, ap, sym, ◌∙◌, append_assoc, ℕ}
+use Rattle.std.specs.Prelude.{IfErr}
+use Rattle.rg_bytes.specs.Known.{before, IsAtEnd}
+
+-- at its end, no byte is left
+pub at_end_rest : (now : Option (List ℕ)) (rest : List ℕ) → now ≡ Some rest → IsAtEnd now → rest ≡ []
+at_end_rest (Some told) rest is h = let same : told ≡ rest = cc in sym same ∙ h
+at_end_rest None rest is h = absurd (cc)
+
+-- what was left before some bytes were taken
+pub told_before : (left now : Option (List ℕ)) (got rest : List ℕ) → left ≡ before got now → now ≡ Some rest → left ≡ Some (got ++ rest)
+told_before left now got rest took is = took ∙ ap (before got) is
+
+-- what is left behind the taken bytes
+pub told_rest : (left now : Option (List ℕ)) (got bytes : List ℕ) → left ≡ before got now → left ≡ Some bytes → (rest : List ℕ) × (now ≡ Some rest) × (got ++ rest ≡ bytes)
+told_rest left (Some rest) got bytes took is = (rest, refl, let same : Some (got ++ rest) ≡ Some bytes = sym took ∙ is in cc)
+told_rest left None got bytes took is = absurd (let none : None ≡ Some bytes = sym took ∙ is in cc)
+
+pub before-nothing : (left : Option (List ℕ)) → left ≡ before [] left
+before-nothing (Some told) = refl
+before-nothing None = refl
+
+pub before-before : (left mid now : Option (List ℕ)) (x y : List ℕ) → left ≡ before x mid → mid ≡ before y now → left ≡ before (x ++ y) now
+before-before left mid (Some told) x y e d = e ∙ ap (before x) d ∙ ap (λ v. Some v) (sym (append_assoc x y told))
+before-before left mid None x y e d = e ∙ ap (before x) d
+
+-- what holds of every error
+pub if_err : {T E : Type 0} (result : Result T E) (P : E → Type 0) → ((error : E) → P error) → IfErr result P
+if_err (Ok value) P all = tt
+if_err (Err error) P all = all error

@@ -1,0 +1,49 @@
+use Rattle.std.proofs.Common.{sym, ap, subst, arith, ◌≡◌, ⊎_elim, inl, inr, Err, Option, List, ℕ}
+use Rattle.rg_host.specs.Moments.{Moment}
+use Rattle.rg_host.specs.Puts.{Puts}
+use Rattle.rg_host.specs.PutLaws.{puts-nothing, puts-then}
+use Rattle.railgun.specs.declared.status.Status.TheVariants.{Write, Limit}
+use Rattle.railgun.proofs.Inputs.{if_err}
+use Rattle.railgun.proofs.Progress.{begin, step, finish, stop, stop_first, past_limit}
+use Rattle.railgun.proofs.serve.serve.Goals as goal
+
+same_host : {H : Type 0} (said : H → Option (List ℕ)) (clock : H → ℕ) (since : H → ℕ → Moment → Type 0) (old mid new : H) (put : List ℕ) → new ≡ mid → Puts said clock since old mid put → Puts said clock since old new put
+same_host said clock since old mid new put same puts = subst (λ h. Puts said clock since old h put) (sym same) puts
+
+pub returns-in_err-run-clause-stops : goal.returns-in_err-run-clause-stops
+returns-in_err-run-clause-stops g c =
+    if_err c.from_residual.result _
+    (λ status. stop_first _ _ _ status (puts-nothing g.H.Host.said g.H.Host.clock g.H.Host.since _ (λ t u m. g.met.H.Host.sinks _ t u m) (λ m. g.met.H.Host.only_now _ m)))
+
+pub lines-init : goal.lines-init
+lines-init g c = record {
+  between = c.in_ok-run.ensures.between;
+  progress = begin _ _ _ _ c.in_ok-run.ensures.pending c.in_ok-run.ensures.taken c.in_ok-run.ensures.events c.in_ok-run.ensures.window c.in_ok-run.ensures.offset
+      (puts-nothing g.H.Host.said g.H.Host.clock g.H.Host.since _ (λ t u m. g.met.H.Host.sinks _ t u m) (λ m. g.met.H.Host.only_now _ m));
+  later = omega arith;
+  later_out = omega arith;
+}
+
+pub lines-preserved : goal.lines-preserved
+lines-preserved g c = record {
+  between = c.in-Ok-true.ensures.between c.in-Ok-true.field-0-test;
+  progress = step _ _ _ _ _ _ _ (λ x y. puts-then g.H.Host.said g.H.Host.clock g.H.Host.since _ _ _ x y) _ _ c.lines.invariant.progress (c.in-Ok-true.ensures.answers c.in-Ok-true.field-0-test);
+  later = omega (arith, c.lines.invariant.later, c.turn.ensures.later);
+  later_out = omega (arith, c.lines.invariant.later_out, c.turn.ensures.later_out);
+}
+
+pub returns-in-Ok-false-clause-completes : goal.returns-in-Ok-false-clause-completes
+returns-in-Ok-false-clause-completes g c =
+    finish _ _ _ _ _ _ _ (λ x y. puts-then g.H.Host.said g.H.Host.clock g.H.Host.since _ _ _ x y) _ _ c.lines.invariant.progress (c.in-Ok-false.ensures.finishes c.in-Ok-false.field-0-test)
+
+pub returns-in-Err-clause-stops : goal.returns-in-Err-clause-stops
+returns-in-Err-clause-stops g c =
+    stop _ _ _ _ _ _ _ (λ x y. puts-then g.H.Host.said g.H.Host.clock g.H.Host.since _ _ _ x y) c.lines.run c.turn.new.self c.in-Err.status c.lines.invariant.progress c.in-Err.ensures.took.0 c.in-Err.ensures.took.1
+    (⊎_elim (λ is. inl (let write : c.in-Err.status ≡ Write = cc in write)) (λ same. inr (λ put puts. same_host g.H.Host.said g.H.Host.clock g.H.Host.since c.args.host.now c.lines.host c.turn.new.host put same puts)) c.in-Err.ensures.quiet)
+    (λ is. c.in-Err.ensures.cut (ap (λ v. Err v) is))
+
+pub returns-in-Err-clause-limit : goal.returns-in-Err-clause-limit
+returns-in-Err-clause-limit g c =
+    λ is.
+    let limit : c.in-Err.status ≡ Limit = cc in
+    past_limit _ _ _ _ _ c.lines.run c.turn.new.self c.lines.invariant.progress c.in-Err.ensures.took.0 c.in-Err.ensures.took.1 (c.in-Err.ensures.limit (ap (λ v. Err v) limit))

@@ -1,0 +1,103 @@
+ghost use Rattle.std.specs.Prelude.{◌≡◌, ◌⊎◌, ◌≤◌, ◌<◌, ◌+◌, ◌^◌, ◌++◌, ◌∷◌, [], ℕ, List, Option, IsTrue, false, IfOk, IfErr, OnOk, OnErr, IsErrOf, Err};
+
+use crate::arrival::{Arrival, next_arrival};
+use crate::put::put;
+use crate::session::Session;
+use crate::status::Status;
+use rg_host::{Host, Lines, Source};
+use rg_reply::{Mark, write_mark, write_reply};
+use std::alloc::Global;
+
+/// A run between two lines.
+#[derive(Drop)]
+pub struct Run {
+    pub lines: Lines,
+    pub session: Session,
+    /// The text of an answer. It is kept, so that no line takes a buffer of its own.
+    pub text: Vec<u8>,
+    /// The offset of the next line.
+    pub offset: u64,
+}
+
+impl Run {
+    ghost use Rattle.rg_bytes.specs.Counts.{Rose};
+    ghost use Rattle.rg_host.specs.Puts.{Puts};
+    ghost use Rattle.railgun.specs.Turn.{IsBetween, Takes, Answers, Finishes, Refuses, IsCut, done_text};
+
+    /// A run before its first line, whose windows are so many milliseconds long.
+    pub fn new(alloc: Global, window: u64) -> Result<Run, Status>
+        ensures between { IfOk result IsBetween }
+        ensures pending { IfOk result (λ run. run.lines.pending ≡ []) }
+        ensures taken { IfOk result (λ run. run.lines.taken ≡ 0) }
+        ensures events { IfOk result (λ run. run.session.events ≡ []) }
+        ensures window { IfOk result (λ run. run.session.window ≡ window) }
+        ensures offset { IfOk result (λ run. run.offset ≡ 0) }
+        ensures memory { IfErr result (λ status. status ≡ Status.Memory) }
+    {
+        Ok(Run {
+            lines: Lines::new(alloc)?,
+            session: Session::new(alloc, window),
+            text: Vec::new(alloc),
+            offset: 0,
+        })
+    }
+
+    /// Takes the next line and puts its answer out, or puts the end out. Answers whether there was
+    /// a line.
+    #[tactic(auto, using(crate::proofs::Arrivals::follows_row, crate::proofs::Arrivals::next_after))]
+    pub fn turn<I: Source, H: Host>(
+        &mut self,
+        alloc: Global,
+        input: &mut I,
+        host: &mut H,
+    ) -> Result<bool, Status>
+        requires { IsBetween self.old }
+        ensures between { IfOk result (λ more. IsTrue more → IsBetween self.new) }
+        ensures answers { IfOk result (λ more. IsTrue more → Answers self.old self.new (I.left input.old) (I.left input.new) (Puts H.said H.clock H.since host.old host.new)) }
+        ensures finishes { IfOk result (λ more. more ≡ false → Finishes self.old self.new (I.left input.old) (I.left input.new) (Puts H.said H.clock H.since host.old host.new)) }
+
+        // A refusal takes some bytes; only a failed put is one within an answer.
+        ensures took { OnErr result ((got : List ℕ) × Takes self.old.lines self.new.lines (I.left input.old) (I.left input.new) got) }
+        ensures quiet { OnErr result ((result ≡ Err Status.Write) ⊎ (host.new ≡ host.old)) }
+        ensures cut { IsErrOf result Status.Write → Refuses self.old self.new (I.left input.old) (I.left input.new) (Puts H.said H.clock H.since host.old host.new) }
+
+        ensures read { IsErrOf result Status.Read → Rose (I.faults input.old) (I.faults input.new) }
+        ensures write { IsErrOf result Status.Write → Rose (H.out_faults host.old) (H.out_faults host.new) }
+        ensures limit { IsErrOf result Status.Limit → 2 ^ 50 < self.new.lines.taken }
+        ensures others { IfErr result (λ status. (status ≡ Status.Read) ⊎ (status ≡ Status.Limit) ⊎ (status ≡ Status.Memory) ⊎ (status ≡ Status.Write)) }
+        ensures later { I.faults input.old ≤ I.faults input.new }
+        ensures later_out { H.out_faults host.old ≤ H.out_faults host.new }
+    {
+        let row = match next_arrival(alloc, &mut self.lines, self.offset, input)? {
+            Arrival::Line(row) => row,
+            Arrival::End => {
+                self.finish(host)?;
+                return Ok(false);
+            }
+        };
+        let reply = self.session.answer(alloc, row)?;
+        self.text.clear();
+        write_reply(&mut self.text, self.offset, &reply)?;
+        put(host, &self.text)?;
+        self.offset += 1;
+        Ok(true)
+    }
+
+    /// Puts the end out.
+    fn finish<H: Host>(&mut self, host: &mut H) -> Result<(), Status>
+        ensures puts { OnOk result (Puts H.said H.clock H.since host.old host.new (done_text self.old.offset self.old.session.events)) }
+        ensures same { (self.new.lines ≡ self.old.lines) × (self.new.session ≡ self.old.session) }
+        ensures quiet { OnErr result ((result ≡ Err Status.Write) ⊎ (host.new ≡ host.old)) }
+        ensures cut { IsErrOf result Status.Write → IsCut (done_text self.old.offset self.old.session.events) (Puts H.said H.clock H.since host.old host.new) }
+        ensures cause { IsErrOf result Status.Write → Rose (H.out_faults host.old) (H.out_faults host.new) }
+        ensures others { IfErr result (λ status. (status ≡ Status.Memory) ⊎ (status ≡ Status.Write)) }
+        ensures later { H.out_faults host.old ≤ H.out_faults host.new }
+    {
+        self.text.clear();
+        write_mark(
+            &mut self.text,
+            Mark::Finished(self.offset, self.session.count()),
+        )?;
+        put(host, &self.text)
+    }
+}

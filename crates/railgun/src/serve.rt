@@ -1,0 +1,36 @@
+ghost use Rattle.std.specs.Prelude.{◌≡◌, ◌⊎◌, ◌≤◌, ◌<◌, ◌^◌, ℕ, IfErr, OnOk, OnErr, IsErrOf};
+ghost use Rattle.rg_bytes.specs.Counts.{Rose};
+ghost use Rattle.rg_host.specs.Puts.{Puts};
+ghost use Rattle.railgun.specs.Call.{IsLonger};
+ghost use Rattle.railgun.specs.Run.{Completes, Stops};
+
+use crate::run::Run;
+use crate::status::Status;
+use rg_host::{Host, Source};
+use std::alloc::Global;
+
+/// Answers all lines of the input, for windows of so many milliseconds.
+pub fn serve<I: Source, H: Host>(
+    alloc: Global,
+    window: u64,
+    input: &mut I,
+    host: &mut H,
+) -> Result<(), Status>
+    ensures completes { OnOk result (Completes window (I.left input.old) (I.left input.new) (Puts H.said H.clock H.since host.old host.new)) }
+    ensures stops { IfErr result (Stops window (I.left input.old) (I.left input.new) (Puts H.said H.clock H.since host.old host.new)) }
+    ensures read { IsErrOf result Status.Read → Rose (I.faults input.old) (I.faults input.new) }
+    ensures write { IsErrOf result Status.Write → Rose (H.out_faults host.old) (H.out_faults host.new) }
+    ensures limit { IsErrOf result Status.Limit → IsLonger (2 ^ 50) (I.left input.old) }
+    ensures others { IfErr result (λ status. (status ≡ Status.Read) ⊎ (status ≡ Status.Limit) ⊎ (status ≡ Status.Memory) ⊎ (status ≡ Status.Write)) }
+    ensures later { I.faults input.old ≤ I.faults input.new }
+    ensures later_out { H.out_faults host.old ≤ H.out_faults host.new }
+{
+    let mut run = Run::new(alloc, window)?;
+    'lines: loop {
+        match run.turn(alloc, input, host) {
+            Ok(true) => {}
+            Ok(false) => return Ok(()),
+            Err(status) => return Err(status),
+        }
+    }
+}

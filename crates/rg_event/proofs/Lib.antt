@@ -1,1 +1,9 @@
+pub mod Columns
+pub mod Fronts
+pub mod Names
+pub mod Readable
 pub mod Utf8
+pub mod Keeping
+pub mod Decoding
+pub mod ColumnValues
+pub mod RoundTrip

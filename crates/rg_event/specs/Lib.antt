@@ -1,1 +1,6 @@
 pub mod Parsing
+pub mod Names
+pub mod Shapes
+pub mod Reading
+pub mod Codec
+pub mod Keeps

@@ -1,0 +1,10 @@
+use Rattle.std.proofs.Common.{◌≡◌, ◌++◌, drop}
+use Rattle.rg_event.specs.Codec.{values_bytes}
+use Rattle.rg_event.specs.Keeps.{Keeps}
+use Rattle.rg_event.proofs.codec.encoder.put_values.Given as goal
+
+abbrev pub invariant-loop-value : goal.invariant-loop-value
+invariant-loop-value l = record {
+  to_come : l.out.items ++ values_bytes (drop l.value-index l.values) ≡ l.fn.out.items ++ values_bytes l.values;
+  keeps : Keeps l.fn.out.items l.out.items;
+}

@@ -1,0 +1,238 @@
+ghost use Rattle.std.specs.Prelude.{◌≡◌, ◌⊎◌, ◌≤◌, ◌++◌, ℕ, List, length, Ok, Err, IfOk, OnErr};
+ghost use Rattle.std.specs.Int.{w64, to_be_bytes};
+ghost use Rattle.std.specs.Str.{is_utf8};
+ghost use Rattle.rg_event.specs.Codec.{value_bytes, values_bytes, event_bytes, IsValueOf, AreValuesOf, IsEventOf, number_at, number_up_to_at, int_at, id_at, text_at, flag_at, value_at, values_at, event_at, Agrees};
+ghost use Rattle.rg_event.specs.declared.event.Event.{Event};
+
+use crate::codec::EventFault;
+use crate::event::Event;
+use crate::schema::{Field, Schema};
+use crate::value::{Kind, Value, Values};
+use crate::word::Word;
+use rg_bytes::ByteReader;
+use std::alloc::Global;
+
+/// The greatest offset of an event.
+const GREATEST_OFFSET: u64 = 4_611_686_018_427_387_903;
+
+/// The greatest time of an event, in milliseconds.
+const GREATEST_TIME: u64 = 1_000_000_000_000_000;
+
+/// The greatest integer of a column, and with a minus the least.
+const GREATEST_INT: u64 = 1_000_000_000_000;
+
+/// Takes an event of this schema, as `encode` writes it. A refusal leaves the reader as it was.
+pub fn decode(
+    alloc: Global,
+    schema: &Schema,
+    from: &mut ByteReader<'_>,
+) -> Result<Event, EventFault>
+    ensures agrees { Agrees (event_at schema.now.fields from.old) result from.new }
+    ensures ok { IfOk result (λ event. from.old ≡ event_bytes event ++ from.new) }
+    ensures legal { IfOk result (IsEventOf schema.now.fields) }
+    ensures reads_back { (event : Event) (rest : List ℕ) → IsEventOf schema.now.fields event → from.old ≡ event_bytes event ++ rest → ((result ≡ Ok event) × (from.new ≡ rest)) ⊎ (result ≡ Err EventFault.Memory) }
+    ensures err { OnErr result (from.new ≡ from.old) }
+{
+    // All that is left, so that a refusal can put it back.
+    let bytes = from.bytes(from.left())?;
+    let mut left = ByteReader::new(bytes);
+    match read_event(alloc, schema.fields(), &mut left) {
+        Ok(event) => {
+            *from = left;
+            Ok(event)
+        }
+        Err(fault) => {
+            *from = ByteReader::new(bytes);
+            Err(fault)
+        }
+    }
+}
+
+fn read_event(
+    alloc: Global,
+    fields: &[Field],
+    from: &mut ByteReader<'_>,
+) -> Result<Event, EventFault>
+    requires { length fields.now ≤ 32 }
+    ensures agrees { Agrees (event_at fields.now from.old) result from.new }
+    ensures ok { IfOk result (λ event. from.old ≡ event_bytes event ++ from.new) }
+    ensures legal { IfOk result (IsEventOf fields.now) }
+{
+    Ok(Event {
+        offset: read_number(GREATEST_OFFSET, from)?,
+        time: read_number(GREATEST_TIME, from)?,
+        values: read_values(alloc, fields, from)?,
+    })
+}
+
+fn read_number(most: u64, from: &mut ByteReader<'_>) -> Result<u64, EventFault>
+    ensures agrees { Agrees (number_up_to_at most from.old) result from.new }
+    ensures ok { IfOk result (λ number. from.old ≡ to_be_bytes w64 number ++ from.new) }
+    ensures legal { IfOk result (λ number. number ≤ most) }
+{
+    let number = from.u64()?;
+    if number <= most {
+        Ok(number)
+    } else {
+        Err(EventFault::BadValue(0))
+    }
+}
+
+fn read_values(
+    alloc: Global,
+    fields: &[Field],
+    from: &mut ByteReader<'_>,
+) -> Result<Values, EventFault>
+    requires { length fields.now ≤ 32 }
+    ensures agrees { Agrees (values_at fields.now 1 from.old) result from.new }
+    ensures ok { IfOk result (λ values. from.old ≡ values_bytes values ++ from.new) }
+    ensures legal { IfOk result (AreValuesOf fields.now) }
+{
+    let mut values = Values::new(alloc);
+    let mut column = 0;
+    for field in fields {
+        column += 1;
+        values.push(read_value(alloc, field.kind, column, from)?)?;
+    }
+    Ok(values)
+}
+
+fn read_value(
+    alloc: Global,
+    kind: Kind,
+    column: u32,
+    from: &mut ByteReader<'_>,
+) -> Result<Value, EventFault>
+    ensures agrees { Agrees (value_at kind column from.old) result from.new }
+    ensures ok { IfOk result (λ value. from.old ≡ value_bytes value ++ from.new) }
+    ensures legal { IfOk result (IsValueOf kind) }
+{
+    match kind {
+        Kind::Int => read_int(column, from),
+        Kind::Id => read_id(from),
+        Kind::Text => read_text(alloc, column, from),
+        Kind::Flag => read_flag(column, from),
+    }
+}
+
+fn read_int(column: u32, from: &mut ByteReader<'_>) -> Result<Value, EventFault>
+    ensures agrees { Agrees (int_at column from.old) result from.new }
+    ensures ok { IfOk result (λ value. from.old ≡ value_bytes value ++ from.new) }
+    ensures legal { IfOk result (IsValueOf Kind.Int) }
+{
+    let number = from.i64()?;
+    if number.unsigned_abs() <= GREATEST_INT {
+        Ok(Value::Int(number))
+    } else {
+        Err(EventFault::BadValue(column))
+    }
+}
+
+fn read_id(from: &mut ByteReader<'_>) -> Result<Value, EventFault>
+    ensures agrees { Agrees (id_at from.old) result from.new }
+    ensures ok { IfOk result (λ value. from.old ≡ value_bytes value ++ from.new) }
+    ensures legal { IfOk result (IsValueOf Kind.Id) }
+{
+    Ok(Value::Id(from.u64()?))
+}
+
+fn read_text(alloc: Global, column: u32, from: &mut ByteReader<'_>) -> Result<Value, EventFault>
+    ensures agrees { Agrees (text_at column from.old) result from.new }
+    ensures ok { IfOk result (λ value. from.old ≡ value_bytes value ++ from.new) }
+    ensures legal { IfOk result (IsValueOf Kind.Text) }
+{
+    let count = from.u8()?;
+    let text = from.bytes(usize::from(count))?;
+    if is_text(text) {
+        Ok(Value::Text(Word::new(alloc, text)?))
+    } else {
+        Err(EventFault::BadValue(column))
+    }
+}
+
+fn read_flag(column: u32, from: &mut ByteReader<'_>) -> Result<Value, EventFault>
+    ensures agrees { Agrees (flag_at column from.old) result from.new }
+    ensures ok { IfOk result (λ value. from.old ≡ value_bytes value ++ from.new) }
+    ensures legal { IfOk result (IsValueOf Kind.Flag) }
+{
+    match from.u8()? {
+        0 => Ok(Value::Flag(false)),
+        1 => Ok(Value::Flag(true)),
+        _ => Err(EventFault::BadValue(column)),
+    }
+}
+
+#[tactic(auto, using(crate::proofs::Utf8::true_where_valid, crate::proofs::Utf8::false_where_invalid))]
+fn is_text(bytes: &[u8]) -> bool
+    ensures { result ≡ is_utf8 bytes.now }
+{
+    str::from_utf8(bytes).is_ok()
+}
+
+#[cfg(test)]
+mod tests {
+    use super::*;
+    use std::test::Fail;
+
+    #[test]
+    fn the_offset_and_the_time_come_first(rt: HostRuntime) -> Result<(), Fail> {
+        let greatest = b"\x3f\xff\xff\xff\xff\xff\xff\xff\0\x03\x8d\x7e\xa4\xc6\x80\0x";
+        let table: [(&[u8], Result<(u64, u64), EventFault>); 6] = [
+            (
+                greatest,
+                Ok((4_611_686_018_427_387_903, 1_000_000_000_000_000)),
+            ),
+            (&greatest[..15], Err(EventFault::Short)),
+            (&greatest[..7], Err(EventFault::Short)),
+            (b"", Err(EventFault::Short)),
+            (b"\x40\0\0\0\0\0\0\0", Err(EventFault::BadValue(0))),
+            (
+                b"\0\0\0\0\0\0\0\0\0\x03\x8d\x7e\xa4\xc6\x80\x01",
+                Err(EventFault::BadValue(0)),
+            ),
+        ];
+        for (bytes, want) in table {
+            let mut from = ByteReader::new(bytes);
+            let read = match read_event(rt.alloc(), &[], &mut from) {
+                Ok(event) => Ok((event.offset, event.time)),
+                Err(fault) => Err(fault),
+            };
+            assert_eq!(rt; read, want, "at {bytes:?}");
+        }
+        Ok(())
+    }
+
+    #[test]
+    fn a_value_is_one_of_its_kind(rt: HostRuntime) -> Result<(), Fail> {
+        let table: [(Kind, &[u8], Result<(), EventFault>); 12] = [
+            (Kind::Int, b"\0\0\0\xe8\xd4\xa5\x10\0", Ok(())),
+            (
+                Kind::Int,
+                b"\0\0\0\xe8\xd4\xa5\x10\x01",
+                Err(EventFault::BadValue(7)),
+            ),
+            (
+                Kind::Int,
+                b"\xff\xff\xff\x17\x2b\x5a\xef\xff",
+                Err(EventFault::BadValue(7)),
+            ),
+            (Kind::Id, b"\xff\xff\xff\xff\xff\xff\xff\xff", Ok(())),
+            (Kind::Id, b"\0\0\0\0\0\0\0", Err(EventFault::Short)),
+            (Kind::Text, b"\x02c1", Ok(())),
+            (Kind::Text, b"\x03c1", Err(EventFault::Short)),
+            (Kind::Text, b"", Err(EventFault::Short)),
+            (Kind::Text, b"\x01\xff", Err(EventFault::BadValue(7))),
+            (Kind::Flag, b"\x01", Ok(())),
+            (Kind::Flag, b"\x02", Err(EventFault::BadValue(7))),
+            (Kind::Flag, b"", Err(EventFault::Short)),
+        ];
+        for (kind, bytes, want) in table {
+            let read = match read_value(rt.alloc(), kind, 7, &mut ByteReader::new(bytes)) {
+                Ok(_) => Ok(()),
+                Err(fault) => Err(fault),
+            };
+            assert_eq!(rt; read, want, "at {kind:?} {bytes:?}");
+        }
+        Ok(())
+    }
+}

@@ -1,6 +1,7 @@
 -- What is known of an input that tells its bytes.
-use Rattle.std.proofs.Common.{◌≡◌, List, [], ◌++◌, Option, Some, None, Result, Ok, Err, refl, ap, sym, ◌∙◌, append_assoc, ℕ}
-use Rattle.std.specs.Prelude.{IfErr}
+use Rattle.std.proofs.Common.{◌≡◌, List, [], ◌++◌, Option, Some, None, Result, Ok, Err, refl, ap, sym, ◌∙◌, append_assoc, subst, ℕ}
+use Rattle.std.specs.Prelude.{IfErr, IfSome, OnOk}
+use Rattle.std.proofs.lemmas.List.{append-nil}
 use Rattle.rg_bytes.specs.Known.{before, IsAtEnd}
 
 -- at its end, no byte is left
@@ -25,7 +26,22 @@ pub before-before : (left mid now : Option (List ℕ)) (x y : List ℕ) → left
 before-before left mid (Some told) x y e d = e ∙ ap (before x) d ∙ ap (λ v. Some v) (sym (append_assoc x y told))
 before-before left mid None x y e d = e ∙ ap (before x) d
 
+-- what holds of all that a source told
+pub told_all : (P : List ℕ → Type 0) (left now : Option (List ℕ)) (all : List ℕ) → left ≡ before all now → IsAtEnd now → P all → IfSome left P
+told_all P left (Some told) all took end h = subst (λ v. IfSome v P) (sym (took ∙ ap (λ v. Some (all ++ v)) end ∙ ap (λ v. Some v) (append-nil all))) h
+told_all P left None all took end h = subst (λ v. IfSome v P) (sym took) tt
+
 -- what holds of every error
 pub if_err : {T E : Type 0} (result : Result T E) (P : E → Type 0) → ((error : E) → P error) → IfErr result P
 if_err (Ok value) P all = tt
 if_err (Err error) P all = all error
+
+-- what follows at Ok
+pub on_ok : {T E : Type 0} (result : Result T E) {A B : Type 0} → (A → B) → OnOk result A → OnOk result B
+on_ok (Ok value) f a = f a
+on_ok (Err error) f a = tt
+
+-- what follows for an error
+pub on_err : {T E : Type 0} (result : Result T E) (P Q : E → Type 0) → ((error : E) → P error → Q error) → IfErr result P → IfErr result Q
+on_err (Ok value) P Q f p = tt
+on_err (Err error) P Q f p = f error p

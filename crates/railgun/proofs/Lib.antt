@@ -2,7 +2,8 @@ pub mod Arrivals
 pub mod Ends
 pub mod Inputs
 pub mod Outputs
+pub mod Plans
 pub mod Progress
-pub mod Rows
 pub mod Verdicts
+pub mod Whole
 pub mod Worked

@@ -1,5 +1,5 @@
 -- The verdict on an event, by the last one before it.
-use Rattle.std.proofs.Common.{◌≡◌, ℕ, suc, ◌≤◌, ◌<◌, ◌+◌, ◌-◌, ◌||◌, nat_lt, Bool, true, false, List, [], ◌∷◌, ◌++◌, length, Some, refl, ap, sym, ◌∙◌, arith}
+use Rattle.std.proofs.Common.{◌≡◌, ℕ, suc, ◌≤◌, ◌<◌, ◌+◌, ◌-◌, ◌||◌, nat_lt, Bool, true, false, List, [], ◌∷◌, ◌++◌, length, Some, Ok, refl, ap, sym, ◌∙◌, arith}
 use Rattle.std.specs.List.{list_any}
 use Rattle.std.specs.Prelude.{slice_get}
 use Rattle.std.proofs.lemmas.Bool.{lt-ltb, le-ltb, le-leb, lt-leb, ltb-true, ltb-false}
@@ -8,8 +8,8 @@ use Rattle.rg_past.specs.Order.{next_offset, last_time, IsRising}
 use Rattle.railgun.specs.Output.{verdict_of, reply_of, most_events}
 use Rattle.rg_engine.specs.Answering.{answers_to}
 use Rattle.rg_engine.specs.declared.answer.Answer.{Answer}
-use Rattle.rg_engine.specs.declared.reply.Reply.TheVariants.{Answered}
-use Rattle.railgun.specs.Output.Verdict.{late, full, accepted}
+use Rattle.rg_engine.specs.declared.reply.Reply.TheVariants.{Late, Full, Answered}
+use Rattle.railgun.specs.Output.Verdict.{refused, accepted}
 
 -- some of these events has a greater time
 abbrev later_than : ℕ → List Event → Bool
@@ -45,13 +45,13 @@ next_offset-push [] e = refl
 next_offset-push (x ∷ []) e = refl
 next_offset-push (x ∷ (y ∷ events)) e = next_offset-push (y ∷ events) e
 
-pub is_late : (events : List Event) (e : Event) → later_than e.time events ≡ true → verdict_of events (Some e) ≡ late
+pub is_late : (events : List Event) (e : Event) → later_than e.time events ≡ true → verdict_of events (Ok e) ≡ refused Late
 is_late events e h = rw h refl
 
-pub is_full : (events : List Event) (e : Event) → later_than e.time events ≡ false → most_events ≤ length events → verdict_of events (Some e) ≡ full
+pub is_full : (events : List Event) (e : Event) → later_than e.time events ≡ false → most_events ≤ length events → verdict_of events (Ok e) ≡ refused Full
 is_full events e h k = rw (h, le-leb most_events (length events) k) refl
 
-pub is_accepted : (events : List Event) (e : Event) → later_than e.time events ≡ false → length events < most_events → verdict_of events (Some e) ≡ accepted e
+pub is_accepted : (events : List Event) (e : Event) → later_than e.time events ≡ false → length events < most_events → verdict_of events (Ok e) ≡ accepted e
 is_accepted events e h k = rw (h, lt-leb most_events (length events) k) refl
 
 pub last_time-is : (events : List Event) (e : Event) → slice_get events (length events - 1) ≡ Some e → last_time events ≡ e.time
@@ -77,5 +77,5 @@ pub none_later-last_time : (events : List Event) (time : ℕ) → IsRising event
 none_later-last_time events time h none = follows_by events time h none (nat_lt time (last_time events)) refl
 
 pub accepted_reply : (window : ℕ) (events : List Event) (e : Event) (answers : List Answer) → later_than e.time events ≡ false → length events < most_events → answers ≡ answers_to window (events ++ e ∷ []) e →
-    Answered answers ≡ reply_of window events (verdict_of events (Some e))
+    Answered answers ≡ reply_of window events (verdict_of events (Ok e))
 accepted_reply window events e answers h k is = rw (is_accepted events e h k, is) refl

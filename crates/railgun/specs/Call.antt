@@ -1,10 +1,10 @@
 -- A call of the program.
-use Rattle.std.specs.Prelude.{◌≡◌, ℕ, ◌<◌, ◌≤◌, nat_lt, Bool, true, false, List, [], ◌∷◌, length, codes, bytes_eq, string_bytes, String, Option, Some, None, ⊤, IsSome, if◌then◌else◌}
+use Rattle.std.specs.Prelude.{◌≡◌, ℕ, ◌<◌, ◌≤◌, nat_lt, Bool, true, false, List, [], ◌∷◌, length, codes, bytes_eq, string_bytes, String, Option, Some, None, ⊤, if◌then◌else◌}
 use Rattle.std.specs.declared.alloc.Global.{Global}
-use Rattle.railgun.specs.Plan.{plan_of, legal_plan}
-use Rattle.railgun.specs.Output.{output_of}
+use Rattle.railgun.specs.Plan.{Plan, Says, IsPlan}
+use Rattle.railgun.specs.Output.{output_of, replies_to}
 use Rattle.railgun.specs.declared.status.Status.{Status}
-use Rattle.railgun.specs.declared.status.Status.TheVariants.{Ok, Usage, Plan, Store, Read, Write, Disk, Limit, Memory, Gap, Differs}
+use Rattle.railgun.specs.declared.status.Status.TheVariants.{Ok, Usage, Plan as BadPlan, Store, Read, Write, Disk, Limit, Memory, Gap, Differs}
 
 -- the words are `run PLAN STORE`
 abbrev pub is_run : List (String Global) → Bool
@@ -14,28 +14,32 @@ is_run (command ∷ (plan ∷ [])) = false
 is_run (command ∷ (plan ∷ (store ∷ []))) = bytes_eq (string_bytes command) (codes "run")
 is_run (command ∷ (plan ∷ (store ∷ (more ∷ words)))) = false
 
--- The plan and the input tell their bytes, which are these.
+-- The plan and the input tell their bytes, which are these; and what the plan's bytes say.
 pub record Told (plan input : Option (List ℕ)) : Type 0 where
   pub plan_bytes : List ℕ
   pub input_bytes : List ℕ
   pub plan_is : plan ≡ Some plan_bytes
   pub input_is : input ≡ Some input_bytes
+  pub asks : Option Plan
+  pub says : Says plan_bytes asks
 
--- the lines that are put for windows of a known length
-abbrev pub text_by : Option ℕ → List ℕ → List (List ℕ)
-text_by None input = []
-text_by (Some window) input = output_of window input
+-- all lines that a call puts at status Ok, with words of the form or not, for what the plan asks
+abbrev pub text_of : Bool → Option Plan → List ℕ → List (List ℕ)
+text_of true (Some plan) input = output_of plan input
+text_of true None input = []
+text_of false asks input = []
 
--- all lines that a call puts at status Ok, with words of the form or not
-abbrev pub text_of : Bool → List ℕ → List ℕ → List (List ℕ)
-text_of true plan input = text_by (legal_plan plan) input
-text_of false plan input = []
+-- the lines that answer these, with words of the form or not, for what the plan asks
+abbrev pub replies_of : Bool → Option Plan → List (Option (List ℕ)) → List (List ℕ)
+replies_of true (Some plan) lines = replies_to plan lines
+replies_of true None lines = []
+replies_of false asks lines = []
 
 -- the last line that a status puts, with its LF
 abbrev pub last_line : Status → List ℕ
 last_line Ok = []
 last_line Usage = codes "refused usage\n"
-last_line Plan = codes "refused plan settings\n"
+last_line BadPlan = codes "refused plan settings\n"
 last_line Store = []
 last_line Read = codes "failed read\n"
 last_line Write = []
@@ -49,7 +53,7 @@ last_line Differs = []
 abbrev pub number_of : Status → ℕ
 number_of Ok = 0
 number_of Usage = 2
-number_of Plan = 3
+number_of BadPlan = 3
 number_of Store = 4
 number_of Read = 5
 number_of Write = 6
@@ -59,14 +63,14 @@ number_of Memory = 9
 number_of Gap = 10
 number_of Differs = 11
 
--- where the plan tells its bytes, they are a legal plan
+-- where the plan tells its bytes, they say a plan
 abbrev pub IsLegal : Option (List ℕ) → Type 0
-IsLegal (Some bytes) = IsSome (legal_plan bytes)
+IsLegal (Some bytes) = (plan : Plan) × IsPlan bytes plan
 IsLegal None = ⊤
 
--- where the plan tells its bytes, they are within their limit and no plan
+-- where the plan tells its bytes, they are within their limit and say no plan
 abbrev pub IsRefused : Option (List ℕ) → Type 0
-IsRefused (Some bytes) = (length bytes ≤ 65536) × (plan_of bytes ≡ None)
+IsRefused (Some bytes) = (length bytes ≤ 65536) × Says bytes None
 IsRefused None = ⊤
 
 -- where the bytes are told, there are more than n
@@ -83,7 +87,7 @@ IsWithin n None = ⊤
 abbrev pub IsPossible : Status → Type 0
 IsPossible Ok = ⊤
 IsPossible Usage = ⊤
-IsPossible Plan = ⊤
+IsPossible BadPlan = ⊤
 IsPossible Store = ⊥
 IsPossible Read = ⊤
 IsPossible Write = ⊤
@@ -93,12 +97,12 @@ IsPossible Memory = ⊤
 IsPossible Gap = ⊥
 IsPossible Differs = ⊥
 
--- the status of a legal plan or none, for an input
-abbrev pub status_by : Option ℕ → List ℕ → Status
-status_by None input = Plan
-status_by (Some window) input = if nat_lt 1125899906842624 (length input) then Limit else Ok
+-- the status for an input of what a plan asks
+abbrev pub status_by : Option Plan → List ℕ → Status
+status_by None input = BadPlan
+status_by (Some plan) input = if nat_lt 1125899906842624 (length input) then Limit else Ok
 
 -- the status that words, plan and input call for
-abbrev pub status_for : Bool → List ℕ → List ℕ → Status
-status_for true plan input = if nat_lt 65536 (length plan) then Limit else status_by (plan_of plan) input
-status_for false plan input = Usage
+abbrev pub status_for : Bool → List ℕ → Option Plan → List ℕ → Status
+status_for true plan asks input = if nat_lt 65536 (length plan) then Limit else status_by asks input
+status_for false plan asks input = Usage

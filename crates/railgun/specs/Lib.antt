@@ -1,5 +1,4 @@
 pub mod Plan
-pub mod Row
 pub mod Output
 pub mod Put
 pub mod Session

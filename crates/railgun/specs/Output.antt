@@ -1,66 +1,89 @@
 -- What is put out for an input. Each line is answered from the lines before it alone.
-use Rattle.std.specs.Prelude.{ℕ, zero, suc, nat_lt, nat_le, List, [], ◌∷◌, ◌++◌, length, get_or, Option, Some, None, if◌then◌else◌}
+use Rattle.std.specs.Prelude.{ℕ, zero, suc, ◌==◌, ◌&&◌, nat_lt, nat_le, List, [], ◌∷◌, ◌++◌, length, get_or, Option, Some, None, Result, Ok, Err, if◌then◌else◌}
 use Rattle.std.specs.List.{list_any}
 use Rattle.rg_event.specs.declared.event.Event.{Event}
 use Rattle.rg_engine.specs.Answering.{answers_to}
 use Rattle.rg_engine.specs.declared.reply.Reply.{Reply}
-use Rattle.rg_engine.specs.declared.reply.Reply.TheVariants.{Row, Late, Full, Answered}
+use Rattle.rg_engine.specs.declared.reply.Reply.TheVariants.{Head, Long, Row, Fields, Time, Value, Late, Full, Answered}
 use Rattle.rg_reply.specs.Texts.{reply_line, mark_line}
 use Rattle.rg_reply.specs.declared.mark.Mark.TheVariants.{Finished}
+use Rattle.rg_row.specs.Fields.{cleaned}
+use Rattle.rg_row.specs.Rows.{row_of}
+use Rattle.rg_row.specs.declared.fault.RowFault.{RowFault}
+use Rattle.rg_row.specs.declared.fault.RowFault.TheVariants as fault
 use Rattle.rg_host.specs.Lines.{lines_of}
-use Rattle.railgun.specs.Row.{row_at}
+use Rattle.railgun.specs.Plan.{Plan}
 
 -- how many events there may be
 abbrev pub most_events : ℕ
 most_events = 1099511627776
 
+-- the reply to a fault of a row; the definition of a row never runs out of memory
+abbrev pub fault_reply : RowFault → Reply
+fault_reply fault.Row = Row
+fault_reply fault.Fields = Fields
+fault_reply fault.Time = Time
+fault_reply (fault.Value column) = Value column
+fault_reply fault.Memory = Row
+
+abbrev pub or_reply : Result Event RowFault → Result Event Reply
+or_reply (Ok e) = Ok e
+or_reply (Err f) = Err (fault_reply f)
+
+-- the event of a line of any length, or the reply that refuses it
+abbrev pub event_at : Plan → ℕ → Option (List ℕ) → Result Event Reply
+event_at plan offset None = Err Long
+event_at plan offset (Some text) = or_reply (row_of plan.fields offset (cleaned offset text))
+
+-- the same, where the first line may be a header
+abbrev pub look_at : Plan → ℕ → Option (List ℕ) → Result Event Reply
+look_at plan offset item = if plan.header && (offset == 0) then Err Head else event_at plan offset item
+
 -- what is decided on a line
 pub data Verdict : Type 0 where
-  row : Verdict
-  late : Verdict
-  full : Verdict
+  refused : Reply → Verdict
   accepted : Event → Verdict
 
--- the verdict on a row, where these events were accepted before it
-abbrev pub verdict_of : List Event → Option Event → Verdict
-verdict_of events None = row
-verdict_of events (Some e) =
-    if list_any (λ x. nat_lt e.time x.time) events then late
-    else if nat_le most_events (length events) then full
+-- the verdict on an event or a refusal, where these events were accepted before it
+abbrev pub verdict_of : List Event → Result Event Reply → Verdict
+verdict_of events (Err reply) = refused reply
+verdict_of events (Ok e) =
+    if list_any (λ x. nat_lt e.time x.time) events then refused Late
+    else if nat_le most_events (length events) then refused Full
     else accepted e
 
 -- the events accepted up to and with it
 abbrev pub with_verdict : List Event → Verdict → List Event
-with_verdict events row = events
-with_verdict events late = events
-with_verdict events full = events
+with_verdict events (refused reply) = events
 with_verdict events (accepted e) = events ++ e ∷ []
 
 -- the reply, for windows of n milliseconds
 abbrev pub reply_of : ℕ → List Event → Verdict → Reply
-reply_of n events row = Row
-reply_of n events late = Late
-reply_of n events full = Full
+reply_of n events (refused reply) = reply
 reply_of n events (accepted e) = Answered (answers_to n (events ++ e ∷ []) e)
 
 -- the events accepted among the first i lines
-abbrev pub accepted_before : List (Option (List ℕ)) → ℕ → List Event
-accepted_before lines zero = []
-accepted_before lines (suc i) = with_verdict (accepted_before lines i) (verdict_of (accepted_before lines i) (row_at i (get_or lines i None)))
+abbrev pub accepted_before : Plan → List (Option (List ℕ)) → ℕ → List Event
+accepted_before plan lines zero = []
+accepted_before plan lines (suc i) = with_verdict (accepted_before plan lines i) (verdict_of (accepted_before plan lines i) (look_at plan i (get_or lines i None)))
 
 -- the line that answers line i
-abbrev pub reply_to : ℕ → List (Option (List ℕ)) → ℕ → List ℕ
-reply_to n lines i = reply_line i (reply_of n (accepted_before lines i) (verdict_of (accepted_before lines i) (row_at i (get_or lines i None))))
+abbrev pub reply_to : Plan → List (Option (List ℕ)) → ℕ → List ℕ
+reply_to plan lines i = reply_line i (reply_of plan.window (accepted_before plan lines i) (verdict_of (accepted_before plan lines i) (look_at plan i (get_or lines i None))))
 
 -- the lines that answer the first i lines
-abbrev pub replies_before : ℕ → List (Option (List ℕ)) → ℕ → List (List ℕ)
-replies_before n lines zero = []
-replies_before n lines (suc i) = replies_before n lines i ++ reply_to n lines i ∷ []
+abbrev pub replies_before : Plan → List (Option (List ℕ)) → ℕ → List (List ℕ)
+replies_before plan lines zero = []
+replies_before plan lines (suc i) = replies_before plan lines i ++ reply_to plan lines i ∷ []
+
+-- the lines that answer these lines
+abbrev pub replies_to : Plan → List (Option (List ℕ)) → List (List ℕ)
+replies_to plan lines = replies_before plan lines (length lines)
 
 -- all lines that are put out for these lines
-abbrev pub output_for : ℕ → List (Option (List ℕ)) → List (List ℕ)
-output_for n lines = replies_before n lines (length lines) ++ mark_line (Finished (length lines) (length (accepted_before lines (length lines)))) ∷ []
+abbrev pub output_for : Plan → List (Option (List ℕ)) → List (List ℕ)
+output_for plan lines = replies_to plan lines ++ mark_line (Finished (length lines) (length (accepted_before plan lines (length lines)))) ∷ []
 
--- all lines that are put out for an input, for windows of n milliseconds
-abbrev pub output_of : ℕ → List ℕ → List (List ℕ)
-output_of n input = output_for n (lines_of input)
+-- all lines that are put out for an input
+abbrev pub output_of : Plan → List ℕ → List (List ℕ)
+output_of plan input = output_for plan (lines_of input)

@@ -1,70 +1,84 @@
 -- What one turn does: it takes a line, answers it and puts the answer out.
-use Rattle.std.specs.Prelude.{◌≡◌, ◌⊎◌, ◌+◌, ◌<◌, ◌≤◌, ◌^◌, ℕ, false, List, [], ◌∷◌, ◌++◌, length, Option, Some}
+use Rattle.std.specs.Prelude.{◌≡◌, ◌⊎◌, ◌+◌, ◌<◌, ◌≤◌, ◌^◌, ℕ, true, false, List, [], ◌∷◌, ◌++◌, length, Option}
 use Rattle.rg_bytes.specs.Known.{before, IsAtEnd}
 use Rattle.rg_event.specs.declared.event.Event.{Event}
-use Rattle.rg_host.specs.Lines.{lines_of}
+use Rattle.rg_host.specs.Lines.{lines_of, HasNoLf}
 use Rattle.rg_host.specs.Puts.{IsFront}
 use Rattle.rg_host.specs.Reading.{Reading}
 use Rattle.rg_past.specs.Order.{next_offset}
 use Rattle.rg_reply.specs.Texts.{reply_line, mark_line}
 use Rattle.rg_reply.specs.declared.mark.Mark.TheVariants.{Finished}
-use Rattle.railgun.specs.Row.{row_at}
-use Rattle.railgun.specs.Output.{verdict_of, with_verdict, reply_of}
+use Rattle.railgun.specs.Plan.{Plan}
+use Rattle.railgun.specs.Output.{look_at, verdict_of, with_verdict, reply_of}
 use Rattle.railgun.specs.declared.arrival.Arrival.{Arrival}
 use Rattle.railgun.specs.declared.arrival.Arrival.TheVariants.{Line, End}
 use Rattle.railgun.specs.declared.run.Run.{Run}
+use Rattle.railgun.specs.declared.status.Status.{Status}
+use Rattle.railgun.specs.declared.status.Status.TheVariants.{Limit}
 
 -- The reading took these bytes from a source that had `left` to come and has `now`.
 pub record Takes (old new : Reading) (left now : Option (List ℕ)) (got : List ℕ) : Type 0 where
   pub took : left ≡ before got now
   pub count : new.taken ≡ old.taken + length got
 
--- The reading handed out this line.
+-- The reading handed out this line. If the source was then at its end, it was the last one.
 pub record TakesLine (old new : Reading) (left now : Option (List ℕ)) (item : Option (List ℕ)) : Type 0 where
-  pub open_still : new.ended ≡ old.ended
+  pub was_open : old.ended ≡ false
   pub got : List ℕ
   pub takes : Takes old new left now got
-  -- where the bytes behind it are known, it is the first of the lines to come
-  pub line : (rest : List ℕ) → now ≡ Some rest → lines_of ((old.pending ++ got) ++ rest) ≡ item ∷ lines_of (new.pending ++ rest)
+  -- whatever comes behind it
+  pub line : new.ended ≡ false → (rest : List ℕ) → lines_of ((old.pending ++ got) ++ rest) ≡ item ∷ lines_of (new.pending ++ rest)
+  pub last : new.ended ≡ true → (lines_of (old.pending ++ got) ≡ item ∷ []) × (new.pending ≡ []) × IsAtEnd now
   pub spent : old.spent < new.spent
   pub within : new.spent ≤ 2 ^ 50
 
--- The reading came to the end, and no byte is left.
+-- The reading came to the end, and no byte is left; the source was at its end already, or is now.
 pub record TakesEnd (old new : Reading) (left now : Option (List ℕ)) : Type 0 where
   pub got : List ℕ
   pub takes : Takes old new left now got
   pub nothing : old.pending ++ got ≡ []
-  pub at_end : IsAtEnd now
+  pub at_end : old.ended ≡ false → IsAtEnd now
+  pub stays : old.ended ≡ true → got ≡ []
   pub within : new.taken ≤ 2 ^ 50
 
--- The arrival is the event of the line at this offset that the reading handed out, or the end.
-abbrev pub Arrives : ℕ → Reading → Reading → Option (List ℕ) → Option (List ℕ) → Arrival → Type 0
-Arrives offset old new left now (Line row) = (item : Option (List ℕ)) × (row ≡ row_at offset item) × TakesLine old new left now item
-Arrives offset old new left now End = TakesEnd old new left now
+-- The arrival is the event of the line at this offset that the reading handed out or the reply that refuses it, or the end.
+abbrev pub Arrives : Plan → ℕ → Reading → Reading → Option (List ℕ) → Option (List ℕ) → Arrival → Type 0
+Arrives plan offset old new left now (Line look) = (item : Option (List ℕ)) × (look ≡ look_at plan offset item) × TakesLine old new left now item
+Arrives plan offset old new left now End = TakesEnd old new left now
+
+-- A reading was refused with this status: the bytes taken, but at Limit for one past it, hold no line that hasn't been handed out.
+pub record TakesNone (old new : Reading) (left now : Option (List ℕ)) (status : Status) : Type 0 where
+  pub got : List ℕ
+  pub past : List ℕ
+  pub takes : Takes old new left now (got ++ past)
+  pub one : length past ≤ 1
+  pub none_past : (past ≡ []) ⊎ (status ≡ Limit)
+  pub was_open : old.ended ≡ false
+  pub lines : (rest : List ℕ) → lines_of (new.pending ++ rest) ≡ lines_of ((old.pending ++ got) ++ rest)
+  pub no_lf : HasNoLf new.pending
 
 -- what answers a line after these events, with its LF
-abbrev pub answer_text : ℕ → List Event → ℕ → Option (List ℕ) → List ℕ
-answer_text window events offset item = reply_line offset (reply_of window events (verdict_of events (row_at offset item))) ++ 10 ∷ []
+abbrev pub answer_text : Plan → List Event → ℕ → Option (List ℕ) → List ℕ
+answer_text plan events offset item = reply_line offset (reply_of plan.window events (verdict_of events (look_at plan offset item))) ++ 10 ∷ []
 
 -- what is put at the end, with its LF
 abbrev pub done_text : ℕ → List Event → List ℕ
 done_text lines events = mark_line (Finished lines (length events)) ++ 10 ∷ []
 
--- A run between two lines: its reading is open and within its limit, and the next line's offset is above those of its events.
+-- A run between two lines: its reading is within its limit, and the next line's offset is above those of its events.
 pub record IsBetween (run : Run) : Type 0 where
-  pub open_still : run.lines.ended ≡ false
   pub within : run.lines.spent ≤ 2 ^ 50
   pub counted : run.offset ≤ run.lines.spent
   pub follows : next_offset run.session.events ≤ run.offset
 
 -- A line was answered. `Put` says which bytes were put out in this turn.
-pub record Answers (old new : Run) (left now : Option (List ℕ)) (Put : List ℕ → Type 0) : Type 0 where
+pub record Answers (plan : Plan) (old new : Run) (left now : Option (List ℕ)) (Put : List ℕ → Type 0) : Type 0 where
   pub item : Option (List ℕ)
   pub takes : TakesLine old.lines new.lines left now item
-  pub events : new.session.events ≡ with_verdict old.session.events (verdict_of old.session.events (row_at old.offset item))
+  pub events : new.session.events ≡ with_verdict old.session.events (verdict_of old.session.events (look_at plan old.offset item))
   pub window : new.session.window ≡ old.session.window
   pub offset : new.offset ≡ old.offset + 1
-  pub puts : Put (answer_text old.session.window old.session.events old.offset item)
+  pub puts : Put (answer_text plan old.session.events old.offset item)
 
 -- The end was put out.
 pub record Finishes (old new : Run) (left now : Option (List ℕ)) (Put : List ℕ → Type 0) : Type 0 where
@@ -78,7 +92,7 @@ pub record IsCut (text : List ℕ) (Put : List ℕ → Type 0) : Type 0 where
   pub puts : Put part
 
 -- A turn was refused: a put failed in an answer or at the end, or nothing was put.
-abbrev pub Refuses : Run → Run → Option (List ℕ) → Option (List ℕ) → (List ℕ → Type 0) → Type 0
-Refuses old new left now Put =
-    ((item : Option (List ℕ)) × TakesLine old.lines new.lines left now item × IsCut (answer_text old.session.window old.session.events old.offset item) Put)
+abbrev pub Refuses : Plan → Run → Run → Option (List ℕ) → Option (List ℕ) → (List ℕ → Type 0) → Type 0
+Refuses plan old new left now Put =
+    ((item : Option (List ℕ)) × TakesLine old.lines new.lines left now item × IsCut (answer_text plan old.session.events old.offset item) Put)
     ⊎ (TakesEnd old.lines new.lines left now × IsCut (done_text old.offset old.session.events) Put)

@@ -1,40 +1,88 @@
-ghost use Rattle.std.specs.Prelude.{◌≡◌, ◌⊎◌, ◌<◌, ◌≤◌, ◌^◌, ℕ, List, false, IfOk, IfErr, OnErr, IsErrOf};
+ghost use Rattle.std.specs.Prelude.{◌≡◌, ◌⊎◌, ◌<◌, ◌≤◌, ◌^◌, ◌==◌, ◌&&◌, ℕ, List, Err, Some, None, false, IfOk, IfErr, OnErr, IsErrOf};
+ghost use Rattle.std.specs.List.{list_any};
 ghost use Rattle.rg_bytes.specs.Counts.{Rose};
-ghost use Rattle.railgun.specs.Turn.{Takes, Arrives};
+ghost use Rattle.railgun.specs.Output.{look_at};
+ghost use Rattle.railgun.specs.Turn.{Takes, TakesNone, Arrives};
 
-use crate::row::read_row;
+use crate::plan::Plan;
 use crate::status::Status;
+use rg_bytes::Memory;
+use rg_engine::Reply;
 use rg_event::Event;
 use rg_host::{Line, LineFault, Lines, Source};
+use rg_row::{RowFault, clean, read_row};
 use std::alloc::Global;
 
 /// What came next from the input.
 #[derive(Debug, Drop)]
 pub enum Arrival {
-    /// A line, with its event where it is a row.
-    Line(Option<Event>),
+    /// A line: its event, or the reply that refuses it.
+    Line(Result<Event, Reply>),
     /// The end.
     End,
+}
+
+/// Whether the line at this offset is the plan's header.
+fn is_header(plan: &Plan, offset: u64) -> bool
+    ensures { result ≡ (plan.now.header && (offset == 0)) }
+{
+    plan.header() && offset == 0
+}
+
+/// The reply to a line that is longer than a line may be.
+fn refuse_long(plan: &Plan, offset: u64) -> Reply
+    ensures { Err result ≡ look_at plan.now offset None }
+{
+    if is_header(plan, offset) {
+        Reply::Head
+    } else {
+        Reply::Long
+    }
+}
+
+/// The event of a line's text, which holds no LF, or the reply that refuses it.
+#[tactic(auto, using(crate::proofs::Arrivals::no_lf_cleaned))]
+fn read_text(
+    alloc: Global,
+    plan: &Plan,
+    offset: u64,
+    text: &[u8],
+) -> Result<Result<Event, Reply>, Memory>
+    requires one_line { list_any (λ byte. byte == 10) text.now ≡ false }
+    ensures { IfOk result (λ look. look ≡ look_at plan.now offset (Some text.now)) }
+{
+    if is_header(plan, offset) {
+        return Ok(Err(Reply::Head));
+    }
+    match read_row(alloc, plan.schema(), offset, clean(offset, text)) {
+        Ok(event) => Ok(Ok(event)),
+        Err(RowFault::Row) => Ok(Err(Reply::Row)),
+        Err(RowFault::Fields) => Ok(Err(Reply::Fields)),
+        Err(RowFault::Time) => Ok(Err(Reply::Time)),
+        Err(RowFault::Value(column)) => Ok(Err(Reply::Value(column))),
+        Err(RowFault::Memory) => Err(Memory),
+    }
 }
 
 /// Takes the next line of the input, which has this offset.
 pub fn next_arrival<I: Source>(
     alloc: Global,
+    plan: &Plan,
     lines: &mut Lines,
     offset: u64,
     input: &mut I,
 ) -> Result<Arrival, Status>
-    requires { lines.old.ended ≡ false }
-    ensures arrives { IfOk result (Arrives offset lines.old lines.new (I.left input.old) (I.left input.new)) }
+    ensures arrives { IfOk result (Arrives plan.now offset lines.old lines.new (I.left input.old) (I.left input.new)) }
     ensures took { OnErr result ((got : List ℕ) × Takes lines.old lines.new (I.left input.old) (I.left input.new) got) }
+    ensures took_none { IfErr result (λ status. (status ≡ Status.Read) ⊎ (status ≡ Status.Limit) → TakesNone lines.old lines.new (I.left input.old) (I.left input.new) status) }
     ensures read { IsErrOf result Status.Read → Rose (I.faults input.old) (I.faults input.new) }
     ensures limit { IsErrOf result Status.Limit → 2 ^ 50 < lines.new.taken }
     ensures others { IfErr result (λ status. (status ≡ Status.Read) ⊎ (status ≡ Status.Limit) ⊎ (status ≡ Status.Memory)) }
     ensures later { I.faults input.old ≤ I.faults input.new }
 {
     match lines.next(input) {
-        Ok(Line::Text(text)) => Ok(Arrival::Line(read_row(alloc, offset, text)?)),
-        Ok(Line::Long) => Ok(Arrival::Line(None)),
+        Ok(Line::Text(text)) => Ok(Arrival::Line(read_text(alloc, plan, offset, text)?)),
+        Ok(Line::Long) => Ok(Arrival::Line(Err(refuse_long(plan, offset)))),
         Ok(Line::End) => Ok(Arrival::End),
         Err(LineFault::Read) => Err(Status::Read),
         Err(LineFault::Limit) => Err(Status::Limit),

@@ -1,14 +1,14 @@
-ghost use Rattle.std.specs.Prelude.{◌≡◌, ◌⊎◌, ◌↔◌, ◌≤◌, ◌<◌, ◌^◌, ℕ, List, false, true, Some, Option, IfOk, IfErr, IfSome, OnOk, OnErr, IsErrOf};
+ghost use Rattle.std.specs.Prelude.{◌≡◌, ◌⊎◌, ◌++◌, ◌≤◌, ◌<◌, ◌^◌, ℕ, List, false, true, Some, Option, IfOk, IfErr, IfSome, OnOk, OnErr, IsErrOf};
 ghost use Rattle.rg_bytes.specs.Counts.{Rose};
 ghost use Rattle.rg_bytes.specs.Known.{IsAtEnd};
 ghost use Rattle.rg_host.specs.Lines.{ended};
 ghost use Rattle.rg_host.specs.Puts.{IsFront, Puts};
-ghost use Rattle.railgun.specs.Plan.{legal_plan};
+ghost use Rattle.railgun.specs.Plan.{IsPlan};
 ghost use Rattle.railgun.specs.Put.{IsPut, StopsWith};
-ghost use Rattle.railgun.specs.Run.{StopsAt};
-ghost use Rattle.railgun.specs.Call.{is_run as words_are_run, Told, text_of, last_line as line_of, status_for, IsLegal, IsRefused, IsLonger, IsWithin, IsPossible};
+ghost use Rattle.railgun.specs.Run.{StopsAt, StopsRead};
+ghost use Rattle.railgun.specs.Call.{is_run as words_are_run, Told, text_of, replies_of, last_line as line_of, status_for, IsLegal, IsRefused, IsLonger, IsWithin, IsPossible};
 
-use crate::plan::read_plan;
+use crate::plan::Plan;
 use crate::serve::serve;
 use crate::status::Status;
 use rg_host::{AllFault, Host, Source, put_all, read_all};
@@ -27,9 +27,9 @@ fn is_run(words: &[String]) -> bool
     }
 }
 
-/// The length of the windows in milliseconds that the plan says.
-fn load_plan<P: Source>(alloc: Global, plan: &mut P) -> Result<u64, Status>
-    ensures legal { IfOk result (λ window. IfSome (P.left plan.old) (λ bytes. legal_plan bytes ≡ Some window)) }
+/// Reads the plan.
+fn load_plan<P: Source>(alloc: Global, plan: &mut P) -> Result<Plan, Status>
+    ensures legal { IfOk result (λ asked. IfSome (P.left plan.old) (λ bytes. IsPlan bytes asked)) }
     ensures refused { IsErrOf result Status.Plan → IsRefused (P.left plan.old) }
     ensures read { IsErrOf result Status.Read → Rose (P.faults plan.old) (P.faults plan.new) }
     ensures limit { IsErrOf result Status.Limit → IsLonger 65536 (P.left plan.old) }
@@ -42,8 +42,8 @@ fn load_plan<P: Source>(alloc: Global, plan: &mut P) -> Result<u64, Status>
         Err(AllFault::Limit) => return Err(Status::Limit),
         Err(AllFault::Memory) => return Err(Status::Memory),
     };
-    match read_plan(&bytes) {
-        Some(window) => Ok(window),
+    match Plan::read(alloc, &bytes)? {
+        Some(asked) => Ok(asked),
         None => Err(Status::Plan),
     }
 }
@@ -55,8 +55,10 @@ fn run<P: Source, I: Source, H: Host>(
     input: &mut I,
     host: &mut H,
 ) -> Result<(), Status>
-    ensures completes { OnOk result ((told : Told (P.left plan.old) (I.left input.old)) → Puts H.said H.clock H.since host.old host.new (ended (text_of true told.plan_bytes told.input_bytes))) }
-    ensures stops { IfErr result (λ status. (told : Told (P.left plan.old) (I.left input.old)) → (put : List ℕ) × Puts H.said H.clock H.since host.old host.new put × StopsAt status (text_of true told.plan_bytes told.input_bytes) put) }
+    ensures completes { OnOk result ((told : Told (P.left plan.old) (I.left input.old)) → Puts H.said H.clock H.since host.old host.new (ended (text_of true told.asks told.input_bytes))) }
+    ensures stops { IfErr result (λ status. (told : Told (P.left plan.old) (I.left input.old)) → (put : List ℕ) × Puts H.said H.clock H.since host.old host.new put × StopsAt status (text_of true told.asks told.input_bytes) put) }
+    ensures stops_read { IfErr result (λ status. (status ≡ Status.Read) ⊎ (status ≡ Status.Limit) → (told : Told (P.left plan.old) (I.left input.old)) →
+        StopsRead (replies_of true told.asks) (I.left input.old) (I.left input.new) (Puts H.said H.clock H.since host.old host.new) status) }
     ensures at_end { OnOk result (IsAtEnd (I.left input.new)) }
     ensures legal { OnOk result (IsLegal (P.left plan.old)) }
     ensures within { OnOk result (IsWithin (2 ^ 50) (I.left input.old)) }
@@ -68,8 +70,8 @@ fn run<P: Source, I: Source, H: Host>(
     ensures plan_first { IsErrOf result Status.Plan → input.new ≡ input.old }
     ensures later_out { H.out_faults host.old ≤ H.out_faults host.new }
 {
-    let window = load_plan(alloc, plan)?;
-    serve(alloc, window, input, host)
+    let asked = load_plan(alloc, plan)?;
+    serve(alloc, &asked, input, host)
 }
 
 /// Puts the last line of a status out. Its own failure leaves the status.
@@ -94,12 +96,16 @@ fn carry_out<P: Source, I: Source, H: Host>(
     host: &mut H,
 ) -> Status
     ensures complete_run { result ≡ Status.Ok → (told : Told (P.left plan.old) (I.left input.old)) →
-        Puts H.said H.clock H.since host.old host.new (ended (text_of (words_are_run words.now) told.plan_bytes told.input_bytes)) }
+        Puts H.said H.clock H.since host.old host.new (ended (text_of (words_are_run words.now) told.asks told.input_bytes)) }
     ensures input_read { result ≡ Status.Ok → IsAtEnd (I.left input.new) }
     ensures put_so_far { (told : Told (P.left plan.old) (I.left input.old)) → (put : List ℕ) × Puts H.said H.clock H.since host.old host.new put
-        × IsPut (text_of (words_are_run words.now) told.plan_bytes told.input_bytes) (line_of result) put }
+        × IsPut (text_of (words_are_run words.now) told.asks told.input_bytes) (line_of result) put }
     ensures last_line_whole { (told : Told (P.left plan.old) (I.left input.old)) → ((put : List ℕ) × Puts H.said H.clock H.since host.old host.new put
-        × StopsWith (text_of (words_are_run words.now) told.plan_bytes told.input_bytes) (line_of result) put)
+        × StopsWith (text_of (words_are_run words.now) told.asks told.input_bytes) (line_of result) put)
+        ⊎ Rose (H.out_faults host.old) (H.out_faults host.new) }
+    ensures replies_put { (result ≡ Status.Read) ⊎ (result ≡ Status.Limit) → (told : Told (P.left plan.old) (I.left input.old)) →
+        StopsRead (replies_of (words_are_run words.now) told.asks) (I.left input.old) (I.left input.new)
+        (λ text. Puts H.said H.clock H.since host.old host.new (text ++ line_of result)) result
         ⊎ Rose (H.out_faults host.old) (H.out_faults host.new) }
     ensures usage_only { result ≡ Status.Usage → words_are_run words.now ≡ false }
     ensures usage_always { words_are_run words.now ≡ false → result ≡ Status.Usage }
@@ -135,16 +141,22 @@ pub fn railgun<P: Source, I: Source, H: Host>(
 ) -> Status
     // At status Ok the input was read to its end, and just the text that the definitions give was put out.
     ensures complete_run { result ≡ Status.Ok → (told : Told (P.left plan.old) (I.left input.old)) →
-        Puts H.said H.clock H.since host.old host.new (ended (text_of (words_are_run words.now) told.plan_bytes told.input_bytes)) }
+        Puts H.said H.clock H.since host.old host.new (ended (text_of (words_are_run words.now) told.asks told.input_bytes)) }
     ensures input_read { result ≡ Status.Ok → IsAtEnd (I.left input.new) }
 
     // At each status, a front of that text was put out, or whole lines of it and a front of the status's last line.
     ensures put_so_far { (told : Told (P.left plan.old) (I.left input.old)) → (put : List ℕ) × Puts H.said H.clock H.since host.old host.new put
-        × IsPut (text_of (words_are_run words.now) told.plan_bytes told.input_bytes) (line_of result) put }
+        × IsPut (text_of (words_are_run words.now) told.asks told.input_bytes) (line_of result) put }
 
     // Unless a put failed, that last line is whole.
     ensures last_line_whole { (told : Told (P.left plan.old) (I.left input.old)) → ((put : List ℕ) × Puts H.said H.clock H.since host.old host.new put
-        × StopsWith (text_of (words_are_run words.now) told.plan_bytes told.input_bytes) (line_of result) put)
+        × StopsWith (text_of (words_are_run words.now) told.asks told.input_bytes) (line_of result) put)
+        ⊎ Rose (H.out_faults host.old) (H.out_faults host.new) }
+
+    // Where the input could not be read on, each line that LF ended was answered, and the last line follows, unless a put failed.
+    ensures replies_put { (result ≡ Status.Read) ⊎ (result ≡ Status.Limit) → (told : Told (P.left plan.old) (I.left input.old)) →
+        StopsRead (replies_of (words_are_run words.now) told.asks) (I.left input.old) (I.left input.new)
+        (λ text. Puts H.said H.clock H.since host.old host.new (text ++ line_of result)) result
         ⊎ Rose (H.out_faults host.old) (H.out_faults host.new) }
 
     // Each status has its cause. Memory alone is free.
@@ -164,7 +176,7 @@ pub fn railgun<P: Source, I: Source, H: Host>(
     // Where no count of faults rose, the status is the one that words, plan and input call for, or Memory.
     ensures completes { (told : Told (P.left plan.old) (I.left input.old)) →
         ¬ (Rose (P.faults plan.old) (P.faults plan.new) ⊎ Rose (I.faults input.old) (I.faults input.new) ⊎ Rose (H.out_faults host.old) (H.out_faults host.new)) →
-        (result ≡ status_for (words_are_run words.now) told.plan_bytes told.input_bytes) ⊎ (result ≡ Status.Memory) }
+        (result ≡ status_for (words_are_run words.now) told.plan_bytes told.asks told.input_bytes) ⊎ (result ≡ Status.Memory) }
 {
     carry_out(alloc, words, plan, input, host)
 }

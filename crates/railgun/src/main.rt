@@ -6,7 +6,6 @@ mod call;
 mod plan;
 mod put;
 mod real;
-mod row;
 mod run;
 mod serve;
 mod session;

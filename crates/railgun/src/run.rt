@@ -1,6 +1,7 @@
 ghost use Rattle.std.specs.Prelude.{◌≡◌, ◌⊎◌, ◌≤◌, ◌<◌, ◌+◌, ◌^◌, ◌++◌, ◌∷◌, [], ℕ, List, Option, IsTrue, false, IfOk, IfErr, OnOk, OnErr, IsErrOf, Err};
 
 use crate::arrival::{Arrival, next_arrival};
+use crate::plan::Plan;
 use crate::put::put;
 use crate::session::Session;
 use crate::status::Status;
@@ -22,13 +23,14 @@ pub struct Run {
 impl Run {
     ghost use Rattle.rg_bytes.specs.Counts.{Rose};
     ghost use Rattle.rg_host.specs.Puts.{Puts};
-    ghost use Rattle.railgun.specs.Turn.{IsBetween, Takes, Answers, Finishes, Refuses, IsCut, done_text};
+    ghost use Rattle.railgun.specs.Turn.{IsBetween, Takes, TakesNone, Answers, Finishes, Refuses, IsCut, done_text};
 
     /// A run before its first line, whose windows are so many milliseconds long.
     pub fn new(alloc: Global, window: u64) -> Result<Run, Status>
         ensures between { IfOk result IsBetween }
         ensures pending { IfOk result (λ run. run.lines.pending ≡ []) }
         ensures taken { IfOk result (λ run. run.lines.taken ≡ 0) }
+        ensures still { IfOk result (λ run. run.lines.ended ≡ false) }
         ensures events { IfOk result (λ run. run.session.events ≡ []) }
         ensures window { IfOk result (λ run. run.session.window ≡ window) }
         ensures offset { IfOk result (λ run. run.offset ≡ 0) }
@@ -44,22 +46,25 @@ impl Run {
 
     /// Takes the next line and puts its answer out, or puts the end out. Answers whether there was
     /// a line.
-    #[tactic(auto, using(crate::proofs::Arrivals::follows_row, crate::proofs::Arrivals::next_after))]
+    #[tactic(auto, using(crate::proofs::Arrivals::follows_look, crate::proofs::Arrivals::next_after))]
     pub fn turn<I: Source, H: Host>(
         &mut self,
         alloc: Global,
+        plan: &Plan,
         input: &mut I,
         host: &mut H,
     ) -> Result<bool, Status>
-        requires { IsBetween self.old }
+        requires between { IsBetween self.old }
+        requires window { self.old.session.window ≡ plan.now.window }
         ensures between { IfOk result (λ more. IsTrue more → IsBetween self.new) }
-        ensures answers { IfOk result (λ more. IsTrue more → Answers self.old self.new (I.left input.old) (I.left input.new) (Puts H.said H.clock H.since host.old host.new)) }
+        ensures answers { IfOk result (λ more. IsTrue more → Answers plan.now self.old self.new (I.left input.old) (I.left input.new) (Puts H.said H.clock H.since host.old host.new)) }
         ensures finishes { IfOk result (λ more. more ≡ false → Finishes self.old self.new (I.left input.old) (I.left input.new) (Puts H.said H.clock H.since host.old host.new)) }
 
         // A refusal takes some bytes; only a failed put is one within an answer.
         ensures took { OnErr result ((got : List ℕ) × Takes self.old.lines self.new.lines (I.left input.old) (I.left input.new) got) }
+        ensures took_none { IfErr result (λ status. (status ≡ Status.Read) ⊎ (status ≡ Status.Limit) → TakesNone self.old.lines self.new.lines (I.left input.old) (I.left input.new) status) }
         ensures quiet { OnErr result ((result ≡ Err Status.Write) ⊎ (host.new ≡ host.old)) }
-        ensures cut { IsErrOf result Status.Write → Refuses self.old self.new (I.left input.old) (I.left input.new) (Puts H.said H.clock H.since host.old host.new) }
+        ensures cut { IsErrOf result Status.Write → Refuses plan.now self.old self.new (I.left input.old) (I.left input.new) (Puts H.said H.clock H.since host.old host.new) }
 
         ensures read { IsErrOf result Status.Read → Rose (I.faults input.old) (I.faults input.new) }
         ensures write { IsErrOf result Status.Write → Rose (H.out_faults host.old) (H.out_faults host.new) }
@@ -68,14 +73,14 @@ impl Run {
         ensures later { I.faults input.old ≤ I.faults input.new }
         ensures later_out { H.out_faults host.old ≤ H.out_faults host.new }
     {
-        let row = match next_arrival(alloc, &mut self.lines, self.offset, input)? {
-            Arrival::Line(row) => row,
+        let look = match next_arrival(alloc, plan, &mut self.lines, self.offset, input)? {
+            Arrival::Line(look) => look,
             Arrival::End => {
                 self.finish(host)?;
                 return Ok(false);
             }
         };
-        let reply = self.session.answer(alloc, row)?;
+        let reply = self.session.answer(alloc, look)?;
         self.text.clear();
         write_reply(&mut self.text, self.offset, &reply)?;
         put(host, &self.text)?;

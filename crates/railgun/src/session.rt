@@ -60,16 +60,17 @@ impl Session {
         }
     }
 
-    /// Decides on a row, and answers it where it is accepted. Want of memory ends the session.
-    pub fn answer(&mut self, alloc: Global, row: Option<Event>) -> Result<Reply, Memory>
-        requires { Follows self.old.events row }
-        ensures reply { IfOk result (λ reply. reply ≡ reply_of self.old.window self.old.events (verdict_of self.old.events row)) }
-        ensures events { OnOk result (self.new.events ≡ with_verdict self.old.events (verdict_of self.old.events row)) }
+    /// Decides on an event, and answers it where it is accepted; a refusal is answered as it is.
+    /// Want of memory ends the session.
+    pub fn answer(&mut self, alloc: Global, look: Result<Event, Reply>) -> Result<Reply, Memory>
+        requires { Follows self.old.events look }
+        ensures reply { IfOk result (λ reply. reply ≡ reply_of self.old.window self.old.events (verdict_of self.old.events look)) }
+        ensures events { OnOk result (self.new.events ≡ with_verdict self.old.events (verdict_of self.old.events look)) }
         ensures window { self.new.window ≡ self.old.window }
     {
-        let event = match row {
-            None => return Ok(Reply::Row),
-            Some(event) => event,
+        let event = match look {
+            Err(reply) => return Ok(reply),
+            Ok(event) => event,
         };
         if self.is_late(event.time) {
             return Ok(Reply::Late);

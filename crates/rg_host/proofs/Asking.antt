@@ -1,11 +1,10 @@
 -- What a scan asks of its source.
-use Rattle.std.proofs.Common.{◌≡◌, ℕ, ◌+◌, ◌≤◌, ◌<◌, ◌^◌, Bool, true, false, List, [], ◌++◌, length, Option, Ok, refl, ap, sym, ◌∙◌, subst, arith, append_assoc, length-append}
+use Rattle.std.proofs.Common.{◌≡◌, ℕ, ◌+◌, ◌≤◌, ◌<◌, ◌^◌, Bool, true, false, List, [], ◌++◌, length, Option, Ok, refl, ap, sym, ◌∙◌, arith, append_assoc, length-append}
 use Rattle.std.proofs.lemmas.List.{append-nil}
 use Rattle.rg_host.specs.Held.{Fills}
 use Rattle.rg_host.specs.Lines.{lines_of, HasNoLf}
 use Rattle.rg_host.specs.Scan.{skipped, front, owed, reading_at, IsCounted, Drops, Takes, Asks}
 use Rattle.rg_host.proofs.LineLaws.{lines_of-long}
-use Rattle.rg_host.proofs.Ranges.{no_lf-append}
 use Rattle.rg_host.proofs.Finds.{no_lf-skipped, length-skipped, no_lf-behind}
 
 -- what is held of a long line can be dropped
@@ -42,7 +41,6 @@ takes_filled skipping still held still_held now_held taken count ended left now 
       count = ap (λ n. taken + n) (sym fills.count);
       same = λ rest. ap (λ v. lines_of (v ++ rest)) grown ∙ ap lines_of (append_assoc (front still ++ still_held) fills.got rest)
           ∙ drops.same no_lf (fills.got ++ rest) ∙ ap lines_of (sym (append_assoc (front skipping ++ held) fills.got rest));
-      no_lf = λ no_lf_now. no_lf-append (front skipping ++ held) fills.got no_lf (no_lf-behind (front still ++ still_held) fills.got (subst HasNoLf grown no_lf_now));
       spent = omega (arith, longer, drops.fewer, counted);
       ended = refl;
     }

@@ -73,9 +73,9 @@ front_some false held some = omega (arith, some)
 -- at the end of the source what is held is the last line
 pub finish_cuts : (skipping : Bool) (n : ℕ) (held : List ℕ) (taken : ℕ) (ended : Bool) →
     length held ≡ n → HasNoLf (front skipping ++ held) → length held + owed skipping ≤ taken → 0 < length held + owed skipping →
-    MatchOption (handed_by (kind_of skipping n) held) ((front skipping ++ held) ≡ []) (λ item. CutsLast (reading_at skipping held taken ended) (reading_at false [] taken ended) item)
+    MatchOption (handed_by (kind_of skipping n) held) ((front skipping ++ held) ≡ []) (λ item. CutsLast (reading_at skipping held taken ended) (reading_at false [] taken true) item)
 finish_cuts skipping n held taken ended count no_lf counted some =
-    let cuts : CutsLast (reading_at skipping held taken ended) (reading_at false [] taken ended) (line_of (front skipping ++ held)) = record {
+    let cuts : CutsLast (reading_at skipping held taken ended) (reading_at false [] taken true) (line_of (front skipping ++ held)) = record {
       line = lines_of-last (front skipping ++ held) no_lf (front_some skipping held some);
       nothing_left = refl;
       taken = refl;
@@ -83,7 +83,7 @@ finish_cuts skipping n held taken ended count no_lf counted some =
       within = omega arith;
       ended = refl;
     } in
-    subst (λ found. MatchOption found ((front skipping ++ held) ≡ []) (λ item. CutsLast (reading_at skipping held taken ended) (reading_at false [] taken ended) item)) (sym (kind_of-line skipping n held count)) cuts
+    subst (λ found. MatchOption found ((front skipping ++ held) ≡ []) (λ item. CutsLast (reading_at skipping held taken ended) (reading_at false [] taken true) item)) (sym (kind_of-line skipping n held count)) cuts
 
 -- where nothing is pending, all that was taken was handed out
 pub all_spent : (skipping : Bool) (held : List ℕ) (taken : ℕ) (ended : Bool) → (reading_at skipping held taken ended).pending ≡ [] → (reading_at skipping held taken ended).spent ≡ taken

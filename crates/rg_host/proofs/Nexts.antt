@@ -4,7 +4,7 @@ use Rattle.std.specs.Option.{MatchOption}
 use Rattle.std.proofs.lemmas.List.{append-nil}
 use Rattle.rg_bytes.specs.Known.{before, IsAtEnd}
 use Rattle.rg_host.specs.Lines.{lines_of, HasNoLf}
-use Rattle.rg_host.specs.Reading.{Reading, Next, handed}
+use Rattle.rg_host.specs.Reading.{Reading, HandsOut, Next, handed}
 use Rattle.rg_host.specs.Scan.{Scan, Takes, Asks, Cuts, CutsLast, Oversteps, handed_by, Loads}
 use Rattle.rg_host.specs.declared.scanner.Found.{Found}
 use Rattle.rg_host.specs.declared.scanner.Found.TheVariants as found
@@ -13,8 +13,6 @@ use Rattle.rg_host.specs.declared.lines.Line.TheVariants.{Text, Long, End}
 use Rattle.rg_host.specs.declared.lines.LineFault.{LineFault}
 use Rattle.rg_host.specs.declared.lines.LineFault.TheVariants.{Read, Limit}
 use Rattle.rg_host.proofs.LineLaws.{lines_of-nil, lines_of-none}
-use Rattle.rg_host.proofs.Ranges.{no_lf-append}
-use Rattle.rg_host.proofs.Finds.{no_lf-behind}
 
 before-nil : (left : Option (List ℕ)) → before [] left ≡ left
 before-nil (Some told) = refl
@@ -23,10 +21,6 @@ before-nil None = refl
 before-before : (x y : List ℕ) (left : Option (List ℕ)) → before x (before y left) ≡ before (x ++ y) left
 before-before x y (Some told) = ap (λ v. Some v) (sym (append_assoc x y told))
 before-before x y None = refl
-
-no_lf-before : (x y : List ℕ) → HasNoLf (x ++ y) → HasNoLf x
-no_lf-before [] y no_lf = tt
-no_lf-before (byte ∷ x) y no_lf = (no_lf.0, no_lf-before x y no_lf.1)
 
 empty-before : (x y : List ℕ) → x ++ y ≡ [] → x ≡ []
 empty-before [] y none = refl
@@ -42,7 +36,6 @@ takes_nothing now left = record {
   took = sym (before-nil left);
   count = omega arith;
   same = λ rest. ap (λ v. lines_of (v ++ rest)) (sym (append-nil now.pending));
-  no_lf = λ no_lf. rw (append-nil now.pending) no_lf;
   spent = omega arith;
   ended = refl;
 }
@@ -56,9 +49,6 @@ takes_then old mid new left mid_left now first second =
       count = omega (arith, first.count, second.count, length-append first.got second.got);
       same = λ rest. second.same rest ∙ ap lines_of (append_assoc mid.pending second.got rest) ∙ first.same (second.got ++ rest)
           ∙ ap lines_of (sym (append_assoc (old.pending ++ first.got) second.got rest) ∙ ap (λ v. v ++ rest) joined);
-      no_lf = λ no_lf.
-          let mid_no_lf : HasNoLf (mid.pending ++ second.got) = second.no_lf no_lf in
-          subst HasNoLf joined (no_lf-append (old.pending ++ first.got) second.got (first.no_lf (no_lf-before mid.pending second.got mid_no_lf)) (no_lf-behind mid.pending second.got mid_no_lf));
       spent = omega (arith, first.spent, second.spent);
       ended = second.ended ∙ first.ended;
     }
@@ -66,16 +56,16 @@ takes_then old mid new left mid_left now first second =
 abbrev found_end : Found
 found_end = found.End
 
-all_taken : (old mid : Reading) (left now : Option (List ℕ)) (takes : Takes old mid left now) → mid.pending ≡ [] → lines_of (old.pending ++ takes.got) ≡ []
-all_taken old mid left now takes empty =
-    ap lines_of (sym (append-nil (old.pending ++ takes.got))) ∙ sym (takes.same []) ∙ ap (λ v. lines_of (v ++ [])) empty ∙ lines_of-nil
+-- where nothing comes behind them, what was taken has the lines that it had
+lines_taken : (old mid : Reading) (left now : Option (List ℕ)) (takes : Takes old mid left now) → lines_of (old.pending ++ takes.got) ≡ lines_of mid.pending
+lines_taken old mid left now takes =
+    ap lines_of (sym (append-nil (old.pending ++ takes.got))) ∙ sym (takes.same []) ∙ ap lines_of (append-nil mid.pending)
 
 -- a line was found, and this answer hands it out
 next_item : (old mid new : Reading) (left now : Option (List ℕ)) (line : Line) (item : Option (List ℕ)) → handed line ≡ Some item →
-    (takes : Takes old mid left now) → mid.taken ≤ 2 ^ 50 → old.ended ≡ false → new.taken ≡ mid.taken → mid.spent < new.spent → new.spent ≤ new.taken → new.ended ≡ mid.ended →
-    ((rest : List ℕ) → (HasNoLf (old.pending ++ takes.got) → IsAtEnd now → rest ≡ []) → lines_of (mid.pending ++ rest) ≡ item ∷ lines_of (new.pending ++ rest)) →
-    Next old new left now (Ok line)
-next_item old mid new left now line item is takes within going taken spent spent_within ended first = record {
+    (takes : Takes old mid left now) → mid.taken ≤ 2 ^ 50 → old.ended ≡ false → new.taken ≡ mid.taken → mid.spent < new.spent → new.spent ≤ new.taken →
+    HandsOut (old.pending ++ takes.got) item new now → Next old new left now (Ok line)
+next_item old mid new left now line item is takes within going taken spent spent_within hands_out = record {
   got = takes.got;
   past = [];
   took = rw (append-nil takes.got) takes.took;
@@ -84,14 +74,13 @@ next_item old mid new left now line item is takes within going taken spent spent
   one_past = omega arith;
   most = omega (arith, taken, within);
   line = subst (λ found. MatchOption found ((old.pending ++ takes.got ≡ []) × (old.ended ≡ false → IsAtEnd now))
-      (λ item. (rest : List ℕ) → (HasNoLf (old.pending ++ takes.got) → IsAtEnd now → rest ≡ []) → lines_of ((old.pending ++ takes.got) ++ rest) ≡ item ∷ lines_of (new.pending ++ rest)))
-      (sym is) (λ rest follows. sym (takes.same rest) ∙ first rest follows);
+      (λ item. HandsOut (old.pending ++ takes.got) item new now)) (sym is) hands_out;
   nothing_lost = λ refused. absurd (cc);
   no_line_held = λ refused. absurd (cc);
   limit = (λ refused. absurd (cc), λ over. absurd (omega (arith, taken, within)));
   spent = subst (λ found. MatchOption found (new.spent ≡ old.spent) (λ _. old.spent < new.spent)) (sym is) (omega (arith, takes.spent, spent));
   within = omega (arith, spent_within, taken, within);
-  ended = subst (λ found. MatchOption found (new.ended ≡ true) (λ _. new.ended ≡ old.ended)) (sym is) (ended ∙ takes.ended);
+  ended = subst (λ found. MatchOption found (new.ended ≡ true) (λ _. old.ended ≡ false)) (sym is) going;
   end_stays = λ at_end. absurd (cc);
   limit_stays = λ over. absurd (omega (arith, takes.count, within));
 }
@@ -99,14 +88,19 @@ next_item old mid new left now line item is takes within going taken spent spent
 next_cut : (old mid new : Reading) (left now : Option (List ℕ)) (line : Line) (item : Option (List ℕ)) → handed line ≡ Some item →
     Takes old mid left now → mid.taken ≤ 2 ^ 50 → old.ended ≡ false → Cuts mid new item → Next old new left now (Ok line)
 next_cut old mid new left now line item is takes within going cuts =
-    next_item old mid new left now line item is takes within going cuts.taken cuts.spent cuts.within cuts.ended (λ rest follows. cuts.line rest)
+    let still : new.ended ≡ false = cuts.ended ∙ takes.ended ∙ going in
+    next_item old mid new left now line item is takes within going cuts.taken cuts.spent cuts.within (record {
+      first = λ _ rest. sym (takes.same rest) ∙ cuts.line rest;
+      last = λ ended. absurd (cc);
+    })
 
 next_cut_last : (old mid new : Reading) (left now : Option (List ℕ)) (line : Line) (item : Option (List ℕ)) → handed line ≡ Some item →
-    Takes old mid left now → mid.taken ≤ 2 ^ 50 → old.ended ≡ false → HasNoLf mid.pending → IsAtEnd now → CutsLast mid new item → Next old new left now (Ok line)
-next_cut_last old mid new left now line item is takes within going no_lf at_end cuts =
-    let only : (rest : List ℕ) → rest ≡ [] → lines_of (mid.pending ++ rest) ≡ item ∷ lines_of (new.pending ++ rest) =
-    λ rest none. rw (none, append-nil mid.pending, cuts.nothing_left, lines_of-nil) cuts.line in
-    next_item old mid new left now line item is takes within going cuts.taken cuts.spent cuts.within cuts.ended (λ rest follows. only rest (follows (takes.no_lf no_lf) at_end))
+    Takes old mid left now → mid.taken ≤ 2 ^ 50 → old.ended ≡ false → IsAtEnd now → CutsLast mid new item → Next old new left now (Ok line)
+next_cut_last old mid new left now line item is takes within going at_end cuts =
+    next_item old mid new left now line item is takes within going cuts.taken cuts.spent cuts.within (record {
+      first = λ still. absurd (cc cuts.ended);
+      last = λ ended. (lines_taken old mid left now takes ∙ cuts.line, cuts.nothing_left, at_end);
+    })
 
 -- a line that has come whole was found
 pub loads_found : (old mid new : Reading) (line : List ℕ) (left now : Option (List ℕ)) (found : Found) → Takes old mid left now → mid.taken ≤ 2 ^ 50 → old.ended ≡ false →
@@ -119,7 +113,7 @@ loads_found old mid new line left now found.End takes within going cuts = absurd
 next_end : (old mid new : Reading) (left now : Option (List ℕ)) → Takes old mid left now → mid.taken ≤ 2 ^ 50 → (old.pending ≡ [] → old.spent ≡ old.taken) → old.ended ≡ false → IsAtEnd now →
     mid.pending ≡ [] → new.spent ≡ new.taken → new ≡ record mid { ended = true } → Next old new left now (Ok End)
 next_end old mid new left now takes within all_spent going at_end empty spent is =
-    let nothing : old.pending ++ takes.got ≡ [] = lines_of-none (old.pending ++ takes.got) (all_taken old mid left now takes empty) in
+    let nothing : old.pending ++ takes.got ≡ [] = lines_of-none (old.pending ++ takes.got) (lines_taken old mid left now takes ∙ ap lines_of empty ∙ lines_of-nil) in
     let no_got : takes.got ≡ [] = empty-behind old.pending takes.got nothing in
     let taken : new.taken ≡ old.taken = ap (λ (r : Reading). r.taken) is ∙ takes.count ∙ ap (λ (got : List ℕ). old.taken + length got) no_got ∙ add-zero old.taken in
     record {
@@ -143,11 +137,11 @@ next_end old mid new left now takes within all_spent going at_end empty spent is
 
 -- the end was reached, and what is left is the last line
 pub loads_finished : (old mid new : Reading) (line : List ℕ) (left now : Option (List ℕ)) (found : Found) → Takes old mid left now → mid.taken ≤ 2 ^ 50 → (old.pending ≡ [] → old.spent ≡ old.taken) → old.ended ≡ false →
-    HasNoLf mid.pending → IsAtEnd now → MatchOption (handed_by found line) (mid.pending ≡ []) (λ item. CutsLast mid new item) → (found ≡ found_end → new.spent ≡ new.taken) → (found ≡ found_end → new ≡ record mid { ended = true }) →
+    IsAtEnd now → MatchOption (handed_by found line) (mid.pending ≡ []) (λ item. CutsLast mid new item) → (found ≡ found_end → new.spent ≡ new.taken) → (found ≡ found_end → new ≡ record mid { ended = true }) →
     Loads old new line left now (Ok found)
-loads_finished old mid new line left now found.Text takes within all_spent going no_lf at_end cuts spent end = λ text is. next_cut_last old mid new left now (Text text) (Some line) (ap (λ v. Some (Some v)) is) takes within going no_lf at_end cuts
-loads_finished old mid new line left now found.Long takes within all_spent going no_lf at_end cuts spent end = next_cut_last old mid new left now Long None refl takes within going no_lf at_end cuts
-loads_finished old mid new line left now found.End takes within all_spent going no_lf at_end cuts spent end = next_end old mid new left now takes within all_spent going at_end cuts (spent refl) (end refl)
+loads_finished old mid new line left now found.Text takes within all_spent going at_end cuts spent end = λ text is. next_cut_last old mid new left now (Text text) (Some line) (ap (λ v. Some (Some v)) is) takes within going at_end cuts
+loads_finished old mid new line left now found.Long takes within all_spent going at_end cuts spent end = next_cut_last old mid new left now Long None refl takes within going at_end cuts
+loads_finished old mid new line left now found.End takes within all_spent going at_end cuts spent end = next_end old mid new left now takes within all_spent going at_end cuts (spent refl) (end refl)
 
 -- a read failed
 next_read : (old new : Reading) (left now : Option (List ℕ)) → Takes old new left now → new.taken ≤ 2 ^ 50 → old.ended ≡ false → HasNoLf new.pending → Next old new left now (Err Read)

@@ -15,7 +15,7 @@ pub record Reading : Type 0 where
   pub taken : ℕ
   -- how many bytes were handed out or read past; of a line that is being read past, all but one
   pub spent : ℕ
-  -- the end was handed out
+  -- the source was at its end, and no byte of it is left
   pub ended : Bool
 
 -- the line that is handed out, and nothing at the end
@@ -23,6 +23,13 @@ abbrev pub handed : Line → Option (Option (List ℕ))
 handed (Text text) = Some (Some text.now)
 handed Long = Some None
 handed End = None
+
+-- A line was handed out of the bytes that had come, of a source that has `now` to come.
+pub record HandsOut (came : List ℕ) (item : Option (List ℕ)) (new : Reading) (now : Option (List ℕ)) : Type 0 where
+  -- whatever comes behind them, it is the first of the lines to come
+  pub first : new.ended ≡ false → (rest : List ℕ) → lines_of (came ++ rest) ≡ item ∷ lines_of (new.pending ++ rest)
+  -- or the source is at its end, it is the only line, and no byte is left
+  pub last : new.ended ≡ true → (lines_of came ≡ item ∷ []) × (new.pending ≡ []) × IsAtEnd now
 
 -- What a call of `next` does, whose source had `left` to come before it and has `now` after it.
 pub record Next (old new : Reading) (left now : Option (List ℕ)) (result : Result Line LineFault) : Type 0 where
@@ -34,9 +41,8 @@ pub record Next (old new : Reading) (left now : Option (List ℕ)) (result : Res
   pub none_past : (past ≡ []) ⊎ (result ≡ Err Limit)
   pub one_past : length past ≤ 1
   pub most : new.taken ≤ 2 ^ 50 + 1
-  -- whatever comes behind them, the line is the first of those to come; behind a last text without LF, at the end of the source, nothing comes. At the end there is no line, and when it is first handed out the source is at its end
-  pub line : IfOk result (λ line. MatchOption (handed line) ((old.pending ++ got ≡ []) × (old.ended ≡ false → IsAtEnd now))
-      (λ item. (rest : List ℕ) → (HasNoLf (old.pending ++ got) → IsAtEnd now → rest ≡ []) → lines_of ((old.pending ++ got) ++ rest) ≡ item ∷ lines_of (new.pending ++ rest)))
+  -- the line is cut from what was pending and these bytes. At the end there is no line, and where the source wasn't known to be at its end, it is now
+  pub line : IfOk result (λ line. MatchOption (handed line) ((old.pending ++ got ≡ []) × (old.ended ≡ false → IsAtEnd now)) (λ item. HandsOut (old.pending ++ got) item new now))
   -- after a refusal the same lines are to come, and none of them has come whole
   pub nothing_lost : IsErr result → (rest : List ℕ) → lines_of (new.pending ++ rest) ≡ lines_of ((old.pending ++ got) ++ rest)
   pub no_line_held : IsErr result → HasNoLf new.pending
@@ -45,7 +51,8 @@ pub record Next (old new : Reading) (left now : Option (List ℕ)) (result : Res
   -- a line hands out at least one byte, of those taken
   pub spent : IfOk result (λ line. MatchOption (handed line) (new.spent ≡ old.spent) (λ _. old.spent < new.spent))
   pub within : OnOk result (new.spent ≤ 2 ^ 50)
+  -- a line is handed out only before the end, and a refusal leaves it as it was
+  pub ended : MatchResult result (λ line. MatchOption (handed line) (new.ended ≡ true) (λ _. old.ended ≡ false)) (λ _. new.ended ≡ old.ended)
   -- the end and the limit stay
-  pub ended : MatchResult result (λ line. MatchOption (handed line) (new.ended ≡ true) (λ _. new.ended ≡ old.ended)) (λ _. new.ended ≡ old.ended)
   pub end_stays : old.ended ≡ true → (result ≡ Ok End) × (new ≡ old) × (got ++ past ≡ [])
   pub limit_stays : 2 ^ 50 < old.taken → (result ≡ Err Limit) × (new ≡ old) × (got ++ past ≡ [])

@@ -69,7 +69,6 @@ pub record Takes (old new : Reading) (left now : Option (List ℕ)) : Type 0 whe
   pub took : left ≡ before got now
   pub count : new.taken ≡ old.taken + length got
   pub same : (rest : List ℕ) → lines_of (new.pending ++ rest) ≡ lines_of ((old.pending ++ got) ++ rest)
-  pub no_lf : HasNoLf new.pending → HasNoLf (old.pending ++ got)
   pub spent : old.spent ≤ new.spent
   pub ended : new.ended ≡ old.ended
 
@@ -88,7 +87,7 @@ pub record CutsLast (old new : Reading) (item : Option (List ℕ)) : Type 0 wher
   pub taken : new.taken ≡ old.taken
   pub spent : old.spent < new.spent
   pub within : new.spent ≤ new.taken
-  pub ended : new.ended ≡ old.ended
+  pub ended : new.ended ≡ true
 
 -- A byte past the limit came, and was dropped.
 pub record Oversteps (old new : Reading) (left now : Option (List ℕ)) : Type 0 where

@@ -60,7 +60,8 @@ impl Lines {
 
     /// Hands out the next line of the source, without its LF. A last text without LF is a line
     /// where it has a byte. At most 2^50 bytes are taken, and no memory. After `Read` the same
-    /// lines are to come. After `End` or `Limit` the source is asked for nothing more.
+    /// lines are to come. Once the source was at its end, or gave a byte past the limit, it is
+    /// asked for nothing more.
     pub fn next<S: Source>(&mut self, src: &mut S) -> Result<Line<'_>, LineFault>
         ensures* after { sem 𝓛 (Rests the_row self.entry (λ new. Next self.old new (S.left src.old) (S.left src.new) result)) }
         ensures cause { IsErrOf result LineFault.Read → Rose (S.faults src.old) (S.faults src.new) }

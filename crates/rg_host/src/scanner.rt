@@ -107,8 +107,8 @@ impl Scanner {
         ensures end { result ≡ Found.End → self.new.reading ≡ record self.old.reading { ended = true } }
         ensures all_spent { result ≡ Found.End → self.new.reading.spent ≡ self.new.reading.taken }
     {
+        self.ended = true;
         if !self.skipping && self.buffer.len() == 0 {
-            self.ended = true;
             return Found::End;
         }
         let held = self.buffer.cut_rest();

@@ -68,6 +68,18 @@ fn goes_on_after_failure(rt: HostRuntime) -> Result<(), Fail> {
     Ok(())
 }
 
+#[test]
+fn no_read_after_last_text(rt: HostRuntime) -> Result<(), Fail> {
+    let mut source = in_pieces(b"a", 2, 2);
+    let mut lines = Lines::new(rt.alloc())?;
+    assert_eq!(rt; lines.next(&mut source), Ok(Line::Text(b"a")));
+    assert_eq!(rt; lines.next(&mut source), Ok(Line::End));
+    assert_eq!(rt; lines.next(&mut source), Ok(Line::End));
+    assert_eq!(rt; source.reads, 2);
+    assert_eq!(rt; source.failed, 0);
+    Ok(())
+}
+
 /// A line of `first` letters, one of `second`, and a short one.
 fn long_text(alloc: Global, first: usize, second: usize) -> Result<Vec<u8>, AllocError> {
     let mut text = vec![in alloc; b'a'; first]?;

@@ -1,14 +1,19 @@
-use Rattle.std.proofs.Common.{sym, ap, subst, arith, ◌≡◌, ⊎_elim, inl, inr, Err, Option, List, ℕ}
+use Rattle.std.proofs.Common.{sym, ◌∙◌, ap, subst, arith, ◌≡◌, ⊎_elim, inl, inr, Err, ◌⊎◌, Option, List, ℕ}
 use Rattle.rg_host.specs.Moments.{Moment}
 use Rattle.rg_host.specs.Puts.{Puts}
 use Rattle.rg_host.specs.PutLaws.{puts-nothing, puts-then}
-use Rattle.railgun.specs.declared.status.Status.TheVariants.{Write, Limit}
+use Rattle.railgun.specs.declared.status.Status.TheVariants.{Read, Write, Limit}
+use Rattle.railgun.specs.declared.status.Status.{Status}
 use Rattle.railgun.proofs.Inputs.{if_err}
-use Rattle.railgun.proofs.Progress.{begin, step, finish, stop, stop_first, past_limit}
+use Rattle.railgun.proofs.Progress.{begin, step, finish, stop, stop_first, past_limit, read_stop}
 use Rattle.railgun.proofs.serve.serve.Goals as goal
 
 same_host : {H : Type 0} (said : H → Option (List ℕ)) (clock : H → ℕ) (since : H → ℕ → Moment → Type 0) (old mid new : H) (put : List ℕ) → new ≡ mid → Puts said clock since old mid put → Puts said clock since old new put
 same_host said clock since old mid new put same puts = subst (λ h. Puts said clock since old h put) (sym same) puts
+
+not_write : (status : Status) → (status ≡ Read) ⊎ (status ≡ Limit) → status ≡ Write → ⊥
+not_write status (inl read) write = absurd (let same : Read ≡ Write = sym read ∙ write in cc)
+not_write status (inr limit) write = absurd (let same : Limit ≡ Write = sym limit ∙ write in cc)
 
 pub returns-in_err-run-clause-stops : goal.returns-in_err-run-clause-stops
 returns-in_err-run-clause-stops g c =
@@ -18,7 +23,7 @@ returns-in_err-run-clause-stops g c =
 pub lines-init : goal.lines-init
 lines-init g c = record {
   between = c.in_ok-run.ensures.between;
-  progress = begin _ _ _ _ c.in_ok-run.ensures.pending c.in_ok-run.ensures.taken c.in_ok-run.ensures.events c.in_ok-run.ensures.window c.in_ok-run.ensures.offset
+  progress = begin _ c.args.plan.now _ c.in_ok-run.run' c.in_ok-run.ensures.pending c.in_ok-run.ensures.taken c.in_ok-run.ensures.still c.in_ok-run.ensures.events (c.in_ok-run.ensures.window ∙ c.window.ensures) c.in_ok-run.ensures.offset
       (puts-nothing g.H.Host.said g.H.Host.clock g.H.Host.since _ (λ t u m. g.met.H.Host.sinks _ t u m) (λ m. g.met.H.Host.only_now _ m));
   later = omega arith;
   later_out = omega arith;
@@ -47,3 +52,12 @@ returns-in-Err-clause-limit g c =
     λ is.
     let limit : c.in-Err.status ≡ Limit = cc in
     past_limit _ _ _ _ _ c.lines.run c.turn.new.self c.lines.invariant.progress c.in-Err.ensures.took.0 c.in-Err.ensures.took.1 (c.in-Err.ensures.limit (ap (λ v. Err v) limit))
+
+pub returns-in-Err-clause-stops_read : goal.returns-in-Err-clause-stops_read
+returns-in-Err-clause-stops_read g c = λ is.
+    read_stop _ _ _ _ _ _
+    (λ put puts. ⊎_elim
+    (λ wrote. absurd (let write : c.in-Err.status ≡ Write = cc in not_write c.in-Err.status is write))
+    (λ same. same_host g.H.Host.said g.H.Host.clock g.H.Host.since c.args.host.now c.lines.host c.turn.new.host put same puts)
+    c.in-Err.ensures.quiet)
+    c.lines.run c.turn.new.self c.in-Err.status c.lines.invariant.progress (c.in-Err.ensures.took_none is)

@@ -7,7 +7,7 @@ use Rattle.railgun.proofs.serve.serve.Given as goal
 abbrev pub invariant-lines : goal.invariant-lines
 invariant-lines g l = record {
   between : IsBetween l.run;
-  progress : Progress (g.I.Source.left l.fn.input) (g.I.Source.left l.input) l.fn.window (Puts g.H.Host.said g.H.Host.clock g.H.Host.since l.fn.host l.host) l.run;
+  progress : Progress (g.I.Source.left l.fn.input) (g.I.Source.left l.input) l.fn.plan (Puts g.H.Host.said g.H.Host.clock g.H.Host.since l.fn.host l.host) l.run;
   later : g.I.Source.faults l.fn.input ≤ g.I.Source.faults l.input;
   later_out : g.H.Host.out_faults l.fn.host ≤ g.H.Host.out_faults l.host;
 }

@@ -23,4 +23,4 @@ pub returns-in-Ok-false-clause-next : goal.returns-in-Ok-false-clause-next
 returns-in-Ok-false-clause-next g c =
     let asks = asks_from c.find.new.self c.lines.self _ _ _ (Ok false) _ c.in_default.ensures.same (ap (λ (more : Bool). Ok more) c.in-Ok-false.field-0-test) c.in-Ok-false.ensures.asks in
     loads_finished _ c.ask.new.self.reading _ _ _ _ c.finish.result (takes_then _ c.lines.self.reading _ _ _ _ c.lines.invariant.takes asks.0) asks.1
-    c.requires.all_spent c.requires.not_ended asks.2 asks.3 c.finish.ensures.line c.finish.ensures.all_spent c.finish.ensures.end
+    c.requires.all_spent c.requires.not_ended asks.3 c.finish.ensures.line c.finish.ensures.all_spent c.finish.ensures.end

@@ -1,0 +1,12 @@
+pub mod Complete
+pub mod Stages
+pub mod Operands
+pub mod Grows
+pub mod Sound
+pub mod Finishes
+pub mod Deeper
+pub mod Reached
+pub mod Exact
+pub mod Printed
+pub mod PrintedQuery
+pub mod Erase

@@ -1,0 +1,4 @@
+pub mod Nots
+pub mod Levels
+pub mod Reading
+pub mod One

@@ -1,0 +1,5 @@
+pub mod Spelling
+pub mod Longest
+pub mod Unique
+pub mod Steps
+pub mod Laid

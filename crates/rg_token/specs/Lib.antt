@@ -1,0 +1,4 @@
+pub mod Token
+pub mod Lexing
+pub mod Layout
+pub mod Automaton

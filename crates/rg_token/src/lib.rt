@@ -1,0 +1,11 @@
+//! The tokens of a query text.
+#![tactic(auto)]
+
+mod automaton;
+mod lex;
+mod piece;
+#[cfg(test)]
+mod tests;
+
+pub use lex::{Lexed, law_layout, pieces};
+pub use piece::{Piece, Pieces, Shape};

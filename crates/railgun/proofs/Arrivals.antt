@@ -21,8 +21,8 @@ use Rattle.rg_host.specs.Reading.{Reading, Next, HandsOut}
 use Rattle.rg_host.specs.declared.lines.Line.{Line}
 use Rattle.rg_host.specs.declared.lines.Line.TheVariants.{Text}
 use Rattle.rg_host.specs.declared.lines.LineFault.{LineFault}
-use Rattle.railgun.specs.Plan.{Plan}
-use Rattle.railgun.specs.Output.{event_at, look_at, or_reply, verdict_of, with_verdict, most_events}
+use Rattle.rg_config.specs.Plans.{Planned}
+use Rattle.railgun.specs.Output.{event_at, look_at, or_reply, verdict_of, with_verdict}
 use Rattle.railgun.specs.Output.Verdict.{refused, accepted}
 use Rattle.railgun.specs.Session.{Follows}
 use Rattle.railgun.specs.Turn.{Takes, TakesLine, Arrives}
@@ -132,7 +132,7 @@ takes_text old new left now text next = record {
 }
 
 -- a text that is handed out, and what it is read as
-pub arrives_text : (plan : Plan) (offset : ℕ) (old new : Reading) (left now : Option (List ℕ)) (result : Result Line LineFault) (line : Line) (text : Bor (List ℕ)) (look : Result Event Reply) →
+pub arrives_text : (plan : Planned) (offset : ℕ) (old new : Reading) (left now : Option (List ℕ)) (result : Result Line LineFault) (line : Line) (text : Bor (List ℕ)) (look : Result Event Reply) →
     Next old new left now result → result ≡ Ok line → line ≡ Text text → look ≡ look_at plan offset (Some text.now) → Arrives plan offset old new left now (LineArrival look)
 arrives_text plan offset old new left now result line text look next is line_is look_is =
     (Some text.now, look_is, takes_text old new left now text (subst (λ v. Next old new left now v) (is ∙ ap (λ v. Ok v) line_is) next))
@@ -176,16 +176,16 @@ reply_back : (given : Result Event RowFault) (e : Event) → or_reply given ≡ 
 reply_back (Ok x) e is = cc
 reply_back (Err fault) e is = absurd (cc)
 
-item_fits : (plan : Plan) (offset : ℕ) (item : Option (List ℕ)) (e : Event) → event_at plan offset item ≡ Ok e → Fits offset e
-item_fits plan offset (Some text) e is = row_fits plan.fields offset (fields_of (cleaned offset text)) e (reply_back (row_of plan.fields offset (cleaned offset text)) e is)
+item_fits : (plan : Planned) (offset : ℕ) (item : Option (List ℕ)) (e : Event) → event_at plan offset item ≡ Ok e → Fits offset e
+item_fits plan offset (Some text) e is = row_fits plan.shape.fields offset (fields_of (cleaned offset text)) e (reply_back (row_of plan.shape.fields offset (cleaned offset text)) e is)
 item_fits plan offset None e is = absurd (cc)
 
-head_fits : (plan : Plan) (offset : ℕ) (item : Option (List ℕ)) (e : Event) (b : Bool) → cond b (Err Head) (event_at plan offset item) ≡ Ok e → Fits offset e
+head_fits : (plan : Planned) (offset : ℕ) (item : Option (List ℕ)) (e : Event) (b : Bool) → cond b (Err Head) (event_at plan offset item) ≡ Ok e → Fits offset e
 head_fits plan offset item e true is = absurd (cc)
 head_fits plan offset item e false is = item_fits plan offset item e is
 
-look_fits : (plan : Plan) (offset : ℕ) (item : Option (List ℕ)) (e : Event) → look_at plan offset item ≡ Ok e → Fits offset e
-look_fits plan offset item e is = head_fits plan offset item e (plan.header && (offset == 0)) is
+look_fits : (plan : Planned) (offset : ℕ) (item : Option (List ℕ)) (e : Event) → look_at plan offset item ≡ Ok e → Fits offset e
+look_fits plan offset item e is = head_fits plan offset item e (plan.settings.header && (offset == 0)) is
 
 follows_by : (events : List Event) (offset : ℕ) (look : Result Event Reply) → ((e : Event) → look ≡ Ok e → Fits offset e) → next_offset events ≤ offset → offset < 2 ^ 62 → Follows events look
 follows_by events offset (Err reply) fits next small = tt
@@ -194,7 +194,7 @@ follows_by events offset (Ok e) fits next small =
     (omega (arith, f.at, next), record { offset = omega (arith, f.at, small); time = f.time })
 
 -- the event of a line may follow the events before it
-pub follows_look : (events : List Event) (plan : Plan) (offset : ℕ) (item : Option (List ℕ)) (look : Result Event Reply) → look ≡ look_at plan offset item → next_offset events ≤ offset → offset < 2 ^ 62 → Follows events look
+pub follows_look : (events : List Event) (plan : Planned) (offset : ℕ) (item : Option (List ℕ)) (look : Result Event Reply) → look ≡ look_at plan offset item → next_offset events ≤ offset → offset < 2 ^ 62 → Follows events look
 follows_look events plan offset item look is next small = follows_by events offset look (λ e h. look_fits plan offset item e (sym is ∙ h)) next small
 
 next_by : (events : List Event) (e : Event) (offset : ℕ) (a b : Bool) → e.offset ≡ offset → next_offset events ≤ offset → next_offset (with_verdict events (cond a (refused Late) (cond b (refused Full) (accepted e)))) ≤ offset + 1
@@ -202,10 +202,10 @@ next_by events e offset true b at next = omega (arith, next)
 next_by events e offset false true at next = omega (arith, next)
 next_by events e offset false false at next = omega (arith, next_offset-push events e, at)
 
-next_look : (events : List Event) (offset : ℕ) (look : Result Event Reply) → ((e : Event) → look ≡ Ok e → Fits offset e) → next_offset events ≤ offset → next_offset (with_verdict events (verdict_of events look)) ≤ offset + 1
-next_look events offset (Err reply) fits next = omega (arith, next)
-next_look events offset (Ok e) fits next = next_by events e offset (list_any (λ x. nat_lt e.time x.time) events) (nat_le most_events (length events)) (fits e refl).at next
+next_look : (most : ℕ) (events : List Event) (offset : ℕ) (look : Result Event Reply) → ((e : Event) → look ≡ Ok e → Fits offset e) → next_offset events ≤ offset → next_offset (with_verdict events (verdict_of most events look)) ≤ offset + 1
+next_look most events offset (Err reply) fits next = omega (arith, next)
+next_look most events offset (Ok e) fits next = next_by events e offset (list_any (λ x. nat_lt e.time x.time) events) (nat_le most (length events)) (fits e refl).at next
 
 -- the next line's offset is above those of the events up to this line
-pub next_after : (events : List Event) (plan : Plan) (offset : ℕ) (item : Option (List ℕ)) → next_offset events ≤ offset → next_offset (with_verdict events (verdict_of events (look_at plan offset item))) ≤ offset + 1
-next_after events plan offset item next = next_look events offset (look_at plan offset item) (λ e h. look_fits plan offset item e h) next
+pub next_after : (most : ℕ) (events : List Event) (plan : Planned) (offset : ℕ) (item : Option (List ℕ)) → next_offset events ≤ offset → next_offset (with_verdict events (verdict_of most events (look_at plan offset item))) ≤ offset + 1
+next_after most events plan offset item next = next_look most events offset (look_at plan offset item) (λ e h. look_fits plan offset item e h) next

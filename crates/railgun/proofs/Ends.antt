@@ -1,21 +1,27 @@
 -- How a call ends.
-use Rattle.std.proofs.Common.{◌≡◌, ◌⊎◌, inl, inr, ℕ, ◌≤◌, ◌<◌, ◌^◌, Bool, true, false, List, [], ◌∷◌, ◌++◌, length, Option, Some, None, refl, ap, sym, ◌∙◌, subst, arith}
+use Rattle.std.proofs.Common.{◌≡◌, ◌⊎◌, inl, inr, ⊎_elim, ℕ, ◌≤◌, ◌<◌, ◌^◌, List, [], ◌∷◌, ◌++◌, length, Option, Some, None, Result, refl, ap, sym, ◌∙◌, subst, arith}
+use Rattle.std.specs.Prelude as r
 use Rattle.std.proofs.lemmas.List.{append-nil}
 use Rattle.std.proofs.lemmas.Bool.{lt-ltb, le-ltb}
 use Rattle.std.specs.Prelude.{IfSome}
 use Rattle.rg_bytes.specs.Counts.{Rose}
+use Rattle.rg_config.specs.Plans.{Planned, Says}
+use Rattle.rg_config.specs.declared.fault.ConfigFault.{ConfigFault}
 use Rattle.rg_host.specs.Lines.{ended, whole_lines}
-use Rattle.rg_host.specs.Puts.{IsFront}
-use Rattle.railgun.specs.Plan.{Plan, IsPlan, Says}
-use Rattle.railgun.specs.Output.{output_of, replies_to}
+use Rattle.rg_host.specs.Moments.{Moment}
+use Rattle.rg_host.specs.Puts.{IsFront, Puts}
+use Rattle.railgun.specs.Plan.{IsPlan, IsRefusal}
+use Rattle.railgun.specs.Output.{output_of}
 use Rattle.railgun.specs.Put.{StopsWith, IsPut}
 use Rattle.railgun.specs.Run.{Completes, Stops, StopsAt, StopsRead}
-use Rattle.railgun.specs.Call.{Told, text_of, replies_of, last_line, IsLegal, IsRefused, IsLonger, IsWithin, IsPossible, status_by, status_for}
+use Rattle.railgun.specs.Call.{Told, asked_text, asked_replies, text_of, replies_of, last_line, refusal_line, refusal_of, line_for, IsLegal, IsRefused, IsLonger, IsWithin, IsPossible, status_by, status_for}
+use Rattle.railgun.specs.declared.command.Command.{Command}
+use Rattle.railgun.specs.declared.command.Command.TheVariants.{Run, Check}
 use Rattle.railgun.specs.declared.status.Status.{Status}
 use Rattle.railgun.specs.declared.status.Status.TheVariants.{Ok, Usage, Plan as BadPlan, Store, Read, Write, Disk, Limit, Memory, Gap, Differs}
 use Rattle.railgun.proofs.Inputs.{at_end_rest, told_rest, before-nothing}
 use Rattle.railgun.proofs.Outputs.{ended-append}
-use Rattle.railgun.proofs.Plans.{plan_same}
+use Rattle.railgun.proofs.Plans.{one_plan}
 
 -- whole lines of a text are a front of it
 whole_front : (text : List (List ℕ)) (put : List ℕ) → StopsWith text [] put → IsFront put (ended text)
@@ -59,34 +65,32 @@ front_of_nothing (x ∷ part) front = absurd (cc front.1)
 line_put : (text : List (List ℕ)) (last put part : List ℕ) → StopsWith text [] put → IsFront part last → IsPut text last (put ++ part)
 line_put text last put part stops front = inr (part, front, stops-then text put part stops)
 
--- and then a front of the last line
-pub put_then : (status : Status) (text : List (List ℕ)) (put part : List ℕ) → StopsAt status text put → IsFront part (last_line status) → IsPut text (last_line status) (put ++ part)
-put_then Ok text put part stops front = line_put text _ put part stops front
-put_then Usage text put part stops front = line_put text _ put part stops front
-put_then BadPlan text put part stops front = line_put text _ put part stops front
-put_then Store text put part stops front = line_put text _ put part stops front
-put_then Read text put part stops front = line_put text _ put part stops front
-put_then Write text put part stops front =
-    inl (subst (λ v. IsFront v (ended text)) (sym (ap (λ v. put ++ v) (front_of_nothing part front) ∙ append-nil put)) stops)
-put_then Disk text put part stops front = line_put text _ put part stops front
-put_then Limit text put part stops front = line_put text _ put part stops front
-put_then Memory text put part stops front = line_put text _ put part stops front
-put_then Gap text put part stops front = line_put text _ put part stops front
-put_then Differs text put part stops front = line_put text _ put part stops front
+-- what was put: whole lines, or any front where a put failed
+by_write : (status : Status) (text : List (List ℕ)) (put : List ℕ) → StopsAt status text put → StopsWith text [] put ⊎ ((status ≡ Write) × IsFront put (ended text))
+by_write Ok text put stops = inl stops
+by_write Usage text put stops = inl stops
+by_write BadPlan text put stops = inl stops
+by_write Store text put stops = inl stops
+by_write Read text put stops = inl stops
+by_write Write text put stops = inr (refl, stops)
+by_write Disk text put stops = inl stops
+by_write Limit text put stops = inl stops
+by_write Memory text put stops = inl stops
+by_write Gap text put stops = inl stops
+by_write Differs text put stops = inl stops
+
+-- and then a front of the last line, which is empty where a put failed
+pub put_then : (status : Status) (last : List ℕ) (text : List (List ℕ)) (put part : List ℕ) → (status ≡ Write → last ≡ []) → StopsAt status text put → IsFront part last → IsPut text last (put ++ part)
+put_then status last text put part empty stops front = ⊎_elim
+    (λ whole. line_put text last put part whole front)
+    (λ cut.
+    let none : part ≡ [] = front_of_nothing part (subst (λ v. IsFront part v) (empty cut.0) front) in
+    inl (subst (λ v. IsFront v (ended text)) (sym (ap (λ v. put ++ v) none ∙ append-nil put)) cut.1))
+    (by_write status text put stops)
 
 -- and then the whole last line, of a status that isn't Write
-pub whole_then : (status : Status) (text : List (List ℕ)) (put : List ℕ) → (status ≡ Write → ⊥) → StopsAt status text put → StopsWith text (last_line status) (put ++ last_line status)
-whole_then Ok text put other stops = stops-then text put _ stops
-whole_then Usage text put other stops = stops-then text put _ stops
-whole_then BadPlan text put other stops = stops-then text put _ stops
-whole_then Store text put other stops = stops-then text put _ stops
-whole_then Read text put other stops = stops-then text put _ stops
-whole_then Write text put other stops = absurd (other refl)
-whole_then Disk text put other stops = stops-then text put _ stops
-whole_then Limit text put other stops = stops-then text put _ stops
-whole_then Memory text put other stops = stops-then text put _ stops
-whole_then Gap text put other stops = stops-then text put _ stops
-whole_then Differs text put other stops = stops-then text put _ stops
+pub whole_then : (status : Status) (last : List ℕ) (text : List (List ℕ)) (put : List ℕ) → (status ≡ Write → ⊥) → StopsAt status text put → StopsWith text last (put ++ last)
+whole_then status last text put other stops = ⊎_elim (λ whole. stops-then text put last whole) (λ cut. absurd (other cut.0)) (by_write status text put stops)
 
 -- all lines were put
 pub all_put : (text : List (List ℕ)) → StopsWith text [] (ended text)
@@ -96,136 +100,217 @@ all_put text = record { lines = text; more = []; of_text = append-nil text; is =
 pub all_front : (text : List (List ℕ)) → IsPut text [] (ended text)
 all_front text = inl ([], append-nil (ended text))
 
-pub legal_of : (plan : Option (List ℕ)) (p : Plan) → IfSome plan (λ bytes. IsPlan bytes p) → IsLegal plan
+-- nothing but the last line
+pub none_put : (last part : List ℕ) → IsFront part last → IsPut [] last part
+none_put last part front = line_put [] last [] part (nothing_whole []) front
+
+pub none_whole : (last : List ℕ) → StopsWith [] last last
+none_whole last = stops-then [] [] last (nothing_whole [])
+
+-- The plan that a source tells.
+
+pub legal_of : (plan : Option (List ℕ)) (p : Planned) → IfSome plan (λ bytes. IsPlan bytes p) → IsLegal plan
 legal_of (Some bytes) p h = (p, h)
 legal_of None p h = tt
 
-pub refused_of : (plan : Option (List ℕ)) → IfSome plan (λ bytes. (length bytes ≤ 65536) × Says bytes None) → IsRefused plan
-refused_of (Some bytes) h = h
-refused_of None h = tt
+-- the plan is refused, by a fault with this line
+abbrev pub RefusedBy : List ℕ → List ℕ → Type 0
+RefusedBy line bytes = (refusal : ConfigFault) × IsRefusal bytes refusal × (line ≡ refusal_line refusal)
+
+pub refused_of : (plan : Option (List ℕ)) (line : List ℕ) → IfSome plan (RefusedBy line) → IsRefused plan
+refused_of (Some bytes) line h = (h.0, h.1)
+refused_of None line h = tt
 
 -- what a plan's bytes say is that plan
-asks_is : (bytes : List ℕ) (plan : Plan) → IsPlan bytes plan → (asks : Option Plan) → Says bytes asks → asks ≡ Some plan
-asks_is bytes plan is (Some other) says = ap Some (plan_same bytes other plan says is)
-asks_is bytes plan is None says = absurd (says plan is)
+asks_is : (bytes : List ℕ) (plan : Planned) → IsPlan bytes plan → (asks : Result Planned ConfigFault) → Says bytes asks → asks ≡ r.Ok plan
+asks_is bytes plan is asks says = one_plan bytes asks (r.Ok plan) says is.says
 
--- the plan that a source tells is that one
-pub told_plan : (plan input : Option (List ℕ)) (p : Plan) (told : Told plan input) → IfSome plan (λ bytes. IsPlan bytes p) → told.asks ≡ Some p
+pub told_plan : (plan input : Option (List ℕ)) (p : Planned) (told : Told plan input) → IfSome plan (λ bytes. IsPlan bytes p) → told.asks ≡ r.Ok p
 told_plan plan input p told legal =
     let P : Option (List ℕ) → Type 0 = λ v. IfSome v (λ bytes. IsPlan bytes p) in
     asks_is told.plan_bytes p (subst P told.plan_is legal) told.asks told.says
 
-none_says : (bytes : List ℕ) (asks : Option Plan) → Says bytes None → Says bytes asks → asks ≡ None
-none_says bytes (Some plan) none says = absurd (none plan says)
-none_says bytes None none says = refl
+-- the line of a plan that is refused
+pub told_line : (plan input : Option (List ℕ)) (line : List ℕ) (told : Told plan input) → IfSome plan (RefusedBy line) → line ≡ refusal_of told.asks
+told_line plan input line told refused =
+    let P : Option (List ℕ) → Type 0 = λ v. IfSome v (RefusedBy line) in
+    let by : RefusedBy line told.plan_bytes = subst P told.plan_is refused in
+    by.2 ∙ ap refusal_of (sym (one_plan told.plan_bytes told.asks (r.Err by.0) told.says by.1.says))
 
-status_within : (bytes : List ℕ) (asks : Option Plan) (input : List ℕ) → length bytes ≤ 65536 → status_for true bytes asks input ≡ status_by asks input
-status_within bytes asks input h = rw (le-ltb 65536 (length bytes) h) refl
+-- a last line that is the status's, or the refusal's
+pub line_as : (asks : Result Planned ConfigFault) (status : Status) (line : List ℕ) → (status ≡ BadPlan → line ≡ refusal_of asks) → (status ≡ BadPlan) ⊎ (line ≡ last_line status) → line ≡ line_for asks status
+line_as asks Ok line refused is = ⊎_elim (λ e. absurd (cc e)) (λ e. e) is
+line_as asks Usage line refused is = ⊎_elim (λ e. absurd (cc e)) (λ e. e) is
+line_as asks BadPlan line refused is = refused refl
+line_as asks Store line refused is = ⊎_elim (λ e. absurd (cc e)) (λ e. e) is
+line_as asks Read line refused is = ⊎_elim (λ e. absurd (cc e)) (λ e. e) is
+line_as asks Write line refused is = ⊎_elim (λ e. absurd (cc e)) (λ e. e) is
+line_as asks Disk line refused is = ⊎_elim (λ e. absurd (cc e)) (λ e. e) is
+line_as asks Limit line refused is = ⊎_elim (λ e. absurd (cc e)) (λ e. e) is
+line_as asks Memory line refused is = ⊎_elim (λ e. absurd (cc e)) (λ e. e) is
+line_as asks Gap line refused is = ⊎_elim (λ e. absurd (cc e)) (λ e. e) is
+line_as asks Differs line refused is = ⊎_elim (λ e. absurd (cc e)) (λ e. e) is
 
-status_longer : (bytes : List ℕ) (asks : Option Plan) (input : List ℕ) → 65536 < length bytes → status_for true bytes asks input ≡ Limit
-status_longer bytes asks input h = rw (lt-ltb 65536 (length bytes) h) refl
+-- the statuses of a run or a check
+abbrev pub IsCarried : Status → Type 0
+IsCarried status = (status ≡ Read) ⊎ (status ≡ Limit) ⊎ (status ≡ Memory) ⊎ (status ≡ Write)
 
-status_legal : (bytes : List ℕ) (asks : Option Plan) (input : List ℕ) → Says bytes asks → IsLegal (Some bytes) → length input ≤ 2 ^ 50 → status_for true bytes asks input ≡ Ok
-status_legal bytes asks input says legal h =
-    status_within bytes asks input legal.1.within ∙ ap (λ v. status_by v input) (asks_is bytes legal.0 legal.1 asks says) ∙ rw (le-ltb 1125899906842624 (length input) h) refl
+not_bad : (status : Status) → IsCarried status → status ≡ BadPlan → ⊥
+not_bad status (inl is) bad = absurd (let e : Read ≡ BadPlan = sym is ∙ bad in cc)
+not_bad status (inr (inl is)) bad = absurd (let e : Limit ≡ BadPlan = sym is ∙ bad in cc)
+not_bad status (inr (inr (inl is))) bad = absurd (let e : Memory ≡ BadPlan = sym is ∙ bad in cc)
+not_bad status (inr (inr (inr is))) bad = absurd (let e : Write ≡ BadPlan = sym is ∙ bad in cc)
 
-status_input : (bytes : List ℕ) (asks : Option Plan) (input : List ℕ) → Says bytes asks → IsLegal (Some bytes) → 2 ^ 50 < length input → status_for true bytes asks input ≡ Limit
-status_input bytes asks input says legal h =
-    status_within bytes asks input legal.1.within ∙ ap (λ v. status_by v input) (asks_is bytes legal.0 legal.1 asks says) ∙ rw (lt-ltb 1125899906842624 (length input) h) refl
+pub carried_line : (asks : Result Planned ConfigFault) (status : Status) → IsCarried status → last_line status ≡ line_for asks status
+carried_line asks status carried = line_as asks status (last_line status) (λ bad. absurd (not_bad status carried bad)) (inr refl)
 
-status_refused : (bytes : List ℕ) (asks : Option Plan) (input : List ℕ) → Says bytes asks → length bytes ≤ 65536 → Says bytes None → status_for true bytes asks input ≡ BadPlan
-status_refused bytes asks input says h none = status_within bytes asks input h ∙ ap (λ v. status_by v input) (none_says bytes asks none says)
+pub carried_plan : (A : Type 0) (status : Status) → IsCarried status → status ≡ BadPlan → A
+carried_plan A status carried bad = absurd (not_bad status carried bad)
+
+-- a put that failed has no last line
+pub write_line : (asks : Result Planned ConfigFault) (status : Status) → status ≡ Write → line_for asks status ≡ []
+write_line asks status write = ap (line_for asks) write
+
+-- The status that words, plan and input call for.
+
+status_within : (command : Command) (bytes : List ℕ) (asks : Result Planned ConfigFault) (input : List ℕ) → length bytes ≤ 65536 → status_for (Some command) bytes asks input ≡ status_by command asks input
+status_within command bytes asks input h = rw (le-ltb 65536 (length bytes) h) refl
+
+status_longer : (command : Command) (bytes : List ℕ) (asks : Result Planned ConfigFault) (input : List ℕ) → 65536 < length bytes → status_for (Some command) bytes asks input ≡ Limit
+status_longer command bytes asks input h = rw (lt-ltb 65536 (length bytes) h) refl
+
+by_command : (command : Command) (p : Planned) (input : List ℕ) → (Some command ≡ Some Run → length input ≤ 2 ^ 50) → status_by command (r.Ok p) input ≡ Ok
+by_command Run p input h = rw (le-ltb 1125899906842624 (length input) (h refl)) refl
+by_command Check p input h = refl
+
+status_legal : (command : Command) (bytes : List ℕ) (asks : Result Planned ConfigFault) (input : List ℕ) → Says bytes asks → IsLegal (Some bytes) → (Some command ≡ Some Run → length input ≤ 2 ^ 50) → status_for (Some command) bytes asks input ≡ Ok
+status_legal command bytes asks input says legal h =
+    status_within command bytes asks input legal.1.within ∙ ap (λ v. status_by command v input) (asks_is bytes legal.0 legal.1 asks says) ∙ by_command command legal.0 input h
+
+past_input : (command : Command) (p : Planned) (input : List ℕ) → Some command ≡ Some Run → 2 ^ 50 < length input → status_by command (r.Ok p) input ≡ Limit
+past_input Run p input is h = rw (lt-ltb 1125899906842624 (length input) h) refl
+past_input Check p input is h = absurd (cc is)
+
+status_input : (command : Command) (bytes : List ℕ) (asks : Result Planned ConfigFault) (input : List ℕ) → Says bytes asks → IsLegal (Some bytes) → Some command ≡ Some Run → 2 ^ 50 < length input → status_for (Some command) bytes asks input ≡ Limit
+status_input command bytes asks input says legal is h =
+    status_within command bytes asks input legal.1.within ∙ ap (λ v. status_by command v input) (asks_is bytes legal.0 legal.1 asks says) ∙ past_input command legal.0 input is h
+
+refused_by : (command : Command) (refusal : ConfigFault) (input : List ℕ) → status_by command (r.Err refusal) input ≡ BadPlan
+refused_by command refusal input = refl
+
+status_refused : (command : Command) (bytes : List ℕ) (asks : Result Planned ConfigFault) (input : List ℕ) → Says bytes asks → IsRefused (Some bytes) → status_for (Some command) bytes asks input ≡ BadPlan
+status_refused command bytes asks input says refused =
+    status_within command bytes asks input refused.1.within ∙ ap (λ v. status_by command v input) (one_plan bytes asks (r.Err refused.0) says refused.1.says) ∙ refused_by command refused.0 input
 
 -- The causes of the statuses of a call. A, B and C say that the counts of plan, input and output rose.
-pub record Causes (run : Bool) (plan input : Option (List ℕ)) (A B C : Type 0) (status : Status) : Type 0 where
-  pub usage_only : status ≡ Usage → run ≡ false
-  pub usage_always : run ≡ false → status ≡ Usage
-  pub ok_only : status ≡ Ok → IsLegal plan × IsWithin (2 ^ 50) input
+pub record Causes (command : Option Command) (plan input : Option (List ℕ)) (A B C : Type 0) (status : Status) : Type 0 where
+  pub usage_only : status ≡ Usage → command ≡ None
+  pub usage_always : command ≡ None → status ≡ Usage
+  pub ok_only : status ≡ Ok → IsLegal plan × (command ≡ Some Run → IsWithin (2 ^ 50) input)
   pub plan_only : status ≡ BadPlan → IsRefused plan
   pub read_only : status ≡ Read → A ⊎ (IsLegal plan × B)
   pub write_only : status ≡ Write → IsLegal plan × C
-  pub limit_only : status ≡ Limit → IsLonger 65536 plan ⊎ (IsLegal plan × IsLonger (2 ^ 50) input)
+  pub limit_only : status ≡ Limit → IsLonger 65536 plan ⊎ (IsLegal plan × (command ≡ Some Run) × IsLonger (2 ^ 50) input)
   pub possible_only : IsPossible status
 
-module _ (plan input : List ℕ) (asks : Option Plan) (says : Says plan asks) (A B C : Type 0) (none : A ⊎ B ⊎ C → ⊥) where
+module _ (plan input : List ℕ) (asks : Result Planned ConfigFault) (says : Says plan asks) (A B C : Type 0) (none : A ⊎ B ⊎ C → ⊥) where
   no_read : A ⊎ (IsLegal (Some plan) × B) → ⊥
   no_read (inl a) = none (inl a)
   no_read (inr b) = none (inr (inl b.1))
 
-  limit_for : IsLonger 65536 (Some plan) ⊎ (IsLegal (Some plan) × IsLonger (2 ^ 50) (Some input)) → status_for true plan asks input ≡ Limit
-  limit_for (inl longer) = status_longer plan asks input longer
-  limit_for (inr longer) = status_input plan asks input says longer.0 longer.1
+  limit_for : (command : Command) → IsLonger 65536 (Some plan) ⊎ (IsLegal (Some plan) × (Some command ≡ Some Run) × IsLonger (2 ^ 50) (Some input)) → status_for (Some command) plan asks input ≡ Limit
+  limit_for command (inl longer) = status_longer command plan asks input longer
+  limit_for command (inr longer) = status_input command plan asks input says longer.0 longer.1 longer.2
 
-  run_completes : (status : Status) → Causes true (Some plan) (Some input) A B C status → (status ≡ status_for true plan asks input) ⊎ (status ≡ Memory)
-  run_completes Ok c = let h = c.ok_only refl in inl (sym (status_legal plan asks input says h.0 h.1))
-  run_completes Usage c = absurd (let e : true ≡ false = c.usage_only refl in cc)
-  run_completes BadPlan c = let h = c.plan_only refl in inl (sym (status_refused plan asks input says h.0 h.1))
-  run_completes Store c = absurd c.possible_only
-  run_completes Read c = absurd (no_read (c.read_only refl))
-  run_completes Write c = absurd (none (inr (inr (c.write_only refl).1)))
-  run_completes Disk c = absurd c.possible_only
-  run_completes Limit c = inl (sym (limit_for (c.limit_only refl)))
-  run_completes Memory c = inr refl
-  run_completes Gap c = absurd c.possible_only
-  run_completes Differs c = absurd c.possible_only
+  command_completes : (command : Command) (status : Status) → Causes (Some command) (Some plan) (Some input) A B C status → (status ≡ status_for (Some command) plan asks input) ⊎ (status ≡ Memory)
+  command_completes command Ok c = let h = c.ok_only refl in inl (sym (status_legal command plan asks input says h.0 h.1))
+  command_completes command Usage c = absurd (let e : Some command ≡ None = c.usage_only refl in cc)
+  command_completes command BadPlan c = inl (sym (status_refused command plan asks input says (c.plan_only refl)))
+  command_completes command Store c = absurd c.possible_only
+  command_completes command Read c = absurd (no_read (c.read_only refl))
+  command_completes command Write c = absurd (none (inr (inr (c.write_only refl).1)))
+  command_completes command Disk c = absurd c.possible_only
+  command_completes command Limit c = inl (sym (limit_for command (c.limit_only refl)))
+  command_completes command Memory c = inr refl
+  command_completes command Gap c = absurd c.possible_only
+  command_completes command Differs c = absurd c.possible_only
 
-  completes_by : (run : Bool) (status : Status) → Causes run (Some plan) (Some input) A B C status → (status ≡ status_for run plan asks input) ⊎ (status ≡ Memory)
-  completes_by true status c = run_completes status c
-  completes_by false status c = inl (c.usage_always refl)
+  completes_by : (command : Option Command) (status : Status) → Causes command (Some plan) (Some input) A B C status → (status ≡ status_for command plan asks input) ⊎ (status ≡ Memory)
+  completes_by (Some command) status c = command_completes command status c
+  completes_by None status c = inl (c.usage_always refl)
 
 -- where no count rose, the status is the one that words, plan and input call for, or Memory
-pub completes : (run : Bool) (plan input : Option (List ℕ)) (A B C : Type 0) (status : Status) → Causes run plan input A B C status → (told : Told plan input) → (A ⊎ B ⊎ C → ⊥) →
-    (status ≡ status_for run told.plan_bytes told.asks told.input_bytes) ⊎ (status ≡ Memory)
-completes run plan input A B C status causes told none =
-    let P : Option (List ℕ) → Type 0 = λ v. Causes run v input A B C status in
-    let Q : Option (List ℕ) → Type 0 = λ v. Causes run (Some told.plan_bytes) v A B C status in
-    completes_by told.plan_bytes told.input_bytes told.asks told.says A B C none run status (subst Q told.input_is (subst P told.plan_is causes))
+pub completes : (command : Option Command) (plan input : Option (List ℕ)) (A B C : Type 0) (status : Status) → Causes command plan input A B C status → (told : Told plan input) → (A ⊎ B ⊎ C → ⊥) →
+    (status ≡ status_for command told.plan_bytes told.asks told.input_bytes) ⊎ (status ≡ Memory)
+completes command plan input A B C status causes told none =
+    let P : Option (List ℕ) → Type 0 = λ v. Causes command v input A B C status in
+    let Q : Option (List ℕ) → Type 0 = λ v. Causes command (Some told.plan_bytes) v A B C status in
+    completes_by told.plan_bytes told.input_bytes told.asks told.says A B C none command status (subst Q told.input_is (subst P told.plan_is causes))
 
-text_is : (plan input : Option (List ℕ)) (p : Plan) (told : Told plan input) (bytes : List ℕ) → IfSome plan (λ b. IsPlan b p) → bytes ≡ told.input_bytes → output_of p bytes ≡ text_of true told.asks told.input_bytes
-text_is plan input p told bytes legal is = rw (told_plan plan input p told legal, is) refl
+-- What a run puts.
 
 -- an input that was answered to its end
-pub all_answered : (plan input now : Option (List ℕ)) (p : Plan) (Put : List ℕ → Type 0) → IfSome plan (λ b. IsPlan b p) → Completes p input now Put → (told : Told plan input) →
-    Put (ended (text_of true told.asks told.input_bytes))
-all_answered plan input now p Put legal done told =
-    let rest = told_rest input now done.got told.input_bytes done.took told.input_is in
+pub all_answered : (input now : Option (List ℕ)) (p : Planned) (Put : List ℕ → Type 0) → Completes p input now Put → (all : List ℕ) → input ≡ Some all → Put (ended (output_of p all))
+all_answered input now p Put done all is =
+    let rest = told_rest input now done.got all done.took is in
     let none : rest.0 ≡ [] = at_end_rest now rest.0 rest.1 done.at_end in
-    let whole : done.got ≡ told.input_bytes = sym (append-nil done.got) ∙ ap (λ v. done.got ++ v) (sym none) ∙ rest.2 in
-    subst (λ v. Put (ended v)) (text_is plan input p told done.got legal whole) (done.puts (rest.1 ∙ ap (λ v. Some v) none))
+    let whole : done.got ≡ all = sym (append-nil done.got) ∙ ap (λ v. done.got ++ v) (sym none) ∙ rest.2 in
+    subst (λ v. Put (ended (output_of p v))) whole (done.puts (rest.1 ∙ ap (λ v. Some v) none))
 
 -- one that was answered in part
-pub part_answered : (plan input now : Option (List ℕ)) (p : Plan) (Put : List ℕ → Type 0) (status : Status) → IfSome plan (λ b. IsPlan b p) → Stops p input now Put status → (told : Told plan input) →
-    (put : List ℕ) × Put put × StopsAt status (text_of true told.asks told.input_bytes) put
-part_answered plan input now p Put status legal stops told =
-    let rest = told_rest input now stops.got told.input_bytes stops.took told.input_is in
-    (stops.put, stops.puts, subst (λ v. StopsAt status v stops.put) (text_is plan input p told (stops.got ++ rest.0) legal rest.2) (stops.stops rest.0 rest.1))
+pub part_answered : (input now : Option (List ℕ)) (p : Planned) (Put : List ℕ → Type 0) (status : Status) → Stops p input now Put status → (all : List ℕ) → input ≡ Some all →
+    (put : List ℕ) × Put put × StopsAt status (output_of p all) put
+part_answered input now p Put status stops all is =
+    let rest = told_rest input now stops.got all stops.took is in
+    (stops.put, stops.puts, subst (λ v. StopsAt status (output_of p v) stops.put) rest.2 (stops.stops rest.0 rest.1))
 
-nothing_replied : (asks : Option Plan) → ended (replies_of true asks (whole_lines [])) ≡ []
-nothing_replied (Some plan) = refl
-nothing_replied None = refl
+-- What words and plan ask for, by the plan that was read.
+
+pub asked_all : (command : Command) (plan input : Option (List ℕ)) (p : Planned) (Put : List ℕ → Type 0) → IfSome plan (λ b. IsPlan b p) → ((all : List ℕ) → input ≡ Some all → Put (ended (asked_text command p all))) → (told : Told plan input) →
+    Put (ended (text_of (Some command) told.asks told.input_bytes))
+asked_all command plan input p Put legal done told =
+    let P : Result Planned ConfigFault → Type 0 = λ v. Put (ended (text_of (Some command) v told.input_bytes)) in
+    subst P (sym (told_plan plan input p told legal)) (done told.input_bytes told.input_is)
+
+pub asked_part : (command : Command) (plan input : Option (List ℕ)) (p : Planned) (Put : List ℕ → Type 0) (status : Status) → IfSome plan (λ b. IsPlan b p) →
+    ((all : List ℕ) → input ≡ Some all → (put : List ℕ) × Put put × StopsAt status (asked_text command p all) put) → (told : Told plan input) →
+    (put : List ℕ) × Put put × StopsAt status (text_of (Some command) told.asks told.input_bytes) put
+asked_part command plan input p Put status legal stops told =
+    let P : Result Planned ConfigFault → Type 0 = λ v. (put : List ℕ) × Put put × StopsAt status (text_of (Some command) v told.input_bytes) put in
+    subst P (sym (told_plan plan input p told legal)) (stops told.input_bytes told.input_is)
+
+pub asked_read : (command : Command) (plan input now : Option (List ℕ)) (p : Planned) (Put : List ℕ → Type 0) (status : Status) → IfSome plan (λ b. IsPlan b p) → StopsRead (asked_replies command p) input now Put status → (told : Told plan input) →
+    StopsRead (replies_of (Some command) told.asks) input now Put status
+asked_read command plan input now p Put status legal stops told =
+    let P : Result Planned ConfigFault → Type 0 = λ v. StopsRead (replies_of (Some command) v) input now Put status in
+    subst P (sym (told_plan plan input p told legal)) stops
+
+by_asked : (command : Command) (p : Planned) → ended (asked_replies command p (whole_lines [])) ≡ []
+by_asked Run p = refl
+by_asked Check p = refl
+
+nothing_replied : (command : Option Command) (asks : Result Planned ConfigFault) → ended (replies_of command asks (whole_lines [])) ≡ []
+nothing_replied (Some command) (r.Ok plan) = by_asked command plan
+nothing_replied (Some command) (r.Err refusal) = refl
+nothing_replied None asks = refl
 
 -- a plan that could not be read
-pub none_read : (plan input : Option (List ℕ)) (Put : List ℕ → Type 0) (status : Status) → Put [] → (told : Told plan input) → StopsRead (replies_of true told.asks) input input Put status
-none_read plan input Put status nothing told = record {
+pub none_read : (command : Option Command) (plan input : Option (List ℕ)) (Put : List ℕ → Type 0) (status : Status) → Put [] → (told : Told plan input) → StopsRead (replies_of command told.asks) input input Put status
+none_read command plan input Put status nothing told = record {
   got = [];
   past = [];
   took = before-nothing input;
   one = omega arith;
   none_past = inl refl;
-  puts = subst Put (sym (nothing_replied told.asks)) nothing;
+  puts = subst Put (sym (nothing_replied command told.asks)) nothing;
 }
-
--- an input that could not be read on
-pub read_in_part : (plan input now : Option (List ℕ)) (p : Plan) (Put : List ℕ → Type 0) (status : Status) → IfSome plan (λ b. IsPlan b p) → StopsRead (replies_to p) input now Put status → (told : Told plan input) →
-    StopsRead (replies_of true told.asks) input now Put status
-read_in_part plan input now p Put status legal stops told = let P : Option Plan → Type 0 = λ v. StopsRead (replies_of true v) input now Put status in subst P (sym (told_plan plan input p told legal)) stops
 
 -- and then a front of the last line
 pub read_then : (replies : List (Option (List ℕ)) → List (List ℕ)) (input now : Option (List ℕ)) (A B : List ℕ → Type 0) (status : Status) → ((put : List ℕ) → A put → B put) → StopsRead replies input now A status → StopsRead replies input now B status
 read_then replies input now A B status carry stops = record { got = stops.got; past = stops.past; took = stops.took; one = stops.one; none_past = stops.none_past; puts = carry _ stops.puts }
 
 -- an input that was read to its end is within its limit
-pub within_limit : (input now : Option (List ℕ)) (p : Plan) (Put : List ℕ → Type 0) → Completes p input now Put → IsWithin (2 ^ 50) input
+pub within_limit : (input now : Option (List ℕ)) (p : Planned) (Put : List ℕ → Type 0) → Completes p input now Put → IsWithin (2 ^ 50) input
 within_limit (Some bytes) now p Put done =
     let rest = told_rest (Some bytes) now done.got bytes done.took refl in
     let none : rest.0 ≡ [] = at_end_rest now rest.0 rest.1 done.at_end in
@@ -250,3 +335,7 @@ rose_first a b c rose later = omega (arith, rose, later)
 
 pub rose_last : (a b c : ℕ) → a ≤ b → Rose b c → Rose a c
 rose_last a b c later rose = omega (arith, rose, later)
+
+-- a host that stayed as it was
+pub same_host : {H : Type 0} (said : H → Option (List ℕ)) (clock : H → ℕ) (since : H → ℕ → Moment → Type 0) (old mid new : H) (put : List ℕ) → new ≡ mid → Puts said clock since old mid put → Puts said clock since old new put
+same_host said clock since old mid new put same puts = subst (λ h. Puts said clock since old h put) (sym same) puts

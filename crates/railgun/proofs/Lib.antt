@@ -1,4 +1,5 @@
 pub mod Arrivals
+pub mod Checks
 pub mod Ends
 pub mod Inputs
 pub mod Outputs

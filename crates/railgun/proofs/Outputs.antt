@@ -4,7 +4,7 @@ use Rattle.std.proofs.lemmas.List.{append-nil}
 use Rattle.rg_host.specs.Lines.{ended}
 use Rattle.rg_reply.specs.Texts.{reply_line, mark_line}
 use Rattle.rg_reply.specs.declared.mark.Mark.TheVariants.{Finished}
-use Rattle.railgun.specs.Plan.{Plan}
+use Rattle.rg_config.specs.Plans.{Planned}
 use Rattle.railgun.specs.Output.{verdict_of, with_verdict, reply_of, look_at, accepted_before, replies_before, output_for}
 
 abbrev Item : Type 0
@@ -19,11 +19,11 @@ get_or-next : (lines : List Item) (item : Item) (more : List Item) → get_or (l
 get_or-next [] item more = refl
 get_or-next (line ∷ lines) item more = get_or-next lines item more
 
-pub accepted-first : (plan : Plan) (lines more : List Item) (i : ℕ) → i ≤ length lines → accepted_before plan (lines ++ more) i ≡ accepted_before plan lines i
+pub accepted-first : (plan : Planned) (lines more : List Item) (i : ℕ) → i ≤ length lines → accepted_before plan (lines ++ more) i ≡ accepted_before plan lines i
 accepted-first plan lines more zero h = refl
 accepted-first plan lines more (suc i) h = rw (accepted-first plan lines more i (omega arith), get_or-first lines more i (omega arith)) refl
 
-replies-first : (plan : Plan) (lines more : List Item) (i : ℕ) → i ≤ length lines → replies_before plan (lines ++ more) i ≡ replies_before plan lines i
+replies-first : (plan : Planned) (lines more : List Item) (i : ℕ) → i ≤ length lines → replies_before plan (lines ++ more) i ≡ replies_before plan lines i
 replies-first plan lines more zero h = refl
 replies-first plan lines more (suc i) h = rw (replies-first plan lines more i (omega arith), accepted-first plan lines more i (omega arith), get_or-first lines more i (omega arith)) refl
 
@@ -31,30 +31,30 @@ replies-first plan lines more (suc i) h = rw (replies-first plan lines more i (o
 length-push : (lines : List Item) (item : Item) → length (lines ++ item ∷ []) ≡ suc (length lines)
 length-push lines item = omega (arith, length-append lines (item ∷ []))
 
-pub accepted-push : (plan : Plan) (lines : List Item) (item : Item) →
-    accepted_before plan (lines ++ item ∷ []) (length (lines ++ item ∷ [])) ≡ with_verdict (accepted_before plan lines (length lines)) (verdict_of (accepted_before plan lines (length lines)) (look_at plan (length lines) item))
+pub accepted-push : (plan : Planned) (lines : List Item) (item : Item) →
+    accepted_before plan (lines ++ item ∷ []) (length (lines ++ item ∷ [])) ≡ with_verdict (accepted_before plan lines (length lines)) (verdict_of plan.settings.events (accepted_before plan lines (length lines)) (look_at plan (length lines) item))
 accepted-push plan lines item =
     rw (length-push lines item, accepted-first plan lines (item ∷ []) (length lines) (omega arith), get_or-next lines item []) refl
 
-pub replies-push : (plan : Plan) (lines : List Item) (item : Item) →
+pub replies-push : (plan : Planned) (lines : List Item) (item : Item) →
     replies_before plan (lines ++ item ∷ []) (length (lines ++ item ∷ []))
-    ≡ replies_before plan lines (length lines) ++ reply_line (length lines) (reply_of plan.window (accepted_before plan lines (length lines)) (verdict_of (accepted_before plan lines (length lines)) (look_at plan (length lines) item))) ∷ []
+    ≡ replies_before plan lines (length lines) ++ reply_line (length lines) (reply_of plan.queries (accepted_before plan lines (length lines)) (verdict_of plan.settings.events (accepted_before plan lines (length lines)) (look_at plan (length lines) item))) ∷ []
 replies-push plan lines item =
     rw (length-push lines item, replies-first plan lines (item ∷ []) (length lines) (omega arith), accepted-first plan lines (item ∷ []) (length lines) (omega arith), get_or-next lines item []) refl
 
 -- the replies to the first lines begin those to all
-record Goes (plan : Plan) (lines more : List Item) : Type 0 where
+record Goes (plan : Planned) (lines more : List Item) : Type 0 where
   rest : List (List ℕ)
   is : replies_before plan lines (length lines) ++ rest ≡ replies_before plan (lines ++ more) (length (lines ++ more))
 
-goes : (plan : Plan) (lines more : List Item) → Goes plan lines more
+goes : (plan : Planned) (lines more : List Item) → Goes plan lines more
 goes plan lines [] = record {
   rest = [];
   is = append-nil (replies_before plan lines (length lines)) ∙ ap (λ v. replies_before plan v (length v)) (sym (append-nil lines));
 }
 goes plan lines (item ∷ more) =
     let next : Goes plan (lines ++ item ∷ []) more = goes plan (lines ++ item ∷ []) more in
-    let reply = reply_line (length lines) (reply_of plan.window (accepted_before plan lines (length lines)) (verdict_of (accepted_before plan lines (length lines)) (look_at plan (length lines) item))) in
+    let reply = reply_line (length lines) (reply_of plan.queries (accepted_before plan lines (length lines)) (verdict_of plan.settings.events (accepted_before plan lines (length lines)) (look_at plan (length lines) item))) in
     record {
       rest = reply ∷ next.rest;
       is = sym (append_assoc (replies_before plan lines (length lines)) (reply ∷ []) next.rest)
@@ -64,7 +64,7 @@ goes plan lines (item ∷ more) =
     }
 
 -- the same of all that is put out
-pub replies-begin : (plan : Plan) (lines more : List Item) → (rest : List (List ℕ)) × (replies_before plan lines (length lines) ++ rest ≡ output_for plan (lines ++ more))
+pub replies-begin : (plan : Planned) (lines more : List Item) → (rest : List (List ℕ)) × (replies_before plan lines (length lines) ++ rest ≡ output_for plan (lines ++ more))
 replies-begin plan lines more =
     let next = goes plan lines more in
     let last = mark_line (Finished (length (lines ++ more)) (length (accepted_before plan (lines ++ more) (length (lines ++ more))))) ∷ [] in

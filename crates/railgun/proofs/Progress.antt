@@ -7,7 +7,8 @@ use Rattle.rg_host.specs.Lines.{lines_of, ended}
 use Rattle.rg_host.specs.Puts.{IsFront}
 use Rattle.rg_reply.specs.Texts.{reply_line, mark_line}
 use Rattle.rg_reply.specs.declared.mark.Mark.TheVariants.{Finished}
-use Rattle.railgun.specs.Plan.{Plan}
+use Rattle.rg_config.specs.Plans.{Planned}
+use Rattle.railgun.specs.Session.{IsFor}
 use Rattle.railgun.specs.Output.{look_at, verdict_of, reply_of, accepted_before, replies_before, replies_to, output_for, output_of}
 use Rattle.railgun.specs.Put.{StopsWith}
 use Rattle.railgun.specs.Turn.{Takes, TakesLine, TakesEnd, TakesNone, Answers, Finishes, IsCut, Refuses, answer_text, done_text}
@@ -23,7 +24,7 @@ use Rattle.railgun.proofs.Ends.{nothing_stops, whole_stops}
 use Rattle.railgun.proofs.Outputs.{accepted-push, replies-push, replies-begin, ended-append}
 
 -- Where a run stands between two lines, whose input had `start` to come and has `now`. `Put` says which bytes were put out.
-pub record Progress (start now : Option (List ℕ)) (plan : Plan) (Put : List ℕ → Type 0) (run : Run) : Type 0 where
+pub record Progress (start now : Option (List ℕ)) (plan : Planned) (Put : List ℕ → Type 0) (run : Run) : Type 0 where
   -- the bytes taken and the lines handed out so far
   pub got : List ℕ
   pub handed : List (Option (List ℕ))
@@ -34,7 +35,7 @@ pub record Progress (start now : Option (List ℕ)) (plan : Plan) (Put : List �
   pub all : run.lines.ended ≡ true → (lines_of got ≡ handed) × (run.lines.pending ≡ []) × IsAtEnd now
   pub taken : run.lines.taken ≡ length got
   pub offset : run.offset ≡ length handed
-  pub window_is : run.session.window ≡ plan.window
+  pub session : IsFor plan run.session
   pub events : run.session.events ≡ accepted_before plan handed (length handed)
   pub puts : Put (ended (replies_before plan handed (length handed)))
 
@@ -43,20 +44,20 @@ unfolding lines_of
 lines-nothing = refl
 
 -- what was put for the lines so far, and then the answer to one more
-answers-as : (plan : Plan) (offset : ℕ) (events : List Event) (handed : List (Option (List ℕ))) (item : Option (List ℕ)) → events ≡ accepted_before plan handed (length handed) → offset ≡ length handed →
+answers-as : (plan : Planned) (offset : ℕ) (events : List Event) (handed : List (Option (List ℕ))) (item : Option (List ℕ)) → events ≡ accepted_before plan handed (length handed) → offset ≡ length handed →
     ended (replies_before plan handed (length handed)) ++ answer_text plan events offset item ≡ ended (replies_before plan (handed ++ item ∷ []) (length (handed ++ item ∷ [])))
 answers-as plan offset events handed item b c =
     rw (b, c, replies-push plan handed item)
-    (sym (ended-append (replies_before plan handed (length handed)) (reply_line (length handed) (reply_of plan.window (accepted_before plan handed (length handed)) (verdict_of (accepted_before plan handed (length handed)) (look_at plan (length handed) item))) ∷ [])))
+    (sym (ended-append (replies_before plan handed (length handed)) (reply_line (length handed) (reply_of plan.queries (accepted_before plan handed (length handed)) (verdict_of plan.settings.events (accepted_before plan handed (length handed)) (look_at plan (length handed) item))) ∷ [])))
 
 -- and then the end
-done-as : (plan : Plan) (offset : ℕ) (events : List Event) (handed : List (Option (List ℕ))) → events ≡ accepted_before plan handed (length handed) → offset ≡ length handed →
+done-as : (plan : Planned) (offset : ℕ) (events : List Event) (handed : List (Option (List ℕ))) → events ≡ accepted_before plan handed (length handed) → offset ≡ length handed →
     ended (replies_before plan handed (length handed)) ++ done_text offset events ≡ ended (output_for plan handed)
 done-as plan offset events handed a b =
     rw (a, b)
     (sym (ended-append (replies_before plan handed (length handed)) (mark_line (Finished (length handed) (length (accepted_before plan handed (length handed)))) ∷ [])))
 
-front-behind : (front part text rest : List ℕ) → IsFront part text → IsFront (front ++ part) ((front ++ text) ++ rest)
+pub front-behind : (front part text rest : List ℕ) → IsFront part text → IsFront (front ++ part) ((front ++ text) ++ rest)
 front-behind front part text rest h =
     (h.0 ++ rest, sym (append_assoc (front ++ part) h.0 rest) ∙ ap (λ v. v ++ rest) (append_assoc front part h.0 ∙ ap (λ v. front ++ v) h.1))
 
@@ -79,7 +80,7 @@ line_ahead old new left now item takes rest is = ⊎_elim
     (λ open_still. record { more = lines_of (new.pending ++ rest); is = takes.line open_still rest })
     (or_false new.ended)
 
-module _ (start left now : Option (List ℕ)) (plan : Plan) (A B C : List ℕ → Type 0) (join : (x y : List ℕ) → A x → B y → C (x ++ y)) (old new : Run) where
+module _ (start left now : Option (List ℕ)) (plan : Planned) (A B C : List ℕ → Type 0) (join : (x y : List ℕ) → A x → B y → C (x ++ y)) (old new : Run) where
   -- the lines of the bytes taken, and of those behind them
   coming : (progress : Progress start left plan A old) (got rest : List ℕ) → old.lines.ended ≡ false →
       lines_of ((progress.got ++ got) ++ rest) ≡ progress.handed ++ lines_of ((old.lines.pending ++ got) ++ rest)
@@ -123,7 +124,7 @@ module _ (start left now : Option (List ℕ)) (plan : Plan) (A B C : List ℕ �
             );
         taken = takes.takes.count ∙ ap (λ v. v + length takes.got) progress.taken ∙ sym (length-append progress.got takes.got);
         offset = turn.offset ∙ ap (λ v. v + 1) progress.offset ∙ sym (length-append progress.handed (item ∷ []));
-        window_is = turn.window ∙ progress.window_is;
+        session = turn.session;
         events = turn.events ∙ rw (progress.events, progress.offset) (sym (accepted-push plan progress.handed item));
         puts = subst C (answers-as plan old.offset old.session.events progress.handed item progress.events progress.offset) (join _ _ progress.puts turn.puts);
       }
@@ -234,8 +235,8 @@ module _ (start left now : Option (List ℕ)) (plan : Plan) (A B C : List ℕ �
   }
 
 -- a run before its first line
-pub begin : (start : Option (List ℕ)) (plan : Plan) (A : List ℕ → Type 0) (run : Run) → run.lines.pending ≡ [] → run.lines.taken ≡ 0 → run.lines.ended ≡ false → run.session.events ≡ [] → run.session.window ≡ plan.window → run.offset ≡ 0 → A [] → Progress start start plan A run
-begin start plan A run pending taken still events window_is offset nothing = record {
+pub begin : (start : Option (List ℕ)) (plan : Planned) (A : List ℕ → Type 0) (run : Run) → run.lines.pending ≡ [] → run.lines.taken ≡ 0 → run.lines.ended ≡ false → run.session.events ≡ [] → IsFor plan run.session → run.offset ≡ 0 → A [] → Progress start start plan A run
+begin start plan A run pending taken still events session offset nothing = record {
   got = [];
   handed = [];
   took = before-nothing start;
@@ -243,13 +244,13 @@ begin start plan A run pending taken still events window_is offset nothing = rec
   all = λ is. absurd (let same : true ≡ false = sym is ∙ still in cc);
   taken = taken;
   offset = offset;
-  window_is = window_is;
+  session = session;
   events = events;
   puts = nothing;
 }
 
 -- a run that never began
-pub stop_first : (start : Option (List ℕ)) (plan : Plan) (A : List ℕ → Type 0) (status : Status) → A [] → Stops plan start start A status
+pub stop_first : (start : Option (List ℕ)) (plan : Planned) (A : List ℕ → Type 0) (status : Status) → A [] → Stops plan start start A status
 stop_first start plan A status nothing = record {
   got = [];
   took = before-nothing start;
@@ -265,11 +266,11 @@ longer_by n taken left (Some told) got more count took =
 longer_by n taken left None got more count took = let P : Option (List ℕ) → Type 0 = IsLonger n in subst P (sym took) tt
 
 -- a run that took a byte past the limit
-pub past_limit : (start left now : Option (List ℕ)) (plan : Plan) (A : List ℕ → Type 0) (old new : Run) → Progress start left plan A old → (got : List ℕ) → Takes old.lines new.lines left now got → 2 ^ 50 < new.lines.taken → IsLonger (2 ^ 50) start
+pub past_limit : (start left now : Option (List ℕ)) (plan : Planned) (A : List ℕ → Type 0) (old new : Run) → Progress start left plan A old → (got : List ℕ) → Takes old.lines new.lines left now got → 2 ^ 50 < new.lines.taken → IsLonger (2 ^ 50) start
 past_limit start left now plan A old new progress got takes more =
     longer_by (2 ^ 50) new.lines.taken start now (progress.got ++ got) more (omega (arith, takes.count, progress.taken, length-append progress.got got)) (before-before start left now progress.got got progress.took takes.took)
 
-stops_as : (start now : Option (List ℕ)) (plan : Plan) (A C : List ℕ → Type 0) (status : Status) → ((put : List ℕ) → A put → C put) → Stops plan start now A status → Stops plan start now C status
+stops_as : (start now : Option (List ℕ)) (plan : Planned) (A C : List ℕ → Type 0) (status : Status) → ((put : List ℕ) → A put → C put) → Stops plan start now A status → Stops plan start now C status
 stops_as start now plan A C status carry stops = record {
   got = stops.got;
   took = stops.took;
@@ -279,7 +280,7 @@ stops_as start now plan A C status carry stops = record {
 }
 
 -- a turn was refused: nothing was put in it, or a put failed
-pub stop : (start left now : Option (List ℕ)) (plan : Plan) (A B C : List ℕ → Type 0) → ((x y : List ℕ) → A x → B y → C (x ++ y)) → (old new : Run) (status : Status) → Progress start left plan A old →
+pub stop : (start left now : Option (List ℕ)) (plan : Planned) (A B C : List ℕ → Type 0) → ((x y : List ℕ) → A x → B y → C (x ++ y)) → (old new : Run) (status : Status) → Progress start left plan A old →
     (got : List ℕ) → Takes old.lines new.lines left now got → (status ≡ Write) ⊎ ((put : List ℕ) → A put → C put) → (status ≡ Write → Refuses plan old new left now B) → Stops plan start now C status
 stop start left now plan A B C join old new status progress got takes (inl is) cut =
     subst (λ v. Stops plan start now C v) (sym is) (stop_cut start left now plan A B C join old new progress (cut is))
@@ -287,7 +288,7 @@ stop start left now plan A B C join old new status progress got takes (inr same)
     stops_as start now plan A C status same (stop_quiet start left now plan A B C join old new status (λ text put whole. whole_stops status text put whole) got takes.took progress)
 
 -- a read was refused, and nothing was put in its turn
-pub read_stop : (start left now : Option (List ℕ)) (plan : Plan) (A C : List ℕ → Type 0) → ((put : List ℕ) → A put → C put) → (old new : Run) (status : Status) → Progress start left plan A old → TakesNone old.lines new.lines left now status → StopsRead (replies_to plan) start now C status
+pub read_stop : (start left now : Option (List ℕ)) (plan : Planned) (A C : List ℕ → Type 0) → ((put : List ℕ) → A put → C put) → (old new : Run) (status : Status) → Progress start left plan A old → TakesNone old.lines new.lines left now status → StopsRead (replies_to plan) start now C status
 read_stop start left now plan A C carry old new status progress none =
     let stops : StopsRead (replies_to plan) start now A status = stop_read start left now plan A (λ y. y ≡ []) A (λ x y a nothing. subst A (sym (ap (λ v. x ++ v) nothing ∙ append-nil x)) a) old new status progress none in
     record { got = stops.got; past = stops.past; took = stops.took; one = stops.one; none_past = stops.none_past; puts = carry _ stops.puts }

@@ -5,9 +5,10 @@ use Rattle.std.specs.Prelude.{slice_get}
 use Rattle.std.proofs.lemmas.Bool.{lt-ltb, le-ltb, le-leb, lt-leb, ltb-true, ltb-false}
 use Rattle.rg_event.specs.declared.event.Event.{Event}
 use Rattle.rg_past.specs.Order.{next_offset, last_time, IsRising}
-use Rattle.railgun.specs.Output.{verdict_of, reply_of, most_events}
-use Rattle.rg_engine.specs.Answering.{answers_to}
-use Rattle.rg_engine.specs.declared.answer.Answer.{Answer}
+use Rattle.railgun.specs.Output.{verdict_of, reply_of}
+use Rattle.rg_metric.specs.Queries.{Asked}
+use Rattle.rg_metric.specs.Replies.{answers_to}
+use Rattle.rg_metric.specs.declared.answer.Answer.{Answer}
 use Rattle.rg_engine.specs.declared.reply.Reply.TheVariants.{Late, Full, Answered}
 use Rattle.railgun.specs.Output.Verdict.{refused, accepted}
 
@@ -45,14 +46,14 @@ next_offset-push [] e = refl
 next_offset-push (x ∷ []) e = refl
 next_offset-push (x ∷ (y ∷ events)) e = next_offset-push (y ∷ events) e
 
-pub is_late : (events : List Event) (e : Event) → later_than e.time events ≡ true → verdict_of events (Ok e) ≡ refused Late
-is_late events e h = rw h refl
+pub is_late : (most : ℕ) (events : List Event) (e : Event) → later_than e.time events ≡ true → verdict_of most events (Ok e) ≡ refused Late
+is_late most events e h = rw h refl
 
-pub is_full : (events : List Event) (e : Event) → later_than e.time events ≡ false → most_events ≤ length events → verdict_of events (Ok e) ≡ refused Full
-is_full events e h k = rw (h, le-leb most_events (length events) k) refl
+pub is_full : (most : ℕ) (events : List Event) (e : Event) → later_than e.time events ≡ false → most ≤ length events → verdict_of most events (Ok e) ≡ refused Full
+is_full most events e h k = rw (h, le-leb most (length events) k) refl
 
-pub is_accepted : (events : List Event) (e : Event) → later_than e.time events ≡ false → length events < most_events → verdict_of events (Ok e) ≡ accepted e
-is_accepted events e h k = rw (h, lt-leb most_events (length events) k) refl
+pub is_accepted : (most : ℕ) (events : List Event) (e : Event) → later_than e.time events ≡ false → length events < most → verdict_of most events (Ok e) ≡ accepted e
+is_accepted most events e h k = rw (h, lt-leb most (length events) k) refl
 
 pub last_time-is : (events : List Event) (e : Event) → slice_get events (length events - 1) ≡ Some e → last_time events ≡ e.time
 last_time-is [] e h = absurd (cc)
@@ -76,6 +77,6 @@ follows_by events time h none false t = ltb-false _ _ t
 pub none_later-last_time : (events : List Event) (time : ℕ) → IsRising events → later_than time events ≡ false → last_time events ≤ time
 none_later-last_time events time h none = follows_by events time h none (nat_lt time (last_time events)) refl
 
-pub accepted_reply : (window : ℕ) (events : List Event) (e : Event) (answers : List Answer) → later_than e.time events ≡ false → length events < most_events → answers ≡ answers_to window (events ++ e ∷ []) e →
-    Answered answers ≡ reply_of window events (verdict_of events (Ok e))
-accepted_reply window events e answers h k is = rw (is_accepted events e h k, is) refl
+pub accepted_reply : (queries : List Asked) (most : ℕ) (events : List Event) (e : Event) (answers : List Answer) → later_than e.time events ≡ false → length events < most → answers ≡ answers_to queries (events ++ e ∷ []) e →
+    Answered answers ≡ reply_of queries events (verdict_of most events (Ok e))
+accepted_reply queries most events e answers h k is = rw (is_accepted most events e h k, is) refl

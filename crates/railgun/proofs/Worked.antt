@@ -1,29 +1,81 @@
 -- The definitions on worked rows.
-use Rattle.std.proofs.Common.{◌≡◌, [], ◌∷◌, true, false, refl}
+use Rattle.std.proofs.Common.{◌≡◌, ℕ, pos, List, [], ◌∷◌, Bool, true, false, Option, Some, None, refl}
 use Rattle.std.specs.Prelude.{codes}
 use Rattle.std.specs.Fmt.{digits}
 use Rattle.std.specs.Str.{is_utf8, chars}
 use lib.Utf8.{encode}
 use Rattle.rg_event.specs.declared.schema.Field.{Field}
 use Rattle.rg_event.specs.declared.value.Kind.TheVariants.{Text, Int}
+use Rattle.rg_event.specs.declared.value.Value.TheVariants.{Int as IntValue}
+use Rattle.rg_words.specs.declared.func.Func.TheVariants.{Count}
+use Rattle.rg_words.specs.declared.op.Op.TheVariants.{Gt}
+use Rattle.rg_metric.specs.declared.query.Window.{Window}
+use Rattle.rg_metric.specs.Conditions.{Test, compared}
+use Rattle.rg_metric.specs.Queries.{Asked}
 use Rattle.rg_row.specs.Fields.{split_from}
 use Rattle.rg_host.specs.Lines.{lines_of, ended}
-use Rattle.railgun.specs.Output.{output_of}
+use Rattle.rg_config.specs.Plans.{Planned}
+use Rattle.railgun.specs.Output.{output_of, check_text}
 
 abbrev card : Field
 card = record { name = codes "card"; kind = Text }
 
+abbrev merchant : Field
+merchant = record { name = codes "merchant"; kind = Text }
+
 abbrev amount : Field
 amount = record { name = codes "amount"; kind = Int }
 
-five_minutes : ended (output_of (record { window = 300000; fields = card ∷ []; header = false }) (codes "0,c1\n299999,c1\n300000,c1\n300000,c2\n")) ≡ codes "0 ok 1\n1 ok 2\n2 ok 2\n3 ok 1\ndone 4 4\n"
-unfolding lines_of is_utf8 digits chars encode split_from
-five_minutes = refl
+abbrev sliding : ℕ → ℕ → Window
+sliding length delay = record { delay = delay; length = Some length }
 
-late_and_fields : ended (output_of (record { window = 10; fields = card ∷ []; header = false }) (codes "10,c1\n9,c1\nx\n20,c1\n")) ≡ codes "0 ok 1\n1 late\n2 fields\n3 ok 1\ndone 4 2\n"
+-- `count(*)`
+abbrev counting : Option Test → List ℕ → Window → Asked
+counting filter group window = record { aggs = record { func = Count; field = 0 } ∷ []; filter = filter; group = group; window = window }
+
+-- a plan of one query over payments
+abbrev asking : List Field → Asked → ℕ → Bool → Planned
+asking fields query events header = record {
+  shape = record { stream = codes "payments"; time = codes "ts"; fields = fields };
+  queries = query ∷ [];
+  settings = record { cache = 1; chunk = 2; commit = 2; save = 4; events = events; header = header };
+}
+
+abbrev five_minutes : Planned
+five_minutes = asking (card ∷ []) (counting None (1 ∷ []) (sliding 300000 0)) 100 false
+
+five_minutes_of_a_card : ended (output_of five_minutes (codes "0,c1\n299999,c1\n300000,c1\n300000,c2\n")) ≡ codes "0 ok 1\n1 ok 2\n2 ok 2\n3 ok 1\ndone 4 4\n"
+unfolding lines_of is_utf8 digits chars encode split_from
+five_minutes_of_a_card = refl
+
+-- payments above 100
+abbrev dear : ℕ → Planned
+dear events = asking (card ∷ (merchant ∷ (amount ∷ []))) (counting (Some (compared 3 Gt (IntValue (pos 100)))) (1 ∷ []) (sliding 300000 0)) events false
+
+payments_above_100 : ended (output_of (dear 100) (codes "0,c1,m1,100\n1,c1,m1,101\n2,c2,m1,500\n")) ≡ codes "0 ok 0\n1 ok 1\n2 ok 1\ndone 3 3\n"
+unfolding lines_of is_utf8 digits chars encode split_from
+payments_above_100 = refl
+
+full_at_two_events : ended (output_of (dear 2) (codes "0,c1,m1,100\n1,c1,m1,101\n2,c2,m1,500\n")) ≡ codes "0 ok 0\n1 ok 1\n2 full\ndone 3 2\n"
+unfolding lines_of is_utf8 digits chars encode split_from
+full_at_two_events = refl
+
+checked : ended (check_text (dear 100)) ≡ codes "query 0 SELECT count(*) FROM payments WHERE amount > 100 GROUP BY card OVER SLIDING 300000 ms\n"
+unfolding digits
+checked = refl
+
+delayed_by_five : ended (output_of (asking (card ∷ []) (counting None [] (sliding 10 5)) 100 false) (codes "0,c1\n5,c1\n15,c1\n")) ≡ codes "0 ok 0\n1 ok 1\n2 ok 1\ndone 3 3\n"
+unfolding lines_of is_utf8 digits chars encode split_from
+delayed_by_five = refl
+
+in_and_out_between_events : ended (output_of (asking (card ∷ []) (counting None [] (sliding 1 5)) 100 false) (codes "0,c1\n100,c1\n")) ≡ codes "0 ok 0\n1 ok 0\ndone 2 2\n"
+unfolding lines_of is_utf8 digits chars encode split_from
+in_and_out_between_events = refl
+
+late_and_fields : ended (output_of (asking (card ∷ []) (counting None (1 ∷ []) (sliding 10 0)) 100 false) (codes "10,c1\n9,c1\nx\n20,c1\n")) ≡ codes "0 ok 1\n1 late\n2 fields\n3 ok 1\ndone 4 2\n"
 unfolding lines_of is_utf8 digits chars encode split_from
 late_and_fields = refl
 
-quotes_and_header : ended (output_of (record { window = 10; fields = card ∷ (amount ∷ []); header = true }) (codes "ts,card,amount\n1,\"c,1\",7\n1,\"c1,7\n\n1,c1\n1,c1,x")) ≡ codes "0 head\n1 ok 1\n2 row\n3 row\n4 fields\n5 value 2\ndone 6 1\n"
+quotes_and_header : ended (output_of (asking (card ∷ (amount ∷ [])) (counting None (1 ∷ []) (sliding 10 0)) 100 true) (codes "ts,card,amount\n1,\"c,1\",7\n1,\"c1,7\n\n1,c1\n1,c1,x")) ≡ codes "0 head\n1 ok 1\n2 row\n3 row\n4 fields\n5 value 2\ndone 6 1\n"
 unfolding lines_of is_utf8 digits chars encode split_from
 quotes_and_header = refl

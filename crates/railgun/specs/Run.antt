@@ -3,14 +3,14 @@ use Rattle.std.specs.Prelude.{◌≡◌, ◌⊎◌, ◌≤◌, ◌^◌, ℕ, Lis
 use Rattle.rg_bytes.specs.Known.{before, IsAtEnd}
 use Rattle.rg_host.specs.Lines.{ended, whole_lines}
 use Rattle.rg_host.specs.Puts.{IsFront}
-use Rattle.railgun.specs.Plan.{Plan}
+use Rattle.rg_config.specs.Plans.{Planned}
 use Rattle.railgun.specs.Output.{output_of}
 use Rattle.railgun.specs.Put.{StopsWith}
 use Rattle.railgun.specs.declared.status.Status.{Status}
 use Rattle.railgun.specs.declared.status.Status.TheVariants.{Ok, Usage, Plan as BadPlan, Store, Read, Write, Disk, Limit, Memory, Gap, Differs}
 
 -- All of the input was answered. `Put` says which bytes were put out.
-pub record Completes (plan : Plan) (left now : Option (List ℕ)) (Put : List ℕ → Type 0) : Type 0 where
+pub record Completes (plan : Planned) (left now : Option (List ℕ)) (Put : List ℕ → Type 0) : Type 0 where
   pub got : List ℕ
   pub took : left ≡ before got now
   pub at_end : IsAtEnd now
@@ -32,7 +32,7 @@ StopsAt Gap text put = StopsWith text [] put
 StopsAt Differs text put = StopsWith text [] put
 
 -- The run stopped before its end.
-pub record Stops (plan : Plan) (left now : Option (List ℕ)) (Put : List ℕ → Type 0) (status : Status) : Type 0 where
+pub record Stops (plan : Planned) (left now : Option (List ℕ)) (Put : List ℕ → Type 0) (status : Status) : Type 0 where
   pub got : List ℕ
   pub took : left ≡ before got now
   pub put : List ℕ

@@ -8,7 +8,8 @@ use Rattle.rg_host.specs.Reading.{Reading}
 use Rattle.rg_past.specs.Order.{next_offset}
 use Rattle.rg_reply.specs.Texts.{reply_line, mark_line}
 use Rattle.rg_reply.specs.declared.mark.Mark.TheVariants.{Finished}
-use Rattle.railgun.specs.Plan.{Plan}
+use Rattle.rg_config.specs.Plans.{Planned}
+use Rattle.railgun.specs.Session.{IsFor}
 use Rattle.railgun.specs.Output.{look_at, verdict_of, with_verdict, reply_of}
 use Rattle.railgun.specs.declared.arrival.Arrival.{Arrival}
 use Rattle.railgun.specs.declared.arrival.Arrival.TheVariants.{Line, End}
@@ -42,7 +43,7 @@ pub record TakesEnd (old new : Reading) (left now : Option (List ℕ)) : Type 0 
   pub within : new.taken ≤ 2 ^ 50
 
 -- The arrival is the event of the line at this offset that the reading handed out or the reply that refuses it, or the end.
-abbrev pub Arrives : Plan → ℕ → Reading → Reading → Option (List ℕ) → Option (List ℕ) → Arrival → Type 0
+abbrev pub Arrives : Planned → ℕ → Reading → Reading → Option (List ℕ) → Option (List ℕ) → Arrival → Type 0
 Arrives plan offset old new left now (Line look) = (item : Option (List ℕ)) × (look ≡ look_at plan offset item) × TakesLine old new left now item
 Arrives plan offset old new left now End = TakesEnd old new left now
 
@@ -58,8 +59,8 @@ pub record TakesNone (old new : Reading) (left now : Option (List ℕ)) (status 
   pub no_lf : HasNoLf new.pending
 
 -- what answers a line after these events, with its LF
-abbrev pub answer_text : Plan → List Event → ℕ → Option (List ℕ) → List ℕ
-answer_text plan events offset item = reply_line offset (reply_of plan.window events (verdict_of events (look_at plan offset item))) ++ 10 ∷ []
+abbrev pub answer_text : Planned → List Event → ℕ → Option (List ℕ) → List ℕ
+answer_text plan events offset item = reply_line offset (reply_of plan.queries events (verdict_of plan.settings.events events (look_at plan offset item))) ++ 10 ∷ []
 
 -- what is put at the end, with its LF
 abbrev pub done_text : ℕ → List Event → List ℕ
@@ -72,11 +73,11 @@ pub record IsBetween (run : Run) : Type 0 where
   pub follows : next_offset run.session.events ≤ run.offset
 
 -- A line was answered. `Put` says which bytes were put out in this turn.
-pub record Answers (plan : Plan) (old new : Run) (left now : Option (List ℕ)) (Put : List ℕ → Type 0) : Type 0 where
+pub record Answers (plan : Planned) (old new : Run) (left now : Option (List ℕ)) (Put : List ℕ → Type 0) : Type 0 where
   pub item : Option (List ℕ)
   pub takes : TakesLine old.lines new.lines left now item
-  pub events : new.session.events ≡ with_verdict old.session.events (verdict_of old.session.events (look_at plan old.offset item))
-  pub window : new.session.window ≡ old.session.window
+  pub events : new.session.events ≡ with_verdict old.session.events (verdict_of plan.settings.events old.session.events (look_at plan old.offset item))
+  pub session : IsFor plan new.session
   pub offset : new.offset ≡ old.offset + 1
   pub puts : Put (answer_text plan old.session.events old.offset item)
 
@@ -92,7 +93,7 @@ pub record IsCut (text : List ℕ) (Put : List ℕ → Type 0) : Type 0 where
   pub puts : Put part
 
 -- A turn was refused: a put failed in an answer or at the end, or nothing was put.
-abbrev pub Refuses : Plan → Run → Run → Option (List ℕ) → Option (List ℕ) → (List ℕ → Type 0) → Type 0
+abbrev pub Refuses : Planned → Run → Run → Option (List ℕ) → Option (List ℕ) → (List ℕ → Type 0) → Type 0
 Refuses plan old new left now Put =
     ((item : Option (List ℕ)) × TakesLine old.lines new.lines left now item × IsCut (answer_text plan old.session.events old.offset item) Put)
     ⊎ (TakesEnd old.lines new.lines left now × IsCut (done_text old.offset old.session.events) Put)

@@ -1,12 +1,13 @@
 ghost use Rattle.std.specs.Prelude.{◌≡◌, ◌⊎◌, ◌<◌, ◌≤◌, ◌^◌, ◌==◌, ◌&&◌, ℕ, List, Err, Some, None, false, IfOk, IfErr, OnErr, IsErrOf};
 ghost use Rattle.std.specs.List.{list_any};
 ghost use Rattle.rg_bytes.specs.Counts.{Rose};
+ghost use Rattle.rg_config.specs.Plans.{planned};
 ghost use Rattle.railgun.specs.Output.{look_at};
 ghost use Rattle.railgun.specs.Turn.{Takes, TakesNone, Arrives};
 
-use crate::plan::Plan;
 use crate::status::Status;
 use rg_bytes::Memory;
+use rg_config::Plan;
 use rg_engine::Reply;
 use rg_event::Event;
 use rg_host::{Line, LineFault, Lines, Source};
@@ -26,12 +27,12 @@ pub enum Arrival {
 fn is_header(plan: &Plan, offset: u64) -> bool
     ensures { result ≡ (plan.now.header && (offset == 0)) }
 {
-    plan.header() && offset == 0
+    plan.header && offset == 0
 }
 
 /// The reply to a line that is longer than a line may be.
 fn refuse_long(plan: &Plan, offset: u64) -> Reply
-    ensures { Err result ≡ look_at plan.now offset None }
+    ensures { Err result ≡ look_at (planned plan.now) offset None }
 {
     if is_header(plan, offset) {
         Reply::Head
@@ -49,12 +50,12 @@ fn read_text(
     text: &[u8],
 ) -> Result<Result<Event, Reply>, Memory>
     requires one_line { list_any (λ byte. byte == 10) text.now ≡ false }
-    ensures { IfOk result (λ look. look ≡ look_at plan.now offset (Some text.now)) }
+    ensures { IfOk result (λ look. look ≡ look_at (planned plan.now) offset (Some text.now)) }
 {
     if is_header(plan, offset) {
         return Ok(Err(Reply::Head));
     }
-    match read_row(alloc, plan.schema(), offset, clean(offset, text)) {
+    match read_row(alloc, &plan.schema, offset, clean(offset, text)) {
         Ok(event) => Ok(Ok(event)),
         Err(RowFault::Row) => Ok(Err(Reply::Row)),
         Err(RowFault::Fields) => Ok(Err(Reply::Fields)),
@@ -72,7 +73,7 @@ pub fn next_arrival<I: Source>(
     offset: u64,
     input: &mut I,
 ) -> Result<Arrival, Status>
-    ensures arrives { IfOk result (Arrives plan.now offset lines.old lines.new (I.left input.old) (I.left input.new)) }
+    ensures arrives { IfOk result (Arrives (planned plan.now) offset lines.old lines.new (I.left input.old) (I.left input.new)) }
     ensures took { OnErr result ((got : List ℕ) × Takes lines.old lines.new (I.left input.old) (I.left input.new) got) }
     ensures took_none { IfErr result (λ status. (status ≡ Status.Read) ⊎ (status ≡ Status.Limit) → TakesNone lines.old lines.new (I.left input.old) (I.left input.new) status) }
     ensures read { IsErrOf result Status.Read → Rose (I.faults input.old) (I.faults input.new) }

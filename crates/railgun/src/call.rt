@@ -1,89 +1,161 @@
-ghost use Rattle.std.specs.Prelude.{◌≡◌, ◌⊎◌, ◌++◌, ◌≤◌, ◌<◌, ◌^◌, ℕ, List, false, true, Some, Option, IfOk, IfErr, IfSome, OnOk, OnErr, IsErrOf};
+ghost use Rattle.std.specs.Prelude.{codes, decimal, ◌≡◌, ◌⊎◌, ◌++◌, ◌≤◌, ◌<◌, ◌^◌, ℕ, List, Some, None, Option, IfOk, IfErr, IfSome, OnOk, OnErr, IsErrOf, length};
 ghost use Rattle.rg_bytes.specs.Counts.{Rose};
 ghost use Rattle.rg_bytes.specs.Known.{IsAtEnd};
+ghost use Rattle.rg_config.specs.Plans.{planned};
+ghost use Rattle.rg_config.specs.declared.fault.ConfigFault.{ConfigFault as Fault};
 ghost use Rattle.rg_host.specs.Lines.{ended};
 ghost use Rattle.rg_host.specs.Puts.{IsFront, Puts};
-ghost use Rattle.railgun.specs.Plan.{IsPlan};
+ghost use Rattle.railgun.specs.Plan.{IsPlan, IsRefusal, IsRead};
 ghost use Rattle.railgun.specs.Put.{IsPut, StopsWith};
 ghost use Rattle.railgun.specs.Run.{StopsAt, StopsRead};
-ghost use Rattle.railgun.specs.Call.{is_run as words_are_run, Told, text_of, replies_of, last_line as line_of, status_for, IsLegal, IsRefused, IsLonger, IsWithin, IsPossible};
+ghost use Rattle.railgun.specs.Call.{command_of, Told, asked_text, asked_replies, text_of, replies_of, line_for, last_line as status_line, refusal_line, ending_status, ending_line, EndsBy, status_for, IsLegal, IsRefused, IsLonger, IsWithin, IsPossible};
 
-use crate::plan::Plan;
+use crate::check::check;
+use crate::command::Command;
+use crate::ending::Ending;
 use crate::serve::serve;
 use crate::status::Status;
+use rg_bytes::{Memory, put_bytes, write_whole};
+use rg_config::{ConfigFault, Plan, read_plan};
 use rg_host::{AllFault, Host, Source, put_all, read_all};
 use std::alloc::Global;
 
 /// The greatest number of bytes of a plan.
 const PLAN_BYTES: usize = 65_536;
 
-/// Whether the words are `run PLAN STORE`.
-fn is_run(words: &[String]) -> bool
-    ensures { result ≡ words_are_run words.now }
+/// Writes the line that refuses a plan by its query with this number, with its LF.
+fn write_refused_query(line: &mut Vec<u8>, number: u32) -> Result<(), Memory>
+    ensures { OnOk result (line.new.items ≡ line.old.items ++ (codes "refused plan query " ++ (decimal number ++ codes "\n"))) }
 {
-    match words {
-        [command, _, _] => command.as_str() == "run",
-        _ => false,
+    put_bytes(line, b"refused plan query ")?;
+    write_whole(line, u64::from(number))?;
+    put_bytes(line, b"\n")
+}
+
+/// Writes the line that refuses a plan, with its LF.
+fn write_refusal(line: &mut Vec<u8>, fault: ConfigFault) -> Result<(), Memory>
+    ensures { OnOk result (line.new.items ≡ line.old.items ++ refusal_line fault) }
+{
+    match fault {
+        ConfigFault::Toml => put_bytes(line, b"refused plan toml\n"),
+        ConfigFault::Stream => put_bytes(line, b"refused plan stream\n"),
+        ConfigFault::Settings => put_bytes(line, b"refused plan settings\n"),
+        ConfigFault::Query(number) => write_refused_query(line, number),
+        ConfigFault::Memory => Ok(()),
+    }
+}
+
+/// How a call ends whose plan is refused.
+fn refuse_plan(alloc: Global, fault: ConfigFault) -> Ending
+    ensures { EndsBy fault result }
+{
+    if fault == ConfigFault::Memory {
+        return Ending::Failed(Status::Memory);
+    }
+    let mut line = Vec::new(alloc);
+    match write_refusal(&mut line, fault) {
+        Ok(()) => Ending::Refused(line),
+        Err(_) => Ending::Failed(Status::Memory),
     }
 }
 
 /// Reads the plan.
-fn load_plan<P: Source>(alloc: Global, plan: &mut P) -> Result<Plan, Status>
-    ensures legal { IfOk result (λ asked. IfSome (P.left plan.old) (λ bytes. IsPlan bytes asked)) }
-    ensures refused { IsErrOf result Status.Plan → IsRefused (P.left plan.old) }
-    ensures read { IsErrOf result Status.Read → Rose (P.faults plan.old) (P.faults plan.new) }
-    ensures limit { IsErrOf result Status.Limit → IsLonger 65536 (P.left plan.old) }
-    ensures others { IfErr result (λ status. (status ≡ Status.Plan) ⊎ (status ≡ Status.Read) ⊎ (status ≡ Status.Limit) ⊎ (status ≡ Status.Memory)) }
+fn load_plan<P: Source>(alloc: Global, plan: &mut P) -> Result<Plan, Ending>
+    ensures legal { IfOk result (λ asked. IfSome (P.left plan.old) (λ bytes. IsPlan bytes (planned asked))) }
+    ensures is_read { IfOk result IsRead }
+    ensures refused { IfErr result (λ ending. ending_status ending ≡ Status.Plan → IfSome (P.left plan.old) (λ bytes. (refusal : Fault) × IsRefusal bytes refusal × (ending_line ending ≡ refusal_line refusal))) }
+    ensures line { IfErr result (λ ending. (ending_status ending ≡ Status.Plan) ⊎ (ending_line ending ≡ status_line (ending_status ending))) }
+    ensures read { IfErr result (λ ending. ending_status ending ≡ Status.Read → Rose (P.faults plan.old) (P.faults plan.new)) }
+    ensures limit { IfErr result (λ ending. ending_status ending ≡ Status.Limit → IsLonger 65536 (P.left plan.old)) }
+    ensures others { IfErr result (λ ending. (ending_status ending ≡ Status.Plan) ⊎ (ending_status ending ≡ Status.Read) ⊎ (ending_status ending ≡ Status.Limit) ⊎ (ending_status ending ≡ Status.Memory)) }
     ensures later { P.faults plan.old ≤ P.faults plan.new }
 {
     let bytes = match read_all(alloc, plan, PLAN_BYTES) {
         Ok(bytes) => bytes,
-        Err(AllFault::Read) => return Err(Status::Read),
-        Err(AllFault::Limit) => return Err(Status::Limit),
-        Err(AllFault::Memory) => return Err(Status::Memory),
+        Err(AllFault::Read) => return Err(Ending::Failed(Status::Read)),
+        Err(AllFault::Limit) => return Err(Ending::Failed(Status::Limit)),
+        Err(AllFault::Memory) => return Err(Ending::Failed(Status::Memory)),
     };
-    match Plan::read(alloc, &bytes)? {
-        Some(asked) => Ok(asked),
-        None => Err(Status::Plan),
+    match read_plan(alloc, &bytes) {
+        Ok(asked) => Ok(asked),
+        Err(fault) => Err(refuse_plan(alloc, fault)),
     }
 }
 
-/// Reads the plan, and answers the input.
-fn run<P: Source, I: Source, H: Host>(
+/// Does with a plan what the command asks for.
+fn carry<I: Source, H: Host>(
     alloc: Global,
-    plan: &mut P,
+    command: Command,
+    asked: &Plan,
     input: &mut I,
     host: &mut H,
 ) -> Result<(), Status>
-    ensures completes { OnOk result ((told : Told (P.left plan.old) (I.left input.old)) → Puts H.said H.clock H.since host.old host.new (ended (text_of true told.asks told.input_bytes))) }
-    ensures stops { IfErr result (λ status. (told : Told (P.left plan.old) (I.left input.old)) → (put : List ℕ) × Puts H.said H.clock H.since host.old host.new put × StopsAt status (text_of true told.asks told.input_bytes) put) }
-    ensures stops_read { IfErr result (λ status. (status ≡ Status.Read) ⊎ (status ≡ Status.Limit) → (told : Told (P.left plan.old) (I.left input.old)) →
-        StopsRead (replies_of true told.asks) (I.left input.old) (I.left input.new) (Puts H.said H.clock H.since host.old host.new) status) }
-    ensures at_end { OnOk result (IsAtEnd (I.left input.new)) }
-    ensures legal { OnOk result (IsLegal (P.left plan.old)) }
-    ensures within { OnOk result (IsWithin (2 ^ 50) (I.left input.old)) }
-    ensures refused { IsErrOf result Status.Plan → IsRefused (P.left plan.old) }
-    ensures read { IsErrOf result Status.Read → Rose (P.faults plan.old) (P.faults plan.new) ⊎ (IsLegal (P.left plan.old) × Rose (I.faults input.old) (I.faults input.new)) }
-    ensures write { IsErrOf result Status.Write → IsLegal (P.left plan.old) × Rose (H.out_faults host.old) (H.out_faults host.new) }
-    ensures limit { IsErrOf result Status.Limit → IsLonger 65536 (P.left plan.old) ⊎ (IsLegal (P.left plan.old) × IsLonger (2 ^ 50) (I.left input.old)) }
-    ensures others { IfErr result (λ status. (status ≡ Status.Plan) ⊎ (status ≡ Status.Read) ⊎ (status ≡ Status.Limit) ⊎ (status ≡ Status.Memory) ⊎ (status ≡ Status.Write)) }
-    ensures plan_first { IsErrOf result Status.Plan → input.new ≡ input.old }
+    requires is_read { IsRead asked.now }
+    ensures completes { OnOk result ((all : List ℕ) → I.left input.old ≡ Some all → Puts H.said H.clock H.since host.old host.new (ended (asked_text command (planned asked.now) all))) }
+    ensures stops { IfErr result (λ status. (all : List ℕ) → I.left input.old ≡ Some all → (put : List ℕ) × Puts H.said H.clock H.since host.old host.new put × StopsAt status (asked_text command (planned asked.now) all) put) }
+    ensures stops_read { IfErr result (λ status. (status ≡ Status.Read) ⊎ (status ≡ Status.Limit) → StopsRead (asked_replies command (planned asked.now)) (I.left input.old) (I.left input.new) (Puts H.said H.clock H.since host.old host.new) status) }
+    ensures at_end { OnOk result (command ≡ Command.Run → IsAtEnd (I.left input.new)) }
+    ensures within { OnOk result (command ≡ Command.Run → IsWithin (2 ^ 50) (I.left input.old)) }
+    ensures read { IsErrOf result Status.Read → Rose (I.faults input.old) (I.faults input.new) }
+    ensures write { IsErrOf result Status.Write → Rose (H.out_faults host.old) (H.out_faults host.new) }
+    ensures limit { IsErrOf result Status.Limit → (command ≡ Command.Run) × IsLonger (2 ^ 50) (I.left input.old) }
+    ensures others { IfErr result (λ status. (status ≡ Status.Read) ⊎ (status ≡ Status.Limit) ⊎ (status ≡ Status.Memory) ⊎ (status ≡ Status.Write)) }
+    ensures no_input { command ≡ Command.Check → input.new ≡ input.old }
     ensures later_out { H.out_faults host.old ≤ H.out_faults host.new }
 {
-    let asked = load_plan(alloc, plan)?;
-    serve(alloc, &asked, input, host)
+    match command {
+        Command::Run => serve(alloc, asked, input, host),
+        Command::Check => check(alloc, asked, host),
+    }
 }
 
-/// Puts the last line of a status out. Its own failure leaves the status.
-fn end<H: Host>(host: &mut H, status: Status) -> Status
-    ensures status { result ≡ status }
-    ensures part { (part : List ℕ) × IsFront part (line_of status) × Puts H.said H.clock H.since host.old host.new part }
-    ensures whole { Puts H.said H.clock H.since host.old host.new (line_of status) ⊎ Rose (H.out_faults host.old) (H.out_faults host.new) }
+/// Reads the plan, and does with it what the command asks for.
+fn obey<P: Source, I: Source, H: Host>(
+    alloc: Global,
+    command: Command,
+    plan: &mut P,
+    input: &mut I,
+    host: &mut H,
+) -> Result<(), Ending>
+    ensures completes { OnOk result ((told : Told (P.left plan.old) (I.left input.old)) → Puts H.said H.clock H.since host.old host.new (ended (text_of (Some command) told.asks told.input_bytes))) }
+    ensures stops { IfErr result (λ ending. (told : Told (P.left plan.old) (I.left input.old)) → (put : List ℕ) × Puts H.said H.clock H.since host.old host.new put × StopsAt (ending_status ending) (text_of (Some command) told.asks told.input_bytes) put) }
+    ensures stops_read { IfErr result (λ ending. (ending_status ending ≡ Status.Read) ⊎ (ending_status ending ≡ Status.Limit) → (told : Told (P.left plan.old) (I.left input.old)) →
+        StopsRead (replies_of (Some command) told.asks) (I.left input.old) (I.left input.new) (Puts H.said H.clock H.since host.old host.new) (ending_status ending)) }
+    ensures line { IfErr result (λ ending. (told : Told (P.left plan.old) (I.left input.old)) → ending_line ending ≡ line_for told.asks (ending_status ending)) }
+    ensures at_end { OnOk result (command ≡ Command.Run → IsAtEnd (I.left input.new)) }
+    ensures legal { OnOk result (IsLegal (P.left plan.old)) }
+    ensures within { OnOk result (command ≡ Command.Run → IsWithin (2 ^ 50) (I.left input.old)) }
+    ensures refused { IfErr result (λ ending. ending_status ending ≡ Status.Plan → IsRefused (P.left plan.old)) }
+    ensures read { IfErr result (λ ending. ending_status ending ≡ Status.Read → Rose (P.faults plan.old) (P.faults plan.new) ⊎ (IsLegal (P.left plan.old) × Rose (I.faults input.old) (I.faults input.new))) }
+    ensures write { IfErr result (λ ending. ending_status ending ≡ Status.Write → IsLegal (P.left plan.old) × Rose (H.out_faults host.old) (H.out_faults host.new)) }
+    ensures limit { IfErr result (λ ending. ending_status ending ≡ Status.Limit → IsLonger 65536 (P.left plan.old) ⊎ (IsLegal (P.left plan.old) × (command ≡ Command.Run) × IsLonger (2 ^ 50) (I.left input.old))) }
+    ensures others { IfErr result (λ ending. (ending_status ending ≡ Status.Plan) ⊎ (ending_status ending ≡ Status.Read) ⊎ (ending_status ending ≡ Status.Limit) ⊎ (ending_status ending ≡ Status.Memory) ⊎ (ending_status ending ≡ Status.Write)) }
+    ensures plan_first { IfErr result (λ ending. ending_status ending ≡ Status.Plan → input.new ≡ input.old) }
+    ensures long_plan { (bytes : List ℕ) → P.left plan.old ≡ Some bytes → 65536 < length bytes → input.new ≡ input.old }
+    ensures read_first { IfErr result (λ ending. ending_status ending ≡ Status.Read → (input.new ≡ input.old) ⊎ Rose (I.faults input.old) (I.faults input.new)) }
+    ensures no_input { command ≡ Command.Check → input.new ≡ input.old }
     ensures later_out { H.out_faults host.old ≤ H.out_faults host.new }
 {
-    match put_all(host, status.last_line().as_bytes()) {
-        Ok(()) => status,
-        Err(_) => status,
+    let asked = match load_plan(alloc, plan) {
+        Ok(asked) => asked,
+        Err(ending) => return Err(ending),
+    };
+    match carry(alloc, command, &asked, input, host) {
+        Ok(()) => Ok(()),
+        Err(status) => Err(Ending::Failed(status)),
+    }
+}
+
+/// Puts the last line of a call that ends early. Its own failure leaves the status.
+fn end<H: Host>(host: &mut H, ending: &Ending) -> Status
+    ensures status { result ≡ ending_status ending.now }
+    ensures part { (part : List ℕ) × IsFront part (ending_line ending.now) × Puts H.said H.clock H.since host.old host.new part }
+    ensures whole { Puts H.said H.clock H.since host.old host.new (ending_line ending.now) ⊎ Rose (H.out_faults host.old) (H.out_faults host.new) }
+    ensures later_out { H.out_faults host.old ≤ H.out_faults host.new }
+{
+    match put_all(host, ending.last_line()) {
+        Ok(()) => ending.status(),
+        Err(_) => ending.status(),
     }
 }
 
@@ -96,42 +168,47 @@ fn carry_out<P: Source, I: Source, H: Host>(
     host: &mut H,
 ) -> Status
     ensures complete_run { result ≡ Status.Ok → (told : Told (P.left plan.old) (I.left input.old)) →
-        Puts H.said H.clock H.since host.old host.new (ended (text_of (words_are_run words.now) told.asks told.input_bytes)) }
-    ensures input_read { result ≡ Status.Ok → IsAtEnd (I.left input.new) }
+        Puts H.said H.clock H.since host.old host.new (ended (text_of (command_of words.now) told.asks told.input_bytes)) }
+    ensures input_read { result ≡ Status.Ok → command_of words.now ≡ Some Command.Run → IsAtEnd (I.left input.new) }
     ensures put_so_far { (told : Told (P.left plan.old) (I.left input.old)) → (put : List ℕ) × Puts H.said H.clock H.since host.old host.new put
-        × IsPut (text_of (words_are_run words.now) told.asks told.input_bytes) (line_of result) put }
+        × IsPut (text_of (command_of words.now) told.asks told.input_bytes) (line_for told.asks result) put }
     ensures last_line_whole { (told : Told (P.left plan.old) (I.left input.old)) → ((put : List ℕ) × Puts H.said H.clock H.since host.old host.new put
-        × StopsWith (text_of (words_are_run words.now) told.asks told.input_bytes) (line_of result) put)
+        × StopsWith (text_of (command_of words.now) told.asks told.input_bytes) (line_for told.asks result) put)
         ⊎ Rose (H.out_faults host.old) (H.out_faults host.new) }
     ensures replies_put { (result ≡ Status.Read) ⊎ (result ≡ Status.Limit) → (told : Told (P.left plan.old) (I.left input.old)) →
-        StopsRead (replies_of (words_are_run words.now) told.asks) (I.left input.old) (I.left input.new)
-        (λ text. Puts H.said H.clock H.since host.old host.new (text ++ line_of result)) result
+        StopsRead (replies_of (command_of words.now) told.asks) (I.left input.old) (I.left input.new)
+        (λ text. Puts H.said H.clock H.since host.old host.new (text ++ line_for told.asks result)) result
         ⊎ Rose (H.out_faults host.old) (H.out_faults host.new) }
-    ensures usage_only { result ≡ Status.Usage → words_are_run words.now ≡ false }
-    ensures usage_always { words_are_run words.now ≡ false → result ≡ Status.Usage }
-    ensures ok_only { result ≡ Status.Ok → IsLegal (P.left plan.old) × IsWithin (2 ^ 50) (I.left input.old) }
+    ensures usage_only { result ≡ Status.Usage → command_of words.now ≡ None }
+    ensures usage_always { command_of words.now ≡ None → result ≡ Status.Usage }
+    ensures ok_only { result ≡ Status.Ok → IsLegal (P.left plan.old) × (command_of words.now ≡ Some Command.Run → IsWithin (2 ^ 50) (I.left input.old)) }
     ensures plan_only { result ≡ Status.Plan → IsRefused (P.left plan.old) }
     ensures read_only { result ≡ Status.Read → Rose (P.faults plan.old) (P.faults plan.new) ⊎ (IsLegal (P.left plan.old) × Rose (I.faults input.old) (I.faults input.new)) }
     ensures write_only { result ≡ Status.Write → IsLegal (P.left plan.old) × Rose (H.out_faults host.old) (H.out_faults host.new) }
-    ensures limit_only { result ≡ Status.Limit → IsLonger 65536 (P.left plan.old) ⊎ (IsLegal (P.left plan.old) × IsLonger (2 ^ 50) (I.left input.old)) }
+    ensures limit_only { result ≡ Status.Limit → IsLonger 65536 (P.left plan.old) ⊎ (IsLegal (P.left plan.old) × (command_of words.now ≡ Some Command.Run) × IsLonger (2 ^ 50) (I.left input.old)) }
     ensures possible_only { IsPossible result }
     ensures usage_first { result ≡ Status.Usage → (plan.new ≡ plan.old) × (input.new ≡ input.old) }
     ensures plan_first { result ≡ Status.Plan → input.new ≡ input.old }
+    ensures long_plan { (bytes : List ℕ) → P.left plan.old ≡ Some bytes → 65536 < length bytes → input.new ≡ input.old }
+    ensures read_first { result ≡ Status.Read → (input.new ≡ input.old) ⊎ Rose (I.faults input.old) (I.faults input.new) }
+    ensures check_alone { command_of words.now ≡ Some Command.Check → input.new ≡ input.old }
 {
-    if !is_run(words) {
-        return end(host, Status::Usage);
-    }
-    match run(alloc, plan, input, host) {
+    let Some(command) = Command::named(words) else {
+        return end(host, &Ending::Failed(Status::Usage));
+    };
+    match obey(alloc, command, plan, input, host) {
         Ok(()) => Status::Ok,
-        Err(status) => end(host, status),
+        Err(ending) => end(host, &ending),
     }
 }
 
-/// Does all that the program does: with the words `run PLAN STORE` it answers the input by the plan.
+/// Does all that the program does: with the words `run PLAN STORE` it answers the input by the plan,
+/// and with `check PLAN` it prints the plan.
 ///
 /// `words` are those after the program's name. At most 65,536 bytes of `plan` and 2^50 bytes of
-/// `input` are taken, and one more where there is one. What is put out is the answer of each line, in order, and at last
-/// `done LINES EVENTS`; another status than Ok puts its last line behind whole lines of these.
+/// `input` are taken, and one more where there is one. What a run puts out is the answer of each
+/// line, in order, and at last `done LINES EVENTS`; what a check puts out is each query. Another
+/// status than Ok puts its last line behind whole lines of these.
 pub fn railgun<P: Source, I: Source, H: Host>(
     alloc: Global,
     words: &[String],
@@ -139,44 +216,48 @@ pub fn railgun<P: Source, I: Source, H: Host>(
     input: &mut I,
     host: &mut H,
 ) -> Status
-    // At status Ok the input was read to its end, and just the text that the definitions give was put out.
+    // At status Ok the input of a run was read to its end, and just the text that the definitions give was put out.
     ensures complete_run { result ≡ Status.Ok → (told : Told (P.left plan.old) (I.left input.old)) →
-        Puts H.said H.clock H.since host.old host.new (ended (text_of (words_are_run words.now) told.asks told.input_bytes)) }
-    ensures input_read { result ≡ Status.Ok → IsAtEnd (I.left input.new) }
+        Puts H.said H.clock H.since host.old host.new (ended (text_of (command_of words.now) told.asks told.input_bytes)) }
+    ensures input_read { result ≡ Status.Ok → command_of words.now ≡ Some Command.Run → IsAtEnd (I.left input.new) }
 
     // At each status, a front of that text was put out, or whole lines of it and a front of the status's last line.
     ensures put_so_far { (told : Told (P.left plan.old) (I.left input.old)) → (put : List ℕ) × Puts H.said H.clock H.since host.old host.new put
-        × IsPut (text_of (words_are_run words.now) told.asks told.input_bytes) (line_of result) put }
+        × IsPut (text_of (command_of words.now) told.asks told.input_bytes) (line_for told.asks result) put }
 
     // Unless a put failed, that last line is whole.
     ensures last_line_whole { (told : Told (P.left plan.old) (I.left input.old)) → ((put : List ℕ) × Puts H.said H.clock H.since host.old host.new put
-        × StopsWith (text_of (words_are_run words.now) told.asks told.input_bytes) (line_of result) put)
+        × StopsWith (text_of (command_of words.now) told.asks told.input_bytes) (line_for told.asks result) put)
         ⊎ Rose (H.out_faults host.old) (H.out_faults host.new) }
 
     // Where the input could not be read on, each line that LF ended was answered, and the last line follows, unless a put failed.
     ensures replies_put { (result ≡ Status.Read) ⊎ (result ≡ Status.Limit) → (told : Told (P.left plan.old) (I.left input.old)) →
-        StopsRead (replies_of (words_are_run words.now) told.asks) (I.left input.old) (I.left input.new)
-        (λ text. Puts H.said H.clock H.since host.old host.new (text ++ line_of result)) result
+        StopsRead (replies_of (command_of words.now) told.asks) (I.left input.old) (I.left input.new)
+        (λ text. Puts H.said H.clock H.since host.old host.new (text ++ line_for told.asks result)) result
         ⊎ Rose (H.out_faults host.old) (H.out_faults host.new) }
 
     // Each status has its cause. Memory alone is free.
-    ensures usage_only { result ≡ Status.Usage → words_are_run words.now ≡ false }
-    ensures usage_always { words_are_run words.now ≡ false → result ≡ Status.Usage }
-    ensures ok_only { result ≡ Status.Ok → IsLegal (P.left plan.old) × IsWithin (2 ^ 50) (I.left input.old) }
+    ensures usage_only { result ≡ Status.Usage → command_of words.now ≡ None }
+    ensures usage_always { command_of words.now ≡ None → result ≡ Status.Usage }
+    ensures ok_only { result ≡ Status.Ok → IsLegal (P.left plan.old) × (command_of words.now ≡ Some Command.Run → IsWithin (2 ^ 50) (I.left input.old)) }
     ensures plan_only { result ≡ Status.Plan → IsRefused (P.left plan.old) }
     ensures read_only { result ≡ Status.Read → Rose (P.faults plan.old) (P.faults plan.new) ⊎ (IsLegal (P.left plan.old) × Rose (I.faults input.old) (I.faults input.new)) }
     ensures write_only { result ≡ Status.Write → IsLegal (P.left plan.old) × Rose (H.out_faults host.old) (H.out_faults host.new) }
-    ensures limit_only { result ≡ Status.Limit → IsLonger 65536 (P.left plan.old) ⊎ (IsLegal (P.left plan.old) × IsLonger (2 ^ 50) (I.left input.old)) }
+    ensures limit_only { result ≡ Status.Limit → IsLonger 65536 (P.left plan.old) ⊎ (IsLegal (P.left plan.old) × (command_of words.now ≡ Some Command.Run) × IsLonger (2 ^ 50) (I.left input.old)) }
     ensures possible_only { IsPossible result }
 
-    // The words are looked at before the plan is read, and the plan before the input.
+    // The words are looked at before the plan is read, and the plan before the input: where the plan is refused, too
+    // long or can't be read, the input is left alone. A check leaves it alone in any case.
     ensures usage_first { result ≡ Status.Usage → (plan.new ≡ plan.old) × (input.new ≡ input.old) }
     ensures plan_first { result ≡ Status.Plan → input.new ≡ input.old }
+    ensures long_plan { (bytes : List ℕ) → P.left plan.old ≡ Some bytes → 65536 < length bytes → input.new ≡ input.old }
+    ensures read_first { result ≡ Status.Read → (input.new ≡ input.old) ⊎ Rose (I.faults input.old) (I.faults input.new) }
+    ensures check_alone { command_of words.now ≡ Some Command.Check → input.new ≡ input.old }
 
     // Where no count of faults rose, the status is the one that words, plan and input call for, or Memory.
     ensures completes { (told : Told (P.left plan.old) (I.left input.old)) →
         ¬ (Rose (P.faults plan.old) (P.faults plan.new) ⊎ Rose (I.faults input.old) (I.faults input.new) ⊎ Rose (H.out_faults host.old) (H.out_faults host.new)) →
-        (result ≡ status_for (words_are_run words.now) told.plan_bytes told.asks told.input_bytes) ⊎ (result ≡ Status.Memory) }
+        (result ≡ status_for (command_of words.now) told.plan_bytes told.asks told.input_bytes) ⊎ (result ≡ Status.Memory) }
 {
     carry_out(alloc, words, plan, input, host)
 }

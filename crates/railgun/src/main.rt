@@ -1,9 +1,11 @@
-//! Answers each payment with how many of its card lie in the window that ends at that payment.
+//! Answers each payment with exact metrics over windows that end at that payment.
 #![tactic(auto)]
 
 mod arrival;
 mod call;
-mod plan;
+mod check;
+mod command;
+mod ending;
 mod put;
 mod real;
 mod run;

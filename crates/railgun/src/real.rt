@@ -134,3 +134,21 @@ impl<W: Write + Drop> Host for WriterHost<W> {
         }
     }
 }
+
+#[cfg(test)]
+mod tests {
+    use super::ReaderSource;
+    use rg_host::{Failed, Source};
+
+    #[test]
+    fn a_reader_gives_its_bytes_and_then_its_end(rt: HostRuntime) -> Result<(), Failed> {
+        let mut source = ReaderSource::new(b"abc".as_slice());
+        let mut buf = [0; 2];
+        assert_eq!(rt; source.read(&mut buf)?, 2);
+        assert_eq!(rt; buf, *b"ab");
+        assert_eq!(rt; source.read(&mut buf)?, 1);
+        assert_eq!(rt; buf[0], b'c');
+        assert_eq!(rt; source.read(&mut buf)?, 0);
+        Ok(())
+    }
+}

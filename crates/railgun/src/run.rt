@@ -1,10 +1,10 @@
 ghost use Rattle.std.specs.Prelude.{◌≡◌, ◌⊎◌, ◌≤◌, ◌<◌, ◌+◌, ◌^◌, ◌++◌, ◌∷◌, [], ℕ, List, Option, IsTrue, false, IfOk, IfErr, OnOk, OnErr, IsErrOf, Err};
 
 use crate::arrival::{Arrival, next_arrival};
-use crate::plan::Plan;
 use crate::put::put;
 use crate::session::Session;
 use crate::status::Status;
+use rg_config::Plan;
 use rg_host::{Host, Lines, Source};
 use rg_reply::{Mark, write_mark, write_reply};
 use std::alloc::Global;
@@ -22,23 +22,27 @@ pub struct Run {
 
 impl Run {
     ghost use Rattle.rg_bytes.specs.Counts.{Rose};
+    ghost use Rattle.rg_config.specs.Plans.{planned};
     ghost use Rattle.rg_host.specs.Puts.{Puts};
+    ghost use Rattle.railgun.specs.Plan.{IsRead};
+    ghost use Rattle.railgun.specs.Session.{IsFor};
     ghost use Rattle.railgun.specs.Turn.{IsBetween, Takes, TakesNone, Answers, Finishes, Refuses, IsCut, done_text};
 
-    /// A run before its first line, whose windows are so many milliseconds long.
-    pub fn new(alloc: Global, window: u64) -> Result<Run, Status>
+    /// A run before its first line, which answers the plan's queries.
+    pub fn new(alloc: Global, plan: &Plan) -> Result<Run, Status>
+        requires read { IsRead plan.now }
         ensures between { IfOk result IsBetween }
         ensures pending { IfOk result (λ run. run.lines.pending ≡ []) }
         ensures taken { IfOk result (λ run. run.lines.taken ≡ 0) }
         ensures still { IfOk result (λ run. run.lines.ended ≡ false) }
         ensures events { IfOk result (λ run. run.session.events ≡ []) }
-        ensures window { IfOk result (λ run. run.session.window ≡ window) }
+        ensures session { IfOk result (λ run. IsFor (planned plan.now) run.session) }
         ensures offset { IfOk result (λ run. run.offset ≡ 0) }
         ensures memory { IfErr result (λ status. status ≡ Status.Memory) }
     {
         Ok(Run {
             lines: Lines::new(alloc)?,
-            session: Session::new(alloc, window),
+            session: Session::new(alloc, &plan.parsed, plan.room.limit)?,
             text: Vec::new(alloc),
             offset: 0,
         })
@@ -55,16 +59,16 @@ impl Run {
         host: &mut H,
     ) -> Result<bool, Status>
         requires between { IsBetween self.old }
-        requires window { self.old.session.window ≡ plan.now.window }
+        requires session { IsFor (planned plan.now) self.old.session }
         ensures between { IfOk result (λ more. IsTrue more → IsBetween self.new) }
-        ensures answers { IfOk result (λ more. IsTrue more → Answers plan.now self.old self.new (I.left input.old) (I.left input.new) (Puts H.said H.clock H.since host.old host.new)) }
+        ensures answers { IfOk result (λ more. IsTrue more → Answers (planned plan.now) self.old self.new (I.left input.old) (I.left input.new) (Puts H.said H.clock H.since host.old host.new)) }
         ensures finishes { IfOk result (λ more. more ≡ false → Finishes self.old self.new (I.left input.old) (I.left input.new) (Puts H.said H.clock H.since host.old host.new)) }
 
         // A refusal takes some bytes; only a failed put is one within an answer.
         ensures took { OnErr result ((got : List ℕ) × Takes self.old.lines self.new.lines (I.left input.old) (I.left input.new) got) }
         ensures took_none { IfErr result (λ status. (status ≡ Status.Read) ⊎ (status ≡ Status.Limit) → TakesNone self.old.lines self.new.lines (I.left input.old) (I.left input.new) status) }
         ensures quiet { OnErr result ((result ≡ Err Status.Write) ⊎ (host.new ≡ host.old)) }
-        ensures cut { IsErrOf result Status.Write → Refuses plan.now self.old self.new (I.left input.old) (I.left input.new) (Puts H.said H.clock H.since host.old host.new) }
+        ensures cut { IsErrOf result Status.Write → Refuses (planned plan.now) self.old self.new (I.left input.old) (I.left input.new) (Puts H.said H.clock H.since host.old host.new) }
 
         ensures read { IsErrOf result Status.Read → Rose (I.faults input.old) (I.faults input.new) }
         ensures write { IsErrOf result Status.Write → Rose (H.out_faults host.old) (H.out_faults host.new) }

@@ -1,4 +1,5 @@
-ghost use Rattle.std.specs.Prelude.{◌≡◌, ◌≤◌, ◌<◌, ◌^◌, [], length, Some, Option, IfOk, OnOk};
+ghost use Rattle.std.specs.Prelude.{◌≡◌, ◌≤◌, ◌<◌, ◌^◌, [], length, map, Some, Option, IfOk, OnOk, All};
+ghost use Rattle.rg_metric.specs.Queries.{asked, IsCounting};
 ghost use Rattle.std.specs.List.{list_any};
 ghost use Rattle.std.specs.Prelude.{nat_lt};
 ghost use Rattle.railgun.specs.Session.{Follows};
@@ -7,12 +8,10 @@ ghost use Rattle.railgun.specs.Output.{verdict_of, with_verdict, reply_of};
 use rg_bytes::Memory;
 use rg_engine::{EngineFault, FirstEngine, Reply};
 use rg_event::Event;
+use rg_metric::Query;
 use rg_past::{PastFault, VecPast};
 use std::alloc::Global;
 use std::marker::Model;
-
-/// How many events there may be.
-const MOST_EVENTS: u64 = 1 << 40;
 
 /// The events accepted so far, and the engine that answers the next one.
 #[derive(Debug, Drop)]
@@ -22,25 +21,32 @@ pub struct Session {
 }
 
 impl Model for Session {
-    ghost use Rattle.railgun.specs.Session.{Accepting, IsKept};
+    ghost use Rattle.rg_past.specs.Held.{IsSound};
+    ghost use Rattle.railgun.specs.Session.{Accepting};
+    ghost use Rattle.railgun.specs.Codes.{accepting_code};
 
     ghost Value = { Accepting };
 
-    ghost view = { λ s. record { events = s.past.events; window = s.engine } };
+    ghost coded = { accepting_code };
 
-    ghost invariant = { λ s. IsKept s.past };
+    ghost view = { λ s. record { events = s.past.events; queries = s.engine; most = s.past.limit } };
+
+    ghost invariant = { λ s. IsSound s.past };
 }
 
 impl Session {
-    /// A session without events, whose windows are so many milliseconds long.
-    pub fn new(alloc: Global, window: u64) -> Session
-        ensures events { result.events ≡ [] }
-        ensures window { result.window ≡ window }
+    /// A session without events, which answers the queries and accepts at most so many events.
+    pub fn new(alloc: Global, queries: &[Query], most: u64) -> Result<Session, Memory>
+        requires counting { All IsCounting (map asked queries.now) }
+        requires most { most ≤ 2 ^ 40 }
+        ensures events { IfOk result (λ session. session.events ≡ []) }
+        ensures queries { IfOk result (λ session. session.queries ≡ map asked queries.now) }
+        ensures most { IfOk result (λ session. session.most ≡ most) }
     {
-        Session {
-            past: VecPast::new(alloc, MOST_EVENTS),
-            engine: FirstEngine::new(window),
-        }
+        Ok(Session {
+            past: VecPast::new(alloc, most),
+            engine: FirstEngine::new(alloc, queries)?,
+        })
     }
 
     /// How many events were accepted.
@@ -64,9 +70,9 @@ impl Session {
     /// Want of memory ends the session.
     pub fn answer(&mut self, alloc: Global, look: Result<Event, Reply>) -> Result<Reply, Memory>
         requires { Follows self.old.events look }
-        ensures reply { IfOk result (λ reply. reply ≡ reply_of self.old.window self.old.events (verdict_of self.old.events look)) }
-        ensures events { OnOk result (self.new.events ≡ with_verdict self.old.events (verdict_of self.old.events look)) }
-        ensures window { self.new.window ≡ self.old.window }
+        ensures reply { IfOk result (λ reply. reply ≡ reply_of self.old.queries self.old.events (verdict_of self.old.most self.old.events look)) }
+        ensures events { OnOk result (self.new.events ≡ with_verdict self.old.events (verdict_of self.old.most self.old.events look)) }
+        ensures same { (self.new.queries ≡ self.old.queries) × (self.new.most ≡ self.old.most) }
     {
         let event = match look {
             Err(reply) => return Ok(reply),

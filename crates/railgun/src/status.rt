@@ -61,18 +61,22 @@ impl Status {
         }
     }
 
-    /// The last line that is put out at this status.
+    /// The last line that is put out at this status, but for a refused plan, whose line says why.
     pub fn last_line(self) -> &'static str
         ensures { result.now ≡ last_line self }
     {
         match self {
             Status::Usage => "refused usage\n",
-            Status::Plan => "refused plan settings\n",
             Status::Read => "failed read\n",
             Status::Disk => "failed disk\n",
             Status::Limit => "failed limit\n",
             Status::Memory => "failed memory\n",
-            Status::Ok | Status::Store | Status::Write | Status::Gap | Status::Differs => "",
+            Status::Ok
+            | Status::Plan
+            | Status::Store
+            | Status::Write
+            | Status::Gap
+            | Status::Differs => "",
         }
     }
 }

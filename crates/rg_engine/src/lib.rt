@@ -1,13 +1,12 @@
 //! From events to answers.
 #![tactic(auto)]
 
-mod answer;
+mod counter;
 mod fault;
 mod first;
-mod key;
 mod reply;
 
-pub use answer::{Answer, Answers};
 pub use fault::EngineFault;
 pub use first::FirstEngine;
 pub use reply::Reply;
+pub use rg_metric::{Answer, Answers};

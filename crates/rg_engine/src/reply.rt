@@ -1,4 +1,4 @@
-use crate::answer::Answers;
+use rg_metric::Answers;
 
 /// What is answered to a line.
 #[derive(Debug, Drop)]

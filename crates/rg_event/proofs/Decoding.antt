@@ -32,7 +32,7 @@ pub number_short : (bytes : List ℕ) → length bytes < 8 → number_at bytes �
 unfolding number_at
 number_short bytes few = rw (bytes_short 8 bytes few) refl
 
-unsigned_fits : (number : ℤ) → FitsSigned w64 number → cast_unsigned w64 number < 2 ^ 64
+pub unsigned_fits : (number : ℤ) → FitsSigned w64 number → cast_unsigned w64 number < 2 ^ 64
 unsigned_fits (pos n) fits = omega (arith, fits.sfits)
 unsigned_fits (negsuc n) fits = omega (arith, fits.sfits)
 

@@ -3,7 +3,9 @@ pub mod Fronts
 pub mod Names
 pub mod Readable
 pub mod Utf8
+pub mod Words
 pub mod Keeping
 pub mod Decoding
 pub mod ColumnValues
 pub mod RoundTrip
+pub mod TaggedValues

@@ -1,12 +1,8 @@
 -- What is written is read back, whatever follows.
-use Rattle.std.proofs.Common.{◌≡◌, ◌≤◌, ◌+◌, ◌++◌, ◌&&◌, ℕ, ℤ, pos, negsuc, Bool, true, false, nat_le, List, [], ◌∷◌, length, All, ◌⊎◌, inl, inr, Result, Ok, Err, refl, ap, append_assoc, arith}
-use Rattle.std.proofs.lemmas.Grind.{common_steps}
-use Rattle.std.proofs.lemmas.List.Elements.{All-nil, All-cons}
+use Rattle.std.proofs.Common.{◌≡◌, ◌≤◌, ◌+◌, ◌++◌, ℕ, ℤ, pos, negsuc, true, false, List, [], ◌∷◌, length, ◌⊎◌, inl, inr, Result, Ok, Err, refl, ap, append_assoc, arith}
 use Rattle.std.specs.Int.{w64, to_be_bytes}
 use Rattle.std.specs.Int.RustNames.{FitsSigned, unsigned_abs}
-use Rattle.std.specs.Str.{is_utf8}
-use Rattle.rg_event.specs.Parsing.{is_word}
-use Rattle.rg_event.specs.Codec.{Agrees, Reading, event_bytes, value_bytes, values_bytes, IsValueOf, AreValuesOf, IsEventOf, IsShort, HasShortTexts, value_at, values_at, event_at}
+use Rattle.rg_event.specs.Codec.{Agrees, Reading, event_bytes, value_bytes, values_bytes, IsValueOf, AreValuesOf, IsEventOf, value_at, values_at, event_at}
 use Rattle.rg_event.specs.declared.codec.EventFault.{EventFault}
 use Rattle.rg_event.specs.declared.codec.EventFault.TheVariants.{Memory}
 use Rattle.rg_event.specs.declared.event.Event.{Event}
@@ -15,23 +11,17 @@ use Rattle.rg_event.specs.declared.value.Kind.{Kind}
 use Rattle.rg_event.specs.declared.value.Kind.TheVariants.{Int, Id, Text, Flag}
 use Rattle.rg_event.specs.declared.value.Value.{Value}
 use Rattle.rg_event.specs.declared.value.Value.TheVariants.{Int as IntValue, Id as IdValue, Text as TextValue, Flag as FlagValue}
+use Rattle.rg_event.proofs.Words.{text_of_word}
 use Rattle.rg_event.proofs.Decoding.{number_up_to_read, int_read, id_read, text_read, flag_false, flag_true, event_read}
-
-is_text : (text : List ℕ) → is_word text ≡ true → is_utf8 text ≡ true
-is_text text word = by_test (is_utf8 text) (nat_le (length text) 255) word
-  where
-    by_test : (valid short : Bool) → (valid && short) ≡ true → valid ≡ true
-    by_test true short both = refl
-    by_test false short both = both
 
 fits : (number : ℤ) → unsigned_abs number ≤ 1000000000000 → FitsSigned w64 number
 fits (pos n) small = record { sfits = omega arith }
 fits (negsuc n) small = record { sfits = omega arith }
 
-value_reads_back : (kind : Kind) (column : ℕ) (value : Value) (rest : List ℕ) → IsValueOf kind value → value_at kind column (value_bytes value ++ rest) ≡ Ok (value, rest)
+pub value_reads_back : (kind : Kind) (column : ℕ) (value : Value) (rest : List ℕ) → IsValueOf kind value → value_at kind column (value_bytes value ++ rest) ≡ Ok (value, rest)
 value_reads_back Int column (IntValue number) rest is = int_read column _ number rest (fits number is) refl is
 value_reads_back Id column (IdValue number) rest is = id_read _ number rest is refl
-value_reads_back Text column (TextValue text) rest is = text_read column _ (length text) (text ++ rest) text rest refl refl refl (is_text text is)
+value_reads_back Text column (TextValue text) rest is = text_read column _ (length text) (text ++ rest) text rest refl refl refl (text_of_word text is)
 value_reads_back Flag column (FlagValue false) rest is = flag_false column _ 0 rest refl refl
 value_reads_back Flag column (FlagValue true) rest is = flag_true column _ 1 rest refl refl
 value_reads_back kind column value rest is = absurd is
@@ -50,37 +40,17 @@ event_reads_back fields event old rest is stood =
     (number_up_to_read _ _ event.time left (omega (arith, is.time)) refl is.time)
     (values_read_back fields 1 event.values rest is.values)
 
-one_answer : (reading : Reading Event) (first second : Event × List ℕ) → reading ≡ Ok first → reading ≡ Ok second → first ≡ second
+pub one_answer : {A : Type 0} (reading : Reading A) (first second : A × List ℕ) → reading ≡ Ok first → reading ≡ Ok second → first ≡ second
 one_answer reading first second one two = cc
 
-no_fault : (reading : Reading Event) (fault : EventFault) (read : Event × List ℕ) → reading ≡ Err fault → reading ≡ Ok read → ⊥
+no_fault : {A : Type 0} (reading : Reading A) (fault : EventFault) (read : A × List ℕ) → reading ≡ Err fault → reading ≡ Ok read → ⊥
 no_fault reading fault read one two = cc
 
--- what agrees with a reading that gives an event is that event
-pub agrees_with : (reading : Reading Event) (result : Result Event EventFault) (left : List ℕ) (event : Event) (rest : List ℕ) → Agrees reading result left → reading ≡ Ok (event, rest)
-    → ((result ≡ Ok event) × (left ≡ rest)) ⊎ (result ≡ Err Memory)
-agrees_with reading (Ok value) left event rest agrees is =
-    let same = one_answer reading (value, left) (event, rest) agrees is in
-    inl (ap (λ (read : Event × List ℕ). Ok read.0) same, ap (λ (read : Event × List ℕ). read.1) same)
-agrees_with reading (Err fault) left event rest (inl agrees) is = absurd (no_fault reading fault (event, rest) agrees is)
-agrees_with reading (Err fault) left event rest (inr memory) is = inr (ap (λ (e : EventFault). Err e) memory)
-
--- an event of a schema can be written
-
-short_word : (text : List ℕ) → is_word text ≡ true → length text ≤ 255
-short_word text word = grind (arith, common_steps)
-
-short_value : (kind : Kind) (value : Value) → IsValueOf kind value → IsShort value
-short_value kind (IntValue number) is = tt
-short_value kind (IdValue number) is = tt
-short_value kind (FlagValue flag) is = tt
-short_value Text (TextValue text) is = short_word text is
-short_value kind (TextValue text) is = absurd is
-
-short_values : (fields : List Field) (values : List Value) → AreValuesOf fields values → All IsShort values
-short_values [] [] are = All-nil IsShort
-short_values (field ∷ fields) (value ∷ values) are = All-cons IsShort value values (short_value field.kind value are.0) (short_values fields values are.1)
-short_values fields values are = absurd are
-
-pub has_short_texts : (fields : List Field) (event : Event) → IsEventOf fields event → HasShortTexts event
-has_short_texts fields event is = short_values fields event.values is.values
+-- what agrees with a reading that gives something is that
+pub agrees_with : {A : Type 0} (reading : Reading A) (result : Result A EventFault) (left : List ℕ) (given : A) (rest : List ℕ) → Agrees reading result left → reading ≡ Ok (given, rest)
+    → ((result ≡ Ok given) × (left ≡ rest)) ⊎ (result ≡ Err Memory)
+agrees_with {A} reading (Ok value) left given rest agrees is =
+    let same = one_answer reading (value, left) (given, rest) agrees is in
+    inl (ap (λ (read : A × List ℕ). Ok read.0) same, ap (λ (read : A × List ℕ). read.1) same)
+agrees_with reading (Err fault) left given rest (inl agrees) is = absurd (no_fault reading fault (given, rest) agrees is)
+agrees_with reading (Err fault) left given rest (inr memory) is = inr (ap (λ (e : EventFault). Err e) memory)

@@ -1,9 +1,9 @@
 -- The bytes of an event: offset, time, and its values by column.
-use Rattle.std.specs.Prelude.{◌≡◌, ◌⊎◌, ℕ, ◌+◌, ◌^◌, ◌<◌, ◌≤◌, ◌==◌, nat_le, Bool, List, [], ◌∷◌, ◌++◌, length, take, drop, Result, Ok, Err, unsigned_abs, All, IsTrue, if◌then◌else◌}
+use Rattle.std.specs.Prelude.{◌≡◌, ◌⊎◌, ℕ, ◌+◌, ◌^◌, ◌<◌, ◌≤◌, ◌==◌, nat_le, Bool, List, [], ◌∷◌, ◌++◌, length, take, drop, Result, Ok, Err, unsigned_abs, IsTrue, if◌then◌else◌}
 use Rattle.std.specs.Int.{w64, to_be_bytes, from_be_bytes, cast_signed, cast_unsigned}
 use Rattle.std.specs.List.{AllZip}
 use Rattle.std.specs.Str.{is_utf8}
-use Rattle.rg_event.specs.Parsing.{is_word}
+use Rattle.rg_event.specs.Words.{is_word}
 use Rattle.rg_event.specs.declared.codec.EventFault.{EventFault}
 use Rattle.rg_event.specs.declared.codec.EventFault.TheVariants.{Short, BadValue, Memory}
 use Rattle.rg_event.specs.declared.event.Event.{Event}
@@ -28,17 +28,6 @@ values_bytes (value ∷ values) = value_bytes value ++ values_bytes values
 -- offset and time in 8 bytes each, the highest byte first, and the values
 abbrev pub event_bytes : Event → List ℕ
 event_bytes event = to_be_bytes w64 event.offset ++ (to_be_bytes w64 event.time ++ values_bytes event.values)
-
--- a text's length fits its byte
-abbrev pub IsShort : Value → Type 0
-IsShort (IntValue number) = Unit {0}
-IsShort (IdValue number) = Unit {0}
-IsShort (TextValue text) = length text ≤ 255
-IsShort (FlagValue flag) = Unit {0}
-
--- an event whose texts all have at most 255 bytes
-abbrev pub HasShortTexts : Event → Type 0
-HasShortTexts event = All IsShort event.values
 
 -- a value of a column of this kind
 abbrev pub IsValueOf : Kind → Value → Type 0

@@ -1,8 +1,9 @@
 -- What a text says as a value of a column.
-use Rattle.std.specs.Prelude.{ℕ, nat_le, ◌&&◌, ◌||◌, Bool, true, false, List, length, Option, Some, None, ℤ, unsigned_abs, codes, if◌then◌else◌}
+use Rattle.std.specs.Prelude.{ℕ, nat_le, ◌||◌, Bool, true, false, List, Option, Some, None, ℤ, unsigned_abs, codes, if◌then◌else◌}
 use Rattle.std.specs.Option.{option_map}
-use Rattle.std.specs.Str.{is_utf8, bytes_eq}
+use Rattle.std.specs.Str.{bytes_eq}
 use Rattle.rg_bytes.specs.Numbers.{whole_of, signed_of}
+use Rattle.rg_event.specs.Words.{is_word}
 use Rattle.rg_event.specs.declared.value.Kind.{Kind}
 use Rattle.rg_event.specs.declared.value.Kind.TheVariants.{Int, Id, Text, Flag}
 use Rattle.rg_event.specs.declared.value.Value.{Value}
@@ -12,10 +13,6 @@ use Rattle.rg_event.specs.declared.value.Value.TheVariants.{Int as IntValue, Id 
 abbrev pub in_range : Option ℤ → Option ℤ
 in_range (Some n) = if nat_le (unsigned_abs n) 1000000000000 then Some n else None
 in_range None = None
-
--- UTF-8 of at most 255 bytes
-abbrev pub is_word : List ℕ → Bool
-is_word text = is_utf8 text && nat_le (length text) 255
 
 -- true and 1, false and 0
 abbrev pub flag_of : List ℕ → Option Bool

@@ -2,17 +2,19 @@ mod decoder;
 mod encoder;
 
 pub use decoder::decode;
+pub(crate) use decoder::read_value;
 pub use encoder::encode;
+pub(crate) use encoder::put_value;
 use rg_bytes::{Memory, Short};
 use std::error::Error;
 use std::fmt;
 
-/// Why bytes begin with no event.
+/// Why bytes begin with no event, or with no tagged value.
 #[derive(Clone, Copy, Debug, PartialEq, Eq, Hash)]
 pub enum EventFault {
     /// They end before a field does, and no field before it is bad.
     Short,
-    /// The first bad field is this one: 0 for the offset or the time, or a column from 1.
+    /// The first bad field is this one: 0 for the offset, the time or a tagged value, or a column from 1.
     BadValue(u32),
     /// Memory ran out.
     Memory,

@@ -40,7 +40,10 @@ mod tests {
         let mut values = Values::new(alloc);
         values.push(Value::Int(-3))?;
         values.push(Value::Id(u64::MAX))?;
-        values.push(Value::Text(Word::new(alloc, b"card")?))?;
+        match Word::new(alloc, b"card")? {
+            Some(word) => values.push(Value::Text(word))?,
+            None => panic!(rt; "no text"),
+        }
         values.push(Value::Flag(true))?;
         let event = Event {
             offset: 40,

@@ -3,16 +3,24 @@
 
 mod codec;
 mod event;
+mod lists;
 mod name;
 mod parse;
+mod room;
 mod schema;
+mod steps;
+mod tagged;
 mod value;
 mod word;
 
 pub use codec::{EventFault, decode, encode};
 pub use event::Event;
+pub use lists::{Bytes, Events, Texts};
 pub use name::Name;
 pub use parse::parse_value;
+pub use room::Room;
 pub use schema::{Field, Schema, SchemaFault};
+pub use steps::Steps;
+pub use tagged::{get_tagged, put_tagged};
 pub use value::{Kind, Value, Values};
 pub use word::Word;

@@ -1,6 +1,6 @@
 ghost use Rattle.std.specs.Prelude.{◌≡◌, IfOk};
 ghost use Rattle.rg_bytes.specs.Numbers.{signed_of};
-ghost use Rattle.rg_event.specs.Parsing.{in_range, is_word as word_test, flag_of, value_of};
+ghost use Rattle.rg_event.specs.Parsing.{in_range, flag_of, value_of};
 
 use crate::value::{Kind, Value};
 use crate::word::Word;
@@ -10,9 +10,6 @@ use std::alloc::Global;
 /// The greatest integer of a column, and with a minus the least.
 const GREATEST_INT: u64 = 1_000_000_000_000;
 
-/// The greatest length of a column's text, in bytes.
-const LONGEST_TEXT: usize = 255;
-
 /// Reads a text as a value of this kind. It answers `None` where the text is not one.
 pub fn parse_value(alloc: Global, kind: Kind, text: &[u8]) -> Result<Option<Value>, Memory>
     ensures { IfOk result (λ value. value ≡ value_of kind text.now) }
@@ -20,12 +17,7 @@ pub fn parse_value(alloc: Global, kind: Kind, text: &[u8]) -> Result<Option<Valu
     match kind {
         Kind::Int => Ok(parse_int(text).map(Value::Int)),
         Kind::Id => Ok(read_whole(text).map(Value::Id)),
-        Kind::Text => {
-            if !is_word(text) {
-                return Ok(None);
-            }
-            Ok(Some(Value::Text(Word::new(alloc, text)?)))
-        }
+        Kind::Text => Ok(Word::new(alloc, text)?.map(Value::Text)),
         Kind::Flag => Ok(parse_flag(text).map(Value::Flag)),
     }
 }
@@ -39,13 +31,6 @@ fn parse_int(text: &[u8]) -> Option<i64>
     } else {
         None
     }
-}
-
-#[tactic(auto, using(crate::proofs::Utf8::true_where_valid, crate::proofs::Utf8::false_where_invalid))]
-fn is_word(text: &[u8]) -> bool
-    ensures { result ≡ word_test text.now }
-{
-    text.len() <= LONGEST_TEXT && str::from_utf8(text).is_ok()
 }
 
 fn parse_flag(text: &[u8]) -> Option<bool>

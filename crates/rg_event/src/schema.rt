@@ -99,6 +99,7 @@ impl Schema {
     pub fn fields(&self) -> &[Field]
         ensures columns { result.now ≡ self.now.fields }
         ensures few { length result.now ≤ 32 }
+        ensures legal { IsSchemaShape self.now }
     {
         &self.fields
     }

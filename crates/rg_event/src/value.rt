@@ -1,4 +1,5 @@
 ghost use Rattle.std.specs.Prelude.{◌≡◌, [], ◌∷◌, ◌++◌, OnOk, OnErr, IfOk};
+ghost use Rattle.rg_event.specs.Tagged.{value_kind, IsStorable};
 
 use crate::word::Word;
 use rg_bytes::Memory;
@@ -28,6 +29,28 @@ pub enum Value {
 }
 
 impl Value {
+    /// What kind of value it is. To know the range of what it holds, a caller asks here.
+    pub fn kind(&self) -> Kind
+        ensures kind { result ≡ value_kind self.now }
+        ensures storable { IsStorable self.now }
+    {
+        match self {
+            Value::Int(number) => {
+                let _number = *number;
+                Kind::Int
+            }
+            Value::Id(number) => {
+                let _number = *number;
+                Kind::Id
+            }
+            Value::Text(word) => {
+                let _text = word.as_bytes();
+                Kind::Text
+            }
+            Value::Flag(_) => Kind::Flag,
+        }
+    }
+
     /// A value of the same kind, and equal.
     pub fn copy(&self, alloc: Global) -> Result<Value, Memory>
         ensures { IfOk result (λ value. value ≡ self.now) }

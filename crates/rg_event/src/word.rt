@@ -1,21 +1,28 @@
-ghost use Rattle.std.specs.Prelude.{◌≡◌, IfOk};
+ghost use Rattle.std.specs.Prelude.{◌≡◌, ◌≤◌, length, IfOk, IfSome, IfNone, IsTrue, false};
+ghost use Rattle.rg_event.specs.Words.{is_word as word_test};
 
 use rg_bytes::Memory;
 use std::alloc::Global;
 use std::marker::Model;
 
-/// A text of a value, as its bytes.
+/// The greatest length of a text, in bytes.
+const LONGEST_TEXT: usize = 255;
+
+/// A text of a value: UTF-8 of at most 255 bytes.
 #[derive(Debug, Drop)]
 pub struct Word {
     bytes: Vec<u8>,
 }
 
 impl Model for Word {
-    ghost use Rattle.std.specs.Prelude.{List, ℕ};
+    ghost use Rattle.std.specs.Prelude.{List, ℕ, IsTrue};
+    ghost use Rattle.rg_event.specs.Words.{is_word};
 
     ghost Value = { List ℕ };
 
     ghost view = { λ w. w.bytes.items };
+
+    ghost invariant = { λ w. IsTrue (is_word w.bytes.items) };
 }
 
 /// Two texts are equal where their bytes are.
@@ -40,24 +47,40 @@ impl Eq for Word {
 }
 
 impl Word {
-    /// The text with these bytes.
-    pub fn new(alloc: Global, text: &[u8]) -> Result<Word, Memory>
-        ensures { IfOk result (λ word. word ≡ text.now) }
+    /// The text with these bytes. It answers `None` where they aren't UTF-8, or are more than 255.
+    pub fn new(alloc: Global, text: &[u8]) -> Result<Option<Word>, Memory>
+        ensures same { IfOk result (λ word. IfSome word (λ it. it ≡ text.now)) }
+        ensures legal { IfOk result (λ word. IfSome word (λ _. IsTrue (word_test text.now))) }
+        ensures no_word { IfOk result (λ word. IfNone word (word_test text.now ≡ false)) }
     {
+        if !is_word(text) {
+            return Ok(None);
+        }
         let bytes = Vec::from_slice(alloc, text)?;
-        Ok(Word { bytes })
+        Ok(Some(Word { bytes }))
     }
 
     /// A text with the same bytes.
     pub fn copy(&self, alloc: Global) -> Result<Word, Memory>
         ensures { IfOk result (λ word. word ≡ self.now) }
     {
-        Word::new(alloc, self.as_bytes())
+        let bytes = Vec::from_slice(alloc, &self.bytes)?;
+        Ok(Word { bytes })
     }
 
+    #[tactic(auto, using(crate::proofs::Words::short_text))]
     pub fn as_bytes(&self) -> &[u8]
-        ensures { result.now ≡ self.now }
+        ensures same { result.now ≡ self.now }
+        ensures legal { IsTrue (word_test self.now) }
+        ensures short { length result.now ≤ 255 }
     {
         &self.bytes
     }
+}
+
+#[tactic(auto, using(crate::proofs::Utf8::true_where_valid, crate::proofs::Utf8::false_where_invalid))]
+fn is_word(text: &[u8]) -> bool
+    ensures { result ≡ word_test text.now }
+{
+    text.len() <= LONGEST_TEXT && str::from_utf8(text).is_ok()
 }

@@ -8,18 +8,34 @@ struct Setting<'a> {
     words: &'a [&'a str],
     plan: &'a [u8],
     input: &'a [u8],
+    failing_plan_reads: &'a [u64],
     failing_reads: &'a [u64],
     failing_puts: &'a [u64],
 }
 
 const RUN: [&str; 3] = ["run", "plan", "store"];
 
-const PAYMENTS: &[u8] = b"300000\npayments(ts,card:text,merchant:text,amount:int)\nplain\n";
+const CHECK: [&str; 2] = ["check", "plan"];
 
-const PAYMENTS_BEHIND_A_HEADER: &[u8] =
-    b"300000\npayments(ts,card:text,merchant:text,amount:int)\nheader\n";
+const PAYMENTS: &str = "\"ts\", \"card:text\", \"merchant:text\", \"amount:int\"";
 
-const TEN: &[u8] = b"10\npayments(ts,card:text)\nplain\n";
+const CARDS: &str = "\"ts\", \"card:text\"";
+
+const FIVE_MINUTES: &str = "SELECT count(*) FROM payments GROUP BY card OVER SLIDING 5 minutes";
+
+const TEN: &str = "SELECT count(*) FROM payments GROUP BY card OVER SLIDING 10 ms";
+
+const DEAR: &str =
+    "SELECT count(*) FROM payments WHERE amount > 100 GROUP BY card OVER SLIDING 5 minutes";
+
+const SMALL: &str = "cache = 1\nchunk = 2\ncommit = 2\nsave = 4\n";
+
+/// The text of a plan.
+fn plan_of(alloc: Global, query: &str, columns: &str, settings: &str) -> Result<String, Fail> {
+    Ok(format!(in alloc;
+        "queries = [\"{query}\"]\n\n[stream]\nname = \"payments\"\ncolumns = [{columns}]\n\n[settings]\n{settings}"
+    )?)
+}
 
 /// A run that nothing fails.
 fn sound<'a>(plan: &'a [u8], input: &'a [u8]) -> Setting<'a> {
@@ -27,6 +43,7 @@ fn sound<'a>(plan: &'a [u8], input: &'a [u8]) -> Setting<'a> {
         words: &RUN,
         plan,
         input,
+        failing_plan_reads: &[],
         failing_reads: &[],
         failing_puts: &[],
     }
@@ -38,7 +55,10 @@ fn outcome(alloc: Global, setting: &Setting<'_>) -> Result<(String, Status), Fai
     for word in setting.words {
         words.push(String::from_str(alloc, word)?)?;
     }
-    let mut plan = MemSource::new(setting.plan.to_vec(alloc)?, Vec::new(alloc));
+    let mut plan = MemSource::new(
+        setting.plan.to_vec(alloc)?,
+        setting.failing_plan_reads.to_vec(alloc)?,
+    );
     let mut input = MemSource::new(
         setting.input.to_vec(alloc)?,
         setting.failing_reads.to_vec(alloc)?,
@@ -56,27 +76,61 @@ fn outcome(alloc: Global, setting: &Setting<'_>) -> Result<(String, Status), Fai
 #[test]
 fn lines_are_answered_in_order(rt: HostRuntime) -> Result<(), Fail> {
     let alloc = rt.alloc();
-    let five_minutes = sound(
-        b"300000\npayments(ts,card:text)\nplain\n",
-        b"0,c1\n299999,c1\n300000,c1\n300000,c2\n",
-    );
-    let (text, status) = outcome(alloc, &five_minutes)?;
+    let plan = plan_of(alloc, FIVE_MINUTES, CARDS, "")?;
+    let input = b"0,c1\n299999,c1\n300000,c1\n300000,c2\n";
+    let (text, status) = outcome(alloc, &sound(plan.as_bytes(), input))?;
     assert_eq!(rt; text.as_str(), "0 ok 1\n1 ok 2\n2 ok 2\n3 ok 1\ndone 4 4\n");
     assert_eq!(rt; status, Status::Ok);
 
-    let (text, status) = outcome(alloc, &sound(TEN, b"10,c1\n9,c1\nx\n20,c1\n"))?;
+    let plan = plan_of(alloc, TEN, CARDS, "")?;
+    let (text, status) = outcome(alloc, &sound(plan.as_bytes(), b"10,c1\n9,c1\nx\n20,c1\n"))?;
     assert_eq!(rt;
         text.as_str(),
         "0 ok 1\n1 late\n2 fields\n3 ok 1\ndone 4 2\n"
     );
     assert_eq!(rt; status, Status::Ok);
 
-    let (text, status) = outcome(alloc, &sound(TEN, b"10,c1\n9,c1\n9,c1\n10,c1\n"))?;
+    let input = b"10,c1\n9,c1\n9,c1\n10,c1\n";
+    let (text, status) = outcome(alloc, &sound(plan.as_bytes(), input))?;
     assert_eq!(rt; text.as_str(), "0 ok 1\n1 late\n2 late\n3 ok 2\ndone 4 2\n");
     assert_eq!(rt; status, Status::Ok);
 
-    let (text, status) = outcome(alloc, &sound(TEN, b""))?;
+    let (text, status) = outcome(alloc, &sound(plan.as_bytes(), b""))?;
     assert_eq!(rt; text.as_str(), "done 0 0\n");
+    assert_eq!(rt; status, Status::Ok);
+    Ok(())
+}
+
+#[test]
+fn a_query_has_a_condition_and_a_delay(rt: HostRuntime) -> Result<(), Fail> {
+    let alloc = rt.alloc();
+    let input = b"0,c1,m1,100\n1,c1,m1,101\n2,c2,m1,500\n";
+    let plan = plan_of(alloc, DEAR, PAYMENTS, SMALL)?;
+    let (text, status) = outcome(alloc, &sound(plan.as_bytes(), input))?;
+    assert_eq!(rt; text.as_str(), "0 ok 0\n1 ok 1\n2 ok 1\ndone 3 3\n");
+    assert_eq!(rt; status, Status::Ok);
+
+    let delayed = "SELECT count(*) FROM payments OVER SLIDING 10 ms DELAYED BY 5 ms";
+    let plan = plan_of(alloc, delayed, CARDS, "")?;
+    let (text, status) = outcome(alloc, &sound(plan.as_bytes(), b"0,c1\n5,c1\n15,c1\n"))?;
+    assert_eq!(rt; text.as_str(), "0 ok 0\n1 ok 1\n2 ok 1\ndone 3 3\n");
+    assert_eq!(rt; status, Status::Ok);
+
+    let passed = "SELECT count(*) FROM payments OVER SLIDING 1 ms DELAYED BY 5 ms";
+    let plan = plan_of(alloc, passed, CARDS, "")?;
+    let (text, status) = outcome(alloc, &sound(plan.as_bytes(), b"0,c1\n100,c1\n"))?;
+    assert_eq!(rt; text.as_str(), "0 ok 0\n1 ok 0\ndone 2 2\n");
+    assert_eq!(rt; status, Status::Ok);
+    Ok(())
+}
+
+#[test]
+fn no_more_events_are_accepted_than_the_plan_allows(rt: HostRuntime) -> Result<(), Fail> {
+    let alloc = rt.alloc();
+    let plan = plan_of(alloc, DEAR, PAYMENTS, "events = 2\n")?;
+    let input = b"0,c1,m1,100\n1,c1,m1,101\n2,c2,m1,500\n";
+    let (text, status) = outcome(alloc, &sound(plan.as_bytes(), input))?;
+    assert_eq!(rt; text.as_str(), "0 ok 0\n1 ok 1\n2 full\ndone 3 2\n");
     assert_eq!(rt; status, Status::Ok);
     Ok(())
 }
@@ -84,13 +138,14 @@ fn lines_are_answered_in_order(rt: HostRuntime) -> Result<(), Fail> {
 #[test]
 fn a_line_is_refused_by_its_first_fault(rt: HostRuntime) -> Result<(), Fail> {
     let alloc = rt.alloc();
+    let plan = plan_of(alloc, FIVE_MINUTES, PAYMENTS, "")?;
     let mut input = Vec::new(alloc);
     input.extend_from_slice(b"1,\"c,1\",m1,7\n1,\"c1,m1,7\n\n1,c1,m1\n")?;
     input.extend_from_slice(b"1000000000000001,c1,m1,1\n2,c1,m1,1000000000001\n")?;
     let long = vec![in alloc; b'1'; 65_536]?;
     input.extend_from_slice(&long)?;
     input.push(b'\n')?;
-    let (text, status) = outcome(alloc, &sound(PAYMENTS, &input))?;
+    let (text, status) = outcome(alloc, &sound(plan.as_bytes(), &input))?;
     assert_eq!(rt;
         text.as_str(),
         "0 ok 1\n1 row\n2 row\n3 fields\n4 time\n5 value 3\n6 long\ndone 7 1\n"
@@ -99,15 +154,12 @@ fn a_line_is_refused_by_its_first_fault(rt: HostRuntime) -> Result<(), Fail> {
 
     let mut input = vec![in alloc; b'1'; 65_536]?;
     input.extend_from_slice(b"\n1,c1,m1,7\n")?;
-    let (text, status) = outcome(alloc, &sound(PAYMENTS, &input))?;
+    let (text, status) = outcome(alloc, &sound(plan.as_bytes(), &input))?;
     assert_eq!(rt; text.as_str(), "0 long\n1 ok 1\ndone 2 1\n");
     assert_eq!(rt; status, Status::Ok);
 
-    let odd = sound(
-        PAYMENTS,
-        b"1,c\"1\",m1,7\n1,c\r1,m1,7\n1,\xff,m1,7\n1,c1,m1,7\r\n",
-    );
-    let (text, status) = outcome(alloc, &odd)?;
+    let odd = b"1,c\"1\",m1,7\n1,c\r1,m1,7\n1,\xff,m1,7\n1,c1,m1,7\r\n";
+    let (text, status) = outcome(alloc, &sound(plan.as_bytes(), odd))?;
     assert_eq!(rt;
         text.as_str(),
         "0 row\n1 row\n2 value 1\n3 ok 1\ndone 4 1\n"
@@ -119,59 +171,101 @@ fn a_line_is_refused_by_its_first_fault(rt: HostRuntime) -> Result<(), Fail> {
 #[test]
 fn a_first_line_is_cleaned_and_may_be_a_header(rt: HostRuntime) -> Result<(), Fail> {
     let alloc = rt.alloc();
-    let header = sound(
-        PAYMENTS_BEHIND_A_HEADER,
-        b"ts,card,merchant,amount\r\n5,c1,m1,1\r\n",
-    );
-    let (text, status) = outcome(alloc, &header)?;
+    let plan = plan_of(alloc, FIVE_MINUTES, PAYMENTS, "header = true\n")?;
+    let header = b"ts,card,merchant,amount\r\n5,c1,m1,1\r\n";
+    let (text, status) = outcome(alloc, &sound(plan.as_bytes(), header))?;
     assert_eq!(rt; text.as_str(), "0 head\n1 ok 1\ndone 2 1\n");
     assert_eq!(rt; status, Status::Ok);
 
-    let marked = sound(PAYMENTS, b"\xef\xbb\xbf5,c1,m1,1\n\xef\xbb\xbf6,c1,m1,1\n");
-    let (text, status) = outcome(alloc, &marked)?;
+    let plan = plan_of(alloc, FIVE_MINUTES, PAYMENTS, "")?;
+    let marked = b"\xef\xbb\xbf5,c1,m1,1\n\xef\xbb\xbf6,c1,m1,1\n";
+    let (text, status) = outcome(alloc, &sound(plan.as_bytes(), marked))?;
     assert_eq!(rt; text.as_str(), "0 ok 1\n1 row\ndone 2 1\n");
     assert_eq!(rt; status, Status::Ok);
     Ok(())
 }
 
 #[test]
-fn bytes_that_say_no_plan_are_refused(rt: HostRuntime) -> Result<(), Fail> {
+fn a_check_prints_the_queries_and_leaves_the_input_alone(rt: HostRuntime) -> Result<(), Fail> {
     let alloc = rt.alloc();
-    let plans: [&[u8]; 6] = [
-        b"0\npayments(ts,card:text)\nplain\n",
-        b"1000000000000001\npayments(ts,card:text)\nplain\n",
-        b"10\npayments(ts)\nplain\n",
-        b"10\npayments(ts,card:text)\nplain",
-        b"10\npayments(ts,card:text)\nPlain\n",
-        b"10\n",
-    ];
-    for plan in plans {
-        let (text, status) = outcome(alloc, &sound(plan, b"1,c1\n"))?;
-        assert_eq!(rt; text.as_str(), "refused plan settings\n");
-        assert_eq!(rt; status, Status::Plan);
-    }
+    let plan = plan_of(alloc, DEAR, PAYMENTS, SMALL)?;
+    let check = Setting {
+        words: &CHECK,
+        failing_reads: &[0],
+        ..sound(plan.as_bytes(), b"0,c1,m1,100\n")
+    };
+    let (text, status) = outcome(alloc, &check)?;
+    assert_eq!(rt;
+        text.as_str(),
+        "query 0 SELECT count(*) FROM payments WHERE amount > 100 GROUP BY card OVER SLIDING 300000 ms\n"
+    );
+    assert_eq!(rt; status, Status::Ok);
+    Ok(())
+}
+
+#[test]
+fn a_plan_is_refused_by_its_first_fault(rt: HostRuntime) -> Result<(), Fail> {
+    let alloc = rt.alloc();
+    let (text, status) = outcome(alloc, &sound(b"x", b"1,c1\n"))?;
+    assert_eq!(rt; text.as_str(), "refused plan toml\n");
+    assert_eq!(rt; status, Status::Plan);
+
+    let no_kind = plan_of(alloc, TEN, "\"ts\", \"card:word\"", "cache = 0\n")?;
+    let (text, status) = outcome(alloc, &sound(no_kind.as_bytes(), b"1,c1\n"))?;
+    assert_eq!(rt; text.as_str(), "refused plan stream\n");
+    assert_eq!(rt; status, Status::Plan);
+
+    let no_cache = plan_of(alloc, TEN, CARDS, "cache = 0\n")?;
+    let (text, status) = outcome(alloc, &sound(no_cache.as_bytes(), b"1,c1\n"))?;
+    assert_eq!(rt; text.as_str(), "refused plan settings\n");
+    assert_eq!(rt; status, Status::Plan);
+
+    let sum = "SELECT sum(card) FROM payments OVER SLIDING 10 ms";
+    let no_sum = plan_of(alloc, sum, CARDS, "")?;
+    let check = Setting {
+        words: &CHECK,
+        ..sound(no_sum.as_bytes(), b"1,c1\n")
+    };
+    let (text, status) = outcome(alloc, &check)?;
+    assert_eq!(rt; text.as_str(), "refused plan query 0\n");
+    assert_eq!(rt; status, Status::Plan);
     Ok(())
 }
 
 #[test]
 fn a_call_that_is_refused_says_so_last(rt: HostRuntime) -> Result<(), Fail> {
     let alloc = rt.alloc();
+    let plan = plan_of(alloc, TEN, CARDS, "")?;
     let words = Setting {
-        words: &["run", "plan"],
-        ..sound(TEN, b"1,c1\n")
+        words: &["run"],
+        ..sound(plan.as_bytes(), b"1,c1\n")
     };
     let (text, status) = outcome(alloc, &words)?;
     assert_eq!(rt; text.as_str(), "refused usage\n");
-    assert_eq!(rt; status, Status::Usage);
+    assert_eq!(rt; status.number(), 2);
 
-    let plan = vec![in alloc; b'1'; 65_537]?;
-    let (text, status) = outcome(alloc, &sound(&plan, b"1,c1\n"))?;
+    let long = vec![in alloc; b'1'; 65_537]?;
+    let (text, status) = outcome(alloc, &sound(&long, b"1,c1\n"))?;
     assert_eq!(rt; text.as_str(), "failed limit\n");
-    assert_eq!(rt; status, Status::Limit);
+    assert_eq!(rt; status.number(), 8);
 
+    let plan_read = Setting {
+        failing_plan_reads: &[0],
+        ..sound(plan.as_bytes(), b"1,c1\n")
+    };
+    let (text, status) = outcome(alloc, &plan_read)?;
+    assert_eq!(rt; text.as_str(), "failed read\n");
+    assert_eq!(rt; status.number(), 5);
+    Ok(())
+}
+
+#[test]
+fn a_failed_read_or_put_ends_a_run(rt: HostRuntime) -> Result<(), Fail> {
+    let alloc = rt.alloc();
+    let plan = plan_of(alloc, TEN, CARDS, "")?;
     let first_read = Setting {
         failing_reads: &[0],
-        ..sound(TEN, b"1,c1\n")
+        ..sound(plan.as_bytes(), b"1,c1\n")
     };
     let (text, status) = outcome(alloc, &first_read)?;
     assert_eq!(rt; text.as_str(), "failed read\n");
@@ -180,7 +274,7 @@ fn a_call_that_is_refused_says_so_last(rt: HostRuntime) -> Result<(), Fail> {
     // The reply to the first line is out before the second read.
     let second_read = Setting {
         failing_reads: &[1],
-        ..sound(TEN, b"1,c1\n2,c")
+        ..sound(plan.as_bytes(), b"1,c1\n2,c")
     };
     let (text, status) = outcome(alloc, &second_read)?;
     assert_eq!(rt; text.as_str(), "0 ok 1\nfailed read\n");
@@ -188,7 +282,7 @@ fn a_call_that_is_refused_says_so_last(rt: HostRuntime) -> Result<(), Fail> {
 
     let second_put = Setting {
         failing_puts: &[1],
-        ..sound(TEN, b"1,c1\n2,c1\n")
+        ..sound(plan.as_bytes(), b"1,c1\n2,c1\n")
     };
     let (text, status) = outcome(alloc, &second_put)?;
     assert_eq!(rt; text.as_str(), "0 ok 1\n");

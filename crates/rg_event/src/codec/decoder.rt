@@ -1,6 +1,5 @@
 ghost use Rattle.std.specs.Prelude.{◌≡◌, ◌⊎◌, ◌≤◌, ◌++◌, ℕ, List, length, Ok, Err, IfOk, OnErr};
 ghost use Rattle.std.specs.Int.{w64, to_be_bytes};
-ghost use Rattle.std.specs.Str.{is_utf8};
 ghost use Rattle.rg_event.specs.Codec.{value_bytes, values_bytes, event_bytes, IsValueOf, AreValuesOf, IsEventOf, number_at, number_up_to_at, int_at, id_at, text_at, flag_at, value_at, values_at, event_at, Agrees};
 ghost use Rattle.rg_event.specs.declared.event.Event.{Event};
 
@@ -97,7 +96,8 @@ fn read_values(
     Ok(values)
 }
 
-fn read_value(
+/// Takes a value of this kind, in the column of this number. A refusal may leave the reader in mid-way.
+pub(crate) fn read_value(
     alloc: Global,
     kind: Kind,
     column: u32,
@@ -143,10 +143,9 @@ fn read_text(alloc: Global, column: u32, from: &mut ByteReader<'_>) -> Result<Va
 {
     let count = from.u8()?;
     let text = from.bytes(usize::from(count))?;
-    if is_text(text) {
-        Ok(Value::Text(Word::new(alloc, text)?))
-    } else {
-        Err(EventFault::BadValue(column))
+    match Word::new(alloc, text)? {
+        Some(word) => Ok(Value::Text(word)),
+        None => Err(EventFault::BadValue(column)),
     }
 }
 
@@ -160,13 +159,6 @@ fn read_flag(column: u32, from: &mut ByteReader<'_>) -> Result<Value, EventFault
         1 => Ok(Value::Flag(true)),
         _ => Err(EventFault::BadValue(column)),
     }
-}
-
-#[tactic(auto, using(crate::proofs::Utf8::true_where_valid, crate::proofs::Utf8::false_where_invalid))]
-fn is_text(bytes: &[u8]) -> bool
-    ensures { result ≡ is_utf8 bytes.now }
-{
-    str::from_utf8(bytes).is_ok()
 }
 
 #[cfg(test)]

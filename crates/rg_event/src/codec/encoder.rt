@@ -1,5 +1,5 @@
-ghost use Rattle.std.specs.Prelude.{◌≡◌, ◌≤◌, ◌++◌, ◌∷◌, length, All, OnOk, OnErr};
-ghost use Rattle.rg_event.specs.Codec.{value_bytes, values_bytes, event_bytes, IsShort, HasShortTexts};
+ghost use Rattle.std.specs.Prelude.{◌≡◌, ◌≤◌, ◌++◌, ◌∷◌, length, OnOk, OnErr};
+ghost use Rattle.rg_event.specs.Codec.{value_bytes, values_bytes, event_bytes};
 ghost use Rattle.rg_event.specs.Keeps.{Keeps};
 
 use crate::event::Event;
@@ -8,7 +8,6 @@ use rg_bytes::{Memory, put_bytes, put_i64, put_u8, put_u64};
 
 /// Writes the bytes of an event at the end. Where memory runs out `out` holds what it held.
 pub fn encode(event: &Event, out: &mut Vec<u8>) -> Result<(), Memory>
-    requires { HasShortTexts event.now }
     ensures ok { OnOk result (out.new.items ≡ out.old.items ++ event_bytes event.now) }
     ensures err { OnErr result (out.new.items ≡ out.old.items) }
 {
@@ -23,7 +22,6 @@ pub fn encode(event: &Event, out: &mut Vec<u8>) -> Result<(), Memory>
 }
 
 fn put_event(event: &Event, out: &mut Vec<u8>) -> Result<(), Memory>
-    requires { HasShortTexts event.now }
     ensures ok { OnOk result (out.new.items ≡ out.old.items ++ event_bytes event.now) }
     ensures err { OnErr result (Keeps out.old.items out.new.items) }
 {
@@ -33,7 +31,6 @@ fn put_event(event: &Event, out: &mut Vec<u8>) -> Result<(), Memory>
 }
 
 fn put_values(values: &[Value], out: &mut Vec<u8>) -> Result<(), Memory>
-    requires { All IsShort values.now }
     ensures ok { OnOk result (out.new.items ≡ out.old.items ++ values_bytes values.now) }
     ensures err { OnErr result (Keeps out.old.items out.new.items) }
 {
@@ -43,8 +40,8 @@ fn put_values(values: &[Value], out: &mut Vec<u8>) -> Result<(), Memory>
     Ok(())
 }
 
-fn put_value(value: &Value, out: &mut Vec<u8>) -> Result<(), Memory>
-    requires { IsShort value.now }
+/// Writes the bytes of a value at the end. An error leaves them begun.
+pub(crate) fn put_value(value: &Value, out: &mut Vec<u8>) -> Result<(), Memory>
     ensures ok { OnOk result (out.new.items ≡ out.old.items ++ value_bytes value.now) }
     ensures err { OnErr result (Keeps out.old.items out.new.items) }
 {
@@ -76,8 +73,11 @@ mod tests {
     fn an_event_is_written_behind_what_stands(rt: HostRuntime) -> Result<(), Fail> {
         let alloc = rt.alloc();
         let mut values = Values::new(alloc);
-        values.push(Value::Text(Word::new(alloc, b"c1")?))?;
-        values.push(Value::Text(Word::new(alloc, b"m1")?))?;
+        for text in [b"c1", b"m1"] {
+            if let Some(word) = Word::new(alloc, text)? {
+                values.push(Value::Text(word))?;
+            }
+        }
         values.push(Value::Int(100))?;
         values.push(Value::Int(-2))?;
         values.push(Value::Id(0x0102))?;

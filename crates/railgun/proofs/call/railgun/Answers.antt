@@ -1,10 +1,10 @@
-use Rattle.railgun.specs.Call.{is_run}
+use Rattle.railgun.specs.Call.{command_of}
 use Rattle.railgun.proofs.Ends.{completes}
 use Rattle.railgun.proofs.call.railgun.Goals as goal
 
 pub returns-clause-completes : goal.returns-clause-completes
 returns-clause-completes g c = λ told none.
-    completes (is_run c.args.words.now) _ _ _ _ _ c.carry_out.result
+    completes (command_of c.args.words.now) _ _ _ _ _ c.carry_out.result
     (record {
       usage_only = c.carry_out.ensures.usage_only;
       usage_always = c.carry_out.ensures.usage_always;

@@ -1,15 +1,12 @@
-use Rattle.std.proofs.Common.{sym, ◌∙◌, ap, subst, arith, ◌≡◌, ⊎_elim, inl, inr, Err, ◌⊎◌, Option, List, ℕ}
-use Rattle.rg_host.specs.Moments.{Moment}
-use Rattle.rg_host.specs.Puts.{Puts}
+use Rattle.std.proofs.Common.{sym, ◌∙◌, ap, arith, ◌≡◌, ⊎_elim, inl, inr, Err, ◌⊎◌}
+use Rattle.rg_config.specs.Plans.{planned}
 use Rattle.rg_host.specs.PutLaws.{puts-nothing, puts-then}
 use Rattle.railgun.specs.declared.status.Status.TheVariants.{Read, Write, Limit}
 use Rattle.railgun.specs.declared.status.Status.{Status}
 use Rattle.railgun.proofs.Inputs.{if_err}
+use Rattle.railgun.proofs.Ends.{same_host}
 use Rattle.railgun.proofs.Progress.{begin, step, finish, stop, stop_first, past_limit, read_stop}
 use Rattle.railgun.proofs.serve.serve.Goals as goal
-
-same_host : {H : Type 0} (said : H → Option (List ℕ)) (clock : H → ℕ) (since : H → ℕ → Moment → Type 0) (old mid new : H) (put : List ℕ) → new ≡ mid → Puts said clock since old mid put → Puts said clock since old new put
-same_host said clock since old mid new put same puts = subst (λ h. Puts said clock since old h put) (sym same) puts
 
 not_write : (status : Status) → (status ≡ Read) ⊎ (status ≡ Limit) → status ≡ Write → ⊥
 not_write status (inl read) write = absurd (let same : Read ≡ Write = sym read ∙ write in cc)
@@ -23,7 +20,7 @@ returns-in_err-run-clause-stops g c =
 pub lines-init : goal.lines-init
 lines-init g c = record {
   between = c.in_ok-run.ensures.between;
-  progress = begin _ c.args.plan.now _ c.in_ok-run.run' c.in_ok-run.ensures.pending c.in_ok-run.ensures.taken c.in_ok-run.ensures.still c.in_ok-run.ensures.events (c.in_ok-run.ensures.window ∙ c.window.ensures) c.in_ok-run.ensures.offset
+  progress = begin _ (planned c.args.plan.now) _ c.in_ok-run.run' c.in_ok-run.ensures.pending c.in_ok-run.ensures.taken c.in_ok-run.ensures.still c.in_ok-run.ensures.events c.in_ok-run.ensures.session c.in_ok-run.ensures.offset
       (puts-nothing g.H.Host.said g.H.Host.clock g.H.Host.since _ (λ t u m. g.met.H.Host.sinks _ t u m) (λ m. g.met.H.Host.only_now _ m));
   later = omega arith;
   later_out = omega arith;

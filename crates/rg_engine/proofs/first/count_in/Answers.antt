@@ -1,7 +1,7 @@
-use Rattle.std.proofs.Common.{◌≡◌, ◌+◌, ◌≤◌, ◌∙◌, ap, sym, arith, Some, ◌&&◌}
+use Rattle.std.proofs.Common.{◌≡◌, ◌+◌, ◌≤◌, ◌∙◌, ap, sym, arith, Some}
 use Rattle.std.specs.Prelude.{slice_get}
 use Rattle.std.specs.Option.{option_copied}
-use Rattle.rg_engine.specs.Answering.{in_window, key_of, same_key}
+use Rattle.rg_metric.specs.Replies.{counts_for}
 use Rattle.rg_engine.proofs.Counts.{count_by-take-more, bool_byte_small}
 use Rattle.rg_engine.proofs.first.count_in.Goals as goal
 
@@ -21,11 +21,10 @@ loop-spot-preserved g c =
       within = omega (arith, number, c.loop-spot-test.true);
       small = omega (arith, number, one, i.small);
       spells = λ s n. c.advance.ensures.spells (after.3 (i.sound s)) (rw c.in_ok-peek.was at (after.8 (i.sound s) (i.spells s n)).1);
-      value = λ s n.
+      value = λ s n e time key.
           let shown : slice_get (g.P.Past.events c.args.past.now) c.loop-spot.spot.number ≡ Some c.in-Some.event.now =
           ap (λ v. slice_get v c.loop-spot.spot.number) (sym i.events)
           ∙ sym (c.in_ok-peek.ensures.event (i.sound s) (i.spells s n)) ∙ ap option_copied c.in-Some.is in
-          let more = count_by-take-more (λ x. in_window c.args.length x c.args.time && same_key (key_of x) c.args.key.now)
-          (g.P.Past.events c.args.past.now) c.loop-spot.spot.number c.in-Some.event.now c.counts.result shown c.counts.ensures in
-          rw (i.value s n, c.from-counted.ensures, number) (sym more);
+          let more = count_by-take-more (counts_for c.args.counter.now e) (g.P.Past.events c.args.past.now) c.loop-spot.spot.number c.in-Some.event.now c.counts.result shown (c.counts.ensures e time key) in
+          rw (i.value s n e time key, c.from-counted.ensures, number) (sym more);
     }

@@ -1,0 +1,58 @@
+ghost use Rattle.std.specs.Prelude.{◌≡◌};
+ghost use Rattle.railgun.specs.Call.{ending_status, ending_line};
+
+use crate::status::Status;
+use rg_bytes::Memory;
+
+/// How a call ended before its end.
+#[derive(Debug, Drop)]
+pub enum Ending {
+    /// The plan was refused, which this line says, with its LF.
+    Refused(Vec<u8>),
+    /// It failed, or was refused for another cause.
+    Failed(Status),
+}
+
+impl From<Status> for Ending {
+    ghost use Rattle.std.specs.Prelude.{◌≡◌};
+    ghost use Rattle.railgun.specs.declared.ending.Ending.TheVariants.{Failed};
+
+    ghost from_gives = { λ status ending. ending ≡ Failed status };
+
+    fn from(status: Status) -> Ending {
+        Ending::Failed(status)
+    }
+}
+
+impl From<Memory> for Ending {
+    ghost use Rattle.std.specs.Prelude.{◌≡◌};
+    ghost use Rattle.railgun.specs.declared.ending.Ending.TheVariants.{Failed};
+    ghost use Rattle.railgun.specs.declared.status.Status.TheVariants.{Memory};
+
+    ghost from_gives = { λ _ ending. ending ≡ Failed Memory };
+
+    fn from(_memory: Memory) -> Ending {
+        Ending::Failed(Status::Memory)
+    }
+}
+
+impl Ending {
+    pub fn status(&self) -> Status
+        ensures { result ≡ ending_status self.now }
+    {
+        match self {
+            Ending::Refused(_) => Status::Plan,
+            Ending::Failed(status) => *status,
+        }
+    }
+
+    /// The last line that is put out, with its LF.
+    pub fn last_line(&self) -> &[u8]
+        ensures { result.now ≡ ending_line self.now }
+    {
+        match self {
+            Ending::Refused(line) => line,
+            Ending::Failed(status) => status.last_line().as_bytes(),
+        }
+    }
+}

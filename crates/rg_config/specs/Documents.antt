@@ -1,0 +1,132 @@
+-- What stands in the table of a plan file.
+use Rattle.std.specs.Prelude.{ℕ, ℤ, pos, negsuc, ◌*◌, nat_le, ◌&&◌, ◌||◌, Bool, true, false, codes, List, [], ◌∷◌, ◌++◌, Option, None, Some, option_map, option_and_then, bytes_eq, if◌then◌else◌}
+use Rattle.std.specs.Str.{is_utf8}
+use Rattle.toml.specs.Data.{Data, Items, Members, no_items, item, no_members, member, get_member, as_str, as_array, as_integer, as_bool, as_table}
+use Rattle.toml.specs.Parse.{parse_document}
+
+-- the table that the bytes stand for: they are text, and the text is a document
+abbrev pub document : List ℕ → Option Members
+document bytes = if is_utf8 bytes then parse_document bytes else None
+
+-- each key of a table is one of these
+abbrev pub is_one_of : List (List ℕ) → List ℕ → Bool
+is_one_of [] key = false
+is_one_of (k ∷ keys) key = bytes_eq key k || is_one_of keys key
+
+abbrev pub all_keys : List (List ℕ) → Members → Bool
+all_keys keys no_members = true
+all_keys keys (member key found members) = is_one_of keys key && all_keys keys members
+
+-- the strings of an array of strings
+abbrev pub texts : Items → Option (List (List ℕ))
+texts no_items = Some []
+texts (item found items) = option_and_then (λ text. option_map (λ more. text ∷ more) (texts items)) (as_str found)
+
+-- the array of strings, and the string, at a key
+abbrev pub texts_at : List ℕ → Members → Option (List (List ℕ))
+texts_at key table = option_and_then texts (option_and_then as_array (get_member key table))
+
+abbrev pub text_at : List ℕ → Members → Option (List ℕ)
+text_at key table = option_and_then as_str (get_member key table)
+
+-- The stream
+
+-- the columns, parted by commas
+abbrev pub more_columns : List (List ℕ) → List ℕ
+more_columns [] = []
+more_columns (column ∷ columns) = codes "," ++ (column ++ more_columns columns)
+
+abbrev pub joined : List (List ℕ) → List ℕ
+joined [] = []
+joined (column ∷ columns) = column ++ more_columns columns
+
+-- `NAME(COLUMN,COLUMN,..)`
+abbrev pub stream_text : List ℕ → List (List ℕ) → List ℕ
+stream_text name columns = name ++ (codes "(" ++ (joined columns ++ codes ")"))
+
+-- the text of the stream that a table describes, whose keys are `name`, a string, and `columns`, an array of strings
+abbrev pub described : Members → Option (List ℕ)
+described table =
+    if all_keys (codes "name" ∷ codes "columns" ∷ []) table then
+    option_and_then (λ name. option_map (stream_text name) (texts_at (codes "columns") table)) (text_at (codes "name") table)
+    else None
+
+abbrev pub stream_of : Members → Option (List ℕ)
+stream_of top = option_and_then described (option_and_then as_table (get_member (codes "stream") top))
+
+-- The settings
+
+pub record Settings : Type 0 where
+  -- chunks in the cache, and events in a chunk
+  pub cache : ℕ
+  pub chunk : ℕ
+  -- events between two commits, and between two checkpoints
+  pub commit : ℕ
+  pub save : ℕ
+  -- how many events are accepted
+  pub events : ℕ
+  -- the first line is a header
+  pub header : Bool
+
+-- an integer within bounds
+abbrev pub within : ℕ → ℕ → ℤ → Option ℕ
+within low high (pos n) = if nat_le low n && nat_le n high then Some n else None
+within low high (negsuc n) = None
+
+-- a number, which stands in its range, or a default where the key is missing
+abbrev pub number_or : ℕ → ℕ → ℕ → Option Data → Option ℕ
+number_or low high default None = Some default
+number_or low high default (Some found) = option_and_then (within low high) (as_integer found)
+
+abbrev pub number_at : List ℕ → ℕ → ℕ → ℕ → Members → Option ℕ
+number_at key low high default table = number_or low high default (get_member key table)
+
+-- a flag, false where the key is missing
+abbrev pub flag_or : Option Data → Option Bool
+flag_or None = Some false
+flag_or (Some found) = as_bool found
+
+abbrev pub flag_at : List ℕ → Members → Option Bool
+flag_at key table = flag_or (get_member key table)
+
+abbrev pub setting_keys : List (List ℕ)
+setting_keys = codes "cache" ∷ codes "chunk" ∷ codes "commit" ∷ codes "save" ∷ codes "events" ∷ codes "header" ∷ []
+
+-- the cache holds at most 65,536 events
+abbrev pub fits : Settings → Option Settings
+fits settings = if nat_le (settings.cache * settings.chunk) 65536 then Some settings else None
+
+abbrev pub settings_in : Members → Option Settings
+settings_in table =
+    if all_keys setting_keys table then
+    option_and_then (λ cache. option_and_then (λ chunk. option_and_then (λ commit. option_and_then (λ save. option_and_then (λ events. option_and_then (λ header.
+    fits (record { cache = cache; chunk = chunk; commit = commit; save = save; events = events; header = header }))
+    (flag_at (codes "header") table))
+    (number_at (codes "events") 1 1099511627776 1099511627776 table))
+    (number_at (codes "save") 1 1000000 65536 table))
+    (number_at (codes "commit") 1 1000000 1024 table))
+    (number_at (codes "chunk") 1 4096 1024 table))
+    (number_at (codes "cache") 1 1024 64 table)
+    else None
+
+-- the settings of a plan: those of a table without keys where there is none
+abbrev pub settings_or : Option Data → Option Settings
+settings_or None = settings_in no_members
+settings_or (Some found) = option_and_then settings_in (as_table found)
+
+-- The queries
+
+-- at least one text
+abbrev pub some_texts : List (List ℕ) → Option (List (List ℕ))
+some_texts [] = None
+some_texts (text ∷ texts) = Some (text ∷ texts)
+
+abbrev pub queries_of : Members → Option (List (List ℕ))
+queries_of top = option_and_then some_texts (texts_at (codes "queries") top)
+
+-- the texts of the queries and the settings, where the top table has no other key than these and the stream
+abbrev pub rest_of : Members → Option (List (List ℕ) × Settings)
+rest_of top =
+    if all_keys (codes "queries" ∷ codes "stream" ∷ codes "settings" ∷ []) top then
+    option_and_then (λ queries. option_map (λ settings. (queries, settings)) (settings_or (get_member (codes "settings") top))) (queries_of top)
+    else None

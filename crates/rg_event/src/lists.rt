@@ -1,0 +1,216 @@
+ghost use Rattle.std.specs.Prelude.{◌≡◌, [], ◌∷◌, ◌++◌, OnOk, OnErr, IfOk};
+
+use crate::event::Event;
+use rg_bytes::Memory;
+use std::alloc::Global;
+use std::marker::Model;
+
+/// A text that contracts name, as its bytes.
+#[derive(Debug, Drop)]
+pub struct Bytes {
+    bytes: Vec<u8>,
+}
+
+impl Model for Bytes {
+    ghost use Rattle.std.specs.Prelude.{List, ℕ};
+
+    ghost Value = { List ℕ };
+
+    ghost view = { λ b. b.bytes.items };
+}
+
+/// Two texts are equal where their bytes are.
+impl PartialEq for Bytes {
+    ghost use Rattle.std.specs.Prelude.{bytes_eq};
+    ghost use Rattle.std.specs.Cmp.Lexicographic.{nat_list_eq_equiv};
+    ghost use Rattle.std.specs.Cmp.{partial_equiv_from_equiv};
+
+    ghost eq = { bytes_eq };
+
+    ghost laws = { partial_equiv_from_equiv nat_list_eq_equiv };
+
+    fn eq(&self, other: &Bytes) -> bool {
+        self.bytes == other.bytes
+    }
+}
+
+impl Eq for Bytes {
+    ghost use Rattle.std.specs.Cmp.Lexicographic.{nat_list_eq_equiv};
+
+    ghost laws = { nat_list_eq_equiv };
+}
+
+impl From<Vec<u8>> for Bytes {
+    ghost use Rattle.std.specs.Prelude.{◌≡◌};
+
+    ghost from_gives = { λ bytes text. text ≡ bytes.items };
+
+    fn from(bytes: Vec<u8>) -> Bytes {
+        Bytes { bytes }
+    }
+}
+
+impl Bytes {
+    /// No bytes.
+    pub fn new(alloc: Global) -> Bytes
+        ensures { result ≡ [] }
+    {
+        Bytes {
+            bytes: Vec::new(alloc),
+        }
+    }
+
+    /// The text with these bytes.
+    pub fn from_slice(alloc: Global, bytes: &[u8]) -> Result<Bytes, Memory>
+        ensures { IfOk result (λ text. text ≡ bytes.now) }
+    {
+        let bytes = Vec::from_slice(alloc, bytes)?;
+        Ok(Bytes { bytes })
+    }
+
+    /// A text with the same bytes.
+    pub fn copy(&self, alloc: Global) -> Result<Bytes, Memory>
+        ensures { IfOk result (λ text. text ≡ self.now) }
+    {
+        Bytes::from_slice(alloc, &self.bytes)
+    }
+
+    pub fn as_slice(&self) -> &[u8]
+        ensures { result.now ≡ self.now }
+    {
+        &self.bytes
+    }
+}
+
+/// A list of texts.
+#[derive(Debug, Drop)]
+pub struct Texts {
+    list: Vec<Bytes>,
+}
+
+impl Model for Texts {
+    ghost use Rattle.std.specs.Prelude.{List, ℕ};
+
+    ghost Value = { List (List ℕ) };
+
+    ghost view = { λ t. t.list.items };
+}
+
+impl Texts {
+    /// No texts.
+    pub fn new(alloc: Global) -> Texts
+        ensures { result ≡ [] }
+    {
+        Texts {
+            list: Vec::new(alloc),
+        }
+    }
+
+    /// Adds a text at the end.
+    pub fn push(&mut self, text: Bytes) -> Result<(), Memory>
+        ensures ok { OnOk result (self.new ≡ self.old ++ text ∷ []) }
+        ensures err { OnErr result (self.new ≡ self.old) }
+    {
+        self.list.push(text)?;
+        Ok(())
+    }
+
+    /// The same texts, in order.
+    pub fn copy(&self, alloc: Global) -> Result<Texts, Memory>
+        ensures { IfOk result (λ texts. texts ≡ self.now) }
+    {
+        let mut list = Vec::with_capacity(alloc, self.list.len())?;
+        for text in &self.list {
+            list.push(text.copy(alloc)?)?;
+        }
+        Ok(Texts { list })
+    }
+
+    pub fn as_slice(&self) -> &[Bytes]
+        ensures { result.now ≡ self.now }
+    {
+        &self.list
+    }
+}
+
+/// A list of events.
+#[derive(Debug, Drop)]
+pub struct Events {
+    list: Vec<Event>,
+}
+
+impl Model for Events {
+    ghost use Rattle.std.specs.Prelude.{List};
+    ghost use Rattle.rg_event.specs.declared.event.Event.{Event as TheEvent};
+
+    ghost Value = { List TheEvent };
+
+    ghost view = { λ e. e.list.items };
+}
+
+impl Events {
+    /// No events.
+    pub fn new(alloc: Global) -> Events
+        ensures { result ≡ [] }
+    {
+        Events {
+            list: Vec::new(alloc),
+        }
+    }
+
+    /// Adds an event at the end.
+    pub fn push(&mut self, event: Event) -> Result<(), Memory>
+        ensures ok { OnOk result (self.new ≡ self.old ++ event ∷ []) }
+        ensures err { OnErr result (self.new ≡ self.old) }
+    {
+        self.list.push(event)?;
+        Ok(())
+    }
+
+    pub fn as_slice(&self) -> &[Event]
+        ensures { result.now ≡ self.now }
+    {
+        &self.list
+    }
+}
+
+#[cfg(test)]
+mod tests {
+    use super::{Bytes, Events, Texts};
+    use crate::event::Event;
+    use crate::value::Values;
+    use rg_bytes::Memory;
+
+    #[test]
+    fn lists_keep_what_is_pushed_in_order(rt: HostRuntime) -> Result<(), Memory> {
+        let alloc = rt.alloc();
+        let mut texts = Texts::new(alloc);
+        texts.push(Bytes::from(b"one".to_vec(alloc)?))?;
+        texts.push(Bytes::from_slice(alloc, b"two")?)?;
+        texts.push(Bytes::new(alloc))?;
+        let copies = texts.copy(alloc)?;
+        assert_eq!(rt; copies.as_slice(), texts.as_slice());
+        match copies.as_slice() {
+            [one, two, none] => {
+                assert_eq!(rt; one.as_slice(), b"one".as_slice());
+                assert_eq!(rt; two.as_slice(), b"two".as_slice());
+                assert_eq!(rt; none.as_slice().len(), 0);
+            }
+            other => panic!(rt; "{other:?}"),
+        }
+        let mut events = Events::new(alloc);
+        for time in [5, 3] {
+            let values = Values::new(alloc);
+            events.push(Event {
+                offset: 0,
+                time,
+                values,
+            })?;
+        }
+        match events.as_slice() {
+            [first, second] => assert!(rt; first.time == 5 && second.time == 3),
+            other => panic!(rt; "{other:?}"),
+        }
+        Ok(())
+    }
+}

@@ -1,0 +1,152 @@
+ghost use Rattle.std.specs.Prelude.{◌≡◌, ◌⊎◌, ◌∷◌, ◌++◌, ℕ, List, Ok, Err, IfOk, OnOk, OnErr};
+ghost use Rattle.rg_event.specs.Codec.{Agrees};
+ghost use Rattle.rg_event.specs.Keeps.{Keeps};
+ghost use Rattle.rg_event.specs.Tagged.{IsLegal, IsStorable, tag_of, kind_of, tagged_bytes, tagged_at};
+ghost use Rattle.rg_event.specs.declared.value.Value.{Value};
+
+use crate::codec::{EventFault, put_value, read_value};
+use crate::value::{Kind, Value};
+use rg_bytes::{ByteReader, Memory, put_u8};
+use std::alloc::Global;
+
+/// The byte in front of an int.
+const INT: u8 = 1;
+
+/// The byte in front of an id.
+const ID: u8 = 2;
+
+/// The byte in front of a text.
+const TEXT: u8 = 3;
+
+/// The byte in front of a flag.
+const FLAG: u8 = 4;
+
+/// Writes a value at the end with the tag of its kind in front. Where memory runs out `out` holds
+/// what it held.
+pub fn put_tagged(value: &Value, out: &mut Vec<u8>) -> Result<(), Memory>
+    ensures ok { OnOk result (out.new.items ≡ out.old.items ++ tagged_bytes value.now) }
+    ensures err { OnErr result (out.new.items ≡ out.old.items) }
+    ensures storable { IsStorable value.now }
+    ensures reads_back { (value : Value) (rest : List ℕ) → IsLegal value → tagged_at (tagged_bytes value ++ rest) ≡ Ok (value, rest) }
+    ensures prefix_free { (first second : Value) (behind rest : List ℕ) → IsStorable first → IsStorable second → tagged_bytes first ++ behind ≡ tagged_bytes second ++ rest → (first ≡ second) × (behind ≡ rest) }
+{
+    let start = out.len();
+    match put_tag_and_value(value, out) {
+        Ok(()) => Ok(()),
+        Err(memory) => {
+            out.truncate(start);
+            Err(memory)
+        }
+    }
+}
+
+fn put_tag_and_value(value: &Value, out: &mut Vec<u8>) -> Result<(), Memory>
+    ensures ok { OnOk result (out.new.items ≡ out.old.items ++ tagged_bytes value.now) }
+    ensures err { OnErr result (Keeps out.old.items out.new.items) }
+    ensures storable { IsStorable value.now }
+{
+    put_u8(out, tag(value.kind()))?;
+    put_value(value, out)
+}
+
+/// Takes a tagged value, as `put_tagged` writes it: `BadValue(0)` comes where the tag is unknown or the
+/// value is out of its kind's range. A refusal leaves the reader as it was.
+pub fn get_tagged(alloc: Global, from: &mut ByteReader<'_>) -> Result<Value, EventFault>
+    ensures agrees { Agrees (tagged_at from.old) result from.new }
+    ensures ok { IfOk result (λ value. from.old ≡ tagged_bytes value ++ from.new) }
+    ensures legal { IfOk result IsLegal }
+    ensures reads_back { (value : Value) (rest : List ℕ) → IsLegal value → from.old ≡ tagged_bytes value ++ rest → ((result ≡ Ok value) × (from.new ≡ rest)) ⊎ (result ≡ Err EventFault.Memory) }
+    ensures err { OnErr result (from.new ≡ from.old) }
+{
+    // All that is left, so that a refusal can put it back.
+    let bytes = from.bytes(from.left())?;
+    let mut left = ByteReader::new(bytes);
+    match read_tagged(alloc, &mut left) {
+        Ok(value) => {
+            *from = left;
+            Ok(value)
+        }
+        Err(fault) => {
+            *from = ByteReader::new(bytes);
+            Err(fault)
+        }
+    }
+}
+
+fn read_tagged(alloc: Global, from: &mut ByteReader<'_>) -> Result<Value, EventFault>
+    ensures agrees { Agrees (tagged_at from.old) result from.new }
+    ensures ok { IfOk result (λ value. from.old ≡ tagged_bytes value ++ from.new) }
+    ensures legal { IfOk result IsLegal }
+{
+    match kind_said(from.u8()?) {
+        Some(kind) => read_value(alloc, kind, 0, from),
+        None => Err(EventFault::BadValue(0)),
+    }
+}
+
+/// The byte that says a kind.
+fn tag(kind: Kind) -> u8
+    ensures { result ≡ tag_of kind }
+{
+    match kind {
+        Kind::Int => INT,
+        Kind::Id => ID,
+        Kind::Text => TEXT,
+        Kind::Flag => FLAG,
+    }
+}
+
+/// The kind that a byte says.
+fn kind_said(tag: u8) -> Option<Kind>
+    ensures { result ≡ kind_of tag }
+{
+    match tag {
+        INT => Some(Kind::Int),
+        ID => Some(Kind::Id),
+        TEXT => Some(Kind::Text),
+        FLAG => Some(Kind::Flag),
+        _ => None,
+    }
+}
+
+#[cfg(test)]
+mod tests {
+    use super::{get_tagged, put_tagged};
+    use crate::codec::EventFault;
+    use crate::value::Value;
+    use crate::word::Word;
+    use rg_bytes::ByteReader;
+    use std::test::Fail;
+
+    #[test]
+    fn a_tag_stands_before_the_value(rt: HostRuntime) -> Result<(), Fail> {
+        let alloc = rt.alloc();
+        let mut out = b"x".to_vec(alloc)?;
+        if let Some(word) = Word::new(alloc, b"c1")? {
+            put_tagged(&Value::Text(word), &mut out)?;
+        }
+        put_tagged(&Value::Int(-1), &mut out)?;
+        assert_eq!(rt;
+            out.as_slice(),
+            b"x\x03\x02c1\x01\xff\xff\xff\xff\xff\xff\xff\xff".as_slice()
+        );
+        Ok(())
+    }
+
+    #[test]
+    fn what_is_no_tagged_value_is_refused(rt: HostRuntime) -> Result<(), Fail> {
+        let table: [(&[u8], Result<Value, EventFault>); 6] = [
+            (b"\x04\x01x", Ok(Value::Flag(true))),
+            (b"\x02\0\0\0\0\0\0\x01\x02", Ok(Value::Id(258))),
+            (b"", Err(EventFault::Short)),
+            (b"\x03\x03c1", Err(EventFault::Short)),
+            (b"\x05\x01", Err(EventFault::BadValue(0))),
+            (b"\x04\x02", Err(EventFault::BadValue(0))),
+        ];
+        for (bytes, want) in table {
+            let read = get_tagged(rt.alloc(), &mut ByteReader::new(bytes));
+            assert_eq!(rt; read, want, "at {bytes:?}");
+        }
+        Ok(())
+    }
+}

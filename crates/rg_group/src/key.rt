@@ -1,0 +1,154 @@
+ghost use Rattle.std.specs.Prelude.{◌≡◌, ◌↔◌, [], List, IsTrue, IfOk, OnOk, ◌++◌};
+ghost use Rattle.rg_event.specs.declared.event.Event.{Event};
+ghost use Rattle.rg_event.specs.declared.value.Value.{Value};
+ghost use Rattle.rg_metric.specs.Conditions.{value_in};
+ghost use Rattle.rg_metric.specs.Replies.{key_of as key_values};
+ghost use Rattle.rg_metric.specs.Same.{same_values};
+ghost use Rattle.rg_group.specs.Keys.{key_bytes, part_bytes, AreStorable, IsStorablePart};
+
+use crate::front::after_part;
+use rg_bytes::Memory;
+use rg_event::{Event, put_tagged};
+use rg_metric::column_value;
+use std::alloc::Global;
+use std::cmp::Ordering;
+use std::marker::Model;
+
+/// The key of an event: its values in some columns, each tagged by its kind, one after another.
+#[derive(Debug, Drop)]
+pub struct Key {
+    bytes: Vec<u8>,
+}
+
+impl Model for Key {
+    ghost use Rattle.std.specs.Prelude.{List, ℕ};
+
+    ghost Value = { List ℕ };
+
+    ghost view = { λ k. k.bytes.items };
+}
+
+/// Two keys are equal where their bytes are.
+impl PartialEq for Key {
+    ghost use Rattle.std.specs.Prelude.{bytes_eq};
+    ghost use Rattle.std.specs.Cmp.Lexicographic.{nat_list_eq_equiv};
+    ghost use Rattle.std.specs.Cmp.{partial_equiv_from_equiv};
+
+    ghost eq = { bytes_eq };
+
+    ghost laws = { partial_equiv_from_equiv nat_list_eq_equiv };
+
+    fn eq(&self, other: &Key) -> bool {
+        self.bytes == other.bytes
+    }
+}
+
+impl Eq for Key {
+    ghost use Rattle.std.specs.Cmp.Lexicographic.{nat_list_eq_equiv};
+
+    ghost laws = { nat_list_eq_equiv };
+}
+
+/// Keys are ordered by their bytes.
+impl PartialOrd for Key {
+    ghost use Rattle.std.proofs.Common.{rules};
+    ghost use Rattle.std.specs.Cmp.{partial_order_from_own_ties};
+    ghost use Rattle.std.specs.Cmp.Rules.{comparing};
+    ghost use Rattle.std.specs.Cmp.Lexicographic.{slice_cmp};
+    ghost use Rattle.std.specs.Ordering.{nat_cmp, as_partial_cmp};
+
+    ghost partial_cmp = { as_partial_cmp (slice_cmp nat_cmp) };
+
+    ghost laws = { partial_order_from_own_ties (Prim.search (comparing, rules)) (Prim.search (comparing, rules)) };
+
+    fn partial_cmp(&self, other: &Key) -> Option<Ordering> {
+        Some(self.cmp(other))
+    }
+}
+
+impl Ord for Key {
+    ghost use Rattle.std.proofs.Common.{rules};
+    ghost use Rattle.std.specs.Cmp.Rules.{comparing};
+    ghost use Rattle.std.specs.Cmp.Lexicographic.{slice_cmp};
+    ghost use Rattle.std.specs.Ordering.{nat_cmp};
+
+    ghost cmp = { slice_cmp nat_cmp };
+
+    ghost total = { Prim.search (comparing, rules) };
+
+    ghost matches_partial_cmp = { Prim.search (comparing, rules) };
+
+    ghost matches_eq = { Prim.search (comparing, rules) };
+
+    fn cmp(&self, other: &Key) -> Ordering {
+        self.bytes.cmp(&other.bytes)
+    }
+}
+
+impl From<Vec<u8>> for Key {
+    ghost use Rattle.std.specs.Prelude.{◌≡◌};
+
+    ghost from_gives = { λ bytes key. key ≡ bytes.items };
+
+    fn from(bytes: Vec<u8>) -> Key {
+        Key { bytes }
+    }
+}
+
+impl Key {
+    /// A key with the same bytes.
+    pub fn copy(&self, alloc: Global) -> Result<Key, Memory>
+        ensures { IfOk result (λ key. key ≡ self.now) }
+    {
+        let bytes = Vec::from_slice(alloc, &self.bytes)?;
+        Ok(Key { bytes })
+    }
+
+    pub fn as_slice(&self) -> &[u8]
+        ensures { result.now ≡ self.now }
+    {
+        &self.bytes
+    }
+
+    /// Whether it is the key of this event by these columns, counted from 1. It takes no memory.
+    pub fn is_of(&self, fields: &[u32], event: &Event) -> bool
+        ensures value { IsTrue result ↔ (self.now ≡ key_bytes (key_values fields.now event.now)) }
+        ensures same { (other : Event) → AreStorable (key_values fields.now other) → self.now ≡ key_bytes (key_values fields.now other) → result ≡ same_values (key_values fields.now event.now) (key_values fields.now other) }
+    {
+        let mut bytes = self.as_slice();
+        for field in fields {
+            match after_part(bytes, *field, event) {
+                None => return false,
+                Some(left) => bytes = left,
+            }
+        }
+        bytes.is_empty()
+    }
+}
+
+/// The key of an event by these columns, counted from 1. A column that the event lacks adds nothing.
+pub fn key_of(alloc: Global, fields: &[u32], event: &Event) -> Result<Key, Memory>
+    ensures bytes { IfOk result (λ key. key ≡ key_bytes (key_values fields.now event.now)) }
+    ensures storable { IfOk result (λ _. AreStorable (key_values fields.now event.now)) }
+    ensures exact { (vs ws : List Value) → AreStorable vs → AreStorable ws → key_bytes vs ≡ key_bytes ws → vs ≡ ws }
+{
+    let mut bytes = Vec::new(alloc);
+    for field in fields {
+        put_part(*field, event, &mut bytes)?;
+    }
+    Ok(Key { bytes })
+}
+
+/// Writes the event's part of its key in a column at the end.
+fn put_part(column: u32, event: &Event, out: &mut Vec<u8>) -> Result<(), Memory>
+    ensures written { OnOk result (out.new.items ≡ out.old.items ++ part_bytes (value_in column event.now.values)) }
+    ensures storable { OnOk result (IsStorablePart (value_in column event.now.values)) }
+{
+    match column_value(event, column) {
+        None => Ok(()),
+        Some(value) => put_tagged(value, out),
+    }
+}
+
+#[cfg(test)]
+mod tests;

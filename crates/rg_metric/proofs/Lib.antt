@@ -1,0 +1,3 @@
+pub mod ColumnValues
+pub mod Worked
+pub mod Same

@@ -1,0 +1,6 @@
+pub mod Conditions
+pub mod TestCodes
+pub mod Queries
+pub mod Same
+pub mod Answers
+pub mod Replies

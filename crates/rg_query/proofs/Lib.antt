@@ -1,0 +1,14 @@
+pub mod Strings
+pub mod Lists
+pub mod Says
+pub mod Fronts
+pub mod FieldNames
+pub mod Spacing
+pub mod Laying
+pub mod Plain
+pub mod PlainQuery
+pub mod Asking
+pub mod Places
+pub mod AskedAgain
+pub mod Again
+pub mod One

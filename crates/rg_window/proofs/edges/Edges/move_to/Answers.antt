@@ -1,0 +1,28 @@
+use Rattle.std.proofs.Common.{◌≡◌, ◌∙◌, ap, sym, subst, length, All}
+use Rattle.rg_window.specs.Placed.{Placed, numbers_of}
+use Rattle.rg_window.proofs.Counts.{reached_by}
+use Rattle.rg_window.proofs.Written.{all_written}
+use Rattle.rg_window.proofs.Runs.{length-numbers_of}
+use Rattle.rg_window.proofs.edges.Edges.move_to.Goals as goal
+
+pub returns-clause-reached : goal.returns-clause-reached
+returns-clause-reached g c = λ s e.
+    let spots : c.deref_mut.result.now ≡ c.args.self.now.spots = c.deref_mut.ensures.value ∙ ap (λ (p : Placed). p.spots) c.self.view_is in
+    let offsets : c.deref.result.now ≡ c.args.self.now.offsets = c.deref.ensures.value ∙ ap (λ (p : Placed). p.offsets) c.self.view_is in
+    let back = all_written c.self.inside.spots.len c.self.inside.spots.items c.deref_mut.result.now c.move_each.new.spots c.deref_mut.ensures.value c.deref_mut.ensures.len c.move_each.ensures.same in
+    let same : length (numbers_of c.args.self.now.spots) ≡ length c.args.self.now.offsets =
+    length-numbers_of c.args.self.now.spots ∙ ap (λ (p : Placed). length p.spots) (sym c.self.view_is) ∙ c.self.invariant.same ∙ ap (λ (p : Placed). length p.offsets) c.self.view_is in
+    rw back (reached_by _ _ _ _ _ _ _ _ _ c.move_each.result (rw (spots, offsets) at c.move_each.ensures.moved) (s, e) same)
+
+pub returns-clause-halted : goal.returns-clause-halted
+returns-clause-halted g c =
+    let spots : c.deref_mut.result.now ≡ c.args.self.now.spots = c.deref_mut.ensures.value ∙ ap (λ (p : Placed). p.spots) c.self.view_is in
+    let offsets : c.deref.result.now ≡ c.args.self.now.offsets = c.deref.ensures.value ∙ ap (λ (p : Placed). p.offsets) c.self.view_is in
+    let back = all_written c.self.inside.spots.len c.self.inside.spots.items c.deref_mut.result.now c.move_each.new.spots c.deref_mut.ensures.value c.deref_mut.ensures.len c.move_each.ensures.same in
+    rw back (rw (spots, offsets) at c.move_each.ensures.halted)
+
+pub returns-clause-spells : goal.returns-clause-spells
+returns-clause-spells g c = λ s e.
+    let spots : c.deref_mut.result.now ≡ c.args.self.now.spots = c.deref_mut.ensures.value ∙ ap (λ (p : Placed). p.spots) c.self.view_is in
+    let back = all_written c.self.inside.spots.len c.self.inside.spots.items c.deref_mut.result.now c.move_each.new.spots c.deref_mut.ensures.value c.deref_mut.ensures.len c.move_each.ensures.same in
+    subst (λ xs. All (g.P.Past.spells c.move_each.new.past) xs) (sym back) (c.move_each.ensures.spells s (subst (λ xs. All (g.P.Past.spells c.args.past.now) xs) (sym spots) e))

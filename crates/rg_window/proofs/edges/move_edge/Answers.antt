@@ -1,0 +1,51 @@
+use Rattle.std.proofs.Common.{◌≡◌, ◌+◌, ◌<◌, ◌∙◌, ap, sym, arith, ◌∷◌, length}
+use Rattle.std.specs.Prelude.{slice_get}
+use Rattle.std.specs.Option.{option_copied}
+use Rattle.rg_window.specs.Passing.{passed}
+use Rattle.rg_window.proofs.Chains.{Went-end, Went-more, Refused-next, passed-come, passed-stays, passed-end}
+use Rattle.rg_window.proofs.edges.move_edge.Goals as goal
+
+pub returns-in-Ok-None-clause-went : goal.returns-in-Ok-None-clause-went
+returns-in-Ok-None-clause-went g c =
+    let i = c.edge.invariant in
+    Went-end _ c.args.edge _ _ _ _ c.peek.new.spot.number _ _ _ i.went c.peek.ensures.number
+    (λ s. passed-end (g.P.Past.events c.args.past.now) c.args.t c.args.offset c.edge.spot.number
+    (ap (λ v. slice_get v c.edge.spot.number) (sym i.events) ∙ sym (c.in-Ok-None.ensures.event (i.sound s.0) (i.spells s.0 s.1)) ∙ ap option_copied c.in-Ok-None.field-0-is))
+
+pub returns-then-not-has_come_to-clause-went : goal.returns-then-not-has_come_to-clause-went
+returns-then-not-has_come_to-clause-went g c =
+    let i = c.edge.invariant in
+    Went-end _ c.args.edge _ _ _ _ c.peek.new.spot.number _ _ _ i.went c.peek.ensures.number
+    (λ s. passed-stays (g.P.Past.events c.args.past.now) c.args.t c.args.offset c.edge.spot.number c.in-Ok-Some.event.now
+    (ap (λ v. slice_get v c.edge.spot.number) (sym i.events) ∙ sym (c.in-Ok-Some.ensures.event (i.sound s.0) (i.spells s.0 s.1)) ∙ ap option_copied c.in-Ok-Some.field-0-is)
+    (sym c.if-not-has_come_to.ensures))
+
+pub returns-in-Err-event-clause-stops : goal.returns-in-Err-event-clause-stops
+returns-in-Err-event-clause-stops g c =
+    let i = c.edge.invariant in
+    Refused-next _ c.args.edge _ _ _ _ _ c.peek.new.spot.number _ _ _ _ c.in-Ok-Some.event.now _ i.went c.in-Err-event.ensures c.peek.ensures.number
+    (λ s. passed-come (g.P.Past.events c.args.past.now) c.args.t c.args.offset c.edge.spot.number c.in-Ok-Some.event.now
+    (ap (λ v. slice_get v c.edge.spot.number) (sym i.events) ∙ sym (c.in-Ok-Some.ensures.event (i.sound s.0) (i.spells s.0 s.1)) ∙ ap option_copied c.in-Ok-Some.field-0-is)
+    (sym c.if-not-has_come_to.ensures))
+
+pub edge-preserved : goal.edge-preserved
+edge-preserved g c =
+    let i = c.edge.invariant in
+    let k = c.peek.follows.holds-at-none in
+    let events = g.P.Past.events c.args.past.now in
+    let n : c.advance.new.spot.number ≡ c.edge.spot.number + 1 = c.advance.ensures.next ∙ ap (λ v. v + 1) c.peek.ensures.number in
+    let w : (c.peek.new.spot.number < length (g.P.Past.events c.edge.past)) × (c.peek.new.spot.index < 4096) = rw c.in-Ok-Some.field-0-is at c.in-Ok-Some.ensures.within in
+    record {
+      went = Went-more _ c.args.edge _ _ _ _ c.edge.spot.number _ _ _ _ _ c.in-Ok-Some.event.now i.went c.in-Ok.ensures n
+          (λ s. passed-come events c.args.t c.args.offset c.edge.spot.number c.in-Ok-Some.event.now
+          (ap (λ v. slice_get v c.edge.spot.number) (sym i.events) ∙ sym (c.in-Ok-Some.ensures.event (i.sound s.0) (i.spells s.0 s.1)) ∙ ap option_copied c.in-Ok-Some.field-0-is)
+          (sym c.if-not-has_come_to.ensures) ∙ ap (λ v. c.in-Ok-Some.event.now ∷ passed events c.args.t c.args.offset v) (sym n));
+      within = omega (arith, n, w.0, ap length i.events, c.peek.ensures.number);
+      spells = λ s p. c.advance.ensures.spells (k.3 (i.sound s)) (rw c.in-Ok-Some.is at (k.8 (i.sound s) (i.spells s p)).1);
+      events = k.0 ∙ i.events;
+      goes = g.met.P.Past.transitive _ _ _ i.goes k.1;
+      sound = λ s. k.3 (i.sound s);
+      keeps_room = λ r. k.4 (i.keeps_room r);
+      keeps_ended = (λ e. i.keeps_ended.0 (k.2.0 e), λ e. k.2.1 (i.keeps_ended.1 e));
+      later = omega (arith, i.later, k.5);
+    }

@@ -1,0 +1,20 @@
+use Rattle.std.proofs.Common.{◌≡◌, ◌≤◌, ◌-◌, ◌↔◌, length}
+use Rattle.rg_window.specs.Passing.{passed}
+use Rattle.rg_window.specs.Chain.{Went}
+use Rattle.rg_window.proofs.edges.move_edge.Given as goal
+
+abbrev pub invariant-edge : goal.invariant-edge
+invariant-edge g l = record {
+  went : Went g.V.Visit.step l.edge l.fn.visit l.visit l.fn.spot.number l.spot.number (g.P.Past.sound l.fn.past × g.P.Past.spells l.fn.past l.fn.spot) (passed (g.P.Past.events l.fn.past) l.t l.offset l.fn.spot.number) (passed (g.P.Past.events l.fn.past) l.t l.offset l.spot.number);
+  within : l.spot.number ≤ length (g.P.Past.events l.fn.past);
+  spells : g.P.Past.sound l.fn.past → g.P.Past.spells l.fn.past l.fn.spot → g.P.Past.spells l.past l.spot;
+  events : g.P.Past.events l.past ≡ g.P.Past.events l.fn.past;
+  goes : g.P.Past.goes l.fn.past l.past;
+  sound : g.P.Past.sound l.fn.past → g.P.Past.sound l.past;
+  keeps_room : g.P.Past.has_room l.fn.past → g.P.Past.has_room l.past;
+  keeps_ended : g.P.Past.ended l.past ↔ g.P.Past.ended l.fn.past;
+  later : g.P.Past.faults l.fn.past ≤ g.P.Past.faults l.past;
+}
+
+abbrev pub decreases-edge : goal.decreases-edge
+decreases-edge g l = length (g.P.Past.events l.fn.past) - l.spot.number

@@ -1,0 +1,16 @@
+-- How far edges came before a fault.
+use Rattle.std.specs.Prelude.{ℕ, List, Result}
+use Rattle.rg_event.specs.declared.event.Event.{Event}
+use Rattle.rg_window.specs.Chain.{Went, Refused, Moved, Halted}
+use Rattle.rg_window.specs.declared.edges.MoveFault.{MoveFault}
+use Rattle.rg_window.specs.declared.edges.MoveFault.TheVariants.{Past, Visit}
+
+-- one edge: the past's fault came after some visits, the visitor's is the answer of the last one
+abbrev pub StopsAt : {V F : Type 0} (step : V → ℕ → Event → Result Unit F → V → Type 0) (edge : ℕ) (before after : V) (old new : ℕ) (told : Type 0) (all : List Event) → MoveFault F → Type 0
+StopsAt step edge before after old new told all (Past fault) = (rest : List Event) × Went step edge before after old new told all rest
+StopsAt step edge before after old new told all (Visit fault) = Refused step edge before after old new told all fault
+
+-- all edges, in the same way
+abbrev pub HaltsAt : {V F : Type 0} (step : V → ℕ → Event → Result Unit F → V → Type 0) (before after : V) (offsets : List ℕ) (t : ℕ) (old new : List ℕ) (told : Type 0) (events : List Event) → MoveFault F → Type 0
+HaltsAt step before after offsets t old new told events (Past fault) = (rest : List (ℕ × Event)) × Moved step before after offsets t old new told events rest
+HaltsAt step before after offsets t old new told events (Visit fault) = Halted step before after offsets t old new told events fault

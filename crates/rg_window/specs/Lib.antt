@@ -1,0 +1,4 @@
+pub mod Chain
+pub mod Halting
+pub mod Passing
+pub mod Placed

@@ -1,0 +1,222 @@
+ghost use Rattle.std.specs.Prelude.{◌≡◌, ◌↔◌, ℕ, ◌≤◌, ◌<◌, ◌^◌, [], length, All, IfOk, IfErr, OnOk, IsErrOf};
+ghost use Rattle.rg_bytes.specs.Counts.{Rose};
+ghost use Rattle.rg_window.specs.Chain.{Went, Moved};
+ghost use Rattle.rg_window.specs.Halting.{StopsAt, HaltsAt};
+ghost use Rattle.rg_window.specs.Passing.{has_come, passed, EachReached};
+ghost use Rattle.rg_window.specs.Placed.{AreRising, AreWithin, numbers_of};
+
+use crate::visit::Visit;
+use rg_bytes::Memory;
+use rg_event::Event;
+use rg_past::{Past, PastFault, Spot};
+use std::alloc::Global;
+use std::marker::Model;
+
+/// Why edges stopped on their way.
+#[derive(Clone, Copy, Debug, PartialEq, Eq, Hash)]
+pub enum MoveFault<F> {
+    /// A call on the past was refused.
+    Past(PastFault),
+    /// The visitor refused an event.
+    Visit(F),
+}
+
+/// Edges over a past: at each offset, in milliseconds, an edge stands at the event that comes to it next.
+#[derive(Debug, Drop)]
+pub struct Edges {
+    offsets: Vec<u64>,
+    spots: Vec<Spot>,
+}
+
+impl Model for Edges {
+    ghost use Rattle.rg_window.specs.Placed.{Placed, ArePlaced};
+
+    ghost Value = { Placed };
+
+    ghost view = { λ e. record { offsets = e.offsets.items; spots = e.spots.items } };
+
+    ghost invariant = { λ e. ArePlaced (record { offsets = e.offsets.items; spots = e.spots.items }) };
+}
+
+impl Edges {
+    /// Edges of these offsets, which rise, each at its spot: as many spots as offsets, fewer than 2^32.
+    pub fn new(alloc: Global, offsets: &[u64], at: &[Spot]) -> Result<Edges, Memory>
+        requires same { length at.now ≡ length offsets.now }
+        requires few { length at.now < 2 ^ 32 }
+        requires rising { AreRising offsets.now }
+        ensures offsets { IfOk result (λ edges. edges.offsets ≡ offsets.now) }
+        ensures spots { IfOk result (λ edges. edges.spots ≡ at.now) }
+    {
+        Ok(Edges {
+            offsets: Vec::from_slice(alloc, offsets)?,
+            spots: Vec::from_slice(alloc, at)?,
+        })
+    }
+
+    /// The offsets, in milliseconds, which rise.
+    pub fn offsets(&self) -> &[u64]
+        ensures offsets { result.now ≡ self.now.offsets }
+        ensures rising { AreRising self.now.offsets }
+    {
+        &self.offsets
+    }
+
+    /// Where the edges stand, one spot for each offset.
+    pub fn spots(&self) -> &[Spot]
+        ensures spots { result.now ≡ self.now.spots }
+        ensures same { length self.now.spots ≡ length self.now.offsets }
+        ensures few { length self.now.spots < 2 ^ 32 }
+    {
+        &self.spots
+    }
+
+    /// Moves the edges to time `t`, one after the other in rising order of offset: while the event at
+    /// the edge has a time of at most `t` less the offset, the event is visited and the edge goes on.
+    ///
+    /// After a refusal each edge stands where it had come to, and the next move goes on from there.
+    pub fn move_to<P: Past, V: Visit>(
+        &mut self,
+        past: &mut P,
+        t: u64,
+        visit: &mut V,
+    ) -> Result<(), MoveFault<V::Fault>>
+        requires { AreWithin self.old.spots (length (P.events past.old)) }
+        ensures moved { OnOk result (Moved V.step visit.old visit.new self.old.offsets t
+            (numbers_of self.old.spots) (numbers_of self.new.spots)
+            (P.sound past.old × All (P.spells past.old) self.old.spots) (P.events past.old) []) }
+        ensures reached { P.sound past.old → All (P.spells past.old) self.old.spots →
+            OnOk result (EachReached (P.events past.old) t self.old.offsets
+            (numbers_of self.old.spots) (numbers_of self.new.spots)) }
+        ensures halted { IfErr result (λ fault. HaltsAt V.step visit.old visit.new self.old.offsets t
+            (numbers_of self.old.spots) (numbers_of self.new.spots)
+            (P.sound past.old × All (P.spells past.old) self.old.spots) (P.events past.old) fault) }
+
+        ensures no_full { IsErrOf result (MoveFault.Past PastFault.Full) → ⊥ }
+        ensures ended { IsErrOf result (MoveFault.Past PastFault.Ended) → P.ended past.old }
+        ensures disk { IsErrOf result (MoveFault.Past PastFault.Disk) →
+            Rose (P.faults past.old) (P.faults past.new) }
+        ensures damaged { (place : ℕ) → IsErrOf result (MoveFault.Past (PastFault.Damaged place)) →
+            P.illegal past.new place }
+
+        ensures offsets { self.new.offsets ≡ self.old.offsets }
+        ensures same { length self.new.spots ≡ length self.old.spots }
+        ensures within { AreWithin self.new.spots (length (P.events past.new)) }
+        ensures spells { P.sound past.old → All (P.spells past.old) self.old.spots →
+            All (P.spells past.new) self.new.spots }
+
+        ensures events { P.events past.new ≡ P.events past.old }
+        ensures limit { P.limit past.new ≡ P.limit past.old }
+        ensures goes { P.goes past.old past.new }
+        ensures sound { P.sound past.old → P.sound past.new }
+        ensures keeps_room { P.has_room past.old → P.has_room past.new }
+        ensures keeps_ended { P.ended past.new ↔ P.ended past.old }
+        ensures later { P.faults past.old ≤ P.faults past.new }
+    {
+        move_each(&self.offsets, &mut self.spots, past, t, visit)
+    }
+}
+
+/// Moves edges of these offsets, each from its spot, to time t, one after the other.
+fn move_each<P: Past, V: Visit>(
+    offsets: &[u64],
+    spots: &mut [Spot],
+    past: &mut P,
+    t: u64,
+    visit: &mut V,
+) -> Result<(), MoveFault<V::Fault>>
+    requires same { length spots.old ≡ length offsets.now }
+    requires few { length spots.old < 2 ^ 32 }
+    requires within { AreWithin spots.old (length (P.events past.old)) }
+    ensures moved { OnOk result (Moved V.step visit.old visit.new offsets.now t
+        (numbers_of spots.old) (numbers_of spots.new)
+        (P.sound past.old × All (P.spells past.old) spots.old) (P.events past.old) []) }
+    ensures halted { IfErr result (λ fault. HaltsAt V.step visit.old visit.new offsets.now t
+        (numbers_of spots.old) (numbers_of spots.new)
+        (P.sound past.old × All (P.spells past.old) spots.old) (P.events past.old) fault) }
+    ensures no_full { IsErrOf result (MoveFault.Past PastFault.Full) → ⊥ }
+    ensures ended { IsErrOf result (MoveFault.Past PastFault.Ended) → P.ended past.old }
+    ensures disk { IsErrOf result (MoveFault.Past PastFault.Disk) →
+        Rose (P.faults past.old) (P.faults past.new) }
+    ensures damaged { (place : ℕ) → IsErrOf result (MoveFault.Past (PastFault.Damaged place)) →
+        P.illegal past.new place }
+    ensures same { length spots.new ≡ length spots.old }
+    ensures within { AreWithin spots.new (length (P.events past.old)) }
+    ensures spells { P.sound past.old → All (P.spells past.old) spots.old →
+        All (P.spells past.new) spots.new }
+    ensures events { P.events past.new ≡ P.events past.old }
+    ensures goes { P.goes past.old past.new }
+    ensures sound { P.sound past.old → P.sound past.new }
+    ensures keeps_room { P.has_room past.old → P.has_room past.new }
+    ensures keeps_ended { P.ended past.new ↔ P.ended past.old }
+    ensures later { P.faults past.old ≤ P.faults past.new }
+{
+    'edges: for edge in 0..spots.len() {
+        let mut spot = spots[edge];
+        let offset = offsets[edge];
+        let moved = move_edge(past, &mut spot, edge as u32, offset, t, visit);
+        spots[edge] = spot;
+        match moved {
+            Err(fault) => return Err(fault),
+            Ok(()) => {}
+        }
+    }
+    Ok(())
+}
+
+/// Moves one edge to time t.
+fn move_edge<P: Past, V: Visit>(
+    past: &mut P,
+    spot: &mut Spot,
+    edge: u32,
+    offset: u64,
+    t: u64,
+    visit: &mut V,
+) -> Result<(), MoveFault<V::Fault>>
+    requires { spot.old.number ≤ length (P.events past.old) }
+    ensures went { OnOk result (Went V.step edge visit.old visit.new spot.old.number spot.new.number
+        (P.sound past.old × P.spells past.old spot.old)
+        (passed (P.events past.old) t offset spot.old.number) []) }
+    ensures stops { IfErr result (λ fault. StopsAt V.step edge visit.old visit.new spot.old.number spot.new.number
+        (P.sound past.old × P.spells past.old spot.old)
+        (passed (P.events past.old) t offset spot.old.number) fault) }
+    ensures no_full { IsErrOf result (MoveFault.Past PastFault.Full) → ⊥ }
+    ensures ended { IsErrOf result (MoveFault.Past PastFault.Ended) → P.ended past.old }
+    ensures disk { IsErrOf result (MoveFault.Past PastFault.Disk) →
+        Rose (P.faults past.old) (P.faults past.new) }
+    ensures damaged { (place : ℕ) → IsErrOf result (MoveFault.Past (PastFault.Damaged place)) →
+        P.illegal past.new place }
+    ensures within { spot.new.number ≤ length (P.events past.old) }
+    ensures spells { P.sound past.old → P.spells past.old spot.old → P.spells past.new spot.new }
+    ensures events { P.events past.new ≡ P.events past.old }
+    ensures goes { P.goes past.old past.new }
+    ensures sound { P.sound past.old → P.sound past.new }
+    ensures keeps_room { P.has_room past.old → P.has_room past.new }
+    ensures keeps_ended { P.ended past.new ↔ P.ended past.old }
+    ensures later { P.faults past.old ≤ P.faults past.new }
+{
+    'edge: loop {
+        let event = match past.peek(spot) {
+            Err(fault) => return Err(MoveFault::Past(fault)),
+            Ok(None) => return Ok(()),
+            Ok(Some(event)) => event,
+        };
+        if !has_come_to(event, offset, t) {
+            return Ok(());
+        }
+        match visit.event(edge, event) {
+            Err(fault) => return Err(MoveFault::Visit(fault)),
+            Ok(()) => {}
+        }
+        past.advance(spot);
+    }
+}
+
+/// Whether at time t an edge of this offset has come to the event.
+fn has_come_to(event: &Event, offset: u64, t: u64) -> bool
+    ensures { result ≡ has_come offset t event.now }
+{
+    offset <= t && event.time <= t - offset
+}
+
+#[cfg(test)]
+mod tests;

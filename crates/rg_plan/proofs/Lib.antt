@@ -1,0 +1,6 @@
+pub mod Steps
+pub mod Members
+pub mod Numbered
+pub mod Placing
+pub mod Sizes
+pub mod Begun

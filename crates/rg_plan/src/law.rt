@@ -1,0 +1,21 @@
+ghost use Rattle.std.specs.Prelude.{◌≡◌, List, map, true};
+ghost use Rattle.rg_metric.specs.Conditions.{Test};
+ghost use Rattle.rg_metric.specs.Queries.{Asked};
+ghost use Rattle.rg_plan.specs.Same.{same_test};
+ghost use Rattle.rg_plan.specs.Plans.{windows_of, filters_of, groups_of, aggs_of};
+ghost use Rattle.rg_plan.specs.Beginnings.{filters_begun, groups_begun, aggs_begun, filter_at, group_at, agg_at};
+
+/// The nodes are the distinct beginnings of the queries, in order of first use: a window and a
+/// condition, then the columns of a key, then an aggregator. Each is numbered under the one above.
+#[tactic(auto, using(crate::proofs::Begun::filters_begin, crate::proofs::Begun::groups_begin, crate::proofs::Begun::aggs_begin))]
+pub fn law_beginnings()
+    ensures filters { (qs : List Asked) → filters_of qs ≡ map (filter_at (windows_of qs)) (filters_begun qs) }
+    ensures groups { (qs : List Asked) → groups_of qs ≡ map (group_at (filters_begun qs)) (groups_begun qs) }
+    ensures aggs { (qs : List Asked) → aggs_of qs ≡ map (agg_at (groups_begun qs)) (aggs_begun qs) }
+{}
+
+/// Conditions that pass the test are equal trees.
+#[tactic(auto, using(crate::proofs::Begun::same_test_is))]
+pub fn law_same_condition()
+    ensures { (s t : Test) → same_test s t ≡ true → s ≡ t }
+{}

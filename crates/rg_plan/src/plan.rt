@@ -1,0 +1,188 @@
+ghost use Rattle.std.specs.Prelude.{◌≡◌, ◌⊎◌, map, None, All, IfOk, IfErr, OnOk};
+ghost use Rattle.rg_metric.specs.Queries.{asked, Asked};
+ghost use Rattle.rg_plan.specs.Nodes.{filtered};
+ghost use Rattle.rg_plan.specs.Offsets.{IsMeasured, AreRising};
+ghost use Rattle.rg_plan.specs.Plans.{windows_of, filters_of, groups_of, aggs_of, paths_of, all_offsets, node_at, excess, fault_of};
+
+use crate::fault::PlanFault;
+use crate::level::{distinct_aggs, distinct_filters, distinct_groups, distinct_windows, paths};
+use crate::node::{AggNode, FilterNode, GroupNode};
+use crate::offset::offsets_of;
+use crate::path::Path;
+use crate::size::first_too_many;
+use rg_bytes::Memory;
+use rg_metric::{Query, Window};
+use std::alloc::Global;
+use std::marker::Model;
+
+/// The nodes that answer some queries, each once, numbered from 0 in order of first use.
+#[derive(Debug, Drop)]
+pub struct TaskPlan {
+    offsets: Vec<u64>,
+    windows: Vec<Window>,
+    filters: Vec<FilterNode>,
+    groups: Vec<GroupNode>,
+    aggs: Vec<AggNode>,
+    paths: Vec<Path>,
+}
+
+impl Model for TaskPlan {
+    ghost use Rattle.std.specs.Prelude.{map};
+    ghost use Rattle.rg_plan.specs.Nodes.{filtered};
+    ghost use Rattle.rg_plan.specs.Plans.{Planned};
+    ghost use Rattle.rg_plan.specs.Codes.{planned_code};
+
+    ghost Value = { Planned };
+
+    ghost coded = { planned_code };
+
+    ghost view = { λ p. record { offsets = p.offsets.items; windows = p.windows.items; filters = map filtered p.filters.items; groups = p.groups.items; aggs = p.aggs.items; paths = p.paths.items } };
+}
+
+/// The plan of these queries, whose windows have delays and lengths of at most 10^15 milliseconds.
+///
+/// `TooMany` names the first query with more than 16 aggregators or 8 columns, or the one behind
+/// 64 others, and is answered before any memory is taken. `Memory` comes only where memory runs out.
+#[tactic(auto, using(crate::proofs::Placing::rising_rises))]
+pub fn compile(alloc: Global, queries: &[Query]) -> Result<TaskPlan, PlanFault>
+    requires { All (λ (q : Asked). IsMeasured q.window) (map asked queries.now) }
+    ensures offsets { IfOk result (λ plan. plan.offsets ≡ all_offsets (map asked queries.now)) }
+    ensures rising { IfOk result (λ plan. AreRising plan.offsets) }
+    ensures windows { IfOk result (λ plan. plan.windows ≡ windows_of (map asked queries.now)) }
+    ensures filters { IfOk result (λ plan. plan.filters ≡ filters_of (map asked queries.now)) }
+    ensures groups { IfOk result (λ plan. plan.groups ≡ groups_of (map asked queries.now)) }
+    ensures aggs { IfOk result (λ plan. plan.aggs ≡ aggs_of (map asked queries.now)) }
+    ensures paths { IfOk result (λ plan. plan.paths ≡ paths_of (map asked queries.now)) }
+    ensures within { OnOk result (excess (map asked queries.now) ≡ None) }
+    ensures fault { IfErr result (λ fault. fault ≡ fault_of (excess (map asked queries.now))) }
+{
+    match first_too_many(queries) {
+        Some(query) => return Err(PlanFault::TooMany(query)),
+        None => {}
+    }
+    match plan_of(alloc, queries) {
+        Ok(plan) => Ok(plan),
+        Err(_) => Err(PlanFault::Memory),
+    }
+}
+
+/// The plan of queries that are few enough.
+#[tactic(auto, using(crate::proofs::Sizes::windows_small, crate::proofs::Sizes::filters_small, crate::proofs::Sizes::groups_small, crate::proofs::Sizes::all_aggs_small, crate::proofs::Sizes::windows_measured))]
+fn plan_of(alloc: Global, queries: &[Query]) -> Result<TaskPlan, Memory>
+    requires measured { All (λ (q : Asked). IsMeasured q.window) (map asked queries.now) }
+    requires within { excess (map asked queries.now) ≡ None }
+    ensures offsets { IfOk result (λ plan. plan.offsets ≡ all_offsets (map asked queries.now)) }
+    ensures windows { IfOk result (λ plan. plan.windows ≡ windows_of (map asked queries.now)) }
+    ensures filters { IfOk result (λ plan. plan.filters ≡ filters_of (map asked queries.now)) }
+    ensures groups { IfOk result (λ plan. plan.groups ≡ groups_of (map asked queries.now)) }
+    ensures aggs { IfOk result (λ plan. plan.aggs ≡ aggs_of (map asked queries.now)) }
+    ensures paths { IfOk result (λ plan. plan.paths ≡ paths_of (map asked queries.now)) }
+{
+    let windows = distinct_windows(alloc, queries)?;
+    let filters = distinct_filters(alloc, &windows, queries)?;
+    let groups = distinct_groups(alloc, &windows, &filters, queries)?;
+    let aggs = distinct_aggs(alloc, &windows, &filters, &groups, queries)?;
+    let paths = paths(alloc, &windows, &filters, &groups, &aggs, queries)?;
+    let offsets = offsets_of(alloc, &windows)?;
+    Ok(TaskPlan {
+        offsets,
+        windows,
+        filters,
+        groups,
+        aggs,
+        paths,
+    })
+}
+
+impl TaskPlan {
+    /// The distinct offsets, in milliseconds, at which events enter and leave the windows: how old
+    /// an event is then. They rise.
+    pub fn offsets(&self) -> &[u64]
+        ensures { result.now ≡ self.now.offsets }
+    {
+        &self.offsets
+    }
+
+    /// The distinct windows of the queries.
+    pub fn windows(&self) -> &[Window]
+        ensures { result.now ≡ self.now.windows }
+    {
+        &self.windows
+    }
+
+    /// The distinct conditions under each window.
+    pub fn filters(&self) -> &[FilterNode]
+        ensures { map filtered result.now ≡ self.now.filters }
+    {
+        &self.filters
+    }
+
+    /// The distinct columns of keys under each filter node.
+    pub fn groups(&self) -> &[GroupNode]
+        ensures { result.now ≡ self.now.groups }
+    {
+        &self.groups
+    }
+
+    /// The distinct aggregators under each group node.
+    pub fn aggs(&self) -> &[AggNode]
+        ensures { result.now ≡ self.now.aggs }
+    {
+        &self.aggs
+    }
+
+    /// The number of the node of an aggregator of a query, both counted from 0. There is none
+    /// exactly where there is no such aggregator.
+    pub fn path(&self, query: u32, agg: u32) -> Option<u32>
+        ensures { result ≡ node_at self.now.paths query agg }
+    {
+        match self.paths.get(query as usize) {
+            None => None,
+            Some(path) => path.as_slice().get(agg as usize).copied(),
+        }
+    }
+
+    /// An equal plan.
+    pub fn copy(&self, alloc: Global) -> Result<TaskPlan, Memory>
+        ensures { IfOk result (λ copy. copy ≡ self.now) }
+    {
+        Ok(TaskPlan {
+            offsets: Vec::from_slice(alloc, &self.offsets)?,
+            windows: Vec::from_slice(alloc, &self.windows)?,
+            filters: copy_filters(alloc, &self.filters)?,
+            groups: copy_groups(alloc, &self.groups)?,
+            aggs: Vec::from_slice(alloc, &self.aggs)?,
+            paths: copy_paths(alloc, &self.paths)?,
+        })
+    }
+}
+
+fn copy_filters(alloc: Global, filters: &[FilterNode]) -> Result<Vec<FilterNode>, Memory>
+    ensures { IfOk result (λ copies. map filtered copies.items ≡ map filtered filters.now) }
+{
+    let mut copies = Vec::new(alloc);
+    for filter in filters {
+        copies.push(filter.copy(alloc)?)?;
+    }
+    Ok(copies)
+}
+
+fn copy_groups(alloc: Global, groups: &[GroupNode]) -> Result<Vec<GroupNode>, Memory>
+    ensures { IfOk result (λ copies. copies.items ≡ groups.now) }
+{
+    let mut copies = Vec::new(alloc);
+    for group in groups {
+        copies.push(group.copy(alloc)?)?;
+    }
+    Ok(copies)
+}
+
+fn copy_paths(alloc: Global, paths: &[Path]) -> Result<Vec<Path>, Memory>
+    ensures { IfOk result (λ copies. copies.items ≡ paths.now) }
+{
+    let mut copies = Vec::new(alloc);
+    for path in paths {
+        copies.push(path.copy(alloc)?)?;
+    }
+    Ok(copies)
+}

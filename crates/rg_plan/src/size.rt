@@ -1,0 +1,25 @@
+ghost use Rattle.std.specs.Prelude.{◌≡◌, map};
+ghost use Rattle.rg_metric.specs.Queries.{asked};
+ghost use Rattle.rg_plan.specs.Plans.{is_too_many, excess};
+
+use rg_metric::Query;
+
+/// The first query, counted from 0, that is too large, or has too many before it.
+pub(crate) fn first_too_many(queries: &[Query]) -> Option<u32>
+    ensures { result ≡ excess (map asked queries.now) }
+{
+    let mut index = 0;
+    for query in queries {
+        if is_too_many(index, query) {
+            return Some(index);
+        }
+        index += 1;
+    }
+    None
+}
+
+fn is_too_many(index: u32, query: &Query) -> bool
+    ensures { result ≡ is_too_many index (asked query.now) }
+{
+    index >= 64 || (query.aggs.as_slice().len() > 16 || query.group.as_slice().len() > 8)
+}

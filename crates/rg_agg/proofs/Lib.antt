@@ -1,0 +1,4 @@
+pub mod Fields
+pub mod Sums
+pub mod Ends
+pub mod Queues

@@ -1,0 +1,8 @@
+use Rattle.std.proofs.Common.{rules}
+use Rattle.rg_agg.proofs.Sums.{no_total, wide_less, sum_small}
+use Rattle.rg_agg.proofs.total.Total.remove.Goals as goal
+
+pub returns-then-not-is_within-clause-unfit : goal.returns-then-not-is_within-clause-unfit
+returns-then-not-is_within-clause-unfit c = λ values stands.
+    let sum = c.args.self.now.sum in
+    no_total c.args.self.now.count sum c.in-Some.number _ values c.args.value.now c.is_within.result (search rules) (wide_less sum c.in-Some.number (sum_small c.args.self.now.count sum (search rules) (search rules)) (search rules)) c.is_within.ensures (search rules) stands

@@ -1,0 +1,4 @@
+pub mod Held
+pub mod Stands
+pub mod Numbers
+pub mod Lengths

@@ -1,0 +1,93 @@
+ghost use Rattle.std.specs.Prelude.{◌≡◌};
+
+use crate::aggregate::Aggregate;
+use crate::fault::{StateFault, Unfit};
+use crate::total::Total;
+use rg_bytes::{ByteReader, Memory};
+use rg_event::Value;
+use rg_metric::Answer;
+use std::alloc::Global;
+
+/// The byte in front of a mean.
+const TAG: u8 = 3;
+
+/// The mean of ints, as their sum and how many there are.
+#[derive(Debug, Drop)]
+pub struct Avg {
+    total: Total,
+}
+
+impl Aggregate for Avg {
+    ghost use Rattle.std.specs.Prelude.{⊤};
+    ghost use Rattle.rg_agg.specs.Held.{averaged, averaged_at};
+    ghost use Rattle.rg_agg.specs.Stands.{IsInt, IsTotal};
+    ghost use Rattle.rg_words.specs.declared.func.Func.TheVariants.{Avg as AvgFunc};
+
+    ghost func = { AvgFunc };
+
+    ghost takes = { IsInt };
+
+    ghost grows = { ⊥ };
+
+    ghost stands = { λ state values. IsTotal state.total.count state.total.sum values };
+
+    ghost suits = { λ _ _. ⊤ };
+
+    ghost size_of = { λ state. state.total.count };
+
+    ghost held = { λ state. averaged state.total.count state.total.sum };
+
+    ghost held_at = { averaged_at };
+
+    fn empty(_alloc: Global) -> Avg {
+        Avg {
+            total: Total::new(),
+        }
+    }
+
+    fn is_empty(&self) -> bool {
+        self.total.count == 0
+    }
+
+    fn size(&self) -> u64 {
+        self.total.count
+    }
+
+    fn answer(&self) -> Answer {
+        if self.total.count == 0 {
+            return Answer::Dash;
+        }
+        Answer::Ratio(self.total.sum, self.total.count)
+    }
+
+    fn add(&mut self, value: &Value) -> Result<(), Memory> {
+        self.total.add(value);
+        Ok(())
+    }
+
+    fn remove(&mut self, value: &Value) -> Result<(), Unfit> {
+        self.total.remove(value)
+    }
+
+    fn encode(&self, out: &mut Vec<u8>) -> Result<(), Memory> {
+        self.total.put(TAG, out)
+    }
+
+    fn decode(_alloc: Global, from: &mut ByteReader<'_>) -> Result<Avg, StateFault> {
+        // All that is left, so that a refusal can put it back.
+        let bytes = from.bytes(from.left())?;
+        let mut left = ByteReader::new(bytes);
+        match Total::read(TAG, &mut left) {
+            Ok(total) => {
+                *from = left;
+                Ok(Avg { total })
+            }
+            Err(fault) => {
+                *from = ByteReader::new(bytes);
+                Err(fault)
+            }
+        }
+    }
+
+    ghost counts = { λ _ _ stands. stands.count };
+}

@@ -1,0 +1,176 @@
+ghost use Rattle.std.specs.Prelude.{◌≡◌, ◌+◌, ◌≤◌, ◌<◌, ◌^◌, ◌++◌, Some, None, IfOk, OnOk, OnErr, IsTrue};
+ghost use Rattle.rg_agg.specs.Held.{ended, held_bytes, ended_at, Agrees};
+ghost use Rattle.rg_agg.specs.Numbers.{value_of, seen, is_kept};
+ghost use Rattle.rg_event.specs.Keeps.{Keeps};
+
+use crate::aggregate::Aggregate;
+use crate::fault::{StateFault, Unfit};
+use crate::number::Number;
+use crate::reading::{put_size, read_number, read_size};
+use rg_bytes::{ByteReader, Memory};
+use rg_event::{Value, put_tagged};
+use rg_metric::Answer;
+use std::alloc::Global;
+
+/// The byte in front of a last value.
+const TAG: u8 = 9;
+
+/// The last int or id.
+#[derive(Debug, Drop)]
+pub struct Last {
+    count: u64,
+    last: Option<Number>,
+    ghost few: { count ≤ 2 ^ 40 },
+    ghost kept: { IsTrue (is_kept count last) },
+}
+
+impl Aggregate for Last {
+    ghost use Rattle.std.specs.Prelude.{⊤};
+    ghost use Rattle.rg_agg.specs.Held.{ended, ended_at};
+    ghost use Rattle.rg_agg.specs.Numbers.{seen};
+    ghost use Rattle.rg_agg.specs.Stands.{IsNumber, IsEnd};
+    ghost use Rattle.rg_words.specs.declared.func.Func.TheVariants.{Last as LastFunc};
+
+    ghost func = { LastFunc };
+
+    ghost takes = { IsNumber };
+
+    ghost grows = { ⊥ };
+
+    ghost stands = { λ state values. IsEnd state.count (seen state.last) values };
+
+    ghost suits = { λ _ _. ⊤ };
+
+    ghost size_of = { λ state. state.count };
+
+    ghost held = { λ state. ended state.count (seen state.last) };
+
+    ghost held_at = { ended_at };
+
+    fn empty(_alloc: Global) -> Last {
+        Last {
+            count: 0,
+            last: None,
+        }
+    }
+
+    fn is_empty(&self) -> bool {
+        self.count == 0
+    }
+
+    fn size(&self) -> u64 {
+        self.count
+    }
+
+    fn answer(&self) -> Answer {
+        match self.last {
+            Some(number) => Answer::Number(number.amount()),
+            None => Answer::Dash,
+        }
+    }
+
+    fn add(&mut self, value: &Value) -> Result<(), Memory> {
+        match Number::of(value) {
+            Some(number) => {
+                *self = Last {
+                    count: self.count + 1,
+                    last: Some(number),
+                };
+                Ok(())
+            }
+            None => unreachable!(),
+        }
+    }
+
+    fn remove(&mut self, _value: &Value) -> Result<(), Unfit> {
+        if self.count == 0 {
+            return Err(Unfit);
+        }
+        *self = without_first(self.count, self.last);
+        Ok(())
+    }
+
+    fn encode(&self, out: &mut Vec<u8>) -> Result<(), Memory> {
+        match self.last {
+            Some(number) => put_last(self.count, number, out),
+            None => unreachable!(),
+        }
+    }
+
+    fn decode(alloc: Global, from: &mut ByteReader<'_>) -> Result<Last, StateFault> {
+        // All that is left, so that a refusal can put it back.
+        let bytes = from.bytes(from.left())?;
+        let mut left = ByteReader::new(bytes);
+        match read_last(alloc, &mut left) {
+            Ok(state) => {
+                *from = left;
+                Ok(state)
+            }
+            Err(fault) => {
+                *from = ByteReader::new(bytes);
+                Err(fault)
+            }
+        }
+    }
+
+    ghost counts = { λ _ _ stands. stands.count };
+}
+
+/// The state of one value fewer, of which the last one is the same, if there is one.
+fn without_first(count: u64, last: Option<Number>) -> Last
+    requires some { 0 < count }
+    requires few { count ≤ 2 ^ 40 }
+    requires kept { IsTrue (is_kept count last) }
+    ensures count { result.count + 1 ≡ count }
+    ensures none { count ≡ 1 → seen result.last ≡ None }
+    ensures same { 1 < count → result.last ≡ last }
+{
+    if count == 1 {
+        return Last {
+            count: 0,
+            last: None,
+        };
+    }
+    Last {
+        count: count - 1,
+        last,
+    }
+}
+
+/// Writes a count and a last value at the end. Where memory runs out `out` holds what it held.
+fn put_last(count: u64, last: Number, out: &mut Vec<u8>) -> Result<(), Memory>
+    ensures ok { OnOk result (out.new.items ≡ out.old.items ++ held_bytes (ended count (Some (value_of last)))) }
+    ensures err { OnErr result (out.new.items ≡ out.old.items) }
+{
+    let start = out.len();
+    match put_parts(count, last, out) {
+        Ok(()) => Ok(()),
+        Err(memory) => {
+            out.truncate(start);
+            Err(memory)
+        }
+    }
+}
+
+/// Writes the same. Where memory runs out a front of it may stand there.
+fn put_parts(count: u64, last: Number, out: &mut Vec<u8>) -> Result<(), Memory>
+    ensures ok { OnOk result (out.new.items ≡ out.old.items ++ held_bytes (ended count (Some (value_of last)))) }
+    ensures err { OnErr result (Keeps out.old.items out.new.items) }
+{
+    put_size(TAG, count, out)?;
+    put_tagged(&last.value(), out)
+}
+
+/// Takes a count and a last value. A refusal may leave the reader in mid-way.
+fn read_last(alloc: Global, from: &mut ByteReader<'_>) -> Result<Last, StateFault>
+    ensures agrees { Agrees (λ state. ended state.count (seen state.last)) (ended_at from.old) result from.new }
+    ensures ok { IfOk result (λ state. from.old ≡ held_bytes (ended state.count (seen state.last)) ++ from.new) }
+    ensures some { IfOk result (λ state. 0 < state.count) }
+{
+    let count = read_size(TAG, from)?;
+    let last = read_number(alloc, from)?;
+    Ok(Last {
+        count,
+        last: Some(last),
+    })
+}

@@ -1,0 +1,28 @@
+//! Aggregators whose states add at the back and take from the front.
+#![tactic(auto)]
+
+mod aggregate;
+mod amount;
+mod avg;
+mod count;
+mod fault;
+mod first;
+mod last;
+mod number;
+mod reading;
+mod sum;
+mod sum_sq;
+mod total;
+
+pub use aggregate::Aggregate;
+pub use avg::Avg;
+pub use count::Count;
+pub use fault::{StateFault, Unfit};
+pub use first::First;
+pub use last::Last;
+pub use rg_metric::{Answer, Answers};
+pub use sum::Sum;
+pub use sum_sq::SumSq;
+
+#[cfg(test)]
+mod tests;

@@ -1,0 +1,90 @@
+ghost use Rattle.std.specs.Prelude.{◌≡◌};
+
+use crate::aggregate::Aggregate;
+use crate::fault::{StateFault, Unfit};
+use crate::total::Total;
+use rg_bytes::{ByteReader, Memory};
+use rg_event::Value;
+use rg_metric::Answer;
+use std::alloc::Global;
+
+/// The byte in front of a sum.
+const TAG: u8 = 2;
+
+/// The sum of ints.
+#[derive(Debug, Drop)]
+pub struct Sum {
+    total: Total,
+}
+
+impl Aggregate for Sum {
+    ghost use Rattle.std.specs.Prelude.{⊤};
+    ghost use Rattle.rg_agg.specs.Held.{summed, summed_at};
+    ghost use Rattle.rg_agg.specs.Stands.{IsInt, IsTotal};
+    ghost use Rattle.rg_words.specs.declared.func.Func.TheVariants.{Sum as SumFunc};
+
+    ghost func = { SumFunc };
+
+    ghost takes = { IsInt };
+
+    ghost grows = { ⊥ };
+
+    ghost stands = { λ state values. IsTotal state.total.count state.total.sum values };
+
+    ghost suits = { λ _ _. ⊤ };
+
+    ghost size_of = { λ state. state.total.count };
+
+    ghost held = { λ state. summed state.total.count state.total.sum };
+
+    ghost held_at = { summed_at };
+
+    fn empty(_alloc: Global) -> Sum {
+        Sum {
+            total: Total::new(),
+        }
+    }
+
+    fn is_empty(&self) -> bool {
+        self.total.count == 0
+    }
+
+    fn size(&self) -> u64 {
+        self.total.count
+    }
+
+    fn answer(&self) -> Answer {
+        Answer::Number(self.total.sum)
+    }
+
+    fn add(&mut self, value: &Value) -> Result<(), Memory> {
+        self.total.add(value);
+        Ok(())
+    }
+
+    fn remove(&mut self, value: &Value) -> Result<(), Unfit> {
+        self.total.remove(value)
+    }
+
+    fn encode(&self, out: &mut Vec<u8>) -> Result<(), Memory> {
+        self.total.put(TAG, out)
+    }
+
+    fn decode(_alloc: Global, from: &mut ByteReader<'_>) -> Result<Sum, StateFault> {
+        // All that is left, so that a refusal can put it back.
+        let bytes = from.bytes(from.left())?;
+        let mut left = ByteReader::new(bytes);
+        match Total::read(TAG, &mut left) {
+            Ok(total) => {
+                *from = left;
+                Ok(Sum { total })
+            }
+            Err(fault) => {
+                *from = ByteReader::new(bytes);
+                Err(fault)
+            }
+        }
+    }
+
+    ghost counts = { λ _ _ stands. stands.count };
+}

@@ -1,10 +1,12 @@
 pub mod Arrivals
-pub mod Checks
 pub mod Ends
 pub mod Inputs
+pub mod Listed
 pub mod Outputs
 pub mod Plans
 pub mod Progress
+pub mod Serving
+pub mod Steadiness
 pub mod Verdicts
 pub mod Whole
 pub mod Worked

@@ -7,15 +7,18 @@ use lib.Utf8.{encode}
 use Rattle.rg_event.specs.declared.schema.Field.{Field}
 use Rattle.rg_event.specs.declared.value.Kind.TheVariants.{Text, Int}
 use Rattle.rg_event.specs.declared.value.Value.TheVariants.{Int as IntValue}
-use Rattle.rg_words.specs.declared.func.Func.TheVariants.{Count}
+use Rattle.rg_words.specs.declared.func.Func.TheVariants.{Count, Sum}
 use Rattle.rg_words.specs.declared.op.Op.TheVariants.{Gt}
+use Rattle.rg_metric.specs.declared.query.Agg.{Agg}
 use Rattle.rg_metric.specs.declared.query.Window.{Window}
 use Rattle.rg_metric.specs.Conditions.{Test, compared}
 use Rattle.rg_metric.specs.Queries.{Asked}
 use Rattle.rg_row.specs.Fields.{split_from}
 use Rattle.rg_host.specs.Lines.{lines_of, ended}
 use Rattle.rg_config.specs.Plans.{Planned}
-use Rattle.railgun.specs.Output.{output_of, check_text}
+use Rattle.rg_plan.specs.Plans.{plan_for}
+use Rattle.railgun.specs.Output.{output_of}
+use Rattle.railgun.specs.Listing.{task_text, check_text}
 
 abbrev card : Field
 card = record { name = codes "card"; kind = Text }
@@ -29,17 +32,30 @@ amount = record { name = codes "amount"; kind = Int }
 abbrev sliding : ℕ → ℕ → Window
 sliding length delay = record { delay = delay; length = Some length }
 
--- `count(*)`
+abbrev payments : Agg
+payments = record { func = Count; field = 0 }
+
+abbrev amounts : Agg
+amounts = record { func = Sum; field = 3 }
+
 abbrev counting : Option Test → List ℕ → Window → Asked
-counting filter group window = record { aggs = record { func = Count; field = 0 } ∷ []; filter = filter; group = group; window = window }
+counting filter group window = record { aggs = payments ∷ []; filter = filter; group = group; window = window }
+
+-- aggregators over five minutes of those with the same values in some columns
+abbrev over_five_minutes : List ℕ → List Agg → Asked
+over_five_minutes group aggs = record { aggs = aggs; filter = None; group = group; window = sliding 300000 0 }
+
+-- a plan of these queries
+abbrev asking_all : List ℕ → List Field → List Asked → ℕ → Bool → Planned
+asking_all stream fields queries events header = record {
+  shape = record { stream = stream; time = codes "ts"; fields = fields };
+  queries = queries;
+  settings = record { cache = 1; chunk = 2; commit = 2; save = 4; events = events; header = header };
+}
 
 -- a plan of one query over payments
 abbrev asking : List Field → Asked → ℕ → Bool → Planned
-asking fields query events header = record {
-  shape = record { stream = codes "payments"; time = codes "ts"; fields = fields };
-  queries = query ∷ [];
-  settings = record { cache = 1; chunk = 2; commit = 2; save = 4; events = events; header = header };
-}
+asking fields query events header = asking_all (codes "payments") fields (query ∷ []) events header
 
 abbrev five_minutes : Planned
 five_minutes = asking (card ∷ []) (counting None (1 ∷ []) (sliding 300000 0)) 100 false
@@ -60,9 +76,27 @@ full_at_two_events : ended (output_of (dear 2) (codes "0,c1,m1,100\n1,c1,m1,101\
 unfolding lines_of is_utf8 digits chars encode split_from
 full_at_two_events = refl
 
-checked : ended (check_text (dear 100)) ≡ codes "query 0 SELECT count(*) FROM payments WHERE amount > 100 GROUP BY card OVER SLIDING 300000 ms\n"
+checked : ended (check_text (dear 100))
+    ≡ codes "query 0 SELECT count(*) FROM payments WHERE amount > 100 GROUP BY card OVER SLIDING 300000 ms\noffset 0\noffset 300000\nwindow 0 0 300000\nfilter 0 0 amount > 100\ngroup 0 0 card\nagg 0 0 count(*)\n"
 unfolding digits
 checked = refl
+
+-- two queries share all nodes but one
+sharing_nodes : ended (task_text (dear 100).shape (plan_for (over_five_minutes (1 ∷ []) (payments ∷ []) ∷ (over_five_minutes (1 ∷ []) (amounts ∷ (payments ∷ [])) ∷ []))))
+    ≡ codes "offset 0\noffset 300000\nwindow 0 0 300000\nfilter 0 0 all\ngroup 0 0 card\nagg 0 0 count(*)\nagg 1 0 sum(amount)\n"
+unfolding digits
+sharing_nodes = refl
+
+sharing_an_offset : ended (check_text (asking_all (codes "p") (card ∷ []) (counting None [] (sliding 5 0) ∷ (counting None [] (sliding 10 5) ∷ [])) 100 false))
+    ≡ codes "query 0 SELECT count(*) FROM p OVER SLIDING 5 ms\nquery 1 SELECT count(*) FROM p OVER SLIDING 10 ms DELAYED BY 5 ms\noffset 0\noffset 5\noffset 15\nwindow 0 0 5\nwindow 1 5 15\nfilter 0 0 all\nfilter 1 1 all\ngroup 0 0 -\ngroup 1 1 -\nagg 0 0 count(*)\nagg 1 1 count(*)\n"
+unfolding digits
+sharing_an_offset = refl
+
+-- the answers of two queries stand one after another
+two_queries : ended (output_of (asking_all (codes "payments") (dear 100).shape.fields (over_five_minutes (1 ∷ []) (payments ∷ (amounts ∷ [])) ∷ (over_five_minutes (2 ∷ []) (payments ∷ []) ∷ [])) 100 false) (codes "0,c1,m1,100\n299999,c1,m2,200\n300000,c1,m1,50\n"))
+    ≡ codes "0 ok 1 100 1\n1 ok 2 300 1\n2 ok 2 250 1\ndone 3 3\n"
+unfolding lines_of is_utf8 digits chars encode split_from
+two_queries = refl
 
 delayed_by_five : ended (output_of (asking (card ∷ []) (counting None [] (sliding 10 5)) 100 false) (codes "0,c1\n5,c1\n15,c1\n")) ≡ codes "0 ok 0\n1 ok 1\n2 ok 1\ndone 3 3\n"
 unfolding lines_of is_utf8 digits chars encode split_from

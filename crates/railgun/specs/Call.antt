@@ -10,7 +10,8 @@ use Rattle.railgun.specs.declared.command.Command.{Command}
 use Rattle.railgun.specs.declared.command.Command.TheVariants.{Run, Check}
 use Rattle.railgun.specs.declared.ending.Ending.{Ending}
 use Rattle.railgun.specs.declared.ending.Ending.TheVariants.{Refused, Failed}
-use Rattle.railgun.specs.Output.{output_of, replies_to, check_text}
+use Rattle.railgun.specs.Listing.{check_text}
+use Rattle.railgun.specs.Output.{output_of, replies_to}
 use Rattle.railgun.specs.declared.status.Status.{Status}
 use Rattle.railgun.specs.declared.status.Status.TheVariants.{Ok, Usage, Plan as BadPlan, Store, Read, Write, Disk, Limit, Memory, Gap, Differs}
 

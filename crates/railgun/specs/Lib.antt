@@ -1,7 +1,9 @@
 pub mod Plan
 pub mod Output
+pub mod Listing
 pub mod Put
 pub mod Session
+pub mod Steady
 pub mod Codes
 pub mod Turn
 pub mod Run

@@ -1,5 +1,5 @@
 -- What is put out for an input. Each line is answered from the lines before it alone.
-use Rattle.std.specs.Prelude.{ℕ, zero, suc, ◌==◌, ◌&&◌, nat_lt, nat_le, List, [], ◌∷◌, ◌++◌, length, map, get_or, codes, decimal, Option, Some, None, Result, Ok, Err, if◌then◌else◌}
+use Rattle.std.specs.Prelude.{ℕ, zero, suc, ◌==◌, ◌&&◌, nat_lt, nat_le, List, [], ◌∷◌, ◌++◌, length, get_or, Option, Some, None, Result, Ok, Err, if◌then◌else◌}
 use Rattle.std.specs.List.{list_any}
 use Rattle.rg_event.specs.declared.event.Event.{Event}
 use Rattle.rg_metric.specs.Queries.{Asked}
@@ -13,7 +13,6 @@ use Rattle.rg_row.specs.Rows.{row_of}
 use Rattle.rg_row.specs.declared.fault.RowFault.{RowFault}
 use Rattle.rg_row.specs.declared.fault.RowFault.TheVariants as fault
 use Rattle.rg_host.specs.Lines.{lines_of}
-use Rattle.rg_query.specs.Printing.{query_text}
 use Rattle.rg_config.specs.Plans.{Planned}
 
 -- the reply to a fault of a row; the definition of a row never runs out of memory
@@ -85,16 +84,3 @@ output_for plan lines = replies_to plan lines ++ mark_line (Finished (length lin
 -- all lines that are put out for an input
 abbrev pub output_of : Planned → List ℕ → List (List ℕ)
 output_of plan input = output_for plan (lines_of input)
-
--- The lines that are put out for a plan alone: each query as it is printed, with its number
-
-abbrev pub query_line : ℕ → List ℕ → List ℕ
-query_line number text = codes "query " ++ (decimal number ++ (codes " " ++ text))
-
--- the lines of these texts, the first of which has this number
-abbrev pub query_lines : ℕ → List (List ℕ) → List (List ℕ)
-query_lines number [] = []
-query_lines number (text ∷ texts) = query_line number text ∷ query_lines (suc number) texts
-
-abbrev pub check_text : Planned → List (List ℕ)
-check_text plan = query_lines 0 (map (query_text plan.shape) plan.queries)

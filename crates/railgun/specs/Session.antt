@@ -1,10 +1,13 @@
 -- The events accepted so far, and what answers the next one.
-use Rattle.std.specs.Prelude.{◌≡◌, ℕ, ◌≤◌, List, Result, Ok, Err, ⊤}
+use Rattle.std.specs.Prelude.{◌≡◌, ℕ, ◌≤◌, List, [], ◌∷◌, ◌++◌, Result, Ok, Err, All, ⊤}
+use Rattle.rg_event.specs.Codec.{IsEventOf}
 use Rattle.rg_event.specs.declared.event.Event.{Event}
 use Rattle.rg_past.specs.Held.{IsInRange}
 use Rattle.rg_past.specs.Order.{next_offset}
 use Rattle.rg_engine.specs.declared.reply.Reply.{Reply}
 use Rattle.rg_metric.specs.Queries.{Asked}
+use Rattle.rg_plan.specs.Plans.{plan_for}
+use Rattle.rg_engine.specs.Feeding.{Serves, IsFed}
 use Rattle.rg_config.specs.Plans.{Planned}
 
 pub record Accepting : Type 0 where
@@ -15,12 +18,19 @@ pub record Accepting : Type 0 where
   -- how many events there may be
   pub most : ℕ
 
--- the session answers the plan's queries, and accepts as many events as the plan allows
+-- the session answers the plan's queries, accepts as many events as the plan allows, and its events are of the plan's columns, which serve the queries
 pub record IsFor (plan : Planned) (session : Accepting) : Type 0 where
   pub queries : session.queries ≡ plan.queries
   pub most : session.most ≡ plan.settings.events
+  pub serves : Serves plan.shape.fields (plan_for plan.queries)
+  pub fed : All (IsEventOf plan.shape.fields) session.events
 
--- the event may follow these, and lies in its ranges
-abbrev pub Follows : List Event → Result Event Reply → Type 0
-Follows events (Err reply) = ⊤
-Follows events (Ok e) = (next_offset events ≤ e.offset) × IsInRange e
+-- the event may follow these, lies in its ranges, and is of the columns that they are of
+pub record MayCome (queries : List Asked) (events : List Event) (e : Event) : Type 0 where
+  pub offset : next_offset events ≤ e.offset
+  pub range : IsInRange e
+  pub fed : IsFed (plan_for queries) (events ++ e ∷ [])
+
+abbrev pub Follows : List Asked → List Event → Result Event Reply → Type 0
+Follows queries events (Err reply) = ⊤
+Follows queries events (Ok e) = MayCome queries events e

@@ -6,6 +6,7 @@ mod call;
 mod check;
 mod command;
 mod ending;
+mod listing;
 mod put;
 mod real;
 mod run;

@@ -42,7 +42,7 @@ impl Run {
     {
         Ok(Run {
             lines: Lines::new(alloc)?,
-            session: Session::new(alloc, &plan.parsed, plan.room.limit)?,
+            session: Session::new(alloc, &plan.task, plan.room.limit)?,
             text: Vec::new(alloc),
             offset: 0,
         })
@@ -50,7 +50,7 @@ impl Run {
 
     /// Takes the next line and puts its answer out, or puts the end out. Answers whether there was
     /// a line.
-    #[tactic(auto, using(crate::proofs::Arrivals::follows_look, crate::proofs::Arrivals::next_after))]
+    #[tactic(auto, using(crate::proofs::Arrivals::next_after))]
     pub fn turn<I: Source, H: Host>(
         &mut self,
         alloc: Global,
@@ -84,7 +84,7 @@ impl Run {
                 return Ok(false);
             }
         };
-        let reply = self.session.answer(alloc, look)?;
+        let reply = self.session.answer(look)?;
         self.text.clear();
         write_reply(&mut self.text, self.offset, &reply)?;
         put(host, &self.text)?;

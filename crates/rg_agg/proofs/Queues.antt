@@ -1,7 +1,7 @@
 -- Values in a row, with one more at the back and one less at the front, and as they are read.
 use Rattle.std.proofs.Common.{◌≡◌, ℕ, suc, ◌+◌, ◌-◌, ◌<◌, ◌≤◌, ◌^◌, ◌&&◌, true, false, Bool, if◌then◌else◌, map, drop, List, [], ◌∷◌, ◌++◌, length, Ok, Err, inl, inr, ◌⊎◌, refl, ap, sym, ◌∙◌, arith, length-append, append_assoc, append-nil}
 use Rattle.std.proofs.lemmas.Bool.{and_parts, and_from}
-use Rattle.rg_agg.specs.Lengths.{length_of}
+use Rattle.std.proofs.lemmas.List.{length-map}
 use Rattle.std.specs.Prelude.{slice_index_or}
 use Rattle.rg_metric.specs.Same.{same_value}
 use Rattle.rg_metric.proofs.Same.{same_value-same}
@@ -9,10 +9,11 @@ use Rattle.std.specs.Int.{w64, to_be_bytes}
 use Rattle.rg_agg.specs.Held.{queued, held_bytes, tagged_list, is_like, is_like_first, number_value_at, next_at, more_at, queued_at, size_behind_at}
 use Rattle.rg_agg.specs.Numbers.{value_of}
 use Rattle.rg_agg.specs.Stands.{IsNumber, is_int_or_id, all_like, are_alike, begins_with}
+use Rattle.rg_agg.specs.Standing.{IsLike, first_kind}
 use Rattle.rg_agg.specs.declared.fault.StateFault.{StateFault}
 use Rattle.rg_agg.specs.declared.fault.StateFault.TheVariants.{Unfit, Memory}
 use Rattle.rg_agg.specs.declared.number.Number.{Number}
-use Rattle.rg_event.specs.Tagged.{tagged_bytes}
+use Rattle.rg_event.specs.Tagged.{tagged_bytes, value_kind}
 use Rattle.rg_event.specs.declared.value.Value.{Value}
 use Rattle.rg_event.specs.declared.value.Value.TheVariants.{Int as IntValue, Id as IdValue}
 use Rattle.rg_metric.specs.Answers.{number_of, answer_of}
@@ -60,6 +61,16 @@ alike_more (w ∷ ws) v are is like =
 -- with one number more at the back
 pub alike_pushed : (numbers new : List Number) (number : Number) → new ≡ numbers ++ number ∷ [] → are_alike (map value_of numbers) ≡ true → IsNumber (value_of number) → is_like_first (value_of number) (map value_of numbers) ≡ true → are_alike (map value_of new) ≡ true
 alike_pushed numbers new number pushed are is like = rw (pushed, values_more numbers number) (alike_more (map value_of numbers) (value_of number) are is like)
+
+kinds_like : (v w : Value) → IsNumber v → value_kind v ≡ value_kind w → is_like w v ≡ true
+kinds_like (IntValue v) (IntValue w) is same = refl
+kinds_like (IdValue v) (IdValue w) is same = refl
+kinds_like v w is same = cc
+
+-- a value of their kind
+pub like_first : (v : Value) (values : List Value) → IsNumber v → IsLike (first_kind values) v → is_like_first v values ≡ true
+like_first v [] is like = refl
+like_first v (w ∷ ws) is like = kinds_like v w is like
 
 -- with the first one taken away
 rest_is : (numbers : List Number) → map value_of (drop 1 numbers) ≡ drop 1 (map value_of numbers)
@@ -167,7 +178,7 @@ values_read_back (v ∷ vs) rest are =
 pub queued_reads_back : (numbers : List Number) (rest : List ℕ) → 0 < length numbers → length numbers ≤ 2 ^ 40 → are_alike (map value_of numbers) ≡ true → queued_at (held_bytes (queued (map value_of numbers)) ++ rest) ≡ Ok (queued (map value_of numbers), rest)
 queued_reads_back numbers rest some few are =
     let values = map value_of numbers in
-    let counted : length numbers ≡ length values = length_of numbers values refl in
+    let counted : length values ≡ length numbers = length-map numbers value_of in
     let stood : held_bytes (queued values) ++ rest ≡ 8 ∷ (to_be_bytes w64 (length values) ++ (tagged_list values ++ rest)) = ap (λ (bytes : List ℕ). 8 ∷ bytes) (append_assoc (to_be_bytes w64 (length values)) (tagged_list values) rest) in
     queued_read _ (length values) (tagged_list values ++ rest) values rest (size_behind_read 8 _ (length values) (tagged_list values ++ rest) stood (omega (arith, counted)) (omega (arith, counted))) (values_read_back values rest are)
 

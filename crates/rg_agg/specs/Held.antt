@@ -9,7 +9,8 @@ use Rattle.rg_event.specs.declared.codec.EventFault.TheVariants.{Short as EventS
 use Rattle.rg_event.specs.declared.value.Value.{Value}
 use Rattle.rg_event.specs.declared.value.Value.TheVariants.{Int, Id, Text, Flag}
 
--- what a state keeps of its values: how many, how many and their sum (for a mean, or of squares), all of them, or how many and the last one
+-- what a state keeps of its values: how many, how many and their sum (for a mean, or of squares), all of them, how many and the last one,
+-- or each value once with how often it is there (for a least, a greatest, or a distinct count)
 pub data Held : Type 0 where
   counted : ℕ → Held
   summed : ℕ → ℤ → Held
@@ -17,6 +18,9 @@ pub data Held : Type 0 where
   squared : ℕ → ℤ → Held
   queued : List Value → Held
   ended : ℕ → Option Value → Held
+  lowest : List (Value × ℕ) → Held
+  highest : List (Value × ℕ) → Held
+  varied : List (Value × ℕ) → Held
 
 -- 16 bytes of two's complement
 abbrev pub sum_bytes : ℤ → List ℕ
@@ -31,6 +35,15 @@ abbrev pub tagged_list : List Value → List ℕ
 tagged_list [] = []
 tagged_list (value ∷ values) = tagged_bytes value ++ tagged_list values
 
+-- each value with its kind's tag, and in 8 bytes how often it is there
+abbrev pub pairs_bytes : List (Value × ℕ) → List ℕ
+pairs_bytes [] = []
+pairs_bytes (pair ∷ pairs) = tagged_bytes pair.0 ++ (to_be_bytes w64 pair.1 ++ pairs_bytes pairs)
+
+-- a tag, the number of pairs in 8 bytes, and the pairs
+abbrev pub counts_bytes : ℕ → List (Value × ℕ) → List ℕ
+counts_bytes tag pairs = tag ∷ (to_be_bytes w64 (length pairs) ++ pairs_bytes pairs)
+
 -- a tag, the number of values in 8 bytes, and what else is kept
 abbrev pub held_bytes : Held → List ℕ
 held_bytes (counted n) = 1 ∷ to_be_bytes w64 n
@@ -39,6 +52,9 @@ held_bytes (averaged n sum) = 3 ∷ (to_be_bytes w64 n ++ sum_bytes sum)
 held_bytes (squared n sum) = 4 ∷ (to_be_bytes w64 n ++ sum_bytes sum)
 held_bytes (queued values) = 8 ∷ (to_be_bytes w64 (length values) ++ tagged_list values)
 held_bytes (ended n last) = 9 ∷ (to_be_bytes w64 n ++ last_bytes last)
+held_bytes (lowest pairs) = counts_bytes 5 pairs
+held_bytes (highest pairs) = counts_bytes 6 pairs
+held_bytes (varied pairs) = counts_bytes 7 pairs
 
 -- what some bytes begin with, and the bytes behind it; or why they begin with none
 abbrev pub Begins : Type 0 → Type 0

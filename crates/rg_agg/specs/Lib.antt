@@ -1,4 +1,5 @@
 pub mod Held
 pub mod Stands
 pub mod Numbers
-pub mod Lengths
+pub mod Standing
+pub mod StandingLaws

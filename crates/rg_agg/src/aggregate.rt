@@ -1,12 +1,15 @@
-ghost use Rattle.std.specs.Prelude.{◌≡◌, ℕ, ◌+◌, ◌<◌, ◌≤◌, ◌^◌, ◌==◌, List, [], ◌∷◌, ◌++◌, length, IfOk, OnOk, OnErr, IsErr};
+ghost use Rattle.std.specs.Prelude.{◌≡◌, ℕ, ◌+◌, ◌<◌, ◌≤◌, ◌^◌, ◌==◌, None, List, [], ◌∷◌, ◌++◌, IfOk, OnOk, OnErr, IsErr};
+ghost use Rattle.std.specs.List.{All};
 ghost use Rattle.rg_agg.specs.Held.{Held, Begins, held_bytes, Agrees, Returns};
+ghost use Rattle.rg_agg.specs.Standing.{Stands, IsLike, func_of, kind_in, size_in};
+ghost use Rattle.rg_event.specs.Tagged.{value_kind};
 ghost use Rattle.rg_event.specs.declared.value.Value.{Value};
 ghost use Rattle.rg_metric.specs.Answers.{answer_of};
 ghost use Rattle.rg_words.specs.declared.func.Func.{Func};
 
 use crate::fault::{StateFault, Unfit};
 use rg_bytes::{ByteReader, Memory};
-use rg_event::Value;
+use rg_event::{Kind, Value};
 use rg_metric::Answer;
 use std::alloc::Global;
 
@@ -21,15 +24,6 @@ pub trait Aggregate {
     /// Where adding a value may take memory.
     ghost grows: { Type 0 };
 
-    /// The values that a state stands for.
-    ghost stands: { Self → List Value → Type 0 };
-
-    /// The value is of the kind of those that the state keeps.
-    ghost suits: { Self → Value → Type 0 };
-
-    /// How many values a state stands for.
-    ghost size_of: { Self → ℕ };
-
     /// What a state keeps.
     ghost held: { Self → Held };
 
@@ -38,44 +32,48 @@ pub trait Aggregate {
 
     /// The state of no values.
     fn empty(alloc: Global) -> Self
-        ensures stands { stands result [] }
-        ensures size { size_of result ≡ 0 };
+        ensures stands { Stands (held result) [] }
+        ensures size { size_in (held result) ≡ 0 }
+        ensures kind { kind_in (held result) ≡ None };
 
     /// Whether it stands for no values.
     fn is_empty(&self) -> bool
-        ensures { result ≡ (size_of self.now == 0) };
+        ensures { result ≡ (size_in (held self.now) == 0) };
 
     /// How many values it stands for, at most 2^40.
     fn size(&self) -> u64
-        ensures size { result ≡ size_of self.now }
-        ensures few { result ≤ 2 ^ 40 }
-        ensures counts { (values : List Value) → stands self.now values → result ≡ length values };
+        ensures size { result ≡ size_in (held self.now) }
+        ensures few { result ≤ 2 ^ 40 };
+
+    /// The kind of the values that it keeps; none where it keeps none of them.
+    fn kind(&self) -> Option<Kind>
+        ensures kind { result ≡ kind_in (held self.now) }
+        ensures like { (values : List Value) (value : Value) → Stands (held self.now) values → All (λ v. value_kind v ≡ value_kind value) values → IsLike result value };
 
     /// The function's answer over the values that it stands for.
     fn answer(&self) -> Answer
-        ensures { (values : List Value) → stands self.now values → result ≡ answer_of func values };
+        ensures { (values : List Value) → Stands (held self.now) values → result ≡ answer_of func values };
 
     /// Adds a value at the back. Where memory runs out the state is as before.
     fn add(&mut self, value: &Value) -> Result<(), Memory>
-        requires room { size_of self.old < 2 ^ 40 }
+        requires room { size_in (held self.old) < 2 ^ 40 }
         requires takes { takes value.now }
-        requires suits { suits self.old value.now }
-        ensures ok { OnOk result ((values : List Value) → stands self.old values → stands self.new (values ++ value.now ∷ [])) }
-        ensures size { OnOk result (size_of self.new ≡ size_of self.old + 1) }
+        requires like { IsLike (kind_in (held self.old)) value.now }
+        ensures ok { OnOk result ((values : List Value) → Stands (held self.old) values → Stands (held self.new) (values ++ value.now ∷ [])) }
+        ensures size { OnOk result (size_in (held self.new) ≡ size_in (held self.old) + 1) }
         ensures err { OnErr result (held self.new ≡ held self.old) }
-        ensures keeps { OnErr result ((values : List Value) → stands self.old values → stands self.new values) }
         ensures memory { IsErr result → grows };
 
     /// Takes the first value away. A refusal leaves the state as it was.
     fn remove(&mut self, value: &Value) -> Result<(), Unfit>
-        ensures ok { OnOk result ((values : List Value) → stands self.old (value.now ∷ values) → stands self.new values) }
-        ensures size { OnOk result (size_of self.old ≡ size_of self.new + 1) }
-        ensures unfit { OnErr result ((values : List Value) → stands self.old (value.now ∷ values) → ⊥) }
+        ensures ok { OnOk result ((values : List Value) → Stands (held self.old) (value.now ∷ values) → Stands (held self.new) values) }
+        ensures size { OnOk result (size_in (held self.old) ≡ size_in (held self.new) + 1) }
+        ensures unfit { OnErr result ((values : List Value) → Stands (held self.old) (value.now ∷ values) → ⊥) }
         ensures err { OnErr result (self.new ≡ self.old) };
 
     /// Writes the state at the end. Where memory runs out `out` holds what it held.
     fn encode(&self, out: &mut Vec<u8>) -> Result<(), Memory>
-        requires { 0 < size_of self.now }
+        requires { 0 < size_in (held self.now) }
         ensures ok { OnOk result (out.new.items ≡ out.old.items ++ held_bytes (held self.now)) }
         ensures err { OnErr result (out.new.items ≡ out.old.items) };
 
@@ -83,9 +81,9 @@ pub trait Aggregate {
     fn decode(alloc: Global, from: &mut ByteReader<'_>) -> Result<Self, StateFault>
         ensures agrees { Agrees held (held_at from.old) result from.new }
         ensures ok { IfOk result (λ state. from.old ≡ held_bytes (held state) ++ from.new) }
-        ensures some { IfOk result (λ state. 0 < size_of state) }
-        ensures reads_back { (state : Self) (rest : List ℕ) → 0 < size_of state → from.old ≡ held_bytes (held state) ++ rest → Returns held (held state) rest result from.new }
+        ensures some { IfOk result (λ state. 0 < size_in (held state)) }
+        ensures reads_back { (state : Self) (rest : List ℕ) → 0 < size_in (held state) → from.old ≡ held_bytes (held state) ++ rest → Returns held (held state) rest result from.new }
         ensures err { OnErr result (from.new ≡ from.old) };
 
-    ghost counts: { (state : Self) (values : List Value) → stands state values → size_of state ≡ length values };
+    ghost of_func: { (state : Self) → func_of (held state) ≡ func };
 }

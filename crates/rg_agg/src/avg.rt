@@ -4,7 +4,7 @@ use crate::aggregate::Aggregate;
 use crate::fault::{StateFault, Unfit};
 use crate::total::Total;
 use rg_bytes::{ByteReader, Memory};
-use rg_event::Value;
+use rg_event::{Kind, Value};
 use rg_metric::Answer;
 use std::alloc::Global;
 
@@ -18,9 +18,9 @@ pub struct Avg {
 }
 
 impl Aggregate for Avg {
-    ghost use Rattle.std.specs.Prelude.{⊤};
+    ghost use Rattle.std.specs.Prelude.{refl};
     ghost use Rattle.rg_agg.specs.Held.{averaged, averaged_at};
-    ghost use Rattle.rg_agg.specs.Stands.{IsInt, IsTotal};
+    ghost use Rattle.rg_agg.specs.Stands.{IsInt};
     ghost use Rattle.rg_words.specs.declared.func.Func.TheVariants.{Avg as AvgFunc};
 
     ghost func = { AvgFunc };
@@ -28,12 +28,6 @@ impl Aggregate for Avg {
     ghost takes = { IsInt };
 
     ghost grows = { ⊥ };
-
-    ghost stands = { λ state values. IsTotal state.total.count state.total.sum values };
-
-    ghost suits = { λ _ _. ⊤ };
-
-    ghost size_of = { λ state. state.total.count };
 
     ghost held = { λ state. averaged state.total.count state.total.sum };
 
@@ -51,6 +45,10 @@ impl Aggregate for Avg {
 
     fn size(&self) -> u64 {
         self.total.count
+    }
+
+    fn kind(&self) -> Option<Kind> {
+        None
     }
 
     fn answer(&self) -> Answer {
@@ -89,5 +87,5 @@ impl Aggregate for Avg {
         }
     }
 
-    ghost counts = { λ _ _ stands. stands.count };
+    ghost of_func = { λ _. refl };
 }

@@ -5,7 +5,7 @@ use crate::aggregate::Aggregate;
 use crate::fault::{StateFault, Unfit};
 use crate::reading::{put_size, read_size};
 use rg_bytes::{ByteReader, Memory};
-use rg_event::Value;
+use rg_event::{Kind, Value};
 use rg_metric::Answer;
 use std::alloc::Global;
 
@@ -20,7 +20,7 @@ pub struct Count {
 }
 
 impl Aggregate for Count {
-    ghost use Rattle.std.specs.Prelude.{◌≡◌, length, ⊤};
+    ghost use Rattle.std.specs.Prelude.{⊤, refl};
     ghost use Rattle.rg_agg.specs.Held.{counted, counted_at};
     ghost use Rattle.rg_words.specs.declared.func.Func.TheVariants.{Count as CountFunc};
 
@@ -29,12 +29,6 @@ impl Aggregate for Count {
     ghost takes = { λ _. ⊤ };
 
     ghost grows = { ⊥ };
-
-    ghost stands = { λ state values. state.count ≡ length values };
-
-    ghost suits = { λ _ _. ⊤ };
-
-    ghost size_of = { λ state. state.count };
 
     ghost held = { λ state. counted state.count };
 
@@ -50,6 +44,10 @@ impl Aggregate for Count {
 
     fn size(&self) -> u64 {
         self.count
+    }
+
+    fn kind(&self) -> Option<Kind> {
+        None
     }
 
     fn answer(&self) -> Answer {
@@ -96,5 +94,5 @@ impl Aggregate for Count {
         }
     }
 
-    ghost counts = { λ _ _ stands. stands };
+    ghost of_func = { λ _. refl };
 }

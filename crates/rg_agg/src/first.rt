@@ -10,7 +10,7 @@ use crate::fault::{StateFault, Unfit};
 use crate::number::Number;
 use crate::reading::{put_size, read_number, read_size};
 use rg_bytes::{ByteReader, Memory};
-use rg_event::{Value, put_tagged};
+use rg_event::{Kind, Value, put_tagged};
 use rg_metric::Answer;
 use std::alloc::Global;
 use std::collections::VecDeque;
@@ -27,9 +27,8 @@ pub struct First {
 }
 
 impl Aggregate for First {
-    ghost use Rattle.std.specs.Prelude.{⊤, ◌≡◌, length, map, IsTrue};
-    ghost use Rattle.rg_agg.specs.Held.{queued, queued_at, is_like_first};
-    ghost use Rattle.rg_agg.specs.Lengths.{length_of};
+    ghost use Rattle.std.specs.Prelude.{⊤, map, refl};
+    ghost use Rattle.rg_agg.specs.Held.{queued, queued_at};
     ghost use Rattle.rg_agg.specs.Numbers.{value_of};
     ghost use Rattle.rg_agg.specs.Stands.{IsNumber};
     ghost use Rattle.rg_words.specs.declared.func.Func.TheVariants.{First as FirstFunc};
@@ -39,12 +38,6 @@ impl Aggregate for First {
     ghost takes = { IsNumber };
 
     ghost grows = { ⊤ };
-
-    ghost stands = { λ state values. map value_of state.numbers.items ≡ values };
-
-    ghost suits = { λ state value. IsTrue (is_like_first value (map value_of state.numbers.items)) };
-
-    ghost size_of = { λ state. length state.numbers.items };
 
     ghost held = { λ state. queued (map value_of state.numbers.items) };
 
@@ -62,6 +55,13 @@ impl Aggregate for First {
 
     fn size(&self) -> u64 {
         self.numbers.len() as u64
+    }
+
+    fn kind(&self) -> Option<Kind> {
+        match self.numbers.front() {
+            Some(number) => Some(number.kind()),
+            None => None,
+        }
     }
 
     fn answer(&self) -> Answer {
@@ -121,7 +121,7 @@ impl Aggregate for First {
         }
     }
 
-    ghost counts = { λ state values stands. length_of state.numbers.items values stands };
+    ghost of_func = { λ _. refl };
 }
 
 /// Writes how many there are and each of them at the end. Where memory runs out a front of it may stand there.

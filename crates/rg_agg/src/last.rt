@@ -8,7 +8,7 @@ use crate::fault::{StateFault, Unfit};
 use crate::number::Number;
 use crate::reading::{put_size, read_number, read_size};
 use rg_bytes::{ByteReader, Memory};
-use rg_event::{Value, put_tagged};
+use rg_event::{Kind, Value, put_tagged};
 use rg_metric::Answer;
 use std::alloc::Global;
 
@@ -25,10 +25,10 @@ pub struct Last {
 }
 
 impl Aggregate for Last {
-    ghost use Rattle.std.specs.Prelude.{⊤};
+    ghost use Rattle.std.specs.Prelude.{refl};
     ghost use Rattle.rg_agg.specs.Held.{ended, ended_at};
     ghost use Rattle.rg_agg.specs.Numbers.{seen};
-    ghost use Rattle.rg_agg.specs.Stands.{IsNumber, IsEnd};
+    ghost use Rattle.rg_agg.specs.Stands.{IsNumber};
     ghost use Rattle.rg_words.specs.declared.func.Func.TheVariants.{Last as LastFunc};
 
     ghost func = { LastFunc };
@@ -36,12 +36,6 @@ impl Aggregate for Last {
     ghost takes = { IsNumber };
 
     ghost grows = { ⊥ };
-
-    ghost stands = { λ state values. IsEnd state.count (seen state.last) values };
-
-    ghost suits = { λ _ _. ⊤ };
-
-    ghost size_of = { λ state. state.count };
 
     ghost held = { λ state. ended state.count (seen state.last) };
 
@@ -60,6 +54,13 @@ impl Aggregate for Last {
 
     fn size(&self) -> u64 {
         self.count
+    }
+
+    fn kind(&self) -> Option<Kind> {
+        match self.last {
+            Some(number) => Some(number.kind()),
+            None => None,
+        }
     }
 
     fn answer(&self) -> Answer {
@@ -113,7 +114,7 @@ impl Aggregate for Last {
         }
     }
 
-    ghost counts = { λ _ _ stands. stands.count };
+    ghost of_func = { λ _. refl };
 }
 
 /// The state of one value fewer, of which the last one is the same, if there is one.

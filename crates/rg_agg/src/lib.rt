@@ -20,6 +20,8 @@ pub use count::Count;
 pub use fault::{StateFault, Unfit};
 pub use first::First;
 pub use last::Last;
+pub use number::Number;
+pub use reading::{put_size, read_number, read_size};
 pub use rg_metric::{Answer, Answers};
 pub use sum::Sum;
 pub use sum_sq::SumSq;

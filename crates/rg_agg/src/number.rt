@@ -2,24 +2,25 @@ ghost use Rattle.std.specs.Prelude.{◌≡◌, IfSome, IsNone};
 ghost use Rattle.rg_agg.specs.Held.{is_like};
 ghost use Rattle.rg_agg.specs.Numbers.{value_of};
 ghost use Rattle.rg_agg.specs.Stands.{IsNumber};
+ghost use Rattle.rg_event.specs.Tagged.{value_kind};
 ghost use Rattle.rg_metric.specs.Answers.{number_of};
 ghost use Rattle.rg_metric.specs.Same.{same_value};
 
-use rg_event::Value;
+use rg_event::{Kind, Value};
 
 /// The greatest int of a column, and with a minus the least.
 const GREATEST_INT: u64 = 1_000_000_000_000;
 
-/// A value that is an int or an id.
-#[derive(Clone, Copy, Debug)]
-pub(crate) enum Number {
+/// A value that is an int or an id. Those of one kind are ordered as numbers.
+#[derive(Clone, Copy, Debug, PartialEq, Eq, PartialOrd, Ord)]
+pub enum Number {
     Int(i64),
     Id(u64),
 }
 
 impl Number {
     /// The int from -10^12 to 10^12, or the id, that a value is; none for another value.
-    pub(crate) fn of(value: &Value) -> Option<Number>
+    pub fn of(value: &Value) -> Option<Number>
         ensures same { IfSome result (λ number. value_of number ≡ value.now) }
         ensures legal { IfSome result (λ number. IsNumber (value_of number)) }
         ensures none { IsNone result → IsNumber value.now → ⊥ }
@@ -38,7 +39,7 @@ impl Number {
     }
 
     /// The value that it is.
-    pub(crate) fn value(self) -> Value
+    pub fn value(self) -> Value
         ensures { result ≡ value_of self }
     {
         match self {
@@ -48,7 +49,7 @@ impl Number {
     }
 
     /// The number itself.
-    pub(crate) fn amount(self) -> i128
+    pub fn amount(self) -> i128
         ensures { result ≡ number_of (value_of self) }
     {
         match self {
@@ -57,8 +58,18 @@ impl Number {
         }
     }
 
+    /// Whether it is an int or an id.
+    pub fn kind(self) -> Kind
+        ensures { result ≡ value_kind (value_of self) }
+    {
+        match self {
+            Number::Int(_) => Kind::Int,
+            Number::Id(_) => Kind::Id,
+        }
+    }
+
     /// Whether both are ints or both are ids.
-    pub(crate) fn is_like(self, other: Number) -> bool
+    pub fn is_like(self, other: Number) -> bool
         ensures { result ≡ is_like (value_of self) (value_of other) }
     {
         match (self, other) {
@@ -69,7 +80,7 @@ impl Number {
     }
 
     /// Whether they are the same value.
-    pub(crate) fn is_same(self, other: Number) -> bool
+    pub fn is_same(self, other: Number) -> bool
         ensures { result ≡ same_value (value_of self) (value_of other) }
     {
         match (self, other) {

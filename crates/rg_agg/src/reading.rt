@@ -16,7 +16,7 @@ use std::alloc::Global;
 const GREATEST_SIZE: u64 = 1_099_511_627_776;
 
 /// Writes a tag and the number of values at the end. Where memory runs out a front of it may stand there.
-pub(crate) fn put_size(tag: u8, size: u64, out: &mut Vec<u8>) -> Result<(), Memory>
+pub fn put_size(tag: u8, size: u64, out: &mut Vec<u8>) -> Result<(), Memory>
     ensures ok { OnOk result (out.new.items ≡ out.old.items ++ (tag ∷ to_be_bytes w64 size)) }
     ensures err { OnErr result (Keeps out.old.items out.new.items) }
 {
@@ -24,8 +24,8 @@ pub(crate) fn put_size(tag: u8, size: u64, out: &mut Vec<u8>) -> Result<(), Memo
     put_u64(out, size)
 }
 
-/// Takes a tag and the number of values. A refusal may leave the reader in mid-way.
-pub(crate) fn read_size(tag: u8, from: &mut ByteReader<'_>) -> Result<u64, StateFault>
+/// Takes a tag and the number of values, from 1 to 2^40. A refusal may leave the reader in mid-way.
+pub fn read_size(tag: u8, from: &mut ByteReader<'_>) -> Result<u64, StateFault>
     ensures agrees { Agrees (λ size. size) (size_behind_at tag from.old) result from.new }
     ensures ok { IfOk result (λ size. from.old ≡ tag ∷ (to_be_bytes w64 size ++ from.new)) }
     ensures some { IfOk result (λ size. 0 < size) }
@@ -42,7 +42,7 @@ pub(crate) fn read_size(tag: u8, from: &mut ByteReader<'_>) -> Result<u64, State
 }
 
 /// Takes an int or an id with the tag of its kind. A refusal may leave the reader in mid-way.
-pub(crate) fn read_number(alloc: Global, from: &mut ByteReader<'_>) -> Result<Number, StateFault>
+pub fn read_number(alloc: Global, from: &mut ByteReader<'_>) -> Result<Number, StateFault>
     ensures agrees { Agrees value_of (number_value_at from.old) result from.new }
     ensures ok { IfOk result (λ number. from.old ≡ tagged_bytes (value_of number) ++ from.new) }
     ensures legal { IfOk result (λ number. IsNumber (value_of number)) }

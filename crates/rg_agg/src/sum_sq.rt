@@ -10,7 +10,7 @@ use crate::fault::{StateFault, Unfit};
 use crate::reading::{put_size, read_size};
 use crate::total::put_total;
 use rg_bytes::{ByteReader, Memory};
-use rg_event::Value;
+use rg_event::{Kind, Value};
 use rg_metric::Answer;
 use std::alloc::Global;
 
@@ -30,9 +30,9 @@ pub struct SumSq {
 }
 
 impl Aggregate for SumSq {
-    ghost use Rattle.std.specs.Prelude.{⊤};
+    ghost use Rattle.std.specs.Prelude.{refl};
     ghost use Rattle.rg_agg.specs.Held.{squared, squared_at};
-    ghost use Rattle.rg_agg.specs.Stands.{IsInt, IsSquareTotal};
+    ghost use Rattle.rg_agg.specs.Stands.{IsInt};
     ghost use Rattle.rg_words.specs.declared.func.Func.TheVariants.{SumSq as SumSqFunc};
 
     ghost func = { SumSqFunc };
@@ -40,12 +40,6 @@ impl Aggregate for SumSq {
     ghost takes = { IsInt };
 
     ghost grows = { ⊥ };
-
-    ghost stands = { λ state values. IsSquareTotal state.count state.sum values };
-
-    ghost suits = { λ _ _. ⊤ };
-
-    ghost size_of = { λ state. state.count };
 
     ghost held = { λ state. squared state.count state.sum };
 
@@ -61,6 +55,10 @@ impl Aggregate for SumSq {
 
     fn size(&self) -> u64 {
         self.count
+    }
+
+    fn kind(&self) -> Option<Kind> {
+        None
     }
 
     fn answer(&self) -> Answer {
@@ -124,7 +122,7 @@ impl Aggregate for SumSq {
         }
     }
 
-    ghost counts = { λ _ _ stands. stands.count };
+    ghost of_func = { λ _. refl };
 }
 
 /// The square of an int from -10^12 to 10^12; none for another value.

@@ -1,6 +1,6 @@
 use crate::{Aggregate, Answer, Avg, Count, First, Last, StateFault, Sum, SumSq, Unfit};
 use rg_bytes::ByteReader;
-use rg_event::Value;
+use rg_event::{Kind, Value};
 use std::test::Fail;
 
 #[test]
@@ -9,6 +9,7 @@ fn a_count_of_two_is_nine_bytes(rt: HostRuntime) -> Result<(), Fail> {
     let mut count = Count::empty(alloc);
     count.add(&Value::Flag(true))?;
     count.add(&Value::Flag(true))?;
+    assert_eq!(rt; count.kind(), None);
     let mut out = Vec::new(alloc);
     count.encode(&mut out)?;
     assert_eq!(rt; out.as_slice(), b"\x01\0\0\0\0\0\0\0\x02".as_slice());
@@ -64,6 +65,7 @@ fn the_last_value_stays_until_no_value_does(rt: HostRuntime) -> Result<(), Fail>
     last.add(&Value::Id(18_446_744_073_709_551_615))?;
     assert!(rt; last.remove(&Value::Id(7)).is_ok());
     assert_eq!(rt; last.answer(), Answer::Number(18_446_744_073_709_551_615));
+    assert_eq!(rt; last.kind(), Some(Kind::Id));
     assert!(rt; last.remove(&Value::Id(18_446_744_073_709_551_615)).is_ok());
     assert_eq!(rt; last.answer(), Answer::Dash);
     assert_eq!(rt; last.remove(&Value::Id(7)), Err(Unfit));
@@ -78,6 +80,7 @@ fn the_first_value_gives_way_to_the_next(rt: HostRuntime) -> Result<(), Fail> {
     first.add(&Value::Id(7))?;
     first.add(&Value::Id(2))?;
     assert_eq!(rt; first.answer(), Answer::Number(7));
+    assert_eq!(rt; first.kind(), Some(Kind::Id));
     assert_eq!(rt; first.remove(&Value::Id(2)), Err(Unfit));
     assert!(rt; first.remove(&Value::Id(7)).is_ok());
     assert_eq!(rt; first.answer(), Answer::Number(2));

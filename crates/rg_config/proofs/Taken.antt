@@ -1,18 +1,13 @@
 -- Texts that are taken one after another.
-use Rattle.std.proofs.Common.{◌≡◌, ◌∙◌, sym, refl, ap, subst, ℕ, zero, suc, ◌+◌, ◌≤◌, ◌<◌, Bool, true, false, ◌&&◌, ◌==◌, nat_le, List, [], ◌∷◌, ◌++◌, length, take, drop, map, slice_index_or, Bor, All, arith, ◌⊎◌, inl, inr}
-use Rattle.std.specs.List.{list_all, AllByRecursion as ByRecursion}
-use Rattle.std.proofs.lemmas.List.Elements.{All-from_recursion}
+use Rattle.std.proofs.Common.{◌≡◌, ◌∙◌, sym, refl, ap, subst, ℕ, zero, suc, ◌+◌, ◌≤◌, ◌<◌, List, [], ◌∷◌, ◌++◌, length, take, drop, map, slice_index_or, Bor, arith, ◌⊎◌, inl, inr}
 use Rattle.rg_event.specs.Shapes.{Shape}
-use Rattle.rg_words.specs.declared.func.Func.{Func}
-use Rattle.rg_words.specs.declared.func.Func.TheVariants.{Count, Sum, Avg, SumSq, Min, Max, CountDistinct, First, Last}
-use Rattle.rg_metric.specs.Queries.{Asked, asked, IsCounting, IsEventCount}
+use Rattle.rg_metric.specs.Queries.{Asked, asked}
 use Rattle.rg_metric.specs.declared.query.Query.{Query as Read}
 use Rattle.rg_query.specs.Printing.{query_text}
-use Rattle.rg_metric.specs.declared.query.Agg.{Agg}
 use Rattle.rg_config.specs.Reading.{IsFirst}
 use Rattle.rg_config.specs.declared.fault.ConfigFault.{ConfigFault}
 use Rattle.rg_config.specs.declared.fault.ConfigFault.TheVariants.{Query, Memory}
-use Rattle.rg_config.specs.Plans.{IsTaken, IsRefused, AllTaken, FirstRefused, is_count, is_event_count, within_bounds}
+use Rattle.rg_config.specs.Plans.{IsTaken, IsRefused, AllTaken, FirstRefused}
 
 abbrev strings : List (Bor (List ℕ)) → List (List ℕ)
 strings texts = map (λ text. text.now) texts
@@ -42,7 +37,7 @@ one_more shape texts n d qs q less all is =
     subst (λ i. AllTaken 0 shape (take i (strings texts)) (qs ++ q ∷ [])) next
     (grown 0 shape texts n d qs q less all (subst (λ i. IsTaken i shape (slice_index_or texts n d).now q) place is))
 
-one_at_the_end : {A B : Type 0} → (f : A → B) (xs : List A) (x : A) → map f (xs ++ x ∷ []) ≡ map f xs ++ f x ∷ []
+pub one_at_the_end : {A B : Type 0} → (f : A → B) (xs : List A) (x : A) → map f (xs ++ x ∷ []) ≡ map f xs ++ f x ∷ []
 one_at_the_end f [] x = refl
 one_at_the_end f (y ∷ xs) x = ap (λ more. f y ∷ more) (one_at_the_end f xs x)
 
@@ -131,49 +126,3 @@ pub whole :
     (shape : Shape) (texts : List (Bor (List ℕ))) (n : ℕ) (qs : List Asked) → length texts ≤ n
     → AllTaken 0 shape (take n (strings texts)) qs → AllTaken 0 shape (strings texts) qs
 whole shape texts n qs past all = subst (λ ts. AllTaken 0 shape ts qs) (all_there texts n past) all
-
-both_true : (a b : Bool) → (a && b) ≡ true → (a ≡ true) × (b ≡ true)
-both_true true b holds = (refl, holds)
-both_true false b holds = cc
-
-counted : (func : Func) → is_count func ≡ true → func ≡ Count
-counted Count is = refl
-counted Sum is = cc
-counted Avg is = cc
-counted SumSq is = cc
-counted Min is = cc
-counted Max is = cc
-counted CountDistinct is = cc
-counted First is = cc
-counted Last is = cc
-
-zero_field : (n : ℕ) → (n == 0) ≡ true → n ≡ 0
-zero_field n is = grind (arith, is)
-
-event_count : (agg : Agg) → is_event_count agg ≡ true → IsEventCount agg
-event_count agg is =
-    let both = both_true (is_count agg.func) (agg.field == 0) is in
-    record { func = counted agg.func both.0; field = zero_field agg.field both.1 }
-
-event_counts : (aggs : List Agg) → list_all is_event_count aggs ≡ true → ByRecursion IsEventCount aggs
-event_counts [] all = tt
-event_counts (agg ∷ aggs) all =
-    let both = both_true (is_event_count agg) (list_all is_event_count aggs) all in
-    (event_count agg both.0, event_counts aggs both.1)
-
-is_counting : (query : Asked) → within_bounds query ≡ true → IsCounting query
-is_counting query within =
-    let few = both_true (nat_le (length query.aggs) 16) _ within in
-    let small = both_true (nat_le (length query.group) 8) (list_all is_event_count query.aggs) few.1 in
-    All-from_recursion IsEventCount query.aggs (event_counts query.aggs small.1)
-
-are_counting : (from : ℕ) (shape : Shape) (texts : List (List ℕ)) (qs : List Asked) → AllTaken from shape texts qs → ByRecursion IsCounting qs
-are_counting from shape [] [] all = tt
-are_counting from shape [] (q ∷ qs) all = absurd all
-are_counting from shape (text ∷ texts) [] all = absurd all
-are_counting from shape (text ∷ texts) (q ∷ qs) all =
-    (is_counting q all.0.bounds, are_counting (suc from) shape texts qs all.1)
-
--- what is taken only counts events
-pub counting : (shape : Shape) (texts : List (List ℕ)) (qs : List Asked) → AllTaken 0 shape texts qs → All IsCounting qs
-counting shape texts qs all = All-from_recursion IsCounting qs (are_counting 0 shape texts qs all)

@@ -1,12 +1,9 @@
 -- What the bytes of a plan file say: a plan, or the fault that they are refused by.
-use Rattle.std.specs.Prelude.{◌≡◌, ◌⊎◌, ◌<◌, ◌≤◌, ℕ, suc, nat_le, ◌&&◌, ◌==◌, Bool, true, false, List, [], ◌∷◌, ◌++◌, length, map, Some, None, Result, Ok, Err, ⊤}
-use Rattle.std.specs.List.{list_all}
+use Rattle.std.specs.Prelude.{◌≡◌, ◌⊎◌, ◌<◌, ◌≤◌, ℕ, suc, nat_le, ◌&&◌, Bool, true, false, List, [], ◌∷◌, ◌++◌, length, Some, None, Result, Ok, Err, ⊤}
 use Rattle.toml.specs.Data.{Members}
 use Rattle.rg_event.specs.Shapes.{Shape, IsSchema, schema_text}
-use Rattle.rg_words.specs.declared.func.Func.{Func}
-use Rattle.rg_words.specs.declared.func.Func.TheVariants.{Count}
-use Rattle.rg_metric.specs.Queries.{Asked, asked}
-use Rattle.rg_metric.specs.declared.query.Agg.{Agg}
+use Rattle.rg_metric.specs.Queries.{Asked}
+use Rattle.rg_plan.specs.Named.{asked_by}
 use Rattle.rg_query.specs.Saying as saying
 use Rattle.rg_query.specs.declared.fault.QueryFault.{QueryFault}
 use Rattle.rg_config.specs.Documents.{document, stream_of, rest_of, Settings}
@@ -23,7 +20,7 @@ pub record Planned : Type 0 where
 abbrev pub planned : Plan → Planned
 planned plan = record {
   shape = plan.schema;
-  queries = map asked plan.parsed.items;
+  queries = asked_by plan.task;
   settings = record { cache = plan.room.cache; chunk = plan.room.chunk; commit = plan.commit; save = plan.save; events = plan.room.limit; header = plan.header };
 }
 
@@ -37,17 +34,9 @@ pub record HasStream (top : Members) (shape : Shape) : Type 0 where
 abbrev pub NoStream : Members → Type 0
 NoStream top = (shape : Shape) → HasStream top shape → ⊥
 
-abbrev pub is_count : Func → Bool
-is_count Count = true
-is_count func = false
-
--- `count(*)`: until the other aggregators are there, a plan has no other one
-abbrev pub is_event_count : Agg → Bool
-is_event_count agg = is_count agg.func && agg.field == 0
-
 -- at most 16 aggregators and 8 columns of a key
 abbrev pub within_bounds : Asked → Bool
-within_bounds query = nat_le (length query.aggs) 16 && (nat_le (length query.group) 8 && list_all is_event_count query.aggs)
+within_bounds query = nat_le (length query.aggs) 16 && nat_le (length query.group) 8
 
 -- the text with this number, counted from 0, asks this: at most 64 queries are taken, and each within its bounds
 pub record IsTaken (number : ℕ) (shape : Shape) (text : List ℕ) (query : Asked) : Type 0 where

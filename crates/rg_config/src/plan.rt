@@ -1,7 +1,11 @@
-ghost use Rattle.std.specs.Prelude.{◌≡◌, ◌≤◌, ◌^◌, IfOk, Result, map, All};
-ghost use Rattle.rg_metric.specs.Queries.{asked, IsCounting};
+ghost use Rattle.std.specs.Prelude.{◌≡◌, ◌≤◌, ◌^◌, IfOk, IfErr, Result, None, map, All};
+ghost use Rattle.rg_metric.specs.Queries.{Asked, asked};
+ghost use Rattle.rg_plan.specs.Named.{HasAgg, asked_by};
+ghost use Rattle.rg_plan.specs.Offsets.{IsMeasured};
+ghost use Rattle.rg_plan.specs.Plans.{plan_for, excess};
+ghost use Rattle.rg_query.specs.Legal.{IsLegal};
 ghost use Rattle.rg_query.specs.Printing.{query_text};
-ghost use Rattle.rg_config.specs.Plans.{Planned, Says, Tells, Agrees};
+ghost use Rattle.rg_config.specs.Plans.{Planned, planned, Says, Tells, Agrees};
 ghost use Rattle.toml.specs.View.{table_view};
 ghost use Rattle.rg_config.specs.Documents.{rest_of};
 ghost use Rattle.rg_config.specs.Reading.{Reads, settings_view};
@@ -14,7 +18,8 @@ use crate::settings::{Settings, read_settings};
 use crate::stream::read_stream;
 use crate::table::{has_only, read_table, texts_at};
 use rg_event::{Room, Schema, Texts};
-use rg_query::Query;
+use rg_metric::Query;
+use rg_plan::{PlanFault, TaskPlan, compile};
 use std::alloc::Global;
 use toml::Table;
 
@@ -31,8 +36,8 @@ pub struct Plan {
     pub schema: Schema,
     /// The queries as they are printed, in order.
     pub queries: Texts,
-    /// The queries, in order: 1 to 64.
-    pub parsed: Vec<Query>,
+    /// The plan of the queries: 1 to 64.
+    pub task: TaskPlan,
     /// How much is kept: events in a chunk, chunks in the cache, and events in all.
     pub room: Room,
     /// After how many events they are committed, from 1 to 1,000,000.
@@ -52,19 +57,25 @@ pub fn read_plan(alloc: Global, bytes: &[u8]) -> Result<Plan, ConfigFault>
     ensures exact { (said : Result Planned Fault) → Says bytes.now said → Agrees said result }
     // the bytes say one thing
     ensures one { (said other : Result Planned Fault) → Says bytes.now said → Says bytes.now other → said ≡ other }
-    ensures printed { IfOk result (λ plan. plan.queries ≡ map (query_text plan.schema) (map asked plan.parsed.items)) }
+    // the queries stand beside as they are printed
+    ensures printed { IfOk result (λ plan. plan.queries ≡ map (query_text plan.schema) (planned plan).queries) }
+    // the task is the plan of the queries
+    ensures task { IfOk result (λ plan. plan.task ≡ plan_for (planned plan).queries) }
+    // each query is legal over the schema
+    ensures legal { IfOk result (λ plan. All (IsLegal plan.schema) (planned plan).queries) }
     ensures most { IfOk result (λ plan. plan.room.limit ≤ 2 ^ 40) }
-    ensures counting { IfOk result (λ plan. All IsCounting (map asked plan.parsed.items)) }
 {
     plan_of(alloc, bytes)
 }
 
 /// Reads a plan, part by part.
+#[tactic(auto, using(crate::proofs::Legal::measured, crate::proofs::Legal::some_aggs))]
 fn plan_of(alloc: Global, bytes: &[u8]) -> Result<Plan, ConfigFault>
     ensures tells { Tells bytes.now result }
-    ensures printed { IfOk result (λ plan. plan.queries ≡ map (query_text plan.schema) (map asked plan.parsed.items)) }
+    ensures printed { IfOk result (λ plan. plan.queries ≡ map (query_text plan.schema) (planned plan).queries) }
+    ensures task { IfOk result (λ plan. plan.task ≡ plan_for (planned plan).queries) }
+    ensures legal { IfOk result (λ plan. All (IsLegal plan.schema) (planned plan).queries) }
     ensures most { IfOk result (λ plan. plan.room.limit ≤ 2 ^ 40) }
-    ensures counting { IfOk result (λ plan. All IsCounting (map asked plan.parsed.items)) }
 {
     let top = match read_table(alloc, bytes) {
         Ok(top) => top,
@@ -82,15 +93,36 @@ fn plan_of(alloc: Global, bytes: &[u8]) -> Result<Plan, ConfigFault>
         Ok(queries) => queries,
         Err(fault) => return Err(fault),
     };
+    let task = match task_of(alloc, &parsed) {
+        Ok(task) => task,
+        Err(fault) => return Err(fault),
+    };
     Ok(Plan {
         schema,
         queries: printed,
-        parsed,
+        task,
         room: settings.room,
         commit: settings.commit,
         save: settings.save,
         header: settings.header,
     })
+}
+
+/// The plan of queries that are within their bounds.
+#[tactic(auto, using(crate::proofs::Legal::asked_again))]
+fn task_of(alloc: Global, queries: &[Query]) -> Result<TaskPlan, ConfigFault>
+    requires measured { All (λ (q : Asked). IsMeasured q.window) (map asked queries.now) }
+    requires some { All HasAgg (map asked queries.now) }
+    requires within { excess (map asked queries.now) ≡ None }
+    ensures task { IfOk result (λ task. task ≡ plan_for (map asked queries.now)) }
+    ensures queries { IfOk result (λ task. asked_by task ≡ map asked queries.now) }
+    ensures memory { IfErr result (λ fault. fault ≡ ConfigFault.Memory) }
+{
+    match compile(alloc, queries) {
+        Ok(task) => Ok(task),
+        Err(PlanFault::TooMany(number)) => Err(ConfigFault::Query(number)),
+        Err(PlanFault::Memory) => Err(ConfigFault::Memory),
+    }
 }
 
 /// What stands beside the stream.

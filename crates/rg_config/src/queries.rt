@@ -1,14 +1,16 @@
-ghost use Rattle.std.specs.Prelude.{◌≡◌, ◌≤◌, ◌++◌, [], ◌∷◌, IfOk, OnOk, map, All};
-ghost use Rattle.std.specs.List.{list_all};
-ghost use Rattle.rg_metric.specs.Queries.{asked, IsCounting};
+ghost use Rattle.std.specs.Prelude.{◌≡◌, ◌≤◌, ◌++◌, [], ◌∷◌, None, IfOk, OnOk, map, All};
+ghost use Rattle.rg_metric.specs.Queries.{asked};
+ghost use Rattle.rg_plan.specs.Plans.{excess};
+ghost use Rattle.rg_query.specs.Legal.{IsLegal};
 ghost use Rattle.rg_query.specs.Printing.{query_text};
-ghost use Rattle.rg_config.specs.Plans.{is_event_count as event_count_test, within_bounds};
+ghost use Rattle.rg_config.specs.Plans.{within_bounds};
 ghost use Rattle.rg_config.specs.Reading.{ReadsQuery, ReadsQueries};
 
 use crate::fault::ConfigFault;
 use rg_bytes::Memory;
 use rg_event::{Bytes, Schema, Texts};
-use rg_query::{Agg, Func, Query, QueryFault, parse, print};
+use rg_metric::Query;
+use rg_query::{QueryFault, parse, print};
 use std::alloc::Global;
 
 /// How many queries a plan has at most.
@@ -35,7 +37,8 @@ pub(crate) fn read_queries(
 ) -> Result<Queries, ConfigFault>
     ensures reads { ReadsQueries schema.now (map (λ text. text.now) texts.now) result }
     ensures printed { IfOk result (λ queries. queries.printed ≡ map (query_text schema.now) (map asked queries.parsed.items)) }
-    ensures counting { IfOk result (λ queries. All IsCounting (map asked queries.parsed.items)) }
+    ensures legal { IfOk result (λ queries. All (IsLegal schema.now) (map asked queries.parsed.items)) }
+    ensures within { IfOk result (λ queries. excess (map asked queries.parsed.items) ≡ None) }
 {
     let mut queries = Queries {
         printed: Texts::new(alloc),
@@ -83,7 +86,8 @@ fn read_query(
     text: &str,
 ) -> Result<Query, ConfigFault>
     requires at_most { number ≤ 64 }
-    ensures { ReadsQuery number schema.now text.now result }
+    ensures reads { ReadsQuery number schema.now text.now result }
+    ensures legal { IfOk result (λ query. IsLegal schema.now (asked query)) }
 {
     let refusal = ConfigFault::Query(number as u32);
     if number >= MOST_QUERIES {
@@ -102,26 +106,9 @@ fn read_query(
     }
 }
 
-/// Whether a query has few enough aggregators and columns, and only counts events.
+/// Whether a query has few enough aggregators and columns.
 fn is_within_bounds(query: &Query) -> bool
     ensures { result ≡ within_bounds (asked query.now) }
 {
-    let aggs = query.aggs.as_slice();
-    aggs.len() <= MOST_AGGS
-        && query.group.as_slice().len() <= MOST_COLUMNS
-        && are_event_counts(aggs)
-}
-
-/// Whether each aggregator is `count(*)`.
-fn are_event_counts(aggs: &[Agg]) -> bool
-    ensures { result ≡ list_all event_count_test aggs.now }
-{
-    aggs.iter().all(|agg| is_event_count(*agg))
-}
-
-/// Whether an aggregator is `count(*)`.
-fn is_event_count(agg: Agg) -> bool
-    ensures { result ≡ event_count_test agg }
-{
-    agg.func == Func::Count && agg.field == 0
+    query.aggs.as_slice().len() <= MOST_AGGS && query.group.as_slice().len() <= MOST_COLUMNS
 }

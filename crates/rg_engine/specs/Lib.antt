@@ -1,2 +1,12 @@
 pub mod Codes
-pub mod Counting
+pub mod Windows
+pub mod Faults
+pub mod Feeding
+pub mod Standing
+pub mod Answering
+pub mod Building
+pub mod Deeds
+pub mod Edges
+pub mod Parts
+pub mod Seen
+pub mod Stepping

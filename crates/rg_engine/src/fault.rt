@@ -1,45 +1,51 @@
-use rg_bytes::Memory;
+ghost use Rattle.std.specs.Prelude.{◌≡◌, ℕ};
+ghost use Rattle.rg_past.specs.declared.past.PastFault.{PastFault};
+ghost use Rattle.rg_engine.specs.Faults.{table_fault_of, move_fault_of};
+
 use rg_past::PastFault;
-use std::alloc::AllocError;
+use rg_state::TableFault;
+use rg_window::MoveFault;
 
 /// Why an event wasn't answered.
 #[derive(Clone, Copy, Debug, PartialEq, Eq, Hash)]
 pub enum EngineFault {
     /// A call on the past was refused.
     Past(PastFault),
-    /// Memory ran out before the past was called.
+    /// The rows of the node of that number don't stand for the past.
+    BadState(u32),
+    /// Memory ran out.
     Memory,
+    /// An earlier failure ended the engine.
+    Ended,
+    /// A call on the disk of the table failed.
+    Table,
 }
 
-impl From<PastFault> for EngineFault {
-    ghost use Rattle.std.specs.Prelude.{◌≡◌};
-    ghost use Rattle.rg_engine.specs.declared.fault.EngineFault.TheVariants.{Past};
-
-    ghost from_gives = { λ cause fault. fault ≡ Past cause };
-
-    fn from(cause: PastFault) -> EngineFault {
-        EngineFault::Past(cause)
+/// What a table's fault is called.
+pub(crate) fn table_fault(fault: TableFault) -> EngineFault
+    ensures called { result ≡ table_fault_of fault }
+    ensures bad { (n : ℕ) → result ≡ EngineFault.BadState n → fault ≡ TableFault.BadState n }
+    ensures disk { result ≡ EngineFault.Table → fault ≡ TableFault.Disk }
+    ensures not_past { (fault : PastFault) → result ≡ EngineFault.Past fault → ⊥ }
+    ensures not_ended { result ≡ EngineFault.Ended → ⊥ }
+{
+    match fault {
+        TableFault::BadState(node) => EngineFault::BadState(node),
+        TableFault::Memory => EngineFault::Memory,
+        TableFault::Disk => EngineFault::Table,
     }
 }
 
-impl From<Memory> for EngineFault {
-    ghost use Rattle.std.specs.Prelude.{◌≡◌};
-    ghost use Rattle.rg_engine.specs.declared.fault.EngineFault.TheVariants.{Memory};
-
-    ghost from_gives = { λ _ fault. fault ≡ Memory };
-
-    fn from(_memory: Memory) -> EngineFault {
-        EngineFault::Memory
-    }
-}
-
-impl From<AllocError> for EngineFault {
-    ghost use Rattle.std.specs.Prelude.{◌≡◌};
-    ghost use Rattle.rg_engine.specs.declared.fault.EngineFault.TheVariants.{Memory};
-
-    ghost from_gives = { λ _ fault. fault ≡ Memory };
-
-    fn from(_error: AllocError) -> EngineFault {
-        EngineFault::Memory
+/// What a fault of a move is called.
+pub(crate) fn move_fault(fault: MoveFault<TableFault>) -> EngineFault
+    ensures called { result ≡ move_fault_of fault }
+    ensures bad { (n : ℕ) → result ≡ EngineFault.BadState n → fault ≡ MoveFault.Visit (TableFault.BadState n) }
+    ensures disk { result ≡ EngineFault.Table → fault ≡ MoveFault.Visit TableFault.Disk }
+    ensures past { (cause : PastFault) → result ≡ EngineFault.Past cause → fault ≡ MoveFault.Past cause }
+    ensures not_ended { result ≡ EngineFault.Ended → ⊥ }
+{
+    match fault {
+        MoveFault::Past(fault) => EngineFault::Past(fault),
+        MoveFault::Visit(fault) => table_fault(fault),
     }
 }

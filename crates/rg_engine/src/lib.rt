@@ -1,12 +1,23 @@
 //! From events to answers.
 #![tactic(auto)]
 
-mod counter;
+mod answering;
+mod changer;
+mod engine;
 mod fault;
-mod first;
+mod law;
+mod machine;
+mod moving;
+mod part;
 mod reply;
+mod takes;
+mod tree;
 
+pub use engine::Engine;
 pub use fault::EngineFault;
-pub use first::FirstEngine;
+pub use law::law_serves;
 pub use reply::Reply;
 pub use rg_metric::{Answer, Answers};
+
+#[cfg(test)]
+mod tests;

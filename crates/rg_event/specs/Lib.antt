@@ -1,8 +1,11 @@
 pub mod Words
+pub mod WordLaws
 pub mod Parsing
 pub mod Names
 pub mod Shapes
 pub mod Reading
 pub mod Codec
 pub mod Tagged
+pub mod Order
+pub mod OrderLaws
 pub mod Keeps

@@ -85,7 +85,7 @@ fn read_tagged(alloc: Global, from: &mut ByteReader<'_>) -> Result<Value, EventF
 }
 
 /// The byte that says a kind.
-fn tag(kind: Kind) -> u8
+pub(crate) fn tag(kind: Kind) -> u8
     ensures { result ≡ tag_of kind }
 {
     match kind {

@@ -1,9 +1,12 @@
 ghost use Rattle.std.specs.Prelude.{◌≡◌, [], ◌∷◌, ◌++◌, OnOk, OnErr, IfOk};
+ghost use Rattle.rg_event.specs.Order.{complement_cmp};
 ghost use Rattle.rg_event.specs.Tagged.{value_kind, IsStorable};
 
+use crate::tagged::tag;
 use crate::word::Word;
 use rg_bytes::Memory;
 use std::alloc::Global;
+use std::cmp::Ordering;
 use std::marker::Model;
 
 /// What the values of a column are.
@@ -26,6 +29,56 @@ pub enum Value {
     Id(u64),
     Text(Word),
     Flag(bool),
+}
+
+/// Values go by their tagged bytes: ints, ids, texts, flags, of which an int below 0 comes behind the others,
+/// and a shorter text before a longer one.
+impl PartialOrd for Value {
+    ghost use Rattle.std.specs.Cmp.{partial_order_from_own_ties, partial_order_from_total};
+    ghost use Rattle.std.specs.Ordering.{as_partial_cmp};
+    ghost use Rattle.std.specs.Prelude.{refl};
+    ghost use Rattle.rg_event.specs.Order.{value_cmp};
+    ghost use Rattle.rg_event.specs.OrderLaws.{value_total, ties_of};
+
+    ghost partial_cmp = { as_partial_cmp value_cmp };
+
+    ghost laws = { partial_order_from_own_ties (partial_order_from_total value_total) (ties_of _ (λ _ _. refl) (λ _ _. refl) (λ _ _. refl) (λ _ _. refl) (λ _ _. refl) (λ _ _. refl) (λ _ _. refl) (λ _ _. refl) (λ _ _. refl) (λ _ _. refl) (λ _ _. refl) (λ _ _. refl) (λ _ _. refl) (λ _ _. refl) (λ _ _. refl) (λ _ _. refl)) };
+
+    fn partial_cmp(&self, other: &Value) -> Option<Ordering> {
+        Some(self.cmp(other))
+    }
+}
+
+impl Ord for Value {
+    ghost use Rattle.std.specs.Prelude.{refl};
+    ghost use Rattle.rg_event.specs.Order.{value_cmp};
+    ghost use Rattle.rg_event.specs.OrderLaws.{value_total, ties_of};
+
+    ghost cmp = { value_cmp };
+
+    ghost total = { value_total };
+
+    ghost matches_partial_cmp = { λ _ _. refl };
+
+    ghost matches_eq = { ties_of _ (λ _ _. refl) (λ _ _. refl) (λ _ _. refl) (λ _ _. refl) (λ _ _. refl) (λ _ _. refl) (λ _ _. refl) (λ _ _. refl) (λ _ _. refl) (λ _ _. refl) (λ _ _. refl) (λ _ _. refl) (λ _ _. refl) (λ _ _. refl) (λ _ _. refl) (λ _ _. refl) };
+
+    fn cmp(&self, other: &Value) -> Ordering {
+        match (self, other) {
+            (Value::Int(first), Value::Int(second)) => compare_ints(*first, *second),
+            (Value::Id(first), Value::Id(second)) => first.cmp(second),
+            (Value::Text(first), Value::Text(second)) => first.cmp(second),
+            (Value::Flag(first), Value::Flag(second)) => first.cmp(second),
+            _ => tag(self.kind()).cmp(&tag(other.kind())),
+        }
+    }
+}
+
+/// The order of their bytes in two's complement: an int below 0 comes behind the others.
+#[tactic(auto, using(crate::specs::OrderLaws::below_zero))]
+fn compare_ints(first: i64, second: i64) -> Ordering
+    ensures { result ≡ complement_cmp first second }
+{
+    (first < 0).cmp(&(second < 0)).then(first.cmp(&second))
 }
 
 impl Value {
@@ -113,5 +166,25 @@ impl Values {
         ensures { result.now ≡ self.now }
     {
         &self.list
+    }
+}
+
+#[cfg(test)]
+mod tests {
+    use super::Value;
+    use std::cmp::Ordering;
+
+    #[test]
+    fn values_go_by_their_tagged_bytes(rt: HostRuntime) {
+        let table: [(Value, Value, Ordering); 5] = [
+            (Value::Int(1), Value::Int(-1), Ordering::Less),
+            (Value::Int(-2), Value::Int(-1), Ordering::Less),
+            (Value::Int(-1), Value::Id(0), Ordering::Less),
+            (Value::Flag(true), Value::Flag(false), Ordering::Greater),
+            (Value::Id(7), Value::Id(7), Ordering::Equal),
+        ];
+        for (first, second, want) in table {
+            assert_eq!(rt; first.cmp(&second), want, "at {first:?}");
+        }
     }
 }

@@ -3,6 +3,7 @@ ghost use Rattle.rg_event.specs.Words.{is_word as word_test};
 
 use rg_bytes::Memory;
 use std::alloc::Global;
+use std::cmp::Ordering;
 use std::marker::Model;
 
 /// The greatest length of a text, in bytes.
@@ -46,6 +47,44 @@ impl Eq for Word {
     ghost laws = { nat_list_eq_equiv };
 }
 
+/// A shorter text comes first, and of two that are as long the one whose bytes come first: the order of
+/// their tagged bytes.
+impl PartialOrd for Word {
+    ghost use Rattle.std.specs.Cmp.{partial_order_from_own_ties, partial_order_from_total};
+    ghost use Rattle.std.specs.Ordering.{as_partial_cmp};
+    ghost use Rattle.rg_event.specs.Words.{word_cmp};
+    ghost use Rattle.rg_event.specs.WordLaws.{word_total, word_ties};
+
+    ghost partial_cmp = { as_partial_cmp word_cmp };
+
+    ghost laws = { partial_order_from_own_ties (partial_order_from_total word_total) word_ties };
+
+    fn partial_cmp(&self, other: &Word) -> Option<Ordering> {
+        Some(self.cmp(other))
+    }
+}
+
+impl Ord for Word {
+    ghost use Rattle.std.specs.Prelude.{refl};
+    ghost use Rattle.rg_event.specs.Words.{word_cmp};
+    ghost use Rattle.rg_event.specs.WordLaws.{word_total, word_ties};
+
+    ghost cmp = { word_cmp };
+
+    ghost total = { word_total };
+
+    ghost matches_partial_cmp = { λ _ _. refl };
+
+    ghost matches_eq = { word_ties };
+
+    fn cmp(&self, other: &Word) -> Ordering {
+        match self.bytes.len().cmp(&other.bytes.len()) {
+            Ordering::Equal => self.bytes.cmp(&other.bytes),
+            order => order,
+        }
+    }
+}
+
 impl Word {
     /// The text with these bytes. It answers `None` where they aren't UTF-8, or are more than 255.
     pub fn new(alloc: Global, text: &[u8]) -> Result<Option<Word>, Memory>
@@ -83,4 +122,38 @@ fn is_word(text: &[u8]) -> bool
     ensures { result ≡ word_test text.now }
 {
     text.len() <= LONGEST_TEXT && str::from_utf8(text).is_ok()
+}
+
+#[cfg(test)]
+mod tests {
+    use super::Word;
+    use rg_bytes::Memory;
+    use std::alloc::Global;
+    use std::cmp::Ordering;
+
+    /// How two texts compare; none where one of them is no text.
+    fn order(alloc: Global, first: &[u8], second: &[u8]) -> Result<Option<Ordering>, Memory> {
+        match (Word::new(alloc, first)?, Word::new(alloc, second)?) {
+            (Some(first), Some(second)) => Ok(Some(first.cmp(&second))),
+            _ => Ok(None),
+        }
+    }
+
+    #[test]
+    fn a_shorter_text_comes_first(rt: HostRuntime) -> Result<(), Memory> {
+        let table: [(&[u8], &[u8], Ordering); 4] = [
+            (b"b", b"aa", Ordering::Less),
+            (b"ab", b"aa", Ordering::Greater),
+            (b"aa", b"aa", Ordering::Equal),
+            (b"", b"a", Ordering::Less),
+        ];
+        for (first, second, want) in table {
+            assert_eq!(rt;
+                order(rt.alloc(), first, second)?,
+                Some(want),
+                "at {first:?}"
+            );
+        }
+        Ok(())
+    }
 }

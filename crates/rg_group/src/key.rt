@@ -110,6 +110,16 @@ impl Key {
         &self.bytes
     }
 
+    /// Makes it the key of this event by these columns, as `key_of` does. It takes no memory where it
+    /// held as many bytes before. Where memory runs out it is any front of that key.
+    pub fn set_of(&mut self, fields: &[u32], event: &Event) -> Result<(), Memory>
+        ensures bytes { OnOk result (self.new ≡ key_bytes (key_values fields.now event.now)) }
+        ensures storable { OnOk result (AreStorable (key_values fields.now event.now)) }
+    {
+        self.bytes.clear();
+        put_parts(fields, event, &mut self.bytes)
+    }
+
     /// Whether it is the key of this event by these columns, counted from 1. It takes no memory.
     pub fn is_of(&self, fields: &[u32], event: &Event) -> bool
         ensures value { IsTrue result ↔ (self.now ≡ key_bytes (key_values fields.now event.now)) }
@@ -133,10 +143,20 @@ pub fn key_of(alloc: Global, fields: &[u32], event: &Event) -> Result<Key, Memor
     ensures exact { (vs ws : List Value) → AreStorable vs → AreStorable ws → key_bytes vs ≡ key_bytes ws → vs ≡ ws }
 {
     let mut bytes = Vec::new(alloc);
-    for field in fields {
-        put_part(*field, event, &mut bytes)?;
-    }
+    put_parts(fields, event, &mut bytes)?;
     Ok(Key { bytes })
+}
+
+/// Writes a key into bytes that are empty. Where memory runs out any front of it is there.
+fn put_parts(fields: &[u32], event: &Event, bytes: &mut Vec<u8>) -> Result<(), Memory>
+    requires { bytes.old.items ≡ [] }
+    ensures written { OnOk result (bytes.new.items ≡ key_bytes (key_values fields.now event.now)) }
+    ensures storable { OnOk result (AreStorable (key_values fields.now event.now)) }
+{
+    for field in fields {
+        put_part(*field, event, bytes)?;
+    }
+    Ok(())
 }
 
 /// Writes the event's part of its key in a column at the end.

@@ -6,7 +6,6 @@ use Rattle.std.specs.Cmp.Lexicographic.{nat_list_eq_equiv}
 use Rattle.std.proofs.lemmas.List.{map-append}
 use Rattle.rg_metric.specs.declared.query.Agg.{Agg}
 use Rattle.rg_metric.specs.contracts.query.AggPartialEq.TheImpl.{ghosts as agg_ghosts}
-use Rattle.rg_metric.specs.contracts.query.WindowEq.TheImpl.Laws.{laws-law}
 use Rattle.rg_metric.specs.Conditions.{Test}
 use Rattle.rg_metric.specs.Queries.{Asked}
 use Rattle.rg_plan.specs.declared.node.GroupNode.{GroupNode}
@@ -15,13 +14,11 @@ use Rattle.rg_plan.specs.SameLaws.{same_test-true, same_condition_equiv}
 use Rattle.rg_plan.specs.Nodes.{same_window, same_filter, same_group, same_agg, distinct, number_in}
 use Rattle.rg_plan.specs.Plans.{windows_of, filters_of, groups_of, aggs_of, filter_under, group_under, group_number, agg_under, aggs_under, aggs_in}
 use Rattle.rg_plan.specs.Beginnings.{ToFilter, ToGroup, ToAgg, same_to_filter, same_to_group, same_to_agg, to_filter, to_group, to_agg, to_aggs, filters_begun, groups_begun, aggs_begun, filter_at, group_at, agg_at}
+use Rattle.rg_plan.proofs.Told.{window_equiv}
 use Rattle.rg_plan.proofs.Numbered.{Each, IsAmong, exact, all_there, number-along, each-distinct, distinct-along}
 
 abbrev group_node : List ℕ → ℕ → GroupNode
 group_node columns n = record { filter = n; columns = columns }
-
-window_equiv : IsEquivalence same_window
-window_equiv = laws-law
 
 to_filter_equiv : IsEquivalence same_to_filter
 to_filter_equiv = and_equiv (on_equiv (λ (p : ToFilter). p.window) window_equiv) (on_equiv (λ (p : ToFilter). p.condition) same_condition_equiv)

@@ -4,3 +4,9 @@ pub mod Numbered
 pub mod Placing
 pub mod Sizes
 pub mod Begun
+pub mod Told
+pub mod Staying
+pub mod Naming
+pub mod Adding
+pub mod Offsetting
+pub mod Whole

@@ -1,5 +1,5 @@
 -- Lists of members, each once.
-use Rattle.std.proofs.Common.{◌+◌, ◌≤◌, Bool, cond, List, [], ◌∷◌, ◌++◌, length, map, ◌≡◌, refl, sym, ap, ◌∙◌, arith, length-append}
+use Rattle.std.proofs.Common.{◌+◌, ◌≤◌, Bool, cond, List, [], ◌∷◌, ◌++◌, length, map, ◌≡◌, refl, sym, ◌∙◌, arith, length-append}
 use Rattle.std.specs.Prelude.{fold, not, ◌||◌, All}
 use Rattle.std.proofs.lemmas.List.Elements.{All-nil, All-head, All-tail, All-push}
 use Rattle.std.specs.List.{list_any}
@@ -19,18 +19,11 @@ module _ {K X : Type 0} (f : K → X) (same : X → X → Bool) where
   list_any-seen x [] = refl
   list_any-seen x (m ∷ members) = λ i. same (f m) (f x) || list_any-seen x members i
 
-  with_use-seen : (members : List K) (x : K) → map f (with_use (λ a b. same (f a) (f b)) members x) ≡ with_use same (map f members) (f x)
+  pub with_use-seen : (members : List K) (x : K) → map f (with_use (λ a b. same (f a) (f b)) members x) ≡ with_use same (map f members) (f x)
   with_use-seen members x = elim (cases_Bool (list_any (λ m. same (f m) (f x)) members)) [
     | inl old ↦ rw (old, sym (list_any-seen x members) ∙ old) refl
     | inr new ↦ rw (new, sym (list_any-seen x members) ∙ new) (map-append f members (x ∷ []))
   ]
-
-  fold-seen : (members uses : List K) → map f (fold (with_use (λ a b. same (f a) (f b))) members uses) ≡ fold (with_use same) (map f members) (map f uses)
-  fold-seen members [] = refl
-  fold-seen members (x ∷ uses) = fold-seen (with_use (λ a b. same (f a) (f b)) members x) uses ∙ ap (λ ms. fold (with_use same) ms (map f uses)) (with_use-seen members x)
-
-  pub distinct-seen : (uses : List K) → map f (distinct (λ a b. same (f a) (f b)) uses) ≡ distinct same (map f uses)
-  distinct-seen uses = fold-seen [] uses
 
   pub number-seen : (x : K) (members : List K) → number_in (λ a b. same (f a) (f b)) members x ≡ number_in same (map f members) (f x)
   number-seen x [] = refl
@@ -38,7 +31,7 @@ module _ {K X : Type 0} (f : K → X) (same : X → X → Bool) where
 
 -- how many members there are
 module _ {K : Type 0} (same : K → K → Bool) where
-  with_use-length : (members : List K) (x : K) → length (with_use same members x) ≤ length members + 1
+  pub with_use-length : (members : List K) (x : K) → length (with_use same members x) ≤ length members + 1
   with_use-length members x = elim (cases_Bool (list_any (λ m. same m x) members)) [
     | inl old ↦ rw old (omega arith)
     | inr new ↦ rw new (omega (arith, length-append members (x ∷ [])))

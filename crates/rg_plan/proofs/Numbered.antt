@@ -41,7 +41,7 @@ module _ {K : Type 0} (same : K → K → Bool) (e : IsEquivalence same) where
   pub exact : (members : List K) (x y : K) → IsAmong same members x → IsAmong same members y → nat_eq (number_in same members x) (number_in same members y) ≡ same x y
   exact members x y p q = both_ways _ _ (λ h. told members x y p q (eqb-true _ _ h)) (λ h. eq-eqb _ _ (alike members x y h))
 
-  kept-by : (members : List K) (u x : K) → IsAmong same members x → IsAmong same (with_use same members u) x
+  pub kept-by : (members : List K) (u x : K) → IsAmong same members x → IsAmong same (with_use same members u) x
   kept-by members u x h = elim (cases_Bool (list_any (λ m. same m u) members)) [
     | inl old ↦ rw old h
     | inr new ↦ rw new (list_any-append (λ m. same m x) members (u ∷ []) ∙ or_left _ _ h)
@@ -57,7 +57,7 @@ module _ {K : Type 0} (same : K → K → Bool) (e : IsEquivalence same) where
   kept members [] x h = h
   kept members (u ∷ uses) x h = kept (with_use same members u) uses x (kept-by members u x h)
 
-  there : (members uses : List K) → Each (IsAmong same (fold (with_use same) members uses)) uses
+  pub there : (members uses : List K) → Each (IsAmong same (fold (with_use same) members uses)) uses
   there members [] = tt
   there members (u ∷ uses) = (kept (with_use same members u) uses u (has members u), there (with_use same members u) uses)
 

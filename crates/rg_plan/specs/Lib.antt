@@ -1,7 +1,11 @@
 pub mod Same
 pub mod Nodes
+pub mod Fed
 pub mod SameLaws
 pub mod Offsets
 pub mod Plans
 pub mod Beginnings
 pub mod Codes
+pub mod Named
+pub mod Whole
+pub mod Levels

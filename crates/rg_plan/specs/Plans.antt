@@ -57,8 +57,8 @@ abbrev pub node_in : Option (List ℕ) → ℕ → Option ℕ
 node_in None agg = None
 node_in (Some path) agg = slice_get path agg
 
-abbrev pub node_at : List (List ℕ) → ℕ → ℕ → Option ℕ
-node_at paths query agg = node_in (slice_get paths query) agg
+abbrev pub path_at : List (List ℕ) → ℕ → ℕ → Option ℕ
+path_at paths query agg = node_in (slice_get paths query) agg
 
 abbrev pub all_offsets : List Asked → List ℕ
 all_offsets qs = rising (flat_map offsets_of (windows_of qs))
@@ -88,3 +88,14 @@ pub record Planned : Type 0 where
   pub groups : List GroupNode
   pub aggs : List AggNode
   pub paths : List (List ℕ)
+
+-- the plan of some queries
+abbrev pub plan_for : List Asked → Planned
+plan_for qs = record {
+  offsets = all_offsets qs;
+  windows = windows_of qs;
+  filters = filters_of qs;
+  groups = groups_of qs;
+  aggs = aggs_of qs;
+  paths = paths_of qs;
+}

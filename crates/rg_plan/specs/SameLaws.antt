@@ -1,9 +1,10 @@
 -- The tests of `Same` say exactly whether two parts are equal.
-use Rattle.std.specs.Prelude.{◌≡◌, ℕ, true, Option, Some, None, refl}
+use Rattle.std.specs.Prelude.{◌≡◌, ℕ, true, Option, Some, None, refl, IsTrue}
 use Rattle.std.proofs.Common.{ap, subst}
 use Rattle.std.specs.Bool.{Decides}
 use Rattle.std.proofs.lemmas.Bool.{and_parts, and_from}
 use Rattle.std.proofs.lemmas.Bool.Decides.{Decides-eqb}
+use Rattle.std.proofs.lemmas.Slice.Eq.{bytes_eq-Decides}
 use Rattle.std.specs.Cmp.{IsEquivalence, decided, and_equiv, on_equiv, nat_eq_equiv}
 use Rattle.std.specs.Cmp.Lexicographic.{nat_list_eq_equiv}
 use Rattle.rg_words.specs.declared.op.Op.{Op}
@@ -15,7 +16,8 @@ use Rattle.rg_metric.specs.Queries.{filter_test}
 use Rattle.rg_plan.specs.Same.{same_op, same_test, same_condition}
 use Rattle.rg_plan.specs.declared.node.FilterNode.{FilterNode}
 use Rattle.rg_plan.specs.declared.node.GroupNode.{GroupNode}
-use Rattle.rg_plan.specs.Nodes.{filtered, same_filter, same_group}
+use Rattle.rg_plan.specs.Nodes.{Filtered, filtered, same_filter, same_group}
+use Rattle.rg_plan.specs.Fed.{filter_fed, group_fed}
 
 same_op-true : (o p : Op) → same_op o p ≡ true → o ≡ p
 same_op-true Eq Eq e = refl
@@ -82,3 +84,24 @@ filter_equiv = and_equiv (on_equiv (λ (n : FilterNode). n.window) nat_eq_equiv)
 
 pub group_equiv : IsEquivalence same_group
 group_equiv = and_equiv (on_equiv (λ (n : GroupNode). n.filter) nat_eq_equiv) (on_equiv (λ (n : GroupNode). n.columns) nat_list_eq_equiv)
+
+pub same_filter-true : (a b : Filtered) → same_filter a b ≡ true → a ≡ b
+same_filter-true a b e =
+    let (window, condition) = and_parts _ _ e in
+    let w = (Decides-eqb a.window b.window).0 window in
+    let c = same_condition-true a.condition b.condition condition in
+    λ i. record { window = w i; condition = c i }
+
+pub same_group-true : (a b : GroupNode) → same_group a b ≡ true → a ≡ b
+same_group-true a b e =
+    let (filter, columns) = and_parts _ _ e in
+    let f = (Decides-eqb a.filter b.filter).0 filter in
+    let c = (bytes_eq-Decides a.columns b.columns).0 columns in
+    λ i. record { filter = f i; columns = c i }
+
+-- equal nodes feed a hasher alike
+pub filters_feed_alike : (a b : FilterNode) → IsTrue (same_filter (filtered a) (filtered b)) → filter_fed (filtered a) ≡ filter_fed (filtered b)
+filters_feed_alike a b e = ap filter_fed (same_filter-true (filtered a) (filtered b) e)
+
+pub groups_feed_alike : (a b : GroupNode) → IsTrue (same_group a b) → group_fed a ≡ group_fed b
+groups_feed_alike a b e = ap group_fed (same_group-true a b e)

@@ -5,6 +5,7 @@
 #![tactic(auto)]
 
 mod fault;
+mod feed;
 mod law;
 mod level;
 mod node;
@@ -16,7 +17,7 @@ mod same;
 mod size;
 
 pub use fault::PlanFault;
-pub use law::{law_beginnings, law_same_condition};
+pub use law::{law_asked, law_beginnings, law_named, law_placed, law_same_condition};
 pub use node::{AggNode, FilterNode, GroupNode};
 pub use plan::{TaskPlan, compile};
 

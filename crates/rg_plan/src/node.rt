@@ -1,10 +1,13 @@
 ghost use Rattle.std.specs.Prelude.{◌≡◌, IfOk};
+ghost use Rattle.rg_metric.specs.Queries.{filter_test};
 ghost use Rattle.rg_plan.specs.Nodes.{filtered};
 
+use crate::feed::feed_condition;
 use crate::same::is_same_condition;
 use rg_bytes::Memory;
 use rg_metric::{Agg, Columns, Condition};
 use std::alloc::Global;
+use std::hash::{Hash, Hasher};
 
 /// The events of a window that meet a condition.
 #[derive(Debug, Drop)]
@@ -35,19 +38,43 @@ impl Eq for FilterNode {
     ghost laws = { filter_equiv };
 }
 
+impl Hash for FilterNode {
+    ghost use Rattle.rg_plan.specs.Nodes.{filtered};
+    ghost use Rattle.rg_plan.specs.Fed.{filter_fed};
+    ghost use Rattle.rg_plan.specs.SameLaws.{filters_feed_alike};
+
+    ghost hash_input = { λ node. filter_fed (filtered node) };
+
+    ghost respects_eq = { filters_feed_alike };
+
+    fn hash<H: Hasher>(&self, state: &mut H) {
+        self.window.hash(state);
+        feed_condition(&self.condition, state);
+    }
+}
+
 impl FilterNode {
     /// An equal node.
     pub fn copy(&self, alloc: Global) -> Result<FilterNode, Memory>
         ensures { IfOk result (λ copy. filtered copy ≡ filtered self.now) }
     {
-        let condition = match &self.condition {
-            None => None,
-            Some(condition) => Some(condition.copy(alloc)?),
-        };
         Ok(FilterNode {
             window: self.window,
-            condition,
+            condition: copy_condition(alloc, &self.condition)?,
         })
+    }
+}
+
+/// An equal condition, or none where there is none.
+pub(crate) fn copy_condition(
+    alloc: Global,
+    condition: &Option<Condition>,
+) -> Result<Option<Condition>, Memory>
+    ensures { IfOk result (λ copy. filter_test copy ≡ filter_test condition.now) }
+{
+    match condition {
+        None => Ok(None),
+        Some(condition) => Ok(Some(condition.copy(alloc)?)),
     }
 }
 
@@ -77,6 +104,20 @@ impl Eq for GroupNode {
     ghost use Rattle.rg_plan.specs.SameLaws.{group_equiv};
 
     ghost laws = { group_equiv };
+}
+
+impl Hash for GroupNode {
+    ghost use Rattle.rg_plan.specs.Fed.{group_fed};
+    ghost use Rattle.rg_plan.specs.SameLaws.{groups_feed_alike};
+
+    ghost hash_input = { group_fed };
+
+    ghost respects_eq = { groups_feed_alike };
+
+    fn hash<H: Hasher>(&self, state: &mut H) {
+        self.filter.hash(state);
+        self.columns.as_slice().hash(state);
+    }
 }
 
 impl GroupNode {

@@ -1,42 +1,50 @@
-ghost use Rattle.std.specs.Prelude.{◌≡◌, ◌≤◌, ◌<◌, ◌^◌, length, IfOk, OnOk};
-ghost use Rattle.rg_plan.specs.Nodes.{with_use, distinct, number_in};
+ghost use Rattle.std.specs.Prelude.{◌≡◌, ◌+◌, ◌<◌, ◌^◌, length, map, IfOk, OnOk};
+ghost use Rattle.rg_plan.specs.Nodes.{filtered, same_filter, with_use, number_in};
 
+use crate::node::FilterNode;
+use indexmap::IndexSet;
 use rg_bytes::Memory;
 use std::alloc::Global;
+use std::hash::Hash;
 
-/// Each member once, in order of first use.
-pub(crate) fn each_once<K: PartialEq + Drop>(alloc: Global, uses: Vec<K>) -> Result<Vec<K>, Memory>
-    ensures members { IfOk result (λ members. members.items ≡ distinct K.eq uses.items) }
+/// The number of a member, which goes last where no member is equal.
+pub(crate) fn number_of<K: Eq + Hash + Drop>(
+    members: &mut IndexSet<K>,
+    item: K,
+) -> Result<u32, Memory>
+    requires { length members.old.keys + 1 < 2 ^ 32 }
+    ensures members { OnOk result (members.new.keys ≡ with_use K.eq members.old.keys item) }
+    ensures number { IfOk result (λ number. number ≡ number_in K.eq members.new.keys item) }
 {
-    let mut members = Vec::new(alloc);
-    for item in uses {
-        add_use(&mut members, item)?;
-    }
-    Ok(members)
+    let (number, _) = members.insert_full(item)?;
+    Ok(number as u32)
 }
 
-/// Adds a member at the end where no member is equal.
-fn add_use<K: PartialEq + Drop>(members: &mut Vec<K>, item: K) -> Result<(), Memory>
-    ensures { OnOk result (members.new.items ≡ with_use K.eq members.old.items item) }
+/// The number of a filter node, which goes last where no node is equal.
+pub(crate) fn filter_number(
+    filters: &mut IndexSet<FilterNode>,
+    filter: FilterNode,
+) -> Result<u32, Memory>
+    requires { length filters.old.keys + 1 < 2 ^ 32 }
+    ensures filters { OnOk result
+        (map filtered filters.new.keys ≡ with_use same_filter (map filtered filters.old.keys) (filtered filter)) }
+    ensures number { IfOk result
+        (λ number. number ≡ number_in same_filter (map filtered filters.new.keys) (filtered filter)) }
 {
-    if members.as_slice().contains(&item) {
-        return Ok(());
-    }
-    members.push(item)?;
-    Ok(())
+    let number = number_of(filters, filter)?;
+    Ok(number)
 }
 
-/// The number of the first member that is equal, or how many members there are.
-pub(crate) fn number_of<K: PartialEq>(members: &[K], item: &K) -> u32
-    requires { length members.now < 2 ^ 32 }
-    ensures { result ≡ number_in K.eq members.now item.now }
+/// The members, in order.
+pub(crate) fn in_order<K: Eq + Hash + Drop>(
+    alloc: Global,
+    members: IndexSet<K>,
+) -> Result<Vec<K>, Memory>
+    ensures { IfOk result (λ items. items.items ≡ members.keys) }
 {
-    let mut number = 0;
+    let mut items = Vec::new(alloc);
     for member in members {
-        if *member == *item {
-            return number;
-        }
-        number += 1;
+        items.push(member)?;
     }
-    number
+    Ok(items)
 }

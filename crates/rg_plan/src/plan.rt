@@ -1,12 +1,14 @@
-ghost use Rattle.std.specs.Prelude.{◌≡◌, ◌⊎◌, map, None, All, IfOk, IfErr, OnOk};
+ghost use Rattle.std.specs.Prelude.{◌≡◌, map, length, slice_get, option_copied, None, All, IfOk, IfErr, OnOk};
 ghost use Rattle.rg_metric.specs.Queries.{asked, Asked};
 ghost use Rattle.rg_plan.specs.Nodes.{filtered};
-ghost use Rattle.rg_plan.specs.Offsets.{IsMeasured, AreRising};
-ghost use Rattle.rg_plan.specs.Plans.{windows_of, filters_of, groups_of, aggs_of, paths_of, all_offsets, node_at, excess, fault_of};
+ghost use Rattle.rg_plan.specs.Named.{IsMade};
+ghost use Rattle.rg_plan.specs.Offsets.{IsMeasured};
+ghost use Rattle.rg_plan.specs.Plans.{plan_for, path_at, excess, fault_of};
 
 use crate::fault::PlanFault;
-use crate::level::{distinct_aggs, distinct_filters, distinct_groups, distinct_windows, paths};
+use crate::level::levels_of;
 use crate::node::{AggNode, FilterNode, GroupNode};
+use crate::number::in_order;
 use crate::offset::offsets_of;
 use crate::path::Path;
 use crate::size::first_too_many;
@@ -30,6 +32,7 @@ impl Model for TaskPlan {
     ghost use Rattle.std.specs.Prelude.{map};
     ghost use Rattle.rg_plan.specs.Nodes.{filtered};
     ghost use Rattle.rg_plan.specs.Plans.{Planned};
+    ghost use Rattle.rg_plan.specs.Named.{IsMade};
     ghost use Rattle.rg_plan.specs.Codes.{planned_code};
 
     ghost Value = { Planned };
@@ -37,22 +40,17 @@ impl Model for TaskPlan {
     ghost coded = { planned_code };
 
     ghost view = { λ p. record { offsets = p.offsets.items; windows = p.windows.items; filters = map filtered p.filters.items; groups = p.groups.items; aggs = p.aggs.items; paths = p.paths.items } };
+
+    ghost invariant = { λ p. IsMade (record { offsets = p.offsets.items; windows = p.windows.items; filters = map filtered p.filters.items; groups = p.groups.items; aggs = p.aggs.items; paths = p.paths.items }) };
 }
 
 /// The plan of these queries, whose windows have delays and lengths of at most 10^15 milliseconds.
 ///
 /// `TooMany` names the first query with more than 16 aggregators or 8 columns, or the one behind
 /// 64 others, and is answered before any memory is taken. `Memory` comes only where memory runs out.
-#[tactic(auto, using(crate::proofs::Placing::rising_rises))]
 pub fn compile(alloc: Global, queries: &[Query]) -> Result<TaskPlan, PlanFault>
     requires { All (λ (q : Asked). IsMeasured q.window) (map asked queries.now) }
-    ensures offsets { IfOk result (λ plan. plan.offsets ≡ all_offsets (map asked queries.now)) }
-    ensures rising { IfOk result (λ plan. AreRising plan.offsets) }
-    ensures windows { IfOk result (λ plan. plan.windows ≡ windows_of (map asked queries.now)) }
-    ensures filters { IfOk result (λ plan. plan.filters ≡ filters_of (map asked queries.now)) }
-    ensures groups { IfOk result (λ plan. plan.groups ≡ groups_of (map asked queries.now)) }
-    ensures aggs { IfOk result (λ plan. plan.aggs ≡ aggs_of (map asked queries.now)) }
-    ensures paths { IfOk result (λ plan. plan.paths ≡ paths_of (map asked queries.now)) }
+    ensures plan { IfOk result (λ plan. plan ≡ plan_for (map asked queries.now)) }
     ensures within { OnOk result (excess (map asked queries.now) ≡ None) }
     ensures fault { IfErr result (λ fault. fault ≡ fault_of (excess (map asked queries.now))) }
 {
@@ -67,22 +65,16 @@ pub fn compile(alloc: Global, queries: &[Query]) -> Result<TaskPlan, PlanFault>
 }
 
 /// The plan of queries that are few enough.
-#[tactic(auto, using(crate::proofs::Sizes::windows_small, crate::proofs::Sizes::filters_small, crate::proofs::Sizes::groups_small, crate::proofs::Sizes::all_aggs_small, crate::proofs::Sizes::windows_measured))]
 fn plan_of(alloc: Global, queries: &[Query]) -> Result<TaskPlan, Memory>
     requires measured { All (λ (q : Asked). IsMeasured q.window) (map asked queries.now) }
     requires within { excess (map asked queries.now) ≡ None }
-    ensures offsets { IfOk result (λ plan. plan.offsets ≡ all_offsets (map asked queries.now)) }
-    ensures windows { IfOk result (λ plan. plan.windows ≡ windows_of (map asked queries.now)) }
-    ensures filters { IfOk result (λ plan. plan.filters ≡ filters_of (map asked queries.now)) }
-    ensures groups { IfOk result (λ plan. plan.groups ≡ groups_of (map asked queries.now)) }
-    ensures aggs { IfOk result (λ plan. plan.aggs ≡ aggs_of (map asked queries.now)) }
-    ensures paths { IfOk result (λ plan. plan.paths ≡ paths_of (map asked queries.now)) }
+    ensures { IfOk result (λ plan. plan ≡ plan_for (map asked queries.now)) }
 {
-    let windows = distinct_windows(alloc, queries)?;
-    let filters = distinct_filters(alloc, &windows, queries)?;
-    let groups = distinct_groups(alloc, &windows, &filters, queries)?;
-    let aggs = distinct_aggs(alloc, &windows, &filters, &groups, queries)?;
-    let paths = paths(alloc, &windows, &filters, &groups, &aggs, queries)?;
+    let levels = levels_of(alloc, queries)?;
+    let windows = in_order(alloc, levels.windows)?;
+    let filters = in_order(alloc, levels.filters)?;
+    let groups = in_order(alloc, levels.groups)?;
+    let aggs = in_order(alloc, levels.aggs)?;
     let offsets = offsets_of(alloc, &windows)?;
     Ok(TaskPlan {
         offsets,
@@ -90,11 +82,30 @@ fn plan_of(alloc: Global, queries: &[Query]) -> Result<TaskPlan, Memory>
         filters,
         groups,
         aggs,
-        paths,
+        paths: levels.paths,
     })
 }
 
 impl TaskPlan {
+    /// How many queries it is the plan of.
+    pub fn queries(&self) -> u32
+        ensures count { result ≡ length self.now.paths }
+        ensures made { IsMade self.now }
+    {
+        self.paths.len() as u32
+    }
+
+    /// The numbers of the nodes of a query's aggregators, in order. There are none exactly where
+    /// there is no such query, these being counted from 0.
+    pub fn nodes(&self, query: u32) -> Option<&[u32]>
+        ensures { option_copied result ≡ slice_get self.now.paths query }
+    {
+        match self.paths.get(query as usize) {
+            None => None,
+            Some(path) => Some(path.as_slice()),
+        }
+    }
+
     /// The distinct offsets, in milliseconds, at which events enter and leave the windows: how old
     /// an event is then. They rise.
     pub fn offsets(&self) -> &[u64]
@@ -134,11 +145,11 @@ impl TaskPlan {
     /// The number of the node of an aggregator of a query, both counted from 0. There is none
     /// exactly where there is no such aggregator.
     pub fn path(&self, query: u32, agg: u32) -> Option<u32>
-        ensures { result ≡ node_at self.now.paths query agg }
+        ensures { result ≡ path_at self.now.paths query agg }
     {
-        match self.paths.get(query as usize) {
+        match self.nodes(query) {
             None => None,
-            Some(path) => path.as_slice().get(agg as usize).copied(),
+            Some(nodes) => nodes.get(agg as usize).copied(),
         }
     }
 

@@ -147,6 +147,59 @@ fn offsets_of_two_windows_rise(rt: HostRuntime) -> Result<(), Fail> {
     Ok(())
 }
 
+/// The sums of columns 1 to 16.
+fn sums(alloc: Global) -> Result<Vec<Agg>, Fail> {
+    let mut sums = Vec::new(alloc);
+    for field in 1..17 {
+        sums.push(Agg {
+            func: Func::Sum,
+            field,
+        })?;
+    }
+    Ok(sums)
+}
+
+#[test]
+fn queries_that_share_all(rt: HostRuntime) -> Result<(), Fail> {
+    let alloc = rt.alloc();
+    let sums = sums(alloc)?;
+    let mut queries = Vec::new(alloc);
+    for _ in 0..64 {
+        queries.push(query(alloc, &sums, None, true, window(0, 5))?)?;
+    }
+    let plan = plan_of(alloc, &queries)?;
+    assert_eq!(rt; plan.queries(), 64);
+    assert_eq!(rt; plan.offsets(), [0, 5].as_slice());
+    assert_eq!(rt; plan.windows().len(), 1);
+    assert_eq!(rt; plan.filters().len(), 1);
+    assert_eq!(rt; plan.groups().len(), 1);
+    assert_eq!(rt; plan.aggs().len(), 16);
+    assert_eq!(rt; plan.nodes(0), plan.nodes(63));
+    assert_eq!(rt; plan.path(63, 15), Some(15));
+    Ok(())
+}
+
+#[test]
+fn queries_that_share_nothing(rt: HostRuntime) -> Result<(), Fail> {
+    let alloc = rt.alloc();
+    let sums = sums(alloc)?;
+    let mut queries = Vec::new(alloc);
+    for delay in 0..64 {
+        queries.push(query(alloc, &sums, None, true, window(delay, 1000))?)?;
+    }
+    let plan = plan_of(alloc, &queries)?;
+    assert_eq!(rt; plan.offsets().len(), 128);
+    assert_eq!(rt; plan.windows().len(), 64);
+    assert_eq!(rt; plan.filters().len(), 64);
+    assert_eq!(rt; plan.groups().len(), 64);
+    assert_eq!(rt; plan.aggs().len(), 1024);
+    assert_eq!(rt; plan.path(0, 15), Some(15));
+    assert_eq!(rt; plan.path(1, 0), Some(16));
+    assert_eq!(rt; plan.path(63, 15), Some(1023));
+    assert_eq!(rt; plan.nodes(64).is_none(), true);
+    Ok(())
+}
+
 #[test]
 fn too_many_parts_are_refused(rt: HostRuntime) -> Result<(), Fail> {
     let alloc = rt.alloc();

@@ -1,5 +1,5 @@
 -- What is printed of a query that was read is read as that query again.
-use Rattle.std.proofs.Common.{◌≡◌, ℕ, zero, suc, List, [], ◌∷◌, length, Result, Ok, refl, ap, sym, ◌∙◌, subst}
+use Rattle.std.proofs.Common.{◌≡◌, ℕ, zero, suc, List, [], ◌∷◌, length, Result, Ok, Err, IfOk, refl, ap, sym, ◌∙◌, subst}
 use Rattle.std.proofs.lemmas.List.Elements.{All-head, All-tail}
 use Rattle.std.specs.List.{All}
 use Rattle.rg_event.specs.Shapes.{Shape, IsSchema}
@@ -10,7 +10,8 @@ use Rattle.rg_grammar.specs.Erase.{erase_query}
 use Rattle.rg_grammar.proofs.Complete.{one_query}
 use Rattle.rg_grammar.proofs.Erase.{found_again}
 use Rattle.rg_grammar.proofs.PrintedQuery.{found_writable, written_found}
-use Rattle.rg_metric.specs.Queries.{Asked}
+use Rattle.rg_metric.specs.Queries.{Asked, asked}
+use Rattle.rg_metric.specs.declared.query.Query.{Query}
 use Rattle.rg_metric.specs.declared.query.Agg.{Agg}
 use Rattle.rg_parse.specs.Tokens as parse
 use Rattle.rg_token.specs.declared.piece.Piece.{Piece}
@@ -22,7 +23,7 @@ use Rattle.rg_query.specs.declared.fault.QueryFault.{QueryFault}
 use Rattle.rg_query.specs.Legal.{IsOperand, IsLegalAgg, AreLegalAggs, IsLegal}
 use Rattle.rg_query.specs.Printing.{query_text}
 use Rattle.rg_query.specs.Resolving.{resolved}
-use Rattle.rg_query.specs.Saying.{Means}
+use Rattle.rg_query.specs.Saying.{Means, Tells}
 use Rattle.rg_query.specs.Spacing.{opened, spaced}
 use Rattle.rg_query.specs.Written.{length_of, delay_of, syntax_of, written}
 use Rattle.rg_query.proofs.Asking.{IsAsked, is_asked, asked_is, legal, same_shape}
@@ -65,10 +66,18 @@ laid_query shape q schema h found =
       means = asked_is shape read.0 q (asked_alike shape read.0 (syntax_of shape q) q read.2 (asked_again shape q h));
     }
 
+-- what a text means as a query is legal
+meant_legal : (shape : Shape) (q : Asked) (said : List ℕ) → Means shape said (Ok q) → IsLegal shape q
+meant_legal shape q said m = legal shape m.syntax q (found_writable 32 (parse.tokens_of said m.derives.pieces) m.syntax m.derives.found) (is_asked shape m.syntax q m.means)
+
+pub told_legal : (shape : Shape) (said : List ℕ) (r : Result Query QueryFault) → Tells shape said r → IfOk r (λ query. IsLegal shape (asked query))
+told_legal shape said (Ok query) tells = meant_legal shape (asked query) said tells.1
+told_legal shape said (Err why) tells = tt
+
 pub again : (shape : Shape) (q : Asked) (said : List ℕ) → IsSchema shape → Means shape said (Ok q) → Means shape (query_text shape q) (Ok q)
 again shape q said schema m =
     let is : IsAsked shape m.syntax q = is_asked shape m.syntax q m.means in
-    let h : IsLegal shape q = legal shape m.syntax q (found_writable 32 (parse.tokens_of said m.derives.pieces) m.syntax m.derives.found) is in
+    let h : IsLegal shape q = meant_legal shape q said m in
     let found : Found 32 (tokens_of (written shape q)) (syntax_of shape q) = written_is shape q (parse.tokens_of said m.derives.pieces) m.syntax m.derives.found is h in
     subst (λ (xs : List ℕ). Means shape xs (Ok q)) (text_shown shape q q.aggs refl h.aggs) (laid_query shape q schema h found)
 

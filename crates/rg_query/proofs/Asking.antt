@@ -88,7 +88,7 @@ known : {A : Type 0} (p : ℕ) (o : Option A) → unless_known p o ≡ None → 
 known p None h = absurd (cc)
 known p (Some a) h = (a, refl)
 
-in_bounds : (o : Option ℤ) (v : Value) → option_map IntValue (in_range o) ≡ Some v → IsValueOf kind.Int v
+pub in_bounds : (o : Option ℤ) (v : Value) → option_map IntValue (in_range o) ≡ Some v → IsValueOf kind.Int v
 in_bounds None v h = absurd (cc)
 in_bounds (Some n) v h = by_test (nat_le (unsigned_abs n) 1000000000000) refl h
   where
@@ -96,7 +96,7 @@ in_bounds (Some n) v h = by_test (nat_le (unsigned_abs n) 1000000000000) refl h
     by_test false e g = absurd (cc)
     by_test true e g = let i : IntValue n ≡ v = cc in subst (IsValueOf kind.Int) i (grind (arith, e))
 
-number_below : (most : ℕ) (text : List ℕ) (n : ℕ) → number_of most text ≡ Some n → n ≤ most
+pub number_below : (most : ℕ) (text : List ℕ) (n : ℕ) → number_of most text ≡ Some n → n ≤ most
 number_below most text n h = by_test (is_number text) (nat_le (value_of text) most) refl h
   where
     by_test : (a b : Bool) → nat_le (value_of text) most ≡ b → (if a && b then Some (value_of text) else None) ≡ Some n → n ≤ most
@@ -124,7 +124,7 @@ id_fits : (text : List ℕ) (o : Option ℕ) (v : Value) → id_of text ≡ o �
 id_fits text None v e h = absurd (cc)
 id_fits text (Some n) v e h = let i : IdValue n ≡ v = cc in subst (IsValueOf kind.Id) i (id_below text n e)
 
-text_fits : (text : List ℕ) (b : Bool) (v : Value) → is_word text ≡ b → (if b then Some (TextValue text) else None) ≡ Some v → IsValueOf kind.Text v
+pub text_fits : (text : List ℕ) (b : Bool) (v : Value) → is_word text ≡ b → (if b then Some (TextValue text) else None) ≡ Some v → IsValueOf kind.Text v
 text_fits text true v e h = let i : TextValue text ≡ v = cc in subst (IsValueOf kind.Text) i e
 text_fits text false v e h = absurd (cc)
 

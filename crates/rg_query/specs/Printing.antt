@@ -58,6 +58,10 @@ test_text shape side (not_of t) = codes "NOT " ++ test_text shape BehindNot t
 test_text shape side (and_of s t) = opening (and_is_enclosed side) ++ (test_text shape BesideAnd s ++ (codes " AND " ++ (test_text shape BehindNot t ++ closing (and_is_enclosed side))))
 test_text shape side (or_of s t) = opening (or_is_enclosed side) ++ (test_text shape BesideOr s ++ (codes " OR " ++ (test_text shape BesideAnd t ++ closing (or_is_enclosed side))))
 
+-- a condition by itself
+abbrev pub condition_text : Shape → Test → List ℕ
+condition_text shape t = test_text shape BesideOr t
+
 -- `count(*)`, or a function of a column
 abbrev pub operand_text : Shape → ℕ → List ℕ
 operand_text shape zero = codes "*"

@@ -11,5 +11,5 @@ mod spans;
 
 pub use fault::QueryFault;
 pub use parsing::parse;
-pub use printing::{print, print_agg, print_condition};
+pub use printing::{column_name, print, print_agg, print_condition};
 pub use rg_metric::{Agg, Aggs, Columns, Func, Query, Window};

@@ -4,8 +4,7 @@ ghost use Rattle.rg_metric.specs.Conditions.{test_of};
 ghost use Rattle.rg_metric.specs.Queries.{Asked, asked, filter_test};
 ghost use Rattle.rg_words.specs.Words.{op_text};
 ghost use Rattle.rg_query.specs.Saying.{IsShort, Says};
-ghost use Rattle.rg_query.specs.Printing.{name_at, doubled, literal_text, and_is_enclosed as and_test, or_is_enclosed as or_test, opening, closing, test_text, operand_text, agg_text, more_text, list_text, where_text, group_text, length_text, delay_text, query_text};
-ghost use Rattle.rg_query.specs.declared.printing.Side.TheVariants.{BesideOr};
+ghost use Rattle.rg_query.specs.Printing.{name_at, doubled, literal_text, and_is_enclosed as and_test, or_is_enclosed as or_test, opening, closing, test_text, condition_text, operand_text, agg_text, more_text, list_text, where_text, group_text, length_text, delay_text, query_text};
 
 use rg_bytes::{Memory, put_bytes, put_u8, write_signed, write_whole};
 use rg_event::{Field, Schema, Value};
@@ -58,7 +57,7 @@ pub fn print_condition(
     condition: &Condition,
     out: &mut Vec<u8>,
 ) -> Result<(), Memory>
-    ensures ok { OnOk result (out.new.items ≡ out.old.items ++ test_text schema.now BesideOr (test_of condition.now)) }
+    ensures ok { OnOk result (out.new.items ≡ out.old.items ++ condition_text schema.now (test_of condition.now)) }
     ensures err { OnErr result (out.new.items ≡ out.old.items) }
 {
     let start = out.len();
@@ -180,7 +179,7 @@ fn operand(fields: &[Field], column: u32) -> &[u8]
 }
 
 /// The name of a column, by its number from 1; nothing where there is none.
-fn column_name(fields: &[Field], column: u32) -> &[u8]
+pub fn column_name(fields: &[Field], column: u32) -> &[u8]
     ensures { result.now ≡ name_at column fields.now }
 {
     if column == 0 {

@@ -13,6 +13,10 @@ same_some e = cc
 none_some : {A : Type 0} {x : A} → None ≡ Some x → ⊥
 none_some e = cc
 
+-- an answer that is Ok is no fault
+pub ok_err : {A E : Type 0} {x : A} {e : E} → Ok x ≡ Err e → ⊥
+ok_err e = cc
+
 drop-get : (events : List Event) (i : ℕ) (x : Event) → slice_get events i ≡ Some x → drop i events ≡ x ∷ drop (i + 1) events
 drop-get events i x e =
     let within : i < length events = slice_get_within events i x e in

@@ -1,4 +1,5 @@
 pub mod Chains
-pub mod Counts
+pub mod Passes
 pub mod Runs
+pub mod Spelled
 pub mod Written

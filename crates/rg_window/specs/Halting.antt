@@ -1,7 +1,7 @@
 -- How far edges came before a fault.
-use Rattle.std.specs.Prelude.{ℕ, List, Result}
+use Rattle.std.specs.Prelude.{ℕ, ◌<◌, List, Result, length}
 use Rattle.rg_event.specs.declared.event.Event.{Event}
-use Rattle.rg_window.specs.Chain.{Went, Refused, Moved, Halted}
+use Rattle.rg_window.specs.Chain.{Went, Refused, Halfway, Halted}
 use Rattle.rg_window.specs.declared.edges.MoveFault.{MoveFault}
 use Rattle.rg_window.specs.declared.edges.MoveFault.TheVariants.{Past, Visit}
 
@@ -11,6 +11,6 @@ StopsAt step edge before after old new told all (Past fault) = (rest : List Even
 StopsAt step edge before after old new told all (Visit fault) = Refused step edge before after old new told all fault
 
 -- all edges, in the same way
-abbrev pub HaltsAt : {V F : Type 0} (step : V → ℕ → Event → Result Unit F → V → Type 0) (before after : V) (offsets : List ℕ) (t : ℕ) (old new : List ℕ) (told : Type 0) (events : List Event) → MoveFault F → Type 0
-HaltsAt step before after offsets t old new told events (Past fault) = (rest : List (ℕ × Event)) × Moved step before after offsets t old new told events rest
-HaltsAt step before after offsets t old new told events (Visit fault) = Halted step before after offsets t old new told events fault
+abbrev pub HaltsAt : {V F : Type 0} (step : V → ℕ → Event → Result Unit F → V → Type 0) (before after : V) (offsets : List ℕ) (t : ℕ) (old new : List ℕ) (told : ℕ → Type 0) (events : List Event) → MoveFault F → Type 0
+HaltsAt step before after offsets t old new told events (Past fault) = (end : ℕ) × (end < length offsets) × Halfway step before after offsets t old new told events end
+HaltsAt step before after offsets t old new told events (Visit fault) = (end : ℕ) × (end < length offsets) × Halted step before after offsets t old new told events end fault

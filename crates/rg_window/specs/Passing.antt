@@ -1,5 +1,5 @@
 -- The events that edges pass.
-use Rattle.std.specs.Prelude.{◌≡◌, ℕ, ◌+◌, ◌<◌, nat_le, Bool, cond, List, [], ◌∷◌, ◌++◌, length, drop, slice_index_or}
+use Rattle.std.specs.Prelude.{◌≡◌, ℕ, ◌+◌, nat_le, Bool, cond, List, [], ◌∷◌, ◌++◌, length, drop, slice_index_or}
 use Rattle.rg_event.specs.declared.event.Event.{Event}
 
 -- at time t an edge of that offset has come to the event
@@ -24,12 +24,11 @@ abbrev pub at_edge : ℕ → List Event → List (ℕ × Event)
 at_edge edge [] = []
 at_edge edge (event ∷ events) = (edge, event) ∷ at_edge edge events
 
--- the visits of edges of these offsets, counted from that edge on, that stand at these numbers: edge by edge, the events that it passes
-abbrev pub visits_of : List Event → ℕ → ℕ → List ℕ → List ℕ → List (ℕ × Event)
-visits_of events t edge [] numbers = []
-visits_of events t edge (offset ∷ offsets) [] = []
-visits_of events t edge (offset ∷ offsets) (number ∷ numbers) = at_edge edge (passed events t offset number) ++ visits_of events t (edge + 1) offsets numbers
+-- the visits of some edges, the first of which has this index: edge by edge, to the events of each
+abbrev pub edge_by_edge : ℕ → List (List Event) → List (ℕ × Event)
+edge_by_edge edge [] = []
+edge_by_edge edge (events ∷ passes) = at_edge edge events ++ edge_by_edge (edge + 1) passes
 
--- each edge went from its old number to where it stands at time t
-abbrev pub EachReached : List Event → ℕ → List ℕ → List ℕ → List ℕ → Type 0
-EachReached events t offsets old new = (edge : ℕ) → edge < length offsets → slice_index_or new edge 0 ≡ reach events t (slice_index_or offsets edge 0) (slice_index_or old edge 0)
+-- the edge of that index went from its old number to where it stands at time t
+abbrev pub Reaches : List Event → ℕ → List ℕ → List ℕ → List ℕ → ℕ → Type 0
+Reaches events t offsets old new edge = slice_index_or new edge 0 ≡ reach events t (slice_index_or offsets edge 0) (slice_index_or old edge 0)

@@ -1,5 +1,5 @@
 -- Edges at their spots.
-use Rattle.std.specs.Prelude.{◌≡◌, ℕ, ◌<◌, ◌≤◌, ◌^◌, List, [], ◌∷◌, length, map, All, ⊤}
+use Rattle.std.specs.Prelude.{◌≡◌, ℕ, ◌<◌, slice_get, Some, ◌≤◌, ◌^◌, List, [], ◌∷◌, length, map, All, ⊤}
 use Rattle.rg_past.specs.declared.past.Spot.{Spot}
 
 -- the offsets of some edges, and the spot of each
@@ -26,3 +26,7 @@ numbers_of spots = map (λ spot. spot.number) spots
 -- no spot's number is above that count
 abbrev pub AreWithin : List Spot → ℕ → Type 0
 AreWithin spots count = All (λ (spot : Spot). spot.number ≤ count) spots
+
+-- the edge of that index stands at a spot that the past spells
+abbrev pub IsSpelledAt : (Spot → Type 0) → List Spot → ℕ → Type 0
+IsSpelledAt Spells spots edge = (spot : Spot) × (slice_get spots edge ≡ Some spot) × Spells spot

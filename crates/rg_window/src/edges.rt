@@ -1,9 +1,9 @@
-ghost use Rattle.std.specs.Prelude.{◌≡◌, ◌↔◌, ℕ, ◌≤◌, ◌<◌, ◌^◌, [], length, All, IfOk, IfErr, OnOk, IsErrOf};
+ghost use Rattle.std.specs.Prelude.{◌≡◌, ◌↔◌, ℕ, ◌≤◌, ◌<◌, ◌^◌, [], length, IfOk, IfErr, OnOk, IsErrOf, slice_index_or};
 ghost use Rattle.rg_bytes.specs.Counts.{Rose};
 ghost use Rattle.rg_window.specs.Chain.{Went, Moved};
 ghost use Rattle.rg_window.specs.Halting.{StopsAt, HaltsAt};
-ghost use Rattle.rg_window.specs.Passing.{has_come, passed, EachReached};
-ghost use Rattle.rg_window.specs.Placed.{AreRising, AreWithin, numbers_of};
+ghost use Rattle.rg_window.specs.Passing.{has_come, passed, Reaches};
+ghost use Rattle.rg_window.specs.Placed.{AreRising, AreWithin, IsSpelledAt, numbers_of};
 
 use crate::visit::Visit;
 use rg_bytes::Memory;
@@ -72,8 +72,12 @@ impl Edges {
 
     /// Moves the edges to time `t`, one after the other in rising order of offset: while the event at
     /// the edge has a time of at most `t` less the offset, the event is visited and the edge goes on.
+    /// Over a sound past an edge whose spot the past spells moves just so, whatever the spots of the
+    /// others are. No edge ever goes back. Over a past that has ended the first look is refused,
+    /// and nothing is visited.
     ///
-    /// After a refusal each edge stands where it had come to, and the next move goes on from there.
+    /// After a refusal each edge stands where it had come to, those behind the one that stopped where
+    /// they stood before, and the next move goes on from there.
     pub fn move_to<P: Past, V: Visit>(
         &mut self,
         past: &mut P,
@@ -83,14 +87,22 @@ impl Edges {
         requires { AreWithin self.old.spots (length (P.events past.old)) }
         ensures moved { OnOk result (Moved V.step visit.old visit.new self.old.offsets t
             (numbers_of self.old.spots) (numbers_of self.new.spots)
-            (P.sound past.old × All (P.spells past.old) self.old.spots) (P.events past.old) []) }
-        ensures reached { P.sound past.old → All (P.spells past.old) self.old.spots →
-            OnOk result (EachReached (P.events past.old) t self.old.offsets
-            (numbers_of self.old.spots) (numbers_of self.new.spots)) }
+            (λ edge. P.sound past.old × IsSpelledAt (P.spells past.old) self.old.spots edge)
+            (P.events past.old) (length self.old.offsets)) }
+        ensures reached { P.sound past.old → (edge : ℕ) →
+            IsSpelledAt (P.spells past.old) self.old.spots edge →
+            OnOk result (Reaches (P.events past.old) t self.old.offsets
+            (numbers_of self.old.spots) (numbers_of self.new.spots) edge) }
         ensures halted { IfErr result (λ fault. HaltsAt V.step visit.old visit.new self.old.offsets t
             (numbers_of self.old.spots) (numbers_of self.new.spots)
-            (P.sound past.old × All (P.spells past.old) self.old.spots) (P.events past.old) fault) }
+            (λ edge. P.sound past.old × IsSpelledAt (P.spells past.old) self.old.spots edge)
+            (P.events past.old) fault) }
+        ensures rises { (edge : ℕ) → slice_index_or (numbers_of self.old.spots) edge 0
+            ≤ slice_index_or (numbers_of self.new.spots) edge 0 }
 
+        ensures stops { P.ended past.old → 0 < length self.old.offsets →
+            IsErrOf result (MoveFault.Past PastFault.Ended) }
+        ensures unvisited { P.ended past.old → visit.new ≡ visit.old }
         ensures no_full { IsErrOf result (MoveFault.Past PastFault.Full) → ⊥ }
         ensures ended { IsErrOf result (MoveFault.Past PastFault.Ended) → P.ended past.old }
         ensures disk { IsErrOf result (MoveFault.Past PastFault.Disk) →
@@ -101,8 +113,9 @@ impl Edges {
         ensures offsets { self.new.offsets ≡ self.old.offsets }
         ensures same { length self.new.spots ≡ length self.old.spots }
         ensures within { AreWithin self.new.spots (length (P.events past.new)) }
-        ensures spells { P.sound past.old → All (P.spells past.old) self.old.spots →
-            All (P.spells past.new) self.new.spots }
+        ensures spells { P.sound past.old → (edge : ℕ) →
+            IsSpelledAt (P.spells past.old) self.old.spots edge →
+            IsSpelledAt (P.spells past.new) self.new.spots edge }
 
         ensures events { P.events past.new ≡ P.events past.old }
         ensures limit { P.limit past.new ≡ P.limit past.old }
@@ -129,10 +142,15 @@ fn move_each<P: Past, V: Visit>(
     requires within { AreWithin spots.old (length (P.events past.old)) }
     ensures moved { OnOk result (Moved V.step visit.old visit.new offsets.now t
         (numbers_of spots.old) (numbers_of spots.new)
-        (P.sound past.old × All (P.spells past.old) spots.old) (P.events past.old) []) }
+        (λ edge. P.sound past.old × IsSpelledAt (P.spells past.old) spots.old edge)
+        (P.events past.old) (length offsets.now)) }
     ensures halted { IfErr result (λ fault. HaltsAt V.step visit.old visit.new offsets.now t
         (numbers_of spots.old) (numbers_of spots.new)
-        (P.sound past.old × All (P.spells past.old) spots.old) (P.events past.old) fault) }
+        (λ edge. P.sound past.old × IsSpelledAt (P.spells past.old) spots.old edge)
+        (P.events past.old) fault) }
+    ensures stops { P.ended past.old → 0 < length offsets.now →
+        IsErrOf result (MoveFault.Past PastFault.Ended) }
+    ensures unvisited { P.ended past.old → visit.new ≡ visit.old }
     ensures no_full { IsErrOf result (MoveFault.Past PastFault.Full) → ⊥ }
     ensures ended { IsErrOf result (MoveFault.Past PastFault.Ended) → P.ended past.old }
     ensures disk { IsErrOf result (MoveFault.Past PastFault.Disk) →
@@ -141,8 +159,9 @@ fn move_each<P: Past, V: Visit>(
         P.illegal past.new place }
     ensures same { length spots.new ≡ length spots.old }
     ensures within { AreWithin spots.new (length (P.events past.old)) }
-    ensures spells { P.sound past.old → All (P.spells past.old) spots.old →
-        All (P.spells past.new) spots.new }
+    ensures spells { P.sound past.old → (edge : ℕ) →
+        IsSpelledAt (P.spells past.old) spots.old edge →
+        IsSpelledAt (P.spells past.new) spots.new edge }
     ensures events { P.events past.new ≡ P.events past.old }
     ensures goes { P.goes past.old past.new }
     ensures sound { P.sound past.old → P.sound past.new }
@@ -179,6 +198,8 @@ fn move_edge<P: Past, V: Visit>(
     ensures stops { IfErr result (λ fault. StopsAt V.step edge visit.old visit.new spot.old.number spot.new.number
         (P.sound past.old × P.spells past.old spot.old)
         (passed (P.events past.old) t offset spot.old.number) fault) }
+    ensures refuses { P.ended past.old → IsErrOf result (MoveFault.Past PastFault.Ended) }
+    ensures unvisited { P.ended past.old → visit.new ≡ visit.old }
     ensures no_full { IsErrOf result (MoveFault.Past PastFault.Full) → ⊥ }
     ensures ended { IsErrOf result (MoveFault.Past PastFault.Ended) → P.ended past.old }
     ensures disk { IsErrOf result (MoveFault.Past PastFault.Disk) →

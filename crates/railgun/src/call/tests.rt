@@ -1,5 +1,6 @@
 use super::*;
 use rg_host::{Image, MemHost, MemSource};
+use std::process::Abort;
 use std::test::Fail;
 
 /// What a call finds: its words, the bytes of plan and input, and which calls fail.
@@ -27,6 +28,30 @@ const TEN: &str = "SELECT count(*) FROM payments GROUP BY card OVER SLIDING 10 m
 
 const DEAR: &str =
     "SELECT count(*) FROM payments WHERE amount > 100 GROUP BY card OVER SLIDING 5 minutes";
+
+const TOTALS: &str =
+    "SELECT count(*), sum(amount) FROM payments GROUP BY card OVER SLIDING 5 minutes";
+
+const DEAR_TOTALS: &str =
+    "SELECT count(*), sum(amount) FROM payments WHERE amount > 100 GROUP BY card OVER SLIDING 5 minutes";
+
+/// Two queries, as they stand between the outer quotes of a plan.
+const TOTALS_AND_MERCHANTS: &str =
+    "SELECT count(*), sum(amount) FROM payments GROUP BY card OVER SLIDING 5 minutes\", \"SELECT count(*) FROM payments GROUP BY merchant OVER SLIDING 5 minutes";
+
+/// Three queries, as they stand between the outer quotes of a plan.
+const TOTALS_EXTREMES_AND_MEAN: &str =
+    "SELECT count(*), sum(amount) FROM payments GROUP BY card OVER SLIDING 5 minutes\", \"SELECT countDistinct(merchant), max(amount) FROM payments WHERE amount >= 5000 GROUP BY card OVER SLIDING 1 hour DELAYED BY 1 minute\", \"SELECT avg(amount) FROM payments OVER INFINITE";
+
+const LEAST_AND_MEAN: &str =
+    "SELECT min(amount), avg(amount) FROM payments WHERE amount >= 100 OVER SLIDING 10 ms";
+
+const MERCHANTS: &str =
+    "SELECT countDistinct(merchant) FROM payments GROUP BY card OVER SLIDING 10 ms";
+
+/// Two queries that share all nodes but one.
+const SHARING: &str =
+    "SELECT count(*) FROM payments GROUP BY card OVER SLIDING 5 minutes\", \"SELECT sum(amount), count(*) FROM payments GROUP BY card OVER SLIDING 300 seconds";
 
 const SMALL: &str = "cache = 1\nchunk = 2\ncommit = 2\nsave = 4\n";
 
@@ -124,6 +149,65 @@ fn a_query_has_a_condition_and_a_delay(rt: HostRuntime) -> Result<(), Fail> {
     Ok(())
 }
 
+/// A run of this query over payments puts this text, and ends well.
+fn assert_answered(
+    rt: &(impl Abort + AllocGlobal),
+    query: &str,
+    input: &[u8],
+    wanted: &str,
+) -> Result<(), Fail> {
+    let plan = plan_of(rt.alloc(), query, PAYMENTS, "")?;
+    let (text, status) = outcome(rt.alloc(), &sound(plan.as_bytes(), input))?;
+    assert_eq!(rt; text.as_str(), wanted);
+    assert_eq!(rt; status, Status::Ok);
+    Ok(())
+}
+
+#[test]
+fn sums_are_answered_beside_counts(rt: HostRuntime) -> Result<(), Fail> {
+    let three = b"0,c1,m1,100\n299999,c1,m2,200\n300000,c1,m1,50\n";
+    let totals = "0 ok 1 100\n1 ok 2 300\n2 ok 2 250\ndone 3 3\n";
+    assert_answered(&rt, TOTALS, three, totals)?;
+    let both = "0 ok 1 100 1\n1 ok 2 300 1\n2 ok 2 250 1\ndone 3 3\n";
+    assert_answered(&rt, TOTALS_AND_MERCHANTS, three, both)?;
+    let twice = b"7,c1,m1,1\n7,c1,m1,1\n";
+    assert_answered(&rt, TOTALS, twice, "0 ok 1 1\n1 ok 2 2\ndone 2 2\n")?;
+    let late = b"10,c1,m1,1\n9,c1,m1,1\n10,c1,m1,1\n";
+    assert_answered(&rt, TOTALS, late, "0 ok 1 1\n1 late\n2 ok 2 2\ndone 3 2\n")?;
+    assert_answered(&rt, DEAR_TOTALS, b"0,c1,m1,50\n", "0 ok 0 0\ndone 1 1\n")?;
+    Ok(())
+}
+
+#[test]
+fn extremes_and_distinct_counts_are_answered(rt: HostRuntime) -> Result<(), Fail> {
+    let amounts = b"0,c1,m1,50\n1,c1,m1,100\n2,c1,m1,200\n";
+    let least = "0 ok - -\n1 ok 100 100/1\n2 ok 100 300/2\ndone 3 3\n";
+    assert_answered(&rt, LEAST_AND_MEAN, amounts, least)?;
+    let merchants = b"0,c1,m1,1\n5,c1,m2,1\n9,c1,m1,1\n10,c1,m2,1\n19,c1,m2,1\n";
+    let distinct = "0 ok 1\n1 ok 2\n2 ok 2\n3 ok 2\n4 ok 1\ndone 5 5\n";
+    assert_answered(&rt, MERCHANTS, merchants, distinct)?;
+    let two = b"693,c4,m90,8095\n1133,c35,m37,1750\n";
+    let three = "0 ok 1 8095 0 - 8095/1\n1 ok 1 1750 0 - 9845/2\ndone 2 2\n";
+    assert_answered(&rt, TOTALS_EXTREMES_AND_MEAN, two, three)?;
+    Ok(())
+}
+
+#[test]
+fn numbers_at_their_limits_are_answered(rt: HostRuntime) -> Result<(), Fail> {
+    let alloc = rt.alloc();
+    let query = "SELECT max(b), sum(a), sumsq(a), first(a), last(b) FROM payments OVER INFINITE";
+    let plan = plan_of(alloc, query, "\"ts\", \"a:int\", \"b:id\"", "")?;
+    let input =
+        b"1000000000000000,-1000000000000,18446744073709551615\n1000000000000001,1,1\n1000000000000000,1000000000001,1\n";
+    let (text, status) = outcome(alloc, &sound(plan.as_bytes(), input))?;
+    assert_eq!(rt;
+        text.as_str(),
+        "0 ok 18446744073709551615 -1000000000000 1000000000000000000000000 -1000000000000 18446744073709551615\n1 time\n2 value 1\ndone 3 1\n"
+    );
+    assert_eq!(rt; status, Status::Ok);
+    Ok(())
+}
+
 #[test]
 fn no_more_events_are_accepted_than_the_plan_allows(rt: HostRuntime) -> Result<(), Fail> {
     let alloc = rt.alloc();
@@ -197,7 +281,38 @@ fn a_check_prints_the_queries_and_leaves_the_input_alone(rt: HostRuntime) -> Res
     let (text, status) = outcome(alloc, &check)?;
     assert_eq!(rt;
         text.as_str(),
-        "query 0 SELECT count(*) FROM payments WHERE amount > 100 GROUP BY card OVER SLIDING 300000 ms\n"
+        "query 0 SELECT count(*) FROM payments WHERE amount > 100 GROUP BY card OVER SLIDING 300000 ms\noffset 0\noffset 300000\nwindow 0 0 300000\nfilter 0 0 amount > 100\ngroup 0 0 card\nagg 0 0 count(*)\n"
+    );
+    assert_eq!(rt; status, Status::Ok);
+    Ok(())
+}
+
+#[test]
+fn a_check_prints_what_queries_share(rt: HostRuntime) -> Result<(), Fail> {
+    let alloc = rt.alloc();
+    let plan = plan_of(alloc, SHARING, PAYMENTS, "")?;
+    let sharing = Setting {
+        words: &CHECK,
+        ..sound(plan.as_bytes(), b"")
+    };
+    let (text, status) = outcome(alloc, &sharing)?;
+    assert_eq!(rt;
+        text.as_str(),
+        "query 0 SELECT count(*) FROM payments GROUP BY card OVER SLIDING 300000 ms\nquery 1 SELECT sum(amount), count(*) FROM payments GROUP BY card OVER SLIDING 300000 ms\noffset 0\noffset 300000\nwindow 0 0 300000\nfilter 0 0 all\ngroup 0 0 card\nagg 0 0 count(*)\nagg 1 0 sum(amount)\n"
+    );
+    assert_eq!(rt; status, Status::Ok);
+
+    let delayed =
+        "SELECT count(*) FROM payments GROUP BY card, merchant OVER INFINITE DELAYED BY 5 ms";
+    let plan = plan_of(alloc, delayed, PAYMENTS, "")?;
+    let endless = Setting {
+        words: &CHECK,
+        ..sound(plan.as_bytes(), b"")
+    };
+    let (text, status) = outcome(alloc, &endless)?;
+    assert_eq!(rt;
+        text.as_str(),
+        "query 0 SELECT count(*) FROM payments GROUP BY card, merchant OVER INFINITE DELAYED BY 5 ms\noffset 5\nwindow 0 5 -\nfilter 0 0 all\ngroup 0 0 card,merchant\nagg 0 0 count(*)\n"
     );
     assert_eq!(rt; status, Status::Ok);
     Ok(())

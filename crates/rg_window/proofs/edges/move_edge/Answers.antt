@@ -2,7 +2,7 @@ use Rattle.std.proofs.Common.{◌≡◌, ◌+◌, ◌<◌, ◌∙◌, ap, sym, a
 use Rattle.std.specs.Prelude.{slice_get}
 use Rattle.std.specs.Option.{option_copied}
 use Rattle.rg_window.specs.Passing.{passed}
-use Rattle.rg_window.proofs.Chains.{Went-end, Went-more, Refused-next, passed-come, passed-stays, passed-end}
+use Rattle.rg_window.proofs.Chains.{ok_err, Went-end, Went-more, Refused-next, passed-come, passed-stays, passed-end}
 use Rattle.rg_window.proofs.edges.move_edge.Goals as goal
 
 pub returns-in-Ok-None-clause-went : goal.returns-in-Ok-None-clause-went
@@ -47,5 +47,6 @@ edge-preserved g c =
       sound = λ s. k.3 (i.sound s);
       keeps_room = λ r. k.4 (i.keeps_room r);
       keeps_ended = (λ e. i.keeps_ended.0 (k.2.0 e), λ e. k.2.1 (i.keeps_ended.1 e));
+      unvisited = λ e. absurd (ok_err (c.in-Ok-Some.ensures.ended.1 (i.keeps_ended.1 e)));
       later = omega (arith, i.later, k.5);
     }

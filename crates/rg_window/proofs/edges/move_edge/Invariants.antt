@@ -13,6 +13,7 @@ invariant-edge g l = record {
   sound : g.P.Past.sound l.fn.past → g.P.Past.sound l.past;
   keeps_room : g.P.Past.has_room l.fn.past → g.P.Past.has_room l.past;
   keeps_ended : g.P.Past.ended l.past ↔ g.P.Past.ended l.fn.past;
+  unvisited : g.P.Past.ended l.fn.past → l.visit ≡ l.fn.visit;
   later : g.P.Past.faults l.fn.past ≤ g.P.Past.faults l.past;
 }
 

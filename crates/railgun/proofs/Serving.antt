@@ -1,0 +1,203 @@
+-- The columns of a schema serve the plan of queries that are legal over it.
+use Rattle.std.proofs.Common.{◌≡◌, ◌⊎◌, inl, inr, ℕ, zero, suc, ◌<◌, ◌+◌, Bool, true, false, List, [], ◌∷◌, length, map, option_map, slice_get, Option, Some, None, refl, ap, sym, ◌∙◌, subst, arith}
+use Rattle.std.specs.Option.{ForSome}
+use Rattle.std.specs.Prelude.{All, flat_map, bytes_eq, if◌then◌else◌}
+use Rattle.std.proofs.lemmas.Bool.{le-leb, lt-ltb}
+use Rattle.std.proofs.lemmas.List.Elements.{All-nil, All-head, All-tail, All-append, All-map, All-weaker}
+use Rattle.std.proofs.lemmas.Option.{slice_get_within, get_or_from_slice_get, option_and_then_some}
+use Rattle.rg_event.specs.Codec.{IsValueOf}
+use Rattle.rg_event.specs.Shapes.{Shape}
+use Rattle.rg_event.specs.Tagged.{IsLegal as IsLegalValue}
+use Rattle.rg_event.specs.declared.schema.Field.{Field}
+use Rattle.rg_event.specs.declared.value.Kind.{Kind}
+use Rattle.rg_event.specs.declared.value.Kind.TheVariants as kind
+use Rattle.rg_event.specs.declared.value.Value.{Value}
+use Rattle.rg_event.specs.declared.value.Value.TheVariants.{Int, Id, Text, Flag}
+use Rattle.rg_words.specs.declared.func.Func.{Func}
+use Rattle.rg_words.specs.declared.func.Func.TheVariants.{Count, Sum, Avg, SumSq, Min, Max, CountDistinct, First, Last}
+use Rattle.rg_metric.specs.Conditions.{Test}
+use Rattle.rg_metric.specs.Queries.{Asked}
+use Rattle.rg_metric.specs.declared.query.Agg.{Agg}
+use Rattle.rg_metric.specs.declared.query.Window.{Window}
+use Rattle.rg_plan.specs.declared.node.AggNode.{AggNode}
+use Rattle.rg_plan.specs.Named.{Node, node_at, under_agg, under_group, under_filter}
+use Rattle.rg_plan.specs.Nodes.{same_window, same_agg}
+use Rattle.rg_plan.specs.Plans.{Planned, plan_for, windows_of, filters_of, groups_of, aggs_of, aggs_in, agg_under, group_number}
+use Rattle.rg_plan.proofs.Members.{All-distinct}
+use Rattle.rg_query.specs.Legal.{IsOperand, IsLegalAgg, AreLegalAggs, IsLegalLength, IsLegal}
+use Rattle.rg_query.specs.Printing.{name_at}
+use Rattle.rg_query.specs.Resolving.{column_from, takes}
+use Rattle.rg_agg.specs.Stands.{IsInt, IsNumber}
+use Rattle.rg_state.specs.Takes.{Takes}
+use Rattle.rg_engine.specs.Feeding.{IsServed, Serves}
+
+-- each value of a kind that a function takes is one that it takes
+
+int_is : (value : Value) → IsValueOf kind.Int value → IsInt value
+int_is (Int number) h = h
+int_is (Id number) h = absurd h
+int_is (Text text) h = absurd h
+int_is (Flag flag) h = absurd h
+
+int_counts : (value : Value) → IsValueOf kind.Int value → IsNumber value
+int_counts (Int number) h = le-leb _ 1000000000000 h
+int_counts (Id number) h = absurd h
+int_counts (Text text) h = absurd h
+int_counts (Flag flag) h = absurd h
+
+id_counts : (value : Value) → IsValueOf kind.Id value → IsNumber value
+id_counts (Int number) h = absurd h
+id_counts (Id number) h = lt-ltb number 18446744073709551616 (omega (arith, h))
+id_counts (Text text) h = absurd h
+id_counts (Flag flag) h = absurd h
+
+legal_is : (k : Kind) (value : Value) → IsValueOf k value → IsLegalValue value
+legal_is kind.Int (Int number) h = h
+legal_is kind.Id (Id number) h = h
+legal_is kind.Text (Text text) h = h
+legal_is kind.Flag (Flag flag) h = h
+legal_is k value h = absurd h
+
+sums : (k : Kind) (value : Value) → takes Sum k ≡ true → IsValueOf k value → IsInt value
+sums kind.Int value t h = int_is value h
+sums kind.Id value t h = absurd (cc)
+sums kind.Text value t h = absurd (cc)
+sums kind.Flag value t h = absurd (cc)
+
+numbers : (k : Kind) (value : Value) → takes Min k ≡ true → IsValueOf k value → IsNumber value
+numbers kind.Int value t h = int_counts value h
+numbers kind.Id value t h = id_counts value h
+numbers kind.Text value t h = absurd (cc)
+numbers kind.Flag value t h = absurd (cc)
+
+like_sum : (func : Func) (k : Kind) → (func ≡ Avg) ⊎ (func ≡ SumSq) → takes func k ≡ takes Sum k
+like_sum func kind.Int (inl is) = rw is refl
+like_sum func kind.Id (inl is) = rw is refl
+like_sum func kind.Text (inl is) = rw is refl
+like_sum func kind.Flag (inl is) = rw is refl
+like_sum func kind.Int (inr is) = rw is refl
+like_sum func kind.Id (inr is) = rw is refl
+like_sum func kind.Text (inr is) = rw is refl
+like_sum func kind.Flag (inr is) = rw is refl
+
+like_min : (func : Func) (k : Kind) → (func ≡ Max) ⊎ ((func ≡ First) ⊎ (func ≡ Last)) → takes func k ≡ takes Min k
+like_min func kind.Int (inl is) = rw is refl
+like_min func kind.Id (inl is) = rw is refl
+like_min func kind.Text (inl is) = rw is refl
+like_min func kind.Flag (inl is) = rw is refl
+like_min func kind.Int (inr (inl is)) = rw is refl
+like_min func kind.Id (inr (inl is)) = rw is refl
+like_min func kind.Text (inr (inl is)) = rw is refl
+like_min func kind.Flag (inr (inl is)) = rw is refl
+like_min func kind.Int (inr (inr is)) = rw is refl
+like_min func kind.Id (inr (inr is)) = rw is refl
+like_min func kind.Text (inr (inr is)) = rw is refl
+like_min func kind.Flag (inr (inr is)) = rw is refl
+
+all_taken : (func : Func) (k : Kind) (value : Value) → takes func k ≡ true → IsValueOf k value → Takes func value
+all_taken Count k value t h = tt
+all_taken Sum k value t h = sums k value t h
+all_taken Avg k value t h = sums k value (sym (like_sum Avg k (inl refl)) ∙ t) h
+all_taken SumSq k value t h = sums k value (sym (like_sum SumSq k (inr refl)) ∙ t) h
+all_taken Min k value t h = numbers k value t h
+all_taken Max k value t h = numbers k value (sym (like_min Max k (inl refl)) ∙ t) h
+all_taken First k value t h = numbers k value (sym (like_min First k (inr (inl refl))) ∙ t) h
+all_taken Last k value t h = numbers k value (sym (like_min Last k (inr (inr refl))) ∙ t) h
+all_taken CountDistinct k value t h = legal_is k value h
+
+-- a column that is found by its name is one of the columns, with its kind
+record IsThere (k : ℕ) (fields : List Field) (n : ℕ) (kind : Kind) : Type 0 where
+  ahead : ℕ
+  counted : n ≡ k + ahead
+  field : Field
+  there : slice_get fields ahead ≡ Some field
+  same : field.kind ≡ kind
+
+found_there : (k : ℕ) (fields : List Field) (name : List ℕ) (n : ℕ) (kind : Kind) → column_from k fields name ≡ Some (n, kind) → IsThere k fields n kind
+found_there k [] name n kind e = absurd (cc)
+found_there k (field ∷ fields) name n kind e = by_test (bytes_eq field.name name) e (λ f. found_there (k + 1) fields name n kind f)
+  where
+    by_test : (same : Bool) → (if same then Some (k, field.kind) else column_from (k + 1) fields name) ≡ Some (n, kind)
+        → (column_from (k + 1) fields name ≡ Some (n, kind) → IsThere (k + 1) fields n kind) → IsThere k (field ∷ fields) n kind
+    by_test true f next =
+        let both : ◌≡◌ {A = ℕ × Kind} (k, field.kind) (n, kind) = cc in
+        let here : k ≡ n = ap (λ (x : ℕ × Kind). x.0) both in
+        record { ahead = 0; counted = omega (arith, here); field = field; there = refl; same = ap (λ (x : ℕ × Kind). x.1) both }
+    by_test false f next =
+        let r : IsThere (k + 1) fields n kind = next f in
+        record { ahead = suc r.ahead; counted = omega (arith, r.counted); field = r.field; there = r.there; same = r.same }
+
+column_serves : (shape : Shape) (agg : Agg) (field : ℕ) → agg.field ≡ field → IsOperand shape agg.func field → IsServed shape.fields agg
+column_serves shape agg zero is operand = inl (is, operand)
+column_serves shape agg (suc n) is operand =
+    let r : IsThere 1 shape.fields (suc n) operand.kind = found_there 1 shape.fields (name_at (suc n) shape.fields) (suc n) operand.kind operand.found in
+    let here : suc n ≡ suc r.ahead = omega (arith, r.counted) in
+    inr (record {
+      column = r.ahead;
+      is = is ∙ here;
+      field = r.field;
+      found = r.there;
+      takes = λ value fits. all_taken agg.func operand.kind value operand.taken (subst (λ k. IsValueOf k value) r.same fits);
+    })
+
+all_served : (shape : Shape) (aggs : List Agg) → AreLegalAggs shape aggs → All (IsServed shape.fields) aggs
+all_served shape [] legal = absurd legal
+all_served shape (agg ∷ aggs) legal = All-weaker (IsLegalAgg shape) (IsServed shape.fields) (λ a operand. column_serves shape a a.field refl operand) (agg ∷ aggs) legal
+
+-- a window that ends lasts
+abbrev Lasts : Window → Type 0
+Lasts window = ForSome window.length (λ length. 0 < length)
+
+lasts : (length : Option ℕ) → IsLegalLength length → ForSome length (λ n. 0 < n)
+lasts None legal n is = absurd (cc)
+lasts (Some m) legal n is = let same : m ≡ n = cc in omega (arith, legal.0, same)
+
+module _ (shape : Shape) (qs : List Asked) (legal : All (IsLegal shape) qs) where
+  abbrev Served : AggNode → Type 0
+  Served node = IsServed shape.fields node.agg
+
+  uses_served : (xs : List Asked) → All (IsLegal shape) xs → All Served (flat_map (aggs_in (windows_of qs) (filters_of qs) (groups_of qs)) xs)
+  uses_served [] h = All-nil Served
+  uses_served (x ∷ xs) h =
+      All-append Served (aggs_in (windows_of qs) (filters_of qs) (groups_of qs) x) (flat_map (aggs_in (windows_of qs) (filters_of qs) (groups_of qs)) xs)
+      (All-map Served (agg_under (group_number (windows_of qs) (filters_of qs) (groups_of qs) x)) x.aggs (all_served shape x.aggs (All-head (IsLegal shape) x xs h).aggs))
+      (uses_served xs (All-tail (IsLegal shape) x xs h))
+
+  aggs_served : All Served (aggs_of qs)
+  aggs_served = All-distinct same_agg Served (flat_map (aggs_in (windows_of qs) (filters_of qs) (groups_of qs)) qs) (uses_served qs legal)
+
+  windows_last : All Lasts (windows_of qs)
+  windows_last =
+      All-distinct same_window Lasts (map (λ (q : Asked). q.window) qs)
+      (All-map Lasts (λ (q : Asked). q.window) qs (All-weaker (IsLegal shape) (λ (q : Asked). Lasts q.window) (λ q h. lasts q.window.length h.length) qs legal))
+
+-- a node has the aggregator of its number, and one of the windows
+record HasParts (plan : Planned) (number : ℕ) (node : Node) : Type 0 where
+  last : AggNode
+  there : slice_get plan.aggs number ≡ Some last
+  agg : node.agg ≡ last.agg
+  place : ℕ
+  window : slice_get plan.windows place ≡ Some node.window
+
+with_window : (condition : Option Test) (columns : List ℕ) (agg : Agg) (o : Option Window) (node : Node)
+    → option_map (λ (window : Window). record { window = window; condition = condition; columns = columns; agg = agg }) o ≡ Some node → (o ≡ Some node.window) × (node.agg ≡ agg)
+with_window condition columns agg None node e = absurd (cc)
+with_window condition columns agg (Some window) node e = (ap (option_map (λ (n : Node). n.window)) e, let same : ◌≡◌ {A = Option Agg} (Some agg) (Some node.agg) = ap (option_map (λ (n : Node). n.agg)) e in cc)
+
+parts_of : (plan : Planned) (number : ℕ) (node : Node) → node_at plan number ≡ Some node → HasParts plan number node
+parts_of plan number node e =
+    option_and_then_some (under_agg plan) (slice_get plan.aggs number) node e
+    (λ last there e1. option_and_then_some (under_group plan last.agg) (slice_get plan.groups last.group) node e1
+    (λ group g e2. option_and_then_some (under_filter plan group last.agg) (slice_get plan.filters group.filter) node e2
+    (λ filter f e3.
+    let w = with_window filter.condition group.columns last.agg (slice_get plan.windows filter.window) node e3 in
+    record { last = last; there = there; agg = w.1; place = filter.window; window = w.0 })))
+
+of_it : {A : Type 0} (P : A → Type 0) (xs : List A) (i : ℕ) (x : A) → All P xs → slice_get xs i ≡ Some x → P x
+of_it P xs i x h e = subst P (get_or_from_slice_get xs i x x e) (h i x (slice_get_within xs i x e))
+
+pub serves : (shape : Shape) (qs : List Asked) → All (IsLegal shape) qs → Serves shape.fields (plan_for qs)
+serves shape qs legal = record {
+  served = λ n node e. (let p = parts_of (plan_for qs) n node e in subst (IsServed shape.fields) (sym p.agg) (of_it (λ (a : AggNode). IsServed shape.fields a.agg) (aggs_of qs) n p.last (aggs_served shape qs legal) p.there));
+  lasting = λ n node e. (let p = parts_of (plan_for qs) n node e in of_it Lasts (windows_of qs) p.place node.window (windows_last shape qs legal) p.window);
+}

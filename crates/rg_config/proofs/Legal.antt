@@ -1,0 +1,75 @@
+-- What follows of queries that are legal and within their bounds.
+use Rattle.std.proofs.Common.{◌≡◌, ◌∙◌, refl, ap, sym, subst, ℕ, suc, ◌+◌, ◌≤◌, ◌<◌, ◌^◌, ◌&&◌, Bool, true, false, nat_le, nat_lt, List, [], ◌∷◌, ◌++◌, length, map, Option, Some, None, All, arith}
+use Rattle.std.specs.Option.{ForSome}
+use Rattle.std.proofs.lemmas.List.Elements.{All-push, All-weaker}
+use Rattle.rg_event.specs.Shapes.{Shape}
+use Rattle.rg_metric.specs.Queries.{Asked, asked}
+use Rattle.rg_metric.specs.declared.query.Agg.{Agg}
+use Rattle.rg_metric.specs.declared.query.Query.{Query as Read}
+use Rattle.rg_plan.specs.Named.{HasAgg, asked_by}
+use Rattle.rg_plan.specs.Offsets.{IsMeasured}
+use Rattle.rg_plan.specs.Plans.{Planned as TaskPlanned, is_too_many, excess_from, excess, plan_for}
+use Rattle.rg_plan.proofs.Naming.{asked_back}
+use Rattle.rg_query.specs.Legal.{IsLegal, IsLegalLength, AreLegalAggs}
+use Rattle.rg_config.specs.Plans.{AllTaken, within_bounds}
+use Rattle.rg_config.proofs.Taken.{one_at_the_end}
+
+-- their windows are at most 10^15 milliseconds
+
+measured_length : (length : Option ℕ) → IsLegalLength length → ForSome length (λ n. n ≤ 10 ^ 15)
+measured_length None h m is = absurd (cc)
+measured_length (Some n) h m is = let same : n ≡ m = cc in omega (arith, h.1, same)
+
+measured_window : (shape : Shape) (q : Asked) → IsLegal shape q → IsMeasured q.window
+measured_window shape q h = record { delay = omega (arith, h.delay); length = measured_length q.window.length h.length }
+
+pub measured : (shape : Shape) (qs : List Asked) → All (IsLegal shape) qs → All (λ (q : Asked). IsMeasured q.window) qs
+measured shape qs h = All-weaker (IsLegal shape) (λ (q : Asked). IsMeasured q.window) (measured_window shape) qs h
+
+-- each has an aggregator
+
+some_agg : (shape : Shape) (aggs : List Agg) → AreLegalAggs shape aggs → 0 < length aggs
+some_agg shape [] h = absurd h
+some_agg shape (agg ∷ aggs) h = omega arith
+
+pub some_aggs : (shape : Shape) (qs : List Asked) → All (IsLegal shape) qs → All HasAgg qs
+some_aggs shape qs h = All-weaker (IsLegal shape) HasAgg (λ q legal. some_agg shape q.aggs legal.aggs) qs h
+
+-- those that are taken are few enough, and small enough
+
+not_more : (n most : ℕ) → nat_le n most ≡ true → nat_lt most n ≡ false
+not_more n most h = grind (arith, h)
+
+not_enough : (n : ℕ) → n < 64 → nat_le 64 n ≡ false
+not_enough n h = grind (arith, h)
+
+both_true : (a b : Bool) → (a && b) ≡ true → (a ≡ true) × (b ≡ true)
+both_true true b h = (refl, h)
+both_true false b h = cc
+
+few_parts : (number : ℕ) (q : Asked) → number < 64 → within_bounds q ≡ true → is_too_many number q ≡ false
+few_parts number q few within =
+    let parts = both_true (nat_le (length q.aggs) 16) (nat_le (length q.group) 8) within in
+    rw (not_enough number few, not_more (length q.aggs) 16 parts.0, not_more (length q.group) 8 parts.1) refl
+
+none_large : (number : ℕ) (shape : Shape) (texts : List (List ℕ)) (qs : List Asked) → AllTaken number shape texts qs → excess_from number qs ≡ None
+none_large number shape [] [] all = refl
+none_large number shape [] (q ∷ qs) all = absurd all
+none_large number shape (text ∷ texts) [] all = absurd all
+none_large number shape (text ∷ texts) (q ∷ qs) all =
+    let next : suc number ≡ number + 1 = omega arith in
+    rw (few_parts number q all.0.few all.0.bounds) (subst (λ n. excess_from n qs ≡ None) next (none_large (suc number) shape texts qs all.1))
+
+pub none_excess : (shape : Shape) (texts : List (List ℕ)) (qs : List Asked) → AllTaken 0 shape texts qs → excess qs ≡ None
+none_excess shape texts qs all = none_large 0 shape texts qs all
+
+-- one more legal query
+pub legal_pushed :
+    (shape : Shape) (old new : List Read) (query : Read) → new ≡ old ++ query ∷ [] → All (IsLegal shape) (map asked old) → IsLegal shape (asked query)
+    → All (IsLegal shape) (map asked new)
+legal_pushed shape old new query is all legal =
+    subst (All (IsLegal shape)) (sym (ap (map asked) is ∙ one_at_the_end asked old query)) (All-push (IsLegal shape) (map asked old) (asked query) all legal)
+
+-- they are read back from their plan
+pub asked_again : (task : TaskPlanned) (qs : List Asked) → task ≡ plan_for qs → All HasAgg qs → asked_by task ≡ qs
+asked_again task qs is some = ap asked_by is ∙ asked_back qs some

@@ -1,0 +1,96 @@
+-- One event more.
+use Rattle.std.proofs.Common.{◌≡◌, ◌≤◌, ◌<◌, ℕ, List, [], ◌∷◌, ◌++◌, length, get_or, All, flat_map, Option, Some, refl, ap, sym, ◌∙◌, subst, arith, append_assoc}
+use Rattle.std.specs.Prelude.{slice_get}
+use Rattle.std.proofs.lemmas.List.Elements.{All-head, All-tail, All-nil, All-append}
+use Rattle.std.proofs.lemmas.Option.{slice_get-get_or, slice_get_within}
+use Rattle.rg_event.specs.Codec.{IsEventOf}
+use Rattle.rg_event.specs.declared.event.Event.{Event}
+use Rattle.rg_past.specs.declared.past.Spot.{Spot}
+use Rattle.rg_past.specs.Order.{last_time}
+use Rattle.rg_metric.specs.declared.answer.Answer.{Answer}
+use Rattle.rg_metric.specs.Queries.{Asked}
+use Rattle.rg_metric.specs.Replies.{answers_to}
+use Rattle.rg_plan.specs.Named.{node_at}
+use Rattle.rg_plan.specs.Plans.{Planned, plan_for}
+use Rattle.rg_plan.specs.Whole.{IsWhole}
+use Rattle.rg_state.specs.Rows.{Cells, Same}
+use Rattle.rg_window.specs.Placed.{Placed, IsSpelledAt}
+use Rattle.rg_engine.specs.declared.part.FilterPart.{FilterPart}
+use Rattle.rg_engine.specs.Answering.{node_answers, nodes_asked}
+use Rattle.rg_engine.specs.Building.{IsBuilt}
+use Rattle.rg_engine.specs.Feeding.{IsFed}
+use Rattle.rg_engine.specs.Parts.{ArePartsOf}
+use Rattle.rg_engine.specs.Standing.{RowIs, HasEdge, IsTold, NodeStands}
+use Rattle.rg_engine.proofs.Answered.{IsKeyed, keyed, all_keyed, all_answers}
+
+-- the last time with one event more
+pub last_of : (events : List Event) (e : Event) → last_time (events ++ e ∷ []) ≡ e.time
+last_of [] e = refl
+last_of (x ∷ []) e = refl
+last_of (x ∷ (y ∷ events)) e = last_of (y ∷ events) e
+
+-- a node stands over equal rows
+pub stands_same : (plan : Planned) (n : ℕ) (events : List Event) (cells cells' : Cells) (numbers : List ℕ) → Same cells cells' → NodeStands plan n events cells numbers → NodeStands plan n events cells' numbers
+stands_same plan n events cells cells' numbers same stands = record {
+  rows = λ key. subst (λ row. RowIs (node_at plan n) key (last_time events) events row) (sym (same n key)) (stands.rows key);
+  places = stands.places;
+}
+
+pub stands_events : (plan : Planned) (n : ℕ) (events events' : List Event) (cells : Cells) (numbers : List ℕ) → events' ≡ events → NodeStands plan n events cells numbers → NodeStands plan n events' cells numbers
+stands_events plan n events events' cells numbers e stands = subst (λ all. NodeStands plan n all cells numbers) (sym e) stands
+
+-- the row of a node that stands
+pub row_stands : (plan : Planned) (n : ℕ) (events all : List Event) (t : ℕ) (cells : Cells) (numbers : List ℕ) → events ≡ all → last_time all ≡ t → NodeStands plan n events cells numbers → (key : List ℕ) → RowIs (node_at plan n) key t all (cells n key)
+row_stands plan n events all t cells numbers e last stands key =
+    subst (λ u. RowIs (node_at plan n) key u all (cells n key)) last (subst (λ xs. RowIs (node_at plan n) key (last_time xs) xs (cells n key)) e (stands.rows key))
+
+-- what a past spells, a later one does
+pub told_later : (plan : Planned) (n : ℕ) (Spells Later : Spot → Type 0) (spots : List Spot) → ((spot : Spot) → Spells spot → Later spot) → IsTold plan n Spells spots → IsTold plan n Later spots
+told_later plan n Spells Later spots goes told = λ edge offset is has. let k = told edge offset is has in (k.0, k.1, goes k.0 k.2)
+
+pub spelled_later : (Spells Later : Spot → Type 0) (spots : List Spot) (edge : ℕ) → ((spot : Spot) → Spells spot → Later spot) → IsSpelledAt Spells spots edge → IsSpelledAt Later spots edge
+spelled_later Spells Later spots edge goes k = (k.0, k.1, goes k.0 k.2)
+
+abbrev no_spot : Spot
+no_spot = record { place = 0; index = 0; number = 0 }
+
+-- where all spots are spelled, those of each node are
+pub all_told : (plan : Planned) (n : ℕ) (Spells : Spot → Type 0) (spots : List Spot) → length spots ≡ length plan.offsets → All Spells spots → IsTold plan n Spells spots
+all_told plan n Spells spots same all = λ edge offset is has.
+    let below : edge < length spots = omega (arith, slice_get_within plan.offsets edge offset is, same) in
+    (get_or spots edge no_spot, slice_get-get_or spots edge no_spot below, all edge no_spot below)
+
+-- the events in front, and one event more
+pub front_and_more : (events all front more : List Event) (e : Event) → all ≡ events ++ e ∷ [] → events ≡ front ++ more → all ≡ front ++ (more ++ e ∷ [])
+front_and_more events all front more e is f = is ∙ ap (λ xs. xs ++ e ∷ []) f ∙ append_assoc front more (e ∷ [])
+
+all_last : (P : Event → Type 0) (events : List Event) (e : Event) → All P (events ++ e ∷ []) → P e
+all_last P [] e all = All-head P e [] all
+all_last P (x ∷ events) e all = all_last P events e (All-tail P x (events ++ e ∷ []) all)
+
+-- the answers of the nodes are those of the queries
+pub answers_are : (queries : List Asked) (plan : Planned) (events : List Event) (e : Event) (nodes : List ℕ) (answers : List Answer) → plan ≡ plan_for queries → IsFed plan (events ++ e ∷ []) → nodes ≡ nodes_asked plan →
+    answers ≡ [] ++ node_answers plan (events ++ e ∷ []) e nodes → answers ≡ answers_to queries (events ++ e ∷ []) e
+answers_are queries plan events e nodes answers is fed asked made =
+    made ∙ ap (node_answers plan (events ++ e ∷ []) e) asked
+    ∙ all_answers queries plan (events ++ e ∷ []) e is (keyed fed.fields e (all_last (IsEventOf fed.fields) events e fed.are)) (all_keyed fed.fields (events ++ e ∷ []) fed.are)
+
+flat_all : (P : ℕ → Type 0) (paths : List (List ℕ)) → All (All P) paths → All P (flat_map (λ path. path) paths)
+flat_all P [] all = All-nil P
+flat_all P (path ∷ paths) all = All-append P path (flat_map (λ p. p) paths) (All-head (All P) path paths all) (flat_all P paths (All-tail (All P) path paths all))
+
+-- each number of a query's node is that of a node
+pub asked_within : (plan : Planned) (nodes : List ℕ) → IsWhole plan → nodes ≡ nodes_asked plan → All (λ n. n < length plan.aggs) nodes
+asked_within plan nodes whole asked = subst (All (λ n. n < length plan.aggs)) (sym asked) (flat_all (λ n. n < length plan.aggs) plan.paths whole.paths)
+
+-- a plan stays built where its edges go on and its tree stays
+pub built_on : (plan : Planned) (old new : Placed) (parts parts' : List FilterPart) (nodes : List ℕ) (keys keys' : List (List ℕ)) → IsBuilt plan old parts nodes keys → new.offsets ≡ old.offsets → length new.spots ≡ length old.spots → parts' ≡ parts → length keys' ≡ length keys →
+    IsBuilt plan new parts' nodes keys'
+built_on plan old new parts parts' nodes keys keys' built offsets same tree each = record {
+  whole = built.whole;
+  offsets = offsets ∙ built.offsets;
+  same = same ∙ built.same ∙ ap length (sym offsets);
+  tree = subst (ArePartsOf plan) (sym tree) built.tree;
+  asked = built.asked;
+  each = each ∙ built.each;
+}

@@ -1,0 +1,29 @@
+-- What the nodes of a plan answer to an event.
+use Rattle.std.specs.Prelude.{ℕ, List, map, flat_map, Option, Some, None}
+use Rattle.rg_event.specs.declared.event.Event.{Event}
+use Rattle.rg_metric.specs.declared.answer.Answer.{Answer}
+use Rattle.rg_metric.specs.declared.answer.Answer.TheVariants.{Dash}
+use Rattle.rg_metric.specs.Answers.{answer_of}
+use Rattle.rg_metric.specs.Replies.{key_of}
+use Rattle.rg_group.specs.Keys.{key_bytes}
+use Rattle.rg_plan.specs.declared.node.GroupNode.{GroupNode}
+use Rattle.rg_plan.specs.Named.{Node, node_at}
+use Rattle.rg_plan.specs.Plans.{Planned}
+use Rattle.rg_engine.specs.Windows.{node_values}
+
+-- the key of the event e at each group node
+abbrev pub keys_for : List GroupNode → Event → List (List ℕ)
+keys_for groups e = map (λ (group : GroupNode). key_bytes (key_of group.columns e)) groups
+
+-- the answer of a node to e, the last one of these events, from scratch
+abbrev pub node_answer : List Event → Event → Option Node → Answer
+node_answer events e None = Dash
+node_answer events e (Some node) = answer_of node.agg.func (node_values node (key_bytes (key_of node.columns e)) e.time events)
+
+-- the same, of each of the nodes of these numbers
+abbrev pub node_answers : Planned → List Event → Event → List ℕ → List Answer
+node_answers plan events e nodes = map (λ n. node_answer events e (node_at plan n)) nodes
+
+-- the numbers of the nodes of all queries, in order
+abbrev pub nodes_asked : Planned → List ℕ
+nodes_asked plan = flat_map (λ path. path) plan.paths

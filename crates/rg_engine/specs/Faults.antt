@@ -1,0 +1,16 @@
+-- What the faults of a table and of a move are called.
+use Rattle.rg_state.specs.declared.table.TableFault.{TableFault}
+use Rattle.rg_state.specs.declared.table.TableFault.TheVariants as table
+use Rattle.rg_window.specs.declared.edges.MoveFault.{MoveFault}
+use Rattle.rg_window.specs.declared.edges.MoveFault.TheVariants as move
+use Rattle.rg_engine.specs.declared.fault.EngineFault.{EngineFault}
+use Rattle.rg_engine.specs.declared.fault.EngineFault.TheVariants as fault
+
+abbrev pub table_fault_of : TableFault → EngineFault
+table_fault_of (table.BadState node) = fault.BadState node
+table_fault_of table.Memory = fault.Memory
+table_fault_of table.Disk = fault.Table
+
+abbrev pub move_fault_of : MoveFault TableFault → EngineFault
+move_fault_of (move.Past cause) = fault.Past cause
+move_fault_of (move.Visit cause) = table_fault_of cause

@@ -1,0 +1,129 @@
+ghost use Rattle.std.specs.Prelude.{◌≡◌, ◌↔◌, ℕ, ◌+◌, ◌≤◌, List, ◌++◌, length, OnOk, IsErrOf};
+ghost use Rattle.rg_bytes.specs.Counts.{Rose};
+ghost use Rattle.rg_event.specs.declared.event.Event.{Event};
+ghost use Rattle.rg_past.specs.Order.{last_time};
+ghost use Rattle.rg_plan.specs.Whole.{IsWhole};
+ghost use Rattle.rg_window.specs.Placed.{AreWithin, IsSpelledAt, numbers_of};
+ghost use Rattle.rg_engine.specs.Feeding.{IsFed};
+ghost use Rattle.rg_engine.specs.Standing.{IsTold, NodeStands, come};
+ghost use Rattle.rg_engine.specs.Parts.{ArePartsOf};
+
+use crate::changer::{Changer, Rows};
+use crate::fault::{EngineFault, move_fault};
+use rg_event::Steps;
+use rg_past::{Past, PastFault};
+use rg_plan::TaskPlan;
+use rg_state::{Table, TableFault};
+use rg_window::{Edges, MoveFault};
+use std::sync::ledger::Ledger;
+
+/// Moves the edges of a plan to time t, and changes the rows of its nodes by each event that an edge
+/// passes.
+pub(crate) fn move_rows<P: Past, T: Table, L: Ledger>(
+    plan: &TaskPlan,
+    edges: &mut Edges,
+    rows: &mut Rows<T>,
+    past: &mut P,
+    t: u64,
+    steps: &mut Steps<L>,
+) -> Result<(), EngineFault>
+    requires within { AreWithin edges.old.spots (length (P.events past.old)) }
+    requires same { length edges.old.spots ≡ length edges.old.offsets }
+    requires offsets { edges.old.offsets ≡ plan.now.offsets }
+    requires whole { IsWhole plan.now }
+    requires parts { ArePartsOf plan.now rows.old.parts.items }
+    ensures stands { (n : ℕ) (front more : List Event) → P.sound past.old →
+        IsTold plan.now n (P.spells past.old) edges.old.spots → T.tells rows.old.table →
+        IsFed plan.now (P.events past.old) → P.events past.old ≡ front ++ more → last_time (P.events past.old) ≡ t →
+        NodeStands plan.now n front (T.cell rows.old.table) (numbers_of edges.old.spots) →
+        OnOk result (NodeStands plan.now n (P.events past.old) (T.cell rows.new.table) (numbers_of edges.new.spots)) }
+    ensures bad { (n : ℕ) (front more : List Event) → IsErrOf result (EngineFault.BadState n) →
+        P.sound past.old → IsTold plan.now n (P.spells past.old) edges.old.spots →
+        T.tells rows.old.table → IsFed plan.now (P.events past.old) → P.events past.old ≡ front ++ more →
+        NodeStands plan.now n front (T.cell rows.old.table) (numbers_of edges.old.spots) → ⊥ }
+    ensures ticks { OnOk result (steps.new + come plan.now (numbers_of edges.old.spots)
+        ≡ steps.old + come plan.now (numbers_of edges.new.spots)) }
+    ensures table { IsErrOf result EngineFault.Table → Rose (T.faults rows.old.table) (T.faults rows.new.table) }
+    ensures not_ended { IsErrOf result EngineFault.Ended → ⊥ }
+
+    ensures no_full { IsErrOf result (EngineFault.Past PastFault.Full) → ⊥ }
+    ensures past_ended { IsErrOf result (EngineFault.Past PastFault.Ended) → P.ended past.old }
+    ensures disk { IsErrOf result (EngineFault.Past PastFault.Disk) → Rose (P.faults past.old) (P.faults past.new) }
+    ensures damaged { (place : ℕ) → IsErrOf result (EngineFault.Past (PastFault.Damaged place)) →
+        P.illegal past.new place }
+
+    ensures same_parts { rows.new.parts ≡ rows.old.parts }
+    ensures tells { T.tells rows.new.table ↔ T.tells rows.old.table }
+    ensures later_table { T.faults rows.old.table ≤ T.faults rows.new.table }
+    ensures same_offsets { edges.new.offsets ≡ edges.old.offsets }
+    ensures same_length { length edges.new.spots ≡ length edges.old.spots }
+    ensures stay_within { AreWithin edges.new.spots (length (P.events past.new)) }
+    ensures spells { P.sound past.old → (edge : ℕ) → IsSpelledAt (P.spells past.old) edges.old.spots edge →
+        IsSpelledAt (P.spells past.new) edges.new.spots edge }
+    ensures events { P.events past.new ≡ P.events past.old }
+    ensures goes { P.goes past.old past.new }
+    ensures sound { P.sound past.old → P.sound past.new }
+    ensures keeps_room { P.has_room past.old → P.has_room past.new }
+    ensures keeps_ended { P.ended past.new ↔ P.ended past.old }
+    ensures later { P.faults past.old ≤ P.faults past.new }
+{
+    let mut changer = Changer { plan, rows, steps };
+    match move_changer(edges, past, t, &mut changer) {
+        Err(fault) => return Err(move_fault(fault)),
+        Ok(()) => Ok(()),
+    }
+}
+
+/// The same, with what changes the rows.
+fn move_changer<'p, 'r, 's, P: Past, T: Table, L: Ledger>(
+    edges: &mut Edges,
+    past: &mut P,
+    t: u64,
+    changer: &mut Changer<'p, 'r, 's, T, L>,
+) -> Result<(), MoveFault<TableFault>>
+    requires within { AreWithin edges.old.spots (length (P.events past.old)) }
+    requires same { length edges.old.spots ≡ length edges.old.offsets }
+    requires offsets { edges.old.offsets ≡ changer.old.plan.now.offsets }
+    requires whole { IsWhole changer.old.plan.now }
+    requires parts { ArePartsOf changer.old.plan.now changer.old.rows.now.parts.items }
+    ensures stands { (n : ℕ) (front more : List Event) → P.sound past.old →
+        IsTold changer.old.plan.now n (P.spells past.old) edges.old.spots → T.tells changer.old.rows.now.table →
+        IsFed changer.old.plan.now (P.events past.old) → P.events past.old ≡ front ++ more → last_time (P.events past.old) ≡ t →
+        NodeStands changer.old.plan.now n front (T.cell changer.old.rows.now.table) (numbers_of edges.old.spots) →
+        OnOk result (NodeStands changer.old.plan.now n (P.events past.old) (T.cell changer.new.rows.now.table) (numbers_of edges.new.spots)) }
+    ensures bad { (n : ℕ) (front more : List Event) → IsErrOf result (MoveFault.Visit (TableFault.BadState n)) →
+        P.sound past.old → IsTold changer.old.plan.now n (P.spells past.old) edges.old.spots →
+        T.tells changer.old.rows.now.table → IsFed changer.old.plan.now (P.events past.old) → P.events past.old ≡ front ++ more →
+        NodeStands changer.old.plan.now n front (T.cell changer.old.rows.now.table) (numbers_of edges.old.spots) → ⊥ }
+    ensures ticks { OnOk result (changer.new.steps.now + come changer.old.plan.now (numbers_of edges.old.spots)
+        ≡ changer.old.steps.now + come changer.old.plan.now (numbers_of edges.new.spots)) }
+    ensures table { IsErrOf result (MoveFault.Visit TableFault.Disk) → Rose (T.faults changer.old.rows.now.table) (T.faults changer.new.rows.now.table) }
+
+    ensures no_full { IsErrOf result (MoveFault.Past PastFault.Full) → ⊥ }
+    ensures past_ended { IsErrOf result (MoveFault.Past PastFault.Ended) → P.ended past.old }
+    ensures disk { IsErrOf result (MoveFault.Past PastFault.Disk) → Rose (P.faults past.old) (P.faults past.new) }
+    ensures damaged { (place : ℕ) → IsErrOf result (MoveFault.Past (PastFault.Damaged place)) →
+        P.illegal past.new place }
+
+    ensures rows { changer.new.rows.ghost_name ≡ changer.old.rows.ghost_name }
+    ensures steps { changer.new.steps.ghost_name ≡ changer.old.steps.ghost_name }
+    ensures same_parts { changer.new.rows.now.parts ≡ changer.old.rows.now.parts }
+    ensures tells { T.tells changer.new.rows.now.table ↔ T.tells changer.old.rows.now.table }
+    ensures later_table { T.faults changer.old.rows.now.table ≤ T.faults changer.new.rows.now.table }
+    ensures same_offsets { edges.new.offsets ≡ edges.old.offsets }
+    ensures same_length { length edges.new.spots ≡ length edges.old.spots }
+    ensures stay_within { AreWithin edges.new.spots (length (P.events past.new)) }
+    ensures spells { P.sound past.old → (edge : ℕ) → IsSpelledAt (P.spells past.old) edges.old.spots edge →
+        IsSpelledAt (P.spells past.new) edges.new.spots edge }
+    ensures events { P.events past.new ≡ P.events past.old }
+    ensures goes { P.goes past.old past.new }
+    ensures sound { P.sound past.old → P.sound past.new }
+    ensures keeps_room { P.has_room past.old → P.has_room past.new }
+    ensures keeps_ended { P.ended past.new ↔ P.ended past.old }
+    ensures later { P.faults past.old ≤ P.faults past.new }
+{
+    match edges.move_to(past, t, changer) {
+        Err(fault) => return Err(fault),
+        Ok(()) => Ok(()),
+    }
+}

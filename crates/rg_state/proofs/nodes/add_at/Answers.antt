@@ -1,0 +1,23 @@
+use Rattle.rg_state.proofs.Places.{row_there, row_set, others_set, kept_at, count_added}
+use Rattle.rg_state.proofs.nodes.add_at.Goals as goal
+
+pub returns-clause-changed : goal.returns-clause-changed
+returns-clause-changed c = rw (row_there c.args.nodes.now.items c.args.node c.args.key.now c.index_mut-rows.result.now c.requires.made c.index_mut-rows.ensures.value, row_set c.args.nodes.now.items c.add.new.self c.args.node c.args.key.now c.requires.made) c.add.ensures.changed
+
+pub returns-clause-suits : goal.returns-clause-suits
+returns-clause-suits c = rw (row_there c.args.nodes.now.items c.args.node c.args.key.now c.index_mut-rows.result.now c.requires.made c.index_mut-rows.ensures.value) c.add.ensures.suits
+
+pub returns-clause-unfit : goal.returns-clause-unfit
+returns-clause-unfit c = rw (row_there c.args.nodes.now.items c.args.node c.args.key.now c.index_mut-rows.result.now c.requires.made c.index_mut-rows.ensures.value) c.add.ensures.unfit
+
+pub returns-clause-causes : goal.returns-clause-causes
+returns-clause-causes c = rw (row_there c.args.nodes.now.items c.args.node c.args.key.now c.index_mut-rows.result.now c.requires.made c.index_mut-rows.ensures.value) c.add.ensures.causes
+
+pub returns-clause-others : goal.returns-clause-others
+returns-clause-others c = others_set c.args.nodes.now.items c.index_mut-rows.result.now c.add.new.self c.args.node c.args.key.now c.requires.made c.index_mut-rows.ensures.value c.add.ensures.others
+
+pub returns-clause-count : goal.returns-clause-count
+returns-clause-count c = count_added c.add.result c.args.nodes.now.items c.index_mut-rows.result.now c.add.new.self c.args.node c.requires.made c.index_mut-rows.ensures.value c.add.ensures.count
+
+pub returns-clause-err : goal.returns-clause-err
+returns-clause-err c = kept_at c.add.result c.args.nodes.now.items c.index_mut-rows.result.now c.add.new.self c.args.node c.requires.made c.index_mut-rows.ensures.value c.add.ensures.err

@@ -1,0 +1,11 @@
+use Rattle.std.proofs.Common.{◌≡◌, ◌++◌, drop}
+use Rattle.rg_event.specs.Keeps.{Keeps}
+use Rattle.rg_state.specs.Cells.{entries_from}
+use Rattle.rg_state.specs.Rows.{entries_bytes}
+use Rattle.rg_state.proofs.writing.write_nodes.Given as goal
+
+abbrev pub invariant-loop-node : goal.invariant-loop-node
+invariant-loop-node l = record {
+  to_come : l.out.items ++ entries_bytes (entries_from l.node (drop l.node l.nodes)) ≡ l.fn.out.items ++ entries_bytes (entries_from 0 l.nodes);
+  keeps : Keeps l.fn.out.items l.out.items;
+}

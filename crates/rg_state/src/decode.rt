@@ -1,0 +1,71 @@
+ghost use Rattle.std.specs.Prelude.{◌≡◌, ◌<◌, ℕ, List, ◌∷◌, ◌++◌, [], IfSome, IsNone, IfOk, OnErr};
+ghost use Rattle.rg_agg.specs.Held.{Agrees, Returns, held_bytes};
+ghost use Rattle.rg_agg.specs.Standing.{size_in};
+ghost use Rattle.rg_state.specs.States.{held_of, state_at};
+
+use crate::state::AggState;
+use rg_agg::{Aggregate, Avg, Count, First, Last, StateFault, Sum, SumSq};
+use rg_bytes::ByteReader;
+use rg_distinct::Distinct;
+use rg_extreme::{Max, Min};
+use std::alloc::Global;
+
+/// The state of one of the aggregators, as its own reading answers.
+macro_rules! decoded {
+    ($aggregate:ident, $alloc:expr, $from:expr) => {
+        match $aggregate::decode($alloc, $from) {
+            Ok(state) => Ok(AggState::$aggregate(state)),
+            Err(fault) => Err(fault),
+        }
+    };
+}
+
+impl AggState {
+    /// Takes a state, as `encode` writes it. A refusal leaves the reader as it was.
+    pub fn decode(alloc: Global, from: &mut ByteReader<'_>) -> Result<AggState, StateFault>
+        ensures agrees { Agrees held_of (state_at from.old) result from.new }
+        ensures ok { IfOk result (λ state. from.old ≡ held_bytes (held_of state) ++ from.new) }
+        ensures some { IfOk result (λ state. 0 < size_in (held_of state)) }
+        ensures reads_back { (state : AggState) (rest : List ℕ) → 0 < size_in (held_of state) → from.old ≡ held_bytes (held_of state) ++ rest → Returns held_of (held_of state) rest result from.new }
+        ensures err { OnErr result (from.new ≡ from.old) }
+    {
+        read_state(alloc, from)
+    }
+}
+
+/// Takes a state of the aggregator that the first byte says. A refusal leaves the reader as it was.
+fn read_state(alloc: Global, from: &mut ByteReader<'_>) -> Result<AggState, StateFault>
+    ensures agrees { Agrees held_of (state_at from.old) result from.new }
+    ensures ok { IfOk result (λ state. from.old ≡ held_bytes (held_of state) ++ from.new) }
+    ensures some { IfOk result (λ state. 0 < size_in (held_of state)) }
+    ensures err { OnErr result (from.new ≡ from.old) }
+{
+    match first_byte(from) {
+        None => Err(StateFault::Short),
+        Some(1) => decoded!(Count, alloc, from),
+        Some(2) => decoded!(Sum, alloc, from),
+        Some(3) => decoded!(Avg, alloc, from),
+        Some(4) => decoded!(SumSq, alloc, from),
+        Some(5) => decoded!(Min, alloc, from),
+        Some(6) => decoded!(Max, alloc, from),
+        Some(7) => decoded!(Distinct, alloc, from),
+        Some(8) => decoded!(First, alloc, from),
+        Some(9) => decoded!(Last, alloc, from),
+        Some(_) => Err(StateFault::Unfit),
+    }
+}
+
+/// The first byte that is left, where one is. The reader stays as it was.
+fn first_byte(from: &mut ByteReader<'_>) -> Option<u8>
+    ensures some { IfSome result (λ byte. (bytes : List ℕ) × (from.old ≡ byte ∷ bytes)) }
+    ensures none { IsNone result → from.old ≡ [] }
+    ensures same { from.new ≡ from.old }
+{
+    match from.bytes(from.left()) {
+        Ok(bytes) => {
+            *from = ByteReader::new(bytes);
+            bytes.first().copied()
+        }
+        Err(_) => unreachable!(),
+    }
+}

@@ -1,0 +1,25 @@
+//! The states of aggregators by node and key, and a table of them in memory.
+#![tactic(auto)]
+
+mod decode;
+mod mem_table;
+mod node_rows;
+mod nodes;
+mod one;
+mod own;
+mod rows;
+mod state;
+mod table;
+mod writing;
+
+pub use mem_table::MemTable;
+pub use rg_agg::{Aggregate, Avg, Count, First, Last, StateFault, Sum, SumSq};
+pub use rg_distinct::Distinct;
+pub use rg_extreme::{Max, Min};
+pub use rg_group::Key;
+pub use rg_metric::{Answer, Func};
+pub use state::AggState;
+pub use table::{Change, Table, TableFault};
+
+#[cfg(test)]
+mod tests;

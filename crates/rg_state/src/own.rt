@@ -1,0 +1,81 @@
+ghost use Rattle.std.specs.Prelude.{◌≡◌, ◌<◌, None, Some, List, [], IsSome, IsNone, IfOk, OnOk, OnErr, IsErrOf};
+ghost use Rattle.rg_agg.specs.Standing.{size_in};
+ghost use Rattle.rg_event.specs.declared.value.Value.{Value};
+ghost use Rattle.rg_metric.specs.Answers.{answer_of};
+ghost use Rattle.rg_state.specs.Rows.{RowStands, Changed, Suits, Unfit, IsRefused, IsOf};
+ghost use Rattle.rg_state.specs.States.{held_of};
+ghost use Rattle.rg_state.specs.Takes.{Takes};
+
+use crate::one::Refusal;
+use crate::state::AggState;
+use crate::table::Change;
+use rg_bytes::Memory;
+use rg_event::Value;
+use rg_metric::{Answer, Func};
+use std::alloc::Global;
+
+/// The state of one value. It is the first one of a new row.
+pub(crate) fn first_state(alloc: Global, func: Func, value: &Value) -> Result<AggState, Memory>
+    requires { Takes func value.now }
+    ensures changed { IfOk result (λ state. Changed func Change.Add value.now None (Some (held_of state))) }
+    ensures some { IfOk result (λ state. 0 < size_in (held_of state)) }
+{
+    let mut state = AggState::empty(alloc, func);
+    match state.add(value) {
+        Ok(()) => Ok(state),
+        Err(Refusal::Memory) => Err(Memory),
+        Err(Refusal::Unfit) => unreachable!(),
+    }
+}
+
+/// Adds a value to a row's state, where that is the function's.
+pub(crate) fn add_own(state: &mut AggState, func: Func, value: &Value) -> Result<(), Refusal>
+    requires { Takes func value.now }
+    ensures changed { OnOk result (Changed func Change.Add value.now (Some (held_of state.old)) (Some (held_of state.new))) }
+    ensures suits { OnOk result (Suits func Change.Add value.now (Some (held_of state.old))) }
+    ensures some { OnOk result (0 < size_in (held_of state.new)) }
+    ensures unfit { IsErrOf result Refusal.Unfit → Unfit func Change.Add value.now (Some (held_of state.old)) }
+    ensures causes { IsErrOf result Refusal.Unfit → IsRefused func Change.Add value.now (Some (held_of state.old)) }
+    ensures err { OnErr result (held_of state.new ≡ held_of state.old) }
+{
+    if state.func() != func {
+        return Err(Refusal::Unfit);
+    }
+    state.add(value)
+}
+
+/// Takes the first value of a row's state away, where that is the function's. The state may be empty then.
+pub(crate) fn take_own(state: &mut AggState, func: Func, value: &Value) -> Result<(), Refusal>
+    ensures suits { OnOk result (Suits func Change.Remove value.now (Some (held_of state.old))) }
+    ensures changed { OnOk result (0 < size_in (held_of state.new) → Changed func Change.Remove value.now (Some (held_of state.old)) (Some (held_of state.new))) }
+    ensures emptied { OnOk result (size_in (held_of state.new) ≡ 0 → Changed func Change.Remove value.now (Some (held_of state.old)) None) }
+    ensures unfit { OnErr result (Unfit func Change.Remove value.now (Some (held_of state.old))) }
+    ensures err { OnErr result (held_of state.new ≡ held_of state.old) }
+{
+    if state.func() != func {
+        return Err(Refusal::Unfit);
+    }
+    state.remove(value)
+}
+
+/// The answer of a row's state, where that is the function's.
+pub(crate) fn own_answer(state: &AggState, func: Func) -> Option<Answer>
+    ensures answer { (values : List Value) → RowStands func (Some (held_of state.now)) values → result ≡ Some (answer_of func values) }
+    ensures own { IsSome result → IsOf func (Some (held_of state.now)) }
+    ensures causes { IsNone result → IsOf func (Some (held_of state.now)) → ⊥ }
+{
+    if state.func() != func {
+        return None;
+    }
+    Some(state.answer())
+}
+
+/// The answer of no values.
+pub(crate) fn blank_answer(func: Func) -> Answer
+    ensures { result ≡ answer_of func [] }
+{
+    match func {
+        Func::Count | Func::Sum | Func::SumSq | Func::CountDistinct => Answer::Number(0),
+        Func::Avg | Func::Min | Func::Max | Func::First | Func::Last => Answer::Dash,
+    }
+}

@@ -1,0 +1,169 @@
+ghost use Rattle.std.specs.Prelude.{◌≡◌, ◌↔◌, IsTrue, ◌+◌, ◌<◌, ◌^◌, ◌==◌, None, List, [], ◌∷◌, ◌++◌, length, OnOk, OnErr, IsErrOf};
+ghost use Rattle.rg_agg.specs.Held.{held_bytes};
+ghost use Rattle.rg_agg.specs.Standing.{Stands, func_of, size_in, kind_in, IsLike};
+ghost use Rattle.rg_event.specs.declared.value.Value.{Value};
+ghost use Rattle.rg_metric.specs.Answers.{answer_of};
+ghost use Rattle.rg_state.specs.Rows.{AreLike};
+ghost use Rattle.rg_state.specs.States.{held_of, IsFor, IsOfKind};
+ghost use Rattle.rg_state.specs.Takes.{Takes};
+
+use crate::one::{Refusal, add_to, keeps_kind, take_from};
+use rg_agg::{Aggregate, Avg, Count, First, Last, Sum, SumSq};
+use rg_bytes::Memory;
+use rg_distinct::Distinct;
+use rg_event::{Kind, Value};
+use rg_extreme::{Max, Min};
+use rg_metric::{Answer, Func};
+use std::alloc::Global;
+
+/// The state of one of the aggregators.
+#[derive(Debug, Drop)]
+pub enum AggState {
+    /// How many values there are.
+    Count(Count),
+    /// The sum of ints.
+    Sum(Sum),
+    /// The mean of ints.
+    Avg(Avg),
+    /// The sum of the squares of ints.
+    SumSq(SumSq),
+    /// The least int or id.
+    Min(Min),
+    /// The greatest int or id.
+    Max(Max),
+    /// How many distinct values there are.
+    Distinct(Distinct),
+    /// The first int or id.
+    First(First),
+    /// The last int or id.
+    Last(Last),
+}
+
+/// What is done with the state of each aggregator.
+macro_rules! each {
+    ($of:expr, $state:ident => $done:expr) => {
+        match $of {
+            AggState::Count($state) => $done,
+            AggState::Sum($state) => $done,
+            AggState::Avg($state) => $done,
+            AggState::SumSq($state) => $done,
+            AggState::Min($state) => $done,
+            AggState::Max($state) => $done,
+            AggState::Distinct($state) => $done,
+            AggState::First($state) => $done,
+            AggState::Last($state) => $done,
+        }
+    };
+}
+
+impl AggState {
+    /// The state of no values.
+    pub(crate) fn empty(alloc: Global, func: Func) -> AggState
+        ensures stands { Stands (held_of result) [] }
+        ensures func { func_of (held_of result) ≡ func }
+        ensures size { size_in (held_of result) ≡ 0 }
+        ensures kind { kind_in (held_of result) ≡ None }
+    {
+        match func {
+            Func::Count => AggState::Count(Count::empty(alloc)),
+            Func::Sum => AggState::Sum(Sum::empty(alloc)),
+            Func::Avg => AggState::Avg(Avg::empty(alloc)),
+            Func::SumSq => AggState::SumSq(SumSq::empty(alloc)),
+            Func::Min => AggState::Min(Min::empty(alloc)),
+            Func::Max => AggState::Max(Max::empty(alloc)),
+            Func::CountDistinct => AggState::Distinct(Distinct::empty(alloc)),
+            Func::First => AggState::First(First::empty(alloc)),
+            Func::Last => AggState::Last(Last::empty(alloc)),
+        }
+    }
+
+    /// The function that it answers.
+    pub(crate) fn func(&self) -> Func
+        ensures { result ≡ func_of (held_of self.now) }
+    {
+        match self {
+            AggState::Count(_) => Func::Count,
+            AggState::Sum(_) => Func::Sum,
+            AggState::Avg(_) => Func::Avg,
+            AggState::SumSq(_) => Func::SumSq,
+            AggState::Min(_) => Func::Min,
+            AggState::Max(_) => Func::Max,
+            AggState::Distinct(_) => Func::CountDistinct,
+            AggState::First(_) => Func::First,
+            AggState::Last(_) => Func::Last,
+        }
+    }
+
+    /// Whether it stands for no values.
+    pub(crate) fn is_empty(&self) -> bool
+        ensures { result ≡ (size_in (held_of self.now) == 0) }
+    {
+        each!(self, state => state.is_empty())
+    }
+
+    /// Its function's answer over the values that it stands for.
+    pub(crate) fn answer(&self) -> Answer
+        ensures { (values : List Value) → Stands (held_of self.now) values → result ≡ answer_of (func_of (held_of self.now)) values }
+    {
+        each!(self, state => state.answer())
+    }
+
+    /// Whether it is a state of this function and each value that it holds is of this kind. A count holds
+    /// none, and a sum is of ints.
+    pub fn fits(&self, func: Func, kind: Option<Kind>) -> bool
+        ensures { IsTrue result ↔ IsFor func kind (held_of self.now) }
+    {
+        self.func() == func && self.is_of(kind)
+    }
+
+    /// Whether each value that it holds is of this kind.
+    fn is_of(&self, kind: Option<Kind>) -> bool
+        ensures { IsTrue result ↔ IsOfKind kind (held_of self.now) }
+    {
+        match self {
+            AggState::Count(_) => true,
+            AggState::Sum(_) | AggState::Avg(_) | AggState::SumSq(_) => kind == Some(Kind::Int),
+            AggState::Min(state) => keeps_kind(state, kind),
+            AggState::Max(state) => keeps_kind(state, kind),
+            AggState::Distinct(state) => keeps_kind(state, kind),
+            AggState::First(state) => keeps_kind(state, kind),
+            AggState::Last(state) => keeps_kind(state, kind),
+        }
+    }
+
+    /// Adds a value at the back. A refusal leaves what it keeps.
+    pub(crate) fn add(&mut self, value: &Value) -> Result<(), Refusal>
+        requires takes { Takes (func_of (held_of self.old)) value.now }
+        ensures ok { OnOk result ((values : List Value) → Stands (held_of self.old) values → Stands (held_of self.new) (values ++ value.now ∷ [])) }
+        ensures func { func_of (held_of self.new) ≡ func_of (held_of self.old) }
+        ensures size { OnOk result (size_in (held_of self.new) ≡ size_in (held_of self.old) + 1) }
+        ensures room { OnOk result (size_in (held_of self.old) < 2 ^ 40) }
+        ensures like { OnOk result (IsLike (kind_in (held_of self.old)) value.now) }
+        ensures unfit { IsErrOf result Refusal.Unfit → (values : List Value) → Stands (held_of self.old) values → length values < 2 ^ 40 → AreLike value.now values → ⊥ }
+        ensures causes { IsErrOf result Refusal.Unfit → size_in (held_of self.old) < 2 ^ 40 → IsLike (kind_in (held_of self.old)) value.now → ⊥ }
+        ensures err { OnErr result (held_of self.new ≡ held_of self.old) }
+    {
+        each!(self, state => add_to(state, value))
+    }
+
+    /// Takes the first value away. A refusal leaves what it keeps, and comes of a state that stands for
+    /// no list that begins with the value.
+    pub(crate) fn remove(&mut self, value: &Value) -> Result<(), Refusal>
+        ensures ok { OnOk result ((values : List Value) → Stands (held_of self.old) (value.now ∷ values) → Stands (held_of self.new) values) }
+        ensures func { func_of (held_of self.new) ≡ func_of (held_of self.old) }
+        ensures size { OnOk result (size_in (held_of self.old) ≡ size_in (held_of self.new) + 1) }
+        ensures unfit { OnErr result ((values : List Value) → Stands (held_of self.old) (value.now ∷ values) → ⊥) }
+        ensures err { OnErr result (held_of self.new ≡ held_of self.old) }
+    {
+        each!(self, state => take_from(state, value))
+    }
+
+    /// Writes the state at the end. Where memory runs out `out` holds what it held.
+    pub fn encode(&self, out: &mut Vec<u8>) -> Result<(), Memory>
+        requires { 0 < size_in (held_of self.now) }
+        ensures ok { OnOk result (out.new.items ≡ out.old.items ++ held_bytes (held_of self.now)) }
+        ensures err { OnErr result (out.new.items ≡ out.old.items) }
+    {
+        each!(self, state => state.encode(out))
+    }
+}

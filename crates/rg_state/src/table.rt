@@ -1,0 +1,114 @@
+ghost use Rattle.std.specs.Prelude.{◌≡◌, ◌↔◌, ℕ, ◌≤◌, ◌<◌, ◌++◌, List, Some, None, Option, length, IfOk, OnOk, OnErr, IsErrOf};
+ghost use Rattle.rg_bytes.specs.Counts.{Rose};
+ghost use Rattle.rg_event.specs.declared.value.Value.{Value};
+ghost use Rattle.rg_agg.specs.Held.{Held};
+ghost use Rattle.rg_agg.specs.Standing.{size_in};
+ghost use Rattle.rg_metric.specs.Answers.{answer_of};
+ghost use Rattle.rg_state.specs.Rows.{RowStands, Changed, Suits, Unfit, IsRefused, IsOf, Same, Others, Entry, Lists, Writes};
+ghost use Rattle.rg_state.specs.States.{held_of};
+ghost use Rattle.rg_state.specs.Takes.{Takes};
+
+use crate::state::AggState;
+use rg_event::Value;
+use rg_group::Key;
+use rg_metric::{Answer, Func};
+
+/// What becomes of a row.
+#[derive(Clone, Copy, Debug, PartialEq, Eq, Hash)]
+pub enum Change {
+    /// A value is added at the back.
+    Add,
+    /// The first value is taken away.
+    Remove,
+}
+
+/// Why a call on a table was refused.
+#[derive(Clone, Copy, Debug, PartialEq, Eq, Hash)]
+pub enum TableFault {
+    /// The row of that node is not one that the call could change or answer from.
+    BadState(u32),
+    /// Memory ran out.
+    Memory,
+    /// A call on the table's disk failed.
+    Disk,
+}
+
+/// States by node and key. A row is there exactly where its state stands for some values.
+pub trait Table {
+    /// What the row of a node and a key keeps, where there is one.
+    ghost cell: { Self → ℕ → List ℕ → Option Held };
+
+    /// The table tells its rows.
+    ghost tells: { Self → Type 0 };
+
+    /// How often a call on its disk has failed, up to 2^64 - 1.
+    ghost faults: { Self → ℕ };
+
+    /// Adds a value to the row of a node and a key, or takes it away. A row that becomes empty is gone.
+    /// A refusal leaves each row as it was.
+    fn change(
+        &mut self,
+        node: u32,
+        key: &Key,
+        func: Func,
+        change: Change,
+        value: &Value,
+    ) -> Result<(), TableFault>
+        requires { Takes func value.now }
+        ensures changed { tells self.old → OnOk result (Changed func change value.now (cell self.old node key.now) (cell self.new node key.now)) }
+        ensures suits { tells self.old → OnOk result (Suits func change value.now (cell self.old node key.now)) }
+        ensures others { tells self.old → Others node key.now (cell self.old) (cell self.new) }
+        ensures err { tells self.old → OnErr result (Same (cell self.old) (cell self.new)) }
+        ensures bad { (n : ℕ) → IsErrOf result (TableFault.BadState n) → n ≡ node }
+        ensures unfit { (n : ℕ) → IsErrOf result (TableFault.BadState n) → tells self.old → Unfit func change value.now (cell self.old node key.now) }
+        ensures causes { (n : ℕ) → IsErrOf result (TableFault.BadState n) → tells self.old → IsRefused func change value.now (cell self.old node key.now) }
+        ensures disk { IsErrOf result TableFault.Disk → Rose (faults self.old) (faults self.new) }
+        ensures tells { tells self.new ↔ tells self.old }
+        ensures later { faults self.old ≤ faults self.new };
+
+    /// The answer of the row of a node and a key. Without one it is that of no values.
+    fn answer(&mut self, node: u32, key: &Key, func: Func) -> Result<Answer, TableFault>
+        ensures answer { tells self.old → (values : List Value) → RowStands func (cell self.old node key.now) values → IfOk result (λ answer. answer ≡ answer_of func values) }
+        ensures own { tells self.old → OnOk result (IsOf func (cell self.old node key.now)) }
+        ensures same { tells self.old → Same (cell self.old) (cell self.new) }
+        ensures bad { (n : ℕ) → IsErrOf result (TableFault.BadState n) → n ≡ node }
+        ensures unfit { (n : ℕ) → IsErrOf result (TableFault.BadState n) → tells self.old → (values : List Value) → RowStands func (cell self.old node key.now) values → ⊥ }
+        ensures causes { (n : ℕ) → IsErrOf result (TableFault.BadState n) → tells self.old → IsOf func (cell self.old node key.now) → ⊥ }
+        ensures disk { IsErrOf result TableFault.Disk → Rose (faults self.old) (faults self.new) }
+        ensures tells { tells self.new ↔ tells self.old }
+        ensures later { faults self.old ≤ faults self.new };
+
+    /// Puts a state that isn't empty where there is no row. A refusal leaves each row as it was.
+    fn insert(&mut self, node: u32, key: Key, state: AggState) -> Result<(), TableFault>
+        requires free { tells self.old → cell self.old node key ≡ None }
+        requires some { 0 < size_in (held_of state) }
+        ensures row { tells self.old → OnOk result (cell self.new node key ≡ Some (held_of state)) }
+        ensures others { tells self.old → Others node key (cell self.old) (cell self.new) }
+        ensures err { tells self.old → OnErr result (Same (cell self.old) (cell self.new)) }
+        ensures no_bad { (n : ℕ) → IsErrOf result (TableFault.BadState n) → ⊥ }
+        ensures disk { IsErrOf result TableFault.Disk → Rose (faults self.old) (faults self.new) }
+        ensures tells { tells self.new ↔ tells self.old }
+        ensures later { faults self.old ≤ faults self.new };
+
+    /// Writes all rows at the end, rising by node and key: the node in 4 bytes, the key's length in 4
+    /// and its bytes, and the state. A refusal leaves `out` as it was.
+    fn write_rows(&mut self, out: &mut Vec<u8>) -> Result<(), TableFault>
+        ensures written { tells self.old → OnOk result ((written : List ℕ) × Writes (cell self.old) written × (out.new.items ≡ out.old.items ++ written)) }
+        ensures appended { OnOk result ((written : List ℕ) × (out.new.items ≡ out.old.items ++ written)) }
+        ensures same { tells self.old → Same (cell self.old) (cell self.new) }
+        ensures err { OnErr result (out.new.items ≡ out.old.items) }
+        ensures no_bad { (n : ℕ) → IsErrOf result (TableFault.BadState n) → ⊥ }
+        ensures disk { IsErrOf result TableFault.Disk → Rose (faults self.old) (faults self.new) }
+        ensures tells { tells self.new ↔ tells self.old }
+        ensures later { faults self.old ≤ faults self.new };
+
+    /// How many rows there are.
+    fn rows(&self) -> u64
+        ensures { tells self.now → (entries : List Entry) → Lists (cell self.now) entries → result ≡ length entries };
+
+    /// No row is empty.
+    ghost filled: { (table : Self) (node : ℕ) (key : List ℕ) (held : Held) → tells table → cell table node key ≡ Some held → 0 < size_in held };
+
+    /// The rows are finitely many.
+    ghost finite: { (table : Self) → tells table → (entries : List Entry) × Lists (cell table) entries };
+}

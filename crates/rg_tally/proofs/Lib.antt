@@ -1,0 +1,7 @@
+mod Counting
+pub mod Places
+mod Kept
+mod Order
+mod Among
+mod Distinct
+pub mod ReadPairs

@@ -1,0 +1,5 @@
+pub mod Pairs
+pub mod Reading
+pub mod NumberLaws
+pub mod Props
+pub mod ValueLaws

@@ -6,11 +6,10 @@ use Rattle.std.specs.Cmp.Lexicographic.{nat_list_eq_equiv}
 use Rattle.std.proofs.lemmas.List.{map-append}
 use Rattle.rg_metric.specs.declared.query.Agg.{Agg}
 use Rattle.rg_metric.specs.contracts.query.AggPartialEq.TheImpl.{ghosts as agg_ghosts}
-use Rattle.rg_metric.specs.Conditions.{Test}
 use Rattle.rg_metric.specs.Queries.{Asked}
 use Rattle.rg_plan.specs.declared.node.GroupNode.{GroupNode}
-use Rattle.rg_plan.specs.Same.{same_test, same_condition}
-use Rattle.rg_plan.specs.SameLaws.{same_test-true, same_condition_equiv}
+use Rattle.rg_plan.specs.Same.{same_condition}
+use Rattle.rg_plan.specs.SameLaws.{same_condition_equiv}
 use Rattle.rg_plan.specs.Nodes.{same_window, same_filter, same_group, same_agg, distinct, number_in}
 use Rattle.rg_plan.specs.Plans.{windows_of, filters_of, groups_of, aggs_of, filter_under, group_under, group_number, agg_under, aggs_under, aggs_in}
 use Rattle.rg_plan.specs.Beginnings.{ToFilter, ToGroup, ToAgg, same_to_filter, same_to_group, same_to_agg, to_filter, to_group, to_agg, to_aggs, filters_begun, groups_begun, aggs_begun, filter_at, group_at, agg_at}
@@ -124,6 +123,3 @@ module _ (qs : List Asked) where
   aggs_begin =
       ap (distinct same_agg) (seen_aggs qs have_windows have_filters)
       ∙ sym (distinct-along (agg_at (groups_begun qs)) same_to_agg same_agg HasGroup aggs_agree (flat_map to_aggs qs) (have_groups-of qs (all_there same_to_group to_group_equiv (map to_group qs))))
-
-pub same_test_is : (s t : Test) → same_test s t ≡ true → s ≡ t
-same_test_is = same_test-true

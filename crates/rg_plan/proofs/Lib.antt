@@ -9,4 +9,5 @@ pub mod Staying
 pub mod Naming
 pub mod Adding
 pub mod Offsetting
+pub mod Once
 pub mod Whole

@@ -14,11 +14,12 @@ use Rattle.rg_plan.specs.Nodes.{Filtered, same_window, same_filter, same_group, 
 use Rattle.rg_plan.specs.Plans.{Planned, plan_for, excess, windows_of, filters_of, groups_of, aggs_of, filter_under, group_under, agg_under, path_in}
 use Rattle.rg_plan.specs.Offsets.{IsMeasured, offsets_of}
 use Rattle.rg_plan.specs.Named.{Node, under_filter, under_group, under_agg, node_at, IsMade}
-use Rattle.rg_plan.specs.SameLaws.{same_filter-true, same_group-true}
+use Rattle.rg_plan.specs.SameLaws.{group_equiv, same_filter-true, same_group-true}
 use Rattle.rg_plan.specs.Whole.{IsWhole}
 use Rattle.rg_plan.proofs.Members.{All-distinct}
 use Rattle.rg_plan.proofs.Numbered.{Each, IsAmong}
-use Rattle.rg_plan.proofs.Told.{same_window-true, same_agg-true, within}
+use Rattle.rg_plan.proofs.Once.{once}
+use Rattle.rg_plan.proofs.Told.{same_window-true, same_agg-true, window_equiv, filtered_equiv, agg_equiv, within}
 use Rattle.rg_plan.proofs.Placing.{rising_rises}
 use Rattle.rg_plan.proofs.Offsetting.{enters_at, leaves_at, only_of, rising_length}
 use Rattle.rg_plan.proofs.Sizes.{few_queries, windows_measured, windows_few, filters_few, groups_few, all_aggs_few}
@@ -117,6 +118,10 @@ whole_for : (qs : List Asked) → All (λ (q : Asked). IsMeasured q.window) qs �
 whole_for qs measured e =
     let few = few_queries zero qs (omega arith) e in
     record {
+      windows_once = once same_window window_equiv (map (λ (q : Asked). q.window) qs);
+      filters_once = once same_filter filtered_equiv (map (filter_under (windows_of qs)) qs);
+      groups_once = once same_group group_equiv (map (group_under (windows_of qs) (filters_of qs)) qs);
+      aggs_once = once same_agg agg_equiv (flat_map (aggs_by qs) qs);
       rising = rising_rises (flat_map offsets_of (windows_of qs));
       windows_in = λ number window e. (enters_at (windows_of qs) number window e, leaves_at (windows_of qs) number window e);
       only = only_of (windows_of qs);

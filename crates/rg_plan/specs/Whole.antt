@@ -8,6 +8,10 @@ use Rattle.rg_plan.specs.Offsets.{offsets_of, AreRising, IsMeasured}
 use Rattle.rg_plan.specs.Plans.{Planned}
 use Rattle.rg_plan.specs.Named.{Node, node_at}
 
+-- no member stands at two places
+abbrev pub StandsOnce : {A : Type 0} → List A → Type 0
+StandsOnce {A} members = (i j : ℕ) (member : A) → slice_get members i ≡ Some member → slice_get members j ≡ Some member → i ≡ j
+
 -- one of the offsets is this one
 abbrev pub HasOffset : List ℕ → ℕ → Type 0
 HasOffset offsets offset = (edge : ℕ) × (slice_get offsets edge ≡ Some offset)
@@ -20,6 +24,11 @@ pub record IsOffsetOf (windows : List Window) (offset : ℕ) : Type 0 where
   pub has : HasOffset (offsets_of window) offset
 
 pub record IsWhole (plan : Planned) : Type 0 where
+  -- each node is there once
+  pub windows_once : StandsOnce plan.windows
+  pub filters_once : StandsOnce plan.filters
+  pub groups_once : StandsOnce plan.groups
+  pub aggs_once : StandsOnce plan.aggs
   -- the offsets rise, those of each window are among them, and there are no others
   pub rising : AreRising plan.offsets
   pub windows_in : (number : ℕ) (window : Window) → slice_get plan.windows number ≡ Some window

@@ -1,7 +1,7 @@
-ghost use Rattle.std.specs.Prelude.{◌≡◌, List, map, true, All};
+ghost use Rattle.std.specs.Prelude.{◌≡◌, ◌↔◌, List, map, true, Option, All};
 ghost use Rattle.rg_metric.specs.Conditions.{Test};
 ghost use Rattle.rg_metric.specs.Queries.{Asked};
-ghost use Rattle.rg_plan.specs.Same.{same_test};
+ghost use Rattle.rg_plan.specs.Same.{same_condition};
 ghost use Rattle.rg_plan.specs.Plans.{Planned, windows_of, filters_of, groups_of, aggs_of, paths_of, plan_for};
 ghost use Rattle.rg_plan.specs.Named.{IsMade, HasAgg, node_at, nodes_of, asked_by};
 ghost use Rattle.rg_plan.specs.Whole.{IsWhole};
@@ -16,10 +16,9 @@ pub fn law_beginnings()
     ensures aggs { (qs : List Asked) → aggs_of qs ≡ map (agg_at (groups_begun qs)) (aggs_begun qs) }
 {}
 
-/// Conditions that pass the test are equal trees.
-#[tactic(auto, using(crate::proofs::Begun::same_test_is))]
+/// Conditions pass the test of a filter node just where they are equal trees.
 pub fn law_same_condition()
-    ensures { (s t : Test) → same_test s t ≡ true → s ≡ t }
+    ensures { (s t : Option Test) → same_condition s t ≡ true ↔ (s ≡ t) }
 {}
 
 /// The node at each number of a query's path is an aggregator of that query, with its window, its
@@ -35,7 +34,8 @@ pub fn law_asked()
     ensures { (qs : List Asked) → All HasAgg qs → asked_by (plan_for qs) ≡ qs }
 {}
 
-/// What holds of the plan of queries that are few enough and whose windows are measured.
+/// What holds of the plan of queries that are few enough and whose windows are measured: each node is there once, its
+/// offsets rise and are those of its windows, and each number is that of a node.
 pub fn law_placed()
     ensures { (plan : Planned) → IsMade plan → IsWhole plan }
 {}

@@ -14,7 +14,7 @@ use std::hash::{Hash, Hasher};
 pub struct FilterNode {
     /// The number of the window.
     pub window: u32,
-    /// Without one every event is met.
+    /// What its events meet; without one it has all events of the window.
     pub condition: Option<Condition>,
 }
 
@@ -83,6 +83,7 @@ pub(crate) fn copy_condition(
 pub struct GroupNode {
     /// The number of the filter node.
     pub filter: u32,
+    /// The columns of the key; without any all events have one key.
     pub columns: Columns,
 }
 
@@ -137,5 +138,6 @@ impl GroupNode {
 pub struct AggNode {
     /// The number of the group node.
     pub group: u32,
+    /// What is answered of them.
     pub agg: Agg,
 }

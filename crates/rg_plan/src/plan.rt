@@ -54,14 +54,10 @@ pub fn compile(alloc: Global, queries: &[Query]) -> Result<TaskPlan, PlanFault>
     ensures within { OnOk result (excess (map asked queries.now) ≡ None) }
     ensures fault { IfErr result (λ fault. fault ≡ fault_of (excess (map asked queries.now))) }
 {
-    match first_too_many(queries) {
-        Some(query) => return Err(PlanFault::TooMany(query)),
-        None => {}
+    if let Some(query) = first_too_many(queries) {
+        return Err(PlanFault::TooMany(query));
     }
-    match plan_of(alloc, queries) {
-        Ok(plan) => Ok(plan),
-        Err(_) => Err(PlanFault::Memory),
-    }
+    Ok(plan_of(alloc, queries)?)
 }
 
 /// The plan of queries that are few enough.

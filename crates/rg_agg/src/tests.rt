@@ -94,20 +94,6 @@ fn the_first_value_gives_way_to_the_next(rt: HostRuntime) -> Result<(), Fail> {
 }
 
 #[test]
-fn a_copy_stays_where_its_source_changes(rt: HostRuntime) -> Result<(), Fail> {
-    let alloc = rt.alloc();
-    let mut first = First::empty(alloc);
-    first.add(&Value::Int(5))?;
-    first.add(&Value::Int(8))?;
-    let copy = first.copy(alloc)?;
-    assert!(rt; first.remove(&Value::Int(5)).is_ok());
-    assert_eq!(rt; copy.answer(), Answer::Number(5));
-    assert_eq!(rt; copy.size(), 2);
-    assert_eq!(rt; first.answer(), Answer::Number(8));
-    Ok(())
-}
-
-#[test]
 fn what_is_no_first_value_is_refused(rt: HostRuntime) -> Result<(), Fail> {
     let alloc = rt.alloc();
     let int: &[u8] = b"\x08\0\0\0\0\0\0\0\x02\x01\0\0\0\0\0\0\0\x05";

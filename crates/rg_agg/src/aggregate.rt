@@ -36,6 +36,10 @@ pub trait Aggregate {
         ensures size { size_in (held result) ≡ 0 }
         ensures kind { kind_in (held result) ≡ None };
 
+    /// A state that keeps the same.
+    fn copy(&self, alloc: Global) -> Result<Self, Memory>
+        ensures { IfOk result (λ state. held state ≡ held self.now) };
+
     /// Whether it stands for no values.
     fn is_empty(&self) -> bool
         ensures { result ≡ (size_in (held self.now) == 0) };

@@ -39,6 +39,12 @@ impl Aggregate for Avg {
         }
     }
 
+    fn copy(&self, _alloc: Global) -> Result<Avg, Memory> {
+        Ok(Avg {
+            total: self.total.copy(),
+        })
+    }
+
     fn is_empty(&self) -> bool {
         self.total.count == 0
     }

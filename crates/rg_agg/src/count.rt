@@ -38,6 +38,10 @@ impl Aggregate for Count {
         Count { count: 0 }
     }
 
+    fn copy(&self, _alloc: Global) -> Result<Count, Memory> {
+        Ok(Count { count: self.count })
+    }
+
     fn is_empty(&self) -> bool {
         self.count == 0
     }

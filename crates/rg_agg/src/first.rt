@@ -49,6 +49,11 @@ impl Aggregate for First {
         }
     }
 
+    fn copy(&self, alloc: Global) -> Result<First, Memory> {
+        let numbers = copy_numbers(alloc, &self.numbers)?;
+        Ok(First { numbers })
+    }
+
     fn is_empty(&self) -> bool {
         self.numbers.is_empty()
     }
@@ -122,6 +127,17 @@ impl Aggregate for First {
     }
 
     ghost of_func = { λ _. refl };
+}
+
+/// The same values in the same order.
+fn copy_numbers(alloc: Global, numbers: &VecDeque<Number>) -> Result<VecDeque<Number>, Memory>
+    ensures { IfOk result (λ copies. copies.items ≡ numbers.now.items) }
+{
+    let mut copies = VecDeque::new(alloc);
+    for number in numbers.iter() {
+        copies.push_back(*number)?;
+    }
+    Ok(copies)
 }
 
 /// Writes how many there are and each of them at the end. Where memory runs out a front of it may stand there.

@@ -48,6 +48,13 @@ impl Aggregate for Last {
         }
     }
 
+    fn copy(&self, _alloc: Global) -> Result<Last, Memory> {
+        Ok(Last {
+            count: self.count,
+            last: self.last,
+        })
+    }
+
     fn is_empty(&self) -> bool {
         self.count == 0
     }

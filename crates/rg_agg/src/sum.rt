@@ -39,6 +39,12 @@ impl Aggregate for Sum {
         }
     }
 
+    fn copy(&self, _alloc: Global) -> Result<Sum, Memory> {
+        Ok(Sum {
+            total: self.total.copy(),
+        })
+    }
+
     fn is_empty(&self) -> bool {
         self.total.count == 0
     }

@@ -49,6 +49,13 @@ impl Aggregate for SumSq {
         SumSq { count: 0, sum: 0 }
     }
 
+    fn copy(&self, _alloc: Global) -> Result<SumSq, Memory> {
+        Ok(SumSq {
+            count: self.count,
+            sum: self.sum,
+        })
+    }
+
     fn is_empty(&self) -> bool {
         self.count == 0
     }

@@ -32,6 +32,17 @@ impl Total {
         Total { count: 0, sum: 0 }
     }
 
+    /// As many ints, of the same sum.
+    pub(crate) fn copy(&self) -> Total
+        ensures count { result.count ≡ self.now.count }
+        ensures sum { result.sum ≡ self.now.sum }
+    {
+        Total {
+            count: self.count,
+            sum: self.sum,
+        }
+    }
+
     /// Adds an int.
     pub(crate) fn add(&mut self, value: &Value)
         requires room { self.old.count < 2 ^ 40 }

@@ -45,6 +45,11 @@ impl Aggregate for Distinct {
         }
     }
 
+    fn copy(&self, alloc: Global) -> Result<Distinct, Memory> {
+        let tally = self.tally.copy(alloc)?;
+        Ok(Distinct { tally })
+    }
+
     fn is_empty(&self) -> bool {
         self.tally.size() == 0
     }

@@ -35,6 +35,14 @@ impl Extreme {
         }
     }
 
+    /// The same values, each as often as here.
+    pub(crate) fn copy(&self, alloc: Global) -> Result<Extreme, Memory>
+        ensures { IfOk result (λ copy. copy.tally ≡ self.now.tally) }
+    {
+        let tally = self.tally.copy(alloc)?;
+        Ok(Extreme { tally })
+    }
+
     /// The least value's number; a dash without values.
     pub(crate) fn least(&self) -> Answer
         ensures { (values : List Value) → AreCounts self.now.tally values → result ≡ answer_of Min values }

@@ -37,6 +37,11 @@ impl Aggregate for Max {
         }
     }
 
+    fn copy(&self, alloc: Global) -> Result<Max, Memory> {
+        let extreme = self.extreme.copy(alloc)?;
+        Ok(Max { extreme })
+    }
+
     fn is_empty(&self) -> bool {
         self.extreme.tally.size() == 0
     }

@@ -37,6 +37,11 @@ impl Aggregate for Min {
         }
     }
 
+    fn copy(&self, alloc: Global) -> Result<Min, Memory> {
+        let extreme = self.extreme.copy(alloc)?;
+        Ok(Min { extreme })
+    }
+
     fn is_empty(&self) -> bool {
         self.extreme.tally.size() == 0
     }

@@ -1,4 +1,4 @@
--- No row of the nodes is empty, and their rows in order are all of them.
+-- No row of the nodes is empty, each keeps what a state keeps, and their rows in order are all of them.
 use Rattle.std.proofs.Common.{◌≡◌, ℕ, zero, suc, ◌+◌, ◌-◌, ◌<◌, ◌≤◌, List, [], ◌∷◌, ◌++◌, Option, Some, None, Bool, true, false, refl, ap, sym, ◌∙◌, subst, inl, inr, ◌⊎◌, arith}
 use Rattle.std.specs.Prelude.{cond}
 use Rattle.std.specs.List.{Contains}
@@ -17,7 +17,7 @@ use Rattle.rg_agg.specs.Held.{Held}
 use Rattle.rg_agg.specs.Standing.{size_in}
 use Rattle.rg_state.specs.Cells.{row_in, row_at, entries_from, node_entries}
 use Rattle.rg_state.specs.Rows.{Entry, AreRising, Lists}
-use Rattle.rg_state.specs.States.{held_of}
+use Rattle.rg_state.specs.States.{held_of, IsHeld}
 use Rattle.rg_state.specs.declared.state.AggState.{AggState}
 use Rattle.rg_state.specs.declared.node_rows.NodeRows.{NodeRows}
 
@@ -33,6 +33,17 @@ pub filled_at : (nodes : List NodeRows) (node : ℕ) (key : List ℕ) (held : He
 filled_at [] node key held found = cc
 filled_at (rows ∷ nodes) zero key held found = filled_by rows key held (get (slice_cmp nat_cmp) rows.map key) refl found
 filled_at (rows ∷ nodes) (suc node) key held found = filled_at nodes node key held found
+
+-- what a row keeps is what a state keeps
+
+state_by : (held : Held) (found : Option AggState) → option_map held_of found ≡ Some held → IsHeld held
+state_by held (Some state) is = (state, cc)
+state_by held None is = cc
+
+pub state_at_row : (nodes : List NodeRows) (node : ℕ) (key : List ℕ) (held : Held) → row_at nodes node key ≡ Some held → IsHeld held
+state_at_row [] node key held found = cc
+state_at_row (rows ∷ nodes) zero key held found = state_by held (get (slice_cmp nat_cmp) rows.map key) found
+state_at_row (rows ∷ nodes) (suc node) key held found = state_at_row nodes node key held found
 
 -- each row is in the list
 

@@ -35,6 +35,10 @@ held_of (Distinct state) = distinct_ghosts.held state
 held_of (First state) = first_ghosts.held state
 held_of (Last state) = last_ghosts.held state
 
+-- a state of one of the aggregators keeps this
+abbrev pub IsHeld : Held → Type 0
+IsHeld held = (state : AggState) × (held_of state ≡ held)
+
 -- the state of the aggregator that has this tag
 abbrev pub state_tagged_at : ℕ → List ℕ → Begins Held
 state_tagged_at tag bytes =

@@ -115,7 +115,7 @@ impl MemTable {
 impl Table for MemTable {
     ghost use Rattle.std.specs.Prelude.{⊤};
     ghost use Rattle.rg_state.specs.Cells.{row_at, entries_from};
-    ghost use Rattle.rg_state.specs.CellLaws.{filled_at, lists_all};
+    ghost use Rattle.rg_state.specs.CellLaws.{filled_at, state_at_row, lists_all};
 
     ghost cell = { λ table. row_at table.nodes.items };
 
@@ -172,6 +172,8 @@ impl Table for MemTable {
     }
 
     ghost filled = { λ table node key held _ found. filled_at table.nodes.items node key held found };
+
+    ghost states = { λ table node key held _ found. state_at_row table.nodes.items node key held found };
 
     ghost finite = { λ table _. (entries_from 0 table.nodes.items, lists_all table.nodes.items) };
 }

@@ -1,4 +1,4 @@
-ghost use Rattle.std.specs.Prelude.{◌≡◌, ◌↔◌, IsTrue, ◌+◌, ◌<◌, ◌^◌, ◌==◌, None, List, [], ◌∷◌, ◌++◌, length, OnOk, OnErr, IsErrOf};
+ghost use Rattle.std.specs.Prelude.{◌≡◌, ◌↔◌, IsTrue, ◌+◌, ◌<◌, ◌^◌, ◌==◌, None, List, [], ◌∷◌, ◌++◌, length, IfOk, OnOk, OnErr, IsErrOf};
 ghost use Rattle.rg_agg.specs.Held.{held_bytes};
 ghost use Rattle.rg_agg.specs.Standing.{Stands, func_of, size_in, kind_in, IsLike};
 ghost use Rattle.rg_event.specs.declared.value.Value.{Value};
@@ -56,6 +56,16 @@ macro_rules! each {
     };
 }
 
+/// A copy of the state of one of the aggregators.
+macro_rules! copied {
+    ($aggregate:ident, $state:expr, $alloc:expr) => {
+        match $state.copy($alloc) {
+            Ok(copy) => Ok(AggState::$aggregate(copy)),
+            Err(memory) => Err(memory),
+        }
+    };
+}
+
 impl AggState {
     /// The state of no values.
     pub(crate) fn empty(alloc: Global, func: Func) -> AggState
@@ -91,6 +101,23 @@ impl AggState {
             AggState::Distinct(_) => Func::CountDistinct,
             AggState::First(_) => Func::First,
             AggState::Last(_) => Func::Last,
+        }
+    }
+
+    /// A state that keeps the same.
+    pub fn copy(&self, alloc: Global) -> Result<AggState, Memory>
+        ensures { IfOk result (λ copy. held_of copy ≡ held_of self.now) }
+    {
+        match self {
+            AggState::Count(state) => copied!(Count, state, alloc),
+            AggState::Sum(state) => copied!(Sum, state, alloc),
+            AggState::Avg(state) => copied!(Avg, state, alloc),
+            AggState::SumSq(state) => copied!(SumSq, state, alloc),
+            AggState::Min(state) => copied!(Min, state, alloc),
+            AggState::Max(state) => copied!(Max, state, alloc),
+            AggState::Distinct(state) => copied!(Distinct, state, alloc),
+            AggState::First(state) => copied!(First, state, alloc),
+            AggState::Last(state) => copied!(Last, state, alloc),
         }
     }
 

@@ -5,7 +5,7 @@ ghost use Rattle.rg_agg.specs.Held.{Held};
 ghost use Rattle.rg_agg.specs.Standing.{size_in};
 ghost use Rattle.rg_metric.specs.Answers.{answer_of};
 ghost use Rattle.rg_state.specs.Rows.{RowStands, Changed, Suits, Unfit, IsRefused, IsOf, Same, Others, Entry, Lists, Writes};
-ghost use Rattle.rg_state.specs.States.{held_of};
+ghost use Rattle.rg_state.specs.States.{held_of, IsHeld};
 ghost use Rattle.rg_state.specs.Takes.{Takes};
 
 use crate::state::AggState;
@@ -108,6 +108,9 @@ pub trait Table {
 
     /// No row is empty.
     ghost filled: { (table : Self) (node : ℕ) (key : List ℕ) (held : Held) → tells table → cell table node key ≡ Some held → 0 < size_in held };
+
+    /// What a row keeps is what a state of one of the aggregators keeps.
+    ghost states: { (table : Self) (node : ℕ) (key : List ℕ) (held : Held) → tells table → cell table node key ≡ Some held → IsHeld held };
 
     /// The rows are finitely many.
     ghost finite: { (table : Self) → tells table → (entries : List Entry) × Lists (cell table) entries };

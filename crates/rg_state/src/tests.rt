@@ -187,6 +187,78 @@ fn a_state_is_read_put_in_and_written(rt: HostRuntime) -> Result<(), Fail> {
     Ok(())
 }
 
+/// The answers of the copy of a state, and of the state itself once a 5 is taken from it.
+fn answers_of(alloc: Global, bytes: &[u8]) -> Result<(Answer, Answer), Fail> {
+    let mut state = match AggState::decode(alloc, &mut ByteReader::new(bytes)) {
+        Ok(state) => state,
+        Err(_) => return Err(Fail::new("no state was read")),
+    };
+    let copy = state.copy(alloc)?;
+    match state.remove(&Value::Int(5)) {
+        Ok(()) => Ok((copy.answer(), state.answer())),
+        Err(_) => Err(Fail::new("no value was taken")),
+    }
+}
+
+#[test]
+fn a_copy_stays_where_its_source_changes(rt: HostRuntime) -> Result<(), Fail> {
+    let table: [(&[u8], Answer, Answer); 9] = [
+        (
+            b"\x01\0\0\0\0\0\0\0\x02",
+            Answer::Number(2),
+            Answer::Number(1),
+        ),
+        (
+            b"\x02\0\0\0\0\0\0\0\x02\0\0\0\0\0\0\0\0\0\0\0\0\0\0\0\x0d",
+            Answer::Number(13),
+            Answer::Number(8),
+        ),
+        (
+            b"\x03\0\0\0\0\0\0\0\x02\0\0\0\0\0\0\0\0\0\0\0\0\0\0\0\x0d",
+            Answer::Ratio(13, 2),
+            Answer::Ratio(8, 1),
+        ),
+        (
+            b"\x04\0\0\0\0\0\0\0\x02\0\0\0\0\0\0\0\0\0\0\0\0\0\0\0\x59",
+            Answer::Number(89),
+            Answer::Number(64),
+        ),
+        (
+            b"\x05\0\0\0\0\0\0\0\x02\x01\0\0\0\0\0\0\0\x05\0\0\0\0\0\0\0\x01\x01\0\0\0\0\0\0\0\x08\0\0\0\0\0\0\0\x01",
+            Answer::Number(5),
+            Answer::Number(8),
+        ),
+        (
+            b"\x06\0\0\0\0\0\0\0\x02\x01\0\0\0\0\0\0\0\x03\0\0\0\0\0\0\0\x01\x01\0\0\0\0\0\0\0\x05\0\0\0\0\0\0\0\x01",
+            Answer::Number(5),
+            Answer::Number(3),
+        ),
+        (
+            b"\x07\0\0\0\0\0\0\0\x02\x01\0\0\0\0\0\0\0\x05\0\0\0\0\0\0\0\x01\x01\0\0\0\0\0\0\0\x08\0\0\0\0\0\0\0\x02",
+            Answer::Number(2),
+            Answer::Number(1),
+        ),
+        (
+            b"\x08\0\0\0\0\0\0\0\x02\x01\0\0\0\0\0\0\0\x05\x01\0\0\0\0\0\0\0\x08",
+            Answer::Number(5),
+            Answer::Number(8),
+        ),
+        (
+            b"\x09\0\0\0\0\0\0\0\x01\x01\0\0\0\0\0\0\0\x05",
+            Answer::Number(5),
+            Answer::Dash,
+        ),
+    ];
+    for (bytes, copied, changed) in table {
+        assert_eq!(rt;
+            answers_of(rt.alloc(), bytes)?,
+            (copied, changed),
+            "at {bytes:?}"
+        );
+    }
+    Ok(())
+}
+
 #[test]
 fn what_is_no_state_is_refused(rt: HostRuntime) -> Result<(), Fail> {
     let table: [(&[u8], StateFault); 4] = [

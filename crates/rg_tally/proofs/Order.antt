@@ -1,5 +1,5 @@
 -- The order of pairs, from that of the keys of a map.
-use Rattle.std.proofs.Common.{◌≡◌, ℕ, Bool, true, List, [], ◌∷◌, ◌++◌, refl, ap, sym, ◌∙◌}
+use Rattle.std.proofs.Common.{◌≡◌, ℕ, Bool, true, List, [], ◌∷◌, ◌++◌, refl, ap, sym, ◌∙◌, subst, append_assoc}
 use Rattle.std.proofs.lemmas.Bool.{and_parts}
 use Rattle.std.specs.Cmp.{IsTotalOrder}
 use Rattle.std.specs.List.{AllByRecursion}
@@ -40,6 +40,22 @@ insert_last cmp total k n [] all = refl
 insert_last cmp total k n (e ∷ es) all =
     let is : cmp k e.0 ≡ Greater = total.antisymm k e.0 ∙ ap ordering_reverse all.0 in
     rw is (ap (λ rest. e ∷ rest) (insert_last cmp total k n es all.1))
+
+next_below : {K : Type 0} (cmp : K → K → Ordering) → IsTotalOrder cmp → (k : K) (n : ℕ) (es rest : List (K × ℕ)) → IsStrictlySortedBy cmp (keys_of (es ++ (k, n) ∷ rest)) → AllByRecursion (λ q. cmp q k ≡ Less) (keys_of es)
+unfolding IsStrictlySortedBy
+next_below cmp total k n [] rest sorted = tt
+next_below cmp total k n (e ∷ []) rest sorted = (sorted.0.0, tt)
+next_below cmp total k n (e ∷ (d ∷ es)) rest sorted =
+    let later = next_below cmp total k n (d ∷ es) rest sorted.1 in
+    (total.trans e.0 d.0 k sorted.0.0 later.0, later)
+
+-- the entry that comes next in sorted entries comes last among those before it
+pub insert_next : {K : Type 0} (cmp : K → K → Ordering) → IsTotalOrder cmp → (k : K) (n : ℕ) (es rest new all : List (K × ℕ)) → new ≡ insert_entry cmp es k n → es ++ (k, n) ∷ rest ≡ all → IsStrictlySortedBy cmp (keys_of all) → new ++ rest ≡ all
+insert_next {K} cmp total k n es rest new all put parts sorted =
+    let P : List (K × ℕ) → Type 0 = λ entries. IsStrictlySortedBy cmp (keys_of entries) in
+    let below = next_below cmp total k n es rest (subst P (sym parts) sorted) in
+    ap (λ entries. entries ++ rest) (put ∙ insert_last cmp total k n es below)
+    ∙ (append_assoc es ((k, n) ∷ []) rest ∙ parts)
 
 all_below : {K : Type 0} (cmp : K → K → Ordering) → IsTotalOrder cmp → (f : K → Value) (legal : Value → Type 0) (below : Value → Value → Bool) (kind : Kind) → Orders cmp f legal below → (k : K) → legal (f k) → value_kind (f k) ≡ kind → (e : K × ℕ) (es : List (K × ℕ)) → IsStrictlySortedBy cmp (keys_of (e ∷ es)) → AreOf legal kind (pairs_by f (e ∷ es)) → comes_behind below (last_kept (pairs_by f (e ∷ es))) (f k) ≡ true → AllByRecursion (λ q. cmp q k ≡ Less) (keys_of (e ∷ es))
 unfolding IsStrictlySortedBy

@@ -1,4 +1,4 @@
-ghost use Rattle.std.specs.Prelude.{◌≡◌, ℕ, ◌+◌, ◌-◌, ◌<◌, ◌≤◌, ◌^◌, ◌==◌, true, false, Some, None, [], ◌∷◌, ◌++◌, IsTrue, OnOk, OnErr, IsErr, if◌then◌else◌};
+ghost use Rattle.std.specs.Prelude.{◌≡◌, ℕ, ◌+◌, ◌-◌, ◌<◌, ◌≤◌, ◌^◌, ◌==◌, true, false, Some, None, [], ◌∷◌, ◌++◌, IsTrue, IfOk, OnOk, OnErr, IsErr, if◌then◌else◌};
 ghost use Rattle.std.specs.BTreeMap.{get, IsOrdered};
 ghost use Rattle.rg_agg.specs.Held.{pairs_bytes};
 ghost use Rattle.rg_agg.specs.Standing.{counts_sum, count_in};
@@ -134,6 +134,21 @@ pub(crate) fn push_in<K: Ranked>(
 {
     map.insert(key, count)?;
     Ok(())
+}
+
+/// The same keys with their counts.
+pub(crate) fn copy_in<K: Ranked>(
+    alloc: Global,
+    map: &BTreeMap<K, u64>,
+) -> Result<BTreeMap<K, u64>, Memory>
+    ensures { IfOk result (λ copies. copies.entries ≡ map.now.entries) }
+{
+    let mut copies = BTreeMap::new(alloc);
+    for (key, count) in map.iter() {
+        let copy = key.copy(alloc)?;
+        copies.insert(copy, *count)?;
+    }
+    Ok(copies)
 }
 
 /// Writes each value and its count at the end. Where memory runs out a front of it may stand there.

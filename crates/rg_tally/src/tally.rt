@@ -9,7 +9,7 @@ ghost use Rattle.rg_metric.specs.Answers.{distinct_after};
 ghost use Rattle.rg_tally.specs.Pairs.{IsTally, OneMore};
 ghost use Rattle.rg_tally.specs.Reading.{comes_behind, is_count, last_kept, pairs_at};
 
-use crate::map::{add_in, is_behind, push_in, put_each, remove_in};
+use crate::map::{add_in, copy_in, is_behind, push_in, put_each, remove_in};
 use crate::ranked::Ranked;
 use crate::reading::read_tally;
 use rg_agg::{StateFault, Unfit, put_size};
@@ -49,6 +49,18 @@ impl<K: Ranked> Tally<K> {
             size: 0,
             alloc,
         }
+    }
+
+    /// A tally of the same values, each as often as here.
+    pub fn copy(&self, alloc: Global) -> Result<Tally<K>, Memory>
+        ensures { IfOk result (λ copy. copy ≡ self.now) }
+    {
+        let map = copy_in(alloc, &self.map)?;
+        Ok(Tally {
+            map,
+            size: self.size,
+            alloc,
+        })
     }
 
     /// How many values there are, each as often as it is there: at most 2^40.

@@ -29,6 +29,22 @@ fn count(rt: &impl Abort, tally: &mut Tally<Number>, value: &Value) -> Result<()
 }
 
 #[test]
+fn a_copy_stays_where_its_source_changes(rt: HostRuntime) -> Result<(), Fail> {
+    let alloc = rt.alloc();
+    let mut tally = Tally::new(alloc);
+    for number in [3i64, 1, 3] {
+        count(&rt, &mut tally, &Value::Int(number))?;
+    }
+    let mut copy = tally.copy(alloc)?;
+    assert!(rt; tally.remove(&Number::Int(1)).is_ok());
+    assert_eq!(rt; (copy.size(), copy.distinct()), (3, 2));
+    assert_eq!(rt; copy.least(), Some(&Number::Int(1)));
+    assert!(rt; copy.remove(&Number::Int(3)).is_ok());
+    assert_eq!(rt; copy.greatest(), Some(&Number::Int(3)));
+    Ok(())
+}
+
+#[test]
 fn a_tally_counts_each_value(rt: HostRuntime) -> Result<(), Fail> {
     let alloc = rt.alloc();
     let mut tally = Tally::new(alloc);

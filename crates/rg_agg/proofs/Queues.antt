@@ -91,7 +91,7 @@ pushed_keeps true old new number v is room are same legal like = (
 )
 pushed_keeps false old new number v is room are same legal like = (omega (arith, room, ap length is), rw is are)
 
-contrary : (b : Bool) → b ≡ true → b ≡ false → ⊥
+pub contrary : (b : Bool) → b ≡ true → b ≡ false → ⊥
 contrary b holds fails = cc
 
 pub no_number_first : (numbers : List Number) (v : Value) (values : List Value) → are_alike (map value_of numbers) ≡ true → map value_of numbers ≡ v ∷ values → IsNumber v

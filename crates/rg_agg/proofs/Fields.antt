@@ -7,7 +7,7 @@ use Rattle.std.proofs.lemmas.Result.{err_from_is_err_and}
 use Rattle.std.specs.Int.{w64, w128, to_be_bytes, cast_unsigned}
 use Rattle.std.specs.Int.RustNames.{FitsSigned, unsigned_abs}
 use Rattle.std.specs.Result.{IsErrAnd}
-use Rattle.rg_agg.specs.Held.{counted, summed, averaged, squared, ended, summed_at, averaged_at, squared_at, held_bytes, counted_at, ended_at, Begins, fitting, is_sum, is_square_sum, is_number, sum_bytes, size_at, size_behind_at, sum_at, total_at, number_value_at, as_part, part_fault, Agrees, Returns}
+use Rattle.rg_agg.specs.Held.{counted, summed, averaged, squared, ended, summed_at, averaged_at, squared_at, held_bytes, counted_at, ended_at, Begins, fitting, is_sum, is_square_sum, is_number, sum_bytes, size_at, size_behind_at, sum_at, total_at, number_value_at, part_fault, Agrees, Returns}
 use Rattle.rg_agg.specs.declared.fault.StateFault.{StateFault}
 use Rattle.rg_agg.specs.declared.fault.StateFault.TheVariants.{Short, Unfit, Memory}
 use Rattle.rg_bytes.proofs.Bytes.{wide_128}
@@ -15,7 +15,6 @@ use Rattle.rg_agg.specs.Numbers.{value_of, seen, is_kept}
 use Rattle.rg_agg.specs.Stands.{IsNumber, is_int_or_id}
 use Rattle.rg_agg.specs.declared.number.Number.{Number}
 use Rattle.rg_agg.specs.declared.number.Number.TheVariants.{Int, Id}
-use Rattle.rg_event.specs.Codec.{Reading}
 use Rattle.rg_event.specs.Tagged.{IsLegal, tagged_bytes, tagged_at}
 use Rattle.rg_event.specs.declared.codec.EventFault.{EventFault}
 use Rattle.rg_event.specs.declared.codec.EventFault.TheVariants.{Memory as EventMemory}
@@ -135,11 +134,6 @@ pub number_value_bad : (old : List ℕ) (value : Value) (left : List ℕ) → ta
 unfolding number_value_at
 number_value_bad old value left is none = rw (is, none) refl
 
--- a part that is refused, or that memory ran out at
-pub part_stops : {A : Type 0} (reading : Reading A) (event : EventFault) → (reading ≡ Err event) ⊎ (event ≡ EventMemory) → (as_part reading ≡ Err (part_fault event)) ⊎ (part_fault event ≡ Memory)
-part_stops reading event (inl is) = inl (ap as_part is)
-part_stops reading event (inr memory) = inr (ap part_fault memory)
-
 pub number_value_stops : (old : List ℕ) (event : EventFault) → (tagged_at old ≡ Err event) ⊎ (event ≡ EventMemory) → (number_value_at old ≡ Err (part_fault event)) ⊎ (part_fault event ≡ Memory)
 unfolding number_value_at
 number_value_stops old event (inl is) = inl (rw is refl)
@@ -176,14 +170,6 @@ returns_it view reading (Err fault) left held rest (inr memory) is = memory
 
 pub ended_read : (old : List ℕ) (n : ℕ) (behind : List ℕ) (value : Value) (left : List ℕ) → size_behind_at 9 old ≡ Ok (n, behind) → number_value_at behind ≡ Ok (value, left) → ended_at old ≡ Ok (ended n (Some value), left)
 ended_read old n behind value left first second = rw (first, second) refl
-
-pub ended_size_stops : (old : List ℕ) (fault : StateFault) → (size_behind_at 9 old ≡ Err fault) ⊎ (fault ≡ Memory) → (ended_at old ≡ Err fault) ⊎ (fault ≡ Memory)
-ended_size_stops old fault (inl is) = inl (rw is refl)
-ended_size_stops old fault (inr memory) = inr memory
-
-pub ended_value_stops : (old : List ℕ) (n : ℕ) (behind : List ℕ) (fault : StateFault) → size_behind_at 9 old ≡ Ok (n, behind) → (number_value_at behind ≡ Err fault) ⊎ (fault ≡ Memory) → (ended_at old ≡ Err fault) ⊎ (fault ≡ Memory)
-ended_value_stops old n behind fault first (inl is) = inl (rw (first, is) refl)
-ended_value_stops old n behind fault first (inr memory) = inr memory
 
 pub ended_reads_back : (n : ℕ) (value : Value) (rest : List ℕ) → 0 < n → n ≤ 2 ^ 40 → IsNumber value → ended_at (held_bytes (ended n (Some value)) ++ rest) ≡ Ok (ended n (Some value), rest)
 ended_reads_back n value rest some few is =

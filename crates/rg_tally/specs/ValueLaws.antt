@@ -1,6 +1,6 @@
 -- The order of values of each kind.
 use Rattle.std.specs.Prelude.{◌≡◌, ℕ, Bool, true, false, List, ◌++◌, Ok, refl}
-use Rattle.std.proofs.Common.{ap, ◌∙◌}
+use Rattle.std.proofs.Common.{ap}
 use Rattle.std.specs.Ordering.{is_eq, is_lt}
 use mathlib.Core.Bool.{beq}
 use Rattle.rg_agg.specs.Held.{as_part}

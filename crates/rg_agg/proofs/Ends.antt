@@ -1,11 +1,11 @@
--- The last value, with one more at the back and one less at the front.
-use Rattle.std.proofs.Common.{◌≡◌, ℕ, ◌+◌, ◌<◌, List, [], ◌∷◌, ◌++◌, Option, Some, None, refl, ap, sym, ◌∙◌, arith, length-append}
+-- The last value, with one more at the back.
+use Rattle.std.proofs.Common.{◌≡◌, ℕ, ◌+◌, List, [], ◌∷◌, ◌++◌, Option, Some, None, refl, ap, sym, ◌∙◌, arith, length-append}
 use Rattle.std.proofs.lemmas.List.Elements.{All-head, All-tail}
 use Rattle.std.specs.List.{All}
 use Rattle.rg_event.specs.Tagged.{value_kind}
 use Rattle.rg_event.specs.declared.value.Value.{Value}
 use Rattle.rg_metric.specs.Answers.{number_of, numbers, last_of, answer_of}
-use Rattle.rg_metric.specs.declared.answer.Answer.TheVariants.{Number, Dash}
+use Rattle.rg_metric.specs.declared.answer.Answer.TheVariants.{Number}
 use Rattle.rg_words.specs.declared.func.Func.TheVariants.{Last}
 use Rattle.rg_agg.specs.Stands.{last_behind, last_value, IsEnd}
 
@@ -23,19 +23,6 @@ is_end_more n last values v stands = record {
   ends = sym (last_more values v);
 }
 
-pub is_end_less : (n m : ℕ) (last new : Option Value) (values : List Value) (v : Value) → n ≡ m + 1 → (n ≡ 1 → new ≡ None) → (1 < n → new ≡ last) → IsEnd n last (v ∷ values) → IsEnd m new values
-is_end_less n m last new [] v one none same stands = record {
-  count = omega (arith, stands.count);
-  ends = none (omega (arith, stands.count));
-}
-is_end_less n m last new (w ∷ ws) v one none same stands = record {
-  count = omega (arith, stands.count);
-  ends = same (omega (arith, stands.count)) ∙ stands.ends;
-}
-
-no_value : {v : Value} → None ≡ Some v → ⊥
-no_value e = cc
-
 some_value : {v : Value} → Some v ≡ None → ⊥
 some_value e = cc
 
@@ -46,10 +33,6 @@ or_first v None = v
 last_number : (first : Value) (values : List Value) → last_of (number_of first) (numbers values) ≡ number_of (last_behind first values)
 last_number first [] = refl
 last_number first (w ∷ ws) = last_number w ws
-
-pub answers_none : (n : ℕ) (values : List Value) → IsEnd n None values → Dash ≡ answer_of Last values
-answers_none n [] stands = refl
-answers_none n (v ∷ vs) stands = absurd (no_value stands.ends)
 
 pub answers_last : (n : ℕ) (last : Value) (values : List Value) → IsEnd n (Some last) values → Number (number_of last) ≡ answer_of Last values
 answers_last n last [] stands = absurd (some_value stands.ends)

@@ -7,7 +7,7 @@ use Rattle.std.proofs.lemmas.Result.{err_from_is_err_and}
 use Rattle.std.specs.Int.{w64, w128, to_be_bytes, cast_unsigned}
 use Rattle.std.specs.Int.RustNames.{FitsSigned, unsigned_abs}
 use Rattle.std.specs.Result.{IsErrAnd}
-use Rattle.rg_agg.specs.Held.{counted, summed, averaged, squared, ended, summed_at, averaged_at, squared_at, held_bytes, counted_at, ended_at, Begins, fitting, is_sum, is_square_sum, is_number, sum_bytes, size_at, size_behind_at, sum_at, total_at, number_value_at, Agrees, Returns}
+use Rattle.rg_agg.specs.Held.{counted, summed, averaged, squared, ended, summed_at, averaged_at, squared_at, held_bytes, counted_at, ended_at, Begins, fitting, is_sum, is_square_sum, is_number, sum_bytes, size_at, size_behind_at, sum_at, total_at, number_value_at, part_fault, Agrees, Returns}
 use Rattle.rg_agg.specs.declared.fault.StateFault.{StateFault}
 use Rattle.rg_agg.specs.declared.fault.StateFault.TheVariants.{Short, Unfit, Memory}
 use Rattle.rg_bytes.proofs.Bytes.{wide_128}
@@ -16,7 +16,8 @@ use Rattle.rg_agg.specs.Stands.{IsNumber, is_int_or_id}
 use Rattle.rg_agg.specs.declared.number.Number.{Number}
 use Rattle.rg_agg.specs.declared.number.Number.TheVariants.{Int, Id}
 use Rattle.rg_event.specs.Tagged.{IsLegal, tagged_bytes, tagged_at}
-use Rattle.rg_event.specs.declared.codec.EventFault.TheVariants.{Short as EventShort, BadValue, Memory as EventMemory}
+use Rattle.rg_event.specs.declared.codec.EventFault.{EventFault}
+use Rattle.rg_event.specs.declared.codec.EventFault.TheVariants.{Memory as EventMemory}
 use Rattle.rg_event.specs.declared.value.Value.{Value}
 use Rattle.rg_event.specs.declared.value.Value.TheVariants.{Int as IntValue, Id as IdValue, Text as TextValue, Flag as FlagValue}
 use Rattle.rg_event.proofs.TaggedValues.{tagged_reads_back}
@@ -97,12 +98,6 @@ total_reads_back test tag n sum rest some few fits passes =
 
 -- ints and ids with their kind's tag
 
-short_is_not_memory : EventShort ≡ EventMemory → ⊥
-short_is_not_memory same = cc
-
-bad_is_not_memory : (field : ℕ) → BadValue field ≡ EventMemory → ⊥
-bad_is_not_memory field same = cc
-
 pub is_value_of : (number : Number) → is_number (value_of number) ≡ true
 is_value_of (Int n) = refl
 is_value_of (Id n) = refl
@@ -139,15 +134,10 @@ pub number_value_bad : (old : List ℕ) (value : Value) (left : List ℕ) → ta
 unfolding number_value_at
 number_value_bad old value left is none = rw (is, none) refl
 
-pub number_value_short : (old : List ℕ) → (tagged_at old ≡ Err EventShort) ⊎ (EventShort ≡ EventMemory) → (number_value_at old ≡ Err Short) ⊎ (Short ≡ Memory)
+pub number_value_stops : (old : List ℕ) (event : EventFault) → (tagged_at old ≡ Err event) ⊎ (event ≡ EventMemory) → (number_value_at old ≡ Err (part_fault event)) ⊎ (part_fault event ≡ Memory)
 unfolding number_value_at
-number_value_short old (inl is) = inl (rw is refl)
-number_value_short old (inr same) = absurd (short_is_not_memory same)
-
-pub number_value_unfit : (old : List ℕ) (field : ℕ) → (tagged_at old ≡ Err (BadValue field)) ⊎ (BadValue field ≡ EventMemory) → (number_value_at old ≡ Err Unfit) ⊎ (Unfit ≡ Memory)
-unfolding number_value_at
-number_value_unfit old field (inl is) = inl (rw is refl)
-number_value_unfit old field (inr same) = absurd (bad_is_not_memory field same)
+number_value_stops old event (inl is) = inl (rw is refl)
+number_value_stops old event (inr memory) = inr (ap part_fault memory)
 
 pub number_value_reads_back : (value : Value) (rest : List ℕ) → IsNumber value → number_value_at (tagged_bytes value ++ rest) ≡ Ok (value, rest)
 number_value_reads_back value rest is = number_value_read _ value rest (tagged_reads_back value rest (legal_number value is)) (some_number value is)
@@ -180,14 +170,6 @@ returns_it view reading (Err fault) left held rest (inr memory) is = memory
 
 pub ended_read : (old : List ℕ) (n : ℕ) (behind : List ℕ) (value : Value) (left : List ℕ) → size_behind_at 9 old ≡ Ok (n, behind) → number_value_at behind ≡ Ok (value, left) → ended_at old ≡ Ok (ended n (Some value), left)
 ended_read old n behind value left first second = rw (first, second) refl
-
-pub ended_size_stops : (old : List ℕ) (fault : StateFault) → (size_behind_at 9 old ≡ Err fault) ⊎ (fault ≡ Memory) → (ended_at old ≡ Err fault) ⊎ (fault ≡ Memory)
-ended_size_stops old fault (inl is) = inl (rw is refl)
-ended_size_stops old fault (inr memory) = inr memory
-
-pub ended_value_stops : (old : List ℕ) (n : ℕ) (behind : List ℕ) (fault : StateFault) → size_behind_at 9 old ≡ Ok (n, behind) → (number_value_at behind ≡ Err fault) ⊎ (fault ≡ Memory) → (ended_at old ≡ Err fault) ⊎ (fault ≡ Memory)
-ended_value_stops old n behind fault first (inl is) = inl (rw (first, is) refl)
-ended_value_stops old n behind fault first (inr memory) = inr memory
 
 pub ended_reads_back : (n : ℕ) (value : Value) (rest : List ℕ) → 0 < n → n ≤ 2 ^ 40 → IsNumber value → ended_at (held_bytes (ended n (Some value)) ++ rest) ≡ Ok (ended n (Some value), rest)
 ended_reads_back n value rest some few is =

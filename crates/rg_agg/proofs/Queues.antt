@@ -1,14 +1,11 @@
--- Values in a row, with one more at the back and one less at the front, and as they are read.
-use Rattle.std.proofs.Common.{◌≡◌, ℕ, suc, ◌+◌, ◌-◌, ◌<◌, ◌≤◌, ◌^◌, ◌&&◌, true, false, Bool, if◌then◌else◌, map, drop, List, [], ◌∷◌, ◌++◌, length, Ok, Err, inl, inr, ◌⊎◌, refl, ap, sym, ◌∙◌, arith, length-append, append_assoc, append-nil}
+-- Values in a row, with one more at the back, and as they are read.
+use Rattle.std.proofs.Common.{◌≡◌, ℕ, suc, ◌+◌, ◌-◌, ◌<◌, ◌≤◌, ◌^◌, ◌&&◌, true, false, Bool, if◌then◌else◌, map, List, [], ◌∷◌, ◌++◌, length, Ok, Err, inl, inr, ◌⊎◌, refl, ap, sym, ◌∙◌, arith, length-append, append_assoc, append-nil}
 use Rattle.std.proofs.lemmas.Bool.{and_parts, and_from}
 use Rattle.std.proofs.lemmas.List.{length-map}
-use Rattle.std.specs.Prelude.{slice_index_or}
-use Rattle.rg_metric.specs.Same.{same_value}
-use Rattle.rg_metric.proofs.Same.{same_value-same}
 use Rattle.std.specs.Int.{w64, to_be_bytes}
 use Rattle.rg_agg.specs.Held.{queued, held_bytes, tagged_list, is_like, is_like_first, number_value_at, next_at, more_at, queued_at, size_behind_at}
 use Rattle.rg_agg.specs.Numbers.{value_of}
-use Rattle.rg_agg.specs.Stands.{IsNumber, is_int_or_id, all_like, are_alike, begins_with}
+use Rattle.rg_agg.specs.Stands.{IsNumber, is_int_or_id, all_like, are_alike}
 use Rattle.rg_agg.specs.Standing.{IsLike, first_kind}
 use Rattle.rg_agg.specs.declared.fault.StateFault.{StateFault}
 use Rattle.rg_agg.specs.declared.fault.StateFault.TheVariants.{Unfit, Memory}
@@ -16,34 +13,11 @@ use Rattle.rg_agg.specs.declared.number.Number.{Number}
 use Rattle.rg_event.specs.Tagged.{tagged_bytes, value_kind}
 use Rattle.rg_event.specs.declared.value.Value.{Value}
 use Rattle.rg_event.specs.declared.value.Value.TheVariants.{Int as IntValue, Id as IdValue}
-use Rattle.rg_metric.specs.Answers.{number_of, answer_of}
-use Rattle.rg_metric.specs.declared.answer.Answer.TheVariants.{Number as NumberAnswer, Dash}
-use Rattle.rg_words.specs.declared.func.Func.TheVariants.{First}
 use Rattle.rg_agg.proofs.Fields.{number_value_reads_back, size_behind_read}
 
 pub values_more : (numbers : List Number) (number : Number) → map value_of (numbers ++ number ∷ []) ≡ map value_of numbers ++ value_of number ∷ []
 values_more [] number = refl
 values_more (n ∷ ns) number = ap (λ values. value_of n ∷ values) (values_more ns number)
-
-like_same : (v w x : Value) → is_like v w ≡ true → is_like v x ≡ true → is_like w x ≡ true
-like_same (IntValue v) (IntValue w) (IntValue x) one two = refl
-like_same (IdValue v) (IdValue w) (IdValue x) one two = refl
-like_same v w x one two = cc
-
-all_like_of : (v w : Value) (values : List Value) → is_like v w ≡ true → all_like v values ≡ true → all_like w values ≡ true
-all_like_of v w [] one are = refl
-all_like_of v w (x ∷ xs) one are =
-    let head = and_parts (is_int_or_id x) (is_like v x && all_like v xs) are in
-    let rest = and_parts (is_like v x) (all_like v xs) head.1 in
-    and_from (is_int_or_id x) (is_like w x && all_like w xs) head.0 (and_from (is_like w x) (all_like w xs) (like_same v w x one rest.0) (all_like_of v w xs one rest.1))
-
-pub alike_less : (v : Value) (values : List Value) → are_alike (v ∷ values) ≡ true → are_alike values ≡ true
-alike_less v [] are = refl
-alike_less v (w ∷ ws) are =
-    let first = and_parts (is_int_or_id v) (all_like v (w ∷ ws)) are in
-    let head = and_parts (is_int_or_id w) (is_like v w && all_like v ws) first.1 in
-    let rest = and_parts (is_like v w) (all_like v ws) head.1 in
-    and_from (is_int_or_id w) (all_like w ws) head.0 (all_like_of v w ws rest.0 rest.1)
 
 all_like_more : (first : Value) (values : List Value) (v : Value) → all_like first values ≡ true → is_int_or_id v ≡ true → is_like first v ≡ true → all_like first (values ++ v ∷ []) ≡ true
 all_like_more first [] v are is like = and_from (is_int_or_id v) (is_like first v && true) is (and_from (is_like first v) true like refl)
@@ -72,49 +46,12 @@ pub like_first : (v : Value) (values : List Value) → IsNumber v → IsLike (fi
 like_first v [] is like = refl
 like_first v (w ∷ ws) is like = kinds_like v w is like
 
--- with the first one taken away
-rest_is : (numbers : List Number) → map value_of (drop 1 numbers) ≡ drop 1 (map value_of numbers)
-rest_is [] = refl
-rest_is (n ∷ ns) = refl
-
-pub taken_rest : (numbers new : List Number) (v : Value) (values : List Value) → new ≡ drop 1 numbers → map value_of numbers ≡ v ∷ values → map value_of new ≡ values
-taken_rest numbers new v values popped stands = rw popped (rest_is numbers ∙ ap (drop 1) stands)
-
-pub alike_popped : (numbers new : List Number) → new ≡ drop 1 numbers → are_alike (map value_of numbers) ≡ true → are_alike (map value_of new) ≡ true
-alike_popped [] new popped are = rw popped refl
-alike_popped (n ∷ ns) new popped are = rw popped (alike_less (value_of n) (map value_of ns) are)
-
 pub pushed_keeps : (pushed : Bool) (old new : List Number) (number : Number) (v : Value) → new ≡ (if pushed then old ++ number ∷ [] else old) → length old < 2 ^ 40 → are_alike (map value_of old) ≡ true → value_of number ≡ v → IsNumber v → is_like_first v (map value_of old) ≡ true → (length new ≤ 2 ^ 40) × (are_alike (map value_of new) ≡ true)
 pushed_keeps true old new number v is room are same legal like = (
   omega (arith, room, ap length is, length-append old (number ∷ [])),
   alike_pushed old new number is are (rw same legal) (rw same like),
 )
 pushed_keeps false old new number v is room are same legal like = (omega (arith, room, ap length is), rw is are)
-
-contrary : (b : Bool) → b ≡ true → b ≡ false → ⊥
-contrary b holds fails = cc
-
-pub no_number_first : (numbers : List Number) (v : Value) (values : List Value) → are_alike (map value_of numbers) ≡ true → map value_of numbers ≡ v ∷ values → IsNumber v
-no_number_first numbers v values are stands =
-    let all : are_alike (v ∷ values) ≡ true = rw stands at are in
-    (and_parts (is_int_or_id v) (all_like v values) all).0
-
-pub no_other_first : (numbers : List Number) (v : Value) (values : List Value) (number : Number) → value_of number ≡ v → begins_with (value_of number) (map value_of numbers) ≡ false → map value_of numbers ≡ v ∷ values → ⊥
-no_other_first numbers v values number same fails stands =
-    let one : begins_with v (v ∷ values) ≡ false = rw (same, stands) at fails in
-    contrary (same_value v v) (same_value-same v) one
-
-pub some_begins : (numbers : List Number) (v : Value) → begins_with v (map value_of numbers) ≡ true → 0 < length numbers
-some_begins [] v begins = cc
-some_begins (n ∷ ns) v begins = omega arith
-
-pub answers_first : (number : Number) (numbers : List Number) (values : List Value) → number ≡ slice_index_or numbers 0 number → 0 < length numbers → map value_of numbers ≡ values → NumberAnswer (number_of (value_of number)) ≡ answer_of First values
-answers_first number [] values is some stands = absurd (omega arith)
-answers_first number (n ∷ ns) values is some stands = rw (is, ← stands) refl
-
-pub answers_no_first : (numbers : List Number) (values : List Value) → length numbers ≡ 0 → map value_of numbers ≡ values → Dash ≡ answer_of First values
-answers_no_first [] values none stands = rw (← stands) refl
-answers_no_first (n ∷ ns) values none stands = absurd (omega arith)
 
 pub tagged_list_more : (values : List Value) (v : Value) → tagged_list (values ++ v ∷ []) ≡ tagged_list values ++ tagged_bytes v
 tagged_list_more [] v = append-nil (tagged_bytes v)
@@ -141,14 +78,6 @@ more_step so_far n m old value left count is = rw (count, is) refl
 pub more_stops : (so_far : List Value) (n m : ℕ) (old : List ℕ) (fault : StateFault) → n ≡ suc m → (next_at so_far old ≡ Err fault) ⊎ (fault ≡ Memory) → (more_at so_far n old ≡ Err fault) ⊎ (fault ≡ Memory)
 more_stops so_far n m old fault count (inl is) = inl (rw (count, is) refl)
 more_stops so_far n m old fault count (inr memory) = inr memory
-
-pub queued_size_stops : (old : List ℕ) (fault : StateFault) → (size_behind_at 8 old ≡ Err fault) ⊎ (fault ≡ Memory) → (queued_at old ≡ Err fault) ⊎ (fault ≡ Memory)
-queued_size_stops old fault (inl is) = inl (rw is refl)
-queued_size_stops old fault (inr memory) = inr memory
-
-pub queued_values_stop : (old : List ℕ) (n : ℕ) (behind : List ℕ) (fault : StateFault) → size_behind_at 8 old ≡ Ok (n, behind) → (more_at [] n behind ≡ Err fault) ⊎ (fault ≡ Memory) → (queued_at old ≡ Err fault) ⊎ (fault ≡ Memory)
-queued_values_stop old n behind fault first (inl is) = inl (rw (first, is) refl)
-queued_values_stop old n behind fault first (inr memory) = inr memory
 
 pub queued_read : (old : List ℕ) (n : ℕ) (behind : List ℕ) (values : List Value) (left : List ℕ) → size_behind_at 8 old ≡ Ok (n, behind) → more_at [] n behind ≡ Ok (values, left) → queued_at old ≡ Ok (queued values, left)
 queued_read old n behind values left first second = rw (first, second) refl

@@ -5,6 +5,7 @@ use Rattle.rg_agg.specs.declared.fault.StateFault.{StateFault}
 use Rattle.rg_agg.specs.declared.fault.StateFault.TheVariants.{Short, Unfit, Memory}
 use Rattle.rg_event.specs.Codec.{Reading, bytes_at, number_at}
 use Rattle.rg_event.specs.Tagged.{tagged_bytes, tagged_at}
+use Rattle.rg_event.specs.declared.codec.EventFault.{EventFault}
 use Rattle.rg_event.specs.declared.codec.EventFault.TheVariants.{Short as EventShort, BadValue, Memory as EventMemory}
 use Rattle.rg_event.specs.declared.value.Value.{Value}
 use Rattle.rg_event.specs.declared.value.Value.TheVariants.{Int, Id, Text, Flag}
@@ -65,12 +66,16 @@ abbrev pub and_then : {A B : Type 0} → Begins A → (A → List ℕ → Begins
 and_then (Ok (value, left)) next = next value left
 and_then (Err fault) next = Err fault
 
--- the reading of a part that events have too; a bad one is unfit
+-- why bytes begin with no part that events have too: a bad one is unfit
+abbrev pub part_fault : EventFault → StateFault
+part_fault EventShort = Short
+part_fault (BadValue field) = Unfit
+part_fault EventMemory = Memory
+
+-- the reading of a part that events have too
 abbrev pub as_part : {A : Type 0} → Reading A → Begins A
 as_part (Ok read) = Ok read
-as_part (Err EventShort) = Err Short
-as_part (Err (BadValue field)) = Err Unfit
-as_part (Err EventMemory) = Err Memory
+as_part (Err fault) = Err (part_fault fault)
 
 -- a part that passes its test
 abbrev pub fitting : {A : Type 0} → Bool → A → List ℕ → Begins A

@@ -1,4 +1,4 @@
--- How long a list is that a state stands for, and which kind of value the state keeps.
+-- How long a list is that a state stands for.
 use Rattle.std.specs.Prelude.{◌≡◌, List, length}
 use Rattle.std.proofs.Common.{ap}
 use Rattle.rg_event.specs.declared.value.Value.{Value}

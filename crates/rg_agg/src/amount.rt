@@ -5,7 +5,7 @@ ghost use Rattle.rg_metric.specs.Answers.{number_of};
 use rg_event::Value;
 
 /// The greatest int of a column, and with a minus the least.
-const GREATEST_INT: u64 = 1_000_000_000_000;
+pub const GREATEST_INT: u64 = 1_000_000_000_000;
 
 /// The number of an int from -10^12 to 10^12; none for another value.
 pub(crate) fn amount(value: &Value) -> Option<i128>

@@ -1,5 +1,3 @@
-ghost use Rattle.std.specs.Prelude.{◌≡◌};
-
 use crate::aggregate::Aggregate;
 use crate::fault::{StateFault, Unfit};
 use crate::total::Total;

@@ -1,5 +1,4 @@
-ghost use Rattle.std.specs.Prelude.{◌≡◌, ℕ, ◌<◌, ◌≤◌, ◌^◌, List, ◌∷◌, ◌++◌, IfOk, OnOk, OnErr};
-ghost use Rattle.rg_agg.specs.Held.{counted_at, held_bytes, counted, Agrees};
+ghost use Rattle.std.specs.Prelude.{◌≤◌, ◌^◌};
 
 use crate::aggregate::Aggregate;
 use crate::fault::{StateFault, Unfit};

@@ -1,4 +1,5 @@
 use rg_bytes::{Memory, Short};
+use rg_event::EventFault;
 use std::error::Error;
 use std::fmt;
 
@@ -56,5 +57,20 @@ impl From<Short> for StateFault {
 
     fn from(_short: Short) -> StateFault {
         StateFault::Short
+    }
+}
+
+impl From<EventFault> for StateFault {
+    ghost use Rattle.std.specs.Prelude.{◌≡◌};
+    ghost use Rattle.rg_agg.specs.Held.{part_fault};
+
+    ghost from_gives = { λ event fault. fault ≡ part_fault event };
+
+    fn from(event: EventFault) -> StateFault {
+        match event {
+            EventFault::Short => StateFault::Short,
+            EventFault::BadValue(_) => StateFault::Unfit,
+            EventFault::Memory => StateFault::Memory,
+        }
     }
 }

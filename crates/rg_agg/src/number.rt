@@ -6,10 +6,8 @@ ghost use Rattle.rg_event.specs.Tagged.{value_kind};
 ghost use Rattle.rg_metric.specs.Answers.{number_of};
 ghost use Rattle.rg_metric.specs.Same.{same_value};
 
+use crate::amount::GREATEST_INT;
 use rg_event::{Kind, Value};
-
-/// The greatest int of a column, and with a minus the least.
-const GREATEST_INT: u64 = 1_000_000_000_000;
 
 /// A value that is an int or an id. Those of one kind are ordered as numbers.
 #[derive(Clone, Copy, Debug, PartialEq, Eq, PartialOrd, Ord)]

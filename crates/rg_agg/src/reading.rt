@@ -9,11 +9,11 @@ ghost use Rattle.rg_event.specs.Tagged.{tagged_bytes};
 use crate::fault::StateFault;
 use crate::number::Number;
 use rg_bytes::{ByteReader, Memory, put_u8, put_u64};
-use rg_event::{EventFault, get_tagged};
+use rg_event::get_tagged;
 use std::alloc::Global;
 
 /// How many values a state stands for at most.
-const GREATEST_SIZE: u64 = 1_099_511_627_776;
+pub const GREATEST_SIZE: u64 = 1_099_511_627_776;
 
 /// Writes a tag and the number of values at the end. Where memory runs out a front of it may stand there.
 pub fn put_size(tag: u8, size: u64, out: &mut Vec<u8>) -> Result<(), Memory>
@@ -47,13 +47,9 @@ pub fn read_number(alloc: Global, from: &mut ByteReader<'_>) -> Result<Number, S
     ensures ok { IfOk result (λ number. from.old ≡ tagged_bytes (value_of number) ++ from.new) }
     ensures legal { IfOk result (λ number. IsNumber (value_of number)) }
 {
-    match get_tagged(alloc, from) {
-        Ok(value) => match Number::of(&value) {
-            Some(number) => Ok(number),
-            None => Err(StateFault::Unfit),
-        },
-        Err(EventFault::Short) => Err(StateFault::Short),
-        Err(EventFault::BadValue(_)) => Err(StateFault::Unfit),
-        Err(EventFault::Memory) => Err(StateFault::Memory),
+    let value = get_tagged(alloc, from)?;
+    match Number::of(&value) {
+        Some(number) => Ok(number),
+        None => Err(StateFault::Unfit),
     }
 }

@@ -7,7 +7,7 @@ ghost use Rattle.rg_metric.specs.Answers.{number_of};
 use crate::aggregate::Aggregate;
 use crate::amount::amount;
 use crate::fault::{StateFault, Unfit};
-use crate::reading::{put_size, read_size};
+use crate::reading::read_size;
 use crate::total::put_total;
 use rg_bytes::{ByteReader, Memory};
 use rg_event::{Kind, Value};

@@ -1,18 +1,15 @@
-ghost use Rattle.std.specs.Prelude.{◌≡◌, ℕ, ◌+◌, ◌<◌, ◌≤◌, ◌^◌, pos, List, [], ◌∷◌, ◌++◌, IfOk, OnOk, OnErr, IsTrue};
+ghost use Rattle.std.specs.Prelude.{◌≡◌, ◌+◌, ◌<◌, ◌≤◌, ◌^◌, pos, List, [], ◌∷◌, ◌++◌, IfOk, OnOk, OnErr, IsTrue};
 ghost use Rattle.std.specs.Int.{w64, to_be_bytes};
 ghost use Rattle.rg_agg.specs.Held.{is_sum, sum_bytes, total_at, Agrees};
 ghost use Rattle.rg_agg.specs.Stands.{IsInt, IsTotal};
 ghost use Rattle.rg_event.specs.Keeps.{Keeps};
 ghost use Rattle.rg_event.specs.declared.value.Value.{Value};
 
-use crate::amount::amount;
+use crate::amount::{GREATEST_INT, amount};
 use crate::fault::{StateFault, Unfit};
 use crate::reading::{put_size, read_size};
 use rg_bytes::{ByteReader, Memory, put_i128};
 use rg_event::Value;
-
-/// The greatest int of a column.
-const GREATEST_INT: u128 = 1_000_000_000_000;
 
 /// How many ints there are, and their sum.
 #[derive(Debug, Drop)]
@@ -120,7 +117,7 @@ fn is_within(count: u64, sum: i128) -> bool
     requires { count ≤ 2 ^ 40 }
     ensures { result ≡ is_sum count sum }
 {
-    sum.unsigned_abs() <= count as u128 * GREATEST_INT
+    sum.unsigned_abs() <= count as u128 * GREATEST_INT as u128
 }
 
 /// Writes a tag, a count and a sum at the end. Where memory runs out a front of it may stand there.

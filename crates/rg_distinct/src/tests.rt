@@ -1,25 +1,14 @@
-ghost use Rattle.std.specs.Prelude.{IfOk, IsTrue};
-ghost use Rattle.rg_agg.specs.Standing.{IsLike};
+ghost use Rattle.std.specs.Prelude.{IfOk};
 ghost use Rattle.rg_event.specs.Tagged.{IsLegal};
 
 use crate::{Aggregate, Distinct};
-use rg_agg::{StateFault, Unfit};
+use rg_agg::{StateFault, Unfit, is_like};
 use rg_bytes::{ByteReader, Memory};
 use rg_event::{Kind, Value, Word};
 use rg_metric::Answer;
 use std::alloc::Global;
 use std::process::Abort;
 use std::test::Fail;
-
-/// Whether a value is of this kind, if there is one.
-fn is_like(kind: Option<Kind>, value: &Value) -> bool
-    ensures { IsTrue result → IsLike kind value.now }
-{
-    match kind {
-        Some(kind) => value.kind() == kind,
-        None => true,
-    }
-}
 
 /// Adds a value to a state of few values of its kind.
 fn add(rt: &impl Abort, distinct: &mut Distinct, value: &Value) -> Result<(), Memory>

@@ -1,17 +1,18 @@
 -- The least and the greatest of a list of values.
 use Rattle.std.proofs.Common.{◌≡◌, ℕ, ◌<◌, ℤ, Bool, true, false, List, [], ◌∷◌, ◌⊎◌, inl, inr, refl, ap, sym, ◌∙◌, arith}
 use Rattle.std.specs.Prelude.{int_lt, ⊤}
+use Rattle.std.proofs.lemmas.Bool.{true≢false}
 use Rattle.std.proofs.lemmas.Bool.Decides.{Decides-int_eq}
 use Rattle.rg_agg.specs.Standing.{AreCounts, count_in, places}
 use Rattle.rg_event.specs.declared.value.Value.{Value}
 use Rattle.rg_metric.specs.Answers.{answer_of, number_of, numbers, least, greatest}
 use Rattle.rg_metric.specs.Same.{same_value}
-use Rattle.rg_metric.proofs.Same.{same_value-true, same_value-same}
+use Rattle.rg_metric.proofs.Same.{same_value-true}
 use Rattle.rg_metric.specs.declared.answer.Answer.TheVariants.{Number}
 use Rattle.rg_words.specs.declared.func.Func.TheVariants.{Min, Max}
 use Rattle.rg_tally.specs.Pairs.{once}
 use Rattle.rg_tally.specs.Reading.{is_less}
-use Rattle.rg_tally.proofs.Places.{places_first}
+use Rattle.rg_tally.proofs.Places.{places_first, first_place}
 
 -- a number of these
 abbrev Among : ℤ → List ℤ → Type 0
@@ -27,9 +28,6 @@ abbrev NoneGreater : ℤ → List ℤ → Type 0
 NoneGreater m [] = ⊤
 NoneGreater m (n ∷ ns) = (int_lt m n ≡ false) × NoneGreater m ns
 
-contrary : (b : Bool) → b ≡ true → b ≡ false → ⊥
-contrary b holds fails = cc
-
 -- neither is less, so they are the same
 level : (a b : ℤ) → int_lt a b ≡ false → int_lt b a ≡ false → a ≡ b
 level a b one two = (Decides-int_eq a b).0 (rw (one, two) refl)
@@ -41,7 +39,7 @@ least_is m n (k ∷ ns) among none = by (int_lt k n) refl among
     (λ a. least_is m k ns a none.1) (λ a. least_is m n ns a (none.0, none.1.1))
   where
     by : (b : Bool) → int_lt k n ≡ b → Among m (n ∷ (k ∷ ns)) → (Among m (k ∷ ns) → least k ns ≡ m) → (Among m (n ∷ ns) → least n ns ≡ m) → least n (k ∷ ns) ≡ m
-    by true is (inl first) second_on first_on = absurd (contrary (int_lt k n) is (ap (int_lt k) (sym first) ∙ none.1.0))
+    by true is (inl first) second_on first_on = absurd (true≢false (sym is ∙ (ap (int_lt k) (sym first) ∙ none.1.0)))
     by true is (inr rest) second_on first_on = rw is (second_on rest)
     by false is (inl first) second_on first_on = rw is (first_on (inl first))
     by false is (inr (inl second)) second_on first_on =
@@ -56,18 +54,13 @@ greatest_is m n (k ∷ ns) among none = by (int_lt n k) refl among
     (λ a. greatest_is m k ns a none.1) (λ a. greatest_is m n ns a (none.0, none.1.1))
   where
     by : (b : Bool) → int_lt n k ≡ b → Among m (n ∷ (k ∷ ns)) → (Among m (k ∷ ns) → greatest k ns ≡ m) → (Among m (n ∷ ns) → greatest n ns ≡ m) → greatest n (k ∷ ns) ≡ m
-    by true is (inl first) second_on first_on = absurd (contrary (int_lt n k) is (ap (λ x. int_lt x k) (sym first) ∙ none.1.0))
+    by true is (inl first) second_on first_on = absurd (true≢false (sym is ∙ (ap (λ x. int_lt x k) (sym first) ∙ none.1.0)))
     by true is (inr rest) second_on first_on = rw is (second_on rest)
     by false is (inl first) second_on first_on = rw is (first_on (inl first))
     by false is (inr (inl second)) second_on first_on =
         let same : n ≡ k = level n k is (ap (λ x. int_lt x n) (sym second) ∙ none.0) in
         rw is (first_on (inl (second ∙ sym same)))
     by false is (inr (inr rest)) second_on first_on = rw is (first_on (inr rest))
-
-first_place : (v : Value) (values : List Value) → 0 < places v (v ∷ values)
-first_place v values =
-    let one : once v v ≡ 1 = rw (same_value-same v) refl in
-    omega (arith, one, places_first v v values)
 
 later_place : (u v : Value) (values : List Value) → 0 < places u values → 0 < places u (v ∷ values)
 later_place u v values some = omega (arith, some, places_first u v values)

@@ -1,9 +1,7 @@
-ghost use Rattle.std.specs.Prelude.{◌≡◌, ℕ, ◌+◌, ◌<◌, ◌≤◌, ◌^◌, List, [], ◌∷◌, ◌++◌, IfOk, OnOk, OnErr};
-ghost use Rattle.std.specs.List.{All};
+ghost use Rattle.std.specs.Prelude.{◌≡◌, ℕ, ◌+◌, ◌<◌, ◌^◌, List, [], ◌∷◌, ◌++◌, IfOk, OnOk, OnErr};
 ghost use Rattle.rg_agg.specs.Held.{Agrees, Returns, counts_bytes, number_value_at};
 ghost use Rattle.rg_agg.specs.Standing.{AreCounts, IsLike, counts_sum, pairs_kind};
 ghost use Rattle.rg_agg.specs.Stands.{IsNumber};
-ghost use Rattle.rg_event.specs.Tagged.{value_kind};
 ghost use Rattle.rg_event.specs.declared.value.Value.{Value};
 ghost use Rattle.rg_extreme.specs.Extremes.{IsTally-numbers};
 ghost use Rattle.rg_metric.specs.Answers.{answer_of};
@@ -13,7 +11,7 @@ ghost use Rattle.rg_words.specs.declared.func.Func.TheVariants.{Min, Max};
 
 use rg_agg::{Number, StateFault, Unfit};
 use rg_bytes::{ByteReader, Memory};
-use rg_event::{Kind, Value};
+use rg_event::Value;
 use rg_metric::Answer;
 use rg_tally::Tally;
 use std::alloc::Global;

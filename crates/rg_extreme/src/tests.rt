@@ -1,22 +1,9 @@
-ghost use Rattle.std.specs.Prelude.{IsTrue};
-ghost use Rattle.rg_agg.specs.Standing.{IsLike};
-
 use crate::{Aggregate, Max, Min};
-use rg_agg::{Answer, StateFault, Unfit};
+use rg_agg::{Answer, StateFault, Unfit, is_like};
 use rg_bytes::{ByteReader, Memory};
 use rg_event::{Kind, Value};
 use std::process::Abort;
 use std::test::Fail;
-
-/// Whether a value is of this kind, if there is one.
-fn is_like(kind: Option<Kind>, value: &Value) -> bool
-    ensures { IsTrue result → IsLike kind value.now }
-{
-    match kind {
-        Some(kind) => value.kind() == kind,
-        None => true,
-    }
-}
 
 /// Adds a value to a state of few values of its kind.
 fn add<A: Aggregate>(rt: &impl Abort, state: &mut A, value: Value) -> Result<(), Memory>

@@ -79,13 +79,6 @@ sound_inserted (Ok done) old new key state sound ordered updates same some short
 sound_inserted (Err refused) old new key state sound ordered updates same some short =
     sound_from old new key sound ordered (λ k apart. unchanged old new same k) (λ other is. let e : find old key ≡ Some other = sym (unchanged old new same key) ∙ is in (sound.filled key other e, sound.short key other e))
 
--- a row whose state was written, and that was taken out then
-pub sound_taken : (old written new : Map) (key : List ℕ) (was state : AggState) → IsSound old → find old key ≡ Some was → WritesThrough (slice_cmp nat_cmp) (slice_cmp nat_cmp key) old state written → IsOrdered (slice_cmp nat_cmp) new → UpdatesBy (slice_cmp nat_cmp) (slice_cmp nat_cmp key) written new None → IsSound new
-sound_taken old written new key was state sound found writes ordered updates =
-    sound_from old new key sound ordered
-    (λ k apart. updated_others written new key None updates k apart ∙ updated_others old written key (Some state) (wrote old written key was state found writes) k apart)
-    (λ other is. absurd (none_some other (sym updates.1 ∙ is)))
-
 -- what a call leaves of a state that isn't empty
 pub kept_some : {A E : Type 0} (result : Result A E) (old new : AggState) → OnOk result (0 < size_in (held_of new)) → OnErr result (held_of new ≡ held_of old) → 0 < size_in (held_of old) → 0 < size_in (held_of new)
 kept_some (Ok done) old new some same was = some

@@ -1,6 +1,6 @@
 -- Rows as they are written, one after another.
 use Rattle.std.proofs.Common.{◌≡◌, ℕ, suc, ◌+◌, ◌<◌, List, [], ◌∷◌, ◌++◌, length, drop, get_or, refl, ap, sym, ◌∙◌, append_assoc, append-nil, arith}
-use Rattle.std.proofs.Math.Seq.{drop-cons, drop-length}
+use Rattle.std.proofs.Math.Seq.{drop-cons}
 use Rattle.std.specs.Prelude.{Result, Ok, Err, OnErr}
 use Rattle.rg_state.specs.Cells.{node_entries, entries_from}
 use Rattle.rg_state.specs.Rows.{Entry, entry_bytes, entries_bytes}
@@ -37,9 +37,3 @@ node_more whole out new node nodes rows there is pushed to_come =
     ∙ ap (λ bytes. out ++ bytes) (sym (bytes_join (node_entries node rows.map.entries) behind)) ∙ ap (λ more. out ++ entries_bytes (entries_from node more)) (sym split) ∙ to_come in
     let one : node + 1 ≡ suc node = omega arith in
     ap (λ n. new ++ entries_bytes (entries_from n (drop n nodes))) one ∙ next
-
--- no node is left
-pub nodes_end : (whole out : List ℕ) (node : ℕ) (nodes : List NodeRows) → node ≡ length nodes → out ++ entries_bytes (entries_from node (drop node nodes)) ≡ whole → out ≡ whole
-nodes_end whole out node nodes all to_come =
-    let none : drop node nodes ≡ [] = ap (λ n. drop n nodes) all ∙ drop-length nodes in
-    sym (append-nil out) ∙ ap (λ more. out ++ entries_bytes (entries_from node more)) (sym none) ∙ to_come

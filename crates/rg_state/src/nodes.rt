@@ -19,7 +19,7 @@ use rg_group::Key;
 use rg_metric::{Answer, Func};
 use std::alloc::Global;
 
-/// Makes the nodes up to this one, each without a row.
+/// Makes the nodes up to this one, each without a row. Where memory runs out some may have been made, none with a row.
 pub(crate) fn make_nodes(alloc: Global, nodes: &mut Vec<NodeRows>, node: u32) -> Result<(), Memory>
     ensures ok { OnOk result (node < length nodes.new.items) }
     ensures few { length nodes.new.items ≤ max (length nodes.old.items) (node + 1) }

@@ -4,11 +4,8 @@ ghost use Rattle.rg_event.specs.declared.value.Value.{Value};
 ghost use Rattle.rg_state.specs.Rows.{AreLike};
 ghost use Rattle.rg_state.specs.Kinds.{IsSame};
 
-use rg_agg::Aggregate;
+use rg_agg::{Aggregate, GREATEST_SIZE, is_like};
 use rg_event::{Kind, Value};
-
-/// The greatest number of values that a state stands for.
-const GREATEST_SIZE: u64 = 1_099_511_627_776;
 
 /// Why a state stays as it is.
 #[derive(Clone, Copy, Debug, PartialEq, Eq, Hash)]
@@ -61,16 +58,6 @@ pub(crate) fn keeps_kind<A: Aggregate>(state: &A, kind: Option<Kind>) -> bool
 {
     match state.kind() {
         Some(kept) => kind == Some(kept),
-        None => true,
-    }
-}
-
-/// Whether a value is of that kind, if there is one.
-fn is_like(kind: Option<Kind>, value: &Value) -> bool
-    ensures { IsTrue result ↔ IsLike kind value.now }
-{
-    match kind {
-        Some(kind) => value.kind() == kind,
         None => true,
     }
 }

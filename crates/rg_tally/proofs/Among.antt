@@ -18,6 +18,7 @@ use Rattle.rg_event.specs.declared.value.Value.{Value}
 use Rattle.rg_metric.specs.Same.{same_value}
 use Rattle.rg_metric.proofs.Same.{same_value-true, same_value-same}
 use Rattle.rg_tally.specs.Pairs.{pairs_by, once, AreOf, AreAlike, IsTally}
+use Rattle.rg_tally.proofs.Counting.{some_same}
 use Rattle.rg_tally.proofs.Kept.{some_kind, alike_with, alike_of}
 use Rattle.rg_tally.proofs.Order.{Orders, rising}
 use Rattle.rg_tally.proofs.Places.{places_first}
@@ -34,27 +35,24 @@ alike_added legal value old new alike like kept = alike_of legal (value_kind val
 pub alike_kept : (legal : Value → Type 0) (old new : List (Value × ℕ)) → AreAlike legal old → ((kind : Kind) → AreOf legal kind old → AreOf legal kind new) → AreAlike legal new
 alike_kept legal old new alike kept = let kind = some_kind legal old Int alike in alike_of legal kind.0 new (kept kind.0 kind.1)
 
-pair_same : {A : Type 0} {p q : A} → Some p ≡ Some q → p ≡ q
-pair_same e = cc
-
 -- the first entry
 pub first_there : {K : Type 0} (f : K → Value) (legal : Value → Type 0) (es : List (K × ℕ)) (k : K) (n : ℕ) → AreAlike legal (pairs_by f es) → slice_get es 0 ≡ Some (k, n) → legal (f k) × (0 < count_in (f k) (pairs_by f es))
 first_there f legal [] k n alike is = cc
 first_there {K} f legal (e ∷ es) k n alike is =
     let are = alike (value_kind (f e.0)) refl in
-    let same : e ≡ (k, n) = pair_same is in
+    let same : e ≡ (k, n) = some_same is in
     let one : f e.0 ≡ f k = ap (λ (p : K × ℕ). f p.0) same in
     let P : Value → Type 0 = λ v. legal v × (0 < count_in v (pairs_by f (e ∷ es))) in
     subst P one (are.0, rw (same_value-same (f e.0)) are.2)
 
 pub first_kind_is : {K : Type 0} (f : K → Value) (es : List (K × ℕ)) (k : K) (n : ℕ) → slice_get es 0 ≡ Some (k, n) → pairs_kind (pairs_by f es) ≡ Some (value_kind (f k))
 first_kind_is f [] k n is = cc
-first_kind_is {K} f (e ∷ es) k n is = ap (λ (p : K × ℕ). Some (value_kind (f p.0))) (pair_same is)
+first_kind_is {K} f (e ∷ es) k n is = ap (λ (p : K × ℕ). Some (value_kind (f p.0))) (some_same is)
 
 -- the last entry
 last_count : {K : Type 0} (f : K → Value) (legal : Value → Type 0) (kind : Kind) (e : K × ℕ) (es : List (K × ℕ)) (k : K) (n : ℕ) → AreOf legal kind (pairs_by f (e ∷ es)) → slice_get (e ∷ es) (length es) ≡ Some (k, n) → 0 < count_in (f k) (pairs_by f (e ∷ es))
 last_count {K} f legal kind e [] k n are is =
-    let one : f e.0 ≡ f k = ap (λ (p : K × ℕ). f p.0) (pair_same is) in
+    let one : f e.0 ≡ f k = ap (λ (p : K × ℕ). f p.0) (some_same is) in
     let P : Value → Type 0 = λ v. 0 < count_in v (pairs_by f (e ∷ [])) in
     subst P one (rw (same_value-same (f e.0)) are.2)
 last_count {K} f legal kind e (d ∷ es) k n are is = by (same_value (f k) (f e.0)) refl (last_count f legal kind d es k n are.3 is)
@@ -114,7 +112,7 @@ first_are f legal es k n alike is = alike (value_kind (f k)) (first_kind_is f es
 
 last_of : {K : Type 0} (f : K → Value) (legal : Value → Type 0) (kind : Kind) (e : K × ℕ) (es : List (K × ℕ)) (k : K) (n : ℕ) → AreOf legal kind (pairs_by f (e ∷ es)) → slice_get (e ∷ es) (length es) ≡ Some (k, n) → legal (f k) × (value_kind (f k) ≡ kind)
 last_of {K} f legal kind e [] k n are is =
-    let one : f e.0 ≡ f k = ap (λ (p : K × ℕ). f p.0) (pair_same is) in
+    let one : f e.0 ≡ f k = ap (λ (p : K × ℕ). f p.0) (some_same is) in
     let P : Value → Type 0 = λ v. legal v × (value_kind v ≡ kind) in
     subst P one (are.0, are.1)
 last_of f legal kind e (d ∷ es) k n are is = last_of f legal kind d es k n are.3 is

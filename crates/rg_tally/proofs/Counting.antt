@@ -1,5 +1,6 @@
 -- How the counts of values change with the entries of a map.
 use Rattle.std.proofs.Common.{◌≡◌, ℕ, ◌+◌, ◌<◌, ◌≤◌, Bool, true, false, List, [], ◌∷◌, Some, None, if◌then◌else◌, refl, ap, sym, ◌∙◌, arith}
+use Rattle.std.proofs.lemmas.Bool.{true≢false}
 use Rattle.std.specs.declared.cmp.Ordering.{Ordering}
 use Rattle.std.specs.declared.cmp.Ordering.TheVariants.{Less, Equal, Greater}
 use Rattle.std.specs.Ordering.{is_eq}
@@ -23,10 +24,7 @@ often value other n = if same_value value other then n else 0
 no_some : {n : ℕ} → Some n ≡ None → ⊥
 no_some e = cc
 
-contrary : (b : Bool) → b ≡ true → b ≡ false → ⊥
-contrary b holds fails = cc
-
-pub some_same : {n m : ℕ} → Some n ≡ Some m → n ≡ m
+pub some_same : {A : Type 0} {n m : A} → Some n ≡ Some m → n ≡ m
 some_same e = cc
 
 -- a test that fails one way fails the other way
@@ -34,7 +32,7 @@ pub other_way : (v w : Value) → same_value v w ≡ false → same_value w v �
 other_way v w fails = by (same_value w v) refl
   where
     by : (b : Bool) → same_value w v ≡ b → same_value w v ≡ false
-    by true is = absurd (contrary (same_value v w) (rw (same_value-true w v is) (same_value-same v)) fails)
+    by true is = let holds : same_value v w ≡ true = rw (same_value-true w v is) (same_value-same v) in absurd (true≢false (sym holds ∙ fails))
     by false is = is
 
 pub none_there : {K : Type 0} (cmp : K → K → Ordering) (f : K → Value) → Tells cmp f → (k : K) (es : List (K × ℕ)) → lookup (is_at (cmp k)) es ≡ None → count_in (f k) (pairs_by f es) ≡ 0
@@ -177,9 +175,6 @@ lowered cmp f tells k n m es new some one is = record {
       let e : count_in v (pairs_by f (set_value (is_at (cmp k)) es m)) + often v (f k) (m + 1) ≡ count_in v (pairs_by f es) + often v (f k) m = rw one at (set_counts cmp f tells k v n m es some) in
       rw is (once_more v (f k) (count_in v (pairs_by f es)) _ m (sym e));
 }
-
-once_often : (v w : Value) → often v w 1 ≡ once v w
-once_often v w = refl
 
 pub removed : {K : Type 0} (cmp : K → K → Ordering) (f : K → Value) → Tells cmp f → (k : K) (es new : List (K × ℕ)) → lookup (is_at (cmp k)) es ≡ Some 1 → new ≡ remove_entry (is_at (cmp k)) es → lookup (is_at (cmp k)) new ≡ None → OneMore (f k) (pairs_by f new) (pairs_by f es)
 removed cmp f tells k es new some is none = record {

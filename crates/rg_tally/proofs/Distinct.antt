@@ -14,7 +14,7 @@ use Rattle.rg_metric.specs.Same.{same_value}
 use Rattle.rg_metric.proofs.Same.{same_value-true, same_value-same}
 use Rattle.rg_tally.specs.Pairs.{pairs_by, once, AreOf}
 use Rattle.rg_tally.proofs.Counting.{Tells}
-use Rattle.rg_tally.proofs.Places.{places_first}
+use Rattle.rg_tally.proofs.Places.{places_first, first_place}
 
 -- the value has a place in the list
 abbrev has : Value → List Value → Bool
@@ -52,11 +52,6 @@ without_places v u (w ∷ ws) some = by (same_value v w) refl (λ h. without_pla
         let no : once v w ≡ 0 = rw is refl in
         let more : places u ws ≡ places u (without v ws) + once u v = rest (omega (arith, some, no, places_first v w ws)) in
         rw is (omega (arith, more, places_first u w ws, places_first u w (without v ws)))
-
-first_place : (v : Value) (values : List Value) → 0 < places v (v ∷ values)
-first_place v values =
-    let one : once v v ≡ 1 = rw (same_value-same v) refl in
-    omega (arith, one, places_first v v values)
 
 -- a value that is the same as one that was there before is no fresh one
 fresh_old : (v : Value) (earlier vs : List Value) (u : Value) → has v earlier ≡ true → fresh earlier u (v ∷ vs) ≡ fresh (v ∷ earlier) u vs

@@ -13,6 +13,7 @@ use Rattle.rg_event.specs.declared.value.Kind.{Kind}
 use Rattle.rg_event.specs.declared.value.Value.{Value}
 use Rattle.rg_tally.specs.Pairs.{pairs_by, AreOf, AreAlike}
 use Rattle.rg_tally.specs.Reading.{last_kept, same_kind, comes_behind}
+use Rattle.rg_tally.proofs.Counting.{some_same}
 
 pub set_are : {K : Type 0} (f : K → Value) (legal : Value → Type 0) (kind : Kind) (test : K → Bool) (m : ℕ) (es : List (K × ℕ)) → 0 < m → AreOf legal kind (pairs_by f es) → AreOf legal kind (pairs_by f (set_value test es m))
 set_are f legal kind test m [] some are = are
@@ -90,12 +91,9 @@ pub sum_append : (pairs : List (Value × ℕ)) (value : Value) (n : ℕ) → cou
 sum_append [] value n = omega arith
 sum_append (pair ∷ pairs) value n = let rest : counts_sum (pairs ++ (value, n) ∷ []) ≡ counts_sum pairs + n = sum_append pairs value n in omega arith
 
-pair_same : {A : Type 0} {p q : A} → Some p ≡ Some q → p ≡ q
-pair_same e = cc
-
 last_at : {K : Type 0} (f : K → Value) (legal : Value → Type 0) (kind : Kind) (e : K × ℕ) (es : List (K × ℕ)) (k : K) (n : ℕ) → AreOf legal kind (pairs_by f (e ∷ es)) → slice_get (e ∷ es) (length es) ≡ Some (k, n) → (last_kept (pairs_by f (e ∷ es)) ≡ Some (f k)) × legal (f k)
 last_at {K} f legal kind e [] k n are is =
-    let same : e ≡ (k, n) = pair_same is in
+    let same : e ≡ (k, n) = some_same is in
     let one : f e.0 ≡ f k = ap (λ (p : K × ℕ). f p.0) same in
     (ap (λ v. Some v) one, subst legal one are.0)
 last_at f legal kind e (d ∷ es) k n are is = last_at f legal kind d es k n are.3 is

@@ -12,6 +12,11 @@ use Rattle.rg_tally.specs.Pairs.{once, AreAlike, AreOf, IsTally, OneMore}
 pub places_first : (v w : Value) (values : List Value) → places v (w ∷ values) ≡ once v w + places v values
 places_first v w values = sum_by-cons (λ x. if same_value v x then 1 else 0) w values
 
+pub first_place : (v : Value) (values : List Value) → 0 < places v (v ∷ values)
+first_place v values =
+    let one : once v v ≡ 1 = rw (same_value-same v) refl in
+    omega (arith, one, places_first v v values)
+
 places_more : (v : Value) (values : List Value) (value : Value) → places v (values ++ value ∷ []) ≡ places v values + once v value
 places_more v values value = sum_by-append (λ x. if same_value v x then 1 else 0) values (value ∷ []) ∙ omega arith
 

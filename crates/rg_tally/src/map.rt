@@ -1,4 +1,4 @@
-ghost use Rattle.std.specs.Prelude.{◌≡◌, ℕ, ◌+◌, ◌-◌, ◌<◌, ◌≤◌, ◌^◌, ◌==◌, true, false, Some, None, [], ◌∷◌, ◌++◌, IsTrue, IfOk, OnOk, OnErr, IsErr, if◌then◌else◌};
+ghost use Rattle.std.specs.Prelude.{◌≡◌, ◌+◌, ◌-◌, ◌<◌, ◌^◌, ◌==◌, true, false, Some, None, [], ◌∷◌, ◌++◌, IsTrue, IfOk, OnOk, OnErr, IsErr};
 ghost use Rattle.std.specs.BTreeMap.{get, IsOrdered};
 ghost use Rattle.rg_agg.specs.Held.{pairs_bytes};
 ghost use Rattle.rg_agg.specs.Standing.{counts_sum, count_in};
@@ -83,7 +83,6 @@ pub(crate) fn remove_in<K: Ranked>(map: &mut BTreeMap<K, u64>, key: &K) -> bool
     };
     if is_last {
         map.remove(key);
-        return true;
     }
     true
 }

@@ -8,12 +8,9 @@ ghost use Rattle.rg_tally.specs.Reading.{behind_at, comes_behind, count_at, is_c
 
 use crate::ranked::Ranked;
 use crate::tally::Tally;
-use rg_agg::StateFault;
+use rg_agg::{GREATEST_SIZE, StateFault};
 use rg_bytes::ByteReader;
 use std::alloc::Global;
-
-/// How many values there are at most, each as often as it is there.
-const GREATEST_SIZE: u64 = 1_099_511_627_776;
 
 /// Takes a tag and values with their counts. A refusal may leave the reader in mid-way.
 pub(crate) fn read_tally<K: Ranked>(

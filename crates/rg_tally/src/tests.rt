@@ -1,22 +1,9 @@
-ghost use Rattle.std.specs.Prelude.{IsTrue};
-ghost use Rattle.rg_agg.specs.Standing.{IsLike};
-
 use crate::Tally;
-use rg_agg::{Number, Unfit};
+use rg_agg::{Number, Unfit, is_like};
 use rg_bytes::{ByteReader, Memory};
 use rg_event::{Kind, Value};
 use std::process::Abort;
 use std::test::Fail;
-
-/// Whether a value is of this kind, if there is one.
-fn is_like(kind: Option<Kind>, value: &Value) -> bool
-    ensures { IsTrue result → IsLike kind value.now }
-{
-    match kind {
-        Some(kind) => value.kind() == kind,
-        None => true,
-    }
-}
 
 /// Counts a number once more in a tally of few numbers of its kind.
 fn count(rt: &impl Abort, tally: &mut Tally<Number>, value: &Value) -> Result<(), Memory> {

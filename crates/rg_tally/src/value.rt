@@ -1,7 +1,7 @@
 use crate::ranked::Ranked;
 use rg_agg::StateFault;
 use rg_bytes::{ByteReader, Memory};
-use rg_event::{EventFault, Kind, Value, get_tagged, put_tagged};
+use rg_event::{Kind, Value, get_tagged, put_tagged};
 use std::alloc::Global;
 
 /// Values of each kind are kept as their tagged bytes rise.
@@ -31,12 +31,7 @@ impl Ranked for Value {
     }
 
     fn read(alloc: Global, from: &mut ByteReader<'_>) -> Result<Value, StateFault> {
-        match get_tagged(alloc, from) {
-            Ok(value) => Ok(value),
-            Err(EventFault::Short) => Err(StateFault::Short),
-            Err(EventFault::BadValue(_)) => Err(StateFault::Unfit),
-            Err(EventFault::Memory) => Err(StateFault::Memory),
-        }
+        Ok(get_tagged(alloc, from)?)
     }
 
     ghost tells = { value_tells };

@@ -37,12 +37,12 @@ returns-then-is_last-clause-kept g c = λ kind are.
     let last = c.lower-is_last.ensures.last c.if-is_last.true in
     rw (same_entries _ n c.lower-is_last.new.count entries _ _ (sym c.in-Some.ensures.value) last.1 (c.get_mut.follows.holds c.lower-is_last.new.count).0 c.remove.ensures.entries) (remove_are f g.K.Ranked.legal kind _ entries are)
 
-pub returns-clause-there : goal.returns-clause-there
-returns-clause-there g c = λ _.
+pub returns-else-is_last-clause-there : goal.returns-else-is_last-clause-there
+returns-else-is_last-clause-there g c = λ _.
     let more = c.lower-is_last.ensures.more c.if-is_last.false in
     lowered g.K.Ord.cmp g.K.Ranked.value_of g.met.K.Ranked.tells c.args.key.now c.in-Some.count.now c.lower-is_last.new.count c.args.map.now.entries _ (sym c.in-Some.ensures.value) (omega (arith, more.0, more.1)) (c.get_mut.follows.holds c.lower-is_last.new.count).0
 
-pub returns-clause-kept : goal.returns-clause-kept
-returns-clause-kept g c = λ kind are.
+pub returns-else-is_last-clause-kept : goal.returns-else-is_last-clause-kept
+returns-else-is_last-clause-kept g c = λ kind are.
     let more = c.lower-is_last.ensures.more c.if-is_last.false in
     rw ((c.get_mut.follows.holds c.lower-is_last.new.count).0) (set_are g.K.Ranked.value_of g.K.Ranked.legal kind _ c.lower-is_last.new.count c.args.map.now.entries (omega (arith, more.0, more.1)) are)

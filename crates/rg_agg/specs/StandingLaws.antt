@@ -5,13 +5,13 @@ use Rattle.rg_event.specs.declared.value.Value.{Value}
 use Rattle.rg_agg.specs.Held.{Held, counted, summed, averaged, squared, queued, ended, lowest, highest, varied}
 use Rattle.rg_agg.specs.Standing.{Stands, size_in}
 
-pub Stands-length : (held : Held) (values : List Value) → Stands held values → size_in held ≡ length values
-Stands-length (counted n) values stands = stands
-Stands-length (summed n sum) values stands = stands.count
-Stands-length (averaged n sum) values stands = stands.count
-Stands-length (squared n sum) values stands = stands.count
-Stands-length (queued kept) values stands = ap length stands
-Stands-length (ended n last) values stands = stands.count
-Stands-length (lowest pairs) values stands = stands.0
-Stands-length (highest pairs) values stands = stands.0
-Stands-length (varied pairs) values stands = stands.0
+pub stands_length : (held : Held) (values : List Value) → Stands held values → size_in held ≡ length values
+stands_length (counted n) values stands = stands
+stands_length (summed n sum) values stands = stands.count
+stands_length (averaged n sum) values stands = stands.count
+stands_length (squared n sum) values stands = stands.count
+stands_length (queued kept) values stands = ap length stands
+stands_length (ended n last) values stands = stands.count
+stands_length (lowest pairs) values stands = stands.0
+stands_length (highest pairs) values stands = stands.0
+stands_length (varied pairs) values stands = stands.0

@@ -1,4 +1,4 @@
-ghost use Rattle.std.specs.Prelude.{◌≡◌, ℕ, ◌+◌, ◌<◌, ◌≤◌, ◌^◌, ◌==◌, None, List, [], ◌∷◌, ◌++◌, IfOk, OnOk, OnErr, IsErr};
+ghost use Rattle.std.specs.Prelude.{◌≡◌, ◌↔◌, ℕ, ◌+◌, ◌<◌, ◌≤◌, ◌^◌, ◌==◌, None, List, [], ◌∷◌, ◌++◌, length, IfOk, OnOk, OnErr, IsErr, IsTrue};
 ghost use Rattle.std.specs.List.{All};
 ghost use Rattle.rg_agg.specs.Held.{Held, Begins, held_bytes, Agrees, Returns};
 ghost use Rattle.rg_agg.specs.Standing.{Stands, IsLike, func_of, kind_in, size_in};
@@ -42,12 +42,14 @@ pub trait Aggregate {
 
     /// Whether it stands for no values.
     fn is_empty(&self) -> bool
-        ensures { result ≡ (size_in (held self.now) == 0) };
+        ensures size { result ≡ (size_in (held self.now) == 0) }
+        ensures none { (values : List Value) → Stands (held self.now) values → IsTrue result ↔ (values ≡ []) };
 
     /// How many values it stands for, at most 2^40.
     fn size(&self) -> u64
         ensures size { result ≡ size_in (held self.now) }
-        ensures few { result ≤ 2 ^ 40 };
+        ensures few { result ≤ 2 ^ 40 }
+        ensures length { (values : List Value) → Stands (held self.now) values → result ≡ length values };
 
     /// The kind of the values that it keeps; none where it keeps none of them.
     fn kind(&self) -> Option<Kind>

@@ -1,5 +1,5 @@
 -- Rows of a map after a write, and that the map stays sound.
-use Rattle.std.proofs.Common.{◌≡◌, ℕ, ◌<◌, ◌^◌, Bool, true, false, List, length, Option, Some, None, Result, Ok, Err, OnOk, OnErr, refl, ap, sym, ◌∙◌, subst}
+use Rattle.std.proofs.Common.{◌≡◌, ℕ, ◌+◌, ◌<◌, ◌^◌, Bool, true, false, List, length, Option, Some, None, Result, Ok, Err, OnOk, OnErr, refl, ap, sym, ◌∙◌, subst, arith}
 use Rattle.std.specs.Prelude.{IsSome, bytes_eq}
 use Rattle.std.specs.Option.{option_map}
 use Rattle.std.specs.BTreeMap.{BTreeMap, get, IsOrdered, WritesThrough, UpdatesBy, Updates, IsUnchanged, is_at}
@@ -80,9 +80,9 @@ sound_inserted (Err refused) old new key state sound ordered updates same some s
     sound_from old new key sound ordered (λ k apart. unchanged old new same k) (λ other is. let e : find old key ≡ Some other = sym (unchanged old new same key) ∙ is in (sound.filled key other e, sound.short key other e))
 
 -- what a call leaves of a state that isn't empty
-pub kept_some : {A E : Type 0} (result : Result A E) (old new : AggState) → OnOk result (0 < size_in (held_of new)) → OnErr result (held_of new ≡ held_of old) → 0 < size_in (held_of old) → 0 < size_in (held_of new)
-kept_some (Ok done) old new some same was = some
-kept_some (Err refused) old new some same was = subst (λ held. 0 < size_in held) (sym same) was
+pub kept_some : {A E : Type 0} (result : Result A E) (old new : AggState) → OnOk result (size_in (held_of new) ≡ size_in (held_of old) + 1) → OnErr result (held_of new ≡ held_of old) → 0 < size_in (held_of old) → 0 < size_in (held_of new)
+kept_some (Ok done) old new size same was = omega (arith, size)
+kept_some (Err refused) old new size same was = subst (λ held. 0 < size_in held) (sym same) was
 
 same_by : (old new : Map) (key : List ℕ) (was state : AggState) → find old key ≡ Some was → find new key ≡ Some state → ((k : List ℕ) → (k ≡ key → ⊥) → find new k ≡ find old k) → held_of state ≡ held_of was →
     (k : List ℕ) (b : Bool) → bytes_eq key k ≡ b → option_map held_of (find new k) ≡ option_map held_of (find old k)

@@ -1,5 +1,5 @@
 -- No row of the nodes is empty, each keeps what a state keeps, and their rows in order are all of them.
-use Rattle.std.proofs.Common.{◌≡◌, ℕ, zero, suc, ◌+◌, ◌-◌, ◌<◌, ◌≤◌, List, [], ◌∷◌, ◌++◌, Option, Some, None, Bool, true, false, refl, ap, sym, ◌∙◌, subst, inl, inr, ◌⊎◌, arith}
+use Rattle.std.proofs.Common.{◌≡◌, ℕ, zero, suc, ◌+◌, ◌-◌, ◌^◌, ◌<◌, ◌≤◌, length, List, [], ◌∷◌, ◌++◌, Option, Some, None, Bool, true, false, refl, ap, sym, ◌∙◌, subst, inl, inr, ◌⊎◌, arith}
 use Rattle.std.specs.Prelude.{cond}
 use Rattle.std.specs.List.{Contains}
 use Rattle.std.specs.List.Sorted.{IsStrictlySortedBy}
@@ -44,6 +44,20 @@ pub state_at_row : (nodes : List NodeRows) (node : ℕ) (key : List ℕ) (held :
 state_at_row [] node key held found = cc
 state_at_row (rows ∷ nodes) zero key held found = state_by held (get (slice_cmp nat_cmp) rows.map key) found
 state_at_row (rows ∷ nodes) (suc node) key held found = state_at_row nodes node key held found
+
+-- a row's key is short, and so is the number of its node where there are few nodes
+
+short_by : (rows : NodeRows) (key : List ℕ) (held : Held) (found : Option AggState) → get (slice_cmp nat_cmp) rows.map key ≡ found → option_map held_of found ≡ Some held → length key < 2 ^ 32
+short_by rows key held (Some state) found is = rows.sound.short key state found
+short_by rows key held None found is = cc
+
+place_at : (nodes : List NodeRows) (node : ℕ) (key : List ℕ) (held : Held) → row_at nodes node key ≡ Some held → (node < length nodes) × (length key < 2 ^ 32)
+place_at [] node key held found = cc
+place_at (rows ∷ nodes) zero key held found = (omega arith, short_by rows key held (get (slice_cmp nat_cmp) rows.map key) refl found)
+place_at (rows ∷ nodes) (suc node) key held found = let rest = place_at nodes node key held found in (omega (arith, rest.0), rest.1)
+
+pub bounded_at : (nodes : List NodeRows) (node : ℕ) (key : List ℕ) (held : Held) → length nodes ≤ 2 ^ 32 → row_at nodes node key ≡ Some held → (node < 2 ^ 32) × (length key < 2 ^ 32)
+bounded_at nodes node key held few found = let place = place_at nodes node key held found in (omega (arith, place.0), place.1)
 
 -- each row is in the list
 

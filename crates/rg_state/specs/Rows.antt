@@ -1,5 +1,5 @@
 -- Rows: what each keeps, what it stands for, and how it changes.
-use Rattle.std.specs.Prelude.{◌≡◌, ◌↔◌, ◌⊎◌, true, ℕ, ◌<◌, ◌^◌, List, [], ◌∷◌, ◌++◌, length, Option, Some, None, ⊤}
+use Rattle.std.specs.Prelude.{◌≡◌, ◌↔◌, ◌⊎◌, true, ℕ, ◌+◌, ◌<◌, ◌^◌, List, [], ◌∷◌, ◌++◌, length, Option, Some, None, ⊤}
 use Rattle.std.specs.List.{All, Contains}
 use Rattle.std.specs.Cmp.Lexicographic.{slice_cmp}
 use Rattle.std.specs.Ordering.{nat_cmp, is_lt}
@@ -48,6 +48,16 @@ IsRefused func Remove value old = Unfit func Remove value old
 abbrev pub IsOf : Func → Option Held → Type 0
 IsOf func None = ⊤
 IsOf func (Some held) = func_of held ≡ func
+
+-- how many values a row stands for, by what it keeps; a missing one for none
+abbrev pub row_size : Option Held → ℕ
+row_size None = 0
+row_size (Some held) = size_in held
+
+-- a value more is in the row, or one fewer
+abbrev pub Counts : Change → Option Held → Option Held → Type 0
+Counts Add old new = row_size new ≡ row_size old + 1
+Counts Remove old new = row_size old ≡ row_size new + 1
 
 -- rows by node and key
 abbrev pub Cells : Type 0

@@ -1,7 +1,7 @@
 ghost use Rattle.std.specs.Prelude.{◌≡◌, ◌<◌, ◌≤◌, ◌^◌, ℕ, List, None, Some, length, OnOk, OnErr, IsErrOf};
 ghost use Rattle.rg_agg.specs.Standing.{size_in};
 ghost use Rattle.rg_state.specs.Cells.{row_at, rows_in};
-ghost use Rattle.rg_state.specs.Rows.{Changed, Suits, Unfit, IsRefused, Others, Same};
+ghost use Rattle.rg_state.specs.Rows.{Changed, Counts, Suits, Unfit, IsRefused, IsOf, Others, Same};
 ghost use Rattle.rg_state.specs.States.{held_of};
 ghost use Rattle.rg_state.specs.Takes.{Takes};
 
@@ -47,6 +47,8 @@ impl MemTable {
         requires { Takes func value.now }
         ensures changed { OnOk result (Changed func Change.Add value.now (row_at self.old.nodes.items node key.now) (row_at self.new.nodes.items node key.now)) }
         ensures suits { OnOk result (Suits func Change.Add value.now (row_at self.old.nodes.items node key.now)) }
+        ensures own { OnOk result (IsOf func (row_at self.new.nodes.items node key.now)) }
+        ensures size { OnOk result (Counts Change.Add (row_at self.old.nodes.items node key.now) (row_at self.new.nodes.items node key.now)) }
         ensures others { Others node key.now (row_at self.old.nodes.items) (row_at self.new.nodes.items) }
         ensures err { OnErr result (Same (row_at self.old.nodes.items) (row_at self.new.nodes.items)) }
         ensures unfit { IsErrOf result Refusal.Unfit → Unfit func Change.Add value.now (row_at self.old.nodes.items node key.now) }
@@ -73,6 +75,8 @@ impl MemTable {
     fn remove(&mut self, node: u32, key: &Key, func: Func, value: &Value) -> Result<(), Refusal>
         ensures changed { OnOk result (Changed func Change.Remove value.now (row_at self.old.nodes.items node key.now) (row_at self.new.nodes.items node key.now)) }
         ensures suits { OnOk result (Suits func Change.Remove value.now (row_at self.old.nodes.items node key.now)) }
+        ensures own { OnOk result (IsOf func (row_at self.new.nodes.items node key.now)) }
+        ensures size { OnOk result (Counts Change.Remove (row_at self.old.nodes.items node key.now) (row_at self.new.nodes.items node key.now)) }
         ensures others { Others node key.now (row_at self.old.nodes.items) (row_at self.new.nodes.items) }
         ensures err { OnErr result (Same (row_at self.old.nodes.items) (row_at self.new.nodes.items)) }
         ensures unfit { OnErr result (Unfit func Change.Remove value.now (row_at self.old.nodes.items node key.now)) }
@@ -115,7 +119,7 @@ impl MemTable {
 impl Table for MemTable {
     ghost use Rattle.std.specs.Prelude.{⊤};
     ghost use Rattle.rg_state.specs.Cells.{row_at, entries_from};
-    ghost use Rattle.rg_state.specs.CellLaws.{filled_at, state_at_row, lists_all};
+    ghost use Rattle.rg_state.specs.CellLaws.{filled_at, state_at_row, bounded_at, lists_all};
 
     ghost cell = { λ table. row_at table.nodes.items };
 
@@ -174,6 +178,8 @@ impl Table for MemTable {
     ghost filled = { λ table node key held _ found. filled_at table.nodes.items node key held found };
 
     ghost states = { λ table node key held _ found. state_at_row table.nodes.items node key held found };
+
+    ghost bounded = { λ table node key held _ found. bounded_at table.nodes.items node key held table.few found };
 
     ghost finite = { λ table _. (entries_from 0 table.nodes.items, lists_all table.nodes.items) };
 }

@@ -4,7 +4,7 @@ ghost use Rattle.rg_agg.specs.Standing.{size_in};
 ghost use Rattle.rg_event.specs.declared.value.Value.{Value};
 ghost use Rattle.rg_metric.specs.Answers.{answer_of};
 ghost use Rattle.rg_state.specs.Cells.{row_at, rows_in, AreKept};
-ghost use Rattle.rg_state.specs.Rows.{RowStands, Changed, Suits, Unfit, IsRefused, IsOf, Others};
+ghost use Rattle.rg_state.specs.Rows.{RowStands, Changed, Counts, Suits, Unfit, IsRefused, IsOf, Others};
 ghost use Rattle.rg_state.specs.States.{held_of};
 ghost use Rattle.rg_state.specs.Takes.{Takes};
 
@@ -66,6 +66,8 @@ pub(crate) fn add_at(
     requires made { node < length nodes.old.items }
     ensures changed { OnOk result (Changed func Change.Add value.now (row_at nodes.old.items node key.now) (row_at nodes.new.items node key.now)) }
     ensures suits { OnOk result (Suits func Change.Add value.now (row_at nodes.old.items node key.now)) }
+    ensures own { OnOk result (IsOf func (row_at nodes.new.items node key.now)) }
+    ensures size { OnOk result (Counts Change.Add (row_at nodes.old.items node key.now) (row_at nodes.new.items node key.now)) }
     ensures others { Others node key.now (row_at nodes.old.items) (row_at nodes.new.items) }
     ensures count { IfOk result (λ is_new. rows_in nodes.new.items ≡ rows_in nodes.old.items + (if is_new then 1 else 0)) }
     ensures few { length nodes.new.items ≡ length nodes.old.items }
@@ -88,6 +90,8 @@ pub(crate) fn remove_at(
     requires { node < length nodes.old.items }
     ensures changed { OnOk result (Changed func Change.Remove value.now (row_at nodes.old.items node key.now) (row_at nodes.new.items node key.now)) }
     ensures suits { OnOk result (Suits func Change.Remove value.now (row_at nodes.old.items node key.now)) }
+    ensures own { OnOk result (IsOf func (row_at nodes.new.items node key.now)) }
+    ensures size { OnOk result (Counts Change.Remove (row_at nodes.old.items node key.now) (row_at nodes.new.items node key.now)) }
     ensures others { Others node key.now (row_at nodes.old.items) (row_at nodes.new.items) }
     ensures count { IfOk result (λ is_gone. rows_in nodes.old.items ≡ rows_in nodes.new.items + (if is_gone then 1 else 0)) }
     ensures few { length nodes.new.items ≡ length nodes.old.items }

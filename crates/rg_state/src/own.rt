@@ -1,5 +1,5 @@
-ghost use Rattle.std.specs.Prelude.{◌≡◌, ◌<◌, None, Some, List, [], IsSome, IsNone, IfOk, OnOk, OnErr, IsErrOf};
-ghost use Rattle.rg_agg.specs.Standing.{size_in};
+ghost use Rattle.std.specs.Prelude.{◌≡◌, ◌+◌, ◌<◌, None, Some, List, [], IsSome, IsNone, IfOk, OnOk, OnErr, IsErrOf};
+ghost use Rattle.rg_agg.specs.Standing.{func_of, size_in};
 ghost use Rattle.rg_event.specs.declared.value.Value.{Value};
 ghost use Rattle.rg_metric.specs.Answers.{answer_of};
 ghost use Rattle.rg_state.specs.Rows.{RowStands, Changed, Suits, Unfit, IsRefused, IsOf};
@@ -18,7 +18,8 @@ use std::alloc::Global;
 pub(crate) fn first_state(alloc: Global, func: Func, value: &Value) -> Result<AggState, Memory>
     requires { Takes func value.now }
     ensures changed { IfOk result (λ state. Changed func Change.Add value.now None (Some (held_of state))) }
-    ensures some { IfOk result (λ state. 0 < size_in (held_of state)) }
+    ensures own { IfOk result (λ state. func_of (held_of state) ≡ func) }
+    ensures size { IfOk result (λ state. size_in (held_of state) ≡ 1) }
 {
     let mut state = AggState::empty(alloc, func);
     match state.add(value) {
@@ -33,7 +34,8 @@ pub(crate) fn add_own(state: &mut AggState, func: Func, value: &Value) -> Result
     requires { Takes func value.now }
     ensures changed { OnOk result (Changed func Change.Add value.now (Some (held_of state.old)) (Some (held_of state.new))) }
     ensures suits { OnOk result (Suits func Change.Add value.now (Some (held_of state.old))) }
-    ensures some { OnOk result (0 < size_in (held_of state.new)) }
+    ensures own { OnOk result (func_of (held_of state.new) ≡ func) }
+    ensures size { OnOk result (size_in (held_of state.new) ≡ size_in (held_of state.old) + 1) }
     ensures unfit { IsErrOf result Refusal.Unfit → Unfit func Change.Add value.now (Some (held_of state.old)) }
     ensures causes { IsErrOf result Refusal.Unfit → IsRefused func Change.Add value.now (Some (held_of state.old)) }
     ensures err { OnErr result (held_of state.new ≡ held_of state.old) }
@@ -49,6 +51,8 @@ pub(crate) fn take_own(state: &mut AggState, func: Func, value: &Value) -> Resul
     ensures suits { OnOk result (Suits func Change.Remove value.now (Some (held_of state.old))) }
     ensures changed { OnOk result (0 < size_in (held_of state.new) → Changed func Change.Remove value.now (Some (held_of state.old)) (Some (held_of state.new))) }
     ensures emptied { OnOk result (size_in (held_of state.new) ≡ 0 → Changed func Change.Remove value.now (Some (held_of state.old)) None) }
+    ensures own { OnOk result (func_of (held_of state.new) ≡ func) }
+    ensures size { OnOk result (size_in (held_of state.old) ≡ size_in (held_of state.new) + 1) }
     ensures unfit { OnErr result (Unfit func Change.Remove value.now (Some (held_of state.old))) }
     ensures err { OnErr result (held_of state.new ≡ held_of state.old) }
 {

@@ -2,7 +2,7 @@ ghost use Rattle.std.specs.Prelude.{◌≡◌, ◌+◌, ◌<◌, None, Some, ℕ
 ghost use Rattle.std.specs.Option.{option_map};
 ghost use Rattle.rg_agg.specs.Standing.{size_in};
 ghost use Rattle.rg_state.specs.Cells.{row_in, OthersIn, IsKept};
-ghost use Rattle.rg_state.specs.Rows.{Changed, Suits, Unfit, IsRefused};
+ghost use Rattle.rg_state.specs.Rows.{Changed, Counts, Suits, Unfit, IsRefused, IsOf};
 ghost use Rattle.rg_state.specs.States.{held_of};
 ghost use Rattle.rg_state.specs.Takes.{Takes};
 
@@ -47,6 +47,8 @@ impl NodeRows {
         requires { Takes func value.now }
         ensures changed { OnOk result (Changed func Change.Add value.now (row_in self.old key.now) (row_in self.new key.now)) }
         ensures suits { OnOk result (Suits func Change.Add value.now (row_in self.old key.now)) }
+        ensures own { OnOk result (IsOf func (row_in self.new key.now)) }
+        ensures size { OnOk result (Counts Change.Add (row_in self.old key.now) (row_in self.new key.now)) }
         ensures others { OthersIn key.now self.old self.new }
         ensures count { IfOk result (λ is_new. length self.new.map.entries ≡ length self.old.map.entries + (if is_new then 1 else 0)) }
         ensures err { OnErr result (IsKept self.old self.new) }
@@ -78,6 +80,8 @@ impl NodeRows {
     pub(crate) fn remove(&mut self, key: &Key, func: Func, value: &Value) -> Result<bool, Refusal>
         ensures changed { OnOk result (Changed func Change.Remove value.now (row_in self.old key.now) (row_in self.new key.now)) }
         ensures suits { OnOk result (Suits func Change.Remove value.now (row_in self.old key.now)) }
+        ensures own { OnOk result (IsOf func (row_in self.new key.now)) }
+        ensures size { OnOk result (Counts Change.Remove (row_in self.old key.now) (row_in self.new key.now)) }
         ensures others { OthersIn key.now self.old self.new }
         ensures count { IfOk result (λ is_gone. length self.old.map.entries ≡ length self.new.map.entries + (if is_gone then 1 else 0)) }
         ensures err { OnErr result (IsKept self.old self.new) }

@@ -1,10 +1,10 @@
-ghost use Rattle.std.specs.Prelude.{◌≡◌, ◌↔◌, ℕ, ◌≤◌, ◌<◌, ◌++◌, List, Some, None, Option, length, IfOk, OnOk, OnErr, IsErrOf};
+ghost use Rattle.std.specs.Prelude.{◌≡◌, ◌↔◌, ℕ, ◌≤◌, ◌<◌, ◌^◌, ◌++◌, List, Some, None, Option, length, IfOk, OnOk, OnErr, IsErrOf};
 ghost use Rattle.rg_bytes.specs.Counts.{Rose};
 ghost use Rattle.rg_event.specs.declared.value.Value.{Value};
 ghost use Rattle.rg_agg.specs.Held.{Held};
 ghost use Rattle.rg_agg.specs.Standing.{size_in};
 ghost use Rattle.rg_metric.specs.Answers.{answer_of};
-ghost use Rattle.rg_state.specs.Rows.{RowStands, Changed, Suits, Unfit, IsRefused, IsOf, Same, Others, Entry, Lists, Writes};
+ghost use Rattle.rg_state.specs.Rows.{RowStands, Changed, Counts, Suits, Unfit, IsRefused, IsOf, Same, Others, Entry, Lists, Writes};
 ghost use Rattle.rg_state.specs.States.{held_of, IsHeld};
 ghost use Rattle.rg_state.specs.Takes.{Takes};
 
@@ -57,6 +57,8 @@ pub trait Table {
         requires { Takes func value.now }
         ensures changed { tells self.old → OnOk result (Changed func change value.now (cell self.old node key.now) (cell self.new node key.now)) }
         ensures suits { tells self.old → OnOk result (Suits func change value.now (cell self.old node key.now)) }
+        ensures own { tells self.old → OnOk result (IsOf func (cell self.new node key.now)) }
+        ensures size { tells self.old → OnOk result (Counts change (cell self.old node key.now) (cell self.new node key.now)) }
         ensures others { tells self.old → Others node key.now (cell self.old) (cell self.new) }
         ensures err { tells self.old → OnErr result (Same (cell self.old) (cell self.new)) }
         ensures bad { (n : ℕ) → IsErrOf result (TableFault.BadState n) → n ≡ node }
@@ -111,6 +113,9 @@ pub trait Table {
 
     /// What a row keeps is what a state of one of the aggregators keeps.
     ghost states: { (table : Self) (node : ℕ) (key : List ℕ) (held : Held) → tells table → cell table node key ≡ Some held → IsHeld held };
+
+    /// The number of a node and the length of a row's key fit the 4 bytes that each is written in.
+    ghost bounded: { (table : Self) (node : ℕ) (key : List ℕ) (held : Held) → tells table → cell table node key ≡ Some held → (node < 2 ^ 32) × (length key < 2 ^ 32) };
 
     /// The rows are finitely many.
     ghost finite: { (table : Self) → tells table → (entries : List Entry) × Lists (cell table) entries };

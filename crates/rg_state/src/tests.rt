@@ -187,13 +187,19 @@ fn a_state_is_read_put_in_and_written(rt: HostRuntime) -> Result<(), Fail> {
     Ok(())
 }
 
-/// The answers of the copy of a state, and of the state itself once a 5 is taken from it.
+/// The answers of the copy of a state, which is written as what was read, and of the state itself once a 5
+/// is taken from it.
 fn answers_of(alloc: Global, bytes: &[u8]) -> Result<(Answer, Answer), Fail> {
     let mut state = match AggState::decode(alloc, &mut ByteReader::new(bytes)) {
         Ok(state) => state,
         Err(_) => return Err(Fail::new("no state was read")),
     };
     let copy = state.copy(alloc)?;
+    let mut out = Vec::new(alloc);
+    copy.encode(&mut out)?;
+    if out.as_slice() != bytes {
+        return Err(Fail::new("other bytes were written"));
+    }
     match state.remove(&Value::Int(5)) {
         Ok(()) => Ok((copy.answer(), state.answer())),
         Err(_) => Err(Fail::new("no value was taken")),

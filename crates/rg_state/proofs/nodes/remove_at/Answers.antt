@@ -7,6 +7,12 @@ returns-clause-changed c = rw (row_there c.args.nodes.now.items c.args.node c.ar
 pub returns-clause-suits : goal.returns-clause-suits
 returns-clause-suits c = rw (row_there c.args.nodes.now.items c.args.node c.args.key.now c.index_mut-rows.result.now c.requires c.index_mut-rows.ensures.value) c.remove.ensures.suits
 
+pub returns-clause-own : goal.returns-clause-own
+returns-clause-own c = rw (row_set c.args.nodes.now.items c.remove.new.self c.args.node c.args.key.now c.requires) c.remove.ensures.own
+
+pub returns-clause-size : goal.returns-clause-size
+returns-clause-size c = rw (row_there c.args.nodes.now.items c.args.node c.args.key.now c.index_mut-rows.result.now c.requires c.index_mut-rows.ensures.value, row_set c.args.nodes.now.items c.remove.new.self c.args.node c.args.key.now c.requires) c.remove.ensures.size
+
 pub returns-clause-unfit : goal.returns-clause-unfit
 returns-clause-unfit c = rw (row_there c.args.nodes.now.items c.args.node c.args.key.now c.index_mut-rows.result.now c.requires c.index_mut-rows.ensures.value) c.remove.ensures.unfit
 

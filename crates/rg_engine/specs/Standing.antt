@@ -1,5 +1,5 @@
 -- What the rows and edges of an engine stand for.
-use Rattle.std.specs.Prelude.{◌≡◌, ℕ, ◌+◌, ◌==◌, ◌||◌, Bool, true, false, List, [], ◌∷◌, map, Option, Some, None, slice_get, slice_index_or, sum_by, if◌then◌else◌}
+use Rattle.std.specs.Prelude.{◌≡◌, ℕ, ◌+◌, ◌==◌, ◌||◌, Bool, true, false, List, [], ◌∷◌, Option, Some, None, slice_get, slice_index_or, sum_by, if◌then◌else◌}
 use Rattle.rg_event.specs.declared.event.Event.{Event}
 use Rattle.rg_metric.specs.declared.query.Window.{Window}
 use Rattle.rg_past.specs.declared.past.Spot.{Spot}
@@ -39,11 +39,6 @@ IsTold plan n Spells spots = (edge offset : ℕ) → slice_get plan.offsets edge
 pub record NodeStands (plan : Planned) (n : ℕ) (events : List Event) (cells : Cells) (numbers : List ℕ) : Type 0 where
   pub rows : (key : List ℕ) → RowIs (node_at plan n) key (last_time events) events (cells n key)
   pub places : (edge offset : ℕ) → slice_get plan.offsets edge ≡ Some offset → HasEdge (node_at plan n) offset → slice_index_or numbers edge 0 ≡ position events (last_time events) offset
-
--- all rows stand for these events, there are no others, and each edge is at its position
-pub record Stands (plan : Planned) (events : List Event) (cells : Cells) (numbers : List ℕ) : Type 0 where
-  pub nodes : (n : ℕ) → NodeStands plan n events cells numbers
-  pub places : numbers ≡ map (position events (last_time events)) plan.offsets
 
 -- how far the edges of offsets that are a window's have come, in all
 abbrev pub edges_come : Window → List ℕ → List ℕ → ℕ

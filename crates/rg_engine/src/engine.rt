@@ -100,20 +100,19 @@ impl<T: Table> Engine<T> {
         requires fits { P.fits past.old event }
         requires follows { MayFollow (P.events past.old) event }
         requires within { AreWithin self.old.spots (length (P.events past.old)) }
-        requires fed { IsFed self.old.plan (P.events past.old ++ event ∷ []) }
         ensures stands { (n : ℕ) (front more : List Event) → P.sound past.old →
             IsTold self.old.plan n (P.spells past.old) self.old.spots → T.tells self.old.table →
-            P.events past.old ≡ front ++ more →
+            IsFed self.old.plan (P.events past.old ++ event ∷ []) → P.events past.old ≡ front ++ more →
             NodeStands self.old.plan n front (T.cell self.old.table) (numbers_of self.old.spots) →
             OnOk result (NodeStands self.old.plan n (P.events past.new) (T.cell self.new.table) (numbers_of self.new.spots)) }
         ensures answers { (queries : List Asked) (front more : List Event) → self.old.plan ≡ plan_for queries →
             P.sound past.old → All (P.spells past.old) self.old.spots → T.tells self.old.table →
-            P.events past.old ≡ front ++ more →
+            IsFed self.old.plan (P.events past.old ++ event ∷ []) → P.events past.old ≡ front ++ more →
             ((n : ℕ) → NodeStands self.old.plan n front (T.cell self.old.table) (numbers_of self.old.spots)) →
             IfOk result (λ answers. answers ≡ answers_to queries (P.events past.old ++ event ∷ []) event) }
         ensures bad { (n : ℕ) (front more : List Event) → IsErrOf result (EngineFault.BadState n) → P.sound past.old →
             IsTold self.old.plan n (P.spells past.old) self.old.spots → T.tells self.old.table →
-            P.events past.old ≡ front ++ more →
+            IsFed self.old.plan (P.events past.old ++ event ∷ []) → P.events past.old ≡ front ++ more →
             NodeStands self.old.plan n front (T.cell self.old.table) (numbers_of self.old.spots) → ⊥ }
         ensures ticks { OnOk result (steps.new + come self.old.plan (numbers_of self.old.spots)
             ≡ steps.old + come self.old.plan (numbers_of self.new.spots)) }
@@ -171,15 +170,14 @@ impl<T: Table> Engine<T> {
         steps: &mut Steps<L>,
     ) -> Result<(), EngineFault>
         requires within { AreWithin self.old.spots (length (P.events past.old)) }
-        requires fed { IsFed self.old.plan (P.events past.old) }
         ensures stands { (n : ℕ) (front more : List Event) → P.sound past.old →
             IsTold self.old.plan n (P.spells past.old) self.old.spots → T.tells self.old.table →
-            P.events past.old ≡ front ++ more → last_time (P.events past.old) ≡ t →
+            IsFed self.old.plan (P.events past.old) → P.events past.old ≡ front ++ more → last_time (P.events past.old) ≡ t →
             NodeStands self.old.plan n front (T.cell self.old.table) (numbers_of self.old.spots) →
             OnOk result (NodeStands self.old.plan n (P.events past.new) (T.cell self.new.table) (numbers_of self.new.spots)) }
         ensures bad { (n : ℕ) (front more : List Event) → IsErrOf result (EngineFault.BadState n) → P.sound past.old →
             IsTold self.old.plan n (P.spells past.old) self.old.spots → T.tells self.old.table →
-            P.events past.old ≡ front ++ more →
+            IsFed self.old.plan (P.events past.old) → P.events past.old ≡ front ++ more →
             NodeStands self.old.plan n front (T.cell self.old.table) (numbers_of self.old.spots) → ⊥ }
         ensures ticks { OnOk result (steps.new + come self.old.plan (numbers_of self.old.spots)
             ≡ steps.old + come self.old.plan (numbers_of self.new.spots)) }

@@ -81,21 +81,20 @@ impl<T: Table> Machine<T> {
         requires fits { P.fits past.old event }
         requires follows { MayFollow (P.events past.old) event }
         requires within { AreWithin self.old.edges.spots (length (P.events past.old)) }
-        requires fed { IsFed self.old.plan (P.events past.old ++ event ∷ []) }
         requires built { IsBuilt self.old.plan self.old.edges self.old.rows.parts.items self.old.nodes.items self.old.keys.items }
         ensures stands { (n : ℕ) (front more : List Event) → P.sound past.old →
             IsTold self.old.plan n (P.spells past.old) self.old.edges.spots → T.tells self.old.rows.table →
-            P.events past.old ≡ front ++ more →
+            IsFed self.old.plan (P.events past.old ++ event ∷ []) → P.events past.old ≡ front ++ more →
             NodeStands self.old.plan n front (T.cell self.old.rows.table) (numbers_of self.old.edges.spots) →
             OnOk result (NodeStands self.old.plan n (P.events past.new) (T.cell self.new.rows.table) (numbers_of self.new.edges.spots)) }
         ensures answers { (queries : List Asked) (front more : List Event) → self.old.plan ≡ plan_for queries →
             P.sound past.old → All (P.spells past.old) self.old.edges.spots → T.tells self.old.rows.table →
-            P.events past.old ≡ front ++ more →
+            IsFed self.old.plan (P.events past.old ++ event ∷ []) → P.events past.old ≡ front ++ more →
             ((n : ℕ) → NodeStands self.old.plan n front (T.cell self.old.rows.table) (numbers_of self.old.edges.spots)) →
             IfOk result (λ answers. answers.items ≡ answers_to queries (P.events past.old ++ event ∷ []) event) }
         ensures bad { (n : ℕ) (front more : List Event) → IsErrOf result (EngineFault.BadState n) → P.sound past.old →
             IsTold self.old.plan n (P.spells past.old) self.old.edges.spots → T.tells self.old.rows.table →
-            P.events past.old ≡ front ++ more →
+            IsFed self.old.plan (P.events past.old ++ event ∷ []) → P.events past.old ≡ front ++ more →
             NodeStands self.old.plan n front (T.cell self.old.rows.table) (numbers_of self.old.edges.spots) → ⊥ }
         ensures ticks { OnOk result (steps.new + come self.old.plan (numbers_of self.old.edges.spots)
             ≡ steps.old + come self.old.plan (numbers_of self.new.edges.spots)) }
@@ -172,16 +171,15 @@ impl<T: Table> Machine<T> {
         steps: &mut Steps<L>,
     ) -> Result<(), EngineFault>
         requires within { AreWithin self.old.edges.spots (length (P.events past.old)) }
-        requires fed { IsFed self.old.plan (P.events past.old) }
         requires built { IsBuilt self.old.plan self.old.edges self.old.rows.parts.items self.old.nodes.items self.old.keys.items }
         ensures stands { (n : ℕ) (front more : List Event) → P.sound past.old →
             IsTold self.old.plan n (P.spells past.old) self.old.edges.spots → T.tells self.old.rows.table →
-            P.events past.old ≡ front ++ more → last_time (P.events past.old) ≡ t →
+            IsFed self.old.plan (P.events past.old) → P.events past.old ≡ front ++ more → last_time (P.events past.old) ≡ t →
             NodeStands self.old.plan n front (T.cell self.old.rows.table) (numbers_of self.old.edges.spots) →
             OnOk result (NodeStands self.old.plan n (P.events past.new) (T.cell self.new.rows.table) (numbers_of self.new.edges.spots)) }
         ensures bad { (n : ℕ) (front more : List Event) → IsErrOf result (EngineFault.BadState n) → P.sound past.old →
             IsTold self.old.plan n (P.spells past.old) self.old.edges.spots → T.tells self.old.rows.table →
-            P.events past.old ≡ front ++ more →
+            IsFed self.old.plan (P.events past.old) → P.events past.old ≡ front ++ more →
             NodeStands self.old.plan n front (T.cell self.old.rows.table) (numbers_of self.old.edges.spots) → ⊥ }
         ensures ticks { OnOk result (steps.new + come self.old.plan (numbers_of self.old.edges.spots)
             ≡ steps.old + come self.old.plan (numbers_of self.new.edges.spots)) }

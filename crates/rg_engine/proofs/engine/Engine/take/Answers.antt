@@ -6,4 +6,4 @@ returns-in-Ok-clause-stands g c = rw (← c.self.view_is) c.in-Ok.ensures.stands
 
 pub returns-in-Ok-clause-answers : goal.returns-in-Ok-clause-answers
 returns-in-Ok-clause-answers g c =
-    rw (← c.self.view_is) (λ queries front more made sound all tells is stands. c.from.ensures ∙ c.in-Ok.ensures.answers queries front more made sound all tells is stands)
+    rw (← c.self.view_is) (λ queries front more made sound all tells fed is stands. c.from.ensures ∙ c.in-Ok.ensures.answers queries front more made sound all tells fed is stands)

@@ -1,11 +1,10 @@
 -- The answers of nodes and those of queries.
-use Rattle.std.proofs.Common.{◌≡◌, ◌≤◌, ◌<◌, ◌+◌, ◌&&◌, ℕ, zero, suc, Bool, true, false, cond, List, [], ◌∷◌, ◌++◌, length, get_or, take, map, filter, flat_map, Option, Some, None, All, refl, ap, sym, ◌∙◌, subst, arith, append_assoc, length-append}
+use Rattle.std.proofs.Common.{◌≡◌, ◌≤◌, ◌<◌, ◌+◌, ◌&&◌, ℕ, zero, suc, Bool, true, false, cond, List, [], ◌∷◌, ◌++◌, length, get_or, take, map, filter, flat_map, Option, Some, None, All, refl, ap, sym, ◌∙◌, subst, arith, append_assoc}
 use Rattle.std.specs.Prelude.{slice_get, bytes_eq, option_map, option_and_then}
-use Rattle.std.proofs.lemmas.List.{take_more, map-append, append-nil, length-map, get_or-map}
+use Rattle.std.proofs.lemmas.List.{take_more, map-append, length-map, get_or-map}
 use Rattle.std.proofs.lemmas.List.Elements.{All-head, All-tail, All-nil, All-cons, All-weaker}
 use Rattle.std.proofs.lemmas.Option.{slice_get-get_or, slice_get_within}
 use Rattle.std.proofs.lemmas.Slice.Eq.{bytes_eq-Decides}
-use Rattle.std.proofs.lemmas.Grind.{flat_map-append}
 use Rattle.rg_event.specs.Codec.{IsValueOf, AreValuesOf, IsEventOf}
 use Rattle.rg_event.specs.Tagged.{IsStorable}
 use Rattle.rg_event.specs.declared.event.Event.{Event}
@@ -23,7 +22,7 @@ use Rattle.rg_metric.specs.declared.query.Agg.{Agg}
 use Rattle.rg_metric.specs.Answers.{answer_of}
 use Rattle.rg_metric.specs.Conditions.{value_in, passes}
 use Rattle.rg_metric.specs.Queries.{Asked}
-use Rattle.rg_metric.specs.Replies.{and_value, key_of, counts_for, in_window, values_in, agg_answer, query_answers, answers_to}
+use Rattle.rg_metric.specs.Replies.{and_value, key_of, counts_for, in_window, values_in, agg_answer, answers_to}
 use Rattle.rg_metric.specs.Same.{same_values}
 use Rattle.rg_metric.proofs.Same.{same_values_decides}
 use Rattle.rg_group.specs.Keys.{key_bytes, AreStorable, IsStorablePart}
@@ -37,7 +36,7 @@ use Rattle.rg_plan.specs.Whole.{IsWhole}
 use Rattle.rg_plan.proofs.Naming.{all_named}
 use Rattle.rg_agg.specs.Held.{Held}
 use Rattle.rg_state.specs.Rows.{RowStands}
-use Rattle.rg_engine.specs.Windows.{passes_at, counts_at, node_values}
+use Rattle.rg_engine.specs.Windows.{counts_at, node_values}
 use Rattle.rg_engine.specs.Standing.{RowIs}
 use Rattle.rg_engine.specs.Answering.{keys_for, node_answer, node_answers, nodes_asked}
 

@@ -1,5 +1,5 @@
 -- Deeds, node by node.
-use Rattle.std.proofs.Common.{◌≡◌, ◌⊎◌, ◌+◌, ◌<◌, ◌≤◌, ◌&&◌, ℕ, zero, suc, Bool, true, false, cond, List, [], ◌∷◌, ◌++◌, length, get_or, take, drop, flat_map, sum_by, Option, Some, None, refl, sym, ap, subst, inl, inr, ◌∙◌, arith, take_all, drop-cons, add-one}
+use Rattle.std.proofs.Common.{◌≡◌, ◌+◌, ◌<◌, ◌≤◌, ◌&&◌, ℕ, zero, suc, Bool, true, false, List, [], ◌∷◌, ◌++◌, length, get_or, take, drop, flat_map, sum_by, Option, Some, None, refl, sym, ap, subst, inl, inr, ◌∙◌, arith, take_all, drop-cons}
 use Rattle.std.specs.Prelude.{◌==◌, bytes_eq, Result}
 use Rattle.std.proofs.lemmas.List.{take_more, take-append-drop, append-nil}
 use Rattle.std.proofs.lemmas.List.Sums.{sum_by-append, sum_by-cons}
@@ -20,9 +20,9 @@ use Rattle.rg_state.specs.Rows.{Cells, Others}
 use Rattle.rg_engine.specs.declared.part.FilterPart.{FilterPart}
 use Rattle.rg_engine.specs.declared.part.GroupPart.{GroupPart}
 use Rattle.rg_engine.specs.declared.part.AggPart.{AggPart}
-use Rattle.rg_engine.specs.Deeds.{Deed, Does, side_of, handed, deed_by, deed_with, node_deed}
+use Rattle.rg_engine.specs.Deeds.{Does, side_of, handed, deed_by, deed_with, node_deed}
 use Rattle.rg_engine.specs.Parts.{node_under, node_if, agg_nodes, group_nodes, nodes_numbered, ticks_at}
-use Rattle.rg_engine.specs.Stepping.{IsPassed, Done, Refuses, Balks, Stuck, Stepped}
+use Rattle.rg_engine.specs.Stepping.{IsPassed, Done, Refuses, Stuck, Stepped}
 
 none_true : true ≡ false → ⊥
 none_true e = cc

@@ -1,5 +1,5 @@
 -- The last one of some events.
-use Rattle.std.proofs.Common.{◌≡◌, ◌+◌, ◌-◌, ◌<◌, ◌∙◌, Bool, true, false, ℕ, zero, suc, List, [], ◌∷◌, length, get_or, refl, sym, arith}
+use Rattle.std.proofs.Common.{◌≡◌, ◌+◌, ◌-◌, ◌∙◌, Bool, true, false, ℕ, zero, suc, List, [], ◌∷◌, length, get_or, refl, sym, arith}
 use Rattle.std.specs.Prelude.{◌==◌}
 use Rattle.rg_event.specs.declared.event.Event.{Event}
 use Rattle.rg_past.specs.Order.{next_offset, last_time}

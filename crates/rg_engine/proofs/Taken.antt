@@ -1,6 +1,5 @@
 -- One event more.
-use Rattle.std.proofs.Common.{◌≡◌, ◌≤◌, ◌<◌, ℕ, List, [], ◌∷◌, ◌++◌, length, get_or, All, flat_map, Option, Some, refl, ap, sym, ◌∙◌, subst, arith, append_assoc}
-use Rattle.std.specs.Prelude.{slice_get}
+use Rattle.std.proofs.Common.{◌≡◌, ◌<◌, ℕ, List, [], ◌∷◌, ◌++◌, length, get_or, All, flat_map, refl, ap, sym, ◌∙◌, subst, arith, append_assoc}
 use Rattle.std.proofs.lemmas.List.Elements.{All-head, All-tail, All-nil, All-append}
 use Rattle.std.proofs.lemmas.Option.{slice_get-get_or, slice_get_within}
 use Rattle.rg_event.specs.Codec.{IsEventOf}
@@ -20,8 +19,8 @@ use Rattle.rg_engine.specs.Answering.{node_answers, nodes_asked}
 use Rattle.rg_engine.specs.Building.{IsBuilt}
 use Rattle.rg_engine.specs.Feeding.{IsFed}
 use Rattle.rg_engine.specs.Parts.{ArePartsOf}
-use Rattle.rg_engine.specs.Standing.{RowIs, HasEdge, IsTold, NodeStands}
-use Rattle.rg_engine.proofs.Answered.{IsKeyed, keyed, all_keyed, all_answers}
+use Rattle.rg_engine.specs.Standing.{RowIs, IsTold, NodeStands}
+use Rattle.rg_engine.proofs.Answered.{keyed, all_keyed, all_answers}
 
 -- the last time with one event more
 pub last_of : (events : List Event) (e : Event) → last_time (events ++ e ∷ []) ≡ e.time

@@ -1,4 +1,4 @@
-ghost use Rattle.std.specs.Prelude.{◌≡◌, ◌↔◌, ◌⊎◌, ℕ, ◌+◌, ◌≤◌, ◌<◌, List, [], ◌∷◌, ◌++◌, length, true, false, All, IfOk, IfErr, OnOk, OnErr, IsErrOf, IsTrue};
+ghost use Rattle.std.specs.Prelude.{◌≡◌, ◌↔◌, ◌⊎◌, ℕ, ◌+◌, ◌≤◌, ◌<◌, List, [], ◌∷◌, ◌++◌, length, true, false, Some, slice_get, All, IfOk, IfErr, OnOk, OnErr, IsErrOf, IsTrue};
 ghost use Rattle.std.specs.Borrow.{Lends, sem};
 ghost use Rattle.rg_bytes.specs.Counts.{Rose};
 ghost use Rattle.rg_event.specs.declared.event.Event.{Event};
@@ -9,7 +9,7 @@ ghost use Rattle.rg_plan.specs.Plans.{plan_for};
 ghost use Rattle.rg_window.specs.Placed.{AreWithin, IsSpelledAt, numbers_of};
 ghost use Rattle.rg_engine.specs.contracts.engine.Engine.{the_row};
 ghost use Rattle.rg_engine.specs.Feeding.{IsFed};
-ghost use Rattle.rg_engine.specs.Standing.{IsTold, NodeStands, come};
+ghost use Rattle.rg_engine.specs.Standing.{IsAtPosition, IsTold, NodeStands, come};
 
 use crate::changer::Rows;
 use crate::fault::EngineFault;
@@ -105,6 +105,11 @@ impl<T: Table> Engine<T> {
             IsFed self.old.plan (P.events past.old ++ event ∷ []) → P.events past.old ≡ front ++ more →
             NodeStands self.old.plan n front (T.cell self.old.table) (numbers_of self.old.spots) →
             OnOk result (NodeStands self.old.plan n (P.events past.new) (T.cell self.new.table) (numbers_of self.new.spots)) }
+        ensures places { (edge offset : ℕ) (front more : List Event) → P.sound past.old →
+            IsSpelledAt (P.spells past.old) self.old.spots edge → P.events past.old ≡ front ++ more →
+            slice_get self.old.plan.offsets edge ≡ Some offset →
+            IsAtPosition front (numbers_of self.old.spots) edge offset →
+            OnOk result (IsAtPosition (P.events past.new) (numbers_of self.new.spots) edge offset) }
         ensures answers { (queries : List Asked) (front more : List Event) → self.old.plan ≡ plan_for queries →
             P.sound past.old → All (P.spells past.old) self.old.spots → T.tells self.old.table →
             IsFed self.old.plan (P.events past.old ++ event ∷ []) → P.events past.old ≡ front ++ more →
@@ -175,6 +180,11 @@ impl<T: Table> Engine<T> {
             IsFed self.old.plan (P.events past.old) → P.events past.old ≡ front ++ more → last_time (P.events past.old) ≡ t →
             NodeStands self.old.plan n front (T.cell self.old.table) (numbers_of self.old.spots) →
             OnOk result (NodeStands self.old.plan n (P.events past.new) (T.cell self.new.table) (numbers_of self.new.spots)) }
+        ensures places { (edge offset : ℕ) (front more : List Event) → P.sound past.old →
+            IsSpelledAt (P.spells past.old) self.old.spots edge → P.events past.old ≡ front ++ more →
+            last_time (P.events past.old) ≡ t → slice_get self.old.plan.offsets edge ≡ Some offset →
+            IsAtPosition front (numbers_of self.old.spots) edge offset →
+            OnOk result (IsAtPosition (P.events past.new) (numbers_of self.new.spots) edge offset) }
         ensures bad { (n : ℕ) (front more : List Event) → IsErrOf result (EngineFault.BadState n) → P.sound past.old →
             IsTold self.old.plan n (P.spells past.old) self.old.spots → T.tells self.old.table →
             IsFed self.old.plan (P.events past.old) → P.events past.old ≡ front ++ more →

@@ -1,4 +1,4 @@
-ghost use Rattle.std.specs.Prelude.{◌≡◌, ◌↔◌, ◌⊎◌, ℕ, ◌+◌, ◌≤◌, ◌<◌, List, [], ◌∷◌, ◌++◌, length, All, IfOk, OnOk, OnErr, IsErrOf};
+ghost use Rattle.std.specs.Prelude.{◌≡◌, ◌↔◌, ◌⊎◌, ℕ, ◌+◌, ◌≤◌, ◌<◌, List, [], ◌∷◌, ◌++◌, length, Some, slice_get, All, IfOk, OnOk, OnErr, IsErrOf};
 ghost use Rattle.rg_bytes.specs.Counts.{Rose};
 ghost use Rattle.rg_event.specs.declared.event.Event.{Event};
 ghost use Rattle.rg_metric.specs.Queries.{Asked};
@@ -9,7 +9,7 @@ ghost use Rattle.rg_plan.specs.Whole.{IsWhole};
 ghost use Rattle.rg_window.specs.Placed.{AreWithin, IsSpelledAt, numbers_of};
 ghost use Rattle.rg_engine.specs.Building.{IsBuilt};
 ghost use Rattle.rg_engine.specs.Feeding.{IsFed};
-ghost use Rattle.rg_engine.specs.Standing.{IsTold, NodeStands, come};
+ghost use Rattle.rg_engine.specs.Standing.{IsAtPosition, IsTold, NodeStands, come};
 
 use crate::answering::{answer_each, make_keys};
 use crate::changer::Rows;
@@ -87,6 +87,11 @@ impl<T: Table> Machine<T> {
             IsFed self.old.plan (P.events past.old ++ event ∷ []) → P.events past.old ≡ front ++ more →
             NodeStands self.old.plan n front (T.cell self.old.rows.table) (numbers_of self.old.edges.spots) →
             OnOk result (NodeStands self.old.plan n (P.events past.new) (T.cell self.new.rows.table) (numbers_of self.new.edges.spots)) }
+        ensures places { (edge offset : ℕ) (front more : List Event) → P.sound past.old →
+            IsSpelledAt (P.spells past.old) self.old.edges.spots edge → P.events past.old ≡ front ++ more →
+            slice_get self.old.plan.offsets edge ≡ Some offset →
+            IsAtPosition front (numbers_of self.old.edges.spots) edge offset →
+            OnOk result (IsAtPosition (P.events past.new) (numbers_of self.new.edges.spots) edge offset) }
         ensures answers { (queries : List Asked) (front more : List Event) → self.old.plan ≡ plan_for queries →
             P.sound past.old → All (P.spells past.old) self.old.edges.spots → T.tells self.old.rows.table →
             IsFed self.old.plan (P.events past.old ++ event ∷ []) → P.events past.old ≡ front ++ more →
@@ -177,6 +182,11 @@ impl<T: Table> Machine<T> {
             IsFed self.old.plan (P.events past.old) → P.events past.old ≡ front ++ more → last_time (P.events past.old) ≡ t →
             NodeStands self.old.plan n front (T.cell self.old.rows.table) (numbers_of self.old.edges.spots) →
             OnOk result (NodeStands self.old.plan n (P.events past.new) (T.cell self.new.rows.table) (numbers_of self.new.edges.spots)) }
+        ensures places { (edge offset : ℕ) (front more : List Event) → P.sound past.old →
+            IsSpelledAt (P.spells past.old) self.old.edges.spots edge → P.events past.old ≡ front ++ more →
+            last_time (P.events past.old) ≡ t → slice_get self.old.plan.offsets edge ≡ Some offset →
+            IsAtPosition front (numbers_of self.old.edges.spots) edge offset →
+            OnOk result (IsAtPosition (P.events past.new) (numbers_of self.new.edges.spots) edge offset) }
         ensures bad { (n : ℕ) (front more : List Event) → IsErrOf result (EngineFault.BadState n) → P.sound past.old →
             IsTold self.old.plan n (P.spells past.old) self.old.edges.spots → T.tells self.old.rows.table →
             IsFed self.old.plan (P.events past.old) → P.events past.old ≡ front ++ more →

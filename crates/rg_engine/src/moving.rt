@@ -1,11 +1,11 @@
-ghost use Rattle.std.specs.Prelude.{◌≡◌, ◌↔◌, ℕ, ◌+◌, ◌≤◌, List, ◌++◌, length, OnOk, IsErrOf};
+ghost use Rattle.std.specs.Prelude.{◌≡◌, ◌↔◌, ℕ, ◌+◌, ◌≤◌, List, ◌++◌, length, Some, slice_get, OnOk, IsErrOf};
 ghost use Rattle.rg_bytes.specs.Counts.{Rose};
 ghost use Rattle.rg_event.specs.declared.event.Event.{Event};
 ghost use Rattle.rg_past.specs.Order.{last_time};
 ghost use Rattle.rg_plan.specs.Whole.{IsWhole};
 ghost use Rattle.rg_window.specs.Placed.{AreWithin, IsSpelledAt, numbers_of};
 ghost use Rattle.rg_engine.specs.Feeding.{IsFed};
-ghost use Rattle.rg_engine.specs.Standing.{IsTold, NodeStands, come};
+ghost use Rattle.rg_engine.specs.Standing.{IsAtPosition, IsTold, NodeStands, come};
 ghost use Rattle.rg_engine.specs.Parts.{ArePartsOf};
 
 use crate::changer::{Changer, Rows};
@@ -37,6 +37,11 @@ pub(crate) fn move_rows<P: Past, T: Table, L: Ledger>(
         IsFed plan.now (P.events past.old) → P.events past.old ≡ front ++ more → last_time (P.events past.old) ≡ t →
         NodeStands plan.now n front (T.cell rows.old.table) (numbers_of edges.old.spots) →
         OnOk result (NodeStands plan.now n (P.events past.old) (T.cell rows.new.table) (numbers_of edges.new.spots)) }
+    ensures places { (edge offset : ℕ) (front more : List Event) → P.sound past.old →
+        IsSpelledAt (P.spells past.old) edges.old.spots edge → P.events past.old ≡ front ++ more →
+        last_time (P.events past.old) ≡ t → slice_get plan.now.offsets edge ≡ Some offset →
+        IsAtPosition front (numbers_of edges.old.spots) edge offset →
+        OnOk result (IsAtPosition (P.events past.old) (numbers_of edges.new.spots) edge offset) }
     ensures bad { (n : ℕ) (front more : List Event) → IsErrOf result (EngineFault.BadState n) →
         P.sound past.old → IsTold plan.now n (P.spells past.old) edges.old.spots →
         T.tells rows.old.table → IsFed plan.now (P.events past.old) → P.events past.old ≡ front ++ more →
@@ -91,6 +96,11 @@ fn move_changer<'p, 'r, 's, P: Past, T: Table, L: Ledger>(
         IsFed changer.old.plan.now (P.events past.old) → P.events past.old ≡ front ++ more → last_time (P.events past.old) ≡ t →
         NodeStands changer.old.plan.now n front (T.cell changer.old.rows.now.table) (numbers_of edges.old.spots) →
         OnOk result (NodeStands changer.old.plan.now n (P.events past.old) (T.cell changer.new.rows.now.table) (numbers_of edges.new.spots)) }
+    ensures places { (edge offset : ℕ) (front more : List Event) → P.sound past.old →
+        IsSpelledAt (P.spells past.old) edges.old.spots edge → P.events past.old ≡ front ++ more →
+        last_time (P.events past.old) ≡ t → slice_get changer.old.plan.now.offsets edge ≡ Some offset →
+        IsAtPosition front (numbers_of edges.old.spots) edge offset →
+        OnOk result (IsAtPosition (P.events past.old) (numbers_of edges.new.spots) edge offset) }
     ensures bad { (n : ℕ) (front more : List Event) → IsErrOf result (MoveFault.Visit (TableFault.BadState n)) →
         P.sound past.old → IsTold changer.old.plan.now n (P.spells past.old) edges.old.spots →
         T.tells changer.old.rows.now.table → IsFed changer.old.plan.now (P.events past.old) → P.events past.old ≡ front ++ more →

@@ -1,4 +1,4 @@
-use Rattle.std.proofs.Common.{◌≡◌, Some, ap, sym, ◌∙◌, subst}
+use Rattle.std.proofs.Common.{◌≡◌, Some, sym, ◌∙◌, subst}
 use Rattle.rg_state.specs.Rows.{Unfit}
 use Rattle.rg_state.specs.Takes.{Takes}
 use Rattle.rg_engine.proofs.Doing.{handed_there, same_some}

@@ -1,4 +1,4 @@
-use Rattle.std.proofs.Common.{refl, ap, Vec}
+use Rattle.std.proofs.Common.{refl, ap}
 use Rattle.rg_engine.proofs.Taken.{built_on}
 use Rattle.rg_engine.proofs.machine.Machine.replay.Goals as goal
 

@@ -1,10 +1,12 @@
-use Rattle.std.proofs.Common.{◌≡◌, ◌<◌, ◌∙◌, ◌++◌, ◌∷◌, [], ℕ, List, All, length, refl, ap, sym, subst}
+use Rattle.std.proofs.Common.{◌≡◌, ◌<◌, ◌∙◌, ◌++◌, ◌∷◌, [], ℕ, List, All, length, ap, sym, subst}
 use Rattle.std.specs.Prelude.{Err, IsErrOf}
 use Rattle.rg_past.specs.Order.{last_time}
 use Rattle.rg_plan.specs.declared.node.GroupNode.{GroupNode}
 use Rattle.rg_engine.specs.Answering.{keys_for, node_answers}
+use Rattle.rg_window.specs.Placed.{numbers_of}
 use Rattle.rg_engine.specs.Feeding.{IsFed}
-use Rattle.rg_engine.proofs.Taken.{last_of, stands_same, stands_events, row_stands, told_later, all_told, front_and_more, answers_are, asked_within, built_on}
+use Rattle.rg_engine.specs.Standing.{IsAtPosition}
+use Rattle.rg_engine.proofs.Taken.{last_of, stands_same, stands_events, row_stands, told_later, spelled_later, all_told, front_and_more, answers_are, asked_within, built_on}
 use Rattle.rg_engine.proofs.machine.Machine.take.Goals as goal
 
 same_fault : {A E : Type 0} {x y : E} → IsErrOf {T = A} (Err x) y → x ≡ y
@@ -40,6 +42,16 @@ returns-clause-stands g c = λ n front more sound told tells fed is stands.
     (told_later plan n _ _ _ (λ spot spelled. g.met.P.Past.stays_spelled _ _ spot added.goes sound spelled) told) tells (subst (IsFed plan) (sym added.ok) fed)
     (front_and_more _ _ front more event added.ok is) (ap last_time added.ok ∙ last_of (g.P.Past.events c.args.past.now) event) stands in
     stands_events plan n _ _ _ _ moved.events (stands_same plan n _ _ _ _ (c.in-Ok-answer_each.ensures.same (moved.tells.1 tells)) after)
+
+pub returns-clause-places : goal.returns-clause-places
+returns-clause-places g c = λ edge offset front more sound spelled is is_offset stood.
+    let event = c.args.event in
+    let added = c.in-Ok-append.ensures in
+    let moved = c.in-Ok-move_rows.ensures in
+    let placed = moved.places edge offset front (more ++ event ∷ []) (added.sound sound)
+    (spelled_later _ _ _ edge (λ spot spells. g.met.P.Past.stays_spelled _ _ spot added.goes sound spells) spelled)
+    (front_and_more _ _ front more event added.ok is) (ap last_time added.ok ∙ last_of (g.P.Past.events c.args.past.now) event) is_offset stood in
+    subst (λ events. IsAtPosition events (numbers_of c.move_rows.new.edges.spots) edge offset) (sym moved.events) placed
 
 pub returns-clause-answers : goal.returns-clause-answers
 returns-clause-answers g c = λ queries front more made sound all tells fed is stands.

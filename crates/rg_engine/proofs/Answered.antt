@@ -1,11 +1,10 @@
 -- The answers of nodes and those of queries.
-use Rattle.std.proofs.Common.{◌≡◌, ◌≤◌, ◌<◌, ◌+◌, ◌&&◌, ℕ, zero, suc, Bool, true, false, cond, List, [], ◌∷◌, ◌++◌, length, get_or, take, map, filter, flat_map, Option, Some, None, All, refl, ap, sym, ◌∙◌, subst, arith, append_assoc, length-append}
+use Rattle.std.proofs.Common.{◌≡◌, ◌≤◌, ◌<◌, ◌+◌, ◌&&◌, ℕ, zero, suc, Bool, true, false, cond, List, [], ◌∷◌, ◌++◌, length, get_or, take, map, filter, flat_map, Option, Some, None, All, refl, ap, sym, ◌∙◌, subst, arith, append_assoc}
 use Rattle.std.specs.Prelude.{slice_get, bytes_eq, option_map, option_and_then}
-use Rattle.std.proofs.lemmas.List.{take_more, map-append, append-nil, length-map, get_or-map}
+use Rattle.std.proofs.lemmas.List.{take_more, map-append, length-map, get_or-map}
 use Rattle.std.proofs.lemmas.List.Elements.{All-head, All-tail, All-nil, All-cons, All-weaker}
 use Rattle.std.proofs.lemmas.Option.{slice_get-get_or, slice_get_within}
 use Rattle.std.proofs.lemmas.Slice.Eq.{bytes_eq-Decides}
-use Rattle.std.proofs.lemmas.Grind.{flat_map-append}
 use Rattle.rg_event.specs.Codec.{IsValueOf, AreValuesOf, IsEventOf}
 use Rattle.rg_event.specs.Tagged.{IsStorable}
 use Rattle.rg_event.specs.declared.event.Event.{Event}
@@ -23,7 +22,7 @@ use Rattle.rg_metric.specs.declared.query.Agg.{Agg}
 use Rattle.rg_metric.specs.Answers.{answer_of}
 use Rattle.rg_metric.specs.Conditions.{value_in, passes}
 use Rattle.rg_metric.specs.Queries.{Asked}
-use Rattle.rg_metric.specs.Replies.{and_value, key_of, counts_for, in_window, values_in, agg_answer, query_answers, answers_to}
+use Rattle.rg_metric.specs.Replies.{and_value, key_of, counts_for, in_window, values_in, agg_answer, answers_to}
 use Rattle.rg_metric.specs.Same.{same_values}
 use Rattle.rg_metric.proofs.Same.{same_values_decides}
 use Rattle.rg_group.specs.Keys.{key_bytes, AreStorable, IsStorablePart}
@@ -37,15 +36,10 @@ use Rattle.rg_plan.specs.Whole.{IsWhole}
 use Rattle.rg_plan.proofs.Naming.{all_named}
 use Rattle.rg_agg.specs.Held.{Held}
 use Rattle.rg_state.specs.Rows.{RowStands}
-use Rattle.rg_engine.specs.Windows.{passes_at, counts_at, node_values}
+use Rattle.rg_engine.specs.Windows.{counts_at, node_values}
 use Rattle.rg_engine.specs.Standing.{RowIs}
 use Rattle.rg_engine.specs.Answering.{keys_for, node_answer, node_answers, nodes_asked}
-
-none_some : {A : Type 0} {x : A} → None ≡ Some x → ⊥
-none_some e = cc
-
-same_some : {A : Type 0} {x y : A} → Some x ≡ Some y → x ≡ y
-same_some e = cc
+use Rattle.rg_engine.proofs.Plain.{none_some, same_some, same_tests}
 
 -- What a node is, by its parts
 
@@ -189,12 +183,6 @@ filter_on P p q [] same are = refl
 filter_on P p q (x ∷ xs) same are =
     ap (λ b. cond b (x ∷ filter p xs) (filter p xs)) (same x (All-head P x xs are)) ∙ ap (λ ys. cond (q x) (x ∷ ys) ys) (filter_on P p q xs same (All-tail P x xs are))
 
-same_tests : (a b : Bool) → (a ≡ true → b ≡ true) → (b ≡ true → a ≡ true) → a ≡ b
-same_tests true true f g = refl
-same_tests true false f g = sym (f refl)
-same_tests false true f g = g refl
-same_tests false false f g = refl
-
 -- keys are told by their bytes
 same_key : (vs ws : List Value) → AreStorable vs → AreStorable ws → bytes_eq (key_bytes vs) (key_bytes ws) ≡ same_values vs ws
 same_key vs ws one two = same_tests (bytes_eq (key_bytes vs) (key_bytes ws)) (same_values vs ws)
@@ -213,9 +201,6 @@ aggs_answers : (q : Asked) (aggs : List Agg) (events : List Event) (e : Event) �
     map (node_answer events e) (map (λ agg. Some (node_of q agg)) aggs) ≡ map (λ agg. agg_answer agg (filter (counts_for q e) events)) aggs
 aggs_answers q [] events e one are = refl
 aggs_answers q (agg ∷ aggs) events e one are = rw (one_answer q agg events e one are, aggs_answers q aggs events e one are) refl
-
-flat_answers : (events : List Event) (e : Event) → List (List (Option Node)) → List Answer
-flat_answers events e nodes = flat_map (map (node_answer events e)) nodes
 
 query_by_query : (qs : List Asked) (events : List Event) (e : Event) → IsKeyed e → All IsKeyed events → flat_map (map (node_answer events e)) (map nodes_of qs) ≡ answers_to qs events e
 query_by_query [] events e one are = refl

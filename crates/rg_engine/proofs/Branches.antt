@@ -1,5 +1,5 @@
 -- A tree of nodes, as far as it is made.
-use Rattle.std.proofs.Common.{◌≡◌, ◌≤◌, ◌<◌, ◌+◌, ℕ, zero, suc, Bool, true, false, List, [], ◌∷◌, ◌++◌, length, get_or, take, map, flat_map, Option, Some, None, refl, ap, sym, ◌∙◌, subst, arith, add-one, take_all}
+use Rattle.std.proofs.Common.{◌≡◌, ◌<◌, ◌+◌, ℕ, zero, suc, Bool, true, false, List, [], ◌∷◌, ◌++◌, length, get_or, take, map, flat_map, Option, Some, None, refl, ap, sym, ◌∙◌, arith, add-one}
 use Rattle.std.specs.Prelude.{◌==◌, slice_get, if◌then◌else◌, option_map, option_and_then}
 use Rattle.std.proofs.lemmas.List.{append-nil, map-append, take_more}
 use Rattle.std.proofs.lemmas.Bool.Decides.{Decides-eqb}
@@ -17,6 +17,7 @@ use Rattle.rg_engine.specs.declared.part.FilterPart.{FilterPart}
 use Rattle.rg_engine.specs.declared.part.GroupPart.{GroupPart}
 use Rattle.rg_engine.specs.declared.part.AggPart.{AggPart}
 use Rattle.rg_engine.specs.Parts.{node_under, node_if, agg_nodes, group_nodes, nodes_numbered, one_or_none, made_of, agg_if, group_if, node_in_filter, node_in_group, node_in_agg}
+use Rattle.rg_engine.proofs.Plain.{is_false, same_tests}
 
 not_true : true ≡ false → ⊥
 not_true e = cc
@@ -28,16 +29,6 @@ pick_by make (x ∷ xs) zero zero d b l f g = rw (f refl) refl
 pick_by make (x ∷ xs) zero (suc m) d b l f g = rw (g (λ e. absurd (omega arith))) refl
 pick_by make (x ∷ xs) (suc i) zero d b l f g = rw (g (λ e. absurd (omega arith))) (sym (append-nil (make x)))
 pick_by make (x ∷ xs) (suc i) (suc m) d b l f g = pick_by make xs i m d b (omega arith) (λ e. f (ap suc e)) (λ n. g (λ e. n (omega arith)))
-
-same_tests : (a b : Bool) → (a ≡ true → b ≡ true) → (b ≡ true → a ≡ true) → a ≡ b
-same_tests true true f g = refl
-same_tests true false f g = sym (f refl)
-same_tests false true f g = g refl
-same_tests false false f g = refl
-
-is_false : (b : Bool) → (b ≡ true → ⊥) → b ≡ false
-is_false true h = absurd (h refl)
-is_false false h = refl
 
 -- what is made of the element at a place, one element more of the list
 pub pick_more : {A : Type 0} (make : A → List Node) (xs : List A) (i m : ℕ) (d : A) → i < length xs →

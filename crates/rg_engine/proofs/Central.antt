@@ -1,16 +1,14 @@
 -- From the values of a node at one time to those at a later one.
-use Rattle.std.proofs.Common.{◌≡◌, ℕ, ◌≤◌, ◌<◌, true, List, ◌∷◌, ◌++◌, length, Some}
-use Rattle.std.specs.Prelude.{slice_get, slice_index_or}
+use Rattle.std.proofs.Common.{◌≡◌, ℕ, ◌≤◌, ◌<◌, List, ◌∷◌, ◌++◌, length}
 use Rattle.rg_event.specs.declared.event.Event.{Event}
 use Rattle.rg_event.specs.declared.value.Value.{Value}
 use Rattle.rg_past.specs.Order.{last_time}
 use Rattle.rg_plan.specs.Named.{Node}
-use Rattle.rg_window.specs.Passing.{at_edge, edge_by_edge, Reaches}
-use Rattle.rg_engine.specs.Windows.{node_values, position}
-use Rattle.rg_engine.specs.Standing.{has_edge}
+use Rattle.rg_window.specs.Passing.{at_edge, edge_by_edge}
+use Rattle.rg_engine.specs.Windows.{node_values}
 use Rattle.rg_engine.specs.Deeds.{edge_deed, Leads}
 use Rattle.rg_engine.specs.Edges.{Starts, VisitsBefore, VisitsInto}
-use Rattle.rg_engine.proofs.Onward.{leads_later, leads_halfway, place_reached}
+use Rattle.rg_engine.proofs.Onward.{leads_later, leads_halfway}
 
 -- visits of all the edges lead from the values at the last time to those at time t
 pub node_leads : (node : Node) (key : List ℕ) (front more : List Event) (t : ℕ) (offsets numbers : List ℕ) (passes : List (List Event)) →
@@ -23,8 +21,3 @@ pub node_halfway : (node : Node) (key : List ℕ) (front more : List Event) (t :
     Starts node front more offsets numbers → length passes ≡ end → end < length offsets → VisitsBefore node (front ++ more) t offsets numbers passes end → VisitsInto node (front ++ more) t offsets numbers end some last →
     (rest : List (ℕ × Event)) × (after : List Value) × Leads (edge_deed node key offsets) ((edge_by_edge 0 passes ++ at_edge end some) ++ (end, last) ∷ rest) after (node_values node key (last_time front) front)
 node_halfway node key front more t offsets numbers passes end some last starts same within known into = leads_halfway node front more t offsets numbers starts key passes end some last same within known into
-
--- an edge that has gone all its way stands at its position
-pub new_place : (node : Node) (front more : List Event) (t : ℕ) (offsets numbers new : List ℕ) (edge offset : ℕ) → Starts node front more offsets numbers → last_time front ≤ t →
-    slice_get offsets edge ≡ Some offset → has_edge node.window offset ≡ true → Reaches (front ++ more) t offsets numbers new edge → slice_index_or new edge 0 ≡ position (front ++ more) t offset
-new_place node front more t offsets numbers new edge offset starts later there is reaches = place_reached node front more t offsets numbers starts new edge offset later there is reaches

@@ -1,5 +1,5 @@
 -- Deeds, node by node.
-use Rattle.std.proofs.Common.{◌≡◌, ◌⊎◌, ◌+◌, ◌<◌, ◌≤◌, ◌&&◌, ℕ, zero, suc, Bool, true, false, cond, List, [], ◌∷◌, ◌++◌, length, get_or, take, drop, flat_map, sum_by, Option, Some, None, refl, sym, ap, subst, inl, inr, ◌∙◌, arith, take_all, drop-cons, add-one}
+use Rattle.std.proofs.Common.{◌≡◌, ◌+◌, ◌<◌, ◌≤◌, ◌&&◌, ℕ, zero, suc, Bool, true, false, List, [], ◌∷◌, ◌++◌, length, get_or, take, drop, flat_map, sum_by, Option, Some, None, refl, sym, ap, subst, inl, inr, ◌∙◌, arith, take_all, drop-cons}
 use Rattle.std.specs.Prelude.{◌==◌, bytes_eq, Result}
 use Rattle.std.proofs.lemmas.List.{take_more, take-append-drop, append-nil}
 use Rattle.std.proofs.lemmas.List.Sums.{sum_by-append, sum_by-cons}
@@ -20,9 +20,10 @@ use Rattle.rg_state.specs.Rows.{Cells, Others}
 use Rattle.rg_engine.specs.declared.part.FilterPart.{FilterPart}
 use Rattle.rg_engine.specs.declared.part.GroupPart.{GroupPart}
 use Rattle.rg_engine.specs.declared.part.AggPart.{AggPart}
-use Rattle.rg_engine.specs.Deeds.{Deed, Does, side_of, handed, deed_by, deed_with, node_deed}
+use Rattle.rg_engine.specs.Deeds.{Does, side_of, handed, deed_by, deed_with, node_deed}
 use Rattle.rg_engine.specs.Parts.{node_under, node_if, agg_nodes, group_nodes, nodes_numbered, ticks_at}
-use Rattle.rg_engine.specs.Stepping.{IsPassed, Done, Refuses, Balks, Stuck, Stepped}
+use Rattle.rg_engine.specs.Stepping.{IsPassed, Done, Refuses, Stuck, Stepped}
+use Rattle.rg_engine.proofs.Plain.{same_some}
 
 none_true : true ≡ false → ⊥
 none_true e = cc
@@ -164,9 +165,6 @@ module _ (window : Window) (condition : Option Test) (columns : List ℕ) (offse
       Stuck made offset x (node_if (part.node == n) (node_under window condition columns part)) (cells n made)
   stuck_one n same is of_event refuses =
       subst (λ m. Stuck made offset x (node_if (part.node == m) (node_under window condition columns part)) (cells m made)) (sym same) (stuck_by (part.node == part.node) refl is of_event refuses)
-
-pub same_some : {A : Type 0} {x y : A} → Some x ≡ Some y → x ≡ y
-same_some e = cc
 
 -- one part's ticks more
 pub ticks_more : {A : Type 0} (ticks : A → ℕ) (parts : List A) (i : ℕ) (part d : A) (start old new : ℕ) → i < length parts → part ≡ get_or parts i d → old ≡ start + sum_by ticks (take i parts) → new ≡ old + ticks part →

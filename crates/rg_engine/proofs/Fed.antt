@@ -1,5 +1,5 @@
 -- What the events of a schema hand the nodes of a plan that it feeds.
-use Rattle.std.proofs.Common.{◌≡◌, ◌⊎◌, ◌<◌, true, ℕ, zero, suc, List, [], ◌∷◌, length, Option, Some, None, All, refl, ap, sym, ◌∙◌, subst, inl, inr}
+use Rattle.std.proofs.Common.{◌≡◌, true, ℕ, zero, suc, List, [], ◌∷◌, Some, None, All, refl, ap, sym, ◌∙◌, subst, inl, inr}
 use Rattle.std.specs.Prelude.{slice_get}
 use Rattle.std.proofs.lemmas.List.Elements.{All-weaker}
 use Rattle.rg_event.specs.Codec.{IsValueOf, AreValuesOf, IsEventOf}
@@ -16,6 +16,7 @@ use Rattle.rg_state.specs.Takes.{Takes}
 use Rattle.rg_engine.specs.Deeds.{handed}
 use Rattle.rg_engine.specs.Edges.{HandsOf}
 use Rattle.rg_engine.specs.Feeding.{IsServed, ColumnServes}
+use Rattle.rg_engine.proofs.Plain.{none_some, same_some}
 
 kind_is : (kind : Kind) (value : Value) → IsValueOf kind value → value_kind value ≡ kind
 kind_is Int (IntValue n) h = refl
@@ -34,12 +35,6 @@ kind_is Flag (IntValue n) h = absurd h
 kind_is Flag (IdValue n) h = absurd h
 kind_is Flag (TextValue t) h = absurd h
 kind_is Flag (FlagValue b) h = refl
-
-none_some : {A : Type 0} {x : A} → None ≡ Some x → ⊥
-none_some e = cc
-
-same_some : {A : Type 0} {x y : A} → Some x ≡ Some y → x ≡ y
-same_some e = cc
 
 -- a column that there is has a value of its kind
 value_there : (fields : List Field) (values : List Value) (n : ℕ) (field : Field) → AreValuesOf fields values → slice_get fields n ≡ Some field → (value : Value) × (value_in (suc n) values ≡ Some value) × IsValueOf field.kind value

@@ -1,13 +1,11 @@
 -- What a move of edges makes of one node.
-use Rattle.std.proofs.Common.{◌≡◌, ◌⊎◌, ℕ, zero, suc, ◌≤◌, ◌<◌, ◌+◌, ◌^◌, Bool, true, false, cond, List, [], ◌∷◌, ◌++◌, length, get_or, drop, Option, Some, None, All, refl, ap, sym, ◌∙◌, subst, inl, inr, arith}
-use Rattle.std.specs.Prelude.{Result, Ok, Err, slice_get, slice_index_or, ◌==◌, if◌then◌else◌}
+use Rattle.std.proofs.Common.{◌≡◌, ℕ, zero, suc, ◌≤◌, ◌<◌, ◌^◌, Bool, true, false, cond, List, [], ◌∷◌, ◌++◌, length, drop, Option, Some, None, All, refl, ap, sym, ◌∙◌, subst, inl, inr, arith}
+use Rattle.std.specs.Prelude.{Result, Ok, slice_get, slice_index_or, ◌==◌, if◌then◌else◌}
 use Rattle.std.proofs.lemmas.List.Elements.{All-head, All-tail, All-nil, All-cons}
-use Rattle.std.proofs.lemmas.Option.{slice_get-get_or, get_or_from_slice_get}
+use Rattle.std.proofs.lemmas.Option.{slice_get-get_or}
 use Rattle.rg_event.specs.Codec.{IsEventOf}
 use Rattle.rg_event.specs.declared.event.Event.{Event}
-use Rattle.rg_event.specs.declared.value.Value.{Value}
 use Rattle.rg_metric.specs.declared.query.Window.{Window}
-use Rattle.rg_words.specs.declared.func.Func.{Func}
 use Rattle.rg_past.specs.Order.{last_time, IsRising}
 use Rattle.rg_agg.specs.Held.{Held}
 use Rattle.rg_plan.specs.Named.{Node, node_at}
@@ -17,34 +15,22 @@ use Rattle.rg_state.specs.declared.table.Change.{Change}
 use Rattle.rg_state.specs.declared.table.Change.TheVariants.{Add, Remove}
 use Rattle.rg_state.specs.Rows.{Cells, RowStands}
 use Rattle.rg_window.specs.Passing.{has_come, passing, passed, at_edge, edge_by_edge, Reaches}
-use Rattle.rg_window.specs.Chain.{Visited, visited_at, passed_at, Moved, Halted}
-use Rattle.rg_engine.specs.Windows.{node_values, position, passes_at}
+use Rattle.rg_window.specs.Chain.{Visited, visited_at, passed_at}
+use Rattle.rg_engine.specs.Windows.{node_values}
 use Rattle.rg_engine.specs.Standing.{RowIs, HasEdge, has_edge, leaves_at, NodeStands}
 use Rattle.rg_engine.specs.Feeding.{IsFed}
-use Rattle.rg_engine.specs.Deeds.{Deed, Does, Blocked, side_of, handed, deed_by, node_deed, edge_deed, Leads}
+use Rattle.rg_engine.specs.Deeds.{Does, Blocked, side_of, node_deed, edge_deed, Leads}
 use Rattle.rg_engine.specs.Edges.{Starts, VisitsBefore, VisitsInto}
 use Rattle.rg_engine.specs.Parts.{one_or_none}
 use Rattle.rg_engine.specs.Stepping.{Done, Balks, Stuck}
 use Rattle.rg_engine.proofs.Along.{row_along, row_until, not_blocked}
-use Rattle.rg_engine.proofs.Central.{node_leads, node_halfway, new_place}
+use Rattle.rg_engine.proofs.Central.{node_leads, node_halfway}
 use Rattle.rg_engine.proofs.Chains.{chain_same}
 use Rattle.rg_engine.proofs.Fed.{Hands, served_kind, all_hand}
+use Rattle.rg_engine.proofs.Places.{front_earlier, place_after}
+use Rattle.rg_engine.proofs.Plain.{none_some}
 
 -- Lists
-
-rising_tail : (x : Event) (events : List Event) → IsRising (x ∷ events) → IsRising events
-rising_tail x [] h = tt
-rising_tail x (y ∷ events) h = h.2
-
-first_last : (x : Event) (events : List Event) → IsRising (x ∷ events) → x.time ≤ last_time (x ∷ events)
-first_last x [] h = omega arith
-first_last x (y ∷ events) h = let k = first_last y events h.2 in omega (arith, h.1)
-
--- the last time of a front isn't above that of the whole
-pub front_earlier : (front more : List Event) → IsRising (front ++ more) → last_time front ≤ last_time (front ++ more)
-front_earlier [] more h = omega arith
-front_earlier (x ∷ []) more h = first_last x more h
-front_earlier (x ∷ (y ∷ front)) more h = front_earlier (y ∷ front) more h.2
 
 drop_all : {A : Type 0} (P : A → Type 0) (n : ℕ) (xs : List A) → All P xs → All P (drop n xs)
 drop_all P zero xs h = h
@@ -66,9 +52,6 @@ all_middle P (x ∷ some) last rest h = all_middle P some last rest (All-tail P 
 -- an event that an edge passes is one of all
 passed_one : (P : Event → Type 0) (events : List Event) (t offset number : ℕ) (some : List Event) (last : Event) (rest : List Event) → All P events → passed events t offset number ≡ some ++ last ∷ rest → P last
 passed_one P events t offset number some last rest h is = all_middle P some last rest (subst (All P) is (passing_all P offset t (drop number events) (drop_all P number events h)))
-
-none_some : {A : Type 0} {x : A} → None ≡ Some x → ⊥
-none_some e = cc
 
 -- a window that does something with an event at an offset has an edge there
 side_by : (window : Window) (offset : ℕ) (change : Change) (a b : Bool) → (window.delay == offset) ≡ a → leaves_at window window.length offset ≡ b →
@@ -180,14 +163,6 @@ module _ (plan : Planned) (n : ℕ) {V F : Type 0} (step : V → ℕ → Event �
     places = λ edge offset is_offset has. absurd (subst (λ o. HasEdge o offset) none has);
   }
 
-  place_by : (v : V) (front more : List Event) (t : ℕ) (old new : List ℕ) (edge offset : ℕ) (oa : Option Node) → node_at plan n ≡ oa →
-      IsWhole plan → IsFed plan (front ++ more) → IsRising (front ++ more) → length (front ++ more) ≤ 2 ^ 40 → last_time front ≤ t →
-      slice_get plan.offsets edge ≡ Some offset → HasEdge oa offset → Reaches (front ++ more) t plan.offsets old new edge →
-      NodeStands plan n front (cells_of v) old → slice_index_or new edge 0 ≡ position (front ++ more) t offset
-  place_by v front more t old new edge offset None there whole fed ordered few later is has reaches stands = absurd has
-  place_by v front more t old new edge offset (Some node) there whole fed ordered few later is has reaches stands =
-      new_place node front more t plan.offsets old new edge offset (node_starts plan n node there front more (cells_of v) old whole fed ordered few stands) later is has reaches
-
   -- after a whole move the node stands for all events
   pub stands_after : (v w : V) (events front more : List Event) (t : ℕ) (old new : List ℕ) (passes : List (List Event)) → events ≡ front ++ more → last_time events ≡ t → ok v → Visited step v (edge_by_edge 0 passes) w →
       IsWhole plan → IsFed plan events → IsRising events → length events ≤ 2 ^ 40 → length passes ≡ length plan.offsets →
@@ -204,10 +179,7 @@ module _ (plan : Planned) (n : ℕ) {V F : Type 0} (step : V → ℕ → Event �
             (subst (λ all. RowIs (node_at plan n) key t all (cells_of w n key)) (sym e)
             (rows_by v w front more t old passes key (node_at plan n) refl is chain whole fed' ordered' few' later same
             (λ edge below has. subst (λ all. visited_at passes edge ≡ passed_at all t plan.offsets old edge) e (known edge below has)) stands));
-        places = λ edge offset is_offset has. subst (λ u. slice_index_or new edge 0 ≡ position events u offset) (sym last)
-            (subst (λ all. slice_index_or new edge 0 ≡ position all t offset) (sym e)
-            (place_by v front more t old new edge offset (node_at plan n) refl whole fed' ordered' few' later is_offset has
-            (subst (λ all. Reaches all t plan.offsets old new edge) e (reached edge (is_told edge offset is_offset has))) stands));
+        places = λ edge offset is_offset has. place_after events front more t plan.offsets old new edge offset e last ordered is_offset (stands.places edge offset is_offset has) (reached edge (is_told edge offset is_offset has));
       }
 
   stuck_by : (v w : V) (front more : List Event) (t : ℕ) (old : List ℕ) (passes : List (List Event)) (end : ℕ) (some : List Event) (last : Event) (key : List ℕ) (oa : Option Node) → node_at plan n ≡ oa → ok v →

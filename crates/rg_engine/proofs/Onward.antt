@@ -1,6 +1,6 @@
 -- How the visits of the edges of a node's window lead its values on.
 use Rattle.std.proofs.Common.{◌≡◌, ◌⊎◌, ℕ, zero, suc, ◌≤◌, ◌<◌, ◌+◌, ◌-◌, Bool, true, false, List, [], ◌∷◌, ◌++◌, length, get_or, take, drop, Option, Some, None, refl, inl, inr, ap, sym, subst, ◌∙◌, arith, append_assoc, length-append}
-use Rattle.std.specs.Prelude.{slice_get, slice_index_or, All}
+use Rattle.std.specs.Prelude.{slice_get, All}
 use Rattle.std.proofs.lemmas.List.{take-append-le, get_or-drop, length-drop, length-take, get_or_append_left, get_or-append-add}
 use Rattle.std.proofs.lemmas.List.Elements.{All-take, All-drop}
 use Rattle.std.proofs.lemmas.Option.{slice_get_within, slice_get-get_or, get_or_from_slice_get}
@@ -8,24 +8,19 @@ use Rattle.rg_event.specs.declared.event.Event.{Event}
 use Rattle.rg_event.specs.declared.value.Value.{Value}
 use Rattle.rg_past.specs.Order.{last_time}
 use Rattle.rg_plan.specs.Named.{Node}
-use Rattle.rg_window.specs.Passing.{passing, passed, at_edge, edge_by_edge, Reaches}
+use Rattle.rg_window.specs.Passing.{passing, passed, at_edge, edge_by_edge}
 use Rattle.rg_window.specs.Chain.{visited_at, passed_at}
 use Rattle.rg_window.proofs.Chains.{at_edge-append}
 use Rattle.rg_window.proofs.Passes.{edge_by_edge-join}
-use Rattle.rg_engine.specs.Windows.{passes_at, node_values, position}
+use Rattle.rg_engine.specs.Windows.{passes_at, node_values}
 use Rattle.rg_engine.specs.Standing.{has_edge}
 use Rattle.rg_engine.specs.Deeds.{Deed, node_deed, edge_deed, Leads}
 use Rattle.rg_engine.specs.Edges.{HandsOf, Starts, VisitsBefore, VisitsInto}
-use Rattle.rg_engine.proofs.Slices.{TimesFrom, true_false, le_or, rising_times, times_front, passing_drop, passed_slice, slice_join, passing_later, passing_sooner, passing_within, position_passing, passed_before}
+use Rattle.rg_engine.proofs.Slices.{TimesFrom, true_false, le_or, rising_times, times_front, passed_slice, slice_join, passing_later, passing_sooner, passing_within, position_passing, passed_before}
 use Rattle.rg_engine.proofs.Values.{vals, vals-append, vals-few, vals-kind, leads_add, leads_remove}
 use Rattle.rg_engine.proofs.Passes.{leads_quiet, leads_at}
 use Rattle.rg_engine.proofs.Sides.{which, one_place, lower_place, has_in, has_out, has_not, deed_in, deed_out, deed_none, values_slice, values_front}
-
-same_some : {A : Type 0} {x y : A} → Some x ≡ Some y → x ≡ y
-same_some e = cc
-
-none_some : {A : Type 0} {x : A} → None ≡ Some x → ⊥
-none_some e = cc
+use Rattle.rg_engine.proofs.Plain.{none_some, same_some}
 
 -- one edge of the node's window, from the last time to time t
 record Passed (events : List Event) (front : List Event) (t offset place : ℕ) (offsets : List ℕ) (edge : ℕ) (visited : List Event) : Type 0 where
@@ -39,18 +34,6 @@ record Passed (events : List Event) (front : List Event) (t offset place : ℕ) 
 module _ (node : Node) (front more : List Event) (t : ℕ) (offsets numbers : List ℕ) (starts : Starts node front more offsets numbers) where
   times : TimesFrom 0 (front ++ more)
   times = rising_times (front ++ more) starts.ordered
-
-  -- an edge that has gone all its way stands at its position
-  pub place_reached : (new : List ℕ) (edge offset : ℕ) → last_time front ≤ t → slice_get offsets edge ≡ Some offset → has_edge node.window offset ≡ true → Reaches (front ++ more) t offsets numbers new edge →
-      slice_index_or new edge 0 ≡ position (front ++ more) t offset
-  place_reached new edge offset later there is reaches =
-      let o : get_or offsets edge 0 ≡ offset = get_or_from_slice_get offsets edge offset 0 there in
-      let p : get_or numbers edge 0 ≡ length (passing offset (last_time front) front) = starts.places edge offset there is ∙ position_passing offset (last_time front) 0 front (times_front 0 front more times) in
-      let l : get_or numbers edge 0 ≤ length (passing offset t (front ++ more)) = omega (arith, p, passing_later offset (last_time front) t front more later) in
-      reaches
-      ∙ ap (λ v. get_or numbers edge 0 + length (passed (front ++ more) t v (get_or numbers edge 0))) o
-      ∙ passing_drop offset t (front ++ more) (get_or numbers edge 0) l
-      ∙ sym (position_passing offset t 0 (front ++ more) times)
 
   module _ (key : List ℕ) (passes : List (List Event)) (same : length passes ≡ length offsets) (known : VisitsBefore node (front ++ more) t offsets numbers passes (length offsets)) where
     passed_there : last_time front ≤ t → (edge offset : ℕ) → slice_get offsets edge ≡ Some offset → has_edge node.window offset ≡ true → Passed (front ++ more) front t offset (get_or numbers edge 0) offsets edge (visited_at passes edge)

@@ -1,5 +1,5 @@
 -- When columns serve a plan.
-use Rattle.std.proofs.Common.{◌≡◌, ◌<◌, ℕ, List, length, get_or, Option, Some, None, All, refl, ap, sym, ◌∙◌, subst}
+use Rattle.std.proofs.Common.{◌≡◌, ℕ, List, Option, Some, None, All, refl, ap, sym, ◌∙◌, subst}
 use Rattle.std.specs.Prelude.{slice_get, option_map, option_and_then}
 use Rattle.std.proofs.lemmas.Option.{slice_get_within, get_or_from_slice_get}
 use Rattle.rg_event.specs.declared.schema.Field.{Field}
@@ -7,16 +7,11 @@ use Rattle.rg_metric.specs.declared.query.Agg.{Agg}
 use Rattle.rg_metric.specs.declared.query.Window.{Window}
 use Rattle.rg_plan.specs.declared.node.GroupNode.{GroupNode}
 use Rattle.rg_plan.specs.declared.node.AggNode.{AggNode}
-use Rattle.rg_plan.specs.Named.{Node, node_at, under_agg, under_group, under_filter}
+use Rattle.rg_plan.specs.Named.{Node, under_agg, under_group, under_filter}
 use Rattle.rg_plan.specs.Nodes.{Filtered}
 use Rattle.rg_plan.specs.Plans.{Planned}
 use Rattle.rg_engine.specs.Feeding.{Serves, IsServed, IsLasting}
-
-none_some : {A : Type 0} {x : A} → None ≡ Some x → ⊥
-none_some e = cc
-
-same_some : {A : Type 0} {x y : A} → Some x ≡ Some y → x ≡ y
-same_some e = cc
+use Rattle.rg_engine.proofs.Plain.{none_some, same_some}
 
 -- where the window and the aggregator of a node stand
 record Seen (plan : Planned) (agg : Agg) (node : Node) : Type 0 where

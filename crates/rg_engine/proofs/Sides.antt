@@ -13,7 +13,8 @@ use Rattle.rg_window.specs.Passing.{has_come, passing}
 use Rattle.rg_engine.specs.Windows.{passes_at, node_values}
 use Rattle.rg_engine.specs.Standing.{has_edge, leaves_at}
 use Rattle.rg_engine.specs.Deeds.{side_of, deed_by, node_deed, handed}
-use Rattle.rg_engine.proofs.Slices.{TimesFrom, true_false, is_false, window_front, window_slice}
+use Rattle.rg_engine.proofs.Slices.{TimesFrom, true_false, window_front, window_slice}
+use Rattle.rg_engine.proofs.Plain.{is_false}
 use Rattle.rg_engine.proofs.Values.{vals}
 
 same : (n : ℕ) → (n == n) ≡ true

@@ -7,6 +7,7 @@ use Rattle.rg_event.specs.declared.event.Event.{Event}
 use Rattle.rg_past.specs.Order.{last_time, IsRising}
 use Rattle.rg_window.specs.Passing.{has_come, passing, passed}
 use Rattle.rg_engine.specs.Windows.{position}
+use Rattle.rg_engine.proofs.Plain.{is_false}
 
 pub true_false : true ≡ false → ⊥
 true_false e = cc
@@ -16,10 +17,6 @@ le_or a b = grind arith
 
 not_le : (a b : ℕ) → nat_le a b ≡ false → b < a
 not_le a b e = elim (le_or b a) [ inl h ↦ absurd (true_false (sym (le-leb a b h) ∙ e)) | inr h ↦ h ]
-
-pub is_false : (b : Bool) → (b ≡ true → ⊥) → b ≡ false
-is_false true h = absurd (h refl)
-is_false false h = refl
 
 -- Times
 

@@ -1,6 +1,6 @@
 -- One event more.
-use Rattle.std.proofs.Common.{◌≡◌, ◌≤◌, ◌<◌, ℕ, List, [], ◌∷◌, ◌++◌, length, get_or, All, flat_map, Option, Some, refl, ap, sym, ◌∙◌, subst, arith, append_assoc}
-use Rattle.std.specs.Prelude.{slice_get}
+use Rattle.std.proofs.Common.{◌≡◌, ◌<◌, ℕ, List, [], ◌∷◌, ◌++◌, length, slice_get, get_or, All, flat_map, Some, refl, ap, sym, ◌∙◌, subst, arith, append_assoc}
+use Rattle.std.proofs.lemmas.List.{length-map}
 use Rattle.std.proofs.lemmas.List.Elements.{All-head, All-tail, All-nil, All-append}
 use Rattle.std.proofs.lemmas.Option.{slice_get-get_or, slice_get_within}
 use Rattle.rg_event.specs.Codec.{IsEventOf}
@@ -14,14 +14,14 @@ use Rattle.rg_plan.specs.Named.{node_at}
 use Rattle.rg_plan.specs.Plans.{Planned, plan_for}
 use Rattle.rg_plan.specs.Whole.{IsWhole}
 use Rattle.rg_state.specs.Rows.{Cells, Same}
-use Rattle.rg_window.specs.Placed.{Placed, IsSpelledAt}
+use Rattle.rg_window.specs.Placed.{Placed, IsSpelledAt, numbers_of}
 use Rattle.rg_engine.specs.declared.part.FilterPart.{FilterPart}
 use Rattle.rg_engine.specs.Answering.{node_answers, nodes_asked}
 use Rattle.rg_engine.specs.Building.{IsBuilt}
 use Rattle.rg_engine.specs.Feeding.{IsFed}
 use Rattle.rg_engine.specs.Parts.{ArePartsOf}
-use Rattle.rg_engine.specs.Standing.{RowIs, HasEdge, IsTold, NodeStands}
-use Rattle.rg_engine.proofs.Answered.{IsKeyed, keyed, all_keyed, all_answers}
+use Rattle.rg_engine.specs.Standing.{RowIs, IsTold, NodeStands}
+use Rattle.rg_engine.proofs.Answered.{keyed, all_keyed, all_answers}
 
 -- the last time with one event more
 pub last_of : (events : List Event) (e : Event) → last_time (events ++ e ∷ []) ≡ e.time
@@ -54,11 +54,19 @@ spelled_later Spells Later spots edge goes k = (k.0, k.1, goes k.0 k.2)
 abbrev no_spot : Spot
 no_spot = record { place = 0; index = 0; number = 0 }
 
--- where all spots are spelled, those of each node are
-pub all_told : (plan : Planned) (n : ℕ) (Spells : Spot → Type 0) (spots : List Spot) → length spots ≡ length plan.offsets → All Spells spots → IsTold plan n Spells spots
-all_told plan n Spells spots same all = λ edge offset is has.
-    let below : edge < length spots = omega (arith, slice_get_within plan.offsets edge offset is, same) in
+-- where all spots are spelled, the one of an offset is
+pub spelled_at : (Spells : Spot → Type 0) (spots : List Spot) (offsets : List ℕ) (edge offset : ℕ) → length spots ≡ length offsets → All Spells spots → slice_get offsets edge ≡ Some offset → IsSpelledAt Spells spots edge
+spelled_at Spells spots offsets edge offset same all is =
+    let below : edge < length spots = omega (arith, slice_get_within offsets edge offset is, same) in
     (get_or spots edge no_spot, slice_get-get_or spots edge no_spot below, all edge no_spot below)
+
+-- and so are those of each node
+pub all_told : (plan : Planned) (n : ℕ) (Spells : Spot → Type 0) (spots : List Spot) → length spots ≡ length plan.offsets → All Spells spots → IsTold plan n Spells spots
+all_told plan n Spells spots same all = λ edge offset is has. spelled_at Spells spots plan.offsets edge offset same all is
+
+-- as many spots as offsets, also seen by their numbers
+pub numbers_same : (plan : Planned) (edges : Placed) (spots : List Spot) (parts : List FilterPart) (nodes : List ℕ) (keys : List (List ℕ)) → IsBuilt plan edges parts nodes keys → length spots ≡ length edges.spots → length (numbers_of spots) ≡ length plan.offsets
+numbers_same plan edges spots parts nodes keys built same = length-map spots (λ (spot : Spot). spot.number) ∙ same ∙ built.same ∙ ap length built.offsets
 
 -- the events in front, and one event more
 pub front_and_more : (events all front more : List Event) (e : Event) → all ≡ events ++ e ∷ [] → events ≡ front ++ more → all ≡ front ++ (more ++ e ∷ [])

@@ -1,6 +1,6 @@
 -- Visits of the rows of a table.
-use Rattle.std.proofs.Common.{◌≡◌, ◌↔◌, ℕ, ◌≤◌, ◌<◌, ◌+◌, ◌^◌, List, [], ◌∷◌, ◌++◌, length, get_or, map, Option, Some, None, refl, ap, sym, ◌∙◌, subst, sum_by, arith}
-use Rattle.std.specs.Prelude.{Result, Ok, Err, slice_get, slice_index_or}
+use Rattle.std.proofs.Common.{◌≡◌, ◌↔◌, ℕ, ◌≤◌, ◌<◌, ◌+◌, ◌^◌, List, ◌++◌, length, get_or, Option, Some, None, refl, ap, ◌∙◌, subst, arith}
+use Rattle.std.specs.Prelude.{Result, Ok, slice_get, slice_index_or}
 use Rattle.std.proofs.lemmas.Option.{slice_get_within}
 use Rattle.rg_bytes.specs.Counts.{Rose}
 use Rattle.rg_event.specs.declared.event.Event.{Event}
@@ -12,10 +12,10 @@ use Rattle.rg_state.specs.Rows.{Cells}
 use Rattle.rg_state.specs.declared.table.TableFault.{TableFault}
 use Rattle.rg_state.specs.declared.table.TableFault.TheVariants.{BadState, Disk}
 use Rattle.rg_window.specs.Passing.{at_edge, edge_by_edge, Reaches}
-use Rattle.rg_window.specs.Chain.{Visited, Moved, Halted}
+use Rattle.rg_window.specs.Chain.{Visited, Moved}
 use Rattle.rg_window.specs.Halting.{HaltsAt}
 use Rattle.rg_window.specs.declared.edges.MoveFault.{MoveFault}
-use Rattle.rg_window.specs.declared.edges.MoveFault.TheVariants.{Past, Visit}
+use Rattle.rg_window.specs.declared.edges.MoveFault.TheVariants.{Visit}
 use Rattle.rg_engine.specs.declared.part.FilterPart.{FilterPart}
 use Rattle.rg_engine.specs.Standing.{HasEdge, NodeStands, come}
 use Rattle.rg_engine.specs.Feeding.{IsFed}

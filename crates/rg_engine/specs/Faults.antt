@@ -1,4 +1,6 @@
 -- What the faults of a table and of a move are called.
+use Rattle.std.specs.Prelude.{◌≡◌, ◌⊎◌, Result, Ok, Err}
+use Rattle.rg_past.specs.declared.past.PastFault.TheVariants as past
 use Rattle.rg_state.specs.declared.table.TableFault.{TableFault}
 use Rattle.rg_state.specs.declared.table.TableFault.TheVariants as table
 use Rattle.rg_window.specs.declared.edges.MoveFault.{MoveFault}
@@ -14,3 +16,8 @@ table_fault_of table.Disk = fault.Table
 abbrev pub move_fault_of : MoveFault TableFault → EngineFault
 move_fault_of (move.Past cause) = fault.Past cause
 move_fault_of (move.Visit cause) = table_fault_of cause
+
+-- memory ran out, of the past or besides
+abbrev pub WantsMemory : {A : Type 0} → Result A EngineFault → Type 0
+WantsMemory (Ok answer) = ⊥
+WantsMemory (Err cause) = (cause ≡ fault.Memory) ⊎ (cause ≡ fault.Past past.Memory)

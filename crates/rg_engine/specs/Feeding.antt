@@ -1,5 +1,5 @@
 -- Events that a plan can be fed with: all of one schema, over which its queries are legal.
-use Rattle.std.specs.Prelude.{◌≡◌, ◌⊎◌, ◌<◌, ℕ, suc, List, Option, Some, slice_get, All}
+use Rattle.std.specs.Prelude.{◌≡◌, ◌⊎◌, ◌<◌, ℕ, suc, List, Some, slice_get, All}
 use Rattle.std.specs.Option.{ForSome}
 use Rattle.rg_event.specs.Codec.{IsValueOf, IsEventOf}
 use Rattle.rg_event.specs.declared.event.Event.{Event}
@@ -8,7 +8,6 @@ use Rattle.rg_event.specs.declared.value.Value.{Value}
 use Rattle.rg_words.specs.declared.func.Func.TheVariants.{Count}
 use Rattle.rg_metric.specs.declared.query.Agg.{Agg}
 use Rattle.rg_metric.specs.declared.query.Window.{Window}
-use Rattle.rg_metric.specs.Queries.{Asked}
 use Rattle.rg_plan.specs.Named.{Node, node_at}
 use Rattle.rg_plan.specs.Plans.{Planned}
 use Rattle.rg_state.specs.Takes.{Takes}

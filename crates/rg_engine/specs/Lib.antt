@@ -3,6 +3,7 @@ pub mod Windows
 pub mod Faults
 pub mod Feeding
 pub mod Standing
+pub mod Passed
 pub mod Answering
 pub mod Building
 pub mod Deeds

@@ -1,5 +1,5 @@
 -- What the rows and edges of an engine stand for.
-use Rattle.std.specs.Prelude.{◌≡◌, ℕ, ◌+◌, ◌==◌, ◌||◌, Bool, true, false, List, [], ◌∷◌, map, Option, Some, None, slice_get, slice_index_or, sum_by, if◌then◌else◌}
+use Rattle.std.specs.Prelude.{◌≡◌, ℕ, ◌+◌, ◌==◌, ◌||◌, Bool, true, false, List, [], ◌∷◌, Option, Some, None, slice_get, slice_index_or, sum_by, if◌then◌else◌}
 use Rattle.rg_event.specs.declared.event.Event.{Event}
 use Rattle.rg_metric.specs.declared.query.Window.{Window}
 use Rattle.rg_past.specs.declared.past.Spot.{Spot}
@@ -35,15 +35,14 @@ HasEdge (Some node) offset = has_edge node.window offset ≡ true
 abbrev pub IsTold : Planned → ℕ → (Spot → Type 0) → List Spot → Type 0
 IsTold plan n Spells spots = (edge offset : ℕ) → slice_get plan.offsets edge ≡ Some offset → HasEdge (node_at plan n) offset → IsSpelledAt Spells spots edge
 
+-- the edge of that index is where one of that offset stands at the time of the last event
+abbrev pub IsAtPosition : List Event → List ℕ → ℕ → ℕ → Type 0
+IsAtPosition events numbers edge offset = slice_index_or numbers edge 0 ≡ position events (last_time events) offset
+
 -- one node by itself: its rows, by key, stand for these events, and each edge of its window is at its position
 pub record NodeStands (plan : Planned) (n : ℕ) (events : List Event) (cells : Cells) (numbers : List ℕ) : Type 0 where
   pub rows : (key : List ℕ) → RowIs (node_at plan n) key (last_time events) events (cells n key)
-  pub places : (edge offset : ℕ) → slice_get plan.offsets edge ≡ Some offset → HasEdge (node_at plan n) offset → slice_index_or numbers edge 0 ≡ position events (last_time events) offset
-
--- all rows stand for these events, there are no others, and each edge is at its position
-pub record Stands (plan : Planned) (events : List Event) (cells : Cells) (numbers : List ℕ) : Type 0 where
-  pub nodes : (n : ℕ) → NodeStands plan n events cells numbers
-  pub places : numbers ≡ map (position events (last_time events)) plan.offsets
+  pub places : (edge offset : ℕ) → slice_get plan.offsets edge ≡ Some offset → HasEdge (node_at plan n) offset → IsAtPosition events numbers edge offset
 
 -- how far the edges of offsets that are a window's have come, in all
 abbrev pub edges_come : Window → List ℕ → List ℕ → ℕ

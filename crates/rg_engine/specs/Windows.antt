@@ -1,5 +1,5 @@
 -- The values that a node's aggregator has for a key at a time, from scratch.
-use Rattle.std.specs.Prelude.{ℕ, nat_le, ◌&&◌, Bool, List, length, bytes_eq}
+use Rattle.std.specs.Prelude.{ℕ, ◌&&◌, Bool, List, length, bytes_eq}
 use Rattle.std.specs.List.{filter}
 use Rattle.rg_event.specs.declared.event.Event.{Event}
 use Rattle.rg_event.specs.declared.value.Value.{Value}

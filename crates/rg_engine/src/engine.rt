@@ -1,4 +1,4 @@
-ghost use Rattle.std.specs.Prelude.{◌≡◌, ◌↔◌, ◌⊎◌, ℕ, ◌+◌, ◌≤◌, ◌<◌, List, [], ◌∷◌, ◌++◌, length, true, false, All, IfOk, IfErr, OnOk, OnErr, IsErrOf, IsTrue};
+ghost use Rattle.std.specs.Prelude.{◌≡◌, ◌↔◌, ◌⊎◌, ℕ, ◌+◌, ◌≤◌, ◌<◌, List, [], ◌∷◌, ◌++◌, length, true, false, Some, slice_get, slice_index_or, All, IfOk, IfErr, OnOk, OnErr, IsErrOf, IsTrue};
 ghost use Rattle.std.specs.Borrow.{Lends, sem};
 ghost use Rattle.rg_bytes.specs.Counts.{Rose};
 ghost use Rattle.rg_event.specs.declared.event.Event.{Event};
@@ -9,7 +9,9 @@ ghost use Rattle.rg_plan.specs.Plans.{plan_for};
 ghost use Rattle.rg_window.specs.Placed.{AreWithin, IsSpelledAt, numbers_of};
 ghost use Rattle.rg_engine.specs.contracts.engine.Engine.{the_row};
 ghost use Rattle.rg_engine.specs.Feeding.{IsFed};
-ghost use Rattle.rg_engine.specs.Standing.{IsTold, NodeStands, come};
+ghost use Rattle.rg_engine.specs.Faults.{WantsMemory};
+ghost use Rattle.rg_engine.specs.Passed.{AreAtPositions, passed_count};
+ghost use Rattle.rg_engine.specs.Standing.{IsAtPosition, IsTold, NodeStands, come};
 
 use crate::changer::Rows;
 use crate::fault::EngineFault;
@@ -63,6 +65,7 @@ impl<T: Table> Engine<T> {
         ensures ended { IfOk result (λ engine. engine.ended ≡ false) }
         ensures err { IfErr result (λ refused. refused.1 ≡ table) }
     {
+        // a plan that exists is one that was compiled
         let _queries = plan.queries();
         match set_up(alloc, &plan, at) {
             Err(memory) => return Err((memory, table)),
@@ -86,7 +89,8 @@ impl<T: Table> Engine<T> {
 
     /// Appends an event to the past, moves the edges to its time, and answers it: for each aggregator of
     /// each query, in order, over the events, itself among them, that are in the query's window at its
-    /// time, meet the condition and have its key. Each edge takes a step for each filter node and event.
+    /// time, meet the condition and have its key. One step is counted for each filter node and each event
+    /// that an edge of its window passed.
     ///
     /// A past that is full leaves all as it was. Any other refusal ends the engine: each later call is
     /// refused with `Ended`, and touches nothing.
@@ -100,31 +104,44 @@ impl<T: Table> Engine<T> {
         requires fits { P.fits past.old event }
         requires follows { MayFollow (P.events past.old) event }
         requires within { AreWithin self.old.spots (length (P.events past.old)) }
-        requires fed { IsFed self.old.plan (P.events past.old ++ event ∷ []) }
         ensures stands { (n : ℕ) (front more : List Event) → P.sound past.old →
             IsTold self.old.plan n (P.spells past.old) self.old.spots → T.tells self.old.table →
-            P.events past.old ≡ front ++ more →
+            IsFed self.old.plan (P.events past.old ++ event ∷ []) → P.events past.old ≡ front ++ more →
             NodeStands self.old.plan n front (T.cell self.old.table) (numbers_of self.old.spots) →
             OnOk result (NodeStands self.old.plan n (P.events past.new) (T.cell self.new.table) (numbers_of self.new.spots)) }
+        ensures places { (edge offset : ℕ) (front more : List Event) → P.sound past.old →
+            IsSpelledAt (P.spells past.old) self.old.spots edge → P.events past.old ≡ front ++ more →
+            slice_get self.old.plan.offsets edge ≡ Some offset →
+            IsAtPosition front (numbers_of self.old.spots) edge offset →
+            OnOk result (IsAtPosition (P.events past.new) (numbers_of self.new.spots) edge offset) }
         ensures answers { (queries : List Asked) (front more : List Event) → self.old.plan ≡ plan_for queries →
             P.sound past.old → All (P.spells past.old) self.old.spots → T.tells self.old.table →
-            P.events past.old ≡ front ++ more →
+            IsFed self.old.plan (P.events past.old ++ event ∷ []) → P.events past.old ≡ front ++ more →
             ((n : ℕ) → NodeStands self.old.plan n front (T.cell self.old.table) (numbers_of self.old.spots)) →
             IfOk result (λ answers. answers ≡ answers_to queries (P.events past.old ++ event ∷ []) event) }
         ensures bad { (n : ℕ) (front more : List Event) → IsErrOf result (EngineFault.BadState n) → P.sound past.old →
             IsTold self.old.plan n (P.spells past.old) self.old.spots → T.tells self.old.table →
-            P.events past.old ≡ front ++ more →
+            IsFed self.old.plan (P.events past.old ++ event ∷ []) → P.events past.old ≡ front ++ more →
             NodeStands self.old.plan n front (T.cell self.old.table) (numbers_of self.old.spots) → ⊥ }
         ensures ticks { OnOk result (steps.new + come self.old.plan (numbers_of self.old.spots)
             ≡ steps.old + come self.old.plan (numbers_of self.new.spots)) }
+        ensures passed { (front more : List Event) → P.sound past.old → All (P.spells past.old) self.old.spots →
+            P.events past.old ≡ front ++ more → AreAtPositions self.old.plan front (numbers_of self.old.spots) →
+            OnOk result (steps.new ≡ steps.old + passed_count self.old.plan front (P.events past.new)) }
+        ensures rises { (edge : ℕ) → slice_index_or (numbers_of self.old.spots) edge 0
+            ≤ slice_index_or (numbers_of self.new.spots) edge 0 }
         ensures events { OnOk result (P.events past.new ≡ P.events past.old ++ event ∷ []) }
         ensures below { OnOk result (length (P.events past.old) < P.limit past.old) }
 
         ensures full { IsErrOf result (EngineFault.Past PastFault.Full) → P.limit past.old ≤ length (P.events past.old) }
+        ensures full_always { self.old.ended ≡ false → (P.ended past.old → ⊥) → P.limit past.old ≤ length (P.events past.old) →
+            IsErrOf result (EngineFault.Past PastFault.Full) ⊎ WantsMemory result }
         ensures full_same { IsErrOf result (EngineFault.Past PastFault.Full) → self.new ≡ self.old }
         ensures full_events { IsErrOf result (EngineFault.Past PastFault.Full) → P.events past.new ≡ P.events past.old }
         ensures keeps_room { IsErrOf result (EngineFault.Past PastFault.Full) → P.has_room past.new }
         ensures past_ended { IsErrOf result (EngineFault.Past PastFault.Ended) → P.ended past.old }
+        ensures past_ended_always { self.old.ended ≡ false → P.ended past.old →
+            IsErrOf result (EngineFault.Past PastFault.Ended) ⊎ WantsMemory result }
         ensures disk { IsErrOf result (EngineFault.Past PastFault.Disk) → Rose (P.faults past.old) (P.faults past.new) }
         ensures damaged { (place : ℕ) → IsErrOf result (EngineFault.Past (PastFault.Damaged place)) →
             P.illegal past.new place }
@@ -171,21 +188,33 @@ impl<T: Table> Engine<T> {
         steps: &mut Steps<L>,
     ) -> Result<(), EngineFault>
         requires within { AreWithin self.old.spots (length (P.events past.old)) }
-        requires fed { IsFed self.old.plan (P.events past.old) }
         ensures stands { (n : ℕ) (front more : List Event) → P.sound past.old →
             IsTold self.old.plan n (P.spells past.old) self.old.spots → T.tells self.old.table →
-            P.events past.old ≡ front ++ more → last_time (P.events past.old) ≡ t →
+            IsFed self.old.plan (P.events past.old) → P.events past.old ≡ front ++ more → last_time (P.events past.old) ≡ t →
             NodeStands self.old.plan n front (T.cell self.old.table) (numbers_of self.old.spots) →
             OnOk result (NodeStands self.old.plan n (P.events past.new) (T.cell self.new.table) (numbers_of self.new.spots)) }
+        ensures places { (edge offset : ℕ) (front more : List Event) → P.sound past.old →
+            IsSpelledAt (P.spells past.old) self.old.spots edge → P.events past.old ≡ front ++ more →
+            last_time (P.events past.old) ≡ t → slice_get self.old.plan.offsets edge ≡ Some offset →
+            IsAtPosition front (numbers_of self.old.spots) edge offset →
+            OnOk result (IsAtPosition (P.events past.new) (numbers_of self.new.spots) edge offset) }
         ensures bad { (n : ℕ) (front more : List Event) → IsErrOf result (EngineFault.BadState n) → P.sound past.old →
             IsTold self.old.plan n (P.spells past.old) self.old.spots → T.tells self.old.table →
-            P.events past.old ≡ front ++ more →
+            IsFed self.old.plan (P.events past.old) → P.events past.old ≡ front ++ more →
             NodeStands self.old.plan n front (T.cell self.old.table) (numbers_of self.old.spots) → ⊥ }
         ensures ticks { OnOk result (steps.new + come self.old.plan (numbers_of self.old.spots)
             ≡ steps.old + come self.old.plan (numbers_of self.new.spots)) }
+        ensures passed { (front more : List Event) → P.sound past.old → All (P.spells past.old) self.old.spots →
+            P.events past.old ≡ front ++ more → last_time (P.events past.old) ≡ t →
+            AreAtPositions self.old.plan front (numbers_of self.old.spots) →
+            OnOk result (steps.new ≡ steps.old + passed_count self.old.plan front (P.events past.new)) }
+        ensures rises { (edge : ℕ) → slice_index_or (numbers_of self.old.spots) edge 0
+            ≤ slice_index_or (numbers_of self.new.spots) edge 0 }
         ensures events { P.events past.new ≡ P.events past.old }
         ensures no_full { IsErrOf result (EngineFault.Past PastFault.Full) → ⊥ }
         ensures past_ended { IsErrOf result (EngineFault.Past PastFault.Ended) → P.ended past.old }
+        ensures past_ended_always { self.old.ended ≡ false → P.ended past.old → 0 < length self.old.plan.offsets →
+            IsErrOf result (EngineFault.Past PastFault.Ended) }
         ensures disk { IsErrOf result (EngineFault.Past PastFault.Disk) → Rose (P.faults past.old) (P.faults past.new) }
         ensures damaged { (place : ℕ) → IsErrOf result (EngineFault.Past (PastFault.Damaged place)) →
             P.illegal past.new place }

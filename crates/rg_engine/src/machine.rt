@@ -1,4 +1,4 @@
-ghost use Rattle.std.specs.Prelude.{◌≡◌, ◌↔◌, ◌⊎◌, ℕ, ◌+◌, ◌≤◌, ◌<◌, List, [], ◌∷◌, ◌++◌, length, All, IfOk, OnOk, OnErr, IsErrOf};
+ghost use Rattle.std.specs.Prelude.{◌≡◌, ◌↔◌, ◌⊎◌, ℕ, ◌+◌, ◌≤◌, ◌<◌, List, [], ◌∷◌, ◌++◌, length, Some, slice_get, slice_index_or, All, IfOk, OnOk, OnErr, IsErrOf};
 ghost use Rattle.rg_bytes.specs.Counts.{Rose};
 ghost use Rattle.rg_event.specs.declared.event.Event.{Event};
 ghost use Rattle.rg_metric.specs.Queries.{Asked};
@@ -9,7 +9,9 @@ ghost use Rattle.rg_plan.specs.Whole.{IsWhole};
 ghost use Rattle.rg_window.specs.Placed.{AreWithin, IsSpelledAt, numbers_of};
 ghost use Rattle.rg_engine.specs.Building.{IsBuilt};
 ghost use Rattle.rg_engine.specs.Feeding.{IsFed};
-ghost use Rattle.rg_engine.specs.Standing.{IsTold, NodeStands, come};
+ghost use Rattle.rg_engine.specs.Faults.{WantsMemory};
+ghost use Rattle.rg_engine.specs.Passed.{AreAtPositions, passed_count};
+ghost use Rattle.rg_engine.specs.Standing.{IsAtPosition, IsTold, NodeStands, come};
 
 use crate::answering::{answer_each, make_keys};
 use crate::changer::Rows;
@@ -81,33 +83,45 @@ impl<T: Table> Machine<T> {
         requires fits { P.fits past.old event }
         requires follows { MayFollow (P.events past.old) event }
         requires within { AreWithin self.old.edges.spots (length (P.events past.old)) }
-        requires fed { IsFed self.old.plan (P.events past.old ++ event ∷ []) }
         requires built { IsBuilt self.old.plan self.old.edges self.old.rows.parts.items self.old.nodes.items self.old.keys.items }
         ensures stands { (n : ℕ) (front more : List Event) → P.sound past.old →
             IsTold self.old.plan n (P.spells past.old) self.old.edges.spots → T.tells self.old.rows.table →
-            P.events past.old ≡ front ++ more →
+            IsFed self.old.plan (P.events past.old ++ event ∷ []) → P.events past.old ≡ front ++ more →
             NodeStands self.old.plan n front (T.cell self.old.rows.table) (numbers_of self.old.edges.spots) →
             OnOk result (NodeStands self.old.plan n (P.events past.new) (T.cell self.new.rows.table) (numbers_of self.new.edges.spots)) }
+        ensures places { (edge offset : ℕ) (front more : List Event) → P.sound past.old →
+            IsSpelledAt (P.spells past.old) self.old.edges.spots edge → P.events past.old ≡ front ++ more →
+            slice_get self.old.plan.offsets edge ≡ Some offset →
+            IsAtPosition front (numbers_of self.old.edges.spots) edge offset →
+            OnOk result (IsAtPosition (P.events past.new) (numbers_of self.new.edges.spots) edge offset) }
         ensures answers { (queries : List Asked) (front more : List Event) → self.old.plan ≡ plan_for queries →
             P.sound past.old → All (P.spells past.old) self.old.edges.spots → T.tells self.old.rows.table →
-            P.events past.old ≡ front ++ more →
+            IsFed self.old.plan (P.events past.old ++ event ∷ []) → P.events past.old ≡ front ++ more →
             ((n : ℕ) → NodeStands self.old.plan n front (T.cell self.old.rows.table) (numbers_of self.old.edges.spots)) →
             IfOk result (λ answers. answers.items ≡ answers_to queries (P.events past.old ++ event ∷ []) event) }
         ensures bad { (n : ℕ) (front more : List Event) → IsErrOf result (EngineFault.BadState n) → P.sound past.old →
             IsTold self.old.plan n (P.spells past.old) self.old.edges.spots → T.tells self.old.rows.table →
-            P.events past.old ≡ front ++ more →
+            IsFed self.old.plan (P.events past.old ++ event ∷ []) → P.events past.old ≡ front ++ more →
             NodeStands self.old.plan n front (T.cell self.old.rows.table) (numbers_of self.old.edges.spots) → ⊥ }
         ensures ticks { OnOk result (steps.new + come self.old.plan (numbers_of self.old.edges.spots)
             ≡ steps.old + come self.old.plan (numbers_of self.new.edges.spots)) }
+        ensures passed { (front more : List Event) → P.sound past.old → All (P.spells past.old) self.old.edges.spots →
+            P.events past.old ≡ front ++ more → AreAtPositions self.old.plan front (numbers_of self.old.edges.spots) →
+            OnOk result (steps.new ≡ steps.old + passed_count self.old.plan front (P.events past.new)) }
+        ensures rises { (edge : ℕ) → slice_index_or (numbers_of self.old.edges.spots) edge 0
+            ≤ slice_index_or (numbers_of self.new.edges.spots) edge 0 }
         ensures events { OnOk result (P.events past.new ≡ P.events past.old ++ event ∷ []) }
         ensures below { OnOk result (length (P.events past.old) < P.limit past.old) }
 
         ensures full { IsErrOf result (EngineFault.Past PastFault.Full) → P.limit past.old ≤ length (P.events past.old) }
+        ensures full_always { (P.ended past.old → ⊥) → P.limit past.old ≤ length (P.events past.old) →
+            IsErrOf result (EngineFault.Past PastFault.Full) ⊎ WantsMemory result }
         ensures full_edges { IsErrOf result (EngineFault.Past PastFault.Full) → self.new.edges ≡ self.old.edges }
         ensures full_rows { IsErrOf result (EngineFault.Past PastFault.Full) → self.new.rows.table ≡ self.old.rows.table }
         ensures full_events { IsErrOf result (EngineFault.Past PastFault.Full) → P.events past.new ≡ P.events past.old }
         ensures keeps_room { IsErrOf result (EngineFault.Past PastFault.Full) → P.has_room past.new }
         ensures past_ended { IsErrOf result (EngineFault.Past PastFault.Ended) → P.ended past.old }
+        ensures past_ended_always { P.ended past.old → IsErrOf result (EngineFault.Past PastFault.Ended) ⊎ WantsMemory result }
         ensures disk { IsErrOf result (EngineFault.Past PastFault.Disk) → Rose (P.faults past.old) (P.faults past.new) }
         ensures damaged { (place : ℕ) → IsErrOf result (EngineFault.Past (PastFault.Damaged place)) →
             P.illegal past.new place }
@@ -172,22 +186,34 @@ impl<T: Table> Machine<T> {
         steps: &mut Steps<L>,
     ) -> Result<(), EngineFault>
         requires within { AreWithin self.old.edges.spots (length (P.events past.old)) }
-        requires fed { IsFed self.old.plan (P.events past.old) }
         requires built { IsBuilt self.old.plan self.old.edges self.old.rows.parts.items self.old.nodes.items self.old.keys.items }
         ensures stands { (n : ℕ) (front more : List Event) → P.sound past.old →
             IsTold self.old.plan n (P.spells past.old) self.old.edges.spots → T.tells self.old.rows.table →
-            P.events past.old ≡ front ++ more → last_time (P.events past.old) ≡ t →
+            IsFed self.old.plan (P.events past.old) → P.events past.old ≡ front ++ more → last_time (P.events past.old) ≡ t →
             NodeStands self.old.plan n front (T.cell self.old.rows.table) (numbers_of self.old.edges.spots) →
             OnOk result (NodeStands self.old.plan n (P.events past.new) (T.cell self.new.rows.table) (numbers_of self.new.edges.spots)) }
+        ensures places { (edge offset : ℕ) (front more : List Event) → P.sound past.old →
+            IsSpelledAt (P.spells past.old) self.old.edges.spots edge → P.events past.old ≡ front ++ more →
+            last_time (P.events past.old) ≡ t → slice_get self.old.plan.offsets edge ≡ Some offset →
+            IsAtPosition front (numbers_of self.old.edges.spots) edge offset →
+            OnOk result (IsAtPosition (P.events past.new) (numbers_of self.new.edges.spots) edge offset) }
         ensures bad { (n : ℕ) (front more : List Event) → IsErrOf result (EngineFault.BadState n) → P.sound past.old →
             IsTold self.old.plan n (P.spells past.old) self.old.edges.spots → T.tells self.old.rows.table →
-            P.events past.old ≡ front ++ more →
+            IsFed self.old.plan (P.events past.old) → P.events past.old ≡ front ++ more →
             NodeStands self.old.plan n front (T.cell self.old.rows.table) (numbers_of self.old.edges.spots) → ⊥ }
         ensures ticks { OnOk result (steps.new + come self.old.plan (numbers_of self.old.edges.spots)
             ≡ steps.old + come self.old.plan (numbers_of self.new.edges.spots)) }
+        ensures passed { (front more : List Event) → P.sound past.old → All (P.spells past.old) self.old.edges.spots →
+            P.events past.old ≡ front ++ more → last_time (P.events past.old) ≡ t →
+            AreAtPositions self.old.plan front (numbers_of self.old.edges.spots) →
+            OnOk result (steps.new ≡ steps.old + passed_count self.old.plan front (P.events past.new)) }
+        ensures rises { (edge : ℕ) → slice_index_or (numbers_of self.old.edges.spots) edge 0
+            ≤ slice_index_or (numbers_of self.new.edges.spots) edge 0 }
         ensures events { P.events past.new ≡ P.events past.old }
         ensures no_full { IsErrOf result (EngineFault.Past PastFault.Full) → ⊥ }
         ensures past_ended { IsErrOf result (EngineFault.Past PastFault.Ended) → P.ended past.old }
+        ensures past_ended_always { P.ended past.old → 0 < length self.old.plan.offsets →
+            IsErrOf result (EngineFault.Past PastFault.Ended) }
         ensures disk { IsErrOf result (EngineFault.Past PastFault.Disk) → Rose (P.faults past.old) (P.faults past.new) }
         ensures damaged { (place : ℕ) → IsErrOf result (EngineFault.Past (PastFault.Damaged place)) →
             P.illegal past.new place }

@@ -1,11 +1,11 @@
-ghost use Rattle.std.specs.Prelude.{◌≡◌, ◌↔◌, ℕ, ◌+◌, ◌≤◌, List, ◌++◌, length, OnOk, IsErrOf};
+ghost use Rattle.std.specs.Prelude.{◌≡◌, ◌↔◌, ℕ, ◌+◌, ◌≤◌, ◌<◌, List, ◌++◌, length, Some, slice_get, slice_index_or, OnOk, IsErrOf};
 ghost use Rattle.rg_bytes.specs.Counts.{Rose};
 ghost use Rattle.rg_event.specs.declared.event.Event.{Event};
 ghost use Rattle.rg_past.specs.Order.{last_time};
 ghost use Rattle.rg_plan.specs.Whole.{IsWhole};
 ghost use Rattle.rg_window.specs.Placed.{AreWithin, IsSpelledAt, numbers_of};
 ghost use Rattle.rg_engine.specs.Feeding.{IsFed};
-ghost use Rattle.rg_engine.specs.Standing.{IsTold, NodeStands, come};
+ghost use Rattle.rg_engine.specs.Standing.{IsAtPosition, IsTold, NodeStands, come};
 ghost use Rattle.rg_engine.specs.Parts.{ArePartsOf};
 
 use crate::changer::{Changer, Rows};
@@ -37,17 +37,25 @@ pub(crate) fn move_rows<P: Past, T: Table, L: Ledger>(
         IsFed plan.now (P.events past.old) → P.events past.old ≡ front ++ more → last_time (P.events past.old) ≡ t →
         NodeStands plan.now n front (T.cell rows.old.table) (numbers_of edges.old.spots) →
         OnOk result (NodeStands plan.now n (P.events past.old) (T.cell rows.new.table) (numbers_of edges.new.spots)) }
+    ensures places { (edge offset : ℕ) (front more : List Event) → P.sound past.old →
+        IsSpelledAt (P.spells past.old) edges.old.spots edge → P.events past.old ≡ front ++ more →
+        last_time (P.events past.old) ≡ t → slice_get plan.now.offsets edge ≡ Some offset →
+        IsAtPosition front (numbers_of edges.old.spots) edge offset →
+        OnOk result (IsAtPosition (P.events past.old) (numbers_of edges.new.spots) edge offset) }
     ensures bad { (n : ℕ) (front more : List Event) → IsErrOf result (EngineFault.BadState n) →
         P.sound past.old → IsTold plan.now n (P.spells past.old) edges.old.spots →
         T.tells rows.old.table → IsFed plan.now (P.events past.old) → P.events past.old ≡ front ++ more →
         NodeStands plan.now n front (T.cell rows.old.table) (numbers_of edges.old.spots) → ⊥ }
     ensures ticks { OnOk result (steps.new + come plan.now (numbers_of edges.old.spots)
         ≡ steps.old + come plan.now (numbers_of edges.new.spots)) }
+    ensures rises { (edge : ℕ) → slice_index_or (numbers_of edges.old.spots) edge 0
+        ≤ slice_index_or (numbers_of edges.new.spots) edge 0 }
     ensures table { IsErrOf result EngineFault.Table → Rose (T.faults rows.old.table) (T.faults rows.new.table) }
     ensures not_ended { IsErrOf result EngineFault.Ended → ⊥ }
 
     ensures no_full { IsErrOf result (EngineFault.Past PastFault.Full) → ⊥ }
     ensures past_ended { IsErrOf result (EngineFault.Past PastFault.Ended) → P.ended past.old }
+    ensures stops { P.ended past.old → 0 < length plan.now.offsets → IsErrOf result (EngineFault.Past PastFault.Ended) }
     ensures disk { IsErrOf result (EngineFault.Past PastFault.Disk) → Rose (P.faults past.old) (P.faults past.new) }
     ensures damaged { (place : ℕ) → IsErrOf result (EngineFault.Past (PastFault.Damaged place)) →
         P.illegal past.new place }
@@ -91,16 +99,25 @@ fn move_changer<'p, 'r, 's, P: Past, T: Table, L: Ledger>(
         IsFed changer.old.plan.now (P.events past.old) → P.events past.old ≡ front ++ more → last_time (P.events past.old) ≡ t →
         NodeStands changer.old.plan.now n front (T.cell changer.old.rows.now.table) (numbers_of edges.old.spots) →
         OnOk result (NodeStands changer.old.plan.now n (P.events past.old) (T.cell changer.new.rows.now.table) (numbers_of edges.new.spots)) }
+    ensures places { (edge offset : ℕ) (front more : List Event) → P.sound past.old →
+        IsSpelledAt (P.spells past.old) edges.old.spots edge → P.events past.old ≡ front ++ more →
+        last_time (P.events past.old) ≡ t → slice_get changer.old.plan.now.offsets edge ≡ Some offset →
+        IsAtPosition front (numbers_of edges.old.spots) edge offset →
+        OnOk result (IsAtPosition (P.events past.old) (numbers_of edges.new.spots) edge offset) }
     ensures bad { (n : ℕ) (front more : List Event) → IsErrOf result (MoveFault.Visit (TableFault.BadState n)) →
         P.sound past.old → IsTold changer.old.plan.now n (P.spells past.old) edges.old.spots →
         T.tells changer.old.rows.now.table → IsFed changer.old.plan.now (P.events past.old) → P.events past.old ≡ front ++ more →
         NodeStands changer.old.plan.now n front (T.cell changer.old.rows.now.table) (numbers_of edges.old.spots) → ⊥ }
     ensures ticks { OnOk result (changer.new.steps.now + come changer.old.plan.now (numbers_of edges.old.spots)
         ≡ changer.old.steps.now + come changer.old.plan.now (numbers_of edges.new.spots)) }
+    ensures rises { (edge : ℕ) → slice_index_or (numbers_of edges.old.spots) edge 0
+        ≤ slice_index_or (numbers_of edges.new.spots) edge 0 }
     ensures table { IsErrOf result (MoveFault.Visit TableFault.Disk) → Rose (T.faults changer.old.rows.now.table) (T.faults changer.new.rows.now.table) }
 
     ensures no_full { IsErrOf result (MoveFault.Past PastFault.Full) → ⊥ }
     ensures past_ended { IsErrOf result (MoveFault.Past PastFault.Ended) → P.ended past.old }
+    ensures stops { P.ended past.old → 0 < length changer.old.plan.now.offsets →
+        IsErrOf result (MoveFault.Past PastFault.Ended) }
     ensures disk { IsErrOf result (MoveFault.Past PastFault.Disk) → Rose (P.faults past.old) (P.faults past.new) }
     ensures damaged { (place : ℕ) → IsErrOf result (MoveFault.Past (PastFault.Damaged place)) →
         P.illegal past.new place }

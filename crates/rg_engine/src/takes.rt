@@ -3,11 +3,9 @@ ghost use Rattle.rg_agg.specs.Stands.{IsInt, IsNumber};
 ghost use Rattle.rg_event.specs.Tagged.{IsLegal};
 ghost use Rattle.rg_state.specs.Takes.{Takes};
 
+use rg_agg::{GREATEST_INT, Number};
 use rg_event::Value;
 use rg_metric::Func;
-
-/// The greatest int of a column, and with a minus the least.
-const GREATEST_INT: u64 = 1_000_000_000_000;
 
 /// Whether the function takes the value.
 pub(crate) fn takes(func: Func, value: &Value) -> bool
@@ -38,14 +36,7 @@ fn is_number(value: &Value) -> bool
     ensures number { IsTrue result → IsNumber value.now }
     ensures other { result ≡ false → IsNumber value.now → ⊥ }
 {
-    match value {
-        Value::Int(number) => number.unsigned_abs() <= GREATEST_INT,
-        Value::Id(number) => {
-            let _number = *number;
-            true
-        }
-        _ => false,
-    }
+    Number::of(value).is_some()
 }
 
 /// Whether it is in the range of its kind.
@@ -54,12 +45,14 @@ fn is_legal(value: &Value) -> bool
     ensures other { result ≡ false → IsLegal value.now → ⊥ }
 {
     match value {
-        Value::Int(number) => number.unsigned_abs() <= GREATEST_INT,
+        Value::Int(_) => is_int(value),
         Value::Id(number) => {
+            // a number that is read is one of 64 bits
             let _number = *number;
             true
         }
         Value::Text(word) => {
+            // a text that is read is a legal one
             let _text = word.as_bytes();
             true
         }

@@ -7,9 +7,9 @@ mod slow;
 use crate::engine::Engine;
 use crate::fault::EngineFault;
 use check::{replay_checked, take_checked};
-use made::{event, fields, plan_of, queries};
+use made::{event, plan_of, queries};
 use rg_bytes::Memory;
-use rg_event::{Event, Field, Steps};
+use rg_event::{Event, Steps};
 use rg_metric::{Answer, Answers, Query};
 use rg_past::{Past, PastFault, Spot, VecPast};
 use rg_plan::TaskPlan;
@@ -44,12 +44,11 @@ fn engine_of(alloc: Global, past: &VecPast, queries: &[Query]) -> Result<Engine<
 /// The answers to an event.
 fn answers_to<L: Ledger>(
     engine: &mut Engine<MemTable>,
-    fields: &[Field],
     past: &mut VecPast,
     event: Event,
     steps: &mut Steps<L>,
 ) -> Result<Answers, Fail> {
-    match take_checked(engine, fields, past, event, steps) {
+    match take_checked(engine, past, event, steps) {
         Some(Ok(answers)) => Ok(answers),
         _ => Err(Fail::from(Memory)),
     }
@@ -65,21 +64,20 @@ fn first_difference<L: Ledger>(alloc: Global, blank: Blank) -> Result<Option<u64
 {
     let mut steps = Steps::<L>::new(blank);
     let queries = queries(alloc)?;
-    let fields = fields(alloc)?;
     let mut past = VecPast::new(alloc, 1000);
     let mut engine = engine_of(alloc, &past, &queries)?;
     let mut time: u64 = 0;
     for number in 0..60 {
         let made = event(alloc, number, time)?;
         time = made.time;
-        let answers = answers_to(&mut engine, &fields, &mut past, made, &mut steps)?;
+        let answers = answers_to(&mut engine, &mut past, made, &mut steps)?;
         let expected = slow_answers(alloc, &queries, past.events())?;
         if answers.as_slice() != expected.as_slice() {
             return Ok(Some(number));
         }
         if number % 10 == 9 {
             engine = engine_of(alloc, &past, &queries)?;
-            match replay_checked(&mut engine, &fields, &mut past, time, &mut steps) {
+            match replay_checked(&mut engine, &mut past, time, &mut steps) {
                 Some(Ok(())) => {}
                 _ => return Ok(Some(number)),
             }
@@ -119,25 +117,12 @@ fn fill<L: Ledger>(alloc: Global, blank: Blank) -> Result<Filled, Fail>
 {
     let mut steps = Steps::<L>::new(blank);
     let queries = queries(alloc)?;
-    let fields = fields(alloc)?;
     let mut past = VecPast::new(alloc, 2);
     let mut engine = engine_of(alloc, &past, &queries)?;
-    let first = answers_to(
-        &mut engine,
-        &fields,
-        &mut past,
-        event(alloc, 0, 0)?,
-        &mut steps,
-    )?;
-    answers_to(
-        &mut engine,
-        &fields,
-        &mut past,
-        event(alloc, 3, 0)?,
-        &mut steps,
-    )?;
+    let first = answers_to(&mut engine, &mut past, event(alloc, 0, 0)?, &mut steps)?;
+    answers_to(&mut engine, &mut past, event(alloc, 3, 0)?, &mut steps)?;
     let more = event(alloc, 4, 1)?;
-    let refused = match take_checked(&mut engine, &fields, &mut past, more, &mut steps) {
+    let refused = match take_checked(&mut engine, &mut past, more, &mut steps) {
         Some(Err(fault)) => Some(fault),
         _ => None,
     };
@@ -157,7 +142,7 @@ fn fill<L: Ledger>(alloc: Global, blank: Blank) -> Result<Filled, Fail>
 fn a_full_past_is_refused_and_the_engine_stays(rt: HostRuntime) -> Result<(), Fail> {
     let filled = fill::<Brand>(rt.alloc(), Blank::new(1))?;
     let expected = Filled {
-        queries: 5,
+        queries: 6,
         first: Some(Answer::Number(1)),
         refused: Some(EngineFault::Past(PastFault::Full)),
         number: Some(2),

@@ -1,11 +1,8 @@
 ghost use Rattle.std.specs.Prelude.{◌≡◌, map, false, All, IsTrue};
 ghost use Rattle.rg_metric.specs.Queries.{asked, Asked};
 ghost use Rattle.rg_plan.specs.Offsets.{IsMeasured};
-ghost use Rattle.std.specs.Prelude.{◌≡◌, map, false, All, IsTrue};
-ghost use Rattle.rg_metric.specs.Queries.{asked, Asked};
-ghost use Rattle.rg_plan.specs.Offsets.{IsMeasured};
 
-use rg_event::{Event, Field, Kind, Name, Value, Values, Word};
+use rg_event::{Event, Value, Values, Word};
 use rg_metric::{Agg, Aggs, Columns, Condition, Func, Op, Query, Window};
 use rg_plan::{TaskPlan, compile};
 use std::alloc::Global;
@@ -18,24 +15,7 @@ fn text(alloc: Global, bytes: &[u8]) -> Result<Value, Fail> {
     }
 }
 
-/// Two texts, an int and an id.
-pub(super) fn fields(alloc: Global) -> Result<Vec<Field>, Fail> {
-    let mut fields = Vec::new(alloc);
-    for (name, kind) in [
-        (b"card".as_slice(), Kind::Text),
-        (b"shop".as_slice(), Kind::Text),
-        (b"amount".as_slice(), Kind::Int),
-        (b"device".as_slice(), Kind::Id),
-    ] {
-        match Name::new(alloc, name)? {
-            Some(name) => fields.push(Field { name, kind })?,
-            None => return Err(Fail::from(rg_bytes::Memory)),
-        }
-    }
-    Ok(fields)
-}
-
-/// The event of that number, at this time or somewhat later.
+/// The event of that number, at this time or somewhat later: two texts, an int and an id.
 pub(super) fn event(alloc: Global, number: u64, time: u64) -> Result<Event, Fail> {
     let gaps = [0, 3, 0, 1, 7, 2, 0, 31, 4, 1];
     let cards = [b"c1".as_slice(), b"c2".as_slice(), b"c3".as_slice()];
@@ -85,8 +65,8 @@ fn window(delay: u64, length: u64) -> Window {
     }
 }
 
-/// Windows that share an offset, a delay longer than its window, a condition, keys and no key, and a
-/// window without end.
+/// Windows that share an offset, a delay longer than its window, a condition, keys and no key, a window
+/// without end, and each function.
 pub(super) fn queries(alloc: Global) -> Result<Vec<Query>, Fail> {
     let count = (Func::Count, 0);
     let mut queries = Vec::new(alloc);
@@ -108,10 +88,11 @@ pub(super) fn queries(alloc: Global) -> Result<Vec<Query>, Fail> {
         length: None,
     };
     queries.push(query(alloc, &[(Func::Last, 3), count], None, &[], forever)?)?;
+    let varied = [(Func::Min, 3), (Func::Max, 4), (Func::CountDistinct, 4)];
+    queries.push(query(alloc, &varied, None, &[2], window(3, 10))?)?;
     Ok(queries)
 }
 
-/// The plan of queries whose windows are measured.
 /// The plan of queries whose windows are measured.
 pub(super) fn plan_of(alloc: Global, queries: &[Query]) -> Result<TaskPlan, Fail> {
     if !are_measured(queries) {

@@ -98,8 +98,21 @@ fn answer_over(func: Func, numbers: &[i128]) -> Answer {
         }
         Func::First => number_or_dash(numbers.first()),
         Func::Last => number_or_dash(numbers.last()),
-        _ => Answer::Dash,
+        Func::Min => number_or_dash(numbers.iter().min()),
+        Func::Max => number_or_dash(numbers.iter().max()),
+        Func::CountDistinct => Answer::Number(different(numbers) as i128),
     }
+}
+
+/// How many numbers stand at no earlier place.
+fn different(numbers: &[i128]) -> usize {
+    let mut count: usize = 0;
+    for (place, number) in numbers.iter().enumerate() {
+        if !numbers[..place].contains(number) {
+            count = count.wrapping_add(1);
+        }
+    }
+    count
 }
 
 fn number_or_dash(number: Option<&i128>) -> Answer {

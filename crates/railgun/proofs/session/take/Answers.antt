@@ -8,14 +8,14 @@ pub returns-in-Ok-clause-answers : goal.returns-in-Ok-clause-answers
 returns-in-Ok-clause-answers g c =
     let up = c.requires.steady.up (runs_still c.args.engine.now.ended (λ is. (let e = c.in-Ok.ensures.ended.1 is in absurd (cc)))) in
     c.in-Ok.ensures.answers (asked_by c.args.engine.now.plan) c.args.past.now.events [] c.requires.steady.plan c.requires.steady.sound
-    (all_spelled c.args.past.now c.args.engine.now c.spots-spots.ensures.same up) up.tells (sym (append-nil c.args.past.now.events)) (λ n. up.nodes n)
+    (all_spelled c.args.past.now c.args.engine.now c.spots-spots.ensures.same up) up.tells c.requires.fed (sym (append-nil c.args.past.now.events)) (λ n. up.nodes n)
 
 pub returns-in-Ok-clause-steady : goal.returns-in-Ok-clause-steady
 returns-in-Ok-clause-steady g c =
     let up = c.requires.steady.up (runs_still c.args.engine.now.ended (λ is. (let e = c.in-Ok.ensures.ended.1 is in absurd (cc)))) in
     stays c.args.past.now c.take.new.past c.args.engine.now c.take.new.self c.requires.steady (c.take.ensures.sound c.requires.steady.sound) c.take.ensures.stays_within c.take.ensures.plan
     (λ runs. goes_on c.args.past.now c.take.new.past c.args.engine.now c.take.new.self up c.take.ensures.plan tt (c.take.ensures.spells c.requires.steady.sound)
-    (λ n. c.in-Ok.ensures.stands n c.args.past.now.events [] c.requires.steady.sound (told_of c.args.past.now c.args.engine.now n up) up.tells (sym (append-nil c.args.past.now.events)) (up.nodes n)))
+    (λ n. c.in-Ok.ensures.stands n c.args.past.now.events [] c.requires.steady.sound (told_of c.args.past.now c.args.engine.now n up) up.tells c.requires.fed (sym (append-nil c.args.past.now.events)) (up.nodes n)))
 
 pub returns-clause-memory : goal.returns-clause-memory
 returns-clause-memory g c =
@@ -23,7 +23,7 @@ returns-clause-memory g c =
     (λ n is. either_way c.args.engine.now.ended ⊥
     (λ ended. (let over = c.take.ensures.ended.1 ended in absurd (cc)))
     (λ runs. (let up = c.requires.steady.up runs in
-    c.take.ensures.bad n c.args.past.now.events [] (c.in-Err.is ∙ ap (λ v. Err v) is) c.requires.steady.sound (told_of c.args.past.now c.args.engine.now n up) up.tells (sym (append-nil c.args.past.now.events)) (up.nodes n))))
+    c.take.ensures.bad n c.args.past.now.events [] (c.in-Err.is ∙ ap (λ v. Err v) is) c.requires.steady.sound (told_of c.args.past.now c.args.engine.now n up) up.tells c.requires.fed (sym (append-nil c.args.past.now.events)) (up.nodes n))))
     (λ is. (let rose = c.take.ensures.table (c.in-Err.is ∙ ap (λ v. Err v) is) in omega (arith, rose)))
     (λ is. (let rose = c.take.ensures.disk (c.in-Err.is ∙ ap (λ v. Err v) is) in omega (arith, rose)))
     (λ is. c.take.ensures.past_ended (c.in-Err.is ∙ ap (λ v. Err v) is))

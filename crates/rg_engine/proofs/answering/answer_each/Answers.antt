@@ -1,4 +1,4 @@
-use Rattle.std.proofs.Common.{◌≡◌, ℕ, ap, sym, subst, ◌∙◌, arith, length, take_all, get_or, ◌++◌, ◌∷◌, [], length-append}
+use Rattle.std.proofs.Common.{◌≡◌, ap, sym, subst, ◌∙◌, arith, length, take_all, get_or, ◌++◌, ◌∷◌, [], length-append}
 use Rattle.std.specs.Prelude.{Err, IsErrOf}
 use Rattle.rg_plan.specs.Named.{node_at}
 use Rattle.rg_engine.specs.Answering.{node_answers}

@@ -1,4 +1,4 @@
-use Rattle.std.proofs.Common.{refl, sym, subst, arith}
+use Rattle.std.proofs.Common.{refl, arith}
 use Rattle.rg_engine.proofs.Doing.{done_one, done_more, stuck_one, stuck_more}
 use Rattle.rg_engine.specs.Parts.{node_under, node_if}
 use Rattle.std.specs.Prelude.{◌==◌}

@@ -1,4 +1,4 @@
-use Rattle.std.proofs.Common.{subst, ◌∙◌}
+use Rattle.std.proofs.Common.{subst}
 use Rattle.rg_engine.specs.Parts.{agg_nodes}
 use Rattle.rg_engine.specs.Stepping.{Stuck}
 use Rattle.rg_engine.proofs.changer.change_group.Goals as goal

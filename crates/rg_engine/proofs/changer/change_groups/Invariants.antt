@@ -1,4 +1,4 @@
-use Rattle.std.proofs.Common.{◌≡◌, ◌↔◌, ◌≤◌, ℕ, List, Option, take}
+use Rattle.std.proofs.Common.{◌↔◌, ◌≤◌, ℕ, List, Option, take}
 use Rattle.rg_metric.specs.declared.query.Window.{Window}
 use Rattle.rg_metric.specs.Conditions.{Test}
 use Rattle.rg_engine.specs.Parts.{group_nodes}

@@ -1,7 +1,8 @@
-use Rattle.std.proofs.Common.{◌≡◌, Some, ap, sym, ◌∙◌, subst}
+use Rattle.std.proofs.Common.{◌≡◌, Some, sym, ◌∙◌, subst}
 use Rattle.rg_state.specs.Rows.{Unfit}
 use Rattle.rg_state.specs.Takes.{Takes}
-use Rattle.rg_engine.proofs.Doing.{handed_there, same_some}
+use Rattle.rg_engine.proofs.Doing.{handed_there}
+use Rattle.rg_engine.proofs.Plain.{same_some}
 use Rattle.rg_engine.proofs.changer.change_row.Goals as goal
 
 pub returns-in-Some-clause-refuses : goal.returns-in-Some-clause-refuses

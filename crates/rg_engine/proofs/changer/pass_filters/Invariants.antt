@@ -1,4 +1,4 @@
-use Rattle.std.proofs.Common.{◌≡◌, ◌↔◌, ◌≤◌, ◌+◌, ℕ, List, Option, take}
+use Rattle.std.proofs.Common.{◌≡◌, ◌↔◌, ◌≤◌, ◌+◌, ℕ, List, take}
 use Rattle.rg_engine.specs.Parts.{nodes_numbered, ticks_at}
 use Rattle.rg_engine.specs.Stepping.{Done}
 use Rattle.rg_engine.proofs.changer.pass_filters.Given as goal

@@ -1,15 +1,15 @@
-use Rattle.std.proofs.Common.{◌≡◌, ◌∙◌, ◌<◌, refl, ap, sym, subst, length}
+use Rattle.std.proofs.Common.{◌≡◌, ◌∙◌, ◌<◌, refl, ap, sym, subst, length, arith}
 use Rattle.std.proofs.lemmas.List.{length-map}
 use Rattle.rg_past.specs.declared.past.Spot.{Spot}
-use Rattle.rg_window.specs.Chain.{Moved}
-use Rattle.rg_window.specs.Halting.{HaltsAt}
-use Rattle.rg_window.specs.Placed.{numbers_of, IsSpelledAt}
-use Rattle.rg_engine.proofs.Visits.{step_of, chain_keeps, halt_keeps, halt_rose, each_stands, none_stuck, steps_taken}
+use Rattle.std.proofs.lemmas.Option.{slice_get_within}
+use Rattle.rg_engine.proofs.Places.{place_after}
+use Rattle.rg_engine.proofs.Visits.{chain_keeps, halt_keeps, halt_rose, each_stands, none_stuck, steps_taken}
 use Rattle.std.specs.Prelude.{Ok, Err, IsErrOf}
 use Rattle.rg_past.specs.declared.past.PastFault.{PastFault}
 use Rattle.rg_state.specs.declared.table.TableFault.{TableFault}
 use Rattle.rg_window.specs.declared.edges.MoveFault.{MoveFault}
 use Rattle.rg_window.specs.declared.edges.MoveFault.TheVariants.{Past, Visit}
+use Rattle.rg_engine.proofs.Plain.{same_fault}
 use Rattle.rg_engine.proofs.moving.move_changer.Goals as goal
 
 not_err : {A E : Type 0} {x : A} {e : E} → IsErrOf (Ok x) e → ⊥
@@ -17,9 +17,6 @@ not_err is = cc
 
 two_faults : {fault : MoveFault TableFault} {visit : TableFault} {past : PastFault} → fault ≡ Visit visit → fault ≡ Past past → ⊥
 two_faults e f = cc
-
-same_fault : {A E : Type 0} {x y : E} → IsErrOf {T = A} (Err x) y → x ≡ y
-same_fault e = cc
 
 pub returns-clause-rows : goal.returns-clause-rows
 returns-clause-rows g c = (chain_keeps c.args.changer.now (λ u. u.plan) (λ p. p.now.offsets) (λ u. u.rows.ghost_name) (λ u. u.steps.ghost_name) (λ u. u.rows.now.parts) (λ p. p.items) (λ u. g.T.Table.tells u.rows.now.table) (λ u. g.T.Table.cell u.rows.now.table) (λ u. g.T.Table.faults u.rows.now.table) (λ u. u.steps.now) _ c.args.changer.now c.move_to.new.visit c.in-Ok.ensures.moved.chain).rows
@@ -69,6 +66,14 @@ returns-clause-stands g c = λ n front more sound told tells fed is last stands.
     (λ some. g.met.P.Past.in_order c.args.past.now sound (λ ended. not_err (c.in-Ok.ensures.stops ended (subst (λ os. 0 < length os) (sym c.requires.offsets) some))))
     (λ edge offset is_offset has. (sound, told edge offset is_offset has))
     (λ edge has. rw c.requires.offsets at (c.in-Ok.ensures.reached has.0 edge has.1)) stands
+
+pub returns-clause-places : goal.returns-clause-places
+returns-clause-places g c = λ edge offset front more sound spelled is last is_offset stood.
+    let offsets = c.args.changer.now.plan.now.offsets in
+    let some : 0 < length offsets = omega (arith, slice_get_within offsets edge offset is_offset) in
+    let order = g.met.P.Past.in_order c.args.past.now sound (λ ended. not_err (c.in-Ok.ensures.stops ended (subst (λ os. 0 < length os) (sym c.requires.offsets) some))) in
+    place_after (g.P.Past.events c.args.past.now) front more c.args.t offsets _ _ edge offset is last order.0 is_offset stood
+    (rw c.requires.offsets at (c.in-Ok.ensures.reached sound edge spelled))
 
 pub returns-in-Err-clause-bad : goal.returns-in-Err-clause-bad
 returns-in-Err-clause-bad g c = λ n front more bad sound told tells fed is stands.

@@ -1,6 +1,6 @@
 use Rattle.std.proofs.Common.{refl, ap, ◌∙◌}
 use Rattle.rg_engine.specs.Parts.{agg_nodes}
-use Rattle.rg_engine.proofs.Branches.{agg_more, agg_skipped}
+use Rattle.rg_engine.proofs.Branches.{agg_more}
 use Rattle.rg_engine.proofs.tree.agg_parts.Goals as goal
 
 pub aggs-preserved : goal.aggs-preserved

@@ -1,4 +1,4 @@
-use Rattle.std.proofs.Common.{◌≡◌, refl, ap, sym, subst, ◌∙◌, map, get_or, length, ◌<◌, arith}
+use Rattle.std.proofs.Common.{ap, sym, subst, ◌∙◌, map, length, ◌<◌, arith}
 use Rattle.std.proofs.lemmas.List.{get_or-map, length-map}
 use Rattle.rg_plan.specs.Nodes.{Filtered, filtered}
 use Rattle.rg_engine.specs.declared.part.FilterPart.{FilterPart}

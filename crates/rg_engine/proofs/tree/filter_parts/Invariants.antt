@@ -1,6 +1,5 @@
-use Rattle.std.proofs.Common.{◌≡◌, ℕ, List, Option, Some, take, map}
+use Rattle.std.proofs.Common.{◌≡◌, ℕ, Some, take, map}
 use Rattle.std.specs.Prelude.{slice_get}
-use Rattle.rg_metric.specs.declared.query.Window.{Window}
 use Rattle.rg_plan.specs.Nodes.{Filtered, filtered}
 use Rattle.rg_engine.specs.declared.part.FilterPart.{FilterPart}
 use Rattle.rg_engine.specs.Parts.{nodes_numbered, made_of, node_in_agg}

@@ -1,7 +1,7 @@
-use Rattle.std.proofs.Common.{refl, ap, sym, ◌∙◌}
+use Rattle.std.proofs.Common.{ap, sym, ◌∙◌}
 use Rattle.rg_plan.specs.declared.node.GroupNode.{GroupNode}
 use Rattle.rg_engine.specs.Parts.{group_nodes}
-use Rattle.rg_engine.proofs.Branches.{group_more, group_skipped}
+use Rattle.rg_engine.proofs.Branches.{group_more}
 use Rattle.rg_engine.proofs.tree.group_parts.Goals as goal
 
 pub groups-preserved : goal.groups-preserved

@@ -1,4 +1,4 @@
-use Rattle.std.proofs.Common.{◌≡◌, ℕ, List, Option, take}
+use Rattle.std.proofs.Common.{◌≡◌, ℕ, Option, take}
 use Rattle.std.specs.Prelude.{slice_get}
 use Rattle.rg_metric.specs.declared.query.Window.{Window}
 use Rattle.rg_metric.specs.Conditions.{Test}

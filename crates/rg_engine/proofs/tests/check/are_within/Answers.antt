@@ -1,4 +1,4 @@
-use Rattle.std.proofs.Common.{subst, ap, sym, ◌∙◌, arith, take_all, ◌≤◌}
+use Rattle.std.proofs.Common.{subst, take_all, ◌≤◌}
 use Rattle.std.specs.Prelude.{All}
 use Rattle.std.proofs.lemmas.List.Elements.{All-more}
 use Rattle.rg_past.specs.declared.past.Spot.{Spot}

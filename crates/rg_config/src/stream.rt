@@ -18,10 +18,7 @@ const STREAM_KEYS: [&str; 2] = ["name", "columns"];
 pub(crate) fn read_stream(alloc: Global, top: &Table) -> Result<Schema, ConfigFault>
     ensures { ReadsStream (table_view top.now) result }
 {
-    let text = match stream_text(alloc, top) {
-        Ok(text) => text,
-        Err(fault) => return Err(fault),
-    };
+    let text = stream_text(alloc, top)?;
     match Schema::parse(alloc, &text) {
         Ok(schema) => Ok(schema),
         Err(SchemaFault::Bad) => Err(ConfigFault::Stream),
@@ -48,14 +45,8 @@ fn described(alloc: Global, table: &Table) -> Result<Vec<u8>, ConfigFault>
     if !has_only(table, &STREAM_KEYS) {
         return Err(ConfigFault::Stream);
     }
-    let name = match text_at(table, "name", ConfigFault::Stream) {
-        Ok(name) => name,
-        Err(fault) => return Err(fault),
-    };
-    let columns = match texts_at(alloc, table, "columns", ConfigFault::Stream) {
-        Ok(columns) => columns,
-        Err(fault) => return Err(fault),
-    };
+    let name = text_at(table, "name", ConfigFault::Stream)?;
+    let columns = texts_at(alloc, table, "columns", ConfigFault::Stream)?;
     match joined(alloc, name, &columns) {
         Ok(text) => Ok(text),
         Err(_) => Err(ConfigFault::Memory),

@@ -2,4 +2,3 @@ pub mod Held
 pub mod Stands
 pub mod Numbers
 pub mod Standing
-pub mod StandingLaws

@@ -14,7 +14,7 @@ use Rattle.railgun.specs.Plan.{IsPlan, IsRefusal}
 use Rattle.railgun.specs.Output.{output_of}
 use Rattle.railgun.specs.Put.{StopsWith, IsPut}
 use Rattle.railgun.specs.Run.{Completes, Stops, StopsAt, StopsRead}
-use Rattle.railgun.specs.Call.{Told, asked_text, asked_replies, text_of, replies_of, last_line, refusal_line, refusal_of, line_for, IsLegal, IsRefused, IsLonger, IsWithin, IsPossible, status_by, status_for}
+use Rattle.railgun.specs.Call.{AnswersInput, Told, asked_text, asked_replies, text_of, replies_of, last_line, refusal_line, refusal_of, line_for, IsLegal, IsRefused, IsLonger, IsWithin, IsPossible, status_by, status_for}
 use Rattle.railgun.specs.declared.command.Command.{Command}
 use Rattle.railgun.specs.declared.command.Command.TheVariants.{Run, Check}
 use Rattle.railgun.specs.declared.status.Status.{Status}
@@ -125,14 +125,14 @@ refused_of None line h = tt
 asks_is : (bytes : List ℕ) (plan : Planned) → IsPlan bytes plan → (asks : Result Planned ConfigFault) → Says bytes asks → asks ≡ r.Ok plan
 asks_is bytes plan is asks says = one_plan bytes asks (r.Ok plan) says is.says
 
-pub told_plan : (plan input : Option (List ℕ)) (p : Planned) (told : Told plan input) → IfSome plan (λ bytes. IsPlan bytes p) → told.asks ≡ r.Ok p
-told_plan plan input p told legal =
+pub told_plan : (command : Option Command) (plan input : Option (List ℕ)) (p : Planned) (told : Told command plan input) → IfSome plan (λ bytes. IsPlan bytes p) → told.asks ≡ r.Ok p
+told_plan command plan input p told legal =
     let P : Option (List ℕ) → Type 0 = λ v. IfSome v (λ bytes. IsPlan bytes p) in
     asks_is told.plan_bytes p (subst P told.plan_is legal) told.asks told.says
 
 -- the line of a plan that is refused
-pub told_line : (plan input : Option (List ℕ)) (line : List ℕ) (told : Told plan input) → IfSome plan (RefusedBy line) → line ≡ refusal_of told.asks
-told_line plan input line told refused =
+pub told_line : (command : Option Command) (plan input : Option (List ℕ)) (line : List ℕ) (told : Told command plan input) → IfSome plan (RefusedBy line) → line ≡ refusal_of told.asks
+told_line command plan input line told refused =
     let P : Option (List ℕ) → Type 0 = λ v. IfSome v (RefusedBy line) in
     let by : RefusedBy line told.plan_bytes = subst P told.plan_is refused in
     by.2 ∙ ap refusal_of (sym (one_plan told.plan_bytes told.asks (r.Err by.0) told.says by.1.says))
@@ -213,39 +213,46 @@ pub record Causes (command : Option Command) (plan input : Option (List ℕ)) (A
   pub limit_only : status ≡ Limit → IsLonger 65536 plan ⊎ (IsLegal plan × (command ≡ Some Run) × IsLonger (2 ^ 50) input)
   pub possible_only : IsPossible status
 
-module _ (plan input : List ℕ) (asks : Result Planned ConfigFault) (says : Says plan asks) (A B C : Type 0) (none : A ⊎ B ⊎ C → ⊥) where
+-- the bytes of an input that is answered
+answers : (command : Command) (asks : Result Planned ConfigFault) (p : Planned) → Some command ≡ Some Run → asks ≡ r.Ok p → AnswersInput (Some command) asks
+answers command asks p is ok = subst (λ v. AnswersInput v asks) (sym is) (subst (AnswersInput (Some Run)) (sym ok) tt)
+
+module _ (plan input : List ℕ) (left : Option (List ℕ)) (asks : Result Planned ConfigFault) (says : Says plan asks) (A B C : Type 0) (none : A ⊎ B ⊎ C → ⊥) where
   no_read : A ⊎ (IsLegal (Some plan) × B) → ⊥
   no_read (inl a) = none (inl a)
   no_read (inr b) = none (inr (inl b.1))
 
-  limit_for : (command : Command) → IsLonger 65536 (Some plan) ⊎ (IsLegal (Some plan) × (Some command ≡ Some Run) × IsLonger (2 ^ 50) (Some input)) → status_for (Some command) plan asks input ≡ Limit
-  limit_for command (inl longer) = status_longer command plan asks input longer
-  limit_for command (inr longer) = status_input command plan asks input says longer.0 longer.1 longer.2
+  module _ (command : Command) (told : AnswersInput (Some command) asks → left ≡ Some input) where
+    input_is : IsLegal (Some plan) → Some command ≡ Some Run → left ≡ Some input
+    input_is legal is = told (answers command asks legal.0 is (asks_is plan legal.0 legal.1 asks says))
 
-  command_completes : (command : Command) (status : Status) → Causes (Some command) (Some plan) (Some input) A B C status → (status ≡ status_for (Some command) plan asks input) ⊎ (status ≡ Memory)
-  command_completes command Ok c = let h = c.ok_only refl in inl (sym (status_legal command plan asks input says h.0 h.1))
-  command_completes command Usage c = absurd (let e : Some command ≡ None = c.usage_only refl in cc)
-  command_completes command BadPlan c = inl (sym (status_refused command plan asks input says (c.plan_only refl)))
-  command_completes command Store c = absurd c.possible_only
-  command_completes command Read c = absurd (no_read (c.read_only refl))
-  command_completes command Write c = absurd (none (inr (inr (c.write_only refl).1)))
-  command_completes command Disk c = absurd c.possible_only
-  command_completes command Limit c = inl (sym (limit_for command (c.limit_only refl)))
-  command_completes command Memory c = inr refl
-  command_completes command Gap c = absurd c.possible_only
-  command_completes command Differs c = absurd c.possible_only
+    limit_for : IsLonger 65536 (Some plan) ⊎ (IsLegal (Some plan) × (Some command ≡ Some Run) × IsLonger (2 ^ 50) left) → status_for (Some command) plan asks input ≡ Limit
+    limit_for (inl longer) = status_longer command plan asks input longer
+    limit_for (inr longer) = status_input command plan asks input says longer.0 longer.1 (subst (IsLonger (2 ^ 50)) (input_is longer.0 longer.1) longer.2)
 
-  completes_by : (command : Option Command) (status : Status) → Causes command (Some plan) (Some input) A B C status → (status ≡ status_for command plan asks input) ⊎ (status ≡ Memory)
-  completes_by (Some command) status c = command_completes command status c
-  completes_by None status c = inl (c.usage_always refl)
+    command_completes : (status : Status) → Causes (Some command) (Some plan) left A B C status → (status ≡ status_for (Some command) plan asks input) ⊎ (status ≡ Memory)
+    command_completes Ok c = let h = c.ok_only refl in inl (sym (status_legal command plan asks input says h.0 (λ is. subst (IsWithin (2 ^ 50)) (input_is h.0 is) (h.1 is))))
+    command_completes Usage c = absurd (let e : Some command ≡ None = c.usage_only refl in cc)
+    command_completes BadPlan c = inl (sym (status_refused command plan asks input says (c.plan_only refl)))
+    command_completes Store c = absurd c.possible_only
+    command_completes Read c = absurd (no_read (c.read_only refl))
+    command_completes Write c = absurd (none (inr (inr (c.write_only refl).1)))
+    command_completes Disk c = absurd c.possible_only
+    command_completes Limit c = inl (sym (limit_for (c.limit_only refl)))
+    command_completes Memory c = inr refl
+    command_completes Gap c = absurd c.possible_only
+    command_completes Differs c = absurd c.possible_only
+
+  completes_by : (command : Option Command) (status : Status) → (AnswersInput command asks → left ≡ Some input) → Causes command (Some plan) left A B C status → (status ≡ status_for command plan asks input) ⊎ (status ≡ Memory)
+  completes_by (Some command) status told c = command_completes command told status c
+  completes_by None status told c = inl (c.usage_always refl)
 
 -- where no count rose, the status is the one that words, plan and input call for, or Memory
-pub completes : (command : Option Command) (plan input : Option (List ℕ)) (A B C : Type 0) (status : Status) → Causes command plan input A B C status → (told : Told plan input) → (A ⊎ B ⊎ C → ⊥) →
+pub completes : (command : Option Command) (plan input : Option (List ℕ)) (A B C : Type 0) (status : Status) → Causes command plan input A B C status → (told : Told command plan input) → (A ⊎ B ⊎ C → ⊥) →
     (status ≡ status_for command told.plan_bytes told.asks told.input_bytes) ⊎ (status ≡ Memory)
 completes command plan input A B C status causes told none =
     let P : Option (List ℕ) → Type 0 = λ v. Causes command v input A B C status in
-    let Q : Option (List ℕ) → Type 0 = λ v. Causes command (Some told.plan_bytes) v A B C status in
-    completes_by told.plan_bytes told.input_bytes told.asks told.says A B C none command status (subst Q told.input_is (subst P told.plan_is causes))
+    completes_by told.plan_bytes told.input_bytes input told.asks told.says A B C none command status told.input_is (subst P told.plan_is causes)
 
 -- What a run puts.
 
@@ -266,24 +273,26 @@ part_answered input now p Put status stops all is =
 
 -- What words and plan ask for, by the plan that was read.
 
-pub asked_all : (command : Command) (plan input : Option (List ℕ)) (p : Planned) (Put : List ℕ → Type 0) → IfSome plan (λ b. IsPlan b p) → ((all : List ℕ) → input ≡ Some all → Put (ended (asked_text command p all))) → (told : Told plan input) →
+pub asked_all : (command : Command) (plan input : Option (List ℕ)) (p : Planned) (Put : List ℕ → Type 0) → IfSome plan (λ b. IsPlan b p) → ((all : List ℕ) → (command ≡ Run → input ≡ Some all) → Put (ended (asked_text command p all))) → (told : Told (Some command) plan input) →
     Put (ended (text_of (Some command) told.asks told.input_bytes))
 asked_all command plan input p Put legal done told =
     let P : Result Planned ConfigFault → Type 0 = λ v. Put (ended (text_of (Some command) v told.input_bytes)) in
-    subst P (sym (told_plan plan input p told legal)) (done told.input_bytes told.input_is)
+    let asks_plan = told_plan (Some command) plan input p told legal in
+    subst P (sym asks_plan) (done told.input_bytes (λ is. told.input_is (answers command told.asks p (ap Some is) asks_plan)))
 
 pub asked_part : (command : Command) (plan input : Option (List ℕ)) (p : Planned) (Put : List ℕ → Type 0) (status : Status) → IfSome plan (λ b. IsPlan b p) →
-    ((all : List ℕ) → input ≡ Some all → (put : List ℕ) × Put put × StopsAt status (asked_text command p all) put) → (told : Told plan input) →
+    ((all : List ℕ) → (command ≡ Run → input ≡ Some all) → (put : List ℕ) × Put put × StopsAt status (asked_text command p all) put) → (told : Told (Some command) plan input) →
     (put : List ℕ) × Put put × StopsAt status (text_of (Some command) told.asks told.input_bytes) put
 asked_part command plan input p Put status legal stops told =
     let P : Result Planned ConfigFault → Type 0 = λ v. (put : List ℕ) × Put put × StopsAt status (text_of (Some command) v told.input_bytes) put in
-    subst P (sym (told_plan plan input p told legal)) (stops told.input_bytes told.input_is)
+    let asks_plan = told_plan (Some command) plan input p told legal in
+    subst P (sym asks_plan) (stops told.input_bytes (λ is. told.input_is (answers command told.asks p (ap Some is) asks_plan)))
 
-pub asked_read : (command : Command) (plan input now : Option (List ℕ)) (p : Planned) (Put : List ℕ → Type 0) (status : Status) → IfSome plan (λ b. IsPlan b p) → StopsRead (asked_replies command p) input now Put status → (told : Told plan input) →
+pub asked_read : (command : Command) (plan input now : Option (List ℕ)) (p : Planned) (Put : List ℕ → Type 0) (status : Status) → IfSome plan (λ b. IsPlan b p) → StopsRead (asked_replies command p) input now Put status → (told : Told (Some command) plan input) →
     StopsRead (replies_of (Some command) told.asks) input now Put status
 asked_read command plan input now p Put status legal stops told =
     let P : Result Planned ConfigFault → Type 0 = λ v. StopsRead (replies_of (Some command) v) input now Put status in
-    subst P (sym (told_plan plan input p told legal)) stops
+    subst P (sym (told_plan (Some command) plan input p told legal)) stops
 
 by_asked : (command : Command) (p : Planned) → ended (asked_replies command p (whole_lines [])) ≡ []
 by_asked Run p = refl
@@ -295,7 +304,7 @@ nothing_replied (Some command) (r.Err refusal) = refl
 nothing_replied None asks = refl
 
 -- a plan that could not be read
-pub none_read : (command : Option Command) (plan input : Option (List ℕ)) (Put : List ℕ → Type 0) (status : Status) → Put [] → (told : Told plan input) → StopsRead (replies_of command told.asks) input input Put status
+pub none_read : (command : Option Command) (plan input : Option (List ℕ)) (Put : List ℕ → Type 0) (status : Status) → Put [] → (told : Told command plan input) → StopsRead (replies_of command told.asks) input input Put status
 none_read command plan input Put status nothing told = record {
   got = [];
   past = [];

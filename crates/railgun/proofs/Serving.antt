@@ -4,7 +4,6 @@ use Rattle.std.specs.Option.{ForSome}
 use Rattle.std.specs.Prelude.{All, flat_map, bytes_eq, if◌then◌else◌}
 use Rattle.std.proofs.lemmas.Bool.{le-leb, lt-ltb}
 use Rattle.std.proofs.lemmas.List.Elements.{All-nil, All-head, All-tail, All-append, All-map, All-weaker}
-use Rattle.std.proofs.lemmas.Option.{slice_get_within, get_or_from_slice_get, option_and_then_some}
 use Rattle.rg_event.specs.Codec.{IsValueOf}
 use Rattle.rg_event.specs.Shapes.{Shape}
 use Rattle.rg_event.specs.Tagged.{IsLegal as IsLegalValue}
@@ -15,21 +14,20 @@ use Rattle.rg_event.specs.declared.value.Value.{Value}
 use Rattle.rg_event.specs.declared.value.Value.TheVariants.{Int, Id, Text, Flag}
 use Rattle.rg_words.specs.declared.func.Func.{Func}
 use Rattle.rg_words.specs.declared.func.Func.TheVariants.{Count, Sum, Avg, SumSq, Min, Max, CountDistinct, First, Last}
-use Rattle.rg_metric.specs.Conditions.{Test}
 use Rattle.rg_metric.specs.Queries.{Asked}
 use Rattle.rg_metric.specs.declared.query.Agg.{Agg}
 use Rattle.rg_metric.specs.declared.query.Window.{Window}
 use Rattle.rg_plan.specs.declared.node.AggNode.{AggNode}
-use Rattle.rg_plan.specs.Named.{Node, node_at, under_agg, under_group, under_filter}
 use Rattle.rg_plan.specs.Nodes.{same_window, same_agg}
-use Rattle.rg_plan.specs.Plans.{Planned, plan_for, windows_of, filters_of, groups_of, aggs_of, aggs_in, agg_under, group_number}
+use Rattle.rg_plan.specs.Plans.{plan_for, windows_of, filters_of, groups_of, aggs_of, aggs_in, agg_under, group_number}
 use Rattle.rg_plan.proofs.Members.{All-distinct}
 use Rattle.rg_query.specs.Legal.{IsOperand, IsLegalAgg, AreLegalAggs, IsLegalLength, IsLegal}
 use Rattle.rg_query.specs.Printing.{name_at}
 use Rattle.rg_query.specs.Resolving.{column_from, takes}
 use Rattle.rg_agg.specs.Stands.{IsInt, IsNumber}
 use Rattle.rg_state.specs.Takes.{Takes}
-use Rattle.rg_engine.specs.Feeding.{IsServed, Serves}
+use Rattle.rg_engine.specs.Feeding.{IsServed, IsLasting, Serves}
+use Rattle.rg_engine.proofs.Serving.{serves_from}
 
 -- each value of a kind that a function takes is one that it takes
 
@@ -145,9 +143,6 @@ all_served shape [] legal = absurd legal
 all_served shape (agg ∷ aggs) legal = All-weaker (IsLegalAgg shape) (IsServed shape.fields) (λ a operand. column_serves shape a a.field refl operand) (agg ∷ aggs) legal
 
 -- a window that ends lasts
-abbrev Lasts : Window → Type 0
-Lasts window = ForSome window.length (λ length. 0 < length)
-
 lasts : (length : Option ℕ) → IsLegalLength length → ForSome length (λ n. 0 < n)
 lasts None legal n is = absurd (cc)
 lasts (Some m) legal n is = let same : m ≡ n = cc in omega (arith, legal.0, same)
@@ -166,38 +161,10 @@ module _ (shape : Shape) (qs : List Asked) (legal : All (IsLegal shape) qs) wher
   aggs_served : All Served (aggs_of qs)
   aggs_served = All-distinct same_agg Served (flat_map (aggs_in (windows_of qs) (filters_of qs) (groups_of qs)) qs) (uses_served qs legal)
 
-  windows_last : All Lasts (windows_of qs)
+  windows_last : All IsLasting (windows_of qs)
   windows_last =
-      All-distinct same_window Lasts (map (λ (q : Asked). q.window) qs)
-      (All-map Lasts (λ (q : Asked). q.window) qs (All-weaker (IsLegal shape) (λ (q : Asked). Lasts q.window) (λ q h. lasts q.window.length h.length) qs legal))
-
--- a node has the aggregator of its number, and one of the windows
-record HasParts (plan : Planned) (number : ℕ) (node : Node) : Type 0 where
-  last : AggNode
-  there : slice_get plan.aggs number ≡ Some last
-  agg : node.agg ≡ last.agg
-  place : ℕ
-  window : slice_get plan.windows place ≡ Some node.window
-
-with_window : (condition : Option Test) (columns : List ℕ) (agg : Agg) (o : Option Window) (node : Node)
-    → option_map (λ (window : Window). record { window = window; condition = condition; columns = columns; agg = agg }) o ≡ Some node → (o ≡ Some node.window) × (node.agg ≡ agg)
-with_window condition columns agg None node e = absurd (cc)
-with_window condition columns agg (Some window) node e = (ap (option_map (λ (n : Node). n.window)) e, let same : ◌≡◌ {A = Option Agg} (Some agg) (Some node.agg) = ap (option_map (λ (n : Node). n.agg)) e in cc)
-
-parts_of : (plan : Planned) (number : ℕ) (node : Node) → node_at plan number ≡ Some node → HasParts plan number node
-parts_of plan number node e =
-    option_and_then_some (under_agg plan) (slice_get plan.aggs number) node e
-    (λ last there e1. option_and_then_some (under_group plan last.agg) (slice_get plan.groups last.group) node e1
-    (λ group g e2. option_and_then_some (under_filter plan group last.agg) (slice_get plan.filters group.filter) node e2
-    (λ filter f e3.
-    let w = with_window filter.condition group.columns last.agg (slice_get plan.windows filter.window) node e3 in
-    record { last = last; there = there; agg = w.1; place = filter.window; window = w.0 })))
-
-of_it : {A : Type 0} (P : A → Type 0) (xs : List A) (i : ℕ) (x : A) → All P xs → slice_get xs i ≡ Some x → P x
-of_it P xs i x h e = subst P (get_or_from_slice_get xs i x x e) (h i x (slice_get_within xs i x e))
+      All-distinct same_window IsLasting (map (λ (q : Asked). q.window) qs)
+      (All-map IsLasting (λ (q : Asked). q.window) qs (All-weaker (IsLegal shape) (λ (q : Asked). IsLasting q.window) (λ q h. lasts q.window.length h.length) qs legal))
 
 pub serves : (shape : Shape) (qs : List Asked) → All (IsLegal shape) qs → Serves shape.fields (plan_for qs)
-serves shape qs legal = record {
-  served = λ n node e. (let p = parts_of (plan_for qs) n node e in subst (IsServed shape.fields) (sym p.agg) (of_it (λ (a : AggNode). IsServed shape.fields a.agg) (aggs_of qs) n p.last (aggs_served shape qs legal) p.there));
-  lasting = λ n node e. (let p = parts_of (plan_for qs) n node e in of_it Lasts (windows_of qs) p.place node.window (windows_last shape qs legal) p.window);
-}
+serves shape qs legal = serves_from shape.fields (plan_for qs) (aggs_served shape qs legal) (windows_last shape qs legal)

@@ -1,9 +1,10 @@
 -- The definitions on worked rows.
-use Rattle.std.proofs.Common.{◌≡◌, ℕ, pos, List, [], ◌∷◌, Bool, true, false, Option, Some, None, refl}
+use Rattle.std.proofs.Common.{◌≡◌, ℕ, pos, List, [], ◌∷◌, Bool, true, false, Option, Some, None, take, refl}
 use Rattle.std.specs.Prelude.{codes}
 use Rattle.std.specs.Fmt.{digits}
 use Rattle.std.specs.Str.{is_utf8, chars}
 use lib.Utf8.{encode}
+use Rattle.rg_event.specs.declared.event.Event.{Event}
 use Rattle.rg_event.specs.declared.schema.Field.{Field}
 use Rattle.rg_event.specs.declared.value.Kind.TheVariants.{Text, Int}
 use Rattle.rg_event.specs.declared.value.Value.TheVariants.{Int as IntValue}
@@ -16,7 +17,8 @@ use Rattle.rg_metric.specs.Queries.{Asked}
 use Rattle.rg_row.specs.Fields.{split_from}
 use Rattle.rg_host.specs.Lines.{lines_of, ended}
 use Rattle.rg_config.specs.Plans.{Planned}
-use Rattle.rg_plan.specs.Plans.{plan_for}
+use Rattle.rg_plan.specs.Plans.{plan_for, Planned as TaskPlanned}
+use Rattle.rg_engine.specs.Passed.{passed_count}
 use Rattle.railgun.specs.Output.{output_of}
 use Rattle.railgun.specs.Listing.{task_text, check_text}
 
@@ -97,6 +99,25 @@ two_queries : ended (output_of (asking_all (codes "payments") (dear 100).shape.f
     ≡ codes "0 ok 1 100 1\n1 ok 2 300 1\n2 ok 2 250 1\ndone 3 3\n"
 unfolding lines_of is_utf8 digits chars encode split_from
 two_queries = refl
+
+-- those two queries share a window and its one filter node: a step for each event that enters, and one for each that leaves
+abbrev two_groups : TaskPlanned
+two_groups = plan_for (over_five_minutes (1 ∷ []) (payments ∷ (amounts ∷ [])) ∷ (over_five_minutes (2 ∷ []) (payments ∷ []) ∷ []))
+
+abbrev payment_at : ℕ → ℕ → Event
+payment_at offset time = record { offset = offset; time = time; values = [] }
+
+abbrev three_payments : List Event
+three_payments = payment_at 0 0 ∷ (payment_at 1 299999 ∷ (payment_at 2 300000 ∷ []))
+
+steps_of_the_first : passed_count two_groups [] (take 1 three_payments) ≡ 1
+steps_of_the_first = refl
+
+steps_of_the_second : passed_count two_groups (take 1 three_payments) (take 2 three_payments) ≡ 1
+steps_of_the_second = refl
+
+steps_of_the_third : passed_count two_groups (take 2 three_payments) three_payments ≡ 2
+steps_of_the_third = refl
 
 delayed_by_five : ended (output_of (asking (card ∷ []) (counting None [] (sliding 10 5)) 100 false) (codes "0,c1\n5,c1\n15,c1\n")) ≡ codes "0 ok 0\n1 ok 1\n2 ok 1\ndone 3 3\n"
 unfolding lines_of is_utf8 digits chars encode split_from

@@ -28,14 +28,21 @@ command_of (command ∷ (plan ∷ [])) = when (bytes_eq (string_bytes command) (
 command_of (command ∷ (plan ∷ (store ∷ []))) = when (bytes_eq (string_bytes command) (codes "run")) Run
 command_of (command ∷ (plan ∷ (store ∷ (more ∷ words)))) = None
 
--- The plan and the input tell their bytes, which are these; and what the plan's bytes say.
-pub record Told (plan input : Option (List ℕ)) : Type 0 where
+-- the call answers the input: it is a run, and its plan is legal
+abbrev pub AnswersInput : Option Command → Result Planned ConfigFault → Type 0
+AnswersInput (Some Run) (r.Ok plan) = ⊤
+AnswersInput (Some Run) (r.Err refusal) = ⊥
+AnswersInput (Some Check) asks = ⊥
+AnswersInput None asks = ⊥
+
+-- The plan tells its bytes, which are these, and they say this. Where the call answers the input, that tells its bytes too.
+pub record Told (command : Option Command) (plan input : Option (List ℕ)) : Type 0 where
   pub plan_bytes : List ℕ
   pub input_bytes : List ℕ
   pub plan_is : plan ≡ Some plan_bytes
-  pub input_is : input ≡ Some input_bytes
   pub asks : Result Planned ConfigFault
   pub says : Says plan_bytes asks
+  pub input_is : AnswersInput command asks → input ≡ Some input_bytes
 
 -- all lines that a command puts for a plan and an input
 abbrev pub asked_text : Command → Planned → List ℕ → List (List ℕ)

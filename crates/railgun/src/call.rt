@@ -91,8 +91,8 @@ fn carry<I: Source, H: Host>(
     host: &mut H,
 ) -> Result<(), Status>
     requires is_read { IsRead asked.now }
-    ensures completes { OnOk result ((all : List ℕ) → I.left input.old ≡ Some all → Puts H.said H.clock H.since host.old host.new (ended (asked_text command (planned asked.now) all))) }
-    ensures stops { IfErr result (λ status. (all : List ℕ) → I.left input.old ≡ Some all → (put : List ℕ) × Puts H.said H.clock H.since host.old host.new put × StopsAt status (asked_text command (planned asked.now) all) put) }
+    ensures completes { OnOk result ((all : List ℕ) → (command ≡ Command.Run → I.left input.old ≡ Some all) → Puts H.said H.clock H.since host.old host.new (ended (asked_text command (planned asked.now) all))) }
+    ensures stops { IfErr result (λ status. (all : List ℕ) → (command ≡ Command.Run → I.left input.old ≡ Some all) → (put : List ℕ) × Puts H.said H.clock H.since host.old host.new put × StopsAt status (asked_text command (planned asked.now) all) put) }
     ensures stops_read { IfErr result (λ status. (status ≡ Status.Read) ⊎ (status ≡ Status.Limit) → StopsRead (asked_replies command (planned asked.now)) (I.left input.old) (I.left input.new) (Puts H.said H.clock H.since host.old host.new) status) }
     ensures at_end { OnOk result (command ≡ Command.Run → IsAtEnd (I.left input.new)) }
     ensures within { OnOk result (command ≡ Command.Run → IsWithin (2 ^ 50) (I.left input.old)) }
@@ -117,11 +117,11 @@ fn obey<P: Source, I: Source, H: Host>(
     input: &mut I,
     host: &mut H,
 ) -> Result<(), Ending>
-    ensures completes { OnOk result ((told : Told (P.left plan.old) (I.left input.old)) → Puts H.said H.clock H.since host.old host.new (ended (text_of (Some command) told.asks told.input_bytes))) }
-    ensures stops { IfErr result (λ ending. (told : Told (P.left plan.old) (I.left input.old)) → (put : List ℕ) × Puts H.said H.clock H.since host.old host.new put × StopsAt (ending_status ending) (text_of (Some command) told.asks told.input_bytes) put) }
-    ensures stops_read { IfErr result (λ ending. (ending_status ending ≡ Status.Read) ⊎ (ending_status ending ≡ Status.Limit) → (told : Told (P.left plan.old) (I.left input.old)) →
+    ensures completes { OnOk result ((told : Told (Some command) (P.left plan.old) (I.left input.old)) → Puts H.said H.clock H.since host.old host.new (ended (text_of (Some command) told.asks told.input_bytes))) }
+    ensures stops { IfErr result (λ ending. (told : Told (Some command) (P.left plan.old) (I.left input.old)) → (put : List ℕ) × Puts H.said H.clock H.since host.old host.new put × StopsAt (ending_status ending) (text_of (Some command) told.asks told.input_bytes) put) }
+    ensures stops_read { IfErr result (λ ending. (ending_status ending ≡ Status.Read) ⊎ (ending_status ending ≡ Status.Limit) → (told : Told (Some command) (P.left plan.old) (I.left input.old)) →
         StopsRead (replies_of (Some command) told.asks) (I.left input.old) (I.left input.new) (Puts H.said H.clock H.since host.old host.new) (ending_status ending)) }
-    ensures line { IfErr result (λ ending. (told : Told (P.left plan.old) (I.left input.old)) → ending_line ending ≡ line_for told.asks (ending_status ending)) }
+    ensures line { IfErr result (λ ending. (told : Told (Some command) (P.left plan.old) (I.left input.old)) → ending_line ending ≡ line_for told.asks (ending_status ending)) }
     ensures at_end { OnOk result (command ≡ Command.Run → IsAtEnd (I.left input.new)) }
     ensures legal { OnOk result (IsLegal (P.left plan.old)) }
     ensures within { OnOk result (command ≡ Command.Run → IsWithin (2 ^ 50) (I.left input.old)) }
@@ -167,15 +167,15 @@ fn carry_out<P: Source, I: Source, H: Host>(
     input: &mut I,
     host: &mut H,
 ) -> Status
-    ensures complete_run { result ≡ Status.Ok → (told : Told (P.left plan.old) (I.left input.old)) →
+    ensures complete_run { result ≡ Status.Ok → (told : Told (command_of words.now) (P.left plan.old) (I.left input.old)) →
         Puts H.said H.clock H.since host.old host.new (ended (text_of (command_of words.now) told.asks told.input_bytes)) }
     ensures input_read { result ≡ Status.Ok → command_of words.now ≡ Some Command.Run → IsAtEnd (I.left input.new) }
-    ensures put_so_far { (told : Told (P.left plan.old) (I.left input.old)) → (put : List ℕ) × Puts H.said H.clock H.since host.old host.new put
+    ensures put_so_far { (told : Told (command_of words.now) (P.left plan.old) (I.left input.old)) → (put : List ℕ) × Puts H.said H.clock H.since host.old host.new put
         × IsPut (text_of (command_of words.now) told.asks told.input_bytes) (line_for told.asks result) put }
-    ensures last_line_whole { (told : Told (P.left plan.old) (I.left input.old)) → ((put : List ℕ) × Puts H.said H.clock H.since host.old host.new put
+    ensures last_line_whole { (told : Told (command_of words.now) (P.left plan.old) (I.left input.old)) → ((put : List ℕ) × Puts H.said H.clock H.since host.old host.new put
         × StopsWith (text_of (command_of words.now) told.asks told.input_bytes) (line_for told.asks result) put)
         ⊎ Rose (H.out_faults host.old) (H.out_faults host.new) }
-    ensures replies_put { (result ≡ Status.Read) ⊎ (result ≡ Status.Limit) → (told : Told (P.left plan.old) (I.left input.old)) →
+    ensures replies_put { (result ≡ Status.Read) ⊎ (result ≡ Status.Limit) → (told : Told (command_of words.now) (P.left plan.old) (I.left input.old)) →
         StopsRead (replies_of (command_of words.now) told.asks) (I.left input.old) (I.left input.new)
         (λ text. Puts H.said H.clock H.since host.old host.new (text ++ line_for told.asks result)) result
         ⊎ Rose (H.out_faults host.old) (H.out_faults host.new) }
@@ -207,8 +207,8 @@ fn carry_out<P: Source, I: Source, H: Host>(
 ///
 /// `words` are those after the program's name. At most 65,536 bytes of `plan` and 2^50 bytes of
 /// `input` are taken, and one more where there is one. What a run puts out is the answer of each
-/// line, in order, and at last `done LINES EVENTS`; what a check puts out is each query. Another
-/// status than Ok puts its last line behind whole lines of these.
+/// line, in order, and at last `done LINES EVENTS`; what a check puts out is each query and then the
+/// task plan. Another status than Ok puts its last line behind whole lines of these.
 pub fn railgun<P: Source, I: Source, H: Host>(
     alloc: Global,
     words: &[String],
@@ -217,21 +217,21 @@ pub fn railgun<P: Source, I: Source, H: Host>(
     host: &mut H,
 ) -> Status
     // At status Ok the input of a run was read to its end, and just the text that the definitions give was put out.
-    ensures complete_run { result ≡ Status.Ok → (told : Told (P.left plan.old) (I.left input.old)) →
+    ensures complete_run { result ≡ Status.Ok → (told : Told (command_of words.now) (P.left plan.old) (I.left input.old)) →
         Puts H.said H.clock H.since host.old host.new (ended (text_of (command_of words.now) told.asks told.input_bytes)) }
     ensures input_read { result ≡ Status.Ok → command_of words.now ≡ Some Command.Run → IsAtEnd (I.left input.new) }
 
     // At each status, a front of that text was put out, or whole lines of it and a front of the status's last line.
-    ensures put_so_far { (told : Told (P.left plan.old) (I.left input.old)) → (put : List ℕ) × Puts H.said H.clock H.since host.old host.new put
+    ensures put_so_far { (told : Told (command_of words.now) (P.left plan.old) (I.left input.old)) → (put : List ℕ) × Puts H.said H.clock H.since host.old host.new put
         × IsPut (text_of (command_of words.now) told.asks told.input_bytes) (line_for told.asks result) put }
 
     // Unless a put failed, that last line is whole.
-    ensures last_line_whole { (told : Told (P.left plan.old) (I.left input.old)) → ((put : List ℕ) × Puts H.said H.clock H.since host.old host.new put
+    ensures last_line_whole { (told : Told (command_of words.now) (P.left plan.old) (I.left input.old)) → ((put : List ℕ) × Puts H.said H.clock H.since host.old host.new put
         × StopsWith (text_of (command_of words.now) told.asks told.input_bytes) (line_for told.asks result) put)
         ⊎ Rose (H.out_faults host.old) (H.out_faults host.new) }
 
     // Where the input could not be read on, each line that LF ended was answered, and the last line follows, unless a put failed.
-    ensures replies_put { (result ≡ Status.Read) ⊎ (result ≡ Status.Limit) → (told : Told (P.left plan.old) (I.left input.old)) →
+    ensures replies_put { (result ≡ Status.Read) ⊎ (result ≡ Status.Limit) → (told : Told (command_of words.now) (P.left plan.old) (I.left input.old)) →
         StopsRead (replies_of (command_of words.now) told.asks) (I.left input.old) (I.left input.new)
         (λ text. Puts H.said H.clock H.since host.old host.new (text ++ line_for told.asks result)) result
         ⊎ Rose (H.out_faults host.old) (H.out_faults host.new) }
@@ -255,7 +255,7 @@ pub fn railgun<P: Source, I: Source, H: Host>(
     ensures check_alone { command_of words.now ≡ Some Command.Check → input.new ≡ input.old }
 
     // Where no count of faults rose, the status is the one that words, plan and input call for, or Memory.
-    ensures completes { (told : Told (P.left plan.old) (I.left input.old)) →
+    ensures completes { (told : Told (command_of words.now) (P.left plan.old) (I.left input.old)) →
         ¬ (Rose (P.faults plan.old) (P.faults plan.new) ⊎ Rose (I.faults input.old) (I.faults input.new) ⊎ Rose (H.out_faults host.old) (H.out_faults host.new)) →
         (result ≡ status_for (command_of words.now) told.plan_bytes told.asks told.input_bytes) ⊎ (result ≡ Status.Memory) }
 {

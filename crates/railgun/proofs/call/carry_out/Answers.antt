@@ -5,6 +5,11 @@ use Rattle.railgun.specs.Call.{command_of, line_for, ending_status}
 use Rattle.railgun.proofs.Ends.{all_put, all_front, read_then, put_then, whole_then, write_or, write_line, rose_first, rose_last}
 use Rattle.railgun.proofs.call.carry_out.Goals as goal
 
+pub returns-in-Ok-clause-complete_run : goal.returns-in-Ok-clause-complete_run
+returns-in-Ok-clause-complete_run g c =
+    let form : command_of c.args.words.now ≡ Some c.in-Some.command = sym c.named.ensures ∙ c.in-Some.is in
+    rw form (λ ok told. c.in-Ok.ensures.completes told)
+
 pub returns-in-Ok-clause-put_so_far : goal.returns-in-Ok-clause-put_so_far
 returns-in-Ok-clause-put_so_far g c =
     let form : command_of c.args.words.now ≡ Some c.in-Some.command = sym c.named.ensures ∙ c.in-Some.is in

@@ -19,7 +19,7 @@ returns-in-Err-clause-stops_read g c = λ is told.
 
 pub returns-in-Err-clause-line : goal.returns-in-Err-clause-line
 returns-in-Err-clause-line g c = λ told.
-    line_as told.asks (ending_status c.in-Err.ending) (ending_line c.in-Err.ending) (λ bad. told_line _ _ (ending_line c.in-Err.ending) told (c.in-Err.ensures.refused bad)) c.in-Err.ensures.line
+    line_as told.asks (ending_status c.in-Err.ending) (ending_line c.in-Err.ending) (λ bad. told_line _ _ _ (ending_line c.in-Err.ending) told (c.in-Err.ensures.refused bad)) c.in-Err.ensures.line
 
 -- the plan was carried out
 

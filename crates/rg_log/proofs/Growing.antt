@@ -15,7 +15,7 @@ use Rattle.rg_frame.specs.Steps.{Grows, Grown}
 use Rattle.rg_chunk.specs.Chunks.{chunk_of}
 use Rattle.rg_log.specs.Log.{schema_payload, with_chunk, chunks_of, joined, HasChunks, IsChunkOf, IsLegalLog, HasEvents, HasSchemaFrame, IsOfSchema}
 
-same_some : {A : Type 0} → (o : Option A) (a b : A) → o ≡ Some a → o ≡ Some b → a ≡ b
+pub same_some : {A : Type 0} → (o : Option A) (a b : A) → o ≡ Some a → o ≡ Some b → a ≡ b
 same_some o a b is also = cc
 
 head_same : (a b : List ℕ) (x y : List (List ℕ)) → a ∷ x ≡ b ∷ y → a ≡ b

@@ -1,2 +1,4 @@
 pub mod Growing
+pub mod Reading
 pub mod Spelling
+pub mod Naming

@@ -11,7 +11,7 @@ ghost use Rattle.rg_event.specs.Shapes.{Shape, IsSchema};
 ghost use Rattle.rg_event.specs.declared.event.Event.{Event};
 ghost use Rattle.rg_past.specs.Order.{IsRising};
 ghost use Rattle.rg_past.specs.declared.past.Spot.{Spot};
-ghost use Rattle.rg_frame.specs.Frames.{frames, HasPayloads};
+ghost use Rattle.rg_frame.specs.Frames.{frames, HasPayloads, IsDamaged};
 ghost use Rattle.rg_frame.specs.Steps.{Grows, Grown};
 ghost use Rattle.rg_log.specs.Log.{schema_payload, chunks_of, joined, HasChunks, IsChunkOf, HasEvents, HasSchemaFrame, IsOfSchema};
 ghost use Rattle.rg_log.specs.Reading.{events_of};
@@ -19,9 +19,13 @@ ghost use Rattle.rg_log.specs.Spots.{IsInChunk, SpotAt, SpotIn, NamedByHeads};
 
 use rg_frame::law_frames;
 
-/// A file has one list of events and at most one schema.
+/// A file has one list of events, that which `events_of` reads, and at most one schema. Where its frame list is undefined,
+/// there are no events to read.
 pub fn law_events()
     ensures one { (shape other : Shape) (events others : List Event) (bytes : List ℕ) → HasEvents shape events bytes → HasEvents other others bytes → events ≡ others }
+    ensures reads { (shape : Shape) (events : List Event) (bytes : List ℕ) → HasEvents shape events bytes → events_of bytes ≡ Some events }
+    ensures none { (bytes : List ℕ) → HasPayloads [] bytes → events_of bytes ≡ Some [] }
+    ensures damaged { (place : ℕ) (bytes : List ℕ) → IsDamaged place bytes → events_of bytes ≡ None }
     ensures one_schema { (shape other : Shape) (bytes : List ℕ) → IsSchema shape → IsSchema other → HasSchemaFrame shape bytes → HasSchemaFrame other bytes → shape ≡ other }
 {
     law_frames();
@@ -39,3 +43,32 @@ pub fn law_log()
 {
     law_frames();
 }
+
+/// Spots stay what they are when a chunk comes behind a log, and the heads of the chunks alone tell which spots of a
+/// legal log are spelled.
+pub fn law_spots()
+    ensures stays { (shape : Shape) (payloads : List (List ℕ)) (payload : List ℕ) (chunk : List Event) (spot : Spot) → IsChunkOf shape payload chunk →
+        SpotAt shape payloads spot → SpotAt shape (payloads ++ payload ∷ []) spot }
+    ensures stays_in { (shape : Shape) (payload : List ℕ) (chunk : List Event) (old new : List ℕ) (spot : Spot) → IsChunkOf shape payload chunk → Grows payload old new →
+        SpotIn shape old spot → SpotIn shape new spot }
+
+    // Without a frame no spot is spelled: so each one stays when the schema's frame comes.
+    ensures none { (shape : Shape) (spot : Spot) → SpotAt shape [] spot → ⊥ }
+    ensures within { (shape : Shape) (payloads : List (List ℕ)) (chunks : List (List Event)) (spot : Spot) → HasChunks shape payloads chunks →
+        SpotAt shape payloads spot → spot.number ≤ length (joined chunks) }
+
+    // The event that a spot in a chunk names.
+    ensures event { (shape : Shape) (payloads : List (List ℕ)) (chunks : List (List Event)) (spot : Spot) → HasChunks shape payloads chunks →
+        (at : IsInChunk shape payloads spot) → spot.index < length at.chunk → slice_get (joined chunks) spot.number ≡ slice_get at.chunk spot.index }
+    ensures one_number { (shape : Shape) (payloads : List (List ℕ)) (spot other : Spot) → SpotAt shape payloads spot → SpotAt shape payloads other →
+        spot.place ≡ other.place → spot.index ≡ other.index → spot.number ≡ other.number }
+
+    // The end: where the frames end, also where there is no chunk; and behind the last event of the last chunk.
+    ensures end { (shape : Shape) (payloads : List (List ℕ)) (chunks : List (List Event)) (spot : Spot) → chunks_of shape.fields payloads ≡ Some chunks →
+        spot.place ≡ length (frames (schema_payload shape ∷ payloads)) → spot.index ≡ 0 → spot.number ≡ length (joined chunks) → SpotAt shape (schema_payload shape ∷ payloads) spot }
+    ensures end_of_last { (shape : Shape) (payloads : List (List ℕ)) (payload : List ℕ) (chunks : List (List Event)) (chunk : List Event) (spot : Spot) →
+        chunks_of shape.fields payloads ≡ Some chunks → IsChunkOf shape payload chunk → spot.place ≡ length (frames (schema_payload shape ∷ payloads)) →
+        spot.index ≡ length chunk → spot.number ≡ length (joined chunks ++ chunk) → SpotAt shape (schema_payload shape ∷ (payloads ++ payload ∷ [])) spot }
+    ensures named { (shape : Shape) (payloads : List (List ℕ)) (chunks : List (List Event)) (spot : Spot) → HasChunks shape payloads chunks →
+        NamedByHeads payloads spot ↔ SpotAt shape payloads spot }
+{}

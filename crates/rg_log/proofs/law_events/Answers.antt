@@ -1,5 +1,12 @@
 use Rattle.rg_log.proofs.Growing.{one_list, one_schema}
+use Rattle.rg_log.proofs.Reading.{events_read, no_events, damaged_events}
 use Rattle.rg_log.proofs.law_events.Goals as goal
 
 pub returns : goal.returns
-returns c = record { one = one_list c.law_frames.ensures.unique; one_schema = one_schema c.law_frames.ensures.unique }
+returns c = record {
+  one = one_list c.law_frames.ensures.unique;
+  reads = events_read c.law_frames.ensures.defined;
+  none = no_events c.law_frames.ensures.defined;
+  damaged = damaged_events c.law_frames.ensures.undefined;
+  one_schema = one_schema c.law_frames.ensures.unique;
+}

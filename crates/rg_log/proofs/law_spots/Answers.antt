@@ -1,0 +1,21 @@
+use Rattle.rg_log.proofs.Spelling.{spot_stays, spot_stays_in, spot_within, spot_event, one_number}
+use Rattle.rg_log.proofs.Naming.{named}
+use Rattle.rg_log.proofs.law_spots.Goals as goal
+
+pub returns-clause-stays : goal.returns-clause-stays
+returns-clause-stays c = spot_stays
+
+pub returns-clause-stays_in : goal.returns-clause-stays_in
+returns-clause-stays_in c = spot_stays_in
+
+pub returns-clause-within : goal.returns-clause-within
+returns-clause-within c = spot_within
+
+pub returns-clause-event : goal.returns-clause-event
+returns-clause-event c = spot_event
+
+pub returns-clause-one_number : goal.returns-clause-one_number
+returns-clause-one_number c = one_number
+
+pub returns-clause-named : goal.returns-clause-named
+returns-clause-named c = named

@@ -3,19 +3,19 @@ use Rattle.std.proofs.Common.{◌≡◌, ◌≢◌, ℕ, zero, suc, ◌-◌, ◌
 use Rattle.std.proofs.Math.ListN.{set}
 use Rattle.std.proofs.lemmas.List.{set-append_left, map-set, map-append, length-map, length-set}
 use Rattle.std.specs.declared.alloc.Global.{Global}
-use Rattle.rg_host.specs.Image.{eight, files_of, bytes_of}
+use Rattle.rg_host.specs.Files.{eight, files_of, image_of}
 
-bytes_of-set : (files : List (List ℕ)) (file : ℕ) (bytes : List ℕ) → file < length files → bytes_of (set files file bytes) file ≡ bytes
-bytes_of-set [] file bytes below = absurd (omega arith)
-bytes_of-set (first ∷ files) zero bytes below = refl
-bytes_of-set (first ∷ files) (suc file) bytes below = bytes_of-set files file bytes (omega arith)
+image_of-set : (files : List (List ℕ)) (file : ℕ) (bytes : List ℕ) → file < length files → image_of (set files file bytes) file ≡ bytes
+image_of-set [] file bytes below = absurd (omega arith)
+image_of-set (first ∷ files) zero bytes below = refl
+image_of-set (first ∷ files) (suc file) bytes below = image_of-set files file bytes (omega arith)
 
-bytes_of-set_other : (files : List (List ℕ)) (file : ℕ) (bytes : List ℕ) (other : ℕ) → other ≢ file → bytes_of (set files file bytes) other ≡ bytes_of files other
-bytes_of-set_other [] file bytes other differs = refl
-bytes_of-set_other (first ∷ files) zero bytes zero differs = absurd (differs refl)
-bytes_of-set_other (first ∷ files) zero bytes (suc other) differs = refl
-bytes_of-set_other (first ∷ files) (suc file) bytes zero differs = refl
-bytes_of-set_other (first ∷ files) (suc file) bytes (suc other) differs = bytes_of-set_other files file bytes other (λ same. differs (ap suc same))
+image_of-set_other : (files : List (List ℕ)) (file : ℕ) (bytes : List ℕ) (other : ℕ) → other ≢ file → image_of (set files file bytes) other ≡ image_of files other
+image_of-set_other [] file bytes other differs = refl
+image_of-set_other (first ∷ files) zero bytes zero differs = absurd (differs refl)
+image_of-set_other (first ∷ files) zero bytes (suc other) differs = refl
+image_of-set_other (first ∷ files) (suc file) bytes zero differs = refl
+image_of-set_other (first ∷ files) (suc file) bytes (suc other) differs = image_of-set_other files file bytes other (λ same. differs (ap suc same))
 
 eight-set : (files : List (List ℕ)) (file : ℕ) (bytes : List ℕ) → file < length files → eight (set files file bytes) ≡ set (eight files) file bytes
 eight-set files file bytes below = rw (length-set files file bytes) (sym (set-append_left files (replicate (8 - length files) []) file bytes below))
@@ -45,13 +45,13 @@ length-files_of buffers file below =
     omega (arith, below, length-map buffers (λ (b : Vec ℕ Global). b.items), length-append files (replicate (8 - length files) []))
 
 -- the file whose buffer is replaced has the new bytes
-pub set_there : (buffers : List (Vec ℕ Global)) (file : ℕ) (buffer : Vec ℕ Global) → file < length buffers → bytes_of (files_of (set buffers file buffer)) file ≡ buffer.items
+pub set_there : (buffers : List (Vec ℕ Global)) (file : ℕ) (buffer : Vec ℕ Global) → file < length buffers → image_of (files_of (set buffers file buffer)) file ≡ buffer.items
 set_there buffers file buffer below =
-    ap (λ (l : List (List ℕ)). bytes_of l file) (files_of-set buffers file buffer below)
-    ∙ bytes_of-set (files_of buffers) file buffer.items (length-files_of buffers file below)
+    ap (λ (l : List (List ℕ)). image_of l file) (files_of-set buffers file buffer below)
+    ∙ image_of-set (files_of buffers) file buffer.items (length-files_of buffers file below)
 
 -- and each other file those that it had
-pub set_elsewhere : (buffers : List (Vec ℕ Global)) (file : ℕ) (buffer : Vec ℕ Global) (other : ℕ) → file < length buffers → other ≢ file → bytes_of (files_of (set buffers file buffer)) other ≡ bytes_of (files_of buffers) other
+pub set_elsewhere : (buffers : List (Vec ℕ Global)) (file : ℕ) (buffer : Vec ℕ Global) (other : ℕ) → file < length buffers → other ≢ file → image_of (files_of (set buffers file buffer)) other ≡ image_of (files_of buffers) other
 set_elsewhere buffers file buffer other below differs =
-    ap (λ (l : List (List ℕ)). bytes_of l other) (files_of-set buffers file buffer below)
-    ∙ bytes_of-set_other (files_of buffers) file buffer.items other differs
+    ap (λ (l : List (List ℕ)). image_of l other) (files_of-set buffers file buffer below)
+    ∙ image_of-set_other (files_of buffers) file buffer.items other differs

@@ -2,3 +2,4 @@ pub mod Growing
 pub mod Reading
 pub mod Spelling
 pub mod Naming
+pub mod Worked

@@ -5,7 +5,7 @@ use Rattle.rg_event.specs.Reading.{shape_of}
 use Rattle.rg_event.specs.Shapes.{Shape, IsSchema, schema_text}
 use Rattle.rg_event.specs.declared.event.Event.{Event}
 use Rattle.rg_event.proofs.Readable.{read_back}
-use Rattle.rg_past.specs.Order.{IsRising}
+use Rattle.rg_event.specs.Rising.{IsRising}
 use Rattle.rg_frame.specs.FrameList.{frame_list, payloads_in, defined}
 use Rattle.rg_frame.specs.Frames.{HasPayloads, IsDamaged}
 use Rattle.rg_log.specs.Log.{schema_payload, chunks_of, joined, HasChunks, IsLegalLog, HasEvents}

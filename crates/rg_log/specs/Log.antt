@@ -4,7 +4,7 @@ use Rattle.rg_event.specs.Codec.{IsEventOf}
 use Rattle.rg_event.specs.Shapes.{Shape, IsSchema, schema_text}
 use Rattle.rg_event.specs.declared.event.Event.{Event}
 use Rattle.rg_event.specs.declared.schema.Field.{Field}
-use Rattle.rg_past.specs.Order.{IsRising}
+use Rattle.rg_event.specs.Rising.{IsRising}
 use Rattle.rg_frame.specs.Frames.{HasPayloads}
 use Rattle.rg_chunk.specs.Chunks.{chunk_of}
 

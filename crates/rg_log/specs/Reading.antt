@@ -3,7 +3,7 @@ use Rattle.std.specs.Prelude.{◌==◌, ◌&&◌, nat_le, nat_lt, ℕ, Bool, tru
 use Rattle.rg_event.specs.Reading.{shape_of}
 use Rattle.rg_event.specs.Shapes.{Shape}
 use Rattle.rg_event.specs.declared.event.Event.{Event}
-use Rattle.rg_past.specs.Order.{next_offset}
+use Rattle.rg_event.specs.Rising.{next_offset}
 use Rattle.rg_frame.specs.FrameList.{payloads_in}
 use Rattle.rg_log.specs.Log.{chunks_of, joined}
 

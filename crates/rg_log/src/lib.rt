@@ -9,7 +9,7 @@
 ghost use Rattle.std.specs.Prelude.{◌≡◌, ◌⊎◌, ◌↔◌, ◌≤◌, ◌<◌, ◌^◌, ℕ, List, [], ◌∷◌, ◌++◌, length, slice_get, Option, Some, None};
 ghost use Rattle.rg_event.specs.Shapes.{Shape, IsSchema};
 ghost use Rattle.rg_event.specs.declared.event.Event.{Event};
-ghost use Rattle.rg_past.specs.Order.{IsRising};
+ghost use Rattle.rg_event.specs.Rising.{IsRising};
 ghost use Rattle.rg_past.specs.declared.past.Spot.{Spot};
 ghost use Rattle.rg_frame.specs.Frames.{frames, HasPayloads, IsDamaged};
 ghost use Rattle.rg_frame.specs.Steps.{Grows, Grown};

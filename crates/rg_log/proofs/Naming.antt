@@ -1,5 +1,5 @@
 -- The heads of the chunks tell which spots of a legal log are spelled.
-use Rattle.std.proofs.Common.{◌≡◌, ◌∙◌, ◌⊎◌, inl, inr, ℕ, ◌+◌, ◌≤◌, ◌==◌, ◌&&◌, ◌||◌, nat_le, Bool, true, false, List, [], ◌∷◌, ◌++◌, length, Option, Some, None, option_map, refl, sym, ap, subst, arith, append_assoc, length-append}
+use Rattle.std.proofs.Common.{◌≡◌, ◌∙◌, ◌⊎◌, inl, inr, ℕ, ◌+◌, ◌≤◌, ◌==◌, ◌&&◌, ◌||◌, nat_le, Bool, true, false, List, [], ◌∷◌, ◌++◌, length, Option, Some, option_map, refl, sym, ap, subst, arith, append_assoc, length-append}
 use Rattle.std.proofs.lemmas.Bool.{eqb-true, eq-eqb, leb-true}
 use Rattle.std.proofs.lemmas.Bool.Decides.{nat_tests}
 use Rattle.std.proofs.lemmas.List.{append-nil}
@@ -12,13 +12,13 @@ use Rattle.rg_frame.specs.Frames.{frames}
 use Rattle.rg_frame.proofs.FrameLaws.{length-frames, length-frames-push}
 use Rattle.rg_chunk.specs.Chunks.{chunk_of}
 use Rattle.rg_chunk.specs.declared.head.ChunkHead.{ChunkHead}
-use Rattle.rg_chunk.proofs.Heads.{chunk_head}
+use Rattle.rg_chunk.proofs.Chunks.{chunk_head}
 use Rattle.rg_log.specs.Log.{schema_payload, chunks_of, joined, HasChunks}
 use Rattle.rg_log.specs.Spots.{SpotAt, count_in, is_in_chunk, is_at_end, named_at, named_from, NamedByHeads}
 use Rattle.rg_log.proofs.Growing.{part, joined-push, chunks-push}
 use Rattle.rg_log.proofs.Spelling.{no_spot, rest_same}
 
-both : (a b : Bool) → (a && b) ≡ true → (a ≡ true) × (b ≡ true)
+pub both : (a b : Bool) → (a && b) ≡ true → (a ≡ true) × (b ≡ true)
 both true b e = (refl, e)
 both false b e = absurd cc
 

@@ -1,15 +1,14 @@
 -- The events of a legal log are what the function reads in its bytes.
-use Rattle.std.proofs.Common.{◌≡◌, ◌∙◌, ℕ, ◌≤◌, ◌<◌, ◌&&◌, nat_le, nat_lt, Bool, true, List, [], ◌∷◌, length, Option, Some, None, option_and_then, Result, Err, refl, sym, ap, subst, arith, if◌then◌else◌}
+use Rattle.std.proofs.Common.{◌≡◌, ◌∙◌, ℕ, ◌≤◌, ◌<◌, nat_le, nat_lt, true, List, [], ◌∷◌, length, Option, Some, None, option_map, option_and_then, Result, Err, refl, sym, ap, arith}
 use Rattle.std.proofs.lemmas.Bool.Decides.{nat_tests}
-use Rattle.rg_event.specs.Reading.{shape_of}
 use Rattle.rg_event.specs.Shapes.{Shape, IsSchema, schema_text}
 use Rattle.rg_event.specs.declared.event.Event.{Event}
 use Rattle.rg_event.proofs.Readable.{read_back}
-use Rattle.rg_event.specs.Rising.{IsRising}
+use Rattle.rg_event.specs.Rising.{IsRising, next_offset}
 use Rattle.rg_frame.specs.FrameList.{frame_list, payloads_in, defined}
 use Rattle.rg_frame.specs.Frames.{HasPayloads, IsDamaged}
-use Rattle.rg_log.specs.Log.{schema_payload, chunks_of, joined, HasChunks, IsLegalLog, HasEvents}
-use Rattle.rg_log.specs.Reading.{schema_of, is_rising, legal_events, chunk_events, listed_events, events_of}
+use Rattle.rg_log.specs.Log.{schema_payload, joined, HasChunks, HasEvents}
+use Rattle.rg_log.specs.Reading.{schema_of, is_rising, legal_events, chunk_events, listed_events, events_of, next_of}
 
 leb_yes : (a b : ℕ) → a ≤ b → nat_le a b ≡ true
 leb_yes a b le = grind (arith, nat_tests)
@@ -42,6 +41,9 @@ module _ (frames_defined : (payloads : List (List ℕ)) (bytes : List ℕ) → H
       let log = has.1 in
       ap (λ (o : Option (List (List ℕ))). option_and_then listed_events o) (frames_defined log.payloads bytes log.has) ∙ listed_said shape log.payloads has.0 log.schema log.log log.rising log.few
       ∙ ap (λ (l : List Event). Some l) has.2
+
+  pub next_read : (shape : Shape) (events : List Event) (bytes : List ℕ) → HasEvents shape events bytes → next_of bytes ≡ Some (next_offset events)
+  next_read shape events bytes has = ap (λ (o : Option (List Event)). option_map next_offset o) (events_read shape events bytes has)
 
   pub no_events : (bytes : List ℕ) → HasPayloads [] bytes → events_of bytes ≡ Some []
   no_events bytes has = ap (λ (o : Option (List (List ℕ))). option_and_then listed_events o) (frames_defined [] bytes has)

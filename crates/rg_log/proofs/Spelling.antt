@@ -1,6 +1,7 @@
 -- Spots of a log: how they stay, and which event they name.
-use Rattle.std.proofs.Common.{◌≡◌, ◌∙◌, ◌⊎◌, inl, inr, ℕ, ◌+◌, ◌≤◌, ◌<◌, List, [], ◌∷◌, ◌++◌, length, get_or, Option, Some, None, refl, sym, ap, subst, arith, append_assoc, length-append}
-use Rattle.std.proofs.lemmas.List.{get_or-append-add, get_or_append_left}
+use Rattle.std.proofs.Common.{◌≡◌, ◌∙◌, ◌⊎◌, inl, inr, ℕ, ◌+◌, ◌-◌, ◌≤◌, ◌<◌, List, [], ◌∷◌, ◌++◌, length, Some, refl, sym, ap, subst, arith, append_assoc, length-append}
+use Rattle.std.proofs.lemmas.Bool.{cases_lt}
+use Rattle.std.proofs.lemmas.List.{append-nil, get_or-append-add, get_or_append_left}
 use Rattle.std.proofs.lemmas.Option.{slice_get-get_or}
 use Rattle.std.specs.Prelude.{slice_get}
 use Rattle.rg_event.specs.Shapes.{Shape}
@@ -11,9 +12,9 @@ use Rattle.rg_frame.specs.Frames.{frames, HasPayloads}
 use Rattle.rg_frame.specs.Steps.{Grows}
 use Rattle.rg_frame.proofs.FrameLaws.{length-frames, frames-append}
 use Rattle.rg_chunk.specs.Chunks.{chunk_of}
-use Rattle.rg_log.specs.Log.{schema_payload, with_chunk, chunks_of, joined, HasChunks, IsChunkOf}
-use Rattle.rg_log.specs.Spots.{IsInChunk, IsAtEnd, SpotAt, SpotIn}
-use Rattle.rg_log.proofs.Growing.{same_some, Parted, part, joined-append, one_chunks}
+use Rattle.rg_log.specs.Log.{schema_payload, chunks_of, joined, HasChunks, IsChunkOf}
+use Rattle.rg_log.specs.Spots.{IsInChunk, SpotAt, SpotIn}
+use Rattle.rg_log.proofs.Growing.{same_some, part, joined-append, joined-push, chunks-push, one_chunks}
 
 -- a spot that is spelled stays so when a chunk comes behind the log; the end becomes the first event of the new chunk
 pub spot_stays : (shape : Shape) (payloads : List (List ℕ)) (payload : List ℕ) (chunk : List Event) (spot : Spot) → IsChunkOf shape payload chunk → SpotAt shape payloads spot → SpotAt shape (payloads ++ payload ∷ []) spot
@@ -147,3 +148,40 @@ one_number shape payloads spot other (inl a) (inl b) place index =
 one_number shape payloads spot other (inl a) (inr b) place index = absurd (not_end shape payloads spot a (place ∙ b.place_is))
 one_number shape payloads spot other (inr a) (inl b) place index = absurd (not_end shape payloads other b (sym place ∙ a.place_is))
 one_number shape payloads spot other (inr a) (inr b) place index = a.number_is ∙ ap (λ (l : List (List Event)). length (joined l)) (one_chunks shape payloads a.chunks b.chunks a.chunks_are b.chunks_are) ∙ sym b.number_is
+
+abbrev Named : Shape → List (List ℕ) → ℕ → Type 0
+Named shape payloads number = (spot : Spot) × SpotAt shape payloads spot × (spot.number ≡ number)
+
+-- each event of further chunks has a spelling, and so has the end
+named_further : (shape : Shape) (done rest : List (List ℕ)) (before chunks : List (List Event)) (number index : ℕ) → chunks_of shape.fields done ≡ Some before → chunks_of shape.fields rest ≡ Some chunks → number ≡ length (joined before) + index
+    → index ≤ length (joined chunks) → Named shape (schema_payload shape ∷ (done ++ rest)) number
+named_further shape done [] before chunks number index first all is le =
+    let none : chunks ≡ [] = cc in (
+      record { place = length (frames (schema_payload shape ∷ (done ++ []))); index = 0; number = number },
+      inr (record {
+        chunks = before;
+        framed = omega arith;
+        chunks_are = (refl, ap (λ (l : List (List ℕ)). chunks_of shape.fields l) (append-nil done) ∙ first);
+        place_is = refl;
+        index_is = refl;
+        number_is = omega (arith, is, le, ap (λ (l : List (List Event)). length (joined l)) none);
+      }),
+      refl,
+    )
+named_further shape done (p ∷ rest) before chunks number index first all is le =
+    let f = part (chunk_of shape.fields p) (chunks_of shape.fields rest) chunks all in
+    let sum : length (joined chunks) ≡ length f.chunk + length (joined f.more) = ap (λ (l : List (List Event)). length (joined l)) f.is ∙ length-append f.chunk (joined f.more) in
+    elim (cases_lt (length f.chunk) index) [
+      | inl behind ↦ subst (λ (l : List (List ℕ)). Named shape (schema_payload shape ∷ l) number) (append_assoc done (p ∷ []) rest)
+          (named_further shape (done ++ p ∷ []) rest (before ++ f.chunk ∷ []) f.more number (index - length f.chunk) (chunks-push shape.fields done before p f.chunk first f.chunk_is) f.more_is
+          (omega (arith, is, behind, ap (λ (l : List Event). length l) (joined-push before f.chunk), length-append (joined before) f.chunk))
+          (omega (arith, le, sum, behind)))
+      | inr within ↦ (
+        record { place = length (frames (schema_payload shape ∷ done)); index = index; number = number },
+        inl (record { earlier = done; payload = p; later = rest; before = before; chunk = f.chunk; is = refl; before_is = first; chunk_is = f.chunk_is; place_is = refl; number_is = is; most = within }),
+        refl,
+      )
+    ]
+
+pub named_each : (shape : Shape) (payloads : List (List ℕ)) (chunks : List (List Event)) (number : ℕ) → chunks_of shape.fields payloads ≡ Some chunks → number ≤ length (joined chunks) → Named shape (schema_payload shape ∷ payloads) number
+named_each shape payloads chunks number all le = named_further shape [] payloads [] chunks number number refl all (omega arith) le

@@ -6,15 +6,15 @@
 //! layers above learn from them what an append leaves of the events and of the spots.
 #![tactic(auto)]
 
-ghost use Rattle.std.specs.Prelude.{◌≡◌, ◌⊎◌, ◌↔◌, ◌≤◌, ◌<◌, ◌^◌, ℕ, List, [], ◌∷◌, ◌++◌, length, slice_get, Option, Some, None};
+ghost use Rattle.std.specs.Prelude.{◌≡◌, ◌⊎◌, ◌↔◌, ◌≤◌, ◌<◌, ◌^◌, ℕ, List, [], ◌∷◌, ◌++◌, length, slice_get, Option, Some, None, All, IsSome};
 ghost use Rattle.rg_event.specs.Shapes.{Shape, IsSchema};
 ghost use Rattle.rg_event.specs.declared.event.Event.{Event};
-ghost use Rattle.rg_event.specs.Rising.{IsRising};
+ghost use Rattle.rg_event.specs.Rising.{IsRising, next_offset};
 ghost use Rattle.rg_past.specs.declared.past.Spot.{Spot};
 ghost use Rattle.rg_frame.specs.Frames.{frames, HasPayloads, IsDamaged};
 ghost use Rattle.rg_frame.specs.Steps.{Grows, Grown};
-ghost use Rattle.rg_log.specs.Log.{schema_payload, chunks_of, joined, HasChunks, IsChunkOf, HasEvents, HasSchemaFrame, IsOfSchema};
-ghost use Rattle.rg_log.specs.Reading.{events_of};
+ghost use Rattle.rg_log.specs.Log.{schema_payload, chunks_of, joined, HasChunks, IsChunkOf, HasEvents, HasLegalLog, HasSchemaFrame, IsOfSchema};
+ghost use Rattle.rg_log.specs.Reading.{IsByte, events_of, next_of};
 ghost use Rattle.rg_log.specs.Spots.{IsInChunk, SpotAt, SpotIn, NamedByHeads};
 
 use rg_frame::law_frames;
@@ -26,6 +26,12 @@ pub fn law_events()
     ensures reads { (shape : Shape) (events : List Event) (bytes : List ℕ) → HasEvents shape events bytes → events_of bytes ≡ Some events }
     ensures none { (bytes : List ℕ) → HasPayloads [] bytes → events_of bytes ≡ Some [] }
     ensures damaged { (place : ℕ) (bytes : List ℕ) → IsDamaged place bytes → events_of bytes ≡ None }
+    ensures next { (shape : Shape) (events : List Event) (bytes : List ℕ) → HasEvents shape events bytes → next_of bytes ≡ Some (next_offset events) }
+
+    // In a file, whose numbers are bytes, there are events to read exactly where the log is legal, and they are its own.
+    ensures exact { (bytes : List ℕ) → All IsByte bytes → IsSome (events_of bytes) ↔ HasLegalLog bytes }
+    ensures legal { (bytes : List ℕ) (events : List Event) → All IsByte bytes → events_of bytes ≡ Some events →
+        (HasPayloads [] bytes × (events ≡ [])) ⊎ ((shape : Shape) × HasSchemaFrame shape bytes × HasEvents shape events bytes) }
     ensures one_schema { (shape other : Shape) (bytes : List ℕ) → IsSchema shape → IsSchema other → HasSchemaFrame shape bytes → HasSchemaFrame other bytes → shape ≡ other }
 {
     law_frames();
@@ -56,6 +62,9 @@ pub fn law_spots()
     ensures none { (shape : Shape) (spot : Spot) → SpotAt shape [] spot → ⊥ }
     ensures within { (shape : Shape) (payloads : List (List ℕ)) (chunks : List (List Event)) (spot : Spot) → HasChunks shape payloads chunks →
         SpotAt shape payloads spot → spot.number ≤ length (joined chunks) }
+
+    ensures each { (shape : Shape) (payloads : List (List ℕ)) (chunks : List (List Event)) (number : ℕ) → chunks_of shape.fields payloads ≡ Some chunks →
+        number ≤ length (joined chunks) → (spot : Spot) × SpotAt shape (schema_payload shape ∷ payloads) spot × (spot.number ≡ number) }
 
     // The event that a spot in a chunk names.
     ensures event { (shape : Shape) (payloads : List (List ℕ)) (chunks : List (List Event)) (spot : Spot) → HasChunks shape payloads chunks →

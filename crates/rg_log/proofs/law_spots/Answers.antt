@@ -1,4 +1,4 @@
-use Rattle.rg_log.proofs.Spelling.{spot_stays, spot_stays_in, spot_within, spot_event, one_number}
+use Rattle.rg_log.proofs.Spelling.{spot_stays, spot_stays_in, spot_within, spot_event, one_number, named_each}
 use Rattle.rg_log.proofs.Naming.{named}
 use Rattle.rg_log.proofs.law_spots.Goals as goal
 
@@ -10,6 +10,9 @@ returns-clause-stays_in c = spot_stays_in
 
 pub returns-clause-within : goal.returns-clause-within
 returns-clause-within c = spot_within
+
+pub returns-clause-each : goal.returns-clause-each
+returns-clause-each c = named_each
 
 pub returns-clause-event : goal.returns-clause-event
 returns-clause-event c = spot_event

@@ -6,7 +6,7 @@ ghost use Rattle.rg_host.specs.Moments.{LeavesAll};
 ghost use Rattle.rg_frame.specs.Calls.{Writes};
 ghost use Rattle.rg_frame.specs.Frames.{IsLog, Begins, HasPayloads, IsDamaged};
 ghost use Rattle.rg_frame.specs.LogState.{ReachesEnd};
-ghost use Rattle.rg_frame.specs.Looks.{HoldsFrame, IsClosed, IsTorn, Next};
+ghost use Rattle.rg_frame.specs.Looks.{HoldsFrame, HoldsHead, IsClosed, IsTorn, Next};
 ghost use Rattle.rg_frame.specs.Steps.{From, Grows, Appended, OldOrNone};
 
 use crate::fault::FrameFault;
@@ -79,8 +79,8 @@ impl FrameLog {
         host: &mut H,
         head: &mut [u8],
     ) -> Result<Option<Head>, FrameFault>
-        ensures some { IfOk result (λ r. IfSome r (λ found. ForSome (H.now host.old) (λ v. (payloads : List (List ℕ)) → Begins payloads self.old.end (v self.old.file)
-            → Next payloads found.length head.new found.next (v self.old.file)))) }
+        ensures some { IfOk result (λ r. IfSome r (λ found. ForSome (H.now host.old) (λ v. HoldsHead self.old.end found.length head.new (v self.old.file)
+            × ((payloads : List (List ℕ)) → Begins payloads self.old.end (v self.old.file) → Next payloads found.length head.new found.next (v self.old.file))))) }
         ensures moved { IfOk result (λ r. IfSome r (λ found. (found.place ≡ self.old.end) × (found.next ≡ self.old.end + 9 + found.length)
             × (self.new ≡ record self.old { end = found.next; ready = false }))) }
         ensures next { IfOk result (λ r. IfSome r (λ found. found.next < 2 ^ 62)) }

@@ -6,7 +6,7 @@ use Rattle.std.proofs.lemmas.Bool.{cases_eq}
 use Rattle.std.specs.Prelude.{All, slice_index}
 use Rattle.std.specs.Int.{to_be_bytes, w64}
 use Rattle.rg_host.specs.Image.{Holds, Torn}
-use Rattle.rg_frame.specs.Frames.{body, frames, FitsFrame, Ends, IsLog, HasFrames, HasPayloads}
+use Rattle.rg_frame.specs.Frames.{body, frames, FitsFrame, Ends, IsLog, HasFrames, HasPayloads, EndsAt}
 use Rattle.rg_frame.specs.LogState.{Reaches}
 use Rattle.rg_frame.specs.Steps.{Brief, Begun, Keeps, staging, Staged, Appended, Grows, From, OldOrNone}
 use Rattle.rg_frame.proofs.FrameLaws.{length-body, length-frames, frames-push, length-frames-push}
@@ -258,3 +258,12 @@ none-torn a b c is same torn =
 
 pub none-written : (a c : List ℕ) → Holds 0 (0 ∷ []) a c → HasPayloads [] c
 none-written a c holds = none_at c 0 (drop 1 a) (λ e. omega arith) holds
+
+-- a file without a frame ends at place 0
+pub ends-none : (bytes : List ℕ) → HasPayloads [] bytes → EndsAt 0 bytes
+ends-none bytes has = ([], record { rest = has.frames.1.rest; ends = refl; is = has.frames.1.is; stops = has.frames.1.stops })
+
+-- a file reaches place 0
+pub reaches-start : (bytes : List ℕ) → Reaches 0 bytes
+reaches-start [] = inr (refl, omega arith)
+reaches-start (b ∷ bytes) = inl (omega arith)

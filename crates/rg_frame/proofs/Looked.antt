@@ -7,7 +7,7 @@ use borrow.Rule.Slice.PartMut.{put_mid}
 use Rattle.std.specs.Int.{to_be_bytes, from_be_bytes, w64}
 use Rattle.std.specs.Prelude.{slice_index}
 use Rattle.rg_frame.specs.Frames.{frames, body, Ends, Begins, IsLog, IsDamaged}
-use Rattle.rg_frame.specs.Looks.{IsRead, HoldsFrame, HoldsSize, IsClosed, IsTorn, Next}
+use Rattle.rg_frame.specs.Looks.{IsRead, HoldsFrame, HoldsSize, HoldsHead, IsClosed, IsTorn, Next}
 use Rattle.rg_frame.proofs.FrameLaws.{length-frames, frames-push, length-frames-push}
 use Rattle.rg_frame.proofs.FrameLists.{fits_below}
 
@@ -97,21 +97,28 @@ payload_first place size n head piece bytes f r most =
     let whole : n ≡ length piece = omega (arith, r.count, most, ap length (frame_rest place f.0 bytes f.1), length-append f.0 f.1.rest, f.2) in
     sym (ap (λ (l : List ℕ). take (length piece) l) (frame_rest place f.0 bytes f.1)) ∙ sym (subst (λ (k : ℕ). take k piece ≡ take k (drop (place + 9) bytes)) whole r.same) ∙ take_all (length piece) piece (omega arith)
 
-pub next-read : (payloads : List (List ℕ)) (end size n m : ℕ) (old piece bytes : List ℕ) → Begins payloads end bytes → HoldsSize end size bytes → IsRead (end + 9) n piece bytes → length piece ≡ min (length old) size → m ≡ min (length old) size
-    → Next payloads size (piece ++ drop m old) (end + 9 + size) bytes
-next-read payloads end size n m old piece bytes b f r most cut = record {
+pub head-read : (place size n m : ℕ) (old piece bytes : List ℕ) → HoldsSize place size bytes → IsRead (place + 9) n piece bytes → length piece ≡ min (length old) size → m ≡ min (length old) size → HoldsHead place size (piece ++ drop m old) bytes
+head-read place size n m old piece bytes f r most cut = record {
   payload = f.0;
-  begins = record {
-    rest = f.1.rest;
-    ends = omega (arith, length-frames-push payloads f.0, b.ends, f.2);
-    is = b.is ∙ ap (λ (l : List ℕ). frames payloads ++ l) (sym (begins_rest payloads end bytes b) ∙ f.1.is) ∙ sym (append_assoc (frames payloads) (1 ∷ body f.0) f.1.rest) ∙ ap (λ (l : List ℕ). l ++ f.1.rest) (sym (frames-push payloads f.0));
-    goes = inr f.1.more;
-  };
+  holds = f.1;
   size_is = f.2;
   first =
       let long : min (length (piece ++ drop m old)) size ≡ length piece = omega (arith, length-append piece (drop m old), length-drop m old) in
       ap (λ (k : ℕ). take k (piece ++ drop m old)) long ∙ take_at piece (drop m old) (length piece) refl
-      ∙ sym (payload_first end size n old piece bytes f r most) ∙ take-append-le (length piece) f.0 f.1.rest (omega (arith, f.2)) ∙ ap (λ (k : ℕ). take k f.0) (sym long);
+      ∙ sym (payload_first place size n old piece bytes f r most) ∙ take-append-le (length piece) f.0 f.1.rest (omega (arith, f.2)) ∙ ap (λ (k : ℕ). take k f.0) (sym long);
+}
+
+pub next-begins : (payloads : List (List ℕ)) (end size : ℕ) (head bytes : List ℕ) → Begins payloads end bytes → HoldsHead end size head bytes → Next payloads size head (end + 9 + size) bytes
+next-begins payloads end size head bytes b h = record {
+  payload = h.payload;
+  begins = record {
+    rest = h.holds.rest;
+    ends = omega (arith, length-frames-push payloads h.payload, b.ends, h.size_is);
+    is = b.is ∙ ap (λ (l : List ℕ). frames payloads ++ l) (sym (begins_rest payloads end bytes b) ∙ h.holds.is) ∙ sym (append_assoc (frames payloads) (1 ∷ body h.payload) h.holds.rest) ∙ ap (λ (l : List ℕ). l ++ h.holds.rest) (sym (frames-push payloads h.payload));
+    goes = inr h.holds.more;
+  };
+  size_is = h.size_is;
+  first = h.first;
 }
 
 stops_short : (payloads : List (List ℕ)) (rest : List ℕ) → length (frames payloads) + length rest ≤ 1 → (payloads ≡ []) ⊎ (0 < length rest) → Ends payloads rest
@@ -153,3 +160,7 @@ reaches-next place size bytes f = omega (arith, ap length (frame_rest place f.0 
 -- a buffer back in the vector that it was taken from
 pub items-back : (len : ℕ) (buf items : List ℕ) → length buf ≡ length items → len ≡ length items → take len (buf ++ drop (length buf) items) ≡ buf
 items-back len buf items a b = take_at buf (drop (length buf) items) len (a ∙ sym b)
+
+-- before the first frame is read
+pub begins-none : (bytes : List ℕ) → Begins [] 0 bytes
+begins-none bytes = record { rest = bytes; ends = refl; is = refl; goes = inl refl }

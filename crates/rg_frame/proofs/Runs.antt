@@ -1,12 +1,12 @@
 -- How calls that write one file join.
-use Rattle.std.proofs.Common.{◌≡◌, ℕ, ◌≤◌, List, [], Option, Some, None, refl, ◌∙◌, subst}
+use Rattle.std.proofs.Common.{◌≡◌, ◌≢◌, ℕ, ◌≤◌, List, [], Option, Some, None, refl, sym, ◌∙◌, subst}
 use Rattle.std.specs.Option.{ForSome}
 use Rattle.rg_host.specs.Image.{Image, Becomes, InFile, Torn, IsAfter, Follows, NothingPending}
 use Rattle.rg_host.specs.Moments.{Moment, Moments, LeavesAll}
 use Rattle.rg_host.proofs.Runs.{moments_then, moments-weaker, leaves_all-none}
 use Rattle.rg_frame.specs.Calls.{Writes}
-use Rattle.rg_frame.specs.Frames.{HasPayloads}
-use Rattle.rg_frame.specs.Steps.{Leaves}
+use Rattle.rg_frame.specs.Frames.{HasPayloads, EndsAt}
+use Rattle.rg_frame.specs.Steps.{Leaves, From}
 
 -- the file is as it was
 abbrev pub Same : List ℕ → List ℕ → Type 0
@@ -27,6 +27,11 @@ leaves-after file P Q R now may mid before join v from =
       (was.0.0, was.0.1, λ other differs. from.2.elsewhere other differs ∙ was.0.2 other differs),
       λ settled w told. join w told (from.0 file) (v file) (was.1 settled w told) from.2.there,
     )
+
+-- what holds where it is told, after a change
+pub for_some-after : {T : Type 0} (old new : Option T) (Step : T → T → Type 0) (P Q : T → Type 0) → ForSome old P → Becomes old new Step → ((x y : T) → P x → Step x y → Q y) → ForSome new Q
+for_some-after None new Step P Q here step join = λ y is. absurd (cc (step.untold refl, is))
+for_some-after (Some x) new Step P Q here step join = λ y is. let z = step.told x refl in subst (λ w. Q w) (cc (z.1, is)) (join x z.0 (here x refl) z.2)
 
 module _ {H : Type 0} (now : H → Option Image) (may : H → Image → Type 0) (clock : H → ℕ) (since : H → ℕ → Moment → Type 0) (said : H → Option (List ℕ)) where
   -- calls that leave all
@@ -93,10 +98,15 @@ module _ {H : Type 0} (now : H → Option Image) (may : H → Image → Type 0) 
             λ settled w told. let one = became.told w told in join w told (one.0 file) (v file) one.2.there (left.1 (pending settled) one.0 one.1),
           )
 
--- what holds where it is told, after a change
-pub for_some-after : {T : Type 0} (old new : Option T) (Step : T → T → Type 0) (P Q : T → Type 0) → ForSome old P → Becomes old new Step → ((x y : T) → P x → Step x y → Q y) → ForSome new Q
-for_some-after None new Step P Q here step join = λ y is. absurd (cc (step.untold refl, is))
-for_some-after (Some x) new Step P Q here step join = λ y is. let z = step.told x refl in subst (λ w. Q w) (cc (z.1, is)) (join x z.0 (here x refl) z.2)
+  -- the step of an append, where the frame list ended at its place
+  pub writes-from : (file end : ℕ) (R : List ℕ → List ℕ → Type 0) (old new : H) → Writes now may clock since said file (From end R) old new → ForSome (now old) (λ v. EndsAt end (v file)) → Writes now may clock since said file R old new
+  writes-from file end R old new run ends = writes-weaker file (From end R) R old new run (λ w told bytes step. step (ends w told))
+
+  -- of another file nothing is pending, where nothing was
+  pub writes-others : (file other : ℕ) (S R : List ℕ → List ℕ → Type 0) (old new : H) → other ≢ file → Becomes (now old) (now new) (InFile file S) → Writes now may clock since said file R old new → NothingPending other (now old) (may old) → NothingPending other (now new) (may new)
+  writes-others file other S R old new differs became run settled = for_some-after (now old) (now new) (InFile file S) (λ v. (u : Image) → may old u → u other ≡ v other) (λ v. (u : Image) → may new u → u other ≡ v other) settled became (λ x y here step u left.
+      let was = (run.left u left).0 in
+      was.2 other differs ∙ here was.0 was.1 ∙ sym (step.elsewhere other differs))
 
 -- one file changes, and then again
 pub in_file-then : (file : ℕ) (P Q R : List ℕ → List ℕ → Type 0) (old mid new : Option Image) → Becomes old mid (InFile file P) → Becomes mid new (InFile file Q) → ((a b c : List ℕ) → P a b → Q b c → R a c) → Becomes old new (InFile file R)

@@ -28,6 +28,13 @@ pub record IsTorn (place : ℕ) (bytes : List ℕ) : Type 0 where
   pub longer : 1 < length bytes
   pub cut : IsCut rest
 
+-- an open frame whose payload has so many bytes stands there, whole, and a byte behind it; the first bytes of the payload stand in a buffer, as many as it takes
+pub record HoldsHead (place size : ℕ) (head bytes : List ℕ) : Type 0 where
+  pub payload : List ℕ
+  pub holds : HoldsFrame place payload bytes
+  pub size_is : length payload ≡ size
+  pub first : take (min (length head) size) head ≡ take (min (length head) size) payload
+
 -- one frame more stands behind these: the size of its payload, the first bytes of it, and the place of the next gate
 pub record Next (payloads : List (List ℕ)) (size : ℕ) (head : List ℕ) (next : ℕ) (bytes : List ℕ) : Type 0 where
   pub payload : List ℕ

@@ -12,5 +12,5 @@ mod look;
 mod write;
 
 pub use fault::FrameFault;
-pub use law::law_frames;
+pub use law::{law_frames, law_places};
 pub use log::{FrameLog, Head};

@@ -2,8 +2,8 @@ use Rattle.std.proofs.Common.{◌≡◌, ◌∙◌, ◌+◌, ap, inl, Err, List,
 use Rattle.rg_frame.specs.declared.fault.FrameFault.TheVariants.{Damaged}
 use Rattle.rg_frame.specs.LogState.{LogState, ReachesEnd}
 use Rattle.rg_frame.specs.Frames.{Begins, IsLog, IsDamaged}
-use Rattle.rg_frame.specs.Looks.{IsClosed, IsTorn, Next}
-use Rattle.rg_frame.proofs.Looked.{next-read, log-closed, damaged-torn, reaches-next}
+use Rattle.rg_frame.specs.Looks.{HoldsHead, IsClosed, IsTorn, Next}
+use Rattle.rg_frame.proofs.Looked.{head-read, next-begins, log-closed, damaged-torn, reaches-next}
 use Rattle.rg_frame.proofs.log.FrameLog.step.Goals as goal
 
 pub returns-in-Ok-None-clause-none : goal.returns-in-Ok-None-clause-none
@@ -31,5 +31,8 @@ returns-clause-reaches g c = λ was going w told.
 pub returns-clause-some : goal.returns-clause-some
 returns-clause-some g c =
     let h = rw c.in-Ok-Some.field-0-is at c.in-Ok-Some.ensures.some in
-    λ w told. subst (λ (s : LogState). (payloads : List (List ℕ)) → Begins payloads s.end (w s.file) → Next payloads c.in-Ok-Some.size (c.read_full.new.buf ++ drop c.smaller-most.result c.args.head.now) (c.self.inside.end + 9 + c.in-Ok-Some.size) (w s.file)) c.self.view_is
-    (λ payloads b. next-read payloads c.self.inside.end c.in-Ok-Some.size _ c.smaller-most.result c.args.head.now c.read_full.new.buf (w c.self.inside.file) b (h w told) (c.in-Ok.ensures.bytes w (c.look.ensures.leaves.now_stays ∙ told)) (search rules) (search rules))
+    let head : List ℕ = c.read_full.new.buf ++ drop c.smaller-most.result c.args.head.now in
+    λ w told.
+    let found : HoldsHead c.self.inside.end c.in-Ok-Some.size head (w c.self.inside.file) = head-read c.self.inside.end c.in-Ok-Some.size _ c.smaller-most.result c.args.head.now c.read_full.new.buf (w c.self.inside.file) (h w told) (c.in-Ok.ensures.bytes w (c.look.ensures.leaves.now_stays ∙ told)) (search rules) (search rules) in
+    subst (λ (s : LogState). HoldsHead s.end c.in-Ok-Some.size head (w s.file) × ((payloads : List (List ℕ)) → Begins payloads s.end (w s.file) → Next payloads c.in-Ok-Some.size head (c.self.inside.end + 9 + c.in-Ok-Some.size) (w s.file))) c.self.view_is
+    (found, λ payloads b. next-begins payloads c.self.inside.end c.in-Ok-Some.size head (w c.self.inside.file) b found)

@@ -8,15 +8,15 @@ use Rattle.rg_event.specs.Shapes.{Shape}
 use Rattle.rg_event.specs.declared.event.Event.{Event}
 use Rattle.rg_event.specs.declared.schema.Field.{Field}
 use Rattle.rg_past.specs.declared.past.Spot.{Spot}
-use Rattle.rg_frame.specs.Frames.{frames}
+use Rattle.rg_frame.specs.Frames.{frames, HasPayloads}
 use Rattle.rg_frame.proofs.FrameLaws.{length-frames, length-frames-push}
 use Rattle.rg_chunk.specs.Chunks.{chunk_of}
 use Rattle.rg_chunk.specs.declared.head.ChunkHead.{ChunkHead}
 use Rattle.rg_chunk.proofs.Chunks.{chunk_head}
-use Rattle.rg_log.specs.Log.{schema_payload, chunks_of, joined, HasChunks}
-use Rattle.rg_log.specs.Spots.{SpotAt, count_in, is_in_chunk, is_at_end, named_at, named_from, NamedByHeads}
+use Rattle.rg_log.specs.Log.{schema_payload, chunks_of, joined, HasChunks, HasEvents}
+use Rattle.rg_log.specs.Spots.{SpotAt, SpotIn, count_in, is_in_chunk, is_at_end, named_at, named_from, NamedByHeads}
 use Rattle.rg_log.proofs.Growing.{part, joined-push, chunks-push}
-use Rattle.rg_log.proofs.Spelling.{no_spot, rest_same}
+use Rattle.rg_log.proofs.Spelling.{no_spot, rest_same, spot_within}
 
 pub both : (a b : Bool) → (a && b) ≡ true → (a ≡ true) × (b ≡ true)
 both true b e = (refl, e)
@@ -145,3 +145,22 @@ named shape (first ∷ payloads) chunks spot log = (
       (named_spelled shape [] payloads [] chunks spot (9 + length first) 0 refl log.1 (omega (arith, length-frames (schema_payload shape) [], ap (λ (l : List ℕ). length l) log.0)) refl is),
   λ at. spelled_named shape first payloads spot log.0 at,
 )
+
+-- the same of a file, which has one frame list
+module _ (unique : (a b : List (List ℕ)) (bytes : List ℕ) → HasPayloads a bytes → HasPayloads b bytes → a ≡ b) where
+  pub none_in : (shape : Shape) (bytes : List ℕ) (spot : Spot) → HasPayloads [] bytes → SpotIn shape bytes spot → ⊥
+  none_in shape bytes spot none at = no_spot shape spot (subst (λ (l : List (List ℕ)). SpotAt shape l spot) (unique at.0 [] bytes at.1 none) at.2)
+
+  chunks_in : (shape : Shape) (events : List Event) (payloads : List (List ℕ)) (bytes : List ℕ) → (has : HasEvents shape events bytes) → HasPayloads payloads bytes → HasChunks shape payloads has.0
+  chunks_in shape events payloads bytes has here = subst (λ (l : List (List ℕ)). HasChunks shape l has.0) (unique has.1.payloads payloads bytes has.1.has here) has.1.log
+
+  pub within_in : (shape : Shape) (events : List Event) (bytes : List ℕ) (spot : Spot) → HasEvents shape events bytes → SpotIn shape bytes spot → spot.number ≤ length events
+  within_in shape events bytes spot has at =
+      subst (λ (l : List Event). spot.number ≤ length l) has.2 (spot_within shape at.0 has.0 spot (chunks_in shape events at.0 bytes has at.1) at.2)
+
+  pub named_in : (shape : Shape) (events : List Event) (payloads : List (List ℕ)) (bytes : List ℕ) (spot : Spot) → HasEvents shape events bytes → HasPayloads payloads bytes → NamedByHeads payloads spot ↔ SpotIn shape bytes spot
+  named_in shape events payloads bytes spot has here =
+      let both_ways = named shape payloads has.0 spot (chunks_in shape events payloads bytes has here) in (
+        λ is. (payloads, here, both_ways.0 is),
+        λ at. both_ways.1 (subst (λ (l : List (List ℕ)). SpotAt shape l spot) (unique at.0 payloads bytes at.1 here) at.2),
+      )

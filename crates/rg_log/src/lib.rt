@@ -60,9 +60,13 @@ pub fn law_spots()
 
     // Without a frame no spot is spelled: so each one stays when the schema's frame comes.
     ensures none { (shape : Shape) (spot : Spot) → SpotAt shape [] spot → ⊥ }
+    ensures none_in { (shape : Shape) (bytes : List ℕ) (spot : Spot) → HasPayloads [] bytes → SpotIn shape bytes spot → ⊥ }
+
+    // A spelled spot's number is at most the count; each event has a spelling, and so has the end.
     ensures within { (shape : Shape) (payloads : List (List ℕ)) (chunks : List (List Event)) (spot : Spot) → HasChunks shape payloads chunks →
         SpotAt shape payloads spot → spot.number ≤ length (joined chunks) }
-
+    ensures within_in { (shape : Shape) (events : List Event) (bytes : List ℕ) (spot : Spot) → HasEvents shape events bytes →
+        SpotIn shape bytes spot → spot.number ≤ length events }
     ensures each { (shape : Shape) (payloads : List (List ℕ)) (chunks : List (List Event)) (number : ℕ) → chunks_of shape.fields payloads ≡ Some chunks →
         number ≤ length (joined chunks) → (spot : Spot) × SpotAt shape (schema_payload shape ∷ payloads) spot × (spot.number ≡ number) }
 
@@ -78,6 +82,12 @@ pub fn law_spots()
     ensures end_of_last { (shape : Shape) (payloads : List (List ℕ)) (payload : List ℕ) (chunks : List (List Event)) (chunk : List Event) (spot : Spot) →
         chunks_of shape.fields payloads ≡ Some chunks → IsChunkOf shape payload chunk → spot.place ≡ length (frames (schema_payload shape ∷ payloads)) →
         spot.index ≡ length chunk → spot.number ≡ length (joined chunks ++ chunk) → SpotAt shape (schema_payload shape ∷ (payloads ++ payload ∷ [])) spot }
+
+    // By the heads alone.
     ensures named { (shape : Shape) (payloads : List (List ℕ)) (chunks : List (List Event)) (spot : Spot) → HasChunks shape payloads chunks →
         NamedByHeads payloads spot ↔ SpotAt shape payloads spot }
-{}
+    ensures named_in { (shape : Shape) (events : List Event) (payloads : List (List ℕ)) (bytes : List ℕ) (spot : Spot) → HasEvents shape events bytes →
+        HasPayloads payloads bytes → NamedByHeads payloads spot ↔ SpotIn shape bytes spot }
+{
+    law_frames();
+}

@@ -1,5 +1,5 @@
 use Rattle.rg_log.proofs.Spelling.{spot_stays, spot_stays_in, spot_within, spot_event, one_number, named_each}
-use Rattle.rg_log.proofs.Naming.{named}
+use Rattle.rg_log.proofs.Naming.{named, named_in, none_in, within_in}
 use Rattle.rg_log.proofs.law_spots.Goals as goal
 
 pub returns-clause-stays : goal.returns-clause-stays
@@ -22,3 +22,12 @@ returns-clause-one_number c = one_number
 
 pub returns-clause-named : goal.returns-clause-named
 returns-clause-named c = named
+
+pub returns-clause-named_in : goal.returns-clause-named_in
+returns-clause-named_in c = named_in c.law_frames.ensures.unique
+
+pub returns-clause-none_in : goal.returns-clause-none_in
+returns-clause-none_in c = none_in c.law_frames.ensures.unique
+
+pub returns-clause-within_in : goal.returns-clause-within_in
+returns-clause-within_in c = within_in c.law_frames.ensures.unique

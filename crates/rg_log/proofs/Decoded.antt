@@ -1,7 +1,6 @@
 -- What is read as an event in bytes is an event of the columns.
 use Rattle.std.proofs.Common.{◌≡◌, ◌∙◌, ℕ, zero, suc, ◌+◌, ◌^◌, ◌≤◌, ◌<◌, ◌&&◌, nat_le, Bool, true, false, List, [], ◌∷◌, ◌++◌, length, take, drop, Some, Ok, Err, refl, sym, ap, subst, arith}
-use Rattle.std.proofs.lemmas.Bool.{leb-true}
-use Rattle.std.proofs.lemmas.Bool.Decides.{nat_tests}
+use Rattle.std.proofs.lemmas.Bool.{leb-true, le-leb}
 use Rattle.std.proofs.lemmas.List.{length-take-le}
 use Rattle.std.proofs.lemmas.List.Elements.{All-nil, All-head, All-tail, All-push, All-take, All-drop}
 use Rattle.std.specs.Prelude.{All, unsigned_abs, ◌==◌}
@@ -93,9 +92,6 @@ id_within bytes value left small e =
     let s = number_small Short bytes b.value b.left small b.is in
     (subst (λ (v : Value). IsValueOf Id v) f.0 s.0, subst (λ (l : List ℕ). All IsByte l) f.1 s.1)
 
-leb_yes : (a b : ℕ) → a ≤ b → nat_le a b ≡ true
-leb_yes a b le = grind (arith, nat_tests)
-
 text_within : (column : ℕ) (bytes : List ℕ) (value : Value) (left : List ℕ) → All IsByte bytes → text_at column bytes ≡ Ok (value, left) → IsValueOf Text value × All IsByte left
 unfolding text_at
 text_within column [] value left small e = absurd cc
@@ -105,7 +101,7 @@ text_within column (count ∷ bytes) value left small e =
     let p = passed (BadValue column) (is_utf8 b.value) (TextValue b.value) value b.left left b.more in
     let few : count < 256 = All-head IsByte count bytes small in
     let size : length b.value ≡ count = sym (ap (λ (l : List ℕ). length l) t.0) ∙ length-take-le count bytes t.2 in
-    let word : is_word b.value ≡ true = rw (p.0, leb_yes (length b.value) 255 (omega (arith, size, few))) refl in (
+    let word : is_word b.value ≡ true = rw (p.0, le-leb (length b.value) 255 (omega (arith, size, few))) refl in (
       subst (λ (v : Value). IsValueOf Text v) p.1 word,
       subst (λ (l : List ℕ). All IsByte l) (t.1 ∙ p.2) (All-drop IsByte count bytes (All-tail IsByte count bytes small)),
     )

@@ -1,6 +1,6 @@
 -- What the function reads in a file of bytes are the events of a legal log.
 use Rattle.std.proofs.Common.{◌≡◌, ◌∙◌, ◌⊎◌, inl, inr, ℕ, ◌≤◌, ◌==◌, ◌&&◌, nat_le, nat_lt, Bool, true, false, List, [], ◌∷◌, ◌++◌, length, Option, Some, None, option_and_then, refl, sym, ap, subst, rules, if◌then◌else◌}
-use Rattle.std.proofs.lemmas.Bool.{eqb-true, leb-true, ltb-true}
+use Rattle.std.proofs.lemmas.Bool.{and_parts, eqb-true, leb-true, ltb-true}
 use Rattle.std.proofs.lemmas.List.Elements.{All-nil, All-cons, All-head, All-tail, All-append}
 use Rattle.std.specs.Prelude.{◌↔◌, All, IsSome}
 use Rattle.std.specs.Int.{to_be_bytes, w64}
@@ -19,14 +19,13 @@ use Rattle.rg_log.specs.Reading.{IsByte, schema_of, is_rising, legal_events, chu
 use Rattle.rg_log.proofs.Decoded.{chunk_within}
 use Rattle.rg_log.proofs.Growing.{part}
 use Rattle.rg_log.proofs.Listing.{has_listed}
-use Rattle.rg_log.proofs.Naming.{both}
 
 rising_is : (events : List Event) → is_rising events ≡ true → IsRising events
 rising_is [] is = tt
 rising_is (x ∷ []) is = tt
 rising_is (x ∷ (y ∷ events)) is =
-    let a = both (nat_lt x.offset y.offset && nat_le x.time y.time) (is_rising (y ∷ events)) is in
-    let b = both (nat_lt x.offset y.offset) (nat_le x.time y.time) a.0 in
+    let a = and_parts (nat_lt x.offset y.offset && nat_le x.time y.time) (is_rising (y ∷ events)) is in
+    let b = and_parts (nat_lt x.offset y.offset) (nat_le x.time y.time) a.0 in
     (ltb-true x.offset y.offset b.0, leb-true x.time y.time b.1, rising_is (y ∷ events) a.1)
 
 record Legal (events all : List Event) : Type 0 where
@@ -39,7 +38,7 @@ legal_is events all is = by (is_rising events && nat_le (length events) 10995116
   where
     by : (b : Bool) → (is_rising events && nat_le (length events) 1099511627776) ≡ b → Legal events all
     by true t =
-        let f = both (is_rising events) (nat_le (length events) 1099511627776) t in
+        let f = and_parts (is_rising events) (nat_le (length events) 1099511627776) t in
         record { same = let e : Some events ≡ Some all = sym (ap (λ (b : Bool). if b then Some events else None) t) ∙ is in cc; rising = rising_is events f.0; few = leb-true (length events) 1099511627776 f.1 }
     by false f = absurd (let e : None ≡ Some all = sym (ap (λ (b : Bool). if b then Some events else None) f) ∙ is in cc)
 

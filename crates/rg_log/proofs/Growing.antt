@@ -18,7 +18,7 @@ use Rattle.rg_log.specs.Log.{schema_payload, with_chunk, chunks_of, joined, HasC
 pub same_some : {A : Type 0} → (o : Option A) (a b : A) → o ≡ Some a → o ≡ Some b → a ≡ b
 same_some o a b is also = cc
 
-head_same : (a b : List ℕ) (x y : List (List ℕ)) → a ∷ x ≡ b ∷ y → a ≡ b
+pub head_same : (a b : List ℕ) (x y : List (List ℕ)) → a ∷ x ≡ b ∷ y → a ≡ b
 head_same a b x y e = cc
 
 text_same : (a b : List ℕ) → 83 ∷ a ≡ 83 ∷ b → a ≡ b

@@ -1,7 +1,6 @@
 -- The heads of the chunks tell which spots of a legal log are spelled.
-use Rattle.std.proofs.Common.{◌≡◌, ◌∙◌, ◌⊎◌, inl, inr, ℕ, ◌+◌, ◌≤◌, ◌==◌, ◌&&◌, ◌||◌, nat_le, Bool, true, false, List, [], ◌∷◌, ◌++◌, length, Option, Some, option_map, refl, sym, ap, subst, arith, append_assoc, length-append}
-use Rattle.std.proofs.lemmas.Bool.{eqb-true, eq-eqb, leb-true}
-use Rattle.std.proofs.lemmas.Bool.Decides.{nat_tests}
+use Rattle.std.proofs.Common.{◌≡◌, ◌∙◌, inl, inr, ℕ, ◌+◌, ◌≤◌, ◌==◌, ◌&&◌, ◌||◌, nat_le, true, List, [], ◌∷◌, ◌++◌, length, Option, Some, option_map, refl, sym, ap, subst, arith, append_assoc, length-append}
+use Rattle.std.proofs.lemmas.Bool.{and_parts, or_cases, or_left, or_right, eqb-true, eq-eqb, leb-true, le-leb}
 use Rattle.std.proofs.lemmas.List.{append-nil}
 use Rattle.std.specs.Prelude.{◌↔◌}
 use Rattle.rg_event.specs.Shapes.{Shape}
@@ -18,37 +17,19 @@ use Rattle.rg_log.specs.Spots.{SpotAt, SpotIn, count_in, is_in_chunk, is_at_end,
 use Rattle.rg_log.proofs.Growing.{part, joined-push, chunks-push}
 use Rattle.rg_log.proofs.Spelling.{no_spot, rest_same, spot_within}
 
-pub both : (a b : Bool) → (a && b) ≡ true → (a ≡ true) × (b ≡ true)
-both true b e = (refl, e)
-both false b e = absurd cc
-
-either : (a b : Bool) → (a || b) ≡ true → (a ≡ true) ⊎ (b ≡ true)
-either true b e = inl refl
-either false b e = inr e
-
-or_first : (a b : Bool) → a ≡ true → (a || b) ≡ true
-or_first a b e = rw e refl
-
-or_second : (a b : Bool) → b ≡ true → (a || b) ≡ true
-or_second true b e = refl
-or_second false b e = e
-
-leb_yes : (a b : ℕ) → a ≤ b → nat_le a b ≡ true
-leb_yes a b le = grind (arith, nat_tests)
-
 in_chunk_is : (place before count : ℕ) (spot : Spot) → is_in_chunk place before count spot ≡ true → (spot.place ≡ place) × (spot.index ≤ count) × (spot.number ≡ before + spot.index)
 in_chunk_is place before count spot e =
-    let f = both (spot.place == place && nat_le spot.index count) (spot.number == before + spot.index) e in
-    let g = both (spot.place == place) (nat_le spot.index count) f.0 in
+    let f = and_parts (spot.place == place && nat_le spot.index count) (spot.number == before + spot.index) e in
+    let g = and_parts (spot.place == place) (nat_le spot.index count) f.0 in
     (eqb-true spot.place place g.0, leb-true spot.index count g.1, eqb-true spot.number (before + spot.index) f.1)
 
 in_chunk_said : (place before count : ℕ) (spot : Spot) → spot.place ≡ place → spot.index ≤ count → spot.number ≡ before + spot.index → is_in_chunk place before count spot ≡ true
-in_chunk_said place before count spot at le many = rw (eq-eqb spot.place place at, leb_yes spot.index count le, eq-eqb spot.number (before + spot.index) many) refl
+in_chunk_said place before count spot at le many = rw (eq-eqb spot.place place at, le-leb spot.index count le, eq-eqb spot.number (before + spot.index) many) refl
 
 at_end_is : (place before : ℕ) (spot : Spot) → is_at_end place before spot ≡ true → (spot.place ≡ place) × (spot.index ≡ 0) × (spot.number ≡ before)
 at_end_is place before spot e =
-    let f = both (spot.place == place && spot.index == 0) (spot.number == before) e in
-    let g = both (spot.place == place) (spot.index == 0) f.0 in
+    let f = and_parts (spot.place == place && spot.index == 0) (spot.number == before) e in
+    let g = and_parts (spot.place == place) (spot.index == 0) f.0 in
     (eqb-true spot.place place g.0, eqb-true spot.index 0 g.1, eqb-true spot.number before f.1)
 
 at_end_said : (place before : ℕ) (spot : Spot) → spot.place ≡ place → spot.index ≡ 0 → spot.number ≡ before → is_at_end place before spot ≡ true
@@ -79,7 +60,7 @@ named_spelled shape done [] before chunks spot place count first all at many is 
     })
 named_spelled shape done (p ∷ rest) before chunks spot place count first all at many is =
     let f = part (chunk_of shape.fields p) (chunks_of shape.fields rest) chunks all in
-    elim (either (is_in_chunk place count (length f.chunk) spot) (named_from (place + 9 + length p) (count + length f.chunk) rest spot) (sym (here_or_further shape.fields p f.chunk spot place count rest f.chunk_is) ∙ is)) [
+    elim (or_cases (is_in_chunk place count (length f.chunk) spot) (named_from (place + 9 + length p) (count + length f.chunk) rest spot) (sym (here_or_further shape.fields p f.chunk spot place count rest f.chunk_is) ∙ is)) [
       | inl here ↦ let e = in_chunk_is place count (length f.chunk) spot here in
           inl (record {
             earlier = done;
@@ -107,12 +88,12 @@ in_chunk_named : (columns : List Field) (earlier : List (List ℕ)) (payload : L
 in_chunk_named columns [] payload later before chunk spot place count first said at many most =
     let none : before ≡ [] = cc in
     here_or_further columns payload chunk spot place count later said
-    ∙ or_first (is_in_chunk place count (length chunk) spot) (named_from (place + 9 + length payload) (count + length chunk) later spot)
+    ∙ or_left (is_in_chunk place count (length chunk) spot) (named_from (place + 9 + length payload) (count + length chunk) later spot)
     (in_chunk_said place count (length chunk) spot (omega (arith, at)) most (omega (arith, many, ap (λ (l : List (List Event)). length (joined l)) none)))
 in_chunk_named columns (p ∷ earlier) payload later before chunk spot place count first said at many most =
     let f = part (chunk_of columns p) (chunks_of columns earlier) before first in
     here_or_further columns p f.chunk spot place count (earlier ++ payload ∷ later) f.chunk_is
-    ∙ or_second (is_in_chunk place count (length f.chunk) spot) (named_from (place + 9 + length p) (count + length f.chunk) (earlier ++ payload ∷ later) spot)
+    ∙ or_right (is_in_chunk place count (length f.chunk) spot) (named_from (place + 9 + length p) (count + length f.chunk) (earlier ++ payload ∷ later) spot)
     (in_chunk_named columns earlier payload later f.more chunk spot (place + 9 + length p) (count + length f.chunk) f.more_is said (omega (arith, at, length-frames p earlier))
     (omega (arith, many, ap (λ (l : List (List Event)). length (joined l)) f.is, length-append f.chunk (joined f.more))) most)
 
@@ -125,7 +106,7 @@ at_end_named columns [] chunks spot place count all at first many =
 at_end_named columns (p ∷ payloads) chunks spot place count all at first many =
     let f = part (chunk_of columns p) (chunks_of columns payloads) chunks all in
     here_or_further columns p f.chunk spot place count payloads f.chunk_is
-    ∙ or_second (is_in_chunk place count (length f.chunk) spot) (named_from (place + 9 + length p) (count + length f.chunk) payloads spot)
+    ∙ or_right (is_in_chunk place count (length f.chunk) spot) (named_from (place + 9 + length p) (count + length f.chunk) payloads spot)
     (at_end_named columns payloads f.more spot (place + 9 + length p) (count + length f.chunk) f.more_is (omega (arith, at, length-frames p payloads)) first
     (omega (arith, many, ap (λ (l : List (List Event)). length (joined l)) f.is, length-append f.chunk (joined f.more))))
 

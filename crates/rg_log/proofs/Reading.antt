@@ -1,6 +1,6 @@
 -- The events of a legal log are what the function reads in its bytes.
-use Rattle.std.proofs.Common.{◌≡◌, ◌∙◌, ℕ, ◌≤◌, ◌<◌, nat_le, nat_lt, true, List, [], ◌∷◌, length, Option, Some, None, option_map, option_and_then, Result, Err, refl, sym, ap, arith}
-use Rattle.std.proofs.lemmas.Bool.Decides.{nat_tests}
+use Rattle.std.proofs.Common.{◌≡◌, ◌∙◌, ℕ, ◌≤◌, true, List, [], ◌∷◌, length, Option, Some, None, option_map, option_and_then, Result, Err, refl, sym, ap}
+use Rattle.std.proofs.lemmas.Bool.{le-leb, lt-ltb}
 use Rattle.rg_event.specs.Shapes.{Shape, IsSchema, schema_text}
 use Rattle.rg_event.specs.declared.event.Event.{Event}
 use Rattle.rg_event.proofs.Readable.{read_back}
@@ -10,19 +10,13 @@ use Rattle.rg_frame.specs.Frames.{HasPayloads, IsDamaged}
 use Rattle.rg_log.specs.Log.{schema_payload, joined, HasChunks, HasEvents}
 use Rattle.rg_log.specs.Reading.{schema_of, is_rising, legal_events, chunk_events, listed_events, events_of, next_of}
 
-leb_yes : (a b : ℕ) → a ≤ b → nat_le a b ≡ true
-leb_yes a b le = grind (arith, nat_tests)
-
-ltb_yes : (a b : ℕ) → a < b → nat_lt a b ≡ true
-ltb_yes a b lt = grind (arith, nat_tests)
-
 rising_said : (events : List Event) → IsRising events → is_rising events ≡ true
 rising_said [] rising = refl
 rising_said (x ∷ []) rising = refl
-rising_said (x ∷ (y ∷ events)) rising = rw (ltb_yes x.offset y.offset rising.0, leb_yes x.time y.time rising.1) (rising_said (y ∷ events) rising.2)
+rising_said (x ∷ (y ∷ events)) rising = rw (lt-ltb x.offset y.offset rising.0, le-leb x.time y.time rising.1) (rising_said (y ∷ events) rising.2)
 
 legal_said : (events : List Event) → IsRising events → length events ≤ 1099511627776 → legal_events events ≡ Some events
-legal_said events rising few = rw (rising_said events rising, leb_yes (length events) 1099511627776 few) refl
+legal_said events rising few = rw (rising_said events rising, le-leb (length events) 1099511627776 few) refl
 
 -- the schema that the payload of a schema says
 pub schema_said : (shape : Shape) → IsSchema shape → schema_of (schema_payload shape) ≡ Some shape

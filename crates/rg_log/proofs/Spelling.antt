@@ -14,7 +14,7 @@ use Rattle.rg_frame.proofs.FrameLaws.{length-frames, frames-append}
 use Rattle.rg_chunk.specs.Chunks.{chunk_of}
 use Rattle.rg_log.specs.Log.{schema_payload, chunks_of, joined, HasChunks, IsChunkOf}
 use Rattle.rg_log.specs.Spots.{IsInChunk, SpotAt, SpotIn}
-use Rattle.rg_log.proofs.Growing.{same_some, part, joined-append, joined-push, chunks-push, one_chunks}
+use Rattle.rg_log.proofs.Growing.{same_some, head_same, part, joined-append, joined-push, chunks-push, one_chunks}
 
 -- a spot that is spelled stays so when a chunk comes behind the log; the end becomes the first event of the new chunk
 pub spot_stays : (shape : Shape) (payloads : List (List ℕ)) (payload : List ℕ) (chunk : List Event) (spot : Spot) → IsChunkOf shape payload chunk → SpotAt shape payloads spot → SpotAt shape (payloads ++ payload ∷ []) spot
@@ -105,9 +105,6 @@ spot_event shape payloads chunks spot log s lt =
     let a = parted shape payloads chunks spot log s in
     ap (λ (l : List Event). slice_get l spot.number) a.1 ∙ between (joined s.before) s.chunk (joined a.0) spot.index spot.number lt s.number_is
 
-first_same : (p q : List ℕ) (x y : List (List ℕ)) → p ∷ x ≡ q ∷ y → p ≡ q
-first_same p q x y e = cc
-
 pub rest_same : (p q : List ℕ) (x y : List (List ℕ)) → p ∷ x ≡ q ∷ y → x ≡ y
 rest_same p q x y e = cc
 
@@ -117,7 +114,7 @@ prefix_same [] [] x y e n = refl
 prefix_same [] (q ∷ b) x y e n = absurd (omega (arith, n, length-frames q b))
 prefix_same (p ∷ a) [] x y e n = absurd (omega (arith, n, length-frames p a))
 prefix_same (p ∷ a) (q ∷ b) x y e n =
-    let head : p ≡ q = first_same p q (a ++ x) (b ++ y) e in
+    let head : p ≡ q = head_same p q (a ++ x) (b ++ y) e in
     let tail : a ≡ b = prefix_same a b x y (rest_same p q (a ++ x) (b ++ y) e) (omega (arith, n, length-frames p a, length-frames q b, ap (λ (l : List ℕ). length l) head)) in
     ap (λ (l : List ℕ). l ∷ a) head ∙ ap (λ (l : List (List ℕ)). q ∷ l) tail
 

@@ -4,8 +4,8 @@ pub mod Names
 pub mod Readable
 pub mod Utf8
 pub mod Words
-pub mod Keeping
 pub mod Decoding
 pub mod ColumnValues
 pub mod RoundTrip
 pub mod TaggedValues
+pub mod Rising

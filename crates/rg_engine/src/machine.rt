@@ -3,7 +3,7 @@ ghost use Rattle.rg_bytes.specs.Counts.{Rose};
 ghost use Rattle.rg_event.specs.declared.event.Event.{Event};
 ghost use Rattle.rg_metric.specs.Queries.{Asked};
 ghost use Rattle.rg_metric.specs.Replies.{answers_to};
-ghost use Rattle.rg_past.specs.Order.{MayFollow, last_time};
+ghost use Rattle.rg_event.specs.Rising.{MayFollow, last_time};
 ghost use Rattle.rg_plan.specs.Plans.{plan_for};
 ghost use Rattle.rg_plan.specs.Whole.{IsWhole};
 ghost use Rattle.rg_window.specs.Placed.{AreWithin, IsSpelledAt, numbers_of};

@@ -1,5 +1,4 @@
 pub mod Listed
 pub mod ListedLaws
-pub mod Order
 pub mod Peek
 pub mod Ranges

@@ -351,18 +351,36 @@ impl Reservoir {
         Ok(())
     }
 
-    /// Looks at the event of a spot.
+    /// Looks at the event of a spot. An event of the open chunk, and the end, is found by its
+    /// number, without a call on the host. For another one the spot's place is touched, and then
+    /// the next place where the index is the count of the chunk there: a place that is held costs
+    /// nothing, and of another one the frame is read and kept. Memory is taken there alone.
     pub fn peek<H: Host>(
         &mut self,
         host: &mut H,
         spot: &mut Spot,
     ) -> Result<Option<&Event>, ReservoirFault>
         requires { spot.old.number ≤ (base self.old).committed + length (opened self.old) }
-        ensures* after { sem 𝓛 (ends_looked self.entry) }
+        ensures* after { sem 𝓛 (ends_looked self.entry (H.now host.old) spot.old (H.reads host.old) (H.reads host.new)
+            (IsSound (H.now host.old) (H.may host.old) self.old × Spells (H.now host.old) (base self.old) (opened self.old) spot.old × OnErr result ⊥)) }
         ensures number { spot.new.number ≡ spot.old.number }
         ensures event { IsSound (H.now host.old) (H.may host.old) self.old → Spells (H.now host.old) (base self.old) (opened self.old) spot.old → IfOk result (λ look. option_copied look ≡ slice_get (all_events (H.now host.old) (base self.old) (opened self.old)) spot.old.number) }
+        ensures later { IsSound (H.now host.old) (H.may host.old) self.old → Spells (H.now host.old) (base self.old) (opened self.old) spot.old → OnOk result (SpellsLater (H.now host.old) (base self.old) (opened self.old) spot.new) }
+        ensures spelled { IsSound (H.now host.old) (H.may host.old) self.old → Spells (H.now host.old) (base self.old) (opened self.old) spot.old → Spells (H.now host.old) (base self.old) (opened self.old) spot.new }
+        ensures within { IfOk result (λ look. IfSome look (λ _. (spot.new.number < (base self.old).committed + length (opened self.old)) × (spot.new.index < 4096))) }
+        ensures ended { IsErrOf result ReservoirFault.Ended ↔ ((base self.old).ended ≡ true) }
+        ensures damaged { (p : ℕ) → IsErrOf result (ReservoirFault.Damaged p) → ForSome (H.now host.old) (λ v. IsIllegal (base self.old).shape.fields p (v (base self.old).file)) }
+        ensures disk { IsErrOf result ReservoirFault.Disk → Rose (H.disk_faults host.old) (H.disk_faults host.new) }
+        ensures faults { IfErr result (λ fault. (fault ≡ ReservoirFault.Disk) ⊎ (fault ≡ ReservoirFault.Memory) ⊎ ((p : ℕ) × (fault ≡ ReservoirFault.Damaged p)) ⊎ (fault ≡ ReservoirFault.Ended)) }
+
+        // No memory and no read where the chunk is held, and no call on the host for the open one.
+        ensures untouched { (base self.old).ended ≡ false → (base self.old).committed ≤ spot.old.number → OnErr result ⊥ × (host.new ≡ host.old) }
+        ensures hit { (base self.old).ended ≡ false → spot.old.number < (base self.old).committed → IsTrue (holds_place spot.old.place (cache_of self.old)) → next_in (item_at spot.old.place (cache_of self.old)) spot.old.index ≡ None
+            → OnErr result ⊥ × (H.reads host.new ≡ H.reads host.old) }
+
         ensures leaves { LeavesAll H.now H.may H.clock H.since H.said host.old host.new }
         ensures disk_faults { H.disk_faults host.old ≤ H.disk_faults host.new }
+        ensures out_faults { H.out_faults host.new ≡ H.out_faults host.old }
     {
         match self.seek(host, spot) {
             Ok(()) => {}

@@ -1,10 +1,9 @@
 -- Spots of closed chunks, by places and in words of the frame list.
-use Rattle.std.proofs.Common.{◌≡◌, ◌∙◌, ◌⊎◌, inl, inr, ℕ, ◌+◌, ◌≤◌, ◌<◌, List, [], ◌∷◌, ◌++◌, length, Option, Some, None, option_map, refl, sym, ap, subst, arith, append_assoc, length-append}
+use Rattle.std.proofs.Common.{◌≡◌, ◌∙◌, ◌⊎◌, inl, inr, ℕ, ◌+◌, ◌≤◌, List, [], ◌∷◌, ◌++◌, length, Option, Some, None, refl, sym, ap, subst, arith, append_assoc}
 use Rattle.std.proofs.lemmas.List.{append-nil}
 use Rattle.rg_host.specs.Image.{Image}
 use Rattle.rg_event.specs.declared.event.Event.{Event}
 use Rattle.rg_event.specs.declared.schema.Field.{Field}
-use Rattle.rg_event.specs.Shapes.{Shape}
 use Rattle.rg_past.specs.declared.past.Spot.{Spot}
 use Rattle.rg_frame.specs.Frames.{frames, HasPayloads, payload_at}
 use Rattle.rg_frame.proofs.FrameLaws.{length-frames, length-frames-push}
@@ -12,13 +11,13 @@ use Rattle.rg_frame.proofs.FrameLists.{payloads_one}
 use Rattle.rg_frame.proofs.Payloads.{payload_between, payload_none, closed_payload}
 use Rattle.rg_cache.specs.Cache.{Cache}
 use Rattle.rg_chunk.specs.Chunks.{chunk_of}
-use Rattle.rg_log.specs.Log.{schema_payload, with_chunk, chunks_of, joined, HasChunks, HasSchemaFrame}
-use Rattle.rg_log.specs.Spots.{IsInChunk, IsAtEnd, SpotAt, SpotIn}
+use Rattle.rg_log.specs.Log.{schema_payload, with_chunk, chunks_of, joined}
+use Rattle.rg_log.specs.Spots.{SpotAt, SpotIn}
 use Rattle.rg_log.proofs.Spelling.{spot_within}
 use Rattle.rg_reservoir.specs.declared.kept.Kept.{Kept}
-use Rattle.rg_reservoir.specs.Chain.{chunk_in, chunk_at, Chain}
+use Rattle.rg_reservoir.specs.Chain.{chunk_at, Chain}
 use Rattle.rg_reservoir.specs.Kept.{Base, IsRight, InChunk, InOpen, Spells}
-use Rattle.rg_reservoir.proofs.Attaching.{IsChunk, chunk_payload}
+use Rattle.rg_reservoir.proofs.Attaching.{chunk_payload}
 use Rattle.rg_reservoir.proofs.Chains.{some_none}
 use Rattle.rg_reservoir.proofs.Firsts.{one_payload}
 use Rattle.rg_reservoir.proofs.Legal.{chunk_made, chain_of}

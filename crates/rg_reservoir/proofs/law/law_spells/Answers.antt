@@ -1,8 +1,8 @@
-use Rattle.std.proofs.Common.{◌≡◌, Some, [], List, sym, subst}
+use Rattle.std.proofs.Common.{List, sym, subst}
 use Rattle.rg_host.specs.Image.{Image}
 use Rattle.rg_event.specs.declared.event.Event.{Event}
 use Rattle.rg_log.specs.Spots.{SpotIn}
-use Rattle.rg_reservoir.specs.Kept.{base, opened, next_of, time_of, cache_of, IsRight, Spells}
+use Rattle.rg_reservoir.specs.Kept.{base, next_of, time_of, cache_of, IsRight, Spells}
 use Rattle.rg_reservoir.proofs.Seeking.{one_image}
 use Rattle.rg_reservoir.proofs.Spelled.{spelled_there, spelled_here}
 use Rattle.rg_reservoir.proofs.law.law_spells.Goals as goal

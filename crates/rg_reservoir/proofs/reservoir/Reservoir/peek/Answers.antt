@@ -1,7 +1,7 @@
-use Rattle.std.proofs.Common.{◌≡◌, ◌∙◌, ◌+◌, ◌<◌, refl, ap, arith, length}
+use Rattle.std.proofs.Common.{◌∙◌, refl, ap, arith, length}
 use Rattle.rg_reservoir.specs.declared.fault.ReservoirFault.TheVariants.{Disk, Damaged, Ended}
 use Rattle.rg_reservoir.specs.Kept.{Base}
-use Rattle.rg_reservoir.proofs.Peeking.{seen_stays, err_moves, err_is, ok_not_err, some_map}
+use Rattle.rg_reservoir.proofs.Peeking.{seen_stays, err_moves, ok_not_err, some_map}
 use Rattle.rg_reservoir.proofs.reservoir.Reservoir.peek.Goals as goal
 
 pub at-requires-clause-number : goal.at-requires-clause-number

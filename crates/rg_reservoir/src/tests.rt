@@ -1,0 +1,342 @@
+ghost use Rattle.std.specs.Prelude.{◌≡◌, ◌≤◌, ◌<◌, ◌^◌, length, OnOk, IfOk};
+ghost use Rattle.rg_frame.specs.LogState.{ReachesEnd};
+ghost use Rattle.rg_reservoir.specs.Kept.{log_of};
+
+use crate::{Reservoir, ReservoirFault, Stage, Stored, Walk};
+use rg_event::{Event, Room, Schema, Value, Values, Word};
+use rg_host::{Host, Image, MemHost};
+use rg_past::{Past, PastFault, Spot};
+use std::alloc::Global;
+use std::process::Abort;
+use std::test::Fail;
+
+/// A schema's frame, the frame of a chunk of two events, and a closed gate.
+const FILE: [u8; 164] = [
+    0x01, 0x00, 0x00, 0x00, 0x00, 0x00, 0x00, 0x00, 0x30, 0x53, 0x70, 0x61, 0x79, 0x6d, 0x65, 0x6e,
+    0x74, 0x73, 0x28, 0x74, 0x73, 0x2c, 0x63, 0x61, 0x72, 0x64, 0x3a, 0x74, 0x65, 0x78, 0x74, 0x2c,
+    0x6d, 0x65, 0x72, 0x63, 0x68, 0x61, 0x6e, 0x74, 0x3a, 0x74, 0x65, 0x78, 0x74, 0x2c, 0x61, 0x6d,
+    0x6f, 0x75, 0x6e, 0x74, 0x3a, 0x69, 0x6e, 0x74, 0x29, 0x01, 0x00, 0x00, 0x00, 0x00, 0x00, 0x00,
+    0x00, 0x61, 0x43, 0x00, 0x00, 0x00, 0x02, 0x00, 0x00, 0x00, 0x00, 0x00, 0x00, 0x00, 0x00, 0x00,
+    0x00, 0x00, 0x00, 0x00, 0x00, 0x00, 0x00, 0x00, 0x00, 0x00, 0x00, 0x00, 0x00, 0x00, 0x01, 0x00,
+    0x00, 0x00, 0x00, 0x00, 0x04, 0x93, 0xdf, 0x00, 0x00, 0x00, 0x00, 0x00, 0x00, 0x00, 0x00, 0x00,
+    0x00, 0x00, 0x00, 0x00, 0x00, 0x00, 0x00, 0x02, 0x63, 0x31, 0x02, 0x6d, 0x31, 0x00, 0x00, 0x00,
+    0x00, 0x00, 0x00, 0x00, 0x64, 0x00, 0x00, 0x00, 0x00, 0x00, 0x00, 0x00, 0x01, 0x00, 0x00, 0x00,
+    0x00, 0x00, 0x04, 0x93, 0xdf, 0x02, 0x63, 0x31, 0x02, 0x6d, 0x32, 0x00, 0x00, 0x00, 0x00, 0x00,
+    0x00, 0x00, 0xc8, 0x00,
+];
+
+/// A host whose file 2 has these bytes.
+fn host_with(alloc: Global, bytes: &[u8]) -> Result<MemHost, Fail> {
+    let mut image = Image::new(alloc);
+    image.set(2, bytes.to_vec(alloc)?)?;
+    Ok(MemHost::new(alloc, image, Vec::new(alloc))?)
+}
+
+fn schema(alloc: Global, text: &[u8]) -> Result<Schema, ReservoirFault> {
+    match Schema::parse(alloc, text) {
+        Ok(schema) => Ok(schema),
+        Err(_) => Err(ReservoirFault::Memory),
+    }
+}
+
+fn word(alloc: Global, text: &[u8]) -> Result<Value, ReservoirFault> {
+    match Word::new(alloc, text)? {
+        Some(word) => Ok(Value::Text(word)),
+        None => Err(ReservoirFault::Memory),
+    }
+}
+
+/// A payment with the card `c1`.
+fn payment(
+    alloc: Global,
+    offset: u64,
+    time: u64,
+    merchant: &[u8],
+    amount: i64,
+) -> Result<Event, ReservoirFault>
+    ensures { IfOk result (λ event. event.offset ≡ offset) }
+{
+    let mut values = Values::new(alloc);
+    values.push(word(alloc, b"c1")?)?;
+    values.push(word(alloc, merchant)?)?;
+    values.push(Value::Int(amount))?;
+    Ok(Event {
+        offset,
+        time,
+        values,
+    })
+}
+
+/// Takes an event, and commits it.
+fn put<H: Host>(reservoir: &mut Reservoir, host: &mut H, event: Event) -> Result<(), ReservoirFault>
+    requires small { event.offset < 2 ^ 62 }
+    requires reaches { ReachesEnd (log_of reservoir.old) (H.now host.old) }
+    ensures { OnOk result (ReachesEnd (log_of reservoir.new) (H.now host.new)) }
+{
+    if !reservoir.has_room() {
+        return Err(ReservoirFault::Full);
+    }
+    match reservoir.append(event) {
+        Ok(()) => {}
+        Err(fault) => return Err(fault),
+    }
+    match reservoir.commit(host) {
+        Ok(()) => Ok(()),
+        Err(fault) => Err(fault),
+    }
+}
+
+/// A reservoir with a chunk for each of three events, without columns, of offset 0, 1 and 2.
+fn three<H: Host>(alloc: Global, host: &mut H, cache: u32) -> Result<Reservoir, ReservoirFault>
+    requires { (1 ≤ cache) × (cache ≤ 1024) }
+{
+    let room = Room {
+        chunk: 1,
+        cache,
+        limit: 100,
+    };
+    let schema = schema(alloc, b"payments(ts)")?;
+    let mut reservoir = match Reservoir::attach(alloc, host, &schema, room) {
+        Ok(reservoir) => reservoir,
+        Err(fault) => return Err(fault),
+    };
+    put(&mut reservoir, host, bare(alloc, 0))?;
+    put(&mut reservoir, host, bare(alloc, 1))?;
+    put(&mut reservoir, host, bare(alloc, 2))?;
+    Ok(reservoir)
+}
+
+/// An event without values.
+fn bare(alloc: Global, offset: u64) -> Event
+    ensures { result.offset ≡ offset }
+{
+    Event {
+        offset,
+        time: 10,
+        values: Values::new(alloc),
+    }
+}
+
+/// The offset of the event of a spot.
+fn offset_at<H: Host>(
+    reservoir: &mut Reservoir,
+    host: &mut H,
+    spot: &Spot,
+) -> Result<Option<u64>, ReservoirFault> {
+    let mut spot = *spot;
+    if spot.number > reservoir.count() {
+        return Ok(None);
+    }
+    match reservoir.peek(host, &mut spot)? {
+        Some(event) => Ok(Some(event.offset)),
+        None => Ok(None),
+    }
+}
+
+/// How many chunks were loaded, and how many are held, after two looks at event 0 and two at event
+/// 2, in turn.
+fn looks(rt: &impl Abort, alloc: Global, cache: u32) -> Result<(u64, u32), Fail>
+    requires { (1 ≤ cache) × (cache ≤ 1024) }
+{
+    let mut host = host_with(alloc, &[])?;
+    let mut reservoir = three(alloc, &mut host, cache)?;
+    let first = reservoir.start();
+    let last = Spot {
+        place: 146,
+        index: 0,
+        number: 2,
+    };
+    for _ in 0..2u32 {
+        assert_eq!(rt; offset_at(&mut reservoir, &mut host, &first)?, Some(0));
+        assert_eq!(rt; offset_at(&mut reservoir, &mut host, &last)?, Some(2));
+    }
+    let calls = host.calls();
+    assert_eq!(rt; offset_at(&mut reservoir, &mut host, &last)?, Some(2));
+    assert_eq!(rt; host.calls(), calls);
+    Ok((reservoir.loads(), reservoir.held()))
+}
+
+#[test]
+fn a_cache_of_one_loads_a_chunk_again(rt: HostRuntime) -> Result<(), Fail> {
+    assert_eq!(rt; looks(&rt, rt.alloc(), 1)?, (4, 1));
+    assert_eq!(rt; looks(&rt, rt.alloc(), 2)?, (2, 2));
+    Ok(())
+}
+
+/// Takes an event into the open chunk.
+fn take(reservoir: &mut Reservoir, event: Event) -> Result<(), ReservoirFault>
+    requires { event.offset < 2 ^ 62 }
+    ensures { log_of reservoir.new ≡ log_of reservoir.old }
+{
+    if !reservoir.has_room() {
+        return Err(ReservoirFault::Full);
+    }
+    reservoir.append(event)
+}
+
+/// Commits a chunk of two payments.
+fn commit_two<H: Host>(
+    alloc: Global,
+    reservoir: &mut Reservoir,
+    host: &mut H,
+) -> Result<(), ReservoirFault>
+    requires { ReachesEnd (log_of reservoir.old) (H.now host.old) }
+{
+    let first = payment(alloc, 0, 0, b"m1", 100)?;
+    let second = payment(alloc, 1, 299_999, b"m2", 200)?;
+    take(reservoir, first)?;
+    take(reservoir, second)?;
+    reservoir.commit(host)
+}
+
+/// A reservoir of payments, with chunks of two events.
+fn payments<H: Host>(alloc: Global, host: &mut H) -> Result<Reservoir, ReservoirFault>
+    ensures { IfOk result (λ r. ReachesEnd (log_of r) (H.now host.new)) }
+{
+    let room = Room {
+        chunk: 2,
+        cache: 1,
+        limit: 100,
+    };
+    let schema = schema(alloc, b"payments(ts,card:text,merchant:text,amount:int)")?;
+    Reservoir::attach(alloc, host, &schema, room)
+}
+
+#[test]
+fn a_log_is_written_as_the_format_says(rt: HostRuntime) -> Result<(), Fail> {
+    let alloc = rt.alloc();
+    let mut host = host_with(alloc, &[])?;
+    let mut reservoir = payments(alloc, &mut host)?;
+    assert_eq!(rt; host.file(2).len(), 58);
+    assert_eq!(rt; reservoir.last_time(), None);
+    commit_two(alloc, &mut reservoir, &mut host)?;
+    assert_eq!(rt; host.file(2), FILE.as_slice());
+    Ok(())
+}
+
+#[test]
+fn a_log_is_attached_again(rt: HostRuntime) -> Result<(), Fail> {
+    let mut host = host_with(rt.alloc(), &FILE)?;
+    let reservoir = payments(rt.alloc(), &mut host)?;
+    assert_eq!(rt; reservoir.count(), 2);
+    assert_eq!(rt; reservoir.committed(), 2);
+    assert_eq!(rt; reservoir.next_offset(), 2);
+    assert_eq!(rt; reservoir.last_time(), Some(299_999));
+    assert_eq!(rt; host.file(2), FILE.as_slice());
+    Ok(())
+}
+
+/// Meets events of these offsets from the start on, and then the end.
+fn walk<P: Past>(rt: &impl Abort, past: &mut P, offsets: &[u64]) -> Result<(), PastFault> {
+    let mut spot = past.start();
+    for offset in offsets {
+        match past.peek(&mut spot)? {
+            Some(event) => {
+                assert_eq!(rt; event.offset, *offset);
+                past.advance(&mut spot);
+            }
+            None => panic!(rt; "the end stands before offset {offset}"),
+        }
+    }
+    assert!(rt; past.peek(&mut spot)?.is_none());
+    Ok(())
+}
+
+#[test]
+fn a_past_over_a_disk_meets_each_event(rt: HostRuntime) -> Result<(), Fail> {
+    let mut host = host_with(rt.alloc(), &[])?;
+    let mut reservoir = three(rt.alloc(), &mut host, 1)?;
+    let mut past = Stored::new(&mut reservoir, &mut host);
+    if walk(&rt, &mut past, &[0, 1, 2]).is_err() {
+        panic!(rt; "a look was refused");
+    }
+    Ok(())
+}
+
+#[test]
+fn a_walk_meets_each_frame(rt: HostRuntime) -> Result<(), Fail> {
+    let mut host = host_with(rt.alloc(), &FILE)?;
+    let mut frames = Walk::new(rt.alloc());
+    match frames.next(&mut host)? {
+        Some(Stage::Schema(_)) => {}
+        _ => panic!(rt; "the first frame is no schema"),
+    }
+    match frames.next(&mut host)? {
+        Some(Stage::Chunk(chunk)) => assert_eq!(rt; chunk.count(), 2),
+        _ => panic!(rt; "the chunk is missing"),
+    }
+    assert!(rt; frames.next(&mut host)?.is_none());
+    Ok(())
+}
+
+/// Why a log with this byte in place of the one that stood there isn't attached.
+fn refusal(
+    alloc: Global,
+    bytes: &[u8],
+    at: usize,
+    byte: u8,
+    text: &[u8],
+) -> Result<Option<ReservoirFault>, Fail> {
+    let mut bytes = bytes.to_vec(alloc)?;
+    if at < bytes.len() {
+        bytes[at] = byte;
+    }
+    let mut host = host_with(alloc, &bytes)?;
+    let room = Room {
+        chunk: 1,
+        cache: 1,
+        limit: 2,
+    };
+    let schema = schema(alloc, text)?;
+    Ok(Reservoir::attach(alloc, &mut host, &schema, room).err())
+}
+
+/// The bytes of a log whose frames stand at 0, 22, 84 and 146, and which ends at 208.
+fn sound_bytes(alloc: Global) -> Result<Vec<u8>, Fail> {
+    let mut host = host_with(alloc, &[])?;
+    three(alloc, &mut host, 1)?;
+    Ok(host.file(2).to_vec(alloc)?)
+}
+
+#[test]
+fn a_bad_log_is_refused_at_its_first_bad_frame(rt: HostRuntime) -> Result<(), Fail> {
+    let alloc = rt.alloc();
+    let bytes = sound_bytes(alloc)?;
+    let rows: [(usize, u8, Option<ReservoirFault>); 8] = [
+        (208, 0, None),
+        (22, 0, None),
+        (9, 0x43, Some(ReservoirFault::Damaged(0))),
+        (30, 0xff, Some(ReservoirFault::Damaged(22))),
+        (31, 0x44, Some(ReservoirFault::Damaged(22))),
+        (35, 0, Some(ReservoirFault::Damaged(22))),
+        (105, 0, Some(ReservoirFault::Damaged(84))),
+        (175, 9, Some(ReservoirFault::Damaged(146))),
+    ];
+    for (at, byte, fault) in rows {
+        assert_eq!(rt; refusal(alloc, &bytes, at, byte, b"payments(ts)")?, fault);
+    }
+    Ok(())
+}
+
+#[test]
+fn a_log_of_another_schema_is_refused(rt: HostRuntime) -> Result<(), Fail> {
+    let bytes = sound_bytes(rt.alloc())?;
+    assert_eq!(rt;
+        refusal(rt.alloc(), &bytes, 0, 1, b"payments(at)")?,
+        Some(ReservoirFault::SchemaDiffers)
+    );
+    Ok(())
+}
+
+#[test]
+fn a_cut_log_is_refused_at_its_last_frame(rt: HostRuntime) -> Result<(), Fail> {
+    let bytes = sound_bytes(rt.alloc())?;
+    let cuts: [(usize, u64); 3] = [(22, 0), (83, 22), (208, 146)];
+    for (length, place) in cuts {
+        if length <= bytes.len() {
+            let fault = refusal(rt.alloc(), &bytes[..length], 0, 1, b"payments(ts)")?;
+            assert_eq!(rt; fault, Some(ReservoirFault::Damaged(place)));
+        }
+    }
+    Ok(())
+}

@@ -102,7 +102,7 @@ impl<T: Table> Engine<T> {
     ) -> Result<Answers, EngineFault>
         requires room { P.has_room past.old }
         requires fits { P.fits past.old event }
-        requires follows { MayFollow (P.events past.old) event }
+        requires follows { P.sound past.old → (P.ended past.old → ⊥) → MayFollow (P.events past.old) event }
         requires within { AreWithin self.old.spots (length (P.events past.old)) }
         ensures stands { (n : ℕ) (front more : List Event) → P.sound past.old →
             IsTold self.old.plan n (P.spells past.old) self.old.spots → T.tells self.old.table →

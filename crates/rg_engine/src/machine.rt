@@ -81,7 +81,7 @@ impl<T: Table> Machine<T> {
     ) -> Result<Vec<Answer>, EngineFault>
         requires room { P.has_room past.old }
         requires fits { P.fits past.old event }
-        requires follows { MayFollow (P.events past.old) event }
+        requires follows { P.sound past.old → (P.ended past.old → ⊥) → MayFollow (P.events past.old) event }
         requires within { AreWithin self.old.edges.spots (length (P.events past.old)) }
         requires built { IsBuilt self.old.plan self.old.edges self.old.rows.parts.items self.old.nodes.items self.old.keys.items }
         ensures stands { (n : ℕ) (front more : List Event) → P.sound past.old →

@@ -1,4 +1,5 @@
-pub mod Held
-pub mod HeldLaws
+pub mod Listed
+pub mod ListedLaws
 pub mod Order
 pub mod Peek
+pub mod Ranges

@@ -2,7 +2,7 @@ ghost use Rattle.std.specs.Prelude.{◌≡◌, ◌≤◌, ◌<◌, ◌^◌, ◌+
 ghost use Rattle.rg_agg.specs.Held.{queued, queued_at, held_bytes, tagged_list, next_at, more_at, is_like_first, Agrees};
 ghost use Rattle.rg_agg.specs.Numbers.{value_of};
 ghost use Rattle.rg_agg.specs.Stands.{IsNumber, are_alike, begins_with};
-ghost use Rattle.rg_event.specs.Keeps.{Keeps};
+ghost use Rattle.rg_bytes.specs.Keeps.{Keeps};
 ghost use Rattle.rg_event.specs.Tagged.{tagged_bytes};
 
 use crate::aggregate::Aggregate;

@@ -1,7 +1,7 @@
 ghost use Rattle.std.specs.Prelude.{◌≡◌, ◌+◌, ◌≤◌, ◌<◌, ◌^◌, ◌++◌, Some, None, IfOk, OnOk, OnErr, IsTrue};
 ghost use Rattle.rg_agg.specs.Held.{ended, held_bytes, ended_at, Agrees};
 ghost use Rattle.rg_agg.specs.Numbers.{value_of, seen, is_kept};
-ghost use Rattle.rg_event.specs.Keeps.{Keeps};
+ghost use Rattle.rg_bytes.specs.Keeps.{Keeps};
 
 use crate::aggregate::Aggregate;
 use crate::fault::{StateFault, Unfit};

@@ -3,7 +3,7 @@ ghost use Rattle.std.specs.Int.{w64, to_be_bytes};
 ghost use Rattle.rg_agg.specs.Held.{size_behind_at, number_value_at, Agrees};
 ghost use Rattle.rg_agg.specs.Numbers.{value_of};
 ghost use Rattle.rg_agg.specs.Stands.{IsNumber};
-ghost use Rattle.rg_event.specs.Keeps.{Keeps};
+ghost use Rattle.rg_bytes.specs.Keeps.{Keeps};
 ghost use Rattle.rg_event.specs.Tagged.{tagged_bytes};
 
 use crate::fault::StateFault;

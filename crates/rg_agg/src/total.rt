@@ -2,7 +2,7 @@ ghost use Rattle.std.specs.Prelude.{◌≡◌, ◌+◌, ◌<◌, ◌≤◌, ◌^
 ghost use Rattle.std.specs.Int.{w64, to_be_bytes};
 ghost use Rattle.rg_agg.specs.Held.{is_sum, sum_bytes, total_at, Agrees};
 ghost use Rattle.rg_agg.specs.Stands.{IsInt, IsTotal};
-ghost use Rattle.rg_event.specs.Keeps.{Keeps};
+ghost use Rattle.rg_bytes.specs.Keeps.{Keeps};
 ghost use Rattle.rg_event.specs.declared.value.Value.{Value};
 
 use crate::amount::{GREATEST_INT, amount};

@@ -1,3 +1,5 @@
 pub mod Counts
+pub mod Keeps
 pub mod Known
 pub mod Numbers
+pub mod Reading

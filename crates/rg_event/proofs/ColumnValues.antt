@@ -1,17 +1,14 @@
 -- The values of the columns, one at a time.
-use Rattle.std.proofs.Common.{◌≡◌, ◌+◌, ℕ, List, [], ◌∷◌, ◌++◌, length, get_or, take, ◌<◌, Ok, refl, sym, ap, ◌∙◌, append_assoc, append-nil}
+use Rattle.std.proofs.Common.{◌≡◌, ◌+◌, ℕ, List, [], ◌∷◌, ◌++◌, length, get_or, take, ◌<◌, Ok, refl, append_assoc}
 use Rattle.std.proofs.lemmas.List.{take_more}
-use Rattle.rg_event.specs.Codec.{Reading, and_then, value_bytes, values_bytes, IsValueOf, AreValuesOf}
+use Rattle.rg_bytes.specs.Reading.{and_then}
+use Rattle.rg_event.specs.Codec.{Reading, IsValueOf, AreValuesOf}
 use Rattle.rg_event.specs.declared.schema.Field.{Field}
 use Rattle.rg_event.specs.declared.value.Value.{Value}
 
 -- what is read is put behind these values
 abbrev pub behind : List Value → Reading (List Value) → Reading (List Value)
 behind values reading = and_then reading (λ more rest. Ok (values ++ more, rest))
-
-pub values_bytes-push : (values : List Value) (value : Value) → values_bytes (values ++ value ∷ []) ≡ values_bytes values ++ value_bytes value
-values_bytes-push [] value = append-nil (value_bytes value)
-values_bytes-push (first ∷ values) value = ap (λ bytes. value_bytes first ++ bytes) (values_bytes-push values value) ∙ sym (append_assoc (value_bytes first) (values_bytes values) (value_bytes value))
 
 push_value : (fields : List Field) (values : List Value) (field : Field) (value : Value) → AreValuesOf fields values → IsValueOf field.kind value → AreValuesOf (fields ++ field ∷ []) (values ++ value ∷ [])
 push_value [] [] field value are is = (is, tt)

@@ -1,36 +1,33 @@
 -- What is read where bytes begin with a field, are too few for it, or begin with a bad one.
-use Rattle.std.proofs.Common.{◌≡◌, ◌<◌, ◌≤◌, ◌^◌, ◌==◌, ℕ, ℤ, pos, negsuc, List, [], ◌∷◌, ◌++◌, true, false, nat_le, length, length-append, ◌⊎◌, inl, inr, Result, Ok, Err, refl, ap, ◌∙◌, arith}
+use Rattle.std.proofs.Common.{◌≡◌, ◌<◌, ◌≤◌, ◌^◌, ◌==◌, ℕ, ℤ, pos, negsuc, List, [], ◌∷◌, ◌++◌, true, false, nat_le, length, ◌⊎◌, inl, inr, Result, Ok, Err, refl, ap, ◌∙◌, arith}
 use Rattle.std.proofs.lemmas.Grind.{common_steps}
 use Rattle.std.proofs.lemmas.Int.{to_z-of_z}
-use Rattle.std.proofs.lemmas.List.{take_at, drop_at}
-use Rattle.std.proofs.lemmas.Nat.{from_be_bytes-to_be_bytes_8}
 use Rattle.std.specs.Int.{w64, to_be_bytes, cast_unsigned}
-use Rattle.std.proofs.lemmas.Result.{err_from_is_err_and}
 use Rattle.std.specs.Int.RustNames.{FitsSigned, unsigned_abs}
 use Rattle.std.specs.Result.{IsErrAnd}
 use Rattle.std.specs.Str.{is_utf8}
-use Rattle.rg_event.specs.Codec.{Agrees, Reading, tested, bytes_at, number_at, number_up_to_at, int_at, id_at, text_at, flag_at, values_at, event_at}
+use Rattle.rg_bytes.specs.Reading.{tested}
+use Rattle.rg_bytes.proofs.Reading.{bytes_read as bytes_read_or, bytes_short as bytes_short_or, u64_read, u64_short, agrees_stopped}
+use Rattle.rg_event.specs.Codec.{Agrees, Reading, bytes_at, number_at, number_up_to_at, int_at, id_at, text_at, flag_at, values_at, event_at}
 use Rattle.rg_event.specs.declared.codec.EventFault.{EventFault}
 use Rattle.rg_event.specs.declared.codec.EventFault.TheVariants.{Short, BadValue, Memory}
 use Rattle.rg_event.specs.declared.schema.Field.{Field}
 use Rattle.rg_event.specs.declared.value.Value.{Value}
 use Rattle.rg_event.specs.declared.value.Value.TheVariants.{Int as IntValue, Id as IdValue, Text as TextValue, Flag as FlagValue}
 
+-- fields with the fault of an event that ends too early
+
 pub bytes_read : (count : ℕ) (front rest : List ℕ) → length front ≡ count → bytes_at count (front ++ rest) ≡ Ok (front, rest)
-unfolding bytes_at
-bytes_read count front rest counted = grind (arith, common_steps, length-append front rest, take_at front rest count counted, drop_at front rest count counted)
+bytes_read count front rest counted = bytes_read_or Short count (front ++ rest) front rest refl counted
 
 pub bytes_short : (count : ℕ) (bytes : List ℕ) → length bytes < count → bytes_at count bytes ≡ Err Short
-unfolding bytes_at
-bytes_short count bytes few = grind (arith, common_steps)
+bytes_short count bytes few = bytes_short_or Short count bytes few
 
 pub number_read : (number : ℕ) (rest : List ℕ) → number < 2 ^ 64 → number_at (to_be_bytes w64 number ++ rest) ≡ Ok (number, rest)
-unfolding number_at
-number_read number rest fits = rw (bytes_read 8 (to_be_bytes w64 number) rest refl, from_be_bytes-to_be_bytes_8 number fits) refl
+number_read number rest fits = u64_read Short (to_be_bytes w64 number ++ rest) number rest refl fits
 
 pub number_short : (bytes : List ℕ) → length bytes < 8 → number_at bytes ≡ Err Short
-unfolding number_at
-number_short bytes few = rw (bytes_short 8 bytes few) refl
+number_short bytes few = u64_short Short bytes few
 
 pub unsigned_fits : (number : ℤ) → FitsSigned w64 number → cast_unsigned w64 number < 2 ^ 64
 unsigned_fits (pos n) fits = omega (arith, fits.sfits)
@@ -83,24 +80,24 @@ pub text_short : (column : ℕ) (old : List ℕ) (count : ℕ) (rest : List ℕ)
 unfolding text_at
 text_short column old count rest stood few = rw (stood, bytes_short count rest few) refl
 
-text_tested : (column : ℕ) (old : List ℕ) (count : ℕ) (behind text rest : List ℕ) → old ≡ count ∷ behind → behind ≡ text ++ rest → length text ≡ count → text_at column old ≡ tested column (is_utf8 text) (TextValue text) rest
+text_tested : (column : ℕ) (old : List ℕ) (count : ℕ) (behind text rest : List ℕ) → old ≡ count ∷ behind → behind ≡ text ++ rest → length text ≡ count → text_at column old ≡ tested (BadValue column) (is_utf8 text) (TextValue text) rest
 unfolding text_at
 text_tested column old count behind text rest stood parts counted = rw (stood, parts, bytes_read count text rest counted) refl
 
 pub text_read : (column : ℕ) (old : List ℕ) (count : ℕ) (behind text rest : List ℕ) → old ≡ count ∷ behind → behind ≡ text ++ rest → length text ≡ count → is_utf8 text ≡ true → text_at column old ≡ Ok (TextValue text, rest)
 text_read column old count behind text rest stood parts counted valid =
-    text_tested column old count behind text rest stood parts counted ∙ ap (λ test. tested column test (TextValue text) rest) valid
+    text_tested column old count behind text rest stood parts counted ∙ ap (λ test. tested (BadValue column) test (TextValue text) rest) valid
 
 pub text_bad : (column : ℕ) (old : List ℕ) (count : ℕ) (behind text rest : List ℕ) → old ≡ count ∷ behind → behind ≡ text ++ rest → length text ≡ count → is_utf8 text ≡ false → text_at column old ≡ Err (BadValue column)
 text_bad column old count behind text rest stood parts counted invalid =
-    text_tested column old count behind text rest stood parts counted ∙ ap (λ test. tested column test (TextValue text) rest) invalid
+    text_tested column old count behind text rest stood parts counted ∙ ap (λ test. tested (BadValue column) test (TextValue text) rest) invalid
 
 pub flag_short : (column : ℕ) (old : List ℕ) → length old < 1 → flag_at column old ≡ Err Short
 unfolding flag_at
 flag_short column [] few = refl
 flag_short column (byte ∷ old) few = absurd (omega arith)
 
-flag_read : (column : ℕ) (old : List ℕ) (byte : ℕ) (rest : List ℕ) → old ≡ byte ∷ rest → flag_at column old ≡ tested column (nat_le byte 1) (FlagValue (byte == 1)) rest
+flag_read : (column : ℕ) (old : List ℕ) (byte : ℕ) (rest : List ℕ) → old ≡ byte ∷ rest → flag_at column old ≡ tested (BadValue column) (nat_le byte 1) (FlagValue (byte == 1)) rest
 unfolding flag_at
 flag_read column old byte rest stood = rw stood refl
 
@@ -116,14 +113,9 @@ flag_bad column old byte rest stood not_zero not_one = flag_read column old byte
 -- what is answered where a reading stops
 
 pub agrees_short : {A : Type 0} (reading : Reading A) (result : Result A EventFault) (left : List ℕ) → IsErrAnd result (λ fault. fault ≡ Short) → reading ≡ Err Short → Agrees reading result left
-agrees_short reading result left short is = let stops = err_from_is_err_and result short in rw (stops.1, stops.2) (inl is)
-
-pub agrees_memory : {A : Type 0} (reading : Reading A) (result : Result A EventFault) (left : List ℕ) → IsErrAnd result (λ fault. fault ≡ Memory) → Agrees reading result left
-agrees_memory reading result left memory = let stops = err_from_is_err_and result memory in rw (stops.1, stops.2) (inr refl)
+agrees_short reading result left short is = agrees_stopped Memory (λ value. value) reading result left Short short (inl is)
 
 -- a reading that stops stops what it begins
-pub agrees_stopped : {A : Type 0} (reading : Reading A) (result : Result A EventFault) (left : List ℕ) (fault : EventFault) → IsErrAnd result (λ e. e ≡ fault) → (reading ≡ Err fault) ⊎ (fault ≡ Memory) → Agrees reading result left
-agrees_stopped reading result left fault stopped is = let stops = err_from_is_err_and result stopped in rw (stops.1, stops.2) is
 
 pub event_offset_stops : (fields : List Field) (old : List ℕ) (fault : EventFault) → (number_up_to_at 4611686018427387903 old ≡ Err fault) ⊎ (fault ≡ Memory) → (event_at fields old ≡ Err fault) ⊎ (fault ≡ Memory)
 unfolding event_at

@@ -4,7 +4,6 @@ pub mod Names
 pub mod Readable
 pub mod Utf8
 pub mod Words
-pub mod Keeping
 pub mod Decoding
 pub mod ColumnValues
 pub mod RoundTrip

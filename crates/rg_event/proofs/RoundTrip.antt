@@ -2,6 +2,7 @@
 use Rattle.std.proofs.Common.{◌≡◌, ◌≤◌, ◌+◌, ◌++◌, ℕ, ℤ, pos, negsuc, true, false, List, [], ◌∷◌, length, ◌⊎◌, inl, inr, Result, Ok, Err, refl, ap, append_assoc, arith}
 use Rattle.std.specs.Int.{w64, to_be_bytes}
 use Rattle.std.specs.Int.RustNames.{FitsSigned, unsigned_abs}
+use Rattle.rg_bytes.proofs.Reading.{both_answers, memory_only}
 use Rattle.rg_event.specs.Codec.{Agrees, Reading, event_bytes, value_bytes, values_bytes, IsValueOf, AreValuesOf, IsEventOf, value_at, values_at, event_at}
 use Rattle.rg_event.specs.declared.codec.EventFault.{EventFault}
 use Rattle.rg_event.specs.declared.codec.EventFault.TheVariants.{Memory}
@@ -40,17 +41,10 @@ event_reads_back fields event old rest is stood =
     (number_up_to_read _ _ event.time left (omega (arith, is.time)) refl is.time)
     (values_read_back fields 1 event.values rest is.values)
 
-pub one_answer : {A : Type 0} (reading : Reading A) (first second : A × List ℕ) → reading ≡ Ok first → reading ≡ Ok second → first ≡ second
-one_answer reading first second one two = cc
-
-no_fault : {A : Type 0} (reading : Reading A) (fault : EventFault) (read : A × List ℕ) → reading ≡ Err fault → reading ≡ Ok read → ⊥
-no_fault reading fault read one two = cc
-
 -- what agrees with a reading that gives something is that
 pub agrees_with : {A : Type 0} (reading : Reading A) (result : Result A EventFault) (left : List ℕ) (given : A) (rest : List ℕ) → Agrees reading result left → reading ≡ Ok (given, rest)
     → ((result ≡ Ok given) × (left ≡ rest)) ⊎ (result ≡ Err Memory)
 agrees_with {A} reading (Ok value) left given rest agrees is =
-    let same = one_answer reading (value, left) (given, rest) agrees is in
-    inl (ap (λ (read : A × List ℕ). Ok read.0) same, ap (λ (read : A × List ℕ). read.1) same)
-agrees_with reading (Err fault) left given rest (inl agrees) is = absurd (no_fault reading fault (given, rest) agrees is)
-agrees_with reading (Err fault) left given rest (inr memory) is = inr (ap (λ (e : EventFault). Err e) memory)
+    let same = both_answers reading value given left rest agrees is in
+    inl (ap (λ (answer : A). Ok answer) same.0, same.1)
+agrees_with reading (Err fault) left given rest agrees is = inr (ap (λ (e : EventFault). Err e) (memory_only Memory reading fault (given, rest) agrees is))

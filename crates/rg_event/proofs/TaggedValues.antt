@@ -4,6 +4,7 @@ use Rattle.std.proofs.lemmas.Int.{to_z-of_z}
 use Rattle.std.proofs.lemmas.List.{take_at, drop_at}
 use Rattle.std.specs.Int.{w64, to_be_bytes, cast_signed, cast_unsigned}
 use Rattle.std.specs.Int.RustNames.{FitsSigned}
+use Rattle.rg_bytes.proofs.Reading.{both_answers}
 use Rattle.rg_event.specs.Codec.{Agrees, value_bytes, number_at, value_at}
 use Rattle.rg_event.specs.Tagged.{value_kind, IsLegal, IsStorable, tag_of, kind_of, tagged_bytes, tagged_at}
 use Rattle.rg_event.specs.declared.codec.EventFault.{EventFault}
@@ -13,7 +14,7 @@ use Rattle.rg_event.specs.declared.value.Kind.TheVariants.{Int, Id, Text, Flag}
 use Rattle.rg_event.specs.declared.value.Value.{Value}
 use Rattle.rg_event.specs.declared.value.Value.TheVariants.{Int as IntValue, Id as IdValue, Text as TextValue, Flag as FlagValue}
 use Rattle.rg_event.proofs.Decoding.{number_read, unsigned_fits}
-use Rattle.rg_event.proofs.RoundTrip.{value_reads_back, one_answer}
+use Rattle.rg_event.proofs.RoundTrip.{value_reads_back}
 
 -- tags and kinds
 
@@ -55,8 +56,7 @@ read_back value old rest is stood = ap tagged_at stood ∙ tagged_reads_back val
 same_number : (m n : ℕ) (behind rest : List ℕ) → m < 2 ^ 64 → n < 2 ^ 64 → to_be_bytes w64 m ++ behind ≡ to_be_bytes w64 n ++ rest → (m ≡ n) × (behind ≡ rest)
 same_number m n behind rest first second same =
     let one : number_at (to_be_bytes w64 n ++ rest) ≡ Ok (m, behind) = ap number_at (sym same) ∙ number_read m behind first in
-    let pair = one_answer (number_at (to_be_bytes w64 n ++ rest)) (m, behind) (n, rest) one (number_read n rest second) in
-    (ap (λ (read : ℕ × List ℕ). read.0) pair, ap (λ (read : ℕ × List ℕ). read.1) pair)
+    both_answers (number_at (to_be_bytes w64 n ++ rest)) m n behind rest one (number_read n rest second)
 
 same_int : (first second : ℤ) → FitsSigned w64 first → FitsSigned w64 second → cast_unsigned w64 first ≡ cast_unsigned w64 second → first ≡ second
 same_int first second one two same = sym (to_z-of_z w64 first one) ∙ (ap (cast_signed w64) same ∙ to_z-of_z w64 second two)

@@ -1,8 +1,9 @@
 -- The bytes of an event: offset, time, and its values by column.
-use Rattle.std.specs.Prelude.{◌≡◌, ◌⊎◌, ℕ, ◌+◌, ◌^◌, ◌<◌, ◌≤◌, ◌==◌, nat_le, Bool, List, [], ◌∷◌, ◌++◌, length, take, drop, Result, Ok, Err, unsigned_abs, IsTrue, if◌then◌else◌}
-use Rattle.std.specs.Int.{w64, to_be_bytes, from_be_bytes, cast_signed, cast_unsigned}
+use Rattle.std.specs.Prelude.{ℕ, ◌+◌, ◌^◌, ◌<◌, ◌≤◌, ◌==◌, nat_le, List, [], ◌∷◌, ◌++◌, length, Result, Ok, Err, unsigned_abs, IsTrue, if◌then◌else◌}
+use Rattle.std.specs.Int.{w64, to_be_bytes, cast_signed, cast_unsigned}
 use Rattle.std.specs.List.{AllZip}
 use Rattle.std.specs.Str.{is_utf8}
+use Rattle.rg_bytes.specs.Reading.{Reading as ReadingWith, Agrees as AgreesWith, and_then, tested, bytes_at as bytes_or, u64_at, list_bytes}
 use Rattle.rg_event.specs.Words.{is_word}
 use Rattle.rg_event.specs.declared.codec.EventFault.{EventFault}
 use Rattle.rg_event.specs.declared.codec.EventFault.TheVariants.{Short, BadValue, Memory}
@@ -22,8 +23,7 @@ value_bytes (FlagValue flag) = (if flag then 1 else 0) ∷ []
 
 -- the bytes of each value, one after another
 abbrev pub values_bytes : List Value → List ℕ
-values_bytes [] = []
-values_bytes (value ∷ values) = value_bytes value ++ values_bytes values
+values_bytes values = list_bytes value_bytes values
 
 -- offset and time in 8 bytes each, the highest byte first, and the values
 abbrev pub event_bytes : Event → List ℕ
@@ -49,33 +49,24 @@ pub record IsEventOf (fields : List Field) (event : Event) : Type 0 where
 
 -- what some bytes begin with, and the bytes behind it; or why they begin with none
 abbrev pub Reading : Type 0 → Type 0
-Reading A = Result (A × List ℕ) EventFault
-
--- one reading, and then another of the bytes that it left
-abbrev pub and_then : {A B : Type 0} → Reading A → (A → List ℕ → Reading B) → Reading B
-and_then (Ok (value, left)) next = next value left
-and_then (Err fault) next = Err fault
-
--- a value that passes its test, or the number of the field that is bad
-abbrev pub tested : {A : Type 0} → ℕ → Bool → A → List ℕ → Reading A
-tested field test value left = if test then Ok (value, left) else Err (BadValue field)
+Reading A = ReadingWith EventFault A
 
 -- the first so many bytes
-unfoldable pub bytes_at : ℕ → List ℕ → Reading (List ℕ)
-bytes_at count bytes = if nat_le count (length bytes) then Ok (take count bytes, drop count bytes) else Err Short
+abbrev pub bytes_at : ℕ → List ℕ → Reading (List ℕ)
+bytes_at count bytes = bytes_or Short count bytes
 
 -- a number of 8 bytes
-unfoldable pub number_at : List ℕ → Reading ℕ
-number_at bytes = and_then (bytes_at 8 bytes) (λ front left. Ok (from_be_bytes w64 front, left))
+abbrev pub number_at : List ℕ → Reading ℕ
+number_at bytes = u64_at Short bytes
 
 -- a number of field 0, up to a greatest
 unfoldable pub number_up_to_at : ℕ → List ℕ → Reading ℕ
-number_up_to_at most bytes = and_then (number_at bytes) (λ number left. tested 0 (nat_le number most) number left)
+number_up_to_at most bytes = and_then (number_at bytes) (λ number left. tested (BadValue 0) (nat_le number most) number left)
 
 -- 8 bytes of two's complement that say a number from -10^12 to 10^12
 unfoldable pub int_at : ℕ → List ℕ → Reading Value
 int_at column bytes =
-    and_then (number_at bytes) (λ number left. tested column (nat_le (unsigned_abs (cast_signed w64 number)) 1000000000000) (IntValue (cast_signed w64 number)) left)
+    and_then (number_at bytes) (λ number left. tested (BadValue column) (nat_le (unsigned_abs (cast_signed w64 number)) 1000000000000) (IntValue (cast_signed w64 number)) left)
 
 -- 8 bytes that say a number
 unfoldable pub id_at : List ℕ → Reading Value
@@ -84,12 +75,12 @@ id_at bytes = and_then (number_at bytes) (λ number left. Ok (IdValue number, le
 -- a length in one byte, and so many bytes of UTF-8
 unfoldable pub text_at : ℕ → List ℕ → Reading Value
 text_at column [] = Err Short
-text_at column (count ∷ bytes) = and_then (bytes_at count bytes) (λ text left. tested column (is_utf8 text) (TextValue text) left)
+text_at column (count ∷ bytes) = and_then (bytes_at count bytes) (λ text left. tested (BadValue column) (is_utf8 text) (TextValue text) left)
 
 -- 00 or 01
 unfoldable pub flag_at : ℕ → List ℕ → Reading Value
 flag_at column [] = Err Short
-flag_at column (byte ∷ bytes) = tested column (nat_le byte 1) (FlagValue (byte == 1)) bytes
+flag_at column (byte ∷ bytes) = tested (BadValue column) (nat_le byte 1) (FlagValue (byte == 1)) bytes
 
 -- a value of this kind, in the column of this number
 abbrev pub value_at : Kind → ℕ → List ℕ → Reading Value
@@ -113,5 +104,4 @@ event_at fields bytes =
 
 -- what is answered, and what is left, are those of the reading; or memory ran out
 abbrev pub Agrees : {A : Type 0} → Reading A → Result A EventFault → List ℕ → Type 0
-Agrees reading (Ok value) left = reading ≡ Ok (value, left)
-Agrees reading (Err fault) left = (reading ≡ Err fault) ⊎ (fault ≡ Memory)
+Agrees reading result left = AgreesWith Memory (λ value. value) reading result left

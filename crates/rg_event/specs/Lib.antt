@@ -7,5 +7,5 @@ pub mod Reading
 pub mod Codec
 pub mod Tagged
 pub mod Order
+pub mod Rising
 pub mod OrderLaws
-pub mod Keeps

@@ -80,6 +80,13 @@ impl Bytes {
     {
         &self.bytes
     }
+
+    /// The bytes alone. It takes no memory.
+    pub fn into_vec(self) -> Vec<u8>
+        ensures { result.items ≡ self }
+    {
+        self.bytes
+    }
 }
 
 /// A list of texts.
@@ -94,6 +101,37 @@ impl Model for Texts {
     ghost Value = { List (List ℕ) };
 
     ghost view = { λ t. t.list.items };
+}
+
+/// Two lists of texts are equal where they are as long and their texts are equal in order.
+impl PartialEq for Texts {
+    ghost use Rattle.std.specs.Prelude.{bytes_eq};
+    ghost use Rattle.std.specs.Cmp.{partial_equiv_from_equiv};
+    ghost use Rattle.std.specs.Cmp.Lexicographic.{lists_equiv, nat_list_eq_equiv, pointwise};
+
+    ghost eq = { pointwise bytes_eq };
+
+    ghost laws = { partial_equiv_from_equiv (lists_equiv nat_list_eq_equiv) };
+
+    fn eq(&self, other: &Texts) -> bool {
+        self.list == other.list
+    }
+}
+
+impl Eq for Texts {
+    ghost use Rattle.std.specs.Cmp.Lexicographic.{lists_equiv, nat_list_eq_equiv};
+
+    ghost laws = { lists_equiv nat_list_eq_equiv };
+}
+
+impl From<Vec<Bytes>> for Texts {
+    ghost use Rattle.std.specs.Prelude.{◌≡◌};
+
+    ghost from_gives = { λ list texts. texts ≡ list.items };
+
+    fn from(list: Vec<Bytes>) -> Texts {
+        Texts { list }
+    }
 }
 
 impl Texts {
@@ -131,6 +169,13 @@ impl Texts {
     {
         &self.list
     }
+
+    /// The list alone. It takes no memory.
+    pub fn into_vec(self) -> Vec<Bytes>
+        ensures { result.items ≡ self }
+    {
+        self.list
+    }
 }
 
 /// A list of events.
@@ -146,6 +191,16 @@ impl Model for Events {
     ghost Value = { List TheEvent };
 
     ghost view = { λ e. e.list.items };
+}
+
+impl From<Vec<Event>> for Events {
+    ghost use Rattle.std.specs.Prelude.{◌≡◌};
+
+    ghost from_gives = { λ list events. events ≡ list.items };
+
+    fn from(list: Vec<Event>) -> Events {
+        Events { list }
+    }
 }
 
 impl Events {
@@ -172,6 +227,13 @@ impl Events {
     {
         &self.list
     }
+
+    /// The list alone. It takes no memory.
+    pub fn into_vec(self) -> Vec<Event>
+        ensures { result.items ≡ self }
+    {
+        self.list
+    }
 }
 
 #[cfg(test)]
@@ -189,7 +251,7 @@ mod tests {
         texts.push(Bytes::from_slice(alloc, b"two")?)?;
         texts.push(Bytes::new(alloc))?;
         let copies = texts.copy(alloc)?;
-        assert_eq!(rt; copies.as_slice(), texts.as_slice());
+        assert_eq!(rt; copies, texts);
         match copies.as_slice() {
             [one, two, none] => {
                 assert_eq!(rt; one.as_slice(), b"one".as_slice());
@@ -198,6 +260,9 @@ mod tests {
             }
             other => panic!(rt; "{other:?}"),
         }
+        texts.push(Bytes::new(alloc))?;
+        assert!(rt; copies != texts);
+        assert_eq!(rt; Texts::from(texts.into_vec()).as_slice().len(), 4);
         let mut events = Events::new(alloc);
         for time in [5, 3] {
             let values = Values::new(alloc);

@@ -2,13 +2,11 @@ ghost use Rattle.std.specs.Prelude.{◌≡◌, IfOk};
 ghost use Rattle.rg_bytes.specs.Numbers.{signed_of};
 ghost use Rattle.rg_event.specs.Parsing.{in_range, flag_of, value_of};
 
+use crate::limits::MAX_INT;
 use crate::value::{Kind, Value};
 use crate::word::Word;
 use rg_bytes::{Memory, read_signed, read_whole};
 use std::alloc::Global;
-
-/// The greatest integer of a column, and with a minus the least.
-const GREATEST_INT: u64 = 1_000_000_000_000;
 
 /// Reads a text as a value of this kind. It answers `None` where the text is not one.
 pub fn parse_value(alloc: Global, kind: Kind, text: &[u8]) -> Result<Option<Value>, Memory>
@@ -26,7 +24,7 @@ fn parse_int(text: &[u8]) -> Option<i64>
     ensures { result ≡ in_range (signed_of text.now) }
 {
     let number = read_signed(text)?;
-    if number.unsigned_abs() <= GREATEST_INT {
+    if number.unsigned_abs() <= MAX_INT {
         Some(number)
     } else {
         None

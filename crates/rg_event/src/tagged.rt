@@ -1,6 +1,6 @@
 ghost use Rattle.std.specs.Prelude.{◌≡◌, ◌⊎◌, ◌∷◌, ◌++◌, ℕ, List, Ok, Err, IfOk, OnOk, OnErr};
 ghost use Rattle.rg_event.specs.Codec.{Agrees};
-ghost use Rattle.rg_event.specs.Keeps.{Keeps};
+ghost use Rattle.rg_bytes.specs.Keeps.{Keeps};
 ghost use Rattle.rg_event.specs.Tagged.{IsLegal, IsStorable, tag_of, kind_of, tagged_bytes, tagged_at};
 ghost use Rattle.rg_event.specs.declared.value.Value.{Value};
 
@@ -9,17 +9,17 @@ use crate::value::{Kind, Value};
 use rg_bytes::{ByteReader, Memory, put_u8};
 use std::alloc::Global;
 
-/// The byte in front of an int.
-const INT: u8 = 1;
+/// The tag of an int, which stands before the value.
+pub const INT_TAG: u8 = 1;
 
-/// The byte in front of an id.
-const ID: u8 = 2;
+/// The tag of an id, which stands before the value.
+pub const ID_TAG: u8 = 2;
 
-/// The byte in front of a text.
-const TEXT: u8 = 3;
+/// The tag of a text, which stands before the value.
+pub const TEXT_TAG: u8 = 3;
 
-/// The byte in front of a flag.
-const FLAG: u8 = 4;
+/// The tag of a flag, which stands before the value.
+pub const FLAG_TAG: u8 = 4;
 
 /// Writes a value at the end with the tag of its kind in front. Where memory runs out `out` holds
 /// what it held.
@@ -89,10 +89,10 @@ pub(crate) fn tag(kind: Kind) -> u8
     ensures { result ≡ tag_of kind }
 {
     match kind {
-        Kind::Int => INT,
-        Kind::Id => ID,
-        Kind::Text => TEXT,
-        Kind::Flag => FLAG,
+        Kind::Int => INT_TAG,
+        Kind::Id => ID_TAG,
+        Kind::Text => TEXT_TAG,
+        Kind::Flag => FLAG_TAG,
     }
 }
 
@@ -101,10 +101,10 @@ fn kind_said(tag: u8) -> Option<Kind>
     ensures { result ≡ kind_of tag }
 {
     match tag {
-        INT => Some(Kind::Int),
-        ID => Some(Kind::Id),
-        TEXT => Some(Kind::Text),
-        FLAG => Some(Kind::Flag),
+        INT_TAG => Some(Kind::Int),
+        ID_TAG => Some(Kind::Id),
+        TEXT_TAG => Some(Kind::Text),
+        FLAG_TAG => Some(Kind::Flag),
         _ => None,
     }
 }

@@ -132,6 +132,16 @@ impl Model for Values {
     ghost view = { λ v. v.list.items };
 }
 
+impl From<Vec<Value>> for Values {
+    ghost use Rattle.std.specs.Prelude.{◌≡◌};
+
+    ghost from_gives = { λ list values. values ≡ list.items };
+
+    fn from(list: Vec<Value>) -> Values {
+        Values { list }
+    }
+}
+
 impl Values {
     /// No values.
     pub fn new(alloc: Global) -> Values
@@ -166,6 +176,13 @@ impl Values {
         ensures { result.now ≡ self.now }
     {
         &self.list
+    }
+
+    /// The list alone. It takes no memory.
+    pub fn into_vec(self) -> Vec<Value>
+        ensures { result.items ≡ self }
+    {
+        self.list
     }
 }
 

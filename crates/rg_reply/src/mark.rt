@@ -1,5 +1,5 @@
 ghost use Rattle.std.specs.Prelude.{◌≡◌, ◌++◌, ◌∷◌, [], OnOk, OnErr};
-ghost use Rattle.rg_reply.specs.Keeps.{Keeps};
+ghost use Rattle.rg_bytes.specs.Keeps.{Keeps};
 ghost use Rattle.rg_reply.specs.Texts.{mark_line};
 
 use crate::part::put_numbered;

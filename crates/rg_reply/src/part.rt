@@ -1,5 +1,5 @@
 ghost use Rattle.std.specs.Prelude.{◌≡◌, ◌++◌, decimal, OnOk, OnErr};
-ghost use Rattle.rg_reply.specs.Keeps.{Keeps};
+ghost use Rattle.rg_bytes.specs.Keeps.{Keeps};
 
 use rg_bytes::{Memory, put_bytes, write_whole};
 

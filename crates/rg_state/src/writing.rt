@@ -1,6 +1,6 @@
 ghost use Rattle.std.specs.Prelude.{◌≡◌, ◌≤◌, ◌<◌, ◌^◌, ◌++◌, length, OnOk, OnErr};
 ghost use Rattle.rg_agg.specs.Standing.{size_in};
-ghost use Rattle.rg_event.specs.Keeps.{Keeps};
+ghost use Rattle.rg_bytes.specs.Keeps.{Keeps};
 ghost use Rattle.rg_state.specs.Cells.{node_entries, entries_from};
 ghost use Rattle.rg_state.specs.Rows.{entry_bytes, entries_bytes};
 ghost use Rattle.rg_state.specs.States.{held_of};

@@ -2,7 +2,7 @@ ghost use Rattle.std.specs.Prelude.{◌≡◌, ◌+◌, ◌-◌, ◌<◌, ◌^�
 ghost use Rattle.std.specs.BTreeMap.{get, IsOrdered};
 ghost use Rattle.rg_agg.specs.Held.{pairs_bytes};
 ghost use Rattle.rg_agg.specs.Standing.{counts_sum, count_in};
-ghost use Rattle.rg_event.specs.Keeps.{Keeps};
+ghost use Rattle.rg_bytes.specs.Keeps.{Keeps};
 ghost use Rattle.rg_event.specs.Tagged.{tag_of, value_kind};
 ghost use Rattle.rg_event.specs.declared.value.Kind.{Kind as KindValue};
 ghost use Rattle.rg_tally.specs.Pairs.{pairs_by, OneMore, AreOf, AreAlike};

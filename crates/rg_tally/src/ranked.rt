@@ -1,7 +1,7 @@
 ghost use Rattle.std.specs.Prelude.{◌≡◌, Bool, List, ℕ, ◌++◌, Ok, IfOk, OnOk, OnErr};
 ghost use Rattle.std.specs.Ordering.{is_eq, is_lt};
 ghost use Rattle.rg_agg.specs.Held.{Begins, Agrees};
-ghost use Rattle.rg_event.specs.Keeps.{Keeps};
+ghost use Rattle.rg_bytes.specs.Keeps.{Keeps};
 ghost use Rattle.rg_event.specs.Tagged.{tagged_bytes, value_kind};
 ghost use Rattle.rg_event.specs.declared.value.Value.{Value};
 ghost use Rattle.rg_metric.specs.Same.{same_value};

@@ -2,7 +2,7 @@ ghost use Rattle.std.specs.Prelude.{◌≡◌, ℕ, ◌+◌, ◌<◌, ◌≤◌,
 ghost use Rattle.std.specs.List.{All};
 ghost use Rattle.rg_agg.specs.Held.{counts_bytes, Agrees, Returns};
 ghost use Rattle.rg_agg.specs.Standing.{AreCounts, IsLike, counts_sum, count_in, pairs_kind};
-ghost use Rattle.rg_event.specs.Keeps.{Keeps};
+ghost use Rattle.rg_bytes.specs.Keeps.{Keeps};
 ghost use Rattle.rg_event.specs.Tagged.{value_kind};
 ghost use Rattle.rg_event.specs.declared.value.Value.{Value};
 ghost use Rattle.rg_metric.specs.Answers.{distinct_after};

@@ -5,20 +5,12 @@ ghost use Rattle.rg_event.specs.declared.event.Event.{Event};
 
 use crate::codec::EventFault;
 use crate::event::Event;
+use crate::limits::{MAX_INT, MAX_OFFSET, MAX_TIME};
 use crate::schema::{Field, Schema};
 use crate::value::{Kind, Value, Values};
 use crate::word::Word;
 use rg_bytes::ByteReader;
 use std::alloc::Global;
-
-/// The greatest offset of an event.
-const GREATEST_OFFSET: u64 = 4_611_686_018_427_387_903;
-
-/// The greatest time of an event, in milliseconds.
-const GREATEST_TIME: u64 = 1_000_000_000_000_000;
-
-/// The greatest integer of a column, and with a minus the least.
-const GREATEST_INT: u64 = 1_000_000_000_000;
 
 /// Takes an event of this schema, as `encode` writes it. A refusal leaves the reader as it was.
 pub fn decode(
@@ -58,8 +50,8 @@ fn read_event(
     ensures legal { IfOk result (IsEventOf fields.now) }
 {
     Ok(Event {
-        offset: read_number(GREATEST_OFFSET, from)?,
-        time: read_number(GREATEST_TIME, from)?,
+        offset: read_number(MAX_OFFSET, from)?,
+        time: read_number(MAX_TIME, from)?,
         values: read_values(alloc, fields, from)?,
     })
 }
@@ -121,7 +113,7 @@ fn read_int(column: u32, from: &mut ByteReader<'_>) -> Result<Value, EventFault>
     ensures legal { IfOk result (IsValueOf Kind.Int) }
 {
     let number = from.i64()?;
-    if number.unsigned_abs() <= GREATEST_INT {
+    if number.unsigned_abs() <= MAX_INT {
         Ok(Value::Int(number))
     } else {
         Err(EventFault::BadValue(column))

@@ -1,6 +1,6 @@
 ghost use Rattle.std.specs.Prelude.{◌≡◌, ◌≤◌, ◌++◌, ◌∷◌, length, OnOk, OnErr};
 ghost use Rattle.rg_event.specs.Codec.{value_bytes, values_bytes, event_bytes};
-ghost use Rattle.rg_event.specs.Keeps.{Keeps};
+ghost use Rattle.rg_bytes.specs.Keeps.{Keeps};
 
 use crate::event::Event;
 use crate::value::Value;

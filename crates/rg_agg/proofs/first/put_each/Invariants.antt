@@ -1,7 +1,7 @@
 use Rattle.std.proofs.Common.{◌≡◌, ◌++◌, map, drop}
 use Rattle.rg_agg.specs.Held.{tagged_list}
 use Rattle.rg_agg.specs.Numbers.{value_of}
-use Rattle.rg_event.specs.Keeps.{Keeps}
+use Rattle.rg_bytes.specs.Keeps.{Keeps}
 use Rattle.rg_agg.proofs.first.put_each.Given as goal
 
 abbrev pub invariant-loop-place : goal.invariant-loop-place

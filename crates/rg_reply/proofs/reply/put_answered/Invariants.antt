@@ -1,5 +1,5 @@
 use Rattle.std.proofs.Common.{◌≡◌, ◌++◌, drop, codes}
-use Rattle.rg_reply.specs.Keeps.{Keeps}
+use Rattle.rg_bytes.specs.Keeps.{Keeps}
 use Rattle.rg_reply.specs.Texts.{answers_text}
 use Rattle.rg_reply.proofs.reply.put_answered.Given as goal
 

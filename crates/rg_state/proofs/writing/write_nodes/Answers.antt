@@ -1,5 +1,5 @@
 use Rattle.std.proofs.Common.{arith}
-use Rattle.rg_event.proofs.Keeping.{kept_on, kept_added}
+use Rattle.rg_bytes.proofs.Keeping.{kept_on, kept_added}
 use Rattle.rg_state.proofs.Written.{node_more}
 use Rattle.rg_state.proofs.writing.write_nodes.Goals as goal
 

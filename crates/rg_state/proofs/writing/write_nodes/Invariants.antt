@@ -1,5 +1,5 @@
 use Rattle.std.proofs.Common.{◌≡◌, ◌++◌, drop}
-use Rattle.rg_event.specs.Keeps.{Keeps}
+use Rattle.rg_bytes.specs.Keeps.{Keeps}
 use Rattle.rg_state.specs.Cells.{entries_from}
 use Rattle.rg_state.specs.Rows.{entries_bytes}
 use Rattle.rg_state.proofs.writing.write_nodes.Given as goal

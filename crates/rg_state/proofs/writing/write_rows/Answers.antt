@@ -3,7 +3,7 @@ use Rattle.std.specs.BTreeMap.{get}
 use Rattle.std.specs.Cmp.Lexicographic.{slice_cmp}
 use Rattle.std.specs.Ordering.{nat_cmp}
 use Rattle.std.proofs.lemmas.List.Elements.{All-head, All-rest, All-same}
-use Rattle.rg_event.proofs.Keeping.{kept_same, kept_on, kept_added}
+use Rattle.rg_bytes.proofs.Keeping.{kept_same, kept_on, kept_added}
 use Rattle.rg_state.proofs.Written.{in_err, row_more, rows_end}
 use Rattle.rg_state.specs.Cells.{node_entries}
 use Rattle.rg_state.specs.Rows.{entries_bytes}

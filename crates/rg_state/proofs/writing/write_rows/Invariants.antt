@@ -3,7 +3,7 @@ use Rattle.std.specs.List.{All}
 use Rattle.std.specs.BTreeMap.{get}
 use Rattle.std.specs.Cmp.Lexicographic.{slice_cmp}
 use Rattle.std.specs.Ordering.{nat_cmp}
-use Rattle.rg_event.specs.Keeps.{Keeps}
+use Rattle.rg_bytes.specs.Keeps.{Keeps}
 use Rattle.rg_state.specs.Cells.{node_entries}
 use Rattle.rg_state.specs.Rows.{entries_bytes}
 use Rattle.rg_state.proofs.writing.write_rows.Given as goal

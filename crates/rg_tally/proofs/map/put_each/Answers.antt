@@ -1,4 +1,4 @@
-use Rattle.rg_event.proofs.Keeping.{kept_on, kept_same, kept_through}
+use Rattle.rg_bytes.proofs.Keeping.{kept_on, kept_same, kept_through}
 use Rattle.rg_tally.proofs.Kept.{on_err_of}
 use Rattle.rg_tally.proofs.map.put_each.Goals as goal
 

@@ -1,6 +1,6 @@
 use Rattle.std.proofs.Common.{◌≡◌, ◌++◌}
 use Rattle.rg_agg.specs.Held.{pairs_bytes}
-use Rattle.rg_event.specs.Keeps.{Keeps}
+use Rattle.rg_bytes.specs.Keeps.{Keeps}
 use Rattle.rg_tally.specs.Pairs.{pairs_by}
 use Rattle.rg_tally.proofs.map.put_each.Given as goal
 

@@ -1,6 +1,6 @@
 use Rattle.std.proofs.Common.{◌≡◌, ◌++◌, drop}
 use Rattle.rg_event.specs.Codec.{values_bytes}
-use Rattle.rg_event.specs.Keeps.{Keeps}
+use Rattle.rg_bytes.specs.Keeps.{Keeps}
 use Rattle.rg_event.proofs.codec.encoder.put_values.Given as goal
 
 abbrev pub invariant-loop-value : goal.invariant-loop-value

@@ -1,7 +1,7 @@
 -- Bytes in front stay where more are put behind them.
 use Rattle.std.proofs.Common.{◌≡◌, ◌≤◌, ℕ, List, ◌++◌, length, take, sym, ◌∙◌, ap, arith}
 use Rattle.std.proofs.lemmas.List.{take_all, take_at, take-take, length-take}
-use Rattle.rg_event.specs.Keeps.{Keeps}
+use Rattle.rg_bytes.specs.Keeps.{Keeps}
 
 pub kept_same : (old new : List ℕ) → new ≡ old → Keeps old new
 kept_same old new same = record { front = rw same (take_all (length old) old (omega arith)) }

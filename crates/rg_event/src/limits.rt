@@ -1,0 +1,8 @@
+/// The greatest offset of an event, 2^62 - 1. The least is 0.
+pub const MAX_OFFSET: u64 = 4_611_686_018_427_387_903;
+
+/// The greatest time of an event, 10^15 milliseconds. The least is 0.
+pub const MAX_TIME: u64 = 1_000_000_000_000_000;
+
+/// The greatest value of an int column, 10^12, and with a minus the least.
+pub const MAX_INT: u64 = 1_000_000_000_000;

@@ -8,3 +8,4 @@ pub mod Decoding
 pub mod ColumnValues
 pub mod RoundTrip
 pub mod TaggedValues
+pub mod Rising

@@ -1,11 +1,11 @@
 pub mod Asking
-pub mod DeedPuts
 pub mod Filling
 pub mod Finds
-pub mod Images
+pub mod FileLists
 pub mod LineLaws
-pub mod Logs
 pub mod Nexts
+pub mod PutRuns
 pub mod Ranges
+pub mod Runs
 pub mod Taking
 pub mod Told

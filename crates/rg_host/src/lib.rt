@@ -2,11 +2,9 @@
 #![tactic(auto)]
 
 mod buffer;
-mod calls;
 mod host;
 mod image;
 mod lines;
-mod memory_host;
 mod memory_source;
 mod scanner;
 mod source;
@@ -14,6 +12,5 @@ mod source;
 pub use host::{Host, put_all};
 pub use image::Image;
 pub use lines::{Line, LineFault, Lines};
-pub use memory_host::MemHost;
 pub use memory_source::MemSource;
 pub use source::{AllFault, Failed, Source, read_all};

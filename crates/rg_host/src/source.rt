@@ -27,7 +27,7 @@ pub trait Source {
     /// How often a read has failed, up to 2^64 - 1.
     ghost faults: { Self → ℕ };
 
-    /// Reads the next bytes into the front of `buf`, and answers how many. With room in `buf`, 0
+    /// Reads the next bytes into the first ones of `buf`, and answers how many. With room in `buf`, 0
     /// comes only at the end of the input.
     fn read(&mut self, buf: &mut [u8]) -> Result<usize, Failed>
         ensures count { IfOk result (λ n. n ≤ length buf.old) }

@@ -1,0 +1,6 @@
+pub mod FrameLaws
+pub mod FrameLists
+pub mod Gates
+pub mod Looked
+pub mod Payloads
+pub mod Runs

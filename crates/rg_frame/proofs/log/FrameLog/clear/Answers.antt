@@ -1,0 +1,14 @@
+use Rattle.std.proofs.Common.{inl, subst}
+use Rattle.rg_host.specs.Image.{NothingPending}
+use Rattle.rg_frame.specs.LogState.{LogState}
+use Rattle.rg_frame.specs.Steps.{OldOrNone}
+use Rattle.rg_frame.proofs.Runs.{Same, writes-none, writes-weaker}
+use Rattle.rg_frame.proofs.log.FrameLog.clear.Goals as goal
+
+pub returns-then-self-clause-leaves : goal.returns-then-self-clause-leaves
+returns-then-self-clause-leaves g c =
+    let start = writes-none g.H.Host.now g.H.Host.may g.H.Host.clock g.H.Host.since g.H.Host.said c.args.self.now.file _ (λ t u m. g.met.H.Host.sinks _ t u m) (λ m. g.met.H.Host.only_now _ m) in
+    writes-weaker g.H.Host.now g.H.Host.may g.H.Host.clock g.H.Host.since g.H.Host.said c.args.self.now.file Same OldOrNone _ _ start (λ w told b same. inl same)
+
+pub returns-in-Ok-clause-pending : goal.returns-in-Ok-clause-pending
+returns-in-Ok-clause-pending g c = subst (λ (s : LogState). NothingPending s.file (g.H.Host.now c.args.host.now) (g.H.Host.may c.args.host.now) → NothingPending s.file (g.H.Host.now c.close.new.host) (g.H.Host.may c.close.new.host)) c.self.view_is c.in-Ok.ensures.pending

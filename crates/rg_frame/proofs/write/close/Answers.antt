@@ -1,0 +1,80 @@
+use Rattle.std.proofs.Common.{◌≡◌, ◌∷◌, inl, ℕ, get_or, drop, Some, refl, subst, arith}
+use Rattle.rg_host.specs.Image.{Image}
+use Rattle.rg_host.proofs.Runs.{leaves_all-settled}
+use Rattle.rg_frame.specs.Steps.{OldOrNone}
+use Rattle.rg_frame.proofs.Gates.{head-read, head-open, none-closed, none-empty, none-torn}
+use Rattle.rg_frame.proofs.Runs.{Same, writes-quiet, writes-weaker, writes-more, writes-sync, becomes-none}
+use Rattle.rg_frame.proofs.write.close.Goals as goal
+
+pub returns-in_err-n-clause-leaves : goal.returns-in_err-n-clause-leaves
+returns-in_err-n-clause-leaves g c =
+    let quiet = writes-quiet g.H.Host.now g.H.Host.may g.H.Host.clock g.H.Host.since g.H.Host.said c.args.file _ _ c.read_at.ensures.leaves in
+    writes-weaker g.H.Host.now g.H.Host.may g.H.Host.clock g.H.Host.since g.H.Host.said c.args.file Same OldOrNone _ _ quiet (λ w told b same. inl same)
+
+pub returns-then-n-eq0-clause-leaves : goal.returns-then-n-eq0-clause-leaves
+returns-then-n-eq0-clause-leaves g c =
+    let quiet = writes-quiet g.H.Host.now g.H.Host.may g.H.Host.clock g.H.Host.since g.H.Host.said c.args.file _ _ c.read_at.ensures.leaves in
+    writes-weaker g.H.Host.now g.H.Host.may g.H.Host.clock g.H.Host.since g.H.Host.said c.args.file Same OldOrNone _ _ quiet (λ w told b same. inl same)
+
+pub returns-then-n-eq0-clause-pending : goal.returns-then-n-eq0-clause-pending
+returns-then-n-eq0-clause-pending g c =
+    leaves_all-settled g.H.Host.now g.H.Host.may g.H.Host.clock g.H.Host.since g.H.Host.said c.args.file _ _ c.read_at.ensures.leaves
+
+pub returns-then-gate-ne1-clause-leaves : goal.returns-then-gate-ne1-clause-leaves
+returns-then-gate-ne1-clause-leaves g c =
+    let quiet = writes-quiet g.H.Host.now g.H.Host.may g.H.Host.clock g.H.Host.since g.H.Host.said c.args.file _ _ c.read_at.ensures.leaves in
+    writes-weaker g.H.Host.now g.H.Host.may g.H.Host.clock g.H.Host.since g.H.Host.said c.args.file Same OldOrNone _ _ quiet (λ w told b same. inl same)
+
+pub returns-then-gate-ne1-clause-pending : goal.returns-then-gate-ne1-clause-pending
+returns-then-gate-ne1-clause-pending g c =
+    leaves_all-settled g.H.Host.now g.H.Host.may g.H.Host.clock g.H.Host.since g.H.Host.said c.args.file _ _ c.read_at.ensures.leaves
+
+pub returns-then-n-eq0-clause-none : goal.returns-then-n-eq0-clause-none
+returns-then-n-eq0-clause-none g c =
+    becomes-none c.args.file (g.H.Host.now c.args.host.now) _ c.read_at.ensures.leaves.now_stays (λ w told. none-empty (w c.args.file) (c.in_ok-n.ensures.end w told c.if-n-eq0.true (omega arith)))
+
+pub returns-then-gate-ne1-clause-none : goal.returns-then-gate-ne1-clause-none
+returns-then-gate-ne1-clause-none g c =
+    let head : (w : Image) → g.H.Host.now c.args.host.now ≡ Some w → w c.args.file ≡ get_or c.read_at.new.buf 0 0 ∷ drop 1 (w c.args.file) = λ w told. head-read (w c.args.file) c.read_at.new.buf c.in_ok-n.n (omega (arith, c.in_ok-n.ensures.size)) (omega (arith, c.in_ok-n.ensures.count)) (omega (arith, c.if-n-eq0.false)) (c.in_ok-n.ensures.within w told) (c.in_ok-n.ensures.bytes w told) in
+    becomes-none c.args.file (g.H.Host.now c.args.host.now) _ c.read_at.ensures.leaves.now_stays (λ w told. none-closed (w c.args.file) _ c.if-gate-ne1.true (head w told))
+
+pub returns-in_err-write_at-clause-closed : goal.returns-in_err-write_at-clause-closed
+returns-in_err-write_at-clause-closed g c =
+    let head : (w : Image) → g.H.Host.now c.args.host.now ≡ Some w → w c.args.file ≡ get_or c.read_at.new.buf 0 0 ∷ drop 1 (w c.args.file) = λ w told. head-read (w c.args.file) c.read_at.new.buf c.in_ok-n.n (omega (arith, c.in_ok-n.ensures.size)) (omega (arith, c.in_ok-n.ensures.count)) (omega (arith, c.if-n-eq0.false)) (c.in_ok-n.ensures.within w told) (c.in_ok-n.ensures.bytes w told) in
+    let one : (w : Image) → g.H.Host.now c.args.host.now ≡ Some w → w c.args.file ≡ 1 ∷ drop 1 (w c.args.file) = λ w told. subst (λ (b : ℕ). w c.args.file ≡ b ∷ drop 1 (w c.args.file)) (omega (arith, c.if-gate-ne1.false)) (head w told) in
+    λ w told shut. absurd (shut (head-open (w c.args.file) 1 refl (one w told)))
+
+pub returns-in_err-write_at-clause-leaves : goal.returns-in_err-write_at-clause-leaves
+returns-in_err-write_at-clause-leaves g c =
+    let quiet = writes-quiet g.H.Host.now g.H.Host.may g.H.Host.clock g.H.Host.since g.H.Host.said c.args.file _ _ c.read_at.ensures.leaves in
+    let head : (w : Image) → g.H.Host.now c.args.host.now ≡ Some w → w c.args.file ≡ get_or c.read_at.new.buf 0 0 ∷ drop 1 (w c.args.file) = λ w told. head-read (w c.args.file) c.read_at.new.buf c.in_ok-n.n (omega (arith, c.in_ok-n.ensures.size)) (omega (arith, c.in_ok-n.ensures.count)) (omega (arith, c.if-n-eq0.false)) (c.in_ok-n.ensures.within w told) (c.in_ok-n.ensures.bytes w told) in
+    let one : (w : Image) → g.H.Host.now c.args.host.now ≡ Some w → w c.args.file ≡ 1 ∷ drop 1 (w c.args.file) = λ w told. subst (λ (b : ℕ). w c.args.file ≡ b ∷ drop 1 (w c.args.file)) (omega (arith, c.if-gate-ne1.false)) (head w told) in
+    writes-more g.H.Host.now g.H.Host.may g.H.Host.clock g.H.Host.since g.H.Host.said c.args.file 0 _ Same OldOrNone _ _ _ quiet c.write_at.ensures.may c.write_at.ensures.moments c.write_at.ensures.said (λ w told b same. inl same) (λ w told b x same torn. none-torn (w c.args.file) b x (one w told) same torn)
+
+pub returns-in_err-sync-clause-closed : goal.returns-in_err-sync-clause-closed
+returns-in_err-sync-clause-closed g c =
+    let head : (w : Image) → g.H.Host.now c.args.host.now ≡ Some w → w c.args.file ≡ get_or c.read_at.new.buf 0 0 ∷ drop 1 (w c.args.file) = λ w told. head-read (w c.args.file) c.read_at.new.buf c.in_ok-n.n (omega (arith, c.in_ok-n.ensures.size)) (omega (arith, c.in_ok-n.ensures.count)) (omega (arith, c.if-n-eq0.false)) (c.in_ok-n.ensures.within w told) (c.in_ok-n.ensures.bytes w told) in
+    let one : (w : Image) → g.H.Host.now c.args.host.now ≡ Some w → w c.args.file ≡ 1 ∷ drop 1 (w c.args.file) = λ w told. subst (λ (b : ℕ). w c.args.file ≡ b ∷ drop 1 (w c.args.file)) (omega (arith, c.if-gate-ne1.false)) (head w told) in
+    λ w told shut. absurd (shut (head-open (w c.args.file) 1 refl (one w told)))
+
+pub returns-in_err-sync-clause-leaves : goal.returns-in_err-sync-clause-leaves
+returns-in_err-sync-clause-leaves g c =
+    let quiet = writes-quiet g.H.Host.now g.H.Host.may g.H.Host.clock g.H.Host.since g.H.Host.said c.args.file _ _ c.read_at.ensures.leaves in
+    let head : (w : Image) → g.H.Host.now c.args.host.now ≡ Some w → w c.args.file ≡ get_or c.read_at.new.buf 0 0 ∷ drop 1 (w c.args.file) = λ w told. head-read (w c.args.file) c.read_at.new.buf c.in_ok-n.n (omega (arith, c.in_ok-n.ensures.size)) (omega (arith, c.in_ok-n.ensures.count)) (omega (arith, c.if-n-eq0.false)) (c.in_ok-n.ensures.within w told) (c.in_ok-n.ensures.bytes w told) in
+    let one : (w : Image) → g.H.Host.now c.args.host.now ≡ Some w → w c.args.file ≡ 1 ∷ drop 1 (w c.args.file) = λ w told. subst (λ (b : ℕ). w c.args.file ≡ b ∷ drop 1 (w c.args.file)) (omega (arith, c.if-gate-ne1.false)) (head w told) in
+    let written = writes-more g.H.Host.now g.H.Host.may g.H.Host.clock g.H.Host.since g.H.Host.said c.args.file 0 _ Same OldOrNone _ _ _ quiet c.write_at.ensures.may c.write_at.ensures.moments c.write_at.ensures.said (λ w told b same. inl same) (λ w told b x same torn. none-torn (w c.args.file) b x (one w told) same torn) in
+    writes-sync g.H.Host.now g.H.Host.may g.H.Host.clock g.H.Host.since g.H.Host.said c.args.file OldOrNone _ _ _ written c.sync.ensures.may c.sync.ensures.moments c.sync.ensures.said
+
+pub returns-clause-closed : goal.returns-clause-closed
+returns-clause-closed g c =
+    let head : (w : Image) → g.H.Host.now c.args.host.now ≡ Some w → w c.args.file ≡ get_or c.read_at.new.buf 0 0 ∷ drop 1 (w c.args.file) = λ w told. head-read (w c.args.file) c.read_at.new.buf c.in_ok-n.n (omega (arith, c.in_ok-n.ensures.size)) (omega (arith, c.in_ok-n.ensures.count)) (omega (arith, c.if-n-eq0.false)) (c.in_ok-n.ensures.within w told) (c.in_ok-n.ensures.bytes w told) in
+    let one : (w : Image) → g.H.Host.now c.args.host.now ≡ Some w → w c.args.file ≡ 1 ∷ drop 1 (w c.args.file) = λ w told. subst (λ (b : ℕ). w c.args.file ≡ b ∷ drop 1 (w c.args.file)) (omega (arith, c.if-gate-ne1.false)) (head w told) in
+    λ w told shut. absurd (shut (head-open (w c.args.file) 1 refl (one w told)))
+
+pub returns-clause-leaves : goal.returns-clause-leaves
+returns-clause-leaves g c =
+    let quiet = writes-quiet g.H.Host.now g.H.Host.may g.H.Host.clock g.H.Host.since g.H.Host.said c.args.file _ _ c.read_at.ensures.leaves in
+    let head : (w : Image) → g.H.Host.now c.args.host.now ≡ Some w → w c.args.file ≡ get_or c.read_at.new.buf 0 0 ∷ drop 1 (w c.args.file) = λ w told. head-read (w c.args.file) c.read_at.new.buf c.in_ok-n.n (omega (arith, c.in_ok-n.ensures.size)) (omega (arith, c.in_ok-n.ensures.count)) (omega (arith, c.if-n-eq0.false)) (c.in_ok-n.ensures.within w told) (c.in_ok-n.ensures.bytes w told) in
+    let one : (w : Image) → g.H.Host.now c.args.host.now ≡ Some w → w c.args.file ≡ 1 ∷ drop 1 (w c.args.file) = λ w told. subst (λ (b : ℕ). w c.args.file ≡ b ∷ drop 1 (w c.args.file)) (omega (arith, c.if-gate-ne1.false)) (head w told) in
+    let written = writes-more g.H.Host.now g.H.Host.may g.H.Host.clock g.H.Host.since g.H.Host.said c.args.file 0 _ Same OldOrNone _ _ _ quiet c.write_at.ensures.may c.write_at.ensures.moments c.write_at.ensures.said (λ w told b same. inl same) (λ w told b x same torn. none-torn (w c.args.file) b x (one w told) same torn) in
+    writes-sync g.H.Host.now g.H.Host.may g.H.Host.clock g.H.Host.since g.H.Host.said c.args.file OldOrNone _ _ _ written c.sync.ensures.may c.sync.ensures.moments c.sync.ensures.said

@@ -1,0 +1,21 @@
+use Rattle.rg_host.specs.Image.{Torn}
+use Rattle.rg_frame.proofs.Gates.{torn-same, torn-from}
+use Rattle.rg_frame.proofs.Runs.{Same, writes-none, writes-more, writes-sync}
+use Rattle.rg_frame.proofs.write.open_gate.Goals as goal
+
+pub returns-in_err-write_at-clause-leaves : goal.returns-in_err-write_at-clause-leaves
+returns-in_err-write_at-clause-leaves g c =
+    let start = writes-none g.H.Host.now g.H.Host.may g.H.Host.clock g.H.Host.since g.H.Host.said c.args.file c.args.host.now (λ t u m. g.met.H.Host.sinks _ t u m) (λ m. g.met.H.Host.only_now _ m) in
+    writes-more g.H.Host.now g.H.Host.may g.H.Host.clock g.H.Host.since g.H.Host.said c.args.file c.args.end _ Same (Torn c.args.end 1) _ _ _ start c.write_at.ensures.may c.write_at.ensures.moments c.write_at.ensures.said (λ w told b same. torn-same c.args.end 1 (w c.args.file) b same) (λ w told b x same torn. torn-from c.args.end 1 (w c.args.file) b x same torn)
+
+pub returns-in_err-sync-clause-leaves : goal.returns-in_err-sync-clause-leaves
+returns-in_err-sync-clause-leaves g c =
+    let start = writes-none g.H.Host.now g.H.Host.may g.H.Host.clock g.H.Host.since g.H.Host.said c.args.file c.args.host.now (λ t u m. g.met.H.Host.sinks _ t u m) (λ m. g.met.H.Host.only_now _ m) in
+    let written = writes-more g.H.Host.now g.H.Host.may g.H.Host.clock g.H.Host.since g.H.Host.said c.args.file c.args.end _ Same (Torn c.args.end 1) _ _ _ start c.write_at.ensures.may c.write_at.ensures.moments c.write_at.ensures.said (λ w told b same. torn-same c.args.end 1 (w c.args.file) b same) (λ w told b x same torn. torn-from c.args.end 1 (w c.args.file) b x same torn) in
+    writes-sync g.H.Host.now g.H.Host.may g.H.Host.clock g.H.Host.since g.H.Host.said c.args.file (Torn c.args.end 1) _ _ _ written c.sync.ensures.may c.sync.ensures.moments c.sync.ensures.said
+
+pub returns-clause-leaves : goal.returns-clause-leaves
+returns-clause-leaves g c =
+    let start = writes-none g.H.Host.now g.H.Host.may g.H.Host.clock g.H.Host.since g.H.Host.said c.args.file c.args.host.now (λ t u m. g.met.H.Host.sinks _ t u m) (λ m. g.met.H.Host.only_now _ m) in
+    let written = writes-more g.H.Host.now g.H.Host.may g.H.Host.clock g.H.Host.since g.H.Host.said c.args.file c.args.end _ Same (Torn c.args.end 1) _ _ _ start c.write_at.ensures.may c.write_at.ensures.moments c.write_at.ensures.said (λ w told b same. torn-same c.args.end 1 (w c.args.file) b same) (λ w told b x same torn. torn-from c.args.end 1 (w c.args.file) b x same torn) in
+    writes-sync g.H.Host.now g.H.Host.may g.H.Host.clock g.H.Host.since g.H.Host.said c.args.file (Torn c.args.end 1) _ _ _ written c.sync.ensures.may c.sync.ensures.moments c.sync.ensures.said

@@ -1,0 +1,6 @@
+pub mod Calls
+pub mod FrameList
+pub mod Frames
+pub mod LogState
+pub mod Looks
+pub mod Steps

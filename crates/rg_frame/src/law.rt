@@ -1,0 +1,22 @@
+ghost use Rattle.std.specs.Prelude.{◌≡◌, ◌<◌, ◌^◌, ℕ, List, Ok, Err, Some, None, length};
+ghost use Rattle.rg_frame.specs.FrameList.{frame_list, payloads_in};
+ghost use Rattle.rg_frame.specs.Frames.{HasPayloads, IsDamaged, payload_at};
+ghost use Rattle.rg_frame.specs.Looks.{HoldsFrame, IsClosed, IsTorn};
+
+/// A file has one frame list, which is what `frame_list` reads, or that list is undefined at one
+/// place, which it tells.
+pub fn law_frames()
+    ensures listed { (payloads : List (List ℕ)) (bytes : List ℕ) → HasPayloads payloads bytes → frame_list bytes ≡ Ok payloads }
+    ensures defined { (payloads : List (List ℕ)) (bytes : List ℕ) → HasPayloads payloads bytes → payloads_in bytes ≡ Some payloads }
+    ensures unique { (a b : List (List ℕ)) (bytes : List ℕ) → HasPayloads a bytes → HasPayloads b bytes → a ≡ b }
+    ensures undefined { (place : ℕ) (bytes : List ℕ) → IsDamaged place bytes → frame_list bytes ≡ Err place }
+{}
+
+/// At each place of a file at most one of three things stands: a whole frame, of one payload, no
+/// open gate, or an open gate without a whole frame. So the answers of a reading exclude each other.
+pub fn law_places()
+    ensures whole { (place : ℕ) (payload bytes : List ℕ) → HoldsFrame place payload bytes → length payload < 2 ^ 64 → payload_at place bytes ≡ Some payload }
+    ensures closed { (place : ℕ) (bytes : List ℕ) → IsClosed place bytes → payload_at place bytes ≡ None }
+    ensures torn { (place : ℕ) (bytes : List ℕ) → IsTorn place bytes → payload_at place bytes ≡ None }
+    ensures apart { (place : ℕ) (bytes : List ℕ) → IsClosed place bytes → ¬ IsTorn place bytes }
+{}

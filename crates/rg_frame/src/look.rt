@@ -1,0 +1,95 @@
+ghost use Rattle.std.specs.Prelude.{◌≡◌, ◌⊎◌, ◌≤◌, ◌<◌, ◌+◌, ◌^◌, ℕ, length, OnErr, IfOk, IfErr, IfSome, IfNone, IsErrOf};
+ghost use Rattle.std.specs.Option.{ForSome};
+ghost use Rattle.std.specs.Int.{to_be_bytes, from_be_bytes, w64};
+ghost use Rattle.rg_bytes.specs.Counts.{Rose};
+ghost use Rattle.rg_host.specs.Moments.{LeavesAll};
+ghost use Rattle.rg_frame.specs.Looks.{IsRead, HoldsSize, IsClosed, IsTorn};
+
+use crate::fault::FrameFault;
+use rg_host::{Failed, Host};
+
+/// Fills `buf` with the bytes of a file from a place on, as far as the file has any, and answers
+/// how many. After `Failed` nothing is said of what stands in `buf`.
+pub fn read_full<H: Host>(host: &mut H, file: u32, at: u64, buf: &mut [u8]) -> Result<usize, Failed>
+    requires file { file < 8 }
+    requires small { at + length buf.old < 2 ^ 64 }
+    ensures size { length buf.new ≡ length buf.old }
+    ensures count { IfOk result (λ n. n ≤ length buf.new) }
+    ensures bytes { IfOk result (λ n. ForSome (H.now host.old) (λ v. IsRead at n buf.new (v file))) }
+    ensures leaves { LeavesAll H.now H.may H.clock H.since H.said host.old host.new }
+    ensures cause { OnErr result (Rose (H.disk_faults host.old) (H.disk_faults host.new)) }
+    ensures disk_faults { H.disk_faults host.old ≤ H.disk_faults host.new }
+    ensures out_faults { H.out_faults host.new ≡ H.out_faults host.old }
+    ensures reads { 0 < length buf.old → Rose (H.reads host.old) (H.reads host.new) }
+    ensures reads_kept { H.reads host.old ≤ H.reads host.new }
+{
+    let mut done = 0;
+    while done < buf.len() {
+        let n = host.read_at(file, at + done as u64, &mut buf[done..])?;
+        if n == 0 {
+            return Ok(done);
+        }
+        done += n;
+    }
+    Ok(done)
+}
+
+/// The number that these eight bytes spell.
+fn number_of(bytes: &[u8]) -> u64
+    requires { length bytes.now ≡ 8 }
+    ensures value { result ≡ from_be_bytes w64 bytes.now }
+    ensures spelled { to_be_bytes w64 result ≡ bytes.now }
+{
+    u64::from_be_bytes([
+        bytes[0], bytes[1], bytes[2], bytes[3], bytes[4], bytes[5], bytes[6], bytes[7],
+    ])
+}
+
+/// How many bytes the payload of the open frame at a place has, and None where the gate there is
+/// not open.
+pub fn look<H: Host>(host: &mut H, file: u32, place: u64) -> Result<Option<u64>, FrameFault>
+    requires file { file < 8 }
+    ensures some { IfOk result (λ r. IfSome r (λ size. ForSome (H.now host.old) (λ v. HoldsSize place size (v file)))) }
+    ensures fits { IfOk result (λ r. IfSome r (λ size. place + size + 10 ≤ 2 ^ 62)) }
+    ensures none { IfOk result (λ r. IfNone r (ForSome (H.now host.old) (λ v. IsClosed place (v file)))) }
+    ensures damaged { (p : ℕ) → IsErrOf result (FrameFault.Damaged p) → (p ≡ place) × ForSome (H.now host.old) (λ v. IsTorn place (v file)) }
+    ensures disk { IsErrOf result FrameFault.Disk → Rose (H.disk_faults host.old) (H.disk_faults host.new) }
+    ensures faults { IfErr result (λ fault. (fault ≡ FrameFault.Disk) ⊎ (fault ≡ FrameFault.Damaged place)) }
+    ensures leaves { LeavesAll H.now H.may H.clock H.since H.said host.old host.new }
+    ensures disk_faults { H.disk_faults host.old ≤ H.disk_faults host.new }
+    ensures out_faults { H.out_faults host.new ≡ H.out_faults host.old }
+    ensures reads { IfOk result (λ r. IfSome r (λ _. Rose (H.reads host.old) (H.reads host.new))) }
+    ensures reads_kept { H.reads host.old ≤ H.reads host.new }
+{
+    let len = match host.len(file) {
+        Ok(len) => len,
+        Err(_) => return Err(FrameFault::Disk),
+    };
+    if len <= 1 {
+        return Ok(None);
+    }
+    if place >= len {
+        return Ok(None);
+    }
+    let mut gate = [0u8; 1];
+    match read_full(host, file, place, &mut gate) {
+        Ok(_) => {}
+        Err(_) => return Err(FrameFault::Disk),
+    }
+    if gate[0] != 1 {
+        return Ok(None);
+    }
+    if len - place < 10 {
+        return Err(FrameFault::Damaged(place));
+    }
+    let mut length = [0u8; 8];
+    match read_full(host, file, place + 1, &mut length) {
+        Ok(_) => {}
+        Err(_) => return Err(FrameFault::Disk),
+    }
+    let size = number_of(&length);
+    if size > len - place - 10 {
+        return Err(FrameFault::Damaged(place));
+    }
+    Ok(Some(size))
+}

@@ -1,9 +1,14 @@
 -- The files of an image, in a list of buffers.
-use Rattle.std.proofs.Common.{◌≡◌, ◌≢◌, ℕ, zero, suc, ◌-◌, ◌<◌, List, [], ◌∷◌, ◌++◌, length, map, replicate, Vec, refl, sym, ◌∙◌, ap, arith, append_assoc, length-append}
+use Rattle.std.proofs.Common.{◌≡◌, ◌≢◌, inl, inr, ℕ, zero, suc, ◌-◌, ◌<◌, ◌≤◌, get_or, subst, List, [], ◌∷◌, ◌++◌, length, map, replicate, Vec, refl, sym, ◌∙◌, ap, arith, append_assoc, length-append}
 use Rattle.std.proofs.Math.ListN.{set}
 use Rattle.std.proofs.lemmas.List.{set-append_left, map-set, map-append, length-map, length-set}
 use Rattle.std.specs.declared.alloc.Global.{Global}
-use Rattle.rg_host.specs.Files.{eight, files_of, image_of}
+use Rattle.std.proofs.lemmas.Bool.{cases_eq}
+use Rattle.std.proofs.lemmas.Bool.Decides.{nat_tests}
+use Rattle.rg_host.specs.Image.{Image}
+use Rattle.rg_host.specs.Effects.{with_file}
+use Rattle.rg_host.specs.EffectLaws.{with_file-there, with_file-elsewhere}
+use Rattle.rg_host.specs.Files.{eight, files_of, image_of, bytes_at}
 
 image_of-set : (files : List (List ℕ)) (file : ℕ) (bytes : List ℕ) → file < length files → image_of (set files file bytes) file ≡ bytes
 image_of-set [] file bytes below = absurd (omega arith)
@@ -55,3 +60,54 @@ pub set_elsewhere : (buffers : List (Vec ℕ Global)) (file : ℕ) (buffer : Vec
 set_elsewhere buffers file buffer other below differs =
     ap (λ (l : List (List ℕ)). image_of l other) (files_of-set buffers file buffer below)
     ∙ image_of-set_other (files_of buffers) file buffer.items other differs
+
+-- The image that buffers hold.
+
+pub bytes_at-get : (files : List (Vec ℕ Global)) (i : ℕ) (default : Vec ℕ Global) → i < length files → bytes_at files i ≡ (get_or files i default).items
+bytes_at-get [] i default below = absurd (omega arith)
+bytes_at-get (buffer ∷ files) zero default below = refl
+bytes_at-get (buffer ∷ files) (suc i) default below = bytes_at-get files i default (omega arith)
+
+pub bytes_at-set : (files : List (Vec ℕ Global)) (i : ℕ) (buffer : Vec ℕ Global) → i < length files → (file : ℕ) → bytes_at (set files i buffer) file ≡ with_file i buffer.items (bytes_at files) file
+bytes_at-set [] i buffer below file = absurd (omega arith)
+bytes_at-set (first ∷ files) zero buffer below zero = refl
+bytes_at-set (first ∷ files) zero buffer below (suc file) = grind (arith, nat_tests)
+bytes_at-set (first ∷ files) (suc i) buffer below zero = grind (arith, nat_tests)
+bytes_at-set (first ∷ files) (suc i) buffer below (suc file) = bytes_at-set files i buffer (omega arith) file ∙ grind (arith, nat_tests)
+
+bytes_at-push : (files : List (Vec ℕ Global)) (buffer : Vec ℕ Global) (file : ℕ) → bytes_at (files ++ buffer ∷ []) file ≡ with_file (length files) buffer.items (bytes_at files) file
+bytes_at-push [] buffer zero = refl
+bytes_at-push [] buffer (suc file) = grind (arith, nat_tests)
+bytes_at-push (first ∷ files) buffer zero = grind (arith, nat_tests)
+bytes_at-push (first ∷ files) buffer (suc file) = bytes_at-push files buffer file ∙ grind (arith, nat_tests)
+
+pub bytes_at-beyond : (files : List (Vec ℕ Global)) (file : ℕ) → length files ≤ file → bytes_at files file ≡ []
+bytes_at-beyond [] file beyond = refl
+bytes_at-beyond (buffer ∷ files) zero beyond = absurd (omega arith)
+bytes_at-beyond (buffer ∷ files) (suc file) beyond = bytes_at-beyond files file (omega arith)
+
+pub each_push : (P : List ℕ → Type 0) (files : List (Vec ℕ Global)) (buffer : Vec ℕ Global) (file : ℕ) → (file ≡ length files → P buffer.items) → (file ≢ length files → P (bytes_at files file)) → P (bytes_at (files ++ buffer ∷ []) file)
+each_push P files buffer file there elsewhere = subst P (sym (bytes_at-push files buffer file)) (elim (cases_eq file (length files)) [
+  | inl here ↦ subst P (sym (ap (λ (f : ℕ). with_file (length files) buffer.items (bytes_at files) f) here ∙ with_file-there (length files) buffer.items (bytes_at files))) (there here)
+  | inr other ↦ subst P (sym (with_file-elsewhere (length files) buffer.items (bytes_at files) file other)) (elsewhere other)
+])
+
+pub with_same : (file : ℕ) (bytes : List ℕ) (image : Image) (other : ℕ) → bytes ≡ image file → with_file file bytes image other ≡ image other
+with_same file bytes image other same = elim (cases_eq other file) [
+  | inl here ↦ ap (λ (f : ℕ). with_file file bytes image f) here ∙ with_file-there file bytes image ∙ same ∙ ap image (sym here)
+  | inr differs ↦ with_file-elsewhere file bytes image other differs
+]
+
+image_of-missing : (n file : ℕ) → image_of (replicate n []) file ≡ []
+image_of-missing zero file = refl
+image_of-missing (suc n) zero = refl
+image_of-missing (suc n) (suc file) = image_of-missing n file
+
+image_of-buffers : (files : List (Vec ℕ Global)) (n file : ℕ) → image_of (map (λ (b : Vec ℕ Global). b.items) files ++ replicate n []) file ≡ bytes_at files file
+image_of-buffers [] n file = image_of-missing n file
+image_of-buffers (buffer ∷ files) n zero = refl
+image_of-buffers (buffer ∷ files) n (suc file) = image_of-buffers files n file
+
+-- it is the image of the files that they hold
+pub image_of-files_of : (files : List (Vec ℕ Global)) (file : ℕ) → image_of (files_of files) file ≡ bytes_at files file
+image_of-files_of files file = image_of-buffers files (8 - length (map (λ (b : Vec ℕ Global). b.items) files)) file

@@ -1,11 +1,15 @@
 pub mod Asking
+pub mod FileLists
 pub mod Filling
 pub mod Finds
-pub mod FileLists
+pub mod Kept
+pub mod LedgerMoments
 pub mod LineLaws
 pub mod Nexts
+pub mod PickLaws
 pub mod PutRuns
 pub mod Ranges
+pub mod Results
 pub mod Runs
 pub mod Taking
 pub mod Told

@@ -16,3 +16,9 @@ abbrev pub image_of : List (List ℕ) → Image
 image_of [] file = []
 image_of (bytes ∷ files) zero = bytes
 image_of (bytes ∷ files) (suc file) = image_of files file
+
+-- the image that these buffers hold
+abbrev pub bytes_at : List (Vec ℕ Global) → Image
+bytes_at [] file = []
+bytes_at (buffer ∷ buffers) zero = buffer.items
+bytes_at (buffer ∷ buffers) (suc file) = bytes_at buffers file

@@ -1,10 +1,16 @@
 pub mod Buffered
 pub mod CallCounts
+pub mod CallTrace
+pub mod EffectLaws
+pub mod Effects
 pub mod Files
+pub mod Fused
 pub mod Image
 pub mod Lines
+pub mod MemHost
 pub mod MemSource
 pub mod Moments
+pub mod Picks
 pub mod Puts
 pub mod Reading
 pub mod Scan

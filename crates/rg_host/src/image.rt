@@ -45,6 +45,22 @@ impl Image {
         self.files[file as usize] = bytes;
         Ok(())
     }
+
+    /// An image of these files.
+    pub(crate) fn of_files(alloc: Global, files: Vec<Vec<u8>>) -> Image
+        requires { length files.items ≤ 8 }
+        ensures { result ≡ files_of files.items }
+    {
+        Image { alloc, files }
+    }
+
+    /// The files, up to the last one that was set.
+    pub(crate) fn into_files(self) -> Vec<Vec<u8>>
+        ensures files { files_of result.items ≡ self }
+        ensures few { length result.items ≤ 8 }
+    {
+        self.files
+    }
 }
 
 /// Adds files without bytes, up to that one.

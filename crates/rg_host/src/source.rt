@@ -69,8 +69,10 @@ pub fn read_all<S: Source>(alloc: Global, src: &mut S, max: usize) -> Result<Vec
     ensures end { OnOk result (IsAtEnd (S.left src.new)) }
     ensures within { IfOk result (λ all. length all.items ≤ max) }
 
-    // Whatever the answer, some bytes were taken; before `Limit`, more than `max`.
-    ensures taken { (got : List ℕ) × (S.left src.old ≡ before got (S.left src.new)) }
+    // Whatever the answer, at most one byte past `max` was taken, and that one only at `Limit`.
+    ensures taken { (got : List ℕ) × (S.left src.old ≡ before got (S.left src.new)) × (length got ≤ max + 1) }
+    ensures taken_within { ¬ IsErrOf result AllFault.Limit
+        → (got : List ℕ) × (S.left src.old ≡ before got (S.left src.new)) × (length got ≤ max) }
     ensures limit { IsErrOf result AllFault.Limit
         → (got : List ℕ) × (S.left src.old ≡ before got (S.left src.new)) × (length got ≡ max + 1) }
     ensures read { IsErrOf result AllFault.Read → Rose (S.faults src.old) (S.faults src.new) }

@@ -18,6 +18,7 @@ use Rattle.rg_window.specs.Placed.{Placed, IsSpelledAt, numbers_of}
 use Rattle.rg_engine.specs.declared.part.FilterPart.{FilterPart}
 use Rattle.rg_engine.specs.Answering.{node_answers, nodes_asked}
 use Rattle.rg_engine.specs.Building.{IsBuilt}
+use Rattle.rg_engine.specs.Carrying.{CarriesOn}
 use Rattle.rg_engine.specs.Feeding.{IsFed}
 use Rattle.rg_engine.specs.Parts.{ArePartsOf}
 use Rattle.rg_engine.specs.Standing.{RowIs, IsTold, NodeStands}
@@ -71,6 +72,19 @@ numbers_same plan edges spots parts nodes keys built same = length-map spots (λ
 -- the events in front, and one event more
 pub front_and_more : (events all front more : List Event) (e : Event) → all ≡ events ++ e ∷ [] → events ≡ front ++ more → all ≡ front ++ (more ++ e ∷ [])
 front_and_more events all front more e is f = is ∙ ap (λ xs. xs ++ e ∷ []) f ∙ append_assoc front more (e ∷ [])
+
+-- a node that could be carried on to one event more can be so once that is appended
+pub carried_on : (plan : Planned) (n : ℕ) (is_sound later_sound : Type 0) (Spells Later : Spot → Type 0) (is_told : Type 0) (events new first : List Event) (e : Event) (cells : Cells) (spots : List Spot) → new ≡ events ++ e ∷ [] → (is_sound → later_sound) → (is_sound → (spot : Spot) → Spells spot → Later spot) →
+    CarriesOn plan n is_sound Spells is_told events (events ++ e ∷ []) first cells spots → CarriesOn plan n later_sound Later is_told new new first cells spots
+carried_on plan n is_sound later_sound Spells Later is_told events new first e cells spots is sound later on = record {
+  sound = sound on.sound;
+  spelled = told_later plan n Spells Later spots (later on.sound) on.spelled;
+  tells = on.tells;
+  fed = subst (IsFed plan) (sym is) on.fed;
+  more = on.more ++ e ∷ [];
+  begins = front_and_more events new first on.more e is on.begins;
+  stood = on.stood;
+}
 
 all_last : (P : Event → Type 0) (events : List Event) (e : Event) → All P (events ++ e ∷ []) → P e
 all_last P [] e all = All-head P e [] all

@@ -1,5 +1,5 @@
 -- A session's engine, from one event to the next.
-use Rattle.std.proofs.Common.{◌≡◌, ◌⊎◌, inl, inr, ℕ, zero, suc, ◌<◌, ◌≤◌, Bool, true, false, List, [], ◌∷◌, ◌++◌, length, replicate, slice_get, slice_index_or, Option, Some, None, Err, refl, ap, sym, ◌∙◌, subst, arith}
+use Rattle.std.proofs.Common.{◌≡◌, ◌⊎◌, inl, inr, ℕ, zero, suc, ◌<◌, ◌≤◌, Bool, true, false, List, [], ◌∷◌, ◌++◌, length, replicate, slice_get, slice_index_or, Option, Some, None, refl, ap, sym, ◌∙◌, subst, arith}
 use Rattle.std.proofs.lemmas.List.{append-nil}
 use Rattle.std.proofs.lemmas.List.Elements.{All-replicate}
 use Rattle.std.proofs.lemmas.Option.{slice_get_within}
@@ -16,7 +16,7 @@ use Rattle.rg_window.specs.Placed.{AreWithin, IsSpelledAt, numbers_of}
 use Rattle.rg_past.specs.declared.past.PastFault.TheVariants.{Disk, Damaged, Full, Memory as PastMemory, Ended as PastEnded}
 use Rattle.rg_engine.specs.declared.fault.EngineFault.{EngineFault}
 use Rattle.rg_engine.specs.declared.fault.EngineFault.TheVariants.{Past, BadState, Memory, Ended, Table}
-use Rattle.rg_engine.specs.Carrying.{CarriesOn, ends_by}
+use Rattle.rg_engine.specs.Carrying.{CarriesOn, is_ending}
 use Rattle.rg_engine.specs.Feeding.{IsFed}
 use Rattle.rg_engine.specs.Seen.{Seen}
 use Rattle.rg_engine.specs.Windows.{position}
@@ -136,7 +136,7 @@ true_false : {A : Type 0} → true ≡ false → A
 true_false e = absurd (cc)
 
 -- nor does any refusal but that of a full past
-pub ends_not : {A : Type 0} (fault : EngineFault) (ended : Bool) → IsMemory fault → ended ≡ ends_by {A = A} (Err fault) → ended ≡ false → ⊥
+pub ends_not : (fault : EngineFault) (ended : Bool) → IsMemory fault → ended ≡ is_ending fault → ended ≡ false → ⊥
 ends_not (Past Disk) ended memory is runs = true_false (sym is ∙ runs)
 ends_not (Past (Damaged place)) ended memory is runs = true_false (sym is ∙ runs)
 ends_not (Past Full) ended memory is runs = not_full (Past Full) memory refl

@@ -33,8 +33,12 @@ abbrev pub Appends : {A : Type 0} → List Event → Event → List Event → Re
 Appends old event new (Ok _) = new ≡ old ++ event ∷ []
 Appends old event new (Err _) = (new ≡ old) ⊎ (new ≡ old ++ event ∷ [])
 
--- whether an answer ends the engine: every refusal does, but that of a full past
+-- whether a refusal ends the engine: each does, but that of a full past
+abbrev pub is_ending : EngineFault → Bool
+is_ending (fault.Past past.Full) = false
+is_ending cause = true
+
+-- whether an answer ends it
 abbrev pub ends_by : {A : Type 0} → Result A EngineFault → Bool
 ends_by (Ok _) = false
-ends_by (Err (fault.Past past.Full)) = false
-ends_by (Err _) = true
+ends_by (Err cause) = is_ending cause

@@ -4,7 +4,7 @@ use Rattle.rg_past.specs.declared.past.Spot.{Spot}
 use Rattle.std.proofs.lemmas.Option.{slice_get_within}
 use Rattle.rg_engine.proofs.Places.{place_after}
 use Rattle.rg_engine.proofs.Visits.{chain_keeps, halt_keeps, halt_rose, each_stands, none_stuck, steps_taken}
-use Rattle.std.specs.Prelude.{Ok, Err, IsErrOf}
+use Rattle.std.specs.Prelude.{Ok, IsErrOf}
 use Rattle.rg_past.specs.declared.past.PastFault.{PastFault}
 use Rattle.rg_state.specs.declared.table.TableFault.{TableFault}
 use Rattle.rg_window.specs.declared.edges.MoveFault.{MoveFault}

@@ -2,11 +2,25 @@ use Rattle.std.proofs.Common.{length, refl, ap, sym, subst, ◌∙◌}
 use Rattle.rg_window.specs.Placed.{numbers_of}
 use Rattle.rg_engine.specs.Standing.{IsAtPosition}
 use Rattle.rg_engine.proofs.Passed.{steps_passed}
-use Rattle.rg_engine.proofs.Taken.{spelled_at, numbers_same, built_on}
+use Rattle.rg_engine.proofs.Taken.{spelled_at, numbers_same, stands_events}
 use Rattle.rg_engine.proofs.engine.Engine.replay.Goals as goal
 
-pub returns-in-Ok-clause-passed : goal.returns-in-Ok-clause-passed
-returns-in-Ok-clause-passed g c = rw (← c.self.view_is) (λ front more sound all is last placed.
+pub returns-in-Err-clause-bad : goal.returns-in-Err-clause-bad
+returns-in-Err-clause-bad g c = rw (← c.self.view_is) (λ n first bad on. c.in-Err.ensures.bad n first bad on)
+
+pub returns-clause-stands : goal.returns-clause-stands
+returns-clause-stands g c = rw (← c.self.view_is) (λ n first last on.
+    let moved = c.in-Ok.ensures in
+    stands_events c.self.inside.plan n _ _ _ _ moved.events (moved.stands n first last on))
+
+pub returns-clause-places : goal.returns-clause-places
+returns-clause-places g c = rw (← c.self.view_is) (λ edge offset front more sound spelled is last is_offset stood.
+    let moved = c.in-Ok.ensures in
+    subst (λ events. IsAtPosition events (numbers_of c.move_rows.new.edges.spots) edge offset) (sym moved.events)
+    (moved.places edge offset front more sound spelled is last is_offset stood))
+
+pub returns-clause-passed : goal.returns-clause-passed
+returns-clause-passed g c = rw (← c.self.view_is) (λ front more sound all is last placed.
     let plan = c.self.inside.plan in
     let edges = c.self.inside.edges in
     let built = c.self.invariant in

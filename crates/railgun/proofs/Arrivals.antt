@@ -17,7 +17,7 @@ use Rattle.rg_event.specs.declared.value.Value.TheVariants.{Id as IdValue, Flag 
 use Rattle.rg_event.specs.declared.schema.Field.{Field}
 use Rattle.rg_event.specs.declared.value.Value.{Value}
 use Rattle.rg_event.specs.declared.event.Event.{Event}
-use Rattle.rg_past.specs.Order.{next_offset}
+use Rattle.rg_event.specs.Rising.{next_offset}
 use Rattle.rg_engine.specs.declared.reply.Reply.{Reply}
 use Rattle.rg_engine.specs.declared.reply.Reply.TheVariants.{Late, Full, Head}
 use Rattle.rg_plan.specs.Plans.{plan_for}

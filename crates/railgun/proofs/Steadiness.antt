@@ -5,7 +5,7 @@ use Rattle.std.proofs.lemmas.List.Elements.{All-replicate}
 use Rattle.std.proofs.lemmas.Option.{slice_get_within}
 use Rattle.rg_event.specs.declared.event.Event.{Event}
 use Rattle.rg_past.specs.Listed.{Listed, IsSound, Spells}
-use Rattle.rg_past.specs.Order.{last_time}
+use Rattle.rg_event.specs.Rising.{last_time}
 use Rattle.rg_past.specs.declared.past.Spot.{Spot}
 use Rattle.rg_plan.specs.Named.{Node, node_at, asked_by}
 use Rattle.rg_plan.specs.Plans.{Planned, plan_for}

@@ -3,7 +3,7 @@ use Rattle.std.specs.Prelude.{◌≡◌, ℕ, ◌≤◌, List, [], ◌∷◌, �
 use Rattle.rg_event.specs.Codec.{IsEventOf}
 use Rattle.rg_event.specs.declared.event.Event.{Event}
 use Rattle.rg_past.specs.Ranges.{IsInRange}
-use Rattle.rg_past.specs.Order.{next_offset}
+use Rattle.rg_event.specs.Rising.{next_offset}
 use Rattle.rg_engine.specs.declared.reply.Reply.{Reply}
 use Rattle.rg_metric.specs.Queries.{Asked}
 use Rattle.rg_plan.specs.Plans.{plan_for}

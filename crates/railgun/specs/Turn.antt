@@ -5,7 +5,7 @@ use Rattle.rg_event.specs.declared.event.Event.{Event}
 use Rattle.rg_host.specs.Lines.{lines_of, HasNoLf}
 use Rattle.rg_host.specs.Puts.{IsFront}
 use Rattle.rg_host.specs.Reading.{Reading}
-use Rattle.rg_past.specs.Order.{next_offset}
+use Rattle.rg_event.specs.Rising.{next_offset}
 use Rattle.rg_reply.specs.Texts.{reply_line, mark_line}
 use Rattle.rg_reply.specs.declared.mark.Mark.TheVariants.{Finished}
 use Rattle.rg_config.specs.Plans.{Planned}

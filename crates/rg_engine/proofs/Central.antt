@@ -2,7 +2,7 @@
 use Rattle.std.proofs.Common.{◌≡◌, ℕ, ◌≤◌, ◌<◌, List, ◌∷◌, ◌++◌, length}
 use Rattle.rg_event.specs.declared.event.Event.{Event}
 use Rattle.rg_event.specs.declared.value.Value.{Value}
-use Rattle.rg_past.specs.Order.{last_time}
+use Rattle.rg_event.specs.Rising.{last_time}
 use Rattle.rg_plan.specs.Named.{Node}
 use Rattle.rg_window.specs.Passing.{at_edge, edge_by_edge}
 use Rattle.rg_engine.specs.Windows.{node_values}

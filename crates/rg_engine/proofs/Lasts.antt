@@ -2,7 +2,7 @@
 use Rattle.std.proofs.Common.{◌≡◌, ◌+◌, ◌-◌, ◌∙◌, Bool, true, false, ℕ, zero, suc, List, [], ◌∷◌, length, get_or, refl, sym, arith}
 use Rattle.std.specs.Prelude.{◌==◌}
 use Rattle.rg_event.specs.declared.event.Event.{Event}
-use Rattle.rg_past.specs.Order.{next_offset, last_time}
+use Rattle.rg_event.specs.Rising.{next_offset, last_time}
 
 -- the offset behind it, and its time
 pub last_at : (events : List Event) (i : ℕ) (d : Event) → i + 1 ≡ length events → (next_offset events ≡ (get_or events i d).offset + 1) × (last_time events ≡ (get_or events i d).time)

@@ -6,7 +6,7 @@ use Rattle.std.proofs.lemmas.Option.{slice_get-get_or}
 use Rattle.rg_event.specs.Codec.{IsEventOf}
 use Rattle.rg_event.specs.declared.event.Event.{Event}
 use Rattle.rg_metric.specs.declared.query.Window.{Window}
-use Rattle.rg_past.specs.Order.{last_time, IsRising}
+use Rattle.rg_event.specs.Rising.{last_time, IsRising}
 use Rattle.rg_agg.specs.Held.{Held}
 use Rattle.rg_plan.specs.Named.{Node, node_at}
 use Rattle.rg_plan.specs.Plans.{Planned}

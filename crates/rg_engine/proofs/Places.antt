@@ -3,7 +3,7 @@ use Rattle.std.proofs.Common.{◌≡◌, ℕ, ◌≤◌, ◌+◌, List, [], ◌�
 use Rattle.std.specs.Prelude.{slice_get}
 use Rattle.std.proofs.lemmas.Option.{get_or_from_slice_get}
 use Rattle.rg_event.specs.declared.event.Event.{Event}
-use Rattle.rg_past.specs.Order.{last_time, IsRising}
+use Rattle.rg_event.specs.Rising.{last_time, IsRising}
 use Rattle.rg_window.specs.Passing.{passing, passed, Reaches}
 use Rattle.rg_engine.specs.Windows.{position}
 use Rattle.rg_engine.specs.Standing.{IsAtPosition}

@@ -4,7 +4,7 @@ use Rattle.std.specs.Prelude.{⊤}
 use Rattle.std.proofs.lemmas.Bool.{le-leb, leb-true}
 use Rattle.std.proofs.lemmas.List.{append-nil}
 use Rattle.rg_event.specs.declared.event.Event.{Event}
-use Rattle.rg_past.specs.Order.{last_time, IsRising}
+use Rattle.rg_event.specs.Rising.{last_time, IsRising}
 use Rattle.rg_window.specs.Passing.{has_come, passing, passed}
 use Rattle.rg_engine.specs.Windows.{position}
 use Rattle.rg_engine.proofs.Plain.{is_false}

@@ -6,7 +6,7 @@ use Rattle.std.proofs.lemmas.Option.{slice_get-get_or, slice_get_within}
 use Rattle.rg_event.specs.Codec.{IsEventOf}
 use Rattle.rg_event.specs.declared.event.Event.{Event}
 use Rattle.rg_past.specs.declared.past.Spot.{Spot}
-use Rattle.rg_past.specs.Order.{last_time}
+use Rattle.rg_event.specs.Rising.{last_time}
 use Rattle.rg_metric.specs.declared.answer.Answer.{Answer}
 use Rattle.rg_metric.specs.Queries.{Asked}
 use Rattle.rg_metric.specs.Replies.{answers_to}

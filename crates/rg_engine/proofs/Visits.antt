@@ -4,7 +4,7 @@ use Rattle.std.specs.Prelude.{Result, Ok, slice_get, slice_index_or}
 use Rattle.std.proofs.lemmas.Option.{slice_get_within}
 use Rattle.rg_bytes.specs.Counts.{Rose}
 use Rattle.rg_event.specs.declared.event.Event.{Event}
-use Rattle.rg_past.specs.Order.{last_time, IsRising}
+use Rattle.rg_event.specs.Rising.{last_time, IsRising}
 use Rattle.rg_plan.specs.Named.{Node, node_at}
 use Rattle.rg_plan.specs.Plans.{Planned}
 use Rattle.rg_plan.specs.Whole.{IsWhole}

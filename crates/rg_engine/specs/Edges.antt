@@ -5,7 +5,7 @@ use Rattle.rg_event.specs.Tagged.{value_kind}
 use Rattle.rg_event.specs.declared.event.Event.{Event}
 use Rattle.rg_event.specs.declared.value.Kind.{Kind}
 use Rattle.rg_event.specs.declared.value.Value.{Value}
-use Rattle.rg_past.specs.Order.{last_time, IsRising}
+use Rattle.rg_event.specs.Rising.{last_time, IsRising}
 use Rattle.rg_plan.specs.Named.{Node}
 use Rattle.rg_plan.specs.Offsets.{AreRising}
 use Rattle.rg_window.specs.Chain.{visited_at, passed_at}

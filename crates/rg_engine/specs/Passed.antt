@@ -2,7 +2,7 @@
 use Rattle.std.specs.Prelude.{◌≡◌, ℕ, ◌-◌, List, Option, Some, None, slice_get, sum_by, if◌then◌else◌}
 use Rattle.rg_event.specs.declared.event.Event.{Event}
 use Rattle.rg_metric.specs.declared.query.Window.{Window}
-use Rattle.rg_past.specs.Order.{last_time}
+use Rattle.rg_event.specs.Rising.{last_time}
 use Rattle.rg_plan.specs.Nodes.{Filtered}
 use Rattle.rg_plan.specs.Plans.{Planned}
 use Rattle.rg_engine.specs.Windows.{position}

@@ -3,7 +3,7 @@ use Rattle.std.specs.Prelude.{◌≡◌, ℕ, ◌+◌, ◌==◌, ◌||◌, Bool,
 use Rattle.rg_event.specs.declared.event.Event.{Event}
 use Rattle.rg_metric.specs.declared.query.Window.{Window}
 use Rattle.rg_past.specs.declared.past.Spot.{Spot}
-use Rattle.rg_past.specs.Order.{last_time}
+use Rattle.rg_event.specs.Rising.{last_time}
 use Rattle.rg_agg.specs.Held.{Held}
 use Rattle.rg_plan.specs.Named.{Node, node_at}
 use Rattle.rg_plan.specs.Nodes.{Filtered}

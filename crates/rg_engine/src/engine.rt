@@ -6,7 +6,7 @@ ghost use Rattle.rg_event.specs.declared.event.Event.{Event};
 ghost use Rattle.rg_metric.specs.Queries.{Asked};
 ghost use Rattle.rg_metric.specs.Replies.{answers_to};
 ghost use Rattle.rg_past.specs.Keeping.{Kept, HasCause};
-ghost use Rattle.rg_past.specs.Order.{MayFollow, last_time};
+ghost use Rattle.rg_event.specs.Rising.{MayFollow, last_time};
 ghost use Rattle.rg_plan.specs.Plans.{plan_for};
 ghost use Rattle.rg_state.specs.Keeping.{TableKept};
 ghost use Rattle.rg_window.specs.Placed.{AreWithin, IsSpelledAt, numbers_of};

@@ -2,7 +2,7 @@
 use Rattle.std.proofs.Common.{◌≡◌, ℕ, ◌<◌, List, [], ◌∷◌, ◌++◌, length, ap, arith, length-append}
 use Rattle.rg_event.specs.declared.event.Event.{Event}
 use Rattle.rg_past.specs.Listed.{Listed, IsSound}
-use Rattle.rg_past.specs.Order.{IsRising, MayFollow}
+use Rattle.rg_event.specs.Rising.{IsRising, MayFollow}
 
 -- an event that may follow rising events makes them go on rising
 pub IsRising-append : (events : List Event) (event : Event) → IsRising events → MayFollow events event → IsRising (events ++ event ∷ [])

@@ -1,6 +1,5 @@
 pub mod Keeping
 pub mod Listed
 pub mod ListedLaws
-pub mod Order
 pub mod Peek
 pub mod Ranges

@@ -2,7 +2,7 @@
 use Rattle.std.specs.Prelude.{◌≡◌, ℕ, ◌≤◌, ◌^◌, List, ◌++◌, length}
 use Rattle.rg_event.specs.declared.event.Event.{Event}
 use Rattle.rg_past.specs.declared.past.Spot.{Spot}
-use Rattle.rg_past.specs.Order.{IsRising}
+use Rattle.rg_event.specs.Rising.{IsRising}
 
 -- its events, the first one first, and how many there may be
 pub record Listed : Type 0 where

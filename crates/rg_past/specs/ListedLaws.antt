@@ -4,7 +4,7 @@ use Rattle.std.proofs.Common.{sym, ◌∙◌, ap, arith, length-append, append_a
 use Rattle.std.proofs.lemmas.List.{append-nil}
 use Rattle.rg_past.specs.declared.past.Spot.{Spot}
 use Rattle.rg_past.specs.Listed.{Listed, IsSound, Spells, Goes}
-use Rattle.rg_past.specs.Order.{IsRising}
+use Rattle.rg_event.specs.Rising.{IsRising}
 
 pub Goes-same : (past : Listed) → Goes past past
 Goes-same past = record { events = ([], sym (append-nil past.events)); limit = refl }

@@ -4,7 +4,7 @@ ghost use Rattle.std.specs.Io.BufRead.{Rests};
 ghost use Rattle.rg_bytes.specs.Counts.{Rose};
 ghost use Rattle.rg_event.specs.declared.event.Event.{Event};
 ghost use Rattle.rg_past.specs.declared.past.Spot.{Spot};
-ghost use Rattle.rg_past.specs.Order.{IsRising, MayFollow};
+ghost use Rattle.rg_event.specs.Rising.{IsRising, MayFollow};
 ghost use Rattle.rg_past.specs.Peek.{IsWithin, Shows};
 ghost use Rattle.rg_past.specs.Ranges.{IsInRange};
 

@@ -1,6 +1,6 @@
 ghost use Rattle.std.specs.Prelude.{◌≡◌, ◌<◌, ◌≤◌, ◌^◌, [], length, All, IsTrue};
 ghost use Rattle.rg_past.specs.Ranges.{IsInRange};
-ghost use Rattle.rg_past.specs.Order.{MayFollow};
+ghost use Rattle.rg_event.specs.Rising.{MayFollow};
 ghost use Rattle.rg_window.specs.Placed.{AreWithin};
 
 use crate::engine::Engine;

@@ -1,5 +1,5 @@
 ghost use Rattle.std.specs.Prelude.{◌≡◌, ◌≤◌, ◌<◌, ◌^◌, [], ◌∷◌, ◌++◌, length, OnOk};
-ghost use Rattle.rg_past.specs.Order.{MayFollow};
+ghost use Rattle.rg_event.specs.Rising.{MayFollow};
 
 use super::VecPast;
 use crate::past::{Past, PastFault, Spot};

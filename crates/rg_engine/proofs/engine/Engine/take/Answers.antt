@@ -1,6 +1,6 @@
 use Rattle.std.proofs.Common.{◌<◌, ◌∙◌, ◌++◌, ◌∷◌, [], ℕ, List, All, length, refl, ap, sym, subst}
 use Rattle.std.specs.Prelude.{Err}
-use Rattle.rg_past.specs.Order.{last_time}
+use Rattle.rg_event.specs.Rising.{last_time}
 use Rattle.rg_plan.specs.declared.node.GroupNode.{GroupNode}
 use Rattle.rg_engine.specs.Answering.{keys_for, node_answers}
 use Rattle.rg_window.specs.Placed.{numbers_of}

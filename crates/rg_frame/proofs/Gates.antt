@@ -262,3 +262,8 @@ none-written a c holds = none_at c 0 (drop 1 a) (λ e. omega arith) holds
 -- a file without a frame ends at place 0
 pub ends-none : (bytes : List ℕ) → HasPayloads [] bytes → EndsAt 0 bytes
 ends-none bytes has = ([], record { rest = has.frames.1.rest; ends = refl; is = has.frames.1.is; stops = has.frames.1.stops })
+
+-- a file reaches place 0
+pub reaches-start : (bytes : List ℕ) → Reaches 0 bytes
+reaches-start [] = inr (refl, omega arith)
+reaches-start (b ∷ bytes) = inl (omega arith)

@@ -18,5 +18,6 @@ pub fn law_places()
     ensures whole { (place : ℕ) (payload bytes : List ℕ) → HoldsFrame place payload bytes → length payload < 2 ^ 64 → payload_at place bytes ≡ Some payload }
     ensures closed { (place : ℕ) (bytes : List ℕ) → IsClosed place bytes → payload_at place bytes ≡ None }
     ensures torn { (place : ℕ) (bytes : List ℕ) → IsTorn place bytes → payload_at place bytes ≡ None }
+    ensures damaged { (place : ℕ) (bytes : List ℕ) → IsDamaged place bytes → IsTorn place bytes }
     ensures apart { (place : ℕ) (bytes : List ℕ) → IsClosed place bytes → ¬ IsTorn place bytes }
 {}

@@ -1,7 +1,7 @@
-ghost use Rattle.std.specs.Prelude.{◌≡◌, ◌↔◌, ◌≢◌, ◌⊎◌, ◌≤◌, ◌<◌, ◌+◌, ◌^◌, [], ◌∷◌, ◌++◌, ℕ, List, min, length, slice_index, OnOk, OnErr, IfOk, IfErr, IfSome, IfNone, IsErrOf, Err, true, false};
+ghost use Rattle.std.specs.Prelude.{◌≡◌, ◌↔◌, ◌≢◌, ◌⊎◌, ◌≤◌, ◌<◌, ◌+◌, ◌^◌, [], ◌∷◌, ◌++◌, ℕ, List, min, length, slice_index, OnOk, OnErr, IfOk, IfErr, IfSome, IfNone, IsErrOf, Option, Err, true, false};
 ghost use Rattle.std.specs.Option.{ForSome};
 ghost use Rattle.rg_bytes.specs.Counts.{Rose};
-ghost use Rattle.rg_host.specs.Image.{Becomes, InFile, NothingPending};
+ghost use Rattle.rg_host.specs.Image.{Image, Becomes, InFile, NothingPending};
 ghost use Rattle.rg_host.specs.Moments.{LeavesAll};
 ghost use Rattle.rg_frame.specs.Calls.{Writes};
 ghost use Rattle.rg_frame.specs.Frames.{IsLog, Begins, HasPayloads, IsDamaged};
@@ -12,7 +12,7 @@ ghost use Rattle.rg_frame.specs.Steps.{From, Grows, Appended, OldOrNone};
 use crate::fault::FrameFault;
 use crate::look::{look, read_full};
 use crate::write::{add, close};
-use rg_host::Host;
+use rg_host::{Failed, Host};
 use std::marker::Model;
 
 /// A log of frames in one file of a host.
@@ -52,7 +52,8 @@ impl FrameLog {
     /// A log at place 0 of the file of that number, not ready.
     pub fn new(file: u32) -> FrameLog
         requires { file < 8 }
-        ensures { result ≡ record { file = file; end = 0; ready = false; ended = false } }
+        ensures fresh { result ≡ record { file = file; end = 0; ready = false; ended = false } }
+        ensures reaches { (now : Option Image) → ReachesEnd result now }
     {
         FrameLog {
             file,
@@ -196,11 +197,17 @@ impl FrameLog {
                 self.end = place + 9 + payload.len() as u64;
                 Ok(place)
             }
-            Err(_) => {
-                self.ended = true;
-                Err(FrameFault::Disk)
-            }
+            Err(failed) => Err(self.fail(failed)),
         }
+    }
+
+    /// Ends the log after a failed write.
+    fn fail(&mut self, failed: Failed) -> FrameFault
+        ensures ended { self.new ≡ record self.old { ended = true } }
+        ensures fault { result ≡ FrameFault.Disk }
+    {
+        self.ended = true;
+        failed.into()
     }
 
     /// Drops all frames. A closed gate at the head of the file is never written. Whatever call
@@ -235,10 +242,7 @@ impl FrameLog {
                 self.ready = true;
                 Ok(())
             }
-            Err(_) => {
-                self.ended = true;
-                Err(FrameFault::Disk)
-            }
+            Err(failed) => Err(self.fail(failed)),
         }
     }
 }
@@ -253,3 +257,6 @@ fn smaller(room: usize, size: u64) -> usize
         size as usize
     }
 }
+
+#[cfg(test)]
+mod tests;

@@ -61,10 +61,7 @@ pub fn look<H: Host>(host: &mut H, file: u32, place: u64) -> Result<Option<u64>,
     ensures reads { IfOk result (λ r. IfSome r (λ _. Rose (H.reads host.old) (H.reads host.new))) }
     ensures reads_kept { H.reads host.old ≤ H.reads host.new }
 {
-    let len = match host.len(file) {
-        Ok(len) => len,
-        Err(_) => return Err(FrameFault::Disk),
-    };
+    let len = host.len(file)?;
     if len <= 1 {
         return Ok(None);
     }
@@ -72,10 +69,7 @@ pub fn look<H: Host>(host: &mut H, file: u32, place: u64) -> Result<Option<u64>,
         return Ok(None);
     }
     let mut gate = [0u8; 1];
-    match read_full(host, file, place, &mut gate) {
-        Ok(_) => {}
-        Err(_) => return Err(FrameFault::Disk),
-    }
+    read_full(host, file, place, &mut gate)?;
     if gate[0] != 1 {
         return Ok(None);
     }
@@ -83,10 +77,7 @@ pub fn look<H: Host>(host: &mut H, file: u32, place: u64) -> Result<Option<u64>,
         return Err(FrameFault::Damaged(place));
     }
     let mut length = [0u8; 8];
-    match read_full(host, file, place + 1, &mut length) {
-        Ok(_) => {}
-        Err(_) => return Err(FrameFault::Disk),
-    }
+    read_full(host, file, place + 1, &mut length)?;
     let size = number_of(&length);
     if size > len - place - 10 {
         return Err(FrameFault::Damaged(place));

@@ -1,0 +1,3 @@
+pub mod Chunks
+pub mod Faults
+pub mod Heads

@@ -1,0 +1,164 @@
+ghost use Rattle.std.specs.Prelude.{◌≡◌, ◌⊎◌, ◌≤◌, ◌<◌, ◌++◌, [], List, Ok, Err, IfOk, IfSome, All, length, slice_get, option_copied};
+ghost use Rattle.rg_bytes.specs.Reading.{list_bytes, more_at};
+ghost use Rattle.rg_event.specs.Codec.{Agrees as AgreesAt, IsEventOf, event_bytes};
+ghost use Rattle.rg_event.specs.Rising.{IsRising};
+ghost use Rattle.rg_event.specs.declared.event.Event.{Event as TheEvent};
+ghost use Rattle.rg_chunk.specs.Chunks.{Agrees, IsChunk, chunk_at, chunk_bytes, chunk_of, event_from_at, follows, next_event_at};
+
+use crate::fault::ChunkFault;
+use crate::head::{is_head_of, take_head};
+use rg_bytes::{ByteReader, Memory};
+use rg_event::{Event, EventFault, Events, Schema, decode};
+use std::alloc::Global;
+use std::marker::Model;
+
+/// The events of a chunk payload, the first one first. A contract sees it as their list.
+#[derive(Debug, Drop)]
+pub struct Chunk {
+    events: Events,
+}
+
+impl Model for Chunk {
+    ghost use Rattle.std.specs.Prelude.{List, ◌≤◌, length};
+    ghost use Rattle.rg_event.specs.declared.event.Event.{Event as TheEvent};
+
+    ghost Value = { List TheEvent };
+
+    ghost view = { λ c. c.events };
+
+    ghost invariant = { λ c. length c.events ≤ 4096 };
+}
+
+impl Chunk {
+    /// The chunk that a payload says, of events of this schema. `BadChunk` comes exactly where it is no chunk payload.
+    pub fn decode(alloc: Global, schema: &Schema, payload: &[u8]) -> Result<Chunk, ChunkFault>
+        ensures agrees { Agrees (chunk_of schema.now.fields payload.now) result }
+        ensures bytes { IfOk result (λ chunk. payload.now ≡ chunk_bytes chunk) }
+        ensures legal { IfOk result (IsChunk schema.now.fields) }
+        ensures reads_back { (events : List TheEvent) → IsChunk schema.now.fields events → payload.now ≡ chunk_bytes events → (result ≡ Ok events) ⊎ (result ≡ Err ChunkFault.Memory) }
+    {
+        let mut from = ByteReader::new(payload);
+        match take_chunk(alloc, schema, &mut from) {
+            Ok(events) => {
+                if from.left() > 0 {
+                    return Err(ChunkFault::BadChunk);
+                }
+                Ok(Chunk { events })
+            }
+            Err(fault) => Err(ChunkFault::from(fault)),
+        }
+    }
+
+    /// How many events there are, from 1 to 4,096.
+    pub fn count(&self) -> u32
+        ensures count { result ≡ length self.now }
+        ensures few { result ≤ 4096 }
+    {
+        self.events.as_slice().len() as u32
+    }
+
+    /// The event of that index, which begins at 0.
+    pub fn get(&self, index: u32) -> Option<&Event>
+        ensures event { option_copied result ≡ slice_get self.now index }
+        ensures few { IfSome result (λ _. index < 4096) }
+    {
+        let events = self.events.as_slice();
+        events.get(index as usize)
+    }
+}
+
+/// Takes a head and the events that it says. A refusal may leave the reader in mid-way.
+fn take_chunk(
+    alloc: Global,
+    schema: &Schema,
+    from: &mut ByteReader<'_>,
+) -> Result<Events, EventFault>
+    ensures agrees { AgreesAt (chunk_at schema.now.fields from.old) result from.new }
+    ensures ok { IfOk result (λ events. from.old ≡ chunk_bytes events ++ from.new) }
+    ensures legal { IfOk result (IsChunk schema.now.fields) }
+{
+    let head = match take_head(from) {
+        Ok(head) => head,
+        Err(fault) => return Err(fault),
+    };
+    let events = match take_events(alloc, schema, head.count, from) {
+        Ok(events) => events,
+        Err(fault) => return Err(fault),
+    };
+    if !is_head_of(&head, events.as_slice()) {
+        return Err(EventFault::BadValue(0));
+    }
+    Ok(events)
+}
+
+/// Takes so many events, each of which may follow those before it.
+fn take_events(
+    alloc: Global,
+    schema: &Schema,
+    count: u32,
+    from: &mut ByteReader<'_>,
+) -> Result<Events, EventFault>
+    ensures agrees { AgreesAt (more_at (next_event_at schema.now.fields) [] count from.old) result from.new }
+    ensures ok { IfOk result (λ events. from.old ≡ list_bytes event_bytes events ++ from.new) }
+    ensures legal { IfOk result (All (IsEventOf schema.now.fields)) }
+    ensures rising { IfOk result IsRising }
+    ensures count { IfOk result (λ events. length events ≡ count) }
+{
+    let mut events = match empty_list(alloc, count) {
+        Ok(events) => events,
+        Err(_) => return Err(EventFault::Memory),
+    };
+    let mut next = 0;
+    let mut time = 0;
+    for done in 0..count {
+        let event = match take_event(alloc, schema, next, time, from) {
+            Ok(event) => event,
+            Err(fault) => return Err(fault),
+        };
+        next = event.offset + 1;
+        time = event.time;
+        match events.push(event) {
+            Ok(()) => {}
+            Err(_) => return Err(EventFault::Memory),
+        }
+    }
+    Ok(events)
+}
+
+/// No events, with room for so many.
+fn empty_list(alloc: Global, count: u32) -> Result<Events, Memory>
+    ensures { IfOk result (λ events. events ≡ []) }
+{
+    Ok(Events::from(Vec::with_capacity(alloc, count as usize)?))
+}
+
+/// Takes an event whose offset is at least `next` and whose time is at least `time`.
+fn take_event(
+    alloc: Global,
+    schema: &Schema,
+    next: u64,
+    time: u64,
+    from: &mut ByteReader<'_>,
+) -> Result<Event, EventFault>
+    ensures agrees { AgreesAt (event_from_at schema.now.fields next time from.old) result from.new }
+    ensures ok { IfOk result (λ event. from.old ≡ event_bytes event ++ from.new) }
+    ensures legal { IfOk result (IsEventOf schema.now.fields) }
+    ensures offset { IfOk result (λ event. next ≤ event.offset) }
+    ensures time { IfOk result (λ event. time ≤ event.time) }
+{
+    let event = match decode(alloc, schema, from) {
+        Ok(event) => event,
+        Err(fault) => return Err(fault),
+    };
+    if !may_follow(&event, next, time) {
+        return Err(EventFault::BadValue(0));
+    }
+    Ok(event)
+}
+
+/// Whether the event's offset is at least `next` and its time at least `time`.
+fn may_follow(event: &Event, next: u64, time: u64) -> bool
+    ensures { result ≡ follows event.now next time }
+{
+    next <= event.offset && time <= event.time
+}

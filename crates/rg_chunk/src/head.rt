@@ -1,0 +1,162 @@
+ghost use Rattle.std.specs.Prelude.{◌≡◌, ◌≤◌, ◌++◌, List, Some, IfOk, OnOk, OnErr, length};
+ghost use Rattle.rg_bytes.specs.Keeps.{Keeps};
+ghost use Rattle.rg_event.specs.declared.event.Event.{Event as TheEvent};
+ghost use Rattle.rg_event.specs.declared.schema.Field.{Field};
+ghost use Rattle.rg_chunk.specs.Chunks.{chunk_of};
+ghost use Rattle.rg_chunk.specs.Heads.{IsHead, Reads, is_known as known_test, stamp_at, stamp_bytes, head_at, head_of, head_bytes, head_for, first_stamp, last_stamp, is_head_of as head_test};
+
+use rg_bytes::{ByteReader, Memory, put_u8, put_u32, put_u64};
+use rg_event::{Event, EventFault};
+
+/// The greatest number of events in a chunk. The least is 1.
+pub const MAX_EVENTS: u32 = 4_096;
+
+/// The tag of a chunk whose events stand one after another.
+const ROWS_TAG: u8 = 0x43;
+
+/// What the first 37 bytes of a chunk say.
+#[derive(Clone, Copy, Debug, PartialEq, Eq)]
+pub struct ChunkHead {
+    /// How the events are written: 0x43 where they stand one after another.
+    pub tag: u8,
+    /// How many events there are, from 1 to 4,096.
+    pub count: u32,
+    /// The offset of the first event.
+    pub first_offset: u64,
+    /// The time of the first event, in milliseconds.
+    pub first_time: u64,
+    /// The offset of the last event.
+    pub last_offset: u64,
+    /// The time of the last event, in milliseconds.
+    pub last_time: u64,
+}
+
+/// Reads the head that a payload begins with. It answers `None` exactly where the payload has fewer than 37 bytes,
+/// the tag is unknown or the count isn't 1 to 4,096. The inside of the chunk is not looked at.
+pub fn read_head(payload: &[u8]) -> Option<ChunkHead>
+    ensures head { result ≡ head_of payload.now }
+    ensures of_chunk { (fields : List Field) (events : List TheEvent) → chunk_of fields payload.now ≡ Some events → result ≡ Some (head_for events) }
+{
+    match take_head(&mut ByteReader::new(payload)) {
+        Ok(head) => Some(head),
+        Err(_) => None,
+    }
+}
+
+/// Takes a head. A refusal may leave the reader in mid-way.
+pub(crate) fn take_head(from: &mut ByteReader<'_>) -> Result<ChunkHead, EventFault>
+    ensures agrees { Reads (head_at from.old) result from.new }
+    ensures ok { IfOk result (λ head. from.old ≡ head_bytes head ++ from.new) }
+    ensures legal { IfOk result IsHead }
+{
+    let tag = from.u8()?;
+    let count = from.u32()?;
+    let (first_offset, first_time) = match take_stamp(from) {
+        Ok(first) => first,
+        Err(fault) => return Err(fault),
+    };
+    let (last_offset, last_time) = match take_stamp(from) {
+        Ok(last) => last,
+        Err(fault) => return Err(fault),
+    };
+    if !is_known(tag, count) {
+        return Err(EventFault::BadValue(0));
+    }
+    Ok(ChunkHead {
+        tag,
+        count,
+        first_offset,
+        first_time,
+        last_offset,
+        last_time,
+    })
+}
+
+/// Whether the tag is known and the count is 1 to 4,096.
+fn is_known(tag: u8, count: u32) -> bool
+    ensures { result ≡ known_test tag count }
+{
+    tag == ROWS_TAG && 1 <= count && count <= MAX_EVENTS
+}
+
+/// Takes the offset and the time of an event.
+fn take_stamp(from: &mut ByteReader<'_>) -> Result<(u64, u64), EventFault>
+    ensures agrees { Reads (stamp_at from.old) result from.new }
+    ensures ok { IfOk result (λ stamp. from.old ≡ stamp_bytes stamp ++ from.new) }
+{
+    let offset = from.u64()?;
+    let time = from.u64()?;
+    Ok((offset, time))
+}
+
+/// Writes a head at the end. An error leaves it begun.
+pub(crate) fn put_head(head: &ChunkHead, out: &mut Vec<u8>) -> Result<(), Memory>
+    ensures ok { OnOk result (out.new.items ≡ out.old.items ++ head_bytes head.now) }
+    ensures err { OnErr result (Keeps out.old.items out.new.items) }
+{
+    put_u8(out, head.tag)?;
+    put_u32(out, head.count)?;
+    put_stamp(head.first_offset, head.first_time, out)?;
+    put_stamp(head.last_offset, head.last_time, out)
+}
+
+/// Writes an offset and a time at the end. An error leaves them begun.
+fn put_stamp(offset: u64, time: u64, out: &mut Vec<u8>) -> Result<(), Memory>
+    ensures ok { OnOk result (out.new.items ≡ out.old.items ++ stamp_bytes (offset, time)) }
+    ensures err { OnErr result (Keeps out.old.items out.new.items) }
+{
+    put_u64(out, offset)?;
+    put_u64(out, time)
+}
+
+/// The head of a chunk of these events.
+pub(crate) fn head_of_events(events: &[Event]) -> ChunkHead
+    requires { length events.now ≤ 4096 }
+    ensures { result ≡ head_for events.now }
+{
+    let (first_offset, first_time) = first_of(events);
+    let (last_offset, last_time) = last_of(events);
+    ChunkHead {
+        tag: ROWS_TAG,
+        count: events.len() as u32,
+        first_offset,
+        first_time,
+        last_offset,
+        last_time,
+    }
+}
+
+/// Whether a head says what these events do.
+pub(crate) fn is_head_of(head: &ChunkHead, events: &[Event]) -> bool
+    requires { length events.now ≤ 4096 }
+    ensures { result ≡ head_test head.now events.now }
+{
+    let own = head_of_events(events);
+    head.count == own.count
+        && head.first_offset == own.first_offset
+        && head.first_time == own.first_time
+        && head.last_offset == own.last_offset
+        && head.last_time == own.last_time
+}
+
+/// The offset and the time of the first event, and 0 where there is none.
+fn first_of(events: &[Event]) -> (u64, u64)
+    ensures { result ≡ first_stamp events.now }
+{
+    match events {
+        [] => (0, 0),
+        [first, ..] => (first.offset, first.time),
+    }
+}
+
+/// The offset and the time of the last event, and 0 where there is none.
+#[tactic(auto, using(crate::proofs::Lasts::last_at, crate::proofs::Lasts::last_none))]
+fn last_of(events: &[Event]) -> (u64, u64)
+    ensures { result ≡ last_stamp events.now }
+{
+    if events.is_empty() {
+        return (0, 0);
+    }
+    let last = &events[events.len() - 1];
+    (last.offset, last.time)
+}

@@ -1,0 +1,16 @@
+//! Chunks of events: up to 4,096 events as one payload. An open chunk takes events in memory and writes their
+//! payload; a chunk is the events that a payload says, and its head can be read alone. Upward: what is read is
+//! exactly what the payload says, each fault of the payload is named as one, and what is written is read back.
+#![tactic(auto)]
+
+mod chunk;
+mod fault;
+mod head;
+mod open;
+#[cfg(test)]
+mod tests;
+
+pub use chunk::Chunk;
+pub use fault::ChunkFault;
+pub use head::{ChunkHead, MAX_EVENTS, read_head};
+pub use open::OpenChunk;

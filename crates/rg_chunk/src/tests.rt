@@ -1,0 +1,174 @@
+use crate::{Chunk, ChunkFault, ChunkHead, OpenChunk, read_head};
+use rg_bytes::Memory;
+use rg_event::{Event, Schema, Value, Values, Word};
+use std::alloc::Global;
+use std::process::Abort;
+use std::test::Fail;
+
+/// The columns of the payload below.
+const SCHEMA: &[u8] = b"payments(ts,card:text,merchant:text,amount:int)";
+
+/// Two payments with the card c1: 100 at time 0 to m1, and 200 at time 299,999 to m2.
+const PAYLOAD: &[u8] = b"\x43\0\0\0\x02\
+    \0\0\0\0\0\0\0\0\0\0\0\0\0\0\0\0\
+    \0\0\0\0\0\0\0\x01\0\0\0\0\0\x04\x93\xdf\
+    \0\0\0\0\0\0\0\0\0\0\0\0\0\0\0\0\x02c1\x02m1\0\0\0\0\0\0\0\x64\
+    \0\0\0\0\0\0\0\x01\0\0\0\0\0\x04\x93\xdf\x02c1\x02m2\0\0\0\0\0\0\0\xc8";
+
+fn payment(
+    alloc: Global,
+    offset: u64,
+    time: u64,
+    texts: &[&[u8]],
+    amount: i64,
+) -> Result<Event, Memory> {
+    let mut values = Values::new(alloc);
+    for text in texts {
+        if let Some(word) = Word::new(alloc, text)? {
+            values.push(Value::Text(word))?;
+        }
+    }
+    values.push(Value::Int(amount))?;
+    Ok(Event {
+        offset,
+        time,
+        values,
+    })
+}
+
+#[test]
+fn an_open_chunk_is_written_as_its_payload(rt: HostRuntime) -> Result<(), Fail> {
+    let alloc = rt.alloc();
+    let mut open = OpenChunk::new(alloc, 2)?;
+    open.push(payment(alloc, 0, 0, &[b"c1", b"m1"], 100)?);
+    assert!(rt; !open.is_full());
+    open.push(payment(alloc, 1, 299_999, &[b"c1", b"m2"], 200)?);
+    assert!(rt; open.is_full() && open.count() == 2);
+    let mut out = b"x".to_vec(alloc)?;
+    open.encode(&mut out)?;
+    assert_eq!(rt; &out[..1], b"x".as_slice());
+    assert_eq!(rt; &out[1..], PAYLOAD);
+    match (open.get(0), open.get(1), open.get(2)) {
+        (Some(first), Some(second), None) => {
+            assert!(rt; first.offset == 0 && second.offset == 1);
+        }
+        other => panic!(rt; "{other:?}"),
+    }
+    open.clear();
+    assert!(rt; open.count() == 0 && open.get(0).is_none());
+    Ok(())
+}
+
+#[test]
+fn a_payload_says_its_head_and_its_events(rt: HostRuntime) -> Result<(), Fail> {
+    let alloc = rt.alloc();
+    let head = ChunkHead {
+        tag: 0x43,
+        count: 2,
+        first_offset: 0,
+        first_time: 0,
+        last_offset: 1,
+        last_time: 299_999,
+    };
+    assert_eq!(rt; read_head(PAYLOAD), Some(head));
+    assert_eq!(rt; read_head(&PAYLOAD[..37]), Some(head));
+    assert_eq!(rt; read_head(&PAYLOAD[..36]), None);
+    let schema = Schema::parse(alloc, SCHEMA)?;
+    let chunk = match Chunk::decode(alloc, &schema, PAYLOAD) {
+        Ok(chunk) => chunk,
+        Err(fault) => panic!(rt; "{fault}"),
+    };
+    assert!(rt; chunk.count() == 2 && chunk.get(2).is_none());
+    let want = payment(alloc, 1, 299_999, &[b"c1", b"m2"], 200)?;
+    match chunk.get(1) {
+        Some(event) => {
+            assert!(rt; event.offset == want.offset && event.time == want.time);
+            assert_eq!(rt; event.values.as_slice(), want.values.as_slice());
+        }
+        None => panic!(rt; "no event"),
+    }
+    Ok(())
+}
+
+/// What the payload says after some of its bytes are changed, each at its place.
+fn refusal(rt: &(impl Abort + AllocGlobal), payload: &[u8]) -> Result<Option<ChunkFault>, Fail> {
+    let schema = Schema::parse(rt.alloc(), SCHEMA)?;
+    match Chunk::decode(rt.alloc(), &schema, payload) {
+        Ok(_) => Ok(None),
+        Err(fault) => Ok(Some(fault)),
+    }
+}
+
+#[test]
+fn what_is_no_chunk_is_refused(rt: HostRuntime) -> Result<(), Fail> {
+    for end in 0..PAYLOAD.len() {
+        assert_eq!(rt;
+            refusal(&rt, &PAYLOAD[..end])?,
+            Some(ChunkFault::BadChunk),
+            "the first {end} bytes"
+        );
+    }
+    let table: [(&str, &[(usize, u8)]); 14] = [
+        ("the tag", &[(0, 0x44)]),
+        ("a count of 0", &[(4, 0)]),
+        ("a count of 1", &[(4, 1)]),
+        ("a count of 3", &[(4, 3)]),
+        ("a count of 4,097", &[(3, 0x10), (4, 1)]),
+        ("the first offset", &[(12, 1)]),
+        ("the first time", &[(20, 1)]),
+        ("the last offset", &[(28, 2)]),
+        ("the last time", &[(36, 0xde)]),
+        ("offsets that stand still", &[(28, 0), (74, 0)]),
+        ("offsets that fall", &[(12, 2), (44, 2)]),
+        ("times that fall", &[(18, 5), (50, 5)]),
+        ("a text that is no UTF-8", &[(55, 0xff)]),
+        ("an offset of 2^62", &[(21, 0x40), (67, 0x40)]),
+    ];
+    for (what, changes) in table {
+        let mut payload = PAYLOAD.to_vec(rt.alloc())?;
+        for (place, byte) in changes {
+            if let Some(old) = payload.get_mut(*place) {
+                *old = *byte;
+            }
+        }
+        assert_eq!(rt;
+            refusal(&rt, &payload)?,
+            Some(ChunkFault::BadChunk),
+            "{what}"
+        );
+    }
+    let mut longer = PAYLOAD.to_vec(rt.alloc())?;
+    longer.push(0)?;
+    assert_eq!(rt; refusal(&rt, &longer)?, Some(ChunkFault::BadChunk));
+    assert_eq!(rt; refusal(&rt, PAYLOAD)?, None);
+    Ok(())
+}
+
+#[test]
+fn the_most_events_with_the_longest_texts_are_read_back(rt: HostRuntime) -> Result<(), Fail> {
+    let alloc = rt.alloc();
+    let text = [b'a'; 255];
+    let mut open = OpenChunk::new(alloc, 4096)?;
+    let mut offset = 0;
+    while !open.is_full() {
+        let event = payment(alloc, offset, 7, &[&text, &text], -1_000_000_000_000)?;
+        open.push(event);
+        offset = offset.wrapping_add(1);
+    }
+    let mut out = Vec::new(alloc);
+    if open.count() > 0 {
+        open.encode(&mut out)?;
+    }
+    assert_eq!(rt; out.len(), 37 + 4096 * 536);
+    let schema = Schema::parse(alloc, SCHEMA)?;
+    let chunk = match Chunk::decode(alloc, &schema, &out) {
+        Ok(chunk) => chunk,
+        Err(fault) => panic!(rt; "{fault}"),
+    };
+    assert_eq!(rt; chunk.count(), 4096);
+    match chunk.get(4095) {
+        Some(event) => assert_eq!(rt; event.offset, 4095),
+        None => panic!(rt; "no event"),
+    }
+    Ok(())
+}

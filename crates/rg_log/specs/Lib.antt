@@ -1,0 +1,3 @@
+pub mod Log
+pub mod Reading
+pub mod Spots

@@ -1,0 +1,93 @@
+//! What a log is, and which events it holds: definitions and their laws, without code.
+//!
+//! The definitions are in `specs/`: `Log` says when the bytes of a file are a legal log of a schema with some events,
+//! `Reading` gives these events as a function of the bytes, and `Spots` says which place and index name which event.
+//! Each law is a function without arguments whose clauses state it; none of them does anything when it is called. The
+//! layers above learn from them what an append leaves of the events and of the spots.
+#![tactic(auto)]
+
+ghost use Rattle.std.specs.Prelude.{◌≡◌, ◌⊎◌, ◌↔◌, ◌≤◌, ◌<◌, ◌^◌, ℕ, List, [], ◌∷◌, ◌++◌, length, slice_get, Option, Some, None, All, IsSome};
+ghost use Rattle.rg_event.specs.Shapes.{Shape, IsSchema};
+ghost use Rattle.rg_event.specs.declared.event.Event.{Event};
+ghost use Rattle.rg_event.specs.Rising.{IsRising, next_offset};
+ghost use Rattle.rg_past.specs.declared.past.Spot.{Spot};
+ghost use Rattle.rg_frame.specs.Frames.{frames, HasPayloads, IsDamaged};
+ghost use Rattle.rg_frame.specs.Steps.{Grows, Grown};
+ghost use Rattle.rg_log.specs.Log.{schema_payload, chunks_of, joined, HasChunks, IsChunkOf, HasEvents, HasLegalLog, HasSchemaFrame, IsOfSchema};
+ghost use Rattle.rg_log.specs.Reading.{IsByte, events_of, next_of};
+ghost use Rattle.rg_log.specs.Spots.{IsInChunk, SpotAt, SpotIn, NamedByHeads};
+
+use rg_frame::law_frames;
+
+/// A file has one list of events, that which `events_of` reads, and at most one schema. Where its frame list is undefined,
+/// there are no events to read.
+pub fn law_events()
+    ensures one { (shape other : Shape) (events others : List Event) (bytes : List ℕ) → HasEvents shape events bytes → HasEvents other others bytes → events ≡ others }
+    ensures reads { (shape : Shape) (events : List Event) (bytes : List ℕ) → HasEvents shape events bytes → events_of bytes ≡ Some events }
+    ensures none { (bytes : List ℕ) → HasPayloads [] bytes → events_of bytes ≡ Some [] }
+    ensures damaged { (place : ℕ) (bytes : List ℕ) → IsDamaged place bytes → events_of bytes ≡ None }
+    ensures next { (shape : Shape) (events : List Event) (bytes : List ℕ) → HasEvents shape events bytes → next_of bytes ≡ Some (next_offset events) }
+
+    // In a file, whose numbers are bytes, there are events to read exactly where the log is legal, and they are its own.
+    ensures exact { (bytes : List ℕ) → All IsByte bytes → IsSome (events_of bytes) ↔ HasLegalLog bytes }
+    ensures legal { (bytes : List ℕ) (events : List Event) → All IsByte bytes → events_of bytes ≡ Some events →
+        (HasPayloads [] bytes × (events ≡ [])) ⊎ ((shape : Shape) × HasSchemaFrame shape bytes × HasEvents shape events bytes) }
+    ensures one_schema { (shape other : Shape) (bytes : List ℕ) → IsSchema shape → IsSchema other → HasSchemaFrame shape bytes → HasSchemaFrame other bytes → shape ≡ other }
+{
+    law_frames();
+}
+
+/// A chunk's payload comes behind a log that its events continue: the events are the old ones, or those and the chunk's.
+/// The schema's frame comes behind a log without a frame: there is no event, and the schema is this one.
+pub fn law_log()
+    ensures grows { (shape : Shape) (events chunk : List Event) (payload old new : List ℕ) → HasSchemaFrame shape old → HasEvents shape events old → IsChunkOf shape payload chunk →
+        IsRising (events ++ chunk) → length (events ++ chunk) ≤ 2 ^ 40 → Grows payload old new → HasSchemaFrame shape new × (HasEvents shape events new ⊎ HasEvents shape (events ++ chunk) new) }
+    ensures grown { (shape : Shape) (events chunk : List Event) (payload old new : List ℕ) → HasSchemaFrame shape old → HasEvents shape events old → IsChunkOf shape payload chunk →
+        IsRising (events ++ chunk) → length (events ++ chunk) ≤ 2 ^ 40 → Grown payload old new → HasSchemaFrame shape new × HasEvents shape (events ++ chunk) new }
+    ensures begins { (shape : Shape) (old new : List ℕ) → IsSchema shape → HasPayloads [] old → Grows (schema_payload shape) old new → IsOfSchema shape new × HasEvents shape [] new }
+    ensures begun { (shape : Shape) (old new : List ℕ) → IsSchema shape → HasPayloads [] old → Grown (schema_payload shape) old new → HasSchemaFrame shape new × HasEvents shape [] new }
+{
+    law_frames();
+}
+
+/// Spots stay what they are when a chunk comes behind a log, and the heads of the chunks alone tell which spots of a
+/// legal log are spelled.
+pub fn law_spots()
+    ensures stays { (shape : Shape) (payloads : List (List ℕ)) (payload : List ℕ) (chunk : List Event) (spot : Spot) → IsChunkOf shape payload chunk →
+        SpotAt shape payloads spot → SpotAt shape (payloads ++ payload ∷ []) spot }
+    ensures stays_in { (shape : Shape) (payload : List ℕ) (chunk : List Event) (old new : List ℕ) (spot : Spot) → IsChunkOf shape payload chunk → Grows payload old new →
+        SpotIn shape old spot → SpotIn shape new spot }
+
+    // Without a frame no spot is spelled: so each one stays when the schema's frame comes.
+    ensures none { (shape : Shape) (spot : Spot) → SpotAt shape [] spot → ⊥ }
+    ensures none_in { (shape : Shape) (bytes : List ℕ) (spot : Spot) → HasPayloads [] bytes → SpotIn shape bytes spot → ⊥ }
+
+    // A spelled spot's number is at most the count; each event has a spelling, and so has the end.
+    ensures within { (shape : Shape) (payloads : List (List ℕ)) (chunks : List (List Event)) (spot : Spot) → HasChunks shape payloads chunks →
+        SpotAt shape payloads spot → spot.number ≤ length (joined chunks) }
+    ensures within_in { (shape : Shape) (events : List Event) (bytes : List ℕ) (spot : Spot) → HasEvents shape events bytes →
+        SpotIn shape bytes spot → spot.number ≤ length events }
+    ensures each { (shape : Shape) (payloads : List (List ℕ)) (chunks : List (List Event)) (number : ℕ) → chunks_of shape.fields payloads ≡ Some chunks →
+        number ≤ length (joined chunks) → (spot : Spot) × SpotAt shape (schema_payload shape ∷ payloads) spot × (spot.number ≡ number) }
+
+    // The event that a spot in a chunk names.
+    ensures event { (shape : Shape) (payloads : List (List ℕ)) (chunks : List (List Event)) (spot : Spot) → HasChunks shape payloads chunks →
+        (at : IsInChunk shape payloads spot) → spot.index < length at.chunk → slice_get (joined chunks) spot.number ≡ slice_get at.chunk spot.index }
+    ensures one_number { (shape : Shape) (payloads : List (List ℕ)) (spot other : Spot) → SpotAt shape payloads spot → SpotAt shape payloads other →
+        spot.place ≡ other.place → spot.index ≡ other.index → spot.number ≡ other.number }
+
+    // The end: where the frames end, also where there is no chunk; and behind the last event of the last chunk.
+    ensures end { (shape : Shape) (payloads : List (List ℕ)) (chunks : List (List Event)) (spot : Spot) → chunks_of shape.fields payloads ≡ Some chunks →
+        spot.place ≡ length (frames (schema_payload shape ∷ payloads)) → spot.index ≡ 0 → spot.number ≡ length (joined chunks) → SpotAt shape (schema_payload shape ∷ payloads) spot }
+    ensures end_of_last { (shape : Shape) (payloads : List (List ℕ)) (payload : List ℕ) (chunks : List (List Event)) (chunk : List Event) (spot : Spot) →
+        chunks_of shape.fields payloads ≡ Some chunks → IsChunkOf shape payload chunk → spot.place ≡ length (frames (schema_payload shape ∷ payloads)) →
+        spot.index ≡ length chunk → spot.number ≡ length (joined chunks ++ chunk) → SpotAt shape (schema_payload shape ∷ (payloads ++ payload ∷ [])) spot }
+
+    // By the heads alone.
+    ensures named { (shape : Shape) (payloads : List (List ℕ)) (chunks : List (List Event)) (spot : Spot) → HasChunks shape payloads chunks →
+        NamedByHeads payloads spot ↔ SpotAt shape payloads spot }
+    ensures named_in { (shape : Shape) (events : List Event) (payloads : List (List ℕ)) (bytes : List ℕ) (spot : Spot) → HasEvents shape events bytes →
+        HasPayloads payloads bytes → NamedByHeads payloads spot ↔ SpotIn shape bytes spot }
+{
+    law_frames();
+}

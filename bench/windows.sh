@@ -11,20 +11,7 @@ lines=${1:-1000000}
 work=$(mktemp -d)
 trap 'rm -rf "$work"' EXIT
 
-# A plan with a window of this length.
-plan() {
-    cat << PLAN
-queries = ["SELECT count(*), sum(amount) FROM payments GROUP BY card OVER SLIDING $1"]
-[stream]
-name = "payments"
-columns = ["ts", "card:text", "merchant:text", "amount:int"]
-PLAN
-}
-
-# Payments of this many cards. Some awks print no number past 2^31 in full, so the milliseconds are written as text.
-payments() {
-    awk -v cards="$1" -v lines="$lines" 'BEGIN { for (i = 0; i < lines; i++) printf "%d000,c%d,m%d,%d\n", i * 5, (i * 7919) % cards, i % 97, i % 10000 }'
-}
+. "$bench/payments.sh"
 
 # Runs a command on the payments, and adds its figures to the file of this name. Each line must be accepted.
 measure() {
@@ -50,7 +37,7 @@ figures() {
 }
 
 for cards in 40 100000; do
-    payments "$cards" > "$work/payments"
+    payments "$cards" "$lines" > "$work/payments"
     while read -r milliseconds window; do
         plan "$window" > "$work/plan"
         rm -f "$work/railgun" "$work/reference"

@@ -12,6 +12,7 @@ use Rattle.rg_metric.specs.Same.{same_value}
 use Rattle.rg_metric.proofs.Same.{same_value-true, same_value-same}
 use Rattle.rg_event.specs.declared.value.Kind.{Kind}
 use Rattle.rg_tally.specs.Pairs.{pairs_by, once, OneMore, AreOf}
+use Rattle.rg_tally.proofs.Places.{other_way}
 
 -- values are the same where keys are equal
 abbrev pub Tells : {K : Type 0} → (K → K → Ordering) → (K → Value) → Type 0
@@ -26,14 +27,6 @@ no_some e = cc
 
 pub some_same : {A : Type 0} {n m : A} → Some n ≡ Some m → n ≡ m
 some_same e = cc
-
--- a test that fails one way fails the other way
-pub other_way : (v w : Value) → same_value v w ≡ false → same_value w v ≡ false
-other_way v w fails = by (same_value w v) refl
-  where
-    by : (b : Bool) → same_value w v ≡ b → same_value w v ≡ false
-    by true is = let holds : same_value v w ≡ true = rw (same_value-true w v is) (same_value-same v) in absurd (true≢false (sym holds ∙ fails))
-    by false is = is
 
 pub none_there : {K : Type 0} (cmp : K → K → Ordering) (f : K → Value) → Tells cmp f → (k : K) (es : List (K × ℕ)) → lookup (is_at (cmp k)) es ≡ None → count_in (f k) (pairs_by f es) ≡ 0
 none_there cmp f tells k [] none = refl

@@ -1,0 +1,108 @@
+-- Which fault of a frame a reservoir's fault comes from.
+use Rattle.std.proofs.Common.{◌≡◌, ◌⊎◌, inl, inr, ℕ, refl, sym, ap, ◌∙◌}
+use Rattle.rg_frame.specs.declared.fault.FrameFault.{FrameFault}
+use Rattle.rg_frame.specs.declared.fault.FrameFault.TheVariants as frame
+use Rattle.rg_reservoir.specs.declared.fault.ReservoirFault.{ReservoirFault}
+use Rattle.rg_reservoir.specs.declared.fault.ReservoirFault.TheVariants.{Disk, Damaged, SchemaDiffers, Full, Memory, Ended}
+use Rattle.rg_past.specs.declared.past.PastFault.{PastFault}
+use Rattle.rg_past.specs.declared.past.PastFault.TheVariants as past
+use Rattle.rg_reservoir.specs.Faults.{of_frame, to_past}
+
+pub from_damaged : (f : FrameFault) (p : ℕ) → of_frame f ≡ Damaged p → f ≡ frame.Damaged p
+from_damaged frame.Disk p e = cc
+from_damaged (frame.Damaged q) p e = cc
+from_damaged frame.Memory p e = cc
+from_damaged frame.Ended p e = cc
+
+pub from_disk : (f : FrameFault) → of_frame f ≡ Disk → f ≡ frame.Disk
+from_disk frame.Disk e = refl
+from_disk (frame.Damaged q) e = cc
+from_disk frame.Memory e = cc
+from_disk frame.Ended e = cc
+
+pub never_differs : (f : FrameFault) → of_frame f ≡ SchemaDiffers → ⊥
+never_differs frame.Disk e = cc
+never_differs (frame.Damaged q) e = cc
+never_differs frame.Memory e = cc
+never_differs frame.Ended e = cc
+
+-- a frame that is damaged stands at the place that was read
+pub torn_at : (f : FrameFault) (p q : ℕ) → f ≡ frame.Damaged p → (f ≡ frame.Disk) ⊎ (f ≡ frame.Damaged q) → p ≡ q
+torn_at f p q is (inl disk) = absurd (let e : frame.Damaged p ≡ frame.Disk = sym is ∙ disk in cc)
+torn_at f p q is (inr at) = let e : frame.Damaged p ≡ frame.Damaged q = sym is ∙ at in cc
+
+-- the same of a read, which may want memory
+pub read_at : (f : FrameFault) (p q : ℕ) → f ≡ frame.Damaged p → (f ≡ frame.Disk) ⊎ (f ≡ frame.Memory) ⊎ (f ≡ frame.Damaged q) → p ≡ q
+read_at f p q is (inl disk) = absurd (let e : frame.Damaged p ≡ frame.Disk = sym is ∙ disk in cc)
+read_at f p q is (inr (inl memory)) = absurd (let e : frame.Damaged p ≡ frame.Memory = sym is ∙ memory in cc)
+read_at f p q is (inr (inr at)) = let e : frame.Damaged p ≡ frame.Damaged q = sym is ∙ at in cc
+
+pub never_full : (f : FrameFault) → of_frame f ≡ Full → ⊥
+never_full frame.Disk e = cc
+never_full (frame.Damaged q) e = cc
+never_full frame.Memory e = cc
+never_full frame.Ended e = cc
+
+pub never_ended : (f : FrameFault) (q : ℕ) → (f ≡ frame.Disk) ⊎ (f ≡ frame.Memory) ⊎ (f ≡ frame.Damaged q) → of_frame f ≡ Ended → ⊥
+never_ended f q (inl is) e = let g : Disk ≡ Ended = sym (ap of_frame is) ∙ e in cc
+never_ended f q (inr (inl is)) e = let g : Memory ≡ Ended = sym (ap of_frame is) ∙ e in cc
+never_ended f q (inr (inr is)) e = let g : Damaged q ≡ Ended = sym (ap of_frame is) ∙ e in cc
+
+pub of_step : (f : FrameFault) (q : ℕ) → (f ≡ frame.Disk) ⊎ (f ≡ frame.Damaged q) → (f ≡ frame.Disk) ⊎ (f ≡ frame.Memory) ⊎ (f ≡ frame.Damaged q)
+of_step f q (inl is) = inl is
+of_step f q (inr is) = inr (inr is)
+
+pub never_judged : (f : ReservoirFault) → (f ≡ SchemaDiffers) ⊎ (f ≡ Damaged 0) ⊎ (f ≡ Memory) → (f ≡ Full → ⊥) × (f ≡ Ended → ⊥)
+never_judged f (inl is) = (λ e. (let g : SchemaDiffers ≡ Full = sym is ∙ e in cc), λ e. (let g : SchemaDiffers ≡ Ended = sym is ∙ e in cc))
+never_judged f (inr (inl is)) = (λ e. (let g : Damaged 0 ≡ Full = sym is ∙ e in cc), λ e. (let g : Damaged 0 ≡ Ended = sym is ∙ e in cc))
+never_judged f (inr (inr is)) = (λ e. (let g : Memory ≡ Full = sym is ∙ e in cc), λ e. (let g : Memory ≡ Ended = sym is ∙ e in cc))
+
+-- which fault of a reservoir a past's fault comes from
+
+pub past_disk : (f : ReservoirFault) (r : PastFault) → r ≡ to_past f → r ≡ past.Disk → f ≡ Disk
+past_disk Disk r is e = refl
+past_disk (Damaged q) r is e = absurd (let g : past.Damaged q ≡ past.Disk = sym is ∙ e in cc)
+past_disk SchemaDiffers r is e = absurd (let g : past.Damaged 0 ≡ past.Disk = sym is ∙ e in cc)
+past_disk Full r is e = absurd (let g : past.Full ≡ past.Disk = sym is ∙ e in cc)
+past_disk Memory r is e = absurd (let g : past.Memory ≡ past.Disk = sym is ∙ e in cc)
+past_disk Ended r is e = absurd (let g : past.Ended ≡ past.Disk = sym is ∙ e in cc)
+
+pub past_ended : (f : ReservoirFault) (r : PastFault) → r ≡ to_past f → r ≡ past.Ended → f ≡ Ended
+past_ended Disk r is e = absurd (let g : past.Disk ≡ past.Ended = sym is ∙ e in cc)
+past_ended (Damaged q) r is e = absurd (let g : past.Damaged q ≡ past.Ended = sym is ∙ e in cc)
+past_ended SchemaDiffers r is e = absurd (let g : past.Damaged 0 ≡ past.Ended = sym is ∙ e in cc)
+past_ended Full r is e = absurd (let g : past.Full ≡ past.Ended = sym is ∙ e in cc)
+past_ended Memory r is e = absurd (let g : past.Memory ≡ past.Ended = sym is ∙ e in cc)
+past_ended Ended r is e = refl
+
+pub past_full : (f : ReservoirFault) (r : PastFault) → r ≡ to_past f → r ≡ past.Full → f ≡ Full
+past_full Disk r is e = absurd (let g : past.Disk ≡ past.Full = sym is ∙ e in cc)
+past_full (Damaged q) r is e = absurd (let g : past.Damaged q ≡ past.Full = sym is ∙ e in cc)
+past_full SchemaDiffers r is e = absurd (let g : past.Damaged 0 ≡ past.Full = sym is ∙ e in cc)
+past_full Full r is e = refl
+past_full Memory r is e = absurd (let g : past.Memory ≡ past.Full = sym is ∙ e in cc)
+past_full Ended r is e = absurd (let g : past.Ended ≡ past.Full = sym is ∙ e in cc)
+
+pub past_damaged : (f : ReservoirFault) (r : PastFault) (p : ℕ) → r ≡ to_past f → (f ≡ SchemaDiffers → ⊥) → r ≡ past.Damaged p → f ≡ Damaged p
+past_damaged Disk r p is other e = absurd (let g : past.Disk ≡ past.Damaged p = sym is ∙ e in cc)
+past_damaged (Damaged q) r p is other e = let g : past.Damaged q ≡ past.Damaged p = sym is ∙ e in cc
+past_damaged SchemaDiffers r p is other e = absurd (other refl)
+past_damaged Full r p is other e = absurd (let g : past.Full ≡ past.Damaged p = sym is ∙ e in cc)
+past_damaged Memory r p is other e = absurd (let g : past.Memory ≡ past.Damaged p = sym is ∙ e in cc)
+past_damaged Ended r p is other e = absurd (let g : past.Ended ≡ past.Damaged p = sym is ∙ e in cc)
+
+-- a look is never refused as another schema, nor as full
+pub look_fault : (f : ReservoirFault) → (f ≡ Disk) ⊎ (f ≡ Memory) ⊎ ((p : ℕ) × (f ≡ Damaged p)) ⊎ (f ≡ Ended) → (f ≡ SchemaDiffers → ⊥) × (f ≡ Full → ⊥)
+look_fault f (inl is) = (λ e. (let g : Disk ≡ SchemaDiffers = sym is ∙ e in cc), λ e. (let g : Disk ≡ Full = sym is ∙ e in cc))
+look_fault f (inr (inl is)) = (λ e. (let g : Memory ≡ SchemaDiffers = sym is ∙ e in cc), λ e. (let g : Memory ≡ Full = sym is ∙ e in cc))
+look_fault f (inr (inr (inl (p, is)))) = (λ e. (let g : Damaged p ≡ SchemaDiffers = sym is ∙ e in cc), λ e. (let g : Damaged p ≡ Full = sym is ∙ e in cc))
+look_fault f (inr (inr (inr is))) = (λ e. (let g : Ended ≡ SchemaDiffers = sym is ∙ e in cc), λ e. (let g : Ended ≡ Full = sym is ∙ e in cc))
+
+-- an append is never refused otherwise
+pub append_fault : (f : ReservoirFault) (r : PastFault) → (f ≡ Ended) ⊎ (f ≡ Full) → r ≡ to_past f → (r ≡ past.Ended) ⊎ (r ≡ past.Full)
+append_fault f r (inl is) e = inl (e ∙ ap to_past is)
+append_fault f r (inr is) e = inr (e ∙ ap to_past is)
+
+pub never_taken : (f : ReservoirFault) (p : ℕ) → (f ≡ Damaged p) ⊎ (f ≡ Memory) → (f ≡ SchemaDiffers → ⊥) × (f ≡ Full → ⊥) × (f ≡ Ended → ⊥)
+never_taken f p (inl is) = (λ e. (let g : Damaged p ≡ SchemaDiffers = sym is ∙ e in cc), λ e. (let g : Damaged p ≡ Full = sym is ∙ e in cc), λ e. (let g : Damaged p ≡ Ended = sym is ∙ e in cc))
+never_taken f p (inr is) = (λ e. (let g : Memory ≡ SchemaDiffers = sym is ∙ e in cc), λ e. (let g : Memory ≡ Full = sym is ∙ e in cc), λ e. (let g : Memory ≡ Ended = sym is ∙ e in cc))

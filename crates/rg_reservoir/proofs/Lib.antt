@@ -1,0 +1,16 @@
+pub mod Adding
+pub mod Attaching
+pub mod Causes
+pub mod Chains
+pub mod ChunkHeads
+pub mod Committed
+pub mod Committing
+pub mod Fetching
+pub mod Firsts
+pub mod Heading
+pub mod Legal
+pub mod Listing
+pub mod Peeking
+pub mod Seeking
+pub mod Touching
+pub mod Walking

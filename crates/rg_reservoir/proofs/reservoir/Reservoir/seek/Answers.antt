@@ -1,0 +1,198 @@
+use Rattle.std.proofs.Common.{◌≡◌, ◌∙◌, ◌≤◌, ◌<◌, ◌-◌, ap, sym, subst, refl, rules, Some, None, ◌∷◌, [], arith}
+use Rattle.rg_host.specs.Image.{Image}
+use Rattle.rg_cache.specs.Cache.{item_at, places, least_recently_used, touches}
+use Rattle.rg_reservoir.specs.declared.kept.Kept.{Kept}
+use Rattle.rg_reservoir.specs.Kept.{Base, base, IsCached, IsAbsent, next_in, look_places, held_after}
+use Rattle.rg_reservoir.proofs.Seeking.{cached_same, absent_same, one_image, before_end, found_open, found_here, found_next, turn, near}
+use Rattle.rg_reservoir.proofs.Touching.{one_touched, two_places, look_one, look_two}
+use Rattle.rg_reservoir.proofs.reservoir.Reservoir.seek.Goals as goal
+
+pub returns-then-spot-self-clause-finds : goal.returns-then-spot-self-clause-finds
+returns-then-spot-self-clause-finds g c =
+    λ sound spells. (found_open (g.H.Host.now c.args.host.now) (base c.args.self.now) c.args.self.now.open.events c.args.self.now.cache c.args.spot.now (record { place = c.end-spot.result; index = c.args.spot.now.number - c.args.self.now.committed; number = c.args.spot.now.number }) spells (omega (arith, c.if-spot-self.true)) refl c.end-spot.ensures.end refl).1
+
+pub returns-in-None-clause-finds : goal.returns-in-None-clause-finds
+returns-in-None-clause-finds g c =
+    λ sound spells.
+    let v = sound.0 in
+    let told : g.H.Host.now c.args.host.now ≡ Some v = sound.1 in
+    let right = sound.2.right c.if-self.false in
+    let lt : c.args.spot.now.number < c.args.self.now.committed = omega (arith, c.if-spot-self.false) in
+    let mid : IsCached c.args.self.now.schema.fields (v c.args.self.now.log.file) c.touch.new.self.cache = c.touch.ensures.cached v told right.cached in
+    let h : (kept : Kept) × (item_at c.args.spot.now.place c.touch.new.self.cache ≡ Some kept) = search rules in
+    let stays : next_in (item_at c.args.spot.now.place c.touch.new.self.cache) c.args.spot.now.index ≡ None = search rules in
+    found_here (g.H.Host.now c.args.host.now) v (g.H.Host.may c.args.host.now) (base c.args.self.now) c.args.self.now.open.events c.args.self.now.next_offset c.args.self.now.last_time c.args.self.now.cache c.touch.new.self.cache c.args.spot.now h.0 told right spells lt mid h.1 stays
+
+pub returns-in-Ok-false-touch-clause-cached : goal.returns-in-Ok-false-touch-clause-cached
+returns-in-Ok-false-touch-clause-cached g c =
+    λ v told was.
+    let eqF = ap (λ (b : Base). b.shape.fields) c.touch.ensures.stays.base in
+    let eqf = ap (λ (b : Base). b.file) c.touch.ensures.stays.base in
+    cached_same _ _ _ _ v c.touch-2.new.self.cache eqF eqf (c.touch-2.ensures.cached v (c.touch.ensures.leaves.now_stays ∙ told) (cached_same _ _ _ _ v c.touch.new.self.cache (sym eqF) (sym eqf) (c.touch.ensures.cached v told was)))
+
+pub returns-in-Err-touch-clause-cached : goal.returns-in-Err-touch-clause-cached
+returns-in-Err-touch-clause-cached g c =
+    λ v told was.
+    let eqF = ap (λ (b : Base). b.shape.fields) c.touch.ensures.stays.base in
+    let eqf = ap (λ (b : Base). b.file) c.touch.ensures.stays.base in
+    cached_same _ _ _ _ v c.touch-2.new.self.cache eqF eqf (c.touch-2.ensures.cached v (c.touch.ensures.leaves.now_stays ∙ told) (cached_same _ _ _ _ v c.touch.new.self.cache (sym eqF) (sym eqf) (c.touch.ensures.cached v told was)))
+
+pub returns-clause-cached : goal.returns-clause-cached
+returns-clause-cached g c =
+    λ v told was.
+    let eqF = ap (λ (b : Base). b.shape.fields) c.touch.ensures.stays.base in
+    let eqf = ap (λ (b : Base). b.file) c.touch.ensures.stays.base in
+    cached_same _ _ _ _ v c.touch-2.new.self.cache eqF eqf (c.touch-2.ensures.cached v (c.touch.ensures.leaves.now_stays ∙ told) (cached_same _ _ _ _ v c.touch.new.self.cache (sym eqF) (sym eqf) (c.touch.ensures.cached v told was)))
+
+pub returns-in-Ok-false-touch-clause-finds : goal.returns-in-Ok-false-touch-clause-finds
+returns-in-Ok-false-touch-clause-finds g c =
+    λ sound spells.
+    let v = sound.0 in
+    let told : g.H.Host.now c.args.host.now ≡ Some v = sound.1 in
+    let right = sound.2.right c.if-self.false in
+    let lt : c.args.spot.now.number < c.args.self.now.committed = omega (arith, c.if-spot-self.false) in
+    let mid : IsCached c.args.self.now.schema.fields (v c.args.self.now.log.file) c.touch.new.self.cache = c.touch.ensures.cached v told right.cached in
+    let eqF = ap (λ (b : Base). b.shape.fields) c.touch.ensures.stays.base in
+    let eqf = ap (λ (b : Base). b.file) c.touch.ensures.stays.base in
+    let turns : next_in (item_at c.args.spot.now.place c.touch.new.self.cache) c.args.spot.now.index ≡ Some c.in-Some.next = search rules in
+    let eqe = ap (λ (b : Base). b.end) c.touch.ensures.stays.base in
+    let f = turn (g.H.Host.now c.args.host.now) v (g.H.Host.may c.args.host.now) (base c.args.self.now) c.args.self.now.open.events c.args.self.now.next_offset c.args.self.now.last_time c.args.self.now.cache c.touch.new.self.cache c.args.spot.now c.in-Some.next told right spells lt mid turns in
+    let absent : IsAbsent c.touch.new.self.schema.fields c.in-Some.next c.touch.new.self.log.end (v c.touch.new.self.log.file) = c.in-Ok-false-touch.ensures.absent c.in-Ok-false-touch.field-0-test v (c.touch.ensures.leaves.now_stays ∙ told) in
+    let far : c.args.self.now.log.end < f.chunk.next = absent_same _ _ _ _ _ _ v c.in-Some.next eqF eqf eqe absent f.chunk.chunk f.chunk.next f.chunk.here in
+    let le : f.chunk.next ≤ c.args.self.now.log.end = before_end v (g.H.Host.may c.args.host.now) (base c.args.self.now) c.args.self.now.open.events c.args.self.now.next_offset c.args.self.now.last_time c.args.self.now.cache right c.in-Some.next 0 c.args.spot.now.number f.chunk in
+    absurd (omega (arith, far, le))
+
+pub returns-in-Ok-false-touch-clause-all_touched : goal.returns-in-Ok-false-touch-clause-all_touched
+returns-in-Ok-false-touch-clause-all_touched g c =
+    λ sound spells.
+    let v = sound.0 in
+    let told : g.H.Host.now c.args.host.now ≡ Some v = sound.1 in
+    let right = sound.2.right c.if-self.false in
+    let lt : c.args.spot.now.number < c.args.self.now.committed = omega (arith, c.if-spot-self.false) in
+    let mid : IsCached c.args.self.now.schema.fields (v c.args.self.now.log.file) c.touch.new.self.cache = c.touch.ensures.cached v told right.cached in
+    let eqF = ap (λ (b : Base). b.shape.fields) c.touch.ensures.stays.base in
+    let eqf = ap (λ (b : Base). b.file) c.touch.ensures.stays.base in
+    let turns : next_in (item_at c.args.spot.now.place c.touch.new.self.cache) c.args.spot.now.index ≡ Some c.in-Some.next = search rules in
+    let eqe = ap (λ (b : Base). b.end) c.touch.ensures.stays.base in
+    let f = turn (g.H.Host.now c.args.host.now) v (g.H.Host.may c.args.host.now) (base c.args.self.now) c.args.self.now.open.events c.args.self.now.next_offset c.args.self.now.last_time c.args.self.now.cache c.touch.new.self.cache c.args.spot.now c.in-Some.next told right spells lt mid turns in
+    let absent : IsAbsent c.touch.new.self.schema.fields c.in-Some.next c.touch.new.self.log.end (v c.touch.new.self.log.file) = c.in-Ok-false-touch.ensures.absent c.in-Ok-false-touch.field-0-test v (c.touch.ensures.leaves.now_stays ∙ told) in
+    let far : c.args.self.now.log.end < f.chunk.next = absent_same _ _ _ _ _ _ v c.in-Some.next eqF eqf eqe absent f.chunk.chunk f.chunk.next f.chunk.here in
+    let le : f.chunk.next ≤ c.args.self.now.log.end = before_end v (g.H.Host.may c.args.host.now) (base c.args.self.now) c.args.self.now.open.events c.args.self.now.next_offset c.args.self.now.last_time c.args.self.now.cache right c.in-Some.next 0 c.args.spot.now.number f.chunk in
+    absurd (omega (arith, far, le))
+
+pub returns-in-Ok-false-clause-finds : goal.returns-in-Ok-false-clause-finds
+returns-in-Ok-false-clause-finds g c =
+    λ sound spells.
+    let v = sound.0 in
+    let told : g.H.Host.now c.args.host.now ≡ Some v = sound.1 in
+    let right = sound.2.right c.if-self.false in
+    let lt : c.args.spot.now.number < c.args.self.now.committed = omega (arith, c.if-spot-self.false) in
+    let i = near (g.H.Host.now c.args.host.now) v (base c.args.self.now) c.args.self.now.open.events c.args.spot.now told spells lt in
+    let absent : IsAbsent c.args.self.now.schema.fields c.args.spot.now.place c.args.self.now.log.end (v c.args.self.now.log.file) = c.in-Ok-false.ensures.absent c.in-Ok-false.field-0-test v told in
+    let far : c.args.self.now.log.end < i.next = absent i.chunk i.next i.here in
+    let le : i.next ≤ c.args.self.now.log.end = before_end v (g.H.Host.may c.args.host.now) (base c.args.self.now) c.args.self.now.open.events c.args.self.now.next_offset c.args.self.now.last_time c.args.self.now.cache right c.args.spot.now.place c.args.spot.now.index c.args.spot.now.number i in
+    absurd (omega (arith, far, le))
+
+pub returns-in-Ok-false-clause-all_touched : goal.returns-in-Ok-false-clause-all_touched
+returns-in-Ok-false-clause-all_touched g c =
+    λ sound spells.
+    let v = sound.0 in
+    let told : g.H.Host.now c.args.host.now ≡ Some v = sound.1 in
+    let right = sound.2.right c.if-self.false in
+    let lt : c.args.spot.now.number < c.args.self.now.committed = omega (arith, c.if-spot-self.false) in
+    let i = near (g.H.Host.now c.args.host.now) v (base c.args.self.now) c.args.self.now.open.events c.args.spot.now told spells lt in
+    let absent : IsAbsent c.args.self.now.schema.fields c.args.spot.now.place c.args.self.now.log.end (v c.args.self.now.log.file) = c.in-Ok-false.ensures.absent c.in-Ok-false.field-0-test v told in
+    let far : c.args.self.now.log.end < i.next = absent i.chunk i.next i.here in
+    let le : i.next ≤ c.args.self.now.log.end = before_end v (g.H.Host.may c.args.host.now) (base c.args.self.now) c.args.self.now.open.events c.args.self.now.next_offset c.args.self.now.last_time c.args.self.now.cache right c.args.spot.now.place c.args.spot.now.index c.args.spot.now.number i in
+    absurd (omega (arith, far, le))
+
+pub returns-in-None-clause-touched : goal.returns-in-None-clause-touched
+returns-in-None-clause-touched g c =
+    λ v told was.
+    let lt : c.args.spot.now.number < c.args.self.now.committed = omega (arith, c.if-spot-self.false) in
+    let first : places c.touch.new.self.cache ≡ least_recently_used c.args.self.now.cache.cap (touches c.args.self.now.cache (c.args.spot.now.place ∷ [])) = search rules in
+    one_touched (base c.args.self.now) (v c.args.self.now.log.file) c.args.spot.now c.args.self.now.cache c.touch.new.self.cache lt first
+
+pub returns-in-Ok-false-touch-clause-touched : goal.returns-in-Ok-false-touch-clause-touched
+returns-in-Ok-false-touch-clause-touched g c =
+    λ v told was.
+    let lt : c.args.spot.now.number < c.args.self.now.committed = omega (arith, c.if-spot-self.false) in
+    let first : places c.touch.new.self.cache ≡ least_recently_used c.args.self.now.cache.cap (touches c.args.self.now.cache (c.args.spot.now.place ∷ [])) = search rules in
+    let left : places c.touch-2.new.self.cache ≡ places c.touch.new.self.cache = search rules in
+    one_touched (base c.args.self.now) (v c.args.self.now.log.file) c.args.spot.now c.args.self.now.cache c.touch-2.new.self.cache lt (left ∙ first)
+
+pub returns-in-Err-touch-clause-touched : goal.returns-in-Err-touch-clause-touched
+returns-in-Err-touch-clause-touched g c =
+    λ v told was.
+    let lt : c.args.spot.now.number < c.args.self.now.committed = omega (arith, c.if-spot-self.false) in
+    let first : places c.touch.new.self.cache ≡ least_recently_used c.args.self.now.cache.cap (touches c.args.self.now.cache (c.args.spot.now.place ∷ [])) = search rules in
+    let left : places c.touch-2.new.self.cache ≡ places c.touch.new.self.cache = search rules in
+    one_touched (base c.args.self.now) (v c.args.self.now.log.file) c.args.spot.now c.args.self.now.cache c.touch-2.new.self.cache lt (left ∙ first)
+
+pub returns-clause-touched : goal.returns-clause-touched
+returns-clause-touched g c =
+    λ v told was.
+    let lt : c.args.spot.now.number < c.args.self.now.committed = omega (arith, c.if-spot-self.false) in
+    let first : places c.touch.new.self.cache ≡ least_recently_used c.args.self.now.cache.cap (touches c.args.self.now.cache (c.args.spot.now.place ∷ [])) = search rules in
+    let turns : next_in (item_at c.args.spot.now.place c.touch.new.self.cache) c.args.spot.now.index ≡ Some c.in-Some.next = search rules in
+    let second : places c.touch-2.new.self.cache ≡ least_recently_used c.touch.new.self.cache.cap (touches c.touch.new.self.cache (c.in-Some.next ∷ [])) = search rules in
+    let both = two_places c.args.self.now.cache c.touch.new.self.cache c.touch-2.new.self.cache c.args.spot.now.place c.in-Some.next first c.touch.ensures.cap second in
+    let mid : IsCached c.args.self.now.schema.fields (v c.args.self.now.log.file) c.touch.new.self.cache = c.touch.ensures.cached v told was in
+    (c.args.spot.now.place ∷ (c.in-Some.next ∷ []), [], sym (look_two (base c.args.self.now) (v c.args.self.now.log.file) c.args.spot.now c.touch.new.self.cache c.in-Some.next lt mid turns), both)
+
+pub returns-clause-all_touched : goal.returns-clause-all_touched
+returns-clause-all_touched g c =
+    λ sound spells w there.
+    let v = sound.0 in
+    let told : g.H.Host.now c.args.host.now ≡ Some v = sound.1 in
+    let right = sound.2.right c.if-self.false in
+    let lt : c.args.spot.now.number < c.args.self.now.committed = omega (arith, c.if-spot-self.false) in
+    let mid : IsCached c.args.self.now.schema.fields (v c.args.self.now.log.file) c.touch.new.self.cache = c.touch.ensures.cached v told right.cached in
+    let first : places c.touch.new.self.cache ≡ least_recently_used c.args.self.now.cache.cap (touches c.args.self.now.cache (c.args.spot.now.place ∷ [])) = search rules in
+    let turns : next_in (item_at c.args.spot.now.place c.touch.new.self.cache) c.args.spot.now.index ≡ Some c.in-Some.next = search rules in
+    let second : places c.touch-2.new.self.cache ≡ least_recently_used c.touch.new.self.cache.cap (touches c.touch.new.self.cache (c.in-Some.next ∷ [])) = search rules in
+    let both = two_places c.args.self.now.cache c.touch.new.self.cache c.touch-2.new.self.cache c.args.spot.now.place c.in-Some.next first c.touch.ensures.cap second in
+    subst (λ (u : Image). places c.touch-2.new.self.cache ≡ held_after c.args.self.now.cache (look_places (base c.args.self.now) (u c.args.self.now.log.file) c.args.spot.now)) (one_image (g.H.Host.now c.args.host.now) v w told there) (both ∙ sym (ap (held_after c.args.self.now.cache) (look_two (base c.args.self.now) (v c.args.self.now.log.file) c.args.spot.now c.touch.new.self.cache c.in-Some.next lt mid turns)))
+
+pub returns-in-None-clause-all_touched : goal.returns-in-None-clause-all_touched
+returns-in-None-clause-all_touched g c =
+    λ sound spells w there.
+    let v = sound.0 in
+    let told : g.H.Host.now c.args.host.now ≡ Some v = sound.1 in
+    let right = sound.2.right c.if-self.false in
+    let lt : c.args.spot.now.number < c.args.self.now.committed = omega (arith, c.if-spot-self.false) in
+    let mid : IsCached c.args.self.now.schema.fields (v c.args.self.now.log.file) c.touch.new.self.cache = c.touch.ensures.cached v told right.cached in
+    let first : places c.touch.new.self.cache ≡ least_recently_used c.args.self.now.cache.cap (touches c.args.self.now.cache (c.args.spot.now.place ∷ [])) = search rules in
+    let h : (kept : Kept) × (item_at c.args.spot.now.place c.touch.new.self.cache ≡ Some kept) = search rules in
+    let stays : next_in (item_at c.args.spot.now.place c.touch.new.self.cache) c.args.spot.now.index ≡ None = search rules in
+    subst (λ (u : Image). places c.touch.new.self.cache ≡ held_after c.args.self.now.cache (look_places (base c.args.self.now) (u c.args.self.now.log.file) c.args.spot.now)) (one_image (g.H.Host.now c.args.host.now) v w told there) (first ∙ sym (ap (held_after c.args.self.now.cache) (look_one (base c.args.self.now) (v c.args.self.now.log.file) c.args.spot.now c.touch.new.self.cache h.0 lt mid h.1 stays)))
+
+pub returns-clause-spelled : goal.returns-clause-spelled
+returns-clause-spelled g c =
+    λ sound spells.
+    let v = sound.0 in
+    let told : g.H.Host.now c.args.host.now ≡ Some v = sound.1 in
+    let right = sound.2.right c.if-self.false in
+    let lt : c.args.spot.now.number < c.args.self.now.committed = omega (arith, c.if-spot-self.false) in
+    let mid : IsCached c.args.self.now.schema.fields (v c.args.self.now.log.file) c.touch.new.self.cache = c.touch.ensures.cached v told right.cached in
+    let eqF = ap (λ (b : Base). b.shape.fields) c.touch.ensures.stays.base in
+    let eqf = ap (λ (b : Base). b.file) c.touch.ensures.stays.base in
+    let turns : next_in (item_at c.args.spot.now.place c.touch.new.self.cache) c.args.spot.now.index ≡ Some c.in-Some.next = search rules in
+    let h : (kept : Kept) × (item_at c.in-Some.next c.touch-2.new.self.cache ≡ Some kept) = search rules in
+    let cached : IsCached c.args.self.now.schema.fields (v c.args.self.now.log.file) c.touch-2.new.self.cache = cached_same _ _ _ _ v c.touch-2.new.self.cache eqF eqf (c.touch-2.ensures.cached v (c.touch.ensures.leaves.now_stays ∙ told) (cached_same _ _ _ _ v c.touch.new.self.cache (sym eqF) (sym eqf) mid)) in
+    (found_next (g.H.Host.now c.args.host.now) v (g.H.Host.may c.args.host.now) (base c.args.self.now) c.args.self.now.open.events c.args.self.now.next_offset c.args.self.now.last_time c.args.self.now.cache c.touch.new.self.cache c.touch-2.new.self.cache c.args.spot.now (record { place = c.in-Some.next; index = 0; number = c.args.spot.now.number }) h.0 c.in-Some.next told right spells lt mid turns refl refl refl cached h.1).0
+
+pub returns-clause-finds : goal.returns-clause-finds
+returns-clause-finds g c =
+    λ sound spells.
+    let v = sound.0 in
+    let told : g.H.Host.now c.args.host.now ≡ Some v = sound.1 in
+    let right = sound.2.right c.if-self.false in
+    let lt : c.args.spot.now.number < c.args.self.now.committed = omega (arith, c.if-spot-self.false) in
+    let mid : IsCached c.args.self.now.schema.fields (v c.args.self.now.log.file) c.touch.new.self.cache = c.touch.ensures.cached v told right.cached in
+    let eqF = ap (λ (b : Base). b.shape.fields) c.touch.ensures.stays.base in
+    let eqf = ap (λ (b : Base). b.file) c.touch.ensures.stays.base in
+    let turns : next_in (item_at c.args.spot.now.place c.touch.new.self.cache) c.args.spot.now.index ≡ Some c.in-Some.next = search rules in
+    let h : (kept : Kept) × (item_at c.in-Some.next c.touch-2.new.self.cache ≡ Some kept) = search rules in
+    let cached : IsCached c.args.self.now.schema.fields (v c.args.self.now.log.file) c.touch-2.new.self.cache = cached_same _ _ _ _ v c.touch-2.new.self.cache eqF eqf (c.touch-2.ensures.cached v (c.touch.ensures.leaves.now_stays ∙ told) (cached_same _ _ _ _ v c.touch.new.self.cache (sym eqF) (sym eqf) mid)) in
+    (found_next (g.H.Host.now c.args.host.now) v (g.H.Host.may c.args.host.now) (base c.args.self.now) c.args.self.now.open.events c.args.self.now.next_offset c.args.self.now.last_time c.args.self.now.cache c.touch.new.self.cache c.touch-2.new.self.cache c.args.spot.now (record { place = c.in-Some.next; index = 0; number = c.args.spot.now.number }) h.0 c.in-Some.next told right spells lt mid turns refl refl refl cached h.1).1

@@ -1,0 +1,80 @@
+use Rattle.std.proofs.Common.{◌∙◌, refl, arith, length, ap, sym, Err}
+use Rattle.rg_past.specs.declared.past.PastFault.TheVariants as past
+use Rattle.rg_reservoir.specs.Kept.{Base, base}
+use Rattle.rg_reservoir.specs.GoingLaws.{all_long}
+use Rattle.rg_reservoir.proofs.Peeking.{goes_seek, events_stay, spells_stay, later_stays, illegal_stays, seen_stays, err_is, ok_not_err, some_map}
+use Rattle.rg_past.specs.declared.past.PastFault.{PastFault}
+use Rattle.rg_reservoir.specs.declared.fault.ReservoirFault.{ReservoirFault}
+use Rattle.rg_reservoir.specs.declared.fault.ReservoirFault.TheVariants.{Ended}
+use Rattle.rg_reservoir.specs.Faults.{to_past}
+use Rattle.rg_reservoir.proofs.Causes.{past_disk, past_damaged, past_ended, past_full, look_fault}
+use Rattle.rg_reservoir.proofs.stored.StoredPast.peek.Goals as goal
+
+pub seek-requires : goal.seek-requires
+seek-requires g c = omega (arith, c.requires, all_long (g.H.Host.now c.args.self.now.host.now) (base c.args.self.now.reservoir.now) c.args.self.now.reservoir.now.open.events)
+
+pub at-requires-clause-number : goal.at-requires-clause-number
+at-requires-clause-number g c = omega (arith, c.requires, c.seek.ensures.number, all_long (g.H.Host.now c.args.self.now.host.now) (base c.args.self.now.reservoir.now) c.args.self.now.reservoir.now.open.events, ap (λ (b : Base). b.committed) c.seek.ensures.stays.base, ap length c.seek.ensures.stays.opened)
+
+pub returns-in-Err : goal.returns-in-Err
+returns-in-Err g c =
+    let stays = c.seek.ensures.stays in
+    let same = c.seek.ensures.leaves.now_stays in
+    let goes = goes_seek g.H.Host.now g.H.Host.may g.H.Host.clock g.H.Host.since g.H.Host.said g.H.Host.out_faults c.args.self.now.reservoir c.args.self.now.host (record { ref_ptr = c.args.self.now.reservoir.ref_ptr; ghost_name = c.args.self.now.reservoir.ghost_name; now = c.seek.new.self }) (record { ref_ptr = c.args.self.now.host.ref_ptr; ghost_name = c.args.self.now.host.ghost_name; now = c.seek.new.host }) refl refl stays c.seek.ensures.leaves c.seek.ensures.out_faults c.seek.ensures.cached c.seek.ensures.inside in (
+      (
+        refl,
+        λ _. tt,
+        (
+          events_stay (g.H.Host.now c.args.self.now.host.now) (g.H.Host.now c.seek.new.host) c.args.self.now.reservoir.now c.seek.new.self same stays,
+          goes,
+          (λ e. sym (ap (λ (b : Base). b.ended) stays.base) ∙ e, λ e. ap (λ (b : Base). b.ended) stays.base ∙ e),
+          goes.sound,
+          λ room. omega (arith, room, ap length stays.opened, stays.room),
+          c.seek.ensures.disk_faults,
+          λ e. c.in-Err.ensures.disk (ap (λ (f : ReservoirFault). Err f) (past_disk c.in-Err.fault c.from.result c.from.ensures (err_is c.from.result past.Disk e))),
+          λ p e. illegal_stays (g.H.Host.now c.args.self.now.host.now) (g.H.Host.now c.seek.new.host) c.args.self.now.reservoir.now c.seek.new.self p same stays (c.in-Err.ensures.damaged p (ap (λ (f : ReservoirFault). Err f) (past_damaged c.in-Err.fault c.from.result p c.from.ensures (look_fault c.in-Err.fault c.in-Err.ensures.faults).0 (err_is c.from.result (past.Damaged p) e)))),
+          λ sound spells. (spells_stay (g.H.Host.now c.args.self.now.host.now) (g.H.Host.now c.seek.new.host) c.args.self.now.reservoir.now c.seek.new.self c.seek.new.spot same stays (c.seek.ensures.spelled sound spells), tt),
+        ),
+      ),
+      record {
+        after = tt;
+        number = c.seek.ensures.number;
+        within = tt;
+        event = λ _ _. tt;
+        ended = (
+          λ e. c.in-Err.ensures.ended.0 (ap (λ (f : ReservoirFault). Err f) (past_ended c.in-Err.fault c.from.result c.from.ensures (err_is c.from.result past.Ended e))),
+          λ e. ap (λ (f : PastFault). Err f) (c.from.ensures ∙ ap to_past (err_is c.in-Err.fault Ended (c.in-Err.ensures.ended.1 e))),
+        );
+        no_full = λ e. (look_fault c.in-Err.fault c.in-Err.ensures.faults).1 (past_full c.in-Err.fault c.from.result c.from.ensures (err_is c.from.result past.Full e));
+      },
+    )
+
+pub returns : goal.returns
+returns g c =
+    let stays = c.seek.ensures.stays in
+    let same = c.seek.ensures.leaves.now_stays in
+    let goes = goes_seek g.H.Host.now g.H.Host.may g.H.Host.clock g.H.Host.since g.H.Host.said g.H.Host.out_faults c.args.self.now.reservoir c.args.self.now.host (record { ref_ptr = c.args.self.now.reservoir.ref_ptr; ghost_name = c.args.self.now.reservoir.ghost_name; now = c.seek.new.self }) (record { ref_ptr = c.args.self.now.host.ref_ptr; ghost_name = c.args.self.now.host.ghost_name; now = c.seek.new.host }) refl refl stays c.seek.ensures.leaves c.seek.ensures.out_faults c.seek.ensures.cached c.seek.ensures.inside in (
+      (
+        refl,
+        λ _. tt,
+        (
+          events_stay (g.H.Host.now c.args.self.now.host.now) (g.H.Host.now c.seek.new.host) c.args.self.now.reservoir.now c.seek.new.self same stays,
+          goes,
+          (λ e. sym (ap (λ (b : Base). b.ended) stays.base) ∙ e, λ e. ap (λ (b : Base). b.ended) stays.base ∙ e),
+          goes.sound,
+          λ room. omega (arith, room, ap length stays.opened, stays.room),
+          c.seek.ensures.disk_faults,
+          λ e. absurd (ok_not_err c.at.result past.Disk e),
+          λ p e. absurd (ok_not_err c.at.result (past.Damaged p) e),
+          λ sound spells. (spells_stay (g.H.Host.now c.args.self.now.host.now) (g.H.Host.now c.seek.new.host) c.args.self.now.reservoir.now c.seek.new.self c.seek.new.spot same stays (c.seek.ensures.spelled sound spells), later_stays (g.H.Host.now c.args.self.now.host.now) (g.H.Host.now c.seek.new.host) c.args.self.now.reservoir.now c.seek.new.self c.seek.new.spot same stays (c.in-Ok.ensures.finds sound spells).later),
+        ),
+      ),
+      record {
+        after = tt;
+        number = c.seek.ensures.number;
+        within = some_map c.at.result _ _ (λ x w. (omega (arith, w.0, all_long (g.H.Host.now c.args.self.now.host.now) (base c.args.self.now.reservoir.now) c.args.self.now.reservoir.now.open.events, ap (λ (b : Base). b.committed) stays.base, ap length stays.opened), w.1)) c.at.ensures.within;
+        event = λ sound spells. c.at.ensures.event ∙ seen_stays c.args.self.now.reservoir.now c.seek.new.self c.seek.new.spot stays ∙ (c.in-Ok.ensures.finds sound spells).shows;
+        ended = (λ e. absurd (ok_not_err c.at.result past.Ended e), λ e. absurd (ok_not_err tt Ended (c.in-Ok.ensures.ended.1 e)));
+        no_full = λ e. ok_not_err c.at.result past.Full e;
+      },
+    )

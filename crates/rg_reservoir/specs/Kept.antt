@@ -1,0 +1,208 @@
+-- What a reservoir keeps of its log, and what is right of it.
+use Rattle.std.specs.Prelude.{◌≡◌, ◌⊎◌, ◌≤◌, ◌<◌, ◌+◌, ◌^◌, nat_le, ◌==◌, ℕ, Bool, false, List, [], ◌∷◌, ◌++◌, length, Option, Some, None, slice_get, if◌then◌else◌}
+use Rattle.std.specs.List.{AllByRecursion}
+use Rattle.rg_host.specs.Image.{Image}
+use Rattle.rg_event.specs.declared.event.Event.{Event}
+use Rattle.rg_event.specs.declared.schema.Field.{Field}
+use Rattle.rg_event.specs.Shapes.{Shape}
+use Rattle.rg_event.specs.Codec.{IsEventOf}
+use Rattle.rg_event.specs.Rising.{IsRising, next_offset, last_time}
+use Rattle.rg_past.specs.declared.past.Spot.{Spot}
+use Rattle.rg_frame.specs.Frames.{frames, HasPayloads, EndsAt}
+use Rattle.rg_frame.specs.LogState.{LogState}
+use Rattle.rg_frame.specs.Looks.{IsClosed}
+use Rattle.rg_frame.specs.Steps.{Grows, Grown}
+use Rattle.rg_cache.specs.Cache.{Cache, item_at, places, least_recently_used, touches}
+use Rattle.rg_chunk.specs.Chunks.{chunk_bytes}
+use Rattle.rg_log.specs.Log.{joined, HasEvents, HasSchemaFrame}
+use Rattle.rg_reservoir.specs.Chain.{chunk_at, Chain, events_from, padded, IsFirst}
+use Rattle.rg_reservoir.specs.declared.kept.Kept.{Kept}
+use Rattle.rg_reservoir.specs.declared.reservoir.Reservoir.{Reservoir}
+
+-- what only a commit changes: the schema, the log's file, the place behind its first frame and its end, whether it has ended, and how many events are in it and may be
+pub record Base : Type 0 where
+  pub shape : Shape
+  pub file : ℕ
+  pub first : ℕ
+  pub end : ℕ
+  pub ended : Bool
+  pub committed : ℕ
+  pub limit : ℕ
+
+abbrev pub base : Reservoir → Base
+base r = record { shape = r.schema; file = r.log.file; first = r.first; end = r.log.end; ended = r.ended; committed = r.committed; limit = r.limit }
+
+-- the events of the open chunk, and for how many it has room
+abbrev pub opened : Reservoir → List Event
+opened r = r.open.events
+
+abbrev pub room_of : Reservoir → ℕ
+room_of r = r.open.cap
+
+-- the log of frames below
+abbrev pub log_of : Reservoir → LogState
+log_of r = r.log
+
+-- the closed chunks in memory, by their places, and how often one was loaded
+abbrev pub cache_of : Reservoir → Cache Kept
+cache_of r = r.cache
+
+abbrev pub loads_of : Reservoir → ℕ
+loads_of r = r.loads
+
+-- the last event's offset plus one, and its time; 0 where there is none
+abbrev pub next_of : Reservoir → ℕ
+next_of r = r.next_offset
+
+abbrev pub time_of : Reservoir → ℕ
+time_of r = r.last_time
+
+-- the events of the log, as the host tells it: just as many as were committed
+abbrev pub stored : Option Image → Base → List Event
+stored (Some v) b = padded b.committed (events_from b.shape.fields b.committed b.first (v b.file))
+stored None b = padded b.committed []
+
+-- and then those of the open chunk
+abbrev pub all_events : Option Image → Base → List Event → List Event
+all_events now b opened = stored now b ++ opened
+
+-- each chunk in the cache is that of its place
+abbrev pub IsCached : List Field → List ℕ → Cache Kept → Type 0
+IsCached fields bytes cache = (place : ℕ) (kept : Kept) → item_at place cache ≡ Some kept → chunk_at fields place bytes ≡ Some (kept.chunk, kept.next)
+
+-- no chunk in the cache goes past that place, so what is written there changes none
+abbrev pub IsInside : ℕ → Cache Kept → Type 0
+IsInside end cache = (place : ℕ) (kept : Kept) → item_at place cache ≡ Some kept → kept.next ≤ end
+
+-- no chunk stands at that place, or it goes past the end
+abbrev pub IsAbsent : List Field → ℕ → ℕ → List ℕ → Type 0
+IsAbsent fields place end bytes = (chunk : List Event) (next : ℕ) → chunk_at fields place bytes ≡ Some (chunk, next) → end < next
+
+-- events that begin others
+abbrev pub IsPrefix : List Event → List Event → Type 0
+IsPrefix front events = (more : List Event) × (events ≡ front ++ more)
+
+-- what is kept of the log is that log's, and what is kept of all events is theirs
+pub record IsRight (v : Image) (may : Image → Type 0) (b : Base) (opened : List Event) (next time : ℕ) (cache : Cache Kept) : Type 0 where
+  pub settled : (u : Image) → may u → u b.file ≡ v b.file
+  pub schema : IsFirst b.shape b.first (v b.file)
+  pub chunks : List (List Event)
+  pub chain : Chain b.shape.fields (v b.file) b.first chunks b.end
+  pub ends : IsClosed b.end (v b.file)
+  pub payloads : List (List ℕ)
+  pub has : HasPayloads payloads (v b.file)
+  pub end_is : b.end ≡ length (frames payloads)
+  pub legal : HasEvents b.shape (joined chunks) (v b.file)
+  pub framed : HasSchemaFrame b.shape (v b.file)
+  pub counted : length (joined chunks) ≡ b.committed
+  pub cached : IsCached b.shape.fields (v b.file) cache
+  pub inside : IsInside b.end cache
+  pub rising : IsRising (all_events (Some v) b opened)
+  pub next_is : next ≡ next_offset (all_events (Some v) b opened)
+  pub time_is : time ≡ last_time (all_events (Some v) b opened)
+  pub fits : AllByRecursion (IsEventOf b.shape.fields) opened
+  pub few : b.committed + length opened ≤ 2 ^ 40
+
+-- each crash leaves a legal log that begins with what was committed and goes no further than all events; and what is kept is right, unless the log has ended
+pub record IsSoundIn (v : Image) (may : Image → Type 0) (b : Base) (opened : List Event) (next time : ℕ) (cache : Cache Kept) : Type 0 where
+  pub each : (u : Image) → may u → (events : List Event) × HasEvents b.shape events (u b.file) × HasSchemaFrame b.shape (u b.file) × IsPrefix (stored (Some v) b) events × IsPrefix events (all_events (Some v) b opened)
+  pub right : b.ended ≡ false → IsRight v may b opened next time cache
+
+-- the host tells its image, and that holds there
+abbrev pub IsSound : Option Image → (Image → Type 0) → Reservoir → Type 0
+IsSound now may r = (v : Image) × (now ≡ Some v) × IsSoundIn v may (base r) (opened r) (next_of r) (time_of r) (cache_of r)
+
+-- a chunk stands at that place, and that index in it, or its count, is that number
+pub record InChunk (b : Base) (bytes : List ℕ) (place index number : ℕ) : Type 0 where
+  pub chunks : List (List Event)
+  pub chunk : List Event
+  pub next : ℕ
+  pub chain : Chain b.shape.fields bytes b.first chunks place
+  pub here : chunk_at b.shape.fields place bytes ≡ Some (chunk, next)
+  pub number_is : number ≡ length (joined chunks) + index
+  pub most : index ≤ length chunk
+
+-- the same of an event in it
+pub record InFront (b : Base) (bytes : List ℕ) (place index number : ℕ) : Type 0 where
+  pub chunk : InChunk b bytes place index number
+  pub within : index < length chunk.chunk
+
+-- behind the last chunk, where the open chunk would stand
+pub record InOpen (b : Base) (place index number : ℕ) : Type 0 where
+  pub place_is : place ≡ b.end
+  pub number_is : number ≡ b.committed + index
+
+-- how many events there are
+abbrev pub count_of : Base → List Event → ℕ
+count_of b opened = b.committed + length opened
+
+-- place and index spell the number
+pub record Spells (now : Option Image) (b : Base) (opened : List Event) (spot : Spot) : Type 0 where
+  pub image : Image
+  pub told : now ≡ Some image
+  pub number : spot.number ≤ count_of b opened
+  pub spelling : ((spot.number ≤ b.committed) × InChunk b (image b.file) spot.place spot.index spot.number) ⊎ InOpen b spot.place spot.index spot.number
+
+-- in the later one of two spellings
+pub record SpellsLater (now : Option Image) (b : Base) (opened : List Event) (spot : Spot) : Type 0 where
+  pub image : Image
+  pub told : now ≡ Some image
+  pub number : spot.number ≤ count_of b opened
+  pub spelling : ((spot.number < b.committed) × InFront b (image b.file) spot.place spot.index spot.number) ⊎ InOpen b spot.place spot.index spot.number
+
+-- what stands at a spot, where its chunk is in the cache
+abbrev pub seen_in : Option Kept → ℕ → Option Event
+seen_in (Some kept) index = slice_get kept.chunk index
+seen_in None index = None
+
+abbrev pub seen : ℕ → List Event → Cache Kept → Spot → Option Event
+seen committed opened cache spot = if nat_le committed spot.number then slice_get opened spot.index else seen_in (item_at spot.place cache) spot.index
+
+-- all stays but the cache and the loads
+pub record Stays (old new : Reservoir) : Type 0 where
+  pub base : base new ≡ base old
+  pub opened : opened new ≡ opened old
+  pub room : room_of new ≡ room_of old
+  pub next : next_of new ≡ next_of old
+  pub time : time_of new ≡ time_of old
+  pub log : log_of new ≡ log_of old
+
+-- the next place, where the index is the count of the chunk
+abbrev pub next_in : Option Kept → ℕ → Option ℕ
+next_in (Some kept) index = if index == length kept.chunk then Some kept.next else None
+next_in None index = None
+
+-- the spot is in its later spelling, and shows the event of that number
+pub record Found (now : Option Image) (b : Base) (opened : List Event) (cache : Cache Kept) (spot : Spot) (number : ℕ) : Type 0 where
+  pub later : SpellsLater now b opened spot
+  pub shows : seen b.committed opened cache spot ≡ slice_get (all_events now b opened) number
+
+-- the place of the next chunk, where the index is the count of this one
+abbrev pub next_place : Option (List Event × ℕ) → ℕ → List ℕ
+next_place (Some chunk) index = if index == length chunk.0 then chunk.1 ∷ [] else []
+next_place None index = []
+
+-- the places that a look at a spot touches
+abbrev pub look_places : Base → List ℕ → Spot → List ℕ
+look_places b bytes spot = if nat_le b.committed spot.number then [] else spot.place ∷ next_place (chunk_at b.shape.fields spot.place bytes) spot.index
+
+-- the places that are held after these touches
+abbrev pub held_after : Cache Kept → List ℕ → List ℕ
+held_after cache [] = places cache
+held_after cache (t ∷ ts) = least_recently_used cache.cap (touches cache (t ∷ ts))
+
+-- the first of these touches succeeded, and no other
+abbrev pub IsTouched : Cache Kept → Cache Kept → List ℕ → Type 0
+IsTouched old new wanted = (done : List ℕ) × (left : List ℕ) × (done ++ left ≡ wanted) × (places new ≡ held_after old done)
+
+-- what a commit of these events may leave of the frame list: the old one, or it and their chunk
+abbrev pub Adds : List Event → List ℕ → List ℕ → Type 0
+Adds opened old new = (new ≡ old) ⊎ ((1 ≤ length opened) × Grows (chunk_bytes opened) old new)
+
+-- the frame list with their chunk behind it, if there are any, which ends at that place
+abbrev pub Added : List Event → ℕ → List ℕ → List ℕ → Type 0
+Added opened next old new = ((opened ≡ []) × (new ≡ old)) ⊎ ((1 ≤ length opened) × Grown (chunk_bytes opened) old new × EndsAt next new)
+
+-- the image's log has the committed events, or these and those of the open chunk
+abbrev pub CommittedOrAll : Option Image → Base → List Event → Image → Type 0
+CommittedOrAll now b opened image = HasEvents b.shape (stored now b) (image b.file) ⊎ HasEvents b.shape (all_events now b opened) (image b.file)

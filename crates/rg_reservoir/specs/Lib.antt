@@ -1,0 +1,9 @@
+pub mod Attached
+pub mod Chain
+pub mod Ends
+pub mod Faults
+pub mod Going
+pub mod GoingLaws
+pub mod Heads
+pub mod Kept
+pub mod Walked

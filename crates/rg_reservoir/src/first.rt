@@ -1,0 +1,150 @@
+ghost use Rattle.std.specs.Prelude.{◌≡◌, ◌≢◌, ◌⊎◌, ◌≤◌, ◌<◌, ◌+◌, ◌^◌, [], ◌∷◌, ℕ, List, Some, None, Ok, Err, true, false, IfOk, IfErr, OnOk, OnErr, IsErrOf, IsTrue, length};
+ghost use Rattle.std.specs.Option.{ForSome};
+ghost use Rattle.rg_bytes.specs.Counts.{Rose};
+ghost use Rattle.rg_host.specs.Image.{Image, Becomes};
+ghost use Rattle.rg_event.specs.Shapes.{Shape, IsSchema};
+ghost use Rattle.rg_frame.specs.Frames.{payload_at, Begins, IsLog};
+ghost use Rattle.rg_host.specs.Moments.{LeavesAll};
+ghost use Rattle.rg_host.specs.Image.{NothingPending};
+ghost use Rattle.rg_frame.specs.Calls.{Writes};
+ghost use Rattle.rg_frame.specs.LogState.{ReachesEnd};
+ghost use Rattle.rg_log.specs.Log.{schema_payload};
+ghost use Rattle.rg_reservoir.specs.Attached.{IsNoSchema, IsOther, IsBadFrame, SchemaAdded, Opens, IsOpened};
+
+use crate::fault::ReservoirFault;
+use crate::heads::{Tally, read_heads};
+use rg_event::{Schema, SchemaFault};
+use rg_frame::FrameLog;
+use rg_host::Host;
+use std::alloc::Global;
+
+/// Reads the schema that a payload says, where it says one.
+pub(crate) fn read_schema(alloc: Global, payload: &[u8]) -> Result<Schema, ReservoirFault>
+    ensures is { IfOk result (λ schema. IsSchema schema × (payload.now ≡ schema_payload schema)) }
+    ensures damaged { (p : ℕ) → IsErrOf result (ReservoirFault.Damaged p) → (p ≡ 0) × ((shape : Shape) → IsSchema shape → payload.now ≡ schema_payload shape → ⊥) }
+    ensures faults { IfErr result (λ fault. (fault ≡ ReservoirFault.Damaged 0) ⊎ (fault ≡ ReservoirFault.Memory)) }
+{
+    let text = match payload {
+        [tag, text @ ..] => {
+            if *tag != 0x53 {
+                return Err(ReservoirFault::Damaged(0));
+            }
+            text
+        }
+        [] => return Err(ReservoirFault::Damaged(0)),
+    };
+    match Schema::parse(alloc, text) {
+        Ok(schema) => Ok(schema),
+        Err(SchemaFault::Bad) => Err(ReservoirFault::Damaged(0)),
+        Err(SchemaFault::Memory) => Err(ReservoirFault::Memory),
+    }
+}
+
+/// Judges a first frame that isn't ours.
+fn judge(alloc: Global, payload: &[u8]) -> ReservoirFault
+    ensures differs { (result ≡ ReservoirFault.SchemaDiffers) → (shape : Shape) × IsSchema shape × (payload.now ≡ schema_payload shape) }
+    ensures damaged { (p : ℕ) → (result ≡ ReservoirFault.Damaged p) → (p ≡ 0) × ((shape : Shape) → IsSchema shape → payload.now ≡ schema_payload shape → ⊥) }
+    ensures faults { (result ≡ ReservoirFault.SchemaDiffers) ⊎ (result ≡ ReservoirFault.Damaged 0) ⊎ (result ≡ ReservoirFault.Memory) }
+{
+    if let Err(fault) = read_schema(alloc, payload) {
+        return fault;
+    }
+    ReservoirFault::SchemaDiffers
+}
+
+/// Whether these are the same bytes.
+fn is_same(payload: &[u8], ours: &[u8]) -> bool
+    ensures same { IsTrue result → (payload.now ≡ ours.now) }
+    ensures other { result ≡ false → (payload.now ≢ ours.now) }
+{
+    payload == ours
+}
+
+/// Reads the first frame, moves the log behind it, and says whether there is one: ours.
+fn first_frame<H: Host>(
+    alloc: Global,
+    log: &mut FrameLog,
+    ours: &[u8],
+    host: &mut H,
+) -> Result<bool, ReservoirFault>
+    requires start { log.old.end ≡ 0 }
+    ensures found { IfOk result (λ found. IsTrue found → ForSome (H.now host.old) (λ v. (payload_at 0 (v log.old.file) ≡ Some ours.now) × (log.new.end ≡ 9 + length ours.now) × ((payloads : List (List ℕ)) × Begins payloads log.new.end (v log.old.file)))) }
+    ensures none { IfOk result (λ found. found ≡ false → (log.new ≡ record log.old { ready = true }) × ForSome (H.now host.old) (λ v. IsLog [] 0 (v log.old.file))) }
+    ensures differs { IsErrOf result ReservoirFault.SchemaDiffers → ForSome (H.now host.old) (λ v. IsOther ours.now (v log.old.file)) }
+    ensures damaged { (p : ℕ) → IsErrOf result (ReservoirFault.Damaged p) → (p ≡ 0) × ForSome (H.now host.old) (λ v. IsNoSchema (v log.old.file)) }
+    ensures same { (log.new.file ≡ log.old.file) × (log.new.ended ≡ log.old.ended) }
+    ensures reaches { ReachesEnd log.old (H.now host.old) → ReachesEnd log.new (H.now host.new) }
+    ensures leaves { LeavesAll H.now H.may H.clock H.since H.said host.old host.new }
+    ensures neither { (IsErrOf result ReservoirFault.Full → ⊥) × (IsErrOf result ReservoirFault.Ended → ⊥) }
+    ensures disk { IsErrOf result ReservoirFault.Disk → Rose (H.disk_faults host.old) (H.disk_faults host.new) }
+    ensures disk_faults { H.disk_faults host.old ≤ H.disk_faults host.new }
+    ensures out_faults { H.out_faults host.new ≡ H.out_faults host.old }
+{
+    let mut front = [0u8; 0];
+    match log.step(host, &mut front) {
+        Ok(Some(_)) => {}
+        Ok(None) => return Ok(false),
+        Err(fault) => return Err(ReservoirFault::from(fault)),
+    }
+    let mut payload = Vec::new(alloc);
+    match log.read(host, 0, &mut payload) {
+        Ok(Some(_)) => {}
+        Ok(None) => return Err(ReservoirFault::Damaged(0)),
+        Err(fault) => return Err(ReservoirFault::from(fault)),
+    }
+    if is_same(&payload, ours) {
+        return Ok(true);
+    }
+    Err(judge(alloc, &payload))
+}
+
+/// A log that was read to its end: where its first chunk would stand, and what its heads say.
+#[derive(Drop)]
+pub struct Opened {
+    pub log: FrameLog,
+    pub first: u64,
+    pub tally: Tally,
+}
+
+/// Reads the heads of the log to its end, and writes the first frame where the log has none.
+pub fn open_log<H: Host>(alloc: Global, ours: &[u8], host: &mut H) -> Result<Opened, ReservoirFault>
+    ensures opened { IfOk result (λ o. ForSome (H.now host.new) (λ w. IsOpened ours.now o.first o.log.end o.tally (w 2))) }
+    ensures opens { IfOk result (λ o. Becomes (H.now host.old) (H.now host.new) (λ v w. Opens ours.now o.first o.log.end (v 2) (w 2))) }
+    ensures settled { OnOk result (NothingPending 2 (H.now host.old) (H.may host.old) → NothingPending 2 (H.now host.new) (H.may host.new)) }
+    ensures log { IfOk result (λ o. (o.log.file ≡ 2) × (o.log.ready ≡ true) × (o.log.ended ≡ false) × (o.tally.count ≤ 2 ^ 40)) }
+    ensures reaches { IfOk result (λ o. ReachesEnd o.log (H.now host.new)) }
+    ensures differs { IsErrOf result ReservoirFault.SchemaDiffers → ForSome (H.now host.old) (λ v. IsOther ours.now (v 2)) }
+    ensures damaged { (p : ℕ) → IsErrOf result (ReservoirFault.Damaged p) → ForSome (H.now host.old) (λ v. IsBadFrame ours.now p (v 2)) }
+    ensures writes { Writes H.now H.may H.clock H.since H.said 2 (SchemaAdded ours.now) host.old host.new }
+    ensures neither { (IsErrOf result ReservoirFault.Full → ⊥) × (IsErrOf result ReservoirFault.Ended → ⊥) }
+    ensures disk { IsErrOf result ReservoirFault.Disk → Rose (H.disk_faults host.old) (H.disk_faults host.new) }
+    ensures disk_faults { H.disk_faults host.old ≤ H.disk_faults host.new }
+    ensures out_faults { H.out_faults host.new ≡ H.out_faults host.old }
+{
+    let mut log = FrameLog::new(2);
+    let found = match first_frame(alloc, &mut log, ours, host) {
+        Ok(found) => found,
+        Err(fault) => return Err(fault),
+    };
+    if !found {
+        match log.append(host, ours) {
+            Ok(_) => {}
+            Err(_) => return Err(ReservoirFault::Disk),
+        }
+        let first = log.end();
+        return Ok(Opened {
+            log,
+            first,
+            tally: Tally {
+                count: 0,
+                next: 0,
+                time: 0,
+            },
+        });
+    }
+    let first = log.end();
+    match read_heads(&mut log, host) {
+        Ok(tally) => Ok(Opened { log, first, tally }),
+        Err(fault) => Err(fault),
+    }
+}

@@ -1,0 +1,460 @@
+ghost use Rattle.std.specs.Prelude.{◌≡◌, ◌⊎◌, ◌↔◌, ◌≤◌, ◌<◌, ◌+◌, ◌-◌, ◌^◌, ◌++◌, [], ◌∷◌, ℕ, List, Ok, Err, Some, None, true, false, min, IfOk, IfErr, IfSome, IfNone, OnOk, OnErr, IsErrOf, IsTrue, length, slice_get, option_copied};
+ghost use Rattle.std.specs.Option.{ForSome};
+ghost use Rattle.std.specs.Borrow.{sem};
+ghost use Rattle.rg_bytes.specs.Counts.{Rose};
+ghost use Rattle.rg_host.specs.Image.{Image, Becomes, InFile, NothingPending};
+ghost use Rattle.rg_host.specs.Moments.{Moments, LeavesAll};
+ghost use Rattle.rg_event.specs.declared.event.Event.{Event as TheEvent};
+ghost use Rattle.rg_event.specs.Shapes.{IsSchema};
+ghost use Rattle.rg_past.specs.declared.past.Spot.{Spot};
+ghost use Rattle.rg_frame.specs.Calls.{Writes};
+ghost use Rattle.rg_frame.specs.Frames.{EndsAt};
+ghost use Rattle.rg_frame.specs.LogState.{ReachesEnd};
+ghost use Rattle.rg_frame.specs.Steps.{From};
+ghost use Rattle.rg_cache.specs.Cache.{cache as the_cache, item_at, holds_place, places, least_recently_used, touches};
+ghost use Rattle.rg_log.specs.Log.{schema_payload, HasEvents};
+ghost use Rattle.rg_reservoir.specs.Attached.{IsOther, IsBadFrame, SchemaAdded, Opens, IsOpened};
+ghost use Rattle.rg_reservoir.specs.Chain.{IsIllegal};
+
+use crate::fault::ReservoirFault;
+use crate::fetch::fetch;
+use crate::first::open_log;
+use crate::kept::Kept;
+use rg_bytes::Memory;
+use rg_cache::ChunkCache;
+use rg_chunk::OpenChunk;
+use rg_event::{Event, Room, Schema};
+use rg_frame::FrameLog;
+use rg_host::Host;
+use rg_past::Spot;
+use std::alloc::Global;
+
+/// The events of a run: those of the closed chunks in the log of file 2, and those of one open chunk
+/// in memory.
+#[derive(Drop)]
+pub struct Reservoir {
+    alloc: Global,
+    schema: Schema,
+    log: FrameLog,
+    first: u64,
+    ended: bool,
+    cache: ChunkCache<Kept>,
+    open: OpenChunk,
+    committed: u64,
+    next_offset: u64,
+    last_time: u64,
+    loads: u64,
+    limit: u64,
+    ghost small: { limit ≤ 2 ^ 40 },
+    ghost few: { committed + length open.events ≤ 2 ^ 40 },
+    ghost file: { log.file ≡ 2 },
+    ghost ready: { log.ready ≡ true },
+    ghost same: { log.ended ≡ ended },
+}
+
+/// What a reservoir takes memory for before it reads its log.
+#[derive(Drop)]
+struct Rooms {
+    schema: Schema,
+    ours: Vec<u8>,
+    cache: ChunkCache<Kept>,
+    open: OpenChunk,
+}
+
+/// Takes that memory.
+fn take_rooms(alloc: Global, schema: &Schema, room: Room) -> Result<Rooms, Memory>
+    requires chunk { (1 ≤ room.chunk) × (room.chunk ≤ 4096) }
+    requires cache { (1 ≤ room.cache) × (room.cache ≤ 1024) }
+    ensures schema { IfOk result (λ r. r.schema ≡ schema.now) }
+    ensures legal { IfOk result (λ r. IsSchema schema.now) }
+    ensures ours { IfOk result (λ r. r.ours.items ≡ schema_payload schema.now) }
+    ensures cache { IfOk result (λ r. r.cache ≡ the_cache [] room.cache) }
+    ensures opened { IfOk result (λ r. (r.open.events ≡ []) × (r.open.cap ≡ room.chunk)) }
+{
+    let schema = schema.copy(alloc)?;
+    let mut ours = Vec::new(alloc);
+    ours.push(0x53)?;
+    schema.write(&mut ours)?;
+    let cache = match ChunkCache::new(alloc, room.cache) {
+        Ok(cache) => cache,
+        Err(_) => return Err(Memory),
+    };
+    let open = OpenChunk::new(alloc, room.chunk)?;
+    Ok(Rooms {
+        schema,
+        ours,
+        cache,
+        open,
+    })
+}
+
+impl Reservoir {
+    ghost use Rattle.rg_reservoir.specs.Ends.{ends_looked};
+    ghost use Rattle.rg_reservoir.specs.Kept.{base, opened, room_of, log_of, cache_of, loads_of, next_of as the_next_of, time_of, all_events, CommittedOrAll, IsCached, IsSound, Spells, SpellsLater, Found, Stays, next_in, seen, look_places, held_after, IsTouched, IsInside, IsAbsent, Adds, Added};
+
+    /// A reservoir over the log of file 2, with room for `room.chunk` events in its open chunk, 1 to
+    /// 4,096, for `room.cache` chunks in memory, 1 to 1,024, and for `room.limit` events in all, at
+    /// most 2^40; a log that has more events is attached too. Reads the heads of the chunks in
+    /// order, and not what is in them; writes the first frame of a log without a frame, and nothing
+    /// else.
+    pub fn attach<H: Host>(
+        alloc: Global,
+        host: &mut H,
+        schema: &Schema,
+        room: Room,
+    ) -> Result<Reservoir, ReservoirFault>
+        requires chunk { (1 ≤ room.chunk) × (room.chunk ≤ 4096) }
+        requires cache { (1 ≤ room.cache) × (room.cache ≤ 1024) }
+        requires limit { room.limit ≤ 2 ^ 40 }
+
+        // Over a legal log of which nothing is pending.
+        ensures sound { (v : Image) (events : List TheEvent) → H.now host.old ≡ Some v → NothingPending 2 (H.now host.old) (H.may host.old) → HasEvents schema.now events (v 2)
+            → IfOk result (λ r. IsSound (H.now host.new) (H.may host.new) r × (all_events (H.now host.new) (base r) (opened r) ≡ events)) }
+        ensures legal { (v : Image) (events : List TheEvent) (p : ℕ) → H.now host.old ≡ Some v → HasEvents schema.now events (v 2) → IsErrOf result (ReservoirFault.Damaged p) → ⊥ }
+        ensures legal_ours { (v : Image) (events : List TheEvent) → H.now host.old ≡ Some v → HasEvents schema.now events (v 2) → IsErrOf result ReservoirFault.SchemaDiffers → ⊥ }
+
+        // Of any image.
+        ensures opened { IfOk result (λ r. ForSome (H.now host.new) (λ w. IsOpened (schema_payload schema.now) (base r).first (base r).end (record { count = (base r).committed; next = the_next_of r; time = time_of r }) (w 2))) }
+        ensures exact { (v : Image) → H.now host.old ≡ Some v → IsOther (schema_payload schema.now) (v 2) ⊎ ((p : ℕ) × IsBadFrame (schema_payload schema.now) p (v 2)) → IfOk result (λ _. ⊥) }
+        ensures differs { IsErrOf result ReservoirFault.SchemaDiffers → ForSome (H.now host.old) (λ v. IsOther (schema_payload schema.now) (v 2)) }
+        ensures damaged { (p : ℕ) → IsErrOf result (ReservoirFault.Damaged p) → ForSome (H.now host.old) (λ v. IsBadFrame (schema_payload schema.now) p (v 2)) }
+        ensures other { (v : Image) (p : ℕ) → H.now host.old ≡ Some v → IsOther (schema_payload schema.now) (v 2) → IsErrOf result (ReservoirFault.Damaged p) → ⊥ }
+        ensures disk { IsErrOf result ReservoirFault.Disk → Rose (H.disk_faults host.old) (H.disk_faults host.new) }
+        ensures neither { (IsErrOf result ReservoirFault.Full → ⊥) × (IsErrOf result ReservoirFault.Ended → ⊥) }
+
+        ensures going { IfOk result (λ r. ((base r).ended ≡ false) × ((base r).file ≡ 2) × ((base r).shape ≡ schema.now) × ((base r).limit ≡ room.limit)) }
+        ensures empty { IfOk result (λ r. (opened r ≡ []) × (room_of r ≡ room.chunk) × (places (cache_of r) ≡ []) × ((cache_of r).cap ≡ room.cache) × (loads_of r ≡ 0)) }
+        ensures opens { IfOk result (λ r. Becomes (H.now host.old) (H.now host.new) (λ v w. Opens (schema_payload schema.now) (base r).first (base r).end (v 2) (w 2))) }
+        ensures writes { Writes H.now H.may H.clock H.since H.said 2 (SchemaAdded (schema_payload schema.now)) host.old host.new }
+        ensures settled { OnOk result (NothingPending 2 (H.now host.old) (H.may host.old) → NothingPending 2 (H.now host.new) (H.may host.new)) }
+        ensures reaches { IfOk result (λ r. ReachesEnd (log_of r) (H.now host.new)) }
+        ensures disk_faults { H.disk_faults host.old ≤ H.disk_faults host.new }
+        ensures out_faults { H.out_faults host.new ≡ H.out_faults host.old }
+    {
+        let taken = match take_rooms(alloc, schema, room) {
+            Ok(taken) => taken,
+            Err(_) => return Err(ReservoirFault::Memory),
+        };
+        match open_log(alloc, &taken.ours, host) {
+            Ok(opened) => Ok(Reservoir {
+                alloc,
+                schema: taken.schema,
+                log: opened.log,
+                first: opened.first,
+                ended: false,
+                cache: taken.cache,
+                open: taken.open,
+                committed: opened.tally.count,
+                next_offset: opened.tally.next,
+                last_time: opened.tally.time,
+                loads: 0,
+                limit: room.limit,
+            }),
+            Err(fault) => Err(fault),
+        }
+    }
+
+    /// How many events there are.
+    pub fn count(&self) -> u64
+        ensures count { result ≡ (base self.now).committed + length (opened self.now) }
+        ensures few { result ≤ 2 ^ 40 }
+    {
+        self.committed + u64::from(self.open.count())
+    }
+
+    /// How many of them are in closed chunks.
+    pub fn committed(&self) -> u64
+        ensures { result ≡ (base self.now).committed }
+    {
+        self.committed
+    }
+
+    /// The least offset that the next event may have: the last event's plus one, and 0 where there
+    /// is none.
+    pub fn next_offset(&self) -> u64
+        ensures { result ≡ the_next_of self.now }
+    {
+        self.next_offset
+    }
+
+    /// The time of the last event, in milliseconds, where there is one.
+    pub fn last_time(&self) -> Option<u64>
+        ensures some { IfSome result (λ time. (time ≡ time_of self.now) × (0 < (base self.now).committed + length (opened self.now))) }
+        ensures none { IfNone result ((base self.now).committed + length (opened self.now) ≡ 0) }
+    {
+        if self.count() == 0 {
+            return None;
+        }
+        Some(self.last_time)
+    }
+
+    /// Whether there is room for one event more before the next commit.
+    pub fn has_room(&self) -> bool
+        ensures { IsTrue result ↔ (length (opened self.now) < room_of self.now) }
+    {
+        !self.open.is_full()
+    }
+
+    /// How often a chunk was loaded, up to 2^64 - 1.
+    pub fn loads(&self) -> u64
+        ensures { result ≡ loads_of self.now }
+    {
+        self.loads
+    }
+
+    /// How many closed chunks are in memory.
+    pub fn held(&self) -> u32
+        ensures held { result ≡ length (places (cache_of self.now)) }
+        ensures within { result ≤ (cache_of self.now).cap }
+    {
+        self.cache.held()
+    }
+
+    /// Adds an event to the open chunk. Calls no host and takes no memory.
+    pub fn append(&mut self, event: Event) -> Result<(), ReservoirFault>
+        requires room { length (opened self.old) < room_of self.old }
+        requires small { event.offset < 2 ^ 62 }
+        ensures base { base self.new ≡ base self.old }
+        ensures ok { OnOk result ((opened self.new ≡ opened self.old ++ event ∷ []) × (the_next_of self.new ≡ event.offset + 1) × (time_of self.new ≡ event.time)) }
+        ensures err { OnErr result (self.new ≡ self.old) }
+        ensures ended { IsErrOf result ReservoirFault.Ended ↔ ((base self.old).ended ≡ true) }
+        ensures full { IsErrOf result ReservoirFault.Full → (base self.old).limit ≤ (base self.old).committed + length (opened self.old) }
+        ensures below { OnOk result ((base self.old).committed + length (opened self.old) < (base self.old).limit) }
+        ensures faults { IfErr result (λ fault. (fault ≡ ReservoirFault.Ended) ⊎ (fault ≡ ReservoirFault.Full)) }
+        ensures few { (base self.new).committed + length (opened self.new) ≤ 2 ^ 40 }
+
+        ensures room { room_of self.new ≡ room_of self.old }
+        ensures cache { (cache_of self.new ≡ cache_of self.old) × (loads_of self.new ≡ loads_of self.old) }
+        ensures log { log_of self.new ≡ log_of self.old }
+    {
+        if self.ended {
+            return Err(ReservoirFault::Ended);
+        }
+        if self.count() >= self.limit {
+            return Err(ReservoirFault::Full);
+        }
+        self.next_offset = event.offset + 1;
+        self.last_time = event.time;
+        self.open.push(event);
+        Ok(())
+    }
+
+    /// Touches a place, and loads its chunk where it isn't held. Says whether there is one.
+    fn touch<H: Host>(&mut self, host: &mut H, place: u64) -> Result<bool, ReservoirFault>
+        ensures stays { Stays self.old self.new }
+        ensures cached { (v : Image) → H.now host.old ≡ Some v → IsCached (base self.old).shape.fields (v (base self.old).file) (cache_of self.old) → IsCached (base self.old).shape.fields (v (base self.old).file) (cache_of self.new) }
+        ensures held { IfOk result (λ found. IsTrue found → (kept : Kept) × (item_at place (cache_of self.new) ≡ Some kept)) }
+        ensures absent { IfOk result (λ found. found ≡ false → ForSome (H.now host.old) (λ v. IsAbsent (base self.old).shape.fields place (base self.old).end (v (base self.old).file))) }
+        ensures inside { IsInside (base self.old).end (cache_of self.old) → IsInside (base self.old).end (cache_of self.new) }
+        ensures places { IfOk result (λ found. IsTrue found → places (cache_of self.new) ≡ least_recently_used (cache_of self.old).cap (touches (cache_of self.old) (place ∷ []))) }
+        ensures left { IfOk result (λ found. found ≡ false → (places (cache_of self.new) ≡ places (cache_of self.old)) × ((loads_of self.new) ≡ (loads_of self.old))) }
+        ensures refused { OnErr result ((places (cache_of self.new) ≡ places (cache_of self.old)) × ((loads_of self.new) ≡ (loads_of self.old))) }
+        ensures cap { (cache_of self.new).cap ≡ (cache_of self.old).cap }
+        ensures hit { IsTrue (holds_place place (cache_of self.old)) → (result ≡ Ok true) × (H.reads host.new ≡ H.reads host.old) × ((loads_of self.new) ≡ (loads_of self.old)) }
+        ensures miss { holds_place place (cache_of self.old) ≡ false → IfOk result (λ found. IsTrue found → Rose (H.reads host.old) (H.reads host.new) × ((loads_of self.new) ≡ min ((loads_of self.old) + 1) (2 ^ 64 - 1))) }
+        ensures damaged { (p : ℕ) → IsErrOf result (ReservoirFault.Damaged p) → ForSome (H.now host.old) (λ v. IsIllegal (base self.old).shape.fields p (v (base self.old).file)) }
+        ensures leaves { LeavesAll H.now H.may H.clock H.since H.said host.old host.new }
+        ensures disk { IsErrOf result ReservoirFault.Disk → Rose (H.disk_faults host.old) (H.disk_faults host.new) }
+        ensures disk_faults { H.disk_faults host.old ≤ H.disk_faults host.new }
+        ensures out_faults { H.out_faults host.new ≡ H.out_faults host.old }
+        ensures faults { IfErr result (λ fault. (fault ≡ ReservoirFault.Disk) ⊎ (fault ≡ ReservoirFault.Memory) ⊎ ((p : ℕ) × (fault ≡ ReservoirFault.Damaged p))) }
+    {
+        if self.cache.promote(place) {
+            return Ok(true);
+        }
+        let kept = match fetch(self.alloc, &self.schema, &self.log, host, place) {
+            Ok(Some(kept)) => kept,
+            Ok(None) => return Ok(false),
+            Err(fault) => return Err(fault),
+        };
+        if kept.next > self.log.end() {
+            return Ok(false);
+        }
+        match self.cache.put(place, kept) {
+            Ok(()) => {}
+            Err(_) => return Err(ReservoirFault::Memory),
+        }
+        self.loads = self.loads.saturating_add(1);
+        Ok(true)
+    }
+
+    /// The next place, where the index is the count of the chunk that is held at that one.
+    fn next_of(&self, place: u64, index: u32) -> Option<u64>
+        ensures { result ≡ next_in (item_at place (cache_of self.now)) index }
+    {
+        match self.cache.get(place) {
+            Some(kept) => {
+                if kept.chunk.count() == index {
+                    return Some(kept.next);
+                }
+                None
+            }
+            None => None,
+        }
+    }
+
+    /// Makes ready for a look at a spot: its chunk is held, and the spot is in its later spelling.
+    pub(crate) fn seek<H: Host>(
+        &mut self,
+        host: &mut H,
+        spot: &mut Spot,
+    ) -> Result<(), ReservoirFault>
+        requires { spot.old.number ≤ (base self.old).committed + length (opened self.old) }
+        ensures stays { Stays self.old self.new }
+        ensures cached { (v : Image) → H.now host.old ≡ Some v → IsCached (base self.old).shape.fields (v (base self.old).file) (cache_of self.old) → IsCached (base self.old).shape.fields (v (base self.old).file) (cache_of self.new) }
+        ensures inside { IsInside (base self.old).end (cache_of self.old) → IsInside (base self.old).end (cache_of self.new) }
+        ensures number { spot.new.number ≡ spot.old.number }
+        ensures placed { OnOk result ((base self.old).committed ≤ spot.new.number → spot.new.number ≡ (base self.old).committed + spot.new.index) }
+        ensures spelled { IsSound (H.now host.old) (H.may host.old) self.old → Spells (H.now host.old) (base self.old) (opened self.old) spot.old → Spells (H.now host.old) (base self.old) (opened self.old) spot.new }
+        ensures finds { IsSound (H.now host.old) (H.may host.old) self.old → Spells (H.now host.old) (base self.old) (opened self.old) spot.old → OnOk result (Found (H.now host.old) (base self.old) (opened self.old) (cache_of self.new) spot.new spot.old.number) }
+        ensures touched { (v : Image) → H.now host.old ≡ Some v → IsCached (base self.old).shape.fields (v (base self.old).file) (cache_of self.old) → IsTouched (cache_of self.old) (cache_of self.new) (look_places (base self.old) (v (base self.old).file) spot.old) }
+        ensures all_touched { IsSound (H.now host.old) (H.may host.old) self.old → Spells (H.now host.old) (base self.old) (opened self.old) spot.old → OnOk result (ForSome (H.now host.old) (λ v. places (cache_of self.new) ≡ held_after (cache_of self.old) (look_places (base self.old) (v (base self.old).file) spot.old))) }
+        ensures ended { IsErrOf result ReservoirFault.Ended ↔ ((base self.old).ended ≡ true) }
+        ensures faults { IfErr result (λ fault. (fault ≡ ReservoirFault.Disk) ⊎ (fault ≡ ReservoirFault.Memory) ⊎ ((p : ℕ) × (fault ≡ ReservoirFault.Damaged p)) ⊎ (fault ≡ ReservoirFault.Ended)) }
+        ensures damaged { (p : ℕ) → IsErrOf result (ReservoirFault.Damaged p) → ForSome (H.now host.old) (λ v. IsIllegal (base self.old).shape.fields p (v (base self.old).file)) }
+        ensures leaves { LeavesAll H.now H.may H.clock H.since H.said host.old host.new }
+        ensures disk { IsErrOf result ReservoirFault.Disk → Rose (H.disk_faults host.old) (H.disk_faults host.new) }
+        ensures disk_faults { H.disk_faults host.old ≤ H.disk_faults host.new }
+        ensures out_faults { H.out_faults host.new ≡ H.out_faults host.old }
+    {
+        if self.ended {
+            return Err(ReservoirFault::Ended);
+        }
+        if spot.number >= self.committed {
+            prove!(spot.number - self.committed <= u64::from(self.open.count()));
+            spot.place = self.log.end();
+            spot.index = (spot.number - self.committed) as u32;
+            return Ok(());
+        }
+        match self.touch(host, spot.place) {
+            Ok(true) => {}
+            Ok(false) => return Ok(()),
+            Err(fault) => return Err(fault),
+        }
+        let next = match self.next_of(spot.place, spot.index) {
+            Some(next) => next,
+            None => return Ok(()),
+        };
+        match self.touch(host, next) {
+            Ok(true) => {}
+            Ok(false) => return Ok(()),
+            Err(fault) => return Err(fault),
+        }
+        spot.place = next;
+        spot.index = 0;
+        Ok(())
+    }
+
+    /// Looks at the event of a spot.
+    pub fn peek<H: Host>(
+        &mut self,
+        host: &mut H,
+        spot: &mut Spot,
+    ) -> Result<Option<&Event>, ReservoirFault>
+        requires { spot.old.number ≤ (base self.old).committed + length (opened self.old) }
+        ensures* after { sem 𝓛 (ends_looked self.entry) }
+        ensures number { spot.new.number ≡ spot.old.number }
+        ensures event { IsSound (H.now host.old) (H.may host.old) self.old → Spells (H.now host.old) (base self.old) (opened self.old) spot.old → IfOk result (λ look. option_copied look ≡ slice_get (all_events (H.now host.old) (base self.old) (opened self.old)) spot.old.number) }
+        ensures leaves { LeavesAll H.now H.may H.clock H.since H.said host.old host.new }
+        ensures disk_faults { H.disk_faults host.old ≤ H.disk_faults host.new }
+    {
+        match self.seek(host, spot) {
+            Ok(()) => {}
+            Err(fault) => return Err(fault),
+        }
+        Ok(self.at(spot))
+    }
+
+    /// Writes the open chunk as one frame behind the log, where it isn't empty, and empties it. The
+    /// chunk is encoded before the first call on the host: want of memory leaves the disk and the
+    /// reservoir as they were. After `Disk` the reservoir has ended.
+    pub fn commit<H: Host>(&mut self, host: &mut H) -> Result<(), ReservoirFault>
+        requires reaches { ReachesEnd (log_of self.old) (H.now host.old) }
+        ensures sound { IsSound (H.now host.old) (H.may host.old) self.old → OnOk result (IsSound (H.now host.new) (H.may host.new) self.new) }
+        ensures list { IsSound (H.now host.old) (H.may host.old) self.old → OnOk result (all_events (H.now host.new) (base self.new) (opened self.new) ≡ all_events (H.now host.old) (base self.old) (opened self.old)) }
+        ensures spelled { IsSound (H.now host.old) (H.may host.old) self.old → (spot : Spot) → Spells (H.now host.old) (base self.old) (opened self.old) spot → OnOk result (Spells (H.now host.new) (base self.new) (opened self.new) spot) }
+        ensures sound_disk { IsSound (H.now host.old) (H.may host.old) self.old → IsErrOf result ReservoirFault.Disk → ForSome (H.now host.new) (λ _. IsSound (H.now host.new) (H.may host.new) self.new) }
+
+        // At every moment, and so wherever the run stops.
+        ensures events { IsSound (H.now host.old) (H.may host.old) self.old → (base self.old).ended ≡ false → Moments H.clock H.since host.old host.new
+            (λ m. CommittedOrAll (H.now host.old) (base self.old) (opened self.old) m.image) }
+        ensures leaves { Writes H.now H.may H.clock H.since H.said 2 (From (base self.old).end (Adds (opened self.old))) host.old host.new }
+        ensures grown { OnOk result (Becomes (H.now host.old) (H.now host.new) (InFile 2 (From (base self.old).end (Added (opened self.old) (base self.new).end)))) }
+        ensures pending { OnOk result (NothingPending 2 (H.now host.old) (H.may host.old) → NothingPending 2 (H.now host.new) (H.may host.new)) }
+        ensures reaches { ReachesEnd (log_of self.new) (H.now host.new) }
+
+        ensures empty { OnOk result ((opened self.new ≡ []) × ((base self.new).committed ≡ (base self.old).committed + length (opened self.old))) }
+        ensures stays { ((base self.new).shape ≡ (base self.old).shape) × ((base self.new).file ≡ (base self.old).file) × ((base self.new).first ≡ (base self.old).first) × ((base self.new).limit ≡ (base self.old).limit) × (room_of self.new ≡ room_of self.old) }
+        ensures kept { (cache_of self.new ≡ cache_of self.old) × (loads_of self.new ≡ loads_of self.old) × (the_next_of self.new ≡ the_next_of self.old) × (time_of self.new ≡ time_of self.old) }
+        ensures going { OnOk result (((base self.old).ended ≡ false) × ((base self.new).ended ≡ false)) }
+        ensures ended { IsErrOf result ReservoirFault.Ended ↔ ((base self.old).ended ≡ true) }
+        ensures memory { IsErrOf result ReservoirFault.Memory → (self.new ≡ self.old) × (host.new ≡ host.old) }
+        ensures untouched { IsErrOf result ReservoirFault.Ended → (self.new ≡ self.old) × (host.new ≡ host.old) }
+        ensures disk { IsErrOf result ReservoirFault.Disk → ((base self.new).ended ≡ true) × (opened self.new ≡ opened self.old) × ((base self.new).committed ≡ (base self.old).committed) × Rose (H.disk_faults host.old) (H.disk_faults host.new) }
+        ensures faults { IfErr result (λ fault. (fault ≡ ReservoirFault.Disk) ⊎ (fault ≡ ReservoirFault.Memory) ⊎ (fault ≡ ReservoirFault.Ended)) }
+        ensures disk_faults { H.disk_faults host.old ≤ H.disk_faults host.new }
+        ensures out_faults { H.out_faults host.new ≡ H.out_faults host.old }
+        ensures reads { H.reads host.new ≡ H.reads host.old }
+    {
+        if self.ended {
+            return Err(ReservoirFault::Ended);
+        }
+        let count = self.open.count();
+        if count == 0 {
+            return Ok(());
+        }
+        let mut payload = Vec::new(self.alloc);
+        match self.open.encode(&mut payload) {
+            Ok(()) => {}
+            Err(_) => return Err(ReservoirFault::Memory),
+        }
+        match self.log.append(host, &payload) {
+            Ok(_) => {}
+            Err(_) => {
+                self.ended = true;
+                return Err(ReservoirFault::Disk);
+            }
+        }
+        self.committed += u64::from(count);
+        self.open.clear();
+        Ok(())
+    }
+
+    /// Moves a spot on to the next event.
+    pub fn advance(&self, spot: &mut Spot)
+        requires number { spot.old.number < (base self.now).committed + length (opened self.now) }
+        requires index { spot.old.index < 4096 }
+        ensures next { spot.new ≡ record { place = spot.old.place; index = spot.old.index + 1; number = spot.old.number + 1 } }
+    {
+        prove!(spot.number < self.count());
+        spot.number += 1;
+        spot.index += 1;
+    }
+
+    /// The spot of event 0.
+    pub fn start(&self) -> Spot
+        ensures { result ≡ record { place = (base self.now).first; index = 0; number = 0 } }
+    {
+        Spot {
+            place: self.first,
+            index: 0,
+            number: 0,
+        }
+    }
+
+    /// The event of a spot, where its chunk is held.
+    pub(crate) fn at(&self, spot: &Spot) -> Option<&Event>
+        requires number { spot.now.number ≤ (base self.now).committed + length (opened self.now) }
+        requires placed { (base self.now).committed ≤ spot.now.number → spot.now.number ≡ (base self.now).committed + spot.now.index }
+        ensures event { option_copied result ≡ seen (base self.now).committed (opened self.now) (cache_of self.now) spot.now }
+        ensures within { IfSome result (λ _. (spot.now.number < (base self.now).committed + length (opened self.now)) × (spot.now.index < 4096)) }
+    {
+        if spot.number >= self.committed {
+            return self.open.get(spot.index);
+        }
+        match self.cache.get(spot.place) {
+            Some(kept) => kept.chunk.get(spot.index),
+            None => None,
+        }
+    }
+}

@@ -7,6 +7,5 @@ pub mod Plans
 pub mod Progress
 pub mod Serving
 pub mod Steadiness
-pub mod Verdicts
 pub mod Whole
 pub mod Worked

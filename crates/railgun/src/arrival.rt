@@ -1,16 +1,17 @@
-ghost use Rattle.std.specs.Prelude.{◌≡◌, ◌⊎◌, ◌<◌, ◌≤◌, ◌^◌, ◌==◌, ◌&&◌, ℕ, List, Err, Some, None, false, IfOk, IfErr, OnErr, IsErrOf};
+ghost use Rattle.std.specs.Prelude.{◌≡◌, ◌≢◌, ◌⊎◌, ◌<◌, ◌≤◌, ◌^◌, ◌==◌, ◌&&◌, ℕ, List, Err, Some, None, false, IfOk, IfErr, OnErr, IsErrOf};
 ghost use Rattle.std.specs.List.{list_any};
 ghost use Rattle.rg_bytes.specs.Counts.{Rose};
 ghost use Rattle.rg_config.specs.Plans.{planned};
-ghost use Rattle.railgun.specs.Output.{look_at};
+ghost use Rattle.rg_verdict.specs.Verdicts.{read_as};
+ghost use Rattle.railgun.specs.Plan.{basis_of};
 ghost use Rattle.railgun.specs.Turn.{Takes, TakesNone, Arrives};
 
-use crate::status::Status;
+use crate::fault::RunFault;
 use rg_bytes::Memory;
 use rg_config::Plan;
-use rg_engine::Reply;
 use rg_event::Event;
 use rg_host::{Line, LineFault, Lines, Source};
+use rg_metric::Reply;
 use rg_row::{RowFault, clean, read_row};
 use std::alloc::Global;
 
@@ -32,7 +33,7 @@ fn is_header(plan: &Plan, offset: u64) -> bool
 
 /// The reply to a line that is longer than a line may be.
 fn refuse_long(plan: &Plan, offset: u64) -> Reply
-    ensures { Err result ≡ look_at (planned plan.now) offset None }
+    ensures { Err result ≡ read_as (basis_of (planned plan.now)) offset None }
 {
     if is_header(plan, offset) {
         Reply::Head
@@ -50,7 +51,7 @@ fn read_text(
     text: &[u8],
 ) -> Result<Result<Event, Reply>, Memory>
     requires one_line { list_any (λ byte. byte == 10) text.now ≡ false }
-    ensures { IfOk result (λ look. look ≡ look_at (planned plan.now) offset (Some text.now)) }
+    ensures { IfOk result (λ look. look ≡ read_as (basis_of (planned plan.now)) offset (Some text.now)) }
 {
     if is_header(plan, offset) {
         return Ok(Err(Reply::Head));
@@ -72,20 +73,20 @@ pub fn next_arrival<I: Source>(
     lines: &mut Lines,
     offset: u64,
     input: &mut I,
-) -> Result<Arrival, Status>
-    ensures arrives { IfOk result (Arrives (planned plan.now) offset lines.old lines.new (I.left input.old) (I.left input.new)) }
+) -> Result<Arrival, RunFault>
+    ensures arrives { IfOk result (Arrives (basis_of (planned plan.now)) offset lines.old lines.new (I.left input.old) (I.left input.new)) }
     ensures took { OnErr result ((got : List ℕ) × Takes lines.old lines.new (I.left input.old) (I.left input.new) got) }
-    ensures took_none { IfErr result (λ status. (status ≡ Status.Read) ⊎ (status ≡ Status.Limit) → TakesNone lines.old lines.new (I.left input.old) (I.left input.new) status) }
-    ensures read { IsErrOf result Status.Read → Rose (I.faults input.old) (I.faults input.new) }
-    ensures limit { IsErrOf result Status.Limit → 2 ^ 50 < lines.new.taken }
-    ensures others { IfErr result (λ status. (status ≡ Status.Read) ⊎ (status ≡ Status.Limit) ⊎ (status ≡ Status.Memory)) }
+    ensures took_none { IfErr result (λ fault. (fault ≡ RunFault.Read) ⊎ (fault ≡ RunFault.Limit) → TakesNone lines.old lines.new (I.left input.old) (I.left input.new) (fault ≡ RunFault.Limit)) }
+    ensures read { IsErrOf result RunFault.Read → Rose (I.faults input.old) (I.faults input.new) }
+    ensures limit { IsErrOf result RunFault.Limit → 2 ^ 50 < lines.new.taken }
+    ensures no_write { IfErr result (λ fault. fault ≢ RunFault.Write) }
     ensures later { I.faults input.old ≤ I.faults input.new }
 {
     match lines.next(input) {
         Ok(Line::Text(text)) => Ok(Arrival::Line(read_text(alloc, plan, offset, text)?)),
         Ok(Line::Long) => Ok(Arrival::Line(Err(refuse_long(plan, offset)))),
         Ok(Line::End) => Ok(Arrival::End),
-        Err(LineFault::Read) => Err(Status::Read),
-        Err(LineFault::Limit) => Err(Status::Limit),
+        Err(LineFault::Read) => Err(RunFault::Read),
+        Err(LineFault::Limit) => Err(RunFault::Limit),
     }
 }

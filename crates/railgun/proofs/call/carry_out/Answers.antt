@@ -2,7 +2,8 @@ use Rattle.std.proofs.Common.{◌≡◌, sym, ◌∙◌, subst, inl, inr, ⊎_el
 use Rattle.rg_host.specs.Puts.{IsFront, Puts}
 use Rattle.rg_host.specs.PutLaws.{puts-then}
 use Rattle.railgun.specs.Call.{command_of, line_for, ending_status}
-use Rattle.railgun.proofs.Ends.{all_put, all_front, read_then, put_then, whole_then, write_or, write_line, rose_first, rose_last}
+use Rattle.railgun.proofs.Ends.{all_put, all_front, read_then, put_then, whole_then, write_line, rose_first, rose_last}
+use Rattle.railgun.specs.declared.status.Status.TheVariants.{Write, Limit}
 use Rattle.railgun.proofs.call.carry_out.Goals as goal
 
 pub returns-in-Ok-clause-complete_run : goal.returns-in-Ok-clause-complete_run
@@ -29,7 +30,7 @@ returns-in-Err-clause-put_so_far g c =
     let P : List ℕ → Type 0 = λ v. IsFront part.0 v in (
       _,
       puts-then g.H.Host.said g.H.Host.clock g.H.Host.since _ _ _ _ _ stops.1 part.2,
-      put_then (ending_status c.in-Err.ending) (line_for told.asks (ending_status c.in-Err.ending)) _ stops.0 part.0 (write_line told.asks (ending_status c.in-Err.ending)) stops.2 (subst P (c.in-Err.ensures.line told) part.1),
+      put_then (ending_status c.in-Err.ending ≡ Write) (line_for told.asks (ending_status c.in-Err.ending)) _ stops.0 part.0 (write_line told.asks (ending_status c.in-Err.ending)) stops.2 (subst P (c.in-Err.ensures.line told) part.1),
     ))
 
 pub returns-in-Err-clause-last_line_whole : goal.returns-in-Err-clause-last_line_whole
@@ -40,13 +41,9 @@ returns-in-Err-clause-last_line_whole g c =
     let P : List ℕ → Type 0 = λ v. Puts g.H.Host.said g.H.Host.clock g.H.Host.since c.obey.new.host c.end-in-Err.new.host v in
     ⊎_elim
     (λ whole. ⊎_elim
+    (λ all. inl (_, puts-then g.H.Host.said g.H.Host.clock g.H.Host.since _ _ _ _ _ stops.1 (subst P (c.in-Err.ensures.line told) whole), all))
     (λ is. inr (rose_first _ _ _ (c.in-Err.ensures.write is).1 c.end-in-Err.ensures.later_out))
-    (λ other. inl (
-      _,
-      puts-then g.H.Host.said g.H.Host.clock g.H.Host.since _ _ _ _ _ stops.1 (subst P (c.in-Err.ensures.line told) whole),
-      whole_then (ending_status c.in-Err.ending) (line_for told.asks (ending_status c.in-Err.ending)) _ stops.0 other stops.2,
-    ))
-    (write_or (ending_status c.in-Err.ending)))
+    (whole_then (ending_status c.in-Err.ending ≡ Write) (line_for told.asks (ending_status c.in-Err.ending)) _ stops.0 stops.2))
     (λ rose. inr (rose_last _ _ _ c.in-Err.ensures.later_out rose))
     c.end-in-Err.ensures.whole)
 
@@ -56,6 +53,6 @@ returns-in-Err-clause-replies_put g c =
     rw (form, c.end-in-Err.ensures.status) (λ is told.
     let P : List ℕ → Type 0 = λ v. Puts g.H.Host.said g.H.Host.clock g.H.Host.since c.obey.new.host c.end-in-Err.new.host v in
     ⊎_elim
-    (λ whole. inl (read_then _ _ _ _ _ (ending_status c.in-Err.ending) (λ put puts. puts-then g.H.Host.said g.H.Host.clock g.H.Host.since _ _ _ put _ puts (subst P (c.in-Err.ensures.line told) whole)) (c.in-Err.ensures.stops_read is told)))
+    (λ whole. inl (read_then _ _ _ _ _ (ending_status c.in-Err.ending ≡ Limit) (λ put puts. puts-then g.H.Host.said g.H.Host.clock g.H.Host.since _ _ _ put _ puts (subst P (c.in-Err.ensures.line told) whole)) (c.in-Err.ensures.stops_read is told)))
     (λ rose. inr (rose_last _ _ _ c.in-Err.ensures.later_out rose))
     c.end-in-Err.ensures.whole)

@@ -1,4 +1,4 @@
-use rg_metric::Answers;
+use crate::answer::Answers;
 
 /// What is answered to a line.
 #[derive(Debug, Drop)]

@@ -2,7 +2,7 @@
 use Rattle.std.proofs.Common.{◌≡◌, ℕ, ◌+◌, ◌-◌, ◌≤◌, List, ◌++◌, length, take, drop, Option, ap, sym, ◌∙◌, arith, slice_range}
 use Rattle.std.proofs.lemmas.List.{take-take, drop-take}
 use Rattle.rg_bytes.specs.Known.{before}
-use Rattle.rg_host.specs.Held.{IsLaidOut, Fills}
+use Rattle.rg_host.specs.Buffered.{IsLaidOut, Fills}
 use Rattle.rg_host.proofs.Ranges.{slice_range-split, length-slice_range}
 
 -- a range depends only on the bytes up to its end
@@ -14,8 +14,8 @@ kept_after old new start end ordered same =
     sym (of new) ∙ ap (drop start) same ∙ of old
 
 -- what stood before the place where the read began has stayed
-front_of : (old new : List ℕ) (n end : ℕ) → n ≤ end → take end new ≡ take end old → take n new ≡ take n old
-front_of old new n end below same = sym (take-take n end new below) ∙ ap (take n) same ∙ take-take n end old below
+prefix_of : (old new : List ℕ) (n end : ℕ) → n ≤ end → take end new ≡ take end old → take n new ≡ take n old
+prefix_of old new n end below same = sym (take-take n end new below) ∙ ap (take n) same ∙ take-take n end old below
 
 pub laid_out_after : (old new : List ℕ) (line_start line_end start searched end after : ℕ) → IsLaidOut old line_start line_end start searched end →
     length new ≡ length old → take end new ≡ take end old → end ≤ after → after ≤ 131072 → IsLaidOut new line_start line_end start searched after
@@ -26,7 +26,7 @@ laid_out_after old new line_start line_end start searched end after was size sam
   search_begun = was.search_begun;
   search_within = omega (arith, was.search_within, more);
   within = fits;
-  no_lf = rw (kept_after old new start searched was.search_begun (front_of old new searched end was.search_within same)) was.no_lf;
+  no_lf = rw (kept_after old new start searched was.search_begun (prefix_of old new searched end was.search_within same)) was.no_lf;
 }
 
 pub fills_after : (old new : List ℕ) (start end count : ℕ) (left now : Option (List ℕ)) → start ≤ end → end + count ≤ length new → take end new ≡ take end old →

@@ -46,7 +46,7 @@ pub record Next (old new : Reading) (left now : Option (List ℕ)) (result : Res
   -- after a refusal the same lines are to come, and none of them has come whole
   pub nothing_lost : IsErr result → (rest : List ℕ) → lines_of (new.pending ++ rest) ≡ lines_of ((old.pending ++ got) ++ rest)
   pub no_line_held : IsErr result → HasNoLf new.pending
-  -- Limit comes just where a byte past 2^50 came, in this call or an earlier one
+  -- Limit comes exactly where a byte past 2^50 came, in this call or an earlier one
   pub limit : (result ≡ Err Limit) ↔ (2 ^ 50 < new.taken)
   -- a line hands out at least one byte, of those taken
   pub spent : IfOk result (λ line. MatchOption (handed line) (new.spent ≡ old.spent) (λ _. old.spent < new.spent))

@@ -20,9 +20,9 @@ pub record Scan : Type 0 where
 unfoldable pub skipped : List ℕ
 skipped = replicate 65536 0
 
-abbrev pub front : Bool → List ℕ
-front true = skipped
-front false = []
+abbrev pub prefix : Bool → List ℕ
+prefix true = skipped
+prefix false = []
 
 -- of a line that is being read past, one byte is kept back for its end
 abbrev pub owed : Bool → ℕ
@@ -32,7 +32,7 @@ owed false = 0
 -- the reading of a scan that holds these bytes
 abbrev pub reading_at : Bool → List ℕ → ℕ → Bool → Reading
 reading_at skipping held taken ended = record {
-  pending = front skipping ++ held;
+  pending = prefix skipping ++ held;
   taken = taken;
   spent = taken - (length held + owed skipping);
   ended = ended;
@@ -59,8 +59,8 @@ handed_by found.End line = None
 -- What is held of a line that is too long was dropped: the same lines are to come, and fewer bytes are held.
 pub record Drops (skipping : Bool) (held : List ℕ) (still_skipping : Bool) (still_held : List ℕ) : Type 0 where
   pub short : length still_held < 65536
-  pub same : HasNoLf (front skipping ++ held) → (rest : List ℕ) → lines_of ((front still_skipping ++ still_held) ++ rest) ≡ lines_of ((front skipping ++ held) ++ rest)
-  pub no_lf : HasNoLf (front skipping ++ held) → HasNoLf (front still_skipping ++ still_held)
+  pub same : HasNoLf (prefix skipping ++ held) → (rest : List ℕ) → lines_of ((prefix still_skipping ++ still_held) ++ rest) ≡ lines_of ((prefix skipping ++ held) ++ rest)
+  pub no_lf : HasNoLf (prefix skipping ++ held) → HasNoLf (prefix still_skipping ++ still_held)
   pub fewer : length still_held + owed still_skipping ≤ length held + owed skipping
 
 -- Bytes were taken from a source that had `left` and has `now`, and the same lines are to come.

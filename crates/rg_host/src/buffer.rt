@@ -1,7 +1,7 @@
 ghost use Rattle.std.specs.Prelude.{◌≡◌, ℕ, ◌+◌, ◌<◌, ◌≤◌, ◌∷◌, ◌++◌, [], length, take, slice_range, IfOk, OnErr, OnSome, IfSome, IfNone};
 ghost use Rattle.rg_bytes.specs.Counts.{Rose};
 ghost use Rattle.rg_bytes.specs.Known.{before, IsAtEnd};
-ghost use Rattle.rg_host.specs.Held.{Fills};
+ghost use Rattle.rg_host.specs.Buffered.{Fills};
 ghost use Rattle.rg_host.specs.Lines.{HasNoLf};
 
 use crate::source::{Failed, Source};
@@ -33,9 +33,9 @@ pub struct Buffer {
 
 impl Model for Buffer {
     ghost use Rattle.std.specs.Prelude.{◌-◌, slice_range};
-    ghost use Rattle.rg_host.specs.Held.{Held, IsLaidOut};
+    ghost use Rattle.rg_host.specs.Buffered.{Buffered, IsLaidOut};
 
-    ghost Value = { Held };
+    ghost Value = { Buffered };
 
     ghost view = { λ b. record {
       pending = slice_range b.bytes.items b.start b.end;
@@ -123,7 +123,7 @@ impl Buffer {
         self.end = 0;
     }
 
-    /// Moves what is pending to the front where there is little room behind it.
+    /// Moves what is pending to the beginning where there is little room behind it.
     fn make_room(&mut self)
         requires { length self.old.pending < LONG }
         ensures pending { self.new.pending ≡ self.old.pending }
@@ -178,7 +178,7 @@ fn read_part<S: Source>(
     requires within { to ≤ length bytes.old.items }
     ensures count { IfOk result (λ n. from + n ≤ to) }
     ensures size { length bytes.new.items ≡ length bytes.old.items }
-    ensures front { take from bytes.new.items ≡ take from bytes.old.items }
+    ensures prefix { take from bytes.new.items ≡ take from bytes.old.items }
     ensures bytes { IfOk result (λ n. S.left src.old ≡ before (slice_range bytes.new.items from (from + n)) (S.left src.new)) }
     ensures end { IfOk result (λ n. n ≡ 0 → IsAtEnd (S.left src.new)) }
     ensures kept { OnErr result (S.left src.new ≡ S.left src.old) }

@@ -1,5 +1,5 @@
 ghost use Rattle.std.specs.Prelude.{◌≡◌, ◌≢◌, ℕ, ◌<◌, ◌≤◌, List, [], length, replicate, OnOk, OnErr};
-ghost use Rattle.rg_host.specs.Image.{bytes_of, files_of};
+ghost use Rattle.rg_host.specs.Files.{image_of, files_of};
 
 use rg_bytes::Memory;
 use std::alloc::Global;
@@ -14,7 +14,7 @@ pub struct Image {
 
 impl Model for Image {
     ghost use Rattle.std.specs.Prelude.{ℕ, ◌≤◌, List, length};
-    ghost use Rattle.rg_host.specs.Image.{files_of};
+    ghost use Rattle.rg_host.specs.Files.{files_of};
 
     ghost Value = { List (List ℕ) };
 
@@ -37,13 +37,29 @@ impl Image {
     /// Gives a file these bytes, in place of those that it had.
     pub fn set(&mut self, file: u32, bytes: Vec<u8>) -> Result<(), Memory>
         requires { file < 8 }
-        ensures there { OnOk result (bytes_of self.new file ≡ bytes.items) }
-        ensures elsewhere { (other : ℕ) → other ≢ file → bytes_of self.new other ≡ bytes_of self.old other }
+        ensures there { OnOk result (image_of self.new file ≡ bytes.items) }
+        ensures elsewhere { (other : ℕ) → other ≢ file → image_of self.new other ≡ image_of self.old other }
         ensures err { OnErr result (self.new ≡ self.old) }
     {
         add_missing(self.alloc, &mut self.files, file)?;
         self.files[file as usize] = bytes;
         Ok(())
+    }
+
+    /// An image of these files.
+    pub(crate) fn of_files(alloc: Global, files: Vec<Vec<u8>>) -> Image
+        requires { length files.items ≤ 8 }
+        ensures { result ≡ files_of files.items }
+    {
+        Image { alloc, files }
+    }
+
+    /// The files, up to the last one that was set.
+    pub(crate) fn into_files(self) -> Vec<Vec<u8>>
+        ensures files { files_of result.items ≡ self }
+        ensures few { length result.items ≤ 8 }
+    {
+        self.files
     }
 }
 

@@ -48,7 +48,7 @@ impl MemSource {
 }
 
 /// Copies as many bytes as there are and fit, and answers how many.
-fn copy_front(to: &mut [u8], from: &[u8]) -> usize
+fn copy_prefix(to: &mut [u8], from: &[u8]) -> usize
     ensures count { result ≡ min (length to.old) (length from.now) }
     ensures bytes { take result to.new ≡ take result from.now }
 {
@@ -88,7 +88,7 @@ impl Source for MemSource {
             self.faults = self.faults.saturating_add(1);
             return Err(Failed);
         }
-        let count = copy_front(buf, &self.bytes[self.at..]);
+        let count = copy_prefix(buf, &self.bytes[self.at..]);
         self.at += count;
         Ok(count)
     }

@@ -27,7 +27,7 @@ pub trait Source {
     /// How often a read has failed, up to 2^64 - 1.
     ghost faults: { Self → ℕ };
 
-    /// Reads the next bytes into the front of `buf`, and answers how many. With room in `buf`, 0
+    /// Reads the next bytes into the first ones of `buf`, and answers how many. With room in `buf`, 0
     /// comes only at the end of the input.
     fn read(&mut self, buf: &mut [u8]) -> Result<usize, Failed>
         ensures count { IfOk result (λ n. n ≤ length buf.old) }
@@ -69,8 +69,10 @@ pub fn read_all<S: Source>(alloc: Global, src: &mut S, max: usize) -> Result<Vec
     ensures end { OnOk result (IsAtEnd (S.left src.new)) }
     ensures within { IfOk result (λ all. length all.items ≤ max) }
 
-    // Whatever the answer, some bytes were taken; before `Limit`, more than `max`.
-    ensures taken { (got : List ℕ) × (S.left src.old ≡ before got (S.left src.new)) }
+    // Whatever the answer, at most one byte past `max` was taken, and that one only at `Limit`.
+    ensures taken { (got : List ℕ) × (S.left src.old ≡ before got (S.left src.new)) × (length got ≤ max + 1) }
+    ensures taken_within { ¬ IsErrOf result AllFault.Limit
+        → (got : List ℕ) × (S.left src.old ≡ before got (S.left src.new)) × (length got ≤ max) }
     ensures limit { IsErrOf result AllFault.Limit
         → (got : List ℕ) × (S.left src.old ≡ before got (S.left src.new)) × (length got ≡ max + 1) }
     ensures read { IsErrOf result AllFault.Read → Rose (S.faults src.old) (S.faults src.new) }

@@ -1,7 +1,7 @@
 use Rattle.std.proofs.Common.{◌∙◌, ℕ, Vec, ap, arith, length, length-append}
 use Rattle.std.specs.declared.alloc.Global.{Global}
-use Rattle.rg_host.specs.Image.{files_of}
-use Rattle.rg_host.proofs.Images.{files_of-missing}
+use Rattle.rg_host.specs.Files.{files_of}
+use Rattle.rg_host.proofs.FileLists.{files_of-missing}
 use Rattle.rg_host.proofs.image.add_missing.Goals as goal
 
 pub missing-preserved : goal.missing-preserved

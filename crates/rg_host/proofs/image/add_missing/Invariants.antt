@@ -1,5 +1,5 @@
 use Rattle.std.proofs.Common.{◌≡◌, ◌≤◌, ◌-◌, ◌+◌, length}
-use Rattle.rg_host.specs.Image.{files_of}
+use Rattle.rg_host.specs.Files.{files_of}
 use Rattle.rg_host.proofs.image.add_missing.Given as goal
 
 abbrev pub invariant-missing : goal.invariant-missing

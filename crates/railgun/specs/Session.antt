@@ -2,7 +2,7 @@
 use Rattle.std.specs.Prelude.{◌≡◌, ℕ, ◌≤◌, List, [], ◌∷◌, ◌++◌, Result, Ok, Err, All, ⊤}
 use Rattle.rg_event.specs.Codec.{IsEventOf}
 use Rattle.rg_event.specs.declared.event.Event.{Event}
-use Rattle.rg_past.specs.Held.{IsInRange}
+use Rattle.rg_past.specs.Ranges.{IsInRange}
 use Rattle.rg_past.specs.Order.{next_offset}
 use Rattle.rg_metric.specs.declared.reply.Reply.{Reply}
 use Rattle.rg_metric.specs.Queries.{Asked}

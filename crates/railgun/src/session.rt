@@ -2,7 +2,7 @@ ghost use Rattle.std.specs.Prelude.{◌≡◌, ◌⊎◌, ◌≤◌, ◌<◌, �
 ghost use Rattle.std.specs.List.{list_any};
 ghost use Rattle.std.specs.Prelude.{nat_lt};
 ghost use Rattle.rg_metric.specs.Replies.{answers_to};
-ghost use Rattle.rg_past.specs.Held.{IsInRange};
+ghost use Rattle.rg_past.specs.Ranges.{IsInRange};
 ghost use Rattle.rg_past.specs.Order.{MayFollow};
 ghost use Rattle.rg_plan.specs.Named.{asked_by};
 ghost use Rattle.rg_plan.specs.Plans.{plan_for};

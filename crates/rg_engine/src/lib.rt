@@ -2,11 +2,11 @@
 #![tactic(auto)]
 
 mod answering;
+mod building;
 mod changer;
 mod engine;
 mod fault;
 mod law;
-mod machine;
 mod moving;
 mod part;
 mod takes;

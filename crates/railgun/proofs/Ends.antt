@@ -11,10 +11,10 @@ use Rattle.rg_config.proofs.Total.{says_something}
 use Rattle.rg_host.specs.Lines.{ended, whole_lines}
 use Rattle.rg_verdict.specs.Verdicts.{Basis}
 use Rattle.rg_host.specs.Moments.{Moment}
-use Rattle.rg_host.specs.Puts.{IsFront, Puts}
+use Rattle.rg_host.specs.Puts.{IsPrefix, Puts}
 use Rattle.railgun.specs.Plan.{IsPlan, IsRefusal}
 use Rattle.railgun.specs.Output.{output_of}
-use Rattle.railgun.specs.Put.{StopsWith, IsPut}
+use Rattle.rg_host.specs.Puts.{StopsWith, IsPut}
 use Rattle.railgun.specs.Run.{Completes, Stops, StopsAt, StopsRead}
 use Rattle.railgun.specs.Call.{AnswersInput, ReadsPlan, Told, ToldPlan, asked_text, asked_replies, text_of, replies_of, last_line, refusal_line, refusal_of, line_for, IsLegal, IsRefused, IsLonger, IsWithin, IsPossible, status_by, status_for}
 use Rattle.railgun.specs.declared.command.Command.{Command}
@@ -40,19 +40,19 @@ stops-then text put part stops = record {
   is = ap (λ v. v ++ part) (stops.is ∙ append-nil (ended stops.lines));
 }
 
-front_of_nothing : (part : List ℕ) → IsFront part [] → part ≡ []
+front_of_nothing : (part : List ℕ) → IsPrefix part [] → part ≡ []
 front_of_nothing [] front = refl
 front_of_nothing (x ∷ part) front = absurd (cc front.1)
 
-line_put : (text : List (List ℕ)) (last put part : List ℕ) → StopsWith text [] put → IsFront part last → IsPut text last (put ++ part)
+line_put : (text : List (List ℕ)) (last put part : List ℕ) → StopsWith text [] put → IsPrefix part last → IsPut text last (put ++ part)
 line_put text last put part stops front = inr (part, front, stops-then text put part stops)
 
 -- and then a front of the last line, which is empty where a put failed
-pub put_then : (write : Type 0) (last : List ℕ) (text : List (List ℕ)) (put part : List ℕ) → (write → last ≡ []) → StopsAt write text put → IsFront part last → IsPut text last (put ++ part)
+pub put_then : (write : Type 0) (last : List ℕ) (text : List (List ℕ)) (put part : List ℕ) → (write → last ≡ []) → StopsAt write text put → IsPrefix part last → IsPut text last (put ++ part)
 put_then write last text put part empty (inl whole) front = line_put text last put part whole front
 put_then write last text put part empty (inr cut) front =
-    let none : part ≡ [] = front_of_nothing part (subst (λ v. IsFront part v) (empty cut.0) front) in
-    inl (subst (λ v. IsFront v (ended text)) (sym (ap (λ v. put ++ v) none ∙ append-nil put)) cut.1)
+    let none : part ≡ [] = front_of_nothing part (subst (λ v. IsPrefix part v) (empty cut.0) front) in
+    inl (subst (λ v. IsPrefix v (ended text)) (sym (ap (λ v. put ++ v) none ∙ append-nil put)) cut.1)
 
 -- and then the whole last line, unless a put failed
 pub whole_then : (write : Type 0) (last : List ℕ) (text : List (List ℕ)) (put : List ℕ) → StopsAt write text put → StopsWith text last (put ++ last) ⊎ write
@@ -68,7 +68,7 @@ pub all_front : (text : List (List ℕ)) → IsPut text [] (ended text)
 all_front text = inl ([], append-nil (ended text))
 
 -- nothing but the last line
-pub none_put : (last part : List ℕ) → IsFront part last → IsPut [] last part
+pub none_put : (last part : List ℕ) → IsPrefix part last → IsPut [] last part
 none_put last part front = line_put [] last [] part (nothing_whole []) front
 
 pub none_whole : (last : List ℕ) → StopsWith [] last last

@@ -1,4 +1,4 @@
-pub mod Arrivals
+pub mod NextLines
 pub mod Ends
 pub mod Inputs
 pub mod Listed
@@ -9,3 +9,4 @@ pub mod Serving
 pub mod Steadiness
 pub mod Whole
 pub mod Worked
+pub mod Faults

@@ -1,5 +1,5 @@
 -- A call of the program.
-use Rattle.std.specs.Prelude.{◌≡◌, ℕ, ◌<◌, ◌≤◌, nat_lt, Bool, true, false, List, [], ◌∷◌, ◌++◌, length, codes, decimal, bytes_eq, string_bytes, String, Option, Some, None, Result, ⊤, if◌then◌else◌}
+use Rattle.std.specs.Prelude.{◌≡◌, ℕ, ◌<◌, ◌≤◌, nat_lt, Bool, true, false, List, [], ◌∷◌, ◌++◌, length, codes, decimal, bytes_eq, string_bytes, String, Option, Some, None, IfSome, Result, ⊤, if◌then◌else◌}
 use Rattle.std.specs.Prelude as r
 use Rattle.std.specs.declared.alloc.Global.{Global}
 use Rattle.rg_config.specs.Plans.{Planned, Says}
@@ -140,9 +140,7 @@ ending_refusal (Failed status) = None
 
 -- where the plan tells its bytes, this is the fault that refuses them
 abbrev pub TellsFault : Option (List ℕ) → Option Refusal → Type 0
-TellsFault (Some bytes) (Some refusal) = IsRefusal bytes refusal.fault
-TellsFault (Some bytes) None = ⊥
-TellsFault None told = ⊤
+TellsFault plan told = IfSome plan (λ bytes. (refusal : Refusal) × (told ≡ Some refusal) × IsRefusal bytes refusal.fault)
 
 -- the ending says the fault that refuses a plan, or that memory ran out
 abbrev pub EndsBy : ConfigFault → Ending → Type 0

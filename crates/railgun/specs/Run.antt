@@ -2,10 +2,10 @@
 use Rattle.std.specs.Prelude.{◌≡◌, ◌⊎◌, ◌≤◌, ◌^◌, ℕ, List, [], ◌++◌, length, Option, Some}
 use Rattle.rg_bytes.specs.Known.{before, IsAtEnd}
 use Rattle.rg_host.specs.Lines.{ended, whole_lines}
-use Rattle.rg_host.specs.Puts.{IsFront}
+use Rattle.rg_host.specs.Puts.{IsPrefix}
 use Rattle.rg_verdict.specs.Verdicts.{Basis}
 use Rattle.railgun.specs.Output.{output_of}
-use Rattle.railgun.specs.Put.{StopsWith}
+use Rattle.rg_host.specs.Puts.{StopsWith}
 
 -- All of the input was answered. `Put` says which bytes were put out.
 pub record Completes (basis : Basis) (left now : Option (List ℕ)) (Put : List ℕ → Type 0) : Type 0 where
@@ -17,7 +17,7 @@ pub record Completes (basis : Basis) (left now : Option (List ℕ)) (Put : List 
 
 -- what may have been put of a text: whole lines, or any prefix of it where `write` says that a put failed
 abbrev pub StopsAt : Type 0 → List (List ℕ) → List ℕ → Type 0
-StopsAt write text put = StopsWith text [] put ⊎ (write × IsFront put (ended text))
+StopsAt write text put = StopsWith text [] put ⊎ (write × IsPrefix put (ended text))
 
 -- The run stopped before its end.
 pub record Stops (basis : Basis) (left now : Option (List ℕ)) (Put : List ℕ → Type 0) (write : Type 0) : Type 0 where

@@ -3,15 +3,15 @@ use Rattle.std.specs.Prelude.{◌≡◌, ◌⊎◌, ◌+◌, ◌<◌, ◌≤◌,
 use Rattle.rg_bytes.specs.Known.{before, IsAtEnd}
 use Rattle.rg_event.specs.declared.event.Event.{Event}
 use Rattle.rg_host.specs.Lines.{lines_of, HasNoLf}
-use Rattle.rg_host.specs.Puts.{IsFront}
+use Rattle.rg_host.specs.Puts.{IsPrefix}
 use Rattle.rg_host.specs.Reading.{Reading}
 use Rattle.rg_past.specs.Order.{next_offset}
 use Rattle.rg_reply.specs.Texts.{reply_line, mark_line}
 use Rattle.rg_reply.specs.declared.mark.Mark.TheVariants.{Finished}
 use Rattle.rg_verdict.specs.Verdicts.{Basis, read_as, accepted_after, reply_of, line_verdict}
 use Rattle.railgun.specs.Session.{IsFor}
-use Rattle.railgun.specs.declared.arrival.Arrival.{Arrival}
-use Rattle.railgun.specs.declared.arrival.Arrival.TheVariants.{Line, End}
+use Rattle.railgun.specs.declared.next_line.NextLine.{NextLine}
+use Rattle.railgun.specs.declared.next_line.NextLine.TheVariants.{Line, End}
 use Rattle.railgun.specs.declared.run.Run.{Run}
 
 -- The reading took these bytes from a source that had `left` to come and has `now`.
@@ -39,10 +39,10 @@ pub record TakesEnd (old new : Reading) (left now : Option (List ℕ)) : Type 0 
   pub stays : old.ended ≡ true → got ≡ []
   pub within : new.taken ≤ 2 ^ 50
 
--- The arrival is the event of the line at this offset that the reading handed out or the reply that refuses it, or the end.
-abbrev pub Arrives : Basis → ℕ → Reading → Reading → Option (List ℕ) → Option (List ℕ) → Arrival → Type 0
-Arrives basis offset old new left now (Line look) = (item : Option (List ℕ)) × (look ≡ read_as basis offset item) × TakesLine old new left now item
-Arrives basis offset old new left now End = TakesEnd old new left now
+-- What came next is the event of the line at this offset that the reading handed out or the reply that refuses it, or the end.
+abbrev pub HandsNext : Basis → ℕ → Reading → Reading → Option (List ℕ) → Option (List ℕ) → NextLine → Type 0
+HandsNext basis offset old new left now (Line look) = (item : Option (List ℕ)) × (look ≡ read_as basis offset item) × TakesLine old new left now item
+HandsNext basis offset old new left now End = TakesEnd old new left now
 
 -- A reading was refused: the bytes taken, but for one past the limit where `limit` says so, hold no line that hasn't been handed out.
 pub record TakesNone (old new : Reading) (left now : Option (List ℕ)) (limit : Type 0) : Type 0 where
@@ -85,7 +85,7 @@ pub record Finishes (old new : Run) (left now : Option (List ℕ)) (Put : List �
 
 -- The turn was cut short while it put out this text: a prefix of it was put.
 abbrev pub IsCut : List ℕ → (List ℕ → Type 0) → Type 0
-IsCut text Put = (part : List ℕ) × IsFront part text × Put part
+IsCut text Put = (part : List ℕ) × IsPrefix part text × Put part
 
 -- A turn was refused: a put failed in an answer or at the end, or nothing was put.
 abbrev pub Refuses : Basis → Run → Run → Option (List ℕ) → Option (List ℕ) → (List ℕ → Type 0) → Type 0

@@ -4,10 +4,10 @@ ghost use Rattle.rg_bytes.specs.Known.{IsAtEnd};
 ghost use Rattle.rg_config.specs.Plans.{planned};
 ghost use Rattle.rg_config.specs.declared.fault.ConfigFault.{ConfigFault as Fault};
 ghost use Rattle.rg_host.specs.Lines.{ended};
-ghost use Rattle.rg_host.specs.Puts.{IsFront, Puts};
+ghost use Rattle.rg_host.specs.Puts.{IsPrefix, Puts};
 ghost use Rattle.rg_config.specs.Read.{IsRead};
 ghost use Rattle.railgun.specs.Plan.{IsPlan, IsRefusal};
-ghost use Rattle.railgun.specs.Put.{IsPut, StopsWith};
+ghost use Rattle.rg_host.specs.Puts.{IsPut, StopsWith};
 ghost use Rattle.railgun.specs.Run.{StopsAt, StopsRead};
 ghost use Rattle.railgun.specs.Call.{command_of, Told, ToldPlan, SaysSo, asked_text, asked_replies, text_of, replies_of, line_for, last_line as status_line, refusal_line, ending_status, ending_line, ending_refusal, EndsBy, TellsFault, status_for, IsLegal, IsRefused, IsLonger, IsWithin, IsPossible};
 
@@ -15,7 +15,7 @@ use crate::check::check;
 use crate::command::Command;
 use crate::ending::{Ending, Refusal};
 use crate::report::TomlFault;
-use crate::serve::serve;
+use crate::input::answer_input;
 use crate::status::Status;
 use rg_bytes::{Memory, put_bytes, write_whole};
 use rg_config::{ConfigFault, Plan, read_plan};
@@ -95,7 +95,7 @@ fn load_plan<P: Source>(alloc: Global, plan: &mut P) -> Result<Plan, Ending>
 }
 
 /// Does with a plan what the command asks for.
-fn carry<I: Source, H: Host>(
+fn run_plan<I: Source, H: Host>(
     alloc: Global,
     command: Command,
     asked: &Plan,
@@ -116,7 +116,7 @@ fn carry<I: Source, H: Host>(
     ensures later_out { H.out_faults host.old ≤ H.out_faults host.new }
 {
     match command {
-        Command::Run => match serve(alloc, asked, input, host) {
+        Command::Run => match answer_input(alloc, asked, input, host) {
             Ok(()) => Ok(()),
             Err(fault) => Err(Status::from(fault)),
         },
@@ -128,7 +128,7 @@ fn carry<I: Source, H: Host>(
 }
 
 /// Reads the plan, and does with it what the command asks for.
-fn obey<P: Source, I: Source, H: Host>(
+fn run_command<P: Source, I: Source, H: Host>(
     alloc: Global,
     command: Command,
     plan: &mut P,
@@ -159,7 +159,7 @@ fn obey<P: Source, I: Source, H: Host>(
         Ok(asked) => asked,
         Err(ending) => return Err(ending),
     };
-    match carry(alloc, command, &asked, input, host) {
+    match run_plan(alloc, command, &asked, input, host) {
         Ok(()) => Ok(()),
         Err(status) => Err(Ending::Failed(status)),
     }
@@ -168,7 +168,7 @@ fn obey<P: Source, I: Source, H: Host>(
 /// Puts the last line of a call that ends early. Its own failure leaves the status.
 fn end<H: Host>(host: &mut H, ending: &Ending) -> Status
     ensures status { result ≡ ending_status ending.now }
-    ensures part { (part : List ℕ) × IsFront part (ending_line ending.now) × Puts H.said H.clock H.since host.old host.new part }
+    ensures part { (part : List ℕ) × IsPrefix part (ending_line ending.now) × Puts H.said H.clock H.since host.old host.new part }
     ensures whole { Puts H.said H.clock H.since host.old host.new (ending_line ending.now) ⊎ Rose (H.out_faults host.old) (H.out_faults host.new) }
     ensures later_out { H.out_faults host.old ≤ H.out_faults host.new }
 {
@@ -179,7 +179,7 @@ fn end<H: Host>(host: &mut H, ending: &Ending) -> Status
 }
 
 /// Carries out the words and ends with a status, clause by clause but for what follows from the causes.
-fn carry_out<P: Source, I: Source, H: Host>(
+fn run_words<P: Source, I: Source, H: Host>(
     alloc: Global,
     words: &[String],
     plan: &mut P,
@@ -218,7 +218,7 @@ fn carry_out<P: Source, I: Source, H: Host>(
     let Some(command) = Command::named(words) else {
         return end(host, &Ending::Failed(Status::Usage));
     };
-    match obey(alloc, command, plan, input, host) {
+    match run_command(alloc, command, plan, input, host) {
         Ok(()) => Status::Ok,
         Err(ending) => {
             *refusal = ending.refusal();
@@ -288,7 +288,7 @@ pub fn railgun<P: Source, I: Source, H: Host>(
         ¬ (Rose (P.faults plan.old) (P.faults plan.new) ⊎ Rose (I.faults input.old) (I.faults input.new) ⊎ Rose (H.out_faults host.old) (H.out_faults host.new)) →
         SaysSo told.plan_bytes (λ asks. (result ≡ status_for (command_of words.now) told.plan_bytes asks told.input_bytes) ⊎ (result ≡ Status.Memory)) }
 {
-    carry_out(alloc, words, plan, input, host, refusal)
+    run_words(alloc, words, plan, input, host, refusal)
 }
 
 #[cfg(test)]

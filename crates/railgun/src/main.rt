@@ -1,17 +1,17 @@
 //! Answers each payment with exact metrics over windows that end at that payment.
 #![tactic(auto)]
 
-mod arrival;
 mod call;
 mod check;
 mod command;
 mod ending;
 mod fault;
+mod input;
 mod listing;
+mod next_line;
 mod real;
 mod report;
 mod run;
-mod serve;
 mod session;
 mod status;
 

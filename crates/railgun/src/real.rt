@@ -130,11 +130,13 @@ impl<R: Read + Drop> Source for ReaderSource<R> {
     }
 }
 
-/// A writer that tells nothing of what it took.
+/// A writer that tells nothing of what it took. It has no files: each call on one fails.
 #[derive(Drop)]
 pub struct WriterHost<W: Write + Drop> {
     writer: W,
     failures: Failures,
+    disk_faults: u64,
+    reads: u64,
 }
 
 impl<W: Write + Drop> WriterHost<W> {
@@ -142,6 +144,8 @@ impl<W: Write + Drop> WriterHost<W> {
         WriterHost {
             writer,
             failures: Failures::none(),
+            disk_faults: 0,
+            reads: 0,
         }
     }
 
@@ -166,19 +170,50 @@ fn written(given: io::Result<usize>, length: usize) -> io::Result<usize>
 impl<W: Write + Drop> Host for WriterHost<W> {
     ghost use Rattle.std.specs.Prelude.{None, ⊤};
 
-    ghost said = { λ _. None };
+    ghost now = { λ _. None };
+
+    ghost may = { λ _ _. ⊤ };
 
     ghost clock = { λ _. 0 };
 
     ghost since = { λ _ _ _. ⊤ };
 
+    ghost said = { λ _. None };
+
+    ghost disk_faults = { λ host. host.disk_faults };
+
     ghost out_faults = { λ host. host.failures.count };
 
-    ghost counts_now = { λ _ _ _ _ _. tt };
+    ghost reads = { λ host. host.reads };
 
-    ghost only_now = { λ _ _ _ s is. Prim.cc is };
+    ghost now_may = { λ _ _ _. tt };
+
+    ghost counts_now = { λ _ _ _ _ _ _. tt };
+
+    ghost only_now = { λ _ _ _. (tt, λ s is. Prim.cc is) };
 
     ghost sinks = { λ _ _ _ _ _ _. tt };
+
+    fn len(&mut self, _file: u32) -> Result<u64, Failed> {
+        self.disk_faults = self.disk_faults.saturating_add(1);
+        Err(Failed)
+    }
+
+    fn read_at(&mut self, _file: u32, _at: u64, _buf: &mut [u8]) -> Result<usize, Failed> {
+        self.reads = self.reads.saturating_add(1);
+        self.disk_faults = self.disk_faults.saturating_add(1);
+        Err(Failed)
+    }
+
+    fn write_at(&mut self, _file: u32, _at: u64, _bytes: &[u8]) -> Result<(), Failed> {
+        self.disk_faults = self.disk_faults.saturating_add(1);
+        Err(Failed)
+    }
+
+    fn sync(&mut self, _file: u32) -> Result<(), Failed> {
+        self.disk_faults = self.disk_faults.saturating_add(1);
+        Err(Failed)
+    }
 
     fn put(&mut self, bytes: &[u8]) -> Result<usize, Failed> {
         let given = written(self.writer.write(bytes), bytes.len());

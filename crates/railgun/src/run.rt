@@ -1,6 +1,6 @@
 ghost use Rattle.std.specs.Prelude.{◌≡◌, ◌⊎◌, ◌≤◌, ◌<◌, ◌+◌, ◌^◌, ◌++◌, ◌∷◌, [], ℕ, List, Option, IsTrue, false, IfOk, IfErr, OnOk, OnErr, IsErrOf, Err};
 
-use crate::arrival::{Arrival, next_arrival};
+use crate::next_line::{NextLine, take_next};
 use crate::fault::RunFault;
 use crate::session::Session;
 use rg_bytes::Memory;
@@ -76,9 +76,9 @@ impl Run {
         ensures later { I.faults input.old ≤ I.faults input.new }
         ensures later_out { H.out_faults host.old ≤ H.out_faults host.new }
     {
-        let look = match next_arrival(alloc, plan, &mut self.lines, self.offset, input)? {
-            Arrival::Line(look) => look,
-            Arrival::End => {
+        let look = match take_next(alloc, plan, &mut self.lines, self.offset, input)? {
+            NextLine::Line(look) => look,
+            NextLine::End => {
                 self.finish(host)?;
                 return Ok(false);
             }

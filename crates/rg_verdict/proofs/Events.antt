@@ -12,7 +12,7 @@ use Rattle.rg_row.specs.Fields.{fields_of, cleaned}
 use Rattle.rg_row.specs.Rows.{row_of}
 use Rattle.rg_row.specs.declared.fault.RowFault.{RowFault}
 use Rattle.rg_row.proofs.Fits.{Fits, row_fits, event_is}
-use Rattle.rg_verdict.specs.Verdicts.{Basis, event_at, read_as, or_reply, verdict_of, accepted_after, line_verdict}
+use Rattle.rg_verdict.specs.Verdicts.{Basis, event_at, read_as, or_reply, verdict_of, accepted_after}
 use Rattle.rg_verdict.specs.Verdicts.Verdict.{refused, accepted}
 use Rattle.rg_verdict.proofs.Verdicts.{next_offset-push}
 
@@ -53,5 +53,5 @@ next_read fields most events offset (Err reply) fits next = omega (arith, next)
 next_read fields most events offset (Ok e) fits next = next_by events e offset (list_any (λ x. nat_lt e.time x.time) events) (nat_le most (length events)) (fits e refl).at next
 
 -- the next line's offset is above those of the events up to this line
-pub next_after : (events : List Event) (basis : Basis) (offset : ℕ) (item : Option (List ℕ)) → next_offset events ≤ offset → next_offset (accepted_after events (line_verdict basis events offset item)) ≤ offset + 1
-next_after events basis offset item next = next_read basis.fields basis.most events offset (read_as basis offset item) (λ e h. read_fits basis offset item e h) next
+pub next_after : (most : ℕ) (events : List Event) (basis : Basis) (offset : ℕ) (item : Option (List ℕ)) → next_offset events ≤ offset → next_offset (accepted_after events (verdict_of most events (read_as basis offset item))) ≤ offset + 1
+next_after most events basis offset item next = next_read basis.fields most events offset (read_as basis offset item) (λ e h. read_fits basis offset item e h) next

@@ -2,7 +2,7 @@ use Rattle.std.proofs.Common.{rules, arith}
 use Rattle.rg_config.specs.Plans.{planned}
 use Rattle.railgun.specs.Plan.{basis_of}
 use Rattle.railgun.specs.Session.{IsFor}
-use Rattle.railgun.proofs.Arrivals.{follows_look, for_after}
+use Rattle.railgun.proofs.NextLines.{follows_look, for_after}
 use Rattle.railgun.proofs.run.Run.turn.Goals as goal
 
 pub answer-requires : goal.answer-requires

@@ -1,4 +1,4 @@
--- What a line that arrives brings.
+-- What the next line of the input brings.
 use Rattle.std.proofs.Common.{◌≡◌, ⊎_elim, ℕ, zero, suc, ◌≤◌, ◌<◌, ◌+◌, ◌-◌, ◌^◌, nat_lt, ◌==◌, ◌&&◌, ◌||◌, Bool, true, false, cond, List, [], ◌∷◌, ◌++◌, length, take, drop, map, All, Option, Some, None, Result, Ok, Err, refl, ap, sym, ◌∙◌, subst, arith}
 use Rattle.std.specs.List.{list_any, slice_split, onto_first}
 use Rattle.std.specs.Io.BufRead.{ends_with_byte}
@@ -22,8 +22,8 @@ use Rattle.rg_host.specs.declared.lines.LineFault.{LineFault}
 use Rattle.rg_verdict.specs.Verdicts.{Basis, read_as, verdict_of, accepted_after}
 use Rattle.rg_verdict.proofs.Events.{read_fits, accepted_are}
 use Rattle.railgun.specs.Session.{Accepting, IsFor, Follows}
-use Rattle.railgun.specs.Turn.{Takes, TakesLine, Arrives}
-use Rattle.railgun.specs.declared.arrival.Arrival.TheVariants.{Line as LineArrival}
+use Rattle.railgun.specs.Turn.{Takes, TakesLine, HandsNext}
+use Rattle.railgun.specs.declared.next_line.NextLine.TheVariants.{Line as NextIsLine}
 
 abbrev lf : ℕ → Bool
 lf byte = byte == 10
@@ -129,7 +129,7 @@ takes_text old new left now text next = record {
 
 -- a text that is handed out, and what it is read as
 pub arrives_text : (basis : Basis) (offset : ℕ) (old new : Reading) (left now : Option (List ℕ)) (result : Result Line LineFault) (line : Line) (text : Bor (List ℕ)) (look : Result Event Reply) →
-    Next old new left now result → result ≡ Ok line → line ≡ LineText text → look ≡ read_as basis offset (Some text.now) → Arrives basis offset old new left now (LineArrival look)
+    Next old new left now result → result ≡ Ok line → line ≡ LineText text → look ≡ read_as basis offset (Some text.now) → HandsNext basis offset old new left now (NextIsLine look)
 arrives_text basis offset old new left now result line text look next is line_is look_is =
     (Some text.now, look_is, takes_text old new left now text (subst (λ v. Next old new left now v) (is ∙ ap (λ v. Ok v) line_is) next))
 

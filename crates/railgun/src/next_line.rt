@@ -4,7 +4,7 @@ ghost use Rattle.rg_bytes.specs.Counts.{Rose};
 ghost use Rattle.rg_config.specs.Plans.{planned};
 ghost use Rattle.rg_verdict.specs.Verdicts.{read_as};
 ghost use Rattle.railgun.specs.Plan.{basis_of};
-ghost use Rattle.railgun.specs.Turn.{Takes, TakesNone, Arrives};
+ghost use Rattle.railgun.specs.Turn.{Takes, TakesNone, HandsNext};
 
 use crate::fault::RunFault;
 use rg_bytes::Memory;
@@ -17,7 +17,7 @@ use std::alloc::Global;
 
 /// What came next from the input.
 #[derive(Debug, Drop)]
-pub enum Arrival {
+pub enum NextLine {
     /// A line: its event, or the reply that refuses it.
     Line(Result<Event, Reply>),
     /// The end.
@@ -43,7 +43,7 @@ fn refuse_long(plan: &Plan, offset: u64) -> Reply
 }
 
 /// The event of a line's text, which holds no LF, or the reply that refuses it.
-#[tactic(auto, using(crate::proofs::Arrivals::no_lf_cleaned))]
+#[tactic(auto, using(crate::proofs::NextLines::no_lf_cleaned))]
 fn read_text(
     alloc: Global,
     plan: &Plan,
@@ -67,14 +67,14 @@ fn read_text(
 }
 
 /// Takes the next line of the input, which has this offset.
-pub fn next_arrival<I: Source>(
+pub fn take_next<I: Source>(
     alloc: Global,
     plan: &Plan,
     lines: &mut Lines,
     offset: u64,
     input: &mut I,
-) -> Result<Arrival, RunFault>
-    ensures arrives { IfOk result (Arrives (basis_of (planned plan.now)) offset lines.old lines.new (I.left input.old) (I.left input.new)) }
+) -> Result<NextLine, RunFault>
+    ensures arrives { IfOk result (HandsNext (basis_of (planned plan.now)) offset lines.old lines.new (I.left input.old) (I.left input.new)) }
     ensures took { OnErr result ((got : List ℕ) × Takes lines.old lines.new (I.left input.old) (I.left input.new) got) }
     ensures took_none { IfErr result (λ fault. (fault ≡ RunFault.Read) ⊎ (fault ≡ RunFault.Limit) → TakesNone lines.old lines.new (I.left input.old) (I.left input.new) (fault ≡ RunFault.Limit)) }
     ensures read { IsErrOf result RunFault.Read → Rose (I.faults input.old) (I.faults input.new) }
@@ -83,9 +83,9 @@ pub fn next_arrival<I: Source>(
     ensures later { I.faults input.old ≤ I.faults input.new }
 {
     match lines.next(input) {
-        Ok(Line::Text(text)) => Ok(Arrival::Line(read_text(alloc, plan, offset, text)?)),
-        Ok(Line::Long) => Ok(Arrival::Line(Err(refuse_long(plan, offset)))),
-        Ok(Line::End) => Ok(Arrival::End),
+        Ok(Line::Text(text)) => Ok(NextLine::Line(read_text(alloc, plan, offset, text)?)),
+        Ok(Line::Long) => Ok(NextLine::Line(Err(refuse_long(plan, offset)))),
+        Ok(Line::End) => Ok(NextLine::End),
         Err(LineFault::Read) => Err(RunFault::Read),
         Err(LineFault::Limit) => Err(RunFault::Limit),
     }

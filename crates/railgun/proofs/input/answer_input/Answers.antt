@@ -1,13 +1,13 @@
 use Rattle.std.proofs.Common.{sym, ◌∙◌, ap, arith, ◌≡◌, ⊎_elim, inl, inr, Err, ◌⊎◌}
 use Rattle.rg_config.specs.Plans.{planned}
 use Rattle.railgun.specs.Plan.{basis_of}
-use Rattle.rg_host.specs.PutLaws.{puts-nothing, puts-then}
+use Rattle.rg_host.proofs.PutRuns.{puts-nothing, puts-then}
 use Rattle.railgun.specs.declared.fault.RunFault.TheVariants.{Read, Write, Limit}
 use Rattle.railgun.specs.declared.fault.RunFault.{RunFault}
 use Rattle.railgun.proofs.Inputs.{if_err}
 use Rattle.railgun.proofs.Ends.{same_host}
 use Rattle.railgun.proofs.Progress.{begin, step, finish, stop, stop_first, past_limit, read_stop}
-use Rattle.railgun.proofs.serve.serve.Goals as goal
+use Rattle.railgun.proofs.input.answer_input.Goals as goal
 
 not_write : (fault : RunFault) → (fault ≡ Read) ⊎ (fault ≡ Limit) → fault ≡ Write → ⊥
 not_write fault (inl read) write = absurd (let same : Read ≡ Write = sym read ∙ write in cc)

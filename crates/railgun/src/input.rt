@@ -15,7 +15,7 @@ use rg_host::{Host, Source};
 use std::alloc::Global;
 
 /// Answers all lines of the input by the plan.
-pub fn serve<I: Source, H: Host>(
+pub fn answer_input<I: Source, H: Host>(
     alloc: Global,
     plan: &Plan,
     input: &mut I,

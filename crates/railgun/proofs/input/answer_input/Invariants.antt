@@ -4,7 +4,7 @@ use Rattle.railgun.specs.Plan.{basis_of}
 use Rattle.rg_host.specs.Puts.{Puts}
 use Rattle.railgun.specs.Turn.{IsBetween}
 use Rattle.railgun.proofs.Progress.{Progress}
-use Rattle.railgun.proofs.serve.serve.Given as goal
+use Rattle.railgun.proofs.input.answer_input.Given as goal
 
 abbrev pub invariant-lines : goal.invariant-lines
 invariant-lines g l = record {

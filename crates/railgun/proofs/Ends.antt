@@ -9,10 +9,9 @@ use Rattle.rg_config.specs.Plans.{Planned, Says}
 use Rattle.rg_config.specs.declared.fault.ConfigFault.{ConfigFault}
 use Rattle.rg_host.specs.Lines.{ended, whole_lines}
 use Rattle.rg_host.specs.Moments.{Moment}
-use Rattle.rg_host.specs.Puts.{IsFront, Puts}
+use Rattle.rg_host.specs.Puts.{IsPrefix, Puts, StopsWith, IsPut}
 use Rattle.railgun.specs.Plan.{IsPlan, IsRefusal}
 use Rattle.railgun.specs.Output.{output_of}
-use Rattle.railgun.specs.Put.{StopsWith, IsPut}
 use Rattle.railgun.specs.Run.{Completes, Stops, StopsAt, StopsRead}
 use Rattle.railgun.specs.Call.{AnswersInput, Told, asked_text, asked_replies, text_of, replies_of, last_line, refusal_line, refusal_of, line_for, IsLegal, IsRefused, IsLonger, IsWithin, IsPossible, status_by, status_for}
 use Rattle.railgun.specs.declared.command.Command.{Command}
@@ -24,7 +23,7 @@ use Rattle.railgun.proofs.Outputs.{ended-append}
 use Rattle.railgun.proofs.Plans.{one_plan}
 
 -- whole lines of a text are a front of it
-whole_front : (text : List (List ℕ)) (put : List ℕ) → StopsWith text [] put → IsFront put (ended text)
+whole_front : (text : List (List ℕ)) (put : List ℕ) → StopsWith text [] put → IsPrefix put (ended text)
 whole_front text put stops = (
   ended stops.more,
   ap (λ v. v ++ ended stops.more) (stops.is ∙ append-nil (ended stops.lines)) ∙ sym (ended-append stops.lines stops.more) ∙ ap ended stops.of_text,
@@ -58,15 +57,15 @@ stops-then text put part stops = record {
   is = ap (λ v. v ++ part) (stops.is ∙ append-nil (ended stops.lines));
 }
 
-front_of_nothing : (part : List ℕ) → IsFront part [] → part ≡ []
+front_of_nothing : (part : List ℕ) → IsPrefix part [] → part ≡ []
 front_of_nothing [] front = refl
 front_of_nothing (x ∷ part) front = absurd (cc front.1)
 
-line_put : (text : List (List ℕ)) (last put part : List ℕ) → StopsWith text [] put → IsFront part last → IsPut text last (put ++ part)
+line_put : (text : List (List ℕ)) (last put part : List ℕ) → StopsWith text [] put → IsPrefix part last → IsPut text last (put ++ part)
 line_put text last put part stops front = inr (part, front, stops-then text put part stops)
 
 -- what was put: whole lines, or any front where a put failed
-by_write : (status : Status) (text : List (List ℕ)) (put : List ℕ) → StopsAt status text put → StopsWith text [] put ⊎ ((status ≡ Write) × IsFront put (ended text))
+by_write : (status : Status) (text : List (List ℕ)) (put : List ℕ) → StopsAt status text put → StopsWith text [] put ⊎ ((status ≡ Write) × IsPrefix put (ended text))
 by_write Ok text put stops = inl stops
 by_write Usage text put stops = inl stops
 by_write BadPlan text put stops = inl stops
@@ -80,12 +79,12 @@ by_write Gap text put stops = inl stops
 by_write Differs text put stops = inl stops
 
 -- and then a front of the last line, which is empty where a put failed
-pub put_then : (status : Status) (last : List ℕ) (text : List (List ℕ)) (put part : List ℕ) → (status ≡ Write → last ≡ []) → StopsAt status text put → IsFront part last → IsPut text last (put ++ part)
+pub put_then : (status : Status) (last : List ℕ) (text : List (List ℕ)) (put part : List ℕ) → (status ≡ Write → last ≡ []) → StopsAt status text put → IsPrefix part last → IsPut text last (put ++ part)
 put_then status last text put part empty stops front = ⊎_elim
     (λ whole. line_put text last put part whole front)
     (λ cut.
-    let none : part ≡ [] = front_of_nothing part (subst (λ v. IsFront part v) (empty cut.0) front) in
-    inl (subst (λ v. IsFront v (ended text)) (sym (ap (λ v. put ++ v) none ∙ append-nil put)) cut.1))
+    let none : part ≡ [] = front_of_nothing part (subst (λ v. IsPrefix part v) (empty cut.0) front) in
+    inl (subst (λ v. IsPrefix v (ended text)) (sym (ap (λ v. put ++ v) none ∙ append-nil put)) cut.1))
     (by_write status text put stops)
 
 -- and then the whole last line, of a status that isn't Write
@@ -101,7 +100,7 @@ pub all_front : (text : List (List ℕ)) → IsPut text [] (ended text)
 all_front text = inl ([], append-nil (ended text))
 
 -- nothing but the last line
-pub none_put : (last part : List ℕ) → IsFront part last → IsPut [] last part
+pub none_put : (last part : List ℕ) → IsPrefix part last → IsPut [] last part
 none_put last part front = line_put [] last [] part (nothing_whole []) front
 
 pub none_whole : (last : List ℕ) → StopsWith [] last last

@@ -4,13 +4,12 @@ use Rattle.std.proofs.lemmas.List.{append-nil}
 use Rattle.rg_bytes.specs.Known.{before, IsAtEnd}
 use Rattle.rg_event.specs.declared.event.Event.{Event}
 use Rattle.rg_host.specs.Lines.{lines_of, ended}
-use Rattle.rg_host.specs.Puts.{IsFront}
+use Rattle.rg_host.specs.Puts.{IsPrefix, StopsWith}
 use Rattle.rg_reply.specs.Texts.{reply_line, mark_line}
 use Rattle.rg_reply.specs.declared.mark.Mark.TheVariants.{Finished}
 use Rattle.rg_config.specs.Plans.{Planned}
 use Rattle.railgun.specs.Session.{IsFor}
 use Rattle.railgun.specs.Output.{look_at, verdict_of, reply_of, accepted_before, replies_before, replies_to, output_for, output_of}
-use Rattle.railgun.specs.Put.{StopsWith}
 use Rattle.railgun.specs.Turn.{Takes, TakesLine, TakesEnd, TakesNone, Answers, Finishes, IsCut, Refuses, answer_text, done_text}
 use Rattle.railgun.specs.Run.{Completes, Stops, StopsAt, StopsRead}
 use Rattle.railgun.specs.declared.run.Run.{Run}
@@ -57,7 +56,7 @@ done-as plan offset events handed a b =
     rw (a, b)
     (sym (ended-append (replies_before plan handed (length handed)) (mark_line (Finished (length handed) (length (accepted_before plan handed (length handed)))) ∷ [])))
 
-pub front-behind : (front part text rest : List ℕ) → IsFront part text → IsFront (front ++ part) ((front ++ text) ++ rest)
+pub front-behind : (front part text rest : List ℕ) → IsPrefix part text → IsPrefix (front ++ part) ((front ++ text) ++ rest)
 front-behind front part text rest h =
     (h.0 ++ rest, sym (append_assoc (front ++ part) h.0 rest) ∙ ap (λ v. v ++ rest) (append_assoc front part h.0 ∙ ap (λ v. front ++ v) h.1))
 
@@ -197,7 +196,7 @@ module _ (start left now : Option (List ℕ)) (plan : Planned) (A B C : List ℕ
         ap (λ v. v ++ ended begins.0) (answers-as plan old.offset old.session.events progress.handed item progress.events progress.offset)
         ∙ sym (ended-append (replies_before plan (progress.handed ++ item ∷ []) (length (progress.handed ++ item ∷ []))) begins.0)
         ∙ ap ended (begins.1 ∙ ap (output_for plan) (sym lines)) in
-        subst (λ v. IsFront (ended (replies_before plan progress.handed (length progress.handed)) ++ cut.part) v) text (front-behind _ cut.part _ (ended begins.0) cut.front);
+        subst (λ v. IsPrefix (ended (replies_before plan progress.handed (length progress.handed)) ++ cut.part) v) text (front-behind _ cut.part _ (ended begins.0) cut.front);
   }
 
   -- the end was cut short
@@ -213,7 +212,7 @@ module _ (start left now : Option (List ℕ)) (plan : Planned) (A B C : List ℕ
         ap (λ v. lines_of ((progress.got ++ takes.got) ++ v)) none ∙ ap lines_of (append-nil (progress.got ++ takes.got)) ∙ at_end_lines progress takes in
         let text : (ended (replies_before plan progress.handed (length progress.handed)) ++ done_text old.offset old.session.events) ++ [] ≡ ended (output_of plan ((progress.got ++ takes.got) ++ rest)) =
         append-nil _ ∙ done-as plan old.offset old.session.events progress.handed progress.events progress.offset ∙ ap (λ v. ended (output_for plan v)) (sym lines) in
-        subst (λ v. IsFront (ended (replies_before plan progress.handed (length progress.handed)) ++ cut.part) v) text (front-behind _ cut.part _ [] cut.front);
+        subst (λ v. IsPrefix (ended (replies_before plan progress.handed (length progress.handed)) ++ cut.part) v) text (front-behind _ cut.part _ [] cut.front);
   }
 
   -- a put failed

@@ -1,7 +1,6 @@
 pub mod Plan
 pub mod Output
 pub mod Listing
-pub mod Put
 pub mod Session
 pub mod Steady
 pub mod Codes

@@ -2,10 +2,9 @@
 use Rattle.std.specs.Prelude.{◌≡◌, ◌⊎◌, ◌≤◌, ◌^◌, ℕ, List, [], ◌++◌, length, Option, Some}
 use Rattle.rg_bytes.specs.Known.{before, IsAtEnd}
 use Rattle.rg_host.specs.Lines.{ended, whole_lines}
-use Rattle.rg_host.specs.Puts.{IsFront}
+use Rattle.rg_host.specs.Puts.{IsPrefix, StopsWith}
 use Rattle.rg_config.specs.Plans.{Planned}
 use Rattle.railgun.specs.Output.{output_of}
-use Rattle.railgun.specs.Put.{StopsWith}
 use Rattle.railgun.specs.declared.status.Status.{Status}
 use Rattle.railgun.specs.declared.status.Status.TheVariants.{Ok, Usage, Plan as BadPlan, Store, Read, Write, Disk, Limit, Memory, Gap, Differs}
 
@@ -19,7 +18,7 @@ pub record Completes (plan : Planned) (left now : Option (List ℕ)) (Put : List
 
 -- what may have been put of a text: whole lines, or any front of it where a put failed
 abbrev pub StopsAt : Status → List (List ℕ) → List ℕ → Type 0
-StopsAt Write text put = IsFront put (ended text)
+StopsAt Write text put = IsPrefix put (ended text)
 StopsAt Ok text put = StopsWith text [] put
 StopsAt Usage text put = StopsWith text [] put
 StopsAt BadPlan text put = StopsWith text [] put

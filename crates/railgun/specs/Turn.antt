@@ -3,7 +3,7 @@ use Rattle.std.specs.Prelude.{◌≡◌, ◌⊎◌, ◌+◌, ◌<◌, ◌≤◌,
 use Rattle.rg_bytes.specs.Known.{before, IsAtEnd}
 use Rattle.rg_event.specs.declared.event.Event.{Event}
 use Rattle.rg_host.specs.Lines.{lines_of, HasNoLf}
-use Rattle.rg_host.specs.Puts.{IsFront}
+use Rattle.rg_host.specs.Puts.{IsPrefix}
 use Rattle.rg_host.specs.Reading.{Reading}
 use Rattle.rg_past.specs.Order.{next_offset}
 use Rattle.rg_reply.specs.Texts.{reply_line, mark_line}
@@ -89,7 +89,7 @@ pub record Finishes (old new : Run) (left now : Option (List ℕ)) (Put : List �
 -- The turn was cut short while it put out this text.
 pub record IsCut (text : List ℕ) (Put : List ℕ → Type 0) : Type 0 where
   pub part : List ℕ
-  pub front : IsFront part text
+  pub front : IsPrefix part text
   pub puts : Put part
 
 -- A turn was refused: a put failed in an answer or at the end, or nothing was put.

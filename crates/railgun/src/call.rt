@@ -4,9 +4,8 @@ ghost use Rattle.rg_bytes.specs.Known.{IsAtEnd};
 ghost use Rattle.rg_config.specs.Plans.{planned};
 ghost use Rattle.rg_config.specs.declared.fault.ConfigFault.{ConfigFault as Fault};
 ghost use Rattle.rg_host.specs.Lines.{ended};
-ghost use Rattle.rg_host.specs.Puts.{IsFront, Puts};
+ghost use Rattle.rg_host.specs.Puts.{IsPrefix, Puts, IsPut, StopsWith};
 ghost use Rattle.railgun.specs.Plan.{IsPlan, IsRefusal, IsRead};
-ghost use Rattle.railgun.specs.Put.{IsPut, StopsWith};
 ghost use Rattle.railgun.specs.Run.{StopsAt, StopsRead};
 ghost use Rattle.railgun.specs.Call.{command_of, Told, asked_text, asked_replies, text_of, replies_of, line_for, last_line as status_line, refusal_line, ending_status, ending_line, EndsBy, status_for, IsLegal, IsRefused, IsLonger, IsWithin, IsPossible};
 
@@ -149,7 +148,7 @@ fn obey<P: Source, I: Source, H: Host>(
 /// Puts the last line of a call that ends early. Its own failure leaves the status.
 fn end<H: Host>(host: &mut H, ending: &Ending) -> Status
     ensures status { result ≡ ending_status ending.now }
-    ensures part { (part : List ℕ) × IsFront part (ending_line ending.now) × Puts H.said H.clock H.since host.old host.new part }
+    ensures part { (part : List ℕ) × IsPrefix part (ending_line ending.now) × Puts H.said H.clock H.since host.old host.new part }
     ensures whole { Puts H.said H.clock H.since host.old host.new (ending_line ending.now) ⊎ Rose (H.out_faults host.old) (H.out_faults host.new) }
     ensures later_out { H.out_faults host.old ≤ H.out_faults host.new }
 {

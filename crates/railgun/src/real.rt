@@ -94,41 +94,80 @@ impl<R: Read + Drop> Source for ReaderSource<R> {
     }
 }
 
-/// A writer that tells nothing of what it took. One that takes nothing of a piece has failed.
+/// A writer that tells nothing of what it took. One that takes nothing of a piece has failed. It
+/// has no files: each call on one fails.
 #[derive(Drop)]
 pub struct WriterHost<W: Write + Drop> {
     writer: W,
-    faults: u64,
+    disk_faults: u64,
+    out_faults: u64,
+    reads: u64,
 }
 
 impl<W: Write + Drop> WriterHost<W> {
     pub fn new(writer: W) -> WriterHost<W> {
-        WriterHost { writer, faults: 0 }
+        WriterHost {
+            writer,
+            disk_faults: 0,
+            out_faults: 0,
+            reads: 0,
+        }
     }
 }
 
 impl<W: Write + Drop> Host for WriterHost<W> {
     ghost use Rattle.std.specs.Prelude.{None, ⊤};
 
-    ghost said = { λ _. None };
+    ghost now = { λ _. None };
+
+    ghost may = { λ _ _. ⊤ };
 
     ghost clock = { λ _. 0 };
 
     ghost since = { λ _ _ _. ⊤ };
 
-    ghost out_faults = { λ host. host.faults };
+    ghost said = { λ _. None };
 
-    ghost counts_now = { λ _ _ _ _ _. tt };
+    ghost disk_faults = { λ host. host.disk_faults };
 
-    ghost only_now = { λ _ _ _ s is. Prim.cc is };
+    ghost out_faults = { λ host. host.out_faults };
+
+    ghost reads = { λ host. host.reads };
+
+    ghost now_may = { λ _ _ _. tt };
+
+    ghost counts_now = { λ _ _ _ _ _ _. tt };
+
+    ghost only_now = { λ _ _ _. (tt, λ s is. Prim.cc is) };
 
     ghost sinks = { λ _ _ _ _ _ _. tt };
+
+    fn len(&mut self, _file: u32) -> Result<u64, Failed> {
+        self.disk_faults = self.disk_faults.saturating_add(1);
+        Err(Failed)
+    }
+
+    fn read_at(&mut self, _file: u32, _at: u64, _buf: &mut [u8]) -> Result<usize, Failed> {
+        self.reads = self.reads.saturating_add(1);
+        self.disk_faults = self.disk_faults.saturating_add(1);
+        Err(Failed)
+    }
+
+    fn write_at(&mut self, _file: u32, _at: u64, _bytes: &[u8]) -> Result<(), Failed> {
+        self.disk_faults = self.disk_faults.saturating_add(1);
+        Err(Failed)
+    }
+
+    fn sync(&mut self, _file: u32) -> Result<(), Failed> {
+        self.disk_faults = self.disk_faults.saturating_add(1);
+        Err(Failed)
+    }
 
     fn put(&mut self, bytes: &[u8]) -> Result<usize, Failed> {
         match self.writer.write(bytes) {
             Ok(count) if 0 < count || bytes.is_empty() => Ok(count),
             _ => {
-                self.faults = self.faults.saturating_add(1);
+                self.out_faults = self.out_faults.saturating_add(1);
                 Err(Failed)
             }
         }

@@ -1,6 +1,6 @@
 use Rattle.std.proofs.Common.{◌≡◌, sym, ◌∙◌, subst, inl, inr, ⊎_elim, Some, List, ℕ}
-use Rattle.rg_host.specs.Puts.{IsFront, Puts}
-use Rattle.rg_host.specs.PutLaws.{puts-then}
+use Rattle.rg_host.specs.Puts.{IsPrefix, Puts}
+use Rattle.rg_host.proofs.PutRuns.{puts-then}
 use Rattle.railgun.specs.Call.{command_of, line_for, ending_status}
 use Rattle.railgun.proofs.Ends.{all_put, all_front, read_then, put_then, whole_then, write_or, write_line, rose_first, rose_last}
 use Rattle.railgun.proofs.call.carry_out.Goals as goal
@@ -26,7 +26,7 @@ returns-in-Err-clause-put_so_far g c =
     let part = c.end-in-Err.ensures.part in
     rw (form, c.end-in-Err.ensures.status) (λ told.
     let stops = c.in-Err.ensures.stops told in
-    let P : List ℕ → Type 0 = λ v. IsFront part.0 v in (
+    let P : List ℕ → Type 0 = λ v. IsPrefix part.0 v in (
       _,
       puts-then g.H.Host.said g.H.Host.clock g.H.Host.since _ _ _ _ _ stops.1 part.2,
       put_then (ending_status c.in-Err.ending) (line_for told.asks (ending_status c.in-Err.ending)) _ stops.0 part.0 (write_line told.asks (ending_status c.in-Err.ending)) stops.2 (subst P (c.in-Err.ensures.line told) part.1),

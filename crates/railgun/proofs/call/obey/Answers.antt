@@ -1,6 +1,6 @@
 use Rattle.std.proofs.Common.{[], Some}
 use Rattle.rg_host.specs.Puts.{Puts}
-use Rattle.rg_host.specs.PutLaws.{puts-nothing}
+use Rattle.rg_host.proofs.PutRuns.{puts-nothing}
 use Rattle.rg_config.specs.Plans.{planned}
 use Rattle.railgun.specs.Call.{ending_status, ending_line}
 use Rattle.railgun.proofs.Plans.{long_is_no_plan}

@@ -1,6 +1,6 @@
 use Rattle.std.proofs.Common.{[]}
 use Rattle.rg_config.specs.Plans.{planned}
-use Rattle.rg_host.specs.PutLaws.{puts-nothing}
+use Rattle.rg_host.proofs.PutRuns.{puts-nothing}
 use Rattle.railgun.specs.Listing.{check_text}
 use Rattle.railgun.specs.declared.status.Status.TheVariants.{Memory}
 use Rattle.railgun.proofs.Ends.{nothing_stops}

@@ -1,6 +1,6 @@
 use Rattle.std.proofs.Common.{sym, ◌∙◌, ap, arith, ◌≡◌, ⊎_elim, inl, inr, Err, ◌⊎◌}
 use Rattle.rg_config.specs.Plans.{planned}
-use Rattle.rg_host.specs.PutLaws.{puts-nothing, puts-then}
+use Rattle.rg_host.proofs.PutRuns.{puts-nothing, puts-then}
 use Rattle.railgun.specs.declared.status.Status.TheVariants.{Read, Write, Limit}
 use Rattle.railgun.specs.declared.status.Status.{Status}
 use Rattle.railgun.proofs.Inputs.{if_err}

@@ -95,7 +95,7 @@ impl MemHost {
         ensures image { IfOk result (λ host. now_in host
             ≡ Some (left_after pick (image_of self.now.first) (first_effects call self.now.effects))) }
 
-        // It is an image of the moment after that call: with what had been put out then.
+        // It is an image of the moment after that call: with what had been put then.
         ensures moment { IfOk result (λ host. ForSome (now_in host) (λ v. ⟦<MemHost as Host>⟧.since self.now call
             (record { image = v; said = said_after (first_effects call self.now.effects) }))) }
         ensures begun { IfOk result (λ host. host ≡ begun host.first []) }
@@ -114,7 +114,7 @@ impl MemHost {
         self.trace.file(file)
     }
 
-    /// All that was put out.
+    /// All that was put.
     pub fn output(&self) -> &[u8]
         ensures { ForSome (⟦<MemHost as Host>⟧.said self.now) (λ s. result.now ≡ s) }
     {

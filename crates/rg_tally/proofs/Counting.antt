@@ -1,6 +1,5 @@
 -- How the counts of values change with the entries of a map.
 use Rattle.std.proofs.Common.{◌≡◌, ℕ, ◌+◌, ◌<◌, ◌≤◌, Bool, true, false, List, [], ◌∷◌, Some, None, if◌then◌else◌, refl, ap, sym, ◌∙◌, arith}
-use Rattle.std.proofs.lemmas.Bool.{true≢false}
 use Rattle.std.specs.declared.cmp.Ordering.{Ordering}
 use Rattle.std.specs.declared.cmp.Ordering.TheVariants.{Less, Equal, Greater}
 use Rattle.std.specs.Ordering.{is_eq}
@@ -9,7 +8,7 @@ use Rattle.std.specs.Map.{lookup, remove_entry, set_value}
 use Rattle.rg_agg.specs.Standing.{counts_sum, count_in}
 use Rattle.rg_event.specs.declared.value.Value.{Value}
 use Rattle.rg_metric.specs.Same.{same_value}
-use Rattle.rg_metric.proofs.Same.{same_value-true, same_value-same}
+use Rattle.rg_metric.proofs.Same.{same_value-true}
 use Rattle.rg_event.specs.declared.value.Kind.{Kind}
 use Rattle.rg_tally.specs.Pairs.{pairs_by, once, OneMore, AreOf}
 use Rattle.rg_tally.proofs.Places.{other_way}

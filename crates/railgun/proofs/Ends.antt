@@ -219,7 +219,7 @@ completes (Some command) plan input A B C status causes told none =
 completes None plan input A B C status causes told none = inl (causes.usage_always refl)
 
 -- what the plan's bytes say
-pub with_said : (command : Option Command) (plan input : Option (List ℕ)) → Told command plan input → ToldPlan command plan input
+abbrev pub with_said : (command : Option Command) (plan input : Option (List ℕ)) → Told command plan input → ToldPlan command plan input
 with_said command plan input told =
     let said = says_something told.plan_bytes in
     record { plan_bytes = told.plan_bytes; input_bytes = told.input_bytes; plan_is = told.plan_is; asks = said.0; says = said.1; input_is = told.input_is said.0 said.1 }

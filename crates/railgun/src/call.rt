@@ -14,8 +14,8 @@ ghost use Rattle.railgun.specs.Call.{command_of, Told, ToldPlan, SaysSo, asked_t
 use crate::check::check;
 use crate::command::Command;
 use crate::ending::{Ending, Refusal};
-use crate::report::TomlFault;
 use crate::input::answer_input;
+use crate::report::TomlFault;
 use crate::status::Status;
 use rg_bytes::{Memory, put_bytes, write_whole};
 use rg_config::{ConfigFault, Plan, read_plan};

@@ -1,7 +1,7 @@
 ghost use Rattle.std.specs.Prelude.{◌≡◌, ◌⊎◌, ◌≤◌, ◌<◌, ◌+◌, ◌^◌, ◌++◌, ◌∷◌, [], ℕ, List, Option, IsTrue, false, IfOk, IfErr, OnOk, OnErr, IsErrOf, Err};
 
-use crate::next_line::{NextLine, take_next};
 use crate::fault::RunFault;
+use crate::next_line::{NextLine, take_next};
 use crate::session::Session;
 use rg_bytes::Memory;
 use rg_config::Plan;
@@ -98,6 +98,7 @@ impl Run {
         ensures quiet { OnErr result ((result ≡ Err RunFault.Write) ⊎ (host.new ≡ host.old)) }
         ensures cut { IsErrOf result RunFault.Write → IsCut (done_text self.old.offset self.old.session.events) (Puts H.said H.clock H.since host.old host.new) }
         ensures cause { IsErrOf result RunFault.Write → Rose (H.out_faults host.old) (H.out_faults host.new) }
+        ensures others { IfErr result (λ fault. (fault ≡ RunFault.Memory) ⊎ (fault ≡ RunFault.Write)) }
         ensures later { H.out_faults host.old ≤ H.out_faults host.new }
     {
         self.text.clear();

@@ -69,7 +69,6 @@ row_fits fields offset (Some []) e is = absurd (cc)
 row_fits fields offset (Some (time ∷ texts)) e is = counted_fits fields offset time texts e (length texts == length fields) refl is
 row_fits fields offset None e is = absurd (cc)
 
-
 -- so it is an event of the columns
 pub event_is : (fields : List Field) (offset : ℕ) (e : Event) → offset < 2 ^ 62 → Fits fields offset e → IsEventOf fields e
 event_is fields offset e small fits = record { offset = omega (arith, fits.at, small); time = fits.time; values = fits.values }

@@ -96,7 +96,14 @@ fn outcome(alloc: Global, setting: &Setting<'_>) -> Result<(String, Status), Fai
         setting.failing_puts.to_vec(alloc)?,
     )?;
     let mut refusal = None;
-    let status = railgun(alloc, &words, &mut plan, &mut input, &mut host, &mut refusal);
+    let status = railgun(
+        alloc,
+        &words,
+        &mut plan,
+        &mut input,
+        &mut host,
+        &mut refusal,
+    );
     let text = String::from_utf8(host.output().to_vec(alloc)?)?;
     Ok((text, status))
 }

@@ -46,25 +46,58 @@ fn a_document_is_told_its_line(rt: HostRuntime) -> Result<(), Fail> {
     };
     let fault = ConfigFault::Toml;
     let sentence = "plan.toml: TOML: line 2: unclosed table, expected `]`";
-    assert_says(&rt, Status::Plan, Some(Refusal { fault, toml }), None, sentence)
+    assert_says(
+        &rt,
+        Status::Plan,
+        Some(Refusal { fault, toml }),
+        None,
+        sentence,
+    )
 }
 
 #[test]
 fn a_setting_is_told_its_range(rt: HostRuntime) -> Result<(), Fail> {
     let sentences = [
-        (SettingsFault::TopKey, "plan.toml: plan: a key other than queries, stream and settings"),
-        (SettingsFault::Queries, "plan.toml: plan: queries must be a list of one string or more"),
-        (SettingsFault::Table, "plan.toml: plan: settings must be a table"),
+        (
+            SettingsFault::TopKey,
+            "plan.toml: plan: a key other than queries, stream and settings",
+        ),
+        (
+            SettingsFault::Queries,
+            "plan.toml: plan: queries must be a list of one string or more",
+        ),
+        (
+            SettingsFault::Table,
+            "plan.toml: plan: settings must be a table",
+        ),
         (
             SettingsFault::Key,
             "plan.toml: settings: a key other than cache, chunk, commit, save, events and header",
         ),
-        (SettingsFault::Cache, "plan.toml: settings: cache must be 1 to 1024"),
-        (SettingsFault::Chunk, "plan.toml: settings: chunk must be 1 to 4096"),
-        (SettingsFault::Commit, "plan.toml: settings: commit must be 1 to 1000000"),
-        (SettingsFault::Save, "plan.toml: settings: save must be 1 to 1000000"),
-        (SettingsFault::Events, "plan.toml: settings: events must be 1 to 1099511627776"),
-        (SettingsFault::Header, "plan.toml: settings: header must be true or false"),
+        (
+            SettingsFault::Cache,
+            "plan.toml: settings: cache must be 1 to 1024",
+        ),
+        (
+            SettingsFault::Chunk,
+            "plan.toml: settings: chunk must be 1 to 4096",
+        ),
+        (
+            SettingsFault::Commit,
+            "plan.toml: settings: commit must be 1 to 1000000",
+        ),
+        (
+            SettingsFault::Save,
+            "plan.toml: settings: save must be 1 to 1000000",
+        ),
+        (
+            SettingsFault::Events,
+            "plan.toml: settings: events must be 1 to 1099511627776",
+        ),
+        (
+            SettingsFault::Header,
+            "plan.toml: settings: header must be true or false",
+        ),
         (
             SettingsFault::CachedEvents,
             "plan.toml: settings: cache times chunk must be at most 65536",
@@ -83,9 +116,18 @@ fn a_setting_is_told_its_range(rt: HostRuntime) -> Result<(), Fail> {
 #[test]
 fn a_query_is_told_its_fault_and_place(rt: HostRuntime) -> Result<(), Fail> {
     let sentences = [
-        (QueryRefusal::TooMany, "plan.toml: query 2: there are more than 64"),
-        (QueryRefusal::TooManyAggs, "plan.toml: query 2: more than 16 answers"),
-        (QueryRefusal::TooManyColumns, "plan.toml: query 2: more than 8 columns in GROUP BY"),
+        (
+            QueryRefusal::TooMany,
+            "plan.toml: query 2: there are more than 64",
+        ),
+        (
+            QueryRefusal::TooManyAggs,
+            "plan.toml: query 2: more than 16 answers",
+        ),
+        (
+            QueryRefusal::TooManyColumns,
+            "plan.toml: query 2: more than 8 columns in GROUP BY",
+        ),
         (
             QueryRefusal::Text(QueryFault::Syntax(17)),
             "plan.toml: query 2: syntax error at byte 17",

@@ -1,4 +1,4 @@
-use Rattle.std.proofs.Common.{◌≡◌, [], inr, refl}
+use Rattle.std.proofs.Common.{◌≡◌, []}
 use Rattle.rg_config.specs.Plans.{planned}
 use Rattle.rg_host.proofs.PutRuns.{puts-nothing}
 use Rattle.railgun.specs.Listing.{check_text}
@@ -9,8 +9,3 @@ use Rattle.railgun.proofs.check.check.Goals as goal
 pub returns-in-Err-clause-stops : goal.returns-in-Err-clause-stops
 returns-in-Err-clause-stops g c =
     ([], puts-nothing g.H.Host.said g.H.Host.clock g.H.Host.since _ (λ t u m. g.met.H.Host.sinks _ t u m) (λ m. g.met.H.Host.only_now _ m), nothing_stops (Memory ≡ Write) (check_text (planned c.args.plan.now)))
-
-pub returns-in-Err-put_all-clause-stops : goal.returns-in-Err-put_all-clause-stops
-returns-in-Err-put_all-clause-stops g c =
-    let part = c.put_all.ensures.part in
-    (part.0, part.2, inr (refl, part.1))

@@ -36,3 +36,6 @@ returns-clause-steady g c =
     (λ memory. stays c.args.past.now c.take.new.past c.args.engine.now c.take.new.self c.requires.steady (c.take.ensures.past.sound c.requires.steady.sound) c.take.ensures.edges.within c.take.ensures.plan
     (λ runs. (let ended = c.in-Err.ensures.ends in absurd (ends_not c.in-Err.fault _ memory ended runs))))
     (returns-clause-memory g c)
+
+pub returns-clause-full : goal.returns-clause-full
+returns-clause-full g c = λ is. (c.take.ensures.cause past.Full (c.in-Err.is ∙ is), (c.take.ensures.full (c.in-Err.is ∙ is)).2)

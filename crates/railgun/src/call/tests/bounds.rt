@@ -107,7 +107,10 @@ fn a_plan_at_all_its_bounds_is_listed(rt: HostRuntime) -> Result<(), Fail> {
     let (text, status) = outcome(alloc, &check)?;
     assert_eq!(rt; status, Status::Ok);
     // the queries, an offset for 0 and each length, and the nodes of four levels
-    assert_eq!(rt; text.as_str().lines().count(), 64 + 65 + 64 + 64 + 64 + 1024);
+    assert_eq!(rt;
+        text.as_str().lines().count(),
+        64 + 65 + 64 + 64 + 64 + 1024
+    );
     assert_eq!(rt; text.as_str().lines().last(), Some("agg 1023 63 sum(c23)"));
     Ok(())
 }

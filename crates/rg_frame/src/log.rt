@@ -1,4 +1,4 @@
-ghost use Rattle.std.specs.Prelude.{◌≡◌, ◌↔◌, ◌≢◌, ◌⊎◌, ◌≤◌, ◌<◌, ◌+◌, ◌^◌, [], ◌∷◌, ◌++◌, ℕ, List, min, length, slice_index, OnOk, OnErr, IfOk, IfErr, IfSome, IfNone, IsErrOf, Option, Err, true, false};
+ghost use Rattle.std.specs.Prelude.{◌≡◌, ◌↔◌, ◌≢◌, ◌⊎◌, ◌≤◌, ◌<◌, ◌+◌, ◌^◌, [], ◌∷◌, ◌++◌, ℕ, List, min, length, slice_index, OnOk, OnErr, IfOk, IfErr, IfSome, IfNone, IsErrOf, Option, Err, true, false, ⊤};
 ghost use Rattle.std.specs.Option.{ForSome};
 ghost use Rattle.rg_bytes.specs.Counts.{Rose};
 ghost use Rattle.rg_host.specs.Image.{Image, Becomes, InFile, NothingPending};
@@ -166,8 +166,8 @@ impl FrameLog {
     }
 
     /// Adds a frame at the end of the log, and answers its place. Whatever call fails, and wherever
-    /// the run stops, the frame list of the file is the old one, or it and this payload. After a
-    /// fault the log has ended.
+    /// the run stops, the frame list of the file is the old one, or it and this payload, and reads
+    /// of the other files give what they gave. After a fault the log has ended.
     pub fn append<H: Host>(&mut self, host: &mut H, payload: &[u8]) -> Result<u64, FrameFault>
         requires ready { self.old.ready ≡ true }
         requires reaches { ReachesEnd self.old (H.now host.old) }
@@ -183,6 +183,7 @@ impl FrameLog {
             (InFile self.old.file (Appended self.old.end payload.now self.new.end))) }
         ensures pending { OnOk result (NothingPending self.old.file (H.now host.new) (H.may host.new)) }
         ensures leaves { Writes H.now H.may H.clock H.since H.said self.old.file (From self.old.end (Grows payload.now)) host.old host.new }
+        ensures others { Becomes (H.now host.old) (H.now host.new) (InFile self.old.file (λ _ _. ⊤)) }
         ensures reaches { ReachesEnd self.new (H.now host.new) }
         ensures disk_faults { H.disk_faults host.old ≤ H.disk_faults host.new }
         ensures out_faults { H.out_faults host.new ≡ H.out_faults host.old }
@@ -212,7 +213,8 @@ impl FrameLog {
 
     /// Drops all frames. A closed gate at the head of the file is never written. Whatever call
     /// fails, and wherever the run stops, the frame list of the file is the old one, an undefined
-    /// one included, or has no frame. After a fault the log has ended; else it is ready at place 0.
+    /// one included, or has no frame, and reads of the other files give what they gave. After a
+    /// fault the log has ended; else it is ready at place 0.
     pub fn clear<H: Host>(&mut self, host: &mut H) -> Result<(), FrameFault>
         ensures ok { OnOk result (self.new ≡ record self.old { end = 0; ready = true }) }
         ensures err { OnErr result (self.new ≡ record self.old { ended = true }) }
@@ -228,6 +230,7 @@ impl FrameLog {
         ensures pending { OnOk result (NothingPending self.old.file (H.now host.old) (H.may host.old)
             → NothingPending self.old.file (H.now host.new) (H.may host.new)) }
         ensures leaves { Writes H.now H.may H.clock H.since H.said self.old.file OldOrNone host.old host.new }
+        ensures others { Becomes (H.now host.old) (H.now host.new) (InFile self.old.file (λ _ _. ⊤)) }
         ensures reaches { ReachesEnd self.new (H.now host.new) }
         ensures disk_faults { H.disk_faults host.old ≤ H.disk_faults host.new }
         ensures out_faults { H.out_faults host.new ≡ H.out_faults host.old }

@@ -125,8 +125,8 @@ impl FrameLog {
     }
 
     /// Reads the payload of the frame at a place into `out`, in place of what stood there, and
-    /// answers the place of the next gate. None says that no open gate stands at the place: `out`
-    /// is then as it was. A fault may leave any bytes in `out`.
+    /// answers the place of the next gate. None says that no open gate stands at the place. None
+    /// and a fault leave `out` as it was.
     pub fn read<H: Host>(
         &self,
         host: &mut H,
@@ -141,6 +141,7 @@ impl FrameLog {
         ensures damaged { (p : ℕ) → IsErrOf result (FrameFault.Damaged p) → ForSome (H.now host.old) (λ v. IsTorn p (v self.now.file)) }
         ensures disk { IsErrOf result FrameFault.Disk → Rose (H.disk_faults host.old) (H.disk_faults host.new) }
         ensures faults { IfErr result (λ fault. (fault ≡ FrameFault.Disk) ⊎ (fault ≡ FrameFault.Memory) ⊎ (fault ≡ FrameFault.Damaged place)) }
+        ensures err { OnErr result (out.new.items ≡ out.old.items) }
 
         ensures leaves { LeavesAll H.now H.may H.clock H.since H.said host.old host.new }
         ensures disk_faults { H.disk_faults host.old ≤ H.disk_faults host.new }
@@ -153,15 +154,16 @@ impl FrameLog {
             Ok(None) => return Ok(None),
             Err(fault) => return Err(fault),
         };
-        out.clear();
-        match out.resize(size as usize, 0) {
+        let mut payload = Vec::new(*out.allocator());
+        match payload.resize(size as usize, 0) {
             Ok(_) => {}
             Err(_) => return Err(FrameFault::Memory),
         }
-        match read_full(host, self.file, place + 9, out) {
+        match read_full(host, self.file, place + 9, &mut payload) {
             Ok(_) => {}
             Err(_) => return Err(FrameFault::Disk),
         }
+        *out = payload;
         Ok(Some(place + 9 + size))
     }
 

@@ -1,4 +1,4 @@
-ghost use Rattle.std.specs.Prelude.{◌≡◌, ◌↔◌, ◌≢◌, ◌⊎◌, ◌≤◌, ◌<◌, ◌+◌, ◌^◌, [], ◌∷◌, ◌++◌, ℕ, List, min, length, slice_index, OnOk, OnErr, IfOk, IfErr, IfSome, IfNone, IsErrOf, Option, Err, true, false};
+ghost use Rattle.std.specs.Prelude.{◌≡◌, ◌↔◌, ◌≢◌, ◌⊎◌, ◌≤◌, ◌<◌, ◌+◌, ◌^◌, [], ◌∷◌, ◌++◌, ℕ, List, min, length, slice_index, OnOk, OnErr, IfOk, IfErr, IfSome, IfNone, IsErrOf, Option, Err, true, false, ⊤};
 ghost use Rattle.std.specs.Option.{ForSome};
 ghost use Rattle.rg_bytes.specs.Counts.{Rose};
 ghost use Rattle.rg_host.specs.Image.{Image, Becomes, InFile, NothingPending};
@@ -125,8 +125,8 @@ impl FrameLog {
     }
 
     /// Reads the payload of the frame at a place into `out`, in place of what stood there, and
-    /// answers the place of the next gate. None says that no open gate stands at the place: `out`
-    /// is then as it was. A fault may leave any bytes in `out`.
+    /// answers the place of the next gate. None says that no open gate stands at the place. None
+    /// and a fault leave `out` as it was.
     pub fn read<H: Host>(
         &self,
         host: &mut H,
@@ -141,6 +141,7 @@ impl FrameLog {
         ensures damaged { (p : ℕ) → IsErrOf result (FrameFault.Damaged p) → ForSome (H.now host.old) (λ v. IsTorn p (v self.now.file)) }
         ensures disk { IsErrOf result FrameFault.Disk → Rose (H.disk_faults host.old) (H.disk_faults host.new) }
         ensures faults { IfErr result (λ fault. (fault ≡ FrameFault.Disk) ⊎ (fault ≡ FrameFault.Memory) ⊎ (fault ≡ FrameFault.Damaged place)) }
+        ensures err { OnErr result (out.new.items ≡ out.old.items) }
 
         ensures leaves { LeavesAll H.now H.may H.clock H.since H.said host.old host.new }
         ensures disk_faults { H.disk_faults host.old ≤ H.disk_faults host.new }
@@ -153,21 +154,22 @@ impl FrameLog {
             Ok(None) => return Ok(None),
             Err(fault) => return Err(fault),
         };
-        out.clear();
-        match out.resize(size as usize, 0) {
+        let mut payload = Vec::new(*out.allocator());
+        match payload.resize(size as usize, 0) {
             Ok(_) => {}
             Err(_) => return Err(FrameFault::Memory),
         }
-        match read_full(host, self.file, place + 9, out) {
+        match read_full(host, self.file, place + 9, &mut payload) {
             Ok(_) => {}
             Err(_) => return Err(FrameFault::Disk),
         }
+        *out = payload;
         Ok(Some(place + 9 + size))
     }
 
     /// Adds a frame at the end of the log, and answers its place. Whatever call fails, and wherever
-    /// the run stops, the frame list of the file is the old one, or it and this payload. After a
-    /// fault the log has ended.
+    /// the run stops, the frame list of the file is the old one, or it and this payload, and reads
+    /// of the other files give what they gave. After a fault the log has ended.
     pub fn append<H: Host>(&mut self, host: &mut H, payload: &[u8]) -> Result<u64, FrameFault>
         requires ready { self.old.ready ≡ true }
         requires reaches { ReachesEnd self.old (H.now host.old) }
@@ -183,6 +185,7 @@ impl FrameLog {
             (InFile self.old.file (Appended self.old.end payload.now self.new.end))) }
         ensures pending { OnOk result (NothingPending self.old.file (H.now host.new) (H.may host.new)) }
         ensures leaves { Writes H.now H.may H.clock H.since H.said self.old.file (From self.old.end (Grows payload.now)) host.old host.new }
+        ensures others { Becomes (H.now host.old) (H.now host.new) (InFile self.old.file (λ _ _. ⊤)) }
         ensures reaches { ReachesEnd self.new (H.now host.new) }
         ensures disk_faults { H.disk_faults host.old ≤ H.disk_faults host.new }
         ensures out_faults { H.out_faults host.new ≡ H.out_faults host.old }
@@ -212,7 +215,8 @@ impl FrameLog {
 
     /// Drops all frames. A closed gate at the head of the file is never written. Whatever call
     /// fails, and wherever the run stops, the frame list of the file is the old one, an undefined
-    /// one included, or has no frame. After a fault the log has ended; else it is ready at place 0.
+    /// one included, or has no frame, and reads of the other files give what they gave. After a
+    /// fault the log has ended; else it is ready at place 0.
     pub fn clear<H: Host>(&mut self, host: &mut H) -> Result<(), FrameFault>
         ensures ok { OnOk result (self.new ≡ record self.old { end = 0; ready = true }) }
         ensures err { OnErr result (self.new ≡ record self.old { ended = true }) }
@@ -228,6 +232,7 @@ impl FrameLog {
         ensures pending { OnOk result (NothingPending self.old.file (H.now host.old) (H.may host.old)
             → NothingPending self.old.file (H.now host.new) (H.may host.new)) }
         ensures leaves { Writes H.now H.may H.clock H.since H.said self.old.file OldOrNone host.old host.new }
+        ensures others { Becomes (H.now host.old) (H.now host.new) (InFile self.old.file (λ _ _. ⊤)) }
         ensures reaches { ReachesEnd self.new (H.now host.new) }
         ensures disk_faults { H.disk_faults host.old ≤ H.disk_faults host.new }
         ensures out_faults { H.out_faults host.new ≡ H.out_faults host.old }

@@ -1,4 +1,4 @@
-ghost use Rattle.std.specs.Prelude.{◌≡◌, ◌≢◌, ◌≤◌, ◌<◌, ◌+◌, ◌^◌, ℕ, [], ◌∷◌, length, slice_index, OnOk, OnErr};
+ghost use Rattle.std.specs.Prelude.{◌≡◌, ◌≢◌, ◌≤◌, ◌<◌, ◌+◌, ◌^◌, ℕ, [], ◌∷◌, length, slice_index, OnOk, OnErr, ⊤};
 ghost use Rattle.std.specs.Option.{ForSome};
 ghost use Rattle.rg_bytes.specs.Counts.{Rose};
 ghost use Rattle.rg_host.specs.Image.{Becomes, InFile, Torn, Holds, NothingPending};
@@ -16,6 +16,7 @@ fn begin<H: Host>(host: &mut H, file: u32) -> Result<(), Failed>
     ensures begun { OnOk result (Becomes (H.now host.old) (H.now host.new) (InFile file Begun)) }
     ensures pending { OnOk result (NothingPending file (H.now host.old) (H.may host.old) → NothingPending file (H.now host.new) (H.may host.new)) }
     ensures leaves { Writes H.now H.may H.clock H.since H.said file Brief host.old host.new }
+    ensures others { Becomes (H.now host.old) (H.now host.new) (InFile file (λ _ _. ⊤)) }
     ensures cause { OnErr result (Rose (H.disk_faults host.old) (H.disk_faults host.new)) }
     ensures disk_faults { H.disk_faults host.old ≤ H.disk_faults host.new }
     ensures out_faults { H.out_faults host.new ≡ H.out_faults host.old }
@@ -39,6 +40,7 @@ fn stage<H: Host>(host: &mut H, file: u32, end: u64, payload: &[u8]) -> Result<(
     ensures limit { OnOk result (end + 10 + length payload.now ≤ 2 ^ 62) }
     ensures fits { FitsFrame payload.now }
     ensures leaves { Writes H.now H.may H.clock H.since H.said file (Keeps (end + 1)) host.old host.new }
+    ensures others { Becomes (H.now host.old) (H.now host.new) (InFile file (λ _ _. ⊤)) }
     ensures cause { OnErr result (Rose (H.disk_faults host.old) (H.disk_faults host.new)) }
     ensures disk_faults { H.disk_faults host.old ≤ H.disk_faults host.new }
     ensures out_faults { H.out_faults host.new ≡ H.out_faults host.old }
@@ -59,6 +61,7 @@ fn open_gate<H: Host>(host: &mut H, file: u32, end: u64) -> Result<(), Failed>
     ensures opened { OnOk result (Becomes (H.now host.old) (H.now host.new) (InFile file (Holds end (1 ∷ [])))) }
     ensures pending { OnOk result (NothingPending file (H.now host.new) (H.may host.new)) }
     ensures leaves { Writes H.now H.may H.clock H.since H.said file (Torn end 1) host.old host.new }
+    ensures others { Becomes (H.now host.old) (H.now host.new) (InFile file (λ _ _. ⊤)) }
     ensures cause { OnErr result (Rose (H.disk_faults host.old) (H.disk_faults host.new)) }
     ensures disk_faults { H.disk_faults host.old ≤ H.disk_faults host.new }
     ensures out_faults { H.out_faults host.new ≡ H.out_faults host.old }
@@ -79,6 +82,7 @@ pub fn add<H: Host>(host: &mut H, file: u32, end: u64, payload: &[u8]) -> Result
     ensures pending { OnOk result (NothingPending file (H.now host.new) (H.may host.new)) }
     ensures limit { OnOk result (end + 10 + length payload.now ≤ 2 ^ 62) }
     ensures leaves { Writes H.now H.may H.clock H.since H.said file (From end (Grows payload.now)) host.old host.new }
+    ensures others { Becomes (H.now host.old) (H.now host.new) (InFile file (λ _ _. ⊤)) }
     ensures cause { OnErr result (Rose (H.disk_faults host.old) (H.disk_faults host.new)) }
     ensures disk_faults { H.disk_faults host.old ≤ H.disk_faults host.new }
     ensures out_faults { H.out_faults host.new ≡ H.out_faults host.old }
@@ -97,6 +101,7 @@ pub fn close<H: Host>(host: &mut H, file: u32) -> Result<(), Failed>
     ensures closed { ForSome (H.now host.old) (λ v. slice_index (v file) 0 ≢ 1 → LeavesAll H.now H.may H.clock H.since H.said host.old host.new) }
     ensures pending { OnOk result (NothingPending file (H.now host.old) (H.may host.old) → NothingPending file (H.now host.new) (H.may host.new)) }
     ensures leaves { Writes H.now H.may H.clock H.since H.said file OldOrNone host.old host.new }
+    ensures others { Becomes (H.now host.old) (H.now host.new) (InFile file (λ _ _. ⊤)) }
     ensures cause { OnErr result (Rose (H.disk_faults host.old) (H.disk_faults host.new)) }
     ensures disk_faults { H.disk_faults host.old ≤ H.disk_faults host.new }
     ensures out_faults { H.out_faults host.new ≡ H.out_faults host.old }

@@ -1,14 +1,15 @@
--- What is read as the frame list of a file of bytes is its frame list.
+-- What is read as the frame list of a file of bytes is its frame list, and where none is read the file is damaged.
 use Rattle.std.proofs.Common.{◌≡◌, ◌∙◌, ◌⊎◌, inl, inr, ℕ, zero, suc, ◌+◌, ◌^◌, ◌≤◌, ◌<◌, ◌==◌, nat_le, Bool, true, false, List, [], ◌∷◌, ◌++◌, length, get_or, take, drop, Option, Some, None, Result, Ok, Err, refl, sym, ap, subst, arith, lit<, append_assoc, length-append, length-drop, if◌then◌else◌}
-use Rattle.std.proofs.lemmas.Bool.{cases_lt, eqb-true, eq-eqb, leb-true}
+use Rattle.std.proofs.lemmas.Bool.{cases_lt, eqb-true, eq-eqb, leb-true, leb-false}
 use Rattle.std.proofs.lemmas.List.{drop_at, get_or_past, length-take-le, take-append-drop}
 use Rattle.std.proofs.lemmas.List.Elements.{All-nil, All-cons, All-get_or, All-take, All-drop}
 use Rattle.std.proofs.lemmas.Nat.{be_bytes_8}
 use Rattle.std.specs.Prelude.{All}
 use Rattle.std.specs.Int.{to_be_bytes, from_be_bytes, w64}
+use Rattle.rg_frame.specs.Bytes.{IsByte}
 use Rattle.rg_frame.specs.FrameList.{is_open, with_payload, with_next, list_from, frame_list, payloads_in, defined}
-use Rattle.rg_frame.specs.Frames.{body, frames, FitsFrame, Ends, HasPayloads, size_in, payload_in}
-use Rattle.rg_log.specs.Reading.{IsByte}
+use Rattle.rg_frame.specs.Frames.{body, frames, FitsFrame, Ends, HasPayloads, IsCut, IsDamaged, size_in, payload_in}
+use Rattle.rg_frame.proofs.FrameLaws.{length-frames}
 
 -- each of them, and 0 behind them
 small_at : (bytes : List ℕ) → All IsByte bytes → (i : ℕ) → get_or bytes i 0 < 256
@@ -63,10 +64,12 @@ record Listed (payloads : List (List ℕ)) (bytes : List ℕ) : Type 0 where
   pub more : (payloads ≡ []) ⊎ (0 < length rest)
   pub fit : All FitsFrame payloads
 
+left_behind : (payload bytes : List ℕ) (here : Opened payload bytes) → drop (9 + length payload) bytes ≡ here.rest
+left_behind payload bytes here = ap (λ (l : List ℕ). drop (9 + length payload) l) here.is ∙ drop_at (1 ∷ body payload) here.rest (9 + length payload) (omega (arith, length-append (to_be_bytes w64 (length payload)) payload))
+
 one_more : (payload : List ℕ) (payloads : List (List ℕ)) (bytes : List ℕ) → Opened payload bytes → Listed payloads (drop (9 + length payload) bytes) → Listed (payload ∷ payloads) bytes
 one_more payload payloads bytes here behind =
-    let left : drop (9 + length payload) bytes ≡ here.rest =
-    ap (λ (l : List ℕ). drop (9 + length payload) l) here.is ∙ drop_at (1 ∷ body payload) here.rest (9 + length payload) (omega (arith, length-append (to_be_bytes w64 (length payload)) payload)) in
+    let left = left_behind payload bytes here in
     record {
       rest = behind.rest;
       is = here.is ∙ ap (λ (l : List ℕ). (1 ∷ body payload) ++ l) (sym left ∙ behind.is) ∙ sym (append_assoc (1 ∷ body payload) (frames payloads) behind.rest);
@@ -113,7 +116,7 @@ short_ends [] le = refl
 short_ends (gate ∷ []) le = inr (refl, refl)
 short_ends (gate ∷ (byte ∷ bytes)) le = absurd (omega (arith, le))
 
-from_frame_list : (bytes : List ℕ) (payloads : List (List ℕ)) → All IsByte bytes → frame_list bytes ≡ Ok payloads → HasPayloads payloads bytes
+pub from_frame_list : (bytes : List ℕ) (payloads : List (List ℕ)) → All IsByte bytes → frame_list bytes ≡ Ok payloads → HasPayloads payloads bytes
 from_frame_list bytes payloads small is = by (nat_le (length bytes) 1) refl
   where
     by : (b : Bool) → nat_le (length bytes) 1 ≡ b → HasPayloads payloads bytes
@@ -130,3 +133,64 @@ has_listed bytes payloads small is = by (frame_list bytes) refl is
     by : (r : Result (List (List ℕ)) ℕ) → frame_list bytes ≡ r → defined r ≡ Some payloads → HasPayloads payloads bytes
     by (Ok all) here e = let same : all ≡ payloads = cc in from_frame_list bytes payloads small (here ∙ ap (λ (l : List (List ℕ)). Ok l) same)
     by (Err place) here e = absurd cc
+
+-- an open gate stands at that place without a whole frame, and whole frames before it
+record Stuck (from place : ℕ) (bytes : List ℕ) : Type 0 where
+  pub payloads : List (List ℕ)
+  pub rest : List ℕ
+  pub fit : All FitsFrame payloads
+  pub ends : from + length (frames payloads) ≡ place
+  pub is : bytes ≡ frames payloads ++ 1 ∷ rest
+  pub cut : IsCut rest
+
+stuck_here : (place : ℕ) (bytes : List ℕ) → is_open bytes ≡ true → payload_in bytes ≡ None → Stuck place place bytes
+stuck_here place [] open_gate none = absurd cc
+stuck_here place (gate ∷ rest) open_gate none = by (nat_le (9 + size_in rest) (length rest)) refl
+  where
+    by : (b : Bool) → nat_le (9 + size_in rest) (length rest) ≡ b → Stuck place place (gate ∷ rest)
+    by true t = absurd (let e : Some (take (size_in rest) (drop 8 rest)) ≡ None = sym (rw (open_gate, t) refl) ∙ none in cc)
+    by false f = record { payloads = []; rest = rest; fit = All-nil FitsFrame; ends = omega arith; is = ap (λ (g : ℕ). g ∷ rest) (eqb-true gate 1 open_gate); cut = leb-false (9 + size_in rest) (length rest) f }
+
+stuck_behind : (from place : ℕ) (payload bytes : List ℕ) → Opened payload bytes → Stuck (from + (9 + length payload)) place (drop (9 + length payload) bytes) → Stuck from place bytes
+stuck_behind from place payload bytes here behind = record {
+  payloads = payload ∷ behind.payloads;
+  rest = behind.rest;
+  fit = All-cons FitsFrame payload behind.payloads here.fits behind.fit;
+  ends = omega (arith, behind.ends, length-frames payload behind.payloads);
+  is = here.is ∙ ap (λ (l : List ℕ). (1 ∷ body payload) ++ l) (sym (left_behind payload bytes here) ∙ behind.is) ∙ sym (append_assoc (1 ∷ body payload) (frames behind.payloads) (1 ∷ behind.rest));
+  cut = behind.cut;
+}
+
+step_stuck : (most from place : ℕ) (bytes : List ℕ)
+    → ((size : ℕ) → 0 < length (drop size bytes) → length (drop size bytes) ≤ most → list_from most (from + size) (drop size bytes) ≡ Err place → Stuck (from + size) place (drop size bytes))
+    → All IsByte bytes → length bytes ≤ suc most → list_from (suc most) from bytes ≡ Err place → Stuck from place bytes
+step_stuck most from place bytes below small few is = by (is_open bytes) refl
+  where
+    behind : (p : List ℕ) (here : Opened p bytes) (r : Result (List (List ℕ)) ℕ) → list_from most (from + (9 + length p)) (drop (9 + length p) bytes) ≡ r → with_payload p r ≡ Err place → Stuck from place bytes
+    behind p here (Ok more) rest e = absurd cc
+    behind p here (Err at) rest e =
+        let left : length (drop (9 + length p) bytes) ≡ length here.rest = ap (λ (l : List ℕ). length l) (left_behind p bytes here) in
+        let same : at ≡ place = cc in
+        stuck_behind from place p bytes here (below (9 + length p) (omega (arith, left, here.more)) (omega (arith, length-drop (9 + length p) bytes, few)) (rest ∙ ap (λ (n : ℕ). Err n) same))
+
+    next : (o : Option (List ℕ)) → is_open bytes ≡ true → payload_in bytes ≡ o → with_next from o (λ size. list_from most (from + size) (drop size bytes)) ≡ Err place → Stuck from place bytes
+    next None open_gate here e = let same : from ≡ place = cc in subst (λ (n : ℕ). Stuck from n bytes) same (stuck_here from bytes open_gate here)
+    next (Some p) open_gate here e = behind p (opened bytes p small here) (list_from most (from + (9 + length p)) (drop (9 + length p) bytes)) refl e
+
+    by : (b : Bool) → is_open bytes ≡ b → Stuck from place bytes
+    by true t = next (payload_in bytes) t refl (sym (ap (λ (b : Bool). if b then with_next from (payload_in bytes) (λ size. list_from most (from + size) (drop size bytes)) else Ok []) t) ∙ is)
+    by false f = absurd (let e : Ok [] ≡ Err place = sym (ap (λ (b : Bool). if b then with_next from (payload_in bytes) (λ size. list_from most (from + size) (drop size bytes)) else Ok []) f) ∙ is in cc)
+
+from_stuck : (most from place : ℕ) (bytes : List ℕ) → All IsByte bytes → 0 < length bytes → length bytes ≤ most → list_from most from bytes ≡ Err place → Stuck from place bytes
+from_stuck zero from place bytes small some few is = absurd (omega (arith, some, few))
+from_stuck (suc most) from place bytes small some few is = step_stuck most from place bytes (λ size more less e. from_stuck most (from + size) place (drop size bytes) (All-drop IsByte size bytes small) more less e) small few is
+
+pub damaged_listed : (bytes : List ℕ) (place : ℕ) → All IsByte bytes → frame_list bytes ≡ Err place → IsDamaged place bytes
+damaged_listed bytes place small is = by (nat_le (length bytes) 1) refl
+  where
+    by : (b : Bool) → nat_le (length bytes) 1 ≡ b → IsDamaged place bytes
+    by true t = absurd (let e : Ok [] ≡ Err place = sym (ap (λ (b : Bool). if b then Ok [] else list_from (length bytes) 0 bytes) t) ∙ is in cc)
+    by false f =
+        let longer : 1 < length bytes = leb-false (length bytes) 1 f in
+        let stuck = from_stuck (length bytes) 0 place bytes small (omega (arith, longer)) (omega arith) (sym (ap (λ (b : Bool). if b then Ok [] else list_from (length bytes) 0 bytes) f) ∙ is) in
+        record { payloads = stuck.payloads; rest = stuck.rest; fit = stuck.fit; ends = omega (arith, stuck.ends); is = stuck.is; longer = longer; cut = stuck.cut }

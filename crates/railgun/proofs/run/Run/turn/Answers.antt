@@ -1,6 +1,6 @@
 use Rattle.std.proofs.Common.{rules, arith, ◌≤◌, ◌+◌, List, Result, sym, subst}
 use Rattle.rg_event.specs.declared.event.Event.{Event}
-use Rattle.rg_past.specs.Order.{next_offset}
+use Rattle.rg_event.specs.Rising.{next_offset}
 use Rattle.rg_metric.specs.declared.reply.Reply.{Reply}
 use Rattle.rg_verdict.specs.Verdicts.{accepted_after, verdict_of}
 use Rattle.rg_verdict.proofs.Events.{next_after}

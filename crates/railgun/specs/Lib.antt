@@ -7,3 +7,4 @@ pub mod Codes
 pub mod Turn
 pub mod Run
 pub mod Call
+pub mod Faults

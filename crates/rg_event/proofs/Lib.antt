@@ -9,3 +9,4 @@ pub mod Decoding
 pub mod ColumnValues
 pub mod RoundTrip
 pub mod TaggedValues
+pub mod Parsed

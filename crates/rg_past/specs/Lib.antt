@@ -1,4 +1,6 @@
-pub mod Held
-pub mod HeldLaws
+pub mod Keeping
+pub mod Listed
+pub mod ListedLaws
 pub mod Order
 pub mod Peek
+pub mod Ranges

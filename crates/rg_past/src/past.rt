@@ -6,6 +6,7 @@ ghost use Rattle.rg_event.specs.declared.event.Event.{Event};
 ghost use Rattle.rg_past.specs.declared.past.Spot.{Spot};
 ghost use Rattle.rg_past.specs.Order.{IsRising, MayFollow};
 ghost use Rattle.rg_past.specs.Peek.{IsWithin, Shows};
+ghost use Rattle.rg_past.specs.Ranges.{IsInRange};
 
 use rg_event::Event;
 
@@ -70,11 +71,11 @@ pub trait Past {
     /// From an earlier state of one past to a later one.
     ghost goes: { Self → Self → Type 0 };
 
-    /// Adds an event at the end.
+    /// Adds an event at the end. Its order is asked for only where it can be known: of a sound past that hasn't ended.
     fn append(&mut self, event: Event) -> Result<(), PastFault>
         requires room { has_room self.old }
         requires fits { fits self.old event }
-        requires follows { MayFollow (events self.old) event }
+        requires follows { sound self.old → (ended self.old → ⊥) → MayFollow (events self.old) event }
         ensures ok { OnOk result (events self.new ≡ events self.old ++ event ∷ []) }
         ensures err { OnErr result (events self.new ≡ events self.old) }
         ensures keeps_room { OnErr result (has_room self.old → has_room self.new) }
@@ -135,7 +136,17 @@ pub trait Past {
     /// The limit of a sound past is at most 2^40.
     ghost small_limit: { (p : Self) → sound p → limit p ≤ 2 ^ 40 };
 
+    /// From a sound state on the earlier events begin the later ones.
+    ghost begins: { (p q : Self) → goes p q → sound p → (added : List Event) × (events q ≡ events p ++ added) };
+
     ghost count_grows: { (p q : Self) → goes p q → length (events p) ≤ length (events q) };
+
+    /// An event that fits has an offset below 2^62 and a time of at most 10^15 milliseconds.
+    ghost fits_range: { (p : Self) (event : Event) → fits p event → IsInRange event };
+
+    ghost fits_stays: { (p q : Self) (event : Event) → goes p q → fits p event → fits q event };
+
+    ghost spelled_within: { (p : Self) (s : Spot) → spells p s → s.number ≤ length (events p) };
 
     ghost stays_spelled: { (p q : Self) (s : Spot) → goes p q → sound p → spells p s → spells q s };
 

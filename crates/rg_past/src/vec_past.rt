@@ -1,5 +1,10 @@
-ghost use Rattle.std.specs.Prelude.{◌≡◌, ◌≤◌, ◌<◌, ◌^◌, [], IfSome, length, slice_get};
+ghost use Rattle.std.specs.Prelude.{◌≡◌, ◌↔◌, ℕ, ◌≤◌, ◌<◌, ◌^◌, [], IfSome, IsErr, IsErrOf, OnOk, length, slice_get};
+ghost use Rattle.std.specs.Borrow.{sem};
+ghost use Rattle.std.specs.Io.BufRead.{Rests};
 ghost use Rattle.std.specs.Option.{option_copied};
+ghost use Rattle.rg_bytes.specs.Counts.{Rose};
+ghost use Rattle.rg_past.specs.Peek.{IsWithin, Shows};
+ghost use Rattle.rg_past.specs.contracts.vec_past.VecPast.{the_row};
 
 use crate::past::{Past, PastFault, Spot};
 use rg_event::Event;
@@ -14,9 +19,9 @@ pub struct VecPast {
 }
 
 impl Model for VecPast {
-    ghost use Rattle.rg_past.specs.Held.{Held};
+    ghost use Rattle.rg_past.specs.Listed.{Listed};
 
-    ghost Value = { Held };
+    ghost Value = { Listed };
 
     ghost view = { λ p. record { events = p.events.items; limit = p.limit } };
 }
@@ -52,8 +57,9 @@ impl VecPast {
 
 impl Past for VecPast {
     ghost use Rattle.std.specs.Prelude.{⊤};
-    ghost use Rattle.rg_past.specs.Held.{IsSound, IsInRange, Spells, Goes};
-    ghost use Rattle.rg_past.specs.HeldLaws.{Goes-same, Goes-join, Goes-length, Goes-spells, IsSound-in_order};
+    ghost use Rattle.rg_past.specs.Listed.{IsSound, Spells, Goes};
+    ghost use Rattle.rg_past.specs.ListedLaws.{Goes-same, Goes-join, Goes-length, Goes-spells, IsSound-in_order};
+    ghost use Rattle.rg_past.specs.Ranges.{IsInRange};
 
     ghost events = { λ p. p.events };
 
@@ -88,7 +94,28 @@ impl Past for VecPast {
         Ok(())
     }
 
-    fn peek(&mut self, spot: &mut Spot) -> Result<Option<&Event>, PastFault> {
+    fn peek(&mut self, spot: &mut Spot) -> Result<Option<&Event>, PastFault>
+        requires { spot.old.number ≤ length (⟦<VecPast as Past>⟧.events self.old) }
+        ensures* after { sem 𝓛 (Rests the_row self.entry (λ new.
+            (⟦<VecPast as Past>⟧.events new ≡ ⟦<VecPast as Past>⟧.events self.old)
+            × ⟦<VecPast as Past>⟧.goes self.old new
+            × (⟦<VecPast as Past>⟧.ended new ↔ ⟦<VecPast as Past>⟧.ended self.old)
+            × (⟦<VecPast as Past>⟧.sound self.old → ⟦<VecPast as Past>⟧.sound new)
+            × (⟦<VecPast as Past>⟧.has_room self.old → ⟦<VecPast as Past>⟧.has_room new)
+            × (⟦<VecPast as Past>⟧.faults self.old ≤ ⟦<VecPast as Past>⟧.faults new)
+            × (IsErrOf result PastFault.Disk → Rose (⟦<VecPast as Past>⟧.faults self.old) (⟦<VecPast as Past>⟧.faults new))
+            × ((place : ℕ) → IsErrOf result (PastFault.Damaged place) → ⟦<VecPast as Past>⟧.illegal new place)
+            × (⟦<VecPast as Past>⟧.sound self.old → ⟦<VecPast as Past>⟧.spells self.old spot.old → ⟦<VecPast as Past>⟧.spells new spot.new × OnOk result (⟦<VecPast as Past>⟧.spells_later new spot.new)))) }
+        ensures number { spot.new.number ≡ spot.old.number }
+        ensures within { IsWithin (⟦<VecPast as Past>⟧.events self.old) spot.new result }
+        ensures event { ⟦<VecPast as Past>⟧.sound self.old → ⟦<VecPast as Past>⟧.spells self.old spot.old → Shows (⟦<VecPast as Past>⟧.events self.old) spot.old.number result }
+        ensures ended { IsErrOf result PastFault.Ended ↔ ⟦<VecPast as Past>⟧.ended self.old }
+        ensures no_full { IsErrOf result PastFault.Full → ⊥ }
+
+        // No look is refused, and the spot stays as it is.
+        ensures no_refusal { IsErr result → ⊥ }
+        ensures stays { spot.new ≡ spot.old }
+    {
         if spot.index >= 4096 {
             return Ok(None);
         }
@@ -120,7 +147,15 @@ impl Past for VecPast {
 
     ghost small_limit = { λ p sound. sound.small };
 
+    ghost begins = { λ p q goes _. goes.events };
+
     ghost count_grows = { Goes-length };
+
+    ghost fits_range = { λ p event fits. fits };
+
+    ghost fits_stays = { λ p q event goes fits. fits };
+
+    ghost spelled_within = { λ p s spells. spells.number };
 
     ghost stays_spelled = { λ p q s goes _ spells. Goes-spells p q s goes spells };
 

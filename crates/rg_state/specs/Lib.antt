@@ -4,4 +4,5 @@ pub mod States
 pub mod Maps
 pub mod Cells
 pub mod CellLaws
+pub mod Keeping
 pub mod Kinds

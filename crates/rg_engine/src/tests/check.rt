@@ -1,5 +1,5 @@
 ghost use Rattle.std.specs.Prelude.{◌≡◌, ◌<◌, ◌≤◌, ◌^◌, [], length, All, IsTrue};
-ghost use Rattle.rg_past.specs.Held.{IsInRange};
+ghost use Rattle.rg_past.specs.Ranges.{IsInRange};
 ghost use Rattle.rg_past.specs.Order.{MayFollow};
 ghost use Rattle.rg_window.specs.Placed.{AreWithin};
 

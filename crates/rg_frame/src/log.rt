@@ -18,8 +18,8 @@ use std::marker::Model;
 /// A log of frames in one file of a host.
 ///
 /// `file` is the file's number, below 8. `end` is the place that the log has come to, in bytes, at
-/// most 2^62. The log is ready once the frame list was seen to end there, and ended once a write
-/// of it failed.
+/// most 2^62. The log is ready once the frame list was seen to end there, and ended once an
+/// `append` or a `clear` failed.
 #[derive(Drop)]
 pub struct FrameLog {
     file: u32,
@@ -39,12 +39,14 @@ impl Model for FrameLog {
     ghost invariant = { λ log. (log.file < 8) × (log.end ≤ 2 ^ 62) };
 }
 
-/// A frame that was found: the place of its gate, the length of its payload and the place of the
-/// next gate, in bytes.
+/// A frame that was found.
 #[derive(Clone, Copy, Debug, PartialEq, Eq, Hash)]
 pub struct Head {
+    /// The place of its gate, in bytes.
     pub place: u64,
+    /// The length of its payload, in bytes.
     pub length: u64,
+    /// The place of the next gate, in bytes, below 2^62.
     pub next: u64,
 }
 
@@ -204,7 +206,7 @@ impl FrameLog {
         }
     }
 
-    /// Ends the log after a failed write.
+    /// Ends the log after a failed `append` or `clear`.
     fn fail(&mut self, failed: Failed) -> FrameFault
         ensures ended { self.new ≡ record self.old { ended = true } }
         ensures fault { result ≡ FrameFault.Disk }

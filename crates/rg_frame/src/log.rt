@@ -7,7 +7,7 @@ ghost use Rattle.rg_frame.specs.Calls.{Writes};
 ghost use Rattle.rg_frame.specs.Frames.{IsLog, Begins, HasPayloads, IsDamaged};
 ghost use Rattle.rg_frame.specs.LogState.{ReachesEnd};
 ghost use Rattle.rg_frame.specs.Looks.{HoldsFrame, HoldsHead, IsClosed, IsTorn, Next};
-ghost use Rattle.rg_frame.specs.Steps.{From, Grows, Appended, OldOrNone};
+ghost use Rattle.rg_frame.specs.Steps.{From, Grows, Added, Appended, OldOrNone};
 
 use crate::fault::FrameFault;
 use crate::look::{look, read_full};
@@ -185,6 +185,7 @@ impl FrameLog {
 
         ensures appended { OnOk result (Becomes (H.now host.old) (H.now host.new)
             (InFile self.old.file (Appended self.old.end payload.now self.new.end))) }
+        ensures added { OnOk result (Becomes (H.now host.old) (H.now host.new) (InFile self.old.file (Added self.old.end payload.now))) }
         ensures pending { OnOk result (NothingPending self.old.file (H.now host.new) (H.may host.new)) }
         ensures leaves { Writes H.now H.may H.clock H.since H.said self.old.file (From self.old.end (Grows payload.now)) host.old host.new }
         ensures others { Becomes (H.now host.old) (H.now host.new) (InFile self.old.file (λ _ _. ⊤)) }

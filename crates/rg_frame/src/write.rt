@@ -6,7 +6,7 @@ ghost use Rattle.rg_host.specs.Moments.{LeavesAll};
 ghost use Rattle.rg_frame.specs.Calls.{Writes};
 ghost use Rattle.rg_frame.specs.Frames.{FitsFrame, HasPayloads};
 ghost use Rattle.rg_frame.specs.LogState.{Reaches};
-ghost use Rattle.rg_frame.specs.Steps.{Brief, Begun, Keeps, Staged, From, Grows, Appended, OldOrNone};
+ghost use Rattle.rg_frame.specs.Steps.{Brief, Begun, Keeps, Staged, From, Grows, Added, Appended, OldOrNone};
 
 use rg_host::{Failed, Host};
 
@@ -78,6 +78,7 @@ pub fn add<H: Host>(host: &mut H, file: u32, end: u64, payload: &[u8]) -> Result
     requires room { end ≤ 2 ^ 62 }
     requires reaches { ForSome (H.now host.old) (λ v. Reaches end (v file)) }
     ensures appended { OnOk result (Becomes (H.now host.old) (H.now host.new) (InFile file (Appended end payload.now (end + 9 + length payload.now)))) }
+    ensures added { OnOk result (Becomes (H.now host.old) (H.now host.new) (InFile file (Added end payload.now))) }
     ensures reaches { OnOk result (ForSome (H.now host.new) (λ v. Reaches (end + 9 + length payload.now) (v file))) }
     ensures pending { OnOk result (NothingPending file (H.now host.new) (H.may host.new)) }
     ensures limit { OnOk result (end + 10 + length payload.now ≤ 2 ^ 62) }

@@ -1,8 +1,9 @@
-use Rattle.std.proofs.Common.{◌+◌, ◌<◌, ◌^◌, ◌∷◌, [], length, arith}
+use Rattle.std.proofs.Common.{◌+◌, ◌<◌, ◌^◌, List, ◌∷◌, [], ℕ, length, arith}
 use Rattle.rg_host.specs.Image.{Torn, Holds}
-use Rattle.rg_frame.specs.Steps.{Brief, Begun, Keeps, Staged, From, Grows, Appended}
-use Rattle.rg_frame.proofs.Gates.{Prepared, grows-brief, grows-kept, grows-torn, appended-written}
-use Rattle.rg_frame.proofs.Runs.{writes-weaker, writes-then, in_file-then, others-then}
+use Rattle.rg_frame.specs.LogState.{Reaches}
+use Rattle.rg_frame.specs.Steps.{Brief, Begun, Keeps, Staged, From, Grows, Added, Appended}
+use Rattle.rg_frame.proofs.Gates.{Prepared, grows-brief, grows-kept, grows-torn, appended-written, added-written}
+use Rattle.rg_frame.proofs.Runs.{writes-weaker, writes-then, in_file-then, in_file-where, others-then}
 use Rattle.rg_frame.proofs.write.add.Goals as goal
 
 pub returns-in_err-begin-clause-leaves : goal.returns-in_err-begin-clause-leaves
@@ -43,3 +44,11 @@ returns-in_err-open_gate-clause-others g c = others-then c.args.file _ _ _ _ _ (
 
 pub returns-clause-others : goal.returns-clause-others
 returns-clause-others g c = others-then c.args.file _ _ _ _ _ (others-then c.args.file _ _ _ _ _ c.begin.ensures.others c.stage.ensures.others) c.open_gate.ensures.others
+
+pub returns-clause-added : goal.returns-clause-added
+returns-clause-added g c =
+    let end : ℕ = c.args.end in
+    let payload : List ℕ = c.args.payload.now in
+    let prepared = in_file-then c.args.file Begun (Staged end payload) (Prepared end payload) _ _ _ c.in_ok-begin.ensures.begun c.in_ok-stage.ensures.staged (λ x y z p q. (y, p, q)) in
+    let written = in_file-then c.args.file (Prepared end payload) (Holds end (1 ∷ [])) (λ x z. (y : List ℕ) × Prepared end payload x y × Holds end (1 ∷ []) y z) _ _ _ prepared c.in_ok-open_gate.ensures.opened (λ x y z p q. (y, p, q)) in
+    in_file-where c.args.file (Reaches end) (λ x z. (y : List ℕ) × Prepared end payload x y × Holds end (1 ∷ []) y z) (Added end payload) _ _ c.requires.reaches written (λ x z reaches h. added-written end payload x h.0 z reaches h.1 h.2)

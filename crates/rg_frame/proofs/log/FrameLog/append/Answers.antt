@@ -1,7 +1,7 @@
 use Rattle.std.proofs.Common.{sym, subst, refl}
 use Rattle.rg_host.specs.Image.{NothingPending, Becomes, InFile}
 use Rattle.rg_frame.specs.LogState.{LogState, ReachesEnd}
-use Rattle.rg_frame.specs.Steps.{From, Grows}
+use Rattle.rg_frame.specs.Steps.{From, Grows, Added}
 use Rattle.rg_frame.proofs.Gates.{grows-same}
 use Rattle.rg_frame.proofs.Runs.{Same, writes-none, writes-weaker, others-stay}
 use Rattle.std.specs.Prelude.{⊤}
@@ -26,3 +26,6 @@ returns-in-Ok-clause-others g c = subst (λ (s : LogState). Becomes (g.H.Host.no
 
 pub returns-in-Err-clause-others : goal.returns-in-Err-clause-others
 returns-in-Err-clause-others g c = subst (λ (s : LogState). Becomes (g.H.Host.now c.args.host.now) (g.H.Host.now c.add.new.host) (InFile s.file (λ _ _. ⊤))) c.self.view_is c.add.ensures.others
+
+pub returns-in-Ok-clause-added : goal.returns-in-Ok-clause-added
+returns-in-Ok-clause-added g c = subst (λ (s : LogState). Becomes (g.H.Host.now c.args.host.now) (g.H.Host.now c.add.new.host) (InFile s.file (Added s.end c.args.payload.now))) c.self.view_is c.in-Ok.ensures.added

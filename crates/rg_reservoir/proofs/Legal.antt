@@ -24,19 +24,18 @@ pub chunk_made : (fields : List Field) (place : ℕ) (bytes p : List ℕ) (c : L
 chunk_made fields place bytes p c n here said is =
     ap (chunk_in fields place) here ∙ ap (option_map (λ (events : List Event). (events, place + 9 + length p))) said ∙ ap (λ (m : ℕ). Some (c, m)) (sym is)
 
--- the chunks of a frame list stand at the places of its frames
-pub chain_of : (fields : List Field) (bytes : List ℕ) (done rest : List (List ℕ)) (chunks : List (List Event)) → HasPayloads (done ++ rest) bytes → chunks_of fields rest ≡ Some chunks → Chain fields bytes (length (frames done)) chunks (length (frames (done ++ rest)))
-chain_of fields bytes done [] chunks has are =
+-- the chunks of frames stand at their places
+pub chain_of : (fields : List Field) (bytes : List ℕ) (done rest later : List (List ℕ)) (chunks : List (List Event)) → HasPayloads (done ++ (rest ++ later)) bytes → chunks_of fields rest ≡ Some chunks → Chain fields bytes (length (frames done)) chunks (length (frames (done ++ rest)))
+chain_of fields bytes done [] later chunks has are =
     let none : chunks ≡ [] = cc in
     subst (λ (l : List (List Event)). Chain fields bytes (length (frames done)) l (length (frames (done ++ [])))) (sym none) (ap (λ (l : List (List ℕ)). length (frames l)) (sym (append-nil done)))
-chain_of fields bytes done (p ∷ rest) chunks has are =
+chain_of fields bytes done (p ∷ rest) later chunks has are =
     let f = part (chunk_of fields p) (chunks_of fields rest) chunks are in
     let next = length (frames (done ++ p ∷ [])) in
-    let here : chunk_at fields (length (frames done)) bytes ≡ Some (f.chunk, next) = chunk_made fields (length (frames done)) bytes p f.chunk next (payload_between done rest p bytes has) f.chunk_is (length-frames-push done p) in
-    let assoc = append_assoc done (p ∷ []) rest in
-    let more = chain_of fields bytes (done ++ p ∷ []) rest f.more (subst (λ (l : List (List ℕ)). HasPayloads l bytes) (sym assoc) has) f.more_is in
+    let here : chunk_at fields (length (frames done)) bytes ≡ Some (f.chunk, next) = chunk_made fields (length (frames done)) bytes p f.chunk next (payload_between done (rest ++ later) p bytes has) f.chunk_is (length-frames-push done p) in
+    let more = chain_of fields bytes (done ++ p ∷ []) rest later f.more (subst (λ (l : List (List ℕ)). HasPayloads l bytes) (sym (append_assoc done (p ∷ []) (rest ++ later))) has) f.more_is in
     subst (λ (l : List (List Event)). Chain fields bytes (length (frames done)) l (length (frames (done ++ p ∷ rest)))) (sym f.is)
-    (next, here, subst (λ (l : List (List ℕ)). Chain fields bytes next f.more (length (frames l))) assoc more)
+    (next, here, subst (λ (l : List (List ℕ)). Chain fields bytes next f.more (length (frames l))) (append_assoc done (p ∷ []) rest) more)
 
 -- a legal log of that schema with frames, by places
 pub record Laid (shape : Shape) (events : List Event) (bytes : List ℕ) : Type 0 where
@@ -67,7 +66,7 @@ laid shape events bytes x = by x.1.payloads x.1.has x.1.log
           schema = record { here = payload_between [] payloads (schema_payload shape) bytes ours; ends = omega (arith, length-frames (schema_payload shape) []) };
           chunks = x.0;
           end = length (frames (schema_payload shape ∷ payloads));
-          chain = chain_of shape.fields bytes (schema_payload shape ∷ []) payloads x.0 ours log.1;
+          chain = chain_of shape.fields bytes (schema_payload shape ∷ []) payloads [] x.0 (subst (λ (l : List (List ℕ)). HasPayloads (schema_payload shape ∷ l) bytes) (sym (append-nil payloads)) ours) log.1;
           ends = (log_at (schema_payload shape ∷ payloads) (length (frames (schema_payload shape ∷ payloads))) bytes (log_of (schema_payload shape ∷ payloads) (length (frames (schema_payload shape ∷ payloads))) bytes ours refl)).closed;
           joined = x.2;
           rising = subst IsRising x.2 x.1.rising;

@@ -14,3 +14,4 @@ pub mod Peeking
 pub mod Seeking
 pub mod Touching
 pub mod Walking
+pub mod Spelled

@@ -1,5 +1,5 @@
 -- What a reservoir keeps of its log, and what is right of it.
-use Rattle.std.specs.Prelude.{◌≡◌, ◌⊎◌, ◌≤◌, ◌<◌, ◌+◌, ◌^◌, nat_le, ◌==◌, ℕ, Bool, false, List, [], ◌∷◌, ◌++◌, length, Option, Some, None, slice_get, if◌then◌else◌}
+use Rattle.std.specs.Prelude.{◌≡◌, ◌⊎◌, ◌≤◌, ◌<◌, ◌+◌, ◌^◌, nat_le, ◌==◌, ℕ, Bool, false, List, [], ◌∷◌, ◌++◌, length, Option, Some, None, slice_get, if◌then◌else◌, min, IsTrue, ◌-◌}
 use Rattle.std.specs.List.{AllByRecursion}
 use Rattle.rg_host.specs.Image.{Image}
 use Rattle.rg_event.specs.declared.event.Event.{Event}
@@ -12,7 +12,8 @@ use Rattle.rg_frame.specs.Frames.{frames, HasPayloads, EndsAt}
 use Rattle.rg_frame.specs.LogState.{LogState}
 use Rattle.rg_frame.specs.Looks.{IsClosed}
 use Rattle.rg_frame.specs.Steps.{Grows, Grown}
-use Rattle.rg_cache.specs.Cache.{Cache, item_at, places, least_recently_used, touches}
+use Rattle.rg_bytes.specs.Counts.{Rose}
+use Rattle.rg_cache.specs.Cache.{Cache, item_at, holds_place, places, least_recently_used, touches}
 use Rattle.rg_chunk.specs.Chunks.{chunk_bytes}
 use Rattle.rg_log.specs.Log.{joined, HasEvents, HasSchemaFrame}
 use Rattle.rg_reservoir.specs.Chain.{chunk_at, Chain, events_from, padded, IsFirst}
@@ -206,3 +207,22 @@ Added opened next old new = ((opened ≡ []) × (new ≡ old)) ⊎ ((1 ≤ lengt
 -- the image's log has the committed events, or these and those of the open chunk
 abbrev pub CommittedOrAll : Option Image → Base → List Event → Image → Type 0
 CommittedOrAll now b opened image = HasEvents b.shape (stored now b) (image b.file) ⊎ HasEvents b.shape (all_events now b opened) (image b.file)
+
+-- a touch of a place that succeeded: a held place costs nothing, and for another one a frame was read and one load is counted
+pub record OneTouch (place : ℕ) (old : Cache Kept) (loads reads : ℕ) (new : Cache Kept) (loads_then reads_then : ℕ) : Type 0 where
+  pub places_are : places new ≡ least_recently_used old.cap (touches old (place ∷ []))
+  pub cap_stays : new.cap ≡ old.cap
+  pub hit : IsTrue (holds_place place old) → (loads_then ≡ loads) × (reads_then ≡ reads)
+  pub miss : holds_place place old ≡ false → (loads_then ≡ min (loads + 1) (2 ^ 64 - 1)) × Rose reads reads_then
+
+-- these touches, one after another
+abbrev pub AllTouched : List ℕ → Cache Kept → ℕ → ℕ → Cache Kept → ℕ → ℕ → Type 0
+AllTouched [] old loads reads new loads_then reads_then = (new ≡ old) × (loads_then ≡ loads) × (reads_then ≡ reads)
+AllTouched (place ∷ touched) old loads reads new loads_then reads_then =
+    (mid : Cache Kept) × (mid_loads : ℕ) × (mid_reads : ℕ) × OneTouch place old loads reads mid mid_loads mid_reads × AllTouched touched mid mid_loads mid_reads new loads_then reads_then
+
+-- a look at a spot: all stays but the cache and the loads, and the first of its touches succeeded; over a sound log and a spelled spot all of them, where the look was answered
+pub record Looked (now : Option Image) (old : Reservoir) (spot : Spot) (reads reads_then : ℕ) (Answered : Type 0) (new : Reservoir) : Type 0 where
+  pub stays : Stays old new
+  pub touched : (v : Image) → now ≡ Some v → IsCached (base old).shape.fields (v (base old).file) (cache_of old) → IsTouched (cache_of old) (cache_of new) (look_places (base old) (v (base old).file) spot)
+  pub loaded : Answered → (v : Image) → now ≡ Some v → AllTouched (look_places (base old) (v (base old).file) spot) (cache_of old) (loads_of old) reads (cache_of new) (loads_of new) reads_then

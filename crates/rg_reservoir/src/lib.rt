@@ -12,11 +12,13 @@ mod fetch;
 mod first;
 mod heads;
 mod kept;
+mod law;
 mod reservoir;
 mod stored;
 mod walk;
 
 pub use fault::ReservoirFault;
+pub use law::law_spells;
 pub use reservoir::Reservoir;
 pub use stored::Stored;
 pub use walk::{Stage, Walk};

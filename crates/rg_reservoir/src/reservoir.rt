@@ -90,7 +90,7 @@ fn take_rooms(alloc: Global, schema: &Schema, room: Room) -> Result<Rooms, Memor
 
 impl Reservoir {
     ghost use Rattle.rg_reservoir.specs.Ends.{ends_looked};
-    ghost use Rattle.rg_reservoir.specs.Kept.{base, opened, room_of, log_of, cache_of, loads_of, next_of as the_next_of, time_of, all_events, CommittedOrAll, IsCached, IsSound, Spells, SpellsLater, Found, Stays, next_in, seen, look_places, held_after, IsTouched, IsInside, IsAbsent, Adds, Added};
+    ghost use Rattle.rg_reservoir.specs.Kept.{base, opened, room_of, log_of, cache_of, loads_of, next_of as the_next_of, time_of, all_events, CommittedOrAll, IsCached, IsSound, Spells, SpellsLater, Found, Stays, next_in, seen, look_places, held_after, IsTouched, AllTouched, IsInside, IsAbsent, Adds, Added};
 
     /// A reservoir over the log of file 2, with room for `room.chunk` events in its open chunk, 1 to
     /// 4,096, for `room.cache` chunks in memory, 1 to 1,024, and for `room.limit` events in all, at
@@ -250,6 +250,7 @@ impl Reservoir {
         ensures left { IfOk result (λ found. found ≡ false → (places (cache_of self.new) ≡ places (cache_of self.old)) × ((loads_of self.new) ≡ (loads_of self.old))) }
         ensures refused { OnErr result ((places (cache_of self.new) ≡ places (cache_of self.old)) × ((loads_of self.new) ≡ (loads_of self.old))) }
         ensures cap { (cache_of self.new).cap ≡ (cache_of self.old).cap }
+        ensures items { IsTrue (holds_place place (cache_of self.old)) → (other : ℕ) → item_at other (cache_of self.new) ≡ item_at other (cache_of self.old) }
         ensures hit { IsTrue (holds_place place (cache_of self.old)) → (result ≡ Ok true) × (H.reads host.new ≡ H.reads host.old) × ((loads_of self.new) ≡ (loads_of self.old)) }
         ensures miss { holds_place place (cache_of self.old) ≡ false → IfOk result (λ found. IsTrue found → Rose (H.reads host.old) (H.reads host.new) × ((loads_of self.new) ≡ min ((loads_of self.old) + 1) (2 ^ 64 - 1))) }
         ensures damaged { (p : ℕ) → IsErrOf result (ReservoirFault.Damaged p) → ForSome (H.now host.old) (λ v. IsIllegal (base self.old).shape.fields p (v (base self.old).file)) }
@@ -309,6 +310,11 @@ impl Reservoir {
         ensures finds { IsSound (H.now host.old) (H.may host.old) self.old → Spells (H.now host.old) (base self.old) (opened self.old) spot.old → OnOk result (Found (H.now host.old) (base self.old) (opened self.old) (cache_of self.new) spot.new spot.old.number) }
         ensures touched { (v : Image) → H.now host.old ≡ Some v → IsCached (base self.old).shape.fields (v (base self.old).file) (cache_of self.old) → IsTouched (cache_of self.old) (cache_of self.new) (look_places (base self.old) (v (base self.old).file) spot.old) }
         ensures all_touched { IsSound (H.now host.old) (H.may host.old) self.old → Spells (H.now host.old) (base self.old) (opened self.old) spot.old → OnOk result (ForSome (H.now host.old) (λ v. places (cache_of self.new) ≡ held_after (cache_of self.old) (look_places (base self.old) (v (base self.old).file) spot.old))) }
+        ensures loaded { IsSound (H.now host.old) (H.may host.old) self.old → Spells (H.now host.old) (base self.old) (opened self.old) spot.old → OnOk result (ForSome (H.now host.old) (λ v.
+            AllTouched (look_places (base self.old) (v (base self.old).file) spot.old) (cache_of self.old) (loads_of self.old) (H.reads host.old) (cache_of self.new) (loads_of self.new) (H.reads host.new))) }
+        ensures untouched { (base self.old).ended ≡ false → (base self.old).committed ≤ spot.old.number → OnErr result ⊥ × (self.new ≡ self.old) × (host.new ≡ host.old) }
+        ensures hit { (base self.old).ended ≡ false → spot.old.number < (base self.old).committed → IsTrue (holds_place spot.old.place (cache_of self.old)) → next_in (item_at spot.old.place (cache_of self.old)) spot.old.index ≡ None
+            → OnErr result ⊥ × (loads_of self.new ≡ loads_of self.old) × (H.reads host.new ≡ H.reads host.old) }
         ensures ended { IsErrOf result ReservoirFault.Ended ↔ ((base self.old).ended ≡ true) }
         ensures faults { IfErr result (λ fault. (fault ≡ ReservoirFault.Disk) ⊎ (fault ≡ ReservoirFault.Memory) ⊎ ((p : ℕ) × (fault ≡ ReservoirFault.Damaged p)) ⊎ (fault ≡ ReservoirFault.Ended)) }
         ensures damaged { (p : ℕ) → IsErrOf result (ReservoirFault.Damaged p) → ForSome (H.now host.old) (λ v. IsIllegal (base self.old).shape.fields p (v (base self.old).file)) }
@@ -345,18 +351,36 @@ impl Reservoir {
         Ok(())
     }
 
-    /// Looks at the event of a spot.
+    /// Looks at the event of a spot. An event of the open chunk, and the end, is found by its
+    /// number, without a call on the host. For another one the spot's place is touched, and then
+    /// the next place where the index is the count of the chunk there: a place that is held costs
+    /// nothing, and of another one the frame is read and kept. Memory is taken there alone.
     pub fn peek<H: Host>(
         &mut self,
         host: &mut H,
         spot: &mut Spot,
     ) -> Result<Option<&Event>, ReservoirFault>
         requires { spot.old.number ≤ (base self.old).committed + length (opened self.old) }
-        ensures* after { sem 𝓛 (ends_looked self.entry) }
+        ensures* after { sem 𝓛 (ends_looked self.entry (H.now host.old) spot.old (H.reads host.old) (H.reads host.new)
+            (IsSound (H.now host.old) (H.may host.old) self.old × Spells (H.now host.old) (base self.old) (opened self.old) spot.old × OnErr result ⊥)) }
         ensures number { spot.new.number ≡ spot.old.number }
         ensures event { IsSound (H.now host.old) (H.may host.old) self.old → Spells (H.now host.old) (base self.old) (opened self.old) spot.old → IfOk result (λ look. option_copied look ≡ slice_get (all_events (H.now host.old) (base self.old) (opened self.old)) spot.old.number) }
+        ensures later { IsSound (H.now host.old) (H.may host.old) self.old → Spells (H.now host.old) (base self.old) (opened self.old) spot.old → OnOk result (SpellsLater (H.now host.old) (base self.old) (opened self.old) spot.new) }
+        ensures spelled { IsSound (H.now host.old) (H.may host.old) self.old → Spells (H.now host.old) (base self.old) (opened self.old) spot.old → Spells (H.now host.old) (base self.old) (opened self.old) spot.new }
+        ensures within { IfOk result (λ look. IfSome look (λ _. (spot.new.number < (base self.old).committed + length (opened self.old)) × (spot.new.index < 4096))) }
+        ensures ended { IsErrOf result ReservoirFault.Ended ↔ ((base self.old).ended ≡ true) }
+        ensures damaged { (p : ℕ) → IsErrOf result (ReservoirFault.Damaged p) → ForSome (H.now host.old) (λ v. IsIllegal (base self.old).shape.fields p (v (base self.old).file)) }
+        ensures disk { IsErrOf result ReservoirFault.Disk → Rose (H.disk_faults host.old) (H.disk_faults host.new) }
+        ensures faults { IfErr result (λ fault. (fault ≡ ReservoirFault.Disk) ⊎ (fault ≡ ReservoirFault.Memory) ⊎ ((p : ℕ) × (fault ≡ ReservoirFault.Damaged p)) ⊎ (fault ≡ ReservoirFault.Ended)) }
+
+        // No memory and no read where the chunk is held, and no call on the host for the open one.
+        ensures untouched { (base self.old).ended ≡ false → (base self.old).committed ≤ spot.old.number → OnErr result ⊥ × (host.new ≡ host.old) }
+        ensures hit { (base self.old).ended ≡ false → spot.old.number < (base self.old).committed → IsTrue (holds_place spot.old.place (cache_of self.old)) → next_in (item_at spot.old.place (cache_of self.old)) spot.old.index ≡ None
+            → OnErr result ⊥ × (H.reads host.new ≡ H.reads host.old) }
+
         ensures leaves { LeavesAll H.now H.may H.clock H.since H.said host.old host.new }
         ensures disk_faults { H.disk_faults host.old ≤ H.disk_faults host.new }
+        ensures out_faults { H.out_faults host.new ≡ H.out_faults host.old }
     {
         match self.seek(host, spot) {
             Ok(()) => {}

@@ -1,15 +1,52 @@
-use Rattle.std.proofs.Common.{◌∙◌, refl}
-use Rattle.rg_reservoir.proofs.Peeking.{seen_stays}
+use Rattle.std.proofs.Common.{◌≡◌, ◌∙◌, ◌+◌, ◌<◌, refl, ap, arith, length}
+use Rattle.rg_reservoir.specs.declared.fault.ReservoirFault.TheVariants.{Disk, Damaged, Ended}
+use Rattle.rg_reservoir.specs.Kept.{Base}
+use Rattle.rg_reservoir.proofs.Peeking.{seen_stays, err_moves, err_is, ok_not_err, some_map}
 use Rattle.rg_reservoir.proofs.reservoir.Reservoir.peek.Goals as goal
+
+pub at-requires-clause-number : goal.at-requires-clause-number
+at-requires-clause-number g c = omega (arith, c.requires, c.seek.ensures.number, ap (λ (b : Base). b.committed) c.seek.ensures.stays.base, ap length c.seek.ensures.stays.opened)
+
+pub returns-in-Err : goal.returns-in-Err
+returns-in-Err g c = (
+  (refl, λ _. tt, record { stays = c.seek.ensures.stays; touched = c.seek.ensures.touched; loaded = λ answered. absurd answered.2 }),
+  record {
+    after = tt;
+    number = c.seek.ensures.number;
+    event = λ _ _. tt;
+    later = λ _ _. tt;
+    spelled = c.seek.ensures.spelled;
+    within = tt;
+    ended = (λ e. c.in-Err.ensures.ended.0 (err_moves c.in-Err.fault Ended e), λ e. err_moves c.in-Err.fault Ended (c.in-Err.ensures.ended.1 e));
+    damaged = λ p e. c.in-Err.ensures.damaged p (err_moves c.in-Err.fault (Damaged p) e);
+    disk = λ e. c.in-Err.ensures.disk (err_moves c.in-Err.fault Disk e);
+    faults = c.in-Err.ensures.faults;
+    untouched = λ going far. let k = c.in-Err.ensures.untouched going far in absurd k.0;
+    hit = λ going near held stays. let k = c.in-Err.ensures.hit going near held stays in absurd k.0;
+    leaves = c.seek.ensures.leaves;
+    disk_faults = c.seek.ensures.disk_faults;
+    out_faults = c.seek.ensures.out_faults;
+  },
+)
 
 pub returns : goal.returns
 returns g c = (
-  (refl, λ _. tt, c.seek.ensures.stays),
+  (refl, λ _. tt, record { stays = c.seek.ensures.stays; touched = c.seek.ensures.touched; loaded = λ answered. c.in-Ok.ensures.loaded answered.0 answered.1 }),
   record {
     after = tt;
     number = c.seek.ensures.number;
     event = λ sound spells. c.at.ensures.event ∙ seen_stays c.args.self.now c.seek.new.self c.seek.new.spot c.seek.ensures.stays ∙ (c.in-Ok.ensures.finds sound spells).shows;
+    later = λ sound spells. (c.in-Ok.ensures.finds sound spells).later;
+    spelled = c.seek.ensures.spelled;
+    within = some_map c.at.result _ _ (λ x w. (omega (arith, w.0, ap (λ (b : Base). b.committed) c.seek.ensures.stays.base, ap length c.seek.ensures.stays.opened), w.1)) c.at.ensures.within;
+    ended = (λ e. absurd (ok_not_err c.at.result Ended e), λ e. absurd (ok_not_err tt Ended (c.in-Ok.ensures.ended.1 e)));
+    damaged = λ p e. absurd (ok_not_err c.at.result (Damaged p) e);
+    disk = λ e. absurd (ok_not_err c.at.result Disk e);
+    faults = tt;
+    untouched = λ going far. (tt, (c.seek.ensures.untouched going far).2);
+    hit = λ going near held stays. (tt, (c.seek.ensures.hit going near held stays).2);
     leaves = c.seek.ensures.leaves;
     disk_faults = c.seek.ensures.disk_faults;
+    out_faults = c.seek.ensures.out_faults;
   },
 )

@@ -1,10 +1,11 @@
-use Rattle.std.proofs.Common.{◌≡◌, ◌∙◌, ◌≤◌, ◌<◌, ◌-◌, ap, sym, subst, refl, rules, Some, None, ◌∷◌, [], arith}
+use Rattle.rg_bytes.specs.Counts.{Rose}
+use Rattle.std.proofs.Common.{◌≡◌, ◌∙◌, ◌≤◌, ◌<◌, ◌-◌, ap, sym, subst, refl, rules, Some, None, ◌∷◌, [], arith, ◌+◌, ◌^◌, min, ℕ, List}
 use Rattle.rg_host.specs.Image.{Image}
 use Rattle.rg_cache.specs.Cache.{item_at, places, least_recently_used, touches}
 use Rattle.rg_reservoir.specs.declared.kept.Kept.{Kept}
-use Rattle.rg_reservoir.specs.Kept.{Base, base, IsCached, IsAbsent, next_in, look_places, held_after}
+use Rattle.rg_reservoir.specs.Kept.{Base, base, IsCached, IsAbsent, next_in, look_places, held_after, OneTouch, AllTouched}
 use Rattle.rg_reservoir.proofs.Seeking.{cached_same, absent_same, one_image, before_end, found_open, found_here, found_next, turn, near}
-use Rattle.rg_reservoir.proofs.Touching.{one_touched, two_places, look_one, look_two}
+use Rattle.rg_reservoir.proofs.Touching.{one_touched, two_places, look_one, look_two, look_far}
 use Rattle.rg_reservoir.proofs.reservoir.Reservoir.seek.Goals as goal
 
 pub returns-then-spot-self-clause-finds : goal.returns-then-spot-self-clause-finds
@@ -196,3 +197,88 @@ returns-clause-finds g c =
     let h : (kept : Kept) × (item_at c.in-Some.next c.touch-2.new.self.cache ≡ Some kept) = search rules in
     let cached : IsCached c.args.self.now.schema.fields (v c.args.self.now.log.file) c.touch-2.new.self.cache = cached_same _ _ _ _ v c.touch-2.new.self.cache eqF eqf (c.touch-2.ensures.cached v (c.touch.ensures.leaves.now_stays ∙ told) (cached_same _ _ _ _ v c.touch.new.self.cache (sym eqF) (sym eqf) mid)) in
     (found_next (g.H.Host.now c.args.host.now) v (g.H.Host.may c.args.host.now) (base c.args.self.now) c.args.self.now.open.events c.args.self.now.next_offset c.args.self.now.last_time c.args.self.now.cache c.touch.new.self.cache c.touch-2.new.self.cache c.args.spot.now (record { place = c.in-Some.next; index = 0; number = c.args.spot.now.number }) h.0 c.in-Some.next told right spells lt mid turns refl refl refl cached h.1).1
+
+pub returns-in-Ok-false-clause-loaded : goal.returns-in-Ok-false-clause-loaded
+returns-in-Ok-false-clause-loaded g c =
+    λ sound spells.
+    let v = sound.0 in
+    let told : g.H.Host.now c.args.host.now ≡ Some v = sound.1 in
+    let right = sound.2.right c.if-self.false in
+    let lt : c.args.spot.now.number < c.args.self.now.committed = omega (arith, c.if-spot-self.false) in
+    let i = near (g.H.Host.now c.args.host.now) v (base c.args.self.now) c.args.self.now.open.events c.args.spot.now told spells lt in
+    let absent : IsAbsent c.args.self.now.schema.fields c.args.spot.now.place c.args.self.now.log.end (v c.args.self.now.log.file) = c.in-Ok-false.ensures.absent c.in-Ok-false.field-0-test v told in
+    let far : c.args.self.now.log.end < i.next = absent i.chunk i.next i.here in
+    let le : i.next ≤ c.args.self.now.log.end = before_end v (g.H.Host.may c.args.host.now) (base c.args.self.now) c.args.self.now.open.events c.args.self.now.next_offset c.args.self.now.last_time c.args.self.now.cache right c.args.spot.now.place c.args.spot.now.index c.args.spot.now.number i in
+    absurd (omega (arith, far, le))
+
+pub returns-in-Ok-false-touch-clause-loaded : goal.returns-in-Ok-false-touch-clause-loaded
+returns-in-Ok-false-touch-clause-loaded g c =
+    λ sound spells.
+    let v = sound.0 in
+    let told : g.H.Host.now c.args.host.now ≡ Some v = sound.1 in
+    let right = sound.2.right c.if-self.false in
+    let lt : c.args.spot.now.number < c.args.self.now.committed = omega (arith, c.if-spot-self.false) in
+    let mid : IsCached c.args.self.now.schema.fields (v c.args.self.now.log.file) c.touch.new.self.cache = c.touch.ensures.cached v told right.cached in
+    let eqF = ap (λ (b : Base). b.shape.fields) c.touch.ensures.stays.base in
+    let eqf = ap (λ (b : Base). b.file) c.touch.ensures.stays.base in
+    let turns : next_in (item_at c.args.spot.now.place c.touch.new.self.cache) c.args.spot.now.index ≡ Some c.in-Some.next = search rules in
+    let eqe = ap (λ (b : Base). b.end) c.touch.ensures.stays.base in
+    let f = turn (g.H.Host.now c.args.host.now) v (g.H.Host.may c.args.host.now) (base c.args.self.now) c.args.self.now.open.events c.args.self.now.next_offset c.args.self.now.last_time c.args.self.now.cache c.touch.new.self.cache c.args.spot.now c.in-Some.next told right spells lt mid turns in
+    let absent : IsAbsent c.touch.new.self.schema.fields c.in-Some.next c.touch.new.self.log.end (v c.touch.new.self.log.file) = c.in-Ok-false-touch.ensures.absent c.in-Ok-false-touch.field-0-test v (c.touch.ensures.leaves.now_stays ∙ told) in
+    let far : c.args.self.now.log.end < f.chunk.next = absent_same _ _ _ _ _ _ v c.in-Some.next eqF eqf eqe absent f.chunk.chunk f.chunk.next f.chunk.here in
+    let le : f.chunk.next ≤ c.args.self.now.log.end = before_end v (g.H.Host.may c.args.host.now) (base c.args.self.now) c.args.self.now.open.events c.args.self.now.next_offset c.args.self.now.last_time c.args.self.now.cache right c.in-Some.next 0 c.args.spot.now.number f.chunk in
+    absurd (omega (arith, far, le))
+
+pub returns-then-spot-self-clause-loaded : goal.returns-then-spot-self-clause-loaded
+returns-then-spot-self-clause-loaded g c = λ sound spells w there.
+    let self = c.args.self.now in
+    let far : self.committed ≤ c.args.spot.now.number = omega (arith, c.if-spot-self.true) in
+    subst (λ (l : List ℕ). AllTouched l self.cache self.loads (g.H.Host.reads c.args.host.now) self.cache self.loads (g.H.Host.reads c.args.host.now)) (sym (look_far (base self) (w self.log.file) c.args.spot.now far)) (refl, refl, refl)
+
+pub returns-in-None-clause-loaded : goal.returns-in-None-clause-loaded
+returns-in-None-clause-loaded g c = λ sound spells w there.
+    let self = c.args.self.now in
+    let v = sound.0 in
+    let told : g.H.Host.now c.args.host.now ≡ Some v = sound.1 in
+    let right = sound.2.right c.if-self.false in
+    let lt : c.args.spot.now.number < self.committed = omega (arith, c.if-spot-self.false) in
+    let mid : IsCached self.schema.fields (v self.log.file) c.touch.new.self.cache = c.touch.ensures.cached v told right.cached in
+    let first : places c.touch.new.self.cache ≡ least_recently_used self.cache.cap (touches self.cache (c.args.spot.now.place ∷ [])) = search rules in
+    let h : (kept : Kept) × (item_at c.args.spot.now.place c.touch.new.self.cache ≡ Some kept) = search rules in
+    let stays : next_in (item_at c.args.spot.now.place c.touch.new.self.cache) c.args.spot.now.index ≡ None = search rules in
+    let one : OneTouch c.args.spot.now.place self.cache self.loads (g.H.Host.reads c.args.host.now) c.touch.new.self.cache c.touch.new.self.loads (g.H.Host.reads c.touch.new.host) = record {
+      places_are = first;
+      cap_stays = c.touch.ensures.cap;
+      hit = λ held. let k = c.touch.ensures.hit held in (k.2, k.1);
+      miss = λ missed. let k : Rose (g.H.Host.reads c.args.host.now) (g.H.Host.reads c.touch.new.host) × (c.touch.new.self.loads ≡ min (self.loads + 1) (2 ^ 64 - 1)) = search (rules, c.touch.ensures.miss missed) in (k.1, k.0);
+    } in
+    subst (λ (u : Image). AllTouched (look_places (base self) (u self.log.file) c.args.spot.now) self.cache self.loads (g.H.Host.reads c.args.host.now) c.touch.new.self.cache c.touch.new.self.loads (g.H.Host.reads c.touch.new.host)) (one_image (g.H.Host.now c.args.host.now) v w told there)
+    (subst (λ (l : List ℕ). AllTouched l self.cache self.loads (g.H.Host.reads c.args.host.now) c.touch.new.self.cache c.touch.new.self.loads (g.H.Host.reads c.touch.new.host)) (sym (look_one (base self) (v self.log.file) c.args.spot.now c.touch.new.self.cache h.0 lt mid h.1 stays))
+    (c.touch.new.self.cache, c.touch.new.self.loads, g.H.Host.reads c.touch.new.host, one, (refl, refl, refl)))
+
+pub returns-clause-loaded : goal.returns-clause-loaded
+returns-clause-loaded g c = λ sound spells w there.
+    let self = c.args.self.now in
+    let v = sound.0 in
+    let told : g.H.Host.now c.args.host.now ≡ Some v = sound.1 in
+    let right = sound.2.right c.if-self.false in
+    let lt : c.args.spot.now.number < self.committed = omega (arith, c.if-spot-self.false) in
+    let mid : IsCached self.schema.fields (v self.log.file) c.touch.new.self.cache = c.touch.ensures.cached v told right.cached in
+    let first : places c.touch.new.self.cache ≡ least_recently_used self.cache.cap (touches self.cache (c.args.spot.now.place ∷ [])) = search rules in
+    let turns : next_in (item_at c.args.spot.now.place c.touch.new.self.cache) c.args.spot.now.index ≡ Some c.in-Some.next = search rules in
+    let second : places c.touch-2.new.self.cache ≡ least_recently_used c.touch.new.self.cache.cap (touches c.touch.new.self.cache (c.in-Some.next ∷ [])) = search rules in
+    let one : OneTouch c.args.spot.now.place self.cache self.loads (g.H.Host.reads c.args.host.now) c.touch.new.self.cache c.touch.new.self.loads (g.H.Host.reads c.touch.new.host) = record {
+      places_are = first;
+      cap_stays = c.touch.ensures.cap;
+      hit = λ held. let k = c.touch.ensures.hit held in (k.2, k.1);
+      miss = λ missed. let k : Rose (g.H.Host.reads c.args.host.now) (g.H.Host.reads c.touch.new.host) × (c.touch.new.self.loads ≡ min (self.loads + 1) (2 ^ 64 - 1)) = search (rules, c.touch.ensures.miss missed) in (k.1, k.0);
+    } in
+    let two : OneTouch c.in-Some.next c.touch.new.self.cache c.touch.new.self.loads (g.H.Host.reads c.touch.new.host) c.touch-2.new.self.cache c.touch-2.new.self.loads (g.H.Host.reads c.touch-2.new.host) = record {
+      places_are = second;
+      cap_stays = c.touch-2.ensures.cap;
+      hit = λ held. let k = c.touch-2.ensures.hit held in (k.2, k.1);
+      miss = λ missed. let k : Rose (g.H.Host.reads c.touch.new.host) (g.H.Host.reads c.touch-2.new.host) × (c.touch-2.new.self.loads ≡ min (c.touch.new.self.loads + 1) (2 ^ 64 - 1)) = search (rules, c.touch-2.ensures.miss missed) in (k.1, k.0);
+    } in
+    subst (λ (u : Image). AllTouched (look_places (base self) (u self.log.file) c.args.spot.now) self.cache self.loads (g.H.Host.reads c.args.host.now) c.touch-2.new.self.cache c.touch-2.new.self.loads (g.H.Host.reads c.touch-2.new.host)) (one_image (g.H.Host.now c.args.host.now) v w told there)
+    (subst (λ (l : List ℕ). AllTouched l self.cache self.loads (g.H.Host.reads c.args.host.now) c.touch-2.new.self.cache c.touch-2.new.self.loads (g.H.Host.reads c.touch-2.new.host)) (sym (look_two (base self) (v self.log.file) c.args.spot.now c.touch.new.self.cache c.in-Some.next lt mid turns))
+    (c.touch.new.self.cache, c.touch.new.self.loads, g.H.Host.reads c.touch.new.host, one, (c.touch-2.new.self.cache, c.touch-2.new.self.loads, g.H.Host.reads c.touch-2.new.host, two, (refl, refl, refl))))

@@ -9,6 +9,7 @@
 mod buffer;
 mod call;
 mod call_trace;
+mod count;
 mod file_list;
 mod fuse_host;
 mod host;

@@ -11,6 +11,7 @@ ghost use Rattle.rg_host.specs.Moments.{Moments, LeavesFiles, LeavesAll};
 ghost use Rattle.rg_host.specs.Puts.{Puts, put_of};
 
 use crate::call_trace::CallTrace;
+use crate::count::raise;
 use crate::file_list::{MAX_LENGTH, read_from};
 use crate::host::Host;
 use crate::image::Image;
@@ -48,14 +49,6 @@ impl Model for MemHost {
       reads = host.reads;
       starved = host.starved;
     } };
-}
-
-/// One more, up to 2^64 - 1.
-fn raise(count: &mut u64)
-    ensures raised { count.new ≡ raised count.old }
-    ensures kept { count.old ≤ count.new }
-{
-    *count = count.saturating_add(1);
 }
 
 /// Whether so many bytes from a place on end past 2^62.

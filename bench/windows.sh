@@ -1,41 +1,56 @@
 #!/usr/bin/env bash
-# Lines a second by the length of the window and the number of cards: a million payments, five seconds apart, a count and a sum by card. Outside the gate.
-# `rt run` in crates/railgun builds the program first.
+# What a line costs by the number of cards and the length of the window: a million payments, five seconds apart, a count and a sum by card.
+# Processor time (user and system), lines a second of it and peak memory, beside those of bench/reference.py on the same lines, run in turn: the medians of three.
+# It fails where a line isn't accepted, or where the two programs answer differently. Outside the gate.
+# `rt run` in crates/railgun builds the program first; PROGRAM names another one.
 set -eu
 cd "$(dirname "$0")/.."
-program=$PWD/crates/railgun/out/railgun
+program=${PROGRAM:-$PWD/crates/railgun/out/railgun}
+bench=$PWD/bench
 lines=${1:-1000000}
 work=$(mktemp -d)
 trap 'rm -rf "$work"' EXIT
 
-# A plan with a window of this length.
-plan() {
-    cat << PLAN
-queries = ["SELECT count(*), sum(amount) FROM payments GROUP BY card OVER SLIDING $1"]
-[stream]
-name = "payments"
-columns = ["ts", "card:text", "merchant:text", "amount:int"]
-PLAN
+. "$bench/payments.sh"
+
+# Runs a command on the payments, and adds its figures to the file of this name. Each line must be accepted.
+measure() {
+    local name=$1
+    shift
+    python3 "$bench/measure.py" "$work/payments" "$work/$name.out" "$@" >> "$work/$name"
+    if [ "$(tail -n 1 "$work/$name.out")" != "done $lines $lines" ]; then
+        echo "$name: not all lines were accepted: $(tail -n 1 "$work/$name.out")" >&2
+        exit 1
+    fi
 }
 
-# Payments of this many cards.
-payments() {
-    awk -v cards="$1" -v lines="$lines" 'BEGIN { for (i = 0; i < lines; i++) print i * 5000 ",c" (i * 7919) % cards ",m" i % 97 "," i % 10000 }'
+# The middle one of a column of three figures.
+median() {
+    cut -d ' ' -f "$2" "$work/$1" | sort -n | sed -n 2p
 }
 
-# Seconds that a run takes.
-seconds() {
-    local start
-    start=$(date +%s.%N)
-    "$program" run "$work/plan" "$work/store" < "$work/payments" > "$work/out"
-    date +%s.%N | awk -v start="$start" '{ print $1 - start }'
+# The figures of a program.
+figures() {
+    local cpu
+    cpu=$(median "$1" 1)
+    awk -v cpu="$cpu" -v lines="$lines" -v peak="$(median "$1" 3)" 'BEGIN { printf "%.2f s, %d lines a second, %d KB", cpu, lines / cpu, peak }'
 }
 
 for cards in 40 100000; do
-    payments "$cards" > "$work/payments"
-    for window in "5 minutes" "1 hour" "30 days"; do
+    payments "$cards" "$lines" > "$work/payments"
+    while read -r milliseconds window; do
         plan "$window" > "$work/plan"
-        took=$(seconds)
-        awk -v n="$lines" -v t="$took" -v cards="$cards" -v window="$window" 'BEGIN { printf "%d cards, %s: %d lines, %.2f s, %d lines a second\n", cards, window, n, t, n / t }'
-    done
+        rm -f "$work/railgun" "$work/reference"
+        for _ in 1 2 3; do
+            measure railgun "$program" run "$work/plan" "$work/store"
+            measure reference python3 "$bench/reference.py" "$milliseconds"
+            cmp "$work/railgun.out" "$work/reference.out"
+        done
+        ratio=$(awk -v railgun="$(median railgun 1)" -v reference="$(median reference 1)" 'BEGIN { printf "%.2f", reference / railgun }')
+        echo "$cards cards, $window: $(figures railgun); reference: $(figures reference); ratio $ratio"
+    done << WINDOWS
+300000 5 minutes
+3600000 1 hour
+2592000000 30 days
+WINDOWS
 done

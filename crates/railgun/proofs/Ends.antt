@@ -7,14 +7,16 @@ use Rattle.std.specs.Prelude.{IfSome}
 use Rattle.rg_bytes.specs.Counts.{Rose}
 use Rattle.rg_config.specs.Plans.{Planned, Says}
 use Rattle.rg_config.specs.declared.fault.ConfigFault.{ConfigFault}
+use Rattle.rg_config.proofs.Total.{says_something}
 use Rattle.rg_host.specs.Lines.{ended, whole_lines}
+use Rattle.rg_verdict.specs.Verdicts.{Basis}
 use Rattle.rg_host.specs.Moments.{Moment}
-use Rattle.rg_host.specs.Puts.{IsFront, Puts}
+use Rattle.rg_host.specs.Puts.{IsPrefix, Puts}
 use Rattle.railgun.specs.Plan.{IsPlan, IsRefusal}
 use Rattle.railgun.specs.Output.{output_of}
-use Rattle.railgun.specs.Put.{StopsWith, IsPut}
+use Rattle.rg_host.specs.Puts.{StopsWith, IsPut}
 use Rattle.railgun.specs.Run.{Completes, Stops, StopsAt, StopsRead}
-use Rattle.railgun.specs.Call.{AnswersInput, Told, asked_text, asked_replies, text_of, replies_of, last_line, refusal_line, refusal_of, line_for, IsLegal, IsRefused, IsLonger, IsWithin, IsPossible, status_by, status_for}
+use Rattle.railgun.specs.Call.{AnswersInput, ReadsPlan, Told, ToldPlan, asked_text, asked_replies, text_of, replies_of, last_line, refusal_line, refusal_of, line_for, IsLegal, IsRefused, IsLonger, IsWithin, IsPossible, status_by, status_for}
 use Rattle.railgun.specs.declared.command.Command.{Command}
 use Rattle.railgun.specs.declared.command.Command.TheVariants.{Run, Check}
 use Rattle.railgun.specs.declared.status.Status.{Status}
@@ -23,32 +25,12 @@ use Rattle.railgun.proofs.Inputs.{at_end_rest, told_rest, before-nothing}
 use Rattle.railgun.proofs.Outputs.{ended-append}
 use Rattle.railgun.proofs.Plans.{one_plan}
 
--- whole lines of a text are a front of it
-whole_front : (text : List (List ℕ)) (put : List ℕ) → StopsWith text [] put → IsFront put (ended text)
-whole_front text put stops = (
-  ended stops.more,
-  ap (λ v. v ++ ended stops.more) (stops.is ∙ append-nil (ended stops.lines)) ∙ sym (ended-append stops.lines stops.more) ∙ ap ended stops.of_text,
-)
-
-pub whole_stops : (status : Status) (text : List (List ℕ)) (put : List ℕ) → StopsWith text [] put → StopsAt status text put
-whole_stops Ok text put stops = stops
-whole_stops Usage text put stops = stops
-whole_stops BadPlan text put stops = stops
-whole_stops Store text put stops = stops
-whole_stops Read text put stops = stops
-whole_stops Write text put stops = whole_front text put stops
-whole_stops Disk text put stops = stops
-whole_stops Limit text put stops = stops
-whole_stops Memory text put stops = stops
-whole_stops Gap text put stops = stops
-whole_stops Differs text put stops = stops
-
-nothing_whole : (text : List (List ℕ)) → StopsWith text [] []
+pub nothing_whole : (text : List (List ℕ)) → StopsWith text [] []
 nothing_whole text = record { lines = []; more = text; of_text = refl; is = refl }
 
 -- nothing was put
-pub nothing_stops : (status : Status) (text : List (List ℕ)) → StopsAt status text []
-nothing_stops status text = whole_stops status text [] (nothing_whole text)
+pub nothing_stops : (write : Type 0) (text : List (List ℕ)) → StopsAt write text []
+nothing_stops write text = inl (nothing_whole text)
 
 stops-then : (text : List (List ℕ)) (put part : List ℕ) → StopsWith text [] put → StopsWith text part (put ++ part)
 stops-then text put part stops = record {
@@ -58,39 +40,24 @@ stops-then text put part stops = record {
   is = ap (λ v. v ++ part) (stops.is ∙ append-nil (ended stops.lines));
 }
 
-front_of_nothing : (part : List ℕ) → IsFront part [] → part ≡ []
+front_of_nothing : (part : List ℕ) → IsPrefix part [] → part ≡ []
 front_of_nothing [] front = refl
 front_of_nothing (x ∷ part) front = absurd (cc front.1)
 
-line_put : (text : List (List ℕ)) (last put part : List ℕ) → StopsWith text [] put → IsFront part last → IsPut text last (put ++ part)
+line_put : (text : List (List ℕ)) (last put part : List ℕ) → StopsWith text [] put → IsPrefix part last → IsPut text last (put ++ part)
 line_put text last put part stops front = inr (part, front, stops-then text put part stops)
 
--- what was put: whole lines, or any front where a put failed
-by_write : (status : Status) (text : List (List ℕ)) (put : List ℕ) → StopsAt status text put → StopsWith text [] put ⊎ ((status ≡ Write) × IsFront put (ended text))
-by_write Ok text put stops = inl stops
-by_write Usage text put stops = inl stops
-by_write BadPlan text put stops = inl stops
-by_write Store text put stops = inl stops
-by_write Read text put stops = inl stops
-by_write Write text put stops = inr (refl, stops)
-by_write Disk text put stops = inl stops
-by_write Limit text put stops = inl stops
-by_write Memory text put stops = inl stops
-by_write Gap text put stops = inl stops
-by_write Differs text put stops = inl stops
-
 -- and then a front of the last line, which is empty where a put failed
-pub put_then : (status : Status) (last : List ℕ) (text : List (List ℕ)) (put part : List ℕ) → (status ≡ Write → last ≡ []) → StopsAt status text put → IsFront part last → IsPut text last (put ++ part)
-put_then status last text put part empty stops front = ⊎_elim
-    (λ whole. line_put text last put part whole front)
-    (λ cut.
-    let none : part ≡ [] = front_of_nothing part (subst (λ v. IsFront part v) (empty cut.0) front) in
-    inl (subst (λ v. IsFront v (ended text)) (sym (ap (λ v. put ++ v) none ∙ append-nil put)) cut.1))
-    (by_write status text put stops)
+pub put_then : (write : Type 0) (last : List ℕ) (text : List (List ℕ)) (put part : List ℕ) → (write → last ≡ []) → StopsAt write text put → IsPrefix part last → IsPut text last (put ++ part)
+put_then write last text put part empty (inl whole) front = line_put text last put part whole front
+put_then write last text put part empty (inr cut) front =
+    let none : part ≡ [] = front_of_nothing part (subst (λ v. IsPrefix part v) (empty cut.0) front) in
+    inl (subst (λ v. IsPrefix v (ended text)) (sym (ap (λ v. put ++ v) none ∙ append-nil put)) cut.1)
 
--- and then the whole last line, of a status that isn't Write
-pub whole_then : (status : Status) (last : List ℕ) (text : List (List ℕ)) (put : List ℕ) → (status ≡ Write → ⊥) → StopsAt status text put → StopsWith text last (put ++ last)
-whole_then status last text put other stops = ⊎_elim (λ whole. stops-then text put last whole) (λ cut. absurd (other cut.0)) (by_write status text put stops)
+-- and then the whole last line, unless a put failed
+pub whole_then : (write : Type 0) (last : List ℕ) (text : List (List ℕ)) (put : List ℕ) → StopsAt write text put → StopsWith text last (put ++ last) ⊎ write
+whole_then write last text put (inl whole) = inl (stops-then text put last whole)
+whole_then write last text put (inr cut) = inr cut.0
 
 -- all lines were put
 pub all_put : (text : List (List ℕ)) → StopsWith text [] (ended text)
@@ -101,7 +68,7 @@ pub all_front : (text : List (List ℕ)) → IsPut text [] (ended text)
 all_front text = inl ([], append-nil (ended text))
 
 -- nothing but the last line
-pub none_put : (last part : List ℕ) → IsFront part last → IsPut [] last part
+pub none_put : (last part : List ℕ) → IsPrefix part last → IsPut [] last part
 none_put last part front = line_put [] last [] part (nothing_whole []) front
 
 pub none_whole : (last : List ℕ) → StopsWith [] last last
@@ -125,16 +92,16 @@ refused_of None line h = tt
 asks_is : (bytes : List ℕ) (plan : Planned) → IsPlan bytes plan → (asks : Result Planned ConfigFault) → Says bytes asks → asks ≡ r.Ok plan
 asks_is bytes plan is asks says = one_plan bytes asks (r.Ok plan) says is.says
 
-pub told_plan : (command : Option Command) (plan input : Option (List ℕ)) (p : Planned) (told : Told command plan input) → IfSome plan (λ bytes. IsPlan bytes p) → told.asks ≡ r.Ok p
-told_plan command plan input p told legal =
+pub told_plan : (command : Option Command) → ReadsPlan command → (plan input : Option (List ℕ)) (p : Planned) (told : ToldPlan command plan input) → IfSome plan (λ bytes. IsPlan bytes p) → told.asks ≡ r.Ok p
+told_plan command reads plan input p told legal =
     let P : Option (List ℕ) → Type 0 = λ v. IfSome v (λ bytes. IsPlan bytes p) in
-    asks_is told.plan_bytes p (subst P told.plan_is legal) told.asks told.says
+    asks_is told.plan_bytes p (subst P (told.plan_is reads) legal) told.asks told.says
 
 -- the line of a plan that is refused
-pub told_line : (command : Option Command) (plan input : Option (List ℕ)) (line : List ℕ) (told : Told command plan input) → IfSome plan (RefusedBy line) → line ≡ refusal_of told.asks
-told_line command plan input line told refused =
+pub told_line : (command : Option Command) → ReadsPlan command → (plan input : Option (List ℕ)) (line : List ℕ) (told : ToldPlan command plan input) → IfSome plan (RefusedBy line) → line ≡ refusal_of told.asks
+told_line command reads plan input line told refused =
     let P : Option (List ℕ) → Type 0 = λ v. IfSome v (RefusedBy line) in
-    let by : RefusedBy line told.plan_bytes = subst P told.plan_is refused in
+    let by : RefusedBy line told.plan_bytes = subst P (told.plan_is reads) refused in
     by.2 ∙ ap refusal_of (sym (one_plan told.plan_bytes told.asks (r.Err by.0) told.says by.1.says))
 
 -- a last line that is the status's, or the refusal's
@@ -243,56 +210,59 @@ module _ (plan input : List ℕ) (left : Option (List ℕ)) (asks : Result Plann
     command_completes Gap c = absurd c.possible_only
     command_completes Differs c = absurd c.possible_only
 
-  completes_by : (command : Option Command) (status : Status) → (AnswersInput command asks → left ≡ Some input) → Causes command (Some plan) left A B C status → (status ≡ status_for command plan asks input) ⊎ (status ≡ Memory)
-  completes_by (Some command) status told c = command_completes command told status c
-  completes_by None status told c = inl (c.usage_always refl)
-
 -- where no count rose, the status is the one that words, plan and input call for, or Memory
-pub completes : (command : Option Command) (plan input : Option (List ℕ)) (A B C : Type 0) (status : Status) → Causes command plan input A B C status → (told : Told command plan input) → (A ⊎ B ⊎ C → ⊥) →
+pub completes : (command : Option Command) (plan input : Option (List ℕ)) (A B C : Type 0) (status : Status) → Causes command plan input A B C status → (told : ToldPlan command plan input) → (A ⊎ B ⊎ C → ⊥) →
     (status ≡ status_for command told.plan_bytes told.asks told.input_bytes) ⊎ (status ≡ Memory)
-completes command plan input A B C status causes told none =
-    let P : Option (List ℕ) → Type 0 = λ v. Causes command v input A B C status in
-    completes_by told.plan_bytes told.input_bytes input told.asks told.says A B C none command status told.input_is (subst P told.plan_is causes)
+completes (Some command) plan input A B C status causes told none =
+    let P : Option (List ℕ) → Type 0 = λ v. Causes (Some command) v input A B C status in
+    command_completes told.plan_bytes told.input_bytes input told.asks told.says A B C none command told.input_is status (subst P (told.plan_is tt) causes)
+completes None plan input A B C status causes told none = inl (causes.usage_always refl)
+
+-- what the plan's bytes say
+abbrev pub with_said : (command : Option Command) (plan input : Option (List ℕ)) → Told command plan input → ToldPlan command plan input
+with_said command plan input told =
+    let said = says_something told.plan_bytes in
+    record { plan_bytes = told.plan_bytes; input_bytes = told.input_bytes; plan_is = told.plan_is; asks = said.0; says = said.1; input_is = told.input_is said.0 said.1 }
 
 -- What a run puts.
 
 -- an input that was answered to its end
-pub all_answered : (input now : Option (List ℕ)) (p : Planned) (Put : List ℕ → Type 0) → Completes p input now Put → (all : List ℕ) → input ≡ Some all → Put (ended (output_of p all))
-all_answered input now p Put done all is =
+pub all_answered : (input now : Option (List ℕ)) (b : Basis) (Put : List ℕ → Type 0) → Completes b input now Put → (all : List ℕ) → input ≡ Some all → Put (ended (output_of b all))
+all_answered input now b Put done all is =
     let rest = told_rest input now done.got all done.took is in
     let none : rest.0 ≡ [] = at_end_rest now rest.0 rest.1 done.at_end in
     let whole : done.got ≡ all = sym (append-nil done.got) ∙ ap (λ v. done.got ++ v) (sym none) ∙ rest.2 in
-    subst (λ v. Put (ended (output_of p v))) whole (done.puts (rest.1 ∙ ap (λ v. Some v) none))
+    subst (λ v. Put (ended (output_of b v))) whole (done.puts (rest.1 ∙ ap (λ v. Some v) none))
 
 -- one that was answered in part
-pub part_answered : (input now : Option (List ℕ)) (p : Planned) (Put : List ℕ → Type 0) (status : Status) → Stops p input now Put status → (all : List ℕ) → input ≡ Some all →
-    (put : List ℕ) × Put put × StopsAt status (output_of p all) put
-part_answered input now p Put status stops all is =
+pub part_answered : (input now : Option (List ℕ)) (b : Basis) (Put : List ℕ → Type 0) (write : Type 0) → Stops b input now Put write → (all : List ℕ) → input ≡ Some all →
+    (put : List ℕ) × Put put × StopsAt write (output_of b all) put
+part_answered input now b Put write stops all is =
     let rest = told_rest input now stops.got all stops.took is in
-    (stops.put, stops.puts, subst (λ v. StopsAt status (output_of p v) stops.put) rest.2 (stops.stops rest.0 rest.1))
+    (stops.put, stops.puts, subst (λ v. StopsAt write (output_of b v) stops.put) rest.2 (stops.stops rest.0 rest.1))
 
 -- What words and plan ask for, by the plan that was read.
 
-pub asked_all : (command : Command) (plan input : Option (List ℕ)) (p : Planned) (Put : List ℕ → Type 0) → IfSome plan (λ b. IsPlan b p) → ((all : List ℕ) → (command ≡ Run → input ≡ Some all) → Put (ended (asked_text command p all))) → (told : Told (Some command) plan input) →
+pub asked_all : (command : Command) (plan input : Option (List ℕ)) (p : Planned) (Put : List ℕ → Type 0) → IfSome plan (λ b. IsPlan b p) → ((all : List ℕ) → (command ≡ Run → input ≡ Some all) → Put (ended (asked_text command p all))) → (told : ToldPlan (Some command) plan input) →
     Put (ended (text_of (Some command) told.asks told.input_bytes))
 asked_all command plan input p Put legal done told =
     let P : Result Planned ConfigFault → Type 0 = λ v. Put (ended (text_of (Some command) v told.input_bytes)) in
-    let asks_plan = told_plan (Some command) plan input p told legal in
+    let asks_plan = told_plan (Some command) tt plan input p told legal in
     subst P (sym asks_plan) (done told.input_bytes (λ is. told.input_is (answers command told.asks p (ap Some is) asks_plan)))
 
-pub asked_part : (command : Command) (plan input : Option (List ℕ)) (p : Planned) (Put : List ℕ → Type 0) (status : Status) → IfSome plan (λ b. IsPlan b p) →
-    ((all : List ℕ) → (command ≡ Run → input ≡ Some all) → (put : List ℕ) × Put put × StopsAt status (asked_text command p all) put) → (told : Told (Some command) plan input) →
-    (put : List ℕ) × Put put × StopsAt status (text_of (Some command) told.asks told.input_bytes) put
-asked_part command plan input p Put status legal stops told =
-    let P : Result Planned ConfigFault → Type 0 = λ v. (put : List ℕ) × Put put × StopsAt status (text_of (Some command) v told.input_bytes) put in
-    let asks_plan = told_plan (Some command) plan input p told legal in
+pub asked_part : (command : Command) (plan input : Option (List ℕ)) (p : Planned) (Put : List ℕ → Type 0) (write : Type 0) → IfSome plan (λ b. IsPlan b p) →
+    ((all : List ℕ) → (command ≡ Run → input ≡ Some all) → (put : List ℕ) × Put put × StopsAt write (asked_text command p all) put) → (told : ToldPlan (Some command) plan input) →
+    (put : List ℕ) × Put put × StopsAt write (text_of (Some command) told.asks told.input_bytes) put
+asked_part command plan input p Put write legal stops told =
+    let P : Result Planned ConfigFault → Type 0 = λ v. (put : List ℕ) × Put put × StopsAt write (text_of (Some command) v told.input_bytes) put in
+    let asks_plan = told_plan (Some command) tt plan input p told legal in
     subst P (sym asks_plan) (stops told.input_bytes (λ is. told.input_is (answers command told.asks p (ap Some is) asks_plan)))
 
-pub asked_read : (command : Command) (plan input now : Option (List ℕ)) (p : Planned) (Put : List ℕ → Type 0) (status : Status) → IfSome plan (λ b. IsPlan b p) → StopsRead (asked_replies command p) input now Put status → (told : Told (Some command) plan input) →
-    StopsRead (replies_of (Some command) told.asks) input now Put status
-asked_read command plan input now p Put status legal stops told =
-    let P : Result Planned ConfigFault → Type 0 = λ v. StopsRead (replies_of (Some command) v) input now Put status in
-    subst P (sym (told_plan (Some command) plan input p told legal)) stops
+pub asked_read : (command : Command) (plan input now : Option (List ℕ)) (p : Planned) (Put : List ℕ → Type 0) (limit : Type 0) → IfSome plan (λ b. IsPlan b p) → StopsRead (asked_replies command p) input now Put limit → (told : ToldPlan (Some command) plan input) →
+    StopsRead (replies_of (Some command) told.asks) input now Put limit
+asked_read command plan input now p Put limit legal stops told =
+    let P : Result Planned ConfigFault → Type 0 = λ v. StopsRead (replies_of (Some command) v) input now Put limit in
+    subst P (sym (told_plan (Some command) tt plan input p told legal)) stops
 
 by_asked : (command : Command) (p : Planned) → ended (asked_replies command p (whole_lines [])) ≡ []
 by_asked Run p = refl
@@ -304,8 +274,8 @@ nothing_replied (Some command) (r.Err refusal) = refl
 nothing_replied None asks = refl
 
 -- a plan that could not be read
-pub none_read : (command : Option Command) (plan input : Option (List ℕ)) (Put : List ℕ → Type 0) (status : Status) → Put [] → (told : Told command plan input) → StopsRead (replies_of command told.asks) input input Put status
-none_read command plan input Put status nothing told = record {
+pub none_read : (command : Option Command) (plan input : Option (List ℕ)) (Put : List ℕ → Type 0) (limit : Type 0) → Put [] → (told : ToldPlan command plan input) → StopsRead (replies_of command told.asks) input input Put limit
+none_read command plan input Put limit nothing told = record {
   got = [];
   past = [];
   took = before-nothing input;
@@ -315,29 +285,16 @@ none_read command plan input Put status nothing told = record {
 }
 
 -- and then a front of the last line
-pub read_then : (replies : List (Option (List ℕ)) → List (List ℕ)) (input now : Option (List ℕ)) (A B : List ℕ → Type 0) (status : Status) → ((put : List ℕ) → A put → B put) → StopsRead replies input now A status → StopsRead replies input now B status
-read_then replies input now A B status carry stops = record { got = stops.got; past = stops.past; took = stops.took; one = stops.one; none_past = stops.none_past; puts = carry _ stops.puts }
+pub read_then : (replies : List (Option (List ℕ)) → List (List ℕ)) (input now : Option (List ℕ)) (A B : List ℕ → Type 0) (limit : Type 0) → ((put : List ℕ) → A put → B put) → StopsRead replies input now A limit → StopsRead replies input now B limit
+read_then replies input now A B limit carry stops = record { got = stops.got; past = stops.past; took = stops.took; one = stops.one; none_past = stops.none_past; puts = carry _ stops.puts }
 
 -- an input that was read to its end is within its limit
-pub within_limit : (input now : Option (List ℕ)) (p : Planned) (Put : List ℕ → Type 0) → Completes p input now Put → IsWithin (2 ^ 50) input
-within_limit (Some bytes) now p Put done =
+pub within_limit : (input now : Option (List ℕ)) (b : Basis) (Put : List ℕ → Type 0) → Completes b input now Put → IsWithin (2 ^ 50) input
+within_limit (Some bytes) now b Put done =
     let rest = told_rest (Some bytes) now done.got bytes done.took refl in
     let none : rest.0 ≡ [] = at_end_rest now rest.0 rest.1 done.at_end in
     omega (arith, done.within, ap length (sym (append-nil done.got) ∙ ap (λ v. done.got ++ v) (sym none) ∙ rest.2))
-within_limit None now p Put done = tt
-
-pub write_or : (status : Status) → (status ≡ Write) ⊎ (status ≡ Write → ⊥)
-write_or Ok = inr (λ e. cc e)
-write_or Usage = inr (λ e. cc e)
-write_or BadPlan = inr (λ e. cc e)
-write_or Store = inr (λ e. cc e)
-write_or Read = inr (λ e. cc e)
-write_or Write = inl refl
-write_or Disk = inr (λ e. cc e)
-write_or Limit = inr (λ e. cc e)
-write_or Memory = inr (λ e. cc e)
-write_or Gap = inr (λ e. cc e)
-write_or Differs = inr (λ e. cc e)
+within_limit None now b Put done = tt
 
 pub rose_first : (a b c : ℕ) → Rose a b → b ≤ c → Rose a c
 rose_first a b c rose later = omega (arith, rose, later)

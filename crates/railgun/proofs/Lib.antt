@@ -1,4 +1,4 @@
-pub mod Arrivals
+pub mod NextLines
 pub mod Ends
 pub mod Inputs
 pub mod Listed
@@ -7,6 +7,6 @@ pub mod Plans
 pub mod Progress
 pub mod Serving
 pub mod Steadiness
-pub mod Verdicts
 pub mod Whole
 pub mod Worked
+pub mod Faults

@@ -11,7 +11,7 @@ use Rattle.rg_config.specs.Plans.{planned}
 use Rattle.rg_config.specs.declared.plan.Plan.{Plan}
 use Rattle.rg_config.proofs.Legal.{measured}
 use Rattle.railgun.specs.Listing.{numbered, query_line, offset_line, window_line, filter_line, group_line, agg_line, task_text, check_text}
-use Rattle.railgun.specs.Plan.{IsRead}
+use Rattle.rg_config.specs.Read.{IsRead}
 use Rattle.railgun.proofs.Outputs.{ended-append}
 
 -- the line of one member, and those of the others

@@ -1,74 +1,55 @@
 -- The output of some lines begins the output of more.
-use Rattle.std.proofs.Common.{◌≡◌, ℕ, zero, suc, ◌≤◌, ◌<◌, List, [], ◌∷◌, ◌++◌, length, get_or, Option, None, refl, ap, sym, ◌∙◌, arith, append_assoc, length-append}
+use Rattle.std.proofs.Common.{◌≡◌, ℕ, zero, suc, ◌≤◌, List, [], ◌∷◌, ◌++◌, length, get_or, Option, None, refl, ap, sym, ◌∙◌, arith, append_assoc}
 use Rattle.std.proofs.lemmas.List.{append-nil}
 use Rattle.rg_host.specs.Lines.{ended}
 use Rattle.rg_reply.specs.Texts.{reply_line, mark_line}
 use Rattle.rg_reply.specs.declared.mark.Mark.TheVariants.{Finished}
-use Rattle.rg_config.specs.Plans.{Planned}
-use Rattle.railgun.specs.Output.{verdict_of, with_verdict, reply_of, look_at, accepted_before, replies_before, output_for}
+use Rattle.rg_verdict.specs.Verdicts.{Basis, reply_of, line_verdict}
+use Rattle.rg_verdict.specs.Accepted.{accepted_before}
+use Rattle.rg_verdict.proofs.Accepted.{get_or-first, get_or-next, accepted-first, length-push}
+use Rattle.railgun.specs.Output.{replies_before, output_for}
 
 abbrev Item : Type 0
 Item = Option (List ℕ)
 
-pub get_or-first : (lines more : List Item) (i : ℕ) → i < length lines → get_or (lines ++ more) i None ≡ get_or lines i None
-get_or-first [] more i h = absurd (omega arith)
-get_or-first (line ∷ lines) more zero h = refl
-get_or-first (line ∷ lines) more (suc i) h = get_or-first lines more i (omega arith)
-
-get_or-next : (lines : List Item) (item : Item) (more : List Item) → get_or (lines ++ item ∷ more) (length lines) None ≡ item
-get_or-next [] item more = refl
-get_or-next (line ∷ lines) item more = get_or-next lines item more
-
-pub accepted-first : (plan : Planned) (lines more : List Item) (i : ℕ) → i ≤ length lines → accepted_before plan (lines ++ more) i ≡ accepted_before plan lines i
-accepted-first plan lines more zero h = refl
-accepted-first plan lines more (suc i) h = rw (accepted-first plan lines more i (omega arith), get_or-first lines more i (omega arith)) refl
-
-replies-first : (plan : Planned) (lines more : List Item) (i : ℕ) → i ≤ length lines → replies_before plan (lines ++ more) i ≡ replies_before plan lines i
-replies-first plan lines more zero h = refl
-replies-first plan lines more (suc i) h = rw (replies-first plan lines more i (omega arith), accepted-first plan lines more i (omega arith), get_or-first lines more i (omega arith)) refl
+replies-first : (basis : Basis) (lines more : List Item) (i : ℕ) → i ≤ length lines → replies_before basis (lines ++ more) i ≡ replies_before basis lines i
+replies-first basis lines more zero h = refl
+replies-first basis lines more (suc i) h = rw (replies-first basis lines more i (omega arith), accepted-first basis lines more i (omega arith), get_or-first lines more i (omega arith)) refl
 
 -- one line more
-length-push : (lines : List Item) (item : Item) → length (lines ++ item ∷ []) ≡ suc (length lines)
-length-push lines item = omega (arith, length-append lines (item ∷ []))
-
-pub accepted-push : (plan : Planned) (lines : List Item) (item : Item) →
-    accepted_before plan (lines ++ item ∷ []) (length (lines ++ item ∷ [])) ≡ with_verdict (accepted_before plan lines (length lines)) (verdict_of plan.settings.events (accepted_before plan lines (length lines)) (look_at plan (length lines) item))
-accepted-push plan lines item =
-    rw (length-push lines item, accepted-first plan lines (item ∷ []) (length lines) (omega arith), get_or-next lines item []) refl
-
-pub replies-push : (plan : Planned) (lines : List Item) (item : Item) →
-    replies_before plan (lines ++ item ∷ []) (length (lines ++ item ∷ []))
-    ≡ replies_before plan lines (length lines) ++ reply_line (length lines) (reply_of plan.queries (accepted_before plan lines (length lines)) (verdict_of plan.settings.events (accepted_before plan lines (length lines)) (look_at plan (length lines) item))) ∷ []
-replies-push plan lines item =
-    rw (length-push lines item, replies-first plan lines (item ∷ []) (length lines) (omega arith), accepted-first plan lines (item ∷ []) (length lines) (omega arith), get_or-next lines item []) refl
+pub replies-push : (basis : Basis) (lines : List Item) (item : Item) →
+    replies_before basis (lines ++ item ∷ []) (length (lines ++ item ∷ []))
+    ≡ replies_before basis lines (length lines) ++ reply_line (length lines) (reply_of basis.queries (accepted_before basis lines (length lines)) (line_verdict basis (accepted_before basis lines (length lines)) (length lines) item)) ∷ []
+replies-push basis lines item =
+    rw (length-push lines item, replies-first basis lines (item ∷ []) (length lines) (omega arith), accepted-first basis lines (item ∷ []) (length lines) (omega arith), get_or-next lines item []) refl
 
 -- the replies to the first lines begin those to all
-record Goes (plan : Planned) (lines more : List Item) : Type 0 where
+record Goes (basis : Basis) (lines more : List Item) : Type 0 where
   rest : List (List ℕ)
-  is : replies_before plan lines (length lines) ++ rest ≡ replies_before plan (lines ++ more) (length (lines ++ more))
+  is : replies_before basis lines (length lines) ++ rest ≡ replies_before basis (lines ++ more) (length (lines ++ more))
 
-goes : (plan : Planned) (lines more : List Item) → Goes plan lines more
-goes plan lines [] = record {
+goes : (basis : Basis) (lines more : List Item) → Goes basis lines more
+goes basis lines [] = record {
   rest = [];
-  is = append-nil (replies_before plan lines (length lines)) ∙ ap (λ v. replies_before plan v (length v)) (sym (append-nil lines));
+  is = append-nil (replies_before basis lines (length lines)) ∙ ap (λ v. replies_before basis v (length v)) (sym (append-nil lines));
 }
-goes plan lines (item ∷ more) =
-    let next : Goes plan (lines ++ item ∷ []) more = goes plan (lines ++ item ∷ []) more in
-    let reply = reply_line (length lines) (reply_of plan.queries (accepted_before plan lines (length lines)) (verdict_of plan.settings.events (accepted_before plan lines (length lines)) (look_at plan (length lines) item))) in
+goes basis lines (item ∷ more) =
+    let next : Goes basis (lines ++ item ∷ []) more = goes basis (lines ++ item ∷ []) more in
+    let reply = reply_line (length lines) (reply_of basis.queries (accepted_before basis lines (length lines)) (line_verdict basis (accepted_before basis lines (length lines)) (length lines) item)) in
     record {
       rest = reply ∷ next.rest;
-      is = sym (append_assoc (replies_before plan lines (length lines)) (reply ∷ []) next.rest)
-          ∙ ap (λ v. v ++ next.rest) (sym (replies-push plan lines item))
+      is = sym (append_assoc (replies_before basis lines (length lines)) (reply ∷ []) next.rest)
+          ∙ ap (λ v. v ++ next.rest) (sym (replies-push basis lines item))
           ∙ next.is
-          ∙ ap (λ v. replies_before plan v (length v)) (append_assoc lines (item ∷ []) more);
+          ∙ ap (λ v. replies_before basis v (length v)) (append_assoc lines (item ∷ []) more);
     }
 
 -- the same of all that is put out
-pub replies-begin : (plan : Planned) (lines more : List Item) → (rest : List (List ℕ)) × (replies_before plan lines (length lines) ++ rest ≡ output_for plan (lines ++ more))
-replies-begin plan lines more =
-    let next = goes plan lines more in
-    let last = mark_line (Finished (length (lines ++ more)) (length (accepted_before plan (lines ++ more) (length (lines ++ more))))) ∷ [] in
-    (next.rest ++ last, sym (append_assoc (replies_before plan lines (length lines)) next.rest last) ∙ ap (λ v. v ++ last) next.is)
+pub replies-begin : (basis : Basis) (lines more : List Item) → (rest : List (List ℕ)) × (replies_before basis lines (length lines) ++ rest ≡ output_for basis (lines ++ more))
+replies-begin basis lines more =
+    let next = goes basis lines more in
+    let last = mark_line (Finished (length (lines ++ more)) (length (accepted_before basis (lines ++ more) (length (lines ++ more))))) ∷ [] in
+    (next.rest ++ last, sym (append_assoc (replies_before basis lines (length lines)) next.rest last) ∙ ap (λ v. v ++ last) next.is)
 
 pub ended-append : (lines more : List (List ℕ)) → ended (lines ++ more) ≡ ended lines ++ ended more
 ended-append [] more = refl

@@ -1,7 +1,8 @@
 -- A session's engine, from one event to the next.
-use Rattle.std.proofs.Common.{◌≡◌, ◌⊎◌, inl, inr, ℕ, zero, suc, ◌<◌, ◌≤◌, Bool, true, false, List, [], length, replicate, slice_get, slice_index_or, Option, Some, None, All, refl, ap, sym, ◌∙◌, subst, arith}
+use Rattle.std.proofs.Common.{◌≡◌, ◌⊎◌, inl, inr, ℕ, zero, suc, ◌<◌, ◌≤◌, Bool, true, false, List, [], ◌∷◌, ◌++◌, length, replicate, slice_get, slice_index_or, Option, Some, None, refl, ap, sym, ◌∙◌, subst, arith}
+use Rattle.std.proofs.lemmas.List.{append-nil}
 use Rattle.std.proofs.lemmas.List.Elements.{All-replicate}
-use Rattle.std.proofs.lemmas.Option.{slice_get_within, get_or_from_slice_get}
+use Rattle.std.proofs.lemmas.Option.{slice_get_within}
 use Rattle.rg_event.specs.declared.event.Event.{Event}
 use Rattle.rg_past.specs.Listed.{Listed, IsSound, Spells}
 use Rattle.rg_event.specs.Rising.{last_time}
@@ -15,6 +16,8 @@ use Rattle.rg_window.specs.Placed.{AreWithin, IsSpelledAt, numbers_of}
 use Rattle.rg_past.specs.declared.past.PastFault.TheVariants.{Disk, Damaged, Full, Memory as PastMemory, Ended as PastEnded}
 use Rattle.rg_engine.specs.declared.fault.EngineFault.{EngineFault}
 use Rattle.rg_engine.specs.declared.fault.EngineFault.TheVariants.{Past, BadState, Memory, Ended, Table}
+use Rattle.rg_engine.specs.Carrying.{CarriesOn, is_ending}
+use Rattle.rg_engine.specs.Feeding.{IsFed}
 use Rattle.rg_engine.specs.Seen.{Seen}
 use Rattle.rg_engine.specs.Windows.{position}
 use Rattle.rg_engine.specs.Standing.{IsTold, RowIs, NodeStands}
@@ -65,12 +68,10 @@ runs_still false not = refl
 pub told_of : (past : Listed) (engine : Seen MemTable) (n : ℕ) → IsUpToDate past engine → IsTold engine.plan n (Spells past) engine.spots
 told_of past engine n up = λ edge offset is has. up.told edge (slice_get_within engine.plan.offsets edge offset is)
 
--- each spot is spelled
-spelled_at : (Says : Spot → Type 0) (spots : List Spot) (edge : ℕ) (default : Spot) → IsSpelledAt Says spots edge → Says (slice_index_or spots edge default)
-spelled_at Says spots edge default at = subst Says (sym (get_or_from_slice_get spots edge at.0 default at.1)) at.2
-
-pub all_spelled : (past : Listed) (engine : Seen MemTable) → length engine.spots ≡ length engine.plan.offsets → IsUpToDate past engine → All (Spells past) engine.spots
-all_spelled past engine same up = λ edge default h. spelled_at (Spells past) engine.spots edge default (up.told edge (omega (arith, h, same)))
+-- each node can be carried on to one event more
+pub carries : (past : Listed) (engine : Seen MemTable) (e : Event) → IsSound past → IsUpToDate past engine → IsFed engine.plan (past.events ++ e ∷ []) → (n : ℕ)
+    → CarriesOn engine.plan n (IsSound past) (Spells past) (rows.tells engine.table) past.events (past.events ++ e ∷ []) past.events (rows.cell engine.table) engine.spots
+carries past engine e sound up fed n = record { sound = sound; spelled = told_of past engine n up; tells = up.tells; fed = fed; more = []; begins = sym (append-nil past.events); stood = up.nodes n }
 
 -- it is up to date still where each node stands for the events after
 pub goes_on :
@@ -130,6 +131,21 @@ pub not_full : (fault : EngineFault) → IsMemory fault → IsFull fault → ⊥
 not_full fault (inl is) full = absurd (let e : Past PastMemory ≡ Past Full = sym is ∙ full in cc)
 not_full fault (inr (inl is)) full = absurd (let e : Memory ≡ Past Full = sym is ∙ full in cc)
 not_full fault (inr (inr is)) full = absurd (let e : Ended ≡ Past Full = sym is ∙ full in cc)
+
+true_false : {A : Type 0} → true ≡ false → A
+true_false e = absurd (cc)
+
+-- nor does any refusal but that of a full past
+pub ends_not : (fault : EngineFault) (ended : Bool) → IsMemory fault → ended ≡ is_ending fault → ended ≡ false → ⊥
+ends_not (Past Disk) ended memory is runs = true_false (sym is ∙ runs)
+ends_not (Past (Damaged place)) ended memory is runs = true_false (sym is ∙ runs)
+ends_not (Past Full) ended memory is runs = not_full (Past Full) memory refl
+ends_not (Past PastMemory) ended memory is runs = true_false (sym is ∙ runs)
+ends_not (Past PastEnded) ended memory is runs = true_false (sym is ∙ runs)
+ends_not (BadState n) ended memory is runs = true_false (sym is ∙ runs)
+ends_not Memory ended memory is runs = true_false (sym is ∙ runs)
+ends_not Ended ended memory is runs = true_false (sym is ∙ runs)
+ends_not Table ended memory is runs = true_false (sym is ∙ runs)
 
 pub either_way : (ended : Bool) (A : Type 0) → (ended ≡ true → A) → (ended ≡ false → A) → A
 either_way true A over runs = over refl

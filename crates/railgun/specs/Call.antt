@@ -1,14 +1,15 @@
 -- A call of the program.
-use Rattle.std.specs.Prelude.{◌≡◌, ℕ, ◌<◌, ◌≤◌, nat_lt, Bool, true, false, List, [], ◌∷◌, ◌++◌, length, codes, decimal, bytes_eq, string_bytes, String, Option, Some, None, Result, ⊤, if◌then◌else◌}
+use Rattle.std.specs.Prelude.{◌≡◌, ℕ, ◌<◌, ◌≤◌, nat_lt, Bool, true, false, List, [], ◌∷◌, ◌++◌, length, codes, decimal, bytes_eq, string_bytes, String, Option, Some, None, IfSome, Result, ⊤, if◌then◌else◌}
 use Rattle.std.specs.Prelude as r
 use Rattle.std.specs.declared.alloc.Global.{Global}
 use Rattle.rg_config.specs.Plans.{Planned, Says}
 use Rattle.rg_config.specs.declared.fault.ConfigFault.{ConfigFault}
 use Rattle.rg_config.specs.declared.fault.ConfigFault.TheVariants as fault
-use Rattle.railgun.specs.Plan.{IsPlan, IsRefusal}
+use Rattle.railgun.specs.Plan.{IsPlan, IsRefusal, basis_of}
 use Rattle.railgun.specs.declared.command.Command.{Command}
 use Rattle.railgun.specs.declared.command.Command.TheVariants.{Run, Check}
 use Rattle.railgun.specs.declared.ending.Ending.{Ending}
+use Rattle.railgun.specs.declared.ending.Refusal.{Refusal}
 use Rattle.railgun.specs.declared.ending.Ending.TheVariants.{Refused, Failed}
 use Rattle.railgun.specs.Listing.{check_text}
 use Rattle.railgun.specs.Output.{output_of, replies_to}
@@ -35,23 +36,41 @@ AnswersInput (Some Run) (r.Err refusal) = ⊥
 AnswersInput (Some Check) asks = ⊥
 AnswersInput None asks = ⊥
 
--- The plan tells its bytes, which are these, and they say this. Where the call answers the input, that tells its bytes too.
+-- the words name a command, so that the plan is read
+abbrev pub ReadsPlan : Option Command → Type 0
+ReadsPlan (Some command) = ⊤
+ReadsPlan None = ⊥
+
+-- Where the call reads the plan, that tells its bytes, which are these. Where it answers the input, that tells its bytes too.
 pub record Told (command : Option Command) (plan input : Option (List ℕ)) : Type 0 where
   pub plan_bytes : List ℕ
   pub input_bytes : List ℕ
-  pub plan_is : plan ≡ Some plan_bytes
+  pub plan_is : ReadsPlan command → plan ≡ Some plan_bytes
+  pub input_is : (asks : Result Planned ConfigFault) → Says plan_bytes asks → AnswersInput command asks → input ≡ Some input_bytes
+
+-- the bytes of a plan say this, of which P holds; all bytes say one thing, and no two
+pub record SaysSo (bytes : List ℕ) (P : Result Planned ConfigFault → Type 0) : Type 0 where
+  pub asks : Result Planned ConfigFault
+  pub says : Says bytes asks
+  pub holds : P asks
+
+-- the same as `Told`, and what the plan's bytes say
+pub record ToldPlan (command : Option Command) (plan input : Option (List ℕ)) : Type 0 where
+  pub plan_bytes : List ℕ
+  pub input_bytes : List ℕ
+  pub plan_is : ReadsPlan command → plan ≡ Some plan_bytes
   pub asks : Result Planned ConfigFault
   pub says : Says plan_bytes asks
   pub input_is : AnswersInput command asks → input ≡ Some input_bytes
 
 -- all lines that a command puts for a plan and an input
 abbrev pub asked_text : Command → Planned → List ℕ → List (List ℕ)
-asked_text Run plan input = output_of plan input
+asked_text Run plan input = output_of (basis_of plan) input
 asked_text Check plan input = check_text plan
 
 -- the lines that a command puts for these lines of the input
 abbrev pub asked_replies : Command → Planned → List (Option (List ℕ)) → List (List ℕ)
-asked_replies Run plan lines = replies_to plan lines
+asked_replies Run plan lines = replies_to (basis_of plan) lines
 asked_replies Check plan lines = []
 
 -- all lines that a call puts at status Ok, for what its words and its plan ask
@@ -70,8 +89,8 @@ replies_of None asks lines = []
 abbrev pub refusal_line : ConfigFault → List ℕ
 refusal_line fault.Toml = codes "refused plan toml\n"
 refusal_line fault.Stream = codes "refused plan stream\n"
-refusal_line fault.Settings = codes "refused plan settings\n"
-refusal_line (fault.Query number) = codes "refused plan query " ++ (decimal number ++ codes "\n")
+refusal_line (fault.Settings cause) = codes "refused plan settings\n"
+refusal_line (fault.Query number cause) = codes "refused plan query " ++ (decimal number ++ codes "\n")
 refusal_line fault.Memory = []
 
 -- the last line that a status puts but for a refused plan, with its LF
@@ -108,17 +127,25 @@ line_for asks Differs = last_line Differs
 
 -- the status and the last line of a call that ends early
 abbrev pub ending_status : Ending → Status
-ending_status (Refused line) = BadPlan
+ending_status (Refused line refusal) = BadPlan
 ending_status (Failed status) = status
 
 abbrev pub ending_line : Ending → List ℕ
-ending_line (Refused line) = line.items
+ending_line (Refused line refusal) = line.items
 ending_line (Failed status) = last_line status
+
+abbrev pub ending_refusal : Ending → Option Refusal
+ending_refusal (Refused line refusal) = Some refusal
+ending_refusal (Failed status) = None
+
+-- where the plan tells its bytes, this is the fault that refuses them
+abbrev pub TellsFault : Option (List ℕ) → Option Refusal → Type 0
+TellsFault plan told = IfSome plan (λ bytes. (refusal : Refusal) × (told ≡ Some refusal) × IsRefusal bytes refusal.fault)
 
 -- the ending says the fault that refuses a plan, or that memory ran out
 abbrev pub EndsBy : ConfigFault → Ending → Type 0
-EndsBy refusal (Refused line) = (line.items ≡ refusal_line refusal) × (refusal ≡ fault.Memory → ⊥)
-EndsBy refusal (Failed status) = status ≡ Memory
+EndsBy cause (Refused line refusal) = (line.items ≡ refusal_line cause) × (cause ≡ fault.Memory → ⊥) × (refusal.fault ≡ cause)
+EndsBy cause (Failed status) = status ≡ Memory
 
 -- the number of a status
 abbrev pub number_of : Status → ℕ

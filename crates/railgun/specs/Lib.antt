@@ -1,10 +1,10 @@
 pub mod Plan
 pub mod Output
 pub mod Listing
-pub mod Put
 pub mod Session
 pub mod Steady
 pub mod Codes
 pub mod Turn
 pub mod Run
 pub mod Call
+pub mod Faults

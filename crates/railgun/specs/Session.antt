@@ -4,11 +4,11 @@ use Rattle.rg_event.specs.Codec.{IsEventOf}
 use Rattle.rg_event.specs.declared.event.Event.{Event}
 use Rattle.rg_past.specs.Ranges.{IsInRange}
 use Rattle.rg_event.specs.Rising.{next_offset}
-use Rattle.rg_engine.specs.declared.reply.Reply.{Reply}
+use Rattle.rg_metric.specs.declared.reply.Reply.{Reply}
 use Rattle.rg_metric.specs.Queries.{Asked}
 use Rattle.rg_plan.specs.Plans.{plan_for}
 use Rattle.rg_engine.specs.Feeding.{Serves, IsFed}
-use Rattle.rg_config.specs.Plans.{Planned}
+use Rattle.rg_verdict.specs.Verdicts.{Basis}
 
 pub record Accepting : Type 0 where
   -- the events accepted so far
@@ -18,12 +18,12 @@ pub record Accepting : Type 0 where
   -- how many events there may be
   pub most : ℕ
 
--- the session answers the plan's queries, accepts as many events as the plan allows, and its events are of the plan's columns, which serve the queries
-pub record IsFor (plan : Planned) (session : Accepting) : Type 0 where
-  pub queries : session.queries ≡ plan.queries
-  pub most : session.most ≡ plan.settings.events
-  pub serves : Serves plan.shape.fields (plan_for plan.queries)
-  pub fed : All (IsEventOf plan.shape.fields) session.events
+-- the session answers these queries, accepts as many events as it may, and its events are of the columns, which serve the queries
+pub record IsFor (basis : Basis) (session : Accepting) : Type 0 where
+  pub queries : session.queries ≡ basis.queries
+  pub most : session.most ≡ basis.most
+  pub serves : Serves basis.fields (plan_for basis.queries)
+  pub fed : All (IsEventOf basis.fields) session.events
 
 -- the event may follow these, lies in its ranges, and is of the columns that they are of
 pub record MayCome (queries : List Asked) (events : List Event) (e : Event) : Type 0 where

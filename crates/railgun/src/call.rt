@@ -4,16 +4,18 @@ ghost use Rattle.rg_bytes.specs.Known.{IsAtEnd};
 ghost use Rattle.rg_config.specs.Plans.{planned};
 ghost use Rattle.rg_config.specs.declared.fault.ConfigFault.{ConfigFault as Fault};
 ghost use Rattle.rg_host.specs.Lines.{ended};
-ghost use Rattle.rg_host.specs.Puts.{IsFront, Puts};
-ghost use Rattle.railgun.specs.Plan.{IsPlan, IsRefusal, IsRead};
-ghost use Rattle.railgun.specs.Put.{IsPut, StopsWith};
+ghost use Rattle.rg_host.specs.Puts.{IsPrefix, Puts};
+ghost use Rattle.rg_config.specs.Read.{IsRead};
+ghost use Rattle.railgun.specs.Plan.{IsPlan, IsRefusal};
+ghost use Rattle.rg_host.specs.Puts.{IsPut, StopsWith};
 ghost use Rattle.railgun.specs.Run.{StopsAt, StopsRead};
-ghost use Rattle.railgun.specs.Call.{command_of, Told, asked_text, asked_replies, text_of, replies_of, line_for, last_line as status_line, refusal_line, ending_status, ending_line, EndsBy, status_for, IsLegal, IsRefused, IsLonger, IsWithin, IsPossible};
+ghost use Rattle.railgun.specs.Call.{command_of, Told, ToldPlan, SaysSo, asked_text, asked_replies, text_of, replies_of, line_for, last_line as status_line, refusal_line, ending_status, ending_line, ending_refusal, EndsBy, TellsFault, status_for, IsLegal, IsRefused, IsLonger, IsWithin, IsPossible};
 
 use crate::check::check;
 use crate::command::Command;
-use crate::ending::Ending;
-use crate::serve::serve;
+use crate::ending::{Ending, Refusal};
+use crate::input::answer_input;
+use crate::report::TomlFault;
 use crate::status::Status;
 use rg_bytes::{Memory, put_bytes, write_whole};
 use rg_config::{ConfigFault, Plan, read_plan};
@@ -39,22 +41,31 @@ fn write_refusal(line: &mut Vec<u8>, fault: ConfigFault) -> Result<(), Memory>
     match fault {
         ConfigFault::Toml => put_bytes(line, b"refused plan toml\n"),
         ConfigFault::Stream => put_bytes(line, b"refused plan stream\n"),
-        ConfigFault::Settings => put_bytes(line, b"refused plan settings\n"),
-        ConfigFault::Query(number) => write_refused_query(line, number),
+        ConfigFault::Settings(_) => put_bytes(line, b"refused plan settings\n"),
+        ConfigFault::Query(number, _) => write_refused_query(line, number),
         ConfigFault::Memory => Ok(()),
     }
 }
 
-/// How a call ends whose plan is refused.
-fn refuse_plan(alloc: Global, fault: ConfigFault) -> Ending
+/// Where these bytes stop being TOML, if they do.
+fn toml_fault(alloc: Global, bytes: &[u8]) -> Option<TomlFault> {
+    match toml::table_from_slice(alloc, bytes) {
+        Ok(_) => None,
+        Err(why) => Some(TomlFault::new(bytes, why)),
+    }
+}
+
+/// How a call ends whose plan has these bytes and is refused.
+fn refuse_plan(alloc: Global, bytes: &[u8], fault: ConfigFault) -> Ending
     ensures { EndsBy fault result }
 {
     if fault == ConfigFault::Memory {
         return Ending::Failed(Status::Memory);
     }
+    let toml = toml_fault(alloc, bytes);
     let mut line = Vec::new(alloc);
     match write_refusal(&mut line, fault) {
-        Ok(()) => Ending::Refused(line),
+        Ok(()) => Ending::Refused(line, Refusal { fault, toml }),
         Err(_) => Ending::Failed(Status::Memory),
     }
 }
@@ -64,6 +75,7 @@ fn load_plan<P: Source>(alloc: Global, plan: &mut P) -> Result<Plan, Ending>
     ensures legal { IfOk result (λ asked. IfSome (P.left plan.old) (λ bytes. IsPlan bytes (planned asked))) }
     ensures is_read { IfOk result IsRead }
     ensures refused { IfErr result (λ ending. ending_status ending ≡ Status.Plan → IfSome (P.left plan.old) (λ bytes. (refusal : Fault) × IsRefusal bytes refusal × (ending_line ending ≡ refusal_line refusal))) }
+    ensures told { IfErr result (λ ending. ending_status ending ≡ Status.Plan → TellsFault (P.left plan.old) (ending_refusal ending)) }
     ensures line { IfErr result (λ ending. (ending_status ending ≡ Status.Plan) ⊎ (ending_line ending ≡ status_line (ending_status ending))) }
     ensures read { IfErr result (λ ending. ending_status ending ≡ Status.Read → Rose (P.faults plan.old) (P.faults plan.new)) }
     ensures limit { IfErr result (λ ending. ending_status ending ≡ Status.Limit → IsLonger 65536 (P.left plan.old)) }
@@ -78,12 +90,12 @@ fn load_plan<P: Source>(alloc: Global, plan: &mut P) -> Result<Plan, Ending>
     };
     match read_plan(alloc, &bytes) {
         Ok(asked) => Ok(asked),
-        Err(fault) => Err(refuse_plan(alloc, fault)),
+        Err(fault) => Err(refuse_plan(alloc, &bytes, fault)),
     }
 }
 
 /// Does with a plan what the command asks for.
-fn carry<I: Source, H: Host>(
+fn run_plan<I: Source, H: Host>(
     alloc: Global,
     command: Command,
     asked: &Plan,
@@ -92,8 +104,8 @@ fn carry<I: Source, H: Host>(
 ) -> Result<(), Status>
     requires is_read { IsRead asked.now }
     ensures completes { OnOk result ((all : List ℕ) → (command ≡ Command.Run → I.left input.old ≡ Some all) → Puts H.said H.clock H.since host.old host.new (ended (asked_text command (planned asked.now) all))) }
-    ensures stops { IfErr result (λ status. (all : List ℕ) → (command ≡ Command.Run → I.left input.old ≡ Some all) → (put : List ℕ) × Puts H.said H.clock H.since host.old host.new put × StopsAt status (asked_text command (planned asked.now) all) put) }
-    ensures stops_read { IfErr result (λ status. (status ≡ Status.Read) ⊎ (status ≡ Status.Limit) → StopsRead (asked_replies command (planned asked.now)) (I.left input.old) (I.left input.new) (Puts H.said H.clock H.since host.old host.new) status) }
+    ensures stops { IfErr result (λ status. (all : List ℕ) → (command ≡ Command.Run → I.left input.old ≡ Some all) → (put : List ℕ) × Puts H.said H.clock H.since host.old host.new put × StopsAt (status ≡ Status.Write) (asked_text command (planned asked.now) all) put) }
+    ensures stops_read { IfErr result (λ status. (status ≡ Status.Read) ⊎ (status ≡ Status.Limit) → StopsRead (asked_replies command (planned asked.now)) (I.left input.old) (I.left input.new) (Puts H.said H.clock H.since host.old host.new) (status ≡ Status.Limit)) }
     ensures at_end { OnOk result (command ≡ Command.Run → IsAtEnd (I.left input.new)) }
     ensures within { OnOk result (command ≡ Command.Run → IsWithin (2 ^ 50) (I.left input.old)) }
     ensures read { IsErrOf result Status.Read → Rose (I.faults input.old) (I.faults input.new) }
@@ -104,28 +116,35 @@ fn carry<I: Source, H: Host>(
     ensures later_out { H.out_faults host.old ≤ H.out_faults host.new }
 {
     match command {
-        Command::Run => serve(alloc, asked, input, host),
-        Command::Check => check(alloc, asked, host),
+        Command::Run => match answer_input(alloc, asked, input, host) {
+            Ok(()) => Ok(()),
+            Err(fault) => Err(Status::from(fault)),
+        },
+        Command::Check => match check(alloc, asked, host) {
+            Ok(()) => Ok(()),
+            Err(fault) => Err(Status::from(fault)),
+        },
     }
 }
 
 /// Reads the plan, and does with it what the command asks for.
-fn obey<P: Source, I: Source, H: Host>(
+fn run_command<P: Source, I: Source, H: Host>(
     alloc: Global,
     command: Command,
     plan: &mut P,
     input: &mut I,
     host: &mut H,
 ) -> Result<(), Ending>
-    ensures completes { OnOk result ((told : Told (Some command) (P.left plan.old) (I.left input.old)) → Puts H.said H.clock H.since host.old host.new (ended (text_of (Some command) told.asks told.input_bytes))) }
-    ensures stops { IfErr result (λ ending. (told : Told (Some command) (P.left plan.old) (I.left input.old)) → (put : List ℕ) × Puts H.said H.clock H.since host.old host.new put × StopsAt (ending_status ending) (text_of (Some command) told.asks told.input_bytes) put) }
-    ensures stops_read { IfErr result (λ ending. (ending_status ending ≡ Status.Read) ⊎ (ending_status ending ≡ Status.Limit) → (told : Told (Some command) (P.left plan.old) (I.left input.old)) →
-        StopsRead (replies_of (Some command) told.asks) (I.left input.old) (I.left input.new) (Puts H.said H.clock H.since host.old host.new) (ending_status ending)) }
-    ensures line { IfErr result (λ ending. (told : Told (Some command) (P.left plan.old) (I.left input.old)) → ending_line ending ≡ line_for told.asks (ending_status ending)) }
+    ensures completes { OnOk result ((told : ToldPlan (Some command) (P.left plan.old) (I.left input.old)) → Puts H.said H.clock H.since host.old host.new (ended (text_of (Some command) told.asks told.input_bytes))) }
+    ensures stops { IfErr result (λ ending. (told : ToldPlan (Some command) (P.left plan.old) (I.left input.old)) → (put : List ℕ) × Puts H.said H.clock H.since host.old host.new put × StopsAt (ending_status ending ≡ Status.Write) (text_of (Some command) told.asks told.input_bytes) put) }
+    ensures stops_read { IfErr result (λ ending. (ending_status ending ≡ Status.Read) ⊎ (ending_status ending ≡ Status.Limit) → (told : ToldPlan (Some command) (P.left plan.old) (I.left input.old)) →
+        StopsRead (replies_of (Some command) told.asks) (I.left input.old) (I.left input.new) (Puts H.said H.clock H.since host.old host.new) (ending_status ending ≡ Status.Limit)) }
+    ensures line { IfErr result (λ ending. (told : ToldPlan (Some command) (P.left plan.old) (I.left input.old)) → ending_line ending ≡ line_for told.asks (ending_status ending)) }
     ensures at_end { OnOk result (command ≡ Command.Run → IsAtEnd (I.left input.new)) }
     ensures legal { OnOk result (IsLegal (P.left plan.old)) }
     ensures within { OnOk result (command ≡ Command.Run → IsWithin (2 ^ 50) (I.left input.old)) }
     ensures refused { IfErr result (λ ending. ending_status ending ≡ Status.Plan → IsRefused (P.left plan.old)) }
+    ensures told { IfErr result (λ ending. ending_status ending ≡ Status.Plan → TellsFault (P.left plan.old) (ending_refusal ending)) }
     ensures read { IfErr result (λ ending. ending_status ending ≡ Status.Read → Rose (P.faults plan.old) (P.faults plan.new) ⊎ (IsLegal (P.left plan.old) × Rose (I.faults input.old) (I.faults input.new))) }
     ensures write { IfErr result (λ ending. ending_status ending ≡ Status.Write → IsLegal (P.left plan.old) × Rose (H.out_faults host.old) (H.out_faults host.new)) }
     ensures limit { IfErr result (λ ending. ending_status ending ≡ Status.Limit → IsLonger 65536 (P.left plan.old) ⊎ (IsLegal (P.left plan.old) × (command ≡ Command.Run) × IsLonger (2 ^ 50) (I.left input.old))) }
@@ -140,7 +159,7 @@ fn obey<P: Source, I: Source, H: Host>(
         Ok(asked) => asked,
         Err(ending) => return Err(ending),
     };
-    match carry(alloc, command, &asked, input, host) {
+    match run_plan(alloc, command, &asked, input, host) {
         Ok(()) => Ok(()),
         Err(status) => Err(Ending::Failed(status)),
     }
@@ -149,7 +168,7 @@ fn obey<P: Source, I: Source, H: Host>(
 /// Puts the last line of a call that ends early. Its own failure leaves the status.
 fn end<H: Host>(host: &mut H, ending: &Ending) -> Status
     ensures status { result ≡ ending_status ending.now }
-    ensures part { (part : List ℕ) × IsFront part (ending_line ending.now) × Puts H.said H.clock H.since host.old host.new part }
+    ensures part { (part : List ℕ) × IsPrefix part (ending_line ending.now) × Puts H.said H.clock H.since host.old host.new part }
     ensures whole { Puts H.said H.clock H.since host.old host.new (ending_line ending.now) ⊎ Rose (H.out_faults host.old) (H.out_faults host.new) }
     ensures later_out { H.out_faults host.old ≤ H.out_faults host.new }
 {
@@ -160,24 +179,25 @@ fn end<H: Host>(host: &mut H, ending: &Ending) -> Status
 }
 
 /// Carries out the words and ends with a status, clause by clause but for what follows from the causes.
-fn carry_out<P: Source, I: Source, H: Host>(
+fn run_words<P: Source, I: Source, H: Host>(
     alloc: Global,
     words: &[String],
     plan: &mut P,
     input: &mut I,
     host: &mut H,
+    refusal: &mut Option<Refusal>,
 ) -> Status
-    ensures complete_run { result ≡ Status.Ok → (told : Told (command_of words.now) (P.left plan.old) (I.left input.old)) →
+    ensures complete_run { result ≡ Status.Ok → (told : ToldPlan (command_of words.now) (P.left plan.old) (I.left input.old)) →
         Puts H.said H.clock H.since host.old host.new (ended (text_of (command_of words.now) told.asks told.input_bytes)) }
     ensures input_read { result ≡ Status.Ok → command_of words.now ≡ Some Command.Run → IsAtEnd (I.left input.new) }
-    ensures put_so_far { (told : Told (command_of words.now) (P.left plan.old) (I.left input.old)) → (put : List ℕ) × Puts H.said H.clock H.since host.old host.new put
+    ensures put_so_far { (told : ToldPlan (command_of words.now) (P.left plan.old) (I.left input.old)) → (put : List ℕ) × Puts H.said H.clock H.since host.old host.new put
         × IsPut (text_of (command_of words.now) told.asks told.input_bytes) (line_for told.asks result) put }
-    ensures last_line_whole { (told : Told (command_of words.now) (P.left plan.old) (I.left input.old)) → ((put : List ℕ) × Puts H.said H.clock H.since host.old host.new put
+    ensures last_line_whole { (told : ToldPlan (command_of words.now) (P.left plan.old) (I.left input.old)) → ((put : List ℕ) × Puts H.said H.clock H.since host.old host.new put
         × StopsWith (text_of (command_of words.now) told.asks told.input_bytes) (line_for told.asks result) put)
         ⊎ Rose (H.out_faults host.old) (H.out_faults host.new) }
-    ensures replies_put { (result ≡ Status.Read) ⊎ (result ≡ Status.Limit) → (told : Told (command_of words.now) (P.left plan.old) (I.left input.old)) →
+    ensures replies_put { (result ≡ Status.Read) ⊎ (result ≡ Status.Limit) → (told : ToldPlan (command_of words.now) (P.left plan.old) (I.left input.old)) →
         StopsRead (replies_of (command_of words.now) told.asks) (I.left input.old) (I.left input.new)
-        (λ text. Puts H.said H.clock H.since host.old host.new (text ++ line_for told.asks result)) result
+        (λ text. Puts H.said H.clock H.since host.old host.new (text ++ line_for told.asks result)) (result ≡ Status.Limit)
         ⊎ Rose (H.out_faults host.old) (H.out_faults host.new) }
     ensures usage_only { result ≡ Status.Usage → command_of words.now ≡ None }
     ensures usage_always { command_of words.now ≡ None → result ≡ Status.Usage }
@@ -186,6 +206,7 @@ fn carry_out<P: Source, I: Source, H: Host>(
     ensures read_only { result ≡ Status.Read → Rose (P.faults plan.old) (P.faults plan.new) ⊎ (IsLegal (P.left plan.old) × Rose (I.faults input.old) (I.faults input.new)) }
     ensures write_only { result ≡ Status.Write → IsLegal (P.left plan.old) × Rose (H.out_faults host.old) (H.out_faults host.new) }
     ensures limit_only { result ≡ Status.Limit → IsLonger 65536 (P.left plan.old) ⊎ (IsLegal (P.left plan.old) × (command_of words.now ≡ Some Command.Run) × IsLonger (2 ^ 50) (I.left input.old)) }
+    ensures refusal_told { result ≡ Status.Plan → TellsFault (P.left plan.old) refusal.new }
     ensures possible_only { IsPossible result }
     ensures usage_first { result ≡ Status.Usage → (plan.new ≡ plan.old) × (input.new ≡ input.old) }
     ensures plan_first { result ≡ Status.Plan → input.new ≡ input.old }
@@ -193,12 +214,16 @@ fn carry_out<P: Source, I: Source, H: Host>(
     ensures read_first { result ≡ Status.Read → (input.new ≡ input.old) ⊎ Rose (I.faults input.old) (I.faults input.new) }
     ensures check_alone { command_of words.now ≡ Some Command.Check → input.new ≡ input.old }
 {
+    *refusal = None;
     let Some(command) = Command::named(words) else {
         return end(host, &Ending::Failed(Status::Usage));
     };
-    match obey(alloc, command, plan, input, host) {
+    match run_command(alloc, command, plan, input, host) {
         Ok(()) => Status::Ok,
-        Err(ending) => end(host, &ending),
+        Err(ending) => {
+            *refusal = ending.refusal();
+            end(host, &ending)
+        }
     }
 }
 
@@ -215,26 +240,27 @@ pub fn railgun<P: Source, I: Source, H: Host>(
     plan: &mut P,
     input: &mut I,
     host: &mut H,
+    refusal: &mut Option<Refusal>,
 ) -> Status
     // At status Ok the input of a run was read to its end, and just the text that the definitions give was put out.
     ensures complete_run { result ≡ Status.Ok → (told : Told (command_of words.now) (P.left plan.old) (I.left input.old)) →
-        Puts H.said H.clock H.since host.old host.new (ended (text_of (command_of words.now) told.asks told.input_bytes)) }
+        SaysSo told.plan_bytes (λ asks. Puts H.said H.clock H.since host.old host.new (ended (text_of (command_of words.now) asks told.input_bytes))) }
     ensures input_read { result ≡ Status.Ok → command_of words.now ≡ Some Command.Run → IsAtEnd (I.left input.new) }
 
     // At each status, a front of that text was put out, or whole lines of it and a front of the status's last line.
-    ensures put_so_far { (told : Told (command_of words.now) (P.left plan.old) (I.left input.old)) → (put : List ℕ) × Puts H.said H.clock H.since host.old host.new put
-        × IsPut (text_of (command_of words.now) told.asks told.input_bytes) (line_for told.asks result) put }
+    ensures put_so_far { (told : Told (command_of words.now) (P.left plan.old) (I.left input.old)) → SaysSo told.plan_bytes (λ asks. (put : List ℕ) × Puts H.said H.clock H.since host.old host.new put
+        × IsPut (text_of (command_of words.now) asks told.input_bytes) (line_for asks result) put) }
 
     // Unless a put failed, that last line is whole.
-    ensures last_line_whole { (told : Told (command_of words.now) (P.left plan.old) (I.left input.old)) → ((put : List ℕ) × Puts H.said H.clock H.since host.old host.new put
-        × StopsWith (text_of (command_of words.now) told.asks told.input_bytes) (line_for told.asks result) put)
-        ⊎ Rose (H.out_faults host.old) (H.out_faults host.new) }
+    ensures last_line_whole { (told : Told (command_of words.now) (P.left plan.old) (I.left input.old)) → SaysSo told.plan_bytes (λ asks. ((put : List ℕ) × Puts H.said H.clock H.since host.old host.new put
+        × StopsWith (text_of (command_of words.now) asks told.input_bytes) (line_for asks result) put)
+        ⊎ Rose (H.out_faults host.old) (H.out_faults host.new)) }
 
     // Where the input could not be read on, each line that LF ended was answered, and the last line follows, unless a put failed.
     ensures replies_put { (result ≡ Status.Read) ⊎ (result ≡ Status.Limit) → (told : Told (command_of words.now) (P.left plan.old) (I.left input.old)) →
-        StopsRead (replies_of (command_of words.now) told.asks) (I.left input.old) (I.left input.new)
-        (λ text. Puts H.said H.clock H.since host.old host.new (text ++ line_for told.asks result)) result
-        ⊎ Rose (H.out_faults host.old) (H.out_faults host.new) }
+        SaysSo told.plan_bytes (λ asks. StopsRead (replies_of (command_of words.now) asks) (I.left input.old) (I.left input.new)
+        (λ text. Puts H.said H.clock H.since host.old host.new (text ++ line_for asks result)) (result ≡ Status.Limit)
+        ⊎ Rose (H.out_faults host.old) (H.out_faults host.new)) }
 
     // Each status has its cause. Memory alone is free.
     ensures usage_only { result ≡ Status.Usage → command_of words.now ≡ None }
@@ -245,6 +271,9 @@ pub fn railgun<P: Source, I: Source, H: Host>(
     ensures write_only { result ≡ Status.Write → IsLegal (P.left plan.old) × Rose (H.out_faults host.old) (H.out_faults host.new) }
     ensures limit_only { result ≡ Status.Limit → IsLonger 65536 (P.left plan.old) ⊎ (IsLegal (P.left plan.old) × (command_of words.now ≡ Some Command.Run) × IsLonger (2 ^ 50) (I.left input.old)) }
     ensures possible_only { IsPossible result }
+
+    // A plan that is refused is told by its fault, for standard error.
+    ensures refusal_told { result ≡ Status.Plan → TellsFault (P.left plan.old) refusal.new }
 
     // The words are looked at before the plan is read, and the plan before the input: where the plan is refused, too
     // long or can't be read, the input is left alone. A check leaves it alone in any case.
@@ -257,9 +286,9 @@ pub fn railgun<P: Source, I: Source, H: Host>(
     // Where no count of faults rose, the status is the one that words, plan and input call for, or Memory.
     ensures completes { (told : Told (command_of words.now) (P.left plan.old) (I.left input.old)) →
         ¬ (Rose (P.faults plan.old) (P.faults plan.new) ⊎ Rose (I.faults input.old) (I.faults input.new) ⊎ Rose (H.out_faults host.old) (H.out_faults host.new)) →
-        (result ≡ status_for (command_of words.now) told.plan_bytes told.asks told.input_bytes) ⊎ (result ≡ Status.Memory) }
+        SaysSo told.plan_bytes (λ asks. (result ≡ status_for (command_of words.now) told.plan_bytes asks told.input_bytes) ⊎ (result ≡ Status.Memory)) }
 {
-    carry_out(alloc, words, plan, input, host)
+    run_words(alloc, words, plan, input, host, refusal)
 }
 
 #[cfg(test)]

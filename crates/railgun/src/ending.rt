@@ -1,14 +1,24 @@
 ghost use Rattle.std.specs.Prelude.{◌≡◌};
-ghost use Rattle.railgun.specs.Call.{ending_status, ending_line};
+ghost use Rattle.railgun.specs.Call.{ending_status, ending_line, ending_refusal};
 
+use crate::report::TomlFault;
 use crate::status::Status;
 use rg_bytes::Memory;
+use rg_config::ConfigFault;
+
+/// Why a plan is refused.
+#[derive(Clone, Copy, Debug)]
+pub struct Refusal {
+    pub fault: ConfigFault,
+    /// Where the plan stops being TOML, if it isn't.
+    pub toml: Option<TomlFault>,
+}
 
 /// How a call ended before its end.
 #[derive(Debug, Drop)]
 pub enum Ending {
-    /// The plan was refused, which this line says, with its LF.
-    Refused(Vec<u8>),
+    /// The plan was refused, which this line says, with its LF, and why.
+    Refused(Vec<u8>, Refusal),
     /// It failed, or was refused for another cause.
     Failed(Status),
 }
@@ -41,8 +51,18 @@ impl Ending {
         ensures { result ≡ ending_status self.now }
     {
         match self {
-            Ending::Refused(_) => Status::Plan,
+            Ending::Refused(_, _) => Status::Plan,
             Ending::Failed(status) => *status,
+        }
+    }
+
+    /// Why the plan was refused, where it was.
+    pub fn refusal(&self) -> Option<Refusal>
+        ensures { result ≡ ending_refusal self.now }
+    {
+        match self {
+            Ending::Refused(_, refusal) => Some(*refusal),
+            Ending::Failed(_) => None,
         }
     }
 
@@ -51,7 +71,7 @@ impl Ending {
         ensures { result.now ≡ ending_line self.now }
     {
         match self {
-            Ending::Refused(line) => line,
+            Ending::Refused(line, _) => line,
             Ending::Failed(status) => status.last_line().as_bytes(),
         }
     }

@@ -1,21 +1,23 @@
 //! Answers each payment with exact metrics over windows that end at that payment.
 #![tactic(auto)]
 
-mod arrival;
 mod call;
 mod check;
 mod command;
 mod ending;
+mod fault;
+mod input;
 mod listing;
-mod put;
+mod next_line;
 mod real;
+mod report;
 mod run;
-mod serve;
 mod session;
 mod status;
 
 use crate::call::railgun;
 use crate::real::{FileSource, ReaderSource, WriterHost};
+use crate::report::Report;
 use crate::status::Status;
 use std::process::ExitCode;
 use std::{env, io};
@@ -43,7 +45,43 @@ fn start(rt: &HostRuntime) -> Status {
     let mut plan = FileSource::new(rt, path);
     let mut input = ReaderSource::new(rt.stdin());
     let mut host = WriterHost::new(rt.stdout());
-    railgun(rt.alloc(), &words, &mut plan, &mut input, &mut host)
+    let mut refusal = None;
+    let status = railgun(
+        rt.alloc(),
+        &words,
+        &mut plan,
+        &mut input,
+        &mut host,
+        &mut refusal,
+    );
+    let failure = named(path, plan.error())
+        .or(named("standard input", input.error()))
+        .or(named("standard output", host.error()));
+    tell(
+        rt,
+        Report {
+            status,
+            plan: path,
+            refusal,
+            failure,
+        },
+    );
+    status
+}
+
+/// A file or stream, by its name, that failed for this reason.
+fn named(name: &str, error: Option<io::Error>) -> Option<(&str, io::Error)> {
+    match error {
+        Some(error) => Some((name, error)),
+        None => None,
+    }
+}
+
+/// Tells standard error of a call that ended early. That this fails changes nothing.
+fn tell(rt: &HostRuntime, report: Report) {
+    if report.status != Status::Ok {
+        let _ = rt.eprintln(report);
+    }
 }
 
 fn main(rt: HostRuntime) -> ExitCode {

@@ -9,11 +9,12 @@ ghost use Rattle.rg_plan.specs.Plans.{plan_for};
 ghost use Rattle.rg_engine.specs.Feeding.{IsFed};
 ghost use Rattle.railgun.specs.Session.{Follows};
 ghost use Rattle.railgun.specs.Steady.{IsSteady};
-ghost use Rattle.railgun.specs.Output.{verdict_of, with_verdict, reply_of};
+ghost use Rattle.rg_verdict.specs.Verdicts.{verdict_of, accepted_after, reply_of};
 
 use rg_bytes::Memory;
-use rg_engine::{Answers, Engine, EngineFault, Reply};
+use rg_engine::{Engine, EngineFault};
 use rg_event::{Event, Steps};
+use rg_metric::{Answers, Reply};
 use rg_past::{Past, PastFault, VecPast};
 use rg_plan::TaskPlan;
 use rg_state::MemTable;
@@ -83,7 +84,7 @@ impl Session {
     pub fn answer(&mut self, look: Result<Event, Reply>) -> Result<Reply, Memory>
         requires { Follows self.old.queries self.old.events look }
         ensures reply { IfOk result (λ reply. reply ≡ reply_of self.old.queries self.old.events (verdict_of self.old.most self.old.events look)) }
-        ensures events { OnOk result (self.new.events ≡ with_verdict self.old.events (verdict_of self.old.most self.old.events look)) }
+        ensures events { OnOk result (self.new.events ≡ accepted_after self.old.events (verdict_of self.old.most self.old.events look)) }
         ensures same { (self.new.queries ≡ self.old.queries) × (self.new.most ≡ self.old.most) }
     {
         let event = match look {

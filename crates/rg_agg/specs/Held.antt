@@ -11,7 +11,7 @@ use Rattle.rg_event.specs.declared.value.Value.{Value}
 use Rattle.rg_event.specs.declared.value.Value.TheVariants.{Int, Id, Text, Flag}
 
 -- what a state keeps of its values: how many, how many and their sum (for a mean, or of squares), all of them, how many and the last one,
--- or each value once with how often it is there (for a least, a greatest, or a distinct count)
+-- how many and those that may still become the least or the greatest, each with its number, or each value once with how often it is there
 pub data Held : Type 0 where
   counted : ℕ → Held
   summed : ℕ → ℤ → Held
@@ -19,8 +19,8 @@ pub data Held : Type 0 where
   squared : ℕ → ℤ → Held
   queued : List Value → Held
   ended : ℕ → Option Value → Held
-  lowest : List (Value × ℕ) → Held
-  highest : List (Value × ℕ) → Held
+  lowest : ℕ → List (Value × ℕ) → Held
+  highest : ℕ → List (Value × ℕ) → Held
   varied : List (Value × ℕ) → Held
 
 -- 16 bytes of two's complement
@@ -45,7 +45,11 @@ pairs_bytes (pair ∷ pairs) = tagged_bytes pair.0 ++ (to_be_bytes w64 pair.1 ++
 abbrev pub counts_bytes : ℕ → List (Value × ℕ) → List ℕ
 counts_bytes tag pairs = tag ∷ (to_be_bytes w64 (length pairs) ++ pairs_bytes pairs)
 
--- a tag, the number of values in 8 bytes, and what else is kept
+-- a tag, the number of values and that of pairs in 8 bytes each, and the pairs
+abbrev pub extreme_bytes : ℕ → ℕ → List (Value × ℕ) → List ℕ
+extreme_bytes tag n pairs = tag ∷ (to_be_bytes w64 n ++ (to_be_bytes w64 (length pairs) ++ pairs_bytes pairs))
+
+-- a tag, the number of values in 8 bytes, and what else is kept; the tags of a least and of a greatest value are 15 and 16 in hexadecimal
 abbrev pub held_bytes : Held → List ℕ
 held_bytes (counted n) = 1 ∷ to_be_bytes w64 n
 held_bytes (summed n sum) = 2 ∷ (to_be_bytes w64 n ++ sum_bytes sum)
@@ -53,8 +57,8 @@ held_bytes (averaged n sum) = 3 ∷ (to_be_bytes w64 n ++ sum_bytes sum)
 held_bytes (squared n sum) = 4 ∷ (to_be_bytes w64 n ++ sum_bytes sum)
 held_bytes (queued values) = 8 ∷ (to_be_bytes w64 (length values) ++ tagged_list values)
 held_bytes (ended n last) = 9 ∷ (to_be_bytes w64 n ++ last_bytes last)
-held_bytes (lowest pairs) = counts_bytes 5 pairs
-held_bytes (highest pairs) = counts_bytes 6 pairs
+held_bytes (lowest n pairs) = extreme_bytes 21 n pairs
+held_bytes (highest n pairs) = extreme_bytes 22 n pairs
 held_bytes (varied pairs) = counts_bytes 7 pairs
 
 -- what some bytes begin with, and the bytes behind it; or why they begin with none

@@ -2,3 +2,4 @@ pub mod Held
 pub mod Stands
 pub mod Numbers
 pub mod Standing
+pub mod Unbeaten

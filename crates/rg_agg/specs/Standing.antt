@@ -8,6 +8,7 @@ use Rattle.rg_words.specs.declared.func.Func.TheVariants.{Count, Sum, Avg, SumSq
 use Rattle.rg_metric.specs.Same.{same_value}
 use Rattle.rg_agg.specs.Held.{Held, counted, summed, averaged, squared, queued, ended, lowest, highest, varied}
 use Rattle.rg_agg.specs.Stands.{IsTotal, IsSquareTotal, IsEnd}
+use Rattle.rg_agg.specs.Unbeaten.{IsExtreme, is_less, is_greater}
 
 -- the function whose state keeps this
 abbrev pub func_of : Held → Func
@@ -17,8 +18,8 @@ func_of (averaged n sum) = Avg
 func_of (squared n sum) = SumSq
 func_of (queued values) = First
 func_of (ended n last) = Last
-func_of (lowest pairs) = Min
-func_of (highest pairs) = Max
+func_of (lowest n pairs) = Min
+func_of (highest n pairs) = Max
 func_of (varied pairs) = CountDistinct
 
 -- how often all values of some pairs are there
@@ -34,8 +35,8 @@ size_in (averaged n sum) = n
 size_in (squared n sum) = n
 size_in (queued values) = length values
 size_in (ended n last) = n
-size_in (lowest pairs) = counts_sum pairs
-size_in (highest pairs) = counts_sum pairs
+size_in (lowest n pairs) = n
+size_in (highest n pairs) = n
 size_in (varied pairs) = counts_sum pairs
 
 abbrev pub first_kind : List Value → Option Kind
@@ -58,8 +59,8 @@ kind_in (averaged n sum) = None
 kind_in (squared n sum) = None
 kind_in (queued values) = first_kind values
 kind_in (ended n last) = seen_kind last
-kind_in (lowest pairs) = pairs_kind pairs
-kind_in (highest pairs) = pairs_kind pairs
+kind_in (lowest n pairs) = pairs_kind pairs
+kind_in (highest n pairs) = pairs_kind pairs
 kind_in (varied pairs) = pairs_kind pairs
 
 -- the value is of that kind, if there is one
@@ -93,6 +94,6 @@ Stands (averaged n sum) values = IsTotal n sum values
 Stands (squared n sum) values = IsSquareTotal n sum values
 Stands (queued kept) values = kept ≡ values
 Stands (ended n last) values = IsEnd n last values
-Stands (lowest pairs) values = AreCounts pairs values
-Stands (highest pairs) values = AreCounts pairs values
+Stands (lowest n pairs) values = IsExtreme is_less n pairs values
+Stands (highest n pairs) values = IsExtreme is_greater n pairs values
 Stands (varied pairs) values = AreCounts pairs values

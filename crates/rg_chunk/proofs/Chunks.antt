@@ -1,10 +1,8 @@
 -- The payload of a chunk, as it is read and written.
-use Rattle.std.proofs.Common.{◌≡◌, ◌⊎◌, inl, inr, ℕ, ◌+◌, ◌-◌, ◌<◌, ◌≤◌, ◌^◌, nat_le, ◌&&◌, Bool, true, false, List, [], ◌∷◌, ◌++◌, length, Option, Some, None, Result, Ok, Err, refl, ap, sym, ◌∙◌, arith, append_assoc, append-nil, add-one, drop-cons, get_or, drop, suc}
-use Rattle.std.proofs.lemmas.Grind.{common_steps}
+use Rattle.std.proofs.Common.{◌≡◌, ◌⊎◌, inl, inr, ℕ, ◌+◌, ◌-◌, ◌<◌, ◌≤◌, ◌^◌, Bool, true, false, List, [], ◌∷◌, ◌++◌, length, Option, Some, None, Result, Ok, Err, refl, ap, sym, ◌∙◌, arith, append_assoc, append-nil, add-one, drop-cons, get_or, drop, suc}
 use Rattle.std.proofs.lemmas.Bool.Decides.{nat_tests}
 use Rattle.std.specs.List.{All}
 use Rattle.std.proofs.lemmas.List.Elements.{All-head, All-tail}
-use Rattle.std.specs.Int.{w64}
 use Rattle.rg_bytes.specs.Reading.{Reading as ReadingWith, and_then, tested, more_at, list_bytes, whole, u8_at, u32_at}
 use Rattle.rg_bytes.proofs.Lists.{StepsBack, more_back, step_stops}
 use Rattle.rg_event.specs.Codec.{Reading, IsEventOf, event_at, event_bytes}

@@ -1,9 +1,8 @@
 -- The head of a payload, as it is read and written.
-use Rattle.std.proofs.Common.{◌≡◌, ◌⊎◌, inl, inr, ℕ, ◌<◌, ◌≤◌, ◌^◌, ◌&&◌, ◌==◌, Bool, true, false, List, [], ◌∷◌, ◌++◌, length, Result, Ok, Err, refl, ap, sym, ◌∙◌, arith, append_assoc}
-use Rattle.std.proofs.lemmas.Grind.{common_steps}
+use Rattle.std.proofs.Common.{◌≡◌, ℕ, ◌<◌, ◌≤◌, ◌^◌, Bool, true, List, ◌∷◌, ◌++◌, length, Result, Ok, Err, refl, arith, append_assoc}
 use Rattle.std.proofs.lemmas.Bool.Decides.{nat_tests}
 use Rattle.std.specs.Int.{w32, w64, to_be_bytes}
-use Rattle.rg_bytes.specs.Reading.{Reading as ReadingWith, and_then, tested, u8_at, u32_at, u64_at}
+use Rattle.rg_bytes.specs.Reading.{tested}
 use Rattle.rg_bytes.proofs.Reading.{u8_read, u8_short, u32_read, u32_short, u64_read, u64_short}
 use Rattle.rg_event.specs.declared.codec.EventFault.{EventFault}
 use Rattle.rg_event.specs.declared.codec.EventFault.TheVariants.{Short, BadValue}
@@ -12,7 +11,7 @@ use Rattle.rg_chunk.specs.declared.head.ChunkHead.{ChunkHead}
 use Rattle.rg_event.specs.Codec.{Reading}
 use Rattle.std.proofs.lemmas.Result.{err_from_is_err_and}
 use Rattle.std.specs.Result.{IsErrAnd}
-use Rattle.rg_chunk.specs.Heads.{Reads, stamp_at, stamp_bytes, is_known, head_at, head_bytes, head_for, is_head_of, first_stamp, last_stamp, IsHead}
+use Rattle.rg_chunk.specs.Heads.{Reads, stamp_at, is_known, head_at, head_bytes, head_for, is_head_of, first_stamp, last_stamp, IsHead}
 
 -- a call that hands on that bytes are too few
 pub reads_short : {A : Type 0} (reading : Reading A) (result : Result A EventFault) (left : List ℕ) → IsErrAnd result (λ fault. fault ≡ Short) → reading ≡ Err Short → Reads reading result left

@@ -1,5 +1,5 @@
 -- The last event of a list.
-use Rattle.std.proofs.Common.{◌≡◌, ℕ, suc, ◌-◌, ◌<◌, List, [], ◌∷◌, length, get_or, refl, arith}
+use Rattle.std.proofs.Common.{◌≡◌, suc, ◌-◌, ◌<◌, List, [], ◌∷◌, length, get_or, refl, arith}
 use Rattle.rg_event.specs.declared.event.Event.{Event}
 use Rattle.rg_chunk.specs.Heads.{last_stamp}
 

@@ -1,5 +1,5 @@
 -- Chunks of events, and their payloads.
-use Rattle.std.specs.Prelude.{◌≡◌, ℕ, ◌≤◌, nat_le, ◌&&◌, Bool, List, [], ◌∷◌, ◌++◌, length, All, Option, Some, None, Result, Ok, Err, ⊤}
+use Rattle.std.specs.Prelude.{◌≡◌, ℕ, ◌≤◌, nat_le, ◌&&◌, Bool, List, [], ◌++◌, length, All, Option, Some, None, Result, Ok, Err, ⊤}
 use Rattle.rg_bytes.specs.Reading.{and_then, tested, more_at, list_bytes, whole}
 use Rattle.rg_event.specs.Codec.{Reading, IsEventOf, event_at, event_bytes}
 use Rattle.rg_event.specs.Rising.{IsRising, next_offset, last_time}

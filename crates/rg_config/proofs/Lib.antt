@@ -1,3 +1,6 @@
 pub mod Legal
 pub mod One
 pub mod Taken
+pub mod Total
+pub mod Judged
+pub mod Rests

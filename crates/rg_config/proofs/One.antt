@@ -7,10 +7,12 @@ use Rattle.rg_event.proofs.Readable.{read_back}
 use Rattle.rg_metric.specs.Queries.{Asked}
 use Rattle.rg_query.proofs.One.{one_query}
 use Rattle.rg_config.specs.Documents.{document, stream_of, rest_of, Settings}
-use Rattle.rg_config.specs.Plans.{Planned, HasStream, NoStream, IsTaken, IsRefused, AllTaken, FirstRefused, Says, Tells, Agrees, planned, within_bounds}
+use Rattle.rg_config.specs.Plans.{Planned, HasStream, NoStream, IsJudged, IsTaken, IsRefused, AllTaken, FirstRefused, Says, Tells, Agrees, planned, judged}
 use Rattle.rg_config.specs.declared.plan.Plan.{Plan}
 use Rattle.rg_config.specs.declared.fault.ConfigFault.{ConfigFault}
-use Rattle.rg_config.specs.declared.fault.ConfigFault.TheVariants.{Toml, Stream, Settings as SettingsFault, Query, Memory}
+use Rattle.rg_config.specs.declared.fault.ConfigFault.TheVariants.{Toml, Stream, Settings as BadSettings, Query, Memory}
+use Rattle.rg_config.specs.declared.fault.SettingsFault.{SettingsFault}
+use Rattle.rg_config.specs.declared.fault.QueryRefusal.{QueryRefusal}
 
 same_some : {A : Type 0} → (o : Option A) (a b : A) → o ≡ Some a → o ≡ Some b → a ≡ b
 same_some o a b is also = cc
@@ -28,23 +30,25 @@ one_stream top s t has also =
     let text : has.text ≡ also.text = same_some (stream_of top) has.text also.text has.described also.described in
     same_shape has.text s t has.legal also.legal has.is (text ∙ also.is)
 
--- a text asks one query
-one_taken : (number : ℕ) (shape : Shape) (text : List ℕ) (q r : Asked) → IsTaken number shape text q → IsTaken number shape text r → q ≡ r
-one_taken number shape text q r is also =
-    let same = one_query shape text (Ok q) (Ok r) is.says also.says in
-    cc
+-- a text is judged in one way
+one_judgement : (number : ℕ) (shape : Shape) (text : List ℕ) (said other : Result Asked QueryRefusal) → IsJudged number shape text said → IsJudged number shape text other → said ≡ other
+one_judgement number shape text said other is also =
+    sym is.is ∙ (ap judged (one_query shape text is.read also.read is.says also.says) ∙ also.is)
 
--- and isn't refused then
-not_refused : (number : ℕ) (shape : Shape) (text : List ℕ) (q : Asked) → IsTaken number shape text q → IsRefused number shape text → ⊥
-not_refused number shape text q is (inl many) = absurd (omega (arith, is.few))
-not_refused number shape text q is (inr (inl unread)) =
-    let same = one_query shape text (Ok q) (Err unread.fault) is.says unread.says in
-    absurd cc
-not_refused number shape text q is (inr (inr long)) =
-    let same = one_query shape text (Ok q) (Ok long.query) is.says long.says in
-    let asked : q ≡ long.query = cc in
-    let bounds : within_bounds q ≡ false = ap within_bounds asked ∙ long.bounds in
-    absurd cc
+one_taken : (number : ℕ) (shape : Shape) (text : List ℕ) (q r : Asked) → IsTaken number shape text q → IsTaken number shape text r → q ≡ r
+one_taken number shape text q r is also = let same = one_judgement number shape text (Ok q) (Ok r) is also in cc
+
+-- one that is taken isn't refused
+not_refused : (number : ℕ) (shape : Shape) (text : List ℕ) (q : Asked) (refusal : QueryRefusal) → IsTaken number shape text q → IsRefused number shape text refusal → ⊥
+not_refused number shape text q refusal is (inl many) = absurd (omega (arith, is.few, many.0))
+not_refused number shape text q refusal is (inr judged) = let same = one_judgement number shape text (Ok q) (Err refusal) is judged in absurd cc
+
+-- and one that is refused is so for one cause
+one_refusal : (number : ℕ) (shape : Shape) (text : List ℕ) (refusal other : QueryRefusal) → IsRefused number shape text refusal → IsRefused number shape text other → refusal ≡ other
+one_refusal number shape text refusal other (inl many) (inl also) = many.1 ∙ sym also.1
+one_refusal number shape text refusal other (inl many) (inr judged) = absurd (omega (arith, many.0, judged.few))
+one_refusal number shape text refusal other (inr judged) (inl many) = absurd (omega (arith, many.0, judged.few))
+one_refusal number shape text refusal other (inr judged) (inr also) = let same = one_judgement number shape text (Err refusal) (Err other) judged also in cc
 
 -- texts ask one list of queries
 one_list : (number : ℕ) (shape : Shape) (texts : List (List ℕ)) (qs rs : List Asked) → AllTaken number shape texts qs → AllTaken number shape texts rs → qs ≡ rs
@@ -60,56 +64,57 @@ one_list number shape (text ∷ texts) (q ∷ qs) (r ∷ rs) all also =
 
 -- where all are taken none is refused
 none_refused :
-    (number : ℕ) (shape : Shape) (front rest : List (List ℕ)) (text : List ℕ) (qs : List Asked)
-    → AllTaken number shape (front ++ text ∷ rest) qs → IsRefused (number + length front) shape text → ⊥
-none_refused number shape [] rest text [] all refused = absurd all
-none_refused number shape [] rest text (q ∷ qs) all refused =
+    (number : ℕ) (shape : Shape) (front rest : List (List ℕ)) (text : List ℕ) (refusal : QueryRefusal) (qs : List Asked)
+    → AllTaken number shape (front ++ text ∷ rest) qs → IsRefused (number + length front) shape text refusal → ⊥
+none_refused number shape [] rest text refusal [] all refused = absurd all
+none_refused number shape [] rest text refusal (q ∷ qs) all refused =
     let place : number + 0 ≡ number = omega arith in
-    not_refused number shape text q all.0 (subst (λ n. IsRefused n shape text) place refused)
-none_refused number shape (first ∷ front) rest text [] all refused = absurd all
-none_refused number shape (first ∷ front) rest text (q ∷ qs) all refused =
+    not_refused number shape text q refusal all.0 (subst (λ n. IsRefused n shape text refusal) place refused)
+none_refused number shape (first ∷ front) rest text refusal [] all refused = absurd all
+none_refused number shape (first ∷ front) rest text refusal (q ∷ qs) all refused =
     let place : number + suc (length front) ≡ suc number + length front = omega arith in
-    none_refused (suc number) shape front rest text qs all.1 (subst (λ n. IsRefused n shape text) place refused)
+    none_refused (suc number) shape front rest text refusal qs all.1 (subst (λ n. IsRefused n shape text refusal) place refused)
 
 -- the text that is refused first stands at one place
 one_place :
-    (number : ℕ) (shape : Shape) (front rest also_front also_rest : List (List ℕ)) (text also_text : List ℕ) (qs rs : List Asked)
+    (number : ℕ) (shape : Shape) (front rest also_front also_rest : List (List ℕ)) (text also_text : List ℕ) (refusal other : QueryRefusal) (qs rs : List Asked)
     → front ++ text ∷ rest ≡ also_front ++ also_text ∷ also_rest
-    → AllTaken number shape front qs → IsRefused (number + length front) shape text
-    → AllTaken number shape also_front rs → IsRefused (number + length also_front) shape also_text
-    → length front ≡ length also_front
-one_place number shape [] rest [] also_rest text also_text qs rs same all refused also differs = refl
-one_place number shape [] rest (first ∷ also_front) also_rest text also_text qs [] same all refused also differs = absurd also
-one_place number shape [] rest (first ∷ also_front) also_rest text also_text qs (r ∷ rs) same all refused also differs =
+    → AllTaken number shape front qs → IsRefused (number + length front) shape text refusal
+    → AllTaken number shape also_front rs → IsRefused (number + length also_front) shape also_text other
+    → (length front ≡ length also_front) × (text ≡ also_text)
+one_place number shape [] rest [] also_rest text also_text refusal other qs rs same all refused also differs = (refl, cc)
+one_place number shape [] rest (first ∷ also_front) also_rest text also_text refusal other qs [] same all refused also differs = absurd also
+one_place number shape [] rest (first ∷ also_front) also_rest text also_text refusal other qs (r ∷ rs) same all refused also differs =
     let place : number + 0 ≡ number = omega arith in
     let here : text ≡ first = cc in
-    absurd (not_refused number shape first r also.0 (subst (λ t. IsRefused number shape t) here (subst (λ n. IsRefused n shape text) place refused)))
-one_place number shape (first ∷ front) rest [] also_rest text also_text [] rs same all refused also differs = absurd all
-one_place number shape (first ∷ front) rest [] also_rest text also_text (q ∷ qs) rs same all refused also differs =
+    absurd (not_refused number shape first r refusal also.0 (subst (λ t. IsRefused number shape t refusal) here (subst (λ n. IsRefused n shape text refusal) place refused)))
+one_place number shape (first ∷ front) rest [] also_rest text also_text refusal other [] rs same all refused also differs = absurd all
+one_place number shape (first ∷ front) rest [] also_rest text also_text refusal other (q ∷ qs) rs same all refused also differs =
     let place : number + 0 ≡ number = omega arith in
     let here : also_text ≡ first = cc in
-    absurd (not_refused number shape first q all.0 (subst (λ t. IsRefused number shape t) here (subst (λ n. IsRefused n shape also_text) place differs)))
-one_place number shape (first ∷ front) rest (other ∷ also_front) also_rest text also_text [] rs same all refused also differs = absurd all
-one_place number shape (first ∷ front) rest (other ∷ also_front) also_rest text also_text (q ∷ qs) [] same all refused also differs = absurd also
-one_place number shape (first ∷ front) rest (other ∷ also_front) also_rest text also_text (q ∷ qs) (r ∷ rs) same all refused also differs =
+    absurd (not_refused number shape first q other all.0 (subst (λ t. IsRefused number shape t other) here (subst (λ n. IsRefused n shape also_text other) place differs)))
+one_place number shape (first ∷ front) rest (second ∷ also_front) also_rest text also_text refusal other [] rs same all refused also differs = absurd all
+one_place number shape (first ∷ front) rest (second ∷ also_front) also_rest text also_text refusal other (q ∷ qs) [] same all refused also differs = absurd also
+one_place number shape (first ∷ front) rest (second ∷ also_front) also_rest text also_text refusal other (q ∷ qs) (r ∷ rs) same all refused also differs =
     let tails : front ++ text ∷ rest ≡ also_front ++ also_text ∷ also_rest = cc in
     let place : number + suc (length front) ≡ suc number + length front = omega arith in
     let also_place : number + suc (length also_front) ≡ suc number + length also_front = omega arith in
-    ap suc (one_place (suc number) shape front rest also_front also_rest text also_text qs rs tails
-    all.1 (subst (λ n. IsRefused n shape text) place refused)
-    also.1 (subst (λ n. IsRefused n shape also_text) also_place differs))
+    let here = one_place (suc number) shape front rest also_front also_rest text also_text refusal other qs rs tails
+    all.1 (subst (λ n. IsRefused n shape text refusal) place refused)
+    also.1 (subst (λ n. IsRefused n shape also_text other) also_place differs) in
+    (ap suc here.0, here.1)
 
 -- What is said, stage by stage: the queries of a schema, what stands beside the stream, the table, the bytes
 
 abbrev QueriesSay : Shape → List (List ℕ) → Settings → Result Planned ConfigFault → Type 0
 QueriesSay shape texts settings said =
     ((queries : List Asked) × ((said ≡ Ok (record { shape = shape; queries = queries; settings = settings })) × AllTaken 0 shape texts queries))
-    ⊎ ((number : ℕ) × ((said ≡ Err (Query number)) × FirstRefused shape texts number))
+    ⊎ ((number : ℕ) × (refusal : QueryRefusal) × (said ≡ Err (Query number refusal)) × FirstRefused shape texts number refusal)
 
 abbrev RestSays : Members → Shape → Result Planned ConfigFault → Type 0
 RestSays top shape said =
-    ((said ≡ Err SettingsFault) × (rest_of top ≡ None))
-    ⊎ ((rest : List (List ℕ) × Settings) × ((rest_of top ≡ Some rest) × QueriesSay shape rest.0 rest.1 said))
+    ((fault : SettingsFault) × (said ≡ Err (BadSettings fault)) × (rest_of top ≡ Err fault))
+    ⊎ ((rest : List (List ℕ) × Settings) × ((rest_of top ≡ Ok rest) × QueriesSay shape rest.0 rest.1 said))
 
 abbrev TopSays : Members → Result Planned ConfigFault → Type 0
 TopSays top said = ((said ≡ Err Stream) × NoStream top) ⊎ ((shape : Shape) × (HasStream top shape × RestSays top shape said))
@@ -122,43 +127,55 @@ staged bytes (Ok plan) says =
     inr (says.top, (says.document, inr (plan.shape, (says.stream, inr ((says.texts, plan.settings), (says.rest, inl (plan.queries, (refl, says.queries))))))))
 staged bytes (Err Toml) says = inl (refl, says)
 staged bytes (Err Stream) says = inr (says.top, (says.document, inl (refl, says.none)))
-staged bytes (Err SettingsFault) says = inr (says.top, (says.document, inr (says.shape, (says.stream, inl (refl, says.none)))))
-staged bytes (Err (Query number)) says =
-    inr (says.top, (says.document, inr (says.shape, (says.stream, inr ((says.texts, says.settings), (says.rest, inr (number, (refl, says.first))))))))
+staged bytes (Err (BadSettings fault)) says = inr (says.top, (says.document, inr (says.shape, (says.stream, inl (fault, refl, says.none)))))
+staged bytes (Err (Query number refusal)) says =
+    inr (says.top, (says.document, inr (says.shape, (says.stream, inr ((says.texts, says.settings), (says.rest, inr (number, refusal, refl, says.first)))))))
 staged bytes (Err Memory) says = absurd says
 
-refused_there : (shape : Shape) (texts : List (List ℕ)) (n : ℕ) (first : FirstRefused shape texts n) → IsRefused (0 + length first.front) shape first.text
-refused_there shape texts n first =
+refused_there :
+    (shape : Shape) (texts : List (List ℕ)) (n : ℕ) (refusal : QueryRefusal) (first : FirstRefused shape texts n refusal)
+    → IsRefused (0 + length first.front) shape first.text refusal
+refused_there shape texts n refusal first =
     let place : length first.front ≡ 0 + length first.front = omega arith in
-    subst (λ i. IsRefused i shape first.text) (first.place ∙ place) first.refused
+    subst (λ i. IsRefused i shape first.text refusal) (first.place ∙ place) first.refused
+
+-- the first text that is refused, and its cause, are one
+one_first :
+    (shape : Shape) (texts : List (List ℕ)) (n m : ℕ) (refusal other : QueryRefusal)
+    → FirstRefused shape texts n refusal → FirstRefused shape texts m other → (n ≡ m) × (refusal ≡ other)
+one_first shape texts n m refusal other first next =
+    let same = one_place 0 shape first.front first.rest next.front next.rest first.text next.text refusal other first.queries next.queries
+    (sym first.split ∙ next.split)
+    first.taken (refused_there shape texts n refusal first)
+    next.taken (refused_there shape texts m other next) in
+    let number : n ≡ m = first.place ∙ (same.0 ∙ sym next.place) in
+    (number, one_refusal m shape next.text refusal other (subst (λ t. IsRefused m shape t refusal) same.1 (subst (λ i. IsRefused i shape first.text refusal) number first.refused)) next.refused)
 
 one_of_queries :
     (shape : Shape) (texts : List (List ℕ)) (settings : Settings) (said other : Result Planned ConfigFault)
     → QueriesSay shape texts settings said → QueriesSay shape texts settings other → said ≡ other
 one_of_queries shape texts settings said other (inl (qs, (is, all))) (inl (rs, (also, taken))) =
     is ∙ (ap (λ queries. Ok (record { shape = shape; queries = queries; settings = settings })) (one_list 0 shape texts qs rs all taken) ∙ sym also)
-one_of_queries shape texts settings said other (inl (qs, (is, all))) (inr (n, (also, first))) =
-    absurd (none_refused 0 shape first.front first.rest first.text qs
+one_of_queries shape texts settings said other (inl (qs, (is, all))) (inr (n, refusal, also, first)) =
+    absurd (none_refused 0 shape first.front first.rest first.text refusal qs
     (subst (λ ts. AllTaken 0 shape ts qs) first.split all)
-    (refused_there shape texts n first))
-one_of_queries shape texts settings said other (inr (n, (is, first))) (inl (rs, (also, taken))) =
-    absurd (none_refused 0 shape first.front first.rest first.text rs
+    (refused_there shape texts n refusal first))
+one_of_queries shape texts settings said other (inr (n, refusal, is, first)) (inl (rs, (also, taken))) =
+    absurd (none_refused 0 shape first.front first.rest first.text refusal rs
     (subst (λ ts. AllTaken 0 shape ts rs) first.split taken)
-    (refused_there shape texts n first))
-one_of_queries shape texts settings said other (inr (n, (is, first))) (inr (m, (also, next))) =
-    let same : length first.front ≡ length next.front = one_place 0 shape first.front first.rest next.front next.rest first.text next.text first.queries next.queries
-    (sym first.split ∙ next.split)
-    first.taken (refused_there shape texts n first)
-    next.taken (refused_there shape texts m next) in
-    let number : n ≡ m = first.place ∙ (same ∙ sym next.place) in
-    is ∙ (ap (λ i. Err (Query i)) number ∙ sym also)
+    (refused_there shape texts n refusal first))
+one_of_queries shape texts settings said other (inr (n, refusal, is, first)) (inr (m, also_refusal, also, next)) =
+    let same = one_first shape texts n m refusal also_refusal first next in
+    is ∙ (ap (λ i. Err (Query i refusal)) same.0 ∙ (ap (λ r. Err (Query m r)) same.1 ∙ sym also))
 
 one_of_rest : (top : Members) (shape : Shape) (said other : Result Planned ConfigFault) → RestSays top shape said → RestSays top shape other → said ≡ other
-one_of_rest top shape said other (inl (is, none)) (inl (also, missing)) = is ∙ sym also
-one_of_rest top shape said other (inl (is, none)) (inr (rest, (some, says))) = absurd (not_both (rest_of top) rest some none)
-one_of_rest top shape said other (inr (rest, (some, says))) (inl (also, missing)) = absurd (not_both (rest_of top) rest some missing)
+one_of_rest top shape said other (inl (fault, is, none)) (inl (cause, also, missing)) =
+    let same : fault ≡ cause = cc in
+    is ∙ (ap (λ f. Err (BadSettings f)) same ∙ sym also)
+one_of_rest top shape said other (inl (fault, is, none)) (inr (rest, (some, says))) = absurd cc
+one_of_rest top shape said other (inr (rest, (some, says))) (inl (fault, also, missing)) = absurd cc
 one_of_rest top shape said other (inr (rest, (some, says))) (inr (more, (also, tells))) =
-    let same : more ≡ rest = same_some (rest_of top) more rest also some in
+    let same : more ≡ rest = cc in
     one_of_queries shape rest.0 rest.1 said other says (subst (λ r. QueriesSay shape r.0 r.1 other) same tells)
 
 one_of_top : (top : Members) (said other : Result Planned ConfigFault) → TopSays top said → TopSays top other → said ≡ other
@@ -186,5 +203,5 @@ agrees bytes (Ok plan) tells said says = one_plan bytes said (Ok (planned plan))
 agrees bytes (Err Memory) tells said says = inr refl
 agrees bytes (Err Toml) tells said says = inl (one_plan bytes said (Err Toml) says tells)
 agrees bytes (Err Stream) tells said says = inl (one_plan bytes said (Err Stream) says tells)
-agrees bytes (Err SettingsFault) tells said says = inl (one_plan bytes said (Err SettingsFault) says tells)
-agrees bytes (Err (Query number)) tells said says = inl (one_plan bytes said (Err (Query number)) says tells)
+agrees bytes (Err (BadSettings fault)) tells said says = inl (one_plan bytes said (Err (BadSettings fault)) says tells)
+agrees bytes (Err (Query number refusal)) tells said says = inl (one_plan bytes said (Err (Query number refusal)) says tells)

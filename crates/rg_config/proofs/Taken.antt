@@ -7,6 +7,7 @@ use Rattle.rg_query.specs.Printing.{query_text}
 use Rattle.rg_config.specs.Reading.{IsFirst}
 use Rattle.rg_config.specs.declared.fault.ConfigFault.{ConfigFault}
 use Rattle.rg_config.specs.declared.fault.ConfigFault.TheVariants.{Query, Memory}
+use Rattle.rg_config.specs.declared.fault.QueryRefusal.{QueryRefusal}
 use Rattle.rg_config.specs.Plans.{IsTaken, IsRefused, AllTaken, FirstRefused}
 
 abbrev strings : List (Bor (List ℕ)) → List (List ℕ)
@@ -92,10 +93,10 @@ place (text ∷ texts) (suc n) less = ap suc (place texts n (omega arith))
 
 -- the next text is the first that isn't taken
 first :
-    (shape : Shape) (texts : List (Bor (List ℕ))) (n : ℕ) (d : Bor (List ℕ)) (qs : List Asked)
-    → n < length texts → AllTaken 0 shape (take n (strings texts)) qs → IsRefused n shape (slice_index_or texts n d).now
-    → FirstRefused shape (strings texts) n
-first shape texts n d qs less all refused = record {
+    (shape : Shape) (texts : List (Bor (List ℕ))) (n : ℕ) (d : Bor (List ℕ)) (qs : List Asked) (refusal : QueryRefusal)
+    → n < length texts → AllTaken 0 shape (take n (strings texts)) qs → IsRefused n shape (slice_index_or texts n d).now refusal
+    → FirstRefused shape (strings texts) n refusal
+first shape texts n d qs refusal less all refused = record {
   front = take n (strings texts);
   text = (slice_index_or texts n d).now;
   rest = drop (suc n) (strings texts);
@@ -110,9 +111,10 @@ first shape texts n d qs less all refused = record {
 pub refusal :
     (shape : Shape) (texts : List (Bor (List ℕ))) (n : ℕ) (d : Bor (List ℕ)) (qs : List Asked) (fault : ConfigFault)
     → n < length texts → AllTaken 0 shape (take n (strings texts)) qs
-    → ((fault ≡ Query n) × IsRefused n shape (slice_index_or texts n d).now) ⊎ (fault ≡ Memory)
+    → ((cause : QueryRefusal) × (fault ≡ Query n cause) × IsRefused n shape (slice_index_or texts n d).now cause) ⊎ (fault ≡ Memory)
     → IsFirst shape (strings texts) fault ⊎ (fault ≡ Memory)
-refusal shape texts n d qs fault less all (inl (is, refused)) = inl (record { number = n; is = is; first = first shape texts n d qs less all refused })
+refusal shape texts n d qs fault less all (inl (cause, is, refused)) =
+    inl (record { number = n; refusal = cause; is = is; first = first shape texts n d qs cause less all refused })
 refusal shape texts n d qs fault less all (inr memory) = inr memory
 
 all_there : (texts : List (Bor (List ℕ))) (n : ℕ) → length texts ≤ n → take n (strings texts) ≡ strings texts

@@ -1,8 +1,11 @@
 -- What stands in the table of a plan file.
-use Rattle.std.specs.Prelude.{ℕ, ℤ, pos, negsuc, ◌*◌, nat_le, ◌&&◌, ◌||◌, Bool, true, false, codes, List, [], ◌∷◌, ◌++◌, Option, None, Some, option_map, option_and_then, bytes_eq, if◌then◌else◌}
+use Rattle.std.specs.Prelude.{ℕ, ℤ, pos, negsuc, ◌*◌, ◌≤◌, ◌^◌, nat_le, ◌&&◌, ◌||◌, Bool, true, false, codes, List, [], ◌∷◌, ◌++◌, Option, None, Some, option_map, option_and_then, Result, Ok, Err, bytes_eq, if◌then◌else◌}
+use Rattle.std.specs.Option.{ok_or}
 use Rattle.std.specs.Str.{is_utf8}
 use Rattle.toml.specs.Data.{Data, Items, Members, no_items, item, no_members, member, get_member, as_str, as_array, as_integer, as_bool, as_table}
 use Rattle.toml.specs.Parse.{parse_document}
+use Rattle.rg_config.specs.declared.fault.SettingsFault.{SettingsFault}
+use Rattle.rg_config.specs.declared.fault.SettingsFault.TheVariants.{TopKey, Queries, Table, Key, Cache, Chunk, Commit, Save, Events, Header, CachedEvents}
 
 -- the table that the bytes stand for: they are text, and the text is a document
 abbrev pub document : List ℕ → Option Members
@@ -68,6 +71,25 @@ pub record Settings : Type 0 where
   -- the first line is a header
   pub header : Bool
 
+-- n is from low to high
+abbrev pub IsFromTo : ℕ → ℕ → ℕ → Type 0
+IsFromTo low high n = (low ≤ n) × (n ≤ high)
+
+-- each setting lies in its range
+pub record AreInRange (settings : Settings) : Type 0 where
+  pub cache : IsFromTo 1 1024 settings.cache
+  pub chunk : IsFromTo 1 4096 settings.chunk
+  -- the cache holds at most 65,536 events
+  pub cached : settings.cache * settings.chunk ≤ 65536
+  pub commit : IsFromTo 1 1000000 settings.commit
+  pub save : IsFromTo 1 1000000 settings.save
+  pub events : IsFromTo 1 (2 ^ 40) settings.events
+
+-- a reading of what another one found, or that one's fault
+abbrev pub and_then : {A B : Type 0} → (A → Result B SettingsFault) → Result A SettingsFault → Result B SettingsFault
+and_then f (Ok found) = f found
+and_then f (Err fault) = Err fault
+
 -- an integer within bounds
 abbrev pub within : ℕ → ℕ → ℤ → Option ℕ
 within low high (pos n) = if nat_le low n && nat_le n high then Some n else None
@@ -78,41 +100,42 @@ abbrev pub number_or : ℕ → ℕ → ℕ → Option Data → Option ℕ
 number_or low high default None = Some default
 number_or low high default (Some found) = option_and_then (within low high) (as_integer found)
 
-abbrev pub number_at : List ℕ → ℕ → ℕ → ℕ → Members → Option ℕ
-number_at key low high default table = number_or low high default (get_member key table)
+-- the number at a key, or its fault
+abbrev pub number_at : List ℕ → SettingsFault → ℕ → ℕ → ℕ → Members → Result ℕ SettingsFault
+number_at key fault low high default table = ok_or (number_or low high default (get_member key table)) fault
 
 -- a flag, false where the key is missing
 abbrev pub flag_or : Option Data → Option Bool
 flag_or None = Some false
 flag_or (Some found) = as_bool found
 
-abbrev pub flag_at : List ℕ → Members → Option Bool
-flag_at key table = flag_or (get_member key table)
+abbrev pub flag_at : List ℕ → SettingsFault → Members → Result Bool SettingsFault
+flag_at key fault table = ok_or (flag_or (get_member key table)) fault
 
 abbrev pub setting_keys : List (List ℕ)
 setting_keys = codes "cache" ∷ codes "chunk" ∷ codes "commit" ∷ codes "save" ∷ codes "events" ∷ codes "header" ∷ []
 
 -- the cache holds at most 65,536 events
-abbrev pub fits : Settings → Option Settings
-fits settings = if nat_le (settings.cache * settings.chunk) 65536 then Some settings else None
+abbrev pub fits : Settings → Result Settings SettingsFault
+fits settings = if nat_le (settings.cache * settings.chunk) 65536 then Ok settings else Err CachedEvents
 
-abbrev pub settings_in : Members → Option Settings
+abbrev pub settings_in : Members → Result Settings SettingsFault
 settings_in table =
     if all_keys setting_keys table then
-    option_and_then (λ cache. option_and_then (λ chunk. option_and_then (λ commit. option_and_then (λ save. option_and_then (λ events. option_and_then (λ header.
+    and_then (λ cache. and_then (λ chunk. and_then (λ commit. and_then (λ save. and_then (λ events. and_then (λ header.
     fits (record { cache = cache; chunk = chunk; commit = commit; save = save; events = events; header = header }))
-    (flag_at (codes "header") table))
-    (number_at (codes "events") 1 1099511627776 1099511627776 table))
-    (number_at (codes "save") 1 1000000 65536 table))
-    (number_at (codes "commit") 1 1000000 1024 table))
-    (number_at (codes "chunk") 1 4096 1024 table))
-    (number_at (codes "cache") 1 1024 64 table)
-    else None
+    (flag_at (codes "header") Header table))
+    (number_at (codes "events") Events 1 1099511627776 1099511627776 table))
+    (number_at (codes "save") Save 1 1000000 65536 table))
+    (number_at (codes "commit") Commit 1 1000000 1024 table))
+    (number_at (codes "chunk") Chunk 1 4096 1024 table))
+    (number_at (codes "cache") Cache 1 1024 64 table)
+    else Err Key
 
 -- the settings of a plan: those of a table without keys where there is none
-abbrev pub settings_or : Option Data → Option Settings
+abbrev pub settings_or : Option Data → Result Settings SettingsFault
 settings_or None = settings_in no_members
-settings_or (Some found) = option_and_then settings_in (as_table found)
+settings_or (Some found) = and_then settings_in (ok_or (as_table found) Table)
 
 -- The queries
 
@@ -121,12 +144,12 @@ abbrev pub some_texts : List (List ℕ) → Option (List (List ℕ))
 some_texts [] = None
 some_texts (text ∷ texts) = Some (text ∷ texts)
 
-abbrev pub queries_of : Members → Option (List (List ℕ))
-queries_of top = option_and_then some_texts (texts_at (codes "queries") top)
+abbrev pub queries_of : Members → Result (List (List ℕ)) SettingsFault
+queries_of top = ok_or (option_and_then some_texts (texts_at (codes "queries") top)) Queries
 
 -- the texts of the queries and the settings, where the top table has no other key than these and the stream
-abbrev pub rest_of : Members → Option (List (List ℕ) × Settings)
+abbrev pub rest_of : Members → Result (List (List ℕ) × Settings) SettingsFault
 rest_of top =
     if all_keys (codes "queries" ∷ codes "stream" ∷ codes "settings" ∷ []) top then
-    option_and_then (λ queries. option_map (λ settings. (queries, settings)) (settings_or (get_member (codes "settings") top))) (queries_of top)
-    else None
+    and_then (λ queries. and_then (λ settings. Ok (queries, settings)) (settings_or (get_member (codes "settings") top))) (queries_of top)
+    else Err TopKey

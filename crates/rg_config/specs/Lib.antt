@@ -1,3 +1,4 @@
 pub mod Documents
 pub mod Plans
 pub mod Reading
+pub mod Read

@@ -1,5 +1,5 @@
 -- What the bytes of a plan file say: a plan, or the fault that they are refused by.
-use Rattle.std.specs.Prelude.{◌≡◌, ◌⊎◌, ◌<◌, ◌≤◌, ℕ, suc, nat_le, ◌&&◌, Bool, true, false, List, [], ◌∷◌, ◌++◌, length, Some, None, Result, Ok, Err, ⊤}
+use Rattle.std.specs.Prelude.{◌≡◌, ◌⊎◌, ◌<◌, ◌≤◌, ℕ, suc, nat_lt, List, [], ◌∷◌, ◌++◌, length, Option, Some, None, Result, Ok, Err, ⊤, if◌then◌else◌}
 use Rattle.toml.specs.Data.{Members}
 use Rattle.rg_event.specs.Shapes.{Shape, IsSchema, schema_text}
 use Rattle.rg_metric.specs.Queries.{Asked}
@@ -8,7 +8,10 @@ use Rattle.rg_query.specs.Saying as saying
 use Rattle.rg_query.specs.declared.fault.QueryFault.{QueryFault}
 use Rattle.rg_config.specs.Documents.{document, stream_of, rest_of, Settings}
 use Rattle.rg_config.specs.declared.fault.ConfigFault.{ConfigFault}
-use Rattle.rg_config.specs.declared.fault.ConfigFault.TheVariants.{Toml, Stream, Settings as SettingsFault, Query, Memory}
+use Rattle.rg_config.specs.declared.fault.ConfigFault.TheVariants.{Toml, Stream, Settings as BadSettings, Query, Memory}
+use Rattle.rg_config.specs.declared.fault.SettingsFault.{SettingsFault}
+use Rattle.rg_config.specs.declared.fault.QueryRefusal.{QueryRefusal}
+use Rattle.rg_config.specs.declared.fault.QueryRefusal.TheVariants.{TooMany, Text, TooManyAggs, TooManyColumns}
 use Rattle.rg_config.specs.declared.plan.Plan.{Plan}
 
 -- a plan as plain data
@@ -34,28 +37,35 @@ pub record HasStream (top : Members) (shape : Shape) : Type 0 where
 abbrev pub NoStream : Members → Type 0
 NoStream top = (shape : Shape) → HasStream top shape → ⊥
 
--- at most 16 aggregators and 8 columns of a key
-abbrev pub within_bounds : Asked → Bool
-within_bounds query = nat_le (length query.aggs) 16 && nat_le (length query.group) 8
+-- a query has at most 16 aggregators, and its key at most 8 columns
+abbrev pub excess_in : Asked → Option QueryRefusal
+excess_in query =
+    if nat_lt 16 (length query.aggs) then Some TooManyAggs
+    else if nat_lt 8 (length query.group) then Some TooManyColumns
+    else None
 
--- the text with this number, counted from 0, asks this: at most 64 queries are taken, and each within its bounds
-pub record IsTaken (number : ℕ) (shape : Shape) (text : List ℕ) (query : Asked) : Type 0 where
+abbrev pub unless : Asked → Option QueryRefusal → Result Asked QueryRefusal
+unless query None = Ok query
+unless query (Some refusal) = Err refusal
+
+-- what is said of a text that says this as a query
+abbrev pub judged : Result Asked QueryFault → Result Asked QueryRefusal
+judged (Ok query) = unless query (excess_in query)
+judged (Err fault) = Err (Text fault)
+
+-- the text with this number, counted from 0, asks a query within its bounds, or is refused by its own fault: at most 64 are looked at
+pub record IsJudged (number : ℕ) (shape : Shape) (text : List ℕ) (said : Result Asked QueryRefusal) : Type 0 where
   pub few : number < 64
-  pub says : saying.Says shape text (Ok query)
-  pub bounds : within_bounds query ≡ true
+  pub read : Result Asked QueryFault
+  pub says : saying.Says shape text read
+  pub is : judged read ≡ said
 
-pub record IsUnread (shape : Shape) (text : List ℕ) : Type 0 where
-  pub fault : QueryFault
-  pub says : saying.Says shape text (Err fault)
+abbrev pub IsTaken : ℕ → Shape → List ℕ → Asked → Type 0
+IsTaken number shape text query = IsJudged number shape text (Ok query)
 
-pub record IsTooLong (shape : Shape) (text : List ℕ) : Type 0 where
-  pub query : Asked
-  pub says : saying.Says shape text (Ok query)
-  pub bounds : within_bounds query ≡ false
-
--- the text with this number isn't taken
-abbrev pub IsRefused : ℕ → Shape → List ℕ → Type 0
-IsRefused number shape text = (64 ≤ number) ⊎ (IsUnread shape text ⊎ IsTooLong shape text)
+-- the text with this number isn't taken, for this cause
+abbrev pub IsRefused : ℕ → Shape → List ℕ → QueryRefusal → Type 0
+IsRefused number shape text refusal = ((64 ≤ number) × (refusal ≡ TooMany)) ⊎ IsJudged number shape text (Err refusal)
 
 -- each text, from this number on, asks the query beside it
 abbrev pub AllTaken : ℕ → Shape → List (List ℕ) → List Asked → Type 0
@@ -64,8 +74,8 @@ AllTaken number shape [] (query ∷ queries) = ⊥
 AllTaken number shape (text ∷ texts) [] = ⊥
 AllTaken number shape (text ∷ texts) (query ∷ queries) = IsTaken number shape text query × AllTaken (suc number) shape texts queries
 
--- the text with this number is the first that isn't taken
-pub record FirstRefused (shape : Shape) (texts : List (List ℕ)) (number : ℕ) : Type 0 where
+-- the text with this number is the first that isn't taken, for this cause
+pub record FirstRefused (shape : Shape) (texts : List (List ℕ)) (number : ℕ) (refusal : QueryRefusal) : Type 0 where
   pub front : List (List ℕ)
   pub text : List ℕ
   pub rest : List (List ℕ)
@@ -73,14 +83,14 @@ pub record FirstRefused (shape : Shape) (texts : List (List ℕ)) (number : ℕ)
   pub queries : List Asked
   pub taken : AllTaken 0 shape front queries
   pub place : number ≡ length front
-  pub refused : IsRefused number shape text
+  pub refused : IsRefused number shape text refusal
 
 pub record IsPlan (bytes : List ℕ) (plan : Planned) : Type 0 where
   pub top : Members
   pub texts : List (List ℕ)
   pub document : document bytes ≡ Some top
   pub stream : HasStream top plan.shape
-  pub rest : rest_of top ≡ Some (texts, plan.settings)
+  pub rest : rest_of top ≡ Ok (texts, plan.settings)
   pub queries : AllTaken 0 plan.shape texts plan.queries
 
 pub record HasNoStream (bytes : List ℕ) : Type 0 where
@@ -88,30 +98,30 @@ pub record HasNoStream (bytes : List ℕ) : Type 0 where
   pub document : document bytes ≡ Some top
   pub none : NoStream top
 
-pub record HasNoSettings (bytes : List ℕ) : Type 0 where
+pub record HasNoSettings (bytes : List ℕ) (fault : SettingsFault) : Type 0 where
   pub top : Members
   pub shape : Shape
   pub document : document bytes ≡ Some top
   pub stream : HasStream top shape
-  pub none : rest_of top ≡ None
+  pub none : rest_of top ≡ Err fault
 
-pub record HasNoQuery (bytes : List ℕ) (number : ℕ) : Type 0 where
+pub record HasNoQuery (bytes : List ℕ) (number : ℕ) (refusal : QueryRefusal) : Type 0 where
   pub top : Members
   pub shape : Shape
   pub texts : List (List ℕ)
   pub settings : Settings
   pub document : document bytes ≡ Some top
   pub stream : HasStream top shape
-  pub rest : rest_of top ≡ Some (texts, settings)
-  pub first : FirstRefused shape texts number
+  pub rest : rest_of top ≡ Ok (texts, settings)
+  pub first : FirstRefused shape texts number refusal
 
 -- the bytes say a plan, or: they are no document; no stream; no settings, or no queries; or a query that isn't taken
 abbrev pub Says : List ℕ → Result Planned ConfigFault → Type 0
 Says bytes (Ok plan) = IsPlan bytes plan
 Says bytes (Err Toml) = document bytes ≡ None
 Says bytes (Err Stream) = HasNoStream bytes
-Says bytes (Err SettingsFault) = HasNoSettings bytes
-Says bytes (Err (Query number)) = HasNoQuery bytes number
+Says bytes (Err (BadSettings fault)) = HasNoSettings bytes fault
+Says bytes (Err (Query number refusal)) = HasNoQuery bytes number refusal
 Says bytes (Err Memory) = ⊥
 
 -- what is answered is what the bytes say, unless memory ran out

@@ -7,7 +7,13 @@ use Rattle.rg_metric.specs.declared.query.Query.{Query}
 use Rattle.rg_config.specs.Documents.{Settings}
 use Rattle.rg_config.specs.Plans.{HasStream, NoStream, IsTaken, IsRefused, AllTaken, FirstRefused}
 use Rattle.rg_config.specs.declared.fault.ConfigFault.{ConfigFault}
-use Rattle.rg_config.specs.declared.fault.ConfigFault.TheVariants.{Stream, Query as QueryFault, Memory}
+use Rattle.rg_config.specs.declared.fault.ConfigFault.TheVariants.{Stream, Settings as BadSettings, Query as BadQuery, Memory}
+use Rattle.rg_config.specs.declared.fault.SettingsFault.{SettingsFault}
+use Rattle.rg_config.specs.declared.fault.QueryRefusal.{QueryRefusal}
+use Rattle.rg_config.specs.declared.fault.QueryRefusal.TheVariants.{Text}
+use Rattle.rg_query.specs.declared.fault.QueryFault.{QueryFault}
+use Rattle.rg_query.specs.declared.fault.QueryFault.TheVariants as query
+use Rattle.rg_config.specs.declared.plan.Rest.{Rest}
 use Rattle.rg_config.specs.declared.queries.Queries.{Queries}
 use Rattle.rg_config.specs.declared.settings.Settings.{Settings as SettingsRead}
 
@@ -31,18 +37,33 @@ abbrev pub ReadsStream : Members → Result Shape ConfigFault → Type 0
 ReadsStream top (Ok shape) = HasStream top shape
 ReadsStream top (Err fault) = ((fault ≡ Stream) × NoStream top) ⊎ (fault ≡ Memory)
 
--- the query that a text asks, or that it isn't taken
+-- the settings that are found, or the fault by which none are
+abbrev pub ReadsSettings : Result Settings SettingsFault → Result SettingsRead SettingsFault → Type 0
+ReadsSettings found (Ok settings) = found ≡ Ok (settings_view settings)
+ReadsSettings found (Err fault) = found ≡ Err fault
+
+-- what stands beside the stream, or the fault by which nothing is found
+abbrev pub ReadsRest : Result (List (List ℕ) × Settings) SettingsFault → Result Rest ConfigFault → Type 0
+ReadsRest found (Ok rest) = found ≡ Ok (map (λ text. text.now) rest.texts.items, settings_view rest.settings)
+ReadsRest found (Err fault) = ((cause : SettingsFault) × (fault ≡ BadSettings cause) × (found ≡ Err cause)) ⊎ (fault ≡ Memory)
+
+-- the query that a text asks, or why it isn't taken
 abbrev pub ReadsQuery : ℕ → Shape → List ℕ → Result Query ConfigFault → Type 0
 ReadsQuery number shape text (Ok query) = IsTaken number shape text (asked query)
-ReadsQuery number shape text (Err fault) = ((fault ≡ QueryFault number) × IsRefused number shape text) ⊎ (fault ≡ Memory)
+ReadsQuery number shape text (Err fault) = ((refusal : QueryRefusal) × (fault ≡ BadQuery number refusal) × IsRefused number shape text refusal) ⊎ (fault ≡ Memory)
 
--- the first text that isn't taken is refused by its number
+-- a fault of a query's text refuses the query, and want of memory the plan
+abbrev pub RefusesText : ℕ → QueryFault → ConfigFault → Type 0
+RefusesText number fault refusal = ((refusal ≡ BadQuery number (Text fault)) × (fault ≡ query.Memory → ⊥)) ⊎ (refusal ≡ Memory)
+
+-- the first text that isn't taken is refused by its number and its cause
 pub record IsFirst (shape : Shape) (texts : List (List ℕ)) (fault : ConfigFault) : Type 0 where
   pub number : ℕ
-  pub is : fault ≡ QueryFault number
-  pub first : FirstRefused shape texts number
+  pub refusal : QueryRefusal
+  pub is : fault ≡ BadQuery number refusal
+  pub first : FirstRefused shape texts number refusal
 
--- the queries that the texts ask, or the number of the first text that isn't taken
+-- the queries that the texts ask, or the first text that isn't taken
 abbrev pub ReadsQueries : Shape → List (List ℕ) → Result Queries ConfigFault → Type 0
 ReadsQueries shape texts (Ok queries) = AllTaken 0 shape texts (map asked queries.parsed.items)
 ReadsQueries shape texts (Err fault) = IsFirst shape texts fault ⊎ (fault ≡ Memory)

@@ -1,3 +1,5 @@
+use rg_query::QueryFault;
+
 /// Why the bytes of a plan were refused. The first of this order is answered.
 #[derive(Clone, Copy, Debug, PartialEq, Eq, Hash)]
 pub enum ConfigFault {
@@ -5,10 +7,50 @@ pub enum ConfigFault {
     Toml,
     /// The table `stream` describes no schema.
     Stream,
-    /// A key that isn't known, no queries, or a setting of a wrong kind or out of its range.
-    Settings,
-    /// The first query, counted from 0, that isn't read or is past its bounds.
-    Query(u32),
+    /// What stands beside the stream can't be read, for this cause.
+    Settings(SettingsFault),
+    /// The first query, counted from 0, that isn't taken, and why.
+    Query(u32, QueryRefusal),
     /// Memory ran out.
     Memory,
+}
+
+/// Why what stands beside the stream can't be read. The first of this order is answered.
+#[derive(Clone, Copy, Debug, PartialEq, Eq, Hash)]
+pub enum SettingsFault {
+    /// A key at the top is none of `queries`, `stream` and `settings`.
+    TopKey,
+    /// `queries` is no array of strings, or has none.
+    Queries,
+    /// `settings` is no table.
+    Table,
+    /// A key of the settings isn't known.
+    Key,
+    /// `cache` is no whole number from 1 to 1,024.
+    Cache,
+    /// `chunk` is no whole number from 1 to 4,096.
+    Chunk,
+    /// `commit` is no whole number from 1 to 1,000,000.
+    Commit,
+    /// `save` is no whole number from 1 to 1,000,000.
+    Save,
+    /// `events` is no whole number from 1 to 2^40.
+    Events,
+    /// `header` is neither true nor false.
+    Header,
+    /// `cache` chunks of `chunk` events are more than 65,536 events.
+    CachedEvents,
+}
+
+/// Why a query of a plan isn't taken. The first of this order is answered.
+#[derive(Clone, Copy, Debug, PartialEq, Eq, Hash)]
+pub enum QueryRefusal {
+    /// 64 queries stand before it.
+    TooMany,
+    /// Its text can't be read.
+    Text(QueryFault),
+    /// It has more than 16 aggregators.
+    TooManyAggs,
+    /// Its key has more than 8 columns.
+    TooManyColumns,
 }

@@ -1,4 +1,4 @@
-ghost use Rattle.std.specs.Prelude.{◌≡◌, ◌≤◌, ◌^◌, IfOk, IfErr, Result, None, map, All};
+ghost use Rattle.std.specs.Prelude.{◌≡◌, ℕ, List, IfOk, IfErr, Result, None, map, All};
 ghost use Rattle.rg_metric.specs.Queries.{Asked, asked};
 ghost use Rattle.rg_plan.specs.Named.{HasAgg, asked_by};
 ghost use Rattle.rg_plan.specs.Offsets.{IsMeasured};
@@ -7,12 +7,11 @@ ghost use Rattle.rg_query.specs.Legal.{IsLegal};
 ghost use Rattle.rg_query.specs.Printing.{query_text};
 ghost use Rattle.rg_config.specs.Plans.{Planned, planned, Says, Tells, Agrees};
 ghost use Rattle.toml.specs.View.{table_view};
-ghost use Rattle.rg_config.specs.Documents.{rest_of};
-ghost use Rattle.rg_config.specs.Reading.{Reads, settings_view};
+ghost use Rattle.rg_config.specs.Documents.{AreInRange, rest_of};
+ghost use Rattle.rg_config.specs.Reading.{ReadsRest, settings_view};
 ghost use Rattle.rg_config.specs.declared.fault.ConfigFault.{ConfigFault as Fault};
-ghost use Rattle.rg_config.specs.declared.fault.ConfigFault.TheVariants.{Settings as SettingsFault};
 
-use crate::fault::ConfigFault;
+use crate::fault::{ConfigFault, SettingsFault};
 use crate::queries::{Queries, read_queries};
 use crate::settings::{Settings, read_settings};
 use crate::stream::read_stream;
@@ -52,18 +51,21 @@ pub struct Plan {
 #[tactic(auto, using(crate::proofs::One::one_plan, crate::proofs::One::agrees))]
 pub fn read_plan(alloc: Global, bytes: &[u8]) -> Result<Plan, ConfigFault>
     // what is answered is what the bytes say
-    ensures tells { Tells bytes.now result }
+    ensures sound { Tells bytes.now result }
     // whatever the bytes say is answered
-    ensures exact { (said : Result Planned Fault) → Says bytes.now said → Agrees said result }
+    ensures complete { (said : Result Planned Fault) → Says bytes.now said → Agrees said result }
     // the bytes say one thing
-    ensures one { (said other : Result Planned Fault) → Says bytes.now said → Says bytes.now other → said ≡ other }
+    ensures unambiguous { (said other : Result Planned Fault) → Says bytes.now said → Says bytes.now other → said ≡ other }
+    // all bytes say something
+    ensures says { (any : List ℕ) → (said : Result Planned Fault) × Says any said }
     // the queries stand beside as they are printed
     ensures printed { IfOk result (λ plan. plan.queries ≡ map (query_text plan.schema) (planned plan).queries) }
     // the task is the plan of the queries
     ensures task { IfOk result (λ plan. plan.task ≡ plan_for (planned plan).queries) }
     // each query is legal over the schema
     ensures legal { IfOk result (λ plan. All (IsLegal plan.schema) (planned plan).queries) }
-    ensures most { IfOk result (λ plan. plan.room.limit ≤ 2 ^ 40) }
+    // each setting lies in its range
+    ensures ranges { IfOk result (λ plan. AreInRange (planned plan).settings) }
 {
     plan_of(alloc, bytes)
 }
@@ -71,11 +73,11 @@ pub fn read_plan(alloc: Global, bytes: &[u8]) -> Result<Plan, ConfigFault>
 /// Reads a plan, part by part.
 #[tactic(auto, using(crate::proofs::Legal::measured, crate::proofs::Legal::some_aggs))]
 fn plan_of(alloc: Global, bytes: &[u8]) -> Result<Plan, ConfigFault>
-    ensures tells { Tells bytes.now result }
+    ensures sound { Tells bytes.now result }
     ensures printed { IfOk result (λ plan. plan.queries ≡ map (query_text plan.schema) (planned plan).queries) }
     ensures task { IfOk result (λ plan. plan.task ≡ plan_for (planned plan).queries) }
     ensures legal { IfOk result (λ plan. All (IsLegal plan.schema) (planned plan).queries) }
-    ensures most { IfOk result (λ plan. plan.room.limit ≤ 2 ^ 40) }
+    ensures ranges { IfOk result (λ plan. AreInRange (planned plan).settings) }
 {
     let top = read_table(alloc, bytes)?;
     let schema = read_stream(alloc, &top)?;
@@ -121,18 +123,19 @@ struct Rest<'a> {
 
 /// Reads what stands beside the stream.
 fn read_rest(alloc: Global, top: &Table) -> Result<Rest<'_>, ConfigFault>
-    ensures reads { Reads (λ rest. (map (λ text. text.now) rest.texts.items, settings_view rest.settings)) SettingsFault (rest_of (table_view top.now)) result }
-    ensures most { IfOk result (λ rest. rest.settings.room.limit ≤ 2 ^ 40) }
+    ensures reads { ReadsRest (rest_of (table_view top.now)) result }
+    ensures ranges { IfOk result (λ rest. AreInRange (settings_view rest.settings)) }
 {
     if !has_only(top, &TOP_KEYS) {
-        return Err(ConfigFault::Settings);
+        return Err(ConfigFault::Settings(SettingsFault::TopKey));
     }
-    let texts = texts_at(alloc, top, "queries", ConfigFault::Settings)?;
+    let no_queries = ConfigFault::Settings(SettingsFault::Queries);
+    let texts = texts_at(alloc, top, "queries", no_queries)?;
     if texts.is_empty() {
-        return Err(ConfigFault::Settings);
+        return Err(no_queries);
     }
     match read_settings(top) {
-        Some(settings) => Ok(Rest { texts, settings }),
-        None => Err(ConfigFault::Settings),
+        Ok(settings) => Ok(Rest { texts, settings }),
+        Err(fault) => Err(ConfigFault::Settings(fault)),
     }
 }

@@ -3,24 +3,16 @@ ghost use Rattle.rg_metric.specs.Queries.{asked};
 ghost use Rattle.rg_plan.specs.Plans.{excess};
 ghost use Rattle.rg_query.specs.Legal.{IsLegal};
 ghost use Rattle.rg_query.specs.Printing.{query_text};
-ghost use Rattle.rg_config.specs.Plans.{within_bounds};
-ghost use Rattle.rg_config.specs.Reading.{ReadsQuery, ReadsQueries};
+ghost use Rattle.rg_config.specs.Plans.{excess_in};
+ghost use Rattle.rg_config.specs.Reading.{ReadsQuery, ReadsQueries, RefusesText};
 
-use crate::fault::ConfigFault;
+use crate::fault::{ConfigFault, QueryRefusal};
 use rg_bytes::Memory;
 use rg_event::{Bytes, Schema, Texts};
 use rg_metric::Query;
+use rg_plan::{MAX_AGGS, MAX_COLUMNS, MAX_QUERIES};
 use rg_query::{QueryFault, parse, print};
 use std::alloc::Global;
-
-/// How many queries a plan has at most.
-const MOST_QUERIES: usize = 64;
-
-/// How many aggregators a query has at most.
-const MOST_AGGS: usize = 16;
-
-/// How many columns the key of a query has at most.
-const MOST_COLUMNS: usize = 8;
 
 /// The queries of a plan, as they are printed too.
 #[derive(Debug, Drop)]
@@ -89,26 +81,38 @@ fn read_query(
     ensures reads { ReadsQuery number schema.now text.now result }
     ensures legal { IfOk result (λ query. IsLegal schema.now (asked query)) }
 {
-    let refusal = ConfigFault::Query(number as u32);
-    if number >= MOST_QUERIES {
-        return Err(refusal);
+    let number = number as u32;
+    if number >= MAX_QUERIES {
+        return Err(ConfigFault::Query(number, QueryRefusal::TooMany));
     }
     match parse(alloc, schema, text.as_bytes()) {
-        Ok(query) => {
-            if is_within_bounds(&query) {
-                Ok(query)
-            } else {
-                Err(refusal)
-            }
-        }
-        Err(QueryFault::Memory) => Err(ConfigFault::Memory),
-        Err(_) => Err(refusal),
+        Ok(query) => match excess_of(&query) {
+            None => Ok(query),
+            Some(refusal) => Err(ConfigFault::Query(number, refusal)),
+        },
+        Err(fault) => Err(refuse_text(number, fault)),
     }
 }
 
-/// Whether a query has few enough aggregators and columns.
-fn is_within_bounds(query: &Query) -> bool
-    ensures { result ≡ within_bounds (asked query.now) }
+/// How the query with this number is refused, whose text is refused by this fault.
+fn refuse_text(number: u32, fault: QueryFault) -> ConfigFault
+    ensures { RefusesText number fault result }
 {
-    query.aggs.as_slice().len() <= MOST_AGGS && query.group.as_slice().len() <= MOST_COLUMNS
+    if fault == QueryFault::Memory {
+        return ConfigFault::Memory;
+    }
+    ConfigFault::Query(number, QueryRefusal::Text(fault))
+}
+
+/// What a query has too much of.
+fn excess_of(query: &Query) -> Option<QueryRefusal>
+    ensures { result ≡ excess_in (asked query.now) }
+{
+    if query.aggs.as_slice().len() > MAX_AGGS {
+        return Some(QueryRefusal::TooManyAggs);
+    }
+    if query.group.as_slice().len() > MAX_COLUMNS {
+        return Some(QueryRefusal::TooManyColumns);
+    }
+    None
 }

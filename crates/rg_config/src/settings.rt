@@ -1,9 +1,10 @@
-ghost use Rattle.std.specs.Prelude.{◌≡◌, ◌≤◌, ◌<◌, ◌^◌, max, codes, Some, IfSome, option_map, option_and_then};
+ghost use Rattle.std.specs.Prelude.{◌≡◌, ◌≤◌, max, min, codes, Ok, IfOk, IfSome, option_and_then};
 ghost use Rattle.toml.specs.Data.{as_integer, get_member, no_members};
 ghost use Rattle.toml.specs.View.{view, table_view};
-ghost use Rattle.rg_config.specs.Documents.{within as the_within, number_at as the_number, flag_at as the_flag, settings_in as the_settings, settings_or};
-ghost use Rattle.rg_config.specs.Reading.{settings_view};
+ghost use Rattle.rg_config.specs.Documents.{AreInRange, IsFromTo, within as the_within, number_at as the_number, flag_at as the_flag, settings_in as the_settings, settings_or};
+ghost use Rattle.rg_config.specs.Reading.{settings_view, ReadsSettings};
 
+use crate::fault::SettingsFault;
 use crate::table::{has_only, value_at};
 use rg_event::Room;
 use toml::{Table, Value};
@@ -67,23 +68,23 @@ pub(crate) struct Settings {
 }
 
 /// The settings of a plan, with defaults for what is missing.
-pub(crate) fn read_settings(top: &Table) -> Option<Settings>
-    ensures value { option_map settings_view result ≡ settings_or (get_member (codes "settings") (table_view top.now)) }
-    ensures most { IfSome result (λ settings. settings.room.limit ≤ 2 ^ 40) }
+pub(crate) fn read_settings(top: &Table) -> Result<Settings, SettingsFault>
+    ensures value { ReadsSettings (settings_or (get_member (codes "settings") (table_view top.now))) result }
+    ensures ranges { IfOk result (λ settings. AreInRange (settings_view settings)) }
 {
     match value_at(top, "settings") {
         Some(value) => match value.as_table() {
             Some(table) => settings_in(table),
-            None => None,
+            None => Err(SettingsFault::Table),
         },
-        None => Some(defaults()),
+        None => Ok(defaults()),
     }
 }
 
 /// What holds where nothing is set.
 fn defaults() -> Settings
-    ensures value { Some (settings_view result) ≡ the_settings no_members }
-    ensures most { result.room.limit ≤ 2 ^ 40 }
+    ensures value { Ok (settings_view result) ≡ the_settings no_members }
+    ensures ranges { AreInRange (settings_view result) }
 {
     Settings {
         room: Room {
@@ -98,23 +99,23 @@ fn defaults() -> Settings
 }
 
 /// The settings in their table.
-fn settings_in(table: &Table) -> Option<Settings>
-    ensures value { option_map settings_view result ≡ the_settings (table_view table.now) }
-    ensures most { IfSome result (λ settings. settings.room.limit ≤ 2 ^ 40) }
+fn settings_in(table: &Table) -> Result<Settings, SettingsFault>
+    ensures value { ReadsSettings (the_settings (table_view table.now)) result }
+    ensures ranges { IfOk result (λ settings. AreInRange (settings_view settings)) }
 {
     if !has_only(table, &SETTING_KEYS) {
-        return None;
+        return Err(SettingsFault::Key);
     }
-    let cache = number_at(table, "cache", CACHE)?;
-    let chunk = number_at(table, "chunk", CHUNK)?;
-    let commit = number_at(table, "commit", COMMIT)?;
-    let save = number_at(table, "save", SAVE)?;
-    let limit = number_at(table, "events", EVENTS)?;
-    let header = flag_at(table, "header")?;
+    let cache = number_at(table, "cache", SettingsFault::Cache, CACHE)?;
+    let chunk = number_at(table, "chunk", SettingsFault::Chunk, CHUNK)?;
+    let commit = number_at(table, "commit", SettingsFault::Commit, COMMIT)?;
+    let save = number_at(table, "save", SettingsFault::Save, SAVE)?;
+    let limit = number_at(table, "events", SettingsFault::Events, EVENTS)?;
+    let header = flag_at(table, "header", SettingsFault::Header)?;
     if cache * chunk > MOST_CACHED {
-        return None;
+        return Err(SettingsFault::CachedEvents);
     }
-    Some(Settings {
+    Ok(Settings {
         room: Room {
             chunk: chunk as u32,
             cache: cache as u32,
@@ -126,20 +127,29 @@ fn settings_in(table: &Table) -> Option<Settings>
     })
 }
 
-/// The number at a key, which stands in its range.
-fn number_at(table: &Table, key: &str, range: Range) -> Option<u64>
-    ensures value { result ≡ the_number key.now range.least range.most range.otherwise (table_view table.now) }
-    ensures most { IfSome result (λ number. number ≤ max range.most range.otherwise) }
+/// The number at a key, which stands in its range, or the fault where it doesn't.
+fn number_at(
+    table: &Table,
+    key: &str,
+    fault: SettingsFault,
+    range: Range,
+) -> Result<u64, SettingsFault>
+    ensures value { result ≡ the_number key.now fault range.least range.most range.otherwise (table_view table.now) }
+    ensures least { IfOk result (λ number. min range.least range.otherwise ≤ number) }
+    ensures most { IfOk result (λ number. number ≤ max range.most range.otherwise) }
 {
     match value_at(table, key) {
-        Some(value) => number_of(value, range),
-        None => Some(range.otherwise),
+        Some(value) => match number_of(value, range) {
+            Some(number) => Ok(number),
+            None => Err(fault),
+        },
+        None => Ok(range.otherwise),
     }
 }
 
 fn number_of(value: &Value, range: Range) -> Option<u64>
     ensures value { result ≡ option_and_then (the_within range.least range.most) (as_integer (view value.now)) }
-    ensures most { IfSome result (λ number. number ≤ range.most) }
+    ensures within { IfSome result (IsFromTo range.least range.most) }
 {
     match value.as_integer() {
         Some(number) => within(number, range),
@@ -149,7 +159,7 @@ fn number_of(value: &Value, range: Range) -> Option<u64>
 
 fn within(number: i64, range: Range) -> Option<u64>
     ensures value { result ≡ the_within range.least range.most number }
-    ensures most { IfSome result (λ it. it ≤ range.most) }
+    ensures within { IfSome result (IsFromTo range.least range.most) }
 {
     if number < 0 {
         return None;
@@ -162,12 +172,15 @@ fn within(number: i64, range: Range) -> Option<u64>
     }
 }
 
-/// The flag at a key, false where it is missing.
-fn flag_at(table: &Table, key: &str) -> Option<bool>
-    ensures { result ≡ the_flag key.now (table_view table.now) }
+/// The flag at a key, false where it is missing, or the fault where it is no flag.
+fn flag_at(table: &Table, key: &str, fault: SettingsFault) -> Result<bool, SettingsFault>
+    ensures { result ≡ the_flag key.now fault (table_view table.now) }
 {
     match value_at(table, key) {
-        Some(value) => value.as_bool(),
-        None => Some(false),
+        Some(value) => match value.as_bool() {
+            Some(flag) => Ok(flag),
+            None => Err(fault),
+        },
+        None => Ok(false),
     }
 }

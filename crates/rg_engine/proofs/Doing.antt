@@ -23,7 +23,6 @@ use Rattle.rg_engine.specs.declared.part.AggPart.{AggPart}
 use Rattle.rg_engine.specs.Deeds.{Does, side_of, handed, deed_by, deed_with, node_deed}
 use Rattle.rg_engine.specs.Parts.{node_under, node_if, agg_nodes, group_nodes, nodes_numbered, ticks_at}
 use Rattle.rg_engine.specs.Stepping.{IsPassed, Done, Refuses, Stuck, Stepped}
-use Rattle.rg_engine.proofs.Plain.{same_some}
 
 none_true : true ≡ false → ⊥
 none_true e = cc

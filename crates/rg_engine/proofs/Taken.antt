@@ -1,5 +1,5 @@
 -- One event more.
-use Rattle.std.proofs.Common.{◌≡◌, ◌<◌, ℕ, List, [], ◌∷◌, ◌++◌, length, slice_get, get_or, All, flat_map, Some, refl, ap, sym, ◌∙◌, subst, arith, append_assoc}
+use Rattle.std.proofs.Common.{◌≡◌, ◌<◌, ℕ, List, [], ◌∷◌, ◌++◌, length, slice_get, get_or, All, flat_map, Some, true, refl, ap, sym, ◌∙◌, subst, arith, append_assoc}
 use Rattle.std.proofs.lemmas.List.{length-map}
 use Rattle.std.proofs.lemmas.List.Elements.{All-head, All-tail, All-nil, All-append}
 use Rattle.std.proofs.lemmas.Option.{slice_get-get_or, slice_get_within}
@@ -18,6 +18,10 @@ use Rattle.rg_window.specs.Placed.{Placed, IsSpelledAt, numbers_of}
 use Rattle.rg_engine.specs.declared.part.FilterPart.{FilterPart}
 use Rattle.rg_engine.specs.Answering.{node_answers, nodes_asked}
 use Rattle.rg_engine.specs.Building.{IsBuilt}
+use Rattle.rg_engine.specs.Carrying.{CarriesOn, EdgesMove, is_ending}
+use Rattle.rg_engine.specs.declared.fault.EngineFault.{EngineFault}
+use Rattle.rg_engine.specs.declared.fault.EngineFault.TheVariants as fault
+use Rattle.rg_past.specs.declared.past.PastFault.TheVariants as past
 use Rattle.rg_engine.specs.Feeding.{IsFed}
 use Rattle.rg_engine.specs.Parts.{ArePartsOf}
 use Rattle.rg_engine.specs.Standing.{RowIs, IsTold, NodeStands}
@@ -71,6 +75,40 @@ numbers_same plan edges spots parts nodes keys built same = length-map spots (λ
 -- the events in front, and one event more
 pub front_and_more : (events all front more : List Event) (e : Event) → all ≡ events ++ e ∷ [] → events ≡ front ++ more → all ≡ front ++ (more ++ e ∷ [])
 front_and_more events all front more e is f = is ∙ ap (λ xs. xs ++ e ∷ []) f ∙ append_assoc front more (e ∷ [])
+
+-- a node that could be carried on to one event more can be so once that is appended
+pub carried_on : (plan : Planned) (n : ℕ) (is_sound later_sound : Type 0) (Spells Later : Spot → Type 0) (is_told : Type 0) (events new first : List Event) (e : Event) (cells : Cells) (spots : List Spot) → new ≡ events ++ e ∷ [] → (is_sound → later_sound) → (is_sound → (spot : Spot) → Spells spot → Later spot) →
+    CarriesOn plan n is_sound Spells is_told events (events ++ e ∷ []) first cells spots → CarriesOn plan n later_sound Later is_told new new first cells spots
+carried_on plan n is_sound later_sound Spells Later is_told events new first e cells spots is sound later on = record {
+  sound = sound on.sound;
+  spelled = told_later plan n Spells Later spots (later on.sound) on.spelled;
+  tells = on.tells;
+  fed = subst (IsFed plan) (sym is) on.fed;
+  more = on.more ++ e ∷ [];
+  begins = front_and_more events new first on.more e is on.begins;
+  stood = on.stood;
+}
+
+-- what moved edges keep is kept from a past before
+pub edges_from : (is_sound later_sound : Type 0) (Spells Between Later : Spot → Type 0) (count : ℕ) (old new : List Spot) → (is_sound → later_sound) → (is_sound → (edge : ℕ) → IsSpelledAt Spells old edge → IsSpelledAt Between old edge) →
+    EdgesMove later_sound Between Later count old new → EdgesMove is_sound Spells Later count old new
+edges_from is_sound later_sound Spells Between Later count old new sound spells moved = record {
+  rises = moved.rises;
+  within = moved.within;
+  spells = λ is edge spelled. moved.spells (sound is) edge (spells is edge spelled);
+}
+
+-- a refusal that isn't that of a full past ends the engine
+pub ends_true : (cause : EngineFault) → (cause ≡ fault.Past past.Full → ⊥) → is_ending cause ≡ true
+ends_true (fault.Past past.Disk) other = refl
+ends_true (fault.Past (past.Damaged place)) other = refl
+ends_true (fault.Past past.Full) other = absurd (other refl)
+ends_true (fault.Past past.Memory) other = refl
+ends_true (fault.Past past.Ended) other = refl
+ends_true (fault.BadState node) other = refl
+ends_true fault.Memory other = refl
+ends_true fault.Ended other = refl
+ends_true fault.Table other = refl
 
 all_last : (P : Event → Type 0) (events : List Event) (e : Event) → All P (events ++ e ∷ []) → P e
 all_last P [] e all = All-head P e [] all

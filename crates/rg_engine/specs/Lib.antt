@@ -1,3 +1,4 @@
+pub mod Carrying
 pub mod Codes
 pub mod Windows
 pub mod Faults

@@ -1,27 +1,34 @@
-ghost use Rattle.std.specs.Prelude.{◌≡◌, ◌↔◌, ◌⊎◌, ℕ, ◌+◌, ◌≤◌, ◌<◌, List, [], ◌∷◌, ◌++◌, length, true, false, Some, slice_get, slice_index_or, All, IfOk, IfErr, OnOk, OnErr, IsErrOf, IsTrue};
+ghost use Rattle.std.specs.Prelude.{◌≡◌, ◌↔◌, ◌⊎◌, ℕ, ◌+◌, ◌≤◌, ◌<◌, List, [], ◌∷◌, ◌++◌, length, true, false, Some, slice_get, All, IfOk, IfErr, OnOk, IsErrOf};
+ghost use Rattle.std.specs.Result.{is_err};
 ghost use Rattle.std.specs.Borrow.{Lends, sem};
 ghost use Rattle.rg_bytes.specs.Counts.{Rose};
 ghost use Rattle.rg_event.specs.declared.event.Event.{Event};
 ghost use Rattle.rg_metric.specs.Queries.{Asked};
 ghost use Rattle.rg_metric.specs.Replies.{answers_to};
+ghost use Rattle.rg_past.specs.Keeping.{Kept, HasCause};
 ghost use Rattle.rg_event.specs.Rising.{MayFollow, last_time};
 ghost use Rattle.rg_plan.specs.Plans.{plan_for};
+ghost use Rattle.rg_state.specs.Keeping.{TableKept};
 ghost use Rattle.rg_window.specs.Placed.{AreWithin, IsSpelledAt, numbers_of};
 ghost use Rattle.rg_engine.specs.contracts.engine.Engine.{the_row};
-ghost use Rattle.rg_engine.specs.Feeding.{IsFed};
+ghost use Rattle.rg_engine.specs.Carrying.{CarriesOn, EdgesMove, Appends, ends_by};
 ghost use Rattle.rg_engine.specs.Faults.{WantsMemory};
 ghost use Rattle.rg_engine.specs.Passed.{AreAtPositions, passed_count};
-ghost use Rattle.rg_engine.specs.Standing.{IsAtPosition, IsTold, NodeStands, come};
+ghost use Rattle.rg_engine.specs.Standing.{IsAtPosition, NodeStands, come};
 
+use crate::answering::{answer_each, make_keys};
+use crate::building::set_up;
 use crate::changer::Rows;
-use crate::fault::EngineFault;
-use crate::machine::{Machine, set_up};
+use crate::fault::{EngineFault, table_fault};
+use crate::moving::move_rows;
 use rg_bytes::Memory;
 use rg_event::{Event, Steps};
+use rg_group::Key;
 use rg_metric::Answers;
 use rg_past::{Past, PastFault, Spot};
 use rg_plan::TaskPlan;
 use rg_state::Table;
+use rg_window::Edges;
 use std::alloc::Global;
 use std::marker::Model;
 use std::sync::ledger::Ledger;
@@ -30,7 +37,14 @@ use std::sync::ledger::Ledger;
 /// enters or leaves a window, and never walks the past again.
 #[derive(Drop)]
 pub struct Engine<T: Table> {
-    machine: Machine<T>,
+    alloc: Global,
+    plan: TaskPlan,
+    edges: Edges,
+    rows: Rows<T>,
+    /// The nodes of all aggregators of all queries, in order.
+    nodes: Vec<u32>,
+    /// A key for each group node, made anew for each event.
+    keys: Vec<Key>,
     ended: bool,
 }
 
@@ -43,9 +57,9 @@ impl<T: Table> Model for Engine<T> {
 
     ghost use Rattle.rg_engine.specs.Building.{IsBuilt};
 
-    ghost view = { λ e. record { plan = e.machine.plan; spots = e.machine.edges.spots; table = e.machine.rows.table; ended = e.ended } };
+    ghost view = { λ e. record { plan = e.plan; spots = e.edges.spots; table = e.rows.table; ended = e.ended } };
 
-    ghost invariant = { λ e. IsBuilt e.machine.plan e.machine.edges e.machine.rows.parts.items e.machine.nodes.items e.machine.keys.items };
+    ghost invariant = { λ e. IsBuilt e.plan e.edges e.rows.parts.items e.nodes.items e.keys.items };
 }
 
 impl<T: Table> Engine<T> {
@@ -70,18 +84,16 @@ impl<T: Table> Engine<T> {
         match set_up(alloc, &plan, at) {
             Err(memory) => return Err((memory, table)),
             Ok(made) => Ok(Engine {
-                machine: Machine {
-                    alloc,
-                    plan,
-                    edges: made.edges,
-                    rows: Rows {
-                        parts: made.parts,
-                        key: made.key,
-                        table,
-                    },
-                    nodes: made.nodes,
-                    keys: made.keys,
+                alloc,
+                plan,
+                edges: made.edges,
+                rows: Rows {
+                    parts: made.parts,
+                    key: made.key,
+                    table,
                 },
+                nodes: made.nodes,
+                keys: made.keys,
                 ended: false,
             }),
         }
@@ -90,7 +102,7 @@ impl<T: Table> Engine<T> {
     /// Appends an event to the past, moves the edges to its time, and answers it: for each aggregator of
     /// each query, in order, over the events, itself among them, that are in the query's window at its
     /// time, meet the condition and have its key. One step is counted for each filter node and each event
-    /// that an edge of its window passed.
+    /// that an edge of its window crossed.
     ///
     /// A past that is full leaves all as it was. Any other refusal ends the engine: each later call is
     /// refused with `Ended`, and touches nothing.
@@ -104,82 +116,104 @@ impl<T: Table> Engine<T> {
         requires fits { P.fits past.old event }
         requires follows { P.sound past.old → (P.ended past.old → ⊥) → MayFollow (P.events past.old) event }
         requires within { AreWithin self.old.spots (length (P.events past.old)) }
-        ensures stands { (n : ℕ) (front more : List Event) → P.sound past.old →
-            IsTold self.old.plan n (P.spells past.old) self.old.spots → T.tells self.old.table →
-            IsFed self.old.plan (P.events past.old ++ event ∷ []) → P.events past.old ≡ front ++ more →
-            NodeStands self.old.plan n front (T.cell self.old.table) (numbers_of self.old.spots) →
+
+        // Each node by itself goes on to stand for all events, and each edge to be at its position.
+        ensures stands { (n : ℕ) (first : List Event) →
+            CarriesOn self.old.plan n (P.sound past.old) (P.spells past.old) (T.tells self.old.table)
+            (P.events past.old) (P.events past.old ++ event ∷ []) first (T.cell self.old.table) self.old.spots →
             OnOk result (NodeStands self.old.plan n (P.events past.new) (T.cell self.new.table) (numbers_of self.new.spots)) }
+        ensures bad { (n : ℕ) (first : List Event) → IsErrOf result (EngineFault.BadState n) →
+            CarriesOn self.old.plan n (P.sound past.old) (P.spells past.old) (T.tells self.old.table)
+            (P.events past.old) (P.events past.old ++ event ∷ []) first (T.cell self.old.table) self.old.spots → ⊥ }
         ensures places { (edge offset : ℕ) (front more : List Event) → P.sound past.old →
             IsSpelledAt (P.spells past.old) self.old.spots edge → P.events past.old ≡ front ++ more →
             slice_get self.old.plan.offsets edge ≡ Some offset →
             IsAtPosition front (numbers_of self.old.spots) edge offset →
             OnOk result (IsAtPosition (P.events past.new) (numbers_of self.new.spots) edge offset) }
-        ensures answers { (queries : List Asked) (front more : List Event) → self.old.plan ≡ plan_for queries →
-            P.sound past.old → All (P.spells past.old) self.old.spots → T.tells self.old.table →
-            IsFed self.old.plan (P.events past.old ++ event ∷ []) → P.events past.old ≡ front ++ more →
-            ((n : ℕ) → NodeStands self.old.plan n front (T.cell self.old.table) (numbers_of self.old.spots)) →
+
+        // Where all nodes can be carried on, the answers are those from scratch.
+        ensures answers { (queries : List Asked) (first : List Event) → self.old.plan ≡ plan_for queries →
+            ((n : ℕ) → CarriesOn self.old.plan n (P.sound past.old) (P.spells past.old) (T.tells self.old.table)
+            (P.events past.old) (P.events past.old ++ event ∷ []) first (T.cell self.old.table) self.old.spots) →
             IfOk result (λ answers. answers ≡ answers_to queries (P.events past.old ++ event ∷ []) event) }
-        ensures bad { (n : ℕ) (front more : List Event) → IsErrOf result (EngineFault.BadState n) → P.sound past.old →
-            IsTold self.old.plan n (P.spells past.old) self.old.spots → T.tells self.old.table →
-            IsFed self.old.plan (P.events past.old ++ event ∷ []) → P.events past.old ≡ front ++ more →
-            NodeStands self.old.plan n front (T.cell self.old.table) (numbers_of self.old.spots) → ⊥ }
+
+        // The steps are how far the edges of each filter node's window came.
         ensures ticks { OnOk result (steps.new + come self.old.plan (numbers_of self.old.spots)
             ≡ steps.old + come self.old.plan (numbers_of self.new.spots)) }
         ensures passed { (front more : List Event) → P.sound past.old → All (P.spells past.old) self.old.spots →
             P.events past.old ≡ front ++ more → AreAtPositions self.old.plan front (numbers_of self.old.spots) →
             OnOk result (steps.new ≡ steps.old + passed_count self.old.plan front (P.events past.new)) }
-        ensures rises { (edge : ℕ) → slice_index_or (numbers_of self.old.spots) edge 0
-            ≤ slice_index_or (numbers_of self.new.spots) edge 0 }
-        ensures events { OnOk result (P.events past.new ≡ P.events past.old ++ event ∷ []) }
-        ensures below { OnOk result (length (P.events past.old) < P.limit past.old) }
 
-        ensures full { IsErrOf result (EngineFault.Past PastFault.Full) → P.limit past.old ≤ length (P.events past.old) }
+        ensures appends { Appends (P.events past.old) event (P.events past.new) result }
+        ensures below { OnOk result (length (P.events past.old) < P.limit past.old) }
+        ensures full { IsErrOf result (EngineFault.Past PastFault.Full) →
+            (self.new ≡ self.old) × (steps.new ≡ steps.old) × (P.events past.new ≡ P.events past.old) × P.has_room past.new }
         ensures full_always { self.old.ended ≡ false → (P.ended past.old → ⊥) → P.limit past.old ≤ length (P.events past.old) →
             IsErrOf result (EngineFault.Past PastFault.Full) ⊎ WantsMemory result }
-        ensures full_same { IsErrOf result (EngineFault.Past PastFault.Full) → self.new ≡ self.old }
-        ensures full_events { IsErrOf result (EngineFault.Past PastFault.Full) → P.events past.new ≡ P.events past.old }
-        ensures keeps_room { IsErrOf result (EngineFault.Past PastFault.Full) → P.has_room past.new }
-        ensures past_ended { IsErrOf result (EngineFault.Past PastFault.Ended) → P.ended past.old }
-        ensures past_ended_always { self.old.ended ≡ false → P.ended past.old →
+        ensures ended_always { self.old.ended ≡ false → P.ended past.old →
             IsErrOf result (EngineFault.Past PastFault.Ended) ⊎ WantsMemory result }
-        ensures disk { IsErrOf result (EngineFault.Past PastFault.Disk) → Rose (P.faults past.old) (P.faults past.new) }
-        ensures damaged { (place : ℕ) → IsErrOf result (EngineFault.Past (PastFault.Damaged place)) →
-            P.illegal past.new place }
+        ensures cause { (fault : PastFault) → IsErrOf result (EngineFault.Past fault) →
+            HasCause (P.illegal past.new) (P.limit past.old ≤ length (P.events past.old)) (P.ended past.old)
+            (P.faults past.old) (P.faults past.new) fault }
         ensures table { IsErrOf result EngineFault.Table → Rose (T.faults self.old.table) (T.faults self.new.table) }
-        ensures added_or_not { OnErr result ((P.events past.new ≡ P.events past.old)
-            ⊎ (P.events past.new ≡ P.events past.old ++ event ∷ [])) }
 
         ensures ended { IsErrOf result EngineFault.Ended ↔ (self.old.ended ≡ true) }
-        ensures ended_same { IsErrOf result EngineFault.Ended → self.new ≡ self.old }
-        ensures ended_past { IsErrOf result EngineFault.Ended → past.new ≡ past.old }
-        ensures ended_steps { IsErrOf result EngineFault.Ended → steps.new ≡ steps.old }
-        ensures ends { IfErr result (λ fault. (fault ≡ EngineFault.Past PastFault.Full → ⊥) → self.new.ended ≡ true) }
-        ensures runs { OnOk result (self.new.ended ≡ false) }
+        ensures untouched { IsErrOf result EngineFault.Ended → (self.new ≡ self.old) × (past.new ≡ past.old) × (steps.new ≡ steps.old) }
+        ensures ends { self.new.ended ≡ ends_by result }
 
         ensures plan { self.new.plan ≡ self.old.plan }
-        ensures stays_within { AreWithin self.new.spots (length (P.events past.new)) }
-        ensures tells { T.tells self.new.table ↔ T.tells self.old.table }
-        ensures spells { P.sound past.old → (edge : ℕ) → IsSpelledAt (P.spells past.old) self.old.spots edge →
-            IsSpelledAt (P.spells past.new) self.new.spots edge }
-        ensures goes { P.goes past.old past.new }
-        ensures sound { P.sound past.old → P.sound past.new }
-        ensures keeps_ended { P.ended past.new ↔ P.ended past.old }
-        ensures later { P.faults past.old ≤ P.faults past.new }
-        ensures later_table { T.faults self.old.table ≤ T.faults self.new.table }
+        ensures edges { EdgesMove (P.sound past.old) (P.spells past.old) (P.spells past.new) (length (P.events past.new)) self.old.spots self.new.spots }
+        ensures past { Kept P.goes P.sound P.ended P.faults past.old past.new }
+        ensures rows { TableKept T.tells T.faults self.old.table self.new.table }
     {
         if self.ended {
             return Err(EngineFault::Ended);
         }
-        match self.machine.take(past, event, steps) {
-            Ok(answers) => Ok(Answers::from(answers)),
-            Err(fault) => {
-                self.ended = !is_full(fault);
-                Err(fault)
+        self.ended = true;
+        match make_keys(&mut self.keys, self.plan.groups(), &event) {
+            Err(_) => return Err(EngineFault::Memory),
+            Ok(()) => {}
+        }
+        let mut answers = match Vec::with_capacity(self.alloc, self.nodes.len()) {
+            Err(_) => return Err(EngineFault::Memory),
+            Ok(answers) => answers,
+        };
+        let time = event.time;
+        match past.append(event) {
+            Err(PastFault::Full) => {
+                self.ended = false;
+                return Err(EngineFault::Past(PastFault::Full));
+            }
+            Err(fault) => return Err(EngineFault::Past(fault)),
+            Ok(()) => {}
+        }
+        match move_rows(
+            &self.plan,
+            &mut self.edges,
+            &mut self.rows,
+            past,
+            time,
+            steps,
+        ) {
+            Err(fault) => return Err(fault),
+            Ok(()) => {}
+        }
+        match answer_each(
+            &mut self.rows.table,
+            self.plan.aggs(),
+            &self.nodes,
+            &self.keys,
+            &mut answers,
+        ) {
+            Err(fault) => return Err(table_fault(fault)),
+            Ok(()) => {
+                self.ended = false;
+                Ok(Answers::from(answers))
             }
         }
     }
 
-    /// Moves the edges to time t over the past, and changes the rows by what they pass, as `take` does.
+    /// Moves the edges to time t over the past, and changes the rows by what they cross, as `take` does.
     /// A refusal ends the engine.
     pub fn replay<P: Past, L: Ledger>(
         &mut self,
@@ -188,65 +222,51 @@ impl<T: Table> Engine<T> {
         steps: &mut Steps<L>,
     ) -> Result<(), EngineFault>
         requires within { AreWithin self.old.spots (length (P.events past.old)) }
-        ensures stands { (n : ℕ) (front more : List Event) → P.sound past.old →
-            IsTold self.old.plan n (P.spells past.old) self.old.spots → T.tells self.old.table →
-            IsFed self.old.plan (P.events past.old) → P.events past.old ≡ front ++ more → last_time (P.events past.old) ≡ t →
-            NodeStands self.old.plan n front (T.cell self.old.table) (numbers_of self.old.spots) →
+        ensures stands { (n : ℕ) (first : List Event) → last_time (P.events past.old) ≡ t →
+            CarriesOn self.old.plan n (P.sound past.old) (P.spells past.old) (T.tells self.old.table)
+            (P.events past.old) (P.events past.old) first (T.cell self.old.table) self.old.spots →
             OnOk result (NodeStands self.old.plan n (P.events past.new) (T.cell self.new.table) (numbers_of self.new.spots)) }
+        ensures bad { (n : ℕ) (first : List Event) → IsErrOf result (EngineFault.BadState n) →
+            CarriesOn self.old.plan n (P.sound past.old) (P.spells past.old) (T.tells self.old.table)
+            (P.events past.old) (P.events past.old) first (T.cell self.old.table) self.old.spots → ⊥ }
         ensures places { (edge offset : ℕ) (front more : List Event) → P.sound past.old →
             IsSpelledAt (P.spells past.old) self.old.spots edge → P.events past.old ≡ front ++ more →
             last_time (P.events past.old) ≡ t → slice_get self.old.plan.offsets edge ≡ Some offset →
             IsAtPosition front (numbers_of self.old.spots) edge offset →
             OnOk result (IsAtPosition (P.events past.new) (numbers_of self.new.spots) edge offset) }
-        ensures bad { (n : ℕ) (front more : List Event) → IsErrOf result (EngineFault.BadState n) → P.sound past.old →
-            IsTold self.old.plan n (P.spells past.old) self.old.spots → T.tells self.old.table →
-            IsFed self.old.plan (P.events past.old) → P.events past.old ≡ front ++ more →
-            NodeStands self.old.plan n front (T.cell self.old.table) (numbers_of self.old.spots) → ⊥ }
         ensures ticks { OnOk result (steps.new + come self.old.plan (numbers_of self.old.spots)
             ≡ steps.old + come self.old.plan (numbers_of self.new.spots)) }
         ensures passed { (front more : List Event) → P.sound past.old → All (P.spells past.old) self.old.spots →
             P.events past.old ≡ front ++ more → last_time (P.events past.old) ≡ t →
             AreAtPositions self.old.plan front (numbers_of self.old.spots) →
             OnOk result (steps.new ≡ steps.old + passed_count self.old.plan front (P.events past.new)) }
-        ensures rises { (edge : ℕ) → slice_index_or (numbers_of self.old.spots) edge 0
-            ≤ slice_index_or (numbers_of self.new.spots) edge 0 }
+
         ensures events { P.events past.new ≡ P.events past.old }
-        ensures no_full { IsErrOf result (EngineFault.Past PastFault.Full) → ⊥ }
-        ensures past_ended { IsErrOf result (EngineFault.Past PastFault.Ended) → P.ended past.old }
-        ensures past_ended_always { self.old.ended ≡ false → P.ended past.old → 0 < length self.old.plan.offsets →
+        ensures room { P.has_room past.old → P.has_room past.new }
+        ensures ended_always { self.old.ended ≡ false → P.ended past.old → 0 < length self.old.plan.offsets →
             IsErrOf result (EngineFault.Past PastFault.Ended) }
-        ensures disk { IsErrOf result (EngineFault.Past PastFault.Disk) → Rose (P.faults past.old) (P.faults past.new) }
-        ensures damaged { (place : ℕ) → IsErrOf result (EngineFault.Past (PastFault.Damaged place)) →
-            P.illegal past.new place }
+        ensures cause { (fault : PastFault) → IsErrOf result (EngineFault.Past fault) →
+            HasCause (P.illegal past.new) ⊥ (P.ended past.old) (P.faults past.old) (P.faults past.new) fault }
         ensures table { IsErrOf result EngineFault.Table → Rose (T.faults self.old.table) (T.faults self.new.table) }
 
         ensures ended { IsErrOf result EngineFault.Ended ↔ (self.old.ended ≡ true) }
-        ensures ended_same { IsErrOf result EngineFault.Ended → self.new ≡ self.old }
-        ensures ended_past { IsErrOf result EngineFault.Ended → past.new ≡ past.old }
-        ensures ended_steps { IsErrOf result EngineFault.Ended → steps.new ≡ steps.old }
-        ensures ends { OnErr result (self.new.ended ≡ true) }
-        ensures runs { OnOk result (self.new.ended ≡ false) }
+        ensures untouched { IsErrOf result EngineFault.Ended → (self.new ≡ self.old) × (past.new ≡ past.old) × (steps.new ≡ steps.old) }
+        ensures ends { self.new.ended ≡ is_err result }
 
         ensures plan { self.new.plan ≡ self.old.plan }
-        ensures stays_within { AreWithin self.new.spots (length (P.events past.new)) }
-        ensures tells { T.tells self.new.table ↔ T.tells self.old.table }
-        ensures spells { P.sound past.old → (edge : ℕ) → IsSpelledAt (P.spells past.old) self.old.spots edge →
-            IsSpelledAt (P.spells past.new) self.new.spots edge }
-        ensures keeps_room { P.has_room past.old → P.has_room past.new }
-        ensures goes { P.goes past.old past.new }
-        ensures sound { P.sound past.old → P.sound past.new }
-        ensures keeps_ended { P.ended past.new ↔ P.ended past.old }
-        ensures later { P.faults past.old ≤ P.faults past.new }
-        ensures later_table { T.faults self.old.table ≤ T.faults self.new.table }
+        ensures edges { EdgesMove (P.sound past.old) (P.spells past.old) (P.spells past.new) (length (P.events past.new)) self.old.spots self.new.spots }
+        ensures past { Kept P.goes P.sound P.ended P.faults past.old past.new }
+        ensures rows { TableKept T.tells T.faults self.old.table self.new.table }
     {
         if self.ended {
             return Err(EngineFault::Ended);
         }
-        match self.machine.replay(past, t, steps) {
-            Ok(()) => Ok(()),
-            Err(fault) => {
-                self.ended = true;
-                Err(fault)
+        self.ended = true;
+        match move_rows(&self.plan, &mut self.edges, &mut self.rows, past, t, steps) {
+            Err(fault) => return Err(fault),
+            Ok(()) => {
+                self.ended = false;
+                Ok(())
             }
         }
     }
@@ -255,7 +275,7 @@ impl<T: Table> Engine<T> {
     pub fn plan(&self) -> &TaskPlan
         ensures { result.now ≡ self.now.plan }
     {
-        &self.machine.plan
+        &self.plan
     }
 
     /// Where its edges stand, one spot for each offset of the plan.
@@ -263,7 +283,7 @@ impl<T: Table> Engine<T> {
         ensures spots { result.now ≡ self.now.spots }
         ensures same { length self.now.spots ≡ length self.now.plan.offsets }
     {
-        self.machine.edges.spots()
+        self.edges.spots()
     }
 
     /// Its table. Plan, spots and whether it has ended stay, whatever the caller does to the table.
@@ -271,8 +291,7 @@ impl<T: Table> Engine<T> {
         ensures* writes_back { sem 𝓛 (Lends (the_row T.row T.Table) T.row self.entry result (λ table. record self.old { table = table })) }
         ensures value { result.now ≡ self.old.table }
     {
-        let machine = &mut self.machine;
-        let rows = &mut machine.rows;
+        let rows = &mut self.rows;
         &mut rows.table
     }
 
@@ -280,20 +299,8 @@ impl<T: Table> Engine<T> {
     pub fn into_table(self) -> T
         ensures { result ≡ self.table }
     {
-        let Engine { machine, .. } = self;
-        let Machine { rows, .. } = machine;
+        let Engine { rows, .. } = self;
         let Rows { table, .. } = rows;
         table
-    }
-}
-
-/// Whether it is that the past is full.
-fn is_full(fault: EngineFault) -> bool
-    ensures full { IsTrue result → fault ≡ EngineFault.Past PastFault.Full }
-    ensures other { result ≡ false → fault ≡ EngineFault.Past PastFault.Full → ⊥ }
-{
-    match fault {
-        EngineFault::Past(PastFault::Full) => true,
-        _ => false,
     }
 }

@@ -1,11 +1,13 @@
-ghost use Rattle.std.specs.Prelude.{◌≡◌, ◌↔◌, ℕ, ◌+◌, ◌≤◌, ◌<◌, List, ◌++◌, length, Some, slice_get, slice_index_or, OnOk, IsErrOf};
+ghost use Rattle.std.specs.Prelude.{◌≡◌, ℕ, ◌+◌, ◌<◌, List, ◌++◌, length, Some, slice_get, OnOk, IsErrOf};
 ghost use Rattle.rg_bytes.specs.Counts.{Rose};
 ghost use Rattle.rg_event.specs.declared.event.Event.{Event};
 ghost use Rattle.rg_event.specs.Rising.{last_time};
 ghost use Rattle.rg_plan.specs.Whole.{IsWhole};
+ghost use Rattle.rg_past.specs.Keeping.{Kept, HasCause};
+ghost use Rattle.rg_state.specs.Keeping.{TableKept};
 ghost use Rattle.rg_window.specs.Placed.{AreWithin, IsSpelledAt, numbers_of};
-ghost use Rattle.rg_engine.specs.Feeding.{IsFed};
-ghost use Rattle.rg_engine.specs.Standing.{IsAtPosition, IsTold, NodeStands, come};
+ghost use Rattle.rg_engine.specs.Carrying.{CarriesOn, EdgesMove};
+ghost use Rattle.rg_engine.specs.Standing.{IsAtPosition, NodeStands, come};
 ghost use Rattle.rg_engine.specs.Parts.{ArePartsOf};
 
 use crate::changer::{Changer, Rows};
@@ -32,48 +34,35 @@ pub(crate) fn move_rows<P: Past, T: Table, L: Ledger>(
     requires offsets { edges.old.offsets ≡ plan.now.offsets }
     requires whole { IsWhole plan.now }
     requires parts { ArePartsOf plan.now rows.old.parts.items }
-    ensures stands { (n : ℕ) (front more : List Event) → P.sound past.old →
-        IsTold plan.now n (P.spells past.old) edges.old.spots → T.tells rows.old.table →
-        IsFed plan.now (P.events past.old) → P.events past.old ≡ front ++ more → last_time (P.events past.old) ≡ t →
-        NodeStands plan.now n front (T.cell rows.old.table) (numbers_of edges.old.spots) →
+    ensures stands { (n : ℕ) (first : List Event) → last_time (P.events past.old) ≡ t →
+        CarriesOn plan.now n (P.sound past.old) (P.spells past.old) (T.tells rows.old.table)
+        (P.events past.old) (P.events past.old) first (T.cell rows.old.table) edges.old.spots →
         OnOk result (NodeStands plan.now n (P.events past.old) (T.cell rows.new.table) (numbers_of edges.new.spots)) }
     ensures places { (edge offset : ℕ) (front more : List Event) → P.sound past.old →
         IsSpelledAt (P.spells past.old) edges.old.spots edge → P.events past.old ≡ front ++ more →
         last_time (P.events past.old) ≡ t → slice_get plan.now.offsets edge ≡ Some offset →
         IsAtPosition front (numbers_of edges.old.spots) edge offset →
         OnOk result (IsAtPosition (P.events past.old) (numbers_of edges.new.spots) edge offset) }
-    ensures bad { (n : ℕ) (front more : List Event) → IsErrOf result (EngineFault.BadState n) →
-        P.sound past.old → IsTold plan.now n (P.spells past.old) edges.old.spots →
-        T.tells rows.old.table → IsFed plan.now (P.events past.old) → P.events past.old ≡ front ++ more →
-        NodeStands plan.now n front (T.cell rows.old.table) (numbers_of edges.old.spots) → ⊥ }
+    ensures bad { (n : ℕ) (first : List Event) → IsErrOf result (EngineFault.BadState n) →
+        CarriesOn plan.now n (P.sound past.old) (P.spells past.old) (T.tells rows.old.table)
+        (P.events past.old) (P.events past.old) first (T.cell rows.old.table) edges.old.spots → ⊥ }
     ensures ticks { OnOk result (steps.new + come plan.now (numbers_of edges.old.spots)
         ≡ steps.old + come plan.now (numbers_of edges.new.spots)) }
-    ensures rises { (edge : ℕ) → slice_index_or (numbers_of edges.old.spots) edge 0
-        ≤ slice_index_or (numbers_of edges.new.spots) edge 0 }
     ensures table { IsErrOf result EngineFault.Table → Rose (T.faults rows.old.table) (T.faults rows.new.table) }
     ensures not_ended { IsErrOf result EngineFault.Ended → ⊥ }
 
-    ensures no_full { IsErrOf result (EngineFault.Past PastFault.Full) → ⊥ }
-    ensures past_ended { IsErrOf result (EngineFault.Past PastFault.Ended) → P.ended past.old }
+    ensures cause { (fault : PastFault) → IsErrOf result (EngineFault.Past fault) →
+        HasCause (P.illegal past.new) ⊥ (P.ended past.old) (P.faults past.old) (P.faults past.new) fault }
     ensures stops { P.ended past.old → 0 < length plan.now.offsets → IsErrOf result (EngineFault.Past PastFault.Ended) }
-    ensures disk { IsErrOf result (EngineFault.Past PastFault.Disk) → Rose (P.faults past.old) (P.faults past.new) }
-    ensures damaged { (place : ℕ) → IsErrOf result (EngineFault.Past (PastFault.Damaged place)) →
-        P.illegal past.new place }
 
     ensures same_parts { rows.new.parts ≡ rows.old.parts }
-    ensures tells { T.tells rows.new.table ↔ T.tells rows.old.table }
-    ensures later_table { T.faults rows.old.table ≤ T.faults rows.new.table }
+    ensures rows { TableKept T.tells T.faults rows.old.table rows.new.table }
     ensures same_offsets { edges.new.offsets ≡ edges.old.offsets }
     ensures same_length { length edges.new.spots ≡ length edges.old.spots }
-    ensures stay_within { AreWithin edges.new.spots (length (P.events past.new)) }
-    ensures spells { P.sound past.old → (edge : ℕ) → IsSpelledAt (P.spells past.old) edges.old.spots edge →
-        IsSpelledAt (P.spells past.new) edges.new.spots edge }
+    ensures edges { EdgesMove (P.sound past.old) (P.spells past.old) (P.spells past.new) (length (P.events past.new)) edges.old.spots edges.new.spots }
     ensures events { P.events past.new ≡ P.events past.old }
-    ensures goes { P.goes past.old past.new }
-    ensures sound { P.sound past.old → P.sound past.new }
-    ensures keeps_room { P.has_room past.old → P.has_room past.new }
-    ensures keeps_ended { P.ended past.new ↔ P.ended past.old }
-    ensures later { P.faults past.old ≤ P.faults past.new }
+    ensures room { P.has_room past.old → P.has_room past.new }
+    ensures past { Kept P.goes P.sound P.ended P.faults past.old past.new }
 {
     let mut changer = Changer { plan, rows, steps };
     match move_changer(edges, past, t, &mut changer) {
@@ -94,50 +83,36 @@ fn move_changer<'p, 'r, 's, P: Past, T: Table, L: Ledger>(
     requires offsets { edges.old.offsets ≡ changer.old.plan.now.offsets }
     requires whole { IsWhole changer.old.plan.now }
     requires parts { ArePartsOf changer.old.plan.now changer.old.rows.now.parts.items }
-    ensures stands { (n : ℕ) (front more : List Event) → P.sound past.old →
-        IsTold changer.old.plan.now n (P.spells past.old) edges.old.spots → T.tells changer.old.rows.now.table →
-        IsFed changer.old.plan.now (P.events past.old) → P.events past.old ≡ front ++ more → last_time (P.events past.old) ≡ t →
-        NodeStands changer.old.plan.now n front (T.cell changer.old.rows.now.table) (numbers_of edges.old.spots) →
+    ensures stands { (n : ℕ) (first : List Event) → last_time (P.events past.old) ≡ t →
+        CarriesOn changer.old.plan.now n (P.sound past.old) (P.spells past.old) (T.tells changer.old.rows.now.table)
+        (P.events past.old) (P.events past.old) first (T.cell changer.old.rows.now.table) edges.old.spots →
         OnOk result (NodeStands changer.old.plan.now n (P.events past.old) (T.cell changer.new.rows.now.table) (numbers_of edges.new.spots)) }
     ensures places { (edge offset : ℕ) (front more : List Event) → P.sound past.old →
         IsSpelledAt (P.spells past.old) edges.old.spots edge → P.events past.old ≡ front ++ more →
         last_time (P.events past.old) ≡ t → slice_get changer.old.plan.now.offsets edge ≡ Some offset →
         IsAtPosition front (numbers_of edges.old.spots) edge offset →
         OnOk result (IsAtPosition (P.events past.old) (numbers_of edges.new.spots) edge offset) }
-    ensures bad { (n : ℕ) (front more : List Event) → IsErrOf result (MoveFault.Visit (TableFault.BadState n)) →
-        P.sound past.old → IsTold changer.old.plan.now n (P.spells past.old) edges.old.spots →
-        T.tells changer.old.rows.now.table → IsFed changer.old.plan.now (P.events past.old) → P.events past.old ≡ front ++ more →
-        NodeStands changer.old.plan.now n front (T.cell changer.old.rows.now.table) (numbers_of edges.old.spots) → ⊥ }
+    ensures bad { (n : ℕ) (first : List Event) → IsErrOf result (MoveFault.Visit (TableFault.BadState n)) →
+        CarriesOn changer.old.plan.now n (P.sound past.old) (P.spells past.old) (T.tells changer.old.rows.now.table)
+        (P.events past.old) (P.events past.old) first (T.cell changer.old.rows.now.table) edges.old.spots → ⊥ }
     ensures ticks { OnOk result (changer.new.steps.now + come changer.old.plan.now (numbers_of edges.old.spots)
         ≡ changer.old.steps.now + come changer.old.plan.now (numbers_of edges.new.spots)) }
-    ensures rises { (edge : ℕ) → slice_index_or (numbers_of edges.old.spots) edge 0
-        ≤ slice_index_or (numbers_of edges.new.spots) edge 0 }
     ensures table { IsErrOf result (MoveFault.Visit TableFault.Disk) → Rose (T.faults changer.old.rows.now.table) (T.faults changer.new.rows.now.table) }
 
-    ensures no_full { IsErrOf result (MoveFault.Past PastFault.Full) → ⊥ }
-    ensures past_ended { IsErrOf result (MoveFault.Past PastFault.Ended) → P.ended past.old }
+    ensures cause { (fault : PastFault) → IsErrOf result (MoveFault.Past fault) →
+        HasCause (P.illegal past.new) ⊥ (P.ended past.old) (P.faults past.old) (P.faults past.new) fault }
     ensures stops { P.ended past.old → 0 < length changer.old.plan.now.offsets →
         IsErrOf result (MoveFault.Past PastFault.Ended) }
-    ensures disk { IsErrOf result (MoveFault.Past PastFault.Disk) → Rose (P.faults past.old) (P.faults past.new) }
-    ensures damaged { (place : ℕ) → IsErrOf result (MoveFault.Past (PastFault.Damaged place)) →
-        P.illegal past.new place }
 
-    ensures rows { changer.new.rows.ghost_name ≡ changer.old.rows.ghost_name }
-    ensures steps { changer.new.steps.ghost_name ≡ changer.old.steps.ghost_name }
+    ensures lent { (changer.new.rows.ghost_name ≡ changer.old.rows.ghost_name) × (changer.new.steps.ghost_name ≡ changer.old.steps.ghost_name) }
     ensures same_parts { changer.new.rows.now.parts ≡ changer.old.rows.now.parts }
-    ensures tells { T.tells changer.new.rows.now.table ↔ T.tells changer.old.rows.now.table }
-    ensures later_table { T.faults changer.old.rows.now.table ≤ T.faults changer.new.rows.now.table }
+    ensures rows { TableKept T.tells T.faults changer.old.rows.now.table changer.new.rows.now.table }
     ensures same_offsets { edges.new.offsets ≡ edges.old.offsets }
     ensures same_length { length edges.new.spots ≡ length edges.old.spots }
-    ensures stay_within { AreWithin edges.new.spots (length (P.events past.new)) }
-    ensures spells { P.sound past.old → (edge : ℕ) → IsSpelledAt (P.spells past.old) edges.old.spots edge →
-        IsSpelledAt (P.spells past.new) edges.new.spots edge }
+    ensures edges { EdgesMove (P.sound past.old) (P.spells past.old) (P.spells past.new) (length (P.events past.new)) edges.old.spots edges.new.spots }
     ensures events { P.events past.new ≡ P.events past.old }
-    ensures goes { P.goes past.old past.new }
-    ensures sound { P.sound past.old → P.sound past.new }
-    ensures keeps_room { P.has_room past.old → P.has_room past.new }
-    ensures keeps_ended { P.ended past.new ↔ P.ended past.old }
-    ensures later { P.faults past.old ≤ P.faults past.new }
+    ensures room { P.has_room past.old → P.has_room past.new }
+    ensures past { Kept P.goes P.sound P.ended P.faults past.old past.new }
 {
     match edges.move_to(past, t, changer) {
         Err(fault) => return Err(fault),

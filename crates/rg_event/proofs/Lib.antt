@@ -9,3 +9,4 @@ pub mod ColumnValues
 pub mod RoundTrip
 pub mod TaggedValues
 pub mod Rising
+pub mod Parsed

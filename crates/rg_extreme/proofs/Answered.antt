@@ -1,18 +1,19 @@
 -- The least and the greatest of a list of values.
-use Rattle.std.proofs.Common.{◌≡◌, ℕ, ◌<◌, ℤ, Bool, true, false, List, [], ◌∷◌, ◌⊎◌, inl, inr, refl, ap, sym, ◌∙◌, arith}
+use Rattle.std.proofs.Common.{◌≡◌, ℕ, ℤ, Bool, true, false, List, [], ◌∷◌, ◌⊎◌, inl, inr, refl, ap, sym, ◌∙◌, rules}
 use Rattle.std.specs.Prelude.{int_lt, ⊤}
+use Rattle.std.specs.List.{list_any, All}
+use Rattle.std.proofs.lemmas.List.Elements.{All-cons, All-weaker}
 use Rattle.std.proofs.lemmas.Bool.{true≢false}
 use Rattle.std.proofs.lemmas.Bool.Decides.{Decides-int_eq}
-use Rattle.rg_agg.specs.Standing.{AreCounts, count_in, places}
+use Rattle.rg_agg.specs.Unbeaten.{unbeaten, is_less, is_greater}
 use Rattle.rg_event.specs.declared.value.Value.{Value}
 use Rattle.rg_metric.specs.Answers.{answer_of, number_of, numbers, least, greatest}
-use Rattle.rg_metric.specs.Same.{same_value}
-use Rattle.rg_metric.proofs.Same.{same_value-true}
 use Rattle.rg_metric.specs.declared.answer.Answer.TheVariants.{Number}
 use Rattle.rg_words.specs.declared.func.Func.TheVariants.{Min, Max}
-use Rattle.rg_tally.specs.Pairs.{once}
-use Rattle.rg_tally.specs.Reading.{is_less}
-use Rattle.rg_tally.proofs.Places.{places_first, first_place}
+use Rattle.rg_extreme.specs.Sides.{weakest}
+use Rattle.rg_extreme.specs.declared.side.Side.TheVariants.{Least, Greatest}
+use Rattle.rg_extreme.proofs.Ranks.{ranks}
+use Rattle.rg_extreme.proofs.Unbeaten.{first_holds, least_first, or_parts}
 
 -- a number of these
 abbrev Among : ℤ → List ℤ → Type 0
@@ -62,36 +63,30 @@ greatest_is m n (k ∷ ns) among none = by (int_lt n k) refl among
         rw is (first_on (inl (second ∙ sym same)))
     by false is (inr (inr rest)) second_on first_on = rw is (first_on (inr rest))
 
-later_place : (u v : Value) (values : List Value) → 0 < places u values → 0 < places u (v ∷ values)
-later_place u v values some = omega (arith, some, places_first u v values)
+none_less : (m : Value) (values : List Value) → list_any (λ w. is_less w m) values ≡ false → NoneLess (number_of m) (numbers values)
+none_less m [] none = tt
+none_less m (v ∷ vs) none = let parts = or_parts (is_less v m) (list_any (λ w. is_less w m) vs) none in (parts.0, none_less m vs parts.1)
 
-among_numbers : (v : Value) (values : List Value) → 0 < places v values → Among (number_of v) (numbers values)
-among_numbers v [] some = absurd (omega (arith, some))
-among_numbers v (w ∷ ws) some = by (same_value v w) refl (λ h. among_numbers v ws h)
-  where
-    by : (b : Bool) → same_value v w ≡ b → (0 < places v ws → Among (number_of v) (numbers ws)) → Among (number_of v) (numbers (w ∷ ws))
-    by true is rest = inl (ap number_of (same_value-true v w is))
-    by false is rest =
-        let no : once v w ≡ 0 = rw is refl in
-        inr (rest (omega (arith, some, no, places_first v w ws)))
+none_greater : (m : Value) (values : List Value) → list_any (λ w. is_greater w m) values ≡ false → NoneGreater (number_of m) (numbers values)
+none_greater m [] none = tt
+none_greater m (v ∷ vs) none = let parts = or_parts (is_greater v m) (list_any (λ w. is_greater w m) vs) none in (parts.0, none_greater m vs parts.1)
 
-none_less : (v : Value) (values : List Value) → ((u : Value) → 0 < places u values → is_less u v ≡ false) → NoneLess (number_of v) (numbers values)
-none_less v [] none = tt
-none_less v (w ∷ ws) none = (none w (first_place w ws), none_less v ws (λ u some. none u (later_place u w ws some)))
+all_among : (values : List Value) → All (λ v. Among (number_of v) (numbers values)) values
+all_among [] = search rules
+all_among (v ∷ vs) =
+    All-cons (λ w. Among (number_of w) (numbers (v ∷ vs))) v vs (inl refl)
+    (All-weaker (λ w. Among (number_of w) (numbers vs)) (λ w. Among (number_of w) (numbers (v ∷ vs))) (λ w among. inr among) vs (all_among vs))
 
-none_greater : (v : Value) (values : List Value) → ((u : Value) → 0 < places u values → is_less v u ≡ false) → NoneGreater (number_of v) (numbers values)
-none_greater v [] none = tt
-none_greater v (w ∷ ws) none = (none w (first_place w ws), none_greater v ws (λ u some. none u (later_place u w ws some)))
+first_among : (beats : Value → Value → Bool) (values : List Value) (p : Value × ℕ) (ps : List (Value × ℕ)) → unbeaten beats values ≡ p ∷ ps → Among (number_of p.0) (numbers values)
+first_among beats values p ps is = first_holds (λ v. Among (number_of v) (numbers values)) beats values p ps (all_among values) is
 
--- a value that is there, below which none is, is the least one
-pub answers_least : (v : Value) (pairs : List (Value × ℕ)) (values : List Value) → AreCounts pairs values → 0 < count_in v pairs → ((u : Value) → 0 < count_in u pairs → is_less u v ≡ false) → Number (number_of v) ≡ answer_of Min values
-answers_least v pairs [] counts some none = absurd (omega (arith, some, counts.1 v))
-answers_least v pairs (w ∷ ws) counts some none =
-    let among = among_numbers v (w ∷ ws) (omega (arith, some, counts.1 v)) in
-    ap (λ number. Number number) (sym (least_is (number_of v) (number_of w) (numbers ws) among (none_less v (w ∷ ws) (λ u here. none u (omega (arith, here, counts.1 u))))))
+-- the first unbeaten value is the least one, and the greatest one
+pub answers_least : (p : Value × ℕ) (ps : List (Value × ℕ)) (values : List Value) → p ∷ ps ≡ unbeaten is_less values → Number (number_of p.0) ≡ answer_of Min values
+answers_least p ps [] is = cc
+answers_least p ps (v ∷ vs) is =
+    ap (λ number. Number number) (sym (least_is (number_of p.0) (number_of v) (numbers vs) (first_among is_less (v ∷ vs) p ps (sym is)) (none_less p.0 (v ∷ vs) (least_first is_less (weakest Least) (ranks Least) (v ∷ vs) p ps (sym is)))))
 
-pub answers_greatest : (v : Value) (pairs : List (Value × ℕ)) (values : List Value) → AreCounts pairs values → 0 < count_in v pairs → ((u : Value) → 0 < count_in u pairs → is_less v u ≡ false) → Number (number_of v) ≡ answer_of Max values
-answers_greatest v pairs [] counts some none = absurd (omega (arith, some, counts.1 v))
-answers_greatest v pairs (w ∷ ws) counts some none =
-    let among = among_numbers v (w ∷ ws) (omega (arith, some, counts.1 v)) in
-    ap (λ number. Number number) (sym (greatest_is (number_of v) (number_of w) (numbers ws) among (none_greater v (w ∷ ws) (λ u here. none u (omega (arith, here, counts.1 u))))))
+pub answers_greatest : (p : Value × ℕ) (ps : List (Value × ℕ)) (values : List Value) → p ∷ ps ≡ unbeaten is_greater values → Number (number_of p.0) ≡ answer_of Max values
+answers_greatest p ps [] is = cc
+answers_greatest p ps (v ∷ vs) is =
+    ap (λ number. Number number) (sym (greatest_is (number_of p.0) (number_of v) (numbers vs) (first_among is_greater (v ∷ vs) p ps (sym is)) (none_greater p.0 (v ∷ vs) (least_first is_greater (weakest Greatest) (ranks Greatest) (v ∷ vs) p ps (sym is)))))

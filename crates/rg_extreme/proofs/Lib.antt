@@ -1,1 +1,9 @@
-mod Answered
+pub mod Ranks
+pub mod Unbeaten
+pub mod Rows
+pub mod Extremes
+pub mod Answered
+pub mod Ends
+pub mod Removals
+pub mod Additions
+pub mod ReadExtremes

@@ -1,24 +1,22 @@
 -- The states of a least and of a greatest value.
-use Rattle.std.specs.Prelude.{ℕ, List, Ok}
-use Rattle.rg_agg.specs.Held.{Begins, Held, and_then, lowest, highest, number_value_at}
-use Rattle.std.proofs.Props.{props}
-use Rattle.rg_agg.specs.Stands.{IsNumber}
+use Rattle.std.specs.Prelude.{Bool, ℕ, List, [], Ok}
+use Rattle.rg_agg.specs.Held.{Begins, Held, and_then, lowest, highest, number_value_at, size_behind_at}
+use Rattle.rg_agg.specs.Unbeaten.{is_less, is_greater}
 use Rattle.rg_event.specs.declared.value.Value.{Value}
-use Rattle.rg_tally.specs.Pairs.{IsTally}
-use Rattle.rg_tally.specs.Props.{IsTally-prop}
-use Rattle.rg_tally.specs.Reading.{is_less, pairs_at}
+use Rattle.rg_tally.specs.Reading.{length_at, more_pairs_at}
 
--- 05, and ints or ids that rise as numbers, with their counts
+-- a tag, the number of values and that of pairs, and the pairs: ints or ids, each of which beats the next one,
+-- with their numbers, in sum at most that of the values
+unfoldable pub extreme_at : (Value → Value → Bool) → ℕ → List ℕ → Begins (ℕ × List (Value × ℕ))
+extreme_at beats tag bytes =
+    and_then (size_behind_at tag bytes) (λ n behind.
+    and_then (length_at behind) (λ count left.
+    and_then (more_pairs_at number_value_at beats n [] count left) (λ pairs rest. Ok ((n, pairs), rest))))
+
+-- 15 in hexadecimal, and values that rise
 abbrev pub lowest_at : List ℕ → Begins Held
-lowest_at bytes = and_then (pairs_at number_value_at is_less 5 bytes) (λ pairs left. Ok (lowest pairs, left))
+lowest_at bytes = and_then (extreme_at is_less 21 bytes) (λ read left. Ok (lowest read.0 read.1, left))
 
--- 06, and the same
+-- 16 in hexadecimal, and values that fall
 abbrev pub highest_at : List ℕ → Begins Held
-highest_at bytes = and_then (pairs_at number_value_at is_less 6 bytes) (λ pairs left. Ok (highest pairs, left))
-
-pub IsNumber-prop : (value : Value) → IsProp (IsNumber value)
-IsNumber-prop value = Prim.hlevel props
-
--- that pairs are a tally of numbers has at most one proof
-pub IsTally-numbers : (pairs : List (Value × ℕ)) → IsProp (IsTally IsNumber is_less pairs)
-IsTally-numbers pairs = IsTally-prop IsNumber IsNumber-prop is_less pairs
+highest_at bytes = and_then (extreme_at is_greater 22 bytes) (λ read left. Ok (highest read.0 read.1, left))

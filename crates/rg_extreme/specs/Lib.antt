@@ -1,1 +1,5 @@
+pub mod Sides
+pub mod Deques
+pub mod States
 pub mod Extremes
+pub mod Ticks

@@ -2,13 +2,14 @@
 use Rattle.std.proofs.Common.{◌≡◌, ◌≢◌, ◌⊎◌, inl, inr, ℕ, ◌+◌, ◌^◌, ◌≤◌, ◌<◌, List, [], ◌∷◌, ◌++◌, length, get_or, take, drop, refl, sym, ◌∙◌, ap, subst, arith, append_assoc, length-append, length-drop, take-append-drop}
 use Rattle.std.proofs.lemmas.List.{take_at, drop_at, drop_more, drop_all, drop-drop, length-take-le, take-take}
 use Rattle.std.proofs.lemmas.List.Elements.{All-nil}
+use Rattle.std.proofs.Math.Seq.{take-add}
 use Rattle.std.proofs.lemmas.Bool.{cases_eq}
 use Rattle.std.specs.Prelude.{All, slice_index}
 use Rattle.std.specs.Int.{to_be_bytes, w64}
 use Rattle.rg_host.specs.Image.{Holds, Torn}
 use Rattle.rg_frame.specs.Frames.{body, frames, FitsFrame, Ends, IsLog, HasFrames, HasPayloads, EndsAt}
 use Rattle.rg_frame.specs.LogState.{Reaches}
-use Rattle.rg_frame.specs.Steps.{Brief, Begun, Keeps, staging, Staged, Appended, Grows, From, OldOrNone}
+use Rattle.rg_frame.specs.Steps.{Brief, Begun, Keeps, staging, Staged, Added, Appended, Grows, From, OldOrNone}
 use Rattle.rg_frame.proofs.FrameLaws.{length-body, length-frames, frames-push, length-frames-push}
 use Rattle.rg_frame.proofs.FrameLists.{log_at, fits_push}
 
@@ -180,6 +181,32 @@ written_on front rest bytes old new at size is holds =
     let e : drop (at + length bytes) (front ++ rest) ≡ drop (length bytes) rest = sym (drop-drop (length bytes) at (front ++ rest)) ∙ ap (λ (l : List ℕ). drop (length bytes) l) (drop_at front rest at size) in
     let here : new ≡ take at (front ++ rest) ++ bytes ++ drop (at + length bytes) (front ++ rest) = holds ∙ ap (λ (l : List ℕ). take at l ++ bytes ++ drop (at + length bytes) l) is in
     here ∙ ap (λ (l : List ℕ). l ++ bytes ++ drop (at + length bytes) (front ++ rest)) (take_at front rest at size) ∙ ap (λ (l : List ℕ). front ++ bytes ++ l) e
+
+take_none : (end : ℕ) (a b : List ℕ) → end ≡ 0 → take end b ≡ take end a
+take_none end a b none = ap (λ (n : ℕ). take n b) none ∙ sym (ap (λ (n : ℕ). take n a) none)
+
+-- what stands before the place stays when a file is begun
+begun_before : (end : ℕ) (a b : List ℕ) → Reaches end a → Begun a b → take end b ≡ take end a
+begun_before end a b reaches (inl same) = ap (λ (l : List ℕ). take end l) same.1
+begun_before end a b (inl long) (inr brief) = take_none end a b (omega (arith, long, brief.0))
+begun_before end a b (inr none) (inr brief) = take_none end a b none.0
+
+-- the bytes of the file once the gate is open
+pub added-written : (end : ℕ) (payload a b c : List ℕ) → Reaches end a → Prepared end payload a b → Holds end (1 ∷ []) b c → Added end payload a c
+added-written end payload a b c reaches prepared holds =
+    let begun : List ℕ = prepared.0 in
+    let rest : List ℕ = prepared.2.0 in
+    let front : List ℕ = take end begun in
+    let gate : List ℕ = take 1 (drop end begun) in
+    let within = reaches-begun end a begun reaches prepared.1 in
+    let n : length front ≡ end = length-take-le end begun (omega (arith, within)) in
+    let one : length gate ≡ 1 = length-take-le 1 (drop end begun) (omega (arith, within, length-drop end begun)) in
+    let is : b ≡ front ++ (gate ++ (staging payload ++ rest)) = prepared.2.1 ∙ ap (λ (l : List ℕ). l ++ (staging payload ++ rest)) (take-add end 1 begun) ∙ append_assoc front gate (staging payload ++ rest) in
+    let written = written_on front (gate ++ (staging payload ++ rest)) (1 ∷ []) b c end n is holds in (
+      rest,
+      written ∙ ap (λ (l : List ℕ). (front ++ 1 ∷ []) ++ l) (drop_at gate (staging payload ++ rest) 1 one) ∙ append_assoc front (1 ∷ []) (staging payload ++ rest)
+          ∙ ap (λ (l : List ℕ). l ++ 1 ∷ (staging payload ++ rest)) (begun_before end a begun reaches prepared.1),
+    )
 
 stage_shape : (front size payload rest d : List ℕ) → d ≡ (((front ++ size) ++ payload) ++ 0 ∷ []) ++ rest → d ≡ front ++ (((size ++ payload) ++ 0 ∷ []) ++ rest)
 stage_shape front size payload rest d is = is ∙ simp append_assoc

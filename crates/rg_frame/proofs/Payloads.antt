@@ -7,7 +7,7 @@ use Rattle.std.proofs.lemmas.List.Elements.{All-head, All-tail}
 use Rattle.std.proofs.lemmas.Nat.{from_be_bytes-to_be_bytes_8}
 use Rattle.std.specs.Prelude.{slice_index, All}
 use Rattle.std.specs.Int.{to_be_bytes, from_be_bytes, w64}
-use Rattle.rg_frame.specs.Frames.{body, frames, FitsFrame, Ends, HasPayloads, size_in, payload_in, payload_at}
+use Rattle.rg_frame.specs.Frames.{body, frames, FitsFrame, Ends, HasPayloads, IsDamaged, size_in, payload_in, payload_at}
 use Rattle.rg_frame.specs.Looks.{IsClosed, IsTorn, HoldsFrame}
 use Rattle.rg_frame.proofs.FrameLaws.{length-body, length-frames, frames-between}
 
@@ -50,6 +50,15 @@ closed_payload place bytes (inr other) = payload_in-closed (drop place bytes) (i
 pub closed_torn : (place : ℕ) (bytes : List ℕ) → IsClosed place bytes → IsTorn place bytes → ⊥
 closed_torn place bytes (inl short) torn = omega (arith, short, torn.longer)
 closed_torn place bytes (inr other) torn = other (ap (λ (l : List ℕ). slice_index l 0) torn.is)
+
+-- where the frame list is undefined an open gate stands without a whole frame
+pub damaged_torn : (place : ℕ) (bytes : List ℕ) → IsDamaged place bytes → IsTorn place bytes
+damaged_torn place bytes damaged = record {
+  rest = damaged.rest;
+  is = ap (λ (l : List ℕ). drop place l) damaged.is ∙ drop_at (frames damaged.payloads) (1 ∷ damaged.rest) place damaged.ends;
+  longer = damaged.longer;
+  cut = damaged.cut;
+}
 
 -- The frame list, by places.
 

@@ -1,6 +1,7 @@
 -- How calls that write one file join.
 use Rattle.std.proofs.Common.{◌≡◌, ◌≢◌, ℕ, ◌≤◌, List, [], Option, Some, None, refl, sym, ◌∙◌, subst}
 use Rattle.std.specs.Option.{ForSome}
+use Rattle.std.specs.Prelude.{⊤}
 use Rattle.rg_host.specs.Image.{Image, Becomes, InFile, Torn, IsAfter, Follows, NothingPending}
 use Rattle.rg_host.specs.Moments.{Moment, Moments, LeavesAll}
 use Rattle.rg_host.proofs.Runs.{moments_then, moments-weaker, leaves_all-none}
@@ -128,3 +129,11 @@ in_file-where file P S R old new here step join = record {
 -- nothing changes in a file without a frame
 pub becomes-none : (file : ℕ) (old new : Option Image) → new ≡ old → ForSome old (λ v. HasPayloads [] (v file)) → Becomes old new (InFile file (λ _ bytes. HasPayloads [] bytes))
 becomes-none file old new same none = record { told = λ x is. (x, same ∙ is, record { there = none x is; elsewhere = λ other differs. refl }); untold = λ untold. same ∙ untold }
+
+-- no other file than this one changes, whatever becomes of it
+
+pub others-stay : (file : ℕ) (old new : Option Image) → new ≡ old → Becomes old new (InFile file (λ _ _. ⊤))
+others-stay file old new same = record { told = λ x is. (x, same ∙ is, record { there = tt; elsewhere = λ other differs. refl }); untold = λ none. same ∙ none }
+
+pub others-then : (file : ℕ) (P Q : List ℕ → List ℕ → Type 0) (old mid new : Option Image) → Becomes old mid (InFile file P) → Becomes mid new (InFile file Q) → Becomes old new (InFile file (λ _ _. ⊤))
+others-then file P Q old mid new first second = in_file-then file P Q (λ _ _. ⊤) old mid new first second (λ a b c p q. tt)

@@ -3,7 +3,7 @@ use Rattle.std.specs.Prelude.{◌≡◌, ◌⊎◌, ◌<◌, ◌≤◌, ℕ, Boo
 use Rattle.std.specs.Option.{ForSome}
 use Rattle.rg_host.specs.Image.{Image}
 
--- What a log knows: the number of its file, the place that it has come to, whether the frame list was seen to end there, and whether a write of it failed.
+-- What a log knows: the number of its file, the place that it has come to, whether the frame list was seen to end there, and whether an append or a clear of it failed.
 pub record LogState : Type 0 where
   pub file : ℕ
   pub end : ℕ

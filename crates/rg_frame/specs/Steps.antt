@@ -52,3 +52,7 @@ staging payload = body payload ++ 0 ∷ []
 -- the frame stands behind the gate at that place, and a closed gate behind it
 abbrev pub Staged : ℕ → List ℕ → List ℕ → List ℕ → Type 0
 Staged end payload old new = (rest : List ℕ) × (new ≡ take (end + 1) old ++ (staging payload ++ rest))
+
+-- the bytes before that place as they were, an open gate, the frame and a closed gate
+abbrev pub Added : ℕ → List ℕ → List ℕ → List ℕ → Type 0
+Added end payload old new = (rest : List ℕ) × (new ≡ take end old ++ 1 ∷ (staging payload ++ rest))

@@ -11,7 +11,7 @@ pub enum FrameFault {
     Damaged(u64),
     /// Memory ran out.
     Memory,
-    /// An earlier write of this log failed.
+    /// An earlier `append` or `clear` of this log failed.
     Ended,
 }
 
@@ -21,7 +21,7 @@ impl fmt::Display for FrameFault {
             FrameFault::Disk => f.write_str("a call on the file failed"),
             FrameFault::Damaged(place) => write!(f, "the frame at byte {place} is damaged"),
             FrameFault::Memory => f.write_str("out of memory"),
-            FrameFault::Ended => f.write_str("an earlier write of the log failed"),
+            FrameFault::Ended => f.write_str("an earlier append or clear of the log failed"),
         }
     }
 }

@@ -1,4 +1,4 @@
-ghost use Rattle.std.specs.Prelude.{◌≡◌, ◌↔◌, ◌≢◌, ◌⊎◌, ◌≤◌, ◌<◌, ◌+◌, ◌^◌, [], ◌∷◌, ◌++◌, ℕ, List, min, length, slice_index, OnOk, OnErr, IfOk, IfErr, IfSome, IfNone, IsErrOf, Option, Err, true, false};
+ghost use Rattle.std.specs.Prelude.{◌≡◌, ◌↔◌, ◌≢◌, ◌⊎◌, ◌≤◌, ◌<◌, ◌+◌, ◌^◌, [], ◌∷◌, ◌++◌, ℕ, List, min, length, slice_index, OnOk, OnErr, IfOk, IfErr, IfSome, IfNone, IsErrOf, Option, Err, true, false, ⊤};
 ghost use Rattle.std.specs.Option.{ForSome};
 ghost use Rattle.rg_bytes.specs.Counts.{Rose};
 ghost use Rattle.rg_host.specs.Image.{Image, Becomes, InFile, NothingPending};
@@ -7,7 +7,7 @@ ghost use Rattle.rg_frame.specs.Calls.{Writes};
 ghost use Rattle.rg_frame.specs.Frames.{IsLog, Begins, HasPayloads, IsDamaged};
 ghost use Rattle.rg_frame.specs.LogState.{ReachesEnd};
 ghost use Rattle.rg_frame.specs.Looks.{HoldsFrame, HoldsHead, IsClosed, IsTorn, Next};
-ghost use Rattle.rg_frame.specs.Steps.{From, Grows, Appended, OldOrNone};
+ghost use Rattle.rg_frame.specs.Steps.{From, Grows, Added, Appended, OldOrNone};
 
 use crate::fault::FrameFault;
 use crate::look::{look, read_full};
@@ -18,8 +18,8 @@ use std::marker::Model;
 /// A log of frames in one file of a host.
 ///
 /// `file` is the file's number, below 8. `end` is the place that the log has come to, in bytes, at
-/// most 2^62. The log is ready once the frame list was seen to end there, and ended once a write
-/// of it failed.
+/// most 2^62. The log is ready once the frame list was seen to end there, and ended once an
+/// `append` or a `clear` failed.
 #[derive(Drop)]
 pub struct FrameLog {
     file: u32,
@@ -39,12 +39,14 @@ impl Model for FrameLog {
     ghost invariant = { λ log. (log.file < 8) × (log.end ≤ 2 ^ 62) };
 }
 
-/// A frame that was found: the place of its gate, the length of its payload and the place of the
-/// next gate, in bytes.
+/// A frame that was found.
 #[derive(Clone, Copy, Debug, PartialEq, Eq, Hash)]
 pub struct Head {
+    /// The place of its gate, in bytes.
     pub place: u64,
+    /// The length of its payload, in bytes.
     pub length: u64,
+    /// The place of the next gate, in bytes, below 2^62.
     pub next: u64,
 }
 
@@ -125,8 +127,8 @@ impl FrameLog {
     }
 
     /// Reads the payload of the frame at a place into `out`, in place of what stood there, and
-    /// answers the place of the next gate. None says that no open gate stands at the place: `out`
-    /// is then as it was. A fault may leave any bytes in `out`.
+    /// answers the place of the next gate. None says that no open gate stands at the place. None
+    /// and a fault leave `out` as it was.
     pub fn read<H: Host>(
         &self,
         host: &mut H,
@@ -141,6 +143,7 @@ impl FrameLog {
         ensures damaged { (p : ℕ) → IsErrOf result (FrameFault.Damaged p) → ForSome (H.now host.old) (λ v. IsTorn p (v self.now.file)) }
         ensures disk { IsErrOf result FrameFault.Disk → Rose (H.disk_faults host.old) (H.disk_faults host.new) }
         ensures faults { IfErr result (λ fault. (fault ≡ FrameFault.Disk) ⊎ (fault ≡ FrameFault.Memory) ⊎ (fault ≡ FrameFault.Damaged place)) }
+        ensures err { OnErr result (out.new.items ≡ out.old.items) }
 
         ensures leaves { LeavesAll H.now H.may H.clock H.since H.said host.old host.new }
         ensures disk_faults { H.disk_faults host.old ≤ H.disk_faults host.new }
@@ -153,21 +156,22 @@ impl FrameLog {
             Ok(None) => return Ok(None),
             Err(fault) => return Err(fault),
         };
-        out.clear();
-        match out.resize(size as usize, 0) {
+        let mut payload = Vec::new(*out.allocator());
+        match payload.resize(size as usize, 0) {
             Ok(_) => {}
             Err(_) => return Err(FrameFault::Memory),
         }
-        match read_full(host, self.file, place + 9, out) {
+        match read_full(host, self.file, place + 9, &mut payload) {
             Ok(_) => {}
             Err(_) => return Err(FrameFault::Disk),
         }
+        *out = payload;
         Ok(Some(place + 9 + size))
     }
 
     /// Adds a frame at the end of the log, and answers its place. Whatever call fails, and wherever
-    /// the run stops, the frame list of the file is the old one, or it and this payload. After a
-    /// fault the log has ended.
+    /// the run stops, the frame list of the file is the old one, or it and this payload, and reads
+    /// of the other files give what they gave. After a fault the log has ended.
     pub fn append<H: Host>(&mut self, host: &mut H, payload: &[u8]) -> Result<u64, FrameFault>
         requires ready { self.old.ready ≡ true }
         requires reaches { ReachesEnd self.old (H.now host.old) }
@@ -181,8 +185,10 @@ impl FrameLog {
 
         ensures appended { OnOk result (Becomes (H.now host.old) (H.now host.new)
             (InFile self.old.file (Appended self.old.end payload.now self.new.end))) }
+        ensures added { OnOk result (Becomes (H.now host.old) (H.now host.new) (InFile self.old.file (Added self.old.end payload.now))) }
         ensures pending { OnOk result (NothingPending self.old.file (H.now host.new) (H.may host.new)) }
         ensures leaves { Writes H.now H.may H.clock H.since H.said self.old.file (From self.old.end (Grows payload.now)) host.old host.new }
+        ensures others { Becomes (H.now host.old) (H.now host.new) (InFile self.old.file (λ _ _. ⊤)) }
         ensures reaches { ReachesEnd self.new (H.now host.new) }
         ensures disk_faults { H.disk_faults host.old ≤ H.disk_faults host.new }
         ensures out_faults { H.out_faults host.new ≡ H.out_faults host.old }
@@ -201,7 +207,7 @@ impl FrameLog {
         }
     }
 
-    /// Ends the log after a failed write.
+    /// Ends the log after a failed `append` or `clear`.
     fn fail(&mut self, failed: Failed) -> FrameFault
         ensures ended { self.new ≡ record self.old { ended = true } }
         ensures fault { result ≡ FrameFault.Disk }
@@ -212,7 +218,8 @@ impl FrameLog {
 
     /// Drops all frames. A closed gate at the head of the file is never written. Whatever call
     /// fails, and wherever the run stops, the frame list of the file is the old one, an undefined
-    /// one included, or has no frame. After a fault the log has ended; else it is ready at place 0.
+    /// one included, or has no frame, and reads of the other files give what they gave. After a
+    /// fault the log has ended; else it is ready at place 0.
     pub fn clear<H: Host>(&mut self, host: &mut H) -> Result<(), FrameFault>
         ensures ok { OnOk result (self.new ≡ record self.old { end = 0; ready = true }) }
         ensures err { OnErr result (self.new ≡ record self.old { ended = true }) }
@@ -228,6 +235,7 @@ impl FrameLog {
         ensures pending { OnOk result (NothingPending self.old.file (H.now host.old) (H.may host.old)
             → NothingPending self.old.file (H.now host.new) (H.may host.new)) }
         ensures leaves { Writes H.now H.may H.clock H.since H.said self.old.file OldOrNone host.old host.new }
+        ensures others { Becomes (H.now host.old) (H.now host.new) (InFile self.old.file (λ _ _. ⊤)) }
         ensures reaches { ReachesEnd self.new (H.now host.new) }
         ensures disk_faults { H.disk_faults host.old ≤ H.disk_faults host.new }
         ensures out_faults { H.out_faults host.new ≡ H.out_faults host.old }

@@ -1,4 +1,4 @@
-ghost use Rattle.std.specs.Prelude.{◌≡◌, ◌≢◌, ◌≤◌, ◌<◌, ◌+◌, ◌^◌, ℕ, [], ◌∷◌, length, slice_index, OnOk, OnErr};
+ghost use Rattle.std.specs.Prelude.{◌≡◌, ◌≢◌, ◌≤◌, ◌<◌, ◌+◌, ◌^◌, ℕ, [], ◌∷◌, length, slice_index, OnOk, OnErr, ⊤};
 ghost use Rattle.std.specs.Option.{ForSome};
 ghost use Rattle.rg_bytes.specs.Counts.{Rose};
 ghost use Rattle.rg_host.specs.Image.{Becomes, InFile, Torn, Holds, NothingPending};
@@ -6,7 +6,7 @@ ghost use Rattle.rg_host.specs.Moments.{LeavesAll};
 ghost use Rattle.rg_frame.specs.Calls.{Writes};
 ghost use Rattle.rg_frame.specs.Frames.{FitsFrame, HasPayloads};
 ghost use Rattle.rg_frame.specs.LogState.{Reaches};
-ghost use Rattle.rg_frame.specs.Steps.{Brief, Begun, Keeps, Staged, From, Grows, Appended, OldOrNone};
+ghost use Rattle.rg_frame.specs.Steps.{Brief, Begun, Keeps, Staged, From, Grows, Added, Appended, OldOrNone};
 
 use rg_host::{Failed, Host};
 
@@ -16,6 +16,7 @@ fn begin<H: Host>(host: &mut H, file: u32) -> Result<(), Failed>
     ensures begun { OnOk result (Becomes (H.now host.old) (H.now host.new) (InFile file Begun)) }
     ensures pending { OnOk result (NothingPending file (H.now host.old) (H.may host.old) → NothingPending file (H.now host.new) (H.may host.new)) }
     ensures leaves { Writes H.now H.may H.clock H.since H.said file Brief host.old host.new }
+    ensures others { Becomes (H.now host.old) (H.now host.new) (InFile file (λ _ _. ⊤)) }
     ensures cause { OnErr result (Rose (H.disk_faults host.old) (H.disk_faults host.new)) }
     ensures disk_faults { H.disk_faults host.old ≤ H.disk_faults host.new }
     ensures out_faults { H.out_faults host.new ≡ H.out_faults host.old }
@@ -39,6 +40,7 @@ fn stage<H: Host>(host: &mut H, file: u32, end: u64, payload: &[u8]) -> Result<(
     ensures limit { OnOk result (end + 10 + length payload.now ≤ 2 ^ 62) }
     ensures fits { FitsFrame payload.now }
     ensures leaves { Writes H.now H.may H.clock H.since H.said file (Keeps (end + 1)) host.old host.new }
+    ensures others { Becomes (H.now host.old) (H.now host.new) (InFile file (λ _ _. ⊤)) }
     ensures cause { OnErr result (Rose (H.disk_faults host.old) (H.disk_faults host.new)) }
     ensures disk_faults { H.disk_faults host.old ≤ H.disk_faults host.new }
     ensures out_faults { H.out_faults host.new ≡ H.out_faults host.old }
@@ -59,6 +61,7 @@ fn open_gate<H: Host>(host: &mut H, file: u32, end: u64) -> Result<(), Failed>
     ensures opened { OnOk result (Becomes (H.now host.old) (H.now host.new) (InFile file (Holds end (1 ∷ [])))) }
     ensures pending { OnOk result (NothingPending file (H.now host.new) (H.may host.new)) }
     ensures leaves { Writes H.now H.may H.clock H.since H.said file (Torn end 1) host.old host.new }
+    ensures others { Becomes (H.now host.old) (H.now host.new) (InFile file (λ _ _. ⊤)) }
     ensures cause { OnErr result (Rose (H.disk_faults host.old) (H.disk_faults host.new)) }
     ensures disk_faults { H.disk_faults host.old ≤ H.disk_faults host.new }
     ensures out_faults { H.out_faults host.new ≡ H.out_faults host.old }
@@ -75,10 +78,12 @@ pub fn add<H: Host>(host: &mut H, file: u32, end: u64, payload: &[u8]) -> Result
     requires room { end ≤ 2 ^ 62 }
     requires reaches { ForSome (H.now host.old) (λ v. Reaches end (v file)) }
     ensures appended { OnOk result (Becomes (H.now host.old) (H.now host.new) (InFile file (Appended end payload.now (end + 9 + length payload.now)))) }
+    ensures added { OnOk result (Becomes (H.now host.old) (H.now host.new) (InFile file (Added end payload.now))) }
     ensures reaches { OnOk result (ForSome (H.now host.new) (λ v. Reaches (end + 9 + length payload.now) (v file))) }
     ensures pending { OnOk result (NothingPending file (H.now host.new) (H.may host.new)) }
     ensures limit { OnOk result (end + 10 + length payload.now ≤ 2 ^ 62) }
     ensures leaves { Writes H.now H.may H.clock H.since H.said file (From end (Grows payload.now)) host.old host.new }
+    ensures others { Becomes (H.now host.old) (H.now host.new) (InFile file (λ _ _. ⊤)) }
     ensures cause { OnErr result (Rose (H.disk_faults host.old) (H.disk_faults host.new)) }
     ensures disk_faults { H.disk_faults host.old ≤ H.disk_faults host.new }
     ensures out_faults { H.out_faults host.new ≡ H.out_faults host.old }
@@ -97,6 +102,7 @@ pub fn close<H: Host>(host: &mut H, file: u32) -> Result<(), Failed>
     ensures closed { ForSome (H.now host.old) (λ v. slice_index (v file) 0 ≢ 1 → LeavesAll H.now H.may H.clock H.since H.said host.old host.new) }
     ensures pending { OnOk result (NothingPending file (H.now host.old) (H.may host.old) → NothingPending file (H.now host.new) (H.may host.new)) }
     ensures leaves { Writes H.now H.may H.clock H.since H.said file OldOrNone host.old host.new }
+    ensures others { Becomes (H.now host.old) (H.now host.new) (InFile file (λ _ _. ⊤)) }
     ensures cause { OnErr result (Rose (H.disk_faults host.old) (H.disk_faults host.new)) }
     ensures disk_faults { H.disk_faults host.old ≤ H.disk_faults host.new }
     ensures out_faults { H.out_faults host.new ≡ H.out_faults host.old }

@@ -1,9 +1,12 @@
-ghost use Rattle.std.specs.Prelude.{◌≡◌, ◌↔◌, [], List, IsTrue, IfOk, OnOk, ◌++◌};
+ghost use Rattle.std.specs.Prelude.{◌≡◌, ◌↔◌, ◌≤◌, ◌*◌, [], List, length, IsTrue, IfOk, OnOk, ◌++◌, slice_index_or};
 ghost use Rattle.rg_event.specs.declared.event.Event.{Event};
 ghost use Rattle.rg_event.specs.declared.value.Value.{Value};
 ghost use Rattle.rg_metric.specs.Conditions.{value_in};
 ghost use Rattle.rg_metric.specs.Replies.{key_of as key_values};
 ghost use Rattle.rg_metric.specs.Same.{same_values};
+ghost use Rattle.std.specs.Cmp.Lexicographic.{slice_cmp};
+ghost use Rattle.std.specs.Ordering.{nat_cmp};
+ghost use Rattle.rg_group.specs.Heads.{packed, AreBytes};
 ghost use Rattle.rg_group.specs.Keys.{key_bytes, part_bytes, AreStorable, IsStorablePart};
 
 use crate::front::after_part;
@@ -18,6 +21,10 @@ use std::marker::Model;
 #[derive(Debug, Drop)]
 pub struct Key {
     bytes: Vec<u8>,
+    /// The first eight bytes as a number: keys that differ in them are compared without a look at the
+    /// bytes behind the pointer.
+    head: u64,
+    ghost headed: { head ≡ packed 8 0 bytes.items },
 }
 
 impl Model for Key {
@@ -81,7 +88,9 @@ impl Ord for Key {
     ghost matches_eq = { Prim.search (comparing, rules) };
 
     fn cmp(&self, other: &Key) -> Ordering {
-        self.bytes.cmp(&other.bytes)
+        let mine = self.bytes.as_slice();
+        let others = other.bytes.as_slice();
+        order(self.head, mine, other.head, others)
     }
 }
 
@@ -91,7 +100,8 @@ impl From<Vec<u8>> for Key {
     ghost from_gives = { λ bytes key. key ≡ bytes.items };
 
     fn from(bytes: Vec<u8>) -> Key {
-        Key { bytes }
+        let head = head_of(&bytes);
+        Key { bytes, head }
     }
 }
 
@@ -101,7 +111,10 @@ impl Key {
         ensures { IfOk result (λ key. key ≡ self.now) }
     {
         let bytes = Vec::from_slice(alloc, &self.bytes)?;
-        Ok(Key { bytes })
+        Ok(Key {
+            bytes,
+            head: self.head,
+        })
     }
 
     pub fn as_slice(&self) -> &[u8]
@@ -110,14 +123,18 @@ impl Key {
         &self.bytes
     }
 
-    /// Makes it the key of this event by these columns, as `key_of` does. It takes no memory where it
-    /// held as many bytes before. Where memory runs out it is any front of that key.
+    /// Makes it the key of this event by these columns, as `key_of` does, in the room that it has where
+    /// that is enough. Where memory runs out its bytes mean nothing.
     pub fn set_of(&mut self, fields: &[u32], event: &Event) -> Result<(), Memory>
         ensures bytes { OnOk result (self.new ≡ key_bytes (key_values fields.now event.now)) }
         ensures storable { OnOk result (AreStorable (key_values fields.now event.now)) }
+        ensures exact { (vs ws : List Value) → AreStorable vs → AreStorable ws → key_bytes vs ≡ key_bytes ws → vs ≡ ws }
+        ensures short { OnOk result (length self.new ≤ 257 * length fields.now) }
     {
         self.bytes.clear();
-        put_parts(fields, event, &mut self.bytes)
+        let put = put_parts(fields, event, &mut self.bytes);
+        self.head = head_of(&self.bytes);
+        put
     }
 
     /// Whether it is the key of this event by these columns, counted from 1. It takes no memory.
@@ -141,17 +158,58 @@ pub fn key_of(alloc: Global, fields: &[u32], event: &Event) -> Result<Key, Memor
     ensures bytes { IfOk result (λ key. key ≡ key_bytes (key_values fields.now event.now)) }
     ensures storable { IfOk result (λ _. AreStorable (key_values fields.now event.now)) }
     ensures exact { (vs ws : List Value) → AreStorable vs → AreStorable ws → key_bytes vs ≡ key_bytes ws → vs ≡ ws }
+    ensures short { IfOk result (λ key. length key ≤ 257 * length fields.now) }
 {
     let mut bytes = Vec::new(alloc);
     put_parts(fields, event, &mut bytes)?;
-    Ok(Key { bytes })
+    let head = head_of(&bytes);
+    Ok(Key { bytes, head })
 }
 
-/// Writes a key into bytes that are empty. Where memory runs out any front of it is there.
+/// The order of two keys with these heads. Only where those are the same are the bytes themselves read.
+fn order(head: u64, bytes: &[u8], other_head: u64, other: &[u8]) -> Ordering
+    requires mine { head ≡ packed 8 0 bytes.now }
+    requires others { other_head ≡ packed 8 0 other.now }
+    requires my_bytes { AreBytes bytes.now }
+    requires other_bytes { AreBytes other.now }
+    ensures { result ≡ slice_cmp nat_cmp bytes.now other.now }
+{
+    if head < other_head {
+        return Ordering::Less;
+    }
+    if other_head < head {
+        return Ordering::Greater;
+    }
+    bytes.cmp(other)
+}
+
+/// The first eight bytes as a number, the first of them the highest. Missing ones count as 0.
+fn head_of(bytes: &[u8]) -> u64
+    ensures { result ≡ packed 8 0 bytes.now }
+{
+    let mut head = 0;
+    for place in 0..8 {
+        head = head * 256 + byte_at(bytes, place) as u64;
+    }
+    head
+}
+
+/// A byte, and 0 where there is none.
+fn byte_at(bytes: &[u8], place: usize) -> u8
+    ensures { result ≡ slice_index_or bytes.now place 0 }
+{
+    match bytes.get(place) {
+        None => 0,
+        Some(byte) => *byte,
+    }
+}
+
+/// Writes a key into bytes that are empty. Where memory runs out any prefix of it is there.
 fn put_parts(fields: &[u32], event: &Event, bytes: &mut Vec<u8>) -> Result<(), Memory>
     requires { bytes.old.items ≡ [] }
     ensures written { OnOk result (bytes.new.items ≡ key_bytes (key_values fields.now event.now)) }
     ensures storable { OnOk result (AreStorable (key_values fields.now event.now)) }
+    ensures short { OnOk result (length bytes.new.items ≤ 257 * length fields.now) }
 {
     for field in fields {
         put_part(*field, event, bytes)?;

@@ -7,7 +7,7 @@ use Rattle.rg_host.specs.Puts.{IsPartWay}
 
 -- what a call did: nothing, as one that only looked, or that failed and was no write;
 -- it wrote these bytes into a file at a place; a write of so many bytes into a file at a place failed;
--- it settled a file; or it put these bytes out
+-- it settled a file; or it put these bytes
 pub data Effect : Type 0 where
   nothing : Effect
   wrote : ℕ → ℕ → List ℕ → Effect
@@ -42,7 +42,7 @@ may_after first (failed_write file at n ∷ past) v = IsAfter (InFile file (Torn
 may_after first (synced file ∷ past) v = may_after first past v × (v file ≡ now_after first past file)
 may_after first (put bytes ∷ past) v = may_after first past v
 
--- the bytes that a call put out
+-- the bytes that a call put
 abbrev pub put_by : Effect → List ℕ
 put_by nothing = []
 put_by (wrote file at bytes) = []
@@ -50,7 +50,7 @@ put_by (failed_write file at n) = []
 put_by (synced file) = []
 put_by (put bytes) = bytes
 
--- all bytes put out
+-- all bytes put
 abbrev pub said_after : List Effect → List ℕ
 said_after [] = []
 said_after (effect ∷ past) = said_after past ++ put_by effect

@@ -3,7 +3,7 @@ use Rattle.std.specs.Prelude.{◌≡◌, ◌⊎◌, ◌≤◌, ℕ, List, Option
 use Rattle.std.specs.Option.{ForSome}
 use Rattle.rg_host.specs.Image.{Image, SameOutcomes}
 
--- One moment on the outside: an image that a crash might then have left, and all bytes put out until then.
+-- One moment on the outside: an image that a crash might then have left, and all bytes put until then.
 pub record Moment : Type 0 where
   pub image : Image
   pub said : List ℕ

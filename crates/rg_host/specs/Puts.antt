@@ -1,4 +1,4 @@
--- What is put out.
+-- What is put.
 use Rattle.std.specs.Prelude.{◌≡◌, ◌⊎◌, ℕ, List, [], ◌++◌, take, Option, Result, Ok, Err}
 use Rattle.std.specs.Option.{ForSome}
 use Rattle.rg_bytes.specs.Known.{after}
@@ -13,7 +13,7 @@ IsPrefix part bytes = (rest : List ℕ) × (part ++ rest ≡ bytes)
 abbrev pub IsPartWay : List ℕ → List ℕ → List ℕ → Type 0
 IsPartWay said bytes now = (part : List ℕ) × IsPrefix part bytes × (now ≡ said ++ part)
 
--- From old to new exactly these bytes were put out: what was said grew by them, and at each moment by a prefix of them.
+-- From old to new exactly these bytes were put: what was said grew by them, and at each moment by a prefix of them.
 pub record Puts {H : Type 0} (said : H → Option (List ℕ)) (clock : H → ℕ) (since : H → ℕ → Moment → Type 0) (old new : H) (bytes : List ℕ) : Type 0 where
   pub grows : said new ≡ after (said old) bytes
   pub moments : Moments clock since old new (λ m. ForSome (said old) (λ s. IsPartWay s bytes m.said))

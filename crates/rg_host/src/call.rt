@@ -9,6 +9,6 @@ pub enum Call {
     FailedWrite { file: u32, at: u64, size: u64 },
     /// It settled a file.
     Sync(u32),
-    /// It put these bytes out.
+    /// It put these bytes.
     Put(Vec<u8>),
 }

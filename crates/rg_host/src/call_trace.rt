@@ -60,7 +60,7 @@ impl CallTrace {
         self.calls.len()
     }
 
-    /// All that was put out.
+    /// All that was put.
     pub fn output(&self) -> &[u8]
         ensures { result.now ≡ said_after self.now.effects }
     {
@@ -135,7 +135,7 @@ impl CallTrace {
         Ok(())
     }
 
-    /// Puts these bytes out, and notes it.
+    /// Puts these bytes, and notes it.
     pub fn note_put(&mut self, bytes: &[u8]) -> Result<(), Memory>
         ensures ok { OnOk result (self.new ≡ with_effect (put bytes.now) self.old) }
         ensures err { OnErr result (self.new ≡ self.old) }

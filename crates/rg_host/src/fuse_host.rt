@@ -7,6 +7,7 @@ ghost use Rattle.rg_host.specs.Image.{Image, Becomes, InFile, Holds, Torn, IsAft
 ghost use Rattle.rg_host.specs.Moments.{Moments, LeavesFiles, LeavesAll};
 ghost use Rattle.rg_host.specs.Puts.{Puts, put_of};
 
+use crate::count::raise;
 use crate::host::Host;
 use crate::source::Failed;
 use std::marker::Model;
@@ -33,14 +34,6 @@ impl<H: Host> Model for FuseHost<H> {
       out_faults = host.out_faults;
       reads = host.reads;
     } };
-}
-
-/// One more, up to 2^64 - 1.
-fn raise(count: &mut u64)
-    ensures raised { count.new ≡ raised count.old }
-    ensures kept { count.old ≤ count.new }
-{
-    *count = count.saturating_add(1);
 }
 
 impl<H: Host> FuseHost<H> {

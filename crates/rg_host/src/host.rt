@@ -23,10 +23,10 @@ pub trait Host {
     ghost clock: { Self → ℕ };
 
     /// That is one of the moments since this one: a crash might then have left this image, while
-    /// exactly these bytes had been put out.
+    /// exactly these bytes had been put.
     ghost since: { Self → ℕ → Moment → Type 0 };
 
-    /// All bytes put out, where the host tells them.
+    /// All bytes put, where the host tells them.
     ghost said: { Self → Option (List ℕ) };
 
     /// How often a call on a file has failed, up to 2^64 - 1.
@@ -123,7 +123,7 @@ pub trait Host {
     ghost sinks: { (h : Self) (t u : ℕ) (m : Moment) → t ≤ u → since h u m → since h t m };
 }
 
-/// Puts all of these bytes out. After `Failed` a prefix of them was put.
+/// Puts all of these bytes. After `Failed` a prefix of them was put.
 pub fn put_all<H: Host>(host: &mut H, bytes: &[u8]) -> Result<(), Failed>
     ensures all { OnOk result (Puts H.said H.clock H.since host.old host.new bytes.now) }
     ensures part { (part : List ℕ) × IsPrefix part bytes.now × Puts H.said H.clock H.since host.old host.new part }

@@ -1,9 +1,15 @@
-//! The outside: a source of bytes and its lines, and a host that takes the output.
+//! The outside: a source of bytes and its lines, and a host with files and an output.
+//!
+//! Bytes come in by `Source`, whole or as `Lines`; files are read and written and lines are put by
+//! `Host`. Upward it promises what each call took, wrote and put, also where it failed, and for
+//! each moment which images of the files a crash could have left, with what had been put then.
+//! `MemSource`, `MemHost` and `FuseHost` are the outside in memory, with calls that fail.
 #![tactic(auto)]
 
 mod buffer;
 mod call;
 mod call_trace;
+mod count;
 mod file_list;
 mod fuse_host;
 mod host;

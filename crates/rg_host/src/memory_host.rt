@@ -11,6 +11,7 @@ ghost use Rattle.rg_host.specs.Moments.{Moments, LeavesFiles, LeavesAll};
 ghost use Rattle.rg_host.specs.Puts.{Puts, put_of};
 
 use crate::call_trace::CallTrace;
+use crate::count::raise;
 use crate::file_list::{MAX_LENGTH, read_from};
 use crate::host::Host;
 use crate::image::Image;
@@ -50,14 +51,6 @@ impl Model for MemHost {
     } };
 }
 
-/// One more, up to 2^64 - 1.
-fn raise(count: &mut u64)
-    ensures raised { count.new ≡ raised count.old }
-    ensures kept { count.old ≤ count.new }
-{
-    *count = count.saturating_add(1);
-}
-
 /// Whether so many bytes from a place on end past 2^62.
 fn ends_past(at: u64, size: usize) -> bool
     ensures { IsTrue result ↔ (2 ^ 62 < at + size) }
@@ -95,7 +88,7 @@ impl MemHost {
         ensures image { IfOk result (λ host. now_in host
             ≡ Some (left_after pick (image_of self.now.first) (first_effects call self.now.effects))) }
 
-        // It is an image of the moment after that call: with what had been put out then.
+        // It is an image of the moment after that call: with what had been put then.
         ensures moment { IfOk result (λ host. ForSome (now_in host) (λ v. ⟦<MemHost as Host>⟧.since self.now call
             (record { image = v; said = said_after (first_effects call self.now.effects) }))) }
         ensures begun { IfOk result (λ host. host ≡ begun host.first []) }
@@ -114,7 +107,7 @@ impl MemHost {
         self.trace.file(file)
     }
 
-    /// All that was put out.
+    /// All that was put.
     pub fn output(&self) -> &[u8]
         ensures { ForSome (⟦<MemHost as Host>⟧.said self.now) (λ s. result.now ≡ s) }
     {

@@ -18,11 +18,11 @@ use Rattle.rg_event.specs.declared.value.Kind.{Kind}
 use Rattle.rg_event.specs.declared.value.Kind.TheVariants.{Int, Id, Text, Flag}
 use Rattle.rg_event.specs.declared.value.Value.{Value}
 use Rattle.rg_event.specs.declared.value.Value.TheVariants.{Int as IntValue, Id as IdValue, Text as TextValue, Flag as FlagValue}
+use Rattle.rg_frame.specs.Bytes.{IsByte}
+use Rattle.rg_frame.proofs.Listing.{eight_small}
 use Rattle.rg_chunk.specs.Chunks.{event_from_at, next_event_at, chunk_at, chunk_of}
 use Rattle.rg_chunk.specs.Heads.{stamp_at, is_known, head_at, is_head_of}
 use Rattle.rg_chunk.specs.declared.head.ChunkHead.{ChunkHead}
-use Rattle.rg_log.specs.Reading.{IsByte}
-use Rattle.rg_log.proofs.Listing.{eight_small}
 
 -- two readings, one behind the other
 pub record Both {F A B : Type 0} (first : Reading F A) (next : A → List ℕ → Reading F B) (out : B) (rest : List ℕ) : Type 0 where

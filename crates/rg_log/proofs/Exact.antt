@@ -11,14 +11,15 @@ use Rattle.rg_event.specs.Shapes.{Shape, IsSchema}
 use Rattle.rg_event.specs.declared.event.Event.{Event}
 use Rattle.rg_event.specs.declared.schema.Field.{Field}
 use Rattle.rg_event.proofs.Readable.{joined_of, legal_of}
+use Rattle.rg_frame.specs.Bytes.{IsByte}
 use Rattle.rg_frame.specs.FrameList.{payloads_in}
 use Rattle.rg_frame.specs.Frames.{body, frames, HasPayloads}
+use Rattle.rg_frame.proofs.Listing.{has_listed}
 use Rattle.rg_chunk.specs.Chunks.{chunk_of}
 use Rattle.rg_log.specs.Log.{schema_payload, chunks_of, joined, HasEvents, HasLegalLog, HasSchemaFrame}
-use Rattle.rg_log.specs.Reading.{IsByte, schema_of, is_rising, legal_events, chunk_events, listed_events, events_of}
+use Rattle.rg_log.specs.Reading.{schema_of, is_rising, legal_events, chunk_events, listed_events, events_of}
 use Rattle.rg_log.proofs.Decoded.{chunk_within}
 use Rattle.rg_log.proofs.Growing.{part}
-use Rattle.rg_log.proofs.Listing.{has_listed}
 
 rising_is : (events : List Event) → is_rising events ≡ true → IsRising events
 rising_is [] is = tt

@@ -2,7 +2,6 @@ pub mod Growing
 pub mod Reading
 pub mod Spelling
 pub mod Naming
-pub mod Listing
 pub mod Decoded
 pub mod Exact
 pub mod Worked

@@ -1,15 +1,11 @@
 -- The events of a log as a function of the bytes of its file.
-use Rattle.std.specs.Prelude.{◌<◌, ◌==◌, ◌&&◌, nat_le, nat_lt, ℕ, Bool, true, List, [], ◌∷◌, length, Option, Some, None, option_map, option_and_then, if◌then◌else◌}
+use Rattle.std.specs.Prelude.{◌==◌, ◌&&◌, nat_le, nat_lt, ℕ, Bool, true, List, [], ◌∷◌, length, Option, Some, None, option_map, option_and_then, if◌then◌else◌}
 use Rattle.rg_event.specs.Reading.{shape_of}
 use Rattle.rg_event.specs.Shapes.{Shape}
 use Rattle.rg_event.specs.declared.event.Event.{Event}
 use Rattle.rg_event.specs.Rising.{next_offset}
 use Rattle.rg_frame.specs.FrameList.{payloads_in}
 use Rattle.rg_log.specs.Log.{chunks_of, joined}
-
--- a number that one byte holds, as all those of a file are
-abbrev pub IsByte : ℕ → Type 0
-IsByte number = number < 256
 
 -- the schema that a payload says
 abbrev pub schema_of : List ℕ → Option Shape

@@ -11,10 +11,11 @@ ghost use Rattle.rg_event.specs.Shapes.{Shape, IsSchema};
 ghost use Rattle.rg_event.specs.declared.event.Event.{Event};
 ghost use Rattle.rg_event.specs.Rising.{IsRising, next_offset};
 ghost use Rattle.rg_past.specs.declared.past.Spot.{Spot};
+ghost use Rattle.rg_frame.specs.Bytes.{IsByte};
 ghost use Rattle.rg_frame.specs.Frames.{frames, HasPayloads, IsDamaged};
 ghost use Rattle.rg_frame.specs.Steps.{Grows, Grown};
 ghost use Rattle.rg_log.specs.Log.{schema_payload, chunks_of, joined, HasChunks, IsChunkOf, HasEvents, HasLegalLog, HasSchemaFrame, IsOfSchema};
-ghost use Rattle.rg_log.specs.Reading.{IsByte, events_of, next_of};
+ghost use Rattle.rg_log.specs.Reading.{events_of, next_of};
 ghost use Rattle.rg_log.specs.Spots.{IsInChunk, SpotAt, SpotIn, NamedByHeads};
 
 use rg_frame::law_frames;

@@ -2,3 +2,4 @@ pub mod Nots
 pub mod Levels
 pub mod Reading
 pub mod One
+pub mod Total

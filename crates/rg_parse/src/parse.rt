@@ -49,9 +49,11 @@ fn read(alloc: Global, text: &[u8], pieces: &[Piece], end: usize) -> Result<Raw,
 /// The query that a text is. The text is read from the left, once, and never recursed on.
 pub fn read_syntax(alloc: Global, text: &[u8]) -> Result<Raw, SyntaxFault>
     // the text is what is answered
-    ensures reads { ReadsAs text.now result }
+    ensures sound { ReadsAs text.now result }
     // and no text is two things
-    ensures one { (syntax other : Syntax) → Reads text.now syntax → Reads text.now other → syntax ≡ other }
+    ensures unambiguous { (syntax other : Syntax) → Reads text.now syntax → Reads text.now other → syntax ≡ other }
+    // and every text is something
+    ensures says { (any : List ℕ) → (syntax : Syntax) × Reads any syntax }
     // each part of the query lies in the text, and is a word, a number or a string there
     ensures spelled { IfOk result (λ raw. IsMadeOf text.now raw) }
 {

@@ -20,6 +20,7 @@ pub use fault::PlanFault;
 pub use law::{law_asked, law_beginnings, law_named, law_placed, law_same_condition};
 pub use node::{AggNode, FilterNode, GroupNode};
 pub use plan::{TaskPlan, compile};
+pub use size::{MAX_AGGS, MAX_COLUMNS, MAX_QUERIES};
 
 #[cfg(test)]
 mod tests;

@@ -5,13 +5,13 @@ ghost use Rattle.rg_plan.specs.Plans.{is_too_many, excess};
 use rg_metric::Query;
 
 /// How many queries a plan has at most.
-const MOST_QUERIES: u32 = 64;
+pub const MAX_QUERIES: u32 = 64;
 
 /// How many aggregators a query has at most.
-const MOST_AGGS: usize = 16;
+pub const MAX_AGGS: usize = 16;
 
 /// How many columns the key of a query has at most.
-const MOST_COLUMNS: usize = 8;
+pub const MAX_COLUMNS: usize = 8;
 
 /// The first query, counted from 0, that is too large, or has too many before it.
 pub(crate) fn first_too_many(queries: &[Query]) -> Option<u32>
@@ -31,6 +31,6 @@ pub(crate) fn first_too_many(queries: &[Query]) -> Option<u32>
 fn is_too_many(index: u32, query: &Query) -> bool
     ensures { result ≡ is_too_many index (asked query.now) }
 {
-    index >= MOST_QUERIES
-        || (query.aggs.as_slice().len() > MOST_AGGS || query.group.as_slice().len() > MOST_COLUMNS)
+    index >= MAX_QUERIES
+        || (query.aggs.as_slice().len() > MAX_AGGS || query.group.as_slice().len() > MAX_COLUMNS)
 }

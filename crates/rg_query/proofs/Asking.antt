@@ -8,6 +8,7 @@ use Rattle.rg_bytes.specs.Numbers.{whole_of, signed_of, number_of, value_of, is_
 use Rattle.rg_event.specs.Codec.{IsValueOf}
 use Rattle.rg_event.specs.Parsing.{in_range}
 use Rattle.rg_event.specs.Words.{is_word}
+use Rattle.rg_event.proofs.Parsed.{in_bounds, number_below, text_fits}
 use Rattle.rg_event.specs.Shapes.{Shape}
 use Rattle.rg_event.specs.declared.schema.Field.{Field}
 use Rattle.rg_event.specs.declared.value.Kind.{Kind}
@@ -88,22 +89,6 @@ known : {A : Type 0} (p : ℕ) (o : Option A) → unless_known p o ≡ None → 
 known p None h = absurd (cc)
 known p (Some a) h = (a, refl)
 
-pub in_bounds : (o : Option ℤ) (v : Value) → option_map IntValue (in_range o) ≡ Some v → IsValueOf kind.Int v
-in_bounds None v h = absurd (cc)
-in_bounds (Some n) v h = by_test (nat_le (unsigned_abs n) 1000000000000) refl h
-  where
-    by_test : (b : Bool) → nat_le (unsigned_abs n) 1000000000000 ≡ b → option_map IntValue (if b then Some n else None) ≡ Some v → IsValueOf kind.Int v
-    by_test false e g = absurd (cc)
-    by_test true e g = let i : IntValue n ≡ v = cc in subst (IsValueOf kind.Int) i (grind (arith, e))
-
-pub number_below : (most : ℕ) (text : List ℕ) (n : ℕ) → number_of most text ≡ Some n → n ≤ most
-number_below most text n h = by_test (is_number text) (nat_le (value_of text) most) refl h
-  where
-    by_test : (a b : Bool) → nat_le (value_of text) most ≡ b → (if a && b then Some (value_of text) else None) ≡ Some n → n ≤ most
-    by_test true true e g = let i : value_of text ≡ n = cc in grind (arith, e, i)
-    by_test true false e g = absurd (cc)
-    by_test false b e g = absurd (cc)
-
 only_zero : (o : Option ℕ) (n : ℕ) → zero_only o ≡ Some n → n ≡ 0
 only_zero None n h = absurd (cc)
 only_zero (Some m) n h = by_test (m == 0) h
@@ -123,10 +108,6 @@ id_below (byte ∷ text) n h = by_test (byte == 45) h
 id_fits : (text : List ℕ) (o : Option ℕ) (v : Value) → id_of text ≡ o → option_map IdValue o ≡ Some v → IsValueOf kind.Id v
 id_fits text None v e h = absurd (cc)
 id_fits text (Some n) v e h = let i : IdValue n ≡ v = cc in subst (IsValueOf kind.Id) i (id_below text n e)
-
-pub text_fits : (text : List ℕ) (b : Bool) (v : Value) → is_word text ≡ b → (if b then Some (TextValue text) else None) ≡ Some v → IsValueOf kind.Text v
-text_fits text true v e h = let i : TextValue text ≡ v = cc in subst (IsValueOf kind.Text) i e
-text_fits text false v e h = absurd (cc)
 
 value_fits : (k : Kind) (l : Literal) (v : Value) → literal_value k l ≡ Some v → IsValueOf k v
 value_fits kind.Int (digits p text) v h = in_bounds (signed_of text) v h

@@ -12,3 +12,4 @@ pub mod Places
 pub mod AskedAgain
 pub mod Again
 pub mod One
+pub mod Total

@@ -1,4 +1,4 @@
-ghost use Rattle.std.specs.Prelude.{◌≡◌, IfOk, Result};
+ghost use Rattle.std.specs.Prelude.{◌≡◌, ℕ, List, IfOk, Result};
 ghost use Rattle.rg_metric.specs.Queries.{Asked, asked};
 ghost use Rattle.rg_parse.specs.Parts.{IsMadeOf};
 ghost use Rattle.rg_parse.specs.Views.{raw as query_of};
@@ -29,13 +29,15 @@ const LONGEST_TEXT: usize = 4_096;
 /// and of each the first one in the text.
 pub fn parse(alloc: Global, schema: &Schema, text: &[u8]) -> Result<Query, QueryFault>
     // what is answered is what the text says
-    ensures tells { Tells schema.now text.now result }
+    ensures sound { Tells schema.now text.now result }
     // each text that says something is answered so
-    ensures exact { (said : Result Asked Fault) → Says schema.now text.now said → Agrees said result }
+    ensures complete { (said : Result Asked Fault) → Says schema.now text.now said → Agrees said result }
     // a query that is read is legal over the schema
     ensures legal { IfOk result (λ query. IsLegal schema.now (asked query)) }
     // a text says one thing
-    ensures one { (said other : Result Asked Fault) → Says schema.now text.now said → Says schema.now text.now other → said ≡ other }
+    ensures unambiguous { (said other : Result Asked Fault) → Says schema.now text.now said → Says schema.now text.now other → said ≡ other }
+    // and each text says something
+    ensures says { (any : List ℕ) → (said : Result Asked Fault) × Says schema.now any said }
 {
     if text.len() > LONGEST_TEXT {
         return Err(QueryFault::TooLarge);

@@ -5,7 +5,7 @@ ghost use Rattle.rg_reply.specs.Texts.{answer_text, answers_text, reply_text, re
 
 use crate::part::put_numbered;
 use rg_bytes::{Memory, put_bytes, put_u8, write_signed, write_whole};
-use rg_engine::{Answer, Answers, Reply};
+use rg_metric::{Answer, Answers, Reply};
 
 /// Writes what is answered to the line with this offset, and LF.
 pub fn write_reply(out: &mut Vec<u8>, offset: u64, reply: &Reply) -> Result<(), Memory>

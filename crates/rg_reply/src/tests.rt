@@ -1,5 +1,5 @@
 use super::*;
-use rg_engine::{Answer, Answers, Reply};
+use rg_metric::{Answer, Answers, Reply};
 use std::test::Fail;
 
 #[test]

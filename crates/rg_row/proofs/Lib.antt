@@ -5,3 +5,5 @@ pub mod Quoted
 pub mod Records
 pub mod Scans
 pub mod Values
+pub mod Fits
+pub mod Recorded

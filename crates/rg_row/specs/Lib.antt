@@ -2,3 +2,4 @@ pub mod Fields
 pub mod Rows
 pub mod Modes
 pub mod Texts
+pub mod Records

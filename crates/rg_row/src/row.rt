@@ -1,7 +1,9 @@
-ghost use Rattle.std.specs.Prelude.{◌≡◌, ◌⊎◌, ◌∷◌, ◌≤◌, ◌==◌, ℕ, List, [], length, Ok, Err, Some, false, IfOk, IfErr};
+ghost use Rattle.std.specs.Prelude.{◌≡◌, ◌⊎◌, ◌∷◌, ◌≤◌, ◌<◌, ◌^◌, ◌==◌, ℕ, List, [], length, Ok, Err, Some, false, IfOk, IfErr};
 ghost use Rattle.std.specs.List.{list_any};
 ghost use Rattle.rg_bytes.specs.Numbers.{whole_of};
+ghost use Rattle.rg_event.specs.Codec.{IsEventOf};
 ghost use Rattle.rg_row.specs.Fields.{IsRow, fields_of, is_marked};
+ghost use Rattle.rg_row.specs.Records.{csv_record};
 ghost use Rattle.rg_row.specs.Rows.{Agrees, row_of, event_of_fields, values_of, time_most};
 ghost use Rattle.rg_row.specs.Texts.{left};
 ghost use Rattle.rg_row.specs.declared.fault.RowFault.TheVariants.{Memory as OutOfMemory};
@@ -21,12 +23,17 @@ const LATEST_TIME: u64 = 1_000_000_000_000_000;
 /// Reads a cleaned line, which holds no LF, as the event of a row with this offset.
 ///
 /// The faults are told in the order of `RowFault`, and `Memory` may come in place of an event or of another fault.
-#[tactic(auto, using(crate::proofs::Grammar::of_row, crate::proofs::Grammar::to_row))]
+#[tactic(auto, using(crate::proofs::Grammar::of_row, crate::proofs::Grammar::to_row, crate::proofs::Recorded::recorded))]
 pub fn read_row(alloc: Global, schema: &Schema, offset: u64, line: &[u8]) -> Result<Event, RowFault>
     requires one_line { list_any (λ byte. byte == 10) line.now ≡ false }
     ensures agrees { Agrees (row_of schema.now.fields offset line.now) result }
     ensures grammar { (fields : List (List ℕ)) → IsRow line.now fields → fields_of line.now ≡ Some fields }
     ensures fields { (fields : List (List ℕ)) → fields_of line.now ≡ Some fields → IsRow line.now fields }
+    // the fields are those of the record that `csv` defines for the line
+    ensures record_of { (fields : List (List ℕ)) → fields_of line.now ≡ Some fields → csv_record line.now ≡ Some fields }
+    // the event is one of the schema's columns, with the offset that was given
+    ensures legal { IfOk result (λ event. offset < 2 ^ 62 → IsEventOf schema.now.fields event) }
+    ensures placed { IfOk result (λ event. event.offset ≡ offset) }
 {
     if line.is_empty() || starts_marked(line) {
         return Err(RowFault::Row);

@@ -1,16 +1,16 @@
 -- Two lists of the same rows, both rising, are as long.
-use Rattle.std.proofs.Common.{◌≡◌, ℕ, zero, suc, List, [], ◌∷◌, length, true, refl, ap, sym, ◌∙◌, inl, inr, ◌⊎◌, subst, arith, length-append}
+use Rattle.std.proofs.Common.{◌≡◌, ℕ, zero, suc, List, [], ◌∷◌, length, true, refl, ap, sym, ◌∙◌, inl, inr, ◌⊎◌, subst, arith}
 use Rattle.std.specs.List.{Contains}
 use Rattle.std.specs.Cmp.Lexicographic.{slice_cmp, nat_list_cmp_total}
 use Rattle.std.specs.Ordering.{nat_cmp, is_lt}
 use Rattle.std.specs.declared.cmp.Ordering.{Ordering}
 use Rattle.std.specs.declared.cmp.Ordering.TheVariants.{Less, Equal, Greater}
 use Rattle.std.proofs.lemmas.List.Elements.{Contains-append_left, Contains-append_right}
-use Rattle.rg_state.specs.Cells.{row_at, rows_in, entries_from, node_entries}
+use Rattle.std.specs.BTreeMap.{BTreeMap}
+use Rattle.rg_state.specs.Cells.{cell_in, entries_from, IsBound, AreBelow}
 use Rattle.rg_state.specs.CellLaws.{lists_all}
 use Rattle.rg_state.specs.Rows.{Entry, IsBelow, AreRising, Lists}
-use Rattle.rg_state.specs.declared.node_rows.NodeRows.{NodeRows}
-use Rattle.rg_state.specs.declared.state.AggState.{AggState}
+use Rattle.rg_state.specs.declared.key_rows.KeyRows.{KeyRows}
 
 first_or : (entry : Entry) (entries : List Entry) (other : Entry) → Contains (entry ∷ entries) other → (entry ≡ other) ⊎ Contains entries other
 first_or entry entries other (zero, within, is) = inl is
@@ -72,20 +72,10 @@ as_long (e ∷ es) (f ∷ fs) rising others to from =
     (λ x among. later e f es fs x same rising among (first_or f fs x (to x (there e es x among))))
     (λ x among. later f e fs es x (sym same) others among (first_or e es x (from x (there f fs x among)))))
 
-node_length : (node : ℕ) (pairs : List (List ℕ × AggState)) → length (node_entries node pairs) ≡ length pairs
-node_length node [] = refl
-node_length node (pair ∷ pairs) = ap suc (node_length node pairs)
-
-length_from : (first : ℕ) (nodes : List NodeRows) → length (entries_from first nodes) ≡ rows_in nodes
-length_from first [] = refl
-length_from first (rows ∷ nodes) =
-    let rest = length_from (suc first) nodes in
-    omega (arith, rest, length-append (node_entries first rows.map.entries) (entries_from (suc first) nodes), node_length first rows.map.entries)
-
 -- the rows that are counted are all of any list of them
-pub counted : (nodes : List NodeRows) (entries : List Entry) → Lists (row_at nodes) entries → rows_in nodes ≡ length entries
-counted nodes entries lists =
-    let all = lists_all nodes in
-    sym (length_from 0 nodes) ∙ as_long (entries_from 0 nodes) entries all.rising lists.rising
+pub counted : (map : BTreeMap (List ℕ) ℕ) (rows : List KeyRows) (nodes : ℕ) (entries : List Entry) → IsBound map rows → AreBelow nodes map rows → Lists (cell_in map rows) entries → length (entries_from 0 nodes rows map.entries) ≡ length entries
+counted map rows nodes entries bound below lists =
+    let all = lists_all map rows nodes bound below in
+    as_long (entries_from 0 nodes rows map.entries) entries all.rising lists.rising
     (λ x among. (lists.rows x.node x.key x.held).0 ((all.rows x.node x.key x.held).1 among))
     (λ x among. (all.rows x.node x.key x.held).0 ((lists.rows x.node x.key x.held).1 among))

@@ -1,5 +1,5 @@
-pub mod Lookups
-pub mod Places
+pub mod Placed
+pub mod Slotted
 pub mod Written
 pub mod Counted
 pub mod OneKind

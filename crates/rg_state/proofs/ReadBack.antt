@@ -4,14 +4,15 @@ use Rattle.std.proofs.lemmas.List.{length-map}
 use Rattle.rg_agg.specs.Held.{held_bytes}
 use Rattle.rg_agg.specs.Numbers.{value_of}
 use Rattle.rg_agg.specs.Standing.{size_in}
-use Rattle.rg_agg.proofs.Fields.{number_value_reads_back, counted_reads_back, summed_reads_back, averaged_reads_back, squared_reads_back, end_reads_back}
+use Rattle.rg_agg.proofs.Fields.{counted_reads_back, summed_reads_back, averaged_reads_back, squared_reads_back, end_reads_back}
 use Rattle.rg_agg.proofs.Queues.{queued_reads_back}
-use Rattle.rg_agg.specs.Held.{and_then, lowest, highest, varied, number_value_at}
-use Rattle.rg_agg.specs.Stands.{IsNumber}
+use Rattle.rg_agg.specs.Held.{and_then, varied}
 use Rattle.rg_event.specs.Tagged.{IsLegal}
-use Rattle.rg_tally.specs.Reading.{any_value_at, is_before, is_less}
+use Rattle.rg_tally.specs.Reading.{any_value_at, is_before}
 use Rattle.rg_tally.specs.ValueLaws.{value_reads_back}
 use Rattle.rg_tally.proofs.ReadPairs.{tally_back}
+use Rattle.rg_extreme.specs.States.{pairs_in}
+use Rattle.rg_extreme.proofs.ReadExtremes.{highest_back, lowest_back}
 use Rattle.rg_state.specs.States.{held_of, state_at}
 use Rattle.rg_state.specs.declared.state.AggState.{AggState}
 use Rattle.rg_state.specs.declared.state.AggState.TheVariants.{Count, Sum, Avg, SumSq, Min, Max, Distinct, First, Last}
@@ -21,8 +22,8 @@ state_read_back (Count state) rest some = counted_reads_back state.count rest so
 state_read_back (Sum state) rest some = summed_reads_back state.total.count state.total.sum rest some state.total.few state.total.bound
 state_read_back (Avg state) rest some = averaged_reads_back state.total.count state.total.sum rest some state.total.few state.total.bound
 state_read_back (SumSq state) rest some = squared_reads_back state.count state.sum rest some state.few state.bound
-state_read_back (Min state) rest some = ap (λ read. and_then read (λ pairs left. Ok (lowest pairs, left))) (tally_back IsNumber number_value_at is_less number_value_reads_back 5 state.extreme.tally rest state.extreme.sound some)
-state_read_back (Max state) rest some = ap (λ read. and_then read (λ pairs left. Ok (highest pairs, left))) (tally_back IsNumber number_value_at is_less number_value_reads_back 6 state.extreme.tally rest state.extreme.sound some)
+state_read_back (Min state) rest some = lowest_back state.deque.size state.deque.kept (pairs_in state.deque) rest state.sound some
+state_read_back (Max state) rest some = highest_back state.deque.size state.deque.kept (pairs_in state.deque) rest state.sound some
 state_read_back (Distinct state) rest some = ap (λ read. and_then read (λ pairs left. Ok (varied pairs, left))) (tally_back IsLegal any_value_at is_before value_reads_back 7 state.tally rest state.sound some)
 state_read_back (First state) rest some = queued_reads_back state.numbers.items rest (omega (arith, some, length-map state.numbers.items value_of)) state.few state.alike
 state_read_back (Last state) rest some = end_reads_back state.count state.last _ rest some state.few state.kept refl

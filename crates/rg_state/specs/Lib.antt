@@ -1,7 +1,8 @@
 pub mod Takes
 pub mod Rows
 pub mod States
-pub mod Maps
+pub mod Kepts
 pub mod Cells
 pub mod CellLaws
+pub mod Keeping
 pub mod Kinds

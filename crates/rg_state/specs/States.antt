@@ -46,11 +46,11 @@ state_tagged_at tag bytes =
     else if tag == 2 then summed_at bytes
     else if tag == 3 then averaged_at bytes
     else if tag == 4 then squared_at bytes
-    else if tag == 5 then lowest_at bytes
-    else if tag == 6 then highest_at bytes
     else if tag == 7 then varied_at bytes
     else if tag == 8 then queued_at bytes
     else if tag == 9 then ended_at bytes
+    else if tag == 21 then lowest_at bytes
+    else if tag == 22 then highest_at bytes
     else Err Unfit
 
 -- the state that some bytes begin with: the first of them is its aggregator's tag
@@ -71,8 +71,8 @@ IsOfKind kind (squared n sum) = kind ≡ Some Int
 IsOfKind kind (queued values) = All (HasKind kind) values
 IsOfKind kind (ended n None) = ⊤
 IsOfKind kind (ended n (Some value)) = HasKind kind value
-IsOfKind kind (lowest pairs) = All (λ pair. HasKind kind pair.0) pairs
-IsOfKind kind (highest pairs) = All (λ pair. HasKind kind pair.0) pairs
+IsOfKind kind (lowest n pairs) = All (λ pair. HasKind kind pair.0) pairs
+IsOfKind kind (highest n pairs) = All (λ pair. HasKind kind pair.0) pairs
 IsOfKind kind (varied pairs) = All (λ pair. HasKind kind pair.0) pairs
 
 -- a state of the function, and of values of this kind

@@ -46,11 +46,11 @@ fn read_state(alloc: Global, from: &mut ByteReader<'_>) -> Result<AggState, Stat
         Some(2) => decoded!(Sum, alloc, from),
         Some(3) => decoded!(Avg, alloc, from),
         Some(4) => decoded!(SumSq, alloc, from),
-        Some(5) => decoded!(Min, alloc, from),
-        Some(6) => decoded!(Max, alloc, from),
         Some(7) => decoded!(Distinct, alloc, from),
         Some(8) => decoded!(First, alloc, from),
         Some(9) => decoded!(Last, alloc, from),
+        Some(0x15) => decoded!(Min, alloc, from),
+        Some(0x16) => decoded!(Max, alloc, from),
         Some(_) => Err(StateFault::Unfit),
     }
 }

@@ -2,12 +2,12 @@
 #![tactic(auto)]
 
 mod decode;
+mod key_rows;
 mod mem_table;
-mod node_rows;
-mod nodes;
 mod one;
 mod own;
-mod rows;
+mod slot_changes;
+mod slots;
 mod state;
 mod table;
 mod writing;
@@ -21,5 +21,7 @@ pub use rg_metric::{Answer, Func};
 pub use state::AggState;
 pub use table::{Change, Table, TableFault};
 
+#[cfg(test)]
+mod per_node;
 #[cfg(test)]
 mod tests;

@@ -1,31 +1,27 @@
-ghost use Rattle.std.specs.Prelude.{◌≡◌, ◌<◌, ◌≤◌, ◌^◌, ℕ, List, None, Some, length, OnOk, OnErr, IsErrOf};
-ghost use Rattle.rg_agg.specs.Standing.{size_in};
-ghost use Rattle.rg_state.specs.Cells.{row_at, rows_in};
-ghost use Rattle.rg_state.specs.Rows.{Changed, Counts, Suits, Unfit, IsRefused, IsOf, Others, Same};
-ghost use Rattle.rg_state.specs.States.{held_of};
-ghost use Rattle.rg_state.specs.Takes.{Takes};
+ghost use Rattle.std.specs.Prelude.{◌≡◌, ◌<◌, ◌≤◌, ◌+◌, ◌^◌, ℕ, List, None, max};
+ghost use Rattle.rg_state.specs.Cells.{cell_in, AreBelow};
 
-use crate::node_rows::NodeRows;
-use crate::nodes::{add_at, answer_at, insert_at, make_nodes, remove_at};
 use crate::one::Refusal;
+use crate::slots::Slots;
 use crate::state::AggState;
 use crate::table::{Change, Table, TableFault};
-use crate::writing::write_nodes;
-use rg_bytes::Memory;
+use crate::writing::{count_nodes, write_nodes};
 use rg_event::Value;
 use rg_group::Key;
 use rg_metric::{Answer, Func};
 use std::alloc::Global;
 
-/// A table whose rows stand in memory: an ordered map for each node, and the number of rows beside.
-/// It takes fewer than 2^64 rows, and no key of 2^32 bytes or more: more of them is refused as memory.
+/// A table whose rows stand in memory: one ordered map gives each key a slot, and a slot has the states
+/// of its key by node. It takes at most 2^32 - 1 keys at a time, and none of more than 2,056 bytes: more
+/// of them is refused as memory.
 #[derive(Drop)]
 pub struct MemTable {
     alloc: Global,
-    nodes: Vec<NodeRows>,
-    rows: u64,
-    ghost few: { length nodes.items ≤ 2 ^ 32 },
-    ghost counted: { rows ≡ rows_in nodes.items },
+    slots: Slots,
+    /// One above the greatest node that was named in a change or put in.
+    nodes: u64,
+    ghost few: { nodes ≤ 2 ^ 32 },
+    ghost below: { AreBelow nodes slots.map slots.rows.items },
 }
 
 impl MemTable {
@@ -37,91 +33,29 @@ impl MemTable {
     {
         MemTable {
             alloc,
-            nodes: Vec::new(alloc),
-            rows: 0,
-        }
-    }
-
-    /// Adds a value to the row of a node and a key.
-    fn add(&mut self, node: u32, key: &Key, func: Func, value: &Value) -> Result<(), Refusal>
-        requires { Takes func value.now }
-        ensures changed { OnOk result (Changed func Change.Add value.now (row_at self.old.nodes.items node key.now) (row_at self.new.nodes.items node key.now)) }
-        ensures suits { OnOk result (Suits func Change.Add value.now (row_at self.old.nodes.items node key.now)) }
-        ensures own { OnOk result (IsOf func (row_at self.new.nodes.items node key.now)) }
-        ensures size { OnOk result (Counts Change.Add (row_at self.old.nodes.items node key.now) (row_at self.new.nodes.items node key.now)) }
-        ensures others { Others node key.now (row_at self.old.nodes.items) (row_at self.new.nodes.items) }
-        ensures err { OnErr result (Same (row_at self.old.nodes.items) (row_at self.new.nodes.items)) }
-        ensures unfit { IsErrOf result Refusal.Unfit → Unfit func Change.Add value.now (row_at self.old.nodes.items node key.now) }
-        ensures causes { IsErrOf result Refusal.Unfit → IsRefused func Change.Add value.now (row_at self.old.nodes.items node key.now) }
-    {
-        let Some(rows) = self.rows.checked_add(1) else {
-            return Err(Refusal::Memory);
-        };
-        match make_nodes(self.alloc, &mut self.nodes, node) {
-            Ok(()) => {}
-            Err(_) => return Err(Refusal::Memory),
-        }
-        match add_at(self.alloc, &mut self.nodes, node, key, func, value) {
-            Ok(true) => {
-                self.rows = rows;
-                Ok(())
-            }
-            Ok(false) => Ok(()),
-            Err(refusal) => Err(refusal),
-        }
-    }
-
-    /// Takes the first value of the row of a node and a key away.
-    fn remove(&mut self, node: u32, key: &Key, func: Func, value: &Value) -> Result<(), Refusal>
-        ensures changed { OnOk result (Changed func Change.Remove value.now (row_at self.old.nodes.items node key.now) (row_at self.new.nodes.items node key.now)) }
-        ensures suits { OnOk result (Suits func Change.Remove value.now (row_at self.old.nodes.items node key.now)) }
-        ensures own { OnOk result (IsOf func (row_at self.new.nodes.items node key.now)) }
-        ensures size { OnOk result (Counts Change.Remove (row_at self.old.nodes.items node key.now) (row_at self.new.nodes.items node key.now)) }
-        ensures others { Others node key.now (row_at self.old.nodes.items) (row_at self.new.nodes.items) }
-        ensures err { OnErr result (Same (row_at self.old.nodes.items) (row_at self.new.nodes.items)) }
-        ensures unfit { OnErr result (Unfit func Change.Remove value.now (row_at self.old.nodes.items node key.now)) }
-    {
-        if node as usize >= self.nodes.len() {
-            return Err(Refusal::Unfit);
-        }
-        match remove_at(&mut self.nodes, node, key, func, value) {
-            Ok(true) => {
-                self.rows -= 1;
-                Ok(())
-            }
-            Ok(false) => Ok(()),
-            Err(refusal) => Err(refusal),
-        }
-    }
-
-    /// Puts a row where there is none.
-    fn put(&mut self, node: u32, key: Key, state: AggState) -> Result<(), Memory>
-        requires free { row_at self.old.nodes.items node key ≡ None }
-        requires some { 0 < size_in (held_of state) }
-        ensures row { OnOk result (row_at self.new.nodes.items node key ≡ Some (held_of state)) }
-        ensures others { Others node key (row_at self.old.nodes.items) (row_at self.new.nodes.items) }
-        ensures err { OnErr result (Same (row_at self.old.nodes.items) (row_at self.new.nodes.items)) }
-    {
-        let Some(rows) = self.rows.checked_add(1) else {
-            return Err(Memory);
-        };
-        make_nodes(self.alloc, &mut self.nodes, node)?;
-        match insert_at(&mut self.nodes, node, key, state) {
-            Ok(()) => {
-                self.rows = rows;
-                Ok(())
-            }
-            Err(memory) => Err(memory),
+            slots: Slots::new(alloc),
+            nodes: 0,
         }
     }
 }
 
+/// The number of nodes, or one above this node where that is more.
+fn reach(nodes: u64, node: u32) -> u64
+    ensures { result ≡ max nodes (node + 1) }
+{
+    let above = node as u64 + 1;
+    if nodes < above {
+        return above;
+    }
+    nodes
+}
+
 impl Table for MemTable {
     ghost use Rattle.std.specs.Prelude.{⊤};
-    ghost use Rattle.rg_state.specs.Cells.{row_at, entries_from};
-    ghost use Rattle.rg_state.specs.CellLaws.{filled_at, state_at_row, bounded_at, lists_all};
+    ghost use Rattle.rg_state.specs.Cells.{cell_in, entries_from};
+    ghost use Rattle.rg_state.specs.CellLaws.{filled_cell, state_cell, bounded_cell, lists_all};
 
-    ghost cell = { λ table. row_at table.nodes.items };
+    ghost cell = { λ table. cell_in table.slots.map table.slots.rows.items };
 
     ghost tells = { λ _. ⊤ };
 
@@ -135,26 +69,30 @@ impl Table for MemTable {
         change: Change,
         value: &Value,
     ) -> Result<(), TableFault> {
-        let changed = match change {
-            Change::Add => self.add(node, key, func, value),
-            Change::Remove => self.remove(node, key, func, value),
-        };
-        match changed {
-            Ok(()) => Ok(()),
-            Err(Refusal::Unfit) => Err(TableFault::BadState(node)),
-            Err(Refusal::Memory) => Err(TableFault::Memory),
+        self.nodes = reach(self.nodes, node);
+        match change {
+            Change::Add => match self.slots.add(self.alloc, node, key, func, value) {
+                Ok(()) => Ok(()),
+                Err(Refusal::Unfit) => Err(TableFault::BadState(node)),
+                Err(Refusal::Memory) => Err(TableFault::Memory),
+            },
+            Change::Remove => match self.slots.remove(node, key, func, value) {
+                Ok(()) => Ok(()),
+                Err(_) => Err(TableFault::BadState(node)),
+            },
         }
     }
 
     fn answer(&mut self, node: u32, key: &Key, func: Func) -> Result<Answer, TableFault> {
-        match answer_at(&self.nodes, node, key, func) {
+        match self.slots.answer(node, key, func) {
             Some(answer) => Ok(answer),
             None => Err(TableFault::BadState(node)),
         }
     }
 
     fn insert(&mut self, node: u32, key: Key, state: AggState) -> Result<(), TableFault> {
-        match self.put(node, key, state) {
+        self.nodes = reach(self.nodes, node);
+        match self.slots.insert(self.alloc, node, key, state) {
             Ok(()) => Ok(()),
             Err(_) => Err(TableFault::Memory),
         }
@@ -162,7 +100,7 @@ impl Table for MemTable {
 
     fn write_rows(&mut self, out: &mut Vec<u8>) -> Result<(), TableFault> {
         let start = out.len();
-        match write_nodes(&self.nodes, out) {
+        match write_nodes(self.nodes, &self.slots, out) {
             Ok(()) => Ok(()),
             Err(_) => {
                 out.truncate(start);
@@ -172,14 +110,14 @@ impl Table for MemTable {
     }
 
     fn rows(&self) -> u64 {
-        self.rows
+        count_nodes(self.nodes, &self.slots)
     }
 
-    ghost filled = { λ table node key held _ found. filled_at table.nodes.items node key held found };
+    ghost filled = { λ table node key held _ found. filled_cell table.slots.map table.slots.rows.items node key held found };
 
-    ghost states = { λ table node key held _ found. state_at_row table.nodes.items node key held found };
+    ghost states = { λ table node key held _ found. state_cell table.slots.map table.slots.rows.items node key held found };
 
-    ghost bounded = { λ table node key held _ found. bounded_at table.nodes.items node key held table.few found };
+    ghost bounded = { λ table node key held _ found. bounded_cell table.slots.map table.slots.rows.items table.nodes node key held table.few table.slots.bound table.below found };
 
-    ghost finite = { λ table _. (entries_from 0 table.nodes.items, lists_all table.nodes.items) };
+    ghost finite = { λ table _. (entries_from 0 table.nodes table.slots.rows.items table.slots.map.entries, lists_all table.slots.map table.slots.rows.items table.nodes table.slots.bound table.below) };
 }

@@ -114,8 +114,9 @@ pub trait Table {
     /// What a row keeps is what a state of one of the aggregators keeps.
     ghost states: { (table : Self) (node : ℕ) (key : List ℕ) (held : Held) → tells table → cell table node key ≡ Some held → IsHeld held };
 
-    /// The number of a node and the length of a row's key fit the 4 bytes that each is written in.
-    ghost bounded: { (table : Self) (node : ℕ) (key : List ℕ) (held : Held) → tells table → cell table node key ≡ Some held → (node < 2 ^ 32) × (length key < 2 ^ 32) };
+    /// The number of a node fits the 4 bytes that it is written in, and a row's key has at most 257
+    /// bytes for each of eight columns.
+    ghost bounded: { (table : Self) (node : ℕ) (key : List ℕ) (held : Held) → tells table → cell table node key ≡ Some held → (node < 2 ^ 32) × (length key ≤ 2056) };
 
     /// The rows are finitely many.
     ghost finite: { (table : Self) → tells table → (entries : List Entry) × Lists (cell table) entries };

@@ -230,12 +230,12 @@ fn a_copy_stays_where_its_source_changes(rt: HostRuntime) -> Result<(), Fail> {
             Answer::Number(64),
         ),
         (
-            b"\x05\0\0\0\0\0\0\0\x02\x01\0\0\0\0\0\0\0\x05\0\0\0\0\0\0\0\x01\x01\0\0\0\0\0\0\0\x08\0\0\0\0\0\0\0\x01",
+            b"\x15\0\0\0\0\0\0\0\x02\0\0\0\0\0\0\0\x02\x01\0\0\0\0\0\0\0\x05\0\0\0\0\0\0\0\x01\x01\0\0\0\0\0\0\0\x08\0\0\0\0\0\0\0\x01",
             Answer::Number(5),
             Answer::Number(8),
         ),
         (
-            b"\x06\0\0\0\0\0\0\0\x02\x01\0\0\0\0\0\0\0\x03\0\0\0\0\0\0\0\x01\x01\0\0\0\0\0\0\0\x05\0\0\0\0\0\0\0\x01",
+            b"\x16\0\0\0\0\0\0\0\x02\0\0\0\0\0\0\0\x02\x01\0\0\0\0\0\0\0\x05\0\0\0\0\0\0\0\x01\x01\0\0\0\0\0\0\0\x03\0\0\0\0\0\0\0\x01",
             Answer::Number(5),
             Answer::Number(3),
         ),
@@ -267,8 +267,14 @@ fn a_copy_stays_where_its_source_changes(rt: HostRuntime) -> Result<(), Fail> {
 
 #[test]
 fn what_is_no_state_is_refused(rt: HostRuntime) -> Result<(), Fail> {
-    let table: [(&[u8], StateFault); 4] = [
+    let table: [(&[u8], StateFault); 6] = [
         (b"", StateFault::Short),
+        // Tags of an earlier version.
+        (
+            b"\x05\0\0\0\0\0\0\0\x01\x01\0\0\0\0\0\0\0\x05\0\0\0\0\0\0\0\x01",
+            StateFault::Unfit,
+        ),
+        (b"\x06", StateFault::Unfit),
         (b"\x0a\0\0\0\0\0\0\0\x01", StateFault::Unfit),
         (b"\x01\0\0\0\0\0\0\0\0", StateFault::Unfit),
         (b"\x03\0\0\0\0\0\0\0\x01\0", StateFault::Short),

@@ -1,6 +1,5 @@
 -- How the counts of values change with the entries of a map.
 use Rattle.std.proofs.Common.{◌≡◌, ℕ, ◌+◌, ◌<◌, ◌≤◌, Bool, true, false, List, [], ◌∷◌, Some, None, if◌then◌else◌, refl, ap, sym, ◌∙◌, arith}
-use Rattle.std.proofs.lemmas.Bool.{true≢false}
 use Rattle.std.specs.declared.cmp.Ordering.{Ordering}
 use Rattle.std.specs.declared.cmp.Ordering.TheVariants.{Less, Equal, Greater}
 use Rattle.std.specs.Ordering.{is_eq}
@@ -9,9 +8,10 @@ use Rattle.std.specs.Map.{lookup, remove_entry, set_value}
 use Rattle.rg_agg.specs.Standing.{counts_sum, count_in}
 use Rattle.rg_event.specs.declared.value.Value.{Value}
 use Rattle.rg_metric.specs.Same.{same_value}
-use Rattle.rg_metric.proofs.Same.{same_value-true, same_value-same}
+use Rattle.rg_metric.proofs.Same.{same_value-true}
 use Rattle.rg_event.specs.declared.value.Kind.{Kind}
 use Rattle.rg_tally.specs.Pairs.{pairs_by, once, OneMore, AreOf}
+use Rattle.rg_tally.proofs.Places.{other_way}
 
 -- values are the same where keys are equal
 abbrev pub Tells : {K : Type 0} → (K → K → Ordering) → (K → Value) → Type 0
@@ -26,14 +26,6 @@ no_some e = cc
 
 pub some_same : {A : Type 0} {n m : A} → Some n ≡ Some m → n ≡ m
 some_same e = cc
-
--- a test that fails one way fails the other way
-pub other_way : (v w : Value) → same_value v w ≡ false → same_value w v ≡ false
-other_way v w fails = by (same_value w v) refl
-  where
-    by : (b : Bool) → same_value w v ≡ b → same_value w v ≡ false
-    by true is = let holds : same_value v w ≡ true = rw (same_value-true w v is) (same_value-same v) in absurd (true≢false (sym holds ∙ fails))
-    by false is = is
 
 pub none_there : {K : Type 0} (cmp : K → K → Ordering) (f : K → Value) → Tells cmp f → (k : K) (es : List (K × ℕ)) → lookup (is_at (cmp k)) es ≡ None → count_in (f k) (pairs_by f es) ≡ 0
 none_there cmp f tells k [] none = refl

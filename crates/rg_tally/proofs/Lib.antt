@@ -1,6 +1,6 @@
 mod Counting
 pub mod Places
-mod Kept
+pub mod Kept
 mod Order
 mod Among
 mod Distinct

@@ -1,5 +1,6 @@
 -- The lists of values that pairs stand for, with one value more at the back and one less at the front.
 use Rattle.std.proofs.Common.{◌≡◌, ℕ, ◌+◌, ◌<◌, List, [], ◌∷◌, ◌++◌, if◌then◌else◌, refl, ap, sym, ◌∙◌, arith, length-append, Bool, true, false, subst}
+use Rattle.std.proofs.lemmas.Bool.{true≢false}
 use Rattle.std.proofs.lemmas.List.Sums.{sum_by-append, sum_by-cons}
 use Rattle.rg_agg.specs.Standing.{AreCounts, AreThere, count_in, places}
 use Rattle.rg_event.specs.Tagged.{value_kind}
@@ -8,6 +9,14 @@ use Rattle.rg_event.specs.declared.value.Value.{Value}
 use Rattle.rg_metric.specs.Same.{same_value}
 use Rattle.rg_metric.proofs.Same.{same_value-true, same_value-same}
 use Rattle.rg_tally.specs.Pairs.{once, AreAlike, AreOf, IsTally, OneMore}
+
+-- a test that fails one way fails the other way
+pub other_way : (v w : Value) → same_value v w ≡ false → same_value w v ≡ false
+other_way v w fails = by (same_value w v) refl
+  where
+    by : (b : Bool) → same_value w v ≡ b → same_value w v ≡ false
+    by true is = let holds : same_value v w ≡ true = rw (same_value-true w v is) (same_value-same v) in absurd (true≢false (sym holds ∙ fails))
+    by false is = is
 
 pub places_first : (v w : Value) (values : List Value) → places v (w ∷ values) ≡ once v w + places v values
 places_first v w values = sum_by-cons (λ x. if same_value v x then 1 else 0) w values
@@ -25,7 +34,7 @@ of_there legal kind [] are = tt
 of_there legal kind (pair ∷ pairs) are = (are.2, of_there legal kind pairs are.3)
 
 -- each value of a tally is there at least once
-all_there : (legal : Value → Type 0) (pairs : List (Value × ℕ)) → AreAlike legal pairs → AreThere pairs
+pub all_there : (legal : Value → Type 0) (pairs : List (Value × ℕ)) → AreAlike legal pairs → AreThere pairs
 all_there legal [] alike = tt
 all_there legal (pair ∷ pairs) alike = of_there legal (value_kind pair.0) (pair ∷ pairs) (alike (value_kind pair.0) refl)
 

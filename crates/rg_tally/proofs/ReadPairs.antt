@@ -33,44 +33,44 @@ behind_bad value_at below so_far old value left is behind = rw (is, behind) refl
 
 -- one count
 
-pub count_short : (so_far : List (Value × ℕ)) (old : List ℕ) → length old < 8 → count_at so_far old ≡ Err Short
+pub count_short : (most : ℕ) (so_far : List (Value × ℕ)) (old : List ℕ) → length old < 8 → count_at most so_far old ≡ Err Short
 unfolding count_at
-count_short so_far old few = rw (number_short old few) refl
+count_short most so_far old few = rw (number_short old few) refl
 
-count_tested : (so_far : List (Value × ℕ)) (old : List ℕ) (n : ℕ) (rest : List ℕ) → old ≡ to_be_bytes w64 n ++ rest → n < 2 ^ 64 → count_at so_far old ≡ fitting (is_count so_far n) n rest
+count_tested : (most : ℕ) (so_far : List (Value × ℕ)) (old : List ℕ) (n : ℕ) (rest : List ℕ) → old ≡ to_be_bytes w64 n ++ rest → n < 2 ^ 64 → count_at most so_far old ≡ fitting (is_count most so_far n) n rest
 unfolding count_at
-count_tested so_far old n rest stood fits = rw (stood, number_read n rest fits) refl
+count_tested most so_far old n rest stood fits = rw (stood, number_read n rest fits) refl
 
-pub count_read : (so_far : List (Value × ℕ)) (old : List ℕ) (n : ℕ) (rest : List ℕ) → old ≡ to_be_bytes w64 n ++ rest → n < 2 ^ 64 → is_count so_far n ≡ true → count_at so_far old ≡ Ok (n, rest)
-count_read so_far old n rest stood fits is = count_tested so_far old n rest stood fits ∙ ap (λ test. fitting test n rest) is
+pub count_read : (most : ℕ) (so_far : List (Value × ℕ)) (old : List ℕ) (n : ℕ) (rest : List ℕ) → old ≡ to_be_bytes w64 n ++ rest → n < 2 ^ 64 → is_count most so_far n ≡ true → count_at most so_far old ≡ Ok (n, rest)
+count_read most so_far old n rest stood fits is = count_tested most so_far old n rest stood fits ∙ ap (λ test. fitting test n rest) is
 
-pub count_bad : (so_far : List (Value × ℕ)) (old : List ℕ) (n : ℕ) (rest : List ℕ) → old ≡ to_be_bytes w64 n ++ rest → n < 2 ^ 64 → is_count so_far n ≡ false → count_at so_far old ≡ Err Unfit
-count_bad so_far old n rest stood fits is = count_tested so_far old n rest stood fits ∙ ap (λ test. fitting test n rest) is
+pub count_bad : (most : ℕ) (so_far : List (Value × ℕ)) (old : List ℕ) (n : ℕ) (rest : List ℕ) → old ≡ to_be_bytes w64 n ++ rest → n < 2 ^ 64 → is_count most so_far n ≡ false → count_at most so_far old ≡ Err Unfit
+count_bad most so_far old n rest stood fits is = count_tested most so_far old n rest stood fits ∙ ap (λ test. fitting test n rest) is
 
 -- one pair
 
-pub pair_value_stops : (value_at : List ℕ → Begins Value) (below : Value → Value → Bool) (so_far : List (Value × ℕ)) (old : List ℕ) (fault : StateFault) → (behind_at value_at below so_far old ≡ Err fault) ⊎ (fault ≡ Memory) → (pair_at value_at below so_far old ≡ Err fault) ⊎ (fault ≡ Memory)
+pub pair_value_stops : (most : ℕ) (value_at : List ℕ → Begins Value) (below : Value → Value → Bool) (so_far : List (Value × ℕ)) (old : List ℕ) (fault : StateFault) → (behind_at value_at below so_far old ≡ Err fault) ⊎ (fault ≡ Memory) → (pair_at value_at below most so_far old ≡ Err fault) ⊎ (fault ≡ Memory)
 unfolding pair_at
-pair_value_stops value_at below so_far old fault (inl is) = inl (rw is refl)
-pair_value_stops value_at below so_far old fault (inr memory) = inr memory
+pair_value_stops most value_at below so_far old fault (inl is) = inl (rw is refl)
+pair_value_stops most value_at below so_far old fault (inr memory) = inr memory
 
-pub pair_count_stops : (value_at : List ℕ → Begins Value) (below : Value → Value → Bool) (so_far : List (Value × ℕ)) (old : List ℕ) (value : Value) (behind : List ℕ) (fault : StateFault) → behind_at value_at below so_far old ≡ Ok (value, behind) → (count_at so_far behind ≡ Err fault) ⊎ (fault ≡ Memory) → (pair_at value_at below so_far old ≡ Err fault) ⊎ (fault ≡ Memory)
+pub pair_count_stops : (most : ℕ) (value_at : List ℕ → Begins Value) (below : Value → Value → Bool) (so_far : List (Value × ℕ)) (old : List ℕ) (value : Value) (behind : List ℕ) (fault : StateFault) → behind_at value_at below so_far old ≡ Ok (value, behind) → (count_at most so_far behind ≡ Err fault) ⊎ (fault ≡ Memory) → (pair_at value_at below most so_far old ≡ Err fault) ⊎ (fault ≡ Memory)
 unfolding pair_at
-pair_count_stops value_at below so_far old value behind fault first (inl is) = inl (rw (first, is) refl)
-pair_count_stops value_at below so_far old value behind fault first (inr memory) = inr memory
+pair_count_stops most value_at below so_far old value behind fault first (inl is) = inl (rw (first, is) refl)
+pair_count_stops most value_at below so_far old value behind fault first (inr memory) = inr memory
 
-pub pair_read : (value_at : List ℕ → Begins Value) (below : Value → Value → Bool) (so_far : List (Value × ℕ)) (old : List ℕ) (value : Value) (behind : List ℕ) (n : ℕ) (left : List ℕ) → behind_at value_at below so_far old ≡ Ok (value, behind) → count_at so_far behind ≡ Ok (n, left) → pair_at value_at below so_far old ≡ Ok ((value, n), left)
+pub pair_read : (most : ℕ) (value_at : List ℕ → Begins Value) (below : Value → Value → Bool) (so_far : List (Value × ℕ)) (old : List ℕ) (value : Value) (behind : List ℕ) (n : ℕ) (left : List ℕ) → behind_at value_at below so_far old ≡ Ok (value, behind) → count_at most so_far behind ≡ Ok (n, left) → pair_at value_at below most so_far old ≡ Ok ((value, n), left)
 unfolding pair_at
-pair_read value_at below so_far old value behind n left first second = rw (first, second) refl
+pair_read most value_at below so_far old value behind n left first second = rw (first, second) refl
 
 -- pairs in a row
 
-pub more_step : (value_at : List ℕ → Begins Value) (below : Value → Value → Bool) (so_far : List (Value × ℕ)) (n m : ℕ) (old : List ℕ) (pair : Value × ℕ) (left : List ℕ) → n ≡ suc m → pair_at value_at below so_far old ≡ Ok (pair, left) → more_pairs_at value_at below so_far n old ≡ more_pairs_at value_at below (so_far ++ pair ∷ []) m left
-more_step value_at below so_far n m old pair left count is = rw (count, is) refl
+pub more_step : (most : ℕ) (value_at : List ℕ → Begins Value) (below : Value → Value → Bool) (so_far : List (Value × ℕ)) (n m : ℕ) (old : List ℕ) (pair : Value × ℕ) (left : List ℕ) → n ≡ suc m → pair_at value_at below most so_far old ≡ Ok (pair, left) → more_pairs_at value_at below most so_far n old ≡ more_pairs_at value_at below most (so_far ++ pair ∷ []) m left
+more_step most value_at below so_far n m old pair left count is = rw (count, is) refl
 
-pub more_stops : (value_at : List ℕ → Begins Value) (below : Value → Value → Bool) (so_far : List (Value × ℕ)) (n m : ℕ) (old : List ℕ) (fault : StateFault) → n ≡ suc m → (pair_at value_at below so_far old ≡ Err fault) ⊎ (fault ≡ Memory) → (more_pairs_at value_at below so_far n old ≡ Err fault) ⊎ (fault ≡ Memory)
-more_stops value_at below so_far n m old fault count (inl is) = inl (rw (count, is) refl)
-more_stops value_at below so_far n m old fault count (inr memory) = inr memory
+pub more_stops : (most : ℕ) (value_at : List ℕ → Begins Value) (below : Value → Value → Bool) (so_far : List (Value × ℕ)) (n m : ℕ) (old : List ℕ) (fault : StateFault) → n ≡ suc m → (pair_at value_at below most so_far old ≡ Err fault) ⊎ (fault ≡ Memory) → (more_pairs_at value_at below most so_far n old ≡ Err fault) ⊎ (fault ≡ Memory)
+more_stops most value_at below so_far n m old fault count (inl is) = inl (rw (count, is) refl)
+more_stops most value_at below so_far n m old fault count (inr memory) = inr memory
 
 pub pairs_bytes_more : (pairs : List (Value × ℕ)) (pair : Value × ℕ) → pairs_bytes (pairs ++ pair ∷ []) ≡ pairs_bytes pairs ++ (tagged_bytes pair.0 ++ to_be_bytes w64 pair.1)
 pairs_bytes_more [] pair = ap (λ bytes. tagged_bytes pair.0 ++ bytes) (append-nil (to_be_bytes w64 pair.1))
@@ -80,12 +80,12 @@ pairs_bytes_more (first ∷ pairs) pair =
     ∙ sym (append_assoc (tagged_bytes first.0) (to_be_bytes w64 first.1 ++ pairs_bytes pairs) (tagged_bytes pair.0 ++ to_be_bytes w64 pair.1)))
 
 -- one turn of the reading
-pub step_to_come : (value_at : List ℕ → Begins Value) (below : Value → Value → Bool) (old new : List (Value × ℕ)) (pair : Value × ℕ) (count done : ℕ) (start from left : List ℕ) → new ≡ old ++ pair ∷ [] → done < count → more_pairs_at value_at below [] count start ≡ more_pairs_at value_at below old (count - done) from → pair_at value_at below old from ≡ Ok (pair, left)
-    → more_pairs_at value_at below [] count start ≡ more_pairs_at value_at below new (count - (done + 1)) left
-step_to_come value_at below old new pair count done start from left pushed below_count so_far next =
+pub step_to_come : (most : ℕ) (value_at : List ℕ → Begins Value) (below : Value → Value → Bool) (old new : List (Value × ℕ)) (pair : Value × ℕ) (count done : ℕ) (start from left : List ℕ) → new ≡ old ++ pair ∷ [] → done < count → more_pairs_at value_at below most [] count start ≡ more_pairs_at value_at below most old (count - done) from → pair_at value_at below most old from ≡ Ok (pair, left)
+    → more_pairs_at value_at below most [] count start ≡ more_pairs_at value_at below most new (count - (done + 1)) left
+step_to_come most value_at below old new pair count done start from left pushed below_count so_far next =
     so_far
-    ∙ (more_step value_at below old (count - done) (count - (done + 1)) from pair left (omega (arith, below_count)) next
-    ∙ ap (λ pairs. more_pairs_at value_at below pairs (count - (done + 1)) left) (sym pushed))
+    ∙ (more_step most value_at below old (count - done) (count - (done + 1)) from pair left (omega (arith, below_count)) next
+    ∙ ap (λ pairs. more_pairs_at value_at below most pairs (count - (done + 1)) left) (sym pushed))
 
 pub step_taken : (old new : List (Value × ℕ)) (pair : Value × ℕ) (start from left : List ℕ) → new ≡ old ++ pair ∷ [] → start ≡ pairs_bytes old ++ from → from ≡ tagged_bytes pair.0 ++ (to_be_bytes w64 pair.1 ++ left) → start ≡ pairs_bytes new ++ left
 step_taken old new pair start from left pushed so_far stood =
@@ -130,18 +130,18 @@ pairs_length_stops value_at below tag old fault (inl is) = inl (rw is refl)
 pairs_length_stops value_at below tag old fault (inr memory) = inr memory
 
 -- behind the number of pairs they are what the reading of so many is
-pub pairs_behind : (value_at : List ℕ → Begins Value) (below : Value → Value → Bool) (tag : ℕ) (old : List ℕ) (n : ℕ) (behind : List ℕ) → length_behind_at tag old ≡ Ok (n, behind) → pairs_at value_at below tag old ≡ more_pairs_at value_at below [] n behind
+pub pairs_behind : (value_at : List ℕ → Begins Value) (below : Value → Value → Bool) (tag : ℕ) (old : List ℕ) (n : ℕ) (behind : List ℕ) → length_behind_at tag old ≡ Ok (n, behind) → pairs_at value_at below tag old ≡ more_pairs_at value_at below 1099511627776 [] n behind
 unfolding pairs_at
 pairs_behind value_at below tag old n behind is = rw is refl
 
-most : (legal : Value → Type 0) (kind : Kind) (pairs : List (Value × ℕ)) → AreOf legal kind pairs → length pairs ≤ counts_sum pairs
-most legal kind [] are = omega arith
-most legal kind (pair ∷ pairs) are = omega (arith, are.2, most legal kind pairs are.3)
+lengths : (legal : Value → Type 0) (kind : Kind) (pairs : List (Value × ℕ)) → AreOf legal kind pairs → length pairs ≤ counts_sum pairs
+lengths legal kind [] are = omega arith
+lengths legal kind (pair ∷ pairs) are = omega (arith, are.2, lengths legal kind pairs are.3)
 
 -- there are no more pairs than values
 pub length_most : (legal : Value → Type 0) (pairs : List (Value × ℕ)) → AreAlike legal pairs → length pairs ≤ counts_sum pairs
 length_most legal [] alike = omega arith
-length_most legal (pair ∷ pairs) alike = most legal (value_kind pair.0) (pair ∷ pairs) (alike (value_kind pair.0) refl)
+length_most legal (pair ∷ pairs) alike = lengths legal (value_kind pair.0) (pair ∷ pairs) (alike (value_kind pair.0) refl)
 
 pub some_pairs : (pairs : List (Value × ℕ)) → 0 < counts_sum pairs → 0 < length pairs
 some_pairs [] some = absurd (omega (arith, some))
@@ -157,7 +157,7 @@ sum_more [] pair = omega arith
 sum_more (first ∷ pairs) pair = let rest : counts_sum (pairs ++ pair ∷ []) ≡ counts_sum pairs + pair.1 = sum_more pairs pair in omega arith
 
 -- the first one of these may stand behind those so far
-abbrev Starts : (Value → Value → Bool) → List (Value × ℕ) → List (Value × ℕ) → Type 0
+abbrev pub Starts : (Value → Value → Bool) → List (Value × ℕ) → List (Value × ℕ) → Type 0
 Starts below so_far [] = Unit {0}
 Starts below so_far (pair ∷ pairs) = comes_behind below (last_kept so_far) pair.0 ≡ true
 
@@ -175,19 +175,19 @@ rising_rest below pair (next ∷ pairs) rise = rise.1
 abbrev pub ReadsBack : (Value → Type 0) → (List ℕ → Begins Value) → Type 0
 ReadsBack legal value_at = (value : Value) (rest : List ℕ) → legal value → value_at (tagged_bytes value ++ rest) ≡ Ok (value, rest)
 
-more_back : (legal : Value → Type 0) (value_at : List ℕ → Begins Value) (below : Value → Value → Bool) (kind : Kind) → ReadsBack legal value_at → (so_far pairs : List (Value × ℕ)) (rest : List ℕ) → AreOf legal kind pairs → AreRising below pairs → Starts below so_far pairs → counts_sum so_far + counts_sum pairs ≤ 2 ^ 40
-    → more_pairs_at value_at below so_far (length pairs) (pairs_bytes pairs ++ rest) ≡ Ok (so_far ++ pairs, rest)
-more_back legal value_at below kind reads so_far [] rest are rise starts few = ap (λ (pairs : List (Value × ℕ)). Ok (pairs, rest)) (sym (append-nil so_far))
-more_back legal value_at below kind reads so_far (pair ∷ pairs) rest are rise starts few =
+pub more_back : (most : ℕ) → most < 2 ^ 64 → (legal : Value → Type 0) (value_at : List ℕ → Begins Value) (below : Value → Value → Bool) (kind : Kind) → ReadsBack legal value_at → (so_far pairs : List (Value × ℕ)) (rest : List ℕ) → AreOf legal kind pairs → AreRising below pairs → Starts below so_far pairs → counts_sum so_far + counts_sum pairs ≤ most
+    → more_pairs_at value_at below most so_far (length pairs) (pairs_bytes pairs ++ rest) ≡ Ok (so_far ++ pairs, rest)
+more_back most fits legal value_at below kind reads so_far [] rest are rise starts few = ap (λ (pairs : List (Value × ℕ)). Ok (pairs, rest)) (sym (append-nil so_far))
+more_back most fits legal value_at below kind reads so_far (pair ∷ pairs) rest are rise starts few =
     let left : List ℕ = pairs_bytes pairs ++ rest in
     let behind : List ℕ = to_be_bytes w64 pair.1 ++ left in
     let stood : pairs_bytes (pair ∷ pairs) ++ rest ≡ tagged_bytes pair.0 ++ behind = append_assoc (tagged_bytes pair.0) (to_be_bytes w64 pair.1 ++ pairs_bytes pairs) rest ∙ ap (λ bytes. tagged_bytes pair.0 ++ bytes) (append_assoc (to_be_bytes w64 pair.1) (pairs_bytes pairs) rest) in
-    let is : is_count so_far pair.1 ≡ true = and_from _ _ (le-leb 1 pair.1 are.2) (le-leb (counts_sum so_far + pair.1) 1099511627776 (omega (arith, few))) in
+    let is : is_count most so_far pair.1 ≡ true = and_from _ _ (le-leb 1 pair.1 are.2) (le-leb (counts_sum so_far + pair.1) most (omega (arith, few))) in
     let first : behind_at value_at below so_far (tagged_bytes pair.0 ++ behind) ≡ Ok (pair.0, behind) = behind_read value_at below so_far _ pair.0 behind (reads pair.0 behind are.0) starts in
-    let one : pair_at value_at below so_far (tagged_bytes pair.0 ++ behind) ≡ Ok (pair, left) = pair_read value_at below so_far _ pair.0 behind pair.1 left first (count_read so_far behind pair.1 left refl (omega (arith, few)) is) in
-    ap (more_pairs_at value_at below so_far (suc (length pairs))) stood
-    ∙ (more_step value_at below so_far (suc (length pairs)) (length pairs) _ pair left refl one
-    ∙ (more_back legal value_at below kind reads (so_far ++ pair ∷ []) pairs rest are.3 (rising_rest below pair pairs rise) (starts_next legal below kind so_far pair pairs are rise) (omega (arith, few, sum_more so_far pair))
+    let one : pair_at value_at below most so_far (tagged_bytes pair.0 ++ behind) ≡ Ok (pair, left) = pair_read most value_at below so_far _ pair.0 behind pair.1 left first (count_read most so_far behind pair.1 left refl (omega (arith, few, fits)) is) in
+    ap (more_pairs_at value_at below most so_far (suc (length pairs))) stood
+    ∙ (more_step most value_at below so_far (suc (length pairs)) (length pairs) _ pair left refl one
+    ∙ (more_back most fits legal value_at below kind reads (so_far ++ pair ∷ []) pairs rest are.3 (rising_rest below pair pairs rise) (starts_next legal below kind so_far pair pairs are rise) (omega (arith, few, sum_more so_far pair))
     ∙ ap (λ (all : List (Value × ℕ)). Ok (all, rest)) (append_assoc so_far (pair ∷ []) pairs)))
 
 pub tally_back : (legal : Value → Type 0) (value_at : List ℕ → Begins Value) (below : Value → Value → Bool) → ReadsBack legal value_at → (tag : ℕ) (pairs : List (Value × ℕ)) (rest : List ℕ) → IsTally legal below pairs → 0 < counts_sum pairs → pairs_at value_at below tag (counts_bytes tag pairs ++ rest) ≡ Ok (pairs, rest)
@@ -198,7 +198,7 @@ tally_back legal value_at below reads tag (pair ∷ pairs) rest sound some =
     let stood : counts_bytes tag all ++ rest ≡ tag ∷ (to_be_bytes w64 (length all) ++ behind) = ap (λ (bytes : List ℕ). tag ∷ bytes) (append_assoc (to_be_bytes w64 (length all)) (pairs_bytes all) rest) in
     let few = length_most legal all sound.alike in
     pairs_behind value_at below tag _ (length all) behind (length_behind_read tag _ (length all) behind stood (omega (arith, few, sound.few)) (some_pairs all some))
-    ∙ more_back legal value_at below (value_kind pair.0) reads [] all rest (sound.alike (value_kind pair.0) refl) sound.rising refl (omega (arith, sound.few))
+    ∙ more_back 1099511627776 (omega arith) legal value_at below (value_kind pair.0) reads [] all rest (sound.alike (value_kind pair.0) refl) sound.rising refl (omega (arith, sound.few))
 
 -- what is behind a tally's first field
 
@@ -225,15 +225,15 @@ parts_put tag n old middle new pairs count first second =
     ∙ (ap (λ bytes. bytes ++ pairs_bytes pairs) (first ∙ ap (λ k. old ++ (tag ∷ to_be_bytes w64 k)) count)
     ∙ append_assoc old (tag ∷ to_be_bytes w64 (length pairs)) (pairs_bytes pairs))
 
-pub count_facts : (so_far : List (Value × ℕ)) (n : ℕ) → is_count so_far n ≡ true → (0 < n) × (counts_sum so_far + n ≤ 2 ^ 40)
-count_facts so_far n is =
-    let parts = and_parts (nat_le 1 n) (nat_le (counts_sum so_far + n) 1099511627776) is in
+pub count_facts : (most : ℕ) (so_far : List (Value × ℕ)) (n : ℕ) → is_count most so_far n ≡ true → (0 < n) × (counts_sum so_far + n ≤ most)
+count_facts most so_far n is =
+    let parts = and_parts (nat_le 1 n) (nat_le (counts_sum so_far + n) most) is in
     let one : 1 ≤ n = leb-true 1 n parts.0 in
-    (omega arith, leb-true (counts_sum so_far + n) 1099511627776 parts.1)
+    (omega arith, leb-true (counts_sum so_far + n) most parts.1)
 
-pub pushed_sized : (legal : Value → Type 0) (below : Value → Value → Bool) (now old new : List (Value × ℕ)) (value : Value) (n size : ℕ) → old ≡ now → IsSized legal size old → legal value → comes_behind below (last_kept now) value ≡ true → is_count now n ≡ true → new ≡ old ++ (value, n) ∷ [] → IsSized legal (size + n) new
+pub pushed_sized : (legal : Value → Type 0) (below : Value → Value → Bool) (now old new : List (Value × ℕ)) (value : Value) (n size : ℕ) → old ≡ now → IsSized legal size old → legal value → comes_behind below (last_kept now) value ≡ true → is_count 1099511627776 now n ≡ true → new ≡ old ++ (value, n) ∷ [] → IsSized legal (size + n) new
 pushed_sized legal below now old new value n size seen sized is behind count pushed =
-    let facts = count_facts now n count in
+    let facts = count_facts 1099511627776 now n count in
     let goes : comes_behind below (last_kept old) value ≡ true = ap (λ pairs. comes_behind below (last_kept pairs) value) seen ∙ behind in
     let sum : counts_sum new ≡ counts_sum old + n = ap counts_sum pushed ∙ sum_append old value n in
     record {

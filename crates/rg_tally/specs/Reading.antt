@@ -1,5 +1,5 @@
 -- The reading of values with their counts.
-use Rattle.std.specs.Prelude.{ℕ, zero, suc, ◌+◌, ◌==◌, nat_le, int_lt, ◌&&◌, Bool, true, List, [], ◌∷◌, ◌++◌, Option, Some, None, Ok, Err, if◌then◌else◌}
+use Rattle.std.specs.Prelude.{ℕ, zero, suc, ◌+◌, ◌==◌, nat_le, ◌&&◌, Bool, true, List, [], ◌∷◌, ◌++◌, Option, Some, None, Ok, Err, if◌then◌else◌}
 use Rattle.std.specs.Cmp.Lexicographic.{slice_cmp}
 use Rattle.std.specs.Ordering.{is_lt, nat_cmp}
 use Rattle.rg_agg.specs.Held.{Begins, and_then, as_part, fitting}
@@ -8,11 +8,6 @@ use Rattle.rg_agg.specs.declared.fault.StateFault.TheVariants.{Short, Unfit}
 use Rattle.rg_event.specs.Codec.{number_at}
 use Rattle.rg_event.specs.Tagged.{tag_of, tagged_at, tagged_bytes, value_kind}
 use Rattle.rg_event.specs.declared.value.Value.{Value}
-use Rattle.rg_metric.specs.Answers.{number_of}
-
--- the first value is the less number
-abbrev pub is_less : Value → Value → Bool
-is_less value other = int_lt (number_of value) (number_of other)
 
 -- the first value's tagged bytes come before those of the other
 abbrev pub is_before : Value → Value → Bool
@@ -37,29 +32,29 @@ abbrev pub comes_behind : (Value → Value → Bool) → Option Value → Value 
 comes_behind below None value = true
 comes_behind below (Some last) value = same_kind last value && below last value
 
--- at least one, and with those so far at most 2^40
-abbrev pub is_count : List (Value × ℕ) → ℕ → Bool
-is_count so_far count = nat_le 1 count && nat_le (counts_sum so_far + count) 1099511627776
+-- at least one, and with those so far at most so many
+abbrev pub is_count : ℕ → List (Value × ℕ) → ℕ → Bool
+is_count most so_far count = nat_le 1 count && nat_le (counts_sum so_far + count) most
 
 -- a value that may stand behind those so far
 unfoldable pub behind_at : (List ℕ → Begins Value) → (Value → Value → Bool) → List (Value × ℕ) → List ℕ → Begins Value
 behind_at value_at below so_far bytes = and_then (value_at bytes) (λ value left. fitting (comes_behind below (last_kept so_far) value) value left)
 
 -- how often it is there, in 8 bytes
-unfoldable pub count_at : List (Value × ℕ) → List ℕ → Begins ℕ
-count_at so_far bytes = and_then (as_part (number_at bytes)) (λ count left. fitting (is_count so_far count) count left)
+unfoldable pub count_at : ℕ → List (Value × ℕ) → List ℕ → Begins ℕ
+count_at most so_far bytes = and_then (as_part (number_at bytes)) (λ count left. fitting (is_count most so_far count) count left)
 
 -- one pair more
-unfoldable pub pair_at : (List ℕ → Begins Value) → (Value → Value → Bool) → List (Value × ℕ) → List ℕ → Begins (Value × ℕ)
-pair_at value_at below so_far bytes =
+unfoldable pub pair_at : (List ℕ → Begins Value) → (Value → Value → Bool) → ℕ → List (Value × ℕ) → List ℕ → Begins (Value × ℕ)
+pair_at value_at below most so_far bytes =
     and_then (behind_at value_at below so_far bytes) (λ value behind.
-    and_then (count_at so_far behind) (λ count left. Ok ((value, count), left)))
+    and_then (count_at most so_far behind) (λ count left. Ok ((value, count), left)))
 
 -- so many pairs more
-abbrev pub more_pairs_at : (List ℕ → Begins Value) → (Value → Value → Bool) → List (Value × ℕ) → ℕ → List ℕ → Begins (List (Value × ℕ))
-more_pairs_at value_at below so_far zero bytes = Ok (so_far, bytes)
-more_pairs_at value_at below so_far (suc n) bytes =
-    and_then (pair_at value_at below so_far bytes) (λ pair left. more_pairs_at value_at below (so_far ++ pair ∷ []) n left)
+abbrev pub more_pairs_at : (List ℕ → Begins Value) → (Value → Value → Bool) → ℕ → List (Value × ℕ) → ℕ → List ℕ → Begins (List (Value × ℕ))
+more_pairs_at value_at below most so_far zero bytes = Ok (so_far, bytes)
+more_pairs_at value_at below most so_far (suc n) bytes =
+    and_then (pair_at value_at below most so_far bytes) (λ pair left. more_pairs_at value_at below most (so_far ++ pair ∷ []) n left)
 
 -- the number of pairs, in 8 bytes: at least 1
 unfoldable pub length_at : List ℕ → Begins ℕ
@@ -70,6 +65,6 @@ unfoldable pub length_behind_at : ℕ → List ℕ → Begins ℕ
 length_behind_at tag [] = Err Short
 length_behind_at tag (byte ∷ bytes) = if byte == tag then length_at bytes else Err Unfit
 
--- a tag, the number of pairs, and the pairs
+-- a tag, the number of pairs, and the pairs, of at most 2^40 values
 unfoldable pub pairs_at : (List ℕ → Begins Value) → (Value → Value → Bool) → ℕ → List ℕ → Begins (List (Value × ℕ))
-pairs_at value_at below tag bytes = and_then (length_behind_at tag bytes) (λ n behind. more_pairs_at value_at below [] n behind)
+pairs_at value_at below tag bytes = and_then (length_behind_at tag bytes) (λ n behind. more_pairs_at value_at below 1099511627776 [] n behind)

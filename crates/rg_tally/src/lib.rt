@@ -2,7 +2,6 @@
 #![tactic(auto)]
 
 mod map;
-mod number;
 mod ranked;
 mod reading;
 mod tally;

@@ -49,7 +49,7 @@ fn read_pairs<K: Ranked>(
     count: u64,
     from: &mut ByteReader<'_>,
 ) -> Result<Tally<K>, StateFault>
-    ensures agrees { Agrees (λ tally. tally) (more_pairs_at K.value_at K.below [] count from.old) result from.new }
+    ensures agrees { Agrees (λ tally. tally) (more_pairs_at K.value_at K.below 1099511627776 [] count from.old) result from.new }
     ensures ok { IfOk result (λ tally. from.old ≡ pairs_bytes tally ++ from.new) }
     ensures count { IfOk result (λ tally. length tally ≡ count) }
     ensures sound { IfOk result (IsTally K.legal K.below) }
@@ -67,11 +67,11 @@ fn read_pairs<K: Ranked>(
 
 /// Takes one value more and its count. A refusal may leave the reader in mid-way.
 fn read_pair<K: Ranked>(tally: &Tally<K>, from: &mut ByteReader<'_>) -> Result<(K, u64), StateFault>
-    ensures agrees { Agrees (λ pair. (K.value_of pair.0, pair.1)) (pair_at K.value_at K.below tally.now from.old) result from.new }
+    ensures agrees { Agrees (λ pair. (K.value_of pair.0, pair.1)) (pair_at K.value_at K.below 1099511627776 tally.now from.old) result from.new }
     ensures ok { IfOk result (λ pair. from.old ≡ tagged_bytes (K.value_of pair.0) ++ (to_be_bytes w64 pair.1 ++ from.new)) }
     ensures legal { IfOk result (λ pair. K.legal (K.value_of pair.0)) }
     ensures behind { IfOk result (λ pair. comes_behind K.below (last_kept tally.now) (K.value_of pair.0) ≡ true) }
-    ensures counted { IfOk result (λ pair. is_count tally.now pair.1 ≡ true) }
+    ensures counted { IfOk result (λ pair. is_count 1099511627776 tally.now pair.1 ≡ true) }
 {
     let key = read_behind(tally, from)?;
     let count = read_count(tally, from)?;
@@ -95,9 +95,9 @@ fn read_behind<K: Ranked>(tally: &Tally<K>, from: &mut ByteReader<'_>) -> Result
 
 /// Takes how often a value more is there. A refusal may leave the reader in mid-way.
 fn read_count<K: Ranked>(tally: &Tally<K>, from: &mut ByteReader<'_>) -> Result<u64, StateFault>
-    ensures agrees { Agrees (λ count. count) (count_at tally.now from.old) result from.new }
+    ensures agrees { Agrees (λ count. count) (count_at 1099511627776 tally.now from.old) result from.new }
     ensures ok { IfOk result (λ count. from.old ≡ to_be_bytes w64 count ++ from.new) }
-    ensures counted { IfOk result (λ count. is_count tally.now count ≡ true) }
+    ensures counted { IfOk result (λ count. is_count 1099511627776 tally.now count ≡ true) }
 {
     let count = from.u64()?;
     if count == 0 || GREATEST_SIZE - tally.size() < count {

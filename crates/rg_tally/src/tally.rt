@@ -1,4 +1,4 @@
-ghost use Rattle.std.specs.Prelude.{◌≡◌, ℕ, ◌+◌, ◌<◌, ◌≤◌, ◌^◌, true, false, List, [], ◌∷◌, ◌++◌, IfSome, IfOk, IsNone, OnOk, OnErr, IsErr};
+ghost use Rattle.std.specs.Prelude.{◌≡◌, ℕ, ◌+◌, ◌<◌, ◌≤◌, ◌^◌, true, false, List, [], ◌∷◌, ◌++◌, IfOk, OnOk, OnErr, IsErr};
 ghost use Rattle.std.specs.List.{All};
 ghost use Rattle.rg_agg.specs.Held.{counts_bytes, Agrees, Returns};
 ghost use Rattle.rg_agg.specs.Standing.{AreCounts, IsLike, counts_sum, count_in, pairs_kind};
@@ -94,30 +94,6 @@ impl<K: Ranked> Tally<K> {
         }
     }
 
-    /// The key of its first value; none without values.
-    pub fn least(&self) -> Option<&K>
-        ensures none { IsNone result → self.now ≡ [] }
-        ensures some { IfSome result (λ key. K.legal (K.value_of key.now) × (0 < count_in (K.value_of key.now) self.now)) }
-        ensures least { IfSome result (λ key. (v : Value) → 0 < count_in v self.now → K.below v (K.value_of key.now) ≡ false) }
-    {
-        match self.map.first_key_value() {
-            Some((key, _)) => Some(key),
-            None => None,
-        }
-    }
-
-    /// The key of its last value; none without values.
-    pub fn greatest(&self) -> Option<&K>
-        ensures none { IsNone result → self.now ≡ [] }
-        ensures some { IfSome result (λ key. K.legal (K.value_of key.now) × (0 < count_in (K.value_of key.now) self.now)) }
-        ensures greatest { IfSome result (λ key. (v : Value) → 0 < count_in v self.now → K.below (K.value_of key.now) v ≡ false) }
-    {
-        match self.map.last_key_value() {
-            Some((key, _)) => Some(key),
-            None => None,
-        }
-    }
-
     /// Counts a value once more. Where memory runs out it is as before; a value that is there takes none.
     pub fn add(&mut self, key: &K) -> Result<(), Memory>
         requires room { counts_sum self.old < 2 ^ 40 }
@@ -163,7 +139,7 @@ impl<K: Ranked> Tally<K> {
     pub(crate) fn push(&mut self, key: K, count: u64) -> Result<(), Memory>
         requires legal { K.legal (K.value_of key) }
         requires behind { comes_behind K.below (last_kept self.old) (K.value_of key) ≡ true }
-        requires count { is_count self.old count ≡ true }
+        requires count { is_count 1099511627776 self.old count ≡ true }
         ensures ok { OnOk result (self.new ≡ self.old ++ (K.value_of key, count) ∷ []) }
         ensures err { OnErr result (self.new ≡ self.old) }
         ensures sound { IsTally K.legal K.below self.new }

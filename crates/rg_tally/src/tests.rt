@@ -1,60 +1,60 @@
+ghost use Rattle.rg_event.specs.Tagged.{IsLegal};
+
 use crate::Tally;
-use rg_agg::{Number, Unfit, is_like};
+use rg_agg::{Unfit, is_like};
 use rg_bytes::{ByteReader, Memory};
 use rg_event::{Kind, Value};
+use std::alloc::Global;
 use std::process::Abort;
 use std::test::Fail;
 
-/// Counts a number once more in a tally of few numbers of its kind.
-fn count(rt: &impl Abort, tally: &mut Tally<Number>, value: &Value) -> Result<(), Memory> {
+/// Counts a value once more in a tally of few values of its kind.
+fn count(rt: &impl Abort, tally: &mut Tally<Value>, value: &Value) -> Result<(), Memory>
+    requires { IsLegal value.now }
+{
     assert!(rt; tally.size() < 1_000);
     assert!(rt; is_like(tally.kind(), value));
-    match Number::of(value) {
-        Some(number) => tally.add(&number),
-        None => panic!(rt; "{value:?} is no number"),
+    tally.add(value)
+}
+
+/// A tally of these ints.
+fn tally_of(rt: &impl Abort, alloc: Global, numbers: &[i64]) -> Result<Tally<Value>, Memory> {
+    let mut tally = Tally::new(alloc);
+    for number in numbers.iter() {
+        assert!(rt; number.unsigned_abs() < 10);
+        count(rt, &mut tally, &Value::Int(*number))?;
     }
+    Ok(tally)
 }
 
 #[test]
 fn a_copy_stays_where_its_source_changes(rt: HostRuntime) -> Result<(), Fail> {
-    let alloc = rt.alloc();
-    let mut tally = Tally::new(alloc);
-    for number in [3i64, 1, 3] {
-        count(&rt, &mut tally, &Value::Int(number))?;
-    }
-    let mut copy = tally.copy(alloc)?;
-    assert!(rt; tally.remove(&Number::Int(1)).is_ok());
+    let mut tally = tally_of(&rt, rt.alloc(), &[3, 1, 3])?;
+    let mut copy = tally.copy(rt.alloc())?;
+    assert!(rt; tally.remove(&Value::Int(1)).is_ok());
     assert_eq!(rt; (copy.size(), copy.distinct()), (3, 2));
-    assert_eq!(rt; copy.least(), Some(&Number::Int(1)));
-    assert!(rt; copy.remove(&Number::Int(3)).is_ok());
-    assert_eq!(rt; copy.greatest(), Some(&Number::Int(3)));
+    assert!(rt; copy.remove(&Value::Int(3)).is_ok());
+    assert_eq!(rt; (copy.size(), copy.distinct()), (2, 2));
+    assert_eq!(rt; (tally.size(), tally.distinct()), (2, 1));
     Ok(())
 }
 
 #[test]
 fn a_tally_counts_each_value(rt: HostRuntime) -> Result<(), Fail> {
-    let alloc = rt.alloc();
-    let mut tally = Tally::new(alloc);
-    assert!(rt; tally.least().is_none());
-    for number in [3i64, 1, 2, 2] {
-        count(&rt, &mut tally, &Value::Int(number))?;
-    }
+    let mut tally = tally_of(&rt, rt.alloc(), &[3, 1, 2, 2])?;
     assert_eq!(rt; tally.size(), 4);
     assert_eq!(rt; tally.distinct(), 3);
     assert_eq!(rt; tally.kind(), Some(Kind::Int));
-    assert_eq!(rt; tally.least(), Some(&Number::Int(1)));
-    assert_eq!(rt; tally.greatest(), Some(&Number::Int(3)));
-    assert!(rt; tally.remove(&Number::Int(3)).is_ok());
-    assert!(rt; tally.remove(&Number::Int(2)).is_ok());
-    assert_eq!(rt; tally.remove(&Number::Id(2)), Err(Unfit));
-    assert_eq!(rt; tally.greatest(), Some(&Number::Int(2)));
-    let mut out = Vec::new(alloc);
-    tally.put(5, &mut out)?;
+    assert!(rt; tally.remove(&Value::Int(3)).is_ok());
+    assert!(rt; tally.remove(&Value::Int(2)).is_ok());
+    assert_eq!(rt; tally.remove(&Value::Id(2)), Err(Unfit));
+    let mut out = Vec::new(rt.alloc());
+    tally.put(7, &mut out)?;
     assert_eq!(rt;
         out.as_slice(),
-        b"\x05\0\0\0\0\0\0\0\x02\x01\0\0\0\0\0\0\0\x01\0\0\0\0\0\0\0\x01\x01\0\0\0\0\0\0\0\x02\0\0\0\0\0\0\0\x01".as_slice()
+        b"\x07\0\0\0\0\0\0\0\x02\x01\0\0\0\0\0\0\0\x01\0\0\0\0\0\0\0\x01\x01\0\0\0\0\0\0\0\x02\0\0\0\0\0\0\0\x01".as_slice()
     );
-    match Tally::<Number>::read(alloc, 5, &mut ByteReader::new(&out)) {
+    match Tally::<Value>::read(rt.alloc(), 7, &mut ByteReader::new(&out)) {
         Ok(read) => assert_eq!(rt; (read.size(), read.distinct()), (2, 2)),
         Err(fault) => panic!(rt; "{fault:?}"),
     }

@@ -3,3 +3,4 @@ pub mod Longest
 pub mod Unique
 pub mod Steps
 pub mod Laid
+pub mod Total

@@ -1,5 +1,5 @@
-ghost use Rattle.std.specs.Prelude.{◌≡◌, ◌↔◌, ℕ, ◌≤◌, ◌<◌, ◌^◌, [], length, IfOk, IfErr, OnOk, IsErrOf, slice_index_or};
-ghost use Rattle.rg_bytes.specs.Counts.{Rose};
+ghost use Rattle.std.specs.Prelude.{◌≡◌, ℕ, ◌≤◌, ◌<◌, ◌^◌, [], length, IfOk, IfErr, OnOk, IsErrOf, slice_index_or};
+ghost use Rattle.rg_past.specs.Keeping.{Kept, HasCause};
 ghost use Rattle.rg_window.specs.Chain.{Went, Moved};
 ghost use Rattle.rg_window.specs.Halting.{StopsAt, HaltsAt};
 ghost use Rattle.rg_window.specs.Passing.{has_come, passed, Reaches};
@@ -103,12 +103,8 @@ impl Edges {
         ensures stops { P.ended past.old → 0 < length self.old.offsets →
             IsErrOf result (MoveFault.Past PastFault.Ended) }
         ensures unvisited { P.ended past.old → visit.new ≡ visit.old }
-        ensures no_full { IsErrOf result (MoveFault.Past PastFault.Full) → ⊥ }
-        ensures ended { IsErrOf result (MoveFault.Past PastFault.Ended) → P.ended past.old }
-        ensures disk { IsErrOf result (MoveFault.Past PastFault.Disk) →
-            Rose (P.faults past.old) (P.faults past.new) }
-        ensures damaged { (place : ℕ) → IsErrOf result (MoveFault.Past (PastFault.Damaged place)) →
-            P.illegal past.new place }
+        ensures cause { (fault : PastFault) → IsErrOf result (MoveFault.Past fault) →
+            HasCause (P.illegal past.new) ⊥ (P.ended past.old) (P.faults past.old) (P.faults past.new) fault }
 
         ensures offsets { self.new.offsets ≡ self.old.offsets }
         ensures same { length self.new.spots ≡ length self.old.spots }
@@ -118,12 +114,8 @@ impl Edges {
             IsSpelledAt (P.spells past.new) self.new.spots edge }
 
         ensures events { P.events past.new ≡ P.events past.old }
-        ensures limit { P.limit past.new ≡ P.limit past.old }
-        ensures goes { P.goes past.old past.new }
-        ensures sound { P.sound past.old → P.sound past.new }
-        ensures keeps_room { P.has_room past.old → P.has_room past.new }
-        ensures keeps_ended { P.ended past.new ↔ P.ended past.old }
-        ensures later { P.faults past.old ≤ P.faults past.new }
+        ensures room { P.has_room past.old → P.has_room past.new }
+        ensures past { Kept P.goes P.sound P.ended P.faults past.old past.new }
     {
         move_each(&self.offsets, &mut self.spots, past, t, visit)
     }
@@ -151,23 +143,16 @@ fn move_each<P: Past, V: Visit>(
     ensures stops { P.ended past.old → 0 < length offsets.now →
         IsErrOf result (MoveFault.Past PastFault.Ended) }
     ensures unvisited { P.ended past.old → visit.new ≡ visit.old }
-    ensures no_full { IsErrOf result (MoveFault.Past PastFault.Full) → ⊥ }
-    ensures ended { IsErrOf result (MoveFault.Past PastFault.Ended) → P.ended past.old }
-    ensures disk { IsErrOf result (MoveFault.Past PastFault.Disk) →
-        Rose (P.faults past.old) (P.faults past.new) }
-    ensures damaged { (place : ℕ) → IsErrOf result (MoveFault.Past (PastFault.Damaged place)) →
-        P.illegal past.new place }
+    ensures cause { (fault : PastFault) → IsErrOf result (MoveFault.Past fault) →
+        HasCause (P.illegal past.new) ⊥ (P.ended past.old) (P.faults past.old) (P.faults past.new) fault }
     ensures same { length spots.new ≡ length spots.old }
     ensures within { AreWithin spots.new (length (P.events past.old)) }
     ensures spells { P.sound past.old → (edge : ℕ) →
         IsSpelledAt (P.spells past.old) spots.old edge →
         IsSpelledAt (P.spells past.new) spots.new edge }
     ensures events { P.events past.new ≡ P.events past.old }
-    ensures goes { P.goes past.old past.new }
-    ensures sound { P.sound past.old → P.sound past.new }
-    ensures keeps_room { P.has_room past.old → P.has_room past.new }
-    ensures keeps_ended { P.ended past.new ↔ P.ended past.old }
-    ensures later { P.faults past.old ≤ P.faults past.new }
+    ensures room { P.has_room past.old → P.has_room past.new }
+    ensures past { Kept P.goes P.sound P.ended P.faults past.old past.new }
 {
     'edges: for edge in 0..spots.len() {
         let mut spot = spots[edge];
@@ -200,20 +185,13 @@ fn move_edge<P: Past, V: Visit>(
         (passed (P.events past.old) t offset spot.old.number) fault) }
     ensures refuses { P.ended past.old → IsErrOf result (MoveFault.Past PastFault.Ended) }
     ensures unvisited { P.ended past.old → visit.new ≡ visit.old }
-    ensures no_full { IsErrOf result (MoveFault.Past PastFault.Full) → ⊥ }
-    ensures ended { IsErrOf result (MoveFault.Past PastFault.Ended) → P.ended past.old }
-    ensures disk { IsErrOf result (MoveFault.Past PastFault.Disk) →
-        Rose (P.faults past.old) (P.faults past.new) }
-    ensures damaged { (place : ℕ) → IsErrOf result (MoveFault.Past (PastFault.Damaged place)) →
-        P.illegal past.new place }
+    ensures cause { (fault : PastFault) → IsErrOf result (MoveFault.Past fault) →
+        HasCause (P.illegal past.new) ⊥ (P.ended past.old) (P.faults past.old) (P.faults past.new) fault }
     ensures within { spot.new.number ≤ length (P.events past.old) }
     ensures spells { P.sound past.old → P.spells past.old spot.old → P.spells past.new spot.new }
     ensures events { P.events past.new ≡ P.events past.old }
-    ensures goes { P.goes past.old past.new }
-    ensures sound { P.sound past.old → P.sound past.new }
-    ensures keeps_room { P.has_room past.old → P.has_room past.new }
-    ensures keeps_ended { P.ended past.new ↔ P.ended past.old }
-    ensures later { P.faults past.old ≤ P.faults past.new }
+    ensures room { P.has_room past.old → P.has_room past.new }
+    ensures past { Kept P.goes P.sound P.ended P.faults past.old past.new }
 {
     'edge: loop {
         let event = match past.peek(spot) {

@@ -3,6 +3,8 @@ use rg_host::{Image, MemHost, MemSource};
 use std::process::Abort;
 use std::test::Fail;
 
+mod bounds;
+
 /// What a call finds: its words, the bytes of plan and input, and which calls fail.
 #[derive(Clone, Copy)]
 struct Setting<'a> {
@@ -93,7 +95,15 @@ fn outcome(alloc: Global, setting: &Setting<'_>) -> Result<(String, Status), Fai
         Image::new(alloc),
         setting.failing_puts.to_vec(alloc)?,
     )?;
-    let status = railgun(alloc, &words, &mut plan, &mut input, &mut host);
+    let mut refusal = None;
+    let status = railgun(
+        alloc,
+        &words,
+        &mut plan,
+        &mut input,
+        &mut host,
+        &mut refusal,
+    );
     let text = String::from_utf8(host.output().to_vec(alloc)?)?;
     Ok((text, status))
 }

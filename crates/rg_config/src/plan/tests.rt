@@ -1,7 +1,8 @@
-use crate::fault::ConfigFault;
+use crate::fault::{ConfigFault, QueryRefusal, SettingsFault};
 use crate::plan::read_plan;
 use rg_bytes::Memory;
 use rg_event::Room;
+use rg_query::QueryFault;
 use std::alloc::Global;
 use std::process::Abort;
 use std::test::Fail;
@@ -86,47 +87,47 @@ fn a_stream_is_a_name_and_columns(rt: HostRuntime) -> Result<(), Fail> {
 
 #[test]
 fn a_setting_stands_in_its_range(rt: HostRuntime) -> Result<(), Fail> {
-    let settings: [&[u8]; 14] = [
-        b"cache = 0\n",
-        b"cache = 1_025\n",
-        b"cache = 1.0\n",
-        b"cache = \"1\"\n",
-        b"cache = 2020-01-01\n",
-        b"chunk = -1\n",
-        b"chunk = 4_097\n",
-        b"cache = 1_024\nchunk = 65\n",
-        b"cache = 1_024\n",
-        b"commit = 1_000_001\n",
-        b"save = 0\n",
-        b"events = 1_099_511_627_777\n",
-        b"header = 1\n",
-        b"room = 1\n",
+    let settings: [(&[u8], SettingsFault); 14] = [
+        (b"cache = 0\n", SettingsFault::Cache),
+        (b"cache = 1_025\n", SettingsFault::Cache),
+        (b"cache = 1.0\n", SettingsFault::Cache),
+        (b"cache = \"1\"\nchunk = 0\n", SettingsFault::Cache),
+        (b"cache = 2020-01-01\n", SettingsFault::Cache),
+        (b"chunk = -1\n", SettingsFault::Chunk),
+        (b"chunk = 4_097\n", SettingsFault::Chunk),
+        (b"cache = 1_024\nchunk = 65\n", SettingsFault::CachedEvents),
+        (b"cache = 1_024\n", SettingsFault::CachedEvents),
+        (b"commit = 1_000_001\n", SettingsFault::Commit),
+        (b"save = 0\n", SettingsFault::Save),
+        (b"events = 1_099_511_627_777\n", SettingsFault::Events),
+        (b"header = 1\n", SettingsFault::Header),
+        (b"room = 1\ncache = 0\n", SettingsFault::Key),
     ];
-    for setting in settings {
+    for (setting, fault) in settings {
         let mut table = Vec::from_slice(rt.alloc(), b"[settings]\n")?;
         table.extend_from_slice(setting)?;
         let text = plan_with(rt.alloc(), PAYMENTS, &table)?;
-        assert_refused(&rt, &text, ConfigFault::Settings);
+        assert_refused(&rt, &text, ConfigFault::Settings(fault));
     }
     Ok(())
 }
 
 #[test]
 fn the_top_has_queries_and_no_other_key(rt: HostRuntime) -> Result<(), Fail> {
-    let tops: [&[u8]; 5] = [
-        b"",
-        b"queries = []\n",
-        b"queries = [1]\n",
-        b"queries = \"q\"\n",
-        b"queries = [\"q\"]\nsettings = 1\n",
+    let tops: [(&[u8], SettingsFault); 5] = [
+        (b"", SettingsFault::Queries),
+        (b"queries = []\n", SettingsFault::Queries),
+        (b"queries = [1]\n", SettingsFault::Queries),
+        (b"queries = \"q\"\n", SettingsFault::Queries),
+        (b"queries = [\"q\"]\nsettings = 1\n", SettingsFault::Table),
     ];
-    for top in tops {
+    for (top, fault) in tops {
         let mut text = Vec::from_slice(rt.alloc(), top)?;
         text.extend_from_slice(PAYMENTS)?;
-        assert_refused(&rt, &text, ConfigFault::Settings);
+        assert_refused(&rt, &text, ConfigFault::Settings(fault));
     }
     let text = plan_with(rt.alloc(), PAYMENTS, b"[more]\n")?;
-    assert_refused(&rt, &text, ConfigFault::Settings);
+    assert_refused(&rt, &text, ConfigFault::Settings(SettingsFault::TopKey));
     Ok(())
 }
 
@@ -186,19 +187,29 @@ fn assert_not_taken(
     rt: &(impl Abort + AllocGlobal),
     before: u32,
     query: &[u8],
+    refusal: QueryRefusal,
 ) -> Result<(), Fail> {
     let text = plan_of(rt.alloc(), before as usize, query)?;
-    assert_refused(rt, &text, ConfigFault::Query(before));
+    assert_refused(rt, &text, ConfigFault::Query(before, refusal));
     Ok(())
 }
 
 #[test]
 fn the_first_query_that_is_not_taken_is_named(rt: HostRuntime) -> Result<(), Fail> {
-    assert_not_taken(&rt, 0, b"SELECT min(card) FROM payments OVER INFINITE")?;
-    assert_not_taken(&rt, 1, b"SELECT")?;
-    assert_not_taken(&rt, 1, &wide(rt.alloc(), 17, 8)?)?;
-    assert_not_taken(&rt, 2, &wide(rt.alloc(), 16, 9)?)?;
-    assert_not_taken(&rt, 64, COUNT)?;
+    let no_kind = QueryRefusal::Text(QueryFault::WrongKind(11));
+    assert_not_taken(
+        &rt,
+        0,
+        b"SELECT min(card) FROM payments OVER INFINITE",
+        no_kind,
+    )?;
+    let no_end = QueryRefusal::Text(QueryFault::Syntax(6));
+    assert_not_taken(&rt, 1, b"SELECT", no_end)?;
+    let wide_17 = wide(rt.alloc(), 17, 9)?;
+    assert_not_taken(&rt, 1, &wide_17, QueryRefusal::TooManyAggs)?;
+    let wide_16 = wide(rt.alloc(), 16, 9)?;
+    assert_not_taken(&rt, 2, &wide_16, QueryRefusal::TooManyColumns)?;
+    assert_not_taken(&rt, 64, b"SELECT", QueryRefusal::TooMany)?;
     let text = plan_of(rt.alloc(), 63, &wide(rt.alloc(), 16, 8)?)?;
     assert_eq!(rt; read_plan(rt.alloc(), &text)?.task.queries(), 64);
     Ok(())

@@ -1,5 +1,3 @@
-ghost use Rattle.std.specs.Prelude.{◌≤◌, IfOk};
-
 use super::{FrameLog, Head};
 use crate::fault::FrameFault;
 use rg_host::{Host, Image, MemHost, Pick};
@@ -169,15 +167,18 @@ fn a_stop_in_an_append_leaves_the_old_list_or_the_new_one(rt: HostRuntime) -> Re
     for call in 0..=host.calls() {
         for pick in PICKS {
             let mut stopped = host.stop_image(call, pick)?;
+            let none = lists(alloc, &mut stopped, &[])?;
             let one = lists(alloc, &mut stopped, &[b"ab"])?;
-            let other: &[&[u8]] = if call < first { &[] } else { &[b"ab", b"c"] };
-            let whole = call < host.calls() || lists(alloc, &mut stopped, &[b"ab", b"c"])?;
-            assert!(rt;
-                whole && (one || lists(alloc, &mut stopped, other)?),
-                "after {call} calls"
-            );
+            let two = lists(alloc, &mut stopped, &[b"ab", b"c"])?;
+            let kept = if call < first {
+                none || one
+            } else {
+                one || two
+            };
+            assert!(rt; kept, "after {call} calls");
         }
     }
+    assert!(rt; lists(alloc, &mut host, &[b"ab", b"c"])?);
     Ok(())
 }
 

@@ -45,51 +45,43 @@ fn listed_calls_fail(rt: HostRuntime) -> Result<(), Fail> {
     Ok(())
 }
 
-#[test]
-fn images_of_a_stop(rt: HostRuntime) -> Result<(), Fail> {
-    let mut host = host_of_three(rt.alloc(), &[])?;
-    host.write_at(2, 2, &[7, 8])?;
+/// What a crash after so many calls leaves of file 2, where there were so many calls.
+fn leaves(host: &MemHost, call: u64, pick: Pick, bytes: &[u8]) -> Result<bool, Memory> {
+    if call > host.calls() {
+        return Ok(false);
+    }
+    let stopped = host.stop_image(call, pick)?;
+    Ok(stopped.file(2) == bytes && stopped.output().is_empty() && stopped.calls() == 0)
+}
+
+/// A host on which file 2 was written, bytes were put, the file was settled, and written again.
+fn host_of_four_calls(alloc: Global) -> Result<MemHost, Fail> {
+    let mut host = host_of_three(alloc, &[])?;
+    host.write_at(2, 0, &[1, 2, 7, 8])?;
     host.put(b"stored 1\n")?;
     host.sync(2)?;
     host.write_at(2, 0, &[9])?;
+    Ok(host)
+}
 
-    // Within the write before the sync, after the sync, and within the one after it.
-    assert_eq!(rt;
-        host.stop_image(0, Pick::New)?.file(2),
-        [1, 2, 3].as_slice()
-    );
-    assert_eq!(rt;
-        host.stop_image(2, Pick::Old)?.file(2),
-        [1, 2, 3].as_slice()
-    );
-    assert_eq!(rt;
-        host.stop_image(2, Pick::New)?.file(2),
-        [1, 2, 7, 8].as_slice()
-    );
-    assert_eq!(rt;
-        host.stop_image(2, Pick::Torn(5))?.file(2),
-        [1, 2, 5, 5].as_slice()
-    );
-    assert_eq!(rt;
-        host.stop_image(3, Pick::Old)?.file(2),
-        [1, 2, 7, 8].as_slice()
-    );
-    assert_eq!(rt;
-        host.stop_image(3, Pick::Torn(5))?.file(2),
-        [1, 2, 7, 8].as_slice()
-    );
-    assert_eq!(rt;
-        host.stop_image(4, Pick::Old)?.file(2),
-        [1, 2, 7, 8].as_slice()
-    );
-    assert_eq!(rt;
-        host.stop_image(4, Pick::Torn(5))?.file(2),
-        [5, 2, 7, 8].as_slice()
-    );
+#[test]
+fn images_of_a_stop(rt: HostRuntime) -> Result<(), Fail> {
+    let host = host_of_four_calls(rt.alloc())?;
 
-    let stopped = host.stop_image(4, Pick::New)?;
-    assert_eq!(rt; stopped.file(2), [9, 2, 7, 8].as_slice());
-    assert_eq!(rt; stopped.output(), b"".as_slice());
-    assert_eq!(rt; stopped.calls(), 0);
+    // Before the first write, after the put, after the sync, and after the last write.
+    let rows: [(u64, Pick, &[u8]); 9] = [
+        (0, Pick::New, &[1, 2, 3]),
+        (2, Pick::Old, &[1, 2, 3]),
+        (2, Pick::New, &[1, 2, 7, 8]),
+        (2, Pick::Torn(5), &[5, 5, 5, 5]),
+        (3, Pick::Old, &[1, 2, 7, 8]),
+        (3, Pick::Torn(5), &[1, 2, 7, 8]),
+        (4, Pick::Old, &[1, 2, 7, 8]),
+        (4, Pick::Torn(5), &[5, 2, 7, 8]),
+        (4, Pick::New, &[9, 2, 7, 8]),
+    ];
+    for (call, pick, bytes) in rows {
+        assert!(rt; leaves(&host, call, pick, bytes)?);
+    }
     Ok(())
 }

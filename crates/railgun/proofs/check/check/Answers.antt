@@ -1,11 +1,11 @@
-use Rattle.std.proofs.Common.{[]}
+use Rattle.std.proofs.Common.{◌≡◌, []}
 use Rattle.rg_config.specs.Plans.{planned}
-use Rattle.rg_host.specs.PutLaws.{puts-nothing}
+use Rattle.rg_host.proofs.PutRuns.{puts-nothing}
 use Rattle.railgun.specs.Listing.{check_text}
-use Rattle.railgun.specs.declared.status.Status.TheVariants.{Memory}
+use Rattle.railgun.specs.declared.fault.CheckFault.TheVariants.{Memory, Write}
 use Rattle.railgun.proofs.Ends.{nothing_stops}
 use Rattle.railgun.proofs.check.check.Goals as goal
 
-pub returns-clause-stops : goal.returns-clause-stops
-returns-clause-stops g c =
-    ([], puts-nothing g.H.Host.said g.H.Host.clock g.H.Host.since _ (λ t u m. g.met.H.Host.sinks _ t u m) (λ m. g.met.H.Host.only_now _ m), nothing_stops Memory (check_text (planned c.args.plan.now)))
+pub returns-in-Err-clause-stops : goal.returns-in-Err-clause-stops
+returns-in-Err-clause-stops g c =
+    ([], puts-nothing g.H.Host.said g.H.Host.clock g.H.Host.since _ (λ t u m. g.met.H.Host.sinks _ t u m) (λ m. g.met.H.Host.only_now _ m), nothing_stops (Memory ≡ Write) (check_text (planned c.args.plan.now)))

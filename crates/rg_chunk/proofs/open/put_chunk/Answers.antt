@@ -1,4 +1,4 @@
-use Rattle.std.proofs.Common.{◌++◌, ap, ◌∙◌, List, ℕ, append_assoc, rules}
+use Rattle.std.proofs.Common.{◌++◌, rules}
 use Rattle.std.proofs.lemmas.Result.{IfOk-equal, on_err_weaker}
 use Rattle.rg_bytes.specs.Reading.{list_bytes}
 use Rattle.rg_bytes.proofs.Keeping.{kept_through}

@@ -4,7 +4,7 @@ use Rattle.rg_past.specs.declared.past.Spot.{Spot}
 use Rattle.std.proofs.lemmas.Option.{slice_get_within}
 use Rattle.rg_engine.proofs.Places.{place_after}
 use Rattle.rg_engine.proofs.Visits.{chain_keeps, halt_keeps, halt_rose, each_stands, none_stuck, steps_taken}
-use Rattle.std.specs.Prelude.{Ok, Err, IsErrOf}
+use Rattle.std.specs.Prelude.{Ok, IsErrOf}
 use Rattle.rg_past.specs.declared.past.PastFault.{PastFault}
 use Rattle.rg_state.specs.declared.table.TableFault.{TableFault}
 use Rattle.rg_window.specs.declared.edges.MoveFault.{MoveFault}
@@ -18,35 +18,11 @@ not_err is = cc
 two_faults : {fault : MoveFault TableFault} {visit : TableFault} {past : PastFault} → fault ≡ Visit visit → fault ≡ Past past → ⊥
 two_faults e f = cc
 
-pub returns-clause-rows : goal.returns-clause-rows
-returns-clause-rows g c = (chain_keeps c.args.changer.now (λ u. u.plan) (λ p. p.now.offsets) (λ u. u.rows.ghost_name) (λ u. u.steps.ghost_name) (λ u. u.rows.now.parts) (λ p. p.items) (λ u. g.T.Table.tells u.rows.now.table) (λ u. g.T.Table.cell u.rows.now.table) (λ u. g.T.Table.faults u.rows.now.table) (λ u. u.steps.now) _ c.args.changer.now c.move_to.new.visit c.in-Ok.ensures.moved.chain).rows
-
-pub returns-in-Err-clause-rows : goal.returns-in-Err-clause-rows
-returns-in-Err-clause-rows g c = (halt_keeps c.args.changer.now (λ u. u.plan) (λ p. p.now.offsets) (λ u. u.rows.ghost_name) (λ u. u.steps.ghost_name) (λ u. u.rows.now.parts) (λ p. p.items) (λ u. g.T.Table.tells u.rows.now.table) (λ u. g.T.Table.cell u.rows.now.table) (λ u. g.T.Table.faults u.rows.now.table) (λ u. u.steps.now) c.args.changer.now c.move_to.new.visit _ c.args.t _ _ _ _ c.in-Err.fault c.in-Err.ensures.halted).rows
-
-pub returns-clause-steps : goal.returns-clause-steps
-returns-clause-steps g c = (chain_keeps c.args.changer.now (λ u. u.plan) (λ p. p.now.offsets) (λ u. u.rows.ghost_name) (λ u. u.steps.ghost_name) (λ u. u.rows.now.parts) (λ p. p.items) (λ u. g.T.Table.tells u.rows.now.table) (λ u. g.T.Table.cell u.rows.now.table) (λ u. g.T.Table.faults u.rows.now.table) (λ u. u.steps.now) _ c.args.changer.now c.move_to.new.visit c.in-Ok.ensures.moved.chain).steps
-
-pub returns-in-Err-clause-steps : goal.returns-in-Err-clause-steps
-returns-in-Err-clause-steps g c = (halt_keeps c.args.changer.now (λ u. u.plan) (λ p. p.now.offsets) (λ u. u.rows.ghost_name) (λ u. u.steps.ghost_name) (λ u. u.rows.now.parts) (λ p. p.items) (λ u. g.T.Table.tells u.rows.now.table) (λ u. g.T.Table.cell u.rows.now.table) (λ u. g.T.Table.faults u.rows.now.table) (λ u. u.steps.now) c.args.changer.now c.move_to.new.visit _ c.args.t _ _ _ _ c.in-Err.fault c.in-Err.ensures.halted).steps
-
 pub returns-clause-same_parts : goal.returns-clause-same_parts
 returns-clause-same_parts g c = (chain_keeps c.args.changer.now (λ u. u.plan) (λ p. p.now.offsets) (λ u. u.rows.ghost_name) (λ u. u.steps.ghost_name) (λ u. u.rows.now.parts) (λ p. p.items) (λ u. g.T.Table.tells u.rows.now.table) (λ u. g.T.Table.cell u.rows.now.table) (λ u. g.T.Table.faults u.rows.now.table) (λ u. u.steps.now) _ c.args.changer.now c.move_to.new.visit c.in-Ok.ensures.moved.chain).parts
 
 pub returns-in-Err-clause-same_parts : goal.returns-in-Err-clause-same_parts
 returns-in-Err-clause-same_parts g c = (halt_keeps c.args.changer.now (λ u. u.plan) (λ p. p.now.offsets) (λ u. u.rows.ghost_name) (λ u. u.steps.ghost_name) (λ u. u.rows.now.parts) (λ p. p.items) (λ u. g.T.Table.tells u.rows.now.table) (λ u. g.T.Table.cell u.rows.now.table) (λ u. g.T.Table.faults u.rows.now.table) (λ u. u.steps.now) c.args.changer.now c.move_to.new.visit _ c.args.t _ _ _ _ c.in-Err.fault c.in-Err.ensures.halted).parts
-
-pub returns-clause-tells : goal.returns-clause-tells
-returns-clause-tells g c = (chain_keeps c.args.changer.now (λ u. u.plan) (λ p. p.now.offsets) (λ u. u.rows.ghost_name) (λ u. u.steps.ghost_name) (λ u. u.rows.now.parts) (λ p. p.items) (λ u. g.T.Table.tells u.rows.now.table) (λ u. g.T.Table.cell u.rows.now.table) (λ u. g.T.Table.faults u.rows.now.table) (λ u. u.steps.now) _ c.args.changer.now c.move_to.new.visit c.in-Ok.ensures.moved.chain).tells
-
-pub returns-in-Err-clause-tells : goal.returns-in-Err-clause-tells
-returns-in-Err-clause-tells g c = (halt_keeps c.args.changer.now (λ u. u.plan) (λ p. p.now.offsets) (λ u. u.rows.ghost_name) (λ u. u.steps.ghost_name) (λ u. u.rows.now.parts) (λ p. p.items) (λ u. g.T.Table.tells u.rows.now.table) (λ u. g.T.Table.cell u.rows.now.table) (λ u. g.T.Table.faults u.rows.now.table) (λ u. u.steps.now) c.args.changer.now c.move_to.new.visit _ c.args.t _ _ _ _ c.in-Err.fault c.in-Err.ensures.halted).tells
-
-pub returns-clause-later_table : goal.returns-clause-later_table
-returns-clause-later_table g c = (chain_keeps c.args.changer.now (λ u. u.plan) (λ p. p.now.offsets) (λ u. u.rows.ghost_name) (λ u. u.steps.ghost_name) (λ u. u.rows.now.parts) (λ p. p.items) (λ u. g.T.Table.tells u.rows.now.table) (λ u. g.T.Table.cell u.rows.now.table) (λ u. g.T.Table.faults u.rows.now.table) (λ u. u.steps.now) _ c.args.changer.now c.move_to.new.visit c.in-Ok.ensures.moved.chain).later
-
-pub returns-in-Err-clause-later_table : goal.returns-in-Err-clause-later_table
-returns-in-Err-clause-later_table g c = (halt_keeps c.args.changer.now (λ u. u.plan) (λ p. p.now.offsets) (λ u. u.rows.ghost_name) (λ u. u.steps.ghost_name) (λ u. u.rows.now.parts) (λ p. p.items) (λ u. g.T.Table.tells u.rows.now.table) (λ u. g.T.Table.cell u.rows.now.table) (λ u. g.T.Table.faults u.rows.now.table) (λ u. u.steps.now) c.args.changer.now c.move_to.new.visit _ c.args.t _ _ _ _ c.in-Err.fault c.in-Err.ensures.halted).later
 
 pub returns-in-Err-clause-table : goal.returns-in-Err-clause-table
 returns-in-Err-clause-table g c = λ is. halt_rose c.args.changer.now (λ u. u.plan) (λ p. p.now.offsets) (λ u. u.rows.ghost_name) (λ u. u.steps.ghost_name) (λ u. u.rows.now.parts) (λ p. p.items) (λ u. g.T.Table.tells u.rows.now.table) (λ u. g.T.Table.cell u.rows.now.table) (λ u. g.T.Table.faults u.rows.now.table) (λ u. u.steps.now) c.args.changer.now c.move_to.new.visit _ c.args.t _ _ _ _ c.in-Err.fault c.in-Err.ensures.halted (same_fault is)
@@ -60,12 +36,12 @@ returns-clause-ticks g c =
     (length-map c.move_to.new.self.spots (λ (spot : Spot). spot.number) ∙ c.in-Ok.ensures.same ∙ same)
 
 pub returns-clause-stands : goal.returns-clause-stands
-returns-clause-stands g c = λ n front more sound told tells fed is last stands.
-    each_stands c.args.changer.now (λ u. u.plan) (λ p. p.now.offsets) (λ u. u.rows.ghost_name) (λ u. u.steps.ghost_name) (λ u. u.rows.now.parts) (λ p. p.items) (λ u. g.T.Table.tells u.rows.now.table) (λ u. g.T.Table.cell u.rows.now.table) (λ u. g.T.Table.faults u.rows.now.table) (λ u. u.steps.now) c.args.changer.now.plan.now c.args.changer.now.rows.now.parts c.requires.parts n c.args.changer.now c.move_to.new.visit _ front more c.args.t _ _ _
-    (rw c.requires.offsets at c.in-Ok.ensures.moved) refl refl tells is last c.requires.whole fed
-    (λ some. g.met.P.Past.in_order c.args.past.now sound (λ ended. not_err (c.in-Ok.ensures.stops ended (subst (λ os. 0 < length os) (sym c.requires.offsets) some))))
-    (λ edge offset is_offset has. (sound, told edge offset is_offset has))
-    (λ edge has. rw c.requires.offsets at (c.in-Ok.ensures.reached has.0 edge has.1)) stands
+returns-clause-stands g c = λ n front last on.
+    each_stands c.args.changer.now (λ u. u.plan) (λ p. p.now.offsets) (λ u. u.rows.ghost_name) (λ u. u.steps.ghost_name) (λ u. u.rows.now.parts) (λ p. p.items) (λ u. g.T.Table.tells u.rows.now.table) (λ u. g.T.Table.cell u.rows.now.table) (λ u. g.T.Table.faults u.rows.now.table) (λ u. u.steps.now) c.args.changer.now.plan.now c.args.changer.now.rows.now.parts c.requires.parts n c.args.changer.now c.move_to.new.visit _ front on.more c.args.t _ _ _
+    (rw c.requires.offsets at c.in-Ok.ensures.moved) refl refl on.tells on.begins last c.requires.whole on.fed
+    (λ some. g.met.P.Past.in_order c.args.past.now on.sound (λ ended. not_err (c.in-Ok.ensures.stops ended (subst (λ os. 0 < length os) (sym c.requires.offsets) some))))
+    (λ edge offset is_offset has. (on.sound, on.spelled edge offset is_offset has))
+    (λ edge has. rw c.requires.offsets at (c.in-Ok.ensures.reached has.0 edge has.1)) on.stood
 
 pub returns-clause-places : goal.returns-clause-places
 returns-clause-places g c = λ edge offset front more sound spelled is last is_offset stood.
@@ -76,8 +52,28 @@ returns-clause-places g c = λ edge offset front more sound spelled is last is_o
     (rw c.requires.offsets at (c.in-Ok.ensures.reached sound edge spelled))
 
 pub returns-in-Err-clause-bad : goal.returns-in-Err-clause-bad
-returns-in-Err-clause-bad g c = λ n front more bad sound told tells fed is stands.
-    none_stuck c.args.changer.now (λ u. u.plan) (λ p. p.now.offsets) (λ u. u.rows.ghost_name) (λ u. u.steps.ghost_name) (λ u. u.rows.now.parts) (λ p. p.items) (λ u. g.T.Table.tells u.rows.now.table) (λ u. g.T.Table.cell u.rows.now.table) (λ u. g.T.Table.faults u.rows.now.table) (λ u. u.steps.now) c.args.changer.now.plan.now c.args.changer.now.rows.now.parts c.requires.parts n c.args.changer.now c.move_to.new.visit _ front more c.args.t _ _ _ c.in-Err.fault
-    (rw c.requires.offsets at c.in-Err.ensures.halted) (same_fault bad) refl refl tells is c.requires.whole fed
-    (λ some. g.met.P.Past.in_order c.args.past.now sound (λ ended. two_faults (same_fault bad) (same_fault (c.in-Err.ensures.stops ended (subst (λ os. 0 < length os) (sym c.requires.offsets) some)))))
-    (λ edge offset is_offset has. (sound, told edge offset is_offset has)) stands
+returns-in-Err-clause-bad g c = λ n front bad on.
+    none_stuck c.args.changer.now (λ u. u.plan) (λ p. p.now.offsets) (λ u. u.rows.ghost_name) (λ u. u.steps.ghost_name) (λ u. u.rows.now.parts) (λ p. p.items) (λ u. g.T.Table.tells u.rows.now.table) (λ u. g.T.Table.cell u.rows.now.table) (λ u. g.T.Table.faults u.rows.now.table) (λ u. u.steps.now) c.args.changer.now.plan.now c.args.changer.now.rows.now.parts c.requires.parts n c.args.changer.now c.move_to.new.visit _ front on.more c.args.t _ _ _ c.in-Err.fault
+    (rw c.requires.offsets at c.in-Err.ensures.halted) (same_fault bad) refl refl on.tells on.begins c.requires.whole on.fed
+    (λ some. g.met.P.Past.in_order c.args.past.now on.sound (λ ended. two_faults (same_fault bad) (same_fault (c.in-Err.ensures.stops ended (subst (λ os. 0 < length os) (sym c.requires.offsets) some)))))
+    (λ edge offset is_offset has. (on.sound, on.spelled edge offset is_offset has)) on.stood
+
+pub returns-clause-lent : goal.returns-clause-lent
+returns-clause-lent g c =
+    let kept = (chain_keeps c.args.changer.now (λ u. u.plan) (λ p. p.now.offsets) (λ u. u.rows.ghost_name) (λ u. u.steps.ghost_name) (λ u. u.rows.now.parts) (λ p. p.items) (λ u. g.T.Table.tells u.rows.now.table) (λ u. g.T.Table.cell u.rows.now.table) (λ u. g.T.Table.faults u.rows.now.table) (λ u. u.steps.now) _ c.args.changer.now c.move_to.new.visit c.in-Ok.ensures.moved.chain) in
+    (kept.rows, kept.steps)
+
+pub returns-in-Err-clause-lent : goal.returns-in-Err-clause-lent
+returns-in-Err-clause-lent g c =
+    let kept = (halt_keeps c.args.changer.now (λ u. u.plan) (λ p. p.now.offsets) (λ u. u.rows.ghost_name) (λ u. u.steps.ghost_name) (λ u. u.rows.now.parts) (λ p. p.items) (λ u. g.T.Table.tells u.rows.now.table) (λ u. g.T.Table.cell u.rows.now.table) (λ u. g.T.Table.faults u.rows.now.table) (λ u. u.steps.now) c.args.changer.now c.move_to.new.visit _ c.args.t _ _ _ _ c.in-Err.fault c.in-Err.ensures.halted) in
+    (kept.rows, kept.steps)
+
+pub returns-clause-rows : goal.returns-clause-rows
+returns-clause-rows g c =
+    let kept = (chain_keeps c.args.changer.now (λ u. u.plan) (λ p. p.now.offsets) (λ u. u.rows.ghost_name) (λ u. u.steps.ghost_name) (λ u. u.rows.now.parts) (λ p. p.items) (λ u. g.T.Table.tells u.rows.now.table) (λ u. g.T.Table.cell u.rows.now.table) (λ u. g.T.Table.faults u.rows.now.table) (λ u. u.steps.now) _ c.args.changer.now c.move_to.new.visit c.in-Ok.ensures.moved.chain) in
+    record { tells = kept.tells; later = kept.later }
+
+pub returns-in-Err-clause-rows : goal.returns-in-Err-clause-rows
+returns-in-Err-clause-rows g c =
+    let kept = (halt_keeps c.args.changer.now (λ u. u.plan) (λ p. p.now.offsets) (λ u. u.rows.ghost_name) (λ u. u.steps.ghost_name) (λ u. u.rows.now.parts) (λ p. p.items) (λ u. g.T.Table.tells u.rows.now.table) (λ u. g.T.Table.cell u.rows.now.table) (λ u. g.T.Table.faults u.rows.now.table) (λ u. u.steps.now) c.args.changer.now c.move_to.new.visit _ c.args.t _ _ _ _ c.in-Err.fault c.in-Err.ensures.halted) in
+    record { tells = kept.tells; later = kept.later }

@@ -1,9 +1,9 @@
 use Rattle.std.proofs.Common.{◌≡◌, ◌∷◌, inl, ℕ, get_or, drop, Some, refl, subst, arith}
 use Rattle.rg_host.specs.Image.{Image}
-use Rattle.rg_host.proofs.Runs.{leaves_all-settled}
+use Rattle.rg_host.proofs.Runs.{leaves_all-settled, becomes-before}
 use Rattle.rg_frame.specs.Steps.{OldOrNone}
 use Rattle.rg_frame.proofs.Gates.{head-read, head-open, none-closed, none-empty, none-torn}
-use Rattle.rg_frame.proofs.Runs.{Same, writes-quiet, writes-weaker, writes-more, writes-sync, becomes-none}
+use Rattle.rg_frame.proofs.Runs.{Same, writes-quiet, writes-weaker, writes-more, writes-sync, becomes-none, others-stay, others-then}
 use Rattle.rg_frame.proofs.write.close.Goals as goal
 
 pub returns-in_err-n-clause-leaves : goal.returns-in_err-n-clause-leaves
@@ -78,3 +78,21 @@ returns-clause-leaves g c =
     let one : (w : Image) → g.H.Host.now c.args.host.now ≡ Some w → w c.args.file ≡ 1 ∷ drop 1 (w c.args.file) = λ w told. subst (λ (b : ℕ). w c.args.file ≡ b ∷ drop 1 (w c.args.file)) (omega (arith, c.if-gate-ne1.false)) (head w told) in
     let written = writes-more g.H.Host.now g.H.Host.may g.H.Host.clock g.H.Host.since g.H.Host.said c.args.file 0 _ Same OldOrNone _ _ _ quiet c.write_at.ensures.may c.write_at.ensures.moments c.write_at.ensures.said (λ w told b same. inl same) (λ w told b x same torn. none-torn (w c.args.file) b x (one w told) same torn) in
     writes-sync g.H.Host.now g.H.Host.may g.H.Host.clock g.H.Host.since g.H.Host.said c.args.file OldOrNone _ _ _ written c.sync.ensures.may c.sync.ensures.moments c.sync.ensures.said
+
+pub returns-in_err-n-clause-others : goal.returns-in_err-n-clause-others
+returns-in_err-n-clause-others g c = others-stay c.args.file _ _ c.read_at.ensures.leaves.now_stays
+
+pub returns-then-n-eq0-clause-others : goal.returns-then-n-eq0-clause-others
+returns-then-n-eq0-clause-others g c = others-stay c.args.file _ _ c.read_at.ensures.leaves.now_stays
+
+pub returns-then-gate-ne1-clause-others : goal.returns-then-gate-ne1-clause-others
+returns-then-gate-ne1-clause-others g c = others-stay c.args.file _ _ c.read_at.ensures.leaves.now_stays
+
+pub returns-in_err-write_at-clause-others : goal.returns-in_err-write_at-clause-others
+returns-in_err-write_at-clause-others g c = others-then c.args.file _ _ _ _ _ (others-stay c.args.file _ _ c.read_at.ensures.leaves.now_stays) c.in_err-write_at.ensures.torn
+
+pub returns-in_err-sync-clause-others : goal.returns-in_err-sync-clause-others
+returns-in_err-sync-clause-others g c = becomes-before _ _ _ _ (others-then c.args.file _ _ _ _ _ (others-stay c.args.file _ _ c.read_at.ensures.leaves.now_stays) c.in_ok-write_at.ensures.written) c.sync.ensures.now
+
+pub returns-clause-others : goal.returns-clause-others
+returns-clause-others g c = becomes-before _ _ _ _ (others-then c.args.file _ _ _ _ _ (others-stay c.args.file _ _ c.read_at.ensures.leaves.now_stays) c.in_ok-write_at.ensures.written) c.sync.ensures.now

@@ -1,10 +1,10 @@
-use Rattle.std.proofs.Common.{◌+◌, ◌≤◌, List, ℕ, length, subst, arith, rules}
+use Rattle.std.proofs.Common.{◌+◌, ◌≤◌, List, ℕ, length, subst, arith, rules, refl}
 use Rattle.std.specs.Int.{to_be_bytes, w64}
 use Rattle.rg_host.specs.Image.{Holds, Becomes, InFile}
 use Rattle.rg_host.proofs.Runs.{becomes-before}
 use Rattle.rg_frame.specs.Steps.{Keeps, Staged}
 use Rattle.rg_frame.proofs.Gates.{ThreeWrites, staged-three, keeps-same, keeps-torn}
-use Rattle.rg_frame.proofs.Runs.{Same, writes-none, writes-more, writes-sync, in_file-then, in_file-where}
+use Rattle.rg_frame.proofs.Runs.{Same, writes-none, writes-more, writes-sync, in_file-then, in_file-where, others-stay, others-then}
 use Rattle.rg_frame.proofs.write.stage.Goals as goal
 
 pub returns-in_err-write_at-clause-leaves : goal.returns-in_err-write_at-clause-leaves
@@ -49,3 +49,18 @@ returns-clause-staged g c =
     let two = in_file-then c.args.file _ _ (λ x z. (y : List ℕ) × Holds (c.args.end + 1) size x y × Holds (c.args.end + 9) payload y z) _ _ _ one c.in_ok-write_at-2.ensures.written (λ x y z p q. (y, p, q)) in
     let three = in_file-then c.args.file _ _ (ThreeWrites c.args.end payload) _ _ _ two c.in_ok-write_at-3.ensures.written (λ x y z p q. (p.0, y, p.1, p.2, q)) in
     becomes-before _ _ _ _ (in_file-where c.args.file (λ bytes. c.args.end + 1 ≤ length bytes) (ThreeWrites c.args.end payload) (Staged c.args.end payload) _ _ c.requires.within three (λ x y le h. staged-three c.args.end payload x y le h)) c.sync.ensures.now
+
+pub returns-in_err-write_at-clause-others : goal.returns-in_err-write_at-clause-others
+returns-in_err-write_at-clause-others g c = others-then c.args.file _ _ _ _ _ (others-stay c.args.file _ _ refl) c.in_err-write_at.ensures.torn
+
+pub returns-in_err-write_at-2-clause-others : goal.returns-in_err-write_at-2-clause-others
+returns-in_err-write_at-2-clause-others g c = others-then c.args.file _ _ _ _ _ (others-then c.args.file _ _ _ _ _ (others-stay c.args.file _ _ refl) c.in_ok-write_at.ensures.written) c.in_err-write_at-2.ensures.torn
+
+pub returns-in_err-write_at-3-clause-others : goal.returns-in_err-write_at-3-clause-others
+returns-in_err-write_at-3-clause-others g c = others-then c.args.file _ _ _ _ _ (others-then c.args.file _ _ _ _ _ (others-then c.args.file _ _ _ _ _ (others-stay c.args.file _ _ refl) c.in_ok-write_at.ensures.written) c.in_ok-write_at-2.ensures.written) c.in_err-write_at-3.ensures.torn
+
+pub returns-in_err-sync-clause-others : goal.returns-in_err-sync-clause-others
+returns-in_err-sync-clause-others g c = becomes-before _ _ _ _ (others-then c.args.file _ _ _ _ _ (others-then c.args.file _ _ _ _ _ (others-then c.args.file _ _ _ _ _ (others-stay c.args.file _ _ refl) c.in_ok-write_at.ensures.written) c.in_ok-write_at-2.ensures.written) c.in_ok-write_at-3.ensures.written) c.sync.ensures.now
+
+pub returns-clause-others : goal.returns-clause-others
+returns-clause-others g c = becomes-before _ _ _ _ (others-then c.args.file _ _ _ _ _ (others-then c.args.file _ _ _ _ _ (others-then c.args.file _ _ _ _ _ (others-stay c.args.file _ _ refl) c.in_ok-write_at.ensures.written) c.in_ok-write_at-2.ensures.written) c.in_ok-write_at-3.ensures.written) c.sync.ensures.now

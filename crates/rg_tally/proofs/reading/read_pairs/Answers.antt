@@ -11,7 +11,7 @@ loop-done-preserved g c =
     let pushed : c.push.new.self ≡ old ++ pair ∷ [] = c.in-Ok.ensures.ok in
     record {
       counted = omega (arith, ap length pushed, length-append old (pair ∷ []), c.loop-done.invariant.counted);
-      to_come = step_to_come g.K.Ranked.value_at g.K.Ranked.below old c.push.new.self pair c.args.count c.loop-done.done c.args.from.now c.loop-done.from c.read_pair.new.from pushed (search rules) c.loop-done.invariant.to_come c.in_ok-pair.ensures.agrees;
+      to_come = step_to_come _ g.K.Ranked.value_at g.K.Ranked.below old c.push.new.self pair c.args.count c.loop-done.done c.args.from.now c.loop-done.from c.read_pair.new.from pushed (search rules) c.loop-done.invariant.to_come c.in_ok-pair.ensures.agrees;
       taken = step_taken old c.push.new.self pair c.args.from.now c.loop-done.from c.read_pair.new.from pushed c.loop-done.invariant.taken c.in_ok-pair.ensures.ok;
       sound = c.push.ensures.sound;
     }

@@ -7,7 +7,7 @@ use Rattle.rg_tally.proofs.reading.read_pairs.Given as goal
 abbrev pub invariant-loop-done : goal.invariant-loop-done
 invariant-loop-done g l = record {
   counted : length l.tally ≡ l.done;
-  to_come : more_pairs_at g.K.Ranked.value_at g.K.Ranked.below [] l.count l.fn.from ≡ more_pairs_at g.K.Ranked.value_at g.K.Ranked.below l.tally (l.count - l.done) l.from;
+  to_come : more_pairs_at g.K.Ranked.value_at g.K.Ranked.below 1099511627776 [] l.count l.fn.from ≡ more_pairs_at g.K.Ranked.value_at g.K.Ranked.below 1099511627776 l.tally (l.count - l.done) l.from;
   taken : l.fn.from ≡ pairs_bytes l.tally ++ l.from;
   sound : IsTally g.K.Ranked.legal g.K.Ranked.below l.tally;
 }

@@ -1,5 +1,6 @@
-use Rattle.std.proofs.Common.{◌≡◌, ◌≤◌, ◌↔◌, ◌<◌, ℕ, length}
+use Rattle.std.proofs.Common.{◌≡◌, ◌≤◌, ◌<◌, ℕ, length}
 use Rattle.std.specs.List.{slice_index_or}
+use Rattle.rg_past.specs.Keeping.{Kept}
 use Rattle.rg_window.specs.Chain.{Moved}
 use Rattle.rg_window.specs.Placed.{AreWithin, IsSpelledAt, numbers_of}
 use Rattle.rg_window.proofs.edges.move_each.Given as goal
@@ -12,11 +13,8 @@ invariant-edges g l = record {
   within : AreWithin l.spots (length (g.P.Past.events l.fn.past));
   spells : g.P.Past.sound l.fn.past → (edge : ℕ) → IsSpelledAt (g.P.Past.spells l.fn.past) l.fn.spots edge → IsSpelledAt (g.P.Past.spells l.past) l.spots edge;
   events : g.P.Past.events l.past ≡ g.P.Past.events l.fn.past;
-  goes : g.P.Past.goes l.fn.past l.past;
-  sound : g.P.Past.sound l.fn.past → g.P.Past.sound l.past;
-  keeps_room : g.P.Past.has_room l.fn.past → g.P.Past.has_room l.past;
-  keeps_ended : g.P.Past.ended l.past ↔ g.P.Past.ended l.fn.past;
+  room : g.P.Past.has_room l.fn.past → g.P.Past.has_room l.past;
+  past : Kept g.P.Past.goes g.P.Past.sound g.P.Past.ended g.P.Past.faults l.fn.past l.past;
   running : 0 < l.edge → g.P.Past.ended l.fn.past → ⊥;
   unvisited : g.P.Past.ended l.fn.past → l.visit ≡ l.fn.visit;
-  later : g.P.Past.faults l.fn.past ≤ g.P.Past.faults l.past;
 }

@@ -1,6 +1,7 @@
 use Rattle.std.proofs.Common.{◌≡◌, ◌+◌, ◌<◌, ◌∙◌, ap, sym, arith, ◌∷◌, length}
 use Rattle.std.specs.Prelude.{slice_get}
 use Rattle.std.specs.Option.{option_copied}
+use Rattle.rg_past.proofs.Kept.{kept-then}
 use Rattle.rg_window.specs.Passing.{passed}
 use Rattle.rg_window.proofs.Chains.{ok_err, Went-end, Went-more, Refused-next, passed-come, passed-stays, passed-end}
 use Rattle.rg_window.proofs.edges.move_edge.Goals as goal
@@ -10,14 +11,14 @@ returns-in-Ok-None-clause-went g c =
     let i = c.edge.invariant in
     Went-end _ c.args.edge _ _ _ _ c.peek.new.spot.number _ _ _ i.went c.peek.ensures.number
     (λ s. passed-end (g.P.Past.events c.args.past.now) c.args.t c.args.offset c.edge.spot.number
-    (ap (λ v. slice_get v c.edge.spot.number) (sym i.events) ∙ sym (c.in-Ok-None.ensures.event (i.sound s.0) (i.spells s.0 s.1)) ∙ ap option_copied c.in-Ok-None.field-0-is))
+    (ap (λ v. slice_get v c.edge.spot.number) (sym i.events) ∙ sym (c.in-Ok-None.ensures.event (i.past.sound s.0) (i.spells s.0 s.1)) ∙ ap option_copied c.in-Ok-None.field-0-is))
 
 pub returns-then-not-has_come_to-clause-went : goal.returns-then-not-has_come_to-clause-went
 returns-then-not-has_come_to-clause-went g c =
     let i = c.edge.invariant in
     Went-end _ c.args.edge _ _ _ _ c.peek.new.spot.number _ _ _ i.went c.peek.ensures.number
     (λ s. passed-stays (g.P.Past.events c.args.past.now) c.args.t c.args.offset c.edge.spot.number c.in-Ok-Some.event.now
-    (ap (λ v. slice_get v c.edge.spot.number) (sym i.events) ∙ sym (c.in-Ok-Some.ensures.event (i.sound s.0) (i.spells s.0 s.1)) ∙ ap option_copied c.in-Ok-Some.field-0-is)
+    (ap (λ v. slice_get v c.edge.spot.number) (sym i.events) ∙ sym (c.in-Ok-Some.ensures.event (i.past.sound s.0) (i.spells s.0 s.1)) ∙ ap option_copied c.in-Ok-Some.field-0-is)
     (sym c.if-not-has_come_to.ensures))
 
 pub returns-in-Err-event-clause-stops : goal.returns-in-Err-event-clause-stops
@@ -25,7 +26,7 @@ returns-in-Err-event-clause-stops g c =
     let i = c.edge.invariant in
     Refused-next _ c.args.edge _ _ _ _ _ c.peek.new.spot.number _ _ _ _ c.in-Ok-Some.event.now _ i.went c.in-Err-event.ensures c.peek.ensures.number
     (λ s. passed-come (g.P.Past.events c.args.past.now) c.args.t c.args.offset c.edge.spot.number c.in-Ok-Some.event.now
-    (ap (λ v. slice_get v c.edge.spot.number) (sym i.events) ∙ sym (c.in-Ok-Some.ensures.event (i.sound s.0) (i.spells s.0 s.1)) ∙ ap option_copied c.in-Ok-Some.field-0-is)
+    (ap (λ v. slice_get v c.edge.spot.number) (sym i.events) ∙ sym (c.in-Ok-Some.ensures.event (i.past.sound s.0) (i.spells s.0 s.1)) ∙ ap option_copied c.in-Ok-Some.field-0-is)
     (sym c.if-not-has_come_to.ensures))
 
 pub edge-preserved : goal.edge-preserved
@@ -38,15 +39,12 @@ edge-preserved g c =
     record {
       went = Went-more _ c.args.edge _ _ _ _ c.edge.spot.number _ _ _ _ _ c.in-Ok-Some.event.now i.went c.in-Ok.ensures n
           (λ s. passed-come events c.args.t c.args.offset c.edge.spot.number c.in-Ok-Some.event.now
-          (ap (λ v. slice_get v c.edge.spot.number) (sym i.events) ∙ sym (c.in-Ok-Some.ensures.event (i.sound s.0) (i.spells s.0 s.1)) ∙ ap option_copied c.in-Ok-Some.field-0-is)
+          (ap (λ v. slice_get v c.edge.spot.number) (sym i.events) ∙ sym (c.in-Ok-Some.ensures.event (i.past.sound s.0) (i.spells s.0 s.1)) ∙ ap option_copied c.in-Ok-Some.field-0-is)
           (sym c.if-not-has_come_to.ensures) ∙ ap (λ v. c.in-Ok-Some.event.now ∷ passed events c.args.t c.args.offset v) (sym n));
       within = omega (arith, n, w.0, ap length i.events, c.peek.ensures.number);
-      spells = λ s p. c.advance.ensures.spells (k.3 (i.sound s)) (rw c.in-Ok-Some.is at (k.8 (i.sound s) (i.spells s p)).1);
+      spells = λ s p. c.advance.ensures.spells (k.3 (i.past.sound s)) (rw c.in-Ok-Some.is at (k.8 (i.past.sound s) (i.spells s p)).1);
       events = k.0 ∙ i.events;
-      goes = g.met.P.Past.transitive _ _ _ i.goes k.1;
-      sound = λ s. k.3 (i.sound s);
-      keeps_room = λ r. k.4 (i.keeps_room r);
-      keeps_ended = (λ e. i.keeps_ended.0 (k.2.0 e), λ e. k.2.1 (i.keeps_ended.1 e));
-      unvisited = λ e. absurd (ok_err (c.in-Ok-Some.ensures.ended.1 (i.keeps_ended.1 e)));
-      later = omega (arith, i.later, k.5);
+      room = λ r. k.4 (i.room r);
+      past = kept-then _ _ _ _ _ _ _ g.met.P.Past.transitive i.past (record { goes = k.1; sound = k.3; ended = k.2; later = k.5 });
+      unvisited = λ e. absurd (ok_err (c.in-Ok-Some.ensures.ended.1 (i.past.ended.1 e)));
     }

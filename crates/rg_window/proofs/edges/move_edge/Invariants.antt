@@ -1,4 +1,5 @@
-use Rattle.std.proofs.Common.{◌≡◌, ◌≤◌, ◌-◌, ◌↔◌, length}
+use Rattle.std.proofs.Common.{◌≡◌, ◌≤◌, ◌-◌, length}
+use Rattle.rg_past.specs.Keeping.{Kept}
 use Rattle.rg_window.specs.Passing.{passed}
 use Rattle.rg_window.specs.Chain.{Went}
 use Rattle.rg_window.proofs.edges.move_edge.Given as goal
@@ -9,12 +10,9 @@ invariant-edge g l = record {
   within : l.spot.number ≤ length (g.P.Past.events l.fn.past);
   spells : g.P.Past.sound l.fn.past → g.P.Past.spells l.fn.past l.fn.spot → g.P.Past.spells l.past l.spot;
   events : g.P.Past.events l.past ≡ g.P.Past.events l.fn.past;
-  goes : g.P.Past.goes l.fn.past l.past;
-  sound : g.P.Past.sound l.fn.past → g.P.Past.sound l.past;
-  keeps_room : g.P.Past.has_room l.fn.past → g.P.Past.has_room l.past;
-  keeps_ended : g.P.Past.ended l.past ↔ g.P.Past.ended l.fn.past;
+  room : g.P.Past.has_room l.fn.past → g.P.Past.has_room l.past;
+  past : Kept g.P.Past.goes g.P.Past.sound g.P.Past.ended g.P.Past.faults l.fn.past l.past;
   unvisited : g.P.Past.ended l.fn.past → l.visit ≡ l.fn.visit;
-  later : g.P.Past.faults l.fn.past ≤ g.P.Past.faults l.past;
 }
 
 abbrev pub decreases-edge : goal.decreases-edge

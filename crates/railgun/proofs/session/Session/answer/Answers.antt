@@ -1,5 +1,5 @@
 use Rattle.std.proofs.Common.{sym}
-use Rattle.railgun.proofs.Verdicts.{none_later-last_time}
+use Rattle.rg_verdict.proofs.Verdicts.{none_later-last_time}
 use Rattle.railgun.proofs.session.Session.answer.Goals as goal
 
 pub take-requires-clause-follows : goal.take-requires-clause-follows

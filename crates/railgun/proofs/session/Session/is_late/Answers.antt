@@ -1,6 +1,6 @@
 use Rattle.std.proofs.Common.{sym, ◌∙◌, ap}
 use Rattle.std.specs.Option.{option_copied}
-use Rattle.railgun.proofs.Verdicts.{later_by_last}
+use Rattle.rg_verdict.proofs.Verdicts.{later_by_last}
 use Rattle.railgun.proofs.session.Session.is_late.Goals as goal
 
 pub returns-in-Some : goal.returns-in-Some

@@ -1,4 +1,4 @@
-use Rattle.std.proofs.Common.{◌≡◌, ◌⊎◌, ◌<◌, ◌++◌, length, inl, inr, Ok, Err, rules, arith}
+use Rattle.std.proofs.Common.{◌≡◌, ◌⊎◌, ◌<◌, ◌++◌, length, Ok, Err, rules}
 use Rattle.rg_event.specs.declared.codec.EventFault.TheVariants.{Memory}
 use Rattle.rg_chunk.specs.Chunks.{chunk_at, chunk_bytes}
 use Rattle.rg_chunk.specs.declared.fault.ChunkFault.TheVariants.{BadChunk}

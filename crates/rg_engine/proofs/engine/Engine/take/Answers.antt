@@ -1,18 +1,109 @@
-use Rattle.std.proofs.Common.{◌∙◌}
+use Rattle.std.proofs.Common.{◌<◌, ◌∙◌, ◌++◌, ◌∷◌, [], ℕ, List, All, length, refl, ap, sym, subst}
+use Rattle.std.specs.Prelude.{Err}
+use Rattle.rg_event.specs.Rising.{last_time}
+use Rattle.rg_plan.specs.declared.node.GroupNode.{GroupNode}
+use Rattle.rg_engine.specs.Answering.{keys_for, node_answers}
+use Rattle.rg_window.specs.Placed.{numbers_of}
+use Rattle.rg_engine.specs.Standing.{IsAtPosition}
+use Rattle.rg_past.specs.declared.past.PastFault.TheVariants as past
+use Rattle.rg_past.proofs.Kept.{cause-within}
+use Rattle.rg_engine.proofs.Taken.{ends_true, edges_from, last_of, stands_same, stands_events, row_stands, carried_on, spelled_later, spelled_at, numbers_same, front_and_more, answers_are, asked_within}
+use Rattle.rg_engine.proofs.Passed.{steps_passed}
+use Rattle.rg_engine.proofs.Plain.{same_fault}
 use Rattle.rg_engine.proofs.engine.Engine.take.Goals as goal
 
-pub returns-in-Ok-clause-stands : goal.returns-in-Ok-clause-stands
-returns-in-Ok-clause-stands g c = rw (← c.self.view_is) c.in-Ok.ensures.stands
+pub answer_each-requires-clause-nodes : goal.answer_each-requires-clause-nodes
+answer_each-requires-clause-nodes g c =
+    let built = c.self.invariant in
+    subst (λ aggs. All (λ n. n < length aggs) c.deref.result.now) (sym c.aggs.ensures) (asked_within _ c.deref.result.now built.whole (c.deref.ensures.value ∙ built.asked))
 
-pub returns-in-Ok-clause-places : goal.returns-in-Ok-clause-places
-returns-in-Ok-clause-places g c = rw (← c.self.view_is) c.in-Ok.ensures.places
+pub returns-clause-stands : goal.returns-clause-stands
+returns-clause-stands g c = rw (← c.self.view_is) (λ n first on.
+    let plan = c.self.inside.plan in
+    let event = c.args.event in
+    let added = c.in-Ok-append.ensures in
+    let moved = c.in-Ok-move_rows.ensures in
+    let after = moved.stands n first (ap last_time added.ok ∙ last_of (g.P.Past.events c.args.past.now) event)
+    (carried_on plan n _ _ _ _ _ (g.P.Past.events c.args.past.now) _ first event _ _ added.ok added.sound (λ sound spot spelled. g.met.P.Past.stays_spelled _ _ spot added.goes sound spelled) on) in
+    stands_events plan n _ _ _ _ moved.events (stands_same plan n _ _ _ _ (c.in-Ok-answer_each.ensures.same (moved.rows.tells.1 on.tells)) after))
 
-pub returns-in-Ok-clause-answers : goal.returns-in-Ok-clause-answers
-returns-in-Ok-clause-answers g c =
-    rw (← c.self.view_is) (λ queries front more made sound all tells fed is stands. c.from.ensures ∙ c.in-Ok.ensures.answers queries front more made sound all tells fed is stands)
+pub returns-clause-places : goal.returns-clause-places
+returns-clause-places g c = rw (← c.self.view_is) (λ edge offset front more sound spelled is is_offset stood.
+    let event = c.args.event in
+    let added = c.in-Ok-append.ensures in
+    let moved = c.in-Ok-move_rows.ensures in
+    let placed = moved.places edge offset front (more ++ event ∷ []) (added.sound sound)
+    (spelled_later _ _ _ edge (λ spot spells. g.met.P.Past.stays_spelled _ _ spot added.goes sound spells) spelled)
+    (front_and_more _ _ front more event added.ok is) (ap last_time added.ok ∙ last_of (g.P.Past.events c.args.past.now) event) is_offset stood in
+    subst (λ events. IsAtPosition events (numbers_of c.move_rows.new.edges.spots) edge offset) (sym moved.events) placed)
 
-pub returns-in-Ok-clause-passed : goal.returns-in-Ok-clause-passed
-returns-in-Ok-clause-passed g c = rw (← c.self.view_is) c.in-Ok.ensures.passed
+pub returns-clause-passed : goal.returns-clause-passed
+returns-clause-passed g c = rw (← c.self.view_is) (λ front more sound all is placed.
+    let plan = c.self.inside.plan in
+    let edges = c.self.inside.edges in
+    let built = c.self.invariant in
+    let moved = c.in-Ok-move_rows.ensures in
+    steps_passed front (g.P.Past.events c.move_rows.new.past) plan (numbers_of edges.spots) (numbers_of c.move_rows.new.edges.spots)
+    (numbers_same plan edges edges.spots _ _ _ built refl) (numbers_same plan edges c.move_rows.new.edges.spots _ _ _ built moved.same_length) moved.edges.rises placed
+    (λ edge offset is_offset. (rw (← c.self.view_is) at (returns-clause-places g c)) edge offset front more sound
+    (spelled_at _ edges.spots plan.offsets edge offset (built.same ∙ ap length built.offsets) all is_offset) is is_offset (placed edge offset is_offset)) _ _ moved.ticks)
 
-pub returns-in-Ok-clause-rises : goal.returns-in-Ok-clause-rises
-returns-in-Ok-clause-rises g c = rw (← c.self.view_is) c.in-Ok.ensures.rises
+pub returns-clause-answers : goal.returns-clause-answers
+returns-clause-answers g c = rw (← c.self.view_is) (λ queries first made on.
+    let plan = c.self.inside.plan in
+    let event = c.args.event in
+    let built = c.self.invariant in
+    let added = c.in-Ok-append.ensures in
+    let moved = c.in-Ok-move_rows.ensures in
+    let after = λ (n : ℕ). moved.stands n first (ap last_time added.ok ∙ last_of (g.P.Past.events c.args.past.now) event)
+    (carried_on plan n _ _ _ _ _ (g.P.Past.events c.args.past.now) _ first event _ _ added.ok added.sound (λ sound spot spelled. g.met.P.Past.stays_spelled _ _ spot added.goes sound spelled) (on n)) in
+    let keys = c.deref-2.ensures.value ∙ c.in-Ok.ensures.made ∙ ap (λ (groups : List GroupNode). keys_for groups event) c.groups.ensures in
+    let told = c.in-Ok-answer_each.ensures.answers (moved.rows.tells.1 (on 0).tells) plan (g.P.Past.events c.args.past.now ++ event ∷ []) event built.whole (sym c.aggs.ensures) keys
+    (λ n key. row_stands plan n (g.P.Past.events c.append.new.self) (g.P.Past.events c.args.past.now ++ event ∷ []) event.time (g.T.Table.cell c.move_rows.new.rows.table) _ added.ok (last_of (g.P.Past.events c.args.past.now) event) (after n) key) in
+    c.from.ensures ∙ answers_are queries plan _ event c.deref.result.now _ made (on 0).fed (c.deref.ensures.value ∙ built.asked)
+    (told ∙ ap (λ old. old ++ node_answers plan (g.P.Past.events c.args.past.now ++ event ∷ []) event c.deref.result.now) c.in-Ok-with_capacity.ensures.items))
+
+pub returns-in-Err-move_rows-clause-bad : goal.returns-in-Err-move_rows-clause-bad
+returns-in-Err-move_rows-clause-bad g c = rw (← c.self.view_is) (λ n first bad on.
+    let plan = c.self.inside.plan in
+    let event = c.args.event in
+    let added = c.in-Ok-append.ensures in
+    c.in-Err-move_rows.ensures.bad n first (ap Err (same_fault bad))
+    (carried_on plan n _ _ _ _ _ (g.P.Past.events c.args.past.now) _ first event _ _ added.ok added.sound (λ sound spot spelled. g.met.P.Past.stays_spelled _ _ spot added.goes sound spelled) on))
+
+pub returns-in-Err-move_rows-clause-full : goal.returns-in-Err-move_rows-clause-full
+returns-in-Err-move_rows-clause-full g c = λ is. absurd (c.in-Err-move_rows.ensures.cause past.Full (ap Err (same_fault is)))
+
+pub returns-in-Err-move_rows-clause-cause : goal.returns-in-Err-move_rows-clause-cause
+returns-in-Err-move_rows-clause-cause g c = λ fault is.
+    let added = c.in-Ok-append.ensures in
+    cause-within _ _ _ _ _ _ _ _ fault added.later (λ full. absurd full) (λ ended. added.keeps_ended.0 ended) (c.in-Err-move_rows.ensures.cause fault (ap Err (same_fault is)))
+
+pub returns-in-Err-move_rows-clause-ends : goal.returns-in-Err-move_rows-clause-ends
+returns-in-Err-move_rows-clause-ends g c = sym (ends_true c.in-Err-move_rows.fault (λ is. c.in-Err-move_rows.ensures.cause past.Full (ap Err is)))
+
+pub returns-in-Err-move_rows-clause-edges : goal.returns-in-Err-move_rows-clause-edges
+returns-in-Err-move_rows-clause-edges g c = rw (← c.self.view_is) (
+    let added = c.in-Ok-append.ensures in
+    edges_from _ _ _ _ _ _ _ _ added.sound (λ sound edge k. spelled_later _ _ _ edge (λ spot spells. g.met.P.Past.stays_spelled _ _ spot added.goes sound spells) k) c.in-Err-move_rows.ensures.edges)
+
+pub returns-in-Err-answer_each-clause-edges : goal.returns-in-Err-answer_each-clause-edges
+returns-in-Err-answer_each-clause-edges g c = rw (← c.self.view_is) (
+    let added = c.in-Ok-append.ensures in
+    edges_from _ _ _ _ _ _ _ _ added.sound (λ sound edge k. spelled_later _ _ _ edge (λ spot spells. g.met.P.Past.stays_spelled _ _ spot added.goes sound spells) k) c.in-Ok-move_rows.ensures.edges)
+
+pub returns-clause-edges : goal.returns-clause-edges
+returns-clause-edges g c = rw (← c.self.view_is) (
+    let added = c.in-Ok-append.ensures in
+    edges_from _ _ _ _ _ _ _ _ added.sound (λ sound edge k. spelled_later _ _ _ edge (λ spot spells. g.met.P.Past.stays_spelled _ _ spot added.goes sound spells) k) c.in-Ok-move_rows.ensures.edges)
+
+pub returns-in-Err-answer_each-clause-bad : goal.returns-in-Err-answer_each-clause-bad
+returns-in-Err-answer_each-clause-bad g c = rw (← c.self.view_is) (λ n first bad on.
+    let plan = c.self.inside.plan in
+    let event = c.args.event in
+    let added = c.in-Ok-append.ensures in
+    let moved = c.in-Ok-move_rows.ensures in
+    let after = moved.stands n first (ap last_time added.ok ∙ last_of (g.P.Past.events c.args.past.now) event)
+    (carried_on plan n _ _ _ _ _ (g.P.Past.events c.args.past.now) _ first event _ _ added.ok added.sound (λ sound spot spelled. g.met.P.Past.stays_spelled _ _ spot added.goes sound spelled) on) in
+    c.in-Err-answer_each.ensures.bad n (ap Err (c.table_fault.ensures.bad n (same_fault bad))) (moved.rows.tells.1 on.tells) plan (g.P.Past.events c.args.past.now ++ event ∷ []) event c.self.invariant.whole (sym c.aggs.ensures)
+    (λ key. row_stands plan n (g.P.Past.events c.append.new.self) (g.P.Past.events c.args.past.now ++ event ∷ []) event.time (g.T.Table.cell c.move_rows.new.rows.table) _ added.ok (last_of (g.P.Past.events c.args.past.now) event) after key))

@@ -1,9 +1,10 @@
-use Rattle.std.proofs.Common.{sym, subst}
-use Rattle.rg_host.specs.Image.{NothingPending}
+use Rattle.std.proofs.Common.{sym, subst, refl}
+use Rattle.rg_host.specs.Image.{NothingPending, Becomes, InFile}
 use Rattle.rg_frame.specs.LogState.{LogState, ReachesEnd}
-use Rattle.rg_frame.specs.Steps.{From, Grows}
+use Rattle.rg_frame.specs.Steps.{From, Grows, Added}
 use Rattle.rg_frame.proofs.Gates.{grows-same}
-use Rattle.rg_frame.proofs.Runs.{Same, writes-none, writes-weaker}
+use Rattle.rg_frame.proofs.Runs.{Same, writes-none, writes-weaker, others-stay}
+use Rattle.std.specs.Prelude.{⊤}
 use Rattle.rg_frame.proofs.log.FrameLog.append.Goals as goal
 
 pub returns-then-self-clause-leaves : goal.returns-then-self-clause-leaves
@@ -16,3 +17,15 @@ add-requires-clause-reaches g c = subst (λ (s : LogState). ReachesEnd s (g.H.Ho
 
 pub returns-in-Ok-clause-pending : goal.returns-in-Ok-clause-pending
 returns-in-Ok-clause-pending g c = subst (λ (s : LogState). NothingPending s.file (g.H.Host.now c.add.new.host) (g.H.Host.may c.add.new.host)) c.self.view_is c.in-Ok.ensures.pending
+
+pub returns-then-self-clause-others : goal.returns-then-self-clause-others
+returns-then-self-clause-others g c = others-stay c.args.self.now.file _ _ refl
+
+pub returns-in-Ok-clause-others : goal.returns-in-Ok-clause-others
+returns-in-Ok-clause-others g c = subst (λ (s : LogState). Becomes (g.H.Host.now c.args.host.now) (g.H.Host.now c.add.new.host) (InFile s.file (λ _ _. ⊤))) c.self.view_is c.add.ensures.others
+
+pub returns-in-Err-clause-others : goal.returns-in-Err-clause-others
+returns-in-Err-clause-others g c = subst (λ (s : LogState). Becomes (g.H.Host.now c.args.host.now) (g.H.Host.now c.add.new.host) (InFile s.file (λ _ _. ⊤))) c.self.view_is c.add.ensures.others
+
+pub returns-in-Ok-clause-added : goal.returns-in-Ok-clause-added
+returns-in-Ok-clause-added g c = subst (λ (s : LogState). Becomes (g.H.Host.now c.args.host.now) (g.H.Host.now c.add.new.host) (InFile s.file (Added s.end c.args.payload.now))) c.self.view_is c.in-Ok.ensures.added

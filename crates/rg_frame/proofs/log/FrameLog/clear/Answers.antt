@@ -1,8 +1,9 @@
-use Rattle.std.proofs.Common.{inl, subst}
-use Rattle.rg_host.specs.Image.{NothingPending}
+use Rattle.std.proofs.Common.{inl, subst, refl}
+use Rattle.rg_host.specs.Image.{NothingPending, Becomes, InFile}
 use Rattle.rg_frame.specs.LogState.{LogState}
 use Rattle.rg_frame.specs.Steps.{OldOrNone}
-use Rattle.rg_frame.proofs.Runs.{Same, writes-none, writes-weaker}
+use Rattle.rg_frame.proofs.Runs.{Same, writes-none, writes-weaker, others-stay}
+use Rattle.std.specs.Prelude.{⊤}
 use Rattle.rg_frame.proofs.log.FrameLog.clear.Goals as goal
 
 pub returns-then-self-clause-leaves : goal.returns-then-self-clause-leaves
@@ -12,3 +13,12 @@ returns-then-self-clause-leaves g c =
 
 pub returns-in-Ok-clause-pending : goal.returns-in-Ok-clause-pending
 returns-in-Ok-clause-pending g c = subst (λ (s : LogState). NothingPending s.file (g.H.Host.now c.args.host.now) (g.H.Host.may c.args.host.now) → NothingPending s.file (g.H.Host.now c.close.new.host) (g.H.Host.may c.close.new.host)) c.self.view_is c.in-Ok.ensures.pending
+
+pub returns-then-self-clause-others : goal.returns-then-self-clause-others
+returns-then-self-clause-others g c = others-stay c.args.self.now.file _ _ refl
+
+pub returns-in-Ok-clause-others : goal.returns-in-Ok-clause-others
+returns-in-Ok-clause-others g c = subst (λ (s : LogState). Becomes (g.H.Host.now c.args.host.now) (g.H.Host.now c.close.new.host) (InFile s.file (λ _ _. ⊤))) c.self.view_is c.close.ensures.others
+
+pub returns-in-Err-clause-others : goal.returns-in-Err-clause-others
+returns-in-Err-clause-others g c = subst (λ (s : LogState). Becomes (g.H.Host.now c.args.host.now) (g.H.Host.now c.close.new.host) (InFile s.file (λ _ _. ⊤))) c.self.view_is c.close.ensures.others

@@ -6,5 +6,5 @@ use Rattle.rg_state.proofs.mem_table.MemTableTable.write_rows.Goals as goal
 
 pub returns-in-Ok-clause-written : goal.returns-in-Ok-clause-written
 returns-in-Ok-clause-written c told =
-    let entries = entries_from 0 c.args.self.now.nodes.items in
-    (entries_bytes entries, (entries, lists_all c.args.self.now.nodes.items, refl), rw c.deref.ensures.value at c.in-Ok.ensures.ok)
+    let entries = entries_from 0 c.args.self.now.nodes c.args.self.now.slots.rows.items c.args.self.now.slots.map.entries in
+    (entries_bytes entries, (entries, lists_all c.args.self.now.slots.map c.args.self.now.slots.rows.items c.args.self.now.nodes c.args.self.now.slots.bound c.args.self.now.below, refl), c.in-Ok.ensures.ok)

@@ -2,6 +2,7 @@ use Rattle.rg_agg.specs.Stands.{IsNumber}
 use Rattle.rg_event.specs.Tagged.{IsLegal}
 use Rattle.std.proofs.Common.{map}
 use Rattle.rg_agg.specs.Numbers.{value_of}
+use Rattle.rg_extreme.specs.States.{pairs_in}
 use Rattle.rg_state.proofs.OneKind.{alike_same, all_first, pairs_same, pairs_first}
 use Rattle.rg_state.proofs.state.AggState.is_of.Goals as goal
 
@@ -12,13 +13,13 @@ returns-in-First c =
 
 pub returns-in-Min : goal.returns-in-Min
 returns-in-Min c =
-    let pairs = c.in-Min.state.extreme.tally in
-    rw c.in-Min.is (λ yes. pairs_same IsNumber c.args.kind pairs c.in-Min.state.extreme.sound.alike (c.keeps_kind.ensures.0 yes), λ all. c.keeps_kind.ensures.1 (pairs_first c.args.kind pairs all))
+    let pairs = pairs_in c.in-Min.state.deque in
+    rw c.in-Min.is (λ yes. pairs_same IsNumber c.args.kind pairs c.in-Min.state.sound.tally.alike (c.keeps_kind.ensures.0 yes), λ all. c.keeps_kind.ensures.1 (pairs_first c.args.kind pairs all))
 
 pub returns-in-Max : goal.returns-in-Max
 returns-in-Max c =
-    let pairs = c.in-Max.state.extreme.tally in
-    rw c.in-Max.is (λ yes. pairs_same IsNumber c.args.kind pairs c.in-Max.state.extreme.sound.alike (c.keeps_kind-in-Max.ensures.0 yes), λ all. c.keeps_kind-in-Max.ensures.1 (pairs_first c.args.kind pairs all))
+    let pairs = pairs_in c.in-Max.state.deque in
+    rw c.in-Max.is (λ yes. pairs_same IsNumber c.args.kind pairs c.in-Max.state.sound.tally.alike (c.keeps_kind-in-Max.ensures.0 yes), λ all. c.keeps_kind-in-Max.ensures.1 (pairs_first c.args.kind pairs all))
 
 pub returns-in-Distinct : goal.returns-in-Distinct
 returns-in-Distinct c =

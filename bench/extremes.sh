@@ -1,0 +1,20 @@
+#!/usr/bin/env bash
+# Microseconds a line of a least and a greatest amount over 30 days: payments of one card whose amounts fall and rise, five seconds apart. Outside the gate.
+# `rt run` in crates/railgun builds the program first.
+set -eu
+cd "$(dirname "$0")/.."
+program=$PWD/crates/railgun/out/railgun
+lines=${1:-100000}
+work=$(mktemp -d)
+trap 'rm -rf "$work"' EXIT
+
+cat > "$work/plan" << PLAN
+queries = ["SELECT min(amount), max(amount) FROM payments GROUP BY card OVER SLIDING 30 days"]
+[stream]
+name = "payments"
+columns = ["ts", "card:text", "merchant:text", "amount:int"]
+PLAN
+awk -v lines="$lines" 'BEGIN { for (i = 0; i < lines; i++) print i * 5000 ",c0,m0," (i * 7919) % 10000 }' > "$work/payments"
+start=$(date +%s.%N)
+"$program" run "$work/plan" "$work/store" < "$work/payments" > "$work/out"
+date +%s.%N | awk -v start="$start" -v n="$lines" '{ printf "%d lines, %.2f s, %.2f microseconds a line\n", n, $1 - start, ($1 - start) / n * 1000000 }'

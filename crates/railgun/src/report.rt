@@ -1,0 +1,150 @@
+use crate::ending::Refusal;
+use crate::status::Status;
+use rg_config::{ConfigFault, QueryRefusal, SettingsFault};
+use rg_query::QueryFault;
+use std::{fmt, io};
+
+/// The forms of the words, and the version.
+const USAGE: &str = "usage: railgun run PLAN STORE\n       railgun check PLAN\nrailgun 0.1.0";
+
+/// Where bytes stop being a TOML document.
+#[derive(Clone, Copy, Debug)]
+pub struct TomlFault {
+    /// The line, counted from 1.
+    pub line: usize,
+    pub why: toml::de::Error,
+}
+
+impl TomlFault {
+    /// The fault that `toml` found in these bytes.
+    pub fn new(bytes: &[u8], why: toml::de::Error) -> TomlFault {
+        let place = match why.span() {
+            Some(span) => span.start,
+            None => 0,
+        };
+        let mut line = 1usize;
+        for byte in bytes.iter().take(place) {
+            if *byte == b'\n' {
+                line = line.saturating_add(1);
+            }
+        }
+        TomlFault { line, why }
+    }
+}
+
+impl fmt::Display for TomlFault {
+    fn fmt<W: fmt::Write>(&self, f: &mut fmt::Formatter<W>) -> fmt::Result {
+        write!(f, "TOML: line {}: {}", self.line, self.why.message())
+    }
+}
+
+/// A fault of the settings, or of what stands beside them, in words.
+#[derive(Drop)]
+struct SettingsWords(SettingsFault);
+
+impl fmt::Display for SettingsWords {
+    fn fmt<W: fmt::Write>(&self, f: &mut fmt::Formatter<W>) -> fmt::Result {
+        f.write_str(match self.0 {
+            SettingsFault::TopKey => "plan: a key other than queries, stream and settings",
+            SettingsFault::Queries => "plan: queries must be a list of one string or more",
+            SettingsFault::Table => "plan: settings must be a table",
+            SettingsFault::Key => {
+                "settings: a key other than cache, chunk, commit, save, events and header"
+            }
+            SettingsFault::Cache => "settings: cache must be 1 to 1024",
+            SettingsFault::Chunk => "settings: chunk must be 1 to 4096",
+            SettingsFault::Commit => "settings: commit must be 1 to 1000000",
+            SettingsFault::Save => "settings: save must be 1 to 1000000",
+            SettingsFault::Events => "settings: events must be 1 to 1099511627776",
+            SettingsFault::Header => "settings: header must be true or false",
+            SettingsFault::CachedEvents => "settings: cache times chunk must be at most 65536",
+        })
+    }
+}
+
+/// Why a query isn't taken, in words. A place is in bytes of its text, from 0.
+#[derive(Drop)]
+struct QueryWords(QueryRefusal);
+
+impl fmt::Display for QueryWords {
+    fn fmt<W: fmt::Write>(&self, f: &mut fmt::Formatter<W>) -> fmt::Result {
+        match self.0 {
+            QueryRefusal::TooMany => f.write_str("there are more than 64"),
+            QueryRefusal::TooManyAggs => f.write_str("more than 16 answers"),
+            QueryRefusal::TooManyColumns => f.write_str("more than 8 columns in GROUP BY"),
+            QueryRefusal::Text(QueryFault::Syntax(place)) => {
+                write!(f, "syntax error at byte {place}")
+            }
+            QueryRefusal::Text(QueryFault::UnknownName(place)) => {
+                write!(f, "no column or stream of that name at byte {place}")
+            }
+            QueryRefusal::Text(QueryFault::WrongKind(place)) => {
+                write!(f, "a column or literal of the wrong kind at byte {place}")
+            }
+            QueryRefusal::Text(QueryFault::BadSpan(place)) => {
+                write!(f, "a span out of its range at byte {place}")
+            }
+            QueryRefusal::Text(QueryFault::TooLarge) => {
+                f.write_str("longer than 4096 bytes, or nested deeper than 32")
+            }
+            QueryRefusal::Text(QueryFault::Memory) => f.write_str("out of memory"),
+        }
+    }
+}
+
+impl fmt::Display for Refusal {
+    fn fmt<W: fmt::Write>(&self, f: &mut fmt::Formatter<W>) -> fmt::Result {
+        match self.fault {
+            ConfigFault::Toml => match self.toml {
+                Some(fault) => write!(f, "{fault}"),
+                None => f.write_str("TOML: the plan is no document"),
+            },
+            ConfigFault::Stream => f.write_str(
+                "stream: name and columns must be there, and describe a time and up to 32 columns NAME:KIND",
+            ),
+            ConfigFault::Settings(fault) => write!(f, "{}", SettingsWords(fault)),
+            ConfigFault::Query(number, refusal) => {
+                write!(f, "query {number}: {}", QueryWords(refusal))
+            }
+            ConfigFault::Memory => f.write_str("out of memory"),
+        }
+    }
+}
+
+/// What is said of a call that ended early: what went wrong, and where.
+#[derive(Drop)]
+pub struct Report<'a> {
+    pub status: Status,
+    /// The name of the plan's file.
+    pub plan: &'a str,
+    pub refusal: Option<Refusal>,
+    /// The file or stream that failed, and the system's reason.
+    pub failure: Option<(&'a str, io::Error)>,
+}
+
+impl fmt::Display for Report<'_> {
+    fn fmt<W: fmt::Write>(&self, f: &mut fmt::Formatter<W>) -> fmt::Result {
+        match self.status {
+            Status::Usage => f.write_str(USAGE),
+            Status::Plan => match &self.refusal {
+                Some(refusal) => write!(f, "{}: {refusal}", self.plan),
+                None => write!(f, "{}: the plan is refused", self.plan),
+            },
+            Status::Read | Status::Write | Status::Disk => match &self.failure {
+                Some((name, error)) => write!(f, "{name}: {error}"),
+                None => f.write_str("a file or stream failed"),
+            },
+            Status::Limit => f.write_str(
+                "the plan is longer than 65536 bytes, or the input than 1125899906842624",
+            ),
+            Status::Memory => f.write_str("out of memory"),
+            Status::Store => f.write_str("the store is damaged, or isn't the plan's"),
+            Status::Gap => f.write_str("the input begins behind what the store has"),
+            Status::Differs => f.write_str("a checkpoint isn't what the events give"),
+            Status::Ok => Ok(()),
+        }
+    }
+}
+
+#[cfg(test)]
+mod tests;

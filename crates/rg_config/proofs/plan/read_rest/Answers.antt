@@ -1,0 +1,12 @@
+use Rattle.std.proofs.Common.{◌∙◌, sym, inl, refl, arith, vec_len}
+use Rattle.toml.specs.View.{table_view}
+use Rattle.rg_config.proofs.Rests.{settings_refused}
+use Rattle.rg_config.proofs.plan.read_rest.Goals as goal
+
+pub returns-clause-reads : goal.returns-clause-reads
+returns-clause-reads c =
+    inl (
+      c.in-Err.fault,
+      refl,
+      settings_refused (table_view c.args.top.now) c.in_ok-texts.texts.items (vec_len c.in_ok-texts.texts) c.in-Err.fault (sym c.if-not-has_only.ensures) c.in_ok-texts.ensures (omega (arith, c.in_ok-texts.texts.ok)) (sym c.is_empty.ensures ∙ c.if-is_empty.false) c.in-Err.ensures.value,
+    )

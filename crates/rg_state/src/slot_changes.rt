@@ -1,0 +1,202 @@
+ghost use Rattle.std.specs.Prelude.{◌≡◌, ◌<◌, None, Some, List, IsSome, IsNone, OnOk, OnErr, IsErrOf};
+ghost use Rattle.rg_agg.specs.Standing.{size_in};
+ghost use Rattle.rg_event.specs.declared.value.Value.{Value};
+ghost use Rattle.rg_metric.specs.Answers.{answer_of};
+ghost use Rattle.rg_state.specs.Cells.{slot_in, cell_in};
+ghost use Rattle.rg_state.specs.Rows.{RowStands, Changed, Counts, Suits, Unfit, IsRefused, IsOf, Others, Same};
+ghost use Rattle.rg_state.specs.States.{held_of};
+ghost use Rattle.rg_state.specs.Takes.{Takes};
+
+use crate::key_rows::KeyRows;
+use crate::one::Refusal;
+use crate::own::{blank_answer, first_state, own_answer};
+use crate::slots::Slots;
+use crate::state::AggState;
+use crate::table::Change;
+use rg_bytes::Memory;
+use rg_event::Value;
+use rg_group::Key;
+use rg_metric::{Answer, Func};
+use std::alloc::Global;
+
+impl Slots {
+    /// Adds a value to the row of a node and a key.
+    pub(crate) fn add(
+        &mut self,
+        alloc: Global,
+        node: u32,
+        key: &Key,
+        func: Func,
+        value: &Value,
+    ) -> Result<(), Refusal>
+        requires { Takes func value.now }
+        ensures changed { OnOk result (Changed func Change.Add value.now (cell_in self.old.map self.old.rows.items node key.now) (cell_in self.new.map self.new.rows.items node key.now)) }
+        ensures suits { OnOk result (Suits func Change.Add value.now (cell_in self.old.map self.old.rows.items node key.now)) }
+        ensures own { OnOk result (IsOf func (cell_in self.new.map self.new.rows.items node key.now)) }
+        ensures size { OnOk result (Counts Change.Add (cell_in self.old.map self.old.rows.items node key.now) (cell_in self.new.map self.new.rows.items node key.now)) }
+        ensures others { Others node key.now (cell_in self.old.map self.old.rows.items) (cell_in self.new.map self.new.rows.items) }
+        ensures err { OnErr result (Same (cell_in self.old.map self.old.rows.items) (cell_in self.new.map self.new.rows.items)) }
+        ensures unfit { IsErrOf result Refusal.Unfit → Unfit func Change.Add value.now (cell_in self.old.map self.old.rows.items node key.now) }
+        ensures causes { IsErrOf result Refusal.Unfit → IsRefused func Change.Add value.now (cell_in self.old.map self.old.rows.items node key.now) }
+    {
+        match self.find(key) {
+            Some(slot) => return self.add_in(alloc, slot, node, key, func, value),
+            None => {}
+        }
+        let state = match first_state(alloc, func, value) {
+            Ok(state) => state,
+            Err(_) => return Err(Refusal::Memory),
+        };
+        let copy = match key.copy(alloc) {
+            Ok(copy) => copy,
+            Err(_) => return Err(Refusal::Memory),
+        };
+        match self.put(alloc, node, copy, state) {
+            Ok(()) => Ok(()),
+            Err(_) => Err(Refusal::Memory),
+        }
+    }
+
+    /// Adds a value to the row of a node in the slot of a key.
+    fn add_in(
+        &mut self,
+        alloc: Global,
+        slot: u32,
+        node: u32,
+        key: &Key,
+        func: Func,
+        value: &Value,
+    ) -> Result<(), Refusal>
+        requires takes { Takes func value.now }
+        requires found { slot_in self.old.map key.now ≡ Some slot }
+        ensures changed { OnOk result (Changed func Change.Add value.now (cell_in self.old.map self.old.rows.items node key.now) (cell_in self.new.map self.new.rows.items node key.now)) }
+        ensures suits { OnOk result (Suits func Change.Add value.now (cell_in self.old.map self.old.rows.items node key.now)) }
+        ensures own { OnOk result (IsOf func (cell_in self.new.map self.new.rows.items node key.now)) }
+        ensures size { OnOk result (Counts Change.Add (cell_in self.old.map self.old.rows.items node key.now) (cell_in self.new.map self.new.rows.items node key.now)) }
+        ensures others { Others node key.now (cell_in self.old.map self.old.rows.items) (cell_in self.new.map self.new.rows.items) }
+        ensures err { OnErr result (Same (cell_in self.old.map self.old.rows.items) (cell_in self.new.map self.new.rows.items)) }
+        ensures unfit { IsErrOf result Refusal.Unfit → Unfit func Change.Add value.now (cell_in self.old.map self.old.rows.items node key.now) }
+        ensures causes { IsErrOf result Refusal.Unfit → IsRefused func Change.Add value.now (cell_in self.old.map self.old.rows.items node key.now) }
+    {
+        let rows = &mut self.rows[slot as usize];
+        rows.add(alloc, node, func, value)
+    }
+
+    /// Takes the first value of the row of a node and a key away.
+    pub(crate) fn remove(
+        &mut self,
+        node: u32,
+        key: &Key,
+        func: Func,
+        value: &Value,
+    ) -> Result<(), Refusal>
+        ensures changed { OnOk result (Changed func Change.Remove value.now (cell_in self.old.map self.old.rows.items node key.now) (cell_in self.new.map self.new.rows.items node key.now)) }
+        ensures suits { OnOk result (Suits func Change.Remove value.now (cell_in self.old.map self.old.rows.items node key.now)) }
+        ensures own { OnOk result (IsOf func (cell_in self.new.map self.new.rows.items node key.now)) }
+        ensures size { OnOk result (Counts Change.Remove (cell_in self.old.map self.old.rows.items node key.now) (cell_in self.new.map self.new.rows.items node key.now)) }
+        ensures others { Others node key.now (cell_in self.old.map self.old.rows.items) (cell_in self.new.map self.new.rows.items) }
+        ensures err { OnErr result (Same (cell_in self.old.map self.old.rows.items) (cell_in self.new.map self.new.rows.items)) }
+        ensures unfit { OnErr result (Unfit func Change.Remove value.now (cell_in self.old.map self.old.rows.items node key.now)) }
+    {
+        match self.find(key) {
+            None => Err(Refusal::Unfit),
+            Some(slot) => self.take_in(slot, node, key, func, value),
+        }
+    }
+
+    /// Takes the first value of the row of a node in the slot of a key away. A key that has no row then
+    /// loses its slot.
+    fn take_in(
+        &mut self,
+        slot: u32,
+        node: u32,
+        key: &Key,
+        func: Func,
+        value: &Value,
+    ) -> Result<(), Refusal>
+        requires found { slot_in self.old.map key.now ≡ Some slot }
+        ensures changed { OnOk result (Changed func Change.Remove value.now (cell_in self.old.map self.old.rows.items node key.now) (cell_in self.new.map self.new.rows.items node key.now)) }
+        ensures suits { OnOk result (Suits func Change.Remove value.now (cell_in self.old.map self.old.rows.items node key.now)) }
+        ensures own { OnOk result (IsOf func (cell_in self.new.map self.new.rows.items node key.now)) }
+        ensures size { OnOk result (Counts Change.Remove (cell_in self.old.map self.old.rows.items node key.now) (cell_in self.new.map self.new.rows.items node key.now)) }
+        ensures others { Others node key.now (cell_in self.old.map self.old.rows.items) (cell_in self.new.map self.new.rows.items) }
+        ensures err { OnErr result (Same (cell_in self.old.map self.old.rows.items) (cell_in self.new.map self.new.rows.items)) }
+        ensures unfit { OnErr result (Unfit func Change.Remove value.now (cell_in self.old.map self.old.rows.items node key.now)) }
+    {
+        let rows = &mut self.rows[slot as usize];
+        match rows.take(node, func, value) {
+            Err(refusal) => return Err(refusal),
+            Ok(()) => {}
+        }
+        if !rows.is_empty() {
+            return Ok(());
+        }
+        self.map.remove(key);
+        self.recent.slot = None;
+        let _ = self.free.push(slot);
+        Ok(())
+    }
+
+    /// Puts a row where there is none.
+    pub(crate) fn insert(
+        &mut self,
+        alloc: Global,
+        node: u32,
+        key: Key,
+        state: AggState,
+    ) -> Result<(), Memory>
+        requires free { cell_in self.old.map self.old.rows.items node key ≡ None }
+        requires some { 0 < size_in (held_of state) }
+        ensures row { OnOk result (cell_in self.new.map self.new.rows.items node key ≡ Some (held_of state)) }
+        ensures others { Others node key (cell_in self.old.map self.old.rows.items) (cell_in self.new.map self.new.rows.items) }
+        ensures err { OnErr result (Same (cell_in self.old.map self.old.rows.items) (cell_in self.new.map self.new.rows.items)) }
+    {
+        match self.find(&key) {
+            Some(slot) => return self.insert_in(slot, node, &key, state),
+            None => {}
+        }
+        self.put(alloc, node, key, state)
+    }
+
+    /// Puts a row into the slot of a key, where there is none of the node.
+    fn insert_in(&mut self, slot: u32, node: u32, key: &Key, state: AggState) -> Result<(), Memory>
+        requires found { slot_in self.old.map key.now ≡ Some slot }
+        requires free { cell_in self.old.map self.old.rows.items node key.now ≡ None }
+        requires some { 0 < size_in (held_of state) }
+        ensures row { OnOk result (cell_in self.new.map self.new.rows.items node key.now ≡ Some (held_of state)) }
+        ensures others { Others node key.now (cell_in self.old.map self.old.rows.items) (cell_in self.new.map self.new.rows.items) }
+        ensures err { OnErr result (Same (cell_in self.old.map self.old.rows.items) (cell_in self.new.map self.new.rows.items)) }
+    {
+        let rows = &mut self.rows[slot as usize];
+        rows.insert(node, state)
+    }
+
+    /// Puts a row of a key that has none.
+    fn put(&mut self, alloc: Global, node: u32, key: Key, state: AggState) -> Result<(), Memory>
+        requires none { slot_in self.old.map key ≡ None }
+        requires some { 0 < size_in (held_of state) }
+        ensures row { OnOk result (cell_in self.new.map self.new.rows.items node key ≡ Some (held_of state)) }
+        ensures others { Others node key (cell_in self.old.map self.old.rows.items) (cell_in self.new.map self.new.rows.items) }
+        ensures err { OnErr result (Same (cell_in self.old.map self.old.rows.items) (cell_in self.new.map self.new.rows.items)) }
+    {
+        let mut rows = KeyRows::new(alloc);
+        rows.insert(node, state)?;
+        self.open(alloc, key, rows)
+    }
+
+    /// The answer of the row of a node and a key, without one that of no values; none for another function's row.
+    pub(crate) fn answer(&mut self, node: u32, key: &Key, func: Func) -> Option<Answer>
+        ensures answer { (values : List Value) → RowStands func (cell_in self.old.map self.old.rows.items node key.now) values → result ≡ Some (answer_of func values) }
+        ensures own { IsSome result → IsOf func (cell_in self.old.map self.old.rows.items node key.now) }
+        ensures causes { IsNone result → IsOf func (cell_in self.old.map self.old.rows.items node key.now) → ⊥ }
+        ensures same { Same (cell_in self.old.map self.old.rows.items) (cell_in self.new.map self.new.rows.items) }
+    {
+        match self.find(key) {
+            None => Some(blank_answer(func)),
+            Some(slot) => match self.row(slot, node) {
+                None => Some(blank_answer(func)),
+                Some(state) => own_answer(state, func),
+            },
+        }
+    }
+}

@@ -1,0 +1,4 @@
+pub mod Verdicts
+pub mod Accepted
+pub mod Events
+pub mod Laws

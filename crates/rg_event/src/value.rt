@@ -152,6 +152,14 @@ impl Values {
         }
     }
 
+    /// No values, and room for this many: so many are pushed without taking memory again.
+    pub fn with_capacity(alloc: Global, count: usize) -> Result<Values, Memory>
+        ensures { IfOk result (λ values. values ≡ []) }
+    {
+        let list = Vec::with_capacity(alloc, count)?;
+        Ok(Values { list })
+    }
+
     /// Adds a value at the end.
     pub fn push(&mut self, value: Value) -> Result<(), Memory>
         ensures ok { OnOk result (self.new ≡ self.old ++ value ∷ []) }

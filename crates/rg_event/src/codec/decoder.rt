@@ -13,6 +13,7 @@ use rg_bytes::ByteReader;
 use std::alloc::Global;
 
 /// Takes an event of this schema, as `encode` writes it. A refusal leaves the reader as it was.
+/// It takes one piece of memory for the list of values, and one for each text past the small ones.
 pub fn decode(
     alloc: Global,
     schema: &Schema,
@@ -79,7 +80,8 @@ fn read_values(
     ensures ok { IfOk result (λ values. from.old ≡ values_bytes values ++ from.new) }
     ensures legal { IfOk result (AreValuesOf fields.now) }
 {
-    let mut values = Values::new(alloc);
+    // The list has its room before the first value, and never grows.
+    let mut values = Values::with_capacity(alloc, fields.len())?;
     let mut column = 0;
     for field in fields {
         column += 1;

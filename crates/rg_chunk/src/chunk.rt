@@ -26,7 +26,7 @@ impl Model for Chunk {
 
     ghost view = { λ c. c.events };
 
-    ghost invariant = { λ c. length c.events ≤ 4096 };
+    ghost invariant = { λ c. (1 ≤ length c.events) × (length c.events ≤ 4096) };
 }
 
 impl Chunk {
@@ -52,6 +52,7 @@ impl Chunk {
     /// How many events there are, from 1 to 4,096.
     pub fn count(&self) -> u32
         ensures count { result ≡ length self.now }
+        ensures some { 1 ≤ result }
         ensures few { result ≤ 4096 }
     {
         self.events.as_slice().len() as u32

@@ -274,6 +274,9 @@ head-read (b ∷ bytes) (x ∷ buf) n size most some within is =
 pub head-open : (bytes : List ℕ) (gate : ℕ) → gate ≡ 1 → bytes ≡ gate ∷ drop 1 bytes → slice_index bytes 0 ≡ 1
 head-open bytes gate one is = let e : slice_index bytes 0 ≡ slice_index (gate ∷ drop 1 bytes) 0 = ap (λ (l : List ℕ). slice_index l 0) is in e ∙ one
 
+pub head-shut : (bytes : List ℕ) (gate : ℕ) → gate ≢ 1 → bytes ≡ gate ∷ drop 1 bytes → slice_index bytes 0 ≢ 1
+head-shut bytes gate closed is = λ one. (let e : slice_index bytes 0 ≡ slice_index (gate ∷ drop 1 bytes) 0 = ap (λ (l : List ℕ). slice_index l 0) is in closed (sym e ∙ one))
+
 -- a torn write of an open gate at the head leaves it or closes it
 pub none-torn : (a b c : List ℕ) → a ≡ 1 ∷ drop 1 a → b ≡ a → Torn 0 1 b c → OldOrNone a c
 none-torn a b c is same torn =

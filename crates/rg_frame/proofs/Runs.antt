@@ -137,3 +137,10 @@ others-stay file old new same = record { told = λ x is. (x, same ∙ is, record
 
 pub others-then : (file : ℕ) (P Q : List ℕ → List ℕ → Type 0) (old mid new : Option Image) → Becomes old mid (InFile file P) → Becomes mid new (InFile file Q) → Becomes old new (InFile file (λ _ _. ⊤))
 others-then file P Q old mid new first second = in_file-then file P Q (λ _ _. ⊤) old mid new first second (λ a b c p q. tt)
+
+-- a file that stays takes a step that leaves it
+pub becomes-kept : (file : ℕ) (Step : List ℕ → List ℕ → Type 0) (old new : Option Image) → new ≡ old → ForSome old (λ v. Step (v file) (v file)) → Becomes old new (InFile file Step)
+becomes-kept file Step old new same kept = record {
+  told = λ v told. (v, same ∙ told, record { there = kept v told; elsewhere = λ f other. refl });
+  untold = λ none. same ∙ none;
+}

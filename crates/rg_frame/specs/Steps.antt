@@ -1,5 +1,5 @@
 -- What the writes of a call do to a file.
-use Rattle.std.specs.Prelude.{◌≡◌, ◌≢◌, ◌⊎◌, ◌+◌, ◌<◌, ◌≤◌, ℕ, List, [], ◌∷◌, ◌++◌, length, take, Option}
+use Rattle.std.specs.Prelude.{◌≡◌, ◌≢◌, ◌⊎◌, ◌+◌, ◌<◌, ◌≤◌, ℕ, List, [], ◌∷◌, ◌++◌, length, take, drop, slice_index, Option}
 use Rattle.std.specs.Option.{ForSome}
 use Rattle.rg_host.specs.Image.{Image, NothingPending}
 use Rattle.rg_frame.specs.Frames.{body, HasPayloads, EndsAt}
@@ -31,6 +31,10 @@ Appended end payload next old new = EndsAt end old → Grown payload old new × 
 -- the file as it was, or without a frame
 abbrev pub OldOrNone : List ℕ → List ℕ → Type 0
 OldOrNone old new = (new ≡ old) ⊎ HasPayloads [] new
+
+-- the gate at the head of the file is closed where it was open, with the rest as it was; another file is as it was
+abbrev pub Shut : List ℕ → List ℕ → Type 0
+Shut old new = ((slice_index old 0 ≡ 1) × (new ≡ 0 ∷ drop 1 old)) ⊎ ((slice_index old 0 ≢ 1) × (new ≡ old))
 
 -- the file is as it was, or had and has at most one byte
 abbrev pub Brief : List ℕ → List ℕ → Type 0

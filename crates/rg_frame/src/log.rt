@@ -7,7 +7,7 @@ ghost use Rattle.rg_frame.specs.Calls.{Writes};
 ghost use Rattle.rg_frame.specs.Frames.{IsLog, Begins, HasPayloads, IsDamaged};
 ghost use Rattle.rg_frame.specs.LogState.{ReachesEnd};
 ghost use Rattle.rg_frame.specs.Looks.{HoldsFrame, HoldsHead, IsClosed, IsTorn, Next};
-ghost use Rattle.rg_frame.specs.Steps.{From, Grows, Added, Appended, OldOrNone};
+ghost use Rattle.rg_frame.specs.Steps.{From, Grows, Added, Appended, OldOrNone, Shut};
 
 use crate::fault::FrameFault;
 use crate::look::{look, read_full};
@@ -216,7 +216,8 @@ impl FrameLog {
         failed.into()
     }
 
-    /// Drops all frames. A closed gate at the head of the file is never written. Whatever call
+    /// Drops all frames. An open gate at the head of the file is closed, and the rest of the file
+    /// stays; a closed gate is never written. Whatever call
     /// fails, and wherever the run stops, the frame list of the file is the old one, an undefined
     /// one included, or has no frame, and reads of the other files give what they gave. After a
     /// fault the log has ended; else it is ready at place 0.
@@ -230,6 +231,7 @@ impl FrameLog {
 
         ensures none { OnOk result (Becomes (H.now host.old) (H.now host.new)
             (InFile self.old.file (λ _ bytes. HasPayloads [] bytes))) }
+        ensures shut { OnOk result (Becomes (H.now host.old) (H.now host.new) (InFile self.old.file Shut)) }
         ensures closed { ForSome (H.now host.old) (λ v. slice_index (v self.old.file) 0 ≢ 1
             → LeavesAll H.now H.may H.clock H.since H.said host.old host.new) }
         ensures pending { OnOk result (NothingPending self.old.file (H.now host.old) (H.may host.old)

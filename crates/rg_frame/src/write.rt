@@ -6,7 +6,7 @@ ghost use Rattle.rg_host.specs.Moments.{LeavesAll};
 ghost use Rattle.rg_frame.specs.Calls.{Writes};
 ghost use Rattle.rg_frame.specs.Frames.{FitsFrame, HasPayloads};
 ghost use Rattle.rg_frame.specs.LogState.{Reaches};
-ghost use Rattle.rg_frame.specs.Steps.{Brief, Begun, Keeps, Staged, From, Grows, Added, Appended, OldOrNone};
+ghost use Rattle.rg_frame.specs.Steps.{Brief, Begun, Keeps, Staged, From, Grows, Added, Appended, OldOrNone, Shut};
 
 use rg_host::{Failed, Host};
 
@@ -99,6 +99,7 @@ pub fn add<H: Host>(host: &mut H, file: u32, end: u64, payload: &[u8]) -> Result
 pub fn close<H: Host>(host: &mut H, file: u32) -> Result<(), Failed>
     requires file { file < 8 }
     ensures none { OnOk result (Becomes (H.now host.old) (H.now host.new) (InFile file (λ _ bytes. HasPayloads [] bytes))) }
+    ensures shut { OnOk result (Becomes (H.now host.old) (H.now host.new) (InFile file Shut)) }
     ensures closed { ForSome (H.now host.old) (λ v. slice_index (v file) 0 ≢ 1 → LeavesAll H.now H.may H.clock H.since H.said host.old host.new) }
     ensures pending { OnOk result (NothingPending file (H.now host.old) (H.may host.old) → NothingPending file (H.now host.new) (H.may host.new)) }
     ensures leaves { Writes H.now H.may H.clock H.since H.said file OldOrNone host.old host.new }

@@ -2,7 +2,7 @@ ghost use Rattle.std.specs.Prelude.{◌≡◌, ◌⊎◌, ℕ, ◌+◌, ◌^◌,
 ghost use Rattle.std.specs.Option.{ForSome};
 ghost use Rattle.rg_bytes.specs.Counts.{Rose};
 ghost use Rattle.rg_host.specs.CallCounts.{raised};
-ghost use Rattle.rg_host.specs.Effects.{nothing, wrote, failed_write, synced, put, said_after};
+ghost use Rattle.rg_host.specs.Effects.{may_after, nothing, wrote, failed_write, synced, put, said_after};
 ghost use Rattle.rg_host.specs.Files.{image_of};
 ghost use Rattle.rg_host.specs.Image.{Image as Files, Becomes, InFile, Holds, Torn, IsAfter, Follows, NothingPending};
 ghost use Rattle.rg_host.specs.MemHost.{now_in, may_in, clock_in, since_in, said_in, IsListed, HasFailed, noted, unnoted, with_read, with_disk_fault, with_out_fault, begun};
@@ -88,7 +88,8 @@ impl MemHost {
         ensures image { IfOk result (λ host. now_in host
             ≡ Some (left_after pick (image_of self.now.first) (first_effects call self.now.effects))) }
 
-        // It is an image of the moment after that call: with what had been put then.
+        // It is an image that a crash just after that call may leave, and of a moment since then: with what had been put by then.
+        ensures after { IfOk result (λ host. ForSome (now_in host) (λ v. may_after (image_of self.now.first) (first_effects call self.now.effects) v)) }
         ensures moment { IfOk result (λ host. ForSome (now_in host) (λ v. ⟦<MemHost as Host>⟧.since self.now call
             (record { image = v; said = said_after (first_effects call self.now.effects) }))) }
         ensures begun { IfOk result (λ host. host ≡ begun host.first []) }

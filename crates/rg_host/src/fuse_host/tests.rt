@@ -27,3 +27,22 @@ fn passes_two_calls(rt: HostRuntime) -> Result<(), Fail> {
     assert_eq!(rt; host.calls(), 2);
     Ok(())
 }
+
+#[test]
+fn each_of_the_five_calls_is_one_call_on_the_other_host(rt: HostRuntime) -> Result<(), Fail> {
+    let alloc = rt.alloc();
+    for kind in 0..5 {
+        let host = MemHost::new(alloc, Image::new(alloc), Vec::new(alloc))?;
+        let mut fuse = FuseHost::new(host, 2);
+        let passed = match kind {
+            0 => fuse.len(1).is_ok(),
+            1 => fuse.read_at(1, 0, &mut [0]).is_ok(),
+            2 => fuse.write_at(1, 0, &[4]).is_ok(),
+            3 => fuse.sync(1).is_ok(),
+            _ => fuse.put(b"a").is_ok(),
+        };
+        assert!(rt; passed, "at {kind}");
+        assert_eq!(rt; fuse.into_inner().calls(), 1, "at {kind}");
+    }
+    Ok(())
+}

@@ -1,9 +1,9 @@
-use Rattle.std.proofs.Common.{◌≡◌, ◌∷◌, inl, ℕ, get_or, drop, Some, refl, subst, arith}
-use Rattle.rg_host.specs.Image.{Image}
+use Rattle.std.proofs.Common.{◌≡◌, [], ◌∷◌, inl, inr, ℕ, get_or, drop, Option, Some, refl, subst, arith}
+use Rattle.rg_host.specs.Image.{Image, Becomes, InFile, Holds}
 use Rattle.rg_host.proofs.Runs.{leaves_all-settled, becomes-before}
-use Rattle.rg_frame.specs.Steps.{OldOrNone}
-use Rattle.rg_frame.proofs.Gates.{head-read, head-open, none-closed, none-empty, none-torn}
-use Rattle.rg_frame.proofs.Runs.{Same, writes-quiet, writes-weaker, writes-more, writes-sync, becomes-none, others-stay, others-then}
+use Rattle.rg_frame.specs.Steps.{OldOrNone, Shut}
+use Rattle.rg_frame.proofs.Gates.{head-read, head-open, head-shut, none-closed, none-empty, none-torn}
+use Rattle.rg_frame.proofs.Runs.{Same, writes-quiet, writes-weaker, writes-more, writes-sync, becomes-none, becomes-kept, in_file-where, others-stay, others-then}
 use Rattle.rg_frame.proofs.write.close.Goals as goal
 
 pub returns-in_err-n-clause-leaves : goal.returns-in_err-n-clause-leaves
@@ -96,3 +96,15 @@ returns-in_err-sync-clause-others g c = becomes-before _ _ _ _ (others-then c.ar
 
 pub returns-clause-others : goal.returns-clause-others
 returns-clause-others g c = becomes-before _ _ _ _ (others-then c.args.file _ _ _ _ _ (others-stay c.args.file _ _ c.read_at.ensures.leaves.now_stays) c.in_ok-write_at.ensures.written) c.sync.ensures.now
+
+pub returns-then-gate-ne1-clause-shut : goal.returns-then-gate-ne1-clause-shut
+returns-then-gate-ne1-clause-shut g c =
+    let head : (w : Image) → g.H.Host.now c.args.host.now ≡ Some w → w c.args.file ≡ get_or c.read_at.new.buf 0 0 ∷ drop 1 (w c.args.file) = λ w told. head-read (w c.args.file) c.read_at.new.buf c.in_ok-n.n (omega (arith, c.in_ok-n.ensures.size)) (omega (arith, c.in_ok-n.ensures.count)) (omega (arith, c.if-n-eq0.false)) (c.in_ok-n.ensures.within w told) (c.in_ok-n.ensures.bytes w told) in
+    becomes-kept c.args.file Shut _ _ c.read_at.ensures.leaves.now_stays (λ w told. inr (head-shut (w c.args.file) _ c.if-gate-ne1.true (head w told), refl))
+
+pub returns-clause-shut : goal.returns-clause-shut
+returns-clause-shut g c =
+    let head : (w : Image) → g.H.Host.now c.args.host.now ≡ Some w → w c.args.file ≡ get_or c.read_at.new.buf 0 0 ∷ drop 1 (w c.args.file) = λ w told. head-read (w c.args.file) c.read_at.new.buf c.in_ok-n.n (omega (arith, c.in_ok-n.ensures.size)) (omega (arith, c.in_ok-n.ensures.count)) (omega (arith, c.if-n-eq0.false)) (c.in_ok-n.ensures.within w told) (c.in_ok-n.ensures.bytes w told) in
+    let one : (w : Image) → g.H.Host.now c.args.host.now ≡ Some w → w c.args.file ≡ 1 ∷ drop 1 (w c.args.file) = λ w told. subst (λ (b : ℕ). w c.args.file ≡ b ∷ drop 1 (w c.args.file)) (omega (arith, c.if-gate-ne1.false)) (head w told) in
+    let written : Becomes (g.H.Host.now c.args.host.now) (g.H.Host.now c.write_at.new.self) (InFile c.args.file (Holds 0 (0 ∷ []))) = subst (λ (o : Option Image). Becomes o (g.H.Host.now c.write_at.new.self) (InFile c.args.file (Holds 0 (0 ∷ [])))) c.read_at.ensures.leaves.now_stays c.in_ok-write_at.ensures.written in
+    becomes-before _ _ _ _ (in_file-where c.args.file (λ a. a ≡ 1 ∷ drop 1 a) (Holds 0 (0 ∷ [])) Shut _ _ one written (λ a b is holds. inl (head-open a 1 refl is, holds))) c.sync.ensures.now

@@ -1,7 +1,7 @@
 use Rattle.std.proofs.Common.{inl, subst, refl}
 use Rattle.rg_host.specs.Image.{NothingPending, Becomes, InFile}
 use Rattle.rg_frame.specs.LogState.{LogState}
-use Rattle.rg_frame.specs.Steps.{OldOrNone}
+use Rattle.rg_frame.specs.Steps.{OldOrNone, Shut}
 use Rattle.rg_frame.proofs.Runs.{Same, writes-none, writes-weaker, others-stay}
 use Rattle.std.specs.Prelude.{⊤}
 use Rattle.rg_frame.proofs.log.FrameLog.clear.Goals as goal
@@ -22,3 +22,6 @@ returns-in-Ok-clause-others g c = subst (λ (s : LogState). Becomes (g.H.Host.no
 
 pub returns-in-Err-clause-others : goal.returns-in-Err-clause-others
 returns-in-Err-clause-others g c = subst (λ (s : LogState). Becomes (g.H.Host.now c.args.host.now) (g.H.Host.now c.close.new.host) (InFile s.file (λ _ _. ⊤))) c.self.view_is c.close.ensures.others
+
+pub returns-in-Ok-clause-shut : goal.returns-in-Ok-clause-shut
+returns-in-Ok-clause-shut g c = subst (λ (s : LogState). Becomes (g.H.Host.now c.args.host.now) (g.H.Host.now c.close.new.host) (InFile s.file Shut)) c.self.view_is c.in-Ok.ensures.shut

@@ -17,7 +17,7 @@ use Rattle.rg_log.specs.Spots.{SpotAt, SpotIn, count_in, is_in_chunk, is_at_end,
 use Rattle.rg_log.proofs.Growing.{part, joined-push, chunks-push}
 use Rattle.rg_log.proofs.Spelling.{no_spot, rest_same, spot_within}
 
-in_chunk_is : (place before count : ℕ) (spot : Spot) → is_in_chunk place before count spot ≡ true → (spot.place ≡ place) × (spot.index ≤ count) × (spot.number ≡ before + spot.index)
+pub in_chunk_is : (place before count : ℕ) (spot : Spot) → is_in_chunk place before count spot ≡ true → (spot.place ≡ place) × (spot.index ≤ count) × (spot.number ≡ before + spot.index)
 in_chunk_is place before count spot e =
     let f = and_parts (spot.place == place && nat_le spot.index count) (spot.number == before + spot.index) e in
     let g = and_parts (spot.place == place) (nat_le spot.index count) f.0 in
@@ -26,7 +26,7 @@ in_chunk_is place before count spot e =
 in_chunk_said : (place before count : ℕ) (spot : Spot) → spot.place ≡ place → spot.index ≤ count → spot.number ≡ before + spot.index → is_in_chunk place before count spot ≡ true
 in_chunk_said place before count spot at le many = rw (eq-eqb spot.place place at, le-leb spot.index count le, eq-eqb spot.number (before + spot.index) many) refl
 
-at_end_is : (place before : ℕ) (spot : Spot) → is_at_end place before spot ≡ true → (spot.place ≡ place) × (spot.index ≡ 0) × (spot.number ≡ before)
+pub at_end_is : (place before : ℕ) (spot : Spot) → is_at_end place before spot ≡ true → (spot.place ≡ place) × (spot.index ≡ 0) × (spot.number ≡ before)
 at_end_is place before spot e =
     let f = and_parts (spot.place == place && spot.index == 0) (spot.number == before) e in
     let g = and_parts (spot.place == place) (spot.index == 0) f.0 in

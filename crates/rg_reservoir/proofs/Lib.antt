@@ -5,11 +5,13 @@ pub mod Chains
 pub mod ChunkHeads
 pub mod Committed
 pub mod Committing
+pub mod Counting
 pub mod Fetching
 pub mod Firsts
 pub mod Heading
 pub mod Legal
 pub mod Listing
+pub mod Naming
 pub mod Peeking
 pub mod Seeking
 pub mod Touching

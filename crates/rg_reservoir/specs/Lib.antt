@@ -6,4 +6,5 @@ pub mod Going
 pub mod GoingLaws
 pub mod Heads
 pub mod Kept
+pub mod Naming
 pub mod Walked

@@ -13,6 +13,7 @@ mod first;
 mod heads;
 mod kept;
 mod law;
+mod names;
 mod reservoir;
 mod stored;
 mod walk;

@@ -1,4 +1,4 @@
-ghost use Rattle.std.specs.Prelude.{◌≡◌, ◌⊎◌, ◌↔◌, ◌≤◌, ◌<◌, ◌+◌, ◌-◌, ◌^◌, ◌++◌, [], ◌∷◌, ℕ, List, Ok, Err, Some, None, true, false, min, IfOk, IfErr, IfSome, IfNone, OnOk, OnErr, IsErrOf, IsTrue, length, slice_get, option_copied};
+ghost use Rattle.std.specs.Prelude.{◌≡◌, ◌⊎◌, ◌↔◌, ◌≤◌, ◌<◌, ◌+◌, ◌-◌, ◌^◌, ◌++◌, [], ◌∷◌, ℕ, List, Ok, Err, Some, None, true, false, min, IfOk, IfErr, IfSome, IfNone, OnOk, OnErr, IsErrOf, IsTrue, length, slice_get, option_copied, All};
 ghost use Rattle.std.specs.Option.{ForSome};
 ghost use Rattle.std.specs.Borrow.{sem};
 ghost use Rattle.rg_bytes.specs.Counts.{Rose};
@@ -8,18 +8,20 @@ ghost use Rattle.rg_event.specs.declared.event.Event.{Event as TheEvent};
 ghost use Rattle.rg_event.specs.Shapes.{IsSchema};
 ghost use Rattle.rg_past.specs.declared.past.Spot.{Spot};
 ghost use Rattle.rg_frame.specs.Calls.{Writes};
-ghost use Rattle.rg_frame.specs.Frames.{EndsAt};
+ghost use Rattle.rg_frame.specs.Frames.{EndsAt, HasPayloads};
 ghost use Rattle.rg_frame.specs.LogState.{ReachesEnd};
 ghost use Rattle.rg_frame.specs.Steps.{From};
 ghost use Rattle.rg_cache.specs.Cache.{cache as the_cache, item_at, holds_place, places, least_recently_used, touches};
 ghost use Rattle.rg_log.specs.Log.{schema_payload, HasEvents};
 ghost use Rattle.rg_reservoir.specs.Attached.{IsOther, IsBadFrame, SchemaAdded, Opens, IsOpened};
 ghost use Rattle.rg_reservoir.specs.Chain.{IsIllegal};
+ghost use Rattle.rg_reservoir.specs.Naming.{IsNamed};
 
 use crate::fault::ReservoirFault;
 use crate::fetch::fetch;
 use crate::first::open_log;
 use crate::kept::Kept;
+use crate::names::count_unnamed;
 use rg_bytes::Memory;
 use rg_cache::ChunkCache;
 use rg_chunk::OpenChunk;
@@ -86,6 +88,13 @@ fn take_rooms(alloc: Global, schema: &Schema, room: Room) -> Result<Rooms, Memor
         cache,
         open,
     })
+}
+
+/// Whether no spot's number is above that one.
+fn are_within(spots: &[Spot], committed: u64) -> bool
+    ensures { IsTrue result ↔ All (λ spot. spot.number ≤ committed) spots.now }
+{
+    spots.iter().all(|spot| spot.number <= committed)
 }
 
 impl Reservoir {
@@ -442,6 +451,42 @@ impl Reservoir {
         self.committed += u64::from(count);
         self.open.clear();
         Ok(())
+    }
+
+    /// Whether each of these spots names an event or the end, in one of its spellings, and no number
+    /// is above the count. The open chunk has to be empty. It is judged by the heads of the chunks in
+    /// the log, which are read once for all spots; the events in them are not looked at. It takes no
+    /// memory, writes nothing, and leaves the reservoir and the chunks that it holds as they were.
+    pub fn names<H: Host>(&self, host: &mut H, spots: &[Spot]) -> Result<bool, ReservoirFault>
+        requires empty { opened self.now ≡ [] }
+
+        // Over any image that is told, by the heads in it; over a sound reservoir, these are the spelled spots.
+        ensures named { (v : Image) (payloads : List (List ℕ)) → H.now host.old ≡ Some v → HasPayloads payloads (v 2)
+            → IfOk result (λ named. IsTrue named ↔ All (IsNamed payloads (base self.now).committed) spots.now) }
+        ensures spelled { IsSound (H.now host.old) (H.may host.old) self.now → IfOk result (λ named. IsTrue named ↔ All (Spells (H.now host.old) (base self.now) (opened self.now)) spots.now) }
+        ensures within { IfOk result (λ named. IsTrue named → All (λ spot. spot.number ≤ (base self.now).committed) spots.now) }
+
+        ensures sound { IsSound (H.now host.old) (H.may host.old) self.now → IsSound (H.now host.new) (H.may host.new) self.now }
+        ensures spells { (spot : Spot) → Spells (H.now host.new) (base self.now) (opened self.now) spot ↔ Spells (H.now host.old) (base self.now) (opened self.now) spot }
+        ensures ended { IsErrOf result ReservoirFault.Ended ↔ ((base self.now).ended ≡ true) }
+        ensures damaged { (p : ℕ) → IsErrOf result (ReservoirFault.Damaged p) → ForSome (H.now host.old) (λ v. IsIllegal (base self.now).shape.fields p (v (base self.now).file)) }
+        ensures legal { IsSound (H.now host.old) (H.may host.old) self.now → (p : ℕ) → IsErrOf result (ReservoirFault.Damaged p) → ⊥ }
+        ensures disk { IsErrOf result ReservoirFault.Disk → Rose (H.disk_faults host.old) (H.disk_faults host.new) }
+        ensures faults { IfErr result (λ fault. (fault ≡ ReservoirFault.Disk) ⊎ ((p : ℕ) × (fault ≡ ReservoirFault.Damaged p)) ⊎ (fault ≡ ReservoirFault.Ended)) }
+        ensures leaves { LeavesAll H.now H.may H.clock H.since H.said host.old host.new }
+        ensures disk_faults { H.disk_faults host.old ≤ H.disk_faults host.new }
+        ensures out_faults { H.out_faults host.new ≡ H.out_faults host.old }
+    {
+        if self.ended {
+            return Err(ReservoirFault::Ended);
+        }
+        if !are_within(spots, self.committed) {
+            return Ok(false);
+        }
+        match count_unnamed(host, spots) {
+            Ok(left) => Ok(left == 0),
+            Err(fault) => Err(fault),
+        }
     }
 
     /// Moves a spot on to the next event.

@@ -1,10 +1,10 @@
-ghost use Rattle.std.specs.Prelude.{◌≡◌, ◌≤◌, ◌<◌, ◌^◌, length, OnOk, IfOk};
+ghost use Rattle.std.specs.Prelude.{◌≡◌, ◌≤◌, ◌<◌, ◌^◌, [], length, OnOk, IfOk};
 ghost use Rattle.rg_frame.specs.LogState.{ReachesEnd};
-ghost use Rattle.rg_reservoir.specs.Kept.{log_of};
+ghost use Rattle.rg_reservoir.specs.Kept.{log_of, opened};
 
 use crate::{Reservoir, ReservoirFault, Stage, Stored, Walk};
 use rg_event::{Event, Room, Schema, Value, Values, Word};
-use rg_host::{Host, Image, MemHost};
+use rg_host::{FuseHost, Host, Image, MemHost};
 use rg_past::{Past, PastFault, Spot};
 use std::alloc::Global;
 use std::process::Abort;
@@ -191,7 +191,8 @@ fn commit_two<H: Host>(
 
 /// A reservoir of payments, with chunks of two events.
 fn payments<H: Host>(alloc: Global, host: &mut H) -> Result<Reservoir, ReservoirFault>
-    ensures { IfOk result (λ r. ReachesEnd (log_of r) (H.now host.new)) }
+    ensures reaches { IfOk result (λ r. ReachesEnd (log_of r) (H.now host.new)) }
+    ensures empty { IfOk result (λ r. opened r ≡ []) }
 {
     let room = Room {
         chunk: 2,
@@ -338,5 +339,125 @@ fn a_cut_log_is_refused_at_its_last_frame(rt: HostRuntime) -> Result<(), Fail> {
             assert_eq!(rt; fault, Some(ReservoirFault::Damaged(place)));
         }
     }
+    Ok(())
+}
+
+/// Whether these spots name events or the end of a log, which is attached first.
+fn names_in(
+    rt: &impl Abort,
+    alloc: Global,
+    bytes: &[u8],
+    text: &[u8],
+    spots: &[Spot],
+) -> Result<bool, Fail> {
+    let mut host = host_with(alloc, bytes)?;
+    let room = Room {
+        chunk: 1,
+        cache: 1,
+        limit: 100,
+    };
+    let schema = schema(alloc, text)?;
+    let reservoir = Reservoir::attach(alloc, &mut host, &schema, room)?;
+    let named = reservoir.names(&mut host, spots)?;
+    assert!(rt; reservoir.loads() == 0 && reservoir.held() == 0);
+    Ok(named)
+}
+
+fn spot(place: u64, index: u32, number: u64) -> Spot {
+    Spot {
+        place,
+        index,
+        number,
+    }
+}
+
+#[test]
+fn a_spot_is_named_in_each_of_its_spellings(rt: HostRuntime) -> Result<(), Fail> {
+    let alloc = rt.alloc();
+    let bytes = sound_bytes(alloc)?;
+    let rows: [(Spot, bool); 16] = [
+        (spot(22, 0, 0), true),
+        (spot(22, 1, 1), true),
+        (spot(84, 0, 1), true),
+        (spot(84, 1, 2), true),
+        (spot(146, 0, 2), true),
+        (spot(146, 1, 3), true),
+        (spot(208, 0, 3), true),
+        // Another number, a place inside a chunk and one inside a frame's length.
+        (spot(22, 0, 1), false),
+        (spot(84, 0, 0), false),
+        (spot(60, 0, 0), false),
+        (spot(23, 0, 0), false),
+        // An index one past the count, the schema's frame, and what is behind the end.
+        (spot(22, 2, 2), false),
+        (spot(0, 0, 0), false),
+        (spot(208, 1, 3), false),
+        (spot(208, 0, 4), false),
+        (spot(209, 0, 3), false),
+    ];
+    for (spot, want) in rows {
+        let is = names_in(&rt, alloc, &bytes, b"payments(ts)", &[spot])?;
+        assert_eq!(rt; is, want, "at {spot:?}");
+    }
+    Ok(())
+}
+
+#[test]
+fn each_spot_of_a_list_is_looked_at(rt: HostRuntime) -> Result<(), Fail> {
+    let alloc = rt.alloc();
+    let text = b"payments(ts,card:text,merchant:text,amount:int)";
+    let rows: [(&[Spot], bool); 6] = [
+        (&[], true),
+        (
+            &[
+                spot(57, 0, 0),
+                spot(57, 1, 1),
+                spot(57, 2, 2),
+                spot(163, 0, 2),
+            ],
+            true,
+        ),
+        (&[spot(57, 1, 1), spot(57, 1, 1)], true),
+        (&[spot(57, 0, 0), spot(57, 3, 3)], false),
+        (&[spot(57, 3, 2), spot(57, 0, 0)], false),
+        (&[spot(57, 0, 0), spot(58, 0, 0), spot(57, 1, 1)], false),
+    ];
+    for (spots, want) in rows {
+        assert_eq!(rt;
+            names_in(&rt, alloc, &FILE, text, spots)?,
+            want,
+            "at {spots:?}"
+        );
+    }
+    Ok(())
+}
+
+#[test]
+fn without_a_chunk_the_end_is_behind_the_first_frame(rt: HostRuntime) -> Result<(), Fail> {
+    let alloc = rt.alloc();
+    for (at, want) in [
+        (spot(22, 0, 0), true),
+        (spot(0, 0, 0), false),
+        (spot(22, 1, 0), false),
+    ] {
+        assert_eq!(rt;
+            names_in(&rt, alloc, &[], b"payments(ts)", &[at])?,
+            want,
+            "at {at:?}"
+        );
+    }
+    Ok(())
+}
+
+#[test]
+fn a_failed_read_is_no_answer(rt: HostRuntime) -> Result<(), Fail> {
+    let alloc = rt.alloc();
+    let mut host = host_with(alloc, &FILE)?;
+    let reservoir = payments(alloc, &mut host)?;
+    let mut fuse = FuseHost::new(host, 3);
+    assert_eq!(rt;
+        reservoir.names(&mut fuse, &[spot(57, 0, 0)]),
+        Err(ReservoirFault::Disk)
+    );
     Ok(())
 }

@@ -1,0 +1,62 @@
+use Rattle.std.proofs.Common.{◌≡◌, ◌∙◌, ◌+◌, ◌-◌, ◌<◌, ◌^◌, ap, sym, subst, ℕ, Err, arith, rules}
+use Rattle.std.specs.Prelude.{count_by}
+use Rattle.rg_frame.specs.Frames.{IsLog}
+use Rattle.rg_frame.specs.LogState.{LogState}
+use Rattle.rg_frame.specs.Looks.{IsTorn}
+use Rattle.rg_frame.specs.declared.fault.FrameFault.{FrameFault}
+use Rattle.rg_host.specs.Image.{Image}
+use Rattle.rg_host.proofs.Runs.{leaves_all-then}
+use Rattle.rg_log.specs.Spots.{is_in_chunk, is_at_end}
+use Rattle.rg_reservoir.specs.Naming.{Left, IsHeadless}
+use Rattle.rg_reservoir.specs.declared.fault.ReservoirFault.TheVariants.{Damaged}
+use Rattle.rg_reservoir.proofs.Causes.{from_damaged, torn_at}
+use Rattle.rg_reservoir.proofs.Naming.{left_on, left_end, headless_torn, headless_on}
+use Rattle.rg_reservoir.proofs.names.count_behind.Goals as goal
+
+pub returns-in-Ok-None-clause-counted : goal.returns-in-Ok-None-clause-counted
+returns-in-Ok-None-clause-counted g c = λ v told.
+    let inv = c.heads.invariant in
+    let h = rw c.in-Ok-None.field-0-is at c.in-Ok-None.ensures.none in
+    let end : c.end.result ≡ c.heads.log.end = c.end.ensures.end ∙ ap (λ (l : LogState). l.end) h.0 in
+    let count : c.saturating_sub.result ≡ c.heads.left - count_by (is_at_end c.heads.log.end c.heads.before) c.args.spots.now =
+    search rules ∙ ap (λ (n : ℕ). c.heads.left - n) (c.count_at_end.ensures ∙ ap (λ (e : ℕ). count_by (is_at_end e c.heads.before) c.args.spots.now) end) in
+    left_end c.args.spots.now c.heads.log.end c.heads.before c.heads.left c.saturating_sub.result (v c.heads.log.file) (v c.args.log.now.file) (ap v inv.file) (inv.counted v told) (h.1 v (inv.leaves.now_stays ∙ told)) count
+
+pub returns-in-Err-clause-damaged : goal.returns-in-Err-clause-damaged
+returns-in-Err-clause-damaged g c = λ p e v told.
+    let inv = c.heads.invariant in
+    let same : c.from.result ≡ Damaged p = cc in
+    let is = from_damaged c.in-Err.fault p (sym c.from.ensures ∙ same) in
+    let torn = c.in-Err.ensures.damaged p (ap (λ (f : FrameFault). Err f) is) v (inv.leaves.now_stays ∙ told) in
+    let at : p ≡ c.heads.log.end = torn_at c.in-Err.fault p c.heads.log.end is (c.in-Err.ensures.faults) in
+    let here : IsTorn c.heads.log.end (v c.args.log.now.file) = subst (λ (f : ℕ). IsTorn c.heads.log.end (v f)) inv.file (subst (λ (q : ℕ). IsTorn q (v c.heads.log.file)) at torn) in
+    subst (λ (q : ℕ). IsHeadless q (v c.args.log.now.file)) (sym at) (headless_torn c.heads.log.end (v c.args.log.now.file) here (λ payloads has. ((inv.counted v told).each payloads has).at))
+
+pub returns-in-None-clause-damaged : goal.returns-in-None-clause-damaged
+returns-in-None-clause-damaged g c = λ p e v told.
+    let inv = c.heads.invariant in
+    let same : c.in-Ok-Some.found.place ≡ p = cc in
+    let h = rw c.in-Ok-Some.field-0-is at c.in-Ok-Some.ensures.some in
+    let at = rw c.in-Ok-Some.field-0-is at c.in-Ok-Some.ensures.place in
+    subst (λ (q : ℕ). IsHeadless q (v c.args.log.now.file)) (sym at.0 ∙ same)
+    (headless_on c.args.spots.now c.heads.log.end c.heads.before c.heads.left c.next_head.new.log.end (v c.heads.log.file) (v c.args.log.now.file) c.in-Ok-Some.found.head (ap v inv.file) (inv.counted v told) (h v (inv.leaves.now_stays ∙ told)) c.in-None.is)
+
+pub heads-preserved : goal.heads-preserved
+heads-preserved g c =
+    let inv = c.heads.invariant in
+    let h = rw c.in-Ok-Some.field-0-is at c.in-Ok-Some.ensures.some in
+    let at = rw c.in-Ok-Some.field-0-is at c.in-Ok-Some.ensures.place in
+    let wide : c.from-before.result ≡ c.in-Some.head.count = search rules in
+    let narrow : c.in-Some.head.count < 2 ^ 32 = search rules in
+    let count : c.saturating_sub-left.result ≡ c.heads.left - count_by (is_in_chunk c.heads.log.end c.heads.before c.in-Some.head.count) c.args.spots.now =
+    search rules ∙ ap (λ (n : ℕ). c.heads.left - n) (c.count_in_chunk.ensures ∙ ap (λ (q : ℕ). count_by (is_in_chunk q c.heads.before c.in-Some.head.count) c.args.spots.now) at.0) in
+    record {
+      counted = λ v told. subst (λ (n : ℕ). Left c.args.spots.now c.next_head.new.log.end (c.heads.before + n) c.saturating_sub-left.result (v c.args.log.now.file)) (sym wide)
+          (left_on c.args.spots.now c.heads.log.end c.heads.before c.heads.left c.next_head.new.log.end c.saturating_sub-left.result (v c.heads.log.file) (v c.args.log.now.file) c.in-Some.head c.in-Ok-Some.found.head (ap v inv.file) (inv.counted v told) (h v (inv.leaves.now_stays ∙ told)) c.in-Some.is count);
+      few = omega (arith, inv.few, wide, narrow, at.1);
+      small = rw c.in-Ok-Some.field-0-is at c.in-Ok-Some.ensures.small;
+      file = c.next_head.ensures.same.0 ∙ inv.file;
+      leaves = leaves_all-then g.H.Host.now g.H.Host.may g.H.Host.clock g.H.Host.since g.H.Host.said _ _ _ inv.leaves c.next_head.ensures.leaves;
+      disk_faults = omega (arith, inv.disk_faults, c.next_head.ensures.disk_faults);
+      out_faults = c.next_head.ensures.out_faults ∙ inv.out_faults;
+    }

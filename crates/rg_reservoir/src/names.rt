@@ -1,0 +1,97 @@
+ghost use Rattle.std.specs.Prelude.{◌≡◌, ◌⊎◌, ◌≤◌, ◌+◌, ◌*◌, ◌^◌, ℕ, List, IfOk, IfErr, IsErrOf, length, count_by};
+ghost use Rattle.std.specs.Option.{ForSome};
+ghost use Rattle.rg_bytes.specs.Counts.{Rose};
+ghost use Rattle.rg_host.specs.Moments.{LeavesAll};
+ghost use Rattle.rg_frame.specs.Frames.{HasPayloads};
+ghost use Rattle.rg_log.specs.Spots.{is_in_chunk, is_at_end, named_by_heads};
+ghost use Rattle.rg_reservoir.specs.Naming.{Left, IsHeadless};
+
+use crate::fault::ReservoirFault;
+use crate::heads::next_head;
+use rg_frame::FrameLog;
+use rg_host::Host;
+use rg_past::Spot;
+
+/// How many of the spots name an event of a chunk, or what follows it. The chunk stands at that place, behind so many events.
+fn count_in_chunk(spots: &[Spot], place: u64, before: u128, count: u32) -> usize
+    requires { before ≤ 2 ^ 100 }
+    ensures { result ≡ count_by (is_in_chunk place before count) spots.now }
+{
+    spots
+        .iter()
+        .filter(|spot| {
+            spot.place == place
+                && spot.index <= count
+                && u128::from(spot.number) == before + u128::from(spot.index)
+        })
+        .count()
+}
+
+/// How many of the spots name the end, which is at that place, behind so many events.
+fn count_at_end(spots: &[Spot], place: u64, before: u128) -> usize
+    ensures { result ≡ count_by (is_at_end place before) spots.now }
+{
+    spots
+        .iter()
+        .filter(|spot| {
+            spot.place == place && spot.index == 0 && u128::from(spot.number) == before
+        })
+        .count()
+}
+
+/// Goes over the heads of the chunks from the log's end on, and answers how many of the spots name nothing.
+fn count_behind<H: Host>(
+    log: &mut FrameLog,
+    host: &mut H,
+    spots: &[Spot],
+) -> Result<usize, ReservoirFault>
+    requires small { log.old.end ≤ 2 ^ 62 }
+    requires begun { ForSome (H.now host.old) (λ v. Left spots.now log.old.end 0 (length spots.now) (v log.old.file)) }
+    ensures counted { IfOk result (λ left. ForSome (H.now host.old) (λ v. (payloads : List (List ℕ)) → HasPayloads payloads (v log.old.file)
+        → left + count_by (named_by_heads payloads) spots.now ≡ length spots.now)) }
+    ensures damaged { (p : ℕ) → IsErrOf result (ReservoirFault.Damaged p) → ForSome (H.now host.old) (λ v. IsHeadless p (v log.old.file)) }
+    ensures faults { IfErr result (λ fault. (fault ≡ ReservoirFault.Disk) ⊎ ((p : ℕ) × (fault ≡ ReservoirFault.Damaged p))) }
+    ensures leaves { LeavesAll H.now H.may H.clock H.since H.said host.old host.new }
+    ensures disk { IsErrOf result ReservoirFault.Disk → Rose (H.disk_faults host.old) (H.disk_faults host.new) }
+    ensures disk_faults { H.disk_faults host.old ≤ H.disk_faults host.new }
+    ensures out_faults { H.out_faults host.new ≡ H.out_faults host.old }
+{
+    let mut left = spots.len();
+    let mut before: u128 = 0;
+    'heads: loop {
+        let found = match next_head(log, host) {
+            Ok(Some(found)) => found,
+            Ok(None) => {
+                return Ok(left.saturating_sub(count_at_end(spots, log.end(), before)));
+            }
+            Err(fault) => return Err(ReservoirFault::from(fault)),
+        };
+        let head = match found.head {
+            Some(head) => head,
+            None => return Err(ReservoirFault::Damaged(found.place)),
+        };
+        left = left.saturating_sub(count_in_chunk(spots, found.place, before, head.count));
+        before += u128::from(head.count);
+    }
+}
+
+/// Goes over the frames of file 2, and answers how many of the spots name nothing by the heads of its chunks. It takes no
+/// memory.
+pub fn count_unnamed<H: Host>(host: &mut H, spots: &[Spot]) -> Result<usize, ReservoirFault>
+    ensures counted { IfOk result (λ left. ForSome (H.now host.old) (λ v. (payloads : List (List ℕ)) → HasPayloads payloads (v 2)
+        → left + count_by (named_by_heads payloads) spots.now ≡ length spots.now)) }
+    ensures damaged { (p : ℕ) → IsErrOf result (ReservoirFault.Damaged p) → ForSome (H.now host.old) (λ v. IsHeadless p (v 2)) }
+    ensures faults { IfErr result (λ fault. (fault ≡ ReservoirFault.Disk) ⊎ ((p : ℕ) × (fault ≡ ReservoirFault.Damaged p))) }
+    ensures leaves { LeavesAll H.now H.may H.clock H.since H.said host.old host.new }
+    ensures disk { IsErrOf result ReservoirFault.Disk → Rose (H.disk_faults host.old) (H.disk_faults host.new) }
+    ensures disk_faults { H.disk_faults host.old ≤ H.disk_faults host.new }
+    ensures out_faults { H.out_faults host.new ≡ H.out_faults host.old }
+{
+    let mut log = FrameLog::new(2);
+    match next_head(&mut log, host) {
+        Ok(Some(_)) => {}
+        Ok(None) => return Ok(spots.len()),
+        Err(fault) => return Err(ReservoirFault::from(fault)),
+    }
+    count_behind(&mut log, host, spots)
+}

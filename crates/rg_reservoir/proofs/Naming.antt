@@ -31,6 +31,7 @@ use Rattle.rg_reservoir.proofs.Chains.{some_none}
 use Rattle.rg_reservoir.proofs.Committing.{log_at}
 use Rattle.rg_reservoir.proofs.Firsts.{one_payload}
 use Rattle.rg_reservoir.proofs.Counting.{count_either, count_none, counted_all, all_counted}
+use Rattle.rg_reservoir.proofs.Listing.{listed}
 use Rattle.rg_reservoir.proofs.Spelled.{spelled_there, spelled_here}
 
 behind_chunk : (place before next : ℕ) (spot : Spot) (o : Option ℕ) (further : ℕ → Bool) → place < next → ((behind : ℕ) → further behind ≡ true → next ≤ spot.place) → named_at place before spot o further ≡ true → place ≤ spot.place
@@ -152,6 +153,14 @@ left_end spots place before left less bytes same is l log count payloads has =
     let none : payload_at place same ≡ None = (log_at l.front place same (subst (λ (b : List ℕ). IsLog l.front place b) is (log l.front (subst (λ (b : List ℕ). Begins l.front place b) (sym is) l.begins)))).none in
     let ends : count_by (named_from place before one.at.rest) spots ≡ count_by (is_at_end place before) spots = ap (λ (r : List (List ℕ)). count_by (named_from place before r) spots) (none_is payloads place same one.at has none) in
     omega (arith, count, ends, one.count, count_by-le-length (named_by_heads payloads) spots)
+
+-- and the frames are the frame list
+pub left_listed : (spots : List Spot) (place before left : ℕ) (bytes same : List ℕ) → bytes ≡ same → Left spots place before left same → ((payloads : List (List ℕ)) → Begins payloads place bytes → IsLog payloads place bytes) → place ≤ 2 ^ 62 → (payloads : List (List ℕ)) × HasPayloads payloads same
+left_listed spots place before left bytes same is l log small =
+    (l.front, listed l.front place same (subst (λ (b : List ℕ). IsLog l.front place b) is (log l.front (subst (λ (b : List ℕ). Begins l.front place b) (sym is) l.begins))) small)
+
+pub none_listed : (place : ℕ) (bytes : List ℕ) → place ≡ 0 → ((payloads : List (List ℕ)) → Begins payloads place bytes → IsLog payloads place bytes) → (payloads : List (List ℕ)) × HasPayloads payloads bytes
+none_listed place bytes start log = ([], listed [] place bytes (log [] (record { rest = bytes; ends = sym start; is = refl; goes = inl refl })) (omega (arith, start)))
 
 -- a torn frame, and one without a head
 pub headless_torn : (place : ℕ) (bytes : List ℕ) → IsTorn place bytes → ((payloads : List (List ℕ)) → HasPayloads payloads bytes → Reached payloads place) → IsHeadless place bytes

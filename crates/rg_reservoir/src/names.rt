@@ -1,4 +1,4 @@
-ghost use Rattle.std.specs.Prelude.{◌≡◌, ◌⊎◌, ◌≤◌, ◌+◌, ◌*◌, ◌^◌, ℕ, List, IfOk, IfErr, IsErrOf, length, count_by};
+ghost use Rattle.std.specs.Prelude.{◌≡◌, ◌⊎◌, ◌≤◌, ◌+◌, ◌*◌, ◌^◌, ℕ, List, IfOk, IfErr, OnOk, IsErrOf, length, count_by};
 ghost use Rattle.std.specs.Option.{ForSome};
 ghost use Rattle.rg_bytes.specs.Counts.{Rose};
 ghost use Rattle.rg_host.specs.Moments.{LeavesAll};
@@ -49,6 +49,7 @@ fn count_behind<H: Host>(
     requires begun { ForSome (H.now host.old) (λ v. Left spots.now log.old.end 0 (length spots.now) (v log.old.file)) }
     ensures counted { IfOk result (λ left. ForSome (H.now host.old) (λ v. (payloads : List (List ℕ)) → HasPayloads payloads (v log.old.file)
         → left + count_by (named_by_heads payloads) spots.now ≡ length spots.now)) }
+    ensures lists { OnOk result (ForSome (H.now host.old) (λ v. (payloads : List (List ℕ)) × HasPayloads payloads (v log.old.file))) }
     ensures damaged { (p : ℕ) → IsErrOf result (ReservoirFault.Damaged p) → ForSome (H.now host.old) (λ v. IsHeadless p (v log.old.file)) }
     ensures faults { IfErr result (λ fault. (fault ≡ ReservoirFault.Disk) ⊎ ((p : ℕ) × (fault ≡ ReservoirFault.Damaged p))) }
     ensures leaves { LeavesAll H.now H.may H.clock H.since H.said host.old host.new }
@@ -80,6 +81,7 @@ fn count_behind<H: Host>(
 pub fn count_unnamed<H: Host>(host: &mut H, spots: &[Spot]) -> Result<usize, ReservoirFault>
     ensures counted { IfOk result (λ left. ForSome (H.now host.old) (λ v. (payloads : List (List ℕ)) → HasPayloads payloads (v 2)
         → left + count_by (named_by_heads payloads) spots.now ≡ length spots.now)) }
+    ensures lists { OnOk result (ForSome (H.now host.old) (λ v. (payloads : List (List ℕ)) × HasPayloads payloads (v 2))) }
     ensures damaged { (p : ℕ) → IsErrOf result (ReservoirFault.Damaged p) → ForSome (H.now host.old) (λ v. IsHeadless p (v 2)) }
     ensures faults { IfErr result (λ fault. (fault ≡ ReservoirFault.Disk) ⊎ ((p : ℕ) × (fault ≡ ReservoirFault.Damaged p))) }
     ensures leaves { LeavesAll H.now H.may H.clock H.since H.said host.old host.new }

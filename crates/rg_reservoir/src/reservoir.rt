@@ -324,6 +324,8 @@ impl Reservoir {
         ensures untouched { (base self.old).ended ≡ false → (base self.old).committed ≤ spot.old.number → OnErr result ⊥ × (self.new ≡ self.old) × (host.new ≡ host.old) }
         ensures hit { (base self.old).ended ≡ false → spot.old.number < (base self.old).committed → IsTrue (holds_place spot.old.place (cache_of self.old)) → next_in (item_at spot.old.place (cache_of self.old)) spot.old.index ≡ None
             → OnErr result ⊥ × (loads_of self.new ≡ loads_of self.old) × (H.reads host.new ≡ H.reads host.old) }
+        ensures hit_next { (next : ℕ) → (base self.old).ended ≡ false → spot.old.number < (base self.old).committed → IsTrue (holds_place spot.old.place (cache_of self.old)) → next_in (item_at spot.old.place (cache_of self.old)) spot.old.index ≡ Some next
+            → IsTrue (holds_place next (cache_of self.old)) → OnErr result ⊥ × (loads_of self.new ≡ loads_of self.old) × (H.reads host.new ≡ H.reads host.old) }
         ensures ended { IsErrOf result ReservoirFault.Ended ↔ ((base self.old).ended ≡ true) }
         ensures faults { IfErr result (λ fault. (fault ≡ ReservoirFault.Disk) ⊎ (fault ≡ ReservoirFault.Memory) ⊎ ((p : ℕ) × (fault ≡ ReservoirFault.Damaged p)) ⊎ (fault ≡ ReservoirFault.Ended)) }
         ensures damaged { (p : ℕ) → IsErrOf result (ReservoirFault.Damaged p) → ForSome (H.now host.old) (λ v. IsIllegal (base self.old).shape.fields p (v (base self.old).file)) }
@@ -382,10 +384,13 @@ impl Reservoir {
         ensures disk { IsErrOf result ReservoirFault.Disk → Rose (H.disk_faults host.old) (H.disk_faults host.new) }
         ensures faults { IfErr result (λ fault. (fault ≡ ReservoirFault.Disk) ⊎ (fault ≡ ReservoirFault.Memory) ⊎ ((p : ℕ) × (fault ≡ ReservoirFault.Damaged p)) ⊎ (fault ≡ ReservoirFault.Ended)) }
 
-        // No memory and no read where the chunk is held, and no call on the host for the open one.
+        // No memory and no read where the chunk is held, with the next one where the spot stands behind its last event, and
+        // no call on the host for the open one.
         ensures untouched { (base self.old).ended ≡ false → (base self.old).committed ≤ spot.old.number → OnErr result ⊥ × (host.new ≡ host.old) }
         ensures hit { (base self.old).ended ≡ false → spot.old.number < (base self.old).committed → IsTrue (holds_place spot.old.place (cache_of self.old)) → next_in (item_at spot.old.place (cache_of self.old)) spot.old.index ≡ None
             → OnErr result ⊥ × (H.reads host.new ≡ H.reads host.old) }
+        ensures hit_next { (next : ℕ) → (base self.old).ended ≡ false → spot.old.number < (base self.old).committed → IsTrue (holds_place spot.old.place (cache_of self.old)) → next_in (item_at spot.old.place (cache_of self.old)) spot.old.index ≡ Some next
+            → IsTrue (holds_place next (cache_of self.old)) → OnErr result ⊥ × (H.reads host.new ≡ H.reads host.old) }
 
         ensures leaves { LeavesAll H.now H.may H.clock H.since H.said host.old host.new }
         ensures disk_faults { H.disk_faults host.old ≤ H.disk_faults host.new }
@@ -463,6 +468,7 @@ impl Reservoir {
         // Over any image that is told, by the heads in it; over a sound reservoir, these are the spelled spots.
         ensures named { (v : Image) (payloads : List (List ℕ)) → H.now host.old ≡ Some v → HasPayloads payloads (v 2)
             → IfOk result (λ named. IsTrue named ↔ All (IsNamed payloads (base self.now).committed) spots.now) }
+        ensures listed { (v : Image) → H.now host.old ≡ Some v → IfOk result (λ named. IsTrue named → (payloads : List (List ℕ)) × HasPayloads payloads (v 2)) }
         ensures spelled { IsSound (H.now host.old) (H.may host.old) self.now → IfOk result (λ named. IsTrue named ↔ All (Spells (H.now host.old) (base self.now) (opened self.now)) spots.now) }
         ensures within { IfOk result (λ named. IsTrue named → All (λ spot. spot.number ≤ (base self.now).committed) spots.now) }
 

@@ -10,7 +10,7 @@ use Rattle.rg_log.specs.Spots.{is_in_chunk, is_at_end}
 use Rattle.rg_reservoir.specs.Naming.{Left, IsHeadless}
 use Rattle.rg_reservoir.specs.declared.fault.ReservoirFault.TheVariants.{Damaged}
 use Rattle.rg_reservoir.proofs.Causes.{from_damaged, torn_at}
-use Rattle.rg_reservoir.proofs.Naming.{left_on, left_end, headless_torn, headless_on}
+use Rattle.rg_reservoir.proofs.Naming.{left_on, left_end, left_listed, headless_torn, headless_on}
 use Rattle.rg_reservoir.proofs.names.count_behind.Goals as goal
 
 pub returns-in-Ok-None-clause-counted : goal.returns-in-Ok-None-clause-counted
@@ -60,3 +60,9 @@ heads-preserved g c =
       disk_faults = omega (arith, inv.disk_faults, c.next_head.ensures.disk_faults);
       out_faults = c.next_head.ensures.out_faults ∙ inv.out_faults;
     }
+
+pub returns-in-Ok-None-clause-lists : goal.returns-in-Ok-None-clause-lists
+returns-in-Ok-None-clause-lists g c = λ v told.
+    let inv = c.heads.invariant in
+    let h = rw c.in-Ok-None.field-0-is at c.in-Ok-None.ensures.none in
+    left_listed c.args.spots.now c.heads.log.end c.heads.before c.heads.left (v c.heads.log.file) (v c.args.log.now.file) (ap v inv.file) (inv.counted v told) (h.1 v (inv.leaves.now_stays ∙ told)) inv.small

@@ -1,4 +1,4 @@
-use Rattle.std.proofs.Common.{◌≡◌, ◌∙◌, ◌+◌, ap, sym, subst, ℕ, List, Err, Option, Some, length, refl, arith, rules, IfOk}
+use Rattle.std.proofs.Common.{◌≡◌, ◌∙◌, ◌+◌, ap, sym, subst, ℕ, List, Err, Option, Some, length, refl, arith, rules, IfOk, OnOk}
 use Rattle.std.specs.Prelude.{count_by}
 use Rattle.rg_frame.specs.Frames.{HasPayloads}
 use Rattle.rg_frame.specs.LogState.{LogState}
@@ -9,7 +9,7 @@ use Rattle.rg_log.specs.Spots.{named_by_heads}
 use Rattle.rg_reservoir.specs.Naming.{Left, IsHeadless}
 use Rattle.rg_reservoir.specs.declared.fault.ReservoirFault.TheVariants.{Damaged}
 use Rattle.rg_reservoir.proofs.Causes.{from_damaged, torn_at}
-use Rattle.rg_reservoir.proofs.Naming.{left_start, left_all, headless_torn, reached_start}
+use Rattle.rg_reservoir.proofs.Naming.{left_start, left_all, none_listed, headless_torn, reached_start}
 use Rattle.rg_reservoir.proofs.names.count_unnamed.Goals as goal
 
 pub returns-in-Ok-None-clause-counted : goal.returns-in-Ok-None-clause-counted
@@ -46,3 +46,16 @@ pub returns-clause-damaged : goal.returns-clause-damaged
 returns-clause-damaged g c = λ p e v told.
     let file : c.next_head.new.log.file ≡ 2 = c.next_head.ensures.same.0 ∙ ap (λ (l : LogState). l.file) c.new-log.ensures.fresh in
     subst (λ (f : ℕ). IsHeadless p (v f)) file (c.count_behind.ensures.damaged p e v (c.next_head.ensures.leaves.now_stays ∙ told))
+
+pub returns-in-Ok-None-clause-lists : goal.returns-in-Ok-None-clause-lists
+returns-in-Ok-None-clause-lists g c = λ v told.
+    let h = rw c.in-Ok-None.field-0-is at c.in-Ok-None.ensures.none in
+    let file : c.new-log.result.file ≡ 2 = ap (λ (l : LogState). l.file) c.new-log.ensures.fresh in
+    let start : c.new-log.result.end ≡ 0 = ap (λ (l : LogState). l.end) c.new-log.ensures.fresh in
+    subst (λ (f : ℕ). (payloads : List (List ℕ)) × HasPayloads payloads (v f)) file (none_listed c.new-log.result.end (v c.new-log.result.file) start (h.1 v told))
+
+pub returns-clause-lists : goal.returns-clause-lists
+returns-clause-lists g c =
+    let file : c.next_head.new.log.file ≡ 2 = c.next_head.ensures.same.0 ∙ ap (λ (l : LogState). l.file) c.new-log.ensures.fresh in
+    subst (λ (f : ℕ). OnOk c.count_behind.result ((v : Image) → g.H.Host.now c.args.host.now ≡ Some v → (payloads : List (List ℕ)) × HasPayloads payloads (v f))) file
+    (subst (λ (o : Option Image). OnOk c.count_behind.result ((v : Image) → o ≡ Some v → (payloads : List (List ℕ)) × HasPayloads payloads (v c.next_head.new.log.file))) c.next_head.ensures.leaves.now_stays c.count_behind.ensures.lists)

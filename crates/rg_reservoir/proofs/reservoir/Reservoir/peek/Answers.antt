@@ -23,6 +23,7 @@ returns-in-Err g c = (
     faults = c.in-Err.ensures.faults;
     untouched = λ going far. let k = c.in-Err.ensures.untouched going far in absurd k.0;
     hit = λ going near held stays. let k = c.in-Err.ensures.hit going near held stays in absurd k.0;
+    hit_next = λ next going near held turns holds. let k = c.in-Err.ensures.hit_next next going near held turns holds in absurd k.0;
     leaves = c.seek.ensures.leaves;
     disk_faults = c.seek.ensures.disk_faults;
     out_faults = c.seek.ensures.out_faults;
@@ -45,6 +46,7 @@ returns g c = (
     faults = tt;
     untouched = λ going far. (tt, (c.seek.ensures.untouched going far).2);
     hit = λ going near held stays. (tt, (c.seek.ensures.hit going near held stays).2);
+    hit_next = λ next going near held turns holds. (tt, (c.seek.ensures.hit_next next going near held turns holds).2);
     leaves = c.seek.ensures.leaves;
     disk_faults = c.seek.ensures.disk_faults;
     out_faults = c.seek.ensures.out_faults;

@@ -1,0 +1,48 @@
+-- What a stopped run and the next one cover.
+use Rattle.std.proofs.Common.{inl, inr, ℕ, ◌^◌, ◌<◌, List, ◌∷◌, ◌++◌, ap, sym, ◌∙◌, arith, append_assoc, subst}
+use Rattle.std.specs.List.{Contains}
+use Rattle.std.proofs.lemmas.List.Elements.{Contains-append_left}
+use Rattle.rg_event.specs.declared.event.Event.{Event}
+use Rattle.rg_event.specs.Rising.{next_offset, IsRising}
+use Rattle.rg_course.specs.Output.{open_line, put_before, Terms}
+use Rattle.rg_course.specs.Laws.{IsPrefixOf, MayLeave}
+use Rattle.rg_course.specs.Acknowledged.{HoldsBelow, IsAcknowledged}
+use Rattle.rg_course.specs.Stores.{Store, Course, course_of, IsNear, IsKept}
+use Rattle.rg_course.specs.Turns.{Covers}
+use Rattle.rg_course.proofs.Acknowledging.{holds_below, acknowledged}
+use Rattle.rg_course.proofs.Steps.{Item}
+use Rattle.rg_course.proofs.Covering.{one_ahead}
+
+front_then : {A : Type 0} (a b c : List A) → IsPrefixOf a b → IsPrefixOf b c → IsPrefixOf a c
+front_then a b c one two = (one.0 ++ two.0, sym (append_assoc a one.0 two.0) ∙ ap (λ l. l ++ two.0) one.1 ∙ two.1)
+
+module _ (Image : Type 0) (store : Store Image) (terms : Terms) (said : List ℕ) (held : List Event) (from first : ℕ) (lines : List Item) (put : List (List ℕ)) (v : Image) (kept : IsKept store (course_of terms said held from first lines) put v) where
+  -- the image's events are what a run may leave
+  pub kept_leaves : MayLeave terms.basis held first lines kept.events
+  kept_leaves = record { keeps = kept.keeps; begins = kept.begins }
+
+  covers_by : next_offset held < next_offset kept.events → IsNear (course_of terms said held from first lines) put kept.events → Covers terms held from first lines kept.events put
+  covers_by more (inl same) = absurd (omega (arith, more, ap next_offset same))
+  covers_by more (inr (count, reach, within, turns, answers, begins)) =
+      let one = one_ahead terms held first lines kept.events reach turns kept.keeps begins more in
+      let before = one.before count within in
+      record {
+        line = one.line;
+        next = one.next;
+        before = front_then (open_line held from ∷ put_before terms held first lines one.line) (open_line held from ∷ put_before terms held first lines count) put (before.0, ap (λ (l : List (List ℕ)). open_line held from ∷ l) before.1) answers;
+        whole = one.whole;
+      }
+
+  pub kept_covers : next_offset held < next_offset kept.events → Covers terms held from first lines kept.events put
+  kept_covers more = covers_by more kept.near
+
+-- what the store held at the start is held
+start_held : (held accepted events : List Event) → IsRising accepted → IsPrefixOf held events → IsPrefixOf events accepted → HoldsBelow (next_offset held) accepted events
+start_held held accepted events rising keeps begins e has low =
+    let among : Contains held e = holds_below held accepted (next_offset held) rising (front_then held events accepted keeps begins) (omega arith) e has low in
+    subst (λ (l : List Event). Contains l e) keeps.1 (Contains-append_left held keeps.0 e among)
+
+-- every accepted event below the number in the last `stored` line, or below what the store began with where no line has one, is in the image
+pub kept_acknowledged : (Image : Type 0) (store : Store Image) (course : Course) (put : List (List ℕ)) (v : Image) (n : ℕ) → IsRising course.accepted → n < 2 ^ 64 → (kept : IsKept store course put v) → IsAcknowledged (next_offset course.held) put n → HoldsBelow n course.accepted kept.events
+kept_acknowledged Image store course put v n rising small kept last =
+    acknowledged (next_offset course.held) put course.accepted kept.events n small kept.stored (start_held course.held course.accepted kept.events rising kept.keeps kept.begins) last

@@ -1,8 +1,7 @@
 -- The verdict on one line, and what is accepted over an empty store.
-use Rattle.std.proofs.Common.{◌≡◌, ℕ, zero, suc, ◌+◌, ◌≤◌, ◌<◌, Bool, true, cond, List, [], ◌∷◌, get_or, Option, Some, None, refl, ap, ◌∙◌, arith}
+use Rattle.std.proofs.Common.{◌≡◌, ℕ, zero, suc, ◌+◌, ◌≤◌, ◌<◌, cond, List, [], ◌∷◌, get_or, Option, Some, None, refl, ap, ◌∙◌, arith}
 use Rattle.std.proofs.lemmas.Bool.{lt-ltb, le-ltb}
 use Rattle.rg_event.specs.declared.event.Event.{Event}
-use Rattle.rg_event.specs.Rising.{next_offset}
 use Rattle.rg_reply.specs.Texts.{reply_line}
 use Rattle.rg_verdict.specs.Verdicts.{Basis, line_verdict}
 use Rattle.rg_verdict.specs.Accepted.{accepted_before, reply_to}

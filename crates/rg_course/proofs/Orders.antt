@@ -4,7 +4,7 @@ use Rattle.std.specs.List.{filter}
 use Rattle.std.proofs.lemmas.List.{append-nil}
 use Rattle.std.proofs.lemmas.Bool.{lt-ltb, le-ltb, ltb-false}
 use Rattle.rg_event.specs.declared.event.Event.{Event}
-use Rattle.rg_event.specs.Rising.{next_offset, last_time, IsRising}
+use Rattle.rg_event.specs.Rising.{next_offset, IsRising}
 use Rattle.rg_event.proofs.Rising.{IsRising-push}
 use Rattle.rg_course.proofs.Offsets.{AreFrom, from_less, next_behind}
 use Rattle.rg_course.specs.Output.{Terms}

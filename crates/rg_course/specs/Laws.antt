@@ -1,8 +1,7 @@
 -- What holds of every run.
-use Rattle.std.specs.Prelude.{◌≡◌, ℕ, ◌+◌, ◌≤◌, nat_lt, Bool, List, ◌++◌, Option}
+use Rattle.std.specs.Prelude.{◌≡◌, ℕ, ◌+◌, ◌≤◌, nat_lt, List, ◌++◌, Option}
 use Rattle.std.specs.List.{filter}
 use Rattle.rg_event.specs.declared.event.Event.{Event}
-use Rattle.rg_event.specs.declared.schema.Field.{Field}
 use Rattle.rg_event.specs.Rising.{next_offset}
 use Rattle.rg_verdict.specs.Verdicts.{Basis}
 use Rattle.rg_course.specs.Accepted.{events_after}

@@ -7,17 +7,17 @@ use Rattle.rg_course.specs.Accepted.{events_before, events_after}
 use Rattle.rg_course.specs.Output.{put_at, put_before, out, end_lines, Terms}
 use Rattle.rg_course.specs.Ahead.{events_from}
 use Rattle.rg_course.specs.Laws.{IsPrefixOf, MayLeave, Overlaps, OneAhead}
-use Rattle.rg_course.proofs.Offsets.{AreFrom, from_front, next_behind}
+use Rattle.rg_course.proofs.Offsets.{AreFrom, from_prefix, next_behind}
 use Rattle.rg_course.proofs.Steps.{Item}
 use Rattle.rg_course.proofs.Folds.{goes-append, grown, accepted-goes, accepted-all}
 use Rattle.rg_course.proofs.Resuming.{Resumed, resumed, left_behind}
 use Rattle.rg_course.proofs.Whole.{out_again, first_lines}
 
 -- of two lists that begin one list, one begins the other
-pub fronts : {A : Type 0} (a b rest more : List A) → a ++ rest ≡ b ++ more → ((c : List A) × (a ++ c ≡ b)) ⊎ ((x : A) × (c : List A) × (a ≡ b ++ x ∷ c))
-fronts [] b rest more is = inl (b, refl)
-fronts (x ∷ a) [] rest more is = inr (x, a, refl)
-fronts (x ∷ a) (y ∷ b) rest more is = elim (fronts a b rest more (cc)) [
+pub prefixes : {A : Type 0} (a b rest more : List A) → a ++ rest ≡ b ++ more → ((c : List A) × (a ++ c ≡ b)) ⊎ ((x : A) × (c : List A) × (a ≡ b ++ x ∷ c))
+prefixes [] b rest more is = inl (b, refl)
+prefixes (x ∷ a) [] rest more is = inr (x, a, refl)
+prefixes (x ∷ a) (y ∷ b) rest more is = elim (prefixes a b rest more (cc)) [
   | inl h ↦ inl (h.0, let same : x ≡ y = cc in let k : a ++ h.0 ≡ b = h.1 in cc)
   | inr h ↦ inr (h.0, h.1, let same : x ≡ y = cc in let k : a ≡ b ++ h.0 ∷ h.1 = h.2 in cc)
 ]
@@ -31,8 +31,8 @@ module _ (terms : Terms) (held : List Event) (first : ℕ) (lines : List Item) w
       let n : suc (i + d) ≡ i + suc d = omega arith in
       (more.0 ++ next, sym (append_assoc (put_before terms held first lines i) more.0 next) ∙ ap (λ l. l ++ next) more.1 ∙ ap (λ m. put_before terms held first lines m) n)
 
-  pub put_front : (i : ℕ) → i ≤ length lines → IsPrefixOf (put_before terms held first lines i) (out terms held first lines)
-  put_front i within =
+  pub put_prefix : (i : ℕ) → i ≤ length lines → IsPrefixOf (put_before terms held first lines i) (out terms held first lines)
+  put_prefix i within =
       let ends = end_lines (first + length lines) (events_after terms.basis held first lines) in
       let more = put_more i (length lines - i) in
       let n : i + (length lines - i) ≡ length lines = omega (arith, within) in
@@ -48,7 +48,7 @@ module _ (terms : Terms) (held : List Event) (first : ℕ) (lines : List Item) w
         let more = put_more at (count - at) in
         let n : at + (count - at) ≡ count = omega (arith, below) in
         let again : put_before terms held first lines at ++ more.0 ≡ put_before terms held first lines count = more.1 ∙ ap (λ m. put_before terms held first lines m) n in
-        let rest = put_front count within in
+        let rest = put_prefix count within in
         record {
           again = more.0;
           rest = rest.0;
@@ -64,12 +64,12 @@ module _ (terms : Terms) (held : List Event) (first : ℕ) (lines : List Item) w
         let n : at ≡ suc count = omega (arith, next) in
         out_again terms held first lines left leaves ∙ ap (λ m. put_before terms held first lines m ++ out terms left first lines) n
 
-    left_front : (i : ℕ) → i ≤ length lines → next_offset left ≤ first + i → (front : List Event) × (left ++ front ≡ events_from terms.basis held first (take i lines))
-    left_front i within below =
+    left_prefix : (i : ℕ) → i ≤ length lines → next_offset left ≤ first + i → (front : List Event) × (left ++ front ≡ events_from terms.basis held first (take i lines))
+    left_prefix i within below =
         let g = grown terms (events_from terms.basis held first (take i lines)) (first + length (take i lines)) (drop i lines) in
         let all : left ++ leaves.begins.0 ≡ events_from terms.basis held first (take i lines) ++ g.added =
         leaves.begins.1 ∙ accepted-all terms held first lines ∙ ap (λ l. events_from terms.basis held first l) (sym (take-append-drop i lines)) ∙ goes-append terms held first (take i lines) (drop i lines) ∙ g.is in
-        left_by i within below g.added all g.from (fronts left (events_from terms.basis held first (take i lines)) leaves.begins.0 g.added all)
+        left_by i within below g.added all g.from (prefixes left (events_from terms.basis held first (take i lines)) leaves.begins.0 g.added all)
       where
         left_by : (i : ℕ) → i ≤ length lines → next_offset left ≤ first + i → (added : List Event) → left ++ leaves.begins.0 ≡ events_from terms.basis held first (take i lines) ++ added → AreFrom (first + length (take i lines)) added →
             ((c : List Event) × (left ++ c ≡ events_from terms.basis held first (take i lines))) ⊎ ((x : Event) × (c : List Event) × (left ≡ events_from terms.basis held first (take i lines) ++ x ∷ c)) →
@@ -78,13 +78,13 @@ module _ (terms : Terms) (held : List Event) (first : ℕ) (lines : List Item) w
         left_by i within below added all from (inr (x, c, is)) =
             let es = events_from terms.basis held first (take i lines) in
             let same : (x ∷ c) ++ leaves.begins.0 ≡ added = append_cancel_left es ((x ∷ c) ++ leaves.begins.0) added (sym (append_assoc es (x ∷ c) leaves.begins.0) ∙ ap (λ l. l ++ leaves.begins.0) (sym is) ∙ all) in
-            let behind : AreFrom (first + length (take i lines)) (x ∷ c) = from_front (first + length (take i lines)) (x ∷ c) leaves.begins.0 (subst (λ l. AreFrom (first + length (take i lines)) l) (sym same) from) in
+            let behind : AreFrom (first + length (take i lines)) (x ∷ c) = from_prefix (first + length (take i lines)) (x ∷ c) leaves.begins.0 (subst (λ l. AreFrom (first + length (take i lines)) l) (sym same) from) in
             absurd (omega (arith, next_behind (first + length (take i lines)) es x c behind, ap next_offset is, length-take-le i lines within, below))
 
     -- from there on both runs stand alike
     pub accepted_alike : (i : ℕ) → i ≤ length lines → next_offset left ≤ first + i → events_before terms.basis left first lines i ≡ events_before terms.basis held first lines i
     accepted_alike i within below =
-        let front = left_front i within below in
+        let front = left_prefix i within below in
         accepted-goes terms left first lines i within
         ∙ (resumed terms held left first (take i lines) leaves.keeps.0 front.0 leaves.keeps.1 front.1).same
         ∙ sym (accepted-goes terms held first lines i within)

@@ -21,10 +21,10 @@ use Rattle.rg_course.specs.Steps.{HasInKept, IsAtRest, IsMidStep, IsStepped, IsS
 use Rattle.rg_course.specs.Turns.{IsBetween, IsStopped, IsDone}
 use Rattle.rg_course.proofs.Steps.{Item}
 use Rattle.rg_course.proofs.Offsets.{next_behind}
-use Rattle.rg_course.proofs.Orders.{rising_back, front_rising}
+use Rattle.rg_course.proofs.Orders.{rising_back, prefix_rising}
 use Rattle.rg_course.proofs.Acknowledging.{holds_below, line_among}
 use Rattle.rg_course.proofs.Folds.{accepted-all, accepted-goes, puts-goes, out-is, grown}
-use Rattle.rg_course.proofs.Texts.{ended-append, pieces_then, pieces_front, nil_front, are-append, mark_no_lf, turn_are_lines}
+use Rattle.rg_course.proofs.Texts.{ended-append, pieces_then, pieces_prefix, nil_prefix, are-append, mark_no_lf, turn_are_lines}
 use Rattle.rg_course.proofs.Marks.{contains_one, contains_none, open_not_stored, open_not_saved, line_stored, line_saved, end_stored, end_saved}
 
 -- the next offset only grows
@@ -33,25 +33,25 @@ next_grows front [] rising = omega (arith, ap next_offset (append-nil front))
 next_grows front (x ∷ back) rising = omega (arith, next_behind (next_offset front) front x back (rising_back front (x ∷ back) rising))
 
 begins_rising : (front whole : List Event) → IsPrefixOf front whole → IsRising whole → IsRising front
-begins_rising front whole begins rising = front_rising front begins.0 (subst IsRising (sym begins.1) rising)
+begins_rising front whole begins rising = prefix_rising front begins.0 (subst IsRising (sym begins.1) rising)
 
 held_more : (held stored chunk : List Event) → IsPrefixOf held stored → IsPrefixOf held (stored ++ chunk)
 held_more held stored chunk keeps = (keeps.0 ++ chunk, sym (append_assoc held keeps.0 chunk) ∙ ap (λ l. l ++ chunk) keeps.1)
 
-front_more : {A : Type 0} (a b more : List A) → IsPrefixOf a b → IsPrefixOf a (b ++ more)
-front_more a b more front = (front.0 ++ more, sym (append_assoc a front.0 more) ∙ ap (λ l. l ++ more) front.1)
+prefix_more : {A : Type 0} (a b more : List A) → IsPrefixOf a b → IsPrefixOf a (b ++ more)
+prefix_more a b more front = (front.0 ++ more, sym (append_assoc a front.0 more) ∙ ap (λ l. l ++ more) front.1)
 
 -- more was put
 near_more : (course : Course) (lines more : List (List ℕ)) (events : List Event) → IsNear course lines events → IsNear course (lines ++ more) events
 near_more course lines more events (inl same) = inl same
-near_more course lines more events (inr n) = inr (n.0, n.1, n.2, n.3, front_more (course.answers n.0) lines more n.4, n.5)
+near_more course lines more events (inr n) = inr (n.0, n.1, n.2, n.3, prefix_more (course.answers n.0) lines more n.4, n.5)
 
 module _ (Image : Type 0) (store : Store Image) (course : Course) where
   -- the image has these events, and the kept slot is as it was in one that might be left
   kept_with : (lines : List (List ℕ)) (stored events : List Event) (keep : Option ℕ) (may : Image → Type 0) (v from : Image) → IsAtRest store course lines stored keep may → may from →
       store.IsTruthful v → store.IsOfSchema v → store.HasEvents events v → IsPrefixOf events course.accepted → IsPrefixOf course.held events → IsNear course lines events → next_offset stored ≤ next_offset events →
       ((slot count : ℕ) → keep ≡ Some slot → store.HasSaved slot count from → store.HasSaved slot count v) → IsKept store course lines v
-  kept_with lines stored events keep may v from settled left truthful schema has begins keeps near grows slots = record {
+  kept_with lines stored events keep may v from at_rest left truthful schema has begins keeps near grows slots = record {
     truthful = truthful;
     schema = schema;
     events = events;
@@ -59,90 +59,90 @@ module _ (Image : Type 0) (store : Store Image) (course : Course) where
     begins = begins;
     keeps = keeps;
     near = near;
-    stored = λ n small says. holds_below events course.accepted n settled.rising begins (omega (arith, grows, settled.stored_by n small says));
-    saved = λ count small says. let h = settled.saved_by count small says in (h.1.0, slots h.1.0 count h.1.1 (h.1.2 from left));
+    stored = λ n small says. holds_below events course.accepted n at_rest.rising begins (omega (arith, grows, at_rest.stored_by n small says));
+    saved = λ count small says. let h = at_rest.saved_by count small says in (h.1.0, slots h.1.0 count h.1.1 (h.1.2 from left));
   }
 
-  pub settled_kept : (lines : List (List ℕ)) (stored : List Event) (keep : Option ℕ) (may : Image → Type 0) (v : Image) → IsAtRest store course lines stored keep may → may v → IsKept store course lines v
-  settled_kept lines stored keep may v settled left =
-      kept_with lines stored stored keep may v v settled left (settled.truthful v left) (settled.schema v left) (settled.has v left) settled.begins settled.keeps settled.near (omega arith) (λ slot count is has. has)
+  pub rest_kept : (lines : List (List ℕ)) (stored : List Event) (keep : Option ℕ) (may : Image → Type 0) (v : Image) → IsAtRest store course lines stored keep may → may v → IsKept store course lines v
+  rest_kept lines stored keep may v at_rest left =
+      kept_with lines stored stored keep may v v at_rest left (at_rest.truthful v left) (at_rest.schema v left) (at_rest.has v left) at_rest.begins at_rest.keeps at_rest.near (omega arith) (λ slot count is has. has)
 
   -- a step on the disk: the log gets a chunk, or a slot is written
-  pub within_kept : (lines : List (List ℕ)) (stored chunk : List Event) (keep : Option ℕ) (may : Image → Type 0) (v : Image) → IsAtRest store course lines stored keep may → IsPrefixOf (stored ++ chunk) course.accepted → IsNear course lines (stored ++ chunk) → IsMidStep store keep chunk may v → IsKept store course lines v
-  within_kept lines stored chunk keep may v settled begins near w =
-      let truthful = w.truthful (settled.truthful w.from w.left) in
-      let schema = w.schema (settled.schema w.from w.left) in
-      elim (w.events stored (settled.has w.from w.left)) [
-        | inl has ↦ kept_with lines stored stored keep may v w.from settled w.left truthful schema has settled.begins settled.keeps settled.near (omega arith) w.slots
-        | inr has ↦ kept_with lines stored (stored ++ chunk) keep may v w.from settled w.left truthful schema has begins (held_more course.held stored chunk settled.keeps) near (next_grows stored chunk (begins_rising (stored ++ chunk) course.accepted begins settled.rising)) w.slots
+  pub mid_step_kept : (lines : List (List ℕ)) (stored chunk : List Event) (keep : Option ℕ) (may : Image → Type 0) (v : Image) → IsAtRest store course lines stored keep may → IsPrefixOf (stored ++ chunk) course.accepted → IsNear course lines (stored ++ chunk) → IsMidStep store keep chunk may v → IsKept store course lines v
+  mid_step_kept lines stored chunk keep may v at_rest begins near w =
+      let truthful = w.truthful (at_rest.truthful w.from w.left) in
+      let schema = w.schema (at_rest.schema w.from w.left) in
+      elim (w.events stored (at_rest.has w.from w.left)) [
+        | inl has ↦ kept_with lines stored stored keep may v w.from at_rest w.left truthful schema has at_rest.begins at_rest.keeps at_rest.near (omega arith) w.slots
+        | inr has ↦ kept_with lines stored (stored ++ chunk) keep may v w.from at_rest w.left truthful schema has begins (held_more course.held stored chunk at_rest.keeps) near (next_grows stored chunk (begins_rising (stored ++ chunk) course.accepted begins at_rest.rising)) w.slots
       ]
 
   -- once the chunk is stored
-  pub after_settled : (lines : List (List ℕ)) (stored chunk : List Event) (keep : Option ℕ) (may next : Image → Type 0) → IsAtRest store course lines stored keep may → IsPrefixOf (stored ++ chunk) course.accepted → IsNear course lines (stored ++ chunk) → ((v : Image) → next v → IsStepped store keep chunk may v) → IsAtRest store course lines (stored ++ chunk) keep next
-  after_settled lines stored chunk keep may next settled begins near after = record {
-    truthful = λ v left. let a = after v left in a.truthful (settled.truthful a.from a.left);
-    schema = λ v left. let a = after v left in a.schema (settled.schema a.from a.left);
-    has = λ v left. let a = after v left in a.events stored (settled.has a.from a.left);
-    rising = settled.rising;
+  pub after_step : (lines : List (List ℕ)) (stored chunk : List Event) (keep : Option ℕ) (may next : Image → Type 0) → IsAtRest store course lines stored keep may → IsPrefixOf (stored ++ chunk) course.accepted → IsNear course lines (stored ++ chunk) → ((v : Image) → next v → IsStepped store keep chunk may v) → IsAtRest store course lines (stored ++ chunk) keep next
+  after_step lines stored chunk keep may next at_rest begins near after = record {
+    truthful = λ v left. let a = after v left in a.truthful (at_rest.truthful a.from a.left);
+    schema = λ v left. let a = after v left in a.schema (at_rest.schema a.from a.left);
+    has = λ v left. let a = after v left in a.events stored (at_rest.has a.from a.left);
+    rising = at_rest.rising;
     begins = begins;
-    keeps = held_more course.held stored chunk settled.keeps;
+    keeps = held_more course.held stored chunk at_rest.keeps;
     near = near;
-    stored_by = λ n small says. omega (arith, settled.stored_by n small says, next_grows stored chunk (begins_rising (stored ++ chunk) course.accepted begins settled.rising));
-    saved_by = λ count small says. let h = settled.saved_by count small says in
+    stored_by = λ n small says. omega (arith, at_rest.stored_by n small says, next_grows stored chunk (begins_rising (stored ++ chunk) course.accepted begins at_rest.rising));
+    saved_by = λ count small says. let h = at_rest.saved_by count small says in
         (omega (arith, h.0, length-append stored chunk), (h.1.0, h.1.1, λ v left. let a = after v left in a.slots h.1.0 count h.1.1 (h.1.2 a.from a.left)));
   }
 
   -- once a checkpoint of all that is stored is saved
-  pub saved_settled : (lines : List (List ℕ)) (stored : List Event) (keep : Option ℕ) (slot : ℕ) (may next : Image → Type 0) → IsAtRest store course lines stored keep may → ((v : Image) → next v → IsSavedTo store slot (length stored) may v) → IsAtRest store course lines stored (Some slot) next
-  saved_settled lines stored keep slot may next settled saved = record {
-    truthful = λ v left. let a = saved v left in a.truthful (settled.truthful a.from a.left);
-    schema = λ v left. let a = saved v left in a.schema (settled.schema a.from a.left);
-    has = λ v left. let a = saved v left in a.events stored (settled.has a.from a.left);
-    rising = settled.rising;
-    begins = settled.begins;
-    keeps = settled.keeps;
-    near = settled.near;
-    stored_by = settled.stored_by;
-    saved_by = λ count small says. let h = settled.saved_by count small says in
+  pub after_save : (lines : List (List ℕ)) (stored : List Event) (keep : Option ℕ) (slot : ℕ) (may next : Image → Type 0) → IsAtRest store course lines stored keep may → ((v : Image) → next v → IsSavedTo store slot (length stored) may v) → IsAtRest store course lines stored (Some slot) next
+  after_save lines stored keep slot may next at_rest saved = record {
+    truthful = λ v left. let a = saved v left in a.truthful (at_rest.truthful a.from a.left);
+    schema = λ v left. let a = saved v left in a.schema (at_rest.schema a.from a.left);
+    has = λ v left. let a = saved v left in a.events stored (at_rest.has a.from a.left);
+    rising = at_rest.rising;
+    begins = at_rest.begins;
+    keeps = at_rest.keeps;
+    near = at_rest.near;
+    stored_by = at_rest.stored_by;
+    saved_by = λ count small says. let h = at_rest.saved_by count small says in
         (h.0, (slot, refl, λ v left. store.has_fewer slot count (length stored) v h.0 (saved v left).saved));
   }
 
   -- fewer images may be left
-  pub settled_fewer : (lines : List (List ℕ)) (stored : List Event) (keep : Option ℕ) (may next : Image → Type 0) → IsAtRest store course lines stored keep may → ((v : Image) → next v → may v) → IsAtRest store course lines stored keep next
-  settled_fewer lines stored keep may next settled fewer = record {
-    truthful = λ v left. settled.truthful v (fewer v left);
-    schema = λ v left. settled.schema v (fewer v left);
-    has = λ v left. settled.has v (fewer v left);
-    rising = settled.rising;
-    begins = settled.begins;
-    keeps = settled.keeps;
-    near = settled.near;
-    stored_by = settled.stored_by;
-    saved_by = λ count small says. let h = settled.saved_by count small says in (h.0, (h.1.0, h.1.1, λ v left. h.1.2 v (fewer v left)));
+  pub rest_fewer : (lines : List (List ℕ)) (stored : List Event) (keep : Option ℕ) (may next : Image → Type 0) → IsAtRest store course lines stored keep may → ((v : Image) → next v → may v) → IsAtRest store course lines stored keep next
+  rest_fewer lines stored keep may next at_rest fewer = record {
+    truthful = λ v left. at_rest.truthful v (fewer v left);
+    schema = λ v left. at_rest.schema v (fewer v left);
+    has = λ v left. at_rest.has v (fewer v left);
+    rising = at_rest.rising;
+    begins = at_rest.begins;
+    keeps = at_rest.keeps;
+    near = at_rest.near;
+    stored_by = at_rest.stored_by;
+    saved_by = λ count small says. let h = at_rest.saved_by count small says in (h.0, (h.1.0, h.1.1, λ v left. h.1.2 v (fewer v left)));
   }
 
   -- more lines were put, whose marks hold
-  pub settled_more : (lines more : List (List ℕ)) (stored : List Event) (keep : Option ℕ) (may : Image → Type 0) → IsAtRest store course lines stored keep may → MarksHold store stored keep may more → IsAtRest store course (lines ++ more) stored keep may
-  settled_more lines more stored keep may settled marks = record {
-    truthful = settled.truthful;
-    schema = settled.schema;
-    has = settled.has;
-    rising = settled.rising;
-    begins = settled.begins;
-    keeps = settled.keeps;
-    near = near_more course lines more stored settled.near;
+  pub rest_more : (lines more : List (List ℕ)) (stored : List Event) (keep : Option ℕ) (may : Image → Type 0) → IsAtRest store course lines stored keep may → MarksHold store stored keep may more → IsAtRest store course (lines ++ more) stored keep may
+  rest_more lines more stored keep may at_rest marks = record {
+    truthful = at_rest.truthful;
+    schema = at_rest.schema;
+    has = at_rest.has;
+    rising = at_rest.rising;
+    begins = at_rest.begins;
+    keeps = at_rest.keeps;
+    near = near_more course lines more stored at_rest.near;
     stored_by = λ n small says. elim (Contains-append_cases lines more (mark_line (Stored n)) says) [
-      | inl old ↦ settled.stored_by n small old
+      | inl old ↦ at_rest.stored_by n small old
       | inr new ↦ marks.stored_by n small new
     ];
     saved_by = λ count small says. elim (Contains-append_cases lines more (mark_line (Saved count)) says) [
-      | inl old ↦ settled.saved_by count small old
+      | inl old ↦ at_rest.saved_by count small old
       | inr new ↦ marks.saved_by count small new
     ];
   }
 
-  pub marks_front : (front whole : List (List ℕ)) (stored : List Event) (keep : Option ℕ) (may : Image → Type 0) → IsPrefixOf front whole → MarksHold store stored keep may whole → MarksHold store stored keep may front
-  marks_front front whole stored keep may begins marks = record {
+  pub marks_prefix : (front whole : List (List ℕ)) (stored : List Event) (keep : Option ℕ) (may : Image → Type 0) → IsPrefixOf front whole → MarksHold store stored keep may whole → MarksHold store stored keep may front
+  marks_prefix front whole stored keep may begins marks = record {
     stored_by = λ n small says. marks.stored_by n small (among (mark_line (Stored n)) says);
     saved_by = λ count small says. marks.saved_by count small (among (mark_line (Saved count)) says);
   }
@@ -152,9 +152,9 @@ module _ (Image : Type 0) (store : Store Image) (course : Course) where
 
   -- while lines are put
   pub put_kept : (lines more : List (List ℕ)) (part : List ℕ) (stored : List Event) (keep : Option ℕ) (may : Image → Type 0) (v : Image) → IsAtRest store course lines stored keep may → AreLines lines → AreLines more → MarksHold store stored keep may more → IsPrefix part (ended more) → may v → IsKept store course (whole_pieces (ended lines ++ part)) v
-  put_kept lines more part stored keep may v settled are are_more marks front left =
+  put_kept lines more part stored keep may v at_rest are are_more marks front left =
       subst (λ (l : List (List ℕ)). IsKept store course l v) (sym (pieces_then lines part are))
-      (settled_kept (lines ++ whole_pieces part) stored keep may v (settled_more lines (whole_pieces part) stored keep may settled (marks_front (whole_pieces part) more stored keep may (pieces_front more part are_more front) marks)) left)
+      (rest_kept (lines ++ whole_pieces part) stored keep may v (rest_more lines (whole_pieces part) stored keep may at_rest (marks_prefix (whole_pieces part) more stored keep may (pieces_prefix more part are_more front) marks)) left)
 
   -- Moments
 
@@ -162,29 +162,29 @@ module _ (Image : Type 0) (store : Store Image) (course : Course) where
   lines_whole lines are = ap (λ (t : List ℕ). whole_pieces t) (sym (append-nil (ended lines))) ∙ pieces_then lines [] are ∙ append-nil lines
 
   -- within a step on the disk
-  pub holds_within : (lines after : List (List ℕ)) (stored chunk : List Event) (keep : Option ℕ) (may : Image → Type 0) (last : List ℕ) (v : Image) (said : List ℕ) → IsAtRest store course lines stored keep may → IsPrefixOf (stored ++ chunk) course.accepted → IsNear course lines (stored ++ chunk) → AreLines lines → lines ++ after ≡ course.text →
+  pub on_course_mid_step : (lines after : List (List ℕ)) (stored chunk : List Event) (keep : Option ℕ) (may : Image → Type 0) (last : List ℕ) (v : Image) (said : List ℕ) → IsAtRest store course lines stored keep may → IsPrefixOf (stored ++ chunk) course.accepted → IsNear course lines (stored ++ chunk) → AreLines lines → lines ++ after ≡ course.text →
       IsMidStep store keep chunk may v → said ≡ course.said ++ ended lines → IsOnCourse store course last v said
-  holds_within lines after stored chunk keep may last v said settled begins near are text w is = record {
+  on_course_mid_step lines after stored chunk keep may last v said at_rest begins near are text w is = record {
     put = ended lines;
     since = is;
     text = inl (ended after, sym (ended-append lines after) ∙ ap ended text);
-    kept = subst (λ (l : List (List ℕ)). IsKept store course l v) (sym (lines_whole lines are)) (within_kept lines stored chunk keep may v settled begins near w);
+    kept = subst (λ (l : List (List ℕ)). IsKept store course l v) (sym (lines_whole lines are)) (mid_step_kept lines stored chunk keep may v at_rest begins near w);
   }
 
   -- between steps
-  pub holds_settled : (lines after : List (List ℕ)) (stored : List Event) (keep : Option ℕ) (may : Image → Type 0) (last : List ℕ) (v : Image) (said : List ℕ) → IsAtRest store course lines stored keep may → AreLines lines → lines ++ after ≡ course.text →
+  pub on_course_at_rest : (lines after : List (List ℕ)) (stored : List Event) (keep : Option ℕ) (may : Image → Type 0) (last : List ℕ) (v : Image) (said : List ℕ) → IsAtRest store course lines stored keep may → AreLines lines → lines ++ after ≡ course.text →
       may v → said ≡ course.said ++ ended lines → IsOnCourse store course last v said
-  holds_settled lines after stored keep may last v said settled are text left is = record {
+  on_course_at_rest lines after stored keep may last v said at_rest are text left is = record {
     put = ended lines;
     since = is;
     text = inl (ended after, sym (ended-append lines after) ∙ ap ended text);
-    kept = subst (λ (l : List (List ℕ)). IsKept store course l v) (sym (lines_whole lines are)) (settled_kept lines stored keep may v settled left);
+    kept = subst (λ (l : List (List ℕ)). IsKept store course l v) (sym (lines_whole lines are)) (rest_kept lines stored keep may v at_rest left);
   }
 
   -- while lines of the text are put
-  pub holds_put : (lines more after : List (List ℕ)) (stored : List Event) (keep : Option ℕ) (may : Image → Type 0) (last : List ℕ) (v : Image) (said : List ℕ) → IsAtRest store course lines stored keep may → AreLines lines → AreLines more → lines ++ (more ++ after) ≡ course.text →
+  pub on_course_put : (lines more after : List (List ℕ)) (stored : List Event) (keep : Option ℕ) (may : Image → Type 0) (last : List ℕ) (v : Image) (said : List ℕ) → IsAtRest store course lines stored keep may → AreLines lines → AreLines more → lines ++ (more ++ after) ≡ course.text →
       MarksHold store stored keep may more → may v → IsPartWay (course.said ++ ended lines) (ended more) said → IsOnCourse store course last v said
-  holds_put lines more after stored keep may last v said settled are are_more text marks left way =
+  on_course_put lines more after stored keep may last v said at_rest are are_more text marks left way =
       let part = way.0 in
       let rest = way.1.0 in
       record {
@@ -196,31 +196,31 @@ module _ (Image : Type 0) (store : Store Image) (course : Course) where
               ∙ ap (λ (l : List ℕ). ended lines ++ l) (sym (append_assoc part rest (ended after)) ∙ ap (λ (l : List ℕ). l ++ ended after) way.1.1 ∙ sym (ended-append more after))
               ∙ sym (ended-append lines (more ++ after)) ∙ ap ended text,
         );
-        kept = put_kept lines more part stored keep may v settled are are_more marks way.1 left;
+        kept = put_kept lines more part stored keep may v at_rest are are_more marks way.1 left;
       }
 
   -- a run that stopped
 
-  pub stopped_settled : (lines more : List (List ℕ)) (stored : List Event) (keep : Option ℕ) (may : Image → Type 0) (said : List ℕ) → IsAtRest store course lines stored keep may → AreLines lines → lines ++ more ≡ course.text → said ≡ course.said ++ ended lines → IsStopped store course may said
-  stopped_settled lines more stored keep may said settled are text is = record {
+  pub stopped_at_rest : (lines more : List (List ℕ)) (stored : List Event) (keep : Option ℕ) (may : Image → Type 0) (said : List ℕ) → IsAtRest store course lines stored keep may → AreLines lines → lines ++ more ≡ course.text → said ≡ course.said ++ ended lines → IsStopped store course may said
+  stopped_at_rest lines more stored keep may said at_rest are text is = record {
     lines = lines;
     more = more;
     said_is = is;
     are_lines = are;
     of_text = text;
-    kept = λ v left. settled_kept lines stored keep may v settled left;
+    kept = λ v left. rest_kept lines stored keep may v at_rest left;
   }
 
   -- in a step on the disk
-  pub stopped_within : (lines more : List (List ℕ)) (stored chunk : List Event) (keep : Option ℕ) (may next : Image → Type 0) (said : List ℕ) → IsAtRest store course lines stored keep may → IsPrefixOf (stored ++ chunk) course.accepted → IsNear course lines (stored ++ chunk) → AreLines lines → lines ++ more ≡ course.text → said ≡ course.said ++ ended lines →
+  pub stopped_mid_step : (lines more : List (List ℕ)) (stored chunk : List Event) (keep : Option ℕ) (may next : Image → Type 0) (said : List ℕ) → IsAtRest store course lines stored keep may → IsPrefixOf (stored ++ chunk) course.accepted → IsNear course lines (stored ++ chunk) → AreLines lines → lines ++ more ≡ course.text → said ≡ course.said ++ ended lines →
       ((v : Image) → next v → IsMidStep store keep chunk may v) → IsStopped store course next said
-  stopped_within lines more stored chunk keep may next said settled begins near are text is within = record {
+  stopped_mid_step lines more stored chunk keep may next said at_rest begins near are text is within = record {
     lines = lines;
     more = more;
     said_is = is;
     are_lines = are;
     of_text = text;
-    kept = λ v left. within_kept lines stored chunk keep may v settled begins near (within v left);
+    kept = λ v left. mid_step_kept lines stored chunk keep may v at_rest begins near (within v left);
   }
 
   -- lines that say nothing are put behind
@@ -243,22 +243,22 @@ module _ (Image : Type 0) (store : Store Image) (course : Course) where
     ];
   }
 
-  nothing_front : (front whole : List (List ℕ)) → IsPrefixOf front whole → SayNothing whole → SayNothing front
-  nothing_front front whole begins nothing = record {
+  nothing_prefix : (front whole : List (List ℕ)) → IsPrefixOf front whole → SayNothing whole → SayNothing front
+  nothing_prefix front whole begins nothing = record {
     not_stored = λ n small says. nothing.not_stored n small (subst (λ (l : List (List ℕ)). Contains l (mark_line (Stored n))) begins.1 (Contains-append_left front begins.0 (mark_line (Stored n)) says));
     not_saved = λ count small says. nothing.not_saved count small (subst (λ (l : List (List ℕ)). Contains l (mark_line (Saved count))) begins.1 (Contains-append_left front begins.0 (mark_line (Saved count)) says));
   }
 
   -- while the last line of a status is put
-  pub holds_last : (ends : List (List ℕ)) (may : Image → Type 0) (old : List ℕ) (v : Image) (said : List ℕ) → IsStopped store course may old → AreLines ends → SayNothing ends → may v → IsPartWay old (ended ends) said → IsOnCourse store course (ended ends) v said
-  holds_last ends may old v said stop are_ends nothing left way =
+  pub on_course_last : (ends : List (List ℕ)) (may : Image → Type 0) (old : List ℕ) (v : Image) (said : List ℕ) → IsStopped store course may old → AreLines ends → SayNothing ends → may v → IsPartWay old (ended ends) said → IsOnCourse store course (ended ends) v said
+  on_course_last ends may old v said stop are_ends nothing left way =
       let part = way.0 in
       record {
         put = ended stop.lines ++ part;
         since = way.2 ∙ ap (λ (l : List ℕ). l ++ part) stop.said_is ∙ append_assoc course.said (ended stop.lines) part;
         text = inr (part, way.1, record { lines = stop.lines; more = stop.more; of_text = stop.of_text; is = refl });
         kept = subst (λ (l : List (List ℕ)). IsKept store course l v) (sym (pieces_then stop.lines part stop.are_lines))
-            (kept_more stop.lines (whole_pieces part) v (stop.kept v left) (nothing_front (whole_pieces part) ends (pieces_front ends part are_ends way.1) nothing));
+            (kept_more stop.lines (whole_pieces part) v (stop.kept v left) (nothing_prefix (whole_pieces part) ends (pieces_prefix ends part are_ends way.1) nothing));
       }
 
   -- the last checkpoint that a line says is saved is in a slot
@@ -267,11 +267,11 @@ module _ (Image : Type 0) (store : Store Image) (course : Course) where
 
   wider : (text : List (List ℕ)) (last put : List ℕ) → IsPut text [] put → IsPut text last put
   wider text last put (inl front) = inl front
-  wider text last put (inr (part, front, stops)) = inr ([], (last, refl), record { lines = stops.lines; more = stops.more; of_text = stops.of_text; is = stops.is ∙ ap (λ (p : List ℕ). ended stops.lines ++ p) (nil_front part front.0 front.1) })
+  wider text last put (inr (part, front, stops)) = inr ([], (last, refl), record { lines = stops.lines; more = stops.more; of_text = stops.of_text; is = stops.is ∙ ap (λ (p : List ℕ). ended stops.lines ++ p) (nil_prefix part front.0 front.1) })
 
   -- whatever the last line
-  pub holds_wider : (last : List ℕ) (v : Image) (said : List ℕ) → IsOnCourse store course [] v said → IsOnCourse store course last v said
-  holds_wider last v said h = record { put = h.put; since = h.since; text = wider course.text last h.put h.text; kept = h.kept }
+  pub on_course_wider : (last : List ℕ) (v : Image) (said : List ℕ) → IsOnCourse store course [] v said → IsOnCourse store course last v said
+  on_course_wider last v said h = record { put = h.put; since = h.since; text = wider course.text last h.put h.text; kept = h.kept }
 
   pub promised : (start : Image → Type 0) (last : List ℕ) (v : Image) (said : List ℕ) → ((u : Image) → start u → store.IsTruthful u) → IsOnCourseSince store course start last v said → Promised store course start last v said
   promised start last v said all (inl (begun, way)) = record {
@@ -357,7 +357,7 @@ module _ (Image : Type 0) (store : Store Image) (course : Course) where
       (b : IsBetween store terms course events offset (item ∷ items) old old_keep old_may said) → IsAtRest store course b.lines stored keep may → IsPrefixOf stored (after_line terms.basis events offset item) →
       MarksHold store stored keep may (lines_for terms events offset item) → ((v : Image) → next v → may v) → now ≡ said ++ ended (lines_for terms events offset item) →
       IsBetween store terms course (after_line terms.basis events offset item) (offset + 1) items stored keep next now
-  between_next terms events offset item items old stored old_keep keep old_may may next said now b settled of marks fewer is =
+  between_next terms events offset item items old stored old_keep keep old_may may next said now b at_rest of marks fewer is =
       let more = lines_for terms events offset item in
       record {
         lines = b.lines ++ more;
@@ -374,7 +374,7 @@ module _ (Image : Type 0) (store : Store Image) (course : Course) where
         events_ahead = λ i within.
             let n : b.count + suc i ≡ b.count + 1 + i = omega arith in
             ap course.events (sym n) ∙ b.events_ahead (suc i) (omega (arith, within));
-        settled = settled_fewer (b.lines ++ more) stored keep may next (settled_more b.lines more stored keep may settled marks) fewer;
+        at_rest = rest_fewer (b.lines ++ more) stored keep may next (rest_more b.lines more stored keep may at_rest marks) fewer;
       }
 
   -- the events so far begin those of the course
@@ -384,20 +384,20 @@ module _ (Image : Type 0) (store : Store Image) (course : Course) where
   -- after the last line, once all is stored and put
   pub between_done : (terms : Terms) (events : List Event) (offset : ℕ) (keep old_keep : Option ℕ) (old_may may next : Image → Type 0) (old : List Event) (said now : List ℕ) → (b : IsBetween store terms course events offset [] old old_keep old_may said) → IsAtRest store course b.lines events keep may → ((v : Image) → next v → may v) →
       now ≡ said ++ ended (end_lines offset events) → IsDone store course next now
-  between_done terms events offset keep old_keep old_may may next old said now b settled fewer is =
+  between_done terms events offset keep old_keep old_may may next old said now b at_rest fewer is =
       let n : offset ≡ offset + 0 = omega arith in
       record {
         said_is = is ∙ ap (λ (l : List ℕ). l ++ ended (end_lines offset events)) b.said_is ∙ append_assoc course.said (ended b.lines) (ended (end_lines offset events))
             ∙ ap (λ (l : List ℕ). course.said ++ l) (sym (ended-append b.lines (end_lines offset events)) ∙ ap (λ k. ended (b.lines ++ end_lines k events)) n ∙ ap ended b.text);
-        truthful = λ v left. settled.truthful v (fewer v left);
-        has = λ v left. subst (λ (es : List Event). store.HasEvents es v) b.accepted (settled.has v (fewer v left));
+        truthful = λ v left. at_rest.truthful v (fewer v left);
+        has = λ v left. subst (λ (es : List Event). store.HasEvents es v) b.accepted (at_rest.has v (fewer v left));
       }
 
 -- the first moment, with the open line put
 pub between_first : (Image : Type 0) (store : Store Image) (terms : Terms) (said : List ℕ) (held : List Event) (from first : ℕ) (lines : List Item) (keep : Option ℕ) (may next : Image → Type 0) (now : List ℕ) →
     IsAtRest store (course_of terms said held from first lines) [] held keep may → ((v : Image) → next v → may v) → now ≡ said ++ ended (open_line held from ∷ []) →
     IsBetween store terms (course_of terms said held from first lines) held first lines held keep next now
-between_first Image store terms said held from first lines keep may next now settled fewer is =
+between_first Image store terms said held from first lines keep may next now at_rest fewer is =
     let course = course_of terms said held from first lines in
     record {
       lines = open_line held from ∷ [];
@@ -413,5 +413,5 @@ between_first Image store terms said held from first lines keep may next now set
       events_ahead = λ i within.
           let n : i ≡ 0 + i = omega arith in
           ap (λ k. events_before terms.basis held first lines k) (sym n) ∙ accepted-goes terms held first lines i within;
-      settled = settled_fewer Image store course (open_line held from ∷ []) held keep may next (settled_more Image store course [] (open_line held from ∷ []) held keep may settled (open_marks Image store course held from held keep may)) fewer;
+      at_rest = rest_fewer Image store course (open_line held from ∷ []) held keep may next (rest_more Image store course [] (open_line held from ∷ []) held keep may at_rest (open_marks Image store course held from held keep may)) fewer;
     }

@@ -13,9 +13,9 @@ pub from_less : (m n : ℕ) (events : List Event) → m ≤ n → AreFrom n even
 from_less m n [] below from = tt
 from_less m n (x ∷ xs) below from = (omega (arith, below, from.0), from_less m n xs below from.1)
 
-pub from_front : (n : ℕ) (front back : List Event) → AreFrom n (front ++ back) → AreFrom n front
-from_front n [] back from = tt
-from_front n (x ∷ xs) back from = (from.0, from_front n xs back from.1)
+pub from_prefix : (n : ℕ) (front back : List Event) → AreFrom n (front ++ back) → AreFrom n front
+from_prefix n [] back from = tt
+from_prefix n (x ∷ xs) back from = (from.0, from_prefix n xs back from.1)
 
 pub from_back : (n : ℕ) (front back : List Event) → AreFrom n (front ++ back) → AreFrom n back
 from_back n [] back from = from

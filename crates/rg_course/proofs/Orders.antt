@@ -47,15 +47,15 @@ none_below_from : (n m : ℕ) (events : List Event) → n ≤ m → AreFrom m ev
 none_below_from n m [] below from = refl
 none_below_from n m (e ∷ events) below from = rw (le-ltb e.offset n (omega (arith, below, from.0))) (none_below_from n m events below from.1)
 
-front_by : (n : ℕ) (x : Event) (events : List Event) → IsRising (x ∷ events) → (rest : List Event) → filter (is_below n) events ++ rest ≡ events → (b : Bool) → is_below n x ≡ b → (behind : List Event) × (cond b (x ∷ filter (is_below n) events) (filter (is_below n) events) ++ behind ≡ x ∷ events)
-front_by n x events rising rest is true t = (rest, ap (λ l. x ∷ l) is)
-front_by n x events rising rest is false t = (x ∷ events, ap (λ l. l ++ x ∷ events) (none_below_from n x.offset events (ltb-false _ _ t) (rising_from x events rising)))
+prefix_by : (n : ℕ) (x : Event) (events : List Event) → IsRising (x ∷ events) → (rest : List Event) → filter (is_below n) events ++ rest ≡ events → (b : Bool) → is_below n x ≡ b → (behind : List Event) × (cond b (x ∷ filter (is_below n) events) (filter (is_below n) events) ++ behind ≡ x ∷ events)
+prefix_by n x events rising rest is true t = (rest, ap (λ l. x ∷ l) is)
+prefix_by n x events rising rest is false t = (x ∷ events, ap (λ l. l ++ x ∷ events) (none_below_from n x.offset events (ltb-false _ _ t) (rising_from x events rising)))
 
-pub below-front : (n : ℕ) (events : List Event) → IsRising events → (rest : List Event) × (filter (is_below n) events ++ rest ≡ events)
-below-front n [] rising = ([], refl)
-below-front n (x ∷ events) rising =
-    let more = below-front n events (rising_tail x events rising) in
-    front_by n x events rising more.0 more.1 (is_below n x) refl
+pub below-prefix : (n : ℕ) (events : List Event) → IsRising events → (rest : List Event) × (filter (is_below n) events ++ rest ≡ events)
+below-prefix n [] rising = ([], refl)
+below-prefix n (x ∷ events) rising =
+    let more = below-prefix n events (rising_tail x events rising) in
+    prefix_by n x events rising more.0 more.1 (is_below n x) refl
 
 -- Events behind some others.
 
@@ -92,14 +92,14 @@ below_append n (x ∷ front) back = by_test n x (filter (is_below n) front) (fil
     by_test n x front back both is true = ap (λ l. x ∷ l) is
     by_test n x front back both is false = is
 
-pub front_rising : (front back : List Event) → IsRising (front ++ back) → IsRising front
-front_rising [] back rising = tt
-front_rising (x ∷ []) back rising = tt
-front_rising (x ∷ (y ∷ front)) back rising = (rising.0, rising.1, front_rising (y ∷ front) back rising.2)
+pub prefix_rising : (front back : List Event) → IsRising (front ++ back) → IsRising front
+prefix_rising [] back rising = tt
+prefix_rising (x ∷ []) back rising = tt
+prefix_rising (x ∷ (y ∷ front)) back rising = (rising.0, rising.1, prefix_rising (y ∷ front) back rising.2)
 
-pub below-is_front : (front back : List Event) → IsRising (front ++ back) → filter (is_below (next_offset front)) (front ++ back) ≡ front
-below-is_front front back rising =
+pub below-is_prefix : (front back : List Event) → IsRising (front ++ back) → filter (is_below (next_offset front)) (front ++ back) ≡ front
+below-is_prefix front back rising =
     below_append (next_offset front) front back
-    ∙ ap (λ l. l ++ filter (is_below (next_offset front)) back) (below_all (next_offset front) front (front_rising front back rising) (omega arith))
+    ∙ ap (λ l. l ++ filter (is_below (next_offset front)) back) (below_all (next_offset front) front (prefix_rising front back rising) (omega arith))
     ∙ ap (λ l. front ++ l) (none_below_from (next_offset front) (next_offset front) back (omega arith) (rising_back front back rising))
     ∙ append-nil front

@@ -3,7 +3,7 @@ use Rattle.std.proofs.Common.{◌≡◌, ℕ, zero, suc, ◌+◌, ◌-◌, ◌�
 use Rattle.std.proofs.lemmas.List.{append-nil, append_cancel_left, nil_from_length}
 use Rattle.rg_event.specs.declared.event.Event.{Event}
 use Rattle.rg_event.specs.Rising.{next_offset}
-use Rattle.rg_course.proofs.Offsets.{AreFrom, from_front, next_behind}
+use Rattle.rg_course.proofs.Offsets.{AreFrom, from_prefix, next_behind}
 use Rattle.rg_course.specs.Output.{Terms}
 use Rattle.rg_course.specs.Ahead.{after_line, lines_for, events_from, put_from}
 use Rattle.rg_course.proofs.Steps.{Item, Adds, added, passed_over}
@@ -60,7 +60,7 @@ pub left_behind : (terms : Terms) (events : List Event) (offset : ℕ) (items : 
 left_behind terms events offset items x more rest is =
     let g = grown terms events offset items in
     let same : (x ∷ more) ++ rest ≡ g.added = append_cancel_left events ((x ∷ more) ++ rest) g.added (sym (append_assoc events (x ∷ more) rest) ∙ is ∙ g.is) in
-    from_front offset (x ∷ more) rest (subst (λ l. AreFrom offset l) (sym same) g.from)
+    from_prefix offset (x ∷ more) rest (subst (λ l. AreFrom offset l) (sym same) g.from)
 
 none_left : (events more rest : List Event) → (events ++ more) ++ rest ≡ events → more ≡ []
 none_left events more rest is = nil_from_length more (omega (arith, length-append (events ++ more) rest, length-append events more, ap length is))

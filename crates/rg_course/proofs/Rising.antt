@@ -14,7 +14,7 @@ use Rattle.rg_course.specs.Laws.{IsPrefixOf}
 use Rattle.rg_course.specs.Acknowledged.{SaysStored, SaysLast, HoldsBelow, HoldsStored}
 use Rattle.rg_course.proofs.Steps.{Item}
 use Rattle.rg_course.proofs.Folds.{goes-append, next_within, accepted-goes, take_next}
-use Rattle.rg_course.proofs.Covering.{fronts}
+use Rattle.rg_course.proofs.Covering.{prefixes}
 use Rattle.rg_course.proofs.Marks.{contains_one, contains_none, stored_injective, turn_stored, end_stored, next_small}
 
 -- no number of `front` is above one of `back`
@@ -30,7 +30,7 @@ parted_none (x ∷ a) b is = absurd (cc)
 
 -- lines that all say one number, no less than those before
 parted_more : (xs ys : List (List ℕ)) (top t : ℕ) → top ≤ t → ((a b : List (List ℕ)) → a ++ b ≡ xs → Parted a b top) → ((n : ℕ) → n < 2 ^ 64 → SaysStored ys n → n ≡ t) → (a b : List (List ℕ)) → a ++ b ≡ xs ++ ys → Parted a b t
-parted_more xs ys top t grows first all a b is = elim (fronts a xs b ys is) [
+parted_more xs ys top t grows first all a b is = elim (prefixes a xs b ys is) [
   | inl h ↦
       let p = first a h.0 h.1 in
       let back : b ≡ h.0 ++ ys = append_cancel_left a b (h.0 ++ ys) (is ∙ ap (λ l. l ++ ys) (sym h.1) ∙ append_assoc a h.0 ys) in

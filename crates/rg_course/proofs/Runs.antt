@@ -19,14 +19,14 @@ use Rattle.rg_course.specs.Steps.{IsAtRest, IsMidStep, IsStepped, MarksHold}
 use Rattle.rg_course.specs.Turns.{IsBetween, IsStopped, IsDone}
 use Rattle.rg_course.proofs.Steps.{Item}
 use Rattle.rg_course.proofs.Texts.{mark_no_lf, end_are_lines}
-use Rattle.rg_course.proofs.Keeping.{after_settled, holds_put, holds_last, holds_wider, open_marks, between_first, between_done, near_end, events_begin}
-use Rattle.rg_course.proofs.Turns.{step_holds}
+use Rattle.rg_course.proofs.Keeping.{after_step, on_course_put, on_course_last, on_course_wider, open_marks, between_first, between_done, near_end, events_begin}
+use Rattle.rg_course.proofs.Turns.{on_course_step}
 
 module _ (H : Type 0) (clock : H → ℕ) (since : H → ℕ → Moment → Type 0) (may : H → Image → Type 0) (store : Store Image) (terms : Terms) where
   -- Until a byte of the open line is put, what is left is as at the start, or the log got the schema.
   module _ (said : List ℕ) (held : List Event) (from first : ℕ) (lines : List Item) (keep : Option ℕ) (old synced opened new : H) (now : List ℕ)
       (sync : Moments clock since old synced (λ m. may old m.image × (m.said ≡ said)))
-      (settled : IsAtRest store (course_of terms said held from first lines) [] held keep (may synced))
+      (at_rest : IsAtRest store (course_of terms said held from first lines) [] held keep (may synced))
       (open' : Moments clock since synced opened (λ m. IsMidStep store keep [] (may synced) m.image × (m.said ≡ said)))
       (opens : (v : Image) → may opened v → IsStepped store keep [] (may synced) v)
       (put : Moments clock since opened new (λ m. may opened m.image × IsPartWay said (ended (open_line held from ∷ [])) m.said))
@@ -42,23 +42,23 @@ module _ (H : Type 0) (clock : H → ℕ) (since : H → ℕ → Moment → Type
     same = append-nil held
 
     begins : IsPrefixOf (held ++ []) course.accepted
-    begins = subst (λ (l : List Event). IsPrefixOf l course.accepted) (sym same) settled.begins
+    begins = subst (λ (l : List Event). IsPrefixOf l course.accepted) (sym same) at_rest.begins
 
     at_open : IsAtRest store course [] held keep (may opened)
-    at_open = subst (λ (l : List Event). IsAtRest store course [] l keep (may opened)) same (after_settled Image store course [] held [] keep (may synced) (may opened) settled begins (inl same) opens)
+    at_open = subst (λ (l : List Event). IsAtRest store course [] l keep (may opened)) same (after_step Image store course [] held [] keep (may synced) (may opened) at_rest begins (inl same) opens)
 
     nothing_said : said ≡ said ++ ended []
     nothing_said = sym (append-nil said)
 
     put_holds : (m : Moment) → may opened m.image × IsPartWay said (ended (open_line held from ∷ [])) m.said → P m
-    put_holds m p = inr (holds_put Image store course [] (open_line held from ∷ []) (out terms held first lines) held keep (may opened) [] m.image m.said at_open tt (mark_no_lf (Opened (next_offset held) (length held) from), tt) refl
+    put_holds m p = inr (on_course_put Image store course [] (open_line held from ∷ []) (out terms held first lines) held keep (may opened) [] m.image m.said at_open tt (mark_no_lf (Opened (next_offset held) (length held) from), tt) refl
         (open_marks Image store course held from held keep (may opened)) p.0 (subst (λ (l : List ℕ). IsPartWay l (ended (open_line held from ∷ [])) m.said) nothing_said p.1))
 
     pub begun : Moments clock since old new P × IsBetween store terms course held first lines held keep (may new) now
     begun =
         let one : Moments clock since old synced P = moments-weaker clock since old synced (λ m. may old m.image × (m.said ≡ said)) P sync (λ m p. inl (p.0, ([], ([], refl), p.1 ∙ sym (append-nil said)))) in
         let two : Moments clock since synced opened (StaysOnCourse store course []) =
-        step_holds H clock since may store terms course [] course.text held [] keep said synced opened settled begins (inl same) tt refl nothing_said open' in (
+        on_course_step H clock since may store terms course [] course.text held [] keep said synced opened at_rest begins (inl same) tt refl nothing_said open' in (
           moments_then clock since old opened new P (λ m. may opened m.image × IsPartWay said (ended (open_line held from ∷ [])) m.said) P (moments_then clock since old synced opened P (StaysOnCourse store course []) P one two (λ m p. p) (λ m h. inr h)) put (λ m p. p) put_holds,
           between_first Image store terms said held from first lines keep (may opened) (may new) now at_open puts said_now,
         )
@@ -85,7 +85,7 @@ module _ (H : Type 0) (clock : H → ℕ) (since : H → ℕ → Moment → Type
     all_near = near (stored ++ chunk) ([], append-nil (stored ++ chunk) ∙ all)
 
     at_committed : IsAtRest store course b.lines events keep (may committed)
-    at_committed = subst (λ (l : List Event). IsAtRest store course b.lines l keep (may committed)) all (after_settled Image store course b.lines stored chunk keep (may old) (may committed) b.settled all_begins all_near commits)
+    at_committed = subst (λ (l : List Event). IsAtRest store course b.lines l keep (may committed)) all (after_step Image store course b.lines stored chunk keep (may old) (may committed) b.at_rest all_begins all_near commits)
 
     at_saved : IsAtRest store course b.lines events kept (may saved)
     at_saved = saves at_committed
@@ -96,15 +96,15 @@ module _ (H : Type 0) (clock : H → ℕ) (since : H → ℕ → Moment → Type
         ap (λ (l : List (List ℕ)). b.lines ++ l) (append-nil (end_lines offset events)) ∙ ap (λ k. b.lines ++ end_lines k events) n ∙ b.text
 
     end_holds : (m : Moment) → may saved m.image × IsPartWay said (ended (end_lines offset events)) m.said → StaysOnCourse store course [] m
-    end_holds m p = holds_put Image store course b.lines (end_lines offset events) [] events kept (may saved) [] m.image m.said at_saved b.are_lines (end_are_lines offset events) ends_text marks p.0
+    end_holds m p = on_course_put Image store course b.lines (end_lines offset events) [] events kept (may saved) [] m.image m.said at_saved b.are_lines (end_are_lines offset events) ends_text marks p.0
         (subst (λ (l : List ℕ). IsPartWay l (ended (end_lines offset events)) m.said) b.said_is p.1)
 
     pub done : Moments clock since old new (StaysOnCourse store course []) × IsDone store course (may new) now
     done =
         let P = StaysOnCourse store course [] in
         let none : events ++ [] ≡ events = append-nil events in
-        let one : Moments clock since old committed P = step_holds H clock since may store terms course b.lines (out_from terms events offset []) stored chunk keep said old committed b.settled all_begins all_near b.are_lines b.text b.said_is commit in
-        let two : Moments clock since committed saved P = step_holds H clock since may store terms course b.lines (out_from terms events offset []) events [] keep said committed saved at_committed
+        let one : Moments clock since old committed P = on_course_step H clock since may store terms course b.lines (out_from terms events offset []) stored chunk keep said old committed b.at_rest all_begins all_near b.are_lines b.text b.said_is commit in
+        let two : Moments clock since committed saved P = on_course_step H clock since may store terms course b.lines (out_from terms events offset []) events [] keep said committed saved at_committed
         (subst (λ (l : List Event). IsPrefixOf l course.accepted) (sym none) (events_begin Image store course terms events offset [] b.accepted)) (near (events ++ []) ([], append-nil (events ++ []) ∙ none)) b.are_lines b.text b.said_is save in (
           moments_then clock since old saved new P (λ m. may saved m.image × IsPartWay said (ended (end_lines offset events)) m.said) P (moments_then clock since old committed saved P P P one two (λ m p. p) (λ m p. p)) put (λ m p. p) end_holds,
           between_done Image store course terms events offset kept keep (may old) (may saved) (may new) stored said now b at_saved puts said_now,
@@ -119,4 +119,4 @@ module _ (H : Type 0) (clock : H → ℕ) (since : H → ℕ → Moment → Type
       (put : Moments clock since stopped new (λ m. may stopped m.image × IsPartWay said (ended ends) m.said)) where
     pub told : Moments clock since begun new (StaysOnCourse store course (ended ends))
     told = moments_then clock since begun stopped new (StaysOnCourse store course []) (λ m. may stopped m.image × IsPartWay said (ended ends) m.said) (StaysOnCourse store course (ended ends)) so_far put
-        (λ m h. holds_wider Image store course (ended ends) m.image m.said h) (λ m p. holds_last Image store course ends (may stopped) said m.image m.said stop are nothing p.0 p.1)
+        (λ m h. on_course_wider Image store course (ended ends) m.image m.said h) (λ m p. on_course_last Image store course ends (may stopped) said m.image m.said stop are nothing p.0 p.1)

@@ -164,28 +164,28 @@ pieces_then (l ∷ lines) rest are =
     ∙ pieces_line l (ended lines ++ rest) are.0 ∙ ap (λ (x : List (List ℕ)). l ∷ x) (pieces_then lines rest are.1)
 
 -- a front of a line that LF ends, and of more: it holds no LF, or it is that line and a front of more
-line_front : (line tail part rest : List ℕ) → HasNoLf line → part ++ rest ≡ line ++ 10 ∷ tail → HasNoLf part ⊎ ((p : List ℕ) × (part ≡ line ++ 10 ∷ p) × (p ++ rest ≡ tail))
-line_front [] tail [] rest none is = inl tt
-line_front [] tail (a ∷ part) rest none is = inr (part, (let h : a ≡ 10 = cc in ap (λ (x : ℕ). x ∷ part) h), let h : part ++ rest ≡ tail = cc in h)
-line_front (b ∷ line) tail [] rest none is = inl tt
-line_front (b ∷ line) tail (a ∷ part) rest none is =
+line_prefix : (line tail part rest : List ℕ) → HasNoLf line → part ++ rest ≡ line ++ 10 ∷ tail → HasNoLf part ⊎ ((p : List ℕ) × (part ≡ line ++ 10 ∷ p) × (p ++ rest ≡ tail))
+line_prefix [] tail [] rest none is = inl tt
+line_prefix [] tail (a ∷ part) rest none is = inr (part, (let h : a ≡ 10 = cc in ap (λ (x : ℕ). x ∷ part) h), let h : part ++ rest ≡ tail = cc in h)
+line_prefix (b ∷ line) tail [] rest none is = inl tt
+line_prefix (b ∷ line) tail (a ∷ part) rest none is =
     let same : a ≡ b = cc in
-    elim (line_front line tail part rest none.1 (cc)) [
+    elim (line_prefix line tail part rest none.1 (cc)) [
       | inl h ↦ inl (subst (λ (c : ℕ). (c == 10) ≡ false) (sym same) none.0, h)
       | inr h ↦ inr (h.0, ap (λ (c : ℕ). c ∷ part) same ∙ ap (λ (x : List ℕ). b ∷ x) h.1, h.2)
     ]
 
-pub nil_front : (part rest : List ℕ) → part ++ rest ≡ [] → part ≡ []
-nil_front [] rest is = refl
-nil_front (a ∷ part) rest is = absurd (cc)
+pub nil_prefix : (part rest : List ℕ) → part ++ rest ≡ [] → part ≡ []
+nil_prefix [] rest is = refl
+nil_prefix (a ∷ part) rest is = absurd (cc)
 
 -- the whole lines of a front of some lines are the first of them
-pub pieces_front : (text : List (List ℕ)) (part : List ℕ) → AreLines text → IsPrefix part (ended text) → IsPrefixOf (whole_pieces part) text
-pieces_front [] part are front = ([], ap (λ (x : List ℕ). whole_pieces x ++ []) (nil_front part front.0 front.1))
-pieces_front (l ∷ text) part are front = elim (line_front l (ended text) part front.0 are.0 front.1) [
+pub pieces_prefix : (text : List (List ℕ)) (part : List ℕ) → AreLines text → IsPrefix part (ended text) → IsPrefixOf (whole_pieces part) text
+pieces_prefix [] part are front = ([], ap (λ (x : List ℕ). whole_pieces x ++ []) (nil_prefix part front.0 front.1))
+pieces_prefix (l ∷ text) part are front = elim (line_prefix l (ended text) part front.0 are.0 front.1) [
   | inl none ↦ (l ∷ text, ap (λ (x : List (List ℕ)). x ++ (l ∷ text)) (pieces_none part none))
   | inr h ↦
-      let more = pieces_front text h.0 are.1 (front.0, h.2) in
+      let more = pieces_prefix text h.0 are.1 (front.0, h.2) in
       (more.0, ap (λ (x : List ℕ). whole_pieces x ++ more.0) h.1 ∙ ap (λ (x : List (List ℕ)). x ++ more.0) (pieces_line l h.0 are.0) ∙ ap (λ (x : List (List ℕ)). l ∷ x) more.1)
 ]
 

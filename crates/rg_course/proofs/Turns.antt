@@ -19,7 +19,7 @@ use Rattle.rg_course.specs.Steps.{IsAtRest, IsMidStep, IsStepped, MarksHold}
 use Rattle.rg_course.specs.Turns.{IsBetween}
 use Rattle.rg_course.proofs.Steps.{Item}
 use Rattle.rg_course.proofs.Texts.{turn_are_lines}
-use Rattle.rg_course.proofs.Keeping.{after_settled, holds_within, holds_put, between_next, events_begin, ahead_next, near_next}
+use Rattle.rg_course.proofs.Keeping.{after_step, on_course_mid_step, on_course_put, between_next, events_begin, ahead_next, near_next}
 use Rattle.rg_course.proofs.Folds.{grown}
 
 module _ (H : Type 0) (clock : H → ℕ) (since : H → ℕ → Moment → Type 0) (may : H → Image → Type 0) (store : Store Image) (terms : Terms) (course : Course) where
@@ -27,10 +27,10 @@ module _ (H : Type 0) (clock : H → ℕ) (since : H → ℕ → Moment → Type
   abbrev Steps : Option ℕ → List Event → List ℕ → H → H → Type 0
   Steps keep chunk said old new = Moments clock since old new (λ m. IsMidStep store keep chunk (may old) m.image × (m.said ≡ said))
 
-  pub step_holds : (lines after : List (List ℕ)) (stored chunk : List Event) (keep : Option ℕ) (said : List ℕ) (old new : H) → IsAtRest store course lines stored keep (may old) → IsPrefixOf (stored ++ chunk) course.accepted → IsNear course lines (stored ++ chunk) → AreLines lines → lines ++ after ≡ course.text → said ≡ course.said ++ ended lines →
+  pub on_course_step : (lines after : List (List ℕ)) (stored chunk : List Event) (keep : Option ℕ) (said : List ℕ) (old new : H) → IsAtRest store course lines stored keep (may old) → IsPrefixOf (stored ++ chunk) course.accepted → IsNear course lines (stored ++ chunk) → AreLines lines → lines ++ after ≡ course.text → said ≡ course.said ++ ended lines →
       Steps keep chunk said old new → Moments clock since old new (StaysOnCourse store course [])
-  step_holds lines after stored chunk keep said old new settled begins near are text is moments =
-      moments-weaker clock since old new (λ m. IsMidStep store keep chunk (may old) m.image × (m.said ≡ said)) (StaysOnCourse store course []) moments (λ m p. holds_within Image store course lines after stored chunk keep (may old) [] m.image m.said settled begins near are text p.0 (p.1 ∙ is))
+  on_course_step lines after stored chunk keep said old new at_rest begins near are text is moments =
+      moments-weaker clock since old new (λ m. IsMidStep store keep chunk (may old) m.image × (m.said ≡ said)) (StaysOnCourse store course []) moments (λ m p. on_course_mid_step Image store course lines after stored chunk keep (may old) [] m.image m.said at_rest begins near are text p.0 (p.1 ∙ is))
 
   pub record Turned (events : List Event) (offset : ℕ) (item : Item) (items : List Item) (stored : List Event) (keep : Option ℕ) (old new : H) (said now : List ℕ) : Type 0 where
     pub moments : Moments clock since old new (StaysOnCourse store course [])
@@ -78,13 +78,13 @@ module _ (H : Type 0) (clock : H → ℕ) (since : H → ℕ → Moment → Type
     taken_begins = front_within (stored ++ more) (after_line terms.basis events offset item) (due, next_chunk) begins_next
 
     at_taken : IsAtRest store course b.lines (stored ++ more) keep (may taken)
-    at_taken = after_settled Image store course b.lines stored more keep (may old) (may taken) b.settled taken_begins (near (stored ++ more) (due, next_chunk)) takes
+    at_taken = after_step Image store course b.lines stored more keep (may old) (may taken) b.at_rest taken_begins (near (stored ++ more) (due, next_chunk)) takes
 
     committed_begins : IsPrefixOf ((stored ++ more) ++ late) course.accepted
     committed_begins = front_within ((stored ++ more) ++ late) (after_line terms.basis events offset item) of_due begins_next
 
     at_committed : IsAtRest store course b.lines ((stored ++ more) ++ late) keep (may committed)
-    at_committed = after_settled Image store course b.lines (stored ++ more) late keep (may taken) (may committed) at_taken committed_begins (near ((stored ++ more) ++ late) of_due) commits
+    at_committed = after_step Image store course b.lines (stored ++ more) late keep (may taken) (may committed) at_taken committed_begins (near ((stored ++ more) ++ late) of_due) commits
 
     at_saved : IsAtRest store course b.lines ((stored ++ more) ++ late) kept (may saved)
     at_saved = saves at_committed
@@ -97,16 +97,16 @@ module _ (H : Type 0) (clock : H → ℕ) (since : H → ℕ → Moment → Type
 
     put_holds : (m : Moment) → may saved m.image × IsPartWay said (ended lines) m.said → StaysOnCourse store course [] m
     put_holds m p =
-        holds_put Image store course b.lines lines (out_from terms (after_line terms.basis events offset item) (offset + 1) items) ((stored ++ more) ++ late) kept (may saved) [] m.image m.said at_saved b.are_lines
+        on_course_put Image store course b.lines lines (out_from terms (after_line terms.basis events offset item) (offset + 1) items) ((stored ++ more) ++ late) kept (may saved) [] m.image m.said at_saved b.are_lines
         (turn_are_lines terms events offset (verdict_from terms.basis (next_offset events) events offset item)) ahead marks p.0 (subst (λ (l : List ℕ). IsPartWay l (ended lines) m.said) b.said_is p.1)
 
     pub turned : Turned events offset item items ((stored ++ more) ++ late) kept old new said now
     turned =
         let out = out_from terms events offset (item ∷ items) in
         let P = StaysOnCourse store course [] in
-        let one : Moments clock since old taken P = step_holds b.lines out stored chunk keep said old taken b.settled (subst (λ (l : List Event). IsPrefixOf l course.accepted) (sym open_chunk) begins_now) (near (stored ++ chunk) (subst (λ (l : List Event). IsPrefixOf l (after_line terms.basis events offset item)) (sym open_chunk) now_begins)) b.are_lines b.text b.said_is take in
-        let two : Moments clock since taken committed P = step_holds b.lines out (stored ++ more) due keep said taken committed at_taken (subst (λ (l : List Event). IsPrefixOf l course.accepted) (sym next_chunk) begins_next) (near ((stored ++ more) ++ due) ([], append-nil ((stored ++ more) ++ due) ∙ next_chunk)) b.are_lines b.text b.said_is commit in
-        let three : Moments clock since committed saved P = step_holds b.lines out ((stored ++ more) ++ late) [] keep said committed saved at_committed (subst (λ (l : List Event). IsPrefixOf l course.accepted) (sym (append-nil ((stored ++ more) ++ late))) committed_begins) (near (((stored ++ more) ++ late) ++ []) (subst (λ (l : List Event). IsPrefixOf l (after_line terms.basis events offset item)) (sym (append-nil ((stored ++ more) ++ late))) of_due)) b.are_lines b.text b.said_is save in
+        let one : Moments clock since old taken P = on_course_step b.lines out stored chunk keep said old taken b.at_rest (subst (λ (l : List Event). IsPrefixOf l course.accepted) (sym open_chunk) begins_now) (near (stored ++ chunk) (subst (λ (l : List Event). IsPrefixOf l (after_line terms.basis events offset item)) (sym open_chunk) now_begins)) b.are_lines b.text b.said_is take in
+        let two : Moments clock since taken committed P = on_course_step b.lines out (stored ++ more) due keep said taken committed at_taken (subst (λ (l : List Event). IsPrefixOf l course.accepted) (sym next_chunk) begins_next) (near ((stored ++ more) ++ due) ([], append-nil ((stored ++ more) ++ due) ∙ next_chunk)) b.are_lines b.text b.said_is commit in
+        let three : Moments clock since committed saved P = on_course_step b.lines out ((stored ++ more) ++ late) [] keep said committed saved at_committed (subst (λ (l : List Event). IsPrefixOf l course.accepted) (sym (append-nil ((stored ++ more) ++ late))) committed_begins) (near (((stored ++ more) ++ late) ++ []) (subst (λ (l : List Event). IsPrefixOf l (after_line terms.basis events offset item)) (sym (append-nil ((stored ++ more) ++ late))) of_due)) b.are_lines b.text b.said_is save in
         record {
           moments = moments_then clock since old saved new P (λ m. may saved m.image × IsPartWay said (ended lines) m.said) P
               (moments_then clock since old committed saved P P P (moments_then clock since old taken committed P P P one two (λ m p. p) (λ m p. p)) three (λ m p. p) (λ m p. p)) put (λ m p. p) put_holds;

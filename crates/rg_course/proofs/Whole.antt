@@ -12,7 +12,7 @@ use Rattle.rg_course.specs.Laws.{IsPrefixOf, IsSuffixOf, MayLeave, below}
 use Rattle.rg_course.proofs.Steps.{Item}
 use Rattle.rg_course.proofs.Folds.{goes-append, puts-append, grown, accepted-goes, puts-goes, accepted-all, puts-all, out-is}
 use Rattle.rg_course.proofs.Resuming.{Resumed, resumed, puts-below, all_passed}
-use Rattle.rg_course.proofs.Orders.{rising-goes, count-goes, below-front, below-is_front}
+use Rattle.rg_course.proofs.Orders.{rising-goes, count-goes, below-prefix, below-is_prefix}
 
 module _ (terms : Terms) (held : List Event) (first : ℕ) where
   -- More lines.
@@ -131,14 +131,14 @@ module _ (terms : Terms) (held : List Event) (first : ℕ) where
   -- The events below their next offset are what a run may leave.
   pub may_leave : (lines : List Item) (left : List Event) → IsRising held → IsPrefixOf held left → left ≡ below (next_offset left) (events_after terms.basis held first lines) → MayLeave terms.basis held first lines left
   may_leave lines left rising keeps is =
-      let front = below-front (next_offset left) (events_after terms.basis held first lines) (accepted_rises lines rising) in
+      let front = below-prefix (next_offset left) (events_after terms.basis held first lines) (accepted_rises lines rising) in
       record { keeps = keeps; begins = (front.0, ap (λ l. l ++ front.0) is ∙ front.1) }
 
   -- And what a run may leave is the events below their next offset.
   pub left_below : (lines : List Item) (left : List Event) → IsRising held → MayLeave terms.basis held first lines left → left ≡ below (next_offset left) (events_after terms.basis held first lines)
   left_below lines left rising leaves =
       let both : IsRising (left ++ leaves.begins.0) = subst IsRising (sym leaves.begins.1) (accepted_rises lines rising) in
-      sym (below-is_front left leaves.begins.0 both) ∙ ap (λ l. below (next_offset left) l) leaves.begins.1
+      sym (below-is_prefix left leaves.begins.0 both) ∙ ap (λ l. below (next_offset left) l) leaves.begins.1
 
   -- A run over what a run may leave may leave nothing else.
   pub leaves_again : (lines : List Item) (left more : List Event) → MayLeave terms.basis held first lines left → MayLeave terms.basis left first lines more → MayLeave terms.basis held first lines more

@@ -143,3 +143,21 @@ realistic : run thirty_days [] 0 0 (codes "ts,card,merchant,amount\r\n1617235200
     ≡ codes "open 0 0 0\n0 head\n1 ok 1 1299\n2 ok 2 1649\nstored 3\nsaved 2\ndone 3 2\n"
 unfolding lines_of is_utf8 digits chars encode split_from
 realistic = refl
+
+-- a checkpoint where no commit is due
+abbrev saving_more : Terms
+saving_more = record { basis = five_minutes.basis; commit = 3; save = 2 }
+
+checkpoint_by_itself : run saving_more [] 0 0 three ≡ codes "open 0 0 0\n0 ok 1 100\n1 ok 2 300\nstored 2\nsaved 2\n2 ok 2 250\nstored 3\nstored 3\nsaved 3\ndone 3 3\n"
+unfolding lines_of is_utf8 digits chars encode split_from
+checkpoint_by_itself = refl
+
+-- the first line of the input has offset 2, and the store has the two before it
+goes_on_at_two : run five_minutes (take 2 three_events) 0 2 (codes "300000,c1,m1,50\n") ≡ codes "open 2 2 0\n2 ok 2 250\nstored 3\nsaved 3\ndone 3 3\n"
+unfolding lines_of is_utf8 digits chars encode split_from
+goes_on_at_two = refl
+
+-- a first line that is too long
+too_long : ended (text_of_run five_minutes [] 0 0 (None ∷ (Some (codes "1,c1,m1,7") ∷ []))) ≡ codes "open 0 0 0\n0 long\n1 ok 1 7\nstored 2\nsaved 1\ndone 2 1\n"
+unfolding is_utf8 digits chars encode split_from
+too_long = refl

@@ -23,7 +23,7 @@ pub record IsBetween {Image : Type 0} (store : Store Image) (terms : Terms) (cou
   pub count : ℕ
   pub answers_ahead : (i : ℕ) → i ≤ length items → (count + i ≤ course.turns) × (course.answers (count + i) ≡ lines ++ put_from terms events offset (take i items))
   pub events_ahead : (i : ℕ) → i ≤ length items → course.events (count + i) ≡ events_from terms.basis events offset (take i items)
-  pub settled : IsAtRest store course lines stored keep may
+  pub at_rest : IsAtRest store course lines stored keep may
 
 -- The run stopped between two lines, as far as what was put goes: whatever image is left, it is kept.
 pub record IsStopped {Image : Type 0} (store : Store Image) (course : Course) (may : Image → Type 0) (said : List ℕ) : Type 0 where

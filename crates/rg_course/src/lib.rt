@@ -6,19 +6,21 @@
 //! here is a law without a body.
 #![tactic(auto)]
 
-ghost use Rattle.std.specs.Prelude.{◌≡◌, ◌⊎◌, ℕ, ◌+◌, ◌-◌, ◌≤◌, ◌<◌, ◌^◌, max, List, [], ◌∷◌, ◌++◌, length, get_or, drop, Option, Some, None};
+ghost use Rattle.std.specs.Prelude.{true, ◌≡◌, ◌⊎◌, ℕ, ◌+◌, ◌-◌, ◌≤◌, ◌<◌, ◌^◌, max, List, [], ◌∷◌, ◌++◌, length, get_or, drop, Option, Some, None};
 ghost use Rattle.rg_event.specs.declared.event.Event.{Event};
 ghost use Rattle.rg_event.specs.Rising.{next_offset, IsRising};
 ghost use Rattle.rg_host.specs.Puts.{IsPrefix};
 ghost use Rattle.rg_reply.specs.Texts.{reply_line};
-ghost use Rattle.rg_verdict.specs.Verdicts.{Basis, line_verdict};
+ghost use Rattle.rg_verdict.specs.Verdicts.{Basis, Verdict, accepted_after, line_verdict};
 ghost use Rattle.rg_verdict.specs.Accepted.{accepted_before, reply_to};
 ghost use Rattle.rg_course.specs.Accepted.{verdict_from, events_before, events_after};
-ghost use Rattle.rg_course.specs.Output.{marks_of, put_at, put_before, out, unstopped, text_of_run, Terms};
+ghost use Rattle.rg_course.specs.Output.{saves, stored_line, saved_line, marks_of, put_at, put_before, out, unstopped, text_of_run, Terms};
 ghost use Rattle.rg_course.specs.Ahead.{events_from, out_from};
 ghost use Rattle.rg_course.specs.Laws.{IsPrefixOf, IsSuffixOf, MayLeave, below, AcceptAlike, Overlaps, OneAhead};
 ghost use Rattle.rg_course.specs.Acknowledged.{SaysStored, SaysSaved, SaysLast, HoldsBelow, HoldsStored, IsAcknowledged};
 ghost use Rattle.rg_course.specs.Pieces.{AreLines, whole_pieces};
+ghost use Rattle.rg_course.specs.Stores.{IsNear, course_of};
+ghost use Rattle.rg_course.specs.Turns.{Covers};
 ghost use Rattle.rg_host.specs.Lines.{ended};
 
 /// A line below the next offset of the store is passed over, and any other gets its verdict. Over an
@@ -34,6 +36,13 @@ pub fn law_line()
         put_at terms [] 0 lines i
         ≡ reply_line i (reply_to terms.basis lines i)
         ∷ marks_of terms (accepted_before terms.basis lines i) (line_verdict terms.basis (accepted_before terms.basis lines i) i (get_or lines i None)) }
+{}
+
+/// What a mark says is saved, the mark before it says is stored.
+#[tactic(auto, using(crate::proofs::Lines::saved_marks))]
+pub fn law_marks()
+    ensures saved { (terms : Terms) (events : List Event) (verdict : Verdict) → saves terms events verdict ≡ true →
+        marks_of terms events verdict ≡ stored_line (accepted_after events verdict) ∷ (saved_line (accepted_after events verdict) ∷ []) }
 {}
 
 /// What is accepted and put in all is what the first lines give, and then what is still to come.
@@ -107,7 +116,7 @@ pub fn law_first()
 {}
 
 /// No line of a text holds an LF, and what LF ends in a front of its bytes are the first of its lines.
-#[tactic(auto, using(crate::proofs::Texts::run_are_lines, crate::proofs::Texts::pieces_front))]
+#[tactic(auto, using(crate::proofs::Texts::run_are_lines, crate::proofs::Texts::pieces_prefix))]
 pub fn law_text()
     ensures lines { (terms : Terms) (held : List Event) (from first : ℕ) (lines : List (Option (List ℕ))) → AreLines (text_of_run terms held from first lines) }
     ensures front { (text : List (List ℕ)) (put : List ℕ) → AreLines text → IsPrefix put (ended text) → IsPrefixOf (whole_pieces put) text }
@@ -141,6 +150,8 @@ pub fn law_cover()
     ensures one_ahead { (terms : Terms) (held : List Event) (first : ℕ) (lines : List (Option (List ℕ))) (left : List Event) (reach : ℕ) →
         reach ≤ length lines → IsPrefixOf held left → IsPrefixOf left (events_before terms.basis held first lines reach) → next_offset held < next_offset left →
         OneAhead terms held first lines left reach }
+    ensures near { (terms : Terms) (said : List ℕ) (held : List Event) (from first : ℕ) (lines : List (Option (List ℕ))) (put : List (List ℕ)) (left : List Event) →
+        IsPrefixOf held left → next_offset held < next_offset left → IsNear (course_of terms said held from first lines) put left → Covers terms held from first lines left put }
     ensures alike { (terms : Terms) (held : List Event) (first : ℕ) (lines : List (Option (List ℕ))) (left : List Event) →
         MayLeave terms.basis held first lines left → (i : ℕ) → i ≤ length lines → next_offset left ≤ first + i →
         events_before terms.basis left first lines i ≡ events_before terms.basis held first lines i }

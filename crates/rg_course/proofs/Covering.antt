@@ -1,5 +1,5 @@
 -- What the texts of a stopped run and of the next one cover together.
-use Rattle.std.proofs.Common.{◌≡◌, ◌⊎◌, inl, inr, ℕ, zero, suc, ◌+◌, ◌-◌, ◌≤◌, ◌<◌, List, [], ◌∷◌, ◌++◌, length, take, drop, refl, ap, sym, ◌∙◌, subst, arith, append_assoc}
+use Rattle.std.proofs.Common.{◌≡◌, ◌⊎◌, inl, inr, ℕ, zero, suc, ◌+◌, ◌-◌, ◌≤◌, ◌<◌, List, [], ◌∷◌, ◌++◌, length, take, drop, ap, sym, ◌∙◌, subst, arith, append_assoc}
 use Rattle.std.proofs.lemmas.List.{append-nil, append_cancel_left, take-append-drop, length-take-le}
 use Rattle.rg_event.specs.declared.event.Event.{Event}
 use Rattle.rg_event.specs.Rising.{next_offset}
@@ -12,15 +12,7 @@ use Rattle.rg_course.proofs.Steps.{Item}
 use Rattle.rg_course.proofs.Folds.{goes-append, grown, accepted-goes, accepted-all}
 use Rattle.rg_course.proofs.Resuming.{Resumed, resumed, left_behind}
 use Rattle.rg_course.proofs.Whole.{out_again, first_lines}
-
--- of two lists that begin one list, one begins the other
-pub prefixes : {A : Type 0} (a b rest more : List A) → a ++ rest ≡ b ++ more → ((c : List A) × (a ++ c ≡ b)) ⊎ ((x : A) × (c : List A) × (a ≡ b ++ x ∷ c))
-prefixes [] b rest more is = inl (b, refl)
-prefixes (x ∷ a) [] rest more is = inr (x, a, refl)
-prefixes (x ∷ a) (y ∷ b) rest more is = elim (prefixes a b rest more (cc)) [
-  | inl h ↦ inl (h.0, let same : x ≡ y = cc in let k : a ++ h.0 ≡ b = h.1 in cc)
-  | inr h ↦ inr (h.0, h.1, let same : x ≡ y = cc in let k : a ≡ b ++ h.0 ∷ h.1 = h.2 in cc)
-]
+use Rattle.rg_course.proofs.Prefixes.{prefixes}
 
 module _ (terms : Terms) (held : List Event) (first : ℕ) (lines : List Item) where
   put_more : (i d : ℕ) → IsPrefixOf (put_before terms held first lines i) (put_before terms held first lines (i + d))

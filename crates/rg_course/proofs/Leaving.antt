@@ -1,5 +1,5 @@
 -- What a stopped run and the next one cover.
-use Rattle.std.proofs.Common.{inl, inr, ℕ, ◌^◌, ◌<◌, List, ◌∷◌, ◌++◌, ap, sym, ◌∙◌, arith, append_assoc, subst}
+use Rattle.std.proofs.Common.{inl, inr, ℕ, ◌^◌, ◌<◌, List, ◌∷◌, ap, arith, subst}
 use Rattle.std.specs.List.{Contains}
 use Rattle.std.proofs.lemmas.List.Elements.{Contains-append_left}
 use Rattle.rg_event.specs.declared.event.Event.{Event}
@@ -12,9 +12,7 @@ use Rattle.rg_course.specs.Turns.{Covers}
 use Rattle.rg_course.proofs.Acknowledging.{holds_below, acknowledged}
 use Rattle.rg_course.proofs.Steps.{Item}
 use Rattle.rg_course.proofs.Covering.{one_ahead}
-
-prefix_then : {A : Type 0} (a b c : List A) → IsPrefixOf a b → IsPrefixOf b c → IsPrefixOf a c
-prefix_then a b c one two = (one.0 ++ two.0, sym (append_assoc a one.0 two.0) ∙ ap (λ l. l ++ two.0) one.1 ∙ two.1)
+use Rattle.rg_course.proofs.Prefixes.{prefix_then}
 
 -- What an image lacks whose events came with at most one line more than were answered.
 module _ (terms : Terms) (said : List ℕ) (held : List Event) (from first : ℕ) (lines : List Item) (put : List (List ℕ)) (left : List Event) where

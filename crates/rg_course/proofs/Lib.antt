@@ -1,5 +1,6 @@
 pub mod Lines
 pub mod Alike
+pub mod Prefixes
 pub mod Offsets
 pub mod Steps
 pub mod Folds
@@ -13,6 +14,9 @@ pub mod Rising
 pub mod Texts
 pub mod Leaving
 pub mod Keeping
+pub mod Courses
+pub mod Marking
+pub mod Betweens
 pub mod Turns
 pub mod Runs
 pub mod Worked

@@ -14,7 +14,7 @@ use Rattle.rg_course.specs.Laws.{IsPrefixOf}
 use Rattle.rg_course.specs.Acknowledged.{SaysStored, SaysLast, HoldsBelow, HoldsStored}
 use Rattle.rg_course.proofs.Steps.{Item}
 use Rattle.rg_course.proofs.Folds.{goes-append, next_within, accepted-goes, take_next}
-use Rattle.rg_course.proofs.Covering.{prefixes}
+use Rattle.rg_course.proofs.Prefixes.{prefixes}
 use Rattle.rg_course.proofs.Marks.{contains_one, contains_none, stored_injective, turn_stored, end_stored, next_small}
 
 -- no number of `front` is above one of `back`

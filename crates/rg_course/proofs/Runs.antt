@@ -19,7 +19,10 @@ use Rattle.rg_course.specs.Steps.{IsAtRest, IsMidStep, IsStepped, MarksHold}
 use Rattle.rg_course.specs.Turns.{IsBetween, IsStopped, IsDone}
 use Rattle.rg_course.proofs.Steps.{Item}
 use Rattle.rg_course.proofs.Texts.{mark_no_lf, end_are_lines}
-use Rattle.rg_course.proofs.Keeping.{after_step, on_course_put, on_course_last, on_course_wider, open_marks, between_first, between_done, near_end, events_begin}
+use Rattle.rg_course.proofs.Keeping.{after_step}
+use Rattle.rg_course.proofs.Courses.{on_course_put, on_course_last, on_course_wider}
+use Rattle.rg_course.proofs.Marking.{open_marks}
+use Rattle.rg_course.proofs.Betweens.{between_first, between_done, near_end, events_begin}
 use Rattle.rg_course.proofs.Turns.{on_course_step}
 
 module _ (H : Type 0) (clock : H → ℕ) (since : H → ℕ → Moment → Type 0) (may : H → Image → Type 0) (store : Store Image) (terms : Terms) where
@@ -52,7 +55,7 @@ module _ (H : Type 0) (clock : H → ℕ) (since : H → ℕ → Moment → Type
 
     put_holds : (m : Moment) → may opened m.image × IsPartWay said (ended (open_line held from ∷ [])) m.said → P m
     put_holds m p = inr (on_course_put Image store course [] (open_line held from ∷ []) (out terms held first lines) held keep (may opened) [] m.image m.said at_open tt (mark_no_lf (Opened (next_offset held) (length held) from), tt) refl
-        (open_marks Image store course held from held keep (may opened)) p.0 (subst (λ (l : List ℕ). IsPartWay l (ended (open_line held from ∷ [])) m.said) nothing_said p.1))
+        (open_marks Image store held from held keep (may opened)) p.0 (subst (λ (l : List ℕ). IsPartWay l (ended (open_line held from ∷ [])) m.said) nothing_said p.1))
 
     pub begun : Moments clock since old new P × IsBetween store terms course held first lines held keep (may new) now
     begun =
@@ -79,7 +82,7 @@ module _ (H : Type 0) (clock : H → ℕ) (since : H → ℕ → Moment → Type
     near es front = near_end Image store course terms events offset stored keep (may old) said b es front
 
     all_begins : IsPrefixOf (stored ++ chunk) course.accepted
-    all_begins = subst (λ (l : List Event). IsPrefixOf l course.accepted) (sym all) (events_begin Image store course terms events offset [] b.accepted)
+    all_begins = subst (λ (l : List Event). IsPrefixOf l course.accepted) (sym all) (events_begin course terms events offset [] b.accepted)
 
     all_near : IsNear course b.lines (stored ++ chunk)
     all_near = near (stored ++ chunk) ([], append-nil (stored ++ chunk) ∙ all)
@@ -105,7 +108,7 @@ module _ (H : Type 0) (clock : H → ℕ) (since : H → ℕ → Moment → Type
         let none : events ++ [] ≡ events = append-nil events in
         let one : Moments clock since old committed P = on_course_step H clock since may store terms course b.lines (out_from terms events offset []) stored chunk keep said old committed b.at_rest all_begins all_near b.are_lines b.text b.said_is commit in
         let two : Moments clock since committed saved P = on_course_step H clock since may store terms course b.lines (out_from terms events offset []) events [] keep said committed saved at_committed
-        (subst (λ (l : List Event). IsPrefixOf l course.accepted) (sym none) (events_begin Image store course terms events offset [] b.accepted)) (near (events ++ []) ([], append-nil (events ++ []) ∙ none)) b.are_lines b.text b.said_is save in (
+        (subst (λ (l : List Event). IsPrefixOf l course.accepted) (sym none) (events_begin course terms events offset [] b.accepted)) (near (events ++ []) ([], append-nil (events ++ []) ∙ none)) b.are_lines b.text b.said_is save in (
           moments_then clock since old saved new P (λ m. may saved m.image × IsPartWay said (ended (end_lines offset events)) m.said) P (moments_then clock since old committed saved P P P one two (λ m p. p) (λ m p. p)) put (λ m p. p) end_holds,
           between_done Image store course terms events offset kept keep (may old) (may saved) (may new) stored said now b at_saved puts said_now,
         )

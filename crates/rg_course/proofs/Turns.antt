@@ -1,6 +1,6 @@
 -- A whole turn from its steps: the line is taken (which may commit the open chunk), what is due is committed, what is due is saved,
 -- and the lines are put. Each step is given by what a call promises of it.
-use Rattle.std.proofs.Common.{◌≡◌, ℕ, ◌+◌, List, [], ◌∷◌, ◌++◌, Option, ap, sym, ◌∙◌, subst, append_assoc}
+use Rattle.std.proofs.Common.{◌≡◌, ℕ, ◌+◌, List, [], ◌∷◌, ◌++◌, Option, ap, sym, ◌∙◌, subst}
 use Rattle.std.proofs.lemmas.List.{append-nil}
 use Rattle.rg_event.specs.declared.event.Event.{Event}
 use Rattle.rg_event.specs.Rising.{next_offset}
@@ -19,8 +19,11 @@ use Rattle.rg_course.specs.Steps.{IsAtRest, IsMidStep, IsStepped, MarksHold}
 use Rattle.rg_course.specs.Turns.{IsBetween}
 use Rattle.rg_course.proofs.Steps.{Item}
 use Rattle.rg_course.proofs.Texts.{turn_are_lines}
-use Rattle.rg_course.proofs.Keeping.{after_step, on_course_mid_step, on_course_put, between_next, events_begin, ahead_next, near_next}
+use Rattle.rg_course.proofs.Keeping.{after_step}
+use Rattle.rg_course.proofs.Courses.{on_course_mid_step, on_course_put}
+use Rattle.rg_course.proofs.Betweens.{between_next, events_begin, ahead_next, near_next}
 use Rattle.rg_course.proofs.Folds.{grown}
+use Rattle.rg_course.proofs.Prefixes.{prefix_then}
 
 module _ (H : Type 0) (clock : H → ℕ) (since : H → ℕ → Moment → Type 0) (may : H → Image → Type 0) (store : Store Image) (terms : Terms) (course : Course) where
   -- a step on the disk, whose moments say nothing new
@@ -35,9 +38,6 @@ module _ (H : Type 0) (clock : H → ℕ) (since : H → ℕ → Moment → Type
   pub record Turned (events : List Event) (offset : ℕ) (item : Item) (items : List Item) (stored : List Event) (keep : Option ℕ) (old new : H) (said now : List ℕ) : Type 0 where
     pub moments : Moments clock since old new (StaysOnCourse store course [])
     pub between : IsBetween store terms course (after_line terms.basis events offset item) (offset + 1) items stored keep (may new) now
-
-  front_within : (front events : List Event) → IsPrefixOf front events → IsPrefixOf events course.accepted → IsPrefixOf front course.accepted
-  front_within front events one two = (one.0 ++ two.0, sym (append_assoc front one.0 two.0) ∙ ap (λ l. l ++ two.0) one.1 ∙ two.1)
 
   module _ (events : List Event) (offset : ℕ) (item : Item) (items : List Item) (keep kept : Option ℕ) (old taken committed saved new : H) (stored chunk more due late : List Event) (said now : List ℕ)
       (b : IsBetween store terms course events offset (item ∷ items) stored keep (may old) said)
@@ -69,19 +69,19 @@ module _ (H : Type 0) (clock : H → ℕ) (since : H → ℕ → Moment → Type
     lines = lines_for terms events offset item
 
     begins_now : IsPrefixOf events course.accepted
-    begins_now = events_begin Image store course terms events offset (item ∷ items) b.accepted
+    begins_now = events_begin course terms events offset (item ∷ items) b.accepted
 
     begins_next : IsPrefixOf (after_line terms.basis events offset item) course.accepted
-    begins_next = events_begin Image store course terms (after_line terms.basis events offset item) (offset + 1) items b.accepted
+    begins_next = events_begin course terms (after_line terms.basis events offset item) (offset + 1) items b.accepted
 
     taken_begins : IsPrefixOf (stored ++ more) course.accepted
-    taken_begins = front_within (stored ++ more) (after_line terms.basis events offset item) (due, next_chunk) begins_next
+    taken_begins = prefix_then (stored ++ more) (after_line terms.basis events offset item) course.accepted (due, next_chunk) begins_next
 
     at_taken : IsAtRest store course b.lines (stored ++ more) keep (may taken)
     at_taken = after_step Image store course b.lines stored more keep (may old) (may taken) b.at_rest taken_begins (near (stored ++ more) (due, next_chunk)) takes
 
     committed_begins : IsPrefixOf ((stored ++ more) ++ late) course.accepted
-    committed_begins = front_within ((stored ++ more) ++ late) (after_line terms.basis events offset item) of_due begins_next
+    committed_begins = prefix_then ((stored ++ more) ++ late) (after_line terms.basis events offset item) course.accepted of_due begins_next
 
     at_committed : IsAtRest store course b.lines ((stored ++ more) ++ late) keep (may committed)
     at_committed = after_step Image store course b.lines (stored ++ more) late keep (may taken) (may committed) at_taken committed_begins (near ((stored ++ more) ++ late) of_due) commits
@@ -93,7 +93,7 @@ module _ (H : Type 0) (clock : H → ℕ) (since : H → ℕ → Moment → Type
     rest = out_from terms events offset (item ∷ items)
 
     ahead : b.lines ++ (lines ++ out_from terms (after_line terms.basis events offset item) (offset + 1) items) ≡ course.text
-    ahead = ap (λ (l : List (List ℕ)). b.lines ++ l) (sym (ahead_next Image store course terms events offset item items)) ∙ b.text
+    ahead = ap (λ (l : List (List ℕ)). b.lines ++ l) (sym (ahead_next terms events offset item items)) ∙ b.text
 
     put_holds : (m : Moment) → may saved m.image × IsPartWay said (ended lines) m.said → StaysOnCourse store course [] m
     put_holds m p =

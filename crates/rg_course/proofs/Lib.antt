@@ -19,4 +19,5 @@ pub mod Marking
 pub mod Betweens
 pub mod Turns
 pub mod Runs
+pub mod Hosts
 pub mod Worked

@@ -11,12 +11,13 @@ use Rattle.rg_course.specs.Ahead.{after_line, lines_for, events_from, put_from, 
 use Rattle.rg_course.specs.Laws.{IsPrefixOf}
 use Rattle.rg_course.specs.Stores.{Store, Course, course_of, IsNear}
 use Rattle.rg_course.specs.Steps.{IsAtRest, MarksHold}
-use Rattle.rg_course.specs.Turns.{IsBetween, IsDone}
+use Rattle.rg_course.specs.Turns.{IsBetween, IsStopped, IsDone}
 use Rattle.rg_course.proofs.Steps.{Item}
 use Rattle.rg_course.proofs.Folds.{accepted-all, accepted-goes, puts-goes, out-is, grown}
 use Rattle.rg_course.proofs.Texts.{ended-append, are-append, mark_no_lf, turn_are_lines}
 use Rattle.rg_course.proofs.Keeping.{rest_fewer, rest_more}
 use Rattle.rg_course.proofs.Marking.{open_marks}
+use Rattle.rg_course.proofs.Courses.{stopped_at_rest}
 
 -- what is still to come is what the next line gives, and then what comes behind it
 pub ahead_next : (terms : Terms) (events : List Event) (offset : ℕ) (item : Item) (items : List Item) → out_from terms events offset (item ∷ items) ≡ lines_for terms events offset item ++ out_from terms (after_line terms.basis events offset item) (offset + 1) items
@@ -48,6 +49,10 @@ module _ (Image : Type 0) (store : Store Image) (course : Course) where
       let now = b.answers_ahead 0 (omega arith) in
       let n : b.count ≡ b.count + 0 = omega arith in
       inr (b.count, b.count + 0, omega arith, now.0, ([], append-nil (course.answers b.count) ∙ ap course.answers n ∙ now.1 ∙ append-nil b.lines), subst (λ (l : List Event). IsPrefixOf es l) (sym (b.events_ahead 0 (omega arith))) front)
+
+  -- a run may stop here
+  pub between_stopped : (terms : Terms) (events : List Event) (offset : ℕ) (items : List Item) (stored : List Event) (keep : Option ℕ) (may : Image → Type 0) (said : List ℕ) → IsBetween store terms course events offset items stored keep may said → IsStopped store course may said
+  between_stopped terms events offset items stored keep may said b = stopped_at_rest Image store course b.lines (out_from terms events offset items) stored keep may said b.at_rest b.are_lines b.text b.said_is
 
   pub between_next : (terms : Terms) (events : List Event) (offset : ℕ) (item : Item) (items : List Item) (old stored : List Event) (old_keep keep : Option ℕ) (old_may may next : Image → Type 0) (said now : List ℕ) →
       (b : IsBetween store terms course events offset (item ∷ items) old old_keep old_may said) → IsAtRest store course b.lines stored keep may → IsPrefixOf stored (after_line terms.basis events offset item) →

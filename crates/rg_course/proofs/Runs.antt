@@ -20,7 +20,7 @@ use Rattle.rg_course.specs.Turns.{IsBetween, IsStopped, IsDone}
 use Rattle.rg_course.proofs.Steps.{Item}
 use Rattle.rg_course.proofs.Texts.{mark_no_lf, end_are_lines}
 use Rattle.rg_course.proofs.Keeping.{after_step}
-use Rattle.rg_course.proofs.Courses.{on_course_put, on_course_last, on_course_wider}
+use Rattle.rg_course.proofs.Courses.{on_course_put, on_course_last, on_course_wider, on_course_since_wider}
 use Rattle.rg_course.proofs.Marking.{open_marks}
 use Rattle.rg_course.proofs.Betweens.{between_first, between_done, near_end, events_begin}
 use Rattle.rg_course.proofs.Turns.{on_course_step}
@@ -123,3 +123,20 @@ module _ (H : Type 0) (clock : H → ℕ) (since : H → ℕ → Moment → Type
     pub told : Moments clock since begun new (StaysOnCourse store course (ended ends))
     told = moments_then clock since begun stopped new (StaysOnCourse store course []) (λ m. may stopped m.image × IsPartWay said (ended ends) m.said) (StaysOnCourse store course (ended ends)) so_far put
         (λ m h. on_course_wider Image store course (ended ends) m.image m.said h) (λ m p. on_course_last Image store course ends (may stopped) said m.image m.said stop are nothing p.0 p.1)
+
+  -- The same of a run that may not have opened its store.
+  module _ (course : Course) (start : Image → Type 0) (ends : List (List ℕ)) (begun stopped new : H) (said : List ℕ)
+      (so_far : Moments clock since begun stopped (StaysOnCourseSince store course start []))
+      (stop : IsStopped store course (may stopped) said)
+      (are : AreLines ends)
+      (nothing : SayNothing ends)
+      (put : Moments clock since stopped new (λ m. may stopped m.image × IsPartWay said (ended ends) m.said)) where
+    pub told_since : Moments clock since begun new (StaysOnCourseSince store course start (ended ends))
+    told_since = moments_then clock since begun stopped new (StaysOnCourseSince store course start []) (λ m. may stopped m.image × IsPartWay said (ended ends) m.said) (StaysOnCourseSince store course start (ended ends)) so_far put
+        (λ m h. on_course_since_wider Image store course start (ended ends) m.image m.said h) (λ m p. inr (on_course_last Image store course ends (may stopped) said m.image m.said stop are nothing p.0 p.1))
+
+  -- A run that stopped before it wrote: each image that might be left might have been left at the start.
+  module _ (course : Course) (start : Image → Type 0) (last : List ℕ) (begun new : H)
+      (put : Moments clock since begun new (λ m. start m.image × IsPartWay course.said last m.said)) where
+    pub told_at_start : Moments clock since begun new (StaysOnCourseSince store course start last)
+    told_at_start = moments-weaker clock since begun new (λ m. start m.image × IsPartWay course.said last m.said) (StaysOnCourseSince store course start last) put (λ m p. inl p)

@@ -1,0 +1,27 @@
+-- What is accepted is not changed by what is asked.
+use Rattle.std.proofs.Common.{◌≡◌, ℕ, zero, suc, ◌+◌, Bool, List, length, get_or, Option, None, refl, ap, sym, ◌∙◌}
+use Rattle.rg_event.specs.declared.event.Event.{Event}
+use Rattle.rg_event.specs.declared.schema.Field.{Field}
+use Rattle.rg_event.specs.Rising.{next_offset}
+use Rattle.rg_metric.specs.Queries.{Asked}
+use Rattle.rg_verdict.specs.Verdicts.{Basis}
+use Rattle.rg_course.specs.Accepted.{verdict_from, after_turn, events_before, events_after}
+use Rattle.rg_course.specs.Laws.{AcceptAlike}
+
+abbrev made : List Field → List Asked → ℕ → Bool → Basis
+made fields queries most header = record { fields = fields; queries = queries; most = most; header = header }
+
+module _ (queries : List Asked) (basis : Basis) (held : List Event) (first : ℕ) (lines : List (Option (List ℕ))) where
+  else_before : (i : ℕ) → events_before (made basis.fields queries basis.most basis.header) held first lines i ≡ events_before basis held first lines i
+  else_before zero = refl
+  else_before (suc i) = ap (λ es. after_turn es (verdict_from basis (next_offset held) es (first + i) (get_or lines i None))) (else_before i)
+
+alike : (one two : Basis) → AcceptAlike one two → made one.fields two.queries one.most one.header ≡ two
+alike one two same =
+    ap (λ x. made x two.queries one.most one.header) same.fields
+    ∙ ap (λ x. made two.fields two.queries x one.header) same.most
+    ∙ ap (λ x. made two.fields two.queries two.most x) same.header
+
+pub accepted_alike : (one two : Basis) (held : List Event) (first : ℕ) (lines : List (Option (List ℕ))) → AcceptAlike one two → events_after two held first lines ≡ events_after one held first lines
+accepted_alike one two held first lines same =
+    ap (λ (v : Basis). events_after v held first lines) (sym (alike one two same)) ∙ else_before two.queries one held first lines (length lines)

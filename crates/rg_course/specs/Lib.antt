@@ -1,0 +1,9 @@
+pub mod Accepted
+pub mod Output
+pub mod Ahead
+pub mod Laws
+pub mod Acknowledged
+pub mod Pieces
+pub mod Stores
+pub mod Steps
+pub mod Turns

@@ -1,1 +1,4 @@
 pub mod Entries
+pub mod Base
+pub mod Reading
+pub mod Writing

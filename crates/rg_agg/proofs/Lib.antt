@@ -2,3 +2,4 @@ pub mod Fields
 pub mod Sums
 pub mod Ends
 pub mod Queues
+pub mod Firsts

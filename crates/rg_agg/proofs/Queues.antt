@@ -36,7 +36,7 @@ alike_more (w ∷ ws) v are is like =
 pub alike_pushed : (numbers new : List Number) (number : Number) → new ≡ numbers ++ number ∷ [] → are_alike (map value_of numbers) ≡ true → IsNumber (value_of number) → is_like_first (value_of number) (map value_of numbers) ≡ true → are_alike (map value_of new) ≡ true
 alike_pushed numbers new number pushed are is like = rw (pushed, values_more numbers number) (alike_more (map value_of numbers) (value_of number) are is like)
 
-kinds_like : (v w : Value) → IsNumber v → value_kind v ≡ value_kind w → is_like w v ≡ true
+pub kinds_like : (v w : Value) → IsNumber v → value_kind v ≡ value_kind w → is_like w v ≡ true
 kinds_like (IntValue v) (IntValue w) is same = refl
 kinds_like (IdValue v) (IdValue w) is same = refl
 kinds_like v w is same = cc

@@ -1,13 +1,14 @@
 -- What a state stands for, by what it keeps.
-use Rattle.std.specs.Prelude.{◌≡◌, ℕ, ◌+◌, ◌<◌, ⊤, List, [], ◌∷◌, length, count_by, Option, Some, None, if◌then◌else◌}
+use Rattle.std.specs.Prelude.{◌≡◌, ℕ, ◌+◌, ◌-◌, ◌<◌, ⊤, ◌-ℤ◌, ◌*ℤ◌, true, List, [], ◌∷◌, length, count_by, Option, Some, None, if◌then◌else◌}
 use Rattle.rg_event.specs.Tagged.{value_kind}
 use Rattle.rg_event.specs.declared.value.Kind.{Kind}
 use Rattle.rg_event.specs.declared.value.Value.{Value}
 use Rattle.rg_words.specs.declared.func.Func.{Func}
 use Rattle.rg_words.specs.declared.func.Func.TheVariants.{Count, Sum, Avg, SumSq, Min, Max, CountDistinct, First, Last}
+use Rattle.rg_metric.specs.Answers.{number_of}
 use Rattle.rg_metric.specs.Same.{same_value}
-use Rattle.rg_agg.specs.Held.{Held, counted, summed, averaged, squared, queued, ended, lowest, highest, varied}
-use Rattle.rg_agg.specs.Stands.{IsTotal, IsSquareTotal, IsEnd}
+use Rattle.rg_agg.specs.Held.{Held, counted, summed, averaged, squared, queued, ended, lowest, highest, varied, is_square_sum}
+use Rattle.rg_agg.specs.Stands.{IsInt, IsTotal, IsSquareTotal, IsEnd}
 use Rattle.rg_agg.specs.Unbeaten.{IsExtreme, is_less, is_greater}
 
 -- the function whose state keeps this
@@ -97,3 +98,9 @@ Stands (ended n last) values = IsEnd n last values
 Stands (lowest n pairs) values = IsExtreme is_less n pairs values
 Stands (highest n pairs) values = IsExtreme is_greater n pairs values
 Stands (varied pairs) values = AreCounts pairs values
+
+-- a state that keeps this stands for values with this one first. Of a sum of squares only so much is said: the value is an int, and what
+-- is left without its square lies within what one square fewer can sum to
+abbrev pub MayBeginWith : Held → Value → Type 0
+MayBeginWith (squared n sum) value = IsInt value × (0 < n) × (is_square_sum (n - 1) (sum -ℤ (number_of value *ℤ number_of value)) ≡ true)
+MayBeginWith held value = (values : List Value) × Stands held (value ∷ values)

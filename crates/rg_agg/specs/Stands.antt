@@ -46,11 +46,6 @@ abbrev pub last_value : List Value → Option Value
 last_value [] = None
 last_value (value ∷ values) = Some (last_behind value values)
 
--- so many values, of which this is the last one
-pub record IsEnd (n : ℕ) (last : Option Value) (values : List Value) : Type 0 where
-  pub count : n ≡ length values
-  pub ends : last ≡ last_value values
-
 -- ints or ids in their range, each of the kind of this first one
 abbrev pub all_like : Value → List Value → Bool
 all_like first [] = true
@@ -60,6 +55,12 @@ all_like first (value ∷ values) = is_int_or_id value && (is_like first value &
 abbrev pub are_alike : List Value → Bool
 are_alike [] = true
 are_alike (value ∷ values) = is_int_or_id value && all_like value values
+
+-- so many ints, or so many ids, of which this is the last one
+pub record IsEnd (n : ℕ) (last : Option Value) (values : List Value) : Type 0 where
+  pub count : n ≡ length values
+  pub ends : last ≡ last_value values
+  pub alike : are_alike values ≡ true
 
 -- the list begins with this value
 abbrev pub begins_with : Value → List Value → Bool

@@ -1,7 +1,7 @@
 ghost use Rattle.std.specs.Prelude.{◌≡◌, ◌↔◌, ℕ, ◌+◌, ◌<◌, ◌≤◌, ◌^◌, ◌==◌, None, List, [], ◌∷◌, ◌++◌, length, IfOk, OnOk, OnErr, IsErr, IsTrue};
 ghost use Rattle.std.specs.List.{All};
 ghost use Rattle.rg_agg.specs.Held.{Held, Begins, held_bytes, Agrees, Returns};
-ghost use Rattle.rg_agg.specs.Standing.{Stands, IsLike, func_of, kind_in, size_in};
+ghost use Rattle.rg_agg.specs.Standing.{Stands, MayBeginWith, IsLike, func_of, kind_in, size_in};
 ghost use Rattle.rg_event.specs.Tagged.{value_kind};
 ghost use Rattle.rg_event.specs.declared.value.Value.{Value};
 ghost use Rattle.rg_metric.specs.Answers.{answer_of};
@@ -21,8 +21,8 @@ pub trait Aggregate {
     /// The values that it takes.
     ghost takes: { Value → Type 0 };
 
-    /// Where adding a value may take memory.
-    ghost grows: { Type 0 };
+    /// Where adding a value to a state may take memory.
+    ghost grows: { Self → Value → Type 0 };
 
     /// What a state keeps.
     ghost held: { Self → Held };
@@ -68,12 +68,14 @@ pub trait Aggregate {
         ensures ok { OnOk result ((values : List Value) → Stands (held self.old) values → Stands (held self.new) (values ++ value.now ∷ [])) }
         ensures size { OnOk result (size_in (held self.new) ≡ size_in (held self.old) + 1) }
         ensures err { OnErr result (held self.new ≡ held self.old) }
-        ensures memory { IsErr result → grows };
+        ensures memory { IsErr result → grows self.old value.now };
 
-    /// Takes the first value away. A refusal leaves the state as it was.
+    /// Takes the first value away. A refusal comes exactly of a state that stands for no list that begins with the
+    /// value, but for a sum of squares, and leaves the state as it was.
     fn remove(&mut self, value: &Value) -> Result<(), Unfit>
         ensures ok { OnOk result ((values : List Value) → Stands (held self.old) (value.now ∷ values) → Stands (held self.new) values) }
         ensures size { OnOk result (size_in (held self.old) ≡ size_in (held self.new) + 1) }
+        ensures begins { OnOk result (MayBeginWith (held self.old) value.now) }
         ensures unfit { OnErr result ((values : List Value) → Stands (held self.old) (value.now ∷ values) → ⊥) }
         ensures err { OnErr result (self.new ≡ self.old) };
 

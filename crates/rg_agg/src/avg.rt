@@ -25,7 +25,7 @@ impl Aggregate for Avg {
 
     ghost takes = { IsInt };
 
-    ghost grows = { ⊥ };
+    ghost grows = { λ _ _. ⊥ };
 
     ghost held = { λ state. averaged state.total.count state.total.sum };
 

@@ -27,7 +27,7 @@ impl Aggregate for Count {
 
     ghost takes = { λ _. ⊤ };
 
-    ghost grows = { ⊥ };
+    ghost grows = { λ _ _. ⊥ };
 
     ghost held = { λ state. counted state.count };
 

@@ -37,7 +37,7 @@ impl Aggregate for First {
 
     ghost takes = { IsNumber };
 
-    ghost grows = { ⊤ };
+    ghost grows = { λ _ _. ⊤ };
 
     ghost held = { λ state. queued (map value_of state.numbers.items) };
 

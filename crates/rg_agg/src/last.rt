@@ -1,7 +1,8 @@
-ghost use Rattle.std.specs.Prelude.{◌≡◌, ◌+◌, ◌≤◌, ◌<◌, ◌^◌, ◌++◌, Some, None, IfOk, OnOk, OnErr, IsTrue};
-ghost use Rattle.rg_agg.specs.Held.{ended, held_bytes, ended_at, Agrees};
+ghost use Rattle.std.specs.Prelude.{◌≡◌, ◌+◌, ◌≤◌, ◌<◌, ◌^◌, ◌++◌, ◌&&◌, ◌||◌, nat_lt, Some, None, IfOk, OnOk, OnErr, IsTrue};
+ghost use Rattle.rg_agg.specs.Held.{ended, held_bytes, ended_at, is_like, Agrees};
 ghost use Rattle.rg_agg.specs.Numbers.{value_of, seen, is_kept};
 ghost use Rattle.rg_bytes.specs.Keeps.{Keeps};
+ghost use Rattle.rg_metric.specs.Same.{same_value};
 
 use crate::aggregate::Aggregate;
 use crate::fault::{StateFault, Unfit};
@@ -35,7 +36,7 @@ impl Aggregate for Last {
 
     ghost takes = { IsNumber };
 
-    ghost grows = { ⊥ };
+    ghost grows = { λ _ _. ⊥ };
 
     ghost held = { λ state. ended state.count (seen state.last) };
 
@@ -90,8 +91,14 @@ impl Aggregate for Last {
         }
     }
 
-    fn remove(&mut self, _value: &Value) -> Result<(), Unfit> {
-        if self.count == 0 {
+    fn remove(&mut self, value: &Value) -> Result<(), Unfit> {
+        let Some(number) = Number::of(value) else {
+            return Err(Unfit);
+        };
+        let Some(last) = self.last else {
+            return Err(Unfit);
+        };
+        if !may_begin(self.count, last, number) {
             return Err(Unfit);
         }
         *self = without_first(self.count, self.last);
@@ -122,6 +129,14 @@ impl Aggregate for Last {
     }
 
     ghost of_func = { λ _. refl };
+}
+
+/// Whether so many values with this last one may begin with a number: it is of the last one's kind, and it is the
+/// last one itself where there is no other.
+fn may_begin(count: u64, last: Number, number: Number) -> bool
+    ensures { result ≡ (is_like (value_of last) (value_of number) && (nat_lt 1 count || same_value (value_of last) (value_of number))) }
+{
+    last.is_like(number) && (1 < count || last.is_same(number))
 }
 
 /// The state of one value fewer, of which the last one is the same, if there is one.

@@ -25,7 +25,7 @@ impl Aggregate for Sum {
 
     ghost takes = { IsInt };
 
-    ghost grows = { ⊥ };
+    ghost grows = { λ _ _. ⊥ };
 
     ghost held = { λ state. summed state.total.count state.total.sum };
 

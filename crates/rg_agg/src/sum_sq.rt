@@ -39,7 +39,7 @@ impl Aggregate for SumSq {
 
     ghost takes = { IsInt };
 
-    ghost grows = { ⊥ };
+    ghost grows = { λ _ _. ⊥ };
 
     ghost held = { λ state. squared state.count state.sum };
 

@@ -62,6 +62,7 @@ impl Total {
     pub(crate) fn remove(&mut self, value: &Value) -> Result<(), Unfit>
         ensures ok { OnOk result ((values : List Value) → IsTotal self.old.count self.old.sum (value.now ∷ values) → IsTotal self.new.count self.new.sum values) }
         ensures size { OnOk result (self.old.count ≡ self.new.count + 1) }
+        ensures begins { OnOk result ((values : List Value) × IsTotal self.old.count self.old.sum (value.now ∷ values)) }
         ensures unfit { OnErr result ((values : List Value) → IsTotal self.old.count self.old.sum (value.now ∷ values) → ⊥) }
         ensures err { OnErr result (self.new ≡ self.old) }
     {

@@ -1,8 +1,5 @@
-ghost use Rattle.std.specs.Prelude.{◌≡◌, ◌+◌, ◌<◌, ◌^◌, List, [], ◌∷◌, ◌++◌, OnOk, OnErr, IsErr};
-ghost use Rattle.rg_agg.specs.Standing.{AreCounts, IsLike, count_in, counts_sum, pairs_kind};
 ghost use Rattle.rg_distinct.specs.Varied.{IsTally-values};
 ghost use Rattle.rg_event.specs.Tagged.{IsLegal};
-ghost use Rattle.rg_event.specs.declared.value.Value.{Value as TheValue};
 ghost use Rattle.rg_tally.specs.Pairs.{IsTally};
 ghost use Rattle.rg_tally.specs.Reading.{is_before};
 
@@ -24,7 +21,8 @@ pub struct Distinct {
 }
 
 impl Aggregate for Distinct {
-    ghost use Rattle.std.specs.Prelude.{⊤, refl};
+    ghost use Rattle.std.specs.Prelude.{◌≡◌, refl};
+    ghost use Rattle.rg_agg.specs.Standing.{count_in};
     ghost use Rattle.rg_agg.specs.Held.{varied};
     ghost use Rattle.rg_distinct.specs.Varied.{varied_at};
     ghost use Rattle.rg_words.specs.declared.func.Func.TheVariants.{CountDistinct};
@@ -33,7 +31,7 @@ impl Aggregate for Distinct {
 
     ghost takes = { IsLegal };
 
-    ghost grows = { ⊤ };
+    ghost grows = { λ state value. count_in value state.tally ≡ 0 };
 
     ghost held = { λ state. varied state.tally };
 
@@ -66,16 +64,7 @@ impl Aggregate for Distinct {
         Answer::Number(i128::from(self.tally.distinct()))
     }
 
-    /// Adds a value at the back. A value that is there takes no memory; where memory runs out the state is as before.
-    fn add(&mut self, value: &Value) -> Result<(), Memory>
-        requires room { counts_sum self.old.tally < 2 ^ 40 }
-        requires takes { IsLegal value.now }
-        requires like { IsLike (pairs_kind self.old.tally) value.now }
-        ensures ok { OnOk result ((values : List TheValue) → AreCounts self.old.tally values → AreCounts self.new.tally (values ++ value.now ∷ [])) }
-        ensures size { OnOk result (counts_sum self.new.tally ≡ counts_sum self.old.tally + 1) }
-        ensures err { OnErr result (self.new.tally ≡ self.old.tally) }
-        ensures memory { IsErr result → count_in value.now self.old.tally ≡ 0 }
-    {
+    fn add(&mut self, value: &Value) -> Result<(), Memory> {
         self.tally.add(value)
     }
 

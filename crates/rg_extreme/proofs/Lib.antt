@@ -7,3 +7,4 @@ pub mod Ends
 pub mod Removals
 pub mod Additions
 pub mod ReadExtremes
+pub mod Firsts

@@ -28,7 +28,7 @@ abbrev pub AllOf : Kind → List Value → Type 0
 AllOf kind [] = ⊤
 AllOf kind (value ∷ values) = IsNumber value × (value_kind value ≡ kind) × AllOf kind values
 
-like_kind : (a b : Value) → is_like a b ≡ true → value_kind b ≡ value_kind a
+pub like_kind : (a b : Value) → is_like a b ≡ true → value_kind b ≡ value_kind a
 like_kind (Int a) (Int b) is = refl
 like_kind (Id a) (Id b) is = refl
 like_kind a b is = cc

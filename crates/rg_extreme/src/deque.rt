@@ -123,6 +123,7 @@ impl Deque {
         ensures sound { IsSound side self.new }
         ensures ok { OnOk result ((values : List Value) → StandsIn side self.old (value.now ∷ values) → StandsIn side self.new values) }
         ensures size { OnOk result (self.old.size ≡ self.new.size + 1) }
+        ensures begins { OnOk result ((values : List Value) × StandsIn side self.old (value.now ∷ values)) }
         ensures pairs { length (pairs_in self.new) ≤ length (pairs_in self.old) }
         ensures unfit { OnErr result ((values : List Value) → StandsIn side self.old (value.now ∷ values) → ⊥) }
         ensures err { OnErr result (self.new ≡ self.old) }
@@ -150,6 +151,7 @@ impl Deque {
         ensures sound { IsSound side self.new }
         ensures pairs { OnOk result (pairs_in self.new ≡ without_first (pairs_in self.old)) }
         ensures size { OnOk result (self.old.size ≡ self.new.size + 1) }
+        ensures may { OnOk result ((self.old.kept ≡ self.old.size) ⊎ (some_can_beat side (first_value (without_first (pairs_in self.old))) ≡ true)) }
         ensures more { OnErr result (self.old.kept < self.old.size) }
         ensures none { OnErr result (some_can_beat side (first_value (without_first (pairs_in self.old))) ≡ false) }
         ensures err { OnErr result (self.new ≡ self.old) }

@@ -1,5 +1,5 @@
 ghost use Rattle.std.specs.Prelude.{◌≡◌, ◌+◌, ◌<◌, ◌≤◌, ◌^◌, List, [], ◌∷◌, ◌++◌, length, OnOk, OnErr};
-ghost use Rattle.rg_agg.specs.Standing.{IsLike, Stands, kind_in, size_in};
+ghost use Rattle.rg_agg.specs.Standing.{IsLike, MayBeginWith, Stands, kind_in, size_in};
 ghost use Rattle.rg_agg.specs.Stands.{IsNumber};
 ghost use Rattle.rg_event.specs.declared.value.Value.{Value as TheValue};
 ghost use Rattle.rg_extreme.specs.Deques.{IsDeque-prop, begun, pairs_of};
@@ -70,7 +70,7 @@ impl Aggregate for Max {
 
     ghost takes = { IsNumber };
 
-    ghost grows = { ⊤ };
+    ghost grows = { λ _ _. ⊤ };
 
     ghost held = { λ state. highest state.deque.size (pairs_in state.deque) };
 
@@ -111,6 +111,7 @@ impl Aggregate for Max {
     fn remove(&mut self, value: &Value) -> Result<(), Unfit>
         ensures ok { OnOk result ((values : List TheValue) → Stands (highest self.old.deque.size (pairs_in self.old.deque)) (value.now ∷ values) → Stands (highest self.new.deque.size (pairs_in self.new.deque)) values) }
         ensures size { OnOk result (self.old.deque.size ≡ self.new.deque.size + 1) }
+        ensures begins { OnOk result (MayBeginWith (highest self.old.deque.size (pairs_in self.old.deque)) value.now) }
         ensures unfit { OnErr result ((values : List TheValue) → Stands (highest self.old.deque.size (pairs_in self.old.deque)) (value.now ∷ values) → ⊥) }
         ensures err { OnErr result (self.new ≡ self.old) }
         ensures pairs { length (pairs_in self.new.deque) ≤ length (pairs_in self.old.deque) }

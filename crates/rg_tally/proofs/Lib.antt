@@ -5,3 +5,4 @@ mod Order
 mod Among
 mod Distinct
 pub mod ReadPairs
+pub mod Listed

@@ -6,4 +6,4 @@ use Rattle.rg_agg.proofs.last.LastAggregate.add.Goals as goal
 pub returns-clause-ok : goal.returns-clause-ok
 returns-clause-ok c = λ values stands.
     let same : value_of c.in-Some.number ≡ c.args.value.now = search rules in
-    rw same (is_end_more _ _ values c.args.value.now stands)
+    rw same (is_end_more _ _ values c.args.value.now c.requires.takes c.requires.like stands)

@@ -1,6 +1,7 @@
 use Rattle.std.proofs.lemmas.Result.{on_err_weaker, on_ok_weaker}
 use Rattle.rg_event.specs.Tagged.{IsLegal}
 use Rattle.rg_tally.specs.Reading.{is_before}
+use Rattle.rg_tally.proofs.Listed.{counts_first}
 use Rattle.rg_tally.proofs.Places.{counts_less, none_first}
 use Rattle.rg_distinct.proofs.distinct.DistinctAggregate.remove.Goals as goal
 
@@ -11,3 +12,7 @@ returns-clause-ok c =
 pub returns-clause-unfit : goal.returns-clause-unfit
 returns-clause-unfit c =
     on_err_weaker c.remove.result (λ none values counts. none_first c.args.value.now c.args.self.now.tally values none counts) c.remove.ensures.unfit
+
+pub returns-clause-begins : goal.returns-clause-begins
+returns-clause-begins c =
+    on_ok_weaker c.remove.result (λ one. counts_first IsLegal c.args.value.now c.remove.new.self c.args.self.now.tally one c.remove.ensures.sound c.args.self.now.sound) c.remove.ensures.ok

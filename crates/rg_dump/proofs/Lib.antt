@@ -1,0 +1,4 @@
+pub mod Reading
+pub mod Dumping
+pub mod Quiet
+pub mod Rows

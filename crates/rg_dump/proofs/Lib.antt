@@ -2,3 +2,4 @@ pub mod Reading
 pub mod Dumping
 pub mod Quiet
 pub mod Rows
+pub mod Legal

@@ -7,10 +7,12 @@
 
 mod fault;
 mod frames;
+mod law;
 mod row;
 
 pub use fault::DumpFault;
 pub use frames::dump;
+pub use law::law_dump;
 
 #[cfg(test)]
 mod tests;

@@ -1,4 +1,4 @@
-ghost use Rattle.std.specs.Prelude.{◌≡◌, ◌⊎◌, ◌≤◌, ◌<◌, ◌+◌, ◌^◌, ◌∷◌, ℕ, List, Some, None, IfOk, IfErr, IfSome, IfNone, OnErr, IsErrOf, IsTrue, false, length};
+ghost use Rattle.std.specs.Prelude.{◌≡◌, ◌⊎◌, ◌≤◌, ◌<◌, ◌+◌, ◌^◌, ◌∷◌, ℕ, List, Some, None, IfOk, IfErr, IfSome, IfNone, OnOk, OnErr, IsErrOf, IsTrue, false, length};
 ghost use Rattle.std.specs.Option.{ForSome};
 ghost use Rattle.rg_bytes.specs.Counts.{Rose};
 ghost use Rattle.rg_host.specs.Moments.{LeavesAll};
@@ -95,6 +95,7 @@ impl Walk {
     fn take_schema(&mut self, payload: &[u8], next: u64) -> Result<Stage, ReservoirFault>
         requires { schema_of self.old ≡ None }
         ensures taken { IfOk result (λ stage. IsTaken payload.now next self.old stage self.new) }
+        ensures place { OnOk result (place_of self.new ≡ next) }
         ensures damaged { (p : ℕ) → IsErrOf result (ReservoirFault.Damaged p) → (p ≡ place_of self.old) × IsUntaken payload.now self.old }
         ensures faults { IfErr result (λ fault. (fault ≡ ReservoirFault.Damaged (place_of self.old)) ⊎ (fault ≡ ReservoirFault.Memory)) }
         ensures err { OnErr result (self.new ≡ self.old) }
@@ -116,6 +117,7 @@ impl Walk {
     /// Takes the payload of the frame that the walk has come to.
     fn take(&mut self, payload: &[u8], next: u64) -> Result<Stage, ReservoirFault>
         ensures taken { IfOk result (λ stage. IsTaken payload.now next self.old stage self.new) }
+        ensures place { OnOk result (place_of self.new ≡ next) }
         ensures damaged { (p : ℕ) → IsErrOf result (ReservoirFault.Damaged p) → (p ≡ place_of self.old) × IsUntaken payload.now self.old }
         ensures faults { IfErr result (λ fault. (fault ≡ ReservoirFault.Damaged (place_of self.old)) ⊎ (fault ≡ ReservoirFault.Memory)) }
         ensures err { OnErr result (self.new ≡ self.old) }
@@ -138,6 +140,7 @@ impl Walk {
     /// is, as a fault does.
     pub fn next<H: Host>(&mut self, host: &mut H) -> Result<Option<Stage>, ReservoirFault>
         ensures some { IfOk result (λ r. IfSome r (λ stage. ForSome (H.now host.old) (λ v. IsNext (v 2) self.old stage self.new))) }
+        ensures goes_on { IfOk result (λ r. IfSome r (λ _. (place_of self.old + 9 ≤ place_of self.new) × (place_of self.new < 2 ^ 62))) }
         ensures none { IfOk result (λ r. IfNone r ((self.new ≡ self.old) × ForSome (H.now host.old) (λ v. IsClosed (place_of self.old) (v 2)))) }
         ensures damaged { (p : ℕ) → IsErrOf result (ReservoirFault.Damaged p) → (p ≡ place_of self.old) × ForSome (H.now host.old) (λ v. IsRefused (v 2) self.old) }
         ensures neither { (IsErrOf result ReservoirFault.SchemaDiffers → ⊥) × (IsErrOf result ReservoirFault.Full → ⊥) × (IsErrOf result ReservoirFault.Ended → ⊥) }

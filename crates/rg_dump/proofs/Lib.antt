@@ -1,0 +1,5 @@
+pub mod Reading
+pub mod Dumping
+pub mod Quiet
+pub mod Rows
+pub mod Legal

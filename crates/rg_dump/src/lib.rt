@@ -1,0 +1,18 @@
+//! The dump of a log: its schema's text, and then a row of `csv` for each event.
+//!
+//! A host comes in, whose file 2 is the log; the lines are put out, frame by frame. Upward: what is
+//! put is the text that the definitions give for the file's bytes, the first damaged place ends it
+//! and is told, and no file is written.
+#![tactic(auto)]
+
+mod fault;
+mod frames;
+mod law;
+mod row;
+
+pub use fault::DumpFault;
+pub use frames::dump;
+pub use law::law_dump;
+
+#[cfg(test)]
+mod tests;

@@ -1,0 +1,158 @@
+use crate::{DumpFault, dump};
+use rg_bytes::{Memory, put_bytes, put_u64};
+use rg_host::{Host, Image, MemHost};
+use std::alloc::Global;
+use std::test::Fail;
+
+/// The payload of a schema's frame: the tag `S` and the text.
+const SCHEMA: &[u8] = b"Spayments(ts,card:text,merchant:text,amount:int)";
+
+/// A chunk of the payments `0,c1,m1,100` and `299999,c1,m2,200` at offsets 0 and 1.
+const TWO: [u8; 97] = [
+    0x43, 0, 0, 0, 2, 0, 0, 0, 0, 0, 0, 0, 0, 0, 0, 0, 0, 0, 0, 0, 0, 0, 0, 0, 0, 0, 0, 0, 1, 0, 0,
+    0, 0, 0, 4, 0x93, 0xdf, 0, 0, 0, 0, 0, 0, 0, 0, 0, 0, 0, 0, 0, 0, 0, 0, 2, b'c', b'1', 2, b'm',
+    b'1', 0, 0, 0, 0, 0, 0, 0, 100, 0, 0, 0, 0, 0, 0, 0, 1, 0, 0, 0, 0, 0, 4, 0x93, 0xdf, 2, b'c',
+    b'1', 2, b'm', b'2', 0, 0, 0, 0, 0, 0, 0, 200,
+];
+
+/// A chunk of the payment `300000,c1,m1,50` at offset 2.
+const ONE: [u8; 67] = [
+    0x43, 0, 0, 0, 1, 0, 0, 0, 0, 0, 0, 0, 2, 0, 0, 0, 0, 0, 4, 0x93, 0xe0, 0, 0, 0, 0, 0, 0, 0, 2,
+    0, 0, 0, 0, 0, 4, 0x93, 0xe0, 0, 0, 0, 0, 0, 0, 0, 2, 0, 0, 0, 0, 0, 4, 0x93, 0xe0, 2, b'c',
+    b'1', 2, b'm', b'1', 0, 0, 0, 0, 0, 0, 0, 50,
+];
+
+const SCHEMA_LINE: &[u8] = b"payments(ts,card:text,merchant:text,amount:int)\n";
+
+const TWO_ROWS: &[u8] =
+    b"payments(ts,card:text,merchant:text,amount:int)\n0,0,c1,m1,100\n1,299999,c1,m2,200\n";
+
+const THREE_ROWS: &[u8] =
+    b"payments(ts,card:text,merchant:text,amount:int)\n0,0,c1,m1,100\n1,299999,c1,m2,200\n2,300000,c1,m1,50\n";
+
+/// The bytes of open frames with these payloads, and a closed gate.
+fn file(alloc: Global, payloads: &[&[u8]]) -> Result<Vec<u8>, Memory> {
+    let mut bytes = Vec::new(alloc);
+    for payload in payloads {
+        put_bytes(&mut bytes, &[1])?;
+        put_u64(&mut bytes, payload.len() as u64)?;
+        put_bytes(&mut bytes, payload)?;
+    }
+    put_bytes(&mut bytes, &[0])?;
+    Ok(bytes)
+}
+
+/// A host whose file 2 has these bytes, and whose calls of these numbers fail.
+fn host_with(alloc: Global, bytes: &[u8], failing: &[u64]) -> Result<MemHost, Fail> {
+    let mut image = Image::new(alloc);
+    image.set(2, bytes.to_vec(alloc)?)?;
+    Ok(MemHost::new(alloc, image, failing.to_vec(alloc)?)?)
+}
+
+#[test]
+fn three_payments_are_three_rows(rt: HostRuntime) -> Result<(), Fail> {
+    let bytes = file(rt.alloc(), &[SCHEMA, &TWO, &ONE])?;
+    assert_eq!(rt; bytes.len(), 240);
+    let mut host = host_with(rt.alloc(), &bytes, &[])?;
+    assert_eq!(rt; dump(rt.alloc(), &mut host), Ok(()));
+    assert_eq!(rt; host.output(), THREE_ROWS);
+    assert_eq!(rt; host.file(2), bytes.as_slice());
+    Ok(())
+}
+
+#[test]
+fn nothing_is_put_for_a_log_without_frames(rt: HostRuntime) -> Result<(), Fail> {
+    let files: [&[u8]; 4] = [b"", b"\x01", b"\x00", b"\x00\x01\x02"];
+    for bytes in files {
+        let mut host = host_with(rt.alloc(), bytes, &[])?;
+        assert_eq!(rt; dump(rt.alloc(), &mut host), Ok(()), "at {bytes:?}");
+        assert_eq!(rt; host.output(), b"".as_slice(), "at {bytes:?}");
+    }
+    Ok(())
+}
+
+#[test]
+fn a_log_cut_anywhere_is_dumped_up_to_its_damage(rt: HostRuntime) -> Result<(), Fail> {
+    let bytes = file(rt.alloc(), &[SCHEMA, &TWO, &ONE])?;
+    for cut in 0..=240usize {
+        let (text, want): (&[u8], Result<(), DumpFault>) = match cut {
+            0 | 1 => (b"", Ok(())),
+            2..=57 => (b"", Err(DumpFault::Damaged(0))),
+            58..=163 => (SCHEMA_LINE, Err(DumpFault::Damaged(57))),
+            164..=239 => (TWO_ROWS, Err(DumpFault::Damaged(163))),
+            _ => (THREE_ROWS, Ok(())),
+        };
+        let mut host = host_with(rt.alloc(), &bytes[..cut], &[])?;
+        assert_eq!(rt; dump(rt.alloc(), &mut host), want, "at {cut}");
+        assert_eq!(rt; host.output(), text, "at {cut}");
+    }
+    Ok(())
+}
+
+#[test]
+fn a_frame_that_is_not_what_it_should_be_is_damage(rt: HostRuntime) -> Result<(), Fail> {
+    let table: [(&[&[u8]], &[u8], u64); 5] = [
+        // no schema
+        (&[b"\xff"], b"", 0),
+        (&[&TWO], b"", 0),
+        // no chunk
+        (&[SCHEMA, SCHEMA], SCHEMA_LINE, 57),
+        // offsets that don't rise from one chunk to the next
+        (&[SCHEMA, &TWO, &TWO], TWO_ROWS, 163),
+        (
+            &[SCHEMA, &ONE, &TWO],
+            b"payments(ts,card:text,merchant:text,amount:int)\n2,300000,c1,m1,50\n",
+            133,
+        ),
+    ];
+    for (payloads, text, place) in table {
+        let bytes = file(rt.alloc(), payloads)?;
+        let mut host = host_with(rt.alloc(), &bytes, &[])?;
+        assert_eq!(rt; dump(rt.alloc(), &mut host), Err(DumpFault::Damaged(place)));
+        assert_eq!(rt; host.output(), text);
+    }
+    Ok(())
+}
+
+/// A chunk of one event at offset 7 and time 5, of the columns `text`, `flag`, `flag`, `id` and `int`: the text is
+/// `a,"b` and a CR, the flags are true and false, the id is 2^64 - 1 and the int -3.
+const KINDS: [u8; 77] = [
+    0x43, 0, 0, 0, 1, 0, 0, 0, 0, 0, 0, 0, 7, 0, 0, 0, 0, 0, 0, 0, 5, 0, 0, 0, 0, 0, 0, 0, 7, 0, 0,
+    0, 0, 0, 0, 0, 5, 0, 0, 0, 0, 0, 0, 0, 7, 0, 0, 0, 0, 0, 0, 0, 5, 5, b'a', b',', b'"', b'b',
+    b'\r', 1, 0, 0xff, 0xff, 0xff, 0xff, 0xff, 0xff, 0xff, 0xff, 0xff, 0xff, 0xff, 0xff, 0xff,
+    0xff, 0xff, 0xfd,
+];
+
+#[test]
+fn each_kind_of_value_is_printed(rt: HostRuntime) -> Result<(), Fail> {
+    let bytes = file(
+        rt.alloc(),
+        &[b"Sp(ts,t:text,f:flag,g:flag,i:id,n:int)", &KINDS],
+    )?;
+    let mut host = host_with(rt.alloc(), &bytes, &[])?;
+    assert_eq!(rt; dump(rt.alloc(), &mut host), Ok(()));
+    assert_eq!(rt;
+        host.output(),
+        b"p(ts,t:text,f:flag,g:flag,i:id,n:int)\n7,5,\"a,\"\"b\r\",true,false,18446744073709551615,-3\n".as_slice()
+    );
+    Ok(())
+}
+
+#[test]
+fn each_call_that_fails_ends_the_dump(rt: HostRuntime) -> Result<(), Fail> {
+    let bytes = file(rt.alloc(), &[SCHEMA, &TWO, &ONE])?;
+    let mut whole = host_with(rt.alloc(), &bytes, &[])?;
+    assert_eq!(rt; dump(rt.alloc(), &mut whole), Ok(()));
+    for call in 0..whole.calls() {
+        let mut host = host_with(rt.alloc(), &bytes, &[call])?;
+        let fault = match dump(rt.alloc(), &mut host) {
+            Err(DumpFault::Disk) => "disk",
+            Err(DumpFault::Write) => "write",
+            _ => "none",
+        };
+        assert_ne!(rt; fault, "none", "at {call}");
+        assert!(rt; THREE_ROWS.starts_with(host.output()), "at {call}");
+        assert_eq!(rt; host.file(2), bytes.as_slice(), "at {call}");
+    }
+    Ok(())
+}

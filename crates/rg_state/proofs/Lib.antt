@@ -4,3 +4,5 @@ pub mod Written
 pub mod Counted
 pub mod OneKind
 pub mod ReadBack
+pub mod Fitting
+pub mod Settled

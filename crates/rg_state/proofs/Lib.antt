@@ -5,3 +5,5 @@ pub mod Counted
 pub mod OneKind
 pub mod ReadBack
 mod Sizes
+pub mod Fitting
+pub mod Settled

@@ -3,6 +3,7 @@
 
 mod decode;
 mod key_rows;
+mod law;
 mod mem_table;
 mod one;
 mod own;
@@ -12,6 +13,7 @@ mod state;
 mod table;
 mod writing;
 
+pub use law::law_states;
 pub use mem_table::MemTable;
 pub use rg_agg::{Aggregate, Avg, Count, First, Last, StateFault, Sum, SumSq};
 pub use rg_distinct::Distinct;

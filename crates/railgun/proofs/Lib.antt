@@ -5,7 +5,6 @@ pub mod Listed
 pub mod Outputs
 pub mod Plans
 pub mod Progress
-pub mod Serving
 pub mod Steadiness
 pub mod Whole
 pub mod Worked

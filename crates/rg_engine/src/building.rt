@@ -1,5 +1,4 @@
 ghost use Rattle.std.specs.Prelude.{◌≡◌, length, IfOk};
-ghost use Rattle.rg_plan.specs.Whole.{IsWhole};
 ghost use Rattle.rg_engine.specs.Building.{IsBuilt};
 
 use crate::part::FilterPart;
@@ -23,8 +22,7 @@ pub(crate) struct Made {
 
 /// What a plan needs, with edges at these spots, one for each of its offsets.
 pub(crate) fn set_up(alloc: Global, plan: &TaskPlan, at: &[Spot]) -> Result<Made, Memory>
-    requires whole { IsWhole plan.now }
-    requires same { length at.now ≡ length plan.now.offsets }
+    requires { length at.now ≡ length plan.now.offsets }
     ensures built { IfOk result (λ made. IsBuilt plan.now made.edges made.parts.items made.nodes.items made.keys.items) }
     ensures spots { IfOk result (λ made. made.edges.spots ≡ at.now) }
 {

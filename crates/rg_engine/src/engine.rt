@@ -1,6 +1,6 @@
 ghost use Rattle.std.specs.Prelude.{◌≡◌, ◌↔◌, ◌⊎◌, ℕ, ◌+◌, ◌≤◌, ◌<◌, List, [], ◌∷◌, ◌++◌, length, true, false, Some, slice_get, All, IfOk, IfErr, OnOk, IsErrOf};
 ghost use Rattle.std.specs.Result.{is_err};
-ghost use Rattle.std.specs.Borrow.{Lends, sem};
+ghost use Rattle.std.specs.Borrow.{Lends, follows, sem};
 ghost use Rattle.rg_bytes.specs.Counts.{Rose};
 ghost use Rattle.rg_event.specs.declared.event.Event.{Event};
 ghost use Rattle.rg_metric.specs.Queries.{Asked};
@@ -65,7 +65,6 @@ impl<T: Table> Model for Engine<T> {
 impl<T: Table> Engine<T> {
     /// An engine of this plan over a table, whose edges stand at these spots, one for each offset of the
     /// plan. A refusal hands the table back.
-    #[tactic(auto, using(rg_plan::proofs::Whole::whole))]
     pub fn new(
         alloc: Global,
         plan: TaskPlan,
@@ -79,8 +78,6 @@ impl<T: Table> Engine<T> {
         ensures ended { IfOk result (λ engine. engine.ended ≡ false) }
         ensures err { IfErr result (λ refused. refused.1 ≡ table) }
     {
-        // a plan that exists is one that was compiled
-        let _queries = plan.queries();
         match set_up(alloc, &plan, at) {
             Err(memory) => return Err((memory, table)),
             Ok(made) => Ok(Engine {
@@ -293,6 +290,18 @@ impl<T: Table> Engine<T> {
     {
         let rows = &mut self.rows;
         &mut rows.table
+    }
+
+    /// Its spots and its table at once: a checkpoint is written from both. Plan, spots and whether it
+    /// has ended stay, whatever the caller does to the table.
+    pub fn parts(&mut self) -> (&[Spot], &mut T)
+        ensures* writes_back { sem 𝓛 (follows (the_row T.row T.Table) T.row self.entry.ghost_name result.1.ghost_name (λ table. record self.old { table = table })) }
+        ensures spots { result.0.now ≡ self.old.spots }
+        ensures same { length self.old.spots ≡ length self.old.plan.offsets }
+        ensures table { result.1.now ≡ self.old.table }
+    {
+        let rows = &mut self.rows;
+        (self.edges.spots(), &mut rows.table)
     }
 
     /// Its table, where nothing more is asked of it.

@@ -1,13 +1,22 @@
 ghost use Rattle.std.specs.Prelude.{List, All};
+ghost use Rattle.rg_event.specs.Codec.{IsEventOf};
+ghost use Rattle.rg_event.specs.Shapes.{Shape};
+ghost use Rattle.rg_event.specs.declared.event.Event.{Event};
 ghost use Rattle.rg_event.specs.declared.schema.Field.{Field};
+ghost use Rattle.rg_metric.specs.Queries.{Asked};
 ghost use Rattle.rg_plan.specs.declared.node.AggNode.{AggNode};
-ghost use Rattle.rg_plan.specs.Plans.{Planned};
-ghost use Rattle.rg_engine.specs.Feeding.{Serves, IsServed, IsLasting};
+ghost use Rattle.rg_plan.specs.Plans.{Planned, plan_for};
+ghost use Rattle.rg_query.specs.Legal.{IsLegal};
+ghost use Rattle.rg_engine.specs.Feeding.{Serves, IsFed, IsServed, IsLasting};
 
-/// Columns serve a plan where they serve each of its aggregators, and each of its windows that ends
-/// lasts.
-#[tactic(auto, using(crate::proofs::Serving::serves_from))]
+/// The columns of a schema serve the plan of queries that are legal over it, and so do events of those
+/// columns.
+#[tactic(auto, using(crate::proofs::Serving::serves_from, crate::proofs::Legal::serves))]
 pub fn law_serves()
-    ensures { (fields : List Field) (plan : Planned) → All (λ (node : AggNode). IsServed fields node.agg) plan.aggs →
+    // Columns serve a plan where they serve each of its aggregators, and each of its windows that ends lasts.
+    ensures parts { (fields : List Field) (plan : Planned) → All (λ (node : AggNode). IsServed fields node.agg) plan.aggs →
         All IsLasting plan.windows → Serves fields plan }
+    ensures legal { (shape : Shape) (queries : List Asked) → All (IsLegal shape) queries → Serves shape.fields (plan_for queries) }
+    ensures fed { (shape : Shape) (queries : List Asked) (events : List Event) → All (IsLegal shape) queries →
+        All (IsEventOf shape.fields) events → IsFed (plan_for queries) events }
 {}

@@ -11,3 +11,5 @@ pub mod Adding
 pub mod Offsetting
 pub mod Once
 pub mod Whole
+pub mod Compiled
+pub mod Paths

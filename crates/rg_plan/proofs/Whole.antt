@@ -114,7 +114,7 @@ window_there plan number node e =
     (λ group g e2. option_and_then_some (under_filter plan group agg.agg) (slice_get plan.filters group.filter) node e2
     (λ filter f e3. (filter.window, window_of filter.condition group.columns agg.agg (slice_get plan.windows filter.window) node e3))))
 
-whole_for : (qs : List Asked) → All (λ (q : Asked). IsMeasured q.window) qs → excess qs ≡ None → IsWhole (plan_for qs)
+pub whole_for : (qs : List Asked) → All (λ (q : Asked). IsMeasured q.window) qs → excess qs ≡ None → IsWhole (plan_for qs)
 whole_for qs measured e =
     let few = few_queries zero qs (omega arith) e in
     record {

@@ -1,5 +1,5 @@
 -- How queries begin: the window, then the condition, the columns of the key and an aggregator.
-use Rattle.std.specs.Prelude.{ℕ, ◌&&◌, Bool, bytes_eq, List, map, flat_map, Option}
+use Rattle.std.specs.Prelude.{◌≡◌, ℕ, ◌&&◌, Bool, bytes_eq, List, map, flat_map, Option}
 use Rattle.rg_metric.specs.declared.query.Window.{Window}
 use Rattle.rg_metric.specs.declared.query.Agg.{Agg}
 use Rattle.rg_metric.specs.contracts.query.AggPartialEq.TheImpl.{ghosts as agg_ghosts}
@@ -9,6 +9,7 @@ use Rattle.rg_plan.specs.declared.node.GroupNode.{GroupNode}
 use Rattle.rg_plan.specs.declared.node.AggNode.{AggNode}
 use Rattle.rg_plan.specs.Same.{same_condition}
 use Rattle.rg_plan.specs.Nodes.{Filtered, same_window, distinct, number_in}
+use Rattle.rg_plan.specs.Plans.{Planned}
 
 pub record ToFilter : Type 0 where
   pub window : Window
@@ -62,3 +63,10 @@ group_at filters p = record { filter = number_in same_to_filter filters p.filter
 
 abbrev pub agg_at : List ToGroup → ToAgg → AggNode
 agg_at groups p = record { group = number_in same_to_group groups p.group; agg = p.agg }
+
+-- the nodes of a plan are the distinct beginnings of some queries, in order of first use, each under the number of the one before it
+pub record AreBegun (queries : List Asked) (plan : Planned) : Type 0 where
+  pub windows : plan.windows ≡ distinct same_window (map (λ (q : Asked). q.window) queries)
+  pub filters : plan.filters ≡ map (filter_at plan.windows) (filters_begun queries)
+  pub groups : plan.groups ≡ map (group_at (filters_begun queries)) (groups_begun queries)
+  pub aggs : plan.aggs ≡ map (agg_at (groups_begun queries)) (aggs_begun queries)

@@ -37,6 +37,14 @@ node_of q agg = record { window = q.window; condition = q.filter; columns = q.gr
 abbrev pub nodes_of : Asked → List (Option Node)
 nodes_of q = map (λ agg. Some (node_of q agg)) q.aggs
 
+-- the aggregator of that number of the query of that number, both counted from 0, where there is one
+abbrev pub asked_agg : List Asked → ℕ → ℕ → Option Agg
+asked_agg queries query agg = option_and_then (λ (q : Asked). slice_get q.aggs agg) (slice_get queries query)
+
+-- the same, with all that is above it
+abbrev pub asked_node : List Asked → ℕ → ℕ → Option (Option Node)
+asked_node queries query agg = option_and_then (λ (q : Asked). slice_get (nodes_of q) agg) (slice_get queries query)
+
 -- the plan of some queries, few enough and with windows of at most 10^15 milliseconds
 pub record IsMade (plan : Planned) : Type 0 where
   pub queries : List Asked

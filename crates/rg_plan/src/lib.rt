@@ -2,11 +2,12 @@
 //!
 //! A query is answered by its window, its condition, the columns of its key and each of its
 //! aggregators, one below the other. At each level equal nodes under the same node are one.
+//! `compile` takes queries and gives their plan: its clauses say that each distinct beginning of a
+//! query is one node, that a query's path leads to its own aggregators, and that the offsets rise.
 #![tactic(auto)]
 
 mod fault;
 mod feed;
-mod law;
 mod level;
 mod node;
 mod number;
@@ -17,7 +18,6 @@ mod same;
 mod size;
 
 pub use fault::PlanFault;
-pub use law::{law_asked, law_beginnings, law_named, law_placed, law_same_condition};
 pub use node::{AggNode, FilterNode, GroupNode};
 pub use plan::{TaskPlan, compile};
 pub use size::{MAX_AGGS, MAX_COLUMNS, MAX_QUERIES};

@@ -1,9 +1,11 @@
-ghost use Rattle.std.specs.Prelude.{◌≡◌, map, length, slice_get, option_copied, None, All, IfOk, IfErr, OnOk};
+ghost use Rattle.std.specs.Prelude.{◌≡◌, ◌↔◌, map, option_map, length, slice_get, option_copied, List, None, All, IfOk, IfErr, OnOk};
 ghost use Rattle.rg_metric.specs.Queries.{asked, Asked};
+ghost use Rattle.rg_plan.specs.Beginnings.{AreBegun};
 ghost use Rattle.rg_plan.specs.Nodes.{filtered};
-ghost use Rattle.rg_plan.specs.Named.{IsMade};
-ghost use Rattle.rg_plan.specs.Offsets.{IsMeasured};
+ghost use Rattle.rg_plan.specs.Named.{IsMade, HasAgg, node_at, nodes_of, asked_by, asked_agg, asked_node};
+ghost use Rattle.rg_plan.specs.Offsets.{IsMeasured, AreRising};
 ghost use Rattle.rg_plan.specs.Plans.{plan_for, path_at, excess, fault_of};
+ghost use Rattle.rg_plan.specs.Whole.{IsWhole};
 
 use crate::fault::PlanFault;
 use crate::level::levels_of;
@@ -48,9 +50,21 @@ impl Model for TaskPlan {
 ///
 /// `TooMany` names the first query with more than 16 aggregators or 8 columns, or the one behind
 /// 64 others, and is answered before any memory is taken. `Memory` comes only where memory runs out.
+#[tactic(auto, using(crate::proofs::Compiled::is_named, crate::proofs::Compiled::is_asked))]
 pub fn compile(alloc: Global, queries: &[Query]) -> Result<TaskPlan, PlanFault>
     requires { All (λ (q : Asked). IsMeasured q.window) (map asked queries.now) }
     ensures plan { IfOk result (λ plan. plan ≡ plan_for (map asked queries.now)) }
+
+    // Each node is there once, the offsets rise and are those of the windows, and each number is that of a node.
+    ensures whole { IfOk result (λ plan. IsWhole plan) }
+    // The nodes are the distinct beginnings of the queries, in order of first use.
+    ensures begun { IfOk result (λ plan. AreBegun (map asked queries.now) plan) }
+    // The node at each number of a query's path is an aggregator of that query, with its window, its
+    // condition and its columns, in order.
+    ensures named { IfOk result (λ plan. map (λ path. map (node_at plan) path) plan.paths ≡ map nodes_of (map asked queries.now)) }
+    // Queries that each have an aggregator are read back from their plan.
+    ensures read_back { All HasAgg (map asked queries.now) → IfOk result (λ plan. asked_by plan ≡ map asked queries.now) }
+
     ensures within { OnOk result (excess (map asked queries.now) ≡ None) }
     ensures fault { IfErr result (λ fault. fault ≡ fault_of (excess (map asked queries.now))) }
 {
@@ -105,7 +119,9 @@ impl TaskPlan {
     /// The distinct offsets, in milliseconds, at which events enter and leave the windows: how old
     /// an event is then. They rise.
     pub fn offsets(&self) -> &[u64]
-        ensures { result.now ≡ self.now.offsets }
+        ensures offsets { result.now ≡ self.now.offsets }
+        ensures rising { AreRising result.now }
+        ensures whole { IsWhole self.now }
     {
         &self.offsets
     }
@@ -133,7 +149,8 @@ impl TaskPlan {
 
     /// The distinct aggregators under each group node.
     pub fn aggs(&self) -> &[AggNode]
-        ensures { result.now ≡ self.now.aggs }
+        ensures aggs { result.now ≡ self.now.aggs }
+        ensures whole { IsWhole self.now }
     {
         &self.aggs
     }
@@ -141,11 +158,13 @@ impl TaskPlan {
     /// The number of the node of an aggregator of a query, both counted from 0. There is none
     /// exactly where there is no such aggregator.
     pub fn path(&self, query: u32, agg: u32) -> Option<u32>
-        ensures { result ≡ path_at self.now.paths query agg }
+        ensures number { result ≡ path_at self.now.paths query agg }
+        ensures none { (queries : List Asked) → self.now ≡ plan_for queries → (result ≡ None) ↔ (asked_agg queries query agg ≡ None) }
+        ensures node { (queries : List Asked) → self.now ≡ plan_for queries → option_map (node_at self.now) result ≡ asked_node queries query agg }
     {
         match self.nodes(query) {
             None => None,
-            Some(nodes) => nodes.get(agg as usize).copied(),
+            Some(nodes) => number_at(nodes, agg),
         }
     }
 
@@ -162,6 +181,13 @@ impl TaskPlan {
             paths: copy_paths(alloc, &self.paths)?,
         })
     }
+}
+
+/// The number at a place, where there is one.
+fn number_at(nodes: &[u32], agg: u32) -> Option<u32>
+    ensures { result ≡ slice_get nodes.now agg }
+{
+    nodes.get(agg as usize).copied()
 }
 
 fn copy_filters(alloc: Global, filters: &[FilterNode]) -> Result<Vec<FilterNode>, Memory>

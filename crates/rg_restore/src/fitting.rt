@@ -8,12 +8,9 @@ use rg_plan::{AggNode, TaskPlan};
 
 /// Whether each row is of a node of the plan, and its state of that node's function and of the kind of
 /// its column's values, these being the columns of the events.
-#[tactic(auto, using(rg_plan::proofs::Whole::whole))]
 pub fn fits_plan(plan: &TaskPlan, fields: &[Field], rows: &[Row]) -> bool
     ensures { IsTrue result ↔ AreRowsOf fields.now plan.now (entries_of rows.now) }
 {
-    // a plan that exists is one that was compiled
-    let _queries = plan.queries();
     let aggs = plan.aggs();
     'rows: for row in rows {
         if !fits_node(aggs, fields, row) {

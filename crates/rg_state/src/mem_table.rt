@@ -1,5 +1,10 @@
-ghost use Rattle.std.specs.Prelude.{◌≡◌, ◌<◌, ◌≤◌, ◌+◌, ◌^◌, ℕ, List, None, max};
+ghost use Rattle.std.specs.Prelude.{◌≡◌, ◌↔◌, ◌<◌, ◌≤◌, ◌+◌, ◌^◌, ℕ, List, None, max, IfOk, OnOk, OnErr, IsErrOf};
+ghost use Rattle.rg_bytes.specs.Counts.{Rose};
+ghost use Rattle.rg_event.specs.declared.value.Value.{Value};
+ghost use Rattle.rg_metric.specs.Answers.{answer_of};
 ghost use Rattle.rg_state.specs.Cells.{cell_in, AreBelow};
+ghost use Rattle.rg_state.specs.Rows.{RowStands, Changed, Counts, Suits, Unfit, IsRefused, IsOf, Same, Others};
+ghost use Rattle.rg_state.specs.Takes.{Takes};
 
 use crate::one::Refusal;
 use crate::slots::Slots;
@@ -68,7 +73,24 @@ impl Table for MemTable {
         func: Func,
         change: Change,
         value: &Value,
-    ) -> Result<(), TableFault> {
+    ) -> Result<(), TableFault>
+        requires { Takes func value.now }
+        ensures changed { ⟦<MemTable as Table>⟧.tells self.old → OnOk result (Changed func change value.now (⟦<MemTable as Table>⟧.cell self.old node key.now) (⟦<MemTable as Table>⟧.cell self.new node key.now)) }
+        ensures suits { ⟦<MemTable as Table>⟧.tells self.old → OnOk result (Suits func change value.now (⟦<MemTable as Table>⟧.cell self.old node key.now)) }
+        ensures own { ⟦<MemTable as Table>⟧.tells self.old → OnOk result (IsOf func (⟦<MemTable as Table>⟧.cell self.new node key.now)) }
+        ensures size { ⟦<MemTable as Table>⟧.tells self.old → OnOk result (Counts change (⟦<MemTable as Table>⟧.cell self.old node key.now) (⟦<MemTable as Table>⟧.cell self.new node key.now)) }
+        ensures others { ⟦<MemTable as Table>⟧.tells self.old → Others node key.now (⟦<MemTable as Table>⟧.cell self.old) (⟦<MemTable as Table>⟧.cell self.new) }
+        ensures err { ⟦<MemTable as Table>⟧.tells self.old → OnErr result (Same (⟦<MemTable as Table>⟧.cell self.old) (⟦<MemTable as Table>⟧.cell self.new)) }
+        ensures bad { (n : ℕ) → IsErrOf result (TableFault.BadState n) → n ≡ node }
+        ensures unfit { (n : ℕ) → IsErrOf result (TableFault.BadState n) → ⟦<MemTable as Table>⟧.tells self.old → Unfit func change value.now (⟦<MemTable as Table>⟧.cell self.old node key.now) }
+        ensures causes { (n : ℕ) → IsErrOf result (TableFault.BadState n) → ⟦<MemTable as Table>⟧.tells self.old → IsRefused func change value.now (⟦<MemTable as Table>⟧.cell self.old node key.now) }
+        ensures disk { IsErrOf result TableFault.Disk → Rose (⟦<MemTable as Table>⟧.faults self.old) (⟦<MemTable as Table>⟧.faults self.new) }
+        ensures tells { ⟦<MemTable as Table>⟧.tells self.new ↔ ⟦<MemTable as Table>⟧.tells self.old }
+        ensures later { ⟦<MemTable as Table>⟧.faults self.old ≤ ⟦<MemTable as Table>⟧.faults self.new }
+
+        // A removal takes no memory.
+        ensures no_memory { change ≡ Change.Remove → IsErrOf result TableFault.Memory → ⊥ }
+    {
         self.nodes = reach(self.nodes, node);
         match change {
             Change::Add => match self.slots.add(self.alloc, node, key, func, value) {
@@ -83,7 +105,20 @@ impl Table for MemTable {
         }
     }
 
-    fn answer(&mut self, node: u32, key: &Key, func: Func) -> Result<Answer, TableFault> {
+    fn answer(&mut self, node: u32, key: &Key, func: Func) -> Result<Answer, TableFault>
+        ensures answer { ⟦<MemTable as Table>⟧.tells self.old → (values : List Value) → RowStands func (⟦<MemTable as Table>⟧.cell self.old node key.now) values → IfOk result (λ answer. answer ≡ answer_of func values) }
+        ensures own { ⟦<MemTable as Table>⟧.tells self.old → OnOk result (IsOf func (⟦<MemTable as Table>⟧.cell self.old node key.now)) }
+        ensures same { ⟦<MemTable as Table>⟧.tells self.old → Same (⟦<MemTable as Table>⟧.cell self.old) (⟦<MemTable as Table>⟧.cell self.new) }
+        ensures bad { (n : ℕ) → IsErrOf result (TableFault.BadState n) → n ≡ node }
+        ensures unfit { (n : ℕ) → IsErrOf result (TableFault.BadState n) → ⟦<MemTable as Table>⟧.tells self.old → (values : List Value) → RowStands func (⟦<MemTable as Table>⟧.cell self.old node key.now) values → ⊥ }
+        ensures causes { (n : ℕ) → IsErrOf result (TableFault.BadState n) → ⟦<MemTable as Table>⟧.tells self.old → IsOf func (⟦<MemTable as Table>⟧.cell self.old node key.now) → ⊥ }
+        ensures disk { IsErrOf result TableFault.Disk → Rose (⟦<MemTable as Table>⟧.faults self.old) (⟦<MemTable as Table>⟧.faults self.new) }
+        ensures tells { ⟦<MemTable as Table>⟧.tells self.new ↔ ⟦<MemTable as Table>⟧.tells self.old }
+        ensures later { ⟦<MemTable as Table>⟧.faults self.old ≤ ⟦<MemTable as Table>⟧.faults self.new }
+
+        // An answer takes no memory.
+        ensures no_memory { IsErrOf result TableFault.Memory → ⊥ }
+    {
         match self.slots.answer(node, key, func) {
             Some(answer) => Ok(answer),
             None => Err(TableFault::BadState(node)),

@@ -3,7 +3,7 @@ use Rattle.std.proofs.lemmas.List.Elements.{All-nil}
 use Rattle.rg_event.specs.Codec.{IsEventOf}
 use Rattle.rg_config.specs.Plans.{planned}
 use Rattle.railgun.specs.Plan.{basis_of}
-use Rattle.railgun.proofs.Serving.{serves}
+use Rattle.rg_engine.proofs.Legal.{serves}
 use Rattle.railgun.proofs.run.Run.new.Goals as goal
 
 pub returns-clause-session : goal.returns-clause-session

@@ -15,7 +15,7 @@ use Rattle.rg_engine.proofs.engine.Engine.take.Goals as goal
 pub answer_each-requires-clause-nodes : goal.answer_each-requires-clause-nodes
 answer_each-requires-clause-nodes g c =
     let built = c.self.invariant in
-    subst (λ aggs. All (λ n. n < length aggs) c.deref.result.now) (sym c.aggs.ensures) (asked_within _ c.deref.result.now built.whole (c.deref.ensures.value ∙ built.asked))
+    subst (λ aggs. All (λ n. n < length aggs) c.deref.result.now) (sym c.aggs.ensures.aggs) (asked_within _ c.deref.result.now built.whole (c.deref.ensures.value ∙ built.asked))
 
 pub returns-clause-stands : goal.returns-clause-stands
 returns-clause-stands g c = rw (← c.self.view_is) (λ n first on.
@@ -58,7 +58,7 @@ returns-clause-answers g c = rw (← c.self.view_is) (λ queries first made on.
     let after = λ (n : ℕ). moved.stands n first (ap last_time added.ok ∙ last_of (g.P.Past.events c.args.past.now) event)
     (carried_on plan n _ _ _ _ _ (g.P.Past.events c.args.past.now) _ first event _ _ added.ok added.sound (λ sound spot spelled. g.met.P.Past.stays_spelled _ _ spot added.goes sound spelled) (on n)) in
     let keys = c.deref-2.ensures.value ∙ c.in-Ok.ensures.made ∙ ap (λ (groups : List GroupNode). keys_for groups event) c.groups.ensures in
-    let told = c.in-Ok-answer_each.ensures.answers (moved.rows.tells.1 (on 0).tells) plan (g.P.Past.events c.args.past.now ++ event ∷ []) event built.whole (sym c.aggs.ensures) keys
+    let told = c.in-Ok-answer_each.ensures.answers (moved.rows.tells.1 (on 0).tells) plan (g.P.Past.events c.args.past.now ++ event ∷ []) event built.whole (sym c.aggs.ensures.aggs) keys
     (λ n key. row_stands plan n (g.P.Past.events c.append.new.self) (g.P.Past.events c.args.past.now ++ event ∷ []) event.time (g.T.Table.cell c.move_rows.new.rows.table) _ added.ok (last_of (g.P.Past.events c.args.past.now) event) (after n) key) in
     c.from.ensures ∙ answers_are queries plan _ event c.deref.result.now _ made (on 0).fed (c.deref.ensures.value ∙ built.asked)
     (told ∙ ap (λ old. old ++ node_answers plan (g.P.Past.events c.args.past.now ++ event ∷ []) event c.deref.result.now) c.in-Ok-with_capacity.ensures.items))
@@ -105,5 +105,5 @@ returns-in-Err-answer_each-clause-bad g c = rw (← c.self.view_is) (λ n first 
     let moved = c.in-Ok-move_rows.ensures in
     let after = moved.stands n first (ap last_time added.ok ∙ last_of (g.P.Past.events c.args.past.now) event)
     (carried_on plan n _ _ _ _ _ (g.P.Past.events c.args.past.now) _ first event _ _ added.ok added.sound (λ sound spot spelled. g.met.P.Past.stays_spelled _ _ spot added.goes sound spelled) on) in
-    c.in-Err-answer_each.ensures.bad n (ap Err (c.table_fault.ensures.bad n (same_fault bad))) (moved.rows.tells.1 on.tells) plan (g.P.Past.events c.args.past.now ++ event ∷ []) event c.self.invariant.whole (sym c.aggs.ensures)
+    c.in-Err-answer_each.ensures.bad n (ap Err (c.table_fault.ensures.bad n (same_fault bad))) (moved.rows.tells.1 on.tells) plan (g.P.Past.events c.args.past.now ++ event ∷ []) event c.self.invariant.whole (sym c.aggs.ensures.aggs)
     (λ key. row_stands plan n (g.P.Past.events c.append.new.self) (g.P.Past.events c.args.past.now ++ event ∷ []) event.time (g.T.Table.cell c.move_rows.new.rows.table) _ added.ok (last_of (g.P.Past.events c.args.past.now) event) after key))

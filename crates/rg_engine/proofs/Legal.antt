@@ -4,9 +4,10 @@ use Rattle.std.specs.Option.{ForSome}
 use Rattle.std.specs.Prelude.{All, flat_map, bytes_eq, if◌then◌else◌}
 use Rattle.std.proofs.lemmas.Bool.{le-leb, lt-ltb}
 use Rattle.std.proofs.lemmas.List.Elements.{All-nil, All-head, All-tail, All-append, All-map, All-weaker}
-use Rattle.rg_event.specs.Codec.{IsValueOf}
+use Rattle.rg_event.specs.Codec.{IsValueOf, IsEventOf}
 use Rattle.rg_event.specs.Shapes.{Shape}
 use Rattle.rg_event.specs.Tagged.{IsLegal as IsLegalValue}
+use Rattle.rg_event.specs.declared.event.Event.{Event}
 use Rattle.rg_event.specs.declared.schema.Field.{Field}
 use Rattle.rg_event.specs.declared.value.Kind.{Kind}
 use Rattle.rg_event.specs.declared.value.Kind.TheVariants as kind
@@ -26,7 +27,7 @@ use Rattle.rg_query.specs.Printing.{name_at}
 use Rattle.rg_query.specs.Resolving.{column_from, takes}
 use Rattle.rg_agg.specs.Stands.{IsInt, IsNumber}
 use Rattle.rg_state.specs.Takes.{Takes}
-use Rattle.rg_engine.specs.Feeding.{IsServed, IsLasting, Serves}
+use Rattle.rg_engine.specs.Feeding.{IsServed, IsLasting, Serves, IsFed}
 use Rattle.rg_engine.proofs.Serving.{serves_from}
 
 -- each value of a kind that a function takes is one that it takes
@@ -168,3 +169,6 @@ module _ (shape : Shape) (qs : List Asked) (legal : All (IsLegal shape) qs) wher
 
 pub serves : (shape : Shape) (qs : List Asked) → All (IsLegal shape) qs → Serves shape.fields (plan_for qs)
 serves shape qs legal = serves_from shape.fields (plan_for qs) (aggs_served shape qs legal) (windows_last shape qs legal)
+
+pub are_fed : (shape : Shape) (qs : List Asked) (events : List Event) → All (IsLegal shape) qs → All (IsEventOf shape.fields) events → IsFed (plan_for qs) events
+are_fed shape qs events legal are = record { fields = shape.fields; serves = serves shape qs legal; are = are }

@@ -1,0 +1,13 @@
+//! Checkpoints: the spots and rows of an engine after some events, their bytes, and the two slots
+//! that hold them. What comes in are a payload, or the queries, spots and table of an engine, and a
+//! host; what goes out are a checkpoint and its payload. Upward: a payload says one checkpoint and
+//! is read exactly where it says one; at every moment of a save the kept slot is as it was, and the
+//! other one holds its old checkpoint, none, or the new one.
+#![tactic(auto)]
+
+mod base;
+
+pub use base::{Checkpoint, Row, Rows};
+pub use rg_event::Texts;
+pub use rg_past::{Spot, Spots};
+pub use rg_state::{AggState, Key};

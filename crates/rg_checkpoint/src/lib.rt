@@ -6,8 +6,17 @@
 #![tactic(auto)]
 
 mod base;
+mod decode;
+mod encode;
+mod fault;
+mod slot;
+mod slots;
 
 pub use base::{Checkpoint, Row, Rows};
+pub use decode::decode_checkpoint;
+pub use encode::encode_checkpoint;
+pub use fault::{CheckpointFault, SlotFault};
 pub use rg_event::Texts;
 pub use rg_past::{Spot, Spots};
-pub use rg_state::{AggState, Key};
+pub use rg_state::{AggState, Key, Table, TableFault};
+pub use slots::Slots;

@@ -1,0 +1,72 @@
+-- Bytes written one after another.
+use Rattle.std.proofs.Common.{◌≡◌, ℕ, suc, ◌+◌, ◌<◌, ◌≤◌, ◌^◌, List, [], ◌∷◌, ◌++◌, length, get_or, take, drop, Some, refl, ap, sym, ◌∙◌, subst, arith, append_assoc}
+use Rattle.std.proofs.Math.Seq.{drop-cons}
+use Rattle.std.proofs.lemmas.List.{take_more, take_all}
+use Rattle.std.proofs.lemmas.List.Elements.{All-append, All-cons, All-nil, All-weaker, All-contains_itself}
+use Rattle.std.specs.List.{All, Contains}
+use Rattle.std.specs.Int.{w64, to_be_bytes}
+use Rattle.rg_agg.specs.Held.{Held}
+use Rattle.rg_past.specs.declared.past.Spot.{Spot}
+use Rattle.rg_state.specs.Rows.{Cells, Entry, Lists, entry_bytes, entries_bytes}
+use Rattle.rg_bytes.specs.Reading.{list_bytes}
+use Rattle.rg_checkpoint.specs.Base.{counted_texts, counted_spots, IsEntry, AreTexts, AreSpots}
+use Rattle.rg_checkpoint.specs.Writing.{Encodes, front_bytes}
+
+pub two_more : (old first second middle new : List ℕ) → middle ≡ old ++ first → new ≡ middle ++ second → new ≡ old ++ (first ++ second)
+two_more old first second middle new one two = rw (two, one) (append_assoc old first second)
+
+-- an item more
+pub item_put : {A : Type 0} (item_bytes : A → List ℕ) (items : List A) (i : ℕ) (item : A) (whole old new : List ℕ) → i < length items → item ≡ get_or items i item → new ≡ old ++ item_bytes item
+    → old ++ list_bytes item_bytes (drop i items) ≡ whole → new ++ list_bytes item_bytes (drop (i + 1) items) ≡ whole
+item_put item_bytes items i item whole old new there is put so_far =
+    let one : i + 1 ≡ suc i = omega arith in
+    let split : drop i items ≡ item ∷ drop (suc i) items = drop-cons items i item there ∙ ap (λ x. x ∷ drop (suc i) items) (sym is) in
+    ap (λ n. new ++ list_bytes item_bytes (drop n items)) one
+    ∙ ap (λ bytes. bytes ++ list_bytes item_bytes (drop (suc i) items)) put
+    ∙ append_assoc old (item_bytes item) (list_bytes item_bytes (drop (suc i) items))
+    ∙ ap (λ rest. old ++ list_bytes item_bytes rest) (sym split) ∙ so_far
+
+pub item_legal : {A : Type 0} (P : A → Type 0) (items : List A) (i : ℕ) (item : A) → i < length items → item ≡ get_or items i item → All P (take i items) → P item → All P (take (i + 1) items)
+item_legal P items i item there is all legal =
+    rw (take_more items i item there, ← is) (All-append P (take i items) (item ∷ []) all (All-cons P item [] legal (All-nil P)))
+
+pub all_taken : {A : Type 0} (P : A → Type 0) (items : List A) (i : ℕ) → length items ≤ i → All P (take i items) → All P items
+all_taken P items i past all = subst (All P) (take_all i items past) all
+
+-- all that stands before the rows
+pub front_put : (old texts count spots rows n1 n2 n3 n4 n5 : List ℕ) → n1 ≡ old ++ 66 ∷ [] → n2 ≡ n1 ++ texts → n3 ≡ n2 ++ count → n4 ≡ n3 ++ spots → n5 ≡ n4 ++ rows → n5 ≡ old ++ (66 ∷ (texts ++ (count ++ (spots ++ rows))))
+front_put old texts count spots rows n1 n2 n3 n4 n5 e1 e2 e3 e4 e5 =
+    rw (e5, e4, e3, e2, e1)
+    (append_assoc (((old ++ 66 ∷ []) ++ texts) ++ count) spots rows ∙ append_assoc ((old ++ 66 ∷ []) ++ texts) count (spots ++ rows)
+    ∙ append_assoc (old ++ 66 ∷ []) texts (count ++ (spots ++ rows)) ∙ append_assoc old (66 ∷ []) (texts ++ (count ++ (spots ++ rows))))
+
+-- the bytes of rows, as a table writes them
+entries_list : (entries : List Entry) → entries_bytes entries ≡ list_bytes entry_bytes entries
+entries_list [] = refl
+entries_list (entry ∷ entries) = ap (λ bytes. entry_bytes entry ++ bytes) (entries_list entries)
+
+-- all rows of a table, each of which can stand in a checkpoint
+pub rows_legal : (cells : Cells) (entries : List Entry) → Lists cells entries → ((node : ℕ) (key : List ℕ) (held : Held) → cells node key ≡ Some held → IsEntry (record { node = node; key = key; held = held })) → All IsEntry entries
+rows_legal cells entries lists each =
+    All-weaker (Contains entries) IsEntry (λ entry among. each entry.node entry.key entry.held ((lists.rows entry.node entry.key entry.held).1 among)) entries (All-contains_itself entries)
+
+pub encodes : (cells : Cells) (queries : List (List ℕ)) (count : ℕ) (spots : List Spot) (rows : ℕ) (entries : List Entry) (old middle new written : List ℕ) → Lists cells entries → AreTexts queries → count < 2 ^ 64 → AreSpots spots
+    → rows < 2 ^ 64 → rows ≡ length entries → All IsEntry entries → middle ≡ old ++ front_bytes queries count spots rows → new ≡ middle ++ written → written ≡ entries_bytes entries → Encodes cells queries count spots old new
+encodes cells queries count spots rows entries old middle new written lists texts fits are few counted each first second is = record {
+  payload = front_bytes queries count spots rows ++ written;
+  rows = entries;
+  lists = lists;
+  base = record {
+    is =
+        let listed : written ≡ list_bytes entry_bytes entries = is ∙ entries_list entries in
+        let number : to_be_bytes w64 rows ≡ to_be_bytes w64 (length entries) = ap (to_be_bytes w64) counted in
+        let a = counted_texts queries in
+        let b = to_be_bytes w64 count in
+        let d = counted_spots spots in
+        let e = to_be_bytes w64 rows in
+        ap (λ (bytes : List ℕ). 66 ∷ bytes)
+        (append_assoc a (b ++ (d ++ e)) written ∙ ap (λ (bytes : List ℕ). a ++ bytes) (append_assoc b (d ++ e) written ∙ ap (λ (bytes : List ℕ). b ++ bytes) (append_assoc d e written ∙ ap (λ (bytes : List ℕ). d ++ bytes) (ap (λ (bytes : List ℕ). e ++ bytes) listed ∙ ap (λ (bytes : List ℕ). bytes ++ list_bytes entry_bytes entries) number))));
+    legal = record { queries = texts; count = fits; spots = are; rows = record { few = omega (arith, few, counted); each = each; rising = lists.rising } };
+  };
+  added = rw (second, first) (append_assoc old (front_bytes queries count spots rows) written);
+}

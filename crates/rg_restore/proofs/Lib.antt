@@ -1,0 +1,9 @@
+pub mod Joining
+pub mod Listing
+pub mod Looking
+pub mod Moving
+pub mod Placing
+pub mod RowKinds
+pub mod Saving
+pub mod Standing
+pub mod Trying

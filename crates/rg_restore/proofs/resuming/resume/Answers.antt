@@ -1,0 +1,50 @@
+use Rattle.std.proofs.Common.{inl, inr, ◌∙◌, ◌+◌, take, length, ap, sym, subst}
+use Rattle.rg_event.specs.Rising.{last_time}
+use Rattle.rg_past.proofs.Kept.{kept-then, cause-within}
+use Rattle.rg_window.specs.Placed.{numbers_of}
+use Rattle.rg_engine.specs.Passed.{passed_count}
+use Rattle.rg_restore.specs.Opening.{IsUsable}
+use Rattle.rg_restore.proofs.Joining.{can_later, node_later}
+use Rattle.rg_restore.proofs.resuming.resume.Goals as goal
+
+pub restore-requires-clause-usable : goal.restore-requires-clause-usable
+restore-requires-clause-usable g c = subst (λ n. IsUsable c.args.plan n c.in-Ok.begun.checkpoint) (ap length (sym c.begin.ensures.events)) c.in-Ok.ensures.usable
+
+pub returns-in-Err-restore-clause-never_bad : goal.returns-in-Err-restore-clause-never_bad
+returns-in-Err-restore-clause-never_bad g c = λ n can runs all.
+    c.in-Err-restore.ensures.never_bad n (can_later _ _ _ c.args.plan _ _ c.begin.ensures.past.sound c.begin.ensures.events can) (c.in-Ok.ensures.truthful can.sound runs all)
+
+pub returns-clause-stands : goal.returns-clause-stands
+returns-clause-stands g c = λ can runs last all.
+    c.in-Ok-restore.ensures.stands (can_later _ _ _ c.args.plan _ _ c.begin.ensures.past.sound c.begin.ensures.events can) (ap last_time c.begin.ensures.events ∙ last) (c.in-Ok.ensures.truthful can.sound runs all)
+
+pub returns-clause-passed : goal.returns-clause-passed
+returns-clause-passed g c = λ sound runs last all.
+    c.in-Ok-restore.ensures.passed (c.begin.ensures.past.sound sound) (ap last_time c.begin.ensures.events ∙ last) (c.in-Ok.ensures.truthful sound runs all)
+    ∙ ap (λ xs. c.args.steps.now + passed_count c.args.plan (take c.in-Ok.begun.checkpoint.count xs) (g.P.Past.events c.restore.new.past)) c.begin.ensures.events
+
+pub returns-clause-ticks : goal.returns-clause-ticks
+returns-clause-ticks g c = (numbers_of c.in-Ok.begun.checkpoint.spots, c.in-Ok.ensures.begun, c.in-Ok-restore.ensures.ticks)
+
+pub returns-in-Err-restore-clause-bad : goal.returns-in-Err-restore-clause-bad
+returns-in-Err-restore-clause-bad g c = λ n can runs is.
+    let on = can_later _ _ _ c.args.plan _ _ c.begin.ensures.past.sound c.begin.ensures.events can in
+    elim (c.in-Ok.ensures.origin can.sound runs) [
+      | inl truthful ↦ absurd (c.in-Err-restore.ensures.never_bad n on truthful is)
+      | inr best ↦ (
+        best.0,
+        c.in-Ok.begun.checkpoint,
+        best.1,
+        λ node. c.in-Err-restore.ensures.bad n on (node_later _ _ c.args.plan n _ _ _ (λ spot. (c.begin.ensures.spells spot).1) c.begin.ensures.events node) is,
+      )
+    ]
+
+pub returns-in-Err-restore-clause-cause : goal.returns-in-Err-restore-clause-cause
+returns-in-Err-restore-clause-cause g c = λ fault is.
+    cause-within _ ⊥ _ ⊥ _ _ _ _ fault c.begin.ensures.past.later (λ full. full) c.begin.ensures.past.ended.0 (c.in-Err-restore.ensures.cause fault is)
+
+pub returns-in-Err-restore-clause-past : goal.returns-in-Err-restore-clause-past
+returns-in-Err-restore-clause-past g c = kept-then _ _ _ _ _ _ _ g.met.P.Past.transitive c.begin.ensures.past c.restore.ensures.past
+
+pub returns-clause-past : goal.returns-clause-past
+returns-clause-past g c = kept-then _ _ _ _ _ _ _ g.met.P.Past.transitive c.begin.ensures.past c.restore.ensures.past

@@ -1,0 +1,8 @@
+use Rattle.std.proofs.Common.{◌∙◌, ◌+◌, take, ap}
+use Rattle.rg_engine.specs.Passed.{passed_count}
+use Rattle.rg_restore.proofs.starting.start.Goals as goal
+
+pub returns-clause-passed : goal.returns-clause-passed
+returns-clause-passed g c = λ sound runs last.
+    c.in-Ok-restore.ensures.passed sound last (c.in-Ok.ensures.truthful sound runs)
+    ∙ ap (λ n. c.args.steps.now + passed_count c.args.plan (take n (g.P.Past.events c.args.past.now)) (g.P.Past.events c.restore.new.past)) c.in-Ok.ensures.count

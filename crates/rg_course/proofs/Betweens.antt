@@ -1,8 +1,8 @@
 -- From one moment between two lines to the next.
-use Rattle.std.proofs.Common.{◌≡◌, inr, ℕ, suc, ◌+◌, List, [], ◌∷◌, ◌++◌, length, take, Option, sym, ◌∙◌, ap, subst, arith, append_assoc}
+use Rattle.std.proofs.Common.{◌≡◌, inl, inr, ℕ, suc, ◌+◌, ◌<◌, List, [], ◌∷◌, ◌++◌, length, take, Option, refl, sym, ◌∙◌, ap, subst, arith, append_assoc}
 use Rattle.std.proofs.lemmas.List.{append-nil}
 use Rattle.rg_event.specs.declared.event.Event.{Event}
-use Rattle.rg_event.specs.Rising.{next_offset}
+use Rattle.rg_event.specs.Rising.{next_offset, IsRising}
 use Rattle.rg_reply.specs.declared.mark.Mark.TheVariants.{Opened}
 use Rattle.rg_host.specs.Lines.{ended}
 use Rattle.rg_course.specs.Accepted.{verdict_from, events_before}
@@ -11,12 +11,14 @@ use Rattle.rg_course.specs.Ahead.{after_line, lines_for, events_from, put_from, 
 use Rattle.rg_course.specs.Laws.{IsPrefixOf}
 use Rattle.rg_course.specs.Stores.{Store, Course, course_of, IsNear}
 use Rattle.rg_course.specs.Steps.{IsAtRest, MarksHold}
-use Rattle.rg_course.specs.Turns.{IsBetween, IsDone}
-use Rattle.rg_course.proofs.Steps.{Item}
+use Rattle.rg_course.specs.Turns.{IsBetween, IsStopped, IsDone}
+use Rattle.rg_course.proofs.Steps.{Item, passed_over}
 use Rattle.rg_course.proofs.Folds.{accepted-all, accepted-goes, puts-goes, out-is, grown}
 use Rattle.rg_course.proofs.Texts.{ended-append, are-append, mark_no_lf, turn_are_lines}
 use Rattle.rg_course.proofs.Keeping.{rest_fewer, rest_more}
-use Rattle.rg_course.proofs.Marking.{open_marks}
+use Rattle.rg_course.proofs.Marking.{open_marks, no_marks}
+use Rattle.rg_course.proofs.Courses.{stopped_at_rest}
+use Rattle.rg_course.proofs.Whole.{accepted_rises, held_begins}
 
 -- what is still to come is what the next line gives, and then what comes behind it
 pub ahead_next : (terms : Terms) (events : List Event) (offset : ℕ) (item : Item) (items : List Item) → out_from terms events offset (item ∷ items) ≡ lines_for terms events offset item ++ out_from terms (after_line terms.basis events offset item) (offset + 1) items
@@ -49,6 +51,10 @@ module _ (Image : Type 0) (store : Store Image) (course : Course) where
       let n : b.count ≡ b.count + 0 = omega arith in
       inr (b.count, b.count + 0, omega arith, now.0, ([], append-nil (course.answers b.count) ∙ ap course.answers n ∙ now.1 ∙ append-nil b.lines), subst (λ (l : List Event). IsPrefixOf es l) (sym (b.events_ahead 0 (omega arith))) front)
 
+  -- a run may stop here
+  pub between_stopped : (terms : Terms) (events : List Event) (offset : ℕ) (items : List Item) (stored : List Event) (keep : Option ℕ) (may : Image → Type 0) (said : List ℕ) → IsBetween store terms course events offset items stored keep may said → IsStopped store course may said
+  between_stopped terms events offset items stored keep may said b = stopped_at_rest Image store course b.lines (out_from terms events offset items) stored keep may said b.at_rest b.are_lines b.text b.said_is
+
   pub between_next : (terms : Terms) (events : List Event) (offset : ℕ) (item : Item) (items : List Item) (old stored : List Event) (old_keep keep : Option ℕ) (old_may may next : Image → Type 0) (said now : List ℕ) →
       (b : IsBetween store terms course events offset (item ∷ items) old old_keep old_may said) → IsAtRest store course b.lines stored keep may → IsPrefixOf stored (after_line terms.basis events offset item) →
       MarksHold store stored keep may (lines_for terms events offset item) → ((v : Image) → next v → may v) → now ≡ said ++ ended (lines_for terms events offset item) →
@@ -73,6 +79,16 @@ module _ (Image : Type 0) (store : Store Image) (course : Course) where
         at_rest = rest_fewer Image store course (b.lines ++ more) stored keep may next (rest_more Image store course b.lines more stored keep may at_rest marks) fewer;
       }
 
+  -- behind a line below the next offset, which is passed over
+  pub between_passed : (terms : Terms) (events : List Event) (offset : ℕ) (item : Item) (items : List Item) (stored : List Event) (keep : Option ℕ) (may next : Image → Type 0) (said : List ℕ) → offset < next_offset events →
+      IsBetween store terms course events offset (item ∷ items) stored keep may said → ((v : Image) → next v → may v) → IsBetween store terms course events (offset + 1) items stored keep next said
+  between_passed terms events offset item items stored keep may next said below b fewer =
+      let p = passed_over terms events offset item below in
+      let marks = subst (λ (l : List (List ℕ)). MarksHold store stored keep may l) (sym p.nothing) (no_marks Image store stored keep may) in
+      let nothing : said ≡ said ++ ended (lines_for terms events offset item) = sym (ap (λ (l : List (List ℕ)). said ++ ended l) p.nothing ∙ append-nil said) in
+      subst (λ (es : List Event). IsBetween store terms course es (offset + 1) items stored keep next said) p.stays
+      (between_next terms events offset item items stored stored keep keep may may next said said b b.at_rest (subst (λ (es : List Event). IsPrefixOf stored es) (sym p.stays) b.of_events) marks fewer nothing)
+
   -- after the last line, once all is stored and put
   pub between_done : (terms : Terms) (events : List Event) (offset : ℕ) (keep old_keep : Option ℕ) (old_may may next : Image → Type 0) (old : List Event) (said now : List ℕ) → (b : IsBetween store terms course events offset [] old old_keep old_may said) → IsAtRest store course b.lines events keep may → ((v : Image) → next v → may v) →
       now ≡ said ++ ended (end_lines offset events) → IsDone store course next now
@@ -84,6 +100,23 @@ module _ (Image : Type 0) (store : Store Image) (course : Course) where
         truthful = λ v left. at_rest.truthful v (fewer v left);
         has = λ v left. subst (λ (es : List Event). store.HasEvents es v) b.accepted (at_rest.has v (fewer v left));
       }
+
+-- before the open line is put, over a store whose images have these events
+pub at_rest_first : (Image : Type 0) (store : Store Image) (terms : Terms) (said : List ℕ) (held : List Event) (from first : ℕ) (lines : List Item) (keep : Option ℕ) (may : Image → Type 0) →
+    ((v : Image) → may v → store.IsTruthful v) → ((v : Image) → may v → store.IsOfSchema v) → ((v : Image) → may v → store.HasEvents held v) → IsRising held → IsAtRest store (course_of terms said held from first lines) [] held keep may
+at_rest_first Image store terms said held from first lines keep may truthful schema has rising =
+    let none = no_marks Image store held keep may in
+    record {
+      truthful = truthful;
+      schema = schema;
+      has = has;
+      rising = accepted_rises terms held first lines rising;
+      begins = held_begins terms held first lines;
+      keeps = ([], append-nil held);
+      near = inl refl;
+      stored_by = none.stored_by;
+      saved_by = none.saved_by;
+    }
 
 -- the first moment, with the open line put
 pub between_first : (Image : Type 0) (store : Store Image) (terms : Terms) (said : List ℕ) (held : List Event) (from first : ℕ) (lines : List Item) (keep : Option ℕ) (may next : Image → Type 0) (now : List ℕ) →

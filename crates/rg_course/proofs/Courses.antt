@@ -134,6 +134,12 @@ module _ (Image : Type 0) (store : Store Image) (course : Course) where
   pub on_course_wider : (last : List ℕ) (v : Image) (said : List ℕ) → IsOnCourse store course [] v said → IsOnCourse store course last v said
   on_course_wider last v said h = record { put = h.put; since = h.since; text = wider course.text last h.put h.text; kept = h.kept }
 
+  pub on_course_since_wider : (start : Image → Type 0) (last : List ℕ) (v : Image) (said : List ℕ) → IsOnCourseSince store course start [] v said → IsOnCourseSince store course start last v said
+  on_course_since_wider start last v said (inl (begun, way)) =
+      let none : way.0 ≡ [] = nil_prefix way.0 way.1.0 way.1.1 in
+      inl (begun, ([], (last, refl), way.2 ∙ ap (λ (p : List ℕ). course.said ++ p) none))
+  on_course_since_wider start last v said (inr h) = inr (on_course_wider last v said h)
+
   pub promised : (start : Image → Type 0) (last : List ℕ) (v : Image) (said : List ℕ) → ((u : Image) → start u → store.IsTruthful u) → IsOnCourseSince store course start last v said → Promised store course start last v said
   promised start last v said all (inl (begun, way)) = record {
     put = way.0;

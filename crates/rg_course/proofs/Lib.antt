@@ -20,4 +20,5 @@ pub mod Betweens
 pub mod Turns
 pub mod Runs
 pub mod Hosts
+pub mod QuietTurns
 pub mod Worked

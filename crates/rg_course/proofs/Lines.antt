@@ -1,5 +1,5 @@
 -- The verdict on one line and its marks, and what is accepted over an empty store.
-use Rattle.std.proofs.Common.{◌≡◌, ℕ, zero, suc, ◌+◌, ◌≤◌, ◌<◌, ◌||◌, Bool, true, false, cond, List, [], ◌∷◌, ◌++◌, length, get_or, Option, Some, None, refl, ap, ◌∙◌, arith}
+use Rattle.std.proofs.Common.{◌≡◌, ℕ, zero, suc, ◌+◌, ◌≤◌, ◌<◌, true, cond, List, [], ◌∷◌, ◌++◌, length, get_or, Option, Some, None, refl, ap, ◌∙◌, arith}
 use Rattle.std.proofs.lemmas.Bool.{lt-ltb, le-ltb}
 use Rattle.rg_event.specs.declared.event.Event.{Event}
 use Rattle.rg_reply.specs.Texts.{reply_line}
@@ -8,6 +8,7 @@ use Rattle.rg_verdict.specs.Verdicts.Verdict.{refused, accepted}
 use Rattle.rg_verdict.specs.Accepted.{accepted_before, reply_to}
 use Rattle.rg_course.specs.Accepted.{verdict_from, after_turn, events_before}
 use Rattle.rg_course.specs.Output.{Terms, stored_line, saved_line, is_every, is_saved, saves, marks_of, turn_lines, put_at}
+use Rattle.rg_course.proofs.Steps.{or_true}
 
 pub looked_at : (basis : Basis) (next : ℕ) (events : List Event) (offset : ℕ) (line : Option (List ℕ)) → next ≤ offset → verdict_from basis next events offset line ≡ Some (line_verdict basis events offset line)
 looked_at basis next events offset line after = ap (λ b. cond b None (Some (line_verdict basis events offset line))) (le-ltb offset next after)
@@ -34,12 +35,8 @@ put_first terms lines i =
     ∙ ap (λ k. turn_lines terms events k (verdict_from terms.basis 0 events k (get_or lines i None))) n
     ∙ ap (λ v. turn_lines terms events i v) (looked_at terms.basis 0 events i (get_or lines i None) (omega arith))
 
-or_right : (a b : Bool) → b ≡ true → (a || b) ≡ true
-or_right true b h = refl
-or_right false b h = h
-
 -- what is saved is stored before
 pub saved_marks : (terms : Terms) (events : List Event) (verdict : Verdict) → saves terms events verdict ≡ true →
     marks_of terms events verdict ≡ stored_line (accepted_after events verdict) ∷ (saved_line (accepted_after events verdict) ∷ [])
 saved_marks terms events (refused reply) due = absurd (cc)
-saved_marks terms events (accepted e) due = rw (or_right (is_every terms.commit (length (events ++ e ∷ []))) (is_saved terms (events ++ e ∷ [])) due, due) refl
+saved_marks terms events (accepted e) due = rw (or_true (is_every terms.commit (length (events ++ e ∷ []))) (is_saved terms (events ++ e ∷ [])) due, due) refl

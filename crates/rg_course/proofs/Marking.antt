@@ -30,6 +30,12 @@ module _ (Image : Type 0) (store : Store Image) where
     saved_by = λ count k says. subst (λ (c : ℕ). HasInKept store events keep may c) (sym (end_saved offset events count few k says)) kept;
   }
 
+  pub no_marks : (stored : List Event) (keep : Option ℕ) (may : Image → Type 0) → MarksHold store stored keep may []
+  no_marks stored keep may = record {
+    stored_by = λ n k says. absurd (contains_none (mark_line (Stored n)) says);
+    saved_by = λ n k says. absurd (contains_none (mark_line (Saved n)) says);
+  }
+
   pub open_marks : (held : List Event) (from : ℕ) (stored : List Event) (keep : Option ℕ) (may : Image → Type 0) → MarksHold store stored keep may (open_line held from ∷ [])
   open_marks held from stored keep may = record {
     stored_by = λ n k says. elim (contains_one (open_line held from) (mark_line (Stored n)) [] says) [

@@ -15,7 +15,7 @@ use Rattle.rg_reply.specs.declared.mark.Mark.TheVariants.{Opened, Stored, Saved,
 use Rattle.rg_verdict.specs.Verdicts.{Verdict, accepted_after, reply_of}
 use Rattle.rg_course.specs.Accepted.{verdict_from, after_turn, events_before, events_after}
 use Rattle.rg_course.specs.Output.{stored_line, saved_line, stores, saves, line_where, marks_of, verdict_lines, turn_lines, put_at, put_before, end_lines, out, Terms}
-use Rattle.rg_course.specs.Acknowledged.{SaysStored, SaysSaved}
+use Rattle.rg_course.specs.Acknowledged.{SaysStored, SaysSaved, SayNothing}
 use Rattle.rg_course.proofs.Steps.{Item}
 use Rattle.rg_course.proofs.Folds.{next_within, accepted-goes}
 use Rattle.rg_course.proofs.Orders.{count-goes}
@@ -55,6 +55,19 @@ stored_injective m n h k e = decimal_injective m n h k (ap (λ (l : List ℕ). d
 
 saved_injective : (m n : ℕ) → m < 2 ^ 64 → n < 2 ^ 64 → mark_line (Saved m) ≡ mark_line (Saved n) → m ≡ n
 saved_injective m n h k e = decimal_injective m n h k (ap (λ (l : List ℕ). drop 6 l) e)
+
+-- a line that doesn't begin with the letter of those marks says nothing of the store
+pub no_mark : (line : List ℕ) → get_or line 0 0 ≢ 115 → SayNothing (line ∷ [])
+no_mark line other = record {
+  not_stored = λ n small says. elim (contains_one line (mark_line (Stored n)) [] says) [
+    | inl e ↦ absurd (other (ap (λ (l : List ℕ). get_or l 0 0) e))
+    | inr none ↦ absurd (contains_none (mark_line (Stored n)) none)
+  ];
+  not_saved = λ count small says. elim (contains_one line (mark_line (Saved count)) [] says) [
+    | inl e ↦ absurd (other (ap (λ (l : List ℕ). get_or l 0 0) e))
+    | inr none ↦ absurd (contains_none (mark_line (Saved count)) none)
+  ];
+}
 
 -- a mark of one kind is the only one of that kind
 one_mark : (b : Bool) (line mark : List ℕ) → Contains (line_where b line) mark → (b ≡ true) × (line ≡ mark)

@@ -20,7 +20,7 @@ Item = Option (List ℕ)
 abbrev later_than : ℕ → List Event → Bool
 later_than time events = list_any (λ x. nat_lt time x.time) events
 
-or_true : (a b : Bool) → b ≡ true → (a || b) ≡ true
+pub or_true : (a b : Bool) → b ≡ true → (a || b) ≡ true
 or_true true b h = refl
 or_true false b h = h
 

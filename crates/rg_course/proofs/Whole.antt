@@ -53,7 +53,7 @@ module _ (terms : Terms) (held : List Event) (first : ℕ) where
             ∙ ap (λ l. l ++ g.added) (sym (accepted-goes terms held first lines i within))),
       )
 
-  held_begins : (lines : List Item) → IsPrefixOf held (events_after terms.basis held first lines)
+  pub held_begins : (lines : List Item) → IsPrefixOf held (events_after terms.basis held first lines)
   held_begins lines = let g = grown terms held first lines in (g.added, sym (accepted-all terms held first lines ∙ g.is))
 
   -- What is still to come.

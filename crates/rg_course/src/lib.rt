@@ -6,9 +6,10 @@
 //! here is a law without a body.
 #![tactic(auto)]
 
-ghost use Rattle.std.specs.Prelude.{true, ◌≡◌, ◌⊎◌, ℕ, ◌+◌, ◌-◌, ◌≤◌, ◌<◌, ◌^◌, max, List, [], ◌∷◌, ◌++◌, length, get_or, drop, Option, Some, None};
+ghost use Rattle.std.specs.Prelude.{◌≡◌, ℕ, ◌+◌, ◌-◌, ◌≤◌, ◌<◌, ◌^◌, max, true, List, [], ◌∷◌, ◌++◌, length, get_or, drop, Option, Some, None};
 ghost use Rattle.rg_event.specs.declared.event.Event.{Event};
 ghost use Rattle.rg_event.specs.Rising.{next_offset, IsRising};
+ghost use Rattle.rg_host.specs.Lines.{ended};
 ghost use Rattle.rg_host.specs.Puts.{IsPrefix};
 ghost use Rattle.rg_reply.specs.Texts.{reply_line};
 ghost use Rattle.rg_verdict.specs.Verdicts.{Basis, Verdict, accepted_after, line_verdict};
@@ -21,7 +22,6 @@ ghost use Rattle.rg_course.specs.Acknowledged.{SaysStored, SaysSaved, SaysLast, 
 ghost use Rattle.rg_course.specs.Pieces.{AreLines, whole_pieces};
 ghost use Rattle.rg_course.specs.Stores.{IsNear, course_of};
 ghost use Rattle.rg_course.specs.Turns.{Covers};
-ghost use Rattle.rg_host.specs.Lines.{ended};
 
 /// A line below the next offset of the store is passed over, and any other gets its verdict. Over an
 /// empty store the events and the replies are those of the whole input, each with its marks behind it.
@@ -31,21 +31,22 @@ pub fn law_line()
         next ≤ offset → verdict_from basis next events offset line ≡ Some (line_verdict basis events offset line) }
     ensures passed_over { (basis : Basis) (next : ℕ) (events : List Event) (offset : ℕ) (line : Option (List ℕ)) →
         offset < next → verdict_from basis next events offset line ≡ None }
-    ensures events { (basis : Basis) (lines : List (Option (List ℕ))) (i : ℕ) → events_before basis [] 0 lines i ≡ accepted_before basis lines i }
-    ensures put { (terms : Terms) (lines : List (Option (List ℕ))) (i : ℕ) →
+    ensures over_nothing { (basis : Basis) (lines : List (Option (List ℕ))) (i : ℕ) → events_before basis [] 0 lines i ≡ accepted_before basis lines i }
+    ensures put_over_nothing { (terms : Terms) (lines : List (Option (List ℕ))) (i : ℕ) →
         put_at terms [] 0 lines i
         ≡ reply_line i (reply_to terms.basis lines i)
         ∷ marks_of terms (accepted_before terms.basis lines i) (line_verdict terms.basis (accepted_before terms.basis lines i) i (get_or lines i None)) }
 {}
 
-/// What a mark says is saved, the mark before it says is stored.
+/// A mark that says what is saved stands behind one that says the same events are stored.
 #[tactic(auto, using(crate::proofs::Lines::saved_marks))]
 pub fn law_marks()
     ensures saved { (terms : Terms) (events : List Event) (verdict : Verdict) → saves terms events verdict ≡ true →
         marks_of terms events verdict ≡ stored_line (accepted_after events verdict) ∷ (saved_line (accepted_after events verdict) ∷ []) }
 {}
 
-/// What is accepted and put in all is what the first lines give, and then what is still to come.
+/// What is accepted and put in all is what the first lines give, and then what is still to come of the
+/// lines behind them.
 #[tactic(auto, using(crate::proofs::Whole::accepted_ahead, crate::proofs::Whole::out_ahead))]
 pub fn law_ahead()
     ensures accepted { (terms : Terms) (held : List Event) (first : ℕ) (lines : List (Option (List ℕ))) (i : ℕ) → i ≤ length lines →
@@ -77,29 +78,29 @@ pub fn law_go_on()
         events_after terms.basis (events_after terms.basis held first front) first (front ++ back) ≡ events_after terms.basis held first (front ++ back) }
 {}
 
-/// Events of a whole run below their next offset are what a run may leave; what is put over them is
-/// the end of what a run puts that never stopped.
+/// What a run may leave is just the events of the whole run below some next offset, after two stops
+/// as after one; what is put over them is the last lines of what a run puts that never stopped.
 #[tactic(auto, using(crate::proofs::Whole::may_leave, crate::proofs::Whole::left_below, crate::proofs::Whole::leaves_again, crate::proofs::Whole::resumes))]
 pub fn law_resume()
-    ensures leaves { (terms : Terms) (held : List Event) (first : ℕ) (lines : List (Option (List ℕ))) (left : List Event) →
+    ensures may_leave { (terms : Terms) (held : List Event) (first : ℕ) (lines : List (Option (List ℕ))) (left : List Event) →
         IsRising held → IsPrefixOf held left → left ≡ below (next_offset left) (events_after terms.basis held first lines) → MayLeave terms.basis held first lines left }
-    ensures left { (terms : Terms) (held : List Event) (first : ℕ) (lines : List (Option (List ℕ))) (left : List Event) →
+    ensures leaves_those_below { (terms : Terms) (held : List Event) (first : ℕ) (lines : List (Option (List ℕ))) (left : List Event) →
         IsRising held → MayLeave terms.basis held first lines left → left ≡ below (next_offset left) (events_after terms.basis held first lines) }
-    ensures again { (terms : Terms) (held : List Event) (first : ℕ) (lines : List (Option (List ℕ))) (left more : List Event) →
+    ensures leaves_twice { (terms : Terms) (held : List Event) (first : ℕ) (lines : List (Option (List ℕ))) (left more : List Event) →
         MayLeave terms.basis held first lines left → MayLeave terms.basis left first lines more → MayLeave terms.basis held first lines more }
     ensures resumes { (terms : Terms) (lines : List (Option (List ℕ))) (held : List Event) →
         held ≡ below (next_offset held) (events_after terms.basis [] 0 lines) → IsSuffixOf (out terms held 0 lines) (unstopped terms lines) }
 {}
 
-/// What is accepted depends on the columns, the header and the limit alone: not on what is asked, nor
-/// on how often it is stored.
+/// What is accepted depends on the columns, the header and the limit alone, and not on what is asked:
+/// runs of other queries over the same store accept alike.
 #[tactic(auto, using(crate::proofs::Alike::accepted_alike))]
 pub fn law_alike()
     ensures accepted { (one two : Basis) (held : List Event) (first : ℕ) (lines : List (Option (List ℕ))) →
         AcceptAlike one two → events_after two held first lines ≡ events_after one held first lines }
 {}
 
-/// Offsets rise, times never fall, and there are no more events than the terms allows or the store held.
+/// Offsets rise, times never fall, and there are no more events than the terms allow or the store held.
 #[tactic(auto, using(crate::proofs::Whole::accepted_rises, crate::proofs::Whole::accepted_count))]
 pub fn law_order()
     ensures rises { (terms : Terms) (held : List Event) (first : ℕ) (lines : List (Option (List ℕ))) → IsRising held → IsRising (events_after terms.basis held first lines) }
@@ -115,11 +116,11 @@ pub fn law_first()
         out terms held (first + length front) back ≡ out terms held first (front ++ back) }
 {}
 
-/// No line of a text holds an LF, and what LF ends in a front of its bytes are the first of its lines.
+/// No line of a text holds an LF, and what LF ends in a prefix of its bytes is a prefix of its lines.
 #[tactic(auto, using(crate::proofs::Texts::run_are_lines, crate::proofs::Texts::pieces_prefix))]
 pub fn law_text()
     ensures lines { (terms : Terms) (held : List Event) (from first : ℕ) (lines : List (Option (List ℕ))) → AreLines (text_of_run terms held from first lines) }
-    ensures front { (text : List (List ℕ)) (put : List ℕ) → AreLines text → IsPrefix put (ended text) → IsPrefixOf (whole_pieces put) text }
+    ensures whole { (text : List (List ℕ)) (put : List ℕ) → AreLines text → IsPrefix put (ended text) → IsPrefixOf (whole_pieces put) text }
 {}
 
 /// A line that says what is stored has the next offset of the events accepted up to it, one that

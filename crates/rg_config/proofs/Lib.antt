@@ -4,3 +4,4 @@ pub mod Taken
 pub mod Total
 pub mod Judged
 pub mod Rests
+pub mod Said

@@ -8,6 +8,7 @@ ghost use Rattle.rg_query.specs.Printing.{query_text};
 ghost use Rattle.rg_config.specs.Plans.{Planned, planned, Says, Tells, Agrees};
 ghost use Rattle.toml.specs.View.{table_view};
 ghost use Rattle.rg_config.specs.Documents.{AreInRange, rest_of};
+ghost use Rattle.rg_config.specs.Read.{IsSaid};
 ghost use Rattle.rg_config.specs.Reading.{ReadsRest, settings_view};
 ghost use Rattle.rg_config.specs.declared.fault.ConfigFault.{ConfigFault as Fault};
 
@@ -64,6 +65,8 @@ pub fn read_plan(alloc: Global, bytes: &[u8]) -> Result<Plan, ConfigFault>
     ensures task { IfOk result (λ plan. plan.task ≡ plan_for (planned plan).queries) }
     // each query is legal over the schema
     ensures legal { IfOk result (λ plan. All (IsLegal plan.schema) (planned plan).queries) }
+    // and some text says it
+    ensures said { IfOk result (λ plan. All (IsSaid plan.schema) (planned plan).queries) }
     // each setting lies in its range
     ensures ranges { IfOk result (λ plan. AreInRange (planned plan).settings) }
 {
@@ -71,12 +74,13 @@ pub fn read_plan(alloc: Global, bytes: &[u8]) -> Result<Plan, ConfigFault>
 }
 
 /// Reads a plan, part by part.
-#[tactic(auto, using(crate::proofs::Legal::measured, crate::proofs::Legal::some_aggs))]
+#[tactic(auto, using(crate::proofs::Legal::measured, crate::proofs::Legal::some_aggs, crate::proofs::Said::all_said))]
 fn plan_of(alloc: Global, bytes: &[u8]) -> Result<Plan, ConfigFault>
     ensures sound { Tells bytes.now result }
     ensures printed { IfOk result (λ plan. plan.queries ≡ map (query_text plan.schema) (planned plan).queries) }
     ensures task { IfOk result (λ plan. plan.task ≡ plan_for (planned plan).queries) }
     ensures legal { IfOk result (λ plan. All (IsLegal plan.schema) (planned plan).queries) }
+    ensures said { IfOk result (λ plan. All (IsSaid plan.schema) (planned plan).queries) }
     ensures ranges { IfOk result (λ plan. AreInRange (planned plan).settings) }
 {
     let top = read_table(alloc, bytes)?;

@@ -4,3 +4,4 @@ pub mod Written
 pub mod Counted
 pub mod OneKind
 pub mod ReadBack
+mod Sizes

@@ -8,7 +8,7 @@ use Rattle.rg_event.specs.Tagged.{value_kind}
 use Rattle.rg_event.specs.declared.value.Value.{Value}
 use Rattle.rg_words.specs.declared.func.Func.{Func}
 use Rattle.rg_agg.specs.Held.{Held, held_bytes}
-use Rattle.rg_agg.specs.Standing.{func_of, size_in, kind_in, IsLike, Stands}
+use Rattle.rg_agg.specs.Standing.{func_of, size_in, kind_in, IsLike, MayBeginWith, Stands}
 use Rattle.rg_state.specs.declared.table.Change.{Change}
 use Rattle.rg_state.specs.declared.table.Change.TheVariants.{Add, Remove}
 
@@ -32,12 +32,13 @@ abbrev pub Unfit : Func → Change → Value → Option Held → Type 0
 Unfit func Add value old = (values : List Value) → RowStands func old values → length values < 2 ^ 40 → AreLike value values → ⊥
 Unfit func Remove value old = (values : List Value) → RowStands func old (value ∷ values) → ⊥
 
--- what a change that is made asks of the row: the function's own, and for a value more one that has room for it and keeps values of its kind
+-- what a change that is made asks of the row: the function's own, and for a value more one that has room for it and keeps values of its kind;
+-- for one fewer, one that may begin with it
 abbrev pub Suits : Func → Change → Value → Option Held → Type 0
 Suits func Add value None = ⊤
 Suits func Add value (Some held) = (func_of held ≡ func) × (size_in held < 2 ^ 40) × IsLike (kind_in held) value
 Suits func Remove value None = ⊥
-Suits func Remove value (Some held) = func_of held ≡ func
+Suits func Remove value (Some held) = (func_of held ≡ func) × MayBeginWith held value
 
 -- why a change is refused: a value doesn't suit the row, or the row stands for no list that begins with it
 abbrev pub IsRefused : Func → Change → Value → Option Held → Type 0

@@ -1,5 +1,5 @@
 ghost use Rattle.std.specs.Prelude.{◌≡◌, ◌↔◌, ◌+◌, ◌<◌, ◌^◌, List, [], ◌∷◌, ◌++◌, length, OnOk, OnErr, IsErrOf, IsTrue};
-ghost use Rattle.rg_agg.specs.Standing.{Stands, size_in, kind_in, IsLike};
+ghost use Rattle.rg_agg.specs.Standing.{Stands, MayBeginWith, size_in, kind_in, IsLike};
 ghost use Rattle.rg_event.specs.declared.value.Value.{Value};
 ghost use Rattle.rg_state.specs.Rows.{AreLike};
 ghost use Rattle.rg_state.specs.Kinds.{IsSame};
@@ -43,6 +43,7 @@ pub(crate) fn add_to<A: Aggregate>(state: &mut A, value: &Value) -> Result<(), R
 pub(crate) fn take_from<A: Aggregate>(state: &mut A, value: &Value) -> Result<(), Refusal>
     ensures ok { OnOk result ((values : List Value) → Stands (A.held state.old) (value.now ∷ values) → Stands (A.held state.new) values) }
     ensures size { OnOk result (size_in (A.held state.old) ≡ size_in (A.held state.new) + 1) }
+    ensures begins { OnOk result (MayBeginWith (A.held state.old) value.now) }
     ensures unfit { OnErr result ((values : List Value) → Stands (A.held state.old) (value.now ∷ values) → ⊥) }
     ensures err { OnErr result (A.held state.new ≡ A.held state.old) }
 {

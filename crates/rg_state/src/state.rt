@@ -1,6 +1,6 @@
 ghost use Rattle.std.specs.Prelude.{◌≡◌, ◌↔◌, IsTrue, ◌+◌, ◌<◌, ◌^◌, ◌==◌, None, List, [], ◌∷◌, ◌++◌, length, IfOk, OnOk, OnErr, IsErrOf};
 ghost use Rattle.rg_agg.specs.Held.{held_bytes};
-ghost use Rattle.rg_agg.specs.Standing.{Stands, func_of, size_in, kind_in, IsLike};
+ghost use Rattle.rg_agg.specs.Standing.{Stands, MayBeginWith, func_of, size_in, kind_in, IsLike};
 ghost use Rattle.rg_event.specs.declared.value.Value.{Value};
 ghost use Rattle.rg_metric.specs.Answers.{answer_of};
 ghost use Rattle.rg_state.specs.Rows.{AreLike};
@@ -179,6 +179,7 @@ impl AggState {
         ensures ok { OnOk result ((values : List Value) → Stands (held_of self.old) (value.now ∷ values) → Stands (held_of self.new) values) }
         ensures func { func_of (held_of self.new) ≡ func_of (held_of self.old) }
         ensures size { OnOk result (size_in (held_of self.old) ≡ size_in (held_of self.new) + 1) }
+        ensures begins { OnOk result (MayBeginWith (held_of self.old) value.now) }
         ensures unfit { OnErr result ((values : List Value) → Stands (held_of self.old) (value.now ∷ values) → ⊥) }
         ensures err { OnErr result (held_of self.new ≡ held_of self.old) }
     {

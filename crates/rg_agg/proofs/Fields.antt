@@ -2,15 +2,13 @@
 use Rattle.std.proofs.Common.{◌≡◌, ◌<◌, ◌≤◌, ◌^◌, ◌*◌, Option, ℕ, ℤ, pos, negsuc, List, [], ◌∷◌, ◌++◌, Bool, true, false, nat_le, length, ◌⊎◌, inl, inr, Some, None, Result, Ok, Err, refl, ap, ◌∙◌, arith, append_assoc}
 use Rattle.std.proofs.lemmas.Bool.{and_parts, eqb-true, leb-true, ltb-true, le-leb, lt-ltb}
 use Rattle.std.proofs.lemmas.Grind.{common_steps}
-use Rattle.std.proofs.lemmas.Int.{to_z-of_z}
-use Rattle.std.proofs.lemmas.Result.{err_from_is_err_and}
 use Rattle.std.specs.Int.{w64, w128, to_be_bytes, cast_unsigned}
 use Rattle.std.specs.Int.RustNames.{FitsSigned, unsigned_abs}
-use Rattle.std.specs.Result.{IsErrAnd}
-use Rattle.rg_agg.specs.Held.{counted, summed, averaged, squared, ended, summed_at, averaged_at, squared_at, held_bytes, counted_at, ended_at, Begins, fitting, is_sum, is_square_sum, is_number, sum_bytes, size_at, size_behind_at, sum_at, total_at, number_value_at, part_fault, Agrees, Returns}
+use Rattle.rg_agg.specs.Held.{counted, summed, averaged, squared, ended, summed_at, averaged_at, squared_at, held_bytes, counted_at, ended_at, Begins, is_sum, is_square_sum, is_number, sum_bytes, size_at, tag_at, size_behind_at, total_at, number_value_at, part_fault}
 use Rattle.rg_agg.specs.declared.fault.StateFault.{StateFault}
 use Rattle.rg_agg.specs.declared.fault.StateFault.TheVariants.{Short, Unfit, Memory}
-use Rattle.rg_bytes.proofs.Bytes.{wide_128}
+use Rattle.rg_bytes.specs.Reading.{and_then, tested}
+use Rattle.rg_bytes.proofs.Reading.{u8_read, u8_short, u64_read, u64_short, i128_read, i128_short}
 use Rattle.rg_agg.specs.Numbers.{value_of, seen, is_kept}
 use Rattle.rg_agg.specs.Stands.{IsNumber, is_int_or_id}
 use Rattle.rg_agg.specs.declared.number.Number.{Number}
@@ -21,52 +19,62 @@ use Rattle.rg_event.specs.declared.codec.EventFault.TheVariants.{Memory as Event
 use Rattle.rg_event.specs.declared.value.Value.{Value}
 use Rattle.rg_event.specs.declared.value.Value.TheVariants.{Int as IntValue, Id as IdValue, Text as TextValue, Flag as FlagValue}
 use Rattle.rg_event.proofs.TaggedValues.{tagged_reads_back}
-use Rattle.rg_event.proofs.Decoding.{bytes_read, bytes_short, number_read, number_short}
 
 -- the number of values
 
 pub size_short : (bytes : List ℕ) → length bytes < 8 → size_at bytes ≡ Err Short
 unfolding size_at
-size_short bytes few = rw (number_short bytes few) refl
+size_short bytes few = rw (u64_short Short bytes few) refl
 
 pub size_read : (bytes : List ℕ) (n : ℕ) (rest : List ℕ) → bytes ≡ to_be_bytes w64 n ++ rest → 0 < n → n ≤ 2 ^ 40 → size_at bytes ≡ Ok (n, rest)
 unfolding size_at
-size_read bytes n rest stood some few = rw (stood, number_read n rest (omega arith)) (grind (arith, common_steps))
+size_read bytes n rest stood some few = rw (u64_read Short bytes n rest stood (omega (arith, few))) (grind (arith, common_steps))
 
 pub size_bad : (bytes : List ℕ) (n : ℕ) (rest : List ℕ) → bytes ≡ to_be_bytes w64 n ++ rest → n < 2 ^ 64 → (n ≡ 0) ⊎ (2 ^ 40 < n) → size_at bytes ≡ Err Unfit
 unfolding size_at
-size_bad bytes n rest stood fits bad = rw (stood, number_read n rest fits) (grind (arith, common_steps))
+size_bad bytes n rest stood fits bad = rw (u64_read Short bytes n rest stood fits) (grind (arith, common_steps))
 
-pub tag_short : (tag : ℕ) (old : List ℕ) → length old < 1 → size_behind_at tag old ≡ Err Short
-unfolding size_behind_at
-tag_short tag [] few = refl
-tag_short tag (byte ∷ old) few = absurd (omega arith)
+-- a tag
 
-pub tag_other : (tag : ℕ) (old : List ℕ) (byte : ℕ) (bytes : List ℕ) → old ≡ byte ∷ bytes → ¬ (byte ≡ tag) → size_behind_at tag old ≡ Err Unfit
-unfolding size_behind_at
-tag_other tag old byte bytes stood other = rw stood (grind (arith, common_steps))
+tag_short : (tag : ℕ) (old : List ℕ) → length old < 1 → tag_at tag old ≡ Err Short
+unfolding tag_at
+tag_short tag old few = rw (u8_short Short old few) refl
 
-pub tag_read : (tag : ℕ) (old : List ℕ) (byte : ℕ) (bytes : List ℕ) → old ≡ byte ∷ bytes → byte ≡ tag → size_behind_at tag old ≡ size_at bytes
+tag_other : (tag : ℕ) (old : List ℕ) (byte : ℕ) (bytes : List ℕ) → old ≡ byte ∷ bytes → ¬ (byte ≡ tag) → tag_at tag old ≡ Err Unfit
+unfolding tag_at
+tag_other tag old byte bytes stood other = rw (u8_read Short old byte bytes stood) (grind (arith, common_steps))
+
+tag_read : (tag : ℕ) (old : List ℕ) (byte : ℕ) (bytes : List ℕ) → old ≡ byte ∷ bytes → byte ≡ tag → tag_at tag old ≡ Ok (byte, bytes)
+unfolding tag_at
+tag_read tag old byte bytes stood same = rw (u8_read Short old byte bytes stood) (grind (arith, common_steps))
+
+-- and what is read behind it
+
+pub behind_short : {A : Type 0} (tag : ℕ) (next : List ℕ → Begins A) (old : List ℕ) → length old < 1 → and_then (tag_at tag old) (λ byte behind. next behind) ≡ Err Short
+behind_short tag next old few = rw (tag_short tag old few) refl
+
+pub behind_other : {A : Type 0} (tag : ℕ) (next : List ℕ → Begins A) (old : List ℕ) (byte : ℕ) (bytes : List ℕ) → old ≡ byte ∷ bytes → ¬ (byte ≡ tag) → and_then (tag_at tag old) (λ byte behind. next behind) ≡ Err Unfit
+behind_other tag next old byte bytes stood other = rw (tag_other tag old byte bytes stood other) refl
+
+pub behind_read : {A : Type 0} (tag : ℕ) (next : List ℕ → Begins A) (old : List ℕ) (byte : ℕ) (bytes : List ℕ) → old ≡ byte ∷ bytes → byte ≡ tag → and_then (tag_at tag old) (λ byte behind. next behind) ≡ next bytes
+behind_read tag next old byte bytes stood same = rw (tag_read tag old byte bytes stood same) refl
+
+pub size_tag_short : (tag : ℕ) (old : List ℕ) → length old < 1 → size_behind_at tag old ≡ Err Short
 unfolding size_behind_at
-tag_read tag old byte bytes stood same = rw stood (grind (arith, common_steps))
+size_tag_short tag old few = behind_short tag size_at old few
+
+pub size_tag_other : (tag : ℕ) (old : List ℕ) (byte : ℕ) (bytes : List ℕ) → old ≡ byte ∷ bytes → ¬ (byte ≡ tag) → size_behind_at tag old ≡ Err Unfit
+unfolding size_behind_at
+size_tag_other tag old byte bytes stood other = behind_other tag size_at old byte bytes stood other
+
+pub size_tag_read : (tag : ℕ) (old : List ℕ) (byte : ℕ) (bytes : List ℕ) → old ≡ byte ∷ bytes → byte ≡ tag → size_behind_at tag old ≡ size_at bytes
+unfolding size_behind_at
+size_tag_read tag old byte bytes stood same = behind_read tag size_at old byte bytes stood same
 
 pub size_behind_read : (tag : ℕ) (old : List ℕ) (n : ℕ) (rest : List ℕ) → old ≡ tag ∷ (to_be_bytes w64 n ++ rest) → 0 < n → n ≤ 2 ^ 40 → size_behind_at tag old ≡ Ok (n, rest)
-size_behind_read tag old n rest stood some few = tag_read tag old tag (to_be_bytes w64 n ++ rest) stood refl ∙ size_read _ n rest refl some few
+size_behind_read tag old n rest stood some few = size_tag_read tag old tag (to_be_bytes w64 n ++ rest) stood refl ∙ size_read _ n rest refl some few
 
 -- sums
-
-pub sum_short : (bytes : List ℕ) → length bytes < 16 → sum_at bytes ≡ Err Short
-unfolding sum_at
-sum_short bytes few = rw (bytes_short 16 bytes few) refl
-
-wide_fits : (sum : ℤ) → FitsSigned w128 sum → cast_unsigned w128 sum < 2 ^ 128
-wide_fits (pos n) fits = omega (arith, fits.sfits)
-wide_fits (negsuc n) fits = omega (arith, fits.sfits)
-
-pub sum_read : (bytes : List ℕ) (sum : ℤ) (rest : List ℕ) → bytes ≡ sum_bytes sum ++ rest → FitsSigned w128 sum → sum_at bytes ≡ Ok (sum, rest)
-unfolding sum_at
-sum_read bytes sum rest stood fits =
-    rw (stood, bytes_read 16 (to_be_bytes w128 (cast_unsigned w128 sum)) rest refl, wide_128.back (cast_unsigned w128 sum) (wide_fits sum fits), to_z-of_z w128 sum fits) refl
 
 pub total_size_stops : (test : ℕ → ℤ → Bool) (tag : ℕ) (old : List ℕ) (fault : StateFault) → (size_behind_at tag old ≡ Err fault) ⊎ (fault ≡ Memory) → (total_at test tag old ≡ Err fault) ⊎ (fault ≡ Memory)
 unfolding total_at
@@ -75,20 +83,20 @@ total_size_stops test tag old fault (inr memory) = inr memory
 
 pub total_sum_short : (test : ℕ → ℤ → Bool) (tag : ℕ) (old : List ℕ) (n : ℕ) (behind : List ℕ) → size_behind_at tag old ≡ Ok (n, behind) → length behind < 16 → total_at test tag old ≡ Err Short
 unfolding total_at
-total_sum_short test tag old n behind first few = rw (first, sum_short behind few) refl
+total_sum_short test tag old n behind first few = rw (first, i128_short Short behind few) refl
 
 total_tested : (test : ℕ → ℤ → Bool) (tag : ℕ) (old : List ℕ) (n : ℕ) (behind : List ℕ) (sum : ℤ) (rest : List ℕ) → size_behind_at tag old ≡ Ok (n, behind) → behind ≡ sum_bytes sum ++ rest → FitsSigned w128 sum
-    → total_at test tag old ≡ fitting (test n sum) (n, sum) rest
+    → total_at test tag old ≡ tested Unfit (test n sum) (n, sum) rest
 unfolding total_at
-total_tested test tag old n behind sum rest first stood fits = rw (first, sum_read behind sum rest stood fits) refl
+total_tested test tag old n behind sum rest first stood fits = rw (first, i128_read Short behind sum rest stood fits) refl
 
 pub total_read : (test : ℕ → ℤ → Bool) (tag : ℕ) (old : List ℕ) (n : ℕ) (behind : List ℕ) (sum : ℤ) (rest : List ℕ) → size_behind_at tag old ≡ Ok (n, behind) → behind ≡ sum_bytes sum ++ rest → FitsSigned w128 sum → test n sum ≡ true
     → total_at test tag old ≡ Ok ((n, sum), rest)
-total_read test tag old n behind sum rest first stood fits passes = total_tested test tag old n behind sum rest first stood fits ∙ ap (λ passed. fitting passed (n, sum) rest) passes
+total_read test tag old n behind sum rest first stood fits passes = total_tested test tag old n behind sum rest first stood fits ∙ ap (λ passed. tested Unfit passed (n, sum) rest) passes
 
 pub total_bad : (test : ℕ → ℤ → Bool) (tag : ℕ) (old : List ℕ) (n : ℕ) (behind : List ℕ) (sum : ℤ) (rest : List ℕ) → size_behind_at tag old ≡ Ok (n, behind) → behind ≡ sum_bytes sum ++ rest → FitsSigned w128 sum → test n sum ≡ false
     → total_at test tag old ≡ Err Unfit
-total_bad test tag old n behind sum rest first stood fits fails = total_tested test tag old n behind sum rest first stood fits ∙ ap (λ passed. fitting passed (n, sum) rest) fails
+total_bad test tag old n behind sum rest first stood fits fails = total_tested test tag old n behind sum rest first stood fits ∙ ap (λ passed. tested Unfit passed (n, sum) rest) fails
 
 pub total_reads_back : (test : ℕ → ℤ → Bool) (tag n : ℕ) (sum : ℤ) (rest : List ℕ) → 0 < n → n ≤ 2 ^ 40 → FitsSigned w128 sum → test n sum ≡ true
     → total_at test tag (tag ∷ (to_be_bytes w64 n ++ sum_bytes sum) ++ rest) ≡ Ok ((n, sum), rest)
@@ -142,30 +150,6 @@ number_value_stops old event (inr memory) = inr (ap part_fault memory)
 pub number_value_reads_back : (value : Value) (rest : List ℕ) → IsNumber value → number_value_at (tagged_bytes value ++ rest) ≡ Ok (value, rest)
 number_value_reads_back value rest is = number_value_read _ value rest (tagged_reads_back value rest (legal_number value is)) (some_number value is)
 
--- what is answered
-
-pub stopped : {A B : Type 0} (view : A → B) (reading : Begins B) (result : Result A StateFault) (left : List ℕ) (fault : StateFault) → IsErrAnd result (λ e. e ≡ fault) → (reading ≡ Err fault) ⊎ (fault ≡ Memory) → Agrees view reading result left
-stopped view reading result left fault stops is = let parts = err_from_is_err_and result stops in rw (parts.1, parts.2) is
-
-one_answer : {B : Type 0} (reading : Begins B) (first second : B × List ℕ) → reading ≡ Ok first → reading ≡ Ok second → first ≡ second
-one_answer reading first second one two = cc
-
-no_fault : {B : Type 0} (reading : Begins B) (fault : StateFault) (read : B × List ℕ) → reading ≡ Err fault → reading ≡ Ok read → ⊥
-no_fault reading fault read one two = cc
-
-pub both_answers : {B : Type 0} (reading : Begins B) (a b : B) (left rest : List ℕ) → reading ≡ Ok (a, left) → reading ≡ Ok (b, rest) → (a ≡ b) × (left ≡ rest)
-both_answers {B} reading a b left rest one two =
-    let same = one_answer reading (a, left) (b, rest) one two in
-    (ap (λ (read : B × List ℕ). read.0) same, ap (λ (read : B × List ℕ). read.1) same)
-
--- what agrees with a reading that gives something is that
-pub returns_it : {A B : Type 0} (view : A → B) (reading : Begins B) (result : Result A StateFault) (left : List ℕ) (held : B) (rest : List ℕ) → Agrees view reading result left → reading ≡ Ok (held, rest) → Returns view held rest result left
-returns_it {A} {B} view reading (Ok state) left held rest agrees is =
-    let same = one_answer reading (view state, left) (held, rest) agrees is in
-    (ap (λ (read : B × List ℕ). read.0) same, ap (λ (read : B × List ℕ). read.1) same)
-returns_it view reading (Err fault) left held rest (inl agrees) is = absurd (no_fault reading fault (held, rest) agrees is)
-returns_it view reading (Err fault) left held rest (inr memory) is = memory
-
 -- whole states
 
 pub ended_read : (old : List ℕ) (n : ℕ) (behind : List ℕ) (value : Value) (left : List ℕ) → size_behind_at 9 old ≡ Ok (n, behind) → number_value_at behind ≡ Ok (value, left) → ended_at old ≡ Ok (ended n (Some value), left)
@@ -182,11 +166,6 @@ counted_reads_back n rest some few = rw (size_behind_read 1 (held_bytes (counted
 pub end_reads_back : (n : ℕ) (last : Option Number) (old rest : List ℕ) → 0 < n → n ≤ 2 ^ 40 → is_kept n last ≡ true → old ≡ held_bytes (ended n (seen last)) ++ rest → ended_at old ≡ Ok (ended n (seen last), rest)
 end_reads_back n (Some number) old rest some few kept stood = rw stood (ended_reads_back n (value_of number) rest some few (and_parts (nat_le 1 n) (is_int_or_id (value_of number)) kept).1)
 end_reads_back n None old rest some few kept stood = absurd (omega (arith, eqb-true n 0 kept))
-
--- where a reading gives something, a refusal is for memory alone
-pub memory_only : {B : Type 0} (reading : Begins B) (fault : StateFault) (read : B × List ℕ) → (reading ≡ Err fault) ⊎ (fault ≡ Memory) → reading ≡ Ok read → fault ≡ Memory
-memory_only reading fault read (inl refused) is = absurd (no_fault reading fault read refused is)
-memory_only reading fault read (inr memory) is = memory
 
 pub two_more : (old first second middle : List ℕ) → middle ≡ old ++ first → middle ++ second ≡ old ++ (first ++ second)
 two_more old first second middle one = rw (one, append_assoc old first second) refl

@@ -3,7 +3,7 @@ use Rattle.std.proofs.Common.{◌≡◌, ℕ, suc, ◌+◌, ◌-◌, ◌<◌, �
 use Rattle.std.proofs.lemmas.Bool.{and_parts, and_from}
 use Rattle.std.proofs.lemmas.List.{length-map}
 use Rattle.std.specs.Int.{w64, to_be_bytes}
-use Rattle.rg_agg.specs.Held.{queued, held_bytes, tagged_list, is_like, is_like_first, number_value_at, next_at, more_at, queued_at, size_behind_at}
+use Rattle.rg_agg.specs.Held.{queued, held_bytes, tagged_list, is_like, is_like_first, number_value_at, next_at, queued_at, size_behind_at}
 use Rattle.rg_agg.specs.Numbers.{value_of}
 use Rattle.rg_agg.specs.Stands.{IsNumber, is_int_or_id, all_like, are_alike}
 use Rattle.rg_agg.specs.Standing.{IsLike, first_kind}
@@ -13,6 +13,8 @@ use Rattle.rg_agg.specs.declared.number.Number.{Number}
 use Rattle.rg_event.specs.Tagged.{tagged_bytes, value_kind}
 use Rattle.rg_event.specs.declared.value.Value.{Value}
 use Rattle.rg_event.specs.declared.value.Value.TheVariants.{Int as IntValue, Id as IdValue}
+use Rattle.rg_bytes.specs.Reading.{more_at}
+use Rattle.rg_bytes.proofs.Lists.{StepsBack, more_back}
 use Rattle.rg_agg.proofs.Fields.{number_value_reads_back, size_behind_read}
 
 pub values_more : (numbers : List Number) (number : Number) → map value_of (numbers ++ number ∷ []) ≡ map value_of numbers ++ value_of number ∷ []
@@ -53,10 +55,6 @@ pushed_keeps true old new number v is room are same legal like = (
 )
 pushed_keeps false old new number v is room are same legal like = (omega (arith, room, ap length is), rw is are)
 
-pub tagged_list_more : (values : List Value) (v : Value) → tagged_list (values ++ v ∷ []) ≡ tagged_list values ++ tagged_bytes v
-tagged_list_more [] v = append-nil (tagged_bytes v)
-tagged_list_more (w ∷ ws) v = ap (λ bytes. tagged_bytes w ++ bytes) (tagged_list_more ws v) ∙ sym (append_assoc (tagged_bytes w) (tagged_list ws) (tagged_bytes v))
-
 -- reading
 
 pub next_read : (so_far : List Value) (old : List ℕ) (value : Value) (left : List ℕ) → number_value_at old ≡ Ok (value, left) → is_like_first value so_far ≡ true → next_at so_far old ≡ Ok (value, left)
@@ -72,37 +70,26 @@ unfolding next_at
 next_stops so_far old fault (inl is) = inl (rw is refl)
 next_stops so_far old fault (inr memory) = inr memory
 
-pub more_step : (so_far : List Value) (n m : ℕ) (old : List ℕ) (value : Value) (left : List ℕ) → n ≡ suc m → next_at so_far old ≡ Ok (value, left) → more_at so_far n old ≡ more_at (so_far ++ value ∷ []) m left
-more_step so_far n m old value left count is = rw (count, is) refl
-
-pub more_stops : (so_far : List Value) (n m : ℕ) (old : List ℕ) (fault : StateFault) → n ≡ suc m → (next_at so_far old ≡ Err fault) ⊎ (fault ≡ Memory) → (more_at so_far n old ≡ Err fault) ⊎ (fault ≡ Memory)
-more_stops so_far n m old fault count (inl is) = inl (rw (count, is) refl)
-more_stops so_far n m old fault count (inr memory) = inr memory
-
-pub queued_read : (old : List ℕ) (n : ℕ) (behind : List ℕ) (values : List Value) (left : List ℕ) → size_behind_at 8 old ≡ Ok (n, behind) → more_at [] n behind ≡ Ok (values, left) → queued_at old ≡ Ok (queued values, left)
+pub queued_read : (old : List ℕ) (n : ℕ) (behind : List ℕ) (values : List Value) (left : List ℕ) → size_behind_at 8 old ≡ Ok (n, behind) → more_at next_at [] n behind ≡ Ok (values, left) → queued_at old ≡ Ok (queued values, left)
 queued_read old n behind values left first second = rw (first, second) refl
 
 -- what is written is read back
 
-all_read_back : (first : Value) (so_far values : List Value) (rest : List ℕ) → all_like first values ≡ true → more_at (first ∷ so_far) (length values) (tagged_list values ++ rest) ≡ Ok (first ∷ (so_far ++ values), rest)
-all_read_back first so_far [] rest are = ap (λ (values : List Value). Ok (first ∷ values, rest)) (sym (append-nil so_far))
-all_read_back first so_far (v ∷ vs) rest are =
+all_back : (first : Value) (so_far values : List Value) → all_like first values ≡ true → StepsBack next_at tagged_bytes (first ∷ so_far) values
+all_back first so_far [] are = tt
+all_back first so_far (v ∷ vs) are =
     let head = and_parts (is_int_or_id v) (is_like first v && all_like first vs) are in
     let likes = and_parts (is_like first v) (all_like first vs) head.1 in
-    let left : List ℕ = tagged_list vs ++ rest in
-    let stood : tagged_list (v ∷ vs) ++ rest ≡ tagged_bytes v ++ left = append_assoc (tagged_bytes v) (tagged_list vs) rest in
-    let next : next_at (first ∷ so_far) (tagged_list (v ∷ vs) ++ rest) ≡ Ok (v, left) = rw stood (next_read (first ∷ so_far) _ v left (number_value_reads_back v left head.0) likes.0) in
-    more_step (first ∷ so_far) (suc (length vs)) (length vs) _ v left refl next
-    ∙ (all_read_back first (so_far ++ v ∷ []) vs rest likes.1 ∙ ap (λ (values : List Value). Ok (first ∷ values, rest)) (append_assoc so_far (v ∷ []) vs))
+    (λ rest. next_read (first ∷ so_far) _ v rest (number_value_reads_back v rest head.0) likes.0, all_back first (so_far ++ v ∷ []) vs likes.1)
 
-pub values_read_back : (values : List Value) (rest : List ℕ) → are_alike values ≡ true → more_at [] (length values) (tagged_list values ++ rest) ≡ Ok (values, rest)
-values_read_back [] rest are = refl
-values_read_back (v ∷ vs) rest are =
+steps_back : (values : List Value) → are_alike values ≡ true → StepsBack next_at tagged_bytes [] values
+steps_back [] are = tt
+steps_back (v ∷ vs) are =
     let head = and_parts (is_int_or_id v) (all_like v vs) are in
-    let left : List ℕ = tagged_list vs ++ rest in
-    let stood : tagged_list (v ∷ vs) ++ rest ≡ tagged_bytes v ++ left = append_assoc (tagged_bytes v) (tagged_list vs) rest in
-    let next : next_at [] (tagged_list (v ∷ vs) ++ rest) ≡ Ok (v, left) = rw stood (next_read [] _ v left (number_value_reads_back v left head.0) refl) in
-    more_step [] (suc (length vs)) (length vs) _ v left refl next ∙ all_read_back v [] vs rest head.1
+    (λ rest. next_read [] _ v rest (number_value_reads_back v rest head.0) refl, all_back v [] vs head.1)
+
+pub values_read_back : (values : List Value) (rest : List ℕ) → are_alike values ≡ true → more_at next_at [] (length values) (tagged_list values ++ rest) ≡ Ok (values, rest)
+values_read_back values rest are = more_back next_at tagged_bytes [] values rest (steps_back values are)
 
 pub queued_reads_back : (numbers : List Number) (rest : List ℕ) → 0 < length numbers → length numbers ≤ 2 ^ 40 → are_alike (map value_of numbers) ≡ true → queued_at (held_bytes (queued (map value_of numbers)) ++ rest) ≡ Ok (queued (map value_of numbers), rest)
 queued_reads_back numbers rest some few are =
@@ -110,16 +97,3 @@ queued_reads_back numbers rest some few are =
     let counted : length values ≡ length numbers = length-map numbers value_of in
     let stood : held_bytes (queued values) ++ rest ≡ 8 ∷ (to_be_bytes w64 (length values) ++ (tagged_list values ++ rest)) = ap (λ (bytes : List ℕ). 8 ∷ bytes) (append_assoc (to_be_bytes w64 (length values)) (tagged_list values) rest) in
     queued_read _ (length values) (tagged_list values ++ rest) values rest (size_behind_read 8 _ (length values) (tagged_list values ++ rest) stood (omega (arith, counted)) (omega (arith, counted))) (values_read_back values rest are)
-
--- one turn of reading
-
-pub step_to_come : (old new : List Number) (number : Number) (count done : ℕ) (start from left : List ℕ) → new ≡ old ++ number ∷ [] → done < count → more_at [] count start ≡ more_at (map value_of old) (count - done) from → next_at (map value_of old) from ≡ Ok (value_of number, left)
-    → more_at [] count start ≡ more_at (map value_of new) (count - (done + 1)) left
-step_to_come old new number count done start from left pushed below so_far next =
-    so_far
-    ∙ (more_step (map value_of old) (count - done) (count - (done + 1)) from (value_of number) left (omega (arith, below)) next
-    ∙ ap (λ values. more_at values (count - (done + 1)) left) (sym (ap (map value_of) pushed ∙ values_more old number)))
-
-pub step_taken : (old new : List Number) (number : Number) (start from left : List ℕ) → new ≡ old ++ number ∷ [] → start ≡ tagged_list (map value_of old) ++ from → from ≡ tagged_bytes (value_of number) ++ left → start ≡ tagged_list (map value_of new) ++ left
-step_taken old new number start from left pushed so_far stood =
-    rw (so_far, stood, pushed, values_more old number, tagged_list_more (map value_of old) (value_of number), append_assoc (tagged_list (map value_of old)) (tagged_bytes (value_of number)) left) refl

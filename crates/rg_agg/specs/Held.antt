@@ -1,9 +1,9 @@
 -- What states hold, and their bytes.
-use Rattle.std.specs.Prelude.{◌≡◌, ◌⊎◌, ℕ, zero, suc, length, ◌*◌, ◌==◌, nat_le, ◌&&◌, ℤ, pos, int_le, unsigned_abs, Bool, true, false, List, [], ◌∷◌, ◌++◌, Option, Some, None, Result, Ok, Err, if◌then◌else◌}
-use Rattle.std.specs.Int.{w64, w128, to_be_bytes, from_be_bytes, cast_signed, cast_unsigned}
+use Rattle.std.specs.Prelude.{ℕ, length, ◌*◌, ◌==◌, nat_le, ◌&&◌, ℤ, pos, int_le, unsigned_abs, Bool, true, false, List, [], ◌∷◌, ◌++◌, Option, Some, None, Result, Ok, Err}
+use Rattle.std.specs.Int.{w64, w128, to_be_bytes, cast_unsigned}
 use Rattle.rg_agg.specs.declared.fault.StateFault.{StateFault}
 use Rattle.rg_agg.specs.declared.fault.StateFault.TheVariants.{Short, Unfit, Memory}
-use Rattle.rg_event.specs.Codec.{Reading, bytes_at, number_at}
+use Rattle.rg_bytes.specs.Reading.{Reading, Agrees as AgreesWith, Returns as ReturnsWith, and_then, tested, u8_at, u64_at, i128_at, more_at, list_bytes}
 use Rattle.rg_event.specs.Tagged.{tagged_bytes, tagged_at}
 use Rattle.rg_event.specs.declared.codec.EventFault.{EventFault}
 use Rattle.rg_event.specs.declared.codec.EventFault.TheVariants.{Short as EventShort, BadValue, Memory as EventMemory}
@@ -33,8 +33,7 @@ last_bytes None = []
 
 -- the values one after another, each with its kind's tag
 abbrev pub tagged_list : List Value → List ℕ
-tagged_list [] = []
-tagged_list (value ∷ values) = tagged_bytes value ++ tagged_list values
+tagged_list values = list_bytes tagged_bytes values
 
 -- each value with its kind's tag, and in 8 bytes how often it is there
 abbrev pub pairs_bytes : List (Value × ℕ) → List ℕ
@@ -63,12 +62,7 @@ held_bytes (varied pairs) = counts_bytes 7 pairs
 
 -- what some bytes begin with, and the bytes behind it; or why they begin with none
 abbrev pub Begins : Type 0 → Type 0
-Begins A = Result (A × List ℕ) StateFault
-
--- one reading, and then another of the bytes that it left
-abbrev pub and_then : {A B : Type 0} → Begins A → (A → List ℕ → Begins B) → Begins B
-and_then (Ok (value, left)) next = next value left
-and_then (Err fault) next = Err fault
+Begins A = Reading StateFault A
 
 -- why bytes begin with no part that events have too: a bad one is unfit
 abbrev pub part_fault : EventFault → StateFault
@@ -77,13 +71,9 @@ part_fault (BadValue field) = Unfit
 part_fault EventMemory = Memory
 
 -- the reading of a part that events have too
-abbrev pub as_part : {A : Type 0} → Reading A → Begins A
+abbrev pub as_part : {A : Type 0} → Reading EventFault A → Begins A
 as_part (Ok read) = Ok read
 as_part (Err fault) = Err (part_fault fault)
-
--- a part that passes its test
-abbrev pub fitting : {A : Type 0} → Bool → A → List ℕ → Begins A
-fitting test part left = if test then Ok (part, left) else Err Unfit
 
 -- from 1 to 2^40
 abbrev pub is_size : ℕ → Bool
@@ -117,35 +107,29 @@ is_like_first value (first ∷ values) = is_like first value
 
 -- the number of values, in 8 bytes
 unfoldable pub size_at : List ℕ → Begins ℕ
-size_at bytes = and_then (as_part (number_at bytes)) (λ n left. fitting (is_size n) n left)
+size_at bytes = and_then (u64_at Short bytes) (λ n left. tested Unfit (is_size n) n left)
+
+-- this byte
+unfoldable pub tag_at : ℕ → List ℕ → Begins ℕ
+tag_at tag bytes = and_then (u8_at Short bytes) (λ byte left. tested Unfit (byte == tag) byte left)
 
 -- this tag, and the number of values
 unfoldable pub size_behind_at : ℕ → List ℕ → Begins ℕ
-size_behind_at tag [] = Err Short
-size_behind_at tag (byte ∷ bytes) = if byte == tag then size_at bytes else Err Unfit
-
--- a number in 16 bytes
-unfoldable pub sum_at : List ℕ → Begins ℤ
-sum_at bytes = and_then (as_part (bytes_at 16 bytes)) (λ front left. Ok (cast_signed w128 (from_be_bytes w128 front), left))
+size_behind_at tag bytes = and_then (tag_at tag bytes) (λ byte behind. size_at behind)
 
 -- a tag, the number of values, and a sum that passes its test
 unfoldable pub total_at : (ℕ → ℤ → Bool) → ℕ → List ℕ → Begins (ℕ × ℤ)
 total_at test tag bytes =
     and_then (size_behind_at tag bytes) (λ n behind.
-    and_then (sum_at behind) (λ sum left. fitting (test n sum) (n, sum) left))
+    and_then (i128_at Short behind) (λ sum left. tested Unfit (test n sum) (n, sum) left))
 
 -- a value that is an int or an id, with its kind's tag
 unfoldable pub number_value_at : List ℕ → Begins Value
-number_value_at bytes = and_then (as_part (tagged_at bytes)) (λ value left. fitting (is_number value) value left)
+number_value_at bytes = and_then (as_part (tagged_at bytes)) (λ value left. tested Unfit (is_number value) value left)
 
 -- one value more, of the kind of those so far
 unfoldable pub next_at : List Value → List ℕ → Begins Value
-next_at so_far bytes = and_then (number_value_at bytes) (λ value left. fitting (is_like_first value so_far) value left)
-
--- so many values more
-abbrev pub more_at : List Value → ℕ → List ℕ → Begins (List Value)
-more_at so_far zero bytes = Ok (so_far, bytes)
-more_at so_far (suc n) bytes = and_then (next_at so_far bytes) (λ value left. more_at (so_far ++ value ∷ []) n left)
+next_at so_far bytes = and_then (number_value_at bytes) (λ value left. tested Unfit (is_like_first value so_far) value left)
 
 -- the states of each aggregator
 
@@ -162,17 +146,15 @@ abbrev pub squared_at : List ℕ → Begins Held
 squared_at bytes = and_then (total_at is_square_sum 4 bytes) (λ total left. Ok (squared total.0 total.1, left))
 
 abbrev pub queued_at : List ℕ → Begins Held
-queued_at bytes = and_then (size_behind_at 8 bytes) (λ n behind. and_then (more_at [] n behind) (λ values left. Ok (queued values, left)))
+queued_at bytes = and_then (size_behind_at 8 bytes) (λ n behind. and_then (more_at next_at [] n behind) (λ values left. Ok (queued values, left)))
 
 abbrev pub ended_at : List ℕ → Begins Held
 ended_at bytes = and_then (size_behind_at 9 bytes) (λ n behind. and_then (number_value_at behind) (λ last left. Ok (ended n (Some last), left)))
 
 -- what is answered, as it is seen, and what is left are those of the reading; or memory ran out
 abbrev pub Agrees : {A B : Type 0} → (A → B) → Begins B → Result A StateFault → List ℕ → Type 0
-Agrees view reading (Ok state) left = reading ≡ Ok (view state, left)
-Agrees view reading (Err fault) left = (reading ≡ Err fault) ⊎ (fault ≡ Memory)
+Agrees view reading result left = AgreesWith Memory view reading result left
 
 -- this is answered, as it is seen, and this is left; or memory ran out
 abbrev pub Returns : {A B : Type 0} → (A → B) → B → List ℕ → Result A StateFault → List ℕ → Type 0
-Returns view held rest (Ok state) left = (view state ≡ held) × (left ≡ rest)
-Returns view held rest (Err fault) left = fault ≡ Memory
+Returns view held rest result left = ReturnsWith Memory view held rest result left

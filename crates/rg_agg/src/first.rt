@@ -1,8 +1,9 @@
 ghost use Rattle.std.specs.Prelude.{◌≡◌, ◌≤◌, ◌<◌, ◌^◌, ◌++◌, [], length, map, IfOk, OnOk, OnErr, true, IsTrue};
-ghost use Rattle.rg_agg.specs.Held.{queued, queued_at, held_bytes, tagged_list, next_at, more_at, is_like_first, Agrees};
+ghost use Rattle.rg_agg.specs.Held.{queued, queued_at, held_bytes, tagged_list, next_at, is_like_first, Agrees};
 ghost use Rattle.rg_agg.specs.Numbers.{value_of};
 ghost use Rattle.rg_agg.specs.Stands.{IsNumber, are_alike, begins_with};
 ghost use Rattle.rg_bytes.specs.Keeps.{Keeps};
+ghost use Rattle.rg_bytes.specs.Reading.{more_at};
 ghost use Rattle.rg_event.specs.Tagged.{tagged_bytes};
 
 use crate::aggregate::Aggregate;
@@ -179,7 +180,7 @@ fn read_numbers(
     count: u64,
     from: &mut ByteReader<'_>,
 ) -> Result<VecDeque<Number>, StateFault>
-    ensures agrees { Agrees (λ numbers. map value_of numbers.items) (more_at [] count from.old) result from.new }
+    ensures agrees { Agrees (λ numbers. map value_of numbers.items) (more_at next_at [] count from.old) result from.new }
     ensures ok { IfOk result (λ numbers. from.old ≡ tagged_list (map value_of numbers.items) ++ from.new) }
     ensures count { IfOk result (λ numbers. length numbers.items ≡ count) }
     ensures alike { IfOk result (λ numbers. are_alike (map value_of numbers.items) ≡ true) }

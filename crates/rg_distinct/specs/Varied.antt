@@ -2,7 +2,8 @@
 use Rattle.std.specs.Prelude.{ℕ, List, Ok}
 use Rattle.std.proofs.Props.{props}
 use mathlib.Core.HLevel.{Unit-prop}
-use Rattle.rg_agg.specs.Held.{Begins, Held, and_then, varied}
+use Rattle.rg_agg.specs.Held.{Begins, Held, varied}
+use Rattle.rg_bytes.specs.Reading.{and_then}
 use Rattle.rg_event.specs.Tagged.{IsLegal}
 use Rattle.rg_event.specs.declared.value.Value.{Value}
 use Rattle.rg_event.specs.declared.value.Value.TheVariants.{Int, Id, Text, Flag}

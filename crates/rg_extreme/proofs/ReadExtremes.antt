@@ -3,7 +3,8 @@ use Rattle.std.proofs.Common.{◌≡◌, ℕ, ◌+◌, ◌<◌, ◌≤◌, ◌^�
 use Rattle.std.specs.Prelude.{Result, IfOk}
 use Rattle.std.proofs.lemmas.Bool.{and_from, le-leb}
 use Rattle.std.specs.Int.{w64, to_be_bytes}
-use Rattle.rg_agg.specs.Held.{Agrees, and_then, extreme_bytes, held_bytes, highest, lowest, is_like, number_value_at, pairs_bytes, size_behind_at}
+use Rattle.rg_agg.specs.Held.{Agrees, extreme_bytes, held_bytes, highest, lowest, is_like, number_value_at, pairs_bytes, size_behind_at}
+use Rattle.rg_bytes.specs.Reading.{and_then}
 use Rattle.rg_agg.specs.Numbers.{value_of}
 use Rattle.rg_agg.specs.Standing.{counts_sum}
 use Rattle.rg_agg.specs.Stands.{IsNumber}

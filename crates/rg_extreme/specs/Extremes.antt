@@ -1,6 +1,7 @@
 -- The states of a least and of a greatest value.
 use Rattle.std.specs.Prelude.{Bool, ℕ, List, [], Ok}
-use Rattle.rg_agg.specs.Held.{Begins, Held, and_then, lowest, highest, number_value_at, size_behind_at}
+use Rattle.rg_agg.specs.Held.{Begins, Held, lowest, highest, number_value_at, size_behind_at}
+use Rattle.rg_bytes.specs.Reading.{and_then}
 use Rattle.rg_agg.specs.Unbeaten.{is_less, is_greater}
 use Rattle.rg_event.specs.declared.value.Value.{Value}
 use Rattle.rg_tally.specs.Reading.{length_at, more_pairs_at}

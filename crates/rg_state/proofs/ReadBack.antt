@@ -6,7 +6,8 @@ use Rattle.rg_agg.specs.Numbers.{value_of}
 use Rattle.rg_agg.specs.Standing.{size_in}
 use Rattle.rg_agg.proofs.Fields.{counted_reads_back, summed_reads_back, averaged_reads_back, squared_reads_back, end_reads_back}
 use Rattle.rg_agg.proofs.Queues.{queued_reads_back}
-use Rattle.rg_agg.specs.Held.{and_then, varied}
+use Rattle.rg_agg.specs.Held.{varied}
+use Rattle.rg_bytes.specs.Reading.{and_then}
 use Rattle.rg_event.specs.Tagged.{IsLegal}
 use Rattle.rg_tally.specs.Reading.{any_value_at, is_before}
 use Rattle.rg_tally.specs.ValueLaws.{value_reads_back}

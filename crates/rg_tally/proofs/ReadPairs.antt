@@ -4,14 +4,17 @@ use Rattle.std.proofs.lemmas.Bool.{and_from, and_parts, eq-eqb, le-leb, leb-true
 use Rattle.std.proofs.lemmas.Grind.{common_steps}
 use Rattle.std.specs.Prelude.{Result, IfOk, OnOk, OnErr}
 use Rattle.std.specs.Int.{w64, to_be_bytes}
-use Rattle.rg_agg.specs.Held.{Begins, fitting, counts_bytes, pairs_bytes}
+use Rattle.rg_agg.specs.Held.{Begins, counts_bytes, pairs_bytes}
+use Rattle.rg_agg.proofs.Fields.{behind_short, behind_other, behind_read as tag_behind_read}
+use Rattle.rg_bytes.specs.Reading.{tested}
+use Rattle.rg_bytes.proofs.Reading.{u64_read, u64_short}
+use Rattle.rg_bytes.proofs.Lists.{step_to_come as one_to_come}
 use Rattle.rg_agg.specs.Standing.{counts_sum}
 use Rattle.rg_agg.specs.declared.fault.StateFault.{StateFault}
 use Rattle.rg_agg.specs.declared.fault.StateFault.TheVariants.{Short, Unfit, Memory}
 use Rattle.rg_event.specs.Tagged.{tagged_bytes, tag_of, value_kind}
 use Rattle.rg_event.specs.declared.value.Kind.{Kind}
 use Rattle.rg_event.specs.declared.value.Value.{Value}
-use Rattle.rg_event.proofs.Decoding.{number_read, number_short}
 use Rattle.rg_tally.proofs.Kept.{alike_pushed, sum_append}
 use Rattle.rg_tally.specs.Pairs.{pairs_by, AreOf, AreAlike, AreRising, IsSized, IsTally}
 use Rattle.rg_tally.specs.Reading.{behind_at, comes_behind, count_at, is_count, last_kept, length_at, length_behind_at, more_pairs_at, pair_at, pairs_at, same_kind}
@@ -35,17 +38,17 @@ behind_bad value_at below so_far old value left is behind = rw (is, behind) refl
 
 pub count_short : (most : ℕ) (so_far : List (Value × ℕ)) (old : List ℕ) → length old < 8 → count_at most so_far old ≡ Err Short
 unfolding count_at
-count_short most so_far old few = rw (number_short old few) refl
+count_short most so_far old few = rw (u64_short Short old few) refl
 
-count_tested : (most : ℕ) (so_far : List (Value × ℕ)) (old : List ℕ) (n : ℕ) (rest : List ℕ) → old ≡ to_be_bytes w64 n ++ rest → n < 2 ^ 64 → count_at most so_far old ≡ fitting (is_count most so_far n) n rest
+count_tested : (most : ℕ) (so_far : List (Value × ℕ)) (old : List ℕ) (n : ℕ) (rest : List ℕ) → old ≡ to_be_bytes w64 n ++ rest → n < 2 ^ 64 → count_at most so_far old ≡ tested Unfit (is_count most so_far n) n rest
 unfolding count_at
-count_tested most so_far old n rest stood fits = rw (stood, number_read n rest fits) refl
+count_tested most so_far old n rest stood fits = rw (u64_read Short old n rest stood fits) refl
 
 pub count_read : (most : ℕ) (so_far : List (Value × ℕ)) (old : List ℕ) (n : ℕ) (rest : List ℕ) → old ≡ to_be_bytes w64 n ++ rest → n < 2 ^ 64 → is_count most so_far n ≡ true → count_at most so_far old ≡ Ok (n, rest)
-count_read most so_far old n rest stood fits is = count_tested most so_far old n rest stood fits ∙ ap (λ test. fitting test n rest) is
+count_read most so_far old n rest stood fits is = count_tested most so_far old n rest stood fits ∙ ap (λ test. tested Unfit test n rest) is
 
 pub count_bad : (most : ℕ) (so_far : List (Value × ℕ)) (old : List ℕ) (n : ℕ) (rest : List ℕ) → old ≡ to_be_bytes w64 n ++ rest → n < 2 ^ 64 → is_count most so_far n ≡ false → count_at most so_far old ≡ Err Unfit
-count_bad most so_far old n rest stood fits is = count_tested most so_far old n rest stood fits ∙ ap (λ test. fitting test n rest) is
+count_bad most so_far old n rest stood fits is = count_tested most so_far old n rest stood fits ∙ ap (λ test. tested Unfit test n rest) is
 
 -- one pair
 
@@ -65,12 +68,8 @@ pair_read most value_at below so_far old value behind n left first second = rw (
 
 -- pairs in a row
 
-pub more_step : (most : ℕ) (value_at : List ℕ → Begins Value) (below : Value → Value → Bool) (so_far : List (Value × ℕ)) (n m : ℕ) (old : List ℕ) (pair : Value × ℕ) (left : List ℕ) → n ≡ suc m → pair_at value_at below most so_far old ≡ Ok (pair, left) → more_pairs_at value_at below most so_far n old ≡ more_pairs_at value_at below most (so_far ++ pair ∷ []) m left
+more_step : (most : ℕ) (value_at : List ℕ → Begins Value) (below : Value → Value → Bool) (so_far : List (Value × ℕ)) (n m : ℕ) (old : List ℕ) (pair : Value × ℕ) (left : List ℕ) → n ≡ suc m → pair_at value_at below most so_far old ≡ Ok (pair, left) → more_pairs_at value_at below most so_far n old ≡ more_pairs_at value_at below most (so_far ++ pair ∷ []) m left
 more_step most value_at below so_far n m old pair left count is = rw (count, is) refl
-
-pub more_stops : (most : ℕ) (value_at : List ℕ → Begins Value) (below : Value → Value → Bool) (so_far : List (Value × ℕ)) (n m : ℕ) (old : List ℕ) (fault : StateFault) → n ≡ suc m → (pair_at value_at below most so_far old ≡ Err fault) ⊎ (fault ≡ Memory) → (more_pairs_at value_at below most so_far n old ≡ Err fault) ⊎ (fault ≡ Memory)
-more_stops most value_at below so_far n m old fault count (inl is) = inl (rw (count, is) refl)
-more_stops most value_at below so_far n m old fault count (inr memory) = inr memory
 
 pub pairs_bytes_more : (pairs : List (Value × ℕ)) (pair : Value × ℕ) → pairs_bytes (pairs ++ pair ∷ []) ≡ pairs_bytes pairs ++ (tagged_bytes pair.0 ++ to_be_bytes w64 pair.1)
 pairs_bytes_more [] pair = ap (λ bytes. tagged_bytes pair.0 ++ bytes) (append-nil (to_be_bytes w64 pair.1))
@@ -83,9 +82,7 @@ pairs_bytes_more (first ∷ pairs) pair =
 pub step_to_come : (most : ℕ) (value_at : List ℕ → Begins Value) (below : Value → Value → Bool) (old new : List (Value × ℕ)) (pair : Value × ℕ) (count done : ℕ) (start from left : List ℕ) → new ≡ old ++ pair ∷ [] → done < count → more_pairs_at value_at below most [] count start ≡ more_pairs_at value_at below most old (count - done) from → pair_at value_at below most old from ≡ Ok (pair, left)
     → more_pairs_at value_at below most [] count start ≡ more_pairs_at value_at below most new (count - (done + 1)) left
 step_to_come most value_at below old new pair count done start from left pushed below_count so_far next =
-    so_far
-    ∙ (more_step most value_at below old (count - done) (count - (done + 1)) from pair left (omega (arith, below_count)) next
-    ∙ ap (λ pairs. more_pairs_at value_at below most pairs (count - (done + 1)) left) (sym pushed))
+    one_to_come (pair_at value_at below most) old new pair count done start from left pushed below_count so_far next
 
 pub step_taken : (old new : List (Value × ℕ)) (pair : Value × ℕ) (start from left : List ℕ) → new ≡ old ++ pair ∷ [] → start ≡ pairs_bytes old ++ from → from ≡ tagged_bytes pair.0 ++ (to_be_bytes w64 pair.1 ++ left) → start ≡ pairs_bytes new ++ left
 step_taken old new pair start from left pushed so_far stood =
@@ -98,28 +95,27 @@ step_taken old new pair start from left pushed so_far stood =
 
 pub length_short : (bytes : List ℕ) → length bytes < 8 → length_at bytes ≡ Err Short
 unfolding length_at
-length_short bytes few = rw (number_short bytes few) refl
+length_short bytes few = rw (u64_short Short bytes few) refl
 
 pub length_read : (bytes : List ℕ) (n : ℕ) (rest : List ℕ) → bytes ≡ to_be_bytes w64 n ++ rest → n < 2 ^ 64 → 0 < n → length_at bytes ≡ Ok (n, rest)
 unfolding length_at
-length_read bytes n rest stood fits some = rw (stood, number_read n rest fits) (grind (arith, common_steps))
+length_read bytes n rest stood fits some = rw (u64_read Short bytes n rest stood fits) (grind (arith, common_steps))
 
 pub length_bad : (bytes : List ℕ) (n : ℕ) (rest : List ℕ) → bytes ≡ to_be_bytes w64 n ++ rest → n < 2 ^ 64 → n ≡ 0 → length_at bytes ≡ Err Unfit
 unfolding length_at
-length_bad bytes n rest stood fits none = rw (stood, number_read n rest fits) (grind (arith, common_steps))
+length_bad bytes n rest stood fits none = rw (u64_read Short bytes n rest stood fits) (grind (arith, common_steps))
 
 pub tag_short : (tag : ℕ) (old : List ℕ) → length old < 1 → length_behind_at tag old ≡ Err Short
 unfolding length_behind_at
-tag_short tag [] few = refl
-tag_short tag (byte ∷ old) few = absurd (omega arith)
+tag_short tag old few = behind_short tag length_at old few
 
 pub tag_other : (tag : ℕ) (old : List ℕ) (byte : ℕ) (bytes : List ℕ) → old ≡ byte ∷ bytes → ¬ (byte ≡ tag) → length_behind_at tag old ≡ Err Unfit
 unfolding length_behind_at
-tag_other tag old byte bytes stood other = rw stood (grind (arith, common_steps))
+tag_other tag old byte bytes stood other = behind_other tag length_at old byte bytes stood other
 
 pub tag_read : (tag : ℕ) (old : List ℕ) (byte : ℕ) (bytes : List ℕ) → old ≡ byte ∷ bytes → byte ≡ tag → length_behind_at tag old ≡ length_at bytes
 unfolding length_behind_at
-tag_read tag old byte bytes stood same = rw stood (grind (arith, common_steps))
+tag_read tag old byte bytes stood same = tag_behind_read tag length_at old byte bytes stood same
 
 length_behind_read : (tag : ℕ) (old : List ℕ) (n : ℕ) (rest : List ℕ) → old ≡ tag ∷ (to_be_bytes w64 n ++ rest) → n < 2 ^ 64 → 0 < n → length_behind_at tag old ≡ Ok (n, rest)
 length_behind_read tag old n rest stood fits some = tag_read tag old tag (to_be_bytes w64 n ++ rest) stood refl ∙ length_read _ n rest refl fits some

@@ -1,11 +1,11 @@
 -- The reading of values with their counts.
-use Rattle.std.specs.Prelude.{ℕ, zero, suc, ◌+◌, ◌==◌, nat_le, ◌&&◌, Bool, true, List, [], ◌∷◌, ◌++◌, Option, Some, None, Ok, Err, if◌then◌else◌}
+use Rattle.std.specs.Prelude.{ℕ, ◌+◌, ◌==◌, nat_le, ◌&&◌, Bool, true, List, [], ◌∷◌, Option, Some, None, Ok}
 use Rattle.std.specs.Cmp.Lexicographic.{slice_cmp}
 use Rattle.std.specs.Ordering.{is_lt, nat_cmp}
-use Rattle.rg_agg.specs.Held.{Begins, and_then, as_part, fitting}
+use Rattle.rg_agg.specs.Held.{Begins, as_part, tag_at}
+use Rattle.rg_bytes.specs.Reading.{and_then, tested, u64_at, more_at}
 use Rattle.rg_agg.specs.Standing.{counts_sum}
 use Rattle.rg_agg.specs.declared.fault.StateFault.TheVariants.{Short, Unfit}
-use Rattle.rg_event.specs.Codec.{number_at}
 use Rattle.rg_event.specs.Tagged.{tag_of, tagged_at, tagged_bytes, value_kind}
 use Rattle.rg_event.specs.declared.value.Value.{Value}
 
@@ -38,11 +38,11 @@ is_count most so_far count = nat_le 1 count && nat_le (counts_sum so_far + count
 
 -- a value that may stand behind those so far
 unfoldable pub behind_at : (List ℕ → Begins Value) → (Value → Value → Bool) → List (Value × ℕ) → List ℕ → Begins Value
-behind_at value_at below so_far bytes = and_then (value_at bytes) (λ value left. fitting (comes_behind below (last_kept so_far) value) value left)
+behind_at value_at below so_far bytes = and_then (value_at bytes) (λ value left. tested Unfit (comes_behind below (last_kept so_far) value) value left)
 
 -- how often it is there, in 8 bytes
 unfoldable pub count_at : ℕ → List (Value × ℕ) → List ℕ → Begins ℕ
-count_at most so_far bytes = and_then (as_part (number_at bytes)) (λ count left. fitting (is_count most so_far count) count left)
+count_at most so_far bytes = and_then (u64_at Short bytes) (λ count left. tested Unfit (is_count most so_far count) count left)
 
 -- one pair more
 unfoldable pub pair_at : (List ℕ → Begins Value) → (Value → Value → Bool) → ℕ → List (Value × ℕ) → List ℕ → Begins (Value × ℕ)
@@ -52,18 +52,15 @@ pair_at value_at below most so_far bytes =
 
 -- so many pairs more
 abbrev pub more_pairs_at : (List ℕ → Begins Value) → (Value → Value → Bool) → ℕ → List (Value × ℕ) → ℕ → List ℕ → Begins (List (Value × ℕ))
-more_pairs_at value_at below most so_far zero bytes = Ok (so_far, bytes)
-more_pairs_at value_at below most so_far (suc n) bytes =
-    and_then (pair_at value_at below most so_far bytes) (λ pair left. more_pairs_at value_at below most (so_far ++ pair ∷ []) n left)
+more_pairs_at value_at below most so_far n bytes = more_at (pair_at value_at below most) so_far n bytes
 
 -- the number of pairs, in 8 bytes: at least 1
 unfoldable pub length_at : List ℕ → Begins ℕ
-length_at bytes = and_then (as_part (number_at bytes)) (λ n left. fitting (nat_le 1 n) n left)
+length_at bytes = and_then (u64_at Short bytes) (λ n left. tested Unfit (nat_le 1 n) n left)
 
 -- this tag, and the number of pairs
 unfoldable pub length_behind_at : ℕ → List ℕ → Begins ℕ
-length_behind_at tag [] = Err Short
-length_behind_at tag (byte ∷ bytes) = if byte == tag then length_at bytes else Err Unfit
+length_behind_at tag bytes = and_then (tag_at tag bytes) (λ byte behind. length_at behind)
 
 -- a tag, the number of pairs, and the pairs, of at most 2^40 values
 unfoldable pub pairs_at : (List ℕ → Begins Value) → (Value → Value → Bool) → ℕ → List ℕ → Begins (List (Value × ℕ))

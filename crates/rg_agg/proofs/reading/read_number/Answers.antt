@@ -1,10 +1,12 @@
 use Rattle.std.proofs.Common.{◌≡◌, inl, refl, rules}
 use Rattle.rg_agg.specs.Numbers.{value_of}
-use Rattle.rg_agg.proofs.Fields.{number_value_read, number_value_bad, number_value_stops, stopped, is_value_of, no_number}
+use Rattle.rg_agg.specs.declared.fault.StateFault.TheVariants.{Memory}
+use Rattle.rg_agg.proofs.Fields.{number_value_read, number_value_bad, number_value_stops, is_value_of, no_number}
+use Rattle.rg_bytes.proofs.Reading.{agrees_stopped}
 use Rattle.rg_agg.proofs.reading.read_number.Goals as goal
 
 pub returns-in_err-value-clause-agrees : goal.returns-in_err-value-clause-agrees
-returns-in_err-value-clause-agrees c = stopped _ _ c.from_residual.result _ _ c.from_residual.ensures.1 (number_value_stops _ _ c.in_err-value.ensures.agrees)
+returns-in_err-value-clause-agrees c = agrees_stopped Memory _ _ c.from_residual.result _ _ c.from_residual.ensures.1 (number_value_stops _ _ c.in_err-value.ensures.agrees)
 
 pub returns-in-Some-clause-agrees : goal.returns-in-Some-clause-agrees
 returns-in-Some-clause-agrees c =

@@ -3,16 +3,17 @@ use Rattle.std.proofs.lemmas.Int.{to_z-of_z}
 use Rattle.std.specs.Int.{w128}
 use Rattle.std.specs.Int.RustNames.{FitsSigned}
 use Rattle.rg_agg.specs.Held.{is_square_sum}
-use Rattle.rg_agg.specs.declared.fault.StateFault.TheVariants.{Short}
-use Rattle.rg_agg.proofs.Fields.{total_size_stops, total_sum_short, total_read, total_bad, stopped}
+use Rattle.rg_agg.specs.declared.fault.StateFault.TheVariants.{Short, Memory}
+use Rattle.rg_agg.proofs.Fields.{total_size_stops, total_sum_short, total_read, total_bad}
+use Rattle.rg_bytes.proofs.Reading.{agrees_stopped}
 use Rattle.rg_agg.proofs.sum_sq.read_squares.Goals as goal
 
 pub returns-in_err-count-clause-agrees : goal.returns-in_err-count-clause-agrees
-returns-in_err-count-clause-agrees c = stopped _ _ c.from_residual.result _ _ c.from_residual.ensures.1 (total_size_stops is_square_sum _ _ _ c.in_err-count.ensures.agrees)
+returns-in_err-count-clause-agrees c = agrees_stopped Memory _ _ c.from_residual.result _ _ c.from_residual.ensures.1 (total_size_stops is_square_sum _ _ _ c.in_err-count.ensures.agrees)
 
 pub returns-in_err-sum-clause-agrees : goal.returns-in_err-sum-clause-agrees
 returns-in_err-sum-clause-agrees c =
-    stopped _ _ c.from_residual-in_err-sum.result _ Short c.from_residual-in_err-sum.ensures.1 (inl (total_sum_short is_square_sum _ _ _ _ c.in_ok-count.ensures.agrees (search rules)))
+    agrees_stopped Memory _ _ c.from_residual-in_err-sum.result _ Short c.from_residual-in_err-sum.ensures.1 (inl (total_sum_short is_square_sum _ _ _ _ c.in_ok-count.ensures.agrees (search rules)))
 
 pub returns-then-is_within-clause-agrees : goal.returns-then-is_within-clause-agrees
 returns-then-is_within-clause-agrees c =

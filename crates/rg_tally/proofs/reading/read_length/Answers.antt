@@ -1,18 +1,18 @@
 use Rattle.std.proofs.Common.{rules, inl, ◌∙◌}
-use Rattle.rg_agg.specs.declared.fault.StateFault.TheVariants.{Short}
-use Rattle.rg_agg.proofs.Fields.{stopped}
+use Rattle.rg_agg.specs.declared.fault.StateFault.TheVariants.{Short, Memory}
+use Rattle.rg_bytes.proofs.Reading.{agrees_stopped}
 use Rattle.rg_tally.proofs.ReadPairs.{tag_short, tag_other, tag_read, length_short, length_bad, length_read}
 use Rattle.rg_tally.proofs.reading.read_length.Goals as goal
 
 pub returns-in_err-u8-clause-agrees : goal.returns-in_err-u8-clause-agrees
-returns-in_err-u8-clause-agrees c = stopped _ _ c.from_residual.result _ Short c.from_residual.ensures.1 (inl (tag_short _ _ (search rules)))
+returns-in_err-u8-clause-agrees c = agrees_stopped Memory _ _ c.from_residual.result _ Short c.from_residual.ensures.1 (inl (tag_short _ _ (search rules)))
 
 pub returns-then-branch-tag-clause-agrees : goal.returns-then-branch-tag-clause-agrees
 returns-then-branch-tag-clause-agrees c = inl (tag_other _ _ c.in_ok-u8.field-0 _ c.in_ok-u8.ensures.ok (search rules))
 
 pub returns-in_err-count-clause-agrees : goal.returns-in_err-count-clause-agrees
 returns-in_err-count-clause-agrees c =
-    stopped _ _ c.from_residual-in_err-count.result _ Short c.from_residual-in_err-count.ensures.1
+    agrees_stopped Memory _ _ c.from_residual-in_err-count.result _ Short c.from_residual-in_err-count.ensures.1
     (inl (tag_read _ _ c.in_ok-u8.field-0 _ c.in_ok-u8.ensures.ok (search rules) ∙ length_short _ (search rules)))
 
 pub returns-then-count-eq0-clause-agrees : goal.returns-then-count-eq0-clause-agrees

@@ -3,7 +3,8 @@ use Rattle.std.proofs.lemmas.Grind.{common_steps}
 use Rattle.std.proofs.lemmas.List.{length-map}
 use Rattle.rg_agg.specs.Held.{queued}
 use Rattle.rg_agg.specs.Numbers.{value_of}
-use Rattle.rg_agg.proofs.Fields.{both_answers, memory_only}
+use Rattle.rg_agg.specs.declared.fault.StateFault.TheVariants.{Memory}
+use Rattle.rg_bytes.proofs.Reading.{both_answers, memory_only}
 use Rattle.rg_agg.proofs.Queues.{queued_reads_back}
 use Rattle.rg_agg.proofs.first.FirstAggregate.decode.Goals as goal
 
@@ -19,4 +20,4 @@ returns-in-Err-clause-agrees c = grind (arith, common_steps)
 
 pub returns-in-Err-clause-reads_back : goal.returns-in-Err-clause-reads_back
 returns-in-Err-clause-reads_back c state rest some stood =
-    memory_only _ _ (queued (map value_of state.numbers.items), rest) (returns-in-Err-clause-agrees c) (rw stood (queued_reads_back state.numbers.items rest (omega (arith, some, length-map state.numbers.items value_of)) state.few state.alike))
+    memory_only Memory _ _ (queued (map value_of state.numbers.items), rest) (returns-in-Err-clause-agrees c) (rw stood (queued_reads_back state.numbers.items rest (omega (arith, some, length-map state.numbers.items value_of)) state.few state.alike))

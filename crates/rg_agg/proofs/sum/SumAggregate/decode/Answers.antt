@@ -1,11 +1,13 @@
 use Rattle.std.proofs.Common.{arith}
 use Rattle.std.proofs.lemmas.Grind.{common_steps}
 use Rattle.rg_agg.specs.Held.{summed}
-use Rattle.rg_agg.proofs.Fields.{memory_only, summed_reads_back}
+use Rattle.rg_agg.specs.declared.fault.StateFault.TheVariants.{Memory}
+use Rattle.rg_agg.proofs.Fields.{summed_reads_back}
+use Rattle.rg_bytes.proofs.Reading.{memory_only}
 use Rattle.rg_agg.proofs.sum.SumAggregate.decode.Goals as goal
 
 pub returns-in-Err-clause-agrees : goal.returns-in-Err-clause-agrees
 returns-in-Err-clause-agrees c = grind (arith, common_steps)
 
 pub returns-in-Err-clause-reads_back : goal.returns-in-Err-clause-reads_back
-returns-in-Err-clause-reads_back c state rest some stood = memory_only _ _ (summed state.total.count state.total.sum, rest) (returns-in-Err-clause-agrees c) (rw stood (summed_reads_back state.total.count state.total.sum rest some state.total.few state.total.bound))
+returns-in-Err-clause-reads_back c state rest some stood = memory_only Memory _ _ (summed state.total.count state.total.sum, rest) (returns-in-Err-clause-agrees c) (rw stood (summed_reads_back state.total.count state.total.sum rest some state.total.few state.total.bound))

@@ -1,6 +1,7 @@
 use Rattle.std.proofs.Common.{ap, ◌∙◌, arith}
 use Rattle.std.proofs.lemmas.Grind.{common_steps}
-use Rattle.rg_agg.proofs.Fields.{both_answers, memory_only}
+use Rattle.rg_agg.specs.declared.fault.StateFault.TheVariants.{Memory}
+use Rattle.rg_bytes.proofs.Reading.{both_answers, memory_only}
 use Rattle.rg_extreme.specs.Extremes.{extreme_at}
 use Rattle.rg_extreme.specs.Sides.{beats}
 use Rattle.rg_extreme.specs.States.{kept_by}
@@ -20,5 +21,5 @@ returns-in-Ok-clause-reads_back c = λ n kept pairs rest sound some stood.
 
 pub returns-in-Err-clause-reads_back : goal.returns-in-Err-clause-reads_back
 returns-in-Err-clause-reads_back c = λ n kept pairs rest sound some stood.
-    memory_only (extreme_at (beats c.args.side) c.args.tag c.args.from.now) c.in-Err.fault ((n, pairs), rest) (returns-in-Err-clause-agrees c)
+    memory_only Memory (extreme_at (beats c.args.side) c.args.tag c.args.from.now) c.in-Err.fault ((n, pairs), rest) (returns-in-Err-clause-agrees c)
     (ap (extreme_at (beats c.args.side) c.args.tag) stood ∙ extreme_back c.args.side c.args.tag n kept pairs rest sound some)

@@ -1,6 +1,7 @@
 use Rattle.std.proofs.Common.{ap, ◌∙◌, arith}
 use Rattle.std.proofs.lemmas.Grind.{common_steps}
-use Rattle.rg_agg.proofs.Fields.{both_answers, memory_only}
+use Rattle.rg_agg.specs.declared.fault.StateFault.TheVariants.{Memory}
+use Rattle.rg_bytes.proofs.Reading.{both_answers, memory_only}
 use Rattle.rg_tally.specs.Reading.{pairs_at}
 use Rattle.rg_tally.proofs.ReadPairs.{tally_back}
 use Rattle.rg_tally.proofs.tally.Tally.read.Goals as goal
@@ -22,5 +23,5 @@ pub returns-in-Err-clause-reads_back : goal.returns-in-Err-clause-reads_back
 returns-in-Err-clause-reads_back g c = λ pairs rest sound some stood.
     let value_at = g.K.Ranked.value_at in
     let below = g.K.Ranked.below in
-    memory_only (pairs_at value_at below c.args.tag c.args.from.now) c.in-Err.fault (pairs, rest) (returns-in-Err-clause-agrees g c)
+    memory_only Memory (pairs_at value_at below c.args.tag c.args.from.now) c.in-Err.fault (pairs, rest) (returns-in-Err-clause-agrees g c)
     (ap (pairs_at value_at below c.args.tag) stood ∙ tally_back g.K.Ranked.legal value_at below g.met.K.Ranked.reads_back c.args.tag pairs rest sound some)

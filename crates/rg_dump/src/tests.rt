@@ -74,7 +74,8 @@ fn nothing_is_put_for_a_log_without_frames(rt: HostRuntime) -> Result<(), Fail> 
 #[test]
 fn a_log_cut_anywhere_is_dumped_up_to_its_damage(rt: HostRuntime) -> Result<(), Fail> {
     let bytes = file(rt.alloc(), &[SCHEMA, &TWO, &ONE])?;
-    for cut in 0..=240usize {
+    assert_eq!(rt; bytes.len(), 240);
+    for cut in 0..=bytes.len() {
         let (text, want): (&[u8], Result<(), DumpFault>) = match cut {
             0 | 1 => (b"", Ok(())),
             2..=57 => (b"", Err(DumpFault::Damaged(0))),

@@ -1,0 +1,5 @@
+pub mod Truths
+pub mod Images
+pub mod Steps
+pub mod Sound
+pub mod Saving

@@ -1,0 +1,166 @@
+-- What the steps on the disk leave, as steps of the store of a plan.
+use Rattle.std.proofs.Common.{◌≡◌, ◌≢◌, ◌∙◌, ◌⊎◌, inl, inr, ℕ, zero, suc, ◌^◌, ◌≤◌, ◌<◌, List, [], ◌∷◌, ◌++◌, length, Option, Some, None, refl, sym, ap, subst, arith}
+use Rattle.std.proofs.lemmas.List.{append-nil}
+use Rattle.std.specs.Option.{ForSome}
+use Rattle.rg_host.specs.Image.{Image, NothingPending}
+use Rattle.rg_event.specs.Shapes.{Shape, IsSchema}
+use Rattle.rg_event.specs.Rising.{IsRising}
+use Rattle.rg_event.specs.declared.event.Event.{Event}
+use Rattle.rg_frame.specs.Frames.{HasPayloads}
+use Rattle.rg_frame.specs.Steps.{Leaves, Grows, Grown}
+use Rattle.rg_frame.proofs.FrameLists.{payloads_one}
+use Rattle.rg_log.specs.Log.{schema_payload, IsChunkOf, HasEvents, HasSchemaFrame, IsOfSchema}
+use Rattle.rg_log.proofs.Growing.{grows_log, grown_log, begins_log, one_list}
+use Rattle.rg_config.specs.Plans.{Planned}
+use Rattle.rg_checkpoint.specs.declared.base.Checkpoint.{Checkpoint}
+use Rattle.rg_checkpoint.specs.Base.{IsBase}
+use Rattle.rg_checkpoint.specs.Slots.{HasSlot, HasNoSlot, Turns, Written, other_of, IsKeep}
+use Rattle.rg_checkpoint.proofs.SlotLaws.{kept_apart}
+use Rattle.rg_course.specs.Steps.{IsMidStep, IsStepped, IsSavedTo}
+use Rattle.rg_store.specs.Truth.{texts_of, IsTrueOf, IsTruthfulImage, MayGrow}
+use Rattle.rg_store.specs.Stores.{HasSaved, store_of}
+use Rattle.rg_store.proofs.Truths.{grown_grows}
+use Rattle.rg_store.proofs.Images.{below_apart, commits, begins, writes, same_image}
+
+some_is : (w x : Image) → Some w ≡ Some x → w ≡ x
+some_is w x e = cc
+
+pub for_some : (w : Image) (P : Image → Type 0) → P w → ForSome (Some w) P
+for_some w P here = λ x told. subst P (some_is w x told) here
+
+-- the slot that is written is one of the two, and neither the kept one nor the log
+pub other_below : (keep : Option ℕ) → IsKeep keep → other_of keep < 2
+other_below None is = omega arith
+other_below (Some zero) is = omega arith
+other_below (Some (suc zero)) is = omega arith
+other_below (Some (suc (suc i))) is = absurd (omega (arith, is))
+
+pub log_apart : (keep : Option ℕ) → IsKeep keep → 2 ≢ other_of keep
+log_apart keep legal e = absurd (omega (arith, other_below keep legal, e))
+
+-- a checkpoint in a slot stays where another file was written
+pub saved_stays : (plan : Planned) (slot count file : ℕ) (u v : Image) → slot ≢ file → ((f : ℕ) → f ≢ file → v f ≡ u f) → HasSaved plan slot count u → HasSaved plan slot count v
+saved_stays plan slot count file u v apart others has = record {
+  below = has.below;
+  checkpoint = has.checkpoint;
+  complete = subst (λ (bytes : List ℕ). HasSlot bytes has.checkpoint) (sym (others slot apart)) has.complete;
+  texts = has.texts;
+  most = has.most;
+}
+
+saved_behind : (plan : Planned) (slot count : ℕ) (u v : Image) → ((f : ℕ) → f ≢ 2 → v f ≡ u f) → HasSaved plan slot count u → HasSaved plan slot count v
+saved_behind plan slot count u v others has = saved_stays plan slot count 2 u v (below_apart slot has.below) others has
+
+-- where no file was written
+pub stays_mid : (plan : Planned) (keep : Option ℕ) (chunk : List Event) (may : Image → Type 0) (u v : Image) → may u → ((f : ℕ) → v f ≡ u f) → IsMidStep (store_of plan) keep chunk may v
+stays_mid plan keep chunk may u v left same = record {
+  from = u;
+  left = left;
+  truthful = same_image u v same;
+  schema = λ is. subst (IsOfSchema plan.shape) (sym (same 2)) is;
+  events = λ es has. inl (subst (HasEvents plan.shape es) (sym (same 2)) has);
+  slots = λ slot count is has. saved_behind plan slot count u v (λ f apart. same f) has;
+}
+
+pub stays_stepped : (plan : Planned) (keep : Option ℕ) (chunk : List Event) (may : Image → Type 0) (u v : Image) → chunk ≡ [] → may u → ((f : ℕ) → v f ≡ u f) → IsStepped (store_of plan) keep chunk may v
+stays_stepped plan keep chunk may u v none left same = record {
+  from = u;
+  left = left;
+  truthful = same_image u v same;
+  schema = λ is. subst (IsOfSchema plan.shape) (sym (same 2)) is;
+  events = λ es has. subst (λ (l : List Event). HasEvents plan.shape l (v 2)) (sym (append-nil es) ∙ ap (λ (l : List Event). es ++ l) (sym none)) (subst (HasEvents plan.shape es) (sym (same 2)) has);
+  slots = λ slot count is has. saved_behind plan slot count u v (λ f apart. same f) has;
+}
+
+module _ (plan : Planned) (schema : IsSchema plan.shape) where
+  -- A chunk comes behind the log.
+  module _ (keep : Option ℕ) (payload : List ℕ) (chunk : List Event) (may : Image → Type 0) (u v : Image) (left : may u) (others : (f : ℕ) → f ≢ 2 → v f ≡ u f) (fits : MayGrow plan.shape chunk (u 2)) (said : IsChunkOf plan.shape payload chunk) where
+    grows_of : (es : List Event) → HasEvents plan.shape es (u 2) → Grows payload (u 2) (v 2) → HasSchemaFrame plan.shape (v 2) × (HasEvents plan.shape es (v 2) ⊎ HasEvents plan.shape (es ++ chunk) (v 2))
+    grows_of es has step = grows_log payloads_one plan.shape es chunk payload (u 2) (v 2) fits.framed has said (fits.rises es has) (fits.fits es has) step
+
+    framed_by : HasPayloads (schema_payload plan.shape ∷ fits.framed.0) (v 2) ⊎ HasPayloads ((schema_payload plan.shape ∷ fits.framed.0) ++ payload ∷ []) (v 2) → IsOfSchema plan.shape (v 2)
+    framed_by (inl same) = inr (fits.framed.0, same)
+    framed_by (inr more) = inr (fits.framed.0 ++ payload ∷ [], more)
+
+    -- at a moment of it
+    pub commit_mid : Grows payload (u 2) (v 2) → IsMidStep (store_of plan) keep chunk may v
+    commit_mid step = record {
+      from = u;
+      left = left;
+      truthful = commits plan.shape payload chunk u v schema fits said step others;
+      schema = λ _. framed_by (step (schema_payload plan.shape ∷ fits.framed.0) fits.framed.1);
+      events = λ es has. (grows_of es has step).1;
+      slots = λ slot count is has. saved_behind plan slot count u v others has;
+    }
+
+    -- after it
+    pub commit_stepped : Grown payload (u 2) (v 2) → IsStepped (store_of plan) keep chunk may v
+    commit_stepped step = record {
+      from = u;
+      left = left;
+      truthful = commits plan.shape payload chunk u v schema fits said (grown_grows payload (u 2) (v 2) step) others;
+      schema = λ _. framed_by (grown_grows payload (u 2) (v 2) step (schema_payload plan.shape ∷ fits.framed.0) fits.framed.1);
+      events = λ es has. (grown_log payloads_one plan.shape es chunk payload (u 2) (v 2) fits.framed has said (fits.rises es has) (fits.fits es has) step).1;
+      slots = λ slot count is has. saved_behind plan slot count u v others has;
+    }
+
+  -- The schema's frame comes behind a log without a frame.
+  module _ (keep : Option ℕ) (may : Image → Type 0) (u v : Image) (left : may u) (others : (f : ℕ) → f ≢ 2 → v f ≡ u f) (none : HasPayloads [] (u 2)) (step : Grows (schema_payload plan.shape) (u 2) (v 2)) where
+    begun : IsOfSchema plan.shape (v 2) × HasEvents plan.shape [] (v 2)
+    begun = begins_log plan.shape (u 2) (v 2) schema none step
+
+    no_events : (es : List Event) → HasEvents plan.shape es (u 2) → es ≡ []
+    no_events es has = one_list payloads_one plan.shape plan.shape es [] (u 2) has (begins_log plan.shape (u 2) (u 2) schema none (λ payloads is. inl is)).1
+
+    pub first_mid : IsMidStep (store_of plan) keep [] may v
+    first_mid = record {
+      from = u;
+      left = left;
+      truthful = begins plan.shape u v schema none step others;
+      schema = λ _. begun.0;
+      events = λ es has. inl (subst (λ (l : List Event). HasEvents plan.shape l (v 2)) (sym (no_events es has)) begun.1);
+      slots = λ slot count is has. saved_behind plan slot count u v others has;
+    }
+
+    pub first_stepped : IsStepped (store_of plan) keep [] may v
+    first_stepped = record {
+      from = u;
+      left = left;
+      truthful = begins plan.shape u v schema none step others;
+      schema = λ _. begun.0;
+      events = λ es has. subst (λ (l : List Event). HasEvents plan.shape l (v 2)) (sym (append-nil es ∙ no_events es has)) begun.1;
+      slots = λ slot count is has. saved_behind plan slot count u v others has;
+    }
+
+-- A checkpoint is written into the slot that isn't kept.
+module _ (plan : Planned) (keep : Option ℕ) (legal : IsKeep keep) (checkpoint : Checkpoint) (may : Image → Type 0) (u v : Image) (left : may u) (others : (f : ℕ) → f ≢ other_of keep → v f ≡ u f) (true_of : IsTrueOf (u 2) checkpoint) where
+  -- what is written in it, from what it was in that image
+  pub step_from : (w : Image) → u (other_of keep) ≡ w (other_of keep) → (v (other_of keep) ≡ w (other_of keep)) ⊎ (HasNoSlot (v (other_of keep)) ⊎ HasSlot (v (other_of keep)) checkpoint)
+      → (v (other_of keep) ≡ u (other_of keep)) ⊎ (HasNoSlot (v (other_of keep)) ⊎ HasSlot (v (other_of keep)) checkpoint)
+  step_from w same (inl stays) = inl (stays ∙ sym same)
+  step_from w same (inr rest) = inr rest
+
+  log_same : v 2 ≡ u 2
+  log_same = others 2 (log_apart keep legal)
+
+  -- at a moment of it
+  pub save_mid : (v (other_of keep) ≡ u (other_of keep)) ⊎ (HasNoSlot (v (other_of keep)) ⊎ HasSlot (v (other_of keep)) checkpoint) → IsMidStep (store_of plan) keep [] may v
+  save_mid step = record {
+    from = u;
+    left = left;
+    truthful = writes (other_of keep) u v checkpoint (other_below keep legal) others step true_of;
+    schema = λ is. subst (IsOfSchema plan.shape) (sym log_same) is;
+    events = λ es has. inl (subst (HasEvents plan.shape es) (sym log_same) has);
+    slots = λ slot count is has. saved_stays plan slot count (other_of keep) u v (kept_apart keep slot legal is) others has;
+  }
+
+  -- after it
+  pub save_done : (count : ℕ) → checkpoint.queries ≡ texts_of plan.shape plan.queries → count ≤ checkpoint.count → HasSlot (v (other_of keep)) checkpoint → IsSavedTo (store_of plan) (other_of keep) count may v
+  save_done count texts most has = record {
+    from = u;
+    left = left;
+    truthful = writes (other_of keep) u v checkpoint (other_below keep legal) others (inr (inr has)) true_of;
+    schema = λ is. subst (IsOfSchema plan.shape) (sym log_same) is;
+    events = λ es has. subst (HasEvents plan.shape es) (sym log_same) has;
+    saved = record { below = other_below keep legal; checkpoint = checkpoint; complete = has; texts = texts; most = most };
+  }

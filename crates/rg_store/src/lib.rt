@@ -1,0 +1,81 @@
+//! The store of a plan: what the images of its files say, and what each step on the disk leaves of that.
+//!
+//! The definitions are in `specs/`: `Truth` says when an image is truthful, `Stores` what images say to the
+//! runs of a plan, and `Opened` when a reservoir and an engine are in step with the files. Each law is a
+//! function without arguments whose clauses state it; none of them does anything when it is called. The
+//! layers above learn from them that each image that a commit, a save or an opening may leave is truthful
+//! and has the events that it should.
+#![tactic(auto)]
+
+ghost use Rattle.std.specs.Prelude.{◌≡◌, ◌≢◌, ◌⊎◌, ◌≤◌, ◌<◌, ℕ, List, [], length, Option, All};
+ghost use Rattle.rg_host.specs.Image.{Image, Becomes, InFile, NothingPending};
+ghost use Rattle.rg_event.specs.Shapes.{Shape, IsSchema};
+ghost use Rattle.rg_event.specs.declared.event.Event.{Event};
+ghost use Rattle.rg_frame.specs.Frames.{HasPayloads};
+ghost use Rattle.rg_frame.specs.Steps.{Leaves, From, Grows};
+ghost use Rattle.rg_log.specs.Log.{schema_payload, IsChunkOf, HasEvents, HasSchemaFrame};
+ghost use Rattle.rg_log.specs.Spots.{SpotIn};
+ghost use Rattle.rg_config.specs.Plans.{Planned};
+ghost use Rattle.rg_config.specs.Read.{IsSaid};
+ghost use Rattle.rg_plan.specs.Plans.{plan_for};
+ghost use Rattle.rg_state.specs.Rows.{Cells, Lists};
+ghost use Rattle.rg_engine.specs.Feeding.{Serves};
+ghost use Rattle.rg_checkpoint.specs.declared.base.Checkpoint.{Checkpoint};
+ghost use Rattle.rg_checkpoint.specs.Slots.{HasSlot, HasNoSlot, Turns, Written, other_of, IsKeep};
+ghost use Rattle.rg_checkpoint.specs.Base.{IsBase};
+ghost use Rattle.rg_restore.specs.Fit.{IsFit};
+ghost use Rattle.rg_restore.specs.Truthful.{IsTruthful};
+ghost use Rattle.rg_reservoir.specs.Attached.{SchemaAdded};
+ghost use Rattle.rg_reservoir.specs.Kept.{base, opened, all_events, Adds, Added};
+ghost use Rattle.rg_reservoir.specs.declared.reservoir.Reservoir.{Reservoir};
+ghost use Rattle.rg_course.specs.Steps.{IsMidStep, IsStepped, IsSavedTo};
+ghost use Rattle.rg_store.specs.Truth.{texts_of, IsTrueOf, IsTruthfulImage, MayGrow};
+ghost use Rattle.rg_store.specs.Stores.{store_of};
+ghost use Rattle.rg_store.specs.Opened.{IsOpenedFor, IsToSave};
+
+use rg_host::Host;
+
+/// The image without a byte is truthful, and a truthful image stays truthful: within a commit and after it,
+/// with the schema's frame behind a log without one, with a slot that is as it was, is lost or has a
+/// checkpoint that is true of the log, and with a slot that is as it was or is lost.
+pub fn law_truthful()
+    ensures empty { IsTruthfulImage (λ file. []) }
+    ensures commits { (shape : Shape) (payload : List ℕ) (chunk : List Event) (old new : Image) → IsSchema shape → MayGrow shape chunk (old 2) → IsChunkOf shape payload chunk →
+        Grows payload (old 2) (new 2) → ((file : ℕ) → file ≢ 2 → new file ≡ old file) → IsTruthfulImage old → IsTruthfulImage new }
+    ensures begins { (shape : Shape) (old new : Image) → IsSchema shape → HasPayloads [] (old 2) → Grows (schema_payload shape) (old 2) (new 2) →
+        ((file : ℕ) → file ≢ 2 → new file ≡ old file) → IsTruthfulImage old → IsTruthfulImage new }
+    ensures writes { (slot : ℕ) (old new : Image) (checkpoint : Checkpoint) → slot < 2 → ((file : ℕ) → file ≢ slot → new file ≡ old file) →
+        (new slot ≡ old slot) ⊎ (HasNoSlot (new slot) ⊎ HasSlot (new slot) checkpoint) → IsTrueOf (old 2) checkpoint → IsTruthfulImage old → IsTruthfulImage new }
+    ensures loses { (slot : ℕ) (old new : Image) → slot < 2 → ((file : ℕ) → file ≢ slot → new file ≡ old file) → (new slot ≡ old slot) ⊎ HasNoSlot (new slot) → IsTruthfulImage old → IsTruthfulImage new }
+{}
+
+/// A complete slot of a plan's queries, in a truthful image whose log has the plan's schema, is a checkpoint
+/// of the plan that is true of the log's events; and it is fit. What is saved of an engine in step with a
+/// reservoir is true of each log that might be left.
+pub fn law_checkpoints<H: Host>()
+    ensures of_plan { (plan : Planned) (v : Image) (events : List Event) (slot : ℕ) (checkpoint : Checkpoint) → All (IsSaid plan.shape) plan.queries → HasSchemaFrame plan.shape (v 2) → HasEvents plan.shape events (v 2) →
+        IsTruthfulImage v → slot < 2 → HasSlot (v slot) checkpoint → checkpoint.queries ≡ texts_of plan.shape plan.queries → IsTruthful (SpotIn plan.shape (v 2)) (plan_for plan.queries) events checkpoint }
+    ensures fit { (plan : Planned) (v : Image) (events : List Event) (slot : ℕ) (checkpoint : Checkpoint) → All (IsSaid plan.shape) plan.queries → Serves plan.shape.fields (plan_for plan.queries) →
+        HasSchemaFrame plan.shape (v 2) → HasEvents plan.shape events (v 2) → IsTruthfulImage v → slot < 2 → HasSlot (v slot) checkpoint → checkpoint.queries ≡ texts_of plan.shape plan.queries →
+        IsFit (SpotIn plan.shape (v 2)) (texts_of plan.shape plan.queries) plan.shape.fields (plan_for plan.queries) (length events) checkpoint }
+    ensures saved { (plan : Planned) (host : H) (r : Reservoir) (cells : Cells) (checkpoint : Checkpoint) → IsToSave plan (H.now host) (H.may host) r cells checkpoint.spots checkpoint.queries → Lists cells checkpoint.rows →
+        checkpoint.count ≡ length (all_events (H.now host) (base r) (opened r)) → (u : Image) → H.may host u → IsTrueOf (u 2) checkpoint }
+{}
+
+/// Each step on the disk, at a moment of it and after it, as a step of the store of the plan: a commit of the
+/// open chunk of a sound reservoir, the opening of a log, and a save of a checkpoint that is true.
+pub fn law_steps<H: Host>()
+    ensures commits { (host : H) (plan : Planned) (keep : Option ℕ) (r : Reservoir) (u : Image) → IsOpenedFor plan (H.now host) (H.may host) r → length (opened r) ≤ 4096 →
+        Leaves 2 (From (base r).end (Adds (opened r))) (H.now host) (H.may host) u → IsMidStep (store_of plan) keep (opened r) (H.may host) u }
+    ensures committed { (host next : H) (plan : Planned) (keep : Option ℕ) (r : Reservoir) (end : ℕ) → IsOpenedFor plan (H.now host) (H.may host) r → length (opened r) ≤ 4096 →
+        Becomes (H.now host) (H.now next) (InFile 2 (From (base r).end (Added (opened r) end))) → NothingPending 2 (H.now next) (H.may next) →
+        ((u : Image) → H.may next u → Leaves 2 (From (base r).end (Adds (opened r))) (H.now host) (H.may host) u) →
+        (u : Image) → H.may next u → IsStepped (store_of plan) keep (opened r) (H.may host) u }
+    ensures opens { (host : H) (plan : Planned) (keep : Option ℕ) (v u : Image) → IsSchema plan.shape → H.now host ≡ Option.Some v → NothingPending 2 (H.now host) (H.may host) →
+        Leaves 2 (SchemaAdded (schema_payload plan.shape)) (H.now host) (H.may host) u → IsMidStep (store_of plan) keep [] (H.may host) u × IsStepped (store_of plan) keep [] (H.may host) u }
+    ensures saves { (host : H) (plan : Planned) (keep : Option ℕ) (payload : List ℕ) (checkpoint : Checkpoint) (v u : Image) → IsKeep keep → IsBase payload checkpoint → H.now host ≡ Option.Some v → NothingPending (other_of keep) (H.now host) (H.may host) →
+        ((w : Image) → H.may host w → IsTrueOf (w 2) checkpoint) → Leaves (other_of keep) (Turns payload) (H.now host) (H.may host) u → IsMidStep (store_of plan) keep [] (H.may host) u }
+    ensures saved { (host : H) (plan : Planned) (keep : Option ℕ) (payload : List ℕ) (checkpoint : Checkpoint) (v u : Image) → IsKeep keep → IsBase payload checkpoint → H.now host ≡ Option.Some v → NothingPending (other_of keep) (H.now host) (H.may host) →
+        ((w : Image) → H.may host w → IsTrueOf (w 2) checkpoint) → checkpoint.queries ≡ texts_of plan.shape plan.queries → Leaves (other_of keep) (Written payload) (H.now host) (H.may host) u →
+        IsSavedTo (store_of plan) (other_of keep) checkpoint.count (H.may host) u }
+{}

@@ -7,6 +7,7 @@ use Rattle.std.specs.Prelude.{IfSome}
 use Rattle.rg_bytes.specs.Counts.{Rose}
 use Rattle.rg_config.specs.Plans.{Planned, Says}
 use Rattle.rg_config.specs.declared.fault.ConfigFault.{ConfigFault}
+use Rattle.rg_config.specs.declared.fault.ConfigFault.TheVariants as config
 use Rattle.rg_config.proofs.Total.{says_something}
 use Rattle.rg_host.specs.Lines.{ended, whole_lines}
 use Rattle.rg_verdict.specs.Verdicts.{Basis}
@@ -241,7 +242,7 @@ check_is_no_dump : Some Check ≡ Some Dump → ⊥
 check_is_no_dump is = absurd cc
 
 -- a dump reads neither plan nor input
-dump_completes : (plan input : Option (List ℕ)) (image : Image) (A B C D : Type 0) → A ⊎ B ⊎ C ⊎ D → ⊥ → (status : Status) → Causes (Some Dump) plan input (Some image) A B C D status → (status ≡ dump_status (damage_of (image 2))) ⊎ (status ≡ Memory)
+dump_completes : (plan input : Option (List ℕ)) (image : Image) (A B C D : Type 0) → (A ⊎ B ⊎ C ⊎ D → ⊥) → (status : Status) → Causes (Some Dump) plan input (Some image) A B C D status → (status ≡ dump_status (damage_of (image 2))) ⊎ (status ≡ Memory)
 dump_completes plan input image A B C D none Ok c = inl (sym (ap dump_status ((c.ok_only refl).2 refl image refl)))
 dump_completes plan input image A B C D none Usage c = absurd (let e : Some Dump ≡ None = c.usage_only refl in cc)
 dump_completes plan input image A B C D none BadPlan c = absurd (c.plan_only refl).0
@@ -444,10 +445,20 @@ dump_stops cause ending text put ends (inr cut) = inr (write_is cause ending end
 
 -- A dump reads the store, and nothing else.
 
-pub no_plan : (command : Command) → command ≡ Dump → ReadsPlan (Some command) → ⊥
+no_plan : (command : Command) → command ≡ Dump → ReadsPlan (Some command) → ⊥
 no_plan Run is reads = absurd (cc is)
 no_plan Check is reads = absurd (cc is)
 no_plan Dump is reads = reads
+
+-- a run or a check reads its plan
+pub plan_is_read : (command : Command) → (command ≡ Run) ⊎ (command ≡ Check) → ReadsPlan (Some command)
+plan_is_read Run is = tt
+plan_is_read Check is = tt
+plan_is_read Dump (inl is) = absurd (cc is)
+plan_is_read Dump (inr is) = absurd (cc is)
+
+pub no_dump : (command : Command) → (command ≡ Run) ⊎ (command ≡ Check) → command ≡ Dump → ⊥
+no_dump command one is = no_plan command is (plan_is_read command one)
 
 pub dump_all : (command : Command) → command ≡ Dump → (plan input : Option (List ℕ)) (store : Option Image) (Put : List ℕ → Type 0) → ForSome store (λ image. Put (ended (dump_text (image 2)))) → (told : ToldPlan (Some command) plan input store) →
     Put (ended (text_of (Some command) told.asks told.input_bytes told.image))
@@ -466,6 +477,10 @@ pub dump_last : (command : Command) → command ≡ Dump → (plan input : Optio
 dump_last Run is plan input store ending line told = absurd (cc is)
 dump_last Check is plan input store ending line told = absurd (cc is)
 dump_last Dump is plan input store ending line told = line told.image (told.image_is tt) told.asks
+
+-- the last line of a dump of a damaged log
+pub damage_told : (ending : Ending) (image : Image) → ((asks : Result Planned ConfigFault) → ending_line ending ≡ line_for asks image (ending_status ending)) → ending_status ending ≡ Store → ending_line ending ≡ damage_line (damage_of (image 2))
+damage_told ending image line is = line (r.Err config.Toml) ∙ ap (line_for (r.Err config.Toml) image) is
 
 -- the statuses of a dump that ends early
 abbrev pub IsDumpStatus : Status → Type 0
@@ -493,3 +508,28 @@ plan_early status (inr (inl is)) = early_at Read (tt, (λ e. absurd (cc e)), (λ
 plan_early status (inr (inr (inl is))) = early_at Limit (tt, (λ e. absurd (cc e)), (λ e. absurd (cc e))) status is
 plan_early status (inr (inr (inr (inl is)))) = early_at Memory (tt, (λ e. absurd (cc e)), (λ e. absurd (cc e))) status is
 plan_early status (inr (inr (inr (inr is)))) = early_at Write (tt, (λ e. absurd (cc e)), (λ e. absurd (cc e))) status is
+
+-- they are none of a dump's own
+pub plan_not_store : (status : Status) → IsPlanStatus status → status ≡ Store → ⊥
+plan_not_store status (inl is) store = absurd (let e : BadPlan ≡ Store = sym is ∙ store in cc)
+plan_not_store status (inr (inl is)) store = not_store status (inl is) store
+plan_not_store status (inr (inr (inl is))) store = not_store status (inr (inl is)) store
+plan_not_store status (inr (inr (inr is))) store = not_store status (inr (inr is)) store
+
+pub plan_not_disk : (status : Status) → IsPlanStatus status → status ≡ Disk → ⊥
+plan_not_disk status (inl is) disk = absurd (let e : BadPlan ≡ Disk = sym is ∙ disk in cc)
+plan_not_disk status (inr (inl is)) disk = absurd (let e : Read ≡ Disk = sym is ∙ disk in cc)
+plan_not_disk status (inr (inr (inl is))) disk = absurd (let e : Limit ≡ Disk = sym is ∙ disk in cc)
+plan_not_disk status (inr (inr (inr (inl is)))) disk = absurd (let e : Memory ≡ Disk = sym is ∙ disk in cc)
+plan_not_disk status (inr (inr (inr (inr is)))) disk = absurd (let e : Write ≡ Disk = sym is ∙ disk in cc)
+
+-- the causes of the status Limit, for a command that reads its plan
+pub limit_as : (command : Command) (plan input : Option (List ℕ)) → ReadsPlan (Some command) → IsLonger 65536 plan ⊎ (IsLegal plan × (command ≡ Run) × IsLonger (2 ^ 50) input) →
+    (ReadsPlan (Some command) × IsLonger 65536 plan) ⊎ (IsLegal plan × (command ≡ Run) × IsLonger (2 ^ 50) input)
+limit_as command plan input reads (inl longer) = inl (reads, longer)
+limit_as command plan input reads (inr longer) = inr longer
+
+-- one of the two
+pub other_is : (A B : Type 0) → A ⊎ B → (A → ⊥) → B
+other_is A B (inl a) none = absurd (none a)
+other_is A B (inr b) none = b

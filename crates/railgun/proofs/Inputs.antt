@@ -36,12 +36,7 @@ pub if_err : {T E : Type 0} (result : Result T E) (P : E → Type 0) → ((error
 if_err (Ok value) P all = tt
 if_err (Err error) P all = all error
 
--- what follows at Ok
-pub on_ok : {T E : Type 0} (result : Result T E) {A B : Type 0} → (A → B) → OnOk result A → OnOk result B
-on_ok (Ok value) f a = f a
-on_ok (Err error) f a = tt
-
--- what follows for an error
-pub on_err : {T E : Type 0} (result : Result T E) (P Q : E → Type 0) → ((error : E) → P error → Q error) → IfErr result P → IfErr result Q
-on_err (Ok value) P Q f p = tt
-on_err (Err error) P Q f p = f error p
+-- what follows for an error from two facts
+pub on_errs : {T E : Type 0} (result : Result T E) (P Q R : E → Type 0) → ((error : E) → P error → Q error → R error) → IfErr result P → IfErr result Q → IfErr result R
+on_errs (Ok value) P Q R f p q = tt
+on_errs (Err error) P Q R f p q = f error p q

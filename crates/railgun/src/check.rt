@@ -2,6 +2,7 @@ ghost use Rattle.std.specs.Prelude.{◌≡◌, ◌⊎◌, ◌≤◌, ℕ, List, 
 ghost use Rattle.rg_bytes.specs.Counts.{Rose};
 ghost use Rattle.rg_config.specs.Plans.{planned};
 ghost use Rattle.rg_host.specs.Lines.{ended};
+ghost use Rattle.rg_host.specs.Moments.{LeavesFiles};
 ghost use Rattle.rg_host.specs.Puts.{Puts};
 ghost use Rattle.railgun.specs.Listing.{check_text};
 ghost use Rattle.rg_config.specs.Read.{IsRead};
@@ -21,6 +22,7 @@ pub fn check<H: Host>(alloc: Global, plan: &Plan, host: &mut H) -> Result<(), Ch
     ensures completes { OnOk result (Puts H.said H.clock H.since host.old host.new (ended (check_text (planned plan.now)))) }
     ensures stops { IfErr result (λ fault. (put : List ℕ) × Puts H.said H.clock H.since host.old host.new put × StopsAt (fault ≡ CheckFault.Write) (check_text (planned plan.now)) put) }
     ensures write { IsErrOf result CheckFault.Write → Rose (H.out_faults host.old) (H.out_faults host.new) }
+    ensures leaves { LeavesFiles H.now H.may H.clock H.since host.old host.new }
     ensures later_out { H.out_faults host.old ≤ H.out_faults host.new }
 {
     let mut text = Vec::new(alloc);

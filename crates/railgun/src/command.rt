@@ -8,6 +8,8 @@ pub enum Command {
     Run,
     /// `check PLAN`
     Check,
+    /// `dump STORE`
+    Dump,
 }
 
 impl Command {
@@ -17,6 +19,7 @@ impl Command {
     {
         match words {
             [command, _] if command.as_str() == "check" => Some(Command::Check),
+            [command, _] if command.as_str() == "dump" => Some(Command::Dump),
             [command, _, _] if command.as_str() == "run" => Some(Command::Run),
             _ => None,
         }

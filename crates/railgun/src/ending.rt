@@ -19,6 +19,8 @@ pub struct Refusal {
 pub enum Ending {
     /// The plan was refused, which this line says, with its LF, and why.
     Refused(Vec<u8>, Refusal),
+    /// The store is damaged, which this line says, with its LF.
+    Damaged(Vec<u8>),
     /// It failed, or was refused for another cause.
     Failed(Status),
 }
@@ -52,6 +54,7 @@ impl Ending {
     {
         match self {
             Ending::Refused(_, _) => Status::Plan,
+            Ending::Damaged(_) => Status::Store,
             Ending::Failed(status) => *status,
         }
     }
@@ -62,7 +65,7 @@ impl Ending {
     {
         match self {
             Ending::Refused(_, refusal) => Some(*refusal),
-            Ending::Failed(_) => None,
+            Ending::Damaged(_) | Ending::Failed(_) => None,
         }
     }
 
@@ -71,7 +74,7 @@ impl Ending {
         ensures { result.now ≡ ending_line self.now }
     {
         match self {
-            Ending::Refused(line, _) => line,
+            Ending::Refused(line, _) | Ending::Damaged(line) => line,
             Ending::Failed(status) => status.last_line().as_bytes(),
         }
     }

@@ -4,6 +4,7 @@
 mod call;
 mod check;
 mod command;
+mod dump;
 mod ending;
 mod fault;
 mod input;
@@ -16,7 +17,7 @@ mod session;
 mod status;
 
 use crate::call::railgun;
-use crate::real::{FileSource, ReaderSource, WriterHost};
+use crate::real::{FileSource, FolderHost, ReaderSource};
 use crate::report::Report;
 use crate::status::Status;
 use std::process::ExitCode;
@@ -44,7 +45,11 @@ fn start(rt: &HostRuntime) -> Status {
     };
     let mut plan = FileSource::new(rt, path);
     let mut input = ReaderSource::new(rt.stdin());
-    let mut host = WriterHost::new(rt.stdout());
+    let store = match words.last() {
+        Some(store) => store.as_str(),
+        None => "",
+    };
+    let mut host = FolderHost::new(rt, rt.alloc(), store, rt.stdout());
     let mut refusal = None;
     let status = railgun(
         rt.alloc(),
@@ -56,6 +61,7 @@ fn start(rt: &HostRuntime) -> Status {
     );
     let failure = named(path, plan.error())
         .or(named("standard input", input.error()))
+        .or(named(store, host.disk_error()))
         .or(named("standard output", host.error()));
     tell(
         rt,

@@ -4,6 +4,7 @@ use std::process::Abort;
 use std::test::Fail;
 
 mod bounds;
+mod dumped;
 
 /// What a call finds: its words, the bytes of plan and input, and which calls fail.
 #[derive(Clone, Copy)]

@@ -1,4 +1,4 @@
-use super::{FileSource, ReaderSource, WriterHost};
+use super::{FileSource, FolderHost, ReaderSource};
 use rg_host::{Failed, Host, Source};
 use std::io;
 use std::io::{Read, Write};
@@ -70,7 +70,7 @@ fn a_read_that_fails_is_a_failure(rt: HostRuntime) {
 
 #[test]
 fn a_write_that_fails_is_a_failure(rt: HostRuntime) {
-    let mut host = WriterHost::new(FailsOnce { calls: 0 });
+    let mut host = FolderHost::new(&rt, rt.alloc(), "no such folder", FailsOnce { calls: 0 });
     assert_eq!(rt; host.put(b"ab"), Ok(1));
     assert_eq!(rt; host.put(b"b"), Err(Failed));
     assert_eq!(rt; number_of(host.error()), Some(5));

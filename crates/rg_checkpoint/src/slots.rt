@@ -103,6 +103,19 @@ impl Slots {
         }
     }
 
+    /// Hands out the checkpoints of slots 0 and 1, where they are complete, so that their rows may
+    /// move. The files stay. It takes no memory.
+    pub fn take_both(&mut self) -> (Option<Checkpoint>, Option<Checkpoint>)
+        requires fresh { self.old.fresh ≡ true }
+        ensures slots { (result.0 ≡ self.old.first) × (result.1 ≡ self.old.second) }
+        ensures after { self.new ≡ record { first = None; second = None; fresh = false; ended = self.old.ended } }
+    {
+        self.fresh = false;
+        let first = self.first.take();
+        let second = self.second.take();
+        (first, second)
+    }
+
     /// Writes a base payload into the slot other than `keep`, slot 0 for none, and gives its number.
     /// Whatever call fails, and wherever the run stops, the kept slot is as it was, and the other one
     /// holds its old checkpoint, none or the new one. After a fault the slots have ended. It takes no

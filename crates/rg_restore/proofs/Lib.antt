@@ -2,6 +2,7 @@ pub mod Joining
 pub mod Listing
 pub mod Looking
 pub mod Moving
+pub mod Naming
 pub mod Placing
 pub mod RowKinds
 pub mod Saving

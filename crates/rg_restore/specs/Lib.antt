@@ -1,5 +1,7 @@
 pub mod Choosing
 pub mod Fit
+pub mod Naming
+pub mod NamingLaws
 pub mod Opening
 pub mod Slots
 pub mod Truthful

@@ -15,6 +15,7 @@ mod restoring;
 mod resuming;
 mod rows;
 mod starting;
+mod stored_names;
 mod vec_names;
 
 pub use choosing::Saved;

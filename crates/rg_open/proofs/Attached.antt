@@ -1,0 +1,68 @@
+-- A log that was attached over a store of the plan.
+use Rattle.std.proofs.Common.{◌≡◌, ◌≢◌, ◌∙◌, ◌⊎◌, inl, inr, ℕ, false, List, [], Option, Some, None, refl, sym, ap, subst, arith}
+use Rattle.std.specs.Option.{ForSome}
+use Rattle.rg_host.specs.Image.{Image, NothingPending}
+use Rattle.rg_event.specs.Shapes.{Shape, IsSchema}
+use Rattle.rg_event.specs.declared.event.Event.{Event}
+use Rattle.rg_frame.specs.Frames.{HasPayloads}
+use Rattle.rg_frame.specs.Steps.{Leaves}
+use Rattle.rg_frame.proofs.FrameLists.{payloads_one}
+use Rattle.rg_log.specs.Log.{schema_payload, HasEvents, HasLegalLog, IsOfSchema}
+use Rattle.rg_log.proofs.Growing.{begins_log}
+use Rattle.rg_config.specs.Plans.{Planned}
+use Rattle.rg_checkpoint.specs.Slots.{IsSlot}
+use Rattle.rg_restore.specs.declared.choosing.Saved.{Saved}
+use Rattle.rg_reservoir.specs.Attached.{SchemaAdded}
+use Rattle.rg_reservoir.specs.Kept.{Base, base, opened, all_events, IsSound}
+use Rattle.rg_reservoir.specs.declared.reservoir.Reservoir.{Reservoir}
+use Rattle.rg_course.specs.Steps.{IsMidStep, IsStepped}
+use Rattle.rg_store.specs.Truth.{IsTruthfulImage}
+use Rattle.rg_store.specs.Stores.{store_of}
+use Rattle.rg_store.proofs.Images.{events_in}
+use Rattle.rg_store.proofs.Sound.{open_left, opened_left}
+use Rattle.rg_open.specs.Opening.{IsOpenable, AreSlots, IsFound}
+use Rattle.rg_open.specs.Settling.{AreSettled}
+
+-- a truthful image of the plan's schema, or without a frame, has events
+pub events_of : (shape : Shape) (bytes : List ℕ) → IsSchema shape → HasLegalLog bytes → IsOfSchema shape bytes → (events : List Event) × HasEvents shape events bytes
+events_of shape bytes schema log (inl none) = ([], (begins_log shape bytes bytes schema none (λ payloads is. inl is)).1)
+events_of shape bytes schema log (inr framed) = events_in shape bytes schema framed log
+
+-- what is openable stays so, where the host tells the same and a crash leaves no more
+pub openable_still : (plan : Planned) (now then : Option Image) (may after : Image → Type 0) → then ≡ now → ((u : Image) → after u → may u) → IsOpenable plan now may → IsOpenable plan then after
+openable_still plan now then may after same fewer is = record { image = is.image; told = same ∙ is.told; truthful = λ u left. is.truthful u (fewer u left); schema = λ u left. is.schema u (fewer u left) }
+
+module _ (plan : Planned) (schema : IsSchema plan.shape) (keep : Option ℕ) (now : Option Image) (may : Image → Type 0) (v : Image) (told : now ≡ Some v) (settled : NothingPending 2 now may) (u : Image) (left : Leaves 2 (SchemaAdded (schema_payload plan.shape)) now may u) where
+  -- within the opening of a log, and after it
+  pub mid_step : IsMidStep (store_of plan) keep [] may u
+  mid_step = open_left plan schema keep v may (subst (λ (n : Option Image). NothingPending 2 n may) told settled) u (subst (λ (n : Option Image). Leaves 2 (SchemaAdded (schema_payload plan.shape)) n may u) told left)
+
+  pub stepped : IsStepped (store_of plan) keep [] may u
+  stepped = opened_left plan schema keep v may (subst (λ (n : Option Image). NothingPending 2 n may) told settled) u (subst (λ (n : Option Image). Leaves 2 (SchemaAdded (schema_payload plan.shape)) n may u) told left)
+
+-- a slot isn't written
+slot_same : (i : ℕ) (Step : List ℕ → List ℕ → Type 0) (now : Option Image) (may : Image → Type 0) (v u : Image) → i ≢ 2 → now ≡ Some v → NothingPending i now may → Leaves 2 Step now may u → u i ≡ v i
+slot_same i Step now may v u apart told settled left = left.0.2 i apart ∙ settled v told left.0.0 left.0.1
+
+pub pending_stays : (i : ℕ) (Step : List ℕ → List ℕ → Type 0) (now then : Option Image) (may after : Image → Type 0) (v : Image) → i ≢ 2 → now ≡ Some v → ((w : Image) → then ≡ Some w → after w) → ((u : Image) → after u → Leaves 2 Step now may u)
+    → NothingPending i now may → NothingPending i then after
+pending_stays i Step now then may after v apart told reads left settled w also u one = slot_same i Step now may v u apart told settled (left u one) ∙ sym (slot_same i Step now may v w apart told settled (left w (reads w also)))
+
+module _ (plan : Planned) (schema : IsSchema plan.shape) (now then : Option Image) (may after : Image → Type 0) (openable : IsOpenable plan now may) (settled : AreSettled now may) (left : (u : Image) → after u → Leaves 2 (SchemaAdded (schema_payload plan.shape)) now may u) where
+  -- what was found
+  pub found_by : (r : Reservoir) (saved : Saved) → ((v : Image) (events : List Event) → now ≡ Some v → NothingPending 2 now may → HasEvents plan.shape events (v 2) → IsSound then after r × (all_events then (base r) (opened r) ≡ events))
+      → ForSome now (λ v. AreSlots v saved) → ((v : Image) → now ≡ Some v → may v) → (base r).ended ≡ false → (base r).file ≡ 2 → (base r).shape ≡ plan.shape → opened r ≡ [] → IsFound plan then after r saved
+  found_by r saved sound slots reads going file shape empty =
+      let v = openable.image in
+      let at : may v = reads v openable.told in
+      let events = events_of plan.shape (v 2) schema (openable.truthful v at).log (openable.schema v at) in
+      let here = slots v openable.told in
+      record {
+        reservoir = record { sound = (sound v events.0 openable.told settled.log events.1).0; going = going; file = file; shape = shape };
+        empty = empty;
+        truthful = λ u one. let step = stepped plan schema None now may v openable.told settled.log u (left u one) in step.truthful (openable.truthful step.from step.left);
+        slots = λ u one. record {
+          first = subst (λ (bytes : List ℕ). IsSlot bytes saved.first) (sym (slot_same 0 (SchemaAdded (schema_payload plan.shape)) now may v u (λ e. absurd (omega (arith, e))) openable.told settled.first (left u one))) here.first;
+          second = subst (λ (bytes : List ℕ). IsSlot bytes saved.second) (sym (slot_same 1 (SchemaAdded (schema_payload plan.shape)) now may v u (λ e. absurd (omega (arith, e))) openable.told settled.second (left u one))) here.second;
+        };
+      }

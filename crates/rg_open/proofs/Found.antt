@@ -1,0 +1,174 @@
+-- A store that was found, and the engine that is started over it.
+use Rattle.std.proofs.Common.{◌≡◌, ◌∙◌, ℕ, zero, suc, ◌<◌, ◌≤◌, ◌+◌, Bool, false, List, [], ◌∷◌, ◌++◌, length, Option, Some, None, refl, sym, ap, subst, arith}
+use Rattle.std.specs.Prelude.{All}
+use Rattle.std.proofs.lemmas.List.{append-nil}
+use Rattle.rg_host.specs.Image.{Image}
+use Rattle.rg_event.specs.Codec.{IsEventOf}
+use Rattle.rg_event.specs.Rising.{last_time}
+use Rattle.rg_event.specs.Shapes.{Shape}
+use Rattle.rg_event.specs.declared.event.Event.{Event}
+use Rattle.rg_event.specs.declared.schema.Field.{Field}
+use Rattle.rg_past.specs.declared.past.Spot.{Spot}
+use Rattle.rg_log.specs.Log.{joined, HasEvents, HasSchemaFrame}
+use Rattle.rg_log.specs.Spots.{SpotIn}
+use Rattle.rg_config.specs.Plans.{Planned}
+use Rattle.rg_config.specs.Read.{IsSaid}
+use Rattle.rg_query.specs.Legal.{IsLegal}
+use Rattle.rg_plan.specs.Plans.{Planned as Tasks, plan_for}
+use Rattle.rg_state.specs.Rows.{Cells}
+use Rattle.rg_engine.specs.Feeding.{Serves, IsFed}
+use Rattle.rg_engine.specs.Seen.{Seen}
+use Rattle.rg_engine.proofs.Legal.{serves}
+use Rattle.rg_checkpoint.specs.declared.base.Checkpoint.{Checkpoint}
+use Rattle.rg_checkpoint.specs.Slots.{HasSlot, IsSlot}
+use Rattle.rg_restore.specs.declared.choosing.Saved.{Saved}
+use Rattle.rg_restore.specs.Fit.{IsFit}
+use Rattle.rg_restore.specs.Naming.{HeadsName, NamesIn}
+use Rattle.rg_restore.specs.Opening.{CanStand}
+use Rattle.rg_restore.specs.Slots.{slot_in, AreTruthful, IsFrom}
+use Rattle.rg_restore.specs.Truthful.{IsTruthful, EngineStands}
+use Rattle.rg_restore.proofs.Saving.{same_past}
+use Rattle.rg_reservoir.specs.Kept.{Base, base, opened, next_of, time_of, cache_of, all_events, IsSound, IsRight, Spells}
+use Rattle.rg_reservoir.specs.GoingLaws.{all_long}
+use Rattle.rg_reservoir.specs.declared.reservoir.Reservoir.{Reservoir}
+use Rattle.rg_reservoir.proofs.Spelled.{spelled_here}
+use Rattle.rg_store.specs.Truth.{texts_of, IsTrueOf, IsTruthfulImage}
+use Rattle.rg_store.specs.Stores.{HasSaved}
+use Rattle.rg_store.specs.Opened.{IsOpenedFor, IsInStep}
+use Rattle.rg_store.proofs.Sound.{framed, has_events, all_are}
+use Rattle.rg_store.proofs.Saving.{of_plan}
+use Rattle.rg_open.specs.Opening.{AreSlots, IsFound, IsKept, IsStarted}
+
+-- no event is in the open chunk still, where the events are the same
+pub none_still : (now then : Option Image) (r s : Reservoir) → base s ≡ base r → opened r ≡ [] → all_events then (base s) (opened s) ≡ all_events now (base r) (opened r) → opened s ≡ []
+none_still now then r s based none same = by (opened s) (omega (arith, all_long now (base r) (opened r), all_long then (base s) (opened s), ap length same, ap (λ (b : Base). b.committed) based, ap length none))
+  where
+    by : (l : List Event) → length l ≡ 0 → l ≡ []
+    by [] is = refl
+    by (x ∷ l) is = absurd (omega (arith, is))
+
+-- which checkpoint is used, where the heads name the spots
+pub from_heads : (now : Option Image) (b : Base) (chunk : List Event) (texts : List (List ℕ)) (given fields : List Field) (tasks : Tasks) (n : ℕ) (slots : ℕ → Option Checkpoint) (keep : Option ℕ) (from : ℕ) → chunk ≡ [] → b.ended ≡ false → given ≡ fields → n ≡ b.committed
+    → IsFrom (IsFit (λ (s : Spot). NamesIn now b b.ended chunk s) texts given tasks n) slots keep from → IsFrom (IsFit (HeadsName now b) texts fields tasks b.committed) slots keep from
+from_heads now b chunk texts given fields tasks n slots keep from none going same count is =
+    let s1 = subst (λ (l : List Event). IsFrom (IsFit (λ (s : Spot). NamesIn now b b.ended l s) texts given tasks n) slots keep from) none is in
+    let s2 = subst (λ (e : Bool). IsFrom (IsFit (λ (s : Spot). NamesIn now b e [] s) texts given tasks n) slots keep from) going s1 in
+    let s3 = subst (λ (l : List Field). IsFrom (IsFit (HeadsName now b) texts l tasks n) slots keep from) same s2 in
+    subst (λ (m : ℕ). IsFrom (IsFit (HeadsName now b) texts fields tasks m) slots keep from) count s3
+
+module _ (plan : Planned) (now : Option Image) (may : Image → Type 0) (r : Reservoir) (saved : Saved) (found : IsFound plan now may r saved) where
+  abbrev image : Image
+  image = found.reservoir.sound.0
+
+  told : now ≡ Some image
+  told = found.reservoir.sound.1
+
+  right : IsRight image may (base r) [] (next_of r) (time_of r) (cache_of r)
+  right = subst (λ (l : List Event). IsRight image may (base r) l (next_of r) (time_of r) (cache_of r)) found.empty (found.reservoir.sound.2.right found.reservoir.going)
+
+  abbrev pub all : List Event
+  all = all_events now (base r) (opened r)
+
+  has : HasEvents plan.shape (joined right.chunks) (image 2)
+  has = has_events plan image may (base r) [] (next_of r) (time_of r) (cache_of r) right found.reservoir.file found.reservoir.shape
+
+  all_is : all ≡ joined right.chunks
+  all_is = ap (λ (l : List Event). all_events now (base r) l) found.empty
+      ∙ ap (λ (i : Option Image). all_events i (base r) []) told
+      ∙ all_are plan image may (base r) [] (next_of r) (time_of r) (cache_of r) right found.reservoir.file found.reservoir.shape
+      ∙ append-nil (joined right.chunks)
+
+  -- what the log spells is spelled
+  spelled : (spot : Spot) → SpotIn plan.shape (image 2) spot → Spells now (base r) (opened r) spot
+  spelled spot there =
+      let at : SpotIn plan.shape (image (base r).file) spot = subst (λ (f : ℕ). SpotIn plan.shape (image f) spot) (sym found.reservoir.file) there in
+      let of : SpotIn (base r).shape (image (base r).file) spot = subst (λ (s : Shape). SpotIn s (image (base r).file) spot) (sym found.reservoir.shape) at in
+      subst (λ (l : List Event). Spells now (base r) l spot) (sym found.empty) (spelled_here image may (base r) (next_of r) (time_of r) (cache_of r) right now spot told of)
+
+  -- the checkpoint of a slot, in each image
+  pub slot_of : (i : ℕ) (checkpoint : Checkpoint) → slot_in saved i ≡ Some checkpoint → (u : Image) → may u → (i < 2) × HasSlot (u i) checkpoint
+  slot_of zero checkpoint there u left = (omega arith, subst (IsSlot (u 0)) there (found.slots u left).first)
+  slot_of (suc zero) checkpoint there u left = (omega arith, subst (IsSlot (u 1)) there (found.slots u left).second)
+  slot_of (suc (suc i)) checkpoint there u left = absurd cc
+
+  -- a time that is the last event's, and 0 without one
+  pub last_is : (n : ℕ) → (0 < (base r).committed + length (opened r) → n ≡ time_of r) → ((base r).committed + length (opened r) ≡ 0 → n ≡ 0) → last_time all ≡ n
+  last_is n some none = by all (all_long now (base r) (opened r)) (right.time_is ∙ ap last_time (sym same))
+    where
+      same : all ≡ all_events (Some image) (base r) []
+      same = ap (λ (l : List Event). all_events now (base r) l) found.empty ∙ ap (λ (i : Option Image). all_events i (base r) []) told
+
+      by : (events : List Event) → length events ≡ (base r).committed + length (opened r) → time_of r ≡ last_time events → last_time events ≡ n
+      by [] long is = sym (none (sym long))
+      by (x ∷ events) long is = sym is ∙ sym (some (omega (arith, long)))
+
+  module _ (tasks : Tasks) (tasks_are : tasks ≡ plan_for plan.queries) where
+    -- an engine can stand for its events
+    pub can_stand : (is_told : Type 0) → All (IsLegal plan.shape) plan.queries → is_told → CanStand (IsSound now may r) is_told tasks all
+    can_stand is_told legal tells = record {
+      sound = found.reservoir.sound;
+      tells = tells;
+      fed = record {
+        fields = plan.shape.fields;
+        serves = subst (Serves plan.shape.fields) (sym tasks_are) (serves plan.shape plan.queries legal);
+        are = subst (All (IsEventOf plan.shape.fields)) (has.2 ∙ sym all_is) has.1.of;
+      };
+    }
+
+    -- each checkpoint of the plan's queries is true of its events
+    pub are_truthful : (texts : List (List ℕ)) → texts ≡ texts_of plan.shape plan.queries → ((v : Image) → now ≡ Some v → may v) → All (IsSaid plan.shape) plan.queries → AreTruthful (Spells now (base r) (opened r)) texts tasks all (slot_in saved)
+    are_truthful texts texts_are reads said i checkpoint there same =
+        let left = reads image told in
+        let slot = slot_of i checkpoint there image left in
+        let is : IsTrueOf (image 2) checkpoint = (found.truthful image left).slots i slot.0 checkpoint slot.1 in
+        let here = framed plan image may (base r) [] (next_of r) (time_of r) (cache_of r) right found.reservoir.file found.reservoir.shape in
+        same_past (SpotIn plan.shape (image 2)) (Spells now (base r) (opened r)) tasks (joined right.chunks) all checkpoint spelled all_is
+        (subst (λ (t : Tasks). IsTruthful (SpotIn plan.shape (image 2)) t (joined right.chunks) checkpoint) (sym tasks_are) (of_plan plan said (image 2) (joined right.chunks) here has checkpoint is (same ∙ texts_are)))
+
+    -- the slot that was used
+    pub kept_by : (after : Image → Type 0) → ((u : Image) → after u → may u) → (Names : Spot → Type 0) (texts : List (List ℕ)) (fields : List Field) (committed : ℕ) → texts ≡ texts_of plan.shape plan.queries
+        → (keep : Option ℕ) (from : ℕ) → IsFrom (IsFit Names texts fields tasks committed) (slot_in saved) keep from → (slot : ℕ) → keep ≡ Some slot → IsKept plan after slot from committed
+    kept_by after fewer Names texts fields committed texts_are None from is slot e = absurd cc
+    kept_by after fewer Names texts fields committed texts_are (Some i) from (checkpoint, best, count) slot e =
+        let same : i ≡ slot = cc in
+        subst (λ (n : ℕ). IsKept plan after n from committed) same (record {
+          below = below i checkpoint best.there;
+          stored = omega (arith, count, best.fit.within);
+          has = λ u left. let s = slot_of i checkpoint best.there u (fewer u left) in record {
+            below = s.0;
+            checkpoint = checkpoint;
+            complete = s.1;
+            texts = best.fit.queries_are ∙ texts_are;
+            most = omega (arith, count);
+          };
+        })
+      where
+        below : (n : ℕ) (c : Checkpoint) → slot_in saved n ≡ Some c → n < 2
+        below zero c there = omega arith
+        below (suc zero) c there = omega arith
+        below (suc (suc n)) c there = absurd cc
+
+    -- an engine that was started over it
+    module _ (then : Option Image) (after : Image → Type 0) (s : Reservoir) (based : base s ≡ base r) (none : opened s ≡ []) (sound : IsSound then after s) (fewer : (u : Image) → after u → may u) where
+      pub started : {T : Type 0} (is_told : Type 0) (cells : Cells) (engine : Seen T) (texts : List (List ℕ)) (keep : Option ℕ) (from : ℕ) → texts ≡ texts_of plan.shape plan.queries → All (IsSaid plan.shape) plan.queries → All (IsLegal plan.shape) plan.queries
+          → is_told → engine.plan ≡ tasks → EngineStands (Spells then (base s) (opened s)) tasks (all_events then (base s) (opened s)) cells engine.spots → ((slot : ℕ) → keep ≡ Some slot → IsKept plan after slot from (base r).committed)
+          → IsStarted plan then after is_told cells s engine texts keep from
+      started is_told cells engine texts keep from texts_are said legal tells plan_is stands kept = record {
+        in_step = record {
+          reservoir = record {
+            sound = sound;
+            going = ap (λ (b : Base). b.ended) based ∙ found.reservoir.going;
+            file = ap (λ (b : Base). b.file) based ∙ found.reservoir.file;
+            shape = ap (λ (b : Base). b.shape) based ∙ found.reservoir.shape;
+          };
+          said = said;
+          truthful = λ u left. found.truthful u (fewer u left);
+          stands = subst (λ (t : Tasks). EngineStands (Spells then (base s) (opened s)) t (all_events then (base s) (opened s)) cells engine.spots) tasks_are stands;
+          texts_are = texts_are;
+        };
+        empty = none;
+        tells = tells;
+        serves = serves plan.shape plan.queries legal;
+        plan_is = plan_is ∙ tasks_are;
+        kept = λ slot is. subst (λ (b : Base). IsKept plan after slot from b.committed) (sym based) (kept slot is);
+      }

@@ -1,0 +1,4 @@
+pub mod Settles
+pub mod Attached
+pub mod Found
+pub mod Causes

@@ -1,0 +1,54 @@
+-- Over which stores a plan may be opened, and how it stands then.
+use Rattle.std.specs.Prelude.{◌≡◌, ◌<◌, ◌≤◌, ℕ, List, [], Option, Some}
+use Rattle.rg_host.specs.Image.{Image}
+use Rattle.rg_config.specs.Plans.{Planned}
+use Rattle.rg_plan.specs.Plans.{plan_for}
+use Rattle.rg_state.specs.Rows.{Cells}
+use Rattle.rg_engine.specs.Feeding.{Serves}
+use Rattle.rg_engine.specs.Seen.{Seen}
+use Rattle.rg_checkpoint.specs.declared.base.Checkpoint.{Checkpoint}
+use Rattle.rg_checkpoint.specs.Slots.{HasSlot, IsSlot}
+use Rattle.rg_restore.specs.Slots.{slot_in}
+use Rattle.rg_restore.specs.declared.choosing.Saved.{Saved}
+use Rattle.rg_reservoir.specs.Kept.{base, opened}
+use Rattle.rg_reservoir.specs.declared.reservoir.Reservoir.{Reservoir}
+use Rattle.rg_store.specs.Opened.{IsOpenedFor, IsInStep}
+use Rattle.rg_store.specs.Stores.{HasSaved, IsOfPlan}
+use Rattle.rg_store.specs.Truth.{IsTruthfulImage}
+use Rattle.rg_open.specs.Settling.{AreSettled}
+
+-- The host tells its image, and each image that might be left is truthful, and its log is of the plan's schema or has no frame.
+pub record IsOpenable (plan : Planned) (now : Option Image) (may : Image → Type 0) : Type 0 where
+  pub image : Image
+  pub told : now ≡ Some image
+  pub truthful : (u : Image) → may u → IsTruthfulImage u
+  pub schema : (u : Image) → may u → IsOfPlan plan u
+
+-- these are the checkpoints of the image's slots
+pub record AreSlots (v : Image) (saved : Saved) : Type 0 where
+  pub first : IsSlot (v 0) saved.first
+  pub second : IsSlot (v 1) saved.second
+
+-- A sound reservoir over the plan's log was attached, and its open chunk is empty; each image that might be left is truthful, and its
+-- slots have these checkpoints.
+pub record IsFound (plan : Planned) (now : Option Image) (may : Image → Type 0) (r : Reservoir) (saved : Saved) : Type 0 where
+  pub reservoir : IsOpenedFor plan now may r
+  pub empty : opened r ≡ []
+  pub truthful : (u : Image) → may u → IsTruthfulImage u
+  pub slots : (u : Image) → may u → AreSlots u saved
+
+-- in each image that might be left that slot has the plan's checkpoint, of so many of the stored events
+pub record IsKept (plan : Planned) (may : Image → Type 0) (slot saved committed : ℕ) : Type 0 where
+  pub below : slot < 2
+  pub stored : saved ≤ committed
+  pub has : (u : Image) → may u → HasSaved plan slot saved u
+
+-- The engine stands for all events of a sound reservoir over the plan's log, its table tells its rows, and the events are of columns
+-- that serve the plan; in each image that might be left the slot it went on from has its checkpoint.
+pub record IsStarted {T : Type 0} (plan : Planned) (now : Option Image) (may : Image → Type 0) (is_told : Type 0) (cells : Cells) (r : Reservoir) (engine : Seen T) (texts : List (List ℕ)) (keep : Option ℕ) (saved : ℕ) : Type 0 where
+  pub in_step : IsInStep plan now may r cells engine.spots texts
+  pub empty : opened r ≡ []
+  pub tells : is_told
+  pub serves : Serves plan.shape.fields (plan_for plan.queries)
+  pub plan_is : engine.plan ≡ plan_for plan.queries
+  pub kept : (slot : ℕ) → keep ≡ Some slot → IsKept plan may slot saved (base r).committed

@@ -1,0 +1,111 @@
+use rg_bytes::Memory;
+use rg_checkpoint::SlotFault;
+use rg_engine::EngineFault;
+use rg_past::PastFault;
+use rg_reservoir::ReservoirFault;
+use std::error::Error;
+use std::fmt;
+
+/// Why a store couldn't be opened.
+#[derive(Clone, Copy, Debug, PartialEq, Eq, Hash)]
+pub enum OpenFault {
+    /// A call on a file failed, and the host has counted it.
+    Disk,
+    /// The open frame of the log at that place, in bytes, is damaged.
+    Damaged(u64),
+    /// The log's first frame is another schema than the plan's.
+    SchemaDiffers,
+    /// The rows of the node of that number in the checkpoint that is used don't stand for its events.
+    BadState(u32),
+    /// Memory ran out.
+    Memory,
+    /// A call on the disk of the table failed, and the table has counted it.
+    Table,
+}
+
+impl fmt::Display for OpenFault {
+    fn fmt<W: fmt::Write>(&self, f: &mut fmt::Formatter<W>) -> fmt::Result {
+        match self {
+            OpenFault::Disk => f.write_str("a call on a file failed"),
+            OpenFault::Damaged(place) => write!(f, "the frame at byte {place} is damaged"),
+            OpenFault::SchemaDiffers => f.write_str("the log has another schema"),
+            OpenFault::BadState(node) => write!(
+                f,
+                "the rows of node {node} don't stand for the events"
+            ),
+            OpenFault::Memory => f.write_str("out of memory"),
+            OpenFault::Table => f.write_str("a call on the disk of the table failed"),
+        }
+    }
+}
+
+impl Error for OpenFault {}
+
+impl From<Memory> for OpenFault {
+    ghost use Rattle.std.specs.Prelude.{◌≡◌};
+    ghost use Rattle.rg_open.specs.declared.fault.OpenFault.TheVariants.{Memory};
+
+    ghost from_gives = { λ _ fault. fault ≡ Memory };
+
+    fn from(_memory: Memory) -> OpenFault {
+        OpenFault::Memory
+    }
+}
+
+/// The faults of reading the slots; `Ended` isn't among them.
+impl From<SlotFault> for OpenFault {
+    ghost use Rattle.std.specs.Prelude.{◌≡◌};
+    ghost use Rattle.rg_open.specs.Faults.{of_slots};
+
+    ghost from_gives = { λ slots fault. fault ≡ of_slots slots };
+
+    fn from(slots: SlotFault) -> OpenFault {
+        match slots {
+            SlotFault::Disk => OpenFault::Disk,
+            SlotFault::Memory => OpenFault::Memory,
+            SlotFault::Ended => OpenFault::Memory,
+        }
+    }
+}
+
+/// The faults of attaching a log; `Full` and `Ended` aren't among them.
+impl From<ReservoirFault> for OpenFault {
+    ghost use Rattle.std.specs.Prelude.{◌≡◌};
+    ghost use Rattle.rg_open.specs.Faults.{of_reservoir};
+
+    ghost from_gives = { λ reservoir fault. fault ≡ of_reservoir reservoir };
+
+    fn from(reservoir: ReservoirFault) -> OpenFault {
+        match reservoir {
+            ReservoirFault::Disk => OpenFault::Disk,
+            ReservoirFault::Damaged(place) => OpenFault::Damaged(place),
+            ReservoirFault::SchemaDiffers => OpenFault::SchemaDiffers,
+            ReservoirFault::Full => OpenFault::Memory,
+            ReservoirFault::Memory => OpenFault::Memory,
+            ReservoirFault::Ended => OpenFault::Memory,
+        }
+    }
+}
+
+/// The faults of an engine that goes on; that it or the past had ended, or that the past is full, isn't
+/// among them.
+impl From<EngineFault> for OpenFault {
+    ghost use Rattle.std.specs.Prelude.{◌≡◌};
+    ghost use Rattle.rg_open.specs.Faults.{of_engine};
+
+    ghost from_gives = { λ engine fault. fault ≡ of_engine engine };
+
+    fn from(engine: EngineFault) -> OpenFault {
+        match engine {
+            EngineFault::Past(PastFault::Disk) => OpenFault::Disk,
+            EngineFault::Past(PastFault::Damaged(place)) => OpenFault::Damaged(place),
+            EngineFault::Past(PastFault::Full) => OpenFault::Memory,
+            EngineFault::Past(PastFault::Memory) => OpenFault::Memory,
+            EngineFault::Past(PastFault::Ended) => OpenFault::Memory,
+            EngineFault::BadState(node) => OpenFault::BadState(node),
+            EngineFault::Memory => OpenFault::Memory,
+            EngineFault::Ended => OpenFault::Memory,
+            EngineFault::Table => OpenFault::Table,
+        }
+    }
+}

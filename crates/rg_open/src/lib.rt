@@ -1,0 +1,14 @@
+//! The opening of a store. In come a host, a plan and a table without a row; out come a reservoir over
+//! the log and an engine that stands for its events, and from where that went on. Upward: what an
+//! earlier run left is settled first; each image that a crash might leave on the way is truthful where
+//! those at the start were, and has the same events; no more is passed again than what lies behind the
+//! fit checkpoint of the greatest count.
+#![tactic(auto)]
+
+mod fault;
+mod finding;
+mod settling;
+mod starting;
+
+pub use fault::OpenFault;
+pub use settling::settle;

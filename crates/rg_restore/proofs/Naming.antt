@@ -1,0 +1,31 @@
+-- What a reservoir names when it is asked.
+use Rattle.std.proofs.Common.{◌≡◌, ◌↔◌, ℕ, Bool, false, List, [], Option, Some, IsTrue, sym, subst}
+use Rattle.std.specs.Prelude.{All}
+use Rattle.std.proofs.lemmas.List.Elements.{All-weaker}
+use Rattle.rg_host.specs.Image.{Image}
+use Rattle.rg_event.specs.declared.event.Event.{Event}
+use Rattle.rg_past.specs.declared.past.Spot.{Spot}
+use Rattle.rg_frame.specs.Frames.{HasPayloads}
+use Rattle.rg_frame.proofs.FrameLists.{payloads_one}
+use Rattle.rg_reservoir.specs.Kept.{Base}
+use Rattle.rg_reservoir.specs.Naming.{IsNamed}
+use Rattle.rg_reservoir.proofs.Seeking.{one_image}
+use Rattle.rg_restore.specs.Naming.{IsListed, HeadsName, NamesIn}
+
+-- the answer of a reservoir whose open chunk is empty and that hasn't ended
+pub names_by : (now : Option Image) (b : Base) (opened : List Event) (spots : List Spot) (is : Bool) → opened ≡ [] → b.ended ≡ false → IsListed now
+    → ((v : Image) (payloads : List (List ℕ)) → now ≡ Some v → HasPayloads payloads (v 2) → IsTrue is ↔ All (IsNamed payloads b.committed) spots) → IsTrue is ↔ All (NamesIn now b b.ended opened) spots
+names_by now b opened spots is none going (v, payloads, told, has) named =
+    subst (λ (l : List Event). IsTrue is ↔ All (NamesIn now b b.ended l) spots) (sym none)
+    (subst (λ (e : Bool). IsTrue is ↔ All (NamesIn now b e []) spots) (sym going) (λ yes. heads (both.0 yes), λ all. both.1 (listed all)))
+  where
+    both : IsTrue is ↔ All (IsNamed payloads b.committed) spots
+    both = named v payloads told has
+
+    heads : All (IsNamed payloads b.committed) spots → All (HeadsName now b) spots
+    heads = All-weaker (IsNamed payloads b.committed) (HeadsName now b) (λ s here. record { image = v; payloads = payloads; told = told; has = has; is = here }) spots
+
+    listed : All (HeadsName now b) spots → All (IsNamed payloads b.committed) spots
+    listed = All-weaker (HeadsName now b) (IsNamed payloads b.committed) (λ s here.
+        let also : HasPayloads here.payloads (v 2) = subst (λ (u : Image). HasPayloads here.payloads (u 2)) (one_image now here.image v here.told told) here.has in
+        subst (λ (l : List (List ℕ)). IsNamed l b.committed s) (payloads_one here.payloads payloads (v 2) also has) here.is) spots

@@ -1,0 +1,4 @@
+pub mod Sessions
+pub mod Stepping
+pub mod Faults
+pub mod Deciding

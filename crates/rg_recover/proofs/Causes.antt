@@ -4,7 +4,7 @@ use Rattle.rg_past.specs.declared.past.PastFault.TheVariants as past
 use Rattle.rg_engine.specs.declared.fault.EngineFault.{EngineFault}
 use Rattle.rg_engine.specs.declared.fault.EngineFault.TheVariants as engine
 use Rattle.rg_recover.specs.declared.fault.TaskFault.{TaskFault}
-use Rattle.rg_recover.specs.declared.fault.TaskFault.TheVariants.{Disk, Damaged, BadState, Memory, Ended, Table}
+use Rattle.rg_recover.specs.declared.fault.TaskFault.TheVariants.{Disk, Damaged, BadState, Ended}
 use Rattle.rg_recover.specs.Faults.{of_engine}
 
 pub same_fault : {A : Type 0} (e f : TaskFault) → ◌≡◌ {A = Result A TaskFault} (Err e) (Err f) → e ≡ f

@@ -4,3 +4,6 @@ pub mod Ready
 pub mod Causes
 pub mod Lines
 pub mod Running
+pub mod Beside
+pub mod Writing
+pub mod Saved

@@ -1,15 +1,16 @@
 -- What holds of a sound reservoir that hasn't ended.
-use Rattle.std.proofs.Common.{◌≡◌, ℕ, zero, suc, ◌<◌, ◌≤◌, ◌+◌, Bool, true, false, List, [], ◌∷◌, ◌++◌, length, Option, Some, None, refl, sym, ◌∙◌, ap, subst, arith, length-append}
+use Rattle.std.proofs.Common.{◌≡◌, ℕ, ◌<◌, ◌≤◌, ◌+◌, false, List, [], ◌∷◌, ◌++◌, length, Option, Some, sym, ◌∙◌, ap, subst, arith}
 use Rattle.std.specs.Prelude.{All}
 use Rattle.std.proofs.lemmas.List.{append-nil}
-use Rattle.std.proofs.lemmas.List.Elements.{All-append, All-push, All-from_recursion}
+use Rattle.std.proofs.lemmas.List.Elements.{All-append, All-from_recursion}
 use Rattle.std.specs.Option.{ForSome}
 use Rattle.rg_host.specs.Image.{Image, NothingPending}
 use Rattle.rg_event.specs.Codec.{IsEventOf}
 use Rattle.rg_event.specs.Rising.{IsRising, MayFollow, next_offset, last_time}
 use Rattle.rg_event.specs.declared.event.Event.{Event}
 use Rattle.rg_frame.specs.LogState.{Reaches, ReachesEnd}
-use Rattle.rg_log.specs.Log.{joined}
+use Rattle.rg_event.specs.Shapes.{Shape}
+use Rattle.rg_log.specs.Log.{joined, HasEvents, HasSchemaFrame}
 use Rattle.rg_reservoir.specs.Kept.{Base, base, opened, log_of, cache_of, next_of, time_of, stored, all_events, IsSound, IsRight}
 use Rattle.rg_reservoir.specs.GoingLaws.{all_long}
 use Rattle.rg_reservoir.specs.declared.reservoir.Reservoir.{Reservoir}
@@ -45,6 +46,20 @@ module _ (now : Option Image) (may : Image → Type 0) (r : Reservoir) (sound : 
   -- nothing of the log is pending
   pub log_settled : (file : ℕ) → (base r).file ≡ file → NothingPending file now may
   log_settled file is = for_some now sound.0 (λ (v : Image). (u : Image) → may u → u file ≡ v file) sound.1 (λ u left. subst (λ (f : ℕ). u f ≡ sound.0 f) is (right.settled u left))
+
+  -- the log of each image that might be left: the schema's frame, and just the stored events
+  module _ (shape : Shape) (shape_is : (base r).shape ≡ shape) (file : (base r).file ≡ 2) (u : Image) (left : may u) where
+    log_same : u 2 ≡ sound.0 2
+    log_same = subst (λ (f : ℕ). u f ≡ sound.0 f) file (right.settled u left)
+
+    pub log_framed : HasSchemaFrame shape (u 2)
+    log_framed = subst (λ (bytes : List ℕ). HasSchemaFrame shape bytes) (sym log_same) (subst (λ (s : Shape). HasSchemaFrame s (sound.0 2)) shape_is (subst (λ (f : ℕ). HasSchemaFrame (base r).shape (sound.0 f)) file right.framed))
+
+    pub log_stored : HasEvents shape (stored now (base r)) (u 2)
+    log_stored =
+        let is : stored now (base r) ≡ joined right.chunks = ap (λ (o : Option Image). stored o (base r)) sound.1 ∙ stored_is sound.0 may (base r) (opened r) (next_of r) (time_of r) (cache_of r) right in
+        let has : HasEvents (base r).shape (stored now (base r)) (sound.0 (base r).file) = subst (λ (l : List Event). HasEvents (base r).shape l (sound.0 (base r).file)) (sym is) right.legal in
+        subst (λ (bytes : List ℕ). HasEvents shape (stored now (base r)) bytes) (sym log_same) (subst (λ (s : Shape). HasEvents s (stored now (base r)) (sound.0 2)) shape_is (subst (λ (f : ℕ). HasEvents (base r).shape (stored now (base r)) (sound.0 f)) file has))
 
   -- an event may follow that has no lesser offset than the next one, and no lesser time than the last one
   pub may_follow : (event : Event) → next_of r ≤ event.offset → (0 < count_in r → time_of r ≤ event.time) → MayFollow (all_events now (base r) (opened r)) event

@@ -3,14 +3,14 @@ use Rattle.std.proofs.Common.{◌≡◌, ◌≢◌, ◌⊎◌, inl, inr, ◌≤�
 use Rattle.std.proofs.lemmas.List.{append-nil}
 use Rattle.std.specs.Option.{ForSome}
 use Rattle.rg_host.specs.Image.{Image, Becomes, InFile, NothingPending}
-use Rattle.rg_host.specs.Moments.{Moment, Moments, LeavesAll}
+use Rattle.rg_host.specs.Moments.{Moment, LeavesAll}
 use Rattle.rg_host.proofs.Runs.{moments-weaker, moments_then, leaves_all-none}
 use Rattle.rg_event.specs.declared.event.Event.{Event}
 use Rattle.rg_frame.specs.Calls.{Writes}
 use Rattle.rg_frame.specs.Steps.{Leaves, OthersStay}
 use Rattle.rg_course.specs.Stores.{Store}
 use Rattle.rg_course.specs.Steps.{IsMidStep, IsStepped}
-use Rattle.rg_course.proofs.Hosts.{same_mid_step, same_stepped, stepped_then}
+use Rattle.rg_course.proofs.Hosts.{same_mid_step, same_stepped, stepped_then_mid_step}
 use Rattle.rg_recover.specs.Stepping.{IsWithinStep, IsStored}
 
 -- an image after a step is one within it
@@ -45,6 +45,28 @@ settled_beside file (Some w) then may after Step step others apart settled = λ 
     was.2 file apart ∙ settled w refl was.0 was.1 ∙ sym (becomes.2.elsewhere file apart) ∙ ap (λ (i : Image). i file) same
 settled_beside file None then may after Step step others apart settled = λ v told u left.
     absurd (let none : ◌≡◌ {A = Option Image} None (Some v) = sym (step.untold refl) ∙ told in cc)
+
+-- within a step that adds nothing is within one that adds a chunk
+pub widen_mid : (store : Store Image) (keep : Option ℕ) (chunk : List Event) (may : Image → Type 0) (u : Image) → IsMidStep store keep [] may u → IsMidStep store keep chunk may u
+widen_mid store keep chunk may u step = record {
+  from = step.from;
+  left = step.left;
+  truthful = step.truthful;
+  schema = step.schema;
+  events = λ es has. by es (step.events es has);
+  slots = step.slots;
+}
+  where
+    by : (es : List Event) → store.HasEvents es u ⊎ store.HasEvents (es ++ []) u → store.HasEvents es u ⊎ store.HasEvents (es ++ chunk) u
+    by es (inl has) = inl has
+    by es (inr has) = inl (subst (λ (l : List Event). store.HasEvents l u) (append-nil es) has)
+
+-- within a step behind one that was done
+pub mid_behind : (store : Store Image) (keep : Option ℕ) (chunk more : List Event) (may next : Image → Type 0) (u : Image) → (more ≡ []) ⊎ (more ≡ chunk) → ((v : Image) → next v → IsStepped store keep more may v) → IsMidStep store keep [] next u → IsMidStep store keep chunk may u
+mid_behind store keep chunk more may next u (inl none) stepped step =
+    widen_mid store keep chunk may u (stepped_then_mid_step Image store keep [] may next u (subst (λ (l : List Event). (v : Image) → next v → IsStepped store keep l may v) none stepped) step)
+mid_behind store keep chunk more may next u (inr all) stepped step =
+    stepped_then_mid_step Image store keep chunk may next u (subst (λ (l : List Event). (v : Image) → next v → IsStepped store keep l may v) all stepped) step
 
 module _ {H : Type 0} (now : H → Option Image) (may : H → Image → Type 0) (clock : H → ℕ) (since : H → ℕ → Moment → Type 0) (said : H → Option (List ℕ)) where
   -- a call that writes one file, by steps of the store
@@ -102,3 +124,12 @@ module _ {H : Type 0} (now : H → Option Image) (may : H → Image → Type 0) 
   -- no call stores nothing
   pub still_stored : (store : Store Image) (keep : Option ℕ) (chunk events : List Event) (host : H) → IsStored store keep chunk events events (may host) (may host)
   still_stored store keep chunk events host = record { more = []; whole = inl refl; grown = sym (append-nil events); left = λ u left. same_stepped Image store keep (may host) u left }
+
+  -- a step that was done, and then one that adds nothing
+  pub within_more : (store : Store Image) (keep : Option ℕ) (chunk more : List Event) (old mid new : H) → (more ≡ []) ⊎ (more ≡ chunk) → IsWithinStep may clock since said store keep chunk old mid → ((u : Image) → may mid u → IsStepped store keep more (may old) u)
+      → IsWithinStep may clock since said store keep [] mid new → IsWithinStep may clock since said store keep chunk old new
+  within_more store keep chunk more old mid new whole first stepped second = record {
+    moments = moments_then clock since old mid new _ _ _ first.moments second.moments (λ m h. h) (λ m h. (mid_behind store keep chunk more (may old) (may mid) m.image whole stepped h.0, λ s is. h.1 s (first.said_stays ∙ is)));
+    left = λ u left. mid_behind store keep chunk more (may old) (may mid) u whole stepped (second.left u left);
+    said_stays = second.said_stays ∙ first.said_stays;
+  }

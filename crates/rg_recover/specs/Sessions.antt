@@ -10,9 +10,10 @@ use Rattle.rg_state.specs.Rows.{Cells}
 use Rattle.rg_window.specs.Placed.{AreWithin}
 use Rattle.rg_engine.specs.Feeding.{Serves}
 use Rattle.rg_engine.specs.Seen.{Seen, seen_code}
-use Rattle.rg_reservoir.specs.Kept.{Base, base, opened, room_of, stored, all_events}
+use Rattle.rg_reservoir.specs.Kept.{base, opened, room_of, stored, all_events}
 use Rattle.rg_reservoir.specs.contracts.reservoir.Reservoir.{the_row as reservoir_row}
 use Rattle.rg_reservoir.specs.declared.reservoir.Reservoir.{Reservoir}
+use Rattle.rg_checkpoint.specs.Slots.{IsKeep}
 use Rattle.rg_store.specs.Opened.{IsInStep}
 use Rattle.rg_store.specs.Stores.{HasSaved}
 
@@ -39,8 +40,8 @@ abbrev pub count_in : Reservoir → ℕ
 count_in r = (base r).committed + length (opened r)
 
 -- Of any session: its schema and its limit are those of the reservoir, no edge of its engine is behind the end of the events, and
--- where it hasn't ended, neither have reservoir and engine.
-pub record IsWhole {T : Type 0} (shape : Shape) (most : ℕ) (s : Sitting T) : Type 0 where
+-- where it hasn't ended, neither have reservoir, engine and slots.
+pub record IsWhole {T : Type 0} (shape : Shape) (most : ℕ) (slots_ended : Bool) (s : Sitting T) : Type 0 where
   pub shape_is : shape ≡ (base s.reservoir).shape
   pub most_is : most ≡ (base s.reservoir).limit
   pub within : AreWithin s.engine.spots (count_in s.reservoir)
@@ -49,6 +50,8 @@ pub record IsWhole {T : Type 0} (shape : Shape) (most : ℕ) (s : Sitting T) : T
   pub fits : length (opened s.reservoir) ≤ room_of s.reservoir
   pub engine_goes : s.ended ≡ false → s.engine.ended ≡ false
   pub reservoir_goes : s.ended ≡ false → (base s.reservoir).ended ≡ false
+  pub slots_go : s.ended ≡ false → slots_ended ≡ false
+  pub keep : IsKeep s.keep
 
 -- each image that might be left has the plan's checkpoint in that slot, of so many of the stored events
 pub record IsKept (plan : Planned) (may : Image → Type 0) (slot saved committed : ℕ) : Type 0 where

@@ -1,5 +1,5 @@
 -- What a call on a session does to the store of its plan.
-use Rattle.std.specs.Prelude.{◌≡◌, ◌⊎◌, ℕ, List, [], ◌++◌, Option}
+use Rattle.std.specs.Prelude.{◌≡◌, ◌⊎◌, ℕ, List, [], ◌++◌, Option, Some, None}
 use Rattle.std.specs.Option.{ForSome}
 use Rattle.rg_host.specs.Image.{Image}
 use Rattle.rg_host.specs.Moments.{Moment, Moments}
@@ -20,3 +20,9 @@ pub record IsStored (store : Store Image) (keep : Option ℕ) (chunk before afte
   pub whole : (more ≡ []) ⊎ (more ≡ chunk)
   pub grown : after ≡ before ++ more
   pub left : (u : Image) → new_may u → IsStepped store keep more old_may u
+
+-- The log's file stays as reads give it, and in each image that might be left it is as in one that might have been.
+pub record LogStays (now then : Option Image) (may after : Image → Type 0) : Type 0 where
+  pub told : (v : Image) → now ≡ Some v → (w : Image) × (then ≡ Some w) × (w 2 ≡ v 2)
+  pub untold : now ≡ None → then ≡ None
+  pub left : (u : Image) → after u → (x : Image) × may x × (u 2 ≡ x 2)

@@ -7,9 +7,12 @@
 
 mod commit;
 mod fault;
+mod law;
 mod line;
+mod save;
 mod session;
 mod taking;
 
 pub use fault::TaskFault;
+pub use law::law_running;
 pub use session::Session;

@@ -2,6 +2,7 @@ ghost use Rattle.std.specs.Prelude.{◌≡◌};
 ghost use Rattle.rg_reservoir.specs.Kept.{next_of};
 ghost use Rattle.rg_recover.specs.Sessions.{count_in};
 
+use rg_checkpoint::Slots;
 use rg_engine::Engine;
 use rg_event::{Schema, Texts};
 use rg_reservoir::Reservoir;
@@ -21,6 +22,7 @@ pub struct Session<T: Table> {
     pub(crate) most: u64,
     pub(crate) reservoir: Reservoir,
     pub(crate) engine: Engine<T>,
+    pub(crate) slots: Slots,
     pub(crate) keep: Option<u32>,
     pub(crate) saved: u64,
     pub(crate) ended: bool,
@@ -37,7 +39,7 @@ impl<T: Table> Model for Session<T> {
 
     ghost view = { λ s. record { reservoir = s.reservoir; engine = s.engine; texts = s.texts; keep = s.keep; saved = s.saved; ended = s.ended } };
 
-    ghost invariant = { λ s. IsWhole s.schema s.most (record { reservoir = s.reservoir; engine = s.engine; texts = s.texts; keep = s.keep; saved = s.saved; ended = s.ended }) };
+    ghost invariant = { λ s. IsWhole s.schema s.most s.slots.ended (record { reservoir = s.reservoir; engine = s.engine; texts = s.texts; keep = s.keep; saved = s.saved; ended = s.ended }) };
 }
 
 impl<T: Table> Session<T> {

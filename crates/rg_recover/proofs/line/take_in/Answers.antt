@@ -5,7 +5,7 @@ use Rattle.rg_host.specs.Image.{Image}
 use Rattle.rg_host.proofs.Runs.{leaves_all-settled}
 use Rattle.rg_event.specs.declared.event.Event.{Event}
 use Rattle.rg_metric.specs.Replies.{answers_to}
-use Rattle.rg_reservoir.specs.Kept.{Base, base, opened, stored, all_events}
+use Rattle.rg_reservoir.specs.Kept.{Base, base, opened, stored}
 use Rattle.rg_store.specs.Stores.{store_of}
 use Rattle.rg_recover.proofs.Ready.{ready_stepped}
 use Rattle.rg_recover.proofs.Within.{quiet_within, within_then, quiet_stored, chunk_stored}

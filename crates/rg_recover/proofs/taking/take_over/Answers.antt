@@ -1,4 +1,4 @@
-use Rattle.std.proofs.Common.{◌≡◌, ◌∙◌, ⊎_elim, Err, [], ap, sym, arith}
+use Rattle.std.proofs.Common.{◌∙◌, ⊎_elim, Err, [], ap, sym, arith}
 use Rattle.std.proofs.lemmas.List.{append-nil}
 use Rattle.rg_past.specs.declared.past.PastFault.TheVariants as past
 use Rattle.rg_reservoir.specs.Kept.{base, opened, all_events}

@@ -1,4 +1,4 @@
-use Rattle.std.proofs.Common.{rules, inl, inr, refl}
+use Rattle.std.proofs.Common.{rules, inr, refl}
 use Rattle.rg_reservoir.specs.Kept.{opened}
 use Rattle.rg_recover.specs.Sessions.{Sitting}
 use Rattle.rg_recover.proofs.Ready.{ready_stepped}

@@ -1,0 +1,9 @@
+pub mod Within
+pub mod Sound
+pub mod Ready
+pub mod Causes
+pub mod Lines
+pub mod Running
+pub mod Beside
+pub mod Writing
+pub mod Saved

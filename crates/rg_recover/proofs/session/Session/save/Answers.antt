@@ -1,0 +1,50 @@
+use Rattle.std.proofs.Common.{◌∙◌, ap, subst, [], List, ℕ, Option}
+use Rattle.std.proofs.lemmas.List.{append-nil}
+use Rattle.std.proofs.lemmas.Result.{on_ok_weaker}
+use Rattle.rg_event.specs.declared.event.Event.{Event}
+use Rattle.rg_reservoir.specs.Kept.{base, opened, stored}
+use Rattle.rg_reservoir.specs.declared.reservoir.Reservoir.{Reservoir}
+use Rattle.rg_course.specs.Steps.{IsStepped}
+use Rattle.rg_course.proofs.Hosts.{stepped_then}
+use Rattle.rg_host.specs.Image.{Image}
+use Rattle.rg_store.specs.Stores.{store_of}
+use Rattle.rg_recover.specs.Stepping.{IsWithinStep}
+use Rattle.rg_recover.proofs.Beside.{stored_beside}
+use Rattle.rg_recover.proofs.Saved.{mid_is_stepped}
+use Rattle.rg_recover.proofs.Within.{within_more}
+use Rattle.rg_recover.proofs.session.Session.save.Goals as goal
+
+pub returns-in-Err-clause-within_step : goal.returns-in-Err-clause-within_step
+returns-in-Err-clause-within_step g c = λ plan runs. c.commit.ensures.within_step plan c.args.self.now.keep runs
+
+pub returns-then-self-count-clause-within_step : goal.returns-then-self-count-clause-within_step
+returns-then-self-count-clause-within_step g c = λ plan runs. c.commit.ensures.within_step plan c.args.self.now.keep runs
+
+pub returns-clause-within_step : goal.returns-clause-within_step
+returns-clause-within_step g c = λ plan runs.
+    let keep = c.args.self.now.keep in
+    let mid = c.commit.new.host in
+    let new = c.write_checkpoint.new.host in
+    let done = c.in-Ok.ensures.stored plan keep runs in
+    let more = subst (λ (k : Option ℕ). IsWithinStep g.H.Host.may g.H.Host.clock g.H.Host.since g.H.Host.said (store_of plan) k [] mid new) c.commit.ensures.stays.2 (c.write_checkpoint.ensures.within_step plan (c.in-Ok.ensures.running plan runs)) in
+    within_more g.H.Host.now g.H.Host.may g.H.Host.clock g.H.Host.since g.H.Host.said (store_of plan) keep (opened c.args.self.now.reservoir) done.more c.args.host.now mid new done.whole
+    (c.commit.ensures.within_step plan keep runs) done.left more
+
+pub returns-clause-stored : goal.returns-clause-stored
+returns-clause-stored g c = λ plan runs.
+    let keep = c.args.self.now.keep in
+    let mid = c.commit.new.host in
+    let new = c.write_checkpoint.new.host in
+    let r = c.commit.new.self.reservoir in
+    let at = c.in-Ok.ensures.running plan runs in
+    let log = at.ready.in_step.reservoir in
+    let done = c.in-Ok.ensures.stored plan keep runs in
+    let more = subst (λ (k : Option ℕ). IsWithinStep g.H.Host.may g.H.Host.clock g.H.Host.since g.H.Host.said (store_of plan) k [] mid new) c.commit.ensures.stays.2 (c.write_checkpoint.ensures.within_step plan at) in
+    on_ok_weaker c.write_checkpoint.result (λ _. record {
+      more = done.more;
+      whole = done.whole;
+      grown = ap (λ (x : Reservoir). stored (g.H.Host.now new) (base x)) c.write_checkpoint.ensures.reservoir
+          ∙ stored_beside (g.H.Host.now mid) (g.H.Host.now new) (g.H.Host.may mid) (g.H.Host.may new) r log.file c.write_checkpoint.ensures.log log.sound ∙ done.grown;
+      left = λ u one. subst (λ (l : List Event). IsStepped (store_of plan) keep l (g.H.Host.may c.args.host.now) u) (append-nil done.more)
+          (stepped_then Image (store_of plan) keep done.more [] (g.H.Host.may c.args.host.now) (g.H.Host.may mid) u done.left (mid_is_stepped (store_of plan) keep (g.H.Host.may mid) u (more.left u one)));
+    }) c.write_checkpoint.ensures.saved

@@ -1,0 +1,224 @@
+ghost use Rattle.std.specs.Prelude.{◌≡◌, ◌≢◌, ◌↔◌, ◌≤◌, ◌<◌, ◌^◌, ◌==◌, nat_lt, ◌++◌, [], ◌∷◌, ℕ, List, Option, length, true, false, IfOk, OnOk, OnErr, IsErrOf};
+ghost use Rattle.std.specs.List.{list_any};
+ghost use Rattle.std.specs.Option.{ForSome};
+ghost use Rattle.rg_bytes.specs.Counts.{Rose};
+ghost use Rattle.rg_host.specs.Image.{NothingPending};
+ghost use Rattle.rg_event.specs.Codec.{IsEventOf};
+ghost use Rattle.rg_event.specs.Rising.{IsRising, last_time};
+ghost use Rattle.rg_event.specs.declared.event.Event.{Event as TheEvent};
+ghost use Rattle.rg_frame.specs.LogState.{ReachesEnd};
+ghost use Rattle.rg_metric.specs.Replies.{answers_to};
+ghost use Rattle.rg_config.specs.Plans.{Planned};
+ghost use Rattle.rg_row.specs.Rows.{row_of};
+ghost use Rattle.rg_reservoir.specs.Chain.{IsIllegal};
+ghost use Rattle.rg_reservoir.specs.Kept.{base, opened, room_of, log_of, next_of, time_of, stored, all_events};
+ghost use Rattle.rg_state.specs.Keeping.{TableKept};
+ghost use Rattle.rg_verdict.specs.Verdicts.{accepted_after, fault_reply, or_reply, reply_of, verdict_of};
+ghost use Rattle.rg_window.specs.Placed.{AreWithin};
+ghost use Rattle.rg_store.specs.Stores.{store_of};
+ghost use Rattle.rg_recover.specs.Deciding.{verdict_on, as_verdict, IfAccepted};
+ghost use Rattle.rg_recover.specs.Sessions.{IsReady, IsRunning, count_in, events_of, stored_of};
+ghost use Rattle.rg_recover.specs.Stepping.{IsWithinStep, IsStored};
+
+use crate::commit::commit_open;
+use crate::fault::TaskFault;
+use crate::session::Session;
+use crate::taking::take;
+use rg_bytes::Memory;
+use rg_engine::Engine;
+use rg_event::{Event, Steps};
+use rg_host::Host;
+use rg_metric::{Answers, Reply};
+use rg_reservoir::Reservoir;
+use rg_row::{RowFault, read_row};
+use rg_state::Table;
+use std::sync::ledger::Ledger;
+
+/// What a session decides on a line.
+#[derive(Debug, Drop)]
+enum Decision {
+    /// The line is refused with this reply.
+    Refused(Reply),
+    /// The line is accepted as this event.
+    Accepted(Event),
+}
+
+/// The reply to a fault of a row; want of memory has none.
+fn row_reply(fault: RowFault) -> Reply
+    requires { fault ≡ RowFault.Memory → ⊥ }
+    ensures { result ≡ fault_reply fault }
+{
+    match fault {
+        RowFault::Row => Reply::Row,
+        RowFault::Fields => Reply::Fields,
+        RowFault::Time => Reply::Time,
+        RowFault::Value(column) => Reply::Value(column),
+        RowFault::Memory => unreachable!(),
+    }
+}
+
+/// Lets the engine take an event; the reservoir first commits its open chunk where it has no room.
+fn take_in<H: Host, T: Table, L: Ledger>(
+    reservoir: &mut Reservoir,
+    engine: &mut Engine<T>,
+    host: &mut H,
+    event: Event,
+    steps: &mut Steps<L>,
+) -> Result<Answers, TaskFault>
+    requires some_room { 1 ≤ room_of reservoir.old }
+    requires few { length (opened reservoir.old) ≤ 4096 }
+    requires full { length (opened reservoir.old) ≤ room_of reservoir.old }
+    requires fits { IsEventOf (base reservoir.old).shape.fields event }
+    requires next { next_of reservoir.old ≤ event.offset }
+    requires time { 0 < count_in reservoir.old → time_of reservoir.old ≤ event.time }
+    requires within { AreWithin engine.old.spots (count_in reservoir.old) }
+    requires below { count_in reservoir.old < (base reservoir.old).limit }
+    requires engine_goes { engine.old.ended ≡ false }
+    requires reservoir_goes { (base reservoir.old).ended ≡ false }
+    requires reaches { ReachesEnd (log_of reservoir.old) (H.now host.old) }
+
+    ensures answers { (plan : Planned) (texts : List (List ℕ)) → IsReady plan (H.now host.old) (H.may host.old) (T.tells engine.old.table) (T.cell engine.old.table) reservoir.old engine.old texts →
+        IfOk result (λ answers. answers ≡ answers_to plan.queries (all_events (H.now host.old) (base reservoir.old) (opened reservoir.old) ++ event ∷ []) event) }
+    ensures ready { (plan : Planned) (texts : List (List ℕ)) → IsReady plan (H.now host.old) (H.may host.old) (T.tells engine.old.table) (T.cell engine.old.table) reservoir.old engine.old texts →
+        OnOk result (IsReady plan (H.now host.new) (H.may host.new) (T.tells engine.new.table) (T.cell engine.new.table) reservoir.new engine.new texts) }
+    ensures bad { (plan : Planned) (texts : List (List ℕ)) (n : ℕ) → IsReady plan (H.now host.old) (H.may host.old) (T.tells engine.old.table) (T.cell engine.old.table) reservoir.old engine.old texts →
+        IsErrOf result (TaskFault.BadState n) → ⊥ }
+    ensures events { (plan : Planned) (texts : List (List ℕ)) → IsReady plan (H.now host.old) (H.may host.old) (T.tells engine.old.table) (T.cell engine.old.table) reservoir.old engine.old texts →
+        OnOk result (all_events (H.now host.new) (base reservoir.new) (opened reservoir.new) ≡ all_events (H.now host.old) (base reservoir.old) (opened reservoir.old) ++ event ∷ []) }
+    ensures within_step { (plan : Planned) (texts : List (List ℕ)) (keep : Option ℕ) → IsReady plan (H.now host.old) (H.may host.old) (T.tells engine.old.table) (T.cell engine.old.table) reservoir.old engine.old texts →
+        IsWithinStep H.may H.clock H.since H.said (store_of plan) keep (opened reservoir.old) host.old host.new }
+    ensures stored { (plan : Planned) (texts : List (List ℕ)) (keep : Option ℕ) → IsReady plan (H.now host.old) (H.may host.old) (T.tells engine.old.table) (T.cell engine.old.table) reservoir.old engine.old texts →
+        OnOk result (IsStored (store_of plan) keep (opened reservoir.old) (stored (H.now host.old) (base reservoir.old)) (stored (H.now host.new) (base reservoir.new)) (H.may host.old) (H.may host.new)) }
+    ensures settled { (plan : Planned) (texts : List (List ℕ)) (file : ℕ) → IsReady plan (H.now host.old) (H.may host.old) (T.tells engine.old.table) (T.cell engine.old.table) reservoir.old engine.old texts → file ≢ 2 →
+        NothingPending file (H.now host.old) (H.may host.old) → OnOk result (NothingPending file (H.now host.new) (H.may host.new)) }
+    ensures damaged { (p : ℕ) → IsErrOf result (TaskFault.Damaged p) → ForSome (H.now host.new) (λ v. IsIllegal (base reservoir.new).shape.fields p (v (base reservoir.new).file)) }
+    ensures disk { IsErrOf result TaskFault.Disk → Rose (H.disk_faults host.old) (H.disk_faults host.new) }
+    ensures table { IsErrOf result TaskFault.Table → Rose (T.faults engine.old.table) (T.faults engine.new.table) }
+    ensures not_ended { IsErrOf result TaskFault.Ended → ⊥ }
+
+    ensures engine_goes { OnOk result (engine.new.ended ≡ false) }
+    ensures reservoir_goes { OnOk result ((base reservoir.new).ended ≡ false) }
+    ensures plan { engine.new.plan ≡ engine.old.plan }
+    ensures rows { TableKept T.tells T.faults engine.old.table engine.new.table }
+    ensures within { AreWithin engine.new.spots (count_in reservoir.new) }
+    ensures shape { (base reservoir.new).shape ≡ (base reservoir.old).shape }
+    ensures limit { (base reservoir.new).limit ≡ (base reservoir.old).limit }
+    ensures room { room_of reservoir.new ≡ room_of reservoir.old }
+    ensures full { length (opened reservoir.new) ≤ room_of reservoir.new }
+    ensures grows { (base reservoir.old).committed ≤ (base reservoir.new).committed }
+    ensures reaches { OnOk result (ReachesEnd (log_of reservoir.new) (H.now host.new)) }
+    ensures said { H.said host.new ≡ H.said host.old }
+    ensures disk_faults { H.disk_faults host.old ≤ H.disk_faults host.new }
+    ensures out_faults { H.out_faults host.new ≡ H.out_faults host.old }
+{
+    if reservoir.has_room() {
+        return take(reservoir, engine, host, event, steps);
+    }
+    match commit_open(reservoir, host) {
+        Ok(()) => take(reservoir, engine, host, event, steps),
+        Err(fault) => Err(fault),
+    }
+}
+
+impl<T: Table> Session<T> {
+    /// Decides on a line. The order of the refusals is that of a row's faults, then `Late`, then `Full`.
+    fn decide(&self, offset: u64, line: &[u8]) -> Result<Decision, Memory>
+        requires one_line { list_any (λ byte. byte == 10) line.now ≡ false }
+        requires small { offset < 2 ^ 62 }
+        ensures says { (events : List TheEvent) → IsRising events → time_of self.now.reservoir ≡ last_time events → length events ≡ count_in self.now.reservoir →
+            IfOk result (λ decision. as_verdict decision ≡ verdict_of (base self.now.reservoir).limit events (or_reply (row_of (base self.now.reservoir).shape.fields offset line.now))) }
+        ensures fits { IfOk result (λ decision. IfAccepted decision (λ event. IsEventOf (base self.now.reservoir).shape.fields event)) }
+        ensures placed { IfOk result (λ decision. IfAccepted decision (λ event. event.offset ≡ offset)) }
+        ensures in_time { IfOk result (λ decision. IfAccepted decision (λ event. 0 < count_in self.now.reservoir → time_of self.now.reservoir ≤ event.time)) }
+        ensures below { IfOk result (λ decision. IfAccepted decision (λ event. count_in self.now.reservoir < (base self.now.reservoir).limit)) }
+    {
+        let event = match read_row(self.alloc, &self.schema, offset, line) {
+            Ok(event) => event,
+            Err(RowFault::Memory) => return Err(Memory),
+            Err(fault) => return Ok(Decision::Refused(row_reply(fault))),
+        };
+        if self.is_late(event.time) {
+            return Ok(Decision::Refused(Reply::Late));
+        }
+        if self.reservoir.count() >= self.most {
+            return Ok(Decision::Refused(Reply::Full));
+        }
+        Ok(Decision::Accepted(event))
+    }
+
+    /// Whether an event has a greater time than that one.
+    fn is_late(&self, time: u64) -> bool
+        ensures late { (events : List TheEvent) → IsRising events → time_of self.now.reservoir ≡ last_time events → length events ≡ count_in self.now.reservoir →
+            result ≡ list_any (λ x. nat_lt time x.time) events }
+        ensures in_time { result ≡ false → 0 < count_in self.now.reservoir → time_of self.now.reservoir ≤ time }
+    {
+        match self.reservoir.last_time() {
+            None => false,
+            Some(last) => time < last,
+        }
+    }
+
+    /// Decides on a cleaned line, and answers it; an accepted one is answered over all events, itself
+    /// among them. Where there is no room for its event, all events are stored first. Any refusal ends
+    /// the session: each later call is refused with `Ended`, and touches nothing.
+    pub fn line<H: Host, L: Ledger>(
+        &mut self,
+        host: &mut H,
+        offset: u64,
+        line: &[u8],
+        steps: &mut Steps<L>,
+    ) -> Result<Reply, TaskFault>
+        requires one_line { list_any (λ byte. byte == 10) line.now ≡ false }
+        requires next { next_of self.old.reservoir ≤ offset }
+        requires small { offset < 2 ^ 62 }
+        requires reaches { self.old.ended ≡ false → ReachesEnd (log_of self.old.reservoir) (H.now host.old) }
+
+        // Of a session that runs: what is answered and accepted, and at each moment, and after the call.
+        ensures reply { (plan : Planned) → IsRunning plan (H.now host.old) (H.may host.old) (T.tells self.old.engine.table) (T.cell self.old.engine.table) self.old →
+            IfOk result (λ reply. reply ≡ reply_of plan.queries (events_of (H.now host.old) self.old) (verdict_on plan (events_of (H.now host.old) self.old) offset line.now)) }
+        ensures events { (plan : Planned) → IsRunning plan (H.now host.old) (H.may host.old) (T.tells self.old.engine.table) (T.cell self.old.engine.table) self.old →
+            OnOk result (events_of (H.now host.new) self.new ≡ accepted_after (events_of (H.now host.old) self.old) (verdict_on plan (events_of (H.now host.old) self.old) offset line.now)) }
+        ensures running { (plan : Planned) → IsRunning plan (H.now host.old) (H.may host.old) (T.tells self.old.engine.table) (T.cell self.old.engine.table) self.old →
+            OnOk result (IsRunning plan (H.now host.new) (H.may host.new) (T.tells self.new.engine.table) (T.cell self.new.engine.table) self.new) }
+        ensures within_step { (plan : Planned) (keep : Option ℕ) → IsRunning plan (H.now host.old) (H.may host.old) (T.tells self.old.engine.table) (T.cell self.old.engine.table) self.old →
+            IsWithinStep H.may H.clock H.since H.said (store_of plan) keep (opened self.old.reservoir) host.old host.new }
+        ensures stored { (plan : Planned) (keep : Option ℕ) → IsRunning plan (H.now host.old) (H.may host.old) (T.tells self.old.engine.table) (T.cell self.old.engine.table) self.old →
+            OnOk result (IsStored (store_of plan) keep (opened self.old.reservoir) (stored_of (H.now host.old) self.old) (stored_of (H.now host.new) self.new) (H.may host.old) (H.may host.new)) }
+        ensures never_bad { (plan : Planned) (n : ℕ) → IsRunning plan (H.now host.old) (H.may host.old) (T.tells self.old.engine.table) (T.cell self.old.engine.table) self.old →
+            IsErrOf result (TaskFault.BadState n) → ⊥ }
+
+        ensures damaged { (p : ℕ) → IsErrOf result (TaskFault.Damaged p) → ForSome (H.now host.new) (λ v. IsIllegal (base self.new.reservoir).shape.fields p (v (base self.new.reservoir).file)) }
+        ensures disk { IsErrOf result TaskFault.Disk → Rose (H.disk_faults host.old) (H.disk_faults host.new) }
+        ensures table { IsErrOf result TaskFault.Table → Rose (T.faults self.old.engine.table) (T.faults self.new.engine.table) }
+        ensures ended { IsErrOf result TaskFault.Ended ↔ (self.old.ended ≡ true) }
+        ensures untouched { IsErrOf result TaskFault.Ended → (self.new ≡ self.old) × (host.new ≡ host.old) × (steps.new ≡ steps.old) }
+        ensures goes { OnOk result (self.new.ended ≡ false) }
+        ensures ends { OnErr result (self.new.ended ≡ true) }
+        ensures stays { (self.new.texts ≡ self.old.texts) × (self.new.keep ≡ self.old.keep) × (self.new.saved ≡ self.old.saved) }
+        ensures rows { TableKept T.tells T.faults self.old.engine.table self.new.engine.table }
+        ensures reaches { self.new.ended ≡ false → ReachesEnd (log_of self.new.reservoir) (H.now host.new) }
+        ensures said { H.said host.new ≡ H.said host.old }
+        ensures disk_faults { H.disk_faults host.old ≤ H.disk_faults host.new }
+        ensures out_faults { H.out_faults host.new ≡ H.out_faults host.old }
+    {
+        if self.ended {
+            return Err(TaskFault::Ended);
+        }
+        let event = match self.decide(offset, line) {
+            Ok(Decision::Accepted(event)) => event,
+            Ok(Decision::Refused(reply)) => return Ok(reply),
+            Err(Memory) => {
+                self.ended = true;
+                return Err(TaskFault::Memory);
+            }
+        };
+        self.ended = true;
+        match take_in(&mut self.reservoir, &mut self.engine, host, event, steps) {
+            Ok(answers) => {
+                self.ended = false;
+                Ok(Reply::Answered(answers))
+            }
+            Err(fault) => Err(fault),
+        }
+    }
+}

@@ -1,5 +1,5 @@
 -- What is due before a line is answered, and what is put behind its reply.
-use Rattle.std.specs.Prelude.{ℕ, nat_le, Bool, true, false, List, [], ◌∷◌, if◌then◌else◌}
+use Rattle.std.specs.Prelude.{ℕ, nat_le, List, [], ◌∷◌, if◌then◌else◌}
 use Rattle.rg_reply.specs.Texts.{mark_line}
 use Rattle.rg_reply.specs.declared.mark.Mark.TheVariants.{Stored, Saved}
 use Rattle.rg_course.specs.Output.{is_every}

@@ -36,7 +36,7 @@ use Rattle.rg_store.specs.Stores.{store_of}
 use Rattle.rg_recover.specs.Deciding.{verdict_on}
 use Rattle.rg_recover.specs.Sessions.{Sitting, IsRunning, events_of, stored_of}
 use Rattle.rg_recover.specs.Stepping.{IsWithinStep, IsStored}
-use Rattle.rg_turn.specs.Turning.{terms_of, IsAwaiting, IsMidTurn}
+use Rattle.rg_turn.specs.Turning.{terms_of, IsAwaiting, IsMidTurn, HasStopped}
 
 -- a line is decided as its session decides it
 pub judged : (plan : Planned) (events : List Event) (offset : ℕ) (item : Item) (line : List ℕ) → next_offset events ≤ offset → read_as (terms_of plan).basis offset item ≡ or_reply (row_of plan.shape.fields offset line)
@@ -170,3 +170,12 @@ module _ {H T : Type 0} (now : H → Option Image) (may : H → Image → Type 0
           between = subst (λ (o : Option Image). IsBetween (store_of plan) (terms_of plan) course (events_of o s) (offset + 1) items (stored_of o s) s.keep (may new) (m.put ++ ended lines)) (sym files.now_stays)
               (subst (λ (l : List Event). IsBetween (store_of plan) (terms_of plan) course l (offset + 1) items (stored_of (now old) s) s.keep (may new) (m.put ++ ended lines)) (sym m.follows) b);
         }
+
+-- what a step that failed within a turn leaves
+pub has_stopped : {H : Type 0} (clock : H → ℕ) (since : H → ℕ → Moment → Type 0) (may : H → Image → Type 0) (plan : Planned) (course : Course) (told : Option (List ℕ)) (old new : H) (put : List ℕ) → told ≡ Some put → Stopped H clock since may (store_of plan) (terms_of plan) course old new put
+    → HasStopped plan course (may new) told
+has_stopped clock since may plan course told old new put is stop = record { put = put; told = is; stopped = stop.stopped }
+
+-- with an empty chunk all events are stored
+pub all_stored : {T : Type 0} (now : Option Image) (s : Sitting T) → opened s.reservoir ≡ [] → stored_of now s ≡ events_of now s
+all_stored now s empty = sym (append-nil (stored_of now s)) ∙ ap (λ (l : List Event). stored_of now s ++ l) (sym empty)

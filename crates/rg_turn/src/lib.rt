@@ -5,7 +5,11 @@
 #![tactic(auto)]
 
 mod due;
+mod fault;
+mod store;
+mod tell;
 mod text;
 
 pub use due::{Due, due_at};
+pub use fault::TurnFault;
 pub use text::write_turn;

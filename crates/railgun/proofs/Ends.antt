@@ -30,7 +30,6 @@ use Rattle.railgun.specs.declared.command.Command.TheVariants.{Run, Check, Dump}
 use Rattle.railgun.specs.declared.status.Status.{Status}
 use Rattle.railgun.specs.declared.status.Status.TheVariants.{Ok, Usage, Plan as BadPlan, Store, Read, Write, Disk, Limit, Memory, Gap, Differs}
 use Rattle.railgun.proofs.Inputs.{at_end_rest, told_rest, before-nothing}
-use Rattle.railgun.proofs.Outputs.{ended-append}
 use Rattle.railgun.proofs.Plans.{one_plan}
 
 pub nothing_whole : (text : List (List ℕ)) → StopsWith text [] []

@@ -1,5 +1,5 @@
 -- What a fault of a layer says in the layer above.
-use Rattle.std.proofs.Common.{◌≡◌, ◌⊎◌, inl, inr, ⊎_elim, ℕ, List, Option, refl, ap}
+use Rattle.std.proofs.Common.{◌≡◌, ◌⊎◌, inl, inr, ⊎_elim, ℕ, List, Option, refl}
 use Rattle.rg_verdict.specs.Verdicts.{Basis}
 use Rattle.railgun.specs.Faults.{run_status, check_status}
 use Rattle.railgun.specs.Run.{Stops, StopsAt, StopsRead}
@@ -7,7 +7,6 @@ use Rattle.railgun.specs.declared.fault.RunFault.{RunFault}
 use Rattle.railgun.specs.declared.fault.RunFault.TheVariants as run
 use Rattle.railgun.specs.declared.fault.CheckFault.{CheckFault}
 use Rattle.railgun.specs.declared.fault.CheckFault.TheVariants as check
-use Rattle.railgun.specs.declared.status.Status.{Status}
 use Rattle.railgun.specs.declared.status.Status.TheVariants.{Read, Write, Limit, Memory}
 
 pub run_read : (fault : RunFault) → run_status fault ≡ Read → fault ≡ run.Read

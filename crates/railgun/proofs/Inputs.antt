@@ -1,6 +1,6 @@
 -- What is known of an input that tells its bytes.
 use Rattle.std.proofs.Common.{◌≡◌, List, [], ◌++◌, Option, Some, None, Result, Ok, Err, refl, ap, sym, ◌∙◌, append_assoc, subst, ℕ}
-use Rattle.std.specs.Prelude.{IfErr, IfSome, OnOk}
+use Rattle.std.specs.Prelude.{IfErr, IfSome}
 use Rattle.std.proofs.lemmas.List.{append-nil}
 use Rattle.rg_bytes.specs.Known.{before, IsAtEnd}
 

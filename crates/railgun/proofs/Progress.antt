@@ -12,9 +12,8 @@ use Rattle.rg_verdict.specs.Accepted.{accepted_before}
 use Rattle.rg_verdict.proofs.Accepted.{accepted-push}
 use Rattle.railgun.specs.Session.{IsFor}
 use Rattle.railgun.specs.Output.{replies_before, replies_to, output_for, output_of}
-use Rattle.rg_host.specs.Puts.{StopsWith}
 use Rattle.railgun.specs.Turn.{Takes, TakesLine, TakesEnd, TakesNone, Answers, Finishes, IsCut, Refuses, answer_text, done_text}
-use Rattle.railgun.specs.Run.{Completes, Stops, StopsAt, StopsRead}
+use Rattle.railgun.specs.Run.{Completes, Stops, StopsRead}
 use Rattle.railgun.specs.declared.run.Run.{Run}
 use Rattle.railgun.specs.Call.{IsLonger}
 use Rattle.railgun.proofs.Inputs.{at_end_rest, told_before, before-nothing, before-before}

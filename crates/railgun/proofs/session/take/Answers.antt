@@ -1,4 +1,4 @@
-use Rattle.std.proofs.Common.{⊎_elim, Err, sym, ap, ◌∙◌, arith}
+use Rattle.std.proofs.Common.{⊎_elim, Err, ap, ◌∙◌, arith}
 use Rattle.rg_past.specs.declared.past.PastFault.TheVariants as past
 use Rattle.rg_plan.specs.Named.{asked_by}
 use Rattle.railgun.proofs.Steadiness.{runs_still, carries, goes_on, stays, full_stays, only_memory, ends_not, either_way}

@@ -15,4 +15,4 @@ mod taking;
 
 pub use fault::TaskFault;
 pub use law::law_running;
-pub use session::Session;
+pub use session::{Parts, Session};

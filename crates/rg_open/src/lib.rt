@@ -12,5 +12,5 @@ mod settling;
 mod starting;
 
 pub use fault::OpenFault;
-pub use opening::{Opened, Resumed};
+pub use opening::{Opened, Resumed, open_store};
 pub use settling::settle;

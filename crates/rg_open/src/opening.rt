@@ -159,3 +159,69 @@ fn open_settled<H: Host, T: Table, L: Ledger>(
         Err(refused) => Err(refused),
     }
 }
+
+/// Opens the store of a plan over a table without a row. Files 2, 0 and 1 are settled first, so that
+/// nothing that an earlier run wrote is pending; only the schema's frame of a log without a frame is
+/// written. The engine goes on from the fit checkpoint of the greatest count, slot 0 where both have
+/// it, and from the start where none is fit; no more is passed than the events behind that. A refusal
+/// hands the table back as it then is.
+pub fn open_store<H: Host, T: Table, L: Ledger>(
+    alloc: Global,
+    host: &mut H,
+    plan: &Plan,
+    table: T,
+    steps: &mut Steps<L>,
+) -> Result<(Opened<T>, Resumed), (OpenFault, T)>
+    requires read { IsRead plan.now }
+    requires empty { T.tells table → IsEmpty (T.cell table) }
+
+    // Over a store whose images are truthful and of the plan's schema or without a frame.
+    ensures started { IsOpenable (planned plan.now) (H.now host.old) (H.may host.old) → T.tells table →
+        IfOk result (λ r. IsStarted (planned plan.now) (H.now host.new) (H.may host.new) (T.tells r.0.engine.table) (T.cell r.0.engine.table) r.0.reservoir r.0.engine r.0.texts r.0.keep r.0.saved) }
+    ensures passed { IsOpenable (planned plan.now) (H.now host.old) (H.may host.old) →
+        IfOk result (λ r. steps.new ≡ steps.old + passed_count plan.now.task (take r.1.from (all_events (H.now host.new) (base r.0.reservoir) [])) (all_events (H.now host.new) (base r.0.reservoir) [])) }
+    ensures never_differs { IsOpenable (planned plan.now) (H.now host.old) (H.may host.old) → IfErr result (λ refused. refused.0 ≡ OpenFault.SchemaDiffers → ⊥) }
+    ensures never_bad { (n : ℕ) → IsOpenable (planned plan.now) (H.now host.old) (H.may host.old) → T.tells table → IfErr result (λ refused. refused.0 ≡ OpenFault.BadState n → ⊥) }
+
+    // Over any image that is told: its log's events, from where the engine went on, and what was passed.
+    ensures settled { (v : Image) → H.now host.old ≡ Some v → OnOk result (AreSettled (H.now host.new) (H.may host.new)) }
+    ensures events { (v : Image) (events : List Event) → H.now host.old ≡ Some v → HasEvents plan.now.schema events (v 2) → IfOk result (λ r. all_events (H.now host.new) (base r.0.reservoir) [] ≡ events) }
+    ensures resumed { (v : Image) → H.now host.old ≡ Some v → IfOk result (λ r.
+        IsResumed v (H.now host.new) plan.now.queries plan.now.schema.fields plan.now.task r.0.reservoir r.0.engine r.0.keep r.1.from steps.old steps.new) }
+
+    // At each moment, and at every result.
+    ensures within { (v : Image) (keep : Option ℕ) → H.now host.old ≡ Some v → IsWithinOpening H.may H.clock H.since H.said (store_of (planned plan.now)) keep host.old host.new }
+
+    ensures disk { IfErr result (λ refused. refused.0 ≡ OpenFault.Disk → Rose (H.disk_faults host.old) (H.disk_faults host.new)) }
+    ensures differs { IfErr result (λ refused. refused.0 ≡ OpenFault.SchemaDiffers → ForSome (H.now host.old) (λ v. IsOther (schema_payload plan.now.schema) (v 2))) }
+    ensures damaged { (p : ℕ) → IfErr result (λ refused. refused.0 ≡ OpenFault.Damaged p →
+        ForSome (H.now host.old) (λ v. IsBadFrame (schema_payload plan.now.schema) p (v 2)) ⊎ ForSome (H.now host.new) (λ v. IsIllegal plan.now.schema.fields p (v 2))) }
+    ensures exact { (v : Image) → H.now host.old ≡ Some v → IsOther (schema_payload plan.now.schema) (v 2) ⊎ ((p : ℕ) × IsBadFrame (schema_payload plan.now.schema) p (v 2)) → IfOk result (λ _. ⊥) }
+    ensures table_disk { IfErr result (λ refused. refused.0 ≡ OpenFault.Table → Rose (T.faults table) (T.faults refused.1)) }
+
+    ensures copies { IfOk result (λ r. (r.0.schema ≡ plan.now.schema) × (r.0.texts ≡ plan.now.queries)) }
+    ensures reservoir { IfOk result (λ r. ((base r.0.reservoir).ended ≡ false) × ((base r.0.reservoir).file ≡ 2) × ((base r.0.reservoir).shape ≡ plan.now.schema) × ((base r.0.reservoir).limit ≡ plan.now.room.limit)) }
+    ensures none { IfOk result (λ r. (opened r.0.reservoir ≡ []) × (room_of r.0.reservoir ≡ plan.now.room.chunk)) }
+    ensures reaches { IfOk result (λ r. ReachesEnd (log_of r.0.reservoir) (H.now host.new)) }
+    ensures engine { IfOk result (λ r. IsGoing plan.now.task (base r.0.reservoir).committed r.0.engine) }
+    ensures numbers { IfOk result (λ r. (r.1.next ≡ next_of r.0.reservoir) × (r.1.count ≡ (base r.0.reservoir).committed) × (r.1.from ≡ r.0.saved)) }
+    ensures table { IfOk result (λ r. TableKept T.tells T.faults table r.0.engine.table) }
+    ensures back { IfErr result (λ refused. TableKept T.tells T.faults table refused.1) }
+    ensures disk_faults { H.disk_faults host.old ≤ H.disk_faults host.new }
+    ensures out_faults { H.out_faults host.new ≡ H.out_faults host.old }
+{
+    // a schema that there is is legal
+    let _columns = plan.schema.fields();
+    match settle(host) {
+        Ok(()) => {}
+        Err(_) => return Err((OpenFault::Disk, table)),
+    }
+    let copies = match copy_plan(alloc, plan) {
+        Ok(copies) => copies,
+        Err(_) => return Err((OpenFault::Memory, table)),
+    };
+    match open_settled(alloc, host, plan, copies, table, steps) {
+        Ok(opened) => Ok(opened),
+        Err(refused) => Err(refused),
+    }
+}

@@ -56,6 +56,14 @@ from_heads now b chunk texts given fields tasks n slots keep from none going sam
     let s3 = subst (λ (l : List Field). IsFrom (IsFit (HeadsName now b) texts l tasks n) slots keep from) same s2 in
     subst (λ (m : ℕ). IsFrom (IsFit (HeadsName now b) texts fields tasks m) slots keep from) count s3
 
+-- the same of a later state, which keeps what only a commit changes
+pub from_later : (now then : Option Image) (b a : Base) (texts : List (List ℕ)) (fields : List Field) (given tasks : Tasks) (slots : ℕ → Option Checkpoint) (keep : Option ℕ) (from : ℕ) → then ≡ now → a ≡ b → given ≡ tasks
+    → IsFrom (IsFit (HeadsName now b) texts fields given b.committed) slots keep from → IsFrom (IsFit (HeadsName then a) texts fields tasks a.committed) slots keep from
+from_later now then b a texts fields given tasks slots keep from same based copied is =
+    let s1 = subst (λ (o : Option Image). IsFrom (IsFit (HeadsName o b) texts fields given b.committed) slots keep from) (sym same) is in
+    let s2 = subst (λ (c : Base). IsFrom (IsFit (HeadsName then c) texts fields given c.committed) slots keep from) (sym based) s1 in
+    subst (λ (t : Tasks). IsFrom (IsFit (HeadsName then a) texts fields t a.committed) slots keep from) copied s2
+
 module _ (plan : Planned) (now : Option Image) (may : Image → Type 0) (r : Reservoir) (saved : Saved) (found : IsFound plan now may r saved) where
   abbrev image : Image
   image = found.reservoir.sound.0

@@ -2,3 +2,4 @@ pub mod Settles
 pub mod Attached
 pub mod Found
 pub mod Causes
+pub mod Within

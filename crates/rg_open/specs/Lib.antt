@@ -1,3 +1,4 @@
 pub mod Settling
 pub mod Faults
 pub mod Opening
+pub mod Within

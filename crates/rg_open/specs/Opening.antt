@@ -1,15 +1,20 @@
 -- Over which stores a plan may be opened, and how it stands then.
-use Rattle.std.specs.Prelude.{◌≡◌, ◌<◌, ◌≤◌, ℕ, List, [], Option, Some}
+use Rattle.std.specs.Prelude.{◌≡◌, ◌<◌, ◌≤◌, ◌+◌, ℕ, List, [], Option, Some}
 use Rattle.rg_host.specs.Image.{Image}
 use Rattle.rg_config.specs.Plans.{Planned}
-use Rattle.rg_plan.specs.Plans.{plan_for}
+use Rattle.rg_plan.specs.Plans.{Planned as Tasks, plan_for}
 use Rattle.rg_state.specs.Rows.{Cells}
 use Rattle.rg_engine.specs.Feeding.{Serves}
 use Rattle.rg_engine.specs.Seen.{Seen}
 use Rattle.rg_checkpoint.specs.declared.base.Checkpoint.{Checkpoint}
 use Rattle.rg_checkpoint.specs.Slots.{HasSlot, IsSlot}
-use Rattle.rg_restore.specs.Slots.{slot_in}
+use Rattle.rg_restore.specs.Slots.{slot_in, IsFrom, HaveBegun}
 use Rattle.rg_restore.specs.declared.choosing.Saved.{Saved}
+use Rattle.rg_restore.specs.Fit.{IsFit}
+use Rattle.rg_restore.specs.Naming.{HeadsName}
+use Rattle.rg_event.specs.declared.schema.Field.{Field}
+use Rattle.rg_engine.specs.Standing.{come}
+use Rattle.rg_window.specs.Placed.{numbers_of}
 use Rattle.rg_reservoir.specs.Kept.{base, opened}
 use Rattle.rg_reservoir.specs.declared.reservoir.Reservoir.{Reservoir}
 use Rattle.rg_store.specs.Opened.{IsOpenedFor, IsInStep}
@@ -52,3 +57,13 @@ pub record IsStarted {T : Type 0} (plan : Planned) (now : Option Image) (may : I
   pub serves : Serves plan.shape.fields (plan_for plan.queries)
   pub plan_is : engine.plan ≡ plan_for plan.queries
   pub kept : (slot : ℕ) → keep ≡ Some slot → IsKept plan may slot saved (base r).committed
+
+-- Of any image: the engine went on from the fit checkpoint of the greatest count in the image's slots, or from the start where none is
+-- fit; and just so many steps were counted as there are filters and events that an edge of their windows has come to since.
+pub record IsResumed {T : Type 0} (v : Image) (now : Option Image) (texts : List (List ℕ)) (fields : List Field) (tasks : Tasks) (r : Reservoir) (engine : Seen T) (keep : Option ℕ) (from steps then : ℕ) : Type 0 where
+  pub saved : Saved
+  pub slots : AreSlots v saved
+  pub is_from : IsFrom (IsFit (HeadsName now (base r)) texts fields tasks (base r).committed) (slot_in saved) keep from
+  pub before : List ℕ
+  pub begun : HaveBegun tasks.offsets (slot_in saved) keep before
+  pub ticks : then + come tasks before ≡ steps + come tasks (numbers_of engine.spots)

@@ -7,8 +7,10 @@
 
 mod fault;
 mod finding;
+mod opening;
 mod settling;
 mod starting;
 
 pub use fault::OpenFault;
+pub use opening::{Opened, Resumed, open_store};
 pub use settling::settle;

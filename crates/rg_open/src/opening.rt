@@ -1,0 +1,227 @@
+ghost use Rattle.std.specs.Prelude.{◌≡◌, ◌⊎◌, ◌≤◌, ◌<◌, ◌+◌, [], ℕ, List, Option, Some, take, false, IfOk, IfErr, OnOk};
+ghost use Rattle.std.specs.Option.{ForSome};
+ghost use Rattle.rg_bytes.specs.Counts.{Rose};
+ghost use Rattle.rg_host.specs.Image.{Image};
+ghost use Rattle.rg_event.specs.declared.event.Event.{Event};
+ghost use Rattle.rg_frame.specs.Calls.{Writes};
+ghost use Rattle.rg_frame.specs.LogState.{ReachesEnd};
+ghost use Rattle.rg_log.specs.Log.{schema_payload, HasEvents};
+ghost use Rattle.rg_config.specs.Plans.{planned};
+ghost use Rattle.rg_config.specs.Read.{IsRead};
+ghost use Rattle.rg_reservoir.specs.Attached.{IsOther, IsBadFrame, SchemaAdded};
+ghost use Rattle.rg_reservoir.specs.Chain.{IsIllegal};
+ghost use Rattle.rg_reservoir.specs.Kept.{base, opened, room_of, log_of, next_of, all_events};
+ghost use Rattle.rg_state.specs.Keeping.{TableKept};
+ghost use Rattle.rg_engine.specs.Passed.{passed_count};
+ghost use Rattle.rg_restore.specs.Opening.{IsEmpty, IsGoing};
+ghost use Rattle.rg_store.specs.Stores.{store_of};
+ghost use Rattle.rg_open.specs.Opening.{IsOpenable, IsStarted, IsResumed};
+ghost use Rattle.rg_open.specs.Settling.{AreSettled};
+ghost use Rattle.rg_open.specs.Within.{IsWithinOpening};
+
+use crate::fault::OpenFault;
+use crate::finding::find;
+use crate::settling::settle;
+use crate::starting::start;
+use rg_bytes::Memory;
+use rg_config::Plan;
+use rg_engine::Engine;
+use rg_event::{Schema, Steps, Texts};
+use rg_host::Host;
+use rg_plan::TaskPlan;
+use rg_reservoir::Reservoir;
+use rg_state::Table;
+use std::alloc::Global;
+use std::sync::ledger::Ledger;
+
+/// A store that is open for a plan.
+#[derive(Drop)]
+pub struct Opened<T: Table> {
+    /// The plan's schema.
+    pub schema: Schema,
+    /// The printed texts of the plan's queries.
+    pub texts: Texts,
+    /// The events of the log.
+    pub reservoir: Reservoir,
+    /// An engine that answers the next event.
+    pub engine: Engine<T>,
+    /// The slot whose checkpoint was used; none where all events were passed from the start.
+    pub keep: Option<u32>,
+    /// How many events that checkpoint is of; 0 without one.
+    pub saved: u64,
+}
+
+/// How far a store had come when it was opened.
+#[derive(Clone, Copy, Debug, PartialEq, Eq, Hash)]
+pub struct Resumed {
+    /// The least offset that the next line may have.
+    pub next: u64,
+    /// How many events there are.
+    pub count: u64,
+    /// How many of them are in the checkpoint that was used; 0 without one.
+    pub from: u64,
+}
+
+/// What is kept of a plan.
+#[derive(Drop)]
+struct Copies {
+    schema: Schema,
+    texts: Texts,
+    task: TaskPlan,
+}
+
+fn copy_plan(alloc: Global, plan: &Plan) -> Result<Copies, Memory>
+    ensures { IfOk result (λ copies. (copies.schema ≡ plan.now.schema) × (copies.texts ≡ plan.now.queries) × (copies.task ≡ plan.now.task)) }
+{
+    Ok(Copies {
+        schema: plan.schema.copy(alloc)?,
+        texts: plan.queries.copy(alloc)?,
+        task: plan.task.copy(alloc)?,
+    })
+}
+
+/// Opens a store whose files are settled, with copies of what is kept of its plan.
+fn open_settled<H: Host, T: Table, L: Ledger>(
+    alloc: Global,
+    host: &mut H,
+    plan: &Plan,
+    copies: Copies,
+    table: T,
+    steps: &mut Steps<L>,
+) -> Result<(Opened<T>, Resumed), (OpenFault, T)>
+    requires read { IsRead plan.now }
+    requires copies { (copies.schema ≡ plan.now.schema) × (copies.texts ≡ plan.now.queries) × (copies.task ≡ plan.now.task) }
+    requires empty { T.tells table → IsEmpty (T.cell table) }
+
+    ensures started { IsOpenable (planned plan.now) (H.now host.old) (H.may host.old) → AreSettled (H.now host.old) (H.may host.old) → T.tells table →
+        IfOk result (λ r. IsStarted (planned plan.now) (H.now host.new) (H.may host.new) (T.tells r.0.engine.table) (T.cell r.0.engine.table) r.0.reservoir r.0.engine r.0.texts r.0.keep r.0.saved) }
+    ensures settled { (v : Image) → H.now host.old ≡ Some v → AreSettled (H.now host.old) (H.may host.old) → OnOk result (AreSettled (H.now host.new) (H.may host.new)) }
+    ensures events { (v : Image) (events : List Event) → H.now host.old ≡ Some v → AreSettled (H.now host.old) (H.may host.old) → HasEvents plan.now.schema events (v 2) →
+        IfOk result (λ r. all_events (H.now host.new) (base r.0.reservoir) [] ≡ events) }
+    ensures passed { IsOpenable (planned plan.now) (H.now host.old) (H.may host.old) → AreSettled (H.now host.old) (H.may host.old) →
+        IfOk result (λ r. steps.new ≡ steps.old + passed_count plan.now.task (take r.1.from (all_events (H.now host.new) (base r.0.reservoir) [])) (all_events (H.now host.new) (base r.0.reservoir) [])) }
+    ensures never_differs { IsOpenable (planned plan.now) (H.now host.old) (H.may host.old) → IfErr result (λ refused. refused.0 ≡ OpenFault.SchemaDiffers → ⊥) }
+    ensures never_bad { (n : ℕ) → IsOpenable (planned plan.now) (H.now host.old) (H.may host.old) → AreSettled (H.now host.old) (H.may host.old) → T.tells table →
+        IfErr result (λ refused. refused.0 ≡ OpenFault.BadState n → ⊥) }
+
+    ensures resumed { (v : Image) → H.now host.old ≡ Some v → IfOk result (λ r.
+        IsResumed v (H.now host.new) plan.now.queries plan.now.schema.fields plan.now.task r.0.reservoir r.0.engine r.0.keep r.1.from steps.old steps.new) }
+
+    ensures disk { IfErr result (λ refused. refused.0 ≡ OpenFault.Disk → Rose (H.disk_faults host.old) (H.disk_faults host.new)) }
+    ensures differs { IfErr result (λ refused. refused.0 ≡ OpenFault.SchemaDiffers → ForSome (H.now host.old) (λ v. IsOther (schema_payload plan.now.schema) (v 2))) }
+    ensures damaged { (p : ℕ) → IfErr result (λ refused. refused.0 ≡ OpenFault.Damaged p →
+        ForSome (H.now host.old) (λ v. IsBadFrame (schema_payload plan.now.schema) p (v 2)) ⊎ ForSome (H.now host.new) (λ v. IsIllegal plan.now.schema.fields p (v 2))) }
+    ensures exact { (v : Image) → H.now host.old ≡ Some v → IsOther (schema_payload plan.now.schema) (v 2) ⊎ ((p : ℕ) × IsBadFrame (schema_payload plan.now.schema) p (v 2)) → IfOk result (λ _. ⊥) }
+    ensures table_disk { IfErr result (λ refused. refused.0 ≡ OpenFault.Table → Rose (T.faults table) (T.faults refused.1)) }
+
+    ensures copies { IfOk result (λ r. (r.0.schema ≡ plan.now.schema) × (r.0.texts ≡ plan.now.queries)) }
+    ensures reservoir { IfOk result (λ r. ((base r.0.reservoir).ended ≡ false) × ((base r.0.reservoir).file ≡ 2) × ((base r.0.reservoir).shape ≡ plan.now.schema) × ((base r.0.reservoir).limit ≡ plan.now.room.limit)) }
+    ensures none { IfOk result (λ r. (opened r.0.reservoir ≡ []) × (room_of r.0.reservoir ≡ plan.now.room.chunk)) }
+    ensures reaches { IfOk result (λ r. ReachesEnd (log_of r.0.reservoir) (H.now host.new)) }
+    ensures engine { IfOk result (λ r. IsGoing plan.now.task (base r.0.reservoir).committed r.0.engine) }
+    ensures numbers { IfOk result (λ r. (r.1.next ≡ next_of r.0.reservoir) × (r.1.count ≡ (base r.0.reservoir).committed) × (r.1.from ≡ r.0.saved)) }
+    ensures table { IfOk result (λ r. TableKept T.tells T.faults table r.0.engine.table) }
+    ensures back { IfErr result (λ refused. TableKept T.tells T.faults table refused.1) }
+    ensures writes { Writes H.now H.may H.clock H.since H.said 2 (SchemaAdded (schema_payload plan.now.schema)) host.old host.new }
+    ensures disk_faults { H.disk_faults host.old ≤ H.disk_faults host.new }
+    ensures out_faults { H.out_faults host.new ≡ H.out_faults host.old }
+{
+    let Copies {
+        schema,
+        texts,
+        task,
+    } = copies;
+    let found = match find(alloc, host, plan) {
+        Ok(found) => found,
+        Err(fault) => return Err((fault, table)),
+    };
+    let saved = found.saved;
+    let mut reservoir = found.reservoir;
+    match start(alloc, &mut reservoir, host, plan, task, table, saved, steps) {
+        Ok((engine, origin)) => {
+            let resumed = Resumed {
+                next: reservoir.next_offset(),
+                count: reservoir.count(),
+                from: origin.from,
+            };
+            Ok((
+                Opened {
+                    schema,
+                    texts,
+                    reservoir,
+                    engine,
+                    keep: origin.slot,
+                    saved: origin.from,
+                },
+                resumed,
+            ))
+        }
+        Err(refused) => Err(refused),
+    }
+}
+
+/// Opens the store of a plan over a table without a row. Files 2, 0 and 1 are settled first, so that
+/// nothing that an earlier run wrote is pending; only the schema's frame of a log without a frame is
+/// written. The engine goes on from the fit checkpoint of the greatest count, slot 0 where both have
+/// it, and from the start where none is fit; no more is passed than the events behind that. A refusal
+/// hands the table back as it then is.
+pub fn open_store<H: Host, T: Table, L: Ledger>(
+    alloc: Global,
+    host: &mut H,
+    plan: &Plan,
+    table: T,
+    steps: &mut Steps<L>,
+) -> Result<(Opened<T>, Resumed), (OpenFault, T)>
+    requires read { IsRead plan.now }
+    requires empty { T.tells table → IsEmpty (T.cell table) }
+
+    // Over a store whose images are truthful and of the plan's schema or without a frame.
+    ensures started { IsOpenable (planned plan.now) (H.now host.old) (H.may host.old) → T.tells table →
+        IfOk result (λ r. IsStarted (planned plan.now) (H.now host.new) (H.may host.new) (T.tells r.0.engine.table) (T.cell r.0.engine.table) r.0.reservoir r.0.engine r.0.texts r.0.keep r.0.saved) }
+    ensures passed { IsOpenable (planned plan.now) (H.now host.old) (H.may host.old) →
+        IfOk result (λ r. steps.new ≡ steps.old + passed_count plan.now.task (take r.1.from (all_events (H.now host.new) (base r.0.reservoir) [])) (all_events (H.now host.new) (base r.0.reservoir) [])) }
+    ensures never_differs { IsOpenable (planned plan.now) (H.now host.old) (H.may host.old) → IfErr result (λ refused. refused.0 ≡ OpenFault.SchemaDiffers → ⊥) }
+    ensures never_bad { (n : ℕ) → IsOpenable (planned plan.now) (H.now host.old) (H.may host.old) → T.tells table → IfErr result (λ refused. refused.0 ≡ OpenFault.BadState n → ⊥) }
+
+    // Over any image that is told: its log's events, from where the engine went on, and what was passed.
+    ensures settled { (v : Image) → H.now host.old ≡ Some v → OnOk result (AreSettled (H.now host.new) (H.may host.new)) }
+    ensures events { (v : Image) (events : List Event) → H.now host.old ≡ Some v → HasEvents plan.now.schema events (v 2) → IfOk result (λ r. all_events (H.now host.new) (base r.0.reservoir) [] ≡ events) }
+    ensures resumed { (v : Image) → H.now host.old ≡ Some v → IfOk result (λ r.
+        IsResumed v (H.now host.new) plan.now.queries plan.now.schema.fields plan.now.task r.0.reservoir r.0.engine r.0.keep r.1.from steps.old steps.new) }
+
+    // At each moment, and at every result.
+    ensures within { (v : Image) (keep : Option ℕ) → H.now host.old ≡ Some v → IsWithinOpening H.may H.clock H.since H.said (store_of (planned plan.now)) keep host.old host.new }
+
+    ensures disk { IfErr result (λ refused. refused.0 ≡ OpenFault.Disk → Rose (H.disk_faults host.old) (H.disk_faults host.new)) }
+    ensures differs { IfErr result (λ refused. refused.0 ≡ OpenFault.SchemaDiffers → ForSome (H.now host.old) (λ v. IsOther (schema_payload plan.now.schema) (v 2))) }
+    ensures damaged { (p : ℕ) → IfErr result (λ refused. refused.0 ≡ OpenFault.Damaged p →
+        ForSome (H.now host.old) (λ v. IsBadFrame (schema_payload plan.now.schema) p (v 2)) ⊎ ForSome (H.now host.new) (λ v. IsIllegal plan.now.schema.fields p (v 2))) }
+    ensures exact { (v : Image) → H.now host.old ≡ Some v → IsOther (schema_payload plan.now.schema) (v 2) ⊎ ((p : ℕ) × IsBadFrame (schema_payload plan.now.schema) p (v 2)) → IfOk result (λ _. ⊥) }
+    ensures table_disk { IfErr result (λ refused. refused.0 ≡ OpenFault.Table → Rose (T.faults table) (T.faults refused.1)) }
+
+    ensures copies { IfOk result (λ r. (r.0.schema ≡ plan.now.schema) × (r.0.texts ≡ plan.now.queries)) }
+    ensures reservoir { IfOk result (λ r. ((base r.0.reservoir).ended ≡ false) × ((base r.0.reservoir).file ≡ 2) × ((base r.0.reservoir).shape ≡ plan.now.schema) × ((base r.0.reservoir).limit ≡ plan.now.room.limit)) }
+    ensures none { IfOk result (λ r. (opened r.0.reservoir ≡ []) × (room_of r.0.reservoir ≡ plan.now.room.chunk)) }
+    ensures reaches { IfOk result (λ r. ReachesEnd (log_of r.0.reservoir) (H.now host.new)) }
+    ensures engine { IfOk result (λ r. IsGoing plan.now.task (base r.0.reservoir).committed r.0.engine) }
+    ensures numbers { IfOk result (λ r. (r.1.next ≡ next_of r.0.reservoir) × (r.1.count ≡ (base r.0.reservoir).committed) × (r.1.from ≡ r.0.saved)) }
+    ensures table { IfOk result (λ r. TableKept T.tells T.faults table r.0.engine.table) }
+    ensures back { IfErr result (λ refused. TableKept T.tells T.faults table refused.1) }
+    ensures disk_faults { H.disk_faults host.old ≤ H.disk_faults host.new }
+    ensures out_faults { H.out_faults host.new ≡ H.out_faults host.old }
+{
+    // a schema that there is is legal
+    let _columns = plan.schema.fields();
+    match settle(host) {
+        Ok(()) => {}
+        Err(_) => return Err((OpenFault::Disk, table)),
+    }
+    let copies = match copy_plan(alloc, plan) {
+        Ok(copies) => copies,
+        Err(_) => return Err((OpenFault::Memory, table)),
+    };
+    match open_settled(alloc, host, plan, copies, table, steps) {
+        Ok(opened) => Ok(opened),
+        Err(refused) => Err(refused),
+    }
+}

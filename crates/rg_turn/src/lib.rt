@@ -8,6 +8,7 @@ mod due;
 mod fault;
 mod settle;
 mod store;
+mod tell;
 mod text;
 
 pub use due::{Due, due_at};

@@ -4,6 +4,7 @@
 //! it the image that a crash might leave and what was put are on the course of the run.
 #![tactic(auto)]
 
+mod answer;
 mod due;
 mod fault;
 mod settle;

@@ -1,5 +1,5 @@
 -- A turn at which a line is taken, what is due is done, and the lines are put.
-use Rattle.std.proofs.Common.{◌≡◌, ◌≢◌, ℕ, ◌+◌, ◌≤◌, ◌<◌, ◌^◌, List, [], ◌∷◌, ◌++◌, length, Option, Some, refl, sym, ◌∙◌, ap, subst}
+use Rattle.std.proofs.Common.{◌≡◌, ◌≢◌, ℕ, ◌+◌, ◌≤◌, ◌<◌, ◌^◌, List, [], ◌∷◌, ◌++◌, length, Option, Some, Err, refl, sym, ◌∙◌, ap, subst}
 use Rattle.rg_host.specs.Image.{Image}
 use Rattle.rg_host.specs.Lines.{ended}
 use Rattle.rg_host.specs.Moments.{Moment, Moments, LeavesFiles}
@@ -23,12 +23,18 @@ use Rattle.rg_recover.specs.Deciding.{verdict_on}
 use Rattle.rg_recover.specs.Sessions.{Sitting, IsRunning, count_in, events_of, stored_of}
 use Rattle.rg_recover.specs.Stepping.{IsWithinStep, IsStored}
 use Rattle.rg_recover.proofs.Sound.{long}
+use Rattle.rg_recover.proofs.Within.{still_within}
+use Rattle.std.specs.Option.{ForSome}
+use Rattle.rg_course.proofs.Betweens.{between_passed}
+use Rattle.rg_course.proofs.Lines.{looked_at}
+use Rattle.rg_course.specs.Accepted.{after_turn}
 use Rattle.rg_turn.specs.declared.due.Due.{Due}
-use Rattle.rg_turn.specs.declared.due.Due.TheVariants.{Save}
+use Rattle.rg_turn.specs.declared.due.Due.TheVariants.{Nothing, Save}
 use Rattle.rg_turn.specs.Due.{is_due, marks_for}
 use Rattle.rg_turn.specs.Turning.{terms_of, IsAwaiting, IsMidTurn, IsDueDone}
+use Rattle.rg_turn.proofs.Marking.{none_due}
 use Rattle.rg_turn.proofs.Telling.{next_by, lines_told, marks_hold}
-use Rattle.rg_turn.proofs.Turning.{line_steps, line_taken, part_put, all_put}
+use Rattle.rg_turn.proofs.Stepping.{line_steps, line_taken, part_put, all_put}
 
 module _ {H T : Type 0} (now : H → Option Image) (may : H → Image → Type 0) (clock : H → ℕ) (since : H → ℕ → Moment → Type 0) (said : H → Option (List ℕ)) (plan : Planned) (course : Course) (offset : ℕ) (item : Item) (items : List Item) (line : List ℕ)
     (is_told told_then : Type 0) (cells cells_then : Cells) (old taken : H) (s then : Sitting T)
@@ -84,3 +90,57 @@ module _ {H T : Type 0} (now : H → Option Image) (may : H → Image → Type 0
         pub then_awaits : Puts said clock since settled new (ended (reply_line offset reply ∷ marks_for due (next_of last.reservoir) (count_in last.reservoir))) → IsAwaiting plan course (offset + 1) items (now new) (may new) (said new) told_last cells_last last
         then_awaits puts =
             all_put now may clock since said plan course offset item items told_last cells_last (events_of (now old) s) (stored_of (now old) s) s.keep old settled new last m holds files (subst (λ (l : List (List ℕ)). Puts said clock since settled new (ended l)) told_lines puts)
+
+module _ {H T : Type 0} (now : H → Option Image) (may : H → Image → Type 0) (clock : H → ℕ) (since : H → ℕ → Moment → Type 0) (said : H → Option (List ℕ)) (only : (h : H) (w : Moment) → since h (clock h) w → may h w.image × ForSome (said h) (λ t. w.said ≡ t)) (sinks : (h : H) (t u : ℕ) (w : Moment) → t ≤ u → since h u w → since h t w)
+    (plan : Planned) (course : Course) (offset : ℕ) (item : Item) (items : List Item) (is_told : Type 0) (cells : Cells) (old : H) (s : Sitting T) (a : IsAwaiting plan course offset (item ∷ items) (now old) (may old) (said old) is_told cells s) where
+  -- no call is on the course
+  pub still_on_course : Moments clock since old old (StaysOnCourse (store_of plan) course [])
+  still_on_course = (line_steps now may clock since said plan course offset item items is_told cells old old s a (still_within now may clock since said only sinks (store_of plan) s.keep (opened s.reservoir) old)).moments
+
+  -- a line below the next offset is passed over
+  pub passed : offset < next_of s.reservoir → IsAwaiting plan course (offset + 1) items (now old) (may old) (said old) is_told cells s
+  passed below = record {
+    running = a.running;
+    put = a.put;
+    told = a.told;
+    between = between_passed Image (store_of plan) course (terms_of plan) (events_of (now old) s) offset item items (stored_of (now old) s) s.keep (may old) (may old) a.put (subst (λ (n : ℕ). offset < n) (next_by plan (now old) (may old) is_told cells s a.running) below) a.between (λ v left. left);
+  }
+
+  -- a line that is refused before a session sees it
+  pub refused_line : (reply : Reply) → next_of s.reservoir ≤ offset → read_as (terms_of plan).basis offset item ≡ Err reply → IsMidTurn plan course offset item items (events_of (now old) s) (stored_of (now old) s) s.keep (may old) (now old) (may old) (said old) is_told cells s
+  refused_line reply next reads =
+      let after : next_offset (events_of (now old) s) ≤ offset = subst (λ (n : ℕ). n ≤ offset) (next_by plan (now old) (may old) is_told cells s a.running) next in
+      let events = events_of (now old) s in
+      record {
+        running = a.running;
+        put = a.put;
+        told = a.told;
+        between = a.between;
+        at_rest = a.between.at_rest;
+        follows = sym (ap (λ v. after_turn events v) (looked_at (terms_of plan).basis (next_offset events) events offset item after) ∙ ap (λ v. accepted_after events (verdict_of plan.settings.events events v)) reads);
+      }
+
+  module _ (reply : Reply) (next : next_of s.reservoir ≤ offset) (small : offset < 2 ^ 62) (reads : read_as (terms_of plan).basis offset item ≡ Err reply) (new : H) (files : LeavesFiles now may clock since old new) where
+    refused_mid : IsMidTurn plan course offset item items (events_of (now old) s) (stored_of (now old) s) s.keep (may old) (now old) (may old) (said old) is_told cells s
+    refused_mid = refused_line reply next reads
+
+    refused_next : next_offset (events_of (now old) s) ≤ offset
+    refused_next = subst (λ (n : ℕ). n ≤ offset) (next_by plan (now old) (may old) is_told cells s a.running) next
+
+    refused_due : Nothing ≡ is_due plan.settings.commit plan.settings.save (count_in s.reservoir) (count_in s.reservoir)
+    refused_due = none_due plan.settings.commit plan.settings.save (count_in s.reservoir)
+
+    refused_lines : reply_line offset reply ∷ marks_for Nothing (next_of s.reservoir) (count_in s.reservoir) ≡ lines_for (terms_of plan) (events_of (now old) s) offset item
+    refused_lines = lines_told plan course offset item items (events_of (now old) s) (stored_of (now old) s) s.keep (may old) (now old) (may old) (said old) is_told cells s refused_mid refused_next Nothing (count_in s.reservoir) (sym (long (now old) s.reservoir)) refused_due reply
+        (sym (ap (λ v. reply_of plan.queries (events_of (now old) s) (verdict_of plan.settings.events (events_of (now old) s) v)) reads))
+
+    refused_holds : MarksHold (store_of plan) (stored_of (now old) s) s.keep (may old) (lines_for (terms_of plan) (events_of (now old) s) offset item)
+    refused_holds = marks_hold plan course offset item items (events_of (now old) s) (stored_of (now old) s) s.keep (may old) (now old) (may old) (said old) is_told cells s refused_mid refused_next Nothing (count_in s.reservoir) (sym (long (now old) s.reservoir)) refused_due small tt
+
+    pub refused_moments : (part : List ℕ) × IsPrefix part (ended (reply_line offset reply ∷ marks_for Nothing (next_of s.reservoir) (count_in s.reservoir))) × Puts said clock since old new part → Moments clock since old new (StaysOnCourse (store_of plan) course [])
+    refused_moments p =
+        part_put now may clock since said plan course offset item items is_told cells (events_of (now old) s) (stored_of (now old) s) s.keep old old new s refused_mid refused_holds files p.0 (subst (λ (l : List (List ℕ)). IsPrefix p.0 (ended l)) refused_lines p.1) p.2
+
+    pub refused_awaits : Puts said clock since old new (ended (reply_line offset reply ∷ marks_for Nothing (next_of s.reservoir) (count_in s.reservoir))) → IsAwaiting plan course (offset + 1) items (now new) (may new) (said new) is_told cells s
+    refused_awaits puts =
+        all_put now may clock since said plan course offset item items is_told cells (events_of (now old) s) (stored_of (now old) s) s.keep old old new s refused_mid refused_holds files (subst (λ (l : List (List ℕ)). Puts said clock since old new (ended l)) refused_lines puts)

@@ -7,11 +7,14 @@
 mod answer;
 mod due;
 mod fault;
+mod refuse;
 mod settle;
 mod store;
 mod tell;
 mod text;
+mod turning;
 
 pub use due::{Due, due_at};
 pub use fault::TurnFault;
 pub use text::write_turn;
+pub use turning::Turning;

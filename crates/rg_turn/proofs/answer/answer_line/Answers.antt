@@ -5,7 +5,7 @@ use Rattle.rg_course.specs.Stores.{StaysOnCourse}
 use Rattle.rg_store.specs.Stores.{store_of}
 use Rattle.rg_recover.specs.Sessions.{events_of, stored_of}
 use Rattle.rg_turn.specs.Turning.{HasStopped}
-use Rattle.rg_turn.proofs.Turning.{line_steps, mid_stopped, has_stopped}
+use Rattle.rg_turn.proofs.Stepping.{line_steps, mid_stopped, has_stopped}
 use Rattle.rg_turn.proofs.Answered.{mid_taken, not_saved, all_moments, then_awaits}
 use Rattle.rg_turn.proofs.answer.answer_line.Goals as goal
 

@@ -1,4 +1,4 @@
-use Rattle.rg_turn.proofs.Turning.{still_steps}
+use Rattle.rg_turn.proofs.Stepping.{still_steps}
 use Rattle.rg_turn.proofs.settle.settle.Goals as goal
 
 pub returns-in-Nothing-clause-moments : goal.returns-in-Nothing-clause-moments

@@ -17,7 +17,11 @@ use rg_recover::{Session, TaskFault};
 use rg_state::Table;
 
 /// Does what is due within a turn.
-pub(crate) fn settle<H: Host, T: Table>(session: &mut Session<T>, host: &mut H, due: Due) -> Result<(), TaskFault>
+pub(crate) fn settle<H: Host, T: Table>(
+    session: &mut Session<T>,
+    host: &mut H,
+    due: Due,
+) -> Result<(), TaskFault>
     requires reaches { session.old.ended ≡ false → ReachesEnd (log_of session.old.reservoir) (H.now host.old) }
 
     ensures moments { (plan : Planned) (course : Course) (offset : ℕ) (item : Option (List ℕ)) (items : List (Option (List ℕ))) (events begun : List Event) (begun_keep : Option ℕ) (start : H) →

@@ -1,9 +1,9 @@
-ghost use Rattle.std.specs.Prelude.{◌≡◌, ◌⊎◌, ◌≤◌, ◌<◌, ◌+◌, ◌^◌, ◌==◌, nat_lt, [], ◌∷◌, ℕ, List, Option, length, false, IfErr, OnOk, IsErrOf};
+ghost use Rattle.std.specs.Prelude.{◌≡◌, ◌⊎◌, ◌≤◌, ◌<◌, ◌+◌, ◌^◌, ◌==◌, nat_lt, [], ◌∷◌, ℕ, List, Option, length, Err, false, IfErr, OnOk, IsErrOf};
 ghost use Rattle.std.specs.List.{list_any};
 ghost use Rattle.rg_bytes.specs.Counts.{Rose};
 ghost use Rattle.rg_host.specs.Moments.{Moments};
 ghost use Rattle.rg_frame.specs.LogState.{ReachesEnd};
-ghost use Rattle.rg_config.specs.Plans.{planned};
+ghost use Rattle.rg_config.specs.Plans.{Planned, planned};
 ghost use Rattle.rg_config.specs.Read.{IsRead};
 ghost use Rattle.rg_row.specs.Rows.{row_of};
 ghost use Rattle.rg_reservoir.specs.Kept.{log_of, next_of};
@@ -18,9 +18,11 @@ ghost use Rattle.rg_turn.specs.Turning.{IsAwaiting, HasStopped, terms_of};
 
 use crate::answer::answer_line;
 use crate::fault::TurnFault;
+use crate::refuse::refuse_line;
 use rg_config::Plan;
 use rg_event::Steps;
 use rg_host::Host;
+use rg_metric::Reply;
 use rg_recover::{Session, TaskFault};
 use rg_state::Table;
 use std::alloc::Global;
@@ -98,7 +100,53 @@ impl<T: Table> Turning<T> {
             self.offset += 1;
             return Ok(());
         }
-        match answer_line(&mut self.session, host, plan, &mut self.text, self.offset, line, steps) {
+        match answer_line(
+            &mut self.session,
+            host,
+            plan,
+            &mut self.text,
+            self.offset,
+            line,
+            steps,
+        ) {
+            Ok(()) => {
+                self.offset += 1;
+                Ok(())
+            }
+            Err(fault) => Err(fault),
+        }
+    }
+
+    /// Passes over the next line, or puts the reply that refuses it before the session sees it: it is a
+    /// header, or too long. Each refusal but `Write` leaves whole lines put.
+    pub fn refuse<H: Host>(&mut self, host: &mut H, reply: &Reply) -> Result<(), TurnFault>
+        requires small { self.old.offset < 2 ^ 62 }
+
+        ensures moments { (plan : Planned) (course : Course) (item : Option (List ℕ)) (items : List (Option (List ℕ))) →
+            IsAwaiting plan course self.old.offset (item ∷ items) (H.now host.old) (H.may host.old) (H.said host.old) (T.tells self.old.session.engine.table) (T.cell self.old.session.engine.table) self.old.session →
+            read_as (terms_of plan).basis self.old.offset item ≡ Err reply.now →
+            Moments H.clock H.since host.old host.new (StaysOnCourse (store_of plan) course []) }
+        ensures awaits { (plan : Planned) (course : Course) (item : Option (List ℕ)) (items : List (Option (List ℕ))) →
+            IsAwaiting plan course self.old.offset (item ∷ items) (H.now host.old) (H.may host.old) (H.said host.old) (T.tells self.old.session.engine.table) (T.cell self.old.session.engine.table) self.old.session →
+            read_as (terms_of plan).basis self.old.offset item ≡ Err reply.now →
+            OnOk result (IsAwaiting plan course self.new.offset items (H.now host.new) (H.may host.new) (H.said host.new) (T.tells self.new.session.engine.table) (T.cell self.new.session.engine.table) self.new.session) }
+        ensures stopped { (plan : Planned) (course : Course) (item : Option (List ℕ)) (items : List (Option (List ℕ))) →
+            IsAwaiting plan course self.old.offset (item ∷ items) (H.now host.old) (H.may host.old) (H.said host.old) (T.tells self.old.session.engine.table) (T.cell self.old.session.engine.table) self.old.session →
+            read_as (terms_of plan).basis self.old.offset item ≡ Err reply.now →
+            IfErr result (λ fault. (fault ≡ TurnFault.Write) ⊎ HasStopped plan course (H.may host.new) (H.said host.new)) }
+        ensures offset { OnOk result (self.new.offset ≡ self.old.offset + 1) }
+        ensures session { self.new.session ≡ self.old.session }
+
+        ensures write { IsErrOf result TurnFault.Write → Rose (H.out_faults host.old) (H.out_faults host.new) }
+        ensures faults { IfErr result (λ fault. (fault ≡ TurnFault.Write) ⊎ (fault ≡ TurnFault.Task TaskFault.Memory)) }
+        ensures disk_faults { H.disk_faults host.new ≡ H.disk_faults host.old }
+        ensures out_faults { H.out_faults host.old ≤ H.out_faults host.new }
+    {
+        if self.is_passed() {
+            self.offset += 1;
+            return Ok(());
+        }
+        match refuse_line(&self.session, host, &mut self.text, self.offset, reply) {
             Ok(()) => {
                 self.offset += 1;
                 Ok(())

@@ -113,4 +113,3 @@ returns-clause-stopped g c = λ course item items a reads.
       | inl write ↦ inl write
       | inr same ↦ inr (subst (λ (k : g.row.H.Denot). HasStopped (planned c.args.plan.now) course (g.H.Host.may k) (g.H.Host.said k)) (sym same) (mid_stopped g.H.Host.now g.H.Host.may g.H.Host.clock g.H.Host.since g.H.Host.said (planned c.args.plan.now) course c.args.offset item items (g.T.Table.tells last.engine.table) (g.T.Table.cell last.engine.table) (events_of (g.H.Host.now h) s) (stored_of (g.H.Host.now h) s) s.keep h c.settle.new.host last m2))
     ]
-

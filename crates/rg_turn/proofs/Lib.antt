@@ -1,3 +1,4 @@
 pub mod Marking
-pub mod Turning
+pub mod Stepping
 pub mod Telling
+pub mod Answered

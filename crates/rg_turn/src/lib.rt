@@ -4,12 +4,17 @@
 //! it the image that a crash might leave and what was put are on the course of the run.
 #![tactic(auto)]
 
+mod answer;
 mod due;
 mod fault;
+mod refuse;
+mod settle;
 mod store;
 mod tell;
 mod text;
+mod turning;
 
 pub use due::{Due, due_at};
 pub use fault::TurnFault;
 pub use text::write_turn;
+pub use turning::Turning;

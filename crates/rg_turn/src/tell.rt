@@ -1,4 +1,4 @@
-ghost use Rattle.std.specs.Prelude.{◌≡◌, ◌⊎◌, ◌≤◌, ◌∷◌, ℕ, List, IfErr, OnOk, IsErrOf};
+ghost use Rattle.std.specs.Prelude.{◌≡◌, ◌⊎◌, ◌≤◌, ◌∷◌, [], ℕ, List, IfErr, OnOk, IsErrOf};
 ghost use Rattle.rg_bytes.specs.Counts.{Rose};
 ghost use Rattle.rg_host.specs.Lines.{ended};
 ghost use Rattle.rg_host.specs.Moments.{LeavesFiles};
@@ -27,11 +27,9 @@ pub(crate) fn tell<H: Host, T: Table>(
     due: Due,
 ) -> Result<(), TurnFault>
     ensures all { OnOk result (Puts H.said H.clock H.since host.old host.new (ended (reply_line offset reply.now ∷ marks_for due (next_of session.now.reservoir) (count_in session.now.reservoir)))) }
-    ensures part { IsErrOf result TurnFault.Write →
-        (part : List ℕ) × IsPrefix part (ended (reply_line offset reply.now ∷ marks_for due (next_of session.now.reservoir) (count_in session.now.reservoir))) × Puts H.said H.clock H.since host.old host.new part }
+    ensures part { (part : List ℕ) × IsPrefix part (ended (reply_line offset reply.now ∷ marks_for due (next_of session.now.reservoir) (count_in session.now.reservoir))) × Puts H.said H.clock H.since host.old host.new part }
     ensures none { IfErr result (λ fault. (fault ≡ TurnFault.Write) ⊎ (host.new ≡ host.old)) }
-    ensures leaves { OnOk result (LeavesFiles H.now H.may H.clock H.since host.old host.new) }
-    ensures leaves_cut { IsErrOf result TurnFault.Write → LeavesFiles H.now H.may H.clock H.since host.old host.new }
+    ensures leaves { LeavesFiles H.now H.may H.clock H.since host.old host.new }
     ensures write { IsErrOf result TurnFault.Write → Rose (H.out_faults host.old) (H.out_faults host.new) }
     ensures faults { IfErr result (λ fault. (fault ≡ TurnFault.Write) ⊎ (fault ≡ TurnFault.Task TaskFault.Memory)) }
     ensures disk_faults { H.disk_faults host.new ≡ H.disk_faults host.old }

@@ -1,5 +1,5 @@
 use Rattle.std.proofs.Common.{◌∙◌}
-use Rattle.rg_turn.proofs.Turning.{due_steps, due_stored, has_stopped}
+use Rattle.rg_turn.proofs.Stepping.{due_steps, due_stored, has_stopped}
 use Rattle.rg_turn.proofs.store.store.Goals as goal
 
 pub returns-in-Ok-clause-moments : goal.returns-in-Ok-clause-moments

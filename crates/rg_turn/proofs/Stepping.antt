@@ -23,7 +23,7 @@ use Rattle.rg_course.specs.Stores.{Course, StaysOnCourse}
 use Rattle.rg_course.specs.Steps.{IsAtRest, IsMidStep, MarksHold}
 use Rattle.rg_course.specs.Turns.{IsBetween}
 use Rattle.rg_course.proofs.Betweens.{ahead_next, between_next, events_begin, near_next}
-use Rattle.rg_course.proofs.Courses.{on_course_put}
+use Rattle.rg_course.proofs.Courses.{on_course_put, stopped_at_rest}
 use Rattle.rg_course.proofs.Folds.{grown}
 use Rattle.rg_course.proofs.Hosts.{told_moments, part_way_more, put as putting}
 use Rattle.rg_course.proofs.Keeping.{after_step}
@@ -35,6 +35,8 @@ use Rattle.rg_course.proofs.Turns.{Stopped, step_stopped}
 use Rattle.rg_store.specs.Stores.{store_of}
 use Rattle.rg_recover.specs.Deciding.{verdict_on}
 use Rattle.rg_recover.specs.Sessions.{Sitting, IsRunning, events_of, stored_of}
+use Rattle.rg_recover.proofs.Within.{still_within}
+use Rattle.std.specs.Option.{ForSome}
 use Rattle.rg_recover.specs.Stepping.{IsWithinStep, IsStored}
 use Rattle.rg_turn.specs.Turning.{terms_of, IsAwaiting, IsMidTurn, HasStopped}
 
@@ -170,6 +172,22 @@ module _ {H T : Type 0} (now : H → Option Image) (may : H → Image → Type 0
           between = subst (λ (o : Option Image). IsBetween (store_of plan) (terms_of plan) course (events_of o s) (offset + 1) items (stored_of o s) s.keep (may new) (m.put ++ ended lines)) (sym files.now_stays)
               (subst (λ (l : List Event). IsBetween (store_of plan) (terms_of plan) course l (offset + 1) items (stored_of (now old) s) s.keep (may new) (m.put ++ ended lines)) (sym m.follows) b);
         }
+
+  -- no call within a turn
+  pub still_steps : ((h : H) (w : Moment) → since h (clock h) w → may h w.image × ForSome (said h) (λ t. w.said ≡ t)) → ((h : H) (t u : ℕ) (w : Moment) → t ≤ u → since h u w → since h t w)
+      → (told : Type 0) (cells : Cells) (events begun : List Event) (begun_keep : Option ℕ) (start host : H) (s : Sitting T) (m : IsMidTurn plan course offset item items events begun begun_keep (may start) (now host) (may host) (said host) told cells s)
+      → Stopped H clock since may (store_of plan) (terms_of plan) course host host m.put
+  still_steps only sinks told cells events begun begun_keep start host s m =
+      due_steps told cells events begun begun_keep start host host s m (still_within now may clock since said only sinks (store_of plan) s.keep (opened s.reservoir) host)
+
+  -- a stop within a turn, before anything is put
+  pub mid_stopped : (told : Type 0) (cells : Cells) (events begun : List Event) (begun_keep : Option ℕ) (start host : H) (s : Sitting T) (m : IsMidTurn plan course offset item items events begun begun_keep (may start) (now host) (may host) (said host) told cells s)
+      → HasStopped plan course (may host) (said host)
+  mid_stopped told cells events begun begun_keep start host s m = record {
+    put = m.put;
+    told = m.told;
+    stopped = stopped_at_rest Image (store_of plan) course m.between.lines (out_from (terms_of plan) events offset (item ∷ items)) (stored_of (now host) s) s.keep (may host) m.put m.at_rest m.between.are_lines m.between.text m.between.said_is;
+  }
 
 -- what a step that failed within a turn leaves
 pub has_stopped : {H : Type 0} (clock : H → ℕ) (since : H → ℕ → Moment → Type 0) (may : H → Image → Type 0) (plan : Planned) (course : Course) (told : Option (List ℕ)) (old new : H) (put : List ℕ) → told ≡ Some put → Stopped H clock since may (store_of plan) (terms_of plan) course old new put

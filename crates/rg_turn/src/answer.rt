@@ -1,0 +1,82 @@
+ghost use Rattle.std.specs.Prelude.{◌≡◌, ◌⊎◌, ◌≤◌, ◌<◌, ◌+◌, ◌^◌, ◌==◌, [], ◌∷◌, ℕ, List, Option, length, false, IfErr, OnOk, IsErrOf};
+ghost use Rattle.std.specs.List.{list_any};
+ghost use Rattle.rg_bytes.specs.Counts.{Rose};
+ghost use Rattle.rg_host.specs.Moments.{Moments};
+ghost use Rattle.rg_frame.specs.LogState.{ReachesEnd};
+ghost use Rattle.rg_config.specs.Plans.{planned};
+ghost use Rattle.rg_config.specs.Read.{IsRead};
+ghost use Rattle.rg_row.specs.Rows.{row_of};
+ghost use Rattle.rg_reservoir.specs.Kept.{log_of, next_of};
+ghost use Rattle.rg_verdict.specs.Verdicts.{read_as, or_reply};
+ghost use Rattle.rg_course.specs.Ahead.{after_line};
+ghost use Rattle.rg_course.specs.Stores.{Course, StaysOnCourse};
+ghost use Rattle.rg_store.specs.Stores.{store_of};
+ghost use Rattle.rg_recover.specs.Sessions.{events_of};
+ghost use Rattle.rg_turn.specs.Due.{is_due};
+ghost use Rattle.rg_turn.specs.declared.due.Due.{Due};
+ghost use Rattle.rg_turn.specs.Turning.{IsAwaiting, HasStopped, terms_of};
+
+use crate::due::due_at;
+use crate::fault::TurnFault;
+use crate::settle::settle;
+use crate::tell::tell;
+use rg_config::Plan;
+use rg_event::Steps;
+use rg_host::Host;
+use rg_recover::{Session, TaskFault};
+use rg_state::Table;
+use std::sync::ledger::Ledger;
+
+/// Takes a cleaned line into a session, does what is due, and puts the reply with its marks. `text` is a
+/// buffer for these lines. Each refusal but `Write` leaves whole lines put.
+pub(crate) fn answer_line<H: Host, T: Table, L: Ledger>(
+    session: &mut Session<T>,
+    host: &mut H,
+    plan: &Plan,
+    text: &mut Vec<u8>,
+    offset: u64,
+    line: &[u8],
+    steps: &mut Steps<L>,
+) -> Result<(), TurnFault>
+    requires read { IsRead plan.now }
+    requires one_line { list_any (λ byte. byte == 10) line.now ≡ false }
+    requires next { next_of session.old.reservoir ≤ offset }
+    requires small { offset < 2 ^ 62 }
+    requires reaches { session.old.ended ≡ false → ReachesEnd (log_of session.old.reservoir) (H.now host.old) }
+
+    ensures moments { (course : Course) (item : Option (List ℕ)) (items : List (Option (List ℕ))) →
+        IsAwaiting (planned plan.now) course offset (item ∷ items) (H.now host.old) (H.may host.old) (H.said host.old) (T.tells session.old.engine.table) (T.cell session.old.engine.table) session.old →
+        read_as (terms_of (planned plan.now)).basis offset item ≡ or_reply (row_of (planned plan.now).shape.fields offset line.now) →
+        (is_due plan.now.commit plan.now.save (length (events_of (H.now host.old) session.old)) (length (after_line (terms_of (planned plan.now)).basis (events_of (H.now host.old) session.old) offset item)) ≡ Due.Save → ⊥) →
+        Moments H.clock H.since host.old host.new (StaysOnCourse (store_of (planned plan.now)) course []) }
+    ensures awaits { (course : Course) (item : Option (List ℕ)) (items : List (Option (List ℕ))) →
+        IsAwaiting (planned plan.now) course offset (item ∷ items) (H.now host.old) (H.may host.old) (H.said host.old) (T.tells session.old.engine.table) (T.cell session.old.engine.table) session.old →
+        read_as (terms_of (planned plan.now)).basis offset item ≡ or_reply (row_of (planned plan.now).shape.fields offset line.now) →
+        (is_due plan.now.commit plan.now.save (length (events_of (H.now host.old) session.old)) (length (after_line (terms_of (planned plan.now)).basis (events_of (H.now host.old) session.old) offset item)) ≡ Due.Save → ⊥) →
+        OnOk result (IsAwaiting (planned plan.now) course (offset + 1) items (H.now host.new) (H.may host.new) (H.said host.new) (T.tells session.new.engine.table) (T.cell session.new.engine.table) session.new) }
+    ensures stopped { (course : Course) (item : Option (List ℕ)) (items : List (Option (List ℕ))) →
+        IsAwaiting (planned plan.now) course offset (item ∷ items) (H.now host.old) (H.may host.old) (H.said host.old) (T.tells session.old.engine.table) (T.cell session.old.engine.table) session.old →
+        read_as (terms_of (planned plan.now)).basis offset item ≡ or_reply (row_of (planned plan.now).shape.fields offset line.now) →
+        IfErr result (λ fault. (fault ≡ TurnFault.Write) ⊎ HasStopped (planned plan.now) course (H.may host.new) (H.said host.new)) }
+
+    ensures write { IsErrOf result TurnFault.Write → Rose (H.out_faults host.old) (H.out_faults host.new) }
+    ensures disk { IsErrOf result (TurnFault.Task TaskFault.Disk) → Rose (H.disk_faults host.old) (H.disk_faults host.new) }
+    ensures reaches { session.new.ended ≡ false → ReachesEnd (log_of session.new.reservoir) (H.now host.new) }
+    ensures disk_faults { H.disk_faults host.old ≤ H.disk_faults host.new }
+    ensures out_faults { H.out_faults host.old ≤ H.out_faults host.new }
+{
+    let before = session.count();
+    let reply = match session.line(host, offset, line, steps) {
+        Ok(reply) => reply,
+        Err(fault) => return Err(TurnFault::Task(fault)),
+    };
+    let due = due_at(plan.commit, plan.save, before, session.count());
+    match settle(session, host, due) {
+        Ok(()) => {}
+        Err(fault) => return Err(TurnFault::Task(fault)),
+    }
+    match tell(session, host, text, offset, &reply, due) {
+        Ok(()) => Ok(()),
+        Err(fault) => Err(fault),
+    }
+}

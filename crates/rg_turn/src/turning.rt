@@ -1,0 +1,157 @@
+ghost use Rattle.std.specs.Prelude.{◌≡◌, ◌⊎◌, ◌≤◌, ◌<◌, ◌+◌, ◌^◌, ◌==◌, nat_lt, [], ◌∷◌, ℕ, List, Option, length, Err, false, IfErr, OnOk, IsErrOf};
+ghost use Rattle.std.specs.List.{list_any};
+ghost use Rattle.rg_bytes.specs.Counts.{Rose};
+ghost use Rattle.rg_host.specs.Moments.{Moments};
+ghost use Rattle.rg_frame.specs.LogState.{ReachesEnd};
+ghost use Rattle.rg_config.specs.Plans.{Planned, planned};
+ghost use Rattle.rg_config.specs.Read.{IsRead};
+ghost use Rattle.rg_row.specs.Rows.{row_of};
+ghost use Rattle.rg_reservoir.specs.Kept.{log_of, next_of};
+ghost use Rattle.rg_verdict.specs.Verdicts.{read_as, or_reply};
+ghost use Rattle.rg_course.specs.Ahead.{after_line};
+ghost use Rattle.rg_course.specs.Stores.{Course, StaysOnCourse};
+ghost use Rattle.rg_store.specs.Stores.{store_of};
+ghost use Rattle.rg_recover.specs.Sessions.{events_of};
+ghost use Rattle.rg_turn.specs.Due.{is_due};
+ghost use Rattle.rg_turn.specs.declared.due.Due.{Due};
+ghost use Rattle.rg_turn.specs.Turning.{IsAwaiting, HasStopped, terms_of};
+
+use crate::answer::answer_line;
+use crate::fault::TurnFault;
+use crate::refuse::refuse_line;
+use rg_config::Plan;
+use rg_event::Steps;
+use rg_host::Host;
+use rg_metric::Reply;
+use rg_recover::{Session, TaskFault};
+use rg_state::Table;
+use std::alloc::Global;
+use std::sync::ledger::Ledger;
+
+/// A durable run between two lines of its input.
+#[derive(Drop)]
+pub struct Turning<T: Table> {
+    /// The events and the engine that answers the next one.
+    pub session: Session<T>,
+    /// The lines of a turn. It is kept, so that no turn takes a buffer of its own.
+    pub text: Vec<u8>,
+    /// The offset of the next line.
+    pub offset: u64,
+}
+
+impl<T: Table> Turning<T> {
+    /// A run before the line with this offset.
+    pub fn new(alloc: Global, session: Session<T>, offset: u64) -> Turning<T>
+        ensures session { result.session ≡ session }
+        ensures offset { result.offset ≡ offset }
+    {
+        Turning {
+            session,
+            text: Vec::new(alloc),
+            offset,
+        }
+    }
+
+    /// Whether the next line has an offset below that of the session's next event: an earlier run
+    /// answered it.
+    fn is_passed(&self) -> bool
+        ensures { result ≡ nat_lt self.now.offset (next_of self.now.session.reservoir) }
+    {
+        self.offset < self.session.next()
+    }
+
+    /// Passes over the next line, which is given cleaned, or takes it, does what is due, and puts the
+    /// reply with its marks. Each refusal but `Write` leaves whole lines put.
+    pub fn answer<H: Host, L: Ledger>(
+        &mut self,
+        host: &mut H,
+        plan: &Plan,
+        line: &[u8],
+        steps: &mut Steps<L>,
+    ) -> Result<(), TurnFault>
+        requires read { IsRead plan.now }
+        requires one_line { list_any (λ byte. byte == 10) line.now ≡ false }
+        requires small { self.old.offset < 2 ^ 62 }
+        requires reaches { self.old.session.ended ≡ false → ReachesEnd (log_of self.old.session.reservoir) (H.now host.old) }
+
+        ensures moments { (course : Course) (item : Option (List ℕ)) (items : List (Option (List ℕ))) →
+            IsAwaiting (planned plan.now) course self.old.offset (item ∷ items) (H.now host.old) (H.may host.old) (H.said host.old) (T.tells self.old.session.engine.table) (T.cell self.old.session.engine.table) self.old.session →
+            read_as (terms_of (planned plan.now)).basis self.old.offset item ≡ or_reply (row_of (planned plan.now).shape.fields self.old.offset line.now) →
+            (is_due plan.now.commit plan.now.save (length (events_of (H.now host.old) self.old.session)) (length (after_line (terms_of (planned plan.now)).basis (events_of (H.now host.old) self.old.session) self.old.offset item)) ≡ Due.Save → ⊥) →
+            Moments H.clock H.since host.old host.new (StaysOnCourse (store_of (planned plan.now)) course []) }
+        ensures awaits { (course : Course) (item : Option (List ℕ)) (items : List (Option (List ℕ))) →
+            IsAwaiting (planned plan.now) course self.old.offset (item ∷ items) (H.now host.old) (H.may host.old) (H.said host.old) (T.tells self.old.session.engine.table) (T.cell self.old.session.engine.table) self.old.session →
+            read_as (terms_of (planned plan.now)).basis self.old.offset item ≡ or_reply (row_of (planned plan.now).shape.fields self.old.offset line.now) →
+            (is_due plan.now.commit plan.now.save (length (events_of (H.now host.old) self.old.session)) (length (after_line (terms_of (planned plan.now)).basis (events_of (H.now host.old) self.old.session) self.old.offset item)) ≡ Due.Save → ⊥) →
+            OnOk result (IsAwaiting (planned plan.now) course self.new.offset items (H.now host.new) (H.may host.new) (H.said host.new) (T.tells self.new.session.engine.table) (T.cell self.new.session.engine.table) self.new.session) }
+        ensures stopped { (course : Course) (item : Option (List ℕ)) (items : List (Option (List ℕ))) →
+            IsAwaiting (planned plan.now) course self.old.offset (item ∷ items) (H.now host.old) (H.may host.old) (H.said host.old) (T.tells self.old.session.engine.table) (T.cell self.old.session.engine.table) self.old.session →
+            read_as (terms_of (planned plan.now)).basis self.old.offset item ≡ or_reply (row_of (planned plan.now).shape.fields self.old.offset line.now) →
+            IfErr result (λ fault. (fault ≡ TurnFault.Write) ⊎ HasStopped (planned plan.now) course (H.may host.new) (H.said host.new)) }
+        ensures offset { OnOk result (self.new.offset ≡ self.old.offset + 1) }
+
+        ensures write { IsErrOf result TurnFault.Write → Rose (H.out_faults host.old) (H.out_faults host.new) }
+        ensures disk { IsErrOf result (TurnFault.Task TaskFault.Disk) → Rose (H.disk_faults host.old) (H.disk_faults host.new) }
+        ensures reaches { self.new.session.ended ≡ false → ReachesEnd (log_of self.new.session.reservoir) (H.now host.new) }
+        ensures disk_faults { H.disk_faults host.old ≤ H.disk_faults host.new }
+        ensures out_faults { H.out_faults host.old ≤ H.out_faults host.new }
+    {
+        if self.is_passed() {
+            self.offset += 1;
+            return Ok(());
+        }
+        match answer_line(
+            &mut self.session,
+            host,
+            plan,
+            &mut self.text,
+            self.offset,
+            line,
+            steps,
+        ) {
+            Ok(()) => {
+                self.offset += 1;
+                Ok(())
+            }
+            Err(fault) => Err(fault),
+        }
+    }
+
+    /// Passes over the next line, or puts the reply that refuses it before the session sees it: it is a
+    /// header, or too long. Each refusal but `Write` leaves whole lines put.
+    pub fn refuse<H: Host>(&mut self, host: &mut H, reply: &Reply) -> Result<(), TurnFault>
+        requires small { self.old.offset < 2 ^ 62 }
+
+        ensures moments { (plan : Planned) (course : Course) (item : Option (List ℕ)) (items : List (Option (List ℕ))) →
+            IsAwaiting plan course self.old.offset (item ∷ items) (H.now host.old) (H.may host.old) (H.said host.old) (T.tells self.old.session.engine.table) (T.cell self.old.session.engine.table) self.old.session →
+            read_as (terms_of plan).basis self.old.offset item ≡ Err reply.now →
+            Moments H.clock H.since host.old host.new (StaysOnCourse (store_of plan) course []) }
+        ensures awaits { (plan : Planned) (course : Course) (item : Option (List ℕ)) (items : List (Option (List ℕ))) →
+            IsAwaiting plan course self.old.offset (item ∷ items) (H.now host.old) (H.may host.old) (H.said host.old) (T.tells self.old.session.engine.table) (T.cell self.old.session.engine.table) self.old.session →
+            read_as (terms_of plan).basis self.old.offset item ≡ Err reply.now →
+            OnOk result (IsAwaiting plan course self.new.offset items (H.now host.new) (H.may host.new) (H.said host.new) (T.tells self.new.session.engine.table) (T.cell self.new.session.engine.table) self.new.session) }
+        ensures stopped { (plan : Planned) (course : Course) (item : Option (List ℕ)) (items : List (Option (List ℕ))) →
+            IsAwaiting plan course self.old.offset (item ∷ items) (H.now host.old) (H.may host.old) (H.said host.old) (T.tells self.old.session.engine.table) (T.cell self.old.session.engine.table) self.old.session →
+            read_as (terms_of plan).basis self.old.offset item ≡ Err reply.now →
+            IfErr result (λ fault. (fault ≡ TurnFault.Write) ⊎ HasStopped plan course (H.may host.new) (H.said host.new)) }
+        ensures offset { OnOk result (self.new.offset ≡ self.old.offset + 1) }
+        ensures session { self.new.session ≡ self.old.session }
+
+        ensures write { IsErrOf result TurnFault.Write → Rose (H.out_faults host.old) (H.out_faults host.new) }
+        ensures faults { IfErr result (λ fault. (fault ≡ TurnFault.Write) ⊎ (fault ≡ TurnFault.Task TaskFault.Memory)) }
+        ensures disk_faults { H.disk_faults host.new ≡ H.disk_faults host.old }
+        ensures out_faults { H.out_faults host.old ≤ H.out_faults host.new }
+    {
+        if self.is_passed() {
+            self.offset += 1;
+            return Ok(());
+        }
+        match refuse_line(&self.session, host, &mut self.text, self.offset, reply) {
+            Ok(()) => {
+                self.offset += 1;
+                Ok(())
+            }
+            Err(fault) => Err(fault),
+        }
+    }
+}

@@ -1,4 +1,4 @@
-ghost use Rattle.std.specs.Prelude.{◌≡◌, ◌↔◌, ◌⊎◌, ◌≤◌, [], ℕ, List, Option, true, false, IfOk, IfErr, OnOk, OnErr, IsErrOf};
+ghost use Rattle.std.specs.Prelude.{◌≡◌, ◌↔◌, ◌⊎◌, ◌≤◌, [], ℕ, List, Option, Some, true, false, IfOk, IfErr, IsTrue, OnOk, OnErr, IsErrOf};
 ghost use Rattle.rg_bytes.specs.Counts.{Rose};
 ghost use Rattle.rg_host.specs.Image.{Image, NothingPending};
 ghost use Rattle.rg_frame.specs.LogState.{ReachesEnd};
@@ -12,7 +12,7 @@ ghost use Rattle.rg_checkpoint.specs.Writing.{Encodes};
 ghost use Rattle.rg_course.specs.Steps.{IsSavedTo};
 ghost use Rattle.rg_store.specs.Stores.{store_of};
 ghost use Rattle.rg_recover.specs.Saving.{IsToWrite};
-ghost use Rattle.rg_recover.specs.Sessions.{IsRunning, count_in, stored_of};
+ghost use Rattle.rg_recover.specs.Sessions.{IsRunning, count_in, events_of, stored_of};
 ghost use Rattle.rg_recover.specs.Stepping.{IsWithinStep, IsStored, LogStays};
 
 use crate::fault::TaskFault;
@@ -96,8 +96,13 @@ impl<T: Table> Session<T> {
         ensures running { (plan : Planned) → IsRunning plan (H.now host.old) (H.may host.old) (T.tells self.old.engine.table) (T.cell self.old.engine.table) self.old →
             OnOk result (IsRunning plan (H.now host.new) (H.may host.new) (T.tells self.new.engine.table) (T.cell self.new.engine.table) self.new) }
 
+        ensures events { (plan : Planned) → IsRunning plan (H.now host.old) (H.may host.old) (T.tells self.old.engine.table) (T.cell self.old.engine.table) self.old →
+            OnOk result (events_of (H.now host.new) self.new ≡ events_of (H.now host.old) self.old) }
+
         ensures count { IfOk result (λ count. count ≡ count_in self.new.reservoir) }
         ensures saved { OnOk result ((self.new.saved ≡ count_in self.new.reservoir) × (opened self.new.reservoir ≡ [])) }
+        ensures kept { OnOk result ((slot : ℕ) × (self.new.keep ≡ Some slot)) }
+        ensures untouched { IsErrOf result TaskFault.Ended → (self.new ≡ self.old) × (host.new ≡ host.old) }
         ensures disk { IsErrOf result TaskFault.Disk → Rose (H.disk_faults host.old) (H.disk_faults host.new) }
         ensures table { IsErrOf result TaskFault.Table → Rose (T.faults self.old.engine.table) (T.faults self.new.engine.table) }
         ensures faults { IfErr result (λ fault. (fault ≡ TaskFault.Disk) ⊎ (fault ≡ TaskFault.Memory) ⊎ (fault ≡ TaskFault.Ended) ⊎ (fault ≡ TaskFault.Table)) }
@@ -111,15 +116,27 @@ impl<T: Table> Session<T> {
     {
         match self.commit(host) {
             Ok(_) => {}
+            Err(TaskFault::Ended) => return Err(TaskFault::Ended),
             Err(fault) => {
                 self.ended = true;
                 return Err(fault);
             }
         }
-        if self.saved == self.reservoir.count() {
+        if self.is_saved() {
             return Ok(self.saved);
         }
         self.write_checkpoint(host)
+    }
+
+    /// Whether the slot that was used or written last has a checkpoint of all events.
+    fn is_saved(&self) -> bool
+        ensures kept { IsTrue result → (slot : ℕ) × (self.now.keep ≡ Some slot) }
+        ensures count { IsTrue result → self.now.saved ≡ count_in self.now.reservoir }
+    {
+        match self.keep {
+            Some(_) => self.saved == self.reservoir.count(),
+            None => false,
+        }
     }
 
     /// Writes a checkpoint of all events, which are all stored.
@@ -134,6 +151,7 @@ impl<T: Table> Session<T> {
         ensures reservoir { self.new.reservoir ≡ self.old.reservoir }
         ensures count { IfOk result (λ count. count ≡ count_in self.new.reservoir) }
         ensures saved { OnOk result (self.new.saved ≡ count_in self.new.reservoir) }
+        ensures kept { OnOk result ((slot : ℕ) × (self.new.keep ≡ Some slot)) }
         ensures disk { IsErrOf result TaskFault.Disk → Rose (H.disk_faults host.old) (H.disk_faults host.new) }
         ensures table { IsErrOf result TaskFault.Table → Rose (T.faults self.old.engine.table) (T.faults self.new.engine.table) }
         ensures faults { IfErr result (λ fault. (fault ≡ TaskFault.Disk) ⊎ (fault ≡ TaskFault.Memory) ⊎ (fault ≡ TaskFault.Table)) }

@@ -17,8 +17,8 @@ use Rattle.rg_recover.proofs.session.Session.save.Goals as goal
 pub returns-in-Err-clause-within_step : goal.returns-in-Err-clause-within_step
 returns-in-Err-clause-within_step g c = λ plan runs. c.commit.ensures.within_step plan c.args.self.now.keep runs
 
-pub returns-then-self-count-clause-within_step : goal.returns-then-self-count-clause-within_step
-returns-then-self-count-clause-within_step g c = λ plan runs. c.commit.ensures.within_step plan c.args.self.now.keep runs
+pub returns-then-is_saved-clause-within_step : goal.returns-then-is_saved-clause-within_step
+returns-then-is_saved-clause-within_step g c = λ plan runs. c.commit.ensures.within_step plan c.args.self.now.keep runs
 
 pub returns-clause-within_step : goal.returns-clause-within_step
 returns-clause-within_step g c = λ plan runs.

@@ -1,5 +1,5 @@
 -- What stands at a place, by what was read there.
-use Rattle.std.proofs.Common.{◌≡◌, ◌∙◌, ℕ, ◌+◌, ◌^◌, ◌<◌, List, ◌++◌, length, Some, None, refl, ap, arith, length-append, length-drop}
+use Rattle.std.proofs.Common.{◌≡◌, ◌∙◌, ℕ, ◌+◌, ◌^◌, ◌<◌, List, ◌++◌, length, Some, None, refl, ap, subst, arith, length-append, length-drop}
 use Rattle.rg_event.specs.declared.event.Event.{Event}
 use Rattle.rg_event.specs.declared.schema.Field.{Field}
 use Rattle.rg_frame.specs.Frames.{body}
@@ -7,6 +7,7 @@ use Rattle.rg_frame.specs.Looks.{IsTorn, IsClosed, HoldsFrame}
 use Rattle.rg_frame.proofs.Payloads.{holds_payload, torn_payload, closed_payload}
 use Rattle.rg_chunk.specs.Chunks.{chunk_of}
 use Rattle.rg_reservoir.specs.Chain.{chunk_in, chunk_at, IsIllegal}
+use Rattle.rg_reservoir.proofs.Chains.{some_none}
 
 pub fetch_some : (fields : List Field) (place next : ℕ) (payload bytes : List ℕ) (chunk : List Event) → HoldsFrame place payload bytes → next < 2 ^ 62 → next ≡ place + 9 + length payload → chunk_of fields payload ≡ Some chunk → chunk_at fields place bytes ≡ Some (chunk, next)
 fetch_some fields place next payload bytes chunk holds small is said =
@@ -25,3 +26,7 @@ fetch_bad fields place next payload bytes holds small is said = record {
   longer = omega (arith, ap length holds.is, length-drop place bytes, length-append (body payload) holds.rest, holds.more);
   none = ap (chunk_in fields place) (holds_payload place payload bytes holds (omega (arith, small, is))) ∙ rw said refl;
 }
+
+-- a place where a chunk stands isn't damaged
+pub never_illegal : (fields : List Field) (place next p : ℕ) (chunk : List Event) (bytes : List ℕ) → chunk_at fields place bytes ≡ Some (chunk, next) → p ≡ place → IsIllegal fields p bytes → ⊥
+never_illegal fields place next p chunk bytes here at bad = some_none (chunk_at fields place bytes) (chunk, next) here (subst (λ (q : ℕ). chunk_at fields q bytes ≡ None) at bad.none)

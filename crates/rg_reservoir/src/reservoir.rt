@@ -14,7 +14,7 @@ ghost use Rattle.rg_frame.specs.Steps.{From};
 ghost use Rattle.rg_cache.specs.Cache.{cache as the_cache, item_at, holds_place, places, least_recently_used, touches};
 ghost use Rattle.rg_log.specs.Log.{schema_payload, HasEvents};
 ghost use Rattle.rg_reservoir.specs.Attached.{IsOther, IsBadFrame, SchemaAdded, Opens, IsOpened};
-ghost use Rattle.rg_reservoir.specs.Chain.{IsIllegal};
+ghost use Rattle.rg_reservoir.specs.Chain.{chunk_at, IsIllegal};
 ghost use Rattle.rg_reservoir.specs.Naming.{IsNamed};
 
 use crate::fault::ReservoirFault;
@@ -263,6 +263,7 @@ impl Reservoir {
         ensures hit { IsTrue (holds_place place (cache_of self.old)) → (result ≡ Ok true) × (H.reads host.new ≡ H.reads host.old) × ((loads_of self.new) ≡ (loads_of self.old)) }
         ensures miss { holds_place place (cache_of self.old) ≡ false → IfOk result (λ found. IsTrue found → Rose (H.reads host.old) (H.reads host.new) × ((loads_of self.new) ≡ min ((loads_of self.old) + 1) (2 ^ 64 - 1))) }
         ensures damaged { (p : ℕ) → IsErrOf result (ReservoirFault.Damaged p) → ForSome (H.now host.old) (λ v. IsIllegal (base self.old).shape.fields p (v (base self.old).file)) }
+        ensures never_damaged { (v : Image) (chunk : List TheEvent) (next p : ℕ) → H.now host.old ≡ Some v → chunk_at (base self.old).shape.fields place (v (base self.old).file) ≡ Some (chunk, next) → IsErrOf result (ReservoirFault.Damaged p) → ⊥ }
         ensures leaves { LeavesAll H.now H.may H.clock H.since H.said host.old host.new }
         ensures disk { IsErrOf result ReservoirFault.Disk → Rose (H.disk_faults host.old) (H.disk_faults host.new) }
         ensures disk_faults { H.disk_faults host.old ≤ H.disk_faults host.new }
@@ -329,6 +330,7 @@ impl Reservoir {
         ensures ended { IsErrOf result ReservoirFault.Ended ↔ ((base self.old).ended ≡ true) }
         ensures faults { IfErr result (λ fault. (fault ≡ ReservoirFault.Disk) ⊎ (fault ≡ ReservoirFault.Memory) ⊎ ((p : ℕ) × (fault ≡ ReservoirFault.Damaged p)) ⊎ (fault ≡ ReservoirFault.Ended)) }
         ensures damaged { (p : ℕ) → IsErrOf result (ReservoirFault.Damaged p) → ForSome (H.now host.old) (λ v. IsIllegal (base self.old).shape.fields p (v (base self.old).file)) }
+        ensures never_damaged { (p : ℕ) → IsSound (H.now host.old) (H.may host.old) self.old → Spells (H.now host.old) (base self.old) (opened self.old) spot.old → IsErrOf result (ReservoirFault.Damaged p) → ⊥ }
         ensures leaves { LeavesAll H.now H.may H.clock H.since H.said host.old host.new }
         ensures disk { IsErrOf result ReservoirFault.Disk → Rose (H.disk_faults host.old) (H.disk_faults host.new) }
         ensures disk_faults { H.disk_faults host.old ≤ H.disk_faults host.new }
@@ -381,6 +383,7 @@ impl Reservoir {
         ensures within { IfOk result (λ look. IfSome look (λ _. (spot.new.number < (base self.old).committed + length (opened self.old)) × (spot.new.index < 4096))) }
         ensures ended { IsErrOf result ReservoirFault.Ended ↔ ((base self.old).ended ≡ true) }
         ensures damaged { (p : ℕ) → IsErrOf result (ReservoirFault.Damaged p) → ForSome (H.now host.old) (λ v. IsIllegal (base self.old).shape.fields p (v (base self.old).file)) }
+        ensures never_damaged { (p : ℕ) → IsSound (H.now host.old) (H.may host.old) self.old → Spells (H.now host.old) (base self.old) (opened self.old) spot.old → IsErrOf result (ReservoirFault.Damaged p) → ⊥ }
         ensures disk { IsErrOf result ReservoirFault.Disk → Rose (H.disk_faults host.old) (H.disk_faults host.new) }
         ensures faults { IfErr result (λ fault. (fault ≡ ReservoirFault.Disk) ⊎ (fault ≡ ReservoirFault.Memory) ⊎ ((p : ℕ) × (fault ≡ ReservoirFault.Damaged p)) ⊎ (fault ≡ ReservoirFault.Ended)) }
 

@@ -3,8 +3,11 @@ use Rattle.std.proofs.Common.{◌≡◌, ◌∙◌, ◌≤◌, ◌<◌, ◌-◌,
 use Rattle.rg_host.specs.Image.{Image}
 use Rattle.rg_cache.specs.Cache.{item_at, places, least_recently_used, touches}
 use Rattle.rg_reservoir.specs.declared.kept.Kept.{Kept}
+use Rattle.rg_reservoir.specs.declared.fault.ReservoirFault.TheVariants.{Damaged}
+use Rattle.rg_reservoir.specs.Chain.{chunk_at}
 use Rattle.rg_reservoir.specs.Kept.{Base, base, IsCached, IsAbsent, next_in, look_places, held_after, OneTouch, AllTouched}
 use Rattle.rg_reservoir.proofs.Seeking.{cached_same, absent_same, one_image, before_end, found_open, found_here, found_next, turn, near}
+use Rattle.rg_reservoir.proofs.Peeking.{err_moves}
 use Rattle.rg_reservoir.proofs.Touching.{one_touched, two_places, look_one, look_two, look_far}
 use Rattle.rg_reservoir.proofs.reservoir.Reservoir.seek.Goals as goal
 
@@ -282,3 +285,25 @@ returns-clause-loaded g c = λ sound spells w there.
     subst (λ (u : Image). AllTouched (look_places (base self) (u self.log.file) c.args.spot.now) self.cache self.loads (g.H.Host.reads c.args.host.now) c.touch-2.new.self.cache c.touch-2.new.self.loads (g.H.Host.reads c.touch-2.new.host)) (one_image (g.H.Host.now c.args.host.now) v w told there)
     (subst (λ (l : List ℕ). AllTouched l self.cache self.loads (g.H.Host.reads c.args.host.now) c.touch-2.new.self.cache c.touch-2.new.self.loads (g.H.Host.reads c.touch-2.new.host)) (sym (look_two (base self) (v self.log.file) c.args.spot.now c.touch.new.self.cache c.in-Some.next lt mid turns))
     (c.touch.new.self.cache, c.touch.new.self.loads, g.H.Host.reads c.touch.new.host, one, (c.touch-2.new.self.cache, c.touch-2.new.self.loads, g.H.Host.reads c.touch-2.new.host, two, (refl, refl, refl))))
+
+pub returns-in-Err-clause-never_damaged : goal.returns-in-Err-clause-never_damaged
+returns-in-Err-clause-never_damaged g c =
+    λ p sound spells e.
+    let v = sound.0 in
+    let told : g.H.Host.now c.args.host.now ≡ Some v = sound.1 in
+    let lt : c.args.spot.now.number < c.args.self.now.committed = omega (arith, c.if-spot-self.false) in
+    let i = near (g.H.Host.now c.args.host.now) v (base c.args.self.now) c.args.self.now.open.events c.args.spot.now told spells lt in
+    c.in-Err.ensures.never_damaged v i.chunk i.next p told i.here (err_moves c.in-Err.fault (Damaged p) e)
+
+pub returns-in-Err-touch-clause-never_damaged : goal.returns-in-Err-touch-clause-never_damaged
+returns-in-Err-touch-clause-never_damaged g c =
+    λ p sound spells e.
+    let v = sound.0 in
+    let told : g.H.Host.now c.args.host.now ≡ Some v = sound.1 in
+    let right = sound.2.right c.if-self.false in
+    let lt : c.args.spot.now.number < c.args.self.now.committed = omega (arith, c.if-spot-self.false) in
+    let mid : IsCached c.args.self.now.schema.fields (v c.args.self.now.log.file) c.touch.new.self.cache = c.touch.ensures.cached v told right.cached in
+    let turns : next_in (item_at c.args.spot.now.place c.touch.new.self.cache) c.args.spot.now.index ≡ Some c.in-Some.next = search rules in
+    let f = turn (g.H.Host.now c.args.host.now) v (g.H.Host.may c.args.host.now) (base c.args.self.now) c.args.self.now.open.events c.args.self.now.next_offset c.args.self.now.last_time c.args.self.now.cache c.touch.new.self.cache c.args.spot.now c.in-Some.next told right spells lt mid turns in
+    let here = ap (λ (b : Base). chunk_at b.shape.fields c.in-Some.next (v b.file)) c.touch.ensures.stays.base ∙ f.chunk.here in
+    c.in-Err-touch.ensures.never_damaged v f.chunk.chunk f.chunk.next p (c.touch.ensures.leaves.now_stays ∙ told) here (err_moves c.in-Err-touch.fault (Damaged p) e)

@@ -1,3 +1,5 @@
+use Rattle.rg_reservoir.specs.declared.fault.ReservoirFault.TheVariants.{Damaged}
+use Rattle.rg_reservoir.proofs.Peeking.{err_moves}
 use Rattle.rg_reservoir.proofs.Seeking.{kept_others, cached_moved, absent_none}
 use Rattle.rg_reservoir.proofs.reservoir.Reservoir.touch.Goals as goal
 
@@ -17,3 +19,10 @@ pub returns-in-Ok-None-clause-absent : goal.returns-in-Ok-None-clause-absent
 returns-in-Ok-None-clause-absent g c = λ found v told.
     let h = rw c.in-Ok-None.field-0-is at c.in-Ok-None.ensures.none in
     absent_none c.args.self.now.schema.fields c.args.place c.args.self.now.log.end (v c.args.self.now.log.file) (h v told)
+
+pub returns-then-kept-end-clause-cached : goal.returns-then-kept-end-clause-cached
+returns-then-kept-end-clause-cached g c =
+    λ v told was. cached_moved c.args.self.now.schema.fields (v c.args.self.now.log.file) c.args.self.now.cache c.promote.new.self c.promote.ensures.items was
+
+pub returns-in-Err-clause-never_damaged : goal.returns-in-Err-clause-never_damaged
+returns-in-Err-clause-never_damaged g c = λ v chunk next p told here e. c.in-Err.ensures.never_damaged v chunk next p told here (err_moves c.in-Err.fault (Damaged p) e)

@@ -92,7 +92,8 @@ pub trait Past {
         ensures sound { sound self.old → sound self.new }
         ensures later { faults self.old ≤ faults self.new };
 
-    /// Looks at the event of a spot. Over a sound past an answer leaves the spot in its later spelling.
+    /// Looks at the event of a spot. Over a sound past an answer leaves the spot in its later spelling,
+    /// and a look at a spelled spot is never refused as damaged.
     fn peek(&mut self, spot: &mut Spot) -> Result<Option<&Event>, PastFault>
         requires { spot.old.number ≤ length (events self.old) }
         ensures* after { sem 𝓛 (Rests Self.row self.entry (λ new.
@@ -108,6 +109,7 @@ pub trait Past {
         ensures number { spot.new.number ≡ spot.old.number }
         ensures within { IsWithin (events self.old) spot.new result }
         ensures event { sound self.old → spells self.old spot.old → Shows (events self.old) spot.old.number result }
+        ensures never_damaged { (place : ℕ) → sound self.old → spells self.old spot.old → IsErrOf result (PastFault.Damaged place) → ⊥ }
         ensures ended { IsErrOf result PastFault.Ended ↔ ended self.old }
         ensures no_full { IsErrOf result PastFault.Full → ⊥ };
 

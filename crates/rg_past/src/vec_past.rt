@@ -109,6 +109,7 @@ impl Past for VecPast {
         ensures number { spot.new.number ≡ spot.old.number }
         ensures within { IsWithin (⟦<VecPast as Past>⟧.events self.old) spot.new result }
         ensures event { ⟦<VecPast as Past>⟧.sound self.old → ⟦<VecPast as Past>⟧.spells self.old spot.old → Shows (⟦<VecPast as Past>⟧.events self.old) spot.old.number result }
+        ensures never_damaged { (place : ℕ) → ⟦<VecPast as Past>⟧.sound self.old → ⟦<VecPast as Past>⟧.spells self.old spot.old → IsErrOf result (PastFault.Damaged place) → ⊥ }
         ensures ended { IsErrOf result PastFault.Ended ↔ ⟦<VecPast as Past>⟧.ended self.old }
         ensures no_full { IsErrOf result PastFault.Full → ⊥ }
 

@@ -45,6 +45,7 @@ returns-in-Err g c =
           λ e. c.in-Err.ensures.ended.0 (ap (λ (f : ReservoirFault). Err f) (past_ended c.in-Err.fault c.from.result c.from.ensures (err_is c.from.result past.Ended e))),
           λ e. ap (λ (f : PastFault). Err f) (c.from.ensures ∙ ap to_past (err_is c.in-Err.fault Ended (c.in-Err.ensures.ended.1 e))),
         );
+        never_damaged = λ p sound spells e. c.in-Err.ensures.never_damaged p sound spells (ap (λ (f : ReservoirFault). Err f) (past_damaged c.in-Err.fault c.from.result p c.from.ensures (look_fault c.in-Err.fault c.in-Err.ensures.faults).0 (err_is c.from.result (past.Damaged p) e)));
         no_full = λ e. (look_fault c.in-Err.fault c.in-Err.ensures.faults).1 (past_full c.in-Err.fault c.from.result c.from.ensures (err_is c.from.result past.Full e));
       },
     )
@@ -75,6 +76,7 @@ returns g c =
         within = some_map c.at.result _ _ (λ x w. (omega (arith, w.0, all_long (g.H.Host.now c.args.self.now.host.now) (base c.args.self.now.reservoir.now) c.args.self.now.reservoir.now.open.events, ap (λ (b : Base). b.committed) stays.base, ap length stays.opened), w.1)) c.at.ensures.within;
         event = λ sound spells. c.at.ensures.event ∙ seen_stays c.args.self.now.reservoir.now c.seek.new.self c.seek.new.spot stays ∙ (c.in-Ok.ensures.finds sound spells).shows;
         ended = (λ e. absurd (ok_not_err c.at.result past.Ended e), λ e. absurd (ok_not_err tt Ended (c.in-Ok.ensures.ended.1 e)));
+        never_damaged = λ p sound spells e. ok_not_err c.at.result (past.Damaged p) e;
         no_full = λ e. ok_not_err c.at.result past.Full e;
       },
     )

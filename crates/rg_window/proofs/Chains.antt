@@ -1,9 +1,12 @@
 -- The visits of one edge, by one event more.
 use Rattle.std.proofs.Common.{◌≡◌, ℕ, ◌<◌, ◌+◌, true, false, List, [], ◌∷◌, ◌++◌, length, drop, get_or, Some, None, Result, Ok, Err, refl, inl, inr, ap, sym, ◌∙◌, arith, add-one, append_assoc, length-append, drop-cons}
-use Rattle.std.specs.Prelude.{slice_get}
+use Rattle.std.specs.Prelude.{slice_get, IsErrOf}
 use Rattle.std.proofs.lemmas.Option.{slice_get_within, slice_get-get_or, slice_get_cases}
 use Rattle.std.proofs.lemmas.List.{drop_all}
 use Rattle.rg_event.specs.declared.event.Event.{Event}
+use Rattle.rg_past.specs.declared.past.PastFault.{PastFault}
+use Rattle.rg_window.specs.declared.edges.MoveFault.{MoveFault}
+use Rattle.rg_window.specs.declared.edges.MoveFault.TheVariants.{Past}
 use Rattle.rg_window.specs.Passing.{has_come, passed, at_edge}
 use Rattle.rg_window.specs.Chain.{Visited, Went, Refused}
 
@@ -16,6 +19,13 @@ none_some e = cc
 -- an answer that is Ok is no fault
 pub ok_err : {A E : Type 0} {x : A} {e : E} → Ok x ≡ Err e → ⊥
 ok_err e = cc
+
+same_past : {A F : Type 0} (f e : PastFault) → ◌≡◌ {A = Result A (MoveFault F)} (Err (Past f)) (Err (Past e)) → f ≡ e
+same_past f e is = cc
+
+-- the past's fault by that of the move
+pub past_err : {A B F : Type 0} (f e : PastFault) → IsErrOf {T = A} {E = MoveFault F} (Err (Past f)) (Past e) → IsErrOf {T = B} (Err f) e
+past_err f e is = ap (λ (x : PastFault). Err x) (same_past f e is)
 
 drop-get : (events : List Event) (i : ℕ) (x : Event) → slice_get events i ≡ Some x → drop i events ≡ x ∷ drop (i + 1) events
 drop-get events i x e =

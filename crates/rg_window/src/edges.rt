@@ -1,4 +1,4 @@
-ghost use Rattle.std.specs.Prelude.{◌≡◌, ℕ, ◌≤◌, ◌<◌, ◌^◌, [], length, IfOk, IfErr, OnOk, IsErrOf, slice_index_or};
+ghost use Rattle.std.specs.Prelude.{◌≡◌, ℕ, ◌≤◌, ◌<◌, ◌^◌, [], length, All, IfOk, IfErr, OnOk, IsErrOf, slice_index_or};
 ghost use Rattle.rg_past.specs.Keeping.{Kept, HasCause};
 ghost use Rattle.rg_window.specs.Chain.{Went, Moved};
 ghost use Rattle.rg_window.specs.Halting.{StopsAt, HaltsAt};
@@ -73,8 +73,8 @@ impl Edges {
     /// Moves the edges to time `t`, one after the other in rising order of offset: while the event at
     /// the edge has a time of at most `t` less the offset, the event is visited and the edge goes on.
     /// Over a sound past an edge whose spot the past spells moves just so, whatever the spots of the
-    /// others are. No edge ever goes back. Over a past that has ended the first look is refused,
-    /// and nothing is visited.
+    /// others are, and where it spells them all, none stops at a damaged place. No edge ever goes
+    /// back. Over a past that has ended the first look is refused, and nothing is visited.
     ///
     /// After a refusal each edge stands where it had come to, those behind the one that stopped where
     /// they stood before, and the next move goes on from there.
@@ -105,6 +105,8 @@ impl Edges {
         ensures unvisited { P.ended past.old → visit.new ≡ visit.old }
         ensures cause { (fault : PastFault) → IsErrOf result (MoveFault.Past fault) →
             HasCause (P.illegal past.new) ⊥ (P.ended past.old) (P.faults past.old) (P.faults past.new) fault }
+        ensures never_damaged { (place : ℕ) → P.sound past.old → All (P.spells past.old) self.old.spots →
+            IsErrOf result (MoveFault.Past (PastFault.Damaged place)) → ⊥ }
 
         ensures offsets { self.new.offsets ≡ self.old.offsets }
         ensures same { length self.new.spots ≡ length self.old.spots }
@@ -145,6 +147,8 @@ fn move_each<P: Past, V: Visit>(
     ensures unvisited { P.ended past.old → visit.new ≡ visit.old }
     ensures cause { (fault : PastFault) → IsErrOf result (MoveFault.Past fault) →
         HasCause (P.illegal past.new) ⊥ (P.ended past.old) (P.faults past.old) (P.faults past.new) fault }
+    ensures never_damaged { (place : ℕ) → P.sound past.old → All (P.spells past.old) spots.old →
+        IsErrOf result (MoveFault.Past (PastFault.Damaged place)) → ⊥ }
     ensures same { length spots.new ≡ length spots.old }
     ensures within { AreWithin spots.new (length (P.events past.old)) }
     ensures spells { P.sound past.old → (edge : ℕ) →
@@ -187,6 +191,8 @@ fn move_edge<P: Past, V: Visit>(
     ensures unvisited { P.ended past.old → visit.new ≡ visit.old }
     ensures cause { (fault : PastFault) → IsErrOf result (MoveFault.Past fault) →
         HasCause (P.illegal past.new) ⊥ (P.ended past.old) (P.faults past.old) (P.faults past.new) fault }
+    ensures never_damaged { (place : ℕ) → P.sound past.old → P.spells past.old spot.old →
+        IsErrOf result (MoveFault.Past (PastFault.Damaged place)) → ⊥ }
     ensures within { spot.new.number ≤ length (P.events past.old) }
     ensures spells { P.sound past.old → P.spells past.old spot.old → P.spells past.new spot.new }
     ensures events { P.events past.new ≡ P.events past.old }

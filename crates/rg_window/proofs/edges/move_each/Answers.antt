@@ -5,7 +5,7 @@ use Rattle.rg_past.specs.declared.past.Spot.{Spot}
 use Rattle.rg_past.proofs.Kept.{kept-then, cause-within}
 use Rattle.rg_window.proofs.Chains.{ok_err}
 use Rattle.rg_window.proofs.Runs.{Moved-more, HaltsAt-next, still-more, Next-edge, no_spot}
-use Rattle.rg_window.proofs.Spelled.{spelled_spot, spelled_set}
+use Rattle.rg_window.proofs.Spelled.{spelled_spot, spelled_here, spelled_set}
 use Rattle.rg_window.proofs.edges.move_each.Goals as goal
 
 pub edges-preserved : goal.edges-preserved
@@ -58,3 +58,10 @@ pub returns-in-Err-clause-cause : goal.returns-in-Err-clause-cause
 returns-in-Err-clause-cause g c = λ fault is.
     let i = c.edges.invariant in
     cause-within _ ⊥ _ ⊥ _ _ _ _ fault i.past.later (λ full. full) (λ ended. i.past.ended.0 ended) (c.in-Err.ensures.cause fault is)
+
+pub returns-in-Err-clause-never_damaged : goal.returns-in-Err-clause-never_damaged
+returns-in-Err-clause-never_damaged g c = λ place sound all is.
+    let i = c.edges.invariant in
+    let below : c.edges.edge < length c.args.spots.now = omega (arith, c.edges-test.true, i.same) in
+    let here = i.spells sound c.edges.edge (spelled_here (g.P.Past.spells c.args.past.now) c.args.spots.now c.edges.edge no_spot below (all c.edges.edge no_spot below)) in
+    c.in-Err.ensures.never_damaged place (i.past.sound sound) (spelled_spot _ c.edges.spots c.edges.edge no_spot here) is

@@ -1,9 +1,10 @@
 use Rattle.std.proofs.Common.{◌≡◌, ◌+◌, ◌<◌, ◌∙◌, ap, sym, arith, ◌∷◌, length}
 use Rattle.std.specs.Prelude.{slice_get}
 use Rattle.std.specs.Option.{option_copied}
+use Rattle.rg_past.specs.declared.past.PastFault.TheVariants.{Damaged}
 use Rattle.rg_past.proofs.Kept.{kept-then}
 use Rattle.rg_window.specs.Passing.{passed}
-use Rattle.rg_window.proofs.Chains.{ok_err, Went-end, Went-more, Refused-next, passed-come, passed-stays, passed-end}
+use Rattle.rg_window.proofs.Chains.{ok_err, past_err, Went-end, Went-more, Refused-next, passed-come, passed-stays, passed-end}
 use Rattle.rg_window.proofs.edges.move_edge.Goals as goal
 
 pub returns-in-Ok-None-clause-went : goal.returns-in-Ok-None-clause-went
@@ -48,3 +49,8 @@ edge-preserved g c =
       past = kept-then _ _ _ _ _ _ _ g.met.P.Past.transitive i.past (record { goes = k.1; sound = k.3; ended = k.2; later = k.5 });
       unvisited = λ e. absurd (ok_err (c.in-Ok-Some.ensures.ended.1 (i.past.ended.1 e)));
     }
+
+pub returns-in-Err-clause-never_damaged : goal.returns-in-Err-clause-never_damaged
+returns-in-Err-clause-never_damaged g c = λ place sound spelled is.
+    let i = c.edge.invariant in
+    c.in-Err.ensures.never_damaged place (i.past.sound sound) (i.spells sound spelled) (past_err c.in-Err.fault (Damaged place) is)

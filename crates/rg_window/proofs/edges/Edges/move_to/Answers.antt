@@ -1,4 +1,5 @@
 use Rattle.std.proofs.Common.{◌≡◌, ◌<◌, ◌∙◌, ap, sym, subst, arith, length}
+use Rattle.std.specs.Prelude.{All}
 use Rattle.rg_window.specs.Placed.{Placed, IsSpelledAt}
 use Rattle.rg_window.proofs.Spelled.{spelled_within}
 use Rattle.rg_window.proofs.Written.{all_written}
@@ -40,3 +41,8 @@ returns-clause-rises g c = λ k.
     let spots : c.deref_mut.result.now ≡ c.args.self.now.spots = c.deref_mut.ensures.value ∙ ap (λ (p : Placed). p.spots) c.self.view_is in
     let back = all_written c.self.inside.spots.len c.self.inside.spots.items c.deref_mut.result.now c.move_each.new.spots c.deref_mut.ensures.value c.deref_mut.ensures.len c.move_each.ensures.same in
     rw back (rises_by _ _ _ _ _ _ _ _ _ _ k c.move_each.result (rw spots at c.move_each.ensures.moved) (rw spots at c.move_each.ensures.halted))
+
+pub returns-clause-never_damaged : goal.returns-clause-never_damaged
+returns-clause-never_damaged g c = λ place sound all is.
+    let spots : c.deref_mut.result.now ≡ c.args.self.now.spots = c.deref_mut.ensures.value ∙ ap (λ (p : Placed). p.spots) c.self.view_is in
+    c.move_each.ensures.never_damaged place sound (subst (All (g.P.Past.spells c.args.past.now)) (sym spots) all) is

@@ -152,6 +152,8 @@ impl<T: Table> Engine<T> {
         ensures cause { (fault : PastFault) → IsErrOf result (EngineFault.Past fault) →
             HasCause (P.illegal past.new) (P.limit past.old ≤ length (P.events past.old)) (P.ended past.old)
             (P.faults past.old) (P.faults past.new) fault }
+        ensures never_damaged { (place : ℕ) → P.sound past.old → All (P.spells past.old) self.old.spots →
+            IsErrOf result (EngineFault.Past (PastFault.Damaged place)) → ⊥ }
         ensures table { IsErrOf result EngineFault.Table → Rose (T.faults self.old.table) (T.faults self.new.table) }
 
         ensures ended { IsErrOf result EngineFault.Ended ↔ (self.old.ended ≡ true) }
@@ -244,6 +246,8 @@ impl<T: Table> Engine<T> {
             IsErrOf result (EngineFault.Past PastFault.Ended) }
         ensures cause { (fault : PastFault) → IsErrOf result (EngineFault.Past fault) →
             HasCause (P.illegal past.new) ⊥ (P.ended past.old) (P.faults past.old) (P.faults past.new) fault }
+        ensures never_damaged { (place : ℕ) → P.sound past.old → All (P.spells past.old) self.old.spots →
+            IsErrOf result (EngineFault.Past (PastFault.Damaged place)) → ⊥ }
         ensures table { IsErrOf result EngineFault.Table → Rose (T.faults self.old.table) (T.faults self.new.table) }
 
         ensures ended { IsErrOf result EngineFault.Ended ↔ (self.old.ended ≡ true) }

@@ -1,4 +1,4 @@
-ghost use Rattle.std.specs.Prelude.{◌≡◌, ℕ, ◌+◌, ◌<◌, List, ◌++◌, length, Some, slice_get, OnOk, IsErrOf};
+ghost use Rattle.std.specs.Prelude.{◌≡◌, ℕ, ◌+◌, ◌<◌, List, ◌++◌, length, Some, slice_get, All, OnOk, IsErrOf};
 ghost use Rattle.rg_bytes.specs.Counts.{Rose};
 ghost use Rattle.rg_event.specs.declared.event.Event.{Event};
 ghost use Rattle.rg_event.specs.Rising.{last_time};
@@ -53,6 +53,8 @@ pub(crate) fn move_rows<P: Past, T: Table, L: Ledger>(
 
     ensures cause { (fault : PastFault) → IsErrOf result (EngineFault.Past fault) →
         HasCause (P.illegal past.new) ⊥ (P.ended past.old) (P.faults past.old) (P.faults past.new) fault }
+    ensures never_damaged { (place : ℕ) → P.sound past.old → All (P.spells past.old) edges.old.spots →
+        IsErrOf result (EngineFault.Past (PastFault.Damaged place)) → ⊥ }
     ensures stops { P.ended past.old → 0 < length plan.now.offsets → IsErrOf result (EngineFault.Past PastFault.Ended) }
 
     ensures same_parts { rows.new.parts ≡ rows.old.parts }
@@ -101,6 +103,8 @@ fn move_changer<'p, 'r, 's, P: Past, T: Table, L: Ledger>(
 
     ensures cause { (fault : PastFault) → IsErrOf result (MoveFault.Past fault) →
         HasCause (P.illegal past.new) ⊥ (P.ended past.old) (P.faults past.old) (P.faults past.new) fault }
+    ensures never_damaged { (place : ℕ) → P.sound past.old → All (P.spells past.old) edges.old.spots →
+        IsErrOf result (MoveFault.Past (PastFault.Damaged place)) → ⊥ }
     ensures stops { P.ended past.old → 0 < length changer.old.plan.now.offsets →
         IsErrOf result (MoveFault.Past PastFault.Ended) }
 

@@ -8,6 +8,9 @@ use Rattle.rg_engine.proofs.engine.Engine.replay.Goals as goal
 pub returns-in-Err-clause-bad : goal.returns-in-Err-clause-bad
 returns-in-Err-clause-bad g c = rw (← c.self.view_is) (λ n first bad on. c.in-Err.ensures.bad n first bad on)
 
+pub returns-in-Err-clause-never_damaged : goal.returns-in-Err-clause-never_damaged
+returns-in-Err-clause-never_damaged g c = rw (← c.self.view_is) (λ place sound all is. c.in-Err.ensures.never_damaged place sound all is)
+
 pub returns-clause-stands : goal.returns-clause-stands
 returns-clause-stands g c = rw (← c.self.view_is) (λ n first last on.
     let moved = c.in-Ok.ensures in

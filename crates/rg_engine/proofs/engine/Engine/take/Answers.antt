@@ -107,3 +107,11 @@ returns-in-Err-answer_each-clause-bad g c = rw (← c.self.view_is) (λ n first 
     (carried_on plan n _ _ _ _ _ (g.P.Past.events c.args.past.now) _ first event _ _ added.ok added.sound (λ sound spot spelled. g.met.P.Past.stays_spelled _ _ spot added.goes sound spelled) on) in
     c.in-Err-answer_each.ensures.bad n (ap Err (c.table_fault.ensures.bad n (same_fault bad))) (moved.rows.tells.1 on.tells) plan (g.P.Past.events c.args.past.now ++ event ∷ []) event c.self.invariant.whole (sym c.aggs.ensures.aggs)
     (λ key. row_stands plan n (g.P.Past.events c.append.new.self) (g.P.Past.events c.args.past.now ++ event ∷ []) event.time (g.T.Table.cell c.move_rows.new.rows.table) _ added.ok (last_of (g.P.Past.events c.args.past.now) event) after key))
+
+pub returns-in-Err-move_rows-clause-never_damaged : goal.returns-in-Err-move_rows-clause-never_damaged
+returns-in-Err-move_rows-clause-never_damaged g c = rw (← c.self.view_is) (λ place sound all is.
+    let added = c.in-Ok-append.ensures in
+    c.in-Err-move_rows.ensures.never_damaged place (added.sound sound) (λ edge d below. g.met.P.Past.stays_spelled _ _ _ added.goes sound (all edge d below)) (ap Err (same_fault is)))
+
+pub returns-in-Err-answer_each-clause-never_damaged : goal.returns-in-Err-answer_each-clause-never_damaged
+returns-in-Err-answer_each-clause-never_damaged g c = λ place sound all is. c.table_fault.ensures.not_past (past.Damaged place) (same_fault is)

@@ -1,12 +1,16 @@
 -- What a reservoir names when it is asked.
-use Rattle.std.proofs.Common.{◌≡◌, ◌↔◌, ℕ, Bool, false, List, [], Option, Some, IsTrue, sym, subst}
+use Rattle.std.proofs.Common.{◌≡◌, ◌∙◌, ◌↔◌, ◌⊎◌, inl, inr, ℕ, Bool, false, List, [], Option, Some, IsTrue, ap, sym, subst}
 use Rattle.std.specs.Prelude.{All}
 use Rattle.std.proofs.lemmas.List.Elements.{All-weaker}
 use Rattle.rg_host.specs.Image.{Image}
 use Rattle.rg_event.specs.declared.event.Event.{Event}
 use Rattle.rg_past.specs.declared.past.Spot.{Spot}
+use Rattle.rg_past.specs.declared.past.PastFault.TheVariants as past
 use Rattle.rg_frame.specs.Frames.{HasPayloads}
 use Rattle.rg_frame.proofs.FrameLists.{payloads_one}
+use Rattle.rg_reservoir.specs.declared.fault.ReservoirFault.{ReservoirFault}
+use Rattle.rg_reservoir.specs.declared.fault.ReservoirFault.TheVariants.{Disk, Damaged, Ended}
+use Rattle.rg_reservoir.specs.Faults.{to_past}
 use Rattle.rg_reservoir.specs.Kept.{Base}
 use Rattle.rg_reservoir.specs.Naming.{IsNamed}
 use Rattle.rg_reservoir.proofs.Seeking.{one_image}
@@ -29,3 +33,9 @@ names_by now b opened spots is none going (v, payloads, told, has) named =
     listed = All-weaker (HeadsName now b) (IsNamed payloads b.committed) (λ s here.
         let also : HasPayloads here.payloads (v 2) = subst (λ (u : Image). HasPayloads here.payloads (u 2)) (one_image now here.image v here.told told) here.has in
         subst (λ (l : List (List ℕ)). IsNamed l b.committed s) (payloads_one here.payloads payloads (v 2) also has) here.is) spots
+
+-- a damaged place that a past tells is one that its reservoir tells
+pub damaged_names : (f : ReservoirFault) (place : ℕ) → (f ≡ Disk) ⊎ ((p : ℕ) × (f ≡ Damaged p)) ⊎ (f ≡ Ended) → to_past f ≡ past.Damaged place → (p : ℕ) × (f ≡ Damaged p)
+damaged_names f place (inl is) e = absurd (let g : past.Disk ≡ past.Damaged place = sym (ap to_past is) ∙ e in cc)
+damaged_names f place (inr (inl found)) e = found
+damaged_names f place (inr (inr is)) e = absurd (let g : past.Ended ≡ past.Damaged place = sym (ap to_past is) ∙ e in cc)

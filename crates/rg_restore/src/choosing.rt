@@ -84,6 +84,7 @@ fn choose<P: Names>(
     ensures past { Kept P.Past.goes P.Past.sound P.Past.ended P.Past.faults past.old past.new }
     ensures cause { (fault : PastFault) → IsErrOf result fault →
         HasCause (P.Past.illegal past.new) ⊥ (P.Past.ended past.old) (P.Past.faults past.old) (P.Past.faults past.new) fault }
+    ensures never_damaged { (place : ℕ) → P.Past.sound past.old → IsErrOf result (PastFault.Damaged place) → ⊥ }
 {
     let (newer, older) = in_order(saved);
     match judge(past, plan, fields, queries, newer) {
@@ -131,6 +132,7 @@ pub(crate) fn begin<P: Names>(
     ensures past { Kept P.Past.goes P.Past.sound P.Past.ended P.Past.faults past.old past.new }
     ensures cause { (fault : PastFault) → IsErrOf result (EngineFault.Past fault) →
         HasCause (P.Past.illegal past.new) ⊥ (P.Past.ended past.old) (P.Past.faults past.old) (P.Past.faults past.new) fault }
+    ensures never_damaged { (place : ℕ) → P.Past.sound past.old → IsErrOf result (EngineFault.Past (PastFault.Damaged place)) → ⊥ }
     ensures others { IfErr result (λ fault. (fault ≡ EngineFault.Memory) ⊎ ((cause : PastFault) × (fault ≡ EngineFault.Past cause))) }
 {
     let chosen = match choose(past, plan, fields, queries, saved) {

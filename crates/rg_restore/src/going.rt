@@ -1,4 +1,4 @@
-ghost use Rattle.std.specs.Prelude.{◌≡◌, ℕ, ◌+◌, List, ◌++◌, length, IfOk, IfErr};
+ghost use Rattle.std.specs.Prelude.{◌≡◌, ℕ, ◌+◌, List, ◌++◌, length, All, IfOk, IfErr};
 ghost use Rattle.rg_bytes.specs.Counts.{Rose};
 ghost use Rattle.rg_event.specs.Rising.{last_time};
 ghost use Rattle.rg_event.specs.declared.event.Event.{Event};
@@ -51,6 +51,8 @@ pub(crate) fn go_on<P: Past, T: Table, L: Ledger>(
 
     ensures cause { (fault : PastFault) → IfErr result (λ refused. refused.0 ≡ EngineFault.Past fault →
         HasCause (P.illegal past.new) ⊥ (P.ended past.old) (P.faults past.old) (P.faults past.new) fault) }
+    ensures never_damaged { (place : ℕ) → P.sound past.old → All (P.spells past.old) spots.now →
+        IfErr result (λ refused. refused.0 ≡ EngineFault.Past (PastFault.Damaged place) → ⊥) }
     ensures disk { IfErr result (λ refused. refused.0 ≡ EngineFault.Table → Rose (T.faults table) (T.faults refused.1)) }
     ensures not_ended { IfErr result (λ refused. refused.0 ≡ EngineFault.Ended → ⊥) }
 

@@ -1,4 +1,4 @@
-ghost use Rattle.std.specs.Prelude.{◌≡◌, ◌↔◌, length, Decides, IfOk, IsErrOf, IsTrue};
+ghost use Rattle.std.specs.Prelude.{◌≡◌, ◌↔◌, ℕ, length, Decides, IfOk, IsErrOf, IsTrue};
 ghost use Rattle.rg_past.specs.Keeping.{Kept, HasCause};
 ghost use Rattle.rg_past.specs.declared.past.PastFault.{PastFault};
 ghost use Rattle.rg_past.specs.declared.past.Spot.{Spot};
@@ -40,6 +40,7 @@ fn is_fit<P: Names>(
     ensures past { Kept P.Past.goes P.Past.sound P.Past.ended P.Past.faults past.old past.new }
     ensures cause { (fault : PastFault) → IsErrOf result fault →
         HasCause (P.Past.illegal past.new) ⊥ (P.Past.ended past.old) (P.Past.faults past.old) (P.Past.faults past.new) fault }
+    ensures never_damaged { (place : ℕ) → P.Past.sound past.old → IsErrOf result (PastFault.Damaged place) → ⊥ }
 {
     if !same_texts(&checkpoint.queries, queries) {
         return Ok(false);
@@ -79,6 +80,7 @@ pub(crate) fn judge<P: Names>(
     ensures past { Kept P.Past.goes P.Past.sound P.Past.ended P.Past.faults past.old past.new }
     ensures cause { (fault : PastFault) → IsErrOf result fault →
         HasCause (P.Past.illegal past.new) ⊥ (P.Past.ended past.old) (P.Past.faults past.old) (P.Past.faults past.new) fault }
+    ensures never_damaged { (place : ℕ) → P.Past.sound past.old → IsErrOf result (PastFault.Damaged place) → ⊥ }
 {
     let candidate = match candidate {
         None => return Ok(None),

@@ -1,4 +1,4 @@
-ghost use Rattle.std.specs.Prelude.{◌↔◌, ◌≡◌, length, All, IfOk, IsErrOf, IsTrue};
+ghost use Rattle.std.specs.Prelude.{◌↔◌, ◌≡◌, ℕ, length, All, IfOk, IsErrOf, IsTrue};
 ghost use Rattle.rg_past.specs.Keeping.{Kept, HasCause};
 ghost use Rattle.rg_past.specs.declared.past.PastFault.{PastFault};
 ghost use Rattle.rg_past.specs.declared.past.Spot.{Spot};
@@ -18,7 +18,8 @@ pub trait Names: Past {
     ghost is_ready: { Self → Type 0 };
 
     /// Whether each spot names an event or the end. Over a past that isn't told a yes says only that no
-    /// spot is behind the end. Whatever it answers, it names and spells the same spots as before.
+    /// spot is behind the end. Whatever it answers, it names and spells the same spots as before. Over a
+    /// sound past it is never refused as damaged.
     fn names(&mut self, spots: &[Spot]) -> Result<bool, PastFault>
         requires ready { is_ready self.old }
         ensures names { told self.old → IfOk result (λ is. IsTrue is ↔ All (named self.old) spots.now) }
@@ -31,7 +32,8 @@ pub trait Names: Past {
         ensures room { Self.Past.has_room self.old → Self.Past.has_room self.new }
         ensures past { Kept Self.Past.goes Self.Past.sound Self.Past.ended Self.Past.faults self.old self.new }
         ensures cause { (fault : PastFault) → IsErrOf result fault →
-            HasCause (Self.Past.illegal self.new) ⊥ (Self.Past.ended self.old) (Self.Past.faults self.old) (Self.Past.faults self.new) fault };
+            HasCause (Self.Past.illegal self.new) ⊥ (Self.Past.ended self.old) (Self.Past.faults self.old) (Self.Past.faults self.new) fault }
+        ensures never_damaged { (place : ℕ) → Self.Past.sound self.old → IsErrOf result (PastFault.Damaged place) → ⊥ };
 
     /// A sound past is told.
     ghost sound_told: { (p : Self) → Self.Past.sound p → told p };

@@ -69,6 +69,8 @@ pub fn start<P: Past, T: Table, L: Ledger>(
 
     ensures cause { (fault : PastFault) → IfErr result (λ refused. refused.0 ≡ EngineFault.Past fault →
         HasCause (P.illegal past.new) ⊥ (P.ended past.old) (P.faults past.old) (P.faults past.new) fault) }
+    ensures never_damaged { (place : ℕ) → P.sound past.old → (P.ended past.old → ⊥) →
+        IfErr result (λ refused. refused.0 ≡ EngineFault.Past (PastFault.Damaged place) → ⊥) }
     ensures disk { IfErr result (λ refused. refused.0 ≡ EngineFault.Table → Rose (T.faults table) (T.faults refused.1)) }
     ensures not_ended { IfErr result (λ refused. refused.0 ≡ EngineFault.Ended → ⊥) }
 

@@ -42,3 +42,6 @@ returns-clause-chosen g c =
     (λ x. fit_same (g.P.Names.named new) (g.P.Names.named old) queries fields plan m n x (λ spot. (c.judge.ensures.named spot).0) same)
     (λ x. fit_same (g.P.Names.named old) (g.P.Names.named new) queries fields plan n m x (λ spot. (c.judge.ensures.named spot).1) (sym same))
     (λ x usable. subst (λ k. IsUsable plan k x) same usable) c.in-Ok.ensures.judged)
+
+pub returns-in-Err-judge-clause-never_damaged : goal.returns-in-Err-judge-clause-never_damaged
+returns-in-Err-judge-clause-never_damaged g c = λ place sound is. c.in-Err-judge.ensures.never_damaged place (c.judge.ensures.past.sound sound) is

@@ -34,3 +34,8 @@ pub returns-clause-passed : goal.returns-clause-passed
 returns-clause-passed g c =
     let passed = rw (c.in-Ok.ensures.plan, c.in-Ok.ensures.spots) at c.in-Ok-replay.ensures.passed in
     λ front more sound last is at. passed front more sound at.spelled is last (are_at (g.P.Past.spells c.args.past.now) c.args.plan front c.args.spots.now at)
+
+pub returns-in-Err-replay-clause-never_damaged : goal.returns-in-Err-replay-clause-never_damaged
+returns-in-Err-replay-clause-never_damaged g c =
+    let went = rw (c.in-Ok.ensures.spots) at c.in-Err-replay.ensures.never_damaged in
+    λ place sound all is. went place sound all (ap Err is)

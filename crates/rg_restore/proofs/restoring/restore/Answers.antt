@@ -69,3 +69,6 @@ returns-in-Err-go_on-clause-back g c = table-then _ _ _ _ _ c.move_rows.ensures.
 
 pub returns-clause-table : goal.returns-clause-table
 returns-clause-table g c = table-then _ _ _ _ _ c.move_rows.ensures.kept c.in-Ok-go_on.ensures.table
+
+pub returns-in-Err-go_on-clause-never_damaged : goal.returns-in-Err-go_on-clause-never_damaged
+returns-in-Err-go_on-clause-never_damaged g c = rw (c.as_slice.ensures) at c.in-Err-go_on.ensures.never_damaged

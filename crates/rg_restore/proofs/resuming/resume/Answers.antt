@@ -1,4 +1,6 @@
 use Rattle.std.proofs.Common.{inl, inr, ◌∙◌, ◌+◌, take, length, ap, sym, subst}
+use Rattle.std.specs.Prelude.{All}
+use Rattle.std.proofs.lemmas.List.Elements.{All-weaker}
 use Rattle.rg_event.specs.Rising.{last_time}
 use Rattle.rg_past.proofs.Kept.{kept-then, cause-within}
 use Rattle.rg_window.specs.Placed.{numbers_of}
@@ -48,3 +50,11 @@ returns-in-Err-restore-clause-past g c = kept-then _ _ _ _ _ _ _ g.met.P.Past.tr
 
 pub returns-clause-past : goal.returns-clause-past
 returns-clause-past g c = kept-then _ _ _ _ _ _ _ g.met.P.Past.transitive c.begin.ensures.past c.restore.ensures.past
+
+pub returns-in-Err-restore-clause-never_damaged : goal.returns-in-Err-restore-clause-never_damaged
+returns-in-Err-restore-clause-never_damaged g c = λ place sound runs is.
+    let spelled : All (g.P.Past.spells c.begin.new.past) c.in-Ok.begun.checkpoint.spots = elim (c.in-Ok.ensures.origin sound runs) [
+      | inl truthful ↦ truthful.spots.spelled
+      | inr best ↦ All-weaker (g.P.Names.named c.args.past.now) (g.P.Past.spells c.begin.new.past) (λ spot named. (c.begin.ensures.spells spot).1 ((g.met.P.Names.sound_named c.args.past.now spot sound).0 named)) c.in-Ok.begun.checkpoint.spots best.1.fit.spelled
+    ] in
+    c.in-Err-restore.ensures.never_damaged place (c.begin.ensures.past.sound sound) spelled is

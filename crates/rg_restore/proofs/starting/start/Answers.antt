@@ -6,3 +6,6 @@ pub returns-clause-passed : goal.returns-clause-passed
 returns-clause-passed g c = λ sound runs last.
     c.in-Ok-restore.ensures.passed sound last (c.in-Ok.ensures.truthful sound runs)
     ∙ ap (λ n. c.args.steps.now + passed_count c.args.plan (take n (g.P.Past.events c.args.past.now)) (g.P.Past.events c.restore.new.past)) c.in-Ok.ensures.count
+
+pub returns-in-Err-restore-clause-never_damaged : goal.returns-in-Err-restore-clause-never_damaged
+returns-in-Err-restore-clause-never_damaged g c = λ place sound runs is. c.in-Err-restore.ensures.never_damaged place sound (c.in-Ok.ensures.truthful sound runs).spots.spelled is

@@ -83,6 +83,8 @@ fn take_in<H: Host, T: Table, L: Ledger>(
         OnOk result (IsReady plan (H.now host.new) (H.may host.new) (T.tells engine.new.table) (T.cell engine.new.table) reservoir.new engine.new texts) }
     ensures bad { (plan : Planned) (texts : List (List ℕ)) (n : ℕ) → IsReady plan (H.now host.old) (H.may host.old) (T.tells engine.old.table) (T.cell engine.old.table) reservoir.old engine.old texts →
         IsErrOf result (TaskFault.BadState n) → ⊥ }
+    ensures never_damaged { (plan : Planned) (texts : List (List ℕ)) (p : ℕ) → IsReady plan (H.now host.old) (H.may host.old) (T.tells engine.old.table) (T.cell engine.old.table) reservoir.old engine.old texts →
+        IsErrOf result (TaskFault.Damaged p) → ⊥ }
     ensures events { (plan : Planned) (texts : List (List ℕ)) → IsReady plan (H.now host.old) (H.may host.old) (T.tells engine.old.table) (T.cell engine.old.table) reservoir.old engine.old texts →
         OnOk result (all_events (H.now host.new) (base reservoir.new) (opened reservoir.new) ≡ all_events (H.now host.old) (base reservoir.old) (opened reservoir.old) ++ event ∷ []) }
     ensures within_step { (plan : Planned) (texts : List (List ℕ)) (keep : Option ℕ) → IsReady plan (H.now host.old) (H.may host.old) (T.tells engine.old.table) (T.cell engine.old.table) reservoir.old engine.old texts →
@@ -186,6 +188,8 @@ impl<T: Table> Session<T> {
             OnOk result (IsStored (store_of plan) keep (opened self.old.reservoir) (stored_of (H.now host.old) self.old) (stored_of (H.now host.new) self.new) (H.may host.old) (H.may host.new)) }
         ensures never_bad { (plan : Planned) (n : ℕ) → IsRunning plan (H.now host.old) (H.may host.old) (T.tells self.old.engine.table) (T.cell self.old.engine.table) self.old →
             IsErrOf result (TaskFault.BadState n) → ⊥ }
+        ensures never_damaged { (plan : Planned) (p : ℕ) → IsRunning plan (H.now host.old) (H.may host.old) (T.tells self.old.engine.table) (T.cell self.old.engine.table) self.old →
+            IsErrOf result (TaskFault.Damaged p) → ⊥ }
 
         ensures damaged { (p : ℕ) → IsErrOf result (TaskFault.Damaged p) → ForSome (H.now host.new) (λ v. IsIllegal (base self.new.reservoir).shape.fields p (v (base self.new.reservoir).file)) }
         ensures disk { IsErrOf result TaskFault.Disk → Rose (H.disk_faults host.old) (H.disk_faults host.new) }

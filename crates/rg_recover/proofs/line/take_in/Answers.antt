@@ -78,3 +78,11 @@ returns-in-Ok-clause-settled g c = λ plan texts file ready apart settled.
 
 pub returns-in-Err-clause-within_step : goal.returns-in-Err-clause-within_step
 returns-in-Err-clause-within_step g c = λ plan texts keep ready. c.in-Err.ensures.within_step plan keep ready.in_step.reservoir
+
+pub returns-in-Ok-clause-never_damaged : goal.returns-in-Ok-clause-never_damaged
+returns-in-Ok-clause-never_damaged g c = λ plan texts p ready.
+    let h = c.args.host.now in
+    let mid = c.commit_open.new.host in
+    let e = c.args.engine.now in
+    c.take-in-Ok.ensures.never_damaged plan texts p (ready_stepped plan (g.H.Host.now h) (g.H.Host.now mid) (g.H.Host.may h) (g.H.Host.may mid) (g.T.Table.tells e.table) (g.T.Table.cell e.table) c.args.reservoir.now c.commit_open.new.reservoir e texts ready
+    (c.in-Ok.ensures.in_step plan (g.T.Table.cell e.table) e.spots texts ready.in_step))

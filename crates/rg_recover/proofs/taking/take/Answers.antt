@@ -18,3 +18,8 @@ pub returns-in-Err-clause-bad : goal.returns-in-Err-clause-bad
 returns-in-Err-clause-bad g c = λ plan texts n ready is.
     let went = rw (c.new-past.ensures.reservoir, c.new-past.ensures.host) at c.in-Err.ensures.bad in
     went plan texts n ready is
+
+pub returns-in-Err-clause-never_damaged : goal.returns-in-Err-clause-never_damaged
+returns-in-Err-clause-never_damaged g c = λ plan texts p ready is.
+    let went = rw (c.new-past.ensures.reservoir, c.new-past.ensures.host) at c.in-Err.ensures.never_damaged in
+    went plan texts p ready is

@@ -65,3 +65,7 @@ returns-in-Err-clause-going g c = λ is.
 
 pub returns-in-Err-clause-within : goal.returns-in-Err-clause-within
 returns-in-Err-clause-within g c = within_count (g.H.Host.now c.take.new.past.host.now) c.take.new.past.reservoir.now c.take.new.self.spots c.take.ensures.edges.within
+
+pub returns-in-Err-clause-never_damaged : goal.returns-in-Err-clause-never_damaged
+returns-in-Err-clause-never_damaged g c = λ plan texts p ready is.
+    c.take.ensures.never_damaged p ready.in_step.reservoir.sound ready.in_step.stands.spots.spelled (c.in-Err.is ∙ ap (λ v. Err v) (damaged_by c.in-Err.fault p (sym c.from.ensures ∙ same_fault _ _ is)))

@@ -84,3 +84,6 @@ returns-in-Err-take_in-clause-within_step g c = rw (← c.self.view_is) (λ plan
 
 pub returns-in-Err-take_in-clause-never_bad : goal.returns-in-Err-take_in-clause-never_bad
 returns-in-Err-take_in-clause-never_bad g c = rw (← c.self.view_is) (λ plan n runs is. c.in-Err-take_in.ensures.bad plan c.self.inside.texts n runs.ready (ap (λ v. Err v) (same_fault c.in-Err-take_in.fault _ is)))
+
+pub returns-in-Err-take_in-clause-never_damaged : goal.returns-in-Err-take_in-clause-never_damaged
+returns-in-Err-take_in-clause-never_damaged g c = rw (← c.self.view_is) (λ plan p runs is. c.in-Err-take_in.ensures.never_damaged plan c.self.inside.texts p runs.ready (ap (λ v. Err v) (same_fault c.in-Err-take_in.fault _ is)))

@@ -1,22 +1,19 @@
 -- A log that was attached over a store of the plan.
-use Rattle.std.proofs.Common.{◌≡◌, ◌≢◌, ◌∙◌, ◌⊎◌, inl, inr, ℕ, false, List, [], Option, Some, None, refl, sym, ap, subst, arith}
+use Rattle.std.proofs.Common.{◌≡◌, ◌≢◌, ◌∙◌, inl, inr, ℕ, false, List, [], Option, Some, None, sym, subst, arith}
 use Rattle.std.specs.Option.{ForSome}
 use Rattle.rg_host.specs.Image.{Image, NothingPending}
 use Rattle.rg_event.specs.Shapes.{Shape, IsSchema}
 use Rattle.rg_event.specs.declared.event.Event.{Event}
-use Rattle.rg_frame.specs.Frames.{HasPayloads}
 use Rattle.rg_frame.specs.Steps.{Leaves}
-use Rattle.rg_frame.proofs.FrameLists.{payloads_one}
 use Rattle.rg_log.specs.Log.{schema_payload, HasEvents, HasLegalLog, IsOfSchema}
 use Rattle.rg_log.proofs.Growing.{begins_log}
 use Rattle.rg_config.specs.Plans.{Planned}
 use Rattle.rg_checkpoint.specs.Slots.{IsSlot}
 use Rattle.rg_restore.specs.declared.choosing.Saved.{Saved}
 use Rattle.rg_reservoir.specs.Attached.{SchemaAdded}
-use Rattle.rg_reservoir.specs.Kept.{Base, base, opened, all_events, IsSound}
+use Rattle.rg_reservoir.specs.Kept.{base, opened, all_events, IsSound}
 use Rattle.rg_reservoir.specs.declared.reservoir.Reservoir.{Reservoir}
 use Rattle.rg_course.specs.Steps.{IsMidStep, IsStepped}
-use Rattle.rg_store.specs.Truth.{IsTruthfulImage}
 use Rattle.rg_store.specs.Stores.{store_of}
 use Rattle.rg_store.proofs.Images.{events_in}
 use Rattle.rg_store.proofs.Sound.{open_left, opened_left}

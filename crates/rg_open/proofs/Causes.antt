@@ -8,7 +8,7 @@ use Rattle.rg_checkpoint.specs.declared.fault.SlotFault.TheVariants as slots
 use Rattle.rg_reservoir.specs.declared.fault.ReservoirFault.{ReservoirFault}
 use Rattle.rg_reservoir.specs.declared.fault.ReservoirFault.TheVariants as reservoir
 use Rattle.rg_open.specs.declared.fault.OpenFault.{OpenFault}
-use Rattle.rg_open.specs.declared.fault.OpenFault.TheVariants.{Disk, Damaged, SchemaDiffers, BadState, Memory, Table}
+use Rattle.rg_open.specs.declared.fault.OpenFault.TheVariants.{Disk, Damaged, SchemaDiffers, BadState, Table}
 use Rattle.rg_open.specs.Faults.{of_slots, of_reservoir, of_engine}
 
 pub same_fault : {A : Type 0} (e f : OpenFault) → ◌≡◌ {A = Result A OpenFault} (Err e) (Err f) → e ≡ f

@@ -1,5 +1,5 @@
 -- A store that was found, and the engine that is started over it.
-use Rattle.std.proofs.Common.{◌≡◌, ◌∙◌, ℕ, zero, suc, ◌<◌, ◌≤◌, ◌+◌, Bool, false, List, [], ◌∷◌, ◌++◌, length, Option, Some, None, refl, sym, ap, subst, arith}
+use Rattle.std.proofs.Common.{◌≡◌, ◌∙◌, ℕ, zero, suc, ◌<◌, ◌+◌, Bool, false, List, [], ◌∷◌, length, Option, Some, None, refl, sym, ap, subst, arith}
 use Rattle.std.specs.Prelude.{All}
 use Rattle.std.proofs.lemmas.List.{append-nil}
 use Rattle.rg_host.specs.Image.{Image}
@@ -9,35 +9,41 @@ use Rattle.rg_event.specs.Shapes.{Shape}
 use Rattle.rg_event.specs.declared.event.Event.{Event}
 use Rattle.rg_event.specs.declared.schema.Field.{Field}
 use Rattle.rg_past.specs.declared.past.Spot.{Spot}
-use Rattle.rg_log.specs.Log.{joined, HasEvents, HasSchemaFrame}
+use Rattle.rg_log.specs.Log.{joined, HasEvents}
 use Rattle.rg_log.specs.Spots.{SpotIn}
 use Rattle.rg_config.specs.Plans.{Planned}
 use Rattle.rg_config.specs.Read.{IsSaid}
 use Rattle.rg_query.specs.Legal.{IsLegal}
 use Rattle.rg_plan.specs.Plans.{Planned as Tasks, plan_for}
 use Rattle.rg_state.specs.Rows.{Cells}
-use Rattle.rg_engine.specs.Feeding.{Serves, IsFed}
+use Rattle.rg_engine.specs.Feeding.{Serves}
 use Rattle.rg_engine.specs.Seen.{Seen}
 use Rattle.rg_engine.proofs.Legal.{serves}
 use Rattle.rg_checkpoint.specs.declared.base.Checkpoint.{Checkpoint}
-use Rattle.rg_checkpoint.specs.Slots.{HasSlot, IsSlot}
+use Rattle.rg_checkpoint.specs.Slots.{HasSlot, IsSlot, IsKeep}
 use Rattle.rg_restore.specs.declared.choosing.Saved.{Saved}
 use Rattle.rg_restore.specs.Fit.{IsFit}
 use Rattle.rg_restore.specs.Naming.{HeadsName, NamesIn}
 use Rattle.rg_restore.specs.Opening.{CanStand}
-use Rattle.rg_restore.specs.Slots.{slot_in, AreTruthful, IsFrom}
+use Rattle.rg_restore.specs.Slots.{slot_in, AreTruthful, IsFrom, HaveBegun}
 use Rattle.rg_restore.specs.Truthful.{IsTruthful, EngineStands}
 use Rattle.rg_restore.proofs.Saving.{same_past}
 use Rattle.rg_reservoir.specs.Kept.{Base, base, opened, next_of, time_of, cache_of, all_events, IsSound, IsRight, Spells}
 use Rattle.rg_reservoir.specs.GoingLaws.{all_long}
 use Rattle.rg_reservoir.specs.declared.reservoir.Reservoir.{Reservoir}
 use Rattle.rg_reservoir.proofs.Spelled.{spelled_here}
-use Rattle.rg_store.specs.Truth.{texts_of, IsTrueOf, IsTruthfulImage}
-use Rattle.rg_store.specs.Stores.{HasSaved}
-use Rattle.rg_store.specs.Opened.{IsOpenedFor, IsInStep}
+use Rattle.rg_store.specs.Truth.{texts_of, IsTrueOf}
+use Rattle.rg_store.specs.Opened.{IsKept}
 use Rattle.rg_store.proofs.Sound.{framed, has_events, all_are}
 use Rattle.rg_store.proofs.Saving.{of_plan}
-use Rattle.rg_open.specs.Opening.{AreSlots, IsFound, IsKept, IsStarted}
+use Rattle.rg_open.specs.Opening.{IsFound, IsStarted}
+
+-- the slot that was used is one of the two
+pub begun_keep : (offsets : List ℕ) (saved : Saved) (keep : Option ℕ) (numbers : List ℕ) → HaveBegun offsets (slot_in saved) keep numbers → IsKeep keep
+begun_keep offsets saved None numbers begun = tt
+begun_keep offsets saved (Some zero) numbers begun = omega arith
+begun_keep offsets saved (Some (suc zero)) numbers begun = omega arith
+begun_keep offsets saved (Some (suc (suc n))) numbers (checkpoint, there, at) = absurd cc
 
 -- no event is in the open chunk still, where the events are the same
 pub none_still : (now then : Option Image) (r s : Reservoir) → base s ≡ base r → opened r ≡ [] → all_events then (base s) (opened s) ≡ all_events now (base r) (opened r) → opened s ≡ []

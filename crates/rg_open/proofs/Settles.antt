@@ -1,8 +1,7 @@
 -- How the calls of an opening join.
-use Rattle.std.proofs.Common.{◌≡◌, ◌∙◌, ℕ, List, Option, Some, refl, sym}
-use Rattle.std.specs.Option.{ForSome}
+use Rattle.std.proofs.Common.{◌≡◌, ◌∙◌, ℕ, List, Option, refl}
 use Rattle.rg_host.specs.Image.{Image, NothingPending}
-use Rattle.rg_host.specs.Moments.{Moment, Moments, LeavesAll}
+use Rattle.rg_host.specs.Moments.{Moment, LeavesAll}
 use Rattle.rg_host.proofs.Runs.{nothing_pending-kept, moments_then, moments-silent}
 use Rattle.rg_frame.specs.Calls.{Writes}
 use Rattle.rg_frame.specs.Steps.{Leaves}

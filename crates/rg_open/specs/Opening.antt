@@ -1,13 +1,12 @@
 -- Over which stores a plan may be opened, and how it stands then.
-use Rattle.std.specs.Prelude.{◌≡◌, ◌<◌, ◌≤◌, ◌+◌, ℕ, List, [], Option, Some}
+use Rattle.std.specs.Prelude.{◌≡◌, ◌+◌, ℕ, List, [], Option, Some}
 use Rattle.rg_host.specs.Image.{Image}
 use Rattle.rg_config.specs.Plans.{Planned}
 use Rattle.rg_plan.specs.Plans.{Planned as Tasks, plan_for}
 use Rattle.rg_state.specs.Rows.{Cells}
 use Rattle.rg_engine.specs.Feeding.{Serves}
 use Rattle.rg_engine.specs.Seen.{Seen}
-use Rattle.rg_checkpoint.specs.declared.base.Checkpoint.{Checkpoint}
-use Rattle.rg_checkpoint.specs.Slots.{HasSlot, IsSlot}
+use Rattle.rg_checkpoint.specs.Slots.{IsSlot}
 use Rattle.rg_restore.specs.Slots.{slot_in, IsFrom, HaveBegun}
 use Rattle.rg_restore.specs.declared.choosing.Saved.{Saved}
 use Rattle.rg_restore.specs.Fit.{IsFit}
@@ -17,10 +16,9 @@ use Rattle.rg_engine.specs.Standing.{come}
 use Rattle.rg_window.specs.Placed.{numbers_of}
 use Rattle.rg_reservoir.specs.Kept.{base, opened}
 use Rattle.rg_reservoir.specs.declared.reservoir.Reservoir.{Reservoir}
-use Rattle.rg_store.specs.Opened.{IsOpenedFor, IsInStep}
-use Rattle.rg_store.specs.Stores.{HasSaved, IsOfPlan}
+use Rattle.rg_store.specs.Opened.{IsOpenedFor, IsInStep, IsKept}
+use Rattle.rg_store.specs.Stores.{IsOfPlan}
 use Rattle.rg_store.specs.Truth.{IsTruthfulImage}
-use Rattle.rg_open.specs.Settling.{AreSettled}
 
 -- The host tells its image, and each image that might be left is truthful, and its log is of the plan's schema or has no frame.
 pub record IsOpenable (plan : Planned) (now : Option Image) (may : Image → Type 0) : Type 0 where
@@ -41,12 +39,6 @@ pub record IsFound (plan : Planned) (now : Option Image) (may : Image → Type 0
   pub empty : opened r ≡ []
   pub truthful : (u : Image) → may u → IsTruthfulImage u
   pub slots : (u : Image) → may u → AreSlots u saved
-
--- in each image that might be left that slot has the plan's checkpoint, of so many of the stored events
-pub record IsKept (plan : Planned) (may : Image → Type 0) (slot saved committed : ℕ) : Type 0 where
-  pub below : slot < 2
-  pub stored : saved ≤ committed
-  pub has : (u : Image) → may u → HasSaved plan slot saved u
 
 -- The engine stands for all events of a sound reservoir over the plan's log, its table tells its rows, and the events are of columns
 -- that serve the plan; in each image that might be left the slot it went on from has its checkpoint.

@@ -28,13 +28,16 @@ use std::alloc::Global;
 pub(crate) struct Found {
     /// The events of the log.
     pub reservoir: Reservoir,
+    /// The slots, which have handed out their checkpoints.
+    pub slots: Slots,
     /// The checkpoints of the slots.
     pub saved: Saved,
 }
 
-/// The checkpoints of both slots, where they are complete.
-fn read_slots<H: Host>(alloc: Global, host: &mut H) -> Result<Saved, OpenFault>
-    ensures slots { IfOk result (λ saved. ForSome (H.now host.old) (λ v. AreSlots v saved)) }
+/// The slots, and the checkpoints of both, where they are complete.
+fn read_slots<H: Host>(alloc: Global, host: &mut H) -> Result<(Slots, Saved), OpenFault>
+    ensures slots { IfOk result (λ read. ForSome (H.now host.old) (λ v. AreSlots v read.1)) }
+    ensures slots_go { IfOk result (λ read. read.0.ended ≡ false) }
     ensures disk { IsErrOf result OpenFault.Disk → Rose (H.disk_faults host.old) (H.disk_faults host.new) }
     ensures faults { IfErr result (λ fault. (fault ≡ OpenFault.Disk) ⊎ (fault ≡ OpenFault.Memory)) }
     ensures leaves { LeavesAll H.now H.may H.clock H.since H.said host.old host.new }
@@ -44,7 +47,7 @@ fn read_slots<H: Host>(alloc: Global, host: &mut H) -> Result<Saved, OpenFault>
     match Slots::attach(alloc, host) {
         Ok(mut slots) => {
             let (first, second) = slots.take_both();
-            Ok(Saved { first, second })
+            Ok((slots, Saved { first, second }))
         }
         Err(fault) => Err(OpenFault::from(fault)),
     }
@@ -65,6 +68,7 @@ pub(crate) fn find<H: Host>(alloc: Global, host: &mut H, plan: &Plan) -> Result<
 
     // Over any image.
     ensures slots { IfOk result (λ found. ForSome (H.now host.old) (λ v. AreSlots v found.saved)) }
+    ensures slots_go { IfOk result (λ found. found.slots.ended ≡ false) }
     ensures listed { (v : Image) → H.now host.old ≡ Some v → OnOk result (IsListed (H.now host.new)) }
     ensures exact { (v : Image) → H.now host.old ≡ Some v → IsOther (schema_payload plan.now.schema) (v 2) ⊎ ((p : ℕ) × IsBadFrame (schema_payload plan.now.schema) p (v 2)) → IfOk result (λ _. ⊥) }
     ensures differs { IsErrOf result OpenFault.SchemaDiffers → ForSome (H.now host.old) (λ v. IsOther (schema_payload plan.now.schema) (v 2)) }
@@ -81,12 +85,16 @@ pub(crate) fn find<H: Host>(alloc: Global, host: &mut H, plan: &Plan) -> Result<
 {
     // a schema that there is is legal
     let _columns = plan.schema.fields();
-    let saved = match read_slots(alloc, host) {
-        Ok(saved) => saved,
+    let (slots, saved) = match read_slots(alloc, host) {
+        Ok(read) => read,
         Err(fault) => return Err(fault),
     };
     match Reservoir::attach(alloc, host, &plan.schema, plan.room) {
-        Ok(reservoir) => Ok(Found { reservoir, saved }),
+        Ok(reservoir) => Ok(Found {
+            reservoir,
+            slots,
+            saved,
+        }),
         Err(fault) => Err(OpenFault::from(fault)),
     }
 }

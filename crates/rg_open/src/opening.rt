@@ -13,17 +13,20 @@ ghost use Rattle.rg_reservoir.specs.Chain.{IsIllegal};
 ghost use Rattle.rg_reservoir.specs.Kept.{base, opened, room_of, log_of, next_of, all_events};
 ghost use Rattle.rg_state.specs.Keeping.{TableKept};
 ghost use Rattle.rg_engine.specs.Passed.{passed_count};
+ghost use Rattle.rg_checkpoint.specs.Slots.{IsKeep};
 ghost use Rattle.rg_restore.specs.Opening.{IsEmpty, IsGoing};
+ghost use Rattle.rg_course.specs.Steps.{IsStepped};
 ghost use Rattle.rg_store.specs.Stores.{store_of};
 ghost use Rattle.rg_open.specs.Opening.{IsOpenable, IsStarted, IsResumed};
 ghost use Rattle.rg_open.specs.Settling.{AreSettled};
-ghost use Rattle.rg_open.specs.Within.{IsWithinOpening};
+ghost use Rattle.rg_open.specs.Within.{IsAsRead, IsWithinOpening};
 
 use crate::fault::OpenFault;
 use crate::finding::find;
 use crate::settling::settle;
 use crate::starting::start;
 use rg_bytes::Memory;
+use rg_checkpoint::Slots;
 use rg_config::Plan;
 use rg_engine::Engine;
 use rg_event::{Schema, Steps, Texts};
@@ -45,6 +48,8 @@ pub struct Opened<T: Table> {
     pub reservoir: Reservoir,
     /// An engine that answers the next event.
     pub engine: Engine<T>,
+    /// The slots, into which a checkpoint may be written.
+    pub slots: Slots,
     /// The slot whose checkpoint was used; none where all events were passed from the start.
     pub keep: Option<u32>,
     /// How many events that checkpoint is of; 0 without one.
@@ -117,6 +122,8 @@ fn open_settled<H: Host, T: Table, L: Ledger>(
     ensures copies { IfOk result (λ r. (r.0.schema ≡ plan.now.schema) × (r.0.texts ≡ plan.now.queries)) }
     ensures reservoir { IfOk result (λ r. ((base r.0.reservoir).ended ≡ false) × ((base r.0.reservoir).file ≡ 2) × ((base r.0.reservoir).shape ≡ plan.now.schema) × ((base r.0.reservoir).limit ≡ plan.now.room.limit)) }
     ensures none { IfOk result (λ r. (opened r.0.reservoir ≡ []) × (room_of r.0.reservoir ≡ plan.now.room.chunk)) }
+    ensures slots { IfOk result (λ r. r.0.slots.ended ≡ false) }
+    ensures keep { IfOk result (λ r. IsKeep r.0.keep) }
     ensures reaches { IfOk result (λ r. ReachesEnd (log_of r.0.reservoir) (H.now host.new)) }
     ensures engine { IfOk result (λ r. IsGoing plan.now.task (base r.0.reservoir).committed r.0.engine) }
     ensures numbers { IfOk result (λ r. (r.1.next ≡ next_of r.0.reservoir) × (r.1.count ≡ (base r.0.reservoir).committed) × (r.1.from ≡ r.0.saved)) }
@@ -135,6 +142,7 @@ fn open_settled<H: Host, T: Table, L: Ledger>(
         Ok(found) => found,
         Err(fault) => return Err((fault, table)),
     };
+    let slots = found.slots;
     let saved = found.saved;
     let mut reservoir = found.reservoir;
     match start(alloc, &mut reservoir, host, plan, task, table, saved, steps) {
@@ -150,6 +158,7 @@ fn open_settled<H: Host, T: Table, L: Ledger>(
                     texts,
                     reservoir,
                     engine,
+                    slots,
                     keep: origin.slot,
                     saved: origin.from,
                 },
@@ -190,7 +199,9 @@ pub fn open_store<H: Host, T: Table, L: Ledger>(
         IsResumed v (H.now host.new) plan.now.queries plan.now.schema.fields plan.now.task r.0.reservoir r.0.engine r.0.keep r.1.from steps.old steps.new) }
 
     // At each moment, and at every result.
-    ensures within { (v : Image) (keep : Option ℕ) → H.now host.old ≡ Some v → IsWithinOpening H.may H.clock H.since H.said (store_of (planned plan.now)) keep host.old host.new }
+    ensures within { (v : Image) (keep : Option ℕ) → H.now host.old ≡ Some v → IsWithinOpening H.may H.clock H.since H.said (store_of (planned plan.now)) keep v host.old host.new }
+    ensures stepped { (v : Image) (keep : Option ℕ) → H.now host.old ≡ Some v → OnOk result ((u : Image) → H.may host.new u → IsStepped (store_of (planned plan.now)) keep [] (IsAsRead v (H.may host.old)) u) }
+    ensures said { H.said host.new ≡ H.said host.old }
 
     ensures disk { IfErr result (λ refused. refused.0 ≡ OpenFault.Disk → Rose (H.disk_faults host.old) (H.disk_faults host.new)) }
     ensures differs { IfErr result (λ refused. refused.0 ≡ OpenFault.SchemaDiffers → ForSome (H.now host.old) (λ v. IsOther (schema_payload plan.now.schema) (v 2))) }
@@ -202,6 +213,8 @@ pub fn open_store<H: Host, T: Table, L: Ledger>(
     ensures copies { IfOk result (λ r. (r.0.schema ≡ plan.now.schema) × (r.0.texts ≡ plan.now.queries)) }
     ensures reservoir { IfOk result (λ r. ((base r.0.reservoir).ended ≡ false) × ((base r.0.reservoir).file ≡ 2) × ((base r.0.reservoir).shape ≡ plan.now.schema) × ((base r.0.reservoir).limit ≡ plan.now.room.limit)) }
     ensures none { IfOk result (λ r. (opened r.0.reservoir ≡ []) × (room_of r.0.reservoir ≡ plan.now.room.chunk)) }
+    ensures slots { IfOk result (λ r. r.0.slots.ended ≡ false) }
+    ensures keep { IfOk result (λ r. IsKeep r.0.keep) }
     ensures reaches { IfOk result (λ r. ReachesEnd (log_of r.0.reservoir) (H.now host.new)) }
     ensures engine { IfOk result (λ r. IsGoing plan.now.task (base r.0.reservoir).committed r.0.engine) }
     ensures numbers { IfOk result (λ r. (r.1.next ≡ next_of r.0.reservoir) × (r.1.count ≡ (base r.0.reservoir).committed) × (r.1.from ≡ r.0.saved)) }

@@ -1,5 +1,5 @@
 -- A reservoir over the log of a plan, and what can be saved of it.
-use Rattle.std.specs.Prelude.{◌≡◌, ℕ, List, [], false, Option, All}
+use Rattle.std.specs.Prelude.{◌≡◌, ◌<◌, ◌≤◌, ℕ, List, [], false, Option, All}
 use Rattle.rg_host.specs.Image.{Image}
 use Rattle.rg_config.specs.Plans.{Planned}
 use Rattle.rg_config.specs.Read.{IsSaid}
@@ -9,6 +9,7 @@ use Rattle.rg_state.specs.Rows.{Cells}
 use Rattle.rg_restore.specs.Truthful.{EngineStands}
 use Rattle.rg_reservoir.specs.Kept.{base, opened, all_events, IsSound, Spells}
 use Rattle.rg_reservoir.specs.declared.reservoir.Reservoir.{Reservoir}
+use Rattle.rg_store.specs.Stores.{HasSaved}
 use Rattle.rg_store.specs.Truth.{texts_of, IsTruthfulImage}
 
 -- a sound reservoir over the plan's log, which has not ended
@@ -31,3 +32,9 @@ pub record IsInStep (plan : Planned) (now : Option Image) (may : Image → Type 
 pub record IsToSave (plan : Planned) (now : Option Image) (may : Image → Type 0) (r : Reservoir) (cells : Cells) (spots : List Spot) (texts : List (List ℕ)) : Type 0 where
   pub in_step : IsInStep plan now may r cells spots texts
   pub empty : opened r ≡ []
+
+-- in each image that might be left that slot has the plan's checkpoint, of so many of the stored events
+pub record IsKept (plan : Planned) (may : Image → Type 0) (slot saved committed : ℕ) : Type 0 where
+  pub below : slot < 2
+  pub stored : saved ≤ committed
+  pub has : (u : Image) → may u → HasSaved plan slot saved u

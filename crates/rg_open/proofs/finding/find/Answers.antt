@@ -1,4 +1,4 @@
-use Rattle.std.proofs.Common.{◌≡◌, ◌∙◌, inl, List, ap, sym, arith, Err}
+use Rattle.std.proofs.Common.{◌∙◌, inl, List, ap, sym, arith, Err}
 use Rattle.rg_event.specs.declared.event.Event.{Event}
 use Rattle.rg_config.specs.Plans.{planned}
 use Rattle.rg_log.specs.Log.{schema_payload}
@@ -23,7 +23,7 @@ returns-in-Ok-attach-clause-found g c = λ openable settled.
     found_by (planned c.args.plan.now) c.fields-columns.ensures.legal (g.H.Host.now m) (g.H.Host.now n) (g.H.Host.may m) (g.H.Host.may n)
     (openable_still (planned c.args.plan.now) (g.H.Host.now h) (g.H.Host.now m) (g.H.Host.may h) (g.H.Host.may m) leaves.now_stays leaves.may_stays.no_more openable)
     (fewer-all_settled g.H.Host.now g.H.Host.may g.H.Host.clock g.H.Host.since g.H.Host.said h m fewer settled)
-    c.attach.ensures.writes.left c.in-Ok-attach.reservoir c.in-Ok.saved c.in-Ok-attach.ensures.sound
+    c.attach.ensures.writes.left c.in-Ok-attach.reservoir c.in-Ok.read.1 c.in-Ok-attach.ensures.sound
     (λ v told. c.in-Ok.ensures.slots v (sym leaves.now_stays ∙ told)) (λ v told. g.met.H.Host.now_may m v told)
     c.in-Ok-attach.ensures.going.0 c.in-Ok-attach.ensures.going.1 c.in-Ok-attach.ensures.going.2 c.in-Ok-attach.ensures.empty.0
 

@@ -11,7 +11,7 @@ use Rattle.rg_reservoir.specs.Chain.{IsIllegal}
 use Rattle.rg_reservoir.specs.Kept.{Base, base, all_events}
 use Rattle.rg_restore.specs.Slots.{slot_in, HaveBegun}
 use Rattle.rg_open.specs.Opening.{IsStarted}
-use Rattle.rg_open.proofs.Found.{from_later}
+use Rattle.rg_open.proofs.Found.{begun_keep, from_later}
 use Rattle.rg_open.proofs.Settles.{all-fewer, fewer-all_settled, writes-before}
 use Rattle.rg_open.proofs.opening.open_settled.Goals as goal
 
@@ -51,6 +51,9 @@ returns-in-Ok-start-clause-resumed g c = λ v told.
       begun = ticked.1;
       ticks = ticked.2;
     }
+
+pub returns-in-Ok-start-clause-keep : goal.returns-in-Ok-start-clause-keep
+returns-in-Ok-start-clause-keep g c = begun_keep c.args.copies.task.offsets c.in-Ok.found.saved c.in-Ok-start.origin.slot c.in-Ok-start.ensures.ticks.0 c.in-Ok-start.ensures.ticks.1
 
 pub returns-in-Ok-start-clause-writes : goal.returns-in-Ok-start-clause-writes
 returns-in-Ok-start-clause-writes g c =

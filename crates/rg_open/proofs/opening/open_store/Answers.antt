@@ -1,7 +1,7 @@
-use Rattle.std.proofs.Common.{◌≡◌, ◌∙◌, inl, inr, ⊎_elim}
+use Rattle.std.proofs.Common.{◌∙◌, inl, inr, ⊎_elim}
 use Rattle.rg_config.specs.Plans.{planned}
 use Rattle.rg_open.proofs.Attached.{openable_still}
-use Rattle.rg_open.proofs.Within.{opened_within}
+use Rattle.rg_open.proofs.Within.{opened_within, opened_stepped}
 use Rattle.rg_open.proofs.opening.open_store.Goals as goal
 
 pub returns-in-Ok-open_settled-clause-started : goal.returns-in-Ok-open_settled-clause-started
@@ -23,7 +23,11 @@ returns-in-Ok-open_settled-clause-events g c = λ v events told has. c.in-Ok-ope
 
 pub returns-in-Ok-open_settled-clause-within : goal.returns-in-Ok-open_settled-clause-within
 returns-in-Ok-open_settled-clause-within g c = λ v keep told.
-    opened_within g.H.Host.now g.H.Host.may g.H.Host.clock g.H.Host.since g.H.Host.said (planned c.args.plan.now) c.fields-columns.ensures.legal keep c.args.host.now c.settle.new.host c.open_settled.new.host v told c.settle.ensures.leaves c.in-Ok.ensures.settled.log c.open_settled.ensures.writes
+    opened_within g.H.Host.now g.H.Host.may g.H.Host.clock g.H.Host.since g.H.Host.said (planned c.args.plan.now) c.fields-columns.ensures.legal keep c.args.host.now c.settle.new.host c.open_settled.new.host v told c.settle.ensures.leaves c.in-Ok.ensures.settled c.open_settled.ensures.writes
+
+pub returns-in-Ok-open_settled-clause-stepped : goal.returns-in-Ok-open_settled-clause-stepped
+returns-in-Ok-open_settled-clause-stepped g c = λ v keep told.
+    opened_stepped g.H.Host.now g.H.Host.may g.H.Host.clock g.H.Host.since g.H.Host.said (planned c.args.plan.now) c.fields-columns.ensures.legal keep c.args.host.now c.settle.new.host c.open_settled.new.host v told c.settle.ensures.leaves c.in-Ok.ensures.settled c.open_settled.ensures.writes
 
 pub returns-in-Ok-open_settled-clause-exact : goal.returns-in-Ok-open_settled-clause-exact
 returns-in-Ok-open_settled-clause-exact g c = λ v told why. c.in-Ok-open_settled.ensures.exact v (c.settle.ensures.leaves.now_stays ∙ told) why
@@ -44,7 +48,7 @@ returns-in-Err-open_settled-clause-never_bad g c = λ n openable tells.
 
 pub returns-in-Err-open_settled-clause-within : goal.returns-in-Err-open_settled-clause-within
 returns-in-Err-open_settled-clause-within g c = λ v keep told.
-    opened_within g.H.Host.now g.H.Host.may g.H.Host.clock g.H.Host.since g.H.Host.said (planned c.args.plan.now) c.fields-columns.ensures.legal keep c.args.host.now c.settle.new.host c.open_settled.new.host v told c.settle.ensures.leaves c.in-Ok.ensures.settled.log c.open_settled.ensures.writes
+    opened_within g.H.Host.now g.H.Host.may g.H.Host.clock g.H.Host.since g.H.Host.said (planned c.args.plan.now) c.fields-columns.ensures.legal keep c.args.host.now c.settle.new.host c.open_settled.new.host v told c.settle.ensures.leaves c.in-Ok.ensures.settled c.open_settled.ensures.writes
 
 pub returns-in-Err-open_settled-clause-damaged : goal.returns-in-Err-open_settled-clause-damaged
 returns-in-Err-open_settled-clause-damaged g c = λ p is.

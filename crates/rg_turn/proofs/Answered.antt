@@ -1,11 +1,10 @@
 -- A turn at which a line is taken, what is due is done, and the lines are put.
-use Rattle.std.proofs.Common.{◌≡◌, ◌≢◌, ℕ, ◌+◌, ◌≤◌, ◌<◌, ◌^◌, List, [], ◌∷◌, ◌++◌, length, Option, Some, Err, refl, sym, ◌∙◌, ap, subst}
+use Rattle.std.proofs.Common.{◌≡◌, ℕ, ◌+◌, ◌≤◌, ◌<◌, ◌^◌, List, [], ◌∷◌, length, Option, Err, sym, ◌∙◌, ap, subst}
 use Rattle.rg_host.specs.Image.{Image}
 use Rattle.rg_host.specs.Lines.{ended}
 use Rattle.rg_host.specs.Moments.{Moment, Moments, LeavesFiles}
 use Rattle.rg_host.specs.Puts.{IsPrefix, Puts}
 use Rattle.rg_host.proofs.Runs.{moments_then}
-use Rattle.rg_event.specs.declared.event.Event.{Event}
 use Rattle.rg_event.specs.Rising.{next_offset}
 use Rattle.rg_metric.specs.declared.reply.Reply.{Reply}
 use Rattle.rg_config.specs.Plans.{Planned}
@@ -17,7 +16,7 @@ use Rattle.rg_verdict.specs.Verdicts.{accepted_after, read_as, or_reply, reply_o
 use Rattle.rg_course.specs.Ahead.{after_line, lines_for}
 use Rattle.rg_course.specs.Stores.{Course, StaysOnCourse}
 use Rattle.rg_course.specs.Steps.{MarksHold}
-use Rattle.rg_course.proofs.Steps.{Item}
+use Rattle.rg_course.proofs.Steps.{Item, passed_over}
 use Rattle.rg_store.specs.Stores.{store_of}
 use Rattle.rg_recover.specs.Deciding.{verdict_on}
 use Rattle.rg_recover.specs.Sessions.{Sitting, IsRunning, count_in, events_of, stored_of}
@@ -29,7 +28,7 @@ use Rattle.rg_course.proofs.Betweens.{between_passed}
 use Rattle.rg_course.proofs.Lines.{looked_at}
 use Rattle.rg_course.specs.Accepted.{after_turn}
 use Rattle.rg_turn.specs.declared.due.Due.{Due}
-use Rattle.rg_turn.specs.declared.due.Due.TheVariants.{Nothing, Save}
+use Rattle.rg_turn.specs.declared.due.Due.TheVariants.{Nothing}
 use Rattle.rg_turn.specs.Due.{is_due, marks_for}
 use Rattle.rg_turn.specs.Turning.{terms_of, IsAwaiting, IsMidTurn, IsDueDone}
 use Rattle.rg_turn.proofs.Marking.{none_due}
@@ -66,12 +65,6 @@ module _ {H T : Type 0} (now : H → Option Image) (may : H → Image → Type 0
       due_last : due ≡ is_due plan.settings.commit plan.settings.save before (count_in last.reservoir)
       due_last = due_is ∙ ap (λ n. is_due plan.settings.commit plan.settings.save before n) (count_is ∙ sym same)
 
-      -- a checkpoint isn't due, where the events before the line and after it say so
-      pub not_saved : (is_due plan.settings.commit plan.settings.save (length (events_of (now old) s)) (length (after_line (terms_of plan).basis (events_of (now old) s) offset item)) ≡ Save → ⊥) → due ≡ Save → ⊥
-      not_saved none is =
-          let last_is : count_in last.reservoir ≡ length (after_line (terms_of plan).basis (events_of (now old) s) offset item) = sym (long (now settled) last.reservoir) ∙ ap length m.follows in
-          none (sym (due_last ∙ ap (λ n. is_due plan.settings.commit plan.settings.save n (count_in last.reservoir)) at_first ∙ ap (λ n. is_due plan.settings.commit plan.settings.save (length (events_of (now old) s)) n) last_is) ∙ is)
-
       module _ (small : offset < 2 ^ 62) (done : IsDueDone due plan (now settled) (may settled) last) (reply : Reply) (reply_is : reply ≡ reply_of plan.queries (events_of (now old) s) (verdict_on plan (events_of (now old) s) offset line)) (new : H) (files : LeavesFiles now may clock since settled new) where
         told_lines : reply_line offset reply ∷ marks_for due (next_of last.reservoir) (count_in last.reservoir) ≡ lines_for (terms_of plan) (events_of (now old) s) offset item
         told_lines = lines_told plan course offset item items (events_of (now old) s) (stored_of (now old) s) s.keep (may old) (now settled) (may settled) (said settled) told_last cells_last last m after_next due before at_first due_last reply
@@ -79,6 +72,9 @@ module _ {H T : Type 0} (now : H → Option Image) (may : H → Image → Type 0
 
         holds : MarksHold (store_of plan) (stored_of (now settled) last) last.keep (may settled) (lines_for (terms_of plan) (events_of (now old) s) offset item)
         holds = marks_hold plan course offset item items (events_of (now old) s) (stored_of (now old) s) s.keep (may old) (now settled) (may settled) (said settled) told_last cells_last last m after_next due before at_first due_last small done
+
+        pub then_events : events_of (now new) last ≡ after_line (terms_of plan).basis (events_of (now old) s) offset item
+        then_events = ap (λ (o : Option Image). events_of o last) files.now_stays ∙ m.follows
 
         pub all_moments : (part : List ℕ) × IsPrefix part (ended (reply_line offset reply ∷ marks_for due (next_of last.reservoir) (count_in last.reservoir))) × Puts said clock since settled new part → Moments clock since old new (StaysOnCourse (store_of plan) course [])
         all_moments p =
@@ -105,6 +101,9 @@ module _ {H T : Type 0} (now : H → Option Image) (may : H → Image → Type 0
     told = a.told;
     between = between_passed Image (store_of plan) course (terms_of plan) (events_of (now old) s) offset item items (stored_of (now old) s) s.keep (may old) (may old) a.put (subst (λ (n : ℕ). offset < n) (next_by plan (now old) (may old) is_told cells s a.running) below) a.between (λ v left. left);
   }
+
+  pub passed_events : offset < next_of s.reservoir → events_of (now old) s ≡ after_line (terms_of plan).basis (events_of (now old) s) offset item
+  passed_events below = sym (passed_over (terms_of plan) (events_of (now old) s) offset item (subst (λ (n : ℕ). offset < n) (next_by plan (now old) (may old) is_told cells s a.running) below)).stays
 
   -- a line that is refused before a session sees it
   pub refused_line : (reply : Reply) → next_of s.reservoir ≤ offset → read_as (terms_of plan).basis offset item ≡ Err reply → IsMidTurn plan course offset item items (events_of (now old) s) (stored_of (now old) s) s.keep (may old) (now old) (may old) (said old) is_told cells s
@@ -136,6 +135,9 @@ module _ {H T : Type 0} (now : H → Option Image) (may : H → Image → Type 0
 
     refused_holds : MarksHold (store_of plan) (stored_of (now old) s) s.keep (may old) (lines_for (terms_of plan) (events_of (now old) s) offset item)
     refused_holds = marks_hold plan course offset item items (events_of (now old) s) (stored_of (now old) s) s.keep (may old) (now old) (may old) (said old) is_told cells s refused_mid refused_next Nothing (count_in s.reservoir) (sym (long (now old) s.reservoir)) refused_due small tt
+
+    pub refused_events : events_of (now new) s ≡ after_line (terms_of plan).basis (events_of (now old) s) offset item
+    refused_events = ap (λ (o : Option Image). events_of o s) files.now_stays ∙ refused_mid.follows
 
     pub refused_moments : (part : List ℕ) × IsPrefix part (ended (reply_line offset reply ∷ marks_for Nothing (next_of s.reservoir) (count_in s.reservoir))) × Puts said clock since old new part → Moments clock since old new (StaysOnCourse (store_of plan) course [])
     refused_moments p =

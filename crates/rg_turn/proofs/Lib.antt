@@ -1,4 +1,7 @@
+pub mod Causes
 pub mod Marking
 pub mod Stepping
+pub mod Saving
 pub mod Telling
 pub mod Answered
+pub mod Ending

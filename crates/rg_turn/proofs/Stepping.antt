@@ -51,7 +51,7 @@ module _ (plan : Planned) (course : Course) (offset : ℕ) (item : Item) (items 
   begin_next events = let g = grown (terms_of plan) events offset (item ∷ []) in (g.added, sym g.is)
 
   -- after a step that stored some of the events up to a line
-  at_rest_after : (events begun : List Event) (begun_keep keep kept : Option ℕ) (start next : Image → Type 0) (from : Image → Type 0) (put : List ℕ) (stored chunk then rest : List Event) (b : IsBetween (store_of plan) (terms_of plan) course events offset (item ∷ items) begun begun_keep start put)
+  pub at_rest_after : (events begun : List Event) (begun_keep keep kept : Option ℕ) (start next : Image → Type 0) (from : Image → Type 0) (put : List ℕ) (stored chunk then rest : List Event) (b : IsBetween (store_of plan) (terms_of plan) course events offset (item ∷ items) begun begun_keep start put)
       → IsAtRest (store_of plan) course b.lines stored keep from → (done : IsStored (store_of plan) keep chunk stored then from next) → then ++ rest ≡ after_line (terms_of plan).basis events offset item → kept ≡ keep → IsAtRest (store_of plan) course b.lines then kept next
   at_rest_after events begun begun_keep keep kept start next from put stored chunk then rest b at_rest done whole same =
       let after = after_line (terms_of plan).basis events offset item in

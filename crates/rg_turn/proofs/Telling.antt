@@ -31,7 +31,8 @@ use Rattle.rg_turn.proofs.Marking.{marks_due, stores_due, saves_due}
 pub next_by : {T : Type 0} (plan : Planned) (now : Option Image) (may : Image → Type 0) (told : Type 0) (cells : Cells) (s : Sitting T) → IsRunning plan now may told cells s → next_of s.reservoir ≡ next_offset (events_of now s)
 next_by plan now may told cells s r = next_is now may s.reservoir r.ready.in_step.reservoir.sound r.ready.in_step.reservoir.going
 
-few_by : {T : Type 0} (plan : Planned) (now : Option Image) (may : Image → Type 0) (told : Type 0) (cells : Cells) (s : Sitting T) → IsRunning plan now may told cells s → length (events_of now s) ≤ 2 ^ 40
+-- how many events there may be
+pub few_by : {T : Type 0} (plan : Planned) (now : Option Image) (may : Image → Type 0) (told : Type 0) (cells : Cells) (s : Sitting T) → IsRunning plan now may told cells s → length (events_of now s) ≤ 2 ^ 40
 few_by plan now may told cells s r =
     let log = r.ready.in_step.reservoir in
     omega (arith, long now s.reservoir, (log.sound.2.right log.going).few)

@@ -1,19 +1,19 @@
-ghost use Rattle.std.specs.Prelude.{◌≡◌, ◌⊎◌, ◌≤◌, ◌<◌, ◌+◌, ◌^◌, ◌==◌, [], ◌∷◌, ℕ, List, Option, length, false, IfErr, OnOk, IsErrOf};
+ghost use Rattle.std.specs.Prelude.{◌≡◌, ◌⊎◌, ◌≤◌, ◌<◌, ◌+◌, ◌^◌, ◌==◌, [], ◌∷◌, ℕ, List, Option, true, false, IfErr, OnOk, IsErrOf};
 ghost use Rattle.std.specs.List.{list_any};
+ghost use Rattle.std.specs.Option.{ForSome};
 ghost use Rattle.rg_bytes.specs.Counts.{Rose};
 ghost use Rattle.rg_host.specs.Moments.{Moments};
 ghost use Rattle.rg_frame.specs.LogState.{ReachesEnd};
 ghost use Rattle.rg_config.specs.Plans.{planned};
 ghost use Rattle.rg_config.specs.Read.{IsRead};
 ghost use Rattle.rg_row.specs.Rows.{row_of};
-ghost use Rattle.rg_reservoir.specs.Kept.{log_of, next_of};
+ghost use Rattle.rg_reservoir.specs.Chain.{IsIllegal};
+ghost use Rattle.rg_reservoir.specs.Kept.{base, log_of, next_of};
 ghost use Rattle.rg_verdict.specs.Verdicts.{read_as, or_reply};
 ghost use Rattle.rg_course.specs.Ahead.{after_line};
 ghost use Rattle.rg_course.specs.Stores.{Course, StaysOnCourse};
 ghost use Rattle.rg_store.specs.Stores.{store_of};
 ghost use Rattle.rg_recover.specs.Sessions.{events_of};
-ghost use Rattle.rg_turn.specs.Due.{is_due};
-ghost use Rattle.rg_turn.specs.declared.due.Due.{Due};
 ghost use Rattle.rg_turn.specs.Turning.{IsAwaiting, HasStopped, terms_of};
 
 use crate::due::due_at;
@@ -47,20 +47,30 @@ pub(crate) fn answer_line<H: Host, T: Table, L: Ledger>(
     ensures moments { (course : Course) (item : Option (List ℕ)) (items : List (Option (List ℕ))) →
         IsAwaiting (planned plan.now) course offset (item ∷ items) (H.now host.old) (H.may host.old) (H.said host.old) (T.tells session.old.engine.table) (T.cell session.old.engine.table) session.old →
         read_as (terms_of (planned plan.now)).basis offset item ≡ or_reply (row_of (planned plan.now).shape.fields offset line.now) →
-        (is_due plan.now.commit plan.now.save (length (events_of (H.now host.old) session.old)) (length (after_line (terms_of (planned plan.now)).basis (events_of (H.now host.old) session.old) offset item)) ≡ Due.Save → ⊥) →
         Moments H.clock H.since host.old host.new (StaysOnCourse (store_of (planned plan.now)) course []) }
     ensures awaits { (course : Course) (item : Option (List ℕ)) (items : List (Option (List ℕ))) →
         IsAwaiting (planned plan.now) course offset (item ∷ items) (H.now host.old) (H.may host.old) (H.said host.old) (T.tells session.old.engine.table) (T.cell session.old.engine.table) session.old →
         read_as (terms_of (planned plan.now)).basis offset item ≡ or_reply (row_of (planned plan.now).shape.fields offset line.now) →
-        (is_due plan.now.commit plan.now.save (length (events_of (H.now host.old) session.old)) (length (after_line (terms_of (planned plan.now)).basis (events_of (H.now host.old) session.old) offset item)) ≡ Due.Save → ⊥) →
         OnOk result (IsAwaiting (planned plan.now) course (offset + 1) items (H.now host.new) (H.may host.new) (H.said host.new) (T.tells session.new.engine.table) (T.cell session.new.engine.table) session.new) }
+    ensures events { (course : Course) (item : Option (List ℕ)) (items : List (Option (List ℕ))) →
+        IsAwaiting (planned plan.now) course offset (item ∷ items) (H.now host.old) (H.may host.old) (H.said host.old) (T.tells session.old.engine.table) (T.cell session.old.engine.table) session.old →
+        read_as (terms_of (planned plan.now)).basis offset item ≡ or_reply (row_of (planned plan.now).shape.fields offset line.now) →
+        OnOk result (events_of (H.now host.new) session.new ≡ after_line (terms_of (planned plan.now)).basis (events_of (H.now host.old) session.old) offset item) }
     ensures stopped { (course : Course) (item : Option (List ℕ)) (items : List (Option (List ℕ))) →
         IsAwaiting (planned plan.now) course offset (item ∷ items) (H.now host.old) (H.may host.old) (H.said host.old) (T.tells session.old.engine.table) (T.cell session.old.engine.table) session.old →
         read_as (terms_of (planned plan.now)).basis offset item ≡ or_reply (row_of (planned plan.now).shape.fields offset line.now) →
         IfErr result (λ fault. (fault ≡ TurnFault.Write) ⊎ HasStopped (planned plan.now) course (H.may host.new) (H.said host.new)) }
 
+    ensures never_bad { (course : Course) (items : List (Option (List ℕ))) (n : ℕ) →
+        IsAwaiting (planned plan.now) course offset items (H.now host.old) (H.may host.old) (H.said host.old) (T.tells session.old.engine.table) (T.cell session.old.engine.table) session.old →
+        IsErrOf result (TurnFault.Task (TaskFault.BadState n)) → ⊥ }
+
+    ensures damaged { (p : ℕ) → IsErrOf result (TurnFault.Task (TaskFault.Damaged p)) → ForSome (H.now host.new) (λ v. IsIllegal (base session.new.reservoir).shape.fields p (v (base session.new.reservoir).file)) }
     ensures write { IsErrOf result TurnFault.Write → Rose (H.out_faults host.old) (H.out_faults host.new) }
     ensures disk { IsErrOf result (TurnFault.Task TaskFault.Disk) → Rose (H.disk_faults host.old) (H.disk_faults host.new) }
+    ensures table { IsErrOf result (TurnFault.Task TaskFault.Table) → Rose (T.faults session.old.engine.table) (T.faults session.new.engine.table) }
+    ensures ended { IsErrOf result (TurnFault.Task TaskFault.Ended) → session.old.ended ≡ true }
+    ensures goes { session.old.ended ≡ false → OnOk result (session.new.ended ≡ false) }
     ensures reaches { session.new.ended ≡ false → ReachesEnd (log_of session.new.reservoir) (H.now host.new) }
     ensures disk_faults { H.disk_faults host.old ≤ H.disk_faults host.new }
     ensures out_faults { H.out_faults host.old ≤ H.out_faults host.new }

@@ -4,8 +4,10 @@ ghost use Rattle.rg_host.specs.Moments.{Moments};
 ghost use Rattle.rg_config.specs.Plans.{Planned};
 ghost use Rattle.rg_reservoir.specs.Kept.{next_of};
 ghost use Rattle.rg_verdict.specs.Verdicts.{read_as};
+ghost use Rattle.rg_course.specs.Ahead.{after_line};
 ghost use Rattle.rg_course.specs.Stores.{Course, StaysOnCourse};
 ghost use Rattle.rg_store.specs.Stores.{store_of};
+ghost use Rattle.rg_recover.specs.Sessions.{events_of};
 ghost use Rattle.rg_turn.specs.Turning.{IsAwaiting, HasStopped, terms_of};
 
 use crate::due::Due;
@@ -36,11 +38,16 @@ pub(crate) fn refuse_line<H: Host, T: Table>(
         IsAwaiting plan course offset (item ∷ items) (H.now host.old) (H.may host.old) (H.said host.old) (T.tells session.now.engine.table) (T.cell session.now.engine.table) session.now →
         read_as (terms_of plan).basis offset item ≡ Err reply.now →
         OnOk result (IsAwaiting plan course (offset + 1) items (H.now host.new) (H.may host.new) (H.said host.new) (T.tells session.now.engine.table) (T.cell session.now.engine.table) session.now) }
+    ensures events { (plan : Planned) (course : Course) (item : Option (List ℕ)) (items : List (Option (List ℕ))) →
+        IsAwaiting plan course offset (item ∷ items) (H.now host.old) (H.may host.old) (H.said host.old) (T.tells session.now.engine.table) (T.cell session.now.engine.table) session.now →
+        read_as (terms_of plan).basis offset item ≡ Err reply.now →
+        OnOk result (events_of (H.now host.new) session.now ≡ after_line (terms_of plan).basis (events_of (H.now host.old) session.now) offset item) }
     ensures stopped { (plan : Planned) (course : Course) (item : Option (List ℕ)) (items : List (Option (List ℕ))) →
         IsAwaiting plan course offset (item ∷ items) (H.now host.old) (H.may host.old) (H.said host.old) (T.tells session.now.engine.table) (T.cell session.now.engine.table) session.now →
         read_as (terms_of plan).basis offset item ≡ Err reply.now →
         IfErr result (λ fault. (fault ≡ TurnFault.Write) ⊎ HasStopped plan course (H.may host.new) (H.said host.new)) }
 
+    ensures reaches { H.now host.new ≡ H.now host.old }
     ensures write { IsErrOf result TurnFault.Write → Rose (H.out_faults host.old) (H.out_faults host.new) }
     ensures faults { IfErr result (λ fault. (fault ≡ TurnFault.Write) ⊎ (fault ≡ TurnFault.Task TaskFault.Memory)) }
     ensures disk_faults { H.disk_faults host.new ≡ H.disk_faults host.old }

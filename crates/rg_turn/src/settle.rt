@@ -7,10 +7,11 @@ ghost use Rattle.rg_config.specs.Plans.{Planned};
 ghost use Rattle.rg_reservoir.specs.Kept.{log_of};
 ghost use Rattle.rg_course.specs.Stores.{Course, StaysOnCourse};
 ghost use Rattle.rg_store.specs.Stores.{store_of};
-ghost use Rattle.rg_recover.specs.Sessions.{count_in};
+ghost use Rattle.rg_recover.specs.Sessions.{IsRunning, count_in};
 ghost use Rattle.rg_turn.specs.Turning.{IsMidTurn, HasStopped, IsDueDone};
 
 use crate::due::Due;
+use crate::save::save_all;
 use crate::store::store;
 use rg_host::Host;
 use rg_recover::{Session, TaskFault};
@@ -35,13 +36,15 @@ pub(crate) fn settle<H: Host, T: Table>(
         OnOk result (IsMidTurn plan course offset item items events begun begun_keep (H.may start) (H.now host.new) (H.may host.new) (H.said host.new) (T.tells session.new.engine.table) (T.cell session.new.engine.table) session.new) }
     ensures done { (plan : Planned) (course : Course) (offset : ℕ) (item : Option (List ℕ)) (items : List (Option (List ℕ))) (events begun : List Event) (begun_keep : Option ℕ) (start : H) →
         IsMidTurn plan course offset item items events begun begun_keep (H.may start) (H.now host.old) (H.may host.old) (H.said host.old) (T.tells session.old.engine.table) (T.cell session.old.engine.table) session.old →
-        (due ≡ Due.Save → ⊥) → OnOk result (IsDueDone due plan (H.now host.new) (H.may host.new) session.new) }
+        OnOk result (IsDueDone due plan (H.now host.new) (H.may host.new) session.new) }
 
-    ensures count { count_in session.new.reservoir ≡ count_in session.old.reservoir }
-    ensures table { session.new.engine ≡ session.old.engine }
+    ensures count { (plan : Planned) → IsRunning plan (H.now host.old) (H.may host.old) (T.tells session.old.engine.table) (T.cell session.old.engine.table) session.old →
+        OnOk result (count_in session.new.reservoir ≡ count_in session.old.reservoir) }
+
     ensures disk { IsErrOf result TaskFault.Disk → Rose (H.disk_faults host.old) (H.disk_faults host.new) }
+    ensures table { IsErrOf result TaskFault.Table → Rose (T.faults session.old.engine.table) (T.faults session.new.engine.table) }
     ensures ended { IsErrOf result TaskFault.Ended → session.old.ended ≡ true }
-    ensures faults { IfErr result (λ fault. (fault ≡ TaskFault.Disk) ⊎ (fault ≡ TaskFault.Memory) ⊎ (fault ≡ TaskFault.Ended)) }
+    ensures faults { IfErr result (λ fault. (fault ≡ TaskFault.Disk) ⊎ (fault ≡ TaskFault.Memory) ⊎ (fault ≡ TaskFault.Ended) ⊎ (fault ≡ TaskFault.Table)) }
     ensures goes { session.old.ended ≡ false → OnOk result (session.new.ended ≡ false) }
     ensures reaches { session.new.ended ≡ false → ReachesEnd (log_of session.new.reservoir) (H.now host.new) }
     ensures disk_faults { H.disk_faults host.old ≤ H.disk_faults host.new }
@@ -50,6 +53,6 @@ pub(crate) fn settle<H: Host, T: Table>(
     match due {
         Due::Nothing => Ok(()),
         Due::Commit => store(session, host),
-        Due::Save => store(session, host),
+        Due::Save => save_all(session, host),
     }
 }

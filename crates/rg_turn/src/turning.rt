@@ -1,19 +1,19 @@
-ghost use Rattle.std.specs.Prelude.{◌≡◌, ◌⊎◌, ◌≤◌, ◌<◌, ◌+◌, ◌^◌, ◌==◌, nat_lt, [], ◌∷◌, ℕ, List, Option, length, Err, false, IfErr, OnOk, IsErrOf};
+ghost use Rattle.std.specs.Prelude.{◌≡◌, ◌⊎◌, ◌≤◌, ◌<◌, ◌+◌, ◌^◌, ◌==◌, nat_lt, [], ◌∷◌, ℕ, List, Option, Err, true, false, IfErr, OnOk, IsErrOf};
 ghost use Rattle.std.specs.List.{list_any};
+ghost use Rattle.std.specs.Option.{ForSome};
 ghost use Rattle.rg_bytes.specs.Counts.{Rose};
 ghost use Rattle.rg_host.specs.Moments.{Moments};
 ghost use Rattle.rg_frame.specs.LogState.{ReachesEnd};
 ghost use Rattle.rg_config.specs.Plans.{Planned, planned};
 ghost use Rattle.rg_config.specs.Read.{IsRead};
 ghost use Rattle.rg_row.specs.Rows.{row_of};
-ghost use Rattle.rg_reservoir.specs.Kept.{log_of, next_of};
+ghost use Rattle.rg_reservoir.specs.Chain.{IsIllegal};
+ghost use Rattle.rg_reservoir.specs.Kept.{base, log_of, next_of};
 ghost use Rattle.rg_verdict.specs.Verdicts.{read_as, or_reply};
 ghost use Rattle.rg_course.specs.Ahead.{after_line};
 ghost use Rattle.rg_course.specs.Stores.{Course, StaysOnCourse};
 ghost use Rattle.rg_store.specs.Stores.{store_of};
 ghost use Rattle.rg_recover.specs.Sessions.{events_of};
-ghost use Rattle.rg_turn.specs.Due.{is_due};
-ghost use Rattle.rg_turn.specs.declared.due.Due.{Due};
 ghost use Rattle.rg_turn.specs.Turning.{IsAwaiting, HasStopped, terms_of};
 
 use crate::answer::answer_line;
@@ -77,21 +77,30 @@ impl<T: Table> Turning<T> {
         ensures moments { (course : Course) (item : Option (List ℕ)) (items : List (Option (List ℕ))) →
             IsAwaiting (planned plan.now) course self.old.offset (item ∷ items) (H.now host.old) (H.may host.old) (H.said host.old) (T.tells self.old.session.engine.table) (T.cell self.old.session.engine.table) self.old.session →
             read_as (terms_of (planned plan.now)).basis self.old.offset item ≡ or_reply (row_of (planned plan.now).shape.fields self.old.offset line.now) →
-            (is_due plan.now.commit plan.now.save (length (events_of (H.now host.old) self.old.session)) (length (after_line (terms_of (planned plan.now)).basis (events_of (H.now host.old) self.old.session) self.old.offset item)) ≡ Due.Save → ⊥) →
             Moments H.clock H.since host.old host.new (StaysOnCourse (store_of (planned plan.now)) course []) }
         ensures awaits { (course : Course) (item : Option (List ℕ)) (items : List (Option (List ℕ))) →
             IsAwaiting (planned plan.now) course self.old.offset (item ∷ items) (H.now host.old) (H.may host.old) (H.said host.old) (T.tells self.old.session.engine.table) (T.cell self.old.session.engine.table) self.old.session →
             read_as (terms_of (planned plan.now)).basis self.old.offset item ≡ or_reply (row_of (planned plan.now).shape.fields self.old.offset line.now) →
-            (is_due plan.now.commit plan.now.save (length (events_of (H.now host.old) self.old.session)) (length (after_line (terms_of (planned plan.now)).basis (events_of (H.now host.old) self.old.session) self.old.offset item)) ≡ Due.Save → ⊥) →
             OnOk result (IsAwaiting (planned plan.now) course self.new.offset items (H.now host.new) (H.may host.new) (H.said host.new) (T.tells self.new.session.engine.table) (T.cell self.new.session.engine.table) self.new.session) }
+        ensures events { (course : Course) (item : Option (List ℕ)) (items : List (Option (List ℕ))) →
+            IsAwaiting (planned plan.now) course self.old.offset (item ∷ items) (H.now host.old) (H.may host.old) (H.said host.old) (T.tells self.old.session.engine.table) (T.cell self.old.session.engine.table) self.old.session →
+            read_as (terms_of (planned plan.now)).basis self.old.offset item ≡ or_reply (row_of (planned plan.now).shape.fields self.old.offset line.now) →
+            OnOk result (events_of (H.now host.new) self.new.session ≡ after_line (terms_of (planned plan.now)).basis (events_of (H.now host.old) self.old.session) self.old.offset item) }
         ensures stopped { (course : Course) (item : Option (List ℕ)) (items : List (Option (List ℕ))) →
             IsAwaiting (planned plan.now) course self.old.offset (item ∷ items) (H.now host.old) (H.may host.old) (H.said host.old) (T.tells self.old.session.engine.table) (T.cell self.old.session.engine.table) self.old.session →
             read_as (terms_of (planned plan.now)).basis self.old.offset item ≡ or_reply (row_of (planned plan.now).shape.fields self.old.offset line.now) →
             IfErr result (λ fault. (fault ≡ TurnFault.Write) ⊎ HasStopped (planned plan.now) course (H.may host.new) (H.said host.new)) }
+        ensures never_bad { (course : Course) (items : List (Option (List ℕ))) (n : ℕ) →
+            IsAwaiting (planned plan.now) course self.old.offset items (H.now host.old) (H.may host.old) (H.said host.old) (T.tells self.old.session.engine.table) (T.cell self.old.session.engine.table) self.old.session →
+            IsErrOf result (TurnFault.Task (TaskFault.BadState n)) → ⊥ }
         ensures offset { OnOk result (self.new.offset ≡ self.old.offset + 1) }
 
+        ensures damaged { (p : ℕ) → IsErrOf result (TurnFault.Task (TaskFault.Damaged p)) → ForSome (H.now host.new) (λ v. IsIllegal (base self.new.session.reservoir).shape.fields p (v (base self.new.session.reservoir).file)) }
         ensures write { IsErrOf result TurnFault.Write → Rose (H.out_faults host.old) (H.out_faults host.new) }
         ensures disk { IsErrOf result (TurnFault.Task TaskFault.Disk) → Rose (H.disk_faults host.old) (H.disk_faults host.new) }
+        ensures table { IsErrOf result (TurnFault.Task TaskFault.Table) → Rose (T.faults self.old.session.engine.table) (T.faults self.new.session.engine.table) }
+        ensures ended { IsErrOf result (TurnFault.Task TaskFault.Ended) → self.old.session.ended ≡ true }
+        ensures goes { self.old.session.ended ≡ false → OnOk result (self.new.session.ended ≡ false) }
         ensures reaches { self.new.session.ended ≡ false → ReachesEnd (log_of self.new.session.reservoir) (H.now host.new) }
         ensures disk_faults { H.disk_faults host.old ≤ H.disk_faults host.new }
         ensures out_faults { H.out_faults host.old ≤ H.out_faults host.new }
@@ -130,12 +139,17 @@ impl<T: Table> Turning<T> {
             IsAwaiting plan course self.old.offset (item ∷ items) (H.now host.old) (H.may host.old) (H.said host.old) (T.tells self.old.session.engine.table) (T.cell self.old.session.engine.table) self.old.session →
             read_as (terms_of plan).basis self.old.offset item ≡ Err reply.now →
             OnOk result (IsAwaiting plan course self.new.offset items (H.now host.new) (H.may host.new) (H.said host.new) (T.tells self.new.session.engine.table) (T.cell self.new.session.engine.table) self.new.session) }
+        ensures events { (plan : Planned) (course : Course) (item : Option (List ℕ)) (items : List (Option (List ℕ))) →
+            IsAwaiting plan course self.old.offset (item ∷ items) (H.now host.old) (H.may host.old) (H.said host.old) (T.tells self.old.session.engine.table) (T.cell self.old.session.engine.table) self.old.session →
+            read_as (terms_of plan).basis self.old.offset item ≡ Err reply.now →
+            OnOk result (events_of (H.now host.new) self.new.session ≡ after_line (terms_of plan).basis (events_of (H.now host.old) self.old.session) self.old.offset item) }
         ensures stopped { (plan : Planned) (course : Course) (item : Option (List ℕ)) (items : List (Option (List ℕ))) →
             IsAwaiting plan course self.old.offset (item ∷ items) (H.now host.old) (H.may host.old) (H.said host.old) (T.tells self.old.session.engine.table) (T.cell self.old.session.engine.table) self.old.session →
             read_as (terms_of plan).basis self.old.offset item ≡ Err reply.now →
             IfErr result (λ fault. (fault ≡ TurnFault.Write) ⊎ HasStopped plan course (H.may host.new) (H.said host.new)) }
         ensures offset { OnOk result (self.new.offset ≡ self.old.offset + 1) }
         ensures session { self.new.session ≡ self.old.session }
+        ensures reaches { H.now host.new ≡ H.now host.old }
 
         ensures write { IsErrOf result TurnFault.Write → Rose (H.out_faults host.old) (H.out_faults host.new) }
         ensures faults { IfErr result (λ fault. (fault ≡ TurnFault.Write) ⊎ (fault ≡ TurnFault.Task TaskFault.Memory)) }

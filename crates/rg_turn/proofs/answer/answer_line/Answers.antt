@@ -1,16 +1,17 @@
-use Rattle.std.proofs.Common.{inl, inr, sym, ◌∙◌, subst, []}
+use Rattle.std.proofs.Common.{inl, inr, sym, ◌∙◌, ap, subst, [], Err}
 use Rattle.rg_host.proofs.Runs.{moments_then}
 use Rattle.rg_config.specs.Plans.{planned}
 use Rattle.rg_course.specs.Stores.{StaysOnCourse}
 use Rattle.rg_store.specs.Stores.{store_of}
 use Rattle.rg_recover.specs.Sessions.{events_of, stored_of}
 use Rattle.rg_turn.specs.Turning.{HasStopped}
+use Rattle.rg_turn.proofs.Causes.{same_task}
 use Rattle.rg_turn.proofs.Stepping.{line_steps, mid_stopped, has_stopped}
-use Rattle.rg_turn.proofs.Answered.{mid_taken, not_saved, all_moments, then_awaits}
+use Rattle.rg_turn.proofs.Answered.{mid_taken, all_moments, then_awaits, then_events}
 use Rattle.rg_turn.proofs.answer.answer_line.Goals as goal
 
 pub returns-in-Err-clause-moments : goal.returns-in-Err-clause-moments
-returns-in-Err-clause-moments g c = λ course item items a reads spared.
+returns-in-Err-clause-moments g c = λ course item items a reads.
     let h = c.args.host.now in
     let s = c.args.session.now in
     (line_steps g.H.Host.now g.H.Host.may g.H.Host.clock g.H.Host.since g.H.Host.said (planned c.args.plan.now) course c.args.offset item items (g.T.Table.tells s.engine.table) (g.T.Table.cell s.engine.table) h c.line.new.host s a (c.line.ensures.within_step (planned c.args.plan.now) s.keep a.running)).moments
@@ -22,7 +23,7 @@ returns-in-Err-clause-stopped g c = λ course item items a reads.
     inr (has_stopped g.H.Host.clock g.H.Host.since g.H.Host.may (planned c.args.plan.now) course (g.H.Host.said c.line.new.host) h c.line.new.host a.put (c.line.ensures.said ∙ a.told) (line_steps g.H.Host.now g.H.Host.may g.H.Host.clock g.H.Host.since g.H.Host.said (planned c.args.plan.now) course c.args.offset item items (g.T.Table.tells s.engine.table) (g.T.Table.cell s.engine.table) h c.line.new.host s a (c.line.ensures.within_step (planned c.args.plan.now) s.keep a.running)))
 
 pub returns-in-Err-settle-clause-moments : goal.returns-in-Err-settle-clause-moments
-returns-in-Err-settle-clause-moments g c = λ course item items a reads spared.
+returns-in-Err-settle-clause-moments g c = λ course item items a reads.
     let h = c.args.host.now in
     let s = c.args.session.now in
     let then = c.line.new.self in
@@ -41,7 +42,7 @@ returns-in-Err-settle-clause-stopped g c = λ course item items a reads.
     inr (c.in-Err-settle.ensures.stopped (planned c.args.plan.now) course c.args.offset item items (events_of (g.H.Host.now h) s) (stored_of (g.H.Host.now h) s) s.keep h m1)
 
 pub returns-in-Ok-tell-clause-moments : goal.returns-in-Ok-tell-clause-moments
-returns-in-Ok-tell-clause-moments g c = λ course item items a reads spared.
+returns-in-Ok-tell-clause-moments g c = λ course item items a reads.
     let h = c.args.host.now in
     let s = c.args.session.now in
     let then = c.line.new.self in
@@ -50,18 +51,15 @@ returns-in-Ok-tell-clause-moments g c = λ course item items a reads spared.
     let last = c.settle.new.session in
     let m2 = c.in-Ok-settle.ensures.mid_turn (planned c.args.plan.now) course c.args.offset item items (events_of (g.H.Host.now h) s) (stored_of (g.H.Host.now h) s) s.keep h m1 in
     let steps = c.settle.ensures.moments (planned c.args.plan.now) course c.args.offset item items (events_of (g.H.Host.now h) s) (stored_of (g.H.Host.now h) s) s.keep h m1 in
-    let done = c.in-Ok-settle.ensures.done (planned c.args.plan.now) course c.args.offset item items (events_of (g.H.Host.now h) s) (stored_of (g.H.Host.now h) s) s.keep h m1 (not_saved g.H.Host.now g.H.Host.may g.H.Host.clock g.H.Host.since g.H.Host.said (planned c.args.plan.now) course c.args.offset item items c.args.line.now (g.T.Table.tells s.engine.table) (g.T.Table.tells then.engine.table) (g.T.Table.cell s.engine.table) (g.T.Table.cell then.engine.table) h c.line.new.host s then a c.requires.next reads (c.in-Ok.ensures.running (planned c.args.plan.now) a.running) c.line.ensures.said c.line.ensures.stays.1
-    (c.line.ensures.within_step (planned c.args.plan.now) s.keep a.running) (c.in-Ok.ensures.stored (planned c.args.plan.now) s.keep a.running) (c.in-Ok.ensures.events (planned c.args.plan.now) a.running)
-    (g.T.Table.tells last.engine.table) (g.T.Table.cell last.engine.table) c.settle.new.host last m2 steps
-    c.due_at-due.result c.count-before.result c.count.result c.count-before.ensures c.count.ensures c.settle.ensures.count c.due_at-due.ensures spared) in
+    let done = c.in-Ok-settle.ensures.done (planned c.args.plan.now) course c.args.offset item items (events_of (g.H.Host.now h) s) (stored_of (g.H.Host.now h) s) s.keep h m1 in
     all_moments g.H.Host.now g.H.Host.may g.H.Host.clock g.H.Host.since g.H.Host.said (planned c.args.plan.now) course c.args.offset item items c.args.line.now (g.T.Table.tells s.engine.table) (g.T.Table.tells then.engine.table) (g.T.Table.cell s.engine.table) (g.T.Table.cell then.engine.table) h c.line.new.host s then a c.requires.next reads (c.in-Ok.ensures.running (planned c.args.plan.now) a.running) c.line.ensures.said c.line.ensures.stays.1
     (c.line.ensures.within_step (planned c.args.plan.now) s.keep a.running) (c.in-Ok.ensures.stored (planned c.args.plan.now) s.keep a.running) (c.in-Ok.ensures.events (planned c.args.plan.now) a.running)
     (g.T.Table.tells last.engine.table) (g.T.Table.cell last.engine.table) c.settle.new.host last m2 steps
-    c.due_at-due.result c.count-before.result c.count.result c.count-before.ensures c.count.ensures c.settle.ensures.count c.due_at-due.ensures
+    c.due_at-due.result c.count-before.result c.count.result c.count-before.ensures c.count.ensures (c.in-Ok-settle.ensures.count (planned c.args.plan.now) m1.running) c.due_at-due.ensures
     c.requires.small done c.in-Ok.reply (c.in-Ok.ensures.reply (planned c.args.plan.now) a.running) c.tell.new.host c.tell.ensures.leaves c.tell.ensures.part
 
 pub returns-in-Ok-tell-clause-awaits : goal.returns-in-Ok-tell-clause-awaits
-returns-in-Ok-tell-clause-awaits g c = λ course item items a reads spared.
+returns-in-Ok-tell-clause-awaits g c = λ course item items a reads.
     let h = c.args.host.now in
     let s = c.args.session.now in
     let then = c.line.new.self in
@@ -70,18 +68,15 @@ returns-in-Ok-tell-clause-awaits g c = λ course item items a reads spared.
     let last = c.settle.new.session in
     let m2 = c.in-Ok-settle.ensures.mid_turn (planned c.args.plan.now) course c.args.offset item items (events_of (g.H.Host.now h) s) (stored_of (g.H.Host.now h) s) s.keep h m1 in
     let steps = c.settle.ensures.moments (planned c.args.plan.now) course c.args.offset item items (events_of (g.H.Host.now h) s) (stored_of (g.H.Host.now h) s) s.keep h m1 in
-    let done = c.in-Ok-settle.ensures.done (planned c.args.plan.now) course c.args.offset item items (events_of (g.H.Host.now h) s) (stored_of (g.H.Host.now h) s) s.keep h m1 (not_saved g.H.Host.now g.H.Host.may g.H.Host.clock g.H.Host.since g.H.Host.said (planned c.args.plan.now) course c.args.offset item items c.args.line.now (g.T.Table.tells s.engine.table) (g.T.Table.tells then.engine.table) (g.T.Table.cell s.engine.table) (g.T.Table.cell then.engine.table) h c.line.new.host s then a c.requires.next reads (c.in-Ok.ensures.running (planned c.args.plan.now) a.running) c.line.ensures.said c.line.ensures.stays.1
-    (c.line.ensures.within_step (planned c.args.plan.now) s.keep a.running) (c.in-Ok.ensures.stored (planned c.args.plan.now) s.keep a.running) (c.in-Ok.ensures.events (planned c.args.plan.now) a.running)
-    (g.T.Table.tells last.engine.table) (g.T.Table.cell last.engine.table) c.settle.new.host last m2 steps
-    c.due_at-due.result c.count-before.result c.count.result c.count-before.ensures c.count.ensures c.settle.ensures.count c.due_at-due.ensures spared) in
+    let done = c.in-Ok-settle.ensures.done (planned c.args.plan.now) course c.args.offset item items (events_of (g.H.Host.now h) s) (stored_of (g.H.Host.now h) s) s.keep h m1 in
     then_awaits g.H.Host.now g.H.Host.may g.H.Host.clock g.H.Host.since g.H.Host.said (planned c.args.plan.now) course c.args.offset item items c.args.line.now (g.T.Table.tells s.engine.table) (g.T.Table.tells then.engine.table) (g.T.Table.cell s.engine.table) (g.T.Table.cell then.engine.table) h c.line.new.host s then a c.requires.next reads (c.in-Ok.ensures.running (planned c.args.plan.now) a.running) c.line.ensures.said c.line.ensures.stays.1
     (c.line.ensures.within_step (planned c.args.plan.now) s.keep a.running) (c.in-Ok.ensures.stored (planned c.args.plan.now) s.keep a.running) (c.in-Ok.ensures.events (planned c.args.plan.now) a.running)
     (g.T.Table.tells last.engine.table) (g.T.Table.cell last.engine.table) c.settle.new.host last m2 steps
-    c.due_at-due.result c.count-before.result c.count.result c.count-before.ensures c.count.ensures c.settle.ensures.count c.due_at-due.ensures
+    c.due_at-due.result c.count-before.result c.count.result c.count-before.ensures c.count.ensures (c.in-Ok-settle.ensures.count (planned c.args.plan.now) m1.running) c.due_at-due.ensures
     c.requires.small done c.in-Ok.reply (c.in-Ok.ensures.reply (planned c.args.plan.now) a.running) c.tell.new.host c.tell.ensures.leaves c.in-Ok-tell.ensures.all
 
-pub returns-clause-moments : goal.returns-clause-moments
-returns-clause-moments g c = λ course item items a reads spared.
+pub returns-in-Ok-tell-clause-events : goal.returns-in-Ok-tell-clause-events
+returns-in-Ok-tell-clause-events g c = λ course item items a reads.
     let h = c.args.host.now in
     let s = c.args.session.now in
     let then = c.line.new.self in
@@ -90,14 +85,28 @@ returns-clause-moments g c = λ course item items a reads spared.
     let last = c.settle.new.session in
     let m2 = c.in-Ok-settle.ensures.mid_turn (planned c.args.plan.now) course c.args.offset item items (events_of (g.H.Host.now h) s) (stored_of (g.H.Host.now h) s) s.keep h m1 in
     let steps = c.settle.ensures.moments (planned c.args.plan.now) course c.args.offset item items (events_of (g.H.Host.now h) s) (stored_of (g.H.Host.now h) s) s.keep h m1 in
-    let done = c.in-Ok-settle.ensures.done (planned c.args.plan.now) course c.args.offset item items (events_of (g.H.Host.now h) s) (stored_of (g.H.Host.now h) s) s.keep h m1 (not_saved g.H.Host.now g.H.Host.may g.H.Host.clock g.H.Host.since g.H.Host.said (planned c.args.plan.now) course c.args.offset item items c.args.line.now (g.T.Table.tells s.engine.table) (g.T.Table.tells then.engine.table) (g.T.Table.cell s.engine.table) (g.T.Table.cell then.engine.table) h c.line.new.host s then a c.requires.next reads (c.in-Ok.ensures.running (planned c.args.plan.now) a.running) c.line.ensures.said c.line.ensures.stays.1
+    let done = c.in-Ok-settle.ensures.done (planned c.args.plan.now) course c.args.offset item items (events_of (g.H.Host.now h) s) (stored_of (g.H.Host.now h) s) s.keep h m1 in
+    then_events g.H.Host.now g.H.Host.may g.H.Host.clock g.H.Host.since g.H.Host.said (planned c.args.plan.now) course c.args.offset item items c.args.line.now (g.T.Table.tells s.engine.table) (g.T.Table.tells then.engine.table) (g.T.Table.cell s.engine.table) (g.T.Table.cell then.engine.table) h c.line.new.host s then a c.requires.next reads (c.in-Ok.ensures.running (planned c.args.plan.now) a.running) c.line.ensures.said c.line.ensures.stays.1
     (c.line.ensures.within_step (planned c.args.plan.now) s.keep a.running) (c.in-Ok.ensures.stored (planned c.args.plan.now) s.keep a.running) (c.in-Ok.ensures.events (planned c.args.plan.now) a.running)
     (g.T.Table.tells last.engine.table) (g.T.Table.cell last.engine.table) c.settle.new.host last m2 steps
-    c.due_at-due.result c.count-before.result c.count.result c.count-before.ensures c.count.ensures c.settle.ensures.count c.due_at-due.ensures spared) in
+    c.due_at-due.result c.count-before.result c.count.result c.count-before.ensures c.count.ensures (c.in-Ok-settle.ensures.count (planned c.args.plan.now) m1.running) c.due_at-due.ensures
+    c.requires.small done c.in-Ok.reply (c.in-Ok.ensures.reply (planned c.args.plan.now) a.running) c.tell.new.host c.tell.ensures.leaves
+
+pub returns-clause-moments : goal.returns-clause-moments
+returns-clause-moments g c = λ course item items a reads.
+    let h = c.args.host.now in
+    let s = c.args.session.now in
+    let then = c.line.new.self in
+    let m1 = mid_taken g.H.Host.now g.H.Host.may g.H.Host.clock g.H.Host.since g.H.Host.said (planned c.args.plan.now) course c.args.offset item items c.args.line.now (g.T.Table.tells s.engine.table) (g.T.Table.tells then.engine.table) (g.T.Table.cell s.engine.table) (g.T.Table.cell then.engine.table) h c.line.new.host s then a c.requires.next reads (c.in-Ok.ensures.running (planned c.args.plan.now) a.running) c.line.ensures.said c.line.ensures.stays.1
+    (c.line.ensures.within_step (planned c.args.plan.now) s.keep a.running) (c.in-Ok.ensures.stored (planned c.args.plan.now) s.keep a.running) (c.in-Ok.ensures.events (planned c.args.plan.now) a.running) in
+    let last = c.settle.new.session in
+    let m2 = c.in-Ok-settle.ensures.mid_turn (planned c.args.plan.now) course c.args.offset item items (events_of (g.H.Host.now h) s) (stored_of (g.H.Host.now h) s) s.keep h m1 in
+    let steps = c.settle.ensures.moments (planned c.args.plan.now) course c.args.offset item items (events_of (g.H.Host.now h) s) (stored_of (g.H.Host.now h) s) s.keep h m1 in
+    let done = c.in-Ok-settle.ensures.done (planned c.args.plan.now) course c.args.offset item items (events_of (g.H.Host.now h) s) (stored_of (g.H.Host.now h) s) s.keep h m1 in
     all_moments g.H.Host.now g.H.Host.may g.H.Host.clock g.H.Host.since g.H.Host.said (planned c.args.plan.now) course c.args.offset item items c.args.line.now (g.T.Table.tells s.engine.table) (g.T.Table.tells then.engine.table) (g.T.Table.cell s.engine.table) (g.T.Table.cell then.engine.table) h c.line.new.host s then a c.requires.next reads (c.in-Ok.ensures.running (planned c.args.plan.now) a.running) c.line.ensures.said c.line.ensures.stays.1
     (c.line.ensures.within_step (planned c.args.plan.now) s.keep a.running) (c.in-Ok.ensures.stored (planned c.args.plan.now) s.keep a.running) (c.in-Ok.ensures.events (planned c.args.plan.now) a.running)
     (g.T.Table.tells last.engine.table) (g.T.Table.cell last.engine.table) c.settle.new.host last m2 steps
-    c.due_at-due.result c.count-before.result c.count.result c.count-before.ensures c.count.ensures c.settle.ensures.count c.due_at-due.ensures
+    c.due_at-due.result c.count-before.result c.count.result c.count-before.ensures c.count.ensures (c.in-Ok-settle.ensures.count (planned c.args.plan.now) m1.running) c.due_at-due.ensures
     c.requires.small done c.in-Ok.reply (c.in-Ok.ensures.reply (planned c.args.plan.now) a.running) c.tell.new.host c.tell.ensures.leaves c.tell.ensures.part
 
 pub returns-clause-stopped : goal.returns-clause-stopped
@@ -113,3 +122,6 @@ returns-clause-stopped g c = λ course item items a reads.
       | inl write ↦ inl write
       | inr same ↦ inr (subst (λ (k : g.row.H.Denot). HasStopped (planned c.args.plan.now) course (g.H.Host.may k) (g.H.Host.said k)) (sym same) (mid_stopped g.H.Host.now g.H.Host.may g.H.Host.clock g.H.Host.since g.H.Host.said (planned c.args.plan.now) course c.args.offset item items (g.T.Table.tells last.engine.table) (g.T.Table.cell last.engine.table) (events_of (g.H.Host.now h) s) (stored_of (g.H.Host.now h) s) s.keep h c.settle.new.host last m2))
     ]
+
+pub returns-in-Err-clause-never_bad : goal.returns-in-Err-clause-never_bad
+returns-in-Err-clause-never_bad g c = λ course items n a is. c.line.ensures.never_bad (planned c.args.plan.now) n a.running (c.in-Err.is ∙ ap (λ v. Err v) (same_task c.in-Err.fault _ is))

@@ -2,7 +2,7 @@ use Rattle.std.proofs.Common.{inl, inr, sym, subst}
 use Rattle.rg_recover.specs.Sessions.{events_of, stored_of}
 use Rattle.rg_turn.specs.Turning.{HasStopped}
 use Rattle.rg_turn.proofs.Stepping.{mid_stopped}
-use Rattle.rg_turn.proofs.Answered.{refused_line, refused_moments, refused_awaits}
+use Rattle.rg_turn.proofs.Answered.{refused_line, refused_moments, refused_awaits, refused_events}
 use Rattle.rg_turn.proofs.refuse.refuse_line.Goals as goal
 
 pub returns-in-Ok-clause-moments : goal.returns-in-Ok-clause-moments
@@ -22,6 +22,12 @@ returns-in-Ok-clause-awaits g c = λ plan course item items a reads.
     let s = c.args.session.now in
     refused_awaits g.H.Host.now g.H.Host.may g.H.Host.clock g.H.Host.since g.H.Host.said g.met.H.Host.only_now g.met.H.Host.sinks plan course c.args.offset item items (g.T.Table.tells s.engine.table) (g.T.Table.cell s.engine.table) c.args.host.now s a
     c.args.reply.now c.requires.next c.requires.small reads c.tell.new.host c.tell.ensures.leaves c.in-Ok.ensures.all
+
+pub returns-in-Ok-clause-events : goal.returns-in-Ok-clause-events
+returns-in-Ok-clause-events g c = λ plan course item items a reads.
+    let s = c.args.session.now in
+    refused_events g.H.Host.now g.H.Host.may g.H.Host.clock g.H.Host.since g.H.Host.said g.met.H.Host.only_now g.met.H.Host.sinks plan course c.args.offset item items (g.T.Table.tells s.engine.table) (g.T.Table.cell s.engine.table) c.args.host.now s a
+    c.args.reply.now c.requires.next c.requires.small reads c.tell.new.host c.tell.ensures.leaves
 
 pub returns-in-Err-clause-stopped : goal.returns-in-Err-clause-stopped
 returns-in-Err-clause-stopped g c = λ plan course item items a reads.

@@ -1,4 +1,4 @@
-use Rattle.std.proofs.Common.{◌++◌, [], refl}
+use Rattle.std.proofs.Common.{[], refl}
 use Rattle.rg_host.proofs.Runs.{leaves_files-none}
 use Rattle.rg_host.proofs.PutRuns.{puts-nothing}
 use Rattle.rg_turn.proofs.tell.tell.Goals as goal

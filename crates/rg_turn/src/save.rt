@@ -1,0 +1,53 @@
+ghost use Rattle.std.specs.Prelude.{◌≡◌, ◌⊎◌, ◌≤◌, ℕ, List, Option, [], true, false, IfErr, OnOk, OnErr, IsErrOf};
+ghost use Rattle.rg_bytes.specs.Counts.{Rose};
+ghost use Rattle.rg_host.specs.Moments.{Moments};
+ghost use Rattle.rg_event.specs.declared.event.Event.{Event};
+ghost use Rattle.rg_frame.specs.LogState.{ReachesEnd};
+ghost use Rattle.rg_config.specs.Plans.{Planned};
+ghost use Rattle.rg_reservoir.specs.Kept.{log_of};
+ghost use Rattle.rg_course.specs.Stores.{Course, StaysOnCourse};
+ghost use Rattle.rg_store.specs.Stores.{store_of};
+ghost use Rattle.rg_recover.specs.Sessions.{IsRunning, count_in};
+ghost use Rattle.rg_turn.specs.declared.due.Due.{Due};
+ghost use Rattle.rg_turn.specs.Turning.{IsMidTurn, HasStopped, IsDueDone};
+
+use rg_host::Host;
+use rg_recover::{Session, TaskFault};
+use rg_state::Table;
+
+/// Stores all events of a session within a turn, and saves a checkpoint of them.
+pub(crate) fn save_all<H: Host, T: Table>(
+    session: &mut Session<T>,
+    host: &mut H,
+) -> Result<(), TaskFault>
+    requires reaches { session.old.ended ≡ false → ReachesEnd (log_of session.old.reservoir) (H.now host.old) }
+
+    ensures moments { (plan : Planned) (course : Course) (offset : ℕ) (item : Option (List ℕ)) (items : List (Option (List ℕ))) (events begun : List Event) (begun_keep : Option ℕ) (start : H) →
+        IsMidTurn plan course offset item items events begun begun_keep (H.may start) (H.now host.old) (H.may host.old) (H.said host.old) (T.tells session.old.engine.table) (T.cell session.old.engine.table) session.old →
+        Moments H.clock H.since host.old host.new (StaysOnCourse (store_of plan) course []) }
+    ensures stopped { (plan : Planned) (course : Course) (offset : ℕ) (item : Option (List ℕ)) (items : List (Option (List ℕ))) (events begun : List Event) (begun_keep : Option ℕ) (start : H) →
+        IsMidTurn plan course offset item items events begun begun_keep (H.may start) (H.now host.old) (H.may host.old) (H.said host.old) (T.tells session.old.engine.table) (T.cell session.old.engine.table) session.old →
+        OnErr result (HasStopped plan course (H.may host.new) (H.said host.new)) }
+    ensures mid_turn { (plan : Planned) (course : Course) (offset : ℕ) (item : Option (List ℕ)) (items : List (Option (List ℕ))) (events begun : List Event) (begun_keep : Option ℕ) (start : H) →
+        IsMidTurn plan course offset item items events begun begun_keep (H.may start) (H.now host.old) (H.may host.old) (H.said host.old) (T.tells session.old.engine.table) (T.cell session.old.engine.table) session.old →
+        OnOk result (IsMidTurn plan course offset item items events begun begun_keep (H.may start) (H.now host.new) (H.may host.new) (H.said host.new) (T.tells session.new.engine.table) (T.cell session.new.engine.table) session.new) }
+    ensures done { (plan : Planned) → IsRunning plan (H.now host.old) (H.may host.old) (T.tells session.old.engine.table) (T.cell session.old.engine.table) session.old →
+        OnOk result (IsDueDone Due.Save plan (H.now host.new) (H.may host.new) session.new) }
+
+    ensures count { (plan : Planned) → IsRunning plan (H.now host.old) (H.may host.old) (T.tells session.old.engine.table) (T.cell session.old.engine.table) session.old →
+        OnOk result (count_in session.new.reservoir ≡ count_in session.old.reservoir) }
+
+    ensures faults { IfErr result (λ fault. (fault ≡ TaskFault.Disk) ⊎ (fault ≡ TaskFault.Memory) ⊎ (fault ≡ TaskFault.Ended) ⊎ (fault ≡ TaskFault.Table)) }
+    ensures disk { IsErrOf result TaskFault.Disk → Rose (H.disk_faults host.old) (H.disk_faults host.new) }
+    ensures table { IsErrOf result TaskFault.Table → Rose (T.faults session.old.engine.table) (T.faults session.new.engine.table) }
+    ensures ended { IsErrOf result TaskFault.Ended → session.old.ended ≡ true }
+    ensures goes { OnOk result (session.new.ended ≡ false) }
+    ensures reaches { session.new.ended ≡ false → ReachesEnd (log_of session.new.reservoir) (H.now host.new) }
+    ensures disk_faults { H.disk_faults host.old ≤ H.disk_faults host.new }
+    ensures out_faults { H.out_faults host.new ≡ H.out_faults host.old }
+{
+    match session.save(host) {
+        Ok(_count) => Ok(()),
+        Err(fault) => Err(fault),
+    }
+}

@@ -7,3 +7,4 @@ pub mod Running
 pub mod Beside
 pub mod Writing
 pub mod Saved
+pub mod Resuming

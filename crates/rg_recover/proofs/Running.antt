@@ -7,7 +7,8 @@ use Rattle.rg_state.specs.Rows.{Cells}
 use Rattle.rg_reservoir.specs.Kept.{base}
 use Rattle.rg_course.specs.Steps.{IsStepped}
 use Rattle.rg_store.specs.Stores.{store_of}
-use Rattle.rg_recover.specs.Sessions.{Sitting, IsReady, IsKept, IsRunning}
+use Rattle.rg_store.specs.Opened.{IsKept}
+use Rattle.rg_recover.specs.Sessions.{Sitting, IsReady, IsRunning}
 
 -- the slot that is kept, after a step on the log
 pub kept_still : (plan : Planned) (may after : Image → Type 0) (keep : Option ℕ) (chunk : List Event) (slot saved committed then : ℕ) → keep ≡ Some slot → committed ≤ then → ((u : Image) → after u → IsStepped (store_of plan) keep chunk may u)

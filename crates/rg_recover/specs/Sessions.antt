@@ -1,5 +1,5 @@
 -- A session as plain data, and when it runs.
-use Rattle.std.specs.Prelude.{◌≡◌, ◌+◌, ◌<◌, ◌≤◌, ℕ, Bool, false, List, length, Option, Some, refl}
+use Rattle.std.specs.Prelude.{◌≡◌, ◌+◌, ◌≤◌, ℕ, Bool, false, List, length, Option, Some, refl}
 use Rattle.std.specs.Coded.{Coded, code_by, coded×, coded_bool, coded_list, coded_ℕ, coded_option}
 use Rattle.rg_host.specs.Image.{Image, NothingPending}
 use Rattle.rg_event.specs.Shapes.{Shape}
@@ -14,8 +14,7 @@ use Rattle.rg_reservoir.specs.Kept.{base, opened, room_of, stored, all_events}
 use Rattle.rg_reservoir.specs.contracts.reservoir.Reservoir.{the_row as reservoir_row}
 use Rattle.rg_reservoir.specs.declared.reservoir.Reservoir.{Reservoir}
 use Rattle.rg_checkpoint.specs.Slots.{IsKeep}
-use Rattle.rg_store.specs.Opened.{IsInStep}
-use Rattle.rg_store.specs.Stores.{HasSaved}
+use Rattle.rg_store.specs.Opened.{IsInStep, IsKept}
 
 -- its reservoir, its engine, the printed texts of its queries, the slot that was used or written last and of how many events that one is, and whether it has ended
 pub record Sitting (T : Type 0) : Type 0 where
@@ -52,12 +51,6 @@ pub record IsWhole {T : Type 0} (shape : Shape) (most : ℕ) (slots_ended : Bool
   pub reservoir_goes : s.ended ≡ false → (base s.reservoir).ended ≡ false
   pub slots_go : s.ended ≡ false → slots_ended ≡ false
   pub keep : IsKeep s.keep
-
--- each image that might be left has the plan's checkpoint in that slot, of so many of the stored events
-pub record IsKept (plan : Planned) (may : Image → Type 0) (slot saved committed : ℕ) : Type 0 where
-  pub below : slot < 2
-  pub stored : saved ≤ committed
-  pub has : (u : Image) → may u → HasSaved plan slot saved u
 
 -- An engine stands for all events of a sound reservoir over the plan's log, its table tells its rows, and the events are of columns
 -- that serve the plan: it answers the next event as from scratch.

@@ -1,12 +1,13 @@
 ghost use Rattle.std.specs.Prelude.{◌≡◌, ◌≤◌, length, false};
 ghost use Rattle.rg_checkpoint.specs.Slots.{IsKeep};
-ghost use Rattle.rg_reservoir.specs.Kept.{base, opened, room_of, next_of};
+ghost use Rattle.rg_reservoir.specs.Kept.{base, opened as in_open_chunk, room_of, next_of};
 ghost use Rattle.rg_window.specs.Placed.{AreWithin};
 ghost use Rattle.rg_recover.specs.Sessions.{count_in};
 
 use rg_checkpoint::Slots;
 use rg_engine::Engine;
 use rg_event::{Schema, Texts};
+use rg_open::Opened;
 use rg_reservoir::Reservoir;
 use rg_state::Table;
 use std::alloc::Global;
@@ -44,48 +45,30 @@ impl<T: Table> Model for Session<T> {
     ghost invariant = { λ s. IsWhole s.schema s.most s.slots.ended (record { reservoir = s.reservoir; engine = s.engine; texts = s.texts; keep = s.keep; saved = s.saved; ended = s.ended }) };
 }
 
-/// What a session is made of.
-#[derive(Drop)]
-pub struct Parts<T: Table> {
-    /// The columns of the plan.
-    pub schema: Schema,
-    /// The printed texts of its queries, in order.
-    pub texts: Texts,
-    /// How many events there may be.
-    pub most: u64,
-    pub reservoir: Reservoir,
-    pub engine: Engine<T>,
-    pub slots: Slots,
-    /// The slot that was used, and of how many events its checkpoint is, 0 where none was.
-    pub keep: Option<u32>,
-    pub saved: u64,
-}
-
 impl<T: Table> Session<T> {
-    /// A session over a reservoir, and the engine that goes on from its events.
-    pub fn new(alloc: Global, parts: Parts<T>) -> Session<T>
-        requires shape { parts.schema ≡ (base parts.reservoir).shape }
-        requires most { parts.most ≡ (base parts.reservoir).limit }
-        requires within { AreWithin parts.engine.spots (count_in parts.reservoir) }
-        requires some_room { 1 ≤ room_of parts.reservoir }
-        requires few { room_of parts.reservoir ≤ 4096 }
-        requires fits { length (opened parts.reservoir) ≤ room_of parts.reservoir }
-        requires engine_goes { parts.engine.ended ≡ false }
-        requires reservoir_goes { (base parts.reservoir).ended ≡ false }
-        requires slots_go { parts.slots.ended ≡ false }
-        requires keep { IsKeep parts.keep }
-        ensures { result ≡ record { reservoir = parts.reservoir; engine = parts.engine; texts = parts.texts; keep = parts.keep; saved = parts.saved; ended = false } }
+    /// A session of a store that was opened, of at most `most` events.
+    pub(crate) fn new(alloc: Global, most: u64, opened: Opened<T>) -> Session<T>
+        requires shape { opened.schema ≡ (base opened.reservoir).shape }
+        requires most { most ≡ (base opened.reservoir).limit }
+        requires within { AreWithin opened.engine.spots (count_in opened.reservoir) }
+        requires some_room { 1 ≤ room_of opened.reservoir }
+        requires few { room_of opened.reservoir ≤ 4096 }
+        requires fits { length (in_open_chunk opened.reservoir) ≤ room_of opened.reservoir }
+        requires engine_goes { opened.engine.ended ≡ false }
+        requires reservoir_goes { (base opened.reservoir).ended ≡ false }
+        requires slots_go { opened.slots.ended ≡ false }
+        requires keep { IsKeep opened.keep }
+        ensures { result ≡ record { reservoir = opened.reservoir; engine = opened.engine; texts = opened.texts; keep = opened.keep; saved = opened.saved; ended = false } }
     {
-        let Parts {
+        let Opened {
             schema,
             texts,
-            most,
             reservoir,
             engine,
             slots,
             keep,
             saved,
-        } = parts;
+        } = opened;
         Session {
             alloc,
             schema,

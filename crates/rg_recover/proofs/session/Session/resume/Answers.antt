@@ -1,0 +1,39 @@
+use Rattle.std.proofs.Common.{◌≡◌, ◌∙◌, ◌+◌, List, take, sym, subst}
+use Rattle.rg_event.specs.declared.event.Event.{Event}
+use Rattle.rg_config.specs.Plans.{planned}
+use Rattle.rg_engine.specs.Passed.{passed_count}
+use Rattle.rg_open.specs.Opening.{IsResumed}
+use Rattle.rg_recover.specs.Sessions.{Sitting, IsRunning, events_of, stored_of}
+use Rattle.rg_recover.proofs.Resuming.{started_running, all_of_none, stored_of_none}
+use Rattle.rg_recover.proofs.session.Session.resume.Goals as goal
+
+pub returns-in-Ok-clause-running : goal.returns-in-Ok-clause-running
+returns-in-Ok-clause-running g c = λ openable tells.
+    let h = c.open_store.new.host in
+    let o = c.in-Ok.opened in
+    subst (λ (s : Sitting g.row.T.Denot). IsRunning (planned c.args.plan.now) (g.H.Host.now h) (g.H.Host.may h) (g.T.Table.tells s.engine.table) (g.T.Table.cell s.engine.table) s) (sym c.new.ensures)
+    (started_running (planned c.args.plan.now) (g.H.Host.now h) (g.H.Host.may h) (g.T.Table.tells o.engine.table) (g.T.Table.cell o.engine.table) o.reservoir o.engine o.texts o.keep o.saved
+    (c.in-Ok.ensures.started openable tells) (c.in-Ok.ensures.settled openable.image openable.told) c.in-Ok.ensures.reservoir.3)
+
+pub returns-in-Ok-clause-passed : goal.returns-in-Ok-clause-passed
+returns-in-Ok-clause-passed g c = λ openable.
+    let h = g.H.Host.now c.open_store.new.host in
+    let r = c.in-Ok.opened.reservoir in
+    let task = c.args.plan.now.task in
+    let from = c.in-Ok.resumed.from in
+    subst (λ (s : Sitting g.row.T.Denot). c.open_store.new.steps ≡ c.args.steps.now + passed_count task (take from (events_of h s)) (events_of h s)) (sym c.new.ensures)
+    (subst (λ (l : List Event). c.open_store.new.steps ≡ c.args.steps.now + passed_count task (take from l) l) (sym (all_of_none h r c.in-Ok.ensures.none.0)) (c.in-Ok.ensures.passed openable))
+
+pub returns-in-Ok-clause-events : goal.returns-in-Ok-clause-events
+returns-in-Ok-clause-events g c = λ v events told has.
+    let h = g.H.Host.now c.open_store.new.host in
+    let r = c.in-Ok.opened.reservoir in
+    let are = c.in-Ok.ensures.events v events told has in
+    subst (λ (s : Sitting g.row.T.Denot). (events_of h s ≡ events) × (stored_of h s ≡ events)) (sym c.new.ensures)
+    (all_of_none h r c.in-Ok.ensures.none.0 ∙ are, stored_of_none h r ∙ are)
+
+pub returns-in-Ok-clause-resumed : goal.returns-in-Ok-clause-resumed
+returns-in-Ok-clause-resumed g c = λ v told.
+    let plan = c.args.plan.now in
+    subst (λ (s : Sitting g.row.T.Denot). IsResumed v (g.H.Host.now c.open_store.new.host) plan.queries plan.schema.fields plan.task s.reservoir s.engine s.keep c.in-Ok.resumed.from c.args.steps.now c.open_store.new.steps) (sym c.new.ensures)
+    (c.in-Ok.ensures.resumed v told)

@@ -8,3 +8,4 @@ pub mod Turn
 pub mod Run
 pub mod Call
 pub mod Faults
+pub mod Real

@@ -1,6 +1,9 @@
 //! Answers each payment with exact metrics over windows that end at that payment.
 #![tactic(auto)]
 
+ghost use Rattle.std.specs.Prelude.{◌≡◌, ◌↔◌, Some};
+ghost use Rattle.railgun.specs.Call.{command_of};
+
 mod call;
 mod check;
 mod command;
@@ -17,7 +20,8 @@ mod session;
 mod status;
 
 use crate::call::railgun;
-use crate::real::{FileSource, FolderHost, ReaderSource};
+use crate::command::Command;
+use crate::real::{Access, FileSource, FolderHost, ReaderSource};
 use crate::report::Report;
 use crate::status::Status;
 use std::process::ExitCode;
@@ -30,6 +34,16 @@ fn words(rt: &HostRuntime) -> io::Result<Vec<String>> {
         words.push(word)?;
     }
     Ok(words)
+}
+
+/// What is done with the store: only a run writes it.
+fn access_of(words: &[String]) -> Access
+    ensures { (result ≡ Access.Write) ↔ (command_of words.now ≡ Some Command.Run) }
+{
+    match Command::named(words) {
+        Some(Command::Run) => Access::Write,
+        Some(Command::Check | Command::Dump) | None => Access::Read,
+    }
 }
 
 /// Runs the program on the real outside. Words that are no text are no form of a command.
@@ -49,7 +63,7 @@ fn start(rt: &HostRuntime) -> Status {
         Some(store) => store.as_str(),
         None => "",
     };
-    let mut host = FolderHost::new(rt, rt.alloc(), store, rt.stdout());
+    let mut host = FolderHost::new(rt, rt.alloc(), store, access_of(&words), rt.stdout());
     let mut refusal = None;
     let status = railgun(
         rt.alloc(),

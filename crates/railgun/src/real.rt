@@ -1,5 +1,5 @@
-// The real outside: a file, a reader, and a folder with a writer. One call of std each; what it
-// gave is turned into the answer by a function with a contract.
+// The real outside: a file, a reader, and a folder with a writer. What std's calls gave is turned
+// into the answer by functions with contracts.
 ghost use Rattle.std.specs.Prelude.{◌≡◌, ◌⊎◌, ◌≤◌, Ok, IfOk, IfErr, IsErr, OnOk, OnErr, length};
 ghost use Rattle.rg_bytes.specs.Counts.{Rose};
 
@@ -8,8 +8,12 @@ use std::io;
 use std::io::Read;
 use std::rt::Files;
 
+mod files;
 mod folder;
+mod open_files;
+mod place;
 
+pub use files::Access;
 pub use folder::FolderHost;
 
 /// How many calls failed, and why the last of them did.

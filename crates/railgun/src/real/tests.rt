@@ -1,4 +1,4 @@
-use super::{FileSource, FolderHost, ReaderSource};
+use super::{Access, FileSource, FolderHost, ReaderSource};
 use rg_host::{Failed, Host, Source};
 use std::io;
 use std::io::{Read, Write};
@@ -70,7 +70,13 @@ fn a_read_that_fails_is_a_failure(rt: HostRuntime) {
 
 #[test]
 fn a_write_that_fails_is_a_failure(rt: HostRuntime) {
-    let mut host = FolderHost::new(&rt, rt.alloc(), "no such folder", FailsOnce { calls: 0 });
+    let mut host = FolderHost::new(
+        &rt,
+        rt.alloc(),
+        "no such folder",
+        Access::Read,
+        FailsOnce { calls: 0 },
+    );
     assert_eq!(rt; host.put(b"ab"), Ok(1));
     assert_eq!(rt; host.put(b"b"), Err(Failed));
     assert_eq!(rt; number_of(host.error()), Some(5));
@@ -83,4 +89,69 @@ fn a_file_that_is_missing_fails(rt: HostRuntime) {
     let mut buf = [0; 2];
     assert_eq!(rt; source.read(&mut buf), Err(Failed));
     assert_eq!(rt; number_of(source.error()), Some(2));
+}
+
+/// A host over a folder that is to be written or read, which puts nothing.
+fn over<'a>(
+    rt: &'a HostRuntime,
+    folder: &'a str,
+    access: Access,
+) -> FolderHost<'a, HostRuntime, FailsOnce> {
+    FolderHost::new(rt, rt.alloc(), folder, access, FailsOnce { calls: 0 })
+}
+
+#[test]
+fn what_is_written_is_read_again(rt: HostRuntime) -> Result<(), Failed> {
+    let mut host = over(&rt, "written", Access::Write);
+    let mut buf = [0; 4];
+    assert_eq!(rt; host.len(2)?, 0);
+    host.write_at(2, 0, b"abc")?;
+    host.sync(2)?;
+    host.write_at(2, 1, b"xyz")?;
+    host.sync(2)?;
+    assert_eq!(rt; host.read_at(2, 1, &mut buf)?, 3);
+    assert_eq!(rt; buf, *b"xyz\0");
+    let mut reader = over(&rt, "written", Access::Read);
+    assert_eq!(rt; reader.len(2)?, 4);
+    assert_eq!(rt; reader.read_at(2, 0, &mut buf)?, 4);
+    assert_eq!(rt; buf, *b"axyz");
+    assert_eq!(rt; reader.len(0)?, 0);
+    Ok(())
+}
+
+#[test]
+fn a_reader_writes_and_makes_nothing(rt: HostRuntime) -> Result<(), Failed> {
+    let mut host = over(&rt, "unmade", Access::Read);
+    let mut buf = [0; 2];
+    assert_eq!(rt; host.len(2)?, 0);
+    assert_eq!(rt; host.read_at(2, 0, &mut buf)?, 0);
+    assert_eq!(rt; host.write_at(2, 0, b"a"), Err(Failed));
+    assert_eq!(rt; host.sync(2), Err(Failed));
+    assert!(rt; host.disk_error().is_some());
+    assert_eq!(rt; std::fs::exists(&rt, "unmade").ok(), Some(false));
+    Ok(())
+}
+
+/// What a host gives for a file's length, while another one has the folder.
+fn given_beside(rt: &HostRuntime, folder: &str) -> Result<Result<u64, Failed>, Failed> {
+    let mut host = over(rt, folder, Access::Write);
+    host.sync(0)?;
+    let mut other = over(rt, folder, Access::Write);
+    Ok(other.len(2))
+}
+
+#[test]
+fn a_store_is_written_by_one_host_at_a_time(rt: HostRuntime) -> Result<(), Failed> {
+    assert_eq!(rt; given_beside(&rt, "held")?, Err(Failed));
+    let mut host = over(&rt, "held", Access::Write);
+    assert_eq!(rt; host.len(2)?, 0);
+    Ok(())
+}
+
+#[test]
+fn a_write_past_the_greatest_place_fails(rt: HostRuntime) -> Result<(), Failed> {
+    let mut host = over(&rt, "long", Access::Write);
+    assert_eq!(rt; host.write_at(2, 1 << 62, b"a"), Err(Failed));
+    assert_eq!(rt; host.len(2)?, 0);
+    Ok(())
 }

@@ -1,5 +1,5 @@
 -- A store that was found, and the engine that is started over it.
-use Rattle.std.proofs.Common.{◌≡◌, ◌∙◌, ℕ, zero, suc, ◌<◌, ◌+◌, Bool, false, List, [], ◌∷◌, length, Option, Some, None, refl, sym, ap, subst, arith}
+use Rattle.std.proofs.Common.{◌≡◌, ◌∙◌, ◌↔◌, ℕ, zero, suc, ◌<◌, ◌+◌, Bool, false, List, [], ◌∷◌, length, Option, Some, None, refl, sym, ap, subst, arith}
 use Rattle.std.specs.Prelude.{All}
 use Rattle.std.proofs.lemmas.List.{append-nil}
 use Rattle.rg_host.specs.Image.{Image}
@@ -24,10 +24,13 @@ use Rattle.rg_checkpoint.specs.Slots.{HasSlot, IsSlot, IsKeep}
 use Rattle.rg_restore.specs.declared.choosing.Saved.{Saved}
 use Rattle.rg_restore.specs.Fit.{IsFit}
 use Rattle.rg_restore.specs.Naming.{HeadsName, NamesIn}
+use Rattle.rg_restore.specs.NamingLaws.{sound_names}
 use Rattle.rg_restore.specs.Opening.{CanStand}
 use Rattle.rg_restore.specs.Slots.{slot_in, AreTruthful, IsFrom, HaveBegun}
 use Rattle.rg_restore.specs.Truthful.{IsTruthful, EngineStands}
+use Rattle.rg_restore.proofs.RowKinds.{truthful_fits}
 use Rattle.rg_restore.proofs.Saving.{same_past}
+use Rattle.rg_restore.proofs.Trying.{fit_same}
 use Rattle.rg_reservoir.specs.Kept.{Base, base, opened, next_of, time_of, cache_of, all_events, IsSound, IsRight, Spells}
 use Rattle.rg_reservoir.specs.GoingLaws.{all_long}
 use Rattle.rg_reservoir.specs.declared.reservoir.Reservoir.{Reservoir}
@@ -70,6 +73,19 @@ from_later now then b a texts fields given tasks slots keep from same based copi
     let s2 = subst (λ (c : Base). IsFrom (IsFit (HeadsName then c) texts fields given c.committed) slots keep from) (sym based) s1 in
     subst (λ (t : Tasks). IsFrom (IsFit (HeadsName then a) texts fields t a.committed) slots keep from) copied s2
 
+-- the same by another test, which the checkpoints of the slots pass where they pass this one
+pub from_same : (A B : Checkpoint → Type 0) (slots : ℕ → Option Checkpoint) → ((i : ℕ) (c : Checkpoint) → slots i ≡ Some c → A c ↔ B c) → (keep : Option ℕ) (from : ℕ) → IsFrom A slots keep from → IsFrom B slots keep from
+from_same A B slots same None from is = (λ i c there fits. is.0 i c there ((same i c there).1 fits), is.1)
+from_same A B slots same (Some i) from (checkpoint, best, count) = (
+  checkpoint,
+  record {
+    there = best.there;
+    fit = (same i checkpoint best.there).0 best.fit;
+    others = λ j other there fits. best.others j other there ((same j other there).1 fits);
+  },
+  count,
+)
+
 module _ (plan : Planned) (now : Option Image) (may : Image → Type 0) (r : Reservoir) (saved : Saved) (found : IsFound plan now may r saved) where
   abbrev image : Image
   image = found.reservoir.sound.0
@@ -99,6 +115,14 @@ module _ (plan : Planned) (now : Option Image) (may : Image → Type 0) (r : Res
       let of : SpotIn (base r).shape (image (base r).file) spot = subst (λ (s : Shape). SpotIn s (image (base r).file) spot) (sym found.reservoir.shape) at in
       subst (λ (l : List Event). Spells now (base r) l spot) (sym found.empty) (spelled_here image may (base r) (next_of r) (time_of r) (cache_of r) right now spot told of)
 
+  -- and the heads name what is spelled
+  names : (spot : Spot) → Spells now (base r) (opened r) spot → HeadsName now (base r) spot
+  names spot spells = subst (λ (e : Bool). NamesIn now (base r) e [] spot) found.reservoir.going
+      (subst (λ (l : List Event). NamesIn now (base r) (base r).ended l spot) found.empty ((sound_names now may r spot found.reservoir.sound).1 spells))
+
+  are_events : All (IsEventOf plan.shape.fields) all
+  are_events = subst (All (IsEventOf plan.shape.fields)) (has.2 ∙ sym all_is) has.1.of
+
   -- the checkpoint of a slot, in each image
   pub slot_of : (i : ℕ) (checkpoint : Checkpoint) → slot_in saved i ≡ Some checkpoint → (u : Image) → may u → (i < 2) × HasSlot (u i) checkpoint
   slot_of zero checkpoint there u left = (omega arith, subst (IsSlot (u 0)) there (found.slots u left).first)
@@ -125,7 +149,7 @@ module _ (plan : Planned) (now : Option Image) (may : Image → Type 0) (r : Res
       fed = record {
         fields = plan.shape.fields;
         serves = subst (Serves plan.shape.fields) (sym tasks_are) (serves plan.shape plan.queries legal);
-        are = subst (All (IsEventOf plan.shape.fields)) (has.2 ∙ sym all_is) has.1.of;
+        are = are_events;
       };
     }
 
@@ -138,6 +162,20 @@ module _ (plan : Planned) (now : Option Image) (may : Image → Type 0) (r : Res
         let here = framed plan image may (base r) [] (next_of r) (time_of r) (cache_of r) right found.reservoir.file found.reservoir.shape in
         same_past (SpotIn plan.shape (image 2)) (Spells now (base r) (opened r)) tasks (joined right.chunks) all checkpoint spelled all_is
         (subst (λ (t : Tasks). IsTruthful (SpotIn plan.shape (image 2)) t (joined right.chunks) checkpoint) (sym tasks_are) (of_plan plan said (image 2) (joined right.chunks) here has checkpoint is (same ∙ texts_are)))
+
+    module _ (texts : List (List ℕ)) (printed : texts ≡ texts_of plan.shape plan.queries) (reads : (v : Image) → now ≡ Some v → may v) (said : All (IsSaid plan.shape) plan.queries) (legal : All (IsLegal plan.shape) plan.queries) where
+      -- each checkpoint of the plan's queries is fit
+      fits : (i : ℕ) (checkpoint : Checkpoint) → slot_in saved i ≡ Some checkpoint → checkpoint.queries ≡ texts → IsFit (HeadsName now (base r)) texts plan.shape.fields tasks (base r).committed checkpoint
+      fits i checkpoint there same =
+          let serve : Serves plan.shape.fields tasks = subst (Serves plan.shape.fields) (sym tasks_are) (serves plan.shape plan.queries legal) in
+          let count : length all ≡ (base r).committed = omega (arith, all_long now (base r) (opened r), ap length found.empty) in
+          fit_same (Spells now (base r) (opened r)) (HeadsName now (base r)) texts plan.shape.fields tasks (length all) (base r).committed checkpoint names count
+          (truthful_fits (Spells now (base r) (opened r)) texts plan.shape.fields tasks all checkpoint serve are_events same (are_truthful texts printed reads said i checkpoint there same))
+
+      -- so the greatest count of one of the plan's queries is that of a fit one
+      pub from_texts : (keep : Option ℕ) (from : ℕ) → IsFrom (IsFit (HeadsName now (base r)) texts plan.shape.fields tasks (base r).committed) (slot_in saved) keep from → IsFrom (λ (c : Checkpoint). c.queries ≡ texts_of plan.shape plan.queries) (slot_in saved) keep from
+      from_texts keep from is = from_same (IsFit (HeadsName now (base r)) texts plan.shape.fields tasks (base r).committed) (λ (c : Checkpoint). c.queries ≡ texts_of plan.shape plan.queries) (slot_in saved)
+          (λ i checkpoint there. (λ fit. fit.queries_are ∙ printed, λ same. fits i checkpoint there (same ∙ sym printed))) keep from is
 
     -- the slot that was used
     pub kept_by : (after : Image → Type 0) → ((u : Image) → after u → may u) → (Names : Spot → Type 0) (texts : List (List ℕ)) (fields : List Field) (committed : ℕ) → texts ≡ texts_of plan.shape plan.queries

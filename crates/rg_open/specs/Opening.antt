@@ -6,6 +6,7 @@ use Rattle.rg_plan.specs.Plans.{Planned as Tasks, plan_for}
 use Rattle.rg_state.specs.Rows.{Cells}
 use Rattle.rg_engine.specs.Feeding.{Serves}
 use Rattle.rg_engine.specs.Seen.{Seen}
+use Rattle.rg_checkpoint.specs.declared.base.Checkpoint.{Checkpoint}
 use Rattle.rg_checkpoint.specs.Slots.{IsSlot}
 use Rattle.rg_restore.specs.Slots.{slot_in, IsFrom, HaveBegun}
 use Rattle.rg_restore.specs.declared.choosing.Saved.{Saved}
@@ -18,7 +19,7 @@ use Rattle.rg_reservoir.specs.Kept.{base, opened}
 use Rattle.rg_reservoir.specs.declared.reservoir.Reservoir.{Reservoir}
 use Rattle.rg_store.specs.Opened.{IsOpenedFor, IsInStep, IsKept}
 use Rattle.rg_store.specs.Stores.{IsOfPlan}
-use Rattle.rg_store.specs.Truth.{IsTruthfulImage}
+use Rattle.rg_store.specs.Truth.{texts_of, IsTruthfulImage}
 
 -- The host tells its image, and each image that might be left is truthful, and its log is of the plan's schema or has no frame.
 pub record IsOpenable (plan : Planned) (now : Option Image) (may : Image → Type 0) : Type 0 where
@@ -59,3 +60,10 @@ pub record IsResumed {T : Type 0} (v : Image) (now : Option Image) (texts : List
   pub before : List ℕ
   pub begun : HaveBegun tasks.offsets (slot_in saved) keep before
   pub ticks : then + come tasks before ≡ steps + come tasks (numbers_of engine.spots)
+
+-- Of a truthful image: from the greatest count of a complete slot with the plan's queries, and from 0 where there is none.
+pub record IsFromIn (plan : Planned) (v : Image) (from : ℕ) : Type 0 where
+  pub saved : Saved
+  pub slots : AreSlots v saved
+  pub keep : Option ℕ
+  pub is : IsFrom (λ (c : Checkpoint). c.queries ≡ texts_of plan.shape plan.queries) (slot_in saved) keep from

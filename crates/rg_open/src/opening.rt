@@ -17,7 +17,7 @@ ghost use Rattle.rg_checkpoint.specs.Slots.{IsKeep};
 ghost use Rattle.rg_restore.specs.Opening.{IsEmpty, IsGoing};
 ghost use Rattle.rg_course.specs.Steps.{IsStepped};
 ghost use Rattle.rg_store.specs.Stores.{store_of};
-ghost use Rattle.rg_open.specs.Opening.{IsOpenable, IsStarted, IsResumed};
+ghost use Rattle.rg_open.specs.Opening.{IsOpenable, IsStarted, IsResumed, IsFromIn};
 ghost use Rattle.rg_open.specs.Settling.{AreSettled};
 ghost use Rattle.rg_open.specs.Within.{IsAsRead, IsWithinOpening};
 
@@ -108,6 +108,10 @@ fn open_settled<H: Host, T: Table, L: Ledger>(
     ensures never_differs { IsOpenable (planned plan.now) (H.now host.old) (H.may host.old) → IfErr result (λ refused. refused.0 ≡ OpenFault.SchemaDiffers → ⊥) }
     ensures never_bad { (n : ℕ) → IsOpenable (planned plan.now) (H.now host.old) (H.may host.old) → AreSettled (H.now host.old) (H.may host.old) → T.tells table →
         IfErr result (λ refused. refused.0 ≡ OpenFault.BadState n → ⊥) }
+    ensures is_from { (v : Image) → H.now host.old ≡ Some v → IsOpenable (planned plan.now) (H.now host.old) (H.may host.old) → AreSettled (H.now host.old) (H.may host.old) →
+        IfOk result (λ r. IsFromIn (planned plan.now) v r.1.from) }
+    ensures never_damaged { (p : ℕ) → IsOpenable (planned plan.now) (H.now host.old) (H.may host.old) → AreSettled (H.now host.old) (H.may host.old) →
+        IfErr result (λ refused. refused.0 ≡ OpenFault.Damaged p → ⊥) }
 
     ensures resumed { (v : Image) → H.now host.old ≡ Some v → IfOk result (λ r.
         IsResumed v (H.now host.new) plan.now.queries plan.now.schema.fields plan.now.task r.0.reservoir r.0.engine r.0.keep r.1.from steps.old steps.new) }
@@ -191,6 +195,8 @@ pub fn open_store<H: Host, T: Table, L: Ledger>(
         IfOk result (λ r. steps.new ≡ steps.old + passed_count plan.now.task (take r.1.from (all_events (H.now host.new) (base r.0.reservoir) [])) (all_events (H.now host.new) (base r.0.reservoir) [])) }
     ensures never_differs { IsOpenable (planned plan.now) (H.now host.old) (H.may host.old) → IfErr result (λ refused. refused.0 ≡ OpenFault.SchemaDiffers → ⊥) }
     ensures never_bad { (n : ℕ) → IsOpenable (planned plan.now) (H.now host.old) (H.may host.old) → T.tells table → IfErr result (λ refused. refused.0 ≡ OpenFault.BadState n → ⊥) }
+    ensures is_from { (v : Image) → H.now host.old ≡ Some v → IsOpenable (planned plan.now) (H.now host.old) (H.may host.old) → IfOk result (λ r. IsFromIn (planned plan.now) v r.1.from) }
+    ensures never_damaged { (p : ℕ) → IsOpenable (planned plan.now) (H.now host.old) (H.may host.old) → T.tells table → IfErr result (λ refused. refused.0 ≡ OpenFault.Damaged p → ⊥) }
 
     // Over any image that is told: its log's events, from where the engine went on, and what was passed.
     ensures settled { (v : Image) → H.now host.old ≡ Some v → OnOk result (AreSettled (H.now host.new) (H.may host.new)) }

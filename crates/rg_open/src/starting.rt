@@ -62,6 +62,8 @@ fn start_over<H: Host, T: Table, L: Ledger>(
         IfOk result (λ r. IsStarted (planned plan.now) (H.now past.new.host.now) (H.may past.new.host.now) (T.tells r.0.table) (T.cell r.0.table) past.new.reservoir.now r.0 plan.now.queries r.1.slot r.1.from) }
     ensures never_bad { (n : ℕ) → IsFound (planned plan.now) (H.now past.old.host.now) (H.may past.old.host.now) past.old.reservoir.now saved → T.tells table →
         IfErr result (λ refused. refused.0 ≡ OpenFault.BadState n → ⊥) }
+    ensures never_damaged { (p : ℕ) → IsFound (planned plan.now) (H.now past.old.host.now) (H.may past.old.host.now) past.old.reservoir.now saved →
+        IfErr result (λ refused. refused.0 ≡ OpenFault.Damaged p → ⊥) }
     ensures passed { IsFound (planned plan.now) (H.now past.old.host.now) (H.may past.old.host.now) past.old.reservoir.now saved →
         IfOk result (λ r. steps.new ≡ steps.old + passed_count task (take r.1.from (all_events (H.now past.old.host.now) (base past.old.reservoir.now) [])) (all_events (H.now past.old.host.now) (base past.old.reservoir.now) [])) }
 
@@ -128,6 +130,8 @@ pub(crate) fn start<H: Host, T: Table, L: Ledger>(
         IfOk result (λ r. IsStarted (planned plan.now) (H.now host.new) (H.may host.new) (T.tells r.0.table) (T.cell r.0.table) reservoir.new r.0 plan.now.queries r.1.slot r.1.from) }
     ensures never_bad { (n : ℕ) → IsFound (planned plan.now) (H.now host.old) (H.may host.old) reservoir.old saved → T.tells table →
         IfErr result (λ refused. refused.0 ≡ OpenFault.BadState n → ⊥) }
+    ensures never_damaged { (p : ℕ) → IsFound (planned plan.now) (H.now host.old) (H.may host.old) reservoir.old saved →
+        IfErr result (λ refused. refused.0 ≡ OpenFault.Damaged p → ⊥) }
     ensures passed { IsFound (planned plan.now) (H.now host.old) (H.may host.old) reservoir.old saved →
         IfOk result (λ r. steps.new ≡ steps.old + passed_count task (take r.1.from (all_events (H.now host.old) (base reservoir.old) [])) (all_events (H.now host.old) (base reservoir.old) [])) }
     ensures from { IsListed (H.now host.old) → IfOk result (λ r.

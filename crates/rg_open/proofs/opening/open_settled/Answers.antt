@@ -11,12 +11,15 @@ use Rattle.rg_reservoir.specs.Chain.{IsIllegal}
 use Rattle.rg_reservoir.specs.Kept.{Base, base, all_events}
 use Rattle.rg_restore.specs.Slots.{slot_in, HaveBegun}
 use Rattle.rg_open.specs.Opening.{IsStarted}
-use Rattle.rg_open.proofs.Found.{begun_keep, from_later}
+use Rattle.rg_open.proofs.Found.{begun_keep, from_later, from_texts}
 use Rattle.rg_open.proofs.Settles.{all-fewer, fewer-all_settled, writes-before}
 use Rattle.rg_open.proofs.opening.open_settled.Goals as goal
 
 pub returns-in-Err-clause-damaged : goal.returns-in-Err-clause-damaged
 returns-in-Err-clause-damaged g c = λ p is. inl (c.in-Err.ensures.damaged p (ap (λ f. Err f) is))
+
+pub returns-in-Err-clause-never_damaged : goal.returns-in-Err-clause-never_damaged
+returns-in-Err-clause-never_damaged g c = λ p openable settled is. c.in-Err.ensures.never_damaged p openable (ap (λ f. Err f) is)
 
 pub returns-in-Ok-start-clause-started : goal.returns-in-Ok-start-clause-started
 returns-in-Ok-start-clause-started g c = λ openable settled tells.
@@ -52,6 +55,20 @@ returns-in-Ok-start-clause-resumed g c = λ v told.
       ticks = ticked.2;
     }
 
+pub returns-in-Ok-start-clause-is_from : goal.returns-in-Ok-start-clause-is_from
+returns-in-Ok-start-clause-is_from g c = λ v told openable settled.
+    let plan = c.args.plan.now in
+    let h = c.find.new.host in
+    let found = c.in-Ok.found in
+    let origin = c.in-Ok-start.origin in
+    record {
+      saved = found.saved;
+      slots = c.in-Ok.ensures.slots v told;
+      keep = origin.slot;
+      is = from_texts (planned plan) (g.H.Host.now h) (g.H.Host.may h) found.reservoir found.saved (c.in-Ok.ensures.found openable settled) c.args.copies.task (c.requires.copies.2 ∙ c.requires.read.task) plan.queries c.requires.read.printed
+          (λ w also. g.met.H.Host.now_may h w also) c.requires.read.said c.requires.read.legal origin.slot origin.from (c.in-Ok-start.ensures.from (c.in-Ok.ensures.listed v told));
+    }
+
 pub returns-in-Ok-start-clause-keep : goal.returns-in-Ok-start-clause-keep
 returns-in-Ok-start-clause-keep g c = begun_keep c.args.copies.task.offsets c.in-Ok.found.saved c.in-Ok-start.origin.slot c.in-Ok-start.ensures.ticks.0 c.in-Ok-start.ensures.ticks.1
 
@@ -59,6 +76,9 @@ pub returns-in-Ok-start-clause-writes : goal.returns-in-Ok-start-clause-writes
 returns-in-Ok-start-clause-writes g c =
     let fewer = all-fewer g.H.Host.now g.H.Host.may g.H.Host.clock g.H.Host.since g.H.Host.said c.find.new.host c.start.new.host c.start.ensures.leaves in
     writes-before g.H.Host.now g.H.Host.may g.H.Host.clock g.H.Host.since g.H.Host.said 2 (SchemaAdded (schema_payload c.args.plan.now.schema)) c.args.host.now c.find.new.host c.start.new.host c.find.ensures.writes fewer
+
+pub returns-in-Err-start-clause-never_damaged : goal.returns-in-Err-start-clause-never_damaged
+returns-in-Err-start-clause-never_damaged g c = λ p openable settled is. c.in-Err-start.ensures.never_damaged p (c.in-Ok.ensures.found openable settled) is
 
 pub returns-in-Err-start-clause-damaged : goal.returns-in-Err-start-clause-damaged
 returns-in-Err-start-clause-damaged g c = λ p is. inr (λ w told.

@@ -18,6 +18,13 @@ returns-in-Ok-open_settled-clause-passed g c = λ openable.
     let leaves = c.settle.ensures.leaves in
     c.in-Ok-open_settled.ensures.passed (openable_still (planned c.args.plan.now) (g.H.Host.now h) (g.H.Host.now m) (g.H.Host.may h) (g.H.Host.may m) leaves.now_stays leaves.fewer openable) c.in-Ok.ensures.settled
 
+pub returns-in-Ok-open_settled-clause-is_from : goal.returns-in-Ok-open_settled-clause-is_from
+returns-in-Ok-open_settled-clause-is_from g c = λ v told openable.
+    let h = c.args.host.now in
+    let m = c.settle.new.host in
+    let leaves = c.settle.ensures.leaves in
+    c.in-Ok-open_settled.ensures.is_from v (leaves.now_stays ∙ told) (openable_still (planned c.args.plan.now) (g.H.Host.now h) (g.H.Host.now m) (g.H.Host.may h) (g.H.Host.may m) leaves.now_stays leaves.fewer openable) c.in-Ok.ensures.settled
+
 pub returns-in-Ok-open_settled-clause-events : goal.returns-in-Ok-open_settled-clause-events
 returns-in-Ok-open_settled-clause-events g c = λ v events told has. c.in-Ok-open_settled.ensures.events v events (c.settle.ensures.leaves.now_stays ∙ told) c.in-Ok.ensures.settled has
 
@@ -45,6 +52,13 @@ returns-in-Err-open_settled-clause-never_bad g c = λ n openable tells.
     let m = c.settle.new.host in
     let leaves = c.settle.ensures.leaves in
     c.in-Err-open_settled.ensures.never_bad n (openable_still (planned c.args.plan.now) (g.H.Host.now h) (g.H.Host.now m) (g.H.Host.may h) (g.H.Host.may m) leaves.now_stays leaves.fewer openable) c.in-Ok.ensures.settled tells
+
+pub returns-in-Err-open_settled-clause-never_damaged : goal.returns-in-Err-open_settled-clause-never_damaged
+returns-in-Err-open_settled-clause-never_damaged g c = λ p openable tells.
+    let h = c.args.host.now in
+    let m = c.settle.new.host in
+    let leaves = c.settle.ensures.leaves in
+    c.in-Err-open_settled.ensures.never_damaged p (openable_still (planned c.args.plan.now) (g.H.Host.now h) (g.H.Host.now m) (g.H.Host.may h) (g.H.Host.may m) leaves.now_stays leaves.fewer openable) c.in-Ok.ensures.settled
 
 pub returns-in-Err-open_settled-clause-within : goal.returns-in-Err-open_settled-clause-within
 returns-in-Err-open_settled-clause-within g c = λ v keep told.

@@ -81,6 +81,10 @@ returns-in-Err-clause-never_bad g c = λ n found tells is.
     (are_truthful plan now may r c.args.saved found c.args.task tasks_are c.args.plan.now.queries c.requires.read.printed (λ v told. g.met.H.Host.now_may p.host.now v told) c.requires.read.said)
     (bad_by c.in-Err.fault n (sym c.from.ensures ∙ is))
 
+pub returns-in-Err-clause-never_damaged : goal.returns-in-Err-clause-never_damaged
+returns-in-Err-clause-never_damaged g c = λ p found is.
+    c.in-Err.ensures.never_damaged p found.reservoir.sound (λ e. (let x = sym e ∙ c.requires.going in cc)) (damaged_by c.in-Err.fault p (sym c.from.ensures ∙ is))
+
 pub returns-in-Err-clause-disk : goal.returns-in-Err-clause-disk
 returns-in-Err-clause-disk g c = λ is. c.in-Err.ensures.cause past.Disk (disk_by c.in-Err.fault (sym c.from.ensures ∙ is))
 

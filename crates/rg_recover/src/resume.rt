@@ -15,7 +15,7 @@ ghost use Rattle.rg_engine.specs.Passed.{passed_count};
 ghost use Rattle.rg_restore.specs.Opening.{IsEmpty};
 ghost use Rattle.rg_course.specs.Steps.{IsStepped};
 ghost use Rattle.rg_store.specs.Stores.{store_of};
-ghost use Rattle.rg_open.specs.Opening.{IsOpenable, IsResumed};
+ghost use Rattle.rg_open.specs.Opening.{IsOpenable, IsResumed, IsFromIn};
 ghost use Rattle.rg_open.specs.Within.{IsAsRead, IsWithinOpening};
 ghost use Rattle.rg_recover.specs.Sessions.{IsRunning, count_in, events_of, stored_of};
 
@@ -52,6 +52,8 @@ impl<T: Table> Session<T> {
             IfOk result (λ r. steps.new ≡ steps.old + passed_count plan.now.task (take r.1.from (events_of (H.now host.new) r.0)) (events_of (H.now host.new) r.0)) }
         ensures never_differs { IsOpenable (planned plan.now) (H.now host.old) (H.may host.old) → IfErr result (λ refused. refused.0 ≡ OpenFault.SchemaDiffers → ⊥) }
         ensures never_bad { (n : ℕ) → IsOpenable (planned plan.now) (H.now host.old) (H.may host.old) → T.tells table → IfErr result (λ refused. refused.0 ≡ OpenFault.BadState n → ⊥) }
+        ensures is_from { (v : Image) → H.now host.old ≡ Some v → IsOpenable (planned plan.now) (H.now host.old) (H.may host.old) → IfOk result (λ r. IsFromIn (planned plan.now) v r.1.from) }
+        ensures never_damaged { (p : ℕ) → IsOpenable (planned plan.now) (H.now host.old) (H.may host.old) → T.tells table → IfErr result (λ refused. refused.0 ≡ OpenFault.Damaged p → ⊥) }
 
         // Over any image that is told: its log's events, from where the engine went on, and what was passed.
         ensures events { (v : Image) (events : List Event) → H.now host.old ≡ Some v → HasEvents plan.now.schema events (v 2) →

@@ -14,6 +14,8 @@ mod save;
 mod settle;
 mod store;
 mod tell;
+#[cfg(test)]
+mod tests;
 mod text;
 mod turning;
 

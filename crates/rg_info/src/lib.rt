@@ -14,7 +14,6 @@ mod text;
 pub use fault::InfoFault;
 pub use law::law_info;
 pub use print::info;
-pub use summary::Summary;
 
 #[cfg(test)]
 mod tests;

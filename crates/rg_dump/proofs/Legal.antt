@@ -1,4 +1,4 @@
--- The dump of a legal log.
+-- The frames of a legal log, and its dump.
 use Rattle.std.proofs.Common.{◌≡◌, ◌∙◌, inr, ℕ, zero, suc, ◌+◌, ◌≤◌, List, [], ◌∷◌, ◌++◌, length, map, Option, Some, None, option_map, refl, sym, ap, subst, arith, append_assoc}
 use Rattle.std.proofs.lemmas.List.{map-append, append-nil}
 use Rattle.rg_event.specs.Shapes.{Shape, IsSchema, schema_text}
@@ -9,18 +9,20 @@ use Rattle.rg_frame.proofs.FrameLaws.{length-frames, length-frames-push}
 use Rattle.rg_frame.proofs.Payloads.{payload_between, payload_none}
 use Rattle.rg_chunk.specs.Chunks.{chunk_of}
 use Rattle.rg_chunk.specs.Heads.{head_of}
-use Rattle.rg_log.specs.Log.{schema_payload, chunks_of, joined, HasChunks, HasEvents, HasSchemaFrame}
+use Rattle.rg_log.specs.Log.{schema_payload, chunks_of, joined, HasChunks, HasEvents, HasSchemaFrame, IsLegalLog}
 use Rattle.rg_log.proofs.Growing.{Parted, part}
 use Rattle.rg_log.proofs.Reading.{schema_said}
 use Rattle.rg_reservoir.specs.Heads.{nothing, told_by, Heads}
 use Rattle.rg_reservoir.specs.declared.heads.Tally.{Tally}
+use Rattle.rg_reservoir.specs.declared.walk.Stage.TheVariants as stage
 use Rattle.rg_reservoir.proofs.Attaching.{legal_not_bad}
 use Rattle.rg_reservoir.proofs.Committing.{log_at}
 use Rattle.rg_reservoir.proofs.Heading.{heads_push}
 use Rattle.rg_reservoir.proofs.Legal.{laid}
 use Rattle.rg_reservoir.proofs.Listing.{log_of}
 use Rattle.rg_dump.specs.Rows.{row_line}
-use Rattle.rg_dump.specs.Dump.{Dump, Part, chunk_part, part_of, before, with_part, dump_from, dump_of}
+use Rattle.rg_dump.specs.Stages.{Stages, Part, schema_part, chunk_part, part_of, before, with_part, stages_from, stages_of}
+use Rattle.rg_dump.specs.Dump.{all_lines, dump_text}
 use Rattle.rg_dump.proofs.Reading.{some_none, payload_open, payload_gate, reads_end}
 
 -- where a log has frames, its list ends at a closed gate
@@ -29,17 +31,17 @@ closed_behind payloads place bytes has is = (log_at payloads place bytes (log_of
 
 -- a frame whose payload is that part, and then what stands behind it
 frame_read : (most place : ℕ) (schema : Option Shape) (tally : Tally) (bytes payload : List ℕ) (p : Part) → payload_at place bytes ≡ Some payload → part_of schema tally payload ≡ Some p
-    → dump_from (suc most) place schema tally bytes ≡ before p.lines (dump_from most (place + 9 + length payload) p.schema p.tally bytes)
-unfolding dump_from
+    → stages_from (suc most) place schema tally bytes ≡ before p.is (stages_from most (place + 9 + length payload) p.schema p.tally bytes)
+unfolding stages_from
 frame_read most place schema tally bytes payload p here is =
     rw ((payload_open place bytes payload here).0, here)
-    (ap (λ (o : Option Part). with_part place o (λ (part : Part). dump_from most (place + 9 + length payload) part.schema part.tally bytes)) is)
+    (ap (λ (o : Option Part). with_part place o (λ (part : Part). stages_from most (place + 9 + length payload) part.schema part.tally bytes)) is)
 
 same_payload : (place : ℕ) (bytes p q : List ℕ) → payload_at place bytes ≡ Some p → payload_at place bytes ≡ Some q → p ≡ q
 same_payload place bytes p q here also = let e : Some p ≡ Some q = sym here ∙ also in cc
 
-abbrev all_rows : List (List Event) → Dump
-all_rows chunks = record { lines = map row_line (joined chunks); damage = None }
+abbrev pub all_chunks : List (List Event) → Stages
+all_chunks chunks = record { stages = map (λ (chunk : List Event). stage.Chunk chunk) chunks; damage = None }
 
 module _ (shape : Shape) (events : List Event) (bytes : List ℕ) (schema : IsSchema shape) (legal : HasEvents shape events bytes) (here : payload_at 0 bytes ≡ Some (schema_payload shape)) where
   abbrev first : ℕ
@@ -61,11 +63,11 @@ module _ (shape : Shape) (events : List Event) (bytes : List ℕ) (schema : IsSc
   ))
 
   chunks_read : (most : ℕ) (front done rest : List (List ℕ)) (chunks : List (List Event)) (place : ℕ) (tally : Tally) → HasPayloads (front ++ rest) bytes → place ≡ length (frames front) → length bytes ≤ place + most
-      → chunks_of shape.fields rest ≡ Some chunks → Heads bytes first nothing done place tally → dump_from most place (Some shape) tally bytes ≡ all_rows chunks
+      → chunks_of shape.fields rest ≡ Some chunks → Heads bytes first nothing done place tally → stages_from most place (Some shape) tally bytes ≡ all_chunks chunks
   chunks_read most front done [] chunks place tally has is enough said heads =
       let none : chunks ≡ [] = cc in
       let whole : HasPayloads front bytes = subst (λ (l : List (List ℕ)). HasPayloads l bytes) (append-nil front) has in
-      reads_end most place (Some shape) tally bytes (closed_behind front place bytes whole is) ∙ ap all_rows (sym none)
+      reads_end most place (Some shape) tally bytes (closed_behind front place bytes whole is) ∙ ap all_chunks (sym none)
   chunks_read zero front done (p ∷ rest) chunks place tally has is enough said heads =
       absurd (omega (arith, enough, (payload_open place bytes p (subst (λ (n : ℕ). payload_at n bytes ≡ Some p) (sym is) (payload_between front rest p bytes has))).1))
   chunks_read (suc most) front done (p ∷ rest) chunks place tally has is enough said heads =
@@ -80,38 +82,46 @@ module _ (shape : Shape) (events : List Event) (bytes : List ℕ) (schema : IsSc
       at : payload_at place bytes ≡ Some p
       at = subst (λ (n : ℕ). payload_at n bytes ≡ Some p) (sym is) (payload_between front rest p bytes has)
 
-      by : (o : Option Tally) → told_by tally (head_of p) ≡ o → ((next : Tally) → told_by tally (head_of p) ≡ Some next → dump_from most (place + 9 + length p) (Some shape) next bytes ≡ all_rows f.more)
-          → dump_from (suc most) place (Some shape) tally bytes ≡ all_rows chunks
+      by : (o : Option Tally) → told_by tally (head_of p) ≡ o → ((next : Tally) → told_by tally (head_of p) ≡ Some next → stages_from most (place + 9 + length p) (Some shape) next bytes ≡ all_chunks f.more)
+          → stages_from (suc most) place (Some shape) tally bytes ≡ all_chunks chunks
       by None none more = absurd (follows done place tally p heads at none)
       by (Some next) told more =
-          frame_read most place (Some shape) tally bytes p (record { lines = map row_line f.chunk; schema = Some shape; tally = next }) at
+          frame_read most place (Some shape) tally bytes p (record { is = stage.Chunk f.chunk; schema = Some shape; tally = next }) at
           (ap (λ (o : Option (List Event)). chunk_part shape o (told_by tally (head_of p))) f.chunk_is ∙ ap (λ (o : Option Tally). chunk_part shape (Some f.chunk) o) told)
-          ∙ ap (before (map row_line f.chunk)) (more next told)
-          ∙ ap (λ (l : List (List ℕ)). record { lines = l; damage = None }) (sym (map-append row_line f.chunk (joined f.more)))
-          ∙ ap all_rows (sym f.is)
+          ∙ ap (before (stage.Chunk f.chunk)) (more next told)
+          ∙ ap all_chunks (sym f.is)
 
--- the dump of a legal log with frames has its schema and a row for each of its events
-pub legal_dump : (shape : Shape) (events : List Event) (bytes : List ℕ) → HasSchemaFrame shape bytes → HasEvents shape events bytes → dump_of bytes ≡ record { lines = schema_text shape ∷ map row_line events; damage = None }
-legal_dump shape events bytes framed legal = by legal.1.payloads legal.1.has legal.1.log
+-- a legal log with frames has its schema's frame and its chunks
+pub legal_stages : (shape : Shape) (chunks : List (List Event)) (bytes : List ℕ) → HasSchemaFrame shape bytes → IsLegalLog shape chunks bytes → stages_of bytes ≡ before (stage.Schema shape) (all_chunks chunks)
+legal_stages shape chunks bytes framed legal = by legal.payloads legal.has legal.log
   where
     here : payload_at 0 bytes ≡ Some (schema_payload shape)
     here = payload_between [] framed.0 (schema_payload shape) bytes framed.1
 
-    start : (n : ℕ) (rest : List (List ℕ)) → length bytes ≡ n → HasPayloads (schema_payload shape ∷ rest) bytes → chunks_of shape.fields rest ≡ Some legal.0 → dump_from n 0 None nothing bytes ≡ record { lines = schema_text shape ∷ map row_line (joined legal.0); damage = None }
+    start : (n : ℕ) (rest : List (List ℕ)) → length bytes ≡ n → HasPayloads (schema_payload shape ∷ rest) bytes → chunks_of shape.fields rest ≡ Some chunks → stages_from n 0 None nothing bytes ≡ before (stage.Schema shape) (all_chunks chunks)
     start zero rest long has said = absurd (omega (arith, long, (payload_open 0 bytes (schema_payload shape) here).1))
     start (suc most) rest long has said =
-        frame_read most 0 None nothing bytes (schema_payload shape) (record { lines = schema_text shape ∷ []; schema = Some shape; tally = nothing }) here
-        (ap (λ (o : Option Shape). option_map (λ (shape : Shape). record { lines = schema_text shape ∷ []; schema = Some shape; tally = nothing }) o) (schema_said shape legal.1.schema))
-        ∙ ap (before (schema_text shape ∷ []))
-        (chunks_read shape events bytes legal.1.schema legal here most (schema_payload shape ∷ []) [] rest legal.0 (0 + 9 + length (schema_payload shape)) nothing has
+        frame_read most 0 None nothing bytes (schema_payload shape) (schema_part nothing shape) here
+        (ap (λ (o : Option Shape). option_map (schema_part nothing) o) (schema_said shape legal.schema))
+        ∙ ap (before (stage.Schema shape))
+        (chunks_read shape (joined chunks) bytes legal.schema (chunks, legal, refl) here most (schema_payload shape ∷ []) [] rest chunks (0 + 9 + length (schema_payload shape)) nothing has
         (omega (arith, length-frames (schema_payload shape) [])) (omega (arith, long)) said (refl, refl))
 
-    by : (payloads : List (List ℕ)) → HasPayloads payloads bytes → HasChunks shape payloads legal.0 → dump_of bytes ≡ record { lines = schema_text shape ∷ map row_line events; damage = None }
+    by : (payloads : List (List ℕ)) → HasPayloads payloads bytes → HasChunks shape payloads chunks → stages_of bytes ≡ before (stage.Schema shape) (all_chunks chunks)
     by [] has log = absurd (some_none _ _ here (payload_none [] bytes has))
-    by (p ∷ rest) has log =
-        start (length bytes) rest refl (subst (λ (q : List ℕ). HasPayloads (q ∷ rest) bytes) log.0 has) log.1
-        ∙ ap (λ (l : List Event). record { lines = schema_text shape ∷ map row_line l; damage = None }) legal.2
+    by (p ∷ rest) has log = start (length bytes) rest refl (subst (λ (q : List ℕ). HasPayloads (q ∷ rest) bytes) log.0 has) log.1
 
--- and that of a log without frames is empty
-pub empty_dump : (bytes : List ℕ) → HasPayloads [] bytes → dump_of bytes ≡ record { lines = []; damage = None }
-empty_dump bytes has = reads_end (length bytes) 0 None nothing bytes (closed_behind [] 0 bytes has refl)
+chunk_lines : (chunks : List (List Event)) → all_lines (all_chunks chunks).stages ≡ map row_line (joined chunks)
+chunk_lines [] = refl
+chunk_lines (chunk ∷ chunks) = ap (λ (l : List (List ℕ)). map row_line chunk ++ l) (chunk_lines chunks) ∙ sym (map-append row_line chunk (joined chunks))
+
+-- its dump has the text of its schema and a row for each of its events
+pub legal_dump : (shape : Shape) (events : List Event) (bytes : List ℕ) → HasSchemaFrame shape bytes → HasEvents shape events bytes → dump_text bytes ≡ schema_text shape ∷ map row_line events
+legal_dump shape events bytes framed legal =
+    ap (λ (d : Stages). all_lines d.stages) (legal_stages shape legal.0 bytes framed legal.1)
+    ∙ ap (λ (l : List (List ℕ)). schema_text shape ∷ l) (chunk_lines legal.0)
+    ∙ ap (λ (l : List Event). schema_text shape ∷ map row_line l) legal.2
+
+-- and a log without frames has none
+pub empty_stages : (bytes : List ℕ) → HasPayloads [] bytes → stages_of bytes ≡ record { stages = []; damage = None }
+empty_stages bytes has = reads_end (length bytes) 0 None nothing bytes (closed_behind [] 0 bytes has refl)

@@ -1,4 +1,5 @@
 pub mod Reading
+pub mod Walking
 pub mod Dumping
 pub mod Quiet
 pub mod Rows

@@ -1,9 +1,9 @@
--- How a dump is read, frame by frame.
+-- How a log is read, frame by frame.
 use Rattle.std.proofs.Common.{◌≡◌, ◌∙◌, ◌⊎◌, inl, inr, ℕ, zero, suc, ◌+◌, ◌≤◌, ◌<◌, ◌==◌, ◌&&◌, nat_le, nat_lt, Bool, true, false, List, [], ◌∷◌, length, take, drop, Option, Some, None, option_map, refl, sym, ap, arith, length-drop, if◌then◌else◌}
 use Rattle.std.proofs.lemmas.Bool.{and_parts, eqb-true, leb-true, ltb-true, lt-ltb}
 use Rattle.std.specs.Prelude.{slice_index}
 use Rattle.rg_event.specs.Reading.{shape_of}
-use Rattle.rg_event.specs.Shapes.{Shape, IsSchema, schema_text}
+use Rattle.rg_event.specs.Shapes.{Shape, IsSchema}
 use Rattle.rg_event.specs.declared.event.Event.{Event}
 use Rattle.rg_event.proofs.Readable.{joined_of, legal_of}
 use Rattle.rg_frame.specs.FrameList.{is_open}
@@ -20,27 +20,27 @@ use Rattle.rg_reservoir.specs.Walked.{place_of, schema_of as known_of, tally_of,
 use Rattle.rg_reservoir.specs.declared.walk.Stage.{Stage}
 use Rattle.rg_reservoir.specs.declared.walk.Stage.TheVariants as stage
 use Rattle.rg_reservoir.specs.declared.walk.Walk.{Walk}
-use Rattle.rg_dump.specs.Dump.{Dump, Part, chunk_part, part_of, is_open_at, before, with_part, with_payload, dump_from, stage_lines}
+use Rattle.rg_dump.specs.Stages.{Stages, Part, schema_part, chunk_part, part_of, is_open_at, before, with_part, with_payload, stages_from}
 
 pub some_none : {A : Type 0} (o : Option A) (x : A) → o ≡ Some x → o ≡ None → ⊥
 some_none o x is none = absurd (let e : Some x ≡ None = sym is ∙ none in cc)
 
--- a frame's payload that the walk took is a part of the dump, and the walk goes on with it
+-- a frame's payload that the walk took is that frame, and the walk goes on with it
 abbrev pub part_in : Stage → Walk → Part
-part_in s new = record { lines = stage_lines s; schema = known_of new; tally = tally_of new }
+part_in s new = record { is = s; schema = known_of new; tally = tally_of new }
 
 pub taken_part : (s : Stage) (payload : List ℕ) (next : ℕ) (old new : Walk) → IsTaken payload next old s new → part_of (known_of old) (tally_of old) payload ≡ Some (part_in s new)
 taken_part (stage.Schema shape) payload next old new taken =
     ap (λ (o : Option Shape). part_of o (tally_of old) payload) taken.start
     ∙ ap (λ (p : List ℕ). part_of None (tally_of old) p) taken.is
-    ∙ ap (λ (o : Option Shape). option_map {U = Part} (λ (shape : Shape). record { lines = schema_text shape ∷ []; schema = Some shape; tally = tally_of old }) o) (schema_said shape taken.legal)
-    ∙ ap (λ (o : Option Shape). Some (record { lines = schema_text shape ∷ []; schema = o; tally = tally_of old })) (sym taken.schema)
-    ∙ ap (λ (t : Tally). Some (record { lines = schema_text shape ∷ []; schema = known_of new; tally = t })) (sym taken.tally)
+    ∙ ap (λ (o : Option Shape). option_map {U = Part} (schema_part (tally_of old)) o) (schema_said shape taken.legal)
+    ∙ ap (λ (o : Option Shape). Some (record { is = stage.Schema shape; schema = o; tally = tally_of old })) (sym taken.schema)
+    ∙ ap (λ (t : Tally). Some (record { is = stage.Schema shape; schema = known_of new; tally = t })) (sym taken.tally)
 taken_part (stage.Chunk events) payload next old new taken =
     ap (λ (o : Option Shape). part_of o (tally_of old) payload) taken.known
     ∙ ap (λ (o : Option (List Event)). chunk_part taken.shape o (told_by (tally_of old) (head_of payload))) taken.said
     ∙ ap (λ (o : Option Tally). chunk_part taken.shape (Some events) o) taken.follows
-    ∙ ap (λ (o : Option Shape). Some (record { lines = stage_lines (stage.Chunk events); schema = o; tally = tally_of new })) (sym taken.known ∙ sym taken.schema)
+    ∙ ap (λ (o : Option Shape). Some (record { is = stage.Chunk events; schema = o; tally = tally_of new })) (sym taken.known ∙ sym taken.schema)
 
 -- a payload that says a schema is that schema's
 schema_is : (payload : List ℕ) (shape : Shape) → schema_of payload ≡ Some shape → IsSchema shape × (payload ≡ schema_payload shape)
@@ -63,7 +63,7 @@ no_chunk shape (Some events) (Some tally) (inr none) = absurd cc
 pub untaken_part : (payload : List ℕ) (walk : Walk) → IsUntaken payload walk → part_of (known_of walk) (tally_of walk) payload ≡ None
 untaken_part payload walk untaken = by (known_of walk) refl
   where
-    first : (o : Option Shape) → schema_of payload ≡ o → known_of walk ≡ None → option_map {U = Part} (λ (shape : Shape). record { lines = schema_text shape ∷ []; schema = Some shape; tally = tally_of walk }) o ≡ None
+    first : (o : Option Shape) → schema_of payload ≡ o → known_of walk ≡ None → option_map {U = Part} (schema_part (tally_of walk)) o ≡ None
     first None said start = refl
     first (Some shape) said start = absurd (untaken.no_schema start shape (schema_is payload shape said).0 (schema_is payload shape said).1)
 
@@ -119,42 +119,42 @@ gate_closed place bytes (inl small) = by (nat_lt 1 (length bytes)) refl
     by false f = rw f refl
 gate_closed place bytes (inr closed) = rw (not_open (drop place bytes) closed) (and_false (nat_lt 1 (length bytes)))
 
--- what is read of a dump
+-- what is read of a log
 
-abbrev pub nothing_more : Option ℕ → Dump
-nothing_more damage = record { lines = []; damage = damage }
+abbrev pub nothing_more : Option ℕ → Stages
+nothing_more damage = record { stages = []; damage = damage }
 
 -- at a closed gate
-pub reads_end : (most place : ℕ) (schema : Option Shape) (tally : Tally) (bytes : List ℕ) → IsClosed place bytes → dump_from most place schema tally bytes ≡ nothing_more None
-unfolding dump_from
+pub reads_end : (most place : ℕ) (schema : Option Shape) (tally : Tally) (bytes : List ℕ) → IsClosed place bytes → stages_from most place schema tally bytes ≡ nothing_more None
+unfolding stages_from
 reads_end zero place schema tally bytes closed = refl
 reads_end (suc most) place schema tally bytes closed = rw (gate_closed place bytes closed) refl
 
 -- at a frame that the walk refuses
-pub reads_damage : (most : ℕ) (walk : Walk) (bytes : List ℕ) → length bytes ≤ place_of walk + most → IsRefused bytes walk → dump_from most (place_of walk) (known_of walk) (tally_of walk) bytes ≡ nothing_more (Some (place_of walk))
-unfolding dump_from
+pub reads_damage : (most : ℕ) (walk : Walk) (bytes : List ℕ) → length bytes ≤ place_of walk + most → IsRefused bytes walk → stages_from most (place_of walk) (known_of walk) (tally_of walk) bytes ≡ nothing_more (Some (place_of walk))
+unfolding stages_from
 reads_damage zero walk bytes enough refused = absurd (omega (arith, enough, (gate_open (place_of walk) bytes refused.gate).1))
 reads_damage (suc most) walk bytes enough refused = rw (gate_open (place_of walk) bytes refused.gate).0 (by (payload_at (place_of walk) bytes) refl)
   where
-    behind : ℕ → Part → Dump
-    behind next part = dump_from most next part.schema part.tally bytes
+    behind : ℕ → Part → Stages
+    behind next part = stages_from most next part.schema part.tally bytes
 
     by : (o : Option (List ℕ)) → payload_at (place_of walk) bytes ≡ o → with_payload (place_of walk) (known_of walk) (tally_of walk) o behind ≡ nothing_more (Some (place_of walk))
     by None here = refl
     by (Some payload) here = ap (λ (o : Option Part). with_part (place_of walk) o (behind (place_of walk + 9 + length payload))) (untaken_part payload walk (refused.untaken payload here))
 
--- a frame that the walk took: its lines, and then what is read behind it
+-- a frame that the walk took, and then what is read behind it
 pub record Behind (most : ℕ) (s : Stage) (old new : Walk) (bytes : List ℕ) : Type 0 where
   pub fewer : ℕ
   pub enough : length bytes ≤ place_of new + fewer
-  pub is : dump_from most (place_of old) (known_of old) (tally_of old) bytes ≡ before (stage_lines s) (dump_from fewer (place_of new) (known_of new) (tally_of new) bytes)
+  pub is : stages_from most (place_of old) (known_of old) (tally_of old) bytes ≡ before s (stages_from fewer (place_of new) (known_of new) (tally_of new) bytes)
 
 next_place : (s : Stage) (payload : List ℕ) (next : ℕ) (old new : Walk) → IsTaken payload next old s new → place_of new ≡ next
 next_place (stage.Schema shape) payload next old new taken = taken.place
 next_place (stage.Chunk events) payload next old new taken = taken.place
 
 pub reads_frame : (most : ℕ) (s : Stage) (old new : Walk) (bytes : List ℕ) → length bytes ≤ place_of old + most → IsNext bytes old s new → Behind most s old new bytes
-unfolding dump_from
+unfolding stages_from
 reads_frame zero s old new bytes enough next = absurd (omega (arith, enough, (payload_open (place_of old) bytes next.0 next.1).1))
 reads_frame (suc most) s old new bytes enough next =
     let place = next_place s next.0 (place_of old + 9 + length next.0) old new next.2 in
@@ -162,6 +162,6 @@ reads_frame (suc most) s old new bytes enough next =
       fewer = most;
       enough = omega (arith, enough, place);
       is = rw ((payload_open (place_of old) bytes next.0 next.1).0, next.1)
-          (ap (λ (o : Option Part). with_part (place_of old) o (λ (part : Part). dump_from most (place_of old + 9 + length next.0) part.schema part.tally bytes)) (taken_part s next.0 (place_of old + 9 + length next.0) old new next.2)
-          ∙ ap (λ (n : ℕ). before (stage_lines s) (dump_from most n (known_of new) (tally_of new) bytes)) (sym place));
+          (ap (λ (o : Option Part). with_part (place_of old) o (λ (part : Part). stages_from most (place_of old + 9 + length next.0) part.schema part.tally bytes)) (taken_part s next.0 (place_of old + 9 + length next.0) old new next.2)
+          ∙ ap (λ (n : ℕ). before s (stages_from most n (known_of new) (tally_of new) bytes)) (sym place));
     }

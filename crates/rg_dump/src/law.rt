@@ -4,7 +4,7 @@ ghost use Rattle.rg_event.specs.declared.event.Event.{Event};
 ghost use Rattle.rg_frame.specs.Frames.{HasPayloads};
 ghost use Rattle.rg_log.specs.Log.{HasEvents, HasSchemaFrame};
 ghost use Rattle.rg_dump.specs.Rows.{row_line};
-ghost use Rattle.rg_dump.specs.Dump.{dump_of, dump_text, damage_of};
+ghost use Rattle.rg_dump.specs.Dump.{dump_text, damage_of};
 
 /// The dump of a legal log has the text of its schema and a row for each of its events, and no
 /// damaged place; that of a log without frames is empty.

@@ -1,0 +1,4 @@
+pub mod Lasts
+pub mod Summing
+pub mod Laws
+pub mod Worked

@@ -64,6 +64,9 @@ pub(crate) fn answer_line<H: Host, T: Table, L: Ledger>(
     ensures never_bad { (course : Course) (items : List (Option (List ℕ))) (n : ℕ) →
         IsAwaiting (planned plan.now) course offset items (H.now host.old) (H.may host.old) (H.said host.old) (T.tells session.old.engine.table) (T.cell session.old.engine.table) session.old →
         IsErrOf result (TurnFault.Task (TaskFault.BadState n)) → ⊥ }
+    ensures never_damaged { (course : Course) (items : List (Option (List ℕ))) (p : ℕ) →
+        IsAwaiting (planned plan.now) course offset items (H.now host.old) (H.may host.old) (H.said host.old) (T.tells session.old.engine.table) (T.cell session.old.engine.table) session.old →
+        IsErrOf result (TurnFault.Task (TaskFault.Damaged p)) → ⊥ }
 
     ensures damaged { (p : ℕ) → IsErrOf result (TurnFault.Task (TaskFault.Damaged p)) → ForSome (H.now host.new) (λ v. IsIllegal (base session.new.reservoir).shape.fields p (v (base session.new.reservoir).file)) }
     ensures write { IsErrOf result TurnFault.Write → Rose (H.out_faults host.old) (H.out_faults host.new) }

@@ -93,6 +93,9 @@ impl<T: Table> Turning<T> {
         ensures never_bad { (course : Course) (items : List (Option (List ℕ))) (n : ℕ) →
             IsAwaiting (planned plan.now) course self.old.offset items (H.now host.old) (H.may host.old) (H.said host.old) (T.tells self.old.session.engine.table) (T.cell self.old.session.engine.table) self.old.session →
             IsErrOf result (TurnFault.Task (TaskFault.BadState n)) → ⊥ }
+        ensures never_damaged { (course : Course) (items : List (Option (List ℕ))) (p : ℕ) →
+            IsAwaiting (planned plan.now) course self.old.offset items (H.now host.old) (H.may host.old) (H.said host.old) (T.tells self.old.session.engine.table) (T.cell self.old.session.engine.table) self.old.session →
+            IsErrOf result (TurnFault.Task (TaskFault.Damaged p)) → ⊥ }
         ensures offset { OnOk result (self.new.offset ≡ self.old.offset + 1) }
 
         ensures damaged { (p : ℕ) → IsErrOf result (TurnFault.Task (TaskFault.Damaged p)) → ForSome (H.now host.new) (λ v. IsIllegal (base self.new.session.reservoir).shape.fields p (v (base self.new.session.reservoir).file)) }

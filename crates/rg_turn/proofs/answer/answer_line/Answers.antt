@@ -125,3 +125,6 @@ returns-clause-stopped g c = λ course item items a reads.
 
 pub returns-in-Err-clause-never_bad : goal.returns-in-Err-clause-never_bad
 returns-in-Err-clause-never_bad g c = λ course items n a is. c.line.ensures.never_bad (planned c.args.plan.now) n a.running (c.in-Err.is ∙ ap (λ v. Err v) (same_task c.in-Err.fault _ is))
+
+pub returns-in-Err-clause-never_damaged : goal.returns-in-Err-clause-never_damaged
+returns-in-Err-clause-never_damaged g c = λ course items p a is. c.line.ensures.never_damaged (planned c.args.plan.now) p a.running (c.in-Err.is ∙ ap (λ v. Err v) (same_task c.in-Err.fault _ is))

@@ -1,0 +1,147 @@
+-- A run up to its open line.
+use Rattle.std.proofs.Common.{◌≡◌, ◌⊎◌, inl, inr, ℕ, ◌≤◌, List, [], ◌∷◌, ◌++◌, length, Option, Some, refl, ap, sym, ◌∙◌, subst}
+use Rattle.std.proofs.lemmas.List.{append-nil}
+use Rattle.std.specs.Option.{ForSome}
+use Rattle.rg_host.specs.Image.{Image}
+use Rattle.rg_host.specs.Lines.{ended, lines_of}
+use Rattle.rg_host.specs.Moments.{Moment, Moments, LeavesFiles}
+use Rattle.rg_host.specs.Puts.{IsPrefix, IsPartWay, Puts}
+use Rattle.rg_host.proofs.Runs.{moments-weaker, moments_then}
+use Rattle.rg_event.specs.declared.event.Event.{Event}
+use Rattle.rg_event.specs.Rising.{IsRising, next_offset}
+use Rattle.rg_config.specs.Plans.{Planned}
+use Rattle.rg_state.specs.Rows.{Cells}
+use Rattle.rg_reply.specs.Texts.{mark_line}
+use Rattle.rg_reply.specs.declared.mark.Mark.TheVariants.{Opened}
+use Rattle.rg_course.specs.Laws.{IsPrefixOf}
+use Rattle.rg_course.specs.Output.{open_line, out}
+use Rattle.rg_course.specs.Steps.{IsAtRest, IsMidStep, IsStepped}
+use Rattle.rg_course.specs.Stores.{Course, IsKept, IsNear, StaysOnCourseSince}
+use Rattle.rg_course.specs.Turns.{IsBetween}
+use Rattle.rg_course.proofs.Betweens.{at_rest_first, between_first}
+use Rattle.rg_course.proofs.Courses.{on_course_mid_step, on_course_put}
+use Rattle.rg_course.proofs.Hosts.{part_way_more, put as putting}
+use Rattle.rg_course.proofs.Keeping.{after_step, mid_step_kept, rest_kept}
+use Rattle.rg_course.proofs.Marking.{open_marks}
+use Rattle.rg_course.proofs.Texts.{mark_no_lf}
+use Rattle.rg_log.specs.Log.{HasEvents}
+use Rattle.rg_store.specs.Stores.{store_of}
+use Rattle.rg_open.specs.Within.{IsAsRead, IsWithinOpening}
+use Rattle.rg_reservoir.specs.Kept.{next_of}
+use Rattle.rg_recover.specs.Sessions.{Sitting, IsRunning, count_in, events_of, stored_of}
+use Rattle.rg_recover.proofs.Sound.{long}
+use Rattle.rg_turn.specs.Turning.{IsAwaiting, terms_of}
+use Rattle.rg_turn.proofs.Stepping.{running_still}
+use Rattle.rg_turn.proofs.Telling.{next_by}
+use Rattle.rg_run.specs.Begun.{IsReady, begun_by, course_for}
+use Rattle.rg_run.specs.UnderWay.{IsUnopened}
+
+module _ {H : Type 0} (now : H → Option Image) (may : H → Image → Type 0) (clock : H → ℕ) (since : H → ℕ → Moment → Type 0) (said : H → Option (List ℕ)) (plan : Planned) (old : H) (ready : IsReady plan (now old) (may old) (said old)) (from first : ℕ) (input : List ℕ) where
+  abbrev pub course : Course
+  course = course_for plan (begun_by ready from first input)
+
+  abbrev v : Image
+  v = ready.openable.image
+
+  abbrev P : Moment → Type 0
+  P = StaysOnCourseSince (store_of plan) course (may old) []
+
+  rising : IsRising ready.held
+  rising = subst IsRising ready.has.2 ready.has.1.rising
+
+  -- each image that reads as the host reads has the events
+  at_read : (keep : Option ℕ) → IsAtRest (store_of plan) course [] ready.held keep (IsAsRead v (may old))
+  at_read keep = at_rest_first Image (store_of plan) (terms_of plan) ready.put ready.held from first (lines_of input) keep (IsAsRead v (may old))
+      (λ u h. ready.openable.truthful u h.0)
+      (λ u h. ready.openable.schema u h.0)
+      (λ u h. subst (λ (bytes : List ℕ). HasEvents plan.shape ready.held bytes) (sym h.3) ready.has)
+      rising
+
+  begins : (keep : Option ℕ) → IsPrefixOf (ready.held ++ []) course.accepted
+  begins keep = subst (λ (l : List Event). IsPrefixOf l course.accepted) (sym (append-nil ready.held)) (at_read keep).begins
+
+  near : IsNear course [] (ready.held ++ [])
+  near = inl (append-nil ready.held)
+
+  nothing_said : ready.put ≡ course.said ++ ended []
+  nothing_said = sym (append-nil ready.put)
+
+  module _ (keep : Option ℕ) (opened : H) (within : IsWithinOpening may clock since said (store_of plan) keep v old opened) where
+    each : (m : Moment) → (may old m.image ⊎ IsMidStep (store_of plan) keep [] (IsAsRead v (may old)) m.image) × ForSome (said old) (λ s. m.said ≡ s) → P m
+    each m (inl left, says) = inl (left, ([], ([], refl), says ready.put ready.told ∙ sym (append-nil ready.put)))
+    each m (inr mid, says) = inr (on_course_mid_step Image (store_of plan) course [] course.text ready.held [] keep (IsAsRead v (may old)) [] m.image m.said (at_read keep) (begins keep) near tt refl mid (says ready.put ready.told ∙ nothing_said))
+
+    pub opening_moments : Moments clock since old opened P
+    opening_moments = moments-weaker clock since old opened (λ m. (may old m.image ⊎ IsMidStep (store_of plan) keep [] (IsAsRead v (may old)) m.image) × ForSome (said old) (λ s. m.said ≡ s)) P within.moments each
+
+    kept_by : (u : Image) → may old u ⊎ IsMidStep (store_of plan) keep [] (IsAsRead v (may old)) u → may old u ⊎ IsKept (store_of plan) course [] u
+    kept_by u (inl left) = inl left
+    kept_by u (inr mid) = inr (mid_step_kept Image (store_of plan) course [] ready.held [] keep (IsAsRead v (may old)) u (at_read keep) (begins keep) near mid)
+
+    pub unopened : IsUnopened may said plan (begun_by ready from first input) old opened
+    unopened = record { said_stays = within.said_stays; left = λ u left. kept_by u (within.left u left) }
+
+    told_opened : said opened ≡ Some ready.put
+    told_opened = within.said_stays ∙ ready.told
+
+    -- the store is opened
+    module _ (stepped : (u : Image) → may opened u → IsStepped (store_of plan) keep [] (IsAsRead v (may old)) u) where
+      at_open : IsAtRest (store_of plan) course [] ready.held keep (may opened)
+      at_open = subst (λ (l : List Event). IsAtRest (store_of plan) course [] l keep (may opened)) (append-nil ready.held) (after_step Image (store_of plan) course [] ready.held [] keep (IsAsRead v (may old)) (may opened) (at_read keep) (begins keep) near stepped)
+
+      -- the open line is put, or a part of it
+      module _ (new : H) (files : LeavesFiles now may clock since opened new) where
+        put_holds : (m : Moment) → may opened m.image × IsPartWay ready.put (ended (open_line ready.held from ∷ [])) m.said → P m
+        put_holds m p = inr (on_course_put Image (store_of plan) course [] (open_line ready.held from ∷ []) (out (terms_of plan) ready.held first (lines_of input)) ready.held keep (may opened) [] m.image m.said at_open tt (mark_no_lf (Opened (next_offset ready.held) (length ready.held) from), tt) refl
+            (open_marks Image (store_of plan) ready.held from ready.held keep (may opened)) p.0 (subst (λ (l : List ℕ). IsPartWay l (ended (open_line ready.held from ∷ [])) m.said) nothing_said p.1))
+
+        pub part_moments : (part : List ℕ) → IsPrefix part (ended (open_line ready.held from ∷ [])) → Puts said clock since opened new part → Moments clock since old new P
+        part_moments part front puts =
+            let p = putting H now may clock since said opened new ready.put part told_opened files puts in
+            moments_then clock since old opened new P (λ m. may opened m.image × IsPartWay ready.put part m.said) P opening_moments p.moments (λ m h. h)
+            (λ m h. put_holds m (h.0, part_way_more ready.put part (ended (open_line ready.held from ∷ [])) m.said front h.1))
+
+        module _ {T : Type 0} (told : Type 0) (cells : Cells) (s : Sitting T) (keep_is : s.keep ≡ keep) (running : IsRunning plan (now opened) (may opened) told cells s)
+            (events : events_of (now opened) s ≡ ready.held) (stored : stored_of (now opened) s ≡ ready.held) (puts : Puts said clock since opened new (ended (open_line ready.held from ∷ []))) where
+          abbrev put_now : List ℕ
+          put_now = ready.put ++ ended (open_line ready.held from ∷ [])
+
+          now_same : now new ≡ now opened
+          now_same = files.now_stays
+
+          events_now : events_of (now new) s ≡ ready.held
+          events_now = ap (λ (i : Option Image). events_of i s) now_same ∙ events
+
+          stored_now : stored_of (now new) s ≡ ready.held
+          stored_now = ap (λ (i : Option Image). stored_of i s) now_same ∙ stored
+
+          first_between : IsBetween (store_of plan) (terms_of plan) course ready.held first (lines_of input) ready.held keep (may new) put_now
+          first_between =
+              let p = putting H now may clock since said opened new ready.put (ended (open_line ready.held from ∷ [])) told_opened files puts in
+              between_first Image (store_of plan) (terms_of plan) ready.put ready.held from first (lines_of input) keep (may opened) (may new) put_now at_open p.fewer refl
+
+          pub first_awaits : IsAwaiting plan course first (lines_of input) (now new) (may new) (said new) told cells s × (events_of (now new) s ≡ ready.held)
+          first_awaits =
+              let p = putting H now may clock since said opened new ready.put (ended (open_line ready.held from ∷ [])) told_opened files puts in
+              let store = store_of plan in
+              let terms = terms_of plan in
+              let lines = lines_of input in
+              let b1 = subst (λ (es : List Event). IsBetween store terms course es first lines ready.held keep (may new) put_now) (sym events_now) first_between in
+              let b2 = subst (λ (es : List Event). IsBetween store terms course (events_of (now new) s) first lines es keep (may new) put_now) (sym stored_now) b1 in
+              let b3 = subst (λ (k : Option ℕ). IsBetween store terms course (events_of (now new) s) first lines (stored_of (now new) s) k (may new) put_now) (sym keep_is) b2 in (
+                record {
+                  running = running_still now may clock since said plan course first (Option.None) lines told cells opened new s files running;
+                  put = put_now;
+                  told = p.told;
+                  between = b3;
+                },
+                events_now,
+              )
+
+-- the numbers of an opened store
+pub numbers : {T : Type 0} (plan : Planned) (now : Option Image) (may : Image → Type 0) (told : Type 0) (cells : Cells) (s : Sitting T) → IsRunning plan now may told cells s → (held : List Event) → events_of now s ≡ held → (next count : ℕ) → next ≡ next_of s.reservoir → count ≡ count_in s.reservoir → (next ≡ next_offset held) × (count ≡ length held)
+numbers plan now may told cells s running held events next count next_is count_is = (next_is ∙ next_by plan now may told cells s running ∙ ap next_offset events, count_is ∙ sym (long now s.reservoir) ∙ ap length events)
+
+-- the open line
+pub open_is : (held : List Event) (from next count : ℕ) → next ≡ next_offset held → count ≡ length held → ended (mark_line (Opened next count from) ∷ []) ≡ ended (open_line held from ∷ [])
+open_is held from next count n c = ap (λ k. ended (mark_line (Opened k count from) ∷ [])) n ∙ ap (λ k. ended (mark_line (Opened (next_offset held) k from) ∷ [])) c

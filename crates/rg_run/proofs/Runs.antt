@@ -1,0 +1,53 @@
+-- A whole run, from its beginning and its lines.
+use Rattle.std.proofs.Common.{◌≡◌, ◌⊎◌, inl, inr, ℕ, ◌+◌, ◌≤◌, false, List, [], ◌++◌, length, Option, Some, Result, Ok, Err, refl, ap, sym, ◌∙◌, subst, arith}
+use Rattle.std.proofs.lemmas.List.{append-nil}
+use Rattle.std.specs.Option.{ForSome}
+use Rattle.rg_host.specs.Image.{Image}
+use Rattle.rg_host.specs.Lines.{lines_of}
+use Rattle.rg_host.specs.Moments.{Moment, Moments}
+use Rattle.rg_host.specs.Reading.{Reading}
+use Rattle.rg_host.proofs.Runs.{moments-none}
+use Rattle.rg_config.specs.Plans.{Planned}
+use Rattle.rg_state.specs.Rows.{Cells}
+use Rattle.rg_course.specs.Stores.{StaysOnCourseSince}
+use Rattle.rg_store.specs.Stores.{store_of}
+use Rattle.rg_recover.specs.Sessions.{Sitting, events_of}
+use Rattle.rg_turn.specs.Turning.{IsAwaiting, HasStopped}
+use Rattle.rg_run.specs.Begun.{IsReady, Begun, begun_by, course_for}
+use Rattle.rg_run.specs.Reading.{HasRead}
+use Rattle.rg_run.specs.UnderWay.{IsUnderWay, IsUnopened, IsLeft}
+use Rattle.rg_run.specs.declared.fault.RunFault.{RunFault}
+use Rattle.rg_run.specs.declared.fault.RunFault.TheVariants.{Write}
+use Rattle.rg_run.proofs.Taking.{read_none}
+use Rattle.rg_run.proofs.Turns.{IsCut}
+
+module _ {H : Type 0} (now : H → Option Image) (may : H → Image → Type 0) (clock : H → ℕ) (since : H → ℕ → Moment → Type 0) (said : H → Option (List ℕ)) (plan : Planned) where
+  -- a run that never began
+  pub none_moments : (only : (h : H) (m : Moment) → since h (clock h) m → may h m.image × ForSome (said h) (λ t. m.said ≡ t)) (sinks : (h : H) (t u : ℕ) (m : Moment) → t ≤ u → since h u m → since h t m) (old : H) (ready : IsReady plan (now old) (may old) (said old)) (from first : ℕ) (input : List ℕ) →
+      Moments clock since old old (StaysOnCourseSince (store_of plan) (course_for plan (begun_by ready from first input)) (may old) [])
+  none_moments only sinks old ready from first input = moments-none clock since old (StaysOnCourseSince (store_of plan) (course_for plan (begun_by ready from first input)) (may old) []) (λ t u m le h. sinks old t u m le h)
+      (λ m h. let at = only old m h in inl (at.0, ([], ([], refl), at.1 ready.put ready.told ∙ sym (append-nil ready.put))))
+
+  pub none_unopened : (b : Begun) (old : H) → IsUnopened may said plan b old old
+  none_unopened b old = record { said_stays = refl; left = λ u left. inl left }
+
+  pub left_unopened : (b : Begun) (fault : RunFault) (old new : H) → (fault ≡ Write) ⊎ IsUnopened may said plan b old new → IsLeft may said plan b fault old new
+  left_unopened b fault old new (inl write) = inl write
+  left_unopened b fault old new (inr none) = inr (inr none)
+
+  pub left_cut : (b : Begun) (fault : RunFault) (old new : H) → IsCut may said plan b new fault → IsLeft may said plan b fault old new
+  left_cut b fault old new (inl write) = inl write
+  left_cut b fault old new (inr stopped) = inr (inl stopped)
+
+-- before the first line
+pub way_first : {T : Type 0} (plan : Planned) (b : Begun) (left : Option (List ℕ)) (reading : Reading) (offset : ℕ) (now : Option Image) (may : Image → Type 0) (said : Option (List ℕ)) (told : Type 0) (cells : Cells) (s : Sitting T) →
+    left ≡ Some b.input → reading.pending ≡ [] → reading.ended ≡ false → offset ≡ b.first → IsAwaiting plan (course_for plan b) b.first (lines_of b.input) now may said told cells s → events_of now s ≡ b.held → IsUnderWay plan b left reading offset now may said told cells s
+way_first plan b left reading offset now may said told cells s left_is pending still at awaits events = record {
+  handed = [];
+  items = lines_of b.input;
+  read = subst (λ (l : Option (List ℕ)). HasRead b.input l reading []) (sym left_is) (read_none b.input reading pending still);
+  whole = refl;
+  offset_is = omega (arith, at);
+  awaiting = subst (λ (n : ℕ). IsAwaiting plan (course_for plan b) n (lines_of b.input) now may said told cells s) (sym at) awaits;
+  events = events;
+}

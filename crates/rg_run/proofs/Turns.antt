@@ -1,0 +1,132 @@
+-- A run from one line of its input to the next.
+use Rattle.std.proofs.Common.{◌≡◌, ◌⊎◌, inl, inr, ⊎_elim, ℕ, ◌+◌, List, [], ◌∷◌, ◌++◌, length, Option, Some, None, Result, Ok, Err, refl, ap, sym, ◌∙◌, subst, arith, append_assoc, length-append}
+use Rattle.std.proofs.lemmas.List.{append-nil, append_cancel_right}
+use Rattle.std.specs.Prelude.{◌≤◌, OnOk, IfErr}
+use Rattle.std.specs.Option.{ForSome}
+use Rattle.rg_host.specs.Image.{Image}
+use Rattle.rg_host.specs.Lines.{ended, lines_of, whole_lines}
+use Rattle.rg_host.specs.Moments.{Moment, Moments}
+use Rattle.rg_host.proofs.Runs.{moments-none}
+use Rattle.rg_host.specs.Reading.{Reading, Next}
+use Rattle.rg_host.specs.declared.lines.Line.{Line}
+use Rattle.rg_host.specs.declared.lines.Line.TheVariants.{End}
+use Rattle.rg_host.specs.declared.lines.LineFault.{LineFault}
+use Rattle.rg_host.specs.declared.lines.LineFault.TheVariants as reading
+use Rattle.rg_event.specs.declared.event.Event.{Event}
+use Rattle.rg_config.specs.Plans.{Planned}
+use Rattle.rg_state.specs.Rows.{Cells}
+use Rattle.rg_course.specs.Accepted.{events_after}
+use Rattle.rg_course.specs.Ahead.{after_line, out_from}
+use Rattle.rg_course.specs.Output.{open_line, put_before, out}
+use Rattle.rg_course.specs.Stores.{Course, StaysOnCourse}
+use Rattle.rg_course.proofs.Courses.{on_course_at_rest, stopped_at_rest}
+use Rattle.rg_course.proofs.Whole.{accepted_more, out_more}
+use Rattle.rg_store.specs.Stores.{store_of}
+use Rattle.rg_recover.specs.Sessions.{Sitting, events_of, stored_of}
+use Rattle.rg_recover.specs.declared.fault.TaskFault.TheVariants as task
+use Rattle.rg_turn.specs.declared.fault.TurnFault.{TurnFault}
+use Rattle.rg_turn.specs.declared.fault.TurnFault.TheVariants as turn
+use Rattle.rg_turn.specs.Turning.{IsAwaiting, HasStopped, terms_of}
+use Rattle.rg_run.specs.Begun.{Begun, lines_in, course_for}
+use Rattle.rg_run.specs.Faults.{of_turn}
+use Rattle.rg_run.specs.UnderWay.{IsUnderWay, Answers, HasAnswered, HasFinished}
+use Rattle.rg_run.specs.declared.fault.RunFault.{RunFault}
+use Rattle.rg_run.specs.declared.fault.RunFault.TheVariants.{Read, Limit, Write}
+use Rattle.rg_run.proofs.Taking.{Item, TakesLine, read_on, item_next, end_next, whole_handed, took_past}
+
+-- whole lines were put, or a put failed
+abbrev pub IsCut : {H : Type 0} → (H → Image → Type 0) → (H → Option (List ℕ)) → Planned → Begun → H → RunFault → Type 0
+IsCut may said plan b new fault = (fault ≡ Write) ⊎ HasStopped plan (course_for plan b) (may new) (said new)
+
+pub stops : {H : Type 0} (may : H → Image → Type 0) (said : H → Option (List ℕ)) (plan : Planned) (b : Begun) (new : H) (fault : TurnFault) → (fault ≡ turn.Write) ⊎ HasStopped plan (course_for plan b) (may new) (said new) → IsCut may said plan b new (of_turn fault)
+stops may said plan b new fault (inl is) = inl (ap of_turn is)
+stops may said plan b new fault (inr stopped) = inr stopped
+
+module _ {H T : Type 0} (now : H → Option Image) (may : H → Image → Type 0) (clock : H → ℕ) (since : H → ℕ → Moment → Type 0) (said : H → Option (List ℕ)) (plan : Planned) (b : Begun) (left : Option (List ℕ)) (old_r : Reading) (offset : ℕ) (told : Type 0) (cells : Cells) (old : H) (s : Sitting T)
+    (way : IsUnderWay plan b left old_r offset (now old) (may old) (said old) told cells s) where
+  -- a line was handed out
+  module _ (then_left : Option (List ℕ)) (new_r : Reading) (item : Item) (takes : TakesLine old_r new_r left then_left item) where
+    next : (more : List Item) × (way.items ≡ item ∷ more)
+    next = item_next b.input left then_left old_r new_r way.handed way.read item takes way.items way.whole
+
+    awaits : IsAwaiting plan (course_for plan b) offset (item ∷ next.0) (now old) (may old) (said old) told cells s
+    awaits = subst (λ (l : List Item). IsAwaiting plan (course_for plan b) offset l (now old) (may old) (said old) told cells s) next.1 way.awaiting
+
+    module _ {A : Type 0} (result : Result A TurnFault) (offset_then : ℕ) (told_then : Type 0) (cells_then : Cells) (new : H) (then : Sitting T) (a : Answers now may clock since said plan item offset offset_then told told_then cells cells_then old new s then result) where
+      pub line_moments : Moments clock since old new (StaysOnCourse (store_of plan) (course_for plan b) [])
+      line_moments = a.moments (course_for plan b) next.0 awaits
+
+      pub line_stopped : (fault : TurnFault) → result ≡ Err fault → IsCut may said plan b new (of_turn fault)
+      line_stopped fault is = stops may said plan b new fault (subst (λ (r : Result A TurnFault). IfErr r (λ f. (f ≡ turn.Write) ⊎ HasStopped plan (course_for plan b) (may new) (said new))) is (a.stopped (course_for plan b) next.0 awaits))
+
+      pub line_never_bad : IfErr result (λ f. (n : ℕ) → f ≡ turn.Task (task.BadState n) → ⊥)
+      line_never_bad = a.never_bad (course_for plan b) next.0 awaits
+
+      pub line_never_damaged : IfErr result (λ f. (p : ℕ) → f ≡ turn.Task (task.Damaged p) → ⊥)
+      line_never_damaged = a.never_damaged (course_for plan b) next.0 awaits
+
+      pub line_on : (done : A) → result ≡ Ok done → offset_then ≡ offset + 1 → IsUnderWay plan b then_left new_r offset_then (now new) (may new) (said new) told_then cells_then then
+      line_on done is moved =
+          let events = subst (λ (r : Result A TurnFault). OnOk r (events_of (now new) then ≡ after_line (terms_of plan).basis (events_of (now old) s) offset item)) is (a.events (course_for plan b) next.0 awaits) in
+          record {
+            handed = way.handed ++ item ∷ [];
+            items = next.0;
+            read = read_on b.input left then_left old_r new_r way.handed way.read item takes;
+            whole = append_assoc way.handed (item ∷ []) next.0 ∙ ap (λ (l : List Item). way.handed ++ l) (sym next.1) ∙ way.whole;
+            offset_is = omega (arith, moved, way.offset_is, length-append way.handed (item ∷ []));
+            awaiting = subst (λ (r : Result A TurnFault). OnOk r (IsAwaiting plan (course_for plan b) offset_then next.0 (now new) (may new) (said new) told_then cells_then then)) is (a.awaits (course_for plan b) next.0 awaits);
+            events = events
+                ∙ ap (λ (es : List Event). after_line (terms_of plan).basis es offset item) way.events
+                ∙ ap (λ (n : ℕ). after_line (terms_of plan).basis (events_after (terms_of plan).basis b.held b.first way.handed) n item) way.offset_is
+                ∙ sym (accepted_more (terms_of plan) b.held b.first way.handed (item ∷ []));
+          }
+
+  -- the end came
+  pub end_awaits : (then_left : Option (List ℕ)) (new_r : Reading) → Next old_r new_r left then_left (Ok End) → IsAwaiting plan (course_for plan b) offset [] (now old) (may old) (said old) told cells s
+  end_awaits then_left new_r next = subst (λ (l : List Item). IsAwaiting plan (course_for plan b) offset l (now old) (may old) (said old) told cells s) (end_next b.input left then_left old_r new_r way.handed way.read next way.items way.whole) way.awaiting
+
+  -- the run stops where it is
+  pub stops_here : HasStopped plan (course_for plan b) (may old) (said old)
+  stops_here =
+      let a = way.awaiting in
+      record {
+        put = a.put;
+        told = a.told;
+        stopped = stopped_at_rest Image (store_of plan) (course_for plan b) a.between.lines (out_from (terms_of plan) (events_of (now old) s) offset way.items) (stored_of (now old) s) s.keep (may old) a.put a.between.at_rest a.between.are_lines a.between.text a.between.said_is;
+      }
+
+  -- no call is on the course
+  pub stays : (only : (h : H) (m : Moment) → since h (clock h) m → may h m.image × ForSome (said h) (λ t. m.said ≡ t)) (sinks : (h : H) (t u : ℕ) (m : Moment) → t ≤ u → since h u m → since h t m) → Moments clock since old old (StaysOnCourse (store_of plan) (course_for plan b) [])
+  stays only sinks =
+      let a = way.awaiting in
+      moments-none clock since old (StaysOnCourse (store_of plan) (course_for plan b) []) (λ t u m le h. sinks old t u m le h)
+      (λ m h. let at = only old m h in
+      on_course_at_rest Image (store_of plan) (course_for plan b) a.between.lines (out_from (terms_of plan) (events_of (now old) s) offset way.items) (stored_of (now old) s) s.keep (may old) [] m.image m.said a.between.at_rest a.between.are_lines a.between.text at.0 (at.1 a.put a.told ∙ a.between.said_is))
+
+  -- just what answers the lines handed out was put
+  lines_are : way.awaiting.between.lines ≡ open_line b.held b.from ∷ put_before (terms_of plan) b.held b.first way.handed (length way.handed)
+  lines_are =
+      let terms = terms_of plan in
+      let rest = out_from terms (events_of (now old) s) offset way.items in
+      append_cancel_right way.awaiting.between.lines (open_line b.held b.from ∷ put_before terms b.held b.first way.handed (length way.handed)) rest
+      (way.awaiting.between.text
+      ∙ ap (λ (l : List (List ℕ)). open_line b.held b.from ∷ l)
+      (ap (λ (l : List Item). out terms b.held b.first l) (sym way.whole)
+      ∙ out_more terms b.held b.first way.handed way.items
+      ∙ ap (λ (es : List Event). put_before terms b.held b.first way.handed (length way.handed) ++ out_from terms es (b.first + length way.handed) way.items) (sym way.events)
+      ∙ ap (λ (n : ℕ). put_before terms b.held b.first way.handed (length way.handed) ++ out_from terms (events_of (now old) s) n way.items) (sym way.offset_is)))
+
+  pub answered : (then_left : Option (List ℕ)) (new_r : Reading) (fault : LineFault) (limit : Type 0) → (next : Next old_r new_r left then_left (Err fault)) → (fault ≡ reading.Limit → limit) → HasAnswered plan b then_left (said old) limit
+  answered then_left new_r fault limit next is_limit =
+      let got = way.read.got ++ next.got in
+      let handed = whole_handed b.input left then_left old_r new_r way.handed way.read fault next in
+      record {
+        got = got;
+        past = next.past;
+        took = took_past b.input left then_left old_r new_r way.handed way.read fault next;
+        one = next.one_past;
+        none_past = ⊎_elim (λ none. inl none) (λ is. inr (is_limit (let e : fault ≡ reading.Limit = cc in e))) next.none_past;
+        put = way.awaiting.told
+            ∙ ap (λ (t : List ℕ). Some t) (way.awaiting.between.said_is ∙ ap (λ (l : List (List ℕ)). b.said ++ ended l)
+            (lines_are ∙ ap (λ (l : List Item). open_line b.held b.from ∷ put_before (terms_of plan) b.held b.first l (length l)) (sym handed)));
+      }

@@ -1,0 +1,36 @@
+use Rattle.std.proofs.Common.{Some, ◌∷◌, sym, ◌∙◌, ap}
+use Rattle.rg_config.specs.Plans.{planned}
+use Rattle.rg_verdict.specs.Verdicts.{or_reply}
+use Rattle.rg_row.specs.Rows.{row_of}
+use Rattle.rg_turn.specs.Turning.{terms_of}
+use Rattle.rg_run.proofs.Causes.{never_by, bad_by, undamaged_by, damaged_by}
+use Rattle.rg_run.proofs.Texts.{as_header, as_line}
+use Rattle.rg_run.proofs.turn.answer_text.Goals as goal
+
+pub returns-then-is_header-clause-answers : goal.returns-then-is_header-clause-answers
+returns-then-is_header-clause-answers g c =
+    let plan = planned c.args.plan.now in
+    let item = Some c.args.text.now in
+    let reads = as_header (terms_of plan).basis c.args.turning.now.offset item (sym c.is_header.ensures ∙ c.if-is_header.true) in
+    record {
+      moments = λ course items a. c.refuse.ensures.moments plan course item items a reads;
+      awaits = λ course items a. c.refuse.ensures.awaits plan course item items a reads;
+      events = λ course items a. c.refuse.ensures.events plan course item items a reads;
+      stopped = λ course items a. c.refuse.ensures.stopped plan course item items a reads;
+      never_damaged = λ course items a. undamaged_by c.refuse.result c.refuse.ensures.faults;
+      never_bad = λ course items a. never_by c.refuse.result c.refuse.ensures.faults;
+    }
+
+pub returns-clause-answers : goal.returns-clause-answers
+returns-clause-answers g c =
+    let plan = planned c.args.plan.now in
+    let item = Some c.args.text.now in
+    let reads = as_line (terms_of plan).basis c.args.turning.now.offset item (sym c.is_header.ensures ∙ c.if-is_header.false) ∙ ap (λ l. or_reply (row_of plan.shape.fields c.args.turning.now.offset l)) (sym c.clean.ensures) in
+    record {
+      moments = λ course items a. c.answer.ensures.moments course item items a reads;
+      awaits = λ course items a. c.answer.ensures.awaits course item items a reads;
+      events = λ course items a. c.answer.ensures.events course item items a reads;
+      stopped = λ course items a. c.answer.ensures.stopped course item items a reads;
+      never_damaged = λ course items a. damaged_by c.answer.result (λ p is. c.answer.ensures.never_damaged course (item ∷ items) p a is);
+      never_bad = λ course items a. bad_by c.answer.result (λ n is. c.answer.ensures.never_bad course (item ∷ items) n a is);
+    }

@@ -1,0 +1,86 @@
+ghost use Rattle.std.specs.Prelude.{◌≡◌, ◌⊎◌, ◌≤◌, ◌<◌, [], ℕ, List, Option, Some, false, IfOk, IfErr, OnOk, IsErrOf};
+ghost use Rattle.std.specs.Option.{ForSome};
+ghost use Rattle.rg_bytes.specs.Counts.{Rose};
+ghost use Rattle.rg_host.specs.Image.{Image};
+ghost use Rattle.rg_host.specs.Lines.{lines_of};
+ghost use Rattle.rg_host.specs.Moments.{Moments};
+ghost use Rattle.rg_event.specs.Rising.{next_offset};
+ghost use Rattle.rg_frame.specs.LogState.{ReachesEnd};
+ghost use Rattle.rg_log.specs.Log.{schema_payload};
+ghost use Rattle.rg_config.specs.Plans.{planned};
+ghost use Rattle.rg_config.specs.Read.{IsRead};
+ghost use Rattle.rg_reservoir.specs.Attached.{IsOther, IsBadFrame};
+ghost use Rattle.rg_reservoir.specs.Chain.{IsIllegal};
+ghost use Rattle.rg_reservoir.specs.Kept.{log_of};
+ghost use Rattle.rg_course.specs.Stores.{StaysOnCourseSince};
+ghost use Rattle.rg_store.specs.Stores.{store_of};
+ghost use Rattle.rg_open.specs.Opening.{IsFromIn};
+ghost use Rattle.rg_recover.specs.Sessions.{events_of};
+ghost use Rattle.rg_turn.specs.Turning.{IsAwaiting};
+ghost use Rattle.rg_run.specs.Begun.{IsReady, begun_by, course_for};
+ghost use Rattle.rg_run.specs.UnderWay.{IsUnopened};
+
+use crate::fault::{RunFault, opening_fault};
+use crate::telling::put_mark;
+use rg_config::Plan;
+use rg_event::Steps;
+use rg_host::Host;
+use rg_recover::Session;
+use rg_reply::Mark;
+use rg_state::{MemTable, Table};
+use rg_turn::Turning;
+use std::alloc::Global;
+use std::sync::ledger::Ledger;
+
+/// Opens the store of a plan and puts the open line, where the first line of the input has this offset.
+/// It must be at most the store's next one. Each refusal but `Write` puts nothing.
+pub(crate) fn begin<H: Host, L: Ledger>(
+    alloc: Global,
+    host: &mut H,
+    plan: &Plan,
+    first: u64,
+    steps: &mut Steps<L>,
+) -> Result<Turning<MemTable>, RunFault>
+    requires read { IsRead plan.now }
+
+    ensures begun { (ready : IsReady (planned plan.now) (H.now host.old) (H.may host.old) (H.said host.old)) (input : List ℕ) → (from : ℕ)
+        × (IsFromIn (planned plan.now) ready.openable.image from ⊎ (H.said host.new ≡ H.said host.old))
+        × Moments H.clock H.since host.old host.new (StaysOnCourseSince (store_of (planned plan.now)) (course_for (planned plan.now) (begun_by ready from first input)) (H.may host.old) [])
+        × IfOk result (λ turning. IsFromIn (planned plan.now) ready.openable.image from × IsAwaiting (planned plan.now) (course_for (planned plan.now) (begun_by ready from first input)) first (lines_of input)
+        (H.now host.new) (H.may host.new) (H.said host.new) (⟦<MemTable as Table>⟧.tells turning.session.engine.table) (⟦<MemTable as Table>⟧.cell turning.session.engine.table) turning.session
+        × (events_of (H.now host.new) turning.session ≡ ready.held))
+        × IfErr result (λ fault. (fault ≡ RunFault.Write) ⊎ IsUnopened H.may H.said (planned plan.now) (begun_by ready from first input) host.old host.new) }
+    ensures never_bad { (n : ℕ) → IsReady (planned plan.now) (H.now host.old) (H.may host.old) (H.said host.old) → IsErrOf result (RunFault.BadState n) → ⊥ }
+    ensures never_damaged { (p : ℕ) → IsReady (planned plan.now) (H.now host.old) (H.may host.old) (H.said host.old) → IsErrOf result (RunFault.Damaged p) → ⊥ }
+    ensures never_differs { IsReady (planned plan.now) (H.now host.old) (H.may host.old) (H.said host.old) → IsErrOf result RunFault.SchemaDiffers → ⊥ }
+
+    ensures gap { (n : ℕ) → IsErrOf result (RunFault.Gap n) → n < first }
+    ensures gap_next { (ready : IsReady (planned plan.now) (H.now host.old) (H.may host.old) (H.said host.old)) (n : ℕ) → IsErrOf result (RunFault.Gap n) → n ≡ next_offset ready.held }
+    ensures no_gap { (ready : IsReady (planned plan.now) (H.now host.old) (H.may host.old) (H.said host.old)) → OnOk result (first ≤ next_offset ready.held) }
+    ensures differs { IsErrOf result RunFault.SchemaDiffers → ForSome (H.now host.old) (λ v. IsOther (schema_payload plan.now.schema) (v 2)) }
+    ensures damaged { (p : ℕ) → IsErrOf result (RunFault.Damaged p) →
+        ForSome (H.now host.old) (λ v. IsBadFrame (schema_payload plan.now.schema) p (v 2)) ⊎ ForSome (H.now host.new) (λ v. IsIllegal plan.now.schema.fields p (v 2)) }
+    ensures exact { (v : Image) → H.now host.old ≡ Some v → IsOther (schema_payload plan.now.schema) (v 2) ⊎ ((p : ℕ) × IsBadFrame (schema_payload plan.now.schema) p (v 2)) → OnOk result ⊥ }
+
+    ensures offset { IfOk result (λ turning. turning.offset ≡ first) }
+    ensures going { IfOk result (λ turning. turning.session.ended ≡ false) }
+    ensures reaches { IfOk result (λ turning. ReachesEnd (log_of turning.session.reservoir) (H.now host.new)) }
+    ensures write { IsErrOf result RunFault.Write → Rose (H.out_faults host.old) (H.out_faults host.new) }
+    ensures disk { IsErrOf result RunFault.Disk → Rose (H.disk_faults host.old) (H.disk_faults host.new) }
+    ensures others { (IsErrOf result RunFault.Read → ⊥) × (IsErrOf result RunFault.Limit → ⊥) }
+    ensures disk_faults { H.disk_faults host.old ≤ H.disk_faults host.new }
+    ensures out_faults { H.out_faults host.old ≤ H.out_faults host.new }
+{
+    let (session, resumed) = match Session::resume(alloc, host, plan, MemTable::new(alloc), steps) {
+        Ok(opened) => opened,
+        Err((fault, _)) => return Err(opening_fault(fault)),
+    };
+    if first > resumed.next {
+        return Err(RunFault::Gap(resumed.next));
+    }
+    let opened = Mark::Opened(resumed.next, resumed.count, resumed.from);
+    match put_mark(alloc, host, opened) {
+        Ok(()) => Ok(Turning::new(alloc, session, first)),
+        Err(fault) => Err(fault),
+    }
+}

@@ -1,0 +1,80 @@
+ghost use Rattle.std.specs.Prelude.{◌≡◌, ◌⊎◌, ◌≤◌, ◌<◌, ◌^◌, ℕ, List, Option, Some, OnOk, IsErrOf};
+ghost use Rattle.std.specs.Option.{ForSome};
+ghost use Rattle.rg_bytes.specs.Counts.{Rose};
+ghost use Rattle.rg_bytes.specs.Known.{IsAtEnd};
+ghost use Rattle.rg_host.specs.Image.{Image};
+ghost use Rattle.rg_event.specs.Rising.{next_offset};
+ghost use Rattle.rg_log.specs.Log.{schema_payload};
+ghost use Rattle.rg_config.specs.Plans.{planned};
+ghost use Rattle.rg_config.specs.Read.{IsRead};
+ghost use Rattle.rg_reservoir.specs.Attached.{IsOther, IsBadFrame};
+ghost use Rattle.rg_run.specs.Begun.{IsReady, begun_by};
+ghost use Rattle.rg_run.specs.Faults.{IsIllegalThere};
+ghost use Rattle.rg_run.specs.Reading.{IsLonger, IsWithin};
+ghost use Rattle.rg_run.specs.UnderWay.{Ran};
+
+use crate::begin::begin;
+use crate::fault::RunFault;
+use crate::lines::answer_lines;
+use rg_config::Plan;
+use rg_event::Steps;
+use rg_host::{Host, Lines, Source};
+use std::alloc::Global;
+use std::sync::ledger::Ledger;
+
+/// Answers the lines of an input by a plan, over the store on a host. The first line has the offset
+/// `first`; it must be at most the store's next one. Each refusal but `Write` leaves whole lines put.
+pub fn run<I: Source, H: Host, L: Ledger>(
+    alloc: Global,
+    plan: &Plan,
+    first: u64,
+    input: &mut I,
+    host: &mut H,
+    steps: &mut Steps<L>,
+) -> Result<(), RunFault>
+    requires read { IsRead plan.now }
+    requires first { first ≤ 2 ^ 61 }
+
+    // Over a store whose images are truthful, and an input that tells its bytes.
+    ensures ran { (ready : IsReady (planned plan.now) (H.now host.old) (H.may host.old) (H.said host.old)) (all : List ℕ) → I.left input.old ≡ Some all →
+        (from : ℕ) × Ran H.may H.clock H.since H.said (planned plan.now) (begun_by ready from first all) ready.openable.image (I.left input.new) result host.old host.new }
+    ensures never_bad { (ready : IsReady (planned plan.now) (H.now host.old) (H.may host.old) (H.said host.old)) (all : List ℕ) (n : ℕ) → I.left input.old ≡ Some all → IsErrOf result (RunFault.BadState n) → ⊥ }
+    ensures never_damaged { (ready : IsReady (planned plan.now) (H.now host.old) (H.may host.old) (H.said host.old)) (all : List ℕ) (p : ℕ) → I.left input.old ≡ Some all → IsErrOf result (RunFault.Damaged p) → ⊥ }
+    ensures never_differs { IsReady (planned plan.now) (H.now host.old) (H.may host.old) (H.said host.old) → IsErrOf result RunFault.SchemaDiffers → ⊥ }
+
+    // Each refusal has its cause.
+    ensures gap { (n : ℕ) → IsErrOf result (RunFault.Gap n) → n < first }
+    ensures gap_next { (ready : IsReady (planned plan.now) (H.now host.old) (H.may host.old) (H.said host.old)) (n : ℕ) → IsErrOf result (RunFault.Gap n) → n ≡ next_offset ready.held }
+    ensures no_gap { (ready : IsReady (planned plan.now) (H.now host.old) (H.may host.old) (H.said host.old)) → OnOk result (first ≤ next_offset ready.held) }
+    ensures differs { IsErrOf result RunFault.SchemaDiffers → ForSome (H.now host.old) (λ v. IsOther (schema_payload plan.now.schema) (v 2)) }
+    ensures damaged { (p : ℕ) → IsErrOf result (RunFault.Damaged p) →
+        ForSome (H.now host.old) (λ v. IsBadFrame (schema_payload plan.now.schema) p (v 2)) ⊎ ForSome (H.now host.new) (λ v. IsIllegalThere p v) }
+    ensures exact { (v : Image) → H.now host.old ≡ Some v → IsOther (schema_payload plan.now.schema) (v 2) ⊎ ((p : ℕ) × IsBadFrame (schema_payload plan.now.schema) p (v 2)) → OnOk result ⊥ }
+    ensures at_end { OnOk result (IsAtEnd (I.left input.new)) }
+    ensures within { OnOk result (IsWithin (2 ^ 50) (I.left input.old)) }
+    ensures read { IsErrOf result RunFault.Read → Rose (I.faults input.old) (I.faults input.new) }
+    ensures limit { IsErrOf result RunFault.Limit → IsLonger (2 ^ 50) (I.left input.old) }
+    ensures write { IsErrOf result RunFault.Write → Rose (H.out_faults host.old) (H.out_faults host.new) }
+    ensures disk { IsErrOf result RunFault.Disk → Rose (H.disk_faults host.old) (H.disk_faults host.new) }
+
+    // The store is opened before the input is read.
+    ensures store_first { IsErrOf result RunFault.SchemaDiffers → input.new ≡ input.old }
+    ensures gap_first { (n : ℕ) → IsErrOf result (RunFault.Gap n) → input.new ≡ input.old }
+
+    ensures later { I.faults input.old ≤ I.faults input.new }
+    ensures disk_faults { H.disk_faults host.old ≤ H.disk_faults host.new }
+    ensures out_faults { H.out_faults host.old ≤ H.out_faults host.new }
+{
+    let mut lines = match Lines::new(alloc) {
+        Ok(lines) => lines,
+        Err(_) => return Err(RunFault::Memory),
+    };
+    let mut turning = match begin(alloc, host, plan, first, steps) {
+        Ok(turning) => turning,
+        Err(fault) => return Err(fault),
+    };
+    match answer_lines(&mut lines, &mut turning, plan, input, host, steps) {
+        Ok(()) => Ok(()),
+        Err(fault) => Err(fault),
+    }
+}

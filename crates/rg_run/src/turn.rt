@@ -1,0 +1,155 @@
+ghost use Rattle.std.specs.Prelude.{◌≡◌, ◌⊎◌, ◌≤◌, ◌<◌, ◌+◌, ◌^◌, ◌==◌, ◌&&◌, [], ℕ, List, Option, Some, None, IsTrue, true, false, IfOk, IfErr, OnOk, IsErrOf};
+ghost use Rattle.std.specs.List.{list_any};
+ghost use Rattle.std.specs.Option.{ForSome};
+ghost use Rattle.rg_bytes.specs.Counts.{Rose};
+ghost use Rattle.rg_host.specs.Moments.{Moments};
+ghost use Rattle.rg_frame.specs.LogState.{ReachesEnd};
+ghost use Rattle.rg_config.specs.Plans.{planned};
+ghost use Rattle.rg_config.specs.Read.{IsRead};
+ghost use Rattle.rg_reservoir.specs.Chain.{IsIllegal};
+ghost use Rattle.rg_reservoir.specs.Kept.{base, log_of};
+ghost use Rattle.rg_course.specs.Stores.{StaysOnCourse};
+ghost use Rattle.rg_store.specs.Stores.{store_of};
+ghost use Rattle.rg_turn.specs.Turning.{HasStopped};
+ghost use Rattle.rg_run.specs.Begun.{Begun, course_for};
+ghost use Rattle.rg_run.specs.Reading.{HasTaken};
+ghost use Rattle.rg_run.specs.UnderWay.{IsUnderWay, Answers, HasAnswered, HasFinished};
+
+use crate::fault::{RunFault, turn_fault};
+use rg_config::Plan;
+use rg_event::Steps;
+use rg_host::{Host, Line, LineFault, Lines, Source};
+use rg_metric::Reply;
+use rg_recover::TaskFault;
+use rg_row::clean;
+use rg_state::{MemTable, Table};
+use rg_turn::{TurnFault, Turning};
+use std::sync::ledger::Ledger;
+
+/// Whether the line at this offset is the plan's header.
+fn is_header(plan: &Plan, offset: u64) -> bool
+    ensures { result ≡ (plan.now.header && (offset == 0)) }
+{
+    plan.header && offset == 0
+}
+
+/// Answers a line of the input, which is a header or is taken cleaned.
+fn answer_text<H: Host, L: Ledger>(
+    turning: &mut Turning<MemTable>,
+    plan: &Plan,
+    text: &[u8],
+    host: &mut H,
+    steps: &mut Steps<L>,
+) -> Result<(), TurnFault>
+    requires read { IsRead plan.now }
+    requires one_line { list_any (λ byte. byte == 10) text.now ≡ false }
+    requires small { turning.old.offset < 2 ^ 62 }
+    requires going { turning.old.session.ended ≡ false }
+    requires reaches { ReachesEnd (log_of turning.old.session.reservoir) (H.now host.old) }
+    ensures answers { Answers H.now H.may H.clock H.since H.said (planned plan.now) (Some text.now) turning.old.offset turning.new.offset (⟦<MemTable as Table>⟧.tells turning.old.session.engine.table) (⟦<MemTable as Table>⟧.tells turning.new.session.engine.table) (⟦<MemTable as Table>⟧.cell turning.old.session.engine.table) (⟦<MemTable as Table>⟧.cell turning.new.session.engine.table) host.old host.new turning.old.session turning.new.session result }
+    ensures offset { OnOk result (turning.new.offset ≡ turning.old.offset + 1) }
+    ensures going { OnOk result (turning.new.session.ended ≡ false) }
+    ensures reaches { OnOk result (ReachesEnd (log_of turning.new.session.reservoir) (H.now host.new)) }
+    ensures write { IsErrOf result TurnFault.Write → Rose (H.out_faults host.old) (H.out_faults host.new) }
+    ensures disk { IsErrOf result (TurnFault.Task TaskFault.Disk) → Rose (H.disk_faults host.old) (H.disk_faults host.new) }
+    ensures no_table { IsErrOf result (TurnFault.Task TaskFault.Table) → ⊥ }
+    ensures damaged { (p : ℕ) → IsErrOf result (TurnFault.Task (TaskFault.Damaged p)) → ForSome (H.now host.new) (λ v. IsIllegal (base turning.new.session.reservoir).shape.fields p (v (base turning.new.session.reservoir).file)) }
+    ensures not_ended { IsErrOf result (TurnFault.Task TaskFault.Ended) → ⊥ }
+    ensures disk_faults { H.disk_faults host.old ≤ H.disk_faults host.new }
+    ensures out_faults { H.out_faults host.old ≤ H.out_faults host.new }
+{
+    let offset = turning.offset;
+    if is_header(plan, offset) {
+        return turning.refuse(host, &Reply::Head);
+    }
+    turning.answer(host, plan, clean(offset, text), steps)
+}
+
+/// Answers a line of the input that is too long.
+fn refuse_long<H: Host>(
+    turning: &mut Turning<MemTable>,
+    plan: &Plan,
+    host: &mut H,
+) -> Result<(), TurnFault>
+    requires small { turning.old.offset < 2 ^ 62 }
+    requires going { turning.old.session.ended ≡ false }
+    requires reaches { ReachesEnd (log_of turning.old.session.reservoir) (H.now host.old) }
+    ensures answers { Answers H.now H.may H.clock H.since H.said (planned plan.now) None turning.old.offset turning.new.offset (⟦<MemTable as Table>⟧.tells turning.old.session.engine.table) (⟦<MemTable as Table>⟧.tells turning.new.session.engine.table) (⟦<MemTable as Table>⟧.cell turning.old.session.engine.table) (⟦<MemTable as Table>⟧.cell turning.new.session.engine.table) host.old host.new turning.old.session turning.new.session result }
+    ensures offset { OnOk result (turning.new.offset ≡ turning.old.offset + 1) }
+    ensures going { OnOk result (turning.new.session.ended ≡ false) }
+    ensures reaches { OnOk result (ReachesEnd (log_of turning.new.session.reservoir) (H.now host.new)) }
+    ensures write { IsErrOf result TurnFault.Write → Rose (H.out_faults host.old) (H.out_faults host.new) }
+    ensures faults { IfErr result (λ fault. (fault ≡ TurnFault.Write) ⊎ (fault ≡ TurnFault.Task TaskFault.Memory)) }
+    ensures disk_faults { H.disk_faults host.new ≡ H.disk_faults host.old }
+    ensures out_faults { H.out_faults host.old ≤ H.out_faults host.new }
+{
+    if is_header(plan, turning.offset) {
+        return turning.refuse(host, &Reply::Head);
+    }
+    turning.refuse(host, &Reply::Long)
+}
+
+/// Takes the next line of the input and answers it, or ends the run where there is none. Answers whether
+/// there was a line. Each refusal but `Write` leaves whole lines put.
+pub(crate) fn turn<I: Source, H: Host, L: Ledger>(
+    lines: &mut Lines,
+    turning: &mut Turning<MemTable>,
+    plan: &Plan,
+    input: &mut I,
+    host: &mut H,
+    steps: &mut Steps<L>,
+) -> Result<bool, RunFault>
+    requires read { IsRead plan.now }
+    requires counted { turning.old.offset ≤ 2 ^ 61 + lines.old.spent }
+    requires within { lines.old.spent ≤ 2 ^ 50 }
+    requires going { turning.old.session.ended ≡ false }
+    requires reaches { ReachesEnd (log_of turning.old.session.reservoir) (H.now host.old) }
+
+    ensures moments { (b : Begun) → IsUnderWay (planned plan.now) b (I.left input.old) lines.old turning.old.offset (H.now host.old) (H.may host.old) (H.said host.old) (⟦<MemTable as Table>⟧.tells turning.old.session.engine.table) (⟦<MemTable as Table>⟧.cell turning.old.session.engine.table) turning.old.session →
+        Moments H.clock H.since host.old host.new (StaysOnCourse (store_of (planned plan.now)) (course_for (planned plan.now) b) []) }
+    ensures under_way { (b : Begun) → IsUnderWay (planned plan.now) b (I.left input.old) lines.old turning.old.offset (H.now host.old) (H.may host.old) (H.said host.old) (⟦<MemTable as Table>⟧.tells turning.old.session.engine.table) (⟦<MemTable as Table>⟧.cell turning.old.session.engine.table) turning.old.session →
+        IfOk result (λ more. IsTrue more → IsUnderWay (planned plan.now) b (I.left input.new) lines.new turning.new.offset (H.now host.new) (H.may host.new) (H.said host.new) (⟦<MemTable as Table>⟧.tells turning.new.session.engine.table) (⟦<MemTable as Table>⟧.cell turning.new.session.engine.table) turning.new.session) }
+    ensures finished { (b : Begun) → IsUnderWay (planned plan.now) b (I.left input.old) lines.old turning.old.offset (H.now host.old) (H.may host.old) (H.said host.old) (⟦<MemTable as Table>⟧.tells turning.old.session.engine.table) (⟦<MemTable as Table>⟧.cell turning.old.session.engine.table) turning.old.session →
+        IfOk result (λ more. more ≡ false → HasFinished (planned plan.now) b (H.may host.new) (H.said host.new)) }
+    ensures stopped { (b : Begun) → IsUnderWay (planned plan.now) b (I.left input.old) lines.old turning.old.offset (H.now host.old) (H.may host.old) (H.said host.old) (⟦<MemTable as Table>⟧.tells turning.old.session.engine.table) (⟦<MemTable as Table>⟧.cell turning.old.session.engine.table) turning.old.session →
+        IfErr result (λ fault. (fault ≡ RunFault.Write) ⊎ HasStopped (planned plan.now) (course_for (planned plan.now) b) (H.may host.new) (H.said host.new)) }
+    ensures answered { (b : Begun) → IsUnderWay (planned plan.now) b (I.left input.old) lines.old turning.old.offset (H.now host.old) (H.may host.old) (H.said host.old) (⟦<MemTable as Table>⟧.tells turning.old.session.engine.table) (⟦<MemTable as Table>⟧.cell turning.old.session.engine.table) turning.old.session →
+        IfErr result (λ fault. (fault ≡ RunFault.Read) ⊎ (fault ≡ RunFault.Limit) → HasAnswered (planned plan.now) b (I.left input.new) (H.said host.new) (fault ≡ RunFault.Limit)) }
+    ensures never_bad { (b : Begun) (n : ℕ) → IsUnderWay (planned plan.now) b (I.left input.old) lines.old turning.old.offset (H.now host.old) (H.may host.old) (H.said host.old) (⟦<MemTable as Table>⟧.tells turning.old.session.engine.table) (⟦<MemTable as Table>⟧.cell turning.old.session.engine.table) turning.old.session → IsErrOf result (RunFault.BadState n) → ⊥ }
+    ensures never_damaged { (b : Begun) (p : ℕ) → IsUnderWay (planned plan.now) b (I.left input.old) lines.old turning.old.offset (H.now host.old) (H.may host.old) (H.said host.old) (⟦<MemTable as Table>⟧.tells turning.old.session.engine.table) (⟦<MemTable as Table>⟧.cell turning.old.session.engine.table) turning.old.session → IsErrOf result (RunFault.Damaged p) → ⊥ }
+
+    // What was taken of the input.
+    ensures taken { (start : Option (List ℕ)) → HasTaken start (I.left input.old) lines.old → HasTaken start (I.left input.new) lines.new }
+    ensures ended { IfOk result (λ more. more ≡ false → (lines.new.ended ≡ true) × (lines.new.taken ≤ 2 ^ 50)) }
+    ensures counted { IfOk result (λ more. IsTrue more → turning.new.offset ≤ 2 ^ 61 + lines.new.spent) }
+    ensures within { IfOk result (λ more. IsTrue more → (lines.old.spent < lines.new.spent) × (lines.new.spent ≤ 2 ^ 50)) }
+    ensures going { IfOk result (λ more. IsTrue more → turning.new.session.ended ≡ false) }
+    ensures reaches { IfOk result (λ more. IsTrue more → ReachesEnd (log_of turning.new.session.reservoir) (H.now host.new)) }
+
+    ensures read { IsErrOf result RunFault.Read → Rose (I.faults input.old) (I.faults input.new) }
+    ensures limit { IsErrOf result RunFault.Limit → 2 ^ 50 < lines.new.taken }
+    ensures write { IsErrOf result RunFault.Write → Rose (H.out_faults host.old) (H.out_faults host.new) }
+    ensures disk { IsErrOf result RunFault.Disk → Rose (H.disk_faults host.old) (H.disk_faults host.new) }
+    ensures damaged { (p : ℕ) → IsErrOf result (RunFault.Damaged p) → ForSome (H.now host.new) (λ v. IsIllegal (base turning.new.session.reservoir).shape.fields p (v (base turning.new.session.reservoir).file)) }
+    ensures others { (IsErrOf result RunFault.SchemaDiffers → ⊥) × ((n : ℕ) → IsErrOf result (RunFault.Gap n) → ⊥) }
+    ensures later { I.faults input.old ≤ I.faults input.new }
+    ensures disk_faults { H.disk_faults host.old ≤ H.disk_faults host.new }
+    ensures out_faults { H.out_faults host.old ≤ H.out_faults host.new }
+{
+    match lines.next(input) {
+        Ok(Line::Text(text)) => match answer_text(turning, plan, text, host, steps) {
+            Ok(()) => Ok(true),
+            Err(fault) => Err(turn_fault(fault)),
+        },
+        Ok(Line::Long) => match refuse_long(turning, plan, host) {
+            Ok(()) => Ok(true),
+            Err(fault) => Err(turn_fault(fault)),
+        },
+        Ok(Line::End) => match turning.finish(host) {
+            Ok(()) => Ok(false),
+            Err(fault) => Err(turn_fault(fault)),
+        },
+        Err(LineFault::Read) => Err(RunFault::Read),
+        Err(LineFault::Limit) => Err(RunFault::Limit),
+    }
+}

@@ -7,13 +7,11 @@ mod command;
 mod dump;
 mod ending;
 mod fault;
-mod input;
 mod listing;
-mod next_line;
 mod real;
+mod refused;
 mod report;
-mod run;
-mod session;
+mod running;
 mod status;
 
 use crate::call::railgun;
@@ -45,9 +43,9 @@ fn start(rt: &HostRuntime) -> Status {
     };
     let mut plan = FileSource::new(rt, path);
     let mut input = ReaderSource::new(rt.stdin());
-    let store = match words.last() {
+    let store = match words.get(2) {
         Some(store) => store.as_str(),
-        None => "",
+        None => path,
     };
     let mut host = FolderHost::new(rt, rt.alloc(), store, rt.stdout());
     let mut refusal = None;

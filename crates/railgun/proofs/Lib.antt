@@ -1,11 +1,9 @@
-pub mod NextLines
-pub mod Ends
 pub mod Inputs
 pub mod Listed
-pub mod Outputs
 pub mod Plans
-pub mod Progress
-pub mod Steadiness
-pub mod Whole
+pub mod Ends
+pub mod Refusing
+pub mod LastLines
+pub mod Carrying
+pub mod Telling
 pub mod Worked
-pub mod Faults

@@ -12,7 +12,7 @@ use Rattle.rg_config.specs.declared.plan.Plan.{Plan}
 use Rattle.rg_config.proofs.Legal.{measured}
 use Rattle.railgun.specs.Listing.{numbered, query_line, offset_line, window_line, filter_line, group_line, agg_line, task_text, check_text}
 use Rattle.rg_config.specs.Read.{IsRead}
-use Rattle.railgun.proofs.Outputs.{ended-append}
+use Rattle.rg_course.proofs.Texts.{ended-append}
 
 -- the line of one member, and those of the others
 next_line : {A : Type 0} (line : ℕ → A → List ℕ) (n i : ℕ) (xs : List A) (x : A) → i < length xs → get_or xs i x ≡ x → ended (numbered line n (drop i xs)) ≡ (line n x ++ 10 ∷ []) ++ ended (numbered line (suc n) (drop (suc i) xs))

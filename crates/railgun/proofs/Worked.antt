@@ -19,8 +19,8 @@ use Rattle.rg_host.specs.Lines.{lines_of, ended}
 use Rattle.rg_config.specs.Plans.{Planned}
 use Rattle.rg_plan.specs.Plans.{plan_for, Planned as TaskPlanned}
 use Rattle.rg_engine.specs.Passed.{passed_count}
-use Rattle.railgun.specs.Output.{output_of}
-use Rattle.railgun.specs.Plan.{basis_of}
+use Rattle.rg_course.specs.Output.{text_of_run}
+use Rattle.rg_turn.specs.Turning.{terms_of}
 use Rattle.railgun.specs.Listing.{task_text, check_text}
 
 abbrev card : Field
@@ -63,7 +63,11 @@ asking fields query events header = asking_all (codes "payments") fields (query 
 abbrev five_minutes : Planned
 five_minutes = asking (card ∷ []) (counting None (1 ∷ []) (sliding 300000 0)) 100 false
 
-five_minutes_of_a_card : ended (output_of (basis_of five_minutes) (codes "0,c1\n299999,c1\n300000,c1\n300000,c2\n")) ≡ codes "0 ok 1\n1 ok 2\n2 ok 2\n3 ok 1\ndone 4 4\n"
+-- what a run of the plan puts over an empty store
+abbrev run : Planned → List ℕ → List ℕ
+run plan input = ended (text_of_run (terms_of plan) [] 0 0 (lines_of input))
+
+five_minutes_of_a_card : run five_minutes (codes "0,c1\n299999,c1\n300000,c1\n300000,c2\n") ≡ codes "open 0 0 0\n0 ok 1\n1 ok 2\nstored 2\n2 ok 2\n3 ok 1\nstored 4\nsaved 4\nstored 4\nsaved 4\ndone 4 4\n"
 unfolding lines_of is_utf8 digits chars encode split_from
 five_minutes_of_a_card = refl
 
@@ -71,11 +75,11 @@ five_minutes_of_a_card = refl
 abbrev dear : ℕ → Planned
 dear events = asking (card ∷ (merchant ∷ (amount ∷ []))) (counting (Some (compared 3 Gt (IntValue (pos 100)))) (1 ∷ []) (sliding 300000 0)) events false
 
-payments_above_100 : ended (output_of (basis_of (dear 100)) (codes "0,c1,m1,100\n1,c1,m1,101\n2,c2,m1,500\n")) ≡ codes "0 ok 0\n1 ok 1\n2 ok 1\ndone 3 3\n"
+payments_above_100 : run (dear 100) (codes "0,c1,m1,100\n1,c1,m1,101\n2,c2,m1,500\n") ≡ codes "open 0 0 0\n0 ok 0\n1 ok 1\nstored 2\n2 ok 1\nstored 3\nsaved 3\ndone 3 3\n"
 unfolding lines_of is_utf8 digits chars encode split_from
 payments_above_100 = refl
 
-full_at_two_events : ended (output_of (basis_of (dear 2)) (codes "0,c1,m1,100\n1,c1,m1,101\n2,c2,m1,500\n")) ≡ codes "0 ok 0\n1 ok 1\n2 full\ndone 3 2\n"
+full_at_two_events : run (dear 2) (codes "0,c1,m1,100\n1,c1,m1,101\n2,c2,m1,500\n") ≡ codes "open 0 0 0\n0 ok 0\n1 ok 1\nstored 2\n2 full\nstored 2\nsaved 2\ndone 3 2\n"
 unfolding lines_of is_utf8 digits chars encode split_from
 full_at_two_events = refl
 
@@ -96,8 +100,8 @@ unfolding digits
 sharing_an_offset = refl
 
 -- the answers of two queries stand one after another
-two_queries : ended (output_of (basis_of (asking_all (codes "payments") (dear 100).shape.fields (over_five_minutes (1 ∷ []) (payments ∷ (amounts ∷ [])) ∷ (over_five_minutes (2 ∷ []) (payments ∷ []) ∷ [])) 100 false)) (codes "0,c1,m1,100\n299999,c1,m2,200\n300000,c1,m1,50\n"))
-    ≡ codes "0 ok 1 100 1\n1 ok 2 300 1\n2 ok 2 250 1\ndone 3 3\n"
+two_queries : run (asking_all (codes "payments") (dear 100).shape.fields (over_five_minutes (1 ∷ []) (payments ∷ (amounts ∷ [])) ∷ (over_five_minutes (2 ∷ []) (payments ∷ []) ∷ [])) 100 false) (codes "0,c1,m1,100\n299999,c1,m2,200\n300000,c1,m1,50\n")
+    ≡ codes "open 0 0 0\n0 ok 1 100 1\n1 ok 2 300 1\nstored 2\n2 ok 2 250 1\nstored 3\nsaved 3\ndone 3 3\n"
 unfolding lines_of is_utf8 digits chars encode split_from
 two_queries = refl
 
@@ -120,18 +124,18 @@ steps_of_the_second = refl
 steps_of_the_third : passed_count two_groups (take 2 three_payments) three_payments ≡ 2
 steps_of_the_third = refl
 
-delayed_by_five : ended (output_of (basis_of (asking (card ∷ []) (counting None [] (sliding 10 5)) 100 false)) (codes "0,c1\n5,c1\n15,c1\n")) ≡ codes "0 ok 0\n1 ok 1\n2 ok 1\ndone 3 3\n"
+delayed_by_five : run (asking (card ∷ []) (counting None [] (sliding 10 5)) 100 false) (codes "0,c1\n5,c1\n15,c1\n") ≡ codes "open 0 0 0\n0 ok 0\n1 ok 1\nstored 2\n2 ok 1\nstored 3\nsaved 3\ndone 3 3\n"
 unfolding lines_of is_utf8 digits chars encode split_from
 delayed_by_five = refl
 
-in_and_out_between_events : ended (output_of (basis_of (asking (card ∷ []) (counting None [] (sliding 1 5)) 100 false)) (codes "0,c1\n100,c1\n")) ≡ codes "0 ok 0\n1 ok 0\ndone 2 2\n"
+in_and_out_between_events : run (asking (card ∷ []) (counting None [] (sliding 1 5)) 100 false) (codes "0,c1\n100,c1\n") ≡ codes "open 0 0 0\n0 ok 0\n1 ok 0\nstored 2\nstored 2\nsaved 2\ndone 2 2\n"
 unfolding lines_of is_utf8 digits chars encode split_from
 in_and_out_between_events = refl
 
-late_and_fields : ended (output_of (basis_of (asking (card ∷ []) (counting None (1 ∷ []) (sliding 10 0)) 100 false)) (codes "10,c1\n9,c1\nx\n20,c1\n")) ≡ codes "0 ok 1\n1 late\n2 fields\n3 ok 1\ndone 4 2\n"
+late_and_fields : run (asking (card ∷ []) (counting None (1 ∷ []) (sliding 10 0)) 100 false) (codes "10,c1\n9,c1\nx\n20,c1\n") ≡ codes "open 0 0 0\n0 ok 1\n1 late\n2 fields\n3 ok 1\nstored 4\nstored 4\nsaved 2\ndone 4 2\n"
 unfolding lines_of is_utf8 digits chars encode split_from
 late_and_fields = refl
 
-quotes_and_header : ended (output_of (basis_of (asking (card ∷ (amount ∷ [])) (counting None (1 ∷ []) (sliding 10 0)) 100 true)) (codes "ts,card,amount\n1,\"c,1\",7\n1,\"c1,7\n\n1,c1\n1,c1,x")) ≡ codes "0 head\n1 ok 1\n2 row\n3 row\n4 fields\n5 value 2\ndone 6 1\n"
+quotes_and_header : run (asking (card ∷ (amount ∷ [])) (counting None (1 ∷ []) (sliding 10 0)) 100 true) (codes "ts,card,amount\n1,\"c,1\",7\n1,\"c1,7\n\n1,c1\n1,c1,x") ≡ codes "open 0 0 0\n0 head\n1 ok 1\n2 row\n3 row\n4 fields\n5 value 2\nstored 2\nsaved 1\ndone 6 1\n"
 unfolding lines_of is_utf8 digits chars encode split_from
 quotes_and_header = refl

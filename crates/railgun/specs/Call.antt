@@ -1,5 +1,5 @@
 -- A call of the program.
-use Rattle.std.specs.Prelude.{◌≡◌, ℕ, ◌<◌, ◌≤◌, nat_lt, Bool, true, false, List, [], ◌∷◌, ◌++◌, length, codes, decimal, bytes_eq, string_bytes, String, Option, Some, None, IfSome, Result, ⊤, if◌then◌else◌}
+use Rattle.std.specs.Prelude.{◌≡◌, ◌⊎◌, ℕ, ◌≤◌, nat_lt, nat_le, Bool, true, false, List, [], ◌∷◌, ◌++◌, length, codes, decimal, bytes_eq, string_bytes, String, Option, Some, None, IfSome, Result, ⊤, if◌then◌else◌}
 use Rattle.std.specs.Prelude as r
 use Rattle.std.specs.Option.{ForSome}
 use Rattle.std.specs.declared.alloc.Global.{Global}
@@ -10,14 +10,16 @@ use Rattle.rg_config.specs.declared.fault.ConfigFault.TheVariants as fault
 use Rattle.rg_dump.specs.Dump.{dump_text, damage_of}
 use Rattle.rg_dump.specs.declared.fault.DumpFault.{DumpFault}
 use Rattle.rg_dump.specs.declared.fault.DumpFault.TheVariants as dump
-use Rattle.railgun.specs.Plan.{IsPlan, IsRefusal, basis_of}
+use Rattle.rg_bytes.specs.Numbers.{whole_of}
+use Rattle.rg_run.specs.declared.fault.RunFault.{RunFault}
+use Rattle.rg_run.specs.declared.fault.RunFault.TheVariants as run
+use Rattle.railgun.specs.Plan.{IsPlan, IsRefusal}
 use Rattle.railgun.specs.declared.command.Command.{Command}
 use Rattle.railgun.specs.declared.command.Command.TheVariants.{Run, Check, Dump}
 use Rattle.railgun.specs.declared.ending.Ending.{Ending}
 use Rattle.railgun.specs.declared.ending.Refusal.{Refusal}
-use Rattle.railgun.specs.declared.ending.Ending.TheVariants.{Refused, Damaged, Failed}
+use Rattle.railgun.specs.declared.ending.Ending.TheVariants as ending
 use Rattle.railgun.specs.Listing.{check_text}
-use Rattle.railgun.specs.Output.{output_of, replies_to}
 use Rattle.railgun.specs.declared.status.Status.{Status}
 use Rattle.railgun.specs.declared.status.Status.TheVariants.{Ok, Usage, Plan as BadPlan, Store, Read, Write, Disk, Limit, Memory, Gap, Differs}
 
@@ -31,45 +33,60 @@ abbrev pub with_file : Bool → Bool → Option Command
 with_file true dump = Some Check
 with_file false dump = when dump Dump
 
--- what the words ask for: `check PLAN`, `dump STORE`, or `run PLAN STORE`
+-- a run whose first line has that offset, which is at most 2^61
+abbrev pub run_at : Option ℕ → Option Command
+run_at (Some first) = if nat_le first 2305843009213693952 then Some (Run first) else None
+run_at None = None
+
+-- the same, where the word names a run
+abbrev pub when_run : Bool → Option ℕ → Option Command
+when_run true first = run_at first
+when_run false first = None
+
+-- what the words ask for: `check PLAN`, `dump STORE`, `run PLAN STORE`, or `run PLAN STORE FIRST`
 abbrev pub command_of : List (String Global) → Option Command
 command_of [] = None
 command_of (command ∷ []) = None
 command_of (command ∷ (file ∷ [])) = with_file (bytes_eq (string_bytes command) (codes "check")) (bytes_eq (string_bytes command) (codes "dump"))
-command_of (command ∷ (plan ∷ (store ∷ []))) = when (bytes_eq (string_bytes command) (codes "run")) Run
-command_of (command ∷ (plan ∷ (store ∷ (more ∷ words)))) = None
+command_of (command ∷ (plan ∷ (store ∷ []))) = when (bytes_eq (string_bytes command) (codes "run")) (Run 0)
+command_of (command ∷ (plan ∷ (store ∷ (first ∷ [])))) = when_run (bytes_eq (string_bytes command) (codes "run")) (whole_of (string_bytes first))
+command_of (command ∷ (plan ∷ (store ∷ (first ∷ (more ∷ words))))) = None
 
--- the call answers the input: it is a run, and its plan is legal
-abbrev pub AnswersInput : Option Command → Result Planned ConfigFault → Type 0
-AnswersInput (Some Run) (r.Ok plan) = ⊤
-AnswersInput (Some Run) (r.Err refusal) = ⊥
-AnswersInput (Some Check) asks = ⊥
-AnswersInput (Some Dump) asks = ⊥
-AnswersInput None asks = ⊥
+-- the words name a run
+abbrev pub IsRun : Option Command → Type 0
+IsRun (Some (Run first)) = ⊤
+IsRun (Some Check) = ⊥
+IsRun (Some Dump) = ⊥
+IsRun None = ⊥
+
+-- the call is a run, and its plan, of these bytes, is no longer than it may be and legal
+abbrev pub CarriesRun : Option Command → List ℕ → Result Planned ConfigFault → Type 0
+CarriesRun (Some (Run first)) bytes (r.Ok plan) = length bytes ≤ 65536
+CarriesRun (Some (Run first)) bytes (r.Err refusal) = ⊥
+CarriesRun (Some Check) bytes asks = ⊥
+CarriesRun (Some Dump) bytes asks = ⊥
+CarriesRun None bytes asks = ⊥
 
 -- the words name a command that reads its plan
 abbrev pub ReadsPlan : Option Command → Type 0
-ReadsPlan (Some Run) = ⊤
+ReadsPlan (Some (Run first)) = ⊤
 ReadsPlan (Some Check) = ⊤
 ReadsPlan (Some Dump) = ⊥
 ReadsPlan None = ⊥
 
--- the words name a command that reads the store
-abbrev pub ReadsStore : Option Command → Type 0
-ReadsStore (Some Run) = ⊥
-ReadsStore (Some Check) = ⊥
-ReadsStore (Some Dump) = ⊤
-ReadsStore None = ⊥
+-- the words name a command that puts what the store has
+abbrev pub ShowsStore : Option Command → Type 0
+ShowsStore (Some (Run first)) = ⊥
+ShowsStore (Some Check) = ⊥
+ShowsStore (Some Dump) = ⊤
+ShowsStore None = ⊥
 
--- Where the call reads the plan, that tells its bytes, which are these. Where it answers the input, that tells its bytes too. Where
--- it reads the store, the host tells its image.
-pub record Told (command : Option Command) (plan input : Option (List ℕ)) (store : Option Image) : Type 0 where
+-- Where the call reads the plan, that tells its bytes, which are these. Where it puts what the store has, the host tells its image.
+pub record Told (command : Option Command) (plan : Option (List ℕ)) (store : Option Image) : Type 0 where
   pub plan_bytes : List ℕ
-  pub input_bytes : List ℕ
   pub image : Image
-  pub image_is : ReadsStore command → store ≡ Some image
+  pub image_is : ShowsStore command → store ≡ Some image
   pub plan_is : ReadsPlan command → plan ≡ Some plan_bytes
-  pub input_is : (asks : Result Planned ConfigFault) → Says plan_bytes asks → AnswersInput command asks → input ≡ Some input_bytes
 
 -- the bytes of a plan say this, of which P holds; all bytes say one thing, and no two
 pub record SaysSo (bytes : List ℕ) (P : Result Planned ConfigFault → Type 0) : Type 0 where
@@ -77,46 +94,28 @@ pub record SaysSo (bytes : List ℕ) (P : Result Planned ConfigFault → Type 0)
   pub says : Says bytes asks
   pub holds : P asks
 
--- the same as `Told`, and what the plan's bytes say
-pub record ToldPlan (command : Option Command) (plan input : Option (List ℕ)) (store : Option Image) : Type 0 where
+-- the same as `Told`, and what the plan's bytes say; and no run is carried out
+pub record ToldPlan (command : Option Command) (plan : Option (List ℕ)) (store : Option Image) : Type 0 where
   pub plan_bytes : List ℕ
-  pub input_bytes : List ℕ
   pub image : Image
-  pub image_is : ReadsStore command → store ≡ Some image
+  pub image_is : ShowsStore command → store ≡ Some image
   pub plan_is : ReadsPlan command → plan ≡ Some plan_bytes
   pub asks : Result Planned ConfigFault
   pub says : Says plan_bytes asks
-  pub input_is : AnswersInput command asks → input ≡ Some input_bytes
+  pub no_run : CarriesRun command plan_bytes asks → ⊥
 
--- all lines that a command puts for a plan and an input; a dump has no plan
-abbrev pub asked_text : Command → Planned → List ℕ → List (List ℕ)
-asked_text Run plan input = output_of (basis_of plan) input
-asked_text Check plan input = check_text plan
-asked_text Dump plan input = []
+-- all lines that a check puts for what the plan's bytes say
+abbrev pub plan_text : Result Planned ConfigFault → List (List ℕ)
+plan_text (r.Ok plan) = check_text plan
+plan_text (r.Err refusal) = []
 
--- the lines that a command puts for these lines of the input
-abbrev pub asked_replies : Command → Planned → List (Option (List ℕ)) → List (List ℕ)
-asked_replies Run plan lines = replies_to (basis_of plan) lines
-asked_replies Check plan lines = []
-asked_replies Dump plan lines = []
-
--- the same for what the plan's bytes say
-abbrev pub plan_text : Command → Result Planned ConfigFault → List ℕ → List (List ℕ)
-plan_text command (r.Ok plan) input = asked_text command plan input
-plan_text command (r.Err refusal) input = []
-
--- all lines that a call puts at status Ok, for what its words and its plan ask, and for the image of the store; file 2 is the log
-abbrev pub text_of : Option Command → Result Planned ConfigFault → List ℕ → Image → List (List ℕ)
-text_of (Some Run) asks input image = plan_text Run asks input
-text_of (Some Check) asks input image = plan_text Check asks input
-text_of (Some Dump) asks input image = dump_text (image 2)
-text_of None asks input image = []
-
--- the lines that answer these lines of the input
-abbrev pub replies_of : Option Command → Result Planned ConfigFault → List (Option (List ℕ)) → List (List ℕ)
-replies_of (Some command) (r.Ok plan) lines = asked_replies command plan lines
-replies_of (Some command) (r.Err refusal) lines = []
-replies_of None asks lines = []
+-- All lines that a call which carries out no run puts at status Ok, for what its words and its plan ask, and for the image of the store;
+-- file 2 is the log.
+abbrev pub text_of : Option Command → Result Planned ConfigFault → Image → List (List ℕ)
+text_of (Some (Run first)) asks image = []
+text_of (Some Check) asks image = plan_text asks
+text_of (Some Dump) asks image = dump_text (image 2)
+text_of None asks image = []
 
 -- the line that refuses a plan, with its LF
 abbrev pub refusal_line : ConfigFault → List ℕ
@@ -131,7 +130,18 @@ abbrev pub damage_line : Option ℕ → List ℕ
 damage_line (Some place) = codes "refused store damaged " ++ (decimal place ++ codes "\n")
 damage_line None = []
 
--- the last line that a status puts but for a refused plan and a damaged store, with its LF
+-- the lines that refuse a store of another schema, and one whose node of that number has rows that don't stand for its events
+abbrev pub schema_line : List ℕ
+schema_line = codes "refused store schema\n"
+
+abbrev pub state_line : ℕ → List ℕ
+state_line node = codes "refused store state " ++ (decimal node ++ codes "\n")
+
+-- the line that refuses an input whose first line has that offset, over a store with this next one
+abbrev pub gap_line : ℕ → ℕ → List ℕ
+gap_line first next = codes "refused gap " ++ (decimal first ++ (codes " " ++ (decimal next ++ codes "\n")))
+
+-- the last line that a status puts but for a refused plan, a refused store and a gap, with its LF
 abbrev pub last_line : Status → List ℕ
 last_line Ok = []
 last_line Usage = codes "refused usage\n"
@@ -149,7 +159,7 @@ abbrev pub refusal_of : Result Planned ConfigFault → List ℕ
 refusal_of (r.Ok plan) = []
 refusal_of (r.Err refusal) = refusal_line refusal
 
--- the last line that a status puts, for what the plan's bytes say and for the image of the store
+-- the last line that a status puts where no run is carried out, for what the plan's bytes say and for the image of the store
 abbrev pub line_for : Result Planned ConfigFault → Image → Status → List ℕ
 line_for asks image Ok = last_line Ok
 line_for asks image Usage = last_line Usage
@@ -165,19 +175,31 @@ line_for asks image Differs = last_line Differs
 
 -- the status and the last line of a call that ends early
 abbrev pub ending_status : Ending → Status
-ending_status (Refused line refusal) = BadPlan
-ending_status (Damaged line) = Store
-ending_status (Failed status) = status
+ending_status (ending.Refused line refusal) = BadPlan
+ending_status (ending.Store line) = Store
+ending_status (ending.Gap line) = Gap
+ending_status (ending.Failed status) = status
 
 abbrev pub ending_line : Ending → List ℕ
-ending_line (Refused line refusal) = line.items
-ending_line (Damaged line) = line.items
-ending_line (Failed status) = last_line status
+ending_line (ending.Refused line refusal) = line.items
+ending_line (ending.Store line) = line.items
+ending_line (ending.Gap line) = line.items
+ending_line (ending.Failed status) = last_line status
 
 abbrev pub ending_refusal : Ending → Option Refusal
-ending_refusal (Refused line refusal) = Some refusal
-ending_refusal (Damaged line) = None
-ending_refusal (Failed status) = None
+ending_refusal (ending.Refused line refusal) = Some refusal
+ending_refusal (ending.Store line) = None
+ending_refusal (ending.Gap line) = None
+ending_refusal (ending.Failed status) = None
+
+-- the same of any call
+abbrev pub status_after : {A : Type 0} → Result A Ending → Status
+status_after (r.Ok done) = Ok
+status_after (r.Err cause) = ending_status cause
+
+abbrev pub line_after : {A : Type 0} → Result A Ending → List ℕ
+line_after (r.Ok done) = []
+line_after (r.Err cause) = ending_line cause
 
 -- where the plan tells its bytes, this is the fault that refuses them
 abbrev pub TellsFault : Option (List ℕ) → Option Refusal → Type 0
@@ -185,22 +207,37 @@ TellsFault plan told = IfSome plan (λ bytes. (refusal : Refusal) × (told ≡ S
 
 -- the ending says the fault that refuses a plan, or that memory ran out
 abbrev pub EndsBy : ConfigFault → Ending → Type 0
-EndsBy cause (Refused line refusal) = (line.items ≡ refusal_line cause) × (cause ≡ fault.Memory → ⊥) × (refusal.fault ≡ cause)
-EndsBy cause (Damaged line) = ⊥
-EndsBy cause (Failed status) = status ≡ Memory
+EndsBy cause (ending.Refused line refusal) = (line.items ≡ refusal_line cause) × (cause ≡ fault.Memory → ⊥) × (refusal.fault ≡ cause)
+EndsBy cause (ending.Store line) = ⊥
+EndsBy cause (ending.Gap line) = ⊥
+EndsBy cause (ending.Failed status) = status ≡ Memory
 
--- the status of a dump that this fault ended, where it has no line of its own: for a damaged log memory ran out for the line
-abbrev pub failed_dump : DumpFault → Status
-failed_dump dump.Disk = Disk
-failed_dump dump.Memory = Memory
-failed_dump dump.Write = Write
-failed_dump (dump.Damaged place) = Memory
+-- it failed so, and has the line of that status
+abbrev pub Fails : Status → Status → List ℕ → Type 0
+Fails wanted status last = (status ≡ wanted) × (last ≡ last_line wanted)
 
--- how a dump ends that met this fault: the line says the damaged place, or it failed
-abbrev pub EndsDump : DumpFault → Ending → Type 0
-EndsDump cause (Refused line refusal) = ⊥
-EndsDump cause (Damaged line) = (place : ℕ) × (cause ≡ dump.Damaged place) × (line.items ≡ damage_line (Some place))
-EndsDump cause (Failed status) = status ≡ failed_dump cause
+-- it has that status and that last line, or memory ran out for the line
+abbrev pub SaysLine : Status → List ℕ → Status → List ℕ → Type 0
+SaysLine wanted line status last = ((status ≡ wanted) × (last ≡ line)) ⊎ Fails Memory status last
+
+-- the status and the last line of a dump that ended at this fault
+abbrev pub EndsDump : DumpFault → Status → List ℕ → Type 0
+EndsDump dump.Disk status last = Fails Disk status last
+EndsDump dump.Memory status last = Fails Memory status last
+EndsDump dump.Write status last = Fails Write status last
+EndsDump (dump.Damaged place) status last = SaysLine Store (damage_line (Some place)) status last
+
+-- of a run that ended at this fault, where the first line of the input has that offset
+abbrev pub EndsRun : ℕ → RunFault → Status → List ℕ → Type 0
+EndsRun first run.Disk status last = Fails Disk status last
+EndsRun first (run.Damaged place) status last = SaysLine Store (damage_line (Some place)) status last
+EndsRun first run.SchemaDiffers status last = SaysLine Store schema_line status last
+EndsRun first (run.BadState node) status last = SaysLine Store (state_line node) status last
+EndsRun first (run.Gap next) status last = SaysLine Gap (gap_line first next) status last
+EndsRun first run.Read status last = Fails Read status last
+EndsRun first run.Limit status last = Fails Limit status last
+EndsRun first run.Memory status last = Fails Memory status last
+EndsRun first run.Write status last = Fails Write status last
 
 -- the number of a status
 abbrev pub number_of : Status → ℕ
@@ -226,16 +263,6 @@ abbrev pub IsRefused : Option (List ℕ) → Type 0
 IsRefused (Some bytes) = (refusal : ConfigFault) × IsRefusal bytes refusal
 IsRefused None = ⊤
 
--- where the bytes are told, there are more than n
-abbrev pub IsLonger : ℕ → Option (List ℕ) → Type 0
-IsLonger n (Some bytes) = n < length bytes
-IsLonger n None = ⊤
-
--- where the bytes are told, there are at most n
-abbrev pub IsWithin : ℕ → Option (List ℕ) → Type 0
-IsWithin n (Some bytes) = length bytes ≤ n
-IsWithin n None = ⊤
-
 -- where the host tells its image, no frame of the log is damaged
 abbrev pub IsUndamaged : Option Image → Type 0
 IsUndamaged store = ForSome store (λ image. damage_of (image 2) ≡ None)
@@ -244,7 +271,7 @@ IsUndamaged store = ForSome store (λ image. damage_of (image 2) ≡ None)
 abbrev pub IsDamaged : Option Image → Type 0
 IsDamaged store = ForSome store (λ image. (place : ℕ) × (damage_of (image 2) ≡ Some place))
 
--- the statuses that may come until a run has a store
+-- the statuses that may come until there is a command that compares
 abbrev pub IsPossible : Status → Type 0
 IsPossible Ok = ⊤
 IsPossible Usage = ⊤
@@ -255,28 +282,26 @@ IsPossible Write = ⊤
 IsPossible Disk = ⊤
 IsPossible Limit = ⊤
 IsPossible Memory = ⊤
-IsPossible Gap = ⊥
+IsPossible Gap = ⊤
 IsPossible Differs = ⊥
 
--- the status for an input of what words and plan ask
-abbrev pub status_by : Command → Result Planned ConfigFault → List ℕ → Status
-status_by command (r.Err refusal) input = BadPlan
-status_by Check (r.Ok plan) input = Ok
-status_by Dump (r.Ok plan) input = Ok
-status_by Run (r.Ok plan) input = if nat_lt 1125899906842624 (length input) then Limit else Ok
+-- the status of what the plan's bytes say
+abbrev pub status_by : Result Planned ConfigFault → Status
+status_by (r.Err refusal) = BadPlan
+status_by (r.Ok plan) = Ok
 
 -- the same, where the plan may be too long
-abbrev pub plan_status : Command → List ℕ → Result Planned ConfigFault → List ℕ → Status
-plan_status command plan asks input = if nat_lt 65536 (length plan) then Limit else status_by command asks input
+abbrev pub plan_status : List ℕ → Result Planned ConfigFault → Status
+plan_status plan asks = if nat_lt 65536 (length plan) then Limit else status_by asks
 
 -- the status of a dump, by the place where the log is damaged
 abbrev pub dump_status : Option ℕ → Status
 dump_status None = Ok
 dump_status (Some place) = Store
 
--- the status that words, plan, input and store call for
-abbrev pub status_for : Option Command → List ℕ → Result Planned ConfigFault → List ℕ → Image → Status
-status_for (Some Run) plan asks input image = plan_status Run plan asks input
-status_for (Some Check) plan asks input image = plan_status Check plan asks input
-status_for (Some Dump) plan asks input image = dump_status (damage_of (image 2))
-status_for None plan asks input image = Usage
+-- the status that words, plan and store call for, where no run is carried out
+abbrev pub status_for : Option Command → List ℕ → Result Planned ConfigFault → Image → Status
+status_for (Some (Run first)) plan asks image = plan_status plan asks
+status_for (Some Check) plan asks image = plan_status plan asks
+status_for (Some Dump) plan asks image = dump_status (damage_of (image 2))
+status_for None plan asks image = Usage

@@ -1,11 +1,7 @@
 pub mod Plan
-pub mod Output
 pub mod Listing
-pub mod Session
-pub mod Steady
-pub mod Codes
-pub mod Turn
-pub mod Run
+pub mod Stops
 pub mod Call
-pub mod Faults
 pub mod Real
+pub mod Stored
+pub mod Causes

@@ -1,7 +1,6 @@
 -- What the bytes of a plan ask for, within their limit.
 use Rattle.std.specs.Prelude.{◌≤◌, ℕ, List, length, Ok, Err}
 use Rattle.rg_config.specs.Plans.{Planned, Says}
-use Rattle.rg_verdict.specs.Verdicts.{Basis}
 use Rattle.rg_config.specs.declared.fault.ConfigFault.{ConfigFault}
 
 -- the bytes are at most 65,536, and say this plan
@@ -13,7 +12,3 @@ pub record IsPlan (bytes : List ℕ) (plan : Planned) : Type 0 where
 pub record IsRefusal (bytes : List ℕ) (fault : ConfigFault) : Type 0 where
   pub within : length bytes ≤ 65536
   pub says : Says bytes (Err fault)
-
--- what a plan's answers rest on: neither how much is kept in memory nor how often it is saved
-abbrev pub basis_of : Planned → Basis
-basis_of plan = record { fields = plan.shape.fields; queries = plan.queries; most = plan.settings.events; header = plan.settings.header }

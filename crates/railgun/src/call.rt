@@ -1,30 +1,43 @@
-ghost use Rattle.std.specs.Prelude.{codes, decimal, ◌≡◌, ◌≢◌, ◌⊎◌, ◌++◌, ◌≤◌, ◌<◌, ◌^◌, ℕ, List, Some, None, Option, IfOk, IfErr, IfSome, OnOk, OnErr, IsErrOf, length};
+ghost use Rattle.std.specs.Prelude.{codes, decimal, ◌≡◌, ◌≢◌, ◌⊎◌, ◌++◌, ◌≤◌, ◌<◌, ◌^◌, ℕ, List, [], Some, None, Option, IfOk, IfErr, IfSome, OnOk, OnErr, IsErrOf, length};
 ghost use Rattle.std.specs.Option.{ForSome};
 ghost use Rattle.rg_bytes.specs.Counts.{Rose};
 ghost use Rattle.rg_bytes.specs.Known.{IsAtEnd};
-ghost use Rattle.rg_config.specs.Plans.{planned};
+ghost use Rattle.rg_event.specs.Rising.{next_offset};
+ghost use Rattle.rg_config.specs.Plans.{Planned, planned};
 ghost use Rattle.rg_config.specs.declared.fault.ConfigFault.{ConfigFault as Fault};
-ghost use Rattle.rg_host.specs.Lines.{ended};
-ghost use Rattle.rg_host.specs.Moments.{LeavesFiles};
-ghost use Rattle.rg_host.specs.Puts.{IsPrefix, Puts};
 ghost use Rattle.rg_config.specs.Read.{IsRead};
+ghost use Rattle.rg_host.specs.Image.{Image};
+ghost use Rattle.rg_host.specs.Lines.{ended, lines_of};
+ghost use Rattle.rg_host.specs.Moments.{Moments, LeavesFiles};
+ghost use Rattle.rg_host.specs.Puts.{IsPrefix, Puts, IsPut, StopsWith};
 ghost use Rattle.rg_dump.specs.Dump.{dump_text, damage_of};
+ghost use Rattle.rg_course.specs.Accepted.{events_after};
+ghost use Rattle.rg_course.specs.Laws.{below};
+ghost use Rattle.rg_course.specs.Stores.{Promised};
+ghost use Rattle.rg_store.specs.Stores.{store_of};
+ghost use Rattle.rg_turn.specs.Turning.{terms_of};
+ghost use Rattle.rg_run.specs.Begun.{course_for, lines_in};
+ghost use Rattle.rg_run.specs.Reading.{IsLonger, IsWithin};
 ghost use Rattle.railgun.specs.Plan.{IsPlan, IsRefusal};
-ghost use Rattle.rg_host.specs.Puts.{IsPut, StopsWith};
-ghost use Rattle.railgun.specs.Run.{StopsAt, StopsRead};
-ghost use Rattle.railgun.specs.Call.{command_of, ReadsPlan, ReadsStore, Told, ToldPlan, SaysSo, asked_text, asked_replies, text_of, replies_of, line_for, last_line as status_line, refusal_line, damage_line, ending_status, ending_line, ending_refusal, EndsBy, TellsFault, status_for, IsLegal, IsRefused, IsLonger, IsWithin, IsDamaged, IsUndamaged, IsPossible};
+ghost use Rattle.railgun.specs.Stops.{StopsAt};
+ghost use Rattle.railgun.specs.Call.{command_of, IsRun, ReadsPlan, ShowsStore, CarriesRun, Told, ToldPlan, SaysSo, text_of, line_for, last_line as status_line, refusal_line, damage_line, status_after, line_after, ending_status, ending_line, ending_refusal, EndsBy, TellsFault, status_for, IsLegal, IsRefused, IsDamaged, IsUndamaged, IsPossible};
+ghost use Rattle.railgun.specs.Causes.{IsUnfit, RefusesStore, RefusesGap, EndsWith};
+ghost use Rattle.railgun.specs.Stored.{ToldRun, begun_in, IsLastOf, Went, IsComplete, EndsWhole, EndsAnswered, IsAtMostOneAhead, HasLastSaved, Resumes};
 
 use crate::check::check;
 use crate::command::Command;
 use crate::dump::dump;
 use crate::ending::{Ending, Refusal};
-use crate::input::answer_input;
+use crate::fault::CheckFault;
 use crate::report::TomlFault;
+use crate::running::run;
 use crate::status::Status;
 use rg_bytes::{Memory, put_bytes, write_whole};
 use rg_config::{ConfigFault, Plan, read_plan};
 use rg_host::{AllFault, Host, Source, put_all, read_all};
 use std::alloc::Global;
+use std::marker::Brand;
+use std::sync::ledger::Blank;
 
 /// The greatest number of bytes of a plan.
 const PLAN_BYTES: usize = 65_536;
@@ -98,79 +111,79 @@ fn load_plan<P: Source>(alloc: Global, plan: &mut P) -> Result<Plan, Ending>
     }
 }
 
-/// Does with a plan what the command asks for.
-fn run_plan<I: Source, H: Host>(
+/// Reads the plan, and prints it.
+fn check_with_plan<P: Source, H: Host>(
     alloc: Global,
-    command: Command,
-    asked: &Plan,
-    input: &mut I,
-    host: &mut H,
-) -> Result<(), Status>
-    requires is_read { IsRead asked.now }
-    requires reads { ReadsPlan (Some command) }
-    ensures completes { OnOk result ((all : List ℕ) → (command ≡ Command.Run → I.left input.old ≡ Some all) → Puts H.said H.clock H.since host.old host.new (ended (asked_text command (planned asked.now) all))) }
-    ensures stops { IfErr result (λ status. (all : List ℕ) → (command ≡ Command.Run → I.left input.old ≡ Some all) → (put : List ℕ) × Puts H.said H.clock H.since host.old host.new put × StopsAt (status ≡ Status.Write) (asked_text command (planned asked.now) all) put) }
-    ensures stops_read { IfErr result (λ status. (status ≡ Status.Read) ⊎ (status ≡ Status.Limit) → StopsRead (asked_replies command (planned asked.now)) (I.left input.old) (I.left input.new) (Puts H.said H.clock H.since host.old host.new) (status ≡ Status.Limit)) }
-    ensures at_end { OnOk result (command ≡ Command.Run → IsAtEnd (I.left input.new)) }
-    ensures within { OnOk result (command ≡ Command.Run → IsWithin (2 ^ 50) (I.left input.old)) }
-    ensures read { IsErrOf result Status.Read → Rose (I.faults input.old) (I.faults input.new) }
-    ensures write { IsErrOf result Status.Write → Rose (H.out_faults host.old) (H.out_faults host.new) }
-    ensures limit { IsErrOf result Status.Limit → (command ≡ Command.Run) × IsLonger (2 ^ 50) (I.left input.old) }
-    ensures others { IfErr result (λ status. (status ≡ Status.Read) ⊎ (status ≡ Status.Limit) ⊎ (status ≡ Status.Memory) ⊎ (status ≡ Status.Write)) }
-    ensures no_input { command ≡ Command.Check → input.new ≡ input.old }
-    ensures leaves { command ≡ Command.Check → LeavesFiles H.now H.may H.clock H.since host.old host.new }
-    ensures later_out { H.out_faults host.old ≤ H.out_faults host.new }
-{
-    match command {
-        Command::Dump => unreachable!(),
-        Command::Run => match answer_input(alloc, asked, input, host) {
-            Ok(()) => Ok(()),
-            Err(fault) => Err(Status::from(fault)),
-        },
-        Command::Check => match check(alloc, asked, host) {
-            Ok(()) => Ok(()),
-            Err(fault) => Err(Status::from(fault)),
-        },
-    }
-}
-
-/// Reads the plan, and does with it what the command asks for.
-fn run_with_plan<P: Source, I: Source, H: Host>(
-    alloc: Global,
-    command: Command,
     plan: &mut P,
-    input: &mut I,
     host: &mut H,
 ) -> Result<(), Ending>
-    requires reads { ReadsPlan (Some command) }
-    ensures completes { OnOk result ((told : ToldPlan (Some command) (P.left plan.old) (I.left input.old) (H.now host.old)) → Puts H.said H.clock H.since host.old host.new (ended (text_of (Some command) told.asks told.input_bytes told.image))) }
-    ensures stops { IfErr result (λ ending. (told : ToldPlan (Some command) (P.left plan.old) (I.left input.old) (H.now host.old)) → (put : List ℕ) × Puts H.said H.clock H.since host.old host.new put × StopsAt (ending_status ending ≡ Status.Write) (text_of (Some command) told.asks told.input_bytes told.image) put) }
-    ensures stops_read { IfErr result (λ ending. (ending_status ending ≡ Status.Read) ⊎ (ending_status ending ≡ Status.Limit) → (told : ToldPlan (Some command) (P.left plan.old) (I.left input.old) (H.now host.old)) →
-        StopsRead (replies_of (Some command) told.asks) (I.left input.old) (I.left input.new) (Puts H.said H.clock H.since host.old host.new) (ending_status ending ≡ Status.Limit)) }
-    ensures line { IfErr result (λ ending. (told : ToldPlan (Some command) (P.left plan.old) (I.left input.old) (H.now host.old)) → ending_line ending ≡ line_for told.asks told.image (ending_status ending)) }
-    ensures at_end { OnOk result (command ≡ Command.Run → IsAtEnd (I.left input.new)) }
+    ensures completes { OnOk result ((told : ToldPlan (Some Command.Check) (P.left plan.old) (H.now host.old)) → Puts H.said H.clock H.since host.old host.new (ended (text_of (Some Command.Check) told.asks told.image))) }
+    ensures stops { IfErr result (λ ending. (told : ToldPlan (Some Command.Check) (P.left plan.old) (H.now host.old)) → (put : List ℕ) × Puts H.said H.clock H.since host.old host.new put × StopsAt (ending_status ending ≡ Status.Write) (text_of (Some Command.Check) told.asks told.image) put) }
+    ensures line { IfErr result (λ ending. (told : ToldPlan (Some Command.Check) (P.left plan.old) (H.now host.old)) → ending_line ending ≡ line_for told.asks told.image (ending_status ending)) }
     ensures legal { OnOk result (IsLegal (P.left plan.old)) }
-    ensures within { OnOk result (command ≡ Command.Run → IsWithin (2 ^ 50) (I.left input.old)) }
     ensures refused { IfErr result (λ ending. ending_status ending ≡ Status.Plan → IsRefused (P.left plan.old)) }
     ensures told { IfErr result (λ ending. ending_status ending ≡ Status.Plan → TellsFault (P.left plan.old) (ending_refusal ending)) }
-    ensures read { IfErr result (λ ending. ending_status ending ≡ Status.Read → Rose (P.faults plan.old) (P.faults plan.new) ⊎ (IsLegal (P.left plan.old) × Rose (I.faults input.old) (I.faults input.new))) }
+    ensures read { IfErr result (λ ending. ending_status ending ≡ Status.Read → Rose (P.faults plan.old) (P.faults plan.new)) }
     ensures write { IfErr result (λ ending. ending_status ending ≡ Status.Write → IsLegal (P.left plan.old) × Rose (H.out_faults host.old) (H.out_faults host.new)) }
-    ensures limit { IfErr result (λ ending. ending_status ending ≡ Status.Limit → IsLonger 65536 (P.left plan.old) ⊎ (IsLegal (P.left plan.old) × (command ≡ Command.Run) × IsLonger (2 ^ 50) (I.left input.old))) }
+    ensures limit { IfErr result (λ ending. ending_status ending ≡ Status.Limit → IsLonger 65536 (P.left plan.old)) }
     ensures others { IfErr result (λ ending. (ending_status ending ≡ Status.Plan) ⊎ (ending_status ending ≡ Status.Read) ⊎ (ending_status ending ≡ Status.Limit) ⊎ (ending_status ending ≡ Status.Memory) ⊎ (ending_status ending ≡ Status.Write)) }
-    ensures plan_first { IfErr result (λ ending. ending_status ending ≡ Status.Plan → input.new ≡ input.old) }
-    ensures long_plan { (bytes : List ℕ) → P.left plan.old ≡ Some bytes → 65536 < length bytes → input.new ≡ input.old }
-    ensures read_first { IfErr result (λ ending. ending_status ending ≡ Status.Read → (input.new ≡ input.old) ⊎ Rose (I.faults input.old) (I.faults input.new)) }
-    ensures no_input { command ≡ Command.Check → input.new ≡ input.old }
-    ensures leaves { command ≡ Command.Check → LeavesFiles H.now H.may H.clock H.since host.old host.new }
+    ensures leaves { LeavesFiles H.now H.may H.clock H.since host.old host.new }
     ensures later_out { H.out_faults host.old ≤ H.out_faults host.new }
 {
     let asked = match load_plan(alloc, plan) {
         Ok(asked) => asked,
         Err(ending) => return Err(ending),
     };
-    match run_plan(alloc, command, &asked, input, host) {
+    match check(alloc, &asked, host) {
         Ok(()) => Ok(()),
-        Err(status) => Err(Ending::Failed(status)),
+        Err(CheckFault::Memory) => Err(Ending::Failed(Status::Memory)),
+        Err(CheckFault::Write) => Err(Ending::Failed(Status::Write)),
+    }
+}
+
+/// Reads the plan, and answers the input by it over the store, where the first line has that offset.
+fn run_with_plan<P: Source, I: Source, H: Host>(
+    alloc: Global,
+    first: u64,
+    plan: &mut P,
+    input: &mut I,
+    host: &mut H,
+) -> Result<(), Ending>
+    requires first { first ≤ 2 ^ 61 }
+    ensures went { (told : ToldRun (P.left plan.old) (I.left input.old) (H.now host.old) (H.may host.old) (H.said host.old)) → (from : ℕ)
+        × Went H.may H.clock H.since H.said told.asks (begun_in told from first) told.ready.openable.image (I.left input.new) (Rose (P.faults plan.old) (P.faults plan.new)) (status_after result) (line_after result) host.old host.new }
+    ensures never_damaged { ToldRun (P.left plan.old) (I.left input.old) (H.now host.old) (H.may host.old) (H.said host.old) → status_after result ≡ Status.Store → ⊥ }
+
+    // Where the plan isn't legal, nothing is put.
+    ensures completes { OnOk result (ToldPlan (Some (Command.Run first)) (P.left plan.old) (H.now host.old) → ⊥) }
+    ensures stops { IfErr result (λ ending. ToldPlan (Some (Command.Run first)) (P.left plan.old) (H.now host.old) → Puts H.said H.clock H.since host.old host.new []) }
+    ensures line { IfErr result (λ ending. (told : ToldPlan (Some (Command.Run first)) (P.left plan.old) (H.now host.old)) → ending_line ending ≡ line_for told.asks told.image (ending_status ending)) }
+
+    ensures at_end { OnOk result (IsAtEnd (I.left input.new)) }
+    ensures legal { OnOk result (IsLegal (P.left plan.old)) }
+    ensures within { OnOk result (IsWithin (2 ^ 50) (I.left input.old)) }
+    ensures exact { (bytes : List ℕ) (asks : Planned) (v : Image) → P.left plan.old ≡ Some bytes → IsPlan bytes asks → H.now host.old ≡ Some v → IsUnfit asks v → OnOk result ⊥ }
+    ensures refused { IfErr result (λ ending. ending_status ending ≡ Status.Plan → IsRefused (P.left plan.old)) }
+    ensures told { IfErr result (λ ending. ending_status ending ≡ Status.Plan → TellsFault (P.left plan.old) (ending_refusal ending)) }
+    ensures store { IfErr result (λ ending. ending_status ending ≡ Status.Store → RefusesStore (P.left plan.old) (H.now host.old) (H.now host.new) (input.new ≡ input.old) (ending_line ending)) }
+    ensures gap { IfErr result (λ ending. ending_status ending ≡ Status.Gap → RefusesGap (P.left plan.old) first (input.new ≡ input.old) (ending_line ending)) }
+    ensures disk { IfErr result (λ ending. ending_status ending ≡ Status.Disk → IsLegal (P.left plan.old) × Rose (H.disk_faults host.old) (H.disk_faults host.new)) }
+    ensures read { IfErr result (λ ending. ending_status ending ≡ Status.Read → Rose (P.faults plan.old) (P.faults plan.new) ⊎ (IsLegal (P.left plan.old) × Rose (I.faults input.old) (I.faults input.new))) }
+    ensures write { IfErr result (λ ending. ending_status ending ≡ Status.Write → IsLegal (P.left plan.old) × Rose (H.out_faults host.old) (H.out_faults host.new)) }
+    ensures limit { IfErr result (λ ending. ending_status ending ≡ Status.Limit → IsLonger 65536 (P.left plan.old) ⊎ (IsLegal (P.left plan.old) × IsLonger (2 ^ 50) (I.left input.old))) }
+    ensures possible { IfErr result (λ ending. IsPossible (ending_status ending) × (ending_status ending ≢ Status.Ok) × (ending_status ending ≢ Status.Usage)) }
+    ensures plan_first { IfErr result (λ ending. ending_status ending ≡ Status.Plan → input.new ≡ input.old) }
+    ensures long_plan { (bytes : List ℕ) → P.left plan.old ≡ Some bytes → 65536 < length bytes → input.new ≡ input.old }
+    ensures read_first { IfErr result (λ ending. ending_status ending ≡ Status.Read → (input.new ≡ input.old) ⊎ Rose (I.faults input.old) (I.faults input.new)) }
+    ensures later_out { H.out_faults host.old ≤ H.out_faults host.new }
+{
+    let asked = match load_plan(alloc, plan) {
+        Ok(asked) => asked,
+        Err(ending) => return Err(ending),
+    };
+    match run::<I, H, Brand>(alloc, &asked, first, input, host, Blank::new(1)) {
+        Ok(()) => Ok(()),
+        Err(ending) => Err(ending),
     }
 }
 
@@ -182,48 +195,58 @@ fn run_command<P: Source, I: Source, H: Host>(
     input: &mut I,
     host: &mut H,
 ) -> Result<(), Ending>
-    ensures completes { OnOk result ((told : ToldPlan (Some command) (P.left plan.old) (I.left input.old) (H.now host.old)) → Puts H.said H.clock H.since host.old host.new (ended (text_of (Some command) told.asks told.input_bytes told.image))) }
-    ensures stops { IfErr result (λ ending. (told : ToldPlan (Some command) (P.left plan.old) (I.left input.old) (H.now host.old)) → (put : List ℕ) × Puts H.said H.clock H.since host.old host.new put × StopsAt (ending_status ending ≡ Status.Write) (text_of (Some command) told.asks told.input_bytes told.image) put) }
-    ensures stops_read { IfErr result (λ ending. (ending_status ending ≡ Status.Read) ⊎ (ending_status ending ≡ Status.Limit) → (told : ToldPlan (Some command) (P.left plan.old) (I.left input.old) (H.now host.old)) →
-        StopsRead (replies_of (Some command) told.asks) (I.left input.old) (I.left input.new) (Puts H.said H.clock H.since host.old host.new) (ending_status ending ≡ Status.Limit)) }
-    ensures line { IfErr result (λ ending. (told : ToldPlan (Some command) (P.left plan.old) (I.left input.old) (H.now host.old)) → ending_line ending ≡ line_for told.asks told.image (ending_status ending)) }
-    ensures at_end { OnOk result (command ≡ Command.Run → IsAtEnd (I.left input.new)) }
+    requires first { (first : ℕ) → command ≡ Command.Run first → first ≤ 2 ^ 61 }
+    ensures went { (first : ℕ) → command ≡ Command.Run first → (told : ToldRun (P.left plan.old) (I.left input.old) (H.now host.old) (H.may host.old) (H.said host.old)) → (from : ℕ)
+        × Went H.may H.clock H.since H.said told.asks (begun_in told from first) told.ready.openable.image (I.left input.new) (Rose (P.faults plan.old) (P.faults plan.new)) (status_after result) (line_after result) host.old host.new }
+    ensures never_damaged { IsRun (Some command) → ToldRun (P.left plan.old) (I.left input.old) (H.now host.old) (H.may host.old) (H.said host.old) → status_after result ≡ Status.Store → ⊥ }
+    ensures completes { OnOk result ((told : ToldPlan (Some command) (P.left plan.old) (H.now host.old)) → Puts H.said H.clock H.since host.old host.new (ended (text_of (Some command) told.asks told.image))) }
+    ensures stops { IfErr result (λ ending. (told : ToldPlan (Some command) (P.left plan.old) (H.now host.old)) → (put : List ℕ) × Puts H.said H.clock H.since host.old host.new put × StopsAt (ending_status ending ≡ Status.Write) (text_of (Some command) told.asks told.image) put) }
+    ensures line { IfErr result (λ ending. (told : ToldPlan (Some command) (P.left plan.old) (H.now host.old)) → ending_line ending ≡ line_for told.asks told.image (ending_status ending)) }
+    ensures at_end { OnOk result (IsRun (Some command) → IsAtEnd (I.left input.new)) }
     ensures legal { OnOk result (ReadsPlan (Some command) → IsLegal (P.left plan.old)) }
     ensures undamaged { OnOk result (command ≡ Command.Dump → IsUndamaged (H.now host.old)) }
-    ensures within { OnOk result (command ≡ Command.Run → IsWithin (2 ^ 50) (I.left input.old)) }
+    ensures within { OnOk result (IsRun (Some command) → IsWithin (2 ^ 50) (I.left input.old)) }
+    ensures exact { (bytes : List ℕ) (asks : Planned) (v : Image) → IsRun (Some command) → P.left plan.old ≡ Some bytes → IsPlan bytes asks → H.now host.old ≡ Some v → IsUnfit asks v → OnOk result ⊥ }
     ensures refused { IfErr result (λ ending. ending_status ending ≡ Status.Plan → ReadsPlan (Some command) × IsRefused (P.left plan.old)) }
     ensures told { IfErr result (λ ending. ending_status ending ≡ Status.Plan → TellsFault (P.left plan.old) (ending_refusal ending)) }
-    ensures read { IfErr result (λ ending. ending_status ending ≡ Status.Read → Rose (P.faults plan.old) (P.faults plan.new) ⊎ (IsLegal (P.left plan.old) × Rose (I.faults input.old) (I.faults input.new))) }
+    ensures read { IfErr result (λ ending. ending_status ending ≡ Status.Read → Rose (P.faults plan.old) (P.faults plan.new) ⊎ (IsLegal (P.left plan.old) × IsRun (Some command) × Rose (I.faults input.old) (I.faults input.new))) }
     ensures write { IfErr result (λ ending. ending_status ending ≡ Status.Write → (ReadsPlan (Some command) → IsLegal (P.left plan.old)) × Rose (H.out_faults host.old) (H.out_faults host.new)) }
-    ensures limit { IfErr result (λ ending. ending_status ending ≡ Status.Limit → (ReadsPlan (Some command) × IsLonger 65536 (P.left plan.old)) ⊎ (IsLegal (P.left plan.old) × (command ≡ Command.Run) × IsLonger (2 ^ 50) (I.left input.old))) }
-    ensures store { IfErr result (λ ending. ending_status ending ≡ Status.Store → (command ≡ Command.Dump) × IsDamaged (H.now host.old)) }
-    ensures all_before { IfErr result (λ ending. ending_status ending ≡ Status.Store → ForSome (H.now host.old) (λ image. Puts H.said H.clock H.since host.old host.new (ended (dump_text (image 2))) × (ending_line ending ≡ damage_line (damage_of (image 2))))) }
-    ensures disk { IfErr result (λ ending. ending_status ending ≡ Status.Disk → (command ≡ Command.Dump) × Rose (H.disk_faults host.old) (H.disk_faults host.new)) }
+    ensures limit { IfErr result (λ ending. ending_status ending ≡ Status.Limit → (ReadsPlan (Some command) × IsLonger 65536 (P.left plan.old)) ⊎ (IsLegal (P.left plan.old) × IsRun (Some command) × IsLonger (2 ^ 50) (I.left input.old))) }
+    ensures store { IfErr result (λ ending. ending_status ending ≡ Status.Store → ((command ≡ Command.Dump) × IsDamaged (H.now host.old)) ⊎ (IsRun (Some command) × RefusesStore (P.left plan.old) (H.now host.old) (H.now host.new) (input.new ≡ input.old) (ending_line ending))) }
+    ensures all_before { IfErr result (λ ending. ending_status ending ≡ Status.Store → command ≡ Command.Dump → ForSome (H.now host.old) (λ image. Puts H.said H.clock H.since host.old host.new (ended (dump_text (image 2))) × (ending_line ending ≡ damage_line (damage_of (image 2))))) }
+    ensures gap { IfErr result (λ ending. ending_status ending ≡ Status.Gap → (first : ℕ) × (command ≡ Command.Run first) × RefusesGap (P.left plan.old) first (input.new ≡ input.old) (ending_line ending)) }
+    ensures disk { IfErr result (λ ending. ending_status ending ≡ Status.Disk → ((command ≡ Command.Dump) ⊎ (IsRun (Some command) × IsLegal (P.left plan.old))) × Rose (H.disk_faults host.old) (H.disk_faults host.new)) }
     ensures possible { IfErr result (λ ending. IsPossible (ending_status ending) × (ending_status ending ≢ Status.Ok) × (ending_status ending ≢ Status.Usage)) }
     ensures plan_first { IfErr result (λ ending. ending_status ending ≡ Status.Plan → input.new ≡ input.old) }
     ensures long_plan { (bytes : List ℕ) → P.left plan.old ≡ Some bytes → 65536 < length bytes → input.new ≡ input.old }
     ensures read_first { IfErr result (λ ending. ending_status ending ≡ Status.Read → (input.new ≡ input.old) ⊎ Rose (I.faults input.old) (I.faults input.new)) }
     ensures no_input { command ≡ Command.Check → input.new ≡ input.old }
     ensures dump_alone { command ≡ Command.Dump → (plan.new ≡ plan.old) × (input.new ≡ input.old) }
-    ensures leaves { (command ≡ Command.Run → ⊥) → LeavesFiles H.now H.may H.clock H.since host.old host.new }
+    ensures leaves { (IsRun (Some command) → ⊥) → LeavesFiles H.now H.may H.clock H.since host.old host.new }
     ensures later_out { H.out_faults host.old ≤ H.out_faults host.new }
 {
     match command {
+        Command::Run(first) => run_with_plan(alloc, first, plan, input, host),
+        Command::Check => check_with_plan(alloc, plan, host),
         Command::Dump => dump(alloc, host),
-        Command::Run | Command::Check => run_with_plan(alloc, command, plan, input, host),
     }
 }
 
-/// Puts the last line of a call that ends early. Its own failure leaves the status.
+/// Puts the last line of a call that ends early, if it has one. Its own failure leaves the status.
 fn end<H: Host>(host: &mut H, ending: &Ending) -> Status
     ensures status { result ≡ ending_status ending.now }
     ensures part { (part : List ℕ) × IsPrefix part (ending_line ending.now) × Puts H.said H.clock H.since host.old host.new part }
     ensures whole { Puts H.said H.clock H.since host.old host.new (ending_line ending.now) ⊎ Rose (H.out_faults host.old) (H.out_faults host.new) }
+    ensures silent { ending_line ending.now ≡ [] → host.new ≡ host.old }
     ensures leaves { LeavesFiles H.now H.may H.clock H.since host.old host.new }
     ensures disk_faults { H.disk_faults host.new ≡ H.disk_faults host.old }
     ensures later_out { H.out_faults host.old ≤ H.out_faults host.new }
 {
-    match put_all(host, ending.last_line()) {
+    let line = ending.last_line();
+    if line.is_empty() {
+        return ending.status();
+    }
+    match put_all(host, line) {
         Ok(()) => ending.status(),
         Err(_) => ending.status(),
     }
@@ -238,37 +261,54 @@ fn run_words<P: Source, I: Source, H: Host>(
     host: &mut H,
     refusal: &mut Option<Refusal>,
 ) -> Status
-    ensures complete_run { result ≡ Status.Ok → (told : ToldPlan (command_of words.now) (P.left plan.old) (I.left input.old) (H.now host.old)) →
-        Puts H.said H.clock H.since host.old host.new (ended (text_of (command_of words.now) told.asks told.input_bytes told.image)) }
-    ensures input_read { result ≡ Status.Ok → command_of words.now ≡ Some Command.Run → IsAtEnd (I.left input.new) }
-    ensures put_so_far { (told : ToldPlan (command_of words.now) (P.left plan.old) (I.left input.old) (H.now host.old)) → (put : List ℕ) × Puts H.said H.clock H.since host.old host.new put
-        × IsPut (text_of (command_of words.now) told.asks told.input_bytes told.image) (line_for told.asks told.image result) put }
-    ensures last_line_whole { (told : ToldPlan (command_of words.now) (P.left plan.old) (I.left input.old) (H.now host.old)) → ((put : List ℕ) × Puts H.said H.clock H.since host.old host.new put
-        × StopsWith (text_of (command_of words.now) told.asks told.input_bytes told.image) (line_for told.asks told.image result) put)
+    ensures complete { result ≡ Status.Ok → (told : ToldPlan (command_of words.now) (P.left plan.old) (H.now host.old)) → Puts H.said H.clock H.since host.old host.new (ended (text_of (command_of words.now) told.asks told.image)) }
+    ensures put_so_far { (told : ToldPlan (command_of words.now) (P.left plan.old) (H.now host.old)) → (put : List ℕ) × Puts H.said H.clock H.since host.old host.new put
+        × IsPut (text_of (command_of words.now) told.asks told.image) (line_for told.asks told.image result) put }
+    ensures last_line_whole { (told : ToldPlan (command_of words.now) (P.left plan.old) (H.now host.old)) → ((put : List ℕ) × Puts H.said H.clock H.since host.old host.new put
+        × StopsWith (text_of (command_of words.now) told.asks told.image) (line_for told.asks told.image result) put)
         ⊎ Rose (H.out_faults host.old) (H.out_faults host.new) }
-    ensures replies_put { (result ≡ Status.Read) ⊎ (result ≡ Status.Limit) → (told : ToldPlan (command_of words.now) (P.left plan.old) (I.left input.old) (H.now host.old)) →
-        StopsRead (replies_of (command_of words.now) told.asks) (I.left input.old) (I.left input.new)
-        (λ text. Puts H.said H.clock H.since host.old host.new (text ++ line_for told.asks told.image result)) (result ≡ Status.Limit)
-        ⊎ Rose (H.out_faults host.old) (H.out_faults host.new) }
+    ensures complete_run { result ≡ Status.Ok → (first : ℕ) → command_of words.now ≡ Some (Command.Run first) → (told : ToldRun (P.left plan.old) (I.left input.old) (H.now host.old) (H.may host.old) (H.said host.old)) →
+        (from : ℕ) × IsComplete told.asks (begun_in told from first) told.ready.openable.image (H.may host.new) (H.said host.new) }
+    ensures every_moment { (first : ℕ) → command_of words.now ≡ Some (Command.Run first) → (told : ToldRun (P.left plan.old) (I.left input.old) (H.now host.old) (H.may host.old) (H.said host.old)) → (from : ℕ) × (last : List ℕ) × IsLastOf result (begun_in told from first) last
+        × Moments H.clock H.since host.old host.new (λ m. Promised (store_of told.asks) (course_for told.asks (begun_in told from first)) (H.may host.old) last m.image m.said) }
+    ensures last_line_run { (first : ℕ) → command_of words.now ≡ Some (Command.Run first) → (told : ToldRun (P.left plan.old) (I.left input.old) (H.now host.old) (H.may host.old) (H.said host.old)) →
+        ((from : ℕ) × (last : List ℕ) × IsLastOf result (begun_in told from first) last × EndsWhole told.asks (begun_in told from first) last (H.said host.new)) ⊎ Rose (H.out_faults host.old) (H.out_faults host.new) }
+    ensures no_reply_lost { (first : ℕ) → command_of words.now ≡ Some (Command.Run first) → (told : ToldRun (P.left plan.old) (I.left input.old) (H.now host.old) (H.may host.old) (H.said host.old)) → (from : ℕ) × (last : List ℕ) × IsLastOf result (begun_in told from first) last
+        × Moments H.clock H.since host.old host.new (IsAtMostOneAhead told.asks (begun_in told from first) (H.may host.old) last) }
+    ensures saved_kept { (first : ℕ) → command_of words.now ≡ Some (Command.Run first) → (told : ToldRun (P.left plan.old) (I.left input.old) (H.now host.old) (H.may host.old) (H.said host.old)) → (from : ℕ)
+        × Moments H.clock H.since host.old host.new (HasLastSaved told.asks (begun_in told from first)) }
+    ensures replies_put { (result ≡ Status.Read) ⊎ (result ≡ Status.Limit) → (first : ℕ) → command_of words.now ≡ Some (Command.Run first) → (told : ToldRun (P.left plan.old) (I.left input.old) (H.now host.old) (H.may host.old) (H.said host.old)) →
+        ((from : ℕ) × EndsAnswered told.asks (begun_in told from first) (I.left input.new) (status_line result) (H.said host.new) (result ≡ Status.Limit))
+        ⊎ Rose (P.faults plan.old) (P.faults plan.new) ⊎ Rose (H.out_faults host.old) (H.out_faults host.new) }
+    ensures resumes { result ≡ Status.Ok → command_of words.now ≡ Some (Command.Run 0) → (told : ToldRun (P.left plan.old) (I.left input.old) (H.now host.old) (H.may host.old) (H.said host.old)) →
+        told.ready.held ≡ below (next_offset told.ready.held) (events_after (terms_of told.asks).basis [] 0 (lines_of told.input_bytes)) → (from : ℕ) × Resumes told.asks (begun_in told from 0) (H.said host.new) }
+    ensures input_read { result ≡ Status.Ok → IsRun (command_of words.now) → IsAtEnd (I.left input.new) }
+    ensures gap_always { result ≡ Status.Ok → (first : ℕ) → command_of words.now ≡ Some (Command.Run first) → (told : ToldRun (P.left plan.old) (I.left input.old) (H.now host.old) (H.may host.old) (H.said host.old)) → first ≤ next_offset told.ready.held }
+    ensures gap_never { result ≡ Status.Gap → (first : ℕ) → command_of words.now ≡ Some (Command.Run first) → (told : ToldRun (P.left plan.old) (I.left input.old) (H.now host.old) (H.may host.old) (H.said host.old)) → next_offset told.ready.held < first }
     ensures usage_only { result ≡ Status.Usage → command_of words.now ≡ None }
     ensures usage_always { command_of words.now ≡ None → result ≡ Status.Usage }
-    ensures ok_only { result ≡ Status.Ok → (ReadsPlan (command_of words.now) → IsLegal (P.left plan.old)) × (command_of words.now ≡ Some Command.Run → IsWithin (2 ^ 50) (I.left input.old)) × (command_of words.now ≡ Some Command.Dump → IsUndamaged (H.now host.old)) }
+    ensures ok_only { result ≡ Status.Ok → (ReadsPlan (command_of words.now) → IsLegal (P.left plan.old)) × (IsRun (command_of words.now) → IsWithin (2 ^ 50) (I.left input.old)) × (command_of words.now ≡ Some Command.Dump → IsUndamaged (H.now host.old)) }
     ensures plan_only { result ≡ Status.Plan → ReadsPlan (command_of words.now) × IsRefused (P.left plan.old) }
-    ensures store_only { result ≡ Status.Store → (command_of words.now ≡ Some Command.Dump) × IsDamaged (H.now host.old) }
-    ensures disk_only { result ≡ Status.Disk → (command_of words.now ≡ Some Command.Dump) × Rose (H.disk_faults host.old) (H.disk_faults host.new) }
-    ensures read_only { result ≡ Status.Read → Rose (P.faults plan.old) (P.faults plan.new) ⊎ (IsLegal (P.left plan.old) × Rose (I.faults input.old) (I.faults input.new)) }
+    ensures store_only { result ≡ Status.Store → ((command_of words.now ≡ Some Command.Dump) × IsDamaged (H.now host.old))
+        ⊎ (IsRun (command_of words.now) × ((last : List ℕ) × RefusesStore (P.left plan.old) (H.now host.old) (H.now host.new) (input.new ≡ input.old) last × (EndsWith (H.said host.new) last ⊎ Rose (H.out_faults host.old) (H.out_faults host.new)))) }
+    ensures store_always { IsRun (command_of words.now) → (bytes : List ℕ) (asks : Planned) (v : Image) → P.left plan.old ≡ Some bytes → IsPlan bytes asks → H.now host.old ≡ Some v → IsUnfit asks v → result ≢ Status.Ok }
+    ensures gap_only { result ≡ Status.Gap → (first : ℕ) × (command_of words.now ≡ Some (Command.Run first))
+        × ((last : List ℕ) × RefusesGap (P.left plan.old) first (input.new ≡ input.old) last × (EndsWith (H.said host.new) last ⊎ Rose (H.out_faults host.old) (H.out_faults host.new))) }
+    ensures disk_only { result ≡ Status.Disk → ((command_of words.now ≡ Some Command.Dump) ⊎ (IsRun (command_of words.now) × IsLegal (P.left plan.old))) × Rose (H.disk_faults host.old) (H.disk_faults host.new) }
+    ensures read_only { result ≡ Status.Read → Rose (P.faults plan.old) (P.faults plan.new) ⊎ (IsLegal (P.left plan.old) × IsRun (command_of words.now) × Rose (I.faults input.old) (I.faults input.new)) }
     ensures write_only { result ≡ Status.Write → (ReadsPlan (command_of words.now) → IsLegal (P.left plan.old)) × Rose (H.out_faults host.old) (H.out_faults host.new) }
-    ensures limit_only { result ≡ Status.Limit → (ReadsPlan (command_of words.now) × IsLonger 65536 (P.left plan.old)) ⊎ (IsLegal (P.left plan.old) × (command_of words.now ≡ Some Command.Run) × IsLonger (2 ^ 50) (I.left input.old)) }
-    ensures refusal_told { result ≡ Status.Plan → TellsFault (P.left plan.old) refusal.new }
+    ensures limit_only { result ≡ Status.Limit → (ReadsPlan (command_of words.now) × IsLonger 65536 (P.left plan.old)) ⊎ (IsLegal (P.left plan.old) × IsRun (command_of words.now) × IsLonger (2 ^ 50) (I.left input.old)) }
     ensures possible_only { IsPossible result }
+    ensures store_never { IsRun (command_of words.now) → ToldRun (P.left plan.old) (I.left input.old) (H.now host.old) (H.may host.old) (H.said host.old) → result ≢ Status.Store }
+    ensures refusal_told { result ≡ Status.Plan → TellsFault (P.left plan.old) refusal.new }
     ensures usage_first { result ≡ Status.Usage → (plan.new ≡ plan.old) × (input.new ≡ input.old) }
     ensures plan_first { result ≡ Status.Plan → input.new ≡ input.old }
     ensures long_plan { (bytes : List ℕ) → P.left plan.old ≡ Some bytes → 65536 < length bytes → input.new ≡ input.old }
     ensures read_first { result ≡ Status.Read → (input.new ≡ input.old) ⊎ Rose (I.faults input.old) (I.faults input.new) }
     ensures check_alone { command_of words.now ≡ Some Command.Check → input.new ≡ input.old }
     ensures dump_alone { command_of words.now ≡ Some Command.Dump → (plan.new ≡ plan.old) × (input.new ≡ input.old) }
-    ensures files_stay { (command_of words.now ≡ Some Command.Run → ⊥) → LeavesFiles H.now H.may H.clock H.since host.old host.new }
-    ensures rows_before_damage { result ≡ Status.Store → ForSome (H.now host.old) (λ image. Puts H.said H.clock H.since host.old host.new (ended (dump_text (image 2)) ++ damage_line (damage_of (image 2)))) ⊎ Rose (H.out_faults host.old) (H.out_faults host.new) }
+    ensures files_stay { (IsRun (command_of words.now) → ⊥) → LeavesFiles H.now H.may H.clock H.since host.old host.new }
+    ensures rows_before_damage { result ≡ Status.Store → command_of words.now ≡ Some Command.Dump → ForSome (H.now host.old) (λ image. Puts H.said H.clock H.since host.old host.new (ended (dump_text (image 2)) ++ damage_line (damage_of (image 2)))) ⊎ Rose (H.out_faults host.old) (H.out_faults host.new) }
 {
     *refusal = None;
     let Some(command) = Command::named(words) else {
@@ -283,14 +323,17 @@ fn run_words<P: Source, I: Source, H: Host>(
     }
 }
 
-/// Does all that the program does: with the words `run PLAN STORE` it answers the input by the plan,
-/// with `check PLAN` it prints the plan, and with `dump STORE` the log of the store, which is file 2
-/// of the host.
+/// Does all that the program does: with the words `run PLAN STORE` it answers the input by the plan over
+/// the store, with `check PLAN` it prints the plan, and with `dump STORE` the log of the store, which is
+/// file 2 of the host.
 ///
-/// `words` are those after the program's name. At most 65,536 bytes of `plan` and 2^50 bytes of
-/// `input` are taken, and one more where there is one. What a run puts out is the answer of each
-/// line, in order, and at last `done LINES EVENTS`; what a check puts out is each query and then the
-/// task plan; what a dump puts out is the schema's text and then each event as a row. Another status than Ok puts its last line behind whole lines of these.
+/// `words` are those after the program's name; behind a run's store may stand the offset of the input's
+/// first line, at most 2^61, which must be at most the store's next one. At most 65,536 bytes of `plan`
+/// and 2^50 bytes of `input` are taken, and one more where there is one. What a run puts out is `open`
+/// with what the store has, the answer of each line from the store's next offset on, in order, each with
+/// the marks that are due, and at last what is stored and saved and `done LINES EVENTS`; what a check
+/// puts out is each query and then the task plan; what a dump puts out is the schema's text and then each
+/// event as a row. Another status than Ok puts its last line behind whole lines of these.
 pub fn railgun<P: Source, I: Source, H: Host>(
     alloc: Global,
     words: &[String],
@@ -299,43 +342,78 @@ pub fn railgun<P: Source, I: Source, H: Host>(
     host: &mut H,
     refusal: &mut Option<Refusal>,
 ) -> Status
-    // At status Ok the input of a run was read to its end, and just the text that the definitions give was put out.
-    ensures complete_run { result ≡ Status.Ok → (told : Told (command_of words.now) (P.left plan.old) (I.left input.old) (H.now host.old)) →
-        SaysSo told.plan_bytes (λ asks. Puts H.said H.clock H.since host.old host.new (ended (text_of (command_of words.now) asks told.input_bytes told.image))) }
-    ensures input_read { result ≡ Status.Ok → command_of words.now ≡ Some Command.Run → IsAtEnd (I.left input.new) }
+    // A call that carries out no run: at status Ok just the text that the definitions give was put out.
+    ensures complete { result ≡ Status.Ok → (told : Told (command_of words.now) (P.left plan.old) (H.now host.old)) →
+        SaysSo told.plan_bytes (λ asks. (CarriesRun (command_of words.now) told.plan_bytes asks → ⊥) → Puts H.said H.clock H.since host.old host.new (ended (text_of (command_of words.now) asks told.image))) }
 
     // At each status, a front of that text was put out, or whole lines of it and a front of the status's last line.
-    ensures put_so_far { (told : Told (command_of words.now) (P.left plan.old) (I.left input.old) (H.now host.old)) → SaysSo told.plan_bytes (λ asks. (put : List ℕ) × Puts H.said H.clock H.since host.old host.new put
-        × IsPut (text_of (command_of words.now) asks told.input_bytes told.image) (line_for asks told.image result) put) }
+    ensures put_so_far { (told : Told (command_of words.now) (P.left plan.old) (H.now host.old)) → SaysSo told.plan_bytes (λ asks. (CarriesRun (command_of words.now) told.plan_bytes asks → ⊥) →
+        (put : List ℕ) × Puts H.said H.clock H.since host.old host.new put × IsPut (text_of (command_of words.now) asks told.image) (line_for asks told.image result) put) }
 
     // Unless a put failed, that last line is whole.
-    ensures last_line_whole { (told : Told (command_of words.now) (P.left plan.old) (I.left input.old) (H.now host.old)) → SaysSo told.plan_bytes (λ asks. ((put : List ℕ) × Puts H.said H.clock H.since host.old host.new put
-        × StopsWith (text_of (command_of words.now) asks told.input_bytes told.image) (line_for asks told.image result) put)
+    ensures last_line_whole { (told : Told (command_of words.now) (P.left plan.old) (H.now host.old)) → SaysSo told.plan_bytes (λ asks. (CarriesRun (command_of words.now) told.plan_bytes asks → ⊥) →
+        ((put : List ℕ) × Puts H.said H.clock H.since host.old host.new put × StopsWith (text_of (command_of words.now) asks told.image) (line_for asks told.image result) put)
         ⊎ Rose (H.out_faults host.old) (H.out_faults host.new)) }
 
+    // A run over a store that is ready: at status Ok all of its text was put out, and each image that might be left is truthful and has
+    // just the events that it accepts.
+    ensures complete_run { result ≡ Status.Ok → (first : ℕ) → command_of words.now ≡ Some (Command.Run first) → (told : ToldRun (P.left plan.old) (I.left input.old) (H.now host.old) (H.may host.old) (H.said host.old)) →
+        (from : ℕ) × IsComplete told.asks (begun_in told from first) told.ready.openable.image (H.may host.new) (H.said host.new) }
+
+    // At each moment, whatever the status, what was put and the image that a crash might leave are on the run's course.
+    ensures every_moment { (first : ℕ) → command_of words.now ≡ Some (Command.Run first) → (told : ToldRun (P.left plan.old) (I.left input.old) (H.now host.old) (H.may host.old) (H.said host.old)) → (from : ℕ) × (last : List ℕ) × IsLastOf result (begun_in told from first) last
+        × Moments H.clock H.since host.old host.new (λ m. Promised (store_of told.asks) (course_for told.asks (begun_in told from first)) (H.may host.old) last m.image m.said) }
+
+    // Unless a put failed, what was put is whole lines of the run's text, and then the last line of the status.
+    ensures last_line_run { (first : ℕ) → command_of words.now ≡ Some (Command.Run first) → (told : ToldRun (P.left plan.old) (I.left input.old) (H.now host.old) (H.may host.old) (H.said host.old)) →
+        ((from : ℕ) × (last : List ℕ) × IsLastOf result (begun_in told from first) last × EndsWhole told.asks (begun_in told from first) last (H.said host.new)) ⊎ Rose (H.out_faults host.old) (H.out_faults host.new) }
+
+    // No reply is lost: the store is at most one line ahead of those that were answered.
+    ensures no_reply_lost { (first : ℕ) → command_of words.now ≡ Some (Command.Run first) → (told : ToldRun (P.left plan.old) (I.left input.old) (H.now host.old) (H.may host.old) (H.said host.old)) → (from : ℕ) × (last : List ℕ) × IsLastOf result (begun_in told from first) last
+        × Moments H.clock H.since host.old host.new (IsAtMostOneAhead told.asks (begun_in told from first) (H.may host.old) last) }
+
+    // What the last line of a checkpoint says is saved is in a slot.
+    ensures saved_kept { (first : ℕ) → command_of words.now ≡ Some (Command.Run first) → (told : ToldRun (P.left plan.old) (I.left input.old) (H.now host.old) (H.may host.old) (H.said host.old)) → (from : ℕ)
+        × Moments H.clock H.since host.old host.new (HasLastSaved told.asks (begun_in told from first)) }
+
     // Where the input could not be read on, each line that LF ended was answered, and the last line follows, unless a put failed.
-    ensures replies_put { (result ≡ Status.Read) ⊎ (result ≡ Status.Limit) → (told : Told (command_of words.now) (P.left plan.old) (I.left input.old) (H.now host.old)) →
-        SaysSo told.plan_bytes (λ asks. StopsRead (replies_of (command_of words.now) asks) (I.left input.old) (I.left input.new)
-        (λ text. Puts H.said H.clock H.since host.old host.new (text ++ line_for asks told.image result)) (result ≡ Status.Limit)
-        ⊎ Rose (H.out_faults host.old) (H.out_faults host.new)) }
+    ensures replies_put { (result ≡ Status.Read) ⊎ (result ≡ Status.Limit) → (first : ℕ) → command_of words.now ≡ Some (Command.Run first) → (told : ToldRun (P.left plan.old) (I.left input.old) (H.now host.old) (H.may host.old) (H.said host.old)) →
+        ((from : ℕ) × EndsAnswered told.asks (begun_in told from first) (I.left input.new) (status_line result) (H.said host.new) (result ≡ Status.Limit))
+        ⊎ Rose (P.faults plan.old) (P.faults plan.new) ⊎ Rose (H.out_faults host.old) (H.out_faults host.new) }
+
+    // A run over what an earlier run of the same input left goes on with the text of one that is never stopped.
+    ensures resumes { result ≡ Status.Ok → command_of words.now ≡ Some (Command.Run 0) → (told : ToldRun (P.left plan.old) (I.left input.old) (H.now host.old) (H.may host.old) (H.said host.old)) →
+        told.ready.held ≡ below (next_offset told.ready.held) (events_after (terms_of told.asks).basis [] 0 (lines_of told.input_bytes)) → (from : ℕ) × Resumes told.asks (begun_in told from 0) (H.said host.new) }
+    ensures input_read { result ≡ Status.Ok → IsRun (command_of words.now) → IsAtEnd (I.left input.new) }
+
+    // A run goes on only where its first line is at most the store's next one.
+    ensures gap_always { result ≡ Status.Ok → (first : ℕ) → command_of words.now ≡ Some (Command.Run first) → (told : ToldRun (P.left plan.old) (I.left input.old) (H.now host.old) (H.may host.old) (H.said host.old)) → first ≤ next_offset told.ready.held }
+    ensures gap_never { result ≡ Status.Gap → (first : ℕ) → command_of words.now ≡ Some (Command.Run first) → (told : ToldRun (P.left plan.old) (I.left input.old) (H.now host.old) (H.may host.old) (H.said host.old)) → next_offset told.ready.held < first }
 
     // Each status has its cause. Memory alone is free.
     ensures usage_only { result ≡ Status.Usage → command_of words.now ≡ None }
     ensures usage_always { command_of words.now ≡ None → result ≡ Status.Usage }
-    ensures ok_only { result ≡ Status.Ok → (ReadsPlan (command_of words.now) → IsLegal (P.left plan.old)) × (command_of words.now ≡ Some Command.Run → IsWithin (2 ^ 50) (I.left input.old)) × (command_of words.now ≡ Some Command.Dump → IsUndamaged (H.now host.old)) }
+    ensures ok_only { result ≡ Status.Ok → (ReadsPlan (command_of words.now) → IsLegal (P.left plan.old)) × (IsRun (command_of words.now) → IsWithin (2 ^ 50) (I.left input.old)) × (command_of words.now ≡ Some Command.Dump → IsUndamaged (H.now host.old)) }
     ensures plan_only { result ≡ Status.Plan → ReadsPlan (command_of words.now) × IsRefused (P.left plan.old) }
-    ensures store_only { result ≡ Status.Store → (command_of words.now ≡ Some Command.Dump) × IsDamaged (H.now host.old) }
-    ensures disk_only { result ≡ Status.Disk → (command_of words.now ≡ Some Command.Dump) × Rose (H.disk_faults host.old) (H.disk_faults host.new) }
-    ensures read_only { result ≡ Status.Read → Rose (P.faults plan.old) (P.faults plan.new) ⊎ (IsLegal (P.left plan.old) × Rose (I.faults input.old) (I.faults input.new)) }
+    ensures store_only { result ≡ Status.Store → ((command_of words.now ≡ Some Command.Dump) × IsDamaged (H.now host.old))
+        ⊎ (IsRun (command_of words.now) × ((last : List ℕ) × RefusesStore (P.left plan.old) (H.now host.old) (H.now host.new) (input.new ≡ input.old) last × (EndsWith (H.said host.new) last ⊎ Rose (H.out_faults host.old) (H.out_faults host.new)))) }
+    ensures store_always { IsRun (command_of words.now) → (bytes : List ℕ) (asks : Planned) (v : Image) → P.left plan.old ≡ Some bytes → IsPlan bytes asks → H.now host.old ≡ Some v → IsUnfit asks v → result ≢ Status.Ok }
+    ensures gap_only { result ≡ Status.Gap → (first : ℕ) × (command_of words.now ≡ Some (Command.Run first))
+        × ((last : List ℕ) × RefusesGap (P.left plan.old) first (input.new ≡ input.old) last × (EndsWith (H.said host.new) last ⊎ Rose (H.out_faults host.old) (H.out_faults host.new))) }
+    ensures disk_only { result ≡ Status.Disk → ((command_of words.now ≡ Some Command.Dump) ⊎ (IsRun (command_of words.now) × IsLegal (P.left plan.old))) × Rose (H.disk_faults host.old) (H.disk_faults host.new) }
+    ensures read_only { result ≡ Status.Read → Rose (P.faults plan.old) (P.faults plan.new) ⊎ (IsLegal (P.left plan.old) × IsRun (command_of words.now) × Rose (I.faults input.old) (I.faults input.new)) }
     ensures write_only { result ≡ Status.Write → (ReadsPlan (command_of words.now) → IsLegal (P.left plan.old)) × Rose (H.out_faults host.old) (H.out_faults host.new) }
-    ensures limit_only { result ≡ Status.Limit → (ReadsPlan (command_of words.now) × IsLonger 65536 (P.left plan.old)) ⊎ (IsLegal (P.left plan.old) × (command_of words.now ≡ Some Command.Run) × IsLonger (2 ^ 50) (I.left input.old)) }
+    ensures limit_only { result ≡ Status.Limit → (ReadsPlan (command_of words.now) × IsLonger 65536 (P.left plan.old)) ⊎ (IsLegal (P.left plan.old) × IsRun (command_of words.now) × IsLonger (2 ^ 50) (I.left input.old)) }
     ensures possible_only { IsPossible result }
+
+    // A store that is ready for a run is never refused.
+    ensures store_never { IsRun (command_of words.now) → ToldRun (P.left plan.old) (I.left input.old) (H.now host.old) (H.may host.old) (H.said host.old) → result ≢ Status.Store }
 
     // A plan that is refused is told by its fault, for standard error.
     ensures refusal_told { result ≡ Status.Plan → TellsFault (P.left plan.old) refusal.new }
 
-    // The words are looked at before the plan is read, and the plan before the input: where the plan is refused, too
-    // long or can't be read, the input is left alone. A check leaves it alone in any case.
+    // The words are looked at before the plan is read, the plan before the store, and the store before the input: where the plan is
+    // refused, too long or can't be read, the input is left alone. Only a run reads it.
     ensures usage_first { result ≡ Status.Usage → (plan.new ≡ plan.old) × (input.new ≡ input.old) }
     ensures plan_first { result ≡ Status.Plan → input.new ≡ input.old }
     ensures long_plan { (bytes : List ℕ) → P.left plan.old ≡ Some bytes → 65536 < length bytes → input.new ≡ input.old }
@@ -345,15 +423,25 @@ pub fn railgun<P: Source, I: Source, H: Host>(
 
     // Only a run may write a file: for any other words the files stay, and at each moment a crash might have left of them
     // what it could leave at the start.
-    ensures files_stay { (command_of words.now ≡ Some Command.Run → ⊥) → LeavesFiles H.now H.may H.clock H.since host.old host.new }
+    ensures files_stay { (IsRun (command_of words.now) → ⊥) → LeavesFiles H.now H.may H.clock H.since host.old host.new }
 
     // A damaged log is dumped up to its first damaged place, which the last line says, unless a put failed.
-    ensures rows_before_damage { result ≡ Status.Store → ForSome (H.now host.old) (λ image. Puts H.said H.clock H.since host.old host.new (ended (dump_text (image 2)) ++ damage_line (damage_of (image 2)))) ⊎ Rose (H.out_faults host.old) (H.out_faults host.new) }
+    ensures rows_before_damage { result ≡ Status.Store → command_of words.now ≡ Some Command.Dump → ForSome (H.now host.old) (λ image. Puts H.said H.clock H.since host.old host.new (ended (dump_text (image 2)) ++ damage_line (damage_of (image 2)))) ⊎ Rose (H.out_faults host.old) (H.out_faults host.new) }
 
-    // Where no count of faults rose, the status is the one that words, plan and input call for, or Memory.
-    ensures completes { (told : Told (command_of words.now) (P.left plan.old) (I.left input.old) (H.now host.old)) →
-        ¬ (Rose (P.faults plan.old) (P.faults plan.new) ⊎ Rose (I.faults input.old) (I.faults input.new) ⊎ Rose (H.out_faults host.old) (H.out_faults host.new) ⊎ (ReadsStore (command_of words.now) × Rose (H.disk_faults host.old) (H.disk_faults host.new))) →
-        SaysSo told.plan_bytes (λ asks. (result ≡ status_for (command_of words.now) told.plan_bytes asks told.input_bytes told.image) ⊎ (result ≡ Status.Memory)) }
+    // Where no count of faults rose, the status is the one that words, plan and store call for, or Memory.
+    ensures completes { (told : Told (command_of words.now) (P.left plan.old) (H.now host.old)) →
+        ¬ (Rose (P.faults plan.old) (P.faults plan.new) ⊎ Rose (I.faults input.old) (I.faults input.new) ⊎ Rose (H.out_faults host.old) (H.out_faults host.new) ⊎ (ShowsStore (command_of words.now) × Rose (H.disk_faults host.old) (H.disk_faults host.new))) →
+        SaysSo told.plan_bytes (λ asks. (CarriesRun (command_of words.now) told.plan_bytes asks → ⊥) → (result ≡ status_for (command_of words.now) told.plan_bytes asks told.image) ⊎ (result ≡ Status.Memory)) }
+
+    // A run over a store that is ready then ends well, or for want of memory, where its input isn't too long and begins early enough.
+    ensures completes_run { (first : ℕ) → command_of words.now ≡ Some (Command.Run first) → (told : ToldRun (P.left plan.old) (I.left input.old) (H.now host.old) (H.may host.old) (H.said host.old)) → length told.input_bytes ≤ 2 ^ 50 → first ≤ next_offset told.ready.held →
+        ¬ (Rose (P.faults plan.old) (P.faults plan.new) ⊎ Rose (I.faults input.old) (I.faults input.new) ⊎ Rose (H.out_faults host.old) (H.out_faults host.new) ⊎ Rose (H.disk_faults host.old) (H.disk_faults host.new)) →
+        (result ≡ Status.Ok) ⊎ (result ≡ Status.Memory) }
+
+    // Where it begins behind the store's next offset, it says so.
+    ensures completes_gap { (first : ℕ) → command_of words.now ≡ Some (Command.Run first) → (told : ToldRun (P.left plan.old) (I.left input.old) (H.now host.old) (H.may host.old) (H.said host.old)) → length told.input_bytes ≤ 2 ^ 50 → next_offset told.ready.held < first →
+        ¬ (Rose (P.faults plan.old) (P.faults plan.new) ⊎ Rose (I.faults input.old) (I.faults input.new) ⊎ Rose (H.out_faults host.old) (H.out_faults host.new) ⊎ Rose (H.disk_faults host.old) (H.disk_faults host.new)) →
+        (result ≡ Status.Gap) ⊎ (result ≡ Status.Memory) }
 {
     run_words(alloc, words, plan, input, host, refusal)
 }

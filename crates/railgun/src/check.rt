@@ -6,7 +6,7 @@ ghost use Rattle.rg_host.specs.Moments.{LeavesFiles};
 ghost use Rattle.rg_host.specs.Puts.{Puts};
 ghost use Rattle.railgun.specs.Listing.{check_text};
 ghost use Rattle.rg_config.specs.Read.{IsRead};
-ghost use Rattle.railgun.specs.Run.{StopsAt};
+ghost use Rattle.railgun.specs.Stops.{StopsAt};
 
 use crate::fault::CheckFault;
 use crate::listing::write_listing;

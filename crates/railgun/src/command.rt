@@ -1,15 +1,31 @@
-ghost use Rattle.std.specs.Prelude.{◌≡◌};
-ghost use Rattle.railgun.specs.Call.{command_of};
+ghost use Rattle.std.specs.Prelude.{◌≡◌, ◌≤◌, ◌^◌, ℕ, Some, true};
+ghost use Rattle.rg_bytes.specs.Numbers.{whole_of};
+ghost use Rattle.railgun.specs.Call.{command_of, run_at};
+
+use rg_bytes::read_whole;
+
+/// The greatest offset that the first line of an input may have.
+const GREATEST_FIRST: u64 = 1 << 61;
 
 /// What the words after the program's name ask for.
 #[derive(Clone, Copy, Debug, PartialEq, Eq, Hash)]
 pub enum Command {
-    /// `run PLAN STORE`
-    Run,
+    /// `run PLAN STORE FIRST`: the first line of the input has that offset, 0 where it isn't said.
+    Run(u64),
     /// `check PLAN`
     Check,
     /// `dump STORE`
     Dump,
+}
+
+/// The run whose first line has the offset that this text says, where it says one.
+fn run_from(first: &[u8]) -> Option<Command>
+    ensures { result ≡ run_at (whole_of first.now) }
+{
+    match read_whole(first) {
+        Some(first) if first <= GREATEST_FIRST => Some(Command::Run(first)),
+        _ => None,
+    }
 }
 
 impl Command {
@@ -20,7 +36,8 @@ impl Command {
         match words {
             [command, _] if command.as_str() == "check" => Some(Command::Check),
             [command, _] if command.as_str() == "dump" => Some(Command::Dump),
-            [command, _, _] if command.as_str() == "run" => Some(Command::Run),
+            [command, _, _] if command.as_str() == "run" => Some(Command::Run(0)),
+            [command, _, _, first] if command.as_str() == "run" => run_from(first.as_bytes()),
             _ => None,
         }
     }

@@ -1,4 +1,4 @@
-ghost use Rattle.std.specs.Prelude.{◌≡◌, ◌⊎◌, ◌≤◌, ◌++◌, ℕ, List, Some, Result, IfErr, OnOk};
+ghost use Rattle.std.specs.Prelude.{◌≡◌, ◌⊎◌, ◌≤◌, ℕ, List, Result, IfErr, OnOk};
 ghost use Rattle.std.specs.Option.{ForSome};
 ghost use Rattle.rg_bytes.specs.Counts.{Rose};
 ghost use Rattle.rg_config.specs.Plans.{Planned};
@@ -6,40 +6,20 @@ ghost use Rattle.rg_config.specs.declared.fault.ConfigFault.{ConfigFault};
 ghost use Rattle.rg_host.specs.Lines.{ended};
 ghost use Rattle.rg_host.specs.Moments.{LeavesFiles};
 ghost use Rattle.rg_host.specs.Puts.{Puts};
-ghost use Rattle.rg_dump.specs.Dump.{dump_text, damage_of};
-ghost use Rattle.railgun.specs.Call.{damage_line, line_for, ending_status, ending_line, EndsDump, IsDamaged, IsUndamaged};
-ghost use Rattle.railgun.specs.Run.{StopsAt};
+ghost use Rattle.rg_dump.specs.Dump.{dump_text};
+ghost use Rattle.railgun.specs.Call.{line_for, ending_status, ending_line, EndsDump, IsDamaged, IsUndamaged};
+ghost use Rattle.railgun.specs.Stops.{StopsAt};
 
 use crate::ending::Ending;
+use crate::refused::refuse_damage;
 use crate::status::Status;
-use rg_bytes::{Memory, put_bytes, write_whole};
 use rg_dump::DumpFault;
 use rg_host::Host;
 use std::alloc::Global;
 
-/// Writes the line that refuses a log that is damaged at that place, with its LF.
-fn write_damage(line: &mut Vec<u8>, place: u64) -> Result<(), Memory>
-    ensures { OnOk result (line.new.items ≡ line.old.items ++ damage_line (Some place)) }
-{
-    put_bytes(line, b"refused store damaged ")?;
-    write_whole(line, place)?;
-    put_bytes(line, b"\n")
-}
-
-/// How a dump of a log ends that is damaged at that place.
-fn refuse_damage(alloc: Global, place: u64) -> Ending
-    ensures { EndsDump (DumpFault.Damaged place) result }
-{
-    let mut line = Vec::new(alloc);
-    match write_damage(&mut line, place) {
-        Ok(()) => Ending::Damaged(line),
-        Err(_) => Ending::Failed(Status::Memory),
-    }
-}
-
 /// How a dump ends that met this fault.
 fn ending_of(alloc: Global, fault: DumpFault) -> Ending
-    ensures { EndsDump fault result }
+    ensures { EndsDump fault (ending_status result) (ending_line result) }
 {
     match fault {
         DumpFault::Disk => Ending::Failed(Status::Disk),

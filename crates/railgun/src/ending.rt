@@ -19,8 +19,10 @@ pub struct Refusal {
 pub enum Ending {
     /// The plan was refused, which this line says, with its LF, and why.
     Refused(Vec<u8>, Refusal),
-    /// The store is damaged, which this line says, with its LF.
-    Damaged(Vec<u8>),
+    /// The store was refused, for the cause that this line says, with its LF.
+    Store(Vec<u8>),
+    /// The input begins behind the store's next offset, which this line says, with its LF.
+    Gap(Vec<u8>),
     /// It failed, or was refused for another cause.
     Failed(Status),
 }
@@ -54,7 +56,8 @@ impl Ending {
     {
         match self {
             Ending::Refused(_, _) => Status::Plan,
-            Ending::Damaged(_) => Status::Store,
+            Ending::Store(_) => Status::Store,
+            Ending::Gap(_) => Status::Gap,
             Ending::Failed(status) => *status,
         }
     }
@@ -65,7 +68,7 @@ impl Ending {
     {
         match self {
             Ending::Refused(_, refusal) => Some(*refusal),
-            Ending::Damaged(_) | Ending::Failed(_) => None,
+            Ending::Store(_) | Ending::Gap(_) | Ending::Failed(_) => None,
         }
     }
 
@@ -74,7 +77,7 @@ impl Ending {
         ensures { result.now ≡ ending_line self.now }
     {
         match self {
-            Ending::Refused(line, _) | Ending::Damaged(line) => line,
+            Ending::Refused(line, _) | Ending::Store(line) | Ending::Gap(line) => line,
             Ending::Failed(status) => status.last_line().as_bytes(),
         }
     }

@@ -1,7 +1,7 @@
 //! Answers each payment with exact metrics over windows that end at that payment.
 #![tactic(auto)]
 
-ghost use Rattle.std.specs.Prelude.{◌≡◌, ◌↔◌, Some};
+ghost use Rattle.std.specs.Prelude.{◌≡◌, ◌↔◌, ℕ, Some};
 ghost use Rattle.railgun.specs.Call.{command_of};
 
 mod call;
@@ -10,13 +10,11 @@ mod command;
 mod dump;
 mod ending;
 mod fault;
-mod input;
 mod listing;
-mod next_line;
 mod real;
+mod refused;
 mod report;
-mod run;
-mod session;
+mod running;
 mod status;
 
 use crate::call::railgun;
@@ -38,10 +36,10 @@ fn words(rt: &HostRuntime) -> io::Result<Vec<String>> {
 
 /// What is done with the store: only a run writes it.
 fn access_of(words: &[String]) -> Access
-    ensures { (result ≡ Access.Write) ↔ (command_of words.now ≡ Some Command.Run) }
+    ensures { (result ≡ Access.Write) ↔ ((first : ℕ) × (command_of words.now ≡ Some (Command.Run first))) }
 {
     match Command::named(words) {
-        Some(Command::Run) => Access::Write,
+        Some(Command::Run(_)) => Access::Write,
         Some(Command::Check | Command::Dump) | None => Access::Read,
     }
 }
@@ -59,9 +57,9 @@ fn start(rt: &HostRuntime) -> Status {
     };
     let mut plan = FileSource::new(rt, path);
     let mut input = ReaderSource::new(rt.stdin());
-    let store = match words.last() {
+    let store = match words.get(2) {
         Some(store) => store.as_str(),
-        None => "",
+        None => path,
     };
     let mut host = FolderHost::new(rt, rt.alloc(), store, access_of(&words), rt.stdout());
     let mut refusal = None;

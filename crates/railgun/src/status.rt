@@ -61,7 +61,8 @@ impl Status {
         }
     }
 
-    /// The last line that is put out at this status, but for a refused plan, whose line says why.
+    /// The last line that is put out at this status, but for a refused plan or store and a gap, whose
+    /// lines say why.
     pub fn last_line(self) -> &'static str
         ensures { result.now ≡ last_line self }
     {

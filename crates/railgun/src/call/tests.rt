@@ -5,8 +5,9 @@ use std::test::Fail;
 
 mod bounds;
 mod dumped;
+mod stored;
 
-/// What a call finds: its words, the bytes of plan and input, and which calls fail.
+/// What a call finds: its words, the bytes of plan and input, and which of their reads fail.
 #[derive(Clone, Copy)]
 struct Setting<'a> {
     words: &'a [&'a str],
@@ -14,7 +15,6 @@ struct Setting<'a> {
     input: &'a [u8],
     failing_plan_reads: &'a [u64],
     failing_reads: &'a [u64],
-    failing_puts: &'a [u64],
 }
 
 const RUN: [&str; 3] = ["run", "plan", "store"];
@@ -73,12 +73,11 @@ fn sound<'a>(plan: &'a [u8], input: &'a [u8]) -> Setting<'a> {
         input,
         failing_plan_reads: &[],
         failing_reads: &[],
-        failing_puts: &[],
     }
 }
 
-/// What the call puts, and its status.
-fn outcome(alloc: Global, setting: &Setting<'_>) -> Result<(String, Status), Fail> {
+/// The status of the call on this host.
+fn status_on(alloc: Global, setting: &Setting<'_>, host: &mut MemHost) -> Result<Status, Fail> {
     let mut words = Vec::new(alloc);
     for word in setting.words {
         words.push(String::from_str(alloc, word)?)?;
@@ -91,20 +90,14 @@ fn outcome(alloc: Global, setting: &Setting<'_>) -> Result<(String, Status), Fai
         setting.input.to_vec(alloc)?,
         setting.failing_reads.to_vec(alloc)?,
     );
-    let mut host = MemHost::new(
-        alloc,
-        Image::new(alloc),
-        setting.failing_puts.to_vec(alloc)?,
-    )?;
     let mut refusal = None;
-    let status = railgun(
-        alloc,
-        &words,
-        &mut plan,
-        &mut input,
-        &mut host,
-        &mut refusal,
-    );
+    Ok(railgun(alloc, &words, &mut plan, &mut input, host, &mut refusal))
+}
+
+/// What the call puts over an empty store, and its status.
+fn outcome(alloc: Global, setting: &Setting<'_>) -> Result<(String, Status), Fail> {
+    let mut host = MemHost::new(alloc, Image::new(alloc), Vec::new(alloc))?;
+    let status = status_on(alloc, setting, &mut host)?;
     let text = String::from_utf8(host.output().to_vec(alloc)?)?;
     Ok((text, status))
 }
@@ -115,24 +108,30 @@ fn lines_are_answered_in_order(rt: HostRuntime) -> Result<(), Fail> {
     let plan = plan_of(alloc, FIVE_MINUTES, CARDS, "")?;
     let input = b"0,c1\n299999,c1\n300000,c1\n300000,c2\n";
     let (text, status) = outcome(alloc, &sound(plan.as_bytes(), input))?;
-    assert_eq!(rt; text.as_str(), "0 ok 1\n1 ok 2\n2 ok 2\n3 ok 1\ndone 4 4\n");
+    assert_eq!(rt;
+        text.as_str(),
+        "open 0 0 0\n0 ok 1\n1 ok 2\n2 ok 2\n3 ok 1\nstored 4\nsaved 4\ndone 4 4\n"
+    );
     assert_eq!(rt; status, Status::Ok);
 
     let plan = plan_of(alloc, TEN, CARDS, "")?;
     let (text, status) = outcome(alloc, &sound(plan.as_bytes(), b"10,c1\n9,c1\nx\n20,c1\n"))?;
     assert_eq!(rt;
         text.as_str(),
-        "0 ok 1\n1 late\n2 fields\n3 ok 1\ndone 4 2\n"
+        "open 0 0 0\n0 ok 1\n1 late\n2 fields\n3 ok 1\nstored 4\nsaved 2\ndone 4 2\n"
     );
     assert_eq!(rt; status, Status::Ok);
 
     let input = b"10,c1\n9,c1\n9,c1\n10,c1\n";
     let (text, status) = outcome(alloc, &sound(plan.as_bytes(), input))?;
-    assert_eq!(rt; text.as_str(), "0 ok 1\n1 late\n2 late\n3 ok 2\ndone 4 2\n");
+    assert_eq!(rt;
+        text.as_str(),
+        "open 0 0 0\n0 ok 1\n1 late\n2 late\n3 ok 2\nstored 4\nsaved 2\ndone 4 2\n"
+    );
     assert_eq!(rt; status, Status::Ok);
 
     let (text, status) = outcome(alloc, &sound(plan.as_bytes(), b""))?;
-    assert_eq!(rt; text.as_str(), "done 0 0\n");
+    assert_eq!(rt; text.as_str(), "open 0 0 0\nstored 0\nsaved 0\ndone 0 0\n");
     assert_eq!(rt; status, Status::Ok);
     Ok(())
 }
@@ -143,19 +142,28 @@ fn a_query_has_a_condition_and_a_delay(rt: HostRuntime) -> Result<(), Fail> {
     let input = b"0,c1,m1,100\n1,c1,m1,101\n2,c2,m1,500\n";
     let plan = plan_of(alloc, DEAR, PAYMENTS, SMALL)?;
     let (text, status) = outcome(alloc, &sound(plan.as_bytes(), input))?;
-    assert_eq!(rt; text.as_str(), "0 ok 0\n1 ok 1\n2 ok 1\ndone 3 3\n");
+    assert_eq!(rt;
+        text.as_str(),
+        "open 0 0 0\n0 ok 0\n1 ok 1\nstored 2\n2 ok 1\nstored 3\nsaved 3\ndone 3 3\n"
+    );
     assert_eq!(rt; status, Status::Ok);
 
     let delayed = "SELECT count(*) FROM payments OVER SLIDING 10 ms DELAYED BY 5 ms";
     let plan = plan_of(alloc, delayed, CARDS, "")?;
     let (text, status) = outcome(alloc, &sound(plan.as_bytes(), b"0,c1\n5,c1\n15,c1\n"))?;
-    assert_eq!(rt; text.as_str(), "0 ok 0\n1 ok 1\n2 ok 1\ndone 3 3\n");
+    assert_eq!(rt;
+        text.as_str(),
+        "open 0 0 0\n0 ok 0\n1 ok 1\n2 ok 1\nstored 3\nsaved 3\ndone 3 3\n"
+    );
     assert_eq!(rt; status, Status::Ok);
 
     let passed = "SELECT count(*) FROM payments OVER SLIDING 1 ms DELAYED BY 5 ms";
     let plan = plan_of(alloc, passed, CARDS, "")?;
     let (text, status) = outcome(alloc, &sound(plan.as_bytes(), b"0,c1\n100,c1\n"))?;
-    assert_eq!(rt; text.as_str(), "0 ok 0\n1 ok 0\ndone 2 2\n");
+    assert_eq!(rt;
+        text.as_str(),
+        "open 0 0 0\n0 ok 0\n1 ok 0\nstored 2\nsaved 2\ndone 2 2\n"
+    );
     assert_eq!(rt; status, Status::Ok);
     Ok(())
 }
@@ -177,28 +185,47 @@ fn assert_answered(
 #[test]
 fn sums_are_answered_beside_counts(rt: HostRuntime) -> Result<(), Fail> {
     let three = b"0,c1,m1,100\n299999,c1,m2,200\n300000,c1,m1,50\n";
-    let totals = "0 ok 1 100\n1 ok 2 300\n2 ok 2 250\ndone 3 3\n";
+    let totals = "open 0 0 0\n0 ok 1 100\n1 ok 2 300\n2 ok 2 250\nstored 3\nsaved 3\ndone 3 3\n";
     assert_answered(&rt, TOTALS, three, totals)?;
-    let both = "0 ok 1 100 1\n1 ok 2 300 1\n2 ok 2 250 1\ndone 3 3\n";
+    let both =
+        "open 0 0 0\n0 ok 1 100 1\n1 ok 2 300 1\n2 ok 2 250 1\nstored 3\nsaved 3\ndone 3 3\n";
     assert_answered(&rt, TOTALS_AND_MERCHANTS, three, both)?;
     let twice = b"7,c1,m1,1\n7,c1,m1,1\n";
-    assert_answered(&rt, TOTALS, twice, "0 ok 1 1\n1 ok 2 2\ndone 2 2\n")?;
+    assert_answered(
+        &rt,
+        TOTALS,
+        twice,
+        "open 0 0 0\n0 ok 1 1\n1 ok 2 2\nstored 2\nsaved 2\ndone 2 2\n",
+    )?;
     let late = b"10,c1,m1,1\n9,c1,m1,1\n10,c1,m1,1\n";
-    assert_answered(&rt, TOTALS, late, "0 ok 1 1\n1 late\n2 ok 2 2\ndone 3 2\n")?;
-    assert_answered(&rt, DEAR_TOTALS, b"0,c1,m1,50\n", "0 ok 0 0\ndone 1 1\n")?;
+    assert_answered(
+        &rt,
+        TOTALS,
+        late,
+        "open 0 0 0\n0 ok 1 1\n1 late\n2 ok 2 2\nstored 3\nsaved 2\ndone 3 2\n",
+    )?;
+    assert_answered(
+        &rt,
+        DEAR_TOTALS,
+        b"0,c1,m1,50\n",
+        "open 0 0 0\n0 ok 0 0\nstored 1\nsaved 1\ndone 1 1\n",
+    )?;
     Ok(())
 }
 
 #[test]
 fn extremes_and_distinct_counts_are_answered(rt: HostRuntime) -> Result<(), Fail> {
     let amounts = b"0,c1,m1,50\n1,c1,m1,100\n2,c1,m1,200\n";
-    let least = "0 ok - -\n1 ok 100 100/1\n2 ok 100 300/2\ndone 3 3\n";
+    let least =
+        "open 0 0 0\n0 ok - -\n1 ok 100 100/1\n2 ok 100 300/2\nstored 3\nsaved 3\ndone 3 3\n";
     assert_answered(&rt, LEAST_AND_MEAN, amounts, least)?;
     let merchants = b"0,c1,m1,1\n5,c1,m2,1\n9,c1,m1,1\n10,c1,m2,1\n19,c1,m2,1\n";
-    let distinct = "0 ok 1\n1 ok 2\n2 ok 2\n3 ok 2\n4 ok 1\ndone 5 5\n";
+    let distinct =
+        "open 0 0 0\n0 ok 1\n1 ok 2\n2 ok 2\n3 ok 2\n4 ok 1\nstored 5\nsaved 5\ndone 5 5\n";
     assert_answered(&rt, MERCHANTS, merchants, distinct)?;
     let two = b"693,c4,m90,8095\n1133,c35,m37,1750\n";
-    let three = "0 ok 1 8095 0 - 8095/1\n1 ok 1 1750 0 - 9845/2\ndone 2 2\n";
+    let three =
+        "open 0 0 0\n0 ok 1 8095 0 - 8095/1\n1 ok 1 1750 0 - 9845/2\nstored 2\nsaved 2\ndone 2 2\n";
     assert_answered(&rt, TOTALS_EXTREMES_AND_MEAN, two, three)?;
     Ok(())
 }
@@ -213,7 +240,7 @@ fn numbers_at_their_limits_are_answered(rt: HostRuntime) -> Result<(), Fail> {
     let (text, status) = outcome(alloc, &sound(plan.as_bytes(), input))?;
     assert_eq!(rt;
         text.as_str(),
-        "0 ok 18446744073709551615 -1000000000000 1000000000000000000000000 -1000000000000 18446744073709551615\n1 time\n2 value 1\ndone 3 1\n"
+        "open 0 0 0\n0 ok 18446744073709551615 -1000000000000 1000000000000000000000000 -1000000000000 18446744073709551615\n1 time\n2 value 1\nstored 1\nsaved 1\ndone 3 1\n"
     );
     assert_eq!(rt; status, Status::Ok);
     Ok(())
@@ -225,7 +252,10 @@ fn no_more_events_are_accepted_than_the_plan_allows(rt: HostRuntime) -> Result<(
     let plan = plan_of(alloc, DEAR, PAYMENTS, "events = 2\n")?;
     let input = b"0,c1,m1,100\n1,c1,m1,101\n2,c2,m1,500\n";
     let (text, status) = outcome(alloc, &sound(plan.as_bytes(), input))?;
-    assert_eq!(rt; text.as_str(), "0 ok 0\n1 ok 1\n2 full\ndone 3 2\n");
+    assert_eq!(rt;
+        text.as_str(),
+        "open 0 0 0\n0 ok 0\n1 ok 1\n2 full\nstored 2\nsaved 2\ndone 3 2\n"
+    );
     assert_eq!(rt; status, Status::Ok);
     Ok(())
 }
@@ -243,21 +273,24 @@ fn a_line_is_refused_by_its_first_fault(rt: HostRuntime) -> Result<(), Fail> {
     let (text, status) = outcome(alloc, &sound(plan.as_bytes(), &input))?;
     assert_eq!(rt;
         text.as_str(),
-        "0 ok 1\n1 row\n2 row\n3 fields\n4 time\n5 value 3\n6 long\ndone 7 1\n"
+        "open 0 0 0\n0 ok 1\n1 row\n2 row\n3 fields\n4 time\n5 value 3\n6 long\nstored 1\nsaved 1\ndone 7 1\n"
     );
     assert_eq!(rt; status, Status::Ok);
 
     let mut input = vec![in alloc; b'1'; 65_536]?;
     input.extend_from_slice(b"\n1,c1,m1,7\n")?;
     let (text, status) = outcome(alloc, &sound(plan.as_bytes(), &input))?;
-    assert_eq!(rt; text.as_str(), "0 long\n1 ok 1\ndone 2 1\n");
+    assert_eq!(rt;
+        text.as_str(),
+        "open 0 0 0\n0 long\n1 ok 1\nstored 2\nsaved 1\ndone 2 1\n"
+    );
     assert_eq!(rt; status, Status::Ok);
 
     let odd = b"1,c\"1\",m1,7\n1,c\r1,m1,7\n1,\xff,m1,7\n1,c1,m1,7\r\n";
     let (text, status) = outcome(alloc, &sound(plan.as_bytes(), odd))?;
     assert_eq!(rt;
         text.as_str(),
-        "0 row\n1 row\n2 value 1\n3 ok 1\ndone 4 1\n"
+        "open 0 0 0\n0 row\n1 row\n2 value 1\n3 ok 1\nstored 4\nsaved 1\ndone 4 1\n"
     );
     assert_eq!(rt; status, Status::Ok);
     Ok(())
@@ -269,13 +302,19 @@ fn a_first_line_is_cleaned_and_may_be_a_header(rt: HostRuntime) -> Result<(), Fa
     let plan = plan_of(alloc, FIVE_MINUTES, PAYMENTS, "header = true\n")?;
     let header = b"ts,card,merchant,amount\r\n5,c1,m1,1\r\n";
     let (text, status) = outcome(alloc, &sound(plan.as_bytes(), header))?;
-    assert_eq!(rt; text.as_str(), "0 head\n1 ok 1\ndone 2 1\n");
+    assert_eq!(rt;
+        text.as_str(),
+        "open 0 0 0\n0 head\n1 ok 1\nstored 2\nsaved 1\ndone 2 1\n"
+    );
     assert_eq!(rt; status, Status::Ok);
 
     let plan = plan_of(alloc, FIVE_MINUTES, PAYMENTS, "")?;
     let marked = b"\xef\xbb\xbf5,c1,m1,1\n\xef\xbb\xbf6,c1,m1,1\n";
     let (text, status) = outcome(alloc, &sound(plan.as_bytes(), marked))?;
-    assert_eq!(rt; text.as_str(), "0 ok 1\n1 row\ndone 2 1\n");
+    assert_eq!(rt;
+        text.as_str(),
+        "open 0 0 0\n0 ok 1\n1 row\nstored 1\nsaved 1\ndone 2 1\n"
+    );
     assert_eq!(rt; status, Status::Ok);
     Ok(())
 }
@@ -399,7 +438,7 @@ fn a_call_that_is_refused_says_so_last(rt: HostRuntime) -> Result<(), Fail> {
 }
 
 #[test]
-fn a_failed_read_or_put_ends_a_run(rt: HostRuntime) -> Result<(), Fail> {
+fn a_failed_read_ends_a_run(rt: HostRuntime) -> Result<(), Fail> {
     let alloc = rt.alloc();
     let plan = plan_of(alloc, TEN, CARDS, "")?;
     let first_read = Setting {
@@ -407,7 +446,7 @@ fn a_failed_read_or_put_ends_a_run(rt: HostRuntime) -> Result<(), Fail> {
         ..sound(plan.as_bytes(), b"1,c1\n")
     };
     let (text, status) = outcome(alloc, &first_read)?;
-    assert_eq!(rt; text.as_str(), "failed read\n");
+    assert_eq!(rt; text.as_str(), "open 0 0 0\nfailed read\n");
     assert_eq!(rt; status, Status::Read);
 
     // The reply to the first line is out before the second read.
@@ -416,15 +455,7 @@ fn a_failed_read_or_put_ends_a_run(rt: HostRuntime) -> Result<(), Fail> {
         ..sound(plan.as_bytes(), b"1,c1\n2,c")
     };
     let (text, status) = outcome(alloc, &second_read)?;
-    assert_eq!(rt; text.as_str(), "0 ok 1\nfailed read\n");
+    assert_eq!(rt; text.as_str(), "open 0 0 0\n0 ok 1\nfailed read\n");
     assert_eq!(rt; status, Status::Read);
-
-    let second_put = Setting {
-        failing_puts: &[1],
-        ..sound(plan.as_bytes(), b"1,c1\n2,c1\n")
-    };
-    let (text, status) = outcome(alloc, &second_put)?;
-    assert_eq!(rt; text.as_str(), "0 ok 1\n");
-    assert_eq!(rt; status, Status::Write);
     Ok(())
 }

@@ -1,42 +1,118 @@
-use Rattle.std.proofs.Common.{◌≡◌, [], Some}
-use Rattle.rg_host.specs.Puts.{Puts}
+use Rattle.std.proofs.Common.{Some, inr, sym, subst, refl}
 use Rattle.rg_host.proofs.PutRuns.{puts-nothing}
-use Rattle.rg_config.specs.Plans.{planned}
+use Rattle.rg_config.specs.Plans.{Planned, planned}
 use Rattle.railgun.specs.Call.{ending_status, ending_line}
+use Rattle.railgun.specs.Causes.{IsUnfit}
+use Rattle.railgun.specs.Stored.{begun_in}
+use Rattle.railgun.specs.declared.command.Command.TheVariants.{Run}
 use Rattle.railgun.proofs.Plans.{long_is_no_plan}
-use Rattle.railgun.proofs.Ends.{nothing_stops, none_read, refused_line, told_line, asked_all, asked_part, asked_read}
-use Rattle.railgun.specs.declared.status.Status.TheVariants.{Write, Limit}
+use Rattle.railgun.proofs.Ends.{refused_of, legal_of, refused_line, told_line, no_carried}
+use Rattle.railgun.proofs.Refusing.{load_early, load_no_store, load_no_gap, load_no_disk, load_no_write, run_no_plan, run_early}
+use Rattle.railgun.proofs.Carrying.{went_unread, bytes_ask, went_at, never_at}
 use Rattle.railgun.proofs.call.run_with_plan.Goals as goal
 
 -- the plan was not read
 
-pub returns-in-Err-clause-stops : goal.returns-in-Err-clause-stops
-returns-in-Err-clause-stops g c = λ told.
-    ([], puts-nothing g.H.Host.said g.H.Host.clock g.H.Host.since _ (λ t u m. g.met.H.Host.sinks _ t u m) (λ m. g.met.H.Host.only_now _ m), nothing_stops (ending_status c.in-Err.ending ≡ Write) _)
+pub returns-in-Err-clause-went : goal.returns-in-Err-clause-went
+returns-in-Err-clause-went g c = λ told. (
+  0,
+  went_unread g.H.Host.now g.H.Host.may g.H.Host.clock g.H.Host.since g.H.Host.said _ (λ t u m. g.met.H.Host.sinks _ t u m) (λ m. g.met.H.Host.only_now _ m) _ _ told _ _ (ending_status c.in-Err.ending) (ending_line c.in-Err.ending)
+      c.in-Err.ensures.others (λ bad. refused_of _ (ending_line c.in-Err.ending) (c.in-Err.ensures.refused bad)) c.in-Err.ensures.line c.in-Err.ensures.read c.in-Err.ensures.limit (begun_in told 0 c.args.first) refl,
+)
 
-pub returns-in-Err-clause-stops_read : goal.returns-in-Err-clause-stops_read
-returns-in-Err-clause-stops_read g c = λ is told.
-    none_read (Some c.args.command) _ _ _ _ (ending_status c.in-Err.ending ≡ Limit) (puts-nothing g.H.Host.said g.H.Host.clock g.H.Host.since _ (λ t u m. g.met.H.Host.sinks _ t u m) (λ m. g.met.H.Host.only_now _ m)) told
+pub returns-in-Err-clause-never_damaged : goal.returns-in-Err-clause-never_damaged
+returns-in-Err-clause-never_damaged g c = λ told is. load_no_store (ending_status c.in-Err.ending) c.in-Err.ensures.others is
+
+pub returns-in-Err-clause-stops : goal.returns-in-Err-clause-stops
+returns-in-Err-clause-stops g c = λ told. puts-nothing g.H.Host.said g.H.Host.clock g.H.Host.since _ (λ t u m. g.met.H.Host.sinks _ t u m) (λ m. g.met.H.Host.only_now _ m)
 
 pub returns-in-Err-clause-line : goal.returns-in-Err-clause-line
 returns-in-Err-clause-line g c = λ told.
-    refused_line told.asks told.image (ending_status c.in-Err.ending) (ending_line c.in-Err.ending) c.in-Err.ensures.others (λ bad. told_line (Some c.args.command) c.requires.reads _ _ _ (ending_line c.in-Err.ending) told (c.in-Err.ensures.refused bad)) c.in-Err.ensures.line
+    refused_line told.asks told.image (ending_status c.in-Err.ending) (ending_line c.in-Err.ending) c.in-Err.ensures.others (λ bad. told_line (Some (Run c.args.first)) tt _ _ (ending_line c.in-Err.ending) told (c.in-Err.ensures.refused bad)) c.in-Err.ensures.line
 
--- the plan was carried out
+pub returns-in-Err-clause-store : goal.returns-in-Err-clause-store
+returns-in-Err-clause-store g c = λ is. absurd (load_no_store (ending_status c.in-Err.ending) c.in-Err.ensures.others is)
 
-pub returns-in-Ok-run_plan-clause-completes : goal.returns-in-Ok-run_plan-clause-completes
-returns-in-Ok-run_plan-clause-completes g c = λ told. asked_all c.args.command c.requires.reads _ _ _ (planned c.in-Ok.asked) (Puts g.H.Host.said g.H.Host.clock g.H.Host.since c.args.host.now c.run_plan.new.host) c.in-Ok.ensures.legal c.in-Ok-run_plan.ensures.completes told
+pub returns-in-Err-clause-gap : goal.returns-in-Err-clause-gap
+returns-in-Err-clause-gap g c = λ is. absurd (load_no_gap (ending_status c.in-Err.ending) c.in-Err.ensures.others is)
+
+pub returns-in-Err-clause-disk : goal.returns-in-Err-clause-disk
+returns-in-Err-clause-disk g c = λ is. absurd (load_no_disk (ending_status c.in-Err.ending) c.in-Err.ensures.others is)
+
+pub returns-in-Err-clause-write : goal.returns-in-Err-clause-write
+returns-in-Err-clause-write g c = λ is. absurd (load_no_write (ending_status c.in-Err.ending) c.in-Err.ensures.others is)
+
+pub returns-in-Err-clause-possible : goal.returns-in-Err-clause-possible
+returns-in-Err-clause-possible g c = load_early (ending_status c.in-Err.ending) c.in-Err.ensures.others
+
+-- the run went to its end
+
+pub returns-in-Ok-run-clause-went : goal.returns-in-Ok-run-clause-went
+returns-in-Ok-run-clause-went g c = λ told.
+    went_at g.H.Host.now g.H.Host.may g.H.Host.clock g.H.Host.since g.H.Host.said _ _ _ _ told _ _ _ _ _ (planned c.in-Ok.asked) c.in-Ok.ensures.legal c.in-Ok-run.ensures.went
+
+pub returns-in-Ok-run-clause-completes : goal.returns-in-Ok-run-clause-completes
+returns-in-Ok-run-clause-completes g c = λ told. no_carried c.args.first _ _ (planned c.in-Ok.asked) c.in-Ok.ensures.legal told
+
+pub returns-in-Ok-run-clause-legal : goal.returns-in-Ok-run-clause-legal
+returns-in-Ok-run-clause-legal g c = legal_of _ (planned c.in-Ok.asked) c.in-Ok.ensures.legal
+
+pub returns-in-Ok-run-clause-exact : goal.returns-in-Ok-run-clause-exact
+returns-in-Ok-run-clause-exact g c = λ bytes asks v told says now unfit.
+    c.in-Ok-run.ensures.exact v now (subst (λ (p : Planned). IsUnfit p v) (sym (bytes_ask _ (planned c.in-Ok.asked) c.in-Ok.ensures.legal bytes asks told says)) unfit)
+
+pub returns-in-Ok-run-clause-long_plan : goal.returns-in-Ok-run-clause-long_plan
+returns-in-Ok-run-clause-long_plan g c = λ bytes is long. absurd (long_is_no_plan _ (planned c.in-Ok.asked) c.in-Ok.ensures.legal bytes is long)
+
+-- the run ended early
+
+pub returns-clause-went : goal.returns-clause-went
+returns-clause-went g c = λ told.
+    went_at g.H.Host.now g.H.Host.may g.H.Host.clock g.H.Host.since g.H.Host.said _ _ _ _ told _ _ _ _ _ (planned c.in-Ok.asked) c.in-Ok.ensures.legal c.in-Err-run.ensures.went
+
+pub returns-clause-never_damaged : goal.returns-clause-never_damaged
+returns-clause-never_damaged g c = λ told is. never_at _ _ _ _ _ told (planned c.in-Ok.asked) c.in-Ok.ensures.legal _ (λ ready all left. c.in-Err-run.ensures.never_damaged ready all left is)
 
 pub returns-clause-stops : goal.returns-clause-stops
-returns-clause-stops g c = λ told. asked_part c.args.command c.requires.reads _ _ _ (planned c.in-Ok.asked) _ (c.in-Err-run_plan.status ≡ Write) c.in-Ok.ensures.legal c.in-Err-run_plan.ensures.stops told
+returns-clause-stops g c = λ told. absurd (no_carried c.args.first _ _ (planned c.in-Ok.asked) c.in-Ok.ensures.legal told)
 
-pub returns-clause-stops_read : goal.returns-clause-stops_read
-returns-clause-stops_read g c = λ is told. asked_read c.args.command c.requires.reads _ _ _ _ (planned c.in-Ok.asked) _ (c.in-Err-run_plan.status ≡ Limit) c.in-Ok.ensures.legal (c.in-Err-run_plan.ensures.stops_read is) told
+pub returns-clause-line : goal.returns-clause-line
+returns-clause-line g c = λ told. absurd (no_carried c.args.first _ _ (planned c.in-Ok.asked) c.in-Ok.ensures.legal told)
 
--- a plan that is too long was not read
+pub returns-clause-exact : goal.returns-clause-exact
+returns-clause-exact g c = λ bytes asks v told says now unfit. tt
 
-pub returns-in-Ok-run_plan-clause-long_plan : goal.returns-in-Ok-run_plan-clause-long_plan
-returns-in-Ok-run_plan-clause-long_plan g c = λ bytes is long. absurd (long_is_no_plan _ (planned c.in-Ok.asked) c.in-Ok.ensures.legal bytes is long)
+pub returns-clause-refused : goal.returns-clause-refused
+returns-clause-refused g c = λ is. absurd (run_no_plan (ending_status c.in-Err-run.ending) c.in-Err-run.ensures.others is)
+
+pub returns-clause-told : goal.returns-clause-told
+returns-clause-told g c = λ is. absurd (run_no_plan (ending_status c.in-Err-run.ending) c.in-Err-run.ensures.others is)
+
+pub returns-clause-store : goal.returns-clause-store
+returns-clause-store g c = λ is. record { asks = planned c.in-Ok.asked; legal = c.in-Ok.ensures.legal; line = c.in-Err-run.ensures.store is }
+
+pub returns-clause-gap : goal.returns-clause-gap
+returns-clause-gap g c = λ is.
+    let at = c.in-Err-run.ensures.gap is in
+    record { legal = legal_of _ (planned c.in-Ok.asked) c.in-Ok.ensures.legal; next = at.0; behind = at.1; line = at.2; left_alone = at.3 }
+
+pub returns-clause-disk : goal.returns-clause-disk
+returns-clause-disk g c = λ is. (legal_of _ (planned c.in-Ok.asked) c.in-Ok.ensures.legal, c.in-Err-run.ensures.disk is)
+
+pub returns-clause-read : goal.returns-clause-read
+returns-clause-read g c = λ is. inr (legal_of _ (planned c.in-Ok.asked) c.in-Ok.ensures.legal, c.in-Err-run.ensures.read is)
+
+pub returns-clause-write : goal.returns-clause-write
+returns-clause-write g c = λ is. (legal_of _ (planned c.in-Ok.asked) c.in-Ok.ensures.legal, c.in-Err-run.ensures.write is)
+
+pub returns-clause-limit : goal.returns-clause-limit
+returns-clause-limit g c = λ is. inr (legal_of _ (planned c.in-Ok.asked) c.in-Ok.ensures.legal, c.in-Err-run.ensures.limit is)
+
+pub returns-clause-possible : goal.returns-clause-possible
+returns-clause-possible g c = run_early (ending_status c.in-Err-run.ending) c.in-Err-run.ensures.others
+
+pub returns-clause-plan_first : goal.returns-clause-plan_first
+returns-clause-plan_first g c = λ is. absurd (run_no_plan (ending_status c.in-Err-run.ending) c.in-Err-run.ensures.others is)
 
 pub returns-clause-long_plan : goal.returns-clause-long_plan
 returns-clause-long_plan g c = λ bytes is long. absurd (long_is_no_plan _ (planned c.in-Ok.asked) c.in-Ok.ensures.legal bytes is long)

@@ -1,14 +1,20 @@
-use Rattle.std.proofs.Common.{◌≡◌, sym, ◌∙◌, ap, subst, inl, inr, ⊎_elim, Some, List, ℕ}
+use Rattle.std.proofs.Common.{◌≡◌, sym, ◌∙◌, ap, subst, inl, inr, ⊎_elim, Some, [], refl, List, ℕ, Option}
+use Rattle.rg_host.specs.Image.{Image}
 use Rattle.rg_host.specs.Puts.{IsPrefix, Puts}
-use Rattle.rg_host.proofs.PutRuns.{puts-then}
-use Rattle.rg_host.proofs.Runs.{leaves_files-then}
-use Rattle.railgun.specs.Call.{command_of, line_for, ending_status}
-use Rattle.railgun.proofs.Ends.{all_put, all_front, read_then, put_then, whole_then, write_line, rose_first, rose_last}
-use Rattle.railgun.specs.declared.status.Status.TheVariants.{Write, Limit}
+use Rattle.rg_host.proofs.PutRuns.{puts-nothing, puts-then}
+use Rattle.rg_host.proofs.Runs.{leaves_files-none, leaves_files-then}
+use Rattle.railgun.specs.Call.{command_of, line_for, ending_status, ending_line}
+use Rattle.railgun.specs.Causes.{RefusesStore}
+use Rattle.railgun.specs.declared.command.Command.TheVariants.{Run, Dump}
+use Rattle.railgun.specs.declared.status.Status.TheVariants.{Ok, Write}
+use Rattle.railgun.proofs.Ends.{all_put, all_front, put_then, whole_then, write_line, rose_first, rose_last, command_is}
+use Rattle.railgun.proofs.Telling.{all_promised, one_ahead, slots_saved, ends_whole, ends_answered, completed, resumed}
 use Rattle.railgun.proofs.call.run_words.Goals as goal
 
-pub returns-in-Ok-clause-complete_run : goal.returns-in-Ok-clause-complete_run
-returns-in-Ok-clause-complete_run g c =
+-- the command came to its end
+
+pub returns-in-Ok-clause-complete : goal.returns-in-Ok-clause-complete
+returns-in-Ok-clause-complete g c =
     let form : command_of c.args.words.now ≡ Some c.in-Some.command = sym c.named.ensures ∙ c.in-Some.is in
     rw form (λ ok told. c.in-Ok.ensures.completes told)
 
@@ -21,6 +27,66 @@ pub returns-in-Ok-clause-last_line_whole : goal.returns-in-Ok-clause-last_line_w
 returns-in-Ok-clause-last_line_whole g c =
     let form : command_of c.args.words.now ≡ Some c.in-Some.command = sym c.named.ensures ∙ c.in-Some.is in
     rw form (λ told. inl (_, c.in-Ok.ensures.completes told, all_put _))
+
+pub returns-in-Ok-clause-complete_run : goal.returns-in-Ok-clause-complete_run
+returns-in-Ok-clause-complete_run g c = λ ok first is told.
+    let w = c.in-Ok.ensures.went first (command_is _ c.in-Some.command (Run first) (sym c.named.ensures ∙ c.in-Some.is) is) told in
+    (w.0, completed g.H.Host.now g.H.Host.may g.H.Host.clock g.H.Host.since g.H.Host.said _ _ _ _ _ _ _ _ _ c.run_command.new.host w.1 told.ready.told refl)
+
+pub returns-in-Ok-clause-every_moment : goal.returns-in-Ok-clause-every_moment
+returns-in-Ok-clause-every_moment g c = λ first is told.
+    let w = c.in-Ok.ensures.went first (command_is _ c.in-Some.command (Run first) (sym c.named.ensures ∙ c.in-Some.is) is) told in (
+      w.0,
+      [],
+      refl,
+      all_promised g.H.Host.now g.H.Host.may g.H.Host.clock g.H.Host.since g.H.Host.said _ _ _ _ _ _ _ _ _ _ w.1 told.ready.told (λ none. refl) [] ([], refl)
+          (puts-nothing g.H.Host.said g.H.Host.clock g.H.Host.since _ (λ t u m. g.met.H.Host.sinks _ t u m) (λ m. g.met.H.Host.only_now _ m))
+          (leaves_files-none g.H.Host.now g.H.Host.may g.H.Host.clock g.H.Host.since _ (λ t u m. g.met.H.Host.sinks _ t u m) (λ m now. (g.met.H.Host.only_now _ m now).0)) told.ready.openable.truthful,
+    )
+
+pub returns-in-Ok-clause-last_line_run : goal.returns-in-Ok-clause-last_line_run
+returns-in-Ok-clause-last_line_run g c = λ first is told.
+    let w = c.in-Ok.ensures.went first (command_is _ c.in-Some.command (Run first) (sym c.named.ensures ∙ c.in-Some.is) is) told in
+    let nothing = puts-nothing g.H.Host.said g.H.Host.clock g.H.Host.since c.run_command.new.host (λ t u m. g.met.H.Host.sinks _ t u m) (λ m. g.met.H.Host.only_now _ m) in
+    ⊎_elim (λ whole. inl (w.0, [], refl, whole)) (λ rose. inr rose)
+    (ends_whole g.H.Host.now g.H.Host.may g.H.Host.clock g.H.Host.since g.H.Host.said _ _ _ _ _ _ _ _ _ _ w.1 told.ready.told (λ none. refl) [] ([], refl) nothing
+    (leaves_files-none g.H.Host.now g.H.Host.may g.H.Host.clock g.H.Host.since _ (λ t u m. g.met.H.Host.sinks _ t u m) (λ m now. (g.met.H.Host.only_now _ m now).0)) _ (λ write. absurd (let e : Ok ≡ Write = write in cc)) (inl nothing))
+
+pub returns-in-Ok-clause-no_reply_lost : goal.returns-in-Ok-clause-no_reply_lost
+returns-in-Ok-clause-no_reply_lost g c = λ first is told.
+    let w = c.in-Ok.ensures.went first (command_is _ c.in-Some.command (Run first) (sym c.named.ensures ∙ c.in-Some.is) is) told in (
+      w.0,
+      [],
+      refl,
+      one_ahead g.H.Host.now g.H.Host.may g.H.Host.clock g.H.Host.since g.H.Host.said _ _ _ _ _ _ _ _ _ _ w.1 told.ready.told (λ none. refl) [] ([], refl)
+          (puts-nothing g.H.Host.said g.H.Host.clock g.H.Host.since _ (λ t u m. g.met.H.Host.sinks _ t u m) (λ m. g.met.H.Host.only_now _ m))
+          (leaves_files-none g.H.Host.now g.H.Host.may g.H.Host.clock g.H.Host.since _ (λ t u m. g.met.H.Host.sinks _ t u m) (λ m now. (g.met.H.Host.only_now _ m now).0)) told.ready.openable.truthful,
+    )
+
+pub returns-in-Ok-clause-saved_kept : goal.returns-in-Ok-clause-saved_kept
+returns-in-Ok-clause-saved_kept g c = λ first is told.
+    let w = c.in-Ok.ensures.went first (command_is _ c.in-Some.command (Run first) (sym c.named.ensures ∙ c.in-Some.is) is) told in (
+      w.0,
+      slots_saved g.H.Host.now g.H.Host.may g.H.Host.clock g.H.Host.since g.H.Host.said _ _ _ _ _ _ _ _ _ _ w.1 told.ready.told (λ none. refl) [] ([], refl)
+          (puts-nothing g.H.Host.said g.H.Host.clock g.H.Host.since _ (λ t u m. g.met.H.Host.sinks _ t u m) (λ m. g.met.H.Host.only_now _ m))
+          (leaves_files-none g.H.Host.now g.H.Host.may g.H.Host.clock g.H.Host.since _ (λ t u m. g.met.H.Host.sinks _ t u m) (λ m now. (g.met.H.Host.only_now _ m now).0)) told.ready.openable.truthful,
+    )
+
+pub returns-in-Ok-clause-resumes : goal.returns-in-Ok-clause-resumes
+returns-in-Ok-clause-resumes g c = λ ok is told held.
+    let w = c.in-Ok.ensures.went 0 (command_is _ c.in-Some.command (Run 0) (sym c.named.ensures ∙ c.in-Some.is) is) told in
+    (w.0, resumed g.H.Host.now g.H.Host.may g.H.Host.clock g.H.Host.since g.H.Host.said _ _ _ _ _ _ _ _ _ c.run_command.new.host w.1 told.ready.told refl refl held)
+
+pub returns-in-Ok-clause-gap_always : goal.returns-in-Ok-clause-gap_always
+returns-in-Ok-clause-gap_always g c = λ ok first is told.
+    (c.in-Ok.ensures.went first (command_is _ c.in-Some.command (Run first) (sym c.named.ensures ∙ c.in-Some.is) is) told).1.no_gap refl
+
+pub returns-in-Ok-clause-store_always : goal.returns-in-Ok-clause-store_always
+returns-in-Ok-clause-store_always g c =
+    let form : command_of c.args.words.now ≡ Some c.in-Some.command = sym c.named.ensures ∙ c.in-Some.is in
+    rw form (λ run bytes asks v told says now unfit ok. c.in-Ok.ensures.exact bytes asks v run told says now unfit)
+
+-- the command ended early
 
 pub returns-in-Err-clause-put_so_far : goal.returns-in-Err-clause-put_so_far
 returns-in-Err-clause-put_so_far g c =
@@ -48,19 +114,74 @@ returns-in-Err-clause-last_line_whole g c =
     (λ rose. inr (rose_last _ _ _ c.in-Err.ensures.later_out rose))
     c.end-in-Err.ensures.whole)
 
+pub returns-in-Err-clause-every_moment : goal.returns-in-Err-clause-every_moment
+returns-in-Err-clause-every_moment g c = rw c.end-in-Err.ensures.status (λ first is told.
+    let w = c.in-Err.ensures.went first (command_is _ c.in-Some.command (Run first) (sym c.named.ensures ∙ c.in-Some.is) is) told in
+    let part = c.end-in-Err.ensures.part in (
+      w.0,
+      ending_line c.in-Err.ending,
+      w.1.last_is,
+      all_promised g.H.Host.now g.H.Host.may g.H.Host.clock g.H.Host.since g.H.Host.said _ _ _ _ _ _ _ _ _ _ w.1 told.ready.told c.end-in-Err.ensures.silent part.0 part.1 part.2 c.end-in-Err.ensures.leaves told.ready.openable.truthful,
+    ))
+
+pub returns-in-Err-clause-last_line_run : goal.returns-in-Err-clause-last_line_run
+returns-in-Err-clause-last_line_run g c = rw c.end-in-Err.ensures.status (λ first is told.
+    let w = c.in-Err.ensures.went first (command_is _ c.in-Some.command (Run first) (sym c.named.ensures ∙ c.in-Some.is) is) told in
+    let part = c.end-in-Err.ensures.part in
+    ⊎_elim (λ whole. inl (w.0, ending_line c.in-Err.ending, w.1.last_is, whole)) (λ rose. inr rose)
+    (ends_whole g.H.Host.now g.H.Host.may g.H.Host.clock g.H.Host.since g.H.Host.said _ _ _ _ _ _ _ _ _ _ w.1 told.ready.told c.end-in-Err.ensures.silent part.0 part.1 part.2 c.end-in-Err.ensures.leaves _
+    (λ write. rose_first _ _ _ (c.in-Err.ensures.write write).1 c.end-in-Err.ensures.later_out) (⊎_elim (λ whole. inl whole) (λ rose. inr (rose_last _ _ _ c.in-Err.ensures.later_out rose)) c.end-in-Err.ensures.whole)))
+
+pub returns-in-Err-clause-no_reply_lost : goal.returns-in-Err-clause-no_reply_lost
+returns-in-Err-clause-no_reply_lost g c = rw c.end-in-Err.ensures.status (λ first is told.
+    let w = c.in-Err.ensures.went first (command_is _ c.in-Some.command (Run first) (sym c.named.ensures ∙ c.in-Some.is) is) told in
+    let part = c.end-in-Err.ensures.part in (
+      w.0,
+      ending_line c.in-Err.ending,
+      w.1.last_is,
+      one_ahead g.H.Host.now g.H.Host.may g.H.Host.clock g.H.Host.since g.H.Host.said _ _ _ _ _ _ _ _ _ _ w.1 told.ready.told c.end-in-Err.ensures.silent part.0 part.1 part.2 c.end-in-Err.ensures.leaves told.ready.openable.truthful,
+    ))
+
+pub returns-in-Err-clause-saved_kept : goal.returns-in-Err-clause-saved_kept
+returns-in-Err-clause-saved_kept g c = λ first is told.
+    let w = c.in-Err.ensures.went first (command_is _ c.in-Some.command (Run first) (sym c.named.ensures ∙ c.in-Some.is) is) told in
+    let part = c.end-in-Err.ensures.part in (
+      w.0,
+      slots_saved g.H.Host.now g.H.Host.may g.H.Host.clock g.H.Host.since g.H.Host.said _ _ _ _ _ _ _ _ _ _ w.1 told.ready.told c.end-in-Err.ensures.silent part.0 part.1 part.2 c.end-in-Err.ensures.leaves told.ready.openable.truthful,
+    )
+
 pub returns-in-Err-clause-replies_put : goal.returns-in-Err-clause-replies_put
-returns-in-Err-clause-replies_put g c =
+returns-in-Err-clause-replies_put g c = rw c.end-in-Err.ensures.status (λ ends first is told.
+    let w = c.in-Err.ensures.went first (command_is _ c.in-Some.command (Run first) (sym c.named.ensures ∙ c.in-Some.is) is) told in
+    let part = c.end-in-Err.ensures.part in
+    ⊎_elim (λ answered. inl (w.0, answered)) (λ more. inr more)
+    (ends_answered g.H.Host.now g.H.Host.may g.H.Host.clock g.H.Host.since g.H.Host.said _ _ _ _ _ _ _ _ _ _ w.1 told.ready.told c.end-in-Err.ensures.silent part.0 part.1 part.2 c.end-in-Err.ensures.leaves _ ends
+    (⊎_elim (λ whole. inl whole) (λ rose. inr (rose_last _ _ _ c.in-Err.ensures.later_out rose)) c.end-in-Err.ensures.whole)))
+
+pub returns-in-Err-clause-gap_never : goal.returns-in-Err-clause-gap_never
+returns-in-Err-clause-gap_never g c = rw c.end-in-Err.ensures.status (λ gap first is told.
+    (c.in-Err.ensures.went first (command_is _ c.in-Some.command (Run first) (sym c.named.ensures ∙ c.in-Some.is) is) told).1.gap gap)
+
+pub returns-in-Err-clause-store_only : goal.returns-in-Err-clause-store_only
+returns-in-Err-clause-store_only g c =
     let form : command_of c.args.words.now ≡ Some c.in-Some.command = sym c.named.ensures ∙ c.in-Some.is in
-    rw (form, c.end-in-Err.ensures.status) (λ is told.
-    let P : List ℕ → Type 0 = λ v. Puts g.H.Host.said g.H.Host.clock g.H.Host.since c.run_command.new.host c.end-in-Err.new.host v in
+    rw (form, c.end-in-Err.ensures.status) (λ is.
+    let R : Option Image → Type 0 = λ v. RefusesStore (g.P.Source.left c.args.plan.now) (g.H.Host.now c.args.host.now) v (c.run_command.new.input ≡ c.args.input.now) (ending_line c.in-Err.ending) in
     ⊎_elim
-    (λ whole. inl (read_then _ _ _ _ _ (ending_status c.in-Err.ending ≡ Limit) (λ put puts. puts-then g.H.Host.said g.H.Host.clock g.H.Host.since _ _ _ put _ puts (subst P (c.in-Err.ensures.line told) whole)) (c.in-Err.ensures.stops_read is told)))
-    (λ rose. inr (rose_last _ _ _ c.in-Err.ensures.later_out rose))
-    c.end-in-Err.ensures.whole)
+    (λ dumps. inl (ap (λ v. Some v) dumps.0, dumps.1))
+    (λ runs. inr (runs.0, (ending_line c.in-Err.ending, subst R (sym c.end-in-Err.ensures.leaves.now_stays) runs.1, ⊎_elim (λ whole. inl (g.H.Host.said c.run_command.new.host, whole.grows)) (λ rose. inr (rose_last _ _ _ c.in-Err.ensures.later_out rose)) c.end-in-Err.ensures.whole)))
+    (c.in-Err.ensures.store is))
+
+pub returns-in-Err-clause-gap_only : goal.returns-in-Err-clause-gap_only
+returns-in-Err-clause-gap_only g c =
+    let form : command_of c.args.words.now ≡ Some c.in-Some.command = sym c.named.ensures ∙ c.in-Some.is in
+    rw (form, c.end-in-Err.ensures.status) (λ is.
+    let gap = c.in-Err.ensures.gap is in
+    (gap.0, ap (λ v. Some v) gap.1, (ending_line c.in-Err.ending, gap.2, ⊎_elim (λ whole. inl (g.H.Host.said c.run_command.new.host, whole.grows)) (λ rose. inr (rose_last _ _ _ c.in-Err.ensures.later_out rose)) c.end-in-Err.ensures.whole)))
 
 pub returns-in-Err-clause-rows_before_damage : goal.returns-in-Err-clause-rows_before_damage
-returns-in-Err-clause-rows_before_damage g c = λ is.
-    let before = c.in-Err.ensures.all_before (sym c.end-in-Err.ensures.status ∙ is) in
+returns-in-Err-clause-rows_before_damage g c = λ is dumps.
+    let before = c.in-Err.ensures.all_before (sym c.end-in-Err.ensures.status ∙ is) (command_is _ c.in-Some.command Dump (sym c.named.ensures ∙ c.in-Some.is) dumps) in
     let P : List ℕ → Type 0 = λ v. Puts g.H.Host.said g.H.Host.clock g.H.Host.since c.run_command.new.host c.end-in-Err.new.host v in
     ⊎_elim
     (λ whole. inl (λ image told. puts-then g.H.Host.said g.H.Host.clock g.H.Host.since _ _ _ _ _ (before image told).0 (subst P (before image told).1 whole)))
@@ -68,6 +189,6 @@ returns-in-Err-clause-rows_before_damage g c = λ is.
     c.end-in-Err.ensures.whole
 
 pub returns-in-Err-clause-files_stay : goal.returns-in-Err-clause-files_stay
-returns-in-Err-clause-files_stay g c = λ not_run.
+returns-in-Err-clause-files_stay g c =
     let form : command_of c.args.words.now ≡ Some c.in-Some.command = sym c.named.ensures ∙ c.in-Some.is in
-    leaves_files-then g.H.Host.now g.H.Host.may g.H.Host.clock g.H.Host.since _ _ _ (c.in-Err.ensures.leaves (λ is. not_run (form ∙ ap (λ v. Some v) is))) c.end-in-Err.ensures.leaves
+    rw form (λ not_run. leaves_files-then g.H.Host.now g.H.Host.may g.H.Host.clock g.H.Host.since _ _ _ (c.in-Err.ensures.leaves not_run) c.end-in-Err.ensures.leaves)

@@ -74,14 +74,14 @@ fn greatest_row(alloc: Global) -> Result<String, Fail> {
 
 /// The reply to it: it is alone in each window and under each key.
 fn greatest_reply(alloc: Global) -> Result<String, Fail> {
-    let mut text = String::from_str(alloc, "0 ok")?;
+    let mut text = String::from_str(alloc, "open 0 0 0\n0 ok")?;
     for _ in 0..QUERIES {
         text.push_str(" 1")?;
         for column in TEXTS + 1..TEXTS + AGGS {
             write!(text, " {column}")?;
         }
     }
-    text.push_str("\ndone 1 1\n")?;
+    text.push_str("\nstored 1\nsaved 1\ndone 1 1\n")?;
     Ok(text)
 }
 

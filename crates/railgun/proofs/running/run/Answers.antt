@@ -1,0 +1,41 @@
+use Rattle.std.proofs.Common.{Err, ap}
+use Rattle.rg_config.specs.Plans.{planned}
+use Rattle.rg_run.specs.declared.fault.RunFault.{RunFault}
+use Rattle.railgun.specs.Call.{ending_status, ending_line}
+use Rattle.railgun.proofs.Refusing.{run_gap}
+use Rattle.railgun.proofs.Carrying.{went_ok, went_err, store_line, never_store}
+use Rattle.railgun.proofs.running.run.Goals as goal
+
+pub returns-in-Ok-clause-went : goal.returns-in-Ok-clause-went
+returns-in-Ok-clause-went g c = λ ready all told.
+    let ran = c.in-Ok.ensures.ran ready all told in
+    (ran.0, went_ok _ _ _ _ _ _ _ _ _ _ ran.1.is_from ran.1.moments ran.1.finished (c.in-Ok.ensures.no_gap ready))
+
+pub returns-clause-went : goal.returns-clause-went
+returns-clause-went g c = λ ready all told.
+    let ran = c.in-Err.ensures.ran ready all told in (
+      ran.0,
+      went_err _ _ _ _ _ _ _ _ _ _ c.in-Err.fault (ending_status c.ending_of.result) (ending_line c.ending_of.result) c.ending_of.ensures ran.1.is_from ran.1.moments ran.1.stopped ran.1.answered
+          (λ is. c.in-Err.ensures.never_differs ready (ap (λ (f : RunFault). Err f) is))
+          (λ n is. c.in-Err.ensures.never_bad ready all n told (ap (λ (f : RunFault). Err f) is))
+          (λ n is. c.in-Err.ensures.gap n (ap (λ (f : RunFault). Err f) is))
+          (λ n is. c.in-Err.ensures.gap_next ready n (ap (λ (f : RunFault). Err f) is)),
+    )
+
+pub returns-clause-never_damaged : goal.returns-clause-never_damaged
+returns-clause-never_damaged g c = λ ready all told is.
+    never_store _ c.in-Err.fault (ending_status c.ending_of.result) (ending_line c.ending_of.result) c.ending_of.ensures is
+    (λ e. c.in-Err.ensures.never_differs ready (ap (λ (f : RunFault). Err f) e))
+    (λ n e. c.in-Err.ensures.never_bad ready all n told (ap (λ (f : RunFault). Err f) e))
+    (λ p e. c.in-Err.ensures.never_damaged ready all p told (ap (λ (f : RunFault). Err f) e))
+
+pub returns-clause-store : goal.returns-clause-store
+returns-clause-store g c = λ is.
+    store_line (planned c.args.plan.now) _ _ _ _ c.in-Err.fault (ending_status c.ending_of.result) (ending_line c.ending_of.result) c.ending_of.ensures is
+    (λ e. (c.in-Err.ensures.differs (ap (λ (f : RunFault). Err f) e), c.in-Err.ensures.store_first (ap (λ (f : RunFault). Err f) e)))
+    (λ p e. c.in-Err.ensures.damaged p (ap (λ (f : RunFault). Err f) e))
+
+pub returns-clause-gap : goal.returns-clause-gap
+returns-clause-gap g c = λ is.
+    let at = run_gap _ c.in-Err.fault (ending_status c.ending_of.result) (ending_line c.ending_of.result) c.ending_of.ensures is in
+    (at.0, c.in-Err.ensures.gap at.0 (ap (λ (f : RunFault). Err f) at.1), at.2, c.in-Err.ensures.gap_first at.0 (ap (λ (f : RunFault). Err f) at.1))

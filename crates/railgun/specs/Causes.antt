@@ -1,0 +1,53 @@
+-- Why a run refuses its store or its input.
+use Rattle.std.specs.Prelude.{◌≡◌, ◌⊎◌, ℕ, ◌<◌, List, Option, Some, IfSome}
+use Rattle.std.specs.Option.{ForSome}
+use Rattle.rg_bytes.specs.Known.{after}
+use Rattle.rg_host.specs.Image.{Image}
+use Rattle.rg_config.specs.Plans.{Planned}
+use Rattle.rg_log.specs.Log.{schema_payload}
+use Rattle.rg_reservoir.specs.Attached.{IsOther, IsBadFrame}
+use Rattle.rg_run.specs.Faults.{IsIllegalThere}
+use Rattle.railgun.specs.Call.{damage_line, schema_line, state_line, gap_line, IsLegal}
+use Rattle.railgun.specs.Plan.{IsPlan}
+
+-- the log of the image is of another schema than the plan's
+abbrev pub HasOtherSchema : Planned → Image → Type 0
+HasOtherSchema plan v = IsOther (schema_payload plan.shape) (v 2)
+
+-- the open frame at that place of the log isn't what its place asks for
+abbrev pub HasBadFrame : Planned → ℕ → Image → Type 0
+HasBadFrame plan place v = IsBadFrame (schema_payload plan.shape) place (v 2)
+
+-- no run of the plan goes over the image
+abbrev pub IsUnfit : Planned → Image → Type 0
+IsUnfit plan v = HasOtherSchema plan v ⊎ ((place : ℕ) × HasBadFrame plan place v)
+
+-- the image says that its log is damaged there, or the image that is left says so
+abbrev pub IsDamagedAt : Planned → Option Image → Option Image → ℕ → Type 0
+IsDamagedAt plan old new place = ForSome old (λ v. HasBadFrame plan place v) ⊎ ForSome new (λ v. IsIllegalThere place v)
+
+-- The line that refuses a store says why: another schema, and then the input was left alone; a damaged place; or a node whose rows don't
+-- stand for the events.
+abbrev pub IsStoreLine : Planned → Option Image → Option Image → Type 0 → List ℕ → Type 0
+IsStoreLine plan old new alone last =
+    ((last ≡ schema_line) × ForSome old (λ v. HasOtherSchema plan v) × alone)
+    ⊎ ((place : ℕ) × (last ≡ damage_line (Some place)) × IsDamagedAt plan old new place)
+    ⊎ ((node : ℕ) × (last ≡ state_line node))
+
+-- The plan is legal, and its run refused the store with this last line.
+pub record RefusesStore (plan : Option (List ℕ)) (old new : Option Image) (alone : Type 0) (last : List ℕ) : Type 0 where
+  pub asks : Planned
+  pub legal : IfSome plan (λ bytes. IsPlan bytes asks)
+  pub line : IsStoreLine asks old new alone last
+
+-- The plan is legal, and its run refused the input, whose first line has that offset, with this last line: the next offset is a smaller one.
+pub record RefusesGap (plan : Option (List ℕ)) (first : ℕ) (alone : Type 0) (last : List ℕ) : Type 0 where
+  pub legal : IsLegal plan
+  pub next : ℕ
+  pub behind : next < first
+  pub line : last ≡ gap_line first next
+  pub left_alone : alone
+
+-- what was put ends with that line
+abbrev pub EndsWith : Option (List ℕ) → List ℕ → Type 0
+EndsWith said line = (before : Option (List ℕ)) × (said ≡ after before line)

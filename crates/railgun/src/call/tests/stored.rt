@@ -1,0 +1,311 @@
+use super::*;
+use rg_host::Pick;
+
+/// Three payments of one card, of which the third meets a window without the first.
+const THREE: &[u8] = b"0,c1,m1,100\n299999,c1,m2,200\n300000,c1,m1,50\n";
+
+/// What a run over an empty store puts for them.
+const THREE_PUT: &str =
+    "open 0 0 0\n0 ok 1 100\n1 ok 2 300\nstored 2\n2 ok 2 250\nstored 3\nsaved 3\ndone 3 3\n";
+
+const EIGHT: &[u8] =
+    b"0,c1,m1,1\n1,c1,m1,1\n2,c1,m1,1\n3,c1,m1,1\n4,c1,m1,1\n5,c1,m1,1\n6,c1,m1,1\n7,c1,m1,1\n";
+
+const SUM: &str = "SELECT sum(amount) FROM payments OVER INFINITE";
+
+/// A run on this host puts this text behind what was put before, and ends so.
+fn assert_run(
+    rt: &(impl Abort + AllocGlobal),
+    setting: &Setting<'_>,
+    host: &mut MemHost,
+    wanted: &str,
+    ends: Status,
+) -> Result<(), Fail> {
+    let before = host.output().len();
+    let status = status_on(rt.alloc(), setting, host)?;
+    let text = String::from_utf8(host.output()[before..].to_vec(rt.alloc())?)?;
+    assert_eq!(rt; text.as_str(), wanted);
+    assert_eq!(rt; status, ends);
+    Ok(())
+}
+
+/// A host with no file, on which these calls fail.
+fn failing(alloc: Global, calls: &[u64]) -> Result<MemHost, Fail> {
+    Ok(MemHost::new(alloc, Image::new(alloc), calls.to_vec(alloc)?)?)
+}
+
+/// A host whose log has these bytes.
+fn with_log(alloc: Global, log: &[u8]) -> Result<MemHost, Fail> {
+    let mut image = Image::new(alloc);
+    image.set(2, log.to_vec(alloc)?)?;
+    Ok(MemHost::new(alloc, image, Vec::new(alloc))?)
+}
+
+/// The text behind the first line.
+fn behind_open(text: &str) -> &str {
+    match text.split_once('\n') {
+        Some((_, rest)) => rest,
+        None => "",
+    }
+}
+
+/// The number behind the last mark of this kind, where there is one.
+fn last_mark(text: &str, mark: &str) -> u64 {
+    let mut last = 0;
+    for line in text.lines() {
+        if let Some(number) = line.strip_prefix(mark) {
+            last = number.parse::<u64>().unwrap_or(0);
+        }
+    }
+    last
+}
+
+#[test]
+fn a_run_puts_its_marks(rt: HostRuntime) -> Result<(), Fail> {
+    let alloc = rt.alloc();
+    let plan = plan_of(alloc, TOTALS, PAYMENTS, SMALL)?;
+    let rows: [(&[u8], &str); 4] = [
+        (b"", "open 0 0 0\nstored 0\nsaved 0\ndone 0 0\n"),
+        (THREE, THREE_PUT),
+        (
+            b"7,c1,m1,1\n7,c1,m1,1\n",
+            "open 0 0 0\n0 ok 1 1\n1 ok 2 2\nstored 2\nstored 2\nsaved 2\ndone 2 2\n",
+        ),
+        (
+            b"10,c1,m1,1\n9,c1,m1,1\n10,c1,m1,1\n",
+            "open 0 0 0\n0 ok 1 1\n1 late\n2 ok 2 2\nstored 3\nstored 3\nsaved 2\ndone 3 2\n",
+        ),
+    ];
+    for (input, wanted) in rows {
+        let mut host = failing(alloc, &[])?;
+        assert_run(
+            &rt,
+            &sound(plan.as_bytes(), input),
+            &mut host,
+            wanted,
+            Status::Ok,
+        )?;
+    }
+    Ok(())
+}
+
+#[test]
+fn a_later_run_goes_on(rt: HostRuntime) -> Result<(), Fail> {
+    let alloc = rt.alloc();
+    let plan = plan_of(alloc, TOTALS, PAYMENTS, SMALL)?;
+    let sum = plan_of(alloc, SUM, PAYMENTS, SMALL)?;
+    let mut host = failing(alloc, &[])?;
+    let three = sound(plan.as_bytes(), THREE);
+    assert_run(&rt, &three, &mut host, THREE_PUT, Status::Ok)?;
+    let again = "open 3 3 3\nstored 3\nsaved 3\ndone 3 3\n";
+    assert_run(&rt, &three, &mut host, again, Status::Ok)?;
+    let gap = Setting {
+        words: &["run", "plan", "store", "5"],
+        ..three
+    };
+    assert_run(&rt, &gap, &mut host, "refused gap 5 3\n", Status::Gap)?;
+    let other = Setting {
+        words: &["run", "plan", "store", "3"],
+        ..sound(sum.as_bytes(), b"300001,c9,m9,1\n")
+    };
+    let wanted = "open 3 3 0\n3 ok 351\nstored 4\nsaved 4\nstored 4\nsaved 4\ndone 4 4\n";
+    assert_run(&rt, &other, &mut host, wanted, Status::Ok)?;
+    let cards = plan_of(alloc, TEN, CARDS, SMALL)?;
+    let schema = sound(cards.as_bytes(), THREE);
+    assert_run(
+        &rt,
+        &schema,
+        &mut host,
+        "refused store schema\n",
+        Status::Store,
+    )?;
+    Ok(())
+}
+
+#[test]
+fn a_full_store_accepts_no_more(rt: HostRuntime) -> Result<(), Fail> {
+    let alloc = rt.alloc();
+    let two = format!(in alloc; "{SMALL}events = 2\n")?;
+    let plan = plan_of(alloc, TOTALS, PAYMENTS, two.as_str())?;
+    let mut host = failing(alloc, &[])?;
+    let three = sound(plan.as_bytes(), THREE);
+    let first =
+        "open 0 0 0\n0 ok 1 100\n1 ok 2 300\nstored 2\n2 full\nstored 2\nsaved 2\ndone 3 2\n";
+    assert_run(&rt, &three, &mut host, first, Status::Ok)?;
+    let again = "open 2 2 2\n2 full\nstored 2\nsaved 2\ndone 3 2\n";
+    assert_run(&rt, &three, &mut host, again, Status::Ok)?;
+    let one = format!(in alloc; "{SMALL}events = 1\n")?;
+    let fewer = plan_of(alloc, TOTALS, PAYMENTS, one.as_str())?;
+    let below = sound(fewer.as_bytes(), THREE);
+    assert_run(&rt, &below, &mut host, again, Status::Ok)?;
+    Ok(())
+}
+
+#[test]
+fn a_damaged_store_is_refused(rt: HostRuntime) -> Result<(), Fail> {
+    let alloc = rt.alloc();
+    let plan = plan_of(alloc, TOTALS, PAYMENTS, SMALL)?;
+    let mut host = with_log(alloc, &[1, 0, 0, 0, 0, 0, 0, 0, 0xff, 0])?;
+    let three = sound(plan.as_bytes(), THREE);
+    assert_run(
+        &rt,
+        &three,
+        &mut host,
+        "refused store damaged 0\n",
+        Status::Store,
+    )?;
+    Ok(())
+}
+
+#[test]
+fn a_first_line_is_a_number_up_to_a_limit(rt: HostRuntime) -> Result<(), Fail> {
+    let alloc = rt.alloc();
+    let plan = plan_of(alloc, TOTALS, PAYMENTS, SMALL)?;
+    for (first, ends) in [
+        ("0", Status::Ok),
+        ("000", Status::Ok),
+        ("2305843009213693952", Status::Gap),
+        ("2305843009213693953", Status::Usage),
+        ("-1", Status::Usage),
+        ("", Status::Usage),
+        ("x", Status::Usage),
+    ] {
+        let words = ["run", "plan", "store", first];
+        let setting = Setting {
+            words: &words,
+            ..sound(plan.as_bytes(), b"")
+        };
+        let (_, status) = outcome(alloc, &setting)?;
+        assert_eq!(rt; status, ends);
+    }
+    Ok(())
+}
+
+/// A run over each image that a stop of this host may leave goes on with the text, and has all that
+/// was told to be stored.
+fn assert_goes_on(
+    rt: &(impl Abort + AllocGlobal),
+    setting: &Setting<'_>,
+    host: &MemHost,
+    calls: u64,
+    whole: &str,
+) -> Result<(), Fail> {
+    let alloc = rt.alloc();
+    let told = String::from_utf8(host.output().to_vec(alloc)?)?;
+    for pick in [
+        Pick::Old,
+        Pick::New,
+        Pick::Torn(0),
+        Pick::Torn(1),
+        Pick::Torn(0x37),
+        Pick::Torn(255),
+    ] {
+        let mut left = host.stop_image(calls, pick)?;
+        let status = status_on(alloc, setting, &mut left)?;
+        let text = String::from_utf8(left.output().to_vec(alloc)?)?;
+        assert_eq!(rt; status, Status::Ok);
+        assert!(rt;
+            whole.ends_with(behind_open(text.as_str())),
+            "after {calls}"
+        );
+        assert!(rt; last_mark(told.as_str(), "stored ") <= last_mark(text.as_str(), "stored "));
+    }
+    Ok(())
+}
+
+#[test]
+fn a_run_stopped_at_any_call_goes_on(rt: HostRuntime) -> Result<(), Fail> {
+    let alloc = rt.alloc();
+    let plan = plan_of(alloc, TOTALS, PAYMENTS, SMALL)?;
+    let three = sound(plan.as_bytes(), THREE);
+    let mut whole = failing(alloc, &[])?;
+    assert_run(&rt, &three, &mut whole, THREE_PUT, Status::Ok)?;
+    for call in 0..whole.calls() {
+        let mut host = failing(alloc, &[call])?;
+        let status = status_on(alloc, &three, &mut host)?;
+        assert!(rt;
+            status == Status::Write || status == Status::Disk,
+            "at {call}"
+        );
+        assert_goes_on(&rt, &three, &host, host.calls(), THREE_PUT)?;
+        assert_goes_on(&rt, &three, &whole, call, THREE_PUT)?;
+    }
+    Ok(())
+}
+
+#[test]
+fn a_log_cut_short_is_read_or_refused(rt: HostRuntime) -> Result<(), Fail> {
+    let alloc = rt.alloc();
+    let plan = plan_of(alloc, TOTALS, PAYMENTS, SMALL)?;
+    let three = sound(plan.as_bytes(), THREE);
+    let mut whole = failing(alloc, &[])?;
+    assert_run(&rt, &three, &mut whole, THREE_PUT, Status::Ok)?;
+    for length in 0..whole.file(2).len() {
+        let mut host = with_log(alloc, &whole.file(2)[..length])?;
+        let status = status_on(alloc, &three, &mut host)?;
+        let text = String::from_utf8(host.output().to_vec(alloc)?)?;
+        if status == Status::Store {
+            assert!(rt;
+                text.as_str().starts_with("refused store damaged "),
+                "at {length}"
+            );
+        } else {
+            assert_eq!(rt; status, Status::Ok);
+            assert!(rt;
+                THREE_PUT.ends_with(behind_open(text.as_str())),
+                "at {length}"
+            );
+        }
+    }
+    Ok(())
+}
+
+#[test]
+fn a_stop_in_a_checkpoint_leaves_the_one_before(rt: HostRuntime) -> Result<(), Fail> {
+    let alloc = rt.alloc();
+    let plan = plan_of(alloc, TOTALS, PAYMENTS, SMALL)?;
+    let eight = sound(plan.as_bytes(), EIGHT);
+    let mut whole = failing(alloc, &[])?;
+    let status = status_on(alloc, &eight, &mut whole)?;
+    assert_eq!(rt; status, Status::Ok);
+    let wanted = "open 8 8 4\nstored 8\nsaved 8\ndone 8 8\n";
+    assert!(rt; is_left_somewhere(alloc, &eight, &whole, Pick::Torn(0), wanted)?);
+    Ok(())
+}
+
+/// Whether a run over what some stop of this host leaves, by this pick, puts just this text.
+fn is_left_somewhere(
+    alloc: Global,
+    setting: &Setting<'_>,
+    whole: &MemHost,
+    pick: Pick,
+    wanted: &str,
+) -> Result<bool, Fail> {
+    for call in 0..whole.calls() {
+        let mut left = whole.stop_image(call, pick)?;
+        status_on(alloc, setting, &mut left)?;
+        if left.output() == wanted.as_bytes() {
+            return Ok(true);
+        }
+    }
+    Ok(false)
+}
+
+#[test]
+fn a_gate_decides_whether_its_chunk_is_there(rt: HostRuntime) -> Result<(), Fail> {
+    let alloc = rt.alloc();
+    let plan = plan_of(alloc, TOTALS, PAYMENTS, SMALL)?;
+    let three = sound(plan.as_bytes(), THREE);
+    let mut whole = failing(alloc, &[])?;
+    assert_run(&rt, &three, &mut whole, THREE_PUT, Status::Ok)?;
+    let closed = "open 2 2 0\n2 ok 2 250\nstored 3\nsaved 3\ndone 3 3\n";
+    let opened = "open 3 3 0\nstored 3\nsaved 3\ndone 3 3\n";
+    for (pick, wanted) in [
+        (Pick::Old, closed),
+        (Pick::Torn(0x37), closed),
+        (Pick::Torn(1), opened),
+    ] {
+        assert!(rt; is_left_somewhere(alloc, &three, &whole, pick, wanted)?);
+    }
+    Ok(())
+}

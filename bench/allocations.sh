@@ -12,6 +12,7 @@ trap 'rm -rf "$work"' EXIT
 # The allocations of a run over so many lines.
 allocations() {
     payments 40 "$1" > "$work/payments"
+    rm -rf "$work/store"
     valgrind --log-file="$work/log" "$program" run "$work/plan" "$work/store" < "$work/payments" > "$work/out"
     if [ "$(tail -n 1 "$work/out")" != "done $1 $1" ]; then
         echo "not all lines were accepted: $(tail -n 1 "$work/out")" >&2

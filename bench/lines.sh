@@ -23,6 +23,7 @@ for name in refused accepted; do
     lines=$(wc -l < "$work/$name")
     for tool in railgun awk; do
         if [ "$tool" = railgun ]; then
+            rm -rf "$work/store"
             took=$(seconds "$work/$name" "$program" run "$work/plan" "$work/store")
         else
             took=$(seconds "$work/$name" awk -F, '{ count[$2]++; print NR - 1, "ok", count[$2] }')

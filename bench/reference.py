@@ -3,7 +3,8 @@
 window, with a deque of the payments in the window and a dict of two numbers a card.
 
 Usage: reference.py WINDOW < payments, the window in milliseconds, each line `time,card,merchant,amount`.
-It writes what `railgun run` writes on the same lines, where each of them is accepted."""
+It writes what `railgun run` writes on the same lines, where each of them is accepted, but for what
+that says of its store."""
 
 import sys
 from collections import deque

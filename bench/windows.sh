@@ -1,6 +1,7 @@
 #!/usr/bin/env bash
 # What a line costs by the number of cards and the length of the window: a million payments, five seconds apart, a count and a sum by card.
 # Processor time (user and system), lines a second of it and peak memory, beside those of bench/reference.py on the same lines, run in turn: the medians of three.
+# Each run of the program begins with a new store, on the disk of the temporary folder; what it says of its store is left out of the comparison.
 # It fails where a line isn't accepted, or where the two programs answer differently. Outside the gate.
 # `rt run` in crates/railgun builds the program first; PROGRAM names another one.
 set -eu
@@ -42,9 +43,10 @@ for cards in 40 100000; do
         plan "$window" > "$work/plan"
         rm -f "$work/railgun" "$work/reference"
         for _ in 1 2 3; do
+            rm -rf "$work/store"
             measure railgun "$program" run "$work/plan" "$work/store"
             measure reference python3 "$bench/reference.py" "$milliseconds"
-            cmp "$work/railgun.out" "$work/reference.out"
+            grep -vE '^(open|stored|saved) ' "$work/railgun.out" | cmp - "$work/reference.out"
         done
         ratio=$(awk -v railgun="$(median railgun 1)" -v reference="$(median reference 1)" 'BEGIN { printf "%.2f", reference / railgun }')
         echo "$cards cards, $window: $(figures railgun); reference: $(figures reference); ratio $ratio"

@@ -17,9 +17,9 @@ use Rattle.railgun.specs.Plan.{IsPlan, IsRefusal}
 use Rattle.railgun.specs.Stops.{StopsAt}
 use Rattle.railgun.specs.Listing.{check_text}
 use Rattle.railgun.specs.Causes.{RefusesStore, RefusesGap}
-use Rattle.railgun.specs.Call.{CarriesRun, IsRun, ReadsPlan, ShowsStore, Told, ToldPlan, plan_text, text_of, last_line, refusal_line, refusal_of, line_for, IsLegal, IsRefused, IsDamaged, IsUndamaged, IsPossible, status_by, plan_status, dump_status, status_for}
+use Rattle.railgun.specs.Call.{CarriesRun, IsRun, ReadsPlan, ShowsStore, Told, ToldPlan, plan_text, ForText, last_line, refusal_line, refusal_of, line_for, IsLegal, IsRefused, IsDamaged, IsUndamaged, IsPossible, status_by, plan_status, store_status, status_for}
 use Rattle.railgun.specs.declared.command.Command.{Command}
-use Rattle.railgun.specs.declared.command.Command.TheVariants.{Run, Check, Dump}
+use Rattle.railgun.specs.declared.command.Command.TheVariants.{Run, Check, Dump, Info}
 use Rattle.railgun.specs.declared.status.Status.{Status}
 use Rattle.railgun.specs.declared.status.Status.TheVariants.{Ok, Usage, Plan as BadPlan, Store, Read, Write, Disk, Limit, Memory, Gap, Differs}
 use Rattle.railgun.proofs.Plans.{one_plan}
@@ -65,6 +65,13 @@ all_put text = record { lines = text; more = []; of_text = append-nil text; is =
 -- a front that leaves nothing
 pub all_front : (text : List (List ℕ)) → IsPut text [] (ended text)
 all_front text = inl ([], append-nil (ended text))
+
+-- no line was put, and then a front of the last line, or the whole of it
+pub front_alone : (last part : List ℕ) → IsPrefix part last → IsPut [] last part
+front_alone last part front = line_put [] last [] part (nothing_whole []) front
+
+pub line_alone : (last : List ℕ) → StopsWith [] last last
+line_alone last = stops-then [] [] last (nothing_whole [])
 
 -- The plan that a source tells.
 
@@ -155,16 +162,16 @@ no_carried_legal first None store legal told = absurd (let e : None ≡ Some tol
 -- What a check puts, by the plan that was read.
 
 pub checked_all : (plan : Option (List ℕ)) (store : Option Image) (p : Planned) (Put : List ℕ → Type 0) → IfSome plan (λ b. IsPlan b p) → Put (ended (check_text p)) → (told : ToldPlan (Some Check) plan store) →
-    Put (ended (text_of (Some Check) told.asks told.image))
+    ForText (Some Check) Ok told.asks told.image (λ text. Put (ended text))
 checked_all plan store p Put legal done told =
     let P : Result Planned ConfigFault → Type 0 = λ v. Put (ended (plan_text v)) in
-    subst P (sym (told_plan (Some Check) tt plan store p told legal)) done
+    record { text = plan_text told.asks; is = refl; holds = subst P (sym (told_plan (Some Check) tt plan store p told legal)) done }
 
-pub checked_part : (plan : Option (List ℕ)) (store : Option Image) (p : Planned) (Put : List ℕ → Type 0) (write : Type 0) → IfSome plan (λ b. IsPlan b p) → (put : List ℕ) × Put put × StopsAt write (check_text p) put → (told : ToldPlan (Some Check) plan store) →
-    (put : List ℕ) × Put put × StopsAt write (text_of (Some Check) told.asks told.image) put
-checked_part plan store p Put write legal stops told =
+pub checked_part : (plan : Option (List ℕ)) (store : Option Image) (p : Planned) (Put : List ℕ → Type 0) (write : Type 0) (status : Status) → IfSome plan (λ b. IsPlan b p) → (put : List ℕ) × Put put × StopsAt write (check_text p) put → (told : ToldPlan (Some Check) plan store) →
+    ForText (Some Check) status told.asks told.image (λ text. (put : List ℕ) × Put put × StopsAt write text put)
+checked_part plan store p Put write status legal stops told =
     let P : Result Planned ConfigFault → Type 0 = λ v. (put : List ℕ) × Put put × StopsAt write (plan_text v) put in
-    subst P (sym (told_plan (Some Check) tt plan store p told legal)) stops
+    record { text = plan_text told.asks; is = refl; holds = subst P (sym (told_plan (Some Check) tt plan store p told legal)) stops }
 
 -- the same of a weaker cause
 pub stops_for : (write also : Type 0) → (write → also) → (text : List (List ℕ)) (put : List ℕ) → StopsAt write text put → StopsAt also text put
@@ -189,11 +196,11 @@ status_refused bytes asks says refused = status_within bytes asks refused.1.with
 pub record Causes (command : Option Command) (plan input : Option (List ℕ)) (store : Option Image) (A B C D : Type 0) (status : Status) : Type 0 where
   pub usage_only : status ≡ Usage → command ≡ None
   pub usage_always : command ≡ None → status ≡ Usage
-  pub ok_only : status ≡ Ok → (ReadsPlan command → IsLegal plan) × (command ≡ Some Dump → IsUndamaged store)
+  pub ok_only : status ≡ Ok → (ReadsPlan command → IsLegal plan) × (ShowsStore command → IsUndamaged store)
   pub plan_only : status ≡ BadPlan → ReadsPlan command × IsRefused plan
-  pub store_only : status ≡ Store → ((command ≡ Some Dump) × IsDamaged store) ⊎ (IsRun command × IsLegal plan)
+  pub store_only : status ≡ Store → (ShowsStore command × IsDamaged store) ⊎ (IsRun command × IsLegal plan)
   pub gap_only : status ≡ Gap → IsRun command × IsLegal plan
-  pub disk_only : status ≡ Disk → ((command ≡ Some Dump) ⊎ (IsRun command × IsLegal plan)) × D
+  pub disk_only : status ≡ Disk → (ShowsStore command ⊎ (IsRun command × IsLegal plan)) × D
   pub read_only : status ≡ Read → A ⊎ B
   pub write_only : status ≡ Write → C
   pub limit_only : status ≡ Limit → (ReadsPlan command × IsLonger 65536 plan) ⊎ (IsLegal plan × IsRun command × IsLonger (2 ^ 50) input)
@@ -205,13 +212,13 @@ no_rose A B C none (inr b) = none (inr (inl b))
 
 -- of a command that reads its plan, where a legal one isn't carried out as a run
 module _ (command : Command) (plan : List ℕ) (input : Option (List ℕ)) (store : Option Image) (asks : Result Planned ConfigFault) (says : Says plan asks) (A B C D : Type 0) where
-  module _ (none : A ⊎ B ⊎ C → ⊥) (reads : ReadsPlan (Some command)) (no_dump : Some command ≡ Some Dump → ⊥) (no_run : IsRun (Some command) → IsLegal (Some plan) → ⊥) where
-    no_store : ((Some command ≡ Some Dump) × IsDamaged store) ⊎ (IsRun (Some command) × IsLegal (Some plan)) → ⊥
-    no_store (inl dumps) = no_dump dumps.0
+  module _ (none : A ⊎ B ⊎ C → ⊥) (reads : ReadsPlan (Some command)) (no_shows : ShowsStore (Some command) → ⊥) (no_run : IsRun (Some command) → IsLegal (Some plan) → ⊥) where
+    no_store : (ShowsStore (Some command) × IsDamaged store) ⊎ (IsRun (Some command) × IsLegal (Some plan)) → ⊥
+    no_store (inl shows) = no_shows shows.0
     no_store (inr runs) = no_run runs.0 runs.1
 
-    no_files : (Some command ≡ Some Dump) ⊎ (IsRun (Some command) × IsLegal (Some plan)) → ⊥
-    no_files (inl dumps) = no_dump dumps
+    no_files : ShowsStore (Some command) ⊎ (IsRun (Some command) × IsLegal (Some plan)) → ⊥
+    no_files (inl shows) = no_shows shows
     no_files (inr runs) = no_run runs.0 runs.1
 
     limit_for : (ReadsPlan (Some command) × IsLonger 65536 (Some plan)) ⊎ (IsLegal (Some plan) × IsRun (Some command) × IsLonger (2 ^ 50) input) → plan_status plan asks ≡ Limit
@@ -231,38 +238,39 @@ module _ (command : Command) (plan : List ℕ) (input : Option (List ℕ)) (stor
     plan_completes Gap c = let h = c.gap_only refl in absurd (no_run h.0 h.1)
     plan_completes Differs c = absurd c.possible_only
 
--- a dump reads neither plan nor input
-dump_completes : (plan input : Option (List ℕ)) (image : Image) (A B C D : Type 0) → (A ⊎ B ⊎ C ⊎ D → ⊥) → (status : Status) → Causes (Some Dump) plan input (Some image) A B C D status → (status ≡ dump_status (damage_of (image 2))) ⊎ (status ≡ Memory)
-dump_completes plan input image A B C D none Ok c = inl (sym (ap dump_status ((c.ok_only refl).1 refl image refl)))
-dump_completes plan input image A B C D none Usage c = absurd (let e : Some Dump ≡ None = c.usage_only refl in cc)
-dump_completes plan input image A B C D none BadPlan c = absurd (c.plan_only refl).0
-dump_completes plan input image A B C D none Store c = inl (sym (by (c.store_only refl)))
-  where
-    by : ((Some Dump ≡ Some Dump) × IsDamaged (Some image)) ⊎ (IsRun (Some Dump) × IsLegal plan) → dump_status (damage_of (image 2)) ≡ Store
-    by (inl dumps) = ap dump_status (dumps.1 image refl).1
-    by (inr runs) = absurd runs.0
-dump_completes plan input image A B C D none Read c = absurd (no_rose A B (C ⊎ D) none (c.read_only refl))
-dump_completes plan input image A B C D none Write c = absurd (none (inr (inr (inl (c.write_only refl)))))
-dump_completes plan input image A B C D none Disk c = absurd (none (inr (inr (inr (c.disk_only refl).1))))
-dump_completes plan input image A B C D none Limit c = absurd (by (c.limit_only refl))
-  where
-    by : (ReadsPlan (Some Dump) × IsLonger 65536 plan) ⊎ (IsLegal plan × IsRun (Some Dump) × IsLonger (2 ^ 50) input) → ⊥
-    by (inl longer) = longer.0
-    by (inr longer) = longer.1
-dump_completes plan input image A B C D none Memory c = inr refl
-dump_completes plan input image A B C D none Gap c = absurd (c.gap_only refl).0
-dump_completes plan input image A B C D none Differs c = absurd c.possible_only
+-- of a command that puts what the store has, which reads neither plan nor input
+module _ (command : Command) (plan input : Option (List ℕ)) (image : Image) (A B C D : Type 0) (shows : ShowsStore (Some command)) (no_plan : ReadsPlan (Some command) → ⊥) (no_run : IsRun (Some command) → ⊥) where
+  store_for : (ShowsStore (Some command) × IsDamaged (Some image)) ⊎ (IsRun (Some command) × IsLegal plan) → store_status (damage_of (image 2)) ≡ Store
+  store_for (inl damaged) = ap store_status (damaged.1 image refl).1
+  store_for (inr runs) = absurd (no_run runs.0)
+
+  no_limit : (ReadsPlan (Some command) × IsLonger 65536 plan) ⊎ (IsLegal plan × IsRun (Some command) × IsLonger (2 ^ 50) input) → ⊥
+  no_limit (inl longer) = no_plan longer.0
+  no_limit (inr longer) = no_run longer.1
+
+  store_completes : (A ⊎ B ⊎ C ⊎ D → ⊥) → (status : Status) → Causes (Some command) plan input (Some image) A B C D status → (status ≡ store_status (damage_of (image 2))) ⊎ (status ≡ Memory)
+  store_completes none Ok c = inl (sym (ap store_status ((c.ok_only refl).1 shows image refl)))
+  store_completes none Usage c = absurd (let e : Some command ≡ None = c.usage_only refl in cc)
+  store_completes none BadPlan c = absurd (no_plan (c.plan_only refl).0)
+  store_completes none Store c = inl (sym (store_for (c.store_only refl)))
+  store_completes none Read c = absurd (no_rose A B (C ⊎ D) none (c.read_only refl))
+  store_completes none Write c = absurd (none (inr (inr (inl (c.write_only refl)))))
+  store_completes none Disk c = absurd (none (inr (inr (inr (c.disk_only refl).1))))
+  store_completes none Limit c = absurd (no_limit (c.limit_only refl))
+  store_completes none Memory c = inr refl
+  store_completes none Gap c = absurd (no_run (c.gap_only refl).0)
+  store_completes none Differs c = absurd c.possible_only
 
 three : (A B C E : Type 0) → (A ⊎ B ⊎ C ⊎ E → ⊥) → A ⊎ B ⊎ C → ⊥
 three A B C E none (inl a) = none (inl a)
 three A B C E none (inr (inl b)) = none (inr (inl b))
 three A B C E none (inr (inr c)) = none (inr (inr (inl c)))
 
-four : (A B C D : Type 0) → (A ⊎ B ⊎ C ⊎ (ShowsStore (Some Dump) × D) → ⊥) → A ⊎ B ⊎ C ⊎ D → ⊥
-four A B C D none (inl a) = none (inl a)
-four A B C D none (inr (inl b)) = none (inr (inl b))
-four A B C D none (inr (inr (inl c))) = none (inr (inr (inl c)))
-four A B C D none (inr (inr (inr d))) = none (inr (inr (inr (tt, d))))
+four : (A B C D Shows : Type 0) → Shows → (A ⊎ B ⊎ C ⊎ (Shows × D) → ⊥) → A ⊎ B ⊎ C ⊎ D → ⊥
+four A B C D Shows shows none (inl a) = none (inl a)
+four A B C D Shows shows none (inr (inl b)) = none (inr (inl b))
+four A B C D Shows shows none (inr (inr (inl c))) = none (inr (inr (inl c)))
+four A B C D Shows shows none (inr (inr (inr d))) = none (inr (inr (inr (shows, d))))
 
 -- where no count rose, the status is the one that words, plan and store call for, or Memory
 pub completes : (command : Option Command) (plan input : Option (List ℕ)) (store : Option Image) (A B C D : Type 0) (status : Status) → Causes command plan input store A B C D status → (told : ToldPlan command plan store) → (A ⊎ B ⊎ C ⊎ (ShowsStore command × D) → ⊥) →
@@ -270,13 +278,16 @@ pub completes : (command : Option Command) (plan input : Option (List ℕ)) (sto
 completes (Some (Run first)) plan input store A B C D status causes told none =
     let P : Option (List ℕ) → Type 0 = λ v. Causes (Some (Run first)) v input store A B C D status in
     let Q : Option (List ℕ) → Type 0 = λ v. IsLegal v in
-    plan_completes (Run first) told.plan_bytes input store told.asks told.says A B C D (three A B C (ShowsStore (Some (Run first)) × D) none) tt (λ is. absurd (let e : Some (Run first) ≡ Some Dump = is in cc)) (λ run legal. no_carried_legal first plan store (subst Q (sym (told.plan_is tt)) legal) told) status (subst P (told.plan_is tt) causes)
+    plan_completes (Run first) told.plan_bytes input store told.asks told.says A B C D (three A B C (ShowsStore (Some (Run first)) × D) none) tt (λ shows. shows) (λ run legal. no_carried_legal first plan store (subst Q (sym (told.plan_is tt)) legal) told) status (subst P (told.plan_is tt) causes)
 completes (Some Check) plan input store A B C D status causes told none =
     let P : Option (List ℕ) → Type 0 = λ v. Causes (Some Check) v input store A B C D status in
-    plan_completes Check told.plan_bytes input store told.asks told.says A B C D (three A B C (ShowsStore (Some Check) × D) none) tt (λ is. absurd (let e : Some Check ≡ Some Dump = is in cc)) (λ run legal. run) status (subst P (told.plan_is tt) causes)
+    plan_completes Check told.plan_bytes input store told.asks told.says A B C D (three A B C (ShowsStore (Some Check) × D) none) tt (λ shows. shows) (λ run legal. run) status (subst P (told.plan_is tt) causes)
 completes (Some Dump) plan input store A B C D status causes told none =
     let P : Option Image → Type 0 = λ v. Causes (Some Dump) plan input v A B C D status in
-    dump_completes plan input told.image A B C D (four A B C D none) status (subst P (told.image_is tt) causes)
+    store_completes Dump plan input told.image A B C D tt (λ plan. plan) (λ run. run) (four A B C D (ShowsStore (Some Dump)) tt none) status (subst P (told.image_is tt) causes)
+completes (Some Info) plan input store A B C D status causes told none =
+    let P : Option Image → Type 0 = λ v. Causes (Some Info) plan input v A B C D status in
+    store_completes Info plan input told.image A B C D tt (λ plan. plan) (λ run. run) (four A B C D (ShowsStore (Some Info)) tt none) status (subst P (told.image_is tt) causes)
 completes None plan input store A B C D status causes told none = inl (causes.usage_always refl)
 
 -- what the plan's bytes say
@@ -333,8 +344,8 @@ runs command first is = subst (λ v. IsRun v) (sym is) tt
 
 -- what the causes of a call say of its plan
 
-pub store_legal : (command : Option Command) (plan : Option (List ℕ)) (store new : Option Image) (alone : Type 0) (Ends : List ℕ → Type 0) → ((command ≡ Some Dump) × IsDamaged store) ⊎ (IsRun command × ((last : List ℕ) × RefusesStore plan store new alone last × Ends last)) → ((command ≡ Some Dump) × IsDamaged store) ⊎ (IsRun command × IsLegal plan)
-store_legal command plan store new alone Ends (inl dumps) = inl dumps
+pub store_legal : (command : Option Command) (plan : Option (List ℕ)) (store new : Option Image) (alone : Type 0) (Ends : List ℕ → Type 0) → (ShowsStore command × IsDamaged store) ⊎ (IsRun command × ((last : List ℕ) × RefusesStore plan store new alone last × Ends last)) → (ShowsStore command × IsDamaged store) ⊎ (IsRun command × IsLegal plan)
+store_legal command plan store new alone Ends (inl shows) = inl shows
 store_legal command plan store new alone Ends (inr refuses) = inr (refuses.0, legal_of plan refuses.1.1.asks refuses.1.1.legal)
 
 pub gap_legal : (command : Option Command) (plan : Option (List ℕ)) (alone : Type 0) (Ends : List ℕ → Type 0) → (first : ℕ) × (command ≡ Some (Run first)) × ((last : List ℕ) × RefusesGap plan first alone last × Ends last) → IsRun command × IsLegal plan

@@ -1,4 +1,4 @@
--- What a refused run or dump says.
+-- What a refused run, dump or `info` says.
 use Rattle.std.proofs.Common.{◌≡◌, ◌⊎◌, inl, inr, ℕ, List, [], Some, Result, refl, ap, sym, ◌∙◌, subst}
 use Rattle.std.specs.Prelude as r
 use Rattle.rg_config.specs.Plans.{Planned}
@@ -11,15 +11,19 @@ use Rattle.rg_host.specs.Puts.{IsPrefix, StopsWith}
 use Rattle.rg_dump.specs.Dump.{damage_of}
 use Rattle.rg_dump.specs.declared.fault.DumpFault.{DumpFault}
 use Rattle.rg_dump.specs.declared.fault.DumpFault.TheVariants as dump
+use Rattle.rg_info.specs.Info.{IsInfo}
+use Rattle.rg_info.specs.declared.fault.InfoFault.{InfoFault}
+use Rattle.rg_info.specs.declared.fault.InfoFault.TheVariants as info
 use Rattle.rg_run.specs.Begun.{Begun}
 use Rattle.rg_run.specs.declared.fault.RunFault.{RunFault}
 use Rattle.rg_run.specs.declared.fault.RunFault.TheVariants as run
 use Rattle.railgun.specs.Stops.{StopsAt}
-use Rattle.railgun.specs.Call.{line_for, damage_line, schema_line, state_line, gap_line, EndsDump, EndsRun, IsPossible, ending_status, ending_line}
+use Rattle.railgun.specs.Call.{line_for, damage_line, schema_line, state_line, gap_line, EndsDump, EndsInfo, IsInfoAt, EndsRun, IsPossible, ending_status, ending_line}
 use Rattle.railgun.specs.Stored.{IsLastOf}
 use Rattle.railgun.specs.declared.ending.Ending.{Ending}
 use Rattle.railgun.specs.declared.status.Status.{Status}
 use Rattle.railgun.specs.declared.status.Status.TheVariants.{Ok, Usage, Plan as BadPlan, Store, Read, Write, Disk, Limit, Memory, Gap}
+use Rattle.railgun.proofs.Ends.{nothing_stops}
 
 -- A dump.
 
@@ -65,9 +69,62 @@ pub dump_stops : (cause : DumpFault) (status : Status) (last : List ℕ) (text :
 dump_stops cause status last text put ends (inl whole) = inl whole
 dump_stops cause status last text put ends (inr cut) = inr (write_is cause status last ends cut.0, cut.1)
 
--- the last line of a dump of a damaged log
+-- the last line of a dump or an `info` of a damaged log
 pub damage_told : (ending : Ending) (image : Image) → ((asks : Result Planned ConfigFault) → ending_line ending ≡ line_for asks image (ending_status ending)) → ending_status ending ≡ Store → ending_line ending ≡ damage_line (damage_of (image 2))
 damage_told ending image line is = line (r.Err config.Toml) ∙ ap (line_for (r.Err config.Toml) image) is
+
+-- An `info`: it ends at a fault as a dump does at the same one.
+
+abbrev pub of_info : InfoFault → DumpFault
+of_info info.Disk = dump.Disk
+of_info (info.Damaged place) = dump.Damaged place
+of_info info.Memory = dump.Memory
+of_info info.Write = dump.Write
+
+abbrev pub as_info : DumpFault → InfoFault
+as_info dump.Disk = info.Disk
+as_info (dump.Damaged place) = info.Damaged place
+as_info dump.Memory = info.Memory
+as_info dump.Write = info.Write
+
+info_back : (cause : InfoFault) → as_info (of_info cause) ≡ cause
+info_back info.Disk = refl
+info_back (info.Damaged place) = refl
+info_back info.Memory = refl
+info_back info.Write = refl
+
+pub info_is : (cause : InfoFault) (other : DumpFault) → of_info cause ≡ other → cause ≡ as_info other
+info_is cause other is = sym (info_back cause) ∙ ap as_info is
+
+pub info_ends : (cause : InfoFault) (status : Status) (last : List ℕ) → EndsInfo cause status last → EndsDump (of_info cause) status last
+info_ends info.Disk status last ends = ends
+info_ends (info.Damaged place) status last ends = ends
+info_ends info.Memory status last ends = ends
+info_ends info.Write status last ends = ends
+
+-- what was put of the lines on a store
+abbrev pub InfoStops : Status → Image → (List ℕ → Type 0) → Type 0
+InfoStops status image Put = (text : List (List ℕ)) × IsInfoAt status image text × ((put : List ℕ) × Put put × StopsAt (status ≡ Write) text put)
+
+-- nothing was put, and the status says so
+no_lines : (status wanted : Status) (image : Image) (Put : List ℕ → Type 0) → status ≡ wanted → IsInfoAt wanted image [] → Put [] → InfoStops status image Put
+no_lines status wanted image Put is none put = ([], subst (λ s. IsInfoAt s image []) (sym is) none, ([], put, nothing_stops (status ≡ Write) []))
+
+-- what a failed put leaves
+abbrev pub IsCutInfo : Image → (List ℕ → Type 0) → Type 0
+IsCutInfo image Put = (lines : List (List ℕ)) × (put : List ℕ) × IsInfo image lines × IsPrefix put (ended lines) × Put put
+
+pub info_stops : (cause : InfoFault) (status : Status) (last : List ℕ) (image : Image) (Put : List ℕ → Type 0) → EndsInfo cause status last → (cause ≡ info.Write → IsCutInfo image Put) → (cause ≡ info.Write) ⊎ Put [] → InfoStops status image Put
+info_stops info.Write status last image Put ends cut none =
+    let k = cut refl in
+    (k.0, subst (λ s. IsInfoAt s image k.0) (sym ends.0) k.2, (k.1, k.4, inr (ends.0, k.3)))
+info_stops info.Disk status last image Put ends cut (inl write) = absurd (let e : info.Disk ≡ info.Write = write in cc)
+info_stops info.Disk status last image Put ends cut (inr none) = no_lines status Disk image Put ends.0 refl none
+info_stops info.Memory status last image Put ends cut (inl write) = absurd (let e : info.Memory ≡ info.Write = write in cc)
+info_stops info.Memory status last image Put ends cut (inr none) = no_lines status Memory image Put ends.0 refl none
+info_stops (info.Damaged place) status last image Put ends cut (inl write) = absurd (let e : info.Damaged place ≡ info.Write = write in cc)
+info_stops (info.Damaged place) status last image Put (inl says) cut (inr none) = no_lines status Store image Put says.0 refl none
+info_stops (info.Damaged place) status last image Put (inr fails) cut (inr none) = no_lines status Memory image Put fails.0 refl none
 
 -- A run.
 

@@ -10,12 +10,15 @@ use Rattle.rg_config.specs.declared.fault.ConfigFault.TheVariants as fault
 use Rattle.rg_dump.specs.Dump.{dump_text, damage_of}
 use Rattle.rg_dump.specs.declared.fault.DumpFault.{DumpFault}
 use Rattle.rg_dump.specs.declared.fault.DumpFault.TheVariants as dump
+use Rattle.rg_info.specs.Info.{IsInfo}
+use Rattle.rg_info.specs.declared.fault.InfoFault.{InfoFault}
+use Rattle.rg_info.specs.declared.fault.InfoFault.TheVariants as info
 use Rattle.rg_bytes.specs.Numbers.{whole_of}
 use Rattle.rg_run.specs.declared.fault.RunFault.{RunFault}
 use Rattle.rg_run.specs.declared.fault.RunFault.TheVariants as run
 use Rattle.railgun.specs.Plan.{IsPlan, IsRefusal}
 use Rattle.railgun.specs.declared.command.Command.{Command}
-use Rattle.railgun.specs.declared.command.Command.TheVariants.{Run, Check, Dump}
+use Rattle.railgun.specs.declared.command.Command.TheVariants.{Run, Check, Dump, Info}
 use Rattle.railgun.specs.declared.ending.Ending.{Ending}
 use Rattle.railgun.specs.declared.ending.Refusal.{Refusal}
 use Rattle.railgun.specs.declared.ending.Ending.TheVariants as ending
@@ -28,10 +31,15 @@ abbrev pub when : Bool → Command → Option Command
 when true command = Some command
 when false command = None
 
--- the command of two words, of which the first is `check` or `dump`, if it is one of these
-abbrev pub with_file : Bool → Bool → Option Command
-with_file true dump = Some Check
-with_file false dump = when dump Dump
+-- the command of two words that is named `dump` or `info`, if it is one of these
+abbrev pub with_store : Bool → Bool → Option Command
+with_store true info = Some Dump
+with_store false info = when info Info
+
+-- the same, where it may be named `check` too
+abbrev pub with_file : Bool → Bool → Bool → Option Command
+with_file true dump info = Some Check
+with_file false dump info = with_store dump info
 
 -- a run whose first line has that offset, which is at most 2^61
 abbrev pub run_at : Option ℕ → Option Command
@@ -43,11 +51,11 @@ abbrev pub when_run : Bool → Option ℕ → Option Command
 when_run true first = run_at first
 when_run false first = None
 
--- what the words ask for: `check PLAN`, `dump STORE`, `run PLAN STORE`, or `run PLAN STORE FIRST`
+-- what the words ask for: `check PLAN`, `dump STORE`, `info STORE`, `run PLAN STORE`, or `run PLAN STORE FIRST`
 abbrev pub command_of : List (String Global) → Option Command
 command_of [] = None
 command_of (command ∷ []) = None
-command_of (command ∷ (file ∷ [])) = with_file (bytes_eq (string_bytes command) (codes "check")) (bytes_eq (string_bytes command) (codes "dump"))
+command_of (command ∷ (file ∷ [])) = with_file (bytes_eq (string_bytes command) (codes "check")) (bytes_eq (string_bytes command) (codes "dump")) (bytes_eq (string_bytes command) (codes "info"))
 command_of (command ∷ (plan ∷ (store ∷ []))) = when (bytes_eq (string_bytes command) (codes "run")) (Run 0)
 command_of (command ∷ (plan ∷ (store ∷ (first ∷ [])))) = when_run (bytes_eq (string_bytes command) (codes "run")) (whole_of (string_bytes first))
 command_of (command ∷ (plan ∷ (store ∷ (first ∷ (more ∷ words))))) = None
@@ -57,6 +65,7 @@ abbrev pub IsRun : Option Command → Type 0
 IsRun (Some (Run first)) = ⊤
 IsRun (Some Check) = ⊥
 IsRun (Some Dump) = ⊥
+IsRun (Some Info) = ⊥
 IsRun None = ⊥
 
 -- the call is a run, and its plan, of these bytes, is no longer than it may be and legal
@@ -65,6 +74,7 @@ CarriesRun (Some (Run first)) bytes (r.Ok plan) = length bytes ≤ 65536
 CarriesRun (Some (Run first)) bytes (r.Err refusal) = ⊥
 CarriesRun (Some Check) bytes asks = ⊥
 CarriesRun (Some Dump) bytes asks = ⊥
+CarriesRun (Some Info) bytes asks = ⊥
 CarriesRun None bytes asks = ⊥
 
 -- the words name a command that reads its plan
@@ -72,13 +82,15 @@ abbrev pub ReadsPlan : Option Command → Type 0
 ReadsPlan (Some (Run first)) = ⊤
 ReadsPlan (Some Check) = ⊤
 ReadsPlan (Some Dump) = ⊥
+ReadsPlan (Some Info) = ⊥
 ReadsPlan None = ⊥
 
--- the words name a command that puts what the store has
+-- the words name a command that puts what the store has, and reads neither a plan nor an input
 abbrev pub ShowsStore : Option Command → Type 0
 ShowsStore (Some (Run first)) = ⊥
 ShowsStore (Some Check) = ⊥
 ShowsStore (Some Dump) = ⊤
+ShowsStore (Some Info) = ⊤
 ShowsStore None = ⊥
 
 -- Where the call reads the plan, that tells its bytes, which are these. Where it puts what the store has, the host tells its image.
@@ -109,13 +121,42 @@ abbrev pub plan_text : Result Planned ConfigFault → List (List ℕ)
 plan_text (r.Ok plan) = check_text plan
 plan_text (r.Err refusal) = []
 
--- All lines that a call which carries out no run puts at status Ok, for what its words and its plan ask, and for the image of the store;
--- file 2 is the log.
-abbrev pub text_of : Option Command → Result Planned ConfigFault → Image → List (List ℕ)
-text_of (Some (Run first)) asks image = []
-text_of (Some Check) asks image = plan_text asks
-text_of (Some Dump) asks image = dump_text (image 2)
-text_of None asks image = []
+-- the lines that `info` puts of the store of that image: all there are, at Ok and where a put failed, and none at any other status
+abbrev pub IsInfoAt : Status → Image → List (List ℕ) → Type 0
+IsInfoAt Ok image text = IsInfo image text
+IsInfoAt Usage image text = text ≡ []
+IsInfoAt BadPlan image text = text ≡ []
+IsInfoAt Store image text = text ≡ []
+IsInfoAt Read image text = text ≡ []
+IsInfoAt Write image text = IsInfo image text
+IsInfoAt Disk image text = text ≡ []
+IsInfoAt Limit image text = text ≡ []
+IsInfoAt Memory image text = text ≡ []
+IsInfoAt Gap image text = text ≡ []
+IsInfoAt Differs image text = text ≡ []
+
+-- The text of a call which carries out no run, for what its words and its plan ask, and for the image of the store; file 2 is the log.
+-- At status Ok all of it is put, and at any other a front of it.
+abbrev pub IsTextOf : Option Command → Status → Result Planned ConfigFault → Image → List (List ℕ) → Type 0
+IsTextOf (Some (Run first)) status asks image text = text ≡ []
+IsTextOf (Some Check) status asks image text = text ≡ plan_text asks
+IsTextOf (Some Dump) status asks image text = text ≡ dump_text (image 2)
+IsTextOf (Some Info) status asks image text = IsInfoAt status image text
+IsTextOf None status asks image text = text ≡ []
+
+-- P holds of that text
+pub record ForText (command : Option Command) (status : Status) (asks : Result Planned ConfigFault) (image : Image) (P : List (List ℕ) → Type 0) : Type 0 where
+  pub text : List (List ℕ)
+  pub is : IsTextOf command status asks image text
+  pub holds : P text
+
+-- the lines that a command which puts what the store has puts of a damaged log, before the line that says the place
+abbrev pub before_damage : Option Command → Image → List (List ℕ)
+before_damage (Some (Run first)) image = []
+before_damage (Some Check) image = []
+before_damage (Some Dump) image = dump_text (image 2)
+before_damage (Some Info) image = []
+before_damage None image = []
 
 -- the line that refuses a plan, with its LF
 abbrev pub refusal_line : ConfigFault → List ℕ
@@ -227,6 +268,13 @@ EndsDump dump.Memory status last = Fails Memory status last
 EndsDump dump.Write status last = Fails Write status last
 EndsDump (dump.Damaged place) status last = SaysLine Store (damage_line (Some place)) status last
 
+-- of an `info` that ended at this fault
+abbrev pub EndsInfo : InfoFault → Status → List ℕ → Type 0
+EndsInfo info.Disk status last = Fails Disk status last
+EndsInfo info.Memory status last = Fails Memory status last
+EndsInfo info.Write status last = Fails Write status last
+EndsInfo (info.Damaged place) status last = SaysLine Store (damage_line (Some place)) status last
+
 -- of a run that ended at this fault, where the first line of the input has that offset
 abbrev pub EndsRun : ℕ → RunFault → Status → List ℕ → Type 0
 EndsRun first run.Disk status last = Fails Disk status last
@@ -294,14 +342,15 @@ status_by (r.Ok plan) = Ok
 abbrev pub plan_status : List ℕ → Result Planned ConfigFault → Status
 plan_status plan asks = if nat_lt 65536 (length plan) then Limit else status_by asks
 
--- the status of a dump, by the place where the log is damaged
-abbrev pub dump_status : Option ℕ → Status
-dump_status None = Ok
-dump_status (Some place) = Store
+-- the status of a command that puts what the store has, by the place where the log is damaged
+abbrev pub store_status : Option ℕ → Status
+store_status None = Ok
+store_status (Some place) = Store
 
 -- the status that words, plan and store call for, where no run is carried out
 abbrev pub status_for : Option Command → List ℕ → Result Planned ConfigFault → Image → Status
 status_for (Some (Run first)) plan asks image = plan_status plan asks
 status_for (Some Check) plan asks image = plan_status plan asks
-status_for (Some Dump) plan asks image = dump_status (damage_of (image 2))
+status_for (Some Dump) plan asks image = store_status (damage_of (image 2))
+status_for (Some Info) plan asks image = store_status (damage_of (image 2))
 status_for None plan asks image = Usage

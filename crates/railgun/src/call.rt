@@ -10,7 +10,7 @@ ghost use Rattle.rg_host.specs.Image.{Image};
 ghost use Rattle.rg_host.specs.Lines.{ended, lines_of};
 ghost use Rattle.rg_host.specs.Moments.{Moments, LeavesFiles};
 ghost use Rattle.rg_host.specs.Puts.{IsPrefix, Puts, IsPut, StopsWith};
-ghost use Rattle.rg_dump.specs.Dump.{dump_text, damage_of};
+ghost use Rattle.rg_dump.specs.Dump.{damage_of};
 ghost use Rattle.rg_course.specs.Accepted.{events_after};
 ghost use Rattle.rg_course.specs.Laws.{below};
 ghost use Rattle.rg_course.specs.Stores.{Promised};
@@ -20,7 +20,7 @@ ghost use Rattle.rg_run.specs.Begun.{course_for, lines_in};
 ghost use Rattle.rg_run.specs.Reading.{IsLonger, IsWithin};
 ghost use Rattle.railgun.specs.Plan.{IsPlan, IsRefusal};
 ghost use Rattle.railgun.specs.Stops.{StopsAt};
-ghost use Rattle.railgun.specs.Call.{command_of, IsRun, ReadsPlan, ShowsStore, CarriesRun, Told, ToldPlan, SaysSo, text_of, line_for, last_line as status_line, refusal_line, damage_line, status_after, line_after, ending_status, ending_line, ending_refusal, EndsBy, TellsFault, status_for, IsLegal, IsRefused, IsDamaged, IsUndamaged, IsPossible};
+ghost use Rattle.railgun.specs.Call.{command_of, IsRun, ReadsPlan, ShowsStore, CarriesRun, Told, ToldPlan, SaysSo, ForText, plan_text, before_damage, line_for, last_line as status_line, refusal_line, damage_line, status_after, line_after, ending_status, ending_line, ending_refusal, EndsBy, TellsFault, status_for, IsLegal, IsRefused, IsDamaged, IsUndamaged, IsPossible};
 ghost use Rattle.railgun.specs.Causes.{IsUnfit, RefusesStore, RefusesGap, EndsWith};
 ghost use Rattle.railgun.specs.Stored.{ToldRun, begun_in, IsLastOf, Went, IsComplete, EndsWhole, EndsAnswered, IsAtMostOneAhead, HasLastSaved, Resumes};
 
@@ -29,6 +29,7 @@ use crate::command::Command;
 use crate::dump::dump;
 use crate::ending::{Ending, Refusal};
 use crate::fault::CheckFault;
+use crate::info::info;
 use crate::report::TomlFault;
 use crate::running::run;
 use crate::status::Status;
@@ -117,8 +118,8 @@ fn check_with_plan<P: Source, H: Host>(
     plan: &mut P,
     host: &mut H,
 ) -> Result<(), Ending>
-    ensures completes { OnOk result ((told : ToldPlan (Some Command.Check) (P.left plan.old) (H.now host.old)) → Puts H.said H.clock H.since host.old host.new (ended (text_of (Some Command.Check) told.asks told.image))) }
-    ensures stops { IfErr result (λ ending. (told : ToldPlan (Some Command.Check) (P.left plan.old) (H.now host.old)) → (put : List ℕ) × Puts H.said H.clock H.since host.old host.new put × StopsAt (ending_status ending ≡ Status.Write) (text_of (Some Command.Check) told.asks told.image) put) }
+    ensures completes { OnOk result ((told : ToldPlan (Some Command.Check) (P.left plan.old) (H.now host.old)) → ForText (Some Command.Check) Status.Ok told.asks told.image (λ text. Puts H.said H.clock H.since host.old host.new (ended text))) }
+    ensures stops { IfErr result (λ ending. (told : ToldPlan (Some Command.Check) (P.left plan.old) (H.now host.old)) → ForText (Some Command.Check) (ending_status ending) told.asks told.image (λ text. (put : List ℕ) × Puts H.said H.clock H.since host.old host.new put × StopsAt (ending_status ending ≡ Status.Write) text put)) }
     ensures line { IfErr result (λ ending. (told : ToldPlan (Some Command.Check) (P.left plan.old) (H.now host.old)) → ending_line ending ≡ line_for told.asks told.image (ending_status ending)) }
     ensures legal { OnOk result (IsLegal (P.left plan.old)) }
     ensures refused { IfErr result (λ ending. ending_status ending ≡ Status.Plan → IsRefused (P.left plan.old)) }
@@ -199,12 +200,12 @@ fn run_command<P: Source, I: Source, H: Host>(
     ensures went { (first : ℕ) → command ≡ Command.Run first → (told : ToldRun (P.left plan.old) (I.left input.old) (H.now host.old) (H.may host.old) (H.said host.old)) → (from : ℕ)
         × Went H.may H.clock H.since H.said told.asks (begun_in told from first) told.ready.openable.image (I.left input.new) (Rose (P.faults plan.old) (P.faults plan.new)) (status_after result) (line_after result) host.old host.new }
     ensures never_damaged { IsRun (Some command) → ToldRun (P.left plan.old) (I.left input.old) (H.now host.old) (H.may host.old) (H.said host.old) → status_after result ≡ Status.Store → ⊥ }
-    ensures completes { OnOk result ((told : ToldPlan (Some command) (P.left plan.old) (H.now host.old)) → Puts H.said H.clock H.since host.old host.new (ended (text_of (Some command) told.asks told.image))) }
-    ensures stops { IfErr result (λ ending. (told : ToldPlan (Some command) (P.left plan.old) (H.now host.old)) → (put : List ℕ) × Puts H.said H.clock H.since host.old host.new put × StopsAt (ending_status ending ≡ Status.Write) (text_of (Some command) told.asks told.image) put) }
+    ensures completes { OnOk result ((told : ToldPlan (Some command) (P.left plan.old) (H.now host.old)) → ForText (Some command) Status.Ok told.asks told.image (λ text. Puts H.said H.clock H.since host.old host.new (ended text))) }
+    ensures stops { IfErr result (λ ending. (told : ToldPlan (Some command) (P.left plan.old) (H.now host.old)) → ForText (Some command) (ending_status ending) told.asks told.image (λ text. (put : List ℕ) × Puts H.said H.clock H.since host.old host.new put × StopsAt (ending_status ending ≡ Status.Write) text put)) }
     ensures line { IfErr result (λ ending. (told : ToldPlan (Some command) (P.left plan.old) (H.now host.old)) → ending_line ending ≡ line_for told.asks told.image (ending_status ending)) }
     ensures at_end { OnOk result (IsRun (Some command) → IsAtEnd (I.left input.new)) }
     ensures legal { OnOk result (ReadsPlan (Some command) → IsLegal (P.left plan.old)) }
-    ensures undamaged { OnOk result (command ≡ Command.Dump → IsUndamaged (H.now host.old)) }
+    ensures undamaged { OnOk result (ShowsStore (Some command) → IsUndamaged (H.now host.old)) }
     ensures within { OnOk result (IsRun (Some command) → IsWithin (2 ^ 50) (I.left input.old)) }
     ensures exact { (bytes : List ℕ) (asks : Planned) (v : Image) → IsRun (Some command) → P.left plan.old ≡ Some bytes → IsPlan bytes asks → H.now host.old ≡ Some v → IsUnfit asks v → OnOk result ⊥ }
     ensures refused { IfErr result (λ ending. ending_status ending ≡ Status.Plan → ReadsPlan (Some command) × IsRefused (P.left plan.old)) }
@@ -212,16 +213,16 @@ fn run_command<P: Source, I: Source, H: Host>(
     ensures read { IfErr result (λ ending. ending_status ending ≡ Status.Read → Rose (P.faults plan.old) (P.faults plan.new) ⊎ (IsLegal (P.left plan.old) × IsRun (Some command) × Rose (I.faults input.old) (I.faults input.new))) }
     ensures write { IfErr result (λ ending. ending_status ending ≡ Status.Write → (ReadsPlan (Some command) → IsLegal (P.left plan.old)) × Rose (H.out_faults host.old) (H.out_faults host.new)) }
     ensures limit { IfErr result (λ ending. ending_status ending ≡ Status.Limit → (ReadsPlan (Some command) × IsLonger 65536 (P.left plan.old)) ⊎ (IsLegal (P.left plan.old) × IsRun (Some command) × IsLonger (2 ^ 50) (I.left input.old))) }
-    ensures store { IfErr result (λ ending. ending_status ending ≡ Status.Store → ((command ≡ Command.Dump) × IsDamaged (H.now host.old)) ⊎ (IsRun (Some command) × RefusesStore (P.left plan.old) (H.now host.old) (H.now host.new) (input.new ≡ input.old) (ending_line ending))) }
-    ensures all_before { IfErr result (λ ending. ending_status ending ≡ Status.Store → command ≡ Command.Dump → ForSome (H.now host.old) (λ image. Puts H.said H.clock H.since host.old host.new (ended (dump_text (image 2))) × (ending_line ending ≡ damage_line (damage_of (image 2))))) }
+    ensures store { IfErr result (λ ending. ending_status ending ≡ Status.Store → (ShowsStore (Some command) × IsDamaged (H.now host.old)) ⊎ (IsRun (Some command) × RefusesStore (P.left plan.old) (H.now host.old) (H.now host.new) (input.new ≡ input.old) (ending_line ending))) }
+    ensures all_before { IfErr result (λ ending. ending_status ending ≡ Status.Store → ShowsStore (Some command) → ForSome (H.now host.old) (λ image. Puts H.said H.clock H.since host.old host.new (ended (before_damage (Some command) image)) × (ending_line ending ≡ damage_line (damage_of (image 2))))) }
     ensures gap { IfErr result (λ ending. ending_status ending ≡ Status.Gap → (first : ℕ) × (command ≡ Command.Run first) × RefusesGap (P.left plan.old) first (input.new ≡ input.old) (ending_line ending)) }
-    ensures disk { IfErr result (λ ending. ending_status ending ≡ Status.Disk → ((command ≡ Command.Dump) ⊎ (IsRun (Some command) × IsLegal (P.left plan.old))) × Rose (H.disk_faults host.old) (H.disk_faults host.new)) }
+    ensures disk { IfErr result (λ ending. ending_status ending ≡ Status.Disk → (ShowsStore (Some command) ⊎ (IsRun (Some command) × IsLegal (P.left plan.old))) × Rose (H.disk_faults host.old) (H.disk_faults host.new)) }
     ensures possible { IfErr result (λ ending. IsPossible (ending_status ending) × (ending_status ending ≢ Status.Ok) × (ending_status ending ≢ Status.Usage)) }
     ensures plan_first { IfErr result (λ ending. ending_status ending ≡ Status.Plan → input.new ≡ input.old) }
     ensures long_plan { (bytes : List ℕ) → P.left plan.old ≡ Some bytes → 65536 < length bytes → input.new ≡ input.old }
     ensures read_first { IfErr result (λ ending. ending_status ending ≡ Status.Read → (input.new ≡ input.old) ⊎ Rose (I.faults input.old) (I.faults input.new)) }
     ensures no_input { command ≡ Command.Check → input.new ≡ input.old }
-    ensures dump_alone { command ≡ Command.Dump → (plan.new ≡ plan.old) × (input.new ≡ input.old) }
+    ensures store_alone { ShowsStore (Some command) → (plan.new ≡ plan.old) × (input.new ≡ input.old) }
     ensures leaves { (IsRun (Some command) → ⊥) → LeavesFiles H.now H.may H.clock H.since host.old host.new }
     ensures later_out { H.out_faults host.old ≤ H.out_faults host.new }
 {
@@ -229,6 +230,7 @@ fn run_command<P: Source, I: Source, H: Host>(
         Command::Run(first) => run_with_plan(alloc, first, plan, input, host),
         Command::Check => check_with_plan(alloc, plan, host),
         Command::Dump => dump(alloc, host),
+        Command::Info => info(alloc, host),
     }
 }
 
@@ -261,12 +263,11 @@ fn run_words<P: Source, I: Source, H: Host>(
     host: &mut H,
     refusal: &mut Option<Refusal>,
 ) -> Status
-    ensures complete { result ≡ Status.Ok → (told : ToldPlan (command_of words.now) (P.left plan.old) (H.now host.old)) → Puts H.said H.clock H.since host.old host.new (ended (text_of (command_of words.now) told.asks told.image)) }
-    ensures put_so_far { (told : ToldPlan (command_of words.now) (P.left plan.old) (H.now host.old)) → (put : List ℕ) × Puts H.said H.clock H.since host.old host.new put
-        × IsPut (text_of (command_of words.now) told.asks told.image) (line_for told.asks told.image result) put }
-    ensures last_line_whole { (told : ToldPlan (command_of words.now) (P.left plan.old) (H.now host.old)) → ((put : List ℕ) × Puts H.said H.clock H.since host.old host.new put
-        × StopsWith (text_of (command_of words.now) told.asks told.image) (line_for told.asks told.image result) put)
-        ⊎ Rose (H.out_faults host.old) (H.out_faults host.new) }
+    ensures complete { result ≡ Status.Ok → (told : ToldPlan (command_of words.now) (P.left plan.old) (H.now host.old)) → ForText (command_of words.now) Status.Ok told.asks told.image (λ text. Puts H.said H.clock H.since host.old host.new (ended text)) }
+    ensures put_so_far { (told : ToldPlan (command_of words.now) (P.left plan.old) (H.now host.old)) → ForText (command_of words.now) result told.asks told.image (λ text.
+        (put : List ℕ) × Puts H.said H.clock H.since host.old host.new put × IsPut text (line_for told.asks told.image result) put) }
+    ensures last_line_whole { (told : ToldPlan (command_of words.now) (P.left plan.old) (H.now host.old)) → ForText (command_of words.now) result told.asks told.image (λ text.
+        ((put : List ℕ) × Puts H.said H.clock H.since host.old host.new put × StopsWith text (line_for told.asks told.image result) put) ⊎ Rose (H.out_faults host.old) (H.out_faults host.new)) }
     ensures complete_run { result ≡ Status.Ok → (first : ℕ) → command_of words.now ≡ Some (Command.Run first) → (told : ToldRun (P.left plan.old) (I.left input.old) (H.now host.old) (H.may host.old) (H.said host.old)) →
         (from : ℕ) × IsComplete told.asks (begun_in told from first) told.ready.openable.image (H.may host.new) (H.said host.new) }
     ensures every_moment { (first : ℕ) → command_of words.now ≡ Some (Command.Run first) → (told : ToldRun (P.left plan.old) (I.left input.old) (H.now host.old) (H.may host.old) (H.said host.old)) → (from : ℕ) × (last : List ℕ) × IsLastOf result (begun_in told from first) last
@@ -287,14 +288,14 @@ fn run_words<P: Source, I: Source, H: Host>(
     ensures gap_never { result ≡ Status.Gap → (first : ℕ) → command_of words.now ≡ Some (Command.Run first) → (told : ToldRun (P.left plan.old) (I.left input.old) (H.now host.old) (H.may host.old) (H.said host.old)) → next_offset told.ready.held < first }
     ensures usage_only { result ≡ Status.Usage → command_of words.now ≡ None }
     ensures usage_always { command_of words.now ≡ None → result ≡ Status.Usage }
-    ensures ok_only { result ≡ Status.Ok → (ReadsPlan (command_of words.now) → IsLegal (P.left plan.old)) × (IsRun (command_of words.now) → IsWithin (2 ^ 50) (I.left input.old)) × (command_of words.now ≡ Some Command.Dump → IsUndamaged (H.now host.old)) }
+    ensures ok_only { result ≡ Status.Ok → (ReadsPlan (command_of words.now) → IsLegal (P.left plan.old)) × (IsRun (command_of words.now) → IsWithin (2 ^ 50) (I.left input.old)) × (ShowsStore (command_of words.now) → IsUndamaged (H.now host.old)) }
     ensures plan_only { result ≡ Status.Plan → ReadsPlan (command_of words.now) × IsRefused (P.left plan.old) }
-    ensures store_only { result ≡ Status.Store → ((command_of words.now ≡ Some Command.Dump) × IsDamaged (H.now host.old))
+    ensures store_only { result ≡ Status.Store → (ShowsStore (command_of words.now) × IsDamaged (H.now host.old))
         ⊎ (IsRun (command_of words.now) × ((last : List ℕ) × RefusesStore (P.left plan.old) (H.now host.old) (H.now host.new) (input.new ≡ input.old) last × (EndsWith (H.said host.new) last ⊎ Rose (H.out_faults host.old) (H.out_faults host.new)))) }
     ensures store_always { IsRun (command_of words.now) → (bytes : List ℕ) (asks : Planned) (v : Image) → P.left plan.old ≡ Some bytes → IsPlan bytes asks → H.now host.old ≡ Some v → IsUnfit asks v → result ≢ Status.Ok }
     ensures gap_only { result ≡ Status.Gap → (first : ℕ) × (command_of words.now ≡ Some (Command.Run first))
         × ((last : List ℕ) × RefusesGap (P.left plan.old) first (input.new ≡ input.old) last × (EndsWith (H.said host.new) last ⊎ Rose (H.out_faults host.old) (H.out_faults host.new))) }
-    ensures disk_only { result ≡ Status.Disk → ((command_of words.now ≡ Some Command.Dump) ⊎ (IsRun (command_of words.now) × IsLegal (P.left plan.old))) × Rose (H.disk_faults host.old) (H.disk_faults host.new) }
+    ensures disk_only { result ≡ Status.Disk → (ShowsStore (command_of words.now) ⊎ (IsRun (command_of words.now) × IsLegal (P.left plan.old))) × Rose (H.disk_faults host.old) (H.disk_faults host.new) }
     ensures read_only { result ≡ Status.Read → Rose (P.faults plan.old) (P.faults plan.new) ⊎ (IsLegal (P.left plan.old) × IsRun (command_of words.now) × Rose (I.faults input.old) (I.faults input.new)) }
     ensures write_only { result ≡ Status.Write → (ReadsPlan (command_of words.now) → IsLegal (P.left plan.old)) × Rose (H.out_faults host.old) (H.out_faults host.new) }
     ensures limit_only { result ≡ Status.Limit → (ReadsPlan (command_of words.now) × IsLonger 65536 (P.left plan.old)) ⊎ (IsLegal (P.left plan.old) × IsRun (command_of words.now) × IsLonger (2 ^ 50) (I.left input.old)) }
@@ -306,9 +307,9 @@ fn run_words<P: Source, I: Source, H: Host>(
     ensures long_plan { (bytes : List ℕ) → P.left plan.old ≡ Some bytes → 65536 < length bytes → input.new ≡ input.old }
     ensures read_first { result ≡ Status.Read → (input.new ≡ input.old) ⊎ Rose (I.faults input.old) (I.faults input.new) }
     ensures check_alone { command_of words.now ≡ Some Command.Check → input.new ≡ input.old }
-    ensures dump_alone { command_of words.now ≡ Some Command.Dump → (plan.new ≡ plan.old) × (input.new ≡ input.old) }
+    ensures store_alone { ShowsStore (command_of words.now) → (plan.new ≡ plan.old) × (input.new ≡ input.old) }
     ensures files_stay { (IsRun (command_of words.now) → ⊥) → LeavesFiles H.now H.may H.clock H.since host.old host.new }
-    ensures rows_before_damage { result ≡ Status.Store → command_of words.now ≡ Some Command.Dump → ForSome (H.now host.old) (λ image. Puts H.said H.clock H.since host.old host.new (ended (dump_text (image 2)) ++ damage_line (damage_of (image 2)))) ⊎ Rose (H.out_faults host.old) (H.out_faults host.new) }
+    ensures rows_before_damage { result ≡ Status.Store → ShowsStore (command_of words.now) → ForSome (H.now host.old) (λ image. Puts H.said H.clock H.since host.old host.new (ended (before_damage (command_of words.now) image) ++ damage_line (damage_of (image 2)))) ⊎ Rose (H.out_faults host.old) (H.out_faults host.new) }
 {
     *refusal = None;
     let Some(command) = Command::named(words) else {
@@ -324,8 +325,8 @@ fn run_words<P: Source, I: Source, H: Host>(
 }
 
 /// Does all that the program does: with the words `run PLAN STORE` it answers the input by the plan over
-/// the store, with `check PLAN` it prints the plan, and with `dump STORE` the log of the store, which is
-/// file 2 of the host.
+/// the store, with `check PLAN` it prints the plan, with `dump STORE` the log of the store, which is file 2
+/// of the host, and with `info STORE` how much the log and the two slots, files 0 and 1, have.
 ///
 /// `words` are those after the program's name; behind a run's store may stand the offset of the input's
 /// first line, at most 2^61, which must be at most the store's next one. At most 65,536 bytes of `plan`
@@ -333,7 +334,8 @@ fn run_words<P: Source, I: Source, H: Host>(
 /// with what the store has, the answer of each line from the store's next offset on, in order, each with
 /// the marks that are due, and at last what is stored and saved and `done LINES EVENTS`; what a check
 /// puts out is each query and then the task plan; what a dump puts out is the schema's text and then each
-/// event as a row. Another status than Ok puts its last line behind whole lines of these.
+/// event as a row; what `info` puts out is six lines, once the whole log was read. Another status than Ok
+/// puts its last line behind whole lines of these.
 pub fn railgun<P: Source, I: Source, H: Host>(
     alloc: Global,
     words: &[String],
@@ -344,16 +346,16 @@ pub fn railgun<P: Source, I: Source, H: Host>(
 ) -> Status
     // A call that carries out no run: at status Ok just the text that the definitions give was put out.
     ensures complete { result ≡ Status.Ok → (told : Told (command_of words.now) (P.left plan.old) (H.now host.old)) →
-        SaysSo told.plan_bytes (λ asks. (CarriesRun (command_of words.now) told.plan_bytes asks → ⊥) → Puts H.said H.clock H.since host.old host.new (ended (text_of (command_of words.now) asks told.image))) }
+        SaysSo told.plan_bytes (λ asks. (CarriesRun (command_of words.now) told.plan_bytes asks → ⊥) → ForText (command_of words.now) Status.Ok asks told.image (λ text. Puts H.said H.clock H.since host.old host.new (ended text))) }
 
-    // At each status, a front of that text was put out, or whole lines of it and a front of the status's last line.
-    ensures put_so_far { (told : Told (command_of words.now) (P.left plan.old) (H.now host.old)) → SaysSo told.plan_bytes (λ asks. (CarriesRun (command_of words.now) told.plan_bytes asks → ⊥) →
-        (put : List ℕ) × Puts H.said H.clock H.since host.old host.new put × IsPut (text_of (command_of words.now) asks told.image) (line_for asks told.image result) put) }
+    // At each status, a front of that text was put out, or whole lines of it and a front of the status's last line. Where `info` doesn't
+    // read the store to its end, no line of it comes before that last one.
+    ensures put_so_far { (told : Told (command_of words.now) (P.left plan.old) (H.now host.old)) → SaysSo told.plan_bytes (λ asks. (CarriesRun (command_of words.now) told.plan_bytes asks → ⊥) → ForText (command_of words.now) result asks told.image (λ text.
+        (put : List ℕ) × Puts H.said H.clock H.since host.old host.new put × IsPut text (line_for asks told.image result) put)) }
 
     // Unless a put failed, that last line is whole.
-    ensures last_line_whole { (told : Told (command_of words.now) (P.left plan.old) (H.now host.old)) → SaysSo told.plan_bytes (λ asks. (CarriesRun (command_of words.now) told.plan_bytes asks → ⊥) →
-        ((put : List ℕ) × Puts H.said H.clock H.since host.old host.new put × StopsWith (text_of (command_of words.now) asks told.image) (line_for asks told.image result) put)
-        ⊎ Rose (H.out_faults host.old) (H.out_faults host.new)) }
+    ensures last_line_whole { (told : Told (command_of words.now) (P.left plan.old) (H.now host.old)) → SaysSo told.plan_bytes (λ asks. (CarriesRun (command_of words.now) told.plan_bytes asks → ⊥) → ForText (command_of words.now) result asks told.image (λ text.
+        ((put : List ℕ) × Puts H.said H.clock H.since host.old host.new put × StopsWith text (line_for asks told.image result) put) ⊎ Rose (H.out_faults host.old) (H.out_faults host.new))) }
 
     // A run over a store that is ready: at status Ok all of its text was put out, and each image that might be left is truthful and has
     // just the events that it accepts.
@@ -393,14 +395,14 @@ pub fn railgun<P: Source, I: Source, H: Host>(
     // Each status has its cause. Memory alone is free.
     ensures usage_only { result ≡ Status.Usage → command_of words.now ≡ None }
     ensures usage_always { command_of words.now ≡ None → result ≡ Status.Usage }
-    ensures ok_only { result ≡ Status.Ok → (ReadsPlan (command_of words.now) → IsLegal (P.left plan.old)) × (IsRun (command_of words.now) → IsWithin (2 ^ 50) (I.left input.old)) × (command_of words.now ≡ Some Command.Dump → IsUndamaged (H.now host.old)) }
+    ensures ok_only { result ≡ Status.Ok → (ReadsPlan (command_of words.now) → IsLegal (P.left plan.old)) × (IsRun (command_of words.now) → IsWithin (2 ^ 50) (I.left input.old)) × (ShowsStore (command_of words.now) → IsUndamaged (H.now host.old)) }
     ensures plan_only { result ≡ Status.Plan → ReadsPlan (command_of words.now) × IsRefused (P.left plan.old) }
-    ensures store_only { result ≡ Status.Store → ((command_of words.now ≡ Some Command.Dump) × IsDamaged (H.now host.old))
+    ensures store_only { result ≡ Status.Store → (ShowsStore (command_of words.now) × IsDamaged (H.now host.old))
         ⊎ (IsRun (command_of words.now) × ((last : List ℕ) × RefusesStore (P.left plan.old) (H.now host.old) (H.now host.new) (input.new ≡ input.old) last × (EndsWith (H.said host.new) last ⊎ Rose (H.out_faults host.old) (H.out_faults host.new)))) }
     ensures store_always { IsRun (command_of words.now) → (bytes : List ℕ) (asks : Planned) (v : Image) → P.left plan.old ≡ Some bytes → IsPlan bytes asks → H.now host.old ≡ Some v → IsUnfit asks v → result ≢ Status.Ok }
     ensures gap_only { result ≡ Status.Gap → (first : ℕ) × (command_of words.now ≡ Some (Command.Run first))
         × ((last : List ℕ) × RefusesGap (P.left plan.old) first (input.new ≡ input.old) last × (EndsWith (H.said host.new) last ⊎ Rose (H.out_faults host.old) (H.out_faults host.new))) }
-    ensures disk_only { result ≡ Status.Disk → ((command_of words.now ≡ Some Command.Dump) ⊎ (IsRun (command_of words.now) × IsLegal (P.left plan.old))) × Rose (H.disk_faults host.old) (H.disk_faults host.new) }
+    ensures disk_only { result ≡ Status.Disk → (ShowsStore (command_of words.now) ⊎ (IsRun (command_of words.now) × IsLegal (P.left plan.old))) × Rose (H.disk_faults host.old) (H.disk_faults host.new) }
     ensures read_only { result ≡ Status.Read → Rose (P.faults plan.old) (P.faults plan.new) ⊎ (IsLegal (P.left plan.old) × IsRun (command_of words.now) × Rose (I.faults input.old) (I.faults input.new)) }
     ensures write_only { result ≡ Status.Write → (ReadsPlan (command_of words.now) → IsLegal (P.left plan.old)) × Rose (H.out_faults host.old) (H.out_faults host.new) }
     ensures limit_only { result ≡ Status.Limit → (ReadsPlan (command_of words.now) × IsLonger 65536 (P.left plan.old)) ⊎ (IsLegal (P.left plan.old) × IsRun (command_of words.now) × IsLonger (2 ^ 50) (I.left input.old)) }
@@ -413,20 +415,20 @@ pub fn railgun<P: Source, I: Source, H: Host>(
     ensures refusal_told { result ≡ Status.Plan → TellsFault (P.left plan.old) refusal.new }
 
     // The words are looked at before the plan is read, the plan before the store, and the store before the input: where the plan is
-    // refused, too long or can't be read, the input is left alone. Only a run reads it.
+    // refused, too long or can't be read, the input is left alone. Only a run reads it, and only a run or a check the plan.
     ensures usage_first { result ≡ Status.Usage → (plan.new ≡ plan.old) × (input.new ≡ input.old) }
     ensures plan_first { result ≡ Status.Plan → input.new ≡ input.old }
     ensures long_plan { (bytes : List ℕ) → P.left plan.old ≡ Some bytes → 65536 < length bytes → input.new ≡ input.old }
     ensures read_first { result ≡ Status.Read → (input.new ≡ input.old) ⊎ Rose (I.faults input.old) (I.faults input.new) }
     ensures check_alone { command_of words.now ≡ Some Command.Check → input.new ≡ input.old }
-    ensures dump_alone { command_of words.now ≡ Some Command.Dump → (plan.new ≡ plan.old) × (input.new ≡ input.old) }
+    ensures store_alone { ShowsStore (command_of words.now) → (plan.new ≡ plan.old) × (input.new ≡ input.old) }
 
     // Only a run may write a file: for any other words the files stay, and at each moment a crash might have left of them
     // what it could leave at the start.
     ensures files_stay { (IsRun (command_of words.now) → ⊥) → LeavesFiles H.now H.may H.clock H.since host.old host.new }
 
-    // A damaged log is dumped up to its first damaged place, which the last line says, unless a put failed.
-    ensures rows_before_damage { result ≡ Status.Store → command_of words.now ≡ Some Command.Dump → ForSome (H.now host.old) (λ image. Puts H.said H.clock H.since host.old host.new (ended (dump_text (image 2)) ++ damage_line (damage_of (image 2)))) ⊎ Rose (H.out_faults host.old) (H.out_faults host.new) }
+    // A damaged log is dumped up to its first damaged place, which the last line says, unless a put failed; `info` puts that line alone.
+    ensures rows_before_damage { result ≡ Status.Store → ShowsStore (command_of words.now) → ForSome (H.now host.old) (λ image. Puts H.said H.clock H.since host.old host.new (ended (before_damage (command_of words.now) image) ++ damage_line (damage_of (image 2)))) ⊎ Rose (H.out_faults host.old) (H.out_faults host.new) }
 
     // Where no count of faults rose, the status is the one that words, plan and store call for, or Memory.
     ensures completes { (told : Told (command_of words.now) (P.left plan.old) (H.now host.old)) →

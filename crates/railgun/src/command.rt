@@ -1,6 +1,6 @@
-ghost use Rattle.std.specs.Prelude.{◌≡◌, ◌≤◌, ◌^◌, ℕ, Some, true};
+ghost use Rattle.std.specs.Prelude.{◌≡◌, ◌≤◌, ◌^◌, ℕ, Some, true, codes, bytes_eq};
 ghost use Rattle.rg_bytes.specs.Numbers.{whole_of};
-ghost use Rattle.railgun.specs.Call.{command_of, run_at};
+ghost use Rattle.railgun.specs.Call.{command_of, with_file, run_at};
 
 use rg_bytes::read_whole;
 
@@ -16,6 +16,23 @@ pub enum Command {
     Check,
     /// `dump STORE`
     Dump,
+    /// `info STORE`
+    Info,
+}
+
+/// The command of two words of which this is the first, where they are one.
+fn with_file(command: &str) -> Option<Command>
+    ensures { result ≡ with_file (bytes_eq command.now (codes "check")) (bytes_eq command.now (codes "dump")) (bytes_eq command.now (codes "info")) }
+{
+    if command == "check" {
+        Some(Command::Check)
+    } else if command == "dump" {
+        Some(Command::Dump)
+    } else if command == "info" {
+        Some(Command::Info)
+    } else {
+        None
+    }
 }
 
 /// The run whose first line has the offset that this text says, where it says one.
@@ -34,8 +51,7 @@ impl Command {
         ensures { result ≡ command_of words.now }
     {
         match words {
-            [command, _] if command.as_str() == "check" => Some(Command::Check),
-            [command, _] if command.as_str() == "dump" => Some(Command::Dump),
+            [command, _] => with_file(command.as_str()),
             [command, _, _] if command.as_str() == "run" => Some(Command::Run(0)),
             [command, _, _, first] if command.as_str() == "run" => run_from(first.as_bytes()),
             _ => None,

@@ -10,6 +10,7 @@ mod command;
 mod dump;
 mod ending;
 mod fault;
+mod info;
 mod listing;
 mod real;
 mod refused;
@@ -40,7 +41,7 @@ fn access_of(words: &[String]) -> Access
 {
     match Command::named(words) {
         Some(Command::Run(_)) => Access::Write,
-        Some(Command::Check | Command::Dump) | None => Access::Read,
+        Some(Command::Check | Command::Dump | Command::Info) | None => Access::Read,
     }
 }
 

@@ -5,6 +5,7 @@ use std::test::Fail;
 
 mod bounds;
 mod dumped;
+mod informed;
 mod stored;
 
 /// What a call finds: its words, the bytes of plan and input, and which of their reads fail.

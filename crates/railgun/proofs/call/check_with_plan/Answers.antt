@@ -3,7 +3,7 @@ use Rattle.rg_host.specs.Puts.{Puts}
 use Rattle.rg_host.proofs.PutRuns.{puts-nothing}
 use Rattle.rg_host.proofs.Runs.{leaves_files-none}
 use Rattle.rg_config.specs.Plans.{planned}
-use Rattle.railgun.specs.Call.{ending_status, ending_line}
+use Rattle.railgun.specs.Call.{plan_text, ending_status, ending_line}
 use Rattle.railgun.specs.declared.command.Command.TheVariants.{Check}
 use Rattle.railgun.specs.declared.status.Status.TheVariants.{Write, Memory}
 use Rattle.railgun.specs.declared.fault.CheckFault.TheVariants as fault
@@ -14,7 +14,11 @@ use Rattle.railgun.proofs.call.check_with_plan.Goals as goal
 
 pub returns-in-Err-clause-stops : goal.returns-in-Err-clause-stops
 returns-in-Err-clause-stops g c = λ told.
-    ([], puts-nothing g.H.Host.said g.H.Host.clock g.H.Host.since _ (λ t u m. g.met.H.Host.sinks _ t u m) (λ m. g.met.H.Host.only_now _ m), nothing_stops (ending_status c.in-Err.ending ≡ Write) _)
+    record {
+      text = plan_text told.asks;
+      is = refl;
+      holds = ([], puts-nothing g.H.Host.said g.H.Host.clock g.H.Host.since _ (λ t u m. g.met.H.Host.sinks _ t u m) (λ m. g.met.H.Host.only_now _ m), nothing_stops (ending_status c.in-Err.ending ≡ Write) _);
+    }
 
 pub returns-in-Err-clause-line : goal.returns-in-Err-clause-line
 returns-in-Err-clause-line g c = λ told.
@@ -31,9 +35,9 @@ returns-in-Ok-check-clause-completes g c = λ told. checked_all _ _ (planned c.i
 pub returns-in-Err-Memory-clause-stops : goal.returns-in-Err-Memory-clause-stops
 returns-in-Err-Memory-clause-stops g c = λ told.
     let s = c.in-Err-Memory.ensures.stops in
-    checked_part _ _ (planned c.in-Ok.asked) (Puts g.H.Host.said g.H.Host.clock g.H.Host.since c.args.host.now c.check.new.host) (Memory ≡ Write) c.in-Ok.ensures.legal (s.0, s.1, stops_for (c.in-Err-Memory.field-0 ≡ fault.Write) (Memory ≡ Write) (λ e. absurd (let m : fault.Memory ≡ fault.Write = sym c.in-Err-Memory.field-0-is ∙ e in cc)) _ s.0 s.2) told
+    checked_part _ _ (planned c.in-Ok.asked) (Puts g.H.Host.said g.H.Host.clock g.H.Host.since c.args.host.now c.check.new.host) (Memory ≡ Write) Memory c.in-Ok.ensures.legal (s.0, s.1, stops_for (c.in-Err-Memory.field-0 ≡ fault.Write) (Memory ≡ Write) (λ e. absurd (let m : fault.Memory ≡ fault.Write = sym c.in-Err-Memory.field-0-is ∙ e in cc)) _ s.0 s.2) told
 
 pub returns-clause-stops : goal.returns-clause-stops
 returns-clause-stops g c = λ told.
     let s = c.in-Err-Write.ensures.stops in
-    checked_part _ _ (planned c.in-Ok.asked) (Puts g.H.Host.said g.H.Host.clock g.H.Host.since c.args.host.now c.check.new.host) (Write ≡ Write) c.in-Ok.ensures.legal (s.0, s.1, stops_for (c.in-Err-Write.field-0 ≡ fault.Write) (Write ≡ Write) (λ e. refl) _ s.0 s.2) told
+    checked_part _ _ (planned c.in-Ok.asked) (Puts g.H.Host.said g.H.Host.clock g.H.Host.since c.args.host.now c.check.new.host) (Write ≡ Write) Write c.in-Ok.ensures.legal (s.0, s.1, stops_for (c.in-Err-Write.field-0 ≡ fault.Write) (Write ≡ Write) (λ e. refl) _ s.0 s.2) told

@@ -1,6 +1,10 @@
-use Rattle.std.proofs.Common.{◌≡◌, sym, ◌∙◌}
+use Rattle.std.proofs.Common.{◌≡◌, [], refl, sym, ◌∙◌}
+use Rattle.rg_dump.specs.Dump.{dump_text}
+use Rattle.railgun.specs.Call.{ending_status}
 use Rattle.railgun.specs.declared.command.Command.TheVariants.{Run}
-use Rattle.railgun.proofs.Inputs.{on_errs}
+use Rattle.railgun.specs.declared.status.Status.TheVariants.{Write}
+use Rattle.railgun.proofs.Ends.{nothing_stops}
+use Rattle.railgun.proofs.Inputs.{on_err, on_errs, on_ok}
 use Rattle.railgun.proofs.Refusing.{damage_told}
 use Rattle.railgun.proofs.call.run_command.Goals as goal
 
@@ -9,6 +13,13 @@ returns-in-Run-clause-went g c = λ n is told.
     let e : Run n ≡ Run c.in-Run.first = sym is ∙ c.in-Run.is in
     let same : n ≡ c.in-Run.first = cc in
     rw same (c.run_with_plan.ensures.went told)
+
+pub returns-in-Run-clause-completes : goal.returns-in-Run-clause-completes
+returns-in-Run-clause-completes g c = rw c.in-Run.is (on_ok c.run_with_plan.result _ _ (λ never told. absurd (never told)) c.run_with_plan.ensures.completes)
+
+pub returns-in-Run-clause-stops : goal.returns-in-Run-clause-stops
+returns-in-Run-clause-stops g c =
+    rw c.in-Run.is (on_err c.run_with_plan.result _ _ (λ ending stops told. record { text = []; is = refl; holds = ([], stops told, nothing_stops (ending_status ending ≡ Write) []) }) c.run_with_plan.ensures.stops)
 
 pub returns-in-Run-clause-line : goal.returns-in-Run-clause-line
 returns-in-Run-clause-line g c = rw c.in-Run.is c.run_with_plan.ensures.line
@@ -25,6 +36,26 @@ returns-in-Check-clause-stops g c = rw c.in-Check.is c.check_with_plan.ensures.s
 pub returns-in-Check-clause-line : goal.returns-in-Check-clause-line
 returns-in-Check-clause-line g c = rw c.in-Check.is c.check_with_plan.ensures.line
 
+pub returns-in-Dump-clause-completes : goal.returns-in-Dump-clause-completes
+returns-in-Dump-clause-completes g c =
+    rw c.in-Dump.is (on_ok c.dump.result _ _ (λ done told. record { text = dump_text (told.image 2); is = refl; holds = done told.image (told.image_is tt) }) c.dump.ensures.completes)
+
+pub returns-in-Dump-clause-stops : goal.returns-in-Dump-clause-stops
+returns-in-Dump-clause-stops g c =
+    rw c.in-Dump.is (on_err c.dump.result _ _ (λ ending stops told. record { text = dump_text (told.image 2); is = refl; holds = stops told.image (told.image_is tt) }) c.dump.ensures.stops)
+
 pub returns-in-Dump-clause-all_before : goal.returns-in-Dump-clause-all_before
 returns-in-Dump-clause-all_before g c =
-    on_errs c.dump.result _ _ _ (λ ending before line is dumps image told. (before is image told, damage_told ending image (line image told) is)) c.dump.ensures.all_before c.dump.ensures.line
+    rw c.in-Dump.is (on_errs c.dump.result _ _ _ (λ ending before line is shows image told. (before is image told, damage_told ending image (line image told) is)) c.dump.ensures.all_before c.dump.ensures.line)
+
+pub returns-in-Info-clause-completes : goal.returns-in-Info-clause-completes
+returns-in-Info-clause-completes g c =
+    rw c.in-Info.is (on_ok c.info.result _ _ (λ done told. let t = done told.image (told.image_is tt) in record { text = t.0; is = t.1; holds = t.2 }) c.info.ensures.completes)
+
+pub returns-in-Info-clause-stops : goal.returns-in-Info-clause-stops
+returns-in-Info-clause-stops g c =
+    rw c.in-Info.is (on_err c.info.result _ _ (λ ending stops told. let t = stops told.image (told.image_is tt) in record { text = t.0; is = t.1; holds = t.2 }) c.info.ensures.stops)
+
+pub returns-in-Info-clause-all_before : goal.returns-in-Info-clause-all_before
+returns-in-Info-clause-all_before g c =
+    rw c.in-Info.is (on_errs c.info.result _ _ _ (λ ending none line is shows image told. (none is, damage_told ending image (line image told) is)) c.info.ensures.none_before c.info.ensures.line)

@@ -1,15 +1,28 @@
-use Rattle.std.proofs.Common.{◌≡◌, sym, ◌∙◌, ap, subst, inl, inr, ⊎_elim, Some, [], refl, List, ℕ, Option}
+use Rattle.std.proofs.Common.{◌≡◌, sym, ◌∙◌, ap, subst, inl, inr, ⊎_elim, Some, None, [], refl, List, ℕ, Option}
 use Rattle.rg_host.specs.Image.{Image}
 use Rattle.rg_host.specs.Puts.{IsPrefix, Puts}
 use Rattle.rg_host.proofs.PutRuns.{puts-nothing, puts-then}
 use Rattle.rg_host.proofs.Runs.{leaves_files-none, leaves_files-then}
-use Rattle.railgun.specs.Call.{command_of, line_for, ending_status, ending_line}
+use Rattle.railgun.specs.Call.{command_of, line_for, last_line, ending_status, ending_line}
 use Rattle.railgun.specs.Causes.{RefusesStore}
-use Rattle.railgun.specs.declared.command.Command.TheVariants.{Run, Dump}
-use Rattle.railgun.specs.declared.status.Status.TheVariants.{Ok, Write}
-use Rattle.railgun.proofs.Ends.{all_put, all_front, put_then, whole_then, write_line, rose_first, rose_last, command_is}
+use Rattle.railgun.specs.declared.command.Command.TheVariants.{Run}
+use Rattle.railgun.specs.declared.status.Status.TheVariants.{Ok, Usage, Write}
+use Rattle.railgun.proofs.Ends.{all_put, all_front, front_alone, line_alone, put_then, whole_then, write_line, rose_first, rose_last, command_is}
 use Rattle.railgun.proofs.Telling.{all_promised, one_ahead, slots_saved, ends_whole, ends_answered, completed, resumed}
 use Rattle.railgun.proofs.call.run_words.Goals as goal
+
+-- the words are no form of a command
+
+pub returns-in_default-clause-put_so_far : goal.returns-in_default-clause-put_so_far
+returns-in_default-clause-put_so_far g c =
+    let form : command_of c.args.words.now ≡ None = sym c.named.ensures ∙ c.in_default.is in
+    let part = c.end.ensures.part in
+    rw (form, c.end.ensures.status) (λ told. record { text = []; is = refl; holds = (part.0, part.2, front_alone (last_line Usage) part.0 part.1) })
+
+pub returns-in_default-clause-last_line_whole : goal.returns-in_default-clause-last_line_whole
+returns-in_default-clause-last_line_whole g c =
+    let form : command_of c.args.words.now ≡ None = sym c.named.ensures ∙ c.in_default.is in
+    rw (form, c.end.ensures.status) (λ told. record { text = []; is = refl; holds = ⊎_elim (λ whole. inl (_, whole, line_alone (last_line Usage))) (λ rose. inr rose) c.end.ensures.whole })
 
 -- the command came to its end
 
@@ -21,12 +34,16 @@ returns-in-Ok-clause-complete g c =
 pub returns-in-Ok-clause-put_so_far : goal.returns-in-Ok-clause-put_so_far
 returns-in-Ok-clause-put_so_far g c =
     let form : command_of c.args.words.now ≡ Some c.in-Some.command = sym c.named.ensures ∙ c.in-Some.is in
-    rw form (λ told. (_, c.in-Ok.ensures.completes told, all_front _))
+    rw form (λ told.
+    let text = c.in-Ok.ensures.completes told in
+    record { text = text.text; is = text.is; holds = (_, text.holds, all_front _) })
 
 pub returns-in-Ok-clause-last_line_whole : goal.returns-in-Ok-clause-last_line_whole
 returns-in-Ok-clause-last_line_whole g c =
     let form : command_of c.args.words.now ≡ Some c.in-Some.command = sym c.named.ensures ∙ c.in-Some.is in
-    rw form (λ told. inl (_, c.in-Ok.ensures.completes told, all_put _))
+    rw form (λ told.
+    let text = c.in-Ok.ensures.completes told in
+    record { text = text.text; is = text.is; holds = inl (_, text.holds, all_put _) })
 
 pub returns-in-Ok-clause-complete_run : goal.returns-in-Ok-clause-complete_run
 returns-in-Ok-clause-complete_run g c = λ ok first is told.
@@ -93,26 +110,37 @@ returns-in-Err-clause-put_so_far g c =
     let form : command_of c.args.words.now ≡ Some c.in-Some.command = sym c.named.ensures ∙ c.in-Some.is in
     let part = c.end-in-Err.ensures.part in
     rw (form, c.end-in-Err.ensures.status) (λ told.
-    let stops = c.in-Err.ensures.stops told in
-    let P : List ℕ → Type 0 = λ v. IsPrefix part.0 v in (
-      _,
-      puts-then g.H.Host.said g.H.Host.clock g.H.Host.since _ _ _ _ _ stops.1 part.2,
-      put_then (ending_status c.in-Err.ending ≡ Write) (line_for told.asks told.image (ending_status c.in-Err.ending)) _ stops.0 part.0 (write_line told.asks told.image (ending_status c.in-Err.ending)) stops.2 (subst P (c.in-Err.ensures.line told) part.1),
-    ))
+    let text = c.in-Err.ensures.stops told in
+    let stops = text.holds in
+    let P : List ℕ → Type 0 = λ v. IsPrefix part.0 v in
+    record {
+      text = text.text;
+      is = text.is;
+      holds = (
+        _,
+        puts-then g.H.Host.said g.H.Host.clock g.H.Host.since _ _ _ _ _ stops.1 part.2,
+        put_then (ending_status c.in-Err.ending ≡ Write) (line_for told.asks told.image (ending_status c.in-Err.ending)) _ stops.0 part.0 (write_line told.asks told.image (ending_status c.in-Err.ending)) stops.2 (subst P (c.in-Err.ensures.line told) part.1),
+      );
+    })
 
 pub returns-in-Err-clause-last_line_whole : goal.returns-in-Err-clause-last_line_whole
 returns-in-Err-clause-last_line_whole g c =
     let form : command_of c.args.words.now ≡ Some c.in-Some.command = sym c.named.ensures ∙ c.in-Some.is in
     rw (form, c.end-in-Err.ensures.status) (λ told.
-    let stops = c.in-Err.ensures.stops told in
+    let text = c.in-Err.ensures.stops told in
+    let stops = text.holds in
     let P : List ℕ → Type 0 = λ v. Puts g.H.Host.said g.H.Host.clock g.H.Host.since c.run_command.new.host c.end-in-Err.new.host v in
-    ⊎_elim
-    (λ whole. ⊎_elim
-    (λ all. inl (_, puts-then g.H.Host.said g.H.Host.clock g.H.Host.since _ _ _ _ _ stops.1 (subst P (c.in-Err.ensures.line told) whole), all))
-    (λ is. inr (rose_first _ _ _ (c.in-Err.ensures.write is).1 c.end-in-Err.ensures.later_out))
-    (whole_then (ending_status c.in-Err.ending ≡ Write) (line_for told.asks told.image (ending_status c.in-Err.ending)) _ stops.0 stops.2))
-    (λ rose. inr (rose_last _ _ _ c.in-Err.ensures.later_out rose))
-    c.end-in-Err.ensures.whole)
+    record {
+      text = text.text;
+      is = text.is;
+      holds = ⊎_elim
+          (λ whole. ⊎_elim
+          (λ all. inl (_, puts-then g.H.Host.said g.H.Host.clock g.H.Host.since _ _ _ _ _ stops.1 (subst P (c.in-Err.ensures.line told) whole), all))
+          (λ is. inr (rose_first _ _ _ (c.in-Err.ensures.write is).1 c.end-in-Err.ensures.later_out))
+          (whole_then (ending_status c.in-Err.ending ≡ Write) (line_for told.asks told.image (ending_status c.in-Err.ending)) _ stops.0 stops.2))
+          (λ rose. inr (rose_last _ _ _ c.in-Err.ensures.later_out rose))
+          c.end-in-Err.ensures.whole;
+    })
 
 pub returns-in-Err-clause-every_moment : goal.returns-in-Err-clause-every_moment
 returns-in-Err-clause-every_moment g c = rw c.end-in-Err.ensures.status (λ first is told.
@@ -168,7 +196,7 @@ returns-in-Err-clause-store_only g c =
     rw (form, c.end-in-Err.ensures.status) (λ is.
     let R : Option Image → Type 0 = λ v. RefusesStore (g.P.Source.left c.args.plan.now) (g.H.Host.now c.args.host.now) v (c.run_command.new.input ≡ c.args.input.now) (ending_line c.in-Err.ending) in
     ⊎_elim
-    (λ dumps. inl (ap (λ v. Some v) dumps.0, dumps.1))
+    (λ shows. inl shows)
     (λ runs. inr (runs.0, (ending_line c.in-Err.ending, subst R (sym c.end-in-Err.ensures.leaves.now_stays) runs.1, ⊎_elim (λ whole. inl (g.H.Host.said c.run_command.new.host, whole.grows)) (λ rose. inr (rose_last _ _ _ c.in-Err.ensures.later_out rose)) c.end-in-Err.ensures.whole)))
     (c.in-Err.ensures.store is))
 
@@ -180,13 +208,15 @@ returns-in-Err-clause-gap_only g c =
     (gap.0, ap (λ v. Some v) gap.1, (ending_line c.in-Err.ending, gap.2, ⊎_elim (λ whole. inl (g.H.Host.said c.run_command.new.host, whole.grows)) (λ rose. inr (rose_last _ _ _ c.in-Err.ensures.later_out rose)) c.end-in-Err.ensures.whole)))
 
 pub returns-in-Err-clause-rows_before_damage : goal.returns-in-Err-clause-rows_before_damage
-returns-in-Err-clause-rows_before_damage g c = λ is dumps.
-    let before = c.in-Err.ensures.all_before (sym c.end-in-Err.ensures.status ∙ is) (command_is _ c.in-Some.command Dump (sym c.named.ensures ∙ c.in-Some.is) dumps) in
+returns-in-Err-clause-rows_before_damage g c =
+    let form : command_of c.args.words.now ≡ Some c.in-Some.command = sym c.named.ensures ∙ c.in-Some.is in
+    rw (form, c.end-in-Err.ensures.status) (λ is shows.
+    let before = c.in-Err.ensures.all_before is shows in
     let P : List ℕ → Type 0 = λ v. Puts g.H.Host.said g.H.Host.clock g.H.Host.since c.run_command.new.host c.end-in-Err.new.host v in
     ⊎_elim
     (λ whole. inl (λ image told. puts-then g.H.Host.said g.H.Host.clock g.H.Host.since _ _ _ _ _ (before image told).0 (subst P (before image told).1 whole)))
     (λ rose. inr (rose_last _ _ _ c.in-Err.ensures.later_out rose))
-    c.end-in-Err.ensures.whole
+    c.end-in-Err.ensures.whole)
 
 pub returns-in-Err-clause-files_stay : goal.returns-in-Err-clause-files_stay
 returns-in-Err-clause-files_stay g c =

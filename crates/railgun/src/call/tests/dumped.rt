@@ -2,7 +2,7 @@ use super::*;
 
 /// The frame of the schema `payments(ts,card:text,merchant:text,amount:int)`, that of a chunk of
 /// two payments, and a closed gate.
-const LOG: [u8; 164] = [
+pub(super) const LOG: [u8; 164] = [
     1, 0, 0, 0, 0, 0, 0, 0, 0x30, b'S', b'p', b'a', b'y', b'm', b'e', b'n', b't', b's', b'(', b't',
     b's', b',', b'c', b'a', b'r', b'd', b':', b't', b'e', b'x', b't', b',', b'm', b'e', b'r', b'c',
     b'h', b'a', b'n', b't', b':', b't', b'e', b'x', b't', b',', b'a', b'm', b'o', b'u', b'n', b't',

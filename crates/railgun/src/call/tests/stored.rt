@@ -2,19 +2,19 @@ use super::*;
 use rg_host::Pick;
 
 /// Three payments of one card, of which the third meets a window without the first.
-const THREE: &[u8] = b"0,c1,m1,100\n299999,c1,m2,200\n300000,c1,m1,50\n";
+pub(super) const THREE: &[u8] = b"0,c1,m1,100\n299999,c1,m2,200\n300000,c1,m1,50\n";
 
 /// What a run over an empty store puts for them.
-const THREE_PUT: &str =
+pub(super) const THREE_PUT: &str =
     "open 0 0 0\n0 ok 1 100\n1 ok 2 300\nstored 2\n2 ok 2 250\nstored 3\nsaved 3\ndone 3 3\n";
 
-const EIGHT: &[u8] =
+pub(super) const EIGHT: &[u8] =
     b"0,c1,m1,1\n1,c1,m1,1\n2,c1,m1,1\n3,c1,m1,1\n4,c1,m1,1\n5,c1,m1,1\n6,c1,m1,1\n7,c1,m1,1\n";
 
 const SUM: &str = "SELECT sum(amount) FROM payments OVER INFINITE";
 
 /// A run on this host puts this text behind what was put before, and ends so.
-fn assert_run(
+pub(super) fn assert_run(
     rt: &(impl Abort + AllocGlobal),
     setting: &Setting<'_>,
     host: &mut MemHost,
@@ -34,12 +34,12 @@ fn assert_run(
 }
 
 /// A host with no file, on which these calls fail.
-fn failing(alloc: Global, calls: &[u64]) -> Result<MemHost, Fail> {
+pub(super) fn failing(alloc: Global, calls: &[u64]) -> Result<MemHost, Fail> {
     Ok(MemHost::new(alloc, Image::new(alloc), calls.to_vec(alloc)?)?)
 }
 
 /// A host whose log has these bytes.
-fn with_log(alloc: Global, log: &[u8]) -> Result<MemHost, Fail> {
+pub(super) fn with_log(alloc: Global, log: &[u8]) -> Result<MemHost, Fail> {
     let mut image = Image::new(alloc);
     image.set(2, log.to_vec(alloc)?)?;
     Ok(MemHost::new(alloc, image, Vec::new(alloc))?)

@@ -1,5 +1,5 @@
 -- The nodes of a plan answer what its queries do.
-use Rattle.std.proofs.Common.{◌≡◌, ℕ, zero, suc, ◌+◌, List, [], ◌∷◌, ◌++◌, map, take, drop, get_or, unwrap_or, slice_get, Option, Some, None, refl, ap, sym, ◌∙◌, arith, append-nil, append_assoc}
+use Rattle.std.proofs.Common.{◌≡◌, ℕ, zero, suc, ◌+◌, List, [], ◌∷◌, ◌++◌, map, take, drop, get_or, unwrap_or, slice_get, Some, None, refl, ap, sym, ◌∙◌, arith, append-nil, append_assoc}
 use Rattle.std.specs.Prelude.{flat_map}
 use Rattle.std.specs.List.{filter}
 use Rattle.std.proofs.lemmas.Option.{unwrap_or-slice_get}
@@ -9,7 +9,7 @@ use Rattle.rg_metric.specs.declared.answer.Answer.{Answer}
 use Rattle.rg_metric.specs.declared.query.Agg.{Agg}
 use Rattle.rg_metric.specs.Queries.{Asked}
 use Rattle.rg_metric.specs.Replies.{agg_answer, counts_for, answers_to}
-use Rattle.rg_plan.specs.Named.{Node, node_at, node_of as asked_node, nodes_of}
+use Rattle.rg_plan.specs.Named.{node_at, node_of as asked_node, nodes_of}
 use Rattle.rg_plan.specs.Plans.{Planned, plan_for}
 use Rattle.rg_plan.proofs.Compiled.{is_named}
 use Rattle.rg_scratch.specs.Nodes.{node_answer, answers_of}

@@ -1,11 +1,11 @@
 -- Of queries that are legal over a schema, and of its events, each sum of squares is below 2^127.
-use Rattle.std.proofs.Common.{to_z, of_z, ◌≡◌, ℕ, zero, suc, ◌+◌, ◌*◌, ◌^◌, ◌<◌, ◌≤◌, ℤ, pos, negsuc, ◌+ℤ◌, ◌*ℤ◌, Bool, true, false, List, [], ◌∷◌, length, map, take, option_map, option_and_then, slice_get, Option, Some, None, refl, ap, sym, ◌∙◌, subst, arith}
+use Rattle.std.proofs.Common.{◌≡◌, ℕ, zero, suc, ◌+◌, ◌*◌, ◌^◌, ◌≤◌, ℤ, pos, negsuc, ◌+ℤ◌, ◌*ℤ◌, Bool, true, false, List, [], ◌∷◌, length, option_map, option_and_then, slice_get, Option, Some, None, refl, ap, sym, ◌∙◌, subst, arith}
 use Rattle.std.specs.Prelude.{All, flat_map, bytes_eq, unsigned_abs, if◌then◌else◌}
 use Rattle.std.specs.Int.{w128, int_wrap}
 use Rattle.std.specs.List.{filter}
-use Rattle.std.proofs.lemmas.Int.{ints, int_wrap_fits, unsigned_abs-mul}
+use Rattle.std.proofs.lemmas.Int.{int_wrap_fits}
 use Rattle.std.proofs.lemmas.Nat.{mul-le}
-use Rattle.std.proofs.lemmas.List.Elements.{All-nil, All-cons, All-head, All-tail, All-append, All-map, All-weaker, All-take, All-filter}
+use Rattle.std.proofs.lemmas.List.Elements.{All-nil, All-cons, All-head, All-tail, All-append, All-map, All-filter}
 use Rattle.rg_event.specs.Codec.{IsValueOf, AreValuesOf, IsEventOf}
 use Rattle.rg_event.specs.Shapes.{Shape}
 use Rattle.rg_event.specs.declared.event.Event.{Event}
@@ -14,8 +14,7 @@ use Rattle.rg_event.specs.declared.value.Kind.{Kind}
 use Rattle.rg_event.specs.declared.value.Kind.TheVariants as kind
 use Rattle.rg_event.specs.declared.value.Value.{Value}
 use Rattle.rg_event.specs.declared.value.Value.TheVariants.{Int, Id, Text, Flag}
-use Rattle.rg_words.specs.declared.func.Func.{Func}
-use Rattle.rg_words.specs.declared.func.Func.TheVariants.{Count, SumSq}
+use Rattle.rg_words.specs.declared.func.Func.TheVariants.{SumSq}
 use Rattle.rg_metric.specs.Answers.{number_of, numbers, total_of_squares}
 use Rattle.rg_metric.specs.Conditions.{value_in}
 use Rattle.rg_metric.specs.Queries.{Asked}
@@ -28,7 +27,7 @@ use Rattle.rg_plan.specs.declared.node.GroupNode.{GroupNode}
 use Rattle.rg_plan.specs.Nodes.{Filtered, same_agg}
 use Rattle.rg_plan.specs.Plans.{Planned, plan_for, windows_of, filters_of, groups_of, aggs_of, aggs_in, agg_under, group_number}
 use Rattle.rg_plan.proofs.Members.{All-distinct}
-use Rattle.rg_query.specs.Legal.{IsField, IsOperand, IsLegalAgg, AreLegalAggs, IsLegal}
+use Rattle.rg_query.specs.Legal.{IsOperand, IsLegalAgg, AreLegalAggs, IsLegal}
 use Rattle.rg_query.specs.Printing.{name_at}
 use Rattle.rg_query.specs.Resolving.{column_from, takes}
 use Rattle.rg_scratch.specs.Nodes.{AreExact, IsExactAt, query_at}

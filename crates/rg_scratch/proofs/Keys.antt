@@ -1,10 +1,10 @@
 -- Two keys are compared place by place.
-use Rattle.std.proofs.Common.{◌≡◌, ℕ, zero, suc, ◌+◌, ◌≤◌, Bool, true, false, ◌&&◌, List, [], ◌∷◌, length, drop, slice_get, Option, Some, None, refl, ap, sym, ◌∙◌, arith}
+use Rattle.std.proofs.Common.{◌≡◌, ℕ, zero, suc, ◌+◌, ◌≤◌, true, false, ◌&&◌, List, [], ◌∷◌, length, drop, slice_get, Option, Some, None, refl, ap, sym, ◌∙◌, arith}
 use Rattle.rg_event.specs.declared.event.Event.{Event}
 use Rattle.rg_event.specs.declared.value.Value.{Value}
 use Rattle.rg_metric.specs.Conditions.{value_in}
 use Rattle.rg_metric.specs.Replies.{and_value, key_of}
-use Rattle.rg_metric.specs.Same.{same_value, same_values}
+use Rattle.rg_metric.specs.Same.{same_values}
 use Rattle.rg_scratch.specs.Asking.{alike}
 
 drop_past : (xs : List Value) (i : ℕ) → length xs ≤ i → drop i xs ≡ []

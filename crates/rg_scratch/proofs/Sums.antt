@@ -1,12 +1,12 @@
 -- A tally with one value more.
-use Rattle.std.proofs.Common.{to_z, of_z, ◌≡◌, ℕ, ◌+◌, ◌*◌, ◌^◌, ◌≤◌, ◌<◌, ℤ, pos, negsuc, ◌+ℤ◌, ◌*ℤ◌, Bool, true, false, nat_le, List, [], ◌∷◌, ◌++◌, length, map, Option, Some, None, refl, ap, sym, ◌∙◌, arith, rules, length-append}
+use Rattle.std.proofs.Common.{◌≡◌, ℕ, ◌+◌, ℤ, ◌+ℤ◌, ◌*ℤ◌, List, [], ◌∷◌, ◌++◌, Option, Some, None, refl, ap, sym, ◌∙◌, arith, rules, length-append}
 use Rattle.std.specs.Int.{w128, int_wrap}
-use Rattle.std.specs.Prelude.{int_lt, unsigned_abs, if◌then◌else◌}
+use Rattle.std.specs.Prelude.{int_lt, if◌then◌else◌}
 use Rattle.std.proofs.lemmas.Int.{ints, wraps}
 use Rattle.rg_event.specs.declared.value.Value.{Value}
 use Rattle.rg_metric.specs.Answers.{number_of, numbers, total, total_of_squares, least, greatest, last_of}
 use Rattle.rg_scratch.specs.declared.tally.Ends.{Ends}
-use Rattle.rg_scratch.specs.Tallies.{AreEnds, HasEnds, IsTally, ends_with}
+use Rattle.rg_scratch.specs.Tallies.{HasEnds, IsTally, ends_with}
 
 pub total_more : (values : List Value) (v : Value) → total (numbers (values ++ v ∷ [])) ≡ total (numbers values) +ℤ number_of v
 total_more [] v = omega (arith, ints)

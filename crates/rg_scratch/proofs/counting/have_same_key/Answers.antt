@@ -1,4 +1,4 @@
-use Rattle.std.proofs.Common.{rules, ◌≡◌, ◌∙◌, sym, true, false}
+use Rattle.std.proofs.Common.{rules}
 use Rattle.rg_metric.specs.Replies.{key_of}
 use Rattle.rg_scratch.proofs.Keys.{apart, goes_on, none_left}
 use Rattle.rg_scratch.proofs.counting.have_same_key.Goals as goal

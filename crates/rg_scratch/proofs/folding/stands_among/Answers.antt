@@ -1,4 +1,4 @@
-use Rattle.std.proofs.Common.{rules, ◌≡◌, ◌∙◌, ◌+◌, sym, ap, true}
+use Rattle.std.proofs.Common.{◌∙◌, ◌+◌, sym, ap}
 use Rattle.std.specs.List.{list_any}
 use Rattle.rg_metric.specs.Same.{same_value}
 use Rattle.rg_scratch.specs.Asking.{counted}

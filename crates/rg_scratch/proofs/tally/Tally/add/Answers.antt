@@ -1,7 +1,5 @@
-use Rattle.std.proofs.Common.{rules, refl, arith, to_z, of_z, ◌≡◌, ◌+ℤ◌, ◌*ℤ◌, ◌∙◌}
+use Rattle.std.proofs.Common.{rules, arith}
 use Rattle.std.proofs.lemmas.Int.{ints, to_z-of_z}
-use Rattle.std.specs.Int.{w128}
-use Rattle.rg_scratch.specs.Tallies.{ends_with}
 use Rattle.rg_scratch.proofs.Sums.{tally_more}
 use Rattle.rg_scratch.proofs.tally.Tally.add.Goals as goal
 

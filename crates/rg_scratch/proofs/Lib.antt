@@ -1,0 +1,5 @@
+pub mod Keys
+pub mod Sums
+pub mod Counted
+pub mod Exact
+pub mod Answered

@@ -1,0 +1,4 @@
+pub mod Lines
+pub mod Asking
+pub mod Tallies
+pub mod Nodes

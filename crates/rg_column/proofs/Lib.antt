@@ -1,0 +1,4 @@
+pub mod Packing
+pub mod Transposed
+pub mod Typed
+pub mod Widths

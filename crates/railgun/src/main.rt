@@ -11,7 +11,6 @@ mod dump;
 mod ending;
 mod fault;
 mod listing;
-mod real;
 mod refused;
 mod report;
 mod running;
@@ -19,9 +18,9 @@ mod status;
 
 use crate::call::railgun;
 use crate::command::Command;
-use crate::real::{Access, FileSource, FolderHost, ReaderSource};
 use crate::report::Report;
 use crate::status::Status;
+use rg_real::{Access, FileSource, FolderHost, ReaderSource};
 use std::process::ExitCode;
 use std::{env, io};
 

@@ -1,8 +1,8 @@
 ghost use Rattle.std.specs.Prelude.{◌≡◌, ℕ, ◌⊎◌, ◌+◌, ◌<◌, ◌≤◌, ◌^◌, IfOk, IsErr, OnOk, length};
-ghost use Rattle.railgun.specs.Real.{IsClosed, IsLost};
+ghost use Rattle.rg_real.specs.Files.{IsClosed, IsLost};
 
-use super::open_files::OpenFiles;
-use super::place::Place;
+use crate::open_files::OpenFiles;
+use crate::place::Place;
 use std::alloc::Global;
 use std::fs::{File, TryLockError};
 use std::io;

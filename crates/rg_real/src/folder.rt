@@ -1,7 +1,7 @@
 ghost use Rattle.std.specs.Prelude.{◌≡◌, Ok, IfOk, IsErr};
 
-use super::Failures;
-use super::files::{Access, Folder, Hold};
+use crate::failures::Failures;
+use crate::files::{Access, Folder, Hold};
 use rg_host::{Failed, Host};
 use std::alloc::Global;
 use std::io;

@@ -1,53 +1,10 @@
-// The real outside: a file, a reader, and a folder with a writer. What std's calls gave is turned
-// into the answer by functions with contracts.
-ghost use Rattle.std.specs.Prelude.{◌≡◌, ◌⊎◌, ◌≤◌, Ok, IfOk, IfErr, IsErr, OnOk, OnErr, length};
-ghost use Rattle.rg_bytes.specs.Counts.{Rose};
+ghost use Rattle.std.specs.Prelude.{◌≡◌, ◌≤◌, IfOk, length};
 
+use crate::failures::Failures;
 use rg_host::{Failed, Source};
 use std::io;
 use std::io::Read;
 use std::rt::Files;
-
-mod files;
-mod folder;
-mod open_files;
-mod place;
-
-pub use files::Access;
-pub use folder::FolderHost;
-
-/// How many calls failed, and why the last of them did.
-#[derive(Drop)]
-struct Failures {
-    count: u64,
-    last: Option<io::Error>,
-}
-
-impl Failures {
-    fn none() -> Failures {
-        Failures {
-            count: 0,
-            last: None,
-        }
-    }
-
-    /// The answer to a call for which std gave this. An error is a failure, and is noted.
-    fn answer<T: Drop>(&mut self, given: io::Result<T>) -> Result<T, Failed>
-        ensures value { IfOk given (λ value. result ≡ Ok value) }
-        ensures failed { IsErr given → IsErr result }
-        ensures noted { OnErr result (Rose self.old.count self.new.count) }
-        ensures later { self.old.count ≤ self.new.count }
-    {
-        match given {
-            Ok(value) => Ok(value),
-            Err(error) => {
-                self.count = self.count.saturating_add(1);
-                self.last = Some(error);
-                Err(Failed)
-            }
-        }
-    }
-}
 
 /// A file that is opened at its first read. It tells nothing of what is left.
 #[derive(Drop)]
@@ -59,6 +16,7 @@ pub struct FileSource<'a, R: Files> {
 }
 
 impl<'a, R: Files> FileSource<'a, R> {
+    /// The file with this path. It isn't opened yet.
     pub fn new(rt: &'a R, path: &'a str) -> FileSource<'a, R> {
         FileSource {
             rt,
@@ -112,6 +70,7 @@ pub struct ReaderSource<R: Read + Drop> {
 }
 
 impl<R: Read + Drop> ReaderSource<R> {
+    /// The bytes of this reader.
     pub fn new(reader: R) -> ReaderSource<R> {
         ReaderSource {
             reader,
@@ -137,6 +96,3 @@ impl<R: Read + Drop> Source for ReaderSource<R> {
         self.failures.answer(given)
     }
 }
-
-#[cfg(test)]
-mod tests;

@@ -1,6 +1,6 @@
 -- The files of a store's folder, as the real outside has them.
 use Rattle.std.specs.Prelude.{◌≡◌, ℕ, List, Option, Some, None, slice_get}
-use Rattle.railgun.specs.declared.real.open_files.Synced.{Synced}
+use Rattle.rg_real.specs.declared.open_files.Synced.{Synced}
 
 -- a sync of this file has failed
 abbrev pub IsLost : ℕ → List Synced → Type 0

@@ -1,6 +1,6 @@
 use Rattle.std.proofs.Common.{inl, arith, length}
 use Rattle.rg_host.specs.EffectLaws.{torn_in-same}
-use Rattle.railgun.proofs.real.folder.FolderHostHost.write_at.Goals as goal
+use Rattle.rg_real.proofs.folder.FolderHostHost.write_at.Goals as goal
 
 pub returns-clause-may : goal.returns-clause-may
 returns-clause-may g c = λ v left. (v, tt, torn_in-same c.args.file c.args.at (length c.args.bytes.now) v)

@@ -1,5 +1,5 @@
 ghost use Rattle.std.specs.Prelude.{◌≡◌, ◌≢◌, ℕ, ◌+◌, ◌<◌, ◌≤◌, ◌^◌, Ok, IfOk, IsErr, IsFalse, OnOk, length, slice_get};
-ghost use Rattle.railgun.specs.Real.{IsClosed, IsLost};
+ghost use Rattle.rg_real.specs.Files.{IsClosed, IsLost};
 
 use std::fs::OpenFile;
 use std::io;

@@ -14,7 +14,7 @@ use Rattle.rg_dump.specs.declared.fault.DumpFault.TheVariants as dump
 use Rattle.rg_run.specs.Begun.{Begun}
 use Rattle.rg_run.specs.declared.fault.RunFault.{RunFault}
 use Rattle.rg_run.specs.declared.fault.RunFault.TheVariants as run
-use Rattle.railgun.specs.Stops.{StopsAt}
+use Rattle.rg_listing.specs.Stops.{StopsAt}
 use Rattle.railgun.specs.Call.{line_for, damage_line, schema_line, state_line, gap_line, EndsDump, EndsRun, IsPossible, ending_status, ending_line}
 use Rattle.railgun.specs.Stored.{IsLastOf}
 use Rattle.railgun.specs.declared.ending.Ending.{Ending}

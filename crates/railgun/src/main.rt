@@ -5,12 +5,9 @@ ghost use Rattle.std.specs.Prelude.{◌≡◌, ◌↔◌, ℕ, Some};
 ghost use Rattle.railgun.specs.Call.{command_of};
 
 mod call;
-mod check;
 mod command;
 mod dump;
 mod ending;
-mod fault;
-mod listing;
 mod refused;
 mod report;
 mod running;

@@ -1,7 +1,7 @@
 use Rattle.std.proofs.Common.{◌≡◌, ◌++◌, drop}
 use Rattle.rg_host.specs.Lines.{ended}
-use Rattle.railgun.specs.Listing.{numbered, window_line}
-use Rattle.railgun.proofs.listing.write_windows.Given as goal
+use Rattle.rg_listing.specs.Listing.{numbered, window_line}
+use Rattle.rg_listing.proofs.listing.write_windows.Given as goal
 
 -- the lines that are written, and those to come
 abbrev pub invariant-windows : goal.invariant-windows

@@ -2,10 +2,10 @@ use Rattle.std.proofs.Common.{◌≡◌, []}
 use Rattle.rg_config.specs.Plans.{planned}
 use Rattle.rg_host.proofs.PutRuns.{puts-nothing}
 use Rattle.rg_host.proofs.Runs.{leaves_files-none}
-use Rattle.railgun.specs.Listing.{check_text}
-use Rattle.railgun.specs.declared.fault.CheckFault.TheVariants.{Memory, Write}
-use Rattle.railgun.proofs.Ends.{nothing_stops}
-use Rattle.railgun.proofs.check.check.Goals as goal
+use Rattle.rg_listing.specs.Listing.{check_text}
+use Rattle.rg_listing.specs.declared.fault.CheckFault.TheVariants.{Memory, Write}
+use Rattle.rg_listing.proofs.Stopped.{nothing_stops}
+use Rattle.rg_listing.proofs.checking.check.Goals as goal
 
 pub returns-in-Err-clause-stops : goal.returns-in-Err-clause-stops
 returns-in-Err-clause-stops g c =

@@ -1,6 +1,6 @@
 use Rattle.std.proofs.Common.{◌≡◌, ◌++◌, drop}
-use Rattle.railgun.specs.Listing.{more_columns}
-use Rattle.railgun.proofs.listing.write_more_columns.Given as goal
+use Rattle.rg_listing.specs.Listing.{more_columns}
+use Rattle.rg_listing.proofs.listing.write_more_columns.Given as goal
 
 -- the names that are written, and those to come
 abbrev pub invariant-columns : goal.invariant-columns

@@ -1,8 +1,8 @@
 use Rattle.std.proofs.Common.{◌≡◌, ◌++◌, drop, map}
 use Rattle.rg_host.specs.Lines.{ended}
 use Rattle.rg_plan.specs.Nodes.{filtered}
-use Rattle.railgun.specs.Listing.{numbered, filter_line}
-use Rattle.railgun.proofs.listing.write_filters.Given as goal
+use Rattle.rg_listing.specs.Listing.{numbered, filter_line}
+use Rattle.rg_listing.proofs.listing.write_filters.Given as goal
 
 -- the lines that are written, and those to come
 abbrev pub invariant-filters : goal.invariant-filters

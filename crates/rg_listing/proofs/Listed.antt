@@ -1,5 +1,5 @@
 -- The lines of a plan alone, one by one.
-use Rattle.std.proofs.Common.{◌≡◌, ℕ, zero, suc, ◌<◌, ◌≤◌, ◌+◌, List, [], ◌∷◌, ◌++◌, length, map, drop, get_or, All, ap, sym, ◌∙◌, subst, arith, append_assoc}
+use Rattle.std.proofs.Common.{◌≡◌, ℕ, zero, suc, ◌<◌, ◌≤◌, ◌+◌, List, [], ◌∷◌, ◌++◌, length, map, drop, get_or, All, refl, ap, sym, ◌∙◌, subst, arith, append_assoc}
 use Rattle.std.proofs.lemmas.List.{append-nil, drop_all}
 use Rattle.rg_event.specs.Shapes.{Shape}
 use Rattle.rg_host.specs.Lines.{ended}
@@ -10,9 +10,13 @@ use Rattle.rg_query.specs.Printing.{query_text}
 use Rattle.rg_config.specs.Plans.{planned}
 use Rattle.rg_config.specs.declared.plan.Plan.{Plan}
 use Rattle.rg_config.proofs.Legal.{measured}
-use Rattle.railgun.specs.Listing.{numbered, query_line, offset_line, window_line, filter_line, group_line, agg_line, task_text, check_text}
+use Rattle.rg_listing.specs.Listing.{numbered, query_line, offset_line, window_line, filter_line, group_line, agg_line, task_text, check_text}
 use Rattle.rg_config.specs.Read.{IsRead}
-use Rattle.rg_course.proofs.Texts.{ended-append}
+
+-- the bytes of some lines, and then those of others
+ended-append : (a b : List (List ℕ)) → ended (a ++ b) ≡ ended a ++ ended b
+ended-append [] b = refl
+ended-append (line ∷ a) b = ap (λ (l : List ℕ). line ++ 10 ∷ l) (ended-append a b) ∙ sym (append_assoc line (10 ∷ ended a) (ended b))
 
 -- the line of one member, and those of the others
 next_line : {A : Type 0} (line : ℕ → A → List ℕ) (n i : ℕ) (xs : List A) (x : A) → i < length xs → get_or xs i x ≡ x → ended (numbered line n (drop i xs)) ≡ (line n x ++ 10 ∷ []) ++ ended (numbered line (suc n) (drop (suc i) xs))

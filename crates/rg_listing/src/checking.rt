@@ -4,9 +4,9 @@ ghost use Rattle.rg_config.specs.Plans.{planned};
 ghost use Rattle.rg_host.specs.Lines.{ended};
 ghost use Rattle.rg_host.specs.Moments.{LeavesFiles};
 ghost use Rattle.rg_host.specs.Puts.{Puts};
-ghost use Rattle.railgun.specs.Listing.{check_text};
+ghost use Rattle.rg_listing.specs.Listing.{check_text};
 ghost use Rattle.rg_config.specs.Read.{IsRead};
-ghost use Rattle.railgun.specs.Stops.{StopsAt};
+ghost use Rattle.rg_listing.specs.Stops.{StopsAt};
 
 use crate::fault::CheckFault;
 use crate::listing::write_listing;

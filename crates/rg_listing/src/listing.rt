@@ -4,7 +4,7 @@ ghost use Rattle.rg_plan.specs.Nodes.{filtered};
 ghost use Rattle.rg_plan.specs.Offsets.{IsMeasured};
 ghost use Rattle.rg_host.specs.Lines.{ended};
 ghost use Rattle.rg_config.specs.Plans.{planned};
-ghost use Rattle.railgun.specs.Listing.{numbered, query_line, offset_line, end_text, window_line, filter_text, filter_line, more_columns, columns_text, group_line, agg_line, task_text, check_text};
+ghost use Rattle.rg_listing.specs.Listing.{numbered, query_line, offset_line, end_text, window_line, filter_text, filter_line, more_columns, columns_text, group_line, agg_line, task_text, check_text};
 ghost use Rattle.rg_config.specs.Read.{IsRead};
 
 use rg_bytes::{Memory, put_bytes, write_whole};

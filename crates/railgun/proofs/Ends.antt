@@ -14,8 +14,8 @@ use Rattle.rg_host.specs.Puts.{IsPrefix, StopsWith, IsPut}
 use Rattle.rg_dump.specs.Dump.{damage_of}
 use Rattle.rg_run.specs.Reading.{IsLonger}
 use Rattle.railgun.specs.Plan.{IsPlan, IsRefusal}
-use Rattle.railgun.specs.Stops.{StopsAt}
-use Rattle.railgun.specs.Listing.{check_text}
+use Rattle.rg_listing.specs.Stops.{StopsAt}
+use Rattle.rg_listing.specs.Listing.{check_text}
 use Rattle.railgun.specs.Causes.{RefusesStore, RefusesGap}
 use Rattle.railgun.specs.Call.{CarriesRun, IsRun, ReadsPlan, ShowsStore, Told, ToldPlan, plan_text, ForText, last_line, refusal_line, refusal_of, line_for, IsLegal, IsRefused, IsDamaged, IsUndamaged, IsPossible, status_by, plan_status, store_status, status_for}
 use Rattle.railgun.specs.declared.command.Command.{Command}
@@ -23,13 +23,6 @@ use Rattle.railgun.specs.declared.command.Command.TheVariants.{Run, Check, Dump,
 use Rattle.railgun.specs.declared.status.Status.{Status}
 use Rattle.railgun.specs.declared.status.Status.TheVariants.{Ok, Usage, Plan as BadPlan, Store, Read, Write, Disk, Limit, Memory, Gap, Differs}
 use Rattle.railgun.proofs.Plans.{one_plan}
-
-pub nothing_whole : (text : List (List ℕ)) → StopsWith text [] []
-nothing_whole text = record { lines = []; more = text; of_text = refl; is = refl }
-
--- nothing was put
-pub nothing_stops : (write : Type 0) (text : List (List ℕ)) → StopsAt write text []
-nothing_stops write text = inl (nothing_whole text)
 
 stops-then : (text : List (List ℕ)) (put part : List ℕ) → StopsWith text [] put → StopsWith text part (put ++ part)
 stops-then text put part stops = record {

@@ -1,5 +1,4 @@
 pub mod Inputs
-pub mod Listed
 pub mod Plans
 pub mod Ends
 pub mod Refusing

@@ -17,7 +17,7 @@ use Rattle.rg_info.specs.declared.fault.InfoFault.TheVariants as info
 use Rattle.rg_run.specs.Begun.{Begun}
 use Rattle.rg_run.specs.declared.fault.RunFault.{RunFault}
 use Rattle.rg_run.specs.declared.fault.RunFault.TheVariants as run
-use Rattle.railgun.specs.Stops.{StopsAt}
+use Rattle.rg_listing.specs.Stops.{StopsAt}
 use Rattle.railgun.specs.Call.{line_for, damage_line, schema_line, state_line, gap_line, EndsDump, EndsInfo, IsInfoAt, EndsRun, IsPossible, ending_status, ending_line}
 use Rattle.railgun.specs.Stored.{IsLastOf}
 use Rattle.railgun.specs.declared.ending.Ending.{Ending}

@@ -21,7 +21,7 @@ use Rattle.rg_plan.specs.Plans.{plan_for, Planned as TaskPlanned}
 use Rattle.rg_engine.specs.Passed.{passed_count}
 use Rattle.rg_course.specs.Output.{text_of_run}
 use Rattle.rg_turn.specs.Turning.{terms_of}
-use Rattle.railgun.specs.Listing.{task_text, check_text}
+use Rattle.rg_listing.specs.Listing.{task_text, check_text}
 
 abbrev card : Field
 card = record { name = codes "card"; kind = Text }

@@ -22,7 +22,7 @@ use Rattle.railgun.specs.declared.command.Command.TheVariants.{Run, Check, Dump,
 use Rattle.railgun.specs.declared.ending.Ending.{Ending}
 use Rattle.railgun.specs.declared.ending.Refusal.{Refusal}
 use Rattle.railgun.specs.declared.ending.Ending.TheVariants as ending
-use Rattle.railgun.specs.Listing.{check_text}
+use Rattle.rg_listing.specs.Listing.{check_text}
 use Rattle.railgun.specs.declared.status.Status.{Status}
 use Rattle.railgun.specs.declared.status.Status.TheVariants.{Ok, Usage, Plan as BadPlan, Store, Read, Write, Disk, Limit, Memory, Gap, Differs}
 

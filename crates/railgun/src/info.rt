@@ -8,7 +8,7 @@ ghost use Rattle.rg_host.specs.Moments.{LeavesFiles};
 ghost use Rattle.rg_host.specs.Puts.{Puts};
 ghost use Rattle.rg_info.specs.Info.{IsInfo};
 ghost use Rattle.railgun.specs.Call.{line_for, ending_status, ending_line, EndsInfo, IsInfoAt, IsDamaged, IsUndamaged};
-ghost use Rattle.railgun.specs.Stops.{StopsAt};
+ghost use Rattle.rg_listing.specs.Stops.{StopsAt};
 
 use crate::ending::Ending;
 use crate::refused::refuse_damage;

@@ -5,14 +5,10 @@ ghost use Rattle.std.specs.Prelude.{◌≡◌, ◌↔◌, ℕ, Some};
 ghost use Rattle.railgun.specs.Call.{command_of};
 
 mod call;
-mod check;
 mod command;
 mod dump;
 mod ending;
-mod fault;
 mod info;
-mod listing;
-mod real;
 mod refused;
 mod report;
 mod running;
@@ -20,9 +16,9 @@ mod status;
 
 use crate::call::railgun;
 use crate::command::Command;
-use crate::real::{Access, FileSource, FolderHost, ReaderSource};
 use crate::report::Report;
 use crate::status::Status;
+use rg_real::{Access, FileSource, FolderHost, ReaderSource};
 use std::process::ExitCode;
 use std::{env, io};
 

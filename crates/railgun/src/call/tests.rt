@@ -53,10 +53,6 @@ const LEAST_AND_MEAN: &str =
 const MERCHANTS: &str =
     "SELECT countDistinct(merchant) FROM payments GROUP BY card OVER SLIDING 10 ms";
 
-/// Two queries that share all nodes but one.
-const SHARING: &str =
-    "SELECT count(*) FROM payments GROUP BY card OVER SLIDING 5 minutes\", \"SELECT sum(amount), count(*) FROM payments GROUP BY card OVER SLIDING 300 seconds";
-
 const SMALL: &str = "cache = 1\nchunk = 2\ncommit = 2\nsave = 4\n";
 
 /// The text of a plan.
@@ -320,66 +316,21 @@ fn a_first_line_is_cleaned_and_may_be_a_header(rt: HostRuntime) -> Result<(), Fa
     Ok(())
 }
 
-/// A check of this plan puts this text, ends well and reads no input.
-fn assert_listed(rt: &(impl Abort + AllocGlobal), plan: &[u8], wanted: &str) -> Result<(), Fail> {
+#[test]
+fn a_check_prints_the_queries_and_leaves_the_input_alone(rt: HostRuntime) -> Result<(), Fail> {
+    let plan = plan_of(rt.alloc(), DEAR, PAYMENTS, SMALL)?;
     let check = Setting {
         words: &CHECK,
         failing_reads: &[0],
-        ..sound(plan, b"0,c1,m1,100\n")
+        ..sound(plan.as_bytes(), b"0,c1,m1,100\n")
     };
     let (text, status) = outcome(rt.alloc(), &check)?;
-    assert_eq!(rt; text.as_str(), wanted);
+    assert_eq!(rt;
+        text.as_str(),
+        "query 0 SELECT count(*) FROM payments WHERE amount > 100 GROUP BY card OVER SLIDING 300000 ms\noffset 0\noffset 300000\nwindow 0 0 300000\nfilter 0 0 amount > 100\ngroup 0 0 card\nagg 0 0 count(*)\n"
+    );
     assert_eq!(rt; status, Status::Ok);
     Ok(())
-}
-
-#[test]
-fn a_check_prints_the_queries_and_leaves_the_input_alone(rt: HostRuntime) -> Result<(), Fail> {
-    let alloc = rt.alloc();
-    let dear = plan_of(alloc, DEAR, PAYMENTS, SMALL)?;
-    assert_listed(
-        &rt,
-        dear.as_bytes(),
-        "query 0 SELECT count(*) FROM payments WHERE amount > 100 GROUP BY card OVER SLIDING 300000 ms\noffset 0\noffset 300000\nwindow 0 0 300000\nfilter 0 0 amount > 100\ngroup 0 0 card\nagg 0 0 count(*)\n",
-    )?;
-    let endless =
-        "SELECT count(*) FROM payments GROUP BY card, merchant OVER INFINITE DELAYED BY 5 ms";
-    let delayed = plan_of(alloc, endless, PAYMENTS, "")?;
-    assert_listed(
-        &rt,
-        delayed.as_bytes(),
-        "query 0 SELECT count(*) FROM payments GROUP BY card, merchant OVER INFINITE DELAYED BY 5 ms\noffset 5\nwindow 0 5 -\nfilter 0 0 all\ngroup 0 0 card,merchant\nagg 0 0 count(*)\n",
-    )?;
-    Ok(())
-}
-
-#[test]
-fn a_check_prints_what_queries_share(rt: HostRuntime) -> Result<(), Fail> {
-    let alloc = rt.alloc();
-    let sharing = plan_of(alloc, SHARING, PAYMENTS, "")?;
-    assert_listed(
-        &rt,
-        sharing.as_bytes(),
-        "query 0 SELECT count(*) FROM payments GROUP BY card OVER SLIDING 300000 ms\nquery 1 SELECT sum(amount), count(*) FROM payments GROUP BY card OVER SLIDING 300000 ms\noffset 0\noffset 300000\nwindow 0 0 300000\nfilter 0 0 all\ngroup 0 0 card\nagg 0 0 count(*)\nagg 1 0 sum(amount)\n",
-    )?;
-    let by_merchant = plan_of(alloc, TOTALS_AND_MERCHANTS, PAYMENTS, "")?;
-    assert_listed(
-        &rt,
-        by_merchant.as_bytes(),
-        "query 0 SELECT count(*), sum(amount) FROM payments GROUP BY card OVER SLIDING 300000 ms\nquery 1 SELECT count(*) FROM payments GROUP BY merchant OVER SLIDING 300000 ms\noffset 0\noffset 300000\nwindow 0 0 300000\nfilter 0 0 all\ngroup 0 0 card\ngroup 1 0 merchant\nagg 0 0 count(*)\nagg 1 0 sum(amount)\nagg 2 1 count(*)\n",
-    )?;
-    Ok(())
-}
-
-#[test]
-fn a_window_begins_at_the_offset_at_which_another_ends(rt: HostRuntime) -> Result<(), Fail> {
-    let plan =
-        b"queries = [\"select count(*) from p over sliding 5 ms\", \"SELECT count(*) FROM p OVER SLIDING 10 ms DELAYED BY 5 ms\"]\n[stream]\nname = \"p\"\ncolumns = [\"ts\", \"card:text\"]\n";
-    assert_listed(
-        &rt,
-        plan,
-        "query 0 SELECT count(*) FROM p OVER SLIDING 5 ms\nquery 1 SELECT count(*) FROM p OVER SLIDING 10 ms DELAYED BY 5 ms\noffset 0\noffset 5\noffset 15\nwindow 0 0 5\nwindow 1 5 15\nfilter 0 0 all\nfilter 1 1 all\ngroup 0 0 -\ngroup 1 1 -\nagg 0 0 count(*)\nagg 1 1 count(*)\n",
-    )
 }
 
 #[test]

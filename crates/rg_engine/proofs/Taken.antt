@@ -14,7 +14,7 @@ use Rattle.rg_plan.specs.Named.{node_at}
 use Rattle.rg_plan.specs.Plans.{Planned, plan_for}
 use Rattle.rg_plan.specs.Whole.{IsWhole}
 use Rattle.rg_state.specs.Rows.{Cells, Same}
-use Rattle.rg_window.specs.Placed.{Placed, IsSpelledAt, numbers_of}
+use Rattle.rg_window.specs.Placed.{Placed, AreWithin, IsSpelledAt, numbers_of}
 use Rattle.rg_engine.specs.declared.part.FilterPart.{FilterPart}
 use Rattle.rg_engine.specs.Answering.{node_answers, nodes_asked}
 use Rattle.rg_engine.specs.Building.{IsBuilt}
@@ -96,6 +96,14 @@ edges_from is_sound later_sound Spells Between Later count old new sound spells 
   rises = moved.rises;
   within = moved.within;
   spells = λ is edge spelled. moved.spells (sound is) edge (spells is edge spelled);
+}
+
+-- edges that stay where they are, over a past that has as many events as before
+pub edges_still : (is_sound : Type 0) (Spells Later : Spot → Type 0) (before after : ℕ) (spots : List Spot) → AreWithin spots before → after ≡ before → (is_sound → (spot : Spot) → Spells spot → Later spot) → EdgesMove is_sound Spells Later after spots spots
+edges_still is_sound Spells Later before after spots within same goes = record {
+  rises = λ edge. omega arith;
+  within = subst (λ count. AreWithin spots count) (sym same) within;
+  spells = λ is edge spelled. spelled_later Spells Later spots edge (goes is) spelled;
 }
 
 -- a refusal that isn't that of a full past ends the engine

@@ -1,4 +1,4 @@
-ghost use Rattle.std.specs.Prelude.{◌≡◌, ◌↔◌, ℕ, ◌+◌, ◌<◌, ◌≤◌, List, ◌++◌, length, All, OnOk, IsErrOf, vec_capacity};
+ghost use Rattle.std.specs.Prelude.{◌≡◌, ◌↔◌, ℕ, ◌+◌, ◌<◌, ◌≤◌, List, [], ◌++◌, length, All, OnOk, IsErrOf, vec_capacity};
 ghost use Rattle.rg_bytes.specs.Counts.{Rose};
 ghost use Rattle.rg_event.specs.declared.event.Event.{Event};
 ghost use Rattle.rg_plan.specs.declared.node.AggNode.{AggNode};
@@ -33,6 +33,17 @@ pub(crate) fn make_keys(
             Ok(()) => {}
         }
     }
+    Ok(())
+}
+
+/// Empties a list and makes room in it for so many answers, which takes memory only where it has less.
+/// Where memory runs out it is empty.
+pub(crate) fn make_room(answers: &mut Vec<Answer>, count: usize) -> Result<(), Memory>
+    ensures empty { answers.new.items ≡ [] }
+    ensures room { OnOk result (count ≤ vec_capacity answers.new) }
+{
+    answers.clear();
+    answers.reserve(count)?;
     Ok(())
 }
 

@@ -16,7 +16,7 @@ ghost use Rattle.rg_engine.specs.Faults.{WantsMemory};
 ghost use Rattle.rg_engine.specs.Passed.{AreAtPositions, passed_count};
 ghost use Rattle.rg_engine.specs.Standing.{IsAtPosition, NodeStands, come};
 
-use crate::answering::{answer_each, make_keys};
+use crate::answering::{answer_each, make_keys, make_room};
 use crate::building::set_up;
 use crate::changer::Rows;
 use crate::fault::{EngineFault, table_fault};
@@ -24,13 +24,14 @@ use crate::moving::move_rows;
 use rg_bytes::Memory;
 use rg_event::{Event, Steps};
 use rg_group::Key;
-use rg_metric::Answers;
+use rg_metric::{Answer, Answers};
 use rg_past::{Past, PastFault, Spot};
 use rg_plan::TaskPlan;
 use rg_state::Table;
 use rg_window::Edges;
 use std::alloc::Global;
 use std::marker::Model;
+use std::mem;
 use std::sync::ledger::Ledger;
 
 /// An engine that answers each event by the rows of a table, which it changes by each event that
@@ -45,6 +46,9 @@ pub struct Engine<T: Table> {
     nodes: Vec<u32>,
     /// A key for each group node, made anew for each event.
     keys: Vec<Key>,
+    /// The list that the next event's answers are put into. Without one that was given back it has no
+    /// room yet.
+    spare: Vec<Answer>,
     ended: bool,
 }
 
@@ -91,6 +95,7 @@ impl<T: Table> Engine<T> {
                 },
                 nodes: made.nodes,
                 keys: made.keys,
+                spare: Vec::new(alloc),
                 ended: false,
             }),
         }
@@ -173,10 +178,10 @@ impl<T: Table> Engine<T> {
             Err(_) => return Err(EngineFault::Memory),
             Ok(()) => {}
         }
-        let mut answers = match Vec::with_capacity(self.alloc, self.nodes.len()) {
+        match make_room(&mut self.spare, self.nodes.len()) {
             Err(_) => return Err(EngineFault::Memory),
-            Ok(answers) => answers,
-        };
+            Ok(()) => {}
+        }
         let time = event.time;
         match past.append(event) {
             Err(PastFault::Full) => {
@@ -202,14 +207,23 @@ impl<T: Table> Engine<T> {
             self.plan.aggs(),
             &self.nodes,
             &self.keys,
-            &mut answers,
+            &mut self.spare,
         ) {
             Err(fault) => return Err(table_fault(fault)),
             Ok(()) => {
                 self.ended = false;
+                let answers = mem::replace(&mut self.spare, Vec::new(self.alloc));
                 Ok(Answers::from(answers))
             }
         }
+    }
+
+    /// Takes a list of answers back, so that the answers to the next event are put into its room and
+    /// take no memory.
+    pub fn reuse(&mut self, answers: Answers)
+        ensures { self.new ≡ self.old }
+    {
+        self.spare = answers.into_vec();
     }
 
     /// Moves the edges to time t over the past, and changes the rows by what they cross, as `take` does.

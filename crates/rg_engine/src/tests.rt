@@ -75,6 +75,7 @@ fn first_difference<L: Ledger>(alloc: Global, blank: Blank) -> Result<Option<u64
         if answers.as_slice() != expected.as_slice() {
             return Ok(Some(number));
         }
+        engine.reuse(answers);
         if number % 10 == 9 {
             engine = engine_of(alloc, &past, &queries)?;
             match replay_checked(&mut engine, &mut past, time, &mut steps) {

@@ -63,4 +63,12 @@ impl Answers {
     {
         &self.list
     }
+
+    /// Its answers, with the room that they were put into.
+    pub fn into_vec(self) -> Vec<Answer>
+        ensures { result.items ≡ self }
+    {
+        let Answers { list } = self;
+        list
+    }
 }

@@ -230,4 +230,15 @@ impl<T: Table> Session<T> {
             Err(fault) => Err(fault),
         }
     }
+
+    /// Takes a reply back, so that the answers to the next line are put into the room of its own and take
+    /// no memory.
+    pub fn reuse(&mut self, reply: Reply)
+        ensures { self.new ≡ self.old }
+    {
+        match reply {
+            Reply::Answered(answers) => self.engine.reuse(answers),
+            _ => {}
+        }
+    }
 }

@@ -90,7 +90,10 @@ pub(crate) fn answer_line<H: Host, T: Table, L: Ledger>(
         Err(fault) => return Err(TurnFault::Task(fault)),
     }
     match tell(session, host, text, offset, &reply, due) {
-        Ok(()) => Ok(()),
+        Ok(()) => {
+            session.reuse(reply);
+            Ok(())
+        }
         Err(fault) => Err(fault),
     }
 }

@@ -1,10 +1,11 @@
-use Rattle.std.proofs.Common.{inl, inr, sym, ◌∙◌, ap, subst, [], Err}
+use Rattle.std.proofs.Common.{◌≡◌, ◌+◌, inl, inr, sym, ◌∙◌, ap, subst, [], Err}
 use Rattle.rg_host.proofs.Runs.{moments_then}
 use Rattle.rg_config.specs.Plans.{planned}
+use Rattle.rg_course.specs.Ahead.{after_line}
 use Rattle.rg_course.specs.Stores.{StaysOnCourse}
 use Rattle.rg_store.specs.Stores.{store_of}
-use Rattle.rg_recover.specs.Sessions.{events_of, stored_of}
-use Rattle.rg_turn.specs.Turning.{HasStopped}
+use Rattle.rg_recover.specs.Sessions.{Sitting, events_of, stored_of}
+use Rattle.rg_turn.specs.Turning.{HasStopped, IsAwaiting, terms_of}
 use Rattle.rg_turn.proofs.Causes.{same_task}
 use Rattle.rg_turn.proofs.Stepping.{line_steps, mid_stopped, has_stopped}
 use Rattle.rg_turn.proofs.Answered.{mid_taken, all_moments, then_awaits, then_events}
@@ -69,11 +70,12 @@ returns-in-Ok-tell-clause-awaits g c = λ course item items a reads.
     let m2 = c.in-Ok-settle.ensures.mid_turn (planned c.args.plan.now) course c.args.offset item items (events_of (g.H.Host.now h) s) (stored_of (g.H.Host.now h) s) s.keep h m1 in
     let steps = c.settle.ensures.moments (planned c.args.plan.now) course c.args.offset item items (events_of (g.H.Host.now h) s) (stored_of (g.H.Host.now h) s) s.keep h m1 in
     let done = c.in-Ok-settle.ensures.done (planned c.args.plan.now) course c.args.offset item items (events_of (g.H.Host.now h) s) (stored_of (g.H.Host.now h) s) s.keep h m1 in
-    then_awaits g.H.Host.now g.H.Host.may g.H.Host.clock g.H.Host.since g.H.Host.said (planned c.args.plan.now) course c.args.offset item items c.args.line.now (g.T.Table.tells s.engine.table) (g.T.Table.tells then.engine.table) (g.T.Table.cell s.engine.table) (g.T.Table.cell then.engine.table) h c.line.new.host s then a c.requires.next reads (c.in-Ok.ensures.running (planned c.args.plan.now) a.running) c.line.ensures.said c.line.ensures.stays.1
+    subst (λ (x : Sitting g.row.T.Denot). IsAwaiting (planned c.args.plan.now) course (c.args.offset + 1) items (g.H.Host.now c.tell.new.host) (g.H.Host.may c.tell.new.host) (g.H.Host.said c.tell.new.host) (g.T.Table.tells x.engine.table) (g.T.Table.cell x.engine.table) x) (sym c.reuse.ensures)
+    (then_awaits g.H.Host.now g.H.Host.may g.H.Host.clock g.H.Host.since g.H.Host.said (planned c.args.plan.now) course c.args.offset item items c.args.line.now (g.T.Table.tells s.engine.table) (g.T.Table.tells then.engine.table) (g.T.Table.cell s.engine.table) (g.T.Table.cell then.engine.table) h c.line.new.host s then a c.requires.next reads (c.in-Ok.ensures.running (planned c.args.plan.now) a.running) c.line.ensures.said c.line.ensures.stays.1
     (c.line.ensures.within_step (planned c.args.plan.now) s.keep a.running) (c.in-Ok.ensures.stored (planned c.args.plan.now) s.keep a.running) (c.in-Ok.ensures.events (planned c.args.plan.now) a.running)
     (g.T.Table.tells last.engine.table) (g.T.Table.cell last.engine.table) c.settle.new.host last m2 steps
     c.due_at-due.result c.count-before.result c.count.result c.count-before.ensures c.count.ensures (c.in-Ok-settle.ensures.count (planned c.args.plan.now) m1.running) c.due_at-due.ensures
-    c.requires.small done c.in-Ok.reply (c.in-Ok.ensures.reply (planned c.args.plan.now) a.running) c.tell.new.host c.tell.ensures.leaves c.in-Ok-tell.ensures.all
+    c.requires.small done c.in-Ok.reply (c.in-Ok.ensures.reply (planned c.args.plan.now) a.running) c.tell.new.host c.tell.ensures.leaves c.in-Ok-tell.ensures.all)
 
 pub returns-in-Ok-tell-clause-events : goal.returns-in-Ok-tell-clause-events
 returns-in-Ok-tell-clause-events g c = λ course item items a reads.
@@ -86,11 +88,12 @@ returns-in-Ok-tell-clause-events g c = λ course item items a reads.
     let m2 = c.in-Ok-settle.ensures.mid_turn (planned c.args.plan.now) course c.args.offset item items (events_of (g.H.Host.now h) s) (stored_of (g.H.Host.now h) s) s.keep h m1 in
     let steps = c.settle.ensures.moments (planned c.args.plan.now) course c.args.offset item items (events_of (g.H.Host.now h) s) (stored_of (g.H.Host.now h) s) s.keep h m1 in
     let done = c.in-Ok-settle.ensures.done (planned c.args.plan.now) course c.args.offset item items (events_of (g.H.Host.now h) s) (stored_of (g.H.Host.now h) s) s.keep h m1 in
-    then_events g.H.Host.now g.H.Host.may g.H.Host.clock g.H.Host.since g.H.Host.said (planned c.args.plan.now) course c.args.offset item items c.args.line.now (g.T.Table.tells s.engine.table) (g.T.Table.tells then.engine.table) (g.T.Table.cell s.engine.table) (g.T.Table.cell then.engine.table) h c.line.new.host s then a c.requires.next reads (c.in-Ok.ensures.running (planned c.args.plan.now) a.running) c.line.ensures.said c.line.ensures.stays.1
+    subst (λ (x : Sitting g.row.T.Denot). events_of (g.H.Host.now c.tell.new.host) x ≡ after_line (terms_of (planned c.args.plan.now)).basis (events_of (g.H.Host.now h) s) c.args.offset item) (sym c.reuse.ensures)
+    (then_events g.H.Host.now g.H.Host.may g.H.Host.clock g.H.Host.since g.H.Host.said (planned c.args.plan.now) course c.args.offset item items c.args.line.now (g.T.Table.tells s.engine.table) (g.T.Table.tells then.engine.table) (g.T.Table.cell s.engine.table) (g.T.Table.cell then.engine.table) h c.line.new.host s then a c.requires.next reads (c.in-Ok.ensures.running (planned c.args.plan.now) a.running) c.line.ensures.said c.line.ensures.stays.1
     (c.line.ensures.within_step (planned c.args.plan.now) s.keep a.running) (c.in-Ok.ensures.stored (planned c.args.plan.now) s.keep a.running) (c.in-Ok.ensures.events (planned c.args.plan.now) a.running)
     (g.T.Table.tells last.engine.table) (g.T.Table.cell last.engine.table) c.settle.new.host last m2 steps
     c.due_at-due.result c.count-before.result c.count.result c.count-before.ensures c.count.ensures (c.in-Ok-settle.ensures.count (planned c.args.plan.now) m1.running) c.due_at-due.ensures
-    c.requires.small done c.in-Ok.reply (c.in-Ok.ensures.reply (planned c.args.plan.now) a.running) c.tell.new.host c.tell.ensures.leaves
+    c.requires.small done c.in-Ok.reply (c.in-Ok.ensures.reply (planned c.args.plan.now) a.running) c.tell.new.host c.tell.ensures.leaves)
 
 pub returns-clause-moments : goal.returns-clause-moments
 returns-clause-moments g c = λ course item items a reads.

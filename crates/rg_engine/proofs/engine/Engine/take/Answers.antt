@@ -1,13 +1,15 @@
-use Rattle.std.proofs.Common.{◌<◌, ◌∙◌, ◌++◌, ◌∷◌, [], ℕ, List, All, length, refl, ap, sym, subst}
+use Rattle.std.proofs.Common.{◌<◌, ◌∙◌, ◌++◌, ◌∷◌, [], ℕ, List, All, length, refl, ap, sym, subst, Vec, rules}
 use Rattle.std.specs.Prelude.{Err}
+use Rattle.std.specs.declared.alloc.Global.{Global}
 use Rattle.rg_event.specs.Rising.{last_time}
+use Rattle.rg_metric.specs.declared.answer.Answer.{Answer}
 use Rattle.rg_plan.specs.declared.node.GroupNode.{GroupNode}
 use Rattle.rg_engine.specs.Answering.{keys_for, node_answers}
 use Rattle.rg_window.specs.Placed.{numbers_of}
 use Rattle.rg_engine.specs.Standing.{IsAtPosition}
 use Rattle.rg_past.specs.declared.past.PastFault.TheVariants as past
-use Rattle.rg_past.proofs.Kept.{cause-within}
-use Rattle.rg_engine.proofs.Taken.{ends_true, edges_from, last_of, stands_same, stands_events, row_stands, carried_on, spelled_later, spelled_at, numbers_same, front_and_more, answers_are, asked_within}
+use Rattle.rg_past.proofs.Kept.{cause-within, kept-then}
+use Rattle.rg_engine.proofs.Taken.{ends_true, edges_from, edges_still, last_of, stands_same, stands_events, row_stands, carried_on, spelled_later, spelled_at, numbers_same, front_and_more, answers_are, asked_within}
 use Rattle.rg_engine.proofs.Passed.{steps_passed}
 use Rattle.rg_engine.proofs.Plain.{same_fault}
 use Rattle.rg_engine.proofs.engine.Engine.take.Goals as goal
@@ -60,8 +62,8 @@ returns-clause-answers g c = rw (← c.self.view_is) (λ queries first made on.
     let keys = c.deref-2.ensures.value ∙ c.in-Ok.ensures.made ∙ ap (λ (groups : List GroupNode). keys_for groups event) c.groups.ensures in
     let told = c.in-Ok-answer_each.ensures.answers (moved.rows.tells.1 (on 0).tells) plan (g.P.Past.events c.args.past.now ++ event ∷ []) event built.whole (sym c.aggs.ensures.aggs) keys
     (λ n key. row_stands plan n (g.P.Past.events c.append.new.self) (g.P.Past.events c.args.past.now ++ event ∷ []) event.time (g.T.Table.cell c.move_rows.new.rows.table) _ added.ok (last_of (g.P.Past.events c.args.past.now) event) (after n) key) in
-    c.from.ensures ∙ answers_are queries plan _ event c.deref.result.now _ made (on 0).fed (c.deref.ensures.value ∙ built.asked)
-    (told ∙ ap (λ old. old ++ node_answers plan (g.P.Past.events c.args.past.now ++ event ∷ []) event c.deref.result.now) c.in-Ok-with_capacity.ensures.items))
+    c.from.ensures ∙ ap (λ (list : Vec Answer Global). list.items) c.replace-answers.ensures.value ∙ answers_are queries plan _ event c.deref.result.now _ made (on 0).fed (c.deref.ensures.value ∙ built.asked)
+    (told ∙ ap (λ old. old ++ node_answers plan (g.P.Past.events c.args.past.now ++ event ∷ []) event c.deref.result.now) c.make_room.ensures.empty))
 
 pub returns-in-Err-move_rows-clause-bad : goal.returns-in-Err-move_rows-clause-bad
 returns-in-Err-move_rows-clause-bad g c = rw (← c.self.view_is) (λ n first bad on.
@@ -115,3 +117,36 @@ returns-in-Err-move_rows-clause-never_damaged g c = rw (← c.self.view_is) (λ 
 
 pub returns-in-Err-answer_each-clause-never_damaged : goal.returns-in-Err-answer_each-clause-never_damaged
 returns-in-Err-answer_each-clause-never_damaged g c = λ place sound all is. c.table_fault.ensures.not_past (past.Damaged place) (same_fault is)
+
+pub returns-clause-past : goal.returns-clause-past
+returns-clause-past g c =
+    let added = c.in-Ok-append.ensures in
+    kept-then _ _ _ _ _ _ _ g.met.P.Past.transitive (record { goes = added.goes; sound = added.sound; ended = added.keeps_ended; later = added.later }) c.in-Ok-move_rows.ensures.past
+
+pub returns-in-Err-append : goal.returns-in-Err-append
+returns-in-Err-append g c = record {
+  stands = search rules;
+  bad = search rules;
+  places = search rules;
+  answers = search rules;
+  ticks = search rules;
+  passed = search rules;
+  appends = search rules;
+  below = search rules;
+  full = search rules;
+  full_always = search rules;
+  ended_always = search rules;
+  cause = search rules;
+  never_damaged = search rules;
+  table = search rules;
+  ended = search rules;
+  untouched = search rules;
+  ends = search rules;
+  plan = search rules;
+  edges =
+      let refused = c.in-Err-append.ensures in
+      let within = rw (← c.self.view_is) at c.requires.within in
+      rw (← c.self.view_is) (edges_still _ _ _ _ _ _ within (ap length refused.err) (λ sound spot spells. g.met.P.Past.stays_spelled _ _ spot refused.goes sound spells));
+  past = search rules;
+  rows = search rules;
+}

@@ -1,0 +1,75 @@
+#!/usr/bin/env bash
+# What the store costs: a million payments, five seconds apart, with a count and a sum by card over 30 days, each run over a new store on the disk of the temporary folder.
+# Commits of 1,024 payments and of one (the latter with fewer lines); the bytes of the store; an opening from a checkpoint and one that answers all payments again; a checkpoint of 100,000 keys.
+# Processor time (user and system), the time that passed and peak memory: the medians of three. It fails where a line isn't accepted. Outside the gate.
+# `rt run` in crates/railgun builds the program first; PROGRAM names another one.
+set -eu
+cd "$(dirname "$0")/.."
+program=${PROGRAM:-$PWD/crates/railgun/out/railgun}
+bench=$PWD/bench
+lines=${1:-1000000}
+work=$(mktemp -d "${TMPDIR:-/var/tmp}/railgun.XXXXXX")
+trap 'rm -rf "$work"' EXIT
+
+. "$bench/payments.sh"
+
+# A plan over 30 days with these settings, a line each.
+settings() {
+    plan "30 days"
+    echo "[settings]"
+    printf '%s\n' "$@"
+}
+
+# Runs the plan of this name once over the store, on these payments, and adds its figures to the file of this name.
+run_once() {
+    python3 "$bench/measure.py" "$2" "$work/out" "$program" run "$work/$1.toml" "$work/store" >> "$work/$1"
+    if [ "$(tail -n 1 "$work/out")" != "done $3" ]; then
+        echo "$1: not all lines were accepted: $(tail -n 1 "$work/out")" >&2
+        exit 1
+    fi
+}
+
+# The middle one of a column of three figures.
+median() {
+    cut -d ' ' -f "$2" "$work/$1" | sort -n | sed -n 2p
+}
+
+# Says the figures of this name.
+tell() {
+    echo "$2: $(median "$1" 1) s of processor time, $(median "$1" 2) s passed, $(median "$1" 3) KB"
+}
+
+payments 40 "$lines" > "$work/payments"
+head -n 10000 "$work/payments" > "$work/few"
+: > "$work/none"
+settings "commit = 1024" > "$work/commit.toml"
+settings "commit = 1" > "$work/each.toml"
+settings "commit = 1024" > "$work/from.toml"
+settings "commit = 1024" > "$work/replay.toml"
+for _ in 1 2 3; do
+    rm -rf "$work/store"
+    run_once each "$work/few" "10000 10000"
+    rm -rf "$work/store"
+    run_once commit "$work/payments" "$lines $lines"
+    run_once from "$work/none" "0 $lines"
+    rm "$work/store/slot0" "$work/store/slot1"
+    run_once replay "$work/none" "0 $lines"
+done
+tell commit "$lines lines, a commit each 1,024"
+echo "the log: $(wc -c < "$work/store/events") bytes, $(awk -v bytes="$(wc -c < "$work/store/events")" -v lines="$lines" 'BEGIN { printf "%.1f", bytes / lines }') each payment"
+tell each "10,000 lines, a commit each"
+tell from "an opening of $lines payments from a checkpoint of all"
+tell replay "an opening of $lines payments without a checkpoint"
+
+payments 100000 200000 > "$work/payments"
+settings "save = 100000" > "$work/saves.toml"
+settings "save = 1000000" > "$work/save.toml"
+for _ in 1 2 3; do
+    for name in saves save; do
+        rm -rf "$work/store"
+        run_once "$name" "$work/payments" "200000 200000"
+    done
+done
+tell save "200,000 lines of 100,000 cards, a checkpoint at the end"
+tell saves "the same, and a checkpoint after 100,000"
+echo "a checkpoint of 100,000 keys and two aggregators: $(wc -c < "$work/store/slot0") bytes"

@@ -6,7 +6,7 @@ use Rattle.rg_host.specs.Image.{Image}
 use Rattle.rg_config.specs.Plans.{Planned}
 use Rattle.rg_log.specs.Log.{schema_payload}
 use Rattle.rg_reservoir.specs.Attached.{IsOther, IsBadFrame}
-use Rattle.rg_run.specs.Faults.{IsIllegalThere}
+use Rattle.rg_reservoir.specs.Chain.{IsIllegal}
 use Rattle.railgun.specs.Call.{damage_line, schema_line, state_line, gap_line, IsLegal}
 use Rattle.railgun.specs.Plan.{IsPlan}
 
@@ -24,7 +24,7 @@ IsUnfit plan v = HasOtherSchema plan v ⊎ ((place : ℕ) × HasBadFrame plan pl
 
 -- the image says that its log is damaged there, or the image that is left says so
 abbrev pub IsDamagedAt : Planned → Option Image → Option Image → ℕ → Type 0
-IsDamagedAt plan old new place = ForSome old (λ v. HasBadFrame plan place v) ⊎ ForSome new (λ v. IsIllegalThere place v)
+IsDamagedAt plan old new place = ForSome old (λ v. HasBadFrame plan place v) ⊎ ForSome new (λ v. IsIllegal plan.shape.fields place (v 2))
 
 -- The line that refuses a store says why: another schema, and then the input was left alone; a damaged place; or a node whose rows don't
 -- stand for the events.

@@ -1,8 +1,4 @@
 -- What the faults of the layers below are to a run. Its table has no disk, and its session has not ended before its first fault: these two, said as Memory, never come.
-use Rattle.std.specs.Prelude.{ℕ, List}
-use Rattle.rg_host.specs.Image.{Image}
-use Rattle.rg_event.specs.declared.schema.Field.{Field}
-use Rattle.rg_reservoir.specs.Chain.{IsIllegal}
 use Rattle.rg_open.specs.declared.fault.OpenFault.{OpenFault}
 use Rattle.rg_open.specs.declared.fault.OpenFault.TheVariants as opening
 use Rattle.rg_recover.specs.declared.fault.TaskFault.{TaskFault}
@@ -34,7 +30,3 @@ of_task task.Table = Memory
 abbrev pub of_turn : TurnFault → RunFault
 of_turn (turn.Task fault) = of_task fault
 of_turn turn.Write = Write
-
--- an open gate stands at that place of a file, and behind it no chunk of some columns
-abbrev pub IsIllegalThere : ℕ → Image → Type 0
-IsIllegalThere p v = (fields : List Field) × (file : ℕ) × IsIllegal fields p (v file)

@@ -11,7 +11,7 @@ ghost use Rattle.rg_config.specs.Plans.{planned};
 ghost use Rattle.rg_config.specs.Read.{IsRead};
 ghost use Rattle.rg_reservoir.specs.Attached.{IsOther, IsBadFrame};
 ghost use Rattle.rg_reservoir.specs.Chain.{IsIllegal};
-ghost use Rattle.rg_reservoir.specs.Kept.{log_of};
+ghost use Rattle.rg_reservoir.specs.Kept.{base, log_of};
 ghost use Rattle.rg_course.specs.Stores.{StaysOnCourseSince};
 ghost use Rattle.rg_store.specs.Stores.{store_of};
 ghost use Rattle.rg_open.specs.Opening.{IsFromIn};
@@ -50,6 +50,8 @@ pub(crate) fn begin<H: Host, L: Ledger>(
         (H.now host.new) (H.may host.new) (H.said host.new) (⟦<MemTable as Table>⟧.tells turning.session.engine.table) (⟦<MemTable as Table>⟧.cell turning.session.engine.table) turning.session
         × (events_of (H.now host.new) turning.session ≡ ready.held))
         × IfErr result (λ fault. (fault ≡ RunFault.Write) ⊎ IsUnopened H.may H.said (planned plan.now) (begun_by ready from first input) host.old host.new) }
+    ensures behind { (ready : IsReady (planned plan.now) (H.now host.old) (H.may host.old) (H.said host.old)) (from : ℕ) (input : List ℕ) → next_offset ready.held < first →
+        OnOk result ⊥ × IsUnopened H.may H.said (planned plan.now) (begun_by ready from first input) host.old host.new }
     ensures never_bad { (n : ℕ) → IsReady (planned plan.now) (H.now host.old) (H.may host.old) (H.said host.old) → IsErrOf result (RunFault.BadState n) → ⊥ }
     ensures never_damaged { (p : ℕ) → IsReady (planned plan.now) (H.now host.old) (H.may host.old) (H.said host.old) → IsErrOf result (RunFault.Damaged p) → ⊥ }
     ensures never_differs { IsReady (planned plan.now) (H.now host.old) (H.may host.old) (H.said host.old) → IsErrOf result RunFault.SchemaDiffers → ⊥ }
@@ -63,6 +65,7 @@ pub(crate) fn begin<H: Host, L: Ledger>(
     ensures exact { (v : Image) → H.now host.old ≡ Some v → IsOther (schema_payload plan.now.schema) (v 2) ⊎ ((p : ℕ) × IsBadFrame (schema_payload plan.now.schema) p (v 2)) → OnOk result ⊥ }
 
     ensures offset { IfOk result (λ turning. turning.offset ≡ first) }
+    ensures log { IfOk result (λ turning. ((base turning.session.reservoir).shape ≡ plan.now.schema) × ((base turning.session.reservoir).file ≡ 2)) }
     ensures going { IfOk result (λ turning. turning.session.ended ≡ false) }
     ensures reaches { IfOk result (λ turning. ReachesEnd (log_of turning.session.reservoir) (H.now host.new)) }
     ensures write { IsErrOf result RunFault.Write → Rose (H.out_faults host.old) (H.out_faults host.new) }

@@ -56,6 +56,7 @@ pub(crate) fn answer_lines<I: Source, H: Host, L: Ledger>(
     ensures write { IsErrOf result RunFault.Write → Rose (H.out_faults host.old) (H.out_faults host.new) }
     ensures disk { IsErrOf result RunFault.Disk → Rose (H.disk_faults host.old) (H.disk_faults host.new) }
     ensures damaged { (p : ℕ) → IsErrOf result (RunFault.Damaged p) → ForSome (H.now host.new) (λ v. IsIllegal (base turning.new.session.reservoir).shape.fields p (v (base turning.new.session.reservoir).file)) }
+    ensures log { ((base turning.new.session.reservoir).shape ≡ (base turning.old.session.reservoir).shape) × ((base turning.new.session.reservoir).file ≡ (base turning.old.session.reservoir).file) }
     ensures others { (IsErrOf result RunFault.SchemaDiffers → ⊥) × ((n : ℕ) → IsErrOf result (RunFault.Gap n) → ⊥) }
     ensures later { I.faults input.old ≤ I.faults input.new }
     ensures disk_faults { H.disk_faults host.old ≤ H.disk_faults host.new }

@@ -8,10 +8,10 @@ ghost use Rattle.rg_log.specs.Log.{schema_payload};
 ghost use Rattle.rg_config.specs.Plans.{planned};
 ghost use Rattle.rg_config.specs.Read.{IsRead};
 ghost use Rattle.rg_reservoir.specs.Attached.{IsOther, IsBadFrame};
+ghost use Rattle.rg_reservoir.specs.Chain.{IsIllegal};
 ghost use Rattle.rg_run.specs.Begun.{IsReady, begun_by};
-ghost use Rattle.rg_run.specs.Faults.{IsIllegalThere};
 ghost use Rattle.rg_run.specs.Reading.{IsLonger, IsWithin};
-ghost use Rattle.rg_run.specs.UnderWay.{Ran};
+ghost use Rattle.rg_run.specs.UnderWay.{IsUnopened, Ran};
 
 use crate::begin::begin;
 use crate::fault::RunFault;
@@ -23,7 +23,8 @@ use std::alloc::Global;
 use std::sync::ledger::Ledger;
 
 /// Answers the lines of an input by a plan, over the store on a host. The first line has the offset
-/// `first`; it must be at most the store's next one. Each refusal but `Write` leaves whole lines put.
+/// `first`; it must be at most the store's next one, or nothing is read, stored or put. Each refusal but
+/// `Write` leaves whole lines put.
 pub fn run<I: Source, H: Host, L: Ledger>(
     alloc: Global,
     plan: &Plan,
@@ -38,6 +39,8 @@ pub fn run<I: Source, H: Host, L: Ledger>(
     // Over a store whose images are truthful, and an input that tells its bytes.
     ensures ran { (ready : IsReady (planned plan.now) (H.now host.old) (H.may host.old) (H.said host.old)) (all : List ℕ) → I.left input.old ≡ Some all →
         (from : ℕ) × Ran H.may H.clock H.since H.said (planned plan.now) (begun_by ready from first all) ready.openable.image (I.left input.new) result host.old host.new }
+    ensures behind { (ready : IsReady (planned plan.now) (H.now host.old) (H.may host.old) (H.said host.old)) (from : ℕ) (all : List ℕ) → next_offset ready.held < first →
+        OnOk result ⊥ × (input.new ≡ input.old) × IsUnopened H.may H.said (planned plan.now) (begun_by ready from first all) host.old host.new }
     ensures never_bad { (ready : IsReady (planned plan.now) (H.now host.old) (H.may host.old) (H.said host.old)) (all : List ℕ) (n : ℕ) → I.left input.old ≡ Some all → IsErrOf result (RunFault.BadState n) → ⊥ }
     ensures never_damaged { (ready : IsReady (planned plan.now) (H.now host.old) (H.may host.old) (H.said host.old)) (all : List ℕ) (p : ℕ) → I.left input.old ≡ Some all → IsErrOf result (RunFault.Damaged p) → ⊥ }
     ensures never_differs { IsReady (planned plan.now) (H.now host.old) (H.may host.old) (H.said host.old) → IsErrOf result RunFault.SchemaDiffers → ⊥ }
@@ -48,7 +51,7 @@ pub fn run<I: Source, H: Host, L: Ledger>(
     ensures no_gap { (ready : IsReady (planned plan.now) (H.now host.old) (H.may host.old) (H.said host.old)) → OnOk result (first ≤ next_offset ready.held) }
     ensures differs { IsErrOf result RunFault.SchemaDiffers → ForSome (H.now host.old) (λ v. IsOther (schema_payload plan.now.schema) (v 2)) }
     ensures damaged { (p : ℕ) → IsErrOf result (RunFault.Damaged p) →
-        ForSome (H.now host.old) (λ v. IsBadFrame (schema_payload plan.now.schema) p (v 2)) ⊎ ForSome (H.now host.new) (λ v. IsIllegalThere p v) }
+        ForSome (H.now host.old) (λ v. IsBadFrame (schema_payload plan.now.schema) p (v 2)) ⊎ ForSome (H.now host.new) (λ v. IsIllegal plan.now.schema.fields p (v 2)) }
     ensures exact { (v : Image) → H.now host.old ≡ Some v → IsOther (schema_payload plan.now.schema) (v 2) ⊎ ((p : ℕ) × IsBadFrame (schema_payload plan.now.schema) p (v 2)) → OnOk result ⊥ }
     ensures at_end { OnOk result (IsAtEnd (I.left input.new)) }
     ensures within { OnOk result (IsWithin (2 ^ 50) (I.left input.old)) }

@@ -54,6 +54,7 @@ fn answer_text<H: Host, L: Ledger>(
     ensures disk { IsErrOf result (TurnFault.Task TaskFault.Disk) → Rose (H.disk_faults host.old) (H.disk_faults host.new) }
     ensures no_table { IsErrOf result (TurnFault.Task TaskFault.Table) → ⊥ }
     ensures damaged { (p : ℕ) → IsErrOf result (TurnFault.Task (TaskFault.Damaged p)) → ForSome (H.now host.new) (λ v. IsIllegal (base turning.new.session.reservoir).shape.fields p (v (base turning.new.session.reservoir).file)) }
+    ensures log { ((base turning.new.session.reservoir).shape ≡ (base turning.old.session.reservoir).shape) × ((base turning.new.session.reservoir).file ≡ (base turning.old.session.reservoir).file) }
     ensures not_ended { IsErrOf result (TurnFault.Task TaskFault.Ended) → ⊥ }
     ensures disk_faults { H.disk_faults host.old ≤ H.disk_faults host.new }
     ensures out_faults { H.out_faults host.old ≤ H.out_faults host.new }
@@ -78,6 +79,7 @@ fn refuse_long<H: Host>(
     ensures offset { OnOk result (turning.new.offset ≡ turning.old.offset + 1) }
     ensures going { OnOk result (turning.new.session.ended ≡ false) }
     ensures reaches { OnOk result (ReachesEnd (log_of turning.new.session.reservoir) (H.now host.new)) }
+    ensures log { ((base turning.new.session.reservoir).shape ≡ (base turning.old.session.reservoir).shape) × ((base turning.new.session.reservoir).file ≡ (base turning.old.session.reservoir).file) }
     ensures write { IsErrOf result TurnFault.Write → Rose (H.out_faults host.old) (H.out_faults host.new) }
     ensures faults { IfErr result (λ fault. (fault ≡ TurnFault.Write) ⊎ (fault ≡ TurnFault.Task TaskFault.Memory)) }
     ensures disk_faults { H.disk_faults host.new ≡ H.disk_faults host.old }
@@ -131,6 +133,7 @@ pub(crate) fn turn<I: Source, H: Host, L: Ledger>(
     ensures write { IsErrOf result RunFault.Write → Rose (H.out_faults host.old) (H.out_faults host.new) }
     ensures disk { IsErrOf result RunFault.Disk → Rose (H.disk_faults host.old) (H.disk_faults host.new) }
     ensures damaged { (p : ℕ) → IsErrOf result (RunFault.Damaged p) → ForSome (H.now host.new) (λ v. IsIllegal (base turning.new.session.reservoir).shape.fields p (v (base turning.new.session.reservoir).file)) }
+    ensures log { ((base turning.new.session.reservoir).shape ≡ (base turning.old.session.reservoir).shape) × ((base turning.new.session.reservoir).file ≡ (base turning.old.session.reservoir).file) }
     ensures others { (IsErrOf result RunFault.SchemaDiffers → ⊥) × ((n : ℕ) → IsErrOf result (RunFault.Gap n) → ⊥) }
     ensures later { I.faults input.old ≤ I.faults input.new }
     ensures disk_faults { H.disk_faults host.old ≤ H.disk_faults host.new }

@@ -110,3 +110,23 @@ returns-in-Err-put_mark-clause-disk g c = λ is. absurd ((put_others c.in-Err-pu
 
 pub returns-in-Err-put_mark-clause-others : goal.returns-in-Err-put_mark-clause-others
 returns-in-Err-put_mark-clause-others g c = (λ is. (put_others c.in-Err-put_mark.fault c.in-Err-put_mark.ensures.faults).2 (let e : c.in-Err-put_mark.fault ≡ run.Read = cc in e), λ is. (put_others c.in-Err-put_mark.fault c.in-Err-put_mark.ensures.faults).3 (let e : c.in-Err-put_mark.fault ≡ run.Limit = cc in e))
+
+pub returns-in-Err-clause-behind : goal.returns-in-Err-clause-behind
+returns-in-Err-clause-behind g c = λ ready from input behind. (tt, unopened g.H.Host.now g.H.Host.may g.H.Host.clock g.H.Host.since g.H.Host.said (planned c.args.plan.now) c.args.host.now ready from c.args.first input None c.resume.new.host (c.resume.ensures.within ready.openable.image None ready.openable.told))
+
+pub returns-then-first-resumed-clause-behind : goal.returns-then-first-resumed-clause-behind
+returns-then-first-resumed-clause-behind g c = λ ready from input behind. (tt, unopened g.H.Host.now g.H.Host.may g.H.Host.clock g.H.Host.since g.H.Host.said (planned c.args.plan.now) c.args.host.now ready from c.args.first input None c.resume.new.host (c.resume.ensures.within ready.openable.image None ready.openable.told))
+
+pub returns-in-Ok-put_mark-clause-behind : goal.returns-in-Ok-put_mark-clause-behind
+returns-in-Ok-put_mark-clause-behind g c = λ ready from input behind.
+    let r = c.in-Ok.ensures.running ready.openable tt in
+    let events = c.in-Ok.ensures.events ready.openable.image ready.held ready.openable.told ready.has in
+    let n = (numbers (planned c.args.plan.now) _ _ _ _ c.in-Ok.opened.0 r ready.held events.0 c.in-Ok.opened.1.next c.in-Ok.opened.1.count c.in-Ok.ensures.numbers.0 c.in-Ok.ensures.numbers.1).0 in
+    absurd (omega (arith, n, behind, c.if-first-resumed.false))
+
+pub returns-in-Err-put_mark-clause-behind : goal.returns-in-Err-put_mark-clause-behind
+returns-in-Err-put_mark-clause-behind g c = λ ready from input behind.
+    let r = c.in-Ok.ensures.running ready.openable tt in
+    let events = c.in-Ok.ensures.events ready.openable.image ready.held ready.openable.told ready.has in
+    let n = (numbers (planned c.args.plan.now) _ _ _ _ c.in-Ok.opened.0 r ready.held events.0 c.in-Ok.opened.1.next c.in-Ok.opened.1.count c.in-Ok.ensures.numbers.0 c.in-Ok.ensures.numbers.1).0 in
+    absurd (omega (arith, n, behind, c.if-first-resumed.false))

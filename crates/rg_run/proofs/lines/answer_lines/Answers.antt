@@ -17,6 +17,7 @@ lines-init g c = record {
   way = λ b w. w;
   moments = λ b w. stays g.H.Host.now g.H.Host.may g.H.Host.clock g.H.Host.since g.H.Host.said (planned c.args.plan.now) b _ _ _ _ _ _ _ w g.met.H.Host.only_now g.met.H.Host.sinks;
   taken = λ start t. t;
+  log = (refl, refl);
   later = omega arith;
   disk_faults = omega arith;
   out_faults = omega arith;
@@ -31,6 +32,7 @@ lines-preserved g c = record {
   way = λ b w. c.in-Ok-true.ensures.under_way b (c.lines.invariant.way b w) c.in-Ok-true.field-0-test;
   moments = λ b w. moments_then g.H.Host.clock g.H.Host.since c.args.host.now c.lines.host c.turn.new.host (StaysOnCourse (store_of (planned c.args.plan.now)) (course_for (planned c.args.plan.now) b) []) (StaysOnCourse (store_of (planned c.args.plan.now)) (course_for (planned c.args.plan.now) b) []) (StaysOnCourse (store_of (planned c.args.plan.now)) (course_for (planned c.args.plan.now) b) []) (c.lines.invariant.moments b w) (c.turn.ensures.moments b (c.lines.invariant.way b w)) (λ m h. h) (λ m h. h);
   taken = λ start t. c.turn.ensures.taken start (c.lines.invariant.taken start t);
+  log = (c.turn.ensures.log.0 ∙ c.lines.invariant.log.0, c.turn.ensures.log.1 ∙ c.lines.invariant.log.1);
   later = omega (arith, c.lines.invariant.later, c.turn.ensures.later);
   disk_faults = omega (arith, c.lines.invariant.disk_faults, c.turn.ensures.disk_faults);
   out_faults = omega (arith, c.lines.invariant.out_faults, c.turn.ensures.out_faults);
@@ -62,3 +64,9 @@ returns-in-Err-clause-never_bad g c = λ b n w is. let e : c.in-Err.fault ≡ ru
 
 pub returns-in-Err-clause-never_damaged : goal.returns-in-Err-clause-never_damaged
 returns-in-Err-clause-never_damaged g c = λ b p w is. let e : c.in-Err.fault ≡ run.Damaged p = cc in c.in-Err.ensures.never_damaged b p (c.lines.invariant.way b w) (ap (λ v. Err v) e)
+
+pub returns-in-Ok-false-clause-log : goal.returns-in-Ok-false-clause-log
+returns-in-Ok-false-clause-log g c = (c.turn.ensures.log.0 ∙ c.lines.invariant.log.0, c.turn.ensures.log.1 ∙ c.lines.invariant.log.1)
+
+pub returns-in-Err-clause-log : goal.returns-in-Err-clause-log
+returns-in-Err-clause-log g c = (c.turn.ensures.log.0 ∙ c.lines.invariant.log.0, c.turn.ensures.log.1 ∙ c.lines.invariant.log.1)

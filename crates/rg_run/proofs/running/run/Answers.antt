@@ -1,6 +1,9 @@
 use Rattle.std.proofs.Common.{inl, inr, ℕ, [], ◌≡◌, ◌+◌, ◌^◌, Some, refl, sym, ◌∙◌, ap, subst, arith, Err, ⊎_elim, ◌⊎◌}
 use Rattle.rg_host.proofs.Runs.{moments_then}
+use Rattle.rg_event.specs.Shapes.{Shape}
 use Rattle.rg_config.specs.Plans.{planned}
+use Rattle.rg_reservoir.specs.Chain.{IsIllegal}
+use Rattle.rg_reservoir.specs.Kept.{base}
 use Rattle.rg_course.specs.Stores.{StaysOnCourse, StaysOnCourseSince}
 use Rattle.rg_store.specs.Stores.{store_of}
 use Rattle.rg_run.specs.Begun.{begun_by, course_for}
@@ -97,14 +100,29 @@ pub returns-clause-limit : goal.returns-clause-limit
 returns-clause-limit g c = λ is. let e : c.in-Err-answer_lines.fault ≡ run.Limit = cc in longer _ _ _ (2 ^ 50) (c.answer_lines.ensures.taken (g.I.Source.left c.args.input.now) (taken_none (g.I.Source.left c.args.input.now) c.in-Ok.lines c.in-Ok.ensures.taken c.in-Ok.ensures.ended)) (c.in-Err-answer_lines.ensures.limit (ap (λ v. Err v) e))
 
 pub returns-clause-damaged : goal.returns-clause-damaged
-returns-clause-damaged g c = λ p is. let e : c.in-Err-answer_lines.fault ≡ run.Damaged p = cc in inr (λ v told. (_, _, c.in-Err-answer_lines.ensures.damaged p (ap (λ v. Err v) e) v told))
+returns-clause-damaged g c = λ p is.
+    let e : c.in-Err-answer_lines.fault ≡ run.Damaged p = cc in
+    let fields = c.args.plan.now.schema.fields in
+    let b = base c.answer_lines.new.turning.session.reservoir in
+    let shape : b.shape ≡ c.args.plan.now.schema = c.answer_lines.ensures.log.0 ∙ c.in-Ok-begin.ensures.log.0 in
+    let file : b.file ≡ 2 = c.answer_lines.ensures.log.1 ∙ c.in-Ok-begin.ensures.log.1 in
+    inr (λ v told. subst (λ (f : ℕ). IsIllegal fields p (v f)) file (subst (λ (s : Shape). IsIllegal s.fields p (v b.file)) shape (c.in-Err-answer_lines.ensures.damaged p (ap (λ v. Err v) e) v told)))
 
 pub returns-in-Err-begin-clause-damaged : goal.returns-in-Err-begin-clause-damaged
-returns-in-Err-begin-clause-damaged g c = λ p is. let e : c.in-Err-begin.fault ≡ run.Damaged p = cc in
-    elim (c.in-Err-begin.ensures.damaged p (ap (λ v. Err v) e)) [
-      | inl bad ↦ inl bad
-      | inr bad ↦ inr (λ v told. (_, _, bad v told))
-    ]
+returns-in-Err-begin-clause-damaged g c = λ p is. let e : c.in-Err-begin.fault ≡ run.Damaged p = cc in c.in-Err-begin.ensures.damaged p (ap (λ v. Err v) e)
+
+pub returns-in-Err-clause-behind : goal.returns-in-Err-clause-behind
+returns-in-Err-clause-behind g c = λ ready from all behind.
+    (tt, refl, none_unopened g.H.Host.now g.H.Host.may g.H.Host.clock g.H.Host.since g.H.Host.said (planned c.args.plan.now) (begun_by ready from c.args.first all) c.args.host.now)
+
+pub returns-in-Err-begin-clause-behind : goal.returns-in-Err-begin-clause-behind
+returns-in-Err-begin-clause-behind g c = λ ready from all behind. (tt, refl, (c.in-Err-begin.ensures.behind ready from all behind).1)
+
+pub returns-in-Ok-answer_lines-clause-behind : goal.returns-in-Ok-answer_lines-clause-behind
+returns-in-Ok-answer_lines-clause-behind g c = λ ready from all behind. absurd (omega (arith, behind, c.in-Ok-begin.ensures.no_gap ready))
+
+pub returns-clause-behind : goal.returns-clause-behind
+returns-clause-behind g c = λ ready from all behind. absurd (omega (arith, behind, c.in-Ok-begin.ensures.no_gap ready))
 
 pub returns-in-Err-begin-clause-gap_next : goal.returns-in-Err-begin-clause-gap_next
 returns-in-Err-begin-clause-gap_next g c = λ ready n is. let e : c.in-Err-begin.fault ≡ run.Gap n = cc in c.in-Err-begin.ensures.gap_next ready n (ap (λ v. Err v) e)

@@ -11,6 +11,7 @@ use Rattle.rg_run.specs.declared.fault.RunFault.{RunFault}
 use Rattle.rg_run.specs.declared.fault.RunFault.TheVariants as run
 use Rattle.rg_run.proofs.Runs.{none_moments, none_unopened, left_unopened, left_cut, way_first}
 use Rattle.rg_run.proofs.Taking.{taken_none, longer, within}
+use Rattle.rg_run.proofs.TurnedAway.{none_alone, none_within}
 use Rattle.rg_run.proofs.running.run.Goals as goal
 
 pub returns-in-Err-clause-ran : goal.returns-in-Err-clause-ran
@@ -54,6 +55,36 @@ returns-in-Ok-answer_lines-clause-ran g c = λ ready all left.
         answered = tt;
       },
     )
+
+pub returns-in-Err-clause-behind : goal.returns-in-Err-clause-behind
+returns-in-Err-clause-behind g c = λ ready keep behind.
+    (refl, none_within g.H.Host.may g.H.Host.clock g.H.Host.since g.H.Host.said g.met.H.Host.only_now g.met.H.Host.sinks (planned c.args.plan.now) keep ready.openable.image c.args.host.now, tt)
+
+pub returns-in-Err-begin-clause-behind : goal.returns-in-Err-begin-clause-behind
+returns-in-Err-begin-clause-behind g c = λ ready keep behind.
+    let at = c.in-Err-begin.ensures.behind ready keep behind in
+    (refl, at.0, at.1)
+
+pub returns-in-Ok-answer_lines-clause-behind : goal.returns-in-Ok-answer_lines-clause-behind
+returns-in-Ok-answer_lines-clause-behind g c = λ ready keep behind. absurd (omega (arith, behind, c.in-Ok-begin.ensures.no_gap ready))
+
+pub returns-clause-behind : goal.returns-clause-behind
+returns-clause-behind g c = λ ready keep behind. absurd (omega (arith, behind, c.in-Ok-begin.ensures.no_gap ready))
+
+pub returns-in-Err-clause-unfit : goal.returns-in-Err-clause-unfit
+returns-in-Err-clause-unfit g c = λ v told unfit.
+    (refl, none_alone g.H.Host.now g.H.Host.may g.H.Host.clock g.H.Host.since g.H.Host.said g.met.H.Host.now_may g.met.H.Host.only_now g.met.H.Host.sinks v c.args.host.now told, tt)
+
+pub returns-in-Err-begin-clause-unfit : goal.returns-in-Err-begin-clause-unfit
+returns-in-Err-begin-clause-unfit g c = λ v told unfit.
+    let at = c.in-Err-begin.ensures.unfit v told unfit in
+    (refl, at.0, at.1)
+
+pub returns-in-Ok-answer_lines-clause-unfit : goal.returns-in-Ok-answer_lines-clause-unfit
+returns-in-Ok-answer_lines-clause-unfit g c = λ v told unfit. absurd (c.in-Ok-begin.ensures.exact v told unfit)
+
+pub returns-clause-unfit : goal.returns-clause-unfit
+returns-clause-unfit g c = λ v told unfit. absurd (c.in-Ok-begin.ensures.exact v told unfit)
 
 pub returns-clause-ran : goal.returns-clause-ran
 returns-clause-ran g c = λ ready all left.
@@ -110,19 +141,6 @@ returns-clause-damaged g c = λ p is.
 
 pub returns-in-Err-begin-clause-damaged : goal.returns-in-Err-begin-clause-damaged
 returns-in-Err-begin-clause-damaged g c = λ p is. let e : c.in-Err-begin.fault ≡ run.Damaged p = cc in c.in-Err-begin.ensures.damaged p (ap (λ v. Err v) e)
-
-pub returns-in-Err-clause-behind : goal.returns-in-Err-clause-behind
-returns-in-Err-clause-behind g c = λ ready from all behind.
-    (tt, refl, none_unopened g.H.Host.now g.H.Host.may g.H.Host.clock g.H.Host.since g.H.Host.said (planned c.args.plan.now) (begun_by ready from c.args.first all) c.args.host.now)
-
-pub returns-in-Err-begin-clause-behind : goal.returns-in-Err-begin-clause-behind
-returns-in-Err-begin-clause-behind g c = λ ready from all behind. (tt, refl, (c.in-Err-begin.ensures.behind ready from all behind).1)
-
-pub returns-in-Ok-answer_lines-clause-behind : goal.returns-in-Ok-answer_lines-clause-behind
-returns-in-Ok-answer_lines-clause-behind g c = λ ready from all behind. absurd (omega (arith, behind, c.in-Ok-begin.ensures.no_gap ready))
-
-pub returns-clause-behind : goal.returns-clause-behind
-returns-clause-behind g c = λ ready from all behind. absurd (omega (arith, behind, c.in-Ok-begin.ensures.no_gap ready))
 
 pub returns-in-Err-begin-clause-gap_next : goal.returns-in-Err-begin-clause-gap_next
 returns-in-Err-begin-clause-gap_next g c = λ ready n is. let e : c.in-Err-begin.fault ≡ run.Gap n = cc in c.in-Err-begin.ensures.gap_next ready n (ap (λ v. Err v) e)

@@ -3,3 +3,4 @@ pub mod Attached
 pub mod Found
 pub mod Causes
 pub mod Within
+pub mod Unfit

@@ -4,3 +4,4 @@ pub mod Found
 pub mod Causes
 pub mod Within
 pub mod Unfit
+pub mod Froms

@@ -7,10 +7,12 @@
 
 mod fault;
 mod finding;
+mod law;
 mod opening;
 mod settling;
 mod starting;
 
 pub use fault::OpenFault;
+pub use law::law_from;
 pub use opening::{Opened, Resumed, open_store};
 pub use settling::settle;

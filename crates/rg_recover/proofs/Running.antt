@@ -1,14 +1,15 @@
 -- A session that runs, from one call to the next.
-use Rattle.std.proofs.Common.{◌≡◌, ◌≢◌, ℕ, ◌≤◌, false, List, Option, Some, sym, ◌∙◌, subst, arith}
+use Rattle.std.proofs.Common.{◌≡◌, ◌≢◌, ℕ, ◌≤◌, false, List, [], ◌∷◌, length, Option, Some, refl, sym, ◌∙◌, subst, arith}
 use Rattle.rg_host.specs.Image.{Image, NothingPending}
 use Rattle.rg_event.specs.declared.event.Event.{Event}
 use Rattle.rg_config.specs.Plans.{Planned}
 use Rattle.rg_state.specs.Rows.{Cells}
-use Rattle.rg_reservoir.specs.Kept.{base}
+use Rattle.rg_reservoir.specs.Kept.{base, opened}
+use Rattle.rg_reservoir.specs.declared.reservoir.Reservoir.{Reservoir}
 use Rattle.rg_course.specs.Steps.{IsStepped}
 use Rattle.rg_store.specs.Stores.{store_of}
 use Rattle.rg_store.specs.Opened.{IsKept}
-use Rattle.rg_recover.specs.Sessions.{Sitting, IsReady, IsRunning}
+use Rattle.rg_recover.specs.Sessions.{Sitting, IsReady, IsRunning, count_in}
 
 -- the slot that is kept, after a step on the log
 pub kept_still : (plan : Planned) (may after : Image → Type 0) (keep : Option ℕ) (chunk : List Event) (slot saved committed then : ℕ) → keep ≡ Some slot → committed ≤ then → ((u : Image) → after u → IsStepped (store_of plan) keep chunk may u)
@@ -33,6 +34,14 @@ runs_still plan now then may after told told_still cells rows s new chunk runs r
       let was : s.keep ≡ Some slot = sym keep ∙ is in
       subst (λ (n : ℕ). IsKept plan after slot n (base new.reservoir).committed) (sym saved) (kept_still plan may after s.keep chunk slot s.saved (base s.reservoir).committed (base new.reservoir).committed was more stepped (runs.kept slot was));
 }
+
+-- no event is open where no more were saved than are stored, and those are all
+pub none_open : (r : Reservoir) (saved : ℕ) → saved ≤ (base r).committed → saved ≡ count_in r → opened r ≡ []
+none_open r saved stored all = by (opened r) (omega (arith, stored, all))
+  where
+    by : (l : List Event) → length l ≡ 0 → l ≡ []
+    by [] is = refl
+    by (x ∷ l) is = absurd (omega (arith, is))
 
 -- neither slot is the log
 pub first_apart : ◌≢◌ {A = ℕ} 0 2

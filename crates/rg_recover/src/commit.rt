@@ -79,6 +79,7 @@ impl<T: Table> Session<T> {
         ensures count { count_in self.new.reservoir ≡ count_in self.old.reservoir }
         ensures stays { (self.new.engine ≡ self.old.engine) × (self.new.texts ≡ self.old.texts) × (self.new.keep ≡ self.old.keep) × (self.new.saved ≡ self.old.saved) }
         ensures last { next_of self.new.reservoir ≡ next_of self.old.reservoir }
+        ensures log { ((base self.new.reservoir).shape ≡ (base self.old.reservoir).shape) × ((base self.new.reservoir).file ≡ (base self.old.reservoir).file) }
         ensures memory { IsErrOf result TaskFault.Memory → (self.new ≡ self.old) × (host.new ≡ host.old) }
         ensures disk { IsErrOf result TaskFault.Disk → Rose (H.disk_faults host.old) (H.disk_faults host.new) }
         ensures faults { IfErr result (λ fault. (fault ≡ TaskFault.Disk) ⊎ (fault ≡ TaskFault.Memory) ⊎ (fault ≡ TaskFault.Ended)) }

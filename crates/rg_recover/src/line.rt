@@ -1,4 +1,4 @@
-ghost use Rattle.std.specs.Prelude.{◌≡◌, ◌≢◌, ◌↔◌, ◌≤◌, ◌<◌, ◌^◌, ◌==◌, nat_lt, ◌++◌, [], ◌∷◌, ℕ, List, Option, length, true, false, IfOk, OnOk, OnErr, IsErrOf};
+ghost use Rattle.std.specs.Prelude.{◌≡◌, ◌≢◌, ◌↔◌, ◌⊎◌, ◌≤◌, ◌<◌, ◌^◌, ◌==◌, nat_lt, ◌++◌, [], ◌∷◌, ℕ, List, Option, length, true, false, IfOk, OnOk, OnErr, IsErrOf};
 ghost use Rattle.std.specs.List.{list_any};
 ghost use Rattle.std.specs.Option.{ForSome};
 ghost use Rattle.rg_bytes.specs.Counts.{Rose};
@@ -8,6 +8,7 @@ ghost use Rattle.rg_event.specs.Rising.{IsRising, last_time};
 ghost use Rattle.rg_event.specs.declared.event.Event.{Event as TheEvent};
 ghost use Rattle.rg_frame.specs.LogState.{ReachesEnd};
 ghost use Rattle.rg_metric.specs.Replies.{answers_to};
+ghost use Rattle.rg_metric.specs.declared.answer.Answer.{Answer as TheAnswer};
 ghost use Rattle.rg_config.specs.Plans.{Planned};
 ghost use Rattle.rg_row.specs.Rows.{row_of};
 ghost use Rattle.rg_reservoir.specs.Chain.{IsIllegal};
@@ -104,6 +105,7 @@ fn take_in<H: Host, T: Table, L: Ledger>(
     ensures rows { TableKept T.tells T.faults engine.old.table engine.new.table }
     ensures within { AreWithin engine.new.spots (count_in reservoir.new) }
     ensures shape { (base reservoir.new).shape ≡ (base reservoir.old).shape }
+    ensures file { (base reservoir.new).file ≡ (base reservoir.old).file }
     ensures limit { (base reservoir.new).limit ≡ (base reservoir.old).limit }
     ensures room { room_of reservoir.new ≡ room_of reservoir.old }
     ensures full { length (opened reservoir.new) ≤ room_of reservoir.new }
@@ -161,8 +163,9 @@ impl<T: Table> Session<T> {
     }
 
     /// Decides on a cleaned line, and answers it; an accepted one is answered over all events, itself
-    /// among them. Where there is no room for its event, all events are stored first. Any refusal ends
-    /// the session: each later call is refused with `Ended`, and touches nothing.
+    /// among them. Where there is no room for its event, all events are stored first. A line that isn't
+    /// accepted touches nothing. Any refusal ends the session: each later call is refused with `Ended`,
+    /// and touches nothing.
     pub fn line<H: Host, L: Ledger>(
         &mut self,
         host: &mut H,
@@ -191,6 +194,7 @@ impl<T: Table> Session<T> {
         ensures never_damaged { (plan : Planned) (p : ℕ) → IsRunning plan (H.now host.old) (H.may host.old) (T.tells self.old.engine.table) (T.cell self.old.engine.table) self.old →
             IsErrOf result (TaskFault.Damaged p) → ⊥ }
 
+        ensures refused { IfOk result (λ reply. ((answers : List TheAnswer) × (reply ≡ Reply.Answered answers)) ⊎ ((self.new ≡ self.old) × (host.new ≡ host.old) × (steps.new ≡ steps.old))) }
         ensures damaged { (p : ℕ) → IsErrOf result (TaskFault.Damaged p) → ForSome (H.now host.new) (λ v. IsIllegal (base self.new.reservoir).shape.fields p (v (base self.new.reservoir).file)) }
         ensures disk { IsErrOf result TaskFault.Disk → Rose (H.disk_faults host.old) (H.disk_faults host.new) }
         ensures table { IsErrOf result TaskFault.Table → Rose (T.faults self.old.engine.table) (T.faults self.new.engine.table) }
@@ -199,6 +203,7 @@ impl<T: Table> Session<T> {
         ensures goes { OnOk result (self.new.ended ≡ false) }
         ensures ends { OnErr result (self.new.ended ≡ true) }
         ensures stays { (self.new.texts ≡ self.old.texts) × (self.new.keep ≡ self.old.keep) × (self.new.saved ≡ self.old.saved) }
+        ensures log { ((base self.new.reservoir).shape ≡ (base self.old.reservoir).shape) × ((base self.new.reservoir).file ≡ (base self.old.reservoir).file) }
         ensures rows { TableKept T.tells T.faults self.old.engine.table self.new.engine.table }
         ensures reaches { self.new.ended ≡ false → ReachesEnd (log_of self.new.reservoir) (H.now host.new) }
         ensures said { H.said host.new ≡ H.said host.old }

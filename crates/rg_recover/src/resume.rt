@@ -9,7 +9,7 @@ ghost use Rattle.rg_config.specs.Plans.{planned};
 ghost use Rattle.rg_config.specs.Read.{IsRead};
 ghost use Rattle.rg_reservoir.specs.Attached.{IsOther, IsBadFrame};
 ghost use Rattle.rg_reservoir.specs.Chain.{IsIllegal};
-ghost use Rattle.rg_reservoir.specs.Kept.{opened, log_of, next_of};
+ghost use Rattle.rg_reservoir.specs.Kept.{base, opened, log_of, next_of};
 ghost use Rattle.rg_state.specs.Keeping.{TableKept};
 ghost use Rattle.rg_engine.specs.Passed.{passed_count};
 ghost use Rattle.rg_restore.specs.Opening.{IsEmpty};
@@ -80,6 +80,7 @@ impl<T: Table> Session<T> {
 
         ensures empty { IfOk result (λ r. opened r.0.reservoir ≡ []) }
         ensures going { IfOk result (λ r. r.0.ended ≡ false) }
+        ensures log { IfOk result (λ r. ((base r.0.reservoir).shape ≡ plan.now.schema) × ((base r.0.reservoir).file ≡ 2)) }
         ensures numbers { IfOk result (λ r. (r.1.next ≡ next_of r.0.reservoir) × (r.1.count ≡ count_in r.0.reservoir) × (r.1.from ≡ r.0.saved)) }
         ensures reaches { IfOk result (λ r. ReachesEnd (log_of r.0.reservoir) (H.now host.new)) }
         ensures table { IfOk result (λ r. TableKept T.tells T.faults table r.0.engine.table) }

@@ -1,9 +1,9 @@
-ghost use Rattle.std.specs.Prelude.{◌≡◌, ◌↔◌, ◌⊎◌, ◌≤◌, [], ℕ, List, Option, Some, true, false, IfOk, IfErr, IsTrue, OnOk, OnErr, IsErrOf};
+ghost use Rattle.std.specs.Prelude.{◌≡◌, ◌↔◌, ◌⊎◌, ◌≤◌, [], ℕ, List, Option, Some, Ok, true, false, IfOk, IfErr, IsTrue, OnOk, OnErr, IsErrOf};
 ghost use Rattle.rg_bytes.specs.Counts.{Rose};
 ghost use Rattle.rg_host.specs.Image.{Image, NothingPending};
 ghost use Rattle.rg_frame.specs.LogState.{ReachesEnd};
 ghost use Rattle.rg_config.specs.Plans.{Planned};
-ghost use Rattle.rg_reservoir.specs.Kept.{opened, log_of};
+ghost use Rattle.rg_reservoir.specs.Kept.{base, opened, log_of};
 ghost use Rattle.rg_state.specs.Keeping.{TableKept};
 ghost use Rattle.rg_state.specs.Rows.{Same};
 ghost use Rattle.rg_checkpoint.specs.declared.base.Checkpoint.{Checkpoint as TheCheckpoint};
@@ -83,8 +83,8 @@ fn write_slot<H: Host>(
 
 impl<T: Table> Session<T> {
     /// Stores all events, and writes a checkpoint of them into the slot other than the one that was used
-    /// or written last; where that one has this count, nothing is written. Answers how many events there
-    /// are. Any refusal ends the session.
+    /// or written last. Where that one has this count and all events are stored, nothing is written. Answers
+    /// how many events there are. Any refusal ends the session.
     pub fn save<H: Host>(&mut self, host: &mut H) -> Result<u64, TaskFault>
         requires reaches { self.old.ended ≡ false → ReachesEnd (log_of self.old.reservoir) (H.now host.old) }
 
@@ -102,6 +102,10 @@ impl<T: Table> Session<T> {
         ensures count { IfOk result (λ count. count ≡ count_in self.new.reservoir) }
         ensures saved { OnOk result ((self.new.saved ≡ count_in self.new.reservoir) × (opened self.new.reservoir ≡ [])) }
         ensures kept { OnOk result ((slot : ℕ) × (self.new.keep ≡ Some slot)) }
+        ensures idle { (slot : ℕ) → self.old.ended ≡ false → self.old.keep ≡ Some slot → self.old.saved ≡ count_in self.old.reservoir → opened self.old.reservoir ≡ [] →
+            (result ≡ Ok self.old.saved) × (self.new ≡ self.old) × (host.new ≡ host.old) }
+        ensures log { ((base self.new.reservoir).shape ≡ (base self.old.reservoir).shape) × ((base self.new.reservoir).file ≡ (base self.old.reservoir).file) }
+        ensures rows { TableKept T.tells T.faults self.old.engine.table self.new.engine.table }
         ensures untouched { IsErrOf result TaskFault.Ended → (self.new ≡ self.old) × (host.new ≡ host.old) }
         ensures disk { IsErrOf result TaskFault.Disk → Rose (H.disk_faults host.old) (H.disk_faults host.new) }
         ensures table { IsErrOf result TaskFault.Table → Rose (T.faults self.old.engine.table) (T.faults self.new.engine.table) }
@@ -114,27 +118,32 @@ impl<T: Table> Session<T> {
         ensures disk_faults { H.disk_faults host.old ≤ H.disk_faults host.new }
         ensures out_faults { H.out_faults host.new ≡ H.out_faults host.old }
     {
-        match self.commit(host) {
-            Ok(_) => {}
-            Err(TaskFault::Ended) => return Err(TaskFault::Ended),
-            Err(fault) => {
-                self.ended = true;
-                return Err(fault);
-            }
+        if self.ended {
+            return Err(TaskFault::Ended);
         }
         if self.is_saved() {
             return Ok(self.saved);
         }
-        self.write_checkpoint(host)
+        match self.commit(host) {
+            Ok(_) => self.write_checkpoint(host),
+            Err(fault) => {
+                self.ended = true;
+                Err(fault)
+            }
+        }
     }
 
-    /// Whether the slot that was used or written last has a checkpoint of all events.
+    /// Whether all events are stored, and the slot that was used or written last has a checkpoint of them.
     fn is_saved(&self) -> bool
         ensures kept { IsTrue result → (slot : ℕ) × (self.now.keep ≡ Some slot) }
         ensures count { IsTrue result → self.now.saved ≡ count_in self.now.reservoir }
+        ensures empty { IsTrue result → opened self.now.reservoir ≡ [] }
+        ensures all { (slot : ℕ) → self.now.keep ≡ Some slot → self.now.saved ≡ count_in self.now.reservoir → opened self.now.reservoir ≡ [] → IsTrue result }
     {
         match self.keep {
-            Some(_) => self.saved == self.reservoir.count(),
+            Some(_) => {
+                self.saved == self.reservoir.count() && self.saved == self.reservoir.committed()
+            }
             None => false,
         }
     }
@@ -149,6 +158,7 @@ impl<T: Table> Session<T> {
             OnOk result (IsRunning plan (H.now host.new) (H.may host.new) (T.tells self.new.engine.table) (T.cell self.new.engine.table) self.new) }
         ensures log { LogStays (H.now host.old) (H.now host.new) (H.may host.old) (H.may host.new) }
         ensures reservoir { self.new.reservoir ≡ self.old.reservoir }
+        ensures rows { TableKept T.tells T.faults self.old.engine.table self.new.engine.table }
         ensures count { IfOk result (λ count. count ≡ count_in self.new.reservoir) }
         ensures saved { OnOk result (self.new.saved ≡ count_in self.new.reservoir) }
         ensures kept { OnOk result ((slot : ℕ) × (self.new.keep ≡ Some slot)) }

@@ -73,6 +73,7 @@ pub(crate) fn answer_line<H: Host, T: Table, L: Ledger>(
     ensures disk { IsErrOf result (TurnFault.Task TaskFault.Disk) → Rose (H.disk_faults host.old) (H.disk_faults host.new) }
     ensures table { IsErrOf result (TurnFault.Task TaskFault.Table) → Rose (T.faults session.old.engine.table) (T.faults session.new.engine.table) }
     ensures ended { IsErrOf result (TurnFault.Task TaskFault.Ended) → session.old.ended ≡ true }
+    ensures log { ((base session.new.reservoir).shape ≡ (base session.old.reservoir).shape) × ((base session.new.reservoir).file ≡ (base session.old.reservoir).file) }
     ensures goes { session.old.ended ≡ false → OnOk result (session.new.ended ≡ false) }
     ensures reaches { session.new.ended ≡ false → ReachesEnd (log_of session.new.reservoir) (H.now host.new) }
     ensures disk_faults { H.disk_faults host.old ≤ H.disk_faults host.new }

@@ -4,7 +4,7 @@ ghost use Rattle.rg_host.specs.Image.{Image};
 ghost use Rattle.rg_host.specs.Moments.{Moments};
 ghost use Rattle.rg_frame.specs.LogState.{ReachesEnd};
 ghost use Rattle.rg_config.specs.Plans.{Planned};
-ghost use Rattle.rg_reservoir.specs.Kept.{log_of};
+ghost use Rattle.rg_reservoir.specs.Kept.{base, log_of};
 ghost use Rattle.rg_course.specs.Stores.{Course, StaysOnCourse};
 ghost use Rattle.rg_course.specs.Turns.{IsDone};
 ghost use Rattle.rg_store.specs.Stores.{store_of};
@@ -42,6 +42,7 @@ impl<T: Table> Turning<T> {
         ensures table { IsErrOf result (TurnFault.Task TaskFault.Table) → Rose (T.faults self.old.session.engine.table) (T.faults self.new.session.engine.table) }
         ensures ended { IsErrOf result (TurnFault.Task TaskFault.Ended) → self.old.session.ended ≡ true }
         ensures faults { IfErr result (λ fault. (fault ≡ TurnFault.Task TaskFault.Disk) ⊎ (fault ≡ TurnFault.Task TaskFault.Memory) ⊎ (fault ≡ TurnFault.Task TaskFault.Ended) ⊎ (fault ≡ TurnFault.Task TaskFault.Table) ⊎ (fault ≡ TurnFault.Write)) }
+        ensures log { ((base self.new.session.reservoir).shape ≡ (base self.old.session.reservoir).shape) × ((base self.new.session.reservoir).file ≡ (base self.old.session.reservoir).file) }
         ensures disk_faults { H.disk_faults host.old ≤ H.disk_faults host.new }
         ensures out_faults { H.out_faults host.old ≤ H.out_faults host.new }
     {

@@ -4,7 +4,7 @@ ghost use Rattle.rg_host.specs.Moments.{Moments};
 ghost use Rattle.rg_event.specs.declared.event.Event.{Event};
 ghost use Rattle.rg_frame.specs.LogState.{ReachesEnd};
 ghost use Rattle.rg_config.specs.Plans.{Planned};
-ghost use Rattle.rg_reservoir.specs.Kept.{log_of};
+ghost use Rattle.rg_reservoir.specs.Kept.{base, log_of};
 ghost use Rattle.rg_course.specs.Stores.{Course, StaysOnCourse};
 ghost use Rattle.rg_store.specs.Stores.{store_of};
 ghost use Rattle.rg_recover.specs.Sessions.{IsRunning, count_in, events_of, stored_of};
@@ -38,6 +38,7 @@ pub(crate) fn store<H: Host, T: Table>(
     ensures faults { IfErr result (λ fault. (fault ≡ TaskFault.Disk) ⊎ (fault ≡ TaskFault.Memory) ⊎ (fault ≡ TaskFault.Ended)) }
     ensures disk { IsErrOf result TaskFault.Disk → Rose (H.disk_faults host.old) (H.disk_faults host.new) }
     ensures ended { IsErrOf result TaskFault.Ended → session.old.ended ≡ true }
+    ensures log { ((base session.new.reservoir).shape ≡ (base session.old.reservoir).shape) × ((base session.new.reservoir).file ≡ (base session.old.reservoir).file) }
     ensures goes { OnOk result (session.new.ended ≡ false) }
     ensures reaches { session.new.ended ≡ false → ReachesEnd (log_of session.new.reservoir) (H.now host.new) }
     ensures disk_faults { H.disk_faults host.old ≤ H.disk_faults host.new }

@@ -103,6 +103,7 @@ impl<T: Table> Turning<T> {
         ensures disk { IsErrOf result (TurnFault.Task TaskFault.Disk) → Rose (H.disk_faults host.old) (H.disk_faults host.new) }
         ensures table { IsErrOf result (TurnFault.Task TaskFault.Table) → Rose (T.faults self.old.session.engine.table) (T.faults self.new.session.engine.table) }
         ensures ended { IsErrOf result (TurnFault.Task TaskFault.Ended) → self.old.session.ended ≡ true }
+        ensures log { ((base self.new.session.reservoir).shape ≡ (base self.old.session.reservoir).shape) × ((base self.new.session.reservoir).file ≡ (base self.old.session.reservoir).file) }
         ensures goes { self.old.session.ended ≡ false → OnOk result (self.new.session.ended ≡ false) }
         ensures reaches { self.new.session.ended ≡ false → ReachesEnd (log_of self.new.session.reservoir) (H.now host.new) }
         ensures disk_faults { H.disk_faults host.old ≤ H.disk_faults host.new }

@@ -3,6 +3,7 @@ use Rattle.std.specs.Prelude.{All}
 use Rattle.rg_event.specs.Codec.{IsEventOf}
 use Rattle.rg_event.specs.Shapes.{Shape}
 use Rattle.rg_recover.specs.Sessions.{events_of}
+use Rattle.rg_recover.proofs.Running.{none_open}
 use Rattle.rg_recover.proofs.Sound.{long, all_rise, next_is, all_fit, log_framed, log_stored}
 use Rattle.rg_recover.proofs.law.law_running.Goals as goal
 
@@ -11,6 +12,9 @@ returns-clause-next g c = λ plan host s runs. let log = runs.ready.in_step.rese
 
 pub returns-clause-count : goal.returns-clause-count
 returns-clause-count g c = λ plan host s runs. sym (long (g.H.Host.now host) s.reservoir)
+
+pub returns-clause-saved : goal.returns-clause-saved
+returns-clause-saved g c = λ plan host s slot runs is all. none_open s.reservoir s.saved (runs.kept slot is).stored all
 
 pub returns-clause-rising : goal.returns-clause-rising
 returns-clause-rising g c = λ plan host s runs. let log = runs.ready.in_step.reservoir in all_rise (g.H.Host.now host) (g.H.Host.may host) s.reservoir log.sound log.going

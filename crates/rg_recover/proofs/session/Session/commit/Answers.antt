@@ -44,6 +44,7 @@ returns-in-Err g c = record {
   count = search rules;
   stays = search rules;
   last = search rules;
+  log = search rules;
   memory = search rules;
   disk = search rules;
   faults = search rules;

@@ -8,20 +8,26 @@ use Rattle.rg_course.specs.Steps.{IsStepped}
 use Rattle.rg_course.proofs.Hosts.{stepped_then}
 use Rattle.rg_host.specs.Image.{Image}
 use Rattle.rg_store.specs.Stores.{store_of}
+use Rattle.rg_recover.specs.Sessions.{stored_of}
 use Rattle.rg_recover.specs.Stepping.{IsWithinStep}
 use Rattle.rg_recover.proofs.Beside.{stored_beside}
 use Rattle.rg_recover.proofs.Saved.{mid_is_stepped}
-use Rattle.rg_recover.proofs.Within.{within_more}
+use Rattle.rg_recover.proofs.Within.{still_within, still_stored, within_more}
 use Rattle.rg_recover.proofs.session.Session.save.Goals as goal
 
 pub returns-in-Err-clause-within_step : goal.returns-in-Err-clause-within_step
 returns-in-Err-clause-within_step g c = λ plan runs. c.commit.ensures.within_step plan c.args.self.now.keep runs
 
 pub returns-then-is_saved-clause-within_step : goal.returns-then-is_saved-clause-within_step
-returns-then-is_saved-clause-within_step g c = λ plan runs. c.commit.ensures.within_step plan c.args.self.now.keep runs
+returns-then-is_saved-clause-within_step g c = λ plan runs.
+    still_within g.H.Host.now g.H.Host.may g.H.Host.clock g.H.Host.since g.H.Host.said g.met.H.Host.only_now g.met.H.Host.sinks (store_of plan) c.args.self.now.keep (opened c.args.self.now.reservoir) c.args.host.now
 
-pub returns-clause-within_step : goal.returns-clause-within_step
-returns-clause-within_step g c = λ plan runs.
+pub returns-then-is_saved-clause-stored : goal.returns-then-is_saved-clause-stored
+returns-then-is_saved-clause-stored g c = λ plan runs.
+    still_stored g.H.Host.now g.H.Host.may g.H.Host.clock g.H.Host.since g.H.Host.said (store_of plan) c.args.self.now.keep (opened c.args.self.now.reservoir) (stored_of (g.H.Host.now c.args.host.now) c.args.self.now) c.args.host.now
+
+pub returns-in-Ok-clause-within_step : goal.returns-in-Ok-clause-within_step
+returns-in-Ok-clause-within_step g c = λ plan runs.
     let keep = c.args.self.now.keep in
     let mid = c.commit.new.host in
     let new = c.write_checkpoint.new.host in
@@ -30,8 +36,8 @@ returns-clause-within_step g c = λ plan runs.
     within_more g.H.Host.now g.H.Host.may g.H.Host.clock g.H.Host.since g.H.Host.said (store_of plan) keep (opened c.args.self.now.reservoir) done.more c.args.host.now mid new done.whole
     (c.commit.ensures.within_step plan keep runs) done.left more
 
-pub returns-clause-stored : goal.returns-clause-stored
-returns-clause-stored g c = λ plan runs.
+pub returns-in-Ok-clause-stored : goal.returns-in-Ok-clause-stored
+returns-in-Ok-clause-stored g c = λ plan runs.
     let keep = c.args.self.now.keep in
     let mid = c.commit.new.host in
     let new = c.write_checkpoint.new.host in

@@ -3,4 +3,5 @@ pub mod Attached
 pub mod Found
 pub mod Causes
 pub mod Within
+pub mod Unfit
 pub mod Froms

@@ -2,3 +2,4 @@ pub mod Settling
 pub mod Faults
 pub mod Opening
 pub mod Within
+pub mod Unfit

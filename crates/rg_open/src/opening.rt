@@ -19,6 +19,7 @@ ghost use Rattle.rg_course.specs.Steps.{IsStepped};
 ghost use Rattle.rg_store.specs.Stores.{store_of};
 ghost use Rattle.rg_open.specs.Opening.{IsOpenable, IsStarted, IsResumed, IsFromIn};
 ghost use Rattle.rg_open.specs.Settling.{AreSettled};
+ghost use Rattle.rg_open.specs.Unfit.{IsUnfit, SaysWhy, IsLeftAlone};
 ghost use Rattle.rg_open.specs.Within.{IsAsRead, IsWithinOpening};
 
 use crate::fault::OpenFault;
@@ -121,6 +122,7 @@ fn open_settled<H: Host, T: Table, L: Ledger>(
     ensures damaged { (p : ℕ) → IfErr result (λ refused. refused.0 ≡ OpenFault.Damaged p →
         ForSome (H.now host.old) (λ v. IsBadFrame (schema_payload plan.now.schema) p (v 2)) ⊎ ForSome (H.now host.new) (λ v. IsIllegal plan.now.schema.fields p (v 2))) }
     ensures exact { (v : Image) → H.now host.old ≡ Some v → IsOther (schema_payload plan.now.schema) (v 2) ⊎ ((p : ℕ) × IsBadFrame (schema_payload plan.now.schema) p (v 2)) → IfOk result (λ _. ⊥) }
+    ensures why { (v : Image) → H.now host.old ≡ Some v → IsUnfit (planned plan.now) v → IfErr result (λ refused. SaysWhy (planned plan.now) v refused.0) }
     ensures table_disk { IfErr result (λ refused. refused.0 ≡ OpenFault.Table → Rose (T.faults table) (T.faults refused.1)) }
 
     ensures copies { IfOk result (λ r. (r.0.schema ≡ plan.now.schema) × (r.0.texts ≡ plan.now.queries)) }
@@ -208,6 +210,10 @@ pub fn open_store<H: Host, T: Table, L: Ledger>(
     ensures within { (v : Image) (keep : Option ℕ) → H.now host.old ≡ Some v → IsWithinOpening H.may H.clock H.since H.said (store_of (planned plan.now)) keep v host.old host.new }
     ensures stepped { (v : Image) (keep : Option ℕ) → H.now host.old ≡ Some v → OnOk result ((u : Image) → H.may host.new u → IsStepped (store_of (planned plan.now)) keep [] (IsAsRead v (H.may host.old)) u) }
     ensures said { H.said host.new ≡ H.said host.old }
+
+    // Over an image that isn't fit for the plan.
+    ensures unfit { (v : Image) → H.now host.old ≡ Some v → IsUnfit (planned plan.now) v →
+        IsLeftAlone H.now H.may H.clock H.since H.said v host.old host.new × IfErr result (λ refused. SaysWhy (planned plan.now) v refused.0) }
 
     ensures disk { IfErr result (λ refused. refused.0 ≡ OpenFault.Disk → Rose (H.disk_faults host.old) (H.disk_faults host.new)) }
     ensures differs { IfErr result (λ refused. refused.0 ≡ OpenFault.SchemaDiffers → ForSome (H.now host.old) (λ v. IsOther (schema_payload plan.now.schema) (v 2))) }

@@ -16,6 +16,7 @@ ghost use Rattle.rg_restore.specs.Opening.{IsEmpty};
 ghost use Rattle.rg_course.specs.Steps.{IsStepped};
 ghost use Rattle.rg_store.specs.Stores.{store_of};
 ghost use Rattle.rg_open.specs.Opening.{IsOpenable, IsResumed, IsFromIn};
+ghost use Rattle.rg_open.specs.Unfit.{IsUnfit, SaysWhy, IsLeftAlone};
 ghost use Rattle.rg_open.specs.Within.{IsAsRead, IsWithinOpening};
 ghost use Rattle.rg_recover.specs.Sessions.{IsRunning, count_in, events_of, stored_of};
 
@@ -65,6 +66,10 @@ impl<T: Table> Session<T> {
         ensures within { (v : Image) (keep : Option ℕ) → H.now host.old ≡ Some v → IsWithinOpening H.may H.clock H.since H.said (store_of (planned plan.now)) keep v host.old host.new }
         ensures stepped { (v : Image) (keep : Option ℕ) → H.now host.old ≡ Some v → OnOk result ((u : Image) → H.may host.new u → IsStepped (store_of (planned plan.now)) keep [] (IsAsRead v (H.may host.old)) u) }
         ensures said { H.said host.new ≡ H.said host.old }
+
+        // Over an image that isn't fit for the plan.
+        ensures unfit { (v : Image) → H.now host.old ≡ Some v → IsUnfit (planned plan.now) v →
+            IsLeftAlone H.now H.may H.clock H.since H.said v host.old host.new × IfErr result (λ refused. SaysWhy (planned plan.now) v refused.0) }
 
         ensures disk { IfErr result (λ refused. refused.0 ≡ OpenFault.Disk → Rose (H.disk_faults host.old) (H.disk_faults host.new)) }
         ensures differs { IfErr result (λ refused. refused.0 ≡ OpenFault.SchemaDiffers → ForSome (H.now host.old) (λ v. IsOther (schema_payload plan.now.schema) (v 2))) }

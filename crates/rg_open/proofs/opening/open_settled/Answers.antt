@@ -13,6 +13,7 @@ use Rattle.rg_restore.specs.Slots.{slot_in, HaveBegun}
 use Rattle.rg_open.specs.Opening.{IsStarted}
 use Rattle.rg_open.proofs.Found.{begun_keep, from_later, from_texts}
 use Rattle.rg_open.proofs.Settles.{all-fewer, fewer-all_settled, writes-before}
+use Rattle.rg_open.proofs.Unfit.{why}
 use Rattle.rg_open.proofs.opening.open_settled.Goals as goal
 
 pub returns-in-Err-clause-damaged : goal.returns-in-Err-clause-damaged
@@ -91,3 +92,11 @@ pub returns-in-Err-start-clause-writes : goal.returns-in-Err-start-clause-writes
 returns-in-Err-start-clause-writes g c =
     let fewer = all-fewer g.H.Host.now g.H.Host.may g.H.Host.clock g.H.Host.since g.H.Host.said c.find.new.host c.start.new.host c.start.ensures.leaves in
     writes-before g.H.Host.now g.H.Host.may g.H.Host.clock g.H.Host.since g.H.Host.said 2 (SchemaAdded (schema_payload c.args.plan.now.schema)) c.args.host.now c.find.new.host c.start.new.host c.find.ensures.writes fewer
+
+pub returns-in-Err-clause-why : goal.returns-in-Err-clause-why
+returns-in-Err-clause-why g c = λ v told unfit.
+    why (planned c.args.plan.now) v c.in-Err.fault (λ is. c.in-Err.ensures.differs (ap (λ f. Err f) is) v told) (λ p is. c.in-Err.ensures.damaged p (ap (λ f. Err f) is) v told)
+    (λ is. c.in-Err.ensures.neither.0 (ap (λ f. Err f) is)) (λ n is. c.in-Err.ensures.neither.1 n (ap (λ f. Err f) is))
+
+pub returns-in-Err-start-clause-why : goal.returns-in-Err-start-clause-why
+returns-in-Err-start-clause-why g c = λ v told unfit. absurd (c.in-Ok.ensures.exact v told unfit)

@@ -1,6 +1,7 @@
 use Rattle.std.proofs.Common.{◌∙◌, inl, inr, ⊎_elim}
 use Rattle.rg_config.specs.Plans.{planned}
 use Rattle.rg_open.proofs.Attached.{openable_still}
+use Rattle.rg_open.proofs.Unfit.{quiet_alone, opened_alone}
 use Rattle.rg_open.proofs.Within.{opened_within, opened_stepped}
 use Rattle.rg_open.proofs.opening.open_store.Goals as goal
 
@@ -67,3 +68,21 @@ returns-in-Err-open_settled-clause-within g c = λ v keep told.
 pub returns-in-Err-open_settled-clause-damaged : goal.returns-in-Err-open_settled-clause-damaged
 returns-in-Err-open_settled-clause-damaged g c = λ p is.
     ⊎_elim (λ bad. inl (λ v told. bad v (c.settle.ensures.leaves.now_stays ∙ told))) (λ illegal. inr illegal) (c.in-Err-open_settled.ensures.damaged p is)
+
+pub returns-in-Err-clause-unfit : goal.returns-in-Err-clause-unfit
+returns-in-Err-clause-unfit g c = λ v told unfit.
+    (quiet_alone g.H.Host.now g.H.Host.may g.H.Host.clock g.H.Host.since g.H.Host.said (λ h w is. g.met.H.Host.now_may h w is) v c.args.host.now c.settle.new.host told c.settle.ensures.leaves, tt)
+
+pub returns-in-Err-copy_plan-clause-unfit : goal.returns-in-Err-copy_plan-clause-unfit
+returns-in-Err-copy_plan-clause-unfit g c = λ v told unfit.
+    (quiet_alone g.H.Host.now g.H.Host.may g.H.Host.clock g.H.Host.since g.H.Host.said (λ h w is. g.met.H.Host.now_may h w is) v c.args.host.now c.settle.new.host told c.settle.ensures.leaves, tt)
+
+pub returns-in-Ok-open_settled-clause-unfit : goal.returns-in-Ok-open_settled-clause-unfit
+returns-in-Ok-open_settled-clause-unfit g c = λ v told unfit.
+    (opened_alone g.H.Host.now g.H.Host.may g.H.Host.clock g.H.Host.since g.H.Host.said (λ h w is. g.met.H.Host.now_may h w is) v c.args.host.now c.settle.new.host told c.settle.ensures.leaves (planned c.args.plan.now) unfit c.open_settled.new.host c.in-Ok.ensures.settled c.open_settled.ensures.writes, tt)
+
+pub returns-in-Err-open_settled-clause-unfit : goal.returns-in-Err-open_settled-clause-unfit
+returns-in-Err-open_settled-clause-unfit g c = λ v told unfit. (
+  opened_alone g.H.Host.now g.H.Host.may g.H.Host.clock g.H.Host.since g.H.Host.said (λ h w is. g.met.H.Host.now_may h w is) v c.args.host.now c.settle.new.host told c.settle.ensures.leaves (planned c.args.plan.now) unfit c.open_settled.new.host c.in-Ok.ensures.settled c.open_settled.ensures.writes,
+  c.in-Err-open_settled.ensures.why v (c.settle.ensures.leaves.now_stays ∙ told) unfit,
+)

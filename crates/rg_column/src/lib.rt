@@ -9,6 +9,8 @@ mod fault;
 mod numbers;
 mod rows;
 mod series;
+#[cfg(test)]
+mod tests;
 mod values;
 mod width;
 

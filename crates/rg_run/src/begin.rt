@@ -15,9 +15,12 @@ ghost use Rattle.rg_reservoir.specs.Kept.{log_of};
 ghost use Rattle.rg_course.specs.Stores.{StaysOnCourseSince};
 ghost use Rattle.rg_store.specs.Stores.{store_of};
 ghost use Rattle.rg_open.specs.Opening.{IsFromIn};
+ghost use Rattle.rg_open.specs.Unfit.{IsUnfit, IsLeftAlone};
+ghost use Rattle.rg_open.specs.Within.{IsWithinOpening};
 ghost use Rattle.rg_recover.specs.Sessions.{events_of};
 ghost use Rattle.rg_turn.specs.Turning.{IsAwaiting};
 ghost use Rattle.rg_run.specs.Begun.{IsReady, begun_by, course_for};
+ghost use Rattle.rg_run.specs.Faults.{SaysWhy, IsGapOrFailed};
 ghost use Rattle.rg_run.specs.UnderWay.{IsUnopened};
 
 use crate::fault::{RunFault, opening_fault};
@@ -50,6 +53,8 @@ pub(crate) fn begin<H: Host, L: Ledger>(
         (H.now host.new) (H.may host.new) (H.said host.new) (⟦<MemTable as Table>⟧.tells turning.session.engine.table) (⟦<MemTable as Table>⟧.cell turning.session.engine.table) turning.session
         × (events_of (H.now host.new) turning.session ≡ ready.held))
         × IfErr result (λ fault. (fault ≡ RunFault.Write) ⊎ IsUnopened H.may H.said (planned plan.now) (begun_by ready from first input) host.old host.new) }
+    ensures behind { (ready : IsReady (planned plan.now) (H.now host.old) (H.may host.old) (H.said host.old)) (keep : Option ℕ) → next_offset ready.held < first →
+        IsWithinOpening H.may H.clock H.since H.said (store_of (planned plan.now)) keep ready.openable.image host.old host.new × IfErr result IsGapOrFailed }
     ensures never_bad { (n : ℕ) → IsReady (planned plan.now) (H.now host.old) (H.may host.old) (H.said host.old) → IsErrOf result (RunFault.BadState n) → ⊥ }
     ensures never_damaged { (p : ℕ) → IsReady (planned plan.now) (H.now host.old) (H.may host.old) (H.said host.old) → IsErrOf result (RunFault.Damaged p) → ⊥ }
     ensures never_differs { IsReady (planned plan.now) (H.now host.old) (H.may host.old) (H.said host.old) → IsErrOf result RunFault.SchemaDiffers → ⊥ }
@@ -61,6 +66,7 @@ pub(crate) fn begin<H: Host, L: Ledger>(
     ensures damaged { (p : ℕ) → IsErrOf result (RunFault.Damaged p) →
         ForSome (H.now host.old) (λ v. IsBadFrame (schema_payload plan.now.schema) p (v 2)) ⊎ ForSome (H.now host.new) (λ v. IsIllegal plan.now.schema.fields p (v 2)) }
     ensures exact { (v : Image) → H.now host.old ≡ Some v → IsOther (schema_payload plan.now.schema) (v 2) ⊎ ((p : ℕ) × IsBadFrame (schema_payload plan.now.schema) p (v 2)) → OnOk result ⊥ }
+    ensures unfit { (v : Image) → H.now host.old ≡ Some v → IsUnfit (planned plan.now) v → IsLeftAlone H.now H.may H.clock H.since H.said v host.old host.new × IfErr result (SaysWhy (planned plan.now) v) }
 
     ensures offset { IfOk result (λ turning. turning.offset ≡ first) }
     ensures going { IfOk result (λ turning. turning.session.ended ≡ false) }

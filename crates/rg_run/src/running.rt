@@ -1,4 +1,4 @@
-ghost use Rattle.std.specs.Prelude.{◌≡◌, ◌⊎◌, ◌≤◌, ◌<◌, ◌^◌, ℕ, List, Option, Some, OnOk, IsErrOf};
+ghost use Rattle.std.specs.Prelude.{◌≡◌, ◌⊎◌, ◌≤◌, ◌<◌, ◌^◌, ℕ, List, Option, Some, IfErr, OnOk, IsErrOf};
 ghost use Rattle.std.specs.Option.{ForSome};
 ghost use Rattle.rg_bytes.specs.Counts.{Rose};
 ghost use Rattle.rg_bytes.specs.Known.{IsAtEnd};
@@ -8,8 +8,11 @@ ghost use Rattle.rg_log.specs.Log.{schema_payload};
 ghost use Rattle.rg_config.specs.Plans.{planned};
 ghost use Rattle.rg_config.specs.Read.{IsRead};
 ghost use Rattle.rg_reservoir.specs.Attached.{IsOther, IsBadFrame};
+ghost use Rattle.rg_store.specs.Stores.{store_of};
+ghost use Rattle.rg_open.specs.Unfit.{IsUnfit, IsLeftAlone};
+ghost use Rattle.rg_open.specs.Within.{IsWithinOpening};
 ghost use Rattle.rg_run.specs.Begun.{IsReady, begun_by};
-ghost use Rattle.rg_run.specs.Faults.{IsIllegalThere};
+ghost use Rattle.rg_run.specs.Faults.{IsIllegalThere, SaysWhy, IsGapOrFailed};
 ghost use Rattle.rg_run.specs.Reading.{IsLonger, IsWithin};
 ghost use Rattle.rg_run.specs.UnderWay.{Ran};
 
@@ -23,7 +26,8 @@ use std::alloc::Global;
 use std::sync::ledger::Ledger;
 
 /// Answers the lines of an input by a plan, over the store on a host. The first line has the offset
-/// `first`; it must be at most the store's next one. Each refusal but `Write` leaves whole lines put.
+/// `first`; it must be at most the store's next one, or nothing is read, stored or put. Each refusal but
+/// `Write` leaves whole lines put.
 pub fn run<I: Source, H: Host, L: Ledger>(
     alloc: Global,
     plan: &Plan,
@@ -38,9 +42,15 @@ pub fn run<I: Source, H: Host, L: Ledger>(
     // Over a store whose images are truthful, and an input that tells its bytes.
     ensures ran { (ready : IsReady (planned plan.now) (H.now host.old) (H.may host.old) (H.said host.old)) (all : List ℕ) → I.left input.old ≡ Some all →
         (from : ℕ) × Ran H.may H.clock H.since H.said (planned plan.now) (begun_by ready from first all) ready.openable.image (I.left input.new) result host.old host.new }
+    ensures behind { (ready : IsReady (planned plan.now) (H.now host.old) (H.may host.old) (H.said host.old)) (keep : Option ℕ) → next_offset ready.held < first →
+        (input.new ≡ input.old) × IsWithinOpening H.may H.clock H.since H.said (store_of (planned plan.now)) keep ready.openable.image host.old host.new × IfErr result IsGapOrFailed }
     ensures never_bad { (ready : IsReady (planned plan.now) (H.now host.old) (H.may host.old) (H.said host.old)) (all : List ℕ) (n : ℕ) → I.left input.old ≡ Some all → IsErrOf result (RunFault.BadState n) → ⊥ }
     ensures never_damaged { (ready : IsReady (planned plan.now) (H.now host.old) (H.may host.old) (H.said host.old)) (all : List ℕ) (p : ℕ) → I.left input.old ≡ Some all → IsErrOf result (RunFault.Damaged p) → ⊥ }
     ensures never_differs { IsReady (planned plan.now) (H.now host.old) (H.may host.old) (H.said host.old) → IsErrOf result RunFault.SchemaDiffers → ⊥ }
+
+    // Over an image that isn't fit for the plan it is refused for that, and the input, the files and the output are left alone.
+    ensures unfit { (v : Image) → H.now host.old ≡ Some v → IsUnfit (planned plan.now) v →
+        (input.new ≡ input.old) × IsLeftAlone H.now H.may H.clock H.since H.said v host.old host.new × IfErr result (SaysWhy (planned plan.now) v) }
 
     // Each refusal has its cause.
     ensures gap { (n : ℕ) → IsErrOf result (RunFault.Gap n) → n < first }

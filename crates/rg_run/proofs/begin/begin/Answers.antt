@@ -6,6 +6,7 @@ use Rattle.rg_run.specs.UnderWay.{IsUnopened}
 use Rattle.rg_run.specs.declared.fault.RunFault.TheVariants as run
 use Rattle.rg_run.proofs.Beginning.{opening_moments, unopened, part_moments, first_awaits, numbers, open_is}
 use Rattle.rg_run.proofs.Causes.{open_differs, open_damaged, open_bad, put_others}
+use Rattle.rg_run.proofs.TurnedAway.{why_open, gap_or_failed}
 use Rattle.rg_run.proofs.begin.begin.Goals as goal
 
 pub returns-in-Err-clause-begun : goal.returns-in-Err-clause-begun
@@ -40,6 +41,43 @@ returns-in-Ok-put_mark-clause-no_gap g c = λ ready.
 
 pub returns-in-Ok-put_mark-clause-exact : goal.returns-in-Ok-put_mark-clause-exact
 returns-in-Ok-put_mark-clause-exact g c = λ v told bad. c.in-Ok.ensures.exact v told bad
+
+pub returns-in-Err-clause-behind : goal.returns-in-Err-clause-behind
+returns-in-Err-clause-behind g c = λ ready keep behind. (
+  c.resume.ensures.within ready.openable.image keep ready.openable.told,
+  gap_or_failed c.in-Err.fault c.opening_fault.result c.opening_fault.ensures (λ p is. c.in-Err.ensures.never_damaged p ready.openable tt is) (λ is. c.in-Err.ensures.never_differs ready.openable is) (λ n is. c.in-Err.ensures.never_bad n ready.openable tt is),
+)
+
+pub returns-then-first-resumed-clause-behind : goal.returns-then-first-resumed-clause-behind
+returns-then-first-resumed-clause-behind g c = λ ready keep behind. (c.resume.ensures.within ready.openable.image keep ready.openable.told, tt)
+
+pub returns-in-Ok-put_mark-clause-behind : goal.returns-in-Ok-put_mark-clause-behind
+returns-in-Ok-put_mark-clause-behind g c = λ ready keep behind.
+    let r = c.in-Ok.ensures.running ready.openable tt in
+    let events = c.in-Ok.ensures.events ready.openable.image ready.held ready.openable.told ready.has in
+    let ns = numbers (planned c.args.plan.now) _ _ _ _ c.in-Ok.opened.0 r ready.held events.0 c.in-Ok.opened.1.next c.in-Ok.opened.1.count c.in-Ok.ensures.numbers.0 c.in-Ok.ensures.numbers.1 in
+    absurd (omega (arith, ns.0, behind, c.if-first-resumed.false))
+
+pub returns-in-Err-put_mark-clause-behind : goal.returns-in-Err-put_mark-clause-behind
+returns-in-Err-put_mark-clause-behind g c = λ ready keep behind.
+    let r = c.in-Ok.ensures.running ready.openable tt in
+    let events = c.in-Ok.ensures.events ready.openable.image ready.held ready.openable.told ready.has in
+    let ns = numbers (planned c.args.plan.now) _ _ _ _ c.in-Ok.opened.0 r ready.held events.0 c.in-Ok.opened.1.next c.in-Ok.opened.1.count c.in-Ok.ensures.numbers.0 c.in-Ok.ensures.numbers.1 in
+    absurd (omega (arith, ns.0, behind, c.if-first-resumed.false))
+
+pub returns-in-Err-clause-unfit : goal.returns-in-Err-clause-unfit
+returns-in-Err-clause-unfit g c = λ v told unfit.
+    let at = c.in-Err.ensures.unfit v told unfit in
+    (at.0, why_open (planned c.args.plan.now) v c.in-Err.fault c.opening_fault.result c.opening_fault.ensures at.1)
+
+pub returns-then-first-resumed-clause-unfit : goal.returns-then-first-resumed-clause-unfit
+returns-then-first-resumed-clause-unfit g c = λ v told unfit. absurd (c.in-Ok.ensures.exact v told unfit)
+
+pub returns-in-Ok-put_mark-clause-unfit : goal.returns-in-Ok-put_mark-clause-unfit
+returns-in-Ok-put_mark-clause-unfit g c = λ v told unfit. absurd (c.in-Ok.ensures.exact v told unfit)
+
+pub returns-in-Err-put_mark-clause-unfit : goal.returns-in-Err-put_mark-clause-unfit
+returns-in-Err-put_mark-clause-unfit g c = λ v told unfit. absurd (c.in-Ok.ensures.exact v told unfit)
 
 pub returns-in-Ok-put_mark-clause-begun : goal.returns-in-Ok-put_mark-clause-begun
 returns-in-Ok-put_mark-clause-begun g c = λ ready input.

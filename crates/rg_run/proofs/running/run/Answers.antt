@@ -8,6 +8,7 @@ use Rattle.rg_run.specs.declared.fault.RunFault.{RunFault}
 use Rattle.rg_run.specs.declared.fault.RunFault.TheVariants as run
 use Rattle.rg_run.proofs.Runs.{none_moments, none_unopened, left_unopened, left_cut, way_first}
 use Rattle.rg_run.proofs.Taking.{taken_none, longer, within}
+use Rattle.rg_run.proofs.TurnedAway.{none_alone, none_within}
 use Rattle.rg_run.proofs.running.run.Goals as goal
 
 pub returns-in-Err-clause-ran : goal.returns-in-Err-clause-ran
@@ -51,6 +52,36 @@ returns-in-Ok-answer_lines-clause-ran g c = λ ready all left.
         answered = tt;
       },
     )
+
+pub returns-in-Err-clause-behind : goal.returns-in-Err-clause-behind
+returns-in-Err-clause-behind g c = λ ready keep behind.
+    (refl, none_within g.H.Host.may g.H.Host.clock g.H.Host.since g.H.Host.said g.met.H.Host.only_now g.met.H.Host.sinks (planned c.args.plan.now) keep ready.openable.image c.args.host.now, tt)
+
+pub returns-in-Err-begin-clause-behind : goal.returns-in-Err-begin-clause-behind
+returns-in-Err-begin-clause-behind g c = λ ready keep behind.
+    let at = c.in-Err-begin.ensures.behind ready keep behind in
+    (refl, at.0, at.1)
+
+pub returns-in-Ok-answer_lines-clause-behind : goal.returns-in-Ok-answer_lines-clause-behind
+returns-in-Ok-answer_lines-clause-behind g c = λ ready keep behind. absurd (omega (arith, behind, c.in-Ok-begin.ensures.no_gap ready))
+
+pub returns-clause-behind : goal.returns-clause-behind
+returns-clause-behind g c = λ ready keep behind. absurd (omega (arith, behind, c.in-Ok-begin.ensures.no_gap ready))
+
+pub returns-in-Err-clause-unfit : goal.returns-in-Err-clause-unfit
+returns-in-Err-clause-unfit g c = λ v told unfit.
+    (refl, none_alone g.H.Host.now g.H.Host.may g.H.Host.clock g.H.Host.since g.H.Host.said g.met.H.Host.now_may g.met.H.Host.only_now g.met.H.Host.sinks v c.args.host.now told, tt)
+
+pub returns-in-Err-begin-clause-unfit : goal.returns-in-Err-begin-clause-unfit
+returns-in-Err-begin-clause-unfit g c = λ v told unfit.
+    let at = c.in-Err-begin.ensures.unfit v told unfit in
+    (refl, at.0, at.1)
+
+pub returns-in-Ok-answer_lines-clause-unfit : goal.returns-in-Ok-answer_lines-clause-unfit
+returns-in-Ok-answer_lines-clause-unfit g c = λ v told unfit. absurd (c.in-Ok-begin.ensures.exact v told unfit)
+
+pub returns-clause-unfit : goal.returns-clause-unfit
+returns-clause-unfit g c = λ v told unfit. absurd (c.in-Ok-begin.ensures.exact v told unfit)
 
 pub returns-clause-ran : goal.returns-clause-ran
 returns-clause-ran g c = λ ready all left.

@@ -5,3 +5,4 @@ pub mod Call
 pub mod Real
 pub mod Stored
 pub mod Causes
+pub mod TurnedAway

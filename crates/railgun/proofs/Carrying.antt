@@ -19,7 +19,8 @@ use Rattle.rg_run.specs.UnderWay.{HasAnswered, HasFinished, IsUnopened, IsLeft}
 use Rattle.rg_run.specs.declared.fault.RunFault.{RunFault}
 use Rattle.rg_run.specs.declared.fault.RunFault.TheVariants as run
 use Rattle.railgun.specs.Plan.{IsPlan}
-use Rattle.railgun.specs.Causes.{HasOtherSchema, IsDamagedAt, IsStoreLine}
+use Rattle.rg_open.specs.Unfit.{HasOtherSchema}
+use Rattle.railgun.specs.Causes.{IsDamagedAt, IsStoreLine}
 use Rattle.railgun.specs.Call.{EndsRun, IsRefused, last_line}
 use Rattle.railgun.specs.Stored.{ToldRun, begun_in, IsLastOf, Went}
 use Rattle.railgun.specs.declared.status.Status.{Status}

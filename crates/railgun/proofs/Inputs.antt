@@ -14,6 +14,10 @@ pub on_errs : {T E : Type 0} (result : Result T E) (P Q R : E → Type 0) → ((
 on_errs (Ok value) P Q R f p q = tt
 on_errs (Err error) P Q R f p q = f error p q
 
+pub any_err : {T E : Type 0} (result : Result T E) (P : E → Type 0) → ((error : E) → P error) → IfErr result P
+any_err (Ok value) P f = tt
+any_err (Err error) P f = f error
+
 -- what follows for every error, and for no error
 pub on_err : {T E : Type 0} (result : Result T E) (P Q : E → Type 0) → ((error : E) → P error → Q error) → IfErr result P → IfErr result Q
 on_err (Ok value) P Q f p = tt

@@ -6,3 +6,4 @@ pub mod LastLines
 pub mod Carrying
 pub mod Telling
 pub mod Worked
+pub mod TurnedAway

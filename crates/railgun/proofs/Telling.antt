@@ -1,11 +1,12 @@
 -- How a run goes with its last line.
-use Rattle.std.proofs.Common.{◌≡◌, ◌⊎◌, inl, inr, ⊎_elim, ℕ, ◌<◌, ◌^◌, List, [], ◌∷◌, ◌++◌, length, Option, Some, refl, ap, sym, ◌∙◌, subst, arith, append_assoc, length-append}
+use Rattle.std.proofs.Common.{◌≡◌, ◌⊎◌, inl, inr, ⊎_elim, ℕ, ◌<◌, ◌^◌, ◌-◌, List, [], ◌∷◌, ◌++◌, length, Option, Some, refl, ap, sym, ◌∙◌, subst, arith, append_assoc, length-append}
 use Rattle.std.specs.Option.{ForSome}
 use Rattle.std.specs.List.{Contains}
 use Rattle.std.proofs.lemmas.List.{append-nil}
 use Rattle.std.proofs.lemmas.List.Elements.{Contains-append_left}
 use Rattle.rg_bytes.specs.Known.{after}
 use Rattle.rg_event.specs.Rising.{next_offset}
+use Rattle.rg_event.specs.declared.event.Event.{Event}
 use Rattle.rg_reply.specs.Texts.{mark_line}
 use Rattle.rg_reply.specs.declared.mark.Mark.TheVariants.{Saved}
 use Rattle.rg_host.specs.Image.{Image}
@@ -16,8 +17,8 @@ use Rattle.rg_host.proofs.Runs.{moments-weaker, moments-both, moments_then}
 use Rattle.rg_config.specs.Plans.{Planned}
 use Rattle.rg_course.specs.Accepted.{events_after}
 use Rattle.rg_course.specs.Acknowledged.{SavesLast}
-use Rattle.rg_course.specs.Laws.{IsPrefixOf, IsSuffixOf, below}
-use Rattle.rg_course.specs.Output.{open_line, out, unstopped}
+use Rattle.rg_course.specs.Laws.{IsPrefixOf, below}
+use Rattle.rg_course.specs.Output.{Terms, open_line, out, put_before, unstopped}
 use Rattle.rg_course.specs.Pieces.{whole_pieces}
 use Rattle.rg_course.specs.Stores.{Course, Promised, IsKept, IsOnCourse, StaysOnCourseSince}
 use Rattle.rg_course.specs.Turns.{IsStopped}
@@ -26,14 +27,15 @@ use Rattle.rg_course.proofs.Courses.{on_course_last, on_course_since_wider, prom
 use Rattle.rg_course.proofs.Hosts.{part_way_more}
 use Rattle.rg_course.proofs.Runs.{told_since}
 use Rattle.rg_course.proofs.Texts.{pieces_prefix}
-use Rattle.rg_course.proofs.Whole.{resumes}
+use Rattle.rg_course.proofs.Whole.{may_leave, out_again}
 use Rattle.rg_store.specs.Stores.{store_of}
 use Rattle.rg_store.specs.Truth.{IsTruthfulImage}
+use Rattle.rg_open.specs.Opening.{IsFromIn}
 use Rattle.rg_turn.specs.Turning.{HasStopped, terms_of}
 use Rattle.rg_run.specs.Begun.{Begun, course_for, lines_in}
 use Rattle.rg_run.specs.UnderWay.{IsUnopened}
 use Rattle.railgun.specs.Call.{last_line}
-use Rattle.railgun.specs.Stored.{Went, IsLastOf, IsComplete, EndsWhole, EndsAnswered, IsAtMostOneAhead, HasLastSaved, Resumes}
+use Rattle.railgun.specs.Stored.{Went, IsLastOf, IsToldFrom, IsComplete, EndsWhole, EndsAnswered, IsAtMostOneAhead, HasLastSaved, Resumes}
 use Rattle.railgun.specs.declared.status.Status.{Status}
 use Rattle.railgun.specs.declared.status.Status.TheVariants.{Ok, Usage, Plan as BadPlan, Store, Read, Write, Disk, Limit, Memory, Gap, Differs}
 use Rattle.railgun.proofs.LastLines.{line_of_status}
@@ -58,6 +60,12 @@ kind Differs = inr (inr ((λ e. absurd (cc e)), (λ e. absurd (cc e))))
 quiet_at : (b : Begun) (status known : Status) (last : List ℕ) → status ≡ known → IsLastOf status b last → IsLastOf known b last
 quiet_at b status known last is line = subst (λ s. IsLastOf s b last) is line
 
+-- what a run puts that goes on
+rest_of : (terms : Terms) (lines : List (Option (List ℕ))) (held : List Event) → held ≡ below (next_offset held) (events_after terms.basis [] 0 lines) → put_before terms [] 0 lines (next_offset held) ++ out terms held 0 lines ≡ unstopped terms lines
+rest_of terms lines held is =
+    let n : next_offset held ≡ next_offset held - 0 = omega arith in
+    ap (λ k. put_before terms [] 0 lines k ++ out terms held 0 lines) n ∙ sym (out_again terms [] 0 lines held (may_leave terms [] 0 lines held tt (held, refl) is))
+
 module _ {H : Type 0} (now : H → Option Image) (may : H → Image → Type 0) (clock : H → ℕ) (since : H → ℕ → Moment → Type 0) (said : H → Option (List ℕ)) (plan : Planned) (b : Begun) (v : Image) (left : Option (List ℕ)) (unread : Type 0) (status : Status) (last : List ℕ) (old mid new : H)
     (went : Went may clock since said plan b v left unread status last old mid) (told : said old ≡ Some b.said) where
   abbrev course : Course
@@ -68,6 +76,16 @@ module _ {H : Type 0} (now : H → Option Image) (may : H → Image → Type 0) 
 
   wider : (line : List ℕ) → Moments clock since old mid (P line)
   wider line = moments-weaker clock since old mid (P []) (P line) went.moments (λ m h. on_course_since_wider Image (store_of plan) course (may old) line m.image m.said h)
+
+  open_nonempty : (line : List ℕ) (lines : List (List ℕ)) (s : List ℕ) → Some (s ++ ended (line ∷ lines)) ≡ Some s → ⊥
+  open_nonempty line lines s e =
+      let same : s ++ ended (line ∷ lines) ≡ s = cc in
+      let size : length (s ++ ended (line ∷ lines)) ≡ length s = ap length same in
+      omega (arith, size, length-append s (ended (line ∷ lines)), length-append line (10 ∷ ended lines))
+
+  -- a run that put its open line
+  opened_from : (lines : List (List ℕ)) → said mid ≡ Some (b.said ++ ended (open_line b.held b.from ∷ lines)) → IsFromIn plan v b.from
+  opened_from lines put = ⊎_elim (λ is. is) (λ same. absurd (open_nonempty (open_line b.held b.from) lines b.said (sym put ∙ same ∙ told))) went.is_from
 
   -- The last line was put, or a prefix of it.
   module _ (silent : last ≡ [] → new ≡ mid) (part : List ℕ) (front : IsPrefix part last) (puts : Puts said clock since mid new part) (leaves : LeavesFiles now may clock since mid new) where
@@ -178,31 +196,29 @@ module _ {H : Type 0} (now : H → Option Image) (may : H → Image → Type 0) 
         (λ more. ⊎_elim (λ is. inr (write is)) (λ other. ⊎_elim (λ stop. inl (whole_stop whole stop)) (λ none. inl (whole_none whole none)) (went.stopped other.0 other.1)) more)
         (kind status)
 
+    -- from where it went on
+    pub told_from : IsToldFrom plan v b last (said new)
+    told_from = ⊎_elim (λ is. inl is) (λ same. inr (part, front, puts.grows ∙ ap (λ t. after t part) (same ∙ told))) went.is_from
+
     ends_at : (is : (status ≡ Read) ⊎ (status ≡ Limit)) → last ≡ last_line status
     ends_at (inl is) = quiet_at b status Read last is went.last_is ∙ ap last_line (sym is)
     ends_at (inr is) = quiet_at b status Limit last is went.last_is ∙ ap last_line (sym is)
 
-    pub ends_answered : (rose : Type 0) → (status ≡ Read) ⊎ (status ≡ Limit) → Puts said clock since mid new last ⊎ rose → EndsAnswered plan b left (last_line status) (said new) (status ≡ Limit) ⊎ unread ⊎ rose
+    pub ends_answered : (rose : Type 0) → (status ≡ Read) ⊎ (status ≡ Limit) → Puts said clock since mid new last ⊎ rose → (IsFromIn plan v b.from × EndsAnswered plan b left (last_line status) (said new) (status ≡ Limit)) ⊎ unread ⊎ rose
     ends_answered rose is (inr failed) = inr (inr failed)
     ends_answered rose is (inl whole) = ⊎_elim
-        (λ answered. inl (record { before = said mid; answered = answered; put = λ s told_mid. grown whole s told_mid ∙ ap (λ (l : List ℕ). Some (s ++ l)) (ends_at is) }))
+        (λ answered. inl (opened_from _ answered.put, record { before = said mid; answered = answered; put = λ s told_mid. grown whole s told_mid ∙ ap (λ (l : List ℕ). Some (s ++ l)) (ends_at is) }))
         (λ failed. inr (inl failed))
         (went.answered is)
 
   -- The run came to its end.
-
-  open_nonempty : (line : List ℕ) (lines : List (List ℕ)) (s : List ℕ) → Some (s ++ ended (line ∷ lines)) ≡ Some s → ⊥
-  open_nonempty line lines s e =
-      let same : s ++ ended (line ∷ lines) ≡ s = cc in
-      let size : length (s ++ ended (line ∷ lines)) ≡ length s = ap length same in
-      omega (arith, size, length-append s (ended (line ∷ lines)), length-append line (10 ∷ ended lines))
 
   pub completed : status ≡ Ok → IsComplete plan b v (may mid) (said mid)
   completed ok =
       let f = went.finished ok in
       let put : said mid ≡ Some (b.said ++ ended course.text) = f.told ∙ ap (λ (l : List ℕ). Some l) f.done.said_is in
       record {
-        is_from = ⊎_elim (λ is. is) (λ same. absurd (open_nonempty (open_line b.held b.from) (out (terms_of plan) b.held b.first (lines_in b)) b.said (sym put ∙ same ∙ told))) went.is_from;
+        is_from = opened_from (out (terms_of plan) b.held b.first (lines_in b)) put;
         put = put;
         truthful = f.done.truthful;
         has = f.done.has;
@@ -214,5 +230,5 @@ module _ {H : Type 0} (now : H → Option Image) (may : H → Image → Type 0) 
       record {
         lines = out (terms_of plan) b.held b.first (lines_in b);
         put = f.told ∙ ap (λ (l : List ℕ). Some l) f.done.said_is;
-        suffix = subst (λ n. IsSuffixOf (out (terms_of plan) b.held n (lines_in b)) (unstopped (terms_of plan) (lines_in b))) (sym zero) (resumes (terms_of plan) (lines_in b) b.held held);
+        rest = subst (λ n. put_before (terms_of plan) [] 0 (lines_in b) (next_offset b.held) ++ out (terms_of plan) b.held n (lines_in b) ≡ unstopped (terms_of plan) (lines_in b)) (sym zero) (rest_of (terms_of plan) (lines_in b) b.held held);
       }

@@ -306,6 +306,10 @@ abbrev pub IsLegal : Option (List ℕ) → Type 0
 IsLegal (Some bytes) = (plan : Planned) × IsPlan bytes plan
 IsLegal None = ⊤
 
+-- the plan tells its bytes, and they are too long or say no plan
+abbrev pub TellsNoPlan : Option (List ℕ) → Type 0
+TellsNoPlan plan = (bytes : List ℕ) × (plan ≡ Some bytes) × ((asks : Planned) → IsPlan bytes asks → ⊥)
+
 -- where the plan tells its bytes, they are within their limit and are refused
 abbrev pub IsRefused : Option (List ℕ) → Type 0
 IsRefused (Some bytes) = (refusal : ConfigFault) × IsRefusal bytes refusal

@@ -4,23 +4,10 @@ use Rattle.std.specs.Option.{ForSome}
 use Rattle.rg_bytes.specs.Known.{after}
 use Rattle.rg_host.specs.Image.{Image}
 use Rattle.rg_config.specs.Plans.{Planned}
-use Rattle.rg_log.specs.Log.{schema_payload}
-use Rattle.rg_reservoir.specs.Attached.{IsOther, IsBadFrame}
 use Rattle.rg_reservoir.specs.Chain.{IsIllegal}
+use Rattle.rg_open.specs.Unfit.{HasOtherSchema, HasBadFrame}
 use Rattle.railgun.specs.Call.{damage_line, schema_line, state_line, gap_line, IsLegal}
 use Rattle.railgun.specs.Plan.{IsPlan}
-
--- the log of the image is of another schema than the plan's
-abbrev pub HasOtherSchema : Planned → Image → Type 0
-HasOtherSchema plan v = IsOther (schema_payload plan.shape) (v 2)
-
--- the open frame at that place of the log isn't what its place asks for
-abbrev pub HasBadFrame : Planned → ℕ → Image → Type 0
-HasBadFrame plan place v = IsBadFrame (schema_payload plan.shape) place (v 2)
-
--- no run of the plan goes over the image
-abbrev pub IsUnfit : Planned → Image → Type 0
-IsUnfit plan v = HasOtherSchema plan v ⊎ ((place : ℕ) × HasBadFrame plan place v)
 
 -- the image says that its log is damaged there, or the image that is left says so
 abbrev pub IsDamagedAt : Planned → Option Image → Option Image → ℕ → Type 0

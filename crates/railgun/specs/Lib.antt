@@ -2,3 +2,4 @@ pub mod Plan
 pub mod Call
 pub mod Stored
 pub mod Causes
+pub mod TurnedAway

@@ -10,8 +10,7 @@ use Rattle.rg_event.specs.Rising.{next_offset}
 use Rattle.rg_config.specs.Plans.{Planned}
 use Rattle.rg_course.specs.Acknowledged.{SavesLast}
 use Rattle.rg_course.specs.Accepted.{events_after}
-use Rattle.rg_course.specs.Laws.{IsSuffixOf}
-use Rattle.rg_course.specs.Output.{text_of_run, open_line, unstopped}
+use Rattle.rg_course.specs.Output.{text_of_run, open_line, put_before, unstopped}
 use Rattle.rg_course.specs.Pieces.{whole_pieces}
 use Rattle.rg_course.specs.Stores.{IsNear, StaysOnCourseSince}
 use Rattle.rg_store.specs.Stores.{store_of, Has, HasSaved}
@@ -52,6 +51,11 @@ IsLastOf Limit b last = last ≡ last_line Limit
 IsLastOf Memory b last = last ≡ last_line Memory
 IsLastOf Gap b last = last ≡ gap_line b.first (next_offset b.held)
 IsLastOf Differs b last = ⊥
+
+-- The run went on from the greatest count of a complete slot of the image with the plan's queries, or from 0 where there is none; or a
+-- front of its last line was put and nothing else.
+abbrev pub IsToldFrom : Planned → Image → Begun → List ℕ → Option (List ℕ) → Type 0
+IsToldFrom plan v b last said = IsFromIn plan v b.from ⊎ ((part : List ℕ) × IsPrefix part last × (said ≡ Some (b.said ++ part)))
 
 module _ {H : Type 0} (may : H → Image → Type 0) (clock : H → ℕ) (since : H → ℕ → Moment → Type 0) (said : H → Option (List ℕ)) where
   -- How a run went up to its last line, which is this, as is its status; `unread` says that a read of the plan failed, and `left` what
@@ -98,8 +102,9 @@ pub record HasLastSaved (plan : Planned) (b : Begun) (m : Moment) : Type 0 where
   pub since : m.said ≡ b.said ++ put
   pub saved : (count : ℕ) → count < 2 ^ 64 → SavesLast (whole_pieces put) count → (slot : ℕ) × HasSaved plan slot count m.image
 
--- What was put behind the open line is the last lines of what a run puts that is never stopped.
+-- What was put behind the open line is what a run puts that is never stopped, but for what that puts for the lines below the store's next
+-- offset.
 pub record Resumes (plan : Planned) (b : Begun) (said : Option (List ℕ)) : Type 0 where
   pub lines : List (List ℕ)
   pub put : said ≡ Some (b.said ++ ended (open_line b.held b.from ∷ lines))
-  pub suffix : IsSuffixOf lines (unstopped (terms_of plan) (lines_in b))
+  pub rest : put_before (terms_of plan) [] 0 (lines_in b) (next_offset b.held) ++ lines ≡ unstopped (terms_of plan) (lines_in b)

@@ -16,13 +16,17 @@ ghost use Rattle.rg_course.specs.Accepted.{events_after};
 ghost use Rattle.rg_course.specs.Laws.{below};
 ghost use Rattle.rg_course.specs.Stores.{Promised};
 ghost use Rattle.rg_store.specs.Stores.{store_of};
+ghost use Rattle.rg_open.specs.Opening.{IsFromIn};
+ghost use Rattle.rg_open.specs.Unfit.{IsUnfit, IsLeftAlone};
+ghost use Rattle.rg_open.specs.Within.{IsWithinOpening};
 ghost use Rattle.rg_turn.specs.Turning.{terms_of};
 ghost use Rattle.rg_run.specs.Begun.{course_for, lines_in};
 ghost use Rattle.rg_run.specs.Reading.{IsLonger, IsWithin};
 ghost use Rattle.railgun.specs.Plan.{IsPlan, IsRefusal};
-ghost use Rattle.railgun.specs.Call.{command_of, IsRun, ReadsPlan, ShowsStore, CarriesRun, Told, ToldPlan, SaysSo, ForText, plan_text, before_damage, line_for, last_line as status_line, refusal_line, damage_line, status_after, line_after, ending_status, ending_line, ending_refusal, EndsBy, TellsFault, status_for, IsLegal, IsRefused, IsDamaged, IsUndamaged, IsPossible};
-ghost use Rattle.railgun.specs.Causes.{IsUnfit, RefusesStore, RefusesGap, EndsWith};
-ghost use Rattle.railgun.specs.Stored.{ToldRun, begun_in, IsLastOf, Went, IsComplete, EndsWhole, EndsAnswered, IsAtMostOneAhead, HasLastSaved, Resumes};
+ghost use Rattle.railgun.specs.Call.{command_of, IsRun, ReadsPlan, ShowsStore, CarriesRun, Told, ToldPlan, SaysSo, ForText, plan_text, before_damage, line_for, last_line as status_line, refusal_line, damage_line, status_after, line_after, ending_status, ending_line, ending_refusal, EndsBy, TellsFault, status_for, IsLegal, TellsNoPlan, IsRefused, IsDamaged, IsUndamaged, IsPossible};
+ghost use Rattle.railgun.specs.Causes.{RefusesStore, RefusesGap, EndsWith};
+ghost use Rattle.railgun.specs.Stored.{ToldRun, begun_in, IsLastOf, IsToldFrom, Went, IsComplete, EndsWhole, EndsAnswered, IsAtMostOneAhead, HasLastSaved, Resumes};
+ghost use Rattle.railgun.specs.TurnedAway.{EndsUnfit, EndsBehind, IsTurnedAway, IsBehind};
 
 use crate::command::Command;
 use crate::dump::dump;
@@ -162,7 +166,11 @@ fn run_with_plan<P: Source, I: Source, H: Host>(
     ensures at_end { OnOk result (IsAtEnd (I.left input.new)) }
     ensures legal { OnOk result (IsLegal (P.left plan.old)) }
     ensures within { OnOk result (IsWithin (2 ^ 50) (I.left input.old)) }
-    ensures exact { (bytes : List ℕ) (asks : Planned) (v : Image) → P.left plan.old ≡ Some bytes → IsPlan bytes asks → H.now host.old ≡ Some v → IsUnfit asks v → OnOk result ⊥ }
+    ensures behind { (told : ToldRun (P.left plan.old) (I.left input.old) (H.now host.old) (H.may host.old) (H.said host.old)) (keep : Option ℕ) → next_offset told.ready.held < first →
+        (input.new ≡ input.old) × IsWithinOpening H.may H.clock H.since H.said (store_of told.asks) keep told.ready.openable.image host.old host.new
+        × EndsBehind first (next_offset told.ready.held) (Rose (P.faults plan.old) (P.faults plan.new)) (status_after result) (line_after result) }
+    ensures unfit { (bytes : List ℕ) (asks : Planned) (v : Image) → P.left plan.old ≡ Some bytes → IsPlan bytes asks → H.now host.old ≡ Some v → IsUnfit asks v →
+        (input.new ≡ input.old) × IsLeftAlone H.now H.may H.clock H.since H.said v host.old host.new × EndsUnfit asks v (Rose (P.faults plan.old) (P.faults plan.new)) (status_after result) (line_after result) }
     ensures refused { IfErr result (λ ending. ending_status ending ≡ Status.Plan → IsRefused (P.left plan.old)) }
     ensures told { IfErr result (λ ending. ending_status ending ≡ Status.Plan → TellsFault (P.left plan.old) (ending_refusal ending)) }
     ensures store { IfErr result (λ ending. ending_status ending ≡ Status.Store → RefusesStore (P.left plan.old) (H.now host.old) (H.now host.new) (input.new ≡ input.old) (ending_line ending)) }
@@ -172,9 +180,8 @@ fn run_with_plan<P: Source, I: Source, H: Host>(
     ensures write { IfErr result (λ ending. ending_status ending ≡ Status.Write → IsLegal (P.left plan.old) × Rose (H.out_faults host.old) (H.out_faults host.new)) }
     ensures limit { IfErr result (λ ending. ending_status ending ≡ Status.Limit → IsLonger 65536 (P.left plan.old) ⊎ (IsLegal (P.left plan.old) × IsLonger (2 ^ 50) (I.left input.old))) }
     ensures possible { IfErr result (λ ending. IsPossible (ending_status ending) × (ending_status ending ≢ Status.Ok) × (ending_status ending ≢ Status.Usage)) }
-    ensures plan_first { IfErr result (λ ending. ending_status ending ≡ Status.Plan → input.new ≡ input.old) }
-    ensures long_plan { (bytes : List ℕ) → P.left plan.old ≡ Some bytes → 65536 < length bytes → input.new ≡ input.old }
-    ensures read_first { IfErr result (λ ending. ending_status ending ≡ Status.Read → (input.new ≡ input.old) ⊎ Rose (I.faults input.old) (I.faults input.new)) }
+    ensures plan_first { (status_after result ≡ Status.Plan) ⊎ TellsNoPlan (P.left plan.old) → (input.new ≡ input.old) × LeavesFiles H.now H.may H.clock H.since host.old host.new }
+    ensures read_first { IfErr result (λ ending. ending_status ending ≡ Status.Read → ((input.new ≡ input.old) × LeavesFiles H.now H.may H.clock H.since host.old host.new) ⊎ Rose (I.faults input.old) (I.faults input.new)) }
     ensures later_out { H.out_faults host.old ≤ H.out_faults host.new }
 {
     let asked = match load_plan(alloc, plan) {
@@ -206,7 +213,11 @@ fn run_command<P: Source, I: Source, H: Host>(
     ensures legal { OnOk result (ReadsPlan (Some command) → IsLegal (P.left plan.old)) }
     ensures undamaged { OnOk result (ShowsStore (Some command) → IsUndamaged (H.now host.old)) }
     ensures within { OnOk result (IsRun (Some command) → IsWithin (2 ^ 50) (I.left input.old)) }
-    ensures exact { (bytes : List ℕ) (asks : Planned) (v : Image) → IsRun (Some command) → P.left plan.old ≡ Some bytes → IsPlan bytes asks → H.now host.old ≡ Some v → IsUnfit asks v → OnOk result ⊥ }
+    ensures behind { (first : ℕ) → command ≡ Command.Run first → (told : ToldRun (P.left plan.old) (I.left input.old) (H.now host.old) (H.may host.old) (H.said host.old)) (keep : Option ℕ) → next_offset told.ready.held < first →
+        (input.new ≡ input.old) × IsWithinOpening H.may H.clock H.since H.said (store_of told.asks) keep told.ready.openable.image host.old host.new
+        × EndsBehind first (next_offset told.ready.held) (Rose (P.faults plan.old) (P.faults plan.new)) (status_after result) (line_after result) }
+    ensures unfit { (bytes : List ℕ) (asks : Planned) (v : Image) → IsRun (Some command) → P.left plan.old ≡ Some bytes → IsPlan bytes asks → H.now host.old ≡ Some v → IsUnfit asks v →
+        (input.new ≡ input.old) × IsLeftAlone H.now H.may H.clock H.since H.said v host.old host.new × EndsUnfit asks v (Rose (P.faults plan.old) (P.faults plan.new)) (status_after result) (line_after result) }
     ensures refused { IfErr result (λ ending. ending_status ending ≡ Status.Plan → ReadsPlan (Some command) × IsRefused (P.left plan.old)) }
     ensures told { IfErr result (λ ending. ending_status ending ≡ Status.Plan → TellsFault (P.left plan.old) (ending_refusal ending)) }
     ensures read { IfErr result (λ ending. ending_status ending ≡ Status.Read → Rose (P.faults plan.old) (P.faults plan.new) ⊎ (IsLegal (P.left plan.old) × IsRun (Some command) × Rose (I.faults input.old) (I.faults input.new))) }
@@ -217,12 +228,11 @@ fn run_command<P: Source, I: Source, H: Host>(
     ensures gap { IfErr result (λ ending. ending_status ending ≡ Status.Gap → (first : ℕ) × (command ≡ Command.Run first) × RefusesGap (P.left plan.old) first (input.new ≡ input.old) (ending_line ending)) }
     ensures disk { IfErr result (λ ending. ending_status ending ≡ Status.Disk → (ShowsStore (Some command) ⊎ (IsRun (Some command) × IsLegal (P.left plan.old))) × Rose (H.disk_faults host.old) (H.disk_faults host.new)) }
     ensures possible { IfErr result (λ ending. IsPossible (ending_status ending) × (ending_status ending ≢ Status.Ok) × (ending_status ending ≢ Status.Usage)) }
-    ensures plan_first { IfErr result (λ ending. ending_status ending ≡ Status.Plan → input.new ≡ input.old) }
-    ensures long_plan { (bytes : List ℕ) → P.left plan.old ≡ Some bytes → 65536 < length bytes → input.new ≡ input.old }
-    ensures read_first { IfErr result (λ ending. ending_status ending ≡ Status.Read → (input.new ≡ input.old) ⊎ Rose (I.faults input.old) (I.faults input.new)) }
+    ensures plan_first { (status_after result ≡ Status.Plan) ⊎ TellsNoPlan (P.left plan.old) → input.new ≡ input.old }
+    ensures read_first { IfErr result (λ ending. ending_status ending ≡ Status.Read → ((input.new ≡ input.old) × LeavesFiles H.now H.may H.clock H.since host.old host.new) ⊎ Rose (I.faults input.old) (I.faults input.new)) }
     ensures no_input { command ≡ Command.Check → input.new ≡ input.old }
     ensures store_alone { ShowsStore (Some command) → (plan.new ≡ plan.old) × (input.new ≡ input.old) }
-    ensures leaves { (IsRun (Some command) → ⊥) → LeavesFiles H.now H.may H.clock H.since host.old host.new }
+    ensures leaves { (IsRun (Some command) → ⊥) ⊎ (status_after result ≡ Status.Plan) ⊎ TellsNoPlan (P.left plan.old) → LeavesFiles H.now H.may H.clock H.since host.old host.new }
     ensures later_out { H.out_faults host.old ≤ H.out_faults host.new }
 {
     match command {
@@ -270,20 +280,23 @@ fn run_words<P: Source, I: Source, H: Host>(
     ensures complete_run { result ≡ Status.Ok → (first : ℕ) → command_of words.now ≡ Some (Command.Run first) → (told : ToldRun (P.left plan.old) (I.left input.old) (H.now host.old) (H.may host.old) (H.said host.old)) →
         (from : ℕ) × IsComplete told.asks (begun_in told from first) told.ready.openable.image (H.may host.new) (H.said host.new) }
     ensures every_moment { (first : ℕ) → command_of words.now ≡ Some (Command.Run first) → (told : ToldRun (P.left plan.old) (I.left input.old) (H.now host.old) (H.may host.old) (H.said host.old)) → (from : ℕ) × (last : List ℕ) × IsLastOf result (begun_in told from first) last
+        × IsToldFrom told.asks told.ready.openable.image (begun_in told from first) last (H.said host.new)
         × Moments H.clock H.since host.old host.new (λ m. Promised (store_of told.asks) (course_for told.asks (begun_in told from first)) (H.may host.old) last m.image m.said) }
     ensures last_line_run { (first : ℕ) → command_of words.now ≡ Some (Command.Run first) → (told : ToldRun (P.left plan.old) (I.left input.old) (H.now host.old) (H.may host.old) (H.said host.old)) →
-        ((from : ℕ) × (last : List ℕ) × IsLastOf result (begun_in told from first) last × EndsWhole told.asks (begun_in told from first) last (H.said host.new)) ⊎ Rose (H.out_faults host.old) (H.out_faults host.new) }
+        ((from : ℕ) × (last : List ℕ) × IsLastOf result (begun_in told from first) last × IsToldFrom told.asks told.ready.openable.image (begun_in told from first) last (H.said host.new) × EndsWhole told.asks (begun_in told from first) last (H.said host.new)) ⊎ Rose (H.out_faults host.old) (H.out_faults host.new) }
     ensures no_reply_lost { (first : ℕ) → command_of words.now ≡ Some (Command.Run first) → (told : ToldRun (P.left plan.old) (I.left input.old) (H.now host.old) (H.may host.old) (H.said host.old)) → (from : ℕ) × (last : List ℕ) × IsLastOf result (begun_in told from first) last
         × Moments H.clock H.since host.old host.new (IsAtMostOneAhead told.asks (begun_in told from first) (H.may host.old) last) }
     ensures saved_kept { (first : ℕ) → command_of words.now ≡ Some (Command.Run first) → (told : ToldRun (P.left plan.old) (I.left input.old) (H.now host.old) (H.may host.old) (H.said host.old)) → (from : ℕ)
         × Moments H.clock H.since host.old host.new (HasLastSaved told.asks (begun_in told from first)) }
     ensures replies_put { (result ≡ Status.Read) ⊎ (result ≡ Status.Limit) → (first : ℕ) → command_of words.now ≡ Some (Command.Run first) → (told : ToldRun (P.left plan.old) (I.left input.old) (H.now host.old) (H.may host.old) (H.said host.old)) →
-        ((from : ℕ) × EndsAnswered told.asks (begun_in told from first) (I.left input.new) (status_line result) (H.said host.new) (result ≡ Status.Limit))
+        ((from : ℕ) × IsFromIn told.asks told.ready.openable.image from × EndsAnswered told.asks (begun_in told from first) (I.left input.new) (status_line result) (H.said host.new) (result ≡ Status.Limit))
         ⊎ Rose (P.faults plan.old) (P.faults plan.new) ⊎ Rose (H.out_faults host.old) (H.out_faults host.new) }
     ensures resumes { result ≡ Status.Ok → command_of words.now ≡ Some (Command.Run 0) → (told : ToldRun (P.left plan.old) (I.left input.old) (H.now host.old) (H.may host.old) (H.said host.old)) →
         told.ready.held ≡ below (next_offset told.ready.held) (events_after (terms_of told.asks).basis [] 0 (lines_of told.input_bytes)) → (from : ℕ) × Resumes told.asks (begun_in told from 0) (H.said host.new) }
     ensures input_read { result ≡ Status.Ok → IsRun (command_of words.now) → IsAtEnd (I.left input.new) }
     ensures gap_always { result ≡ Status.Ok → (first : ℕ) → command_of words.now ≡ Some (Command.Run first) → (told : ToldRun (P.left plan.old) (I.left input.old) (H.now host.old) (H.may host.old) (H.said host.old)) → first ≤ next_offset told.ready.held }
+    ensures behind { (first : ℕ) → command_of words.now ≡ Some (Command.Run first) → (told : ToldRun (P.left plan.old) (I.left input.old) (H.now host.old) (H.may host.old) (H.said host.old)) (slot : ℕ) → next_offset told.ready.held < first → (input.new ≡ input.old)
+        × IsBehind H.may H.clock H.since H.said told.asks told.ready.held told.ready.openable.image first slot (Rose (P.faults plan.old) (P.faults plan.new)) (Rose (H.out_faults host.old) (H.out_faults host.new)) result host.old host.new }
     ensures gap_never { result ≡ Status.Gap → (first : ℕ) → command_of words.now ≡ Some (Command.Run first) → (told : ToldRun (P.left plan.old) (I.left input.old) (H.now host.old) (H.may host.old) (H.said host.old)) → next_offset told.ready.held < first }
     ensures usage_only { result ≡ Status.Usage → command_of words.now ≡ None }
     ensures usage_always { command_of words.now ≡ None → result ≡ Status.Usage }
@@ -291,7 +304,8 @@ fn run_words<P: Source, I: Source, H: Host>(
     ensures plan_only { result ≡ Status.Plan → ReadsPlan (command_of words.now) × IsRefused (P.left plan.old) }
     ensures store_only { result ≡ Status.Store → (ShowsStore (command_of words.now) × IsDamaged (H.now host.old))
         ⊎ (IsRun (command_of words.now) × ((last : List ℕ) × RefusesStore (P.left plan.old) (H.now host.old) (H.now host.new) (input.new ≡ input.old) last × (EndsWith (H.said host.new) last ⊎ Rose (H.out_faults host.old) (H.out_faults host.new)))) }
-    ensures store_always { IsRun (command_of words.now) → (bytes : List ℕ) (asks : Planned) (v : Image) → P.left plan.old ≡ Some bytes → IsPlan bytes asks → H.now host.old ≡ Some v → IsUnfit asks v → result ≢ Status.Ok }
+    ensures store_always { IsRun (command_of words.now) → (bytes : List ℕ) (asks : Planned) (v : Image) → P.left plan.old ≡ Some bytes → IsPlan bytes asks → H.now host.old ≡ Some v → IsUnfit asks v → (input.new ≡ input.old)
+        × IsTurnedAway H.now H.may H.clock H.since H.said asks v (Rose (P.faults plan.old) (P.faults plan.new)) (Rose (H.out_faults host.old) (H.out_faults host.new)) result host.old host.new }
     ensures gap_only { result ≡ Status.Gap → (first : ℕ) × (command_of words.now ≡ Some (Command.Run first))
         × ((last : List ℕ) × RefusesGap (P.left plan.old) first (input.new ≡ input.old) last × (EndsWith (H.said host.new) last ⊎ Rose (H.out_faults host.old) (H.out_faults host.new))) }
     ensures disk_only { result ≡ Status.Disk → (ShowsStore (command_of words.now) ⊎ (IsRun (command_of words.now) × IsLegal (P.left plan.old))) × Rose (H.disk_faults host.old) (H.disk_faults host.new) }
@@ -302,12 +316,11 @@ fn run_words<P: Source, I: Source, H: Host>(
     ensures store_never { IsRun (command_of words.now) → ToldRun (P.left plan.old) (I.left input.old) (H.now host.old) (H.may host.old) (H.said host.old) → result ≢ Status.Store }
     ensures refusal_told { result ≡ Status.Plan → TellsFault (P.left plan.old) refusal.new }
     ensures usage_first { result ≡ Status.Usage → (plan.new ≡ plan.old) × (input.new ≡ input.old) }
-    ensures plan_first { result ≡ Status.Plan → input.new ≡ input.old }
-    ensures long_plan { (bytes : List ℕ) → P.left plan.old ≡ Some bytes → 65536 < length bytes → input.new ≡ input.old }
-    ensures read_first { result ≡ Status.Read → (input.new ≡ input.old) ⊎ Rose (I.faults input.old) (I.faults input.new) }
+    ensures plan_first { (result ≡ Status.Plan) ⊎ TellsNoPlan (P.left plan.old) → input.new ≡ input.old }
+    ensures read_first { result ≡ Status.Read → ((input.new ≡ input.old) × LeavesFiles H.now H.may H.clock H.since host.old host.new) ⊎ Rose (I.faults input.old) (I.faults input.new) }
     ensures check_alone { command_of words.now ≡ Some Command.Check → input.new ≡ input.old }
     ensures store_alone { ShowsStore (command_of words.now) → (plan.new ≡ plan.old) × (input.new ≡ input.old) }
-    ensures files_stay { (IsRun (command_of words.now) → ⊥) → LeavesFiles H.now H.may H.clock H.since host.old host.new }
+    ensures files_stay { (IsRun (command_of words.now) → ⊥) ⊎ (result ≡ Status.Plan) ⊎ TellsNoPlan (P.left plan.old) → LeavesFiles H.now H.may H.clock H.since host.old host.new }
     ensures rows_before_damage { result ≡ Status.Store → ShowsStore (command_of words.now) → ForSome (H.now host.old) (λ image. Puts H.said H.clock H.since host.old host.new (ended (before_damage (command_of words.now) image) ++ damage_line (damage_of (image 2)))) ⊎ Rose (H.out_faults host.old) (H.out_faults host.new) }
 {
     *refusal = None;
@@ -363,11 +376,12 @@ pub fn railgun<P: Source, I: Source, H: Host>(
 
     // At each moment, whatever the status, what was put and the image that a crash might leave are on the run's course.
     ensures every_moment { (first : ℕ) → command_of words.now ≡ Some (Command.Run first) → (told : ToldRun (P.left plan.old) (I.left input.old) (H.now host.old) (H.may host.old) (H.said host.old)) → (from : ℕ) × (last : List ℕ) × IsLastOf result (begun_in told from first) last
+        × IsToldFrom told.asks told.ready.openable.image (begun_in told from first) last (H.said host.new)
         × Moments H.clock H.since host.old host.new (λ m. Promised (store_of told.asks) (course_for told.asks (begun_in told from first)) (H.may host.old) last m.image m.said) }
 
     // Unless a put failed, what was put is whole lines of the run's text, and then the last line of the status.
     ensures last_line_run { (first : ℕ) → command_of words.now ≡ Some (Command.Run first) → (told : ToldRun (P.left plan.old) (I.left input.old) (H.now host.old) (H.may host.old) (H.said host.old)) →
-        ((from : ℕ) × (last : List ℕ) × IsLastOf result (begun_in told from first) last × EndsWhole told.asks (begun_in told from first) last (H.said host.new)) ⊎ Rose (H.out_faults host.old) (H.out_faults host.new) }
+        ((from : ℕ) × (last : List ℕ) × IsLastOf result (begun_in told from first) last × IsToldFrom told.asks told.ready.openable.image (begun_in told from first) last (H.said host.new) × EndsWhole told.asks (begun_in told from first) last (H.said host.new)) ⊎ Rose (H.out_faults host.old) (H.out_faults host.new) }
 
     // No reply is lost: the store is at most one line ahead of those that were answered.
     ensures no_reply_lost { (first : ℕ) → command_of words.now ≡ Some (Command.Run first) → (told : ToldRun (P.left plan.old) (I.left input.old) (H.now host.old) (H.may host.old) (H.said host.old)) → (from : ℕ) × (last : List ℕ) × IsLastOf result (begun_in told from first) last
@@ -379,7 +393,7 @@ pub fn railgun<P: Source, I: Source, H: Host>(
 
     // Where the input could not be read on, each line that LF ended was answered, and the last line follows, unless a put failed.
     ensures replies_put { (result ≡ Status.Read) ⊎ (result ≡ Status.Limit) → (first : ℕ) → command_of words.now ≡ Some (Command.Run first) → (told : ToldRun (P.left plan.old) (I.left input.old) (H.now host.old) (H.may host.old) (H.said host.old)) →
-        ((from : ℕ) × EndsAnswered told.asks (begun_in told from first) (I.left input.new) (status_line result) (H.said host.new) (result ≡ Status.Limit))
+        ((from : ℕ) × IsFromIn told.asks told.ready.openable.image from × EndsAnswered told.asks (begun_in told from first) (I.left input.new) (status_line result) (H.said host.new) (result ≡ Status.Limit))
         ⊎ Rose (P.faults plan.old) (P.faults plan.new) ⊎ Rose (H.out_faults host.old) (H.out_faults host.new) }
 
     // A run over what an earlier run of the same input left goes on with the text of one that is never stopped.
@@ -389,6 +403,10 @@ pub fn railgun<P: Source, I: Source, H: Host>(
 
     // A run goes on only where its first line is at most the store's next one.
     ensures gap_always { result ≡ Status.Ok → (first : ℕ) → command_of words.now ≡ Some (Command.Run first) → (told : ToldRun (P.left plan.old) (I.left input.old) (H.now host.old) (H.may host.old) (H.said host.old)) → first ≤ next_offset told.ready.held }
+
+    // Where it is behind that, nothing is read, answered or stored: nothing is put but the last line.
+    ensures behind { (first : ℕ) → command_of words.now ≡ Some (Command.Run first) → (told : ToldRun (P.left plan.old) (I.left input.old) (H.now host.old) (H.may host.old) (H.said host.old)) (slot : ℕ) → next_offset told.ready.held < first → (input.new ≡ input.old)
+        × IsBehind H.may H.clock H.since H.said told.asks told.ready.held told.ready.openable.image first slot (Rose (P.faults plan.old) (P.faults plan.new)) (Rose (H.out_faults host.old) (H.out_faults host.new)) result host.old host.new }
     ensures gap_never { result ≡ Status.Gap → (first : ℕ) → command_of words.now ≡ Some (Command.Run first) → (told : ToldRun (P.left plan.old) (I.left input.old) (H.now host.old) (H.may host.old) (H.said host.old)) → next_offset told.ready.held < first }
 
     // Each status has its cause. Memory alone is free.
@@ -398,7 +416,11 @@ pub fn railgun<P: Source, I: Source, H: Host>(
     ensures plan_only { result ≡ Status.Plan → ReadsPlan (command_of words.now) × IsRefused (P.left plan.old) }
     ensures store_only { result ≡ Status.Store → (ShowsStore (command_of words.now) × IsDamaged (H.now host.old))
         ⊎ (IsRun (command_of words.now) × ((last : List ℕ) × RefusesStore (P.left plan.old) (H.now host.old) (H.now host.new) (input.new ≡ input.old) last × (EndsWith (H.said host.new) last ⊎ Rose (H.out_faults host.old) (H.out_faults host.new)))) }
-    ensures store_always { IsRun (command_of words.now) → (bytes : List ℕ) (asks : Planned) (v : Image) → P.left plan.old ≡ Some bytes → IsPlan bytes asks → H.now host.old ≡ Some v → IsUnfit asks v → result ≢ Status.Ok }
+
+    // Over a store of another schema, or with a bad frame, a run says which, and leaves the input and the files alone.
+    ensures store_always { IsRun (command_of words.now) → (bytes : List ℕ) (asks : Planned) (v : Image) → P.left plan.old ≡ Some bytes → IsPlan bytes asks → H.now host.old ≡ Some v → IsUnfit asks v → (input.new ≡ input.old)
+        × IsTurnedAway H.now H.may H.clock H.since H.said asks v (Rose (P.faults plan.old) (P.faults plan.new)) (Rose (H.out_faults host.old) (H.out_faults host.new)) result host.old host.new }
+
     ensures gap_only { result ≡ Status.Gap → (first : ℕ) × (command_of words.now ≡ Some (Command.Run first))
         × ((last : List ℕ) × RefusesGap (P.left plan.old) first (input.new ≡ input.old) last × (EndsWith (H.said host.new) last ⊎ Rose (H.out_faults host.old) (H.out_faults host.new))) }
     ensures disk_only { result ≡ Status.Disk → (ShowsStore (command_of words.now) ⊎ (IsRun (command_of words.now) × IsLegal (P.left plan.old))) × Rose (H.disk_faults host.old) (H.disk_faults host.new) }
@@ -414,17 +436,17 @@ pub fn railgun<P: Source, I: Source, H: Host>(
     ensures refusal_told { result ≡ Status.Plan → TellsFault (P.left plan.old) refusal.new }
 
     // The words are looked at before the plan is read, the plan before the store, and the store before the input: where the plan is
-    // refused, too long or can't be read, the input is left alone. Only a run reads it, and only a run or a check the plan.
+    // refused, too long or can't be read, the input and the files are left alone. Only a run reads the input, and only a run or a check
+    // the plan.
     ensures usage_first { result ≡ Status.Usage → (plan.new ≡ plan.old) × (input.new ≡ input.old) }
-    ensures plan_first { result ≡ Status.Plan → input.new ≡ input.old }
-    ensures long_plan { (bytes : List ℕ) → P.left plan.old ≡ Some bytes → 65536 < length bytes → input.new ≡ input.old }
-    ensures read_first { result ≡ Status.Read → (input.new ≡ input.old) ⊎ Rose (I.faults input.old) (I.faults input.new) }
+    ensures plan_first { (result ≡ Status.Plan) ⊎ TellsNoPlan (P.left plan.old) → input.new ≡ input.old }
+    ensures read_first { result ≡ Status.Read → ((input.new ≡ input.old) × LeavesFiles H.now H.may H.clock H.since host.old host.new) ⊎ Rose (I.faults input.old) (I.faults input.new) }
     ensures check_alone { command_of words.now ≡ Some Command.Check → input.new ≡ input.old }
     ensures store_alone { ShowsStore (command_of words.now) → (plan.new ≡ plan.old) × (input.new ≡ input.old) }
 
-    // Only a run may write a file: for any other words the files stay, and at each moment a crash might have left of them
-    // what it could leave at the start.
-    ensures files_stay { (IsRun (command_of words.now) → ⊥) → LeavesFiles H.now H.may H.clock H.since host.old host.new }
+    // Only a run whose plan is read may write a file: else the files stay, and at each moment a crash might have left of them what it could
+    // leave at the start.
+    ensures files_stay { (IsRun (command_of words.now) → ⊥) ⊎ (result ≡ Status.Plan) ⊎ TellsNoPlan (P.left plan.old) → LeavesFiles H.now H.may H.clock H.since host.old host.new }
 
     // A damaged log is dumped up to its first damaged place, which the last line says, unless a put failed; `info` puts that line alone.
     ensures rows_before_damage { result ≡ Status.Store → ShowsStore (command_of words.now) → ForSome (H.now host.old) (λ image. Puts H.said H.clock H.since host.old host.new (ended (before_damage (command_of words.now) image) ++ damage_line (damage_of (image 2)))) ⊎ Rose (H.out_faults host.old) (H.out_faults host.new) }
@@ -439,10 +461,13 @@ pub fn railgun<P: Source, I: Source, H: Host>(
         ¬ (Rose (P.faults plan.old) (P.faults plan.new) ⊎ Rose (I.faults input.old) (I.faults input.new) ⊎ Rose (H.out_faults host.old) (H.out_faults host.new) ⊎ Rose (H.disk_faults host.old) (H.disk_faults host.new)) →
         (result ≡ Status.Ok) ⊎ (result ≡ Status.Memory) }
 
+    // A run over a store of another schema, or with a bad frame, then says so.
+    ensures completes_store { IsRun (command_of words.now) → (bytes : List ℕ) (asks : Planned) (v : Image) → P.left plan.old ≡ Some bytes → IsPlan bytes asks → H.now host.old ≡ Some v → IsUnfit asks v →
+        ¬ (Rose (P.faults plan.old) (P.faults plan.new) ⊎ Rose (H.disk_faults host.old) (H.disk_faults host.new)) → (result ≡ Status.Store) ⊎ (result ≡ Status.Memory) }
+
     // Where it begins behind the store's next offset, it says so.
-    ensures completes_gap { (first : ℕ) → command_of words.now ≡ Some (Command.Run first) → (told : ToldRun (P.left plan.old) (I.left input.old) (H.now host.old) (H.may host.old) (H.said host.old)) → length told.input_bytes ≤ 2 ^ 50 → next_offset told.ready.held < first →
-        ¬ (Rose (P.faults plan.old) (P.faults plan.new) ⊎ Rose (I.faults input.old) (I.faults input.new) ⊎ Rose (H.out_faults host.old) (H.out_faults host.new) ⊎ Rose (H.disk_faults host.old) (H.disk_faults host.new)) →
-        (result ≡ Status.Gap) ⊎ (result ≡ Status.Memory) }
+    ensures completes_gap { (first : ℕ) → command_of words.now ≡ Some (Command.Run first) → (told : ToldRun (P.left plan.old) (I.left input.old) (H.now host.old) (H.may host.old) (H.said host.old)) → next_offset told.ready.held < first →
+        ¬ (Rose (P.faults plan.old) (P.faults plan.new) ⊎ Rose (H.disk_faults host.old) (H.disk_faults host.new)) → (result ≡ Status.Gap) ⊎ (result ≡ Status.Memory) }
 {
     run_words(alloc, words, plan, input, host, refusal)
 }

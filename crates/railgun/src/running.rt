@@ -2,13 +2,18 @@ ghost use Rattle.std.specs.Prelude.{◌≡◌, ◌⊎◌, ◌≤◌, ◌<◌, �
 ghost use Rattle.rg_bytes.specs.Counts.{Rose};
 ghost use Rattle.rg_bytes.specs.Known.{IsAtEnd};
 ghost use Rattle.rg_host.specs.Image.{Image};
+ghost use Rattle.rg_event.specs.Rising.{next_offset};
 ghost use Rattle.rg_config.specs.Plans.{planned};
 ghost use Rattle.rg_config.specs.Read.{IsRead};
+ghost use Rattle.rg_store.specs.Stores.{store_of};
+ghost use Rattle.rg_open.specs.Unfit.{IsUnfit, IsLeftAlone};
+ghost use Rattle.rg_open.specs.Within.{IsWithinOpening};
 ghost use Rattle.rg_run.specs.Begun.{IsReady, begun_by};
 ghost use Rattle.rg_run.specs.Reading.{IsLonger, IsWithin};
 ghost use Rattle.railgun.specs.Call.{EndsRun, ending_status, ending_line, status_after, line_after, gap_line};
-ghost use Rattle.railgun.specs.Causes.{IsStoreLine, IsUnfit};
+ghost use Rattle.railgun.specs.Causes.{IsStoreLine};
 ghost use Rattle.railgun.specs.Stored.{Went};
+ghost use Rattle.railgun.specs.TurnedAway.{EndsUnfit, EndsBehind};
 
 use crate::ending::Ending;
 use crate::refused::{refuse_damage, refuse_gap, refuse_schema, refuse_state};
@@ -57,7 +62,11 @@ pub fn run<I: Source, H: Host, L: Ledger>(
     ensures never_damaged { (ready : IsReady (planned plan.now) (H.now host.old) (H.may host.old) (H.said host.old)) (all : List ℕ) → I.left input.old ≡ Some all → status_after result ≡ Status.Store → ⊥ }
     ensures at_end { OnOk result (IsAtEnd (I.left input.new)) }
     ensures within { OnOk result (IsWithin (2 ^ 50) (I.left input.old)) }
-    ensures exact { (v : Image) → H.now host.old ≡ Some v → IsUnfit (planned plan.now) v → OnOk result ⊥ }
+    ensures behind { (ready : IsReady (planned plan.now) (H.now host.old) (H.may host.old) (H.said host.old)) (keep : Option ℕ) → next_offset ready.held < first →
+        (input.new ≡ input.old) × IsWithinOpening H.may H.clock H.since H.said (store_of (planned plan.now)) keep ready.openable.image host.old host.new
+        × EndsBehind first (next_offset ready.held) ⊥ (status_after result) (line_after result) }
+    ensures unfit { (v : Image) → H.now host.old ≡ Some v → IsUnfit (planned plan.now) v →
+        (input.new ≡ input.old) × IsLeftAlone H.now H.may H.clock H.since H.said v host.old host.new × EndsUnfit (planned plan.now) v ⊥ (status_after result) (line_after result) }
     ensures store { IfErr result (λ ending. ending_status ending ≡ Status.Store → IsStoreLine (planned plan.now) (H.now host.old) (H.now host.new) (input.new ≡ input.old) (ending_line ending)) }
     ensures gap { IfErr result (λ ending. ending_status ending ≡ Status.Gap → (next : ℕ) × (next < first) × (ending_line ending ≡ gap_line first next) × (input.new ≡ input.old)) }
     ensures disk { IfErr result (λ ending. ending_status ending ≡ Status.Disk → Rose (H.disk_faults host.old) (H.disk_faults host.new)) }

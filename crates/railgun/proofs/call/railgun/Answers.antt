@@ -1,6 +1,7 @@
 use Rattle.std.proofs.Common.{⊎_elim, inl, inr, arith}
 use Rattle.railgun.specs.Call.{command_of}
 use Rattle.railgun.proofs.Ends.{completes, run_completes, store_legal, gap_legal, read_of, runs, said_by, with_said}
+use Rattle.railgun.proofs.TurnedAway.{unfit_status, behind_status}
 use Rattle.railgun.proofs.call.railgun.Goals as goal
 
 pub returns-clause-complete : goal.returns-clause-complete
@@ -63,22 +64,9 @@ returns-clause-completes_run g c = λ first is told within begins none.
     told.plan_bytes told.plan_is told.asks told.says told.input_bytes told.input_is within none (c.run_words.ensures.store_never (runs _ first is) told))
 
 pub returns-clause-completes_gap : goal.returns-clause-completes_gap
-returns-clause-completes_gap g c = λ first is told within behind none.
-    ⊎_elim
-    (λ ok. absurd (let begins = c.run_words.ensures.gap_always ok first is told in omega (arith, behind, begins)))
-    (λ more. more)
-    (run_completes (command_of c.args.words.now) first is _ _ _ _ _ _ _ c.run_words.result
-    (record {
-      usage_only = c.run_words.ensures.usage_only;
-      usage_always = c.run_words.ensures.usage_always;
-      ok_only = λ is. ((c.run_words.ensures.ok_only is).0, (c.run_words.ensures.ok_only is).2);
-      plan_only = c.run_words.ensures.plan_only;
-      store_only = λ is. store_legal _ _ _ _ _ _ (c.run_words.ensures.store_only is);
-      gap_only = λ is. gap_legal _ _ _ _ (c.run_words.ensures.gap_only is);
-      disk_only = c.run_words.ensures.disk_only;
-      read_only = λ is. read_of _ _ _ _ (c.run_words.ensures.read_only is);
-      write_only = λ is. (c.run_words.ensures.write_only is).1;
-      limit_only = c.run_words.ensures.limit_only;
-      possible_only = c.run_words.ensures.possible_only;
-    })
-    told.plan_bytes told.plan_is told.asks told.says told.input_bytes told.input_is within none (c.run_words.ensures.store_never (runs _ first is) told))
+returns-clause-completes_gap g c = λ first is told behind none.
+    behind_status first _ _ _ c.run_words.result _ (c.run_words.ensures.behind first is told 0 behind).1.ends (λ disk. (c.run_words.ensures.disk_only disk).1) none
+
+pub returns-clause-completes_store : goal.returns-clause-completes_store
+returns-clause-completes_store g c = λ run bytes asks v told says now unfit none.
+    unfit_status asks v _ _ c.run_words.result _ (c.run_words.ensures.store_always run bytes asks v told says now unfit).1.ends (λ disk. (c.run_words.ensures.disk_only disk).1) none

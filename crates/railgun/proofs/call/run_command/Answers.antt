@@ -1,10 +1,10 @@
-use Rattle.std.proofs.Common.{◌≡◌, [], refl, sym, ◌∙◌}
+use Rattle.std.proofs.Common.{◌≡◌, ⊎_elim, inl, [], refl, sym, ◌∙◌}
 use Rattle.rg_dump.specs.Dump.{dump_text}
 use Rattle.railgun.specs.Call.{ending_status}
 use Rattle.railgun.specs.declared.command.Command.TheVariants.{Run}
 use Rattle.railgun.specs.declared.status.Status.TheVariants.{Write}
 use Rattle.railgun.proofs.Ends.{nothing_stops}
-use Rattle.railgun.proofs.Inputs.{on_err, on_errs, on_ok}
+use Rattle.railgun.proofs.Inputs.{on_err, on_errs, on_ok, any_err}
 use Rattle.railgun.proofs.Refusing.{damage_told}
 use Rattle.railgun.proofs.call.run_command.Goals as goal
 
@@ -13,6 +13,12 @@ returns-in-Run-clause-went g c = λ n is told.
     let e : Run n ≡ Run c.in-Run.first = sym is ∙ c.in-Run.is in
     let same : n ≡ c.in-Run.first = cc in
     rw same (c.run_with_plan.ensures.went told)
+
+pub returns-in-Run-clause-behind : goal.returns-in-Run-clause-behind
+returns-in-Run-clause-behind g c = λ n is told keep.
+    let e : Run n ≡ Run c.in-Run.first = sym is ∙ c.in-Run.is in
+    let same : n ≡ c.in-Run.first = cc in
+    rw same (c.run_with_plan.ensures.behind told keep)
 
 pub returns-in-Run-clause-completes : goal.returns-in-Run-clause-completes
 returns-in-Run-clause-completes g c = rw c.in-Run.is (on_ok c.run_with_plan.result _ _ (λ never told. absurd (never told)) c.run_with_plan.ensures.completes)
@@ -24,8 +30,14 @@ returns-in-Run-clause-stops g c =
 pub returns-in-Run-clause-line : goal.returns-in-Run-clause-line
 returns-in-Run-clause-line g c = rw c.in-Run.is c.run_with_plan.ensures.line
 
-pub returns-in-Run-clause-exact : goal.returns-in-Run-clause-exact
-returns-in-Run-clause-exact g c = λ bytes asks v run told says now unfit. c.run_with_plan.ensures.exact bytes asks v told says now unfit
+pub returns-in-Run-clause-unfit : goal.returns-in-Run-clause-unfit
+returns-in-Run-clause-unfit g c = λ bytes asks v run told says now unfit. c.run_with_plan.ensures.unfit bytes asks v told says now unfit
+
+pub returns-in-Run-clause-plan_first : goal.returns-in-Run-clause-plan_first
+returns-in-Run-clause-plan_first g c = λ why. (c.run_with_plan.ensures.plan_first why).0
+
+pub returns-in-Run-clause-leaves : goal.returns-in-Run-clause-leaves
+returns-in-Run-clause-leaves g c = rw c.in-Run.is (λ why. ⊎_elim (λ not_run. absurd (not_run tt)) (λ no_plan. (c.run_with_plan.ensures.plan_first no_plan).1) why)
 
 pub returns-in-Check-clause-completes : goal.returns-in-Check-clause-completes
 returns-in-Check-clause-completes g c = rw c.in-Check.is c.check_with_plan.ensures.completes
@@ -59,3 +71,12 @@ returns-in-Info-clause-stops g c =
 pub returns-in-Info-clause-all_before : goal.returns-in-Info-clause-all_before
 returns-in-Info-clause-all_before g c =
     rw c.in-Info.is (on_errs c.info.result _ _ _ (λ ending none line is shows image told. (none is, damage_told ending image (line image told) is)) c.info.ensures.none_before c.info.ensures.line)
+
+pub returns-in-Check-clause-read_first : goal.returns-in-Check-clause-read_first
+returns-in-Check-clause-read_first g c = any_err c.check_with_plan.result _ (λ ending is. inl (refl, c.check_with_plan.ensures.leaves))
+
+pub returns-in-Dump-clause-read_first : goal.returns-in-Dump-clause-read_first
+returns-in-Dump-clause-read_first g c = any_err c.dump.result _ (λ ending is. inl (refl, c.dump.ensures.leaves))
+
+pub returns-in-Info-clause-read_first : goal.returns-in-Info-clause-read_first
+returns-in-Info-clause-read_first g c = any_err c.info.result _ (λ ending is. inl (refl, c.info.ensures.leaves))

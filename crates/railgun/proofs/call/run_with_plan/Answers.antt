@@ -1,14 +1,18 @@
-use Rattle.std.proofs.Common.{Some, inr, sym, subst, refl}
+use Rattle.std.proofs.Common.{◌≡◌, Some, inl, inr, ⊎_elim, sym, subst, refl}
 use Rattle.rg_host.proofs.PutRuns.{puts-nothing}
+use Rattle.rg_host.proofs.Runs.{leaves_files-none}
 use Rattle.rg_config.specs.Plans.{Planned, planned}
 use Rattle.railgun.specs.Call.{ending_status, ending_line}
-use Rattle.railgun.specs.Causes.{IsUnfit}
+use Rattle.rg_open.specs.Unfit.{IsUnfit}
+use Rattle.rg_run.proofs.TurnedAway.{none_alone, none_within}
 use Rattle.railgun.specs.Stored.{begun_in}
 use Rattle.railgun.specs.declared.command.Command.TheVariants.{Run}
-use Rattle.railgun.proofs.Plans.{long_is_no_plan}
+use Rattle.railgun.specs.declared.status.Status.TheVariants.{Ok, Plan as BadPlan}
+use Rattle.railgun.proofs.Plans.{tells_plan}
 use Rattle.railgun.proofs.Ends.{refused_of, legal_of, refused_line, told_line, no_carried}
 use Rattle.railgun.proofs.Refusing.{load_early, load_no_store, load_no_gap, load_no_disk, load_no_write, run_no_plan, run_early}
 use Rattle.railgun.proofs.Carrying.{went_unread, bytes_ask, went_at, never_at}
+use Rattle.railgun.proofs.TurnedAway.{ends_for, unread_ends, behind_at}
 use Rattle.railgun.proofs.call.run_with_plan.Goals as goal
 
 -- the plan was not read
@@ -22,6 +26,26 @@ returns-in-Err-clause-went g c = λ told. (
 
 pub returns-in-Err-clause-never_damaged : goal.returns-in-Err-clause-never_damaged
 returns-in-Err-clause-never_damaged g c = λ told is. load_no_store (ending_status c.in-Err.ending) c.in-Err.ensures.others is
+
+pub returns-in-Err-clause-behind : goal.returns-in-Err-clause-behind
+returns-in-Err-clause-behind g c = λ told keep behind. (
+  refl,
+  none_within g.H.Host.may g.H.Host.clock g.H.Host.since g.H.Host.said g.met.H.Host.only_now g.met.H.Host.sinks told.asks keep told.ready.openable.image c.args.host.now,
+  inr (unread_ends _ told.plan_bytes told.asks told.plan_is told.says _ (ending_status c.in-Err.ending) (ending_line c.in-Err.ending) (λ bad. refused_of _ (ending_line c.in-Err.ending) (c.in-Err.ensures.refused bad)) c.in-Err.ensures.line c.in-Err.ensures.read c.in-Err.ensures.limit c.in-Err.ensures.others),
+)
+
+pub returns-in-Err-clause-unfit : goal.returns-in-Err-clause-unfit
+returns-in-Err-clause-unfit g c = λ bytes asks v told says now unfit. (
+  refl,
+  none_alone g.H.Host.now g.H.Host.may g.H.Host.clock g.H.Host.since g.H.Host.said g.met.H.Host.now_may g.met.H.Host.only_now g.met.H.Host.sinks v c.args.host.now now,
+  inr (unread_ends _ bytes asks told says _ (ending_status c.in-Err.ending) (ending_line c.in-Err.ending) (λ bad. refused_of _ (ending_line c.in-Err.ending) (c.in-Err.ensures.refused bad)) c.in-Err.ensures.line c.in-Err.ensures.read c.in-Err.ensures.limit c.in-Err.ensures.others),
+)
+
+pub returns-in-Err-clause-plan_first : goal.returns-in-Err-clause-plan_first
+returns-in-Err-clause-plan_first g c = λ why. (refl, leaves_files-none g.H.Host.now g.H.Host.may g.H.Host.clock g.H.Host.since _ (λ t u m. g.met.H.Host.sinks _ t u m) (λ m now. (g.met.H.Host.only_now _ m now).0))
+
+pub returns-in-Err-clause-read_first : goal.returns-in-Err-clause-read_first
+returns-in-Err-clause-read_first g c = λ is. inl (refl, leaves_files-none g.H.Host.now g.H.Host.may g.H.Host.clock g.H.Host.since _ (λ t u m. g.met.H.Host.sinks _ t u m) (λ m now. (g.met.H.Host.only_now _ m now).0))
 
 pub returns-in-Err-clause-stops : goal.returns-in-Err-clause-stops
 returns-in-Err-clause-stops g c = λ told. puts-nothing g.H.Host.said g.H.Host.clock g.H.Host.since _ (λ t u m. g.met.H.Host.sinks _ t u m) (λ m. g.met.H.Host.only_now _ m)
@@ -57,12 +81,18 @@ returns-in-Ok-run-clause-completes g c = λ told. no_carried c.args.first _ _ (p
 pub returns-in-Ok-run-clause-legal : goal.returns-in-Ok-run-clause-legal
 returns-in-Ok-run-clause-legal g c = legal_of _ (planned c.in-Ok.asked) c.in-Ok.ensures.legal
 
-pub returns-in-Ok-run-clause-exact : goal.returns-in-Ok-run-clause-exact
-returns-in-Ok-run-clause-exact g c = λ bytes asks v told says now unfit.
-    c.in-Ok-run.ensures.exact v now (subst (λ (p : Planned). IsUnfit p v) (sym (bytes_ask _ (planned c.in-Ok.asked) c.in-Ok.ensures.legal bytes asks told says)) unfit)
+pub returns-in-Ok-run-clause-behind : goal.returns-in-Ok-run-clause-behind
+returns-in-Ok-run-clause-behind g c = λ told keep behind.
+    behind_at g.H.Host.now g.H.Host.may g.H.Host.clock g.H.Host.since g.H.Host.said _ _ _ _ told keep c.args.first _ _ _ _ (planned c.in-Ok.asked) c.in-Ok.ensures.legal (λ ready late. c.in-Ok-run.ensures.behind ready keep late) behind
 
-pub returns-in-Ok-run-clause-long_plan : goal.returns-in-Ok-run-clause-long_plan
-returns-in-Ok-run-clause-long_plan g c = λ bytes is long. absurd (long_is_no_plan _ (planned c.in-Ok.asked) c.in-Ok.ensures.legal bytes is long)
+pub returns-in-Ok-run-clause-unfit : goal.returns-in-Ok-run-clause-unfit
+returns-in-Ok-run-clause-unfit g c = λ bytes asks v told says now unfit.
+    let same = bytes_ask _ (planned c.in-Ok.asked) c.in-Ok.ensures.legal bytes asks told says in
+    let at = c.in-Ok-run.ensures.unfit v now (subst (λ (p : Planned). IsUnfit p v) (sym same) unfit) in
+    (at.0, at.1, ends_for (planned c.in-Ok.asked) asks v _ _ _ same at.2)
+
+pub returns-in-Ok-run-clause-plan_first : goal.returns-in-Ok-run-clause-plan_first
+returns-in-Ok-run-clause-plan_first g c = λ why. absurd (⊎_elim (λ is. absurd (let e : Ok ≡ BadPlan = is in cc)) (λ none. tells_plan _ (planned c.in-Ok.asked) c.in-Ok.ensures.legal none) why)
 
 -- the run ended early
 
@@ -79,8 +109,15 @@ returns-clause-stops g c = λ told. absurd (no_carried c.args.first _ _ (planned
 pub returns-clause-line : goal.returns-clause-line
 returns-clause-line g c = λ told. absurd (no_carried c.args.first _ _ (planned c.in-Ok.asked) c.in-Ok.ensures.legal told)
 
-pub returns-clause-exact : goal.returns-clause-exact
-returns-clause-exact g c = λ bytes asks v told says now unfit. tt
+pub returns-clause-behind : goal.returns-clause-behind
+returns-clause-behind g c = λ told keep behind.
+    behind_at g.H.Host.now g.H.Host.may g.H.Host.clock g.H.Host.since g.H.Host.said _ _ _ _ told keep c.args.first _ _ _ _ (planned c.in-Ok.asked) c.in-Ok.ensures.legal (λ ready late. c.in-Err-run.ensures.behind ready keep late) behind
+
+pub returns-clause-unfit : goal.returns-clause-unfit
+returns-clause-unfit g c = λ bytes asks v told says now unfit.
+    let same = bytes_ask _ (planned c.in-Ok.asked) c.in-Ok.ensures.legal bytes asks told says in
+    let at = c.in-Err-run.ensures.unfit v now (subst (λ (p : Planned). IsUnfit p v) (sym same) unfit) in
+    (at.0, at.1, ends_for (planned c.in-Ok.asked) asks v _ _ _ same at.2)
 
 pub returns-clause-refused : goal.returns-clause-refused
 returns-clause-refused g c = λ is. absurd (run_no_plan (ending_status c.in-Err-run.ending) c.in-Err-run.ensures.others is)
@@ -112,7 +149,7 @@ pub returns-clause-possible : goal.returns-clause-possible
 returns-clause-possible g c = run_early (ending_status c.in-Err-run.ending) c.in-Err-run.ensures.others
 
 pub returns-clause-plan_first : goal.returns-clause-plan_first
-returns-clause-plan_first g c = λ is. absurd (run_no_plan (ending_status c.in-Err-run.ending) c.in-Err-run.ensures.others is)
+returns-clause-plan_first g c = λ why. absurd (⊎_elim (λ is. run_no_plan (ending_status c.in-Err-run.ending) c.in-Err-run.ensures.others is) (λ none. tells_plan _ (planned c.in-Ok.asked) c.in-Ok.ensures.legal none) why)
 
-pub returns-clause-long_plan : goal.returns-clause-long_plan
-returns-clause-long_plan g c = λ bytes is long. absurd (long_is_no_plan _ (planned c.in-Ok.asked) c.in-Ok.ensures.legal bytes is long)
+pub returns-clause-read_first : goal.returns-clause-read_first
+returns-clause-read_first g c = λ is. inr (c.in-Err-run.ensures.read is)

@@ -8,7 +8,8 @@ use Rattle.railgun.specs.Causes.{RefusesStore}
 use Rattle.railgun.specs.declared.command.Command.TheVariants.{Run}
 use Rattle.railgun.specs.declared.status.Status.TheVariants.{Ok, Usage, Write}
 use Rattle.railgun.proofs.Ends.{all_put, all_front, front_alone, line_alone, put_then, whole_then, write_line, rose_first, rose_last, command_is}
-use Rattle.railgun.proofs.Telling.{all_promised, one_ahead, slots_saved, ends_whole, ends_answered, completed, resumed}
+use Rattle.railgun.proofs.Telling.{all_promised, one_ahead, slots_saved, told_from, ends_whole, ends_answered, completed, resumed}
+use Rattle.railgun.proofs.TurnedAway.{ok_unfit, ok_behind, turned_away, lies_behind}
 use Rattle.railgun.proofs.call.run_words.Goals as goal
 
 -- the words are no form of a command
@@ -56,6 +57,9 @@ returns-in-Ok-clause-every_moment g c = λ first is told.
       w.0,
       [],
       refl,
+      told_from g.H.Host.now g.H.Host.may g.H.Host.clock g.H.Host.since g.H.Host.said _ _ _ _ _ _ _ _ _ _ w.1 told.ready.told (λ none. refl) [] ([], refl)
+          (puts-nothing g.H.Host.said g.H.Host.clock g.H.Host.since _ (λ t u m. g.met.H.Host.sinks _ t u m) (λ m. g.met.H.Host.only_now _ m))
+          (leaves_files-none g.H.Host.now g.H.Host.may g.H.Host.clock g.H.Host.since _ (λ t u m. g.met.H.Host.sinks _ t u m) (λ m now. (g.met.H.Host.only_now _ m now).0)),
       all_promised g.H.Host.now g.H.Host.may g.H.Host.clock g.H.Host.since g.H.Host.said _ _ _ _ _ _ _ _ _ _ w.1 told.ready.told (λ none. refl) [] ([], refl)
           (puts-nothing g.H.Host.said g.H.Host.clock g.H.Host.since _ (λ t u m. g.met.H.Host.sinks _ t u m) (λ m. g.met.H.Host.only_now _ m))
           (leaves_files-none g.H.Host.now g.H.Host.may g.H.Host.clock g.H.Host.since _ (λ t u m. g.met.H.Host.sinks _ t u m) (λ m now. (g.met.H.Host.only_now _ m now).0)) told.ready.openable.truthful,
@@ -65,7 +69,9 @@ pub returns-in-Ok-clause-last_line_run : goal.returns-in-Ok-clause-last_line_run
 returns-in-Ok-clause-last_line_run g c = λ first is told.
     let w = c.in-Ok.ensures.went first (command_is _ c.in-Some.command (Run first) (sym c.named.ensures ∙ c.in-Some.is) is) told in
     let nothing = puts-nothing g.H.Host.said g.H.Host.clock g.H.Host.since c.run_command.new.host (λ t u m. g.met.H.Host.sinks _ t u m) (λ m. g.met.H.Host.only_now _ m) in
-    ⊎_elim (λ whole. inl (w.0, [], refl, whole)) (λ rose. inr rose)
+    let from = told_from g.H.Host.now g.H.Host.may g.H.Host.clock g.H.Host.since g.H.Host.said _ _ _ _ _ _ _ _ _ _ w.1 told.ready.told (λ none. refl) [] ([], refl) nothing
+    (leaves_files-none g.H.Host.now g.H.Host.may g.H.Host.clock g.H.Host.since _ (λ t u m. g.met.H.Host.sinks _ t u m) (λ m now. (g.met.H.Host.only_now _ m now).0)) in
+    ⊎_elim (λ whole. inl (w.0, [], refl, from, whole)) (λ rose. inr rose)
     (ends_whole g.H.Host.now g.H.Host.may g.H.Host.clock g.H.Host.since g.H.Host.said _ _ _ _ _ _ _ _ _ _ w.1 told.ready.told (λ none. refl) [] ([], refl) nothing
     (leaves_files-none g.H.Host.now g.H.Host.may g.H.Host.clock g.H.Host.since _ (λ t u m. g.met.H.Host.sinks _ t u m) (λ m now. (g.met.H.Host.only_now _ m now).0)) _ (λ write. absurd (let e : Ok ≡ Write = write in cc)) (inl nothing))
 
@@ -101,7 +107,19 @@ returns-in-Ok-clause-gap_always g c = λ ok first is told.
 pub returns-in-Ok-clause-store_always : goal.returns-in-Ok-clause-store_always
 returns-in-Ok-clause-store_always g c =
     let form : command_of c.args.words.now ≡ Some c.in-Some.command = sym c.named.ensures ∙ c.in-Some.is in
-    rw form (λ run bytes asks v told says now unfit ok. c.in-Ok.ensures.exact bytes asks v run told says now unfit)
+    rw form (λ run bytes asks v told says now unfit. absurd (ok_unfit asks v _ _ (c.in-Ok.ensures.unfit bytes asks v run told says now unfit).2))
+
+pub returns-in-Ok-clause-plan_first : goal.returns-in-Ok-clause-plan_first
+returns-in-Ok-clause-plan_first g c = λ why. c.in-Ok.ensures.plan_first why
+
+pub returns-in-Ok-clause-files_stay : goal.returns-in-Ok-clause-files_stay
+returns-in-Ok-clause-files_stay g c =
+    let form : command_of c.args.words.now ≡ Some c.in-Some.command = sym c.named.ensures ∙ c.in-Some.is in
+    rw form (λ why. c.in-Ok.ensures.leaves why)
+
+pub returns-in-Ok-clause-behind : goal.returns-in-Ok-clause-behind
+returns-in-Ok-clause-behind g c = λ first is told slot behind.
+    absurd (ok_behind first _ _ _ (c.in-Ok.ensures.behind first (command_is _ c.in-Some.command (Run first) (sym c.named.ensures ∙ c.in-Some.is) is) told (Some slot) behind).2)
 
 -- the command ended early
 
@@ -149,6 +167,7 @@ returns-in-Err-clause-every_moment g c = rw c.end-in-Err.ensures.status (λ firs
       w.0,
       ending_line c.in-Err.ending,
       w.1.last_is,
+      told_from g.H.Host.now g.H.Host.may g.H.Host.clock g.H.Host.since g.H.Host.said _ _ _ _ _ _ _ _ _ _ w.1 told.ready.told c.end-in-Err.ensures.silent part.0 part.1 part.2 c.end-in-Err.ensures.leaves,
       all_promised g.H.Host.now g.H.Host.may g.H.Host.clock g.H.Host.since g.H.Host.said _ _ _ _ _ _ _ _ _ _ w.1 told.ready.told c.end-in-Err.ensures.silent part.0 part.1 part.2 c.end-in-Err.ensures.leaves told.ready.openable.truthful,
     ))
 
@@ -156,7 +175,8 @@ pub returns-in-Err-clause-last_line_run : goal.returns-in-Err-clause-last_line_r
 returns-in-Err-clause-last_line_run g c = rw c.end-in-Err.ensures.status (λ first is told.
     let w = c.in-Err.ensures.went first (command_is _ c.in-Some.command (Run first) (sym c.named.ensures ∙ c.in-Some.is) is) told in
     let part = c.end-in-Err.ensures.part in
-    ⊎_elim (λ whole. inl (w.0, ending_line c.in-Err.ending, w.1.last_is, whole)) (λ rose. inr rose)
+    let from = told_from g.H.Host.now g.H.Host.may g.H.Host.clock g.H.Host.since g.H.Host.said _ _ _ _ _ _ _ _ _ _ w.1 told.ready.told c.end-in-Err.ensures.silent part.0 part.1 part.2 c.end-in-Err.ensures.leaves in
+    ⊎_elim (λ whole. inl (w.0, ending_line c.in-Err.ending, w.1.last_is, from, whole)) (λ rose. inr rose)
     (ends_whole g.H.Host.now g.H.Host.may g.H.Host.clock g.H.Host.since g.H.Host.said _ _ _ _ _ _ _ _ _ _ w.1 told.ready.told c.end-in-Err.ensures.silent part.0 part.1 part.2 c.end-in-Err.ensures.leaves _
     (λ write. rose_first _ _ _ (c.in-Err.ensures.write write).1 c.end-in-Err.ensures.later_out) (⊎_elim (λ whole. inl whole) (λ rose. inr (rose_last _ _ _ c.in-Err.ensures.later_out rose)) c.end-in-Err.ensures.whole)))
 
@@ -182,7 +202,7 @@ pub returns-in-Err-clause-replies_put : goal.returns-in-Err-clause-replies_put
 returns-in-Err-clause-replies_put g c = rw c.end-in-Err.ensures.status (λ ends first is told.
     let w = c.in-Err.ensures.went first (command_is _ c.in-Some.command (Run first) (sym c.named.ensures ∙ c.in-Some.is) is) told in
     let part = c.end-in-Err.ensures.part in
-    ⊎_elim (λ answered. inl (w.0, answered)) (λ more. inr more)
+    ⊎_elim (λ answered. inl (w.0, answered.0, answered.1)) (λ more. inr more)
     (ends_answered g.H.Host.now g.H.Host.may g.H.Host.clock g.H.Host.since g.H.Host.said _ _ _ _ _ _ _ _ _ _ w.1 told.ready.told c.end-in-Err.ensures.silent part.0 part.1 part.2 c.end-in-Err.ensures.leaves _ ends
     (⊎_elim (λ whole. inl whole) (λ rose. inr (rose_last _ _ _ c.in-Err.ensures.later_out rose)) c.end-in-Err.ensures.whole)))
 
@@ -199,6 +219,16 @@ returns-in-Err-clause-store_only g c =
     (λ shows. inl shows)
     (λ runs. inr (runs.0, (ending_line c.in-Err.ending, subst R (sym c.end-in-Err.ensures.leaves.now_stays) runs.1, ⊎_elim (λ whole. inl (g.H.Host.said c.run_command.new.host, whole.grows)) (λ rose. inr (rose_last _ _ _ c.in-Err.ensures.later_out rose)) c.end-in-Err.ensures.whole)))
     (c.in-Err.ensures.store is))
+
+pub returns-in-Err-clause-store_always : goal.returns-in-Err-clause-store_always
+returns-in-Err-clause-store_always g c =
+    let form : command_of c.args.words.now ≡ Some c.in-Some.command = sym c.named.ensures ∙ c.in-Some.is in
+    rw (form, c.end-in-Err.ensures.status) (λ run bytes asks v told says now unfit.
+    let at = c.in-Err.ensures.unfit bytes asks v run told says now unfit in (
+      at.0,
+      turned_away g.H.Host.now g.H.Host.may g.H.Host.clock g.H.Host.since g.H.Host.said asks v _ _ (ending_status c.in-Err.ending) (ending_line c.in-Err.ending) c.args.host.now c.run_command.new.host c.end-in-Err.new.host c.end-in-Err.ensures.leaves at.1 at.2
+          c.end-in-Err.ensures.part (⊎_elim (λ whole. inl whole) (λ rose. inr (rose_last _ _ _ c.in-Err.ensures.later_out rose)) c.end-in-Err.ensures.whole),
+    ))
 
 pub returns-in-Err-clause-gap_only : goal.returns-in-Err-clause-gap_only
 returns-in-Err-clause-gap_only g c =
@@ -221,4 +251,19 @@ returns-in-Err-clause-rows_before_damage g c =
 pub returns-in-Err-clause-files_stay : goal.returns-in-Err-clause-files_stay
 returns-in-Err-clause-files_stay g c =
     let form : command_of c.args.words.now ≡ Some c.in-Some.command = sym c.named.ensures ∙ c.in-Some.is in
-    rw form (λ not_run. leaves_files-then g.H.Host.now g.H.Host.may g.H.Host.clock g.H.Host.since _ _ _ (c.in-Err.ensures.leaves not_run) c.end-in-Err.ensures.leaves)
+    rw (form, c.end-in-Err.ensures.status) (λ why. leaves_files-then g.H.Host.now g.H.Host.may g.H.Host.clock g.H.Host.since _ _ _ (c.in-Err.ensures.leaves why) c.end-in-Err.ensures.leaves)
+
+pub returns-in-Err-clause-plan_first : goal.returns-in-Err-clause-plan_first
+returns-in-Err-clause-plan_first g c = rw c.end-in-Err.ensures.status (λ why. c.in-Err.ensures.plan_first why)
+
+pub returns-in-Err-clause-read_first : goal.returns-in-Err-clause-read_first
+returns-in-Err-clause-read_first g c = rw c.end-in-Err.ensures.status (λ is.
+    ⊎_elim (λ same. inl (same.0, leaves_files-then g.H.Host.now g.H.Host.may g.H.Host.clock g.H.Host.since _ _ _ same.1 c.end-in-Err.ensures.leaves)) (λ rose. inr rose) (c.in-Err.ensures.read_first is))
+
+pub returns-in-Err-clause-behind : goal.returns-in-Err-clause-behind
+returns-in-Err-clause-behind g c = rw c.end-in-Err.ensures.status (λ first is told slot behind.
+    let at = c.in-Err.ensures.behind first (command_is _ c.in-Some.command (Run first) (sym c.named.ensures ∙ c.in-Some.is) is) told (Some slot) behind in (
+      at.0,
+      lies_behind g.H.Host.now g.H.Host.may g.H.Host.clock g.H.Host.since g.H.Host.said told.asks told.ready.openable.image _ _ (ending_status c.in-Err.ending) (ending_line c.in-Err.ending) c.args.host.now c.run_command.new.host c.end-in-Err.new.host c.end-in-Err.ensures.leaves told.ready first slot at.1 at.2
+          c.end-in-Err.ensures.part (⊎_elim (λ whole. inl whole) (λ rose. inr (rose_last _ _ _ c.in-Err.ensures.later_out rose)) c.end-in-Err.ensures.whole),
+    ))

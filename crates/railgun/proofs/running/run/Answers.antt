@@ -1,9 +1,10 @@
-use Rattle.std.proofs.Common.{Err, ap}
+use Rattle.std.proofs.Common.{Err, ap, arith}
 use Rattle.rg_config.specs.Plans.{planned}
 use Rattle.rg_run.specs.declared.fault.RunFault.{RunFault}
 use Rattle.railgun.specs.Call.{ending_status, ending_line}
 use Rattle.railgun.proofs.Refusing.{run_gap}
 use Rattle.railgun.proofs.Carrying.{went_ok, went_err, store_line, never_store}
+use Rattle.railgun.proofs.TurnedAway.{ends_unfit, ends_behind}
 use Rattle.railgun.proofs.running.run.Goals as goal
 
 pub returns-in-Ok-clause-went : goal.returns-in-Ok-clause-went
@@ -28,6 +29,22 @@ returns-clause-never_damaged g c = λ ready all told is.
     (λ e. c.in-Err.ensures.never_differs ready (ap (λ (f : RunFault). Err f) e))
     (λ n e. c.in-Err.ensures.never_bad ready all n told (ap (λ (f : RunFault). Err f) e))
     (λ p e. c.in-Err.ensures.never_damaged ready all p told (ap (λ (f : RunFault). Err f) e))
+
+pub returns-in-Ok-clause-behind : goal.returns-in-Ok-clause-behind
+returns-in-Ok-clause-behind g c = λ ready keep behind. absurd (omega (arith, behind, c.in-Ok.ensures.no_gap ready))
+
+pub returns-clause-behind : goal.returns-clause-behind
+returns-clause-behind g c = λ ready keep behind.
+    let at = c.in-Err.ensures.behind ready keep behind in
+    (at.0, at.1, ends_behind _ _ c.in-Err.fault (ending_status c.ending_of.result) (ending_line c.ending_of.result) c.ending_of.ensures at.2 (λ n is. c.in-Err.ensures.gap_next ready n (ap (λ (f : RunFault). Err f) is)))
+
+pub returns-in-Ok-clause-unfit : goal.returns-in-Ok-clause-unfit
+returns-in-Ok-clause-unfit g c = λ v told unfit. absurd (c.in-Ok.ensures.exact v told unfit)
+
+pub returns-clause-unfit : goal.returns-clause-unfit
+returns-clause-unfit g c = λ v told unfit.
+    let at = c.in-Err.ensures.unfit v told unfit in
+    (at.0, at.1, ends_unfit (planned c.args.plan.now) v _ c.in-Err.fault (ending_status c.ending_of.result) (ending_line c.ending_of.result) c.ending_of.ensures at.2)
 
 pub returns-clause-store : goal.returns-clause-store
 returns-clause-store g c = λ is.

@@ -95,8 +95,8 @@ returns-in-Ok-tell-clause-events g c = λ course item items a reads.
     c.due_at-due.result c.count-before.result c.count.result c.count-before.ensures c.count.ensures (c.in-Ok-settle.ensures.count (planned c.args.plan.now) m1.running) c.due_at-due.ensures
     c.requires.small done c.in-Ok.reply (c.in-Ok.ensures.reply (planned c.args.plan.now) a.running) c.tell.new.host c.tell.ensures.leaves)
 
-pub returns-clause-moments : goal.returns-clause-moments
-returns-clause-moments g c = λ course item items a reads.
+pub returns-in-Err-tell-clause-moments : goal.returns-in-Err-tell-clause-moments
+returns-in-Err-tell-clause-moments g c = λ course item items a reads.
     let h = c.args.host.now in
     let s = c.args.session.now in
     let then = c.line.new.self in
@@ -112,8 +112,8 @@ returns-clause-moments g c = λ course item items a reads.
     c.due_at-due.result c.count-before.result c.count.result c.count-before.ensures c.count.ensures (c.in-Ok-settle.ensures.count (planned c.args.plan.now) m1.running) c.due_at-due.ensures
     c.requires.small done c.in-Ok.reply (c.in-Ok.ensures.reply (planned c.args.plan.now) a.running) c.tell.new.host c.tell.ensures.leaves c.tell.ensures.part
 
-pub returns-clause-stopped : goal.returns-clause-stopped
-returns-clause-stopped g c = λ course item items a reads.
+pub returns-in-Err-tell-clause-stopped : goal.returns-in-Err-tell-clause-stopped
+returns-in-Err-tell-clause-stopped g c = λ course item items a reads.
     let h = c.args.host.now in
     let s = c.args.session.now in
     let then = c.line.new.self in

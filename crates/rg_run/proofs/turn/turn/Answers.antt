@@ -107,3 +107,27 @@ returns-in-Err-Limit-clause-answered g c = λ b way which. answered g.H.Host.now
 
 pub returns-in-Err-Limit-clause-taken : goal.returns-in-Err-Limit-clause-taken
 returns-in-Err-Limit-clause-taken g c = λ start t. taken_on _ _ _ _ _ _ c.next.follows.holds-at-none t
+
+pub returns-in-Ok-clause-log : goal.returns-in-Ok-clause-log
+returns-in-Ok-clause-log g c = c.answer_text.ensures.log
+
+pub returns-in-Err-clause-log : goal.returns-in-Err-clause-log
+returns-in-Err-clause-log g c = c.answer_text.ensures.log
+
+pub returns-in-Ok-refuse_long-clause-log : goal.returns-in-Ok-refuse_long-clause-log
+returns-in-Ok-refuse_long-clause-log g c = c.refuse_long.ensures.log
+
+pub returns-in-Err-refuse_long-clause-log : goal.returns-in-Err-refuse_long-clause-log
+returns-in-Err-refuse_long-clause-log g c = c.refuse_long.ensures.log
+
+pub returns-in-Ok-finish-clause-log : goal.returns-in-Ok-finish-clause-log
+returns-in-Ok-finish-clause-log g c = c.finish.ensures.log
+
+pub returns-in-Err-finish-clause-log : goal.returns-in-Err-finish-clause-log
+returns-in-Err-finish-clause-log g c = c.finish.ensures.log
+
+pub returns-in-Err-Read-clause-log : goal.returns-in-Err-Read-clause-log
+returns-in-Err-Read-clause-log g c = (refl, refl)
+
+pub returns-in-Err-Limit-clause-log : goal.returns-in-Err-Limit-clause-log
+returns-in-Err-Limit-clause-log g c = (refl, refl)

@@ -16,6 +16,7 @@ use Rattle.rg_run.specs.Reading.{IsLonger}
 use Rattle.railgun.specs.Plan.{IsPlan, IsRefusal}
 use Rattle.rg_listing.specs.Stops.{StopsAt}
 use Rattle.rg_listing.specs.Listing.{check_text}
+use Rattle.rg_listing.proofs.Stopped.{nothing_whole}
 use Rattle.railgun.specs.Causes.{RefusesStore, RefusesGap}
 use Rattle.railgun.specs.Call.{CarriesRun, IsRun, ReadsPlan, ShowsStore, Told, ToldPlan, plan_text, ForText, last_line, refusal_line, refusal_of, line_for, IsLegal, IsRefused, IsDamaged, IsUndamaged, IsPossible, status_by, plan_status, store_status, status_for}
 use Rattle.railgun.specs.declared.command.Command.{Command}

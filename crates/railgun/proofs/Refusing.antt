@@ -23,7 +23,7 @@ use Rattle.railgun.specs.Stored.{IsLastOf}
 use Rattle.railgun.specs.declared.ending.Ending.{Ending}
 use Rattle.railgun.specs.declared.status.Status.{Status}
 use Rattle.railgun.specs.declared.status.Status.TheVariants.{Ok, Usage, Plan as BadPlan, Store, Read, Write, Disk, Limit, Memory, Gap}
-use Rattle.railgun.proofs.Ends.{nothing_stops}
+use Rattle.rg_listing.proofs.Stopped.{nothing_stops}
 
 -- A dump.
 

@@ -3,7 +3,8 @@ use Rattle.std.proofs.Common.{inl, List, [], ℕ, refl}
 use Rattle.rg_host.specs.Puts.{StopsWith}
 use Rattle.rg_listing.specs.Stops.{StopsAt}
 
-nothing_whole : (text : List (List ℕ)) → StopsWith text [] []
+-- no line was put
+pub nothing_whole : (text : List (List ℕ)) → StopsWith text [] []
 nothing_whole text = record { lines = []; more = text; of_text = refl; is = refl }
 
 -- nothing was put

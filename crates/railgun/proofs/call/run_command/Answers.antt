@@ -3,7 +3,7 @@ use Rattle.rg_dump.specs.Dump.{dump_text}
 use Rattle.railgun.specs.Call.{ending_status}
 use Rattle.railgun.specs.declared.command.Command.TheVariants.{Run}
 use Rattle.railgun.specs.declared.status.Status.TheVariants.{Write}
-use Rattle.railgun.proofs.Ends.{nothing_stops}
+use Rattle.rg_listing.proofs.Stopped.{nothing_stops}
 use Rattle.railgun.proofs.Inputs.{on_err, on_errs, on_ok, any_err}
 use Rattle.railgun.proofs.Refusing.{damage_told}
 use Rattle.railgun.proofs.call.run_command.Goals as goal

@@ -55,7 +55,7 @@ fn file(alloc: Global, payloads: &[&[u8]]) -> Result<Vec<u8>, Memory> {
 }
 
 /// What the opening of a store with this log and these bytes in slot 0 says, and the log then.
-fn open<L: Ledger>(
+fn open_counted<L: Ledger>(
     alloc: Global,
     log: &[u8],
     slot: &[u8],
@@ -78,6 +78,15 @@ fn open<L: Ledger>(
     Ok((said, host.file(2).to_vec(alloc)?))
 }
 
+/// The same, with a ledger of its own.
+fn open(
+    alloc: Global,
+    log: &[u8],
+    slot: &[u8],
+) -> Result<(Result<Resumed, OpenFault>, Vec<u8>), Fail> {
+    open_counted::<Brand>(alloc, log, slot, Blank::new(1))
+}
+
 #[test]
 fn an_empty_store_is_given_the_schema(rt: HostRuntime) -> Result<(), Fail> {
     let framed = file(rt.alloc(), &[SCHEMA])?;
@@ -86,10 +95,10 @@ fn an_empty_store_is_given_the_schema(rt: HostRuntime) -> Result<(), Fail> {
         count: 0,
         from: 0,
     };
-    let (said, log) = open::<Brand>(rt.alloc(), b"", b"", Blank::new(1))?;
+    let (said, log) = open(rt.alloc(), b"", b"")?;
     assert_eq!(rt; said, Ok(none));
     assert_eq!(rt; log, framed);
-    let (said, log) = open::<Brand>(rt.alloc(), &framed, b"", Blank::new(1))?;
+    let (said, log) = open(rt.alloc(), &framed, b"")?;
     assert_eq!(rt; said, Ok(none));
     assert_eq!(rt; log, framed);
     Ok(())
@@ -104,10 +113,10 @@ fn a_checkpoint_of_another_query_is_passed_over(rt: HostRuntime) -> Result<(), F
         count: 2,
         from: 0,
     };
-    let (said, log) = open::<Brand>(rt.alloc(), &two, b"", Blank::new(1))?;
+    let (said, log) = open(rt.alloc(), &two, b"")?;
     assert_eq!(rt; said, Ok(all));
     assert_eq!(rt; log, two);
-    let (said, log) = open::<Brand>(rt.alloc(), &two, &slot, Blank::new(1))?;
+    let (said, log) = open(rt.alloc(), &two, &slot)?;
     assert_eq!(rt; said, Ok(all));
     assert_eq!(rt; log, two);
     Ok(())
@@ -117,11 +126,11 @@ fn a_checkpoint_of_another_query_is_passed_over(rt: HostRuntime) -> Result<(), F
 fn a_log_that_is_cut_or_of_another_schema_is_refused(rt: HostRuntime) -> Result<(), Fail> {
     let mut cut = file(rt.alloc(), &[SCHEMA, &TWO])?;
     cut.truncate(100);
-    let (said, log) = open::<Brand>(rt.alloc(), &cut, b"", Blank::new(1))?;
+    let (said, log) = open(rt.alloc(), &cut, b"")?;
     assert_eq!(rt; said, Err(OpenFault::Damaged(57)));
     assert_eq!(rt; log, cut);
     let cards = file(rt.alloc(), &[b"Scards(ts,card:text)"])?;
-    let (said, log) = open::<Brand>(rt.alloc(), &cards, b"", Blank::new(1))?;
+    let (said, log) = open(rt.alloc(), &cards, b"")?;
     assert_eq!(rt; said, Err(OpenFault::SchemaDiffers));
     assert_eq!(rt; log, cards);
     Ok(())

@@ -269,9 +269,14 @@ fn calls_to_open<L: Ledger>(alloc: Global, blank: Blank) -> Result<u64, Fail>
     Ok(host.calls())
 }
 
+/// The same, with a ledger of its own.
+fn opening_calls(alloc: Global) -> Result<u64, Fail> {
+    calls_to_open::<Brand>(alloc, Blank::new(1))
+}
+
 #[test]
 fn a_fault_ends_a_session(rt: HostRuntime) -> Result<(), Fail> {
-    let call = calls_to_open::<Brand>(rt.alloc(), Blank::new(1))?;
+    let call = opening_calls(rt.alloc())?;
     let (first, next) = faults_of::<Brand>(rt.alloc(), call, Blank::new(1))?;
     assert_eq!(rt; first, Some(TaskFault::Disk));
     assert_eq!(rt; next, Some(TaskFault::Ended));

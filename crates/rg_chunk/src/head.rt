@@ -13,7 +13,7 @@ pub const MAX_EVENTS: u32 = 4_096;
 
 /// How the events of a chunk are written.
 #[derive(Clone, Copy, Debug, PartialEq, Eq)]
-pub(crate) enum Layout {
+pub enum Layout {
     /// One after another, with the tag 0x43.
     Rows,
     /// Column by column, with the tag 0x4b.

@@ -90,7 +90,7 @@ returns-then-count-eq0-clause-events g c = λ sound going.
     let leaves = none_left g.H.Host.now g.H.Host.may g.H.Host.clock g.H.Host.since g.H.Host.said c.args.self.now.schema.fields self.log.end self.open.events c.args.host.now (λ t u m le left. g.met.H.Host.sinks c.args.host.now t u m le left) (λ m left. g.met.H.Host.only_now c.args.host.now m left) in
     moments-weaker g.H.Host.clock g.H.Host.since _ _ _ _ leaves.moments
     (λ m has. left_events sound.0 (g.H.Host.may c.args.host.now) (base self) self.open.events self.next_offset self.last_time self.cache (sound.2.right going) (g.H.Host.now c.args.host.now) sound.1 few m.image
-    (subst (λ (f : ℕ). Leaves f (From self.log.end (Adds self.open.events)) (g.H.Host.now c.args.host.now) (g.H.Host.may c.args.host.now) m.image) (sym self.file) has.0))
+    (subst (λ (f : ℕ). Leaves f (From self.log.end (Adds self.schema.fields self.open.events)) (g.H.Host.now c.args.host.now) (g.H.Host.may c.args.host.now) m.image) (sym self.file) has.0))
 
 pub returns-in-Err-clause-events : goal.returns-in-Err-clause-events
 returns-in-Err-clause-events g c = λ sound going.
@@ -99,7 +99,7 @@ returns-in-Err-clause-events g c = λ sound going.
     let leaves = none_left g.H.Host.now g.H.Host.may g.H.Host.clock g.H.Host.since g.H.Host.said c.args.self.now.schema.fields self.log.end self.open.events c.args.host.now (λ t u m le left. g.met.H.Host.sinks c.args.host.now t u m le left) (λ m left. g.met.H.Host.only_now c.args.host.now m left) in
     moments-weaker g.H.Host.clock g.H.Host.since _ _ _ _ leaves.moments
     (λ m has. left_events sound.0 (g.H.Host.may c.args.host.now) (base self) self.open.events self.next_offset self.last_time self.cache (sound.2.right going) (g.H.Host.now c.args.host.now) sound.1 few m.image
-    (subst (λ (f : ℕ). Leaves f (From self.log.end (Adds self.open.events)) (g.H.Host.now c.args.host.now) (g.H.Host.may c.args.host.now) m.image) (sym self.file) has.0))
+    (subst (λ (f : ℕ). Leaves f (From self.log.end (Adds self.schema.fields self.open.events)) (g.H.Host.now c.args.host.now) (g.H.Host.may c.args.host.now) m.image) (sym self.file) has.0))
 
 -- the append
 
@@ -126,7 +126,7 @@ returns-in-Err-append-clause-events g c = λ sound going.
     let leaves = adds_some g.H.Host.now g.H.Host.may g.H.Host.clock g.H.Host.since g.H.Host.said self.schema.fields self.log.file self.log.end self.open.events c.deref.result.now _ _ self.file some written c.append.ensures.leaves in
     moments-weaker g.H.Host.clock g.H.Host.since _ _ _ _ leaves.moments
     (λ m has. left_events sound.0 (g.H.Host.may c.args.host.now) (base self) self.open.events self.next_offset self.last_time self.cache (sound.2.right going) (g.H.Host.now c.args.host.now) sound.1 few m.image
-    (subst (λ (f : ℕ). Leaves f (From self.log.end (Adds self.open.events)) (g.H.Host.now c.args.host.now) (g.H.Host.may c.args.host.now) m.image) (sym self.file) has.0))
+    (subst (λ (f : ℕ). Leaves f (From self.log.end (Adds self.schema.fields self.open.events)) (g.H.Host.now c.args.host.now) (g.H.Host.may c.args.host.now) m.image) (sym self.file) has.0))
 
 pub returns-clause-events : goal.returns-clause-events
 returns-clause-events g c = λ sound going.
@@ -137,7 +137,7 @@ returns-clause-events g c = λ sound going.
     let leaves = adds_some g.H.Host.now g.H.Host.may g.H.Host.clock g.H.Host.since g.H.Host.said self.schema.fields self.log.file self.log.end self.open.events c.deref.result.now _ _ self.file some written c.append.ensures.leaves in
     moments-weaker g.H.Host.clock g.H.Host.since _ _ _ _ leaves.moments
     (λ m has. left_events sound.0 (g.H.Host.may c.args.host.now) (base self) self.open.events self.next_offset self.last_time self.cache (sound.2.right going) (g.H.Host.now c.args.host.now) sound.1 few m.image
-    (subst (λ (f : ℕ). Leaves f (From self.log.end (Adds self.open.events)) (g.H.Host.now c.args.host.now) (g.H.Host.may c.args.host.now) m.image) (sym self.file) has.0))
+    (subst (λ (f : ℕ). Leaves f (From self.log.end (Adds self.schema.fields self.open.events)) (g.H.Host.now c.args.host.now) (g.H.Host.may c.args.host.now) m.image) (sym self.file) has.0))
 
 pub returns-then-count-eq0-clause-grown : goal.returns-then-count-eq0-clause-grown
 returns-then-count-eq0-clause-grown g c = none_added c.args.self.now.schema.fields c.args.self.now.open.events c.args.self.now.log.end c.args.self.now.log.end (g.H.Host.now c.args.host.now) (omega (arith, c.count-count.ensures.count, c.if-count-eq0.true))
@@ -162,5 +162,5 @@ returns-in-Err-append-clause-sound_disk g c = λ sound failed w new_told.
     let leaves = adds_some g.H.Host.now g.H.Host.may g.H.Host.clock g.H.Host.since g.H.Host.said self.schema.fields self.log.file self.log.end self.open.events c.deref.result.now _ _ self.file some written c.append.ensures.leaves in
     let state = c.in-Err-append.ensures.err in
     let s0 = failed_sound sound.0 (g.H.Host.may c.args.host.now) (base self) self.open.events self.next_offset self.last_time self.cache (sound.2.right going) (g.H.Host.now c.args.host.now) w (g.H.Host.may c.append.new.host) sound.1 few
-    (λ u left. subst (λ (f : ℕ). Leaves f (From self.log.end (Adds self.open.events)) (g.H.Host.now c.args.host.now) (g.H.Host.may c.args.host.now) u) (sym self.file) (leaves.left u left)) (g.met.H.Host.now_may c.append.new.host w new_told) in
+    (λ u left. subst (λ (f : ℕ). Leaves f (From self.log.end (Adds self.schema.fields self.open.events)) (g.H.Host.now c.args.host.now) (g.H.Host.may c.args.host.now) u) (sym self.file) (leaves.left u left)) (g.met.H.Host.now_may c.append.new.host w new_told) in
     (w, new_told, subst (λ (l : LogState). IsSoundIn w (g.H.Host.may c.append.new.host) (record { shape = self.schema; file = l.file; first = self.first; end = l.end; ended = true; committed = self.committed; limit = self.limit }) self.open.events self.next_offset self.last_time self.cache) (sym state) s0)

@@ -3,10 +3,9 @@ use Rattle.std.proofs.Common.{◌≡◌, ◌∙◌, ℕ, ◌+◌, ◌≤◌, ◌
 use Rattle.std.proofs.lemmas.Bool.Decides.{nat_tests}
 use Rattle.std.proofs.lemmas.List.{take_all, length-take-le}
 use Rattle.std.specs.Int.{w32, w64, from_be_bytes}
-use Rattle.rg_bytes.specs.Reading.{and_then, tested, u8_at, u32_at, u64_at}
+use Rattle.rg_bytes.specs.Reading.{tested, u8_at, u32_at, u64_at}
 use Rattle.rg_bytes.proofs.Reading.{bytes_read, u8_read}
 use Rattle.rg_event.specs.Codec.{Reading}
-use Rattle.rg_event.specs.declared.codec.EventFault.{EventFault}
 use Rattle.rg_event.specs.declared.codec.EventFault.TheVariants.{Short, BadValue}
 use Rattle.rg_event.specs.declared.event.Event.{Event}
 use Rattle.rg_event.specs.declared.schema.Field.{Field}

@@ -249,7 +249,11 @@ fn a_log_of_two_chunks_has_its_gates_where_the_format_says(rt: HostRuntime) -> R
     let mut host = host_with(alloc, &[])?;
     let mut reservoir = payments(alloc, &mut host)?;
     commit_two(alloc, &mut reservoir, &mut host)?;
-    put(&mut reservoir, &mut host, payment(alloc, 2, 300_000, b"m1", 50)?)?;
+    put(
+        &mut reservoir,
+        &mut host,
+        payment(alloc, 2, 300_000, b"m1", 50)?,
+    )?;
     assert_eq!(rt; host.file(2).len(), 237);
     assert_eq!(rt; host.file(2).get(..154), WRITTEN.get(..154));
     assert_eq!(rt; host.file(2).get(154..), Some(THIRD.as_slice()));
@@ -264,7 +268,11 @@ fn a_log_of_rows_goes_on_by_columns(rt: HostRuntime) -> Result<(), Fail> {
     let alloc = rt.alloc();
     let mut host = host_with(alloc, &FILE)?;
     let mut reservoir = payments(alloc, &mut host)?;
-    put(&mut reservoir, &mut host, payment(alloc, 2, 300_000, b"m1", 50)?)?;
+    put(
+        &mut reservoir,
+        &mut host,
+        payment(alloc, 2, 300_000, b"m1", 50)?,
+    )?;
     assert_eq!(rt; host.file(2).get(..163), FILE.get(..163));
     assert_eq!(rt; host.file(2).get(163..), Some(THIRD.as_slice()));
     let mut past = Stored::new(&mut reservoir, &mut host);
@@ -342,14 +350,7 @@ fn a_chunk_of_bad_columns_is_refused_where_it_stands(rt: HostRuntime) -> Result<
     let alloc = rt.alloc();
     // Offsets that are others than the head's, that don't rise, and that have no width; a width that isn't the
     // least; texts that are too long; amounts whose base isn't the least one.
-    for (at, byte) in [
-        (110, 1u8),
-        (113, 0),
-        (111, 3),
-        (122, 8),
-        (131, 9),
-        (152, 1),
-    ] {
+    for (at, byte) in [(110, 1u8), (113, 0), (111, 3), (122, 8), (131, 9), (152, 1)] {
         let mut bytes = WRITTEN.to_vec(alloc)?;
         if at < bytes.len() {
             bytes[at] = byte;

@@ -36,22 +36,22 @@ use Rattle.rg_trial.specs.Trials.{HasRun, MayMeet}
 abbrev pub bare : Image
 bare = image_of (replicate 8 [])
 
-bare_is : (n i : ℕ) → image_of (replicate n []) i ≡ []
+pub bare_is : (n i : ℕ) → image_of (replicate n []) i ≡ []
 bare_is zero i = refl
 bare_is (suc n) zero = refl
 bare_is (suc n) (suc i) = bare_is n i
 
-no_payload : (i : ℕ) → HasPayloads [] (bare i)
+pub no_payload : (i : ℕ) → HasPayloads [] (bare i)
 no_payload i = subst (HasPayloads []) (sym (bare_is 8 i)) (none-empty [] (omega arith))
 
-no_slot : (i : ℕ) → HasNoSlot (bare i)
+pub no_slot : (i : ℕ) → HasNoSlot (bare i)
 no_slot i checkpoint slot = let same : slot.payload ∷ [] ≡ [] = payloads_one (slot.payload ∷ []) [] (bare i) slot.only (no_payload i) in absurd cc
 
-bare_truthful : IsTruthfulImage bare
+pub bare_truthful : IsTruthfulImage bare
 bare_truthful = record { log = inl (no_payload 2); slots = λ i below checkpoint slot. absurd (no_slot i checkpoint slot) }
 
 -- a new store has no event
-bare_has : (shape : Shape) → IsSchema shape → HasEvents shape [] (bare 2)
+pub bare_has : (shape : Shape) → IsSchema shape → HasEvents shape [] (bare 2)
 bare_has shape schema =
     ([], record { schema = schema; payloads = []; has = no_payload 2; log = refl; of = All-nil (IsEventOf shape.fields); rising = tt; few = omega arith }, refl)
 

@@ -12,7 +12,7 @@ use Rattle.rg_host.specs.Lines.{ended, lines_of}
 use Rattle.rg_frame.specs.Frames.{HasPayloads}
 use Rattle.rg_frame.proofs.Gates.{none-empty}
 use Rattle.rg_frame.proofs.FrameLists.{payloads_one}
-use Rattle.rg_log.specs.Log.{HasEvents, IsLegalLog}
+use Rattle.rg_log.specs.Log.{HasEvents, IsLegalLog, IsOfSchema}
 use Rattle.rg_checkpoint.specs.declared.base.Checkpoint.{Checkpoint}
 use Rattle.rg_checkpoint.specs.Slots.{HasSlot, HasNoSlot, IsSlot}
 use Rattle.rg_config.specs.Plans.{Planned}
@@ -60,7 +60,7 @@ new_host = begun (replicate 8 []) []
 
 abbrev pub ready_anew : (plan : Planned) → IsSchema plan.shape → IsReady plan (now_in new_host) (may_in new_host) (said_in new_host)
 ready_anew plan schema = record {
-  openable = record { image = bare; told = refl; truthful = λ u may. subst IsTruthfulImage (sym may) bare_truthful; schema = λ u may. subst (λ (v : Image). HasPayloads [] (v 2) ⊎ _) (sym may) (inl (no_payload 2)) };
+  openable = record { image = bare; told = refl; truthful = λ u may. subst IsTruthfulImage (sym may) bare_truthful; schema = λ u may. subst (λ (v : Image). IsOfSchema plan.shape (v 2)) (sym may) (inl (no_payload 2)) };
   put = [];
   told = refl;
   held = [];

@@ -1,7 +1,8 @@
-use Rattle.std.proofs.Common.{rules, ◌≡◌, ◌∙◌, List, ℕ, Some, Ok, refl, ap, arith}
+use Rattle.std.proofs.Common.{◌≡◌, ◌∙◌, Some, Ok, Err, ap, arith}
 use Rattle.rg_host.specs.MemHost.{begun}
 use Rattle.rg_host.specs.MemSource.{Supply}
 use Rattle.rg_config.specs.Plans.{planned}
+use Rattle.rg_run.specs.declared.fault.RunFault.{RunFault}
 use Rattle.rg_trial.proofs.NewStore.{new_host, ran_anew, ready_new, may_meet}
 use Rattle.rg_trial.proofs.anew.run_anew.Goals as goal
 
@@ -17,7 +18,7 @@ returns-in-Err-run-clause-fault g c =
     let ready = ready_new (planned c.args.plan.now) c.in-Ok.host c.requires.schema host_is in
     let told = ap (λ (s : Supply). Some s.left) c.new-source.ensures in
     may_meet c.in-Err-run.fault
-    (λ p is. c.in-Err-run.ensures.never_damaged ready c.args.input.items p told is)
-    (λ is. c.in-Err-run.ensures.never_differs ready is)
-    (λ n is. c.in-Err-run.ensures.never_bad ready c.args.input.items n told is)
-    (λ n is. let below = c.in-Err-run.ensures.gap n is in absurd (omega (arith, below)))
+    (λ p is. c.in-Err-run.ensures.never_damaged ready c.args.input.items p told (ap (λ (f : RunFault). Err f) is))
+    (λ is. c.in-Err-run.ensures.never_differs ready (ap (λ (f : RunFault). Err f) is))
+    (λ n is. c.in-Err-run.ensures.never_bad ready c.args.input.items n told (ap (λ (f : RunFault). Err f) is))
+    (λ n is. let below = c.in-Err-run.ensures.gap n (ap (λ (f : RunFault). Err f) is) in absurd (omega (arith, below)))

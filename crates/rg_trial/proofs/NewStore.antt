@@ -79,6 +79,7 @@ from_none plan from is = by_keep is.keep is.is
     none zero = slots_none 0 is.saved.first is.slots.first
     none (suc zero) = slots_none 1 is.saved.second is.slots.second
     none (suc (suc i)) = refl
+
     by_keep : (keep : Option ℕ) → IsFrom (λ (c : Checkpoint). c.queries ≡ texts_of plan.shape plan.queries) (slot_in is.saved) keep from → from ≡ 0
     by_keep None f = f.1
     by_keep (Some i) f = let there = sym (none i) ∙ f.1.there in absurd cc

@@ -1,5 +1,5 @@
 -- The numbers of a trial.
-use Rattle.std.proofs.Common.{◌≡◌, ◌∙◌, ℕ, ◌<◌, ◌≤◌, ◌^◌, List, [], ◌∷◌, ◌++◌, length, Option, Some, None, Ok, Err, ap, sym, arith}
+use Rattle.std.proofs.Common.{◌≡◌, ◌∙◌, ℕ, ◌<◌, ◌≤◌, ◌^◌, List, [], ◌∷◌, ◌++◌, length, Option, Some, None, Ok, ap, sym, arith}
 use Rattle.std.specs.Prelude.{decimal}
 use Rattle.std.specs.List.{sum}
 use Rattle.rg_host.specs.Lines.{ended}

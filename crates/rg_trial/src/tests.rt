@@ -19,13 +19,19 @@ fn lines_of_trial(alloc: Global, lines: u64, seed: u64) -> Result<Vec<u8>, Fail>
 #[test]
 fn no_line_gives_the_marks_alone(rt: HostRuntime) -> Result<(), Fail> {
     let text = lines_of_trial(rt.alloc(), 0, 0)?;
-    assert_eq!(rt; text.as_slice(), b"lines 0\nevents 0\nbytes 37\nsum 2644\n".as_slice());
+    assert_eq!(rt;
+        text.as_slice(),
+        b"lines 0\nevents 0\nbytes 37\nsum 2644\n".as_slice()
+    );
     Ok(())
 }
 
 #[test]
 fn two_lines_give_two_replies(rt: HostRuntime) -> Result<(), Fail> {
     let text = lines_of_trial(rt.alloc(), 2, 0)?;
-    assert_eq!(rt; text.as_slice(), b"lines 2\nevents 2\nbytes 83\nsum 4917\n".as_slice());
+    assert_eq!(rt;
+        text.as_slice(),
+        b"lines 2\nevents 2\nbytes 83\nsum 4917\n".as_slice()
+    );
     Ok(())
 }

@@ -1,8 +1,9 @@
 -- The payload of a chunk, as it is read and written.
-use Rattle.std.proofs.Common.{◌≡◌, ◌⊎◌, inl, inr, ℕ, ◌+◌, ◌-◌, ◌<◌, ◌≤◌, ◌^◌, Bool, true, false, List, [], ◌∷◌, ◌++◌, length, Option, Some, None, Result, Ok, Err, refl, ap, sym, ◌∙◌, arith, append_assoc, append-nil, add-one, drop-cons, get_or, drop, suc}
+use Rattle.std.proofs.Common.{◌≡◌, ◌⊎◌, inl, inr, ℕ, ◌+◌, ◌-◌, ◌<◌, ◌≤◌, ◌^◌, Bool, true, false, List, [], ◌∷◌, ◌++◌, length, Option, Some, None, option_map, ◌&&◌, Result, Ok, Err, refl, ap, sym, ◌∙◌, arith, append_assoc, append-nil, add-one, drop-cons, get_or, drop, suc}
 use Rattle.std.proofs.lemmas.Bool.Decides.{nat_tests}
+use Rattle.std.proofs.lemmas.List.{drop_all}
 use Rattle.std.specs.List.{All}
-use Rattle.std.proofs.lemmas.List.Elements.{All-head, All-tail}
+use Rattle.std.proofs.lemmas.List.Elements.{All-cons, All-nil, All-head, All-tail}
 use Rattle.rg_bytes.specs.Reading.{Reading as ReadingWith, and_then, tested, more_at, list_bytes, whole, u8_at, u32_at}
 use Rattle.rg_bytes.proofs.Lists.{StepsBack, more_back, step_stops}
 use Rattle.rg_event.specs.Codec.{Reading, IsEventOf, event_at, event_bytes}
@@ -13,13 +14,19 @@ use Rattle.rg_event.specs.declared.event.Event.{Event}
 use Rattle.rg_event.specs.declared.schema.Field.{Field}
 use Rattle.rg_event.proofs.RoundTrip.{event_reads_back}
 use Rattle.rg_event.proofs.Rising.{next_offset-push, last_time-push, IsRising-push}
+use Rattle.rg_column.specs.Columns.{AreColumnsOf, columns_at, columns_bytes}
+use Rattle.rg_column.specs.declared.fault.ColumnFault.{ColumnFault}
+use Rattle.rg_column.specs.declared.fault.ColumnFault.TheVariants.{Memory as RanOut}
+use Rattle.rg_column.proofs.Transposed.{columns_back}
 use Rattle.rg_chunk.specs.declared.head.ChunkHead.{ChunkHead}
-use Rattle.rg_chunk.specs.Heads.{stamp_at, is_known, head_at, head_of, head_bytes, head_for, is_head_of, first_stamp, last_stamp, begun}
-use Rattle.rg_chunk.specs.Faults.{chunk_fault}
+use Rattle.rg_chunk.specs.declared.head.Layout.{Layout}
+use Rattle.rg_chunk.specs.declared.head.Layout.TheVariants.{Rows, Columns}
+use Rattle.rg_chunk.specs.Heads.{head_at, head_of, head_bytes, head_for, is_head_of, first_stamp, last_stamp, begun}
+use Rattle.rg_chunk.specs.Faults.{event_fault, chunk_fault}
 use Rattle.rg_chunk.specs.declared.fault.ChunkFault.{ChunkFault}
 use Rattle.rg_chunk.specs.declared.fault.ChunkFault.TheVariants.{BadChunk, Memory as NoMemory}
-use Rattle.rg_chunk.specs.Chunks.{IsChunk, chunk_at, chunk_bytes, chunk_of, event_from_at, follows, next_event_at, Agrees}
-use Rattle.rg_chunk.proofs.Heads.{head_back, head_is, known_parts, own_head}
+use Rattle.rg_chunk.specs.Chunks.{HasOffset, IsChunk, chunk_at, chunk_of, event_from_at, events_at, follows, laid_bytes, next_event_at, payload_bytes, rises_from, rising_columns_at, Agrees}
+use Rattle.rg_chunk.proofs.Heads.{head_back, head_is, own_head}
 
 -- a reading that gives something gave something at each step
 
@@ -37,28 +44,17 @@ whole_is (Ok (other, [])) value is = let same : other ≡ value = cc in ap (λ v
 whole_is (Ok (other, byte ∷ bytes)) value is = absurd cc
 whole_is (Err fault) value is = absurd cc
 
-head_known : (bytes : List ℕ) (head : ChunkHead) (left : List ℕ) → head_at bytes ≡ Ok (head, left) → head.tag ≡ 67
-unfolding head_at
-head_known bytes head left is =
-    let one = and_then_parts (u8_at Short bytes) _ (head, left) is in
-    let two = and_then_parts (u32_at Short one.1) _ (head, left) one.3 in
-    let three = and_then_parts (stamp_at two.1) _ (head, left) two.3 in
-    let four = and_then_parts (stamp_at three.1) _ (head, left) three.3 in
-    let five = tested_parts _ (is_known one.0 two.0) _ four.1 (head, left) four.3 in
-    let tag : one.0 ≡ head.tag = ap (λ (read : ChunkHead × List ℕ). read.0.tag) five.1 in
-    sym tag ∙ (known_parts one.0 two.0 five.0).0
-
 -- the head of a chunk is the one that its events have
 pub chunk_head : (fields : List Field) (payload : List ℕ) (events : List Event) → chunk_of fields payload ≡ Some events → head_of payload ≡ Some (head_for events)
 unfolding chunk_at
 chunk_head fields payload events is =
     let read : chunk_at fields payload ≡ Ok (events, []) = whole_is (chunk_at fields payload) events is in
     let one = and_then_parts (head_at payload) _ (events, []) read in
-    let two = and_then_parts (more_at (next_event_at fields) [] one.0.count one.1) _ (events, []) one.3 in
-    let three = tested_parts _ (is_head_of one.0 two.0) two.0 two.1 (events, []) two.3 in
+    let two = and_then_parts (events_at one.0.0 fields one.0.1.count one.1) _ (events, []) one.3 in
+    let three = tested_parts _ (is_head_of one.0.1 two.0) two.0 two.1 (events, []) two.3 in
     let same : two.0 ≡ events = ap (λ (read : List Event × List ℕ). read.0) three.1 in
-    let head : one.0 ≡ head_for two.0 = head_is one.0 two.0 (head_known payload one.0 one.1 one.2) three.0 in
-    ap (λ (reading : Reading ChunkHead). begun reading) one.2 ∙ ap (λ (h : ChunkHead). Some h) (head ∙ ap head_for same)
+    let head : one.0.1 ≡ head_for two.0 = head_is one.0.1 two.0 three.0 in
+    ap (λ (reading : Reading (Layout × ChunkHead)). option_map (λ (said : Layout × ChunkHead). said.1) (begun reading)) one.2 ∙ ap (λ (h : ChunkHead). Some h) (head ∙ ap head_for same)
 
 -- reading, by where it stops
 
@@ -106,15 +102,28 @@ pub chunk_no_head : (fields : List Field) (old : List ℕ) (fault : EventFault) 
 unfolding chunk_at
 chunk_no_head fields old fault stops = rw stops refl
 
-pub chunk_no_events : (fields : List Field) (old : List ℕ) (head : ChunkHead) (left : List ℕ) (fault : EventFault) → head_at old ≡ Ok (head, left) → more_at (next_event_at fields) [] head.count left ≡ Err fault → chunk_at fields old ≡ Err fault
+pub chunk_no_events :
+    (fields : List Field) (old : List ℕ) (layout : Layout) (head : ChunkHead) (left : List ℕ) (fault : EventFault) → head_at old ≡ Ok ((layout, head), left) → events_at layout fields head.count left ≡ Err fault → chunk_at fields old ≡ Err fault
 unfolding chunk_at
-chunk_no_events fields old head left fault read stops = rw (read, stops) refl
+chunk_no_events fields old layout head left fault read stops = rw (read, stops) refl
 
 pub chunk_tested :
-    (fields : List Field) (old : List ℕ) (head : ChunkHead) (left : List ℕ) (events : List Event) (rest : List ℕ) (same : Bool) → head_at old ≡ Ok (head, left) → more_at (next_event_at fields) [] head.count left ≡ Ok (events, rest) → is_head_of head events ≡ same
-    → chunk_at fields old ≡ tested (BadValue 0) same events rest
+    (fields : List Field) (old : List ℕ) (layout : Layout) (head : ChunkHead) (left : List ℕ) (events : List Event) (rest : List ℕ) (same : Bool) → head_at old ≡ Ok ((layout, head), left) → events_at layout fields head.count left ≡ Ok (events, rest)
+    → is_head_of head events ≡ same → chunk_at fields old ≡ tested (BadValue 0) same events rest
 unfolding chunk_at
-chunk_tested fields old head left events rest same read more is = rw (read, more, is) refl
+chunk_tested fields old layout head left events rest same read more is = rw (read, more, is) refl
+
+-- columns in a chunk
+
+pub columns_stop : (fields : List Field) (count : ℕ) (old : List ℕ) (fault : ColumnFault) → (columns_at fields count old ≡ Err fault) ⊎ (fault ≡ RanOut) → (rising_columns_at fields count old ≡ Err (event_fault fault)) ⊎ (event_fault fault ≡ Memory)
+unfolding rising_columns_at
+columns_stop fields count old fault (inl stops) = inl (rw stops refl)
+columns_stop fields count old fault (inr memory) = inr (ap event_fault memory)
+
+pub columns_tested : (fields : List Field) (count : ℕ) (old : List ℕ) (events : List Event) (left : List ℕ) (rising : Bool) → columns_at fields count old ≡ Ok (events, left) → rises_from 0 0 events ≡ rising
+    → rising_columns_at fields count old ≡ tested (BadValue 0) rising events left
+unfolding rising_columns_at
+columns_tested fields count old events left rising read is = rw (read, is) refl
 
 -- what is written is read back
 
@@ -128,9 +137,53 @@ rises_behind next time event [] above late rising = (above, late, tt)
 rises_behind next time event (other ∷ events) above late rising =
     (above, late, rises_behind (event.offset + 1) event.time other events (omega (arith, rising.0)) rising.1 rising.2)
 
-rises : (events : List Event) → IsRising events → RisesFrom 0 0 events
-rises [] rising = tt
-rises (event ∷ events) rising = rises_behind 0 0 event events (omega arith) (omega arith) rising
+rising_all : (events : List Event) → IsRising events → RisesFrom 0 0 events
+rising_all [] rising = tt
+rising_all (event ∷ events) rising = rises_behind 0 0 event events (omega arith) (omega arith) rising
+
+rises_is : (next time : ℕ) (events : List Event) → RisesFrom next time events → rises_from next time events ≡ true
+rises_is next time [] rises = refl
+rises_is next time (event ∷ events) rises =
+    let here : follows event next time ≡ true = grind (arith, nat_tests, rises.0, rises.1) in
+    rw here (rises_is (event.offset + 1) event.time events rises.2)
+
+rises_parts : (next time : ℕ) (event : Event) (events : List Event) → rises_from next time (event ∷ events) ≡ true → (follows event next time ≡ true) × (rises_from (event.offset + 1) event.time events ≡ true)
+rises_parts next time event events is = both (follows event next time) (rises_from (event.offset + 1) event.time events) is
+  where
+    both : (a b : Bool) → (a && b) ≡ true → (a ≡ true) × (b ≡ true)
+    both true b is = (refl, is)
+    both false b is = absurd cc
+
+pub rising_is : (next time : ℕ) (events : List Event) → rises_from next time events ≡ true → IsRising events
+rising_is next time [] is = tt
+rising_is next time (event ∷ []) is = tt
+rising_is next time (event ∷ (other ∷ events)) is =
+    let behind = rises_parts next time event (other ∷ events) is in
+    let here = follows_parts other (event.offset + 1) event.time (rises_parts (event.offset + 1) event.time other events behind.1).0 in
+    (omega (arith, here.0), here.1, rising_is (event.offset + 1) event.time (other ∷ events) behind.1)
+
+-- one event more rises
+
+pub rises_more : (events : List Event) (i next time : ℕ) (event : Event) → i < length events → event ≡ get_or events i event → follows event next time ≡ true → rises_from next time (drop i events) ≡ rises_from (event.offset + 1) event.time (drop (i + 1) events)
+rises_more events i next time event within is may =
+    let parted : drop i events ≡ event ∷ drop (i + 1) events = rw add-one (drop-cons events i event within ∙ ap (λ (e : Event). e ∷ drop (suc i) events) (sym is)) in
+    ap (rises_from next time) parted ∙ ap (λ (test : Bool). test && rises_from (event.offset + 1) event.time (drop (i + 1) events)) may
+
+pub rises_not : (events : List Event) (i next time : ℕ) (event : Event) → i < length events → event ≡ get_or events i event → follows event next time ≡ false → rises_from next time (drop i events) ≡ false
+rises_not events i next time event within is may =
+    let parted : drop i events ≡ event ∷ drop (i + 1) events = rw add-one (drop-cons events i event within ∙ ap (λ (e : Event). e ∷ drop (suc i) events) (sym is)) in
+    ap (rises_from next time) parted ∙ ap (λ (test : Bool). test && rises_from (event.offset + 1) event.time (drop (i + 1) events)) may
+
+pub rises_end : (events : List Event) (i next time : ℕ) → length events ≤ i → rises_from next time (drop i events) ≡ true
+rises_end events i next time past = ap (rises_from next time) (drop_all i events past)
+
+pub has_offset : (events : List Event) (i : ℕ) (event : Event) → i < length events → event ≡ get_or events i event → All HasOffset events → HasOffset event
+has_offset events i event within is all = rw is (all i event within)
+
+pub have_offsets : (fields : List Field) (events : List Event) → All (IsEventOf fields) events → All HasOffset events
+have_offsets fields [] all = All-nil HasOffset
+have_offsets fields (event ∷ events) all =
+    All-cons HasOffset event events (All-head (IsEventOf fields) event events all).offset (have_offsets fields events (All-tail (IsEventOf fields) event events all))
 
 steps : (fields : List Field) (so_far events : List Event) → All (IsEventOf fields) events → RisesFrom (next_offset so_far) (last_time so_far) events → StepsBack (next_event_at fields) event_bytes so_far events
 steps fields so_far [] all rising = tt
@@ -154,16 +207,21 @@ last_fits fields (event ∷ []) all =
     (omega (arith, is.offset), omega (arith, is.time))
 last_fits fields (event ∷ (other ∷ events)) all = last_fits fields (other ∷ events) (All-tail (IsEventOf fields) event (other ∷ events) all)
 
-pub chunk_back : (fields : List Field) (events : List Event) → IsChunk fields events → chunk_of fields (chunk_bytes events) ≡ Some events
-chunk_back fields events is =
+laid_back : (layout : Layout) (fields : List Field) (events : List Event) → IsChunk fields events → events_at layout fields (length events) (laid_bytes layout fields events ++ []) ≡ Ok (events, [])
+laid_back Rows fields events is = more_back (next_event_at fields) event_bytes [] events [] (steps fields [] events is.legal (rising_all events is.rising))
+laid_back Columns fields events is =
+    let are : AreColumnsOf fields (length events) events = record { legal = is.legal; counted = refl; some = is.some } in
+    columns_tested fields (length events) (columns_bytes fields events ++ []) events [] true (columns_back fields (length events) events (columns_bytes fields events ++ []) [] are refl) (rises_is 0 0 events (rising_all events is.rising))
+
+pub chunk_back : (layout : Layout) (fields : List Field) (events : List Event) → IsChunk fields events → chunk_of fields (payload_bytes layout fields events) ≡ Some events
+chunk_back layout fields events is =
     let first = first_fits fields events is.legal in
     let last = last_fits fields events is.legal in
-    let head : head_at (chunk_bytes events) ≡ Ok (head_for events, list_bytes event_bytes events) =
-    head_back (head_for events) (list_bytes event_bytes events) (record { tag = refl; some = is.some; few = is.few }) first.0 first.1 last.0 last.1 in
-    let all : more_at (next_event_at fields) [] (length events) (list_bytes event_bytes events) ≡ Ok (events, []) =
-    ap (more_at (next_event_at fields) [] (length events)) (sym (append-nil (list_bytes event_bytes events)))
-    ∙ more_back (next_event_at fields) event_bytes [] events [] (steps fields [] events is.legal (rises events is.rising)) in
-    ap (λ (reading : Reading (List Event)). whole reading) (chunk_tested fields (chunk_bytes events) (head_for events) (list_bytes event_bytes events) events [] true head all (own_head events))
+    let head : head_at (payload_bytes layout fields events) ≡ Ok ((layout, head_for events), laid_bytes layout fields events) =
+    head_back layout (head_for events) (laid_bytes layout fields events) (record { some = is.some; few = is.few }) first.0 first.1 last.0 last.1 in
+    let all : events_at layout fields (length events) (laid_bytes layout fields events) ≡ Ok (events, []) =
+    ap (events_at layout fields (length events)) (sym (append-nil (laid_bytes layout fields events))) ∙ laid_back layout fields events is in
+    ap (λ (reading : Reading (List Event)). whole reading) (chunk_tested fields (payload_bytes layout fields events) layout (head_for events) (laid_bytes layout fields events) events [] true head all (own_head events))
 
 -- what is answered
 
@@ -186,9 +244,11 @@ pub nothing_left : (old bytes left : List ℕ) → old ≡ bytes ++ left → len
 nothing_left old bytes [] stood none = stood ∙ append-nil bytes
 nothing_left old bytes (byte ∷ left) stood none = absurd (omega arith)
 
-pub taken : (old : List ℕ) (head : ChunkHead) (left : List ℕ) (events : List Event) (rest : List ℕ) → old ≡ head_bytes head ++ left → left ≡ list_bytes event_bytes events ++ rest → head.tag ≡ 67 → is_head_of head events ≡ true → old ≡ chunk_bytes events ++ rest
-taken old head left events rest stood behind tagged is =
-    rw (stood, behind, head_is head events tagged is) (sym (append_assoc (head_bytes (head_for events)) (list_bytes event_bytes events) rest))
+pub taken :
+    (fields : List Field) (old : List ℕ) (layout : Layout) (head : ChunkHead) (left : List ℕ) (events : List Event) (rest : List ℕ) → old ≡ head_bytes layout head ++ left → left ≡ laid_bytes layout fields events ++ rest → is_head_of head events ≡ true
+    → old ≡ payload_bytes layout fields events ++ rest
+taken fields old layout head left events rest stood behind is =
+    rw (stood, behind, head_is head events is) (sym (append_assoc (head_bytes layout (head_for events)) (laid_bytes layout fields events) rest))
 
 -- what agrees with a payload that says something is that
 pub returns_chunk : (said : Option (List Event)) (result : Result (List Event) ChunkFault) (events : List Event) → Agrees said result → said ≡ Some events → (result ≡ Ok events) ⊎ (result ≡ Err NoMemory)
@@ -196,18 +256,11 @@ returns_chunk said (Ok read) events agrees is = let same : read ≡ events = cc 
 returns_chunk said (Err BadChunk) events agrees is = absurd cc
 returns_chunk said (Err NoMemory) events agrees is = inr refl
 
-pub chunk_reads_back : (fields : List Field) (payload : List ℕ) (result : Result (List Event) ChunkFault) (events : List Event) → Agrees (chunk_of fields payload) result → IsChunk fields events → payload ≡ chunk_bytes events
+pub chunk_reads_back :
+    (layout : Layout) (fields : List Field) (payload : List ℕ) (result : Result (List Event) ChunkFault) (events : List Event) → Agrees (chunk_of fields payload) result → IsChunk fields events → payload ≡ payload_bytes layout fields events
     → (result ≡ Ok events) ⊎ (result ≡ Err NoMemory)
-chunk_reads_back fields payload result events agrees is stood = returns_chunk (chunk_of fields payload) result events agrees (ap (chunk_of fields) stood ∙ chunk_back fields events is)
+chunk_reads_back layout fields payload result events agrees is stood = returns_chunk (chunk_of fields payload) result events agrees (ap (chunk_of fields) stood ∙ chunk_back layout fields events is)
 
 -- two texts put one after another
 pub two_more : (old a b one : List ℕ) → one ≡ old ++ a → one ++ b ≡ old ++ (a ++ b)
 two_more old a b one first = rw (first, append_assoc old a b) refl
-
--- one event more is put behind the others
-pub put_more : (events : List Event) (i : ℕ) (event : Event) (all out new : List ℕ) → i < length events → event ≡ get_or events i event → new ≡ out ++ event_bytes event → out ++ list_bytes event_bytes (drop i events) ≡ all
-    → new ++ list_bytes event_bytes (drop (i + 1) events) ≡ all
-put_more events i event all out new within is put so_far =
-    let parted : drop i events ≡ event ∷ drop (i + 1) events = rw add-one (drop-cons events i event within ∙ ap (λ e. e ∷ drop (suc i) events) (sym is)) in
-    let bytes : list_bytes event_bytes (drop i events) ≡ event_bytes event ++ list_bytes event_bytes (drop (i + 1) events) = ap (list_bytes event_bytes) parted in
-    rw put (append_assoc out (event_bytes event) (list_bytes event_bytes (drop (i + 1) events)) ∙ ap (λ l. out ++ l) (sym bytes) ∙ so_far)

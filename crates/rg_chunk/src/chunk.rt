@@ -3,11 +3,14 @@ ghost use Rattle.rg_bytes.specs.Reading.{list_bytes, more_at};
 ghost use Rattle.rg_event.specs.Codec.{Agrees as AgreesAt, IsEventOf, event_bytes};
 ghost use Rattle.rg_event.specs.Rising.{IsRising};
 ghost use Rattle.rg_event.specs.declared.event.Event.{Event as TheEvent};
-ghost use Rattle.rg_chunk.specs.Chunks.{Agrees, IsChunk, chunk_at, chunk_bytes, chunk_of, event_from_at, follows, next_event_at};
+ghost use Rattle.rg_column.specs.Columns.{columns_bytes};
+ghost use Rattle.rg_chunk.specs.Chunks.{Agrees, HasOffset, IsChunk, chunk_at, chunk_of, event_from_at, events_at, follows, laid_bytes, next_event_at, payload_bytes, rises_from, rising_columns_at};
+ghost use Rattle.rg_chunk.specs.declared.head.Layout.{Layout as TheLayout};
 
-use crate::fault::ChunkFault;
-use crate::head::{is_head_of, take_head};
+use crate::fault::{ChunkFault, event_fault};
+use crate::head::{Layout, is_head_of, take_head};
 use rg_bytes::{ByteReader, Memory};
+use rg_column::decode_columns;
 use rg_event::{Event, EventFault, Events, Schema, decode};
 use std::alloc::Global;
 use std::marker::Model;
@@ -33,9 +36,9 @@ impl Chunk {
     /// The chunk that a payload says, of events of this schema. `BadChunk` comes exactly where it is no chunk payload.
     pub fn decode(alloc: Global, schema: &Schema, payload: &[u8]) -> Result<Chunk, ChunkFault>
         ensures agrees { Agrees (chunk_of schema.now.fields payload.now) result }
-        ensures bytes { IfOk result (λ chunk. payload.now ≡ chunk_bytes chunk) }
+        ensures bytes { IfOk result (λ chunk. (layout : TheLayout) × (payload.now ≡ payload_bytes layout schema.now.fields chunk)) }
         ensures legal { IfOk result (IsChunk schema.now.fields) }
-        ensures reads_back { (events : List TheEvent) → IsChunk schema.now.fields events → payload.now ≡ chunk_bytes events → (result ≡ Ok events) ⊎ (result ≡ Err ChunkFault.Memory) }
+        ensures reads_back { (layout : TheLayout) (events : List TheEvent) → IsChunk schema.now.fields events → payload.now ≡ payload_bytes layout schema.now.fields events → (result ≡ Ok events) ⊎ (result ≡ Err ChunkFault.Memory) }
     {
         let mut from = ByteReader::new(payload);
         match take_chunk(alloc, schema, &mut from) {
@@ -75,14 +78,14 @@ fn take_chunk(
     from: &mut ByteReader<'_>,
 ) -> Result<Events, EventFault>
     ensures agrees { AgreesAt (chunk_at schema.now.fields from.old) result from.new }
-    ensures ok { IfOk result (λ events. from.old ≡ chunk_bytes events ++ from.new) }
+    ensures ok { IfOk result (λ events. (layout : TheLayout) × (from.old ≡ payload_bytes layout schema.now.fields events ++ from.new)) }
     ensures legal { IfOk result (IsChunk schema.now.fields) }
 {
-    let head = match take_head(from) {
-        Ok(head) => head,
+    let (layout, head) = match take_head(from) {
+        Ok(said) => said,
         Err(fault) => return Err(fault),
     };
-    let events = match take_events(alloc, schema, head.count, from) {
+    let events = match take_laid(alloc, layout, schema, head.count, from) {
         Ok(events) => events,
         Err(fault) => return Err(fault),
     };
@@ -90,6 +93,66 @@ fn take_chunk(
         return Err(EventFault::BadValue(0));
     }
     Ok(events)
+}
+
+/// Takes so many events in this layout.
+fn take_laid(
+    alloc: Global,
+    layout: Layout,
+    schema: &Schema,
+    count: u32,
+    from: &mut ByteReader<'_>,
+) -> Result<Events, EventFault>
+    ensures agrees { AgreesAt (events_at layout schema.now.fields count from.old) result from.new }
+    ensures ok { IfOk result (λ events. from.old ≡ laid_bytes layout schema.now.fields events ++ from.new) }
+    ensures legal { IfOk result (All (IsEventOf schema.now.fields)) }
+    ensures rising { IfOk result IsRising }
+    ensures count { IfOk result (λ events. length events ≡ count) }
+{
+    match layout {
+        Layout::Rows => take_events(alloc, schema, count, from),
+        Layout::Columns => take_columns(alloc, schema, count, from),
+    }
+}
+
+/// Takes so many events by columns, each of which may follow those before it.
+fn take_columns(
+    alloc: Global,
+    schema: &Schema,
+    count: u32,
+    from: &mut ByteReader<'_>,
+) -> Result<Events, EventFault>
+    ensures agrees { AgreesAt (rising_columns_at schema.now.fields count from.old) result from.new }
+    ensures ok { IfOk result (λ events. from.old ≡ columns_bytes schema.now.fields events ++ from.new) }
+    ensures legal { IfOk result (All (IsEventOf schema.now.fields)) }
+    ensures rising { IfOk result IsRising }
+    ensures count { IfOk result (λ events. length events ≡ count) }
+{
+    let events = match decode_columns(alloc, schema, count, from) {
+        Ok(events) => events,
+        Err(fault) => return Err(event_fault(fault)),
+    };
+    if !is_rising(events.as_slice()) {
+        return Err(EventFault::BadValue(0));
+    }
+    Ok(events)
+}
+
+/// Whether the offsets rise strictly and the times never fall.
+fn is_rising(events: &[Event]) -> bool
+    requires { All HasOffset events.now }
+    ensures { result ≡ rises_from 0 0 events.now }
+{
+    let mut lowest = 0;
+    let mut earliest = 0;
+    for event in events {
+        if !may_follow(event, lowest, earliest) {
+            return false;
+        }
+        lowest = event.offset + 1;
+        earliest = event.time;
+    }
+    true
 }
 
 /// Takes so many events, each of which may follow those before it.

@@ -1,4 +1,8 @@
+ghost use Rattle.std.specs.Prelude.{◌≡◌};
+ghost use Rattle.rg_chunk.specs.Faults.{event_fault as fault_in_chunk};
+
 use rg_bytes::Memory;
+use rg_column::ColumnFault;
 use rg_event::EventFault;
 use std::error::Error;
 use std::fmt;
@@ -46,5 +50,16 @@ impl From<EventFault> for ChunkFault {
             EventFault::Memory => ChunkFault::Memory,
             EventFault::Short | EventFault::BadValue(_) => ChunkFault::BadChunk,
         }
+    }
+}
+
+/// What a fault of columns is called in a chunk.
+pub(crate) fn event_fault(fault: ColumnFault) -> EventFault
+    ensures { result ≡ fault_in_chunk fault }
+{
+    match fault {
+        ColumnFault::Short => EventFault::Short,
+        ColumnFault::BadColumn(column) => EventFault::BadValue(column),
+        ColumnFault::Memory => EventFault::Memory,
     }
 }

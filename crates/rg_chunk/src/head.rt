@@ -3,7 +3,7 @@ ghost use Rattle.rg_bytes.specs.Keeps.{Keeps};
 ghost use Rattle.rg_event.specs.declared.event.Event.{Event as TheEvent};
 ghost use Rattle.rg_event.specs.declared.schema.Field.{Field};
 ghost use Rattle.rg_chunk.specs.Chunks.{chunk_of};
-ghost use Rattle.rg_chunk.specs.Heads.{IsHead, Reads, is_known as known_test, stamp_at, stamp_bytes, head_at, head_of, head_bytes, head_for, first_stamp, last_stamp, is_head_of as head_test};
+ghost use Rattle.rg_chunk.specs.Heads.{IsHead, Reads, layout_said, tag_of, is_count, stamp_at, stamp_bytes, head_at, head_of, head_bytes, head_for, first_stamp, last_stamp, is_head_of as head_test};
 
 use rg_bytes::{ByteReader, Memory, put_u8, put_u32, put_u64};
 use rg_event::{Event, EventFault};
@@ -11,14 +11,40 @@ use rg_event::{Event, EventFault};
 /// The greatest number of events in a chunk. The least is 1.
 pub const MAX_EVENTS: u32 = 4_096;
 
-/// The tag of a chunk whose events stand one after another.
-const ROWS_TAG: u8 = 0x43;
+/// How the events of a chunk are written.
+#[derive(Clone, Copy, Debug, PartialEq, Eq)]
+pub enum Layout {
+    /// One after another, with the tag 0x43.
+    Rows,
+    /// Column by column, with the tag 0x4b.
+    Columns,
+}
 
-/// What the first 37 bytes of a chunk say.
+impl Layout {
+    /// The layout with this tag, if there is one.
+    fn from_tag(tag: u8) -> Option<Layout>
+        ensures { result ≡ layout_said tag }
+    {
+        match tag {
+            0x43 => Some(Layout::Rows),
+            0x4b => Some(Layout::Columns),
+            _ => None,
+        }
+    }
+
+    fn tag(self) -> u8
+        ensures { result ≡ tag_of self }
+    {
+        match self {
+            Layout::Rows => 0x43,
+            Layout::Columns => 0x4b,
+        }
+    }
+}
+
+/// What the first 37 bytes of a chunk say, besides how its events are written.
 #[derive(Clone, Copy, Debug, PartialEq, Eq)]
 pub struct ChunkHead {
-    /// How the events are written: 0x43 where they stand one after another.
-    pub tag: u8,
     /// How many events there are, from 1 to 4,096.
     pub count: u32,
     /// The offset of the first event.
@@ -38,16 +64,16 @@ pub fn read_head(payload: &[u8]) -> Option<ChunkHead>
     ensures of_chunk { (fields : List Field) (events : List TheEvent) → chunk_of fields payload.now ≡ Some events → result ≡ Some (head_for events) }
 {
     match take_head(&mut ByteReader::new(payload)) {
-        Ok(head) => Some(head),
+        Ok((_, head)) => Some(head),
         Err(_) => None,
     }
 }
 
-/// Takes a head. A refusal may leave the reader in mid-way.
-pub(crate) fn take_head(from: &mut ByteReader<'_>) -> Result<ChunkHead, EventFault>
+/// Takes a head and how the events behind it are written. A refusal may leave the reader in mid-way.
+pub(crate) fn take_head(from: &mut ByteReader<'_>) -> Result<(Layout, ChunkHead), EventFault>
     ensures agrees { Reads (head_at from.old) result from.new }
-    ensures ok { IfOk result (λ head. from.old ≡ head_bytes head ++ from.new) }
-    ensures legal { IfOk result IsHead }
+    ensures ok { IfOk result (λ said. from.old ≡ head_bytes said.0 said.1 ++ from.new) }
+    ensures legal { IfOk result (λ said. IsHead said.1) }
 {
     let tag = from.u8()?;
     let count = from.u32()?;
@@ -59,24 +85,28 @@ pub(crate) fn take_head(from: &mut ByteReader<'_>) -> Result<ChunkHead, EventFau
         Ok(last) => last,
         Err(fault) => return Err(fault),
     };
-    if !is_known(tag, count) {
+    let layout = match Layout::from_tag(tag) {
+        Some(layout) => layout,
+        None => return Err(EventFault::BadValue(0)),
+    };
+    if !is_count_of_chunk(count) {
         return Err(EventFault::BadValue(0));
     }
-    Ok(ChunkHead {
-        tag,
+    let head = ChunkHead {
         count,
         first_offset,
         first_time,
         last_offset,
         last_time,
-    })
+    };
+    Ok((layout, head))
 }
 
-/// Whether the tag is known and the count is 1 to 4,096.
-fn is_known(tag: u8, count: u32) -> bool
-    ensures { result ≡ known_test tag count }
+/// Whether so many events make a chunk: 1 to 4,096.
+fn is_count_of_chunk(count: u32) -> bool
+    ensures { result ≡ is_count count }
 {
-    tag == ROWS_TAG && 1 <= count && count <= MAX_EVENTS
+    1 <= count && count <= MAX_EVENTS
 }
 
 /// Takes the offset and the time of an event.
@@ -90,11 +120,11 @@ fn take_stamp(from: &mut ByteReader<'_>) -> Result<(u64, u64), EventFault>
 }
 
 /// Writes a head at the end. An error leaves it begun.
-pub(crate) fn put_head(head: &ChunkHead, out: &mut Vec<u8>) -> Result<(), Memory>
-    ensures ok { OnOk result (out.new.items ≡ out.old.items ++ head_bytes head.now) }
+pub(crate) fn put_head(layout: Layout, head: &ChunkHead, out: &mut Vec<u8>) -> Result<(), Memory>
+    ensures ok { OnOk result (out.new.items ≡ out.old.items ++ head_bytes layout head.now) }
     ensures err { OnErr result (Keeps out.old.items out.new.items) }
 {
-    put_u8(out, head.tag)?;
+    put_u8(out, layout.tag())?;
     put_u32(out, head.count)?;
     put_stamp(head.first_offset, head.first_time, out)?;
     put_stamp(head.last_offset, head.last_time, out)
@@ -117,7 +147,6 @@ pub(crate) fn head_of_events(events: &[Event]) -> ChunkHead
     let (first_offset, first_time) = first_of(events);
     let (last_offset, last_time) = last_of(events);
     ChunkHead {
-        tag: ROWS_TAG,
         count: events.len() as u32,
         first_offset,
         first_time,

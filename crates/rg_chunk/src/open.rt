@@ -1,14 +1,13 @@
 ghost use Rattle.std.specs.Prelude.{◌≡◌, ◌<◌, ◌≤◌, ◌++◌, [], ◌∷◌, ◌↔◌, List, Some, IfOk, IfSome, OnOk, OnErr, IsTrue, length, slice_get, option_copied};
 ghost use Rattle.rg_bytes.specs.Keeps.{Keeps};
-ghost use Rattle.rg_bytes.specs.Reading.{list_bytes};
-ghost use Rattle.rg_event.specs.Codec.{event_bytes};
 ghost use Rattle.rg_event.specs.declared.event.Event.{Event as TheEvent};
 ghost use Rattle.rg_event.specs.declared.schema.Field.{Field};
 ghost use Rattle.rg_chunk.specs.Chunks.{IsChunk, chunk_bytes, chunk_of};
 
-use crate::head::{head_of_events, put_head};
+use crate::head::{Layout, head_of_events, put_head};
 use rg_bytes::Memory;
-use rg_event::{Event, encode};
+use rg_column::encode_columns;
+use rg_event::{Event, Schema};
 use std::alloc::Global;
 use std::marker::Model;
 
@@ -79,15 +78,16 @@ impl OpenChunk {
         self.events.get(index as usize)
     }
 
-    /// Writes the payload of the events at the end, where there are some. Where memory runs out `out` holds what it held.
-    pub fn encode(&self, out: &mut Vec<u8>) -> Result<(), Memory>
+    /// Writes the payload of the events at the end, by the columns of the schema, where there are some. Where memory
+    /// runs out `out` holds what it held.
+    pub fn encode(&self, schema: &Schema, out: &mut Vec<u8>) -> Result<(), Memory>
         requires { 1 ≤ length self.now.events }
-        ensures ok { OnOk result (out.new.items ≡ out.old.items ++ chunk_bytes self.now.events) }
+        ensures ok { OnOk result (out.new.items ≡ out.old.items ++ chunk_bytes schema.now.fields self.now.events) }
         ensures err { OnErr result (out.new.items ≡ out.old.items) }
-        ensures reads_back { (fields : List Field) (events : List TheEvent) → IsChunk fields events → chunk_of fields (chunk_bytes events) ≡ Some events }
+        ensures reads_back { (fields : List Field) (events : List TheEvent) → IsChunk fields events → chunk_of fields (chunk_bytes fields events) ≡ Some events }
     {
         let start = out.len();
-        match put_chunk(&self.events, out) {
+        match put_chunk(schema, &self.events, out) {
             Ok(()) => Ok(()),
             Err(memory) => {
                 out.truncate(start);
@@ -106,22 +106,11 @@ impl OpenChunk {
 }
 
 /// Writes the payload of these events at the end. An error leaves it begun.
-fn put_chunk(events: &[Event], out: &mut Vec<u8>) -> Result<(), Memory>
+fn put_chunk(schema: &Schema, events: &[Event], out: &mut Vec<u8>) -> Result<(), Memory>
     requires { length events.now ≤ 4096 }
-    ensures ok { OnOk result (out.new.items ≡ out.old.items ++ chunk_bytes events.now) }
+    ensures ok { OnOk result (out.new.items ≡ out.old.items ++ chunk_bytes schema.now.fields events.now) }
     ensures err { OnErr result (Keeps out.old.items out.new.items) }
 {
-    put_head(&head_of_events(events), out)?;
-    put_events(events, out)
-}
-
-/// Writes events at the end, one after another. An error leaves some of them.
-fn put_events(events: &[Event], out: &mut Vec<u8>) -> Result<(), Memory>
-    ensures ok { OnOk result (out.new.items ≡ out.old.items ++ list_bytes event_bytes events.now) }
-    ensures err { OnErr result (Keeps out.old.items out.new.items) }
-{
-    for event in events {
-        encode(event, out)?;
-    }
-    Ok(())
+    put_head(Layout::Columns, &head_of_events(events), out)?;
+    encode_columns(schema, events, out)
 }

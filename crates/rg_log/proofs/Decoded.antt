@@ -20,9 +20,7 @@ use Rattle.rg_event.specs.declared.value.Value.{Value}
 use Rattle.rg_event.specs.declared.value.Value.TheVariants.{Int as IntValue, Id as IdValue, Text as TextValue, Flag as FlagValue}
 use Rattle.rg_frame.specs.Bytes.{IsByte}
 use Rattle.rg_frame.proofs.Listing.{eight_small}
-use Rattle.rg_chunk.specs.Chunks.{event_from_at, next_event_at, chunk_at, chunk_of}
-use Rattle.rg_chunk.specs.Heads.{stamp_at, is_known, head_at, is_head_of}
-use Rattle.rg_chunk.specs.declared.head.ChunkHead.{ChunkHead}
+use Rattle.rg_chunk.specs.Heads.{stamp_at}
 
 -- two readings, one behind the other
 pub record Both {F A B : Type 0} (first : Reading F A) (next : A → List ℕ → Reading F B) (out : B) (rest : List ℕ) : Type 0 where
@@ -50,7 +48,7 @@ pub passed : {F A : Type 0} (fault : F) (test : Bool) (value out : A) (left rest
 passed fault true value out left rest e = let f = same_pair (tested fault true value left) value out left rest refl e in (refl, f.0, f.1)
 passed fault false value out left rest e = absurd cc
 
-taken : {F : Type 0} (short : F) (count : ℕ) (bytes front left : List ℕ) → bytes_at short count bytes ≡ Ok (front, left) → (take count bytes ≡ front) × (drop count bytes ≡ left) × (count ≤ length bytes)
+pub taken : {F : Type 0} (short : F) (count : ℕ) (bytes front left : List ℕ) → bytes_at short count bytes ≡ Ok (front, left) → (take count bytes ≡ front) × (drop count bytes ≡ left) × (count ≤ length bytes)
 unfolding bytes_at
 taken short count bytes front left e = by (nat_le count (length bytes)) refl
   where
@@ -58,7 +56,7 @@ taken short count bytes front left e = by (nat_le count (length bytes)) refl
     by true t = let f = same_pair (bytes_at short count bytes) (take count bytes) front (drop count bytes) left (rw t refl) e in (f.0, f.1, leb-true count (length bytes) t)
     by false f = absurd (let g : Err short ≡ Ok (front, left) = sym (rw f refl) ∙ e in cc)
 
-number_small : {F : Type 0} (short : F) (bytes : List ℕ) (n : ℕ) (left : List ℕ) → All IsByte bytes → u64_at short bytes ≡ Ok (n, left) → (n < 2 ^ 64) × All IsByte left
+pub number_small : {F : Type 0} (short : F) (bytes : List ℕ) (n : ℕ) (left : List ℕ) → All IsByte bytes → u64_at short bytes ≡ Ok (n, left) → (n < 2 ^ 64) × All IsByte left
 unfolding u64_at
 number_small short bytes n left small e =
     let b = both_read (bytes_at short 8 bytes) (λ front left. Ok (from_be_bytes w64 front, left)) n left e in
@@ -146,66 +144,32 @@ event_within fields bytes event left small e =
       subst (λ (l : List ℕ). All IsByte l) f.1 values.1,
     )
 
-whole_is : {F A : Type 0} (r : Reading F A) (value : A) → whole r ≡ Some value → r ≡ Ok (value, [])
+pub whole_is : {F A : Type 0} (r : Reading F A) (value : A) → whole r ≡ Some value → r ≡ Ok (value, [])
 whole_is (Ok (value, [])) out e = ap (λ v. Ok (v, [])) (ap (λ o. unwrap_or o value) e)
 whole_is (Ok (value, byte ∷ bytes)) out e = absurd cc
 whole_is (Err fault) out e = absurd cc
 
 -- a number's bytes are taken off
-number_left : {F : Type 0} (w : Width) (short : F) (bytes : List ℕ) (n : ℕ) (left : List ℕ) → All IsByte bytes → number_at w short bytes ≡ Ok (n, left) → All IsByte left
+pub number_left : {F : Type 0} (w : Width) (short : F) (bytes : List ℕ) (n : ℕ) (left : List ℕ) → All IsByte bytes → number_at w short bytes ≡ Ok (n, left) → All IsByte left
 number_left w short bytes n left small e =
     let b = both_read (bytes_at short (byte_len w) bytes) (λ front left. Ok (from_be_bytes w front, left)) n left e in
     let t = taken short (byte_len w) bytes b.value b.left b.is in
     let f = same_pair (Ok (from_be_bytes w b.value, b.left)) (from_be_bytes w b.value) n b.left left refl b.more in
     subst (λ (l : List ℕ). All IsByte l) (t.1 ∙ f.1) (All-drop IsByte (byte_len w) bytes small)
 
-tag_left : (bytes : List ℕ) (n : ℕ) (left : List ℕ) → All IsByte bytes → u8_at Short bytes ≡ Ok (n, left) → All IsByte left
+pub byte_left : {F : Type 0} (short : F) (bytes : List ℕ) (n : ℕ) (left : List ℕ) → All IsByte bytes → u8_at short bytes ≡ Ok (n, left) → All IsByte left
 unfolding u8_at
-tag_left [] n left small e = absurd cc
-tag_left (byte ∷ bytes) n left small e = subst (λ (l : List ℕ). All IsByte l) (same_pair (u8_at Short (byte ∷ bytes)) byte n bytes left refl e).1 (All-tail IsByte byte bytes small)
+byte_left short [] n left small e = absurd cc
+byte_left short (byte ∷ bytes) n left small e = subst (λ (l : List ℕ). All IsByte l) (same_pair (u8_at short (byte ∷ bytes)) byte n bytes left refl e).1 (All-tail IsByte byte bytes small)
 
-count_left : (bytes : List ℕ) (n : ℕ) (left : List ℕ) → All IsByte bytes → u32_at Short bytes ≡ Ok (n, left) → All IsByte left
+pub count_left : (bytes : List ℕ) (n : ℕ) (left : List ℕ) → All IsByte bytes → u32_at Short bytes ≡ Ok (n, left) → All IsByte left
 unfolding u32_at
 count_left bytes n left small e = number_left w32 Short bytes n left small e
 
-stamp_left : (bytes : List ℕ) (stamp : ℕ × ℕ) (left : List ℕ) → All IsByte bytes → stamp_at bytes ≡ Ok (stamp, left) → All IsByte left
+pub stamp_left : (bytes : List ℕ) (stamp : ℕ × ℕ) (left : List ℕ) → All IsByte bytes → stamp_at bytes ≡ Ok (stamp, left) → All IsByte left
 unfolding stamp_at
 stamp_left bytes stamp left small e =
     let a = both_read (u64_at Short bytes) (λ offset left. and_then (u64_at Short left) (λ time rest. Ok ((offset, time), rest))) stamp left e in
     let b = both_read (u64_at Short a.left) (λ time rest. Ok ((a.value, time), rest)) stamp left a.more in
     let f = same_pair (Ok ((a.value, b.value), b.left)) (a.value, b.value) stamp b.left left refl b.more in
     subst (λ (l : List ℕ). All IsByte l) f.1 (number_small Short a.left b.value b.left (number_small Short bytes a.value a.left small a.is).1 b.is).1
-
-head_left : (bytes : List ℕ) (head : ChunkHead) (left : List ℕ) → All IsByte bytes → head_at bytes ≡ Ok (head, left) → All IsByte left
-unfolding head_at
-head_left bytes head left small e =
-    let a = both_read (u8_at Short bytes) _ head left e in
-    let b = both_read (u32_at Short a.left) _ head left a.more in
-    let c = both_read (stamp_at b.left) _ head left b.more in
-    let d = both_read (stamp_at c.left) _ head left c.more in
-    let p = passed (BadValue 0) (is_known a.value b.value) (record { tag = a.value; count = b.value; first_offset = c.value.0; first_time = c.value.1; last_offset = d.value.0; last_time = d.value.1 }) head d.left left d.more in
-    subst (λ (l : List ℕ). All IsByte l) p.2 (stamp_left c.left d.value d.left (stamp_left b.left c.value c.left (count_left a.left b.value b.left (tag_left bytes a.value a.left small a.is) b.is) c.is) d.is)
-
-from_within : (fields : List Field) (next time : ℕ) (bytes : List ℕ) (event : Event) (left : List ℕ) → All IsByte bytes → event_from_at fields next time bytes ≡ Ok (event, left) → IsEventOf fields event × All IsByte left
-unfolding event_from_at
-from_within fields next time bytes event left small e =
-    let b = both_read (event_at fields bytes) (λ event left. tested (BadValue 0) (nat_le next event.offset && nat_le time event.time) event left) event left e in
-    let p = passed (BadValue 0) (nat_le next b.value.offset && nat_le time b.value.time) b.value event b.left left b.more in
-    let s = event_within fields bytes b.value b.left small b.is in
-    (subst (λ (x : Event). IsEventOf fields x) p.1 s.0, subst (λ (l : List ℕ). All IsByte l) p.2 s.1)
-
-events_within : (fields : List Field) (so_far : List Event) (count : ℕ) (bytes : List ℕ) (events : List Event) (left : List ℕ) → All IsByte bytes → All (IsEventOf fields) so_far → more_at (next_event_at fields) so_far count bytes ≡ Ok (events, left) → All (IsEventOf fields) events
-events_within fields so_far zero bytes events left small of e = subst (λ (l : List Event). All (IsEventOf fields) l) (same_pair (Ok (so_far, bytes)) so_far events bytes left refl e).0 of
-events_within fields so_far (suc count) bytes events left small of e =
-    let b = both_read (next_event_at fields so_far bytes) (λ item rest. more_at (next_event_at fields) (so_far ++ item ∷ []) count rest) events left e in
-    let one = from_within fields (next_offset so_far) (last_time so_far) bytes b.value b.left small b.is in
-    events_within fields (so_far ++ b.value ∷ []) count b.left events left one.1 (All-push (IsEventOf fields) so_far b.value of one.0) b.more
-
--- and so are the events of a chunk
-pub chunk_within : (fields : List Field) (payload : List ℕ) (events : List Event) → All IsByte payload → chunk_of fields payload ≡ Some events → All (IsEventOf fields) events
-unfolding chunk_at
-chunk_within fields payload events small e =
-    let a = both_read (head_at payload) (λ head left. and_then (more_at (next_event_at fields) [] head.count left) (λ events rest. tested (BadValue 0) (is_head_of head events) events rest)) events [] (whole_is (chunk_at fields payload) events e) in
-    let b = both_read (more_at (next_event_at fields) [] a.value.count a.left) (λ events rest. tested (BadValue 0) (is_head_of a.value events) events rest) events [] a.more in
-    let p = passed (BadValue 0) (is_head_of a.value b.value) b.value events b.left [] b.more in
-    subst (λ (l : List Event). All (IsEventOf fields) l) p.1 (events_within fields [] a.value.count a.left b.value b.left (head_left payload a.value a.left small a.is) (All-nil (IsEventOf fields)) b.is)

@@ -18,7 +18,7 @@ use Rattle.rg_frame.proofs.Listing.{has_listed}
 use Rattle.rg_chunk.specs.Chunks.{chunk_of}
 use Rattle.rg_log.specs.Log.{schema_payload, chunks_of, joined, HasEvents, HasLegalLog, HasSchemaFrame}
 use Rattle.rg_log.specs.Reading.{schema_of, is_rising, legal_events, chunk_events, listed_events, events_of}
-use Rattle.rg_log.proofs.Decoded.{chunk_within}
+use Rattle.rg_log.proofs.Chunked.{chunk_within}
 use Rattle.rg_log.proofs.Growing.{part}
 
 rising_is : (events : List Event) → is_rising events ≡ true → IsRising events

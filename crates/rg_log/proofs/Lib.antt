@@ -3,5 +3,7 @@ pub mod Reading
 pub mod Spelling
 pub mod Naming
 pub mod Decoded
+pub mod Columned
+pub mod Chunked
 pub mod Exact
 pub mod Worked

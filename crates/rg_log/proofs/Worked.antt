@@ -1,5 +1,5 @@
 -- A log of two events, byte by byte: the frame of the schema `payments(ts,card:text,merchant:text,amount:int)`, a chunk with
--- the rows `0,c1,m1,100` and `299999,c1,m2,200` at offsets 0 and 1, and a closed gate.
+-- the rows `0,c1,m1,100` and `299999,c1,m2,200` at offsets 0 and 1, one after another or by columns, and a closed gate.
 use Rattle.std.specs.Prelude.{◌≡◌, ℕ, Bool, true, false, List, [], ◌∷◌, ◌++◌, length, map, Option, Some, None, option_map, refl}
 use Rattle.std.specs.Str.{is_utf8, chars}
 use lib.Utf8.{encode}
@@ -9,7 +9,11 @@ use Rattle.rg_event.specs.Reading.{field_at, fields_at, shape_at, shape_of}
 use Rattle.rg_event.specs.declared.event.Event.{Event}
 use Rattle.rg_past.specs.declared.past.Spot.{Spot}
 use Rattle.rg_frame.specs.FrameList.{payloads_in}
-use Rattle.rg_chunk.specs.Chunks.{event_from_at, chunk_at}
+use Rattle.rg_column.specs.Columns.{columns_at}
+use Rattle.rg_column.specs.Numbers.{numbers_at, packed_at}
+use Rattle.rg_column.specs.Values.{ints_at, texts_at, text_at as column_text_at}
+use Rattle.rg_column.specs.Widths.{difference_at}
+use Rattle.rg_chunk.specs.Chunks.{event_from_at, rising_columns_at, chunk_at}
 use Rattle.rg_chunk.specs.Heads.{stamp_at, head_at}
 use Rattle.rg_log.specs.Reading.{events_of, next_of}
 use Rattle.rg_log.specs.Spots.{named_by_heads}
@@ -19,6 +23,10 @@ schema_frame = 1 ∷ 0 ∷ 0 ∷ 0 ∷ 0 ∷ 0 ∷ 0 ∷ 0 ∷ 48 ∷ 83 ∷ 112
 
 abbrev chunk_frame : List ℕ
 chunk_frame = 1 ∷ 0 ∷ 0 ∷ 0 ∷ 0 ∷ 0 ∷ 0 ∷ 0 ∷ 97 ∷ 67 ∷ 0 ∷ 0 ∷ 0 ∷ 2 ∷ 0 ∷ 0 ∷ 0 ∷ 0 ∷ 0 ∷ 0 ∷ 0 ∷ 0 ∷ 0 ∷ 0 ∷ 0 ∷ 0 ∷ 0 ∷ 0 ∷ 0 ∷ 0 ∷ 0 ∷ 0 ∷ 0 ∷ 0 ∷ 0 ∷ 0 ∷ 0 ∷ 1 ∷ 0 ∷ 0 ∷ 0 ∷ 0 ∷ 0 ∷ 4 ∷ 147 ∷ 223 ∷ 0 ∷ 0 ∷ 0 ∷ 0 ∷ 0 ∷ 0 ∷ 0 ∷ 0 ∷ 0 ∷ 0 ∷ 0 ∷ 0 ∷ 0 ∷ 0 ∷ 0 ∷ 0 ∷ 2 ∷ 99 ∷ 49 ∷ 2 ∷ 109 ∷ 49 ∷ 0 ∷ 0 ∷ 0 ∷ 0 ∷ 0 ∷ 0 ∷ 0 ∷ 100 ∷ 0 ∷ 0 ∷ 0 ∷ 0 ∷ 0 ∷ 0 ∷ 0 ∷ 1 ∷ 0 ∷ 0 ∷ 0 ∷ 0 ∷ 0 ∷ 4 ∷ 147 ∷ 223 ∷ 2 ∷ 99 ∷ 49 ∷ 2 ∷ 109 ∷ 50 ∷ 0 ∷ 0 ∷ 0 ∷ 0 ∷ 0 ∷ 0 ∷ 0 ∷ 200 ∷ []
+
+-- the same chunk by columns
+abbrev columns_frame : List ℕ
+columns_frame = 1 ∷ 0 ∷ 0 ∷ 0 ∷ 0 ∷ 0 ∷ 0 ∷ 0 ∷ 88 ∷ 75 ∷ 0 ∷ 0 ∷ 0 ∷ 2 ∷ 0 ∷ 0 ∷ 0 ∷ 0 ∷ 0 ∷ 0 ∷ 0 ∷ 0 ∷ 0 ∷ 0 ∷ 0 ∷ 0 ∷ 0 ∷ 0 ∷ 0 ∷ 0 ∷ 0 ∷ 0 ∷ 0 ∷ 0 ∷ 0 ∷ 0 ∷ 0 ∷ 1 ∷ 0 ∷ 0 ∷ 0 ∷ 0 ∷ 0 ∷ 4 ∷ 147 ∷ 223 ∷ 0 ∷ 0 ∷ 0 ∷ 0 ∷ 0 ∷ 0 ∷ 0 ∷ 0 ∷ 1 ∷ 0 ∷ 1 ∷ 0 ∷ 0 ∷ 0 ∷ 0 ∷ 0 ∷ 0 ∷ 0 ∷ 0 ∷ 4 ∷ 0 ∷ 0 ∷ 0 ∷ 0 ∷ 0 ∷ 4 ∷ 147 ∷ 223 ∷ 2 ∷ 2 ∷ 99 ∷ 49 ∷ 99 ∷ 49 ∷ 2 ∷ 2 ∷ 109 ∷ 49 ∷ 109 ∷ 50 ∷ 0 ∷ 0 ∷ 0 ∷ 0 ∷ 0 ∷ 0 ∷ 0 ∷ 100 ∷ 1 ∷ 0 ∷ 100 ∷ []
 
 abbrev closed : List ℕ
 closed = 0 ∷ []
@@ -47,6 +55,17 @@ two_events = refl
 offsets_rise : offsets file ≡ Some (0 ∷ 1 ∷ [])
 unfolding shape_of shape_at fields_at field_at chunk_at head_at stamp_at event_from_at event_at number_up_to_at u8_at u32_at u64_at bytes_at text_at int_at is_utf8 chars encode
 offsets_rise = refl
+
+-- by columns they are the same
+abbrev column_file : List ℕ
+column_file = schema_frame ++ (columns_frame ++ closed)
+
+column_size : length column_file ≡ 155
+column_size = refl
+
+same_events : events_of column_file ≡ events_of file
+unfolding shape_of shape_at fields_at field_at chunk_at head_at stamp_at event_from_at event_at number_up_to_at rising_columns_at columns_at numbers_at packed_at difference_at ints_at texts_at u8_at u32_at u64_at bytes_at text_at column_text_at int_at is_utf8 chars encode
+same_events = refl
 
 next_is_two : next_of file ≡ Some 2
 unfolding shape_of shape_at fields_at field_at chunk_at head_at stamp_at event_from_at event_at number_up_to_at u8_at u32_at u64_at bytes_at text_at int_at is_utf8 chars encode

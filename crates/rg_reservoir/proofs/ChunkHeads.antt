@@ -1,20 +1,20 @@
 -- What the head of a chunk says, and which bytes it depends on.
-use Rattle.std.proofs.Common.{◌≡◌, ◌∙◌, ℕ, ◌+◌, ◌≤◌, ◌<◌, nat_le, Bool, true, false, List, [], ◌∷◌, ◌++◌, length, take, drop, Some, None, Ok, Err, refl, sym, ap, subst, arith, append_assoc, length-append, length-drop, take-append-drop}
+use Rattle.std.proofs.Common.{◌≡◌, ◌∙◌, ℕ, ◌+◌, ◌≤◌, ◌<◌, nat_le, Bool, true, false, List, [], ◌∷◌, ◌++◌, length, take, drop, Option, Some, None, option_map, Ok, Err, refl, sym, ap, subst, arith, append_assoc, length-append, length-drop, take-append-drop}
 use Rattle.std.proofs.lemmas.Bool.Decides.{nat_tests}
 use Rattle.std.proofs.lemmas.List.{take_all, length-take-le}
 use Rattle.std.specs.Int.{w32, w64, from_be_bytes}
-use Rattle.rg_bytes.specs.Reading.{and_then, tested, u8_at, u32_at, u64_at}
+use Rattle.rg_bytes.specs.Reading.{tested, u8_at, u32_at, u64_at}
 use Rattle.rg_bytes.proofs.Reading.{bytes_read, u8_read}
 use Rattle.rg_event.specs.Codec.{Reading}
-use Rattle.rg_event.specs.declared.codec.EventFault.{EventFault}
 use Rattle.rg_event.specs.declared.codec.EventFault.TheVariants.{Short, BadValue}
 use Rattle.rg_event.specs.declared.event.Event.{Event}
 use Rattle.rg_event.specs.declared.schema.Field.{Field}
 use Rattle.rg_chunk.specs.Chunks.{chunk_of}
-use Rattle.rg_chunk.specs.Heads.{stamp_at, is_known, head_at, head_of, head_for, begun, first_stamp, last_stamp}
+use Rattle.rg_chunk.specs.Heads.{layout_said, is_count, headed_at, stamp_at, head_at, head_of, head_for, begun, first_stamp, last_stamp}
+use Rattle.rg_chunk.specs.declared.head.Layout.{Layout}
 use Rattle.rg_chunk.specs.declared.head.ChunkHead.{ChunkHead}
 use Rattle.rg_chunk.proofs.Chunks.{chunk_head}
-use Rattle.rg_chunk.proofs.Heads.{known_parts}
+use Rattle.rg_chunk.proofs.Heads.{count_parts}
 use Rattle.rg_log.proofs.Decoded.{both_read, passed}
 
 -- the first and the last of some events
@@ -35,31 +35,35 @@ abbrev pub RisesFrom : ℕ → ℕ → List Event → Type 0
 RisesFrom next time [] = Unit {0}
 RisesFrom next time (e ∷ es) = (next ≤ e.offset) × (time ≤ e.time) × RisesFrom (e.offset + 1) e.time es
 
-head_count : (payload : List ℕ) (h : ChunkHead) (rest : List ℕ) → head_at payload ≡ Ok (h, rest) → (1 ≤ h.count) × (h.count ≤ 4096)
+headed_parts : (said : Option Layout) (head : ChunkHead) (left : List ℕ) (out : Layout × ChunkHead) (rest : List ℕ) → headed_at said head left ≡ Ok (out, rest) → (is_count head.count ≡ true) × (head ≡ out.1)
+headed_parts (Some layout) head left out rest e = let p = passed (BadValue 0) (is_count head.count) (layout, head) out left rest e in (p.0, ap (λ (said : Layout × ChunkHead). said.1) p.1)
+headed_parts None head left out rest e = absurd cc
+
+head_count : (payload : List ℕ) (said : Layout × ChunkHead) (rest : List ℕ) → head_at payload ≡ Ok (said, rest) → (1 ≤ said.1.count) × (said.1.count ≤ 4096)
 unfolding head_at
-head_count payload h rest is =
-    let one = both_read (u8_at Short payload) (λ tag one. and_then (u32_at Short one) (λ count two. and_then (stamp_at two) (λ first three. and_then (stamp_at three) (λ last rest.
-    tested (BadValue 0) (is_known tag count) (record { tag = tag; count = count; first_offset = first.0; first_time = first.1; last_offset = last.0; last_time = last.1 }) rest)))) h rest is in
-    let two = both_read (u32_at Short one.left) (λ count two. and_then (stamp_at two) (λ first three. and_then (stamp_at three) (λ last rest.
-    tested (BadValue 0) (is_known one.value count) (record { tag = one.value; count = count; first_offset = first.0; first_time = first.1; last_offset = last.0; last_time = last.1 }) rest))) h rest one.more in
-    let three = both_read (stamp_at two.left) (λ first three. and_then (stamp_at three) (λ last rest.
-    tested (BadValue 0) (is_known one.value two.value) (record { tag = one.value; count = two.value; first_offset = first.0; first_time = first.1; last_offset = last.0; last_time = last.1 }) rest)) h rest two.more in
-    let four = both_read (stamp_at three.left) (λ last rest.
-    tested (BadValue 0) (is_known one.value two.value) (record { tag = one.value; count = two.value; first_offset = three.value.0; first_time = three.value.1; last_offset = last.0; last_time = last.1 }) rest) h rest three.more in
-    let p = passed (BadValue 0) (is_known one.value two.value) (record { tag = one.value; count = two.value; first_offset = three.value.0; first_time = three.value.1; last_offset = four.value.0; last_time = four.value.1 }) h four.left rest four.more in
-    let k = known_parts one.value two.value p.0 in
-    let e : two.value ≡ h.count = ap (λ (x : ChunkHead). x.count) p.1 in
-    (omega (arith, k.1, e), omega (arith, k.2, e))
+head_count payload said rest is =
+    let one = both_read (u8_at Short payload) _ said rest is in
+    let two = both_read (u32_at Short one.left) _ said rest one.more in
+    let three = both_read (stamp_at two.left) _ said rest two.more in
+    let four = both_read (stamp_at three.left) _ said rest three.more in
+    let head : ChunkHead = record { count = two.value; first_offset = three.value.0; first_time = three.value.1; last_offset = four.value.0; last_time = four.value.1 } in
+    let p = headed_parts (layout_said one.value) head four.left said rest four.more in
+    let k = count_parts two.value p.0 in
+    let e : two.value ≡ said.1.count = ap (λ (x : ChunkHead). x.count) p.1 in
+    (omega (arith, k.0, e), omega (arith, k.1, e))
+
+abbrev head_read : Reading (Layout × ChunkHead) → Option ChunkHead
+head_read reading = option_map (λ (said : Layout × ChunkHead). said.1) (begun reading)
 
 head_known : (payload : List ℕ) (h : ChunkHead) → head_of payload ≡ Some h → (1 ≤ h.count) × (h.count ≤ 4096)
 head_known payload h is = by (head_at payload) refl
   where
-    by : (r : Reading ChunkHead) → head_at payload ≡ r → (1 ≤ h.count) × (h.count ≤ 4096)
+    by : (r : Reading (Layout × ChunkHead)) → head_at payload ≡ r → (1 ≤ h.count) × (h.count ≤ 4096)
     by (Ok (x, left)) e =
-        let g : Some x ≡ Some h = sym (ap begun e) ∙ is in
-        let same : x ≡ h = cc in
+        let g : Some x.1 ≡ Some h = sym (ap head_read e) ∙ is in
+        let same : x.1 ≡ h = cc in
         subst (λ (y : ChunkHead). (1 ≤ y.count) × (y.count ≤ 4096)) same (head_count payload x left e)
-    by (Err fault) e = absurd (let g : None ≡ Some h = sym (ap begun e) ∙ is in cc)
+    by (Err fault) e = absurd (let g : None ≡ Some h = sym (ap head_read e) ∙ is in cc)
 
 -- a chunk has events, and no more than there may be
 pub chunk_size : (fields : List Field) (payload : List ℕ) (c : List Event) → chunk_of fields payload ≡ Some c → (1 ≤ length c) × (length c ≤ 4096)
@@ -83,9 +87,8 @@ stamp_front : (q x : List ℕ) → 16 ≤ length q → stamp_at (q ++ x) ≡ Ok 
 unfolding stamp_at
 stamp_front q x le = rw (u64_front q x (omega (arith, le)), u64_front (drop 8 q) x (omega (arith, le, length-drop 8 q))) refl
 
-abbrev head_in : ℕ → List ℕ → ChunkHead
-head_in t q = record {
-  tag = t;
+abbrev head_in : List ℕ → ChunkHead
+head_in q = record {
   count = from_be_bytes w32 (take 4 q);
   first_offset = (stamp_in (drop 4 q)).0;
   first_time = (stamp_in (drop 4 q)).1;
@@ -93,7 +96,7 @@ head_in t q = record {
   last_time = (stamp_in (drop 8 (drop 8 (drop 4 q)))).1;
 }
 
-head_front : (t : ℕ) (q x : List ℕ) → 36 ≤ length q → head_at (t ∷ (q ++ x)) ≡ tested (BadValue 0) (is_known t (from_be_bytes w32 (take 4 q))) (head_in t q) (drop 8 (drop 8 (drop 8 (drop 8 (drop 4 q)))) ++ x)
+head_front : (t : ℕ) (q x : List ℕ) → 36 ≤ length q → head_at (t ∷ (q ++ x)) ≡ headed_at (layout_said t) (head_in q) (drop 8 (drop 8 (drop 8 (drop 8 (drop 4 q)))) ++ x)
 unfolding head_at
 head_front t q x le =
     rw (
@@ -103,15 +106,19 @@ head_front t q x le =
       stamp_front (drop 8 (drop 8 (drop 4 q))) x (omega (arith, le, length-drop 4 q, length-drop 8 (drop 4 q), length-drop 8 (drop 8 (drop 4 q)))),
     ) refl
 
-begun_same : (b : Bool) (h : ChunkHead) (l m : List ℕ) → begun (tested {F = EventFault} (BadValue 0) b h l) ≡ begun (tested {F = EventFault} (BadValue 0) b h m)
-begun_same true h l m = refl
-begun_same false h l m = refl
+headed_same : (said : Option Layout) (head : ChunkHead) (l m : List ℕ) → head_read (headed_at said head l) ≡ head_read (headed_at said head m)
+headed_same (Some layout) head l m = by (is_count head.count)
+  where
+    by : (b : Bool) → head_read (tested (BadValue 0) b (layout, head) l) ≡ head_read (tested (BadValue 0) b (layout, head) m)
+    by true = refl
+    by false = refl
+headed_same None head l m = refl
 
 -- a head is that of the first 37 bytes
 head_two : (p x y : List ℕ) → 37 ≤ length p → head_of (p ++ x) ≡ head_of (p ++ y)
 head_two [] x y le = absurd (omega arith)
 head_two (t ∷ q) x y le =
-    ap begun (head_front t q x (omega (arith, le))) ∙ begun_same (is_known t (from_be_bytes w32 (take 4 q))) (head_in t q) _ _ ∙ sym (ap begun (head_front t q y (omega (arith, le))))
+    ap head_read (head_front t q x (omega (arith, le))) ∙ headed_same (layout_said t) (head_in q) _ _ ∙ sym (ap head_read (head_front t q y (omega (arith, le))))
 
 pub head_same : (a b : List ℕ) → take 37 a ≡ take 37 b → head_of a ≡ head_of b
 head_same a b same = by (nat_le 37 (length a)) refl

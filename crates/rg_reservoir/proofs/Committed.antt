@@ -14,6 +14,7 @@ use Rattle.rg_frame.specs.Steps.{Leaves, From, Grown}
 use Rattle.rg_host.specs.Image.{NothingPending}
 use Rattle.rg_cache.specs.Cache.{Cache}
 use Rattle.rg_chunk.specs.Chunks.{chunk_bytes, chunk_of}
+use Rattle.rg_chunk.specs.declared.head.Layout.TheVariants.{Columns}
 use Rattle.rg_chunk.proofs.Chunks.{chunk_back}
 use Rattle.rg_reservoir.proofs.ChunkHeads.{RisesFrom}
 use Rattle.rg_reservoir.specs.declared.kept.Kept.{Kept}
@@ -70,31 +71,31 @@ module _ (v : Image) (may : Image → Type 0) (b : Base) (opened : List Event) (
   pub fewer : length (joined right.chunks ++ opened) ≤ 2 ^ 40
   fewer = omega (arith, length-append (joined right.chunks) opened, right.counted, right.few)
 
-  pub said : chunk_of b.shape.fields (chunk_bytes opened) ≡ Some opened
-  said = chunk_back b.shape.fields opened (record { legal = All-from_recursion (IsEventOf b.shape.fields) opened right.fits; rising = rising_behind (joined right.chunks) opened rises; some = some; few = few })
+  pub said : chunk_of b.shape.fields (chunk_bytes b.shape.fields opened) ≡ Some opened
+  said = chunk_back Columns b.shape.fields opened (record { legal = All-from_recursion (IsEventOf b.shape.fields) opened right.fits; rising = rising_behind (joined right.chunks) opened rises; some = some; few = few })
 
-  pub is_chunk : IsChunkOf b.shape (chunk_bytes opened) opened
+  pub is_chunk : IsChunkOf b.shape (chunk_bytes b.shape.fields opened) opened
   is_chunk = record { said = said; of = All-from_recursion (IsEventOf b.shape.fields) opened right.fits }
 
   pub was : IsLog right.payloads b.end (v b.file)
   was = log_of right.payloads b.end (v b.file) right.has right.end_is
 
 module _ (v w : Image) (may after : Image → Type 0) (b : Base) (opened : List Event) (next time : ℕ) (cache : Cache Kept) (right : IsRight v may b opened next time cache) (end : ℕ) (some : 1 ≤ length opened) (few : length opened ≤ 4096)
-    (step : Grown (chunk_bytes opened) (v b.file) (w b.file)) (end_is : end ≡ b.end + 9 + length (chunk_bytes opened)) where
-  more_payloads : HasPayloads (right.payloads ++ chunk_bytes opened ∷ []) (w b.file)
+    (step : Grown (chunk_bytes b.shape.fields opened) (v b.file) (w b.file)) (end_is : end ≡ b.end + 9 + length (chunk_bytes b.shape.fields opened)) where
+  more_payloads : HasPayloads (right.payloads ++ chunk_bytes b.shape.fields opened ∷ []) (w b.file)
   more_payloads = step right.payloads right.has
 
-  is : IsLog (right.payloads ++ chunk_bytes opened ∷ []) end (w b.file)
-  is = grown_end right.payloads (chunk_bytes opened) b.end end (v b.file) (w b.file) step right.has right.end_is end_is
+  is : IsLog (right.payloads ++ chunk_bytes b.shape.fields opened ∷ []) end (w b.file)
+  is = grown_end right.payloads (chunk_bytes b.shape.fields opened) b.end end (v b.file) (w b.file) step right.has right.end_is end_is
 
   old : LogAt right.payloads b.end (v b.file)
   old = log_at right.payloads b.end (v b.file) (was v may b opened next time cache right some few)
 
-  new : LogMore right.payloads (chunk_bytes opened) b.end end (w b.file)
-  new = log_more right.payloads (chunk_bytes opened) b.end end (w b.file) (last_small right.payloads (chunk_bytes opened) (w b.file) more_payloads) (sym right.end_is) is
+  new : LogMore right.payloads (chunk_bytes b.shape.fields opened) b.end end (w b.file)
+  new = log_more right.payloads (chunk_bytes b.shape.fields opened) b.end end (w b.file) (last_small right.payloads (chunk_bytes b.shape.fields opened) (w b.file) more_payloads) (sym right.end_is) is
 
   legal : HasSchemaFrame b.shape (w b.file) × HasEvents b.shape (joined right.chunks ++ opened) (w b.file)
-  legal = grown_log payloads_one b.shape (joined right.chunks) opened (chunk_bytes opened) (v b.file) (w b.file) right.framed right.legal (is_chunk v may b opened next time cache right some few)
+  legal = grown_log payloads_one b.shape (joined right.chunks) opened (chunk_bytes b.shape.fields opened) (v b.file) (w b.file) right.framed right.legal (is_chunk v may b opened next time cache right some few)
       (rises v may b opened next time cache right some few) (fewer v may b opened next time cache right some few) step
 
   all_here : all_events (Some v) b opened ≡ joined right.chunks ++ opened
@@ -104,7 +105,7 @@ module _ (v w : Image) (may after : Image → Type 0) (b : Base) (opened : List 
   front = new.front ∙ sym old.front
 
   pub here : chunk_at b.shape.fields b.end (w b.file) ≡ Some (opened, end)
-  here = chunk_made b.shape.fields b.end (w b.file) (chunk_bytes opened) opened end new.here (said v may b opened next time cache right some few) new.next_is
+  here = chunk_made b.shape.fields b.end (w b.file) (chunk_bytes b.shape.fields opened) opened end new.here (said v may b opened next time cache right some few) new.next_is
 
   pub chain : Chain b.shape.fields (w b.file) b.first right.chunks b.end
   chain = chain_stays b.shape.fields (v b.file) (w b.file) b.first b.end right.chunks b.end front (λ _. new.more) (omega arith) right.chain
@@ -116,10 +117,10 @@ module _ (v w : Image) (may after : Image → Type 0) (b : Base) (opened : List 
   longer = chain_push b.shape.fields (w b.file) b.first right.chunks b.end opened end chain here
 
   pub ends : chunk_at b.shape.fields end (w b.file) ≡ None
-  ends = ap (chunk_in b.shape.fields end) (log_at (right.payloads ++ chunk_bytes opened ∷ []) end (w b.file) is).none
+  ends = ap (chunk_in b.shape.fields end) (log_at (right.payloads ++ chunk_bytes b.shape.fields opened ∷ []) end (w b.file) is).none
 
   pub closed : IsClosed end (w b.file)
-  closed = (log_at (right.payloads ++ chunk_bytes opened ∷ []) end (w b.file) is).closed
+  closed = (log_at (right.payloads ++ chunk_bytes b.shape.fields opened ∷ []) end (w b.file) is).closed
 
   counted : length (joined (right.chunks ++ opened ∷ [])) ≡ b.committed + length opened
   counted = ap length (joined_push right.chunks opened) ∙ omega (arith, length-append (joined right.chunks) opened, right.counted)
@@ -145,7 +146,7 @@ module _ (v w : Image) (may after : Image → Type 0) (b : Base) (opened : List 
       chunks = right.chunks ++ opened ∷ [];
       chain = longer;
       ends = closed;
-      payloads = right.payloads ++ chunk_bytes opened ∷ [];
+      payloads = right.payloads ++ chunk_bytes b.shape.fields opened ∷ [];
       has = more_payloads;
       end_is = sym is.ends;
       legal = subst (λ (l : List Event). HasEvents b.shape l (w b.file)) (sym (joined_push right.chunks opened)) legal.1;
@@ -211,16 +212,16 @@ module _ (v : Image) (may : Image → Type 0) (b : Base) (opened : List Event) (
   same_events u same = (subst (λ (bytes : List ℕ). HasSchemaFrame b.shape bytes) (sym same) right.framed, subst (λ (bytes : List ℕ). HasEvents b.shape (joined right.chunks) bytes) (sym same) right.legal)
 
   -- within the append, and after it
-  pub adds_events : (u : List ℕ) → length opened ≤ 4096 → Adds opened (v b.file) u → HasSchemaFrame b.shape u × (HasEvents b.shape (joined right.chunks) u ⊎ HasEvents b.shape (joined right.chunks ++ opened) u)
+  pub adds_events : (u : List ℕ) → length opened ≤ 4096 → Adds b.shape.fields opened (v b.file) u → HasSchemaFrame b.shape u × (HasEvents b.shape (joined right.chunks) u ⊎ HasEvents b.shape (joined right.chunks ++ opened) u)
   adds_events u few (inl same) = let e = same_events u same in (e.0, inl e.1)
   adds_events u few (inr (some, grows)) =
-      grows_log payloads_one b.shape (joined right.chunks) opened (chunk_bytes opened) (v b.file) u right.framed right.legal (is_chunk v may b opened next time cache right some few)
+      grows_log payloads_one b.shape (joined right.chunks) opened (chunk_bytes b.shape.fields opened) (v b.file) u right.framed right.legal (is_chunk v may b opened next time cache right some few)
       (rises v may b opened next time cache right some few) (fewer v may b opened next time cache right some few) grows
 
-  pub left_adds : (now : Option Image) → now ≡ Some v → (u : Image) → Leaves b.file (From b.end (Adds opened)) now may u → Adds opened (v b.file) (u b.file)
+  pub left_adds : (now : Option Image) → now ≡ Some v → (u : Image) → Leaves b.file (From b.end (Adds b.shape.fields opened)) now may u → Adds b.shape.fields opened (v b.file) (u b.file)
   left_adds now told u left = left.1 (settled_told now told) v told ends_at
 
-  pub left_events : (now : Option Image) → now ≡ Some v → length opened ≤ 4096 → (u : Image) → Leaves b.file (From b.end (Adds opened)) now may u → CommittedOrAll now b opened u
+  pub left_events : (now : Option Image) → now ≡ Some v → length opened ≤ 4096 → (u : Image) → Leaves b.file (From b.end (Adds b.shape.fields opened)) now may u → CommittedOrAll now b opened u
   left_events now told few u left = subst (λ (o : Option Image). CommittedOrAll o b opened u) (sym told) (by (adds_events (u b.file) few (left_adds now told u left)).1)
     where
       is : stored (Some v) b ≡ joined right.chunks
@@ -261,25 +262,25 @@ true_false : true ≡ false → ⊥
 true_false e = cc
 
 module _ (v : Image) (may : Image → Type 0) (b : Base) (opened : List Event) (next time : ℕ) (cache : Cache Kept) (right : IsRight v may b opened next time cache) where
-  chain_left : (u : List ℕ) → length opened ≤ 4096 → Adds opened (v b.file) u → Chain b.shape.fields u b.first right.chunks b.end
+  chain_left : (u : List ℕ) → length opened ≤ 4096 → Adds b.shape.fields opened (v b.file) u → Chain b.shape.fields u b.first right.chunks b.end
   chain_left u few (inl same) = subst (λ (bytes : List ℕ). Chain b.shape.fields bytes b.first right.chunks b.end) (sym same) right.chain
   chain_left u few (inr (some, grows)) = by (grows right.payloads right.has)
     where
       was_at : LogAt right.payloads b.end (v b.file)
       was_at = log_at right.payloads b.end (v b.file) (log_of right.payloads b.end (v b.file) right.has right.end_is)
 
-      by : HasPayloads right.payloads u ⊎ HasPayloads (right.payloads ++ chunk_bytes opened ∷ []) u → Chain b.shape.fields u b.first right.chunks b.end
+      by : HasPayloads right.payloads u ⊎ HasPayloads (right.payloads ++ chunk_bytes b.shape.fields opened ∷ []) u → Chain b.shape.fields u b.first right.chunks b.end
       by (inl has) =
           let at = log_at right.payloads b.end u (log_of right.payloads b.end u has right.end_is) in
           chain_stays b.shape.fields (v b.file) u b.first b.end right.chunks b.end (at.front ∙ sym was_at.front) at.more (omega arith) right.chain
       by (inr has) =
-          let end = length (frames (right.payloads ++ chunk_bytes opened ∷ [])) in
-          let more = log_more right.payloads (chunk_bytes opened) b.end end u (last_small right.payloads (chunk_bytes opened) u has) (sym right.end_is) (log_of (right.payloads ++ chunk_bytes opened ∷ []) end u has refl) in
+          let end = length (frames (right.payloads ++ chunk_bytes b.shape.fields opened ∷ [])) in
+          let more = log_more right.payloads (chunk_bytes b.shape.fields opened) b.end end u (last_small right.payloads (chunk_bytes b.shape.fields opened) u has) (sym right.end_is) (log_of (right.payloads ++ chunk_bytes b.shape.fields opened ∷ []) end u has refl) in
           chain_stays b.shape.fields (v b.file) u b.first b.end right.chunks b.end (more.front ∙ sym was_at.front) (λ _. more.more) (omega arith) right.chain
 
   pub failed_sound :
       (now : Option Image) (w : Image) (after : Image → Type 0) → now ≡ Some v → length opened ≤ 4096
-      → ((u : Image) → after u → Leaves b.file (From b.end (Adds opened)) now may u) → after w → IsSoundIn w after (failed b) opened next time cache
+      → ((u : Image) → after u → Leaves b.file (From b.end (Adds b.shape.fields opened)) now may u) → after w → IsSoundIn w after (failed b) opened next time cache
   failed_sound now w after told few left left_w =
       let was = stored_is v may b opened next time cache right in
       let is : stored (Some w) (failed b) ≡ joined right.chunks =

@@ -197,12 +197,12 @@ abbrev pub IsTouched : Cache Kept → Cache Kept → List ℕ → Type 0
 IsTouched old new wanted = (done : List ℕ) × (left : List ℕ) × (done ++ left ≡ wanted) × (places new ≡ held_after old done)
 
 -- what a commit of these events may leave of the frame list: the old one, or it and their chunk
-abbrev pub Adds : List Event → List ℕ → List ℕ → Type 0
-Adds opened old new = (new ≡ old) ⊎ ((1 ≤ length opened) × Grows (chunk_bytes opened) old new)
+abbrev pub Adds : List Field → List Event → List ℕ → List ℕ → Type 0
+Adds fields opened old new = (new ≡ old) ⊎ ((1 ≤ length opened) × Grows (chunk_bytes fields opened) old new)
 
 -- the frame list with their chunk behind it, if there are any, which ends at that place
-abbrev pub Added : List Event → ℕ → List ℕ → List ℕ → Type 0
-Added opened next old new = ((opened ≡ []) × (new ≡ old)) ⊎ ((1 ≤ length opened) × Grown (chunk_bytes opened) old new × EndsAt next new)
+abbrev pub Added : List Field → List Event → ℕ → List ℕ → List ℕ → Type 0
+Added fields opened next old new = ((opened ≡ []) × (new ≡ old)) ⊎ ((1 ≤ length opened) × Grown (chunk_bytes fields opened) old new × EndsAt next new)
 
 -- the image's log has the committed events, or these and those of the open chunk
 abbrev pub CommittedOrAll : Option Image → Base → List Event → Image → Type 0

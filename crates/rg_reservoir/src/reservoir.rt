@@ -419,8 +419,8 @@ impl Reservoir {
         // At every moment, and so wherever the run stops.
         ensures events { IsSound (H.now host.old) (H.may host.old) self.old → (base self.old).ended ≡ false → Moments H.clock H.since host.old host.new
             (λ m. CommittedOrAll (H.now host.old) (base self.old) (opened self.old) m.image) }
-        ensures leaves { Writes H.now H.may H.clock H.since H.said 2 (From (base self.old).end (Adds (opened self.old))) host.old host.new }
-        ensures grown { OnOk result (Becomes (H.now host.old) (H.now host.new) (InFile 2 (From (base self.old).end (Added (opened self.old) (base self.new).end)))) }
+        ensures leaves { Writes H.now H.may H.clock H.since H.said 2 (From (base self.old).end (Adds (base self.old).shape.fields (opened self.old))) host.old host.new }
+        ensures grown { OnOk result (Becomes (H.now host.old) (H.now host.new) (InFile 2 (From (base self.old).end (Added (base self.old).shape.fields (opened self.old) (base self.new).end)))) }
         ensures pending { OnOk result (NothingPending 2 (H.now host.old) (H.may host.old) → NothingPending 2 (H.now host.new) (H.may host.new)) }
         ensures reaches { ReachesEnd (log_of self.new) (H.now host.new) }
 
@@ -445,7 +445,7 @@ impl Reservoir {
             return Ok(());
         }
         let mut payload = Vec::new(self.alloc);
-        match self.open.encode(&mut payload) {
+        match self.open.encode(&self.schema, &mut payload) {
             Ok(()) => {}
             Err(_) => return Err(ReservoirFault::Memory),
         }

@@ -10,7 +10,7 @@ use std::alloc::Global;
 use std::process::Abort;
 use std::test::Fail;
 
-/// A schema's frame, the frame of a chunk of two events, and a closed gate.
+/// A schema's frame, the frame of a chunk of two events as rows, and a closed gate.
 const FILE: [u8; 164] = [
     0x01, 0x00, 0x00, 0x00, 0x00, 0x00, 0x00, 0x00, 0x30, 0x53, 0x70, 0x61, 0x79, 0x6d, 0x65, 0x6e,
     0x74, 0x73, 0x28, 0x74, 0x73, 0x2c, 0x63, 0x61, 0x72, 0x64, 0x3a, 0x74, 0x65, 0x78, 0x74, 0x2c,
@@ -23,6 +23,30 @@ const FILE: [u8; 164] = [
     0x00, 0x00, 0x00, 0x00, 0x64, 0x00, 0x00, 0x00, 0x00, 0x00, 0x00, 0x00, 0x01, 0x00, 0x00, 0x00,
     0x00, 0x00, 0x04, 0x93, 0xdf, 0x02, 0x63, 0x31, 0x02, 0x6d, 0x32, 0x00, 0x00, 0x00, 0x00, 0x00,
     0x00, 0x00, 0xc8, 0x00,
+];
+
+/// The same payments as a run writes them, by columns.
+const WRITTEN: [u8; 155] = [
+    0x01, 0x00, 0x00, 0x00, 0x00, 0x00, 0x00, 0x00, 0x30, 0x53, 0x70, 0x61, 0x79, 0x6d, 0x65, 0x6e,
+    0x74, 0x73, 0x28, 0x74, 0x73, 0x2c, 0x63, 0x61, 0x72, 0x64, 0x3a, 0x74, 0x65, 0x78, 0x74, 0x2c,
+    0x6d, 0x65, 0x72, 0x63, 0x68, 0x61, 0x6e, 0x74, 0x3a, 0x74, 0x65, 0x78, 0x74, 0x2c, 0x61, 0x6d,
+    0x6f, 0x75, 0x6e, 0x74, 0x3a, 0x69, 0x6e, 0x74, 0x29, 0x01, 0x00, 0x00, 0x00, 0x00, 0x00, 0x00,
+    0x00, 0x58, 0x4b, 0x00, 0x00, 0x00, 0x02, 0x00, 0x00, 0x00, 0x00, 0x00, 0x00, 0x00, 0x00, 0x00,
+    0x00, 0x00, 0x00, 0x00, 0x00, 0x00, 0x00, 0x00, 0x00, 0x00, 0x00, 0x00, 0x00, 0x00, 0x01, 0x00,
+    0x00, 0x00, 0x00, 0x00, 0x04, 0x93, 0xdf, 0x00, 0x00, 0x00, 0x00, 0x00, 0x00, 0x00, 0x00, 0x01,
+    0x00, 0x01, 0x00, 0x00, 0x00, 0x00, 0x00, 0x00, 0x00, 0x00, 0x04, 0x00, 0x00, 0x00, 0x00, 0x00,
+    0x04, 0x93, 0xdf, 0x02, 0x02, 0x63, 0x31, 0x63, 0x31, 0x02, 0x02, 0x6d, 0x31, 0x6d, 0x32, 0x00,
+    0x00, 0x00, 0x00, 0x00, 0x00, 0x00, 0x64, 0x01, 0x00, 0x64, 0x00,
+];
+
+/// The frame of a chunk of one payment more, and a closed gate.
+const THIRD: [u8; 83] = [
+    0x01, 0x00, 0x00, 0x00, 0x00, 0x00, 0x00, 0x00, 0x49, 0x4b, 0x00, 0x00, 0x00, 0x01, 0x00, 0x00,
+    0x00, 0x00, 0x00, 0x00, 0x00, 0x02, 0x00, 0x00, 0x00, 0x00, 0x00, 0x04, 0x93, 0xe0, 0x00, 0x00,
+    0x00, 0x00, 0x00, 0x00, 0x00, 0x02, 0x00, 0x00, 0x00, 0x00, 0x00, 0x04, 0x93, 0xe0, 0x00, 0x00,
+    0x00, 0x00, 0x00, 0x00, 0x00, 0x02, 0x01, 0x00, 0x00, 0x00, 0x00, 0x00, 0x00, 0x04, 0x93, 0xe0,
+    0x01, 0x00, 0x02, 0x63, 0x31, 0x02, 0x6d, 0x31, 0x00, 0x00, 0x00, 0x00, 0x00, 0x00, 0x00, 0x32,
+    0x01, 0x00, 0x00,
 ];
 
 /// A host whose file 2 has these bytes.
@@ -142,7 +166,7 @@ fn looks(rt: &impl Abort, alloc: Global, cache: u32) -> Result<(u64, u32), Fail>
     let mut reservoir = three(alloc, &mut host, cache)?;
     let first = reservoir.start();
     let last = Spot {
-        place: 146,
+        place: 154,
         index: 0,
         number: 2,
     };
@@ -181,12 +205,16 @@ fn commit_two<H: Host>(
     host: &mut H,
 ) -> Result<(), ReservoirFault>
     requires { ReachesEnd (log_of reservoir.old) (H.now host.old) }
+    ensures { OnOk result (ReachesEnd (log_of reservoir.new) (H.now host.new)) }
 {
     let first = payment(alloc, 0, 0, b"m1", 100)?;
     let second = payment(alloc, 1, 299_999, b"m2", 200)?;
     take(reservoir, first)?;
     take(reservoir, second)?;
-    reservoir.commit(host)
+    match reservoir.commit(host) {
+        Ok(()) => Ok(()),
+        Err(fault) => Err(fault),
+    }
 }
 
 /// A reservoir of payments, with chunks of two events.
@@ -211,7 +239,46 @@ fn a_log_is_written_as_the_format_says(rt: HostRuntime) -> Result<(), Fail> {
     assert_eq!(rt; host.file(2).len(), 58);
     assert_eq!(rt; reservoir.last_time(), None);
     commit_two(alloc, &mut reservoir, &mut host)?;
-    assert_eq!(rt; host.file(2), FILE.as_slice());
+    assert_eq!(rt; host.file(2), WRITTEN.as_slice());
+    Ok(())
+}
+
+#[test]
+fn a_log_of_two_chunks_has_its_gates_where_the_format_says(rt: HostRuntime) -> Result<(), Fail> {
+    let alloc = rt.alloc();
+    let mut host = host_with(alloc, &[])?;
+    let mut reservoir = payments(alloc, &mut host)?;
+    commit_two(alloc, &mut reservoir, &mut host)?;
+    put(
+        &mut reservoir,
+        &mut host,
+        payment(alloc, 2, 300_000, b"m1", 50)?,
+    )?;
+    assert_eq!(rt; host.file(2).len(), 237);
+    assert_eq!(rt; host.file(2).get(..154), WRITTEN.get(..154));
+    assert_eq!(rt; host.file(2).get(154..), Some(THIRD.as_slice()));
+    for (at, gate) in [(0, 1u8), (57, 1), (154, 1), (236, 0)] {
+        assert_eq!(rt; host.file(2).get(at), Some(&gate));
+    }
+    Ok(())
+}
+
+#[test]
+fn a_log_of_rows_goes_on_by_columns(rt: HostRuntime) -> Result<(), Fail> {
+    let alloc = rt.alloc();
+    let mut host = host_with(alloc, &FILE)?;
+    let mut reservoir = payments(alloc, &mut host)?;
+    put(
+        &mut reservoir,
+        &mut host,
+        payment(alloc, 2, 300_000, b"m1", 50)?,
+    )?;
+    assert_eq!(rt; host.file(2).get(..163), FILE.get(..163));
+    assert_eq!(rt; host.file(2).get(163..), Some(THIRD.as_slice()));
+    let mut past = Stored::new(&mut reservoir, &mut host);
+    if walk(&rt, &mut past, &[0, 1, 2]).is_err() {
+        panic!(rt; "a look was refused");
+    }
     Ok(())
 }
 
@@ -270,6 +337,36 @@ fn a_walk_meets_each_frame(rt: HostRuntime) -> Result<(), Fail> {
     Ok(())
 }
 
+/// What a walk says of the chunk behind the first frame.
+fn second(alloc: Global, bytes: &[u8]) -> Result<Result<Option<Stage>, ReservoirFault>, Fail> {
+    let mut host = host_with(alloc, bytes)?;
+    let mut frames = Walk::new(alloc);
+    frames.next(&mut host)?;
+    Ok(frames.next(&mut host))
+}
+
+#[test]
+fn a_chunk_of_bad_columns_is_refused_where_it_stands(rt: HostRuntime) -> Result<(), Fail> {
+    let alloc = rt.alloc();
+    // Offsets that are others than the head's, that don't rise, and that have no width; a width that isn't the
+    // least; texts that are too long; amounts whose base isn't the least one.
+    for (at, byte) in [(110, 1u8), (113, 0), (111, 3), (122, 8), (131, 9), (152, 1)] {
+        let mut bytes = WRITTEN.to_vec(alloc)?;
+        if at < bytes.len() {
+            bytes[at] = byte;
+        }
+        match second(alloc, &bytes)? {
+            Err(fault) => assert_eq!(rt; fault, ReservoirFault::Damaged(57)),
+            Ok(_) => panic!(rt; "a chunk with {byte} at {at} was read"),
+        }
+    }
+    match second(alloc, &WRITTEN)? {
+        Ok(Some(Stage::Chunk(chunk))) => assert_eq!(rt; chunk.count(), 2),
+        _ => panic!(rt; "the sound chunk was refused"),
+    }
+    Ok(())
+}
+
 /// Why a log with this byte in place of the one that stood there isn't attached.
 fn refusal(
     alloc: Global,
@@ -292,7 +389,7 @@ fn refusal(
     Ok(Reservoir::attach(alloc, &mut host, &schema, room).err())
 }
 
-/// The bytes of a log whose frames stand at 0, 22, 84 and 146, and which ends at 208.
+/// The bytes of a log whose frames stand at 0, 22, 88 and 154, and which ends at 220.
 fn sound_bytes(alloc: Global) -> Result<Vec<u8>, Fail> {
     let mut host = host_with(alloc, &[])?;
     three(alloc, &mut host, 1)?;
@@ -304,14 +401,14 @@ fn a_bad_log_is_refused_at_its_first_bad_frame(rt: HostRuntime) -> Result<(), Fa
     let alloc = rt.alloc();
     let bytes = sound_bytes(alloc)?;
     let rows: [(usize, u8, Option<ReservoirFault>); 8] = [
-        (208, 0, None),
+        (220, 0, None),
         (22, 0, None),
         (9, 0x43, Some(ReservoirFault::Damaged(0))),
         (30, 0xff, Some(ReservoirFault::Damaged(22))),
         (31, 0x44, Some(ReservoirFault::Damaged(22))),
         (35, 0, Some(ReservoirFault::Damaged(22))),
-        (105, 0, Some(ReservoirFault::Damaged(84))),
-        (175, 9, Some(ReservoirFault::Damaged(146))),
+        (109, 0, Some(ReservoirFault::Damaged(88))),
+        (183, 9, Some(ReservoirFault::Damaged(154))),
     ];
     for (at, byte, fault) in rows {
         assert_eq!(rt; refusal(alloc, &bytes, at, byte, b"payments(ts)")?, fault);
@@ -332,7 +429,7 @@ fn a_log_of_another_schema_is_refused(rt: HostRuntime) -> Result<(), Fail> {
 #[test]
 fn a_cut_log_is_refused_at_its_last_frame(rt: HostRuntime) -> Result<(), Fail> {
     let bytes = sound_bytes(rt.alloc())?;
-    let cuts: [(usize, u64); 3] = [(22, 0), (83, 22), (208, 146)];
+    let cuts: [(usize, u64); 3] = [(22, 0), (87, 22), (220, 154)];
     for (length, place) in cuts {
         if length <= bytes.len() {
             let fault = refusal(rt.alloc(), &bytes[..length], 0, 1, b"payments(ts)")?;
@@ -378,22 +475,22 @@ fn a_spot_is_named_in_each_of_its_spellings(rt: HostRuntime) -> Result<(), Fail>
     let rows: [(Spot, bool); 16] = [
         (spot(22, 0, 0), true),
         (spot(22, 1, 1), true),
-        (spot(84, 0, 1), true),
-        (spot(84, 1, 2), true),
-        (spot(146, 0, 2), true),
-        (spot(146, 1, 3), true),
-        (spot(208, 0, 3), true),
+        (spot(88, 0, 1), true),
+        (spot(88, 1, 2), true),
+        (spot(154, 0, 2), true),
+        (spot(154, 1, 3), true),
+        (spot(220, 0, 3), true),
         // Another number, a place inside a chunk and one inside a frame's length.
         (spot(22, 0, 1), false),
-        (spot(84, 0, 0), false),
+        (spot(88, 0, 0), false),
         (spot(60, 0, 0), false),
         (spot(23, 0, 0), false),
         // An index one past the count, the schema's frame, and what is behind the end.
         (spot(22, 2, 2), false),
         (spot(0, 0, 0), false),
-        (spot(208, 1, 3), false),
-        (spot(208, 0, 4), false),
-        (spot(209, 0, 3), false),
+        (spot(220, 1, 3), false),
+        (spot(220, 0, 4), false),
+        (spot(221, 0, 3), false),
     ];
     for (spot, want) in rows {
         let is = names_in(&rt, alloc, &bytes, b"payments(ts)", &[spot])?;

@@ -55,17 +55,17 @@ module _ (plan : Planned) (v : Image) (may : Image → Type 0) (b : Base) (opene
       fits = λ events is. subst (λ (l : List Event). length (l ++ opened) ≤ 2 ^ 40) (one_list payloads_one plan.shape plan.shape (joined right.chunks) events (v 2) has_events is) (fewer v may b opened next time cache right some few);
     })
 
-    chunk_is : 1 ≤ length opened → IsChunkOf plan.shape (chunk_bytes opened) opened
-    chunk_is some = subst (λ (s : Shape). IsChunkOf s (chunk_bytes opened) opened) shape (is_chunk v may b opened next time cache right some few)
+    chunk_is : 1 ≤ length opened → IsChunkOf plan.shape (chunk_bytes b.shape.fields opened) opened
+    chunk_is some = subst (λ (s : Shape). IsChunkOf s (chunk_bytes b.shape.fields opened) opened) shape (is_chunk v may b opened next time cache right some few)
 
     pub ends_in : EndsAt b.end (v 2)
     ends_in = subst (λ (f : ℕ). EndsAt b.end (v f)) file (ends_at v may b opened next time cache right)
 
-    adds : (u : Image) → Leaves 2 (From b.end (Adds opened)) (Some v) may u → Adds opened (v 2) (u 2)
+    adds : (u : Image) → Leaves 2 (From b.end (Adds b.shape.fields opened)) (Some v) may u → Adds b.shape.fields opened (v 2) (u 2)
     adds u left = left.1 pending v refl ends_in
 
     -- a moment of a commit
-    pub commit_left : (keep : Option ℕ) (u : Image) → Leaves 2 (From b.end (Adds opened)) (Some v) may u → IsMidStep (store_of plan) keep opened may u
+    pub commit_left : (keep : Option ℕ) (u : Image) → Leaves 2 (From b.end (Adds b.shape.fields opened)) (Some v) may u → IsMidStep (store_of plan) keep opened may u
     commit_left keep u left = by (adds u left)
       where
         x : Image
@@ -74,16 +74,16 @@ module _ (plan : Planned) (v : Image) (may : Image → Type 0) (b : Base) (opene
         same : x 2 ≡ v 2
         same = pending v refl x left.0.1
 
-        by : Adds opened (v 2) (u 2) → IsMidStep (store_of plan) keep opened may u
+        by : Adds b.shape.fields opened (v 2) (u 2) → IsMidStep (store_of plan) keep opened may u
         by (inl old) = stays_mid plan keep opened may x u left.0.1 (all_same 2 x u left.0.2 (old ∙ sym same))
-        by (inr new) = commit_mid plan schema keep (chunk_bytes opened) opened may x u left.0.1 left.0.2 (may_grow new.0 x left.0.1) (chunk_is new.0) (subst (λ (bytes : List ℕ). Grows (chunk_bytes opened) bytes (u 2)) (sym same) new.1)
+        by (inr new) = commit_mid plan schema keep (chunk_bytes b.shape.fields opened) opened may x u left.0.1 left.0.2 (may_grow new.0 x left.0.1) (chunk_is new.0) (subst (λ (bytes : List ℕ). Grows (chunk_bytes b.shape.fields opened) bytes (u 2)) (sym same) new.1)
 
     -- an image after it
-    pub committed_left : (keep : Option ℕ) (w : Image) (after : Image → Type 0) (end : ℕ) → Added opened end (v 2) (w 2) → NothingPending 2 (Some w) after → ((u : Image) → after u → Leaves 2 (From b.end (Adds opened)) (Some v) may u)
+    pub committed_left : (keep : Option ℕ) (w : Image) (after : Image → Type 0) (end : ℕ) → Added b.shape.fields opened end (v 2) (w 2) → NothingPending 2 (Some w) after → ((u : Image) → after u → Leaves 2 (From b.end (Adds b.shape.fields opened)) (Some v) may u)
         → (u : Image) → after u → IsStepped (store_of plan) keep opened may u
     committed_left keep w after end added settled left u one = by added
       where
-        l : Leaves 2 (From b.end (Adds opened)) (Some v) may u
+        l : Leaves 2 (From b.end (Adds b.shape.fields opened)) (Some v) may u
         l = left u one
 
         x : Image
@@ -95,10 +95,10 @@ module _ (plan : Planned) (v : Image) (may : Image → Type 0) (b : Base) (opene
         read : u 2 ≡ w 2
         read = settled w refl u one
 
-        by : Added opened end (v 2) (w 2) → IsStepped (store_of plan) keep opened may u
+        by : Added b.shape.fields opened end (v 2) (w 2) → IsStepped (store_of plan) keep opened may u
         by (inl none) = stays_stepped plan keep opened may x u none.0 l.0.1 (all_same 2 x u l.0.2 (read ∙ none.1 ∙ sym same))
-        by (inr new) = commit_stepped plan schema keep (chunk_bytes opened) opened may x u l.0.1 l.0.2 (may_grow new.0 x l.0.1) (chunk_is new.0)
-            (subst (λ (bytes : List ℕ). Grown (chunk_bytes opened) bytes (u 2)) (sym same) (subst (λ (bytes : List ℕ). Grown (chunk_bytes opened) (v 2) bytes) (sym read) new.1))
+        by (inr new) = commit_stepped plan schema keep (chunk_bytes b.shape.fields opened) opened may x u l.0.1 l.0.2 (may_grow new.0 x l.0.1) (chunk_is new.0)
+            (subst (λ (bytes : List ℕ). Grown (chunk_bytes b.shape.fields opened) bytes (u 2)) (sym same) (subst (λ (bytes : List ℕ). Grown (chunk_bytes b.shape.fields opened) (v 2) bytes) (sym read) new.1))
 
 -- Opening a log: it is as it was, or the schema's frame comes behind a log without a frame.
 module _ (plan : Planned) (legal : IsSchema plan.shape) (keep : Option ℕ) (v : Image) (may : Image → Type 0) (settled : NothingPending 2 (Some v) may) where

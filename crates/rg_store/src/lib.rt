@@ -66,10 +66,10 @@ pub fn law_checkpoints<H: Host>()
 /// open chunk of a sound reservoir, the opening of a log, and a save of a checkpoint that is true.
 pub fn law_steps<H: Host>()
     ensures commits { (host : H) (plan : Planned) (keep : Option ℕ) (r : Reservoir) (u : Image) → IsOpenedFor plan (H.now host) (H.may host) r → length (opened r) ≤ 4096 →
-        Leaves 2 (From (base r).end (Adds (opened r))) (H.now host) (H.may host) u → IsMidStep (store_of plan) keep (opened r) (H.may host) u }
+        Leaves 2 (From (base r).end (Adds (base r).shape.fields (opened r))) (H.now host) (H.may host) u → IsMidStep (store_of plan) keep (opened r) (H.may host) u }
     ensures committed { (host next : H) (plan : Planned) (keep : Option ℕ) (r : Reservoir) (end : ℕ) → IsOpenedFor plan (H.now host) (H.may host) r → length (opened r) ≤ 4096 →
-        Becomes (H.now host) (H.now next) (InFile 2 (From (base r).end (Added (opened r) end))) → NothingPending 2 (H.now next) (H.may next) →
-        ((u : Image) → H.may next u → Leaves 2 (From (base r).end (Adds (opened r))) (H.now host) (H.may host) u) →
+        Becomes (H.now host) (H.now next) (InFile 2 (From (base r).end (Added (base r).shape.fields (opened r) end))) → NothingPending 2 (H.now next) (H.may next) →
+        ((u : Image) → H.may next u → Leaves 2 (From (base r).end (Adds (base r).shape.fields (opened r))) (H.now host) (H.may host) u) →
         (u : Image) → H.may next u → IsStepped (store_of plan) keep (opened r) (H.may host) u }
     ensures opens { (host : H) (plan : Planned) (keep : Option ℕ) (v u : Image) → IsSchema plan.shape → H.now host ≡ Option.Some v → NothingPending 2 (H.now host) (H.may host) →
         Leaves 2 (SchemaAdded (schema_payload plan.shape)) (H.now host) (H.may host) u → IsMidStep (store_of plan) keep [] (H.may host) u × IsStepped (store_of plan) keep [] (H.may host) u }

@@ -13,7 +13,7 @@ pub returns : goal.returns
 returns g c = record {
   commits = λ host plan keep r u o few left.
       let may = g.H.Host.may host in
-      let Now : Option Image → Type 0 = λ i. Leaves 2 (From (base r).end (Adds (opened r))) i may u in
+      let Now : Option Image → Type 0 = λ i. Leaves 2 (From (base r).end (Adds (base r).shape.fields (opened r))) i may u in
       commit_left plan o.sound.0 may (base r) (opened r) (next_of r) (time_of r) (cache_of r) (o.sound.2.right o.going) o.file o.shape few keep u (subst Now o.sound.1 left);
   committed = λ host next plan keep r end o few grown settled left u one.
       let v = o.sound.0 in
@@ -22,7 +22,7 @@ returns g c = record {
       let became = grown.told v o.sound.1 in
       let added = became.2.there (ends_in plan v may (base r) (opened r) (next_of r) (time_of r) (cache_of r) right o.file o.shape few) in
       committed_left plan v may (base r) (opened r) (next_of r) (time_of r) (cache_of r) right o.file o.shape few keep became.0 (g.H.Host.may next) end added (subst (λ i. NothingPending 2 i (g.H.Host.may next)) became.1 settled)
-      (λ x is. subst (λ i. Leaves 2 (From (base r).end (Adds (opened r))) i may x) o.sound.1 (left x is)) u one;
+      (λ x is. subst (λ i. Leaves 2 (From (base r).end (Adds (base r).shape.fields (opened r))) i may x) o.sound.1 (left x is)) u one;
   opens = λ host plan keep v u schema told settled left.
       let may = g.H.Host.may host in
       let here = subst (λ i. NothingPending 2 i may) told settled in

@@ -10,7 +10,7 @@ use Rattle.rg_recover.proofs.commit.commit_open.Goals as goal
 pub returns-in-Ok-clause-within_step : goal.returns-in-Ok-clause-within_step
 returns-in-Ok-clause-within_step g c = λ plan keep log.
     let r = c.args.reservoir.now in
-    writes_within g.H.Host.now g.H.Host.may g.H.Host.clock g.H.Host.since g.H.Host.said (store_of plan) keep (opened r) 2 (From (base r).end (Adds (opened r))) c.args.host.now c.commit.new.host c.commit.ensures.leaves
+    writes_within g.H.Host.now g.H.Host.may g.H.Host.clock g.H.Host.since g.H.Host.said (store_of plan) keep (opened r) 2 (From (base r).end (Adds (base r).shape.fields (opened r))) c.args.host.now c.commit.new.host c.commit.ensures.leaves
     (λ u left. c.law_steps.ensures.commits c.args.host.now plan keep r u log c.requires.few left)
 
 pub returns-in-Ok-clause-settled : goal.returns-in-Ok-clause-settled
@@ -20,7 +20,7 @@ returns-in-Ok-clause-settled g c = λ plan file log apart settled.
 pub returns-in-Err-clause-within_step : goal.returns-in-Err-clause-within_step
 returns-in-Err-clause-within_step g c = λ plan keep log.
     let r = c.args.reservoir.now in
-    writes_within g.H.Host.now g.H.Host.may g.H.Host.clock g.H.Host.since g.H.Host.said (store_of plan) keep (opened r) 2 (From (base r).end (Adds (opened r))) c.args.host.now c.commit.new.host c.commit.ensures.leaves
+    writes_within g.H.Host.now g.H.Host.may g.H.Host.clock g.H.Host.since g.H.Host.said (store_of plan) keep (opened r) 2 (From (base r).end (Adds (base r).shape.fields (opened r))) c.args.host.now c.commit.new.host c.commit.ensures.leaves
     (λ u left. c.law_steps.ensures.commits c.args.host.now plan keep r u log c.requires.few left)
 
 pub returns-in-Ok-clause-stepped : goal.returns-in-Ok-clause-stepped

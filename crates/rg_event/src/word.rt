@@ -2,6 +2,7 @@ ghost use Rattle.std.specs.Prelude.{◌≡◌, ◌≤◌, length, IfOk, IfSome, 
 ghost use Rattle.rg_event.specs.Words.{is_word as word_test};
 
 use rg_bytes::Memory;
+use smallvec::SmallVec;
 use std::alloc::Global;
 use std::cmp::Ordering;
 use std::marker::Model;
@@ -9,10 +10,10 @@ use std::marker::Model;
 /// The greatest length of a text, in bytes.
 const LONGEST_TEXT: usize = 255;
 
-/// A text of a value: UTF-8 of at most 255 bytes.
+/// A text of a value: UTF-8 of at most 255 bytes. One of up to 16 bytes takes no memory of its own.
 #[derive(Debug, Drop)]
 pub struct Word {
-    bytes: Vec<u8>,
+    bytes: SmallVec<u8, 16>,
 }
 
 impl Model for Word {
@@ -37,7 +38,7 @@ impl PartialEq for Word {
     ghost laws = { partial_equiv_from_equiv nat_list_eq_equiv };
 
     fn eq(&self, other: &Word) -> bool {
-        self.bytes == other.bytes
+        self.as_bytes() == other.as_bytes()
     }
 }
 
@@ -79,7 +80,7 @@ impl Ord for Word {
 
     fn cmp(&self, other: &Word) -> Ordering {
         match self.bytes.len().cmp(&other.bytes.len()) {
-            Ordering::Equal => self.bytes.cmp(&other.bytes),
+            Ordering::Equal => self.as_bytes().cmp(other.as_bytes()),
             order => order,
         }
     }
@@ -95,7 +96,7 @@ impl Word {
         if !is_word(text) {
             return Ok(None);
         }
-        let bytes = Vec::from_slice(alloc, text)?;
+        let bytes = SmallVec::from_slice(alloc, text)?;
         Ok(Some(Word { bytes }))
     }
 
@@ -103,7 +104,7 @@ impl Word {
     pub fn copy(&self, alloc: Global) -> Result<Word, Memory>
         ensures { IfOk result (λ word. word ≡ self.now) }
     {
-        let bytes = Vec::from_slice(alloc, &self.bytes)?;
+        let bytes = SmallVec::from_slice(alloc, self.as_bytes())?;
         Ok(Word { bytes })
     }
 
@@ -113,7 +114,7 @@ impl Word {
         ensures legal { IsTrue (word_test self.now) }
         ensures short { length result.now ≤ 255 }
     {
-        &self.bytes
+        self.bytes.as_slice()
     }
 }
 

@@ -342,8 +342,8 @@ pub store_legal : (command : Option Command) (plan : Option (List ℕ)) (store n
 store_legal command plan store new alone Ends (inl shows) = inl shows
 store_legal command plan store new alone Ends (inr refuses) = inr (refuses.0, legal_of plan refuses.1.1.asks refuses.1.1.legal)
 
-pub gap_legal : (command : Option Command) (plan : Option (List ℕ)) (alone : Type 0) (Ends : List ℕ → Type 0) → (first : ℕ) × (command ≡ Some (Run first)) × ((last : List ℕ) × RefusesGap plan first alone last × Ends last) → IsRun command × IsLegal plan
-gap_legal command plan alone Ends refuses = (runs command refuses.0 refuses.1, refuses.2.1.legal)
+pub gap_legal : (command : Option Command) (plan : Option (List ℕ)) (old : Option Image) (alone : Type 0) (Ends : List ℕ → Type 0) → (first : ℕ) × (command ≡ Some (Run first)) × ((last : List ℕ) × RefusesGap plan old first alone last × Ends last) → IsRun command × IsLegal plan
+gap_legal command plan old alone Ends refuses = (runs command refuses.0 refuses.1, legal_of plan refuses.2.1.asks refuses.2.1.legal)
 
 pub read_of : (A B C D : Type 0) → A ⊎ (C × D × B) → A ⊎ B
 read_of A B C D (inl a) = inl a

@@ -4,7 +4,7 @@ use Rattle.std.specs.Prelude.{All}
 use Rattle.std.proofs.lemmas.List.{append-nil}
 use Rattle.rg_host.specs.Image.{Image}
 use Rattle.rg_event.specs.Codec.{IsEventOf}
-use Rattle.rg_event.specs.Rising.{last_time}
+use Rattle.rg_event.specs.Rising.{next_offset, last_time}
 use Rattle.rg_event.specs.Shapes.{Shape}
 use Rattle.rg_event.specs.declared.event.Event.{Event}
 use Rattle.rg_event.specs.declared.schema.Field.{Field}
@@ -47,6 +47,11 @@ begun_keep offsets saved None numbers begun = tt
 begun_keep offsets saved (Some zero) numbers begun = omega arith
 begun_keep offsets saved (Some (suc zero)) numbers begun = omega arith
 begun_keep offsets saved (Some (suc (suc n))) numbers (checkpoint, there, at) = absurd cc
+
+-- the next offset that is kept is the one behind all events
+pub next_is : (now : Option Image) (may : Image → Type 0) (r : Reservoir) (events : List Event) → IsSound now may r → (base r).ended ≡ false → opened r ≡ [] → all_events now (base r) [] ≡ events → next_of r ≡ next_offset events
+next_is now may r events sound going none all =
+    (sound.2.right going).next_is ∙ ap (λ (l : List Event). next_offset (all_events (Some sound.0) (base r) l)) none ∙ ap (λ (o : Option Image). next_offset (all_events o (base r) [])) (sym sound.1) ∙ ap next_offset all
 
 -- no event is in the open chunk still, where the events are the same
 pub none_still : (now then : Option Image) (r s : Reservoir) → base s ≡ base r → opened r ≡ [] → all_events then (base s) (opened s) ≡ all_events now (base r) (opened r) → opened s ≡ []

@@ -10,7 +10,7 @@ ghost use Rattle.rg_log.specs.Log.{schema_payload, HasEvents};
 ghost use Rattle.rg_config.specs.Plans.{planned};
 ghost use Rattle.rg_config.specs.Read.{IsRead};
 ghost use Rattle.rg_reservoir.specs.Attached.{IsOther, IsBadFrame, SchemaAdded};
-ghost use Rattle.rg_reservoir.specs.Kept.{base, opened, room_of, log_of, all_events};
+ghost use Rattle.rg_reservoir.specs.Kept.{base, opened, room_of, log_of, all_events, IsSound};
 ghost use Rattle.rg_restore.specs.Naming.{IsListed};
 ghost use Rattle.rg_open.specs.Opening.{IsOpenable, AreSlots, IsFound};
 ghost use Rattle.rg_open.specs.Settling.{AreSettled};
@@ -61,7 +61,7 @@ pub(crate) fn find<H: Host>(alloc: Global, host: &mut H, plan: &Plan) -> Result<
     ensures found { IsOpenable (planned plan.now) (H.now host.old) (H.may host.old) → AreSettled (H.now host.old) (H.may host.old) →
         IfOk result (λ found. IsFound (planned plan.now) (H.now host.new) (H.may host.new) found.reservoir found.saved) }
     ensures events { (v : Image) (events : List Event) → H.now host.old ≡ Some v → AreSettled (H.now host.old) (H.may host.old) → HasEvents plan.now.schema events (v 2) →
-        IfOk result (λ found. all_events (H.now host.new) (base found.reservoir) [] ≡ events) }
+        IfOk result (λ found. IsSound (H.now host.new) (H.may host.new) found.reservoir × (all_events (H.now host.new) (base found.reservoir) [] ≡ events)) }
     ensures never_damaged { (p : ℕ) → IsOpenable (planned plan.now) (H.now host.old) (H.may host.old) → IsErrOf result (OpenFault.Damaged p) → ⊥ }
     ensures never_differs { IsOpenable (planned plan.now) (H.now host.old) (H.may host.old) → IsErrOf result OpenFault.SchemaDiffers → ⊥ }
     ensures settled { (v : Image) → H.now host.old ≡ Some v → AreSettled (H.now host.old) (H.may host.old) → OnOk result (AreSettled (H.now host.new) (H.may host.new)) }

@@ -2,6 +2,7 @@ ghost use Rattle.std.specs.Prelude.{◌≡◌, ◌⊎◌, ◌≤◌, ◌<◌, �
 ghost use Rattle.std.specs.Option.{ForSome};
 ghost use Rattle.rg_bytes.specs.Counts.{Rose};
 ghost use Rattle.rg_host.specs.Image.{Image};
+ghost use Rattle.rg_event.specs.Rising.{next_offset};
 ghost use Rattle.rg_event.specs.declared.event.Event.{Event};
 ghost use Rattle.rg_frame.specs.Calls.{Writes};
 ghost use Rattle.rg_frame.specs.LogState.{ReachesEnd};
@@ -103,7 +104,7 @@ fn open_settled<H: Host, T: Table, L: Ledger>(
         IfOk result (λ r. IsStarted (planned plan.now) (H.now host.new) (H.may host.new) (T.tells r.0.engine.table) (T.cell r.0.engine.table) r.0.reservoir r.0.engine r.0.texts r.0.keep r.0.saved) }
     ensures settled { (v : Image) → H.now host.old ≡ Some v → AreSettled (H.now host.old) (H.may host.old) → OnOk result (AreSettled (H.now host.new) (H.may host.new)) }
     ensures events { (v : Image) (events : List Event) → H.now host.old ≡ Some v → AreSettled (H.now host.old) (H.may host.old) → HasEvents plan.now.schema events (v 2) →
-        IfOk result (λ r. all_events (H.now host.new) (base r.0.reservoir) [] ≡ events) }
+        IfOk result (λ r. (all_events (H.now host.new) (base r.0.reservoir) [] ≡ events) × (r.1.next ≡ next_offset events)) }
     ensures passed { IsOpenable (planned plan.now) (H.now host.old) (H.may host.old) → AreSettled (H.now host.old) (H.may host.old) →
         IfOk result (λ r. steps.new ≡ steps.old + passed_count plan.now.task (take r.1.from (all_events (H.now host.new) (base r.0.reservoir) [])) (all_events (H.now host.new) (base r.0.reservoir) [])) }
     ensures never_differs { IsOpenable (planned plan.now) (H.now host.old) (H.may host.old) → IfErr result (λ refused. refused.0 ≡ OpenFault.SchemaDiffers → ⊥) }
@@ -202,7 +203,7 @@ pub fn open_store<H: Host, T: Table, L: Ledger>(
 
     // Over any image that is told: its log's events, from where the engine went on, and what was passed.
     ensures settled { (v : Image) → H.now host.old ≡ Some v → OnOk result (AreSettled (H.now host.new) (H.may host.new)) }
-    ensures events { (v : Image) (events : List Event) → H.now host.old ≡ Some v → HasEvents plan.now.schema events (v 2) → IfOk result (λ r. all_events (H.now host.new) (base r.0.reservoir) [] ≡ events) }
+    ensures events { (v : Image) (events : List Event) → H.now host.old ≡ Some v → HasEvents plan.now.schema events (v 2) → IfOk result (λ r. (all_events (H.now host.new) (base r.0.reservoir) [] ≡ events) × (r.1.next ≡ next_offset events)) }
     ensures resumed { (v : Image) → H.now host.old ≡ Some v → IfOk result (λ r.
         IsResumed v (H.now host.new) plan.now.queries plan.now.schema.fields plan.now.task r.0.reservoir r.0.engine r.0.keep r.1.from steps.old steps.new) }
 

@@ -35,7 +35,8 @@ returns-in-Ok-attach-clause-events g c = λ v events told settled has.
     let leaves = c.read_slots.ensures.leaves in
     let fewer = all-fewer g.H.Host.now g.H.Host.may g.H.Host.clock g.H.Host.since g.H.Host.said h m leaves in
     let still = fewer-all_settled g.H.Host.now g.H.Host.may g.H.Host.clock g.H.Host.since g.H.Host.said h m fewer settled in
-    ap (λ (l : List Event). all_events (g.H.Host.now n) (base c.in-Ok-attach.reservoir) l) (sym c.in-Ok-attach.ensures.empty.0) ∙ (c.in-Ok-attach.ensures.sound v events (leaves.now_stays ∙ told) still.log has).1
+    let sound = c.in-Ok-attach.ensures.sound v events (leaves.now_stays ∙ told) still.log has in
+    (sound.0, ap (λ (l : List Event). all_events (g.H.Host.now n) (base c.in-Ok-attach.reservoir) l) (sym c.in-Ok-attach.ensures.empty.0) ∙ sound.1)
 
 pub returns-in-Ok-attach-clause-settled : goal.returns-in-Ok-attach-clause-settled
 returns-in-Ok-attach-clause-settled g c = λ v told settled.

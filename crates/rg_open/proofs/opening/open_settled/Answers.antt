@@ -11,7 +11,7 @@ use Rattle.rg_reservoir.specs.Chain.{IsIllegal}
 use Rattle.rg_reservoir.specs.Kept.{Base, base, all_events}
 use Rattle.rg_restore.specs.Slots.{slot_in, HaveBegun}
 use Rattle.rg_open.specs.Opening.{IsStarted}
-use Rattle.rg_open.proofs.Found.{begun_keep, from_later, from_texts}
+use Rattle.rg_open.proofs.Found.{begun_keep, from_later, from_texts, next_is}
 use Rattle.rg_open.proofs.Settles.{all-fewer, fewer-all_settled, writes-before}
 use Rattle.rg_open.proofs.Unfit.{why}
 use Rattle.rg_open.proofs.opening.open_settled.Goals as goal
@@ -36,9 +36,14 @@ returns-in-Ok-start-clause-settled g c = λ v told settled.
 
 pub returns-in-Ok-start-clause-events : goal.returns-in-Ok-start-clause-events
 returns-in-Ok-start-clause-events g c = λ v events told settled has.
-    ap (λ (o : Option Image). all_events o (base c.start.new.reservoir) []) c.start.ensures.leaves.now_stays
-    ∙ ap (λ (b : Base). all_events (g.H.Host.now c.find.new.host) b []) c.start.ensures.base
-    ∙ c.in-Ok.ensures.events v events told settled has
+    let found = c.in-Ok.ensures.events v events told settled has in
+    let h = g.H.Host.now c.start.new.host in
+    let r = c.start.new.reservoir in
+    let all : all_events h (base r) [] ≡ events =
+        ap (λ (o : Option Image). all_events o (base r) []) c.start.ensures.leaves.now_stays
+        ∙ ap (λ (b : Base). all_events (g.H.Host.now c.find.new.host) b []) c.start.ensures.base
+        ∙ found.1 in
+    (all, next_is h (g.H.Host.may c.start.new.host) r events (c.start.ensures.sound found.0) (ap (λ (b : Base). b.ended) c.start.ensures.base ∙ c.in-Ok.ensures.going.0) c.start.ensures.opened all)
 
 pub returns-in-Ok-start-clause-resumed : goal.returns-in-Ok-start-clause-resumed
 returns-in-Ok-start-clause-resumed g c = λ v told.

@@ -312,6 +312,7 @@ fn run_words<P: Source, I: Source, H: Host>(
     ensures read_only { result ≡ Status.Read → Rose (P.faults plan.old) (P.faults plan.new) ⊎ (IsLegal (P.left plan.old) × IsRun (command_of words.now) × Rose (I.faults input.old) (I.faults input.new)) }
     ensures write_only { result ≡ Status.Write → (ReadsPlan (command_of words.now) → IsLegal (P.left plan.old)) × Rose (H.out_faults host.old) (H.out_faults host.new) }
     ensures limit_only { result ≡ Status.Limit → (ReadsPlan (command_of words.now) × IsLonger 65536 (P.left plan.old)) ⊎ (IsLegal (P.left plan.old) × IsRun (command_of words.now) × IsLonger (2 ^ 50) (I.left input.old)) }
+    ensures failure_told { (result ≡ Status.Ok) ⊎ (result ≡ Status.Plan) ⊎ (result ≡ Status.Store) ⊎ (result ≡ Status.Gap) ⊎ EndsWith (H.said host.new) (status_line result) ⊎ Rose (H.out_faults host.old) (H.out_faults host.new) }
     ensures possible_only { IsPossible result }
     ensures store_never { IsRun (command_of words.now) → ToldRun (P.left plan.old) (I.left input.old) (H.now host.old) (H.may host.old) (H.said host.old) → result ≢ Status.Store }
     ensures refusal_told { result ≡ Status.Plan → TellsFault (P.left plan.old) refusal.new }
@@ -428,6 +429,9 @@ pub fn railgun<P: Source, I: Source, H: Host>(
     ensures write_only { result ≡ Status.Write → (ReadsPlan (command_of words.now) → IsLegal (P.left plan.old)) × Rose (H.out_faults host.old) (H.out_faults host.new) }
     ensures limit_only { result ≡ Status.Limit → (ReadsPlan (command_of words.now) × IsLonger 65536 (P.left plan.old)) ⊎ (IsLegal (P.left plan.old) × IsRun (command_of words.now) × IsLonger (2 ^ 50) (I.left input.old)) }
     ensures possible_only { IsPossible result }
+
+    // Words that are refused, and what failed, are told last over every host, unless a put failed; the causes say so of a store and a gap.
+    ensures failure_told { (result ≡ Status.Ok) ⊎ (result ≡ Status.Plan) ⊎ (result ≡ Status.Store) ⊎ (result ≡ Status.Gap) ⊎ EndsWith (H.said host.new) (status_line result) ⊎ Rose (H.out_faults host.old) (H.out_faults host.new) }
 
     // A store that is ready for a run is never refused.
     ensures store_never { IsRun (command_of words.now) → ToldRun (P.left plan.old) (I.left input.old) (H.now host.old) (H.may host.old) (H.said host.old) → result ≢ Status.Store }

@@ -43,7 +43,7 @@ returns-in-Ok-start-clause-events g c = λ v events told settled has.
         ap (λ (o : Option Image). all_events o (base r) []) c.start.ensures.leaves.now_stays
         ∙ ap (λ (b : Base). all_events (g.H.Host.now c.find.new.host) b []) c.start.ensures.base
         ∙ found.1 in
-    (all, next_is h (g.H.Host.may c.start.new.host) r events (c.start.ensures.sound found.0) (ap (λ (b : Base). b.ended) c.start.ensures.base ∙ c.in-Ok.ensures.going.0) c.start.ensures.opened all)
+    (all, c.next_offset.ensures ∙ next_is h (g.H.Host.may c.start.new.host) r events (c.start.ensures.sound found.0) (ap (λ (b : Base). b.ended) c.start.ensures.base ∙ c.in-Ok.ensures.going.0) c.start.ensures.opened all)
 
 pub returns-in-Ok-start-clause-resumed : goal.returns-in-Ok-start-clause-resumed
 returns-in-Ok-start-clause-resumed g c = λ v told.

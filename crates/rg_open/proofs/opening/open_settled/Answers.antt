@@ -10,7 +10,10 @@ use Rattle.rg_reservoir.specs.Attached.{SchemaAdded}
 use Rattle.rg_reservoir.specs.Chain.{IsIllegal}
 use Rattle.rg_reservoir.specs.Kept.{Base, base, all_events}
 use Rattle.rg_restore.specs.Slots.{slot_in, HaveBegun}
+use Rattle.rg_event.specs.declared.event.Event.{Event}
+use Rattle.rg_open.specs.Blame.{opened_list}
 use Rattle.rg_open.specs.Opening.{IsStarted}
+use Rattle.rg_open.proofs.Blame.{amiss_in}
 use Rattle.rg_open.proofs.Found.{begun_keep, from_later, from_texts}
 use Rattle.rg_open.proofs.Settles.{all-fewer, fewer-all_settled, writes-before}
 use Rattle.rg_open.proofs.Unfit.{why}
@@ -100,3 +103,16 @@ returns-in-Err-clause-why g c = λ v told unfit.
 
 pub returns-in-Err-start-clause-why : goal.returns-in-Err-start-clause-why
 returns-in-Err-start-clause-why g c = λ v told unfit. absurd (c.in-Ok.ensures.exact v told unfit)
+
+pub returns-in-Err-start-clause-bad : goal.returns-in-Err-start-clause-bad
+returns-in-Err-start-clause-bad g c = λ v events n told settled has tells is.
+    let found = c.in-Ok.found in
+    let log = c.in-Ok.ensures.log v events told settled has in
+    record {
+      saved = found.saved;
+      slots = c.in-Ok.ensures.slots v told;
+      payloads = has.1.payloads;
+      has = has.1.has;
+      amiss = amiss_in (planned c.args.plan.now) (g.H.Host.now c.find.new.host) (g.H.Host.may c.find.new.host) found.reservoir log c.in-Ok.ensures.empty.0 (opened_list c.args.plan.now.schema has.1.payloads) (c.in-Ok.ensures.list v has.1.payloads told has.1.has) events found.saved n
+          (ap (λ (l : List Event). all_events (g.H.Host.now c.find.new.host) (base found.reservoir) l) c.in-Ok.ensures.empty.0 ∙ c.in-Ok.ensures.events v events told settled has) (c.in-Err-start.ensures.bad n log tells is);
+    }

@@ -18,10 +18,12 @@ use Rattle.rg_listing.specs.Stops.{StopsAt}
 use Rattle.rg_listing.specs.Listing.{check_text}
 use Rattle.rg_listing.proofs.Stopped.{nothing_whole}
 use Rattle.railgun.specs.Causes.{RefusesStore, RefusesGap}
-use Rattle.railgun.specs.Call.{CarriesRun, IsRun, ReadsPlan, ShowsStore, Told, ToldPlan, plan_text, ForText, last_line, refusal_line, refusal_of, line_for, IsLegal, IsRefused, IsDamaged, IsUndamaged, IsPossible, status_by, plan_status, store_status, status_for}
+use Rattle.railgun.specs.Call.{CarriesRun, IsRun, ReadsPlan, ShowsStore, Told, ToldPlan, plan_text, ForText, last_line, refusal_line, refusal_of, line_for, ending_status, ending_line, IsLegal, IsRefused, IsDamaged, IsUndamaged, IsPossible, status_by, plan_status, store_status, status_for}
 use Rattle.railgun.specs.declared.command.Command.{Command}
 use Rattle.railgun.specs.declared.command.Command.TheVariants.{Run, Check, Dump, Info}
 use Rattle.railgun.specs.declared.status.Status.{Status}
+use Rattle.railgun.specs.declared.ending.Ending.{Ending}
+use Rattle.railgun.specs.declared.ending.Ending.TheVariants as ends
 use Rattle.railgun.specs.declared.status.Status.TheVariants.{Ok, Usage, Plan as BadPlan, Store, Read, Write, Disk, Limit, Memory, Gap, Differs}
 use Rattle.railgun.proofs.Plans.{one_plan}
 
@@ -342,9 +344,16 @@ pub store_legal : (command : Option Command) (plan : Option (List ℕ)) (store n
 store_legal command plan store new alone Ends (inl shows) = inl shows
 store_legal command plan store new alone Ends (inr refuses) = inr (refuses.0, legal_of plan refuses.1.1.asks refuses.1.1.legal)
 
-pub gap_legal : (command : Option Command) (plan : Option (List ℕ)) (alone : Type 0) (Ends : List ℕ → Type 0) → (first : ℕ) × (command ≡ Some (Run first)) × ((last : List ℕ) × RefusesGap plan first alone last × Ends last) → IsRun command × IsLegal plan
-gap_legal command plan alone Ends refuses = (runs command refuses.0 refuses.1, refuses.2.1.legal)
+pub gap_legal : (command : Option Command) (plan : Option (List ℕ)) (old : Option Image) (alone : Type 0) (Ends : List ℕ → Type 0) → (first : ℕ) × (command ≡ Some (Run first)) × ((last : List ℕ) × RefusesGap plan old first alone last × Ends last) → IsRun command × IsLegal plan
+gap_legal command plan old alone Ends refuses = (runs command refuses.0 refuses.1, legal_of plan refuses.2.1.asks refuses.2.1.legal)
 
 pub read_of : (A B C D : Type 0) → A ⊎ (C × D × B) → A ⊎ B
 read_of A B C D (inl a) = inl a
 read_of A B C D (inr b) = inr b.2
+
+-- an ending that refuses neither a plan nor a store nor an input has the last line of its status
+pub own_line : (ending : Ending) → (ending_status ending ≡ BadPlan) ⊎ (ending_status ending ≡ Store) ⊎ (ending_status ending ≡ Gap) ⊎ (ending_line ending ≡ last_line (ending_status ending))
+own_line (ends.Refused line refusal) = inl refl
+own_line (ends.Store line) = inr (inl refl)
+own_line (ends.Gap line) = inr (inr (inl refl))
+own_line (ends.Failed status) = inr (inr (inr refl))

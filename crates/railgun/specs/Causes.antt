@@ -2,11 +2,14 @@
 use Rattle.std.specs.Prelude.{◌≡◌, ◌⊎◌, ℕ, ◌<◌, List, Option, Some, IfSome}
 use Rattle.std.specs.Option.{ForSome}
 use Rattle.rg_bytes.specs.Known.{after}
+use Rattle.rg_event.specs.Rising.{next_offset}
+use Rattle.rg_event.specs.declared.event.Event.{Event}
 use Rattle.rg_host.specs.Image.{Image}
 use Rattle.rg_config.specs.Plans.{Planned}
 use Rattle.rg_reservoir.specs.Chain.{IsIllegal}
+use Rattle.rg_store.specs.Stores.{Has}
 use Rattle.rg_open.specs.Unfit.{HasOtherSchema, HasBadFrame}
-use Rattle.railgun.specs.Call.{damage_line, schema_line, state_line, gap_line, IsLegal}
+use Rattle.railgun.specs.Call.{damage_line, schema_line, state_line, gap_line}
 use Rattle.railgun.specs.Plan.{IsPlan}
 
 -- the image says that its log is damaged there, or the image that is left says so
@@ -27,10 +30,16 @@ pub record RefusesStore (plan : Option (List ℕ)) (old new : Option Image) (alo
   pub legal : IfSome plan (λ bytes. IsPlan bytes asks)
   pub line : IsStoreLine asks old new alone last
 
+-- The next offset is the one behind all events of the log, where the image is told and its log is legal.
+abbrev pub IsNextOf : Planned → Option Image → ℕ → Type 0
+IsNextOf plan now next = (v : Image) (events : List Event) → now ≡ Some v → Has plan events v → next ≡ next_offset events
+
 -- The plan is legal, and its run refused the input, whose first line has that offset, with this last line: the next offset is a smaller one.
-pub record RefusesGap (plan : Option (List ℕ)) (first : ℕ) (alone : Type 0) (last : List ℕ) : Type 0 where
-  pub legal : IsLegal plan
+pub record RefusesGap (plan : Option (List ℕ)) (old : Option Image) (first : ℕ) (alone : Type 0) (last : List ℕ) : Type 0 where
+  pub asks : Planned
+  pub legal : IfSome plan (λ bytes. IsPlan bytes asks)
   pub next : ℕ
+  pub next_is : IsNextOf asks old next
   pub behind : next < first
   pub line : last ≡ gap_line first next
   pub left_alone : alone

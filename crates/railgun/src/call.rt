@@ -174,7 +174,7 @@ fn run_with_plan<P: Source, I: Source, H: Host>(
     ensures refused { IfErr result (λ ending. ending_status ending ≡ Status.Plan → IsRefused (P.left plan.old)) }
     ensures told { IfErr result (λ ending. ending_status ending ≡ Status.Plan → TellsFault (P.left plan.old) (ending_refusal ending)) }
     ensures store { IfErr result (λ ending. ending_status ending ≡ Status.Store → RefusesStore (P.left plan.old) (H.now host.old) (H.now host.new) (input.new ≡ input.old) (ending_line ending)) }
-    ensures gap { IfErr result (λ ending. ending_status ending ≡ Status.Gap → RefusesGap (P.left plan.old) first (input.new ≡ input.old) (ending_line ending)) }
+    ensures gap { IfErr result (λ ending. ending_status ending ≡ Status.Gap → RefusesGap (P.left plan.old) (H.now host.old) first (input.new ≡ input.old) (ending_line ending)) }
     ensures disk { IfErr result (λ ending. ending_status ending ≡ Status.Disk → IsLegal (P.left plan.old) × Rose (H.disk_faults host.old) (H.disk_faults host.new)) }
     ensures read { IfErr result (λ ending. ending_status ending ≡ Status.Read → Rose (P.faults plan.old) (P.faults plan.new) ⊎ (IsLegal (P.left plan.old) × Rose (I.faults input.old) (I.faults input.new))) }
     ensures write { IfErr result (λ ending. ending_status ending ≡ Status.Write → IsLegal (P.left plan.old) × Rose (H.out_faults host.old) (H.out_faults host.new)) }
@@ -225,7 +225,7 @@ fn run_command<P: Source, I: Source, H: Host>(
     ensures limit { IfErr result (λ ending. ending_status ending ≡ Status.Limit → (ReadsPlan (Some command) × IsLonger 65536 (P.left plan.old)) ⊎ (IsLegal (P.left plan.old) × IsRun (Some command) × IsLonger (2 ^ 50) (I.left input.old))) }
     ensures store { IfErr result (λ ending. ending_status ending ≡ Status.Store → (ShowsStore (Some command) × IsDamaged (H.now host.old)) ⊎ (IsRun (Some command) × RefusesStore (P.left plan.old) (H.now host.old) (H.now host.new) (input.new ≡ input.old) (ending_line ending))) }
     ensures all_before { IfErr result (λ ending. ending_status ending ≡ Status.Store → ShowsStore (Some command) → ForSome (H.now host.old) (λ image. Puts H.said H.clock H.since host.old host.new (ended (before_damage (Some command) image)) × (ending_line ending ≡ damage_line (damage_of (image 2))))) }
-    ensures gap { IfErr result (λ ending. ending_status ending ≡ Status.Gap → (first : ℕ) × (command ≡ Command.Run first) × RefusesGap (P.left plan.old) first (input.new ≡ input.old) (ending_line ending)) }
+    ensures gap { IfErr result (λ ending. ending_status ending ≡ Status.Gap → (first : ℕ) × (command ≡ Command.Run first) × RefusesGap (P.left plan.old) (H.now host.old) first (input.new ≡ input.old) (ending_line ending)) }
     ensures disk { IfErr result (λ ending. ending_status ending ≡ Status.Disk → (ShowsStore (Some command) ⊎ (IsRun (Some command) × IsLegal (P.left plan.old))) × Rose (H.disk_faults host.old) (H.disk_faults host.new)) }
     ensures possible { IfErr result (λ ending. IsPossible (ending_status ending) × (ending_status ending ≢ Status.Ok) × (ending_status ending ≢ Status.Usage)) }
     ensures plan_first { (status_after result ≡ Status.Plan) ⊎ TellsNoPlan (P.left plan.old) → input.new ≡ input.old }
@@ -307,11 +307,12 @@ fn run_words<P: Source, I: Source, H: Host>(
     ensures store_always { IsRun (command_of words.now) → (bytes : List ℕ) (asks : Planned) (v : Image) → P.left plan.old ≡ Some bytes → IsPlan bytes asks → H.now host.old ≡ Some v → IsUnfit asks v → (input.new ≡ input.old)
         × IsTurnedAway H.now H.may H.clock H.since H.said asks v (Rose (P.faults plan.old) (P.faults plan.new)) (Rose (H.out_faults host.old) (H.out_faults host.new)) result host.old host.new }
     ensures gap_only { result ≡ Status.Gap → (first : ℕ) × (command_of words.now ≡ Some (Command.Run first))
-        × ((last : List ℕ) × RefusesGap (P.left plan.old) first (input.new ≡ input.old) last × (EndsWith (H.said host.new) last ⊎ Rose (H.out_faults host.old) (H.out_faults host.new))) }
+        × ((last : List ℕ) × RefusesGap (P.left plan.old) (H.now host.old) first (input.new ≡ input.old) last × (EndsWith (H.said host.new) last ⊎ Rose (H.out_faults host.old) (H.out_faults host.new))) }
     ensures disk_only { result ≡ Status.Disk → (ShowsStore (command_of words.now) ⊎ (IsRun (command_of words.now) × IsLegal (P.left plan.old))) × Rose (H.disk_faults host.old) (H.disk_faults host.new) }
     ensures read_only { result ≡ Status.Read → Rose (P.faults plan.old) (P.faults plan.new) ⊎ (IsLegal (P.left plan.old) × IsRun (command_of words.now) × Rose (I.faults input.old) (I.faults input.new)) }
     ensures write_only { result ≡ Status.Write → (ReadsPlan (command_of words.now) → IsLegal (P.left plan.old)) × Rose (H.out_faults host.old) (H.out_faults host.new) }
     ensures limit_only { result ≡ Status.Limit → (ReadsPlan (command_of words.now) × IsLonger 65536 (P.left plan.old)) ⊎ (IsLegal (P.left plan.old) × IsRun (command_of words.now) × IsLonger (2 ^ 50) (I.left input.old)) }
+    ensures failure_told { (result ≡ Status.Ok) ⊎ (result ≡ Status.Plan) ⊎ (result ≡ Status.Store) ⊎ (result ≡ Status.Gap) ⊎ EndsWith (H.said host.new) (status_line result) ⊎ Rose (H.out_faults host.old) (H.out_faults host.new) }
     ensures possible_only { IsPossible result }
     ensures store_never { IsRun (command_of words.now) → ToldRun (P.left plan.old) (I.left input.old) (H.now host.old) (H.may host.old) (H.said host.old) → result ≢ Status.Store }
     ensures refusal_told { result ≡ Status.Plan → TellsFault (P.left plan.old) refusal.new }
@@ -422,12 +423,15 @@ pub fn railgun<P: Source, I: Source, H: Host>(
         × IsTurnedAway H.now H.may H.clock H.since H.said asks v (Rose (P.faults plan.old) (P.faults plan.new)) (Rose (H.out_faults host.old) (H.out_faults host.new)) result host.old host.new }
 
     ensures gap_only { result ≡ Status.Gap → (first : ℕ) × (command_of words.now ≡ Some (Command.Run first))
-        × ((last : List ℕ) × RefusesGap (P.left plan.old) first (input.new ≡ input.old) last × (EndsWith (H.said host.new) last ⊎ Rose (H.out_faults host.old) (H.out_faults host.new))) }
+        × ((last : List ℕ) × RefusesGap (P.left plan.old) (H.now host.old) first (input.new ≡ input.old) last × (EndsWith (H.said host.new) last ⊎ Rose (H.out_faults host.old) (H.out_faults host.new))) }
     ensures disk_only { result ≡ Status.Disk → (ShowsStore (command_of words.now) ⊎ (IsRun (command_of words.now) × IsLegal (P.left plan.old))) × Rose (H.disk_faults host.old) (H.disk_faults host.new) }
     ensures read_only { result ≡ Status.Read → Rose (P.faults plan.old) (P.faults plan.new) ⊎ (IsLegal (P.left plan.old) × IsRun (command_of words.now) × Rose (I.faults input.old) (I.faults input.new)) }
     ensures write_only { result ≡ Status.Write → (ReadsPlan (command_of words.now) → IsLegal (P.left plan.old)) × Rose (H.out_faults host.old) (H.out_faults host.new) }
     ensures limit_only { result ≡ Status.Limit → (ReadsPlan (command_of words.now) × IsLonger 65536 (P.left plan.old)) ⊎ (IsLegal (P.left plan.old) × IsRun (command_of words.now) × IsLonger (2 ^ 50) (I.left input.old)) }
     ensures possible_only { IsPossible result }
+
+    // Words that are refused, and what failed, are told last over every host, unless a put failed; the causes say so of a store and a gap.
+    ensures failure_told { (result ≡ Status.Ok) ⊎ (result ≡ Status.Plan) ⊎ (result ≡ Status.Store) ⊎ (result ≡ Status.Gap) ⊎ EndsWith (H.said host.new) (status_line result) ⊎ Rose (H.out_faults host.old) (H.out_faults host.new) }
 
     // A store that is ready for a run is never refused.
     ensures store_never { IsRun (command_of words.now) → ToldRun (P.left plan.old) (I.left input.old) (H.now host.old) (H.may host.old) (H.said host.old) → result ≢ Status.Store }

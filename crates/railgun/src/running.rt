@@ -11,7 +11,7 @@ ghost use Rattle.rg_open.specs.Within.{IsWithinOpening};
 ghost use Rattle.rg_run.specs.Begun.{IsReady, begun_by};
 ghost use Rattle.rg_run.specs.Reading.{IsLonger, IsWithin};
 ghost use Rattle.railgun.specs.Call.{EndsRun, ending_status, ending_line, status_after, line_after, gap_line};
-ghost use Rattle.railgun.specs.Causes.{IsStoreLine};
+ghost use Rattle.railgun.specs.Causes.{IsStoreLine, IsNextOf};
 ghost use Rattle.railgun.specs.Stored.{Went};
 ghost use Rattle.railgun.specs.TurnedAway.{EndsUnfit, EndsBehind};
 
@@ -68,7 +68,7 @@ pub fn run<I: Source, H: Host, L: Ledger>(
     ensures unfit { (v : Image) → H.now host.old ≡ Some v → IsUnfit (planned plan.now) v →
         (input.new ≡ input.old) × IsLeftAlone H.now H.may H.clock H.since H.said v host.old host.new × EndsUnfit (planned plan.now) v ⊥ (status_after result) (line_after result) }
     ensures store { IfErr result (λ ending. ending_status ending ≡ Status.Store → IsStoreLine (planned plan.now) (H.now host.old) (H.now host.new) (input.new ≡ input.old) (ending_line ending)) }
-    ensures gap { IfErr result (λ ending. ending_status ending ≡ Status.Gap → (next : ℕ) × (next < first) × (ending_line ending ≡ gap_line first next) × (input.new ≡ input.old)) }
+    ensures gap { IfErr result (λ ending. ending_status ending ≡ Status.Gap → (next : ℕ) × IsNextOf (planned plan.now) (H.now host.old) next × (next < first) × (ending_line ending ≡ gap_line first next) × (input.new ≡ input.old)) }
     ensures disk { IfErr result (λ ending. ending_status ending ≡ Status.Disk → Rose (H.disk_faults host.old) (H.disk_faults host.new)) }
     ensures read { IfErr result (λ ending. ending_status ending ≡ Status.Read → Rose (I.faults input.old) (I.faults input.new)) }
     ensures limit { IfErr result (λ ending. ending_status ending ≡ Status.Limit → IsLonger (2 ^ 50) (I.left input.old)) }

@@ -1,15 +1,12 @@
 -- A store that was found, and the engine that is started over it.
 use Rattle.std.proofs.Common.{◌≡◌, ◌∙◌, ◌↔◌, ℕ, zero, suc, ◌<◌, ◌+◌, Bool, false, List, [], ◌∷◌, length, Option, Some, None, refl, sym, ap, subst, arith}
 use Rattle.std.specs.Prelude.{All}
-use Rattle.std.proofs.lemmas.List.{append-nil}
 use Rattle.rg_host.specs.Image.{Image}
-use Rattle.rg_event.specs.Codec.{IsEventOf}
-use Rattle.rg_event.specs.Rising.{last_time}
-use Rattle.rg_event.specs.Shapes.{Shape}
+use Rattle.rg_event.specs.Rising.{next_offset, last_time}
 use Rattle.rg_event.specs.declared.event.Event.{Event}
 use Rattle.rg_event.specs.declared.schema.Field.{Field}
 use Rattle.rg_past.specs.declared.past.Spot.{Spot}
-use Rattle.rg_log.specs.Log.{joined, HasEvents}
+use Rattle.rg_log.specs.Log.{joined}
 use Rattle.rg_log.specs.Spots.{SpotIn}
 use Rattle.rg_config.specs.Plans.{Planned}
 use Rattle.rg_config.specs.Read.{IsSaid}
@@ -24,8 +21,6 @@ use Rattle.rg_checkpoint.specs.Slots.{HasSlot, IsSlot, IsKeep}
 use Rattle.rg_restore.specs.declared.choosing.Saved.{Saved}
 use Rattle.rg_restore.specs.Fit.{IsFit}
 use Rattle.rg_restore.specs.Naming.{HeadsName, NamesIn}
-use Rattle.rg_restore.specs.NamingLaws.{sound_names}
-use Rattle.rg_restore.specs.Opening.{CanStand}
 use Rattle.rg_restore.specs.Slots.{slot_in, AreTruthful, IsFrom, HaveBegun}
 use Rattle.rg_restore.specs.Truthful.{IsTruthful, EngineStands}
 use Rattle.rg_restore.proofs.RowKinds.{truthful_fits}
@@ -34,12 +29,12 @@ use Rattle.rg_restore.proofs.Trying.{fit_same}
 use Rattle.rg_reservoir.specs.Kept.{Base, base, opened, next_of, time_of, cache_of, all_events, IsSound, IsRight, Spells}
 use Rattle.rg_reservoir.specs.GoingLaws.{all_long}
 use Rattle.rg_reservoir.specs.declared.reservoir.Reservoir.{Reservoir}
-use Rattle.rg_reservoir.proofs.Spelled.{spelled_here}
 use Rattle.rg_store.specs.Truth.{texts_of, IsTrueOf}
 use Rattle.rg_store.specs.Opened.{IsKept}
-use Rattle.rg_store.proofs.Sound.{framed, has_events, all_are}
+use Rattle.rg_store.proofs.Sound.{framed}
 use Rattle.rg_store.proofs.Saving.{of_plan}
 use Rattle.rg_open.specs.Opening.{IsFound, IsStarted}
+use Rattle.rg_open.proofs.Logs as log
 
 -- the slot that was used is one of the two
 pub begun_keep : (offsets : List ℕ) (saved : Saved) (keep : Option ℕ) (numbers : List ℕ) → HaveBegun offsets (slot_in saved) keep numbers → IsKeep keep
@@ -47,6 +42,11 @@ begun_keep offsets saved None numbers begun = tt
 begun_keep offsets saved (Some zero) numbers begun = omega arith
 begun_keep offsets saved (Some (suc zero)) numbers begun = omega arith
 begun_keep offsets saved (Some (suc (suc n))) numbers (checkpoint, there, at) = absurd cc
+
+-- the next offset that is kept is the one behind all events
+pub next_is : (now : Option Image) (may : Image → Type 0) (r : Reservoir) (events : List Event) → IsSound now may r → (base r).ended ≡ false → opened r ≡ [] → all_events now (base r) [] ≡ events → next_of r ≡ next_offset events
+next_is now may r events sound going none all =
+    (sound.2.right going).next_is ∙ ap (λ (l : List Event). next_offset (all_events (Some sound.0) (base r) l)) none ∙ ap (λ (o : Option Image). next_offset (all_events o (base r) [])) (sym sound.1) ∙ ap next_offset all
 
 -- no event is in the open chunk still, where the events are the same
 pub none_still : (now then : Option Image) (r s : Reservoir) → base s ≡ base r → opened r ≡ [] → all_events then (base s) (opened s) ≡ all_events now (base r) (opened r) → opened s ≡ []
@@ -90,38 +90,11 @@ module _ (plan : Planned) (now : Option Image) (may : Image → Type 0) (r : Res
   abbrev image : Image
   image = found.reservoir.sound.0
 
-  told : now ≡ Some image
-  told = found.reservoir.sound.1
-
-  right : IsRight image may (base r) [] (next_of r) (time_of r) (cache_of r)
-  right = subst (λ (l : List Event). IsRight image may (base r) l (next_of r) (time_of r) (cache_of r)) found.empty (found.reservoir.sound.2.right found.reservoir.going)
+  abbrev right : IsRight image may (base r) [] (next_of r) (time_of r) (cache_of r)
+  right = log.right plan now may r found.reservoir found.empty
 
   abbrev pub all : List Event
   all = all_events now (base r) (opened r)
-
-  has : HasEvents plan.shape (joined right.chunks) (image 2)
-  has = has_events plan image may (base r) [] (next_of r) (time_of r) (cache_of r) right found.reservoir.file found.reservoir.shape
-
-  all_is : all ≡ joined right.chunks
-  all_is = ap (λ (l : List Event). all_events now (base r) l) found.empty
-      ∙ ap (λ (i : Option Image). all_events i (base r) []) told
-      ∙ all_are plan image may (base r) [] (next_of r) (time_of r) (cache_of r) right found.reservoir.file found.reservoir.shape
-      ∙ append-nil (joined right.chunks)
-
-  -- what the log spells is spelled
-  spelled : (spot : Spot) → SpotIn plan.shape (image 2) spot → Spells now (base r) (opened r) spot
-  spelled spot there =
-      let at : SpotIn plan.shape (image (base r).file) spot = subst (λ (f : ℕ). SpotIn plan.shape (image f) spot) (sym found.reservoir.file) there in
-      let of : SpotIn (base r).shape (image (base r).file) spot = subst (λ (s : Shape). SpotIn s (image (base r).file) spot) (sym found.reservoir.shape) at in
-      subst (λ (l : List Event). Spells now (base r) l spot) (sym found.empty) (spelled_here image may (base r) (next_of r) (time_of r) (cache_of r) right now spot told of)
-
-  -- and the heads name what is spelled
-  names : (spot : Spot) → Spells now (base r) (opened r) spot → HeadsName now (base r) spot
-  names spot spells = subst (λ (e : Bool). NamesIn now (base r) e [] spot) found.reservoir.going
-      (subst (λ (l : List Event). NamesIn now (base r) (base r).ended l spot) found.empty ((sound_names now may r spot found.reservoir.sound).1 spells))
-
-  are_events : All (IsEventOf plan.shape.fields) all
-  are_events = subst (All (IsEventOf plan.shape.fields)) (has.2 ∙ sym all_is) has.1.of
 
   -- the checkpoint of a slot, in each image
   pub slot_of : (i : ℕ) (checkpoint : Checkpoint) → slot_in saved i ≡ Some checkpoint → (u : Image) → may u → (i < 2) × HasSlot (u i) checkpoint
@@ -129,39 +102,16 @@ module _ (plan : Planned) (now : Option Image) (may : Image → Type 0) (r : Res
   slot_of (suc zero) checkpoint there u left = (omega arith, subst (IsSlot (u 1)) there (found.slots u left).second)
   slot_of (suc (suc i)) checkpoint there u left = absurd cc
 
-  -- a time that is the last event's, and 0 without one
-  pub last_is : (n : ℕ) → (0 < (base r).committed + length (opened r) → n ≡ time_of r) → ((base r).committed + length (opened r) ≡ 0 → n ≡ 0) → last_time all ≡ n
-  last_is n some none = by all (all_long now (base r) (opened r)) (right.time_is ∙ ap last_time (sym same))
-    where
-      same : all ≡ all_events (Some image) (base r) []
-      same = ap (λ (l : List Event). all_events now (base r) l) found.empty ∙ ap (λ (i : Option Image). all_events i (base r) []) told
-
-      by : (events : List Event) → length events ≡ (base r).committed + length (opened r) → time_of r ≡ last_time events → last_time events ≡ n
-      by [] long is = sym (none (sym long))
-      by (x ∷ events) long is = sym is ∙ sym (some (omega (arith, long)))
-
   module _ (tasks : Tasks) (tasks_are : tasks ≡ plan_for plan.queries) where
-    -- an engine can stand for its events
-    pub can_stand : (is_told : Type 0) → All (IsLegal plan.shape) plan.queries → is_told → CanStand (IsSound now may r) is_told tasks all
-    can_stand is_told legal tells = record {
-      sound = found.reservoir.sound;
-      tells = tells;
-      fed = record {
-        fields = plan.shape.fields;
-        serves = subst (Serves plan.shape.fields) (sym tasks_are) (serves plan.shape plan.queries legal);
-        are = are_events;
-      };
-    }
-
     -- each checkpoint of the plan's queries is true of its events
     pub are_truthful : (texts : List (List ℕ)) → texts ≡ texts_of plan.shape plan.queries → ((v : Image) → now ≡ Some v → may v) → All (IsSaid plan.shape) plan.queries → AreTruthful (Spells now (base r) (opened r)) texts tasks all (slot_in saved)
     are_truthful texts texts_are reads said i checkpoint there same =
-        let left = reads image told in
+        let left = reads image found.reservoir.sound.1 in
         let slot = slot_of i checkpoint there image left in
         let is : IsTrueOf (image 2) checkpoint = (found.truthful image left).slots i slot.0 checkpoint slot.1 in
         let here = framed plan image may (base r) [] (next_of r) (time_of r) (cache_of r) right found.reservoir.file found.reservoir.shape in
-        same_past (SpotIn plan.shape (image 2)) (Spells now (base r) (opened r)) tasks (joined right.chunks) all checkpoint spelled all_is
-        (subst (λ (t : Tasks). IsTruthful (SpotIn plan.shape (image 2)) t (joined right.chunks) checkpoint) (sym tasks_are) (of_plan plan said (image 2) (joined right.chunks) here has checkpoint is (same ∙ texts_are)))
+        same_past (SpotIn plan.shape (image 2)) (Spells now (base r) (opened r)) tasks (joined right.chunks) all checkpoint (log.spelled plan now may r found.reservoir found.empty) (log.all_is plan now may r found.reservoir found.empty)
+        (subst (λ (t : Tasks). IsTruthful (SpotIn plan.shape (image 2)) t (joined right.chunks) checkpoint) (sym tasks_are) (of_plan plan said (image 2) (joined right.chunks) here (log.has plan now may r found.reservoir found.empty) checkpoint is (same ∙ texts_are)))
 
     module _ (texts : List (List ℕ)) (printed : texts ≡ texts_of plan.shape plan.queries) (reads : (v : Image) → now ≡ Some v → may v) (said : All (IsSaid plan.shape) plan.queries) (legal : All (IsLegal plan.shape) plan.queries) where
       -- each checkpoint of the plan's queries is fit
@@ -169,8 +119,8 @@ module _ (plan : Planned) (now : Option Image) (may : Image → Type 0) (r : Res
       fits i checkpoint there same =
           let serve : Serves plan.shape.fields tasks = subst (Serves plan.shape.fields) (sym tasks_are) (serves plan.shape plan.queries legal) in
           let count : length all ≡ (base r).committed = omega (arith, all_long now (base r) (opened r), ap length found.empty) in
-          fit_same (Spells now (base r) (opened r)) (HeadsName now (base r)) texts plan.shape.fields tasks (length all) (base r).committed checkpoint names count
-          (truthful_fits (Spells now (base r) (opened r)) texts plan.shape.fields tasks all checkpoint serve are_events same (are_truthful texts printed reads said i checkpoint there same))
+          fit_same (Spells now (base r) (opened r)) (HeadsName now (base r)) texts plan.shape.fields tasks (length all) (base r).committed checkpoint (log.names plan now may r found.reservoir found.empty) count
+          (truthful_fits (Spells now (base r) (opened r)) texts plan.shape.fields tasks all checkpoint serve (log.are_events plan now may r found.reservoir found.empty) same (are_truthful texts printed reads said i checkpoint there same))
 
       -- so the greatest count of one of the plan's queries is that of a fit one
       pub from_texts : (keep : Option ℕ) (from : ℕ) → IsFrom (IsFit (HeadsName now (base r)) texts plan.shape.fields tasks (base r).committed) (slot_in saved) keep from → IsFrom (λ (c : Checkpoint). c.queries ≡ texts_of plan.shape plan.queries) (slot_in saved) keep from

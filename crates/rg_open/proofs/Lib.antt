@@ -1,6 +1,8 @@
 pub mod Settles
 pub mod Attached
+pub mod Logs
 pub mod Found
+pub mod Blame
 pub mod Causes
 pub mod Within
 pub mod Unfit

@@ -3,3 +3,4 @@ pub mod Faults
 pub mod Opening
 pub mod Within
 pub mod Unfit
+pub mod Blame

@@ -5,6 +5,7 @@ ghost use Rattle.rg_host.specs.Image.{Image};
 ghost use Rattle.rg_host.specs.Moments.{LeavesAll};
 ghost use Rattle.rg_event.specs.declared.event.Event.{Event};
 ghost use Rattle.rg_frame.specs.Calls.{Writes};
+ghost use Rattle.rg_frame.specs.Frames.{HasPayloads};
 ghost use Rattle.rg_frame.specs.LogState.{ReachesEnd};
 ghost use Rattle.rg_log.specs.Log.{schema_payload, HasEvents};
 ghost use Rattle.rg_config.specs.Plans.{planned};
@@ -12,6 +13,8 @@ ghost use Rattle.rg_config.specs.Read.{IsRead};
 ghost use Rattle.rg_reservoir.specs.Attached.{IsOther, IsBadFrame, SchemaAdded};
 ghost use Rattle.rg_reservoir.specs.Kept.{base, opened, room_of, log_of, all_events};
 ghost use Rattle.rg_restore.specs.Naming.{IsListed};
+ghost use Rattle.rg_store.specs.Opened.{IsOpenedFor};
+ghost use Rattle.rg_open.specs.Blame.{opened_list};
 ghost use Rattle.rg_open.specs.Opening.{IsOpenable, AreSlots, IsFound};
 ghost use Rattle.rg_open.specs.Settling.{AreSettled};
 
@@ -62,6 +65,8 @@ pub(crate) fn find<H: Host>(alloc: Global, host: &mut H, plan: &Plan) -> Result<
         IfOk result (λ found. IsFound (planned plan.now) (H.now host.new) (H.may host.new) found.reservoir found.saved) }
     ensures events { (v : Image) (events : List Event) → H.now host.old ≡ Some v → AreSettled (H.now host.old) (H.may host.old) → HasEvents plan.now.schema events (v 2) →
         IfOk result (λ found. all_events (H.now host.new) (base found.reservoir) [] ≡ events) }
+    ensures log { (v : Image) (events : List Event) → H.now host.old ≡ Some v → AreSettled (H.now host.old) (H.may host.old) → HasEvents plan.now.schema events (v 2) →
+        IfOk result (λ found. IsOpenedFor (planned plan.now) (H.now host.new) (H.may host.new) found.reservoir) }
     ensures never_damaged { (p : ℕ) → IsOpenable (planned plan.now) (H.now host.old) (H.may host.old) → IsErrOf result (OpenFault.Damaged p) → ⊥ }
     ensures never_differs { IsOpenable (planned plan.now) (H.now host.old) (H.may host.old) → IsErrOf result OpenFault.SchemaDiffers → ⊥ }
     ensures settled { (v : Image) → H.now host.old ≡ Some v → AreSettled (H.now host.old) (H.may host.old) → OnOk result (AreSettled (H.now host.new) (H.may host.new)) }
@@ -69,6 +74,8 @@ pub(crate) fn find<H: Host>(alloc: Global, host: &mut H, plan: &Plan) -> Result<
     // Over any image.
     ensures slots { IfOk result (λ found. ForSome (H.now host.old) (λ v. AreSlots v found.saved)) }
     ensures slots_go { IfOk result (λ found. found.slots.ended ≡ false) }
+    ensures list { (v : Image) (payloads : List (List ℕ)) → H.now host.old ≡ Some v → HasPayloads payloads (v 2) →
+        IfOk result (λ _. ForSome (H.now host.new) (λ w. HasPayloads (opened_list plan.now.schema payloads) (w 2))) }
     ensures listed { (v : Image) → H.now host.old ≡ Some v → OnOk result (IsListed (H.now host.new)) }
     ensures exact { (v : Image) → H.now host.old ≡ Some v → IsOther (schema_payload plan.now.schema) (v 2) ⊎ ((p : ℕ) × IsBadFrame (schema_payload plan.now.schema) p (v 2)) → IfOk result (λ _. ⊥) }
     ensures differs { IsErrOf result OpenFault.SchemaDiffers → ForSome (H.now host.old) (λ v. IsOther (schema_payload plan.now.schema) (v 2)) }

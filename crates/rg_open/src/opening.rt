@@ -2,6 +2,7 @@ ghost use Rattle.std.specs.Prelude.{◌≡◌, ◌⊎◌, ◌≤◌, ◌<◌, �
 ghost use Rattle.std.specs.Option.{ForSome};
 ghost use Rattle.rg_bytes.specs.Counts.{Rose};
 ghost use Rattle.rg_host.specs.Image.{Image};
+ghost use Rattle.rg_event.specs.Rising.{next_offset};
 ghost use Rattle.rg_event.specs.declared.event.Event.{Event};
 ghost use Rattle.rg_frame.specs.Calls.{Writes};
 ghost use Rattle.rg_frame.specs.LogState.{ReachesEnd};
@@ -17,6 +18,7 @@ ghost use Rattle.rg_checkpoint.specs.Slots.{IsKeep};
 ghost use Rattle.rg_restore.specs.Opening.{IsEmpty, IsGoing};
 ghost use Rattle.rg_course.specs.Steps.{IsStepped};
 ghost use Rattle.rg_store.specs.Stores.{store_of};
+ghost use Rattle.rg_open.specs.Blame.{IsBlamed};
 ghost use Rattle.rg_open.specs.Opening.{IsOpenable, IsStarted, IsResumed, IsFromIn};
 ghost use Rattle.rg_open.specs.Settling.{AreSettled};
 ghost use Rattle.rg_open.specs.Unfit.{IsUnfit, SaysWhy, IsLeftAlone};
@@ -103,7 +105,7 @@ fn open_settled<H: Host, T: Table, L: Ledger>(
         IfOk result (λ r. IsStarted (planned plan.now) (H.now host.new) (H.may host.new) (T.tells r.0.engine.table) (T.cell r.0.engine.table) r.0.reservoir r.0.engine r.0.texts r.0.keep r.0.saved) }
     ensures settled { (v : Image) → H.now host.old ≡ Some v → AreSettled (H.now host.old) (H.may host.old) → OnOk result (AreSettled (H.now host.new) (H.may host.new)) }
     ensures events { (v : Image) (events : List Event) → H.now host.old ≡ Some v → AreSettled (H.now host.old) (H.may host.old) → HasEvents plan.now.schema events (v 2) →
-        IfOk result (λ r. all_events (H.now host.new) (base r.0.reservoir) [] ≡ events) }
+        IfOk result (λ r. (all_events (H.now host.new) (base r.0.reservoir) [] ≡ events) × (r.1.next ≡ next_offset events)) }
     ensures passed { IsOpenable (planned plan.now) (H.now host.old) (H.may host.old) → AreSettled (H.now host.old) (H.may host.old) →
         IfOk result (λ r. steps.new ≡ steps.old + passed_count plan.now.task (take r.1.from (all_events (H.now host.new) (base r.0.reservoir) [])) (all_events (H.now host.new) (base r.0.reservoir) [])) }
     ensures never_differs { IsOpenable (planned plan.now) (H.now host.old) (H.may host.old) → IfErr result (λ refused. refused.0 ≡ OpenFault.SchemaDiffers → ⊥) }
@@ -116,6 +118,9 @@ fn open_settled<H: Host, T: Table, L: Ledger>(
 
     ensures resumed { (v : Image) → H.now host.old ≡ Some v → IfOk result (λ r.
         IsResumed v (H.now host.new) plan.now.queries plan.now.schema.fields plan.now.task r.0.reservoir r.0.engine r.0.keep r.1.from steps.old steps.new) }
+
+    ensures bad { (v : Image) (events : List Event) (n : ℕ) → H.now host.old ≡ Some v → AreSettled (H.now host.old) (H.may host.old) → HasEvents plan.now.schema events (v 2) → T.tells table →
+        IfErr result (λ refused. refused.0 ≡ OpenFault.BadState n → IsBlamed (planned plan.now) v events n) }
 
     ensures disk { IfErr result (λ refused. refused.0 ≡ OpenFault.Disk → Rose (H.disk_faults host.old) (H.disk_faults host.new)) }
     ensures differs { IfErr result (λ refused. refused.0 ≡ OpenFault.SchemaDiffers → ForSome (H.now host.old) (λ v. IsOther (schema_payload plan.now.schema) (v 2))) }
@@ -202,9 +207,12 @@ pub fn open_store<H: Host, T: Table, L: Ledger>(
 
     // Over any image that is told: its log's events, from where the engine went on, and what was passed.
     ensures settled { (v : Image) → H.now host.old ≡ Some v → OnOk result (AreSettled (H.now host.new) (H.may host.new)) }
-    ensures events { (v : Image) (events : List Event) → H.now host.old ≡ Some v → HasEvents plan.now.schema events (v 2) → IfOk result (λ r. all_events (H.now host.new) (base r.0.reservoir) [] ≡ events) }
+    ensures events { (v : Image) (events : List Event) → H.now host.old ≡ Some v → HasEvents plan.now.schema events (v 2) → IfOk result (λ r. (all_events (H.now host.new) (base r.0.reservoir) [] ≡ events) × (r.1.next ≡ next_offset events)) }
     ensures resumed { (v : Image) → H.now host.old ≡ Some v → IfOk result (λ r.
         IsResumed v (H.now host.new) plan.now.queries plan.now.schema.fields plan.now.task r.0.reservoir r.0.engine r.0.keep r.1.from steps.old steps.new) }
+    // Where a state is bad, the checkpoint that was used is to blame.
+    ensures bad { (v : Image) (events : List Event) (n : ℕ) → H.now host.old ≡ Some v → HasEvents plan.now.schema events (v 2) → T.tells table →
+        IfErr result (λ refused. refused.0 ≡ OpenFault.BadState n → IsBlamed (planned plan.now) v events n) }
 
     // At each moment, and at every result.
     ensures within { (v : Image) (keep : Option ℕ) → H.now host.old ≡ Some v → IsWithinOpening H.may H.clock H.since H.said (store_of (planned plan.now)) keep v host.old host.new }

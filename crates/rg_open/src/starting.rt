@@ -5,7 +5,7 @@ ghost use Rattle.rg_host.specs.Moments.{LeavesAll};
 ghost use Rattle.rg_config.specs.Plans.{planned};
 ghost use Rattle.rg_config.specs.Read.{IsRead};
 ghost use Rattle.rg_reservoir.specs.Chain.{IsIllegal};
-ghost use Rattle.rg_reservoir.specs.Kept.{base, opened, room_of, time_of, all_events, Spells};
+ghost use Rattle.rg_reservoir.specs.Kept.{base, opened, room_of, time_of, all_events, IsSound, Spells};
 ghost use Rattle.rg_state.specs.Keeping.{TableKept};
 ghost use Rattle.rg_window.specs.Placed.{numbers_of};
 ghost use Rattle.rg_engine.specs.Passed.{passed_count};
@@ -16,6 +16,8 @@ ghost use Rattle.rg_restore.specs.Naming.{IsListed, HeadsName};
 ghost use Rattle.rg_restore.specs.Opening.{IsEmpty, IsGoing};
 ghost use Rattle.rg_restore.specs.Slots.{slot_in, HaveBegun, IsBest, IsFrom};
 ghost use Rattle.rg_restore.specs.Truthful.{NodeIsTrue};
+ghost use Rattle.rg_store.specs.Opened.{IsOpenedFor};
+ghost use Rattle.rg_open.specs.Blame.{IsAmiss};
 ghost use Rattle.rg_open.specs.Opening.{IsFound, IsStarted};
 
 use crate::fault::OpenFault;
@@ -67,11 +69,14 @@ fn start_over<H: Host, T: Table, L: Ledger>(
     ensures passed { IsFound (planned plan.now) (H.now past.old.host.now) (H.may past.old.host.now) past.old.reservoir.now saved →
         IfOk result (λ r. steps.new ≡ steps.old + passed_count task (take r.1.from (all_events (H.now past.old.host.now) (base past.old.reservoir.now) [])) (all_events (H.now past.old.host.now) (base past.old.reservoir.now) [])) }
 
-    // Over any slots it is known which is used, and what is passed.
+    // Over any slots it is known which is used, what is passed, and whose rows and spots are to blame.
     ensures from { IsListed (H.now past.old.host.now) → IfOk result (λ r.
         IsFrom (IsFit (HeadsName (H.now past.old.host.now) (base past.old.reservoir.now)) plan.now.queries plan.now.schema.fields task (base past.old.reservoir.now).committed) (slot_in saved) r.1.slot r.1.from) }
     ensures ticks { IfOk result (λ r. (before : List ℕ) × HaveBegun task.offsets (slot_in saved) r.1.slot before
         × (steps.new + come task before ≡ steps.old + come task (numbers_of r.0.spots))) }
+    ensures bad { (n : ℕ) → IsOpenedFor (planned plan.now) (H.now past.old.host.now) (H.may past.old.host.now) past.old.reservoir.now → T.tells table →
+        IfErr result (λ refused. refused.0 ≡ OpenFault.BadState n →
+        IsAmiss (Spells (H.now past.old.host.now) (base past.old.reservoir.now) (opened past.old.reservoir.now)) (planned plan.now) (all_events (H.now past.old.host.now) (base past.old.reservoir.now) (opened past.old.reservoir.now)) saved n) }
 
     ensures disk { IfErr result (λ refused. refused.0 ≡ OpenFault.Disk → Rose (H.disk_faults past.old.host.now) (H.disk_faults past.new.host.now)) }
     ensures damaged { (p : ℕ) → IfErr result (λ refused. refused.0 ≡ OpenFault.Damaged p → ForSome (H.now past.new.host.now) (λ v. IsIllegal (base past.new.reservoir.now).shape.fields p (v (base past.new.reservoir.now).file))) }
@@ -84,6 +89,7 @@ fn start_over<H: Host, T: Table, L: Ledger>(
     ensures base { base past.new.reservoir.now ≡ base past.old.reservoir.now }
     ensures room { room_of past.new.reservoir.now ≡ room_of past.old.reservoir.now }
     ensures opened { opened past.new.reservoir.now ≡ [] }
+    ensures sound { IsSound (H.now past.old.host.now) (H.may past.old.host.now) past.old.reservoir.now → IsSound (H.now past.new.host.now) (H.may past.new.host.now) past.new.reservoir.now }
     ensures leaves { LeavesAll H.now H.may H.clock H.since H.said past.old.host.now past.new.host.now }
     ensures disk_faults { H.disk_faults past.old.host.now ≤ H.disk_faults past.new.host.now }
     ensures out_faults { H.out_faults past.new.host.now ≡ H.out_faults past.old.host.now }
@@ -138,6 +144,9 @@ pub(crate) fn start<H: Host, T: Table, L: Ledger>(
         IsFrom (IsFit (HeadsName (H.now host.old) (base reservoir.old)) plan.now.queries plan.now.schema.fields task (base reservoir.old).committed) (slot_in saved) r.1.slot r.1.from) }
     ensures ticks { IfOk result (λ r. (before : List ℕ) × HaveBegun task.offsets (slot_in saved) r.1.slot before
         × (steps.new + come task before ≡ steps.old + come task (numbers_of r.0.spots))) }
+    ensures bad { (n : ℕ) → IsOpenedFor (planned plan.now) (H.now host.old) (H.may host.old) reservoir.old → T.tells table →
+        IfErr result (λ refused. refused.0 ≡ OpenFault.BadState n →
+        IsAmiss (Spells (H.now host.old) (base reservoir.old) (opened reservoir.old)) (planned plan.now) (all_events (H.now host.old) (base reservoir.old) (opened reservoir.old)) saved n) }
 
     ensures disk { IfErr result (λ refused. refused.0 ≡ OpenFault.Disk → Rose (H.disk_faults host.old) (H.disk_faults host.new)) }
     ensures damaged { (p : ℕ) → IfErr result (λ refused. refused.0 ≡ OpenFault.Damaged p → ForSome (H.now host.new) (λ v. IsIllegal (base reservoir.new).shape.fields p (v (base reservoir.new).file))) }
@@ -150,6 +159,7 @@ pub(crate) fn start<H: Host, T: Table, L: Ledger>(
     ensures base { base reservoir.new ≡ base reservoir.old }
     ensures room { room_of reservoir.new ≡ room_of reservoir.old }
     ensures opened { opened reservoir.new ≡ [] }
+    ensures sound { IsSound (H.now host.old) (H.may host.old) reservoir.old → IsSound (H.now host.new) (H.may host.new) reservoir.new }
     ensures leaves { LeavesAll H.now H.may H.clock H.since H.said host.old host.new }
     ensures disk_faults { H.disk_faults host.old ≤ H.disk_faults host.new }
     ensures out_faults { H.out_faults host.new ≡ H.out_faults host.old }

@@ -2,6 +2,7 @@ ghost use Rattle.std.specs.Prelude.{◌≡◌, ◌⊎◌, ◌≤◌, ◌+◌, []
 ghost use Rattle.std.specs.Option.{ForSome};
 ghost use Rattle.rg_bytes.specs.Counts.{Rose};
 ghost use Rattle.rg_host.specs.Image.{Image};
+ghost use Rattle.rg_event.specs.Rising.{next_offset};
 ghost use Rattle.rg_event.specs.declared.event.Event.{Event};
 ghost use Rattle.rg_frame.specs.LogState.{ReachesEnd};
 ghost use Rattle.rg_log.specs.Log.{schema_payload, HasEvents};
@@ -58,7 +59,7 @@ impl<T: Table> Session<T> {
 
         // Over any image that is told: its log's events, from where the engine went on, and what was passed.
         ensures events { (v : Image) (events : List Event) → H.now host.old ≡ Some v → HasEvents plan.now.schema events (v 2) →
-            IfOk result (λ r. (events_of (H.now host.new) r.0 ≡ events) × (stored_of (H.now host.new) r.0 ≡ events)) }
+            IfOk result (λ r. (events_of (H.now host.new) r.0 ≡ events) × (stored_of (H.now host.new) r.0 ≡ events) × (r.1.next ≡ next_offset events)) }
         ensures resumed { (v : Image) → H.now host.old ≡ Some v → IfOk result (λ r.
             IsResumed v (H.now host.new) plan.now.queries plan.now.schema.fields plan.now.task r.0.reservoir r.0.engine r.0.keep r.1.from steps.old steps.new) }
 

@@ -5,8 +5,9 @@ ghost use Rattle.rg_host.specs.Image.{Image};
 ghost use Rattle.rg_host.specs.Lines.{lines_of};
 ghost use Rattle.rg_host.specs.Moments.{Moments};
 ghost use Rattle.rg_event.specs.Rising.{next_offset};
+ghost use Rattle.rg_event.specs.declared.event.Event.{Event};
 ghost use Rattle.rg_frame.specs.LogState.{ReachesEnd};
-ghost use Rattle.rg_log.specs.Log.{schema_payload};
+ghost use Rattle.rg_log.specs.Log.{schema_payload, HasEvents};
 ghost use Rattle.rg_config.specs.Plans.{planned};
 ghost use Rattle.rg_config.specs.Read.{IsRead};
 ghost use Rattle.rg_reservoir.specs.Attached.{IsOther, IsBadFrame};
@@ -60,8 +61,8 @@ pub(crate) fn begin<H: Host, L: Ledger>(
     ensures never_differs { IsReady (planned plan.now) (H.now host.old) (H.may host.old) (H.said host.old) → IsErrOf result RunFault.SchemaDiffers → ⊥ }
 
     ensures gap { (n : ℕ) → IsErrOf result (RunFault.Gap n) → n < first }
-    ensures gap_next { (ready : IsReady (planned plan.now) (H.now host.old) (H.may host.old) (H.said host.old)) (n : ℕ) → IsErrOf result (RunFault.Gap n) → n ≡ next_offset ready.held }
-    ensures no_gap { (ready : IsReady (planned plan.now) (H.now host.old) (H.may host.old) (H.said host.old)) → OnOk result (first ≤ next_offset ready.held) }
+    ensures gap_next { (v : Image) (events : List Event) (n : ℕ) → H.now host.old ≡ Some v → HasEvents plan.now.schema events (v 2) → IsErrOf result (RunFault.Gap n) → n ≡ next_offset events }
+    ensures no_gap { (v : Image) (events : List Event) → H.now host.old ≡ Some v → HasEvents plan.now.schema events (v 2) → OnOk result (first ≤ next_offset events) }
     ensures differs { IsErrOf result RunFault.SchemaDiffers → ForSome (H.now host.old) (λ v. IsOther (schema_payload plan.now.schema) (v 2)) }
     ensures damaged { (p : ℕ) → IsErrOf result (RunFault.Damaged p) →
         ForSome (H.now host.old) (λ v. IsBadFrame (schema_payload plan.now.schema) p (v 2)) ⊎ ForSome (H.now host.new) (λ v. IsIllegal plan.now.schema.fields p (v 2)) }

@@ -4,7 +4,8 @@ ghost use Rattle.rg_bytes.specs.Counts.{Rose};
 ghost use Rattle.rg_bytes.specs.Known.{IsAtEnd};
 ghost use Rattle.rg_host.specs.Image.{Image};
 ghost use Rattle.rg_event.specs.Rising.{next_offset};
-ghost use Rattle.rg_log.specs.Log.{schema_payload};
+ghost use Rattle.rg_event.specs.declared.event.Event.{Event};
+ghost use Rattle.rg_log.specs.Log.{schema_payload, HasEvents};
 ghost use Rattle.rg_config.specs.Plans.{planned};
 ghost use Rattle.rg_config.specs.Read.{IsRead};
 ghost use Rattle.rg_reservoir.specs.Attached.{IsOther, IsBadFrame};
@@ -55,8 +56,10 @@ pub fn run<I: Source, H: Host, L: Ledger>(
 
     // Each refusal has its cause.
     ensures gap { (n : ℕ) → IsErrOf result (RunFault.Gap n) → n < first }
-    ensures gap_next { (ready : IsReady (planned plan.now) (H.now host.old) (H.may host.old) (H.said host.old)) (n : ℕ) → IsErrOf result (RunFault.Gap n) → n ≡ next_offset ready.held }
-    ensures no_gap { (ready : IsReady (planned plan.now) (H.now host.old) (H.may host.old) (H.said host.old)) → OnOk result (first ≤ next_offset ready.held) }
+
+    // Over any log that is legal: its first line is at most the next offset, which a gap tells.
+    ensures gap_next { (v : Image) (events : List Event) (n : ℕ) → H.now host.old ≡ Some v → HasEvents plan.now.schema events (v 2) → IsErrOf result (RunFault.Gap n) → n ≡ next_offset events }
+    ensures no_gap { (v : Image) (events : List Event) → H.now host.old ≡ Some v → HasEvents plan.now.schema events (v 2) → OnOk result (first ≤ next_offset events) }
     ensures differs { IsErrOf result RunFault.SchemaDiffers → ForSome (H.now host.old) (λ v. IsOther (schema_payload plan.now.schema) (v 2)) }
     ensures damaged { (p : ℕ) → IsErrOf result (RunFault.Damaged p) →
         ForSome (H.now host.old) (λ v. IsBadFrame (schema_payload plan.now.schema) p (v 2)) ⊎ ForSome (H.now host.new) (λ v. IsIllegal plan.now.schema.fields p (v 2)) }

@@ -131,7 +131,7 @@ returns-clause-store g c = λ is. record { asks = planned c.in-Ok.asked; legal =
 pub returns-clause-gap : goal.returns-clause-gap
 returns-clause-gap g c = λ is.
     let at = c.in-Err-run.ensures.gap is in
-    record { legal = legal_of _ (planned c.in-Ok.asked) c.in-Ok.ensures.legal; next = at.0; behind = at.1; line = at.2; left_alone = at.3 }
+    record { asks = planned c.in-Ok.asked; legal = c.in-Ok.ensures.legal; next = at.0; next_is = at.1; behind = at.2; line = at.3; left_alone = at.4 }
 
 pub returns-clause-disk : goal.returns-clause-disk
 returns-clause-disk g c = λ is. (legal_of _ (planned c.in-Ok.asked) c.in-Ok.ensures.legal, c.in-Err-run.ensures.disk is)

@@ -1,4 +1,5 @@
 use Rattle.std.proofs.Common.{◌≡◌, sym, ◌∙◌, ap, subst, inl, inr, ⊎_elim, Some, None, [], refl, List, ℕ, Option}
+use Rattle.rg_bytes.specs.Known.{after}
 use Rattle.rg_host.specs.Image.{Image}
 use Rattle.rg_host.specs.Puts.{IsPrefix, Puts}
 use Rattle.rg_host.proofs.PutRuns.{puts-nothing, puts-then}
@@ -7,7 +8,7 @@ use Rattle.railgun.specs.Call.{command_of, line_for, last_line, ending_status, e
 use Rattle.railgun.specs.Causes.{RefusesStore}
 use Rattle.railgun.specs.declared.command.Command.TheVariants.{Run}
 use Rattle.railgun.specs.declared.status.Status.TheVariants.{Ok, Usage, Write}
-use Rattle.railgun.proofs.Ends.{all_put, all_front, front_alone, line_alone, put_then, whole_then, write_line, rose_first, rose_last, command_is}
+use Rattle.railgun.proofs.Ends.{all_put, all_front, front_alone, line_alone, put_then, whole_then, write_line, own_line, rose_first, rose_last, command_is}
 use Rattle.railgun.proofs.Telling.{all_promised, one_ahead, slots_saved, told_from, ends_whole, ends_answered, completed, resumed}
 use Rattle.railgun.proofs.TurnedAway.{ok_unfit, ok_behind, turned_away, lies_behind}
 use Rattle.railgun.proofs.call.run_words.Goals as goal
@@ -267,3 +268,14 @@ returns-in-Err-clause-behind g c = rw c.end-in-Err.ensures.status (λ first is t
       lies_behind g.H.Host.now g.H.Host.may g.H.Host.clock g.H.Host.since g.H.Host.said told.asks told.ready.openable.image _ _ (ending_status c.in-Err.ending) (ending_line c.in-Err.ending) c.args.host.now c.run_command.new.host c.end-in-Err.new.host c.end-in-Err.ensures.leaves told.ready first slot at.1 at.2
           c.end-in-Err.ensures.part (⊎_elim (λ whole. inl whole) (λ rose. inr (rose_last _ _ _ c.in-Err.ensures.later_out rose)) c.end-in-Err.ensures.whole),
     ))
+
+pub returns-in_default-clause-failure_told : goal.returns-in_default-clause-failure_told
+returns-in_default-clause-failure_told g c = rw c.end.ensures.status (inr (inr (inr (inr (⊎_elim (λ whole. inl (g.H.Host.said c.args.host.now, whole.grows)) (λ rose. inr rose) c.end.ensures.whole)))))
+
+pub returns-in-Ok-clause-failure_told : goal.returns-in-Ok-clause-failure_told
+returns-in-Ok-clause-failure_told g c = inl refl
+
+pub returns-in-Err-clause-failure_told : goal.returns-in-Err-clause-failure_told
+returns-in-Err-clause-failure_told g c =
+    rw c.end-in-Err.ensures.status (⊎_elim (λ plan. inr (inl plan)) (λ more. ⊎_elim (λ store. inr (inr (inl store))) (λ more. ⊎_elim (λ gap. inr (inr (inr (inl gap))))
+    (λ own. inr (inr (inr (inr (⊎_elim (λ whole. inl (g.H.Host.said c.run_command.new.host, whole.grows ∙ ap (λ line. after (g.H.Host.said c.run_command.new.host) line) own)) (λ rose. inr (rose_last _ _ _ c.in-Err.ensures.later_out rose)) c.end-in-Err.ensures.whole))))) more) more) (own_line c.in-Err.ending))

@@ -1,10 +1,13 @@
-use Rattle.std.proofs.Common.{◌∙◌, inl, List, ap, sym, arith, Err}
+use Rattle.std.proofs.Common.{◌∙◌, inl, List, ap, sym, subst, arith, Err}
 use Rattle.rg_event.specs.declared.event.Event.{Event}
 use Rattle.rg_config.specs.Plans.{planned}
 use Rattle.rg_log.specs.Log.{schema_payload}
-use Rattle.rg_reservoir.specs.Attached.{SchemaAdded}
+use Rattle.rg_host.specs.Image.{Image}
+use Rattle.rg_reservoir.specs.Attached.{Opens, SchemaAdded}
 use Rattle.rg_reservoir.specs.Kept.{base, all_events}
 use Rattle.rg_reservoir.proofs.Firsts.{quiet}
+use Rattle.rg_reservoir.proofs.Seeking.{one_image}
+use Rattle.rg_open.proofs.Blame.{list_opened}
 use Rattle.rg_open.proofs.Attached.{events_of, openable_still, pending_stays, found_by}
 use Rattle.rg_open.proofs.Causes.{same_fault, log_damaged, log_differs}
 use Rattle.rg_open.proofs.Settles.{all-fewer, fewer-all_settled, writes-after}
@@ -87,3 +90,20 @@ pub returns-in-Err-attach-clause-writes : goal.returns-in-Err-attach-clause-writ
 returns-in-Err-attach-clause-writes g c =
     let fewer = all-fewer g.H.Host.now g.H.Host.may g.H.Host.clock g.H.Host.since g.H.Host.said c.args.host.now c.read_slots.new.host c.read_slots.ensures.leaves in
     writes-after g.H.Host.now g.H.Host.may g.H.Host.clock g.H.Host.since g.H.Host.said 2 (SchemaAdded (schema_payload c.args.plan.now.schema)) c.args.host.now c.read_slots.new.host c.attach.new.host (λ a b same. inl same) fewer c.attach.ensures.writes
+
+pub returns-in-Ok-attach-clause-log : goal.returns-in-Ok-attach-clause-log
+returns-in-Ok-attach-clause-log g c = λ v events told settled has.
+    let h = c.args.host.now in
+    let m = c.read_slots.new.host in
+    let leaves = c.read_slots.ensures.leaves in
+    let fewer = all-fewer g.H.Host.now g.H.Host.may g.H.Host.clock g.H.Host.since g.H.Host.said h m leaves in
+    let still = fewer-all_settled g.H.Host.now g.H.Host.may g.H.Host.clock g.H.Host.since g.H.Host.said h m fewer settled in
+    let going = c.in-Ok-attach.ensures.going in
+    record { sound = (c.in-Ok-attach.ensures.sound v events (leaves.now_stays ∙ told) still.log has).0; going = going.0; file = going.1; shape = going.2 }
+
+pub returns-in-Ok-attach-clause-list : goal.returns-in-Ok-attach-clause-list
+returns-in-Ok-attach-clause-list g c = λ v payloads told has w also.
+    let t = c.in-Ok-attach.ensures.opens.told v (c.read_slots.ensures.leaves.now_stays ∙ told) in
+    let r = c.in-Ok-attach.reservoir in
+    let opens : Opens (schema_payload c.args.plan.now.schema) (base r).first (base r).end (v 2) (w 2) = subst (λ (u : Image). Opens (schema_payload c.args.plan.now.schema) (base r).first (base r).end (v 2) (u 2)) (one_image (g.H.Host.now c.attach.new.host) t.0 w t.1 also) t.2 in
+    list_opened c.args.plan.now.schema (base r).first (base r).end payloads (v 2) (w 2) opens (c.in-Ok-attach.ensures.opened w also).here has

@@ -10,8 +10,11 @@ use Rattle.rg_reservoir.specs.Attached.{SchemaAdded}
 use Rattle.rg_reservoir.specs.Chain.{IsIllegal}
 use Rattle.rg_reservoir.specs.Kept.{Base, base, all_events}
 use Rattle.rg_restore.specs.Slots.{slot_in, HaveBegun}
+use Rattle.rg_event.specs.declared.event.Event.{Event}
+use Rattle.rg_open.specs.Blame.{opened_list}
 use Rattle.rg_open.specs.Opening.{IsStarted}
-use Rattle.rg_open.proofs.Found.{begun_keep, from_later, from_texts}
+use Rattle.rg_open.proofs.Blame.{amiss_in}
+use Rattle.rg_open.proofs.Found.{begun_keep, from_later, from_texts, next_is}
 use Rattle.rg_open.proofs.Settles.{all-fewer, fewer-all_settled, writes-before}
 use Rattle.rg_open.proofs.Unfit.{why}
 use Rattle.rg_open.proofs.opening.open_settled.Goals as goal
@@ -36,9 +39,13 @@ returns-in-Ok-start-clause-settled g c = λ v told settled.
 
 pub returns-in-Ok-start-clause-events : goal.returns-in-Ok-start-clause-events
 returns-in-Ok-start-clause-events g c = λ v events told settled has.
-    ap (λ (o : Option Image). all_events o (base c.start.new.reservoir) []) c.start.ensures.leaves.now_stays
-    ∙ ap (λ (b : Base). all_events (g.H.Host.now c.find.new.host) b []) c.start.ensures.base
-    ∙ c.in-Ok.ensures.events v events told settled has
+    let h = g.H.Host.now c.start.new.host in
+    let r = c.start.new.reservoir in
+    let all : all_events h (base r) [] ≡ events =
+        ap (λ (o : Option Image). all_events o (base r) []) c.start.ensures.leaves.now_stays
+        ∙ ap (λ (b : Base). all_events (g.H.Host.now c.find.new.host) b []) c.start.ensures.base
+        ∙ c.in-Ok.ensures.events v events told settled has in
+    (all, c.next_offset.ensures ∙ next_is h (g.H.Host.may c.start.new.host) r events (c.start.ensures.sound (c.in-Ok.ensures.log v events told settled has).sound) (ap (λ (b : Base). b.ended) c.start.ensures.base ∙ c.in-Ok.ensures.going.0) c.start.ensures.opened all)
 
 pub returns-in-Ok-start-clause-resumed : goal.returns-in-Ok-start-clause-resumed
 returns-in-Ok-start-clause-resumed g c = λ v told.
@@ -100,3 +107,16 @@ returns-in-Err-clause-why g c = λ v told unfit.
 
 pub returns-in-Err-start-clause-why : goal.returns-in-Err-start-clause-why
 returns-in-Err-start-clause-why g c = λ v told unfit. absurd (c.in-Ok.ensures.exact v told unfit)
+
+pub returns-in-Err-start-clause-bad : goal.returns-in-Err-start-clause-bad
+returns-in-Err-start-clause-bad g c = λ v events n told settled has tells is.
+    let found = c.in-Ok.found in
+    let log = c.in-Ok.ensures.log v events told settled has in
+    record {
+      saved = found.saved;
+      slots = c.in-Ok.ensures.slots v told;
+      payloads = has.1.payloads;
+      has = has.1.has;
+      amiss = amiss_in (planned c.args.plan.now) (g.H.Host.now c.find.new.host) (g.H.Host.may c.find.new.host) found.reservoir log c.in-Ok.ensures.empty.0 (opened_list c.args.plan.now.schema has.1.payloads) (c.in-Ok.ensures.list v has.1.payloads told has.1.has) events found.saved n
+          (ap (λ (l : List Event). all_events (g.H.Host.now c.find.new.host) (base found.reservoir) l) c.in-Ok.ensures.empty.0 ∙ c.in-Ok.ensures.events v events told settled has) (c.in-Err-start.ensures.bad n log tells is);
+    }

@@ -86,3 +86,6 @@ returns-in-Err-open_settled-clause-unfit g c = λ v told unfit. (
   opened_alone g.H.Host.now g.H.Host.may g.H.Host.clock g.H.Host.since g.H.Host.said (λ h w is. g.met.H.Host.now_may h w is) v c.args.host.now c.settle.new.host told c.settle.ensures.leaves (planned c.args.plan.now) unfit c.open_settled.new.host c.in-Ok.ensures.settled c.open_settled.ensures.writes,
   c.in-Err-open_settled.ensures.why v (c.settle.ensures.leaves.now_stays ∙ told) unfit,
 )
+
+pub returns-in-Err-open_settled-clause-bad : goal.returns-in-Err-open_settled-clause-bad
+returns-in-Err-open_settled-clause-bad g c = λ v events n told has tells. c.in-Err-open_settled.ensures.bad v events n (c.settle.ensures.leaves.now_stays ∙ told) c.in-Ok.ensures.settled has tells

@@ -10,7 +10,9 @@ use Rattle.rg_restore.specs.Naming.{HeadsName}
 use Rattle.rg_restore.specs.Opening.{IsGoing}
 use Rattle.rg_restore.specs.Slots.{slot_in}
 use Rattle.rg_open.proofs.Causes.{bad_by, damaged_by, disk_by}
-use Rattle.rg_open.proofs.Found.{none_still, from_heads, last_is, can_stand, are_truthful, kept_by, started}
+use Rattle.rg_open.proofs.Found.{none_still, from_heads, are_truthful, kept_by, started}
+use Rattle.rg_open.proofs.Logs.{can_stand, last_is}
+use Rattle.rg_open.proofs.Blame.{amiss_by}
 use Rattle.rg_open.proofs.starting.start_over.Goals as goal
 
 pub returns-in-Ok-clause-from : goal.returns-in-Ok-clause-from
@@ -35,8 +37,8 @@ returns-in-Ok-clause-started g c = λ found tells.
     let goes = c.resume.ensures.past.goes in
     let tasks_are = c.requires.task ∙ c.requires.read.task in
     let engine = c.in-Ok.started.0 in
-    let stands = c.in-Ok.ensures.stands (can_stand plan now may r c.args.saved found c.args.task tasks_are (g.T.Table.tells c.args.table) c.requires.read.legal tells) (λ e. (let x = sym e ∙ c.requires.going in cc))
-    (last_is plan now may r c.args.saved found c.last_of-last.result c.last_of-last.ensures.some c.last_of-last.ensures.none)
+    let stands = c.in-Ok.ensures.stands (can_stand plan now may r found.reservoir found.empty c.args.task tasks_are (g.T.Table.tells c.args.table) c.requires.read.legal tells) (λ e. (let x = sym e ∙ c.requires.going in cc))
+    (last_is plan now may r found.reservoir found.empty c.last_of-last.result c.last_of-last.ensures.some c.last_of-last.ensures.none)
     (are_truthful plan now may r c.args.saved found c.args.task tasks_are c.args.plan.now.queries c.requires.read.printed (λ v told. g.met.H.Host.now_may p.host.now v told) c.requires.read.said) in
     started plan now may r c.args.saved found c.args.task tasks_are then after s goes.base (none_still now then r s goes.base c.requires.none c.resume.ensures.events) (goes.sound found.reservoir.sound) goes.leaves.may_stays.no_more
     (g.T.Table.tells engine.table) (g.T.Table.cell engine.table) engine c.args.plan.now.queries c.in-Ok.started.1.slot c.in-Ok.started.1.from c.requires.read.printed c.requires.read.said c.requires.read.legal
@@ -54,7 +56,7 @@ returns-in-Ok-clause-passed g c = λ found.
     let from = c.in-Ok.started.1.from in
     let tasks_are = c.requires.task ∙ c.requires.read.task in
     let count = c.in-Ok.ensures.passed found.reservoir.sound (λ e. (let x = sym e ∙ c.requires.going in cc))
-    (last_is plan now may r c.args.saved found c.last_of-last.result c.last_of-last.ensures.some c.last_of-last.ensures.none)
+    (last_is plan now may r found.reservoir found.empty c.last_of-last.result c.last_of-last.ensures.some c.last_of-last.ensures.none)
     (are_truthful plan now may r c.args.saved found c.args.task tasks_are c.args.plan.now.queries c.requires.read.printed (λ v told. g.met.H.Host.now_may p.host.now v told) c.requires.read.said) in
     count
     ∙ ap (λ (l : List Event). c.args.steps.now + passed_count c.args.task (take from (all_events now (base r) (opened r))) l) c.resume.ensures.events
@@ -77,7 +79,7 @@ returns-in-Err-clause-never_bad g c = λ n found tells is.
     let may = g.H.Host.may p.host.now in
     let r = p.reservoir.now in
     let tasks_are = c.requires.task ∙ c.requires.read.task in
-    c.in-Err.ensures.never_bad n (can_stand plan now may r c.args.saved found c.args.task tasks_are (g.T.Table.tells c.args.table) c.requires.read.legal tells) (λ e. (let x = sym e ∙ c.requires.going in cc))
+    c.in-Err.ensures.never_bad n (can_stand plan now may r found.reservoir found.empty c.args.task tasks_are (g.T.Table.tells c.args.table) c.requires.read.legal tells) (λ e. (let x = sym e ∙ c.requires.going in cc))
     (are_truthful plan now may r c.args.saved found c.args.task tasks_are c.args.plan.now.queries c.requires.read.printed (λ v told. g.met.H.Host.now_may p.host.now v told) c.requires.read.said)
     (bad_by c.in-Err.fault n (sym c.from.ensures ∙ is))
 
@@ -96,3 +98,14 @@ returns-in-Err-clause-opened g c =
     let p = c.args.past.now in
     let q = c.resume.new.past in
     none_still (g.H.Host.now p.host.now) (g.H.Host.now q.host.now) p.reservoir.now q.reservoir.now c.resume.ensures.past.goes.base c.requires.none c.resume.ensures.events
+
+pub returns-in-Err-clause-bad : goal.returns-in-Err-clause-bad
+returns-in-Err-clause-bad g c = λ n log tells is.
+    let plan = planned c.args.plan.now in
+    let p = c.args.past.now in
+    let now = g.H.Host.now p.host.now in
+    let may = g.H.Host.may p.host.now in
+    let r = p.reservoir.now in
+    let tasks_are = c.requires.task ∙ c.requires.read.task in
+    let blame = c.in-Err.ensures.bad n (can_stand plan now may r log c.requires.none c.args.task tasks_are (g.T.Table.tells c.args.table) c.requires.read.legal tells) (λ e. (let x = sym e ∙ c.requires.going in cc)) (bad_by c.in-Err.fault n (sym c.from.ensures ∙ is)) in
+    amiss_by plan now may r log c.args.plan.now.queries c.fields.result.now c.args.task c.args.saved n blame.0 blame.1 c.requires.read.printed c.fields.ensures.columns tasks_are blame.2 blame.3

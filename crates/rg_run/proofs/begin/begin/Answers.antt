@@ -26,18 +26,10 @@ returns-then-first-resumed-clause-begun g c = λ ready input.
     (0, inr w.said_stays, opening_moments g.H.Host.now g.H.Host.may g.H.Host.clock g.H.Host.since g.H.Host.said (planned c.args.plan.now) c.args.host.now ready 0 c.args.first input None c.resume.new.host w, tt, inr (unopened g.H.Host.now g.H.Host.may g.H.Host.clock g.H.Host.since g.H.Host.said (planned c.args.plan.now) c.args.host.now ready 0 c.args.first input None c.resume.new.host w))
 
 pub returns-then-first-resumed-clause-gap_next : goal.returns-then-first-resumed-clause-gap_next
-returns-then-first-resumed-clause-gap_next g c = λ ready n is.
-    let e : c.in-Ok.opened.1.next ≡ n = cc in
-    let r = c.in-Ok.ensures.running ready.openable tt in
-    let events = c.in-Ok.ensures.events ready.openable.image ready.held ready.openable.told ready.has in
-    sym e ∙ (numbers (planned c.args.plan.now) _ _ _ _ c.in-Ok.opened.0 r ready.held events.0 c.in-Ok.opened.1.next c.in-Ok.opened.1.count c.in-Ok.ensures.numbers.0 c.in-Ok.ensures.numbers.1).0
+returns-then-first-resumed-clause-gap_next g c = λ v events n told has is. let e : c.in-Ok.opened.1.next ≡ n = cc in sym e ∙ (c.in-Ok.ensures.events v events told has).2
 
 pub returns-in-Ok-put_mark-clause-no_gap : goal.returns-in-Ok-put_mark-clause-no_gap
-returns-in-Ok-put_mark-clause-no_gap g c = λ ready.
-    let r = c.in-Ok.ensures.running ready.openable tt in
-    let events = c.in-Ok.ensures.events ready.openable.image ready.held ready.openable.told ready.has in
-    let n = (numbers (planned c.args.plan.now) _ _ _ _ c.in-Ok.opened.0 r ready.held events.0 c.in-Ok.opened.1.next c.in-Ok.opened.1.count c.in-Ok.ensures.numbers.0 c.in-Ok.ensures.numbers.1).0 in
-    omega (arith, n, c.if-first-resumed.false)
+returns-in-Ok-put_mark-clause-no_gap g c = λ v events told has. omega (arith, (c.in-Ok.ensures.events v events told has).2, c.if-first-resumed.false)
 
 pub returns-in-Ok-put_mark-clause-exact : goal.returns-in-Ok-put_mark-clause-exact
 returns-in-Ok-put_mark-clause-exact g c = λ v told bad. c.in-Ok.ensures.exact v told bad
@@ -135,7 +127,7 @@ pub returns-in-Err-put_mark-clause-gap : goal.returns-in-Err-put_mark-clause-gap
 returns-in-Err-put_mark-clause-gap g c = λ n is. absurd (((put_others c.in-Err-put_mark.fault c.in-Err-put_mark.ensures.faults).4 n).2 (let e : c.in-Err-put_mark.fault ≡ run.Gap n = cc in e))
 
 pub returns-in-Err-put_mark-clause-gap_next : goal.returns-in-Err-put_mark-clause-gap_next
-returns-in-Err-put_mark-clause-gap_next g c = λ ready n is. absurd (((put_others c.in-Err-put_mark.fault c.in-Err-put_mark.ensures.faults).4 n).2 (let e : c.in-Err-put_mark.fault ≡ run.Gap n = cc in e))
+returns-in-Err-put_mark-clause-gap_next g c = λ v events n told has is. absurd (((put_others c.in-Err-put_mark.fault c.in-Err-put_mark.ensures.faults).4 n).2 (let e : c.in-Err-put_mark.fault ≡ run.Gap n = cc in e))
 
 pub returns-in-Err-put_mark-clause-differs : goal.returns-in-Err-put_mark-clause-differs
 returns-in-Err-put_mark-clause-differs g c = λ is. absurd ((put_others c.in-Err-put_mark.fault c.in-Err-put_mark.ensures.faults).1 (let e : c.in-Err-put_mark.fault ≡ run.SchemaDiffers = cc in e))

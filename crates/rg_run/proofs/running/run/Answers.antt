@@ -66,10 +66,10 @@ returns-in-Err-begin-clause-behind g c = λ ready keep behind.
     (refl, at.0, at.1)
 
 pub returns-in-Ok-answer_lines-clause-behind : goal.returns-in-Ok-answer_lines-clause-behind
-returns-in-Ok-answer_lines-clause-behind g c = λ ready keep behind. absurd (omega (arith, behind, c.in-Ok-begin.ensures.no_gap ready))
+returns-in-Ok-answer_lines-clause-behind g c = λ ready keep behind. absurd (omega (arith, behind, c.in-Ok-begin.ensures.no_gap ready.openable.image ready.held ready.openable.told ready.has))
 
 pub returns-clause-behind : goal.returns-clause-behind
-returns-clause-behind g c = λ ready keep behind. absurd (omega (arith, behind, c.in-Ok-begin.ensures.no_gap ready))
+returns-clause-behind g c = λ ready keep behind. absurd (omega (arith, behind, c.in-Ok-begin.ensures.no_gap ready.openable.image ready.held ready.openable.told ready.has))
 
 pub returns-in-Err-clause-unfit : goal.returns-in-Err-clause-unfit
 returns-in-Err-clause-unfit g c = λ v told unfit.
@@ -143,4 +143,4 @@ pub returns-in-Err-begin-clause-damaged : goal.returns-in-Err-begin-clause-damag
 returns-in-Err-begin-clause-damaged g c = λ p is. let e : c.in-Err-begin.fault ≡ run.Damaged p = cc in c.in-Err-begin.ensures.damaged p (ap (λ v. Err v) e)
 
 pub returns-in-Err-begin-clause-gap_next : goal.returns-in-Err-begin-clause-gap_next
-returns-in-Err-begin-clause-gap_next g c = λ ready n is. let e : c.in-Err-begin.fault ≡ run.Gap n = cc in c.in-Err-begin.ensures.gap_next ready n (ap (λ v. Err v) e)
+returns-in-Err-begin-clause-gap_next g c = λ v events n told has is. let e : c.in-Err-begin.fault ≡ run.Gap n = cc in c.in-Err-begin.ensures.gap_next v events n told has (ap (λ v. Err v) e)

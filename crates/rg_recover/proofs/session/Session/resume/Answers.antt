@@ -1,4 +1,5 @@
 use Rattle.std.proofs.Common.{◌≡◌, ◌∙◌, ◌+◌, List, take, sym, subst}
+use Rattle.rg_event.specs.Rising.{next_offset}
 use Rattle.rg_event.specs.declared.event.Event.{Event}
 use Rattle.rg_config.specs.Plans.{planned}
 use Rattle.rg_engine.specs.Passed.{passed_count}
@@ -29,8 +30,8 @@ returns-in-Ok-clause-events g c = λ v events told has.
     let h = g.H.Host.now c.open_store.new.host in
     let r = c.in-Ok.opened.reservoir in
     let are = c.in-Ok.ensures.events v events told has in
-    subst (λ (s : Sitting g.row.T.Denot). (events_of h s ≡ events) × (stored_of h s ≡ events)) (sym c.new.ensures)
-    (all_of_none h r c.in-Ok.ensures.none.0 ∙ are, stored_of_none h r ∙ are)
+    subst (λ (s : Sitting g.row.T.Denot). (events_of h s ≡ events) × (stored_of h s ≡ events) × (c.in-Ok.resumed.next ≡ next_offset events)) (sym c.new.ensures)
+    (all_of_none h r c.in-Ok.ensures.none.0 ∙ are.0, stored_of_none h r ∙ are.0, are.1)
 
 pub returns-in-Ok-clause-resumed : goal.returns-in-Ok-clause-resumed
 returns-in-Ok-clause-resumed g c = λ v told.

@@ -1,0 +1,99 @@
+-- Which node of the used checkpoint isn't true, from the spots of a reservoir to those of its log.
+use Rattle.std.proofs.Common.{◌≡◌, ◌∙◌, ◌↔◌, ◌⊎◌, inl, inr, ℕ, List, [], ◌∷◌, length, Option, Some, None, refl, sym, ap, subst}
+use Rattle.std.proofs.lemmas.List.Elements.{All-nil}
+use Rattle.rg_host.specs.Image.{Image}
+use Rattle.rg_event.specs.Shapes.{Shape}
+use Rattle.rg_event.specs.declared.event.Event.{Event}
+use Rattle.rg_event.specs.declared.schema.Field.{Field}
+use Rattle.rg_past.specs.declared.past.Spot.{Spot}
+use Rattle.rg_frame.specs.Frames.{FitsFrame, HasPayloads, payload_at}
+use Rattle.rg_frame.proofs.FrameLists.{payloads_one}
+use Rattle.rg_frame.proofs.Payloads.{payload_none}
+use Rattle.rg_log.specs.Log.{schema_payload}
+use Rattle.rg_log.specs.Spots.{SpotAt, SpotIn}
+use Rattle.rg_config.specs.Plans.{Planned}
+use Rattle.rg_plan.specs.Plans.{Planned as Tasks, plan_for}
+use Rattle.rg_checkpoint.specs.declared.base.Checkpoint.{Checkpoint}
+use Rattle.rg_restore.specs.declared.choosing.Saved.{Saved}
+use Rattle.rg_restore.specs.Fit.{IsFit}
+use Rattle.rg_restore.specs.Naming.{NamesIn}
+use Rattle.rg_restore.specs.NamingLaws.{sound_names}
+use Rattle.rg_restore.specs.Slots.{slot_in, IsBest}
+use Rattle.rg_restore.specs.Truthful.{NodeIsTrue}
+use Rattle.rg_restore.proofs.Joining.{node_later}
+use Rattle.rg_restore.proofs.Trying.{fit_same}
+use Rattle.rg_reservoir.specs.Attached.{Opens}
+use Rattle.rg_reservoir.specs.Kept.{base, opened, all_events, Spells}
+use Rattle.rg_reservoir.specs.declared.reservoir.Reservoir.{Reservoir}
+use Rattle.rg_reservoir.proofs.Chains.{some_none}
+use Rattle.rg_store.specs.Truth.{texts_of}
+use Rattle.rg_store.specs.Opened.{IsOpenedFor}
+use Rattle.rg_open.specs.Blame.{opened_list, IsAmiss}
+use Rattle.rg_open.proofs.Logs.{spelled, in_log}
+
+-- the best one is the best by another test that each passes where it passes this one
+best_same : (A B : Checkpoint → Type 0) (slots : ℕ → Option Checkpoint) (i : ℕ) (used : Checkpoint) → ((c : Checkpoint) → A c ↔ B c) → IsBest A slots i used → IsBest B slots i used
+best_same A B slots i used same best = record { there = best.there; fit = (same used).0 best.fit; others = λ j other there fits. best.others j other there ((same other).1 fits) }
+
+-- where the same spots are spelled
+amiss_same : (Spells Other : Spot → Type 0) (plan : Planned) (events : List Event) (saved : Saved) (n : ℕ) → ((spot : Spot) → Spells spot ↔ Other spot) → IsAmiss Spells plan events saved n → IsAmiss Other plan events saved n
+amiss_same Spells Other plan events saved n same amiss =
+    let texts = texts_of plan.shape plan.queries in
+    let tasks = plan_for plan.queries in
+    let count = length events in
+    record {
+      slot = amiss.slot;
+      used = amiss.used;
+      best = best_same (IsFit Spells texts plan.shape.fields tasks count) (IsFit Other texts plan.shape.fields tasks count) (slot_in saved) amiss.slot amiss.used
+          (λ c. (fit_same Spells Other texts plan.shape.fields tasks count count c (λ spot. (same spot).0) refl, fit_same Other Spells texts plan.shape.fields tasks count count c (λ spot. (same spot).1) refl)) amiss.best;
+      untrue = λ node. amiss.untrue (node_later Other Spells tasks n events events amiss.used (λ spot. (same spot).1) refl node);
+    }
+
+module _ (plan : Planned) (now : Option Image) (may : Image → Type 0) (r : Reservoir) (log : IsOpenedFor plan now may r) where
+  abbrev all : List Event
+  all = all_events now (base r) (opened r)
+
+  abbrev Spelled : Spot → Type 0
+  Spelled = Spells now (base r) (opened r)
+
+  abbrev Named : Spot → Type 0
+  Named = λ (spot : Spot). NamesIn now (base r) (base r).ended (opened r) spot
+
+  -- a sound reservoir names just what it spells
+  pub amiss_by : (texts : List (List ℕ)) (fields : List Field) (tasks : Tasks) (saved : Saved) (n i : ℕ) (used : Checkpoint) → texts ≡ texts_of plan.shape plan.queries → fields ≡ plan.shape.fields → tasks ≡ plan_for plan.queries
+      → IsBest (IsFit Named texts fields tasks (length all)) (slot_in saved) i used → (NodeIsTrue Spelled tasks n all used → ⊥) → IsAmiss Spelled plan all saved n
+  amiss_by texts fields tasks saved n i used texts_are fields_are tasks_are best untrue = record {
+    slot = i;
+    used = used;
+    best = best_same (IsFit Named (texts_of plan.shape plan.queries) plan.shape.fields (plan_for plan.queries) (length all)) (IsFit Spelled (texts_of plan.shape plan.queries) plan.shape.fields (plan_for plan.queries) (length all)) (slot_in saved) i used
+        (λ c. (fit_same Named Spelled _ _ _ _ _ c (λ spot. (sound_names now may r spot log.sound).0) refl, fit_same Spelled Named _ _ _ _ _ c (λ spot. (sound_names now may r spot log.sound).1) refl)) of_plan;
+    untrue = λ node. untrue (subst (λ (t : Tasks). NodeIsTrue Spelled t n all used) (sym tasks_are) node);
+  }
+    where
+      of_plan : IsBest (IsFit Named (texts_of plan.shape plan.queries) plan.shape.fields (plan_for plan.queries) (length all)) (slot_in saved) i used
+      of_plan = subst (λ (t : Tasks). IsBest (IsFit Named (texts_of plan.shape plan.queries) plan.shape.fields t (length all)) (slot_in saved) i used) tasks_are
+          (subst (λ (l : List Field). IsBest (IsFit Named (texts_of plan.shape plan.queries) l tasks (length all)) (slot_in saved) i used) fields_are
+          (subst (λ (l : List (List ℕ)). IsBest (IsFit Named l fields tasks (length all)) (slot_in saved) i used) texts_are best))
+
+  module _ (empty : opened r ≡ []) (payloads : List (List ℕ)) (has : (v : Image) → now ≡ Some v → HasPayloads payloads (v 2)) where
+    here : HasPayloads payloads (log.sound.0 2)
+    here = has log.sound.0 log.sound.1
+
+    -- it spells what its frame list does
+    at : (spot : Spot) → Spelled spot ↔ SpotAt plan.shape payloads spot
+    at spot = (
+      λ spells. let there = in_log plan now may r log empty spot spells in subst (λ (l : List (List ℕ)). SpotAt plan.shape l spot) (payloads_one there.0 payloads (log.sound.0 2) there.1 here) there.2,
+      λ there. spelled plan now may r log empty spot (payloads, here, there),
+    )
+
+    pub amiss_in : (events : List Event) (saved : Saved) (n : ℕ) → all ≡ events → IsAmiss Spelled plan all saved n → IsAmiss (SpotAt plan.shape payloads) plan events saved n
+    amiss_in events saved n same amiss = subst (λ (l : List Event). IsAmiss (SpotAt plan.shape payloads) plan l saved n) same (amiss_same Spelled (SpotAt plan.shape payloads) plan all saved n at amiss)
+
+-- a log that was opened has its frame list, or the schema's frame where it had none
+pub list_opened : (shape : Shape) (first end : ℕ) (payloads : List (List ℕ)) (old new : List ℕ) → Opens (schema_payload shape) first end old new → payload_at 0 new ≡ Some (schema_payload shape) → HasPayloads payloads old → HasPayloads (opened_list shape payloads) new
+list_opened shape first end [] old new (inl same) here has = absurd (some_none _ _ (subst (λ (l : List ℕ). payload_at 0 l ≡ Some (schema_payload shape)) same here) (payload_none [] old has))
+list_opened shape first end (p ∷ payloads) old new (inl same) here has = subst (λ (l : List ℕ). HasPayloads (p ∷ payloads) l) (sym same) has
+list_opened shape first end [] old new (inr (none, ends, grown)) here has = grown [] has
+list_opened shape first end (p ∷ payloads) old new (inr (none, ends, grown)) here has =
+    let one : ◌≡◌ {A = List (List ℕ)} [] (p ∷ payloads) = payloads_one [] (p ∷ payloads) old (record { frames = (0, none); fit = All-nil FitsFrame }) has in
+    absurd cc

@@ -1,9 +1,9 @@
 #!/usr/bin/env bash
 # Microseconds a line of a least and a greatest amount over 30 days: payments of one card whose amounts fall and rise, five seconds apart. Outside the gate.
-# `rt run` in crates/railgun builds the program first.
+# `rt run` in crates/railgun builds the program first; PROGRAM names another one.
 set -eu
 cd "$(dirname "$0")/.."
-program=$PWD/crates/railgun/out/railgun
+program=${PROGRAM:-$PWD/crates/railgun/out/railgun}
 lines=${1:-100000}
 work=$(mktemp -d)
 trap 'rm -rf "$work"' EXIT

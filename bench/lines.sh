@@ -1,9 +1,9 @@
 #!/usr/bin/env bash
 # Lines a second of the built program, and of awk that only splits and counts. Outside the gate.
-# `rt run` in crates/railgun builds the program first.
+# `rt run` in crates/railgun builds the program first; PROGRAM names another one.
 set -eu
 cd "$(dirname "$0")/.."
-program=$PWD/crates/railgun/out/railgun
+program=${PROGRAM:-$PWD/crates/railgun/out/railgun}
 work=$(mktemp -d)
 trap 'rm -rf "$work"' EXIT
 cp crates/railgun/data/plan "$work/plan"

@@ -39,7 +39,7 @@ tested_parts : {F A : Type 0} (fault : F) (test : Bool) (value : A) (left : List
 tested_parts fault true value left read is = (refl, cc)
 tested_parts fault false value left read is = absurd cc
 
-whole_is : {F A : Type 0} (reading : ReadingWith F A) (value : A) → whole reading ≡ Some value → reading ≡ Ok (value, [])
+pub whole_is : {F A : Type 0} (reading : ReadingWith F A) (value : A) → whole reading ≡ Some value → reading ≡ Ok (value, [])
 whole_is (Ok (other, [])) value is = let same : other ≡ value = cc in ap (λ v. Ok (v, [])) same
 whole_is (Ok (other, byte ∷ bytes)) value is = absurd cc
 whole_is (Err fault) value is = absurd cc

@@ -16,4 +16,5 @@ mod width;
 
 pub use columns::{decode_columns, encode_columns};
 pub use fault::ColumnFault;
+pub use series::Series;
 pub use width::Width;

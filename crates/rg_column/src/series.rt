@@ -8,10 +8,14 @@ const HALF: u64 = 0x8000_0000_0000_0000;
 
 /// A column of numbers: the offsets, the times, or the ints or ids at this index of the values.
 #[derive(Clone, Copy, Debug)]
-pub(crate) enum Series {
+pub enum Series {
+    /// The offsets.
     Offset,
+    /// The times.
     Time,
+    /// The ints at this index of the values.
     Int(u8),
+    /// The ids at this index of the values.
     Id(u8),
 }
 

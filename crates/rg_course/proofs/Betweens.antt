@@ -14,7 +14,8 @@ use Rattle.rg_course.specs.Steps.{IsAtRest, MarksHold}
 use Rattle.rg_course.specs.Turns.{IsBetween, IsStopped, IsDone}
 use Rattle.rg_course.proofs.Steps.{Item, passed_over}
 use Rattle.rg_course.proofs.Folds.{accepted-all, accepted-goes, puts-goes, out-is, grown}
-use Rattle.rg_course.proofs.Texts.{ended-append, are-append, mark_no_lf, turn_are_lines}
+use Rattle.rg_host.proofs.Endings.{ended-append}
+use Rattle.rg_course.proofs.Texts.{are-append, mark_no_lf, turn_are_lines}
 use Rattle.rg_course.proofs.Keeping.{rest_fewer, rest_more}
 use Rattle.rg_course.proofs.Marking.{open_marks, no_marks}
 use Rattle.rg_course.proofs.Courses.{stopped_at_rest}

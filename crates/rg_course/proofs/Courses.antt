@@ -15,7 +15,8 @@ use Rattle.rg_course.specs.Stores.{Store, Course, IsNear, IsKept, IsOnCourse, Is
 use Rattle.rg_course.specs.Steps.{IsAtRest, IsMidStep, MarksHold}
 use Rattle.rg_course.specs.Turns.{IsStopped}
 use Rattle.rg_course.proofs.Acknowledging.{line_among}
-use Rattle.rg_course.proofs.Texts.{ended-append, pieces_then, pieces_prefix, nil_prefix}
+use Rattle.rg_host.proofs.Endings.{ended-append}
+use Rattle.rg_course.proofs.Texts.{pieces_then, pieces_prefix, nil_prefix}
 use Rattle.rg_course.proofs.Keeping.{rest_kept, mid_step_kept, put_kept, near_more}
 
 module _ (Image : Type 0) (store : Store Image) (course : Course) where

@@ -122,10 +122,6 @@ out_are_lines terms events offset items = are-append (put_from terms events offs
 abbrev lf : ℕ → Bool
 lf byte = byte == 10
 
-pub ended-append : (a b : List (List ℕ)) → ended (a ++ b) ≡ ended a ++ ended b
-ended-append [] b = refl
-ended-append (l ∷ a) b = ap (λ (x : List ℕ). l ++ 10 ∷ x) (ended-append a b) ∙ sym (append_assoc l (10 ∷ ended a) (ended b))
-
 split_line : (line rest : List ℕ) → HasNoLf line → slice_split lf (line ++ 10 ∷ rest) ≡ line ∷ slice_split lf rest
 split_line [] rest none = refl
 split_line (b ∷ line) rest none = rw none.0 (ap (λ ps. onto_first b ps) (split_line line rest none.1))

@@ -15,7 +15,7 @@ ghost use Rattle.rg_reply.specs.Texts.{reply_line};
 ghost use Rattle.rg_verdict.specs.Verdicts.{Basis, Verdict, accepted_after, line_verdict};
 ghost use Rattle.rg_verdict.specs.Accepted.{accepted_before, reply_to};
 ghost use Rattle.rg_course.specs.Accepted.{verdict_from, events_before, events_after};
-ghost use Rattle.rg_course.specs.Output.{saves, stored_line, saved_line, marks_of, put_at, put_before, out, unstopped, text_of_run, Terms};
+ghost use Rattle.rg_course.specs.Output.{saves, stored_line, saved_line, marks_of, put_at, put_before, out, unstopped, open_line, text_of_run, Terms};
 ghost use Rattle.rg_course.specs.Ahead.{events_from, out_from};
 ghost use Rattle.rg_course.specs.Laws.{IsPrefixOf, IsSuffixOf, MayLeave, below, AcceptAlike, Overlaps, OneAhead};
 ghost use Rattle.rg_course.specs.Acknowledged.{SaysStored, SaysSaved, SaysLast, HoldsBelow, HoldsStored, IsAcknowledged};
@@ -105,6 +105,15 @@ pub fn law_alike()
 pub fn law_order()
     ensures rises { (terms : Terms) (held : List Event) (first : ℕ) (lines : List (Option (List ℕ))) → IsRising held → IsRising (events_after terms.basis held first lines) }
     ensures count { (terms : Terms) (held : List Event) (first : ℕ) (lines : List (Option (List ℕ))) → length (events_after terms.basis held first lines) ≤ max (length held) terms.basis.most }
+{}
+
+/// Whichever checkpoint a run goes on from, a newer one, an older one or none, it puts the same text
+/// behind its first line, which alone says how many events that checkpoint is of.
+pub fn law_whichever()
+    ensures text { (terms : Terms) (held : List Event) (one other first : ℕ) (lines : List (Option (List ℕ))) →
+        drop 1 (text_of_run terms held one first lines) ≡ drop 1 (text_of_run terms held other first lines) }
+    ensures first_line { (terms : Terms) (held : List Event) (from first : ℕ) (lines : List (Option (List ℕ))) →
+        text_of_run terms held from first lines ≡ open_line held from ∷ out terms held first lines }
 {}
 
 /// Lines below the next offset of the store may be left out of the input.

@@ -5,6 +5,7 @@ use Rattle.std.specs.Option.{ForSome}
 use Rattle.rg_host.specs.Image.{Image}
 use Rattle.rg_host.specs.Lines.{ended}
 use Rattle.rg_host.specs.Puts.{IsPrefix, StopsWith}
+use Rattle.rg_host.proofs.Endings.{ended-append}
 use Rattle.rg_frame.specs.Looks.{IsClosed}
 use Rattle.rg_reservoir.specs.Heads.{nothing}
 use Rattle.rg_reservoir.specs.Walked.{place_of, schema_of as known_of, tally_of, IsNext, IsRefused}
@@ -18,10 +19,6 @@ use Rattle.rg_dump.specs.Faults.{of_walk}
 use Rattle.rg_dump.specs.Stages.{stages_from}
 use Rattle.rg_dump.specs.Dump.{dump_text, damage_of, stage_lines, all_lines}
 use Rattle.rg_dump.proofs.Walking.{IsAt, at_start, at_next, at_end, at_damage}
-
-pub ended-append : (a b : List (List ℕ)) → ended (a ++ b) ≡ ended a ++ ended b
-ended-append [] b = refl
-ended-append (line ∷ a) b = ap (λ (l : List ℕ). line ++ 10 ∷ l) (ended-append a b) ∙ sym (append_assoc line (10 ∷ ended a) (ended b))
 
 pub all_lines-push : (stages : List Stage) (s : Stage) → all_lines (stages ++ s ∷ []) ≡ all_lines stages ++ stage_lines s
 all_lines-push [] s = append-nil (stage_lines s)

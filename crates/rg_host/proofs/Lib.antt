@@ -1,4 +1,5 @@
 pub mod Asking
+pub mod Endings
 pub mod FileLists
 pub mod Filling
 pub mod Finds

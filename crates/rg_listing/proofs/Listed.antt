@@ -12,11 +12,7 @@ use Rattle.rg_config.specs.declared.plan.Plan.{Plan}
 use Rattle.rg_config.proofs.Legal.{measured}
 use Rattle.rg_listing.specs.Listing.{numbered, query_line, offset_line, window_line, filter_line, group_line, agg_line, task_text, check_text}
 use Rattle.rg_config.specs.Read.{IsRead}
-
--- the bytes of some lines, and then those of others
-ended-append : (a b : List (List ℕ)) → ended (a ++ b) ≡ ended a ++ ended b
-ended-append [] b = refl
-ended-append (line ∷ a) b = ap (λ (l : List ℕ). line ++ 10 ∷ l) (ended-append a b) ∙ sym (append_assoc line (10 ∷ ended a) (ended b))
+use Rattle.rg_host.proofs.Endings.{ended-append}
 
 -- the line of one member, and those of the others
 next_line : {A : Type 0} (line : ℕ → A → List ℕ) (n i : ℕ) (xs : List A) (x : A) → i < length xs → get_or xs i x ≡ x → ended (numbered line n (drop i xs)) ≡ (line n x ++ 10 ∷ []) ++ ended (numbered line (suc n) (drop (suc i) xs))

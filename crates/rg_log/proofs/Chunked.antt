@@ -27,7 +27,8 @@ use Rattle.rg_chunk.specs.Heads.{layout_said, is_count, headed_at, stamp_at, hea
 use Rattle.rg_chunk.specs.declared.head.Layout.{Layout}
 use Rattle.rg_chunk.specs.declared.head.Layout.TheVariants.{Rows, Columns}
 use Rattle.rg_chunk.specs.declared.head.ChunkHead.{ChunkHead}
-use Rattle.rg_log.proofs.Decoded.{both_read, same_pair, passed, event_within, whole_is, byte_left, count_left, stamp_left}
+use Rattle.rg_chunk.proofs.Chunks.{whole_is}
+use Rattle.rg_log.proofs.Decoded.{both_read, same_pair, passed, event_within, byte_left, count_left, stamp_left}
 use Rattle.rg_log.proofs.Columned.{columns_within}
 
 headed_left : (said : Option Layout) (head : ChunkHead) (left : List ℕ) (out : Layout × ChunkHead) (rest : List ℕ) → headed_at said head left ≡ Ok (out, rest) → left ≡ rest

@@ -144,11 +144,6 @@ event_within fields bytes event left small e =
       subst (λ (l : List ℕ). All IsByte l) f.1 values.1,
     )
 
-pub whole_is : {F A : Type 0} (r : Reading F A) (value : A) → whole r ≡ Some value → r ≡ Ok (value, [])
-whole_is (Ok (value, [])) out e = ap (λ v. Ok (v, [])) (ap (λ o. unwrap_or o value) e)
-whole_is (Ok (value, byte ∷ bytes)) out e = absurd cc
-whole_is (Err fault) out e = absurd cc
-
 -- a number's bytes are taken off
 pub number_left : {F : Type 0} (w : Width) (short : F) (bytes : List ℕ) (n : ℕ) (left : List ℕ) → All IsByte bytes → number_at w short bytes ≡ Ok (n, left) → All IsByte left
 number_left w short bytes n left small e =

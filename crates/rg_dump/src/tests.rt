@@ -22,6 +22,21 @@ const ONE: [u8; 67] = [
     b'1', 2, b'm', b'1', 0, 0, 0, 0, 0, 0, 0, 50,
 ];
 
+/// The payments of `TWO` by columns: the offsets, the times, the cards, the merchants and the amounts.
+const TWO_BY_COLUMNS: [u8; 88] = [
+    0x4b, 0, 0, 0, 2, 0, 0, 0, 0, 0, 0, 0, 0, 0, 0, 0, 0, 0, 0, 0, 0, 0, 0, 0, 0, 0, 0, 0, 1, 0, 0,
+    0, 0, 0, 4, 0x93, 0xdf, 0, 0, 0, 0, 0, 0, 0, 0, 1, 0, 1, 0, 0, 0, 0, 0, 0, 0, 0, 4, 0, 0, 0, 0,
+    0, 4, 0x93, 0xdf, 2, 2, b'c', b'1', b'c', b'1', 2, 2, b'm', b'1', b'm', b'2', 0, 0, 0, 0, 0, 0,
+    0, 100, 1, 0, 100,
+];
+
+/// The payment of `ONE` by columns.
+const ONE_BY_COLUMNS: [u8; 73] = [
+    0x4b, 0, 0, 0, 1, 0, 0, 0, 0, 0, 0, 0, 2, 0, 0, 0, 0, 0, 4, 0x93, 0xe0, 0, 0, 0, 0, 0, 0, 0, 2,
+    0, 0, 0, 0, 0, 4, 0x93, 0xe0, 0, 0, 0, 0, 0, 0, 0, 2, 1, 0, 0, 0, 0, 0, 0, 4, 0x93, 0xe0, 1, 0,
+    2, b'c', b'1', 2, b'm', b'1', 0, 0, 0, 0, 0, 0, 0, 50, 1, 0,
+];
+
 const SCHEMA_LINE: &[u8] = b"payments(ts,card:text,merchant:text,amount:int)\n";
 
 const TWO_ROWS: &[u8] =
@@ -61,6 +76,24 @@ fn three_payments_are_three_rows(rt: HostRuntime) -> Result<(), Fail> {
 }
 
 #[test]
+fn rows_and_columns_are_dumped_alike(rt: HostRuntime) -> Result<(), Fail> {
+    let table: [(&[u8], &[u8], usize); 4] = [
+        (&TWO, &ONE, 240),
+        (&TWO, &ONE_BY_COLUMNS, 246),
+        (&TWO_BY_COLUMNS, &ONE, 231),
+        (&TWO_BY_COLUMNS, &ONE_BY_COLUMNS, 237),
+    ];
+    for (two, one, length) in table {
+        let bytes = file(rt.alloc(), &[SCHEMA, two, one])?;
+        assert_eq!(rt; bytes.len(), length);
+        let mut host = host_with(rt.alloc(), &bytes, &[])?;
+        assert_eq!(rt; dump(rt.alloc(), &mut host), Ok(()), "of {length} bytes");
+        assert_eq!(rt; host.output(), THREE_ROWS, "of {length} bytes");
+    }
+    Ok(())
+}
+
+#[test]
 fn nothing_is_put_for_a_log_without_frames(rt: HostRuntime) -> Result<(), Fail> {
     let files: [&[u8]; 4] = [b"", b"\x01", b"\x00", b"\x00\x01\x02"];
     for bytes in files {
@@ -90,16 +123,28 @@ fn a_log_cut_anywhere_is_dumped_up_to_its_damage(rt: HostRuntime) -> Result<(), 
     Ok(())
 }
 
+/// The payments of `TWO` by columns, with amounts that are wider than they need to be.
+const WIDE: [u8; 90] = [
+    0x4b, 0, 0, 0, 2, 0, 0, 0, 0, 0, 0, 0, 0, 0, 0, 0, 0, 0, 0, 0, 0, 0, 0, 0, 0, 0, 0, 0, 1, 0, 0,
+    0, 0, 0, 4, 0x93, 0xdf, 0, 0, 0, 0, 0, 0, 0, 0, 1, 0, 1, 0, 0, 0, 0, 0, 0, 0, 0, 4, 0, 0, 0, 0,
+    0, 4, 0x93, 0xdf, 2, 2, b'c', b'1', b'c', b'1', 2, 2, b'm', b'1', b'm', b'2', 0, 0, 0, 0, 0, 0,
+    0, 100, 2, 0, 0, 0, 100,
+];
+
 #[test]
 fn a_frame_that_is_not_what_it_should_be_is_damage(rt: HostRuntime) -> Result<(), Fail> {
-    let table: [(&[&[u8]], &[u8], u64); 5] = [
+    let table: [(&[&[u8]], &[u8], u64); 8] = [
         // no schema
         (&[b"\xff"], b"", 0),
         (&[&TWO], b"", 0),
         // no chunk
         (&[SCHEMA, SCHEMA], SCHEMA_LINE, 57),
+        // no columns
+        (&[SCHEMA, &WIDE], SCHEMA_LINE, 57),
+        (&[SCHEMA, &TWO, &ONE_BY_COLUMNS[..72]], TWO_ROWS, 163),
         // offsets that don't rise from one chunk to the next
         (&[SCHEMA, &TWO, &TWO], TWO_ROWS, 163),
+        (&[SCHEMA, &TWO, &TWO_BY_COLUMNS], TWO_ROWS, 163),
         (
             &[SCHEMA, &ONE, &TWO],
             b"payments(ts,card:text,merchant:text,amount:int)\n2,300000,c1,m1,50\n",
@@ -124,18 +169,29 @@ const KINDS: [u8; 77] = [
     0xff, 0xff, 0xfd,
 ];
 
+/// The same event by columns.
+const KINDS_BY_COLUMNS: [u8; 85] = [
+    0x4b, 0, 0, 0, 1, 0, 0, 0, 0, 0, 0, 0, 7, 0, 0, 0, 0, 0, 0, 0, 5, 0, 0, 0, 0, 0, 0, 0, 7, 0, 0,
+    0, 0, 0, 0, 0, 5, 0, 0, 0, 0, 0, 0, 0, 7, 1, 0, 0, 0, 0, 0, 0, 0, 0, 5, 1, 0, 5, b'a', b',',
+    b'"', b'b', b'\r', 1, 0, 0xff, 0xff, 0xff, 0xff, 0xff, 0xff, 0xff, 0xff, 1, 0, 0xff, 0xff,
+    0xff, 0xff, 0xff, 0xff, 0xff, 0xfd, 1, 0,
+];
+
 #[test]
 fn each_kind_of_value_is_printed(rt: HostRuntime) -> Result<(), Fail> {
-    let bytes = file(
-        rt.alloc(),
-        &[b"Sp(ts,t:text,f:flag,g:flag,i:id,n:int)", &KINDS],
-    )?;
-    let mut host = host_with(rt.alloc(), &bytes, &[])?;
-    assert_eq!(rt; dump(rt.alloc(), &mut host), Ok(()));
-    assert_eq!(rt;
-        host.output(),
-        b"p(ts,t:text,f:flag,g:flag,i:id,n:int)\n7,5,\"a,\"\"b\r\",true,false,18446744073709551615,-3\n".as_slice()
-    );
+    let chunks: [&[u8]; 2] = [&KINDS, &KINDS_BY_COLUMNS];
+    for chunk in chunks {
+        let bytes = file(
+            rt.alloc(),
+            &[b"Sp(ts,t:text,f:flag,g:flag,i:id,n:int)", chunk],
+        )?;
+        let mut host = host_with(rt.alloc(), &bytes, &[])?;
+        assert_eq!(rt; dump(rt.alloc(), &mut host), Ok(()));
+        assert_eq!(rt;
+            host.output(),
+            b"p(ts,t:text,f:flag,g:flag,i:id,n:int)\n7,5,\"a,\"\"b\r\",true,false,18446744073709551615,-3\n".as_slice()
+        );
+    }
     Ok(())
 }
 

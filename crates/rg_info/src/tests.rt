@@ -22,6 +22,13 @@ const ONE: [u8; 67] = [
     b'1', 2, b'm', b'1', 0, 0, 0, 0, 0, 0, 0, 50,
 ];
 
+/// The payment of `ONE` by columns: the offset, the time, the card, the merchant and the amount.
+const ONE_BY_COLUMNS: [u8; 73] = [
+    0x4b, 0, 0, 0, 1, 0, 0, 0, 0, 0, 0, 0, 2, 0, 0, 0, 0, 0, 4, 0x93, 0xe0, 0, 0, 0, 0, 0, 0, 0, 2,
+    0, 0, 0, 0, 0, 4, 0x93, 0xe0, 0, 0, 0, 0, 0, 0, 0, 2, 1, 0, 0, 0, 0, 0, 0, 4, 0x93, 0xe0, 1, 0,
+    2, b'c', b'1', 2, b'm', b'1', 0, 0, 0, 0, 0, 0, 0, 50, 1, 0,
+];
+
 /// A checkpoint of three payments: one query, whose text is `q`, no spot and no row.
 const CHECKPOINT: [u8; 30] = [
     0x42, 0, 0, 0, 1, 0, 0, 0, 1, b'q', 0, 0, 0, 0, 0, 0, 0, 3, 0, 0, 0, 0, 0, 0, 0, 0, 0, 0, 0, 0,
@@ -71,6 +78,23 @@ fn three_payments_and_a_checkpoint(rt: HostRuntime) -> Result<(), Fail> {
     );
     assert_eq!(rt; host.file(1), slot.as_slice());
     assert_eq!(rt; host.file(2), log.as_slice());
+    Ok(())
+}
+
+#[test]
+fn a_chunk_by_columns_counts_as_one_of_rows(rt: HostRuntime) -> Result<(), Fail> {
+    let log = file(rt.alloc(), &[SCHEMA, &TWO, &ONE_BY_COLUMNS])?;
+    let slot = file(rt.alloc(), &[&CHECKPOINT])?;
+    let mut host = store(rt.alloc(), &log, &slot, b"", &[])?;
+    assert_eq!(rt; info(rt.alloc(), &mut host), Ok(()));
+    assert_eq!(rt; host.output(), WHOLE);
+    // the last byte of the payload: no difference is 0 then, so the base isn't the least amount
+    let mut bad = ONE_BY_COLUMNS;
+    bad[72] = 1;
+    let log = file(rt.alloc(), &[SCHEMA, &TWO, &bad])?;
+    let mut host = store(rt.alloc(), &log, &slot, b"", &[])?;
+    assert_eq!(rt; info(rt.alloc(), &mut host), Err(InfoFault::Damaged(163)));
+    assert_eq!(rt; host.output(), b"".as_slice());
     Ok(())
 }
 

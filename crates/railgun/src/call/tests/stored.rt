@@ -1,3 +1,4 @@
+use super::dumped::LOG;
 use super::*;
 use rg_host::Pick;
 
@@ -91,6 +92,48 @@ fn a_run_puts_its_marks(rt: HostRuntime) -> Result<(), Fail> {
         )?;
     }
     Ok(())
+}
+
+#[test]
+fn a_run_writes_its_payments_by_columns(rt: HostRuntime) -> Result<(), Fail> {
+    let alloc = rt.alloc();
+    let plan = plan_of(alloc, TOTALS, PAYMENTS, SMALL)?;
+    let three = sound(plan.as_bytes(), THREE);
+    let mut host = failing(alloc, &[])?;
+    assert_run(&rt, &three, &mut host, THREE_PUT, Status::Ok)?;
+    // the gates of three frames and of the end, and the tags of two chunks
+    assert_eq!(rt; host.file(2).len(), 237);
+    for (at, byte) in [
+        (0, 1u8),
+        (57, 1),
+        (66, 0x4b),
+        (154, 1),
+        (163, 0x4b),
+        (236, 0),
+    ] {
+        assert_eq!(rt; host.file(2).get(at), Some(&byte), "at {at}");
+    }
+    Ok(())
+}
+
+#[test]
+fn a_run_goes_on_by_columns_where_a_log_has_rows(rt: HostRuntime) -> Result<(), Fail> {
+    let alloc = rt.alloc();
+    let plan = plan_of(alloc, TOTALS, PAYMENTS, SMALL)?;
+    let three = sound(plan.as_bytes(), THREE);
+    let mut host = with_log(alloc, &LOG)?;
+    let wanted = "open 2 2 0\n2 ok 2 250\nstored 3\nsaved 3\ndone 3 3\n";
+    assert_run(&rt, &three, &mut host, wanted, Status::Ok)?;
+    assert_eq!(rt; host.file(2).len(), 246);
+    assert_eq!(rt; host.file(2).get(..163), LOG.get(..163));
+    assert_eq!(rt; host.file(2).get(172), Some(&0x4b));
+    let dump = Setting {
+        words: &["dump", "store"],
+        ..three
+    };
+    let rows =
+        "payments(ts,card:text,merchant:text,amount:int)\n0,0,c1,m1,100\n1,299999,c1,m2,200\n2,300000,c1,m1,50\n";
+    assert_run(&rt, &dump, &mut host, rows, Status::Ok)
 }
 
 #[test]

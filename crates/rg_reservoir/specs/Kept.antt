@@ -224,5 +224,7 @@ AllTouched (place ∷ touched) old loads reads new loads_then reads_then =
 -- a look at a spot: all stays but the cache and the loads, and the first of its touches succeeded; over a sound log and a spelled spot all of them, where the look was answered
 pub record Looked (now : Option Image) (old : Reservoir) (spot : Spot) (reads reads_then : ℕ) (Answered : Type 0) (new : Reservoir) : Type 0 where
   pub stays : Stays old new
+  pub cached : (v : Image) → now ≡ Some v → IsCached (base old).shape.fields (v (base old).file) (cache_of old) → IsCached (base old).shape.fields (v (base old).file) (cache_of new)
+  pub inside : IsInside (base old).end (cache_of old) → IsInside (base old).end (cache_of new)
   pub touched : (v : Image) → now ≡ Some v → IsCached (base old).shape.fields (v (base old).file) (cache_of old) → IsTouched (cache_of old) (cache_of new) (look_places (base old) (v (base old).file) spot)
   pub loaded : Answered → (v : Image) → now ≡ Some v → AllTouched (look_places (base old) (v (base old).file) spot) (cache_of old) (loads_of old) reads (cache_of new) (loads_of new) reads_then

@@ -9,7 +9,7 @@ at-requires-clause-number g c = omega (arith, c.requires, c.seek.ensures.number,
 
 pub returns-in-Err : goal.returns-in-Err
 returns-in-Err g c = (
-  (refl, λ _. tt, record { stays = c.seek.ensures.stays; touched = c.seek.ensures.touched; loaded = λ answered. absurd answered.2 }),
+  (refl, λ _. tt, record { stays = c.seek.ensures.stays; cached = c.seek.ensures.cached; inside = c.seek.ensures.inside; touched = c.seek.ensures.touched; loaded = λ answered. absurd answered.2 }),
   record {
     after = tt;
     number = c.seek.ensures.number;
@@ -33,7 +33,7 @@ returns-in-Err g c = (
 
 pub returns : goal.returns
 returns g c = (
-  (refl, λ _. tt, record { stays = c.seek.ensures.stays; touched = c.seek.ensures.touched; loaded = λ answered. c.in-Ok.ensures.loaded answered.0 answered.1 }),
+  (refl, λ _. tt, record { stays = c.seek.ensures.stays; cached = c.seek.ensures.cached; inside = c.seek.ensures.inside; touched = c.seek.ensures.touched; loaded = λ answered. c.in-Ok.ensures.loaded answered.0 answered.1 }),
   record {
     after = tt;
     number = c.seek.ensures.number;

@@ -20,7 +20,7 @@ use Rattle.rg_listing.proofs.Stopped.{nothing_whole}
 use Rattle.railgun.specs.Causes.{RefusesStore, RefusesGap}
 use Rattle.railgun.specs.Call.{CarriesRun, IsRun, ReadsPlan, ShowsStore, Told, ToldPlan, plan_text, ForText, last_line, refusal_line, refusal_of, line_for, ending_status, ending_line, IsLegal, IsRefused, IsDamaged, IsUndamaged, IsPossible, status_by, plan_status, store_status, status_for}
 use Rattle.railgun.specs.declared.command.Command.{Command}
-use Rattle.railgun.specs.declared.command.Command.TheVariants.{Run, Check, Dump, Info}
+use Rattle.railgun.specs.declared.command.Command.TheVariants.{Run, Check, Dump, Info, Trial}
 use Rattle.railgun.specs.declared.status.Status.{Status}
 use Rattle.railgun.specs.declared.ending.Ending.{Ending}
 use Rattle.railgun.specs.declared.ending.Ending.TheVariants as ends
@@ -257,6 +257,25 @@ module _ (command : Command) (plan input : Option (List ℕ)) (image : Image) (A
   store_completes none Gap c = absurd (no_run (c.gap_only refl).0)
   store_completes none Differs c = absurd c.possible_only
 
+-- of a trial, which has neither a plan nor an input nor files
+module _ (lines seed : ℕ) (plan input : Option (List ℕ)) (store : Option Image) (A B C D : Type 0) where
+  never_long : (⊥ × IsLonger 65536 plan) ⊎ (IsLegal plan × ⊥ × IsLonger (2 ^ 50) input) → ⊥
+  never_long (inl longer) = longer.0
+  never_long (inr longer) = longer.1
+
+  trial_completes : (A ⊎ B ⊎ C → ⊥) → (status : Status) → Causes (Some (Trial lines seed)) plan input store A B C D status → (status ≡ Ok) ⊎ (status ≡ Memory)
+  trial_completes none Ok c = inl refl
+  trial_completes none Usage c = absurd (let e : Some (Trial lines seed) ≡ None = c.usage_only refl in cc)
+  trial_completes none BadPlan c = absurd (c.plan_only refl).0
+  trial_completes none Store c = absurd (⊎_elim (λ shows. shows.0) (λ runs. runs.0) (c.store_only refl))
+  trial_completes none Read c = absurd (no_rose A B C none (c.read_only refl))
+  trial_completes none Write c = absurd (none (inr (inr (c.write_only refl))))
+  trial_completes none Disk c = absurd (⊎_elim (λ shows. shows) (λ runs. runs.0) (c.disk_only refl).0)
+  trial_completes none Limit c = absurd (never_long (c.limit_only refl))
+  trial_completes none Memory c = inr refl
+  trial_completes none Gap c = absurd (c.gap_only refl).0
+  trial_completes none Differs c = absurd c.possible_only
+
 three : (A B C E : Type 0) → (A ⊎ B ⊎ C ⊎ E → ⊥) → A ⊎ B ⊎ C → ⊥
 three A B C E none (inl a) = none (inl a)
 three A B C E none (inr (inl b)) = none (inr (inl b))
@@ -284,6 +303,7 @@ completes (Some Dump) plan input store A B C D status causes told none =
 completes (Some Info) plan input store A B C D status causes told none =
     let P : Option Image → Type 0 = λ v. Causes (Some Info) plan input v A B C D status in
     store_completes Info plan input told.image A B C D tt (λ plan. plan) (λ run. run) (four A B C D (ShowsStore (Some Info)) tt none) status (subst P (told.image_is tt) causes)
+completes (Some (Trial lines seed)) plan input store A B C D status causes told none = trial_completes lines seed plan input store A B C D (three A B C (ShowsStore (Some (Trial lines seed)) × D) none) status causes
 completes None plan input store A B C D status causes told none = inl (causes.usage_always refl)
 
 -- what the plan's bytes say

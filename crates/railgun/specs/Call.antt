@@ -16,9 +16,11 @@ use Rattle.rg_info.specs.declared.fault.InfoFault.TheVariants as info
 use Rattle.rg_bytes.specs.Numbers.{whole_of}
 use Rattle.rg_run.specs.declared.fault.RunFault.{RunFault}
 use Rattle.rg_run.specs.declared.fault.RunFault.TheVariants as run
+use Rattle.rg_trial.specs.Trials.{IsTrial, trial_lines}
+use Rattle.rg_trial.specs.declared.trials.Trial.{Trial as Counted}
 use Rattle.railgun.specs.Plan.{IsPlan, IsRefusal}
 use Rattle.railgun.specs.declared.command.Command.{Command}
-use Rattle.railgun.specs.declared.command.Command.TheVariants.{Run, Check, Dump, Info}
+use Rattle.railgun.specs.declared.command.Command.TheVariants.{Run, Check, Dump, Info, Trial}
 use Rattle.railgun.specs.declared.ending.Ending.{Ending}
 use Rattle.railgun.specs.declared.ending.Refusal.{Refusal}
 use Rattle.railgun.specs.declared.ending.Ending.TheVariants as ending
@@ -51,12 +53,28 @@ abbrev pub when_run : Bool → Option ℕ → Option Command
 when_run true first = run_at first
 when_run false first = None
 
--- what the words ask for: `check PLAN`, `dump STORE`, `info STORE`, `run PLAN STORE`, or `run PLAN STORE FIRST`
+-- a trial on so many lines of a seed, where both are numbers and there are at most 200,000 lines
+abbrev pub trial_at : Option ℕ → Option ℕ → Option Command
+trial_at (Some lines) (Some seed) = if nat_le lines 200000 then Some (Trial lines seed) else None
+trial_at (Some lines) None = None
+trial_at None seed = None
+
+-- the same, where the word names a trial
+abbrev pub when_trial : Bool → Option ℕ → Option ℕ → Option Command
+when_trial true lines seed = trial_at lines seed
+when_trial false lines seed = None
+
+-- the command of three words that is named `run` or `self`, if it is one of these
+abbrev pub with_two : Bool → Bool → Option ℕ → Option ℕ → Option Command
+with_two true trial lines seed = Some (Run 0)
+with_two false trial lines seed = when_trial trial lines seed
+
+-- what the words ask for: `check PLAN`, `dump STORE`, `info STORE`, `run PLAN STORE`, `run PLAN STORE FIRST`, or `self N SEED`
 abbrev pub command_of : List (String Global) → Option Command
 command_of [] = None
 command_of (command ∷ []) = None
 command_of (command ∷ (file ∷ [])) = with_file (bytes_eq (string_bytes command) (codes "check")) (bytes_eq (string_bytes command) (codes "dump")) (bytes_eq (string_bytes command) (codes "info"))
-command_of (command ∷ (plan ∷ (store ∷ []))) = when (bytes_eq (string_bytes command) (codes "run")) (Run 0)
+command_of (command ∷ (second ∷ (third ∷ []))) = with_two (bytes_eq (string_bytes command) (codes "run")) (bytes_eq (string_bytes command) (codes "self")) (whole_of (string_bytes second)) (whole_of (string_bytes third))
 command_of (command ∷ (plan ∷ (store ∷ (first ∷ [])))) = when_run (bytes_eq (string_bytes command) (codes "run")) (whole_of (string_bytes first))
 command_of (command ∷ (plan ∷ (store ∷ (first ∷ (more ∷ words))))) = None
 
@@ -66,6 +84,7 @@ IsRun (Some (Run first)) = ⊤
 IsRun (Some Check) = ⊥
 IsRun (Some Dump) = ⊥
 IsRun (Some Info) = ⊥
+IsRun (Some (Trial lines seed)) = ⊥
 IsRun None = ⊥
 
 -- the call is a run, and its plan, of these bytes, is no longer than it may be and legal
@@ -75,6 +94,7 @@ CarriesRun (Some (Run first)) bytes (r.Err refusal) = ⊥
 CarriesRun (Some Check) bytes asks = ⊥
 CarriesRun (Some Dump) bytes asks = ⊥
 CarriesRun (Some Info) bytes asks = ⊥
+CarriesRun (Some (Trial lines seed)) bytes asks = ⊥
 CarriesRun None bytes asks = ⊥
 
 -- the words name a command that reads its plan
@@ -83,14 +103,16 @@ ReadsPlan (Some (Run first)) = ⊤
 ReadsPlan (Some Check) = ⊤
 ReadsPlan (Some Dump) = ⊥
 ReadsPlan (Some Info) = ⊥
+ReadsPlan (Some (Trial lines seed)) = ⊥
 ReadsPlan None = ⊥
 
--- the words name a command that puts what the store has, and reads neither a plan nor an input
+-- the words name a command that puts what the store has
 abbrev pub ShowsStore : Option Command → Type 0
 ShowsStore (Some (Run first)) = ⊥
 ShowsStore (Some Check) = ⊥
 ShowsStore (Some Dump) = ⊤
 ShowsStore (Some Info) = ⊤
+ShowsStore (Some (Trial lines seed)) = ⊥
 ShowsStore None = ⊥
 
 -- Where the call reads the plan, that tells its bytes, which are these. Where it puts what the store has, the host tells its image.
@@ -135,6 +157,20 @@ IsInfoAt Memory image text = text ≡ []
 IsInfoAt Gap image text = text ≡ []
 IsInfoAt Differs image text = text ≡ []
 
+-- the lines that a trial on so many lines of a seed puts: the four of its numbers, at Ok and where a put failed, and none at any other status
+abbrev pub IsTrialAt : Status → ℕ → ℕ → List (List ℕ) → Type 0
+IsTrialAt Ok lines seed text = (counted : Counted) × IsTrial seed lines counted × (text ≡ trial_lines counted)
+IsTrialAt Usage lines seed text = text ≡ []
+IsTrialAt BadPlan lines seed text = text ≡ []
+IsTrialAt Store lines seed text = text ≡ []
+IsTrialAt Read lines seed text = text ≡ []
+IsTrialAt Write lines seed text = (counted : Counted) × IsTrial seed lines counted × (text ≡ trial_lines counted)
+IsTrialAt Disk lines seed text = text ≡ []
+IsTrialAt Limit lines seed text = text ≡ []
+IsTrialAt Memory lines seed text = text ≡ []
+IsTrialAt Gap lines seed text = text ≡ []
+IsTrialAt Differs lines seed text = text ≡ []
+
 -- The text of a call which carries out no run, for what its words and its plan ask, and for the image of the store; file 2 is the log.
 -- At status Ok all of it is put, and at any other a front of it.
 abbrev pub IsTextOf : Option Command → Status → Result Planned ConfigFault → Image → List (List ℕ) → Type 0
@@ -142,6 +178,7 @@ IsTextOf (Some (Run first)) status asks image text = text ≡ []
 IsTextOf (Some Check) status asks image text = text ≡ plan_text asks
 IsTextOf (Some Dump) status asks image text = text ≡ dump_text (image 2)
 IsTextOf (Some Info) status asks image text = IsInfoAt status image text
+IsTextOf (Some (Trial lines seed)) status asks image text = IsTrialAt status lines seed text
 IsTextOf None status asks image text = text ≡ []
 
 -- P holds of that text
@@ -156,6 +193,7 @@ before_damage (Some (Run first)) image = []
 before_damage (Some Check) image = []
 before_damage (Some Dump) image = dump_text (image 2)
 before_damage (Some Info) image = []
+before_damage (Some (Trial lines seed)) image = []
 before_damage None image = []
 
 -- the line that refuses a plan, with its LF
@@ -357,4 +395,5 @@ status_for (Some (Run first)) plan asks image = plan_status plan asks
 status_for (Some Check) plan asks image = plan_status plan asks
 status_for (Some Dump) plan asks image = store_status (damage_of (image 2))
 status_for (Some Info) plan asks image = store_status (damage_of (image 2))
+status_for (Some (Trial lines seed)) plan asks image = Ok
 status_for None plan asks image = Usage

@@ -35,6 +35,7 @@ use crate::info::info;
 use crate::report::TomlFault;
 use crate::running::run;
 use crate::status::Status;
+use crate::trial::trial;
 use rg_bytes::{Memory, put_bytes, write_whole};
 use rg_config::{ConfigFault, Plan, read_plan};
 use rg_host::{AllFault, Host, Source, put_all, read_all};
@@ -203,6 +204,7 @@ fn run_command<P: Source, I: Source, H: Host>(
     host: &mut H,
 ) -> Result<(), Ending>
     requires first { (first : ℕ) → command ≡ Command.Run first → first ≤ 2 ^ 61 }
+    requires few { (lines seed : ℕ) → command ≡ Command.Trial lines seed → lines ≤ 200000 }
     ensures went { (first : ℕ) → command ≡ Command.Run first → (told : ToldRun (P.left plan.old) (I.left input.old) (H.now host.old) (H.may host.old) (H.said host.old)) → (from : ℕ)
         × Went H.may H.clock H.since H.said told.asks (begun_in told from first) told.ready.openable.image (I.left input.new) (Rose (P.faults plan.old) (P.faults plan.new)) (status_after result) (line_after result) host.old host.new }
     ensures never_damaged { IsRun (Some command) → ToldRun (P.left plan.old) (I.left input.old) (H.now host.old) (H.may host.old) (H.said host.old) → status_after result ≡ Status.Store → ⊥ }
@@ -231,7 +233,8 @@ fn run_command<P: Source, I: Source, H: Host>(
     ensures plan_first { (status_after result ≡ Status.Plan) ⊎ TellsNoPlan (P.left plan.old) → input.new ≡ input.old }
     ensures read_first { IfErr result (λ ending. ending_status ending ≡ Status.Read → ((input.new ≡ input.old) × LeavesFiles H.now H.may H.clock H.since host.old host.new) ⊎ Rose (I.faults input.old) (I.faults input.new)) }
     ensures no_input { command ≡ Command.Check → input.new ≡ input.old }
-    ensures store_alone { ShowsStore (Some command) → (plan.new ≡ plan.old) × (input.new ≡ input.old) }
+    ensures alone { (ReadsPlan (Some command) → ⊥) → (plan.new ≡ plan.old) × (input.new ≡ input.old) }
+    ensures trial { (lines seed : ℕ) → command ≡ Command.Trial lines seed → (status_after result ≡ Status.Ok) ⊎ (status_after result ≡ Status.Memory) ⊎ (status_after result ≡ Status.Write) }
     ensures leaves { (IsRun (Some command) → ⊥) ⊎ (status_after result ≡ Status.Plan) ⊎ TellsNoPlan (P.left plan.old) → LeavesFiles H.now H.may H.clock H.since host.old host.new }
     ensures later_out { H.out_faults host.old ≤ H.out_faults host.new }
 {
@@ -240,6 +243,7 @@ fn run_command<P: Source, I: Source, H: Host>(
         Command::Check => check_with_plan(alloc, plan, host),
         Command::Dump => dump(alloc, host),
         Command::Info => info(alloc, host),
+        Command::Trial(lines, seed) => trial(alloc, lines, seed, host),
     }
 }
 
@@ -314,13 +318,14 @@ fn run_words<P: Source, I: Source, H: Host>(
     ensures limit_only { result ≡ Status.Limit → (ReadsPlan (command_of words.now) × IsLonger 65536 (P.left plan.old)) ⊎ (IsLegal (P.left plan.old) × IsRun (command_of words.now) × IsLonger (2 ^ 50) (I.left input.old)) }
     ensures failure_told { (result ≡ Status.Ok) ⊎ (result ≡ Status.Plan) ⊎ (result ≡ Status.Store) ⊎ (result ≡ Status.Gap) ⊎ EndsWith (H.said host.new) (status_line result) ⊎ Rose (H.out_faults host.old) (H.out_faults host.new) }
     ensures possible_only { IsPossible result }
+    ensures trial_only { (lines seed : ℕ) → command_of words.now ≡ Some (Command.Trial lines seed) → (result ≡ Status.Ok) ⊎ (result ≡ Status.Memory) ⊎ (result ≡ Status.Write) }
     ensures store_never { IsRun (command_of words.now) → ToldRun (P.left plan.old) (I.left input.old) (H.now host.old) (H.may host.old) (H.said host.old) → result ≢ Status.Store }
     ensures refusal_told { result ≡ Status.Plan → TellsFault (P.left plan.old) refusal.new }
     ensures usage_first { result ≡ Status.Usage → (plan.new ≡ plan.old) × (input.new ≡ input.old) }
     ensures plan_first { (result ≡ Status.Plan) ⊎ TellsNoPlan (P.left plan.old) → input.new ≡ input.old }
     ensures read_first { result ≡ Status.Read → ((input.new ≡ input.old) × LeavesFiles H.now H.may H.clock H.since host.old host.new) ⊎ Rose (I.faults input.old) (I.faults input.new) }
     ensures check_alone { command_of words.now ≡ Some Command.Check → input.new ≡ input.old }
-    ensures store_alone { ShowsStore (command_of words.now) → (plan.new ≡ plan.old) × (input.new ≡ input.old) }
+    ensures alone { (ReadsPlan (command_of words.now) → ⊥) → (plan.new ≡ plan.old) × (input.new ≡ input.old) }
     ensures files_stay { (IsRun (command_of words.now) → ⊥) ⊎ (result ≡ Status.Plan) ⊎ TellsNoPlan (P.left plan.old) → LeavesFiles H.now H.may H.clock H.since host.old host.new }
     ensures rows_before_damage { result ≡ Status.Store → ShowsStore (command_of words.now) → ForSome (H.now host.old) (λ image. Puts H.said H.clock H.since host.old host.new (ended (before_damage (command_of words.now) image) ++ damage_line (damage_of (image 2)))) ⊎ Rose (H.out_faults host.old) (H.out_faults host.new) }
 {
@@ -339,7 +344,8 @@ fn run_words<P: Source, I: Source, H: Host>(
 
 /// Does all that the program does: with the words `run PLAN STORE` it answers the input by the plan over
 /// the store, with `check PLAN` it prints the plan, with `dump STORE` the log of the store, which is file 2
-/// of the host, and with `info STORE` how much the log and the two slots, files 0 and 1, have.
+/// of the host, with `info STORE` how much the log and the two slots, files 0 and 1, have, and with
+/// `self N SEED` what is counted of a run on N made lines.
 ///
 /// `words` are those after the program's name; behind a run's store may stand the offset of the input's
 /// first line, at most 2^61, which must be at most the store's next one. At most 65,536 bytes of `plan`
@@ -347,8 +353,9 @@ fn run_words<P: Source, I: Source, H: Host>(
 /// with what the store has, the answer of each line from the store's next offset on, in order, each with
 /// the marks that are due, and at last what is stored and saved and `done LINES EVENTS`; what a check
 /// puts out is each query and then the task plan; what a dump puts out is the schema's text and then each
-/// event as a row; what `info` puts out is six lines, once the whole log was read. Another status than Ok
-/// puts its last line behind whole lines of these.
+/// event as a row; what `info` puts out is six lines, once the whole log was read; what a trial puts out is
+/// four lines, and it touches neither plan nor input nor a file of the host. Another status than Ok puts
+/// its last line behind whole lines of these.
 pub fn railgun<P: Source, I: Source, H: Host>(
     alloc: Global,
     words: &[String],
@@ -362,7 +369,7 @@ pub fn railgun<P: Source, I: Source, H: Host>(
         SaysSo told.plan_bytes (λ asks. (CarriesRun (command_of words.now) told.plan_bytes asks → ⊥) → ForText (command_of words.now) Status.Ok asks told.image (λ text. Puts H.said H.clock H.since host.old host.new (ended text))) }
 
     // At each status, a front of that text was put out, or whole lines of it and a front of the status's last line. Where `info` doesn't
-    // read the store to its end, no line of it comes before that last one.
+    // read the store to its end, or a trial wants memory, no line of it comes before that last one.
     ensures put_so_far { (told : Told (command_of words.now) (P.left plan.old) (H.now host.old)) → SaysSo told.plan_bytes (λ asks. (CarriesRun (command_of words.now) told.plan_bytes asks → ⊥) → ForText (command_of words.now) result asks told.image (λ text.
         (put : List ℕ) × Puts H.said H.clock H.since host.old host.new put × IsPut text (line_for asks told.image result) put)) }
 
@@ -433,6 +440,9 @@ pub fn railgun<P: Source, I: Source, H: Host>(
     // Words that are refused, and what failed, are told last over every host, unless a put failed; the causes say so of a store and a gap.
     ensures failure_told { (result ≡ Status.Ok) ⊎ (result ≡ Status.Plan) ⊎ (result ≡ Status.Store) ⊎ (result ≡ Status.Gap) ⊎ EndsWith (H.said host.new) (status_line result) ⊎ Rose (H.out_faults host.old) (H.out_faults host.new) }
 
+    // A trial has a store of its own in memory: a host in memory fails for want of memory alone.
+    ensures trial_only { (lines seed : ℕ) → command_of words.now ≡ Some (Command.Trial lines seed) → (result ≡ Status.Ok) ⊎ (result ≡ Status.Memory) ⊎ (result ≡ Status.Write) }
+
     // A store that is ready for a run is never refused.
     ensures store_never { IsRun (command_of words.now) → ToldRun (P.left plan.old) (I.left input.old) (H.now host.old) (H.may host.old) (H.said host.old) → result ≢ Status.Store }
 
@@ -446,7 +456,7 @@ pub fn railgun<P: Source, I: Source, H: Host>(
     ensures plan_first { (result ≡ Status.Plan) ⊎ TellsNoPlan (P.left plan.old) → input.new ≡ input.old }
     ensures read_first { result ≡ Status.Read → ((input.new ≡ input.old) × LeavesFiles H.now H.may H.clock H.since host.old host.new) ⊎ Rose (I.faults input.old) (I.faults input.new) }
     ensures check_alone { command_of words.now ≡ Some Command.Check → input.new ≡ input.old }
-    ensures store_alone { ShowsStore (command_of words.now) → (plan.new ≡ plan.old) × (input.new ≡ input.old) }
+    ensures alone { (ReadsPlan (command_of words.now) → ⊥) → (plan.new ≡ plan.old) × (input.new ≡ input.old) }
 
     // Only a run whose plan is read may write a file: else the files stay, and at each moment a crash might have left of them what it could
     // leave at the start.

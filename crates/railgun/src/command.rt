@@ -1,11 +1,14 @@
 ghost use Rattle.std.specs.Prelude.{◌≡◌, ◌≤◌, ◌^◌, ℕ, Some, true, codes, bytes_eq};
 ghost use Rattle.rg_bytes.specs.Numbers.{whole_of};
-ghost use Rattle.railgun.specs.Call.{command_of, with_file, run_at};
+ghost use Rattle.railgun.specs.Call.{command_of, with_file, run_at, trial_at};
 
 use rg_bytes::read_whole;
 
 /// The greatest offset that the first line of an input may have.
 const GREATEST_FIRST: u64 = 1 << 61;
+
+/// The greatest number of lines of a trial.
+const TRIAL_LINES: u64 = 200_000;
 
 /// What the words after the program's name ask for.
 #[derive(Clone, Copy, Debug, PartialEq, Eq, Hash)]
@@ -18,6 +21,8 @@ pub enum Command {
     Dump,
     /// `info STORE`
     Info,
+    /// `self N SEED`: a trial on N made lines of a seed, N at most 200,000.
+    Trial(u64, u64),
 }
 
 /// The command of two words of which this is the first, where they are one.
@@ -45,6 +50,16 @@ fn run_from(first: &[u8]) -> Option<Command>
     }
 }
 
+/// The trial on as many lines of a seed as these texts say, where they say so.
+fn trial_on(lines: &[u8], seed: &[u8]) -> Option<Command>
+    ensures { result ≡ trial_at (whole_of lines.now) (whole_of seed.now) }
+{
+    match (read_whole(lines), read_whole(seed)) {
+        (Some(lines), Some(seed)) if lines <= TRIAL_LINES => Some(Command::Trial(lines, seed)),
+        _ => None,
+    }
+}
+
 impl Command {
     /// The command of these words, where they are one.
     pub fn named(words: &[String]) -> Option<Command>
@@ -53,6 +68,9 @@ impl Command {
         match words {
             [command, _] => with_file(command.as_str()),
             [command, _, _] if command.as_str() == "run" => Some(Command::Run(0)),
+            [command, lines, seed] if command.as_str() == "self" => {
+                trial_on(lines.as_bytes(), seed.as_bytes())
+            }
             [command, _, _, first] if command.as_str() == "run" => run_from(first.as_bytes()),
             _ => None,
         }

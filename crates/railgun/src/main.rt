@@ -13,6 +13,7 @@ mod refused;
 mod report;
 mod running;
 mod status;
+mod trial;
 
 use crate::call::railgun;
 use crate::command::Command;
@@ -37,7 +38,8 @@ fn access_of(words: &[String]) -> Access
 {
     match Command::named(words) {
         Some(Command::Run(_)) => Access::Write,
-        Some(Command::Check | Command::Dump | Command::Info) | None => Access::Read,
+        Some(Command::Check | Command::Dump | Command::Info | Command::Trial(_, _)) | None =>
+            Access::Read,
     }
 }
 

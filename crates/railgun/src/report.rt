@@ -6,7 +6,7 @@ use std::{fmt, io};
 
 /// The forms of the words, and the version.
 const USAGE: &str =
-    "usage: railgun run PLAN STORE [FIRST]\n       railgun check PLAN\n       railgun dump STORE\n       railgun info STORE\nrailgun 0.1.0";
+    "usage: railgun run PLAN STORE [FIRST]\n       railgun check PLAN\n       railgun dump STORE\n       railgun info STORE\n       railgun self N SEED\nrailgun 0.1.0";
 
 /// Where bytes stop being a TOML document.
 #[derive(Clone, Copy, Debug)]

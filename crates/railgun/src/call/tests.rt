@@ -7,6 +7,7 @@ mod bounds;
 mod dumped;
 mod informed;
 mod stored;
+mod tried;
 
 /// What a call finds: its words, the bytes of plan and input, and which of their reads fail.
 #[derive(Clone, Copy)]

@@ -1,11 +1,11 @@
 use Rattle.std.proofs.Common.{◌≡◌, ⊎_elim, inl, [], refl, sym, ◌∙◌}
 use Rattle.rg_dump.specs.Dump.{dump_text}
-use Rattle.railgun.specs.Call.{ending_status}
+use Rattle.railgun.specs.Call.{ending_status, ending_line}
 use Rattle.railgun.specs.declared.command.Command.TheVariants.{Run}
 use Rattle.railgun.specs.declared.status.Status.TheVariants.{Write}
 use Rattle.rg_listing.proofs.Stopped.{nothing_stops}
 use Rattle.railgun.proofs.Inputs.{on_err, on_errs, on_ok, any_err}
-use Rattle.railgun.proofs.Refusing.{damage_told}
+use Rattle.railgun.proofs.Refusing.{damage_told, trial_line, trial_status}
 use Rattle.railgun.proofs.call.run_command.Goals as goal
 
 pub returns-in-Run-clause-went : goal.returns-in-Run-clause-went
@@ -80,3 +80,27 @@ returns-in-Dump-clause-read_first g c = any_err c.dump.result _ (λ ending is. i
 
 pub returns-in-Info-clause-read_first : goal.returns-in-Info-clause-read_first
 returns-in-Info-clause-read_first g c = any_err c.info.result _ (λ ending is. inl (refl, c.info.ensures.leaves))
+
+pub returns-in-Run-clause-alone : goal.returns-in-Run-clause-alone
+returns-in-Run-clause-alone g c = rw c.in-Run.is (λ none. absurd (none tt))
+
+pub returns-in-Check-clause-alone : goal.returns-in-Check-clause-alone
+returns-in-Check-clause-alone g c = rw c.in-Check.is (λ none. absurd (none tt))
+
+pub returns-in-Trial-clause-completes : goal.returns-in-Trial-clause-completes
+returns-in-Trial-clause-completes g c =
+    rw c.in-Trial.is (on_ok c.trial.result _ _ (λ done told. record { text = done.0; is = done.1; holds = done.2 }) c.trial.ensures.completes)
+
+pub returns-in-Trial-clause-stops : goal.returns-in-Trial-clause-stops
+returns-in-Trial-clause-stops g c =
+    rw c.in-Trial.is (on_err c.trial.result _ _ (λ ending stops told. record { text = stops.0; is = stops.1; holds = stops.2 }) c.trial.ensures.stops)
+
+pub returns-in-Trial-clause-line : goal.returns-in-Trial-clause-line
+returns-in-Trial-clause-line g c =
+    rw c.in-Trial.is (on_errs c.trial.result _ _ _ (λ ending others line told. trial_line (ending_status ending) (ending_line ending) told.image told.asks others line) c.trial.ensures.others c.trial.ensures.line)
+
+pub returns-in-Trial-clause-read_first : goal.returns-in-Trial-clause-read_first
+returns-in-Trial-clause-read_first g c = any_err c.trial.result _ (λ ending is. inl (refl, c.trial.ensures.leaves))
+
+pub returns-in-Trial-clause-trial : goal.returns-in-Trial-clause-trial
+returns-in-Trial-clause-trial g c = λ lines seed is. trial_status c.trial.result c.trial.ensures.others

@@ -1,5 +1,6 @@
 -- Which node of the used checkpoint isn't true, from the spots of a reservoir to those of its log.
 use Rattle.std.proofs.Common.{◌≡◌, ◌∙◌, ◌↔◌, ◌⊎◌, inl, inr, ℕ, List, [], ◌∷◌, length, Option, Some, None, refl, sym, ap, subst}
+use Rattle.std.specs.Prelude.{All}
 use Rattle.std.proofs.lemmas.List.Elements.{All-nil}
 use Rattle.rg_host.specs.Image.{Image}
 use Rattle.rg_event.specs.Shapes.{Shape}
@@ -13,22 +14,26 @@ use Rattle.rg_log.specs.Log.{schema_payload}
 use Rattle.rg_log.specs.Spots.{SpotAt, SpotIn}
 use Rattle.rg_config.specs.Plans.{Planned}
 use Rattle.rg_plan.specs.Plans.{Planned as Tasks, plan_for}
+use Rattle.rg_query.specs.Legal.{IsLegal}
+use Rattle.rg_state.specs.Rows.{Cells}
+use Rattle.rg_engine.specs.Seen.{Seen}
+use Rattle.rg_engine.proofs.Legal.{serves}
 use Rattle.rg_checkpoint.specs.declared.base.Checkpoint.{Checkpoint}
 use Rattle.rg_restore.specs.declared.choosing.Saved.{Saved}
 use Rattle.rg_restore.specs.Fit.{IsFit}
 use Rattle.rg_restore.specs.Naming.{NamesIn}
 use Rattle.rg_restore.specs.NamingLaws.{sound_names}
 use Rattle.rg_restore.specs.Slots.{slot_in, IsBest}
-use Rattle.rg_restore.specs.Truthful.{NodeIsTrue}
+use Rattle.rg_restore.specs.Truthful.{NodeGoes, NodeIsTrue}
 use Rattle.rg_restore.proofs.Joining.{node_later}
 use Rattle.rg_restore.proofs.Trying.{fit_same}
 use Rattle.rg_reservoir.specs.Attached.{Opens}
-use Rattle.rg_reservoir.specs.Kept.{base, opened, all_events, Spells}
+use Rattle.rg_reservoir.specs.Kept.{Base, base, opened, all_events, IsSound, Spells}
 use Rattle.rg_reservoir.specs.declared.reservoir.Reservoir.{Reservoir}
 use Rattle.rg_reservoir.proofs.Chains.{some_none}
 use Rattle.rg_store.specs.Truth.{texts_of}
 use Rattle.rg_store.specs.Opened.{IsOpenedFor}
-use Rattle.rg_open.specs.Blame.{opened_list, IsAmiss}
+use Rattle.rg_open.specs.Blame.{opened_list, IsAmiss, NodeRuns}
 use Rattle.rg_open.proofs.Logs.{spelled, in_log}
 
 -- the best one is the best by another test that each passes where it passes this one
@@ -74,6 +79,22 @@ module _ (plan : Planned) (now : Option Image) (may : Image → Type 0) (r : Res
       of_plan = subst (λ (t : Tasks). IsBest (IsFit Named (texts_of plan.shape plan.queries) plan.shape.fields t (length all)) (slot_in saved) i used) tasks_are
           (subst (λ (l : List Field). IsBest (IsFit Named (texts_of plan.shape plan.queries) l tasks (length all)) (slot_in saved) i used) fields_are
           (subst (λ (l : List (List ℕ)). IsBest (IsFit Named l fields tasks (length all)) (slot_in saved) i used) texts_are best))
+
+  -- a node that an engine stands for can be carried on over a later state of the reservoir
+  pub runs_by : {T : Type 0} (tasks : Tasks) → tasks ≡ plan_for plan.queries → (then : Option Image) (after : Image → Type 0) (s : Reservoir) → base s ≡ base r → IsSound then after s → (n : ℕ) (is_told : Type 0) (cells : Cells) (engine : Seen T)
+      → All (IsLegal plan.shape) plan.queries → is_told → engine.plan ≡ tasks → NodeGoes (Spells then (base s) (opened s)) tasks n (all_events then (base s) (opened s)) cells engine.spots → NodeRuns plan n then after is_told cells s engine
+  runs_by tasks tasks_are then after s based sound n is_told cells engine legal tells plan_is goes = record {
+    reservoir = record {
+      sound = sound;
+      going = ap (λ (b : Base). b.ended) based ∙ log.going;
+      file = ap (λ (b : Base). b.file) based ∙ log.file;
+      shape = ap (λ (b : Base). b.shape) based ∙ log.shape;
+    };
+    goes = subst (λ (t : Tasks). NodeGoes (Spells then (base s) (opened s)) t n (all_events then (base s) (opened s)) cells engine.spots) tasks_are goes;
+    tells = tells;
+    serves = serves plan.shape plan.queries legal;
+    plan_is = plan_is ∙ tasks_are;
+  }
 
   module _ (empty : opened r ≡ []) (payloads : List (List ℕ)) (has : (v : Image) → now ≡ Some v → HasPayloads payloads (v 2)) where
     here : HasPayloads payloads (log.sound.0 2)

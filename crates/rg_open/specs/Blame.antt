@@ -1,5 +1,5 @@
 -- Which node of the checkpoint that an opening goes on from isn't true of the events.
-use Rattle.std.specs.Prelude.{ℕ, List, [], ◌∷◌, length}
+use Rattle.std.specs.Prelude.{◌≡◌, ℕ, List, [], ◌∷◌, length, Option}
 use Rattle.rg_host.specs.Image.{Image}
 use Rattle.rg_event.specs.Shapes.{Shape}
 use Rattle.rg_event.specs.declared.event.Event.{Event}
@@ -9,11 +9,17 @@ use Rattle.rg_log.specs.Log.{schema_payload}
 use Rattle.rg_log.specs.Spots.{SpotAt}
 use Rattle.rg_config.specs.Plans.{Planned}
 use Rattle.rg_plan.specs.Plans.{plan_for}
+use Rattle.rg_state.specs.Rows.{Cells}
+use Rattle.rg_engine.specs.Feeding.{Serves}
+use Rattle.rg_engine.specs.Seen.{Seen}
 use Rattle.rg_checkpoint.specs.declared.base.Checkpoint.{Checkpoint}
 use Rattle.rg_restore.specs.declared.choosing.Saved.{Saved}
 use Rattle.rg_restore.specs.Fit.{IsFit}
 use Rattle.rg_restore.specs.Slots.{slot_in, IsBest}
-use Rattle.rg_restore.specs.Truthful.{NodeIsTrue}
+use Rattle.rg_restore.specs.Truthful.{NodeGoes, NodeIsTrue}
+use Rattle.rg_reservoir.specs.Kept.{base, opened, all_events, Spells}
+use Rattle.rg_reservoir.specs.declared.reservoir.Reservoir.{Reservoir}
+use Rattle.rg_store.specs.Opened.{IsOpenedFor}
 use Rattle.rg_store.specs.Truth.{texts_of}
 use Rattle.rg_open.specs.Opening.{AreSlots}
 
@@ -29,6 +35,15 @@ pub record IsAmiss (Spells : Spot → Type 0) (plan : Planned) (events : List Ev
   pub used : Checkpoint
   pub best : IsBest (IsFit Spells (texts_of plan.shape plan.queries) plan.shape.fields (plan_for plan.queries) (length events)) (slot_in saved) slot used
   pub untrue : NodeIsTrue Spells (plan_for plan.queries) n events used → ⊥
+
+-- One node of an engine stands for all events of a sound reservoir over the plan's log, those of the open chunk included; the table tells
+-- its rows, and the events are of columns that serve the plan: the node can be carried on, whatever the rows and spots of the others are.
+pub record NodeRuns {T : Type 0} (plan : Planned) (n : ℕ) (now : Option Image) (may : Image → Type 0) (is_told : Type 0) (cells : Cells) (r : Reservoir) (engine : Seen T) : Type 0 where
+  pub reservoir : IsOpenedFor plan now may r
+  pub goes : NodeGoes (Spells now (base r) (opened r)) (plan_for plan.queries) n (all_events now (base r) (opened r)) cells engine.spots
+  pub tells : is_told
+  pub serves : Serves plan.shape.fields (plan_for plan.queries)
+  pub plan_is : engine.plan ≡ plan_for plan.queries
 
 -- Of an image whose log has these events: the node isn't true in the checkpoint of its slots that is used.
 pub record IsBlamed (plan : Planned) (v : Image) (events : List Event) (n : ℕ) : Type 0 where

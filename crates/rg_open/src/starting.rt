@@ -17,7 +17,7 @@ ghost use Rattle.rg_restore.specs.Opening.{IsEmpty, IsGoing};
 ghost use Rattle.rg_restore.specs.Slots.{slot_in, HaveBegun, IsBest, IsFrom};
 ghost use Rattle.rg_restore.specs.Truthful.{NodeIsTrue};
 ghost use Rattle.rg_store.specs.Opened.{IsOpenedFor};
-ghost use Rattle.rg_open.specs.Blame.{IsAmiss};
+ghost use Rattle.rg_open.specs.Blame.{IsAmiss, NodeRuns};
 ghost use Rattle.rg_open.specs.Opening.{IsFound, IsStarted};
 
 use crate::fault::OpenFault;
@@ -76,6 +76,9 @@ fn start_over<H: Host, T: Table, L: Ledger>(
         × (steps.new + come task before ≡ steps.old + come task (numbers_of r.0.spots))) }
     ensures bad { (n : ℕ) → IsOpenedFor (planned plan.now) (H.now past.old.host.now) (H.may past.old.host.now) past.old.reservoir.now → T.tells table →
         IfErr result (λ refused. refused.0 ≡ OpenFault.BadState n →
+        IsAmiss (Spells (H.now past.old.host.now) (base past.old.reservoir.now) (opened past.old.reservoir.now)) (planned plan.now) (all_events (H.now past.old.host.now) (base past.old.reservoir.now) (opened past.old.reservoir.now)) saved n) }
+    ensures node { (n : ℕ) → IsOpenedFor (planned plan.now) (H.now past.old.host.now) (H.may past.old.host.now) past.old.reservoir.now → T.tells table →
+        IfOk result (λ r. (NodeRuns (planned plan.now) n (H.now past.new.host.now) (H.may past.new.host.now) (T.tells r.0.table) (T.cell r.0.table) past.new.reservoir.now r.0 → ⊥) →
         IsAmiss (Spells (H.now past.old.host.now) (base past.old.reservoir.now) (opened past.old.reservoir.now)) (planned plan.now) (all_events (H.now past.old.host.now) (base past.old.reservoir.now) (opened past.old.reservoir.now)) saved n) }
 
     ensures disk { IfErr result (λ refused. refused.0 ≡ OpenFault.Disk → Rose (H.disk_faults past.old.host.now) (H.disk_faults past.new.host.now)) }
@@ -146,6 +149,9 @@ pub(crate) fn start<H: Host, T: Table, L: Ledger>(
         × (steps.new + come task before ≡ steps.old + come task (numbers_of r.0.spots))) }
     ensures bad { (n : ℕ) → IsOpenedFor (planned plan.now) (H.now host.old) (H.may host.old) reservoir.old → T.tells table →
         IfErr result (λ refused. refused.0 ≡ OpenFault.BadState n →
+        IsAmiss (Spells (H.now host.old) (base reservoir.old) (opened reservoir.old)) (planned plan.now) (all_events (H.now host.old) (base reservoir.old) (opened reservoir.old)) saved n) }
+    ensures node { (n : ℕ) → IsOpenedFor (planned plan.now) (H.now host.old) (H.may host.old) reservoir.old → T.tells table →
+        IfOk result (λ r. (NodeRuns (planned plan.now) n (H.now host.new) (H.may host.new) (T.tells r.0.table) (T.cell r.0.table) reservoir.new r.0 → ⊥) →
         IsAmiss (Spells (H.now host.old) (base reservoir.old) (opened reservoir.old)) (planned plan.now) (all_events (H.now host.old) (base reservoir.old) (opened reservoir.old)) saved n) }
 
     ensures disk { IfErr result (λ refused. refused.0 ≡ OpenFault.Disk → Rose (H.disk_faults host.old) (H.disk_faults host.new)) }

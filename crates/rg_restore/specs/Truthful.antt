@@ -48,6 +48,11 @@ pub record EngineStands (Spells : Spot → Type 0) (plan : Planned) (events : Li
   pub rows : StandsFor plan events cells
   pub spots : SpotsAt Spells plan.offsets events at
 
+-- one node of an engine stands for these events: its rows do, and the edges of its window are at their positions, at spots that are spelled
+pub record NodeGoes (Spells : Spot → Type 0) (plan : Planned) (n : ℕ) (events : List Event) (cells : Cells) (at : List Spot) : Type 0 where
+  pub told : IsTold plan n Spells at
+  pub stands : NodeStands plan n events cells (numbers_of at)
+
 -- one node of a checkpoint is true of these events: the spots of its window's edges are spelled, and they and its rows stand for some of the first ones
 pub record NodeIsTrue (Spells : Spot → Type 0) (plan : Planned) (n : ℕ) (events : List Event) (checkpoint : Checkpoint) : Type 0 where
   pub front : List Event

@@ -6,7 +6,7 @@ ghost use Rattle.rg_past.specs.declared.past.PastFault.{PastFault};
 ghost use Rattle.rg_state.specs.Keeping.{TableKept};
 ghost use Rattle.rg_window.specs.Placed.{numbers_of};
 ghost use Rattle.rg_engine.specs.Passed.{passed_count};
-ghost use Rattle.rg_engine.specs.Standing.{NodeStands, come};
+ghost use Rattle.rg_engine.specs.Standing.{IsTold, NodeStands, come};
 ghost use Rattle.rg_restore.specs.Opening.{CanStand, IsEmpty, IsGoing, IsUsable};
 ghost use Rattle.rg_restore.specs.Truthful.{EngineStands, IsTruthful, NodeIsTrue};
 
@@ -55,6 +55,8 @@ pub fn restore<P: Past, T: Table, L: Ledger>(
     ensures node { (n : ℕ) → CanStand (P.sound past.old) (T.tells table) plan (P.events past.old) → last_time (P.events past.old) ≡ last →
         NodeIsTrue (P.spells past.old) plan n (P.events past.old) checkpoint →
         IfOk result (λ engine. NodeStands plan n (P.events past.new) (T.cell engine.table) (numbers_of engine.spots)) }
+    ensures told { (n : ℕ) → P.sound past.old → IsTold plan n (P.spells past.old) checkpoint.spots →
+        IfOk result (λ engine. IsTold plan n (P.spells past.new) engine.spots) }
     ensures bad { (n : ℕ) → CanStand (P.sound past.old) (T.tells table) plan (P.events past.old) →
         NodeIsTrue (P.spells past.old) plan n (P.events past.old) checkpoint →
         IfErr result (λ refused. refused.0 ≡ EngineFault.BadState n → ⊥) }

@@ -11,7 +11,7 @@ ghost use Rattle.rg_checkpoint.specs.declared.base.Checkpoint.{Checkpoint};
 ghost use Rattle.rg_restore.specs.Fit.{IsFit};
 ghost use Rattle.rg_restore.specs.Opening.{CanStand, IsEmpty, IsGoing};
 ghost use Rattle.rg_restore.specs.Slots.{slot_in, AreTruthful, HaveBegun, IsBest, IsFrom};
-ghost use Rattle.rg_restore.specs.Truthful.{EngineStands, NodeIsTrue};
+ghost use Rattle.rg_restore.specs.Truthful.{EngineStands, NodeGoes, NodeIsTrue};
 
 use crate::choosing::{Saved, begin};
 use crate::names::Names;
@@ -71,6 +71,13 @@ pub fn resume<P: Names, T: Table, L: Ledger>(
         × (steps.new + come plan before ≡ steps.old + come plan (numbers_of r.0.spots))) }
     ensures bad { (n : ℕ) → CanStand (P.Past.sound past.old) (T.tells table) plan (P.Past.events past.old) → (P.Past.ended past.old → ⊥) →
         IfErr result (λ refused. refused.0 ≡ EngineFault.BadState n → (i : ℕ) × (used : Checkpoint)
+        × IsBest (IsFit (P.named past.old) queries.now fields.now plan (length (P.Past.events past.old))) (slot_in saved) i used
+        × (NodeIsTrue (P.Past.spells past.old) plan n (P.Past.events past.old) used → ⊥)) }
+
+    // A node that the engine doesn't stand for isn't true in the checkpoint that was used.
+    ensures node { (n : ℕ) → CanStand (P.Past.sound past.old) (T.tells table) plan (P.Past.events past.old) → (P.Past.ended past.old → ⊥) →
+        last_time (P.Past.events past.old) ≡ last →
+        IfOk result (λ r. (NodeGoes (P.Past.spells past.new) plan n (P.Past.events past.new) (T.cell r.0.table) r.0.spots → ⊥) → (i : ℕ) × (used : Checkpoint)
         × IsBest (IsFit (P.named past.old) queries.now fields.now plan (length (P.Past.events past.old))) (slot_in saved) i used
         × (NodeIsTrue (P.Past.spells past.old) plan n (P.Past.events past.old) used → ⊥)) }
 

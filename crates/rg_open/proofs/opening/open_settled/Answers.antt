@@ -120,3 +120,16 @@ returns-in-Err-start-clause-bad g c = λ v events n told settled has tells is.
       amiss = amiss_in (planned c.args.plan.now) (g.H.Host.now c.find.new.host) (g.H.Host.may c.find.new.host) found.reservoir log c.in-Ok.ensures.empty.0 (opened_list c.args.plan.now.schema has.1.payloads) (c.in-Ok.ensures.list v has.1.payloads told has.1.has) events found.saved n
           (ap (λ (l : List Event). all_events (g.H.Host.now c.find.new.host) (base found.reservoir) l) c.in-Ok.ensures.empty.0 ∙ c.in-Ok.ensures.events v events told settled has) (c.in-Err-start.ensures.bad n log tells is);
     }
+
+pub returns-in-Ok-start-clause-node : goal.returns-in-Ok-start-clause-node
+returns-in-Ok-start-clause-node g c = λ v events n told settled has tells not.
+    let found = c.in-Ok.found in
+    let log = c.in-Ok.ensures.log v events told settled has in
+    record {
+      saved = found.saved;
+      slots = c.in-Ok.ensures.slots v told;
+      payloads = has.1.payloads;
+      has = has.1.has;
+      amiss = amiss_in (planned c.args.plan.now) (g.H.Host.now c.find.new.host) (g.H.Host.may c.find.new.host) found.reservoir log c.in-Ok.ensures.empty.0 (opened_list c.args.plan.now.schema has.1.payloads) (c.in-Ok.ensures.list v has.1.payloads told has.1.has) events found.saved n
+          (ap (λ (l : List Event). all_events (g.H.Host.now c.find.new.host) (base found.reservoir) l) c.in-Ok.ensures.empty.0 ∙ c.in-Ok.ensures.events v events told settled has) (c.in-Ok-start.ensures.node n log tells not);
+    }

@@ -89,3 +89,6 @@ returns-in-Err-open_settled-clause-unfit g c = λ v told unfit. (
 
 pub returns-in-Err-open_settled-clause-bad : goal.returns-in-Err-open_settled-clause-bad
 returns-in-Err-open_settled-clause-bad g c = λ v events n told has tells. c.in-Err-open_settled.ensures.bad v events n (c.settle.ensures.leaves.now_stays ∙ told) c.in-Ok.ensures.settled has tells
+
+pub returns-in-Ok-open_settled-clause-node : goal.returns-in-Ok-open_settled-clause-node
+returns-in-Ok-open_settled-clause-node g c = λ v events n told has tells not. c.in-Ok-open_settled.ensures.node v events n (c.settle.ensures.leaves.now_stays ∙ told) c.in-Ok.ensures.settled has tells not

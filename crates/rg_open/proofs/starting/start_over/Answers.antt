@@ -12,7 +12,7 @@ use Rattle.rg_restore.specs.Slots.{slot_in}
 use Rattle.rg_open.proofs.Causes.{bad_by, damaged_by, disk_by}
 use Rattle.rg_open.proofs.Found.{none_still, from_heads, are_truthful, kept_by, started}
 use Rattle.rg_open.proofs.Logs.{can_stand, last_is}
-use Rattle.rg_open.proofs.Blame.{amiss_by}
+use Rattle.rg_open.proofs.Blame.{amiss_by, runs_by}
 use Rattle.rg_open.proofs.starting.start_over.Goals as goal
 
 pub returns-in-Ok-clause-from : goal.returns-in-Ok-clause-from
@@ -108,4 +108,21 @@ returns-in-Err-clause-bad g c = λ n log tells is.
     let r = p.reservoir.now in
     let tasks_are = c.requires.task ∙ c.requires.read.task in
     let blame = c.in-Err.ensures.bad n (can_stand plan now may r log c.requires.none c.args.task tasks_are (g.T.Table.tells c.args.table) c.requires.read.legal tells) (λ e. (let x = sym e ∙ c.requires.going in cc)) (bad_by c.in-Err.fault n (sym c.from.ensures ∙ is)) in
+    amiss_by plan now may r log c.args.plan.now.queries c.fields.result.now c.args.task c.args.saved n blame.0 blame.1 c.requires.read.printed c.fields.ensures.columns tasks_are blame.2 blame.3
+
+pub returns-in-Ok-clause-node : goal.returns-in-Ok-clause-node
+returns-in-Ok-clause-node g c = λ n log tells not.
+    let plan = planned c.args.plan.now in
+    let p = c.args.past.now in
+    let q = c.resume.new.past in
+    let now = g.H.Host.now p.host.now in
+    let may = g.H.Host.may p.host.now in
+    let r = p.reservoir.now in
+    let goes = c.resume.ensures.past.goes in
+    let tasks_are = c.requires.task ∙ c.requires.read.task in
+    let engine = c.in-Ok.started.0 in
+    let blame = c.in-Ok.ensures.node n (can_stand plan now may r log c.requires.none c.args.task tasks_are (g.T.Table.tells c.args.table) c.requires.read.legal tells) (λ e. (let x = sym e ∙ c.requires.going in cc))
+    (last_is plan now may r log c.requires.none c.last_of-last.result c.last_of-last.ensures.some c.last_of-last.ensures.none)
+    (λ goes_on. not (runs_by plan now may r log c.args.task tasks_are (g.H.Host.now q.host.now) (g.H.Host.may q.host.now) q.reservoir.now goes.base (goes.sound log.sound) n (g.T.Table.tells engine.table) (g.T.Table.cell engine.table) engine
+    c.requires.read.legal (c.in-Ok.ensures.table.tells.1 tells) c.in-Ok.ensures.engine.plan_is goes_on)) in
     amiss_by plan now may r log c.args.plan.now.queries c.fields.result.now c.args.task c.args.saved n blame.0 blame.1 c.requires.read.printed c.fields.ensures.columns tasks_are blame.2 blame.3

@@ -10,6 +10,11 @@ returns-clause-node g c =
     let went = rw (c.in-Ok.ensures.plan, c.in-Ok.ensures.spots, c.in-Ok.ensures.table) at c.in-Ok-replay.ensures.stands in
     λ n front more can last is told stood. went n front last (record { sound = can.sound; spelled = told; tells = can.tells; fed = can.fed; more = more; begins = is; stood = stood })
 
+pub returns-clause-told : goal.returns-clause-told
+returns-clause-told g c =
+    let spelled = rw (c.in-Ok.ensures.spots) at c.in-Ok-replay.ensures.edges.spells in
+    λ n sound told edge offset there has. spelled sound edge (told edge offset there has)
+
 pub returns-in-Err-replay-clause-bad : goal.returns-in-Err-replay-clause-bad
 returns-in-Err-replay-clause-bad g c =
     let went = rw (c.in-Ok.ensures.plan, c.in-Ok.ensures.spots, c.in-Ok.ensures.table) at c.in-Err-replay.ensures.bad in

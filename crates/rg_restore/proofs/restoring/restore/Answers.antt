@@ -43,6 +43,9 @@ returns-clause-node g c =
     went n node.front node.more (record { sound = can.sound; tells = c.move_rows.ensures.kept.tells.1 can.tells; fed = can.fed }) last node.is node.told
     (node_same c.args.plan n node.front node.stands.cells (g.T.Table.cell c.move_rows.new.table) (numbers_of c.args.checkpoint.spots) c.args.checkpoint.rows node.stands.lists lists node.stands.stands)
 
+pub returns-clause-told : goal.returns-clause-told
+returns-clause-told g c = rw (c.as_slice.ensures) at c.in-Ok-go_on.ensures.told
+
 pub returns-clause-stands : goal.returns-clause-stands
 returns-clause-stands g c =
     let went = rw (c.as_slice.ensures) at c.in-Ok-go_on.ensures.stands in

@@ -7,6 +7,7 @@ use Rattle.rg_window.specs.Placed.{numbers_of}
 use Rattle.rg_engine.specs.Passed.{passed_count}
 use Rattle.rg_restore.specs.Opening.{IsUsable}
 use Rattle.rg_restore.proofs.Joining.{can_later, node_later}
+use Rattle.rg_restore.proofs.Placing.{node_stands, node_told}
 use Rattle.rg_restore.proofs.resuming.resume.Goals as goal
 
 pub restore-requires-clause-usable : goal.restore-requires-clause-usable
@@ -58,3 +59,25 @@ returns-in-Err-restore-clause-never_damaged g c = λ place sound runs is.
       | inr best ↦ All-weaker (g.P.Names.named c.args.past.now) (g.P.Past.spells c.begin.new.past) (λ spot named. (c.begin.ensures.spells spot).1 ((g.met.P.Names.sound_named c.args.past.now spot sound).0 named)) c.in-Ok.begun.checkpoint.spots best.1.fit.spelled
     ] in
     c.in-Err-restore.ensures.never_damaged place (c.begin.ensures.past.sound sound) spelled is
+
+pub returns-clause-node : goal.returns-clause-node
+returns-clause-node g c = λ n can runs last untrue.
+    let on = can_later _ _ _ c.args.plan _ _ c.begin.ensures.past.sound c.begin.ensures.events can in
+    let then = ap last_time c.begin.ensures.events ∙ last in
+    let Spells = g.P.Past.spells c.restore.new.past in
+    let events = g.P.Past.events c.restore.new.past in
+    let cells = g.T.Table.cell c.in-Ok-restore.engine.table in
+    let spots = c.in-Ok-restore.engine.spots in
+    elim (c.in-Ok.ensures.origin can.sound runs) [
+      | inl truthful ↦
+          let stands = c.in-Ok-restore.ensures.stands on then truthful in
+          absurd (untrue (record { told = node_told Spells c.args.plan events spots stands.spots n; stands = node_stands Spells c.args.plan events cells spots stands.rows stands.spots n }))
+      | inr best ↦ (
+        best.0,
+        c.in-Ok.begun.checkpoint,
+        best.1,
+        λ node.
+            let still = node_later _ _ c.args.plan n _ _ _ (λ spot. (c.begin.ensures.spells spot).1) c.begin.ensures.events node in
+            untrue (record { told = c.in-Ok-restore.ensures.told n on.sound still.told; stands = c.in-Ok-restore.ensures.node n on then still }),
+      )
+    ]

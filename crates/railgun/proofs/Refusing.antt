@@ -1,7 +1,6 @@
 -- What a refused run, dump or `info` says, and a trial.
 use Rattle.std.proofs.Common.{◌≡◌, ◌⊎◌, inl, inr, ℕ, List, [], Some, Result, refl, ap, sym, ◌∙◌, subst}
 use Rattle.std.specs.Prelude as r
-use Rattle.std.specs.Prelude.{IfErr}
 use Rattle.rg_config.specs.Plans.{Planned}
 use Rattle.rg_config.specs.declared.fault.ConfigFault.{ConfigFault}
 use Rattle.rg_config.specs.declared.fault.ConfigFault.TheVariants as config
@@ -19,7 +18,7 @@ use Rattle.rg_run.specs.Begun.{Begun}
 use Rattle.rg_run.specs.declared.fault.RunFault.{RunFault}
 use Rattle.rg_run.specs.declared.fault.RunFault.TheVariants as run
 use Rattle.rg_listing.specs.Stops.{StopsAt}
-use Rattle.railgun.specs.Call.{line_for, damage_line, schema_line, state_line, gap_line, EndsDump, EndsInfo, IsInfoAt, EndsRun, IsPossible, last_line, ending_status, ending_line, status_after}
+use Rattle.railgun.specs.Call.{line_for, damage_line, schema_line, state_line, gap_line, EndsDump, EndsInfo, IsInfoAt, EndsRun, IsPossible, last_line, ending_status, ending_line}
 use Rattle.railgun.specs.Stored.{IsLastOf}
 use Rattle.railgun.specs.declared.ending.Ending.{Ending}
 use Rattle.railgun.specs.declared.status.Status.{Status}
@@ -135,10 +134,6 @@ IsTrialStatus status = (status ≡ Memory) ⊎ (status ≡ Write)
 pub trial_line : (status : Status) (last : List ℕ) (image : Image) (asks : Result Planned ConfigFault) → IsTrialStatus status → last ≡ last_line status → last ≡ line_for asks image status
 trial_line status last image asks (inl is) line = line ∙ ap last_line is ∙ ap (line_for asks image) (sym is)
 trial_line status last image asks (inr is) line = line ∙ ap last_line is ∙ ap (line_for asks image) (sym is)
-
-pub trial_status : (result : Result Unit Ending) → IfErr result (λ ending. IsTrialStatus (ending_status ending)) → (status_after result ≡ Ok) ⊎ (status_after result ≡ Memory) ⊎ (status_after result ≡ Write)
-trial_status (r.Ok done) others = inl refl
-trial_status (r.Err ending) others = inr others
 
 -- A run.
 

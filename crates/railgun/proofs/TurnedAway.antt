@@ -17,7 +17,6 @@ use Rattle.rg_checkpoint.specs.Slots.{HasSlot}
 use Rattle.rg_course.specs.Steps.{IsMidStep}
 use Rattle.rg_store.specs.Stores.{store_of, Has, HasSaved}
 use Rattle.rg_config.specs.Plans.{Planned}
-use Rattle.rg_config.specs.declared.fault.ConfigFault.{ConfigFault}
 use Rattle.rg_open.specs.Unfit.{IsLeftAlone}
 use Rattle.rg_open.specs.Within.{IsAsRead, IsWithinOpening}
 use Rattle.rg_run.specs.Begun.{IsReady}

@@ -5,7 +5,7 @@ use Rattle.railgun.specs.declared.command.Command.TheVariants.{Run}
 use Rattle.railgun.specs.declared.status.Status.TheVariants.{Write}
 use Rattle.rg_listing.proofs.Stopped.{nothing_stops}
 use Rattle.railgun.proofs.Inputs.{on_err, on_errs, on_ok, any_err}
-use Rattle.railgun.proofs.Refusing.{damage_told, trial_line, trial_status}
+use Rattle.railgun.proofs.Refusing.{damage_told, trial_line}
 use Rattle.railgun.proofs.call.run_command.Goals as goal
 
 pub returns-in-Run-clause-went : goal.returns-in-Run-clause-went
@@ -81,12 +81,6 @@ returns-in-Dump-clause-read_first g c = any_err c.dump.result _ (λ ending is. i
 pub returns-in-Info-clause-read_first : goal.returns-in-Info-clause-read_first
 returns-in-Info-clause-read_first g c = any_err c.info.result _ (λ ending is. inl (refl, c.info.ensures.leaves))
 
-pub returns-in-Run-clause-alone : goal.returns-in-Run-clause-alone
-returns-in-Run-clause-alone g c = rw c.in-Run.is (λ none. absurd (none tt))
-
-pub returns-in-Check-clause-alone : goal.returns-in-Check-clause-alone
-returns-in-Check-clause-alone g c = rw c.in-Check.is (λ none. absurd (none tt))
-
 pub returns-in-Trial-clause-completes : goal.returns-in-Trial-clause-completes
 returns-in-Trial-clause-completes g c =
     rw c.in-Trial.is (on_ok c.trial.result _ _ (λ done told. record { text = done.0; is = done.1; holds = done.2 }) c.trial.ensures.completes)
@@ -101,6 +95,3 @@ returns-in-Trial-clause-line g c =
 
 pub returns-in-Trial-clause-read_first : goal.returns-in-Trial-clause-read_first
 returns-in-Trial-clause-read_first g c = any_err c.trial.result _ (λ ending is. inl (refl, c.trial.ensures.leaves))
-
-pub returns-in-Trial-clause-trial : goal.returns-in-Trial-clause-trial
-returns-in-Trial-clause-trial g c = λ lines seed is. trial_status c.trial.result c.trial.ensures.others

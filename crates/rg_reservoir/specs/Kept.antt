@@ -192,10 +192,6 @@ abbrev pub held_after : Cache Kept → List ℕ → List ℕ
 held_after cache [] = places cache
 held_after cache (t ∷ ts) = least_recently_used cache.cap (touches cache (t ∷ ts))
 
--- the first of these touches succeeded, and no other
-abbrev pub IsTouched : Cache Kept → Cache Kept → List ℕ → Type 0
-IsTouched old new wanted = (done : List ℕ) × (left : List ℕ) × (done ++ left ≡ wanted) × (places new ≡ held_after old done)
-
 -- what a commit of these events may leave of the frame list: the old one, or it and their chunk
 abbrev pub Adds : List Field → List Event → List ℕ → List ℕ → Type 0
 Adds fields opened old new = (new ≡ old) ⊎ ((1 ≤ length opened) × Grows (chunk_bytes fields opened) old new)
@@ -221,10 +217,21 @@ AllTouched [] old loads reads new loads_then reads_then = (new ≡ old) × (load
 AllTouched (place ∷ touched) old loads reads new loads_then reads_then =
     (mid : Cache Kept) × (mid_loads : ℕ) × (mid_reads : ℕ) × OneTouch place old loads reads mid mid_loads mid_reads × AllTouched touched mid mid_loads mid_reads new loads_then reads_then
 
+-- the first of these touches succeeded, one after another, and no other: the loads are theirs; a touch that failed may have read, and nothing else did
+pub record IsTouched (wanted : List ℕ) (old : Cache Kept) (loads reads : ℕ) (new : Cache Kept) (loads_then reads_then : ℕ) : Type 0 where
+  pub done : List ℕ
+  pub left : List ℕ
+  pub both : done ++ left ≡ wanted
+  pub held : places new ≡ held_after old done
+  pub reads_done : ℕ
+  pub each : AllTouched done old loads reads new loads_then reads_done
+  pub no_fewer : reads_done ≤ reads_then
+  pub no_more : left ≡ [] → reads_then ≡ reads_done
+
 -- a look at a spot: all stays but the cache and the loads, and the first of its touches succeeded; over a sound log and a spelled spot all of them, where the look was answered
 pub record Looked (now : Option Image) (old : Reservoir) (spot : Spot) (reads reads_then : ℕ) (Answered : Type 0) (new : Reservoir) : Type 0 where
   pub stays : Stays old new
   pub cached : (v : Image) → now ≡ Some v → IsCached (base old).shape.fields (v (base old).file) (cache_of old) → IsCached (base old).shape.fields (v (base old).file) (cache_of new)
   pub inside : IsInside (base old).end (cache_of old) → IsInside (base old).end (cache_of new)
-  pub touched : (v : Image) → now ≡ Some v → IsCached (base old).shape.fields (v (base old).file) (cache_of old) → IsTouched (cache_of old) (cache_of new) (look_places (base old) (v (base old).file) spot)
+  pub touched : (v : Image) → now ≡ Some v → IsCached (base old).shape.fields (v (base old).file) (cache_of old) → IsTouched (look_places (base old) (v (base old).file) spot) (cache_of old) (loads_of old) reads (cache_of new) (loads_of new) reads_then
   pub loaded : Answered → (v : Image) → now ≡ Some v → AllTouched (look_places (base old) (v (base old).file) spot) (cache_of old) (loads_of old) reads (cache_of new) (loads_of new) reads_then

@@ -256,9 +256,10 @@ impl Reservoir {
         ensures absent { IfOk result (λ found. found ≡ false → ForSome (H.now host.old) (λ v. IsAbsent (base self.old).shape.fields place (base self.old).end (v (base self.old).file))) }
         ensures inside { IsInside (base self.old).end (cache_of self.old) → IsInside (base self.old).end (cache_of self.new) }
         ensures places { IfOk result (λ found. IsTrue found → places (cache_of self.new) ≡ least_recently_used (cache_of self.old).cap (touches (cache_of self.old) (place ∷ []))) }
-        ensures left { IfOk result (λ found. found ≡ false → (places (cache_of self.new) ≡ places (cache_of self.old)) × ((loads_of self.new) ≡ (loads_of self.old))) }
-        ensures refused { OnErr result ((places (cache_of self.new) ≡ places (cache_of self.old)) × ((loads_of self.new) ≡ (loads_of self.old))) }
+        ensures left { IfOk result (λ found. found ≡ false → (cache_of self.new ≡ cache_of self.old) × (loads_of self.new ≡ loads_of self.old)) }
+        ensures refused { OnErr result ((cache_of self.new ≡ cache_of self.old) × (loads_of self.new ≡ loads_of self.old)) }
         ensures cap { (cache_of self.new).cap ≡ (cache_of self.old).cap }
+        ensures reads { H.reads host.old ≤ H.reads host.new }
         ensures items { IsTrue (holds_place place (cache_of self.old)) → (other : ℕ) → item_at other (cache_of self.new) ≡ item_at other (cache_of self.old) }
         ensures hit { IsTrue (holds_place place (cache_of self.old)) → (result ≡ Ok true) × (H.reads host.new ≡ H.reads host.old) × ((loads_of self.new) ≡ (loads_of self.old)) }
         ensures miss { holds_place place (cache_of self.old) ≡ false → IfOk result (λ found. IsTrue found → Rose (H.reads host.old) (H.reads host.new) × ((loads_of self.new) ≡ min ((loads_of self.old) + 1) (2 ^ 64 - 1))) }
@@ -318,7 +319,7 @@ impl Reservoir {
         ensures placed { OnOk result ((base self.old).committed ≤ spot.new.number → spot.new.number ≡ (base self.old).committed + spot.new.index) }
         ensures spelled { IsSound (H.now host.old) (H.may host.old) self.old → Spells (H.now host.old) (base self.old) (opened self.old) spot.old → Spells (H.now host.old) (base self.old) (opened self.old) spot.new }
         ensures finds { IsSound (H.now host.old) (H.may host.old) self.old → Spells (H.now host.old) (base self.old) (opened self.old) spot.old → OnOk result (Found (H.now host.old) (base self.old) (opened self.old) (cache_of self.new) spot.new spot.old.number) }
-        ensures touched { (v : Image) → H.now host.old ≡ Some v → IsCached (base self.old).shape.fields (v (base self.old).file) (cache_of self.old) → IsTouched (cache_of self.old) (cache_of self.new) (look_places (base self.old) (v (base self.old).file) spot.old) }
+        ensures touched { (v : Image) → H.now host.old ≡ Some v → IsCached (base self.old).shape.fields (v (base self.old).file) (cache_of self.old) → IsTouched (look_places (base self.old) (v (base self.old).file) spot.old) (cache_of self.old) (loads_of self.old) (H.reads host.old) (cache_of self.new) (loads_of self.new) (H.reads host.new) }
         ensures all_touched { IsSound (H.now host.old) (H.may host.old) self.old → Spells (H.now host.old) (base self.old) (opened self.old) spot.old → OnOk result (ForSome (H.now host.old) (λ v. places (cache_of self.new) ≡ held_after (cache_of self.old) (look_places (base self.old) (v (base self.old).file) spot.old))) }
         ensures loaded { IsSound (H.now host.old) (H.may host.old) self.old → Spells (H.now host.old) (base self.old) (opened self.old) spot.old → OnOk result (ForSome (H.now host.old) (λ v.
             AllTouched (look_places (base self.old) (v (base self.old).file) spot.old) (cache_of self.old) (loads_of self.old) (H.reads host.old) (cache_of self.new) (loads_of self.new) (H.reads host.new))) }

@@ -8,7 +8,7 @@ use Rattle.rg_reservoir.specs.Chain.{chunk_at}
 use Rattle.rg_reservoir.specs.Kept.{Base, base, IsCached, IsAbsent, next_in, look_places, held_after, OneTouch, AllTouched}
 use Rattle.rg_reservoir.proofs.Seeking.{cached_same, absent_same, one_image, before_end, found_open, found_here, found_next, turn, near}
 use Rattle.rg_reservoir.proofs.Peeking.{err_moves}
-use Rattle.rg_reservoir.proofs.Touching.{one_touched, two_places, look_one, look_two, look_far}
+use Rattle.rg_reservoir.proofs.Touching.{none_touched, one_touched, two_touched, two_places, asks_one, asks_next, look_one, look_two, look_far}
 use Rattle.rg_reservoir.proofs.reservoir.Reservoir.seek.Goals as goal
 
 pub returns-then-spot-self-clause-finds : goal.returns-then-spot-self-clause-finds
@@ -110,39 +110,92 @@ returns-in-Ok-false-clause-all_touched g c =
     let le : i.next ≤ c.args.self.now.log.end = before_end v (g.H.Host.may c.args.host.now) (base c.args.self.now) c.args.self.now.open.events c.args.self.now.next_offset c.args.self.now.last_time c.args.self.now.cache right c.args.spot.now.place c.args.spot.now.index c.args.spot.now.number i in
     absurd (omega (arith, far, le))
 
+pub returns-in-Ok-false-clause-touched : goal.returns-in-Ok-false-clause-touched
+returns-in-Ok-false-clause-touched g c = λ v told was.
+    let self = c.args.self.now in
+    let spot = c.args.spot.now in
+    let lt : spot.number < self.committed = omega (arith, c.if-spot-self.false) in
+    let left : (c.touch.new.self.cache ≡ self.cache) × (c.touch.new.self.loads ≡ self.loads) = c.in-Ok-false.ensures.left c.in-Ok-false.field-0-test in
+    none_touched (look_places (base self) (v self.log.file) spot) self.cache c.touch.new.self.cache self.loads (g.H.Host.reads c.args.host.now) c.touch.new.self.loads (g.H.Host.reads c.touch.new.host) left.0 left.1 c.touch.ensures.reads (λ none. absurd (asks_one (base self) (v self.log.file) spot lt none))
+
+pub returns-in-Err-clause-touched : goal.returns-in-Err-clause-touched
+returns-in-Err-clause-touched g c = λ v told was.
+    let self = c.args.self.now in
+    let spot = c.args.spot.now in
+    let lt : spot.number < self.committed = omega (arith, c.if-spot-self.false) in
+    let left : (c.touch.new.self.cache ≡ self.cache) × (c.touch.new.self.loads ≡ self.loads) = c.in-Err.ensures.refused in
+    none_touched (look_places (base self) (v self.log.file) spot) self.cache c.touch.new.self.cache self.loads (g.H.Host.reads c.args.host.now) c.touch.new.self.loads (g.H.Host.reads c.touch.new.host) left.0 left.1 c.touch.ensures.reads (λ none. absurd (asks_one (base self) (v self.log.file) spot lt none))
+
 pub returns-in-None-clause-touched : goal.returns-in-None-clause-touched
-returns-in-None-clause-touched g c =
-    λ v told was.
-    let lt : c.args.spot.now.number < c.args.self.now.committed = omega (arith, c.if-spot-self.false) in
-    let first : places c.touch.new.self.cache ≡ least_recently_used c.args.self.now.cache.cap (touches c.args.self.now.cache (c.args.spot.now.place ∷ [])) = search rules in
-    one_touched (base c.args.self.now) (v c.args.self.now.log.file) c.args.spot.now c.args.self.now.cache c.touch.new.self.cache lt first
+returns-in-None-clause-touched g c = λ v told was.
+    let self = c.args.self.now in
+    let spot = c.args.spot.now in
+    let lt : spot.number < self.committed = omega (arith, c.if-spot-self.false) in
+    let first : places c.touch.new.self.cache ≡ least_recently_used self.cache.cap (touches self.cache (spot.place ∷ [])) = search rules in
+    let one : OneTouch spot.place self.cache self.loads (g.H.Host.reads c.args.host.now) c.touch.new.self.cache c.touch.new.self.loads (g.H.Host.reads c.touch.new.host) = record {
+      places_are = first;
+      cap_stays = c.touch.ensures.cap;
+      hit = λ held. let k = c.touch.ensures.hit held in (k.2, k.1);
+      miss = λ missed. let k : Rose (g.H.Host.reads c.args.host.now) (g.H.Host.reads c.touch.new.host) × (c.touch.new.self.loads ≡ min (self.loads + 1) (2 ^ 64 - 1)) = search (rules, c.touch.ensures.miss missed) in (k.1, k.0);
+    } in
+    one_touched (base self) (v self.log.file) spot self.cache c.touch.new.self.cache c.touch.new.self.cache self.loads (g.H.Host.reads c.args.host.now) c.touch.new.self.loads (g.H.Host.reads c.touch.new.host) c.touch.new.self.loads (g.H.Host.reads c.touch.new.host) lt one refl refl (omega arith) (λ _. refl)
 
 pub returns-in-Ok-false-touch-clause-touched : goal.returns-in-Ok-false-touch-clause-touched
-returns-in-Ok-false-touch-clause-touched g c =
-    λ v told was.
-    let lt : c.args.spot.now.number < c.args.self.now.committed = omega (arith, c.if-spot-self.false) in
-    let first : places c.touch.new.self.cache ≡ least_recently_used c.args.self.now.cache.cap (touches c.args.self.now.cache (c.args.spot.now.place ∷ [])) = search rules in
-    let left : places c.touch-2.new.self.cache ≡ places c.touch.new.self.cache = search rules in
-    one_touched (base c.args.self.now) (v c.args.self.now.log.file) c.args.spot.now c.args.self.now.cache c.touch-2.new.self.cache lt (left ∙ first)
+returns-in-Ok-false-touch-clause-touched g c = λ v told was.
+    let self = c.args.self.now in
+    let spot = c.args.spot.now in
+    let lt : spot.number < self.committed = omega (arith, c.if-spot-self.false) in
+    let first : places c.touch.new.self.cache ≡ least_recently_used self.cache.cap (touches self.cache (spot.place ∷ [])) = search rules in
+    let turns : next_in (item_at spot.place c.touch.new.self.cache) spot.index ≡ Some c.in-Some.next = search rules in
+    let mid : IsCached self.schema.fields (v self.log.file) c.touch.new.self.cache = c.touch.ensures.cached v told was in
+    let one : OneTouch spot.place self.cache self.loads (g.H.Host.reads c.args.host.now) c.touch.new.self.cache c.touch.new.self.loads (g.H.Host.reads c.touch.new.host) = record {
+      places_are = first;
+      cap_stays = c.touch.ensures.cap;
+      hit = λ held. let k = c.touch.ensures.hit held in (k.2, k.1);
+      miss = λ missed. let k : Rose (g.H.Host.reads c.args.host.now) (g.H.Host.reads c.touch.new.host) × (c.touch.new.self.loads ≡ min (self.loads + 1) (2 ^ 64 - 1)) = search (rules, c.touch.ensures.miss missed) in (k.1, k.0);
+    } in
+    let left : (c.touch-2.new.self.cache ≡ c.touch.new.self.cache) × (c.touch-2.new.self.loads ≡ c.touch.new.self.loads) = c.in-Ok-false-touch.ensures.left c.in-Ok-false-touch.field-0-test in
+    one_touched (base self) (v self.log.file) spot self.cache c.touch.new.self.cache c.touch-2.new.self.cache self.loads (g.H.Host.reads c.args.host.now) c.touch.new.self.loads (g.H.Host.reads c.touch.new.host) c.touch-2.new.self.loads (g.H.Host.reads c.touch-2.new.host) lt one left.0 left.1 c.touch-2.ensures.reads (λ none. absurd (asks_next self.schema.fields (v self.log.file) c.touch.new.self.cache spot.place spot.index c.in-Some.next mid turns none))
 
 pub returns-in-Err-touch-clause-touched : goal.returns-in-Err-touch-clause-touched
-returns-in-Err-touch-clause-touched g c =
-    λ v told was.
-    let lt : c.args.spot.now.number < c.args.self.now.committed = omega (arith, c.if-spot-self.false) in
-    let first : places c.touch.new.self.cache ≡ least_recently_used c.args.self.now.cache.cap (touches c.args.self.now.cache (c.args.spot.now.place ∷ [])) = search rules in
-    let left : places c.touch-2.new.self.cache ≡ places c.touch.new.self.cache = search rules in
-    one_touched (base c.args.self.now) (v c.args.self.now.log.file) c.args.spot.now c.args.self.now.cache c.touch-2.new.self.cache lt (left ∙ first)
+returns-in-Err-touch-clause-touched g c = λ v told was.
+    let self = c.args.self.now in
+    let spot = c.args.spot.now in
+    let lt : spot.number < self.committed = omega (arith, c.if-spot-self.false) in
+    let first : places c.touch.new.self.cache ≡ least_recently_used self.cache.cap (touches self.cache (spot.place ∷ [])) = search rules in
+    let turns : next_in (item_at spot.place c.touch.new.self.cache) spot.index ≡ Some c.in-Some.next = search rules in
+    let mid : IsCached self.schema.fields (v self.log.file) c.touch.new.self.cache = c.touch.ensures.cached v told was in
+    let one : OneTouch spot.place self.cache self.loads (g.H.Host.reads c.args.host.now) c.touch.new.self.cache c.touch.new.self.loads (g.H.Host.reads c.touch.new.host) = record {
+      places_are = first;
+      cap_stays = c.touch.ensures.cap;
+      hit = λ held. let k = c.touch.ensures.hit held in (k.2, k.1);
+      miss = λ missed. let k : Rose (g.H.Host.reads c.args.host.now) (g.H.Host.reads c.touch.new.host) × (c.touch.new.self.loads ≡ min (self.loads + 1) (2 ^ 64 - 1)) = search (rules, c.touch.ensures.miss missed) in (k.1, k.0);
+    } in
+    let left : (c.touch-2.new.self.cache ≡ c.touch.new.self.cache) × (c.touch-2.new.self.loads ≡ c.touch.new.self.loads) = c.in-Err-touch.ensures.refused in
+    one_touched (base self) (v self.log.file) spot self.cache c.touch.new.self.cache c.touch-2.new.self.cache self.loads (g.H.Host.reads c.args.host.now) c.touch.new.self.loads (g.H.Host.reads c.touch.new.host) c.touch-2.new.self.loads (g.H.Host.reads c.touch-2.new.host) lt one left.0 left.1 c.touch-2.ensures.reads (λ none. absurd (asks_next self.schema.fields (v self.log.file) c.touch.new.self.cache spot.place spot.index c.in-Some.next mid turns none))
 
 pub returns-clause-touched : goal.returns-clause-touched
-returns-clause-touched g c =
-    λ v told was.
-    let lt : c.args.spot.now.number < c.args.self.now.committed = omega (arith, c.if-spot-self.false) in
-    let first : places c.touch.new.self.cache ≡ least_recently_used c.args.self.now.cache.cap (touches c.args.self.now.cache (c.args.spot.now.place ∷ [])) = search rules in
-    let turns : next_in (item_at c.args.spot.now.place c.touch.new.self.cache) c.args.spot.now.index ≡ Some c.in-Some.next = search rules in
+returns-clause-touched g c = λ v told was.
+    let self = c.args.self.now in
+    let spot = c.args.spot.now in
+    let lt : spot.number < self.committed = omega (arith, c.if-spot-self.false) in
+    let first : places c.touch.new.self.cache ≡ least_recently_used self.cache.cap (touches self.cache (spot.place ∷ [])) = search rules in
+    let turns : next_in (item_at spot.place c.touch.new.self.cache) spot.index ≡ Some c.in-Some.next = search rules in
+    let mid : IsCached self.schema.fields (v self.log.file) c.touch.new.self.cache = c.touch.ensures.cached v told was in
     let second : places c.touch-2.new.self.cache ≡ least_recently_used c.touch.new.self.cache.cap (touches c.touch.new.self.cache (c.in-Some.next ∷ [])) = search rules in
-    let both = two_places c.args.self.now.cache c.touch.new.self.cache c.touch-2.new.self.cache c.args.spot.now.place c.in-Some.next first c.touch.ensures.cap second in
-    let mid : IsCached c.args.self.now.schema.fields (v c.args.self.now.log.file) c.touch.new.self.cache = c.touch.ensures.cached v told was in
-    (c.args.spot.now.place ∷ (c.in-Some.next ∷ []), [], sym (look_two (base c.args.self.now) (v c.args.self.now.log.file) c.args.spot.now c.touch.new.self.cache c.in-Some.next lt mid turns), both)
+    let one : OneTouch spot.place self.cache self.loads (g.H.Host.reads c.args.host.now) c.touch.new.self.cache c.touch.new.self.loads (g.H.Host.reads c.touch.new.host) = record {
+      places_are = first;
+      cap_stays = c.touch.ensures.cap;
+      hit = λ held. let k = c.touch.ensures.hit held in (k.2, k.1);
+      miss = λ missed. let k : Rose (g.H.Host.reads c.args.host.now) (g.H.Host.reads c.touch.new.host) × (c.touch.new.self.loads ≡ min (self.loads + 1) (2 ^ 64 - 1)) = search (rules, c.touch.ensures.miss missed) in (k.1, k.0);
+    } in
+    let two : OneTouch c.in-Some.next c.touch.new.self.cache c.touch.new.self.loads (g.H.Host.reads c.touch.new.host) c.touch-2.new.self.cache c.touch-2.new.self.loads (g.H.Host.reads c.touch-2.new.host) = record {
+      places_are = second;
+      cap_stays = c.touch-2.ensures.cap;
+      hit = λ held. let k = c.touch-2.ensures.hit held in (k.2, k.1);
+      miss = λ missed. let k : Rose (g.H.Host.reads c.touch.new.host) (g.H.Host.reads c.touch-2.new.host) × (c.touch-2.new.self.loads ≡ min (c.touch.new.self.loads + 1) (2 ^ 64 - 1)) = search (rules, c.touch-2.ensures.miss missed) in (k.1, k.0);
+    } in
+    two_touched (base self) (v self.log.file) spot c.in-Some.next self.cache c.touch.new.self.cache c.touch-2.new.self.cache self.loads (g.H.Host.reads c.args.host.now) c.touch.new.self.loads (g.H.Host.reads c.touch.new.host) c.touch-2.new.self.loads (g.H.Host.reads c.touch-2.new.host) lt mid turns one two
 
 pub returns-clause-all_touched : goal.returns-clause-all_touched
 returns-clause-all_touched g c =

@@ -8,3 +8,4 @@ pub mod Beside
 pub mod Writing
 pub mod Saved
 pub mod Resuming
+pub mod Nodes

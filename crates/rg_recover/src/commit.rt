@@ -4,11 +4,12 @@ ghost use Rattle.rg_host.specs.Image.{Image, NothingPending};
 ghost use Rattle.rg_past.specs.declared.past.Spot.{Spot};
 ghost use Rattle.rg_frame.specs.LogState.{ReachesEnd};
 ghost use Rattle.rg_config.specs.Plans.{Planned};
-ghost use Rattle.rg_reservoir.specs.Kept.{base, opened, room_of, log_of, next_of, time_of, stored, all_events, IsSound};
+ghost use Rattle.rg_reservoir.specs.Kept.{base, opened, room_of, log_of, next_of, time_of, stored, all_events, IsSound, Spells};
 ghost use Rattle.rg_state.specs.Rows.{Cells};
 ghost use Rattle.rg_course.specs.Steps.{IsStepped};
 ghost use Rattle.rg_store.specs.Stores.{store_of};
 ghost use Rattle.rg_store.specs.Opened.{IsOpenedFor, IsInStep};
+ghost use Rattle.rg_open.specs.Blame.{NodeRuns};
 ghost use Rattle.rg_recover.specs.Sessions.{IsRunning, count_in, events_of, stored_of};
 ghost use Rattle.rg_recover.specs.Stepping.{IsWithinStep, IsStored};
 
@@ -30,6 +31,9 @@ pub(crate) fn commit_open<H: Host>(reservoir: &mut Reservoir, host: &mut H) -> R
         OnOk result ((u : Image) → H.may host.new u → IsStepped (store_of plan) keep (opened reservoir.old) (H.may host.old) u) }
     ensures in_step { (plan : Planned) (cells : Cells) (spots : List Spot) (texts : List (List ℕ)) → IsInStep plan (H.now host.old) (H.may host.old) reservoir.old cells spots texts →
         OnOk result (IsInStep plan (H.now host.new) (H.may host.new) reservoir.new cells spots texts) }
+    ensures opened { (plan : Planned) → IsOpenedFor plan (H.now host.old) (H.may host.old) reservoir.old → OnOk result (IsOpenedFor plan (H.now host.new) (H.may host.new) reservoir.new) }
+    ensures spelled { IsSound (H.now host.old) (H.may host.old) reservoir.old →
+        OnOk result ((spot : Spot) → Spells (H.now host.old) (base reservoir.old) (opened reservoir.old) spot → Spells (H.now host.new) (base reservoir.new) (opened reservoir.new) spot) }
     ensures settled { (plan : Planned) (file : ℕ) → IsOpenedFor plan (H.now host.old) (H.may host.old) reservoir.old → file ≢ 2 → NothingPending file (H.now host.old) (H.may host.old) →
         OnOk result (NothingPending file (H.now host.new) (H.may host.new)) }
     ensures list { IsSound (H.now host.old) (H.may host.old) reservoir.old → OnOk result (all_events (H.now host.new) (base reservoir.new) (opened reservoir.new) ≡ all_events (H.now host.old) (base reservoir.old) (opened reservoir.old)) }
@@ -73,6 +77,8 @@ impl<T: Table> Session<T> {
             OnOk result (events_of (H.now host.new) self.new ≡ events_of (H.now host.old) self.old) }
         ensures running { (plan : Planned) → IsRunning plan (H.now host.old) (H.may host.old) (T.tells self.old.engine.table) (T.cell self.old.engine.table) self.old →
             OnOk result (IsRunning plan (H.now host.new) (H.may host.new) (T.tells self.new.engine.table) (T.cell self.new.engine.table) self.new) }
+        ensures node { (plan : Planned) (n : ℕ) → NodeRuns plan n (H.now host.old) (H.may host.old) (T.tells self.old.engine.table) (T.cell self.old.engine.table) self.old.reservoir self.old.engine →
+            OnOk result (NodeRuns plan n (H.now host.new) (H.may host.new) (T.tells self.new.engine.table) (T.cell self.new.engine.table) self.new.reservoir self.new.engine) }
 
         ensures next { IfOk result (λ next. next ≡ next_of self.new.reservoir) }
         ensures empty { OnOk result (opened self.new.reservoir ≡ []) }

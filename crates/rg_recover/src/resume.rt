@@ -16,6 +16,7 @@ ghost use Rattle.rg_engine.specs.Passed.{passed_count};
 ghost use Rattle.rg_restore.specs.Opening.{IsEmpty};
 ghost use Rattle.rg_course.specs.Steps.{IsStepped};
 ghost use Rattle.rg_store.specs.Stores.{store_of};
+ghost use Rattle.rg_open.specs.Blame.{IsBlamed, NodeRuns};
 ghost use Rattle.rg_open.specs.Opening.{IsOpenable, IsResumed, IsFromIn};
 ghost use Rattle.rg_open.specs.Unfit.{IsUnfit, SaysWhy, IsLeftAlone};
 ghost use Rattle.rg_open.specs.Within.{IsAsRead, IsWithinOpening};
@@ -62,6 +63,12 @@ impl<T: Table> Session<T> {
             IfOk result (λ r. (events_of (H.now host.new) r.0 ≡ events) × (stored_of (H.now host.new) r.0 ≡ events) × (r.1.next ≡ next_offset events)) }
         ensures resumed { (v : Image) → H.now host.old ≡ Some v → IfOk result (λ r.
             IsResumed v (H.now host.new) plan.now.queries plan.now.schema.fields plan.now.task r.0.reservoir r.0.engine r.0.keep r.1.from steps.old steps.new) }
+
+        // Where a state is bad, and of each node that can't be carried on, the checkpoint that was used is to blame.
+        ensures bad { (v : Image) (events : List Event) (n : ℕ) → H.now host.old ≡ Some v → HasEvents plan.now.schema events (v 2) → T.tells table →
+            IfErr result (λ refused. refused.0 ≡ OpenFault.BadState n → IsBlamed (planned plan.now) v events n) }
+        ensures node { (v : Image) (events : List Event) (n : ℕ) → H.now host.old ≡ Some v → HasEvents plan.now.schema events (v 2) → T.tells table →
+            IfOk result (λ r. (NodeRuns (planned plan.now) n (H.now host.new) (H.may host.new) (T.tells r.0.engine.table) (T.cell r.0.engine.table) r.0.reservoir r.0.engine → ⊥) → IsBlamed (planned plan.now) v events n) }
 
         // At each moment, and at every result.
         ensures within { (v : Image) (keep : Option ℕ) → H.now host.old ≡ Some v → IsWithinOpening H.may H.clock H.since H.said (store_of (planned plan.now)) keep v host.old host.new }

@@ -5,3 +5,4 @@ pub mod Saving
 pub mod Telling
 pub mod Answered
 pub mod Ending
+pub mod Nodes

@@ -13,6 +13,7 @@ ghost use Rattle.rg_verdict.specs.Verdicts.{read_as, or_reply};
 ghost use Rattle.rg_course.specs.Ahead.{after_line};
 ghost use Rattle.rg_course.specs.Stores.{Course, StaysOnCourse};
 ghost use Rattle.rg_store.specs.Stores.{store_of};
+ghost use Rattle.rg_open.specs.Blame.{NodeRuns};
 ghost use Rattle.rg_recover.specs.Sessions.{events_of};
 ghost use Rattle.rg_turn.specs.Turning.{IsAwaiting, HasStopped, terms_of};
 
@@ -96,6 +97,10 @@ impl<T: Table> Turning<T> {
         ensures never_damaged { (course : Course) (items : List (Option (List ℕ))) (p : ℕ) →
             IsAwaiting (planned plan.now) course self.old.offset items (H.now host.old) (H.may host.old) (H.said host.old) (T.tells self.old.session.engine.table) (T.cell self.old.session.engine.table) self.old.session →
             IsErrOf result (TurnFault.Task (TaskFault.Damaged p)) → ⊥ }
+        ensures node { (n : ℕ) → NodeRuns (planned plan.now) n (H.now host.old) (H.may host.old) (T.tells self.old.session.engine.table) (T.cell self.old.session.engine.table) self.old.session.reservoir self.old.session.engine →
+            OnOk result (NodeRuns (planned plan.now) n (H.now host.new) (H.may host.new) (T.tells self.new.session.engine.table) (T.cell self.new.session.engine.table) self.new.session.reservoir self.new.session.engine) }
+        ensures never_bad_node { (n : ℕ) → NodeRuns (planned plan.now) n (H.now host.old) (H.may host.old) (T.tells self.old.session.engine.table) (T.cell self.old.session.engine.table) self.old.session.reservoir self.old.session.engine →
+            IsErrOf result (TurnFault.Task (TaskFault.BadState n)) → ⊥ }
         ensures offset { OnOk result (self.new.offset ≡ self.old.offset + 1) }
 
         ensures damaged { (p : ℕ) → IsErrOf result (TurnFault.Task (TaskFault.Damaged p)) → ForSome (H.now host.new) (λ v. IsIllegal (base self.new.session.reservoir).shape.fields p (v (base self.new.session.reservoir).file)) }
@@ -151,6 +156,8 @@ impl<T: Table> Turning<T> {
             IsAwaiting plan course self.old.offset (item ∷ items) (H.now host.old) (H.may host.old) (H.said host.old) (T.tells self.old.session.engine.table) (T.cell self.old.session.engine.table) self.old.session →
             read_as (terms_of plan).basis self.old.offset item ≡ Err reply.now →
             IfErr result (λ fault. (fault ≡ TurnFault.Write) ⊎ HasStopped plan course (H.may host.new) (H.said host.new)) }
+        ensures node { (plan : Planned) (n : ℕ) → NodeRuns plan n (H.now host.old) (H.may host.old) (T.tells self.old.session.engine.table) (T.cell self.old.session.engine.table) self.old.session.reservoir self.old.session.engine →
+            NodeRuns plan n (H.now host.new) (H.may host.new) (T.tells self.new.session.engine.table) (T.cell self.new.session.engine.table) self.new.session.reservoir self.new.session.engine }
         ensures offset { OnOk result (self.new.offset ≡ self.old.offset + 1) }
         ensures session { self.new.session ≡ self.old.session }
         ensures reaches { H.now host.new ≡ H.now host.old }

@@ -1,4 +1,4 @@
-use Rattle.std.proofs.Common.{None}
+use Rattle.std.proofs.Common.{◌∙◌, None}
 use Rattle.rg_reservoir.specs.Kept.{base, opened, Adds}
 use Rattle.rg_frame.specs.Steps.{From}
 use Rattle.rg_store.specs.Stores.{store_of}
@@ -40,3 +40,10 @@ returns-in-Ok-clause-in_step g c = λ plan cells spots texts is.
     stepped_in_step plan (g.H.Host.now h) (g.H.Host.now then) (g.H.Host.may h) (g.H.Host.may then) r s cells spots texts is None (opened r)
     (opened_still plan (g.H.Host.now h) (g.H.Host.now then) (g.H.Host.may h) (g.H.Host.may then) r s cells spots texts is (c.in-Ok.ensures.sound sound) c.in-Ok.ensures.going.1 c.in-Ok.ensures.stays.1 c.in-Ok.ensures.stays.0)
     (c.in-Ok.ensures.list sound) (λ spot. c.in-Ok.ensures.spelled sound spot) (returns-in-Ok-clause-stepped g c plan None is.reservoir)
+
+pub returns-in-Ok-clause-opened : goal.returns-in-Ok-clause-opened
+returns-in-Ok-clause-opened g c = λ plan log.
+    record { sound = c.in-Ok.ensures.sound log.sound; going = c.in-Ok.ensures.going.1; file = c.in-Ok.ensures.stays.1 ∙ log.file; shape = c.in-Ok.ensures.stays.0 ∙ log.shape }
+
+pub returns-in-Ok-clause-spelled : goal.returns-in-Ok-clause-spelled
+returns-in-Ok-clause-spelled g c = λ sound spot. c.in-Ok.ensures.spelled sound spot

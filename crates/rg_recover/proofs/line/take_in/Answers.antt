@@ -7,6 +7,7 @@ use Rattle.rg_event.specs.declared.event.Event.{Event}
 use Rattle.rg_metric.specs.Replies.{answers_to}
 use Rattle.rg_reservoir.specs.Kept.{Base, base, opened, stored}
 use Rattle.rg_store.specs.Stores.{store_of}
+use Rattle.rg_recover.proofs.Nodes.{node_stored}
 use Rattle.rg_recover.proofs.Ready.{ready_stepped}
 use Rattle.rg_recover.proofs.Within.{quiet_within, within_then, quiet_stored, chunk_stored}
 use Rattle.rg_recover.proofs.line.take_in.Goals as goal
@@ -86,3 +87,19 @@ returns-in-Ok-clause-never_damaged g c = λ plan texts p ready.
     let e = c.args.engine.now in
     c.take-in-Ok.ensures.never_damaged plan texts p (ready_stepped plan (g.H.Host.now h) (g.H.Host.now mid) (g.H.Host.may h) (g.H.Host.may mid) (g.T.Table.tells e.table) (g.T.Table.cell e.table) c.args.reservoir.now c.commit_open.new.reservoir e texts ready
     (c.in-Ok.ensures.in_step plan (g.T.Table.cell e.table) e.spots texts ready.in_step))
+
+pub returns-in-Ok-clause-node : goal.returns-in-Ok-clause-node
+returns-in-Ok-clause-node g c = λ plan n runs.
+    let h = c.args.host.now in
+    let mid = c.commit_open.new.host in
+    let e = c.args.engine.now in
+    c.take-in-Ok.ensures.node plan n (node_stored plan n (g.H.Host.now h) (g.H.Host.may h) (g.T.Table.tells e.table) (g.T.Table.cell e.table) c.args.reservoir.now e runs (g.H.Host.now mid) (g.H.Host.may mid) c.commit_open.new.reservoir
+    (c.in-Ok.ensures.opened plan runs.reservoir) (c.in-Ok.ensures.list runs.reservoir.sound) (c.in-Ok.ensures.spelled runs.reservoir.sound))
+
+pub returns-in-Ok-clause-never_bad_node : goal.returns-in-Ok-clause-never_bad_node
+returns-in-Ok-clause-never_bad_node g c = λ plan n runs.
+    let h = c.args.host.now in
+    let mid = c.commit_open.new.host in
+    let e = c.args.engine.now in
+    c.take-in-Ok.ensures.never_bad_node plan n (node_stored plan n (g.H.Host.now h) (g.H.Host.may h) (g.T.Table.tells e.table) (g.T.Table.cell e.table) c.args.reservoir.now e runs (g.H.Host.now mid) (g.H.Host.may mid) c.commit_open.new.reservoir
+    (c.in-Ok.ensures.opened plan runs.reservoir) (c.in-Ok.ensures.list runs.reservoir.sound) (c.in-Ok.ensures.spelled runs.reservoir.sound))

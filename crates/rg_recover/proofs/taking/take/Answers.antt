@@ -1,5 +1,6 @@
 use Rattle.std.proofs.Common.{rules}
 use Rattle.rg_reservoir.specs.declared.reservoir.Reservoir.{Reservoir}
+use Rattle.rg_open.specs.Blame.{NodeRuns}
 use Rattle.rg_recover.specs.Sessions.{IsReady}
 use Rattle.rg_recover.proofs.Sound.{moved}
 use Rattle.rg_recover.proofs.taking.take.Goals as goal
@@ -23,3 +24,15 @@ pub returns-in-Err-clause-never_damaged : goal.returns-in-Err-clause-never_damag
 returns-in-Err-clause-never_damaged g c = λ plan texts p ready is.
     let went = rw (c.new-past.ensures.reservoir, c.new-past.ensures.host) at c.in-Err.ensures.never_damaged in
     went plan texts p ready is
+
+pub returns-in-Ok-clause-node : goal.returns-in-Ok-clause-node
+returns-in-Ok-clause-node g c = λ plan n runs.
+    let went = rw (c.new-past.ensures.reservoir, c.new-past.ensures.host) at c.in-Ok.ensures.node in
+    let new = c.take_over.new.engine in
+    moved (λ (h : g.row.H.Denot) (r : Reservoir). NodeRuns plan n (g.H.Host.now h) (g.H.Host.may h) (g.T.Table.tells new.table) (g.T.Table.cell new.table) r new)
+    c.take_over.new.past.host.now _ c.take_over.new.past.reservoir.now _ (search rules) (search rules) (went plan n runs)
+
+pub returns-in-Err-clause-never_bad_node : goal.returns-in-Err-clause-never_bad_node
+returns-in-Err-clause-never_bad_node g c = λ plan n runs is.
+    let went = rw (c.new-past.ensures.reservoir, c.new-past.ensures.host) at c.in-Err.ensures.never_bad_node in
+    went plan n runs is

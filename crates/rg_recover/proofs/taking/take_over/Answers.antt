@@ -4,6 +4,7 @@ use Rattle.rg_past.specs.declared.past.PastFault.TheVariants as past
 use Rattle.rg_reservoir.specs.Kept.{base, opened, all_events}
 use Rattle.rg_recover.proofs.Causes.{same_fault, bad_by, damaged_by, disk_by, ended_by}
 use Rattle.rg_recover.proofs.Sound.{long, within_events, within_count}
+use Rattle.rg_recover.proofs.Nodes.{node_carries, node_again}
 use Rattle.rg_recover.proofs.Ready.{carries_on, ready_again}
 use Rattle.rg_recover.proofs.taking.take_over.Goals as goal
 
@@ -69,3 +70,26 @@ returns-in-Err-clause-within g c = within_count (g.H.Host.now c.take.new.past.ho
 pub returns-in-Err-clause-never_damaged : goal.returns-in-Err-clause-never_damaged
 returns-in-Err-clause-never_damaged g c = λ plan texts p ready is.
     c.take.ensures.never_damaged p ready.in_step.reservoir.sound ready.in_step.stands.spots.spelled (c.in-Err.is ∙ ap (λ v. Err v) (damaged_by c.in-Err.fault p (sym c.from.ensures ∙ same_fault _ _ is)))
+
+pub returns-in-Ok-clause-node : goal.returns-in-Ok-clause-node
+returns-in-Ok-clause-node g c = λ plan n runs.
+    let h = c.args.past.now.host.now in
+    let r = c.args.past.now.reservoir.now in
+    let e = c.args.engine.now in
+    let q = c.take.new.past in
+    let new = c.take.new.self in
+    let goes = c.take.ensures.past.goes in
+    let sound = runs.reservoir.sound in
+    node_again plan n (g.H.Host.now h) (g.H.Host.may h) (g.T.Table.tells e.table) (g.T.Table.cell e.table) r e runs
+    (g.H.Host.now q.host.now) (g.H.Host.may q.host.now) (g.T.Table.tells new.table) (g.T.Table.cell new.table) q.reservoir.now new
+    (c.take.ensures.rows.tells.1 runs.tells) goes.base (goes.sound sound) c.take.ensures.plan
+    (c.in-Ok.ensures.stands n (all_events (g.H.Host.now h) (base r) (opened r)) (node_carries plan n (g.H.Host.now h) (g.H.Host.may h) (g.T.Table.tells e.table) (g.T.Table.cell e.table) r e runs c.args.event c.requires.fits))
+    (c.take.ensures.edges.spells sound)
+
+pub returns-in-Err-clause-never_bad_node : goal.returns-in-Err-clause-never_bad_node
+returns-in-Err-clause-never_bad_node g c = λ plan n runs is.
+    let h = c.args.past.now.host.now in
+    let r = c.args.past.now.reservoir.now in
+    let e = c.args.engine.now in
+    c.take.ensures.bad n (all_events (g.H.Host.now h) (base r) (opened r)) (c.in-Err.is ∙ ap (λ v. Err v) (bad_by c.in-Err.fault n (sym c.from.ensures ∙ same_fault _ _ is)))
+    (node_carries plan n (g.H.Host.now h) (g.H.Host.may h) (g.T.Table.tells e.table) (g.T.Table.cell e.table) r e runs c.args.event c.requires.fits)

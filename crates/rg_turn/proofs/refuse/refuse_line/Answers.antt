@@ -3,6 +3,7 @@ use Rattle.rg_recover.specs.Sessions.{events_of, stored_of}
 use Rattle.rg_turn.specs.Turning.{HasStopped}
 use Rattle.rg_turn.proofs.Stepping.{mid_stopped}
 use Rattle.rg_turn.proofs.Answered.{refused_line, refused_moments, refused_awaits, refused_events}
+use Rattle.rg_turn.proofs.Nodes.{node_still}
 use Rattle.rg_turn.proofs.refuse.refuse_line.Goals as goal
 
 pub returns-in-Ok-clause-moments : goal.returns-in-Ok-clause-moments
@@ -39,3 +40,13 @@ returns-in-Err-clause-stopped g c = λ plan course item items a reads.
       | inr same ↦ inr (subst (λ (k : g.row.H.Denot). HasStopped plan course (g.H.Host.may k) (g.H.Host.said k)) (sym same)
           (mid_stopped g.H.Host.now g.H.Host.may g.H.Host.clock g.H.Host.since g.H.Host.said plan course c.args.offset item items (g.T.Table.tells s.engine.table) (g.T.Table.cell s.engine.table) (events_of (g.H.Host.now h) s) (stored_of (g.H.Host.now h) s) s.keep h h s m))
     ]
+
+pub returns-in-Ok-clause-node : goal.returns-in-Ok-clause-node
+returns-in-Ok-clause-node g c = λ plan n runs.
+    let s = c.args.session.now in
+    node_still g.H.Host.now g.H.Host.may g.H.Host.clock g.H.Host.since plan n (g.T.Table.tells s.engine.table) (g.T.Table.cell s.engine.table) s.reservoir s.engine c.args.host.now c.tell.new.host c.tell.ensures.leaves runs
+
+pub returns-in-Err-clause-node : goal.returns-in-Err-clause-node
+returns-in-Err-clause-node g c = λ plan n runs.
+    let s = c.args.session.now in
+    node_still g.H.Host.now g.H.Host.may g.H.Host.clock g.H.Host.since plan n (g.T.Table.tells s.engine.table) (g.T.Table.cell s.engine.table) s.reservoir s.engine c.args.host.now c.tell.new.host c.tell.ensures.leaves runs

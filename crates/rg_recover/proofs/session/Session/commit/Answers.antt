@@ -1,6 +1,7 @@
 use Rattle.std.proofs.Common.{rules, inr, refl}
 use Rattle.rg_reservoir.specs.Kept.{opened}
 use Rattle.rg_recover.specs.Sessions.{Sitting}
+use Rattle.rg_recover.proofs.Nodes.{node_stored}
 use Rattle.rg_recover.proofs.Ready.{ready_stepped}
 use Rattle.rg_recover.proofs.Running.{runs_still, first_apart, second_apart}
 use Rattle.rg_recover.proofs.session.Session.commit.Goals as goal
@@ -39,6 +40,7 @@ returns-in-Err g c = record {
   stored = λ plan keep runs. tt;
   events = λ plan runs. tt;
   running = λ plan runs. tt;
+  node = λ plan n runs. tt;
   next = tt;
   empty = tt;
   count = search rules;
@@ -57,3 +59,11 @@ returns-in-Err g c = record {
   disk_faults = c.commit_open.ensures.disk_faults;
   out_faults = c.commit_open.ensures.out_faults;
 }
+
+pub returns-in-Ok-clause-node : goal.returns-in-Ok-clause-node
+returns-in-Ok-clause-node g c = rw (← c.self.view_is) (λ plan n runs.
+    let h = c.args.host.now in
+    let then = c.commit_open.new.host in
+    let e = c.self.inside.engine in
+    node_stored plan n (g.H.Host.now h) (g.H.Host.may h) (g.T.Table.tells e.table) (g.T.Table.cell e.table) c.self.inside.reservoir e runs (g.H.Host.now then) (g.H.Host.may then) c.commit_open.new.reservoir
+    (c.in-Ok.ensures.opened plan runs.reservoir) (c.in-Ok.ensures.list runs.reservoir.sound) (c.in-Ok.ensures.spelled runs.reservoir.sound))

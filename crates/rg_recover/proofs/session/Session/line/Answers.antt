@@ -87,3 +87,9 @@ returns-in-Err-take_in-clause-never_bad g c = rw (← c.self.view_is) (λ plan n
 
 pub returns-in-Err-take_in-clause-never_damaged : goal.returns-in-Err-take_in-clause-never_damaged
 returns-in-Err-take_in-clause-never_damaged g c = rw (← c.self.view_is) (λ plan p runs is. c.in-Err-take_in.ensures.never_damaged plan c.self.inside.texts p runs.ready (ap (λ v. Err v) (same_fault c.in-Err-take_in.fault _ is)))
+
+pub returns-in-Ok-clause-node : goal.returns-in-Ok-clause-node
+returns-in-Ok-clause-node g c = rw (← c.self.view_is) (λ plan n runs. c.in-Ok.ensures.node plan n runs)
+
+pub returns-in-Err-take_in-clause-never_bad_node : goal.returns-in-Err-take_in-clause-never_bad_node
+returns-in-Err-take_in-clause-never_bad_node g c = rw (← c.self.view_is) (λ plan n runs is. c.in-Err-take_in.ensures.never_bad_node plan n runs (ap (λ v. Err v) (same_fault c.in-Err-take_in.fault _ is)))

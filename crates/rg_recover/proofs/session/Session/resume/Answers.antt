@@ -3,6 +3,7 @@ use Rattle.rg_event.specs.Rising.{next_offset}
 use Rattle.rg_event.specs.declared.event.Event.{Event}
 use Rattle.rg_config.specs.Plans.{planned}
 use Rattle.rg_engine.specs.Passed.{passed_count}
+use Rattle.rg_open.specs.Blame.{IsBlamed, NodeRuns}
 use Rattle.rg_open.specs.Opening.{IsResumed}
 use Rattle.rg_recover.specs.Sessions.{Sitting, IsRunning, events_of, stored_of}
 use Rattle.rg_recover.proofs.Resuming.{started_running, all_of_none, stored_of_none}
@@ -38,3 +39,9 @@ returns-in-Ok-clause-resumed g c = λ v told.
     let plan = c.args.plan.now in
     subst (λ (s : Sitting g.row.T.Denot). IsResumed v (g.H.Host.now c.open_store.new.host) plan.queries plan.schema.fields plan.task s.reservoir s.engine s.keep c.in-Ok.resumed.from c.args.steps.now c.open_store.new.steps) (sym c.new.ensures)
     (c.in-Ok.ensures.resumed v told)
+
+pub returns-in-Ok-clause-node : goal.returns-in-Ok-clause-node
+returns-in-Ok-clause-node g c = λ v events n told has tells.
+    let h = c.open_store.new.host in
+    subst (λ (s : Sitting g.row.T.Denot). (NodeRuns (planned c.args.plan.now) n (g.H.Host.now h) (g.H.Host.may h) (g.T.Table.tells s.engine.table) (g.T.Table.cell s.engine.table) s.reservoir s.engine → ⊥) → IsBlamed (planned c.args.plan.now) v events n) (sym c.new.ensures)
+    (c.in-Ok.ensures.node v events n told has tells)

@@ -54,3 +54,6 @@ returns-in-Ok-clause-stored g c = λ plan runs.
       left = λ u one. subst (λ (l : List Event). IsStepped (store_of plan) keep l (g.H.Host.may c.args.host.now) u) (append-nil done.more)
           (stepped_then Image (store_of plan) keep done.more [] (g.H.Host.may c.args.host.now) (g.H.Host.may mid) u done.left (mid_is_stepped (store_of plan) keep (g.H.Host.may mid) u (more.left u one)));
     }) c.write_checkpoint.ensures.saved
+
+pub returns-in-Ok-clause-node : goal.returns-in-Ok-clause-node
+returns-in-Ok-clause-node g c = λ plan n runs. c.write_checkpoint.ensures.node plan n (c.in-Ok.ensures.node plan n runs)

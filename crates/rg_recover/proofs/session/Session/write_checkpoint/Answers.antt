@@ -3,6 +3,7 @@ use Rattle.rg_checkpoint.specs.Writing.{Encodes}
 use Rattle.rg_engine.specs.Seen.{Seen}
 use Rattle.rg_store.specs.Stores.{store_of}
 use Rattle.rg_recover.specs.Sessions.{Sitting}
+use Rattle.rg_recover.proofs.Nodes.{node_beside}
 use Rattle.rg_recover.proofs.Saved.{to_write, running_saved, mid_is_stepped, checkpoint_of}
 use Rattle.rg_recover.proofs.Within.{still_within}
 use Rattle.rg_recover.proofs.session.Session.write_checkpoint.Goals as goal
@@ -56,3 +57,13 @@ returns-clause-within_step g c =
     let to = to_write plan (g.H.Host.now h) (g.H.Host.may h) (g.T.Table.tells e.table) (g.T.Table.cell e.table) s c.count-count.result c.deref.result.now runs empty c.self.invariant.keep enc c.count-count.ensures.count
     (λ checkpoint. c.law_checkpoints.ensures.saved plan h c.self.inside.reservoir (g.T.Table.cell e.table) checkpoint) in
     c.write_slot.ensures.within_step plan (checkpoint_of c.self.inside.texts c.count-count.result e.spots enc.rows) to)
+
+pub returns-in-Ok-write_slot-clause-node : goal.returns-in-Ok-write_slot-clause-node
+returns-in-Ok-write_slot-clause-node g c = rw (← c.self.view_is) (λ plan n runs.
+    let h = c.args.host.now in
+    let e = c.self.inside.engine in
+    let f = c.write_payload.new.engine in
+    let then = c.write_slot.new.host in
+    node_beside plan n (g.H.Host.now h) (g.H.Host.may h) (g.T.Table.tells e.table) (g.T.Table.cell e.table) c.self.inside.reservoir e runs (g.H.Host.now then) (g.H.Host.may then) (g.T.Table.tells f.table) (g.T.Table.cell f.table) f
+    c.write_slot.ensures.log (c.write_payload.ensures.rows.tells.1 runs.tells) (c.write_payload.ensures.same runs.tells)
+    (ap (λ (x : Seen g.row.T.Denot). x.plan) c.write_payload.ensures.engine) (ap (λ (x : Seen g.row.T.Denot). x.spots) c.write_payload.ensures.engine))

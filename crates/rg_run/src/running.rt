@@ -3,14 +3,15 @@ ghost use Rattle.std.specs.Option.{ForSome};
 ghost use Rattle.rg_bytes.specs.Counts.{Rose};
 ghost use Rattle.rg_bytes.specs.Known.{IsAtEnd};
 ghost use Rattle.rg_host.specs.Image.{Image};
-ghost use Rattle.rg_event.specs.Rising.{next_offset};
 ghost use Rattle.rg_event.specs.declared.event.Event.{Event};
+ghost use Rattle.rg_event.specs.Rising.{next_offset};
 ghost use Rattle.rg_log.specs.Log.{schema_payload, HasEvents};
 ghost use Rattle.rg_config.specs.Plans.{planned};
 ghost use Rattle.rg_config.specs.Read.{IsRead};
 ghost use Rattle.rg_reservoir.specs.Attached.{IsOther, IsBadFrame};
 ghost use Rattle.rg_reservoir.specs.Chain.{IsIllegal};
 ghost use Rattle.rg_store.specs.Stores.{store_of};
+ghost use Rattle.rg_open.specs.Blame.{IsBlamed};
 ghost use Rattle.rg_open.specs.Unfit.{IsUnfit, IsLeftAlone};
 ghost use Rattle.rg_open.specs.Within.{IsWithinOpening};
 ghost use Rattle.rg_run.specs.Begun.{IsReady, begun_by};
@@ -64,6 +65,8 @@ pub fn run<I: Source, H: Host, L: Ledger>(
     ensures damaged { (p : ℕ) → IsErrOf result (RunFault.Damaged p) →
         ForSome (H.now host.old) (λ v. IsBadFrame (schema_payload plan.now.schema) p (v 2)) ⊎ ForSome (H.now host.new) (λ v. IsIllegal plan.now.schema.fields p (v 2)) }
     ensures exact { (v : Image) → H.now host.old ≡ Some v → IsOther (schema_payload plan.now.schema) (v 2) ⊎ ((p : ℕ) × IsBadFrame (schema_payload plan.now.schema) p (v 2)) → OnOk result ⊥ }
+    ensures bad { (v : Image) (events : List Event) (n : ℕ) → H.now host.old ≡ Some v → HasEvents plan.now.schema events (v 2) →
+        IsErrOf result (RunFault.BadState n) → IsBlamed (planned plan.now) v events n }
     ensures at_end { OnOk result (IsAtEnd (I.left input.new)) }
     ensures within { OnOk result (IsWithin (2 ^ 50) (I.left input.old)) }
     ensures read { IsErrOf result RunFault.Read → Rose (I.faults input.old) (I.faults input.new) }

@@ -10,6 +10,7 @@ ghost use Rattle.rg_reservoir.specs.Chain.{IsIllegal};
 ghost use Rattle.rg_reservoir.specs.Kept.{base, log_of};
 ghost use Rattle.rg_course.specs.Stores.{StaysOnCourse};
 ghost use Rattle.rg_store.specs.Stores.{store_of};
+ghost use Rattle.rg_open.specs.Blame.{NodeRuns};
 ghost use Rattle.rg_turn.specs.Turning.{HasStopped};
 ghost use Rattle.rg_run.specs.Begun.{Begun, course_for};
 ghost use Rattle.rg_run.specs.Reading.{HasTaken};
@@ -47,6 +48,9 @@ fn answer_text<H: Host, L: Ledger>(
     requires going { turning.old.session.ended ≡ false }
     requires reaches { ReachesEnd (log_of turning.old.session.reservoir) (H.now host.old) }
     ensures answers { Answers H.now H.may H.clock H.since H.said (planned plan.now) (Some text.now) turning.old.offset turning.new.offset (⟦<MemTable as Table>⟧.tells turning.old.session.engine.table) (⟦<MemTable as Table>⟧.tells turning.new.session.engine.table) (⟦<MemTable as Table>⟧.cell turning.old.session.engine.table) (⟦<MemTable as Table>⟧.cell turning.new.session.engine.table) host.old host.new turning.old.session turning.new.session result }
+    ensures node { (n : ℕ) → NodeRuns (planned plan.now) n (H.now host.old) (H.may host.old) (⟦<MemTable as Table>⟧.tells turning.old.session.engine.table) (⟦<MemTable as Table>⟧.cell turning.old.session.engine.table) turning.old.session.reservoir turning.old.session.engine →
+        OnOk result (NodeRuns (planned plan.now) n (H.now host.new) (H.may host.new) (⟦<MemTable as Table>⟧.tells turning.new.session.engine.table) (⟦<MemTable as Table>⟧.cell turning.new.session.engine.table) turning.new.session.reservoir turning.new.session.engine) }
+    ensures never_bad_node { (n : ℕ) → NodeRuns (planned plan.now) n (H.now host.old) (H.may host.old) (⟦<MemTable as Table>⟧.tells turning.old.session.engine.table) (⟦<MemTable as Table>⟧.cell turning.old.session.engine.table) turning.old.session.reservoir turning.old.session.engine → IsErrOf result (TurnFault.Task (TaskFault.BadState n)) → ⊥ }
     ensures offset { OnOk result (turning.new.offset ≡ turning.old.offset + 1) }
     ensures going { OnOk result (turning.new.session.ended ≡ false) }
     ensures reaches { OnOk result (ReachesEnd (log_of turning.new.session.reservoir) (H.now host.new)) }
@@ -76,6 +80,8 @@ fn refuse_long<H: Host>(
     requires going { turning.old.session.ended ≡ false }
     requires reaches { ReachesEnd (log_of turning.old.session.reservoir) (H.now host.old) }
     ensures answers { Answers H.now H.may H.clock H.since H.said (planned plan.now) None turning.old.offset turning.new.offset (⟦<MemTable as Table>⟧.tells turning.old.session.engine.table) (⟦<MemTable as Table>⟧.tells turning.new.session.engine.table) (⟦<MemTable as Table>⟧.cell turning.old.session.engine.table) (⟦<MemTable as Table>⟧.cell turning.new.session.engine.table) host.old host.new turning.old.session turning.new.session result }
+    ensures node { (n : ℕ) → NodeRuns (planned plan.now) n (H.now host.old) (H.may host.old) (⟦<MemTable as Table>⟧.tells turning.old.session.engine.table) (⟦<MemTable as Table>⟧.cell turning.old.session.engine.table) turning.old.session.reservoir turning.old.session.engine →
+        OnOk result (NodeRuns (planned plan.now) n (H.now host.new) (H.may host.new) (⟦<MemTable as Table>⟧.tells turning.new.session.engine.table) (⟦<MemTable as Table>⟧.cell turning.new.session.engine.table) turning.new.session.reservoir turning.new.session.engine) }
     ensures offset { OnOk result (turning.new.offset ≡ turning.old.offset + 1) }
     ensures going { OnOk result (turning.new.session.ended ≡ false) }
     ensures reaches { OnOk result (ReachesEnd (log_of turning.new.session.reservoir) (H.now host.new)) }
@@ -119,6 +125,11 @@ pub(crate) fn turn<I: Source, H: Host, L: Ledger>(
         IfErr result (λ fault. (fault ≡ RunFault.Read) ⊎ (fault ≡ RunFault.Limit) → HasAnswered (planned plan.now) b (I.left input.new) (H.said host.new) (fault ≡ RunFault.Limit)) }
     ensures never_bad { (b : Begun) (n : ℕ) → IsUnderWay (planned plan.now) b (I.left input.old) lines.old turning.old.offset (H.now host.old) (H.may host.old) (H.said host.old) (⟦<MemTable as Table>⟧.tells turning.old.session.engine.table) (⟦<MemTable as Table>⟧.cell turning.old.session.engine.table) turning.old.session → IsErrOf result (RunFault.BadState n) → ⊥ }
     ensures never_damaged { (b : Begun) (p : ℕ) → IsUnderWay (planned plan.now) b (I.left input.old) lines.old turning.old.offset (H.now host.old) (H.may host.old) (H.said host.old) (⟦<MemTable as Table>⟧.tells turning.old.session.engine.table) (⟦<MemTable as Table>⟧.cell turning.old.session.engine.table) turning.old.session → IsErrOf result (RunFault.Damaged p) → ⊥ }
+
+    // A node that can be carried on is carried on, and its state is never bad.
+    ensures node { (n : ℕ) → NodeRuns (planned plan.now) n (H.now host.old) (H.may host.old) (⟦<MemTable as Table>⟧.tells turning.old.session.engine.table) (⟦<MemTable as Table>⟧.cell turning.old.session.engine.table) turning.old.session.reservoir turning.old.session.engine →
+        IfOk result (λ more. IsTrue more → NodeRuns (planned plan.now) n (H.now host.new) (H.may host.new) (⟦<MemTable as Table>⟧.tells turning.new.session.engine.table) (⟦<MemTable as Table>⟧.cell turning.new.session.engine.table) turning.new.session.reservoir turning.new.session.engine) }
+    ensures never_bad_node { (n : ℕ) → NodeRuns (planned plan.now) n (H.now host.old) (H.may host.old) (⟦<MemTable as Table>⟧.tells turning.old.session.engine.table) (⟦<MemTable as Table>⟧.cell turning.old.session.engine.table) turning.old.session.reservoir turning.old.session.engine → IsErrOf result (RunFault.BadState n) → ⊥ }
 
     // What was taken of the input.
     ensures taken { (start : Option (List ℕ)) → HasTaken start (I.left input.old) lines.old → HasTaken start (I.left input.new) lines.new }

@@ -1,6 +1,7 @@
 use Rattle.std.proofs.Common.{inl, inr, ℕ, ◌≡◌, ◌≤◌, Option, List, None, Some, refl, sym, ◌∙◌, ap, subst, arith, Err}
 use Rattle.rg_host.specs.Puts.{IsPrefix, Puts}
 use Rattle.rg_config.specs.Plans.{planned}
+use Rattle.rg_turn.proofs.Nodes.{node_still}
 use Rattle.rg_run.specs.Begun.{begun_by}
 use Rattle.rg_run.specs.UnderWay.{IsUnopened}
 use Rattle.rg_run.specs.declared.fault.RunFault.TheVariants as run
@@ -140,3 +141,14 @@ returns-in-Err-put_mark-clause-disk g c = λ is. absurd ((put_others c.in-Err-pu
 
 pub returns-in-Err-put_mark-clause-others : goal.returns-in-Err-put_mark-clause-others
 returns-in-Err-put_mark-clause-others g c = (λ is. (put_others c.in-Err-put_mark.fault c.in-Err-put_mark.ensures.faults).2 (let e : c.in-Err-put_mark.fault ≡ run.Read = cc in e), λ is. (put_others c.in-Err-put_mark.fault c.in-Err-put_mark.ensures.faults).3 (let e : c.in-Err-put_mark.fault ≡ run.Limit = cc in e))
+
+pub returns-in-Err-clause-bad : goal.returns-in-Err-clause-bad
+returns-in-Err-clause-bad g c = λ v events n told has is. let e : c.opening_fault.result ≡ run.BadState n = cc in c.in-Err.ensures.bad v events n told has tt (open_bad c.in-Err.fault n (sym c.opening_fault.ensures ∙ e))
+
+pub returns-in-Err-put_mark-clause-bad : goal.returns-in-Err-put_mark-clause-bad
+returns-in-Err-put_mark-clause-bad g c = λ v events n told has is. absurd (((put_others c.in-Err-put_mark.fault c.in-Err-put_mark.ensures.faults).4 n).0 (let e : c.in-Err-put_mark.fault ≡ run.BadState n = cc in e))
+
+pub returns-in-Ok-put_mark-clause-node : goal.returns-in-Ok-put_mark-clause-node
+returns-in-Ok-put_mark-clause-node g c = λ v events n told has.
+    let s = c.in-Ok.opened.0 in
+    rw (c.new-in-Ok-put_mark.ensures.session) (λ not. c.in-Ok.ensures.node v events n told has tt (λ runs. not (node_still g.H.Host.now g.H.Host.may g.H.Host.clock g.H.Host.since (planned c.args.plan.now) n _ _ s.reservoir s.engine c.resume.new.host c.put_mark.new.host c.put_mark.ensures.leaves runs)))

@@ -144,3 +144,11 @@ returns-in-Err-begin-clause-damaged g c = λ p is. let e : c.in-Err-begin.fault 
 
 pub returns-in-Err-begin-clause-gap_next : goal.returns-in-Err-begin-clause-gap_next
 returns-in-Err-begin-clause-gap_next g c = λ v events n told has is. let e : c.in-Err-begin.fault ≡ run.Gap n = cc in c.in-Err-begin.ensures.gap_next v events n told has (ap (λ v. Err v) e)
+
+pub returns-in-Err-begin-clause-bad : goal.returns-in-Err-begin-clause-bad
+returns-in-Err-begin-clause-bad g c = λ v events n told has is. let e : c.in-Err-begin.fault ≡ run.BadState n = cc in c.in-Err-begin.ensures.bad v events n told has (ap (λ f. Err f) e)
+
+pub returns-clause-bad : goal.returns-clause-bad
+returns-clause-bad g c = λ v events n told has is.
+    let e : c.in-Err-answer_lines.fault ≡ run.BadState n = cc in
+    c.in-Ok-begin.ensures.node v events n told has (λ runs. c.in-Err-answer_lines.ensures.never_bad_node n runs (ap (λ f. Err f) e))

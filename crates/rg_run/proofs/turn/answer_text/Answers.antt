@@ -1,4 +1,5 @@
 use Rattle.std.proofs.Common.{Some, ◌∷◌, sym, ◌∙◌, ap}
+use Rattle.std.proofs.lemmas.Result.{on_ok_weaker}
 use Rattle.rg_config.specs.Plans.{planned}
 use Rattle.rg_verdict.specs.Verdicts.{or_reply}
 use Rattle.rg_row.specs.Rows.{row_of}
@@ -34,3 +35,6 @@ returns-clause-answers g c =
       never_damaged = λ course items a. damaged_by c.answer.result (λ p is. c.answer.ensures.never_damaged course (item ∷ items) p a is);
       never_bad = λ course items a. bad_by c.answer.result (λ n is. c.answer.ensures.never_bad course (item ∷ items) n a is);
     }
+
+pub returns-then-is_header-clause-node : goal.returns-then-is_header-clause-node
+returns-then-is_header-clause-node g c = λ n runs. on_ok_weaker c.refuse.result (λ _. c.refuse.ensures.node (planned c.args.plan.now) n runs) c.refuse.ensures.offset

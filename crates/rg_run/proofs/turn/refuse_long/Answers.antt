@@ -1,4 +1,5 @@
 use Rattle.std.proofs.Common.{None, Option, List, ℕ, sym, ◌∙◌}
+use Rattle.std.proofs.lemmas.Result.{on_ok_weaker}
 use Rattle.rg_config.specs.Plans.{planned}
 use Rattle.rg_turn.specs.Turning.{terms_of}
 use Rattle.rg_run.proofs.Causes.{never_by, undamaged_by}
@@ -30,3 +31,9 @@ returns-clause-answers g c =
       never_damaged = λ course items a. undamaged_by c.refuse-2.result c.refuse-2.ensures.faults;
       never_bad = λ course items a. never_by c.refuse-2.result c.refuse-2.ensures.faults;
     }
+
+pub returns-then-is_header-clause-node : goal.returns-then-is_header-clause-node
+returns-then-is_header-clause-node g c = λ n runs. on_ok_weaker c.refuse.result (λ _. c.refuse.ensures.node (planned c.args.plan.now) n runs) c.refuse.ensures.offset
+
+pub returns-clause-node : goal.returns-clause-node
+returns-clause-node g c = λ n runs. on_ok_weaker c.refuse-2.result (λ _. c.refuse-2.ensures.node (planned c.args.plan.now) n runs) c.refuse-2.ensures.offset

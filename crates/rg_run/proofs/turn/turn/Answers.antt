@@ -131,3 +131,14 @@ returns-in-Err-Read-clause-log g c = (refl, refl)
 
 pub returns-in-Err-Limit-clause-log : goal.returns-in-Err-Limit-clause-log
 returns-in-Err-Limit-clause-log g c = (refl, refl)
+
+pub returns-in-Ok-clause-node : goal.returns-in-Ok-clause-node
+returns-in-Ok-clause-node g c = λ n runs yes. c.in-Ok.ensures.node n runs
+
+pub returns-in-Ok-refuse_long-clause-node : goal.returns-in-Ok-refuse_long-clause-node
+returns-in-Ok-refuse_long-clause-node g c = λ n runs yes. c.in-Ok-refuse_long.ensures.node n runs
+
+pub returns-in-Err-clause-never_bad_node : goal.returns-in-Err-clause-never_bad_node
+returns-in-Err-clause-never_bad_node g c = λ n runs is.
+    let e : c.turn_fault.result ≡ run.BadState n = cc in
+    c.answer_text.ensures.never_bad_node n runs (c.in-Err.is ∙ ap (λ v. Err v) (turn_bad c.in-Err.fault n (sym c.turn_fault.ensures ∙ e)))

@@ -20,7 +20,7 @@ use Rattle.rg_run.specs.declared.fault.RunFault.{RunFault}
 use Rattle.rg_run.specs.declared.fault.RunFault.TheVariants as run
 use Rattle.railgun.specs.Plan.{IsPlan}
 use Rattle.rg_open.specs.Unfit.{HasOtherSchema}
-use Rattle.railgun.specs.Causes.{IsDamagedAt, IsStoreLine}
+use Rattle.railgun.specs.Causes.{IsDamagedAt, IsBadState, IsStoreLine}
 use Rattle.railgun.specs.Call.{EndsRun, IsRefused, last_line}
 use Rattle.railgun.specs.Stored.{ToldRun, begun_in, IsLastOf, Went}
 use Rattle.railgun.specs.declared.status.Status.{Status}
@@ -73,10 +73,10 @@ module _ {H : Type 0} (may : H → Image → Type 0) (clock : H → ℕ) (since 
 
 -- the line of a refused store
 pub store_line : (plan : Planned) (old new : Option Image) (alone : Type 0) (first : ℕ) (cause : RunFault) (status : Status) (last : List ℕ) → EndsRun first cause status last → status ≡ Store →
-    (cause ≡ run.SchemaDiffers → ForSome old (λ v. HasOtherSchema plan v) × alone) → ((p : ℕ) → cause ≡ run.Damaged p → IsDamagedAt plan old new p) → IsStoreLine plan old new alone last
-store_line plan old new alone first cause status last ends is differs damaged = ⊎_elim
+    (cause ≡ run.SchemaDiffers → ForSome old (λ v. HasOtherSchema plan v) × alone) → ((p : ℕ) → cause ≡ run.Damaged p → IsDamagedAt plan old new p) → ((n : ℕ) → cause ≡ run.BadState n → IsBadState plan old n) → IsStoreLine plan old new alone last
+store_line plan old new alone first cause status last ends is differs damaged state = ⊎_elim
     (λ other. let h = differs other.0 in inl (other.1, h.0, h.1))
-    (λ more. ⊎_elim (λ damage. inr (inl (damage.0, damage.2, damaged damage.0 damage.1))) (λ bad. inr (inr (bad.0, bad.2))) more)
+    (λ more. ⊎_elim (λ damage. inr (inl (damage.0, damage.2, damaged damage.0 damage.1))) (λ bad. inr (inr (bad.0, bad.2, state bad.0 bad.1))) more)
     (run_store first cause status last ends is)
 
 pub never_store : (first : ℕ) (cause : RunFault) (status : Status) (last : List ℕ) → EndsRun first cause status last → status ≡ Store → (cause ≡ run.SchemaDiffers → ⊥) → ((n : ℕ) → cause ≡ run.BadState n → ⊥) → ((p : ℕ) → cause ≡ run.Damaged p → ⊥) → ⊥

@@ -5,9 +5,12 @@ use Rattle.rg_bytes.specs.Known.{after}
 use Rattle.rg_event.specs.Rising.{next_offset}
 use Rattle.rg_event.specs.declared.event.Event.{Event}
 use Rattle.rg_host.specs.Image.{Image}
+use Rattle.rg_event.specs.declared.event.Event.{Event}
+use Rattle.rg_log.specs.Log.{HasEvents}
 use Rattle.rg_config.specs.Plans.{Planned}
 use Rattle.rg_reservoir.specs.Chain.{IsIllegal}
 use Rattle.rg_store.specs.Stores.{Has}
+use Rattle.rg_open.specs.Blame.{IsBlamed}
 use Rattle.rg_open.specs.Unfit.{HasOtherSchema, HasBadFrame}
 use Rattle.railgun.specs.Call.{damage_line, schema_line, state_line, gap_line}
 use Rattle.railgun.specs.Plan.{IsPlan}
@@ -16,13 +19,17 @@ use Rattle.railgun.specs.Plan.{IsPlan}
 abbrev pub IsDamagedAt : Planned → Option Image → Option Image → ℕ → Type 0
 IsDamagedAt plan old new place = ForSome old (λ v. HasBadFrame plan place v) ⊎ ForSome new (λ v. IsIllegal plan.shape.fields place (v 2))
 
--- The line that refuses a store says why: another schema, and then the input was left alone; a damaged place; or a node whose rows don't
--- stand for the events.
+-- where the image's log is legal, and of the plan's schema or without a frame, that node isn't true in the checkpoint that is used
+abbrev pub IsBadState : Planned → Option Image → ℕ → Type 0
+IsBadState plan old node = ForSome old (λ v. (events : List Event) → HasEvents plan.shape events (v 2) → IsBlamed plan v events node)
+
+-- The line that refuses a store says why: another schema, and then the input was left alone; a damaged place; or a node whose rows, with the
+-- spots of its edges, don't stand for the events.
 abbrev pub IsStoreLine : Planned → Option Image → Option Image → Type 0 → List ℕ → Type 0
 IsStoreLine plan old new alone last =
     ((last ≡ schema_line) × ForSome old (λ v. HasOtherSchema plan v) × alone)
     ⊎ ((place : ℕ) × (last ≡ damage_line (Some place)) × IsDamagedAt plan old new place)
-    ⊎ ((node : ℕ) × (last ≡ state_line node))
+    ⊎ ((node : ℕ) × (last ≡ state_line node) × IsBadState plan old node)
 
 -- The plan is legal, and its run refused the store with this last line.
 pub record RefusesStore (plan : Option (List ℕ)) (old new : Option Image) (alone : Type 0) (last : List ℕ) : Type 0 where

@@ -5,7 +5,6 @@ use Rattle.rg_bytes.specs.Known.{after}
 use Rattle.rg_event.specs.Rising.{next_offset}
 use Rattle.rg_event.specs.declared.event.Event.{Event}
 use Rattle.rg_host.specs.Image.{Image}
-use Rattle.rg_event.specs.declared.event.Event.{Event}
 use Rattle.rg_log.specs.Log.{HasEvents}
 use Rattle.rg_config.specs.Plans.{Planned}
 use Rattle.rg_reservoir.specs.Chain.{IsIllegal}

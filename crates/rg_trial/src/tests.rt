@@ -1,3 +1,5 @@
+mod replies;
+
 use crate::{print, run_trial};
 use rg_host::{Image, MemHost};
 use std::alloc::Global;

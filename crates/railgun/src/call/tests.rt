@@ -4,8 +4,10 @@ use std::process::Abort;
 use std::test::Fail;
 
 mod bounds;
+mod cached;
 mod dumped;
 mod informed;
+mod made;
 mod stored;
 mod tried;
 

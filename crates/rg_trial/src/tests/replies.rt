@@ -133,32 +133,49 @@ fn replies_from_scratch(alloc: Global, plan: &Plan, input: &str) -> Result<Strin
     Ok(String::from_utf8(replies)?)
 }
 
-/// A run over the store on this host, of an input whose first line has offset 0.
-fn run_counted<L: Ledger>(
+/// Runs over the store on this host, with an input whose first line has offset 0.
+fn run_on<L: Ledger>(
     alloc: Global,
     plan: &Plan,
-    input: &str,
+    input: &[u8],
     host: &mut MemHost,
-    blank: Blank,
+    steps: &mut Steps<L>,
 ) -> Result<(), Fail>
-    requires named { blank.name ≡ L.name }
-    requires parts { blank.parts ≡ L.parts }
-    requires whole { 0 < blank.parts }
-    requires read { IsRead plan.now }
+    requires { IsRead plan.now }
 {
-    let mut source = MemSource::new(input.as_bytes().to_vec(alloc)?, Vec::new(alloc));
-    let mut steps = Steps::<L>::new(blank);
-    match run(alloc, plan, 0, &mut source, host, &mut steps) {
+    let mut source = MemSource::new(input.to_vec(alloc)?, Vec::new(alloc));
+    match run(alloc, plan, 0, &mut source, host, steps) {
         Ok(()) => Ok(()),
         Err(fault) => Err(Fail::from(fault)),
     }
 }
 
+/// What two runs over one new store put: the first has half of the lines, and the second, which goes on
+/// from a checkpoint, all of them.
+fn runs_counted<L: Ledger>(
+    alloc: Global,
+    plan: &Plan,
+    half: &[u8],
+    all: &[u8],
+    blank: Blank,
+) -> Result<Vec<u8>, Fail>
+    requires named { blank.name ≡ L.name }
+    requires parts { blank.parts ≡ L.parts }
+    requires whole { 0 < blank.parts }
+    requires read { IsRead plan.now }
+{
+    let mut host = MemHost::new(alloc, Image::new(alloc), Vec::new(alloc))?;
+    let mut steps = Steps::<L>::new(blank);
+    run_on(alloc, plan, half, &mut host, &mut steps)?;
+    run_on(alloc, plan, all, &mut host, &mut steps)?;
+    Ok(host.output().to_vec(alloc)?)
+}
+
 /// The same, with a ledger of its own.
-fn run_on(alloc: Global, plan: &Plan, input: &str, host: &mut MemHost) -> Result<(), Fail>
+fn put_by_runs(alloc: Global, plan: &Plan, half: &[u8], all: &[u8]) -> Result<Vec<u8>, Fail>
     requires { IsRead plan.now }
 {
-    run_counted::<Brand>(alloc, plan, input, host, Blank::new(1))
+    runs_counted::<Brand>(alloc, plan, half, all, Blank::new(1))
 }
 
 /// The lines of this text that begin with a digit, as replies do.
@@ -173,15 +190,11 @@ fn replies_in(alloc: Global, text: &str) -> Result<String, Fail> {
     Ok(replies)
 }
 
-/// The replies of two runs over one store: the first has half of the lines, and the second, which goes
-/// on from a checkpoint, all of them.
+/// The replies of these two runs.
 fn replies_of_runs(alloc: Global, plan: &Plan, half: &str, all: &str) -> Result<String, Fail>
     requires { IsRead plan.now }
 {
-    let mut host = MemHost::new(alloc, Image::new(alloc), Vec::new(alloc))?;
-    run_on(alloc, plan, half, &mut host)?;
-    run_on(alloc, plan, all, &mut host)?;
-    let text = String::from_utf8(host.output().to_vec(alloc)?)?;
+    let text = String::from_utf8(put_by_runs(alloc, plan, half.as_bytes(), all.as_bytes())?)?;
     replies_in(alloc, text.as_str())
 }
 

@@ -42,9 +42,9 @@ returns-in-Ok-start-clause-events g c = λ v events told settled has.
     let h = g.H.Host.now c.start.new.host in
     let r = c.start.new.reservoir in
     let all : all_events h (base r) [] ≡ events =
-        ap (λ (o : Option Image). all_events o (base r) []) c.start.ensures.leaves.now_stays
-        ∙ ap (λ (b : Base). all_events (g.H.Host.now c.find.new.host) b []) c.start.ensures.base
-        ∙ c.in-Ok.ensures.events v events told settled has in
+    ap (λ (o : Option Image). all_events o (base r) []) c.start.ensures.leaves.now_stays
+    ∙ ap (λ (b : Base). all_events (g.H.Host.now c.find.new.host) b []) c.start.ensures.base
+    ∙ c.in-Ok.ensures.events v events told settled has in
     (all, c.next_offset.ensures ∙ next_is h (g.H.Host.may c.start.new.host) r events (c.start.ensures.sound (c.in-Ok.ensures.log v events told settled has).sound) (ap (λ (b : Base). b.ended) c.start.ensures.base ∙ c.in-Ok.ensures.going.0) c.start.ensures.opened all)
 
 pub returns-in-Ok-start-clause-resumed : goal.returns-in-Ok-start-clause-resumed

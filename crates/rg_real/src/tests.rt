@@ -120,6 +120,20 @@ fn what_is_written_is_read_again(rt: HostRuntime) -> Result<(), Failed> {
 }
 
 #[test]
+fn a_file_gives_its_bytes_and_then_its_end(rt: HostRuntime) -> Result<(), Failed> {
+    let mut host = over(&rt, "given", Access::Write);
+    host.write_at(2, 0, b"abc")?;
+    host.sync(2)?;
+    let mut source = FileSource::new(&rt, "given/events");
+    let mut buf = [0; 4];
+    assert_eq!(rt; source.read(&mut buf)?, 3);
+    assert_eq!(rt; buf, *b"abc\0");
+    assert_eq!(rt; source.read(&mut buf)?, 0);
+    assert_eq!(rt; number_of(source.error()), None);
+    Ok(())
+}
+
+#[test]
 fn a_reader_writes_and_makes_nothing(rt: HostRuntime) -> Result<(), Failed> {
     let mut host = over(&rt, "unmade", Access::Read);
     let mut buf = [0; 2];

@@ -18,3 +18,6 @@ pub use fault::TaskFault;
 pub use law::law_running;
 pub use rg_open::{OpenFault, Resumed};
 pub use session::Session;
+
+#[cfg(test)]
+mod tests;

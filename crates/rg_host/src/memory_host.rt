@@ -122,6 +122,13 @@ impl MemHost {
         self.trace.len() as u64
     }
 
+    /// How many calls of `read_at` were made, up to 2^64 - 1.
+    pub fn count_reads(&self) -> u64
+        ensures { result ≡ ⟦<MemHost as Host>⟧.reads self.now }
+    {
+        self.reads
+    }
+
     /// In how many calls a growth found no memory, up to 2^64 - 1.
     pub fn starved(&self) -> u64
         ensures { result ≡ self.now.starved }

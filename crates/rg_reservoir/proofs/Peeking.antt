@@ -195,6 +195,7 @@ module _ {H : Type 0} (now : H → Option Image) (may : H → Image → Type 0) 
     same_host = h;
     base = stays.base;
     room = stays.room;
+    cap = stays.cap;
     leaves = leaves;
     outs_stay = outs;
     added = ([], stays.opened ∙ sym (append-nil pr.now.open.events));
@@ -203,13 +204,14 @@ module _ {H : Type 0} (now : H → Option Image) (may : H → Image → Type 0) 
 
   pub goes_append :
       ((h : H) (m : Moment) → since h (clock h) m → may h m.image × ForSome (said h) (λ s. m.said ≡ s)) → ((h : H) (t u : ℕ) (m : Moment) → t ≤ u → since h u m → since h t m)
-      → (pr : MutBor Reservoir) (ph : MutBor H) (qr : MutBor Reservoir) (qh : MutBor H) → qr.ghost_name ≡ pr.ghost_name → qh.ghost_name ≡ ph.ghost_name → qh.now ≡ ph.now → base qr.now ≡ base pr.now → room_of qr.now ≡ room_of pr.now
+      → (pr : MutBor Reservoir) (ph : MutBor H) (qr : MutBor Reservoir) (qh : MutBor H) → qr.ghost_name ≡ pr.ghost_name → qh.ghost_name ≡ ph.ghost_name → qh.now ≡ ph.now → base qr.now ≡ base pr.now → room_of qr.now ≡ room_of pr.now → qr.now.cache.cap ≡ pr.now.cache.cap
       → (events : List Event) → qr.now.open.events ≡ pr.now.open.events ++ events → (IsSound (now ph.now) (may ph.now) pr.now → IsSound (now ph.now) (may ph.now) qr.now) → Goes now may clock since said out_faults pr ph qr qh
-  goes_append only sinks pr ph qr qh r h same base_is room events added sound = record {
+  goes_append only sinks pr ph qr qh r h same base_is room cap events added sound = record {
     same_reservoir = r;
     same_host = h;
     base = base_is;
     room = room;
+    cap = cap;
     leaves = subst (λ (w : H). LeavesAll now may clock since said ph.now w) (sym same) (leaves_all-none now may clock since said ph.now (λ t u m le left. sinks ph.now t u m le left) (λ m left. only ph.now m left));
     outs_stay = ap out_faults same;
     added = (events, added);

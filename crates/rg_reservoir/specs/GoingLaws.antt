@@ -38,6 +38,7 @@ module _ {H : Type 0} (now : H → Option Image) (may : H → Image → Type 0) 
     same_host = refl;
     base = refl;
     room = refl;
+    cap = refl;
     leaves = leaves_all-none now may clock since said h.now (λ t u m le left. sinks h.now t u m le left) (λ m left. only h.now m left);
     outs_stay = refl;
     added = ([], sym (append-nil (opened r.now)));
@@ -51,6 +52,7 @@ module _ {H : Type 0} (now : H → Option Image) (may : H → Image → Type 0) 
     same_host = second.same_host ∙ first.same_host;
     base = second.base ∙ first.base;
     room = second.room ∙ first.room;
+    cap = second.cap ∙ first.cap;
     leaves = leaves_all-then now may clock since said ph.now qh.now rh.now first.leaves second.leaves;
     outs_stay = second.outs_stay ∙ first.outs_stay;
     added = (first.added.0 ++ second.added.0, second.added.1 ∙ ap (λ (l : List Event). l ++ second.added.0) first.added.1 ∙ append_assoc (opened pr.now) first.added.0 second.added.0);

@@ -159,7 +159,7 @@ seen_in None index = None
 abbrev pub seen : ℕ → List Event → Cache Kept → Spot → Option Event
 seen committed opened cache spot = if nat_le committed spot.number then slice_get opened spot.index else seen_in (item_at spot.place cache) spot.index
 
--- all stays but the cache and the loads
+-- all stays but what is in the cache and the loads
 pub record Stays (old new : Reservoir) : Type 0 where
   pub base : base new ≡ base old
   pub opened : opened new ≡ opened old
@@ -167,6 +167,7 @@ pub record Stays (old new : Reservoir) : Type 0 where
   pub next : next_of new ≡ next_of old
   pub time : time_of new ≡ time_of old
   pub log : log_of new ≡ log_of old
+  pub cap : (cache_of new).cap ≡ (cache_of old).cap
 
 -- the next place, where the index is the count of the chunk
 abbrev pub next_in : Option Kept → ℕ → Option ℕ

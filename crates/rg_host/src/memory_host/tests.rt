@@ -23,6 +23,7 @@ fn each_call_with_ample_memory(rt: HostRuntime) -> Result<(), Fail> {
     assert_eq!(rt; host.file(7), [].as_slice());
     assert_eq!(rt; host.output(), b"stored 1\n".as_slice());
     assert_eq!(rt; host.calls(), 5);
+    assert_eq!(rt; host.count_reads(), 1);
     assert_eq!(rt; host.starved(), 0);
     Ok(())
 }
@@ -41,6 +42,7 @@ fn listed_calls_fail(rt: HostRuntime) -> Result<(), Fail> {
     assert_eq!(rt; host.output(), b"stored 1\nstored 3\n".as_slice());
     assert_eq!(rt; host.file(2), [1, 2, 3].as_slice());
     assert_eq!(rt; host.calls(), 7);
+    assert_eq!(rt; host.count_reads(), 1);
     assert_eq!(rt; host.starved(), 0);
     Ok(())
 }

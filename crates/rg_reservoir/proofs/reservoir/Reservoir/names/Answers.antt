@@ -22,12 +22,12 @@ returns-in-Ok-clause-spelled g c = λ sound.
 pub returns-in-Ok-clause-sound : goal.returns-in-Ok-clause-sound
 returns-in-Ok-clause-sound g c =
     sound_stays (g.H.Host.now c.args.host.now) (g.H.Host.now c.count_unnamed.new.host) (g.H.Host.may c.args.host.now) (g.H.Host.may c.count_unnamed.new.host) c.args.self.now c.args.self.now c.count_unnamed.ensures.leaves.now_stays c.count_unnamed.ensures.leaves.may_stays
-    (record { base = refl; opened = refl; room = refl; next = refl; time = refl; log = refl }) (λ v told cached. cached) (λ inside. inside)
+    (record { base = refl; opened = refl; room = refl; next = refl; time = refl; log = refl; cap = refl }) (λ v told cached. cached) (λ inside. inside)
 
 pub returns-in-Err-clause-sound : goal.returns-in-Err-clause-sound
 returns-in-Err-clause-sound g c =
     sound_stays (g.H.Host.now c.args.host.now) (g.H.Host.now c.count_unnamed.new.host) (g.H.Host.may c.args.host.now) (g.H.Host.may c.count_unnamed.new.host) c.args.self.now c.args.self.now c.count_unnamed.ensures.leaves.now_stays c.count_unnamed.ensures.leaves.may_stays
-    (record { base = refl; opened = refl; room = refl; next = refl; time = refl; log = refl }) (λ v told cached. cached) (λ inside. inside)
+    (record { base = refl; opened = refl; room = refl; next = refl; time = refl; log = refl; cap = refl }) (λ v told cached. cached) (λ inside. inside)
 
 pub returns-in-Err-clause-damaged : goal.returns-in-Err-clause-damaged
 returns-in-Err-clause-damaged g c = λ p e v told.

@@ -13,7 +13,7 @@ use Rattle.rg_course.specs.Stores.{StaysOnCourseSince}
 use Rattle.rg_store.specs.Stores.{store_of}
 use Rattle.rg_open.specs.Opening.{IsFromIn}
 use Rattle.rg_turn.specs.Turning.{HasStopped}
-use Rattle.rg_run.specs.Begun.{Begun, IsReady, begun_by, course_for}
+use Rattle.rg_run.specs.Begun.{Begun, IsReadyRun, begun_by, course_for}
 use Rattle.rg_run.specs.Reading.{IsLonger}
 use Rattle.rg_run.specs.UnderWay.{HasAnswered, HasFinished, IsUnopened, IsLeft}
 use Rattle.rg_run.specs.declared.fault.RunFault.{RunFault}
@@ -21,7 +21,7 @@ use Rattle.rg_run.specs.declared.fault.RunFault.TheVariants as run
 use Rattle.railgun.specs.Plan.{IsPlan}
 use Rattle.rg_open.specs.Unfit.{HasOtherSchema}
 use Rattle.railgun.specs.Causes.{IsDamagedAt, IsBadState, IsStoreLine}
-use Rattle.railgun.specs.Call.{EndsRun, IsRefused, last_line}
+use Rattle.railgun.specs.Call.{EndsRun, IsRefusedPlan, last_line}
 use Rattle.railgun.specs.Stored.{ToldRun, begun_in, IsLastOf, Went}
 use Rattle.railgun.specs.declared.status.Status.{Status}
 use Rattle.railgun.specs.declared.status.Status.TheVariants.{Ok, Plan as BadPlan, Store, Read, Write, Limit, Memory, Gap}
@@ -118,11 +118,11 @@ bytes_ask plan p legal bytes asks is says =
 module _ {H : Type 0} (now : H → Option Image) (may : H → Image → Type 0) (clock : H → ℕ) (since : H → ℕ → Moment → Type 0) (said : H → Option (List ℕ)) (old : H)
     (sinks : (t u : ℕ) (m : Moment) → t ≤ u → since old u m → since old t m) (only_now : (m : Moment) → since old (clock old) m → may old m.image × ForSome (said old) (λ s. m.said ≡ s))
     (plan input : Option (List ℕ)) (told : ToldRun plan input (now old) (may old) (said old)) (left : Option (List ℕ)) (unread : Type 0) (status : Status) (last : List ℕ)
-    (others : (status ≡ BadPlan) ⊎ (status ≡ Read) ⊎ (status ≡ Limit) ⊎ (status ≡ Memory)) (refused : status ≡ BadPlan → IsRefused plan) (line : (status ≡ BadPlan) ⊎ (last ≡ last_line status))
+    (others : (status ≡ BadPlan) ⊎ (status ≡ Read) ⊎ (status ≡ Limit) ⊎ (status ≡ Memory)) (refused : status ≡ BadPlan → IsRefusedPlan plan) (line : (status ≡ BadPlan) ⊎ (last ≡ last_line status))
     (read : status ≡ Read → unread) (limit : status ≡ Limit → IsLonger 65536 plan) (b : Begun) (said_is : b.said ≡ told.ready.put) where
   not_refused : status ≡ BadPlan → ⊥
   not_refused is =
-      let P : Option (List ℕ) → Type 0 = λ v. IsRefused v in
+      let P : Option (List ℕ) → Type 0 = λ v. IsRefusedPlan v in
       let refusal = subst P told.plan_is (refused is) in
       let e : r.Ok told.asks ≡ r.Err refusal.0 = one_plan told.plan_bytes (r.Ok told.asks) (r.Err refusal.0) told.says.says refusal.1.says in
       absurd (cc)
@@ -169,15 +169,15 @@ module _ {H : Type 0} (now : H → Option Image) (may : H → Image → Type 0) 
 
 -- a run by the plan that was read, as one by the plan that is asked for
 pub went_at : {H : Type 0} (now : H → Option Image) (may : H → Image → Type 0) (clock : H → ℕ) (since : H → ℕ → Moment → Type 0) (said : H → Option (List ℕ)) (old new : H) (plan input : Option (List ℕ)) (told : ToldRun plan input (now old) (may old) (said old)) (first : ℕ) (left : Option (List ℕ)) (unread : Type 0) (status : Status) (last : List ℕ) (p : Planned) → IfSome plan (λ bytes. IsPlan bytes p) →
-    ((ready : IsReady p (now old) (may old) (said old)) (all : List ℕ) → input ≡ Some all → (from : ℕ) × Went may clock since said p (begun_by ready from first all) ready.openable.image left ⊥ status last old new) →
+    ((ready : IsReadyRun p (now old) (may old) (said old)) (all : List ℕ) → input ≡ Some all → (from : ℕ) × Went may clock since said p (begun_by ready from first all) ready.openable.image left ⊥ status last old new) →
     (from : ℕ) × Went may clock since said told.asks (begun_in told from first) told.ready.openable.image left unread status last old new
 went_at now may clock since said old new plan input told first left unread status last p legal goes =
-    let Goes : Planned → Type 0 = λ q. (ready : IsReady q (now old) (may old) (said old)) → (from : ℕ) × Went may clock since said q (begun_by ready from first told.input_bytes) ready.openable.image left ⊥ status last old new in
+    let Goes : Planned → Type 0 = λ q. (ready : IsReadyRun q (now old) (may old) (said old)) → (from : ℕ) × Went may clock since said q (begun_by ready from first told.input_bytes) ready.openable.image left ⊥ status last old new in
     let w = subst Goes (told_asks plan input (now old) (may old) (said old) p legal told) (λ ready. goes ready told.input_bytes told.input_is) told.ready in
     (w.0, went_for may clock since said told.asks (begun_in told w.0 first) told.ready.openable.image left unread status last old new w.1)
 
 pub never_at : (plan input : Option (List ℕ)) (now : Option Image) (may : Image → Type 0) (said : Option (List ℕ)) (told : ToldRun plan input now may said) (p : Planned) → IfSome plan (λ bytes. IsPlan bytes p) → (A : Type 0) →
-    ((ready : IsReady p now may said) (all : List ℕ) → input ≡ Some all → A) → A
+    ((ready : IsReadyRun p now may said) (all : List ℕ) → input ≡ Some all → A) → A
 never_at plan input now may said told p legal A goes =
-    let Goes : Planned → Type 0 = λ q. IsReady q now may said → A in
+    let Goes : Planned → Type 0 = λ q. IsReadyRun q now may said → A in
     subst Goes (told_asks plan input now may said p legal told) (λ ready. goes ready told.input_bytes told.input_is) told.ready

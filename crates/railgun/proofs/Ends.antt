@@ -18,7 +18,7 @@ use Rattle.rg_listing.specs.Stops.{StopsAt}
 use Rattle.rg_listing.specs.Listing.{check_text}
 use Rattle.rg_listing.proofs.Stopped.{nothing_whole}
 use Rattle.railgun.specs.Causes.{RefusesStore, RefusesGap}
-use Rattle.railgun.specs.Call.{CarriesRun, IsRun, ReadsPlan, ShowsStore, Told, ToldPlan, plan_text, ForText, last_line, refusal_line, refusal_of, line_for, ending_status, ending_line, IsLegal, IsRefused, IsDamaged, IsUndamaged, IsPossible, status_by, plan_status, store_status, status_for}
+use Rattle.railgun.specs.Call.{CarriesRun, IsRun, ReadsPlan, ShowsStore, Told, ToldPlan, plan_text, ForText, last_line, refusal_line, refusal_of, line_for, ending_status, ending_line, IsLegalPlan, IsRefusedPlan, IsDamaged, IsUndamaged, IsPossible, status_by, plan_status, store_status, status_for}
 use Rattle.railgun.specs.declared.command.Command.{Command}
 use Rattle.railgun.specs.declared.command.Command.TheVariants.{Run, Check, Dump, Info, Trial}
 use Rattle.railgun.specs.declared.status.Status.{Status}
@@ -71,7 +71,7 @@ line_alone last = stops-then [] [] last (nothing_whole [])
 
 -- The plan that a source tells.
 
-pub legal_of : (plan : Option (List ℕ)) (p : Planned) → IfSome plan (λ bytes. IsPlan bytes p) → IsLegal plan
+pub legal_of : (plan : Option (List ℕ)) (p : Planned) → IfSome plan (λ bytes. IsPlan bytes p) → IsLegalPlan plan
 legal_of (Some bytes) p h = (p, h)
 legal_of None p h = tt
 
@@ -79,7 +79,7 @@ legal_of None p h = tt
 abbrev pub RefusedBy : List ℕ → List ℕ → Type 0
 RefusedBy line bytes = (refusal : ConfigFault) × IsRefusal bytes refusal × (line ≡ refusal_line refusal)
 
-pub refused_of : (plan : Option (List ℕ)) (line : List ℕ) → IfSome plan (RefusedBy line) → IsRefused plan
+pub refused_of : (plan : Option (List ℕ)) (line : List ℕ) → IfSome plan (RefusedBy line) → IsRefusedPlan plan
 refused_of (Some bytes) line h = (h.0, h.1)
 refused_of None line h = tt
 
@@ -151,7 +151,7 @@ no_carried first plan store p legal told =
     let is : IsPlan told.plan_bytes p = subst P (told.plan_is tt) legal in
     told.no_run (carries first told.plan_bytes told.asks p is (asks_is told.plan_bytes p is told.asks told.says))
 
-no_carried_legal : (first : ℕ) (plan : Option (List ℕ)) (store : Option Image) → IsLegal plan → ToldPlan (Some (Run first)) plan store → ⊥
+no_carried_legal : (first : ℕ) (plan : Option (List ℕ)) (store : Option Image) → IsLegalPlan plan → ToldPlan (Some (Run first)) plan store → ⊥
 no_carried_legal first (Some bytes) store legal told = no_carried first (Some bytes) store legal.0 legal.1 told
 no_carried_legal first None store legal told = absurd (let e : None ≡ Some told.plan_bytes = told.plan_is tt in cc)
 
@@ -182,24 +182,24 @@ status_within bytes asks h = rw (le-ltb 65536 (length bytes) h) refl
 status_longer : (bytes : List ℕ) (asks : Result Planned ConfigFault) → 65536 < length bytes → plan_status bytes asks ≡ Limit
 status_longer bytes asks h = rw (lt-ltb 65536 (length bytes) h) refl
 
-status_legal : (bytes : List ℕ) (asks : Result Planned ConfigFault) → Says bytes asks → IsLegal (Some bytes) → plan_status bytes asks ≡ Ok
+status_legal : (bytes : List ℕ) (asks : Result Planned ConfigFault) → Says bytes asks → IsLegalPlan (Some bytes) → plan_status bytes asks ≡ Ok
 status_legal bytes asks says legal = status_within bytes asks legal.1.within ∙ ap status_by (asks_is bytes legal.0 legal.1 asks says)
 
-status_refused : (bytes : List ℕ) (asks : Result Planned ConfigFault) → Says bytes asks → IsRefused (Some bytes) → plan_status bytes asks ≡ BadPlan
+status_refused : (bytes : List ℕ) (asks : Result Planned ConfigFault) → Says bytes asks → IsRefusedPlan (Some bytes) → plan_status bytes asks ≡ BadPlan
 status_refused bytes asks says refused = status_within bytes asks refused.1.within ∙ ap status_by (one_plan bytes asks (r.Err refused.0) says refused.1.says)
 
 -- The causes of the statuses of a call. A, B, C and D say that the counts of plan, input, output and disk rose.
 pub record Causes (command : Option Command) (plan input : Option (List ℕ)) (store : Option Image) (A B C D : Type 0) (status : Status) : Type 0 where
   pub usage_only : status ≡ Usage → command ≡ None
   pub usage_always : command ≡ None → status ≡ Usage
-  pub ok_only : status ≡ Ok → (ReadsPlan command → IsLegal plan) × (ShowsStore command → IsUndamaged store)
-  pub plan_only : status ≡ BadPlan → ReadsPlan command × IsRefused plan
-  pub store_only : status ≡ Store → (ShowsStore command × IsDamaged store) ⊎ (IsRun command × IsLegal plan)
-  pub gap_only : status ≡ Gap → IsRun command × IsLegal plan
-  pub disk_only : status ≡ Disk → (ShowsStore command ⊎ (IsRun command × IsLegal plan)) × D
+  pub ok_only : status ≡ Ok → (ReadsPlan command → IsLegalPlan plan) × (ShowsStore command → IsUndamaged store)
+  pub plan_only : status ≡ BadPlan → ReadsPlan command × IsRefusedPlan plan
+  pub store_only : status ≡ Store → (ShowsStore command × IsDamaged store) ⊎ (IsRun command × IsLegalPlan plan)
+  pub gap_only : status ≡ Gap → IsRun command × IsLegalPlan plan
+  pub disk_only : status ≡ Disk → (ShowsStore command ⊎ (IsRun command × IsLegalPlan plan)) × D
   pub read_only : status ≡ Read → A ⊎ B
   pub write_only : status ≡ Write → C
-  pub limit_only : status ≡ Limit → (ReadsPlan command × IsLonger 65536 plan) ⊎ (IsLegal plan × IsRun command × IsLonger (2 ^ 50) input)
+  pub limit_only : status ≡ Limit → (ReadsPlan command × IsLonger 65536 plan) ⊎ (IsLegalPlan plan × IsRun command × IsLonger (2 ^ 50) input)
   pub possible_only : IsPossible status
 
 no_rose : (A B C : Type 0) → (A ⊎ B ⊎ C → ⊥) → A ⊎ B → ⊥
@@ -208,16 +208,16 @@ no_rose A B C none (inr b) = none (inr (inl b))
 
 -- of a command that reads its plan, where a legal one isn't carried out as a run
 module _ (command : Command) (plan : List ℕ) (input : Option (List ℕ)) (store : Option Image) (asks : Result Planned ConfigFault) (says : Says plan asks) (A B C D : Type 0) where
-  module _ (none : A ⊎ B ⊎ C → ⊥) (reads : ReadsPlan (Some command)) (no_shows : ShowsStore (Some command) → ⊥) (no_run : IsRun (Some command) → IsLegal (Some plan) → ⊥) where
-    no_store : (ShowsStore (Some command) × IsDamaged store) ⊎ (IsRun (Some command) × IsLegal (Some plan)) → ⊥
+  module _ (none : A ⊎ B ⊎ C → ⊥) (reads : ReadsPlan (Some command)) (no_shows : ShowsStore (Some command) → ⊥) (no_run : IsRun (Some command) → IsLegalPlan (Some plan) → ⊥) where
+    no_store : (ShowsStore (Some command) × IsDamaged store) ⊎ (IsRun (Some command) × IsLegalPlan (Some plan)) → ⊥
     no_store (inl shows) = no_shows shows.0
     no_store (inr runs) = no_run runs.0 runs.1
 
-    no_files : ShowsStore (Some command) ⊎ (IsRun (Some command) × IsLegal (Some plan)) → ⊥
+    no_files : ShowsStore (Some command) ⊎ (IsRun (Some command) × IsLegalPlan (Some plan)) → ⊥
     no_files (inl shows) = no_shows shows
     no_files (inr runs) = no_run runs.0 runs.1
 
-    limit_for : (ReadsPlan (Some command) × IsLonger 65536 (Some plan)) ⊎ (IsLegal (Some plan) × IsRun (Some command) × IsLonger (2 ^ 50) input) → plan_status plan asks ≡ Limit
+    limit_for : (ReadsPlan (Some command) × IsLonger 65536 (Some plan)) ⊎ (IsLegalPlan (Some plan) × IsRun (Some command) × IsLonger (2 ^ 50) input) → plan_status plan asks ≡ Limit
     limit_for (inl longer) = status_longer plan asks longer.1
     limit_for (inr longer) = absurd (no_run longer.1 longer.0)
 
@@ -236,11 +236,11 @@ module _ (command : Command) (plan : List ℕ) (input : Option (List ℕ)) (stor
 
 -- of a command that puts what the store has, which reads neither plan nor input
 module _ (command : Command) (plan input : Option (List ℕ)) (image : Image) (A B C D : Type 0) (shows : ShowsStore (Some command)) (no_plan : ReadsPlan (Some command) → ⊥) (no_run : IsRun (Some command) → ⊥) where
-  store_for : (ShowsStore (Some command) × IsDamaged (Some image)) ⊎ (IsRun (Some command) × IsLegal plan) → store_status (damage_of (image 2)) ≡ Store
+  store_for : (ShowsStore (Some command) × IsDamaged (Some image)) ⊎ (IsRun (Some command) × IsLegalPlan plan) → store_status (damage_of (image 2)) ≡ Store
   store_for (inl damaged) = ap store_status (damaged.1 image refl).1
   store_for (inr runs) = absurd (no_run runs.0)
 
-  no_limit : (ReadsPlan (Some command) × IsLonger 65536 plan) ⊎ (IsLegal plan × IsRun (Some command) × IsLonger (2 ^ 50) input) → ⊥
+  no_limit : (ReadsPlan (Some command) × IsLonger 65536 plan) ⊎ (IsLegalPlan plan × IsRun (Some command) × IsLonger (2 ^ 50) input) → ⊥
   no_limit (inl longer) = no_plan longer.0
   no_limit (inr longer) = no_run longer.1
 
@@ -259,7 +259,7 @@ module _ (command : Command) (plan input : Option (List ℕ)) (image : Image) (A
 
 -- of a trial, which has neither a plan nor an input nor files
 module _ (lines seed : ℕ) (plan input : Option (List ℕ)) (store : Option Image) (A B C D : Type 0) where
-  never_long : (⊥ × IsLonger 65536 plan) ⊎ (IsLegal plan × ⊥ × IsLonger (2 ^ 50) input) → ⊥
+  never_long : (⊥ × IsLonger 65536 plan) ⊎ (IsLegalPlan plan × ⊥ × IsLonger (2 ^ 50) input) → ⊥
   never_long (inl longer) = longer.0
   never_long (inr longer) = longer.1
 
@@ -292,7 +292,7 @@ pub completes : (command : Option Command) (plan input : Option (List ℕ)) (sto
     (status ≡ status_for command told.plan_bytes told.asks told.image) ⊎ (status ≡ Memory)
 completes (Some (Run first)) plan input store A B C D status causes told none =
     let P : Option (List ℕ) → Type 0 = λ v. Causes (Some (Run first)) v input store A B C D status in
-    let Q : Option (List ℕ) → Type 0 = λ v. IsLegal v in
+    let Q : Option (List ℕ) → Type 0 = λ v. IsLegalPlan v in
     plan_completes (Run first) told.plan_bytes input store told.asks told.says A B C D (three A B C (ShowsStore (Some (Run first)) × D) none) tt (λ shows. shows) (λ run legal. no_carried_legal first plan store (subst Q (sym (told.plan_is tt)) legal) told) status (subst P (told.plan_is tt) causes)
 completes (Some Check) plan input store A B C D status causes told none =
     let P : Option (List ℕ) → Type 0 = λ v. Causes (Some Check) v input store A B C D status in
@@ -326,10 +326,10 @@ command_is given command other is also = let e : Some command ≡ Some other = s
 
 -- Where no count rose, a run that may begin ends well, for want of memory, or since it begins behind the store.
 module _ (first : ℕ) (bytes all : List ℕ) (store : Option Image) (A B C D : Type 0) (asks : Planned) (says : IsPlan bytes asks) (within : length all ≤ 2 ^ 50) (none : A ⊎ B ⊎ C ⊎ D → ⊥) where
-  not_refused : IsRefused (Some bytes) → ⊥
+  not_refused : IsRefusedPlan (Some bytes) → ⊥
   not_refused refused = let e : r.Ok asks ≡ r.Err refused.0 = one_plan bytes (r.Ok asks) (r.Err refused.0) says.says refused.1.says in absurd (cc)
 
-  not_long : (ReadsPlan (Some (Run first)) × IsLonger 65536 (Some bytes)) ⊎ (IsLegal (Some bytes) × IsRun (Some (Run first)) × IsLonger (2 ^ 50) (Some all)) → ⊥
+  not_long : (ReadsPlan (Some (Run first)) × IsLonger 65536 (Some bytes)) ⊎ (IsLegalPlan (Some bytes) × IsRun (Some (Run first)) × IsLonger (2 ^ 50) (Some all)) → ⊥
   not_long (inl longer) = omega (arith, longer.1, says.within)
   not_long (inr longer) = omega (arith, longer.2, within)
 
@@ -360,11 +360,11 @@ runs command first is = subst (λ v. IsRun v) (sym is) tt
 
 -- what the causes of a call say of its plan
 
-pub store_legal : (command : Option Command) (plan : Option (List ℕ)) (store new : Option Image) (alone : Type 0) (Ends : List ℕ → Type 0) → (ShowsStore command × IsDamaged store) ⊎ (IsRun command × ((last : List ℕ) × RefusesStore plan store new alone last × Ends last)) → (ShowsStore command × IsDamaged store) ⊎ (IsRun command × IsLegal plan)
+pub store_legal : (command : Option Command) (plan : Option (List ℕ)) (store new : Option Image) (alone : Type 0) (Ends : List ℕ → Type 0) → (ShowsStore command × IsDamaged store) ⊎ (IsRun command × ((last : List ℕ) × RefusesStore plan store new alone last × Ends last)) → (ShowsStore command × IsDamaged store) ⊎ (IsRun command × IsLegalPlan plan)
 store_legal command plan store new alone Ends (inl shows) = inl shows
 store_legal command plan store new alone Ends (inr refuses) = inr (refuses.0, legal_of plan refuses.1.1.asks refuses.1.1.legal)
 
-pub gap_legal : (command : Option Command) (plan : Option (List ℕ)) (old : Option Image) (alone : Type 0) (Ends : List ℕ → Type 0) → (first : ℕ) × (command ≡ Some (Run first)) × ((last : List ℕ) × RefusesGap plan old first alone last × Ends last) → IsRun command × IsLegal plan
+pub gap_legal : (command : Option Command) (plan : Option (List ℕ)) (old : Option Image) (alone : Type 0) (Ends : List ℕ → Type 0) → (first : ℕ) × (command ≡ Some (Run first)) × ((last : List ℕ) × RefusesGap plan old first alone last × Ends last) → IsRun command × IsLegalPlan plan
 gap_legal command plan old alone Ends refuses = (runs command refuses.0 refuses.1, legal_of plan refuses.2.1.asks refuses.2.1.legal)
 
 pub read_of : (A B C D : Type 0) → A ⊎ (C × D × B) → A ⊎ B

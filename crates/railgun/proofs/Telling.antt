@@ -20,7 +20,7 @@ use Rattle.rg_course.specs.Acknowledged.{SavesLast}
 use Rattle.rg_course.specs.Laws.{IsPrefixOf, below}
 use Rattle.rg_course.specs.Output.{Terms, open_line, out, put_before, unstopped}
 use Rattle.rg_course.specs.Pieces.{whole_pieces}
-use Rattle.rg_course.specs.Stores.{Course, Promised, IsKept, IsOnCourse, StaysOnCourseSince}
+use Rattle.rg_course.specs.Stores.{Course, Promised, IsKeptInStore, IsOnCourse, StaysOnCourseSince}
 use Rattle.rg_course.specs.Turns.{IsStopped}
 use Rattle.rg_course.proofs.Acknowledging.{line_among}
 use Rattle.rg_course.proofs.Courses.{on_course_last, on_course_since_wider, promised, last_saved}
@@ -105,7 +105,7 @@ module _ {H : Type 0} (now : H → Option Image) (may : H → Image → Type 0) 
         (told_since H clock since may (store_of plan) (terms_of plan) course (may old) line.ends old mid new stop.put went.moments stop.stopped line.are line.nothing
         (subst (λ (l : List ℕ). Moments clock since mid new (λ m. may mid m.image × IsPartWay stop.put l m.said)) (sym line.is) (while stop.put stop.told)))
 
-    unopened_stop : IsStopped (store_of plan) course (λ u. IsKept (store_of plan) course [] u) b.said
+    unopened_stop : IsStopped (store_of plan) course (λ u. IsKeptInStore (store_of plan) course [] u) b.said
     unopened_stop = record { lines = []; more = course.text; said_is = sym (append-nil b.said); are_lines = tt; of_text = refl; kept = λ u kept. kept }
 
     after_none : IsUnopened may said plan b old mid → Moments clock since old new (P last)
@@ -115,7 +115,7 @@ module _ {H : Type 0} (now : H → Option Image) (may : H → Image → Type 0) 
         λ m h. ⊎_elim
         (λ begun. inl (begun, h.1))
         (λ kept. inr (subst (λ (l : List ℕ). IsOnCourse (store_of plan) course l m.image m.said) line.is
-        (on_course_last Image (store_of plan) course line.ends (λ u. IsKept (store_of plan) course [] u) b.said m.image m.said unopened_stop line.are line.nothing kept (subst (λ (l : List ℕ). IsPartWay b.said l m.said) (sym line.is) h.1))))
+        (on_course_last Image (store_of plan) course line.ends (λ u. IsKeptInStore (store_of plan) course [] u) b.said m.image m.said unopened_stop line.are line.nothing kept (subst (λ (l : List ℕ). IsPartWay b.said l m.said) (sym line.is) h.1))))
         (un.left m.image h.0) in
         moments_then clock since old mid new (P last) (λ m. may mid m.image × IsPartWay b.said last m.said) (P last) (wider last) (while b.said (un.said_stays ∙ told)) (λ m h. h) holds
 

@@ -19,13 +19,13 @@ use Rattle.rg_store.specs.Stores.{store_of, Has, HasSaved}
 use Rattle.rg_config.specs.Plans.{Planned}
 use Rattle.rg_open.specs.Unfit.{IsLeftAlone}
 use Rattle.rg_open.specs.Within.{IsAsRead, IsWithinOpening}
-use Rattle.rg_run.specs.Begun.{IsReady}
+use Rattle.rg_run.specs.Begun.{IsReadyRun}
 use Rattle.rg_run.specs.Faults.{SaysWhy, IsGapOrFailed}
 use Rattle.rg_run.specs.Reading.{IsLonger}
 use Rattle.rg_run.specs.declared.fault.RunFault.{RunFault}
 use Rattle.rg_run.specs.declared.fault.RunFault.TheVariants as run
 use Rattle.railgun.specs.Plan.{IsPlan}
-use Rattle.railgun.specs.Call.{EndsRun, IsRefused, gap_line, last_line}
+use Rattle.railgun.specs.Call.{EndsRun, IsRefusedPlan, gap_line, last_line}
 use Rattle.railgun.specs.Stored.{ToldRun}
 use Rattle.railgun.specs.TurnedAway.{EndsFailed, EndsUnfit, EndsBehind, IsTurnedAway, KeepsAll, IsBehind}
 use Rattle.railgun.specs.declared.status.Status.{Status}
@@ -96,11 +96,11 @@ behind_status first next unread failed status last (inl says) disk none = inl sa
 behind_status first next unread failed status last (inr ends) disk none = inr (failed_status unread failed status last ends disk none)
 
 -- The plan was not read, though legal bytes are told.
-module _ (plan : Option (List ℕ)) (bytes : List ℕ) (asks : Planned) (is : plan ≡ Some bytes) (says : IsPlan bytes asks) (unread : Type 0) (status : Status) (last : List ℕ) (refused : status ≡ BadPlan → IsRefused plan) (line : (status ≡ BadPlan) ⊎ (last ≡ last_line status))
+module _ (plan : Option (List ℕ)) (bytes : List ℕ) (asks : Planned) (is : plan ≡ Some bytes) (says : IsPlan bytes asks) (unread : Type 0) (status : Status) (last : List ℕ) (refused : status ≡ BadPlan → IsRefusedPlan plan) (line : (status ≡ BadPlan) ⊎ (last ≡ last_line status))
     (read : status ≡ Read → unread) (limit : status ≡ Limit → IsLonger 65536 plan) where
   not_refused : status ≡ BadPlan → ⊥
   not_refused bad =
-      let P : Option (List ℕ) → Type 0 = λ o. IsRefused o in
+      let P : Option (List ℕ) → Type 0 = λ o. IsRefusedPlan o in
       let refusal = subst P is (refused bad) in
       let e : r.Ok asks ≡ r.Err refusal.0 = one_plan bytes (r.Ok asks) (r.Err refusal.0) says.says refusal.1.says in
       absurd (cc)
@@ -151,7 +151,7 @@ module _ {H : Type 0} (now : H → Option Image) (may : H → Image → Type 0) 
     turned_away some (inl all) = away last ([], append-nil last) (inl refl) all
     turned_away some (inr rose) = away some.0 some.1 (inr rose) some.2
 
-  module _ (ready : IsReady plan (now old) (may old) (said old)) (first slot : ℕ) (within : IsWithinOpening may clock since said (store_of plan) (Some slot) ready.openable.image old mid) (ends : EndsBehind first (next_offset ready.held) unread status last) where
+  module _ (ready : IsReadyRun plan (now old) (may old) (said old)) (first slot : ℕ) (within : IsWithinOpening may clock since said (store_of plan) (Some slot) ready.openable.image old mid) (ends : EndsBehind first (next_offset ready.held) unread status last) where
     abbrev u0 : Image
     u0 = ready.openable.image
 
@@ -189,9 +189,9 @@ module _ {H : Type 0} (now : H → Option Image) (may : H → Image → Type 0) 
 
 -- a run by the plan that was read, as one by the plan that is asked for
 pub behind_at : {H : Type 0} (now : H → Option Image) (may : H → Image → Type 0) (clock : H → ℕ) (since : H → ℕ → Moment → Type 0) (said : H → Option (List ℕ)) (old new : H) (plan input : Option (List ℕ)) (told : ToldRun plan input (now old) (may old) (said old)) (keep : Option ℕ) (first : ℕ) (alone unread : Type 0) (status : Status) (last : List ℕ) (p : Planned) → IfSome plan (λ bytes. IsPlan bytes p) →
-    ((ready : IsReady p (now old) (may old) (said old)) → next_offset ready.held < first → alone × IsWithinOpening may clock since said (store_of p) keep ready.openable.image old new × EndsBehind first (next_offset ready.held) ⊥ status last) → next_offset told.ready.held < first →
+    ((ready : IsReadyRun p (now old) (may old) (said old)) → next_offset ready.held < first → alone × IsWithinOpening may clock since said (store_of p) keep ready.openable.image old new × EndsBehind first (next_offset ready.held) ⊥ status last) → next_offset told.ready.held < first →
     alone × IsWithinOpening may clock since said (store_of told.asks) keep told.ready.openable.image old new × EndsBehind first (next_offset told.ready.held) unread status last
 behind_at now may clock since said old new plan input told keep first alone unread status last p legal goes behind =
-    let Goes : Planned → Type 0 = λ q. (ready : IsReady q (now old) (may old) (said old)) → next_offset ready.held < first → alone × IsWithinOpening may clock since said (store_of q) keep ready.openable.image old new × EndsBehind first (next_offset ready.held) ⊥ status last in
+    let Goes : Planned → Type 0 = λ q. (ready : IsReadyRun q (now old) (may old) (said old)) → next_offset ready.held < first → alone × IsWithinOpening may clock since said (store_of q) keep ready.openable.image old new × EndsBehind first (next_offset ready.held) ⊥ status last in
     let at = subst Goes (told_asks plan input (now old) (may old) (said old) p legal told) goes told.ready behind in
     (at.0, at.1, ⊎_elim (λ says. inl says) (λ failed. inr (failed_for unread status last failed)) at.2)

@@ -17,7 +17,7 @@ use Rattle.rg_metric.specs.Queries.{Asked}
 use Rattle.rg_row.specs.Fields.{split_from}
 use Rattle.rg_host.specs.Lines.{lines_of, ended}
 use Rattle.rg_config.specs.Plans.{Planned}
-use Rattle.rg_plan.specs.Plans.{plan_for, Planned as TaskPlanned}
+use Rattle.rg_plan.specs.Plans.{plan_for, Tasks as TaskPlanned}
 use Rattle.rg_engine.specs.Passed.{passed_count}
 use Rattle.rg_course.specs.Output.{text_of_run}
 use Rattle.rg_turn.specs.Turning.{terms_of}

@@ -340,18 +340,18 @@ number_of Gap = 10
 number_of Differs = 11
 
 -- where the plan tells its bytes, they say a plan
-abbrev pub IsLegal : Option (List ℕ) → Type 0
-IsLegal (Some bytes) = (plan : Planned) × IsPlan bytes plan
-IsLegal None = ⊤
+abbrev pub IsLegalPlan : Option (List ℕ) → Type 0
+IsLegalPlan (Some bytes) = (plan : Planned) × IsPlan bytes plan
+IsLegalPlan None = ⊤
 
 -- the plan tells its bytes, and they are too long or say no plan
 abbrev pub TellsNoPlan : Option (List ℕ) → Type 0
 TellsNoPlan plan = (bytes : List ℕ) × (plan ≡ Some bytes) × ((asks : Planned) → IsPlan bytes asks → ⊥)
 
 -- where the plan tells its bytes, they are within their limit and are refused
-abbrev pub IsRefused : Option (List ℕ) → Type 0
-IsRefused (Some bytes) = (refusal : ConfigFault) × IsRefusal bytes refusal
-IsRefused None = ⊤
+abbrev pub IsRefusedPlan : Option (List ℕ) → Type 0
+IsRefusedPlan (Some bytes) = (refusal : ConfigFault) × IsRefusal bytes refusal
+IsRefusedPlan None = ⊤
 
 -- where the host tells its image, no frame of the log is damaged
 abbrev pub IsUndamaged : Option Image → Type 0

@@ -17,7 +17,7 @@ use Rattle.rg_store.specs.Stores.{store_of, Has, HasSaved}
 use Rattle.rg_store.specs.Truth.{IsTruthfulImage}
 use Rattle.rg_open.specs.Opening.{IsFromIn}
 use Rattle.rg_turn.specs.Turning.{HasStopped, terms_of}
-use Rattle.rg_run.specs.Begun.{IsReady, Begun, begun_by, lines_in, course_for}
+use Rattle.rg_run.specs.Begun.{IsReadyRun, Begun, begun_by, lines_in, course_for}
 use Rattle.rg_run.specs.UnderWay.{HasAnswered, HasFinished, IsUnopened}
 use Rattle.railgun.specs.Plan.{IsPlan}
 use Rattle.railgun.specs.Call.{damage_line, gap_line, last_line}
@@ -32,7 +32,7 @@ pub record ToldRun (plan input : Option (List ℕ)) (now : Option Image) (may : 
   pub says : IsPlan plan_bytes asks
   pub input_bytes : List ℕ
   pub input_is : input ≡ Some input_bytes
-  pub ready : IsReady asks now may said
+  pub ready : IsReadyRun asks now may said
 
 -- what a run begins with that goes on from a checkpoint of so many events, and whose first line has that offset
 abbrev pub begun_in : {plan input : Option (List ℕ)} → {now : Option Image} → {may : Image → Type 0} → {said : Option (List ℕ)} → ToldRun plan input now may said → ℕ → ℕ → Begun

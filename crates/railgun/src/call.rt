@@ -5,7 +5,7 @@ ghost use Rattle.rg_bytes.specs.Known.{IsAtEnd};
 ghost use Rattle.rg_event.specs.Rising.{next_offset};
 ghost use Rattle.rg_config.specs.Plans.{Planned, planned};
 ghost use Rattle.rg_config.specs.declared.fault.ConfigFault.{ConfigFault as Fault};
-ghost use Rattle.rg_config.specs.Read.{IsRead};
+ghost use Rattle.rg_config.specs.Read.{IsReadPlan};
 ghost use Rattle.rg_host.specs.Image.{Image};
 ghost use Rattle.rg_host.specs.Lines.{ended, lines_of};
 ghost use Rattle.rg_host.specs.Moments.{Moments, LeavesFiles};
@@ -21,9 +21,9 @@ ghost use Rattle.rg_open.specs.Unfit.{IsUnfit, IsLeftAlone};
 ghost use Rattle.rg_open.specs.Within.{IsWithinOpening};
 ghost use Rattle.rg_turn.specs.Turning.{terms_of};
 ghost use Rattle.rg_run.specs.Begun.{course_for, lines_in};
-ghost use Rattle.rg_run.specs.Reading.{IsLonger, IsWithin};
+ghost use Rattle.rg_run.specs.Reading.{IsLonger, IsWithinLimit};
 ghost use Rattle.railgun.specs.Plan.{IsPlan, IsRefusal};
-ghost use Rattle.railgun.specs.Call.{command_of, IsRun, ReadsPlan, ShowsStore, CarriesRun, Told, ToldPlan, SaysSo, ForText, plan_text, before_damage, line_for, last_line as status_line, refusal_line, damage_line, status_after, line_after, ending_status, ending_line, ending_refusal, EndsBy, TellsFault, status_for, IsLegal, TellsNoPlan, IsRefused, IsDamaged, IsUndamaged, IsPossible};
+ghost use Rattle.railgun.specs.Call.{command_of, IsRun, ReadsPlan, ShowsStore, CarriesRun, Told, ToldPlan, SaysSo, ForText, plan_text, before_damage, line_for, last_line as status_line, refusal_line, damage_line, status_after, line_after, ending_status, ending_line, ending_refusal, EndsBy, TellsFault, status_for, IsLegalPlan, TellsNoPlan, IsRefusedPlan, IsDamaged, IsUndamaged, IsPossible};
 ghost use Rattle.railgun.specs.Causes.{RefusesStore, RefusesGap, EndsWith};
 ghost use Rattle.railgun.specs.Stored.{ToldRun, begun_in, IsLastOf, IsToldFrom, Went, IsComplete, EndsWhole, EndsAnswered, IsAtMostOneAhead, HasLastSaved, Resumes};
 ghost use Rattle.railgun.specs.TurnedAway.{EndsUnfit, EndsBehind, IsTurnedAway, IsBehind};
@@ -95,7 +95,7 @@ fn refuse_plan(alloc: Global, bytes: &[u8], fault: ConfigFault) -> Ending
 /// Reads the plan.
 fn load_plan<P: Source>(alloc: Global, plan: &mut P) -> Result<Plan, Ending>
     ensures legal { IfOk result (λ asked. IfSome (P.left plan.old) (λ bytes. IsPlan bytes (planned asked))) }
-    ensures is_read { IfOk result IsRead }
+    ensures is_read { IfOk result IsReadPlan }
     ensures refused { IfErr result (λ ending. ending_status ending ≡ Status.Plan → IfSome (P.left plan.old) (λ bytes. (refusal : Fault) × IsRefusal bytes refusal × (ending_line ending ≡ refusal_line refusal))) }
     ensures told { IfErr result (λ ending. ending_status ending ≡ Status.Plan → TellsFault (P.left plan.old) (ending_refusal ending)) }
     ensures line { IfErr result (λ ending. (ending_status ending ≡ Status.Plan) ⊎ (ending_line ending ≡ status_line (ending_status ending))) }
@@ -125,11 +125,11 @@ fn check_with_plan<P: Source, H: Host>(
     ensures completes { OnOk result ((told : ToldPlan (Some Command.Check) (P.left plan.old) (H.now host.old)) → ForText (Some Command.Check) Status.Ok told.asks told.image (λ text. Puts H.said H.clock H.since host.old host.new (ended text))) }
     ensures stops { IfErr result (λ ending. (told : ToldPlan (Some Command.Check) (P.left plan.old) (H.now host.old)) → ForText (Some Command.Check) (ending_status ending) told.asks told.image (λ text. (put : List ℕ) × Puts H.said H.clock H.since host.old host.new put × StopsAt (ending_status ending ≡ Status.Write) text put)) }
     ensures line { IfErr result (λ ending. (told : ToldPlan (Some Command.Check) (P.left plan.old) (H.now host.old)) → ending_line ending ≡ line_for told.asks told.image (ending_status ending)) }
-    ensures legal { OnOk result (IsLegal (P.left plan.old)) }
-    ensures refused { IfErr result (λ ending. ending_status ending ≡ Status.Plan → IsRefused (P.left plan.old)) }
+    ensures legal { OnOk result (IsLegalPlan (P.left plan.old)) }
+    ensures refused { IfErr result (λ ending. ending_status ending ≡ Status.Plan → IsRefusedPlan (P.left plan.old)) }
     ensures told { IfErr result (λ ending. ending_status ending ≡ Status.Plan → TellsFault (P.left plan.old) (ending_refusal ending)) }
     ensures read { IfErr result (λ ending. ending_status ending ≡ Status.Read → Rose (P.faults plan.old) (P.faults plan.new)) }
-    ensures write { IfErr result (λ ending. ending_status ending ≡ Status.Write → IsLegal (P.left plan.old) × Rose (H.out_faults host.old) (H.out_faults host.new)) }
+    ensures write { IfErr result (λ ending. ending_status ending ≡ Status.Write → IsLegalPlan (P.left plan.old) × Rose (H.out_faults host.old) (H.out_faults host.new)) }
     ensures limit { IfErr result (λ ending. ending_status ending ≡ Status.Limit → IsLonger 65536 (P.left plan.old)) }
     ensures others { IfErr result (λ ending. (ending_status ending ≡ Status.Plan) ⊎ (ending_status ending ≡ Status.Read) ⊎ (ending_status ending ≡ Status.Limit) ⊎ (ending_status ending ≡ Status.Memory) ⊎ (ending_status ending ≡ Status.Write)) }
     ensures leaves { LeavesFiles H.now H.may H.clock H.since host.old host.new }
@@ -165,21 +165,21 @@ fn run_with_plan<P: Source, I: Source, H: Host>(
     ensures line { IfErr result (λ ending. (told : ToldPlan (Some (Command.Run first)) (P.left plan.old) (H.now host.old)) → ending_line ending ≡ line_for told.asks told.image (ending_status ending)) }
 
     ensures at_end { OnOk result (IsAtEnd (I.left input.new)) }
-    ensures legal { OnOk result (IsLegal (P.left plan.old)) }
-    ensures within { OnOk result (IsWithin (2 ^ 50) (I.left input.old)) }
+    ensures legal { OnOk result (IsLegalPlan (P.left plan.old)) }
+    ensures within { OnOk result (IsWithinLimit (2 ^ 50) (I.left input.old)) }
     ensures behind { (told : ToldRun (P.left plan.old) (I.left input.old) (H.now host.old) (H.may host.old) (H.said host.old)) (keep : Option ℕ) → next_offset told.ready.held < first →
         (input.new ≡ input.old) × IsWithinOpening H.may H.clock H.since H.said (store_of told.asks) keep told.ready.openable.image host.old host.new
         × EndsBehind first (next_offset told.ready.held) (Rose (P.faults plan.old) (P.faults plan.new)) (status_after result) (line_after result) }
     ensures unfit { (bytes : List ℕ) (asks : Planned) (v : Image) → P.left plan.old ≡ Some bytes → IsPlan bytes asks → H.now host.old ≡ Some v → IsUnfit asks v →
         (input.new ≡ input.old) × IsLeftAlone H.now H.may H.clock H.since H.said v host.old host.new × EndsUnfit asks v (Rose (P.faults plan.old) (P.faults plan.new)) (status_after result) (line_after result) }
-    ensures refused { IfErr result (λ ending. ending_status ending ≡ Status.Plan → IsRefused (P.left plan.old)) }
+    ensures refused { IfErr result (λ ending. ending_status ending ≡ Status.Plan → IsRefusedPlan (P.left plan.old)) }
     ensures told { IfErr result (λ ending. ending_status ending ≡ Status.Plan → TellsFault (P.left plan.old) (ending_refusal ending)) }
     ensures store { IfErr result (λ ending. ending_status ending ≡ Status.Store → RefusesStore (P.left plan.old) (H.now host.old) (H.now host.new) (input.new ≡ input.old) (ending_line ending)) }
     ensures gap { IfErr result (λ ending. ending_status ending ≡ Status.Gap → RefusesGap (P.left plan.old) (H.now host.old) first (input.new ≡ input.old) (ending_line ending)) }
-    ensures disk { IfErr result (λ ending. ending_status ending ≡ Status.Disk → IsLegal (P.left plan.old) × Rose (H.disk_faults host.old) (H.disk_faults host.new)) }
-    ensures read { IfErr result (λ ending. ending_status ending ≡ Status.Read → Rose (P.faults plan.old) (P.faults plan.new) ⊎ (IsLegal (P.left plan.old) × Rose (I.faults input.old) (I.faults input.new))) }
-    ensures write { IfErr result (λ ending. ending_status ending ≡ Status.Write → IsLegal (P.left plan.old) × Rose (H.out_faults host.old) (H.out_faults host.new)) }
-    ensures limit { IfErr result (λ ending. ending_status ending ≡ Status.Limit → IsLonger 65536 (P.left plan.old) ⊎ (IsLegal (P.left plan.old) × IsLonger (2 ^ 50) (I.left input.old))) }
+    ensures disk { IfErr result (λ ending. ending_status ending ≡ Status.Disk → IsLegalPlan (P.left plan.old) × Rose (H.disk_faults host.old) (H.disk_faults host.new)) }
+    ensures read { IfErr result (λ ending. ending_status ending ≡ Status.Read → Rose (P.faults plan.old) (P.faults plan.new) ⊎ (IsLegalPlan (P.left plan.old) × Rose (I.faults input.old) (I.faults input.new))) }
+    ensures write { IfErr result (λ ending. ending_status ending ≡ Status.Write → IsLegalPlan (P.left plan.old) × Rose (H.out_faults host.old) (H.out_faults host.new)) }
+    ensures limit { IfErr result (λ ending. ending_status ending ≡ Status.Limit → IsLonger 65536 (P.left plan.old) ⊎ (IsLegalPlan (P.left plan.old) × IsLonger (2 ^ 50) (I.left input.old))) }
     ensures possible { IfErr result (λ ending. IsPossible (ending_status ending) × (ending_status ending ≢ Status.Ok) × (ending_status ending ≢ Status.Usage)) }
     ensures plan_first { (status_after result ≡ Status.Plan) ⊎ TellsNoPlan (P.left plan.old) → (input.new ≡ input.old) × LeavesFiles H.now H.may H.clock H.since host.old host.new }
     ensures read_first { IfErr result (λ ending. ending_status ending ≡ Status.Read → ((input.new ≡ input.old) × LeavesFiles H.now H.may H.clock H.since host.old host.new) ⊎ Rose (I.faults input.old) (I.faults input.new)) }
@@ -212,23 +212,23 @@ fn run_command<P: Source, I: Source, H: Host>(
     ensures stops { IfErr result (λ ending. (told : ToldPlan (Some command) (P.left plan.old) (H.now host.old)) → ForText (Some command) (ending_status ending) told.asks told.image (λ text. (put : List ℕ) × Puts H.said H.clock H.since host.old host.new put × StopsAt (ending_status ending ≡ Status.Write) text put)) }
     ensures line { IfErr result (λ ending. (told : ToldPlan (Some command) (P.left plan.old) (H.now host.old)) → ending_line ending ≡ line_for told.asks told.image (ending_status ending)) }
     ensures at_end { OnOk result (IsRun (Some command) → IsAtEnd (I.left input.new)) }
-    ensures legal { OnOk result (ReadsPlan (Some command) → IsLegal (P.left plan.old)) }
+    ensures legal { OnOk result (ReadsPlan (Some command) → IsLegalPlan (P.left plan.old)) }
     ensures undamaged { OnOk result (ShowsStore (Some command) → IsUndamaged (H.now host.old)) }
-    ensures within { OnOk result (IsRun (Some command) → IsWithin (2 ^ 50) (I.left input.old)) }
+    ensures within { OnOk result (IsRun (Some command) → IsWithinLimit (2 ^ 50) (I.left input.old)) }
     ensures behind { (first : ℕ) → command ≡ Command.Run first → (told : ToldRun (P.left plan.old) (I.left input.old) (H.now host.old) (H.may host.old) (H.said host.old)) (keep : Option ℕ) → next_offset told.ready.held < first →
         (input.new ≡ input.old) × IsWithinOpening H.may H.clock H.since H.said (store_of told.asks) keep told.ready.openable.image host.old host.new
         × EndsBehind first (next_offset told.ready.held) (Rose (P.faults plan.old) (P.faults plan.new)) (status_after result) (line_after result) }
     ensures unfit { (bytes : List ℕ) (asks : Planned) (v : Image) → IsRun (Some command) → P.left plan.old ≡ Some bytes → IsPlan bytes asks → H.now host.old ≡ Some v → IsUnfit asks v →
         (input.new ≡ input.old) × IsLeftAlone H.now H.may H.clock H.since H.said v host.old host.new × EndsUnfit asks v (Rose (P.faults plan.old) (P.faults plan.new)) (status_after result) (line_after result) }
-    ensures refused { IfErr result (λ ending. ending_status ending ≡ Status.Plan → ReadsPlan (Some command) × IsRefused (P.left plan.old)) }
+    ensures refused { IfErr result (λ ending. ending_status ending ≡ Status.Plan → ReadsPlan (Some command) × IsRefusedPlan (P.left plan.old)) }
     ensures told { IfErr result (λ ending. ending_status ending ≡ Status.Plan → TellsFault (P.left plan.old) (ending_refusal ending)) }
-    ensures read { IfErr result (λ ending. ending_status ending ≡ Status.Read → Rose (P.faults plan.old) (P.faults plan.new) ⊎ (IsLegal (P.left plan.old) × IsRun (Some command) × Rose (I.faults input.old) (I.faults input.new))) }
-    ensures write { IfErr result (λ ending. ending_status ending ≡ Status.Write → (ReadsPlan (Some command) → IsLegal (P.left plan.old)) × Rose (H.out_faults host.old) (H.out_faults host.new)) }
-    ensures limit { IfErr result (λ ending. ending_status ending ≡ Status.Limit → (ReadsPlan (Some command) × IsLonger 65536 (P.left plan.old)) ⊎ (IsLegal (P.left plan.old) × IsRun (Some command) × IsLonger (2 ^ 50) (I.left input.old))) }
+    ensures read { IfErr result (λ ending. ending_status ending ≡ Status.Read → Rose (P.faults plan.old) (P.faults plan.new) ⊎ (IsLegalPlan (P.left plan.old) × IsRun (Some command) × Rose (I.faults input.old) (I.faults input.new))) }
+    ensures write { IfErr result (λ ending. ending_status ending ≡ Status.Write → (ReadsPlan (Some command) → IsLegalPlan (P.left plan.old)) × Rose (H.out_faults host.old) (H.out_faults host.new)) }
+    ensures limit { IfErr result (λ ending. ending_status ending ≡ Status.Limit → (ReadsPlan (Some command) × IsLonger 65536 (P.left plan.old)) ⊎ (IsLegalPlan (P.left plan.old) × IsRun (Some command) × IsLonger (2 ^ 50) (I.left input.old))) }
     ensures store { IfErr result (λ ending. ending_status ending ≡ Status.Store → (ShowsStore (Some command) × IsDamaged (H.now host.old)) ⊎ (IsRun (Some command) × RefusesStore (P.left plan.old) (H.now host.old) (H.now host.new) (input.new ≡ input.old) (ending_line ending))) }
     ensures all_before { IfErr result (λ ending. ending_status ending ≡ Status.Store → ShowsStore (Some command) → ForSome (H.now host.old) (λ image. Puts H.said H.clock H.since host.old host.new (ended (before_damage (Some command) image)) × (ending_line ending ≡ damage_line (damage_of (image 2))))) }
     ensures gap { IfErr result (λ ending. ending_status ending ≡ Status.Gap → (first : ℕ) × (command ≡ Command.Run first) × RefusesGap (P.left plan.old) (H.now host.old) first (input.new ≡ input.old) (ending_line ending)) }
-    ensures disk { IfErr result (λ ending. ending_status ending ≡ Status.Disk → (ShowsStore (Some command) ⊎ (IsRun (Some command) × IsLegal (P.left plan.old))) × Rose (H.disk_faults host.old) (H.disk_faults host.new)) }
+    ensures disk { IfErr result (λ ending. ending_status ending ≡ Status.Disk → (ShowsStore (Some command) ⊎ (IsRun (Some command) × IsLegalPlan (P.left plan.old))) × Rose (H.disk_faults host.old) (H.disk_faults host.new)) }
     ensures possible { IfErr result (λ ending. IsPossible (ending_status ending) × (ending_status ending ≢ Status.Ok) × (ending_status ending ≢ Status.Usage)) }
     ensures plan_first { (status_after result ≡ Status.Plan) ⊎ TellsNoPlan (P.left plan.old) → input.new ≡ input.old }
     ensures read_first { IfErr result (λ ending. ending_status ending ≡ Status.Read → ((input.new ≡ input.old) × LeavesFiles H.now H.may H.clock H.since host.old host.new) ⊎ Rose (I.faults input.old) (I.faults input.new)) }
@@ -304,18 +304,18 @@ fn run_words<P: Source, I: Source, H: Host>(
     ensures gap_never { result ≡ Status.Gap → (first : ℕ) → command_of words.now ≡ Some (Command.Run first) → (told : ToldRun (P.left plan.old) (I.left input.old) (H.now host.old) (H.may host.old) (H.said host.old)) → next_offset told.ready.held < first }
     ensures usage_only { result ≡ Status.Usage → command_of words.now ≡ None }
     ensures usage_always { command_of words.now ≡ None → result ≡ Status.Usage }
-    ensures ok_only { result ≡ Status.Ok → (ReadsPlan (command_of words.now) → IsLegal (P.left plan.old)) × (IsRun (command_of words.now) → IsWithin (2 ^ 50) (I.left input.old)) × (ShowsStore (command_of words.now) → IsUndamaged (H.now host.old)) }
-    ensures plan_only { result ≡ Status.Plan → ReadsPlan (command_of words.now) × IsRefused (P.left plan.old) }
+    ensures ok_only { result ≡ Status.Ok → (ReadsPlan (command_of words.now) → IsLegalPlan (P.left plan.old)) × (IsRun (command_of words.now) → IsWithinLimit (2 ^ 50) (I.left input.old)) × (ShowsStore (command_of words.now) → IsUndamaged (H.now host.old)) }
+    ensures plan_only { result ≡ Status.Plan → ReadsPlan (command_of words.now) × IsRefusedPlan (P.left plan.old) }
     ensures store_only { result ≡ Status.Store → (ShowsStore (command_of words.now) × IsDamaged (H.now host.old))
         ⊎ (IsRun (command_of words.now) × ((last : List ℕ) × RefusesStore (P.left plan.old) (H.now host.old) (H.now host.new) (input.new ≡ input.old) last × (EndsWith (H.said host.new) last ⊎ Rose (H.out_faults host.old) (H.out_faults host.new)))) }
     ensures store_always { IsRun (command_of words.now) → (bytes : List ℕ) (asks : Planned) (v : Image) → P.left plan.old ≡ Some bytes → IsPlan bytes asks → H.now host.old ≡ Some v → IsUnfit asks v → (input.new ≡ input.old)
         × IsTurnedAway H.now H.may H.clock H.since H.said asks v (Rose (P.faults plan.old) (P.faults plan.new)) (Rose (H.out_faults host.old) (H.out_faults host.new)) result host.old host.new }
     ensures gap_only { result ≡ Status.Gap → (first : ℕ) × (command_of words.now ≡ Some (Command.Run first))
         × ((last : List ℕ) × RefusesGap (P.left plan.old) (H.now host.old) first (input.new ≡ input.old) last × (EndsWith (H.said host.new) last ⊎ Rose (H.out_faults host.old) (H.out_faults host.new))) }
-    ensures disk_only { result ≡ Status.Disk → (ShowsStore (command_of words.now) ⊎ (IsRun (command_of words.now) × IsLegal (P.left plan.old))) × Rose (H.disk_faults host.old) (H.disk_faults host.new) }
-    ensures read_only { result ≡ Status.Read → Rose (P.faults plan.old) (P.faults plan.new) ⊎ (IsLegal (P.left plan.old) × IsRun (command_of words.now) × Rose (I.faults input.old) (I.faults input.new)) }
-    ensures write_only { result ≡ Status.Write → (ReadsPlan (command_of words.now) → IsLegal (P.left plan.old)) × Rose (H.out_faults host.old) (H.out_faults host.new) }
-    ensures limit_only { result ≡ Status.Limit → (ReadsPlan (command_of words.now) × IsLonger 65536 (P.left plan.old)) ⊎ (IsLegal (P.left plan.old) × IsRun (command_of words.now) × IsLonger (2 ^ 50) (I.left input.old)) }
+    ensures disk_only { result ≡ Status.Disk → (ShowsStore (command_of words.now) ⊎ (IsRun (command_of words.now) × IsLegalPlan (P.left plan.old))) × Rose (H.disk_faults host.old) (H.disk_faults host.new) }
+    ensures read_only { result ≡ Status.Read → Rose (P.faults plan.old) (P.faults plan.new) ⊎ (IsLegalPlan (P.left plan.old) × IsRun (command_of words.now) × Rose (I.faults input.old) (I.faults input.new)) }
+    ensures write_only { result ≡ Status.Write → (ReadsPlan (command_of words.now) → IsLegalPlan (P.left plan.old)) × Rose (H.out_faults host.old) (H.out_faults host.new) }
+    ensures limit_only { result ≡ Status.Limit → (ReadsPlan (command_of words.now) × IsLonger 65536 (P.left plan.old)) ⊎ (IsLegalPlan (P.left plan.old) × IsRun (command_of words.now) × IsLonger (2 ^ 50) (I.left input.old)) }
     ensures failure_told { (result ≡ Status.Ok) ⊎ (result ≡ Status.Plan) ⊎ (result ≡ Status.Store) ⊎ (result ≡ Status.Gap) ⊎ EndsWith (H.said host.new) (status_line result) ⊎ Rose (H.out_faults host.old) (H.out_faults host.new) }
     ensures possible_only { IsPossible result }
     ensures trial_only { (lines seed : ℕ) → command_of words.now ≡ Some (Command.Trial lines seed) → (result ≡ Status.Ok) ⊎ (result ≡ Status.Memory) ⊎ (result ≡ Status.Write) }
@@ -420,8 +420,8 @@ pub fn railgun<P: Source, I: Source, H: Host>(
     // Each status has its cause. Memory alone is free.
     ensures usage_only { result ≡ Status.Usage → command_of words.now ≡ None }
     ensures usage_always { command_of words.now ≡ None → result ≡ Status.Usage }
-    ensures ok_only { result ≡ Status.Ok → (ReadsPlan (command_of words.now) → IsLegal (P.left plan.old)) × (IsRun (command_of words.now) → IsWithin (2 ^ 50) (I.left input.old)) × (ShowsStore (command_of words.now) → IsUndamaged (H.now host.old)) }
-    ensures plan_only { result ≡ Status.Plan → ReadsPlan (command_of words.now) × IsRefused (P.left plan.old) }
+    ensures ok_only { result ≡ Status.Ok → (ReadsPlan (command_of words.now) → IsLegalPlan (P.left plan.old)) × (IsRun (command_of words.now) → IsWithinLimit (2 ^ 50) (I.left input.old)) × (ShowsStore (command_of words.now) → IsUndamaged (H.now host.old)) }
+    ensures plan_only { result ≡ Status.Plan → ReadsPlan (command_of words.now) × IsRefusedPlan (P.left plan.old) }
     ensures store_only { result ≡ Status.Store → (ShowsStore (command_of words.now) × IsDamaged (H.now host.old))
         ⊎ (IsRun (command_of words.now) × ((last : List ℕ) × RefusesStore (P.left plan.old) (H.now host.old) (H.now host.new) (input.new ≡ input.old) last × (EndsWith (H.said host.new) last ⊎ Rose (H.out_faults host.old) (H.out_faults host.new)))) }
 
@@ -431,10 +431,10 @@ pub fn railgun<P: Source, I: Source, H: Host>(
 
     ensures gap_only { result ≡ Status.Gap → (first : ℕ) × (command_of words.now ≡ Some (Command.Run first))
         × ((last : List ℕ) × RefusesGap (P.left plan.old) (H.now host.old) first (input.new ≡ input.old) last × (EndsWith (H.said host.new) last ⊎ Rose (H.out_faults host.old) (H.out_faults host.new))) }
-    ensures disk_only { result ≡ Status.Disk → (ShowsStore (command_of words.now) ⊎ (IsRun (command_of words.now) × IsLegal (P.left plan.old))) × Rose (H.disk_faults host.old) (H.disk_faults host.new) }
-    ensures read_only { result ≡ Status.Read → Rose (P.faults plan.old) (P.faults plan.new) ⊎ (IsLegal (P.left plan.old) × IsRun (command_of words.now) × Rose (I.faults input.old) (I.faults input.new)) }
-    ensures write_only { result ≡ Status.Write → (ReadsPlan (command_of words.now) → IsLegal (P.left plan.old)) × Rose (H.out_faults host.old) (H.out_faults host.new) }
-    ensures limit_only { result ≡ Status.Limit → (ReadsPlan (command_of words.now) × IsLonger 65536 (P.left plan.old)) ⊎ (IsLegal (P.left plan.old) × IsRun (command_of words.now) × IsLonger (2 ^ 50) (I.left input.old)) }
+    ensures disk_only { result ≡ Status.Disk → (ShowsStore (command_of words.now) ⊎ (IsRun (command_of words.now) × IsLegalPlan (P.left plan.old))) × Rose (H.disk_faults host.old) (H.disk_faults host.new) }
+    ensures read_only { result ≡ Status.Read → Rose (P.faults plan.old) (P.faults plan.new) ⊎ (IsLegalPlan (P.left plan.old) × IsRun (command_of words.now) × Rose (I.faults input.old) (I.faults input.new)) }
+    ensures write_only { result ≡ Status.Write → (ReadsPlan (command_of words.now) → IsLegalPlan (P.left plan.old)) × Rose (H.out_faults host.old) (H.out_faults host.new) }
+    ensures limit_only { result ≡ Status.Limit → (ReadsPlan (command_of words.now) × IsLonger 65536 (P.left plan.old)) ⊎ (IsLegalPlan (P.left plan.old) × IsRun (command_of words.now) × IsLonger (2 ^ 50) (I.left input.old)) }
     ensures possible_only { IsPossible result }
 
     // Words that are refused, and what failed, are told last over every host, unless a put failed; the causes say so of a store and a gap.

@@ -4,12 +4,12 @@ ghost use Rattle.rg_bytes.specs.Known.{IsAtEnd};
 ghost use Rattle.rg_host.specs.Image.{Image};
 ghost use Rattle.rg_event.specs.Rising.{next_offset};
 ghost use Rattle.rg_config.specs.Plans.{planned};
-ghost use Rattle.rg_config.specs.Read.{IsRead};
+ghost use Rattle.rg_config.specs.Read.{IsReadPlan};
 ghost use Rattle.rg_store.specs.Stores.{store_of};
 ghost use Rattle.rg_open.specs.Unfit.{IsUnfit, IsLeftAlone};
 ghost use Rattle.rg_open.specs.Within.{IsWithinOpening};
-ghost use Rattle.rg_run.specs.Begun.{IsReady, begun_by};
-ghost use Rattle.rg_run.specs.Reading.{IsLonger, IsWithin};
+ghost use Rattle.rg_run.specs.Begun.{IsReadyRun, begun_by};
+ghost use Rattle.rg_run.specs.Reading.{IsLonger, IsWithinLimit};
 ghost use Rattle.railgun.specs.Call.{EndsRun, ending_status, ending_line, status_after, line_after, gap_line};
 ghost use Rattle.railgun.specs.Causes.{IsStoreLine, IsNextOf};
 ghost use Rattle.railgun.specs.Stored.{Went};
@@ -55,14 +55,14 @@ pub fn run<I: Source, H: Host, L: Ledger>(
     requires named { blank.name ≡ L.name }
     requires parts { blank.parts ≡ L.parts }
     requires whole { 0 < blank.parts }
-    requires is_read { IsRead plan.now }
+    requires is_read { IsReadPlan plan.now }
     requires first { first ≤ 2 ^ 61 }
-    ensures went { (ready : IsReady (planned plan.now) (H.now host.old) (H.may host.old) (H.said host.old)) (all : List ℕ) → I.left input.old ≡ Some all →
+    ensures went { (ready : IsReadyRun (planned plan.now) (H.now host.old) (H.may host.old) (H.said host.old)) (all : List ℕ) → I.left input.old ≡ Some all →
         (from : ℕ) × Went H.may H.clock H.since H.said (planned plan.now) (begun_by ready from first all) ready.openable.image (I.left input.new) ⊥ (status_after result) (line_after result) host.old host.new }
-    ensures never_damaged { (ready : IsReady (planned plan.now) (H.now host.old) (H.may host.old) (H.said host.old)) (all : List ℕ) → I.left input.old ≡ Some all → status_after result ≡ Status.Store → ⊥ }
+    ensures never_damaged { (ready : IsReadyRun (planned plan.now) (H.now host.old) (H.may host.old) (H.said host.old)) (all : List ℕ) → I.left input.old ≡ Some all → status_after result ≡ Status.Store → ⊥ }
     ensures at_end { OnOk result (IsAtEnd (I.left input.new)) }
-    ensures within { OnOk result (IsWithin (2 ^ 50) (I.left input.old)) }
-    ensures behind { (ready : IsReady (planned plan.now) (H.now host.old) (H.may host.old) (H.said host.old)) (keep : Option ℕ) → next_offset ready.held < first →
+    ensures within { OnOk result (IsWithinLimit (2 ^ 50) (I.left input.old)) }
+    ensures behind { (ready : IsReadyRun (planned plan.now) (H.now host.old) (H.may host.old) (H.said host.old)) (keep : Option ℕ) → next_offset ready.held < first →
         (input.new ≡ input.old) × IsWithinOpening H.may H.clock H.since H.said (store_of (planned plan.now)) keep ready.openable.image host.old host.new
         × EndsBehind first (next_offset ready.held) ⊥ (status_after result) (line_after result) }
     ensures unfit { (v : Image) → H.now host.old ≡ Some v → IsUnfit (planned plan.now) v →

@@ -16,7 +16,7 @@ use Rattle.rg_state.proofs.ReadBack.{state_read_back}
 use Rattle.rg_checkpoint.specs.declared.base.Checkpoint.{Checkpoint}
 use Rattle.rg_checkpoint.specs.declared.fault.CheckpointFault.{CheckpointFault}
 use Rattle.rg_checkpoint.specs.declared.fault.CheckpointFault.TheVariants.{BadCheckpoint, Memory}
-use Rattle.rg_checkpoint.specs.Base.{text_bytes, spot_bytes, counted_texts, counted_spots, counted_rows, body_bytes, base_bytes, IsText, IsSpot, IsEntry, AreTexts, AreSpots, AreRows, IsLegal, IsBase}
+use Rattle.rg_checkpoint.specs.Base.{text_bytes, spot_bytes, counted_texts, counted_spots, counted_rows, body_bytes, base_bytes, IsText, IsSpot, IsEntry, AreTexts, AreSpots, AreRows, IsLegalCheckpoint, IsBase}
 use Rattle.rg_checkpoint.specs.Reading.{text_at, next_text_at, counted_texts_at, spot_at, next_spot_at, counted_spots_at, key_at, row_at, last_of, comes_behind, next_row_at, counted_rows_at, body_at, base_at, checkpoint_in}
 use Rattle.rg_checkpoint.proofs.Rising.{RisesBehind, rises_all, last_more}
 
@@ -90,7 +90,7 @@ rows_back rows rest are =
 
 -- the whole
 
-body_back : (checkpoint : Checkpoint) (rest : List ℕ) → IsLegal checkpoint → body_at (body_bytes checkpoint ++ rest) ≡ Ok (checkpoint, rest)
+body_back : (checkpoint : Checkpoint) (rest : List ℕ) → IsLegalCheckpoint checkpoint → body_at (body_bytes checkpoint ++ rest) ≡ Ok (checkpoint, rest)
 unfolding body_at
 body_back checkpoint rest is =
     let third : List ℕ = counted_rows checkpoint.rows ++ rest in
@@ -100,7 +100,7 @@ body_back checkpoint rest is =
     append_assoc (counted_texts checkpoint.queries) (to_be_bytes w64 checkpoint.count ++ (counted_spots checkpoint.spots ++ counted_rows checkpoint.rows)) rest ∙ ap (λ bytes. counted_texts checkpoint.queries ++ bytes) (append_assoc (to_be_bytes w64 checkpoint.count) (counted_spots checkpoint.spots ++ counted_rows checkpoint.rows) rest ∙ ap (λ bytes. to_be_bytes w64 checkpoint.count ++ bytes) (append_assoc (counted_spots checkpoint.spots) (counted_rows checkpoint.rows) rest)) in
     rw (stood, texts_back checkpoint.queries first is.queries, u64_read BadCheckpoint first checkpoint.count second refl is.count, spots_back checkpoint.spots third is.spots, rows_back checkpoint.rows rest is.rows) refl
 
-base_at_back : (checkpoint : Checkpoint) (rest : List ℕ) → IsLegal checkpoint → base_at (base_bytes checkpoint ++ rest) ≡ Ok (checkpoint, rest)
+base_at_back : (checkpoint : Checkpoint) (rest : List ℕ) → IsLegalCheckpoint checkpoint → base_at (base_bytes checkpoint ++ rest) ≡ Ok (checkpoint, rest)
 unfolding base_at
 base_at_back checkpoint rest is = rw (u8_read BadCheckpoint (base_bytes checkpoint ++ rest) 66 (body_bytes checkpoint ++ rest) refl) (body_back checkpoint rest is)
 

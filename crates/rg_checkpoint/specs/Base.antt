@@ -70,7 +70,7 @@ pub record AreRows (rows : List Entry) : Type 0 where
   pub rising : AreRising rows
 
 -- a checkpoint that can be written
-pub record IsLegal (checkpoint : Checkpoint) : Type 0 where
+pub record IsLegalCheckpoint (checkpoint : Checkpoint) : Type 0 where
   pub queries : AreTexts checkpoint.queries
   pub count : checkpoint.count < 2 ^ 64
   pub spots : AreSpots checkpoint.spots
@@ -79,4 +79,4 @@ pub record IsLegal (checkpoint : Checkpoint) : Type 0 where
 -- the payload is the base payload of this checkpoint
 pub record IsBase (payload : List ℕ) (checkpoint : Checkpoint) : Type 0 where
   pub is : payload ≡ base_bytes checkpoint
-  pub legal : IsLegal checkpoint
+  pub legal : IsLegalCheckpoint checkpoint

@@ -6,7 +6,7 @@ ghost use Rattle.rg_bytes.specs.Reading.{list_bytes, more_at};
 ghost use Rattle.rg_state.specs.Rows.{AreRising, entry_bytes};
 ghost use Rattle.rg_state.specs.States.{held_of, state_at};
 ghost use Rattle.rg_checkpoint.specs.declared.base.Checkpoint.{Checkpoint as TheCheckpoint};
-ghost use Rattle.rg_checkpoint.specs.Base.{text_bytes, spot_bytes, counted_texts, counted_spots, counted_rows, body_bytes, base_bytes, IsText, IsSpot, IsEntry, AreTexts, AreSpots, AreRows, IsLegal, IsBase};
+ghost use Rattle.rg_checkpoint.specs.Base.{text_bytes, spot_bytes, counted_texts, counted_spots, counted_rows, body_bytes, base_bytes, IsText, IsSpot, IsEntry, AreTexts, AreSpots, AreRows, IsLegalCheckpoint, IsBase};
 ghost use Rattle.rg_checkpoint.specs.Entries.{entry_of, entries_of, AreFilled};
 ghost use Rattle.rg_checkpoint.specs.Reading.{Agrees, as_reading, is_below, bytes_at, u8_at, u32_at, u64_at, text_at, next_text_at, counted_texts_at, spot_at, next_spot_at, counted_spots_at, key_at, row_at, last_of, comes_behind, next_row_at, counted_rows_at, body_at, base_at};
 
@@ -49,7 +49,7 @@ pub fn decode_checkpoint(alloc: Global, payload: &[u8]) -> Result<Checkpoint, Ch
 fn take_base(alloc: Global, from: &mut ByteReader<'_>) -> Result<Checkpoint, CheckpointFault>
     ensures agrees { Agrees (λ checkpoint. checkpoint) (base_at from.old) result from.new }
     ensures ok { IfOk result (λ checkpoint. from.old ≡ base_bytes checkpoint ++ from.new) }
-    ensures legal { IfOk result IsLegal }
+    ensures legal { IfOk result IsLegalCheckpoint }
 {
     let tag = match take_u8(from) {
         Ok(tag) => tag,
@@ -69,7 +69,7 @@ fn take_base(alloc: Global, from: &mut ByteReader<'_>) -> Result<Checkpoint, Che
 fn take_body(alloc: Global, from: &mut ByteReader<'_>) -> Result<Checkpoint, CheckpointFault>
     ensures agrees { Agrees (λ checkpoint. checkpoint) (body_at from.old) result from.new }
     ensures ok { IfOk result (λ checkpoint. from.old ≡ body_bytes checkpoint ++ from.new) }
-    ensures legal { IfOk result IsLegal }
+    ensures legal { IfOk result IsLegalCheckpoint }
 {
     let queries = match take_texts(alloc, from) {
         Ok(queries) => queries,

@@ -8,9 +8,9 @@ use Rattle.rg_metric.specs.declared.query.Agg.{Agg}
 use Rattle.rg_metric.specs.declared.query.Query.{Query as Read}
 use Rattle.rg_plan.specs.Named.{HasAgg, asked_by}
 use Rattle.rg_plan.specs.Offsets.{IsMeasured}
-use Rattle.rg_plan.specs.Plans.{Planned as TaskPlanned, is_too_many, excess_from, excess, plan_for}
+use Rattle.rg_plan.specs.Plans.{Tasks as TaskPlanned, is_too_many, excess_from, excess, plan_for}
 use Rattle.rg_plan.proofs.Naming.{asked_back}
-use Rattle.rg_query.specs.Legal.{IsLegal, IsLegalLength, AreLegalAggs}
+use Rattle.rg_query.specs.Legal.{IsLegalQuery, IsLegalLength, AreLegalAggs}
 use Rattle.rg_query.specs.declared.fault.QueryFault.{QueryFault}
 use Rattle.rg_config.specs.Plans.{AllTaken, judged, excess_in, unless}
 use Rattle.rg_config.specs.declared.fault.QueryRefusal.{QueryRefusal}
@@ -23,11 +23,11 @@ measured_length : (length : Option ℕ) → IsLegalLength length → ForSome len
 measured_length None h m is = absurd (cc)
 measured_length (Some n) h m is = let same : n ≡ m = cc in omega (arith, h.1, same)
 
-measured_window : (shape : Shape) (q : Asked) → IsLegal shape q → IsMeasured q.window
+measured_window : (shape : Shape) (q : Asked) → IsLegalQuery shape q → IsMeasured q.window
 measured_window shape q h = record { delay = omega (arith, h.delay); length = measured_length q.window.length h.length }
 
-pub measured : (shape : Shape) (qs : List Asked) → All (IsLegal shape) qs → All (λ (q : Asked). IsMeasured q.window) qs
-measured shape qs h = All-weaker (IsLegal shape) (λ (q : Asked). IsMeasured q.window) (measured_window shape) qs h
+pub measured : (shape : Shape) (qs : List Asked) → All (IsLegalQuery shape) qs → All (λ (q : Asked). IsMeasured q.window) qs
+measured shape qs h = All-weaker (IsLegalQuery shape) (λ (q : Asked). IsMeasured q.window) (measured_window shape) qs h
 
 -- each has an aggregator
 
@@ -35,8 +35,8 @@ some_agg : (shape : Shape) (aggs : List Agg) → AreLegalAggs shape aggs → 0 <
 some_agg shape [] h = absurd h
 some_agg shape (agg ∷ aggs) h = omega arith
 
-pub some_aggs : (shape : Shape) (qs : List Asked) → All (IsLegal shape) qs → All HasAgg qs
-some_aggs shape qs h = All-weaker (IsLegal shape) HasAgg (λ q legal. some_agg shape q.aggs legal.aggs) qs h
+pub some_aggs : (shape : Shape) (qs : List Asked) → All (IsLegalQuery shape) qs → All HasAgg qs
+some_aggs shape qs h = All-weaker (IsLegalQuery shape) HasAgg (λ q legal. some_agg shape q.aggs legal.aggs) qs h
 
 -- those that are taken are few enough, and small enough
 
@@ -82,10 +82,10 @@ none_excess shape texts qs all = none_large 0 shape texts qs all
 
 -- one more legal query
 pub legal_pushed :
-    (shape : Shape) (old new : List Read) (query : Read) → new ≡ old ++ query ∷ [] → All (IsLegal shape) (map asked old) → IsLegal shape (asked query)
-    → All (IsLegal shape) (map asked new)
+    (shape : Shape) (old new : List Read) (query : Read) → new ≡ old ++ query ∷ [] → All (IsLegalQuery shape) (map asked old) → IsLegalQuery shape (asked query)
+    → All (IsLegalQuery shape) (map asked new)
 legal_pushed shape old new query is all legal =
-    subst (All (IsLegal shape)) (sym (ap (map asked) is ∙ one_at_the_end asked old query)) (All-push (IsLegal shape) (map asked old) (asked query) all legal)
+    subst (All (IsLegalQuery shape)) (sym (ap (map asked) is ∙ one_at_the_end asked old query)) (All-push (IsLegalQuery shape) (map asked old) (asked query) all legal)
 
 -- they are read back from their plan
 pub asked_again : (task : TaskPlanned) (qs : List Asked) → task ≡ plan_for qs → All HasAgg qs → asked_by task ≡ qs

@@ -7,7 +7,7 @@ use Rattle.rg_event.proofs.Readable.{read_back}
 use Rattle.rg_metric.specs.Queries.{Asked}
 use Rattle.rg_query.proofs.One.{one_query}
 use Rattle.rg_config.specs.Documents.{document, stream_of, rest_of, Settings}
-use Rattle.rg_config.specs.Plans.{Planned, HasStream, NoStream, IsJudged, IsTaken, IsRefused, AllTaken, FirstRefused, Says, Tells, Agrees, planned, judged}
+use Rattle.rg_config.specs.Plans.{Planned, HasStream, NoStream, IsJudged, IsTaken, IsRefusedQuery, AllTaken, FirstRefused, Says, Tells, Agrees, planned, judged}
 use Rattle.rg_config.specs.declared.plan.Plan.{Plan}
 use Rattle.rg_config.specs.declared.fault.ConfigFault.{ConfigFault}
 use Rattle.rg_config.specs.declared.fault.ConfigFault.TheVariants.{Toml, Stream, Settings as BadSettings, Query, Memory}
@@ -39,12 +39,12 @@ one_taken : (number : ℕ) (shape : Shape) (text : List ℕ) (q r : Asked) → I
 one_taken number shape text q r is also = let same = one_judgement number shape text (Ok q) (Ok r) is also in cc
 
 -- one that is taken isn't refused
-not_refused : (number : ℕ) (shape : Shape) (text : List ℕ) (q : Asked) (refusal : QueryRefusal) → IsTaken number shape text q → IsRefused number shape text refusal → ⊥
+not_refused : (number : ℕ) (shape : Shape) (text : List ℕ) (q : Asked) (refusal : QueryRefusal) → IsTaken number shape text q → IsRefusedQuery number shape text refusal → ⊥
 not_refused number shape text q refusal is (inl many) = absurd (omega (arith, is.few, many.0))
 not_refused number shape text q refusal is (inr judged) = let same = one_judgement number shape text (Ok q) (Err refusal) is judged in absurd cc
 
 -- and one that is refused is so for one cause
-one_refusal : (number : ℕ) (shape : Shape) (text : List ℕ) (refusal other : QueryRefusal) → IsRefused number shape text refusal → IsRefused number shape text other → refusal ≡ other
+one_refusal : (number : ℕ) (shape : Shape) (text : List ℕ) (refusal other : QueryRefusal) → IsRefusedQuery number shape text refusal → IsRefusedQuery number shape text other → refusal ≡ other
 one_refusal number shape text refusal other (inl many) (inl also) = many.1 ∙ sym also.1
 one_refusal number shape text refusal other (inl many) (inr judged) = absurd (omega (arith, many.0, judged.few))
 one_refusal number shape text refusal other (inr judged) (inl many) = absurd (omega (arith, many.0, judged.few))
@@ -65,34 +65,34 @@ one_list number shape (text ∷ texts) (q ∷ qs) (r ∷ rs) all also =
 -- where all are taken none is refused
 none_refused :
     (number : ℕ) (shape : Shape) (front rest : List (List ℕ)) (text : List ℕ) (refusal : QueryRefusal) (qs : List Asked)
-    → AllTaken number shape (front ++ text ∷ rest) qs → IsRefused (number + length front) shape text refusal → ⊥
+    → AllTaken number shape (front ++ text ∷ rest) qs → IsRefusedQuery (number + length front) shape text refusal → ⊥
 none_refused number shape [] rest text refusal [] all refused = absurd all
 none_refused number shape [] rest text refusal (q ∷ qs) all refused =
     let place : number + 0 ≡ number = omega arith in
-    not_refused number shape text q refusal all.0 (subst (λ n. IsRefused n shape text refusal) place refused)
+    not_refused number shape text q refusal all.0 (subst (λ n. IsRefusedQuery n shape text refusal) place refused)
 none_refused number shape (first ∷ front) rest text refusal [] all refused = absurd all
 none_refused number shape (first ∷ front) rest text refusal (q ∷ qs) all refused =
     let place : number + suc (length front) ≡ suc number + length front = omega arith in
-    none_refused (suc number) shape front rest text refusal qs all.1 (subst (λ n. IsRefused n shape text refusal) place refused)
+    none_refused (suc number) shape front rest text refusal qs all.1 (subst (λ n. IsRefusedQuery n shape text refusal) place refused)
 
 -- the text that is refused first stands at one place
 one_place :
     (number : ℕ) (shape : Shape) (front rest also_front also_rest : List (List ℕ)) (text also_text : List ℕ) (refusal other : QueryRefusal) (qs rs : List Asked)
     → front ++ text ∷ rest ≡ also_front ++ also_text ∷ also_rest
-    → AllTaken number shape front qs → IsRefused (number + length front) shape text refusal
-    → AllTaken number shape also_front rs → IsRefused (number + length also_front) shape also_text other
+    → AllTaken number shape front qs → IsRefusedQuery (number + length front) shape text refusal
+    → AllTaken number shape also_front rs → IsRefusedQuery (number + length also_front) shape also_text other
     → (length front ≡ length also_front) × (text ≡ also_text)
 one_place number shape [] rest [] also_rest text also_text refusal other qs rs same all refused also differs = (refl, cc)
 one_place number shape [] rest (first ∷ also_front) also_rest text also_text refusal other qs [] same all refused also differs = absurd also
 one_place number shape [] rest (first ∷ also_front) also_rest text also_text refusal other qs (r ∷ rs) same all refused also differs =
     let place : number + 0 ≡ number = omega arith in
     let here : text ≡ first = cc in
-    absurd (not_refused number shape first r refusal also.0 (subst (λ t. IsRefused number shape t refusal) here (subst (λ n. IsRefused n shape text refusal) place refused)))
+    absurd (not_refused number shape first r refusal also.0 (subst (λ t. IsRefusedQuery number shape t refusal) here (subst (λ n. IsRefusedQuery n shape text refusal) place refused)))
 one_place number shape (first ∷ front) rest [] also_rest text also_text refusal other [] rs same all refused also differs = absurd all
 one_place number shape (first ∷ front) rest [] also_rest text also_text refusal other (q ∷ qs) rs same all refused also differs =
     let place : number + 0 ≡ number = omega arith in
     let here : also_text ≡ first = cc in
-    absurd (not_refused number shape first q other all.0 (subst (λ t. IsRefused number shape t other) here (subst (λ n. IsRefused n shape also_text other) place differs)))
+    absurd (not_refused number shape first q other all.0 (subst (λ t. IsRefusedQuery number shape t other) here (subst (λ n. IsRefusedQuery n shape also_text other) place differs)))
 one_place number shape (first ∷ front) rest (second ∷ also_front) also_rest text also_text refusal other [] rs same all refused also differs = absurd all
 one_place number shape (first ∷ front) rest (second ∷ also_front) also_rest text also_text refusal other (q ∷ qs) [] same all refused also differs = absurd also
 one_place number shape (first ∷ front) rest (second ∷ also_front) also_rest text also_text refusal other (q ∷ qs) (r ∷ rs) same all refused also differs =
@@ -100,8 +100,8 @@ one_place number shape (first ∷ front) rest (second ∷ also_front) also_rest 
     let place : number + suc (length front) ≡ suc number + length front = omega arith in
     let also_place : number + suc (length also_front) ≡ suc number + length also_front = omega arith in
     let here = one_place (suc number) shape front rest also_front also_rest text also_text refusal other qs rs tails
-    all.1 (subst (λ n. IsRefused n shape text refusal) place refused)
-    also.1 (subst (λ n. IsRefused n shape also_text other) also_place differs) in
+    all.1 (subst (λ n. IsRefusedQuery n shape text refusal) place refused)
+    also.1 (subst (λ n. IsRefusedQuery n shape also_text other) also_place differs) in
     (ap suc here.0, here.1)
 
 -- What is said, stage by stage: the queries of a schema, what stands beside the stream, the table, the bytes
@@ -134,10 +134,10 @@ staged bytes (Err Memory) says = absurd says
 
 refused_there :
     (shape : Shape) (texts : List (List ℕ)) (n : ℕ) (refusal : QueryRefusal) (first : FirstRefused shape texts n refusal)
-    → IsRefused (0 + length first.front) shape first.text refusal
+    → IsRefusedQuery (0 + length first.front) shape first.text refusal
 refused_there shape texts n refusal first =
     let place : length first.front ≡ 0 + length first.front = omega arith in
-    subst (λ i. IsRefused i shape first.text refusal) (first.place ∙ place) first.refused
+    subst (λ i. IsRefusedQuery i shape first.text refusal) (first.place ∙ place) first.refused
 
 -- the first text that is refused, and its cause, are one
 one_first :
@@ -149,7 +149,7 @@ one_first shape texts n m refusal other first next =
     first.taken (refused_there shape texts n refusal first)
     next.taken (refused_there shape texts m other next) in
     let number : n ≡ m = first.place ∙ (same.0 ∙ sym next.place) in
-    (number, one_refusal m shape next.text refusal other (subst (λ t. IsRefused m shape t refusal) same.1 (subst (λ i. IsRefused i shape first.text refusal) number first.refused)) next.refused)
+    (number, one_refusal m shape next.text refusal other (subst (λ t. IsRefusedQuery m shape t refusal) same.1 (subst (λ i. IsRefusedQuery i shape first.text refusal) number first.refused)) next.refused)
 
 one_of_queries :
     (shape : Shape) (texts : List (List ℕ)) (settings : Settings) (said other : Result Planned ConfigFault)

@@ -3,7 +3,7 @@ use Rattle.std.proofs.Common.{◌≡◌, refl, sym, subst, ℕ, suc, List, [], �
 use Rattle.std.proofs.lemmas.List.Elements.{All-nil, All-cons, All-head, All-tail}
 use Rattle.rg_event.specs.Shapes.{Shape}
 use Rattle.rg_metric.specs.Queries.{Asked}
-use Rattle.rg_query.specs.Legal.{IsLegal}
+use Rattle.rg_query.specs.Legal.{IsLegalQuery}
 use Rattle.rg_query.specs.Saying.{Means, Says}
 use Rattle.rg_query.specs.declared.fault.QueryFault.{QueryFault}
 use Rattle.rg_config.specs.Plans.{AllTaken, IsTaken, judged, unless, excess_in}
@@ -18,14 +18,14 @@ meant : (shape : Shape) (text : List ℕ) (query : Asked) (read : Result Asked Q
 meant shape text query (Ok asked) says is = subst (λ q. Means shape text (Ok q)) (taken_as asked query (excess_in asked) is) says.1
 meant shape text query (Err fault) says is = absurd (cc is)
 
-pub all_said_from : (number : ℕ) (shape : Shape) (texts : List (List ℕ)) (queries : List Asked) → AllTaken number shape texts queries → All (IsLegal shape) queries → All (IsSaid shape) queries
+pub all_said_from : (number : ℕ) (shape : Shape) (texts : List (List ℕ)) (queries : List Asked) → AllTaken number shape texts queries → All (IsLegalQuery shape) queries → All (IsSaid shape) queries
 all_said_from number shape [] [] taken legal = All-nil (IsSaid shape)
 all_said_from number shape [] (query ∷ queries) taken legal = absurd taken
 all_said_from number shape (text ∷ texts) [] taken legal = All-nil (IsSaid shape)
 all_said_from number shape (text ∷ texts) (query ∷ queries) taken legal =
     All-cons (IsSaid shape) query queries
-    (record { legal = All-head (IsLegal shape) query queries legal; text = text; means = meant shape text query taken.0.read taken.0.says taken.0.is })
-    (all_said_from (suc number) shape texts queries taken.1 (All-tail (IsLegal shape) query queries legal))
+    (record { legal = All-head (IsLegalQuery shape) query queries legal; text = text; means = meant shape text query taken.0.read taken.0.says taken.0.is })
+    (all_said_from (suc number) shape texts queries taken.1 (All-tail (IsLegalQuery shape) query queries legal))
 
-pub all_said : (shape : Shape) (texts : List (List ℕ)) (queries : List Asked) → AllTaken 0 shape texts queries → All (IsLegal shape) queries → All (IsSaid shape) queries
+pub all_said : (shape : Shape) (texts : List (List ℕ)) (queries : List Asked) → AllTaken 0 shape texts queries → All (IsLegalQuery shape) queries → All (IsSaid shape) queries
 all_said shape texts queries taken legal = all_said_from 0 shape texts queries taken legal

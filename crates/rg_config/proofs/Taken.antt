@@ -8,7 +8,7 @@ use Rattle.rg_config.specs.Reading.{IsFirst}
 use Rattle.rg_config.specs.declared.fault.ConfigFault.{ConfigFault}
 use Rattle.rg_config.specs.declared.fault.ConfigFault.TheVariants.{Query, Memory}
 use Rattle.rg_config.specs.declared.fault.QueryRefusal.{QueryRefusal}
-use Rattle.rg_config.specs.Plans.{IsTaken, IsRefused, AllTaken, FirstRefused}
+use Rattle.rg_config.specs.Plans.{IsTaken, IsRefusedQuery, AllTaken, FirstRefused}
 
 abbrev strings : List (Bor (List ℕ)) → List (List ℕ)
 strings texts = map (λ text. text.now) texts
@@ -94,7 +94,7 @@ place (text ∷ texts) (suc n) less = ap suc (place texts n (omega arith))
 -- the next text is the first that isn't taken
 first :
     (shape : Shape) (texts : List (Bor (List ℕ))) (n : ℕ) (d : Bor (List ℕ)) (qs : List Asked) (refusal : QueryRefusal)
-    → n < length texts → AllTaken 0 shape (take n (strings texts)) qs → IsRefused n shape (slice_index_or texts n d).now refusal
+    → n < length texts → AllTaken 0 shape (take n (strings texts)) qs → IsRefusedQuery n shape (slice_index_or texts n d).now refusal
     → FirstRefused shape (strings texts) n refusal
 first shape texts n d qs refusal less all refused = record {
   front = take n (strings texts);
@@ -111,7 +111,7 @@ first shape texts n d qs refusal less all refused = record {
 pub refusal :
     (shape : Shape) (texts : List (Bor (List ℕ))) (n : ℕ) (d : Bor (List ℕ)) (qs : List Asked) (fault : ConfigFault)
     → n < length texts → AllTaken 0 shape (take n (strings texts)) qs
-    → ((cause : QueryRefusal) × (fault ≡ Query n cause) × IsRefused n shape (slice_index_or texts n d).now cause) ⊎ (fault ≡ Memory)
+    → ((cause : QueryRefusal) × (fault ≡ Query n cause) × IsRefusedQuery n shape (slice_index_or texts n d).now cause) ⊎ (fault ≡ Memory)
     → IsFirst shape (strings texts) fault ⊎ (fault ≡ Memory)
 refusal shape texts n d qs fault less all (inl (cause, is, refused)) =
     inl (record { number = n; refusal = cause; is = is; first = first shape texts n d qs cause less all refused })

@@ -8,7 +8,7 @@ use Rattle.rg_event.proofs.Readable.{joined_of, legal_of, read_back}
 use Rattle.rg_metric.specs.Queries.{Asked}
 use Rattle.rg_query.proofs.Total.{says_something as query_says}
 use Rattle.rg_config.specs.Documents.{document, stream_of, rest_of, Settings}
-use Rattle.rg_config.specs.Plans.{Planned, HasStream, NoStream, IsJudged, IsTaken, IsRefused, AllTaken, FirstRefused, Says, judged}
+use Rattle.rg_config.specs.Plans.{Planned, HasStream, NoStream, IsJudged, IsTaken, IsRefusedQuery, AllTaken, FirstRefused, Says, judged}
 use Rattle.rg_config.specs.declared.fault.ConfigFault.{ConfigFault}
 use Rattle.rg_config.specs.declared.fault.ConfigFault.TheVariants.{Toml, Stream, Settings as BadSettings, Query}
 use Rattle.rg_config.specs.declared.fault.SettingsFault.{SettingsFault}
@@ -19,13 +19,13 @@ use Rattle.rg_config.specs.declared.fault.QueryRefusal.TheVariants.{TooMany}
 
 by_judgement :
     (number : ℕ) (shape : Shape) (text : List ℕ) (said : Result Asked QueryRefusal) → IsJudged number shape text said
-    → ((q : Asked) × IsTaken number shape text q) ⊎ ((refusal : QueryRefusal) × IsRefused number shape text refusal)
+    → ((q : Asked) × IsTaken number shape text q) ⊎ ((refusal : QueryRefusal) × IsRefusedQuery number shape text refusal)
 by_judgement number shape text (Ok q) is = inl (q, is)
 by_judgement number shape text (Err refusal) is = inr (refusal, inr is)
 
 by_number :
     (number : ℕ) (shape : Shape) (text : List ℕ) (few : Bool) → nat_lt number 64 ≡ few
-    → ((q : Asked) × IsTaken number shape text q) ⊎ ((refusal : QueryRefusal) × IsRefused number shape text refusal)
+    → ((q : Asked) × IsTaken number shape text q) ⊎ ((refusal : QueryRefusal) × IsRefusedQuery number shape text refusal)
 by_number number shape text true few =
     let reading = query_says shape text in
     by_judgement number shape text (judged reading.0) (record { few = ltb-true _ _ few; read = reading.0; says = reading.1; is = refl })
@@ -42,9 +42,9 @@ record FirstFrom (number : ℕ) (shape : Shape) (texts : List (List ℕ)) : Type
   queries : List Asked
   taken : AllTaken number shape front queries
   refusal : QueryRefusal
-  refused : IsRefused (number + length front) shape text refusal
+  refused : IsRefusedQuery (number + length front) shape text refusal
 
-refused_now : (number : ℕ) (shape : Shape) (text : List ℕ) (texts : List (List ℕ)) (refusal : QueryRefusal) → IsRefused number shape text refusal → FirstFrom number shape (text ∷ texts)
+refused_now : (number : ℕ) (shape : Shape) (text : List ℕ) (texts : List (List ℕ)) (refusal : QueryRefusal) → IsRefusedQuery number shape text refusal → FirstFrom number shape (text ∷ texts)
 refused_now number shape text texts refusal refused =
     let place : number ≡ number + 0 = omega arith in
     record {
@@ -55,7 +55,7 @@ refused_now number shape text texts refusal refused =
       queries = [];
       taken = tt;
       refusal = refusal;
-      refused = subst (λ n. IsRefused n shape text refusal) place refused;
+      refused = subst (λ n. IsRefusedQuery n shape text refusal) place refused;
     }
 
 refused_later : (number : ℕ) (shape : Shape) (text : List ℕ) (texts : List (List ℕ)) (q : Asked) → IsTaken number shape text q → FirstFrom (suc number) shape texts → FirstFrom number shape (text ∷ texts)
@@ -69,7 +69,7 @@ refused_later number shape text texts q is first =
       queries = q ∷ first.queries;
       taken = (is, first.taken);
       refusal = first.refusal;
-      refused = subst (λ n. IsRefused n shape first.text first.refusal) place first.refused;
+      refused = subst (λ n. IsRefusedQuery n shape first.text first.refusal) place first.refused;
     }
 
 abbrev TakenOrFirst : ℕ → Shape → List (List ℕ) → Type 0
@@ -80,7 +80,7 @@ with_next number shape text texts q is (inl all) = inl (q ∷ all.0, (is, all.1)
 with_next number shape text texts q is (inr first) = inr (refused_later number shape text texts q is first)
 
 by_first :
-    (number : ℕ) (shape : Shape) (text : List ℕ) (texts : List (List ℕ)) → ((q : Asked) × IsTaken number shape text q) ⊎ ((refusal : QueryRefusal) × IsRefused number shape text refusal)
+    (number : ℕ) (shape : Shape) (text : List ℕ) (texts : List (List ℕ)) → ((q : Asked) × IsTaken number shape text q) ⊎ ((refusal : QueryRefusal) × IsRefusedQuery number shape text refusal)
     → TakenOrFirst (suc number) shape texts → TakenOrFirst number shape (text ∷ texts)
 by_first number shape text texts (inl taken) more = with_next number shape text texts taken.0 taken.1 more
 by_first number shape text texts (inr refused) more = inr (refused_now number shape text texts refused.0 refused.1)
@@ -100,7 +100,7 @@ first_refused shape texts first =
       queries = first.queries;
       taken = first.taken;
       place = refl;
-      refused = subst (λ n. IsRefused n shape first.text first.refusal) place first.refused;
+      refused = subst (λ n. IsRefusedQuery n shape first.text first.refusal) place first.refused;
     }
 
 -- The bytes, stage by stage

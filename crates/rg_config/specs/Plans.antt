@@ -64,8 +64,8 @@ abbrev pub IsTaken : ℕ → Shape → List ℕ → Asked → Type 0
 IsTaken number shape text query = IsJudged number shape text (Ok query)
 
 -- the text with this number isn't taken, for this cause
-abbrev pub IsRefused : ℕ → Shape → List ℕ → QueryRefusal → Type 0
-IsRefused number shape text refusal = ((64 ≤ number) × (refusal ≡ TooMany)) ⊎ IsJudged number shape text (Err refusal)
+abbrev pub IsRefusedQuery : ℕ → Shape → List ℕ → QueryRefusal → Type 0
+IsRefusedQuery number shape text refusal = ((64 ≤ number) × (refusal ≡ TooMany)) ⊎ IsJudged number shape text (Err refusal)
 
 -- each text, from this number on, asks the query beside it
 abbrev pub AllTaken : ℕ → Shape → List (List ℕ) → List Asked → Type 0
@@ -83,9 +83,9 @@ pub record FirstRefused (shape : Shape) (texts : List (List ℕ)) (number : ℕ)
   pub queries : List Asked
   pub taken : AllTaken 0 shape front queries
   pub place : number ≡ length front
-  pub refused : IsRefused number shape text refusal
+  pub refused : IsRefusedQuery number shape text refusal
 
-pub record IsPlan (bytes : List ℕ) (plan : Planned) : Type 0 where
+pub record HasPlan (bytes : List ℕ) (plan : Planned) : Type 0 where
   pub top : Members
   pub texts : List (List ℕ)
   pub document : document bytes ≡ Some top
@@ -117,7 +117,7 @@ pub record HasNoQuery (bytes : List ℕ) (number : ℕ) (refusal : QueryRefusal)
 
 -- the bytes say a plan, or: they are no document; no stream; no settings, or no queries; or a query that isn't taken
 abbrev pub Says : List ℕ → Result Planned ConfigFault → Type 0
-Says bytes (Ok plan) = IsPlan bytes plan
+Says bytes (Ok plan) = HasPlan bytes plan
 Says bytes (Err Toml) = document bytes ≡ None
 Says bytes (Err Stream) = HasNoStream bytes
 Says bytes (Err (BadSettings fault)) = HasNoSettings bytes fault

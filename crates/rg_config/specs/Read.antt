@@ -3,7 +3,7 @@ use Rattle.std.specs.Prelude.{◌≡◌, ℕ, List, map, Ok, All}
 use Rattle.rg_event.specs.Shapes.{Shape}
 use Rattle.rg_metric.specs.Queries.{Asked}
 use Rattle.rg_plan.specs.Plans.{plan_for}
-use Rattle.rg_query.specs.Legal.{IsLegal}
+use Rattle.rg_query.specs.Legal.{IsLegalQuery}
 use Rattle.rg_query.specs.Printing.{query_text}
 use Rattle.rg_query.specs.Saying.{Means}
 use Rattle.rg_config.specs.Documents.{AreInRange}
@@ -12,14 +12,14 @@ use Rattle.rg_config.specs.declared.plan.Plan.{Plan}
 
 -- a legal query over the schema: some text says it
 pub record IsSaid (shape : Shape) (query : Asked) : Type 0 where
-  pub legal : IsLegal shape query
+  pub legal : IsLegalQuery shape query
   pub text : List ℕ
   pub means : Means shape text (Ok query)
 
 -- its queries stand beside as they are printed, its task is their plan, some text says each of them over its schema, and each setting lies in its range
-pub record IsRead (plan : Plan) : Type 0 where
+pub record IsReadPlan (plan : Plan) : Type 0 where
   pub printed : plan.queries ≡ map (query_text plan.schema) (planned plan).queries
   pub task : plan.task ≡ plan_for (planned plan).queries
-  pub legal : All (IsLegal plan.schema) (planned plan).queries
+  pub legal : All (IsLegalQuery plan.schema) (planned plan).queries
   pub said : All (IsSaid plan.schema) (planned plan).queries
   pub ranges : AreInRange (planned plan).settings

@@ -5,7 +5,7 @@ use Rattle.rg_event.specs.Shapes.{Shape}
 use Rattle.rg_metric.specs.Queries.{asked}
 use Rattle.rg_metric.specs.declared.query.Query.{Query}
 use Rattle.rg_config.specs.Documents.{Settings}
-use Rattle.rg_config.specs.Plans.{HasStream, NoStream, IsTaken, IsRefused, AllTaken, FirstRefused}
+use Rattle.rg_config.specs.Plans.{HasStream, NoStream, IsTaken, IsRefusedQuery, AllTaken, FirstRefused}
 use Rattle.rg_config.specs.declared.fault.ConfigFault.{ConfigFault}
 use Rattle.rg_config.specs.declared.fault.ConfigFault.TheVariants.{Stream, Settings as BadSettings, Query as BadQuery, Memory}
 use Rattle.rg_config.specs.declared.fault.SettingsFault.{SettingsFault}
@@ -50,7 +50,7 @@ ReadsRest found (Err fault) = ((cause : SettingsFault) × (fault ≡ BadSettings
 -- the query that a text asks, or why it isn't taken
 abbrev pub ReadsQuery : ℕ → Shape → List ℕ → Result Query ConfigFault → Type 0
 ReadsQuery number shape text (Ok query) = IsTaken number shape text (asked query)
-ReadsQuery number shape text (Err fault) = ((refusal : QueryRefusal) × (fault ≡ BadQuery number refusal) × IsRefused number shape text refusal) ⊎ (fault ≡ Memory)
+ReadsQuery number shape text (Err fault) = ((refusal : QueryRefusal) × (fault ≡ BadQuery number refusal) × IsRefusedQuery number shape text refusal) ⊎ (fault ≡ Memory)
 
 -- a fault of a query's text refuses the query, and want of memory the plan
 abbrev pub RefusesText : ℕ → QueryFault → ConfigFault → Type 0

@@ -3,7 +3,7 @@ ghost use Rattle.rg_metric.specs.Queries.{Asked, asked};
 ghost use Rattle.rg_plan.specs.Named.{HasAgg, asked_by};
 ghost use Rattle.rg_plan.specs.Offsets.{IsMeasured};
 ghost use Rattle.rg_plan.specs.Plans.{plan_for, excess};
-ghost use Rattle.rg_query.specs.Legal.{IsLegal};
+ghost use Rattle.rg_query.specs.Legal.{IsLegalQuery};
 ghost use Rattle.rg_query.specs.Printing.{query_text};
 ghost use Rattle.rg_config.specs.Plans.{Planned, planned, Says, Tells, Agrees};
 ghost use Rattle.toml.specs.View.{table_view};
@@ -64,7 +64,7 @@ pub fn read_plan(alloc: Global, bytes: &[u8]) -> Result<Plan, ConfigFault>
     // the task is the plan of the queries
     ensures task { IfOk result (λ plan. plan.task ≡ plan_for (planned plan).queries) }
     // each query is legal over the schema
-    ensures legal { IfOk result (λ plan. All (IsLegal plan.schema) (planned plan).queries) }
+    ensures legal { IfOk result (λ plan. All (IsLegalQuery plan.schema) (planned plan).queries) }
     // and some text says it
     ensures said { IfOk result (λ plan. All (IsSaid plan.schema) (planned plan).queries) }
     // each setting lies in its range
@@ -79,7 +79,7 @@ fn plan_of(alloc: Global, bytes: &[u8]) -> Result<Plan, ConfigFault>
     ensures sound { Tells bytes.now result }
     ensures printed { IfOk result (λ plan. plan.queries ≡ map (query_text plan.schema) (planned plan).queries) }
     ensures task { IfOk result (λ plan. plan.task ≡ plan_for (planned plan).queries) }
-    ensures legal { IfOk result (λ plan. All (IsLegal plan.schema) (planned plan).queries) }
+    ensures legal { IfOk result (λ plan. All (IsLegalQuery plan.schema) (planned plan).queries) }
     ensures said { IfOk result (λ plan. All (IsSaid plan.schema) (planned plan).queries) }
     ensures ranges { IfOk result (λ plan. AreInRange (planned plan).settings) }
 {

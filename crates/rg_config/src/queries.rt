@@ -1,7 +1,7 @@
 ghost use Rattle.std.specs.Prelude.{◌≡◌, ◌≤◌, ◌++◌, [], ◌∷◌, None, IfOk, OnOk, map, All};
 ghost use Rattle.rg_metric.specs.Queries.{asked};
 ghost use Rattle.rg_plan.specs.Plans.{excess};
-ghost use Rattle.rg_query.specs.Legal.{IsLegal};
+ghost use Rattle.rg_query.specs.Legal.{IsLegalQuery};
 ghost use Rattle.rg_query.specs.Printing.{query_text};
 ghost use Rattle.rg_config.specs.Plans.{excess_in};
 ghost use Rattle.rg_config.specs.Reading.{ReadsQuery, ReadsQueries, RefusesText};
@@ -29,7 +29,7 @@ pub(crate) fn read_queries(
 ) -> Result<Queries, ConfigFault>
     ensures reads { ReadsQueries schema.now (map (λ text. text.now) texts.now) result }
     ensures printed { IfOk result (λ queries. queries.printed ≡ map (query_text schema.now) (map asked queries.parsed.items)) }
-    ensures legal { IfOk result (λ queries. All (IsLegal schema.now) (map asked queries.parsed.items)) }
+    ensures legal { IfOk result (λ queries. All (IsLegalQuery schema.now) (map asked queries.parsed.items)) }
     ensures within { IfOk result (λ queries. excess (map asked queries.parsed.items) ≡ None) }
 {
     let mut queries = Queries {
@@ -79,7 +79,7 @@ fn read_query(
 ) -> Result<Query, ConfigFault>
     requires at_most { number ≤ 64 }
     ensures reads { ReadsQuery number schema.now text.now result }
-    ensures legal { IfOk result (λ query. IsLegal schema.now (asked query)) }
+    ensures legal { IfOk result (λ query. IsLegalQuery schema.now (asked query)) }
 {
     let number = number as u32;
     if number >= MAX_QUERIES {

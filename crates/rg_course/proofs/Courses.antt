@@ -11,7 +11,7 @@ use Rattle.rg_host.specs.Puts.{IsPartWay, IsPut}
 use Rattle.rg_course.specs.Laws.{IsPrefixOf}
 use Rattle.rg_course.specs.Acknowledged.{SavesLast, SayNothing}
 use Rattle.rg_course.specs.Pieces.{whole_pieces, AreLines}
-use Rattle.rg_course.specs.Stores.{Store, Course, IsNear, IsKept, IsOnCourse, IsOnCourseSince, Promised}
+use Rattle.rg_course.specs.Stores.{Store, Course, IsNear, IsKeptInStore, IsOnCourse, IsOnCourseSince, Promised}
 use Rattle.rg_course.specs.Steps.{IsAtRest, IsMidStep, MarksHold}
 use Rattle.rg_course.specs.Turns.{IsStopped}
 use Rattle.rg_course.proofs.Acknowledging.{line_among}
@@ -30,7 +30,7 @@ module _ (Image : Type 0) (store : Store Image) (course : Course) where
     put = ended lines;
     since = is;
     text = inl (ended after, sym (ended-append lines after) ∙ ap ended text);
-    kept = subst (λ (l : List (List ℕ)). IsKept store course l v) (sym (lines_whole lines are)) (mid_step_kept Image store course lines stored chunk keep may v at_rest begins near w);
+    kept = subst (λ (l : List (List ℕ)). IsKeptInStore store course l v) (sym (lines_whole lines are)) (mid_step_kept Image store course lines stored chunk keep may v at_rest begins near w);
   }
 
   -- between steps
@@ -40,7 +40,7 @@ module _ (Image : Type 0) (store : Store Image) (course : Course) where
     put = ended lines;
     since = is;
     text = inl (ended after, sym (ended-append lines after) ∙ ap ended text);
-    kept = subst (λ (l : List (List ℕ)). IsKept store course l v) (sym (lines_whole lines are)) (rest_kept Image store course lines stored keep may v at_rest left);
+    kept = subst (λ (l : List (List ℕ)). IsKeptInStore store course l v) (sym (lines_whole lines are)) (rest_kept Image store course lines stored keep may v at_rest left);
   }
 
   -- while lines of the text are put
@@ -86,7 +86,7 @@ module _ (Image : Type 0) (store : Store Image) (course : Course) where
   }
 
   -- lines that say nothing are put behind
-  kept_more : (lines more : List (List ℕ)) (v : Image) → IsKept store course lines v → SayNothing more → IsKept store course (lines ++ more) v
+  kept_more : (lines more : List (List ℕ)) (v : Image) → IsKeptInStore store course lines v → SayNothing more → IsKeptInStore store course (lines ++ more) v
   kept_more lines more v kept nothing = record {
     truthful = kept.truthful;
     schema = kept.schema;
@@ -119,12 +119,12 @@ module _ (Image : Type 0) (store : Store Image) (course : Course) where
         put = ended stop.lines ++ part;
         since = way.2 ∙ ap (λ (l : List ℕ). l ++ part) stop.said_is ∙ append_assoc course.said (ended stop.lines) part;
         text = inr (part, way.1, record { lines = stop.lines; more = stop.more; of_text = stop.of_text; is = refl });
-        kept = subst (λ (l : List (List ℕ)). IsKept store course l v) (sym (pieces_then stop.lines part stop.are_lines))
+        kept = subst (λ (l : List (List ℕ)). IsKeptInStore store course l v) (sym (pieces_then stop.lines part stop.are_lines))
             (kept_more stop.lines (whole_pieces part) v (stop.kept v left) (nothing_prefix (whole_pieces part) ends (pieces_prefix ends part are_ends way.1) nothing));
       }
 
   -- the last checkpoint that a line says is saved is in a slot
-  pub last_saved : (lines : List (List ℕ)) (count : ℕ) (v : Image) → count < 2 ^ 64 → SavesLast lines count → IsKept store course lines v → (slot : ℕ) × store.HasSaved slot count v
+  pub last_saved : (lines : List (List ℕ)) (count : ℕ) (v : Image) → count < 2 ^ 64 → SavesLast lines count → IsKeptInStore store course lines v → (slot : ℕ) × store.HasSaved slot count v
   last_saved lines count v small last kept = kept.saved count small (line_among lines last.front last.back (mark_line (Saved count)) last.is)
 
   wider : (text : List (List ℕ)) (last put : List ℕ) → IsPut text [] put → IsPut text last put

@@ -11,7 +11,7 @@ use Rattle.rg_host.specs.Lines.{ended}
 use Rattle.rg_host.specs.Puts.{IsPrefix}
 use Rattle.rg_course.specs.Laws.{IsPrefixOf}
 use Rattle.rg_course.specs.Pieces.{whole_pieces, AreLines}
-use Rattle.rg_course.specs.Stores.{Store, Course, IsNear, IsKept}
+use Rattle.rg_course.specs.Stores.{Store, Course, IsNear, IsKeptInStore}
 use Rattle.rg_course.specs.Steps.{IsAtRest, IsMidStep, IsStepped, IsSavedTo, MarksHold}
 use Rattle.rg_course.proofs.Offsets.{next_behind}
 use Rattle.rg_course.proofs.Orders.{rising_back, prefix_rising}
@@ -36,7 +36,7 @@ module _ (Image : Type 0) (store : Store Image) (course : Course) where
   -- the image has these events, and the kept slot is as it was in one that might be left
   kept_with : (lines : List (List ℕ)) (stored events : List Event) (keep : Option ℕ) (may : Image → Type 0) (v from : Image) → IsAtRest store course lines stored keep may → may from →
       store.IsTruthful v → store.IsOfSchema v → store.HasEvents events v → IsPrefixOf events course.accepted → IsPrefixOf course.held events → IsNear course lines events → next_offset stored ≤ next_offset events →
-      ((slot count : ℕ) → keep ≡ Some slot → store.HasSaved slot count from → store.HasSaved slot count v) → IsKept store course lines v
+      ((slot count : ℕ) → keep ≡ Some slot → store.HasSaved slot count from → store.HasSaved slot count v) → IsKeptInStore store course lines v
   kept_with lines stored events keep may v from at_rest left truthful schema has begins keeps near grows slots = record {
     truthful = truthful;
     schema = schema;
@@ -49,12 +49,12 @@ module _ (Image : Type 0) (store : Store Image) (course : Course) where
     saved = λ count small says. let h = at_rest.saved_by count small says in (h.1.0, slots h.1.0 count h.1.1 (h.1.2 from left));
   }
 
-  pub rest_kept : (lines : List (List ℕ)) (stored : List Event) (keep : Option ℕ) (may : Image → Type 0) (v : Image) → IsAtRest store course lines stored keep may → may v → IsKept store course lines v
+  pub rest_kept : (lines : List (List ℕ)) (stored : List Event) (keep : Option ℕ) (may : Image → Type 0) (v : Image) → IsAtRest store course lines stored keep may → may v → IsKeptInStore store course lines v
   rest_kept lines stored keep may v at_rest left =
       kept_with lines stored stored keep may v v at_rest left (at_rest.truthful v left) (at_rest.schema v left) (at_rest.has v left) at_rest.begins at_rest.keeps at_rest.near (omega arith) (λ slot count is has. has)
 
   -- a step on the disk: the log gets a chunk, or a slot is written
-  pub mid_step_kept : (lines : List (List ℕ)) (stored chunk : List Event) (keep : Option ℕ) (may : Image → Type 0) (v : Image) → IsAtRest store course lines stored keep may → IsPrefixOf (stored ++ chunk) course.accepted → IsNear course lines (stored ++ chunk) → IsMidStep store keep chunk may v → IsKept store course lines v
+  pub mid_step_kept : (lines : List (List ℕ)) (stored chunk : List Event) (keep : Option ℕ) (may : Image → Type 0) (v : Image) → IsAtRest store course lines stored keep may → IsPrefixOf (stored ++ chunk) course.accepted → IsNear course lines (stored ++ chunk) → IsMidStep store keep chunk may v → IsKeptInStore store course lines v
   mid_step_kept lines stored chunk keep may v at_rest begins near w =
       let truthful = w.truthful (at_rest.truthful w.from w.left) in
       let schema = w.schema (at_rest.schema w.from w.left) in
@@ -137,7 +137,7 @@ module _ (Image : Type 0) (store : Store Image) (course : Course) where
       among line has = subst (λ (l : List (List ℕ)). Contains l line) begins.1 (Contains-append_left front begins.0 line has)
 
   -- while lines are put
-  pub put_kept : (lines more : List (List ℕ)) (part : List ℕ) (stored : List Event) (keep : Option ℕ) (may : Image → Type 0) (v : Image) → IsAtRest store course lines stored keep may → AreLines lines → AreLines more → MarksHold store stored keep may more → IsPrefix part (ended more) → may v → IsKept store course (whole_pieces (ended lines ++ part)) v
+  pub put_kept : (lines more : List (List ℕ)) (part : List ℕ) (stored : List Event) (keep : Option ℕ) (may : Image → Type 0) (v : Image) → IsAtRest store course lines stored keep may → AreLines lines → AreLines more → MarksHold store stored keep may more → IsPrefix part (ended more) → may v → IsKeptInStore store course (whole_pieces (ended lines ++ part)) v
   put_kept lines more part stored keep may v at_rest are are_more marks front left =
-      subst (λ (l : List (List ℕ)). IsKept store course l v) (sym (pieces_then lines part are))
+      subst (λ (l : List (List ℕ)). IsKeptInStore store course l v) (sym (pieces_then lines part are))
       (rest_kept (lines ++ whole_pieces part) stored keep may v (rest_more lines (whole_pieces part) stored keep may at_rest (marks_prefix (whole_pieces part) more stored keep may (pieces_prefix more part are_more front) marks)) left)

@@ -7,7 +7,7 @@ use Rattle.rg_event.specs.Rising.{next_offset, IsRising}
 use Rattle.rg_course.specs.Output.{open_line, put_before, Terms}
 use Rattle.rg_course.specs.Laws.{IsPrefixOf, MayLeave}
 use Rattle.rg_course.specs.Acknowledged.{HoldsBelow, IsAcknowledged}
-use Rattle.rg_course.specs.Stores.{Store, Course, course_of, IsNear, IsKept}
+use Rattle.rg_course.specs.Stores.{Store, Course, course_of, IsNear, IsKeptInStore}
 use Rattle.rg_course.specs.Turns.{Covers}
 use Rattle.rg_course.proofs.Acknowledging.{holds_below, acknowledged}
 use Rattle.rg_course.proofs.Steps.{Item}
@@ -32,7 +32,7 @@ pub near_covers : (terms : Terms) (said : List ℕ) (held : List Event) (from fi
     IsPrefixOf held left → next_offset held < next_offset left → IsNear (course_of terms said held from first lines) put left → Covers terms held from first lines left put
 near_covers terms said held from first lines put left keeps more near = near_by terms said held from first lines put left keeps more near
 
-module _ (Image : Type 0) (store : Store Image) (terms : Terms) (said : List ℕ) (held : List Event) (from first : ℕ) (lines : List Item) (put : List (List ℕ)) (v : Image) (kept : IsKept store (course_of terms said held from first lines) put v) where
+module _ (Image : Type 0) (store : Store Image) (terms : Terms) (said : List ℕ) (held : List Event) (from first : ℕ) (lines : List Item) (put : List (List ℕ)) (v : Image) (kept : IsKeptInStore store (course_of terms said held from first lines) put v) where
   -- the image's events are what a run may leave
   pub kept_leaves : MayLeave terms.basis held first lines kept.events
   kept_leaves = record { keeps = kept.keeps; begins = kept.begins }
@@ -47,6 +47,6 @@ start_held held accepted events rising keeps begins e has low =
     subst (λ (l : List Event). Contains l e) keeps.1 (Contains-append_left held keeps.0 e among)
 
 -- every accepted event below the number in the last `stored` line, or below what the store began with where no line has one, is in the image
-pub kept_acknowledged : (Image : Type 0) (store : Store Image) (course : Course) (put : List (List ℕ)) (v : Image) (n : ℕ) → IsRising course.accepted → n < 2 ^ 64 → (kept : IsKept store course put v) → IsAcknowledged (next_offset course.held) put n → HoldsBelow n course.accepted kept.events
+pub kept_acknowledged : (Image : Type 0) (store : Store Image) (course : Course) (put : List (List ℕ)) (v : Image) (n : ℕ) → IsRising course.accepted → n < 2 ^ 64 → (kept : IsKeptInStore store course put v) → IsAcknowledged (next_offset course.held) put n → HoldsBelow n course.accepted kept.events
 kept_acknowledged Image store course put v n rising small kept last =
     acknowledged (next_offset course.held) put course.accepted kept.events n small kept.stored (start_held course.held course.accepted kept.events rising kept.keeps kept.begins) last

@@ -57,7 +57,7 @@ IsNear course lines events =
 -- Of an image and the whole lines that were put: the image is truthful, and its events are the first of the accepted ones, with
 -- all that the store held and all that the lines say is stored, and of at most one line more than was answered; where a line says
 -- what is saved, some slot has it.
-pub record IsKept {Image : Type 0} (store : Store Image) (course : Course) (lines : List (List ℕ)) (v : Image) : Type 0 where
+pub record IsKeptInStore {Image : Type 0} (store : Store Image) (course : Course) (lines : List (List ℕ)) (v : Image) : Type 0 where
   pub truthful : store.IsTruthful v
   pub schema : store.IsOfSchema v
   pub events : List Event
@@ -73,7 +73,7 @@ pub record IsOnCourse {Image : Type 0} (store : Store Image) (course : Course) (
   pub put : List ℕ
   pub since : said ≡ course.said ++ put
   pub text : IsPut course.text last put
-  pub kept : IsKept store course (whole_pieces put) v
+  pub kept : IsKeptInStore store course (whole_pieces put) v
 
 -- a moment since the start: nothing but of the last line was put, and the image is one that might be left at the start; or the store is opened
 abbrev pub IsOnCourseSince : {Image : Type 0} → Store Image → Course → (Image → Type 0) → List ℕ → Image → List ℕ → Type 0
@@ -93,4 +93,4 @@ pub record Promised {Image : Type 0} (store : Store Image) (course : Course) (st
   pub text : IsPut course.text last put
   pub truthful : store.IsTruthful v
   pub schema : ((u : Image) → start u → store.IsOfSchema u) → store.IsOfSchema v
-  pub image : (start v × IsPrefix put last) ⊎ IsKept store course (whole_pieces put) v
+  pub image : (start v × IsPrefix put last) ⊎ IsKeptInStore store course (whole_pieces put) v

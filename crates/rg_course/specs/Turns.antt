@@ -7,7 +7,7 @@ use Rattle.rg_course.specs.Output.{Terms, open_line, put_at, put_before, out}
 use Rattle.rg_course.specs.Ahead.{events_from, put_from, out_from}
 use Rattle.rg_course.specs.Laws.{IsPrefixOf}
 use Rattle.rg_course.specs.Pieces.{AreLines}
-use Rattle.rg_course.specs.Stores.{Store, Course, IsKept}
+use Rattle.rg_course.specs.Stores.{Store, Course, IsKeptInStore}
 use Rattle.rg_course.specs.Steps.{IsAtRest}
 
 -- A moment between two lines of the input. These events were accepted, of which those that are stored are the first; these lines
@@ -32,7 +32,7 @@ pub record IsStopped {Image : Type 0} (store : Store Image) (course : Course) (m
   pub said_is : said ≡ course.said ++ ended lines
   pub are_lines : AreLines lines
   pub of_text : lines ++ more ≡ course.text
-  pub kept : (v : Image) → may v → IsKept store course lines v
+  pub kept : (v : Image) → may v → IsKeptInStore store course lines v
 
 -- All was put, and the store has all accepted events.
 pub record IsDone {Image : Type 0} (store : Store Image) (course : Course) (may : Image → Type 0) (said : List ℕ) : Type 0 where

@@ -8,7 +8,7 @@ use Rattle.rg_host.specs.Puts.{IsPrefix, StopsWith}
 use Rattle.rg_host.proofs.Endings.{ended-append}
 use Rattle.rg_frame.specs.Looks.{IsClosed}
 use Rattle.rg_reservoir.specs.Heads.{nothing}
-use Rattle.rg_reservoir.specs.Walked.{place_of, schema_of as known_of, tally_of, IsNext, IsRefused}
+use Rattle.rg_reservoir.specs.Walked.{place_of, schema_of as known_of, tally_of, IsNext, IsRefusedWalk}
 use Rattle.rg_reservoir.specs.declared.walk.Stage.{Stage}
 use Rattle.rg_reservoir.specs.declared.walk.Walk.{Walk}
 use Rattle.rg_reservoir.specs.declared.fault.ReservoirFault.{ReservoirFault}
@@ -53,7 +53,7 @@ module _ (now mid : Option Image) (same : mid ≡ now) (Old Step New : List ℕ 
       let e = at_end (v 2) walk p.stages (p.at v told) (closed v (same ∙ told)) in
       (subst (λ (l : List Stage). New (ended (all_lines l))) (sym e.0) (same_put (all_lines p.stages) p.puts none), e.1)
 
-  pub spoil : (walk : Walk) (place : ℕ) → place ≡ place_of walk → Progress now walk Old → ForSome mid (λ v. IsRefused (v 2) walk) → Step [] → ForSome now (λ v. (damage_of (v 2) ≡ Some place) × New (ended (dump_text (v 2))))
+  pub spoil : (walk : Walk) (place : ℕ) → place ≡ place_of walk → Progress now walk Old → ForSome mid (λ v. IsRefusedWalk (v 2) walk) → Step [] → ForSome now (λ v. (damage_of (v 2) ≡ Some place) × New (ended (dump_text (v 2))))
   spoil walk place is p refused none = λ v told.
       let e = at_damage (v 2) walk p.stages (p.at v told) (refused v (same ∙ told)) in
       (e.1 ∙ ap (λ (n : ℕ). Some n) (sym is), subst (λ (l : List Stage). New (ended (all_lines l))) (sym e.0) (same_put (all_lines p.stages) p.puts none))

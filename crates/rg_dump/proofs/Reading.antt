@@ -16,7 +16,7 @@ use Rattle.rg_log.specs.Reading.{schema_of}
 use Rattle.rg_log.proofs.Reading.{schema_said}
 use Rattle.rg_reservoir.specs.Heads.{told_by, IsOpenGate}
 use Rattle.rg_reservoir.specs.declared.heads.Tally.{Tally}
-use Rattle.rg_reservoir.specs.Walked.{place_of, schema_of as known_of, tally_of, IsTaken, IsNext, IsUntaken, IsRefused}
+use Rattle.rg_reservoir.specs.Walked.{place_of, schema_of as known_of, tally_of, IsTaken, IsNext, IsUntaken, IsRefusedWalk}
 use Rattle.rg_reservoir.specs.declared.walk.Stage.{Stage}
 use Rattle.rg_reservoir.specs.declared.walk.Stage.TheVariants as stage
 use Rattle.rg_reservoir.specs.declared.walk.Walk.{Walk}
@@ -131,7 +131,7 @@ reads_end zero place schema tally bytes closed = refl
 reads_end (suc most) place schema tally bytes closed = rw (gate_closed place bytes closed) refl
 
 -- at a frame that the walk refuses
-pub reads_damage : (most : ℕ) (walk : Walk) (bytes : List ℕ) → length bytes ≤ place_of walk + most → IsRefused bytes walk → stages_from most (place_of walk) (known_of walk) (tally_of walk) bytes ≡ nothing_more (Some (place_of walk))
+pub reads_damage : (most : ℕ) (walk : Walk) (bytes : List ℕ) → length bytes ≤ place_of walk + most → IsRefusedWalk bytes walk → stages_from most (place_of walk) (known_of walk) (tally_of walk) bytes ≡ nothing_more (Some (place_of walk))
 unfolding stages_from
 reads_damage zero walk bytes enough refused = absurd (omega (arith, enough, (gate_open (place_of walk) bytes refused.gate).1))
 reads_damage (suc most) walk bytes enough refused = rw (gate_open (place_of walk) bytes refused.gate).0 (by (payload_at (place_of walk) bytes) refl)

@@ -3,7 +3,7 @@ use Rattle.std.proofs.Common.{◌≡◌, ◌∙◌, ℕ, ◌+◌, ◌≤◌, Lis
 use Rattle.std.proofs.lemmas.List.{append-nil}
 use Rattle.rg_frame.specs.Looks.{IsClosed}
 use Rattle.rg_reservoir.specs.Heads.{nothing}
-use Rattle.rg_reservoir.specs.Walked.{place_of, schema_of as known_of, tally_of, IsNext, IsRefused}
+use Rattle.rg_reservoir.specs.Walked.{place_of, schema_of as known_of, tally_of, IsNext, IsRefusedWalk}
 use Rattle.rg_reservoir.specs.declared.walk.Stage.{Stage}
 use Rattle.rg_reservoir.specs.declared.walk.Walk.{Walk}
 use Rattle.rg_dump.specs.Stages.{Stages, stages_from, stages_of}
@@ -39,7 +39,7 @@ at_end bytes walk stages at closed =
     (at.are ∙ ap (λ (d : Stages). stages ++ d.stages) e ∙ append-nil stages, at.damage ∙ ap (λ (d : Stages). d.damage) e)
 
 -- and at a damaged place
-pub at_damage : (bytes : List ℕ) (walk : Walk) (stages : List Stage) → IsAt bytes walk stages → IsRefused bytes walk → ((stages_of bytes).stages ≡ stages) × (damage_of bytes ≡ Some (place_of walk))
+pub at_damage : (bytes : List ℕ) (walk : Walk) (stages : List Stage) → IsAt bytes walk stages → IsRefusedWalk bytes walk → ((stages_of bytes).stages ≡ stages) × (damage_of bytes ≡ Some (place_of walk))
 at_damage bytes walk stages at refused =
     let e = reads_damage at.most walk bytes at.enough refused in
     (at.are ∙ ap (λ (d : Stages). stages ++ d.stages) e ∙ append-nil stages, at.damage ∙ ap (λ (d : Stages). d.damage) e)

@@ -5,7 +5,7 @@ ghost use Rattle.rg_host.specs.Lines.{ended};
 ghost use Rattle.rg_host.specs.Moments.{LeavesFiles};
 ghost use Rattle.rg_host.specs.Puts.{IsPrefix, Puts, StopsWith};
 ghost use Rattle.rg_frame.specs.Looks.{IsClosed};
-ghost use Rattle.rg_reservoir.specs.Walked.{place_of, IsNext, IsRefused};
+ghost use Rattle.rg_reservoir.specs.Walked.{place_of, IsNext, IsRefusedWalk};
 ghost use Rattle.rg_reservoir.specs.declared.walk.Stage.{Stage};
 ghost use Rattle.rg_event.specs.Shapes.{schema_text};
 ghost use Rattle.rg_dump.specs.Dump.{stage_lines, dump_text, damage_of, IsCutIn};
@@ -80,7 +80,7 @@ fn dump_next<H: Host>(alloc: Global, walk: &mut Walk, host: &mut H) -> Result<bo
     ensures last { IfOk result (λ more. more ≡ false → ForSome (H.now host.old) (λ v. IsClosed (place_of walk.old) (v 2)) × Puts H.said H.clock H.since host.old host.new []) }
     ensures cut { IsErrOf result DumpFault.Write → (stage : Stage) × ForSome (H.now host.old) (λ v. IsNext (v 2) walk.old stage walk.new) × IsCutIn (ended (stage_lines stage)) (Puts H.said H.clock H.since host.old host.new) ⊤ }
     ensures quiet { IfErr result (λ fault. (fault ≡ DumpFault.Write) ⊎ Puts H.said H.clock H.since host.old host.new []) }
-    ensures damaged { (p : ℕ) → IsErrOf result (DumpFault.Damaged p) → (p ≡ place_of walk.old) × ForSome (H.now host.old) (λ v. IsRefused (v 2) walk.old) }
+    ensures damaged { (p : ℕ) → IsErrOf result (DumpFault.Damaged p) → (p ≡ place_of walk.old) × ForSome (H.now host.old) (λ v. IsRefusedWalk (v 2) walk.old) }
     ensures write { IsErrOf result DumpFault.Write → Rose (H.out_faults host.old) (H.out_faults host.new) }
     ensures disk { IsErrOf result DumpFault.Disk → Rose (H.disk_faults host.old) (H.disk_faults host.new) }
     ensures leaves { LeavesFiles H.now H.may H.clock H.since host.old host.new }

@@ -31,7 +31,7 @@ use Rattle.rg_plan.specs.declared.node.GroupNode.{GroupNode}
 use Rattle.rg_plan.specs.declared.node.AggNode.{AggNode}
 use Rattle.rg_plan.specs.Named.{Node, node_at, node_of, nodes_of, under_agg, under_group, under_filter}
 use Rattle.rg_plan.specs.Nodes.{Filtered}
-use Rattle.rg_plan.specs.Plans.{Planned, plan_for, paths_of}
+use Rattle.rg_plan.specs.Plans.{Tasks, plan_for, paths_of}
 use Rattle.rg_plan.specs.Whole.{IsWhole}
 use Rattle.rg_plan.proofs.Naming.{all_named}
 use Rattle.rg_agg.specs.Held.{Held}
@@ -43,27 +43,27 @@ use Rattle.rg_engine.proofs.Plain.{none_some, same_some, same_tests}
 
 -- What a node is, by its parts
 
-by_window : (plan : Planned) (group : GroupNode) (agg : Agg) (filter : Filtered) (node : Node) (found : Option _) → slice_get plan.windows filter.window ≡ found → under_filter plan group agg filter ≡ Some node → (node.agg ≡ agg) × (node.columns ≡ group.columns)
+by_window : (plan : Tasks) (group : GroupNode) (agg : Agg) (filter : Filtered) (node : Node) (found : Option _) → slice_get plan.windows filter.window ≡ found → under_filter plan group agg filter ≡ Some node → (node.agg ≡ agg) × (node.columns ≡ group.columns)
 by_window plan group agg filter node None e is = absurd (none_some (ap (λ w. option_map (λ window. record { window = window; condition = filter.condition; columns = group.columns; agg = agg }) w) (sym e) ∙ is))
 by_window plan group agg filter node (Some w) e is =
     let k = same_some (sym (ap (λ o. option_map (λ window. record { window = window; condition = filter.condition; columns = group.columns; agg = agg }) o) e) ∙ is) in
     (sym (ap (λ (n : Node). n.agg) k), sym (ap (λ (n : Node). n.columns) k))
 
-by_filter : (plan : Planned) (group : GroupNode) (agg : Agg) (node : Node) (found : Option Filtered) → slice_get plan.filters group.filter ≡ found → under_group plan agg group ≡ Some node → (node.agg ≡ agg) × (node.columns ≡ group.columns)
+by_filter : (plan : Tasks) (group : GroupNode) (agg : Agg) (node : Node) (found : Option Filtered) → slice_get plan.filters group.filter ≡ found → under_group plan agg group ≡ Some node → (node.agg ≡ agg) × (node.columns ≡ group.columns)
 by_filter plan group agg node None e is = absurd (none_some (sym (ap (option_and_then (under_filter plan group agg)) e) ∙ is))
 by_filter plan group agg node (Some filter) e is = by_window plan group agg filter node (slice_get plan.windows filter.window) refl (sym (ap (option_and_then (under_filter plan group agg)) e) ∙ is)
 
-by_group : (plan : Planned) (agg : AggNode) (group : GroupNode) (node : Node) → slice_get plan.groups agg.group ≡ Some group → under_agg plan agg ≡ Some node → (node.agg ≡ agg.agg) × (node.columns ≡ group.columns)
+by_group : (plan : Tasks) (agg : AggNode) (group : GroupNode) (node : Node) → slice_get plan.groups agg.group ≡ Some group → under_agg plan agg ≡ Some node → (node.agg ≡ agg.agg) × (node.columns ≡ group.columns)
 by_group plan agg group node e is = by_filter plan group agg.agg node (slice_get plan.filters group.filter) refl (sym (ap (option_and_then (under_group plan agg.agg)) e) ∙ is)
 
-node_parts : (plan : Planned) (n : ℕ) (agg : AggNode) (group : GroupNode) (node : Node) → slice_get plan.aggs n ≡ Some agg → slice_get plan.groups agg.group ≡ Some group → node_at plan n ≡ Some node → (node.agg ≡ agg.agg) × (node.columns ≡ group.columns)
+node_parts : (plan : Tasks) (n : ℕ) (agg : AggNode) (group : GroupNode) (node : Node) → slice_get plan.aggs n ≡ Some agg → slice_get plan.groups agg.group ≡ Some group → node_at plan n ≡ Some node → (node.agg ≡ agg.agg) × (node.columns ≡ group.columns)
 node_parts plan n agg group node found e is = by_group plan agg group node e (sym (ap (option_and_then (under_agg plan)) found) ∙ is)
 
 get_there : {A : Type 0} (xs : List A) (i : ℕ) (d : A) → i < length xs → slice_get xs i ≡ Some (get_or xs i d)
 get_there xs i d l = slice_get-get_or xs i d l
 
 -- an answer of a row that stands for the events
-pub answered : (plan : Planned) (events : List Event) (e : Event) (n : ℕ) (agg : AggNode) (group : GroupNode) (key : List ℕ) (row : Option Held) (answer : Answer) → IsWhole plan → slice_get plan.aggs n ≡ Some agg →
+pub answered : (plan : Tasks) (events : List Event) (e : Event) (n : ℕ) (agg : AggNode) (group : GroupNode) (key : List ℕ) (row : Option Held) (answer : Answer) → IsWhole plan → slice_get plan.aggs n ≡ Some agg →
     slice_get plan.groups agg.group ≡ Some group → key ≡ key_bytes (key_of group.columns e) → RowIs (node_at plan n) key e.time events row → ((values : List Value) → RowStands agg.agg.func row values → answer ≡ answer_of agg.agg.func values) →
     answer ≡ node_answer events e (node_at plan n)
 answered plan events e n agg group key row answer whole found grouped made stands answers =
@@ -78,7 +78,7 @@ answered plan events e n agg group key row answer whole found grouped made stand
     ∙ ap (λ o. node_answer events e o) (sym k.1)
 
 -- a row of a node that stands for some values
-pub row_of : (plan : Planned) (events : List Event) (e : Event) (n : ℕ) (agg : AggNode) (group : GroupNode) (key : List ℕ) (row : Option Held) → IsWhole plan → slice_get plan.aggs n ≡ Some agg →
+pub row_of : (plan : Tasks) (events : List Event) (e : Event) (n : ℕ) (agg : AggNode) (group : GroupNode) (key : List ℕ) (row : Option Held) → IsWhole plan → slice_get plan.aggs n ≡ Some agg →
     slice_get plan.groups agg.group ≡ Some group → RowIs (node_at plan n) key e.time events row → (values : List Value) × RowStands agg.agg.func row values
 row_of plan events e n agg group key row whole found grouped stands =
     let k = whole.nodes n (slice_get_within plan.aggs n agg found) in
@@ -90,7 +90,7 @@ abbrev zero_group : GroupNode
 zero_group = record { filter = 0; columns = [] }
 
 -- the same, of a node that is looked up in the lists
-pub answered_at : (plan : Planned) (events : List Event) (e : Event) (aggs : List AggNode) (keys : List (List ℕ)) (n : ℕ) (d : AggNode) (key : List ℕ) (row : Option Held) (answer : Answer) → IsWhole plan → plan.aggs ≡ aggs → keys ≡ keys_for plan.groups e →
+pub answered_at : (plan : Tasks) (events : List Event) (e : Event) (aggs : List AggNode) (keys : List (List ℕ)) (n : ℕ) (d : AggNode) (key : List ℕ) (row : Option Held) (answer : Answer) → IsWhole plan → plan.aggs ≡ aggs → keys ≡ keys_for plan.groups e →
     n < length aggs → (get_or aggs n d).group < length keys → key ≡ get_or keys (get_or aggs n d).group key → RowIs (node_at plan n) key e.time events row →
     ((values : List Value) → RowStands (get_or aggs n d).agg.func row values → answer ≡ answer_of (get_or aggs n d).agg.func values) → answer ≡ node_answer events e (node_at plan n)
 answered_at plan events e aggs keys n d key row answer whole same made within below is stands answers =
@@ -100,7 +100,7 @@ answered_at plan events e aggs keys n d key row answer whole same made within be
     answered plan events e n agg group key row answer whole (ap (λ xs. slice_get xs n) same ∙ get_there aggs n d within) (get_there plan.groups agg.group zero_group few)
     (is ∙ ap (λ ks. get_or ks agg.group key) made ∙ get_or-map (λ (g : GroupNode). key_bytes (key_of g.columns e)) plan.groups agg.group zero_group key few) stands answers
 
-pub row_at : (plan : Planned) (events : List Event) (e : Event) (aggs : List AggNode) (n : ℕ) (d : AggNode) (key : List ℕ) (row : Option Held) → IsWhole plan → plan.aggs ≡ aggs → n < length aggs →
+pub row_at : (plan : Tasks) (events : List Event) (e : Event) (aggs : List AggNode) (n : ℕ) (d : AggNode) (key : List ℕ) (row : Option Held) → IsWhole plan → plan.aggs ≡ aggs → n < length aggs →
     RowIs (node_at plan n) key e.time events row → (values : List Value) × RowStands (get_or aggs n d).agg.func row values
 row_at plan events e aggs n d key row whole same within stands =
     let agg = get_or aggs n d in
@@ -112,7 +112,7 @@ row_at plan events e aggs n d key row whole same within stands =
     ap_group l = subst (λ xs. (get_or xs n d).group < length plan.groups) same l
 
 -- one answer more
-pub one_more : (plan : Planned) (events : List Event) (e : Event) (nodes : List ℕ) (i : ℕ) (d : ℕ) (old now new : List Answer) (answer : Answer) → i < length nodes → now ≡ old ++ node_answers plan events e (take i nodes) → new ≡ now ++ answer ∷ [] →
+pub one_more : (plan : Tasks) (events : List Event) (e : Event) (nodes : List ℕ) (i : ℕ) (d : ℕ) (old now new : List Answer) (answer : Answer) → i < length nodes → now ≡ old ++ node_answers plan events e (take i nodes) → new ≡ now ++ answer ∷ [] →
     answer ≡ node_answer events e (node_at plan (get_or nodes i d)) → new ≡ old ++ node_answers plan events e (take (i + 1) nodes)
 one_more plan events e nodes i d old now new answer within so_far added is =
     added ∙ ap (λ xs. xs ++ answer ∷ []) so_far ∙ append_assoc old (node_answers plan events e (take i nodes)) (answer ∷ [])
@@ -206,7 +206,7 @@ query_by_query : (qs : List Asked) (events : List Event) (e : Event) → IsKeyed
 query_by_query [] events e one are = refl
 query_by_query (q ∷ qs) events e one are = rw (aggs_answers q q.aggs events e one are, query_by_query qs events e one are) refl
 
-path_by_path : (plan : Planned) (events : List Event) (e : Event) (paths : List (List ℕ)) → node_answers plan events e (flat_map (λ path. path) paths) ≡ flat_map (map (node_answer events e)) (map (λ path. map (node_at plan) path) paths)
+path_by_path : (plan : Tasks) (events : List Event) (e : Event) (paths : List (List ℕ)) → node_answers plan events e (flat_map (λ path. path) paths) ≡ flat_map (map (node_answer events e)) (map (λ path. map (node_at plan) path) paths)
 path_by_path plan events e [] = refl
 path_by_path plan events e (path ∷ paths) =
     map-append (λ n. node_answer events e (node_at plan n)) path (flat_map (λ p. p) paths)
@@ -218,7 +218,7 @@ path_by_path plan events e (path ∷ paths) =
     twice (n ∷ ns) = ap (λ rest. node_answer events e (node_at plan n) ∷ rest) (twice ns)
 
 -- the nodes of a plan's queries answer what the queries do
-pub all_answers : (qs : List Asked) (plan : Planned) (events : List Event) (e : Event) → plan ≡ plan_for qs → IsKeyed e → All IsKeyed events → node_answers plan events e (nodes_asked plan) ≡ answers_to qs events e
+pub all_answers : (qs : List Asked) (plan : Tasks) (events : List Event) (e : Event) → plan ≡ plan_for qs → IsKeyed e → All IsKeyed events → node_answers plan events e (nodes_asked plan) ≡ answers_to qs events e
 all_answers qs plan events e is one are =
     subst (λ p. node_answers p events e (nodes_asked p) ≡ answers_to qs events e) (sym is)
     (path_by_path (plan_for qs) events e (paths_of qs) ∙ ap (λ nodes. flat_map (map (node_answer events e)) nodes) (all_named qs) ∙ query_by_query qs events e one are)

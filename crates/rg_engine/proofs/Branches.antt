@@ -12,7 +12,7 @@ use Rattle.rg_plan.specs.declared.node.GroupNode.{GroupNode}
 use Rattle.rg_plan.specs.declared.node.AggNode.{AggNode}
 use Rattle.rg_plan.specs.Named.{Node, node_at, under_agg, under_group, under_filter}
 use Rattle.rg_plan.specs.Nodes.{Filtered}
-use Rattle.rg_plan.specs.Plans.{Planned}
+use Rattle.rg_plan.specs.Plans.{Tasks}
 use Rattle.rg_engine.specs.declared.part.FilterPart.{FilterPart}
 use Rattle.rg_engine.specs.declared.part.GroupPart.{GroupPart}
 use Rattle.rg_engine.specs.declared.part.AggPart.{AggPart}
@@ -166,7 +166,7 @@ window_more windows parts filters i d part within so_far seen =
 
 -- The whole tree
 
-module _ (plan : Planned) where
+module _ (plan : Tasks) where
   whole_window : (columns : List ℕ) (agg : Agg) (filter : Filtered) (found : Option Window) →
       made_of (λ (window : Window). record { window = window; condition = filter.condition; columns = columns; agg = agg } ∷ []) found ≡ one_or_none (option_map (λ window. record { window = window; condition = filter.condition; columns = columns; agg = agg }) found)
   whole_window columns agg filter None = refl

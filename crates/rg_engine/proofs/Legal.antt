@@ -6,7 +6,7 @@ use Rattle.std.proofs.lemmas.Bool.{le-leb, lt-ltb}
 use Rattle.std.proofs.lemmas.List.Elements.{All-nil, All-head, All-tail, All-append, All-map, All-weaker}
 use Rattle.rg_event.specs.Codec.{IsValueOf, IsEventOf}
 use Rattle.rg_event.specs.Shapes.{Shape}
-use Rattle.rg_event.specs.Tagged.{IsLegal as IsLegalValue}
+use Rattle.rg_event.specs.Tagged.{IsLegalQuery as IsLegalValue}
 use Rattle.rg_event.specs.declared.event.Event.{Event}
 use Rattle.rg_event.specs.declared.schema.Field.{Field}
 use Rattle.rg_event.specs.declared.value.Kind.{Kind}
@@ -22,7 +22,7 @@ use Rattle.rg_plan.specs.declared.node.AggNode.{AggNode}
 use Rattle.rg_plan.specs.Nodes.{same_window, same_agg}
 use Rattle.rg_plan.specs.Plans.{plan_for, windows_of, filters_of, groups_of, aggs_of, aggs_in, agg_under, group_number}
 use Rattle.rg_plan.proofs.Members.{All-distinct}
-use Rattle.rg_query.specs.Legal.{IsOperand, IsLegalAgg, AreLegalAggs, IsLegalLength, IsLegal}
+use Rattle.rg_query.specs.Legal.{IsOperand, IsLegalAgg, AreLegalAggs, IsLegalLength, IsLegalQuery}
 use Rattle.rg_query.specs.Printing.{name_at}
 use Rattle.rg_query.specs.Resolving.{column_from, takes}
 use Rattle.rg_agg.specs.Stands.{IsInt, IsNumber}
@@ -148,16 +148,16 @@ lasts : (length : Option ℕ) → IsLegalLength length → ForSome length (λ n.
 lasts None legal n is = absurd (cc)
 lasts (Some m) legal n is = let same : m ≡ n = cc in omega (arith, legal.0, same)
 
-module _ (shape : Shape) (qs : List Asked) (legal : All (IsLegal shape) qs) where
+module _ (shape : Shape) (qs : List Asked) (legal : All (IsLegalQuery shape) qs) where
   abbrev Served : AggNode → Type 0
   Served node = IsServed shape.fields node.agg
 
-  uses_served : (xs : List Asked) → All (IsLegal shape) xs → All Served (flat_map (aggs_in (windows_of qs) (filters_of qs) (groups_of qs)) xs)
+  uses_served : (xs : List Asked) → All (IsLegalQuery shape) xs → All Served (flat_map (aggs_in (windows_of qs) (filters_of qs) (groups_of qs)) xs)
   uses_served [] h = All-nil Served
   uses_served (x ∷ xs) h =
       All-append Served (aggs_in (windows_of qs) (filters_of qs) (groups_of qs) x) (flat_map (aggs_in (windows_of qs) (filters_of qs) (groups_of qs)) xs)
-      (All-map Served (agg_under (group_number (windows_of qs) (filters_of qs) (groups_of qs) x)) x.aggs (all_served shape x.aggs (All-head (IsLegal shape) x xs h).aggs))
-      (uses_served xs (All-tail (IsLegal shape) x xs h))
+      (All-map Served (agg_under (group_number (windows_of qs) (filters_of qs) (groups_of qs) x)) x.aggs (all_served shape x.aggs (All-head (IsLegalQuery shape) x xs h).aggs))
+      (uses_served xs (All-tail (IsLegalQuery shape) x xs h))
 
   aggs_served : All Served (aggs_of qs)
   aggs_served = All-distinct same_agg Served (flat_map (aggs_in (windows_of qs) (filters_of qs) (groups_of qs)) qs) (uses_served qs legal)
@@ -165,10 +165,10 @@ module _ (shape : Shape) (qs : List Asked) (legal : All (IsLegal shape) qs) wher
   windows_last : All IsLasting (windows_of qs)
   windows_last =
       All-distinct same_window IsLasting (map (λ (q : Asked). q.window) qs)
-      (All-map IsLasting (λ (q : Asked). q.window) qs (All-weaker (IsLegal shape) (λ (q : Asked). IsLasting q.window) (λ q h. lasts q.window.length h.length) qs legal))
+      (All-map IsLasting (λ (q : Asked). q.window) qs (All-weaker (IsLegalQuery shape) (λ (q : Asked). IsLasting q.window) (λ q h. lasts q.window.length h.length) qs legal))
 
-pub serves : (shape : Shape) (qs : List Asked) → All (IsLegal shape) qs → Serves shape.fields (plan_for qs)
+pub serves : (shape : Shape) (qs : List Asked) → All (IsLegalQuery shape) qs → Serves shape.fields (plan_for qs)
 serves shape qs legal = serves_from shape.fields (plan_for qs) (aggs_served shape qs legal) (windows_last shape qs legal)
 
-pub are_fed : (shape : Shape) (qs : List Asked) (events : List Event) → All (IsLegal shape) qs → All (IsEventOf shape.fields) events → IsFed (plan_for qs) events
+pub are_fed : (shape : Shape) (qs : List Asked) (events : List Event) → All (IsLegalQuery shape) qs → All (IsEventOf shape.fields) events → IsFed (plan_for qs) events
 are_fed shape qs events legal are = record { fields = shape.fields; serves = serves shape qs legal; are = are }

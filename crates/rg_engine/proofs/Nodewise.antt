@@ -9,7 +9,7 @@ use Rattle.rg_metric.specs.declared.query.Window.{Window}
 use Rattle.rg_event.specs.Rising.{last_time, IsRising}
 use Rattle.rg_agg.specs.Held.{Held}
 use Rattle.rg_plan.specs.Named.{Node, node_at}
-use Rattle.rg_plan.specs.Plans.{Planned}
+use Rattle.rg_plan.specs.Plans.{Tasks}
 use Rattle.rg_plan.specs.Whole.{IsWhole}
 use Rattle.rg_state.specs.declared.table.Change.{Change}
 use Rattle.rg_state.specs.declared.table.Change.TheVariants.{Add, Remove}
@@ -65,7 +65,7 @@ side_edge window offset change is = side_by window offset change (window.delay =
 
 -- One node
 
-module _ (plan : Planned) (n : ℕ) (node : Node) (there : node_at plan n ≡ Some node) where
+module _ (plan : Tasks) (n : ℕ) (node : Node) (there : node_at plan n ≡ Some node) where
   pub at_edge_of : (offset : ℕ) → has_edge node.window offset ≡ true → HasEdge (node_at plan n) offset
   at_edge_of offset has = subst (λ o. HasEdge o offset) (sym there) has
 
@@ -132,7 +132,7 @@ module _ (plan : Planned) (n : ℕ) (node : Node) (there : node_at plan n ≡ So
 
 -- Any number, of a node or of none
 
-module _ (plan : Planned) (n : ℕ) {V F : Type 0} (step : V → ℕ → Event → Result Unit F → V → Type 0) (ok : V → Type 0) (cells_of : V → Cells) (nodes : ℕ → List Node) (are : nodes n ≡ one_or_none (node_at plan n))
+module _ (plan : Tasks) (n : ℕ) {V F : Type 0} (step : V → ℕ → Event → Result Unit F → V → Type 0) (ok : V → Type 0) (cells_of : V → Cells) (nodes : ℕ → List Node) (are : nodes n ≡ one_or_none (node_at plan n))
     (does : (v w : V) (edge : ℕ) (x : Event) → ok v → step v edge x (Ok tt) w → ok w × ((key : List ℕ) → Done key (slice_index_or plan.offsets edge 0) x (nodes n) (cells_of v n key) (cells_of w n key)))
     (told : ℕ → Type 0) (is_told : (edge offset : ℕ) → slice_get plan.offsets edge ≡ Some offset → HasEdge (node_at plan n) offset → told edge) where
   none_done : (key : List ℕ) (v w : V) (edge : ℕ) (x : Event) → node_at plan n ≡ None → ok v → step v edge x (Ok tt) w → ok w × (cells_of w n key ≡ cells_of v n key)

@@ -5,7 +5,7 @@ use Rattle.std.proofs.lemmas.List.Sums.{sum_by-cons}
 use Rattle.rg_event.specs.declared.event.Event.{Event}
 use Rattle.rg_metric.specs.declared.query.Window.{Window}
 use Rattle.rg_plan.specs.Nodes.{Filtered}
-use Rattle.rg_plan.specs.Plans.{Planned}
+use Rattle.rg_plan.specs.Plans.{Tasks}
 use Rattle.rg_engine.specs.Standing.{has_edge, edges_come, window_come, come, IsAtPosition}
 use Rattle.rg_engine.specs.Passed.{AreAtPositions, edge_passed, window_passed, passed_count}
 
@@ -29,7 +29,7 @@ module _ (front events : List Event) where
       (rises 0) (λ i. sym is i - sym was i) rest
       ∙ ap (λ n. ((if has_edge window offset then p else 0) + edges_come window offsets old) + n) (sym (sum_by-cons (λ o. if has_edge window o then edge_passed front events o else 0) offset offsets))
 
-  module _ (plan : Planned) (old new : List ℕ) (a : length old ≡ length plan.offsets) (b : length new ≡ length plan.offsets) (rises : (edge : ℕ) → get_or old edge 0 ≤ get_or new edge 0)
+  module _ (plan : Tasks) (old new : List ℕ) (a : length old ≡ length plan.offsets) (b : length new ≡ length plan.offsets) (rises : (edge : ℕ) → get_or old edge 0 ≤ get_or new edge 0)
       (stood : AreAtPositions plan front old) (stand : AreAtPositions plan events new) where
     window_went : (window : Option Window) → window_come window plan.offsets new ≡ window_come window plan.offsets old + window_passed window plan.offsets front events
     window_went None = refl

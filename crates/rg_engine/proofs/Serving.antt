@@ -9,17 +9,17 @@ use Rattle.rg_plan.specs.declared.node.GroupNode.{GroupNode}
 use Rattle.rg_plan.specs.declared.node.AggNode.{AggNode}
 use Rattle.rg_plan.specs.Named.{Node, under_agg, under_group, under_filter}
 use Rattle.rg_plan.specs.Nodes.{Filtered}
-use Rattle.rg_plan.specs.Plans.{Planned}
+use Rattle.rg_plan.specs.Plans.{Tasks}
 use Rattle.rg_engine.specs.Feeding.{Serves, IsServed, IsLasting}
 use Rattle.rg_engine.proofs.Plain.{none_some, same_some}
 
 -- where the window and the aggregator of a node stand
-record Seen (plan : Planned) (agg : Agg) (node : Node) : Type 0 where
+record Seen (plan : Tasks) (agg : Agg) (node : Node) : Type 0 where
   place : ℕ
   window : slice_get plan.windows place ≡ Some node.window
   asked : node.agg ≡ agg
 
-module _ (plan : Planned) (node : Node) where
+module _ (plan : Tasks) (node : Node) where
   by_window : (group : GroupNode) (agg : Agg) (filter : Filtered) (found : Option Window) → slice_get plan.windows filter.window ≡ found →
       option_map (λ window. let n : Node = record { window = window; condition = filter.condition; columns = group.columns; agg = agg } in n) found ≡ Some node → Seen plan agg node
   by_window group agg filter None e is = absurd (none_some is)
@@ -46,7 +46,7 @@ module _ (plan : Planned) (node : Node) where
 at_place : {A : Type 0} (P : A → Type 0) (xs : List A) (n : ℕ) (x : A) → All P xs → slice_get xs n ≡ Some x → P x
 at_place P xs n x all found = subst P (get_or_from_slice_get xs n x x found) (all n x (slice_get_within xs n x found))
 
-pub serves_from : (fields : List Field) (plan : Planned) → All (λ (node : AggNode). IsServed fields node.agg) plan.aggs → All IsLasting plan.windows → Serves fields plan
+pub serves_from : (fields : List Field) (plan : Tasks) → All (λ (node : AggNode). IsServed fields node.agg) plan.aggs → All IsLasting plan.windows → Serves fields plan
 serves_from fields plan served lasting = record {
   served = λ n node there.
       let k = by_agg plan node (slice_get plan.aggs n) there in

@@ -11,7 +11,7 @@ use Rattle.rg_metric.specs.declared.answer.Answer.{Answer}
 use Rattle.rg_metric.specs.Queries.{Asked}
 use Rattle.rg_metric.specs.Replies.{answers_to}
 use Rattle.rg_plan.specs.Named.{node_at}
-use Rattle.rg_plan.specs.Plans.{Planned, plan_for}
+use Rattle.rg_plan.specs.Plans.{Tasks, plan_for}
 use Rattle.rg_plan.specs.Whole.{IsWhole}
 use Rattle.rg_state.specs.Rows.{Cells, Same}
 use Rattle.rg_window.specs.Placed.{Placed, AreWithin, IsSpelledAt, numbers_of}
@@ -34,22 +34,22 @@ last_of (x ∷ []) e = refl
 last_of (x ∷ (y ∷ events)) e = last_of (y ∷ events) e
 
 -- a node stands over equal rows
-pub stands_same : (plan : Planned) (n : ℕ) (events : List Event) (cells cells' : Cells) (numbers : List ℕ) → Same cells cells' → NodeStands plan n events cells numbers → NodeStands plan n events cells' numbers
+pub stands_same : (plan : Tasks) (n : ℕ) (events : List Event) (cells cells' : Cells) (numbers : List ℕ) → Same cells cells' → NodeStands plan n events cells numbers → NodeStands plan n events cells' numbers
 stands_same plan n events cells cells' numbers same stands = record {
   rows = λ key. subst (λ row. RowIs (node_at plan n) key (last_time events) events row) (sym (same n key)) (stands.rows key);
   places = stands.places;
 }
 
-pub stands_events : (plan : Planned) (n : ℕ) (events events' : List Event) (cells : Cells) (numbers : List ℕ) → events' ≡ events → NodeStands plan n events cells numbers → NodeStands plan n events' cells numbers
+pub stands_events : (plan : Tasks) (n : ℕ) (events events' : List Event) (cells : Cells) (numbers : List ℕ) → events' ≡ events → NodeStands plan n events cells numbers → NodeStands plan n events' cells numbers
 stands_events plan n events events' cells numbers e stands = subst (λ all. NodeStands plan n all cells numbers) (sym e) stands
 
 -- the row of a node that stands
-pub row_stands : (plan : Planned) (n : ℕ) (events all : List Event) (t : ℕ) (cells : Cells) (numbers : List ℕ) → events ≡ all → last_time all ≡ t → NodeStands plan n events cells numbers → (key : List ℕ) → RowIs (node_at plan n) key t all (cells n key)
+pub row_stands : (plan : Tasks) (n : ℕ) (events all : List Event) (t : ℕ) (cells : Cells) (numbers : List ℕ) → events ≡ all → last_time all ≡ t → NodeStands plan n events cells numbers → (key : List ℕ) → RowIs (node_at plan n) key t all (cells n key)
 row_stands plan n events all t cells numbers e last stands key =
     subst (λ u. RowIs (node_at plan n) key u all (cells n key)) last (subst (λ xs. RowIs (node_at plan n) key (last_time xs) xs (cells n key)) e (stands.rows key))
 
 -- what a past spells, a later one does
-pub told_later : (plan : Planned) (n : ℕ) (Spells Later : Spot → Type 0) (spots : List Spot) → ((spot : Spot) → Spells spot → Later spot) → IsTold plan n Spells spots → IsTold plan n Later spots
+pub told_later : (plan : Tasks) (n : ℕ) (Spells Later : Spot → Type 0) (spots : List Spot) → ((spot : Spot) → Spells spot → Later spot) → IsTold plan n Spells spots → IsTold plan n Later spots
 told_later plan n Spells Later spots goes told = λ edge offset is has. let k = told edge offset is has in (k.0, k.1, goes k.0 k.2)
 
 pub spelled_later : (Spells Later : Spot → Type 0) (spots : List Spot) (edge : ℕ) → ((spot : Spot) → Spells spot → Later spot) → IsSpelledAt Spells spots edge → IsSpelledAt Later spots edge
@@ -65,11 +65,11 @@ spelled_at Spells spots offsets edge offset same all is =
     (get_or spots edge no_spot, slice_get-get_or spots edge no_spot below, all edge no_spot below)
 
 -- and so are those of each node
-pub all_told : (plan : Planned) (n : ℕ) (Spells : Spot → Type 0) (spots : List Spot) → length spots ≡ length plan.offsets → All Spells spots → IsTold plan n Spells spots
+pub all_told : (plan : Tasks) (n : ℕ) (Spells : Spot → Type 0) (spots : List Spot) → length spots ≡ length plan.offsets → All Spells spots → IsTold plan n Spells spots
 all_told plan n Spells spots same all = λ edge offset is has. spelled_at Spells spots plan.offsets edge offset same all is
 
 -- as many spots as offsets, also seen by their numbers
-pub numbers_same : (plan : Planned) (edges : Placed) (spots : List Spot) (parts : List FilterPart) (nodes : List ℕ) (keys : List (List ℕ)) → IsBuilt plan edges parts nodes keys → length spots ≡ length edges.spots → length (numbers_of spots) ≡ length plan.offsets
+pub numbers_same : (plan : Tasks) (edges : Placed) (spots : List Spot) (parts : List FilterPart) (nodes : List ℕ) (keys : List (List ℕ)) → IsBuilt plan edges parts nodes keys → length spots ≡ length edges.spots → length (numbers_of spots) ≡ length plan.offsets
 numbers_same plan edges spots parts nodes keys built same = length-map spots (λ (spot : Spot). spot.number) ∙ same ∙ built.same ∙ ap length built.offsets
 
 -- the events in front, and one event more
@@ -77,7 +77,7 @@ pub front_and_more : (events all front more : List Event) (e : Event) → all �
 front_and_more events all front more e is f = is ∙ ap (λ xs. xs ++ e ∷ []) f ∙ append_assoc front more (e ∷ [])
 
 -- a node that could be carried on to one event more can be so once that is appended
-pub carried_on : (plan : Planned) (n : ℕ) (is_sound later_sound : Type 0) (Spells Later : Spot → Type 0) (is_told : Type 0) (events new first : List Event) (e : Event) (cells : Cells) (spots : List Spot) → new ≡ events ++ e ∷ [] → (is_sound → later_sound) → (is_sound → (spot : Spot) → Spells spot → Later spot) →
+pub carried_on : (plan : Tasks) (n : ℕ) (is_sound later_sound : Type 0) (Spells Later : Spot → Type 0) (is_told : Type 0) (events new first : List Event) (e : Event) (cells : Cells) (spots : List Spot) → new ≡ events ++ e ∷ [] → (is_sound → later_sound) → (is_sound → (spot : Spot) → Spells spot → Later spot) →
     CarriesOn plan n is_sound Spells is_told events (events ++ e ∷ []) first cells spots → CarriesOn plan n later_sound Later is_told new new first cells spots
 carried_on plan n is_sound later_sound Spells Later is_told events new first e cells spots is sound later on = record {
   sound = sound on.sound;
@@ -123,7 +123,7 @@ all_last P [] e all = All-head P e [] all
 all_last P (x ∷ events) e all = all_last P events e (All-tail P x (events ++ e ∷ []) all)
 
 -- the answers of the nodes are those of the queries
-pub answers_are : (queries : List Asked) (plan : Planned) (events : List Event) (e : Event) (nodes : List ℕ) (answers : List Answer) → plan ≡ plan_for queries → IsFed plan (events ++ e ∷ []) → nodes ≡ nodes_asked plan →
+pub answers_are : (queries : List Asked) (plan : Tasks) (events : List Event) (e : Event) (nodes : List ℕ) (answers : List Answer) → plan ≡ plan_for queries → IsFed plan (events ++ e ∷ []) → nodes ≡ nodes_asked plan →
     answers ≡ [] ++ node_answers plan (events ++ e ∷ []) e nodes → answers ≡ answers_to queries (events ++ e ∷ []) e
 answers_are queries plan events e nodes answers is fed asked made =
     made ∙ ap (node_answers plan (events ++ e ∷ []) e) asked
@@ -134,11 +134,11 @@ flat_all P [] all = All-nil P
 flat_all P (path ∷ paths) all = All-append P path (flat_map (λ p. p) paths) (All-head (All P) path paths all) (flat_all P paths (All-tail (All P) path paths all))
 
 -- each number of a query's node is that of a node
-pub asked_within : (plan : Planned) (nodes : List ℕ) → IsWhole plan → nodes ≡ nodes_asked plan → All (λ n. n < length plan.aggs) nodes
+pub asked_within : (plan : Tasks) (nodes : List ℕ) → IsWhole plan → nodes ≡ nodes_asked plan → All (λ n. n < length plan.aggs) nodes
 asked_within plan nodes whole asked = subst (All (λ n. n < length plan.aggs)) (sym asked) (flat_all (λ n. n < length plan.aggs) plan.paths whole.paths)
 
 -- a plan stays built where its edges go on and its tree stays
-pub built_on : (plan : Planned) (old new : Placed) (parts parts' : List FilterPart) (nodes : List ℕ) (keys keys' : List (List ℕ)) → IsBuilt plan old parts nodes keys → new.offsets ≡ old.offsets → length new.spots ≡ length old.spots → parts' ≡ parts → length keys' ≡ length keys →
+pub built_on : (plan : Tasks) (old new : Placed) (parts parts' : List FilterPart) (nodes : List ℕ) (keys keys' : List (List ℕ)) → IsBuilt plan old parts nodes keys → new.offsets ≡ old.offsets → length new.spots ≡ length old.spots → parts' ≡ parts → length keys' ≡ length keys →
     IsBuilt plan new parts' nodes keys'
 built_on plan old new parts parts' nodes keys keys' built offsets same tree each = record {
   whole = built.whole;

@@ -5,7 +5,7 @@ use Rattle.std.proofs.lemmas.List.Sums.{sum_by-append, sum_by-cons}
 use Rattle.rg_event.specs.declared.event.Event.{Event}
 use Rattle.rg_metric.specs.declared.query.Window.{Window}
 use Rattle.rg_plan.specs.Nodes.{Filtered}
-use Rattle.rg_plan.specs.Plans.{Planned}
+use Rattle.rg_plan.specs.Plans.{Tasks}
 use Rattle.rg_window.specs.Passing.{at_edge, edge_by_edge}
 use Rattle.rg_engine.specs.declared.part.FilterPart.{FilterPart}
 use Rattle.rg_engine.specs.Standing.{has_edge, edges_come, window_come, come}
@@ -99,14 +99,14 @@ sum_by-map f g [] = refl
 sum_by-map f g (x ∷ xs) = let k = sum_by-map f g xs in let a = sum_by-cons f (g x) (map g xs) in let b = sum_by-cons (λ x. f (g x)) x xs in omega arith
 
 -- the edges of all filter nodes' windows, by the tree
-come_parts : (plan : Planned) (numbers : List ℕ) (parts : List FilterPart) → map (λ (part : FilterPart). Some part.window) parts ≡ windows_seen plan → come plan numbers ≡ parts_come plan.offsets numbers parts
+come_parts : (plan : Tasks) (numbers : List ℕ) (parts : List FilterPart) → map (λ (part : FilterPart). Some part.window) parts ≡ windows_seen plan → come plan numbers ≡ parts_come plan.offsets numbers parts
 come_parts plan numbers parts windows =
     sym (sum_by-map (λ window. window_come window plan.offsets numbers) (λ (filter : Filtered). slice_get plan.windows filter.window) plan.filters)
     ∙ ap (λ seen. sum_by (λ window. window_come window plan.offsets numbers) seen) (sym windows)
     ∙ sum_by-map (λ window. window_come window plan.offsets numbers) (λ (part : FilterPart). Some part.window) parts
 
 -- as many steps as the edges went on
-pub all_ticks : (plan : Planned) (parts : List FilterPart) (old new : List ℕ) (passes : List (List Event)) (before after : ℕ) →
+pub all_ticks : (plan : Tasks) (parts : List FilterPart) (old new : List ℕ) (passes : List (List Event)) (before after : ℕ) →
     map (λ (part : FilterPart). Some part.window) parts ≡ windows_seen plan → length old ≡ length plan.offsets → length new ≡ length plan.offsets → length passes ≡ length plan.offsets →
     ((i : ℕ) → get_or new i 0 ≡ get_or old i 0 + length (get_or passes i [])) → after ≡ before + sum_by (λ (visit : ℕ × Event). ticks_at (get_or plan.offsets visit.0 0) parts) (edge_by_edge 0 passes) →
     after + come plan old ≡ before + come plan new

@@ -6,7 +6,7 @@ use Rattle.rg_bytes.specs.Counts.{Rose}
 use Rattle.rg_event.specs.declared.event.Event.{Event}
 use Rattle.rg_event.specs.Rising.{last_time, IsRising}
 use Rattle.rg_plan.specs.Named.{Node, node_at}
-use Rattle.rg_plan.specs.Plans.{Planned}
+use Rattle.rg_plan.specs.Plans.{Tasks}
 use Rattle.rg_plan.specs.Whole.{IsWhole}
 use Rattle.rg_state.specs.Rows.{Cells}
 use Rattle.rg_state.specs.declared.table.TableFault.{TableFault}
@@ -73,7 +73,7 @@ module _ {V O N M P : Type 0} (v0 : V) (offsets_of : V → O) (list_of : O → L
       let l = k.later in
       omega (arith, r)
 
-  module _ (plan : Planned) (parts : P) (are : ArePartsOf plan (items_of parts)) where
+  module _ (plan : Tasks) (parts : P) (are : ArePartsOf plan (items_of parts)) where
     abbrev ok_at : V → Type 0
     ok_at v = (list_of (offsets_of v) ≡ plan.offsets) × (parts_of v ≡ parts) × told_of v
 

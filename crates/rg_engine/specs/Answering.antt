@@ -8,7 +8,7 @@ use Rattle.rg_metric.specs.Replies.{key_of}
 use Rattle.rg_group.specs.Keys.{key_bytes}
 use Rattle.rg_plan.specs.declared.node.GroupNode.{GroupNode}
 use Rattle.rg_plan.specs.Named.{Node, node_at}
-use Rattle.rg_plan.specs.Plans.{Planned}
+use Rattle.rg_plan.specs.Plans.{Tasks}
 use Rattle.rg_engine.specs.Windows.{node_values}
 
 -- the key of the event e at each group node
@@ -21,9 +21,9 @@ node_answer events e None = Dash
 node_answer events e (Some node) = answer_of node.agg.func (node_values node (key_bytes (key_of node.columns e)) e.time events)
 
 -- the same, of each of the nodes of these numbers
-abbrev pub node_answers : Planned → List Event → Event → List ℕ → List Answer
+abbrev pub node_answers : Tasks → List Event → Event → List ℕ → List Answer
 node_answers plan events e nodes = map (λ n. node_answer events e (node_at plan n)) nodes
 
 -- the numbers of the nodes of all queries, in order
-abbrev pub nodes_asked : Planned → List ℕ
+abbrev pub nodes_asked : Tasks → List ℕ
 nodes_asked plan = flat_map (λ path. path) plan.paths

@@ -3,7 +3,7 @@ use Rattle.std.specs.Prelude.{◌≡◌, ◌⊎◌, ℕ, ◌≤◌, Bool, true, 
 use Rattle.rg_event.specs.declared.event.Event.{Event}
 use Rattle.rg_past.specs.declared.past.Spot.{Spot}
 use Rattle.rg_past.specs.declared.past.PastFault.TheVariants as past
-use Rattle.rg_plan.specs.Plans.{Planned}
+use Rattle.rg_plan.specs.Plans.{Tasks}
 use Rattle.rg_state.specs.Rows.{Cells}
 use Rattle.rg_window.specs.Placed.{AreWithin, IsSpelledAt, numbers_of}
 use Rattle.rg_engine.specs.declared.fault.EngineFault.{EngineFault}
@@ -13,7 +13,7 @@ use Rattle.rg_engine.specs.Standing.{IsTold, NodeStands}
 
 -- One node by itself can be carried on: the past is sound and spells the spots of the node's edges, the table tells its rows, all events that are to
 -- come to an edge are of columns that serve the plan, and the node stood for the first ones of the events so far.
-pub record CarriesOn (plan : Planned) (n : ℕ) (is_sound : Type 0) (Spells : Spot → Type 0) (is_told : Type 0) (events all first : List Event) (cells : Cells) (spots : List Spot) : Type 0 where
+pub record CarriesOn (plan : Tasks) (n : ℕ) (is_sound : Type 0) (Spells : Spot → Type 0) (is_told : Type 0) (events all first : List Event) (cells : Cells) (spots : List Spot) : Type 0 where
   pub sound : is_sound
   pub spelled : IsTold plan n Spells spots
   pub tells : is_told

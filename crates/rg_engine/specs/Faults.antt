@@ -1,5 +1,5 @@
 -- What the faults of a table and of a move are called.
-use Rattle.std.specs.Prelude.{◌≡◌, ◌⊎◌, Result, Ok, Err}
+use Rattle.std.specs.Prelude.{◌≡◌, ◌⊎◌, ◌×◌, Result, Ok, Err, IsErrOf}
 use Rattle.rg_past.specs.declared.past.PastFault.TheVariants as past
 use Rattle.rg_state.specs.declared.table.TableFault.{TableFault}
 use Rattle.rg_state.specs.declared.table.TableFault.TheVariants as table
@@ -21,3 +21,8 @@ move_fault_of (move.Visit cause) = table_fault_of cause
 abbrev pub WantsMemory : {A : Type 0} → Result A EngineFault → Type 0
 WantsMemory (Ok answer) = ⊥
 WantsMemory (Err cause) = (cause ≡ fault.Memory) ⊎ (cause ≡ fault.Past past.Memory)
+
+-- A past that had ended always refuses, and one that hadn't and is full too: each by its cause, or else for want of memory.
+abbrev pub RefusesAlways : {A : Type 0} → Type 0 → Type 0 → Result A EngineFault → Type 0
+RefusesAlways had_ended is_full result = (had_ended → IsErrOf result (fault.Past past.Ended) ⊎ WantsMemory result)
+    × ((had_ended → ⊥) → is_full → IsErrOf result (fault.Past past.Full) ⊎ WantsMemory result)

@@ -9,7 +9,7 @@ use Rattle.rg_words.specs.declared.func.Func.TheVariants.{Count}
 use Rattle.rg_metric.specs.declared.query.Agg.{Agg}
 use Rattle.rg_metric.specs.declared.query.Window.{Window}
 use Rattle.rg_plan.specs.Named.{Node, node_at}
-use Rattle.rg_plan.specs.Plans.{Planned}
+use Rattle.rg_plan.specs.Plans.{Tasks}
 use Rattle.rg_state.specs.Takes.{Takes}
 
 -- the aggregator's column, counted from 1, is one of these, and each value of its kind is one that the function takes
@@ -29,12 +29,12 @@ abbrev pub IsLasting : Window → Type 0
 IsLasting window = ForSome window.length (λ length. 0 < length)
 
 -- each aggregator of a plan is served by these columns, and each window that ends lasts
-pub record Serves (fields : List Field) (plan : Planned) : Type 0 where
+pub record Serves (fields : List Field) (plan : Tasks) : Type 0 where
   pub served : (n : ℕ) (node : Node) → node_at plan n ≡ Some node → IsServed fields node.agg
   pub lasting : (n : ℕ) (node : Node) → node_at plan n ≡ Some node → IsLasting node.window
 
 -- the events are of one schema, whose columns serve the plan
-pub record IsFed (plan : Planned) (events : List Event) : Type 0 where
+pub record IsFed (plan : Tasks) (events : List Event) : Type 0 where
   pub fields : List Field
   pub serves : Serves fields plan
   pub are : All (IsEventOf fields) events

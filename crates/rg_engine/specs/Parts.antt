@@ -7,7 +7,7 @@ use Rattle.rg_plan.specs.declared.node.GroupNode.{GroupNode}
 use Rattle.rg_plan.specs.declared.node.AggNode.{AggNode}
 use Rattle.rg_plan.specs.Named.{Node, node_at}
 use Rattle.rg_plan.specs.Nodes.{Filtered}
-use Rattle.rg_plan.specs.Plans.{Planned}
+use Rattle.rg_plan.specs.Plans.{Tasks}
 use Rattle.rg_engine.specs.declared.part.FilterPart.{FilterPart}
 use Rattle.rg_engine.specs.declared.part.GroupPart.{GroupPart}
 use Rattle.rg_engine.specs.declared.part.AggPart.{AggPart}
@@ -37,11 +37,11 @@ one_or_none None = []
 one_or_none (Some node) = node ∷ []
 
 -- the window of each filter node, where it is there
-abbrev pub windows_seen : Planned → List (Option Window)
+abbrev pub windows_seen : Tasks → List (Option Window)
 windows_seen plan = map (λ (filter : Filtered). slice_get plan.windows filter.window) plan.filters
 
 -- the tree has each node of the plan once, under its number, and no other; and its windows are those of the filter nodes, in order
-pub record ArePartsOf (plan : Planned) (filters : List FilterPart) : Type 0 where
+pub record ArePartsOf (plan : Tasks) (filters : List FilterPart) : Type 0 where
   pub nodes : (n : ℕ) → nodes_numbered n filters ≡ one_or_none (node_at plan n)
   pub windows : map (λ (part : FilterPart). Some part.window) filters ≡ windows_seen plan
 

@@ -4,12 +4,12 @@ use Rattle.rg_event.specs.declared.event.Event.{Event}
 use Rattle.rg_metric.specs.declared.query.Window.{Window}
 use Rattle.rg_event.specs.Rising.{last_time}
 use Rattle.rg_plan.specs.Nodes.{Filtered}
-use Rattle.rg_plan.specs.Plans.{Planned}
+use Rattle.rg_plan.specs.Plans.{Tasks}
 use Rattle.rg_engine.specs.Windows.{position}
 use Rattle.rg_engine.specs.Standing.{has_edge, IsAtPosition}
 
 -- each edge of the plan is at its position in these events
-abbrev pub AreAtPositions : Planned → List Event → List ℕ → Type 0
+abbrev pub AreAtPositions : Tasks → List Event → List ℕ → Type 0
 AreAtPositions plan events numbers = (edge offset : ℕ) → slice_get plan.offsets edge ≡ Some offset → IsAtPosition events numbers edge offset
 
 -- by the edge of an offset, each time at the time of the last event
@@ -22,5 +22,5 @@ window_passed None offsets front events = 0
 window_passed (Some window) offsets front events = sum_by (λ offset. if has_edge window offset then edge_passed front events offset else 0) offsets
 
 -- for each filter node by the edges of its window, in all
-abbrev pub passed_count : Planned → List Event → List Event → ℕ
+abbrev pub passed_count : Tasks → List Event → List Event → ℕ
 passed_count plan front events = sum_by (λ (filter : Filtered). window_passed (slice_get plan.windows filter.window) plan.offsets front events) plan.filters

@@ -7,7 +7,7 @@ use Rattle.rg_event.specs.Rising.{last_time}
 use Rattle.rg_agg.specs.Held.{Held}
 use Rattle.rg_plan.specs.Named.{Node, node_at}
 use Rattle.rg_plan.specs.Nodes.{Filtered}
-use Rattle.rg_plan.specs.Plans.{Planned}
+use Rattle.rg_plan.specs.Plans.{Tasks}
 use Rattle.rg_state.specs.Rows.{Cells, RowStands}
 use Rattle.rg_window.specs.Placed.{IsSpelledAt}
 use Rattle.rg_engine.specs.Windows.{node_values, position}
@@ -32,7 +32,7 @@ HasEdge None offset = ⊥
 HasEdge (Some node) offset = has_edge node.window offset ≡ true
 
 -- each edge of the node's window stands at a spot that is spelled
-abbrev pub IsTold : Planned → ℕ → (Spot → Type 0) → List Spot → Type 0
+abbrev pub IsTold : Tasks → ℕ → (Spot → Type 0) → List Spot → Type 0
 IsTold plan n Spells spots = (edge offset : ℕ) → slice_get plan.offsets edge ≡ Some offset → HasEdge (node_at plan n) offset → IsSpelledAt Spells spots edge
 
 -- the edge of that index is where one of that offset stands at the time of the last event
@@ -40,7 +40,7 @@ abbrev pub IsAtPosition : List Event → List ℕ → ℕ → ℕ → Type 0
 IsAtPosition events numbers edge offset = slice_index_or numbers edge 0 ≡ position events (last_time events) offset
 
 -- one node by itself: its rows, by key, stand for these events, and each edge of its window is at its position
-pub record NodeStands (plan : Planned) (n : ℕ) (events : List Event) (cells : Cells) (numbers : List ℕ) : Type 0 where
+pub record NodeStands (plan : Tasks) (n : ℕ) (events : List Event) (cells : Cells) (numbers : List ℕ) : Type 0 where
   pub rows : (key : List ℕ) → RowIs (node_at plan n) key (last_time events) events (cells n key)
   pub places : (edge offset : ℕ) → slice_get plan.offsets edge ≡ Some offset → HasEdge (node_at plan n) offset → IsAtPosition events numbers edge offset
 
@@ -55,5 +55,5 @@ window_come None offsets numbers = 0
 window_come (Some window) offsets numbers = edges_come window offsets numbers
 
 -- how far the edges of each filter node's window have come, in all
-abbrev pub come : Planned → List ℕ → ℕ
+abbrev pub come : Tasks → List ℕ → ℕ
 come plan numbers = sum_by (λ (filter : Filtered). window_come (slice_get plan.windows filter.window) plan.offsets numbers) plan.filters

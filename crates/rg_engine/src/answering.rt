@@ -3,7 +3,7 @@ ghost use Rattle.rg_bytes.specs.Counts.{Rose};
 ghost use Rattle.rg_event.specs.declared.event.Event.{Event};
 ghost use Rattle.rg_plan.specs.declared.node.AggNode.{AggNode};
 ghost use Rattle.rg_plan.specs.Named.{node_at};
-ghost use Rattle.rg_plan.specs.Plans.{Planned};
+ghost use Rattle.rg_plan.specs.Plans.{Tasks};
 ghost use Rattle.rg_plan.specs.Whole.{IsWhole};
 ghost use Rattle.rg_state.specs.Rows.{Same};
 ghost use Rattle.rg_engine.specs.Answering.{keys_for, node_answers};
@@ -58,12 +58,12 @@ pub(crate) fn answer_each<T: Table>(
     requires room { length answers.old.items + length nodes.now ≤ vec_capacity answers.old }
     requires nodes { All (λ node. node < length aggs.now) nodes.now }
     requires groups { All (λ (agg : AggNode). agg.group < length keys.now) aggs.now }
-    ensures answers { T.tells table.old → (plan : Planned) (events : List Event) (e : Event) → IsWhole plan →
+    ensures answers { T.tells table.old → (plan : Tasks) (events : List Event) (e : Event) → IsWhole plan →
         plan.aggs ≡ aggs.now → keys.now ≡ keys_for plan.groups e →
         ((n : ℕ) (key : List ℕ) → RowIs (node_at plan n) key e.time events (T.cell table.old n key)) →
         OnOk result (answers.new.items ≡ answers.old.items ++ node_answers plan events e nodes.now) }
     ensures bad { (n : ℕ) → IsErrOf result (TableFault.BadState n) → T.tells table.old →
-        (plan : Planned) (events : List Event) (e : Event) → IsWhole plan → plan.aggs ≡ aggs.now →
+        (plan : Tasks) (events : List Event) (e : Event) → IsWhole plan → plan.aggs ≡ aggs.now →
         ((key : List ℕ) → RowIs (node_at plan n) key e.time events (T.cell table.old n key)) → ⊥ }
     ensures same { T.tells table.old → Same (T.cell table.old) (T.cell table.new) }
     ensures disk { IsErrOf result TableFault.Disk → Rose (T.faults table.old) (T.faults table.new) }

@@ -12,7 +12,7 @@ ghost use Rattle.rg_state.specs.Keeping.{TableKept};
 ghost use Rattle.rg_window.specs.Placed.{AreWithin, IsSpelledAt, numbers_of};
 ghost use Rattle.rg_engine.specs.contracts.engine.Engine.{the_row};
 ghost use Rattle.rg_engine.specs.Carrying.{CarriesOn, EdgesMove, Appends, ends_by};
-ghost use Rattle.rg_engine.specs.Faults.{WantsMemory};
+ghost use Rattle.rg_engine.specs.Faults.{WantsMemory, RefusesAlways};
 ghost use Rattle.rg_engine.specs.Passed.{AreAtPositions, passed_count};
 ghost use Rattle.rg_engine.specs.Standing.{IsAtPosition, NodeStands, come};
 
@@ -150,10 +150,7 @@ impl<T: Table> Engine<T> {
         ensures below { OnOk result (length (P.events past.old) < P.limit past.old) }
         ensures full { IsErrOf result (EngineFault.Past PastFault.Full) →
             (self.new ≡ self.old) × (steps.new ≡ steps.old) × (P.events past.new ≡ P.events past.old) × P.has_room past.new }
-        ensures full_always { self.old.ended ≡ false → (P.ended past.old → ⊥) → P.limit past.old ≤ length (P.events past.old) →
-            IsErrOf result (EngineFault.Past PastFault.Full) ⊎ WantsMemory result }
-        ensures ended_always { self.old.ended ≡ false → P.ended past.old →
-            IsErrOf result (EngineFault.Past PastFault.Ended) ⊎ WantsMemory result }
+        ensures always { self.old.ended ≡ false → RefusesAlways (P.ended past.old) (P.limit past.old ≤ length (P.events past.old)) result }
         ensures cause { (fault : PastFault) → IsErrOf result (EngineFault.Past fault) →
             HasCause (P.illegal past.new) (P.limit past.old ≤ length (P.events past.old)) (P.ended past.old)
             (P.faults past.old) (P.faults past.new) fault }

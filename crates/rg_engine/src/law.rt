@@ -5,8 +5,8 @@ ghost use Rattle.rg_event.specs.declared.event.Event.{Event};
 ghost use Rattle.rg_event.specs.declared.schema.Field.{Field};
 ghost use Rattle.rg_metric.specs.Queries.{Asked};
 ghost use Rattle.rg_plan.specs.declared.node.AggNode.{AggNode};
-ghost use Rattle.rg_plan.specs.Plans.{Planned, plan_for};
-ghost use Rattle.rg_query.specs.Legal.{IsLegal};
+ghost use Rattle.rg_plan.specs.Plans.{Tasks, plan_for};
+ghost use Rattle.rg_query.specs.Legal.{IsLegalQuery};
 ghost use Rattle.rg_engine.specs.Feeding.{Serves, IsFed, IsServed, IsLasting};
 
 /// The columns of a schema serve the plan of queries that are legal over it, and so do events of those
@@ -14,9 +14,9 @@ ghost use Rattle.rg_engine.specs.Feeding.{Serves, IsFed, IsServed, IsLasting};
 #[tactic(auto, using(crate::proofs::Serving::serves_from, crate::proofs::Legal::serves))]
 pub fn law_serves()
     // Columns serve a plan where they serve each of its aggregators, and each of its windows that ends lasts.
-    ensures parts { (fields : List Field) (plan : Planned) → All (λ (node : AggNode). IsServed fields node.agg) plan.aggs →
+    ensures parts { (fields : List Field) (plan : Tasks) → All (λ (node : AggNode). IsServed fields node.agg) plan.aggs →
         All IsLasting plan.windows → Serves fields plan }
-    ensures legal { (shape : Shape) (queries : List Asked) → All (IsLegal shape) queries → Serves shape.fields (plan_for queries) }
-    ensures fed { (shape : Shape) (queries : List Asked) (events : List Event) → All (IsLegal shape) queries →
+    ensures legal { (shape : Shape) (queries : List Asked) → All (IsLegalQuery shape) queries → Serves shape.fields (plan_for queries) }
+    ensures fed { (shape : Shape) (queries : List Asked) (events : List Event) → All (IsLegalQuery shape) queries →
         All (IsEventOf shape.fields) events → IsFed (plan_for queries) events }
 {}

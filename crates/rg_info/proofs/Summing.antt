@@ -8,7 +8,7 @@ use Rattle.rg_chunk.specs.Heads.{head_for, last_stamp}
 use Rattle.rg_chunk.specs.declared.head.ChunkHead.{ChunkHead}
 use Rattle.rg_chunk.proofs.Chunks.{chunk_head}
 use Rattle.rg_reservoir.specs.Heads.{nothing, may_follow, added, told_by}
-use Rattle.rg_reservoir.specs.Walked.{place_of, schema_of as known_of, tally_of, IsNext, IsRefused}
+use Rattle.rg_reservoir.specs.Walked.{place_of, schema_of as known_of, tally_of, IsNext, IsRefusedWalk}
 use Rattle.rg_reservoir.specs.declared.heads.Tally.{Tally}
 use Rattle.rg_reservoir.specs.declared.walk.Stage.{Stage}
 use Rattle.rg_reservoir.specs.declared.walk.Stage.TheVariants as stage
@@ -106,7 +106,7 @@ summed_end bytes walk summary so_far closed =
     (so_far.is ∙ ap summary_of (sym e.0), e.1)
 
 -- and at a damaged place it tells nothing
-pub summed_damage : (bytes : List ℕ) (walk : Walk) (summary : Summary) → IsSummed bytes walk summary → IsRefused bytes walk → damage_of bytes ≡ Some (place_of walk)
+pub summed_damage : (bytes : List ℕ) (walk : Walk) (summary : Summary) → IsSummed bytes walk summary → IsRefusedWalk bytes walk → damage_of bytes ≡ Some (place_of walk)
 summed_damage bytes walk summary so_far refused = (at_damage bytes walk so_far.stages so_far.at refused).1
 
 -- each frame counts once

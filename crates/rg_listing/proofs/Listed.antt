@@ -4,14 +4,14 @@ use Rattle.std.proofs.lemmas.List.{append-nil, drop_all}
 use Rattle.rg_event.specs.Shapes.{Shape}
 use Rattle.rg_host.specs.Lines.{ended}
 use Rattle.rg_plan.specs.Offsets.{IsMeasured}
-use Rattle.rg_plan.specs.Plans.{Planned as TaskPlanned}
+use Rattle.rg_plan.specs.Plans.{Tasks as TaskPlanned}
 use Rattle.rg_plan.proofs.Sizes.{windows_measured}
 use Rattle.rg_query.specs.Printing.{query_text}
 use Rattle.rg_config.specs.Plans.{planned}
 use Rattle.rg_config.specs.declared.plan.Plan.{Plan}
 use Rattle.rg_config.proofs.Legal.{measured}
 use Rattle.rg_listing.specs.Listing.{numbered, query_line, offset_line, window_line, filter_line, group_line, agg_line, task_text, check_text}
-use Rattle.rg_config.specs.Read.{IsRead}
+use Rattle.rg_config.specs.Read.{IsReadPlan}
 use Rattle.rg_host.proofs.Endings.{ended-append}
 
 -- the line of one member, and those of the others
@@ -56,12 +56,12 @@ task_listed shape task old offsets windows filters groups new a b c d e =
         y ∙ (ap (λ v. v ++ ended more) x ∙ (append_assoc first (ended lines) (ended more) ∙ ap (λ v. first ++ v) (sym (ended-append lines more))))
 
 -- the plan's windows are at most 10^15 milliseconds
-pub windows_are : (plan : Plan) → IsRead plan → All IsMeasured plan.task.windows
+pub windows_are : (plan : Plan) → IsReadPlan plan → All IsMeasured plan.task.windows
 windows_are plan read =
     subst (λ (task : TaskPlanned). All IsMeasured task.windows) (sym read.task) (windows_measured (planned plan).queries (measured plan.schema (planned plan).queries read.legal))
 
 -- all lines, those of the queries and then those of the task plan
-pub listed : (plan : Plan) (old mid new : List ℕ) → IsRead plan → mid ≡ old ++ ended (numbered query_line 0 plan.queries) → new ≡ mid ++ ended (task_text plan.schema plan.task) → new ≡ old ++ ended (check_text (planned plan))
+pub listed : (plan : Plan) (old mid new : List ℕ) → IsReadPlan plan → mid ≡ old ++ ended (numbered query_line 0 plan.queries) → new ≡ mid ++ ended (task_text plan.schema plan.task) → new ≡ old ++ ended (check_text (planned plan))
 listed plan old mid new read first second =
     second
     ∙ ap (λ v. v ++ ended (task_text plan.schema plan.task)) first

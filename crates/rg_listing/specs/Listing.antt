@@ -7,7 +7,7 @@ use Rattle.rg_metric.specs.declared.query.Window.{Window}
 use Rattle.rg_plan.specs.declared.node.GroupNode.{GroupNode}
 use Rattle.rg_plan.specs.declared.node.AggNode.{AggNode}
 use Rattle.rg_plan.specs.Nodes.{Filtered}
-use Rattle.rg_plan.specs.Plans.{Planned as TaskPlanned, plan_for}
+use Rattle.rg_plan.specs.Plans.{Tasks as TaskPlanned, plan_for}
 use Rattle.rg_query.specs.Printing.{name_at, condition_text, agg_text, query_text}
 use Rattle.rg_config.specs.Plans.{Planned}
 

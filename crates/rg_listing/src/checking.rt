@@ -5,7 +5,7 @@ ghost use Rattle.rg_host.specs.Lines.{ended};
 ghost use Rattle.rg_host.specs.Moments.{LeavesFiles};
 ghost use Rattle.rg_host.specs.Puts.{Puts};
 ghost use Rattle.rg_listing.specs.Listing.{check_text};
-ghost use Rattle.rg_config.specs.Read.{IsRead};
+ghost use Rattle.rg_config.specs.Read.{IsReadPlan};
 ghost use Rattle.rg_listing.specs.Stops.{StopsAt};
 
 use crate::fault::CheckFault;
@@ -18,7 +18,7 @@ use std::alloc::Global;
 /// Puts the queries of a plan out as they are printed, and then its task plan, a line each. All
 /// lines are written before the first is put.
 pub fn check<H: Host>(alloc: Global, plan: &Plan, host: &mut H) -> Result<(), CheckFault>
-    requires read { IsRead plan.now }
+    requires read { IsReadPlan plan.now }
     ensures completes { OnOk result (Puts H.said H.clock H.since host.old host.new (ended (check_text (planned plan.now)))) }
     ensures stops { IfErr result (λ fault. (put : List ℕ) × Puts H.said H.clock H.since host.old host.new put × StopsAt (fault ≡ CheckFault.Write) (check_text (planned plan.now)) put) }
     ensures write { IsErrOf result CheckFault.Write → Rose (H.out_faults host.old) (H.out_faults host.new) }

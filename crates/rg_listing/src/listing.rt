@@ -5,7 +5,7 @@ ghost use Rattle.rg_plan.specs.Offsets.{IsMeasured};
 ghost use Rattle.rg_host.specs.Lines.{ended};
 ghost use Rattle.rg_config.specs.Plans.{planned};
 ghost use Rattle.rg_listing.specs.Listing.{numbered, query_line, offset_line, end_text, window_line, filter_text, filter_line, more_columns, columns_text, group_line, agg_line, task_text, check_text};
-ghost use Rattle.rg_config.specs.Read.{IsRead};
+ghost use Rattle.rg_config.specs.Read.{IsReadPlan};
 
 use rg_bytes::{Memory, put_bytes, write_whole};
 use rg_config::Plan;
@@ -17,7 +17,7 @@ use rg_query::{column_name, print_agg, print_condition};
 /// Writes the queries of a plan and its task plan, a line each, with its LF. An error leaves them begun.
 #[tactic(auto, using(crate::proofs::Listed::windows_are, crate::proofs::Listed::listed))]
 pub fn write_listing(text: &mut Vec<u8>, plan: &Plan) -> Result<(), Memory>
-    requires read { IsRead plan.now }
+    requires read { IsReadPlan plan.now }
     ensures { OnOk result (text.new.items ≡ text.old.items ++ ended (check_text (planned plan.now))) }
 {
     write_queries(text, plan.queries.as_slice())?;

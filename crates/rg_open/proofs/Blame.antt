@@ -13,8 +13,8 @@ use Rattle.rg_frame.proofs.Payloads.{payload_none}
 use Rattle.rg_log.specs.Log.{schema_payload}
 use Rattle.rg_log.specs.Spots.{SpotAt, SpotIn}
 use Rattle.rg_config.specs.Plans.{Planned}
-use Rattle.rg_plan.specs.Plans.{Planned as Tasks, plan_for}
-use Rattle.rg_query.specs.Legal.{IsLegal}
+use Rattle.rg_plan.specs.Plans.{Tasks, plan_for}
+use Rattle.rg_query.specs.Legal.{IsLegalQuery}
 use Rattle.rg_state.specs.Rows.{Cells}
 use Rattle.rg_engine.specs.Seen.{Seen}
 use Rattle.rg_engine.proofs.Legal.{serves}
@@ -82,7 +82,7 @@ module _ (plan : Planned) (now : Option Image) (may : Image → Type 0) (r : Res
 
   -- a node that an engine stands for can be carried on over a later state of the reservoir
   pub runs_by : {T : Type 0} (tasks : Tasks) → tasks ≡ plan_for plan.queries → (then : Option Image) (after : Image → Type 0) (s : Reservoir) → base s ≡ base r → IsSound then after s → (n : ℕ) (is_told : Type 0) (cells : Cells) (engine : Seen T)
-      → All (IsLegal plan.shape) plan.queries → is_told → engine.plan ≡ tasks → NodeGoes (Spells then (base s) (opened s)) tasks n (all_events then (base s) (opened s)) cells engine.spots → NodeRuns plan n then after is_told cells s engine
+      → All (IsLegalQuery plan.shape) plan.queries → is_told → engine.plan ≡ tasks → NodeGoes (Spells then (base s) (opened s)) tasks n (all_events then (base s) (opened s)) cells engine.spots → NodeRuns plan n then after is_told cells s engine
   runs_by tasks tasks_are then after s based sound n is_told cells engine legal tells plan_is goes = record {
     reservoir = record {
       sound = sound;

@@ -10,8 +10,8 @@ use Rattle.rg_log.specs.Log.{joined}
 use Rattle.rg_log.specs.Spots.{SpotIn}
 use Rattle.rg_config.specs.Plans.{Planned}
 use Rattle.rg_config.specs.Read.{IsSaid}
-use Rattle.rg_query.specs.Legal.{IsLegal}
-use Rattle.rg_plan.specs.Plans.{Planned as Tasks, plan_for}
+use Rattle.rg_query.specs.Legal.{IsLegalQuery}
+use Rattle.rg_plan.specs.Plans.{Tasks, plan_for}
 use Rattle.rg_state.specs.Rows.{Cells}
 use Rattle.rg_engine.specs.Feeding.{Serves}
 use Rattle.rg_engine.specs.Seen.{Seen}
@@ -30,7 +30,7 @@ use Rattle.rg_reservoir.specs.Kept.{Base, base, opened, next_of, time_of, cache_
 use Rattle.rg_reservoir.specs.GoingLaws.{all_long}
 use Rattle.rg_reservoir.specs.declared.reservoir.Reservoir.{Reservoir}
 use Rattle.rg_store.specs.Truth.{texts_of, IsTrueOf}
-use Rattle.rg_store.specs.Opened.{IsKept}
+use Rattle.rg_store.specs.Opened.{IsKeptInSlot}
 use Rattle.rg_store.proofs.Sound.{framed}
 use Rattle.rg_store.proofs.Saving.{of_plan}
 use Rattle.rg_open.specs.Opening.{IsFound, IsStarted}
@@ -113,7 +113,7 @@ module _ (plan : Planned) (now : Option Image) (may : Image → Type 0) (r : Res
         same_past (SpotIn plan.shape (image 2)) (Spells now (base r) (opened r)) tasks (joined right.chunks) all checkpoint (log.spelled plan now may r found.reservoir found.empty) (log.all_is plan now may r found.reservoir found.empty)
         (subst (λ (t : Tasks). IsTruthful (SpotIn plan.shape (image 2)) t (joined right.chunks) checkpoint) (sym tasks_are) (of_plan plan said (image 2) (joined right.chunks) here (log.has plan now may r found.reservoir found.empty) checkpoint is (same ∙ texts_are)))
 
-    module _ (texts : List (List ℕ)) (printed : texts ≡ texts_of plan.shape plan.queries) (reads : (v : Image) → now ≡ Some v → may v) (said : All (IsSaid plan.shape) plan.queries) (legal : All (IsLegal plan.shape) plan.queries) where
+    module _ (texts : List (List ℕ)) (printed : texts ≡ texts_of plan.shape plan.queries) (reads : (v : Image) → now ≡ Some v → may v) (said : All (IsSaid plan.shape) plan.queries) (legal : All (IsLegalQuery plan.shape) plan.queries) where
       -- each checkpoint of the plan's queries is fit
       fits : (i : ℕ) (checkpoint : Checkpoint) → slot_in saved i ≡ Some checkpoint → checkpoint.queries ≡ texts → IsFit (HeadsName now (base r)) texts plan.shape.fields tasks (base r).committed checkpoint
       fits i checkpoint there same =
@@ -129,11 +129,11 @@ module _ (plan : Planned) (now : Option Image) (may : Image → Type 0) (r : Res
 
     -- the slot that was used
     pub kept_by : (after : Image → Type 0) → ((u : Image) → after u → may u) → (Names : Spot → Type 0) (texts : List (List ℕ)) (fields : List Field) (committed : ℕ) → texts ≡ texts_of plan.shape plan.queries
-        → (keep : Option ℕ) (from : ℕ) → IsFrom (IsFit Names texts fields tasks committed) (slot_in saved) keep from → (slot : ℕ) → keep ≡ Some slot → IsKept plan after slot from committed
+        → (keep : Option ℕ) (from : ℕ) → IsFrom (IsFit Names texts fields tasks committed) (slot_in saved) keep from → (slot : ℕ) → keep ≡ Some slot → IsKeptInSlot plan after slot from committed
     kept_by after fewer Names texts fields committed texts_are None from is slot e = absurd cc
     kept_by after fewer Names texts fields committed texts_are (Some i) from (checkpoint, best, count) slot e =
         let same : i ≡ slot = cc in
-        subst (λ (n : ℕ). IsKept plan after n from committed) same (record {
+        subst (λ (n : ℕ). IsKeptInSlot plan after n from committed) same (record {
           below = below i checkpoint best.there;
           stored = omega (arith, count, best.fit.within);
           has = λ u left. let s = slot_of i checkpoint best.there u (fewer u left) in record {
@@ -152,8 +152,8 @@ module _ (plan : Planned) (now : Option Image) (may : Image → Type 0) (r : Res
 
     -- an engine that was started over it
     module _ (then : Option Image) (after : Image → Type 0) (s : Reservoir) (based : base s ≡ base r) (none : opened s ≡ []) (sound : IsSound then after s) (fewer : (u : Image) → after u → may u) where
-      pub started : {T : Type 0} (is_told : Type 0) (cells : Cells) (engine : Seen T) (texts : List (List ℕ)) (keep : Option ℕ) (from : ℕ) → texts ≡ texts_of plan.shape plan.queries → All (IsSaid plan.shape) plan.queries → All (IsLegal plan.shape) plan.queries
-          → is_told → engine.plan ≡ tasks → EngineStands (Spells then (base s) (opened s)) tasks (all_events then (base s) (opened s)) cells engine.spots → ((slot : ℕ) → keep ≡ Some slot → IsKept plan after slot from (base r).committed)
+      pub started : {T : Type 0} (is_told : Type 0) (cells : Cells) (engine : Seen T) (texts : List (List ℕ)) (keep : Option ℕ) (from : ℕ) → texts ≡ texts_of plan.shape plan.queries → All (IsSaid plan.shape) plan.queries → All (IsLegalQuery plan.shape) plan.queries
+          → is_told → engine.plan ≡ tasks → EngineStands (Spells then (base s) (opened s)) tasks (all_events then (base s) (opened s)) cells engine.spots → ((slot : ℕ) → keep ≡ Some slot → IsKeptInSlot plan after slot from (base r).committed)
           → IsStarted plan then after is_told cells s engine texts keep from
       started is_told cells engine texts keep from texts_are said legal tells plan_is stands kept = record {
         in_step = record {
@@ -172,5 +172,5 @@ module _ (plan : Planned) (now : Option Image) (may : Image → Type 0) (r : Res
         tells = tells;
         serves = serves plan.shape plan.queries legal;
         plan_is = plan_is ∙ tasks_are;
-        kept = λ slot is. subst (λ (b : Base). IsKept plan after slot from b.committed) (sym based) (kept slot is);
+        kept = λ slot is. subst (λ (b : Base). IsKeptInSlot plan after slot from b.committed) (sym based) (kept slot is);
       }

@@ -11,8 +11,8 @@ use Rattle.rg_past.specs.declared.past.Spot.{Spot}
 use Rattle.rg_log.specs.Log.{joined, HasEvents}
 use Rattle.rg_log.specs.Spots.{SpotIn}
 use Rattle.rg_config.specs.Plans.{Planned}
-use Rattle.rg_query.specs.Legal.{IsLegal}
-use Rattle.rg_plan.specs.Plans.{Planned as Tasks, plan_for}
+use Rattle.rg_query.specs.Legal.{IsLegalQuery}
+use Rattle.rg_plan.specs.Plans.{Tasks, plan_for}
 use Rattle.rg_engine.specs.Feeding.{Serves}
 use Rattle.rg_engine.proofs.Legal.{serves}
 use Rattle.rg_restore.specs.Naming.{HeadsName, NamesIn}
@@ -81,7 +81,7 @@ module _ (plan : Planned) (now : Option Image) (may : Image → Type 0) (r : Res
       by (x ∷ events) long is = sym is ∙ sym (some (omega (arith, long)))
 
   -- an engine can stand for its events
-  pub can_stand : (tasks : Tasks) → tasks ≡ plan_for plan.queries → (is_told : Type 0) → All (IsLegal plan.shape) plan.queries → is_told → CanStand (IsSound now may r) is_told tasks all
+  pub can_stand : (tasks : Tasks) → tasks ≡ plan_for plan.queries → (is_told : Type 0) → All (IsLegalQuery plan.shape) plan.queries → is_told → CanStand (IsSound now may r) is_told tasks all
   can_stand tasks tasks_are is_told legal tells = record {
     sound = log.sound;
     tells = tells;

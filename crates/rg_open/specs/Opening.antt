@@ -2,7 +2,7 @@
 use Rattle.std.specs.Prelude.{◌≡◌, ◌+◌, ℕ, List, [], Option, Some}
 use Rattle.rg_host.specs.Image.{Image}
 use Rattle.rg_config.specs.Plans.{Planned}
-use Rattle.rg_plan.specs.Plans.{Planned as Tasks, plan_for}
+use Rattle.rg_plan.specs.Plans.{Tasks, plan_for}
 use Rattle.rg_state.specs.Rows.{Cells}
 use Rattle.rg_engine.specs.Feeding.{Serves}
 use Rattle.rg_engine.specs.Seen.{Seen}
@@ -17,7 +17,7 @@ use Rattle.rg_engine.specs.Standing.{come}
 use Rattle.rg_window.specs.Placed.{numbers_of}
 use Rattle.rg_reservoir.specs.Kept.{base, opened}
 use Rattle.rg_reservoir.specs.declared.reservoir.Reservoir.{Reservoir}
-use Rattle.rg_store.specs.Opened.{IsOpenedFor, IsInStep, IsKept}
+use Rattle.rg_store.specs.Opened.{IsOpenedFor, IsInStep, IsKeptInSlot}
 use Rattle.rg_store.specs.Stores.{IsOfPlan}
 use Rattle.rg_store.specs.Truth.{texts_of, IsTruthfulImage}
 
@@ -49,7 +49,7 @@ pub record IsStarted {T : Type 0} (plan : Planned) (now : Option Image) (may : I
   pub tells : is_told
   pub serves : Serves plan.shape.fields (plan_for plan.queries)
   pub plan_is : engine.plan ≡ plan_for plan.queries
-  pub kept : (slot : ℕ) → keep ≡ Some slot → IsKept plan may slot saved (base r).committed
+  pub kept : (slot : ℕ) → keep ≡ Some slot → IsKeptInSlot plan may slot saved (base r).committed
 
 -- Of any image: the engine went on from the fit checkpoint of the greatest count in the image's slots, or from the start where none is
 -- fit; and just so many steps were counted as there are filters and events that an edge of their windows has come to since.

@@ -9,7 +9,7 @@ ghost use Rattle.rg_frame.specs.Frames.{HasPayloads};
 ghost use Rattle.rg_frame.specs.LogState.{ReachesEnd};
 ghost use Rattle.rg_log.specs.Log.{schema_payload, HasEvents};
 ghost use Rattle.rg_config.specs.Plans.{planned};
-ghost use Rattle.rg_config.specs.Read.{IsRead};
+ghost use Rattle.rg_config.specs.Read.{IsReadPlan};
 ghost use Rattle.rg_reservoir.specs.Attached.{IsOther, IsBadFrame, SchemaAdded};
 ghost use Rattle.rg_reservoir.specs.Kept.{base, opened, room_of, log_of, all_events};
 ghost use Rattle.rg_restore.specs.Naming.{IsListed};
@@ -58,7 +58,7 @@ fn read_slots<H: Host>(alloc: Global, host: &mut H) -> Result<(Slots, Saved), Op
 
 /// Reads the slots and attaches the log, which is given the plan's schema where it has no frame.
 pub(crate) fn find<H: Host>(alloc: Global, host: &mut H, plan: &Plan) -> Result<Found, OpenFault>
-    requires read { IsRead plan.now }
+    requires read { IsReadPlan plan.now }
 
     // Over a truthful store of the plan of which nothing is pending.
     ensures found { IsOpenable (planned plan.now) (H.now host.old) (H.may host.old) → AreSettled (H.now host.old) (H.may host.old) →

@@ -8,7 +8,7 @@ ghost use Rattle.rg_frame.specs.Calls.{Writes};
 ghost use Rattle.rg_frame.specs.LogState.{ReachesEnd};
 ghost use Rattle.rg_log.specs.Log.{schema_payload, HasEvents};
 ghost use Rattle.rg_config.specs.Plans.{planned};
-ghost use Rattle.rg_config.specs.Read.{IsRead};
+ghost use Rattle.rg_config.specs.Read.{IsReadPlan};
 ghost use Rattle.rg_reservoir.specs.Attached.{IsOther, IsBadFrame, SchemaAdded};
 ghost use Rattle.rg_reservoir.specs.Chain.{IsIllegal};
 ghost use Rattle.rg_reservoir.specs.Kept.{base, opened, room_of, log_of, next_of, all_events};
@@ -97,7 +97,7 @@ fn open_settled<H: Host, T: Table, L: Ledger>(
     table: T,
     steps: &mut Steps<L>,
 ) -> Result<(Opened<T>, Resumed), (OpenFault, T)>
-    requires read { IsRead plan.now }
+    requires read { IsReadPlan plan.now }
     requires copies { (copies.schema ≡ plan.now.schema) × (copies.texts ≡ plan.now.queries) × (copies.task ≡ plan.now.task) }
     requires empty { T.tells table → IsEmpty (T.cell table) }
 
@@ -194,7 +194,7 @@ pub fn open_store<H: Host, T: Table, L: Ledger>(
     table: T,
     steps: &mut Steps<L>,
 ) -> Result<(Opened<T>, Resumed), (OpenFault, T)>
-    requires read { IsRead plan.now }
+    requires read { IsReadPlan plan.now }
     requires empty { T.tells table → IsEmpty (T.cell table) }
 
     // Over a store whose images are truthful and of the plan's schema or without a frame.

@@ -3,7 +3,7 @@ ghost use Rattle.std.specs.Option.{ForSome};
 ghost use Rattle.rg_bytes.specs.Counts.{Rose};
 ghost use Rattle.rg_host.specs.Moments.{LeavesAll};
 ghost use Rattle.rg_config.specs.Plans.{planned};
-ghost use Rattle.rg_config.specs.Read.{IsRead};
+ghost use Rattle.rg_config.specs.Read.{IsReadPlan};
 ghost use Rattle.rg_reservoir.specs.Chain.{IsIllegal};
 ghost use Rattle.rg_reservoir.specs.Kept.{base, opened, room_of, time_of, all_events, IsSound, Spells};
 ghost use Rattle.rg_state.specs.Keeping.{TableKept};
@@ -54,7 +54,7 @@ fn start_over<H: Host, T: Table, L: Ledger>(
     saved: Saved,
     steps: &mut Steps<L>,
 ) -> Result<(Engine<T>, Origin), (OpenFault, T)>
-    requires read { IsRead plan.now }
+    requires read { IsReadPlan plan.now }
     requires task { task ≡ plan.now.task }
     requires going { (base past.old.reservoir.now).ended ≡ false }
     requires none { opened past.old.reservoir.now ≡ [] }
@@ -129,7 +129,7 @@ pub(crate) fn start<H: Host, T: Table, L: Ledger>(
     saved: Saved,
     steps: &mut Steps<L>,
 ) -> Result<(Engine<T>, Origin), (OpenFault, T)>
-    requires read { IsRead plan.now }
+    requires read { IsReadPlan plan.now }
     requires task { task ≡ plan.now.task }
     requires going { (base reservoir.old).ended ≡ false }
     requires none { opened reservoir.old ≡ [] }

@@ -1,5 +1,5 @@
 ghost use Rattle.std.specs.Prelude.{◌≡◌, ◌<◌, IfOk};
-ghost use Rattle.rg_config.specs.Read.{IsRead};
+ghost use Rattle.rg_config.specs.Read.{IsReadPlan};
 
 use crate::{OpenFault, Resumed, open_store};
 use rg_bytes::{Memory, put_bytes, put_u64};
@@ -34,7 +34,7 @@ const OTHER: [u8; 30] = [
 
 /// The plan that these bytes say.
 fn plan_of(alloc: Global, bytes: &[u8]) -> Result<Plan, Fail>
-    ensures { IfOk result IsRead }
+    ensures { IfOk result IsReadPlan }
 {
     match read_plan(alloc, bytes) {
         Ok(plan) => Ok(plan),

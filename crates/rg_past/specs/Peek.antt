@@ -11,8 +11,8 @@ abbrev pub Look : Type 0
 Look = Result (Option (Bor Event)) PastFault
 
 -- an event comes only below the count, at an index below 4,096
-abbrev pub IsWithin : List Event → Spot → Look → Type 0
-IsWithin events spot result = IfOk result (λ look. IfSome look (λ _. (spot.number < length events) × (spot.index < 4096)))
+abbrev pub IsLookWithin : List Event → Spot → Look → Type 0
+IsLookWithin events spot result = IfOk result (λ look. IfSome look (λ _. (spot.number < length events) × (spot.index < 4096)))
 
 -- it is the event of that number, and there is none just at the end
 abbrev pub Shows : List Event → ℕ → Look → Type 0

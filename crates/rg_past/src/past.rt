@@ -5,7 +5,7 @@ ghost use Rattle.rg_bytes.specs.Counts.{Rose};
 ghost use Rattle.rg_event.specs.declared.event.Event.{Event};
 ghost use Rattle.rg_past.specs.declared.past.Spot.{Spot};
 ghost use Rattle.rg_event.specs.Rising.{IsRising, MayFollow};
-ghost use Rattle.rg_past.specs.Peek.{IsWithin, Shows};
+ghost use Rattle.rg_past.specs.Peek.{IsLookWithin, Shows};
 ghost use Rattle.rg_past.specs.Ranges.{IsInRange};
 
 use rg_event::Event;
@@ -107,7 +107,7 @@ pub trait Past {
             × ((place : ℕ) → IsErrOf result (PastFault.Damaged place) → illegal new place)
             × (sound self.old → spells self.old spot.old → spells new spot.new × OnOk result (spells_later new spot.new)))) }
         ensures number { spot.new.number ≡ spot.old.number }
-        ensures within { IsWithin (events self.old) spot.new result }
+        ensures within { IsLookWithin (events self.old) spot.new result }
         ensures event { sound self.old → spells self.old spot.old → Shows (events self.old) spot.old.number result }
         ensures never_damaged { (place : ℕ) → sound self.old → spells self.old spot.old → IsErrOf result (PastFault.Damaged place) → ⊥ }
         ensures ended { IsErrOf result PastFault.Ended ↔ ended self.old }

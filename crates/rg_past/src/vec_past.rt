@@ -3,7 +3,7 @@ ghost use Rattle.std.specs.Borrow.{sem};
 ghost use Rattle.std.specs.Io.BufRead.{Rests};
 ghost use Rattle.std.specs.Option.{option_copied};
 ghost use Rattle.rg_bytes.specs.Counts.{Rose};
-ghost use Rattle.rg_past.specs.Peek.{IsWithin, Shows};
+ghost use Rattle.rg_past.specs.Peek.{IsLookWithin, Shows};
 ghost use Rattle.rg_past.specs.contracts.vec_past.VecPast.{the_row};
 
 use crate::past::{Past, PastFault, Spot};
@@ -107,7 +107,7 @@ impl Past for VecPast {
             × ((place : ℕ) → IsErrOf result (PastFault.Damaged place) → ⟦<VecPast as Past>⟧.illegal new place)
             × (⟦<VecPast as Past>⟧.sound self.old → ⟦<VecPast as Past>⟧.spells self.old spot.old → ⟦<VecPast as Past>⟧.spells new spot.new × OnOk result (⟦<VecPast as Past>⟧.spells_later new spot.new)))) }
         ensures number { spot.new.number ≡ spot.old.number }
-        ensures within { IsWithin (⟦<VecPast as Past>⟧.events self.old) spot.new result }
+        ensures within { IsLookWithin (⟦<VecPast as Past>⟧.events self.old) spot.new result }
         ensures event { ⟦<VecPast as Past>⟧.sound self.old → ⟦<VecPast as Past>⟧.spells self.old spot.old → Shows (⟦<VecPast as Past>⟧.events self.old) spot.old.number result }
         ensures never_damaged { (place : ℕ) → ⟦<VecPast as Past>⟧.sound self.old → ⟦<VecPast as Past>⟧.spells self.old spot.old → IsErrOf result (PastFault.Damaged place) → ⊥ }
         ensures ended { IsErrOf result PastFault.Ended ↔ ⟦<VecPast as Past>⟧.ended self.old }

@@ -9,7 +9,7 @@ use Rattle.rg_metric.specs.Queries.{Asked}
 use Rattle.rg_plan.specs.declared.node.AggNode.{AggNode}
 use Rattle.rg_plan.specs.SameLaws.{group_equiv, same_filter-true, same_group-true}
 use Rattle.rg_plan.specs.Nodes.{same_window, same_filter, same_group, same_agg, number_in}
-use Rattle.rg_plan.specs.Plans.{Planned, plan_for, windows_of, filters_of, groups_of, aggs_of, paths_of, filter_under, group_under, group_number, agg_under, aggs_under, aggs_in, path_among, path_in}
+use Rattle.rg_plan.specs.Plans.{Tasks, plan_for, windows_of, filters_of, groups_of, aggs_of, paths_of, filter_under, group_under, group_number, agg_under, aggs_under, aggs_in, path_among, path_in}
 use Rattle.rg_plan.specs.Named.{under_filter, under_group, under_agg, node_at, node_of, nodes_of, aggs_named, asked_from, asked_by, HasAgg}
 use Rattle.rg_plan.proofs.Numbered.{Each, IsAmong, all_there}
 use Rattle.rg_plan.proofs.Told.{window_equiv, filtered_equiv, agg_equiv, same_window-true, same_agg-true, found}
@@ -57,7 +57,7 @@ module _ (qs : List Asked) where
   node_named : (q : Asked) (agg : Agg) → HasWindow q → HasFilter q → HasGroup q → IsNode (agg_under (number_of q) agg)
       → node_at (plan_for qs) (number_in same_agg (aggs_of qs) (agg_under (number_of q) agg)) ≡ Some (node_of q agg)
   node_named q agg w f g a =
-      let plan : Planned = plan_for qs in
+      let plan : Tasks = plan_for qs in
       let group = group_under (windows_of qs) (filters_of qs) q in
       ap (option_and_then (under_agg plan)) (found same_agg same_agg-true (aggs_of qs) (agg_under (number_of q) agg) a)
       ∙ ap (option_and_then (under_group plan agg)) (found same_group same_group-true (groups_of qs) group g)

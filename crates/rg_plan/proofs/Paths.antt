@@ -6,7 +6,7 @@ use Rattle.rg_metric.specs.declared.query.Agg.{Agg}
 use Rattle.rg_plan.specs.declared.node.AggNode.{AggNode}
 use Rattle.rg_plan.specs.Named.{Node, node_at, nodes_of, asked_agg, asked_node}
 use Rattle.rg_plan.specs.Nodes.{same_agg, number_in}
-use Rattle.rg_plan.specs.Plans.{Planned, plan_for, node_in, path_at, path_in, windows_of, filters_of, groups_of, aggs_of, aggs_in, agg_under, group_number}
+use Rattle.rg_plan.specs.Plans.{Tasks, plan_for, node_in, path_at, path_in, windows_of, filters_of, groups_of, aggs_of, aggs_in, agg_under, group_number}
 use Rattle.rg_plan.proofs.Naming.{all_named}
 
 -- nothing is made of nothing, and of something something
@@ -37,10 +37,10 @@ module _ (qs : List Asked) where
   none_for query agg =
       subst (λ path. (node_in path agg ≡ None) ↔ (asked_agg qs query agg ≡ None)) (sym (slice_get-map by qs query)) (none_found (slice_get qs query) agg)
 
-pub none_exactly : (plan : Planned) (query agg : ℕ) (result : Option ℕ) → result ≡ path_at plan.paths query agg
+pub none_exactly : (plan : Tasks) (query agg : ℕ) (result : Option ℕ) → result ≡ path_at plan.paths query agg
     → (qs : List Asked) → plan ≡ plan_for qs → (result ≡ None) ↔ (asked_agg qs query agg ≡ None)
 none_exactly plan query agg result is qs made =
-    subst (λ number. (number ≡ None) ↔ (asked_agg qs query agg ≡ None)) (sym (is ∙ ap (λ (p : Planned). path_at p.paths query agg) made)) (none_for qs query agg)
+    subst (λ number. (number ≡ None) ↔ (asked_agg qs query agg ≡ None)) (sym (is ∙ ap (λ (p : Tasks). path_at p.paths query agg) made)) (none_for qs query agg)
 
 -- a member of a list in a list, where there is one
 abbrev member : {A : Type 0} → Option (List A) → ℕ → Option A
@@ -61,7 +61,7 @@ asked_is (Some q) agg = refl
 
 node_for : (qs : List Asked) (query agg : ℕ) → option_map (node_at (plan_for qs)) (path_at (plan_for qs).paths query agg) ≡ asked_node qs query agg
 node_for qs query agg =
-    let plan : Planned = plan_for qs in
+    let plan : Tasks = plan_for qs in
     let node : ℕ → Option Node = node_at plan in
     ap (option_map node) (number_is (slice_get plan.paths query) agg)
     ∙ through node (slice_get plan.paths query) agg
@@ -70,8 +70,8 @@ node_for qs query agg =
     ∙ ap (λ found. member found agg) (slice_get-map nodes_of qs query)
     ∙ asked_is (slice_get qs query) agg
 
-pub node_of_path : (plan : Planned) (query agg : ℕ) (result : Option ℕ) → result ≡ path_at plan.paths query agg
+pub node_of_path : (plan : Tasks) (query agg : ℕ) (result : Option ℕ) → result ≡ path_at plan.paths query agg
     → (qs : List Asked) → plan ≡ plan_for qs → option_map (node_at plan) result ≡ asked_node qs query agg
 node_of_path plan query agg result is qs made =
     ap (option_map (node_at plan)) is
-    ∙ subst (λ (p : Planned). option_map (node_at p) (path_at p.paths query agg) ≡ asked_node qs query agg) (sym made) (node_for qs query agg)
+    ∙ subst (λ (p : Tasks). option_map (node_at p) (path_at p.paths query agg) ≡ asked_node qs query agg) (sym made) (node_for qs query agg)

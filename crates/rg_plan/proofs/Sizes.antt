@@ -15,7 +15,7 @@ use Rattle.rg_plan.proofs.Steps.{once_more}
 use Rattle.rg_plan.proofs.Members.{distinct-length, All-distinct}
 use Rattle.std.proofs.lemmas.List.Elements.{All-map}
 use Rattle.rg_plan.specs.Offsets.{IsMeasured}
-use Rattle.rg_plan.specs.Plans.{Planned, windows_of, filters_of, groups_of, aggs_of, filter_under, group_under, is_too_many, excess_from, excess, aggs_in, agg_under, group_number, path_in}
+use Rattle.rg_plan.specs.Plans.{Tasks, windows_of, filters_of, groups_of, aggs_of, filter_under, group_under, is_too_many, excess_from, excess, aggs_in, agg_under, group_number, path_in}
 use Rattle.rg_plan.specs.Named.{IsMade}
 
 pub index_small : (n : ℕ) (q : Asked) → is_too_many n q ≡ false → n < 64
@@ -93,6 +93,6 @@ few_so_far qs i q l is e = subst (λ (xs : List Asked). excess xs ≡ None) (onc
 pub windows_measured : (qs : List Asked) → All (λ (q : Asked). IsMeasured q.window) qs → All IsMeasured (windows_of qs)
 windows_measured qs h = All-distinct same_window IsMeasured (map (λ (q : Asked). q.window) qs) (All-map IsMeasured (λ (q : Asked). q.window) qs h)
 
-pub paths_small : (plan : Planned) → IsMade plan → length plan.paths < 2 ^ 32
+pub paths_small : (plan : Tasks) → IsMade plan → length plan.paths < 2 ^ 32
 paths_small plan made =
-    omega (arith, ap (λ (p : Planned). length p.paths) made.is, length-map made.queries (path_in (windows_of made.queries) (filters_of made.queries) (groups_of made.queries) (aggs_of made.queries)), few_queries 0 made.queries (omega arith) made.within)
+    omega (arith, ap (λ (p : Tasks). length p.paths) made.is, length-map made.queries (path_in (windows_of made.queries) (filters_of made.queries) (groups_of made.queries) (aggs_of made.queries)), few_queries 0 made.queries (omega arith) made.within)

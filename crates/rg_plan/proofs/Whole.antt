@@ -11,7 +11,7 @@ use Rattle.rg_metric.specs.Queries.{Asked}
 use Rattle.rg_plan.specs.declared.node.GroupNode.{GroupNode}
 use Rattle.rg_plan.specs.declared.node.AggNode.{AggNode}
 use Rattle.rg_plan.specs.Nodes.{Filtered, same_window, same_filter, same_group, same_agg, number_in}
-use Rattle.rg_plan.specs.Plans.{Planned, plan_for, excess, windows_of, filters_of, groups_of, aggs_of, filter_under, group_under, agg_under, path_in}
+use Rattle.rg_plan.specs.Plans.{Tasks, plan_for, excess, windows_of, filters_of, groups_of, aggs_of, filter_under, group_under, agg_under, path_in}
 use Rattle.rg_plan.specs.Offsets.{IsMeasured, offsets_of}
 use Rattle.rg_plan.specs.Named.{Node, under_filter, under_group, under_agg, node_at, IsMade}
 use Rattle.rg_plan.specs.SameLaws.{group_equiv, same_filter-true, same_group-true}
@@ -89,7 +89,7 @@ module _ (qs : List Asked) where
 
   node_there : (number : ℕ) → number < length (aggs_of qs) → (node : Node) × (node_at (plan_for qs) number ≡ Some node)
   node_there number lt =
-      let plan : Planned = plan_for qs in
+      let plan : Tasks = plan_for qs in
       let (agg, a) = stands (aggs_of qs) number lt in
       let (group, g) = stands (groups_of qs) agg.group (of_it InGroup (aggs_of qs) number agg groups_in a) in
       let (filter, f) = stands (filters_of qs) group.filter (of_it (λ (n : GroupNode). n.filter < length (filters_of qs)) (groups_of qs) agg.group group filters_in g) in
@@ -107,7 +107,7 @@ window_of condition columns agg None node e = absurd cc
 window_of condition columns agg (Some window) node e = ap (option_map (λ (n : Node). n.window)) e
 
 -- the window of a node is one of the plan's
-window_there : (plan : Planned) (number : ℕ) (node : Node) → node_at plan number ≡ Some node → (place : ℕ) × (slice_get plan.windows place ≡ Some node.window)
+window_there : (plan : Tasks) (number : ℕ) (node : Node) → node_at plan number ≡ Some node → (place : ℕ) × (slice_get plan.windows place ≡ Some node.window)
 window_there plan number node e =
     option_and_then_some (under_agg plan) (slice_get plan.aggs number) node e
     (λ agg a e1. option_and_then_some (under_group plan agg.agg) (slice_get plan.groups agg.group) node e1
@@ -141,5 +141,5 @@ whole_for qs measured e =
       nodes = node_there qs;
     }
 
-pub whole : (plan : Planned) → IsMade plan → IsWhole plan
+pub whole : (plan : Tasks) → IsMade plan → IsWhole plan
 whole plan made = subst IsWhole (sym made.is) (whole_for made.queries made.measured made.within)

@@ -9,7 +9,7 @@ use Rattle.rg_plan.specs.declared.node.GroupNode.{GroupNode}
 use Rattle.rg_plan.specs.declared.node.AggNode.{AggNode}
 use Rattle.rg_plan.specs.Same.{same_condition}
 use Rattle.rg_plan.specs.Nodes.{Filtered, same_window, distinct, number_in}
-use Rattle.rg_plan.specs.Plans.{Planned}
+use Rattle.rg_plan.specs.Plans.{Tasks}
 
 pub record ToFilter : Type 0 where
   pub window : Window
@@ -65,7 +65,7 @@ abbrev pub agg_at : List ToGroup → ToAgg → AggNode
 agg_at groups p = record { group = number_in same_to_group groups p.group; agg = p.agg }
 
 -- the nodes of a plan are the distinct beginnings of some queries, in order of first use, each under the number of the one before it
-pub record AreBegun (queries : List Asked) (plan : Planned) : Type 0 where
+pub record AreBegun (queries : List Asked) (plan : Tasks) : Type 0 where
   pub windows : plan.windows ≡ distinct same_window (map (λ (q : Asked). q.window) queries)
   pub filters : plan.filters ≡ map (filter_at plan.windows) (filters_begun queries)
   pub groups : plan.groups ≡ map (group_at (filters_begun queries)) (groups_begun queries)

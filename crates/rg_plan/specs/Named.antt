@@ -8,7 +8,7 @@ use Rattle.rg_plan.specs.declared.node.GroupNode.{GroupNode}
 use Rattle.rg_plan.specs.declared.node.AggNode.{AggNode}
 use Rattle.rg_plan.specs.Nodes.{Filtered}
 use Rattle.rg_plan.specs.Offsets.{IsMeasured}
-use Rattle.rg_plan.specs.Plans.{Planned, plan_for, excess}
+use Rattle.rg_plan.specs.Plans.{Tasks, plan_for, excess}
 
 -- an aggregator over the events of a window that meet a condition and share the values of some columns
 pub record Node : Type 0 where
@@ -17,17 +17,17 @@ pub record Node : Type 0 where
   pub columns : List ℕ
   pub agg : Agg
 
-abbrev pub under_filter : Planned → GroupNode → Agg → Filtered → Option Node
+abbrev pub under_filter : Tasks → GroupNode → Agg → Filtered → Option Node
 under_filter plan group agg filter = option_map (λ window. record { window = window; condition = filter.condition; columns = group.columns; agg = agg }) (slice_get plan.windows filter.window)
 
-abbrev pub under_group : Planned → Agg → GroupNode → Option Node
+abbrev pub under_group : Tasks → Agg → GroupNode → Option Node
 under_group plan agg group = option_and_then (under_filter plan group agg) (slice_get plan.filters group.filter)
 
-abbrev pub under_agg : Planned → AggNode → Option Node
+abbrev pub under_agg : Tasks → AggNode → Option Node
 under_agg plan node = option_and_then (under_group plan node.agg) (slice_get plan.groups node.group)
 
 -- the aggregator of that number, with all that is above it, where there is one
-abbrev pub node_at : Planned → ℕ → Option Node
+abbrev pub node_at : Tasks → ℕ → Option Node
 node_at plan number = option_and_then (under_agg plan) (slice_get plan.aggs number)
 
 -- the aggregators of a query, in order
@@ -46,7 +46,7 @@ abbrev pub asked_node : List Asked → ℕ → ℕ → Option (Option Node)
 asked_node queries query agg = option_and_then (λ (q : Asked). slice_get (nodes_of q) agg) (slice_get queries query)
 
 -- the plan of some queries, few enough and with windows of at most 10^15 milliseconds
-pub record IsMade (plan : Planned) : Type 0 where
+pub record IsMade (plan : Tasks) : Type 0 where
   pub queries : List Asked
   pub measured : All (λ (q : Asked). IsMeasured q.window) queries
   pub within : excess queries ≡ None
@@ -67,7 +67,7 @@ asked_from [] = nothing_asked
 asked_from (None ∷ nodes) = nothing_asked
 asked_from (Some node ∷ nodes) = record { aggs = node.agg ∷ aggs_named nodes; filter = node.condition; group = node.columns; window = node.window }
 
-abbrev pub asked_by : Planned → List Asked
+abbrev pub asked_by : Tasks → List Asked
 asked_by plan = map (λ path. asked_from (map (node_at plan) path)) plan.paths
 
 -- each query has an aggregator

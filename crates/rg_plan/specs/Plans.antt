@@ -81,7 +81,7 @@ fault_of None = Memory
 fault_of (Some query) = TooMany query
 
 -- a plan as plain data
-pub record Planned : Type 0 where
+pub record Tasks : Type 0 where
   pub offsets : List ℕ
   pub windows : List Window
   pub filters : List Filtered
@@ -90,7 +90,7 @@ pub record Planned : Type 0 where
   pub paths : List (List ℕ)
 
 -- the plan of some queries
-abbrev pub plan_for : List Asked → Planned
+abbrev pub plan_for : List Asked → Tasks
 plan_for qs = record {
   offsets = all_offsets qs;
   windows = windows_of qs;

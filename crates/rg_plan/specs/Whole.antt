@@ -5,7 +5,7 @@ use Rattle.rg_plan.specs.declared.node.GroupNode.{GroupNode}
 use Rattle.rg_plan.specs.declared.node.AggNode.{AggNode}
 use Rattle.rg_plan.specs.Nodes.{Filtered}
 use Rattle.rg_plan.specs.Offsets.{offsets_of, AreRising, IsMeasured}
-use Rattle.rg_plan.specs.Plans.{Planned}
+use Rattle.rg_plan.specs.Plans.{Tasks}
 use Rattle.rg_plan.specs.Named.{Node, node_at}
 
 -- no member stands at two places
@@ -23,7 +23,7 @@ pub record IsOffsetOf (windows : List Window) (offset : ℕ) : Type 0 where
   pub there : slice_get windows number ≡ Some window
   pub has : HasOffset (offsets_of window) offset
 
-pub record IsWhole (plan : Planned) : Type 0 where
+pub record IsWhole (plan : Tasks) : Type 0 where
   -- each node is there once
   pub windows_once : StandsOnce plan.windows
   pub filters_once : StandsOnce plan.filters

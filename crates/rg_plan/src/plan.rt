@@ -33,11 +33,11 @@ pub struct TaskPlan {
 impl Model for TaskPlan {
     ghost use Rattle.std.specs.Prelude.{map};
     ghost use Rattle.rg_plan.specs.Nodes.{filtered};
-    ghost use Rattle.rg_plan.specs.Plans.{Planned};
+    ghost use Rattle.rg_plan.specs.Plans.{Tasks};
     ghost use Rattle.rg_plan.specs.Named.{IsMade};
     ghost use Rattle.rg_plan.specs.Codes.{planned_code};
 
-    ghost Value = { Planned };
+    ghost Value = { Tasks };
 
     ghost coded = { planned_code };
 

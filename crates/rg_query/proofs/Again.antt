@@ -20,7 +20,7 @@ use Rattle.rg_token.specs.Lexing.{Lexes}
 use Rattle.rg_token.proofs.Laid.{laid}
 use Rattle.rg_token.proofs.Unique.{one_lexing}
 use Rattle.rg_query.specs.declared.fault.QueryFault.{QueryFault}
-use Rattle.rg_query.specs.Legal.{IsOperand, IsLegalAgg, AreLegalAggs, IsLegal}
+use Rattle.rg_query.specs.Legal.{IsOperand, IsLegalAgg, AreLegalAggs, IsLegalQuery}
 use Rattle.rg_query.specs.Printing.{query_text}
 use Rattle.rg_query.specs.Resolving.{resolved}
 use Rattle.rg_query.specs.Saying.{Means, Tells}
@@ -47,13 +47,13 @@ text_shown shape q [] e h = absurd h
 text_shown shape q (agg ∷ aggs) e h = query_shown shape q agg aggs e (are_calls shape (agg ∷ aggs) h)
 
 -- what is written for a query that was found is found
-written_is : (shape : Shape) (q : Asked) (ts : List Token) (query : syntax.Query) → Found 32 ts query → IsAsked shape query q → IsLegal shape q → Found 32 (tokens_of (written shape q)) (syntax_of shape q)
+written_is : (shape : Shape) (q : Asked) (ts : List Token) (query : syntax.Query) → Found 32 ts query → IsAsked shape query q → IsLegalQuery shape q → Found 32 (tokens_of (written shape q)) (syntax_of shape q)
 written_is shape q ts query found is h =
     written_found 32 ts query (syntax_of shape q) (length_of q.window.length) (delay_of q.window.delay) found (can_write shape q h) (same_shape shape query q is)
     (length_again q.window.length h.length).writable (delay_again q.window.delay h.delay).writable
 
 -- a text that is laid out as these tokens is a query that asks the same
-laid_query : (shape : Shape) (q : Asked) → IsSchema shape → IsLegal shape q → Found 32 (tokens_of (written shape q)) (syntax_of shape q) → Means shape (text opened (tokens_of (written shape q))) (Ok q)
+laid_query : (shape : Shape) (q : Asked) → IsSchema shape → IsLegalQuery shape q → Found 32 (tokens_of (written shape q)) (syntax_of shape q) → Means shape (text opened (tokens_of (written shape q))) (Ok q)
 laid_query shape q schema h found =
     let ts : List Token = tokens_of (written shape q) in
     let plain : ArePlain ts = plain_query shape q schema h in
@@ -67,17 +67,17 @@ laid_query shape q schema h found =
     }
 
 -- what a text means as a query is legal
-meant_legal : (shape : Shape) (q : Asked) (said : List ℕ) → Means shape said (Ok q) → IsLegal shape q
+meant_legal : (shape : Shape) (q : Asked) (said : List ℕ) → Means shape said (Ok q) → IsLegalQuery shape q
 meant_legal shape q said m = legal shape m.syntax q (found_writable 32 (parse.tokens_of said m.derives.pieces) m.syntax m.derives.found) (is_asked shape m.syntax q m.means)
 
-pub told_legal : (shape : Shape) (said : List ℕ) (r : Result Query QueryFault) → Tells shape said r → IfOk r (λ query. IsLegal shape (asked query))
+pub told_legal : (shape : Shape) (said : List ℕ) (r : Result Query QueryFault) → Tells shape said r → IfOk r (λ query. IsLegalQuery shape (asked query))
 told_legal shape said (Ok query) tells = meant_legal shape (asked query) said tells.1
 told_legal shape said (Err why) tells = tt
 
 pub again : (shape : Shape) (q : Asked) (said : List ℕ) → IsSchema shape → Means shape said (Ok q) → Means shape (query_text shape q) (Ok q)
 again shape q said schema m =
     let is : IsAsked shape m.syntax q = is_asked shape m.syntax q m.means in
-    let h : IsLegal shape q = meant_legal shape q said m in
+    let h : IsLegalQuery shape q = meant_legal shape q said m in
     let found : Found 32 (tokens_of (written shape q)) (syntax_of shape q) = written_is shape q (parse.tokens_of said m.derives.pieces) m.syntax m.derives.found is h in
     subst (λ (xs : List ℕ). Means shape xs (Ok q)) (text_shown shape q q.aggs refl h.aggs) (laid_query shape q schema h found)
 

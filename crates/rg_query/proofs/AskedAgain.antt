@@ -29,7 +29,7 @@ use Rattle.rg_grammar.proofs.PrintedQuery.{span_is}
 use Rattle.rg_metric.specs.Conditions.{Test, compared, not_of, and_of, or_of}
 use Rattle.rg_metric.specs.Queries.{Asked}
 use Rattle.rg_metric.specs.declared.query.Agg.{Agg}
-use Rattle.rg_query.specs.Legal.{IsColumn, IsOperand, IsLegalAgg, AreLegalAggs, IsLegalTest, IsLegalFilter, IsLegalLength, IsLegal}
+use Rattle.rg_query.specs.Legal.{IsColumn, IsOperand, IsLegalAgg, AreLegalAggs, IsLegalTest, IsLegalFilter, IsLegalLength, IsLegalQuery}
 use Rattle.rg_query.specs.Printing.{doubled}
 use Rattle.rg_query.specs.Resolving.{or_else, first_in, unless_known, unknown_column, unknown_in_agg, unknown_in_tree, in_filter, takes, id_of, inside, literal_value, literal_place, wrong_comparison, wrong_in_tree, wrong_field, wrong_agg, between, millis_of, bad_span, or_zero, column_of, agg_asked, or_false, value_asked, test_asked, or_no_time, length_asked, delay_asked}
 use Rattle.rg_query.specs.Written.{column_name, literal_of, tree_of, call_of, call_of_agg, length_of, delay_of, syntax_of}
@@ -166,7 +166,7 @@ some_writable : (shape : Shape) (aggs : List Agg) → AreLegalAggs shape aggs �
 some_writable shape [] h = absurd h
 some_writable shape (agg ∷ aggs) h = (calls_again shape (agg ∷ aggs) h).writable
 
-pub can_write : (shape : Shape) (q : Asked) → IsLegal shape q → CanWrite (syntax_of shape q)
+pub can_write : (shape : Shape) (q : Asked) → IsLegalQuery shape q → CanWrite (syntax_of shape q)
 can_write shape q h = some_writable shape q.aggs h.aggs
 
 -- the key
@@ -233,7 +233,7 @@ same_stream stream = grind (arith, bytes_eq-Decides stream stream)
 abbrev made : List Agg → Option Test → List ℕ → ℕ → Option ℕ → Asked
 made aggs filter group delay length = record { aggs = aggs; filter = filter; group = group; window = record { delay = delay; length = length } }
 
-pub asked_again : (shape : Shape) (q : Asked) → IsLegal shape q → IsAsked shape (syntax_of shape q) q
+pub asked_again : (shape : Shape) (q : Asked) → IsLegalQuery shape q → IsAsked shape (syntax_of shape q) q
 asked_again shape q h =
     let a : CallsAgain shape q.aggs = calls_again shape q.aggs (all_legal shape q.aggs h.aggs) in
     let f : FilterAgain shape q.filter = filter_again shape q.filter h.filter in

@@ -25,7 +25,7 @@ use Rattle.rg_query.specs.Written.{tree_of, syntax_of}
 use Rattle.rg_metric.specs.Queries.{Asked}
 use Rattle.rg_query.specs.declared.fault.QueryFault.{QueryFault}
 use Rattle.rg_query.specs.declared.fault.QueryFault.TheVariants as fault
-use Rattle.rg_query.specs.Legal.{IsColumn, IsField, IsOperand, IsLegalAgg, AreLegalAggs, IsComparison, IsLegalTest, IsLegalFilter, IsLegalLength, IsLegal}
+use Rattle.rg_query.specs.Legal.{IsColumn, IsField, IsOperand, IsLegalAgg, AreLegalAggs, IsComparison, IsLegalTest, IsLegalFilter, IsLegalLength, IsLegalQuery}
 use Rattle.rg_query.specs.Printing.{name_at}
 use Rattle.rg_query.specs.Resolving.{column_from, column_named, or_else, first_in, unless_known, unknown_column, unknown_stream, unknown_in_agg, unknown_in_tree, in_filter, first_unknown, takes, zero_only, id_of, unquoted, literal_value, literal_place, is_ordered, wrong_comparison, wrong_in_tree, wrong_field, wrong_agg, first_wrong, between, bad_span, first_bad, or_zero, column_of, agg_asked, or_false, value_asked, test_asked, or_no_time, length_asked, delay_asked, query_asked, refused_at, resolved}
 
@@ -216,7 +216,7 @@ delay_is (Some (span p text unit)) h = (span_is 0 p (option_map (λ n. n * unit_
 
 -- what is asked is legal
 
-legal_asked : (shape : Shape) (query : syntax.Query) → CanWrite query → first_unknown shape query ≡ None → first_wrong shape query ≡ None → first_bad query ≡ None → IsLegal shape (query_asked shape query)
+legal_asked : (shape : Shape) (query : syntax.Query) → CanWrite query → first_unknown shape query ≡ None → first_wrong shape query ≡ None → first_bad query ≡ None → IsLegalQuery shape (query_asked shape query)
 legal_asked shape (syntax.asked aggs stream filter group (windowed length delay)) c u w b =
     let u1 : (first_in (unknown_in_agg shape) aggs ≡ None) × (or_else (unknown_stream shape stream) (or_else (in_filter (unknown_in_tree shape) filter) (first_in (unknown_column shape) group)) ≡ None) = no_place _ _ u in
     let u2 : (unknown_stream shape stream ≡ None) × (or_else (in_filter (unknown_in_tree shape) filter) (first_in (unknown_column shape) group) ≡ None) = no_place _ _ u1.1 in
@@ -231,8 +231,8 @@ legal_asked shape (syntax.asked aggs stream filter group (windowed length delay)
       delay = delay_is delay b1.1;
     }
 
-pub legal : (shape : Shape) (query : syntax.Query) (q : Asked) → CanWrite query → IsAsked shape query q → IsLegal shape q
-legal shape query q c h = subst (IsLegal shape) h.asks (legal_asked shape query c h.known h.right h.bounded)
+pub legal : (shape : Shape) (query : syntax.Query) (q : Asked) → CanWrite query → IsAsked shape query q → IsLegalQuery shape q
+legal shape query q c h = subst (IsLegalQuery shape) h.asks (legal_asked shape query c h.known h.right h.bounded)
 
 -- the condition is joined as the syntax's is
 

@@ -17,7 +17,7 @@ use Rattle.rg_grammar.specs.Printed as grammar
 use Rattle.rg_metric.specs.Conditions.{Test, compared, not_of, and_of, or_of}
 use Rattle.rg_metric.specs.Queries.{Asked}
 use Rattle.rg_metric.specs.declared.query.Agg.{Agg}
-use Rattle.rg_query.specs.Legal.{IsColumn, IsOperand, IsLegalAgg, AreLegalAggs, IsLegalTest, IsLegalFilter, IsLegalLength, IsLegal}
+use Rattle.rg_query.specs.Legal.{IsColumn, IsOperand, IsLegalAgg, AreLegalAggs, IsLegalTest, IsLegalFilter, IsLegalLength, IsLegalQuery}
 use Rattle.rg_query.specs.Printing.{name_at}
 use Rattle.rg_query.specs.Resolving.{column_named, column_from}
 use Rattle.rg_query.specs.Written.{column_name, literal_of, tree_of, call_of, call_of_agg, length_of, delay_of, written}
@@ -134,7 +134,7 @@ plain_filter shape None rest schema h plain = plain
 plain_filter shape (Some t) rest schema h plain = (plain_keyword Where, (plain_test shape t schema h).or rest plain)
 
 -- each token of the query
-pub plain_query : (shape : Shape) (q : Asked) → IsSchema shape → IsLegal shape q → ArePlain (tokens_of (written shape q))
+pub plain_query : (shape : Shape) (q : Asked) → IsSchema shape → IsLegalQuery shape q → ArePlain (tokens_of (written shape q))
 plain_query shape q schema h =
     let over : List Token = reserved Over ∷ length_then (length_of q.window.length) (delay_then (delay_of q.window.delay) []) in
     let key : List Token = group_then (written_group (map (column_name shape) q.group)) over in

@@ -60,7 +60,7 @@ abbrev pub IsLegalLength : Option ℕ → Type 0
 IsLegalLength None = ⊤
 IsLegalLength (Some n) = (1 ≤ n) × (n ≤ 1000000000000000)
 
-pub record IsLegal (shape : Shape) (q : Asked) : Type 0 where
+pub record IsLegalQuery (shape : Shape) (q : Asked) : Type 0 where
   pub aggs : AreLegalAggs shape q.aggs
   pub filter : IsLegalFilter shape q.filter
   pub group : All (IsColumn shape) q.group

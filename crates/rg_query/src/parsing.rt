@@ -4,7 +4,7 @@ ghost use Rattle.rg_parse.specs.Parts.{IsMadeOf};
 ghost use Rattle.rg_parse.specs.Views.{raw as query_of};
 ghost use Rattle.rg_query.specs.declared.fault.QueryFault.{QueryFault as Fault};
 ghost use Rattle.rg_query.specs.Building.{Gives};
-ghost use Rattle.rg_query.specs.Legal.{IsLegal};
+ghost use Rattle.rg_query.specs.Legal.{IsLegalQuery};
 ghost use Rattle.rg_query.specs.Resolving.{resolved};
 ghost use Rattle.rg_query.specs.Saying.{Says, Tells, Agrees};
 
@@ -33,7 +33,7 @@ pub fn parse(alloc: Global, schema: &Schema, text: &[u8]) -> Result<Query, Query
     // each text that says something is answered so
     ensures complete { (said : Result Asked Fault) → Says schema.now text.now said → Agrees said result }
     // a query that is read is legal over the schema
-    ensures legal { IfOk result (λ query. IsLegal schema.now (asked query)) }
+    ensures legal { IfOk result (λ query. IsLegalQuery schema.now (asked query)) }
     // a text says one thing
     ensures unambiguous { (said other : Result Asked Fault) → Says schema.now text.now said → Says schema.now text.now other → said ≡ other }
     // and each text says something

@@ -8,7 +8,7 @@ use Rattle.rg_event.specs.declared.event.Event.{Event}
 use Rattle.rg_past.specs.declared.past.Spot.{Spot}
 use Rattle.rg_config.specs.Plans.{Planned}
 use Rattle.rg_plan.specs.Named.{node_at}
-use Rattle.rg_plan.specs.Plans.{Planned as Tasks, plan_for}
+use Rattle.rg_plan.specs.Plans.{Tasks, plan_for}
 use Rattle.rg_agg.specs.Held.{Held}
 use Rattle.rg_state.specs.Rows.{Cells, Same}
 use Rattle.rg_window.specs.Placed.{IsSpelledAt, numbers_of}

@@ -9,7 +9,7 @@ use Rattle.rg_event.specs.Shapes.{Shape}
 use Rattle.rg_event.specs.declared.event.Event.{Event}
 use Rattle.rg_past.specs.declared.past.Spot.{Spot}
 use Rattle.rg_config.specs.Plans.{Planned}
-use Rattle.rg_plan.specs.Plans.{Planned as Tasks, plan_for}
+use Rattle.rg_plan.specs.Plans.{Tasks, plan_for}
 use Rattle.rg_state.specs.Rows.{Cells}
 use Rattle.rg_engine.specs.Carrying.{CarriesOn}
 use Rattle.rg_engine.specs.Feeding.{Serves, IsFed}

@@ -8,12 +8,12 @@ use Rattle.rg_reservoir.specs.Kept.{base, opened}
 use Rattle.rg_reservoir.specs.declared.reservoir.Reservoir.{Reservoir}
 use Rattle.rg_course.specs.Steps.{IsStepped}
 use Rattle.rg_store.specs.Stores.{store_of}
-use Rattle.rg_store.specs.Opened.{IsKept}
+use Rattle.rg_store.specs.Opened.{IsKeptInSlot}
 use Rattle.rg_recover.specs.Sessions.{Sitting, IsReady, IsRunning, count_in}
 
 -- the slot that is kept, after a step on the log
 pub kept_still : (plan : Planned) (may after : Image → Type 0) (keep : Option ℕ) (chunk : List Event) (slot saved committed then : ℕ) → keep ≡ Some slot → committed ≤ then → ((u : Image) → after u → IsStepped (store_of plan) keep chunk may u)
-    → IsKept plan may slot saved committed → IsKept plan after slot saved then
+    → IsKeptInSlot plan may slot saved committed → IsKeptInSlot plan after slot saved then
 kept_still plan may after keep chunk slot saved committed then is more stepped kept = record {
   below = kept.below;
   stored = omega (arith, kept.stored, more);
@@ -32,7 +32,7 @@ runs_still plan now then may after told told_still cells rows s new chunk runs r
   second_settled = second;
   kept = λ slot is.
       let was : s.keep ≡ Some slot = sym keep ∙ is in
-      subst (λ (n : ℕ). IsKept plan after slot n (base new.reservoir).committed) (sym saved) (kept_still plan may after s.keep chunk slot s.saved (base s.reservoir).committed (base new.reservoir).committed was more stepped (runs.kept slot was));
+      subst (λ (n : ℕ). IsKeptInSlot plan after slot n (base new.reservoir).committed) (sym saved) (kept_still plan may after s.keep chunk slot s.saved (base s.reservoir).committed (base new.reservoir).committed was more stepped (runs.kept slot was));
 }
 
 -- no event is open where no more were saved than are stored, and those are all

@@ -14,7 +14,7 @@ use Rattle.rg_reservoir.specs.Kept.{base, opened, room_of, stored, all_events}
 use Rattle.rg_reservoir.specs.contracts.reservoir.Reservoir.{the_row as reservoir_row}
 use Rattle.rg_reservoir.specs.declared.reservoir.Reservoir.{Reservoir}
 use Rattle.rg_checkpoint.specs.Slots.{IsKeep}
-use Rattle.rg_store.specs.Opened.{IsInStep, IsKept}
+use Rattle.rg_store.specs.Opened.{IsInStep, IsKeptInSlot}
 
 -- its reservoir, its engine, the printed texts of its queries, the slot that was used or written last and of how many events that one is, and whether it has ended
 pub record Sitting (T : Type 0) : Type 0 where
@@ -68,7 +68,7 @@ pub record IsRunning {T : Type 0} (plan : Planned) (now : Option Image) (may : I
   pub going : s.ended ≡ false
   pub first_settled : NothingPending 0 now may
   pub second_settled : NothingPending 1 now may
-  pub kept : (slot : ℕ) → s.keep ≡ Some slot → IsKept plan may slot s.saved (base s.reservoir).committed
+  pub kept : (slot : ℕ) → s.keep ≡ Some slot → IsKeptInSlot plan may slot s.saved (base s.reservoir).committed
 
 -- its events, those in the open chunk included
 abbrev pub events_of : {T : Type 0} → Option Image → Sitting T → List Event

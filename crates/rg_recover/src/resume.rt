@@ -7,7 +7,7 @@ ghost use Rattle.rg_event.specs.declared.event.Event.{Event};
 ghost use Rattle.rg_frame.specs.LogState.{ReachesEnd};
 ghost use Rattle.rg_log.specs.Log.{schema_payload, HasEvents};
 ghost use Rattle.rg_config.specs.Plans.{planned};
-ghost use Rattle.rg_config.specs.Read.{IsRead};
+ghost use Rattle.rg_config.specs.Read.{IsReadPlan};
 ghost use Rattle.rg_reservoir.specs.Attached.{IsOther, IsBadFrame};
 ghost use Rattle.rg_reservoir.specs.Chain.{IsIllegal};
 ghost use Rattle.rg_reservoir.specs.Kept.{base, opened, log_of, next_of};
@@ -45,7 +45,7 @@ impl<T: Table> Session<T> {
         table: T,
         steps: &mut Steps<L>,
     ) -> Result<(Session<T>, Resumed), (OpenFault, T)>
-        requires read { IsRead plan.now }
+        requires read { IsReadPlan plan.now }
         requires empty { T.tells table → IsEmpty (T.cell table) }
 
         // Over a store whose images are truthful and of the plan's schema or without a frame.

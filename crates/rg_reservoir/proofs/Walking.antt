@@ -4,7 +4,7 @@ use Rattle.rg_frame.specs.Frames.{body}
 use Rattle.rg_frame.specs.Looks.{HoldsFrame, IsTorn}
 use Rattle.rg_frame.proofs.Payloads.{holds_payload, torn_payload}
 use Rattle.rg_reservoir.specs.Heads.{IsOpenGate}
-use Rattle.rg_reservoir.specs.Walked.{place_of, IsTaken, IsNext, IsUntaken, IsRefused}
+use Rattle.rg_reservoir.specs.Walked.{place_of, IsTaken, IsNext, IsUntaken, IsRefusedWalk}
 use Rattle.rg_reservoir.specs.declared.walk.Stage.{Stage}
 use Rattle.rg_reservoir.specs.declared.walk.Walk.{Walk}
 use Rattle.rg_reservoir.proofs.Chains.{some_none}
@@ -20,13 +20,13 @@ pub walk_next : (bytes payload : List ℕ) (next : ℕ) (old new : Walk) (stage 
 walk_next bytes payload next old new stage holds small is taken =
     (payload, holds_payload (place_of old) payload bytes holds (omega (arith, small, is)), subst (λ (n : ℕ). IsTaken payload n old stage new) is taken)
 
-pub walk_torn : (bytes : List ℕ) (walk : Walk) → IsTorn (place_of walk) bytes → IsRefused bytes walk
+pub walk_torn : (bytes : List ℕ) (walk : Walk) → IsTorn (place_of walk) bytes → IsRefusedWalk bytes walk
 walk_torn bytes walk torn = record {
   gate = record { rest = torn.rest; is = torn.is; longer = torn.longer };
   untaken = λ payload here. absurd (some_none _ _ here (torn_payload (place_of walk) bytes torn));
 }
 
-pub walk_bad : (bytes payload : List ℕ) (next : ℕ) (walk : Walk) → HoldsFrame (place_of walk) payload bytes → next < 2 ^ 62 → next ≡ place_of walk + 9 + length payload → IsUntaken payload walk → IsRefused bytes walk
+pub walk_bad : (bytes payload : List ℕ) (next : ℕ) (walk : Walk) → HoldsFrame (place_of walk) payload bytes → next < 2 ^ 62 → next ≡ place_of walk + 9 + length payload → IsUntaken payload walk → IsRefusedWalk bytes walk
 walk_bad bytes payload next walk holds small is untaken = record {
   gate = gate_of (place_of walk) payload bytes holds;
   untaken = λ p here. subst (λ (l : List ℕ). IsUntaken l walk) (one_payload (place_of walk) payload p bytes (holds_payload (place_of walk) payload bytes holds (omega (arith, small, is))) here) untaken;

@@ -53,6 +53,6 @@ pub record IsUntaken (payload : List ℕ) (walk : Walk) : Type 0 where
   pub no_chunk : (shape : Shape) → schema_of walk ≡ Some shape → (chunk_of shape.fields payload ≡ None) ⊎ (told_by (tally_of walk) (head_of payload) ≡ None)
 
 -- an open gate stands where the walk has come to, and behind it no whole frame with a payload that may follow
-pub record IsRefused (bytes : List ℕ) (walk : Walk) : Type 0 where
+pub record IsRefusedWalk (bytes : List ℕ) (walk : Walk) : Type 0 where
   pub gate : IsOpenGate (place_of walk) bytes
   pub untaken : (payload : List ℕ) → payload_at (place_of walk) bytes ≡ Some payload → IsUntaken payload walk

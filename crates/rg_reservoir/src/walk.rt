@@ -71,7 +71,7 @@ fn take_chunk(
 }
 
 impl Walk {
-    ghost use Rattle.rg_reservoir.specs.Walked.{place_of, schema_of, tally_of, IsTaken, IsNext, IsUntaken, IsRefused};
+    ghost use Rattle.rg_reservoir.specs.Walked.{place_of, schema_of, tally_of, IsTaken, IsNext, IsUntaken, IsRefusedWalk};
 
     /// A walk at the head of the log.
     pub fn new(alloc: Global) -> Walk
@@ -142,7 +142,7 @@ impl Walk {
         ensures some { IfOk result (λ r. IfSome r (λ stage. ForSome (H.now host.old) (λ v. IsNext (v 2) self.old stage self.new))) }
         ensures goes_on { IfOk result (λ r. IfSome r (λ _. (place_of self.old + 9 ≤ place_of self.new) × (place_of self.new < 2 ^ 62))) }
         ensures none { IfOk result (λ r. IfNone r ((self.new ≡ self.old) × ForSome (H.now host.old) (λ v. IsClosed (place_of self.old) (v 2)))) }
-        ensures damaged { (p : ℕ) → IsErrOf result (ReservoirFault.Damaged p) → (p ≡ place_of self.old) × ForSome (H.now host.old) (λ v. IsRefused (v 2) self.old) }
+        ensures damaged { (p : ℕ) → IsErrOf result (ReservoirFault.Damaged p) → (p ≡ place_of self.old) × ForSome (H.now host.old) (λ v. IsRefusedWalk (v 2) self.old) }
         ensures neither { (IsErrOf result ReservoirFault.SchemaDiffers → ⊥) × (IsErrOf result ReservoirFault.Full → ⊥) × (IsErrOf result ReservoirFault.Ended → ⊥) }
         ensures err { OnErr result (self.new ≡ self.old) }
         ensures leaves { LeavesAll H.now H.may H.clock H.since H.said host.old host.new }

@@ -2,7 +2,7 @@
 use Rattle.std.proofs.Common.{◌≡◌, ℕ, ◌≤◌, ◌++◌, List, sym, subst, ◌∙◌, arith}
 use Rattle.rg_event.specs.declared.event.Event.{Event}
 use Rattle.rg_past.specs.declared.past.Spot.{Spot}
-use Rattle.rg_plan.specs.Plans.{Planned}
+use Rattle.rg_plan.specs.Plans.{Tasks}
 use Rattle.rg_state.specs.Keeping.{TableKept}
 use Rattle.rg_engine.specs.Feeding.{IsFed}
 use Rattle.rg_engine.proofs.Taken.{told_later}
@@ -17,14 +17,14 @@ table-then Tells faults old middle new first second = record {
 }
 
 -- what an engine asks of a past, it can ask of a later state of it with the same events
-pub can_later : (is_sound later_sound is_told : Type 0) (plan : Planned) (events all : List Event) → (is_sound → later_sound) → all ≡ events → CanStand is_sound is_told plan events → CanStand later_sound is_told plan all
+pub can_later : (is_sound later_sound is_told : Type 0) (plan : Tasks) (events all : List Event) → (is_sound → later_sound) → all ≡ events → CanStand is_sound is_told plan events → CanStand later_sound is_told plan all
 can_later is_sound later_sound is_told plan events all sound same can = record {
   sound = sound can.sound;
   tells = can.tells;
   fed = subst (IsFed plan) (sym same) can.fed;
 }
 
-pub node_later : (Spells Later : Spot → Type 0) (plan : Planned) (n : ℕ) (events all : List Event) (checkpoint : Checkpoint) → ((spot : Spot) → Spells spot → Later spot) → all ≡ events → NodeIsTrue Spells plan n events checkpoint → NodeIsTrue Later plan n all checkpoint
+pub node_later : (Spells Later : Spot → Type 0) (plan : Tasks) (n : ℕ) (events all : List Event) (checkpoint : Checkpoint) → ((spot : Spot) → Spells spot → Later spot) → all ≡ events → NodeIsTrue Spells plan n events checkpoint → NodeIsTrue Later plan n all checkpoint
 node_later Spells Later plan n events all checkpoint goes same node = record {
   front = node.front;
   more = node.more;

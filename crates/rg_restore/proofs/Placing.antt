@@ -6,7 +6,7 @@ use Rattle.rg_event.specs.declared.event.Event.{Event}
 use Rattle.rg_past.specs.declared.past.Spot.{Spot}
 use Rattle.rg_event.specs.Rising.{last_time}
 use Rattle.rg_plan.specs.Named.{node_at}
-use Rattle.rg_plan.specs.Plans.{Planned}
+use Rattle.rg_plan.specs.Plans.{Tasks}
 use Rattle.rg_state.specs.Rows.{Cells, Entry, Lists}
 use Rattle.rg_window.specs.Placed.{IsSpelledAt, numbers_of}
 use Rattle.rg_engine.specs.Passed.{AreAtPositions}
@@ -31,7 +31,7 @@ in_places f (o ∷ offsets) (n ∷ numbers) same at =
 abbrev no_spot : Spot
 no_spot = record { place = 0; index = 0; number = 0 }
 
-module _ (Spells : Spot → Type 0) (plan : Planned) (events : List Event) (spots : List Spot) where
+module _ (Spells : Spot → Type 0) (plan : Tasks) (events : List Event) (spots : List Spot) where
   pub are_at : SpotsAt Spells plan.offsets events spots → AreAtPositions plan events (numbers_of spots)
   are_at at edge offset is = ap (λ ns. get_or ns edge 0) at.numbers ∙ at_place (position_in events) plan.offsets edge offset is
 
@@ -53,21 +53,21 @@ module _ (Spells : Spot → Type 0) (plan : Planned) (events : List Event) (spot
   }
 
 -- each node of an engine that stands
-pub node_stands : (Spells : Spot → Type 0) (plan : Planned) (events : List Event) (cells : Cells) (spots : List Spot) → StandsFor plan events cells → SpotsAt Spells plan.offsets events spots → (n : ℕ) → NodeStands plan n events cells (numbers_of spots)
+pub node_stands : (Spells : Spot → Type 0) (plan : Tasks) (events : List Event) (cells : Cells) (spots : List Spot) → StandsFor plan events cells → SpotsAt Spells plan.offsets events spots → (n : ℕ) → NodeStands plan n events cells (numbers_of spots)
 node_stands Spells plan events cells spots rows at n = record {
   rows = rows n;
   places = λ edge offset is has. are_at Spells plan events spots at edge offset is;
 }
 
-pub node_told : (Spells : Spot → Type 0) (plan : Planned) (events : List Event) (spots : List Spot) → SpotsAt Spells plan.offsets events spots → (n : ℕ) → IsTold plan n Spells spots
+pub node_told : (Spells : Spot → Type 0) (plan : Tasks) (events : List Event) (spots : List Spot) → SpotsAt Spells plan.offsets events spots → (n : ℕ) → IsTold plan n Spells spots
 node_told Spells plan events spots at n = all_told plan n Spells spots (as_many Spells plan events spots at) at.spelled
 
 -- rows that stand, in another table of the same ones
-pub rows_same : (plan : Planned) (events : List Event) (cells cells' : Cells) (entries : List Entry) → Lists cells entries → Lists cells' entries → StandsFor plan events cells → StandsFor plan events cells'
+pub rows_same : (plan : Tasks) (events : List Event) (cells cells' : Cells) (entries : List Entry) → Lists cells entries → Lists cells' entries → StandsFor plan events cells → StandsFor plan events cells'
 rows_same plan events cells cells' entries first second rows n key =
     subst (λ row. RowIs (node_at plan n) key (last_time events) events row) (sym (one_table cells cells' entries first second n key)) (rows n key)
 
-pub node_same : (plan : Planned) (n : ℕ) (events : List Event) (cells cells' : Cells) (numbers : List ℕ) (entries : List Entry) → Lists cells entries → Lists cells' entries → NodeStands plan n events cells numbers → NodeStands plan n events cells' numbers
+pub node_same : (plan : Tasks) (n : ℕ) (events : List Event) (cells cells' : Cells) (numbers : List ℕ) (entries : List Entry) → Lists cells entries → Lists cells' entries → NodeStands plan n events cells numbers → NodeStands plan n events cells' numbers
 node_same plan n events cells cells' numbers entries first second stands = record {
   rows = λ key. subst (λ row. RowIs (node_at plan n) key (last_time events) events row) (sym (one_table cells cells' entries first second n key)) (stands.rows key);
   places = stands.places;

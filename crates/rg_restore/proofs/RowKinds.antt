@@ -24,7 +24,7 @@ use Rattle.rg_agg.specs.Unbeaten.{unbeaten, joined_to, is_less, is_greater}
 use Rattle.rg_event.specs.Rising.{last_time}
 use Rattle.rg_past.specs.declared.past.Spot.{Spot}
 use Rattle.rg_plan.specs.Named.{Node, node_at}
-use Rattle.rg_plan.specs.Plans.{Planned}
+use Rattle.rg_plan.specs.Plans.{Tasks}
 use Rattle.rg_state.specs.Rows.{Entry}
 use Rattle.rg_state.specs.States.{IsOfKind, HasKind}
 use Rattle.rg_engine.specs.Feeding.{IsServed, ColumnServes, Serves}
@@ -204,7 +204,7 @@ module _ (fields : List Field) (events : List Event) (are : All (IsEventOf field
       subst (λ k. IsOfKind k held) (sym (column_kind fields node.agg serves))
       (kept_kind kind held (node_values node key t events) stands some (vals-kind kind node.agg.field (counts_at node key t) events hands))
 
-  row_of : (plan : Planned) → Serves fields plan → (entry : Entry) (node : Option Node) → node_at plan entry.node ≡ node → RowIs node entry.key (last_time events) events (Some entry.held) → IsRowOf fields plan entry
+  row_of : (plan : Tasks) → Serves fields plan → (entry : Entry) (node : Option Node) → node_at plan entry.node ≡ node → RowIs node entry.key (last_time events) events (Some entry.held) → IsRowOf fields plan entry
   row_of plan serves entry None there is = cc
   row_of plan serves entry (Some node) there is = record {
     node = node;
@@ -213,14 +213,14 @@ module _ (fields : List Field) (events : List Event) (are : All (IsEventOf field
   }
 
   -- rows that stand for events of the schema are of the plan that it serves
-  pub rows_fit : (plan : Planned) (entries : List Entry) → Serves fields plan → AreRowsFor entries plan events → AreRowsOf fields plan entries
+  pub rows_fit : (plan : Tasks) (entries : List Entry) → Serves fields plan → AreRowsFor entries plan events → AreRowsOf fields plan entries
   rows_fit plan entries serves stands k d h =
       let e = get_or entries k d in
       let found : stands.cells e.node e.key ≡ Some e.held = (stands.lists.rows e.node e.key e.held).1 (k, h, here entries k d h) in
       row_of plan serves e (node_at plan e.node) refl (subst (RowIs (node_at plan e.node) e.key (last_time events) events) found (stands.stand e.node e.key))
 
 -- a checkpoint that is true of events of the schema is fit for the plan that it serves
-pub truthful_fits : (Spells : Spot → Type 0) (queries : List (List ℕ)) (fields : List Field) (plan : Planned) (events : List Event) (checkpoint : Checkpoint) → Serves fields plan → All (IsEventOf fields) events → checkpoint.queries ≡ queries →
+pub truthful_fits : (Spells : Spot → Type 0) (queries : List (List ℕ)) (fields : List Field) (plan : Tasks) (events : List Event) (checkpoint : Checkpoint) → Serves fields plan → All (IsEventOf fields) events → checkpoint.queries ≡ queries →
     IsTruthful Spells plan events checkpoint → IsFit Spells queries fields plan (length events) checkpoint
 truthful_fits Spells queries fields plan events checkpoint serves are same is = record {
   queries_are = same;

@@ -3,7 +3,7 @@ use Rattle.std.proofs.Common.{◌≡◌, ◌⊎◌, inl, inr, ℕ, zero, suc, �
 use Rattle.std.proofs.lemmas.List.Elements.{All-weaker}
 use Rattle.rg_event.specs.declared.schema.Field.{Field}
 use Rattle.rg_past.specs.declared.past.Spot.{Spot}
-use Rattle.rg_plan.specs.Plans.{Planned}
+use Rattle.rg_plan.specs.Plans.{Tasks}
 use Rattle.rg_window.specs.Placed.{AreWithin}
 use Rattle.rg_engine.proofs.Plain.{none_some, same_some}
 use Rattle.rg_checkpoint.specs.declared.base.Checkpoint.{Checkpoint}
@@ -96,7 +96,7 @@ order_down saved a b newer older is is_second le e f = subst (λ n. AreOrdered (
 
 -- One after the other
 
-pub fit_same : (Spells Other : Spot → Type 0) (queries : List (List ℕ)) (fields : List Field) (plan : Planned) (count count' : ℕ) (c : Checkpoint) → ((spot : Spot) → Spells spot → Other spot) → count ≡ count' → IsFit Spells queries fields plan count c → IsFit Other queries fields plan count' c
+pub fit_same : (Spells Other : Spot → Type 0) (queries : List (List ℕ)) (fields : List Field) (plan : Tasks) (count count' : ℕ) (c : Checkpoint) → ((spot : Spot) → Spells spot → Other spot) → count ≡ count' → IsFit Spells queries fields plan count c → IsFit Other queries fields plan count' c
 fit_same Spells Other queries fields plan count count' c goes same is = record {
   queries_are = is.queries_are;
   within = omega (arith, is.within, same);

@@ -2,7 +2,7 @@
 use Rattle.std.specs.Prelude.{◌≡◌, ◌⊎◌, ℕ, zero, suc, ◌<◌, ◌≤◌, List, map, Option, Some, None}
 use Rattle.rg_event.specs.declared.event.Event.{Event}
 use Rattle.rg_past.specs.declared.past.Spot.{Spot}
-use Rattle.rg_plan.specs.Plans.{Planned}
+use Rattle.rg_plan.specs.Plans.{Tasks}
 use Rattle.rg_window.specs.Placed.{numbers_of}
 use Rattle.rg_checkpoint.specs.declared.base.Checkpoint.{Checkpoint}
 use Rattle.rg_restore.specs.declared.choosing.Saved.{Saved}
@@ -15,7 +15,7 @@ slot_in saved (suc zero) = saved.second
 slot_in saved (suc (suc n)) = None
 
 -- each checkpoint of these queries is true of these events
-abbrev pub AreTruthful : (Spot → Type 0) → List (List ℕ) → Planned → List Event → (ℕ → Option Checkpoint) → Type 0
+abbrev pub AreTruthful : (Spot → Type 0) → List (List ℕ) → Tasks → List Event → (ℕ → Option Checkpoint) → Type 0
 AreTruthful Spells queries plan events slots = (i : ℕ) (checkpoint : Checkpoint) → slots i ≡ Some checkpoint → checkpoint.queries ≡ queries → IsTruthful Spells plan events checkpoint
 
 -- the other is of a lesser count, or of the same one and in a slot of a greater number

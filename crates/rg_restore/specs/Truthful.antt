@@ -4,7 +4,7 @@ use Rattle.rg_event.specs.Rising.{last_time}
 use Rattle.rg_event.specs.declared.event.Event.{Event}
 use Rattle.rg_past.specs.declared.past.Spot.{Spot}
 use Rattle.rg_plan.specs.Named.{node_at}
-use Rattle.rg_plan.specs.Plans.{Planned}
+use Rattle.rg_plan.specs.Plans.{Tasks}
 use Rattle.rg_state.specs.Rows.{Cells, Entry, Lists}
 use Rattle.rg_window.specs.Placed.{numbers_of}
 use Rattle.rg_engine.specs.Standing.{RowIs, IsTold, NodeStands}
@@ -13,17 +13,17 @@ use Rattle.rg_checkpoint.specs.declared.base.Checkpoint.{Checkpoint}
 
 -- a table's rows stand for these events: a node of the plan has a row for a key exactly where it has values for the key, and that row is of the node's
 -- function and stands for them; there are no other rows, of other nodes either
-abbrev pub StandsFor : Planned → List Event → Cells → Type 0
+abbrev pub StandsFor : Tasks → List Event → Cells → Type 0
 StandsFor plan events cells = (n : ℕ) (key : List ℕ) → RowIs (node_at plan n) key (last_time events) events (cells n key)
 
 -- rows in a list, which rise by node and key, stand for these events
-pub record AreRowsFor (rows : List Entry) (plan : Planned) (events : List Event) : Type 0 where
+pub record AreRowsFor (rows : List Entry) (plan : Tasks) (events : List Event) : Type 0 where
   pub cells : Cells
   pub lists : Lists cells rows
   pub stand : StandsFor plan events cells
 
 -- one node by itself: its rows in a list stand for these events, and the edges of its window are at their positions
-pub record IsNodeFor (rows : List Entry) (plan : Planned) (n : ℕ) (events : List Event) (numbers : List ℕ) : Type 0 where
+pub record IsNodeFor (rows : List Entry) (plan : Tasks) (n : ℕ) (events : List Event) (numbers : List ℕ) : Type 0 where
   pub cells : Cells
   pub lists : Lists cells rows
   pub stands : NodeStands plan n events cells numbers
@@ -38,23 +38,23 @@ pub record SpotsAt (Spells : Spot → Type 0) (offsets : List ℕ) (events : Lis
   pub spelled : All Spells spots
 
 -- a checkpoint is true of these events: it is of so many of the first ones, its spots are at their positions in those, and its rows stand for those
-pub record IsTruthful (Spells : Spot → Type 0) (plan : Planned) (events : List Event) (checkpoint : Checkpoint) : Type 0 where
+pub record IsTruthful (Spells : Spot → Type 0) (plan : Tasks) (events : List Event) (checkpoint : Checkpoint) : Type 0 where
   pub within : checkpoint.count ≤ length events
   pub spots : SpotsAt Spells plan.offsets (take checkpoint.count events) checkpoint.spots
   pub rows : AreRowsFor checkpoint.rows plan (take checkpoint.count events)
 
 -- an engine stands for these events: its rows do, and its edges are at their positions, at spots that are spelled
-pub record EngineStands (Spells : Spot → Type 0) (plan : Planned) (events : List Event) (cells : Cells) (at : List Spot) : Type 0 where
+pub record EngineStands (Spells : Spot → Type 0) (plan : Tasks) (events : List Event) (cells : Cells) (at : List Spot) : Type 0 where
   pub rows : StandsFor plan events cells
   pub spots : SpotsAt Spells plan.offsets events at
 
 -- one node of an engine stands for these events: its rows do, and the edges of its window are at their positions, at spots that are spelled
-pub record NodeGoes (Spells : Spot → Type 0) (plan : Planned) (n : ℕ) (events : List Event) (cells : Cells) (at : List Spot) : Type 0 where
+pub record NodeGoes (Spells : Spot → Type 0) (plan : Tasks) (n : ℕ) (events : List Event) (cells : Cells) (at : List Spot) : Type 0 where
   pub told : IsTold plan n Spells at
   pub stands : NodeStands plan n events cells (numbers_of at)
 
 -- one node of a checkpoint is true of these events: the spots of its window's edges are spelled, and they and its rows stand for some of the first ones
-pub record NodeIsTrue (Spells : Spot → Type 0) (plan : Planned) (n : ℕ) (events : List Event) (checkpoint : Checkpoint) : Type 0 where
+pub record NodeIsTrue (Spells : Spot → Type 0) (plan : Tasks) (n : ℕ) (events : List Event) (checkpoint : Checkpoint) : Type 0 where
   pub front : List Event
   pub more : List Event
   pub is : events ≡ front ++ more

@@ -3,7 +3,7 @@ ghost use Rattle.rg_event.specs.Codec.{IsEventOf};
 ghost use Rattle.rg_event.specs.declared.event.Event.{Event};
 ghost use Rattle.rg_event.specs.declared.schema.Field.{Field};
 ghost use Rattle.rg_past.specs.declared.past.Spot.{Spot};
-ghost use Rattle.rg_plan.specs.Plans.{Planned};
+ghost use Rattle.rg_plan.specs.Plans.{Tasks};
 ghost use Rattle.rg_state.specs.Rows.{Cells, Lists};
 ghost use Rattle.rg_window.specs.Placed.{IsSpelledAt, numbers_of};
 ghost use Rattle.rg_engine.specs.Carrying.{CarriesOn};
@@ -23,7 +23,7 @@ use rg_state::Table;
 /// what `Engine::take` and `Engine::replay` ask to answer as from scratch.
 #[tactic(auto, using(crate::proofs::Standing::carries))]
 pub fn law_carries<P: Past, T: Table>()
-    ensures { (past : P) (table : T) (plan : Planned) (all : List Event) (spots : List Spot) (n : ℕ) →
+    ensures { (past : P) (table : T) (plan : Tasks) (all : List Event) (spots : List Spot) (n : ℕ) →
         CanStand (P.sound past) (T.tells table) plan all →
         EngineStands (P.spells past) plan (P.events past) (T.cell table) spots →
         CarriesOn plan n (P.sound past) (P.spells past) (T.tells table) (P.events past) all (P.events past) (T.cell table) spots }
@@ -32,7 +32,7 @@ pub fn law_carries<P: Past, T: Table>()
 /// An engine stands for the events of a past where each node does, each edge is at its position, and each
 /// spot is spelled: this is what `Engine::take` and `Engine::replay` leave.
 pub fn law_stands<P: Past, T: Table>()
-    ensures { (past : P) (table : T) (plan : Planned) (spots : List Spot) → length spots ≡ length plan.offsets →
+    ensures { (past : P) (table : T) (plan : Tasks) (spots : List Spot) → length spots ≡ length plan.offsets →
         ((n : ℕ) → NodeStands plan n (P.events past) (T.cell table) (numbers_of spots)) →
         AreAtPositions plan (P.events past) (numbers_of spots) →
         ((edge offset : ℕ) → slice_get plan.offsets edge ≡ Some offset → IsSpelledAt (P.spells past) spots edge) →
@@ -43,18 +43,18 @@ pub fn law_stands<P: Past, T: Table>()
 /// each later state of the past.
 #[tactic(auto, using(crate::proofs::Saving::saved, crate::proofs::Saving::later_past))]
 pub fn law_saved<P: Past>()
-    ensures saved { (past : P) (plan : Planned) (cells : Cells) (checkpoint : Checkpoint) →
+    ensures saved { (past : P) (plan : Tasks) (cells : Cells) (checkpoint : Checkpoint) →
         EngineStands (P.spells past) plan (P.events past) cells checkpoint.spots → Lists cells checkpoint.rows →
         checkpoint.count ≡ length (P.events past) →
         IsTruthful (P.spells past) plan (P.events past) checkpoint }
-    ensures later { (past next : P) (plan : Planned) (checkpoint : Checkpoint) → P.goes past next → P.sound past →
+    ensures later { (past next : P) (plan : Tasks) (checkpoint : Checkpoint) → P.goes past next → P.sound past →
         IsTruthful (P.spells past) plan (P.events past) checkpoint → IsTruthful (P.spells next) plan (P.events next) checkpoint }
 {}
 
 /// A checkpoint of a plan's queries that is true of the events of a sound past is fit, where they are of
 /// columns that serve the plan.
 pub fn law_fit<P: Names>()
-    ensures { (past : P) (queries : List (List ℕ)) (fields : List Field) (plan : Planned) (checkpoint : Checkpoint) → P.Past.sound past →
+    ensures { (past : P) (queries : List (List ℕ)) (fields : List Field) (plan : Tasks) (checkpoint : Checkpoint) → P.Past.sound past →
         Serves fields plan → All (IsEventOf fields) (P.Past.events past) → checkpoint.queries ≡ queries →
         IsTruthful (P.Past.spells past) plan (P.Past.events past) checkpoint →
         IsFit (P.named past) queries fields plan (length (P.Past.events past)) checkpoint }

@@ -16,7 +16,7 @@ use Rattle.rg_reply.specs.declared.mark.Mark.TheVariants.{Opened}
 use Rattle.rg_course.specs.Laws.{IsPrefixOf}
 use Rattle.rg_course.specs.Output.{open_line, out}
 use Rattle.rg_course.specs.Steps.{IsAtRest, IsMidStep, IsStepped}
-use Rattle.rg_course.specs.Stores.{Course, IsKept, IsNear, StaysOnCourseSince}
+use Rattle.rg_course.specs.Stores.{Course, IsKeptInStore, IsNear, StaysOnCourseSince}
 use Rattle.rg_course.specs.Turns.{IsBetween}
 use Rattle.rg_course.proofs.Betweens.{at_rest_first, between_first}
 use Rattle.rg_course.proofs.Courses.{on_course_mid_step, on_course_put}
@@ -33,10 +33,10 @@ use Rattle.rg_recover.proofs.Sound.{long}
 use Rattle.rg_turn.specs.Turning.{IsAwaiting, terms_of}
 use Rattle.rg_turn.proofs.Stepping.{running_still}
 use Rattle.rg_turn.proofs.Telling.{next_by}
-use Rattle.rg_run.specs.Begun.{IsReady, begun_by, course_for}
+use Rattle.rg_run.specs.Begun.{IsReadyRun, begun_by, course_for}
 use Rattle.rg_run.specs.UnderWay.{IsUnopened}
 
-module _ {H : Type 0} (now : H → Option Image) (may : H → Image → Type 0) (clock : H → ℕ) (since : H → ℕ → Moment → Type 0) (said : H → Option (List ℕ)) (plan : Planned) (old : H) (ready : IsReady plan (now old) (may old) (said old)) (from first : ℕ) (input : List ℕ) where
+module _ {H : Type 0} (now : H → Option Image) (may : H → Image → Type 0) (clock : H → ℕ) (since : H → ℕ → Moment → Type 0) (said : H → Option (List ℕ)) (plan : Planned) (old : H) (ready : IsReadyRun plan (now old) (may old) (said old)) (from first : ℕ) (input : List ℕ) where
   abbrev pub course : Course
   course = course_for plan (begun_by ready from first input)
 
@@ -74,7 +74,7 @@ module _ {H : Type 0} (now : H → Option Image) (may : H → Image → Type 0) 
     pub opening_moments : Moments clock since old opened P
     opening_moments = moments-weaker clock since old opened (λ m. (may old m.image ⊎ IsMidStep (store_of plan) keep [] (IsAsRead v (may old)) m.image) × ForSome (said old) (λ s. m.said ≡ s)) P within.moments each
 
-    kept_by : (u : Image) → may old u ⊎ IsMidStep (store_of plan) keep [] (IsAsRead v (may old)) u → may old u ⊎ IsKept (store_of plan) course [] u
+    kept_by : (u : Image) → may old u ⊎ IsMidStep (store_of plan) keep [] (IsAsRead v (may old)) u → may old u ⊎ IsKeptInStore (store_of plan) course [] u
     kept_by u (inl left) = inl left
     kept_by u (inr mid) = inr (mid_step_kept Image (store_of plan) course [] ready.held [] keep (IsAsRead v (may old)) u (at_read keep) (begins keep) near mid)
 

@@ -13,7 +13,7 @@ use Rattle.rg_course.specs.Stores.{StaysOnCourseSince}
 use Rattle.rg_store.specs.Stores.{store_of}
 use Rattle.rg_recover.specs.Sessions.{Sitting, events_of}
 use Rattle.rg_turn.specs.Turning.{IsAwaiting, HasStopped}
-use Rattle.rg_run.specs.Begun.{IsReady, Begun, begun_by, course_for}
+use Rattle.rg_run.specs.Begun.{IsReadyRun, Begun, begun_by, course_for}
 use Rattle.rg_run.specs.Reading.{HasRead}
 use Rattle.rg_run.specs.UnderWay.{IsUnderWay, IsUnopened, IsLeft}
 use Rattle.rg_run.specs.declared.fault.RunFault.{RunFault}
@@ -23,7 +23,7 @@ use Rattle.rg_run.proofs.Turns.{IsCut}
 
 module _ {H : Type 0} (now : H → Option Image) (may : H → Image → Type 0) (clock : H → ℕ) (since : H → ℕ → Moment → Type 0) (said : H → Option (List ℕ)) (plan : Planned) where
   -- a run that never began
-  pub none_moments : (only : (h : H) (m : Moment) → since h (clock h) m → may h m.image × ForSome (said h) (λ t. m.said ≡ t)) (sinks : (h : H) (t u : ℕ) (m : Moment) → t ≤ u → since h u m → since h t m) (old : H) (ready : IsReady plan (now old) (may old) (said old)) (from first : ℕ) (input : List ℕ) →
+  pub none_moments : (only : (h : H) (m : Moment) → since h (clock h) m → may h m.image × ForSome (said h) (λ t. m.said ≡ t)) (sinks : (h : H) (t u : ℕ) (m : Moment) → t ≤ u → since h u m → since h t m) (old : H) (ready : IsReadyRun plan (now old) (may old) (said old)) (from first : ℕ) (input : List ℕ) →
       Moments clock since old old (StaysOnCourseSince (store_of plan) (course_for plan (begun_by ready from first input)) (may old) [])
   none_moments only sinks old ready from first input = moments-none clock since old (StaysOnCourseSince (store_of plan) (course_for plan (begun_by ready from first input)) (may old) []) (λ t u m le h. sinks old t u m le h)
       (λ m h. let at = only old m h in inl (at.0, ([], ([], refl), at.1 ready.put ready.told ∙ sym (append-nil ready.put))))

@@ -10,7 +10,7 @@ use Rattle.rg_state.specs.Rows.{Cells}
 use Rattle.rg_course.specs.Accepted.{events_after}
 use Rattle.rg_course.specs.Ahead.{after_line}
 use Rattle.rg_course.specs.Output.{open_line, put_before}
-use Rattle.rg_course.specs.Stores.{Course, IsKept, StaysOnCourse, StaysOnCourseSince}
+use Rattle.rg_course.specs.Stores.{Course, IsKeptInStore, StaysOnCourse, StaysOnCourseSince}
 use Rattle.rg_course.specs.Turns.{IsDone}
 use Rattle.rg_store.specs.Stores.{store_of}
 use Rattle.rg_open.specs.Opening.{IsFromIn}
@@ -64,7 +64,7 @@ module _ {H : Type 0} (may : H → Image → Type 0) (said : H → Option (List 
   -- Nothing was put, and whatever image is left might have been left before, or is kept as by a run that has put nothing yet.
   pub record IsUnopened (plan : Planned) (b : Begun) (old new : H) : Type 0 where
     pub said_stays : said new ≡ said old
-    pub left : (u : Image) → may new u → may old u ⊎ IsKept (store_of plan) (course_for plan b) [] u
+    pub left : (u : Image) → may new u → may old u ⊎ IsKeptInStore (store_of plan) (course_for plan b) [] u
 
   -- A run that ended with this fault: unless a put failed, whole lines were put and each image is kept, or the store was not opened.
   abbrev pub IsLeft : Planned → Begun → RunFault → H → H → Type 0

@@ -10,7 +10,7 @@ ghost use Rattle.rg_event.specs.declared.event.Event.{Event};
 ghost use Rattle.rg_frame.specs.LogState.{ReachesEnd};
 ghost use Rattle.rg_log.specs.Log.{schema_payload, HasEvents};
 ghost use Rattle.rg_config.specs.Plans.{planned};
-ghost use Rattle.rg_config.specs.Read.{IsRead};
+ghost use Rattle.rg_config.specs.Read.{IsReadPlan};
 ghost use Rattle.rg_reservoir.specs.Attached.{IsOther, IsBadFrame};
 ghost use Rattle.rg_reservoir.specs.Chain.{IsIllegal};
 ghost use Rattle.rg_reservoir.specs.Kept.{base, log_of};
@@ -22,7 +22,7 @@ ghost use Rattle.rg_open.specs.Unfit.{IsUnfit, IsLeftAlone};
 ghost use Rattle.rg_open.specs.Within.{IsWithinOpening};
 ghost use Rattle.rg_recover.specs.Sessions.{events_of};
 ghost use Rattle.rg_turn.specs.Turning.{IsAwaiting};
-ghost use Rattle.rg_run.specs.Begun.{IsReady, begun_by, course_for};
+ghost use Rattle.rg_run.specs.Begun.{IsReadyRun, begun_by, course_for};
 ghost use Rattle.rg_run.specs.Faults.{SaysWhy, IsGapOrFailed};
 ghost use Rattle.rg_run.specs.UnderWay.{IsUnopened};
 
@@ -47,20 +47,20 @@ pub(crate) fn begin<H: Host, L: Ledger>(
     first: u64,
     steps: &mut Steps<L>,
 ) -> Result<Turning<MemTable>, RunFault>
-    requires read { IsRead plan.now }
+    requires read { IsReadPlan plan.now }
 
-    ensures begun { (ready : IsReady (planned plan.now) (H.now host.old) (H.may host.old) (H.said host.old)) (input : List ℕ) → (from : ℕ)
+    ensures begun { (ready : IsReadyRun (planned plan.now) (H.now host.old) (H.may host.old) (H.said host.old)) (input : List ℕ) → (from : ℕ)
         × (IsFromIn (planned plan.now) ready.openable.image from ⊎ (H.said host.new ≡ H.said host.old))
         × Moments H.clock H.since host.old host.new (StaysOnCourseSince (store_of (planned plan.now)) (course_for (planned plan.now) (begun_by ready from first input)) (H.may host.old) [])
         × IfOk result (λ turning. IsFromIn (planned plan.now) ready.openable.image from × IsAwaiting (planned plan.now) (course_for (planned plan.now) (begun_by ready from first input)) first (lines_of input)
         (H.now host.new) (H.may host.new) (H.said host.new) (⟦<MemTable as Table>⟧.tells turning.session.engine.table) (⟦<MemTable as Table>⟧.cell turning.session.engine.table) turning.session
         × (events_of (H.now host.new) turning.session ≡ ready.held))
         × IfErr result (λ fault. (fault ≡ RunFault.Write) ⊎ IsUnopened H.may H.said (planned plan.now) (begun_by ready from first input) host.old host.new) }
-    ensures behind { (ready : IsReady (planned plan.now) (H.now host.old) (H.may host.old) (H.said host.old)) (keep : Option ℕ) → next_offset ready.held < first →
+    ensures behind { (ready : IsReadyRun (planned plan.now) (H.now host.old) (H.may host.old) (H.said host.old)) (keep : Option ℕ) → next_offset ready.held < first →
         IsWithinOpening H.may H.clock H.since H.said (store_of (planned plan.now)) keep ready.openable.image host.old host.new × IfErr result IsGapOrFailed }
-    ensures never_bad { (n : ℕ) → IsReady (planned plan.now) (H.now host.old) (H.may host.old) (H.said host.old) → IsErrOf result (RunFault.BadState n) → ⊥ }
-    ensures never_damaged { (p : ℕ) → IsReady (planned plan.now) (H.now host.old) (H.may host.old) (H.said host.old) → IsErrOf result (RunFault.Damaged p) → ⊥ }
-    ensures never_differs { IsReady (planned plan.now) (H.now host.old) (H.may host.old) (H.said host.old) → IsErrOf result RunFault.SchemaDiffers → ⊥ }
+    ensures never_bad { (n : ℕ) → IsReadyRun (planned plan.now) (H.now host.old) (H.may host.old) (H.said host.old) → IsErrOf result (RunFault.BadState n) → ⊥ }
+    ensures never_damaged { (p : ℕ) → IsReadyRun (planned plan.now) (H.now host.old) (H.may host.old) (H.said host.old) → IsErrOf result (RunFault.Damaged p) → ⊥ }
+    ensures never_differs { IsReadyRun (planned plan.now) (H.now host.old) (H.may host.old) (H.said host.old) → IsErrOf result RunFault.SchemaDiffers → ⊥ }
 
     // Where a state is bad, and of each node that can't be carried on, the checkpoint that was used is to blame.
     ensures bad { (v : Image) (events : List Event) (n : ℕ) → H.now host.old ≡ Some v → HasEvents plan.now.schema events (v 2) →

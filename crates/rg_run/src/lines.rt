@@ -4,7 +4,7 @@ ghost use Rattle.rg_bytes.specs.Counts.{Rose};
 ghost use Rattle.rg_host.specs.Moments.{Moments};
 ghost use Rattle.rg_frame.specs.LogState.{ReachesEnd};
 ghost use Rattle.rg_config.specs.Plans.{planned};
-ghost use Rattle.rg_config.specs.Read.{IsRead};
+ghost use Rattle.rg_config.specs.Read.{IsReadPlan};
 ghost use Rattle.rg_reservoir.specs.Chain.{IsIllegal};
 ghost use Rattle.rg_reservoir.specs.Kept.{base, log_of};
 ghost use Rattle.rg_course.specs.Stores.{StaysOnCourse};
@@ -33,7 +33,7 @@ pub(crate) fn answer_lines<I: Source, H: Host, L: Ledger>(
     host: &mut H,
     steps: &mut Steps<L>,
 ) -> Result<(), RunFault>
-    requires read { IsRead plan.now }
+    requires read { IsReadPlan plan.now }
     requires counted { turning.old.offset ≤ 2 ^ 61 + lines.old.spent }
     requires within { lines.old.spent ≤ 2 ^ 50 }
     requires going { turning.old.session.ended ≡ false }

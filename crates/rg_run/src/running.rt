@@ -7,16 +7,16 @@ ghost use Rattle.rg_event.specs.declared.event.Event.{Event};
 ghost use Rattle.rg_event.specs.Rising.{next_offset};
 ghost use Rattle.rg_log.specs.Log.{schema_payload, HasEvents};
 ghost use Rattle.rg_config.specs.Plans.{planned};
-ghost use Rattle.rg_config.specs.Read.{IsRead};
+ghost use Rattle.rg_config.specs.Read.{IsReadPlan};
 ghost use Rattle.rg_reservoir.specs.Attached.{IsOther, IsBadFrame};
 ghost use Rattle.rg_reservoir.specs.Chain.{IsIllegal};
 ghost use Rattle.rg_store.specs.Stores.{store_of};
 ghost use Rattle.rg_open.specs.Blame.{IsBlamed};
 ghost use Rattle.rg_open.specs.Unfit.{IsUnfit, IsLeftAlone};
 ghost use Rattle.rg_open.specs.Within.{IsWithinOpening};
-ghost use Rattle.rg_run.specs.Begun.{IsReady, begun_by};
+ghost use Rattle.rg_run.specs.Begun.{IsReadyRun, begun_by};
 ghost use Rattle.rg_run.specs.Faults.{SaysWhy, IsGapOrFailed};
-ghost use Rattle.rg_run.specs.Reading.{IsLonger, IsWithin};
+ghost use Rattle.rg_run.specs.Reading.{IsLonger, IsWithinLimit};
 ghost use Rattle.rg_run.specs.UnderWay.{Ran};
 
 use crate::begin::begin;
@@ -39,17 +39,17 @@ pub fn run<I: Source, H: Host, L: Ledger>(
     host: &mut H,
     steps: &mut Steps<L>,
 ) -> Result<(), RunFault>
-    requires read { IsRead plan.now }
+    requires read { IsReadPlan plan.now }
     requires first { first ≤ 2 ^ 61 }
 
     // Over a store whose images are truthful, and an input that tells its bytes.
-    ensures ran { (ready : IsReady (planned plan.now) (H.now host.old) (H.may host.old) (H.said host.old)) (all : List ℕ) → I.left input.old ≡ Some all →
+    ensures ran { (ready : IsReadyRun (planned plan.now) (H.now host.old) (H.may host.old) (H.said host.old)) (all : List ℕ) → I.left input.old ≡ Some all →
         (from : ℕ) × Ran H.may H.clock H.since H.said (planned plan.now) (begun_by ready from first all) ready.openable.image (I.left input.new) result host.old host.new }
-    ensures behind { (ready : IsReady (planned plan.now) (H.now host.old) (H.may host.old) (H.said host.old)) (keep : Option ℕ) → next_offset ready.held < first →
+    ensures behind { (ready : IsReadyRun (planned plan.now) (H.now host.old) (H.may host.old) (H.said host.old)) (keep : Option ℕ) → next_offset ready.held < first →
         (input.new ≡ input.old) × IsWithinOpening H.may H.clock H.since H.said (store_of (planned plan.now)) keep ready.openable.image host.old host.new × IfErr result IsGapOrFailed }
-    ensures never_bad { (ready : IsReady (planned plan.now) (H.now host.old) (H.may host.old) (H.said host.old)) (all : List ℕ) (n : ℕ) → I.left input.old ≡ Some all → IsErrOf result (RunFault.BadState n) → ⊥ }
-    ensures never_damaged { (ready : IsReady (planned plan.now) (H.now host.old) (H.may host.old) (H.said host.old)) (all : List ℕ) (p : ℕ) → I.left input.old ≡ Some all → IsErrOf result (RunFault.Damaged p) → ⊥ }
-    ensures never_differs { IsReady (planned plan.now) (H.now host.old) (H.may host.old) (H.said host.old) → IsErrOf result RunFault.SchemaDiffers → ⊥ }
+    ensures never_bad { (ready : IsReadyRun (planned plan.now) (H.now host.old) (H.may host.old) (H.said host.old)) (all : List ℕ) (n : ℕ) → I.left input.old ≡ Some all → IsErrOf result (RunFault.BadState n) → ⊥ }
+    ensures never_damaged { (ready : IsReadyRun (planned plan.now) (H.now host.old) (H.may host.old) (H.said host.old)) (all : List ℕ) (p : ℕ) → I.left input.old ≡ Some all → IsErrOf result (RunFault.Damaged p) → ⊥ }
+    ensures never_differs { IsReadyRun (planned plan.now) (H.now host.old) (H.may host.old) (H.said host.old) → IsErrOf result RunFault.SchemaDiffers → ⊥ }
 
     // Over an image that isn't fit for the plan it is refused for that, and the input, the files and the output are left alone.
     ensures unfit { (v : Image) → H.now host.old ≡ Some v → IsUnfit (planned plan.now) v →
@@ -68,7 +68,7 @@ pub fn run<I: Source, H: Host, L: Ledger>(
     ensures bad { (v : Image) (events : List Event) (n : ℕ) → H.now host.old ≡ Some v → HasEvents plan.now.schema events (v 2) →
         IsErrOf result (RunFault.BadState n) → IsBlamed (planned plan.now) v events n }
     ensures at_end { OnOk result (IsAtEnd (I.left input.new)) }
-    ensures within { OnOk result (IsWithin (2 ^ 50) (I.left input.old)) }
+    ensures within { OnOk result (IsWithinLimit (2 ^ 50) (I.left input.old)) }
     ensures read { IsErrOf result RunFault.Read → Rose (I.faults input.old) (I.faults input.new) }
     ensures limit { IsErrOf result RunFault.Limit → IsLonger (2 ^ 50) (I.left input.old) }
     ensures write { IsErrOf result RunFault.Write → Rose (H.out_faults host.old) (H.out_faults host.new) }

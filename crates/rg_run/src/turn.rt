@@ -5,7 +5,7 @@ ghost use Rattle.rg_bytes.specs.Counts.{Rose};
 ghost use Rattle.rg_host.specs.Moments.{Moments};
 ghost use Rattle.rg_frame.specs.LogState.{ReachesEnd};
 ghost use Rattle.rg_config.specs.Plans.{planned};
-ghost use Rattle.rg_config.specs.Read.{IsRead};
+ghost use Rattle.rg_config.specs.Read.{IsReadPlan};
 ghost use Rattle.rg_reservoir.specs.Chain.{IsIllegal};
 ghost use Rattle.rg_reservoir.specs.Kept.{base, log_of};
 ghost use Rattle.rg_course.specs.Stores.{StaysOnCourse};
@@ -42,7 +42,7 @@ fn answer_text<H: Host, L: Ledger>(
     host: &mut H,
     steps: &mut Steps<L>,
 ) -> Result<(), TurnFault>
-    requires read { IsRead plan.now }
+    requires read { IsReadPlan plan.now }
     requires one_line { list_any (λ byte. byte == 10) text.now ≡ false }
     requires small { turning.old.offset < 2 ^ 62 }
     requires going { turning.old.session.ended ≡ false }
@@ -107,7 +107,7 @@ pub(crate) fn turn<I: Source, H: Host, L: Ledger>(
     host: &mut H,
     steps: &mut Steps<L>,
 ) -> Result<bool, RunFault>
-    requires read { IsRead plan.now }
+    requires read { IsReadPlan plan.now }
     requires counted { turning.old.offset ≤ 2 ^ 61 + lines.old.spent }
     requires within { lines.old.spent ≤ 2 ^ 50 }
     requires going { turning.old.session.ended ≡ false }

@@ -10,7 +10,7 @@ use Rattle.rg_metric.specs.declared.query.Agg.{Agg}
 use Rattle.rg_metric.specs.Queries.{Asked}
 use Rattle.rg_metric.specs.Replies.{agg_answer, counts_for, answers_to}
 use Rattle.rg_plan.specs.Named.{node_at, node_of as asked_node, nodes_of}
-use Rattle.rg_plan.specs.Plans.{Planned, plan_for}
+use Rattle.rg_plan.specs.Plans.{Tasks, plan_for}
 use Rattle.rg_plan.proofs.Compiled.{is_named}
 use Rattle.rg_scratch.specs.Nodes.{node_answer, answers_of}
 
@@ -23,15 +23,15 @@ module _ (events : List Event) (e : Event) where
   queries_answer [] = refl
   queries_answer (q ∷ qs) = rw (aggs_answer q q.aggs, queries_answer qs) refl
 
-  twice : (plan : Planned) (ns : List ℕ) → map (λ n. node_answer events e (node_at plan n)) ns ≡ map (node_answer events e) (map (node_at plan) ns)
+  twice : (plan : Tasks) (ns : List ℕ) → map (λ n. node_answer events e (node_at plan n)) ns ≡ map (node_answer events e) (map (node_at plan) ns)
   twice plan [] = refl
   twice plan (n ∷ ns) = ap (λ rest. node_answer events e (node_at plan n) ∷ rest) (twice plan ns)
 
-  paths_answer : (plan : Planned) (paths : List (List ℕ)) → flat_map (map (λ n. node_answer events e (node_at plan n))) paths ≡ flat_map (map (node_answer events e)) (map (λ path. map (node_at plan) path) paths)
+  paths_answer : (plan : Tasks) (paths : List (List ℕ)) → flat_map (map (λ n. node_answer events e (node_at plan n))) paths ≡ flat_map (map (node_answer events e)) (map (λ path. map (node_at plan) path) paths)
   paths_answer plan [] = refl
   paths_answer plan (path ∷ paths) = rw (twice plan path, paths_answer plan paths) refl
 
-pub plan_answers : (events : List Event) (e : Event) (plan : Planned) (qs : List Asked) → plan ≡ plan_for qs → flat_map (map (λ n. node_answer events e (node_at plan n))) plan.paths ≡ answers_to qs events e
+pub plan_answers : (events : List Event) (e : Event) (plan : Tasks) (qs : List Asked) → plan ≡ plan_for qs → flat_map (map (λ n. node_answer events e (node_at plan n))) plan.paths ≡ answers_to qs events e
 plan_answers events e plan qs is =
     paths_answer events e plan plan.paths ∙ ap (flat_map (map (node_answer events e))) (is_named plan qs is) ∙ queries_answer events e qs
 
@@ -50,7 +50,7 @@ drop_none [] (suc i) e = refl
 drop_none (q ∷ ps) zero e = absurd cc
 drop_none (q ∷ ps) (suc i) e = drop_none ps i e
 
-module _ (plan : Planned) (events : List Event) (e : Event) (answers : List Answer) (i : ℕ)
+module _ (plan : Tasks) (events : List Event) (e : Event) (answers : List Answer) (i : ℕ)
     (come : answers ++ flat_map (answers_of plan events e) (drop i plan.paths) ≡ flat_map (answers_of plan events e) plan.paths) where
   pub with_path : (path : List ℕ) (more : List Answer) → slice_get plan.paths i ≡ Some path → more ≡ answers ++ answers_of plan events e path
       → more ++ flat_map (answers_of plan events e) (drop (i + 1) plan.paths) ≡ flat_map (answers_of plan events e) plan.paths
@@ -66,7 +66,7 @@ module _ (plan : Planned) (events : List Event) (e : Event) (answers : List Answ
 pub found_is : (xs : List Event) (k : ℕ) (x e : Event) → x ≡ get_or xs k x → slice_get xs k ≡ Some e → x ≡ e
 found_is xs k x e is there = is ∙ sym (unwrap_or-slice_get xs k x) ∙ ap (λ found. unwrap_or found x) there
 
-pub all_answers : (shape : Shape) (qs : List Asked) (plan : Planned) (events : List Event) (k : ℕ) (x e : Event) → plan ≡ plan_for qs → x ≡ get_or events k x → slice_get events k ≡ Some e
+pub all_answers : (shape : Shape) (qs : List Asked) (plan : Tasks) (events : List Event) (k : ℕ) (x e : Event) → plan ≡ plan_for qs → x ≡ get_or events k x → slice_get events k ≡ Some e
     → flat_map (answers_of plan (take (k + 1) events) x) plan.paths ≡ answers_to qs (take (k + 1) events) e
 all_answers shape qs plan events k x e is at there =
     plan_answers (take (k + 1) events) x plan qs is ∙ ap (answers_to qs (take (k + 1) events)) (found_is events k x e at there)

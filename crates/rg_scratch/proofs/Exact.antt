@@ -25,9 +25,9 @@ use Rattle.rg_plan.specs.declared.node.AggNode.{AggNode}
 use Rattle.rg_plan.specs.Named.{Node, node_at, under_agg, under_group, under_filter}
 use Rattle.rg_plan.specs.declared.node.GroupNode.{GroupNode}
 use Rattle.rg_plan.specs.Nodes.{Filtered, same_agg}
-use Rattle.rg_plan.specs.Plans.{Planned, plan_for, windows_of, filters_of, groups_of, aggs_of, aggs_in, agg_under, group_number}
+use Rattle.rg_plan.specs.Plans.{Tasks, plan_for, windows_of, filters_of, groups_of, aggs_of, aggs_in, agg_under, group_number}
 use Rattle.rg_plan.proofs.Members.{All-distinct}
-use Rattle.rg_query.specs.Legal.{IsOperand, IsLegalAgg, AreLegalAggs, IsLegal}
+use Rattle.rg_query.specs.Legal.{IsOperand, IsLegalAgg, AreLegalAggs, IsLegalQuery}
 use Rattle.rg_query.specs.Printing.{name_at}
 use Rattle.rg_query.specs.Resolving.{column_from, takes}
 use Rattle.rg_scratch.specs.Nodes.{AreExact, IsExactAt, query_at}
@@ -127,7 +127,7 @@ small_values fields column is events are = subst (λ c. All IsSmall (values_in c
         (All-cons IsSmall there.0 (values_in (suc is.n) xs) there.2 (each xs (All-tail (IsEventOf fields) x xs h)))
 
 -- each aggregator of the plan is legal
-module _ (shape : Shape) (qs : List Asked) (legal : All (IsLegal shape) qs) where
+module _ (shape : Shape) (qs : List Asked) (legal : All (IsLegalQuery shape) qs) where
   abbrev IsLegalNode : AggNode → Type 0
   IsLegalNode node = IsLegalAgg shape node.agg
 
@@ -135,32 +135,32 @@ module _ (shape : Shape) (qs : List Asked) (legal : All (IsLegal shape) qs) wher
   aggs_legal [] h = absurd h
   aggs_legal (agg ∷ aggs) h = h
 
-  uses_legal : (xs : List Asked) → All (IsLegal shape) xs → All IsLegalNode (flat_map (aggs_in (windows_of qs) (filters_of qs) (groups_of qs)) xs)
+  uses_legal : (xs : List Asked) → All (IsLegalQuery shape) xs → All IsLegalNode (flat_map (aggs_in (windows_of qs) (filters_of qs) (groups_of qs)) xs)
   uses_legal [] h = All-nil IsLegalNode
   uses_legal (x ∷ xs) h =
       All-append IsLegalNode (aggs_in (windows_of qs) (filters_of qs) (groups_of qs) x) (flat_map (aggs_in (windows_of qs) (filters_of qs) (groups_of qs)) xs)
-      (All-map IsLegalNode (agg_under (group_number (windows_of qs) (filters_of qs) (groups_of qs) x)) x.aggs (aggs_legal x.aggs (All-head (IsLegal shape) x xs h).aggs))
-      (uses_legal xs (All-tail (IsLegal shape) x xs h))
+      (All-map IsLegalNode (agg_under (group_number (windows_of qs) (filters_of qs) (groups_of qs) x)) x.aggs (aggs_legal x.aggs (All-head (IsLegalQuery shape) x xs h).aggs))
+      (uses_legal xs (All-tail (IsLegalQuery shape) x xs h))
 
   pub plan_legal : All IsLegalNode (aggs_of qs)
   plan_legal = All-distinct same_agg IsLegalNode (flat_map (aggs_in (windows_of qs) (filters_of qs) (groups_of qs)) qs) (uses_legal qs legal)
 
 -- the aggregator of a node is one of the plan's
-agg_of_filter : (plan : Planned) (group : GroupNode) (agg : Agg) (filter : Filtered) (node : Node) → under_filter plan group agg filter ≡ Some node → node.agg ≡ agg
+agg_of_filter : (plan : Tasks) (group : GroupNode) (agg : Agg) (filter : Filtered) (node : Node) → under_filter plan group agg filter ≡ Some node → node.agg ≡ agg
 agg_of_filter plan group agg filter node e = by_window (slice_get plan.windows filter.window) e
   where
     by_window : (window : Option Window) → option_map (λ w. record { window = w; condition = filter.condition; columns = group.columns; agg = agg }) window ≡ Some node → node.agg ≡ agg
     by_window None f = absurd cc
     by_window (Some w) f = let same : ◌≡◌ {A = Node} (record { window = w; condition = filter.condition; columns = group.columns; agg = agg }) node = cc in sym (ap (λ (n : Node). n.agg) same)
 
-agg_of_group : (plan : Planned) (agg : Agg) (group : GroupNode) (node : Node) → under_group plan agg group ≡ Some node → node.agg ≡ agg
+agg_of_group : (plan : Tasks) (agg : Agg) (group : GroupNode) (node : Node) → under_group plan agg group ≡ Some node → node.agg ≡ agg
 agg_of_group plan agg group node e = by_filter (slice_get plan.filters group.filter) e
   where
     by_filter : (filter : Option Filtered) → option_and_then (under_filter plan group agg) filter ≡ Some node → node.agg ≡ agg
     by_filter None f = absurd cc
     by_filter (Some filter) f = agg_of_filter plan group agg filter node f
 
-agg_of_agg : (plan : Planned) (agg : AggNode) (node : Node) → under_agg plan agg ≡ Some node → node.agg ≡ agg.agg
+agg_of_agg : (plan : Tasks) (agg : AggNode) (node : Node) → under_agg plan agg ≡ Some node → node.agg ≡ agg.agg
 agg_of_agg plan agg node e = by_group (slice_get plan.groups agg.group) e
   where
     by_group : (group : Option GroupNode) → option_and_then (under_group plan agg.agg) group ≡ Some node → node.agg ≡ agg.agg
@@ -172,7 +172,7 @@ some_of P [] n agg are e = absurd cc
 some_of P (a ∷ aggs) zero agg are e = let same : a ≡ agg = cc in subst P same (All-head P a aggs are)
 some_of P (a ∷ aggs) (suc n) agg are e = some_of P aggs n agg (All-tail P a aggs are) e
 
-node_legal : (shape : Shape) (plan : Planned) (n : ℕ) (node : Node) → All (λ (agg : AggNode). IsLegalAgg shape agg.agg) plan.aggs → node_at plan n ≡ Some node → IsLegalAgg shape node.agg
+node_legal : (shape : Shape) (plan : Tasks) (n : ℕ) (node : Node) → All (λ (agg : AggNode). IsLegalAgg shape agg.agg) plan.aggs → node_at plan n ≡ Some node → IsLegalAgg shape node.agg
 node_legal shape plan n node are e = by_agg (slice_get plan.aggs n) refl e
   where
     by_agg : (agg : Option AggNode) → slice_get plan.aggs n ≡ agg → option_and_then (under_agg plan) agg ≡ Some node → IsLegalAgg shape node.agg
@@ -206,11 +206,11 @@ exact_at shape events e node legal are few squared =
     (small_values shape.fields node.agg.field column (filter test events) (All-filter test (IsEventOf shape.fields) events are))
     (let a = values_few node.agg.field (filter test events) in let b = filter_few test events in omega (arith, a, b, few))
 
-pub all_exact : (shape : Shape) (qs : List Asked) (plan : Planned) (events : List Event) (e : Event) → plan ≡ plan_for qs → All (IsLegal shape) qs → All (IsEventOf shape.fields) events
+pub all_exact : (shape : Shape) (qs : List Asked) (plan : Tasks) (events : List Event) (e : Event) → plan ≡ plan_for qs → All (IsLegalQuery shape) qs → All (IsEventOf shape.fields) events
     → length events ≤ 2 ^ 40 → AreExact plan events e
 all_exact shape qs plan events e is legal are few n = by_node (node_at plan n) refl
   where
     by_node : (node : Option Node) → node_at plan n ≡ node → IsExactAt events e node
     by_node None found = tt
     by_node (Some node) found =
-        exact_at shape events e node (node_legal shape plan n node (subst (λ (p : Planned). All (λ (agg : AggNode). IsLegalAgg shape agg.agg) p.aggs) (sym is) (plan_legal shape qs legal)) found) are few
+        exact_at shape events e node (node_legal shape plan n node (subst (λ (p : Tasks). All (λ (agg : AggNode). IsLegalAgg shape agg.agg) p.aggs) (sym is) (plan_legal shape qs legal)) found) are few

@@ -7,7 +7,7 @@ use Rattle.rg_metric.specs.declared.answer.Answer.TheVariants.{Dash}
 use Rattle.rg_metric.specs.Queries.{Asked, filter_test}
 use Rattle.rg_metric.specs.Replies.{agg_answer, counts_for, values_in}
 use Rattle.rg_plan.specs.Named.{Node, node_at}
-use Rattle.rg_plan.specs.Plans.{Planned}
+use Rattle.rg_plan.specs.Plans.{Tasks}
 use Rattle.rg_scratch.specs.declared.asking.Asking.{Asking}
 use Rattle.rg_scratch.specs.Tallies.{IsExact}
 
@@ -29,9 +29,9 @@ IsExactAt events e None = ⊤
 IsExactAt events e (Some node) = IsExact node.agg.func (values_in node.agg.field (filter (counts_for (query_at node) e) events))
 
 -- the same of all nodes of a plan
-abbrev pub AreExact : Planned → List Event → Event → Type 0
+abbrev pub AreExact : Tasks → List Event → Event → Type 0
 AreExact plan events e = (n : ℕ) → IsExactAt events e (node_at plan n)
 
 -- the answers of the nodes of these numbers, in order
-abbrev pub answers_of : Planned → List Event → Event → List ℕ → List Answer
+abbrev pub answers_of : Tasks → List Event → Event → List ℕ → List Answer
 answers_of plan events e nodes = map (λ n. node_answer events e (node_at plan n)) nodes

@@ -6,7 +6,7 @@ ghost use Rattle.rg_metric.specs.Queries.{Asked};
 ghost use Rattle.rg_metric.specs.Replies.{answers_to};
 ghost use Rattle.rg_plan.specs.Named.{node_at};
 ghost use Rattle.rg_plan.specs.Plans.{plan_for};
-ghost use Rattle.rg_query.specs.Legal.{IsLegal};
+ghost use Rattle.rg_query.specs.Legal.{IsLegalQuery};
 ghost use Rattle.rg_scratch.specs.Nodes.{AreExact, IsExactAt, answers_of, node_of, node_answer};
 
 use crate::asking::Asking;
@@ -30,7 +30,7 @@ pub fn answer_from_scratch(
 ) -> Result<Answers, Memory>
     requires there { k < length events.now }
     requires few { length events.now ≤ 2 ^ 40 }
-    ensures { (shape : Shape) (queries : List Asked) (e : Event) → plan.now ≡ plan_for queries → All (IsLegal shape) queries →
+    ensures { (shape : Shape) (queries : List Asked) (e : Event) → plan.now ≡ plan_for queries → All (IsLegalQuery shape) queries →
         All (IsEventOf shape.fields) events.now → slice_get events.now k ≡ Some e →
         IfOk result (λ answers. answers ≡ answers_to queries (take (k + 1) events.now) e) }
 {

@@ -34,7 +34,7 @@ pub record IsToSave (plan : Planned) (now : Option Image) (may : Image → Type 
   pub empty : opened r ≡ []
 
 -- in each image that might be left that slot has the plan's checkpoint, of so many of the stored events
-pub record IsKept (plan : Planned) (may : Image → Type 0) (slot saved committed : ℕ) : Type 0 where
+pub record IsKeptInSlot (plan : Planned) (may : Image → Type 0) (slot saved committed : ℕ) : Type 0 where
   pub below : slot < 2
   pub stored : saved ≤ committed
   pub has : (u : Image) → may u → HasSaved plan slot saved u

@@ -22,7 +22,7 @@ use Rattle.rg_restore.specs.Slots.{slot_in, IsFrom}
 use Rattle.rg_restore.specs.declared.choosing.Saved.{Saved}
 use Rattle.rg_store.specs.Truth.{texts_of, IsTruthfulImage}
 use Rattle.rg_turn.specs.Turning.{terms_of}
-use Rattle.rg_run.specs.Begun.{IsReady, begun_by}
+use Rattle.rg_run.specs.Begun.{IsReadyRun, begun_by}
 use Rattle.rg_run.specs.UnderWay.{HasFinished}
 use Rattle.rg_run.specs.declared.fault.RunFault.{RunFault}
 use Rattle.rg_run.specs.declared.fault.RunFault.TheVariants as run
@@ -58,7 +58,7 @@ bare_has shape schema =
 abbrev pub new_host : Ledger
 new_host = begun (replicate 8 []) []
 
-abbrev pub ready_anew : (plan : Planned) → IsSchema plan.shape → IsReady plan (now_in new_host) (may_in new_host) (said_in new_host)
+abbrev pub ready_anew : (plan : Planned) → IsSchema plan.shape → IsReadyRun plan (now_in new_host) (may_in new_host) (said_in new_host)
 ready_anew plan schema = record {
   openable = record { image = bare; told = refl; truthful = λ u may. subst IsTruthfulImage (sym may) bare_truthful; schema = λ u may. subst (λ (v : Image). IsOfSchema plan.shape (v 2)) (sym may) (inl (no_payload 2)) };
   put = [];
@@ -103,7 +103,7 @@ finished_anew plan schema from input h is_from finished =
 -- What a run promises over a store that is ready, of a host.
 abbrev pub Runs : Planned → List ℕ → Ledger → Ledger → Result Unit RunFault → Type 0
 Runs plan input h h' result =
-    (ready : IsReady plan (now_in h) (may_in h) (said_in h)) → (from : ℕ) × (IsFromIn plan ready.openable.image from ⊎ (said_in h' ≡ said_in h))
+    (ready : IsReadyRun plan (now_in h) (may_in h) (said_in h)) → (from : ℕ) × (IsFromIn plan ready.openable.image from ⊎ (said_in h' ≡ said_in h))
     × OnOk result (HasFinished plan (begun_by ready from 0 input) (may_in h') (said_in h'))
 
 pub ran_anew : (plan : Planned) (input : List ℕ) (h h' : Ledger) (result : Result Unit RunFault) → IsSchema plan.shape → h ≡ new_host → Runs plan input h h' result → OnOk result (HasRun plan input (said_in h'))
@@ -112,8 +112,8 @@ ran_anew plan input h h' result schema is runs =
     on_ok_weaker result (λ finished. finished_anew plan schema went.0 input h' went.1 finished) went.2
 
 -- a new host is ready
-pub ready_new : (plan : Planned) (h : Ledger) → IsSchema plan.shape → h ≡ new_host → IsReady plan (now_in h) (may_in h) (said_in h)
-ready_new plan h schema is = subst (λ (g : Ledger). IsReady plan (now_in g) (may_in g) (said_in g)) (sym is) (ready_anew plan schema)
+pub ready_new : (plan : Planned) (h : Ledger) → IsSchema plan.shape → h ≡ new_host → IsReadyRun plan (now_in h) (may_in h) (said_in h)
+ready_new plan h schema is = subst (λ (g : Ledger). IsReadyRun plan (now_in g) (may_in g) (said_in g)) (sym is) (ready_anew plan schema)
 
 pub may_meet : (fault : RunFault) → ((p : ℕ) → fault ≡ run.Damaged p → ⊥) → (fault ≡ run.SchemaDiffers → ⊥) → ((n : ℕ) → fault ≡ run.BadState n → ⊥) → ((n : ℕ) → fault ≡ run.Gap n → ⊥) → MayMeet fault
 may_meet (run.Damaged p) damaged differs bad gap = damaged p refl

@@ -1,7 +1,7 @@
 ghost use Rattle.std.specs.Prelude.{◌≡◌, ◌<◌, IfOk, IfErr};
 ghost use Rattle.rg_event.specs.Shapes.{IsSchema};
 ghost use Rattle.rg_config.specs.Plans.{planned};
-ghost use Rattle.rg_config.specs.Read.{IsRead};
+ghost use Rattle.rg_config.specs.Read.{IsReadPlan};
 ghost use Rattle.rg_host.specs.MemHost.{said_in};
 ghost use Rattle.rg_trial.specs.Trials.{HasRun, MayMeet};
 
@@ -23,7 +23,7 @@ pub(crate) fn run_anew<L: Ledger>(
     requires named { blank.name ≡ L.name }
     requires parts { blank.parts ≡ L.parts }
     requires whole { 0 < blank.parts }
-    requires read { IsRead plan.now }
+    requires read { IsReadPlan plan.now }
     requires schema { IsSchema plan.now.schema }
     ensures ran { IfOk result (λ host. HasRun (planned plan.now) input.items (said_in host)) }
     ensures fault { IfErr result MayMeet }

@@ -5,7 +5,7 @@ ghost use Rattle.rg_bytes.specs.Counts.{Rose};
 ghost use Rattle.rg_host.specs.Moments.{Moments};
 ghost use Rattle.rg_frame.specs.LogState.{ReachesEnd};
 ghost use Rattle.rg_config.specs.Plans.{Planned, planned};
-ghost use Rattle.rg_config.specs.Read.{IsRead};
+ghost use Rattle.rg_config.specs.Read.{IsReadPlan};
 ghost use Rattle.rg_row.specs.Rows.{row_of};
 ghost use Rattle.rg_reservoir.specs.Chain.{IsIllegal};
 ghost use Rattle.rg_reservoir.specs.Kept.{base, log_of, next_of};
@@ -70,7 +70,7 @@ impl<T: Table> Turning<T> {
         line: &[u8],
         steps: &mut Steps<L>,
     ) -> Result<(), TurnFault>
-        requires read { IsRead plan.now }
+        requires read { IsReadPlan plan.now }
         requires one_line { list_any (λ byte. byte == 10) line.now ≡ false }
         requires small { self.old.offset < 2 ^ 62 }
         requires reaches { self.old.session.ended ≡ false → ReachesEnd (log_of self.old.session.reservoir) (H.now host.old) }

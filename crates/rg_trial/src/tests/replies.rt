@@ -1,6 +1,6 @@
 ghost use Rattle.std.specs.Prelude.{◌≡◌, ◌==◌, ◌<◌, ◌≤◌, IfOk};
 ghost use Rattle.std.specs.List.{list_any};
-ghost use Rattle.rg_config.specs.Read.{IsRead};
+ghost use Rattle.rg_config.specs.Read.{IsReadPlan};
 
 use rg_bytes::{Memory, put_bytes};
 use rg_config::{Plan, read_plan};
@@ -65,7 +65,7 @@ const CASES: [Case<'static>; 6] = [
 
 /// The plan of a case.
 fn plan_of(alloc: Global, case: Case<'_>) -> Result<Plan, Fail>
-    ensures { IfOk result IsRead }
+    ensures { IfOk result IsReadPlan }
 {
     let Case { queries, settings } = case;
     let text = format!(in alloc;
@@ -141,7 +141,7 @@ fn run_on<L: Ledger>(
     host: &mut MemHost,
     steps: &mut Steps<L>,
 ) -> Result<(), Fail>
-    requires { IsRead plan.now }
+    requires { IsReadPlan plan.now }
 {
     let mut source = MemSource::new(input.to_vec(alloc)?, Vec::new(alloc));
     match run(alloc, plan, 0, &mut source, host, steps) {
@@ -162,7 +162,7 @@ fn runs_counted<L: Ledger>(
     requires named { blank.name ≡ L.name }
     requires parts { blank.parts ≡ L.parts }
     requires whole { 0 < blank.parts }
-    requires read { IsRead plan.now }
+    requires read { IsReadPlan plan.now }
 {
     let mut host = MemHost::new(alloc, Image::new(alloc), Vec::new(alloc))?;
     let mut steps = Steps::<L>::new(blank);
@@ -173,7 +173,7 @@ fn runs_counted<L: Ledger>(
 
 /// The same, with a ledger of its own.
 fn put_by_runs(alloc: Global, plan: &Plan, half: &[u8], all: &[u8]) -> Result<Vec<u8>, Fail>
-    requires { IsRead plan.now }
+    requires { IsReadPlan plan.now }
 {
     runs_counted::<Brand>(alloc, plan, half, all, Blank::new(1))
 }
@@ -192,7 +192,7 @@ fn replies_in(alloc: Global, text: &str) -> Result<String, Fail> {
 
 /// The replies of these two runs.
 fn replies_of_runs(alloc: Global, plan: &Plan, half: &str, all: &str) -> Result<String, Fail>
-    requires { IsRead plan.now }
+    requires { IsReadPlan plan.now }
 {
     let text = String::from_utf8(put_by_runs(alloc, plan, half.as_bytes(), all.as_bytes())?)?;
     replies_in(alloc, text.as_str())

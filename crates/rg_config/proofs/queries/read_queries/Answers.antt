@@ -1,12 +1,12 @@
 use Rattle.std.proofs.Common.{arith}
 use Rattle.std.proofs.lemmas.List.Elements.{All-nil}
-use Rattle.rg_query.specs.Legal.{IsLegal}
+use Rattle.rg_query.specs.Legal.{IsLegalQuery}
 use Rattle.rg_config.proofs.Taken.{pushed, printed, few, refusal, whole}
 use Rattle.rg_config.proofs.Legal.{none_excess, legal_pushed}
 use Rattle.rg_config.proofs.queries.read_queries.Goals as goal
 
 pub texts-init : goal.texts-init
-texts-init c = rw c.new-2.ensures.items (record { taken = tt; printed = c.new.ensures; legal = All-nil (IsLegal c.args.schema.now) })
+texts-init c = rw c.new-2.ensures.items (record { taken = tt; printed = c.new.ensures; legal = All-nil (IsLegalQuery c.args.schema.now) })
 
 pub read_query-requires : goal.read_query-requires
 read_query-requires c = record { at_most = few _ c.args.texts.now c.texts.number _ (omega (arith, c.texts-test.true)) c.texts.invariant.taken }

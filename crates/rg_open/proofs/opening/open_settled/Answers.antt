@@ -2,7 +2,7 @@ use Rattle.std.proofs.Common.{◌≡◌, ◌∙◌, ◌+◌, inl, inr, [], ℕ, 
 use Rattle.rg_host.specs.Image.{Image}
 use Rattle.rg_event.specs.Shapes.{Shape}
 use Rattle.rg_config.specs.Plans.{planned}
-use Rattle.rg_plan.specs.Plans.{Planned as Tasks}
+use Rattle.rg_plan.specs.Plans.{Tasks}
 use Rattle.rg_log.specs.Log.{schema_payload}
 use Rattle.rg_engine.specs.Standing.{come}
 use Rattle.rg_window.specs.Placed.{numbers_of}

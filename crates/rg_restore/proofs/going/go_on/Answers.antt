@@ -1,6 +1,6 @@
 use Rattle.std.proofs.Common.{Err, ◌≡◌, ◌∙◌, length, ap, sym, arith, subst}
 use Rattle.std.proofs.lemmas.Option.{slice_get_within}
-use Rattle.rg_plan.specs.Plans.{Planned}
+use Rattle.rg_plan.specs.Plans.{Tasks}
 use Rattle.rg_restore.proofs.Placing.{are_at, spelled_in, node_stands, node_told}
 use Rattle.rg_restore.proofs.Standing.{stands}
 use Rattle.rg_restore.proofs.going.go_on.Goals as goal
@@ -28,7 +28,7 @@ returns-clause-stands g c =
     let spots = c.args.spots.now in
     let Spells = g.P.Past.spells c.args.past.now in
     let many : length c.replay.new.self.spots ≡ length plan.offsets =
-    c.spots-spots.ensures.same ∙ ap (λ (p : Planned). length p.offsets) (c.in-Ok-replay.ensures.plan ∙ c.in-Ok.ensures.plan) in
+    c.spots-spots.ensures.same ∙ ap (λ (p : Tasks). length p.offsets) (c.in-Ok-replay.ensures.plan ∙ c.in-Ok.ensures.plan) in
     λ front more can last is rows at.
     stands (g.P.Past.spells c.replay.new.past) plan (g.P.Past.events c.replay.new.past) (g.T.Table.cell c.replay.new.self.table) c.replay.new.self.spots many
     (λ n. returns-clause-node g c n front more can last is (node_told Spells plan front spots at n) (node_stands Spells plan front (g.T.Table.cell c.args.table) spots rows at n))

@@ -1,13 +1,7 @@
 #!/usr/bin/env bash
 # How many allocations an accepted line takes where its card has rows already: those of a run over 4,000 lines less those over 2,000, counted by valgrind. Outside the gate.
 # `rt run` in crates/railgun builds the program first; PROGRAM names another one.
-set -eu
-cd "$(dirname "$0")/.."
-program=${PROGRAM:-$PWD/crates/railgun/out/railgun}
-bench=$PWD/bench
-work=$(mktemp -d)
-trap 'rm -rf "$work"' EXIT
-. "$bench/payments.sh"
+. "$(dirname "$0")/common.sh"
 
 # The allocations of a run over so many lines.
 allocations() {

@@ -2,20 +2,8 @@
 # What closed chunks cost by columns and as rows: the log of a million payments, five seconds apart, as a run writes it, and the same log with each chunk as rows.
 # Bytes for each payment, and a dump of each: processor time (user and system), the time that passed and peak memory, the medians of five. It fails where the dumps differ. Outside the gate.
 # `rt run` in crates/railgun builds the program first; PROGRAM names another one.
-set -eu
-cd "$(dirname "$0")/.."
-program=${PROGRAM:-$PWD/crates/railgun/out/railgun}
-bench=$PWD/bench
+. "$(dirname "$0")/common.sh"
 lines=${1:-1000000}
-work=$(mktemp -d "${TMPDIR:-/var/tmp}/railgun.XXXXXX")
-trap 'rm -rf "$work"' EXIT
-
-. "$bench/payments.sh"
-
-# The middle one of a column of five figures.
-median() {
-    cut -d ' ' -f "$2" "$work/times-$1" | sort -n | sed -n 3p
-}
 
 payments 40 "$lines" > "$work/payments"
 plan "30 days" > "$work/plan.toml"
@@ -33,5 +21,5 @@ for _ in 1 2 3 4 5; do
 done
 cmp "$work/dump-columns" "$work/dump-rows"
 for layout in columns rows; do
-    echo "a dump of $layout: $(median "$layout" 1) s of processor time, $(median "$layout" 2) s passed, $(median "$layout" 3) KB"
+    echo "a dump of $layout: $(median "times-$layout" 1) s of processor time, $(median "times-$layout" 2) s passed, $(median "times-$layout" 3) KB"
 done

@@ -1,12 +1,8 @@
 #!/usr/bin/env bash
 # Microseconds a line of a least and a greatest amount over 30 days: payments of one card whose amounts fall and rise, five seconds apart. Outside the gate.
 # `rt run` in crates/railgun builds the program first; PROGRAM names another one.
-set -eu
-cd "$(dirname "$0")/.."
-program=${PROGRAM:-$PWD/crates/railgun/out/railgun}
+. "$(dirname "$0")/common.sh"
 lines=${1:-100000}
-work=$(mktemp -d)
-trap 'rm -rf "$work"' EXIT
 
 cat > "$work/plan" << PLAN
 queries = ["SELECT min(amount), max(amount) FROM payments GROUP BY card OVER SLIDING 30 days"]

@@ -1,11 +1,7 @@
 #!/usr/bin/env bash
 # Lines a second of the built program, and of awk that only splits and counts. Outside the gate.
 # `rt run` in crates/railgun builds the program first; PROGRAM names another one.
-set -eu
-cd "$(dirname "$0")/.."
-program=${PROGRAM:-$PWD/crates/railgun/out/railgun}
-work=$(mktemp -d)
-trap 'rm -rf "$work"' EXIT
+. "$(dirname "$0")/common.sh"
 cp crates/railgun/data/plan "$work/plan"
 awk 'BEGIN { for (i = 0; i < 200000; i++) print (i < 5 ? i ",c1,m1,1" : i ",c1,m1,1000000000001") }' > "$work/refused"
 awk 'BEGIN { for (i = 0; i < 20000; i++) print i * 1000 ",c" i % 97 ",m" i % 11 "," i }' > "$work/accepted"

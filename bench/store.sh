@@ -3,15 +3,8 @@
 # Commits of 1,024 payments and of one (the latter with fewer lines); the bytes of the store; an opening from a checkpoint and one that answers all payments again; a checkpoint of 100,000 keys.
 # Processor time (user and system), the time that passed and peak memory: the medians of three. It fails where a line isn't accepted. Outside the gate.
 # `rt run` in crates/railgun builds the program first; PROGRAM names another one.
-set -eu
-cd "$(dirname "$0")/.."
-program=${PROGRAM:-$PWD/crates/railgun/out/railgun}
-bench=$PWD/bench
+. "$(dirname "$0")/common.sh"
 lines=${1:-1000000}
-work=$(mktemp -d "${TMPDIR:-/var/tmp}/railgun.XXXXXX")
-trap 'rm -rf "$work"' EXIT
-
-. "$bench/payments.sh"
 
 # A plan over 30 days with these settings, a line each.
 settings() {
@@ -27,11 +20,6 @@ run_once() {
         echo "$1: not all lines were accepted: $(tail -n 1 "$work/out")" >&2
         exit 1
     fi
-}
-
-# The middle one of a column of three figures.
-median() {
-    cut -d ' ' -f "$2" "$work/$1" | sort -n | sed -n 2p
 }
 
 # Says the figures of this name.

@@ -4,15 +4,8 @@
 # Each run of the program begins with a new store, on the disk of the temporary folder; what it says of its store is left out of the comparison.
 # It fails where a line isn't accepted, or where the two programs answer differently. Outside the gate.
 # `rt run` in crates/railgun builds the program first; PROGRAM names another one.
-set -eu
-cd "$(dirname "$0")/.."
-program=${PROGRAM:-$PWD/crates/railgun/out/railgun}
-bench=$PWD/bench
+. "$(dirname "$0")/common.sh"
 lines=${1:-1000000}
-work=$(mktemp -d)
-trap 'rm -rf "$work"' EXIT
-
-. "$bench/payments.sh"
 
 # Runs a command on the payments, and adds its figures to the file of this name. Each line must be accepted.
 measure() {
@@ -23,11 +16,6 @@ measure() {
         echo "$name: not all lines were accepted: $(tail -n 1 "$work/$name.out")" >&2
         exit 1
     fi
-}
-
-# The middle one of a column of three figures.
-median() {
-    cut -d ' ' -f "$2" "$work/$1" | sort -n | sed -n 2p
 }
 
 # The figures of a program.

@@ -1,4 +1,15 @@
-# The plan and the payments that the measurements share; sourced by them.
+# What every measurement begins with and shares; sourced by them. It goes to the clone's root, finds the program, and makes a folder for its work that goes at the end.
+set -eu
+cd "$(dirname "$0")/.."
+bench=$PWD/bench
+program=${PROGRAM:-$PWD/crates/railgun/out/railgun}
+work=$(mktemp -d "${TMPDIR:-/var/tmp}/railgun.XXXXXX")
+trap 'rm -rf "$work"' EXIT
+
+# The middle one of an odd number of figures: those of a column of a file in the folder.
+median() {
+    cut -d ' ' -f "$2" "$work/$1" | sort -n | awk '{ figures[NR] = $1 } END { print figures[(NR + 1) / 2] }'
+}
 
 # A plan with a window of this length: a count and a sum by card.
 plan() {

@@ -6,7 +6,7 @@ use Rattle.std.proofs.lemmas.Bool.{le-leb, lt-ltb}
 use Rattle.std.proofs.lemmas.List.Elements.{All-nil, All-head, All-tail, All-append, All-map, All-weaker}
 use Rattle.rg_event.specs.Codec.{IsValueOf, IsEventOf}
 use Rattle.rg_event.specs.Shapes.{Shape}
-use Rattle.rg_event.specs.Tagged.{IsLegalQuery as IsLegalValue}
+use Rattle.rg_event.specs.Tagged.{IsLegal as IsLegalValue}
 use Rattle.rg_event.specs.declared.event.Event.{Event}
 use Rattle.rg_event.specs.declared.schema.Field.{Field}
 use Rattle.rg_event.specs.declared.value.Kind.{Kind}

@@ -1,5 +1,5 @@
 -- What the faults of a table and of a move are called.
-use Rattle.std.specs.Prelude.{◌≡◌, ◌⊎◌, ◌×◌, Result, Ok, Err, IsErrOf}
+use Rattle.std.specs.Prelude.{◌≡◌, ◌⊎◌, Result, Ok, Err, IsErrOf}
 use Rattle.rg_past.specs.declared.past.PastFault.TheVariants as past
 use Rattle.rg_state.specs.declared.table.TableFault.{TableFault}
 use Rattle.rg_state.specs.declared.table.TableFault.TheVariants as table

@@ -21,10 +21,11 @@ use Rattle.rg_run.specs.declared.fault.RunFault.TheVariants as run
 use Rattle.railgun.specs.Plan.{IsPlan}
 use Rattle.rg_open.specs.Unfit.{HasOtherSchema}
 use Rattle.railgun.specs.Causes.{IsDamagedAt, IsBadState, IsStoreLine}
-use Rattle.railgun.specs.Call.{EndsRun, IsRefusedPlan, last_line}
+use Rattle.rg_report.specs.Statuses.{last_line}
+use Rattle.railgun.specs.Call.{EndsRun, IsRefusedPlan}
 use Rattle.railgun.specs.Stored.{ToldRun, begun_in, IsLastOf, Went}
-use Rattle.railgun.specs.declared.status.Status.{Status}
-use Rattle.railgun.specs.declared.status.Status.TheVariants.{Ok, Plan as BadPlan, Store, Read, Write, Limit, Memory, Gap}
+use Rattle.rg_report.specs.declared.status.Status.{Status}
+use Rattle.rg_report.specs.declared.status.Status.TheVariants.{Ok, Plan as BadPlan, Store, Read, Write, Limit, Memory, Gap}
 use Rattle.railgun.proofs.Plans.{one_plan}
 use Rattle.railgun.proofs.Refusing.{run_ok, run_read, run_limit, run_gap, run_store, run_is, run_last}
 

@@ -18,13 +18,14 @@ use Rattle.rg_listing.specs.Stops.{StopsAt}
 use Rattle.rg_listing.specs.Listing.{check_text}
 use Rattle.rg_listing.proofs.Stopped.{nothing_whole}
 use Rattle.railgun.specs.Causes.{RefusesStore, RefusesGap}
-use Rattle.railgun.specs.Call.{CarriesRun, IsRun, ReadsPlan, ShowsStore, Told, ToldPlan, plan_text, ForText, last_line, refusal_line, refusal_of, line_for, ending_status, ending_line, IsLegalPlan, IsRefusedPlan, IsDamaged, IsUndamaged, IsPossible, status_by, plan_status, store_status, status_for}
+use Rattle.rg_report.specs.Statuses.{last_line}
+use Rattle.railgun.specs.Call.{CarriesRun, IsRun, ReadsPlan, ShowsStore, Told, ToldPlan, plan_text, ForText, refusal_line, refusal_of, line_for, ending_status, ending_line, IsLegalPlan, IsRefusedPlan, IsDamaged, IsUndamaged, IsPossible, status_by, plan_status, store_status, status_for}
 use Rattle.railgun.specs.declared.command.Command.{Command}
 use Rattle.railgun.specs.declared.command.Command.TheVariants.{Run, Check, Dump, Info, Trial}
-use Rattle.railgun.specs.declared.status.Status.{Status}
+use Rattle.rg_report.specs.declared.status.Status.{Status}
 use Rattle.railgun.specs.declared.ending.Ending.{Ending}
 use Rattle.railgun.specs.declared.ending.Ending.TheVariants as ends
-use Rattle.railgun.specs.declared.status.Status.TheVariants.{Ok, Usage, Plan as BadPlan, Store, Read, Write, Disk, Limit, Memory, Gap, Differs}
+use Rattle.rg_report.specs.declared.status.Status.TheVariants.{Ok, Usage, Plan as BadPlan, Store, Read, Write, Disk, Limit, Memory, Gap, Differs}
 use Rattle.railgun.proofs.Plans.{one_plan}
 
 stops-then : (text : List (List ℕ)) (put part : List ℕ) → StopsWith text [] put → StopsWith text part (put ++ part)

@@ -11,10 +11,11 @@ use Rattle.rg_course.specs.Pieces.{AreLines}
 use Rattle.rg_course.proofs.Marks.{contains_none, no_mark}
 use Rattle.rg_course.proofs.Texts.{mark_no_lf}
 use Rattle.rg_run.specs.Begun.{Begun}
-use Rattle.railgun.specs.Call.{damage_line, gap_line, last_line}
+use Rattle.rg_report.specs.Statuses.{last_line}
+use Rattle.railgun.specs.Call.{damage_line, gap_line}
 use Rattle.railgun.specs.Stored.{IsLastOf}
-use Rattle.railgun.specs.declared.status.Status.{Status}
-use Rattle.railgun.specs.declared.status.Status.TheVariants.{Ok, Usage, Plan as BadPlan, Store, Read, Write, Disk, Limit, Memory, Gap, Differs}
+use Rattle.rg_report.specs.declared.status.Status.{Status}
+use Rattle.rg_report.specs.declared.status.Status.TheVariants.{Ok, Usage, Plan as BadPlan, Store, Read, Write, Disk, Limit, Memory, Gap, Differs}
 
 -- the bytes are lines, at most one, that say nothing of the store
 pub record IsLine (last : List ℕ) : Type 0 where

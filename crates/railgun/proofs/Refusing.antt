@@ -18,11 +18,12 @@ use Rattle.rg_run.specs.Begun.{Begun}
 use Rattle.rg_run.specs.declared.fault.RunFault.{RunFault}
 use Rattle.rg_run.specs.declared.fault.RunFault.TheVariants as run
 use Rattle.rg_listing.specs.Stops.{StopsAt}
-use Rattle.railgun.specs.Call.{line_for, damage_line, schema_line, state_line, gap_line, EndsDump, EndsInfo, IsInfoAt, EndsRun, IsPossible, last_line, ending_status, ending_line}
+use Rattle.rg_report.specs.Statuses.{last_line}
+use Rattle.railgun.specs.Call.{line_for, damage_line, schema_line, state_line, gap_line, EndsDump, EndsInfo, IsInfoAt, EndsRun, IsPossible, ending_status, ending_line}
 use Rattle.railgun.specs.Stored.{IsLastOf}
 use Rattle.railgun.specs.declared.ending.Ending.{Ending}
-use Rattle.railgun.specs.declared.status.Status.{Status}
-use Rattle.railgun.specs.declared.status.Status.TheVariants.{Ok, Usage, Plan as BadPlan, Store, Read, Write, Disk, Limit, Memory, Gap}
+use Rattle.rg_report.specs.declared.status.Status.{Status}
+use Rattle.rg_report.specs.declared.status.Status.TheVariants.{Ok, Usage, Plan as BadPlan, Store, Read, Write, Disk, Limit, Memory, Gap}
 use Rattle.rg_listing.proofs.Stopped.{nothing_stops}
 
 -- A dump.

@@ -34,10 +34,10 @@ use Rattle.rg_open.specs.Opening.{IsFromIn}
 use Rattle.rg_turn.specs.Turning.{HasStopped, terms_of}
 use Rattle.rg_run.specs.Begun.{Begun, course_for, lines_in}
 use Rattle.rg_run.specs.UnderWay.{IsUnopened}
-use Rattle.railgun.specs.Call.{last_line}
+use Rattle.rg_report.specs.Statuses.{last_line}
 use Rattle.railgun.specs.Stored.{Went, IsLastOf, IsToldFrom, IsComplete, EndsWhole, EndsAnswered, IsAtMostOneAhead, HasLastSaved, Resumes}
-use Rattle.railgun.specs.declared.status.Status.{Status}
-use Rattle.railgun.specs.declared.status.Status.TheVariants.{Ok, Usage, Plan as BadPlan, Store, Read, Write, Disk, Limit, Memory, Gap, Differs}
+use Rattle.rg_report.specs.declared.status.Status.{Status}
+use Rattle.rg_report.specs.declared.status.Status.TheVariants.{Ok, Usage, Plan as BadPlan, Store, Read, Write, Disk, Limit, Memory, Gap, Differs}
 use Rattle.railgun.proofs.LastLines.{line_of_status}
 
 -- a status is Ok, Write or another one

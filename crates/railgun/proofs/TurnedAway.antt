@@ -25,11 +25,12 @@ use Rattle.rg_run.specs.Reading.{IsLonger}
 use Rattle.rg_run.specs.declared.fault.RunFault.{RunFault}
 use Rattle.rg_run.specs.declared.fault.RunFault.TheVariants as run
 use Rattle.railgun.specs.Plan.{IsPlan}
-use Rattle.railgun.specs.Call.{EndsRun, IsRefusedPlan, gap_line, last_line}
+use Rattle.rg_report.specs.Statuses.{last_line}
+use Rattle.railgun.specs.Call.{EndsRun, IsRefusedPlan, gap_line}
 use Rattle.railgun.specs.Stored.{ToldRun}
 use Rattle.railgun.specs.TurnedAway.{EndsFailed, EndsUnfit, EndsBehind, IsTurnedAway, KeepsAll, IsBehind}
-use Rattle.railgun.specs.declared.status.Status.{Status}
-use Rattle.railgun.specs.declared.status.Status.TheVariants.{Ok, Plan as BadPlan, Store, Read, Disk, Limit, Memory, Gap}
+use Rattle.rg_report.specs.declared.status.Status.{Status}
+use Rattle.rg_report.specs.declared.status.Status.TheVariants.{Ok, Plan as BadPlan, Store, Read, Disk, Limit, Memory, Gap}
 use Rattle.railgun.proofs.Plans.{one_plan}
 use Rattle.railgun.proofs.Carrying.{told_asks}
 

@@ -18,15 +18,16 @@ use Rattle.rg_run.specs.declared.fault.RunFault.{RunFault}
 use Rattle.rg_run.specs.declared.fault.RunFault.TheVariants as run
 use Rattle.rg_trial.specs.Trials.{IsTrial, trial_lines}
 use Rattle.rg_trial.specs.declared.trials.Trial.{Trial as Counted}
+use Rattle.rg_report.specs.Statuses.{last_line}
 use Rattle.railgun.specs.Plan.{IsPlan, IsRefusal}
 use Rattle.railgun.specs.declared.command.Command.{Command}
 use Rattle.railgun.specs.declared.command.Command.TheVariants.{Run, Check, Dump, Info, Trial}
 use Rattle.railgun.specs.declared.ending.Ending.{Ending}
-use Rattle.railgun.specs.declared.ending.Refusal.{Refusal}
+use Rattle.rg_report.specs.declared.refusal.Refusal.{Refusal}
 use Rattle.railgun.specs.declared.ending.Ending.TheVariants as ending
 use Rattle.rg_listing.specs.Listing.{check_text}
-use Rattle.railgun.specs.declared.status.Status.{Status}
-use Rattle.railgun.specs.declared.status.Status.TheVariants.{Ok, Usage, Plan as BadPlan, Store, Read, Write, Disk, Limit, Memory, Gap, Differs}
+use Rattle.rg_report.specs.declared.status.Status.{Status}
+use Rattle.rg_report.specs.declared.status.Status.TheVariants.{Ok, Usage, Plan as BadPlan, Store, Read, Write, Disk, Limit, Memory, Gap, Differs}
 
 -- the command, where the word names it
 abbrev pub when : Bool → Command → Option Command
@@ -220,20 +221,6 @@ state_line node = codes "refused store state " ++ (decimal node ++ codes "\n")
 abbrev pub gap_line : ℕ → ℕ → List ℕ
 gap_line first next = codes "refused gap " ++ (decimal first ++ (codes " " ++ (decimal next ++ codes "\n")))
 
--- the last line that a status puts but for a refused plan, a refused store and a gap, with its LF
-abbrev pub last_line : Status → List ℕ
-last_line Ok = []
-last_line Usage = codes "refused usage\n"
-last_line BadPlan = []
-last_line Store = []
-last_line Read = codes "failed read\n"
-last_line Write = []
-last_line Disk = codes "failed disk\n"
-last_line Limit = codes "failed limit\n"
-last_line Memory = codes "failed memory\n"
-last_line Gap = []
-last_line Differs = []
-
 abbrev pub refusal_of : Result Planned ConfigFault → List ℕ
 refusal_of (r.Ok plan) = []
 refusal_of (r.Err refusal) = refusal_line refusal
@@ -324,20 +311,6 @@ EndsRun first run.Read status last = Fails Read status last
 EndsRun first run.Limit status last = Fails Limit status last
 EndsRun first run.Memory status last = Fails Memory status last
 EndsRun first run.Write status last = Fails Write status last
-
--- the number of a status
-abbrev pub number_of : Status → ℕ
-number_of Ok = 0
-number_of Usage = 2
-number_of BadPlan = 3
-number_of Store = 4
-number_of Read = 5
-number_of Write = 6
-number_of Disk = 7
-number_of Limit = 8
-number_of Memory = 9
-number_of Gap = 10
-number_of Differs = 11
 
 -- where the plan tells its bytes, they say a plan
 abbrev pub IsLegalPlan : Option (List ℕ) → Type 0

@@ -20,9 +20,10 @@ use Rattle.rg_turn.specs.Turning.{HasStopped, terms_of}
 use Rattle.rg_run.specs.Begun.{IsReadyRun, Begun, begun_by, lines_in, course_for}
 use Rattle.rg_run.specs.UnderWay.{HasAnswered, HasFinished, IsUnopened}
 use Rattle.railgun.specs.Plan.{IsPlan}
-use Rattle.railgun.specs.Call.{damage_line, gap_line, last_line}
-use Rattle.railgun.specs.declared.status.Status.{Status}
-use Rattle.railgun.specs.declared.status.Status.TheVariants.{Ok, Usage, Plan as BadPlan, Store, Read, Write, Disk, Limit, Memory, Gap, Differs}
+use Rattle.rg_report.specs.Statuses.{last_line}
+use Rattle.railgun.specs.Call.{damage_line, gap_line}
+use Rattle.rg_report.specs.declared.status.Status.{Status}
+use Rattle.rg_report.specs.declared.status.Status.TheVariants.{Ok, Usage, Plan as BadPlan, Store, Read, Write, Disk, Limit, Memory, Gap, Differs}
 
 -- What a run is told: its plan, the bytes of its input, and a store that is ready for the plan.
 pub record ToldRun (plan input : Option (List ℕ)) (now : Option Image) (may : Image → Type 0) (said : Option (List ℕ)) : Type 0 where

@@ -12,8 +12,8 @@ use Rattle.rg_store.specs.Truth.{IsTruthfulImage}
 use Rattle.rg_open.specs.Unfit.{HasOtherSchema, HasBadFrame}
 use Rattle.rg_open.specs.Within.{IsAsRead}
 use Rattle.railgun.specs.Call.{damage_line, schema_line, gap_line, Fails}
-use Rattle.railgun.specs.declared.status.Status.{Status}
-use Rattle.railgun.specs.declared.status.Status.TheVariants.{Store, Read, Disk, Memory, Gap}
+use Rattle.rg_report.specs.declared.status.Status.{Status}
+use Rattle.rg_report.specs.declared.status.Status.TheVariants.{Store, Read, Disk, Memory, Gap}
 
 -- the line says why the image is unfit for the plan
 abbrev pub IsUnfitLine : Planned → Image → List ℕ → Type 0

@@ -12,9 +12,9 @@ ghost use Rattle.rg_listing.specs.Stops.{StopsAt};
 
 use crate::ending::Ending;
 use crate::refused::refuse_damage;
-use crate::status::Status;
 use rg_dump::DumpFault;
 use rg_host::Host;
+use rg_report::Status;
 use std::alloc::Global;
 
 /// How a dump ends that met this fault.

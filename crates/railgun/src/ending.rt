@@ -1,18 +1,8 @@
 ghost use Rattle.std.specs.Prelude.{◌≡◌};
 ghost use Rattle.railgun.specs.Call.{ending_status, ending_line, ending_refusal};
 
-use crate::report::TomlFault;
-use crate::status::Status;
 use rg_bytes::Memory;
-use rg_config::ConfigFault;
-
-/// Why a plan is refused.
-#[derive(Clone, Copy, Debug)]
-pub struct Refusal {
-    pub fault: ConfigFault,
-    /// Where the plan stops being TOML, if it isn't.
-    pub toml: Option<TomlFault>,
-}
+use rg_report::{Refusal, Status};
 
 /// How a call ended before its end.
 #[derive(Debug, Drop)]
@@ -41,7 +31,7 @@ impl From<Status> for Ending {
 impl From<Memory> for Ending {
     ghost use Rattle.std.specs.Prelude.{◌≡◌};
     ghost use Rattle.railgun.specs.declared.ending.Ending.TheVariants.{Failed};
-    ghost use Rattle.railgun.specs.declared.status.Status.TheVariants.{Memory};
+    ghost use Rattle.rg_report.specs.declared.status.Status.TheVariants.{Memory};
 
     ghost from_gives = { λ _ ending. ending ≡ Failed Memory };
 

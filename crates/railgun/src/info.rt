@@ -12,9 +12,9 @@ ghost use Rattle.rg_listing.specs.Stops.{StopsAt};
 
 use crate::ending::Ending;
 use crate::refused::refuse_damage;
-use crate::status::Status;
 use rg_host::Host;
 use rg_info::InfoFault;
+use rg_report::Status;
 use std::alloc::Global;
 
 /// How an `info` ends that met this fault.

@@ -10,16 +10,13 @@ mod dump;
 mod ending;
 mod info;
 mod refused;
-mod report;
 mod running;
-mod status;
 mod trial;
 
 use crate::call::railgun;
 use crate::command::Command;
-use crate::report::Report;
-use crate::status::Status;
 use rg_real::{Access, FileSource, FolderHost, ReaderSource};
+use rg_report::{Report, Status};
 use std::process::ExitCode;
 use std::{env, io};
 

@@ -2,8 +2,8 @@ ghost use Rattle.std.specs.Prelude.{◌≡◌, ◌++◌, List, Some, OnOk};
 ghost use Rattle.railgun.specs.Call.{damage_line, schema_line, state_line, gap_line, ending_status, ending_line, SaysLine};
 
 use crate::ending::Ending;
-use crate::status::Status;
 use rg_bytes::{Memory, put_bytes, write_whole};
+use rg_report::Status;
 use std::alloc::Global;
 
 /// Writes the line that refuses a log that is damaged at that place, with its LF.

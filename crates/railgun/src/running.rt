@@ -17,10 +17,10 @@ ghost use Rattle.railgun.specs.TurnedAway.{EndsUnfit, EndsBehind};
 
 use crate::ending::Ending;
 use crate::refused::{refuse_damage, refuse_gap, refuse_schema, refuse_state};
-use crate::status::Status;
 use rg_config::Plan;
 use rg_event::Steps;
 use rg_host::{Host, Source};
+use rg_report::Status;
 use rg_run::RunFault;
 use std::alloc::Global;
 use std::sync::ledger::{Blank, Ledger};

@@ -4,11 +4,12 @@ ghost use Rattle.rg_host.specs.Lines.{ended};
 ghost use Rattle.rg_host.specs.Moments.{LeavesFiles};
 ghost use Rattle.rg_host.specs.Puts.{Puts};
 ghost use Rattle.rg_listing.specs.Stops.{StopsAt};
-ghost use Rattle.railgun.specs.Call.{last_line, ending_status, ending_line, IsTrialAt};
+ghost use Rattle.rg_report.specs.Statuses.{last_line};
+ghost use Rattle.railgun.specs.Call.{ending_status, ending_line, IsTrialAt};
 
 use crate::ending::Ending;
-use crate::status::Status;
 use rg_host::Host;
+use rg_report::Status;
 use rg_trial::{PrintFault, print, run_trial};
 use std::alloc::Global;
 use std::marker::Brand;

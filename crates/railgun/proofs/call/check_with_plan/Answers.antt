@@ -5,7 +5,7 @@ use Rattle.rg_host.proofs.Runs.{leaves_files-none}
 use Rattle.rg_config.specs.Plans.{planned}
 use Rattle.railgun.specs.Call.{plan_text, ending_status, ending_line}
 use Rattle.railgun.specs.declared.command.Command.TheVariants.{Check}
-use Rattle.railgun.specs.declared.status.Status.TheVariants.{Write, Memory}
+use Rattle.rg_report.specs.declared.status.Status.TheVariants.{Write, Memory}
 use Rattle.rg_listing.specs.declared.fault.CheckFault.TheVariants as fault
 use Rattle.rg_listing.proofs.Stopped.{nothing_stops}
 use Rattle.railgun.proofs.Ends.{refused_line, told_line, checked_all, checked_part, stops_for}

@@ -2,7 +2,7 @@ use Rattle.std.proofs.Common.{◌≡◌, ⊎_elim, inl, [], refl, sym, ◌∙◌
 use Rattle.rg_dump.specs.Dump.{dump_text}
 use Rattle.railgun.specs.Call.{ending_status, ending_line}
 use Rattle.railgun.specs.declared.command.Command.TheVariants.{Run}
-use Rattle.railgun.specs.declared.status.Status.TheVariants.{Write}
+use Rattle.rg_report.specs.declared.status.Status.TheVariants.{Write}
 use Rattle.rg_listing.proofs.Stopped.{nothing_stops}
 use Rattle.railgun.proofs.Inputs.{on_err, on_errs, on_ok, any_err}
 use Rattle.railgun.proofs.Refusing.{damage_told, trial_line}

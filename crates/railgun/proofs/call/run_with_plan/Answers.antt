@@ -7,7 +7,7 @@ use Rattle.rg_open.specs.Unfit.{IsUnfit}
 use Rattle.rg_run.proofs.TurnedAway.{none_alone, none_within}
 use Rattle.railgun.specs.Stored.{begun_in}
 use Rattle.railgun.specs.declared.command.Command.TheVariants.{Run}
-use Rattle.railgun.specs.declared.status.Status.TheVariants.{Ok, Plan as BadPlan}
+use Rattle.rg_report.specs.declared.status.Status.TheVariants.{Ok, Plan as BadPlan}
 use Rattle.railgun.proofs.Plans.{tells_plan}
 use Rattle.railgun.proofs.Ends.{refused_of, legal_of, refused_line, told_line, no_carried}
 use Rattle.railgun.proofs.Refusing.{load_early, load_no_store, load_no_gap, load_no_disk, load_no_write, run_no_plan, run_early}

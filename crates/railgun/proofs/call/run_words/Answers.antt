@@ -4,10 +4,11 @@ use Rattle.rg_host.specs.Image.{Image}
 use Rattle.rg_host.specs.Puts.{IsPrefix, Puts}
 use Rattle.rg_host.proofs.PutRuns.{puts-nothing, puts-then}
 use Rattle.rg_host.proofs.Runs.{leaves_files-none, leaves_files-then}
-use Rattle.railgun.specs.Call.{command_of, line_for, last_line, ending_status, ending_line}
+use Rattle.rg_report.specs.Statuses.{last_line}
+use Rattle.railgun.specs.Call.{command_of, line_for, ending_status, ending_line}
 use Rattle.railgun.specs.Causes.{RefusesStore}
 use Rattle.railgun.specs.declared.command.Command.TheVariants.{Run}
-use Rattle.railgun.specs.declared.status.Status.TheVariants.{Ok, Usage, Write}
+use Rattle.rg_report.specs.declared.status.Status.TheVariants.{Ok, Usage, Write}
 use Rattle.railgun.proofs.Ends.{all_put, all_front, front_alone, line_alone, put_then, whole_then, write_line, own_line, rose_first, rose_last, command_is}
 use Rattle.railgun.proofs.Telling.{all_promised, one_ahead, slots_saved, told_from, ends_whole, ends_answered, completed, resumed}
 use Rattle.railgun.proofs.TurnedAway.{ok_unfit, ok_behind, turned_away, lies_behind}

@@ -5,7 +5,7 @@ use Rattle.rg_listing.proofs.Stopped.{nothing_stops}
 use Rattle.rg_trial.specs.Trials.{trial_lines}
 use Rattle.rg_trial.specs.declared.fault.PrintFault.{PrintFault}
 use Rattle.rg_trial.specs.declared.fault.PrintFault.TheVariants as fault
-use Rattle.railgun.specs.declared.status.Status.TheVariants.{Memory, Write}
+use Rattle.rg_report.specs.declared.status.Status.TheVariants.{Memory, Write}
 use Rattle.railgun.proofs.trial.trial.Goals as goal
 
 -- the trial came to no numbers

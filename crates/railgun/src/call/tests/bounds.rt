@@ -1,5 +1,5 @@
 use super::{CHECK, Setting, outcome, sound};
-use crate::status::Status;
+use rg_report::Status;
 use std::alloc::Global;
 use std::test::Fail;
 

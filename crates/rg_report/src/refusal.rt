@@ -1,12 +1,6 @@
-use crate::ending::Refusal;
-use crate::status::Status;
 use rg_config::{ConfigFault, QueryRefusal, SettingsFault};
 use rg_query::QueryFault;
-use std::{fmt, io};
-
-/// The forms of the words, and the version.
-const USAGE: &str =
-    "usage: railgun run PLAN STORE [FIRST]\n       railgun check PLAN\n       railgun dump STORE\n       railgun info STORE\n       railgun self N SEED\nrailgun 0.1.0";
+use std::fmt;
 
 /// Where bytes stop being a TOML document.
 #[derive(Clone, Copy, Debug)]
@@ -37,6 +31,14 @@ impl fmt::Display for TomlFault {
     fn fmt<W: fmt::Write>(&self, f: &mut fmt::Formatter<W>) -> fmt::Result {
         write!(f, "TOML: line {}: {}", self.line, self.why.message())
     }
+}
+
+/// Why a plan is refused.
+#[derive(Clone, Copy, Debug)]
+pub struct Refusal {
+    pub fault: ConfigFault,
+    /// Where the plan stops being TOML, if it isn't.
+    pub toml: Option<TomlFault>,
 }
 
 /// A fault of the settings, or of what stands beside them, in words.
@@ -111,41 +113,3 @@ impl fmt::Display for Refusal {
         }
     }
 }
-
-/// What is said of a call that ended early: what went wrong, and where.
-#[derive(Drop)]
-pub struct Report<'a> {
-    pub status: Status,
-    /// The name of the plan's file.
-    pub plan: &'a str,
-    pub refusal: Option<Refusal>,
-    /// The file or stream that failed, and the system's reason.
-    pub failure: Option<(&'a str, io::Error)>,
-}
-
-impl fmt::Display for Report<'_> {
-    fn fmt<W: fmt::Write>(&self, f: &mut fmt::Formatter<W>) -> fmt::Result {
-        match self.status {
-            Status::Usage => f.write_str(USAGE),
-            Status::Plan => match &self.refusal {
-                Some(refusal) => write!(f, "{}: {refusal}", self.plan),
-                None => write!(f, "{}: the plan is refused", self.plan),
-            },
-            Status::Read | Status::Write | Status::Disk => match &self.failure {
-                Some((name, error)) => write!(f, "{name}: {error}"),
-                None => f.write_str("a file or stream failed"),
-            },
-            Status::Limit => f.write_str(
-                "the plan is longer than 65536 bytes, or the input than 1125899906842624",
-            ),
-            Status::Memory => f.write_str("out of memory"),
-            Status::Store => f.write_str("the store is damaged, or isn't the plan's"),
-            Status::Gap => f.write_str("the input begins behind what the store has"),
-            Status::Differs => f.write_str("a checkpoint isn't what the events give"),
-            Status::Ok => Ok(()),
-        }
-    }
-}
-
-#[cfg(test)]
-mod tests;

@@ -1,5 +1,5 @@
 ghost use Rattle.std.specs.Prelude.{◌≡◌};
-ghost use Rattle.railgun.specs.Call.{last_line, number_of};
+ghost use Rattle.rg_report.specs.Statuses.{last_line, number_of};
 
 use rg_bytes::Memory;
 
@@ -32,7 +32,7 @@ pub enum Status {
 
 impl From<Memory> for Status {
     ghost use Rattle.std.specs.Prelude.{◌≡◌};
-    ghost use Rattle.railgun.specs.declared.status.Status.TheVariants.{Memory};
+    ghost use Rattle.rg_report.specs.declared.status.Status.TheVariants.{Memory};
 
     ghost from_gives = { λ _ status. status ≡ Memory };
 

@@ -1,5 +1,5 @@
-use super::{Report, TomlFault};
-use crate::ending::Refusal;
+use super::Report;
+use crate::refusal::{Refusal, TomlFault};
 use crate::status::Status;
 use rg_config::{ConfigFault, QueryRefusal, SettingsFault};
 use rg_query::QueryFault;

@@ -1,5 +1,5 @@
 -- Which node of the checkpoint that an opening goes on from isn't true of the events.
-use Rattle.std.specs.Prelude.{◌≡◌, ℕ, List, [], ◌∷◌, length, Option}
+use Rattle.std.specs.Prelude.{◌≡◌, ℕ, List, [], ◌∷◌, length, Option, All}
 use Rattle.rg_host.specs.Image.{Image}
 use Rattle.rg_event.specs.Shapes.{Shape}
 use Rattle.rg_event.specs.declared.event.Event.{Event}
@@ -44,6 +44,12 @@ pub record NodeRuns {T : Type 0} (plan : Planned) (n : ℕ) (now : Option Image)
   pub tells : is_told
   pub serves : Serves plan.shape.fields (plan_for plan.queries)
   pub plan_is : engine.plan ≡ plan_for plan.queries
+
+-- The reservoir is sound over the plan's log, and each edge of the engine stands at a spelled spot: no look of a move is refused as damaged,
+-- whatever the rows are.
+pub record IsPlaced {T : Type 0} (plan : Planned) (now : Option Image) (may : Image → Type 0) (r : Reservoir) (engine : Seen T) : Type 0 where
+  pub reservoir : IsOpenedFor plan now may r
+  pub spots : All (Spells now (base r) (opened r)) engine.spots
 
 -- Of an image whose log has these events: the node isn't true in the checkpoint of its slots that is used.
 pub record IsBlamed (plan : Planned) (v : Image) (events : List Event) (n : ℕ) : Type 0 where

@@ -68,6 +68,7 @@ pub(crate) fn find<H: Host>(alloc: Global, host: &mut H, plan: &Plan) -> Result<
     ensures log { (v : Image) (events : List Event) → H.now host.old ≡ Some v → AreSettled (H.now host.old) (H.may host.old) → HasEvents plan.now.schema events (v 2) →
         IfOk result (λ found. IsOpenedFor (planned plan.now) (H.now host.new) (H.may host.new) found.reservoir) }
     ensures never_damaged { (p : ℕ) → IsOpenable (planned plan.now) (H.now host.old) (H.may host.old) → IsErrOf result (OpenFault.Damaged p) → ⊥ }
+    ensures undamaged { (v : Image) (events : List Event) (p : ℕ) → H.now host.old ≡ Some v → HasEvents plan.now.schema events (v 2) → IsErrOf result (OpenFault.Damaged p) → ⊥ }
     ensures never_differs { IsOpenable (planned plan.now) (H.now host.old) (H.may host.old) → IsErrOf result OpenFault.SchemaDiffers → ⊥ }
     ensures settled { (v : Image) → H.now host.old ≡ Some v → AreSettled (H.now host.old) (H.may host.old) → OnOk result (AreSettled (H.now host.new) (H.may host.new)) }
 

@@ -66,6 +66,7 @@ fn start_over<H: Host, T: Table, L: Ledger>(
         IfErr result (λ refused. refused.0 ≡ OpenFault.BadState n → ⊥) }
     ensures never_damaged { (p : ℕ) → IsFound (planned plan.now) (H.now past.old.host.now) (H.may past.old.host.now) past.old.reservoir.now saved →
         IfErr result (λ refused. refused.0 ≡ OpenFault.Damaged p → ⊥) }
+    ensures undamaged { (p : ℕ) → IsSound (H.now past.old.host.now) (H.may past.old.host.now) past.old.reservoir.now → IfErr result (λ refused. refused.0 ≡ OpenFault.Damaged p → ⊥) }
     ensures passed { IsFound (planned plan.now) (H.now past.old.host.now) (H.may past.old.host.now) past.old.reservoir.now saved →
         IfOk result (λ r. steps.new ≡ steps.old + passed_count task (take r.1.from (all_events (H.now past.old.host.now) (base past.old.reservoir.now) [])) (all_events (H.now past.old.host.now) (base past.old.reservoir.now) [])) }
 
@@ -141,6 +142,7 @@ pub(crate) fn start<H: Host, T: Table, L: Ledger>(
         IfErr result (λ refused. refused.0 ≡ OpenFault.BadState n → ⊥) }
     ensures never_damaged { (p : ℕ) → IsFound (planned plan.now) (H.now host.old) (H.may host.old) reservoir.old saved →
         IfErr result (λ refused. refused.0 ≡ OpenFault.Damaged p → ⊥) }
+    ensures undamaged { (p : ℕ) → IsSound (H.now host.old) (H.may host.old) reservoir.old → IfErr result (λ refused. refused.0 ≡ OpenFault.Damaged p → ⊥) }
     ensures passed { IsFound (planned plan.now) (H.now host.old) (H.may host.old) reservoir.old saved →
         IfOk result (λ r. steps.new ≡ steps.old + passed_count task (take r.1.from (all_events (H.now host.old) (base reservoir.old) [])) (all_events (H.now host.old) (base reservoir.old) [])) }
     ensures from { IsListed (H.now host.old) → IfOk result (λ r.

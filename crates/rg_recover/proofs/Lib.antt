@@ -9,3 +9,4 @@ pub mod Writing
 pub mod Saved
 pub mod Resuming
 pub mod Nodes
+pub mod Placed

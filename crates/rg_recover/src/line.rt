@@ -17,7 +17,7 @@ ghost use Rattle.rg_state.specs.Keeping.{TableKept};
 ghost use Rattle.rg_verdict.specs.Verdicts.{accepted_after, fault_reply, or_reply, reply_of, verdict_of};
 ghost use Rattle.rg_window.specs.Placed.{AreWithin};
 ghost use Rattle.rg_store.specs.Stores.{store_of};
-ghost use Rattle.rg_open.specs.Blame.{NodeRuns};
+ghost use Rattle.rg_open.specs.Blame.{NodeRuns, IsPlaced};
 ghost use Rattle.rg_recover.specs.Deciding.{verdict_on, as_verdict, IfAccepted};
 ghost use Rattle.rg_recover.specs.Sessions.{IsReady, IsRunning, count_in, events_of, stored_of};
 ghost use Rattle.rg_recover.specs.Stepping.{IsWithinStep, IsStored};
@@ -91,6 +91,8 @@ fn take_in<H: Host, T: Table, L: Ledger>(
         OnOk result (NodeRuns plan n (H.now host.new) (H.may host.new) (T.tells engine.new.table) (T.cell engine.new.table) reservoir.new engine.new) }
     ensures never_bad_node { (plan : Planned) (n : ℕ) → NodeRuns plan n (H.now host.old) (H.may host.old) (T.tells engine.old.table) (T.cell engine.old.table) reservoir.old engine.old →
         IsErrOf result (TaskFault.BadState n) → ⊥ }
+    ensures placed { (plan : Planned) → IsPlaced plan (H.now host.old) (H.may host.old) reservoir.old engine.old → OnOk result (IsPlaced plan (H.now host.new) (H.may host.new) reservoir.new engine.new) }
+    ensures undamaged { (plan : Planned) (p : ℕ) → IsPlaced plan (H.now host.old) (H.may host.old) reservoir.old engine.old → IsErrOf result (TaskFault.Damaged p) → ⊥ }
     ensures events { (plan : Planned) (texts : List (List ℕ)) → IsReady plan (H.now host.old) (H.may host.old) (T.tells engine.old.table) (T.cell engine.old.table) reservoir.old engine.old texts →
         OnOk result (all_events (H.now host.new) (base reservoir.new) (opened reservoir.new) ≡ all_events (H.now host.old) (base reservoir.old) (opened reservoir.old) ++ event ∷ []) }
     ensures within_step { (plan : Planned) (texts : List (List ℕ)) (keep : Option ℕ) → IsReady plan (H.now host.old) (H.may host.old) (T.tells engine.old.table) (T.cell engine.old.table) reservoir.old engine.old texts →
@@ -204,6 +206,10 @@ impl<T: Table> Session<T> {
             OnOk result (NodeRuns plan n (H.now host.new) (H.may host.new) (T.tells self.new.engine.table) (T.cell self.new.engine.table) self.new.reservoir self.new.engine) }
         ensures never_bad_node { (plan : Planned) (n : ℕ) → NodeRuns plan n (H.now host.old) (H.may host.old) (T.tells self.old.engine.table) (T.cell self.old.engine.table) self.old.reservoir self.old.engine →
             IsErrOf result (TaskFault.BadState n) → ⊥ }
+
+        // Where each edge stands at a spelled spot it does so still, and nothing is refused as damaged.
+        ensures placed { (plan : Planned) → IsPlaced plan (H.now host.old) (H.may host.old) self.old.reservoir self.old.engine → OnOk result (IsPlaced plan (H.now host.new) (H.may host.new) self.new.reservoir self.new.engine) }
+        ensures undamaged { (plan : Planned) (p : ℕ) → IsPlaced plan (H.now host.old) (H.may host.old) self.old.reservoir self.old.engine → IsErrOf result (TaskFault.Damaged p) → ⊥ }
 
         ensures refused { IfOk result (λ reply. ((answers : List TheAnswer) × (reply ≡ Reply.Answered answers)) ⊎ ((self.new ≡ self.old) × (host.new ≡ host.old) × (steps.new ≡ steps.old))) }
         ensures damaged { (p : ℕ) → IsErrOf result (TaskFault.Damaged p) → ForSome (H.now host.new) (λ v. IsIllegal (base self.new.reservoir).shape.fields p (v (base self.new.reservoir).file)) }

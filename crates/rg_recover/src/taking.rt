@@ -9,7 +9,7 @@ ghost use Rattle.rg_reservoir.specs.Chain.{IsIllegal};
 ghost use Rattle.rg_reservoir.specs.Kept.{base, opened, room_of, log_of, next_of, time_of, all_events};
 ghost use Rattle.rg_state.specs.Keeping.{TableKept};
 ghost use Rattle.rg_window.specs.Placed.{AreWithin};
-ghost use Rattle.rg_open.specs.Blame.{NodeRuns};
+ghost use Rattle.rg_open.specs.Blame.{NodeRuns, IsPlaced};
 ghost use Rattle.rg_recover.specs.Sessions.{IsReady, count_in};
 
 use crate::fault::TaskFault;
@@ -49,6 +49,8 @@ fn take_over<H: Host, T: Table, L: Ledger>(
         OnOk result (NodeRuns plan n (H.now past.new.host.now) (H.may past.new.host.now) (T.tells engine.new.table) (T.cell engine.new.table) past.new.reservoir.now engine.new) }
     ensures never_bad_node { (plan : Planned) (n : ℕ) → NodeRuns plan n (H.now past.old.host.now) (H.may past.old.host.now) (T.tells engine.old.table) (T.cell engine.old.table) past.old.reservoir.now engine.old →
         IsErrOf result (TaskFault.BadState n) → ⊥ }
+    ensures placed { (plan : Planned) → IsPlaced plan (H.now past.old.host.now) (H.may past.old.host.now) past.old.reservoir.now engine.old → OnOk result (IsPlaced plan (H.now past.new.host.now) (H.may past.new.host.now) past.new.reservoir.now engine.new) }
+    ensures undamaged { (plan : Planned) (p : ℕ) → IsPlaced plan (H.now past.old.host.now) (H.may past.old.host.now) past.old.reservoir.now engine.old → IsErrOf result (TaskFault.Damaged p) → ⊥ }
     ensures events { OnOk result (all_events (H.now past.new.host.now) (base past.new.reservoir.now) (opened past.new.reservoir.now) ≡ all_events (H.now past.old.host.now) (base past.old.reservoir.now) (opened past.old.reservoir.now) ++ event ∷ []) }
     ensures damaged { (p : ℕ) → IsErrOf result (TaskFault.Damaged p) → ForSome (H.now past.new.host.now) (λ v. IsIllegal (base past.new.reservoir.now).shape.fields p (v (base past.new.reservoir.now).file)) }
     ensures disk { IsErrOf result TaskFault.Disk → Rose (H.disk_faults past.old.host.now) (H.disk_faults past.new.host.now) }
@@ -68,9 +70,10 @@ fn take_over<H: Host, T: Table, L: Ledger>(
     ensures same_reservoir { past.new.reservoir.ghost_name ≡ past.old.reservoir.ghost_name }
     ensures same_host { past.new.host.ghost_name ≡ past.old.host.ghost_name }
 {
+    // an engine has a spot for each offset of its plan, before and after
+    let _before = engine.spots();
     match engine.take(past, event, steps) {
         Ok(answers) => {
-            // an engine has a spot for each offset of its plan
             let _spots = engine.spots();
             Ok(answers)
         }
@@ -107,6 +110,8 @@ pub(crate) fn take<H: Host, T: Table, L: Ledger>(
         OnOk result (NodeRuns plan n (H.now host.new) (H.may host.new) (T.tells engine.new.table) (T.cell engine.new.table) reservoir.new engine.new) }
     ensures never_bad_node { (plan : Planned) (n : ℕ) → NodeRuns plan n (H.now host.old) (H.may host.old) (T.tells engine.old.table) (T.cell engine.old.table) reservoir.old engine.old →
         IsErrOf result (TaskFault.BadState n) → ⊥ }
+    ensures placed { (plan : Planned) → IsPlaced plan (H.now host.old) (H.may host.old) reservoir.old engine.old → OnOk result (IsPlaced plan (H.now host.new) (H.may host.new) reservoir.new engine.new) }
+    ensures undamaged { (plan : Planned) (p : ℕ) → IsPlaced plan (H.now host.old) (H.may host.old) reservoir.old engine.old → IsErrOf result (TaskFault.Damaged p) → ⊥ }
     ensures events { OnOk result (all_events (H.now host.new) (base reservoir.new) (opened reservoir.new) ≡ all_events (H.now host.old) (base reservoir.old) (opened reservoir.old) ++ event ∷ []) }
     ensures damaged { (p : ℕ) → IsErrOf result (TaskFault.Damaged p) → ForSome (H.now host.new) (λ v. IsIllegal (base reservoir.new).shape.fields p (v (base reservoir.new).file)) }
     ensures disk { IsErrOf result TaskFault.Disk → Rose (H.disk_faults host.old) (H.disk_faults host.new) }

@@ -13,7 +13,7 @@ ghost use Rattle.rg_verdict.specs.Verdicts.{read_as, or_reply};
 ghost use Rattle.rg_course.specs.Ahead.{after_line};
 ghost use Rattle.rg_course.specs.Stores.{Course, StaysOnCourse};
 ghost use Rattle.rg_store.specs.Stores.{store_of};
-ghost use Rattle.rg_open.specs.Blame.{NodeRuns};
+ghost use Rattle.rg_open.specs.Blame.{NodeRuns, IsPlaced};
 ghost use Rattle.rg_recover.specs.Sessions.{events_of};
 ghost use Rattle.rg_turn.specs.Turning.{IsAwaiting, HasStopped, terms_of};
 
@@ -72,6 +72,8 @@ pub(crate) fn answer_line<H: Host, T: Table, L: Ledger>(
         OnOk result (NodeRuns (planned plan.now) n (H.now host.new) (H.may host.new) (T.tells session.new.engine.table) (T.cell session.new.engine.table) session.new.reservoir session.new.engine) }
     ensures never_bad_node { (n : ℕ) → NodeRuns (planned plan.now) n (H.now host.old) (H.may host.old) (T.tells session.old.engine.table) (T.cell session.old.engine.table) session.old.reservoir session.old.engine →
         IsErrOf result (TurnFault.Task (TaskFault.BadState n)) → ⊥ }
+    ensures placed { IsPlaced (planned plan.now) (H.now host.old) (H.may host.old) session.old.reservoir session.old.engine → OnOk result (IsPlaced (planned plan.now) (H.now host.new) (H.may host.new) session.new.reservoir session.new.engine) }
+    ensures undamaged { (p : ℕ) → IsPlaced (planned plan.now) (H.now host.old) (H.may host.old) session.old.reservoir session.old.engine → IsErrOf result (TurnFault.Task (TaskFault.Damaged p)) → ⊥ }
 
     ensures damaged { (p : ℕ) → IsErrOf result (TurnFault.Task (TaskFault.Damaged p)) → ForSome (H.now host.new) (λ v. IsIllegal (base session.new.reservoir).shape.fields p (v (base session.new.reservoir).file)) }
     ensures write { IsErrOf result TurnFault.Write → Rose (H.out_faults host.old) (H.out_faults host.new) }

@@ -7,7 +7,7 @@ ghost use Rattle.rg_verdict.specs.Verdicts.{read_as};
 ghost use Rattle.rg_course.specs.Ahead.{after_line};
 ghost use Rattle.rg_course.specs.Stores.{Course, StaysOnCourse};
 ghost use Rattle.rg_store.specs.Stores.{store_of};
-ghost use Rattle.rg_open.specs.Blame.{NodeRuns};
+ghost use Rattle.rg_open.specs.Blame.{NodeRuns, IsPlaced};
 ghost use Rattle.rg_recover.specs.Sessions.{events_of};
 ghost use Rattle.rg_turn.specs.Turning.{IsAwaiting, HasStopped, terms_of};
 
@@ -50,6 +50,7 @@ pub(crate) fn refuse_line<H: Host, T: Table>(
 
     ensures node { (plan : Planned) (n : ℕ) → NodeRuns plan n (H.now host.old) (H.may host.old) (T.tells session.now.engine.table) (T.cell session.now.engine.table) session.now.reservoir session.now.engine →
         NodeRuns plan n (H.now host.new) (H.may host.new) (T.tells session.now.engine.table) (T.cell session.now.engine.table) session.now.reservoir session.now.engine }
+    ensures placed { (plan : Planned) → IsPlaced plan (H.now host.old) (H.may host.old) session.now.reservoir session.now.engine → IsPlaced plan (H.now host.new) (H.may host.new) session.now.reservoir session.now.engine }
     ensures reaches { H.now host.new ≡ H.now host.old }
     ensures write { IsErrOf result TurnFault.Write → Rose (H.out_faults host.old) (H.out_faults host.new) }
     ensures faults { IfErr result (λ fault. (fault ≡ TurnFault.Write) ⊎ (fault ≡ TurnFault.Task TaskFault.Memory)) }

@@ -7,7 +7,7 @@ ghost use Rattle.rg_config.specs.Plans.{Planned};
 ghost use Rattle.rg_reservoir.specs.Kept.{base, log_of};
 ghost use Rattle.rg_course.specs.Stores.{Course, StaysOnCourse};
 ghost use Rattle.rg_store.specs.Stores.{store_of};
-ghost use Rattle.rg_open.specs.Blame.{NodeRuns};
+ghost use Rattle.rg_open.specs.Blame.{NodeRuns, IsPlaced};
 ghost use Rattle.rg_recover.specs.Sessions.{IsRunning, count_in};
 ghost use Rattle.rg_turn.specs.Turning.{IsMidTurn, HasStopped, IsDueDone};
 
@@ -41,6 +41,7 @@ pub(crate) fn settle<H: Host, T: Table>(
 
     ensures node { (plan : Planned) (n : ℕ) → NodeRuns plan n (H.now host.old) (H.may host.old) (T.tells session.old.engine.table) (T.cell session.old.engine.table) session.old.reservoir session.old.engine →
         OnOk result (NodeRuns plan n (H.now host.new) (H.may host.new) (T.tells session.new.engine.table) (T.cell session.new.engine.table) session.new.reservoir session.new.engine) }
+    ensures placed { (plan : Planned) → IsPlaced plan (H.now host.old) (H.may host.old) session.old.reservoir session.old.engine → OnOk result (IsPlaced plan (H.now host.new) (H.may host.new) session.new.reservoir session.new.engine) }
     ensures count { (plan : Planned) → IsRunning plan (H.now host.old) (H.may host.old) (T.tells session.old.engine.table) (T.cell session.old.engine.table) session.old →
         OnOk result (count_in session.new.reservoir ≡ count_in session.old.reservoir) }
 

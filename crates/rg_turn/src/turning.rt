@@ -13,7 +13,7 @@ ghost use Rattle.rg_verdict.specs.Verdicts.{read_as, or_reply};
 ghost use Rattle.rg_course.specs.Ahead.{after_line};
 ghost use Rattle.rg_course.specs.Stores.{Course, StaysOnCourse};
 ghost use Rattle.rg_store.specs.Stores.{store_of};
-ghost use Rattle.rg_open.specs.Blame.{NodeRuns};
+ghost use Rattle.rg_open.specs.Blame.{NodeRuns, IsPlaced};
 ghost use Rattle.rg_recover.specs.Sessions.{events_of};
 ghost use Rattle.rg_turn.specs.Turning.{IsAwaiting, HasStopped, terms_of};
 
@@ -101,6 +101,8 @@ impl<T: Table> Turning<T> {
             OnOk result (NodeRuns (planned plan.now) n (H.now host.new) (H.may host.new) (T.tells self.new.session.engine.table) (T.cell self.new.session.engine.table) self.new.session.reservoir self.new.session.engine) }
         ensures never_bad_node { (n : ℕ) → NodeRuns (planned plan.now) n (H.now host.old) (H.may host.old) (T.tells self.old.session.engine.table) (T.cell self.old.session.engine.table) self.old.session.reservoir self.old.session.engine →
             IsErrOf result (TurnFault.Task (TaskFault.BadState n)) → ⊥ }
+        ensures placed { IsPlaced (planned plan.now) (H.now host.old) (H.may host.old) self.old.session.reservoir self.old.session.engine → OnOk result (IsPlaced (planned plan.now) (H.now host.new) (H.may host.new) self.new.session.reservoir self.new.session.engine) }
+        ensures undamaged { (p : ℕ) → IsPlaced (planned plan.now) (H.now host.old) (H.may host.old) self.old.session.reservoir self.old.session.engine → IsErrOf result (TurnFault.Task (TaskFault.Damaged p)) → ⊥ }
         ensures offset { OnOk result (self.new.offset ≡ self.old.offset + 1) }
 
         ensures damaged { (p : ℕ) → IsErrOf result (TurnFault.Task (TaskFault.Damaged p)) → ForSome (H.now host.new) (λ v. IsIllegal (base self.new.session.reservoir).shape.fields p (v (base self.new.session.reservoir).file)) }
@@ -158,6 +160,7 @@ impl<T: Table> Turning<T> {
             IfErr result (λ fault. (fault ≡ TurnFault.Write) ⊎ HasStopped plan course (H.may host.new) (H.said host.new)) }
         ensures node { (plan : Planned) (n : ℕ) → NodeRuns plan n (H.now host.old) (H.may host.old) (T.tells self.old.session.engine.table) (T.cell self.old.session.engine.table) self.old.session.reservoir self.old.session.engine →
             NodeRuns plan n (H.now host.new) (H.may host.new) (T.tells self.new.session.engine.table) (T.cell self.new.session.engine.table) self.new.session.reservoir self.new.session.engine }
+        ensures placed { (plan : Planned) → IsPlaced plan (H.now host.old) (H.may host.old) self.old.session.reservoir self.old.session.engine → IsPlaced plan (H.now host.new) (H.may host.new) self.new.session.reservoir self.new.session.engine }
         ensures offset { OnOk result (self.new.offset ≡ self.old.offset + 1) }
         ensures session { self.new.session ≡ self.old.session }
         ensures reaches { H.now host.new ≡ H.now host.old }

@@ -133,3 +133,9 @@ returns-in-Ok-start-clause-node g c = λ v events n told settled has tells not.
       amiss = amiss_in (planned c.args.plan.now) (g.H.Host.now c.find.new.host) (g.H.Host.may c.find.new.host) found.reservoir log c.in-Ok.ensures.empty.0 (opened_list c.args.plan.now.schema has.1.payloads) (c.in-Ok.ensures.list v has.1.payloads told has.1.has) events found.saved n
           (ap (λ (l : List Event). all_events (g.H.Host.now c.find.new.host) (base found.reservoir) l) c.in-Ok.ensures.empty.0 ∙ c.in-Ok.ensures.events v events told settled has) (c.in-Ok-start.ensures.node n log tells not);
     }
+
+pub returns-in-Err-clause-undamaged : goal.returns-in-Err-clause-undamaged
+returns-in-Err-clause-undamaged g c = λ v events p told settled has is. c.in-Err.ensures.undamaged v events p told has (ap (λ f. Err f) is)
+
+pub returns-in-Err-start-clause-undamaged : goal.returns-in-Err-start-clause-undamaged
+returns-in-Err-start-clause-undamaged g c = λ v events p told settled has is. c.in-Err-start.ensures.undamaged p (c.in-Ok.ensures.log v events told settled has).sound is

@@ -92,3 +92,6 @@ returns-in-Err-open_settled-clause-bad g c = λ v events n told has tells. c.in-
 
 pub returns-in-Ok-open_settled-clause-node : goal.returns-in-Ok-open_settled-clause-node
 returns-in-Ok-open_settled-clause-node g c = λ v events n told has tells not. c.in-Ok-open_settled.ensures.node v events n (c.settle.ensures.leaves.now_stays ∙ told) c.in-Ok.ensures.settled has tells not
+
+pub returns-in-Err-open_settled-clause-undamaged : goal.returns-in-Err-open_settled-clause-undamaged
+returns-in-Err-open_settled-clause-undamaged g c = λ v events p told has is. c.in-Err-open_settled.ensures.undamaged v events p (c.settle.ensures.leaves.now_stays ∙ told) c.in-Ok.ensures.settled has is

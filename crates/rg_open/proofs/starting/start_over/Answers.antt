@@ -126,3 +126,7 @@ returns-in-Ok-clause-node g c = λ n log tells not.
     (λ goes_on. not (runs_by plan now may r log c.args.task tasks_are (g.H.Host.now q.host.now) (g.H.Host.may q.host.now) q.reservoir.now goes.base (goes.sound log.sound) n (g.T.Table.tells engine.table) (g.T.Table.cell engine.table) engine
     c.requires.read.legal (c.in-Ok.ensures.table.tells.1 tells) c.in-Ok.ensures.engine.plan_is goes_on)) in
     amiss_by plan now may r log c.args.plan.now.queries c.fields.result.now c.args.task c.args.saved n blame.0 blame.1 c.requires.read.printed c.fields.ensures.columns tasks_are blame.2 blame.3
+
+pub returns-in-Err-clause-undamaged : goal.returns-in-Err-clause-undamaged
+returns-in-Err-clause-undamaged g c = λ p sound is.
+    c.in-Err.ensures.never_damaged p sound (λ e. (let x = sym e ∙ c.requires.going in cc)) (damaged_by c.in-Err.fault p (sym c.from.ensures ∙ is))

@@ -8,6 +8,7 @@ use Rattle.rg_metric.specs.Replies.{answers_to}
 use Rattle.rg_reservoir.specs.Kept.{Base, base, opened, stored}
 use Rattle.rg_store.specs.Stores.{store_of}
 use Rattle.rg_recover.proofs.Nodes.{node_stored}
+use Rattle.rg_recover.proofs.Placed.{placed_stored}
 use Rattle.rg_recover.proofs.Ready.{ready_stepped}
 use Rattle.rg_recover.proofs.Within.{quiet_within, within_then, quiet_stored, chunk_stored}
 use Rattle.rg_recover.proofs.line.take_in.Goals as goal
@@ -103,3 +104,17 @@ returns-in-Ok-clause-never_bad_node g c = λ plan n runs.
     let e = c.args.engine.now in
     c.take-in-Ok.ensures.never_bad_node plan n (node_stored plan n (g.H.Host.now h) (g.H.Host.may h) (g.T.Table.tells e.table) (g.T.Table.cell e.table) c.args.reservoir.now e runs (g.H.Host.now mid) (g.H.Host.may mid) c.commit_open.new.reservoir
     (c.in-Ok.ensures.opened plan runs.reservoir) (c.in-Ok.ensures.list runs.reservoir.sound) (c.in-Ok.ensures.spelled runs.reservoir.sound))
+
+pub returns-in-Ok-clause-placed : goal.returns-in-Ok-clause-placed
+returns-in-Ok-clause-placed g c = λ plan placed.
+    let h = c.args.host.now in
+    let mid = c.commit_open.new.host in
+    c.take-in-Ok.ensures.placed plan (placed_stored plan (g.H.Host.now h) (g.H.Host.may h) c.args.reservoir.now c.args.engine.now placed (g.H.Host.now mid) (g.H.Host.may mid) c.commit_open.new.reservoir
+    (c.in-Ok.ensures.opened plan placed.reservoir) (c.in-Ok.ensures.spelled placed.reservoir.sound))
+
+pub returns-in-Ok-clause-undamaged : goal.returns-in-Ok-clause-undamaged
+returns-in-Ok-clause-undamaged g c = λ plan p placed.
+    let h = c.args.host.now in
+    let mid = c.commit_open.new.host in
+    c.take-in-Ok.ensures.undamaged plan p (placed_stored plan (g.H.Host.now h) (g.H.Host.may h) c.args.reservoir.now c.args.engine.now placed (g.H.Host.now mid) (g.H.Host.may mid) c.commit_open.new.reservoir
+    (c.in-Ok.ensures.opened plan placed.reservoir) (c.in-Ok.ensures.spelled placed.reservoir.sound))

@@ -1,6 +1,6 @@
 use Rattle.std.proofs.Common.{rules}
 use Rattle.rg_reservoir.specs.declared.reservoir.Reservoir.{Reservoir}
-use Rattle.rg_open.specs.Blame.{NodeRuns}
+use Rattle.rg_open.specs.Blame.{NodeRuns, IsPlaced}
 use Rattle.rg_recover.specs.Sessions.{IsReady}
 use Rattle.rg_recover.proofs.Sound.{moved}
 use Rattle.rg_recover.proofs.taking.take.Goals as goal
@@ -36,3 +36,15 @@ pub returns-in-Err-clause-never_bad_node : goal.returns-in-Err-clause-never_bad_
 returns-in-Err-clause-never_bad_node g c = λ plan n runs is.
     let went = rw (c.new-past.ensures.reservoir, c.new-past.ensures.host) at c.in-Err.ensures.never_bad_node in
     went plan n runs is
+
+pub returns-in-Ok-clause-placed : goal.returns-in-Ok-clause-placed
+returns-in-Ok-clause-placed g c = λ plan placed.
+    let went = rw (c.new-past.ensures.reservoir, c.new-past.ensures.host) at c.in-Ok.ensures.placed in
+    let new = c.take_over.new.engine in
+    moved (λ (h : g.row.H.Denot) (r : Reservoir). IsPlaced plan (g.H.Host.now h) (g.H.Host.may h) r new)
+    c.take_over.new.past.host.now _ c.take_over.new.past.reservoir.now _ (search rules) (search rules) (went plan placed)
+
+pub returns-in-Err-clause-undamaged : goal.returns-in-Err-clause-undamaged
+returns-in-Err-clause-undamaged g c = λ plan p placed is.
+    let went = rw (c.new-past.ensures.reservoir, c.new-past.ensures.host) at c.in-Err.ensures.undamaged in
+    went plan p placed is

@@ -1,10 +1,12 @@
-use Rattle.std.proofs.Common.{◌∙◌, ⊎_elim, Err, [], ap, sym, arith}
+use Rattle.std.proofs.Common.{◌∙◌, ⊎_elim, Err, [], length, ap, sym, arith}
 use Rattle.std.proofs.lemmas.List.{append-nil}
 use Rattle.rg_past.specs.declared.past.PastFault.TheVariants as past
 use Rattle.rg_reservoir.specs.Kept.{base, opened, all_events}
 use Rattle.rg_recover.proofs.Causes.{same_fault, bad_by, damaged_by, disk_by, ended_by}
 use Rattle.rg_recover.proofs.Sound.{long, within_events, within_count}
+use Rattle.rg_plan.specs.Plans.{Tasks}
 use Rattle.rg_recover.proofs.Nodes.{node_carries, node_again}
+use Rattle.rg_recover.proofs.Placed.{placed_again}
 use Rattle.rg_recover.proofs.Ready.{carries_on, ready_again}
 use Rattle.rg_recover.proofs.taking.take_over.Goals as goal
 
@@ -93,3 +95,15 @@ returns-in-Err-clause-never_bad_node g c = λ plan n runs is.
     let e = c.args.engine.now in
     c.take.ensures.bad n (all_events (g.H.Host.now h) (base r) (opened r)) (c.in-Err.is ∙ ap (λ v. Err v) (bad_by c.in-Err.fault n (sym c.from.ensures ∙ same_fault _ _ is)))
     (node_carries plan n (g.H.Host.now h) (g.H.Host.may h) (g.T.Table.tells e.table) (g.T.Table.cell e.table) r e runs c.args.event c.requires.fits)
+
+pub returns-in-Ok-clause-placed : goal.returns-in-Ok-clause-placed
+returns-in-Ok-clause-placed g c = λ plan placed.
+    let h = c.args.past.now.host.now in
+    let q = c.take.new.past in
+    let goes = c.take.ensures.past.goes in
+    placed_again plan (g.H.Host.now h) (g.H.Host.may h) c.args.past.now.reservoir.now c.args.engine.now placed (g.H.Host.now q.host.now) (g.H.Host.may q.host.now) q.reservoir.now c.take.new.self goes.base (goes.sound placed.reservoir.sound)
+    (c.spots-spots.ensures.same ∙ ap (λ (p : Tasks). length p.offsets) c.take.ensures.plan ∙ sym c.spots-before.ensures.same) (c.take.ensures.edges.spells placed.reservoir.sound)
+
+pub returns-in-Err-clause-undamaged : goal.returns-in-Err-clause-undamaged
+returns-in-Err-clause-undamaged g c = λ plan p placed is.
+    c.take.ensures.never_damaged p placed.reservoir.sound placed.spots (c.in-Err.is ∙ ap (λ v. Err v) (damaged_by c.in-Err.fault p (sym c.from.ensures ∙ same_fault _ _ is)))

@@ -5,12 +5,12 @@ use Rattle.rg_course.specs.Ahead.{after_line}
 use Rattle.rg_course.specs.Stores.{StaysOnCourse}
 use Rattle.rg_store.specs.Stores.{store_of}
 use Rattle.rg_recover.specs.Sessions.{Sitting, events_of, stored_of}
-use Rattle.rg_open.specs.Blame.{NodeRuns}
+use Rattle.rg_open.specs.Blame.{NodeRuns, IsPlaced}
 use Rattle.rg_turn.specs.Turning.{HasStopped, IsAwaiting, terms_of}
 use Rattle.rg_turn.proofs.Causes.{same_task}
 use Rattle.rg_turn.proofs.Stepping.{line_steps, mid_stopped, has_stopped}
 use Rattle.rg_turn.proofs.Answered.{mid_taken, all_moments, then_awaits, then_events}
-use Rattle.rg_turn.proofs.Nodes.{node_still}
+use Rattle.rg_turn.proofs.Nodes.{node_still, placed_still}
 use Rattle.rg_turn.proofs.answer.answer_line.Goals as goal
 
 pub returns-in-Err-clause-moments : goal.returns-in-Err-clause-moments
@@ -144,3 +144,14 @@ returns-in-Ok-tell-clause-node g c = λ n runs.
 
 pub returns-in-Err-clause-never_bad_node : goal.returns-in-Err-clause-never_bad_node
 returns-in-Err-clause-never_bad_node g c = λ n runs is. c.line.ensures.never_bad_node (planned c.args.plan.now) n runs (c.in-Err.is ∙ ap (λ v. Err v) (same_task c.in-Err.fault _ is))
+
+pub returns-in-Ok-tell-clause-placed : goal.returns-in-Ok-tell-clause-placed
+returns-in-Ok-tell-clause-placed g c = λ placed.
+    let plan = planned c.args.plan.now in
+    let last = c.settle.new.session in
+    let after = c.in-Ok-settle.ensures.placed plan (c.in-Ok.ensures.placed plan placed) in
+    subst (λ (x : Sitting g.row.T.Denot). IsPlaced plan (g.H.Host.now c.tell.new.host) (g.H.Host.may c.tell.new.host) x.reservoir x.engine) (sym c.reuse.ensures)
+    (placed_still g.H.Host.now g.H.Host.may g.H.Host.clock g.H.Host.since plan last.reservoir last.engine c.settle.new.host c.tell.new.host c.tell.ensures.leaves after)
+
+pub returns-in-Err-clause-undamaged : goal.returns-in-Err-clause-undamaged
+returns-in-Err-clause-undamaged g c = λ p placed is. c.line.ensures.undamaged (planned c.args.plan.now) p placed (c.in-Err.is ∙ ap (λ v. Err v) (same_task c.in-Err.fault _ is))

@@ -3,7 +3,7 @@ use Rattle.rg_recover.specs.Sessions.{events_of, stored_of}
 use Rattle.rg_turn.specs.Turning.{HasStopped}
 use Rattle.rg_turn.proofs.Stepping.{mid_stopped}
 use Rattle.rg_turn.proofs.Answered.{refused_line, refused_moments, refused_awaits, refused_events}
-use Rattle.rg_turn.proofs.Nodes.{node_still}
+use Rattle.rg_turn.proofs.Nodes.{node_still, placed_still}
 use Rattle.rg_turn.proofs.refuse.refuse_line.Goals as goal
 
 pub returns-in-Ok-clause-moments : goal.returns-in-Ok-clause-moments
@@ -50,3 +50,13 @@ pub returns-in-Err-clause-node : goal.returns-in-Err-clause-node
 returns-in-Err-clause-node g c = λ plan n runs.
     let s = c.args.session.now in
     node_still g.H.Host.now g.H.Host.may g.H.Host.clock g.H.Host.since plan n (g.T.Table.tells s.engine.table) (g.T.Table.cell s.engine.table) s.reservoir s.engine c.args.host.now c.tell.new.host c.tell.ensures.leaves runs
+
+pub returns-in-Ok-clause-placed : goal.returns-in-Ok-clause-placed
+returns-in-Ok-clause-placed g c = λ plan placed.
+    let s = c.args.session.now in
+    placed_still g.H.Host.now g.H.Host.may g.H.Host.clock g.H.Host.since plan s.reservoir s.engine c.args.host.now c.tell.new.host c.tell.ensures.leaves placed
+
+pub returns-in-Err-clause-placed : goal.returns-in-Err-clause-placed
+returns-in-Err-clause-placed g c = λ plan placed.
+    let s = c.args.session.now in
+    placed_still g.H.Host.now g.H.Host.may g.H.Host.clock g.H.Host.since plan s.reservoir s.engine c.args.host.now c.tell.new.host c.tell.ensures.leaves placed

@@ -2,6 +2,7 @@ use Rattle.std.proofs.Common.{rules, inr, refl}
 use Rattle.rg_reservoir.specs.Kept.{opened}
 use Rattle.rg_recover.specs.Sessions.{Sitting}
 use Rattle.rg_recover.proofs.Nodes.{node_stored}
+use Rattle.rg_recover.proofs.Placed.{placed_stored}
 use Rattle.rg_recover.proofs.Ready.{ready_stepped}
 use Rattle.rg_recover.proofs.Running.{runs_still, first_apart, second_apart}
 use Rattle.rg_recover.proofs.session.Session.commit.Goals as goal
@@ -41,6 +42,7 @@ returns-in-Err g c = record {
   events = λ plan runs. tt;
   running = λ plan runs. tt;
   node = λ plan n runs. tt;
+  placed = λ plan placed. tt;
   next = tt;
   empty = tt;
   count = search rules;
@@ -67,3 +69,10 @@ returns-in-Ok-clause-node g c = rw (← c.self.view_is) (λ plan n runs.
     let e = c.self.inside.engine in
     node_stored plan n (g.H.Host.now h) (g.H.Host.may h) (g.T.Table.tells e.table) (g.T.Table.cell e.table) c.self.inside.reservoir e runs (g.H.Host.now then) (g.H.Host.may then) c.commit_open.new.reservoir
     (c.in-Ok.ensures.opened plan runs.reservoir) (c.in-Ok.ensures.list runs.reservoir.sound) (c.in-Ok.ensures.spelled runs.reservoir.sound))
+
+pub returns-in-Ok-clause-placed : goal.returns-in-Ok-clause-placed
+returns-in-Ok-clause-placed g c = rw (← c.self.view_is) (λ plan placed.
+    let h = c.args.host.now in
+    let then = c.commit_open.new.host in
+    placed_stored plan (g.H.Host.now h) (g.H.Host.may h) c.self.inside.reservoir c.self.inside.engine placed (g.H.Host.now then) (g.H.Host.may then) c.commit_open.new.reservoir
+    (c.in-Ok.ensures.opened plan placed.reservoir) (c.in-Ok.ensures.spelled placed.reservoir.sound))

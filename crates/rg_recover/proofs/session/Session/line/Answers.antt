@@ -93,3 +93,9 @@ returns-in-Ok-clause-node g c = rw (← c.self.view_is) (λ plan n runs. c.in-Ok
 
 pub returns-in-Err-take_in-clause-never_bad_node : goal.returns-in-Err-take_in-clause-never_bad_node
 returns-in-Err-take_in-clause-never_bad_node g c = rw (← c.self.view_is) (λ plan n runs is. c.in-Err-take_in.ensures.never_bad_node plan n runs (ap (λ v. Err v) (same_fault c.in-Err-take_in.fault _ is)))
+
+pub returns-in-Ok-clause-placed : goal.returns-in-Ok-clause-placed
+returns-in-Ok-clause-placed g c = rw (← c.self.view_is) (λ plan placed. c.in-Ok.ensures.placed plan placed)
+
+pub returns-in-Err-take_in-clause-undamaged : goal.returns-in-Err-take_in-clause-undamaged
+returns-in-Err-take_in-clause-undamaged g c = rw (← c.self.view_is) (λ plan p placed is. c.in-Err-take_in.ensures.undamaged plan p placed (ap (λ v. Err v) (same_fault c.in-Err-take_in.fault _ is)))

@@ -57,3 +57,6 @@ returns-in-Ok-clause-stored g c = λ plan runs.
 
 pub returns-in-Ok-clause-node : goal.returns-in-Ok-clause-node
 returns-in-Ok-clause-node g c = λ plan n runs. c.write_checkpoint.ensures.node plan n (c.in-Ok.ensures.node plan n runs)
+
+pub returns-in-Ok-clause-placed : goal.returns-in-Ok-clause-placed
+returns-in-Ok-clause-placed g c = λ plan placed. c.write_checkpoint.ensures.placed plan (c.in-Ok.ensures.placed plan placed)

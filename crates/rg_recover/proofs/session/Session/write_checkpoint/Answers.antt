@@ -4,6 +4,7 @@ use Rattle.rg_engine.specs.Seen.{Seen}
 use Rattle.rg_store.specs.Stores.{store_of}
 use Rattle.rg_recover.specs.Sessions.{Sitting}
 use Rattle.rg_recover.proofs.Nodes.{node_beside}
+use Rattle.rg_recover.proofs.Placed.{placed_beside}
 use Rattle.rg_recover.proofs.Saved.{to_write, running_saved, mid_is_stepped, checkpoint_of}
 use Rattle.rg_recover.proofs.Within.{still_within}
 use Rattle.rg_recover.proofs.session.Session.write_checkpoint.Goals as goal
@@ -67,3 +68,10 @@ returns-in-Ok-write_slot-clause-node g c = rw (← c.self.view_is) (λ plan n ru
     node_beside plan n (g.H.Host.now h) (g.H.Host.may h) (g.T.Table.tells e.table) (g.T.Table.cell e.table) c.self.inside.reservoir e runs (g.H.Host.now then) (g.H.Host.may then) (g.T.Table.tells f.table) (g.T.Table.cell f.table) f
     c.write_slot.ensures.log (c.write_payload.ensures.rows.tells.1 runs.tells) (c.write_payload.ensures.same runs.tells)
     (ap (λ (x : Seen g.row.T.Denot). x.plan) c.write_payload.ensures.engine) (ap (λ (x : Seen g.row.T.Denot). x.spots) c.write_payload.ensures.engine))
+
+pub returns-in-Ok-write_slot-clause-placed : goal.returns-in-Ok-write_slot-clause-placed
+returns-in-Ok-write_slot-clause-placed g c = rw (← c.self.view_is) (λ plan placed.
+    let h = c.args.host.now in
+    let then = c.write_slot.new.host in
+    placed_beside plan (g.H.Host.now h) (g.H.Host.may h) c.self.inside.reservoir c.self.inside.engine placed (g.H.Host.now then) (g.H.Host.may then) c.write_payload.new.engine
+    c.write_slot.ensures.log (ap (λ (x : Seen g.row.T.Denot). x.spots) c.write_payload.ensures.engine))

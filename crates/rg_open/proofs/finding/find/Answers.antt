@@ -107,3 +107,7 @@ returns-in-Ok-attach-clause-list g c = λ v payloads told has w also.
     let r = c.in-Ok-attach.reservoir in
     let opens : Opens (schema_payload c.args.plan.now.schema) (base r).first (base r).end (v 2) (w 2) = subst (λ (u : Image). Opens (schema_payload c.args.plan.now.schema) (base r).first (base r).end (v 2) (u 2)) (one_image (g.H.Host.now c.attach.new.host) t.0 w t.1 also) t.2 in
     list_opened c.args.plan.now.schema (base r).first (base r).end payloads (v 2) (w 2) opens (c.in-Ok-attach.ensures.opened w also).here has
+
+pub returns-in-Err-attach-clause-undamaged : goal.returns-in-Err-attach-clause-undamaged
+returns-in-Err-attach-clause-undamaged g c = λ v events p told has is.
+    c.in-Err-attach.ensures.legal v events p (c.read_slots.ensures.leaves.now_stays ∙ told) has (ap (λ f. Err f) (log_damaged c.in-Err-attach.fault p (sym c.from.ensures ∙ same_fault _ _ is)))

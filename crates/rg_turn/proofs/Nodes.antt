@@ -17,7 +17,7 @@ module _ {H : Type 0} (now : H → Option Image) (may : H → Image → Type 0) 
   pub node_still : {T : Type 0} (plan : Planned) (n : ℕ) (is_told : Type 0) (cells : Cells) (r : Reservoir) (engine : Seen T) (old new : H) → LeavesFiles now may clock since old new → NodeRuns plan n (now old) (may old) is_told cells r engine → NodeRuns plan n (now new) (may new) is_told cells r engine
   node_still plan n is_told cells r engine old new leaves runs = record {
     reservoir = record {
-      sound = sound_stays (now old) (now new) (may old) (may new) r r leaves.now_stays leaves.may_stays (record { base = refl; opened = refl; room = refl; next = refl; time = refl; log = refl }) (λ v t c. c) (λ i. i) runs.reservoir.sound;
+      sound = sound_stays (now old) (now new) (may old) (may new) r r leaves.now_stays leaves.may_stays (record { base = refl; opened = refl; room = refl; next = refl; time = refl; log = refl; cap = refl }) (λ v t c. c) (λ i. i) runs.reservoir.sound;
       going = runs.reservoir.going;
       file = runs.reservoir.file;
       shape = runs.reservoir.shape;

@@ -119,7 +119,7 @@ module _ {H T : Type 0} (now : H → Option Image) (may : H → Image → Type 0
         ready = record {
           in_step = record {
             reservoir = record {
-              sound = sound_stays (now old) (now new) (may old) (may new) s.reservoir s.reservoir leaves.now_stays leaves.may_stays (record { base = refl; opened = refl; room = refl; next = refl; time = refl; log = refl }) (λ v t c. c) (λ i. i) is.reservoir.sound;
+              sound = sound_stays (now old) (now new) (may old) (may new) s.reservoir s.reservoir leaves.now_stays leaves.may_stays (record { base = refl; opened = refl; room = refl; next = refl; time = refl; log = refl; cap = refl }) (λ v t c. c) (λ i. i) is.reservoir.sound;
               going = is.reservoir.going;
               file = is.reservoir.file;
               shape = is.reservoir.shape;

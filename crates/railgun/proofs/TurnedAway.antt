@@ -14,11 +14,10 @@ use Rattle.rg_event.specs.declared.event.Event.{Event}
 use Rattle.rg_event.specs.Rising.{next_offset}
 use Rattle.rg_log.specs.Log.{HasEvents}
 use Rattle.rg_checkpoint.specs.Slots.{HasSlot}
-use Rattle.rg_course.specs.Steps.{IsMidStep}
-use Rattle.rg_store.specs.Stores.{store_of, Has, HasSaved}
+use Rattle.rg_store.specs.Stores.{Has, HasSaved}
 use Rattle.rg_config.specs.Plans.{Planned}
 use Rattle.rg_open.specs.Unfit.{IsLeftAlone}
-use Rattle.rg_open.specs.Within.{IsAsRead, IsWithinOpening}
+use Rattle.rg_open.specs.Within.{IsAsRead, IsInOpening, IsWithinOpening}
 use Rattle.rg_run.specs.Begun.{IsReadyRun}
 use Rattle.rg_run.specs.Faults.{SaysWhy, IsGapOrFailed}
 use Rattle.rg_run.specs.Reading.{IsLonger}
@@ -152,7 +151,7 @@ module _ {H : Type 0} (now : H → Option Image) (may : H → Image → Type 0) 
     turned_away some (inl all) = away last ([], append-nil last) (inl refl) all
     turned_away some (inr rose) = away some.0 some.1 (inr rose) some.2
 
-  module _ (ready : IsReadyRun plan (now old) (may old) (said old)) (first slot : ℕ) (within : IsWithinOpening may clock since said (store_of plan) (Some slot) ready.openable.image old mid) (ends : EndsBehind first (next_offset ready.held) unread status last) where
+  module _ (ready : IsReadyRun plan (now old) (may old) (said old)) (first slot : ℕ) (within : IsWithinOpening may clock since said plan (Some slot) ready.openable.image old mid) (ends : EndsBehind first (next_offset ready.held) unread status last) where
     abbrev u0 : Image
     u0 = ready.openable.image
 
@@ -164,12 +163,13 @@ module _ {H : Type 0} (now : H → Option Image) (may : H → Image → Type 0) 
     saved_read : (u : Image) (count : ℕ) → IsAsRead u0 (may old) u → HasSaved plan slot count u0 → HasSaved plan slot count u
     saved_read u count is has = record { below = has.below; checkpoint = has.checkpoint; complete = subst (λ (bytes : List ℕ). HasSlot bytes has.checkpoint) (sym (slot_read u is slot has.below)) has.complete; texts = has.texts; most = has.most }
 
-    keeps_all : (u : Image) → may old u ⊎ IsMidStep (store_of plan) (Some slot) [] (IsAsRead u0 (may old)) u → may old u ⊎ KeepsAll plan ready.held u0 slot u
+    keeps_all : (u : Image) → IsInOpening plan (Some slot) u0 (may old) u → may old u ⊎ KeepsAll plan ready.held u0 (may old) slot u
     keeps_all u (inl left) = inl left
-    keeps_all u (inr mid_step) = inr (record {
+    keeps_all u (inr (mid_step, at_open)) = inr (record {
       truthful = mid_step.truthful (ready.openable.truthful mid_step.from mid_step.left.0);
       has = ⊎_elim (λ has. has) (λ has. subst (λ (es : List Event). Has plan es u) (append-nil ready.held) has) (mid_step.events ready.held (subst (λ (bytes : List ℕ). HasEvents plan.shape ready.held bytes) (sym mid_step.left.3) ready.has));
       saved = λ count has. mid_step.slots slot count refl (saved_read mid_step.from count mid_step.left has);
+      opened = at_open;
     })
 
     lies : (part : List ℕ) → IsPrefix part last → (part ≡ last) ⊎ failed → Puts said clock since mid new part → IsBehind may clock since said plan ready.held u0 first slot unread failed status old new
@@ -179,9 +179,9 @@ module _ {H : Type 0} (now : H → Option Image) (may : H → Image → Type 0) 
       part = part;
       front = front;
       whole = whole;
-      puts = puts-then said clock since old mid new [] part (silent_puts clock since said (λ m. may old m.image ⊎ IsMidStep (store_of plan) (Some slot) [] (IsAsRead u0 (may old)) m.image) old mid within.said_stays within.moments) puts;
+      puts = puts-then said clock since old mid new [] part (silent_puts clock since said (λ m. IsInOpening plan (Some slot) u0 (may old) m.image) old mid within.said_stays within.moments) puts;
       left = λ u left. keeps_all u (within.left u (leaves.may_stays.no_more u left));
-      moments = moments_then clock since old mid new _ _ (λ m. may old m.image ⊎ KeepsAll plan ready.held u0 slot m.image) within.moments leaves.moments (λ m h. keeps_all m.image h.0) (λ m h. keeps_all m.image (within.left m.image h));
+      moments = moments_then clock since old mid new _ _ (λ m. may old m.image ⊎ KeepsAll plan ready.held u0 (may old) slot m.image) within.moments leaves.moments (λ m h. keeps_all m.image h.0) (λ m h. keeps_all m.image (within.left m.image h));
     }
 
     pub lies_behind : (part : List ℕ) × IsPrefix part last × Puts said clock since mid new part → Puts said clock since mid new last ⊎ failed → IsBehind may clock since said plan ready.held u0 first slot unread failed status old new
@@ -190,9 +190,9 @@ module _ {H : Type 0} (now : H → Option Image) (may : H → Image → Type 0) 
 
 -- a run by the plan that was read, as one by the plan that is asked for
 pub behind_at : {H : Type 0} (now : H → Option Image) (may : H → Image → Type 0) (clock : H → ℕ) (since : H → ℕ → Moment → Type 0) (said : H → Option (List ℕ)) (old new : H) (plan input : Option (List ℕ)) (told : ToldRun plan input (now old) (may old) (said old)) (keep : Option ℕ) (first : ℕ) (alone unread : Type 0) (status : Status) (last : List ℕ) (p : Planned) → IfSome plan (λ bytes. IsPlan bytes p) →
-    ((ready : IsReadyRun p (now old) (may old) (said old)) → next_offset ready.held < first → alone × IsWithinOpening may clock since said (store_of p) keep ready.openable.image old new × EndsBehind first (next_offset ready.held) ⊥ status last) → next_offset told.ready.held < first →
-    alone × IsWithinOpening may clock since said (store_of told.asks) keep told.ready.openable.image old new × EndsBehind first (next_offset told.ready.held) unread status last
+    ((ready : IsReadyRun p (now old) (may old) (said old)) → next_offset ready.held < first → alone × IsWithinOpening may clock since said p keep ready.openable.image old new × EndsBehind first (next_offset ready.held) ⊥ status last) → next_offset told.ready.held < first →
+    alone × IsWithinOpening may clock since said told.asks keep told.ready.openable.image old new × EndsBehind first (next_offset told.ready.held) unread status last
 behind_at now may clock since said old new plan input told keep first alone unread status last p legal goes behind =
-    let Goes : Planned → Type 0 = λ q. (ready : IsReadyRun q (now old) (may old) (said old)) → next_offset ready.held < first → alone × IsWithinOpening may clock since said (store_of q) keep ready.openable.image old new × EndsBehind first (next_offset ready.held) ⊥ status last in
+    let Goes : Planned → Type 0 = λ q. (ready : IsReadyRun q (now old) (may old) (said old)) → next_offset ready.held < first → alone × IsWithinOpening may clock since said q keep ready.openable.image old new × EndsBehind first (next_offset ready.held) ⊥ status last in
     let at = subst Goes (told_asks plan input (now old) (may old) (said old) p legal told) goes told.ready behind in
     (at.0, at.1, ⊎_elim (λ says. inl says) (λ failed. inr (failed_for unread status last failed)) at.2)

@@ -10,7 +10,7 @@ use Rattle.rg_config.specs.Plans.{Planned}
 use Rattle.rg_store.specs.Stores.{Has, HasSaved}
 use Rattle.rg_store.specs.Truth.{IsTruthfulImage}
 use Rattle.rg_open.specs.Unfit.{HasOtherSchema, HasBadFrame}
-use Rattle.rg_open.specs.Within.{IsAsRead}
+use Rattle.rg_open.specs.Within.{IsAsRead, IsOpenedImage}
 use Rattle.railgun.specs.Call.{damage_line, schema_line, gap_line, Fails}
 use Rattle.rg_report.specs.declared.status.Status.{Status}
 use Rattle.rg_report.specs.declared.status.Status.TheVariants.{Store, Read, Disk, Memory, Gap}
@@ -45,11 +45,13 @@ pub record IsTurnedAway {H : Type 0} (now : H → Option Image) (may : H → Ima
   pub fewer : (u : Image) → may new u → may old u
   pub moments : Moments clock since old new (λ m. may old m.image)
 
--- the image is truthful and has just these events, and the slot has what it has where v is read
-pub record KeepsAll (plan : Planned) (held : List Event) (v : Image) (slot : ℕ) (u : Image) : Type 0 where
+-- the image is truthful and has just these events, the slot has what it has where v is read, and nothing was written but the schema's frame
+-- of a log without a frame
+pub record KeepsAll (plan : Planned) (held : List Event) (v : Image) (may : Image → Type 0) (slot : ℕ) (u : Image) : Type 0 where
   pub truthful : IsTruthfulImage u
   pub has : Has plan held u
   pub saved : (count : ℕ) → HasSaved plan slot count v → HasSaved plan slot count u
+  pub opened : IsOpenedImage plan v may u
 
 -- From old, where reads give the image v with the events held, to new nothing was put but the last line of the status, whole unless
 -- `failed`; the first line's offset lies behind the next one. What a crash may leave, at each moment and then, it could leave at old, or
@@ -61,5 +63,5 @@ pub record IsBehind {H : Type 0} (may : H → Image → Type 0) (clock : H → �
   pub front : IsPrefix part last
   pub whole : (part ≡ last) ⊎ failed
   pub puts : Puts said clock since old new part
-  pub left : (u : Image) → may new u → may old u ⊎ KeepsAll plan held v slot u
-  pub moments : Moments clock since old new (λ m. may old m.image ⊎ KeepsAll plan held v slot m.image)
+  pub left : (u : Image) → may new u → may old u ⊎ KeepsAll plan held v (may old) slot u
+  pub moments : Moments clock since old new (λ m. may old m.image ⊎ KeepsAll plan held v (may old) slot m.image)

@@ -168,7 +168,7 @@ fn run_with_plan<P: Source, I: Source, H: Host>(
     ensures legal { OnOk result (IsLegalPlan (P.left plan.old)) }
     ensures within { OnOk result (IsWithinLimit (2 ^ 50) (I.left input.old)) }
     ensures behind { (told : ToldRun (P.left plan.old) (I.left input.old) (H.now host.old) (H.may host.old) (H.said host.old)) (keep : Option ℕ) → next_offset told.ready.held < first →
-        (input.new ≡ input.old) × IsWithinOpening H.may H.clock H.since H.said (store_of told.asks) keep told.ready.openable.image host.old host.new
+        (input.new ≡ input.old) × IsWithinOpening H.may H.clock H.since H.said told.asks keep told.ready.openable.image host.old host.new
         × EndsBehind first (next_offset told.ready.held) (Rose (P.faults plan.old) (P.faults plan.new)) (status_after result) (line_after result) }
     ensures unfit { (bytes : List ℕ) (asks : Planned) (v : Image) → P.left plan.old ≡ Some bytes → IsPlan bytes asks → H.now host.old ≡ Some v → IsUnfit asks v →
         (input.new ≡ input.old) × IsLeftAlone H.now H.may H.clock H.since H.said v host.old host.new × EndsUnfit asks v (Rose (P.faults plan.old) (P.faults plan.new)) (status_after result) (line_after result) }
@@ -216,7 +216,7 @@ fn run_command<P: Source, I: Source, H: Host>(
     ensures undamaged { OnOk result (ShowsStore (Some command) → IsUndamaged (H.now host.old)) }
     ensures within { OnOk result (IsRun (Some command) → IsWithinLimit (2 ^ 50) (I.left input.old)) }
     ensures behind { (first : ℕ) → command ≡ Command.Run first → (told : ToldRun (P.left plan.old) (I.left input.old) (H.now host.old) (H.may host.old) (H.said host.old)) (keep : Option ℕ) → next_offset told.ready.held < first →
-        (input.new ≡ input.old) × IsWithinOpening H.may H.clock H.since H.said (store_of told.asks) keep told.ready.openable.image host.old host.new
+        (input.new ≡ input.old) × IsWithinOpening H.may H.clock H.since H.said told.asks keep told.ready.openable.image host.old host.new
         × EndsBehind first (next_offset told.ready.held) (Rose (P.faults plan.old) (P.faults plan.new)) (status_after result) (line_after result) }
     ensures unfit { (bytes : List ℕ) (asks : Planned) (v : Image) → IsRun (Some command) → P.left plan.old ≡ Some bytes → IsPlan bytes asks → H.now host.old ≡ Some v → IsUnfit asks v →
         (input.new ≡ input.old) × IsLeftAlone H.now H.may H.clock H.since H.said v host.old host.new × EndsUnfit asks v (Rose (P.faults plan.old) (P.faults plan.new)) (status_after result) (line_after result) }

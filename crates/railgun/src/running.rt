@@ -5,7 +5,6 @@ ghost use Rattle.rg_host.specs.Image.{Image};
 ghost use Rattle.rg_event.specs.Rising.{next_offset};
 ghost use Rattle.rg_config.specs.Plans.{planned};
 ghost use Rattle.rg_config.specs.Read.{IsReadPlan};
-ghost use Rattle.rg_store.specs.Stores.{store_of};
 ghost use Rattle.rg_open.specs.Unfit.{IsUnfit, IsLeftAlone};
 ghost use Rattle.rg_open.specs.Within.{IsWithinOpening};
 ghost use Rattle.rg_run.specs.Begun.{IsReadyRun, begun_by};
@@ -63,7 +62,7 @@ pub fn run<I: Source, H: Host, L: Ledger>(
     ensures at_end { OnOk result (IsAtEnd (I.left input.new)) }
     ensures within { OnOk result (IsWithinLimit (2 ^ 50) (I.left input.old)) }
     ensures behind { (ready : IsReadyRun (planned plan.now) (H.now host.old) (H.may host.old) (H.said host.old)) (keep : Option ℕ) → next_offset ready.held < first →
-        (input.new ≡ input.old) × IsWithinOpening H.may H.clock H.since H.said (store_of (planned plan.now)) keep ready.openable.image host.old host.new
+        (input.new ≡ input.old) × IsWithinOpening H.may H.clock H.since H.said (planned plan.now) keep ready.openable.image host.old host.new
         × EndsBehind first (next_offset ready.held) ⊥ (status_after result) (line_after result) }
     ensures unfit { (v : Image) → H.now host.old ≡ Some v → IsUnfit (planned plan.now) v →
         (input.new ≡ input.old) × IsLeftAlone H.now H.may H.clock H.since H.said v host.old host.new × EndsUnfit (planned plan.now) v ⊥ (status_after result) (line_after result) }

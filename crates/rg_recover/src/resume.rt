@@ -14,12 +14,10 @@ ghost use Rattle.rg_reservoir.specs.Kept.{base, opened, room_of, cache_of, log_o
 ghost use Rattle.rg_state.specs.Keeping.{TableKept};
 ghost use Rattle.rg_engine.specs.Passed.{passed_count};
 ghost use Rattle.rg_restore.specs.Opening.{IsEmpty};
-ghost use Rattle.rg_course.specs.Steps.{IsStepped};
-ghost use Rattle.rg_store.specs.Stores.{store_of};
 ghost use Rattle.rg_open.specs.Blame.{IsBlamed, NodeRuns};
 ghost use Rattle.rg_open.specs.Opening.{IsOpenable, IsResumed, IsFromIn};
 ghost use Rattle.rg_open.specs.Unfit.{IsUnfit, SaysWhy, IsLeftAlone};
-ghost use Rattle.rg_open.specs.Within.{IsAsRead, IsWithinOpening};
+ghost use Rattle.rg_open.specs.Within.{IsWithinOpening, IsAfterOpening};
 ghost use Rattle.rg_recover.specs.Sessions.{IsRunning, count_in, events_of, stored_of};
 
 use crate::session::Session;
@@ -71,8 +69,8 @@ impl<T: Table> Session<T> {
             IfOk result (λ r. (NodeRuns (planned plan.now) n (H.now host.new) (H.may host.new) (T.tells r.0.engine.table) (T.cell r.0.engine.table) r.0.reservoir r.0.engine → ⊥) → IsBlamed (planned plan.now) v events n) }
 
         // At each moment, and at every result.
-        ensures within { (v : Image) (keep : Option ℕ) → H.now host.old ≡ Some v → IsWithinOpening H.may H.clock H.since H.said (store_of (planned plan.now)) keep v host.old host.new }
-        ensures stepped { (v : Image) (keep : Option ℕ) → H.now host.old ≡ Some v → OnOk result ((u : Image) → H.may host.new u → IsStepped (store_of (planned plan.now)) keep [] (IsAsRead v (H.may host.old)) u) }
+        ensures within { (v : Image) (keep : Option ℕ) → H.now host.old ≡ Some v → IsWithinOpening H.may H.clock H.since H.said (planned plan.now) keep v host.old host.new }
+        ensures stepped { (v : Image) (keep : Option ℕ) → H.now host.old ≡ Some v → OnOk result ((u : Image) → H.may host.new u → IsAfterOpening (planned plan.now) keep v (H.may host.old) u) }
         ensures said { H.said host.new ≡ H.said host.old }
 
         // Over an image that isn't fit for the plan.

@@ -12,7 +12,7 @@ ghost use Rattle.rg_checkpoint.specs.Writing.{Encodes};
 ghost use Rattle.rg_course.specs.Steps.{IsSavedTo};
 ghost use Rattle.rg_store.specs.Stores.{store_of};
 ghost use Rattle.rg_open.specs.Blame.{NodeRuns};
-ghost use Rattle.rg_recover.specs.Saving.{IsToWrite};
+ghost use Rattle.rg_recover.specs.Saving.{IsToWrite, IsSaved};
 ghost use Rattle.rg_recover.specs.Sessions.{IsRunning, count_in, events_of, stored_of};
 ghost use Rattle.rg_recover.specs.Stepping.{IsWithinStep, IsStored, LogStays};
 
@@ -84,8 +84,8 @@ fn write_slot<H: Host>(
 
 impl<T: Table> Session<T> {
     /// Stores all events, and writes a checkpoint of them into the slot other than the one that was used
-    /// or written last. Where that one has this count and all events are stored, nothing is written. Answers
-    /// how many events there are. Any refusal ends the session.
+    /// or written last, slot 0 for none. Where that one has this count and all events are stored, nothing is
+    /// written. Answers how many events there are. Any refusal ends the session.
     pub fn save<H: Host>(&mut self, host: &mut H) -> Result<u64, TaskFault>
         requires reaches { self.old.ended ≡ false → ReachesEnd (log_of self.old.reservoir) (H.now host.old) }
 
@@ -105,6 +105,7 @@ impl<T: Table> Session<T> {
         ensures count { IfOk result (λ count. count ≡ count_in self.new.reservoir) }
         ensures saved { OnOk result ((self.new.saved ≡ count_in self.new.reservoir) × (opened self.new.reservoir ≡ [])) }
         ensures kept { OnOk result ((slot : ℕ) × (self.new.keep ≡ Some slot)) }
+        ensures written { OnOk result ((self.new.keep ≡ Some (other_of self.old.keep)) ⊎ IsSaved self.old) }
         ensures idle { (slot : ℕ) → self.old.ended ≡ false → self.old.keep ≡ Some slot → self.old.saved ≡ count_in self.old.reservoir → opened self.old.reservoir ≡ [] →
             (result ≡ Ok self.old.saved) × (self.new ≡ self.old) × (host.new ≡ host.old) }
         ensures log { ((base self.new.reservoir).shape ≡ (base self.old.reservoir).shape) × ((base self.new.reservoir).file ≡ (base self.old.reservoir).file) }
@@ -167,7 +168,7 @@ impl<T: Table> Session<T> {
         ensures rows { TableKept T.tells T.faults self.old.engine.table self.new.engine.table }
         ensures count { IfOk result (λ count. count ≡ count_in self.new.reservoir) }
         ensures saved { OnOk result (self.new.saved ≡ count_in self.new.reservoir) }
-        ensures kept { OnOk result ((slot : ℕ) × (self.new.keep ≡ Some slot)) }
+        ensures kept { OnOk result (self.new.keep ≡ Some (other_of self.old.keep)) }
         ensures disk { IsErrOf result TaskFault.Disk → Rose (H.disk_faults host.old) (H.disk_faults host.new) }
         ensures table { IsErrOf result TaskFault.Table → Rose (T.faults self.old.engine.table) (T.faults self.new.engine.table) }
         ensures faults { IfErr result (λ fault. (fault ≡ TaskFault.Disk) ⊎ (fault ≡ TaskFault.Memory) ⊎ (fault ≡ TaskFault.Table)) }

@@ -15,7 +15,7 @@ use Rattle.rg_reply.specs.Texts.{mark_line}
 use Rattle.rg_reply.specs.declared.mark.Mark.TheVariants.{Opened}
 use Rattle.rg_course.specs.Laws.{IsPrefixOf}
 use Rattle.rg_course.specs.Output.{open_line, out}
-use Rattle.rg_course.specs.Steps.{IsAtRest, IsMidStep, IsStepped}
+use Rattle.rg_course.specs.Steps.{IsAtRest}
 use Rattle.rg_course.specs.Stores.{Course, IsKeptInStore, IsNear, StaysOnCourseSince}
 use Rattle.rg_course.specs.Turns.{IsBetween}
 use Rattle.rg_course.proofs.Betweens.{at_rest_first, between_first}
@@ -26,7 +26,7 @@ use Rattle.rg_course.proofs.Marking.{open_marks}
 use Rattle.rg_course.proofs.Texts.{mark_no_lf}
 use Rattle.rg_log.specs.Log.{HasEvents}
 use Rattle.rg_store.specs.Stores.{store_of}
-use Rattle.rg_open.specs.Within.{IsAsRead, IsWithinOpening}
+use Rattle.rg_open.specs.Within.{IsAsRead, IsInOpening, IsAfterOpening, IsWithinOpening}
 use Rattle.rg_reservoir.specs.Kept.{next_of}
 use Rattle.rg_recover.specs.Sessions.{Sitting, IsRunning, count_in, events_of, stored_of}
 use Rattle.rg_recover.proofs.Sound.{long}
@@ -66,17 +66,17 @@ module _ {H : Type 0} (now : H → Option Image) (may : H → Image → Type 0) 
   nothing_said : ready.put ≡ course.said ++ ended []
   nothing_said = sym (append-nil ready.put)
 
-  module _ (keep : Option ℕ) (opened : H) (within : IsWithinOpening may clock since said (store_of plan) keep v old opened) where
-    each : (m : Moment) → (may old m.image ⊎ IsMidStep (store_of plan) keep [] (IsAsRead v (may old)) m.image) × ForSome (said old) (λ s. m.said ≡ s) → P m
+  module _ (keep : Option ℕ) (opened : H) (within : IsWithinOpening may clock since said plan keep v old opened) where
+    each : (m : Moment) → IsInOpening plan keep v (may old) m.image × ForSome (said old) (λ s. m.said ≡ s) → P m
     each m (inl left, says) = inl (left, ([], ([], refl), says ready.put ready.told ∙ sym (append-nil ready.put)))
-    each m (inr mid, says) = inr (on_course_mid_step Image (store_of plan) course [] course.text ready.held [] keep (IsAsRead v (may old)) [] m.image m.said (at_read keep) (begins keep) near tt refl mid (says ready.put ready.told ∙ nothing_said))
+    each m (inr mid, says) = inr (on_course_mid_step Image (store_of plan) course [] course.text ready.held [] keep (IsAsRead v (may old)) [] m.image m.said (at_read keep) (begins keep) near tt refl mid.0 (says ready.put ready.told ∙ nothing_said))
 
     pub opening_moments : Moments clock since old opened P
-    opening_moments = moments-weaker clock since old opened (λ m. (may old m.image ⊎ IsMidStep (store_of plan) keep [] (IsAsRead v (may old)) m.image) × ForSome (said old) (λ s. m.said ≡ s)) P within.moments each
+    opening_moments = moments-weaker clock since old opened (λ m. IsInOpening plan keep v (may old) m.image × ForSome (said old) (λ s. m.said ≡ s)) P within.moments each
 
-    kept_by : (u : Image) → may old u ⊎ IsMidStep (store_of plan) keep [] (IsAsRead v (may old)) u → may old u ⊎ IsKeptInStore (store_of plan) course [] u
+    kept_by : (u : Image) → IsInOpening plan keep v (may old) u → may old u ⊎ IsKeptInStore (store_of plan) course [] u
     kept_by u (inl left) = inl left
-    kept_by u (inr mid) = inr (mid_step_kept Image (store_of plan) course [] ready.held [] keep (IsAsRead v (may old)) u (at_read keep) (begins keep) near mid)
+    kept_by u (inr mid) = inr (mid_step_kept Image (store_of plan) course [] ready.held [] keep (IsAsRead v (may old)) u (at_read keep) (begins keep) near mid.0)
 
     pub unopened : IsUnopened may said plan (begun_by ready from first input) old opened
     unopened = record { said_stays = within.said_stays; left = λ u left. kept_by u (within.left u left) }
@@ -85,9 +85,9 @@ module _ {H : Type 0} (now : H → Option Image) (may : H → Image → Type 0) 
     told_opened = within.said_stays ∙ ready.told
 
     -- the store is opened
-    module _ (stepped : (u : Image) → may opened u → IsStepped (store_of plan) keep [] (IsAsRead v (may old)) u) where
+    module _ (stepped : (u : Image) → may opened u → IsAfterOpening plan keep v (may old) u) where
       at_open : IsAtRest (store_of plan) course [] ready.held keep (may opened)
-      at_open = subst (λ (l : List Event). IsAtRest (store_of plan) course [] l keep (may opened)) (append-nil ready.held) (after_step Image (store_of plan) course [] ready.held [] keep (IsAsRead v (may old)) (may opened) (at_read keep) (begins keep) near stepped)
+      at_open = subst (λ (l : List Event). IsAtRest (store_of plan) course [] l keep (may opened)) (append-nil ready.held) (after_step Image (store_of plan) course [] ready.held [] keep (IsAsRead v (may old)) (may opened) (at_read keep) (begins keep) near (λ u left. (stepped u left).0))
 
       -- the open line is put, or a part of it
       module _ (new : H) (files : LeavesFiles now may clock since opened new) where

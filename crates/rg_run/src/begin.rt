@@ -57,7 +57,7 @@ pub(crate) fn begin<H: Host, L: Ledger>(
         × (events_of (H.now host.new) turning.session ≡ ready.held))
         × IfErr result (λ fault. (fault ≡ RunFault.Write) ⊎ IsUnopened H.may H.said (planned plan.now) (begun_by ready from first input) host.old host.new) }
     ensures behind { (ready : IsReadyRun (planned plan.now) (H.now host.old) (H.may host.old) (H.said host.old)) (keep : Option ℕ) → next_offset ready.held < first →
-        IsWithinOpening H.may H.clock H.since H.said (store_of (planned plan.now)) keep ready.openable.image host.old host.new × IfErr result IsGapOrFailed }
+        IsWithinOpening H.may H.clock H.since H.said (planned plan.now) keep ready.openable.image host.old host.new × IfErr result IsGapOrFailed }
     ensures never_bad { (n : ℕ) → IsReadyRun (planned plan.now) (H.now host.old) (H.may host.old) (H.said host.old) → IsErrOf result (RunFault.BadState n) → ⊥ }
     ensures never_damaged { (p : ℕ) → IsReadyRun (planned plan.now) (H.now host.old) (H.may host.old) (H.said host.old) → IsErrOf result (RunFault.Damaged p) → ⊥ }
     ensures never_differs { IsReadyRun (planned plan.now) (H.now host.old) (H.may host.old) (H.said host.old) → IsErrOf result RunFault.SchemaDiffers → ⊥ }

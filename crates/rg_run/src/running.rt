@@ -10,7 +10,6 @@ ghost use Rattle.rg_config.specs.Plans.{planned};
 ghost use Rattle.rg_config.specs.Read.{IsReadPlan};
 ghost use Rattle.rg_reservoir.specs.Attached.{IsOther, IsBadFrame};
 ghost use Rattle.rg_reservoir.specs.Chain.{IsIllegal};
-ghost use Rattle.rg_store.specs.Stores.{store_of};
 ghost use Rattle.rg_open.specs.Blame.{IsBlamed};
 ghost use Rattle.rg_open.specs.Unfit.{IsUnfit, IsLeftAlone};
 ghost use Rattle.rg_open.specs.Within.{IsWithinOpening};
@@ -46,7 +45,7 @@ pub fn run<I: Source, H: Host, L: Ledger>(
     ensures ran { (ready : IsReadyRun (planned plan.now) (H.now host.old) (H.may host.old) (H.said host.old)) (all : List ℕ) → I.left input.old ≡ Some all →
         (from : ℕ) × Ran H.may H.clock H.since H.said (planned plan.now) (begun_by ready from first all) ready.openable.image (I.left input.new) result host.old host.new }
     ensures behind { (ready : IsReadyRun (planned plan.now) (H.now host.old) (H.may host.old) (H.said host.old)) (keep : Option ℕ) → next_offset ready.held < first →
-        (input.new ≡ input.old) × IsWithinOpening H.may H.clock H.since H.said (store_of (planned plan.now)) keep ready.openable.image host.old host.new × IfErr result IsGapOrFailed }
+        (input.new ≡ input.old) × IsWithinOpening H.may H.clock H.since H.said (planned plan.now) keep ready.openable.image host.old host.new × IfErr result IsGapOrFailed }
     ensures never_bad { (ready : IsReadyRun (planned plan.now) (H.now host.old) (H.may host.old) (H.said host.old)) (all : List ℕ) (n : ℕ) → I.left input.old ≡ Some all → IsErrOf result (RunFault.BadState n) → ⊥ }
     ensures never_damaged { (ready : IsReadyRun (planned plan.now) (H.now host.old) (H.may host.old) (H.said host.old)) (all : List ℕ) (p : ℕ) → I.left input.old ≡ Some all → IsErrOf result (RunFault.Damaged p) → ⊥ }
     ensures never_differs { IsReadyRun (planned plan.now) (H.now host.old) (H.may host.old) (H.said host.old) → IsErrOf result RunFault.SchemaDiffers → ⊥ }

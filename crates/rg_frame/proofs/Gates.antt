@@ -90,10 +90,11 @@ gated_kept payloads end a b g keeps = record {
 }
 
 -- a frame that was staged stands behind the gate
-staged_is : (payloads : List (List ℕ)) (end : ℕ) (payload a b : List ℕ) (g : IsGated payloads end a) (s : Staged end payload a b) → b ≡ frames payloads ++ g.gate ∷ (staging payload ++ s.0)
+staged_is : (payloads : List (List ℕ)) (end : ℕ) (payload a b : List ℕ) (g : IsGated payloads end a) (s : Staged end payload a b) → b ≡ frames payloads ++ g.gate ∷ (staging payload ++ drop (end + 10 + length payload) a)
 staged_is payloads end payload a b g s =
-    s.1 ∙ ap (λ (l : List ℕ). l ++ (staging payload ++ s.0)) (ap (λ (l : List ℕ). take (end + 1) l) g.is ∙ take_gate (frames payloads) end g.ends g.gate g.rest)
-    ∙ append_assoc (frames payloads) (g.gate ∷ []) (staging payload ++ s.0)
+    let rest : List ℕ = drop (end + 10 + length payload) a in
+    s ∙ ap (λ (l : List ℕ). l ++ (staging payload ++ rest)) (ap (λ (l : List ℕ). take (end + 1) l) g.is ∙ take_gate (frames payloads) end g.ends g.gate g.rest)
+    ∙ append_assoc (frames payloads) (g.gate ∷ []) (staging payload ++ rest)
 
 -- an open gate before a staged frame
 opened : (payloads : List (List ℕ)) (payload rest bytes : List ℕ) → bytes ≡ frames payloads ++ 1 ∷ (staging payload ++ rest) → IsGated (payloads ++ payload ∷ []) (length (frames payloads) + 9 + length payload) bytes
@@ -163,7 +164,9 @@ reaches-begun end a b (inr none) (inl same) = omega (arith, none.0, same.0, ap l
 reaches-begun end a b (inr none) (inr brief) = omega (arith, none.0, ap length brief.1)
 
 pub length-staged : (end : ℕ) (payload a b : List ℕ) → end + 1 ≤ length a → Staged end payload a b → end + 9 + length payload < length b
-length-staged end payload a b le s = omega (arith, ap length s.1, length-append (take (end + 1) a) (staging payload ++ s.0), length-take-le (end + 1) a le, length-append (staging payload) s.0, length-append (body payload) (0 ∷ []), length-body payload)
+length-staged end payload a b le s =
+    let rest : List ℕ = drop (end + 10 + length payload) a in
+    omega (arith, ap length s, length-append (take (end + 1) a) (staging payload ++ rest), length-take-le (end + 1) a le, length-append (staging payload) rest, length-append (body payload) (0 ∷ []), length-body payload)
 
 -- a write within a file leaves its length
 pub length-held : (end : ℕ) (bytes a b : List ℕ) → end + length bytes ≤ length a → Holds end bytes a b → length b ≡ length a
@@ -191,25 +194,36 @@ begun_before end a b reaches (inl same) = ap (λ (l : List ℕ). take end l) sam
 begun_before end a b (inl long) (inr brief) = take_none end a b (omega (arith, long, brief.0))
 begun_before end a b (inr none) (inr brief) = take_none end a b none.0
 
+-- what stands behind the first byte stays when a file is begun
+begun_behind : (n : ℕ) (a b : List ℕ) → 1 ≤ n → Begun a b → drop n b ≡ drop n a
+begun_behind n a b le (inl same) = ap (λ (l : List ℕ). drop n l) same.1
+begun_behind n a b le (inr brief) = drop_all n b (omega (arith, le, ap length brief.1)) ∙ sym (drop_all n a (omega (arith, le, brief.0)))
+
 -- the bytes of the file once the gate is open
 pub added-written : (end : ℕ) (payload a b c : List ℕ) → Reaches end a → Prepared end payload a b → Holds end (1 ∷ []) b c → Added end payload a c
 added-written end payload a b c reaches prepared holds =
     let begun : List ℕ = prepared.0 in
-    let rest : List ℕ = prepared.2.0 in
+    let behind : ℕ = end + 10 + length payload in
+    let rest : List ℕ = drop behind begun in
     let front : List ℕ = take end begun in
     let gate : List ℕ = take 1 (drop end begun) in
     let within = reaches-begun end a begun reaches prepared.1 in
     let n : length front ≡ end = length-take-le end begun (omega (arith, within)) in
     let one : length gate ≡ 1 = length-take-le 1 (drop end begun) (omega (arith, within, length-drop end begun)) in
-    let is : b ≡ front ++ (gate ++ (staging payload ++ rest)) = prepared.2.1 ∙ ap (λ (l : List ℕ). l ++ (staging payload ++ rest)) (take-add end 1 begun) ∙ append_assoc front gate (staging payload ++ rest) in
-    let written = written_on front (gate ++ (staging payload ++ rest)) (1 ∷ []) b c end n is holds in (
-      rest,
-      written ∙ ap (λ (l : List ℕ). (front ++ 1 ∷ []) ++ l) (drop_at gate (staging payload ++ rest) 1 one) ∙ append_assoc front (1 ∷ []) (staging payload ++ rest)
-          ∙ ap (λ (l : List ℕ). l ++ 1 ∷ (staging payload ++ rest)) (begun_before end a begun reaches prepared.1),
-    )
+    let is : b ≡ front ++ (gate ++ (staging payload ++ rest)) = prepared.2 ∙ ap (λ (l : List ℕ). l ++ (staging payload ++ rest)) (take-add end 1 begun) ∙ append_assoc front gate (staging payload ++ rest) in
+    let written = written_on front (gate ++ (staging payload ++ rest)) (1 ∷ []) b c end n is holds in
+    written ∙ ap (λ (l : List ℕ). (front ++ 1 ∷ []) ++ l) (drop_at gate (staging payload ++ rest) 1 one) ∙ append_assoc front (1 ∷ []) (staging payload ++ rest)
+    ∙ ap (λ (l : List ℕ). l ++ 1 ∷ (staging payload ++ rest)) (begun_before end a begun reaches prepared.1)
+    ∙ ap (λ (l : List ℕ). take end a ++ 1 ∷ (staging payload ++ l)) (begun_behind behind a begun (omega arith) prepared.1)
 
 stage_shape : (front size payload rest d : List ℕ) → d ≡ (((front ++ size) ++ payload) ++ 0 ∷ []) ++ rest → d ≡ front ++ (((size ++ payload) ++ 0 ∷ []) ++ rest)
 stage_shape front size payload rest d is = is ∙ simp append_assoc
+
+-- what three writes in a row leave behind them
+behind_three : (end : ℕ) (payload a size : List ℕ) → size ≡ to_be_bytes w64 (length payload) → drop 1 (drop (length payload) (drop (length size) (drop (end + 1) a))) ≡ drop (end + 10 + length payload) a
+behind_three end payload a size is =
+    ap (λ (l : List ℕ). drop 1 (drop (length payload) l)) (drop-drop (length size) (end + 1) a) ∙ ap (λ (l : List ℕ). drop 1 l) (drop-drop (length payload) (end + 1 + length size) a) ∙ drop-drop 1 (end + 1 + length size + length payload) a
+    ∙ ap (λ (n : ℕ). drop n a) (omega (arith, ap length is))
 
 -- the three writes that stage a frame
 abbrev pub ThreeWrites : ℕ → List ℕ → List ℕ → List ℕ → Type 0
@@ -225,7 +239,7 @@ staged-three end payload a d le three =
     let is2 = written_on (front ++ size) _ payload three.0 three.1 (end + 9) n1 is1 three.3 in
     let n2 : length ((front ++ size) ++ payload) ≡ end + 9 + length payload = omega (arith, n1, length-append (front ++ size) payload) in
     let is3 = written_on ((front ++ size) ++ payload) _ (0 ∷ []) three.1 d (end + 9 + length payload) n2 is2 three.4 in
-    (_, stage_shape front size payload _ d is3)
+    stage_shape front size payload _ d is3 ∙ ap (λ (l : List ℕ). front ++ (((size ++ payload) ++ 0 ∷ []) ++ l)) (behind_three end payload a size refl)
 
 -- Single writes.
 

@@ -53,10 +53,10 @@ pub record Keeps (k : ℕ) (old new : List ℕ) : Type 0 where
 abbrev pub staging : List ℕ → List ℕ
 staging payload = body payload ++ 0 ∷ []
 
--- the frame stands behind the gate at that place, and a closed gate behind it
+-- the frame stands behind the gate at that place, a closed gate behind it, and behind that what stood there
 abbrev pub Staged : ℕ → List ℕ → List ℕ → List ℕ → Type 0
-Staged end payload old new = (rest : List ℕ) × (new ≡ take (end + 1) old ++ (staging payload ++ rest))
+Staged end payload old new = new ≡ take (end + 1) old ++ (staging payload ++ drop (end + 10 + length payload) old)
 
--- the bytes before that place as they were, an open gate, the frame and a closed gate
+-- the bytes before that place as they were, an open gate, the frame, a closed gate, and behind that the bytes that stood there
 abbrev pub Added : ℕ → List ℕ → List ℕ → List ℕ → Type 0
-Added end payload old new = (rest : List ℕ) × (new ≡ take end old ++ 1 ∷ (staging payload ++ rest))
+Added end payload old new = new ≡ take end old ++ 1 ∷ (staging payload ++ drop (end + 10 + length payload) old)

@@ -11,7 +11,7 @@ ghost use Rattle.rg_log.specs.Log.{schema_payload, HasEvents};
 ghost use Rattle.rg_config.specs.Plans.{planned};
 ghost use Rattle.rg_config.specs.Read.{IsReadPlan};
 ghost use Rattle.rg_reservoir.specs.Attached.{IsOther, IsBadFrame, SchemaAdded};
-ghost use Rattle.rg_reservoir.specs.Kept.{base, opened, room_of, log_of, all_events};
+ghost use Rattle.rg_reservoir.specs.Kept.{base, opened, room_of, cache_of, log_of, all_events};
 ghost use Rattle.rg_restore.specs.Naming.{IsListed};
 ghost use Rattle.rg_store.specs.Opened.{IsOpenedFor};
 ghost use Rattle.rg_open.specs.Blame.{opened_list};
@@ -85,7 +85,7 @@ pub(crate) fn find<H: Host>(alloc: Global, host: &mut H, plan: &Plan) -> Result<
     ensures neither { (IsErrOf result OpenFault.Table → ⊥) × ((n : ℕ) → IsErrOf result (OpenFault.BadState n) → ⊥) }
 
     ensures going { IfOk result (λ found. ((base found.reservoir).ended ≡ false) × ((base found.reservoir).file ≡ 2) × ((base found.reservoir).shape ≡ plan.now.schema) × ((base found.reservoir).limit ≡ plan.now.room.limit)) }
-    ensures empty { IfOk result (λ found. (opened found.reservoir ≡ []) × (room_of found.reservoir ≡ plan.now.room.chunk)) }
+    ensures empty { IfOk result (λ found. (opened found.reservoir ≡ []) × (room_of found.reservoir ≡ plan.now.room.chunk) × ((cache_of found.reservoir).cap ≡ plan.now.room.cache)) }
     ensures reaches { IfOk result (λ found. ReachesEnd (log_of found.reservoir) (H.now host.new)) }
     ensures writes { Writes H.now H.may H.clock H.since H.said 2 (SchemaAdded (schema_payload plan.now.schema)) host.old host.new }
     ensures disk_faults { H.disk_faults host.old ≤ H.disk_faults host.new }

@@ -5,7 +5,7 @@ ghost use Rattle.rg_host.specs.Moments.{LeavesAll};
 ghost use Rattle.rg_config.specs.Plans.{planned};
 ghost use Rattle.rg_config.specs.Read.{IsReadPlan};
 ghost use Rattle.rg_reservoir.specs.Chain.{IsIllegal};
-ghost use Rattle.rg_reservoir.specs.Kept.{base, opened, room_of, time_of, all_events, IsSound, Spells};
+ghost use Rattle.rg_reservoir.specs.Kept.{base, opened, room_of, cache_of, time_of, all_events, IsSound, Spells};
 ghost use Rattle.rg_state.specs.Keeping.{TableKept};
 ghost use Rattle.rg_window.specs.Placed.{numbers_of};
 ghost use Rattle.rg_engine.specs.Passed.{passed_count};
@@ -92,6 +92,7 @@ fn start_over<H: Host, T: Table, L: Ledger>(
     ensures back { IfErr result (λ refused. TableKept T.tells T.faults table refused.1) }
     ensures base { base past.new.reservoir.now ≡ base past.old.reservoir.now }
     ensures room { room_of past.new.reservoir.now ≡ room_of past.old.reservoir.now }
+    ensures cap { (cache_of past.new.reservoir.now).cap ≡ (cache_of past.old.reservoir.now).cap }
     ensures opened { opened past.new.reservoir.now ≡ [] }
     ensures sound { IsSound (H.now past.old.host.now) (H.may past.old.host.now) past.old.reservoir.now → IsSound (H.now past.new.host.now) (H.may past.new.host.now) past.new.reservoir.now }
     ensures leaves { LeavesAll H.now H.may H.clock H.since H.said past.old.host.now past.new.host.now }
@@ -166,6 +167,7 @@ pub(crate) fn start<H: Host, T: Table, L: Ledger>(
     ensures back { IfErr result (λ refused. TableKept T.tells T.faults table refused.1) }
     ensures base { base reservoir.new ≡ base reservoir.old }
     ensures room { room_of reservoir.new ≡ room_of reservoir.old }
+    ensures cap { (cache_of reservoir.new).cap ≡ (cache_of reservoir.old).cap }
     ensures opened { opened reservoir.new ≡ [] }
     ensures sound { IsSound (H.now host.old) (H.may host.old) reservoir.old → IsSound (H.now host.new) (H.may host.new) reservoir.new }
     ensures leaves { LeavesAll H.now H.may H.clock H.since H.said host.old host.new }

@@ -4,7 +4,7 @@ ghost use Rattle.rg_host.specs.Image.{Image, NothingPending};
 ghost use Rattle.rg_past.specs.declared.past.Spot.{Spot};
 ghost use Rattle.rg_frame.specs.LogState.{ReachesEnd};
 ghost use Rattle.rg_config.specs.Plans.{Planned};
-ghost use Rattle.rg_reservoir.specs.Kept.{base, opened, room_of, log_of, next_of, time_of, stored, all_events, IsSound, Spells};
+ghost use Rattle.rg_reservoir.specs.Kept.{base, opened, room_of, cache_of, log_of, next_of, time_of, stored, all_events, IsSound, Spells};
 ghost use Rattle.rg_state.specs.Rows.{Cells};
 ghost use Rattle.rg_course.specs.Steps.{IsStepped};
 ghost use Rattle.rg_store.specs.Stores.{store_of};
@@ -44,6 +44,7 @@ pub(crate) fn commit_open<H: Host>(reservoir: &mut Reservoir, host: &mut H) -> R
     ensures fits { length (opened reservoir.new) ≤ length (opened reservoir.old) }
     ensures grows { (base reservoir.old).committed ≤ (base reservoir.new).committed }
     ensures stays { ((base reservoir.new).shape ≡ (base reservoir.old).shape) × ((base reservoir.new).file ≡ (base reservoir.old).file) × ((base reservoir.new).limit ≡ (base reservoir.old).limit) × (room_of reservoir.new ≡ room_of reservoir.old) }
+    ensures cap { (cache_of reservoir.new).cap ≡ (cache_of reservoir.old).cap }
     ensures last { (next_of reservoir.new ≡ next_of reservoir.old) × (time_of reservoir.new ≡ time_of reservoir.old) }
     ensures reaches { ReachesEnd (log_of reservoir.new) (H.now host.new) }
     ensures going { OnOk result ((base reservoir.new).ended ≡ false) }
@@ -87,6 +88,7 @@ impl<T: Table> Session<T> {
         ensures stays { (self.new.engine ≡ self.old.engine) × (self.new.texts ≡ self.old.texts) × (self.new.keep ≡ self.old.keep) × (self.new.saved ≡ self.old.saved) }
         ensures last { next_of self.new.reservoir ≡ next_of self.old.reservoir }
         ensures log { ((base self.new.reservoir).shape ≡ (base self.old.reservoir).shape) × ((base self.new.reservoir).file ≡ (base self.old.reservoir).file) }
+        ensures rooms { (room_of self.new.reservoir ≡ room_of self.old.reservoir) × ((cache_of self.new.reservoir).cap ≡ (cache_of self.old.reservoir).cap) × ((base self.new.reservoir).limit ≡ (base self.old.reservoir).limit) }
         ensures memory { IsErrOf result TaskFault.Memory → (self.new ≡ self.old) × (host.new ≡ host.old) }
         ensures disk { IsErrOf result TaskFault.Disk → Rose (H.disk_faults host.old) (H.disk_faults host.new) }
         ensures faults { IfErr result (λ fault. (fault ≡ TaskFault.Disk) ⊎ (fault ≡ TaskFault.Memory) ⊎ (fault ≡ TaskFault.Ended)) }

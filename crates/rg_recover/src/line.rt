@@ -12,7 +12,7 @@ ghost use Rattle.rg_metric.specs.declared.answer.Answer.{Answer as TheAnswer};
 ghost use Rattle.rg_config.specs.Plans.{Planned};
 ghost use Rattle.rg_row.specs.Rows.{row_of};
 ghost use Rattle.rg_reservoir.specs.Chain.{IsIllegal};
-ghost use Rattle.rg_reservoir.specs.Kept.{base, opened, room_of, log_of, next_of, time_of, stored, all_events};
+ghost use Rattle.rg_reservoir.specs.Kept.{base, opened, room_of, cache_of, log_of, next_of, time_of, stored, all_events};
 ghost use Rattle.rg_state.specs.Keeping.{TableKept};
 ghost use Rattle.rg_verdict.specs.Verdicts.{accepted_after, fault_reply, or_reply, reply_of, verdict_of};
 ghost use Rattle.rg_window.specs.Placed.{AreWithin};
@@ -115,6 +115,7 @@ fn take_in<H: Host, T: Table, L: Ledger>(
     ensures file { (base reservoir.new).file ≡ (base reservoir.old).file }
     ensures limit { (base reservoir.new).limit ≡ (base reservoir.old).limit }
     ensures room { room_of reservoir.new ≡ room_of reservoir.old }
+    ensures cap { (cache_of reservoir.new).cap ≡ (cache_of reservoir.old).cap }
     ensures full { length (opened reservoir.new) ≤ room_of reservoir.new }
     ensures grows { (base reservoir.old).committed ≤ (base reservoir.new).committed }
     ensures reaches { OnOk result (ReachesEnd (log_of reservoir.new) (H.now host.new)) }
@@ -221,6 +222,7 @@ impl<T: Table> Session<T> {
         ensures ends { OnErr result (self.new.ended ≡ true) }
         ensures stays { (self.new.texts ≡ self.old.texts) × (self.new.keep ≡ self.old.keep) × (self.new.saved ≡ self.old.saved) }
         ensures log { ((base self.new.reservoir).shape ≡ (base self.old.reservoir).shape) × ((base self.new.reservoir).file ≡ (base self.old.reservoir).file) }
+        ensures rooms { (room_of self.new.reservoir ≡ room_of self.old.reservoir) × ((cache_of self.new.reservoir).cap ≡ (cache_of self.old.reservoir).cap) × ((base self.new.reservoir).limit ≡ (base self.old.reservoir).limit) }
         ensures rows { TableKept T.tells T.faults self.old.engine.table self.new.engine.table }
         ensures reaches { self.new.ended ≡ false → ReachesEnd (log_of self.new.reservoir) (H.now host.new) }
         ensures said { H.said host.new ≡ H.said host.old }

@@ -10,7 +10,7 @@ ghost use Rattle.rg_config.specs.Plans.{planned};
 ghost use Rattle.rg_config.specs.Read.{IsReadPlan};
 ghost use Rattle.rg_reservoir.specs.Attached.{IsOther, IsBadFrame};
 ghost use Rattle.rg_reservoir.specs.Chain.{IsIllegal};
-ghost use Rattle.rg_reservoir.specs.Kept.{base, opened, log_of, next_of};
+ghost use Rattle.rg_reservoir.specs.Kept.{base, opened, room_of, cache_of, log_of, next_of};
 ghost use Rattle.rg_state.specs.Keeping.{TableKept};
 ghost use Rattle.rg_engine.specs.Passed.{passed_count};
 ghost use Rattle.rg_restore.specs.Opening.{IsEmpty};
@@ -30,10 +30,10 @@ use std::alloc::Global;
 use std::sync::ledger::Ledger;
 
 impl<T: Table> Session<T> {
-    /// A session of a plan over the store in a host's files, with a table without a row, and how far that
-    /// store had come. What an earlier run left is settled first; only the schema's frame of a log
-    /// without a frame is written. The engine goes on from the fit checkpoint of the greatest count,
-    /// slot 0 where both have it, and from the start where none is fit; no more is passed than the
+    /// A session of a plan over the store in a host's files, with the plan's rooms and a table without a
+    /// row, and how far that store had come. What an earlier run left is settled first; only the schema's
+    /// frame of a log without a frame is written. The engine goes on from the fit checkpoint of the greatest
+    /// count, slot 0 where both have it, and from the start where none is fit; no more is passed than the
     /// events behind that. A refusal hands the table back as it then is.
     #[tactic(auto, using(crate::proofs::Resuming::within_count, crate::proofs::Resuming::fits_none, crate::proofs::Resuming::count_of_none))]
     pub fn resume<H: Host, L: Ledger>(
@@ -88,6 +88,7 @@ impl<T: Table> Session<T> {
 
         ensures empty { IfOk result (λ r. opened r.0.reservoir ≡ []) }
         ensures going { IfOk result (λ r. r.0.ended ≡ false) }
+        ensures rooms { IfOk result (λ r. (room_of r.0.reservoir ≡ plan.now.room.chunk) × ((cache_of r.0.reservoir).cap ≡ plan.now.room.cache) × ((base r.0.reservoir).limit ≡ plan.now.room.limit)) }
         ensures log { IfOk result (λ r. ((base r.0.reservoir).shape ≡ plan.now.schema) × ((base r.0.reservoir).file ≡ 2)) }
         ensures numbers { IfOk result (λ r. (r.1.next ≡ next_of r.0.reservoir) × (r.1.count ≡ count_in r.0.reservoir) × (r.1.from ≡ r.0.saved)) }
         ensures reaches { IfOk result (λ r. ReachesEnd (log_of r.0.reservoir) (H.now host.new)) }

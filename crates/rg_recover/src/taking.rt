@@ -6,7 +6,7 @@ ghost use Rattle.rg_event.specs.Codec.{IsEventOf};
 ghost use Rattle.rg_metric.specs.Replies.{answers_to};
 ghost use Rattle.rg_config.specs.Plans.{Planned};
 ghost use Rattle.rg_reservoir.specs.Chain.{IsIllegal};
-ghost use Rattle.rg_reservoir.specs.Kept.{base, opened, room_of, log_of, next_of, time_of, all_events};
+ghost use Rattle.rg_reservoir.specs.Kept.{base, opened, room_of, cache_of, log_of, next_of, time_of, all_events};
 ghost use Rattle.rg_state.specs.Keeping.{TableKept};
 ghost use Rattle.rg_window.specs.Placed.{AreWithin};
 ghost use Rattle.rg_open.specs.Blame.{NodeRuns, IsPlaced};
@@ -63,6 +63,7 @@ fn take_over<H: Host, T: Table, L: Ledger>(
     ensures within { AreWithin engine.new.spots (count_in past.new.reservoir.now) }
     ensures base { base past.new.reservoir.now ≡ base past.old.reservoir.now }
     ensures room { room_of past.new.reservoir.now ≡ room_of past.old.reservoir.now }
+    ensures cap { (cache_of past.new.reservoir.now).cap ≡ (cache_of past.old.reservoir.now).cap }
     ensures fits { length (opened past.new.reservoir.now) ≤ room_of past.new.reservoir.now }
     ensures leaves { LeavesAll H.now H.may H.clock H.since H.said past.old.host.now past.new.host.now }
     ensures disk_faults { H.disk_faults past.old.host.now ≤ H.disk_faults past.new.host.now }
@@ -124,6 +125,7 @@ pub(crate) fn take<H: Host, T: Table, L: Ledger>(
     ensures within { AreWithin engine.new.spots (count_in reservoir.new) }
     ensures base { base reservoir.new ≡ base reservoir.old }
     ensures room { room_of reservoir.new ≡ room_of reservoir.old }
+    ensures cap { (cache_of reservoir.new).cap ≡ (cache_of reservoir.old).cap }
     ensures fits { length (opened reservoir.new) ≤ room_of reservoir.new }
     ensures leaves { LeavesAll H.now H.may H.clock H.since H.said host.old host.new }
     ensures disk_faults { H.disk_faults host.old ≤ H.disk_faults host.new }

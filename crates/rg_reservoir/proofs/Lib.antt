@@ -13,6 +13,7 @@ pub mod Legal
 pub mod Listing
 pub mod Naming
 pub mod Peeking
+pub mod Resting
 pub mod Seeking
 pub mod Touching
 pub mod Walking

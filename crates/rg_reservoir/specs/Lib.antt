@@ -5,6 +5,7 @@ pub mod Faults
 pub mod Going
 pub mod GoingLaws
 pub mod Heads
+pub mod HeldLooks
 pub mod Kept
 pub mod Naming
 pub mod Walked

@@ -1,4 +1,12 @@
-ghost use Rattle.std.specs.Prelude.{◌≡◌};
+ghost use Rattle.std.specs.Prelude.{◌≡◌, ◌↔◌, ◌≤◌, ℕ, IsErrOf, OnOk, OnErr, length, []};
+ghost use mir.Syntax.{named};
+ghost use Rattle.std.specs.Borrow.{sem};
+ghost use Rattle.std.specs.Io.BufRead.{Rests};
+ghost use Rattle.rg_bytes.specs.Counts.{Rose};
+ghost use Rattle.rg_past.specs.Peek.{IsLookWithin, Shows};
+ghost use Rattle.rg_reservoir.specs.Kept.{Looked};
+ghost use Rattle.rg_reservoir.specs.HeldLooks.{LooksHeld};
+ghost use Rattle.rg_reservoir.specs.contracts.stored.Stored.{the_row};
 
 use crate::reservoir::Reservoir;
 use rg_event::Event;
@@ -63,7 +71,30 @@ impl<'a, H: Host> Past for Stored<'a, H> {
         }
     }
 
-    fn peek(&mut self, spot: &mut Spot) -> Result<Option<&Event>, PastFault> {
+    fn peek(&mut self, spot: &mut Spot) -> Result<Option<&Event>, PastFault>
+        requires { spot.old.number ≤ length (⟦<Stored<'a, H> as Past>⟧.events self.old) }
+
+        // What a past promises of a look, and at the end which chunks are touched, loaded and read, and which looks need none of that.
+        ensures* after { sem 𝓛 (Rests (the_row (record { mir = named 0; lft = [] }) H.row) self.entry (λ new.
+            (⟦<Stored<'a, H> as Past>⟧.events new ≡ ⟦<Stored<'a, H> as Past>⟧.events self.old)
+            × ⟦<Stored<'a, H> as Past>⟧.goes self.old new
+            × (⟦<Stored<'a, H> as Past>⟧.ended new ↔ ⟦<Stored<'a, H> as Past>⟧.ended self.old)
+            × (⟦<Stored<'a, H> as Past>⟧.sound self.old → ⟦<Stored<'a, H> as Past>⟧.sound new)
+            × (⟦<Stored<'a, H> as Past>⟧.has_room self.old → ⟦<Stored<'a, H> as Past>⟧.has_room new)
+            × (⟦<Stored<'a, H> as Past>⟧.faults self.old ≤ ⟦<Stored<'a, H> as Past>⟧.faults new)
+            × (IsErrOf result PastFault.Disk → Rose (⟦<Stored<'a, H> as Past>⟧.faults self.old) (⟦<Stored<'a, H> as Past>⟧.faults new))
+            × ((place : ℕ) → IsErrOf result (PastFault.Damaged place) → ⟦<Stored<'a, H> as Past>⟧.illegal new place)
+            × (⟦<Stored<'a, H> as Past>⟧.sound self.old → ⟦<Stored<'a, H> as Past>⟧.spells self.old spot.old → ⟦<Stored<'a, H> as Past>⟧.spells new spot.new × OnOk result (⟦<Stored<'a, H> as Past>⟧.spells_later new spot.new))
+            × Looked (H.now self.old.host.now) self.old.reservoir.now spot.old (H.reads self.old.host.now) (H.reads new.host.now)
+            (⟦<Stored<'a, H> as Past>⟧.sound self.old × ⟦<Stored<'a, H> as Past>⟧.spells self.old spot.old × OnErr result ⊥) new.reservoir.now
+            × LooksHeld H.reads (OnErr result ⊥) spot.old self.old.reservoir.now self.old.host.now new.reservoir.now new.host.now)) }
+        ensures number { spot.new.number ≡ spot.old.number }
+        ensures within { IsLookWithin (⟦<Stored<'a, H> as Past>⟧.events self.old) spot.new result }
+        ensures event { ⟦<Stored<'a, H> as Past>⟧.sound self.old → ⟦<Stored<'a, H> as Past>⟧.spells self.old spot.old → Shows (⟦<Stored<'a, H> as Past>⟧.events self.old) spot.old.number result }
+        ensures never_damaged { (place : ℕ) → ⟦<Stored<'a, H> as Past>⟧.sound self.old → ⟦<Stored<'a, H> as Past>⟧.spells self.old spot.old → IsErrOf result (PastFault.Damaged place) → ⊥ }
+        ensures ended { IsErrOf result PastFault.Ended ↔ ⟦<Stored<'a, H> as Past>⟧.ended self.old }
+        ensures no_full { IsErrOf result PastFault.Full → ⊥ }
+    {
         match self.reservoir.seek(self.host, spot) {
             Ok(()) => {}
             Err(fault) => return Err(PastFault::from(fault)),

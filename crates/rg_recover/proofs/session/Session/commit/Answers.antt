@@ -49,6 +49,7 @@ returns-in-Err g c = record {
   stays = search rules;
   last = search rules;
   log = search rules;
+  rooms = search rules;
   memory = search rules;
   disk = search rules;
   faults = search rules;

@@ -34,6 +34,12 @@ returns-in-Err g c =
           λ e. c.in-Err.ensures.disk (ap (λ (f : ReservoirFault). Err f) (past_disk c.in-Err.fault c.from.result c.from.ensures (err_is c.from.result past.Disk e))),
           λ p e. illegal_stays (g.H.Host.now c.args.self.now.host.now) (g.H.Host.now c.seek.new.host) c.args.self.now.reservoir.now c.seek.new.self p same stays (c.in-Err.ensures.damaged p (ap (λ (f : ReservoirFault). Err f) (past_damaged c.in-Err.fault c.from.result p c.from.ensures (look_fault c.in-Err.fault c.in-Err.ensures.faults).0 (err_is c.from.result (past.Damaged p) e)))),
           λ sound spells. (spells_stay (g.H.Host.now c.args.self.now.host.now) (g.H.Host.now c.seek.new.host) c.args.self.now.reservoir.now c.seek.new.self c.seek.new.spot same stays (c.seek.ensures.spelled sound spells), tt),
+          record { stays = stays; cached = c.seek.ensures.cached; inside = c.seek.ensures.inside; touched = c.seek.ensures.touched; loaded = λ answered. absurd answered.2 },
+          record {
+            untouched = λ going far. let k = c.in-Err.ensures.untouched going far in absurd k.0;
+            hit = λ going near held stands. let k = c.in-Err.ensures.hit going near held stands in absurd k.0;
+            hit_next = λ next going near held turns holds. let k = c.in-Err.ensures.hit_next next going near held turns holds in absurd k.0;
+          },
         ),
       ),
       record {
@@ -68,6 +74,12 @@ returns g c =
           λ e. absurd (ok_not_err c.at.result past.Disk e),
           λ p e. absurd (ok_not_err c.at.result (past.Damaged p) e),
           λ sound spells. (spells_stay (g.H.Host.now c.args.self.now.host.now) (g.H.Host.now c.seek.new.host) c.args.self.now.reservoir.now c.seek.new.self c.seek.new.spot same stays (c.seek.ensures.spelled sound spells), later_stays (g.H.Host.now c.args.self.now.host.now) (g.H.Host.now c.seek.new.host) c.args.self.now.reservoir.now c.seek.new.self c.seek.new.spot same stays (c.in-Ok.ensures.finds sound spells).later),
+          record { stays = stays; cached = c.seek.ensures.cached; inside = c.seek.ensures.inside; touched = c.seek.ensures.touched; loaded = λ answered. c.in-Ok.ensures.loaded answered.0 answered.1 },
+          record {
+            untouched = λ going far. let k = c.seek.ensures.untouched going far in (tt, k.1, k.2);
+            hit = λ going near held stands. (tt, (c.seek.ensures.hit going near held stands).1, (c.seek.ensures.hit going near held stands).2);
+            hit_next = λ next going near held turns holds. let k = c.seek.ensures.hit_next next going near held turns holds in (tt, k.1, k.2);
+          },
         ),
       ),
       record {

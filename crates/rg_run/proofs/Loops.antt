@@ -5,7 +5,7 @@ use Rattle.rg_host.specs.Reading.{Reading}
 use Rattle.rg_config.specs.Plans.{Planned}
 use Rattle.rg_state.specs.contracts.mem_table.MemTableTable.TheImpl.{ghosts as rows}
 use Rattle.rg_state.specs.declared.mem_table.MemTable.{MemTable}
-use Rattle.rg_open.specs.Blame.{NodeRuns}
+use Rattle.rg_open.specs.Blame.{NodeRuns, IsPlaced}
 use Rattle.rg_turn.specs.declared.turning.Turning.{Turning}
 use Rattle.rg_run.specs.Begun.{Begun}
 use Rattle.rg_run.specs.UnderWay.{IsUnderWay}
@@ -15,3 +15,6 @@ Way now may said plan b left reading turning host = IsUnderWay plan b left readi
 
 abbrev pub Runs : {H : Type 0} → (H → Option Image) → (H → Image → Type 0) → Planned → ℕ → Turning MemTable → H → Type 0
 Runs now may plan n turning host = NodeRuns plan n (now host) (may host) (rows.tells turning.session.engine.table) (rows.cell turning.session.engine.table) turning.session.reservoir turning.session.engine
+
+abbrev pub Placed : {H : Type 0} → (H → Option Image) → (H → Image → Type 0) → Planned → Turning MemTable → H → Type 0
+Placed now may plan turning host = IsPlaced plan (now host) (may host) turning.session.reservoir turning.session.engine

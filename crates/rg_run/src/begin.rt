@@ -69,6 +69,9 @@ pub(crate) fn begin<H: Host, L: Ledger>(
         IfOk result (λ turning. (NodeRuns (planned plan.now) n (H.now host.new) (H.may host.new) (⟦<MemTable as Table>⟧.tells turning.session.engine.table) (⟦<MemTable as Table>⟧.cell turning.session.engine.table) turning.session.reservoir turning.session.engine → ⊥) →
         IsBlamed (planned plan.now) v events n) }
 
+    // A legal log is never refused as damaged, whatever the slots hold.
+    ensures undamaged { (v : Image) (events : List Event) (p : ℕ) → H.now host.old ≡ Some v → HasEvents plan.now.schema events (v 2) → IsErrOf result (RunFault.Damaged p) → ⊥ }
+
     ensures gap { (n : ℕ) → IsErrOf result (RunFault.Gap n) → n < first }
     ensures gap_next { (v : Image) (events : List Event) (n : ℕ) → H.now host.old ≡ Some v → HasEvents plan.now.schema events (v 2) → IsErrOf result (RunFault.Gap n) → n ≡ next_offset events }
     ensures no_gap { (v : Image) (events : List Event) → H.now host.old ≡ Some v → HasEvents plan.now.schema events (v 2) → OnOk result (first ≤ next_offset events) }

@@ -9,7 +9,7 @@ ghost use Rattle.rg_reservoir.specs.Chain.{IsIllegal};
 ghost use Rattle.rg_reservoir.specs.Kept.{base, log_of};
 ghost use Rattle.rg_course.specs.Stores.{StaysOnCourse};
 ghost use Rattle.rg_store.specs.Stores.{store_of};
-ghost use Rattle.rg_open.specs.Blame.{NodeRuns};
+ghost use Rattle.rg_open.specs.Blame.{NodeRuns, IsPlaced};
 ghost use Rattle.rg_turn.specs.Turning.{HasStopped};
 ghost use Rattle.rg_run.specs.Begun.{Begun, course_for};
 ghost use Rattle.rg_run.specs.Reading.{HasTaken};
@@ -49,6 +49,7 @@ pub(crate) fn answer_lines<I: Source, H: Host, L: Ledger>(
     ensures never_bad { (b : Begun) (n : ℕ) → IsUnderWay (planned plan.now) b (I.left input.old) lines.old turning.old.offset (H.now host.old) (H.may host.old) (H.said host.old) (⟦<MemTable as Table>⟧.tells turning.old.session.engine.table) (⟦<MemTable as Table>⟧.cell turning.old.session.engine.table) turning.old.session → IsErrOf result (RunFault.BadState n) → ⊥ }
     ensures never_damaged { (b : Begun) (p : ℕ) → IsUnderWay (planned plan.now) b (I.left input.old) lines.old turning.old.offset (H.now host.old) (H.may host.old) (H.said host.old) (⟦<MemTable as Table>⟧.tells turning.old.session.engine.table) (⟦<MemTable as Table>⟧.cell turning.old.session.engine.table) turning.old.session → IsErrOf result (RunFault.Damaged p) → ⊥ }
     ensures never_bad_node { (n : ℕ) → NodeRuns (planned plan.now) n (H.now host.old) (H.may host.old) (⟦<MemTable as Table>⟧.tells turning.old.session.engine.table) (⟦<MemTable as Table>⟧.cell turning.old.session.engine.table) turning.old.session.reservoir turning.old.session.engine → IsErrOf result (RunFault.BadState n) → ⊥ }
+    ensures undamaged { (p : ℕ) → IsPlaced (planned plan.now) (H.now host.old) (H.may host.old) turning.old.session.reservoir turning.old.session.engine → IsErrOf result (RunFault.Damaged p) → ⊥ }
 
     ensures taken { (start : Option (List ℕ)) → HasTaken start (I.left input.old) lines.old → HasTaken start (I.left input.new) lines.new }
     ensures ended { OnOk result ((lines.new.ended ≡ true) × (lines.new.taken ≤ 2 ^ 50)) }

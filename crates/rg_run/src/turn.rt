@@ -10,7 +10,7 @@ ghost use Rattle.rg_reservoir.specs.Chain.{IsIllegal};
 ghost use Rattle.rg_reservoir.specs.Kept.{base, log_of};
 ghost use Rattle.rg_course.specs.Stores.{StaysOnCourse};
 ghost use Rattle.rg_store.specs.Stores.{store_of};
-ghost use Rattle.rg_open.specs.Blame.{NodeRuns};
+ghost use Rattle.rg_open.specs.Blame.{NodeRuns, IsPlaced};
 ghost use Rattle.rg_turn.specs.Turning.{HasStopped};
 ghost use Rattle.rg_run.specs.Begun.{Begun, course_for};
 ghost use Rattle.rg_run.specs.Reading.{HasTaken};
@@ -51,6 +51,8 @@ fn answer_text<H: Host, L: Ledger>(
     ensures node { (n : ℕ) → NodeRuns (planned plan.now) n (H.now host.old) (H.may host.old) (⟦<MemTable as Table>⟧.tells turning.old.session.engine.table) (⟦<MemTable as Table>⟧.cell turning.old.session.engine.table) turning.old.session.reservoir turning.old.session.engine →
         OnOk result (NodeRuns (planned plan.now) n (H.now host.new) (H.may host.new) (⟦<MemTable as Table>⟧.tells turning.new.session.engine.table) (⟦<MemTable as Table>⟧.cell turning.new.session.engine.table) turning.new.session.reservoir turning.new.session.engine) }
     ensures never_bad_node { (n : ℕ) → NodeRuns (planned plan.now) n (H.now host.old) (H.may host.old) (⟦<MemTable as Table>⟧.tells turning.old.session.engine.table) (⟦<MemTable as Table>⟧.cell turning.old.session.engine.table) turning.old.session.reservoir turning.old.session.engine → IsErrOf result (TurnFault.Task (TaskFault.BadState n)) → ⊥ }
+    ensures placed { IsPlaced (planned plan.now) (H.now host.old) (H.may host.old) turning.old.session.reservoir turning.old.session.engine → OnOk result (IsPlaced (planned plan.now) (H.now host.new) (H.may host.new) turning.new.session.reservoir turning.new.session.engine) }
+    ensures undamaged { (p : ℕ) → IsPlaced (planned plan.now) (H.now host.old) (H.may host.old) turning.old.session.reservoir turning.old.session.engine → IsErrOf result (TurnFault.Task (TaskFault.Damaged p)) → ⊥ }
     ensures offset { OnOk result (turning.new.offset ≡ turning.old.offset + 1) }
     ensures going { OnOk result (turning.new.session.ended ≡ false) }
     ensures reaches { OnOk result (ReachesEnd (log_of turning.new.session.reservoir) (H.now host.new)) }
@@ -82,6 +84,7 @@ fn refuse_long<H: Host>(
     ensures answers { Answers H.now H.may H.clock H.since H.said (planned plan.now) None turning.old.offset turning.new.offset (⟦<MemTable as Table>⟧.tells turning.old.session.engine.table) (⟦<MemTable as Table>⟧.tells turning.new.session.engine.table) (⟦<MemTable as Table>⟧.cell turning.old.session.engine.table) (⟦<MemTable as Table>⟧.cell turning.new.session.engine.table) host.old host.new turning.old.session turning.new.session result }
     ensures node { (n : ℕ) → NodeRuns (planned plan.now) n (H.now host.old) (H.may host.old) (⟦<MemTable as Table>⟧.tells turning.old.session.engine.table) (⟦<MemTable as Table>⟧.cell turning.old.session.engine.table) turning.old.session.reservoir turning.old.session.engine →
         OnOk result (NodeRuns (planned plan.now) n (H.now host.new) (H.may host.new) (⟦<MemTable as Table>⟧.tells turning.new.session.engine.table) (⟦<MemTable as Table>⟧.cell turning.new.session.engine.table) turning.new.session.reservoir turning.new.session.engine) }
+    ensures placed { IsPlaced (planned plan.now) (H.now host.old) (H.may host.old) turning.old.session.reservoir turning.old.session.engine → OnOk result (IsPlaced (planned plan.now) (H.now host.new) (H.may host.new) turning.new.session.reservoir turning.new.session.engine) }
     ensures offset { OnOk result (turning.new.offset ≡ turning.old.offset + 1) }
     ensures going { OnOk result (turning.new.session.ended ≡ false) }
     ensures reaches { OnOk result (ReachesEnd (log_of turning.new.session.reservoir) (H.now host.new)) }
@@ -130,6 +133,10 @@ pub(crate) fn turn<I: Source, H: Host, L: Ledger>(
     ensures node { (n : ℕ) → NodeRuns (planned plan.now) n (H.now host.old) (H.may host.old) (⟦<MemTable as Table>⟧.tells turning.old.session.engine.table) (⟦<MemTable as Table>⟧.cell turning.old.session.engine.table) turning.old.session.reservoir turning.old.session.engine →
         IfOk result (λ more. IsTrue more → NodeRuns (planned plan.now) n (H.now host.new) (H.may host.new) (⟦<MemTable as Table>⟧.tells turning.new.session.engine.table) (⟦<MemTable as Table>⟧.cell turning.new.session.engine.table) turning.new.session.reservoir turning.new.session.engine) }
     ensures never_bad_node { (n : ℕ) → NodeRuns (planned plan.now) n (H.now host.old) (H.may host.old) (⟦<MemTable as Table>⟧.tells turning.old.session.engine.table) (⟦<MemTable as Table>⟧.cell turning.old.session.engine.table) turning.old.session.reservoir turning.old.session.engine → IsErrOf result (RunFault.BadState n) → ⊥ }
+
+    // Where each edge stands at a spelled spot it does so still, and nothing is refused as damaged.
+    ensures placed { IsPlaced (planned plan.now) (H.now host.old) (H.may host.old) turning.old.session.reservoir turning.old.session.engine → IfOk result (λ more. IsTrue more → IsPlaced (planned plan.now) (H.now host.new) (H.may host.new) turning.new.session.reservoir turning.new.session.engine) }
+    ensures undamaged { (p : ℕ) → IsPlaced (planned plan.now) (H.now host.old) (H.may host.old) turning.old.session.reservoir turning.old.session.engine → IsErrOf result (RunFault.Damaged p) → ⊥ }
 
     // What was taken of the input.
     ensures taken { (start : Option (List ℕ)) → HasTaken start (I.left input.old) lines.old → HasTaken start (I.left input.new) lines.new }

@@ -152,3 +152,9 @@ pub returns-in-Ok-put_mark-clause-node : goal.returns-in-Ok-put_mark-clause-node
 returns-in-Ok-put_mark-clause-node g c = λ v events n told has.
     let s = c.in-Ok.opened.0 in
     rw (c.new-in-Ok-put_mark.ensures.session) (λ not. c.in-Ok.ensures.node v events n told has tt (λ runs. not (node_still g.H.Host.now g.H.Host.may g.H.Host.clock g.H.Host.since (planned c.args.plan.now) n _ _ s.reservoir s.engine c.resume.new.host c.put_mark.new.host c.put_mark.ensures.leaves runs)))
+
+pub returns-in-Err-clause-undamaged : goal.returns-in-Err-clause-undamaged
+returns-in-Err-clause-undamaged g c = λ v events p told has is. let e : c.opening_fault.result ≡ run.Damaged p = cc in c.in-Err.ensures.undamaged v events p told has (open_damaged c.in-Err.fault p (sym c.opening_fault.ensures ∙ e))
+
+pub returns-in-Err-put_mark-clause-undamaged : goal.returns-in-Err-put_mark-clause-undamaged
+returns-in-Err-put_mark-clause-undamaged g c = λ v events p told has is. ((put_others c.in-Err-put_mark.fault c.in-Err-put_mark.ensures.faults).4 p).1 (let e : c.in-Err-put_mark.fault ≡ run.Damaged p = cc in e)

@@ -16,6 +16,7 @@ lines-init g c = record {
   reaches = c.requires.reaches;
   way = λ b w. w;
   node = λ n runs. runs;
+  placed = λ placed. placed;
   moments = λ b w. stays g.H.Host.now g.H.Host.may g.H.Host.clock g.H.Host.since g.H.Host.said (planned c.args.plan.now) b _ _ _ _ _ _ _ w g.met.H.Host.only_now g.met.H.Host.sinks;
   taken = λ start t. t;
   log = (refl, refl);
@@ -32,6 +33,7 @@ lines-preserved g c = record {
   reaches = c.in-Ok-true.ensures.reaches c.in-Ok-true.field-0-test;
   way = λ b w. c.in-Ok-true.ensures.under_way b (c.lines.invariant.way b w) c.in-Ok-true.field-0-test;
   node = λ n runs. c.in-Ok-true.ensures.node n (c.lines.invariant.node n runs) c.in-Ok-true.field-0-test;
+  placed = λ placed. c.in-Ok-true.ensures.placed (c.lines.invariant.placed placed) c.in-Ok-true.field-0-test;
   moments = λ b w. moments_then g.H.Host.clock g.H.Host.since c.args.host.now c.lines.host c.turn.new.host (StaysOnCourse (store_of (planned c.args.plan.now)) (course_for (planned c.args.plan.now) b) []) (StaysOnCourse (store_of (planned c.args.plan.now)) (course_for (planned c.args.plan.now) b) []) (StaysOnCourse (store_of (planned c.args.plan.now)) (course_for (planned c.args.plan.now) b) []) (c.lines.invariant.moments b w) (c.turn.ensures.moments b (c.lines.invariant.way b w)) (λ m h. h) (λ m h. h);
   taken = λ start t. c.turn.ensures.taken start (c.lines.invariant.taken start t);
   log = (c.turn.ensures.log.0 ∙ c.lines.invariant.log.0, c.turn.ensures.log.1 ∙ c.lines.invariant.log.1);
@@ -75,3 +77,6 @@ returns-in-Err-clause-log g c = (c.turn.ensures.log.0 ∙ c.lines.invariant.log.
 
 pub returns-in-Err-clause-never_bad_node : goal.returns-in-Err-clause-never_bad_node
 returns-in-Err-clause-never_bad_node g c = λ n runs is. let e : c.in-Err.fault ≡ run.BadState n = cc in c.in-Err.ensures.never_bad_node n (c.lines.invariant.node n runs) (ap (λ v. Err v) e)
+
+pub returns-in-Err-clause-undamaged : goal.returns-in-Err-clause-undamaged
+returns-in-Err-clause-undamaged g c = λ p placed is. let e : c.in-Err.fault ≡ run.Damaged p = cc in c.in-Err.ensures.undamaged p (c.lines.invariant.placed placed) (ap (λ v. Err v) e)

@@ -38,3 +38,6 @@ returns-clause-answers g c =
 
 pub returns-then-is_header-clause-node : goal.returns-then-is_header-clause-node
 returns-then-is_header-clause-node g c = λ n runs. on_ok_weaker c.refuse.result (λ _. c.refuse.ensures.node (planned c.args.plan.now) n runs) c.refuse.ensures.offset
+
+pub returns-then-is_header-clause-placed : goal.returns-then-is_header-clause-placed
+returns-then-is_header-clause-placed g c = λ placed. on_ok_weaker c.refuse.result (λ _. c.refuse.ensures.placed (planned c.args.plan.now) placed) c.refuse.ensures.offset

@@ -142,3 +142,14 @@ pub returns-in-Err-clause-never_bad_node : goal.returns-in-Err-clause-never_bad_
 returns-in-Err-clause-never_bad_node g c = λ n runs is.
     let e : c.turn_fault.result ≡ run.BadState n = cc in
     c.answer_text.ensures.never_bad_node n runs (c.in-Err.is ∙ ap (λ v. Err v) (turn_bad c.in-Err.fault n (sym c.turn_fault.ensures ∙ e)))
+
+pub returns-in-Ok-clause-placed : goal.returns-in-Ok-clause-placed
+returns-in-Ok-clause-placed g c = λ placed yes. c.in-Ok.ensures.placed placed
+
+pub returns-in-Ok-refuse_long-clause-placed : goal.returns-in-Ok-refuse_long-clause-placed
+returns-in-Ok-refuse_long-clause-placed g c = λ placed yes. c.in-Ok-refuse_long.ensures.placed placed
+
+pub returns-in-Err-clause-undamaged : goal.returns-in-Err-clause-undamaged
+returns-in-Err-clause-undamaged g c = λ p placed is.
+    let e : c.turn_fault.result ≡ run.Damaged p = cc in
+    c.answer_text.ensures.undamaged p placed (c.in-Err.is ∙ ap (λ v. Err v) (turn_damaged c.in-Err.fault p (sym c.turn_fault.ensures ∙ e)))

@@ -164,19 +164,14 @@ fn looks(rt: &impl Abort, alloc: Global, cache: u32) -> Result<(u64, u32), Fail>
 {
     let mut host = host_with(alloc, &[])?;
     let mut reservoir = three(alloc, &mut host, cache)?;
-    let first = reservoir.start();
-    let last = Spot {
-        place: 154,
-        index: 0,
-        number: 2,
-    };
+    let (first, last) = (spot(22, 0, 0), spot(154, 0, 2));
     for _ in 0..2u32 {
         assert_eq!(rt; offset_at(&mut reservoir, &mut host, &first)?, Some(0));
         assert_eq!(rt; offset_at(&mut reservoir, &mut host, &last)?, Some(2));
     }
-    let calls = host.calls();
+    let reads = host.count_reads();
     assert_eq!(rt; offset_at(&mut reservoir, &mut host, &last)?, Some(2));
-    assert_eq!(rt; host.calls(), calls);
+    assert_eq!(rt; host.count_reads(), reads);
     Ok((reservoir.loads(), reservoir.held()))
 }
 

@@ -8,6 +8,7 @@ mod cached;
 mod dumped;
 mod informed;
 mod made;
+mod stopped;
 mod stored;
 mod tried;
 

@@ -10,20 +10,19 @@ const FIVE_OFFSETS: &str =
 const ANSWERED: &str =
     "open 0 0 0\n0 ok 1 100 1 0\n1 ok 2 300 1 0\nstored 2\n2 ok 2 250 2 0\nstored 3\nsaved 3\ndone 3 3\n";
 
-/// How many calls a run over three payments, each in a chunk of its own, makes with such a cache.
-fn calls_with(rt: &(impl Abort + AllocGlobal), cache: &str) -> Result<u64, Fail> {
+/// How often a run over three payments, each in a chunk of its own, reads with such a cache.
+fn reads_with(rt: &(impl Abort + AllocGlobal), cache: &str) -> Result<u64, Fail> {
     let plan = plan_of(rt.alloc(), FIVE_OFFSETS, PAYMENTS, cache)?;
     let mut host = failing(rt.alloc(), &[])?;
     let three = sound(plan.as_bytes(), THREE);
     assert_run(rt, &three, &mut host, ANSWERED, Status::Ok)?;
-    Ok(host.calls())
+    Ok(host.count_reads())
 }
 
-// The two runs put and write the same, so what the first calls more often are reads.
 #[test]
 fn a_smaller_cache_answers_the_same_and_reads_more(rt: HostRuntime) -> Result<(), Fail> {
-    let one = calls_with(&rt, "chunk = 1\ncommit = 2\nsave = 4\ncache = 1\n")?;
-    let many = calls_with(&rt, "chunk = 1\ncommit = 2\nsave = 4\ncache = 64\n")?;
-    assert!(rt; one > many, "{one} calls and {many}");
+    let one = reads_with(&rt, "chunk = 1\ncommit = 2\nsave = 4\ncache = 1\n")?;
+    let many = reads_with(&rt, "chunk = 1\ncommit = 2\nsave = 4\ncache = 64\n")?;
+    assert!(rt; one > many, "{one} reads and {many}");
     Ok(())
 }

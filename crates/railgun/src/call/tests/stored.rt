@@ -1,6 +1,5 @@
 use super::dumped::LOG;
 use super::*;
-use rg_host::Pick;
 
 /// Three payments of one card, of which the third meets a window without the first.
 pub(super) const THREE: &[u8] = b"0,c1,m1,100\n299999,c1,m2,200\n300000,c1,m1,50\n";
@@ -52,17 +51,6 @@ fn behind_open(text: &str) -> &str {
         Some((_, rest)) => rest,
         None => "",
     }
-}
-
-/// The number behind the last mark of this kind, where there is one.
-fn last_mark(text: &str, mark: &str) -> u64 {
-    let mut last = 0;
-    for line in text.lines() {
-        if let Some(number) = line.strip_prefix(mark) {
-            last = number.parse::<u64>().unwrap_or(0);
-        }
-    }
-    last
 }
 
 #[test]
@@ -228,59 +216,6 @@ fn a_first_line_is_a_number_up_to_a_limit(rt: HostRuntime) -> Result<(), Fail> {
     Ok(())
 }
 
-/// A run over each image that a stop of this host may leave goes on with the text, and has all that
-/// was told to be stored.
-fn assert_goes_on(
-    rt: &(impl Abort + AllocGlobal),
-    setting: &Setting<'_>,
-    host: &MemHost,
-    calls: u64,
-    whole: &str,
-) -> Result<(), Fail> {
-    let alloc = rt.alloc();
-    assert!(rt; calls <= host.calls());
-    let told = String::from_utf8(host.output().to_vec(alloc)?)?;
-    for pick in [
-        Pick::Old,
-        Pick::New,
-        Pick::Torn(0),
-        Pick::Torn(1),
-        Pick::Torn(0x37),
-        Pick::Torn(255),
-    ] {
-        let mut left = host.stop_image(calls, pick)?;
-        let status = status_on(alloc, setting, &mut left)?;
-        let text = String::from_utf8(left.output().to_vec(alloc)?)?;
-        assert_eq!(rt; status, Status::Ok);
-        assert!(rt;
-            whole.ends_with(behind_open(text.as_str())),
-            "after {calls}"
-        );
-        assert!(rt; last_mark(told.as_str(), "stored ") <= last_mark(text.as_str(), "stored "));
-    }
-    Ok(())
-}
-
-#[test]
-fn a_run_stopped_at_any_call_goes_on(rt: HostRuntime) -> Result<(), Fail> {
-    let alloc = rt.alloc();
-    let plan = plan_of(alloc, TOTALS, PAYMENTS, SMALL)?;
-    let three = sound(plan.as_bytes(), THREE);
-    let mut whole = failing(alloc, &[])?;
-    assert_run(&rt, &three, &mut whole, THREE_PUT, Status::Ok)?;
-    for call in 0..whole.calls() {
-        let mut host = failing(alloc, &[call])?;
-        let status = status_on(alloc, &three, &mut host)?;
-        assert!(rt;
-            status == Status::Write || status == Status::Disk,
-            "at {call}"
-        );
-        assert_goes_on(&rt, &three, &host, host.calls(), THREE_PUT)?;
-        assert_goes_on(&rt, &three, &whole, call, THREE_PUT)?;
-    }
-    Ok(())
-}
-
 #[test]
 fn a_log_cut_short_is_read_or_refused(rt: HostRuntime) -> Result<(), Fail> {
     let alloc = rt.alloc();
@@ -307,56 +242,6 @@ fn a_log_cut_short_is_read_or_refused(rt: HostRuntime) -> Result<(), Fail> {
                 "at {length}"
             );
         }
-    }
-    Ok(())
-}
-
-#[test]
-fn a_stop_in_a_checkpoint_leaves_the_one_before(rt: HostRuntime) -> Result<(), Fail> {
-    let alloc = rt.alloc();
-    let plan = plan_of(alloc, TOTALS, PAYMENTS, SMALL)?;
-    let eight = sound(plan.as_bytes(), EIGHT);
-    let mut whole = failing(alloc, &[])?;
-    let status = status_on(alloc, &eight, &mut whole)?;
-    assert_eq!(rt; status, Status::Ok);
-    let wanted = "open 8 8 4\nstored 8\nsaved 8\ndone 8 8\n";
-    assert!(rt; is_left_somewhere(alloc, &eight, &whole, Pick::Torn(0), wanted)?);
-    Ok(())
-}
-
-/// Whether a run over what some stop of this host leaves, by this pick, puts just this text.
-fn is_left_somewhere(
-    alloc: Global,
-    setting: &Setting<'_>,
-    whole: &MemHost,
-    pick: Pick,
-    wanted: &str,
-) -> Result<bool, Fail> {
-    for call in 0..whole.calls() {
-        let mut left = whole.stop_image(call, pick)?;
-        status_on(alloc, setting, &mut left)?;
-        if left.output() == wanted.as_bytes() {
-            return Ok(true);
-        }
-    }
-    Ok(false)
-}
-
-#[test]
-fn a_gate_decides_whether_its_chunk_is_there(rt: HostRuntime) -> Result<(), Fail> {
-    let alloc = rt.alloc();
-    let plan = plan_of(alloc, TOTALS, PAYMENTS, SMALL)?;
-    let three = sound(plan.as_bytes(), THREE);
-    let mut whole = failing(alloc, &[])?;
-    assert_run(&rt, &three, &mut whole, THREE_PUT, Status::Ok)?;
-    let closed = "open 2 2 0\n2 ok 2 250\nstored 3\nsaved 3\ndone 3 3\n";
-    let opened = "open 3 3 0\nstored 3\nsaved 3\ndone 3 3\n";
-    for (pick, wanted) in [
-        (Pick::Old, closed),
-        (Pick::Torn(0x37), closed),
-        (Pick::Torn(1), opened),
-    ] {
-        assert!(rt; is_left_somewhere(alloc, &three, &whole, pick, wanted)?);
     }
     Ok(())
 }

@@ -227,20 +227,21 @@ fn assert_stops(
     Ok(())
 }
 
-/// The same of a stop after each call of this run, which found that the store had come so far, and of
-/// one behind its end, which has told more.
+/// The same of a stop after each call of this run, by each of these picks, where the run found that the
+/// store had come so far, and of one behind its end, which has told more.
 fn assert_each_stop(
     rt: &(impl Abort + AllocGlobal),
     setting: &Setting<'_>,
     seen: &mut Vec<Left>,
     host: &MemHost,
+    picks: &[Pick],
     reached: Reached,
 ) -> Result<(), Fail> {
     for calls in 0..host.calls() {
-        assert_stops(rt, setting, seen, host, calls, &FEW_PICKS, reached)?;
+        assert_stops(rt, setting, seen, host, calls, picks, reached)?;
     }
     let told = told(rt.alloc(), host, reached)?;
-    assert_stops(rt, setting, seen, host, host.calls(), &FEW_PICKS, told)
+    assert_stops(rt, setting, seen, host, host.calls(), picks, told)
 }
 
 /// The same of each stop of a run over the files at this place of the list.
@@ -255,7 +256,23 @@ fn assert_each_stop_over(
     };
     let reached = left.reached;
     let host = run_failing(rt, setting, &left.files, u64::MAX)?;
-    assert_each_stop(rt, setting, seen, &host, reached)
+    assert_each_stop(rt, setting, seen, &host, &FEW_PICKS, reached)
+}
+
+/// A run over eight payments that is stopped by this pick, and then the run that goes on, by any.
+fn assert_goes_on_twice(rt: &(impl Abort + AllocGlobal), first: Pick) -> Result<(), Fail> {
+    let alloc = rt.alloc();
+    let plan = plan_of(alloc, RECENT_AND_ALL, PAYMENTS, MIXED)?;
+    let eight = sound(plan.as_bytes(), EIGHT);
+    let empty = failing(alloc, &[])?;
+    let whole = run_failing(rt, &eight, &empty, u64::MAX)?;
+    let mut seen = Vec::new(alloc);
+    assert_each_stop(rt, &eight, &mut seen, &whole, &[first], NOTHING)?;
+    assert!(rt; !seen.is_empty());
+    for place in 0..seen.len() {
+        assert_each_stop_over(rt, &eight, &mut seen, place)?;
+    }
+    Ok(())
 }
 
 #[test]
@@ -278,19 +295,18 @@ fn a_run_stopped_at_any_call_goes_on(rt: HostRuntime) -> Result<(), Fail> {
 }
 
 #[test]
-fn a_run_stopped_twice_goes_on(rt: HostRuntime) -> Result<(), Fail> {
-    let alloc = rt.alloc();
-    let plan = plan_of(alloc, RECENT_AND_ALL, PAYMENTS, MIXED)?;
-    let eight = sound(plan.as_bytes(), EIGHT);
-    let empty = failing(alloc, &[])?;
-    let whole = run_failing(&rt, &eight, &empty, u64::MAX)?;
-    let mut seen = Vec::new(alloc);
-    assert_each_stop(&rt, &eight, &mut seen, &whole, NOTHING)?;
-    assert!(rt; !seen.is_empty());
-    for place in 0..seen.len() {
-        assert_each_stop_over(&rt, &eight, &mut seen, place)?;
-    }
-    Ok(())
+fn a_run_stopped_twice_goes_on_from_old_bytes(rt: HostRuntime) -> Result<(), Fail> {
+    assert_goes_on_twice(&rt, Pick::Old)
+}
+
+#[test]
+fn a_run_stopped_twice_goes_on_from_new_bytes(rt: HostRuntime) -> Result<(), Fail> {
+    assert_goes_on_twice(&rt, Pick::New)
+}
+
+#[test]
+fn a_run_stopped_twice_goes_on_from_torn_bytes(rt: HostRuntime) -> Result<(), Fail> {
+    assert_goes_on_twice(&rt, Pick::Torn(1))
 }
 
 #[test]

@@ -14,9 +14,13 @@ use Rattle.rg_open.specs.Unfit.{HasOtherSchema, HasBadFrame}
 use Rattle.railgun.specs.Call.{damage_line, schema_line, state_line, gap_line}
 use Rattle.railgun.specs.Plan.{IsPlan}
 
--- the image says that its log is damaged there, or the image that is left says so
+-- the image's log isn't legal, for the plan's schema or without a frame
+abbrev pub HasNoEvents : Planned → Image → Type 0
+HasNoEvents plan v = (events : List Event) → HasEvents plan.shape events (v 2) → ⊥
+
+-- the image's log isn't legal, and the image, or the one that is left, says that its log is damaged there
 abbrev pub IsDamagedAt : Planned → Option Image → Option Image → ℕ → Type 0
-IsDamagedAt plan old new place = ForSome old (λ v. HasBadFrame plan place v) ⊎ ForSome new (λ v. IsIllegal plan.shape.fields place (v 2))
+IsDamagedAt plan old new place = ForSome old (HasNoEvents plan) × (ForSome old (λ v. HasBadFrame plan place v) ⊎ ForSome new (λ v. IsIllegal plan.shape.fields place (v 2)))
 
 -- where the image's log is legal, and of the plan's schema or without a frame, that node isn't true in the checkpoint that is used
 abbrev pub IsBadState : Planned → Option Image → ℕ → Type 0

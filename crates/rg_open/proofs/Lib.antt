@@ -7,3 +7,4 @@ pub mod Causes
 pub mod Within
 pub mod Unfit
 pub mod Froms
+pub mod Moved

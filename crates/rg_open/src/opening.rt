@@ -16,7 +16,7 @@ ghost use Rattle.rg_state.specs.Keeping.{TableKept};
 ghost use Rattle.rg_engine.specs.Passed.{passed_count};
 ghost use Rattle.rg_checkpoint.specs.Slots.{IsKeep};
 ghost use Rattle.rg_restore.specs.Opening.{IsEmpty, IsGoing};
-ghost use Rattle.rg_open.specs.Blame.{IsBlamed, NodeRuns};
+ghost use Rattle.rg_open.specs.Blame.{IsBlamed, NodeRuns, IsPlaced};
 ghost use Rattle.rg_open.specs.Opening.{IsOpenable, IsStarted, IsResumed, IsFromIn};
 ghost use Rattle.rg_open.specs.Settling.{AreSettled};
 ghost use Rattle.rg_open.specs.Unfit.{IsUnfit, SaysWhy, IsLeftAlone};
@@ -124,6 +124,8 @@ fn open_settled<H: Host, T: Table, L: Ledger>(
 
     ensures undamaged { (v : Image) (events : List Event) (p : ℕ) → H.now host.old ≡ Some v → AreSettled (H.now host.old) (H.may host.old) → HasEvents plan.now.schema events (v 2) →
         IfErr result (λ refused. refused.0 ≡ OpenFault.Damaged p → ⊥) }
+    ensures placed { (v : Image) (events : List Event) → H.now host.old ≡ Some v → AreSettled (H.now host.old) (H.may host.old) → HasEvents plan.now.schema events (v 2) →
+        IfOk result (λ r. IsPlaced (planned plan.now) (H.now host.new) (H.may host.new) r.0.reservoir r.0.engine) }
 
     ensures disk { IfErr result (λ refused. refused.0 ≡ OpenFault.Disk → Rose (H.disk_faults host.old) (H.disk_faults host.new)) }
     ensures differs { IfErr result (λ refused. refused.0 ≡ OpenFault.SchemaDiffers → ForSome (H.now host.old) (λ v. IsOther (schema_payload plan.now.schema) (v 2))) }
@@ -218,8 +220,9 @@ pub fn open_store<H: Host, T: Table, L: Ledger>(
         IfErr result (λ refused. refused.0 ≡ OpenFault.BadState n → IsBlamed (planned plan.now) v events n) }
     ensures node { (v : Image) (events : List Event) (n : ℕ) → H.now host.old ≡ Some v → HasEvents plan.now.schema events (v 2) → T.tells table →
         IfOk result (λ r. (NodeRuns (planned plan.now) n (H.now host.new) (H.may host.new) (T.tells r.0.engine.table) (T.cell r.0.engine.table) r.0.reservoir r.0.engine → ⊥) → IsBlamed (planned plan.now) v events n) }
-    // A legal log is never refused as damaged, whatever the slots hold.
+    // A legal log is never refused as damaged, whatever the slots hold, and each edge then stands at a spelled spot.
     ensures undamaged { (v : Image) (events : List Event) (p : ℕ) → H.now host.old ≡ Some v → HasEvents plan.now.schema events (v 2) → IfErr result (λ refused. refused.0 ≡ OpenFault.Damaged p → ⊥) }
+    ensures placed { (v : Image) (events : List Event) → H.now host.old ≡ Some v → HasEvents plan.now.schema events (v 2) → IfOk result (λ r. IsPlaced (planned plan.now) (H.now host.new) (H.may host.new) r.0.reservoir r.0.engine) }
 
     // At each moment, and at every result.
     ensures within { (v : Image) (keep : Option ℕ) → H.now host.old ≡ Some v → IsWithinOpening H.may H.clock H.since H.said (planned plan.now) keep v host.old host.new }

@@ -17,7 +17,7 @@ ghost use Rattle.rg_restore.specs.Opening.{IsEmpty, IsGoing};
 ghost use Rattle.rg_restore.specs.Slots.{slot_in, HaveBegun, IsBest, IsFrom};
 ghost use Rattle.rg_restore.specs.Truthful.{NodeIsTrue};
 ghost use Rattle.rg_store.specs.Opened.{IsOpenedFor};
-ghost use Rattle.rg_open.specs.Blame.{IsAmiss, NodeRuns};
+ghost use Rattle.rg_open.specs.Blame.{IsAmiss, NodeRuns, IsPlaced};
 ghost use Rattle.rg_open.specs.Opening.{IsFound, IsStarted};
 
 use crate::fault::OpenFault;
@@ -81,6 +81,8 @@ fn start_over<H: Host, T: Table, L: Ledger>(
     ensures node { (n : ℕ) → IsOpenedFor (planned plan.now) (H.now past.old.host.now) (H.may past.old.host.now) past.old.reservoir.now → T.tells table →
         IfOk result (λ r. (NodeRuns (planned plan.now) n (H.now past.new.host.now) (H.may past.new.host.now) (T.tells r.0.table) (T.cell r.0.table) past.new.reservoir.now r.0 → ⊥) →
         IsAmiss (Spells (H.now past.old.host.now) (base past.old.reservoir.now) (opened past.old.reservoir.now)) (planned plan.now) (all_events (H.now past.old.host.now) (base past.old.reservoir.now) (opened past.old.reservoir.now)) saved n) }
+    ensures placed { IsOpenedFor (planned plan.now) (H.now past.old.host.now) (H.may past.old.host.now) past.old.reservoir.now →
+        IfOk result (λ r. IsPlaced (planned plan.now) (H.now past.new.host.now) (H.may past.new.host.now) past.new.reservoir.now r.0) }
 
     ensures disk { IfErr result (λ refused. refused.0 ≡ OpenFault.Disk → Rose (H.disk_faults past.old.host.now) (H.disk_faults past.new.host.now)) }
     ensures damaged { (p : ℕ) → IfErr result (λ refused. refused.0 ≡ OpenFault.Damaged p → ForSome (H.now past.new.host.now) (λ v. IsIllegal (base past.new.reservoir.now).shape.fields p (v (base past.new.reservoir.now).file))) }
@@ -156,6 +158,8 @@ pub(crate) fn start<H: Host, T: Table, L: Ledger>(
     ensures node { (n : ℕ) → IsOpenedFor (planned plan.now) (H.now host.old) (H.may host.old) reservoir.old → T.tells table →
         IfOk result (λ r. (NodeRuns (planned plan.now) n (H.now host.new) (H.may host.new) (T.tells r.0.table) (T.cell r.0.table) reservoir.new r.0 → ⊥) →
         IsAmiss (Spells (H.now host.old) (base reservoir.old) (opened reservoir.old)) (planned plan.now) (all_events (H.now host.old) (base reservoir.old) (opened reservoir.old)) saved n) }
+    ensures placed { IsOpenedFor (planned plan.now) (H.now host.old) (H.may host.old) reservoir.old →
+        IfOk result (λ r. IsPlaced (planned plan.now) (H.now host.new) (H.may host.new) reservoir.new r.0) }
 
     ensures disk { IfErr result (λ refused. refused.0 ≡ OpenFault.Disk → Rose (H.disk_faults host.old) (H.disk_faults host.new)) }
     ensures damaged { (p : ℕ) → IfErr result (λ refused. refused.0 ≡ OpenFault.Damaged p → ForSome (H.now host.new) (λ v. IsIllegal (base reservoir.new).shape.fields p (v (base reservoir.new).file))) }

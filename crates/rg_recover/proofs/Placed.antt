@@ -1,7 +1,6 @@
 -- An engine whose edges stand at spelled spots, from one call to the next.
-use Rattle.std.proofs.Common.{◌≡◌, ◌∙◌, ℕ, ◌<◌, List, length, get_or, Option, sym, ap, subst, arith}
+use Rattle.std.proofs.Common.{◌≡◌, ◌∙◌, ℕ, List, length, Option, sym, ap, subst}
 use Rattle.std.proofs.lemmas.List.Elements.{All-weaker}
-use Rattle.std.proofs.lemmas.Option.{slice_get-get_or, get_or_from_slice_get}
 use Rattle.std.specs.Prelude.{All}
 use Rattle.rg_host.specs.Image.{Image}
 use Rattle.rg_past.specs.declared.past.Spot.{Spot}
@@ -10,17 +9,11 @@ use Rattle.rg_window.specs.Placed.{IsSpelledAt}
 use Rattle.rg_engine.specs.Seen.{Seen}
 use Rattle.rg_reservoir.specs.Kept.{Base, base, opened, IsSound, Spells}
 use Rattle.rg_reservoir.specs.declared.reservoir.Reservoir.{Reservoir}
+use Rattle.rg_restore.proofs.Placing.{all_later}
 use Rattle.rg_store.specs.Opened.{IsOpenedFor}
 use Rattle.rg_open.specs.Blame.{IsPlaced}
 use Rattle.rg_recover.specs.Stepping.{LogStays}
 use Rattle.rg_recover.proofs.Beside.{sound_beside, spells_beside}
-
--- all of as many spots are spelled, where each that was spelled is so still
-all_later : (Spells Later : Spot → Type 0) (old new : List Spot) → length new ≡ length old → ((edge : ℕ) → IsSpelledAt Spells old edge → IsSpelledAt Later new edge) → All Spells old → All Later new
-all_later Spells Later old new same later all = λ edge d below.
-    let within : edge < length old = omega (arith, below, same) in
-    let at = later edge (get_or old edge d, slice_get-get_or old edge d within, all edge d within) in
-    subst Later (sym (get_or_from_slice_get new edge at.0 d at.1)) at.2
 
 module _ {T : Type 0} (plan : Planned) (now : Option Image) (may : Image → Type 0) (r : Reservoir) (engine : Seen T) (placed : IsPlaced plan now may r engine) (then : Option Image) (after : Image → Type 0) where
   abbrev Spelled : Spot → Type 0

@@ -14,7 +14,7 @@ ghost use Rattle.rg_reservoir.specs.Kept.{base, opened, room_of, cache_of, log_o
 ghost use Rattle.rg_state.specs.Keeping.{TableKept};
 ghost use Rattle.rg_engine.specs.Passed.{passed_count};
 ghost use Rattle.rg_restore.specs.Opening.{IsEmpty};
-ghost use Rattle.rg_open.specs.Blame.{IsBlamed, NodeRuns};
+ghost use Rattle.rg_open.specs.Blame.{IsBlamed, NodeRuns, IsPlaced};
 ghost use Rattle.rg_open.specs.Opening.{IsOpenable, IsResumed, IsFromIn};
 ghost use Rattle.rg_open.specs.Unfit.{IsUnfit, SaysWhy, IsLeftAlone};
 ghost use Rattle.rg_open.specs.Within.{IsWithinOpening, IsAfterOpening};
@@ -67,8 +67,9 @@ impl<T: Table> Session<T> {
             IfErr result (λ refused. refused.0 ≡ OpenFault.BadState n → IsBlamed (planned plan.now) v events n) }
         ensures node { (v : Image) (events : List Event) (n : ℕ) → H.now host.old ≡ Some v → HasEvents plan.now.schema events (v 2) → T.tells table →
             IfOk result (λ r. (NodeRuns (planned plan.now) n (H.now host.new) (H.may host.new) (T.tells r.0.engine.table) (T.cell r.0.engine.table) r.0.reservoir r.0.engine → ⊥) → IsBlamed (planned plan.now) v events n) }
-        // A legal log is never refused as damaged, whatever the slots hold.
+        // A legal log is never refused as damaged, whatever the slots hold, and each edge then stands at a spelled spot.
         ensures undamaged { (v : Image) (events : List Event) (p : ℕ) → H.now host.old ≡ Some v → HasEvents plan.now.schema events (v 2) → IfErr result (λ refused. refused.0 ≡ OpenFault.Damaged p → ⊥) }
+        ensures placed { (v : Image) (events : List Event) → H.now host.old ≡ Some v → HasEvents plan.now.schema events (v 2) → IfOk result (λ r. IsPlaced (planned plan.now) (H.now host.new) (H.may host.new) r.0.reservoir r.0.engine) }
 
         // At each moment, and at every result.
         ensures within { (v : Image) (keep : Option ℕ) → H.now host.old ≡ Some v → IsWithinOpening H.may H.clock H.since H.said (planned plan.now) keep v host.old host.new }

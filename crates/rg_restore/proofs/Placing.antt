@@ -1,5 +1,6 @@
 -- Edges at their positions, seen as a list of numbers.
 use Rattle.std.proofs.Common.{◌≡◌, ℕ, zero, suc, ◌<◌, List, [], ◌∷◌, length, map, get_or, slice_get, Some, refl, ap, sym, subst, ◌∙◌, arith}
+use Rattle.std.specs.Prelude.{All}
 use Rattle.std.proofs.lemmas.List.{length-map}
 use Rattle.std.proofs.lemmas.Option.{slice_get-get_or, get_or_from_slice_get}
 use Rattle.rg_event.specs.declared.event.Event.{Event}
@@ -51,6 +52,13 @@ module _ (Spells : Spot → Type 0) (plan : Tasks) (events : List Event) (spots 
     numbers = in_places (position_in events) plan.offsets (numbers_of spots) (length-map spots (λ (spot : Spot). spot.number) ∙ same) at;
     spelled = λ edge d h. spelled_by edge d (spelled edge h);
   }
+
+-- all of as many spots are spelled, where each that was spelled is so still
+pub all_later : (Spells Later : Spot → Type 0) (old new : List Spot) → length new ≡ length old → ((edge : ℕ) → IsSpelledAt Spells old edge → IsSpelledAt Later new edge) → All Spells old → All Later new
+all_later Spells Later old new same later all = λ edge d below.
+    let within : edge < length old = omega (arith, below, same) in
+    let at = later edge (get_or old edge d, slice_get-get_or old edge d within, all edge d within) in
+    subst Later (sym (get_or_from_slice_get new edge at.0 d at.1)) at.2
 
 -- each node of an engine that stands
 pub node_stands : (Spells : Spot → Type 0) (plan : Tasks) (events : List Event) (cells : Cells) (spots : List Spot) → StandsFor plan events cells → SpotsAt Spells plan.offsets events spots → (n : ℕ) → NodeStands plan n events cells (numbers_of spots)

@@ -42,6 +42,7 @@ pub(crate) fn go_on<P: Past, T: Table, L: Ledger>(
         IfOk result (λ engine. NodeStands plan n (P.events past.new) (T.cell engine.table) (numbers_of engine.spots)) }
     ensures told { (n : ℕ) → P.sound past.old → IsTold plan n (P.spells past.old) spots.now →
         IfOk result (λ engine. IsTold plan n (P.spells past.new) engine.spots) }
+    ensures spelled { P.sound past.old → All (P.spells past.old) spots.now → IfOk result (λ engine. All (P.spells past.new) engine.spots) }
     ensures bad { (n : ℕ) (front more : List Event) → CanStand (P.sound past.old) (T.tells table) plan (P.events past.old) →
         P.events past.old ≡ front ++ more →
         IsTold plan n (P.spells past.old) spots.now → NodeStands plan n front (T.cell table) (numbers_of spots.now) →

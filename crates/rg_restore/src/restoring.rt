@@ -57,6 +57,7 @@ pub fn restore<P: Past, T: Table, L: Ledger>(
         IfOk result (λ engine. NodeStands plan n (P.events past.new) (T.cell engine.table) (numbers_of engine.spots)) }
     ensures told { (n : ℕ) → P.sound past.old → IsTold plan n (P.spells past.old) checkpoint.spots →
         IfOk result (λ engine. IsTold plan n (P.spells past.new) engine.spots) }
+    ensures spelled { P.sound past.old → All (P.spells past.old) checkpoint.spots → IfOk result (λ engine. All (P.spells past.new) engine.spots) }
     ensures bad { (n : ℕ) → CanStand (P.sound past.old) (T.tells table) plan (P.events past.old) →
         NodeIsTrue (P.spells past.old) plan n (P.events past.old) checkpoint →
         IfErr result (λ refused. refused.0 ≡ EngineFault.BadState n → ⊥) }

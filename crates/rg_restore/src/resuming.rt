@@ -1,4 +1,4 @@
-ghost use Rattle.std.specs.Prelude.{◌≡◌, ℕ, ◌+◌, List, length, take, IfOk, IfErr};
+ghost use Rattle.std.specs.Prelude.{◌≡◌, ℕ, ◌+◌, List, length, All, take, IfOk, IfErr};
 ghost use Rattle.rg_bytes.specs.Counts.{Rose};
 ghost use Rattle.rg_event.specs.Rising.{last_time};
 ghost use Rattle.rg_past.specs.Keeping.{Kept, HasCause};
@@ -80,6 +80,9 @@ pub fn resume<P: Names, T: Table, L: Ledger>(
         IfOk result (λ r. (NodeGoes (P.Past.spells past.new) plan n (P.Past.events past.new) (T.cell r.0.table) r.0.spots → ⊥) → (i : ℕ) × (used : Checkpoint)
         × IsBest (IsFit (P.named past.old) queries.now fields.now plan (length (P.Past.events past.old))) (slot_in saved) i used
         × (NodeIsTrue (P.Past.spells past.old) plan n (P.Past.events past.old) used → ⊥)) }
+
+    // Whichever is used, each edge stands at a spelled spot over a sound past.
+    ensures spelled { P.Past.sound past.old → (P.Past.ended past.old → ⊥) → IfOk result (λ r. All (P.Past.spells past.new) r.0.spots) }
 
     ensures cause { (fault : PastFault) → IfErr result (λ refused. refused.0 ≡ EngineFault.Past fault →
         HasCause (P.Past.illegal past.new) ⊥ (P.Past.ended past.old) (P.Past.faults past.old) (P.Past.faults past.new) fault) }

@@ -16,7 +16,7 @@ ghost use Rattle.rg_reservoir.specs.Chain.{IsIllegal};
 ghost use Rattle.rg_reservoir.specs.Kept.{base, log_of};
 ghost use Rattle.rg_course.specs.Stores.{StaysOnCourseSince};
 ghost use Rattle.rg_store.specs.Stores.{store_of};
-ghost use Rattle.rg_open.specs.Blame.{IsBlamed, NodeRuns};
+ghost use Rattle.rg_open.specs.Blame.{IsBlamed, NodeRuns, IsPlaced};
 ghost use Rattle.rg_open.specs.Opening.{IsFromIn};
 ghost use Rattle.rg_open.specs.Unfit.{IsUnfit, IsLeftAlone};
 ghost use Rattle.rg_open.specs.Within.{IsWithinOpening};
@@ -69,8 +69,9 @@ pub(crate) fn begin<H: Host, L: Ledger>(
         IfOk result (λ turning. (NodeRuns (planned plan.now) n (H.now host.new) (H.may host.new) (⟦<MemTable as Table>⟧.tells turning.session.engine.table) (⟦<MemTable as Table>⟧.cell turning.session.engine.table) turning.session.reservoir turning.session.engine → ⊥) →
         IsBlamed (planned plan.now) v events n) }
 
-    // A legal log is never refused as damaged, whatever the slots hold.
+    // A legal log is never refused as damaged, whatever the slots hold, and each edge then stands at a spelled spot.
     ensures undamaged { (v : Image) (events : List Event) (p : ℕ) → H.now host.old ≡ Some v → HasEvents plan.now.schema events (v 2) → IsErrOf result (RunFault.Damaged p) → ⊥ }
+    ensures placed { (v : Image) (events : List Event) → H.now host.old ≡ Some v → HasEvents plan.now.schema events (v 2) → IfOk result (λ turning. IsPlaced (planned plan.now) (H.now host.new) (H.may host.new) turning.session.reservoir turning.session.engine) }
 
     ensures gap { (n : ℕ) → IsErrOf result (RunFault.Gap n) → n < first }
     ensures gap_next { (v : Image) (events : List Event) (n : ℕ) → H.now host.old ≡ Some v → HasEvents plan.now.schema events (v 2) → IsErrOf result (RunFault.Gap n) → n ≡ next_offset events }

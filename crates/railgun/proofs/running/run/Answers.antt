@@ -50,7 +50,7 @@ pub returns-clause-store : goal.returns-clause-store
 returns-clause-store g c = λ is.
     store_line (planned c.args.plan.now) _ _ _ _ c.in-Err.fault (ending_status c.ending_of.result) (ending_line c.ending_of.result) c.ending_of.ensures is
     (λ e. (c.in-Err.ensures.differs (ap (λ (f : RunFault). Err f) e), c.in-Err.ensures.store_first (ap (λ (f : RunFault). Err f) e)))
-    (λ p e. c.in-Err.ensures.damaged p (ap (λ (f : RunFault). Err f) e))
+    (λ p e. (λ v told events has. c.in-Err.ensures.undamaged v events p told has (ap (λ (f : RunFault). Err f) e), c.in-Err.ensures.damaged p (ap (λ (f : RunFault). Err f) e)))
     (λ n e v told events has. c.in-Err.ensures.bad v events n told has (ap (λ (f : RunFault). Err f) e))
 
 pub returns-clause-gap : goal.returns-clause-gap

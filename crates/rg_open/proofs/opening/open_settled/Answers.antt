@@ -139,3 +139,6 @@ returns-in-Err-clause-undamaged g c = λ v events p told settled has is. c.in-Er
 
 pub returns-in-Err-start-clause-undamaged : goal.returns-in-Err-start-clause-undamaged
 returns-in-Err-start-clause-undamaged g c = λ v events p told settled has is. c.in-Err-start.ensures.undamaged p (c.in-Ok.ensures.log v events told settled has).sound is
+
+pub returns-in-Ok-start-clause-placed : goal.returns-in-Ok-start-clause-placed
+returns-in-Ok-start-clause-placed g c = λ v events told settled has. c.in-Ok-start.ensures.placed (c.in-Ok.ensures.log v events told settled has)

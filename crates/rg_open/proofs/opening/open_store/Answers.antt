@@ -95,3 +95,6 @@ returns-in-Ok-open_settled-clause-node g c = λ v events n told has tells not. c
 
 pub returns-in-Err-open_settled-clause-undamaged : goal.returns-in-Err-open_settled-clause-undamaged
 returns-in-Err-open_settled-clause-undamaged g c = λ v events p told has is. c.in-Err-open_settled.ensures.undamaged v events p (c.settle.ensures.leaves.now_stays ∙ told) c.in-Ok.ensures.settled has is
+
+pub returns-in-Ok-open_settled-clause-placed : goal.returns-in-Ok-open_settled-clause-placed
+returns-in-Ok-open_settled-clause-placed g c = λ v events told has. c.in-Ok-open_settled.ensures.placed v events (c.settle.ensures.leaves.now_stays ∙ told) c.in-Ok.ensures.settled has

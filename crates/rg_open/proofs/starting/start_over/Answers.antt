@@ -3,7 +3,7 @@ use Rattle.rg_event.specs.declared.event.Event.{Event}
 use Rattle.rg_past.specs.declared.past.PastFault.TheVariants as past
 use Rattle.rg_config.specs.Plans.{planned}
 use Rattle.rg_engine.specs.Passed.{passed_count}
-use Rattle.rg_reservoir.specs.Kept.{base, opened, all_events}
+use Rattle.rg_reservoir.specs.Kept.{Base, base, opened, all_events}
 use Rattle.rg_reservoir.specs.GoingLaws.{all_long}
 use Rattle.rg_restore.specs.NamingLaws.{sound_listed}
 use Rattle.rg_restore.specs.Naming.{HeadsName}
@@ -130,3 +130,16 @@ returns-in-Ok-clause-node g c = λ n log tells not.
 pub returns-in-Err-clause-undamaged : goal.returns-in-Err-clause-undamaged
 returns-in-Err-clause-undamaged g c = λ p sound is.
     c.in-Err.ensures.never_damaged p sound (λ e. (let x = sym e ∙ c.requires.going in cc)) (damaged_by c.in-Err.fault p (sym c.from.ensures ∙ is))
+
+pub returns-in-Ok-clause-placed : goal.returns-in-Ok-clause-placed
+returns-in-Ok-clause-placed g c = λ log.
+    let goes = c.resume.ensures.past.goes in
+    record {
+      reservoir = record {
+        sound = goes.sound log.sound;
+        going = ap (λ (b : Base). b.ended) goes.base ∙ log.going;
+        file = ap (λ (b : Base). b.file) goes.base ∙ log.file;
+        shape = ap (λ (b : Base). b.shape) goes.base ∙ log.shape;
+      };
+      spots = c.in-Ok.ensures.spelled log.sound (λ e. (let x = sym e ∙ c.requires.going in cc));
+    }

@@ -1,7 +1,7 @@
 use Rattle.std.proofs.Common.{Err, ◌≡◌, ◌∙◌, length, ap, sym, arith, subst}
 use Rattle.std.proofs.lemmas.Option.{slice_get_within}
 use Rattle.rg_plan.specs.Plans.{Tasks}
-use Rattle.rg_restore.proofs.Placing.{are_at, spelled_in, node_stands, node_told}
+use Rattle.rg_restore.proofs.Placing.{are_at, spelled_in, all_later, node_stands, node_told}
 use Rattle.rg_restore.proofs.Standing.{stands}
 use Rattle.rg_restore.proofs.going.go_on.Goals as goal
 
@@ -44,3 +44,10 @@ pub returns-in-Err-replay-clause-never_damaged : goal.returns-in-Err-replay-clau
 returns-in-Err-replay-clause-never_damaged g c =
     let went = rw (c.in-Ok.ensures.spots) at c.in-Err-replay.ensures.never_damaged in
     λ place sound all is. went place sound all (ap Err is)
+
+pub returns-clause-spelled : goal.returns-clause-spelled
+returns-clause-spelled g c =
+    let later = rw (c.in-Ok.ensures.spots) at c.in-Ok-replay.ensures.edges.spells in
+    let many : length c.replay.new.self.spots ≡ length c.args.spots.now =
+    c.spots-spots.ensures.same ∙ ap (λ (p : Tasks). length p.offsets) (c.in-Ok-replay.ensures.plan ∙ c.in-Ok.ensures.plan) ∙ sym c.requires.same in
+    λ sound all. all_later (g.P.Past.spells c.args.past.now) (g.P.Past.spells c.replay.new.past) c.args.spots.now c.replay.new.self.spots many (later sound) all

@@ -75,3 +75,6 @@ returns-clause-table g c = table-then _ _ _ _ _ c.move_rows.ensures.kept c.in-Ok
 
 pub returns-in-Err-go_on-clause-never_damaged : goal.returns-in-Err-go_on-clause-never_damaged
 returns-in-Err-go_on-clause-never_damaged g c = rw (c.as_slice.ensures) at c.in-Err-go_on.ensures.never_damaged
+
+pub returns-clause-spelled : goal.returns-clause-spelled
+returns-clause-spelled g c = rw (c.as_slice.ensures) at c.in-Ok-go_on.ensures.spelled

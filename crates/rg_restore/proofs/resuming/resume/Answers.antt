@@ -81,3 +81,11 @@ returns-clause-node g c = λ n can runs last untrue.
             untrue (record { told = c.in-Ok-restore.ensures.told n on.sound still.told; stands = c.in-Ok-restore.ensures.node n on then still }),
       )
     ]
+
+pub returns-clause-spelled : goal.returns-clause-spelled
+returns-clause-spelled g c = λ sound runs.
+    let spelled : All (g.P.Past.spells c.begin.new.past) c.in-Ok.begun.checkpoint.spots = elim (c.in-Ok.ensures.origin sound runs) [
+      | inl truthful ↦ truthful.spots.spelled
+      | inr best ↦ All-weaker (g.P.Names.named c.args.past.now) (g.P.Past.spells c.begin.new.past) (λ spot named. (c.begin.ensures.spells spot).1 ((g.met.P.Names.sound_named c.args.past.now spot sound).0 named)) c.in-Ok.begun.checkpoint.spots best.1.fit.spelled
+    ] in
+    c.in-Ok-restore.ensures.spelled (c.begin.ensures.past.sound sound) spelled

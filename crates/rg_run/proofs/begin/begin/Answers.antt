@@ -1,7 +1,7 @@
 use Rattle.std.proofs.Common.{inl, inr, ℕ, ◌≡◌, ◌≤◌, Option, List, None, Some, refl, sym, ◌∙◌, ap, subst, arith, Err}
 use Rattle.rg_host.specs.Puts.{IsPrefix, Puts}
 use Rattle.rg_config.specs.Plans.{planned}
-use Rattle.rg_turn.proofs.Nodes.{node_still}
+use Rattle.rg_turn.proofs.Nodes.{node_still, placed_still}
 use Rattle.rg_run.specs.Begun.{begun_by}
 use Rattle.rg_run.specs.UnderWay.{IsUnopened}
 use Rattle.rg_run.specs.declared.fault.RunFault.TheVariants as run
@@ -158,3 +158,8 @@ returns-in-Err-clause-undamaged g c = λ v events p told has is. let e : c.openi
 
 pub returns-in-Err-put_mark-clause-undamaged : goal.returns-in-Err-put_mark-clause-undamaged
 returns-in-Err-put_mark-clause-undamaged g c = λ v events p told has is. ((put_others c.in-Err-put_mark.fault c.in-Err-put_mark.ensures.faults).4 p).1 (let e : c.in-Err-put_mark.fault ≡ run.Damaged p = cc in e)
+
+pub returns-in-Ok-put_mark-clause-placed : goal.returns-in-Ok-put_mark-clause-placed
+returns-in-Ok-put_mark-clause-placed g c = λ v events told has.
+    let s = c.in-Ok.opened.0 in
+    rw (c.new-in-Ok-put_mark.ensures.session) (placed_still g.H.Host.now g.H.Host.may g.H.Host.clock g.H.Host.since (planned c.args.plan.now) s.reservoir s.engine c.resume.new.host c.put_mark.new.host c.put_mark.ensures.leaves (c.in-Ok.ensures.placed v events told has))

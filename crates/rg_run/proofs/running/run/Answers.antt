@@ -152,3 +152,11 @@ pub returns-clause-bad : goal.returns-clause-bad
 returns-clause-bad g c = λ v events n told has is.
     let e : c.in-Err-answer_lines.fault ≡ run.BadState n = cc in
     c.in-Ok-begin.ensures.node v events n told has (λ runs. c.in-Err-answer_lines.ensures.never_bad_node n runs (ap (λ f. Err f) e))
+
+pub returns-in-Err-begin-clause-undamaged : goal.returns-in-Err-begin-clause-undamaged
+returns-in-Err-begin-clause-undamaged g c = λ v events p told has is. let e : c.in-Err-begin.fault ≡ run.Damaged p = cc in c.in-Err-begin.ensures.undamaged v events p told has (ap (λ f. Err f) e)
+
+pub returns-clause-undamaged : goal.returns-clause-undamaged
+returns-clause-undamaged g c = λ v events p told has is.
+    let e : c.in-Err-answer_lines.fault ≡ run.Damaged p = cc in
+    c.in-Err-answer_lines.ensures.undamaged p (c.in-Ok-begin.ensures.placed v events told has) (ap (λ f. Err f) e)

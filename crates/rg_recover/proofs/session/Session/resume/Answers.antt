@@ -3,7 +3,7 @@ use Rattle.rg_event.specs.Rising.{next_offset}
 use Rattle.rg_event.specs.declared.event.Event.{Event}
 use Rattle.rg_config.specs.Plans.{planned}
 use Rattle.rg_engine.specs.Passed.{passed_count}
-use Rattle.rg_open.specs.Blame.{IsBlamed, NodeRuns}
+use Rattle.rg_open.specs.Blame.{IsBlamed, NodeRuns, IsPlaced}
 use Rattle.rg_open.specs.Opening.{IsResumed}
 use Rattle.rg_recover.specs.Sessions.{Sitting, IsRunning, events_of, stored_of}
 use Rattle.rg_recover.proofs.Resuming.{started_running, all_of_none, stored_of_none}
@@ -45,3 +45,8 @@ returns-in-Ok-clause-node g c = λ v events n told has tells.
     let h = c.open_store.new.host in
     subst (λ (s : Sitting g.row.T.Denot). (NodeRuns (planned c.args.plan.now) n (g.H.Host.now h) (g.H.Host.may h) (g.T.Table.tells s.engine.table) (g.T.Table.cell s.engine.table) s.reservoir s.engine → ⊥) → IsBlamed (planned c.args.plan.now) v events n) (sym c.new.ensures)
     (c.in-Ok.ensures.node v events n told has tells)
+
+pub returns-in-Ok-clause-placed : goal.returns-in-Ok-clause-placed
+returns-in-Ok-clause-placed g c = λ v events told has.
+    let h = c.open_store.new.host in
+    subst (λ (s : Sitting g.row.T.Denot). IsPlaced (planned c.args.plan.now) (g.H.Host.now h) (g.H.Host.may h) s.reservoir s.engine) (sym c.new.ensures) (c.in-Ok.ensures.placed v events told has)

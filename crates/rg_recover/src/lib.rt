@@ -13,6 +13,8 @@ mod resume;
 mod save;
 mod session;
 mod taking;
+#[cfg(test)]
+mod tests;
 
 pub use fault::TaskFault;
 pub use law::law_running;

@@ -115,13 +115,13 @@ ran_anew plan input h h' result schema is runs =
 pub ready_new : (plan : Planned) (h : Ledger) → IsSchema plan.shape → h ≡ new_host → IsReadyRun plan (now_in h) (may_in h) (said_in h)
 ready_new plan h schema is = subst (λ (g : Ledger). IsReadyRun plan (now_in g) (may_in g) (said_in g)) (sym is) (ready_anew plan schema)
 
-pub may_meet : (fault : RunFault) → ((p : ℕ) → fault ≡ run.Damaged p → ⊥) → (fault ≡ run.SchemaDiffers → ⊥) → ((n : ℕ) → fault ≡ run.BadState n → ⊥) → ((n : ℕ) → fault ≡ run.Gap n → ⊥) → MayMeet fault
-may_meet (run.Damaged p) damaged differs bad gap = damaged p refl
-may_meet run.SchemaDiffers damaged differs bad gap = differs refl
-may_meet (run.BadState n) damaged differs bad gap = bad n refl
-may_meet (run.Gap n) damaged differs bad gap = gap n refl
-may_meet run.Disk damaged differs bad gap = tt
-may_meet run.Read damaged differs bad gap = tt
-may_meet run.Limit damaged differs bad gap = tt
-may_meet run.Memory damaged differs bad gap = tt
-may_meet run.Write damaged differs bad gap = tt
+pub may_meet : (fault : RunFault) → ((p : ℕ) → fault ≡ run.Damaged p → ⊥) → (fault ≡ run.SchemaDiffers → ⊥) → ((n : ℕ) → fault ≡ run.BadState n → ⊥) → ((n : ℕ) → fault ≡ run.Gap n → ⊥) → (fault ≡ run.Read → ⊥) → (fault ≡ run.Limit → ⊥) → MayMeet fault
+may_meet (run.Damaged p) damaged differs bad gap read limit = damaged p refl
+may_meet run.SchemaDiffers damaged differs bad gap read limit = differs refl
+may_meet (run.BadState n) damaged differs bad gap read limit = bad n refl
+may_meet (run.Gap n) damaged differs bad gap read limit = gap n refl
+may_meet run.Disk damaged differs bad gap read limit = tt
+may_meet run.Read damaged differs bad gap read limit = read refl
+may_meet run.Limit damaged differs bad gap read limit = limit refl
+may_meet run.Memory damaged differs bad gap read limit = tt
+may_meet run.Write damaged differs bad gap read limit = tt

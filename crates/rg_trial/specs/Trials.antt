@@ -44,12 +44,14 @@ pub record IsTrial (seed n : ℕ) (t : Trial) : Type 0 where
   pub bytes : t.bytes ≡ length (text_for asks (ended (made_lines seed n)))
   pub sum_is : t.sum ≡ sum (text_for asks (ended (made_lines seed n)))
 
--- a run over a new store may meet this fault: its store is neither damaged nor another plan's, and its input has no gap
+-- A run over a new store may meet this fault. Its store is neither damaged nor another plan's, and its input has no gap, is short and is read without a failure; its host fails only where it finds no memory.
 abbrev pub MayMeet : RunFault → Type 0
 MayMeet (run.Damaged place) = ⊥
 MayMeet run.SchemaDiffers = ⊥
 MayMeet (run.BadState node) = ⊥
 MayMeet (run.Gap next) = ⊥
+MayMeet run.Read = ⊥
+MayMeet run.Limit = ⊥
 MayMeet fault = ⊤
 
 -- the four lines of a trial

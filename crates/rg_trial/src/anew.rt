@@ -1,14 +1,15 @@
-ghost use Rattle.std.specs.Prelude.{◌≡◌, ◌<◌, IfOk, IfErr};
+ghost use Rattle.std.specs.Prelude.{◌≡◌, ◌<◌, ◌≤◌, ◌^◌, length, IfOk, IfErr};
 ghost use Rattle.rg_event.specs.Shapes.{IsSchema};
 ghost use Rattle.rg_config.specs.Plans.{planned};
 ghost use Rattle.rg_config.specs.Read.{IsReadPlan};
 ghost use Rattle.rg_host.specs.MemHost.{said_in};
 ghost use Rattle.rg_trial.specs.Trials.{HasRun, MayMeet};
 
+use crate::source::WholeSource;
 use rg_bytes::Memory;
 use rg_config::Plan;
 use rg_event::Steps;
-use rg_host::{Image, MemHost, MemSource};
+use rg_host::{Image, MemHost};
 use rg_run::{RunFault, run};
 use std::alloc::Global;
 use std::sync::ledger::{Blank, Ledger};
@@ -26,13 +27,13 @@ pub(crate) fn run_anew<L: Ledger>(
     requires read { IsReadPlan plan.now }
     requires schema { IsSchema plan.now.schema }
     ensures ran { IfOk result (λ host. HasRun (planned plan.now) input.items (said_in host)) }
-    ensures fault { IfErr result MayMeet }
+    ensures fault { length input.items ≤ 2 ^ 50 → IfErr result MayMeet }
 {
     let mut host = match MemHost::new(alloc, Image::new(alloc), Vec::new(alloc)) {
         Ok(host) => host,
         Err(Memory) => return Err(RunFault::Memory),
     };
-    let mut source = MemSource::new(input, Vec::new(alloc));
+    let mut source = WholeSource::new(alloc, input);
     let mut steps = Steps::<L>::new(blank);
     match run(alloc, plan, 0, &mut source, &mut host, &mut steps) {
         Ok(()) => Ok(host),

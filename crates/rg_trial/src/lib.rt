@@ -11,6 +11,7 @@ mod fault;
 mod input;
 mod number;
 mod printing;
+mod source;
 mod trials;
 
 pub use fault::{PrintFault, TrialFault};

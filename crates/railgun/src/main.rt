@@ -2,19 +2,9 @@
 #![tactic(auto)]
 
 ghost use Rattle.std.specs.Prelude.{◌≡◌, ◌↔◌, ℕ, Some};
-ghost use Rattle.railgun.specs.Call.{command_of};
+ghost use Rattle.rg_call.specs.Call.{command_of};
 
-mod call;
-mod command;
-mod dump;
-mod ending;
-mod info;
-mod refused;
-mod running;
-mod trial;
-
-use crate::call::railgun;
-use crate::command::Command;
+use rg_call::{Command, railgun};
 use rg_real::{Access, FileSource, FolderHost, ReaderSource};
 use rg_report::{Report, Status};
 use std::process::ExitCode;
@@ -40,28 +30,23 @@ fn access_of(words: &[String]) -> Access
     }
 }
 
-/// Runs the program on the real outside. Words that are no text are no form of a command.
-fn start(rt: &HostRuntime) -> Status {
-    let words = match words(rt) {
-        Ok(words) => words,
-        Err(error) if error.kind() == io::ErrorKind::OutOfMemory => return Status::Memory,
-        Err(_) => Vec::new(rt.alloc()),
-    };
+/// Runs the program on the real outside, and tells standard error of a call that ended early.
+fn run_on(rt: &HostRuntime, words: &[String]) -> Status {
     let path = match words.get(1) {
         Some(path) => path.as_str(),
         None => "",
     };
-    let mut plan = FileSource::new(rt, path);
-    let mut input = ReaderSource::new(rt.stdin());
     let store = match words.get(2) {
         Some(store) => store.as_str(),
         None => path,
     };
-    let mut host = FolderHost::new(rt, rt.alloc(), store, access_of(&words), rt.stdout());
+    let mut plan = FileSource::new(rt, path);
+    let mut input = ReaderSource::new(rt.stdin());
+    let mut host = FolderHost::new(rt, rt.alloc(), store, access_of(words), rt.stdout());
     let mut refusal = None;
     let status = railgun(
         rt.alloc(),
-        &words,
+        words,
         &mut plan,
         &mut input,
         &mut host,
@@ -81,6 +66,15 @@ fn start(rt: &HostRuntime) -> Status {
         },
     );
     status
+}
+
+/// Runs the program on its words. Words that are no text are no form of a command.
+fn start(rt: &HostRuntime) -> Status {
+    match words(rt) {
+        Ok(words) => run_on(rt, &words),
+        Err(error) if error.kind() == io::ErrorKind::OutOfMemory => Status::Memory,
+        Err(_) => run_on(rt, &[]),
+    }
 }
 
 /// A file or stream, by its name, that failed for this reason.

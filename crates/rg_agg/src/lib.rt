@@ -28,6 +28,3 @@ pub use reading::{GREATEST_SIZE, put_size, read_number, read_size};
 pub use rg_metric::{Answer, Answers};
 pub use sum::Sum;
 pub use sum_sq::SumSq;
-
-#[cfg(test)]
-mod tests;

@@ -5,8 +5,6 @@ mod memory;
 mod number;
 mod put;
 mod reader;
-#[cfg(test)]
-mod tests;
 
 pub use memory::Memory;
 pub use number::{read_signed, read_whole, write_signed, write_whole};

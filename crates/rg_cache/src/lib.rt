@@ -138,6 +138,3 @@ pub fn law_touches()
     ensures { (cap : ℕ) (first more : List ℕ) →
         least_recently_used cap (reverse (least_recently_used cap first) ++ more) ≡ least_recently_used cap (first ++ more) }
 {}
-
-#[cfg(test)]
-mod tests;

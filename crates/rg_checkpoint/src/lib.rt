@@ -20,6 +20,3 @@ pub use rg_event::Texts;
 pub use rg_past::{Spot, Spots};
 pub use rg_state::{AggState, Key, Table, TableFault};
 pub use slots::Slots;
-
-#[cfg(test)]
-mod tests;

@@ -8,8 +8,6 @@ mod chunk;
 mod fault;
 mod head;
 mod open;
-#[cfg(test)]
-mod tests;
 
 pub use chunk::Chunk;
 pub use fault::ChunkFault;

@@ -9,8 +9,6 @@ mod fault;
 mod numbers;
 mod rows;
 mod series;
-#[cfg(test)]
-mod tests;
 mod values;
 mod width;
 

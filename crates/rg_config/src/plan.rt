@@ -23,9 +23,6 @@ use rg_plan::{PlanFault, TaskPlan, compile};
 use std::alloc::Global;
 use toml::Table;
 
-#[cfg(test)]
-mod tests;
-
 /// The keys of a plan file.
 const TOP_KEYS: [&str; 3] = ["queries", "stream", "settings"];
 

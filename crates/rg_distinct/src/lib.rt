@@ -5,6 +5,3 @@ mod distinct;
 
 pub use distinct::Distinct;
 pub use rg_agg::Aggregate;
-
-#[cfg(test)]
-mod tests;

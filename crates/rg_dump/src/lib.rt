@@ -13,6 +13,3 @@ mod row;
 pub use fault::DumpFault;
 pub use frames::dump;
 pub use law::law_dump;
-
-#[cfg(test)]
-mod tests;

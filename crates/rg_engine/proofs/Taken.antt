@@ -1,5 +1,5 @@
 -- One event more.
-use Rattle.std.proofs.Common.{◌≡◌, ◌<◌, ℕ, List, [], ◌∷◌, ◌++◌, length, slice_get, get_or, All, flat_map, Some, true, refl, ap, sym, ◌∙◌, subst, arith, append_assoc}
+use Rattle.std.proofs.Common.{◌≡◌, ◌<◌, ℕ, List, [], ◌∷◌, ◌++◌, length, slice_get, get_or, All, flat_map, Some, Ok, Err, IsErrOf, inl, inr, true, refl, ap, sym, ◌∙◌, subst, arith, append_assoc}
 use Rattle.std.proofs.lemmas.List.{length-map}
 use Rattle.std.proofs.lemmas.List.Elements.{All-head, All-tail, All-nil, All-append}
 use Rattle.std.proofs.lemmas.Option.{slice_get-get_or, slice_get_within}
@@ -16,12 +16,16 @@ use Rattle.rg_plan.specs.Whole.{IsWhole}
 use Rattle.rg_state.specs.Rows.{Cells, Same}
 use Rattle.rg_window.specs.Placed.{Placed, AreWithin, IsSpelledAt, numbers_of}
 use Rattle.rg_engine.specs.declared.part.FilterPart.{FilterPart}
+use Rattle.rg_engine.specs.Accepting.{IsRefusal}
 use Rattle.rg_engine.specs.Answering.{node_answers, nodes_asked}
 use Rattle.rg_engine.specs.Building.{IsBuilt}
 use Rattle.rg_engine.specs.Carrying.{CarriesOn, EdgesMove, is_ending}
 use Rattle.rg_engine.specs.declared.fault.EngineFault.{EngineFault}
 use Rattle.rg_engine.specs.declared.fault.EngineFault.TheVariants as fault
+use Rattle.rg_past.specs.declared.past.PastFault.{PastFault}
 use Rattle.rg_past.specs.declared.past.PastFault.TheVariants as past
+use Rattle.rg_past.specs.Keeping.{HasCause}
+use Rattle.rg_engine.specs.Faults.{RefusesAlways}
 use Rattle.rg_engine.specs.Feeding.{IsFed}
 use Rattle.rg_engine.specs.Parts.{ArePartsOf}
 use Rattle.rg_engine.specs.Standing.{RowIs, IsTold, NodeStands}
@@ -117,6 +121,51 @@ ends_true (fault.BadState node) other = refl
 ends_true fault.Memory other = refl
 ends_true fault.Ended other = refl
 ends_true fault.Table other = refl
+
+pub not_err : {A E : Type 0} {x : A} {e : E} → IsErrOf (Ok x) e → ⊥
+not_err is = cc
+
+pub full_is_not_ended : past.Full ≡ past.Ended → ⊥
+full_is_not_ended e = cc
+
+-- what a past refuses, by its causes
+pub refused_by : (had_ended is_full : Type 0) (cause : PastFault) → (cause ≡ past.Ended → had_ended) → (cause ≡ past.Full → (had_ended → ⊥) × is_full) → (cause ≡ past.Disk → ⊥) → ((place : ℕ) → cause ≡ past.Damaged place → ⊥) → IsRefusal had_ended is_full (fault.Past cause)
+refused_by had_ended is_full past.Disk ended full disk damaged = absurd (disk refl)
+refused_by had_ended is_full (past.Damaged place) ended full disk damaged = absurd (damaged place refl)
+refused_by had_ended is_full past.Full ended full disk damaged = full refl
+refused_by had_ended is_full past.Memory ended full disk damaged = tt
+refused_by had_ended is_full past.Ended ended full disk damaged = ended refl
+
+-- A refusal before any row is changed is for want of memory, or that of the past, with its cause.
+pub not_bad : (had_ended is_full : Type 0) (cause : EngineFault) (n : ℕ) → IsRefusal had_ended is_full cause → cause ≡ fault.BadState n → ⊥
+not_bad had_ended is_full cause n refused is = subst (IsRefusal had_ended is_full) is refused
+
+pub not_damaged : (had_ended is_full : Type 0) (cause : EngineFault) (place : ℕ) → IsRefusal had_ended is_full cause → cause ≡ fault.Past (past.Damaged place) → ⊥
+not_damaged had_ended is_full cause place refused is = subst (IsRefusal had_ended is_full) is refused
+
+pub not_table : (had_ended is_full : Type 0) (cause : EngineFault) → IsRefusal had_ended is_full cause → cause ≡ fault.Table → ⊥
+not_table had_ended is_full cause refused is = subst (IsRefusal had_ended is_full) is refused
+
+pub not_ended : (had_ended is_full : Type 0) (cause : EngineFault) → IsRefusal had_ended is_full cause → cause ≡ fault.Ended → ⊥
+not_ended had_ended is_full cause refused is = subst (IsRefusal had_ended is_full) is refused
+
+pub refused_always : {A : Type 0} (had_ended is_full : Type 0) (cause : EngineFault) → IsRefusal had_ended is_full cause → RefusesAlways {A = A} had_ended is_full (Err cause)
+refused_always had_ended is_full fault.Memory refused = (λ ended. inr (inl refl), λ going full. inr (inl refl))
+refused_always had_ended is_full (fault.Past past.Memory) refused = (λ ended. inr (inr refl), λ going full. inr (inr refl))
+refused_always had_ended is_full (fault.Past past.Ended) refused = (λ ended. inl refl, λ going full. absurd (going refused))
+refused_always had_ended is_full (fault.Past past.Full) refused = (λ ended. absurd (refused.0 ended), λ going full. inl refl)
+refused_always had_ended is_full (fault.Past past.Disk) refused = absurd refused
+refused_always had_ended is_full (fault.Past (past.Damaged place)) refused = absurd refused
+refused_always had_ended is_full (fault.BadState node) refused = absurd refused
+refused_always had_ended is_full fault.Ended refused = absurd refused
+refused_always had_ended is_full fault.Table refused = absurd refused
+
+pub refused_cause : (IsIllegal : ℕ → Type 0) (is_full had_ended : Type 0) (before after : ℕ) (cause : PastFault) → IsRefusal had_ended is_full (fault.Past cause) → HasCause IsIllegal is_full had_ended before after cause
+refused_cause IsIllegal is_full had_ended before after past.Disk refused = absurd refused
+refused_cause IsIllegal is_full had_ended before after (past.Damaged place) refused = absurd refused
+refused_cause IsIllegal is_full had_ended before after past.Full refused = refused.1
+refused_cause IsIllegal is_full had_ended before after past.Memory refused = tt
+refused_cause IsIllegal is_full had_ended before after past.Ended refused = refused
 
 all_last : (P : Event → Type 0) (events : List Event) (e : Event) → All P (events ++ e ∷ []) → P e
 all_last P [] e all = All-head P e [] all

@@ -5,6 +5,7 @@ pub mod Faults
 pub mod Feeding
 pub mod Standing
 pub mod Passed
+pub mod Accepting
 pub mod Answering
 pub mod Building
 pub mod Deeds

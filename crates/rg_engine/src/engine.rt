@@ -1,4 +1,4 @@
-ghost use Rattle.std.specs.Prelude.{◌≡◌, ◌↔◌, ◌⊎◌, ℕ, ◌+◌, ◌≤◌, ◌<◌, List, [], ◌∷◌, ◌++◌, length, true, false, Some, slice_get, All, IfOk, IfErr, OnOk, IsErrOf};
+ghost use Rattle.std.specs.Prelude.{◌≡◌, ◌↔◌, ◌⊎◌, ℕ, ◌+◌, ◌≤◌, ◌<◌, List, [], ◌∷◌, ◌++◌, length, true, false, Some, slice_get, All, IfOk, IfErr, OnOk, IsErrOf, vec_capacity};
 ghost use Rattle.std.specs.Result.{is_err};
 ghost use Rattle.std.specs.Borrow.{Lends, follows, sem};
 ghost use Rattle.rg_bytes.specs.Counts.{Rose};
@@ -11,6 +11,7 @@ ghost use Rattle.rg_plan.specs.Plans.{plan_for};
 ghost use Rattle.rg_state.specs.Keeping.{TableKept};
 ghost use Rattle.rg_window.specs.Placed.{AreWithin, IsSpelledAt, numbers_of};
 ghost use Rattle.rg_engine.specs.contracts.engine.Engine.{the_row};
+ghost use Rattle.rg_engine.specs.Accepting.{IsPrepared, IsAccepted};
 ghost use Rattle.rg_engine.specs.Carrying.{CarriesOn, EdgesMove, Appends, ends_by};
 ghost use Rattle.rg_engine.specs.Faults.{WantsMemory, RefusesAlways};
 ghost use Rattle.rg_engine.specs.Passed.{AreAtPositions, passed_count};
@@ -19,14 +20,14 @@ ghost use Rattle.rg_engine.specs.Standing.{IsAtPosition, NodeStands, come};
 use crate::answering::{answer_each, make_keys, make_room};
 use crate::building::set_up;
 use crate::changer::Rows;
-use crate::fault::{EngineFault, table_fault};
+use crate::fault::{EngineFault, is_ending, table_fault};
 use crate::moving::move_rows;
 use rg_bytes::Memory;
 use rg_event::{Event, Steps};
 use rg_group::Key;
 use rg_metric::{Answer, Answers};
 use rg_past::{Past, PastFault, Spot};
-use rg_plan::TaskPlan;
+use rg_plan::{GroupNode, TaskPlan};
 use rg_state::Table;
 use rg_window::Edges;
 use std::alloc::Global;
@@ -168,24 +169,23 @@ impl<T: Table> Engine<T> {
         ensures rows { TableKept T.tells T.faults self.old.table self.new.table }
     {
         if self.ended {
+            drop(event);
             return Err(EngineFault::Ended);
         }
         self.ended = true;
-        match make_keys(&mut self.keys, self.plan.groups(), &event) {
-            Err(_) => return Err(EngineFault::Memory),
-            Ok(()) => {}
-        }
-        match make_room(&mut self.spare, self.nodes.len()) {
-            Err(_) => return Err(EngineFault::Memory),
-            Ok(()) => {}
-        }
         let time = event.time;
-        match past.append(event) {
-            Err(PastFault::Full) => {
-                self.ended = false;
-                return Err(EngineFault::Past(PastFault::Full));
+        match accept(
+            past,
+            event,
+            self.plan.groups(),
+            &mut self.keys,
+            self.nodes.len(),
+            &mut self.spare,
+        ) {
+            Err(fault) => {
+                self.ended = is_ending(fault);
+                return Err(fault);
             }
-            Err(fault) => return Err(EngineFault::Past(fault)),
             Ok(()) => {}
         }
         match move_rows(
@@ -326,5 +326,37 @@ impl<T: Table> Engine<T> {
         let Engine { rows, .. } = self;
         let Rows { table, .. } = rows;
         table
+    }
+}
+
+/// Appends an event to a past, once its key at each group node is made and a list has room for so many
+/// answers to it.
+fn accept<P: Past>(
+    past: &mut P,
+    event: Event,
+    groups: &[GroupNode],
+    keys: &mut Vec<Key>,
+    count: usize,
+    answers: &mut Vec<Answer>,
+) -> Result<(), EngineFault>
+    requires keys { length keys.old.items ≡ length groups.now }
+    requires room { P.has_room past.old }
+    requires fits { P.fits past.old event }
+    requires follows { P.sound past.old → (P.ended past.old → ⊥) → MayFollow (P.events past.old) event }
+    ensures prepared { IsPrepared groups.now event count result keys.old.items keys.new.items answers.new.items (vec_capacity answers.new) }
+    ensures accepted { IsAccepted event (P.ended past.old) (P.limit past.old) (P.events past.old) (P.events past.new) (P.has_room past.old) (P.has_room past.new) result }
+    ensures past { Kept P.goes P.sound P.ended P.faults past.old past.new }
+{
+    match make_keys(keys, groups, &event) {
+        Err(_) => return Err(EngineFault::Memory),
+        Ok(()) => {}
+    }
+    match make_room(answers, count) {
+        Err(_) => return Err(EngineFault::Memory),
+        Ok(()) => {}
+    }
+    match past.append(event) {
+        Err(fault) => return Err(EngineFault::Past(fault)),
+        Ok(()) => Ok(()),
     }
 }

@@ -1,5 +1,6 @@
 ghost use Rattle.std.specs.Prelude.{◌≡◌, ℕ};
 ghost use Rattle.rg_past.specs.declared.past.PastFault.{PastFault};
+ghost use Rattle.rg_engine.specs.Carrying.{is_ending};
 ghost use Rattle.rg_engine.specs.Faults.{table_fault_of, move_fault_of};
 
 use rg_past::PastFault;
@@ -47,5 +48,19 @@ pub(crate) fn move_fault(fault: MoveFault<TableFault>) -> EngineFault
     match fault {
         MoveFault::Past(fault) => EngineFault::Past(fault),
         MoveFault::Visit(fault) => table_fault(fault),
+    }
+}
+
+/// Whether a refusal ends the engine: each does, but that of a full past.
+pub(crate) fn is_ending(fault: EngineFault) -> bool
+    ensures ends { result ≡ is_ending fault }
+{
+    match fault {
+        EngineFault::Past(PastFault::Full) => false,
+        EngineFault::Past(_) => true,
+        EngineFault::BadState(_) => true,
+        EngineFault::Memory => true,
+        EngineFault::Ended => true,
+        EngineFault::Table => true,
     }
 }

@@ -15,6 +15,3 @@ mod tree;
 pub use engine::Engine;
 pub use fault::EngineFault;
 pub use law::law_serves;
-
-#[cfg(test)]
-mod tests;

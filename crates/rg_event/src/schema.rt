@@ -9,8 +9,6 @@ use std::alloc::{AllocFailed, Global};
 use std::marker::Model;
 
 mod parse;
-#[cfg(test)]
-mod tests;
 
 /// Why a text gives no schema.
 #[derive(Clone, Copy, Debug, PartialEq, Eq, Hash)]

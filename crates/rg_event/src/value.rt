@@ -193,23 +193,3 @@ impl Values {
         self.list
     }
 }
-
-#[cfg(test)]
-mod tests {
-    use super::Value;
-    use std::cmp::Ordering;
-
-    #[test]
-    fn values_go_by_their_tagged_bytes(rt: HostRuntime) {
-        let table: [(Value, Value, Ordering); 5] = [
-            (Value::Int(1), Value::Int(-1), Ordering::Less),
-            (Value::Int(-2), Value::Int(-1), Ordering::Less),
-            (Value::Int(-1), Value::Id(0), Ordering::Less),
-            (Value::Flag(true), Value::Flag(false), Ordering::Greater),
-            (Value::Id(7), Value::Id(7), Ordering::Equal),
-        ];
-        for (first, second, want) in table {
-            assert_eq!(rt; first.cmp(&second), want, "at {first:?}");
-        }
-    }
-}

@@ -124,37 +124,3 @@ fn is_word(text: &[u8]) -> bool
 {
     text.len() <= LONGEST_TEXT && str::from_utf8(text).is_ok()
 }
-
-#[cfg(test)]
-mod tests {
-    use super::Word;
-    use rg_bytes::Memory;
-    use std::alloc::Global;
-    use std::cmp::Ordering;
-
-    /// How two texts compare; none where one of them is no text.
-    fn order(alloc: Global, first: &[u8], second: &[u8]) -> Result<Option<Ordering>, Memory> {
-        match (Word::new(alloc, first)?, Word::new(alloc, second)?) {
-            (Some(first), Some(second)) => Ok(Some(first.cmp(&second))),
-            _ => Ok(None),
-        }
-    }
-
-    #[test]
-    fn a_shorter_text_comes_first(rt: HostRuntime) -> Result<(), Memory> {
-        let table: [(&[u8], &[u8], Ordering); 4] = [
-            (b"b", b"aa", Ordering::Less),
-            (b"ab", b"aa", Ordering::Greater),
-            (b"aa", b"aa", Ordering::Equal),
-            (b"", b"a", Ordering::Less),
-        ];
-        for (first, second, want) in table {
-            assert_eq!(rt;
-                order(rt.alloc(), first, second)?,
-                Some(want),
-                "at {first:?}"
-            );
-        }
-        Ok(())
-    }
-}

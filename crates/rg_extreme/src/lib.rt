@@ -14,6 +14,3 @@ mod side;
 pub use max::Max;
 pub use min::Min;
 pub use rg_agg::Aggregate;
-
-#[cfg(test)]
-mod tests;

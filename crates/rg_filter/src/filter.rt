@@ -76,6 +76,3 @@ fn condition_holds(condition: &Condition, event: &Event) -> bool
         }
     }
 }
-
-#[cfg(test)]
-mod tests;

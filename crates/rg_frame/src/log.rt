@@ -267,6 +267,3 @@ fn smaller(room: usize, size: u64) -> usize
         size as usize
     }
 }
-
-#[cfg(test)]
-mod tests;

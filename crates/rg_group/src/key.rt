@@ -227,6 +227,3 @@ fn put_part(column: u32, event: &Event, out: &mut Vec<u8>) -> Result<(), Memory>
         Some(value) => put_tagged(value, out),
     }
 }
-
-#[cfg(test)]
-mod tests;

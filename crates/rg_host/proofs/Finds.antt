@@ -93,3 +93,11 @@ all_spent false held taken ended none = omega (arith, ap (λ (v : List ℕ). len
 -- no byte is LF, where none of those that are held is
 pub no_lf-pending : (skipping : Bool) (held : List ℕ) (taken : ℕ) (ended : Bool) → HasNoLf held → HasNoLf (reading_at skipping held taken ended).pending
 no_lf-pending skipping held taken ended no_lf = no_lf-append (prefix skipping) held (no_lf-prefix skipping) no_lf
+
+-- bytes with an LF
+no_lf_not : (x y : List ℕ) → HasNoLf (x ++ 10 ∷ y) → ⊥
+no_lf_not [] y no_lf = cc
+no_lf_not (byte ∷ x) y no_lf = no_lf_not x y no_lf.1
+
+pub lf_found : (bytes x y : List ℕ) → bytes ≡ x ++ 10 ∷ y → HasNoLf bytes → ⊥
+lf_found bytes x y is no_lf = no_lf_not x y (subst HasNoLf is no_lf)

@@ -1,4 +1,4 @@
-ghost use Rattle.std.specs.Prelude.{◌≡◌, ℕ, ◌+◌, ◌<◌, ◌≤◌, ◌∷◌, ◌++◌, [], length, take, slice_range, IfOk, OnErr, OnSome, IfSome, IfNone};
+ghost use Rattle.std.specs.Prelude.{◌≡◌, ℕ, ◌+◌, ◌<◌, ◌≤◌, ◌∷◌, ◌++◌, [], length, take, slice_range, true, false, IfOk, OnErr, OnSome, IfSome, IfNone};
 ghost use Rattle.rg_bytes.specs.Counts.{Rose};
 ghost use Rattle.rg_bytes.specs.Known.{before, IsAtEnd};
 ghost use Rattle.rg_host.specs.Buffered.{Fills};
@@ -74,6 +74,17 @@ impl Buffer {
         ensures { result.now ≡ self.now.line }
     {
         &self.bytes[self.line_start..self.line_end]
+    }
+
+    /// Whether a line that LF ends is pending.
+    pub fn has_line(&self) -> bool
+        ensures none { result ≡ false → HasNoLf self.now.pending }
+        ensures some { result ≡ true → ¬ HasNoLf self.now.pending }
+    {
+        match memchr(b'\n', &self.bytes[self.searched..self.end]) {
+            None => false,
+            Some(_) => true,
+        }
     }
 
     /// Cuts off the first line that LF ends, and answers its length in bytes.

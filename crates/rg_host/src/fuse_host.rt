@@ -212,6 +212,3 @@ impl<H: Host> Host for FuseHost<H> {
         self.inner.put(bytes)
     }
 }
-
-#[cfg(test)]
-mod tests;

@@ -1,5 +1,6 @@
 ghost use Rattle.std.specs.Prelude.{◌≡◌, ◌<◌, ◌≤◌, ◌^◌, [], true, false, IfOk, IsErrOf};
 ghost use Rattle.rg_bytes.specs.Counts.{Rose};
+ghost use Rattle.rg_host.specs.Lines.{HasNoLf};
 
 use crate::scanner::{Found, Scanner};
 use crate::source::Source;
@@ -58,6 +59,15 @@ impl Lines {
         Ok(Lines { scanner })
     }
 
+    /// Whether a line that LF ends has come whole: then `next` hands it out and asks the source for
+    /// nothing.
+    pub fn has_line(&self) -> bool
+        ensures none { result ≡ false → HasNoLf self.now.pending }
+        ensures some { result ≡ true → ¬ HasNoLf self.now.pending }
+    {
+        self.scanner.has_line()
+    }
+
     /// Hands out the next line of the source, without its LF. A last text without LF is a line
     /// where it has a byte. At most 2^50 bytes are taken, and no memory. After `Read` the same
     /// lines are to come. Once the source was at its end, or gave a byte past the limit, it is
@@ -68,6 +78,7 @@ impl Lines {
         ensures later { S.faults src.old ≤ S.faults src.new }
         ensures after_end { self.old.ended ≡ true → src.new ≡ src.old }
         ensures after_limit { 2 ^ 50 < self.old.taken → src.new ≡ src.old }
+        ensures held { ¬ HasNoLf self.old.pending → src.new ≡ src.old }
     {
         match self.scanner.load(src) {
             Err(fault) => Err(fault),
@@ -77,6 +88,3 @@ impl Lines {
         }
     }
 }
-
-#[cfg(test)]
-mod tests;

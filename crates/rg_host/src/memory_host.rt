@@ -360,6 +360,3 @@ impl Host for MemHost {
         Ok(bytes.len())
     }
 }
-
-#[cfg(test)]
-mod tests;

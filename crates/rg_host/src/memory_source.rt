@@ -93,34 +93,3 @@ impl Source for MemSource {
         Ok(count)
     }
 }
-
-#[cfg(test)]
-mod tests {
-    use super::*;
-    use crate::source::{AllFault, read_all};
-    use std::alloc::{AllocError, Global};
-    use std::test::Fail;
-
-    /// 10,000 bytes, which are read in two pieces and a last call that finds the end.
-    fn bytes(alloc: Global) -> Result<Vec<u8>, AllocError> {
-        vec![in alloc; 7; 10_000]
-    }
-
-    #[test]
-    fn reads_all_up_to_the_limit(rt: HostRuntime) -> Result<(), Fail> {
-        let alloc = rt.alloc();
-
-        let mut source = MemSource::new(bytes(alloc)?, vec![in alloc; 3]?);
-        let all = read_all(alloc, &mut source, 10_000)?;
-        assert!(rt; all == bytes(alloc)?);
-
-        let mut source = MemSource::new(bytes(alloc)?, Vec::new(alloc));
-        let refused = read_all(alloc, &mut source, 9_999).err();
-        assert_eq!(rt; refused, Some(AllFault::Limit));
-
-        let mut source = MemSource::new(bytes(alloc)?, vec![in alloc; 2]?);
-        let refused = read_all(alloc, &mut source, 10_000).err();
-        assert_eq!(rt; refused, Some(AllFault::Read));
-        Ok(())
-    }
-}

@@ -84,6 +84,14 @@ impl Scanner {
         self.buffer.line()
     }
 
+    /// Whether a line has come whole.
+    pub fn has_line(&self) -> bool
+        ensures none { result ≡ false → HasNoLf self.now.reading.pending }
+        ensures some { result ≡ true → ¬ HasNoLf self.now.reading.pending }
+    {
+        self.buffer.has_line()
+    }
+
     /// Finds a line that has come whole.
     fn find(&mut self) -> Option<Found>
         ensures line { IfSome result (λ found. MatchOption (handed_by found self.new.line) ⊥ (λ item. Cuts self.old.reading self.new.reading item)) }
@@ -181,6 +189,7 @@ impl Scanner {
         ensures next { Loads self.old.reading self.new.reading self.new.line (S.left src.old) (S.left src.new) result }
         ensures cause { IsErrOf result LineFault.Read → Rose (S.faults src.old) (S.faults src.new) }
         ensures later { S.faults src.old ≤ S.faults src.new }
+        ensures held { ¬ HasNoLf self.old.reading.pending → src.new ≡ src.old }
     {
         'lines: loop {
             if let Some(found) = self.find() {
@@ -201,6 +210,7 @@ impl Scanner {
         ensures later { S.faults src.old ≤ S.faults src.new }
         ensures after_end { self.old.reading.ended ≡ true → src.new ≡ src.old }
         ensures after_limit { 2 ^ 50 < self.old.reading.taken → src.new ≡ src.old }
+        ensures held { ¬ HasNoLf self.old.reading.pending → src.new ≡ src.old }
     {
         if self.ended {
             return Ok(Found::End);

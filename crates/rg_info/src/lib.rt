@@ -14,6 +14,3 @@ mod text;
 pub use fault::InfoFault;
 pub use law::law_info;
 pub use print::info;
-
-#[cfg(test)]
-mod tests;

@@ -11,6 +11,3 @@ mod listing;
 
 pub use checking::check;
 pub use fault::CheckFault;
-
-#[cfg(test)]
-mod tests;

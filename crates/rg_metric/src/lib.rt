@@ -17,6 +17,3 @@ pub use condition::Condition;
 pub use query::{Agg, Aggs, Columns, Query, Window};
 pub use reply::Reply;
 pub use rg_words::{Func, Op};
-
-#[cfg(test)]
-mod tests;

@@ -103,6 +103,10 @@ pub(crate) fn find<H: Host>(alloc: Global, host: &mut H, plan: &Plan) -> Result<
             slots,
             saved,
         }),
-        Err(fault) => Err(OpenFault::from(fault)),
+        Err(fault) => {
+            drop(slots);
+            drop(saved);
+            Err(OpenFault::from(fault))
+        }
     }
 }

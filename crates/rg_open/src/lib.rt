@@ -11,8 +11,6 @@ mod law;
 mod opening;
 mod settling;
 mod starting;
-#[cfg(test)]
-mod tests;
 
 pub use fault::OpenFault;
 pub use law::law_from;

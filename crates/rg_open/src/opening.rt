@@ -149,15 +149,18 @@ fn open_settled<H: Host, T: Table, L: Ledger>(
     ensures disk_faults { H.disk_faults host.old ≤ H.disk_faults host.new }
     ensures out_faults { H.out_faults host.new ≡ H.out_faults host.old }
 {
+    let found = match find(alloc, host, plan) {
+        Ok(found) => found,
+        Err(fault) => {
+            drop(copies);
+            return Err((fault, table));
+        }
+    };
     let Copies {
         schema,
         texts,
         task,
     } = copies;
-    let found = match find(alloc, host, plan) {
-        Ok(found) => found,
-        Err(fault) => return Err((fault, table)),
-    };
     let slots = found.slots;
     let saved = found.saved;
     let mut reservoir = found.reservoir;
@@ -181,7 +184,13 @@ fn open_settled<H: Host, T: Table, L: Ledger>(
                 resumed,
             ))
         }
-        Err(refused) => Err(refused),
+        Err(refused) => {
+            drop(schema);
+            drop(texts);
+            drop(reservoir);
+            drop(slots);
+            Err(refused)
+        }
     }
 }
 

@@ -10,8 +10,6 @@ mod select;
 mod state;
 mod step;
 mod syntax;
-#[cfg(test)]
-mod tests;
 mod token;
 mod window;
 

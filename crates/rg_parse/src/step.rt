@@ -50,7 +50,10 @@ pub fn step(alloc: Global, text: &[u8], state: State, token: Token) -> Result<St
         State::DelayBy(windowed) => step_delay_by(windowed, token),
         State::Delay(windowed) => step_delay(text, windowed, token),
         State::DelayUnit(windowed, number) => step_delay_unit(text, windowed, number, token),
-        State::End(_) => Err(Refusal::Syntax),
+        State::End(raw) => {
+            drop(raw);
+            Err(Refusal::Syntax)
+        }
     }
 }
 
@@ -62,6 +65,9 @@ pub fn finish(state: State) -> Option<Raw>
     match state {
         State::AfterWindow(windowed) => Some(finished(windowed, None)),
         State::End(raw) => Some(raw),
-        _ => None,
+        other => {
+            drop(other);
+            None
+        }
     }
 }

@@ -172,6 +172,3 @@ fn event_at(events: &[Event], number: u64) -> Option<&Event>
 {
     events.get(number as usize)
 }
-
-#[cfg(test)]
-mod tests;

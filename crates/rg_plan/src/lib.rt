@@ -21,6 +21,3 @@ pub use fault::PlanFault;
 pub use node::{AggNode, FilterNode, GroupNode};
 pub use plan::{TaskPlan, compile};
 pub use size::{MAX_AGGS, MAX_COLUMNS, MAX_QUERIES};
-
-#[cfg(test)]
-mod tests;

@@ -1,9 +1,9 @@
-ghost use Rattle.std.specs.Prelude.{◌≡◌, ◌↔◌, map, option_map, length, slice_get, option_copied, List, None, All, IfOk, IfErr, OnOk};
+ghost use Rattle.std.specs.Prelude.{◌≡◌, ◌↔◌, map, flat_map, option_map, length, slice_get, option_copied, List, None, All, IfOk, IfErr, OnOk};
 ghost use Rattle.rg_metric.specs.Queries.{asked, Asked};
 ghost use Rattle.rg_plan.specs.Beginnings.{AreBegun};
 ghost use Rattle.rg_plan.specs.Nodes.{filtered};
 ghost use Rattle.rg_plan.specs.Named.{IsMade, HasAgg, node_at, nodes_of, asked_by, asked_agg, asked_node};
-ghost use Rattle.rg_plan.specs.Offsets.{IsMeasured, AreRising};
+ghost use Rattle.rg_plan.specs.Offsets.{IsMeasured, AreRising, offsets_of as offsets_at, rising};
 ghost use Rattle.rg_plan.specs.Plans.{plan_for, path_at, excess, fault_of};
 ghost use Rattle.rg_plan.specs.Whole.{IsWhole};
 
@@ -14,6 +14,7 @@ use crate::number::in_order;
 use crate::offset::offsets_of;
 use crate::path::Path;
 use crate::size::first_too_many;
+use indexmap::IndexSet;
 use rg_bytes::Memory;
 use rg_metric::{Query, Window};
 use std::alloc::Global;
@@ -81,18 +82,62 @@ fn plan_of(alloc: Global, queries: &[Query]) -> Result<TaskPlan, Memory>
     ensures { IfOk result (λ plan. plan ≡ plan_for (map asked queries.now)) }
 {
     let levels = levels_of(alloc, queries)?;
-    let windows = in_order(alloc, levels.windows)?;
-    let filters = in_order(alloc, levels.filters)?;
-    let groups = in_order(alloc, levels.groups)?;
-    let aggs = in_order(alloc, levels.aggs)?;
-    let offsets = offsets_of(alloc, &windows)?;
+    let timed = timed_of(alloc, levels.windows)?;
+    let nodes = nodes_below(alloc, levels.filters, levels.groups, levels.aggs)?;
     Ok(TaskPlan {
-        offsets,
-        windows,
+        offsets: timed.offsets,
+        windows: timed.windows,
+        filters: nodes.filters,
+        groups: nodes.groups,
+        aggs: nodes.aggs,
+        paths: levels.paths,
+    })
+}
+
+/// Some windows and their offsets.
+#[derive(Drop)]
+struct Timed {
+    windows: Vec<Window>,
+    offsets: Vec<u64>,
+}
+
+/// The members, in order, and their offsets.
+fn timed_of(alloc: Global, members: IndexSet<Window>) -> Result<Timed, Memory>
+    requires { All IsMeasured members.keys }
+    ensures windows { IfOk result (λ timed. timed.windows.items ≡ members.keys) }
+    ensures offsets { IfOk result (λ timed. timed.offsets.items ≡ rising (flat_map offsets_at members.keys)) }
+{
+    let windows = in_order(alloc, members)?;
+    let offsets = offsets_of(alloc, &windows)?;
+    Ok(Timed { windows, offsets })
+}
+
+/// The nodes below some windows.
+#[derive(Drop)]
+struct Nodes {
+    filters: Vec<FilterNode>,
+    groups: Vec<GroupNode>,
+    aggs: Vec<AggNode>,
+}
+
+/// The members, in order.
+fn nodes_below(
+    alloc: Global,
+    filters: IndexSet<FilterNode>,
+    groups: IndexSet<GroupNode>,
+    aggs: IndexSet<AggNode>,
+) -> Result<Nodes, Memory>
+    ensures filters { IfOk result (λ nodes. nodes.filters.items ≡ filters.keys) }
+    ensures groups { IfOk result (λ nodes. nodes.groups.items ≡ groups.keys) }
+    ensures aggs { IfOk result (λ nodes. nodes.aggs.items ≡ aggs.keys) }
+{
+    let filters = in_order(alloc, filters)?;
+    let groups = in_order(alloc, groups)?;
+    let aggs = in_order(alloc, aggs)?;
+    Ok(Nodes {
         filters,
         groups,
         aggs,
-        paths: levels.paths,
     })
 }
 

@@ -17,9 +17,6 @@ use rg_metric::Query;
 use rg_parse::{Raw, SyntaxFault, read_syntax};
 use std::alloc::Global;
 
-#[cfg(test)]
-mod tests;
-
 /// The most bytes of a query's text.
 const LONGEST_TEXT: usize = 4_096;
 

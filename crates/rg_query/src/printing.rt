@@ -11,9 +11,6 @@ use rg_event::{Field, Schema, Value};
 use rg_metric::{Agg, Condition, Query, Window};
 use rg_words::Op;
 
-#[cfg(test)]
-mod tests;
-
 /// Where a condition stands in another.
 #[derive(Clone, Copy, Debug, PartialEq, Eq)]
 pub(crate) enum Side {

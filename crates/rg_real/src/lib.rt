@@ -17,6 +17,3 @@ mod source;
 pub use files::{Access, Hold};
 pub use folder::FolderHost;
 pub use source::{FileSource, ReaderSource};
-
-#[cfg(test)]
-mod tests;

@@ -40,6 +40,3 @@ impl fmt::Display for Report<'_> {
         }
     }
 }
-
-#[cfg(test)]
-mod tests;

@@ -23,6 +23,3 @@ pub use law::law_spells;
 pub use reservoir::Reservoir;
 pub use stored::Stored;
 pub use walk::{Stage, Walk};
-
-#[cfg(test)]
-mod tests;

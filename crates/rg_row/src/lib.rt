@@ -5,8 +5,6 @@ mod fault;
 mod line;
 mod quotes;
 mod row;
-#[cfg(test)]
-mod tests;
 mod texts;
 
 pub use fault::RowFault;

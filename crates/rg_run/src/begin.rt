@@ -94,14 +94,21 @@ pub(crate) fn begin<H: Host, L: Ledger>(
 {
     let (session, resumed) = match Session::resume(alloc, host, plan, MemTable::new(alloc), steps) {
         Ok(opened) => opened,
-        Err((fault, _)) => return Err(opening_fault(fault)),
+        Err((fault, table)) => {
+            drop(table);
+            return Err(opening_fault(fault));
+        }
     };
     if first > resumed.next {
+        drop(session);
         return Err(RunFault::Gap(resumed.next));
     }
     let opened = Mark::Opened(resumed.next, resumed.count, resumed.from);
     match put_mark(alloc, host, opened) {
         Ok(()) => Ok(Turning::new(alloc, session, first)),
-        Err(fault) => Err(fault),
+        Err(fault) => {
+            drop(session);
+            Err(fault)
+        }
     }
 }

@@ -88,10 +88,21 @@ pub fn run<I: Source, H: Host, L: Ledger>(
     };
     let mut turning = match begin(alloc, host, plan, first, steps) {
         Ok(turning) => turning,
-        Err(fault) => return Err(fault),
+        Err(fault) => {
+            drop(lines);
+            return Err(fault);
+        }
     };
     match answer_lines(&mut lines, &mut turning, plan, input, host, steps) {
-        Ok(()) => Ok(()),
-        Err(fault) => Err(fault),
+        Ok(()) => {
+            drop(turning);
+            drop(lines);
+            Ok(())
+        }
+        Err(fault) => {
+            drop(turning);
+            drop(lines);
+            Err(fault)
+        }
     }
 }

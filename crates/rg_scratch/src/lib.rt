@@ -15,6 +15,3 @@ mod tally;
 
 pub use answer::answer_from_scratch;
 pub use line::make_line;
-
-#[cfg(test)]
-mod tests;

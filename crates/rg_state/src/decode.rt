@@ -1,7 +1,7 @@
 ghost use Rattle.std.specs.Prelude.{◌≡◌, ◌<◌, ℕ, List, ◌∷◌, ◌++◌, [], IfSome, IsNone, IfOk, OnErr};
 ghost use Rattle.rg_agg.specs.Held.{Agrees, Returns, held_bytes};
 ghost use Rattle.rg_agg.specs.Standing.{size_in};
-ghost use Rattle.rg_state.specs.States.{held_of, state_at};
+ghost use Rattle.rg_state.specs.States.{held_of, state_at, values_tagged_at, IsRead};
 
 use crate::state::AggState;
 use rg_agg::{Aggregate, Avg, Count, First, Last, StateFault, Sum, SumSq};
@@ -33,12 +33,9 @@ impl AggState {
     }
 }
 
-/// Takes a state of the aggregator that the first byte says. A refusal leaves the reader as it was.
+/// Takes a state of the aggregator that the first byte says.
 fn read_state(alloc: Global, from: &mut ByteReader<'_>) -> Result<AggState, StateFault>
-    ensures agrees { Agrees held_of (state_at from.old) result from.new }
-    ensures ok { IfOk result (λ state. from.old ≡ held_bytes (held_of state) ++ from.new) }
-    ensures some { IfOk result (λ state. 0 < size_in (held_of state)) }
-    ensures err { OnErr result (from.new ≡ from.old) }
+    ensures { IsRead (state_at from.old) from.old result from.new }
 {
     match first_byte(from) {
         None => Err(StateFault::Short),
@@ -46,12 +43,21 @@ fn read_state(alloc: Global, from: &mut ByteReader<'_>) -> Result<AggState, Stat
         Some(2) => decoded!(Sum, alloc, from),
         Some(3) => decoded!(Avg, alloc, from),
         Some(4) => decoded!(SumSq, alloc, from),
-        Some(7) => decoded!(Distinct, alloc, from),
-        Some(8) => decoded!(First, alloc, from),
-        Some(9) => decoded!(Last, alloc, from),
-        Some(0x15) => decoded!(Min, alloc, from),
-        Some(0x16) => decoded!(Max, alloc, from),
-        Some(_) => Err(StateFault::Unfit),
+        Some(tag) => read_values(tag, alloc, from),
+    }
+}
+
+/// The same by the aggregator's tag, of those that keep values.
+fn read_values(tag: u8, alloc: Global, from: &mut ByteReader<'_>) -> Result<AggState, StateFault>
+    ensures { IsRead (values_tagged_at tag from.old) from.old result from.new }
+{
+    match tag {
+        7 => decoded!(Distinct, alloc, from),
+        8 => decoded!(First, alloc, from),
+        9 => decoded!(Last, alloc, from),
+        0x15 => decoded!(Min, alloc, from),
+        0x16 => decoded!(Max, alloc, from),
+        _ => Err(StateFault::Unfit),
     }
 }
 

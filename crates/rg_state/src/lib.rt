@@ -22,8 +22,3 @@ pub use rg_group::Key;
 pub use rg_metric::{Answer, Func};
 pub use state::AggState;
 pub use table::{Change, Table, TableFault};
-
-#[cfg(test)]
-mod per_node;
-#[cfg(test)]
-mod tests;

@@ -9,6 +9,3 @@ mod value;
 
 pub use ranked::Ranked;
 pub use tally::Tally;
-
-#[cfg(test)]
-mod tests;

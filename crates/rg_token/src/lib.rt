@@ -4,8 +4,6 @@
 mod automaton;
 mod lex;
 mod piece;
-#[cfg(test)]
-mod tests;
 
 pub use lex::{Lexed, law_layout, pieces};
 pub use piece::{Piece, Pieces, Shape};

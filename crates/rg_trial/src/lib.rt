@@ -16,6 +16,3 @@ mod trials;
 pub use fault::{PrintFault, TrialFault};
 pub use printing::print;
 pub use trials::{Trial, run_trial};
-
-#[cfg(test)]
-mod tests;

@@ -94,13 +94,19 @@ pub(crate) fn answer_line<H: Host, T: Table, L: Ledger>(
     let due = due_at(plan.commit, plan.save, before, session.count());
     match settle(session, host, due) {
         Ok(()) => {}
-        Err(fault) => return Err(TurnFault::Task(fault)),
+        Err(fault) => {
+            drop(reply);
+            return Err(TurnFault::Task(fault));
+        }
     }
     match tell(session, host, text, offset, &reply, due) {
         Ok(()) => {
             session.reuse(reply);
             Ok(())
         }
-        Err(fault) => Err(fault),
+        Err(fault) => {
+            drop(reply);
+            Err(fault)
+        }
     }
 }

@@ -14,8 +14,6 @@ mod save;
 mod settle;
 mod store;
 mod tell;
-#[cfg(test)]
-mod tests;
 mod text;
 mod turning;
 

@@ -222,6 +222,3 @@ fn has_come_to(event: &Event, offset: u64, t: u64) -> bool
 {
     offset <= t && event.time <= t - offset
 }
-
-#[cfg(test)]
-mod tests;

@@ -61,38 +61,3 @@ fn put_text(text: &[u8], out: &mut Vec<u8>) -> Result<(), Memory>
     put_u8(out, text.len() as u8)?;
     put_bytes(out, text)
 }
-
-#[cfg(test)]
-mod tests {
-    use super::*;
-    use crate::value::Values;
-    use crate::word::Word;
-    use std::test::Fail;
-
-    #[test]
-    fn an_event_is_written_behind_what_stands(rt: HostRuntime) -> Result<(), Fail> {
-        let alloc = rt.alloc();
-        let mut values = Values::new(alloc);
-        for text in [b"c1", b"m1"] {
-            if let Some(word) = Word::new(alloc, text)? {
-                values.push(Value::Text(word))?;
-            }
-        }
-        values.push(Value::Int(100))?;
-        values.push(Value::Int(-2))?;
-        values.push(Value::Id(0x0102))?;
-        values.push(Value::Flag(true))?;
-        let event = Event {
-            offset: 0,
-            time: 3,
-            values,
-        };
-        let mut out = b"x".to_vec(alloc)?;
-        encode(&event, &mut out)?;
-        assert_eq!(rt;
-            out.as_slice(),
-            b"x\0\0\0\0\0\0\0\0\0\0\0\0\0\0\0\x03\x02c1\x02m1\0\0\0\0\0\0\0\x64\xff\xff\xff\xff\xff\xff\xff\xfe\0\0\0\0\0\0\x01\x02\x01".as_slice()
-        );
-        Ok(())
-    }
-}

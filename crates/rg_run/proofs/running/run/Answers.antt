@@ -68,8 +68,8 @@ returns-in-Err-begin-clause-behind g c = λ ready keep behind.
 pub returns-in-Ok-answer_lines-clause-behind : goal.returns-in-Ok-answer_lines-clause-behind
 returns-in-Ok-answer_lines-clause-behind g c = λ ready keep behind. absurd (omega (arith, behind, c.in-Ok-begin.ensures.no_gap ready.openable.image ready.held ready.openable.told ready.has))
 
-pub returns-clause-behind : goal.returns-clause-behind
-returns-clause-behind g c = λ ready keep behind. absurd (omega (arith, behind, c.in-Ok-begin.ensures.no_gap ready.openable.image ready.held ready.openable.told ready.has))
+pub returns-in-Err-answer_lines-clause-behind : goal.returns-in-Err-answer_lines-clause-behind
+returns-in-Err-answer_lines-clause-behind g c = λ ready keep behind. absurd (omega (arith, behind, c.in-Ok-begin.ensures.no_gap ready.openable.image ready.held ready.openable.told ready.has))
 
 pub returns-in-Err-clause-unfit : goal.returns-in-Err-clause-unfit
 returns-in-Err-clause-unfit g c = λ v told unfit.
@@ -83,11 +83,11 @@ returns-in-Err-begin-clause-unfit g c = λ v told unfit.
 pub returns-in-Ok-answer_lines-clause-unfit : goal.returns-in-Ok-answer_lines-clause-unfit
 returns-in-Ok-answer_lines-clause-unfit g c = λ v told unfit. absurd (c.in-Ok-begin.ensures.exact v told unfit)
 
-pub returns-clause-unfit : goal.returns-clause-unfit
-returns-clause-unfit g c = λ v told unfit. absurd (c.in-Ok-begin.ensures.exact v told unfit)
+pub returns-in-Err-answer_lines-clause-unfit : goal.returns-in-Err-answer_lines-clause-unfit
+returns-in-Err-answer_lines-clause-unfit g c = λ v told unfit. absurd (c.in-Ok-begin.ensures.exact v told unfit)
 
-pub returns-clause-ran : goal.returns-clause-ran
-returns-clause-ran g c = λ ready all left.
+pub returns-in-Err-answer_lines-clause-ran : goal.returns-in-Err-answer_lines-clause-ran
+returns-in-Err-answer_lines-clause-ran g c = λ ready all left.
     let b = c.in-Ok-begin.ensures.begun ready all in
     let by = begun_by ready b.0 c.args.first all in
     let way = (way_first (planned c.args.plan.now) (begun_by ready b.0 c.args.first all) (g.I.Source.left c.args.input.now) c.in-Ok.lines c.in-Ok-begin.turning.offset _ _ _ _ _ c.in-Ok-begin.turning.session left c.in-Ok.ensures.pending c.in-Ok.ensures.ended c.in-Ok-begin.ensures.offset b.3.1 b.3.2) in (
@@ -106,8 +106,8 @@ returns-clause-ran g c = λ ready all left.
 pub returns-in-Err-begin-clause-never_bad : goal.returns-in-Err-begin-clause-never_bad
 returns-in-Err-begin-clause-never_bad g c = λ ready all n left is. let e : c.in-Err-begin.fault ≡ run.BadState n = cc in c.in-Err-begin.ensures.never_bad n ready (ap (λ v. Err v) e)
 
-pub returns-clause-never_bad : goal.returns-clause-never_bad
-returns-clause-never_bad g c = λ ready all n left is.
+pub returns-in-Err-answer_lines-clause-never_bad : goal.returns-in-Err-answer_lines-clause-never_bad
+returns-in-Err-answer_lines-clause-never_bad g c = λ ready all n left is.
     let b = c.in-Ok-begin.ensures.begun ready all in
     let e : c.in-Err-answer_lines.fault ≡ run.BadState n = cc in
     c.in-Err-answer_lines.ensures.never_bad (begun_by ready b.0 c.args.first all) n (way_first (planned c.args.plan.now) (begun_by ready b.0 c.args.first all) (g.I.Source.left c.args.input.now) c.in-Ok.lines c.in-Ok-begin.turning.offset _ _ _ _ _ c.in-Ok-begin.turning.session left c.in-Ok.ensures.pending c.in-Ok.ensures.ended c.in-Ok-begin.ensures.offset b.3.1 b.3.2) (ap (λ v. Err v) e)
@@ -115,8 +115,8 @@ returns-clause-never_bad g c = λ ready all n left is.
 pub returns-in-Err-begin-clause-never_damaged : goal.returns-in-Err-begin-clause-never_damaged
 returns-in-Err-begin-clause-never_damaged g c = λ ready all n left is. let e : c.in-Err-begin.fault ≡ run.Damaged n = cc in c.in-Err-begin.ensures.never_damaged n ready (ap (λ v. Err v) e)
 
-pub returns-clause-never_damaged : goal.returns-clause-never_damaged
-returns-clause-never_damaged g c = λ ready all n left is.
+pub returns-in-Err-answer_lines-clause-never_damaged : goal.returns-in-Err-answer_lines-clause-never_damaged
+returns-in-Err-answer_lines-clause-never_damaged g c = λ ready all n left is.
     let b = c.in-Ok-begin.ensures.begun ready all in
     let e : c.in-Err-answer_lines.fault ≡ run.Damaged n = cc in
     c.in-Err-answer_lines.ensures.never_damaged (begun_by ready b.0 c.args.first all) n (way_first (planned c.args.plan.now) (begun_by ready b.0 c.args.first all) (g.I.Source.left c.args.input.now) c.in-Ok.lines c.in-Ok-begin.turning.offset _ _ _ _ _ c.in-Ok-begin.turning.session left c.in-Ok.ensures.pending c.in-Ok.ensures.ended c.in-Ok-begin.ensures.offset b.3.1 b.3.2) (ap (λ v. Err v) e)
@@ -127,11 +127,11 @@ returns-in-Ok-answer_lines-clause-at_end g c = (c.answer_lines.ensures.taken (g.
 pub returns-in-Ok-answer_lines-clause-within : goal.returns-in-Ok-answer_lines-clause-within
 returns-in-Ok-answer_lines-clause-within g c = within _ _ _ (2 ^ 50) (c.answer_lines.ensures.taken (g.I.Source.left c.args.input.now) (taken_none (g.I.Source.left c.args.input.now) c.in-Ok.lines c.in-Ok.ensures.taken c.in-Ok.ensures.ended)) ((c.answer_lines.ensures.taken (g.I.Source.left c.args.input.now) (taken_none (g.I.Source.left c.args.input.now) c.in-Ok.lines c.in-Ok.ensures.taken c.in-Ok.ensures.ended)).at_end c.in-Ok-answer_lines.ensures.ended.0) c.in-Ok-answer_lines.ensures.ended.1
 
-pub returns-clause-limit : goal.returns-clause-limit
-returns-clause-limit g c = λ is. let e : c.in-Err-answer_lines.fault ≡ run.Limit = cc in longer _ _ _ (2 ^ 50) (c.answer_lines.ensures.taken (g.I.Source.left c.args.input.now) (taken_none (g.I.Source.left c.args.input.now) c.in-Ok.lines c.in-Ok.ensures.taken c.in-Ok.ensures.ended)) (c.in-Err-answer_lines.ensures.limit (ap (λ v. Err v) e))
+pub returns-in-Err-answer_lines-clause-limit : goal.returns-in-Err-answer_lines-clause-limit
+returns-in-Err-answer_lines-clause-limit g c = λ is. let e : c.in-Err-answer_lines.fault ≡ run.Limit = cc in longer _ _ _ (2 ^ 50) (c.answer_lines.ensures.taken (g.I.Source.left c.args.input.now) (taken_none (g.I.Source.left c.args.input.now) c.in-Ok.lines c.in-Ok.ensures.taken c.in-Ok.ensures.ended)) (c.in-Err-answer_lines.ensures.limit (ap (λ v. Err v) e))
 
-pub returns-clause-damaged : goal.returns-clause-damaged
-returns-clause-damaged g c = λ p is.
+pub returns-in-Err-answer_lines-clause-damaged : goal.returns-in-Err-answer_lines-clause-damaged
+returns-in-Err-answer_lines-clause-damaged g c = λ p is.
     let e : c.in-Err-answer_lines.fault ≡ run.Damaged p = cc in
     let fields = c.args.plan.now.schema.fields in
     let b = base c.answer_lines.new.turning.session.reservoir in
@@ -148,15 +148,15 @@ returns-in-Err-begin-clause-gap_next g c = λ v events n told has is. let e : c.
 pub returns-in-Err-begin-clause-bad : goal.returns-in-Err-begin-clause-bad
 returns-in-Err-begin-clause-bad g c = λ v events n told has is. let e : c.in-Err-begin.fault ≡ run.BadState n = cc in c.in-Err-begin.ensures.bad v events n told has (ap (λ f. Err f) e)
 
-pub returns-clause-bad : goal.returns-clause-bad
-returns-clause-bad g c = λ v events n told has is.
+pub returns-in-Err-answer_lines-clause-bad : goal.returns-in-Err-answer_lines-clause-bad
+returns-in-Err-answer_lines-clause-bad g c = λ v events n told has is.
     let e : c.in-Err-answer_lines.fault ≡ run.BadState n = cc in
     c.in-Ok-begin.ensures.node v events n told has (λ runs. c.in-Err-answer_lines.ensures.never_bad_node n runs (ap (λ f. Err f) e))
 
 pub returns-in-Err-begin-clause-undamaged : goal.returns-in-Err-begin-clause-undamaged
 returns-in-Err-begin-clause-undamaged g c = λ v events p told has is. let e : c.in-Err-begin.fault ≡ run.Damaged p = cc in c.in-Err-begin.ensures.undamaged v events p told has (ap (λ f. Err f) e)
 
-pub returns-clause-undamaged : goal.returns-clause-undamaged
-returns-clause-undamaged g c = λ v events p told has is.
+pub returns-in-Err-answer_lines-clause-undamaged : goal.returns-in-Err-answer_lines-clause-undamaged
+returns-in-Err-answer_lines-clause-undamaged g c = λ v events p told has is.
     let e : c.in-Err-answer_lines.fault ≡ run.Damaged p = cc in
     c.in-Err-answer_lines.ensures.undamaged p (c.in-Ok-begin.ensures.placed v events told has) (ap (λ f. Err f) e)

@@ -1,0 +1,56 @@
+use rg_bytes::Memory;
+use rg_event::{Bytes, Event, Events, Texts, Values};
+use std::alloc::Global;
+
+/// Two texts, and an empty one behind them.
+fn three_texts(alloc: Global) -> Result<Texts, Memory> {
+    let mut texts = Texts::new(alloc);
+    texts.push(Bytes::from(b"one".to_vec(alloc)?))?;
+    texts.push(Bytes::from_slice(alloc, b"two")?)?;
+    texts.push(Bytes::new(alloc))?;
+    Ok(texts)
+}
+
+#[test]
+fn texts_keep_what_is_pushed_in_order(rt: HostRuntime) -> Result<(), Memory> {
+    let texts = three_texts(rt.alloc())?;
+    let copies = texts.copy(rt.alloc())?;
+    assert_eq!(rt; copies, texts);
+    match copies.as_slice() {
+        [one, two, none] => {
+            let pushed = (one.as_slice(), two.as_slice(), none.as_slice().len());
+            assert_eq!(rt; pushed, (b"one".as_slice(), b"two".as_slice(), 0));
+        }
+        other => panic!(rt; "{other:?}"),
+    }
+    Ok(())
+}
+
+#[test]
+fn a_copy_of_texts_stays_where_its_source_grows(rt: HostRuntime) -> Result<(), Memory> {
+    let mut texts = three_texts(rt.alloc())?;
+    let copies = texts.copy(rt.alloc())?;
+    texts.push(Bytes::new(rt.alloc()))?;
+    assert!(rt; copies != texts);
+    assert_eq!(rt; Texts::from(texts.into_vec()).as_slice().len(), 4);
+    Ok(())
+}
+
+#[test]
+fn events_keep_what_is_pushed_in_order(rt: HostRuntime) -> Result<(), Memory> {
+    let alloc = rt.alloc();
+    let mut events = Events::new(alloc);
+    for time in [5, 3] {
+        let values = Values::new(alloc);
+        events.push(Event {
+            offset: 0,
+            time,
+            values,
+        })?;
+    }
+    match events.as_slice() {
+        [first, second] => assert!(rt; first.time == 5 && second.time == 3),
+        other => panic!(rt; "{other:?}"),
+    }
+    Ok(())
+}

@@ -1,0 +1,72 @@
+use Rattle.std.proofs.Common.{⊎_elim, inl, inr, arith}
+use Rattle.rg_call.specs.Call.{command_of}
+use Rattle.rg_call.proofs.Ends.{completes, run_completes, store_legal, gap_legal, read_of, runs, said_by, with_said}
+use Rattle.rg_call.proofs.TurnedAway.{unfit_status, behind_status}
+use Rattle.rg_call.proofs.call.railgun.Goals as goal
+
+pub returns-clause-complete : goal.returns-clause-complete
+returns-clause-complete g c = λ ok told.
+    let said = said_by _ _ _ told in
+    record { asks = said.0; says = said.1; holds = λ no_run. c.run_words.ensures.complete ok (with_said _ _ _ told no_run) }
+
+pub returns-clause-put_so_far : goal.returns-clause-put_so_far
+returns-clause-put_so_far g c = λ told.
+    let said = said_by _ _ _ told in
+    record { asks = said.0; says = said.1; holds = λ no_run. c.run_words.ensures.put_so_far (with_said _ _ _ told no_run) }
+
+pub returns-clause-last_line_whole : goal.returns-clause-last_line_whole
+returns-clause-last_line_whole g c = λ told.
+    let said = said_by _ _ _ told in
+    record { asks = said.0; says = said.1; holds = λ no_run. c.run_words.ensures.last_line_whole (with_said _ _ _ told no_run) }
+
+pub returns-clause-completes : goal.returns-clause-completes
+returns-clause-completes g c = λ told none.
+    let said = said_by _ _ _ told in
+    record {
+      asks = said.0;
+      says = said.1;
+      holds = λ no_run. completes (command_of c.args.words.now) _ _ _ _ _ _ _ c.run_words.result
+          (record {
+            usage_only = c.run_words.ensures.usage_only;
+            usage_always = c.run_words.ensures.usage_always;
+            ok_only = λ is. ((c.run_words.ensures.ok_only is).0, (c.run_words.ensures.ok_only is).2);
+            plan_only = c.run_words.ensures.plan_only;
+            store_only = λ is. store_legal _ _ _ _ _ _ (c.run_words.ensures.store_only is);
+            gap_only = λ is. gap_legal _ _ _ _ _ (c.run_words.ensures.gap_only is);
+            disk_only = c.run_words.ensures.disk_only;
+            read_only = λ is. read_of _ _ _ _ (c.run_words.ensures.read_only is);
+            write_only = λ is. (c.run_words.ensures.write_only is).1;
+            limit_only = c.run_words.ensures.limit_only;
+            possible_only = c.run_words.ensures.possible_only;
+          })
+          (with_said _ _ _ told no_run) none;
+    }
+
+pub returns-clause-completes_run : goal.returns-clause-completes_run
+returns-clause-completes_run g c = λ first is told within begins none.
+    ⊎_elim
+    (λ ok. inl ok)
+    (λ more. ⊎_elim (λ gap. absurd (let behind = c.run_words.ensures.gap_never gap first is told in omega (arith, behind, begins))) (λ memory. inr memory) more)
+    (run_completes (command_of c.args.words.now) first is _ _ _ _ _ _ _ c.run_words.result
+    (record {
+      usage_only = c.run_words.ensures.usage_only;
+      usage_always = c.run_words.ensures.usage_always;
+      ok_only = λ is. ((c.run_words.ensures.ok_only is).0, (c.run_words.ensures.ok_only is).2);
+      plan_only = c.run_words.ensures.plan_only;
+      store_only = λ is. store_legal _ _ _ _ _ _ (c.run_words.ensures.store_only is);
+      gap_only = λ is. gap_legal _ _ _ _ _ (c.run_words.ensures.gap_only is);
+      disk_only = c.run_words.ensures.disk_only;
+      read_only = λ is. read_of _ _ _ _ (c.run_words.ensures.read_only is);
+      write_only = λ is. (c.run_words.ensures.write_only is).1;
+      limit_only = c.run_words.ensures.limit_only;
+      possible_only = c.run_words.ensures.possible_only;
+    })
+    told.plan_bytes told.plan_is told.asks told.says told.input_bytes told.input_is within none (c.run_words.ensures.store_never (runs _ first is) told))
+
+pub returns-clause-completes_gap : goal.returns-clause-completes_gap
+returns-clause-completes_gap g c = λ first is told behind none.
+    behind_status first _ _ _ c.run_words.result _ (c.run_words.ensures.behind first is told 0 behind).1.ends (λ disk. (c.run_words.ensures.disk_only disk).1) none
+
+pub returns-clause-completes_store : goal.returns-clause-completes_store
+returns-clause-completes_store g c = λ run bytes asks v told says now unfit none.
+    unfit_status asks v _ _ c.run_words.result _ (c.run_words.ensures.store_always run bytes asks v told says now unfit).1.ends (λ disk. (c.run_words.ensures.disk_only disk).1) none

@@ -1,0 +1,372 @@
+-- A call of the program.
+use Rattle.std.specs.Prelude.{◌≡◌, ◌⊎◌, ℕ, ◌≤◌, nat_lt, nat_le, Bool, true, false, List, [], ◌∷◌, ◌++◌, length, codes, decimal, bytes_eq, string_bytes, String, Option, Some, None, IfSome, Result, ⊤, if◌then◌else◌}
+use Rattle.std.specs.Prelude as r
+use Rattle.std.specs.Option.{ForSome}
+use Rattle.std.specs.declared.alloc.Global.{Global}
+use Rattle.rg_host.specs.Image.{Image}
+use Rattle.rg_config.specs.Plans.{Planned, Says}
+use Rattle.rg_config.specs.declared.fault.ConfigFault.{ConfigFault}
+use Rattle.rg_config.specs.declared.fault.ConfigFault.TheVariants as fault
+use Rattle.rg_dump.specs.Dump.{dump_text, damage_of}
+use Rattle.rg_dump.specs.declared.fault.DumpFault.{DumpFault}
+use Rattle.rg_dump.specs.declared.fault.DumpFault.TheVariants as dump
+use Rattle.rg_info.specs.Info.{IsInfo}
+use Rattle.rg_info.specs.declared.fault.InfoFault.{InfoFault}
+use Rattle.rg_info.specs.declared.fault.InfoFault.TheVariants as info
+use Rattle.rg_bytes.specs.Numbers.{whole_of}
+use Rattle.rg_run.specs.declared.fault.RunFault.{RunFault}
+use Rattle.rg_run.specs.declared.fault.RunFault.TheVariants as run
+use Rattle.rg_trial.specs.Trials.{IsTrial, trial_lines}
+use Rattle.rg_trial.specs.declared.trials.Trial.{Trial as Counted}
+use Rattle.rg_report.specs.Statuses.{last_line}
+use Rattle.rg_call.specs.Plan.{IsPlan, IsRefusal}
+use Rattle.rg_call.specs.declared.command.Command.{Command}
+use Rattle.rg_call.specs.declared.command.Command.TheVariants.{Run, Check, Dump, Info, Trial}
+use Rattle.rg_call.specs.declared.ending.Ending.{Ending}
+use Rattle.rg_report.specs.declared.refusal.Refusal.{Refusal}
+use Rattle.rg_call.specs.declared.ending.Ending.TheVariants as ending
+use Rattle.rg_listing.specs.Listing.{check_text}
+use Rattle.rg_report.specs.declared.status.Status.{Status}
+use Rattle.rg_report.specs.declared.status.Status.TheVariants.{Ok, Usage, Plan as BadPlan, Store, Read, Write, Disk, Limit, Memory, Gap, Differs}
+
+-- the command, where the word names it
+abbrev pub when : Bool → Command → Option Command
+when true command = Some command
+when false command = None
+
+-- the command of two words that is named `dump` or `info`, if it is one of these
+abbrev pub with_store : Bool → Bool → Option Command
+with_store true info = Some Dump
+with_store false info = when info Info
+
+-- the same, where it may be named `check` too
+abbrev pub with_file : Bool → Bool → Bool → Option Command
+with_file true dump info = Some Check
+with_file false dump info = with_store dump info
+
+-- a run whose first line has that offset, which is at most 2^61
+abbrev pub run_at : Option ℕ → Option Command
+run_at (Some first) = if nat_le first 2305843009213693952 then Some (Run first) else None
+run_at None = None
+
+-- the same, where the word names a run
+abbrev pub when_run : Bool → Option ℕ → Option Command
+when_run true first = run_at first
+when_run false first = None
+
+-- a trial on so many lines of a seed, where both are numbers and there are at most 200,000 lines
+abbrev pub trial_at : Option ℕ → Option ℕ → Option Command
+trial_at (Some lines) (Some seed) = if nat_le lines 200000 then Some (Trial lines seed) else None
+trial_at (Some lines) None = None
+trial_at None seed = None
+
+-- the same, where the word names a trial
+abbrev pub when_trial : Bool → Option ℕ → Option ℕ → Option Command
+when_trial true lines seed = trial_at lines seed
+when_trial false lines seed = None
+
+-- the command of three words that is named `run` or `self`, if it is one of these
+abbrev pub with_two : Bool → Bool → Option ℕ → Option ℕ → Option Command
+with_two true trial lines seed = Some (Run 0)
+with_two false trial lines seed = when_trial trial lines seed
+
+-- what the words ask for: `check PLAN`, `dump STORE`, `info STORE`, `run PLAN STORE`, `run PLAN STORE FIRST`, or `self N SEED`
+abbrev pub command_of : List (String Global) → Option Command
+command_of [] = None
+command_of (command ∷ []) = None
+command_of (command ∷ (file ∷ [])) = with_file (bytes_eq (string_bytes command) (codes "check")) (bytes_eq (string_bytes command) (codes "dump")) (bytes_eq (string_bytes command) (codes "info"))
+command_of (command ∷ (second ∷ (third ∷ []))) = with_two (bytes_eq (string_bytes command) (codes "run")) (bytes_eq (string_bytes command) (codes "self")) (whole_of (string_bytes second)) (whole_of (string_bytes third))
+command_of (command ∷ (plan ∷ (store ∷ (first ∷ [])))) = when_run (bytes_eq (string_bytes command) (codes "run")) (whole_of (string_bytes first))
+command_of (command ∷ (plan ∷ (store ∷ (first ∷ (more ∷ words))))) = None
+
+-- the words name a run
+abbrev pub IsRun : Option Command → Type 0
+IsRun (Some (Run first)) = ⊤
+IsRun (Some Check) = ⊥
+IsRun (Some Dump) = ⊥
+IsRun (Some Info) = ⊥
+IsRun (Some (Trial lines seed)) = ⊥
+IsRun None = ⊥
+
+-- the call is a run, and its plan, of these bytes, is no longer than it may be and legal
+abbrev pub CarriesRun : Option Command → List ℕ → Result Planned ConfigFault → Type 0
+CarriesRun (Some (Run first)) bytes (r.Ok plan) = length bytes ≤ 65536
+CarriesRun (Some (Run first)) bytes (r.Err refusal) = ⊥
+CarriesRun (Some Check) bytes asks = ⊥
+CarriesRun (Some Dump) bytes asks = ⊥
+CarriesRun (Some Info) bytes asks = ⊥
+CarriesRun (Some (Trial lines seed)) bytes asks = ⊥
+CarriesRun None bytes asks = ⊥
+
+-- the words name a command that reads its plan
+abbrev pub ReadsPlan : Option Command → Type 0
+ReadsPlan (Some (Run first)) = ⊤
+ReadsPlan (Some Check) = ⊤
+ReadsPlan (Some Dump) = ⊥
+ReadsPlan (Some Info) = ⊥
+ReadsPlan (Some (Trial lines seed)) = ⊥
+ReadsPlan None = ⊥
+
+-- the words name a command that puts what the store has
+abbrev pub ShowsStore : Option Command → Type 0
+ShowsStore (Some (Run first)) = ⊥
+ShowsStore (Some Check) = ⊥
+ShowsStore (Some Dump) = ⊤
+ShowsStore (Some Info) = ⊤
+ShowsStore (Some (Trial lines seed)) = ⊥
+ShowsStore None = ⊥
+
+-- Where the call reads the plan, that tells its bytes, which are these. Where it puts what the store has, the host tells its image.
+pub record Told (command : Option Command) (plan : Option (List ℕ)) (store : Option Image) : Type 0 where
+  pub plan_bytes : List ℕ
+  pub image : Image
+  pub image_is : ShowsStore command → store ≡ Some image
+  pub plan_is : ReadsPlan command → plan ≡ Some plan_bytes
+
+-- the bytes of a plan say this, of which P holds; all bytes say one thing, and no two
+pub record SaysSo (bytes : List ℕ) (P : Result Planned ConfigFault → Type 0) : Type 0 where
+  pub asks : Result Planned ConfigFault
+  pub says : Says bytes asks
+  pub holds : P asks
+
+-- the same as `Told`, and what the plan's bytes say; and no run is carried out
+pub record ToldPlan (command : Option Command) (plan : Option (List ℕ)) (store : Option Image) : Type 0 where
+  pub plan_bytes : List ℕ
+  pub image : Image
+  pub image_is : ShowsStore command → store ≡ Some image
+  pub plan_is : ReadsPlan command → plan ≡ Some plan_bytes
+  pub asks : Result Planned ConfigFault
+  pub says : Says plan_bytes asks
+  pub no_run : CarriesRun command plan_bytes asks → ⊥
+
+-- all lines that a check puts for what the plan's bytes say
+abbrev pub plan_text : Result Planned ConfigFault → List (List ℕ)
+plan_text (r.Ok plan) = check_text plan
+plan_text (r.Err refusal) = []
+
+-- the lines that `info` puts of the store of that image: all there are, at Ok and where a put failed, and none at any other status
+abbrev pub IsInfoAt : Status → Image → List (List ℕ) → Type 0
+IsInfoAt Ok image text = IsInfo image text
+IsInfoAt Usage image text = text ≡ []
+IsInfoAt BadPlan image text = text ≡ []
+IsInfoAt Store image text = text ≡ []
+IsInfoAt Read image text = text ≡ []
+IsInfoAt Write image text = IsInfo image text
+IsInfoAt Disk image text = text ≡ []
+IsInfoAt Limit image text = text ≡ []
+IsInfoAt Memory image text = text ≡ []
+IsInfoAt Gap image text = text ≡ []
+IsInfoAt Differs image text = text ≡ []
+
+-- the lines that a trial on so many lines of a seed puts: the four of its numbers, at Ok and where a put failed, and none at any other status
+abbrev pub IsTrialAt : Status → ℕ → ℕ → List (List ℕ) → Type 0
+IsTrialAt Ok lines seed text = (counted : Counted) × IsTrial seed lines counted × (text ≡ trial_lines counted)
+IsTrialAt Usage lines seed text = text ≡ []
+IsTrialAt BadPlan lines seed text = text ≡ []
+IsTrialAt Store lines seed text = text ≡ []
+IsTrialAt Read lines seed text = text ≡ []
+IsTrialAt Write lines seed text = (counted : Counted) × IsTrial seed lines counted × (text ≡ trial_lines counted)
+IsTrialAt Disk lines seed text = text ≡ []
+IsTrialAt Limit lines seed text = text ≡ []
+IsTrialAt Memory lines seed text = text ≡ []
+IsTrialAt Gap lines seed text = text ≡ []
+IsTrialAt Differs lines seed text = text ≡ []
+
+-- The text of a call which carries out no run, for what its words and its plan ask, and for the image of the store; file 2 is the log.
+-- At status Ok all of it is put, and at any other a front of it.
+abbrev pub IsTextOf : Option Command → Status → Result Planned ConfigFault → Image → List (List ℕ) → Type 0
+IsTextOf (Some (Run first)) status asks image text = text ≡ []
+IsTextOf (Some Check) status asks image text = text ≡ plan_text asks
+IsTextOf (Some Dump) status asks image text = text ≡ dump_text (image 2)
+IsTextOf (Some Info) status asks image text = IsInfoAt status image text
+IsTextOf (Some (Trial lines seed)) status asks image text = IsTrialAt status lines seed text
+IsTextOf None status asks image text = text ≡ []
+
+-- P holds of that text
+pub record ForText (command : Option Command) (status : Status) (asks : Result Planned ConfigFault) (image : Image) (P : List (List ℕ) → Type 0) : Type 0 where
+  pub text : List (List ℕ)
+  pub is : IsTextOf command status asks image text
+  pub holds : P text
+
+-- the lines that a command which puts what the store has puts of a damaged log, before the line that says the place
+abbrev pub before_damage : Option Command → Image → List (List ℕ)
+before_damage (Some (Run first)) image = []
+before_damage (Some Check) image = []
+before_damage (Some Dump) image = dump_text (image 2)
+before_damage (Some Info) image = []
+before_damage (Some (Trial lines seed)) image = []
+before_damage None image = []
+
+-- the line that refuses a plan, with its LF
+abbrev pub refusal_line : ConfigFault → List ℕ
+refusal_line fault.Toml = codes "refused plan toml\n"
+refusal_line fault.Stream = codes "refused plan stream\n"
+refusal_line (fault.Settings cause) = codes "refused plan settings\n"
+refusal_line (fault.Query number cause) = codes "refused plan query " ++ (decimal number ++ codes "\n")
+refusal_line fault.Memory = []
+
+-- the line that refuses a log that is damaged at that place, with its LF
+abbrev pub damage_line : Option ℕ → List ℕ
+damage_line (Some place) = codes "refused store damaged " ++ (decimal place ++ codes "\n")
+damage_line None = []
+
+-- the lines that refuse a store of another schema, and one whose node of that number has rows that don't stand for its events
+abbrev pub schema_line : List ℕ
+schema_line = codes "refused store schema\n"
+
+abbrev pub state_line : ℕ → List ℕ
+state_line node = codes "refused store state " ++ (decimal node ++ codes "\n")
+
+-- the line that refuses an input whose first line has that offset, over a store with this next one
+abbrev pub gap_line : ℕ → ℕ → List ℕ
+gap_line first next = codes "refused gap " ++ (decimal first ++ (codes " " ++ (decimal next ++ codes "\n")))
+
+abbrev pub refusal_of : Result Planned ConfigFault → List ℕ
+refusal_of (r.Ok plan) = []
+refusal_of (r.Err refusal) = refusal_line refusal
+
+-- the last line that a status puts where no run is carried out, for what the plan's bytes say and for the image of the store
+abbrev pub line_for : Result Planned ConfigFault → Image → Status → List ℕ
+line_for asks image Ok = last_line Ok
+line_for asks image Usage = last_line Usage
+line_for asks image BadPlan = refusal_of asks
+line_for asks image Store = damage_line (damage_of (image 2))
+line_for asks image Read = last_line Read
+line_for asks image Write = last_line Write
+line_for asks image Disk = last_line Disk
+line_for asks image Limit = last_line Limit
+line_for asks image Memory = last_line Memory
+line_for asks image Gap = last_line Gap
+line_for asks image Differs = last_line Differs
+
+-- the status and the last line of a call that ends early
+abbrev pub ending_status : Ending → Status
+ending_status (ending.Refused line refusal) = BadPlan
+ending_status (ending.Store line) = Store
+ending_status (ending.Gap line) = Gap
+ending_status (ending.Failed status) = status
+
+abbrev pub ending_line : Ending → List ℕ
+ending_line (ending.Refused line refusal) = line.items
+ending_line (ending.Store line) = line.items
+ending_line (ending.Gap line) = line.items
+ending_line (ending.Failed status) = last_line status
+
+abbrev pub ending_refusal : Ending → Option Refusal
+ending_refusal (ending.Refused line refusal) = Some refusal
+ending_refusal (ending.Store line) = None
+ending_refusal (ending.Gap line) = None
+ending_refusal (ending.Failed status) = None
+
+-- the same of any call
+abbrev pub status_after : {A : Type 0} → Result A Ending → Status
+status_after (r.Ok done) = Ok
+status_after (r.Err cause) = ending_status cause
+
+abbrev pub line_after : {A : Type 0} → Result A Ending → List ℕ
+line_after (r.Ok done) = []
+line_after (r.Err cause) = ending_line cause
+
+-- where the plan tells its bytes, this is the fault that refuses them
+abbrev pub TellsFault : Option (List ℕ) → Option Refusal → Type 0
+TellsFault plan told = IfSome plan (λ bytes. (refusal : Refusal) × (told ≡ Some refusal) × IsRefusal bytes refusal.fault)
+
+-- the ending says the fault that refuses a plan, or that memory ran out
+abbrev pub EndsBy : ConfigFault → Ending → Type 0
+EndsBy cause (ending.Refused line refusal) = (line.items ≡ refusal_line cause) × (cause ≡ fault.Memory → ⊥) × (refusal.fault ≡ cause)
+EndsBy cause (ending.Store line) = ⊥
+EndsBy cause (ending.Gap line) = ⊥
+EndsBy cause (ending.Failed status) = status ≡ Memory
+
+-- it failed so, and has the line of that status
+abbrev pub Fails : Status → Status → List ℕ → Type 0
+Fails wanted status last = (status ≡ wanted) × (last ≡ last_line wanted)
+
+-- it has that status and that last line, or memory ran out for the line
+abbrev pub SaysLine : Status → List ℕ → Status → List ℕ → Type 0
+SaysLine wanted line status last = ((status ≡ wanted) × (last ≡ line)) ⊎ Fails Memory status last
+
+-- the status and the last line of a dump that ended at this fault
+abbrev pub EndsDump : DumpFault → Status → List ℕ → Type 0
+EndsDump dump.Disk status last = Fails Disk status last
+EndsDump dump.Memory status last = Fails Memory status last
+EndsDump dump.Write status last = Fails Write status last
+EndsDump (dump.Damaged place) status last = SaysLine Store (damage_line (Some place)) status last
+
+-- of an `info` that ended at this fault
+abbrev pub EndsInfo : InfoFault → Status → List ℕ → Type 0
+EndsInfo info.Disk status last = Fails Disk status last
+EndsInfo info.Memory status last = Fails Memory status last
+EndsInfo info.Write status last = Fails Write status last
+EndsInfo (info.Damaged place) status last = SaysLine Store (damage_line (Some place)) status last
+
+-- of a run that ended at this fault, where the first line of the input has that offset
+abbrev pub EndsRun : ℕ → RunFault → Status → List ℕ → Type 0
+EndsRun first run.Disk status last = Fails Disk status last
+EndsRun first (run.Damaged place) status last = SaysLine Store (damage_line (Some place)) status last
+EndsRun first run.SchemaDiffers status last = SaysLine Store schema_line status last
+EndsRun first (run.BadState node) status last = SaysLine Store (state_line node) status last
+EndsRun first (run.Gap next) status last = SaysLine Gap (gap_line first next) status last
+EndsRun first run.Read status last = Fails Read status last
+EndsRun first run.Limit status last = Fails Limit status last
+EndsRun first run.Memory status last = Fails Memory status last
+EndsRun first run.Write status last = Fails Write status last
+
+-- where the plan tells its bytes, they say a plan
+abbrev pub IsLegalPlan : Option (List ℕ) → Type 0
+IsLegalPlan (Some bytes) = (plan : Planned) × IsPlan bytes plan
+IsLegalPlan None = ⊤
+
+-- the plan tells its bytes, and they are too long or say no plan
+abbrev pub TellsNoPlan : Option (List ℕ) → Type 0
+TellsNoPlan plan = (bytes : List ℕ) × (plan ≡ Some bytes) × ((asks : Planned) → IsPlan bytes asks → ⊥)
+
+-- where the plan tells its bytes, they are within their limit and are refused
+abbrev pub IsRefusedPlan : Option (List ℕ) → Type 0
+IsRefusedPlan (Some bytes) = (refusal : ConfigFault) × IsRefusal bytes refusal
+IsRefusedPlan None = ⊤
+
+-- where the host tells its image, no frame of the log is damaged
+abbrev pub IsUndamaged : Option Image → Type 0
+IsUndamaged store = ForSome store (λ image. damage_of (image 2) ≡ None)
+
+-- where the host tells its image, a frame of the log is damaged
+abbrev pub IsDamaged : Option Image → Type 0
+IsDamaged store = ForSome store (λ image. (place : ℕ) × (damage_of (image 2) ≡ Some place))
+
+-- the statuses that may come until there is a command that compares
+abbrev pub IsPossible : Status → Type 0
+IsPossible Ok = ⊤
+IsPossible Usage = ⊤
+IsPossible BadPlan = ⊤
+IsPossible Store = ⊤
+IsPossible Read = ⊤
+IsPossible Write = ⊤
+IsPossible Disk = ⊤
+IsPossible Limit = ⊤
+IsPossible Memory = ⊤
+IsPossible Gap = ⊤
+IsPossible Differs = ⊥
+
+-- the status of what the plan's bytes say
+abbrev pub status_by : Result Planned ConfigFault → Status
+status_by (r.Err refusal) = BadPlan
+status_by (r.Ok plan) = Ok
+
+-- the same, where the plan may be too long
+abbrev pub plan_status : List ℕ → Result Planned ConfigFault → Status
+plan_status plan asks = if nat_lt 65536 (length plan) then Limit else status_by asks
+
+-- the status of a command that puts what the store has, by the place where the log is damaged
+abbrev pub store_status : Option ℕ → Status
+store_status None = Ok
+store_status (Some place) = Store
+
+-- the status that words, plan and store call for, where no run is carried out
+abbrev pub status_for : Option Command → List ℕ → Result Planned ConfigFault → Image → Status
+status_for (Some (Run first)) plan asks image = plan_status plan asks
+status_for (Some Check) plan asks image = plan_status plan asks
+status_for (Some Dump) plan asks image = store_status (damage_of (image 2))
+status_for (Some Info) plan asks image = store_status (damage_of (image 2))
+status_for (Some (Trial lines seed)) plan asks image = Ok
+status_for None plan asks image = Usage

@@ -1,0 +1,487 @@
+ghost use Rattle.std.specs.Prelude.{codes, decimal, ◌≡◌, ◌≢◌, ◌⊎◌, ◌++◌, ◌≤◌, ◌<◌, ◌^◌, ℕ, List, [], Some, None, Option, IfOk, IfErr, IfSome, OnOk, OnErr, IsErrOf, length};
+ghost use Rattle.std.specs.Option.{ForSome};
+ghost use Rattle.rg_bytes.specs.Counts.{Rose};
+ghost use Rattle.rg_bytes.specs.Known.{IsAtEnd};
+ghost use Rattle.rg_event.specs.Rising.{next_offset};
+ghost use Rattle.rg_config.specs.Plans.{Planned, planned};
+ghost use Rattle.rg_config.specs.declared.fault.ConfigFault.{ConfigFault as Fault};
+ghost use Rattle.rg_config.specs.Read.{IsReadPlan};
+ghost use Rattle.rg_host.specs.Image.{Image};
+ghost use Rattle.rg_host.specs.Lines.{ended, lines_of};
+ghost use Rattle.rg_host.specs.Moments.{Moments, LeavesFiles};
+ghost use Rattle.rg_host.specs.Puts.{IsPrefix, Puts, IsPut, StopsWith};
+ghost use Rattle.rg_dump.specs.Dump.{damage_of};
+ghost use Rattle.rg_listing.specs.Stops.{StopsAt};
+ghost use Rattle.rg_course.specs.Accepted.{events_after};
+ghost use Rattle.rg_course.specs.Laws.{below};
+ghost use Rattle.rg_course.specs.Stores.{Promised};
+ghost use Rattle.rg_store.specs.Stores.{store_of};
+ghost use Rattle.rg_open.specs.Opening.{IsFromIn};
+ghost use Rattle.rg_open.specs.Unfit.{IsUnfit, IsLeftAlone};
+ghost use Rattle.rg_open.specs.Within.{IsWithinOpening};
+ghost use Rattle.rg_turn.specs.Turning.{terms_of};
+ghost use Rattle.rg_run.specs.Begun.{course_for, lines_in};
+ghost use Rattle.rg_run.specs.Reading.{IsLonger, IsWithinLimit};
+ghost use Rattle.rg_call.specs.Plan.{IsPlan, IsRefusal};
+ghost use Rattle.rg_report.specs.Statuses.{last_line as status_line};
+ghost use Rattle.rg_call.specs.Call.{command_of, IsRun, ReadsPlan, ShowsStore, CarriesRun, Told, ToldPlan, SaysSo, ForText, plan_text, before_damage, line_for, refusal_line, damage_line, status_after, line_after, ending_status, ending_line, ending_refusal, EndsBy, TellsFault, status_for, IsLegalPlan, TellsNoPlan, IsRefusedPlan, IsDamaged, IsUndamaged, IsPossible};
+ghost use Rattle.rg_call.specs.Causes.{RefusesStore, RefusesGap, EndsWith};
+ghost use Rattle.rg_call.specs.Stored.{ToldRun, begun_in, IsLastOf, IsToldFrom, Went, IsComplete, EndsWhole, EndsAnswered, IsAtMostOneAhead, HasLastSaved, Resumes};
+ghost use Rattle.rg_call.specs.TurnedAway.{EndsUnfit, EndsBehind, IsTurnedAway, IsBehind};
+
+use crate::command::Command;
+use crate::dump::dump;
+use crate::ending::Ending;
+use crate::info::info;
+use crate::running::run;
+use crate::trial::trial;
+use rg_bytes::{Memory, put_bytes, write_whole};
+use rg_config::{ConfigFault, Plan, read_plan};
+use rg_host::{AllFault, Host, Source, put_all, read_all};
+use rg_listing::{CheckFault, check};
+use rg_report::{Refusal, Status, TomlFault};
+use std::alloc::Global;
+use std::marker::Brand;
+use std::sync::ledger::Blank;
+
+/// The greatest number of bytes of a plan.
+const PLAN_BYTES: usize = 65_536;
+
+/// Writes the line that refuses a plan by its query with this number, with its LF.
+fn write_refused_query(line: &mut Vec<u8>, number: u32) -> Result<(), Memory>
+    ensures { OnOk result (line.new.items ≡ line.old.items ++ (codes "refused plan query " ++ (decimal number ++ codes "\n"))) }
+{
+    put_bytes(line, b"refused plan query ")?;
+    write_whole(line, u64::from(number))?;
+    put_bytes(line, b"\n")
+}
+
+/// Writes the line that refuses a plan, with its LF.
+fn write_refusal(line: &mut Vec<u8>, fault: ConfigFault) -> Result<(), Memory>
+    ensures { OnOk result (line.new.items ≡ line.old.items ++ refusal_line fault) }
+{
+    match fault {
+        ConfigFault::Toml => put_bytes(line, b"refused plan toml\n"),
+        ConfigFault::Stream => put_bytes(line, b"refused plan stream\n"),
+        ConfigFault::Settings(_) => put_bytes(line, b"refused plan settings\n"),
+        ConfigFault::Query(number, _) => write_refused_query(line, number),
+        ConfigFault::Memory => Ok(()),
+    }
+}
+
+/// Where these bytes stop being TOML, if they do.
+fn toml_fault(alloc: Global, bytes: &[u8]) -> Option<TomlFault> {
+    match toml::table_from_slice(alloc, bytes) {
+        Ok(_) => None,
+        Err(why) => Some(TomlFault::new(bytes, why)),
+    }
+}
+
+/// How a call ends whose plan has these bytes and is refused.
+fn refuse_plan(alloc: Global, bytes: &[u8], fault: ConfigFault) -> Ending
+    ensures { EndsBy fault result }
+{
+    if fault == ConfigFault::Memory {
+        return Ending::Failed(Status::Memory);
+    }
+    let toml = toml_fault(alloc, bytes);
+    let mut line = Vec::new(alloc);
+    match write_refusal(&mut line, fault) {
+        Ok(()) => Ending::Refused(line, Refusal { fault, toml }),
+        Err(_) => Ending::Failed(Status::Memory),
+    }
+}
+
+/// Reads the plan.
+fn load_plan<P: Source>(alloc: Global, plan: &mut P) -> Result<Plan, Ending>
+    ensures legal { IfOk result (λ asked. IfSome (P.left plan.old) (λ bytes. IsPlan bytes (planned asked))) }
+    ensures is_read { IfOk result IsReadPlan }
+    ensures refused { IfErr result (λ ending. ending_status ending ≡ Status.Plan → IfSome (P.left plan.old) (λ bytes. (refusal : Fault) × IsRefusal bytes refusal × (ending_line ending ≡ refusal_line refusal))) }
+    ensures told { IfErr result (λ ending. ending_status ending ≡ Status.Plan → TellsFault (P.left plan.old) (ending_refusal ending)) }
+    ensures line { IfErr result (λ ending. (ending_status ending ≡ Status.Plan) ⊎ (ending_line ending ≡ status_line (ending_status ending))) }
+    ensures read { IfErr result (λ ending. ending_status ending ≡ Status.Read → Rose (P.faults plan.old) (P.faults plan.new)) }
+    ensures limit { IfErr result (λ ending. ending_status ending ≡ Status.Limit → IsLonger 65536 (P.left plan.old)) }
+    ensures others { IfErr result (λ ending. (ending_status ending ≡ Status.Plan) ⊎ (ending_status ending ≡ Status.Read) ⊎ (ending_status ending ≡ Status.Limit) ⊎ (ending_status ending ≡ Status.Memory)) }
+    ensures later { P.faults plan.old ≤ P.faults plan.new }
+{
+    let bytes = match read_all(alloc, plan, PLAN_BYTES) {
+        Ok(bytes) => bytes,
+        Err(AllFault::Read) => return Err(Ending::Failed(Status::Read)),
+        Err(AllFault::Limit) => return Err(Ending::Failed(Status::Limit)),
+        Err(AllFault::Memory) => return Err(Ending::Failed(Status::Memory)),
+    };
+    match read_plan(alloc, &bytes) {
+        Ok(asked) => Ok(asked),
+        Err(fault) => Err(refuse_plan(alloc, &bytes, fault)),
+    }
+}
+
+/// Reads the plan, and prints it.
+fn check_with_plan<P: Source, H: Host>(
+    alloc: Global,
+    plan: &mut P,
+    host: &mut H,
+) -> Result<(), Ending>
+    ensures completes { OnOk result ((told : ToldPlan (Some Command.Check) (P.left plan.old) (H.now host.old)) → ForText (Some Command.Check) Status.Ok told.asks told.image (λ text. Puts H.said H.clock H.since host.old host.new (ended text))) }
+    ensures stops { IfErr result (λ ending. (told : ToldPlan (Some Command.Check) (P.left plan.old) (H.now host.old)) → ForText (Some Command.Check) (ending_status ending) told.asks told.image (λ text. (put : List ℕ) × Puts H.said H.clock H.since host.old host.new put × StopsAt (ending_status ending ≡ Status.Write) text put)) }
+    ensures line { IfErr result (λ ending. (told : ToldPlan (Some Command.Check) (P.left plan.old) (H.now host.old)) → ending_line ending ≡ line_for told.asks told.image (ending_status ending)) }
+    ensures legal { OnOk result (IsLegalPlan (P.left plan.old)) }
+    ensures refused { IfErr result (λ ending. ending_status ending ≡ Status.Plan → IsRefusedPlan (P.left plan.old)) }
+    ensures told { IfErr result (λ ending. ending_status ending ≡ Status.Plan → TellsFault (P.left plan.old) (ending_refusal ending)) }
+    ensures read { IfErr result (λ ending. ending_status ending ≡ Status.Read → Rose (P.faults plan.old) (P.faults plan.new)) }
+    ensures write { IfErr result (λ ending. ending_status ending ≡ Status.Write → IsLegalPlan (P.left plan.old) × Rose (H.out_faults host.old) (H.out_faults host.new)) }
+    ensures limit { IfErr result (λ ending. ending_status ending ≡ Status.Limit → IsLonger 65536 (P.left plan.old)) }
+    ensures others { IfErr result (λ ending. (ending_status ending ≡ Status.Plan) ⊎ (ending_status ending ≡ Status.Read) ⊎ (ending_status ending ≡ Status.Limit) ⊎ (ending_status ending ≡ Status.Memory) ⊎ (ending_status ending ≡ Status.Write)) }
+    ensures leaves { LeavesFiles H.now H.may H.clock H.since host.old host.new }
+    ensures later_out { H.out_faults host.old ≤ H.out_faults host.new }
+{
+    let asked = match load_plan(alloc, plan) {
+        Ok(asked) => asked,
+        Err(ending) => return Err(ending),
+    };
+    match check(alloc, &asked, host) {
+        Ok(()) => Ok(()),
+        Err(CheckFault::Memory) => Err(Ending::Failed(Status::Memory)),
+        Err(CheckFault::Write) => Err(Ending::Failed(Status::Write)),
+    }
+}
+
+/// Reads the plan, and answers the input by it over the store, where the first line has that offset.
+fn run_with_plan<P: Source, I: Source, H: Host>(
+    alloc: Global,
+    first: u64,
+    plan: &mut P,
+    input: &mut I,
+    host: &mut H,
+) -> Result<(), Ending>
+    requires first { first ≤ 2 ^ 61 }
+    ensures went { (told : ToldRun (P.left plan.old) (I.left input.old) (H.now host.old) (H.may host.old) (H.said host.old)) → (from : ℕ)
+        × Went H.may H.clock H.since H.said told.asks (begun_in told from first) told.ready.openable.image (I.left input.new) (Rose (P.faults plan.old) (P.faults plan.new)) (status_after result) (line_after result) host.old host.new }
+    ensures never_damaged { ToldRun (P.left plan.old) (I.left input.old) (H.now host.old) (H.may host.old) (H.said host.old) → status_after result ≡ Status.Store → ⊥ }
+
+    // Where the plan isn't legal, nothing is put.
+    ensures completes { OnOk result (ToldPlan (Some (Command.Run first)) (P.left plan.old) (H.now host.old) → ⊥) }
+    ensures stops { IfErr result (λ ending. ToldPlan (Some (Command.Run first)) (P.left plan.old) (H.now host.old) → Puts H.said H.clock H.since host.old host.new []) }
+    ensures line { IfErr result (λ ending. (told : ToldPlan (Some (Command.Run first)) (P.left plan.old) (H.now host.old)) → ending_line ending ≡ line_for told.asks told.image (ending_status ending)) }
+
+    ensures at_end { OnOk result (IsAtEnd (I.left input.new)) }
+    ensures legal { OnOk result (IsLegalPlan (P.left plan.old)) }
+    ensures within { OnOk result (IsWithinLimit (2 ^ 50) (I.left input.old)) }
+    ensures behind { (told : ToldRun (P.left plan.old) (I.left input.old) (H.now host.old) (H.may host.old) (H.said host.old)) (keep : Option ℕ) → next_offset told.ready.held < first →
+        (input.new ≡ input.old) × IsWithinOpening H.may H.clock H.since H.said told.asks keep told.ready.openable.image host.old host.new
+        × EndsBehind first (next_offset told.ready.held) (Rose (P.faults plan.old) (P.faults plan.new)) (status_after result) (line_after result) }
+    ensures unfit { (bytes : List ℕ) (asks : Planned) (v : Image) → P.left plan.old ≡ Some bytes → IsPlan bytes asks → H.now host.old ≡ Some v → IsUnfit asks v →
+        (input.new ≡ input.old) × IsLeftAlone H.now H.may H.clock H.since H.said v host.old host.new × EndsUnfit asks v (Rose (P.faults plan.old) (P.faults plan.new)) (status_after result) (line_after result) }
+    ensures refused { IfErr result (λ ending. ending_status ending ≡ Status.Plan → IsRefusedPlan (P.left plan.old)) }
+    ensures told { IfErr result (λ ending. ending_status ending ≡ Status.Plan → TellsFault (P.left plan.old) (ending_refusal ending)) }
+    ensures store { IfErr result (λ ending. ending_status ending ≡ Status.Store → RefusesStore (P.left plan.old) (H.now host.old) (H.now host.new) (input.new ≡ input.old) (ending_line ending)) }
+    ensures gap { IfErr result (λ ending. ending_status ending ≡ Status.Gap → RefusesGap (P.left plan.old) (H.now host.old) first (input.new ≡ input.old) (ending_line ending)) }
+    ensures disk { IfErr result (λ ending. ending_status ending ≡ Status.Disk → IsLegalPlan (P.left plan.old) × Rose (H.disk_faults host.old) (H.disk_faults host.new)) }
+    ensures read { IfErr result (λ ending. ending_status ending ≡ Status.Read → Rose (P.faults plan.old) (P.faults plan.new) ⊎ (IsLegalPlan (P.left plan.old) × Rose (I.faults input.old) (I.faults input.new))) }
+    ensures write { IfErr result (λ ending. ending_status ending ≡ Status.Write → IsLegalPlan (P.left plan.old) × Rose (H.out_faults host.old) (H.out_faults host.new)) }
+    ensures limit { IfErr result (λ ending. ending_status ending ≡ Status.Limit → IsLonger 65536 (P.left plan.old) ⊎ (IsLegalPlan (P.left plan.old) × IsLonger (2 ^ 50) (I.left input.old))) }
+    ensures possible { IfErr result (λ ending. IsPossible (ending_status ending) × (ending_status ending ≢ Status.Ok) × (ending_status ending ≢ Status.Usage)) }
+    ensures plan_first { (status_after result ≡ Status.Plan) ⊎ TellsNoPlan (P.left plan.old) → (input.new ≡ input.old) × LeavesFiles H.now H.may H.clock H.since host.old host.new }
+    ensures read_first { IfErr result (λ ending. ending_status ending ≡ Status.Read → ((input.new ≡ input.old) × LeavesFiles H.now H.may H.clock H.since host.old host.new) ⊎ Rose (I.faults input.old) (I.faults input.new)) }
+    ensures later_out { H.out_faults host.old ≤ H.out_faults host.new }
+{
+    let asked = match load_plan(alloc, plan) {
+        Ok(asked) => asked,
+        Err(ending) => return Err(ending),
+    };
+    match run::<I, H, Brand>(alloc, &asked, first, input, host, Blank::new(1)) {
+        Ok(()) => Ok(()),
+        Err(ending) => Err(ending),
+    }
+}
+
+/// Does what the command asks for.
+fn run_command<P: Source, I: Source, H: Host>(
+    alloc: Global,
+    command: Command,
+    plan: &mut P,
+    input: &mut I,
+    host: &mut H,
+) -> Result<(), Ending>
+    requires first { (first : ℕ) → command ≡ Command.Run first → first ≤ 2 ^ 61 }
+    requires few { (lines seed : ℕ) → command ≡ Command.Trial lines seed → lines ≤ 200000 }
+    ensures went { (first : ℕ) → command ≡ Command.Run first → (told : ToldRun (P.left plan.old) (I.left input.old) (H.now host.old) (H.may host.old) (H.said host.old)) → (from : ℕ)
+        × Went H.may H.clock H.since H.said told.asks (begun_in told from first) told.ready.openable.image (I.left input.new) (Rose (P.faults plan.old) (P.faults plan.new)) (status_after result) (line_after result) host.old host.new }
+    ensures never_damaged { IsRun (Some command) → ToldRun (P.left plan.old) (I.left input.old) (H.now host.old) (H.may host.old) (H.said host.old) → status_after result ≡ Status.Store → ⊥ }
+    ensures completes { OnOk result ((told : ToldPlan (Some command) (P.left plan.old) (H.now host.old)) → ForText (Some command) Status.Ok told.asks told.image (λ text. Puts H.said H.clock H.since host.old host.new (ended text))) }
+    ensures stops { IfErr result (λ ending. (told : ToldPlan (Some command) (P.left plan.old) (H.now host.old)) → ForText (Some command) (ending_status ending) told.asks told.image (λ text. (put : List ℕ) × Puts H.said H.clock H.since host.old host.new put × StopsAt (ending_status ending ≡ Status.Write) text put)) }
+    ensures line { IfErr result (λ ending. (told : ToldPlan (Some command) (P.left plan.old) (H.now host.old)) → ending_line ending ≡ line_for told.asks told.image (ending_status ending)) }
+    ensures at_end { OnOk result (IsRun (Some command) → IsAtEnd (I.left input.new)) }
+    ensures legal { OnOk result (ReadsPlan (Some command) → IsLegalPlan (P.left plan.old)) }
+    ensures undamaged { OnOk result (ShowsStore (Some command) → IsUndamaged (H.now host.old)) }
+    ensures within { OnOk result (IsRun (Some command) → IsWithinLimit (2 ^ 50) (I.left input.old)) }
+    ensures behind { (first : ℕ) → command ≡ Command.Run first → (told : ToldRun (P.left plan.old) (I.left input.old) (H.now host.old) (H.may host.old) (H.said host.old)) (keep : Option ℕ) → next_offset told.ready.held < first →
+        (input.new ≡ input.old) × IsWithinOpening H.may H.clock H.since H.said told.asks keep told.ready.openable.image host.old host.new
+        × EndsBehind first (next_offset told.ready.held) (Rose (P.faults plan.old) (P.faults plan.new)) (status_after result) (line_after result) }
+    ensures unfit { (bytes : List ℕ) (asks : Planned) (v : Image) → IsRun (Some command) → P.left plan.old ≡ Some bytes → IsPlan bytes asks → H.now host.old ≡ Some v → IsUnfit asks v →
+        (input.new ≡ input.old) × IsLeftAlone H.now H.may H.clock H.since H.said v host.old host.new × EndsUnfit asks v (Rose (P.faults plan.old) (P.faults plan.new)) (status_after result) (line_after result) }
+    ensures refused { IfErr result (λ ending. ending_status ending ≡ Status.Plan → ReadsPlan (Some command) × IsRefusedPlan (P.left plan.old)) }
+    ensures told { IfErr result (λ ending. ending_status ending ≡ Status.Plan → TellsFault (P.left plan.old) (ending_refusal ending)) }
+    ensures read { IfErr result (λ ending. ending_status ending ≡ Status.Read → Rose (P.faults plan.old) (P.faults plan.new) ⊎ (IsLegalPlan (P.left plan.old) × IsRun (Some command) × Rose (I.faults input.old) (I.faults input.new))) }
+    ensures write { IfErr result (λ ending. ending_status ending ≡ Status.Write → (ReadsPlan (Some command) → IsLegalPlan (P.left plan.old)) × Rose (H.out_faults host.old) (H.out_faults host.new)) }
+    ensures limit { IfErr result (λ ending. ending_status ending ≡ Status.Limit → (ReadsPlan (Some command) × IsLonger 65536 (P.left plan.old)) ⊎ (IsLegalPlan (P.left plan.old) × IsRun (Some command) × IsLonger (2 ^ 50) (I.left input.old))) }
+    ensures store { IfErr result (λ ending. ending_status ending ≡ Status.Store → (ShowsStore (Some command) × IsDamaged (H.now host.old)) ⊎ (IsRun (Some command) × RefusesStore (P.left plan.old) (H.now host.old) (H.now host.new) (input.new ≡ input.old) (ending_line ending))) }
+    ensures all_before { IfErr result (λ ending. ending_status ending ≡ Status.Store → ShowsStore (Some command) → ForSome (H.now host.old) (λ image. Puts H.said H.clock H.since host.old host.new (ended (before_damage (Some command) image)) × (ending_line ending ≡ damage_line (damage_of (image 2))))) }
+    ensures gap { IfErr result (λ ending. ending_status ending ≡ Status.Gap → (first : ℕ) × (command ≡ Command.Run first) × RefusesGap (P.left plan.old) (H.now host.old) first (input.new ≡ input.old) (ending_line ending)) }
+    ensures disk { IfErr result (λ ending. ending_status ending ≡ Status.Disk → (ShowsStore (Some command) ⊎ (IsRun (Some command) × IsLegalPlan (P.left plan.old))) × Rose (H.disk_faults host.old) (H.disk_faults host.new)) }
+    ensures possible { IfErr result (λ ending. IsPossible (ending_status ending) × (ending_status ending ≢ Status.Ok) × (ending_status ending ≢ Status.Usage)) }
+    ensures plan_first { (status_after result ≡ Status.Plan) ⊎ TellsNoPlan (P.left plan.old) → input.new ≡ input.old }
+    ensures read_first { IfErr result (λ ending. ending_status ending ≡ Status.Read → ((input.new ≡ input.old) × LeavesFiles H.now H.may H.clock H.since host.old host.new) ⊎ Rose (I.faults input.old) (I.faults input.new)) }
+    ensures no_input { command ≡ Command.Check → input.new ≡ input.old }
+    ensures alone { (ReadsPlan (Some command) → ⊥) → (plan.new ≡ plan.old) × (input.new ≡ input.old) }
+    ensures trial { (lines seed : ℕ) → command ≡ Command.Trial lines seed → (status_after result ≡ Status.Ok) ⊎ (status_after result ≡ Status.Memory) ⊎ (status_after result ≡ Status.Write) }
+    ensures leaves { (IsRun (Some command) → ⊥) ⊎ (status_after result ≡ Status.Plan) ⊎ TellsNoPlan (P.left plan.old) → LeavesFiles H.now H.may H.clock H.since host.old host.new }
+    ensures later_out { H.out_faults host.old ≤ H.out_faults host.new }
+{
+    match command {
+        Command::Run(first) => run_with_plan(alloc, first, plan, input, host),
+        Command::Check => check_with_plan(alloc, plan, host),
+        Command::Dump => dump(alloc, host),
+        Command::Info => info(alloc, host),
+        Command::Trial(lines, seed) => trial(alloc, lines, seed, host),
+    }
+}
+
+/// Puts the last line of a call that ends early, if it has one. Its own failure leaves the status.
+fn end<H: Host>(host: &mut H, ending: &Ending) -> Status
+    ensures status { result ≡ ending_status ending.now }
+    ensures part { (part : List ℕ) × IsPrefix part (ending_line ending.now) × Puts H.said H.clock H.since host.old host.new part }
+    ensures whole { Puts H.said H.clock H.since host.old host.new (ending_line ending.now) ⊎ Rose (H.out_faults host.old) (H.out_faults host.new) }
+    ensures silent { ending_line ending.now ≡ [] → host.new ≡ host.old }
+    ensures leaves { LeavesFiles H.now H.may H.clock H.since host.old host.new }
+    ensures disk_faults { H.disk_faults host.new ≡ H.disk_faults host.old }
+    ensures later_out { H.out_faults host.old ≤ H.out_faults host.new }
+{
+    let line = ending.last_line();
+    if line.is_empty() {
+        return ending.status();
+    }
+    match put_all(host, line) {
+        Ok(()) => ending.status(),
+        Err(_) => ending.status(),
+    }
+}
+
+/// Carries out the words and ends with a status, clause by clause but for what follows from the causes.
+fn run_words<P: Source, I: Source, H: Host>(
+    alloc: Global,
+    words: &[String],
+    plan: &mut P,
+    input: &mut I,
+    host: &mut H,
+    refusal: &mut Option<Refusal>,
+) -> Status
+    ensures complete { result ≡ Status.Ok → (told : ToldPlan (command_of words.now) (P.left plan.old) (H.now host.old)) → ForText (command_of words.now) Status.Ok told.asks told.image (λ text. Puts H.said H.clock H.since host.old host.new (ended text)) }
+    ensures put_so_far { (told : ToldPlan (command_of words.now) (P.left plan.old) (H.now host.old)) → ForText (command_of words.now) result told.asks told.image (λ text.
+        (put : List ℕ) × Puts H.said H.clock H.since host.old host.new put × IsPut text (line_for told.asks told.image result) put) }
+    ensures last_line_whole { (told : ToldPlan (command_of words.now) (P.left plan.old) (H.now host.old)) → ForText (command_of words.now) result told.asks told.image (λ text.
+        ((put : List ℕ) × Puts H.said H.clock H.since host.old host.new put × StopsWith text (line_for told.asks told.image result) put) ⊎ Rose (H.out_faults host.old) (H.out_faults host.new)) }
+    ensures complete_run { result ≡ Status.Ok → (first : ℕ) → command_of words.now ≡ Some (Command.Run first) → (told : ToldRun (P.left plan.old) (I.left input.old) (H.now host.old) (H.may host.old) (H.said host.old)) →
+        (from : ℕ) × IsComplete told.asks (begun_in told from first) told.ready.openable.image (H.may host.new) (H.said host.new) }
+    ensures every_moment { (first : ℕ) → command_of words.now ≡ Some (Command.Run first) → (told : ToldRun (P.left plan.old) (I.left input.old) (H.now host.old) (H.may host.old) (H.said host.old)) → (from : ℕ) × (last : List ℕ) × IsLastOf result (begun_in told from first) last
+        × IsToldFrom told.asks told.ready.openable.image (begun_in told from first) last (H.said host.new)
+        × Moments H.clock H.since host.old host.new (λ m. Promised (store_of told.asks) (course_for told.asks (begun_in told from first)) (H.may host.old) last m.image m.said) }
+    ensures last_line_run { (first : ℕ) → command_of words.now ≡ Some (Command.Run first) → (told : ToldRun (P.left plan.old) (I.left input.old) (H.now host.old) (H.may host.old) (H.said host.old)) →
+        ((from : ℕ) × (last : List ℕ) × IsLastOf result (begun_in told from first) last × IsToldFrom told.asks told.ready.openable.image (begun_in told from first) last (H.said host.new) × EndsWhole told.asks (begun_in told from first) last (H.said host.new)) ⊎ Rose (H.out_faults host.old) (H.out_faults host.new) }
+    ensures no_reply_lost { (first : ℕ) → command_of words.now ≡ Some (Command.Run first) → (told : ToldRun (P.left plan.old) (I.left input.old) (H.now host.old) (H.may host.old) (H.said host.old)) → (from : ℕ) × (last : List ℕ) × IsLastOf result (begun_in told from first) last
+        × Moments H.clock H.since host.old host.new (IsAtMostOneAhead told.asks (begun_in told from first) (H.may host.old) last) }
+    ensures saved_kept { (first : ℕ) → command_of words.now ≡ Some (Command.Run first) → (told : ToldRun (P.left plan.old) (I.left input.old) (H.now host.old) (H.may host.old) (H.said host.old)) → (from : ℕ)
+        × Moments H.clock H.since host.old host.new (HasLastSaved told.asks (begun_in told from first)) }
+    ensures replies_put { (result ≡ Status.Read) ⊎ (result ≡ Status.Limit) → (first : ℕ) → command_of words.now ≡ Some (Command.Run first) → (told : ToldRun (P.left plan.old) (I.left input.old) (H.now host.old) (H.may host.old) (H.said host.old)) →
+        ((from : ℕ) × IsFromIn told.asks told.ready.openable.image from × EndsAnswered told.asks (begun_in told from first) (I.left input.new) (status_line result) (H.said host.new) (result ≡ Status.Limit))
+        ⊎ Rose (P.faults plan.old) (P.faults plan.new) ⊎ Rose (H.out_faults host.old) (H.out_faults host.new) }
+    ensures resumes { result ≡ Status.Ok → command_of words.now ≡ Some (Command.Run 0) → (told : ToldRun (P.left plan.old) (I.left input.old) (H.now host.old) (H.may host.old) (H.said host.old)) →
+        told.ready.held ≡ below (next_offset told.ready.held) (events_after (terms_of told.asks).basis [] 0 (lines_of told.input_bytes)) → (from : ℕ) × Resumes told.asks (begun_in told from 0) (H.said host.new) }
+    ensures input_read { result ≡ Status.Ok → IsRun (command_of words.now) → IsAtEnd (I.left input.new) }
+    ensures gap_always { result ≡ Status.Ok → (first : ℕ) → command_of words.now ≡ Some (Command.Run first) → (told : ToldRun (P.left plan.old) (I.left input.old) (H.now host.old) (H.may host.old) (H.said host.old)) → first ≤ next_offset told.ready.held }
+    ensures behind { (first : ℕ) → command_of words.now ≡ Some (Command.Run first) → (told : ToldRun (P.left plan.old) (I.left input.old) (H.now host.old) (H.may host.old) (H.said host.old)) (slot : ℕ) → next_offset told.ready.held < first → (input.new ≡ input.old)
+        × IsBehind H.may H.clock H.since H.said told.asks told.ready.held told.ready.openable.image first slot (Rose (P.faults plan.old) (P.faults plan.new)) (Rose (H.out_faults host.old) (H.out_faults host.new)) result host.old host.new }
+    ensures gap_never { result ≡ Status.Gap → (first : ℕ) → command_of words.now ≡ Some (Command.Run first) → (told : ToldRun (P.left plan.old) (I.left input.old) (H.now host.old) (H.may host.old) (H.said host.old)) → next_offset told.ready.held < first }
+    ensures usage_only { result ≡ Status.Usage → command_of words.now ≡ None }
+    ensures usage_always { command_of words.now ≡ None → result ≡ Status.Usage }
+    ensures ok_only { result ≡ Status.Ok → (ReadsPlan (command_of words.now) → IsLegalPlan (P.left plan.old)) × (IsRun (command_of words.now) → IsWithinLimit (2 ^ 50) (I.left input.old)) × (ShowsStore (command_of words.now) → IsUndamaged (H.now host.old)) }
+    ensures plan_only { result ≡ Status.Plan → ReadsPlan (command_of words.now) × IsRefusedPlan (P.left plan.old) }
+    ensures store_only { result ≡ Status.Store → (ShowsStore (command_of words.now) × IsDamaged (H.now host.old))
+        ⊎ (IsRun (command_of words.now) × ((last : List ℕ) × RefusesStore (P.left plan.old) (H.now host.old) (H.now host.new) (input.new ≡ input.old) last × (EndsWith (H.said host.new) last ⊎ Rose (H.out_faults host.old) (H.out_faults host.new)))) }
+    ensures store_always { IsRun (command_of words.now) → (bytes : List ℕ) (asks : Planned) (v : Image) → P.left plan.old ≡ Some bytes → IsPlan bytes asks → H.now host.old ≡ Some v → IsUnfit asks v → (input.new ≡ input.old)
+        × IsTurnedAway H.now H.may H.clock H.since H.said asks v (Rose (P.faults plan.old) (P.faults plan.new)) (Rose (H.out_faults host.old) (H.out_faults host.new)) result host.old host.new }
+    ensures gap_only { result ≡ Status.Gap → (first : ℕ) × (command_of words.now ≡ Some (Command.Run first))
+        × ((last : List ℕ) × RefusesGap (P.left plan.old) (H.now host.old) first (input.new ≡ input.old) last × (EndsWith (H.said host.new) last ⊎ Rose (H.out_faults host.old) (H.out_faults host.new))) }
+    ensures disk_only { result ≡ Status.Disk → (ShowsStore (command_of words.now) ⊎ (IsRun (command_of words.now) × IsLegalPlan (P.left plan.old))) × Rose (H.disk_faults host.old) (H.disk_faults host.new) }
+    ensures read_only { result ≡ Status.Read → Rose (P.faults plan.old) (P.faults plan.new) ⊎ (IsLegalPlan (P.left plan.old) × IsRun (command_of words.now) × Rose (I.faults input.old) (I.faults input.new)) }
+    ensures write_only { result ≡ Status.Write → (ReadsPlan (command_of words.now) → IsLegalPlan (P.left plan.old)) × Rose (H.out_faults host.old) (H.out_faults host.new) }
+    ensures limit_only { result ≡ Status.Limit → (ReadsPlan (command_of words.now) × IsLonger 65536 (P.left plan.old)) ⊎ (IsLegalPlan (P.left plan.old) × IsRun (command_of words.now) × IsLonger (2 ^ 50) (I.left input.old)) }
+    ensures failure_told { (result ≡ Status.Ok) ⊎ (result ≡ Status.Plan) ⊎ (result ≡ Status.Store) ⊎ (result ≡ Status.Gap) ⊎ EndsWith (H.said host.new) (status_line result) ⊎ Rose (H.out_faults host.old) (H.out_faults host.new) }
+    ensures possible_only { IsPossible result }
+    ensures trial_only { (lines seed : ℕ) → command_of words.now ≡ Some (Command.Trial lines seed) → (result ≡ Status.Ok) ⊎ (result ≡ Status.Memory) ⊎ (result ≡ Status.Write) }
+    ensures store_never { IsRun (command_of words.now) → ToldRun (P.left plan.old) (I.left input.old) (H.now host.old) (H.may host.old) (H.said host.old) → result ≢ Status.Store }
+    ensures refusal_told { result ≡ Status.Plan → TellsFault (P.left plan.old) refusal.new }
+    ensures usage_first { result ≡ Status.Usage → (plan.new ≡ plan.old) × (input.new ≡ input.old) }
+    ensures plan_first { (result ≡ Status.Plan) ⊎ TellsNoPlan (P.left plan.old) → input.new ≡ input.old }
+    ensures read_first { result ≡ Status.Read → ((input.new ≡ input.old) × LeavesFiles H.now H.may H.clock H.since host.old host.new) ⊎ Rose (I.faults input.old) (I.faults input.new) }
+    ensures check_alone { command_of words.now ≡ Some Command.Check → input.new ≡ input.old }
+    ensures alone { (ReadsPlan (command_of words.now) → ⊥) → (plan.new ≡ plan.old) × (input.new ≡ input.old) }
+    ensures files_stay { (IsRun (command_of words.now) → ⊥) ⊎ (result ≡ Status.Plan) ⊎ TellsNoPlan (P.left plan.old) → LeavesFiles H.now H.may H.clock H.since host.old host.new }
+    ensures rows_before_damage { result ≡ Status.Store → ShowsStore (command_of words.now) → ForSome (H.now host.old) (λ image. Puts H.said H.clock H.since host.old host.new (ended (before_damage (command_of words.now) image) ++ damage_line (damage_of (image 2)))) ⊎ Rose (H.out_faults host.old) (H.out_faults host.new) }
+{
+    *refusal = None;
+    let Some(command) = Command::named(words) else {
+        return end(host, &Ending::Failed(Status::Usage));
+    };
+    match run_command(alloc, command, plan, input, host) {
+        Ok(()) => Status::Ok,
+        Err(ending) => {
+            *refusal = ending.refusal();
+            end(host, &ending)
+        }
+    }
+}
+
+/// Does all that the program does: with the words `run PLAN STORE` it answers the input by the plan over
+/// the store, with `check PLAN` it prints the plan, with `dump STORE` the log of the store, which is file 2
+/// of the host, with `info STORE` how much the log and the two slots, files 0 and 1, have, and with
+/// `self N SEED` what is counted of a run on N made lines.
+///
+/// `words` are those after the program's name; behind a run's store may stand the offset of the input's
+/// first line, at most 2^61, which must be at most the store's next one. At most 65,536 bytes of `plan`
+/// and 2^50 bytes of `input` are taken, and one more where there is one. What a run puts out is `open`
+/// with what the store has, the answer of each line from the store's next offset on, in order, each with
+/// the marks that are due, and at last what is stored and saved and `done LINES EVENTS`; what a check
+/// puts out is each query and then the task plan; what a dump puts out is the schema's text and then each
+/// event as a row; what `info` puts out is six lines, once the whole log was read; what a trial puts out is
+/// four lines, and it touches neither plan nor input nor a file of the host. Another status than Ok puts
+/// its last line behind whole lines of these.
+pub fn railgun<P: Source, I: Source, H: Host>(
+    alloc: Global,
+    words: &[String],
+    plan: &mut P,
+    input: &mut I,
+    host: &mut H,
+    refusal: &mut Option<Refusal>,
+) -> Status
+    // A call that carries out no run: at status Ok just the text that the definitions give was put out.
+    ensures complete { result ≡ Status.Ok → (told : Told (command_of words.now) (P.left plan.old) (H.now host.old)) →
+        SaysSo told.plan_bytes (λ asks. (CarriesRun (command_of words.now) told.plan_bytes asks → ⊥) → ForText (command_of words.now) Status.Ok asks told.image (λ text. Puts H.said H.clock H.since host.old host.new (ended text))) }
+
+    // At each status, a front of that text was put out, or whole lines of it and a front of the status's last line. Where `info` doesn't
+    // read the store to its end, or a trial wants memory, no line of it comes before that last one.
+    ensures put_so_far { (told : Told (command_of words.now) (P.left plan.old) (H.now host.old)) → SaysSo told.plan_bytes (λ asks. (CarriesRun (command_of words.now) told.plan_bytes asks → ⊥) → ForText (command_of words.now) result asks told.image (λ text.
+        (put : List ℕ) × Puts H.said H.clock H.since host.old host.new put × IsPut text (line_for asks told.image result) put)) }
+
+    // Unless a put failed, that last line is whole.
+    ensures last_line_whole { (told : Told (command_of words.now) (P.left plan.old) (H.now host.old)) → SaysSo told.plan_bytes (λ asks. (CarriesRun (command_of words.now) told.plan_bytes asks → ⊥) → ForText (command_of words.now) result asks told.image (λ text.
+        ((put : List ℕ) × Puts H.said H.clock H.since host.old host.new put × StopsWith text (line_for asks told.image result) put) ⊎ Rose (H.out_faults host.old) (H.out_faults host.new))) }
+
+    // A run over a store that is ready: at status Ok all of its text was put out, and each image that might be left is truthful and has
+    // just the events that it accepts.
+    ensures complete_run { result ≡ Status.Ok → (first : ℕ) → command_of words.now ≡ Some (Command.Run first) → (told : ToldRun (P.left plan.old) (I.left input.old) (H.now host.old) (H.may host.old) (H.said host.old)) →
+        (from : ℕ) × IsComplete told.asks (begun_in told from first) told.ready.openable.image (H.may host.new) (H.said host.new) }
+
+    // At each moment, whatever the status, what was put and the image that a crash might leave are on the run's course.
+    ensures every_moment { (first : ℕ) → command_of words.now ≡ Some (Command.Run first) → (told : ToldRun (P.left plan.old) (I.left input.old) (H.now host.old) (H.may host.old) (H.said host.old)) → (from : ℕ) × (last : List ℕ) × IsLastOf result (begun_in told from first) last
+        × IsToldFrom told.asks told.ready.openable.image (begun_in told from first) last (H.said host.new)
+        × Moments H.clock H.since host.old host.new (λ m. Promised (store_of told.asks) (course_for told.asks (begun_in told from first)) (H.may host.old) last m.image m.said) }
+
+    // Unless a put failed, what was put is whole lines of the run's text, and then the last line of the status.
+    ensures last_line_run { (first : ℕ) → command_of words.now ≡ Some (Command.Run first) → (told : ToldRun (P.left plan.old) (I.left input.old) (H.now host.old) (H.may host.old) (H.said host.old)) →
+        ((from : ℕ) × (last : List ℕ) × IsLastOf result (begun_in told from first) last × IsToldFrom told.asks told.ready.openable.image (begun_in told from first) last (H.said host.new) × EndsWhole told.asks (begun_in told from first) last (H.said host.new)) ⊎ Rose (H.out_faults host.old) (H.out_faults host.new) }
+
+    // No reply is lost: the store is at most one line ahead of those that were answered.
+    ensures no_reply_lost { (first : ℕ) → command_of words.now ≡ Some (Command.Run first) → (told : ToldRun (P.left plan.old) (I.left input.old) (H.now host.old) (H.may host.old) (H.said host.old)) → (from : ℕ) × (last : List ℕ) × IsLastOf result (begun_in told from first) last
+        × Moments H.clock H.since host.old host.new (IsAtMostOneAhead told.asks (begun_in told from first) (H.may host.old) last) }
+
+    // What the last line of a checkpoint says is saved is in a slot.
+    ensures saved_kept { (first : ℕ) → command_of words.now ≡ Some (Command.Run first) → (told : ToldRun (P.left plan.old) (I.left input.old) (H.now host.old) (H.may host.old) (H.said host.old)) → (from : ℕ)
+        × Moments H.clock H.since host.old host.new (HasLastSaved told.asks (begun_in told from first)) }
+
+    // Where the input could not be read on, each line that LF ended was answered, and the last line follows, unless a put failed.
+    ensures replies_put { (result ≡ Status.Read) ⊎ (result ≡ Status.Limit) → (first : ℕ) → command_of words.now ≡ Some (Command.Run first) → (told : ToldRun (P.left plan.old) (I.left input.old) (H.now host.old) (H.may host.old) (H.said host.old)) →
+        ((from : ℕ) × IsFromIn told.asks told.ready.openable.image from × EndsAnswered told.asks (begun_in told from first) (I.left input.new) (status_line result) (H.said host.new) (result ≡ Status.Limit))
+        ⊎ Rose (P.faults plan.old) (P.faults plan.new) ⊎ Rose (H.out_faults host.old) (H.out_faults host.new) }
+
+    // A run over what an earlier run of the same input left goes on with the text of one that is never stopped.
+    ensures resumes { result ≡ Status.Ok → command_of words.now ≡ Some (Command.Run 0) → (told : ToldRun (P.left plan.old) (I.left input.old) (H.now host.old) (H.may host.old) (H.said host.old)) →
+        told.ready.held ≡ below (next_offset told.ready.held) (events_after (terms_of told.asks).basis [] 0 (lines_of told.input_bytes)) → (from : ℕ) × Resumes told.asks (begun_in told from 0) (H.said host.new) }
+    ensures input_read { result ≡ Status.Ok → IsRun (command_of words.now) → IsAtEnd (I.left input.new) }
+
+    // A run goes on only where its first line is at most the store's next one.
+    ensures gap_always { result ≡ Status.Ok → (first : ℕ) → command_of words.now ≡ Some (Command.Run first) → (told : ToldRun (P.left plan.old) (I.left input.old) (H.now host.old) (H.may host.old) (H.said host.old)) → first ≤ next_offset told.ready.held }
+
+    // Where it is behind that, nothing is read, answered or stored: nothing is put but the last line.
+    ensures behind { (first : ℕ) → command_of words.now ≡ Some (Command.Run first) → (told : ToldRun (P.left plan.old) (I.left input.old) (H.now host.old) (H.may host.old) (H.said host.old)) (slot : ℕ) → next_offset told.ready.held < first → (input.new ≡ input.old)
+        × IsBehind H.may H.clock H.since H.said told.asks told.ready.held told.ready.openable.image first slot (Rose (P.faults plan.old) (P.faults plan.new)) (Rose (H.out_faults host.old) (H.out_faults host.new)) result host.old host.new }
+    ensures gap_never { result ≡ Status.Gap → (first : ℕ) → command_of words.now ≡ Some (Command.Run first) → (told : ToldRun (P.left plan.old) (I.left input.old) (H.now host.old) (H.may host.old) (H.said host.old)) → next_offset told.ready.held < first }
+
+    // Each status has its cause. Memory alone is free.
+    ensures usage_only { result ≡ Status.Usage → command_of words.now ≡ None }
+    ensures usage_always { command_of words.now ≡ None → result ≡ Status.Usage }
+    ensures ok_only { result ≡ Status.Ok → (ReadsPlan (command_of words.now) → IsLegalPlan (P.left plan.old)) × (IsRun (command_of words.now) → IsWithinLimit (2 ^ 50) (I.left input.old)) × (ShowsStore (command_of words.now) → IsUndamaged (H.now host.old)) }
+    ensures plan_only { result ≡ Status.Plan → ReadsPlan (command_of words.now) × IsRefusedPlan (P.left plan.old) }
+    ensures store_only { result ≡ Status.Store → (ShowsStore (command_of words.now) × IsDamaged (H.now host.old))
+        ⊎ (IsRun (command_of words.now) × ((last : List ℕ) × RefusesStore (P.left plan.old) (H.now host.old) (H.now host.new) (input.new ≡ input.old) last × (EndsWith (H.said host.new) last ⊎ Rose (H.out_faults host.old) (H.out_faults host.new)))) }
+
+    // Over a store of another schema, or with a bad frame, a run says which, and leaves the input and the files alone.
+    ensures store_always { IsRun (command_of words.now) → (bytes : List ℕ) (asks : Planned) (v : Image) → P.left plan.old ≡ Some bytes → IsPlan bytes asks → H.now host.old ≡ Some v → IsUnfit asks v → (input.new ≡ input.old)
+        × IsTurnedAway H.now H.may H.clock H.since H.said asks v (Rose (P.faults plan.old) (P.faults plan.new)) (Rose (H.out_faults host.old) (H.out_faults host.new)) result host.old host.new }
+
+    ensures gap_only { result ≡ Status.Gap → (first : ℕ) × (command_of words.now ≡ Some (Command.Run first))
+        × ((last : List ℕ) × RefusesGap (P.left plan.old) (H.now host.old) first (input.new ≡ input.old) last × (EndsWith (H.said host.new) last ⊎ Rose (H.out_faults host.old) (H.out_faults host.new))) }
+    ensures disk_only { result ≡ Status.Disk → (ShowsStore (command_of words.now) ⊎ (IsRun (command_of words.now) × IsLegalPlan (P.left plan.old))) × Rose (H.disk_faults host.old) (H.disk_faults host.new) }
+    ensures read_only { result ≡ Status.Read → Rose (P.faults plan.old) (P.faults plan.new) ⊎ (IsLegalPlan (P.left plan.old) × IsRun (command_of words.now) × Rose (I.faults input.old) (I.faults input.new)) }
+    ensures write_only { result ≡ Status.Write → (ReadsPlan (command_of words.now) → IsLegalPlan (P.left plan.old)) × Rose (H.out_faults host.old) (H.out_faults host.new) }
+    ensures limit_only { result ≡ Status.Limit → (ReadsPlan (command_of words.now) × IsLonger 65536 (P.left plan.old)) ⊎ (IsLegalPlan (P.left plan.old) × IsRun (command_of words.now) × IsLonger (2 ^ 50) (I.left input.old)) }
+    ensures possible_only { IsPossible result }
+
+    // Words that are refused, and what failed, are told last over every host, unless a put failed; the causes say so of a store and a gap.
+    ensures failure_told { (result ≡ Status.Ok) ⊎ (result ≡ Status.Plan) ⊎ (result ≡ Status.Store) ⊎ (result ≡ Status.Gap) ⊎ EndsWith (H.said host.new) (status_line result) ⊎ Rose (H.out_faults host.old) (H.out_faults host.new) }
+
+    // A trial has a store of its own in memory: a host in memory fails for want of memory alone.
+    ensures trial_only { (lines seed : ℕ) → command_of words.now ≡ Some (Command.Trial lines seed) → (result ≡ Status.Ok) ⊎ (result ≡ Status.Memory) ⊎ (result ≡ Status.Write) }
+
+    // A store that is ready for a run is never refused.
+    ensures store_never { IsRun (command_of words.now) → ToldRun (P.left plan.old) (I.left input.old) (H.now host.old) (H.may host.old) (H.said host.old) → result ≢ Status.Store }
+
+    // A plan that is refused is told by its fault, for standard error.
+    ensures refusal_told { result ≡ Status.Plan → TellsFault (P.left plan.old) refusal.new }
+
+    // The words are looked at before the plan is read, the plan before the store, and the store before the input: where the plan is
+    // refused, too long or can't be read, the input and the files are left alone. Only a run reads the input, and only a run or a check
+    // the plan.
+    ensures usage_first { result ≡ Status.Usage → (plan.new ≡ plan.old) × (input.new ≡ input.old) }
+    ensures plan_first { (result ≡ Status.Plan) ⊎ TellsNoPlan (P.left plan.old) → input.new ≡ input.old }
+    ensures read_first { result ≡ Status.Read → ((input.new ≡ input.old) × LeavesFiles H.now H.may H.clock H.since host.old host.new) ⊎ Rose (I.faults input.old) (I.faults input.new) }
+    ensures check_alone { command_of words.now ≡ Some Command.Check → input.new ≡ input.old }
+    ensures alone { (ReadsPlan (command_of words.now) → ⊥) → (plan.new ≡ plan.old) × (input.new ≡ input.old) }
+
+    // Only a run whose plan is read may write a file: else the files stay, and at each moment a crash might have left of them what it could
+    // leave at the start.
+    ensures files_stay { (IsRun (command_of words.now) → ⊥) ⊎ (result ≡ Status.Plan) ⊎ TellsNoPlan (P.left plan.old) → LeavesFiles H.now H.may H.clock H.since host.old host.new }
+
+    // A damaged log is dumped up to its first damaged place, which the last line says, unless a put failed; `info` puts that line alone.
+    ensures rows_before_damage { result ≡ Status.Store → ShowsStore (command_of words.now) → ForSome (H.now host.old) (λ image. Puts H.said H.clock H.since host.old host.new (ended (before_damage (command_of words.now) image) ++ damage_line (damage_of (image 2)))) ⊎ Rose (H.out_faults host.old) (H.out_faults host.new) }
+
+    // Where no count of faults rose, the status is the one that words, plan and store call for, or Memory.
+    ensures completes { (told : Told (command_of words.now) (P.left plan.old) (H.now host.old)) →
+        ¬ (Rose (P.faults plan.old) (P.faults plan.new) ⊎ Rose (I.faults input.old) (I.faults input.new) ⊎ Rose (H.out_faults host.old) (H.out_faults host.new) ⊎ (ShowsStore (command_of words.now) × Rose (H.disk_faults host.old) (H.disk_faults host.new))) →
+        SaysSo told.plan_bytes (λ asks. (CarriesRun (command_of words.now) told.plan_bytes asks → ⊥) → (result ≡ status_for (command_of words.now) told.plan_bytes asks told.image) ⊎ (result ≡ Status.Memory)) }
+
+    // A run over a store that is ready then ends well, or for want of memory, where its input isn't too long and begins early enough.
+    ensures completes_run { (first : ℕ) → command_of words.now ≡ Some (Command.Run first) → (told : ToldRun (P.left plan.old) (I.left input.old) (H.now host.old) (H.may host.old) (H.said host.old)) → length told.input_bytes ≤ 2 ^ 50 → first ≤ next_offset told.ready.held →
+        ¬ (Rose (P.faults plan.old) (P.faults plan.new) ⊎ Rose (I.faults input.old) (I.faults input.new) ⊎ Rose (H.out_faults host.old) (H.out_faults host.new) ⊎ Rose (H.disk_faults host.old) (H.disk_faults host.new)) →
+        (result ≡ Status.Ok) ⊎ (result ≡ Status.Memory) }
+
+    // A run over a store of another schema, or with a bad frame, then says so.
+    ensures completes_store { IsRun (command_of words.now) → (bytes : List ℕ) (asks : Planned) (v : Image) → P.left plan.old ≡ Some bytes → IsPlan bytes asks → H.now host.old ≡ Some v → IsUnfit asks v →
+        ¬ (Rose (P.faults plan.old) (P.faults plan.new) ⊎ Rose (H.disk_faults host.old) (H.disk_faults host.new)) → (result ≡ Status.Store) ⊎ (result ≡ Status.Memory) }
+
+    // Where it begins behind the store's next offset, it says so.
+    ensures completes_gap { (first : ℕ) → command_of words.now ≡ Some (Command.Run first) → (told : ToldRun (P.left plan.old) (I.left input.old) (H.now host.old) (H.may host.old) (H.said host.old)) → next_offset told.ready.held < first →
+        ¬ (Rose (P.faults plan.old) (P.faults plan.new) ⊎ Rose (H.disk_faults host.old) (H.disk_faults host.new)) → (result ≡ Status.Gap) ⊎ (result ≡ Status.Memory) }
+{
+    run_words(alloc, words, plan, input, host, refusal)
+}

@@ -1,0 +1,78 @@
+ghost use Rattle.std.specs.Prelude.{◌≡◌, ◌≤◌, ◌^◌, ℕ, Some, true, codes, bytes_eq};
+ghost use Rattle.rg_bytes.specs.Numbers.{whole_of};
+ghost use Rattle.rg_call.specs.Call.{command_of, with_file, run_at, trial_at};
+
+use rg_bytes::read_whole;
+
+/// The greatest offset that the first line of an input may have.
+const GREATEST_FIRST: u64 = 1 << 61;
+
+/// The greatest number of lines of a trial.
+const TRIAL_LINES: u64 = 200_000;
+
+/// What the words after the program's name ask for.
+#[derive(Clone, Copy, Debug, PartialEq, Eq, Hash)]
+pub enum Command {
+    /// `run PLAN STORE FIRST`: the first line of the input has that offset, 0 where it isn't said.
+    Run(u64),
+    /// `check PLAN`
+    Check,
+    /// `dump STORE`
+    Dump,
+    /// `info STORE`
+    Info,
+    /// `self N SEED`: a trial on N made lines of a seed, N at most 200,000.
+    Trial(u64, u64),
+}
+
+/// The command of two words of which this is the first, where they are one.
+fn with_file(command: &str) -> Option<Command>
+    ensures { result ≡ with_file (bytes_eq command.now (codes "check")) (bytes_eq command.now (codes "dump")) (bytes_eq command.now (codes "info")) }
+{
+    if command == "check" {
+        Some(Command::Check)
+    } else if command == "dump" {
+        Some(Command::Dump)
+    } else if command == "info" {
+        Some(Command::Info)
+    } else {
+        None
+    }
+}
+
+/// The run whose first line has the offset that this text says, where it says one.
+fn run_from(first: &[u8]) -> Option<Command>
+    ensures { result ≡ run_at (whole_of first.now) }
+{
+    match read_whole(first) {
+        Some(first) if first <= GREATEST_FIRST => Some(Command::Run(first)),
+        _ => None,
+    }
+}
+
+/// The trial on as many lines of a seed as these texts say, where they say so.
+fn trial_on(lines: &[u8], seed: &[u8]) -> Option<Command>
+    ensures { result ≡ trial_at (whole_of lines.now) (whole_of seed.now) }
+{
+    match (read_whole(lines), read_whole(seed)) {
+        (Some(lines), Some(seed)) if lines <= TRIAL_LINES => Some(Command::Trial(lines, seed)),
+        _ => None,
+    }
+}
+
+impl Command {
+    /// The command of these words, where they are one.
+    pub fn named(words: &[String]) -> Option<Command>
+        ensures { result ≡ command_of words.now }
+    {
+        match words {
+            [command, _] => with_file(command.as_str()),
+            [command, _, _] if command.as_str() == "run" => Some(Command::Run(0)),
+            [command, lines, seed] if command.as_str() == "self" => {
+                trial_on(lines.as_bytes(), seed.as_bytes())
+            }
+            [command, _, _, first] if command.as_str() == "run" => run_from(first.as_bytes()),
+            _ => None,
+        }
+    }
+}

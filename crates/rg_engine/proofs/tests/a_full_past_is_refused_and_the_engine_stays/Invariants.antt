@@ -1,5 +1,0 @@
-use Rattle.rg_engine.proofs.tests.a_full_past_is_refused_and_the_engine_stays.Given as goal
-
--- the steps aren't told, so any ledger serves
-abbrev pub ghosts-fill : goal.ghosts-fill
-ghosts-fill g a = record { name = a.blank.name; parts = a.blank.parts }

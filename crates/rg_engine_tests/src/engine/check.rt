@@ -1,0 +1,69 @@
+ghost use Rattle.std.specs.Prelude.{◌≡◌, ◌<◌, ◌≤◌, ◌^◌, [], length, All, IsTrue};
+ghost use Rattle.rg_past.specs.Ranges.{IsInRange};
+ghost use Rattle.rg_event.specs.Rising.{MayFollow};
+ghost use Rattle.rg_window.specs.Placed.{AreWithin};
+
+use rg_engine::{Engine, EngineFault};
+use rg_event::{Event, Steps};
+use rg_metric::Answers;
+use rg_past::{Spot, VecPast};
+use rg_state::Table;
+use std::sync::ledger::Ledger;
+
+/// Takes an event that the past allows; the answer to any other is none.
+pub(super) fn take_checked<T: Table, L: Ledger>(
+    engine: &mut Engine<T>,
+    past: &mut VecPast,
+    event: Event,
+    steps: &mut Steps<L>,
+) -> Option<Result<Answers, EngineFault>> {
+    if is_in_range(&event)
+        && may_follow(past.events(), &event)
+        && are_within(engine.spots(), past.events().len())
+    {
+        Some(engine.take(past, event, steps))
+    } else {
+        None
+    }
+}
+
+/// Replays a past that no edge is behind.
+pub(super) fn replay_checked<T: Table, L: Ledger>(
+    engine: &mut Engine<T>,
+    past: &mut VecPast,
+    t: u64,
+    steps: &mut Steps<L>,
+) -> Option<Result<(), EngineFault>> {
+    if are_within(engine.spots(), past.events().len()) {
+        Some(engine.replay(past, t, steps))
+    } else {
+        None
+    }
+}
+
+fn is_in_range(event: &Event) -> bool
+    ensures { IsTrue result → IsInRange event.now }
+{
+    event.offset < 1 << 62 && event.time <= 1_000_000_000_000_000
+}
+
+fn may_follow(events: &[Event], event: &Event) -> bool
+    ensures { IsTrue result → MayFollow events.now event.now }
+{
+    if events.is_empty() {
+        return true;
+    }
+    let last = &events[events.len() - 1];
+    last.offset < event.offset && last.time <= event.time
+}
+
+fn are_within(spots: &[Spot], count: usize) -> bool
+    ensures { IsTrue result → AreWithin spots.now count }
+{
+    for spot in spots {
+        if spot.number > count as u64 {
+            return false;
+        }
+    }
+    true
+}

@@ -1,0 +1,308 @@
+use rg_event::{Schema, SchemaFault, Value};
+use rg_metric::{Agg, Condition, Func, Op, Query, Window};
+use rg_query::{QueryFault, parse};
+use std::alloc::{AllocError, Global};
+use std::test::Fail;
+
+/// Payments of a text, a text, an int, an id and a flag.
+fn payments(alloc: Global) -> Result<Schema, SchemaFault> {
+    Schema::parse(
+        alloc,
+        b"payments(ts,card:text,merchant:text,amount:int,terminal:id,online:flag)",
+    )
+}
+
+/// Why a text is no query over payments.
+fn fault_of(alloc: Global, schema: &Schema, text: &[u8]) -> Option<QueryFault> {
+    match parse(alloc, schema, text) {
+        Ok(_) => None,
+        Err(fault) => Some(fault),
+    }
+}
+
+#[test]
+fn syntax_comes_first_then_names_then_kinds_then_spans(rt: HostRuntime) -> Result<(), Fail> {
+    let schema = payments(rt.alloc())?;
+    let table: [(&[u8], QueryFault); 7] = [
+        (b"", QueryFault::Syntax(0)),
+        (b"SELECT count(*)", QueryFault::Syntax(15)),
+        (
+            b"SELECT count(amount) FROM payments OVER INFINITE",
+            QueryFault::Syntax(13),
+        ),
+        (
+            b"SELECT sum(x) FROM payments OVER SLIDING 0 weeks",
+            QueryFault::Syntax(43),
+        ),
+        (
+            b"SELECT sum(card) FROM payments WHERE x = 1 OVER SLIDING 0 ms",
+            QueryFault::UnknownName(37),
+        ),
+        (
+            b"SELECT sum(card) FROM payments OVER SLIDING 0 ms",
+            QueryFault::WrongKind(11),
+        ),
+        (
+            b"SELECT count(*) FROM payments OVER SLIDING 0 ms",
+            QueryFault::BadSpan(43),
+        ),
+    ];
+    for (text, want) in table {
+        assert_eq!(rt; fault_of(rt.alloc(), &schema, text), Some(want), "{text:?}");
+    }
+    Ok(())
+}
+
+#[test]
+fn the_first_name_that_nothing_has_is_told(rt: HostRuntime) -> Result<(), Fail> {
+    let schema = payments(rt.alloc())?;
+    let table: [(&[u8], usize); 6] = [
+        (b"SELECT sum(x) FROM payments OVER INFINITE", 11),
+        (b"SELECT sum(Amount) FROM payments OVER INFINITE", 11),
+        (b"SELECT sum(x) FROM y OVER INFINITE", 11),
+        (b"SELECT count(*) FROM sales WHERE x = 1 OVER INFINITE", 21),
+        (
+            b"SELECT count(*) FROM payments WHERE ts > 5 OVER INFINITE",
+            36,
+        ),
+        (
+            b"SELECT count(*) FROM payments GROUP BY card, ts OVER INFINITE",
+            45,
+        ),
+    ];
+    for (text, place) in table {
+        assert_eq!(rt;
+            fault_of(rt.alloc(), &schema, text),
+            Some(QueryFault::UnknownName(place)),
+            "{text:?}"
+        );
+    }
+    Ok(())
+}
+
+#[test]
+fn the_first_field_or_literal_of_a_wrong_kind_is_told(rt: HostRuntime) -> Result<(), Fail> {
+    let schema = payments(rt.alloc())?;
+    let table: [(&[u8], Option<usize>); 12] = [
+        (b"SELECT sum(card) FROM payments OVER INFINITE", Some(11)),
+        (
+            b"SELECT sum(terminal) FROM payments OVER INFINITE",
+            Some(11),
+        ),
+        (
+            b"SELECT max(terminal), last(card) FROM payments OVER INFINITE",
+            Some(27),
+        ),
+        (
+            b"SELECT count(*) FROM payments WHERE amount > 1000000000001 OVER INFINITE",
+            Some(45),
+        ),
+        (
+            b"SELECT count(*) FROM payments WHERE amount > -1000000000000 OVER INFINITE",
+            None,
+        ),
+        (
+            b"SELECT count(*) FROM payments WHERE card = 5 OVER INFINITE",
+            Some(43),
+        ),
+        (
+            b"SELECT count(*) FROM payments WHERE card = '\xff' OVER INFINITE",
+            Some(43),
+        ),
+        (
+            b"SELECT count(*) FROM payments WHERE terminal = -1 OVER INFINITE",
+            Some(47),
+        ),
+        (
+            b"SELECT count(*) FROM payments WHERE terminal = 18446744073709551615 OVER INFINITE",
+            None,
+        ),
+        (
+            b"SELECT count(*) FROM payments WHERE terminal = 18446744073709551616 OVER INFINITE",
+            Some(47),
+        ),
+        (
+            b"SELECT count(*) FROM payments WHERE online = 1 OVER INFINITE",
+            Some(45),
+        ),
+        (
+            b"SELECT count(*) FROM payments WHERE online < 1 OVER INFINITE",
+            Some(36),
+        ),
+    ];
+    for (text, place) in table {
+        assert_eq!(rt;
+            fault_of(rt.alloc(), &schema, text),
+            place.map(QueryFault::WrongKind),
+            "{text:?}"
+        );
+    }
+    Ok(())
+}
+
+#[test]
+fn a_span_has_at_most_ten_to_the_15_milliseconds(rt: HostRuntime) -> Result<(), Fail> {
+    let schema = payments(rt.alloc())?;
+    let table: [(&[u8], Option<usize>); 7] = [
+        (
+            b"SELECT count(*) FROM payments OVER SLIDING 11574074 days",
+            None,
+        ),
+        (
+            b"SELECT count(*) FROM payments OVER SLIDING 11574075 days",
+            Some(43),
+        ),
+        (
+            b"SELECT count(*) FROM payments OVER SLIDING 1000000000000000 ms",
+            None,
+        ),
+        (
+            b"SELECT count(*) FROM payments OVER SLIDING 99999999999999999999 ms",
+            Some(43),
+        ),
+        (
+            b"SELECT count(*) FROM payments OVER INFINITE DELAYED BY 0 ms",
+            None,
+        ),
+        (
+            b"SELECT count(*) FROM payments OVER INFINITE DELAYED BY 1000000000000001 ms",
+            Some(55),
+        ),
+        (
+            b"SELECT count(*) FROM payments OVER SLIDING 1 ms DELAYED BY 16666666667 minutes",
+            Some(59),
+        ),
+    ];
+    for (text, place) in table {
+        assert_eq!(rt;
+            fault_of(rt.alloc(), &schema, text),
+            place.map(QueryFault::BadSpan),
+            "{text:?}"
+        );
+    }
+    Ok(())
+}
+
+/// A query behind so many spaces.
+fn behind_spaces(alloc: Global, spaces: usize) -> Result<Vec<u8>, AllocError> {
+    let mut text = Vec::new(alloc);
+    for _ in 0..spaces {
+        text.push(b' ')?;
+    }
+    text.extend_from_slice(b"SELECT count(*) FROM payments OVER INFINITE")?;
+    Ok(text)
+}
+
+#[test]
+fn a_text_has_4096_bytes_at_most(rt: HostRuntime) -> Result<(), Fail> {
+    let schema = payments(rt.alloc())?;
+    let table = [
+        (4_053, 4_096, None),
+        (4_054, 4_097, Some(QueryFault::TooLarge)),
+    ];
+    for (spaces, length, want) in table {
+        let text = behind_spaces(rt.alloc(), spaces)?;
+        assert_eq!(rt;
+            (text.len(), fault_of(rt.alloc(), &schema, &text)),
+            (length, want)
+        );
+    }
+    Ok(())
+}
+
+/// A query with a condition in so many parentheses.
+fn enclosed(alloc: Global, parentheses: usize) -> Result<Vec<u8>, AllocError> {
+    let mut text = Vec::from_slice(alloc, b"SELECT count(*) FROM payments WHERE ")?;
+    for _ in 0..parentheses {
+        text.push(b'(')?;
+    }
+    text.extend_from_slice(b"amount = 1")?;
+    for _ in 0..parentheses {
+        text.push(b')')?;
+    }
+    text.extend_from_slice(b" OVER INFINITE")?;
+    Ok(text)
+}
+
+#[test]
+fn a_condition_stands_in_32_parentheses_at_most(rt: HostRuntime) -> Result<(), Fail> {
+    let schema = payments(rt.alloc())?;
+    for (parentheses, want) in [(32, None), (33, Some(QueryFault::TooLarge))] {
+        let text = enclosed(rt.alloc(), parentheses)?;
+        assert_eq!(rt; fault_of(rt.alloc(), &schema, &text), want, "{parentheses}");
+    }
+    Ok(())
+}
+
+/// Whether a condition is this comparison.
+fn is_comparison(condition: &Condition, column: u32, op: Op, literal: &Value) -> bool {
+    match condition {
+        Condition::Compare(of, by, with) => *of == column && *by == op && with == literal,
+        _ => false,
+    }
+}
+
+/// Whether a condition is `NOT (card = 'it''s' OR online != FALSE)`.
+fn is_second_part(condition: &Condition) -> bool {
+    match condition {
+        Condition::Not(inner) => is_choice(inner),
+        _ => false,
+    }
+}
+
+fn is_choice(condition: &Condition) -> bool {
+    match condition {
+        Condition::Or(left, right) => {
+            is_card_its(left) && is_comparison(right, 5, Op::Ne, &Value::Flag(false))
+        }
+        _ => false,
+    }
+}
+
+fn is_card_its(condition: &Condition) -> bool {
+    match condition {
+        Condition::Compare(1, Op::Eq, Value::Text(word)) => word.as_bytes() == b"it's".as_slice(),
+        _ => false,
+    }
+}
+
+#[test]
+fn a_query_of_every_clause_is_what_its_text_says(rt: HostRuntime) -> Result<(), Fail> {
+    let schema = payments(rt.alloc())?;
+    let text =
+        b"select COUNT(*), Sum(amount), countdistinct(card) from payments\n\twhere terminal >= -0 AND not (card = 'it''s' or online != false)\n\tGroup BY card, terminal over sliding 2 Minutes delayed by 7 MS";
+    let query = parse(rt.alloc(), &schema, text)?;
+    let aggs = [
+        Agg {
+            func: Func::Count,
+            field: 0,
+        },
+        Agg {
+            func: Func::Sum,
+            field: 3,
+        },
+        Agg {
+            func: Func::CountDistinct,
+            field: 1,
+        },
+    ];
+    assert_eq!(rt; query.aggs.as_slice(), aggs.as_slice());
+    assert_eq!(rt; query.group.as_slice(), [1, 4].as_slice());
+    let window = Window {
+        delay: 7,
+        length: Some(120_000),
+    };
+    assert_eq!(rt; query.window, window);
+    assert!(rt; is_filter(&query));
+    Ok(())
+}
+
+/// Whether a query's filter is `terminal >= 0 AND NOT (card = 'it''s' OR online != FALSE)`.
+fn is_filter(query: &Query) -> bool {
+    match &query.filter {
+        Some(Condition::And(left, right)) => {
+            is_comparison(left, 4, Op::Ge, &Value::Id(0)) && is_second_part(right)
+        }
+        _ => false,
+    }
+}

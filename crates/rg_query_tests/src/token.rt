@@ -1,0 +1,81 @@
+use rg_token::{Piece, Shape, pieces};
+use rg_words::{Op, Symbol};
+use std::process::Abort;
+use std::test::Fail;
+
+const LESS_OR_EQUAL: Shape = Shape::Sign(Symbol::Compare(Op::Le));
+
+const NOT_EQUAL: Shape = Shape::Sign(Symbol::Compare(Op::Ne));
+
+fn piece(start: usize, end: usize, shape: Shape) -> Piece {
+    Piece { start, end, shape }
+}
+
+/// Whether the text has these tokens and they end there.
+fn has(
+    rt: &(impl Abort + AllocGlobal),
+    text: &[u8],
+    expected: &[Piece],
+    end: usize,
+) -> Result<(), Fail> {
+    let lexed = pieces(rt.alloc(), text)?;
+    assert_eq!(rt; lexed.pieces.as_slice(), expected);
+    assert_eq!(rt; lexed.end, end);
+    Ok(())
+}
+
+#[test]
+fn a_query_has_its_words_numbers_texts_and_signs(rt: HostRuntime) -> Result<(), Fail> {
+    has(
+        &rt,
+        b"SELECT count(*) FROM p WHERE a<=-3 AND b!='x''y'",
+        &[
+            piece(0, 6, Shape::Word),
+            piece(7, 12, Shape::Word),
+            piece(12, 13, Shape::Sign(Symbol::Open)),
+            piece(13, 14, Shape::Sign(Symbol::Star)),
+            piece(14, 15, Shape::Sign(Symbol::Close)),
+            piece(16, 20, Shape::Word),
+            piece(21, 22, Shape::Word),
+            piece(23, 28, Shape::Word),
+            piece(29, 30, Shape::Word),
+            piece(30, 32, LESS_OR_EQUAL),
+            piece(32, 34, Shape::Number),
+            piece(35, 38, Shape::Word),
+            piece(39, 40, Shape::Word),
+            piece(40, 42, NOT_EQUAL),
+            piece(42, 48, Shape::Text),
+        ],
+        48,
+    )
+}
+
+#[test]
+fn a_text_ends_at_its_last_quote_that_closes(rt: HostRuntime) -> Result<(), Fail> {
+    has(&rt, b"'abc''d", &[piece(0, 5, Shape::Text)], 5)
+}
+
+#[test]
+fn the_21st_digit_begins_another_number(rt: HostRuntime) -> Result<(), Fail> {
+    has(
+        &rt,
+        b"123456789012345678901",
+        &[piece(0, 20, Shape::Number), piece(20, 21, Shape::Number)],
+        21,
+    )
+}
+
+#[test]
+fn a_sign_without_a_digit_is_no_token(rt: HostRuntime) -> Result<(), Fail> {
+    has(&rt, b"-", &[], 0)
+}
+
+#[test]
+fn no_bytes_have_no_tokens(rt: HostRuntime) -> Result<(), Fail> {
+    has(&rt, b"", &[], 0)
+}
+
+#[test]
+fn tokens_end_where_none_begins(rt: HostRuntime) -> Result<(), Fail> {
+    has(&rt, b"a ! b", &[piece(0, 1, Shape::Word)], 2)
+}

@@ -1,0 +1,171 @@
+use rg_host::{Failed, Host, Source};
+use rg_real::{Access, FileSource, FolderHost, ReaderSource};
+use std::io;
+use std::io::{Read, Write};
+
+/// Gives and takes one byte a call, but fails at its second.
+#[derive(Drop)]
+struct FailsOnce {
+    calls: u8,
+}
+
+impl FailsOnce {
+    fn call(&mut self, length: usize) -> io::Result<usize> {
+        self.calls = self.calls.saturating_add(1);
+        if self.calls == 2 {
+            return Err(io::Error::from_raw_os_error(5));
+        }
+        Ok(length.min(1))
+    }
+}
+
+impl Read for FailsOnce {
+    fn read(&mut self, buf: &mut [u8]) -> io::Result<usize> {
+        let count = self.call(buf.len())?;
+        Ok(count.min(buf.len()))
+    }
+}
+
+impl Write for FailsOnce {
+    fn write(&mut self, buf: &[u8]) -> io::Result<usize> {
+        let count = self.call(buf.len())?;
+        Ok(count.min(buf.len()))
+    }
+
+    fn flush(&mut self) -> io::Result<()> {
+        Ok(())
+    }
+}
+
+/// The number of the system's error.
+fn number_of(error: Option<io::Error>) -> Option<i32> {
+    match error {
+        Some(error) => error.raw_os_error(),
+        None => None,
+    }
+}
+
+#[test]
+fn a_reader_gives_its_bytes_and_then_its_end(rt: HostRuntime) {
+    let mut source = ReaderSource::new(b"abc".as_slice());
+    let mut buf = [0; 2];
+    let first = source.read(&mut buf) == Ok(2) && buf == *b"ab";
+    let second = source.read(&mut buf) == Ok(1) && buf[0] == b'c';
+    let end = source.read(&mut buf) == Ok(0) && number_of(source.error()).is_none();
+    assert!(rt; first && second && end);
+}
+
+#[test]
+fn a_read_that_fails_is_a_failure(rt: HostRuntime) {
+    let mut source = ReaderSource::new(FailsOnce { calls: 0 });
+    let mut buf = [0; 2];
+    assert_eq!(rt; source.read(&mut buf), Ok(1));
+    assert_eq!(rt; source.read(&mut buf), Err(Failed));
+    assert_eq!(rt; number_of(source.error()), Some(5));
+    assert_eq!(rt; source.read(&mut buf), Ok(1));
+}
+
+#[test]
+fn a_write_that_fails_is_a_failure(rt: HostRuntime) {
+    let mut host = FolderHost::new(
+        &rt,
+        rt.alloc(),
+        "no such folder",
+        Access::Read,
+        FailsOnce { calls: 0 },
+    );
+    assert_eq!(rt; host.put(b"ab"), Ok(1));
+    assert_eq!(rt; host.put(b"b"), Err(Failed));
+    assert_eq!(rt; number_of(host.error()), Some(5));
+    assert_eq!(rt; host.put(b"b"), Ok(1));
+}
+
+#[test]
+fn a_file_that_is_missing_fails(rt: HostRuntime) {
+    let mut source = FileSource::new(&rt, "no such file");
+    let mut buf = [0; 2];
+    assert_eq!(rt; source.read(&mut buf), Err(Failed));
+    assert_eq!(rt; number_of(source.error()), Some(2));
+}
+
+/// A host over a folder that is to be written or read, which puts nothing.
+fn over<'a>(
+    rt: &'a HostRuntime,
+    folder: &'a str,
+    access: Access,
+) -> FolderHost<'a, HostRuntime, FailsOnce> {
+    FolderHost::new(rt, rt.alloc(), folder, access, FailsOnce { calls: 0 })
+}
+
+/// Writes these bytes at this place of the events, and syncs them.
+fn write_synced(
+    host: &mut FolderHost<'_, HostRuntime, FailsOnce>,
+    at: u64,
+    bytes: &[u8],
+) -> Result<(), Failed> {
+    host.write_at(2, at, bytes)?;
+    host.sync(2)
+}
+
+#[test]
+fn what_is_written_is_read_again(rt: HostRuntime) -> Result<(), Failed> {
+    let mut host = over(&rt, "written", Access::Write);
+    let mut buf = [0; 4];
+    let was_empty = host.len(2) == Ok(0);
+    write_synced(&mut host, 0, b"abc")?;
+    write_synced(&mut host, 1, b"xyz")?;
+    let is_back = host.read_at(2, 1, &mut buf) == Ok(3) && buf == *b"xyz\0";
+    assert!(rt; was_empty && is_back);
+    let mut reader = over(&rt, "written", Access::Read);
+    let has_all = reader.len(2) == Ok(4) && reader.len(0) == Ok(0);
+    let is_read = reader.read_at(2, 0, &mut buf) == Ok(4) && buf == *b"axyz";
+    assert!(rt; has_all && is_read);
+    Ok(())
+}
+
+#[test]
+fn a_file_gives_its_bytes_and_then_its_end(rt: HostRuntime) -> Result<(), Failed> {
+    let mut host = over(&rt, "given", Access::Write);
+    write_synced(&mut host, 0, b"abc")?;
+    let mut source = FileSource::new(&rt, "given/events");
+    let mut buf = [0; 4];
+    let all = source.read(&mut buf) == Ok(3) && buf == *b"abc\0";
+    let end = source.read(&mut buf) == Ok(0) && number_of(source.error()).is_none();
+    assert!(rt; all && end);
+    Ok(())
+}
+
+#[test]
+fn a_reader_writes_and_makes_nothing(rt: HostRuntime) {
+    let mut host = over(&rt, "unmade", Access::Read);
+    let mut buf = [0; 2];
+    let is_empty = host.len(2) == Ok(0) && host.read_at(2, 0, &mut buf) == Ok(0);
+    let fails = host.write_at(2, 0, b"a") == Err(Failed) && host.sync(2) == Err(Failed);
+    let is_told = host.disk_error().is_some();
+    assert!(rt; is_empty && fails && is_told);
+    assert_eq!(rt; std::fs::exists(&rt, "unmade").ok(), Some(false));
+}
+
+/// What a host gives for a file's length, while another one has the folder.
+fn given_beside(rt: &HostRuntime, folder: &str) -> Result<Result<u64, Failed>, Failed> {
+    let mut host = over(rt, folder, Access::Write);
+    host.sync(0)?;
+    let mut other = over(rt, folder, Access::Write);
+    Ok(other.len(2))
+}
+
+#[test]
+fn a_store_is_written_by_one_host_at_a_time(rt: HostRuntime) -> Result<(), Failed> {
+    assert_eq!(rt; given_beside(&rt, "held")?, Err(Failed));
+    let mut host = over(&rt, "held", Access::Write);
+    assert_eq!(rt; host.len(2)?, 0);
+    Ok(())
+}
+
+#[test]
+fn a_write_past_the_greatest_place_fails(rt: HostRuntime) -> Result<(), Failed> {
+    let mut host = over(&rt, "long", Access::Write);
+    assert_eq!(rt; host.write_at(2, 1 << 62, b"a"), Err(Failed));
+    assert_eq!(rt; host.len(2)?, 0);
+    Ok(())
+}

@@ -1,0 +1,126 @@
+use crate::payments::{ONE, ONE_BY_COLUMNS, SCHEMA_PAYLOAD, TWO, file, store};
+use rg_host::{Host, MemHost};
+use rg_info::{InfoFault, info};
+use std::alloc::Global;
+use std::test::Fail;
+
+/// A checkpoint of three payments: one query, whose text is `q`, no spot and no row.
+const CHECKPOINT: [u8; 30] = [
+    0x42, 0, 0, 0, 1, 0, 0, 0, 1, b'q', 0, 0, 0, 0, 0, 0, 0, 3, 0, 0, 0, 0, 0, 0, 0, 0, 0, 0, 0, 0,
+];
+
+const WHOLE: &[u8] = b"events 3\nnext 3\ntime 300000\nframes 3\nslot 0 3 1\nslot 1 none\n";
+
+/// Whether a host's store is told so.
+fn tells(alloc: Global, host: &mut MemHost, text: &[u8]) -> bool {
+    info(alloc, host) == Ok(()) && host.output() == text
+}
+
+#[test]
+fn three_payments_and_a_checkpoint_are_told(rt: HostRuntime) -> Result<(), Fail> {
+    let log = file(rt.alloc(), &[SCHEMA_PAYLOAD, &TWO, &ONE])?;
+    let slot = file(rt.alloc(), &[&CHECKPOINT])?;
+    let table: [(&[u8], &[u8], &[u8]); 2] = [
+        (&slot, b"", WHOLE),
+        (
+            b"",
+            &slot,
+            b"events 3\nnext 3\ntime 300000\nframes 3\nslot 0 none\nslot 1 3 1\n",
+        ),
+    ];
+    for (first, second, text) in table {
+        let mut host = store(rt.alloc(), &log, first, second, &[])?;
+        assert!(rt; tells(rt.alloc(), &mut host, text));
+        assert!(rt; host.file(1) == second && host.file(2) == log.as_slice());
+    }
+    Ok(())
+}
+
+#[test]
+fn a_chunk_by_columns_counts_as_one_of_rows(rt: HostRuntime) -> Result<(), Fail> {
+    let log = file(rt.alloc(), &[SCHEMA_PAYLOAD, &TWO, &ONE_BY_COLUMNS])?;
+    let slot = file(rt.alloc(), &[&CHECKPOINT])?;
+    let mut host = store(rt.alloc(), &log, &slot, b"", &[])?;
+    assert!(rt; tells(rt.alloc(), &mut host, WHOLE));
+    Ok(())
+}
+
+#[test]
+fn a_chunk_of_bad_columns_is_damage(rt: HostRuntime) -> Result<(), Fail> {
+    // the last byte of the payload: no difference is 0 then, so the base isn't the least amount
+    let mut bad = ONE_BY_COLUMNS;
+    bad[72] = 1;
+    let log = file(rt.alloc(), &[SCHEMA_PAYLOAD, &TWO, &bad])?;
+    let slot = file(rt.alloc(), &[&CHECKPOINT])?;
+    let mut host = store(rt.alloc(), &log, &slot, b"", &[])?;
+    assert_eq!(rt; info(rt.alloc(), &mut host), Err(InfoFault::Damaged(163)));
+    assert_eq!(rt; host.output(), b"".as_slice());
+    Ok(())
+}
+
+#[test]
+fn a_store_without_payments_has_none(rt: HostRuntime) -> Result<(), Fail> {
+    let schema = file(rt.alloc(), &[SCHEMA_PAYLOAD])?;
+    let table: [(&[u8], &[u8]); 2] = [
+        (
+            b"",
+            b"events 0\nnext 0\ntime -\nframes 0\nslot 0 none\nslot 1 none\n",
+        ),
+        (
+            &schema,
+            b"events 0\nnext 0\ntime -\nframes 1\nslot 0 none\nslot 1 none\n",
+        ),
+    ];
+    for (log, text) in table {
+        let mut host = store(rt.alloc(), log, b"", b"", &[])?;
+        assert!(rt; tells(rt.alloc(), &mut host, text));
+    }
+    Ok(())
+}
+
+#[test]
+fn a_damaged_log_puts_nothing(rt: HostRuntime) -> Result<(), Fail> {
+    let log = file(rt.alloc(), &[SCHEMA_PAYLOAD, &TWO, &ONE])?;
+    assert_eq!(rt; log.len(), 240);
+    let slot = file(rt.alloc(), &[&CHECKPOINT])?;
+    for cut in 2..log.len() {
+        let place = match cut {
+            0..=57 => 0,
+            58..=163 => 57,
+            _ => 163,
+        };
+        let mut host = store(rt.alloc(), &log[..cut], &slot, b"", &[])?;
+        let is_damage = info(rt.alloc(), &mut host) == Err(InfoFault::Damaged(place));
+        assert!(rt; is_damage && host.output().is_empty(), "at {cut}");
+    }
+    Ok(())
+}
+
+#[test]
+fn a_slot_that_is_cut_is_none(rt: HostRuntime) -> Result<(), Fail> {
+    let log = file(rt.alloc(), &[SCHEMA_PAYLOAD])?;
+    let slot = file(rt.alloc(), &[&CHECKPOINT])?;
+    let mut cut = file(rt.alloc(), &[&CHECKPOINT])?;
+    cut.pop();
+    let mut host = store(rt.alloc(), &log, &cut, &slot, &[])?;
+    let text = b"events 0\nnext 0\ntime -\nframes 1\nslot 0 none\nslot 1 3 1\n";
+    assert!(rt; tells(rt.alloc(), &mut host, text));
+    Ok(())
+}
+
+#[test]
+fn each_call_that_fails_is_a_fault(rt: HostRuntime) -> Result<(), Fail> {
+    let log = file(rt.alloc(), &[SCHEMA_PAYLOAD, &TWO, &ONE])?;
+    let slot = file(rt.alloc(), &[&CHECKPOINT])?;
+    let mut whole = store(rt.alloc(), &log, &slot, b"", &[])?;
+    assert_eq!(rt; info(rt.alloc(), &mut whole), Ok(()));
+    let mut last = Ok(());
+    for call in 0..whole.calls() {
+        let mut host = store(rt.alloc(), &log, &slot, b"", &[call])?;
+        last = info(rt.alloc(), &mut host);
+        assert!(rt; last != Ok(()) && host.output().is_empty(), "at {call}");
+    }
+    // the last call is the put
+    assert_eq!(rt; last, Err(InfoFault::Write));
+    Ok(())
+}

@@ -1,0 +1,511 @@
+ghost use Rattle.std.specs.Prelude.{◌≡◌, ◌≤◌, ◌<◌, ◌^◌, [], length, OnOk, IfOk};
+ghost use Rattle.rg_frame.specs.LogState.{ReachesEnd};
+ghost use Rattle.rg_reservoir.specs.Kept.{log_of, opened};
+
+use crate::payments::{FILE, SCHEMA, WRITTEN, host_with};
+use rg_event::{Event, Room, Schema, Value, Values, Word};
+use rg_host::{FuseHost, Host};
+use rg_past::{Past, PastFault, Spot};
+use rg_reservoir::{Reservoir, ReservoirFault, Stage, Stored, Walk};
+use std::alloc::Global;
+use std::process::Abort;
+use std::test::Fail;
+
+/// The frame of a chunk of one payment more, and a closed gate.
+const THIRD: [u8; 83] = [
+    0x01, 0x00, 0x00, 0x00, 0x00, 0x00, 0x00, 0x00, 0x49, 0x4b, 0x00, 0x00, 0x00, 0x01, 0x00, 0x00,
+    0x00, 0x00, 0x00, 0x00, 0x00, 0x02, 0x00, 0x00, 0x00, 0x00, 0x00, 0x04, 0x93, 0xe0, 0x00, 0x00,
+    0x00, 0x00, 0x00, 0x00, 0x00, 0x02, 0x00, 0x00, 0x00, 0x00, 0x00, 0x04, 0x93, 0xe0, 0x00, 0x00,
+    0x00, 0x00, 0x00, 0x00, 0x00, 0x02, 0x01, 0x00, 0x00, 0x00, 0x00, 0x00, 0x00, 0x04, 0x93, 0xe0,
+    0x01, 0x00, 0x02, 0x63, 0x31, 0x02, 0x6d, 0x31, 0x00, 0x00, 0x00, 0x00, 0x00, 0x00, 0x00, 0x32,
+    0x01, 0x00, 0x00,
+];
+
+fn schema(alloc: Global, text: &[u8]) -> Result<Schema, ReservoirFault> {
+    match Schema::parse(alloc, text) {
+        Ok(schema) => Ok(schema),
+        Err(_) => Err(ReservoirFault::Memory),
+    }
+}
+
+fn word(alloc: Global, text: &[u8]) -> Result<Value, ReservoirFault> {
+    match Word::new(alloc, text)? {
+        Some(word) => Ok(Value::Text(word)),
+        None => Err(ReservoirFault::Memory),
+    }
+}
+
+/// A payment with the card `c1`.
+fn payment(
+    alloc: Global,
+    offset: u64,
+    time: u64,
+    merchant: &[u8],
+    amount: i64,
+) -> Result<Event, ReservoirFault>
+    ensures { IfOk result (λ event. event.offset ≡ offset) }
+{
+    let mut values = Values::new(alloc);
+    values.push(word(alloc, b"c1")?)?;
+    values.push(word(alloc, merchant)?)?;
+    values.push(Value::Int(amount))?;
+    Ok(Event {
+        offset,
+        time,
+        values,
+    })
+}
+
+/// Takes an event, and commits it.
+fn put<H: Host>(reservoir: &mut Reservoir, host: &mut H, event: Event) -> Result<(), ReservoirFault>
+    requires small { event.offset < 2 ^ 62 }
+    requires reaches { ReachesEnd (log_of reservoir.old) (H.now host.old) }
+    ensures { OnOk result (ReachesEnd (log_of reservoir.new) (H.now host.new)) }
+{
+    if !reservoir.has_room() {
+        return Err(ReservoirFault::Full);
+    }
+    match reservoir.append(event) {
+        Ok(()) => {}
+        Err(fault) => return Err(fault),
+    }
+    match reservoir.commit(host) {
+        Ok(()) => Ok(()),
+        Err(fault) => Err(fault),
+    }
+}
+
+/// A reservoir with a chunk for each of three events, without columns, of offset 0, 1 and 2.
+fn three<H: Host>(alloc: Global, host: &mut H, cache: u32) -> Result<Reservoir, ReservoirFault>
+    requires { (1 ≤ cache) × (cache ≤ 1024) }
+{
+    let room = Room {
+        chunk: 1,
+        cache,
+        limit: 100,
+    };
+    let schema = schema(alloc, b"payments(ts)")?;
+    let mut reservoir = match Reservoir::attach(alloc, host, &schema, room) {
+        Ok(reservoir) => reservoir,
+        Err(fault) => return Err(fault),
+    };
+    put(&mut reservoir, host, bare(alloc, 0))?;
+    put(&mut reservoir, host, bare(alloc, 1))?;
+    put(&mut reservoir, host, bare(alloc, 2))?;
+    Ok(reservoir)
+}
+
+/// An event without values.
+fn bare(alloc: Global, offset: u64) -> Event
+    ensures { result.offset ≡ offset }
+{
+    Event {
+        offset,
+        time: 10,
+        values: Values::new(alloc),
+    }
+}
+
+/// Whether the event of a spot has this offset.
+fn shows<H: Host>(
+    reservoir: &mut Reservoir,
+    host: &mut H,
+    spot: &Spot,
+    offset: u64,
+) -> Result<bool, ReservoirFault> {
+    let mut spot = *spot;
+    if spot.number > reservoir.count() {
+        return Ok(false);
+    }
+    match reservoir.peek(host, &mut spot)? {
+        Some(event) => Ok(event.offset == offset),
+        None => Ok(false),
+    }
+}
+
+/// How many chunks were loaded, and how many are held, after two looks at event 0 and two at event
+/// 2, in turn. One more look at event 2 reads nothing.
+fn looks(alloc: Global, cache: u32) -> Result<(u64, u32), Fail>
+    requires { (1 ≤ cache) × (cache ≤ 1024) }
+{
+    let mut host = host_with(alloc, &[], &[])?;
+    let mut reservoir = three(alloc, &mut host, cache)?;
+    let (first, last) = (spot(22, 0, 0), spot(154, 0, 2));
+    for _ in 0..2u32 {
+        let is_first = shows(&mut reservoir, &mut host, &first, 0)?;
+        if !is_first || !shows(&mut reservoir, &mut host, &last, 2)? {
+            return Err(Fail::new("another event was shown"));
+        }
+    }
+    let reads = host.count_reads();
+    let is_last = shows(&mut reservoir, &mut host, &last, 2)?;
+    if !is_last || host.count_reads() != reads {
+        return Err(Fail::new("a chunk that is held was read"));
+    }
+    Ok((reservoir.loads(), reservoir.held()))
+}
+
+#[test]
+fn a_cache_of_one_loads_a_chunk_again(rt: HostRuntime) -> Result<(), Fail> {
+    assert_eq!(rt; looks(rt.alloc(), 1)?, (4, 1));
+    assert_eq!(rt; looks(rt.alloc(), 2)?, (2, 2));
+    Ok(())
+}
+
+/// Takes an event into the open chunk.
+fn take(reservoir: &mut Reservoir, event: Event) -> Result<(), ReservoirFault>
+    requires { event.offset < 2 ^ 62 }
+    ensures { log_of reservoir.new ≡ log_of reservoir.old }
+{
+    if !reservoir.has_room() {
+        return Err(ReservoirFault::Full);
+    }
+    reservoir.append(event)
+}
+
+/// Commits a chunk of two payments.
+fn commit_two<H: Host>(
+    alloc: Global,
+    reservoir: &mut Reservoir,
+    host: &mut H,
+) -> Result<(), ReservoirFault>
+    requires { ReachesEnd (log_of reservoir.old) (H.now host.old) }
+    ensures { OnOk result (ReachesEnd (log_of reservoir.new) (H.now host.new)) }
+{
+    let first = payment(alloc, 0, 0, b"m1", 100)?;
+    let second = payment(alloc, 1, 299_999, b"m2", 200)?;
+    take(reservoir, first)?;
+    take(reservoir, second)?;
+    match reservoir.commit(host) {
+        Ok(()) => Ok(()),
+        Err(fault) => Err(fault),
+    }
+}
+
+/// A reservoir of payments, with chunks of two events.
+fn payments<H: Host>(alloc: Global, host: &mut H) -> Result<Reservoir, ReservoirFault>
+    ensures reaches { IfOk result (λ r. ReachesEnd (log_of r) (H.now host.new)) }
+    ensures empty { IfOk result (λ r. opened r ≡ []) }
+{
+    let room = Room {
+        chunk: 2,
+        cache: 1,
+        limit: 100,
+    };
+    let schema = schema(alloc, SCHEMA)?;
+    Reservoir::attach(alloc, host, &schema, room)
+}
+
+#[test]
+fn a_log_is_written_as_the_format_says(rt: HostRuntime) -> Result<(), Fail> {
+    let alloc = rt.alloc();
+    let mut host = host_with(alloc, &[], &[])?;
+    let mut reservoir = payments(alloc, &mut host)?;
+    assert!(rt; host.file(2).len() == 58 && reservoir.last_time().is_none());
+    commit_two(alloc, &mut reservoir, &mut host)?;
+    assert_eq!(rt; host.file(2), WRITTEN.as_slice());
+    Ok(())
+}
+
+#[test]
+fn a_log_of_two_chunks_has_its_gates_where_the_format_says(rt: HostRuntime) -> Result<(), Fail> {
+    let alloc = rt.alloc();
+    let mut host = host_with(alloc, &[], &[])?;
+    let mut reservoir = payments(alloc, &mut host)?;
+    commit_two(alloc, &mut reservoir, &mut host)?;
+    let third = payment(alloc, 2, 300_000, b"m1", 50)?;
+    put(&mut reservoir, &mut host, third)?;
+    let log = host.file(2);
+    let has_third = log.len() == 237 && log.get(154..) == Some(THIRD.as_slice());
+    assert!(rt; has_third && log.get(..154) == WRITTEN.get(..154));
+    for (at, gate) in [(0, 1u8), (57, 1), (154, 1), (236, 0)] {
+        assert_eq!(rt; log.get(at), Some(&gate));
+    }
+    Ok(())
+}
+
+#[test]
+fn a_log_of_rows_goes_on_by_columns(rt: HostRuntime) -> Result<(), Fail> {
+    let alloc = rt.alloc();
+    let mut host = host_with(alloc, &FILE, &[])?;
+    let mut reservoir = payments(alloc, &mut host)?;
+    let third = payment(alloc, 2, 300_000, b"m1", 50)?;
+    put(&mut reservoir, &mut host, third)?;
+    let is_kept = host.file(2).get(..163) == FILE.get(..163);
+    assert!(rt; is_kept && host.file(2).get(163..) == Some(THIRD.as_slice()));
+    let mut past = Stored::new(&mut reservoir, &mut host);
+    assert!(rt; walk(&rt, &mut past, &[0, 1, 2]).is_ok());
+    Ok(())
+}
+
+#[test]
+fn a_log_is_attached_again(rt: HostRuntime) -> Result<(), Fail> {
+    let mut host = host_with(rt.alloc(), &FILE, &[])?;
+    let reservoir = payments(rt.alloc(), &mut host)?;
+    let counts = (
+        reservoir.count(),
+        reservoir.committed(),
+        reservoir.next_offset(),
+    );
+    assert_eq!(rt; counts, (2, 2, 2));
+    assert_eq!(rt; reservoir.last_time(), Some(299_999));
+    assert_eq!(rt; host.file(2), FILE.as_slice());
+    Ok(())
+}
+
+/// Meets events of these offsets from the start on, and then the end.
+fn walk<P: Past>(rt: &impl Abort, past: &mut P, offsets: &[u64]) -> Result<(), PastFault> {
+    let mut spot = past.start();
+    for offset in offsets {
+        match past.peek(&mut spot)? {
+            Some(event) => {
+                assert_eq!(rt; event.offset, *offset);
+                past.advance(&mut spot);
+            }
+            None => panic!(rt; "the end stands before offset {offset}"),
+        }
+    }
+    assert!(rt; past.peek(&mut spot)?.is_none());
+    Ok(())
+}
+
+#[test]
+fn a_past_over_a_disk_meets_each_event(rt: HostRuntime) -> Result<(), Fail> {
+    let mut host = host_with(rt.alloc(), &[], &[])?;
+    let mut reservoir = three(rt.alloc(), &mut host, 1)?;
+    let mut past = Stored::new(&mut reservoir, &mut host);
+    assert!(rt; walk(&rt, &mut past, &[0, 1, 2]).is_ok());
+    Ok(())
+}
+
+#[test]
+fn a_walk_meets_each_frame(rt: HostRuntime) -> Result<(), Fail> {
+    let mut host = host_with(rt.alloc(), &FILE, &[])?;
+    let mut frames = Walk::new(rt.alloc());
+    let first = frames.next(&mut host)?;
+    let is_schema = matches!(&first, Some(Stage::Schema(_)));
+    let second = frames.next(&mut host)?;
+    let has_two = match &second {
+        Some(Stage::Chunk(chunk)) => chunk.count() == 2,
+        _ => false,
+    };
+    assert!(rt; is_schema && has_two);
+    assert!(rt; frames.next(&mut host)?.is_none());
+    Ok(())
+}
+
+/// How many events the chunk behind the first frame has, or why a walk refuses it.
+fn second(alloc: Global, bytes: &[u8]) -> Result<Result<u32, ReservoirFault>, Fail> {
+    let mut host = host_with(alloc, bytes, &[])?;
+    let mut frames = Walk::new(alloc);
+    frames.next(&mut host)?;
+    match frames.next(&mut host) {
+        Ok(Some(Stage::Chunk(chunk))) => Ok(Ok(chunk.count())),
+        Ok(_) => Err(Fail::new("the chunk is missing")),
+        Err(fault) => Ok(Err(fault)),
+    }
+}
+
+#[test]
+fn a_chunk_of_bad_columns_is_refused_where_it_stands(rt: HostRuntime) -> Result<(), Fail> {
+    let alloc = rt.alloc();
+    // Offsets that are others than the head's, that don't rise, and that have no width; a width that isn't the
+    // least; texts that are too long; amounts whose base isn't the least one.
+    for (at, byte) in [(110, 1u8), (113, 0), (111, 3), (122, 8), (131, 9), (152, 1)] {
+        let mut bytes = WRITTEN;
+        if at < bytes.len() {
+            bytes[at] = byte;
+        }
+        let refused = second(alloc, &bytes)?;
+        assert_eq!(rt; refused, Err(ReservoirFault::Damaged(57)), "{byte} at {at}");
+    }
+    assert_eq!(rt; second(alloc, &WRITTEN)?, Ok(2));
+    Ok(())
+}
+
+/// Why a log with this byte in place of the one that stood there isn't attached.
+fn refusal(
+    alloc: Global,
+    bytes: &[u8],
+    at: usize,
+    byte: u8,
+    text: &[u8],
+) -> Result<Option<ReservoirFault>, Fail> {
+    let mut bytes = bytes.to_vec(alloc)?;
+    if at < bytes.len() {
+        bytes[at] = byte;
+    }
+    let mut host = host_with(alloc, &bytes, &[])?;
+    let room = Room {
+        chunk: 1,
+        cache: 1,
+        limit: 2,
+    };
+    let schema = schema(alloc, text)?;
+    Ok(Reservoir::attach(alloc, &mut host, &schema, room).err())
+}
+
+/// The bytes of a log whose frames stand at 0, 22, 88 and 154, and which ends at 220.
+fn sound_bytes(alloc: Global) -> Result<Vec<u8>, Fail> {
+    let mut host = host_with(alloc, &[], &[])?;
+    three(alloc, &mut host, 1)?;
+    Ok(host.file(2).to_vec(alloc)?)
+}
+
+#[test]
+fn a_bad_log_is_refused_at_its_first_bad_frame(rt: HostRuntime) -> Result<(), Fail> {
+    let alloc = rt.alloc();
+    let bytes = sound_bytes(alloc)?;
+    let rows: [(usize, u8, Option<ReservoirFault>); 8] = [
+        (220, 0, None),
+        (22, 0, None),
+        (9, 0x43, Some(ReservoirFault::Damaged(0))),
+        (30, 0xff, Some(ReservoirFault::Damaged(22))),
+        (31, 0x44, Some(ReservoirFault::Damaged(22))),
+        (35, 0, Some(ReservoirFault::Damaged(22))),
+        (109, 0, Some(ReservoirFault::Damaged(88))),
+        (183, 9, Some(ReservoirFault::Damaged(154))),
+    ];
+    for (at, byte, fault) in rows {
+        assert_eq!(rt; refusal(alloc, &bytes, at, byte, b"payments(ts)")?, fault);
+    }
+    Ok(())
+}
+
+#[test]
+fn a_log_of_another_schema_is_refused(rt: HostRuntime) -> Result<(), Fail> {
+    let bytes = sound_bytes(rt.alloc())?;
+    assert_eq!(rt;
+        refusal(rt.alloc(), &bytes, 0, 1, b"payments(at)")?,
+        Some(ReservoirFault::SchemaDiffers)
+    );
+    Ok(())
+}
+
+#[test]
+fn a_cut_log_is_refused_at_its_last_frame(rt: HostRuntime) -> Result<(), Fail> {
+    let bytes = sound_bytes(rt.alloc())?;
+    let cuts: [(usize, u64); 3] = [(22, 0), (87, 22), (220, 154)];
+    for (length, place) in cuts {
+        if length <= bytes.len() {
+            let fault = refusal(rt.alloc(), &bytes[..length], 0, 1, b"payments(ts)")?;
+            assert_eq!(rt; fault, Some(ReservoirFault::Damaged(place)));
+        }
+    }
+    Ok(())
+}
+
+/// Whether these spots name events or the end of a log, which is attached first. No chunk is loaded.
+fn names_in(alloc: Global, bytes: &[u8], text: &[u8], spots: &[Spot]) -> Result<bool, Fail> {
+    let mut host = host_with(alloc, bytes, &[])?;
+    let room = Room {
+        chunk: 1,
+        cache: 1,
+        limit: 100,
+    };
+    let schema = schema(alloc, text)?;
+    let reservoir = Reservoir::attach(alloc, &mut host, &schema, room)?;
+    let named = reservoir.names(&mut host, spots)?;
+    if reservoir.loads() > 0 || reservoir.held() > 0 {
+        return Err(Fail::new("a chunk was loaded"));
+    }
+    Ok(named)
+}
+
+fn spot(place: u64, index: u32, number: u64) -> Spot {
+    Spot {
+        place,
+        index,
+        number,
+    }
+}
+
+#[test]
+fn a_spot_is_named_in_each_of_its_spellings(rt: HostRuntime) -> Result<(), Fail> {
+    let alloc = rt.alloc();
+    let bytes = sound_bytes(alloc)?;
+    let rows: [(Spot, bool); 16] = [
+        (spot(22, 0, 0), true),
+        (spot(22, 1, 1), true),
+        (spot(88, 0, 1), true),
+        (spot(88, 1, 2), true),
+        (spot(154, 0, 2), true),
+        (spot(154, 1, 3), true),
+        (spot(220, 0, 3), true),
+        // Another number, a place inside a chunk and one inside a frame's length.
+        (spot(22, 0, 1), false),
+        (spot(88, 0, 0), false),
+        (spot(60, 0, 0), false),
+        (spot(23, 0, 0), false),
+        // An index one past the count, the schema's frame, and what is behind the end.
+        (spot(22, 2, 2), false),
+        (spot(0, 0, 0), false),
+        (spot(220, 1, 3), false),
+        (spot(220, 0, 4), false),
+        (spot(221, 0, 3), false),
+    ];
+    for (spot, want) in rows {
+        let is = names_in(alloc, &bytes, b"payments(ts)", &[spot])?;
+        assert_eq!(rt; is, want, "at {spot:?}");
+    }
+    Ok(())
+}
+
+#[test]
+fn each_spot_of_a_list_is_looked_at(rt: HostRuntime) -> Result<(), Fail> {
+    let alloc = rt.alloc();
+    let rows: [(&[Spot], bool); 6] = [
+        (&[], true),
+        (
+            &[
+                spot(57, 0, 0),
+                spot(57, 1, 1),
+                spot(57, 2, 2),
+                spot(163, 0, 2),
+            ],
+            true,
+        ),
+        (&[spot(57, 1, 1), spot(57, 1, 1)], true),
+        (&[spot(57, 0, 0), spot(57, 3, 3)], false),
+        (&[spot(57, 3, 2), spot(57, 0, 0)], false),
+        (&[spot(57, 0, 0), spot(58, 0, 0), spot(57, 1, 1)], false),
+    ];
+    for (spots, want) in rows {
+        assert_eq!(rt;
+            names_in(alloc, &FILE, SCHEMA, spots)?,
+            want,
+            "at {spots:?}"
+        );
+    }
+    Ok(())
+}
+
+#[test]
+fn without_a_chunk_the_end_is_behind_the_first_frame(rt: HostRuntime) -> Result<(), Fail> {
+    let alloc = rt.alloc();
+    for (at, want) in [
+        (spot(22, 0, 0), true),
+        (spot(0, 0, 0), false),
+        (spot(22, 1, 0), false),
+    ] {
+        assert_eq!(rt;
+            names_in(alloc, &[], b"payments(ts)", &[at])?,
+            want,
+            "at {at:?}"
+        );
+    }
+    Ok(())
+}
+
+#[test]
+fn a_failed_read_is_no_answer(rt: HostRuntime) -> Result<(), Fail> {
+    let alloc = rt.alloc();
+    let mut host = host_with(alloc, &FILE, &[])?;
+    let reservoir = payments(alloc, &mut host)?;
+    let mut fuse = FuseHost::new(host, 3);
+    assert_eq!(rt;
+        reservoir.names(&mut fuse, &[spot(57, 0, 0)]),
+        Err(ReservoirFault::Disk)
+    );
+    Ok(())
+}

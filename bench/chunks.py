@@ -2,9 +2,8 @@
 """Writes the log of a store again with each chunk as rows, into another folder, and prints how many payments there are
 and how many bytes both logs have.
 
-Usage: chunks.py STORE OTHER. The bytes are those of docs/STORE.md and docs/FORMATS.md. The slots are left out, since
-their spots name places of the old log. It fails where a frame or a column ends too early or too late; it checks no
-more of the log than that."""
+Usage: chunks.py STORE OTHER. The bytes are those of docs/STORE.md. The slots are left out, since their spots name
+places of the old log. It fails where a frame or a column ends too early or too late; it checks no more of the log."""
 
 import os
 import sys

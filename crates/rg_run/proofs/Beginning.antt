@@ -6,7 +6,8 @@ use Rattle.rg_host.specs.Image.{Image}
 use Rattle.rg_host.specs.Lines.{ended, lines_of}
 use Rattle.rg_host.specs.Moments.{Moment, Moments, LeavesFiles}
 use Rattle.rg_host.specs.Puts.{IsPrefix, IsPartWay, Puts}
-use Rattle.rg_host.proofs.Runs.{moments-weaker, moments_then}
+use Rattle.rg_host.specs.Reading.{Reading}
+use Rattle.rg_host.proofs.Runs.{moments-none, moments-weaker}
 use Rattle.rg_event.specs.declared.event.Event.{Event}
 use Rattle.rg_event.specs.Rising.{IsRising, next_offset}
 use Rattle.rg_config.specs.Plans.{Planned}
@@ -16,12 +17,12 @@ use Rattle.rg_reply.specs.declared.mark.Mark.TheVariants.{Opened}
 use Rattle.rg_course.specs.Laws.{IsPrefixOf}
 use Rattle.rg_course.specs.Output.{open_line, out}
 use Rattle.rg_course.specs.Steps.{IsAtRest}
-use Rattle.rg_course.specs.Stores.{Course, IsKeptInStore, IsNear, StaysOnCourseSince}
+use Rattle.rg_course.specs.Stores.{Course, IsKeptInStore, IsNear, StaysOnCourse, StaysOnCourseSince}
 use Rattle.rg_course.specs.Turns.{IsBetween}
 use Rattle.rg_course.proofs.Betweens.{at_rest_first, between_first}
 use Rattle.rg_course.proofs.Courses.{on_course_mid_step, on_course_put}
 use Rattle.rg_course.proofs.Hosts.{part_way_more, put as putting}
-use Rattle.rg_course.proofs.Keeping.{after_step, mid_step_kept, rest_kept}
+use Rattle.rg_course.proofs.Keeping.{after_step, mid_step_kept}
 use Rattle.rg_course.proofs.Marking.{open_marks}
 use Rattle.rg_course.proofs.Texts.{mark_no_lf}
 use Rattle.rg_log.specs.Log.{HasEvents}
@@ -33,8 +34,11 @@ use Rattle.rg_recover.proofs.Sound.{long}
 use Rattle.rg_turn.specs.Turning.{IsAwaiting, terms_of}
 use Rattle.rg_turn.proofs.Stepping.{running_still}
 use Rattle.rg_turn.proofs.Telling.{next_by}
-use Rattle.rg_run.specs.Begun.{IsReadyRun, begun_by, course_for}
-use Rattle.rg_run.specs.UnderWay.{IsUnopened}
+use Rattle.rg_run.specs.Answered.{IsFresh}
+use Rattle.rg_run.specs.Begun.{Begun, IsReadyRun, begun_by, lines_in, course_for}
+use Rattle.rg_run.specs.Opened.{IsToBegin}
+use Rattle.rg_run.specs.UnderWay.{IsUnderWay, IsUnopened}
+use Rattle.rg_run.proofs.Runs.{way_first}
 
 module _ {H : Type 0} (now : H → Option Image) (may : H → Image → Type 0) (clock : H → ℕ) (since : H → ℕ → Moment → Type 0) (said : H → Option (List ℕ)) (plan : Planned) (old : H) (ready : IsReadyRun plan (now old) (may old) (said old)) (from first : ℕ) (input : List ℕ) where
   abbrev pub course : Course
@@ -89,54 +93,21 @@ module _ {H : Type 0} (now : H → Option Image) (may : H → Image → Type 0) 
       at_open : IsAtRest (store_of plan) course [] ready.held keep (may opened)
       at_open = subst (λ (l : List Event). IsAtRest (store_of plan) course [] l keep (may opened)) (append-nil ready.held) (after_step Image (store_of plan) course [] ready.held [] keep (IsAsRead v (may old)) (may opened) (at_read keep) (begins keep) near (λ u left. (stepped u left).0))
 
-      -- the open line is put, or a part of it
-      module _ (new : H) (files : LeavesFiles now may clock since opened new) where
-        put_holds : (m : Moment) → may opened m.image × IsPartWay ready.put (ended (open_line ready.held from ∷ [])) m.said → P m
-        put_holds m p = inr (on_course_put Image (store_of plan) course [] (open_line ready.held from ∷ []) (out (terms_of plan) ready.held first (lines_of input)) ready.held keep (may opened) [] m.image m.said at_open tt (mark_no_lf (Opened (next_offset ready.held) (length ready.held) from), tt) refl
-            (open_marks Image (store_of plan) ready.held from ready.held keep (may opened)) p.0 (subst (λ (l : List ℕ). IsPartWay l (ended (open_line ready.held from ∷ [])) m.said) nothing_said p.1))
-
-        pub part_moments : (part : List ℕ) → IsPrefix part (ended (open_line ready.held from ∷ [])) → Puts said clock since opened new part → Moments clock since old new P
-        part_moments part front puts =
-            let p = putting H now may clock since said opened new ready.put part told_opened files puts in
-            moments_then clock since old opened new P (λ m. may opened m.image × IsPartWay ready.put part m.said) P opening_moments p.moments (λ m h. h)
-            (λ m h. put_holds m (h.0, part_way_more ready.put part (ended (open_line ready.held from ∷ [])) m.said front h.1))
-
-        module _ {T : Type 0} (told : Type 0) (cells : Cells) (s : Sitting T) (keep_is : s.keep ≡ keep) (running : IsRunning plan (now opened) (may opened) told cells s)
-            (events : events_of (now opened) s ≡ ready.held) (stored : stored_of (now opened) s ≡ ready.held) (puts : Puts said clock since opened new (ended (open_line ready.held from ∷ []))) where
-          abbrev put_now : List ℕ
-          put_now = ready.put ++ ended (open_line ready.held from ∷ [])
-
-          now_same : now new ≡ now opened
-          now_same = files.now_stays
-
-          events_now : events_of (now new) s ≡ ready.held
-          events_now = ap (λ (i : Option Image). events_of i s) now_same ∙ events
-
-          stored_now : stored_of (now new) s ≡ ready.held
-          stored_now = ap (λ (i : Option Image). stored_of i s) now_same ∙ stored
-
-          first_between : IsBetween (store_of plan) (terms_of plan) course ready.held first (lines_of input) ready.held keep (may new) put_now
-          first_between =
-              let p = putting H now may clock since said opened new ready.put (ended (open_line ready.held from ∷ [])) told_opened files puts in
-              between_first Image (store_of plan) (terms_of plan) ready.put ready.held from first (lines_of input) keep (may opened) (may new) put_now at_open p.fewer refl
-
-          pub first_awaits : IsAwaiting plan course first (lines_of input) (now new) (may new) (said new) told cells s × (events_of (now new) s ≡ ready.held)
-          first_awaits =
-              let p = putting H now may clock since said opened new ready.put (ended (open_line ready.held from ∷ [])) told_opened files puts in
-              let store = store_of plan in
-              let terms = terms_of plan in
-              let lines = lines_of input in
-              let b1 = subst (λ (es : List Event). IsBetween store terms course es first lines ready.held keep (may new) put_now) (sym events_now) first_between in
-              let b2 = subst (λ (es : List Event). IsBetween store terms course (events_of (now new) s) first lines es keep (may new) put_now) (sym stored_now) b1 in
-              let b3 = subst (λ (k : Option ℕ). IsBetween store terms course (events_of (now new) s) first lines (stored_of (now new) s) k (may new) put_now) (sym keep_is) b2 in (
-                record {
-                  running = running_still now may clock since said plan course first (Option.None) lines told cells opened new s files running;
-                  put = put_now;
-                  told = p.told;
-                  between = b3;
-                },
-                events_now,
-              )
+      module _ {T : Type 0} (told : Type 0) (cells : Cells) (s : Sitting T) (keep_is : s.keep ≡ keep) (running : IsRunning plan (now opened) (may opened) told cells s)
+          (events : events_of (now opened) s ≡ ready.held) (stored : stored_of (now opened) s ≡ ready.held) (left : Option (List ℕ)) (next count offset : ℕ) where
+        pub to_begin : left ≡ Some input → next ≡ next_offset ready.held → count ≡ length ready.held → offset ≡ first → IsToBegin plan (begun_by ready from first input) left next count from offset (now opened) (may opened) (said opened) told cells s
+        to_begin comes next_is count_is offset_is = record {
+          at_rest = subst (λ (k : Option ℕ). IsAtRest (store_of plan) course [] ready.held k (may opened)) (sym keep_is) at_open;
+          told = told_opened;
+          comes = comes;
+          offset_is = offset_is;
+          running = running;
+          events = events;
+          stored = stored;
+          next_is = next_is;
+          count_is = count_is;
+          from_is = refl;
+        }
 
 -- the numbers of an opened store
 pub numbers : {T : Type 0} (plan : Planned) (now : Option Image) (may : Image → Type 0) (told : Type 0) (cells : Cells) (s : Sitting T) → IsRunning plan now may told cells s → (held : List Event) → events_of now s ≡ held → (next count : ℕ) → next ≡ next_of s.reservoir → count ≡ count_in s.reservoir → (next ≡ next_offset held) × (count ≡ length held)
@@ -145,3 +116,56 @@ numbers plan now may told cells s running held events next count next_is count_i
 -- the open line
 pub open_is : (held : List Event) (from next count : ℕ) → next ≡ next_offset held → count ≡ length held → ended (mark_line (Opened next count from) ∷ []) ≡ ended (open_line held from ∷ [])
 open_is held from next count n c = ap (λ k. ended (mark_line (Opened k count from) ∷ [])) n ∙ ap (λ k. ended (mark_line (Opened (next_offset held) k from) ∷ [])) c
+
+-- Of a run that is to begin, its open line, or a part of it, is put.
+module _ {H T : Type 0} (now : H → Option Image) (may : H → Image → Type 0) (clock : H → ℕ) (since : H → ℕ → Moment → Type 0) (said : H → Option (List ℕ)) (plan : Planned) (b : Begun) (left : Option (List ℕ)) (next count from offset : ℕ) (told : Type 0) (cells : Cells) (old : H) (s : Sitting T)
+    (start : IsToBegin plan b left next count from offset (now old) (may old) (said old) told cells s) where
+  abbrev line : List ℕ
+  line = ended (open_line b.held b.from ∷ [])
+
+  abbrev mark : List ℕ
+  mark = ended (mark_line (Opened next count from) ∷ [])
+
+  abbrev Stays : Moment → Type 0
+  Stays = StaysOnCourse (store_of plan) (course_for plan b) []
+
+  line_is : mark ≡ line
+  line_is = open_is b.held from next count start.next_is start.count_is ∙ ap (λ (k : ℕ). ended (open_line b.held k ∷ [])) start.from_is
+
+  put_holds : (m : Moment) → may old m.image × IsPartWay b.said line m.said → Stays m
+  put_holds m p = on_course_put Image (store_of plan) (course_for plan b) [] (open_line b.held b.from ∷ []) (out (terms_of plan) b.held b.first (lines_in b)) b.held s.keep (may old) [] m.image m.said start.at_rest tt (mark_no_lf (Opened (next_offset b.held) (length b.held) b.from), tt) refl
+      (open_marks Image (store_of plan) b.held b.from b.held s.keep (may old)) p.0 (subst (λ (l : List ℕ). IsPartWay l line m.said) (sym (append-nil b.said)) p.1)
+
+  -- no call is on the course
+  pub quiet : (only : (h : H) (m : Moment) → since h (clock h) m → may h m.image × ForSome (said h) (λ t. m.said ≡ t)) (sinks : (h : H) (t u : ℕ) (m : Moment) → t ≤ u → since h u m → since h t m) → Moments clock since old old Stays
+  quiet only sinks = moments-none clock since old Stays (λ t u m le h. sinks old t u m le h)
+      (λ m h. let at = only old m h in put_holds m (at.0, ([], (line, refl), at.1 b.said start.told ∙ sym (append-nil b.said))))
+
+  module _ (new : H) (files : LeavesFiles now may clock since old new) where
+    pub part_moments : (part : List ℕ) → IsPrefix part mark → Puts said clock since old new part → Moments clock since old new Stays
+    part_moments part front puts =
+        let p = putting H now may clock since said old new b.said part start.told files puts in
+        moments-weaker clock since old new (λ m. may old m.image × IsPartWay b.said part m.said) Stays p.moments
+        (λ m h. put_holds m (h.0, part_way_more b.said part line m.said (subst (λ (l : List ℕ). IsPrefix part l) line_is front) h.1))
+
+    -- before the first line
+    pub first_way : Puts said clock since old new mark → (reading : Reading) → IsFresh reading → IsUnderWay plan b left reading offset (now new) (may new) (said new) told cells s
+    first_way puts reading fresh =
+        let p = putting H now may clock since said old new b.said line start.told files (subst (λ (l : List ℕ). Puts said clock since old new l) line_is puts) in
+        let store = store_of plan in
+        let terms = terms_of plan in
+        let course = course_for plan b in
+        let lines = lines_in b in
+        let put_now : List ℕ = b.said ++ line in
+        let events_now : events_of (now new) s ≡ b.held = ap (λ (i : Option Image). events_of i s) files.now_stays ∙ start.events in
+        let stored_now : stored_of (now new) s ≡ b.held = ap (λ (i : Option Image). stored_of i s) files.now_stays ∙ start.stored in
+        let b0 = between_first Image store terms b.said b.held b.from b.first lines s.keep (may old) (may new) put_now start.at_rest p.fewer refl in
+        let b1 = subst (λ (es : List Event). IsBetween store terms course es b.first lines b.held s.keep (may new) put_now) (sym events_now) b0 in
+        let b2 = subst (λ (es : List Event). IsBetween store terms course (events_of (now new) s) b.first lines es s.keep (may new) put_now) (sym stored_now) b1 in
+        let awaits : IsAwaiting plan course b.first lines (now new) (may new) (said new) told cells s = record {
+          running = running_still now may clock since said plan course b.first (Option.None) lines told cells old new s files start.running;
+          put = put_now;
+          told = p.told;
+          between = b2;
+        } in
+        way_first plan b left reading offset (now new) (may new) (said new) told cells s start.comes fresh.pending fresh.still_open start.offset_is awaits events_now

@@ -1,5 +1,5 @@
 -- A whole run, from its beginning and its lines.
-use Rattle.std.proofs.Common.{◌≡◌, ◌⊎◌, inl, inr, ℕ, ◌+◌, ◌≤◌, false, List, [], ◌++◌, length, Option, Some, Result, Ok, Err, refl, ap, sym, ◌∙◌, subst, arith}
+use Rattle.std.proofs.Common.{◌≡◌, inl, ℕ, ◌≤◌, false, List, [], Option, Some, refl, sym, ◌∙◌, subst, arith}
 use Rattle.std.proofs.lemmas.List.{append-nil}
 use Rattle.std.specs.Option.{ForSome}
 use Rattle.rg_host.specs.Image.{Image}
@@ -12,14 +12,11 @@ use Rattle.rg_state.specs.Rows.{Cells}
 use Rattle.rg_course.specs.Stores.{StaysOnCourseSince}
 use Rattle.rg_store.specs.Stores.{store_of}
 use Rattle.rg_recover.specs.Sessions.{Sitting, events_of}
-use Rattle.rg_turn.specs.Turning.{IsAwaiting, HasStopped}
+use Rattle.rg_turn.specs.Turning.{IsAwaiting}
 use Rattle.rg_run.specs.Begun.{IsReadyRun, Begun, begun_by, course_for}
 use Rattle.rg_run.specs.Reading.{HasRead}
-use Rattle.rg_run.specs.UnderWay.{IsUnderWay, IsUnopened, IsLeft}
-use Rattle.rg_run.specs.declared.fault.RunFault.{RunFault}
-use Rattle.rg_run.specs.declared.fault.RunFault.TheVariants.{Write}
+use Rattle.rg_run.specs.UnderWay.{IsUnderWay, IsUnopened}
 use Rattle.rg_run.proofs.Taking.{read_none}
-use Rattle.rg_run.proofs.Turns.{IsCut}
 
 module _ {H : Type 0} (now : H → Option Image) (may : H → Image → Type 0) (clock : H → ℕ) (since : H → ℕ → Moment → Type 0) (said : H → Option (List ℕ)) (plan : Planned) where
   -- a run that never began
@@ -30,14 +27,6 @@ module _ {H : Type 0} (now : H → Option Image) (may : H → Image → Type 0) 
 
   pub none_unopened : (b : Begun) (old : H) → IsUnopened may said plan b old old
   none_unopened b old = record { said_stays = refl; left = λ u left. inl left }
-
-  pub left_unopened : (b : Begun) (fault : RunFault) (old new : H) → (fault ≡ Write) ⊎ IsUnopened may said plan b old new → IsLeft may said plan b fault old new
-  left_unopened b fault old new (inl write) = inl write
-  left_unopened b fault old new (inr none) = inr (inr none)
-
-  pub left_cut : (b : Begun) (fault : RunFault) (old new : H) → IsCut may said plan b new fault → IsLeft may said plan b fault old new
-  left_cut b fault old new (inl write) = inl write
-  left_cut b fault old new (inr stopped) = inr (inl stopped)
 
 -- before the first line
 pub way_first : {T : Type 0} (plan : Planned) (b : Begun) (left : Option (List ℕ)) (reading : Reading) (offset : ℕ) (now : Option Image) (may : Image → Type 0) (said : Option (List ℕ)) (told : Type 0) (cells : Cells) (s : Sitting T) →

@@ -1,14 +1,13 @@
 -- A run from one line of its input to the next.
-use Rattle.std.proofs.Common.{◌≡◌, ◌⊎◌, inl, inr, ⊎_elim, ℕ, ◌+◌, List, [], ◌∷◌, ◌++◌, length, Option, Some, None, Result, Ok, Err, refl, ap, sym, ◌∙◌, subst, arith, append_assoc, length-append}
-use Rattle.std.proofs.lemmas.List.{append-nil, append_cancel_right}
+use Rattle.std.proofs.Common.{◌≡◌, true, ◌⊎◌, inl, inr, ⊎_elim, ℕ, ◌+◌, List, [], ◌∷◌, ◌++◌, length, Option, Some, Result, Ok, Err, ap, sym, ◌∙◌, subst, arith, append_assoc, length-append}
+use Rattle.std.proofs.lemmas.List.{append_cancel_right}
 use Rattle.std.specs.Prelude.{◌≤◌, OnOk, IfErr}
 use Rattle.std.specs.Option.{ForSome}
 use Rattle.rg_host.specs.Image.{Image}
-use Rattle.rg_host.specs.Lines.{ended, lines_of, whole_lines}
+use Rattle.rg_host.specs.Lines.{ended}
 use Rattle.rg_host.specs.Moments.{Moment, Moments}
 use Rattle.rg_host.proofs.Runs.{moments-none}
 use Rattle.rg_host.specs.Reading.{Reading, Next}
-use Rattle.rg_host.specs.declared.lines.Line.{Line}
 use Rattle.rg_host.specs.declared.lines.Line.TheVariants.{End}
 use Rattle.rg_host.specs.declared.lines.LineFault.{LineFault}
 use Rattle.rg_host.specs.declared.lines.LineFault.TheVariants as reading
@@ -18,7 +17,7 @@ use Rattle.rg_state.specs.Rows.{Cells}
 use Rattle.rg_course.specs.Accepted.{events_after}
 use Rattle.rg_course.specs.Ahead.{after_line, out_from}
 use Rattle.rg_course.specs.Output.{open_line, put_before, out}
-use Rattle.rg_course.specs.Stores.{Course, StaysOnCourse}
+use Rattle.rg_course.specs.Stores.{StaysOnCourse}
 use Rattle.rg_course.proofs.Courses.{on_course_at_rest, stopped_at_rest}
 use Rattle.rg_course.proofs.Whole.{accepted_more, out_more}
 use Rattle.rg_store.specs.Stores.{store_of}
@@ -27,11 +26,14 @@ use Rattle.rg_recover.specs.declared.fault.TaskFault.TheVariants as task
 use Rattle.rg_turn.specs.declared.fault.TurnFault.{TurnFault}
 use Rattle.rg_turn.specs.declared.fault.TurnFault.TheVariants as turn
 use Rattle.rg_turn.specs.Turning.{IsAwaiting, HasStopped, terms_of}
-use Rattle.rg_run.specs.Begun.{Begun, lines_in, course_for}
+use Rattle.rg_run.specs.Begun.{Begun, course_for}
 use Rattle.rg_run.specs.Faults.{of_turn}
+use Rattle.rg_run.specs.Turned.{MoreOr, GoesTrue}
 use Rattle.rg_run.specs.UnderWay.{IsUnderWay, Answers, HasAnswered, HasFinished}
 use Rattle.rg_run.specs.declared.fault.RunFault.{RunFault}
-use Rattle.rg_run.specs.declared.fault.RunFault.TheVariants.{Read, Limit, Write}
+use Rattle.rg_run.specs.declared.fault.RunFault.TheVariants.{BadState, Damaged, Read, Limit, Write}
+use Rattle.rg_run.proofs.Causes.{err_is, ok_never, read_others, turn_bad, turn_damaged, turn_others}
+use Rattle.rg_run.proofs.Turned.{more}
 use Rattle.rg_run.proofs.Taking.{Item, TakesLine, read_on, item_next, end_next, whole_handed, took_past}
 
 -- whole lines were put, or a put failed
@@ -41,6 +43,38 @@ IsCut may said plan b new fault = (fault ≡ Write) ⊎ HasStopped plan (course_
 pub stops : {H : Type 0} (may : H → Image → Type 0) (said : H → Option (List ℕ)) (plan : Planned) (b : Begun) (new : H) (fault : TurnFault) → (fault ≡ turn.Write) ⊎ HasStopped plan (course_for plan b) (may new) (said new) → IsCut may said plan b new (of_turn fault)
 stops may said plan b new fault (inl is) = inl (ap of_turn is)
 stops may said plan b new fault (inr stopped) = inr stopped
+
+module _ {H : Type 0} (may : H → Image → Type 0) (clock : H → ℕ) (since : H → ℕ → Moment → Type 0) (said : H → Option (List ℕ)) (plan : Planned) (b : Begun) (left : Option (List ℕ)) (old new : H) (moments : Moments clock since old new (StaysOnCourse (store_of plan) (course_for plan b) [])) where
+  pub true_at_ok : {B : Type 0} {Done : B → Type 0} (value : B) → Done value → GoesTrue may clock since said plan b left Done (Ok value) old new
+  true_at_ok value done = record {
+    moments = moments;
+    done = done;
+    stopped = tt;
+    answered = tt;
+    never_bad = λ n is. ok_never value (BadState n) is;
+    never_damaged = λ p is. ok_never value (Damaged p) is;
+  }
+
+  pub true_at_err : {B : Type 0} (Done : B → Type 0) (fault : TurnFault) (ran : RunFault) → ran ≡ of_turn fault → ((n : ℕ) → fault ≡ turn.Task (task.BadState n) → ⊥) → ((p : ℕ) → fault ≡ turn.Task (task.Damaged p) → ⊥) → IsCut may said plan b new (of_turn fault) → GoesTrue may clock since said plan b left Done (Err ran) old new
+  true_at_err Done fault ran ran_is bad damaged cut = record {
+    moments = moments;
+    done = tt;
+    stopped = subst (IsCut may said plan b new) (sym ran_is) cut;
+    answered = λ which. absurd (⊎_elim (λ is. (turn_others fault).0 (sym ran_is ∙ is)) (λ is. (turn_others fault).1 (sym ran_is ∙ is)) which);
+    never_bad = λ n is. bad n (turn_bad fault n (sym ran_is ∙ err_is ran (BadState n) is));
+    never_damaged = λ p is. damaged p (turn_damaged fault p (sym ran_is ∙ err_is ran (Damaged p) is));
+  }
+
+  -- a read that failed
+  pub true_unread : {B : Type 0} (Done : B → Type 0) (fault : RunFault) → (fault ≡ Read) ⊎ (fault ≡ Limit) → HasStopped plan (course_for plan b) (may new) (said new) → HasAnswered plan b left (said new) (fault ≡ Limit) → GoesTrue may clock since said plan b left Done (Err fault) old new
+  true_unread Done fault which stopped answered = record {
+    moments = moments;
+    done = tt;
+    stopped = inr stopped;
+    answered = λ _. answered;
+    never_bad = λ n is. (read_others fault which).0 n (err_is fault (BadState n) is);
+    never_damaged = λ p is. (read_others fault which).1 p (err_is fault (Damaged p) is);
+  }
 
 module _ {H T : Type 0} (now : H → Option Image) (may : H → Image → Type 0) (clock : H → ℕ) (since : H → ℕ → Moment → Type 0) (said : H → Option (List ℕ)) (plan : Planned) (b : Begun) (left : Option (List ℕ)) (old_r : Reading) (offset : ℕ) (told : Type 0) (cells : Cells) (old : H) (s : Sitting T)
     (way : IsUnderWay plan b left old_r offset (now old) (may old) (said old) told cells s) where
@@ -80,6 +114,15 @@ module _ {H T : Type 0} (now : H → Option Image) (may : H → Image → Type 0
                 ∙ ap (λ (n : ℕ). after_line (terms_of plan).basis (events_after (terms_of plan).basis b.held b.first way.handed) n item) way.offset_is
                 ∙ sym (accepted_more (terms_of plan) b.held b.first way.handed (item ∷ []));
           }
+
+      pub goes_on : (done : A) → result ≡ Ok done → offset_then ≡ offset + 1 → GoesTrue may clock since said plan b then_left (MoreOr (IsUnderWay plan b then_left new_r offset_then (now new) (may new) (said new) told_then cells_then then) (HasFinished plan b (may new) (said new))) (Ok true) old new
+      goes_on done is moved = true_at_ok may clock since said plan b then_left old new line_moments true (more (line_on done is moved))
+
+      pub goes_err : {B : Type 0} (Done : B → Type 0) (fault : TurnFault) (ran : RunFault) → ran ≡ of_turn fault → result ≡ Err fault → GoesTrue may clock since said plan b then_left Done (Err ran) old new
+      goes_err Done fault ran ran_is is = true_at_err may clock since said plan b then_left old new line_moments Done fault ran ran_is
+          (subst (λ (r : Result A TurnFault). IfErr r (λ f. (n : ℕ) → f ≡ turn.Task (task.BadState n) → ⊥)) is line_never_bad)
+          (subst (λ (r : Result A TurnFault). IfErr r (λ f. (p : ℕ) → f ≡ turn.Task (task.Damaged p) → ⊥)) is line_never_damaged)
+          (line_stopped fault is)
 
   -- the end came
   pub end_awaits : (then_left : Option (List ℕ)) (new_r : Reading) → Next old_r new_r left then_left (Ok End) → IsAwaiting plan (course_for plan b) offset [] (now old) (may old) (said old) told cells s
@@ -130,3 +173,7 @@ module _ {H T : Type 0} (now : H → Option Image) (may : H → Image → Type 0
             ∙ ap (λ (t : List ℕ). Some t) (way.awaiting.between.said_is ∙ ap (λ (l : List (List ℕ)). b.said ++ ended l)
             (lines_are ∙ ap (λ (l : List Item). open_line b.held b.from ∷ put_before (terms_of plan) b.held b.first l (length l)) (sym handed)));
       }
+
+  pub unread : (only : (h : H) (m : Moment) → since h (clock h) m → may h m.image × ForSome (said h) (λ t. m.said ≡ t)) (sinks : (h : H) (t u : ℕ) (m : Moment) → t ≤ u → since h u m → since h t m) → {B : Type 0} (Done : B → Type 0) (then_left : Option (List ℕ)) (new_r : Reading) (fault : LineFault) (ran : RunFault) → (ran ≡ Read) ⊎ (ran ≡ Limit) → Next old_r new_r left then_left (Err fault) → (fault ≡ reading.Limit → ran ≡ Limit) → GoesTrue may clock since said plan b then_left Done (Err ran) old old
+  unread only sinks Done then_left new_r fault ran which next is_limit =
+      true_unread may clock since said plan b then_left old old (stays only sinks) Done ran which stops_here (answered then_left new_r fault (ran ≡ Limit) next is_limit)

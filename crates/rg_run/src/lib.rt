@@ -5,9 +5,10 @@
 //! stored.
 #![tactic(auto)]
 
-mod begin;
+mod answering;
 mod fault;
 mod lines;
+mod opening;
 mod running;
 mod telling;
 mod turn;

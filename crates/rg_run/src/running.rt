@@ -15,15 +15,18 @@ ghost use Rattle.rg_open.specs.Unfit.{IsUnfit, IsLeftAlone};
 ghost use Rattle.rg_open.specs.Within.{IsWithinOpening};
 ghost use Rattle.rg_run.specs.Begun.{IsReadyRun, begun_by};
 ghost use Rattle.rg_run.specs.Faults.{SaysWhy, IsGapOrFailed};
+ghost use Rattle.rg_run.specs.Answered.{IsFresh, CountsGrow};
 ghost use Rattle.rg_run.specs.Reading.{IsLonger, IsWithinLimit};
+ghost use Rattle.rg_run.specs.Runs.{RunsReady, RefusesUnfit, HasCause};
 ghost use Rattle.rg_run.specs.UnderWay.{Ran};
 
-use crate::begin::begin;
+use crate::answering::answer_opened;
 use crate::fault::RunFault;
-use crate::lines::answer_lines;
+use crate::opening::open_session;
 use rg_config::Plan;
 use rg_event::Steps;
 use rg_host::{Host, Lines, Source};
+use rg_turn::Turning;
 use std::alloc::Global;
 use std::sync::ledger::Ledger;
 
@@ -86,23 +89,44 @@ pub fn run<I: Source, H: Host, L: Ledger>(
         Ok(lines) => lines,
         Err(_) => return Err(RunFault::Memory),
     };
-    let mut turning = match begin(alloc, host, plan, first, steps) {
-        Ok(turning) => turning,
-        Err(fault) => {
-            drop(lines);
-            return Err(fault);
-        }
+    let ran = run_lines(alloc, &mut lines, plan, first, input, host, steps);
+    drop(lines);
+    ran
+}
+
+/// A run that has its buffer.
+fn run_lines<I: Source, H: Host, L: Ledger>(
+    alloc: Global,
+    lines: &mut Lines,
+    plan: &Plan,
+    first: u64,
+    input: &mut I,
+    host: &mut H,
+    steps: &mut Steps<L>,
+) -> Result<(), RunFault>
+    requires read { IsReadPlan plan.now }
+    requires first { first ≤ 2 ^ 61 }
+    requires fresh { IsFresh lines.old }
+    ensures ready { RunsReady H.now H.may H.clock H.since H.said I.left (planned plan.now) first result input.old input.new host.old host.new }
+    ensures unfit { RefusesUnfit H.now H.may H.clock H.since H.said I.left (planned plan.now) result input.old input.new host.old host.new }
+    ensures cause { HasCause H.now H.disk_faults H.out_faults I.left I.faults (planned plan.now) first result input.old input.new host.old host.new }
+    ensures counts { CountsGrow H.disk_faults H.out_faults I.faults input.old input.new host.old host.new }
+{
+    let (session, resumed) = match open_session(alloc, host, plan, steps) {
+        Ok(opened) => opened,
+        Err(fault) => return Err(fault),
     };
-    match answer_lines(&mut lines, &mut turning, plan, input, host, steps) {
-        Ok(()) => {
-            drop(turning);
-            drop(lines);
-            Ok(())
-        }
-        Err(fault) => {
-            drop(turning);
-            drop(lines);
-            Err(fault)
-        }
-    }
+    let mut turning = Turning::new(alloc, session, first);
+    let ran = answer_opened(
+        alloc,
+        lines,
+        &mut turning,
+        resumed,
+        plan,
+        input,
+        host,
+        steps,
+    );
+    drop(turning);
+    ran
 }

@@ -1,20 +1,16 @@
-ghost use Rattle.std.specs.Prelude.{◌≡◌, ◌⊎◌, ◌≤◌, ◌<◌, ◌+◌, ◌^◌, ◌==◌, ◌&&◌, [], ℕ, List, Option, Some, None, IsTrue, true, false, IfOk, IfErr, OnOk, IsErrOf};
+ghost use Rattle.std.specs.Prelude.{◌≡◌, ◌⊎◌, ◌≤◌, ◌<◌, ◌+◌, ◌^◌, ◌==◌, ◌&&◌, ℕ, Some, None, true, false, IfErr, OnOk, IsErrOf};
 ghost use Rattle.std.specs.List.{list_any};
 ghost use Rattle.std.specs.Option.{ForSome};
 ghost use Rattle.rg_bytes.specs.Counts.{Rose};
-ghost use Rattle.rg_host.specs.Moments.{Moments};
 ghost use Rattle.rg_frame.specs.LogState.{ReachesEnd};
 ghost use Rattle.rg_config.specs.Plans.{planned};
 ghost use Rattle.rg_config.specs.Read.{IsReadPlan};
 ghost use Rattle.rg_reservoir.specs.Chain.{IsIllegal};
 ghost use Rattle.rg_reservoir.specs.Kept.{base, log_of};
-ghost use Rattle.rg_course.specs.Stores.{StaysOnCourse};
-ghost use Rattle.rg_store.specs.Stores.{store_of};
 ghost use Rattle.rg_open.specs.Blame.{NodeRuns, IsPlaced};
-ghost use Rattle.rg_turn.specs.Turning.{HasStopped};
-ghost use Rattle.rg_run.specs.Begun.{Begun, course_for};
-ghost use Rattle.rg_run.specs.Reading.{HasTaken};
-ghost use Rattle.rg_run.specs.UnderWay.{IsUnderWay, Answers, HasAnswered, HasFinished};
+ghost use Rattle.rg_run.specs.Begun.{Begun};
+ghost use Rattle.rg_run.specs.Turned.{MoreOr, IsReadOut, GoesTrue, CarriesOn, TakesOn, StopsFor};
+ghost use Rattle.rg_run.specs.UnderWay.{IsUnderWay, Answers, HasFinished};
 
 use crate::fault::{RunFault, turn_fault};
 use rg_config::Plan;
@@ -116,46 +112,10 @@ pub(crate) fn turn<I: Source, H: Host, L: Ledger>(
     requires going { turning.old.session.ended ≡ false }
     requires reaches { ReachesEnd (log_of turning.old.session.reservoir) (H.now host.old) }
 
-    ensures moments { (b : Begun) → IsUnderWay (planned plan.now) b (I.left input.old) lines.old turning.old.offset (H.now host.old) (H.may host.old) (H.said host.old) (⟦<MemTable as Table>⟧.tells turning.old.session.engine.table) (⟦<MemTable as Table>⟧.cell turning.old.session.engine.table) turning.old.session →
-        Moments H.clock H.since host.old host.new (StaysOnCourse (store_of (planned plan.now)) (course_for (planned plan.now) b) []) }
-    ensures under_way { (b : Begun) → IsUnderWay (planned plan.now) b (I.left input.old) lines.old turning.old.offset (H.now host.old) (H.may host.old) (H.said host.old) (⟦<MemTable as Table>⟧.tells turning.old.session.engine.table) (⟦<MemTable as Table>⟧.cell turning.old.session.engine.table) turning.old.session →
-        IfOk result (λ more. IsTrue more → IsUnderWay (planned plan.now) b (I.left input.new) lines.new turning.new.offset (H.now host.new) (H.may host.new) (H.said host.new) (⟦<MemTable as Table>⟧.tells turning.new.session.engine.table) (⟦<MemTable as Table>⟧.cell turning.new.session.engine.table) turning.new.session) }
-    ensures finished { (b : Begun) → IsUnderWay (planned plan.now) b (I.left input.old) lines.old turning.old.offset (H.now host.old) (H.may host.old) (H.said host.old) (⟦<MemTable as Table>⟧.tells turning.old.session.engine.table) (⟦<MemTable as Table>⟧.cell turning.old.session.engine.table) turning.old.session →
-        IfOk result (λ more. more ≡ false → HasFinished (planned plan.now) b (H.may host.new) (H.said host.new)) }
-    ensures stopped { (b : Begun) → IsUnderWay (planned plan.now) b (I.left input.old) lines.old turning.old.offset (H.now host.old) (H.may host.old) (H.said host.old) (⟦<MemTable as Table>⟧.tells turning.old.session.engine.table) (⟦<MemTable as Table>⟧.cell turning.old.session.engine.table) turning.old.session →
-        IfErr result (λ fault. (fault ≡ RunFault.Write) ⊎ HasStopped (planned plan.now) (course_for (planned plan.now) b) (H.may host.new) (H.said host.new)) }
-    ensures answered { (b : Begun) → IsUnderWay (planned plan.now) b (I.left input.old) lines.old turning.old.offset (H.now host.old) (H.may host.old) (H.said host.old) (⟦<MemTable as Table>⟧.tells turning.old.session.engine.table) (⟦<MemTable as Table>⟧.cell turning.old.session.engine.table) turning.old.session →
-        IfErr result (λ fault. (fault ≡ RunFault.Read) ⊎ (fault ≡ RunFault.Limit) → HasAnswered (planned plan.now) b (I.left input.new) (H.said host.new) (fault ≡ RunFault.Limit)) }
-    ensures never_bad { (b : Begun) (n : ℕ) → IsUnderWay (planned plan.now) b (I.left input.old) lines.old turning.old.offset (H.now host.old) (H.may host.old) (H.said host.old) (⟦<MemTable as Table>⟧.tells turning.old.session.engine.table) (⟦<MemTable as Table>⟧.cell turning.old.session.engine.table) turning.old.session → IsErrOf result (RunFault.BadState n) → ⊥ }
-    ensures never_damaged { (b : Begun) (p : ℕ) → IsUnderWay (planned plan.now) b (I.left input.old) lines.old turning.old.offset (H.now host.old) (H.may host.old) (H.said host.old) (⟦<MemTable as Table>⟧.tells turning.old.session.engine.table) (⟦<MemTable as Table>⟧.cell turning.old.session.engine.table) turning.old.session → IsErrOf result (RunFault.Damaged p) → ⊥ }
-
-    // A node that can be carried on is carried on, and its state is never bad.
-    ensures node { (n : ℕ) → NodeRuns (planned plan.now) n (H.now host.old) (H.may host.old) (⟦<MemTable as Table>⟧.tells turning.old.session.engine.table) (⟦<MemTable as Table>⟧.cell turning.old.session.engine.table) turning.old.session.reservoir turning.old.session.engine →
-        IfOk result (λ more. IsTrue more → NodeRuns (planned plan.now) n (H.now host.new) (H.may host.new) (⟦<MemTable as Table>⟧.tells turning.new.session.engine.table) (⟦<MemTable as Table>⟧.cell turning.new.session.engine.table) turning.new.session.reservoir turning.new.session.engine) }
-    ensures never_bad_node { (n : ℕ) → NodeRuns (planned plan.now) n (H.now host.old) (H.may host.old) (⟦<MemTable as Table>⟧.tells turning.old.session.engine.table) (⟦<MemTable as Table>⟧.cell turning.old.session.engine.table) turning.old.session.reservoir turning.old.session.engine → IsErrOf result (RunFault.BadState n) → ⊥ }
-
-    // Where each edge stands at a spelled spot it does so still, and nothing is refused as damaged.
-    ensures placed { IsPlaced (planned plan.now) (H.now host.old) (H.may host.old) turning.old.session.reservoir turning.old.session.engine → IfOk result (λ more. IsTrue more → IsPlaced (planned plan.now) (H.now host.new) (H.may host.new) turning.new.session.reservoir turning.new.session.engine) }
-    ensures undamaged { (p : ℕ) → IsPlaced (planned plan.now) (H.now host.old) (H.may host.old) turning.old.session.reservoir turning.old.session.engine → IsErrOf result (RunFault.Damaged p) → ⊥ }
-
-    // What was taken of the input.
-    ensures taken { (start : Option (List ℕ)) → HasTaken start (I.left input.old) lines.old → HasTaken start (I.left input.new) lines.new }
-    ensures ended { IfOk result (λ more. more ≡ false → (lines.new.ended ≡ true) × (lines.new.taken ≤ 2 ^ 50)) }
-    ensures counted { IfOk result (λ more. IsTrue more → turning.new.offset ≤ 2 ^ 61 + lines.new.spent) }
-    ensures within { IfOk result (λ more. IsTrue more → (lines.old.spent < lines.new.spent) × (lines.new.spent ≤ 2 ^ 50)) }
-    ensures going { IfOk result (λ more. IsTrue more → turning.new.session.ended ≡ false) }
-    ensures reaches { IfOk result (λ more. IsTrue more → ReachesEnd (log_of turning.new.session.reservoir) (H.now host.new)) }
-
-    ensures read { IsErrOf result RunFault.Read → Rose (I.faults input.old) (I.faults input.new) }
-    ensures limit { IsErrOf result RunFault.Limit → 2 ^ 50 < lines.new.taken }
-    ensures write { IsErrOf result RunFault.Write → Rose (H.out_faults host.old) (H.out_faults host.new) }
-    ensures disk { IsErrOf result RunFault.Disk → Rose (H.disk_faults host.old) (H.disk_faults host.new) }
-    ensures damaged { (p : ℕ) → IsErrOf result (RunFault.Damaged p) → ForSome (H.now host.new) (λ v. IsIllegal (base turning.new.session.reservoir).shape.fields p (v (base turning.new.session.reservoir).file)) }
-    ensures log { ((base turning.new.session.reservoir).shape ≡ (base turning.old.session.reservoir).shape) × ((base turning.new.session.reservoir).file ≡ (base turning.old.session.reservoir).file) }
-    ensures others { (IsErrOf result RunFault.SchemaDiffers → ⊥) × ((n : ℕ) → IsErrOf result (RunFault.Gap n) → ⊥) }
-    ensures later { I.faults input.old ≤ I.faults input.new }
-    ensures disk_faults { H.disk_faults host.old ≤ H.disk_faults host.new }
-    ensures out_faults { H.out_faults host.old ≤ H.out_faults host.new }
+    ensures goes { (b : Begun) → IsUnderWay (planned plan.now) b (I.left input.old) lines.old turning.old.offset (H.now host.old) (H.may host.old) (H.said host.old) (⟦<MemTable as Table>⟧.tells turning.old.session.engine.table) (⟦<MemTable as Table>⟧.cell turning.old.session.engine.table) turning.old.session →
+        GoesTrue H.may H.clock H.since H.said (planned plan.now) b (I.left input.new) (MoreOr (IsUnderWay (planned plan.now) b (I.left input.new) lines.new turning.new.offset (H.now host.new) (H.may host.new) (H.said host.new) (⟦<MemTable as Table>⟧.tells turning.new.session.engine.table) (⟦<MemTable as Table>⟧.cell turning.new.session.engine.table) turning.new.session) (HasFinished (planned plan.now) b (H.may host.new) (H.said host.new))) result host.old host.new }
+    ensures takes { TakesOn H.disk_faults H.out_faults I.left I.faults (MoreOr (CarriesOn H.now H.may (planned plan.now) turning.new.offset lines.old.spent lines.new.spent (⟦<MemTable as Table>⟧.tells turning.old.session.engine.table) (⟦<MemTable as Table>⟧.tells turning.new.session.engine.table) (⟦<MemTable as Table>⟧.cell turning.old.session.engine.table) (⟦<MemTable as Table>⟧.cell turning.new.session.engine.table) turning.old.session turning.new.session host.old host.new) (IsReadOut lines.new)) turning.old.session turning.new.session lines.old lines.new result input.old input.new host.old host.new }
+    ensures cause { StopsFor H.now H.may H.disk_faults H.out_faults I.faults (planned plan.now) (⟦<MemTable as Table>⟧.tells turning.old.session.engine.table) (⟦<MemTable as Table>⟧.cell turning.old.session.engine.table) turning.old.session turning.new.session lines.new.taken result input.old input.new host.old host.new }
 {
     match lines.next(input) {
         Ok(Line::Text(text)) => match answer_text(turning, plan, text, host, steps) {

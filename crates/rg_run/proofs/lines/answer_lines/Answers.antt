@@ -1,11 +1,13 @@
-use Rattle.std.proofs.Common.{[], arith, sym, ◌∙◌, ap, refl, Err, ◌≡◌}
+use Rattle.std.proofs.Common.{[], arith, ◌∙◌, ap, refl, Err}
 use Rattle.rg_host.proofs.Runs.{moments_then}
 use Rattle.rg_config.specs.Plans.{planned}
 use Rattle.rg_course.specs.Stores.{StaysOnCourse}
 use Rattle.rg_store.specs.Stores.{store_of}
 use Rattle.rg_run.specs.Begun.{course_for}
 use Rattle.rg_run.specs.declared.fault.RunFault.TheVariants as run
-use Rattle.rg_run.proofs.Turns.{stays}
+use Rattle.rg_run.proofs.Causes.{err_is}
+use Rattle.rg_run.proofs.Turned.{why_none}
+use Rattle.rg_run.proofs.Turns.{stays, true_at_ok}
 use Rattle.rg_run.proofs.lines.answer_lines.Goals as goal
 
 pub lines-init : goal.lines-init
@@ -26,57 +28,83 @@ lines-init g c = record {
 }
 
 pub lines-preserved : goal.lines-preserved
-lines-preserved g c = record {
-  counted = c.in-Ok-true.ensures.counted c.in-Ok-true.field-0-test;
-  within = (c.in-Ok-true.ensures.within c.in-Ok-true.field-0-test).1;
-  going = c.in-Ok-true.ensures.going c.in-Ok-true.field-0-test;
-  reaches = c.in-Ok-true.ensures.reaches c.in-Ok-true.field-0-test;
-  way = λ b w. c.in-Ok-true.ensures.under_way b (c.lines.invariant.way b w) c.in-Ok-true.field-0-test;
-  node = λ n runs. c.in-Ok-true.ensures.node n (c.lines.invariant.node n runs) c.in-Ok-true.field-0-test;
-  placed = λ placed. c.in-Ok-true.ensures.placed (c.lines.invariant.placed placed) c.in-Ok-true.field-0-test;
-  moments = λ b w. moments_then g.H.Host.clock g.H.Host.since c.args.host.now c.lines.host c.turn.new.host (StaysOnCourse (store_of (planned c.args.plan.now)) (course_for (planned c.args.plan.now) b) []) (StaysOnCourse (store_of (planned c.args.plan.now)) (course_for (planned c.args.plan.now) b) []) (StaysOnCourse (store_of (planned c.args.plan.now)) (course_for (planned c.args.plan.now) b) []) (c.lines.invariant.moments b w) (c.turn.ensures.moments b (c.lines.invariant.way b w)) (λ m h. h) (λ m h. h);
-  taken = λ start t. c.turn.ensures.taken start (c.lines.invariant.taken start t);
-  log = (c.turn.ensures.log.0 ∙ c.lines.invariant.log.0, c.turn.ensures.log.1 ∙ c.lines.invariant.log.1);
-  later = omega (arith, c.lines.invariant.later, c.turn.ensures.later);
-  disk_faults = omega (arith, c.lines.invariant.disk_faults, c.turn.ensures.disk_faults);
-  out_faults = omega (arith, c.lines.invariant.out_faults, c.turn.ensures.out_faults);
+lines-preserved g c =
+    let on = c.in-Ok-true.ensures.takes.done.on_is c.in-Ok-true.field-0-test in
+    record {
+      counted = on.counted;
+      within = on.within.1;
+      going = on.going;
+      reaches = on.reaches;
+      way = λ b w. (c.in-Ok-true.ensures.goes b (c.lines.invariant.way b w)).done.on_is c.in-Ok-true.field-0-test;
+      node = λ n runs. on.node n (c.lines.invariant.node n runs);
+      placed = λ placed. on.placed (c.lines.invariant.placed placed);
+      moments = λ b w. moments_then g.H.Host.clock g.H.Host.since c.args.host.now c.lines.host c.turn.new.host (StaysOnCourse (store_of (planned c.args.plan.now)) (course_for (planned c.args.plan.now) b) []) (StaysOnCourse (store_of (planned c.args.plan.now)) (course_for (planned c.args.plan.now) b) []) (StaysOnCourse (store_of (planned c.args.plan.now)) (course_for (planned c.args.plan.now) b) []) (c.lines.invariant.moments b w) (c.turn.ensures.goes b (c.lines.invariant.way b w)).moments (λ m h. h) (λ m h. h);
+      taken = λ start t. c.turn.ensures.takes.taken start (c.lines.invariant.taken start t);
+      log = (c.turn.ensures.takes.log.0 ∙ c.lines.invariant.log.0, c.turn.ensures.takes.log.1 ∙ c.lines.invariant.log.1);
+      later = omega (arith, c.lines.invariant.later, c.turn.ensures.takes.counts.later);
+      disk_faults = omega (arith, c.lines.invariant.disk_faults, c.turn.ensures.takes.counts.disk_faults_grow);
+      out_faults = omega (arith, c.lines.invariant.out_faults, c.turn.ensures.takes.counts.out_faults_grow);
+    }
+
+pub lines-smaller : goal.lines-smaller
+lines-smaller g c =
+    let on = c.in-Ok-true.ensures.takes.done.on_is c.in-Ok-true.field-0-test in
+    omega (arith, on.within.0, on.within.1)
+
+pub returns-in-Ok-false-clause-goes : goal.returns-in-Ok-false-clause-goes
+returns-in-Ok-false-clause-goes g c = λ b w.
+    true_at_ok g.H.Host.may g.H.Host.clock g.H.Host.since g.H.Host.said (planned c.args.plan.now) b _ c.args.host.now c.turn.new.host (moments_then g.H.Host.clock g.H.Host.since c.args.host.now c.lines.host c.turn.new.host (StaysOnCourse (store_of (planned c.args.plan.now)) (course_for (planned c.args.plan.now) b) []) (StaysOnCourse (store_of (planned c.args.plan.now)) (course_for (planned c.args.plan.now) b) []) (StaysOnCourse (store_of (planned c.args.plan.now)) (course_for (planned c.args.plan.now) b) []) (c.lines.invariant.moments b w) (c.turn.ensures.goes b (c.lines.invariant.way b w)).moments (λ m h. h) (λ m h. h)) _ ((c.in-Ok-false.ensures.goes b (c.lines.invariant.way b w)).done.over_is c.in-Ok-false.field-0-test)
+
+pub returns-in-Err-clause-goes : goal.returns-in-Err-clause-goes
+returns-in-Err-clause-goes g c = λ b w.
+    let turned = c.in-Err.ensures.goes b (c.lines.invariant.way b w) in
+    record {
+      moments = moments_then g.H.Host.clock g.H.Host.since c.args.host.now c.lines.host c.turn.new.host (StaysOnCourse (store_of (planned c.args.plan.now)) (course_for (planned c.args.plan.now) b) []) (StaysOnCourse (store_of (planned c.args.plan.now)) (course_for (planned c.args.plan.now) b) []) (StaysOnCourse (store_of (planned c.args.plan.now)) (course_for (planned c.args.plan.now) b) []) (c.lines.invariant.moments b w) (c.turn.ensures.goes b (c.lines.invariant.way b w)).moments (λ m h. h) (λ m h. h);
+      done = tt;
+      stopped = turned.stopped;
+      answered = turned.answered;
+      never_bad = λ n is. turned.never_bad n (ap (λ f. Err f) (err_is c.in-Err.fault (run.BadState n) is));
+      never_damaged = λ p is. turned.never_damaged p (ap (λ f. Err f) (err_is c.in-Err.fault (run.Damaged p) is));
+    }
+
+pub returns-in-Ok-false-clause-takes : goal.returns-in-Ok-false-clause-takes
+returns-in-Ok-false-clause-takes g c = record {
+  done = c.in-Ok-false.ensures.takes.done.over_is c.in-Ok-false.field-0-test;
+  taken = λ start t. c.turn.ensures.takes.taken start (c.lines.invariant.taken start t);
+  log = (c.turn.ensures.takes.log.0 ∙ c.lines.invariant.log.0, c.turn.ensures.takes.log.1 ∙ c.lines.invariant.log.1);
+  counts = record {
+    later = omega (arith, c.lines.invariant.later, c.turn.ensures.takes.counts.later);
+    disk_faults_grow = omega (arith, c.lines.invariant.disk_faults, c.turn.ensures.takes.counts.disk_faults_grow);
+    out_faults_grow = omega (arith, c.lines.invariant.out_faults, c.turn.ensures.takes.counts.out_faults_grow);
+  };
 }
 
-pub returns-in-Ok-false-clause-moments : goal.returns-in-Ok-false-clause-moments
-returns-in-Ok-false-clause-moments g c = λ b w. moments_then g.H.Host.clock g.H.Host.since c.args.host.now c.lines.host c.turn.new.host (StaysOnCourse (store_of (planned c.args.plan.now)) (course_for (planned c.args.plan.now) b) []) (StaysOnCourse (store_of (planned c.args.plan.now)) (course_for (planned c.args.plan.now) b) []) (StaysOnCourse (store_of (planned c.args.plan.now)) (course_for (planned c.args.plan.now) b) []) (c.lines.invariant.moments b w) (c.turn.ensures.moments b (c.lines.invariant.way b w)) (λ m h. h) (λ m h. h)
+pub returns-in-Err-clause-takes : goal.returns-in-Err-clause-takes
+returns-in-Err-clause-takes g c = record {
+  done = tt;
+  taken = λ start t. c.turn.ensures.takes.taken start (c.lines.invariant.taken start t);
+  log = (c.turn.ensures.takes.log.0 ∙ c.lines.invariant.log.0, c.turn.ensures.takes.log.1 ∙ c.lines.invariant.log.1);
+  counts = record {
+    later = omega (arith, c.lines.invariant.later, c.turn.ensures.takes.counts.later);
+    disk_faults_grow = omega (arith, c.lines.invariant.disk_faults, c.turn.ensures.takes.counts.disk_faults_grow);
+    out_faults_grow = omega (arith, c.lines.invariant.out_faults, c.turn.ensures.takes.counts.out_faults_grow);
+  };
+}
 
-pub returns-in-Err-clause-moments : goal.returns-in-Err-clause-moments
-returns-in-Err-clause-moments g c = λ b w. moments_then g.H.Host.clock g.H.Host.since c.args.host.now c.lines.host c.turn.new.host (StaysOnCourse (store_of (planned c.args.plan.now)) (course_for (planned c.args.plan.now) b) []) (StaysOnCourse (store_of (planned c.args.plan.now)) (course_for (planned c.args.plan.now) b) []) (StaysOnCourse (store_of (planned c.args.plan.now)) (course_for (planned c.args.plan.now) b) []) (c.lines.invariant.moments b w) (c.turn.ensures.moments b (c.lines.invariant.way b w)) (λ m h. h) (λ m h. h)
+pub returns-in-Ok-false-clause-cause : goal.returns-in-Ok-false-clause-cause
+returns-in-Ok-false-clause-cause g c = why_none g.H.Host.now g.H.Host.may g.H.Host.disk_faults g.H.Host.out_faults g.I.Source.faults (planned c.args.plan.now) _ _ c.args.turning.now.session _ _ _ _ _ _ _
 
-pub returns-in-Ok-false-clause-finished : goal.returns-in-Ok-false-clause-finished
-returns-in-Ok-false-clause-finished g c = λ b w. c.in-Ok-false.ensures.finished b (c.lines.invariant.way b w) c.in-Ok-false.field-0-test
-
-pub returns-in-Ok-false-clause-taken : goal.returns-in-Ok-false-clause-taken
-returns-in-Ok-false-clause-taken g c = λ start t. c.turn.ensures.taken start (c.lines.invariant.taken start t)
-
-pub returns-in-Err-clause-taken : goal.returns-in-Err-clause-taken
-returns-in-Err-clause-taken g c = λ start t. c.turn.ensures.taken start (c.lines.invariant.taken start t)
-
-pub returns-in-Err-clause-stopped : goal.returns-in-Err-clause-stopped
-returns-in-Err-clause-stopped g c = λ b w. c.in-Err.ensures.stopped b (c.lines.invariant.way b w)
-
-pub returns-in-Err-clause-answered : goal.returns-in-Err-clause-answered
-returns-in-Err-clause-answered g c = λ b w which. c.in-Err.ensures.answered b (c.lines.invariant.way b w) which
-
-pub returns-in-Err-clause-never_bad : goal.returns-in-Err-clause-never_bad
-returns-in-Err-clause-never_bad g c = λ b n w is. let e : c.in-Err.fault ≡ run.BadState n = cc in c.in-Err.ensures.never_bad b n (c.lines.invariant.way b w) (ap (λ v. Err v) e)
-
-pub returns-in-Err-clause-never_damaged : goal.returns-in-Err-clause-never_damaged
-returns-in-Err-clause-never_damaged g c = λ b p w is. let e : c.in-Err.fault ≡ run.Damaged p = cc in c.in-Err.ensures.never_damaged b p (c.lines.invariant.way b w) (ap (λ v. Err v) e)
-
-pub returns-in-Ok-false-clause-log : goal.returns-in-Ok-false-clause-log
-returns-in-Ok-false-clause-log g c = (c.turn.ensures.log.0 ∙ c.lines.invariant.log.0, c.turn.ensures.log.1 ∙ c.lines.invariant.log.1)
-
-pub returns-in-Err-clause-log : goal.returns-in-Err-clause-log
-returns-in-Err-clause-log g c = (c.turn.ensures.log.0 ∙ c.lines.invariant.log.0, c.turn.ensures.log.1 ∙ c.lines.invariant.log.1)
-
-pub returns-in-Err-clause-never_bad_node : goal.returns-in-Err-clause-never_bad_node
-returns-in-Err-clause-never_bad_node g c = λ n runs is. let e : c.in-Err.fault ≡ run.BadState n = cc in c.in-Err.ensures.never_bad_node n (c.lines.invariant.node n runs) (ap (λ v. Err v) e)
-
-pub returns-in-Err-clause-undamaged : goal.returns-in-Err-clause-undamaged
-returns-in-Err-clause-undamaged g c = λ p placed is. let e : c.in-Err.fault ≡ run.Damaged p = cc in c.in-Err.ensures.undamaged p (c.lines.invariant.placed placed) (ap (λ v. Err v) e)
+pub returns-in-Err-clause-cause : goal.returns-in-Err-clause-cause
+returns-in-Err-clause-cause g c =
+    let why = c.in-Err.ensures.cause in
+    record {
+      bad = λ n runs is. why.bad n (c.lines.invariant.node n runs) (ap (λ f. Err f) (err_is c.in-Err.fault (run.BadState n) is));
+      undamaged = λ p placed is. why.undamaged p (c.lines.invariant.placed placed) (ap (λ f. Err f) (err_is c.in-Err.fault (run.Damaged p) is));
+      damaged = λ p is. why.damaged p (ap (λ f. Err f) (err_is c.in-Err.fault (run.Damaged p) is));
+      read = λ is. let rose = why.read (ap (λ f. Err f) (err_is c.in-Err.fault run.Read is)) in omega (arith, rose, c.lines.invariant.later);
+      limit = λ is. why.limit (ap (λ f. Err f) (err_is c.in-Err.fault run.Limit is));
+      write = λ is. let rose = why.write (ap (λ f. Err f) (err_is c.in-Err.fault run.Write is)) in omega (arith, rose, c.lines.invariant.out_faults);
+      disk = λ is. let rose = why.disk (ap (λ f. Err f) (err_is c.in-Err.fault run.Disk is)) in omega (arith, rose, c.lines.invariant.disk_faults);
+      differs = λ is. why.differs (ap (λ f. Err f) (err_is c.in-Err.fault run.SchemaDiffers is));
+      gap = λ n is. why.gap n (ap (λ f. Err f) (err_is c.in-Err.fault (run.Gap n) is));
+    }

@@ -1,0 +1,105 @@
+-- A run over an opened store that ended before its first line.
+use Rattle.std.proofs.Common.{◌≡◌, ◌⊎◌, inl, inr, ⊎_elim, ℕ, ◌<◌, ◌≤◌, ◌^◌, [], List, Option, Result, Ok, Err, refl, arith}
+use Rattle.std.specs.Prelude.{IfOk, OnOk}
+use Rattle.rg_bytes.specs.Counts.{Rose}
+use Rattle.rg_bytes.specs.Known.{IsAtEnd}
+use Rattle.rg_host.specs.Image.{Image}
+use Rattle.rg_host.specs.Moments.{Moment, Moments}
+use Rattle.rg_host.specs.Reading.{Reading}
+use Rattle.rg_host.proofs.Runs.{moments_then}
+use Rattle.rg_config.specs.Plans.{Planned}
+use Rattle.rg_state.specs.Rows.{Cells}
+use Rattle.rg_course.specs.Stores.{StaysOnCourse}
+use Rattle.rg_store.specs.Stores.{store_of}
+use Rattle.rg_recover.specs.Sessions.{Sitting}
+use Rattle.rg_turn.specs.Turning.{HasStopped}
+use Rattle.rg_run.specs.Answered.{StaysTrue, Explains}
+use Rattle.rg_run.specs.Begun.{Begun, course_for}
+use Rattle.rg_run.specs.Reading.{HasTaken, IsWithinLimit}
+use Rattle.rg_run.specs.Turned.{GoesTrue, IsReadOut}
+use Rattle.rg_run.specs.UnderWay.{HasFinished}
+use Rattle.rg_run.specs.declared.fault.RunFault.{RunFault}
+use Rattle.rg_run.specs.declared.fault.RunFault.TheVariants.{Disk, Damaged, SchemaDiffers, BadState, Gap, Read, Limit, Memory, Write}
+use Rattle.rg_run.proofs.Causes.{err_is, gap_is, gap_others, if_err_by, put_others}
+use Rattle.rg_run.proofs.Taking.{within}
+
+module _ {H : Type 0} (may : H → Image → Type 0) (clock : H → ℕ) (since : H → ℕ → Moment → Type 0) (said : H → Option (List ℕ)) (plan : Planned) (b : Begun) (left : Option (List ℕ)) (old new : H) (moments : Moments clock since old new (StaysOnCourse (store_of plan) (course_for plan b) [])) where
+  -- a gap
+  pub true_at_gap : {A : Type 0} (n : ℕ) → new ≡ old → StaysTrue may clock since said {A = A} plan b left (Err (Gap n)) old new
+  true_at_gap n same = record {
+    moments = moments;
+    finished = tt;
+    stopped = inr (inr same);
+    answered = λ which. absurd (⊎_elim (gap_others n).2 (gap_others n).3 which);
+    never_bad = λ k is. ((gap_others n).5 k).0 (err_is (Gap n) (BadState k) is);
+    never_damaged = λ k is. ((gap_others n).5 k).1 (err_is (Gap n) (Damaged k) is);
+  }
+
+  -- a put that failed
+  pub true_unput : {A : Type 0} (fault : RunFault) → (fault ≡ Write) ⊎ (fault ≡ Memory) → (fault ≡ Write) ⊎ (new ≡ old) → StaysTrue may clock since said {A = A} plan b left (Err fault) old new
+  true_unput fault which stopped =
+      let not = put_others fault which in
+      record {
+        moments = moments;
+        finished = tt;
+        stopped = ⊎_elim (λ write. inl write) (λ same. inr (inr same)) stopped;
+        answered = λ is. absurd (⊎_elim not.2 not.3 is);
+        never_bad = λ k is. (not.4 k).0 (err_is fault (BadState k) is);
+        never_damaged = λ k is. (not.4 k).1 (err_is fault (Damaged k) is);
+      }
+
+-- the open line was put, and the lines were answered
+pub true_from : {H A : Type 0} (may : H → Image → Type 0) (clock : H → ℕ) (since : H → ℕ → Moment → Type 0) (said : H → Option (List ℕ)) (plan : Planned) (b : Begun) (left : Option (List ℕ)) (old mid new : H) (r : Result A RunFault) → Moments clock since old mid (StaysOnCourse (store_of plan) (course_for plan b) [])
+    → GoesTrue may clock since said plan b left (λ _. HasFinished plan b (may new) (said new)) r mid new → StaysTrue may clock since said plan b left r old new
+true_from may clock since said plan b left old mid new r first goes = record {
+  moments = moments_then clock since old mid new (StaysOnCourse (store_of plan) (course_for plan b) []) (StaysOnCourse (store_of plan) (course_for plan b) []) (StaysOnCourse (store_of plan) (course_for plan b) []) first goes.moments (λ m h. h) (λ m h. h);
+  finished = goes.done;
+  stopped = if_err_by r (λ f. (f ≡ Write) ⊎ HasStopped plan (course_for plan b) (may new) (said new)) (λ f. (f ≡ Write) ⊎ (HasStopped plan (course_for plan b) (may new) (said new) ⊎ (new ≡ old))) (λ f. ⊎_elim (λ write. inl write) (λ stopped. inr (inl stopped))) goes.stopped;
+  answered = goes.answered;
+  never_bad = goes.never_bad;
+  never_damaged = goes.never_damaged;
+}
+
+module _ {H I : Type 0} (now : H → Option Image) (may : H → Image → Type 0) (disk_faults out_faults : H → ℕ) (left : I → Option (List ℕ)) (faults : I → ℕ) {T : Type 0} (plan : Planned) (next first : ℕ) (told : Type 0) (cells : Cells) (s : Sitting T) (input : I) (old : H) where
+  pub gap_explained : {A : Type 0} → next < first → Explains now may disk_faults out_faults left faults {A = A} plan next first told cells s (Err (Gap next)) input input old old
+  gap_explained behind =
+      let not = gap_others next in
+      record {
+        behind = λ h. (refl, refl, refl);
+        gap = λ n is. (gap_is next n (err_is (Gap next) (Gap n) is), behind, refl);
+        no_gap = tt;
+        differs = λ is. not.1 (err_is (Gap next) SchemaDiffers is);
+        bad = λ k runs is. (not.5 k).0 (err_is (Gap next) (BadState k) is);
+        undamaged = λ k placed is. (not.5 k).1 (err_is (Gap next) (Damaged k) is);
+        damaged = λ k is. absurd ((not.5 k).1 (err_is (Gap next) (Damaged k) is));
+        at_end = tt;
+        within = tt;
+        read = λ is. absurd (not.2 (err_is (Gap next) Read is));
+        limit = λ is. absurd (not.3 (err_is (Gap next) Limit is));
+        write = λ is. absurd (not.4 (err_is (Gap next) Write is));
+        disk = λ is. absurd (not.0 (err_is (Gap next) Disk is));
+      }
+
+  pub unput_explained : {A : Type 0} (fault : RunFault) (new : H) → first ≤ next → (fault ≡ Write) ⊎ (fault ≡ Memory) → (fault ≡ Write → Rose (out_faults old) (out_faults new)) → Explains now may disk_faults out_faults left faults {A = A} plan next first told cells s (Err fault) input input old new
+  unput_explained fault new ahead which write =
+      let not = put_others fault which in
+      record {
+        behind = λ h. absurd (omega (arith, h, ahead));
+        gap = λ n is. absurd ((not.4 n).2 (err_is fault (Gap n) is));
+        no_gap = tt;
+        differs = λ is. not.1 (err_is fault SchemaDiffers is);
+        bad = λ k runs is. (not.4 k).0 (err_is fault (BadState k) is);
+        undamaged = λ k placed is. (not.4 k).1 (err_is fault (Damaged k) is);
+        damaged = λ k is. absurd ((not.4 k).1 (err_is fault (Damaged k) is));
+        at_end = tt;
+        within = tt;
+        read = λ is. absurd (not.2 (err_is fault Read is));
+        limit = λ is. absurd (not.3 (err_is fault Limit is));
+        write = λ is. write (err_is fault Write is);
+        disk = λ is. absurd (not.0 (err_is fault Disk is));
+      }
+
+-- all of an input was read
+pub read_all_by : {A : Type 0} (r : Result A RunFault) (start left : Option (List ℕ)) (reading : Reading) → HasTaken start left reading → IfOk r (λ _. IsReadOut reading) → OnOk r (IsAtEnd left) × OnOk r (IsWithinLimit (2 ^ 50) start)
+read_all_by (Ok a) start left reading taken end = (taken.at_end end.ended, within start left reading (2 ^ 50) taken (taken.at_end end.ended) end.few)
+read_all_by (Err f) start left reading taken end = (tt, tt)

@@ -10,7 +10,7 @@ use Rattle.rg_host.specs.Image.{Image}
 use Rattle.rg_host.specs.Moments.{Moment, Moments}
 use Rattle.rg_host.proofs.Runs.{moments-none}
 use Rattle.rg_course.specs.Stores.{StaysOnCourseSince}
-use Rattle.rg_store.specs.Stores.{store_of}
+use Rattle.rg_open.specs.Stores.{store_of}
 use Rattle.rg_open.specs.Opening.{IsFromIn}
 use Rattle.rg_turn.specs.Turning.{HasStopped}
 use Rattle.rg_run.specs.Begun.{Begun, IsReadyRun, begun_by, course_for}

@@ -28,8 +28,8 @@ use Rattle.rg_course.proofs.Hosts.{part_way_more}
 use Rattle.rg_course.proofs.Runs.{told_since}
 use Rattle.rg_course.proofs.Texts.{pieces_prefix}
 use Rattle.rg_course.proofs.Whole.{may_leave, out_again}
-use Rattle.rg_store.specs.Stores.{store_of}
-use Rattle.rg_store.specs.Truth.{IsTruthfulImage}
+use Rattle.rg_open.specs.Stores.{store_of}
+use Rattle.rg_open.specs.Truth.{IsTruthfulImage}
 use Rattle.rg_open.specs.Opening.{IsFromIn}
 use Rattle.rg_turn.specs.Turning.{HasStopped, terms_of}
 use Rattle.rg_run.specs.Begun.{Begun, course_for, lines_in}

@@ -14,7 +14,7 @@ use Rattle.rg_event.specs.declared.event.Event.{Event}
 use Rattle.rg_event.specs.Rising.{next_offset}
 use Rattle.rg_log.specs.Log.{HasEvents}
 use Rattle.rg_checkpoint.specs.Slots.{HasSlot}
-use Rattle.rg_store.specs.Stores.{Has, HasSaved}
+use Rattle.rg_open.specs.Stores.{Has, HasSaved}
 use Rattle.rg_config.specs.Plans.{Planned}
 use Rattle.rg_open.specs.Unfit.{IsLeftAlone}
 use Rattle.rg_open.specs.Within.{IsAsRead, IsInOpening, IsWithinOpening}

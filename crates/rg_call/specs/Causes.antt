@@ -8,7 +8,7 @@ use Rattle.rg_host.specs.Image.{Image}
 use Rattle.rg_log.specs.Log.{HasEvents}
 use Rattle.rg_config.specs.Plans.{Planned}
 use Rattle.rg_reservoir.specs.Chain.{IsIllegal}
-use Rattle.rg_store.specs.Stores.{Has}
+use Rattle.rg_open.specs.Stores.{Has}
 use Rattle.rg_open.specs.Blame.{IsBlamed}
 use Rattle.rg_open.specs.Unfit.{HasOtherSchema, HasBadFrame}
 use Rattle.rg_call.specs.Call.{damage_line, schema_line, state_line, gap_line}

@@ -13,8 +13,8 @@ use Rattle.rg_course.specs.Accepted.{events_after}
 use Rattle.rg_course.specs.Output.{text_of_run, open_line, put_before, unstopped}
 use Rattle.rg_course.specs.Pieces.{whole_pieces}
 use Rattle.rg_course.specs.Stores.{IsNear, StaysOnCourseSince}
-use Rattle.rg_store.specs.Stores.{store_of, Has, HasSaved}
-use Rattle.rg_store.specs.Truth.{IsTruthfulImage}
+use Rattle.rg_open.specs.Stores.{store_of, Has, HasSaved}
+use Rattle.rg_open.specs.Truth.{IsTruthfulImage}
 use Rattle.rg_open.specs.Opening.{IsFromIn}
 use Rattle.rg_turn.specs.Turning.{HasStopped, terms_of}
 use Rattle.rg_run.specs.Begun.{IsReadyRun, Begun, begun_by, lines_in, course_for}

@@ -7,8 +7,8 @@ use Rattle.rg_host.specs.Puts.{IsPrefix, Puts}
 use Rattle.rg_event.specs.declared.event.Event.{Event}
 use Rattle.rg_event.specs.Rising.{next_offset}
 use Rattle.rg_config.specs.Plans.{Planned}
-use Rattle.rg_store.specs.Stores.{Has, HasSaved}
-use Rattle.rg_store.specs.Truth.{IsTruthfulImage}
+use Rattle.rg_open.specs.Stores.{Has, HasSaved}
+use Rattle.rg_open.specs.Truth.{IsTruthfulImage}
 use Rattle.rg_open.specs.Unfit.{HasOtherSchema, HasBadFrame}
 use Rattle.rg_open.specs.Within.{IsAsRead, IsOpenedImage}
 use Rattle.rg_call.specs.Call.{damage_line, schema_line, gap_line, Fails}

@@ -15,7 +15,7 @@ ghost use Rattle.rg_listing.specs.Stops.{StopsAt};
 ghost use Rattle.rg_course.specs.Accepted.{events_after};
 ghost use Rattle.rg_course.specs.Laws.{below};
 ghost use Rattle.rg_course.specs.Stores.{Promised};
-ghost use Rattle.rg_store.specs.Stores.{store_of};
+ghost use Rattle.rg_open.specs.Stores.{store_of};
 ghost use Rattle.rg_open.specs.Opening.{IsFromIn};
 ghost use Rattle.rg_open.specs.Unfit.{IsUnfit, IsLeftAlone};
 ghost use Rattle.rg_open.specs.Within.{IsWithinOpening};

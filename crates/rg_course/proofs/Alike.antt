@@ -4,7 +4,7 @@ use Rattle.rg_event.specs.declared.event.Event.{Event}
 use Rattle.rg_event.specs.declared.schema.Field.{Field}
 use Rattle.rg_event.specs.Rising.{next_offset}
 use Rattle.rg_metric.specs.Queries.{Asked}
-use Rattle.rg_verdict.specs.Verdicts.{Basis}
+use Rattle.rg_course.specs.Verdicts.{Basis}
 use Rattle.rg_course.specs.Accepted.{verdict_from, after_turn, events_before, events_after}
 use Rattle.rg_course.specs.Laws.{AcceptAlike}
 

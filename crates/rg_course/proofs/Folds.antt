@@ -4,7 +4,7 @@ use Rattle.std.proofs.lemmas.List.{append-nil, take_more, take_all, length-take-
 use Rattle.std.proofs.lemmas.Bool.{lt-ltb, le-ltb, ltb-true, ltb-false}
 use Rattle.rg_event.specs.declared.event.Event.{Event}
 use Rattle.rg_event.specs.Rising.{next_offset}
-use Rattle.rg_verdict.specs.Verdicts.{line_verdict}
+use Rattle.rg_course.specs.Verdicts.{line_verdict}
 use Rattle.rg_course.specs.Accepted.{verdict_from, after_turn, events_before, events_after}
 use Rattle.rg_course.specs.Output.{turn_lines, put_at, put_before, out, end_lines, Terms}
 use Rattle.rg_course.specs.Ahead.{after_line, lines_for, events_from, put_from}

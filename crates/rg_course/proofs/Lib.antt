@@ -1,3 +1,7 @@
+pub mod Verdicts
+pub mod Accepted
+pub mod Events
+pub mod Laws
 pub mod Lines
 pub mod Alike
 pub mod Prefixes

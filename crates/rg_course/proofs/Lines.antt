@@ -3,9 +3,8 @@ use Rattle.std.proofs.Common.{◌≡◌, ℕ, zero, suc, ◌+◌, ◌≤◌, ◌
 use Rattle.std.proofs.lemmas.Bool.{lt-ltb, le-ltb}
 use Rattle.rg_event.specs.declared.event.Event.{Event}
 use Rattle.rg_reply.specs.Texts.{reply_line}
-use Rattle.rg_verdict.specs.Verdicts.{Basis, Verdict, accepted_after, line_verdict}
-use Rattle.rg_verdict.specs.Verdicts.Verdict.{refused, accepted}
-use Rattle.rg_verdict.specs.Accepted.{accepted_before, reply_to}
+use Rattle.rg_course.specs.Verdicts.{Basis, Verdict, accepted_after, line_verdict, accepted_before, reply_to}
+use Rattle.rg_course.specs.Verdicts.Verdict.{refused, accepted}
 use Rattle.rg_course.specs.Accepted.{verdict_from, after_turn, events_before}
 use Rattle.rg_course.specs.Output.{Terms, stored_line, saved_line, is_every, is_saved, saves, marks_of, turn_lines, put_at}
 use Rattle.rg_course.proofs.Steps.{or_true}

@@ -4,7 +4,7 @@ use Rattle.rg_event.specs.declared.event.Event.{Event}
 use Rattle.rg_event.specs.Rising.{next_offset}
 use Rattle.rg_reply.specs.Texts.{mark_line}
 use Rattle.rg_reply.specs.declared.mark.Mark.TheVariants.{Stored, Saved}
-use Rattle.rg_verdict.specs.Verdicts.{Verdict, accepted_after}
+use Rattle.rg_course.specs.Verdicts.{Verdict, accepted_after}
 use Rattle.rg_course.specs.Accepted.{after_turn}
 use Rattle.rg_course.specs.Output.{stores, saves, turn_lines, end_lines, open_line, Terms}
 use Rattle.rg_course.specs.Stores.{Store}

@@ -12,7 +12,7 @@ use Rattle.rg_event.specs.Rising.{next_offset}
 use Rattle.rg_metric.specs.declared.reply.Reply.{Reply}
 use Rattle.rg_reply.specs.Texts.{reply_text, reply_line, mark_line}
 use Rattle.rg_reply.specs.declared.mark.Mark.TheVariants.{Opened, Stored, Saved, Finished}
-use Rattle.rg_verdict.specs.Verdicts.{Verdict, accepted_after, reply_of}
+use Rattle.rg_course.specs.Verdicts.{Verdict, accepted_after, reply_of}
 use Rattle.rg_course.specs.Accepted.{verdict_from, after_turn, events_before, events_after}
 use Rattle.rg_course.specs.Output.{stored_line, saved_line, stores, saves, line_where, marks_of, verdict_lines, turn_lines, put_at, put_before, end_lines, out, Terms}
 use Rattle.rg_course.specs.Acknowledged.{SaysStored, SaysSaved, SayNothing}

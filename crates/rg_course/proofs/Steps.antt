@@ -6,9 +6,9 @@ use Rattle.rg_event.specs.declared.event.Event.{Event}
 use Rattle.rg_event.specs.Rising.{next_offset, last_time}
 use Rattle.rg_metric.specs.declared.reply.Reply.{Reply}
 use Rattle.rg_metric.specs.declared.reply.Reply.TheVariants.{Late, Full}
-use Rattle.rg_verdict.specs.Verdicts.{Verdict, read_as, verdict_of, line_verdict}
-use Rattle.rg_verdict.specs.Verdicts.Verdict.{refused, accepted}
-use Rattle.rg_verdict.proofs.Events.{read_fits}
+use Rattle.rg_course.specs.Verdicts.{Verdict, read_as, verdict_of, line_verdict}
+use Rattle.rg_course.specs.Verdicts.Verdict.{refused, accepted}
+use Rattle.rg_course.proofs.Events.{read_fits}
 use Rattle.rg_course.specs.Accepted.{verdict_from, after_turn}
 use Rattle.rg_course.specs.Output.{turn_lines, Terms}
 use Rattle.rg_course.specs.Ahead.{after_line, lines_for}

@@ -15,7 +15,7 @@ use Rattle.rg_reply.specs.declared.mark.Mark.{Mark}
 use Rattle.rg_reply.specs.declared.mark.Mark.TheVariants.{Opened, Stored, Saved, Finished}
 use Rattle.rg_host.specs.Lines.{HasNoLf, ended}
 use Rattle.rg_host.specs.Puts.{IsPrefix}
-use Rattle.rg_verdict.specs.Verdicts.{Verdict, reply_of}
+use Rattle.rg_course.specs.Verdicts.{Verdict, reply_of}
 use Rattle.rg_course.specs.Output.{line_where, turn_lines, end_lines, stores, saves, text_of_run, Terms}
 use Rattle.rg_course.specs.Ahead.{after_line, lines_for, put_from, out_from, events_from}
 use Rattle.rg_course.specs.Laws.{IsPrefixOf}

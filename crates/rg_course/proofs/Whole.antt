@@ -4,7 +4,7 @@ use Rattle.std.proofs.lemmas.List.{take_all, take-append-drop, length-take-le}
 use Rattle.std.proofs.lemmas.Bool.{leb-true, leb-false, lt-ltb}
 use Rattle.rg_event.specs.declared.event.Event.{Event}
 use Rattle.rg_event.specs.Rising.{next_offset, IsRising}
-use Rattle.rg_verdict.specs.Verdicts.{line_verdict}
+use Rattle.rg_course.specs.Verdicts.{line_verdict}
 use Rattle.rg_course.specs.Accepted.{events_before, events_after}
 use Rattle.rg_course.specs.Output.{turn_lines, put_at, put_before, out, end_lines, unstopped, Terms}
 use Rattle.rg_course.specs.Ahead.{events_from, put_from, out_from}

@@ -2,7 +2,7 @@
 use Rattle.std.specs.Prelude.{ℕ, zero, suc, ◌+◌, nat_lt, List, length, get_or, Option, Some, None, if◌then◌else◌}
 use Rattle.rg_event.specs.declared.event.Event.{Event}
 use Rattle.rg_event.specs.Rising.{next_offset}
-use Rattle.rg_verdict.specs.Verdicts.{Basis, Verdict, accepted_after, line_verdict}
+use Rattle.rg_course.specs.Verdicts.{Basis, Verdict, accepted_after, line_verdict}
 
 -- the verdict on the line at this offset, where these events were accepted before it; a line below the next offset is passed over
 abbrev pub verdict_from : Basis → ℕ → List Event → ℕ → Option (List ℕ) → Option Verdict

@@ -2,7 +2,7 @@
 use Rattle.std.specs.Prelude.{ℕ, ◌+◌, List, [], ◌∷◌, ◌++◌, length, Option}
 use Rattle.rg_event.specs.declared.event.Event.{Event}
 use Rattle.rg_event.specs.Rising.{next_offset}
-use Rattle.rg_verdict.specs.Verdicts.{Basis}
+use Rattle.rg_course.specs.Verdicts.{Basis}
 use Rattle.rg_course.specs.Accepted.{verdict_from, after_turn}
 use Rattle.rg_course.specs.Output.{Terms, turn_lines, end_lines}
 

@@ -3,7 +3,7 @@ use Rattle.std.specs.Prelude.{◌≡◌, ℕ, ◌+◌, ◌≤◌, nat_lt, List, 
 use Rattle.std.specs.List.{filter}
 use Rattle.rg_event.specs.declared.event.Event.{Event}
 use Rattle.rg_event.specs.Rising.{next_offset}
-use Rattle.rg_verdict.specs.Verdicts.{Basis}
+use Rattle.rg_course.specs.Verdicts.{Basis}
 use Rattle.rg_course.specs.Accepted.{events_after}
 use Rattle.rg_course.specs.Output.{Terms, put_at, put_before, out}
 

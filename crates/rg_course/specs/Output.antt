@@ -4,8 +4,8 @@ use Rattle.rg_event.specs.declared.event.Event.{Event}
 use Rattle.rg_event.specs.Rising.{next_offset}
 use Rattle.rg_reply.specs.Texts.{reply_line, mark_line}
 use Rattle.rg_reply.specs.declared.mark.Mark.TheVariants.{Opened, Stored, Saved, Finished}
-use Rattle.rg_verdict.specs.Verdicts.{Basis, Verdict, accepted_after, reply_of}
-use Rattle.rg_verdict.specs.Verdicts.Verdict.{refused, accepted}
+use Rattle.rg_course.specs.Verdicts.{Basis, Verdict, accepted_after, reply_of}
+use Rattle.rg_course.specs.Verdicts.Verdict.{refused, accepted}
 use Rattle.rg_course.specs.Accepted.{verdict_from, events_before, events_after}
 
 -- All of a plan that the text of a run rests on: neither the size of the cache nor that of a chunk.

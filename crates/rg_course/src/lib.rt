@@ -1,10 +1,16 @@
-//! What a run accepts and puts out, and the laws by which a stopped run goes on.
+//! What is decided on a line, what a run accepts and puts out, and the laws by which a stopped run goes on.
 //!
-//! The definitions are in `specs/`: `Accepted` says which events a run accepts, `Output` what it puts,
+//! The definitions are in `specs/`: `Verdicts` has what a line is read as, the verdict on it and the reply,
+//! over a `Basis` alone (the columns, the queries, the limit of events and whether there is a header);
+//! `Accepted` says which events a run accepts over a store that held some before, `Output` what it puts,
 //! `Ahead` what is still to come in mid-run, `Acknowledged` what the lines that were put promise of the
 //! store, and `Stores`, `Steps` and `Turns` what holds of store and output at each moment. Each function
 //! here is a law without a body.
 #![tactic(auto)]
+
+mod verdict;
+
+pub use verdict::{law_before, law_next, law_read};
 
 ghost use Rattle.std.specs.Prelude.{◌≡◌, ℕ, ◌+◌, ◌-◌, ◌≤◌, ◌<◌, ◌^◌, max, true, List, [], ◌∷◌, ◌++◌, length, get_or, drop, Option, Some, None};
 ghost use Rattle.rg_event.specs.declared.event.Event.{Event};
@@ -12,8 +18,7 @@ ghost use Rattle.rg_event.specs.Rising.{next_offset, IsRising};
 ghost use Rattle.rg_host.specs.Lines.{ended};
 ghost use Rattle.rg_host.specs.Puts.{IsPrefix};
 ghost use Rattle.rg_reply.specs.Texts.{reply_line};
-ghost use Rattle.rg_verdict.specs.Verdicts.{Basis, Verdict, accepted_after, line_verdict};
-ghost use Rattle.rg_verdict.specs.Accepted.{accepted_before, reply_to};
+ghost use Rattle.rg_course.specs.Verdicts.{Basis, Verdict, accepted_after, line_verdict, accepted_before, reply_to};
 ghost use Rattle.rg_course.specs.Accepted.{verdict_from, events_before, events_after};
 ghost use Rattle.rg_course.specs.Output.{saves, stored_line, saved_line, marks_of, put_at, put_before, out, unstopped, open_line, text_of_run, Terms};
 ghost use Rattle.rg_course.specs.Ahead.{events_from, out_from};

@@ -14,9 +14,9 @@ use Rattle.rg_reservoir.specs.Attached.{SchemaAdded}
 use Rattle.rg_reservoir.specs.Kept.{base, opened, all_events, IsSound}
 use Rattle.rg_reservoir.specs.declared.reservoir.Reservoir.{Reservoir}
 use Rattle.rg_course.specs.Steps.{IsMidStep, IsStepped}
-use Rattle.rg_store.specs.Stores.{store_of}
-use Rattle.rg_store.proofs.Images.{events_in}
-use Rattle.rg_store.proofs.Sound.{open_left, opened_left}
+use Rattle.rg_open.specs.Stores.{store_of}
+use Rattle.rg_open.proofs.Images.{events_in}
+use Rattle.rg_open.proofs.Sound.{open_left, opened_left}
 use Rattle.rg_open.specs.Opening.{IsOpenable, AreSlots, IsFound}
 use Rattle.rg_open.specs.Settling.{AreSettled}
 

@@ -31,8 +31,8 @@ use Rattle.rg_reservoir.specs.Attached.{Opens}
 use Rattle.rg_reservoir.specs.Kept.{Base, base, opened, all_events, IsSound, Spells}
 use Rattle.rg_reservoir.specs.declared.reservoir.Reservoir.{Reservoir}
 use Rattle.rg_reservoir.proofs.Chains.{some_none}
-use Rattle.rg_store.specs.Truth.{texts_of}
-use Rattle.rg_store.specs.Opened.{IsOpenedFor}
+use Rattle.rg_open.specs.Truth.{texts_of}
+use Rattle.rg_open.specs.Opened.{IsOpenedFor}
 use Rattle.rg_open.specs.Blame.{opened_list, IsAmiss, NodeRuns}
 use Rattle.rg_open.proofs.Logs.{spelled, in_log}
 

@@ -29,10 +29,10 @@ use Rattle.rg_restore.proofs.Trying.{fit_same}
 use Rattle.rg_reservoir.specs.Kept.{Base, base, opened, next_of, time_of, cache_of, all_events, IsSound, IsRight, Spells}
 use Rattle.rg_reservoir.specs.GoingLaws.{all_long}
 use Rattle.rg_reservoir.specs.declared.reservoir.Reservoir.{Reservoir}
-use Rattle.rg_store.specs.Truth.{texts_of, IsTrueOf}
-use Rattle.rg_store.specs.Opened.{IsKeptInSlot}
-use Rattle.rg_store.proofs.Sound.{framed}
-use Rattle.rg_store.proofs.Saving.{of_plan}
+use Rattle.rg_open.specs.Truth.{texts_of, IsTrueOf}
+use Rattle.rg_open.specs.Opened.{IsKeptInSlot}
+use Rattle.rg_open.proofs.Sound.{framed}
+use Rattle.rg_open.proofs.Saving.{of_plan}
 use Rattle.rg_open.specs.Opening.{IsFound, IsStarted}
 use Rattle.rg_open.proofs.Logs as log
 

@@ -7,7 +7,7 @@ use Rattle.rg_checkpoint.specs.declared.base.Checkpoint.{Checkpoint}
 use Rattle.rg_checkpoint.proofs.SlotLaws.{slot_told}
 use Rattle.rg_restore.specs.Slots.{slot_in, IsBehind, IsFrom}
 use Rattle.rg_restore.specs.declared.choosing.Saved.{Saved}
-use Rattle.rg_store.specs.Truth.{texts_of}
+use Rattle.rg_open.specs.Truth.{texts_of}
 use Rattle.rg_open.specs.Opening.{AreSlots, IsFromIn}
 
 -- what a slot holds is told by its bytes

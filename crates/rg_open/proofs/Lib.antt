@@ -1,3 +1,8 @@
+pub mod Truths
+pub mod Images
+pub mod Steps
+pub mod Sound
+pub mod Saving
 pub mod Settles
 pub mod Attached
 pub mod Logs

@@ -22,8 +22,8 @@ use Rattle.rg_reservoir.specs.Kept.{base, opened, next_of, time_of, cache_of, al
 use Rattle.rg_reservoir.specs.GoingLaws.{all_long}
 use Rattle.rg_reservoir.specs.declared.reservoir.Reservoir.{Reservoir}
 use Rattle.rg_reservoir.proofs.Spelled.{spelled_here, spelled_there}
-use Rattle.rg_store.specs.Opened.{IsOpenedFor}
-use Rattle.rg_store.proofs.Sound.{has_events, all_are}
+use Rattle.rg_open.specs.Opened.{IsOpenedFor}
+use Rattle.rg_open.proofs.Sound.{has_events, all_are}
 
 module _ (plan : Planned) (now : Option Image) (may : Image → Type 0) (r : Reservoir) (log : IsOpenedFor plan now may r) (empty : opened r ≡ []) where
   abbrev pub image : Image

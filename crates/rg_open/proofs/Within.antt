@@ -12,7 +12,7 @@ use Rattle.rg_config.specs.Plans.{Planned}
 use Rattle.rg_reservoir.specs.Attached.{SchemaAdded}
 use Rattle.rg_course.specs.Stores.{Store}
 use Rattle.rg_course.specs.Steps.{IsMidStep, IsStepped}
-use Rattle.rg_store.specs.Stores.{store_of}
+use Rattle.rg_open.specs.Stores.{store_of}
 use Rattle.rg_open.specs.Settling.{AreSettled, LeavesFewer}
 use Rattle.rg_open.specs.Within.{IsAsRead, IsOpenedImage, IsInOpening, IsAfterOpening, IsWithinOpening}
 use Rattle.rg_open.proofs.Attached.{mid_step, stepped}

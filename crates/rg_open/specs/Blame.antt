@@ -19,8 +19,8 @@ use Rattle.rg_restore.specs.Slots.{slot_in, IsBest}
 use Rattle.rg_restore.specs.Truthful.{NodeGoes, NodeIsTrue}
 use Rattle.rg_reservoir.specs.Kept.{base, opened, all_events, Spells}
 use Rattle.rg_reservoir.specs.declared.reservoir.Reservoir.{Reservoir}
-use Rattle.rg_store.specs.Opened.{IsOpenedFor}
-use Rattle.rg_store.specs.Truth.{texts_of}
+use Rattle.rg_open.specs.Opened.{IsOpenedFor}
+use Rattle.rg_open.specs.Truth.{texts_of}
 use Rattle.rg_open.specs.Opening.{AreSlots}
 
 -- the frame list of a log once it was opened: a log without a frame was given the schema's

@@ -1,3 +1,6 @@
+pub mod Truth
+pub mod Stores
+pub mod Opened
 pub mod Settling
 pub mod Faults
 pub mod Opening

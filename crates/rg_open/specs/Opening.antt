@@ -17,9 +17,9 @@ use Rattle.rg_engine.specs.Standing.{come}
 use Rattle.rg_window.specs.Placed.{numbers_of}
 use Rattle.rg_reservoir.specs.Kept.{base, opened}
 use Rattle.rg_reservoir.specs.declared.reservoir.Reservoir.{Reservoir}
-use Rattle.rg_store.specs.Opened.{IsOpenedFor, IsInStep, IsKeptInSlot}
-use Rattle.rg_store.specs.Stores.{IsOfPlan}
-use Rattle.rg_store.specs.Truth.{texts_of, IsTruthfulImage}
+use Rattle.rg_open.specs.Opened.{IsOpenedFor, IsInStep, IsKeptInSlot}
+use Rattle.rg_open.specs.Stores.{IsOfPlan}
+use Rattle.rg_open.specs.Truth.{texts_of, IsTruthfulImage}
 
 -- The host tells its image, and each image that might be left is truthful, and its log is of the plan's schema or has no frame.
 pub record IsOpenable (plan : Planned) (now : Option Image) (may : Image → Type 0) : Type 0 where

@@ -7,7 +7,7 @@ use Rattle.rg_log.specs.Log.{schema_payload}
 use Rattle.rg_config.specs.Plans.{Planned}
 use Rattle.rg_reservoir.specs.Attached.{SchemaAdded}
 use Rattle.rg_course.specs.Steps.{IsMidStep, IsStepped}
-use Rattle.rg_store.specs.Stores.{store_of}
+use Rattle.rg_open.specs.Stores.{store_of}
 
 -- an image that might have been left, of which the log and the slots are as reads give them
 abbrev pub IsAsRead : Image → (Image → Type 0) → Image → Type 0

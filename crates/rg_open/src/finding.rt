@@ -13,7 +13,7 @@ ghost use Rattle.rg_config.specs.Read.{IsReadPlan};
 ghost use Rattle.rg_reservoir.specs.Attached.{IsOther, IsBadFrame, SchemaAdded};
 ghost use Rattle.rg_reservoir.specs.Kept.{base, opened, room_of, cache_of, log_of, all_events};
 ghost use Rattle.rg_restore.specs.Naming.{IsListed};
-ghost use Rattle.rg_store.specs.Opened.{IsOpenedFor};
+ghost use Rattle.rg_open.specs.Opened.{IsOpenedFor};
 ghost use Rattle.rg_open.specs.Blame.{opened_list};
 ghost use Rattle.rg_open.specs.Opening.{IsOpenable, AreSlots, IsFound};
 ghost use Rattle.rg_open.specs.Settling.{AreSettled};

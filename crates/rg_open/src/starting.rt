@@ -16,7 +16,7 @@ ghost use Rattle.rg_restore.specs.Naming.{IsListed, HeadsName};
 ghost use Rattle.rg_restore.specs.Opening.{IsEmpty, IsGoing};
 ghost use Rattle.rg_restore.specs.Slots.{slot_in, HaveBegun, IsBest, IsFrom};
 ghost use Rattle.rg_restore.specs.Truthful.{NodeIsTrue};
-ghost use Rattle.rg_store.specs.Opened.{IsOpenedFor};
+ghost use Rattle.rg_open.specs.Opened.{IsOpenedFor};
 ghost use Rattle.rg_open.specs.Blame.{IsAmiss, NodeRuns, IsPlaced};
 ghost use Rattle.rg_open.specs.Opening.{IsFound, IsStarted};
 

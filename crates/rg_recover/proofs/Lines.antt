@@ -11,8 +11,8 @@ use Rattle.rg_config.specs.Plans.{Planned}
 use Rattle.rg_row.specs.Rows.{row_of}
 use Rattle.rg_row.specs.declared.fault.RowFault.{RowFault}
 use Rattle.rg_state.specs.Rows.{Cells}
-use Rattle.rg_verdict.specs.Verdicts.{Verdict, refused, accepted, verdict_of, or_reply, fault_reply}
-use Rattle.rg_verdict.proofs.Verdicts.{any_later, none_later, is_late, is_full, is_accepted}
+use Rattle.rg_course.specs.Verdicts.{Verdict, refused, accepted, verdict_of, or_reply, fault_reply}
+use Rattle.rg_course.proofs.Verdicts.{any_later, none_later, is_late, is_full, is_accepted}
 use Rattle.rg_reservoir.specs.Kept.{base, time_of}
 use Rattle.rg_recover.specs.Deciding.{verdict_on}
 use Rattle.rg_recover.specs.Sessions.{Sitting, IsRunning, count_in, events_of}

@@ -19,7 +19,7 @@ use Rattle.rg_engine.proofs.Taken.{told_later}
 use Rattle.rg_reservoir.specs.Kept.{Base, base, opened, all_events, IsSound, Spells}
 use Rattle.rg_reservoir.specs.declared.reservoir.Reservoir.{Reservoir}
 use Rattle.rg_restore.specs.Truthful.{NodeGoes}
-use Rattle.rg_store.specs.Opened.{IsOpenedFor}
+use Rattle.rg_open.specs.Opened.{IsOpenedFor}
 use Rattle.rg_open.specs.Blame.{NodeRuns}
 use Rattle.rg_recover.specs.Stepping.{LogStays}
 use Rattle.rg_recover.proofs.Beside.{sound_beside, events_beside, spells_beside}

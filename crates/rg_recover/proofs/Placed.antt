@@ -10,7 +10,7 @@ use Rattle.rg_engine.specs.Seen.{Seen}
 use Rattle.rg_reservoir.specs.Kept.{Base, base, opened, IsSound, Spells}
 use Rattle.rg_reservoir.specs.declared.reservoir.Reservoir.{Reservoir}
 use Rattle.rg_restore.proofs.Placing.{all_later}
-use Rattle.rg_store.specs.Opened.{IsOpenedFor}
+use Rattle.rg_open.specs.Opened.{IsOpenedFor}
 use Rattle.rg_open.specs.Blame.{IsPlaced}
 use Rattle.rg_recover.specs.Stepping.{LogStays}
 use Rattle.rg_recover.proofs.Beside.{sound_beside, spells_beside}

@@ -21,10 +21,10 @@ use Rattle.rg_reservoir.specs.declared.reservoir.Reservoir.{Reservoir}
 use Rattle.rg_restore.specs.Truthful.{StandsFor, EngineStands}
 use Rattle.rg_course.specs.Stores.{Store}
 use Rattle.rg_course.specs.Steps.{IsMidStep, IsStepped, IsSavedTo}
-use Rattle.rg_store.specs.Stores.{store_of, HasSaved}
-use Rattle.rg_store.specs.Opened.{IsToSave}
-use Rattle.rg_store.specs.Truth.{IsTrueOf}
-use Rattle.rg_store.proofs.Steps.{other_below}
+use Rattle.rg_open.specs.Stores.{store_of, HasSaved}
+use Rattle.rg_open.specs.Opened.{IsToSave}
+use Rattle.rg_open.specs.Truth.{IsTrueOf}
+use Rattle.rg_open.proofs.Steps.{other_below}
 use Rattle.rg_recover.specs.Saving.{IsToWrite}
 use Rattle.rg_recover.specs.Sessions.{Sitting, IsRunning, count_in}
 use Rattle.rg_recover.specs.Stepping.{LogStays}

@@ -5,7 +5,7 @@ use Rattle.std.proofs.lemmas.Bool.Decides.{Decides-eqb}
 use Rattle.rg_host.specs.Image.{Image, Becomes, InFile, NothingPending}
 use Rattle.rg_frame.specs.Steps.{Leaves, OthersStay}
 use Rattle.rg_checkpoint.specs.Slots.{IsKeep, other_of}
-use Rattle.rg_store.proofs.Steps.{log_apart}
+use Rattle.rg_open.proofs.Steps.{log_apart}
 use Rattle.rg_recover.specs.Stepping.{LogStays}
 
 -- after a write that is settled each image that might be left has what was written

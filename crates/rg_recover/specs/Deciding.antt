@@ -3,7 +3,7 @@ use Rattle.std.specs.Prelude.{ℕ, List, ⊤}
 use Rattle.rg_event.specs.declared.event.Event.{Event}
 use Rattle.rg_config.specs.Plans.{Planned}
 use Rattle.rg_row.specs.Rows.{row_of}
-use Rattle.rg_verdict.specs.Verdicts.{Verdict, refused, accepted, verdict_of, or_reply}
+use Rattle.rg_course.specs.Verdicts.{Verdict, refused, accepted, verdict_of, or_reply}
 use Rattle.rg_recover.specs.declared.line.Decision.{Decision}
 use Rattle.rg_recover.specs.declared.line.Decision.TheVariants.{Refused, Accepted}
 

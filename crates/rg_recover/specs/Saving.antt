@@ -6,7 +6,7 @@ use Rattle.rg_checkpoint.specs.Base.{IsBase}
 use Rattle.rg_checkpoint.specs.Slots.{other_of}
 use Rattle.rg_checkpoint.specs.declared.base.Checkpoint.{Checkpoint}
 use Rattle.rg_reservoir.specs.Kept.{opened}
-use Rattle.rg_store.specs.Truth.{texts_of, IsTrueOf}
+use Rattle.rg_open.specs.Truth.{texts_of, IsTrueOf}
 use Rattle.rg_recover.specs.Sessions.{Sitting, count_in}
 
 -- The payload is a checkpoint of the plan's queries that is true of the log of each image that might be left, and nothing of the

@@ -14,7 +14,7 @@ use Rattle.rg_reservoir.specs.Kept.{base, opened, room_of, stored, all_events}
 use Rattle.rg_reservoir.specs.contracts.reservoir.Reservoir.{the_row as reservoir_row}
 use Rattle.rg_reservoir.specs.declared.reservoir.Reservoir.{Reservoir}
 use Rattle.rg_checkpoint.specs.Slots.{IsKeep}
-use Rattle.rg_store.specs.Opened.{IsInStep, IsKeptInSlot}
+use Rattle.rg_open.specs.Opened.{IsInStep, IsKeptInSlot}
 
 -- its reservoir, its engine, the printed texts of its queries, the slot that was used or written last and of how many events that one is, and whether it has ended
 pub record Sitting (T : Type 0) : Type 0 where

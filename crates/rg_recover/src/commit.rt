@@ -7,8 +7,8 @@ ghost use Rattle.rg_config.specs.Plans.{Planned};
 ghost use Rattle.rg_reservoir.specs.Kept.{base, opened, room_of, cache_of, log_of, next_of, time_of, stored, all_events, IsSound, Spells};
 ghost use Rattle.rg_state.specs.Rows.{Cells};
 ghost use Rattle.rg_course.specs.Steps.{IsStepped};
-ghost use Rattle.rg_store.specs.Stores.{store_of};
-ghost use Rattle.rg_store.specs.Opened.{IsOpenedFor, IsInStep};
+ghost use Rattle.rg_open.specs.Stores.{store_of};
+ghost use Rattle.rg_open.specs.Opened.{IsOpenedFor, IsInStep};
 ghost use Rattle.rg_open.specs.Blame.{NodeRuns, IsPlaced};
 ghost use Rattle.rg_recover.specs.Sessions.{IsRunning, count_in, events_of, stored_of};
 ghost use Rattle.rg_recover.specs.Stepping.{IsWithinStep, IsStored};
@@ -18,7 +18,7 @@ use crate::session::Session;
 use rg_host::Host;
 use rg_reservoir::Reservoir;
 use rg_state::Table;
-use rg_store::law_steps;
+use rg_open::law_steps;
 
 /// Commits the open chunk of a reservoir.
 pub(crate) fn commit_open<H: Host>(reservoir: &mut Reservoir, host: &mut H) -> Result<(), TaskFault>

@@ -10,7 +10,7 @@ ghost use Rattle.rg_checkpoint.specs.declared.base.Checkpoint.{Checkpoint as The
 ghost use Rattle.rg_checkpoint.specs.Slots.{IsKeep, other_of};
 ghost use Rattle.rg_checkpoint.specs.Writing.{Encodes};
 ghost use Rattle.rg_course.specs.Steps.{IsSavedTo};
-ghost use Rattle.rg_store.specs.Stores.{store_of};
+ghost use Rattle.rg_open.specs.Stores.{store_of};
 ghost use Rattle.rg_open.specs.Blame.{NodeRuns, IsPlaced};
 ghost use Rattle.rg_recover.specs.Saving.{IsToWrite, IsSaved};
 ghost use Rattle.rg_recover.specs.Sessions.{IsRunning, count_in, events_of, stored_of};
@@ -23,7 +23,7 @@ use rg_engine::Engine;
 use rg_event::Texts;
 use rg_host::Host;
 use rg_state::{Table, TableFault};
-use rg_store::{law_checkpoints, law_steps};
+use rg_open::{law_checkpoints, law_steps};
 use std::alloc::Global;
 
 /// The base payload of an engine after that many events.

@@ -10,7 +10,7 @@ use Rattle.rg_host.proofs.Runs.{moments_then}
 use Rattle.rg_config.specs.Plans.{Planned}
 use Rattle.rg_state.specs.Rows.{Cells}
 use Rattle.rg_course.specs.Stores.{StaysOnCourse}
-use Rattle.rg_store.specs.Stores.{store_of}
+use Rattle.rg_open.specs.Stores.{store_of}
 use Rattle.rg_recover.specs.Sessions.{Sitting}
 use Rattle.rg_turn.specs.Turning.{HasStopped}
 use Rattle.rg_run.specs.Answered.{StaysTrue, Explains}

@@ -26,7 +26,7 @@ use Rattle.rg_course.proofs.Keeping.{after_step, mid_step_kept}
 use Rattle.rg_course.proofs.Marking.{open_marks}
 use Rattle.rg_course.proofs.Texts.{mark_no_lf}
 use Rattle.rg_log.specs.Log.{HasEvents}
-use Rattle.rg_store.specs.Stores.{store_of}
+use Rattle.rg_open.specs.Stores.{store_of}
 use Rattle.rg_open.specs.Within.{IsAsRead, IsInOpening, IsAfterOpening, IsWithinOpening}
 use Rattle.rg_reservoir.specs.Kept.{next_of}
 use Rattle.rg_recover.specs.Sessions.{Sitting, IsRunning, count_in, events_of, stored_of}

@@ -20,7 +20,7 @@ use Rattle.rg_course.specs.Output.{open_line, put_before, out}
 use Rattle.rg_course.specs.Stores.{StaysOnCourse}
 use Rattle.rg_course.proofs.Courses.{on_course_at_rest, stopped_at_rest}
 use Rattle.rg_course.proofs.Whole.{accepted_more, out_more}
-use Rattle.rg_store.specs.Stores.{store_of}
+use Rattle.rg_open.specs.Stores.{store_of}
 use Rattle.rg_recover.specs.Sessions.{Sitting, events_of, stored_of}
 use Rattle.rg_recover.specs.declared.fault.TaskFault.TheVariants as task
 use Rattle.rg_turn.specs.declared.fault.TurnFault.{TurnFault}

@@ -11,7 +11,7 @@ use Rattle.rg_state.specs.Rows.{Cells}
 use Rattle.rg_reservoir.specs.Chain.{IsIllegal}
 use Rattle.rg_reservoir.specs.Kept.{base}
 use Rattle.rg_course.specs.Stores.{StaysOnCourse}
-use Rattle.rg_store.specs.Stores.{store_of}
+use Rattle.rg_open.specs.Stores.{store_of}
 use Rattle.rg_open.specs.Blame.{NodeRuns, IsPlaced}
 use Rattle.rg_recover.specs.Sessions.{Sitting}
 use Rattle.rg_turn.specs.Turning.{HasStopped}

@@ -13,7 +13,7 @@ use Rattle.rg_state.specs.Rows.{Cells}
 use Rattle.rg_reservoir.specs.Chain.{IsIllegal}
 use Rattle.rg_reservoir.specs.Kept.{base, log_of, next_of}
 use Rattle.rg_course.specs.Steps.{IsAtRest}
-use Rattle.rg_store.specs.Stores.{store_of}
+use Rattle.rg_open.specs.Stores.{store_of}
 use Rattle.rg_open.specs.Blame.{IsBlamed, NodeRuns, IsPlaced}
 use Rattle.rg_open.specs.Opening.{IsOpenable, IsFromIn}
 use Rattle.rg_open.specs.Unfit.{HasOtherSchema, HasBadFrame, IsUnfit, IsLeftAlone}

@@ -12,7 +12,7 @@ use Rattle.rg_course.specs.Ahead.{after_line}
 use Rattle.rg_course.specs.Output.{open_line, put_before}
 use Rattle.rg_course.specs.Stores.{Course, IsKeptInStore, StaysOnCourse, StaysOnCourseSince}
 use Rattle.rg_course.specs.Turns.{IsDone}
-use Rattle.rg_store.specs.Stores.{store_of}
+use Rattle.rg_open.specs.Stores.{store_of}
 use Rattle.rg_open.specs.Opening.{IsFromIn}
 use Rattle.rg_recover.specs.Sessions.{Sitting, events_of}
 use Rattle.rg_recover.specs.declared.fault.TaskFault.TheVariants as task

@@ -20,7 +20,7 @@ use Rattle.rg_course.specs.Output.{text_of_run}
 use Rattle.rg_open.specs.Opening.{IsOpenable, IsFromIn}
 use Rattle.rg_restore.specs.Slots.{slot_in, IsFrom}
 use Rattle.rg_restore.specs.declared.choosing.Saved.{Saved}
-use Rattle.rg_store.specs.Truth.{texts_of, IsTruthfulImage}
+use Rattle.rg_open.specs.Truth.{texts_of, IsTruthfulImage}
 use Rattle.rg_turn.specs.Turning.{terms_of}
 use Rattle.rg_run.specs.Begun.{IsReadyRun, begun_by}
 use Rattle.rg_run.specs.UnderWay.{HasFinished}

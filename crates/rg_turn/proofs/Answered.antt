@@ -12,12 +12,12 @@ use Rattle.rg_row.specs.Rows.{row_of}
 use Rattle.rg_state.specs.Rows.{Cells}
 use Rattle.rg_reservoir.specs.Kept.{opened, next_of}
 use Rattle.rg_reply.specs.Texts.{reply_line}
-use Rattle.rg_verdict.specs.Verdicts.{accepted_after, read_as, or_reply, reply_of, verdict_of}
+use Rattle.rg_course.specs.Verdicts.{accepted_after, read_as, or_reply, reply_of, verdict_of}
 use Rattle.rg_course.specs.Ahead.{after_line, lines_for}
 use Rattle.rg_course.specs.Stores.{Course, StaysOnCourse}
 use Rattle.rg_course.specs.Steps.{MarksHold}
 use Rattle.rg_course.proofs.Steps.{Item, passed_over}
-use Rattle.rg_store.specs.Stores.{store_of}
+use Rattle.rg_open.specs.Stores.{store_of}
 use Rattle.rg_recover.specs.Deciding.{verdict_on}
 use Rattle.rg_recover.specs.Sessions.{Sitting, IsRunning, count_in, events_of, stored_of}
 use Rattle.rg_recover.specs.Stepping.{IsWithinStep, IsStored}

@@ -25,7 +25,7 @@ use Rattle.rg_course.proofs.Prefixes.{prefix_then}
 use Rattle.rg_course.proofs.Runs.{end_stopped}
 use Rattle.rg_course.proofs.Texts.{end_are_lines}
 use Rattle.rg_course.proofs.Turns.{Stopped}
-use Rattle.rg_store.specs.Stores.{store_of}
+use Rattle.rg_open.specs.Stores.{store_of}
 use Rattle.rg_recover.specs.Sessions.{Sitting, IsRunning, count_in, events_of, stored_of}
 use Rattle.rg_recover.specs.Stepping.{IsWithinStep, IsStored}
 use Rattle.rg_recover.proofs.Sound.{long}

@@ -9,7 +9,7 @@ use Rattle.rg_course.specs.Stores.{Course}
 use Rattle.rg_course.specs.Steps.{IsAtRest}
 use Rattle.rg_course.proofs.Keeping.{after_save}
 use Rattle.rg_course.proofs.Steps.{Item}
-use Rattle.rg_store.specs.Stores.{store_of, HasSaved}
+use Rattle.rg_open.specs.Stores.{store_of, HasSaved}
 use Rattle.rg_recover.specs.Sessions.{Sitting, IsRunning, count_in, events_of, stored_of}
 use Rattle.rg_recover.specs.Stepping.{IsStored}
 use Rattle.rg_recover.proofs.Sound.{long}

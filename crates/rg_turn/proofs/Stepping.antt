@@ -15,7 +15,7 @@ use Rattle.rg_plan.specs.Plans.{plan_for}
 use Rattle.rg_restore.specs.Truthful.{EngineStands}
 use Rattle.rg_reservoir.specs.Kept.{base, opened, all_events, Spells}
 use Rattle.rg_reservoir.proofs.Peeking.{sound_stays}
-use Rattle.rg_verdict.specs.Verdicts.{accepted_after, read_as, or_reply, verdict_of}
+use Rattle.rg_course.specs.Verdicts.{accepted_after, read_as, or_reply, verdict_of}
 use Rattle.rg_course.specs.Accepted.{after_turn, verdict_from}
 use Rattle.rg_course.specs.Ahead.{after_line, lines_for, out_from}
 use Rattle.rg_course.specs.Laws.{IsPrefixOf}
@@ -32,7 +32,7 @@ use Rattle.rg_course.proofs.Prefixes.{prefix_then}
 use Rattle.rg_course.proofs.Steps.{Item}
 use Rattle.rg_course.proofs.Texts.{turn_are_lines}
 use Rattle.rg_course.proofs.Turns.{Stopped, step_stopped}
-use Rattle.rg_store.specs.Stores.{store_of}
+use Rattle.rg_open.specs.Stores.{store_of}
 use Rattle.rg_recover.specs.Deciding.{verdict_on}
 use Rattle.rg_recover.specs.Sessions.{Sitting, IsRunning, events_of, stored_of}
 use Rattle.rg_recover.proofs.Within.{still_within}

@@ -8,8 +8,8 @@ use Rattle.rg_config.specs.Plans.{Planned}
 use Rattle.rg_state.specs.Rows.{Cells}
 use Rattle.rg_reservoir.specs.Kept.{next_of}
 use Rattle.rg_reply.specs.Texts.{reply_line}
-use Rattle.rg_verdict.specs.Verdicts.{Verdict, accepted_after, reply_of, line_verdict}
-use Rattle.rg_verdict.proofs.Events.{next_after}
+use Rattle.rg_course.specs.Verdicts.{Verdict, accepted_after, reply_of, line_verdict}
+use Rattle.rg_course.proofs.Events.{next_after}
 use Rattle.rg_course.specs.Accepted.{after_turn, verdict_from}
 use Rattle.rg_course.specs.Output.{Terms, stores, saves, turn_lines}
 use Rattle.rg_course.specs.Ahead.{lines_for}
@@ -18,7 +18,7 @@ use Rattle.rg_course.specs.Steps.{MarksHold, HasInKept}
 use Rattle.rg_course.proofs.Lines.{looked_at}
 use Rattle.rg_course.proofs.Marking.{turn_marks}
 use Rattle.rg_course.proofs.Steps.{Item}
-use Rattle.rg_store.specs.Stores.{store_of}
+use Rattle.rg_open.specs.Stores.{store_of}
 use Rattle.rg_recover.specs.Sessions.{Sitting, IsRunning, count_in, events_of, stored_of}
 use Rattle.rg_recover.proofs.Sound.{long, next_is}
 use Rattle.rg_turn.specs.declared.due.Due.{Due}

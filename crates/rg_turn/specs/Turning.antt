@@ -9,7 +9,7 @@ use Rattle.rg_course.specs.Ahead.{after_line}
 use Rattle.rg_course.specs.Stores.{Course}
 use Rattle.rg_course.specs.Steps.{IsAtRest}
 use Rattle.rg_course.specs.Turns.{IsBetween, IsStopped}
-use Rattle.rg_store.specs.Stores.{store_of}
+use Rattle.rg_open.specs.Stores.{store_of}
 use Rattle.rg_recover.specs.Sessions.{Sitting, IsRunning, events_of, stored_of}
 use Rattle.rg_turn.specs.declared.due.Due.{Due}
 use Rattle.rg_turn.specs.declared.due.Due.TheVariants.{Nothing, Commit, Save}

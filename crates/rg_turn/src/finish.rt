@@ -7,7 +7,7 @@ ghost use Rattle.rg_config.specs.Plans.{Planned};
 ghost use Rattle.rg_reservoir.specs.Kept.{base, log_of};
 ghost use Rattle.rg_course.specs.Stores.{Course, StaysOnCourse};
 ghost use Rattle.rg_course.specs.Turns.{IsDone};
-ghost use Rattle.rg_store.specs.Stores.{store_of};
+ghost use Rattle.rg_open.specs.Stores.{store_of};
 ghost use Rattle.rg_turn.specs.Turning.{IsAwaiting, HasStopped};
 
 use crate::fault::TurnFault;

@@ -1,7 +1,7 @@
 use Rattle.std.proofs.Common.{◌∙◌, None}
 use Rattle.rg_reservoir.specs.Kept.{base, opened, Adds}
 use Rattle.rg_frame.specs.Steps.{From}
-use Rattle.rg_store.specs.Stores.{store_of}
+use Rattle.rg_open.specs.Stores.{store_of}
 use Rattle.rg_recover.proofs.Ready.{opened_still, stepped_in_step}
 use Rattle.rg_recover.proofs.Sound.{log_settled}
 use Rattle.rg_recover.proofs.Within.{writes_within, settled_beside}

@@ -6,7 +6,7 @@ use Rattle.rg_host.proofs.Runs.{leaves_all-settled}
 use Rattle.rg_event.specs.declared.event.Event.{Event}
 use Rattle.rg_metric.specs.Replies.{answers_to}
 use Rattle.rg_reservoir.specs.Kept.{Base, base, opened, stored}
-use Rattle.rg_store.specs.Stores.{store_of}
+use Rattle.rg_open.specs.Stores.{store_of}
 use Rattle.rg_recover.proofs.Nodes.{node_stored}
 use Rattle.rg_recover.proofs.Placed.{placed_stored}
 use Rattle.rg_recover.proofs.Ready.{ready_stepped}

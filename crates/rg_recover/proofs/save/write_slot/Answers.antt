@@ -1,6 +1,6 @@
 use Rattle.rg_host.specs.Image.{NothingPending}
 use Rattle.rg_checkpoint.specs.Slots.{other_of, Turns, Written}
-use Rattle.rg_store.specs.Stores.{store_of}
+use Rattle.rg_open.specs.Stores.{store_of}
 use Rattle.std.proofs.Common.{[], ℕ}
 use Rattle.rg_recover.proofs.Within.{writes_within}
 use Rattle.rg_recover.proofs.Writing.{written_left, log_stays, settled_by}

@@ -2,7 +2,7 @@ use Rattle.std.proofs.Common.{[], arith, ◌∙◌, ap, refl, Err}
 use Rattle.rg_host.proofs.Runs.{moments_then}
 use Rattle.rg_config.specs.Plans.{planned}
 use Rattle.rg_course.specs.Stores.{StaysOnCourse}
-use Rattle.rg_store.specs.Stores.{store_of}
+use Rattle.rg_open.specs.Stores.{store_of}
 use Rattle.rg_run.specs.Begun.{course_for}
 use Rattle.rg_run.specs.declared.fault.RunFault.TheVariants as run
 use Rattle.rg_run.proofs.Causes.{err_is}

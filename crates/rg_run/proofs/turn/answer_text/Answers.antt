@@ -1,7 +1,7 @@
 use Rattle.std.proofs.Common.{Some, ◌∷◌, sym, ◌∙◌, ap}
 use Rattle.std.proofs.lemmas.Result.{on_ok_weaker}
 use Rattle.rg_config.specs.Plans.{planned}
-use Rattle.rg_verdict.specs.Verdicts.{or_reply}
+use Rattle.rg_course.specs.Verdicts.{or_reply}
 use Rattle.rg_row.specs.Rows.{row_of}
 use Rattle.rg_turn.specs.Turning.{terms_of}
 use Rattle.rg_run.proofs.Causes.{never_by, bad_by, undamaged_by, damaged_by}

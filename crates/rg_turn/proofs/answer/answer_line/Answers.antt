@@ -3,7 +3,7 @@ use Rattle.rg_host.proofs.Runs.{moments_then}
 use Rattle.rg_config.specs.Plans.{planned}
 use Rattle.rg_course.specs.Ahead.{after_line}
 use Rattle.rg_course.specs.Stores.{StaysOnCourse}
-use Rattle.rg_store.specs.Stores.{store_of}
+use Rattle.rg_open.specs.Stores.{store_of}
 use Rattle.rg_recover.specs.Sessions.{Sitting, events_of, stored_of}
 use Rattle.rg_open.specs.Blame.{NodeRuns, IsPlaced}
 use Rattle.rg_turn.specs.Turning.{HasStopped, IsAwaiting, terms_of}

@@ -1,8 +1,8 @@
 use Rattle.std.proofs.Common.{false, Err, ap, sym, refl, ◌∙◌}
 use Rattle.rg_metric.specs.declared.reply.Reply.TheVariants.{Answered}
 use Rattle.rg_reservoir.specs.Kept.{opened}
-use Rattle.rg_verdict.specs.Verdicts.{Verdict, accepted_after, reply_of}
-use Rattle.rg_store.specs.Stores.{store_of}
+use Rattle.rg_course.specs.Verdicts.{Verdict, accepted_after, reply_of}
+use Rattle.rg_open.specs.Stores.{store_of}
 use Rattle.rg_recover.specs.Deciding.{as_verdict}
 use Rattle.rg_recover.specs.Sessions.{Sitting, events_of, stored_of}
 use Rattle.rg_recover.proofs.Causes.{same_fault}

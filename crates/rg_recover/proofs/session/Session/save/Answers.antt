@@ -7,7 +7,7 @@ use Rattle.rg_reservoir.specs.declared.reservoir.Reservoir.{Reservoir}
 use Rattle.rg_course.specs.Steps.{IsStepped}
 use Rattle.rg_course.proofs.Hosts.{stepped_then}
 use Rattle.rg_host.specs.Image.{Image}
-use Rattle.rg_store.specs.Stores.{store_of}
+use Rattle.rg_open.specs.Stores.{store_of}
 use Rattle.rg_recover.specs.Sessions.{stored_of}
 use Rattle.rg_recover.specs.Stepping.{IsWithinStep}
 use Rattle.rg_recover.proofs.Beside.{stored_beside}

@@ -1,7 +1,7 @@
 use Rattle.std.proofs.Common.{ℕ, List, [], ap, sym, subst, arith, length}
 use Rattle.rg_checkpoint.specs.Writing.{Encodes}
 use Rattle.rg_engine.specs.Seen.{Seen}
-use Rattle.rg_store.specs.Stores.{store_of}
+use Rattle.rg_open.specs.Stores.{store_of}
 use Rattle.rg_recover.specs.Sessions.{Sitting}
 use Rattle.rg_recover.proofs.Nodes.{node_beside}
 use Rattle.rg_recover.proofs.Placed.{placed_beside}

@@ -1,5 +1,5 @@
-use Rattle.rg_store.proofs.Saving.{of_plan, fit_of, saved_left}
-use Rattle.rg_store.proofs.law_checkpoints.Goals as goal
+use Rattle.rg_open.proofs.Saving.{of_plan, fit_of, saved_left}
+use Rattle.rg_open.proofs.store.law_checkpoints.Goals as goal
 
 pub returns : goal.returns
 returns g c = record {

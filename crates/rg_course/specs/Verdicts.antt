@@ -1,5 +1,6 @@
--- What a line is read as, and what is decided on it.
-use Rattle.std.specs.Prelude.{ℕ, ◌==◌, ◌&&◌, nat_lt, nat_le, Bool, List, [], ◌∷◌, ◌++◌, length, Option, Some, None, Result, Ok, Err, if◌then◌else◌}
+-- What a line is read as, what is decided on it, and so the events accepted among some lines and the reply to each: a
+-- line is answered from those before it alone.
+use Rattle.std.specs.Prelude.{ℕ, zero, suc, ◌==◌, ◌&&◌, nat_lt, nat_le, Bool, List, [], ◌∷◌, ◌++◌, length, get_or, Option, Some, None, Result, Ok, Err, if◌then◌else◌}
 use Rattle.std.specs.List.{list_any}
 use Rattle.rg_event.specs.declared.event.Event.{Event}
 use Rattle.rg_event.specs.declared.schema.Field.{Field}
@@ -70,3 +71,12 @@ reply_of queries events (accepted e) = Answered (answers_to queries (events ++ e
 -- the verdict on a line with this offset, where these events were accepted before it
 abbrev pub line_verdict : Basis → List Event → ℕ → Option (List ℕ) → Verdict
 line_verdict basis events offset line = verdict_of basis.most events (read_as basis offset line)
+
+-- the events accepted among the first i lines
+abbrev pub accepted_before : Basis → List (Option (List ℕ)) → ℕ → List Event
+accepted_before basis lines zero = []
+accepted_before basis lines (suc i) = accepted_after (accepted_before basis lines i) (line_verdict basis (accepted_before basis lines i) i (get_or lines i None))
+
+-- the reply to line i
+abbrev pub reply_to : Basis → List (Option (List ℕ)) → ℕ → Reply
+reply_to basis lines i = reply_of basis.queries (accepted_before basis lines i) (line_verdict basis (accepted_before basis lines i) i (get_or lines i None))

@@ -1,5 +1,5 @@
-use Rattle.rg_store.proofs.Images.{empty_truthful, commits, begins, writes, loses}
-use Rattle.rg_store.proofs.law_truthful.Goals as goal
+use Rattle.rg_open.proofs.Images.{empty_truthful, commits, begins, writes, loses}
+use Rattle.rg_open.proofs.store.law_truthful.Goals as goal
 
 pub returns : goal.returns
 returns c = record { empty = empty_truthful; commits = commits; begins = begins; writes = writes; loses = loses }

@@ -8,7 +8,7 @@ use Rattle.rg_checkpoint.specs.declared.base.Checkpoint.{Checkpoint}
 use Rattle.rg_checkpoint.specs.Slots.{HasSlot}
 use Rattle.rg_course.specs.Stores.{Store}
 use Rattle.rg_log.specs.Log.{HasEvents, IsOfSchema}
-use Rattle.rg_store.specs.Truth.{texts_of, IsTruthfulImage}
+use Rattle.rg_open.specs.Truth.{texts_of, IsTruthfulImage}
 
 -- the slot is complete, has the plan's queries, and counts at least so many events
 pub record HasSaved (plan : Planned) (slot count : ℕ) (v : Image) : Type 0 where

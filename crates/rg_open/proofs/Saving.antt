@@ -31,10 +31,10 @@ use Rattle.rg_reservoir.specs.declared.kept.Kept.{Kept}
 use Rattle.rg_reservoir.specs.declared.reservoir.Reservoir.{Reservoir}
 use Rattle.rg_reservoir.specs.Kept.{Base, base, opened, all_events, next_of, time_of, cache_of, IsRight, Spells}
 use Rattle.rg_reservoir.proofs.Spelled.{spelled_there}
-use Rattle.rg_store.specs.Truth.{texts_of, IsTrueFor, IsTrueOf, IsTruthfulImage}
-use Rattle.rg_store.specs.Opened.{IsToSave}
-use Rattle.rg_store.proofs.Truths.{true_for}
-use Rattle.rg_store.proofs.Sound.{framed, has_events, all_are, pending}
+use Rattle.rg_open.specs.Truth.{texts_of, IsTrueFor, IsTrueOf, IsTruthfulImage}
+use Rattle.rg_open.specs.Opened.{IsToSave}
+use Rattle.rg_open.proofs.Truths.{true_for}
+use Rattle.rg_open.proofs.Sound.{framed, has_events, all_are, pending}
 
 first_texts : (a b : List ℕ) (x y : List (List ℕ)) → a ∷ x ≡ b ∷ y → (a ≡ b) × (x ≡ y)
 first_texts a b x y e = (cc, cc)

@@ -5,12 +5,12 @@ use Rattle.std.specs.Prelude.{slice_get}
 use Rattle.std.proofs.lemmas.Bool.{lt-ltb, le-ltb, le-leb, lt-leb, ltb-true, ltb-false}
 use Rattle.rg_event.specs.declared.event.Event.{Event}
 use Rattle.rg_event.specs.Rising.{next_offset, last_time, IsRising}
-use Rattle.rg_verdict.specs.Verdicts.{verdict_of, reply_of}
+use Rattle.rg_course.specs.Verdicts.{verdict_of, reply_of}
 use Rattle.rg_metric.specs.Queries.{Asked}
 use Rattle.rg_metric.specs.Replies.{answers_to}
 use Rattle.rg_metric.specs.declared.answer.Answer.{Answer}
 use Rattle.rg_metric.specs.declared.reply.Reply.TheVariants.{Late, Full, Answered}
-use Rattle.rg_verdict.specs.Verdicts.Verdict.{refused, accepted}
+use Rattle.rg_course.specs.Verdicts.Verdict.{refused, accepted}
 
 -- some of these events has a greater time
 abbrev later_than : ℕ → List Event → Bool

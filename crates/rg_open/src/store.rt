@@ -1,12 +1,3 @@
-//! The store of a plan: what the images of its files say, and what each step on the disk leaves of that.
-//!
-//! The definitions are in `specs/`: `Truth` says when an image is truthful, `Stores` what images say to the
-//! runs of a plan, and `Opened` when a reservoir and an engine are in step with the files. Each law is a
-//! function without arguments whose clauses state it; none of them does anything when it is called. The
-//! layers above learn from them that each image that a commit, a save or an opening may leave is truthful
-//! and has the events that it should.
-#![tactic(auto)]
-
 ghost use Rattle.std.specs.Prelude.{◌≡◌, ◌≢◌, ◌⊎◌, ◌≤◌, ◌<◌, ℕ, List, [], length, Option, All};
 ghost use Rattle.rg_host.specs.Image.{Image, Becomes, InFile, NothingPending};
 ghost use Rattle.rg_event.specs.Shapes.{Shape, IsSchema};
@@ -29,9 +20,9 @@ ghost use Rattle.rg_reservoir.specs.Attached.{SchemaAdded};
 ghost use Rattle.rg_reservoir.specs.Kept.{base, opened, all_events, Adds, Added};
 ghost use Rattle.rg_reservoir.specs.declared.reservoir.Reservoir.{Reservoir};
 ghost use Rattle.rg_course.specs.Steps.{IsMidStep, IsStepped, IsSavedTo};
-ghost use Rattle.rg_store.specs.Truth.{texts_of, IsTrueOf, IsTruthfulImage, MayGrow};
-ghost use Rattle.rg_store.specs.Stores.{store_of};
-ghost use Rattle.rg_store.specs.Opened.{IsOpenedFor, IsToSave};
+ghost use Rattle.rg_open.specs.Truth.{texts_of, IsTrueOf, IsTruthfulImage, MayGrow};
+ghost use Rattle.rg_open.specs.Stores.{store_of};
+ghost use Rattle.rg_open.specs.Opened.{IsOpenedFor, IsToSave};
 
 use rg_host::Host;
 

@@ -4,10 +4,9 @@ use Rattle.rg_event.specs.declared.event.Event.{Event}
 use Rattle.rg_event.specs.Codec.{IsEventOf}
 use Rattle.rg_event.specs.Rising.{next_offset}
 use Rattle.rg_row.proofs.Fits.{event_is}
-use Rattle.rg_verdict.specs.Verdicts.{Basis, read_as, accepted_after, line_verdict}
-use Rattle.rg_verdict.specs.Accepted.{accepted_before, reply_to}
-use Rattle.rg_verdict.proofs.Accepted.{accepted-first, reply-first}
-use Rattle.rg_verdict.proofs.Events.{read_fits, next_after}
+use Rattle.rg_course.specs.Verdicts.{Basis, read_as, accepted_after, line_verdict, accepted_before, reply_to}
+use Rattle.rg_course.proofs.Accepted.{accepted-first, reply-first}
+use Rattle.rg_course.proofs.Events.{read_fits, next_after}
 
 pub accepted_first : (basis : Basis) (lines more : List (Option (List ℕ))) (i : ℕ) → i ≤ length lines → accepted_before basis (lines ++ more) i ≡ accepted_before basis lines i
 accepted_first basis lines more i h = accepted-first basis lines more i h

@@ -5,9 +5,9 @@ use Rattle.rg_log.specs.Log.{schema_payload}
 use Rattle.rg_checkpoint.specs.Slots.{other_of}
 use Rattle.rg_reservoir.specs.Attached.{SchemaAdded}
 use Rattle.rg_reservoir.specs.Kept.{base, opened, next_of, time_of, cache_of, Adds}
-use Rattle.rg_store.proofs.Sound.{ends_in, commit_left, committed_left, open_left, opened_left}
-use Rattle.rg_store.proofs.Steps.{step_from, save_mid, save_done}
-use Rattle.rg_store.proofs.law_steps.Goals as goal
+use Rattle.rg_open.proofs.Sound.{ends_in, commit_left, committed_left, open_left, opened_left}
+use Rattle.rg_open.proofs.Steps.{step_from, save_mid, save_done}
+use Rattle.rg_open.proofs.store.law_steps.Goals as goal
 
 pub returns : goal.returns
 returns g c = record {

@@ -1,7 +1,6 @@
 -- What was accepted among the first lines is told from them alone.
 use Rattle.std.proofs.Common.{◌≡◌, ℕ, zero, suc, ◌≤◌, ◌<◌, List, [], ◌∷◌, ◌++◌, length, get_or, Option, None, refl, arith, length-append}
-use Rattle.rg_verdict.specs.Verdicts.{Basis, accepted_after, line_verdict}
-use Rattle.rg_verdict.specs.Accepted.{accepted_before, reply_to}
+use Rattle.rg_course.specs.Verdicts.{Basis, accepted_after, line_verdict, accepted_before, reply_to}
 
 abbrev Item : Type 0
 Item = Option (List ℕ)

@@ -16,7 +16,7 @@ use Rattle.rg_log.proofs.Spelling.{spot_stays_in}
 use Rattle.rg_checkpoint.specs.declared.base.Checkpoint.{Checkpoint}
 use Rattle.rg_restore.specs.Truthful.{IsTruthful}
 use Rattle.rg_restore.proofs.Saving.{later, same_past}
-use Rattle.rg_store.specs.Truth.{IsTrueFor, IsTrueOf, MayGrow}
+use Rattle.rg_open.specs.Truth.{IsTrueFor, IsTrueOf, MayGrow}
 
 -- a log without a frame is of no schema
 pub no_schema : (shape : Shape) (bytes : List ℕ) → HasPayloads [] bytes → HasSchemaFrame shape bytes → ⊥

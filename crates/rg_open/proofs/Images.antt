@@ -13,8 +13,8 @@ use Rattle.rg_log.proofs.Growing.{one_shape, begins_log}
 use Rattle.rg_checkpoint.specs.declared.base.Checkpoint.{Checkpoint}
 use Rattle.rg_checkpoint.specs.Slots.{HasSlot, HasNoSlot, other_of, IsKeep}
 use Rattle.rg_checkpoint.proofs.SlotLaws.{slot_is_one, none_only, no_only_slot}
-use Rattle.rg_store.specs.Truth.{IsTrueFor, IsTrueOf, IsTruthfulImage, MayGrow}
-use Rattle.rg_store.proofs.Truths.{no_schema, true_for, grows_true, grows_legal}
+use Rattle.rg_open.specs.Truth.{IsTrueFor, IsTrueOf, IsTruthfulImage, MayGrow}
+use Rattle.rg_open.proofs.Truths.{no_schema, true_for, grows_true, grows_legal}
 
 pub below_apart : (i : ℕ) → i < 2 → i ≢ 2
 below_apart i below e = absurd (omega (arith, below, e))

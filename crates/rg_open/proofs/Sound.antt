@@ -19,9 +19,9 @@ use Rattle.rg_reservoir.proofs.Committed.{all_is, rises, fewer, is_chunk, ends_a
 use Rattle.rg_reservoir.proofs.Seeking.{stored_is}
 use Rattle.rg_config.specs.Plans.{Planned}
 use Rattle.rg_course.specs.Steps.{IsMidStep, IsStepped}
-use Rattle.rg_store.specs.Truth.{MayGrow}
-use Rattle.rg_store.specs.Stores.{store_of}
-use Rattle.rg_store.proofs.Steps.{for_some, stays_mid, stays_stepped, commit_mid, commit_stepped, first_mid, first_stepped}
+use Rattle.rg_open.specs.Truth.{MayGrow}
+use Rattle.rg_open.specs.Stores.{store_of}
+use Rattle.rg_open.proofs.Steps.{for_some, stays_mid, stays_stepped, commit_mid, commit_stepped, first_mid, first_stepped}
 
 -- where one file is as it was, and so are the others
 all_same : (file : ℕ) (u v : Image) → ((f : ℕ) → f ≢ file → v f ≡ u f) → v file ≡ u file → (f : ℕ) → v f ≡ u f

@@ -1,22 +1,13 @@
-//! What is decided on a line, and what is replied.
-//!
-//! The definitions are in `specs/`: `Verdicts` has what a line is read as, the verdict on it and the
-//! reply; `Accepted` the events accepted among the first lines. They rest on a `Basis` alone: the
-//! columns, the queries, the limit of events and whether there is a header. Each function here is a
-//! law without a body.
-#![tactic(auto)]
-
 ghost use Rattle.std.specs.Prelude.{◌≡◌, ◌≤◌, ◌<◌, ◌^◌, ◌+◌, ◌++◌, ◌∷◌, [], ℕ, List, Option, Ok, length};
 ghost use Rattle.rg_event.specs.declared.event.Event.{Event as TheEvent};
 ghost use Rattle.rg_event.specs.Codec.{IsEventOf};
 ghost use Rattle.rg_event.specs.Rising.{next_offset};
-ghost use Rattle.rg_verdict.specs.Verdicts.{Basis, read_as, accepted_after, line_verdict};
-ghost use Rattle.rg_verdict.specs.Accepted.{accepted_before, reply_to};
+ghost use Rattle.rg_course.specs.Verdicts.{Basis, read_as, accepted_after, line_verdict, accepted_before, reply_to};
 
 /// What was accepted among the first lines, and the reply to each of them, doesn't depend on what
 /// comes behind them.
 #[tactic(auto, using(crate::proofs::Laws::accepted_first, crate::proofs::Laws::reply_first))]
-pub fn law_first()
+pub fn law_before()
     ensures accepted { (basis : Basis) (lines more : List (Option (List ℕ))) (i : ℕ) → i ≤ length lines → accepted_before basis (lines ++ more) i ≡ accepted_before basis lines i }
     ensures reply { (basis : Basis) (lines more : List (Option (List ℕ))) (i : ℕ) → i < length lines → reply_to basis (lines ++ more) i ≡ reply_to basis lines i }
 {}

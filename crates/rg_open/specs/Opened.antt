@@ -9,8 +9,8 @@ use Rattle.rg_state.specs.Rows.{Cells}
 use Rattle.rg_restore.specs.Truthful.{EngineStands}
 use Rattle.rg_reservoir.specs.Kept.{base, opened, all_events, IsSound, Spells}
 use Rattle.rg_reservoir.specs.declared.reservoir.Reservoir.{Reservoir}
-use Rattle.rg_store.specs.Stores.{HasSaved}
-use Rattle.rg_store.specs.Truth.{texts_of, IsTruthfulImage}
+use Rattle.rg_open.specs.Stores.{HasSaved}
+use Rattle.rg_open.specs.Truth.{texts_of, IsTruthfulImage}
 
 -- a sound reservoir over the plan's log, which has not ended
 pub record IsOpenedFor (plan : Planned) (now : Option Image) (may : Image → Type 0) (r : Reservoir) : Type 0 where

@@ -12,9 +12,9 @@ use Rattle.rg_row.specs.Fields.{fields_of, cleaned}
 use Rattle.rg_row.specs.Rows.{row_of}
 use Rattle.rg_row.specs.declared.fault.RowFault.{RowFault}
 use Rattle.rg_row.proofs.Fits.{Fits, row_fits, event_is}
-use Rattle.rg_verdict.specs.Verdicts.{Basis, event_at, read_as, or_reply, verdict_of, accepted_after}
-use Rattle.rg_verdict.specs.Verdicts.Verdict.{refused, accepted}
-use Rattle.rg_verdict.proofs.Verdicts.{next_offset-push}
+use Rattle.rg_course.specs.Verdicts.{Basis, event_at, read_as, or_reply, verdict_of, accepted_after}
+use Rattle.rg_course.specs.Verdicts.Verdict.{refused, accepted}
+use Rattle.rg_course.proofs.Verdicts.{next_offset-push}
 
 reply_back : (given : Result Event RowFault) (e : Event) → or_reply given ≡ Ok e → given ≡ Ok e
 reply_back (Ok x) e is = cc

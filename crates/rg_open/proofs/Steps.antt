@@ -17,10 +17,10 @@ use Rattle.rg_checkpoint.specs.Base.{IsBase}
 use Rattle.rg_checkpoint.specs.Slots.{HasSlot, HasNoSlot, Turns, Written, other_of, IsKeep}
 use Rattle.rg_checkpoint.proofs.SlotLaws.{kept_apart}
 use Rattle.rg_course.specs.Steps.{IsMidStep, IsStepped, IsSavedTo}
-use Rattle.rg_store.specs.Truth.{texts_of, IsTrueOf, IsTruthfulImage, MayGrow}
-use Rattle.rg_store.specs.Stores.{HasSaved, store_of}
-use Rattle.rg_store.proofs.Truths.{grown_grows}
-use Rattle.rg_store.proofs.Images.{below_apart, commits, begins, writes, same_image}
+use Rattle.rg_open.specs.Truth.{texts_of, IsTrueOf, IsTruthfulImage, MayGrow}
+use Rattle.rg_open.specs.Stores.{HasSaved, store_of}
+use Rattle.rg_open.proofs.Truths.{grown_grows}
+use Rattle.rg_open.proofs.Images.{below_apart, commits, begins, writes, same_image}
 
 some_is : (w x : Image) → Some w ≡ Some x → w ≡ x
 some_is w x e = cc

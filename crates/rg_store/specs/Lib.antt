@@ -1,3 +1,0 @@
-pub mod Truth
-pub mod Stores
-pub mod Opened

@@ -1,4 +1,0 @@
-pub mod Verdicts
-pub mod Accepted
-pub mod Events
-pub mod Laws

@@ -3,6 +3,7 @@ ghost use Rattle.std.specs.List.{list_any};
 ghost use Rattle.std.specs.Option.{ForSome};
 ghost use Rattle.rg_bytes.specs.Counts.{Rose};
 ghost use Rattle.rg_host.specs.Image.{NothingPending};
+ghost use Rattle.rg_host.specs.Moments.{LeavesAll};
 ghost use Rattle.rg_event.specs.Codec.{IsEventOf};
 ghost use Rattle.rg_event.specs.Rising.{IsRising, last_time};
 ghost use Rattle.rg_event.specs.declared.event.Event.{Event as TheEvent};
@@ -101,6 +102,7 @@ fn take_in<H: Host, T: Table, L: Ledger>(
         OnOk result (IsStored (store_of plan) keep (opened reservoir.old) (stored (H.now host.old) (base reservoir.old)) (stored (H.now host.new) (base reservoir.new)) (H.may host.old) (H.may host.new)) }
     ensures settled { (plan : Planned) (texts : List (List ℕ)) (file : ℕ) → IsReady plan (H.now host.old) (H.may host.old) (T.tells engine.old.table) (T.cell engine.old.table) reservoir.old engine.old texts → file ≢ 2 →
         NothingPending file (H.now host.old) (H.may host.old) → OnOk result (NothingPending file (H.now host.new) (H.may host.new)) }
+    ensures roomy { length (opened reservoir.old) < room_of reservoir.old → LeavesAll H.now H.may H.clock H.since H.said host.old host.new × (base reservoir.new ≡ base reservoir.old) }
     ensures damaged { (p : ℕ) → IsErrOf result (TaskFault.Damaged p) → ForSome (H.now host.new) (λ v. IsIllegal (base reservoir.new).shape.fields p (v (base reservoir.new).file)) }
     ensures disk { IsErrOf result TaskFault.Disk → Rose (H.disk_faults host.old) (H.disk_faults host.new) }
     ensures table { IsErrOf result TaskFault.Table → Rose (T.faults engine.old.table) (T.faults engine.new.table) }
@@ -211,6 +213,9 @@ impl<T: Table> Session<T> {
         // Where each edge stands at a spelled spot it does so still, and nothing is refused as damaged.
         ensures placed { (plan : Planned) → IsPlaced plan (H.now host.old) (H.may host.old) self.old.reservoir self.old.engine → OnOk result (IsPlaced plan (H.now host.new) (H.may host.new) self.new.reservoir self.new.engine) }
         ensures undamaged { (plan : Planned) (p : ℕ) → IsPlaced plan (H.now host.old) (H.may host.old) self.old.reservoir self.old.engine → IsErrOf result (TaskFault.Damaged p) → ⊥ }
+
+        // Where there is room, no file is written.
+        ensures roomy { length (opened self.old.reservoir) < room_of self.old.reservoir → LeavesAll H.now H.may H.clock H.since H.said host.old host.new × (base self.new.reservoir ≡ base self.old.reservoir) }
 
         ensures refused { IfOk result (λ reply. ((answers : List TheAnswer) × (reply ≡ Reply.Answered answers)) ⊎ ((self.new ≡ self.old) × (host.new ≡ host.old) × (steps.new ≡ steps.old))) }
         ensures damaged { (p : ℕ) → IsErrOf result (TaskFault.Damaged p) → ForSome (H.now host.new) (λ v. IsIllegal (base self.new.reservoir).shape.fields p (v (base self.new.reservoir).file)) }

@@ -32,7 +32,8 @@ use Rattle.rg_reservoir.specs.Kept.{next_of}
 use Rattle.rg_recover.specs.Sessions.{Sitting, IsRunning, count_in, events_of, stored_of}
 use Rattle.rg_recover.proofs.Sound.{long}
 use Rattle.rg_turn.specs.Turning.{IsAwaiting, terms_of}
-use Rattle.rg_turn.proofs.Stepping.{running_still}
+use Rattle.rg_turn.proofs.Gathering.{between_at, put_apart}
+use Rattle.rg_turn.proofs.Still.{running_still}
 use Rattle.rg_turn.proofs.Telling.{next_by}
 use Rattle.rg_run.specs.Answered.{IsFresh}
 use Rattle.rg_run.specs.Begun.{Begun, IsReadyRun, begun_by, lines_in, course_for}
@@ -149,8 +150,8 @@ module _ {H T : Type 0} (now : H → Option Image) (may : H → Image → Type 0
         (λ m h. put_holds m (h.0, part_way_more b.said part line m.said (subst (λ (l : List ℕ). IsPrefix part l) line_is front) h.1))
 
     -- before the first line
-    pub first_way : Puts said clock since old new mark → (reading : Reading) → IsFresh reading → IsUnderWay plan b left reading offset (now new) (may new) (said new) told cells s
-    first_way puts reading fresh =
+    pub first_way : Puts said clock since old new mark → (reading : Reading) → IsFresh reading → (gathered : List ℕ) → gathered ≡ [] → IsUnderWay plan b left reading offset (now new) (may new) (said new) gathered told cells s
+    first_way puts reading fresh gathered none =
         let p = putting H now may clock since said old new b.said line start.told files (subst (λ (l : List ℕ). Puts said clock since old new l) line_is puts) in
         let store = store_of plan in
         let terms = terms_of plan in
@@ -162,10 +163,11 @@ module _ {H T : Type 0} (now : H → Option Image) (may : H → Image → Type 0
         let b0 = between_first Image store terms b.said b.held b.from b.first lines s.keep (may old) (may new) put_now start.at_rest p.fewer refl in
         let b1 = subst (λ (es : List Event). IsBetween store terms course es b.first lines b.held s.keep (may new) put_now) (sym events_now) b0 in
         let b2 = subst (λ (es : List Event). IsBetween store terms course (events_of (now new) s) b.first lines es s.keep (may new) put_now) (sym stored_now) b1 in
-        let awaits : IsAwaiting plan course b.first lines (now new) (may new) (said new) told cells s = record {
-          running = running_still now may clock since said plan course b.first (Option.None) lines told cells old new s files start.running;
+        let awaits : IsAwaiting plan course b.first lines (now new) (may new) (said new) [] told cells s = record {
+          running = running_still now may clock since plan told cells old new s files start.running;
           put = put_now;
           told = p.told;
-          between = b2;
+          between = between_at b2 (append-nil put_now);
+          apart = put_apart course (stored_of (now new) s) put_now (open_line b.held b.from ∷ []) (mark_no_lf (Opened (next_offset b.held) (length b.held) b.from), tt) refl (inl stored_now);
         } in
-        way_first plan b left reading offset (now new) (may new) (said new) told cells s start.comes fresh.pending fresh.still_open start.offset_is awaits events_now
+        subst (λ (l : List ℕ). IsUnderWay plan b left reading offset (now new) (may new) (said new) l told cells s) (sym none) (way_first plan b left reading offset (now new) (may new) (said new) [] told cells s start.comes fresh.pending fresh.still_open start.offset_is awaits events_now)

@@ -11,7 +11,7 @@ use Rattle.rg_run.specs.Begun.{Begun}
 use Rattle.rg_run.specs.UnderWay.{IsUnderWay}
 
 abbrev pub Way : {H : Type 0} → (H → Option Image) → (H → Image → Type 0) → (H → Option (List ℕ)) → Planned → Begun → Option (List ℕ) → Reading → Turning MemTable → H → Type 0
-Way now may said plan b left reading turning host = IsUnderWay plan b left reading turning.offset (now host) (may host) (said host) (rows.tells turning.session.engine.table) (rows.cell turning.session.engine.table) turning.session
+Way now may said plan b left reading turning host = IsUnderWay plan b left reading turning.offset (now host) (may host) (said host) turning.gathered.items (rows.tells turning.session.engine.table) (rows.cell turning.session.engine.table) turning.session
 
 abbrev pub Runs : {H : Type 0} → (H → Option Image) → (H → Image → Type 0) → Planned → ℕ → Turning MemTable → H → Type 0
 Runs now may plan n turning host = NodeRuns plan n (now host) (may host) (rows.tells turning.session.engine.table) (rows.cell turning.session.engine.table) turning.session.reservoir turning.session.engine

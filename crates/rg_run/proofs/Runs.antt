@@ -29,14 +29,14 @@ module _ {H : Type 0} (now : H → Option Image) (may : H → Image → Type 0) 
   none_unopened b old = record { said_stays = refl; left = λ u left. inl left }
 
 -- before the first line
-pub way_first : {T : Type 0} (plan : Planned) (b : Begun) (left : Option (List ℕ)) (reading : Reading) (offset : ℕ) (now : Option Image) (may : Image → Type 0) (said : Option (List ℕ)) (told : Type 0) (cells : Cells) (s : Sitting T) →
-    left ≡ Some b.input → reading.pending ≡ [] → reading.ended ≡ false → offset ≡ b.first → IsAwaiting plan (course_for plan b) b.first (lines_of b.input) now may said told cells s → events_of now s ≡ b.held → IsUnderWay plan b left reading offset now may said told cells s
-way_first plan b left reading offset now may said told cells s left_is pending still at awaits events = record {
+pub way_first : {T : Type 0} (plan : Planned) (b : Begun) (left : Option (List ℕ)) (reading : Reading) (offset : ℕ) (now : Option Image) (may : Image → Type 0) (said : Option (List ℕ)) (gathered : List ℕ) (told : Type 0) (cells : Cells) (s : Sitting T) →
+    left ≡ Some b.input → reading.pending ≡ [] → reading.ended ≡ false → offset ≡ b.first → IsAwaiting plan (course_for plan b) b.first (lines_of b.input) now may said gathered told cells s → events_of now s ≡ b.held → IsUnderWay plan b left reading offset now may said gathered told cells s
+way_first plan b left reading offset now may said gathered told cells s left_is pending still at awaits events = record {
   handed = [];
   items = lines_of b.input;
   read = subst (λ (l : Option (List ℕ)). HasRead b.input l reading []) (sym left_is) (read_none b.input reading pending still);
   whole = refl;
   offset_is = omega (arith, at);
-  awaiting = subst (λ (n : ℕ). IsAwaiting plan (course_for plan b) n (lines_of b.input) now may said told cells s) (sym at) awaits;
+  awaiting = subst (λ (n : ℕ). IsAwaiting plan (course_for plan b) n (lines_of b.input) now may said gathered told cells s) (sym at) awaits;
   events = events;
 }

@@ -1,5 +1,5 @@
 -- What a line that was answered leaves, and why one was not.
-use Rattle.std.proofs.Common.{◌≡◌, ℕ, ◌<◌, ◌^◌, true, false, Option, Ok, Err, sym, ◌∙◌}
+use Rattle.std.proofs.Common.{◌≡◌, ◌⊎◌, inl, inr, ℕ, ◌<◌, ◌^◌, true, false, Option, Ok, Err, refl, sym, ◌∙◌, subst}
 use Rattle.std.specs.Option.{ForSome}
 use Rattle.rg_bytes.specs.Counts.{Rose}
 use Rattle.rg_host.specs.Image.{Image}
@@ -16,7 +16,7 @@ use Rattle.rg_run.specs.Faults.{of_turn}
 use Rattle.rg_run.specs.Turned.{MoreOr, StopsFor}
 use Rattle.rg_run.specs.declared.fault.RunFault.{RunFault}
 use Rattle.rg_run.specs.declared.fault.RunFault.TheVariants.{Disk, Damaged, SchemaDiffers, BadState, Gap, Read, Limit, Write}
-use Rattle.rg_run.proofs.Causes.{err_is, ok_never, turn_disk, turn_write, turn_damaged, turn_bad, turn_others}
+use Rattle.rg_run.proofs.Causes.{err_is, ok_never, put_or_memory, turn_disk, turn_write, turn_damaged, turn_bad, turn_others}
 
 pub more : {on over : Type 0} → on → MoreOr on over true
 more on = record { on_is = λ is. on; over_is = λ is. absurd (let e : true ≡ false = is in cc) }
@@ -83,3 +83,14 @@ module _ {H I : Type 0} (now : H → Option Image) (may : H → Image → Type 0
     differs = λ is. let e : ◌≡◌ {A = RunFault} Limit SchemaDiffers = err_is Limit SchemaDiffers is in cc;
     gap = λ n is. let e : ◌≡◌ {A = RunFault} Limit (Gap n) = err_is Limit (Gap n) is in cc;
   }
+
+  -- a put failed
+  pub why_write : {A : Type 0} (fault : RunFault) → fault ≡ Write → Rose (out_faults old) (out_faults new) → StopsFor now may disk_faults out_faults faults {A = A} plan told cells s then taken (Err fault) input input_then old new
+  why_write fault is rose =
+      let not = put_or_memory turn.Write (inl refl) in
+      why_turn turn.Write fault is (λ n runs e. not.0 n e) (λ p placed e. not.1 p e) (λ p e. absurd (not.1 p e)) (λ e. rose) (λ e. absurd (not.2 e))
+
+  -- what was gathered was put before that fault, or that put failed
+  pub why_stopped : {A : Type 0} (fault result : RunFault) → StopsFor now may disk_faults out_faults faults {A = A} plan told cells s then taken (Err fault) input input_then old new → (result ≡ fault) ⊎ ((result ≡ Write) × Rose (out_faults old) (out_faults new)) → StopsFor now may disk_faults out_faults faults {A = A} plan told cells s then taken (Err result) input input_then old new
+  why_stopped {A} fault result why (inl same) = subst (λ (f : RunFault). StopsFor now may disk_faults out_faults faults {A = A} plan told cells s then taken (Err f) input input_then old new) (sym same) why
+  why_stopped fault result why (inr put) = why_write result put.0 put.1

@@ -1,12 +1,11 @@
 -- A run from one line of its input to the next.
-use Rattle.std.proofs.Common.{◌≡◌, true, ◌⊎◌, inl, inr, ⊎_elim, ℕ, ◌+◌, List, [], ◌∷◌, ◌++◌, length, Option, Some, Result, Ok, Err, ap, sym, ◌∙◌, subst, arith, append_assoc, length-append}
-use Rattle.std.proofs.lemmas.List.{append_cancel_right}
+use Rattle.std.proofs.Common.{◌≡◌, true, ◌⊎◌, inl, inr, ⊎_elim, ℕ, ◌+◌, List, [], ◌∷◌, ◌++◌, length, Option, Some, Result, Ok, Err, refl, ap, sym, ◌∙◌, subst, arith, append_assoc, length-append}
+use Rattle.std.proofs.lemmas.List.{append-nil, append_cancel_right}
 use Rattle.std.specs.Prelude.{◌≤◌, OnOk, IfErr}
 use Rattle.std.specs.Option.{ForSome}
 use Rattle.rg_host.specs.Image.{Image}
 use Rattle.rg_host.specs.Lines.{ended}
 use Rattle.rg_host.specs.Moments.{Moment, Moments}
-use Rattle.rg_host.proofs.Runs.{moments-none}
 use Rattle.rg_host.specs.Reading.{Reading, Next}
 use Rattle.rg_host.specs.declared.lines.Line.TheVariants.{End}
 use Rattle.rg_host.specs.declared.lines.LineFault.{LineFault}
@@ -18,7 +17,7 @@ use Rattle.rg_course.specs.Accepted.{events_after}
 use Rattle.rg_course.specs.Ahead.{after_line, out_from}
 use Rattle.rg_course.specs.Output.{open_line, put_before, out}
 use Rattle.rg_course.specs.Stores.{StaysOnCourse}
-use Rattle.rg_course.proofs.Courses.{on_course_at_rest, stopped_at_rest}
+use Rattle.rg_course.proofs.Courses.{stopped_at_rest}
 use Rattle.rg_course.proofs.Whole.{accepted_more, out_more}
 use Rattle.rg_open.specs.Stores.{store_of}
 use Rattle.rg_recover.specs.Sessions.{Sitting, events_of, stored_of}
@@ -26,13 +25,15 @@ use Rattle.rg_recover.specs.declared.fault.TaskFault.TheVariants as task
 use Rattle.rg_turn.specs.declared.fault.TurnFault.{TurnFault}
 use Rattle.rg_turn.specs.declared.fault.TurnFault.TheVariants as turn
 use Rattle.rg_turn.specs.Turning.{IsAwaiting, HasStopped, terms_of}
+use Rattle.rg_turn.proofs.Answered.{still_on_course}
 use Rattle.rg_run.specs.Begun.{Begun, course_for}
 use Rattle.rg_run.specs.Faults.{of_turn}
+use Rattle.rg_run.specs.Gathered.{PutsOnly, StopsFrom}
 use Rattle.rg_run.specs.Turned.{MoreOr, GoesTrue}
 use Rattle.rg_run.specs.UnderWay.{IsUnderWay, Answers, HasAnswered, HasFinished}
 use Rattle.rg_run.specs.declared.fault.RunFault.{RunFault}
 use Rattle.rg_run.specs.declared.fault.RunFault.TheVariants.{BadState, Damaged, Read, Limit, Write}
-use Rattle.rg_run.proofs.Causes.{err_is, ok_never, read_others, turn_bad, turn_damaged, turn_others}
+use Rattle.rg_run.proofs.Causes.{err_is, ok_never, put_or_memory, read_others, turn_bad, turn_damaged, turn_others}
 use Rattle.rg_run.proofs.Turned.{more}
 use Rattle.rg_run.proofs.Taking.{Item, TakesLine, read_on, item_next, end_next, whole_handed, took_past}
 
@@ -76,17 +77,17 @@ module _ {H : Type 0} (may : H → Image → Type 0) (clock : H → ℕ) (since 
     never_damaged = λ p is. (read_others fault which).1 p (err_is fault (Damaged p) is);
   }
 
-module _ {H T : Type 0} (now : H → Option Image) (may : H → Image → Type 0) (clock : H → ℕ) (since : H → ℕ → Moment → Type 0) (said : H → Option (List ℕ)) (plan : Planned) (b : Begun) (left : Option (List ℕ)) (old_r : Reading) (offset : ℕ) (told : Type 0) (cells : Cells) (old : H) (s : Sitting T)
-    (way : IsUnderWay plan b left old_r offset (now old) (may old) (said old) told cells s) where
+module _ {H T : Type 0} (now : H → Option Image) (may : H → Image → Type 0) (clock : H → ℕ) (since : H → ℕ → Moment → Type 0) (said : H → Option (List ℕ)) (plan : Planned) (b : Begun) (left : Option (List ℕ)) (old_r : Reading) (offset : ℕ) (gathered : List ℕ) (told : Type 0) (cells : Cells) (old : H) (s : Sitting T)
+    (way : IsUnderWay plan b left old_r offset (now old) (may old) (said old) gathered told cells s) where
   -- a line was handed out
   module _ (then_left : Option (List ℕ)) (new_r : Reading) (item : Item) (takes : TakesLine old_r new_r left then_left item) where
     next : (more : List Item) × (way.items ≡ item ∷ more)
     next = item_next b.input left then_left old_r new_r way.handed way.read item takes way.items way.whole
 
-    awaits : IsAwaiting plan (course_for plan b) offset (item ∷ next.0) (now old) (may old) (said old) told cells s
-    awaits = subst (λ (l : List Item). IsAwaiting plan (course_for plan b) offset l (now old) (may old) (said old) told cells s) next.1 way.awaiting
+    awaits : IsAwaiting plan (course_for plan b) offset (item ∷ next.0) (now old) (may old) (said old) gathered told cells s
+    awaits = subst (λ (l : List Item). IsAwaiting plan (course_for plan b) offset l (now old) (may old) (said old) gathered told cells s) next.1 way.awaiting
 
-    module _ {A : Type 0} (result : Result A TurnFault) (offset_then : ℕ) (told_then : Type 0) (cells_then : Cells) (new : H) (then : Sitting T) (a : Answers now may clock since said plan item offset offset_then told told_then cells cells_then old new s then result) where
+    module _ {A : Type 0} (result : Result A TurnFault) (offset_then : ℕ) (gathered_then : List ℕ) (told_then : Type 0) (cells_then : Cells) (new : H) (then : Sitting T) (a : Answers now may clock since said plan item offset offset_then gathered gathered_then told told_then cells cells_then old new s then result) where
       pub line_moments : Moments clock since old new (StaysOnCourse (store_of plan) (course_for plan b) [])
       line_moments = a.moments (course_for plan b) next.0 awaits
 
@@ -99,7 +100,7 @@ module _ {H T : Type 0} (now : H → Option Image) (may : H → Image → Type 0
       pub line_never_damaged : IfErr result (λ f. (p : ℕ) → f ≡ turn.Task (task.Damaged p) → ⊥)
       line_never_damaged = a.never_damaged (course_for plan b) next.0 awaits
 
-      pub line_on : (done : A) → result ≡ Ok done → offset_then ≡ offset + 1 → IsUnderWay plan b then_left new_r offset_then (now new) (may new) (said new) told_then cells_then then
+      pub line_on : (done : A) → result ≡ Ok done → offset_then ≡ offset + 1 → IsUnderWay plan b then_left new_r offset_then (now new) (may new) (said new) gathered_then told_then cells_then then
       line_on done is moved =
           let events = subst (λ (r : Result A TurnFault). OnOk r (events_of (now new) then ≡ after_line (terms_of plan).basis (events_of (now old) s) offset item)) is (a.events (course_for plan b) next.0 awaits) in
           record {
@@ -108,14 +109,14 @@ module _ {H T : Type 0} (now : H → Option Image) (may : H → Image → Type 0
             read = read_on b.input left then_left old_r new_r way.handed way.read item takes;
             whole = append_assoc way.handed (item ∷ []) next.0 ∙ ap (λ (l : List Item). way.handed ++ l) (sym next.1) ∙ way.whole;
             offset_is = omega (arith, moved, way.offset_is, length-append way.handed (item ∷ []));
-            awaiting = subst (λ (r : Result A TurnFault). OnOk r (IsAwaiting plan (course_for plan b) offset_then next.0 (now new) (may new) (said new) told_then cells_then then)) is (a.awaits (course_for plan b) next.0 awaits);
+            awaiting = subst (λ (r : Result A TurnFault). OnOk r (IsAwaiting plan (course_for plan b) offset_then next.0 (now new) (may new) (said new) gathered_then told_then cells_then then)) is (a.awaits (course_for plan b) next.0 awaits);
             events = events
                 ∙ ap (λ (es : List Event). after_line (terms_of plan).basis es offset item) way.events
                 ∙ ap (λ (n : ℕ). after_line (terms_of plan).basis (events_after (terms_of plan).basis b.held b.first way.handed) n item) way.offset_is
                 ∙ sym (accepted_more (terms_of plan) b.held b.first way.handed (item ∷ []));
           }
 
-      pub goes_on : (done : A) → result ≡ Ok done → offset_then ≡ offset + 1 → GoesTrue may clock since said plan b then_left (MoreOr (IsUnderWay plan b then_left new_r offset_then (now new) (may new) (said new) told_then cells_then then) (HasFinished plan b (may new) (said new))) (Ok true) old new
+      pub goes_on : (done : A) → result ≡ Ok done → offset_then ≡ offset + 1 → GoesTrue may clock since said plan b then_left (MoreOr (IsUnderWay plan b then_left new_r offset_then (now new) (may new) (said new) gathered_then told_then cells_then then) (HasFinished plan b (may new) (said new))) (Ok true) old new
       goes_on done is moved = true_at_ok may clock since said plan b then_left old new line_moments true (more (line_on done is moved))
 
       pub goes_err : {B : Type 0} (Done : B → Type 0) (fault : TurnFault) (ran : RunFault) → ran ≡ of_turn fault → result ≡ Err fault → GoesTrue may clock since said plan b then_left Done (Err ran) old new
@@ -125,41 +126,45 @@ module _ {H T : Type 0} (now : H → Option Image) (may : H → Image → Type 0
           (line_stopped fault is)
 
   -- the end came
-  pub end_awaits : (then_left : Option (List ℕ)) (new_r : Reading) → Next old_r new_r left then_left (Ok End) → IsAwaiting plan (course_for plan b) offset [] (now old) (may old) (said old) told cells s
-  end_awaits then_left new_r next = subst (λ (l : List Item). IsAwaiting plan (course_for plan b) offset l (now old) (may old) (said old) told cells s) (end_next b.input left then_left old_r new_r way.handed way.read next way.items way.whole) way.awaiting
-
-  -- the run stops where it is
-  pub stops_here : HasStopped plan (course_for plan b) (may old) (said old)
-  stops_here =
-      let a = way.awaiting in
-      record {
-        put = a.put;
-        told = a.told;
-        stopped = stopped_at_rest Image (store_of plan) (course_for plan b) a.between.lines (out_from (terms_of plan) (events_of (now old) s) offset way.items) (stored_of (now old) s) s.keep (may old) a.put a.between.at_rest a.between.are_lines a.between.text a.between.said_is;
-      }
+  pub end_awaits : (then_left : Option (List ℕ)) (new_r : Reading) → Next old_r new_r left then_left (Ok End) → IsAwaiting plan (course_for plan b) offset [] (now old) (may old) (said old) gathered told cells s
+  end_awaits then_left new_r next = subst (λ (l : List Item). IsAwaiting plan (course_for plan b) offset l (now old) (may old) (said old) gathered told cells s) (end_next b.input left then_left old_r new_r way.handed way.read next way.items way.whole) way.awaiting
 
   -- no call is on the course
   pub stays : (only : (h : H) (m : Moment) → since h (clock h) m → may h m.image × ForSome (said h) (λ t. m.said ≡ t)) (sinks : (h : H) (t u : ℕ) (m : Moment) → t ≤ u → since h u m → since h t m) → Moments clock since old old (StaysOnCourse (store_of plan) (course_for plan b) [])
-  stays only sinks =
-      let a = way.awaiting in
-      moments-none clock since old (StaysOnCourse (store_of plan) (course_for plan b) []) (λ t u m le h. sinks old t u m le h)
-      (λ m h. let at = only old m h in
-      on_course_at_rest Image (store_of plan) (course_for plan b) a.between.lines (out_from (terms_of plan) (events_of (now old) s) offset way.items) (stored_of (now old) s) s.keep (may old) [] m.image m.said a.between.at_rest a.between.are_lines a.between.text at.0 (at.1 a.put a.told ∙ a.between.said_is))
+  stays only sinks = still_on_course now may clock since said only sinks plan (course_for plan b) offset way.items told cells old s gathered way.awaiting
 
-  -- just what answers the lines handed out was put
+module _ {T : Type 0} (plan : Planned) (b : Begun) (left : Option (List ℕ)) (old_r : Reading) (offset : ℕ) (now : Option Image) (may : Image → Type 0) (said : Option (List ℕ)) (gathered : List ℕ) (told : Type 0) (cells : Cells) (s : Sitting T)
+    (way : IsUnderWay plan b left old_r offset now may said gathered told cells s) where
+  -- just what answers the lines handed out was told
   lines_are : way.awaiting.between.lines ≡ open_line b.held b.from ∷ put_before (terms_of plan) b.held b.first way.handed (length way.handed)
   lines_are =
       let terms = terms_of plan in
-      let rest = out_from terms (events_of (now old) s) offset way.items in
+      let rest = out_from terms (events_of now s) offset way.items in
       append_cancel_right way.awaiting.between.lines (open_line b.held b.from ∷ put_before terms b.held b.first way.handed (length way.handed)) rest
       (way.awaiting.between.text
       ∙ ap (λ (l : List (List ℕ)). open_line b.held b.from ∷ l)
       (ap (λ (l : List Item). out terms b.held b.first l) (sym way.whole)
       ∙ out_more terms b.held b.first way.handed way.items
       ∙ ap (λ (es : List Event). put_before terms b.held b.first way.handed (length way.handed) ++ out_from terms es (b.first + length way.handed) way.items) (sym way.events)
-      ∙ ap (λ (n : ℕ). put_before terms b.held b.first way.handed (length way.handed) ++ out_from terms (events_of (now old) s) n way.items) (sym way.offset_is)))
+      ∙ ap (λ (n : ℕ). put_before terms b.held b.first way.handed (length way.handed) ++ out_from terms (events_of now s) n way.items) (sym way.offset_is)))
 
-  pub answered : (then_left : Option (List ℕ)) (new_r : Reading) (fault : LineFault) (limit : Type 0) → (next : Next old_r new_r left then_left (Err fault)) → (fault ≡ reading.Limit → limit) → HasAnswered plan b then_left (said old) limit
+-- where all that was told is put
+module _ {T : Type 0} (plan : Planned) (b : Begun) (left : Option (List ℕ)) (old_r : Reading) (offset : ℕ) (now : Option Image) (may : Image → Type 0) (said : Option (List ℕ)) (told : Type 0) (cells : Cells) (s : Sitting T)
+    (way : IsUnderWay plan b left old_r offset now may said [] told cells s) where
+  all_said : way.awaiting.put ≡ b.said ++ ended way.awaiting.between.lines
+  all_said = sym (append-nil way.awaiting.put) ∙ way.awaiting.between.said_is
+
+  -- the run stops where it is
+  pub stops_here : HasStopped plan (course_for plan b) may said
+  stops_here =
+      let a = way.awaiting in
+      record {
+        put = a.put;
+        told = a.told;
+        stopped = stopped_at_rest Image (store_of plan) (course_for plan b) a.between.lines (out_from (terms_of plan) (events_of now s) offset way.items) (stored_of now s) s.keep may a.put a.between.at_rest a.between.are_lines a.between.text all_said;
+      }
+
+  pub answered : (then_left : Option (List ℕ)) (new_r : Reading) (fault : LineFault) (limit : Type 0) → (next : Next old_r new_r left then_left (Err fault)) → (fault ≡ reading.Limit → limit) → HasAnswered plan b then_left said limit
   answered then_left new_r fault limit next is_limit =
       let got = way.read.got ++ next.got in
       let handed = whole_handed b.input left then_left old_r new_r way.handed way.read fault next in
@@ -170,10 +175,39 @@ module _ {H T : Type 0} (now : H → Option Image) (may : H → Image → Type 0
         one = next.one_past;
         none_past = ⊎_elim (λ none. inl none) (λ is. inr (is_limit (let e : fault ≡ reading.Limit = cc in e))) next.none_past;
         put = way.awaiting.told
-            ∙ ap (λ (t : List ℕ). Some t) (way.awaiting.between.said_is ∙ ap (λ (l : List (List ℕ)). b.said ++ ended l)
-            (lines_are ∙ ap (λ (l : List Item). open_line b.held b.from ∷ put_before (terms_of plan) b.held b.first l (length l)) (sym handed)));
+            ∙ ap (λ (t : List ℕ). Some t) (all_said ∙ ap (λ (l : List (List ℕ)). b.said ++ ended l)
+            (lines_are plan b left old_r offset now may said [] told cells s way ∙ ap (λ (l : List Item). open_line b.held b.from ∷ put_before (terms_of plan) b.held b.first l (length l)) (sym handed)));
       }
 
-  pub unread : (only : (h : H) (m : Moment) → since h (clock h) m → may h m.image × ForSome (said h) (λ t. m.said ≡ t)) (sinks : (h : H) (t u : ℕ) (m : Moment) → t ≤ u → since h u m → since h t m) → {B : Type 0} (Done : B → Type 0) (then_left : Option (List ℕ)) (new_r : Reading) (fault : LineFault) (ran : RunFault) → (ran ≡ Read) ⊎ (ran ≡ Limit) → Next old_r new_r left then_left (Err fault) → (fault ≡ reading.Limit → ran ≡ Limit) → GoesTrue may clock since said plan b then_left Done (Err ran) old old
-  unread only sinks Done then_left new_r fault ran which next is_limit =
-      true_unread may clock since said plan b then_left old old (stays only sinks) Done ran which stops_here (answered then_left new_r fault (ran ≡ Limit) next is_limit)
+-- a run under way, after a call that put what it had gathered
+pub way_on : {T : Type 0} (plan : Planned) (b : Begun) (left : Option (List ℕ)) (reading : Reading) (offset next : ℕ) (now then : Option Image) (may may_then : Image → Type 0) (said said_then : Option (List ℕ)) (gathered gathered_then : List ℕ) (told told_then : Type 0) (cells cells_then : Cells) (s after : Sitting T)
+    (way : IsUnderWay plan b left reading offset now may said gathered told cells s) → next ≡ offset → events_of then after ≡ events_of now s → IsAwaiting plan (course_for plan b) next way.items then may_then said_then gathered_then told_then cells_then after
+    → IsUnderWay plan b left reading next then may_then said_then gathered_then told_then cells_then after
+way_on plan b left reading offset next now then may may_then said said_then gathered gathered_then told told_then cells cells_then s after way same events awaits = record {
+  handed = way.handed;
+  items = way.items;
+  read = way.read;
+  whole = way.whole;
+  offset_is = same ∙ way.offset_is;
+  awaiting = awaits;
+  events = events ∙ way.events;
+}
+
+-- A read of the input failed: what was gathered was put, or a part of it.
+module _ {H T : Type 0} (now : H → Option Image) (may : H → Image → Type 0) (clock : H → ℕ) (since : H → ℕ → Moment → Type 0) (said : H → Option (List ℕ)) (disk_faults out_faults : H → ℕ) (plan : Planned) (b : Begun) (left : Option (List ℕ)) (old_r : Reading) (offset offset_then : ℕ) (gathered : List ℕ) (told told_then : Type 0) (cells cells_then : Cells) (s then : Sitting T) (old new : H)
+    (puts : PutsOnly now may clock since said disk_faults out_faults offset offset_then gathered told told_then cells cells_then s then old new) (way : IsUnderWay plan b left old_r offset (now old) (may old) (said old) gathered told cells s)
+    (then_left : Option (List ℕ)) (new_r : Reading) (fault : LineFault) (next : Next old_r new_r left then_left (Err fault)) where
+  moments : Moments clock since old new (StaysOnCourse (store_of plan) (course_for plan b) [])
+  moments = puts.moments plan b left old_r way
+
+  unread_by : {B : Type 0} (Done : B → Type 0) (ran result : RunFault) → (ran ≡ Read) ⊎ (ran ≡ Limit) → (fault ≡ reading.Limit → ran ≡ Limit) → (result ≡ Write) ⊎ ((result ≡ ran) × IsUnderWay plan b left old_r offset_then (now new) (may new) (said new) [] told_then cells_then then) → GoesTrue may clock since said plan b then_left Done (Err result) old new
+  unread_by Done ran result which is_limit (inl write) =
+      let not = put_or_memory turn.Write (inl refl) in
+      true_at_err may clock since said plan b then_left old new moments Done turn.Write result write not.0 not.1 (inl refl)
+  unread_by Done ran result which is_limit (inr put) =
+      true_unread may clock since said plan b then_left old new moments Done result (⊎_elim (λ is. inl (put.0 ∙ is)) (λ is. inr (put.0 ∙ is)) which)
+      (stops_here plan b left old_r offset_then (now new) (may new) (said new) told_then cells_then then put.1)
+      (answered plan b left old_r offset_then (now new) (may new) (said new) told_then cells_then then put.1 then_left new_r fault (result ≡ Limit) next (λ is. put.0 ∙ is_limit is))
+
+  pub unread : {B : Type 0} (Done : B → Type 0) (ran result : RunFault) → (ran ≡ Read) ⊎ (ran ≡ Limit) → (fault ≡ reading.Limit → ran ≡ Limit) → StopsFrom now may said out_faults ran result offset offset_then gathered told told_then cells cells_then s then old new → GoesTrue may clock since said plan b then_left Done (Err result) old new
+  unread Done ran result which is_limit stops = unread_by Done ran result which is_limit (stops.under_way plan b left old_r way)

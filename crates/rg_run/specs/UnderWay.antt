@@ -25,24 +25,24 @@ use Rattle.rg_run.specs.declared.fault.RunFault.{RunFault}
 use Rattle.rg_run.specs.declared.fault.RunFault.TheVariants.{Read, Limit, Write}
 
 -- Between two lines: these were handed out and answered, and these are still to come, the first of them at this offset.
-pub record IsUnderWay {T : Type 0} (plan : Planned) (b : Begun) (left : Option (List ℕ)) (reading : Reading) (offset : ℕ) (now : Option Image) (may : Image → Type 0) (said : Option (List ℕ)) (is_told : Type 0) (cells : Cells) (s : Sitting T) : Type 0 where
+pub record IsUnderWay {T : Type 0} (plan : Planned) (b : Begun) (left : Option (List ℕ)) (reading : Reading) (offset : ℕ) (now : Option Image) (may : Image → Type 0) (said : Option (List ℕ)) (gathered : List ℕ) (is_told : Type 0) (cells : Cells) (s : Sitting T) : Type 0 where
   pub handed : List (Option (List ℕ))
   pub items : List (Option (List ℕ))
   pub read : HasRead b.input left reading handed
   pub whole : handed ++ items ≡ lines_in b
   pub offset_is : offset ≡ b.first + length handed
-  pub awaiting : IsAwaiting plan (course_for plan b) offset items now may said is_told cells s
+  pub awaiting : IsAwaiting plan (course_for plan b) offset items now may said gathered is_told cells s
   pub events : events_of now s ≡ events_after (terms_of plan).basis b.held b.first handed
 
 module _ {H : Type 0} (now : H → Option Image) (may : H → Image → Type 0) (clock : H → ℕ) (since : H → ℕ → Moment → Type 0) (said : H → Option (List ℕ)) where
   -- A call that was given this line of the input, None for one that is too long, of a run that awaits it.
-  pub record Answers {T A : Type 0} (plan : Planned) (item : Option (List ℕ)) (offset offset_then : ℕ) (told told_then : Type 0) (cells cells_then : Cells) (old new : H) (s then : Sitting T) (result : Result A TurnFault) : Type 0 where
-    pub moments : (course : Course) (items : List (Option (List ℕ))) → IsAwaiting plan course offset (item ∷ items) (now old) (may old) (said old) told cells s → Moments clock since old new (StaysOnCourse (store_of plan) course [])
-    pub awaits : (course : Course) (items : List (Option (List ℕ))) → IsAwaiting plan course offset (item ∷ items) (now old) (may old) (said old) told cells s → OnOk result (IsAwaiting plan course offset_then items (now new) (may new) (said new) told_then cells_then then)
-    pub events : (course : Course) (items : List (Option (List ℕ))) → IsAwaiting plan course offset (item ∷ items) (now old) (may old) (said old) told cells s → OnOk result (events_of (now new) then ≡ after_line (terms_of plan).basis (events_of (now old) s) offset item)
-    pub stopped : (course : Course) (items : List (Option (List ℕ))) → IsAwaiting plan course offset (item ∷ items) (now old) (may old) (said old) told cells s → IfErr result (λ fault. (fault ≡ turn.Write) ⊎ HasStopped plan course (may new) (said new))
-    pub never_damaged : (course : Course) (items : List (Option (List ℕ))) → IsAwaiting plan course offset (item ∷ items) (now old) (may old) (said old) told cells s → IfErr result (λ fault. (p : ℕ) → fault ≡ turn.Task (task.Damaged p) → ⊥)
-    pub never_bad : (course : Course) (items : List (Option (List ℕ))) → IsAwaiting plan course offset (item ∷ items) (now old) (may old) (said old) told cells s → IfErr result (λ fault. (n : ℕ) → fault ≡ turn.Task (task.BadState n) → ⊥)
+  pub record Answers {T A : Type 0} (plan : Planned) (item : Option (List ℕ)) (offset offset_then : ℕ) (gathered gathered_then : List ℕ) (told told_then : Type 0) (cells cells_then : Cells) (old new : H) (s then : Sitting T) (result : Result A TurnFault) : Type 0 where
+    pub moments : (course : Course) (items : List (Option (List ℕ))) → IsAwaiting plan course offset (item ∷ items) (now old) (may old) (said old) gathered told cells s → Moments clock since old new (StaysOnCourse (store_of plan) course [])
+    pub awaits : (course : Course) (items : List (Option (List ℕ))) → IsAwaiting plan course offset (item ∷ items) (now old) (may old) (said old) gathered told cells s → OnOk result (IsAwaiting plan course offset_then items (now new) (may new) (said new) gathered_then told_then cells_then then)
+    pub events : (course : Course) (items : List (Option (List ℕ))) → IsAwaiting plan course offset (item ∷ items) (now old) (may old) (said old) gathered told cells s → OnOk result (events_of (now new) then ≡ after_line (terms_of plan).basis (events_of (now old) s) offset item)
+    pub stopped : (course : Course) (items : List (Option (List ℕ))) → IsAwaiting plan course offset (item ∷ items) (now old) (may old) (said old) gathered told cells s → IfErr result (λ fault. (fault ≡ turn.Write) ⊎ HasStopped plan course (may new) (said new))
+    pub never_damaged : (course : Course) (items : List (Option (List ℕ))) → IsAwaiting plan course offset (item ∷ items) (now old) (may old) (said old) gathered told cells s → IfErr result (λ fault. (p : ℕ) → fault ≡ turn.Task (task.Damaged p) → ⊥)
+    pub never_bad : (course : Course) (items : List (Option (List ℕ))) → IsAwaiting plan course offset (item ∷ items) (now old) (may old) (said old) gathered told cells s → IfErr result (λ fault. (n : ℕ) → fault ≡ turn.Task (task.BadState n) → ⊥)
 
 -- The run stopped at a read of the input: each line that LF ended within the bytes taken was answered, and nothing else was put.
 -- `limit` says that the input is too long; then a byte past the limit was taken, and dropped.

@@ -1,4 +1,4 @@
-ghost use Rattle.std.specs.Prelude.{◌≡◌, ◌≤◌, ◌^◌, false};
+ghost use Rattle.std.specs.Prelude.{◌≡◌, ◌≤◌, ◌^◌, [], false};
 ghost use Rattle.rg_frame.specs.LogState.{ReachesEnd};
 ghost use Rattle.rg_config.specs.Plans.{planned};
 ghost use Rattle.rg_config.specs.Read.{IsReadPlan};
@@ -35,6 +35,7 @@ pub(crate) fn answer_opened<I: Source, H: Host, L: Ledger>(
     requires read { IsReadPlan plan.now }
     requires fresh { IsFresh lines.old }
     requires first { turning.old.offset ≤ 2 ^ 61 }
+    requires none { turning.old.gathered.items ≡ [] }
     requires going { turning.old.session.ended ≡ false }
     requires reaches { ReachesEnd (log_of turning.old.session.reservoir) (H.now host.old) }
     ensures begun { (b : Begun) → IsToBegin (planned plan.now) b (I.left input.old) resumed.next resumed.count resumed.from turning.old.offset (H.now host.old) (H.may host.old) (H.said host.old) (⟦<MemTable as Table>⟧.tells turning.old.session.engine.table) (⟦<MemTable as Table>⟧.cell turning.old.session.engine.table) turning.old.session →

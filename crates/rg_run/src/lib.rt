@@ -7,6 +7,7 @@
 
 mod answering;
 mod fault;
+mod gather;
 mod lines;
 mod opening;
 mod running;

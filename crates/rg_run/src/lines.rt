@@ -16,7 +16,8 @@ use rg_state::{MemTable, Table};
 use rg_turn::Turning;
 use std::sync::ledger::Ledger;
 
-/// Answers all lines of the input, and puts the end. Each refusal but `Write` leaves whole lines put.
+/// Answers all lines of the input, and puts the end. What is gathered is put before the input is read
+/// again. Each refusal but `Write` leaves whole lines put.
 pub(crate) fn answer_lines<I: Source, H: Host, L: Ledger>(
     lines: &mut Lines,
     turning: &mut Turning<MemTable>,
@@ -31,7 +32,7 @@ pub(crate) fn answer_lines<I: Source, H: Host, L: Ledger>(
     requires going { turning.old.session.ended ≡ false }
     requires reaches { ReachesEnd (log_of turning.old.session.reservoir) (H.now host.old) }
 
-    ensures goes { (b : Begun) → IsUnderWay (planned plan.now) b (I.left input.old) lines.old turning.old.offset (H.now host.old) (H.may host.old) (H.said host.old) (⟦<MemTable as Table>⟧.tells turning.old.session.engine.table) (⟦<MemTable as Table>⟧.cell turning.old.session.engine.table) turning.old.session →
+    ensures goes { (b : Begun) → IsUnderWay (planned plan.now) b (I.left input.old) lines.old turning.old.offset (H.now host.old) (H.may host.old) (H.said host.old) turning.old.gathered.items (⟦<MemTable as Table>⟧.tells turning.old.session.engine.table) (⟦<MemTable as Table>⟧.cell turning.old.session.engine.table) turning.old.session →
         GoesTrue H.may H.clock H.since H.said (planned plan.now) b (I.left input.new) (λ _. HasFinished (planned plan.now) b (H.may host.new) (H.said host.new)) result host.old host.new }
     ensures takes { TakesOn H.disk_faults H.out_faults I.left I.faults (λ _. IsReadOut lines.new) turning.old.session turning.new.session lines.old lines.new result input.old input.new host.old host.new }
     ensures cause { StopsFor H.now H.may H.disk_faults H.out_faults I.faults (planned plan.now) (⟦<MemTable as Table>⟧.tells turning.old.session.engine.table) (⟦<MemTable as Table>⟧.cell turning.old.session.engine.table) turning.old.session turning.new.session lines.new.taken result input.old input.new host.old host.new }

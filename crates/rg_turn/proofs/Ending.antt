@@ -15,7 +15,7 @@ use Rattle.rg_course.specs.Output.{end_lines}
 use Rattle.rg_course.specs.Laws.{IsPrefixOf}
 use Rattle.rg_course.specs.Stores.{Course, StaysOnCourse}
 use Rattle.rg_course.specs.Steps.{IsAtRest, IsMidStep, MarksHold}
-use Rattle.rg_course.specs.Turns.{IsDone}
+use Rattle.rg_course.specs.Turns.{IsBetween, IsDone}
 use Rattle.rg_course.proofs.Betweens.{between_done, events_begin, near_end}
 use Rattle.rg_course.proofs.Courses.{on_course_put}
 use Rattle.rg_course.proofs.Hosts.{told_moments, part_way_more, put as putting}
@@ -31,19 +31,24 @@ use Rattle.rg_recover.specs.Stepping.{IsWithinStep, IsStored}
 use Rattle.rg_recover.proofs.Sound.{long}
 use Rattle.rg_turn.specs.Due.{last_lines}
 use Rattle.rg_turn.specs.Turning.{terms_of, IsAwaiting, HasStopped}
+use Rattle.rg_turn.proofs.Gathering.{between_at}
 use Rattle.rg_turn.proofs.Saving.{all_are, in_slot, rest_saved}
 use Rattle.rg_turn.proofs.Stepping.{has_stopped}
 use Rattle.rg_turn.proofs.Telling.{few_by, next_by}
 
 module _ {H T : Type 0} (now : H → Option Image) (may : H → Image → Type 0) (clock : H → ℕ) (since : H → ℕ → Moment → Type 0) (said : H → Option (List ℕ)) (plan : Planned) (course : Course) (offset : ℕ) (told : Type 0) (cells : Cells) (old saved : H) (s : Sitting T)
-    (a : IsAwaiting plan course offset [] (now old) (may old) (said old) told cells s) (within : IsWithinStep may clock since said (store_of plan) s.keep (opened s.reservoir) old saved) where
+    (a : IsAwaiting plan course offset [] (now old) (may old) (said old) [] told cells s) (within : IsWithinStep may clock since said (store_of plan) s.keep (opened s.reservoir) old saved) where
   abbrev events : List Event
   events = events_of (now old) s
+
+  -- all is put
+  abbrev b : IsBetween (store_of plan) (terms_of plan) course events offset [] (stored_of (now old) s) s.keep (may old) a.put
+  b = between_at a.between (sym (append-nil a.put))
 
   -- the save
   end_saved : Stopped H clock since may (store_of plan) (terms_of plan) course old saved a.put
   end_saved =
-      end_stopped H clock since may (store_of plan) (terms_of plan) course events offset (stored_of (now old) s) (stored_of (now old) s) (opened s.reservoir) s.keep s.keep old old saved a.put a.between a.between.at_rest ([], append-nil events)
+      end_stopped H clock since may (store_of plan) (terms_of plan) course events offset (stored_of (now old) s) (stored_of (now old) s) (opened s.reservoir) s.keep s.keep old old saved a.put b b.at_rest ([], append-nil events)
       (told_moments H now may clock since said old saved (IsMidStep (store_of plan) s.keep (opened s.reservoir) (may old)) a.put a.told within.moments) within.left
 
   pub save_moments : Moments clock since old saved (StaysOnCourse (store_of plan) course [])
@@ -59,18 +64,18 @@ module _ {H T : Type 0} (now : H → Option Image) (may : H → Image → Type 0
     whole = all_are plan (now saved) (may saved) told_then cells_then then running all kept ∙ same
 
     -- at rest, with the slot kept before
-    at_stored : IsAtRest (store_of plan) course a.between.lines (stored_of (now saved) then) s.keep (may saved)
+    at_stored : IsAtRest (store_of plan) course b.lines (stored_of (now saved) then) s.keep (may saved)
     at_stored =
         let front : IsPrefixOf (stored_of (now old) s ++ stored.more) events = ([], append-nil (stored_of (now old) s ++ stored.more) ∙ sym stored.grown ∙ whole) in
-        let begins = prefix_then (stored_of (now old) s ++ stored.more) events course.accepted front (events_begin course (terms_of plan) events offset [] a.between.accepted) in
-        let near = near_end Image (store_of plan) course (terms_of plan) events offset (stored_of (now old) s) s.keep (may old) a.put a.between (stored_of (now old) s ++ stored.more) front in
-        subst (λ (l : List Event). IsAtRest (store_of plan) course a.between.lines l s.keep (may saved)) (sym stored.grown)
-        (after_step Image (store_of plan) course a.between.lines (stored_of (now old) s) stored.more s.keep (may old) (may saved) a.between.at_rest begins near stored.left)
+        let begins = prefix_then (stored_of (now old) s ++ stored.more) events course.accepted front (events_begin course (terms_of plan) events offset [] b.accepted) in
+        let near = near_end Image (store_of plan) course (terms_of plan) events offset (stored_of (now old) s) s.keep (may old) a.put b (stored_of (now old) s ++ stored.more) front in
+        subst (λ (l : List Event). IsAtRest (store_of plan) course b.lines l s.keep (may saved)) (sym stored.grown)
+        (after_step Image (store_of plan) course b.lines (stored_of (now old) s) stored.more s.keep (may old) (may saved) b.at_rest begins near stored.left)
 
-    at_saved : IsAtRest (store_of plan) course a.between.lines events then.keep (may saved)
+    at_saved : IsAtRest (store_of plan) course b.lines events then.keep (may saved)
     at_saved =
-        subst (λ (l : List Event). IsAtRest (store_of plan) course a.between.lines l then.keep (may saved)) whole
-        (rest_saved plan (now saved) (may saved) told_then cells_then then running all kept course a.between.lines s.keep at_stored)
+        subst (λ (l : List Event). IsAtRest (store_of plan) course b.lines l then.keep (may saved)) whole
+        (rest_saved plan (now saved) (may saved) told_then cells_then then running all kept course b.lines s.keep at_stored)
 
     module _ (next count : ℕ) (small : next < 2 ^ 64) (next_is : next ≡ next_of then.reservoir) (count_is : count ≡ count_in then.reservoir) (new : H) (files : LeavesFiles now may clock since saved new) where
       next_by_events : next ≡ next_offset events
@@ -89,10 +94,10 @@ module _ {H T : Type 0} (now : H → Option Image) (may : H → Image → Type 0
           end_marks Image (store_of plan) offset events then.keep (may saved) (omega (arith, small, next_by_events)) (omega (arith, few))
           (omega arith, (kept.0, kept.1, λ v left. subst (λ (l : List Event). (store_of plan).HasSaved kept.0 (length l) v) same (in_slot plan (now saved) (may saved) told_then cells_then then running all kept v left)))
 
-      ends_text : a.between.lines ++ (end_lines offset events ++ []) ≡ course.text
+      ends_text : b.lines ++ (end_lines offset events ++ []) ≡ course.text
       ends_text =
           let n : offset ≡ offset + 0 = omega arith in
-          ap (λ (l : List (List ℕ)). a.between.lines ++ l) (append-nil (end_lines offset events)) ∙ ap (λ k. a.between.lines ++ end_lines k events) n ∙ a.between.text
+          ap (λ (l : List (List ℕ)). b.lines ++ l) (append-nil (end_lines offset events)) ∙ ap (λ k. b.lines ++ end_lines k events) n ∙ b.text
 
       -- a part of them is put
       pub end_moments : (part : List ℕ) × IsPrefix part (ended (last_lines offset next count)) × Puts said clock since saved new part → Moments clock since old new (StaysOnCourse (store_of plan) course [])
@@ -101,8 +106,8 @@ module _ {H T : Type 0} (now : H → Option Image) (may : H → Image → Type 0
           let prefix = subst (λ (l : List (List ℕ)). IsPrefix p.0 (ended l)) lines_are p.1 in
           let puts = putting H now may clock since said saved new a.put p.0 (within.said_stays ∙ a.told) files p.2 in
           moments_then clock since old saved new P (λ w. may saved w.image × IsPartWay a.put p.0 w.said) P save_moments puts.moments (λ w h. h) (λ w h.
-          on_course_put Image (store_of plan) course a.between.lines (end_lines offset events) [] events then.keep (may saved) [] w.image w.said at_saved a.between.are_lines (end_are_lines offset events) ends_text holds h.0
-          (subst (λ (l : List ℕ). IsPartWay l (ended (end_lines offset events)) w.said) a.between.said_is (part_way_more a.put p.0 (ended (end_lines offset events)) w.said prefix h.1)))
+          on_course_put Image (store_of plan) course b.lines (end_lines offset events) [] events then.keep (may saved) [] w.image w.said at_saved b.are_lines (end_are_lines offset events) ends_text holds h.0
+          (subst (λ (l : List ℕ). IsPartWay l (ended (end_lines offset events)) w.said) b.said_is (part_way_more a.put p.0 (ended (end_lines offset events)) w.said prefix h.1)))
 
       -- all of them are
       pub end_done : Puts said clock since saved new (ended (last_lines offset next count)) → (put : List ℕ) × (said new ≡ Some put) × IsDone (store_of plan) course (may new) put
@@ -110,5 +115,5 @@ module _ {H T : Type 0} (now : H → Option Image) (may : H → Image → Type 0
           let puts = putting H now may clock since said saved new a.put (ended (end_lines offset events)) (within.said_stays ∙ a.told) files (subst (λ (l : List (List ℕ)). Puts said clock since saved new (ended l)) lines_are all_put) in (
             a.put ++ ended (end_lines offset events),
             puts.told,
-            between_done Image (store_of plan) course (terms_of plan) events offset then.keep s.keep (may old) (may saved) (may new) (stored_of (now old) s) a.put (a.put ++ ended (end_lines offset events)) a.between at_saved puts.fewer refl,
+            between_done Image (store_of plan) course (terms_of plan) events offset then.keep s.keep (may old) (may saved) (may new) (stored_of (now old) s) a.put (a.put ++ ended (end_lines offset events)) b at_saved puts.fewer refl,
           )

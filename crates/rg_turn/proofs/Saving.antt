@@ -1,5 +1,6 @@
 -- What a save of all events leaves.
-use Rattle.std.proofs.Common.{◌≡◌, ℕ, List, [], length, Option, Some, refl, sym, ◌∙◌, ap, subst}
+use Rattle.std.proofs.Common.{◌≡◌, ℕ, List, [], ◌++◌, length, Option, Some, refl, sym, ◌∙◌, ap, subst}
+use Rattle.std.proofs.lemmas.List.{append-nil}
 use Rattle.rg_host.specs.Image.{Image}
 use Rattle.rg_event.specs.declared.event.Event.{Event}
 use Rattle.rg_config.specs.Plans.{Planned}
@@ -15,6 +16,7 @@ use Rattle.rg_recover.specs.Stepping.{IsStored}
 use Rattle.rg_recover.proofs.Sound.{long}
 use Rattle.rg_turn.specs.declared.due.Due.TheVariants.{Save}
 use Rattle.rg_turn.specs.Turning.{IsMidTurn, IsDueDone}
+use Rattle.rg_turn.proofs.Gathering.{put_apart}
 use Rattle.rg_turn.proofs.Stepping.{all_stored, at_rest_after}
 
 -- the events of a session are as many as they were, where they are the same
@@ -44,17 +46,21 @@ module _ {T : Type 0} (plan : Planned) (now : Option Image) (may : Image → Typ
 
 -- what was due is saved
 module _ {H T : Type 0} (now : H → Option Image) (may : H → Image → Type 0) (said : H → Option (List ℕ)) (plan : Planned) (course : Course) (offset : ℕ) (item : Item) (items : List Item) where
-  pub due_saved : (told told_then : Type 0) (cells cells_then : Cells) (events begun : List Event) (begun_keep : Option ℕ) (start old new : H) (s then : Sitting T) (m : IsMidTurn plan course offset item items events begun begun_keep (may start) (now old) (may old) (said old) told cells s)
+  pub due_saved : (told told_then : Type 0) (cells cells_then : Cells) (events begun : List Event) (begun_keep : Option ℕ) (start old new : H) (s then : Sitting T) (m : IsMidTurn plan course offset item items events begun begun_keep (may start) (now old) (may old) (said old) [] told cells s)
       → IsRunning plan (now new) (may new) told_then cells_then then → said new ≡ said old
       → IsStored (store_of plan) s.keep (opened s.reservoir) (stored_of (now old) s) (stored_of (now new) then) (may old) (may new)
       → events_of (now new) then ≡ events_of (now old) s → (then.saved ≡ count_in then.reservoir) × (opened then.reservoir ≡ []) → (slot : ℕ) × (then.keep ≡ Some slot)
-      → IsMidTurn plan course offset item items events begun begun_keep (may start) (now new) (may new) (said new) told_then cells_then then
-  due_saved told told_then cells cells_then events begun begun_keep start old new s then m running said_stays done same saved kept = record {
-    running = running;
-    put = m.put;
-    told = said_stays ∙ m.told;
-    between = m.between;
-    at_rest = rest_saved plan (now new) (may new) told_then cells_then then running saved kept course m.between.lines s.keep
-        (at_rest_after plan course offset item items events begun begun_keep s.keep s.keep (may start) (may new) (may old) m.put (stored_of (now old) s) (opened s.reservoir) (stored_of (now new) then) (opened then.reservoir) m.between m.at_rest done (same ∙ m.follows) refl);
-    follows = same ∙ m.follows;
-  }
+      → IsMidTurn plan course offset item items events begun begun_keep (may start) (now new) (may new) (said new) [] told_then cells_then then
+  due_saved told told_then cells cells_then events begun begun_keep start old new s then m running said_stays done same saved kept =
+      let b = m.between in
+      let at_rest = rest_saved plan (now new) (may new) told_then cells_then then running saved kept course b.lines s.keep
+      (at_rest_after plan course offset item items events begun begun_keep s.keep s.keep (may start) (may new) (may old) (m.put ++ []) (stored_of (now old) s) (opened s.reservoir) (stored_of (now new) then) (opened then.reservoir) b m.at_rest done (same ∙ m.follows) refl) in
+      record {
+        running = running;
+        put = m.put;
+        told = said_stays ∙ m.told;
+        between = b;
+        at_rest = at_rest;
+        apart = put_apart course (stored_of (now new) then) m.put b.lines b.are_lines (sym (append-nil m.put) ∙ b.said_is) at_rest.near;
+        follows = same ∙ m.follows;
+      }

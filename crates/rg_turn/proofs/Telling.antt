@@ -48,8 +48,8 @@ done_saved Nothing plan now may s done save = absurd (let e : ◌≡◌ {A = Due
 done_saved Commit plan now may s done save = absurd (let e : ◌≡◌ {A = Due} Commit Save = save in cc)
 done_saved Save plan now may s done save = let same : length (stored_of now s) ≡ length (events_of now s) = ap length done.0 in (omega (arith, same), done.1)
 
-module _ {T : Type 0} (plan : Planned) (course : Course) (offset : ℕ) (item : Item) (items : List Item) (events begun : List Event) (begun_keep : Option ℕ) (start : Image → Type 0) (now : Option Image) (may : Image → Type 0) (said : Option (List ℕ)) (told : Type 0) (cells : Cells) (s : Sitting T)
-    (m : IsMidTurn plan course offset item items events begun begun_keep start now may said told cells s) (next : next_offset events ≤ offset) (due : Due) (before : ℕ) (before_is : before ≡ length events) (due_is : due ≡ is_due plan.settings.commit plan.settings.save before (count_in s.reservoir)) where
+module _ {T : Type 0} (plan : Planned) (course : Course) (offset : ℕ) (item : Item) (items : List Item) (events begun : List Event) (begun_keep : Option ℕ) (start : Image → Type 0) (now : Option Image) (may : Image → Type 0) (said : Option (List ℕ)) (gathered : List ℕ) (told : Type 0) (cells : Cells) (s : Sitting T)
+    (m : IsMidTurn plan course offset item items events begun begun_keep start now may said gathered told cells s) (next : next_offset events ≤ offset) (due : Due) (before : ℕ) (before_is : before ≡ length events) (due_is : due ≡ is_due plan.settings.commit plan.settings.save before (count_in s.reservoir)) where
   abbrev terms : Terms
   terms = terms_of plan
 

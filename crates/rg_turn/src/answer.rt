@@ -15,10 +15,11 @@ ghost use Rattle.rg_course.specs.Stores.{Course, StaysOnCourse};
 ghost use Rattle.rg_open.specs.Stores.{store_of};
 ghost use Rattle.rg_open.specs.Blame.{NodeRuns, IsPlaced};
 ghost use Rattle.rg_recover.specs.Sessions.{events_of};
-ghost use Rattle.rg_turn.specs.Turning.{IsAwaiting, HasStopped, terms_of};
+ghost use Rattle.rg_turn.specs.Turning.{IsAwaiting, HasStopped, HasWay, terms_of};
 
 use crate::due::due_at;
 use crate::fault::TurnFault;
+use crate::gather::stop;
 use crate::settle::settle;
 use crate::tell::tell;
 use rg_config::Plan;
@@ -28,13 +29,14 @@ use rg_recover::{Session, TaskFault};
 use rg_state::Table;
 use std::sync::ledger::Ledger;
 
-/// Takes a cleaned line into a session, does what is due, and puts the reply with its marks. `text` is a
-/// buffer for these lines. Each refusal but `Write` leaves whole lines put.
+/// Takes a cleaned line into a session, does what is due, and gathers the reply with its marks. `text` is a
+/// buffer for these lines. Each refusal but `Write` leaves whole lines put, and nothing gathered.
 pub(crate) fn answer_line<H: Host, T: Table, L: Ledger>(
     session: &mut Session<T>,
     host: &mut H,
     plan: &Plan,
     text: &mut Vec<u8>,
+    gathered: &mut Vec<u8>,
     offset: u64,
     line: &[u8],
     steps: &mut Steps<L>,
@@ -43,30 +45,31 @@ pub(crate) fn answer_line<H: Host, T: Table, L: Ledger>(
     requires one_line { list_any (λ byte. byte == 10) line.now ≡ false }
     requires next { next_of session.old.reservoir ≤ offset }
     requires small { offset < 2 ^ 62 }
+    requires way { HasWay session.old gathered.old.items }
     requires reaches { session.old.ended ≡ false → ReachesEnd (log_of session.old.reservoir) (H.now host.old) }
 
     ensures moments { (course : Course) (item : Option (List ℕ)) (items : List (Option (List ℕ))) →
-        IsAwaiting (planned plan.now) course offset (item ∷ items) (H.now host.old) (H.may host.old) (H.said host.old) (T.tells session.old.engine.table) (T.cell session.old.engine.table) session.old →
+        IsAwaiting (planned plan.now) course offset (item ∷ items) (H.now host.old) (H.may host.old) (H.said host.old) gathered.old.items (T.tells session.old.engine.table) (T.cell session.old.engine.table) session.old →
         read_as (terms_of (planned plan.now)).basis offset item ≡ or_reply (row_of (planned plan.now).shape.fields offset line.now) →
         Moments H.clock H.since host.old host.new (StaysOnCourse (store_of (planned plan.now)) course []) }
     ensures awaits { (course : Course) (item : Option (List ℕ)) (items : List (Option (List ℕ))) →
-        IsAwaiting (planned plan.now) course offset (item ∷ items) (H.now host.old) (H.may host.old) (H.said host.old) (T.tells session.old.engine.table) (T.cell session.old.engine.table) session.old →
+        IsAwaiting (planned plan.now) course offset (item ∷ items) (H.now host.old) (H.may host.old) (H.said host.old) gathered.old.items (T.tells session.old.engine.table) (T.cell session.old.engine.table) session.old →
         read_as (terms_of (planned plan.now)).basis offset item ≡ or_reply (row_of (planned plan.now).shape.fields offset line.now) →
-        OnOk result (IsAwaiting (planned plan.now) course (offset + 1) items (H.now host.new) (H.may host.new) (H.said host.new) (T.tells session.new.engine.table) (T.cell session.new.engine.table) session.new) }
+        OnOk result (IsAwaiting (planned plan.now) course (offset + 1) items (H.now host.new) (H.may host.new) (H.said host.new) gathered.new.items (T.tells session.new.engine.table) (T.cell session.new.engine.table) session.new) }
     ensures events { (course : Course) (item : Option (List ℕ)) (items : List (Option (List ℕ))) →
-        IsAwaiting (planned plan.now) course offset (item ∷ items) (H.now host.old) (H.may host.old) (H.said host.old) (T.tells session.old.engine.table) (T.cell session.old.engine.table) session.old →
+        IsAwaiting (planned plan.now) course offset (item ∷ items) (H.now host.old) (H.may host.old) (H.said host.old) gathered.old.items (T.tells session.old.engine.table) (T.cell session.old.engine.table) session.old →
         read_as (terms_of (planned plan.now)).basis offset item ≡ or_reply (row_of (planned plan.now).shape.fields offset line.now) →
         OnOk result (events_of (H.now host.new) session.new ≡ after_line (terms_of (planned plan.now)).basis (events_of (H.now host.old) session.old) offset item) }
     ensures stopped { (course : Course) (item : Option (List ℕ)) (items : List (Option (List ℕ))) →
-        IsAwaiting (planned plan.now) course offset (item ∷ items) (H.now host.old) (H.may host.old) (H.said host.old) (T.tells session.old.engine.table) (T.cell session.old.engine.table) session.old →
+        IsAwaiting (planned plan.now) course offset (item ∷ items) (H.now host.old) (H.may host.old) (H.said host.old) gathered.old.items (T.tells session.old.engine.table) (T.cell session.old.engine.table) session.old →
         read_as (terms_of (planned plan.now)).basis offset item ≡ or_reply (row_of (planned plan.now).shape.fields offset line.now) →
         IfErr result (λ fault. (fault ≡ TurnFault.Write) ⊎ HasStopped (planned plan.now) course (H.may host.new) (H.said host.new)) }
 
     ensures never_bad { (course : Course) (items : List (Option (List ℕ))) (n : ℕ) →
-        IsAwaiting (planned plan.now) course offset items (H.now host.old) (H.may host.old) (H.said host.old) (T.tells session.old.engine.table) (T.cell session.old.engine.table) session.old →
+        IsAwaiting (planned plan.now) course offset items (H.now host.old) (H.may host.old) (H.said host.old) gathered.old.items (T.tells session.old.engine.table) (T.cell session.old.engine.table) session.old →
         IsErrOf result (TurnFault.Task (TaskFault.BadState n)) → ⊥ }
     ensures never_damaged { (course : Course) (items : List (Option (List ℕ))) (p : ℕ) →
-        IsAwaiting (planned plan.now) course offset items (H.now host.old) (H.may host.old) (H.said host.old) (T.tells session.old.engine.table) (T.cell session.old.engine.table) session.old →
+        IsAwaiting (planned plan.now) course offset items (H.now host.old) (H.may host.old) (H.said host.old) gathered.old.items (T.tells session.old.engine.table) (T.cell session.old.engine.table) session.old →
         IsErrOf result (TurnFault.Task (TaskFault.Damaged p)) → ⊥ }
     ensures node { (n : ℕ) → NodeRuns (planned plan.now) n (H.now host.old) (H.may host.old) (T.tells session.old.engine.table) (T.cell session.old.engine.table) session.old.reservoir session.old.engine →
         OnOk result (NodeRuns (planned plan.now) n (H.now host.new) (H.may host.new) (T.tells session.new.engine.table) (T.cell session.new.engine.table) session.new.reservoir session.new.engine) }
@@ -89,24 +92,24 @@ pub(crate) fn answer_line<H: Host, T: Table, L: Ledger>(
     let before = session.count();
     let reply = match session.line(host, offset, line, steps) {
         Ok(reply) => reply,
-        Err(fault) => return Err(TurnFault::Task(fault)),
+        Err(fault) => return Err(stop(host, gathered, TurnFault::Task(fault))),
     };
     let due = due_at(plan.commit, plan.save, before, session.count());
-    match settle(session, host, due) {
+    match settle(session, host, gathered, due) {
         Ok(()) => {}
         Err(fault) => {
             drop(reply);
-            return Err(TurnFault::Task(fault));
+            return Err(fault);
         }
     }
-    match tell(session, host, text, offset, &reply, due) {
+    match tell(session, text, gathered, offset, &reply, due) {
         Ok(()) => {
             session.reuse(reply);
             Ok(())
         }
         Err(fault) => {
             drop(reply);
-            Err(fault)
+            Err(stop(host, gathered, fault))
         }
     }
 }

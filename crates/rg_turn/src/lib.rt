@@ -9,6 +9,7 @@ mod answer;
 mod due;
 mod fault;
 mod finish;
+mod gather;
 mod refuse;
 mod save;
 mod settle;

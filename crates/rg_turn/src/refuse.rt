@@ -13,18 +13,20 @@ ghost use Rattle.rg_turn.specs.Turning.{IsAwaiting, HasStopped, terms_of};
 
 use crate::due::Due;
 use crate::fault::TurnFault;
+use crate::gather::stop;
 use crate::tell::tell;
 use rg_host::Host;
 use rg_metric::Reply;
 use rg_recover::{Session, TaskFault};
 use rg_state::Table;
 
-/// Puts the reply to a line that is refused before a session sees it. Each refusal but `Write` leaves
-/// whole lines put.
+/// Gathers the reply to a line that is refused before a session sees it. Each refusal but `Write` leaves
+/// whole lines put, and nothing gathered.
 pub(crate) fn refuse_line<H: Host, T: Table>(
     session: &Session<T>,
     host: &mut H,
     text: &mut Vec<u8>,
+    gathered: &mut Vec<u8>,
     offset: u64,
     reply: &Reply,
 ) -> Result<(), TurnFault>
@@ -32,19 +34,19 @@ pub(crate) fn refuse_line<H: Host, T: Table>(
     requires small { offset < 2 ^ 62 }
 
     ensures moments { (plan : Planned) (course : Course) (item : Option (List ℕ)) (items : List (Option (List ℕ))) →
-        IsAwaiting plan course offset (item ∷ items) (H.now host.old) (H.may host.old) (H.said host.old) (T.tells session.now.engine.table) (T.cell session.now.engine.table) session.now →
+        IsAwaiting plan course offset (item ∷ items) (H.now host.old) (H.may host.old) (H.said host.old) gathered.old.items (T.tells session.now.engine.table) (T.cell session.now.engine.table) session.now →
         read_as (terms_of plan).basis offset item ≡ Err reply.now →
         Moments H.clock H.since host.old host.new (StaysOnCourse (store_of plan) course []) }
     ensures awaits { (plan : Planned) (course : Course) (item : Option (List ℕ)) (items : List (Option (List ℕ))) →
-        IsAwaiting plan course offset (item ∷ items) (H.now host.old) (H.may host.old) (H.said host.old) (T.tells session.now.engine.table) (T.cell session.now.engine.table) session.now →
+        IsAwaiting plan course offset (item ∷ items) (H.now host.old) (H.may host.old) (H.said host.old) gathered.old.items (T.tells session.now.engine.table) (T.cell session.now.engine.table) session.now →
         read_as (terms_of plan).basis offset item ≡ Err reply.now →
-        OnOk result (IsAwaiting plan course (offset + 1) items (H.now host.new) (H.may host.new) (H.said host.new) (T.tells session.now.engine.table) (T.cell session.now.engine.table) session.now) }
+        OnOk result (IsAwaiting plan course (offset + 1) items (H.now host.new) (H.may host.new) (H.said host.new) gathered.new.items (T.tells session.now.engine.table) (T.cell session.now.engine.table) session.now) }
     ensures events { (plan : Planned) (course : Course) (item : Option (List ℕ)) (items : List (Option (List ℕ))) →
-        IsAwaiting plan course offset (item ∷ items) (H.now host.old) (H.may host.old) (H.said host.old) (T.tells session.now.engine.table) (T.cell session.now.engine.table) session.now →
+        IsAwaiting plan course offset (item ∷ items) (H.now host.old) (H.may host.old) (H.said host.old) gathered.old.items (T.tells session.now.engine.table) (T.cell session.now.engine.table) session.now →
         read_as (terms_of plan).basis offset item ≡ Err reply.now →
         OnOk result (events_of (H.now host.new) session.now ≡ after_line (terms_of plan).basis (events_of (H.now host.old) session.now) offset item) }
     ensures stopped { (plan : Planned) (course : Course) (item : Option (List ℕ)) (items : List (Option (List ℕ))) →
-        IsAwaiting plan course offset (item ∷ items) (H.now host.old) (H.may host.old) (H.said host.old) (T.tells session.now.engine.table) (T.cell session.now.engine.table) session.now →
+        IsAwaiting plan course offset (item ∷ items) (H.now host.old) (H.may host.old) (H.said host.old) gathered.old.items (T.tells session.now.engine.table) (T.cell session.now.engine.table) session.now →
         read_as (terms_of plan).basis offset item ≡ Err reply.now →
         IfErr result (λ fault. (fault ≡ TurnFault.Write) ⊎ HasStopped plan course (H.may host.new) (H.said host.new)) }
 
@@ -57,8 +59,8 @@ pub(crate) fn refuse_line<H: Host, T: Table>(
     ensures disk_faults { H.disk_faults host.new ≡ H.disk_faults host.old }
     ensures out_faults { H.out_faults host.old ≤ H.out_faults host.new }
 {
-    match tell(session, host, text, offset, reply, Due::Nothing) {
+    match tell(session, text, gathered, offset, reply, Due::Nothing) {
         Ok(()) => Ok(()),
-        Err(fault) => Err(fault),
+        Err(fault) => Err(stop(host, gathered, fault)),
     }
 }

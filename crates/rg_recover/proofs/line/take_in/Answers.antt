@@ -118,3 +118,12 @@ returns-in-Ok-clause-undamaged g c = λ plan p placed.
     let mid = c.commit_open.new.host in
     c.take-in-Ok.ensures.undamaged plan p (placed_stored plan (g.H.Host.now h) (g.H.Host.may h) c.args.reservoir.now c.args.engine.now placed (g.H.Host.now mid) (g.H.Host.may mid) c.commit_open.new.reservoir
     (c.in-Ok.ensures.opened plan placed.reservoir) (c.in-Ok.ensures.spelled placed.reservoir.sound))
+
+pub returns-then-has_room-clause-roomy : goal.returns-then-has_room-clause-roomy
+returns-then-has_room-clause-roomy g c = λ room. (c.take.ensures.leaves, c.take.ensures.base)
+
+pub returns-in-Ok-clause-roomy : goal.returns-in-Ok-clause-roomy
+returns-in-Ok-clause-roomy g c = λ room. absurd (let yes = c.has_room.ensures.1 room in cc)
+
+pub returns-in-Err-clause-roomy : goal.returns-in-Err-clause-roomy
+returns-in-Err-clause-roomy g c = λ room. absurd (let yes = c.has_room.ensures.1 room in cc)

@@ -36,7 +36,7 @@ returns-in-Err-clause-counts g c = record { later = omega arith; disk_faults_gro
 pub returns-in-Ok-clause-begun : goal.returns-in-Ok-clause-begun
 returns-in-Ok-clause-begun g c = λ b start.
     let part = c.put_mark.ensures.part in
-    let way = first_way g.H.Host.now g.H.Host.may g.H.Host.clock g.H.Host.since g.H.Host.said (planned c.args.plan.now) b _ _ _ _ _ _ _ _ _ start c.put_mark.new.host c.put_mark.ensures.leaves c.in-Ok.ensures.all c.args.lines.now c.requires.fresh in
+    let way = first_way g.H.Host.now g.H.Host.may g.H.Host.clock g.H.Host.since g.H.Host.said (planned c.args.plan.now) b _ _ _ _ _ _ _ _ _ start c.put_mark.new.host c.put_mark.ensures.leaves c.in-Ok.ensures.all c.args.lines.now c.requires.fresh _ c.requires.none in
     let goes = c.answer_lines.ensures.goes b way in
     true_from g.H.Host.may g.H.Host.clock g.H.Host.since g.H.Host.said (planned c.args.plan.now) b _ c.args.host.now c.put_mark.new.host c.answer_lines.new.host c.answer_lines.result (part_moments g.H.Host.now g.H.Host.may g.H.Host.clock g.H.Host.since g.H.Host.said (planned c.args.plan.now) b _ _ _ _ _ _ _ _ _ start c.put_mark.new.host c.put_mark.ensures.leaves part.0 part.1 part.2) goes
 

@@ -1,11 +1,12 @@
-use Rattle.std.proofs.Common.{Some, ◌∷◌, sym, ◌∙◌, ap}
+use Rattle.std.proofs.Common.{Some, ◌∷◌, ◌==◌, sym, ◌∙◌, ap}
+use Rattle.std.specs.List.{list_any}
 use Rattle.std.proofs.lemmas.Result.{on_ok_weaker}
 use Rattle.rg_config.specs.Plans.{planned}
 use Rattle.rg_course.specs.Verdicts.{or_reply}
 use Rattle.rg_row.specs.Rows.{row_of}
 use Rattle.rg_turn.specs.Turning.{terms_of}
 use Rattle.rg_run.proofs.Causes.{never_by, bad_by, undamaged_by, damaged_by}
-use Rattle.rg_run.proofs.Texts.{as_header, as_line}
+use Rattle.rg_run.proofs.Texts.{no_lf_cleaned, as_header, as_line}
 use Rattle.rg_run.proofs.turn.answer_text.Goals as goal
 
 pub returns-then-is_header-clause-answers : goal.returns-then-is_header-clause-answers
@@ -41,3 +42,6 @@ returns-then-is_header-clause-node g c = λ n runs. on_ok_weaker c.refuse.result
 
 pub returns-then-is_header-clause-placed : goal.returns-then-is_header-clause-placed
 returns-then-is_header-clause-placed g c = λ placed. on_ok_weaker c.refuse.result (λ _. c.refuse.ensures.placed (planned c.args.plan.now) placed) c.refuse.ensures.offset
+
+pub answer-requires-clause-one_line : goal.answer-requires-clause-one_line
+answer-requires-clause-one_line g c = ap (λ l. list_any (λ byte. byte == 10) l) c.clean.ensures ∙ no_lf_cleaned c.args.turning.now.offset c.args.text.now c.requires.one_line

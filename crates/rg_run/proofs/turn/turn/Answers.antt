@@ -1,188 +1,44 @@
-use Rattle.std.proofs.Common.{inl, inr, refl, ◌∙◌, ap, ◌≡◌, Err, arith}
+use Rattle.std.proofs.Common.{Err, ap, arith}
 use Rattle.rg_config.specs.Plans.{planned}
-use Rattle.rg_host.specs.declared.lines.LineFault.{LineFault}
-use Rattle.rg_host.specs.declared.lines.LineFault.TheVariants as reading
-use Rattle.rg_run.specs.Begun.{course_for}
-use Rattle.rg_run.proofs.Causes.{end_others, put_or_memory}
-use Rattle.rg_run.proofs.Taking.{text_taken, long_taken, end_taken, none_taken, taken_on, read_out, past_limit}
-use Rattle.rg_run.proofs.Texts.{text_no_lf}
-use Rattle.rg_run.proofs.Turned.{more, no_more, why_none, why_turn, why_read, why_limit}
-use Rattle.rg_run.proofs.Turns.{goes_on, goes_err, true_at_ok, true_at_err, stops, end_awaits, unread}
+use Rattle.rg_frame.specs.LogState.{ReachesEnd}
+use Rattle.rg_reservoir.specs.Kept.{log_of}
+use Rattle.rg_run.proofs.Gathered.{goes_after, goes_unput, takes_after, takes_unput, why_after}
+use Rattle.rg_run.proofs.Turned.{why_write}
 use Rattle.rg_run.proofs.turn.turn.Goals as goal
 
-pub answer_text-requires-clause-one_line : goal.answer_text-requires-clause-one_line
-answer_text-requires-clause-one_line g c = text_no_lf _ _ _ _ _ _ _ c.next.follows.holds-at-none c.in-Ok-Text.is c.in-Ok-Text.field-0-is
+pub take_line-requires-clause-counted : goal.take_line-requires-clause-counted
+take_line-requires-clause-counted g c = omega (arith, c.requires.counted, c.put_ahead.ensures.puts.offset_stays)
+
+pub take_line-requires-clause-ahead : goal.take_line-requires-clause-ahead
+take_line-requires-clause-ahead g c = c.in-Ok.ensures.goes.ahead
+
+pub take_line-requires-clause-going : goal.take_line-requires-clause-going
+take_line-requires-clause-going g c = rw c.put_ahead.ensures.puts.session_stays c.requires.going
+
+pub take_line-requires-clause-reaches : goal.take_line-requires-clause-reaches
+take_line-requires-clause-reaches g c = rw (c.put_ahead.ensures.puts.session_stays, c.put_ahead.ensures.puts.image_stays) c.requires.reaches
 
 pub returns-in-Ok-clause-goes : goal.returns-in-Ok-clause-goes
-returns-in-Ok-clause-goes g c =
-    λ b way. goes_on g.H.Host.now g.H.Host.may g.H.Host.clock g.H.Host.since g.H.Host.said (planned c.args.plan.now) b _ _ _ _ _ _ _ way _ _ _ (text_taken _ _ _ _ _ c.next.follows.holds-at-none _ _ c.in-Ok-Text.is c.in-Ok-Text.field-0-is) _ _ _ _ _ _ c.answer_text.ensures.answers _ c.in-Ok.is c.in-Ok.ensures.offset
-
-pub returns-in-Err-clause-goes : goal.returns-in-Err-clause-goes
-returns-in-Err-clause-goes g c =
-    λ b way. goes_err g.H.Host.now g.H.Host.may g.H.Host.clock g.H.Host.since g.H.Host.said (planned c.args.plan.now) b _ _ _ _ _ _ _ way _ _ _ (text_taken _ _ _ _ _ c.next.follows.holds-at-none _ _ c.in-Ok-Text.is c.in-Ok-Text.field-0-is) _ _ _ _ _ _ c.answer_text.ensures.answers _ c.in-Err.fault c.turn_fault.result c.turn_fault.ensures c.in-Err.is
+returns-in-Ok-clause-goes g c = λ b way.
+    goes_after g.H.Host.may g.H.Host.clock g.H.Host.since g.H.Host.said (planned c.args.plan.now) b _ c.args.host.now c.put_ahead.new.host (c.put_ahead.ensures.puts.moments (planned c.args.plan.now) b _ _ way) _ c.take_line.result c.take_line.new.host
+    (c.take_line.ensures.goes b (c.in-Ok.ensures.goes.under_way (planned c.args.plan.now) b _ _ way))
 
 pub returns-in-Ok-clause-takes : goal.returns-in-Ok-clause-takes
 returns-in-Ok-clause-takes g c =
-    let takes = (text_taken _ _ _ _ _ c.next.follows.holds-at-none _ _ c.in-Ok-Text.is c.in-Ok-Text.field-0-is) in
-    record {
-      done = more (record {
-        node = λ n runs. c.in-Ok.ensures.node n runs;
-        placed = λ placed. c.in-Ok.ensures.placed placed;
-        counted = omega (arith, takes.spent, c.in-Ok.ensures.offset, c.requires.counted);
-        within = (takes.spent, takes.within);
-        going = c.in-Ok.ensures.going;
-        reaches = c.in-Ok.ensures.reaches;
-      });
-      taken = λ start t. taken_on _ _ _ _ _ _ c.next.follows.holds-at-none t;
-      log = c.answer_text.ensures.log;
-      counts = record { later = c.next.ensures.later; disk_faults_grow = omega (arith, c.answer_text.ensures.disk_faults); out_faults_grow = c.answer_text.ensures.out_faults };
-    }
-
-pub returns-in-Err-clause-takes : goal.returns-in-Err-clause-takes
-returns-in-Err-clause-takes g c =
-    record {
-      done = tt;
-      taken = λ start t. taken_on _ _ _ _ _ _ c.next.follows.holds-at-none t;
-      log = c.answer_text.ensures.log;
-      counts = record { later = c.next.ensures.later; disk_faults_grow = omega (arith, c.answer_text.ensures.disk_faults); out_faults_grow = c.answer_text.ensures.out_faults };
-    }
+    takes_after g.H.Host.now g.H.Host.may g.H.Host.clock g.H.Host.since g.H.Host.said g.H.Host.disk_faults g.H.Host.out_faults g.I.Source.left g.I.Source.faults (planned c.args.plan.now) _ _ _ _ _ _ _ _ _ _ _ c.put_ahead.ensures.puts _ _ _ _ _ _ _ _ _ c.take_line.result _ _ _ c.take_line.ensures.takes
 
 pub returns-in-Ok-clause-cause : goal.returns-in-Ok-clause-cause
 returns-in-Ok-clause-cause g c =
-    why_none g.H.Host.now g.H.Host.may g.H.Host.disk_faults g.H.Host.out_faults g.I.Source.faults (planned c.args.plan.now) _ _ c.args.turning.now.session _ _ _ _ _ _ _
+    why_after g.H.Host.now g.H.Host.may g.H.Host.clock g.H.Host.since g.H.Host.said g.H.Host.disk_faults g.H.Host.out_faults g.I.Source.left g.I.Source.faults (planned c.args.plan.now) _ _ _ _ _ _ _ _ _ _ _ c.put_ahead.ensures.puts _ _ c.take_line.result _ _ _ c.take_line.ensures.cause
 
-pub returns-in-Ok-refuse_long-clause-goes : goal.returns-in-Ok-refuse_long-clause-goes
-returns-in-Ok-refuse_long-clause-goes g c =
-    λ b way. goes_on g.H.Host.now g.H.Host.may g.H.Host.clock g.H.Host.since g.H.Host.said (planned c.args.plan.now) b _ _ _ _ _ _ _ way _ _ _ (long_taken _ _ _ _ _ c.next.follows.holds-at-none _ c.in-Ok-Long.is c.in-Ok-Long.field-0-is) _ _ _ _ _ _ c.refuse_long.ensures.answers _ c.in-Ok-refuse_long.is c.in-Ok-refuse_long.ensures.offset
+pub returns-in-Err-clause-goes : goal.returns-in-Err-clause-goes
+returns-in-Err-clause-goes g c = λ b way.
+    goes_unput g.H.Host.may g.H.Host.clock g.H.Host.since g.H.Host.said (planned c.args.plan.now) b _ c.args.host.now c.put_ahead.new.host (c.put_ahead.ensures.puts.moments (planned c.args.plan.now) b _ _ way) _ c.in-Err.fault c.in-Err.ensures.goes.faults
 
-pub returns-in-Err-refuse_long-clause-goes : goal.returns-in-Err-refuse_long-clause-goes
-returns-in-Err-refuse_long-clause-goes g c =
-    λ b way. goes_err g.H.Host.now g.H.Host.may g.H.Host.clock g.H.Host.since g.H.Host.said (planned c.args.plan.now) b _ _ _ _ _ _ _ way _ _ _ (long_taken _ _ _ _ _ c.next.follows.holds-at-none _ c.in-Ok-Long.is c.in-Ok-Long.field-0-is) _ _ _ _ _ _ c.refuse_long.ensures.answers _ c.in-Err-refuse_long.fault c.turn_fault-in-Err-refuse_long.result c.turn_fault-in-Err-refuse_long.ensures c.in-Err-refuse_long.is
-
-pub returns-in-Ok-refuse_long-clause-takes : goal.returns-in-Ok-refuse_long-clause-takes
-returns-in-Ok-refuse_long-clause-takes g c =
-    let takes = (long_taken _ _ _ _ _ c.next.follows.holds-at-none _ c.in-Ok-Long.is c.in-Ok-Long.field-0-is) in
-    record {
-      done = more (record {
-        node = λ n runs. c.in-Ok-refuse_long.ensures.node n runs;
-        placed = λ placed. c.in-Ok-refuse_long.ensures.placed placed;
-        counted = omega (arith, takes.spent, c.in-Ok-refuse_long.ensures.offset, c.requires.counted);
-        within = (takes.spent, takes.within);
-        going = c.in-Ok-refuse_long.ensures.going;
-        reaches = c.in-Ok-refuse_long.ensures.reaches;
-      });
-      taken = λ start t. taken_on _ _ _ _ _ _ c.next.follows.holds-at-none t;
-      log = c.refuse_long.ensures.log;
-      counts = record { later = c.next.ensures.later; disk_faults_grow = omega (arith, c.refuse_long.ensures.disk_faults); out_faults_grow = c.refuse_long.ensures.out_faults };
-    }
-
-pub returns-in-Err-refuse_long-clause-takes : goal.returns-in-Err-refuse_long-clause-takes
-returns-in-Err-refuse_long-clause-takes g c =
-    record {
-      done = tt;
-      taken = λ start t. taken_on _ _ _ _ _ _ c.next.follows.holds-at-none t;
-      log = c.refuse_long.ensures.log;
-      counts = record { later = c.next.ensures.later; disk_faults_grow = omega (arith, c.refuse_long.ensures.disk_faults); out_faults_grow = c.refuse_long.ensures.out_faults };
-    }
-
-pub returns-in-Ok-refuse_long-clause-cause : goal.returns-in-Ok-refuse_long-clause-cause
-returns-in-Ok-refuse_long-clause-cause g c =
-    why_none g.H.Host.now g.H.Host.may g.H.Host.disk_faults g.H.Host.out_faults g.I.Source.faults (planned c.args.plan.now) _ _ c.args.turning.now.session _ _ _ _ _ _ _
+pub returns-in-Err-clause-takes : goal.returns-in-Err-clause-takes
+returns-in-Err-clause-takes g c =
+    takes_unput g.H.Host.now g.H.Host.may g.H.Host.clock g.H.Host.since g.H.Host.said g.H.Host.disk_faults g.H.Host.out_faults g.I.Source.left g.I.Source.faults (planned c.args.plan.now) _ _ _ _ _ _ _ _ _ _ _ c.put_ahead.ensures.puts _ _ c.in-Err.fault c.args.input.now
 
 pub returns-in-Err-clause-cause : goal.returns-in-Err-clause-cause
 returns-in-Err-clause-cause g c =
-    why_turn g.H.Host.now g.H.Host.may g.H.Host.disk_faults g.H.Host.out_faults g.I.Source.faults (planned c.args.plan.now) _ _ c.args.turning.now.session _ _ _ _ _ _ c.in-Err.fault c.turn_fault.result c.turn_fault.ensures
-    (λ n runs is. c.answer_text.ensures.never_bad_node n runs (c.in-Err.is ∙ ap (λ v. Err v) is))
-    (λ p placed is. c.answer_text.ensures.undamaged p placed (c.in-Err.is ∙ ap (λ v. Err v) is))
-    (λ p is. c.answer_text.ensures.damaged p (c.in-Err.is ∙ ap (λ v. Err v) is))
-    (λ is. c.answer_text.ensures.write (c.in-Err.is ∙ ap (λ v. Err v) is))
-    (λ is. c.answer_text.ensures.disk (c.in-Err.is ∙ ap (λ v. Err v) is))
-
-pub returns-in-Err-refuse_long-clause-cause : goal.returns-in-Err-refuse_long-clause-cause
-returns-in-Err-refuse_long-clause-cause g c =
-    let not = put_or_memory c.in-Err-refuse_long.fault c.in-Err-refuse_long.ensures.faults in
-    why_turn g.H.Host.now g.H.Host.may g.H.Host.disk_faults g.H.Host.out_faults g.I.Source.faults (planned c.args.plan.now) _ _ c.args.turning.now.session _ _ _ _ _ _ c.in-Err-refuse_long.fault c.turn_fault-in-Err-refuse_long.result c.turn_fault-in-Err-refuse_long.ensures
-    (λ n runs is. not.0 n is)
-    (λ p placed is. not.1 p is)
-    (λ p is. absurd (not.1 p is))
-    (λ is. c.refuse_long.ensures.write (c.in-Err-refuse_long.is ∙ ap (λ v. Err v) is))
-    (λ is. absurd (not.2 is))
-
-pub returns-in-Ok-finish-clause-goes : goal.returns-in-Ok-finish-clause-goes
-returns-in-Ok-finish-clause-goes g c =
-    λ b way.
-    let done = c.in-Ok-finish.ensures.done (planned c.args.plan.now) (course_for (planned c.args.plan.now) b) (end_awaits g.H.Host.now g.H.Host.may g.H.Host.clock g.H.Host.since g.H.Host.said (planned c.args.plan.now) b _ _ _ _ _ _ _ way _ _ (end_taken _ _ _ _ _ c.next.follows.holds-at-none _ c.in-Ok-End.is c.in-Ok-End.field-0-is)) in
-    true_at_ok g.H.Host.may g.H.Host.clock g.H.Host.since g.H.Host.said (planned c.args.plan.now) b _ c.args.host.now c.finish.new.host (c.finish.ensures.moments (planned c.args.plan.now) (course_for (planned c.args.plan.now) b) (end_awaits g.H.Host.now g.H.Host.may g.H.Host.clock g.H.Host.since g.H.Host.said (planned c.args.plan.now) b _ _ _ _ _ _ _ way _ _ (end_taken _ _ _ _ _ c.next.follows.holds-at-none _ c.in-Ok-End.is c.in-Ok-End.field-0-is))) _ (no_more (record { put = done.0; told = done.1; done = done.2 }))
-
-pub returns-in-Err-finish-clause-goes : goal.returns-in-Err-finish-clause-goes
-returns-in-Err-finish-clause-goes g c =
-    λ b way.
-    let not = end_others c.in-Err-finish.fault c.in-Err-finish.ensures.faults in
-    true_at_err g.H.Host.may g.H.Host.clock g.H.Host.since g.H.Host.said (planned c.args.plan.now) b _ c.args.host.now c.finish.new.host (c.finish.ensures.moments (planned c.args.plan.now) (course_for (planned c.args.plan.now) b) (end_awaits g.H.Host.now g.H.Host.may g.H.Host.clock g.H.Host.since g.H.Host.said (planned c.args.plan.now) b _ _ _ _ _ _ _ way _ _ (end_taken _ _ _ _ _ c.next.follows.holds-at-none _ c.in-Ok-End.is c.in-Ok-End.field-0-is))) _ c.in-Err-finish.fault c.turn_fault-in-Err-finish.result c.turn_fault-in-Err-finish.ensures not.0 not.1
-    (stops g.H.Host.may g.H.Host.said (planned c.args.plan.now) b c.finish.new.host c.in-Err-finish.fault (c.in-Err-finish.ensures.stopped (planned c.args.plan.now) (course_for (planned c.args.plan.now) b) (end_awaits g.H.Host.now g.H.Host.may g.H.Host.clock g.H.Host.since g.H.Host.said (planned c.args.plan.now) b _ _ _ _ _ _ _ way _ _ (end_taken _ _ _ _ _ c.next.follows.holds-at-none _ c.in-Ok-End.is c.in-Ok-End.field-0-is))))
-
-pub returns-in-Ok-finish-clause-takes : goal.returns-in-Ok-finish-clause-takes
-returns-in-Ok-finish-clause-takes g c =
-    record {
-      done = no_more (read_out _ _ _ _ (end_taken _ _ _ _ _ c.next.follows.holds-at-none _ c.in-Ok-End.is c.in-Ok-End.field-0-is));
-      taken = λ start t. taken_on _ _ _ _ _ _ c.next.follows.holds-at-none t;
-      log = c.finish.ensures.log;
-      counts = record { later = c.next.ensures.later; disk_faults_grow = omega (arith, c.finish.ensures.disk_faults); out_faults_grow = c.finish.ensures.out_faults };
-    }
-
-pub returns-in-Err-finish-clause-takes : goal.returns-in-Err-finish-clause-takes
-returns-in-Err-finish-clause-takes g c =
-    record {
-      done = tt;
-      taken = λ start t. taken_on _ _ _ _ _ _ c.next.follows.holds-at-none t;
-      log = c.finish.ensures.log;
-      counts = record { later = c.next.ensures.later; disk_faults_grow = omega (arith, c.finish.ensures.disk_faults); out_faults_grow = c.finish.ensures.out_faults };
-    }
-
-pub returns-in-Ok-finish-clause-cause : goal.returns-in-Ok-finish-clause-cause
-returns-in-Ok-finish-clause-cause g c =
-    why_none g.H.Host.now g.H.Host.may g.H.Host.disk_faults g.H.Host.out_faults g.I.Source.faults (planned c.args.plan.now) _ _ c.args.turning.now.session _ _ _ _ _ _ _
-
-pub returns-in-Err-finish-clause-cause : goal.returns-in-Err-finish-clause-cause
-returns-in-Err-finish-clause-cause g c =
-    let not = end_others c.in-Err-finish.fault c.in-Err-finish.ensures.faults in
-    why_turn g.H.Host.now g.H.Host.may g.H.Host.disk_faults g.H.Host.out_faults g.I.Source.faults (planned c.args.plan.now) _ _ c.args.turning.now.session _ _ _ _ _ _ c.in-Err-finish.fault c.turn_fault-in-Err-finish.result c.turn_fault-in-Err-finish.ensures
-    (λ n runs is. not.0 n is)
-    (λ p placed is. not.1 p is)
-    (λ p is. absurd (not.1 p is))
-    (λ is. c.finish.ensures.write (c.in-Err-finish.is ∙ ap (λ v. Err v) is))
-    (λ is. c.finish.ensures.disk (c.in-Err-finish.is ∙ ap (λ v. Err v) is))
-
-pub returns-in-Err-Read-clause-goes : goal.returns-in-Err-Read-clause-goes
-returns-in-Err-Read-clause-goes g c =
-    λ b way. unread g.H.Host.now g.H.Host.may g.H.Host.clock g.H.Host.since g.H.Host.said (planned c.args.plan.now) b _ _ _ _ _ _ _ way g.met.H.Host.only_now g.met.H.Host.sinks _ _ _ reading.Read _ (inl refl) (none_taken _ _ _ _ _ c.next.follows.holds-at-none reading.Read (c.in-Err-Read.is ∙ ap (λ v. Err v) c.in-Err-Read.field-0-is)) (λ is. absurd (let e : ◌≡◌ {A = LineFault} reading.Read reading.Limit = is in cc))
-
-pub returns-in-Err-Read-clause-takes : goal.returns-in-Err-Read-clause-takes
-returns-in-Err-Read-clause-takes g c =
-    record {
-      done = tt;
-      taken = λ start t. taken_on _ _ _ _ _ _ c.next.follows.holds-at-none t;
-      log = (refl, refl);
-      counts = record { later = c.next.ensures.later; disk_faults_grow = omega arith; out_faults_grow = omega arith };
-    }
-
-pub returns-in-Err-Limit-clause-goes : goal.returns-in-Err-Limit-clause-goes
-returns-in-Err-Limit-clause-goes g c =
-    λ b way. unread g.H.Host.now g.H.Host.may g.H.Host.clock g.H.Host.since g.H.Host.said (planned c.args.plan.now) b _ _ _ _ _ _ _ way g.met.H.Host.only_now g.met.H.Host.sinks _ _ _ reading.Limit _ (inr refl) (none_taken _ _ _ _ _ c.next.follows.holds-at-none reading.Limit (c.in-Err-Limit.is ∙ ap (λ v. Err v) c.in-Err-Limit.field-0-is)) (λ is. refl)
-
-pub returns-in-Err-Limit-clause-takes : goal.returns-in-Err-Limit-clause-takes
-returns-in-Err-Limit-clause-takes g c =
-    record {
-      done = tt;
-      taken = λ start t. taken_on _ _ _ _ _ _ c.next.follows.holds-at-none t;
-      log = (refl, refl);
-      counts = record { later = c.next.ensures.later; disk_faults_grow = omega arith; out_faults_grow = omega arith };
-    }
-
-pub returns-in-Err-Read-clause-cause : goal.returns-in-Err-Read-clause-cause
-returns-in-Err-Read-clause-cause g c =
-    why_read g.H.Host.now g.H.Host.may g.H.Host.disk_faults g.H.Host.out_faults g.I.Source.faults (planned c.args.plan.now) _ _ c.args.turning.now.session _ _ _ _ _ _ (c.next.ensures.cause (c.in-Err-Read.is ∙ ap (λ v. Err v) c.in-Err-Read.field-0-is))
-
-pub returns-in-Err-Limit-clause-cause : goal.returns-in-Err-Limit-clause-cause
-returns-in-Err-Limit-clause-cause g c =
-    why_limit g.H.Host.now g.H.Host.may g.H.Host.disk_faults g.H.Host.out_faults g.I.Source.faults (planned c.args.plan.now) _ _ c.args.turning.now.session _ _ _ _ _ _ (past_limit _ _ _ _ (none_taken _ _ _ _ _ c.next.follows.holds-at-none reading.Limit (c.in-Err-Limit.is ∙ ap (λ v. Err v) c.in-Err-Limit.field-0-is)))
+    why_write g.H.Host.now g.H.Host.may g.H.Host.disk_faults g.H.Host.out_faults g.I.Source.faults (planned c.args.plan.now) _ _ c.args.turning.now.session _ _ _ _ _ _ c.in-Err.fault c.in-Err.ensures.goes.faults (c.in-Err.ensures.goes.write (ap (λ f. Err f) c.in-Err.ensures.goes.faults))

@@ -1,38 +1,86 @@
-use Rattle.std.proofs.Common.{◌∙◌}
+use Rattle.std.proofs.Common.{Option, List, [], ℕ, inr, sym, ◌∙◌, subst}
+use Rattle.rg_host.specs.Image.{Image}
+use Rattle.rg_host.proofs.Runs.{moments_then}
+use Rattle.rg_frame.specs.LogState.{ReachesEnd}
+use Rattle.rg_reservoir.specs.Kept.{log_of}
+use Rattle.rg_course.specs.Stores.{StaysOnCourse}
+use Rattle.rg_open.specs.Stores.{store_of}
+use Rattle.rg_turn.specs.Turning.{IsMidTurn}
+use Rattle.rg_turn.proofs.Gathering.{mid_held, mid_put, held_moments}
+use Rattle.rg_turn.proofs.Nodes.{node_still, placed_still}
+use Rattle.rg_turn.proofs.Still.{running_still}
 use Rattle.rg_turn.proofs.Saving.{count_stays, due_saved, save_done}
 use Rattle.rg_turn.proofs.Stepping.{due_steps, has_stopped}
 use Rattle.rg_turn.proofs.save.save_all.Goals as goal
 
-pub returns-in-Ok-clause-moments : goal.returns-in-Ok-clause-moments
-returns-in-Ok-clause-moments g c = λ plan course offset item items events begun begun_keep start m.
-    let s = c.args.session.now in
-    (due_steps g.H.Host.now g.H.Host.may g.H.Host.clock g.H.Host.since g.H.Host.said plan course offset item items (g.T.Table.tells s.engine.table) (g.T.Table.cell s.engine.table) events begun begun_keep start c.args.host.now c.save.new.host s m
-    (c.save.ensures.within_step plan m.running)).moments
-
-pub returns-in-Ok-clause-mid_turn : goal.returns-in-Ok-clause-mid_turn
-returns-in-Ok-clause-mid_turn g c = λ plan course offset item items events begun begun_keep start m.
-    let s = c.args.session.now in
-    let then = c.save.new.self in
-    due_saved g.H.Host.now g.H.Host.may g.H.Host.said plan course offset item items (g.T.Table.tells s.engine.table) (g.T.Table.tells then.engine.table) (g.T.Table.cell s.engine.table) (g.T.Table.cell then.engine.table)
-    events begun begun_keep start c.args.host.now c.save.new.host s then m (c.in-Ok.ensures.running plan m.running) c.save.ensures.said (c.in-Ok.ensures.stored plan m.running) (c.in-Ok.ensures.events plan m.running) c.in-Ok.ensures.saved c.in-Ok.ensures.kept
-
-pub returns-in-Ok-clause-done : goal.returns-in-Ok-clause-done
-returns-in-Ok-clause-done g c = λ plan runs.
-    let then = c.save.new.self in
-    save_done plan (g.H.Host.now c.save.new.host) (g.H.Host.may c.save.new.host) (g.T.Table.tells then.engine.table) (g.T.Table.cell then.engine.table) then (c.in-Ok.ensures.running plan runs) c.in-Ok.ensures.saved c.in-Ok.ensures.kept
-
-pub returns-in-Ok-clause-count : goal.returns-in-Ok-clause-count
-returns-in-Ok-clause-count g c = λ plan runs. count_stays (g.H.Host.now c.args.host.now) (g.H.Host.now c.save.new.host) c.args.session.now c.save.new.self (c.in-Ok.ensures.events plan runs)
+pub save-requires : goal.save-requires
+save-requires g c = record { reaches = λ going. subst (λ (o : Option Image). ReachesEnd (log_of c.args.session.now.reservoir) o) (sym c.put_gathered.ensures.leaves.now_stays) (c.requires.reaches going) }
 
 pub returns-in-Err-clause-moments : goal.returns-in-Err-clause-moments
 returns-in-Err-clause-moments g c = λ plan course offset item items events begun begun_keep start m.
     let s = c.args.session.now in
-    (due_steps g.H.Host.now g.H.Host.may g.H.Host.clock g.H.Host.since g.H.Host.said plan course offset item items (g.T.Table.tells s.engine.table) (g.T.Table.cell s.engine.table) events begun begun_keep start c.args.host.now c.save.new.host s m
-    (c.save.ensures.within_step plan m.running)).moments
+    let h = c.args.host.now in
+    let put = c.put_gathered.new.host in
+    held_moments g.H.Host.now g.H.Host.may g.H.Host.clock g.H.Host.since g.H.Host.said plan course h put c.args.gathered.now.items (mid_held plan course offset (g.H.Host.now h) (g.H.Host.may h) (g.H.Host.said h) c.args.gathered.now.items (g.T.Table.tells s.engine.table) (g.T.Table.cell s.engine.table) s item items events begun begun_keep (g.H.Host.may start) m) c.put_gathered.ensures.leaves c.put_gathered.ensures.part
 
-pub returns-in-Err-clause-stopped : goal.returns-in-Err-clause-stopped
-returns-in-Err-clause-stopped g c = λ plan course offset item items events begun begun_keep start m.
+pub returns-in-Err-clause-reaches : goal.returns-in-Err-clause-reaches
+returns-in-Err-clause-reaches g c = λ going. subst (λ (o : Option Image). ReachesEnd (log_of c.args.session.now.reservoir) o) (sym c.put_gathered.ensures.leaves.now_stays) (c.requires.reaches going)
+
+pub returns-in-Ok-save-clause-moments : goal.returns-in-Ok-save-clause-moments
+returns-in-Ok-save-clause-moments g c = λ plan course offset item items events begun begun_keep start m.
     let s = c.args.session.now in
-    has_stopped g.H.Host.clock g.H.Host.since g.H.Host.may plan course (g.H.Host.said c.save.new.host) c.args.host.now c.save.new.host m.put (c.save.ensures.said ∙ m.told)
-    (due_steps g.H.Host.now g.H.Host.may g.H.Host.clock g.H.Host.since g.H.Host.said plan course offset item items (g.T.Table.tells s.engine.table) (g.T.Table.cell s.engine.table) events begun begun_keep start c.args.host.now c.save.new.host s m
-    (c.save.ensures.within_step plan m.running))
+    let h = c.args.host.now in
+    let put = c.put_gathered.new.host in
+    let m2 = mid_put g.H.Host.now g.H.Host.may g.H.Host.clock g.H.Host.since g.H.Host.said plan course offset (g.T.Table.tells s.engine.table) (g.T.Table.cell s.engine.table) h put c.args.gathered.now.items s c.put_gathered.ensures.leaves c.in-Ok.ensures.all item items events begun begun_keep (g.H.Host.may start) m in
+    let P = StaysOnCourse (store_of plan) course [] in
+    moments_then g.H.Host.clock g.H.Host.since h put c.save.new.host P P P (held_moments g.H.Host.now g.H.Host.may g.H.Host.clock g.H.Host.since g.H.Host.said plan course h put c.args.gathered.now.items (mid_held plan course offset (g.H.Host.now h) (g.H.Host.may h) (g.H.Host.said h) c.args.gathered.now.items (g.T.Table.tells s.engine.table) (g.T.Table.cell s.engine.table) s item items events begun begun_keep (g.H.Host.may start) m) c.put_gathered.ensures.leaves c.put_gathered.ensures.part) (due_steps g.H.Host.now g.H.Host.may g.H.Host.clock g.H.Host.since g.H.Host.said plan course offset item items (g.T.Table.tells s.engine.table) (g.T.Table.cell s.engine.table) events begun begun_keep start put c.save.new.host s m2 (c.save.ensures.within_step plan m2.running)).moments (λ w p. p) (λ w p. p)
+
+pub returns-in-Err-save-clause-moments : goal.returns-in-Err-save-clause-moments
+returns-in-Err-save-clause-moments g c = λ plan course offset item items events begun begun_keep start m.
+    let s = c.args.session.now in
+    let h = c.args.host.now in
+    let put = c.put_gathered.new.host in
+    let m2 = mid_put g.H.Host.now g.H.Host.may g.H.Host.clock g.H.Host.since g.H.Host.said plan course offset (g.T.Table.tells s.engine.table) (g.T.Table.cell s.engine.table) h put c.args.gathered.now.items s c.put_gathered.ensures.leaves c.in-Ok.ensures.all item items events begun begun_keep (g.H.Host.may start) m in
+    let P = StaysOnCourse (store_of plan) course [] in
+    moments_then g.H.Host.clock g.H.Host.since h put c.save.new.host P P P (held_moments g.H.Host.now g.H.Host.may g.H.Host.clock g.H.Host.since g.H.Host.said plan course h put c.args.gathered.now.items (mid_held plan course offset (g.H.Host.now h) (g.H.Host.may h) (g.H.Host.said h) c.args.gathered.now.items (g.T.Table.tells s.engine.table) (g.T.Table.cell s.engine.table) s item items events begun begun_keep (g.H.Host.may start) m) c.put_gathered.ensures.leaves c.put_gathered.ensures.part) (due_steps g.H.Host.now g.H.Host.may g.H.Host.clock g.H.Host.since g.H.Host.said plan course offset item items (g.T.Table.tells s.engine.table) (g.T.Table.cell s.engine.table) events begun begun_keep start put c.save.new.host s m2 (c.save.ensures.within_step plan m2.running)).moments (λ w p. p) (λ w p. p)
+
+pub returns-in-Err-save-clause-stopped : goal.returns-in-Err-save-clause-stopped
+returns-in-Err-save-clause-stopped g c = λ plan course offset item items events begun begun_keep start m.
+    let s = c.args.session.now in
+    let h = c.args.host.now in
+    let put = c.put_gathered.new.host in
+    let m2 = mid_put g.H.Host.now g.H.Host.may g.H.Host.clock g.H.Host.since g.H.Host.said plan course offset (g.T.Table.tells s.engine.table) (g.T.Table.cell s.engine.table) h put c.args.gathered.now.items s c.put_gathered.ensures.leaves c.in-Ok.ensures.all item items events begun begun_keep (g.H.Host.may start) m in
+    inr (has_stopped g.H.Host.clock g.H.Host.since g.H.Host.may plan course (g.H.Host.said c.save.new.host) put c.save.new.host m2.put (c.save.ensures.said ∙ m2.told) (due_steps g.H.Host.now g.H.Host.may g.H.Host.clock g.H.Host.since g.H.Host.said plan course offset item items (g.T.Table.tells s.engine.table) (g.T.Table.cell s.engine.table) events begun begun_keep start put c.save.new.host s m2 (c.save.ensures.within_step plan m2.running)))
+
+pub returns-in-Ok-save-clause-mid_turn : goal.returns-in-Ok-save-clause-mid_turn
+returns-in-Ok-save-clause-mid_turn g c = λ plan course offset item items events begun begun_keep start m.
+    let s = c.args.session.now in
+    let h = c.args.host.now in
+    let put = c.put_gathered.new.host in
+    let then = c.save.new.self in
+    let last = c.save.new.host in
+    let m2 = mid_put g.H.Host.now g.H.Host.may g.H.Host.clock g.H.Host.since g.H.Host.said plan course offset (g.T.Table.tells s.engine.table) (g.T.Table.cell s.engine.table) h put c.args.gathered.now.items s c.put_gathered.ensures.leaves c.in-Ok.ensures.all item items events begun begun_keep (g.H.Host.may start) m in
+    subst (λ (l : List ℕ). IsMidTurn plan course offset item items events begun begun_keep (g.H.Host.may start) (g.H.Host.now last) (g.H.Host.may last) (g.H.Host.said last) l (g.T.Table.tells then.engine.table) (g.T.Table.cell then.engine.table) then) (sym c.put_gathered.ensures.empty)
+    (due_saved g.H.Host.now g.H.Host.may g.H.Host.said plan course offset item items (g.T.Table.tells s.engine.table) (g.T.Table.tells then.engine.table) (g.T.Table.cell s.engine.table) (g.T.Table.cell then.engine.table)
+    events begun begun_keep start put last s then m2 (c.in-Ok-save.ensures.running plan m2.running) c.save.ensures.said (c.in-Ok-save.ensures.stored plan m2.running) (c.in-Ok-save.ensures.events plan m2.running) c.in-Ok-save.ensures.saved c.in-Ok-save.ensures.kept)
+
+pub returns-in-Ok-save-clause-node : goal.returns-in-Ok-save-clause-node
+returns-in-Ok-save-clause-node g c = λ plan n runs.
+    let s = c.args.session.now in
+    c.in-Ok-save.ensures.node plan n (node_still g.H.Host.now g.H.Host.may g.H.Host.clock g.H.Host.since plan n (g.T.Table.tells s.engine.table) (g.T.Table.cell s.engine.table) s.reservoir s.engine c.args.host.now c.put_gathered.new.host c.put_gathered.ensures.leaves runs)
+
+pub returns-in-Ok-save-clause-placed : goal.returns-in-Ok-save-clause-placed
+returns-in-Ok-save-clause-placed g c = λ plan placed.
+    let s = c.args.session.now in
+    c.in-Ok-save.ensures.placed plan (placed_still g.H.Host.now g.H.Host.may g.H.Host.clock g.H.Host.since plan s.reservoir s.engine c.args.host.now c.put_gathered.new.host c.put_gathered.ensures.leaves placed)
+
+pub returns-in-Ok-save-clause-done : goal.returns-in-Ok-save-clause-done
+returns-in-Ok-save-clause-done g c = λ plan runs.
+    let s = c.args.session.now in
+    let then = c.save.new.self in
+    save_done plan (g.H.Host.now c.save.new.host) (g.H.Host.may c.save.new.host) (g.T.Table.tells then.engine.table) (g.T.Table.cell then.engine.table) then (c.in-Ok-save.ensures.running plan (running_still g.H.Host.now g.H.Host.may g.H.Host.clock g.H.Host.since plan (g.T.Table.tells s.engine.table) (g.T.Table.cell s.engine.table) c.args.host.now c.put_gathered.new.host s c.put_gathered.ensures.leaves runs)) c.in-Ok-save.ensures.saved c.in-Ok-save.ensures.kept
+
+pub returns-in-Ok-save-clause-count : goal.returns-in-Ok-save-clause-count
+returns-in-Ok-save-clause-count g c = λ plan runs.
+    let s = c.args.session.now in
+    count_stays (g.H.Host.now c.put_gathered.new.host) (g.H.Host.now c.save.new.host) s c.save.new.self (c.in-Ok-save.ensures.events plan (running_still g.H.Host.now g.H.Host.may g.H.Host.clock g.H.Host.since plan (g.T.Table.tells s.engine.table) (g.T.Table.cell s.engine.table) c.args.host.now c.put_gathered.new.host s c.put_gathered.ensures.leaves runs))

@@ -1,5 +1,5 @@
 -- What stands at a place, by what was read there.
-use Rattle.std.proofs.Common.{◌≡◌, ◌∙◌, ℕ, ◌+◌, ◌^◌, ◌<◌, List, ◌++◌, length, Some, None, refl, ap, subst, arith, length-append, length-drop}
+use Rattle.std.proofs.Common.{◌≡◌, ◌∙◌, ℕ, ◌+◌, ◌^◌, ◌<◌, List, ◌++◌, length, Some, None, refl, ap, subst, inl, inr, slice_index, ◌≤◌, arith, length-append, length-drop}
 use Rattle.rg_event.specs.declared.event.Event.{Event}
 use Rattle.rg_event.specs.declared.schema.Field.{Field}
 use Rattle.rg_frame.specs.Frames.{body}
@@ -26,6 +26,14 @@ fetch_bad fields place next payload bytes holds small is said = record {
   longer = omega (arith, ap length holds.is, length-drop place bytes, length-append (body payload) holds.rest, holds.more);
   none = ap (chunk_in fields place) (holds_payload place payload bytes holds (omega (arith, small, is))) ∙ rw said refl;
 }
+
+-- at a place where a chunk stands, and at one without an open gate, nothing is illegal
+pub chunk_legal : (fields : List Field) (place next : ℕ) (chunk : List Event) (bytes : List ℕ) → chunk_at fields place bytes ≡ Some (chunk, next) → IsIllegal fields place bytes → ⊥
+chunk_legal fields place next chunk bytes here bad = some_none (chunk_at fields place bytes) (chunk, next) here bad.none
+
+pub closed_legal : (fields : List Field) (place : ℕ) (bytes : List ℕ) → IsClosed place bytes → IsIllegal fields place bytes → ⊥
+closed_legal fields place bytes (inl short) bad = omega (arith, short, bad.longer)
+closed_legal fields place bytes (inr other) bad = other (ap (λ (l : List ℕ). slice_index l 0) bad.is)
 
 -- a place where a chunk stands isn't damaged
 pub never_illegal : (fields : List Field) (place next p : ℕ) (chunk : List Event) (bytes : List ℕ) → chunk_at fields place bytes ≡ Some (chunk, next) → p ≡ place → IsIllegal fields p bytes → ⊥

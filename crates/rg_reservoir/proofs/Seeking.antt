@@ -9,7 +9,7 @@ use Rattle.rg_past.specs.declared.past.Spot.{Spot}
 use Rattle.rg_cache.specs.Cache.{Cache, item_at}
 use Rattle.rg_reservoir.specs.declared.kept.Kept.{Kept}
 use Rattle.rg_log.specs.Log.{joined}
-use Rattle.rg_reservoir.specs.Chain.{chunk_at, Chain, padded}
+use Rattle.rg_reservoir.specs.Chain.{chunk_at, Chain, padded, IsIllegal}
 use Rattle.rg_reservoir.specs.Kept.{Base, stored, all_events, IsCached, IsInside, IsAbsent, IsRight, InChunk, InFront, InOpen, count_of, Spells, seen_in, seen, next_in, Found}
 use Rattle.rg_reservoir.proofs.Fetching.{fetch_none}
 use Rattle.rg_reservoir.proofs.Committing.{chain_behind}
@@ -177,6 +177,9 @@ cached_same F G f g v cache fields file cached = subst (λ (n : ℕ). IsCached G
 pub absent_same : (F G : List Field) (f g d e : ℕ) (v : Image) (place : ℕ) → F ≡ G → f ≡ g → d ≡ e → IsAbsent F place d (v f) → IsAbsent G place e (v g)
 absent_same F G f g d e v place fields file end absent =
     subst (λ (m : ℕ). IsAbsent G place m (v g)) end (subst (λ (n : ℕ). IsAbsent G place d (v n)) file (subst (λ (l : List Field). IsAbsent l place d (v f)) fields absent))
+
+pub illegal_same : (F G : List Field) (f g : ℕ) (v : Image) (place : ℕ) → F ≡ G → f ≡ g → IsIllegal F place (v f) → IsIllegal G place (v g)
+illegal_same F G f g v place fields file bad = subst (λ (n : ℕ). IsIllegal G place (v n)) file (subst (λ (l : List Field). IsIllegal l place (v f)) fields bad)
 
 pub inside_others : (end : ℕ) (old new : Cache Kept) (place : ℕ) (kept : Kept) → kept.next ≤ end → ((q : ℕ) (x : Kept) → item_at q new ≡ Some x → ((q ≡ place) × (x ≡ kept)) ⊎ (item_at q old ≡ Some x)) → IsInside end old → IsInside end new
 inside_others end old new place kept le others was q x held = elim (others q x held) [

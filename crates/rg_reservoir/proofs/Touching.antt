@@ -1,5 +1,6 @@
 -- The places that a look touches.
 use Rattle.std.proofs.Common.{◌≡◌, ◌∙◌, ℕ, ◌≤◌, ◌<◌, ◌==◌, Bool, true, false, List, [], ◌∷◌, ◌++◌, reverse, length, Some, None, refl, sym, ap, arith, append_assoc}
+use Rattle.rg_event.specs.declared.event.Event.{Event}
 use Rattle.rg_event.specs.declared.schema.Field.{Field}
 use Rattle.rg_past.specs.declared.past.Spot.{Spot}
 use Rattle.rg_cache.specs.Cache.{Cache, item_at, places, least_recently_used, touches}
@@ -84,3 +85,14 @@ two_touched b bytes spot n old mid new loads reads loads_mid reads_mid loads_the
   no_fewer = omega arith;
   no_more = λ _. refl;
 }
+
+-- a spot behind the last event of a chunk has that chunk's next place, and no other
+pub is_behind : (fields : List Field) (bytes : List ℕ) (place index n : ℕ) (chunk : List Event) (next : ℕ) → next_place (chunk_at fields place bytes) index ≡ n ∷ [] → chunk_at fields place bytes ≡ Some (chunk, next) → index ≡ length chunk → next ≡ n
+is_behind fields bytes place index n chunk next one at is =
+    let e : next ∷ [] ≡ n ∷ [] = sym (if_true _ _ _ (eq_true index (length chunk) is)) ∙ sym (ap (λ o. next_place o index) at) ∙ one in
+    cc
+
+pub none_behind : (fields : List Field) (bytes : List ℕ) (place index : ℕ) (chunk : List Event) (next : ℕ) → next_place (chunk_at fields place bytes) index ≡ [] → chunk_at fields place bytes ≡ Some (chunk, next) → index ≡ length chunk → ⊥
+none_behind fields bytes place index chunk next none at is =
+    let e : next ∷ [] ≡ [] = sym (if_true _ _ _ (eq_true index (length chunk) is)) ∙ sym (ap (λ o. next_place o index) at) ∙ none in
+    cc

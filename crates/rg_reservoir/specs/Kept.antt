@@ -16,7 +16,7 @@ use Rattle.rg_bytes.specs.Counts.{Rose}
 use Rattle.rg_cache.specs.Cache.{Cache, item_at, holds_place, places, least_recently_used, touches}
 use Rattle.rg_chunk.specs.Chunks.{chunk_bytes}
 use Rattle.rg_log.specs.Log.{joined, HasEvents, HasSchemaFrame}
-use Rattle.rg_reservoir.specs.Chain.{chunk_at, Chain, events_from, padded, IsFirst}
+use Rattle.rg_reservoir.specs.Chain.{chunk_at, Chain, events_from, padded, IsFirst, IsIllegal}
 use Rattle.rg_reservoir.specs.declared.kept.Kept.{Kept}
 use Rattle.rg_reservoir.specs.declared.reservoir.Reservoir.{Reservoir}
 
@@ -187,6 +187,11 @@ next_place None index = []
 -- the places that a look at a spot touches
 abbrev pub look_places : Base → List ℕ → Spot → List ℕ
 look_places b bytes spot = if nat_le b.committed spot.number then [] else spot.place ∷ next_place (chunk_at b.shape.fields spot.place bytes) spot.index
+
+-- no illegal chunk stands at the spot's place, nor, where the spot is behind the last event of a chunk that lies within the log, at the next place
+pub record IsLegalLook (b : Base) (bytes : List ℕ) (spot : Spot) : Type 0 where
+  pub here : IsIllegal b.shape.fields spot.place bytes → ⊥
+  pub behind : (chunk : List Event) (next : ℕ) → chunk_at b.shape.fields spot.place bytes ≡ Some (chunk, next) → next ≤ b.end → spot.index ≡ length chunk → IsIllegal b.shape.fields next bytes → ⊥
 
 -- the places that are held after these touches
 abbrev pub held_after : Cache Kept → List ℕ → List ℕ

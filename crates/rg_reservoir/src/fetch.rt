@@ -4,6 +4,7 @@ ghost use Rattle.rg_bytes.specs.Counts.{Rose};
 ghost use Rattle.rg_host.specs.Image.{Image};
 ghost use Rattle.rg_host.specs.Moments.{LeavesAll};
 ghost use Rattle.rg_event.specs.declared.event.Event.{Event};
+ghost use Rattle.rg_frame.specs.Looks.{IsClosed};
 ghost use Rattle.rg_reservoir.specs.Chain.{chunk_at, IsIllegal};
 
 use crate::fault::ReservoirFault;
@@ -14,7 +15,8 @@ use rg_frame::FrameLog;
 use rg_host::Host;
 use std::alloc::Global;
 
-/// Reads the chunk at a place. Where one stands there, the place isn't refused as damaged.
+/// Reads the chunk at a place. Where one stands there, the place isn't refused as damaged; and there is none
+/// only where no open gate stands there: an open frame that isn't a chunk is refused.
 pub fn fetch<H: Host>(
     alloc: Global,
     schema: &Schema,
@@ -23,7 +25,7 @@ pub fn fetch<H: Host>(
     place: u64,
 ) -> Result<Option<Kept>, ReservoirFault>
     ensures some { IfOk result (λ r. IfSome r (λ kept. ForSome (H.now host.old) (λ v. chunk_at schema.now.fields place (v log.now.file) ≡ Some (kept.chunk, kept.next)))) }
-    ensures none { IfOk result (λ r. IfNone r (ForSome (H.now host.old) (λ v. chunk_at schema.now.fields place (v log.now.file) ≡ None))) }
+    ensures none { IfOk result (λ r. IfNone r (ForSome (H.now host.old) (λ v. IsClosed place (v log.now.file)))) }
     ensures damaged { (p : ℕ) → IsErrOf result (ReservoirFault.Damaged p) → ForSome (H.now host.old) (λ v. IsIllegal schema.now.fields p (v log.now.file)) }
     ensures never_damaged { (v : Image) (chunk : List Event) (next p : ℕ) → H.now host.old ≡ Some v → chunk_at schema.now.fields place (v log.now.file) ≡ Some (chunk, next) → IsErrOf result (ReservoirFault.Damaged p) → ⊥ }
     ensures leaves { LeavesAll H.now H.may H.clock H.since H.said host.old host.new }

@@ -99,7 +99,7 @@ fn are_within(spots: &[Spot], committed: u64) -> bool
 
 impl Reservoir {
     ghost use Rattle.rg_reservoir.specs.Ends.{ends_looked};
-    ghost use Rattle.rg_reservoir.specs.Kept.{base, opened, room_of, log_of, cache_of, loads_of, next_of as the_next_of, time_of, all_events, CommittedOrAll, IsCached, IsSound, Spells, SpellsLater, Found, Stays, next_in, seen, look_places, held_after, IsTouched, AllTouched, IsInside, IsAbsent, Adds, Added};
+    ghost use Rattle.rg_reservoir.specs.Kept.{base, opened, room_of, log_of, cache_of, loads_of, next_of as the_next_of, time_of, all_events, CommittedOrAll, IsCached, IsSound, Spells, SpellsLater, Found, Stays, next_in, seen, look_places, held_after, IsTouched, AllTouched, IsInside, IsAbsent, IsLegalLook, Adds, Added};
 
     /// A reservoir over the log of file 2, with room for `room.chunk` events in its open chunk, 1 to
     /// 4,096, for `room.cache` chunks in memory, 1 to 1,024, and for `room.limit` events in all, at
@@ -254,6 +254,7 @@ impl Reservoir {
         ensures cached { (v : Image) → H.now host.old ≡ Some v → IsCached (base self.old).shape.fields (v (base self.old).file) (cache_of self.old) → IsCached (base self.old).shape.fields (v (base self.old).file) (cache_of self.new) }
         ensures held { IfOk result (λ found. IsTrue found → (kept : Kept) × (item_at place (cache_of self.new) ≡ Some kept)) }
         ensures absent { IfOk result (λ found. found ≡ false → ForSome (H.now host.old) (λ v. IsAbsent (base self.old).shape.fields place (base self.old).end (v (base self.old).file))) }
+        ensures legal { (v : Image) → H.now host.old ≡ Some v → IsCached (base self.old).shape.fields (v (base self.old).file) (cache_of self.old) → OnOk result (IsIllegal (base self.old).shape.fields place (v (base self.old).file) → ⊥) }
         ensures inside { IsInside (base self.old).end (cache_of self.old) → IsInside (base self.old).end (cache_of self.new) }
         ensures places { IfOk result (λ found. IsTrue found → places (cache_of self.new) ≡ least_recently_used (cache_of self.old).cap (touches (cache_of self.old) (place ∷ []))) }
         ensures left { IfOk result (λ found. found ≡ false → (cache_of self.new ≡ cache_of self.old) × (loads_of self.new ≡ loads_of self.old)) }
@@ -315,6 +316,7 @@ impl Reservoir {
         ensures stays { Stays self.old self.new }
         ensures cached { (v : Image) → H.now host.old ≡ Some v → IsCached (base self.old).shape.fields (v (base self.old).file) (cache_of self.old) → IsCached (base self.old).shape.fields (v (base self.old).file) (cache_of self.new) }
         ensures inside { IsInside (base self.old).end (cache_of self.old) → IsInside (base self.old).end (cache_of self.new) }
+        ensures legal { (v : Image) → H.now host.old ≡ Some v → IsCached (base self.old).shape.fields (v (base self.old).file) (cache_of self.old) → spot.old.number < (base self.old).committed → OnOk result (IsLegalLook (base self.old) (v (base self.old).file) spot.old) }
         ensures number { spot.new.number ≡ spot.old.number }
         ensures placed { OnOk result ((base self.old).committed ≤ spot.new.number → spot.new.number ≡ (base self.old).committed + spot.new.index) }
         ensures spelled { IsSound (H.now host.old) (H.may host.old) self.old → Spells (H.now host.old) (base self.old) (opened self.old) spot.old → Spells (H.now host.old) (base self.old) (opened self.old) spot.new }
@@ -385,6 +387,9 @@ impl Reservoir {
         ensures ended { IsErrOf result ReservoirFault.Ended ↔ ((base self.old).ended ≡ true) }
         ensures damaged { (p : ℕ) → IsErrOf result (ReservoirFault.Damaged p) → ForSome (H.now host.old) (λ v. IsIllegal (base self.old).shape.fields p (v (base self.old).file)) }
         ensures never_damaged { (p : ℕ) → IsSound (H.now host.old) (H.may host.old) self.old → Spells (H.now host.old) (base self.old) (opened self.old) spot.old → IsErrOf result (ReservoirFault.Damaged p) → ⊥ }
+
+        // A chunk whose inside is illegal is refused, over any log: it is never taken for the end of the past.
+        ensures legal { (v : Image) → H.now host.old ≡ Some v → IsCached (base self.old).shape.fields (v (base self.old).file) (cache_of self.old) → spot.old.number < (base self.old).committed → OnOk result (IsLegalLook (base self.old) (v (base self.old).file) spot.old) }
         ensures disk { IsErrOf result ReservoirFault.Disk → Rose (H.disk_faults host.old) (H.disk_faults host.new) }
         ensures faults { IfErr result (λ fault. (fault ≡ ReservoirFault.Disk) ⊎ (fault ≡ ReservoirFault.Memory) ⊎ ((p : ℕ) × (fault ≡ ReservoirFault.Damaged p)) ⊎ (fault ≡ ReservoirFault.Ended)) }
 

@@ -20,6 +20,7 @@ returns-in-Err g c = (
     ended = (λ e. c.in-Err.ensures.ended.0 (err_moves c.in-Err.fault Ended e), λ e. err_moves c.in-Err.fault Ended (c.in-Err.ensures.ended.1 e));
     damaged = λ p e. c.in-Err.ensures.damaged p (err_moves c.in-Err.fault (Damaged p) e);
     never_damaged = λ p sound spells e. c.in-Err.ensures.never_damaged p sound spells (err_moves c.in-Err.fault (Damaged p) e);
+    legal = λ _ _ _ _. tt;
     disk = λ e. c.in-Err.ensures.disk (err_moves c.in-Err.fault Disk e);
     faults = c.in-Err.ensures.faults;
     untouched = λ going far. let k = c.in-Err.ensures.untouched going far in absurd k.0;
@@ -44,6 +45,7 @@ returns g c = (
     ended = (λ e. absurd (ok_not_err c.at.result Ended e), λ e. absurd (ok_not_err tt Ended (c.in-Ok.ensures.ended.1 e)));
     damaged = λ p e. absurd (ok_not_err c.at.result (Damaged p) e);
     never_damaged = λ p sound spells e. ok_not_err c.at.result (Damaged p) e;
+    legal = c.in-Ok.ensures.legal;
     disk = λ e. absurd (ok_not_err c.at.result Disk e);
     faults = tt;
     untouched = λ going far. (tt, (c.seek.ensures.untouched going far).2);

@@ -4,11 +4,13 @@ use Rattle.rg_host.specs.Image.{Image}
 use Rattle.rg_cache.specs.Cache.{item_at, places, least_recently_used, touches}
 use Rattle.rg_reservoir.specs.declared.kept.Kept.{Kept}
 use Rattle.rg_reservoir.specs.declared.fault.ReservoirFault.TheVariants.{Damaged}
-use Rattle.rg_reservoir.specs.Chain.{chunk_at}
+use Rattle.rg_event.specs.declared.event.Event.{Event}
+use Rattle.rg_reservoir.specs.Chain.{chunk_at, IsIllegal}
 use Rattle.rg_reservoir.specs.Kept.{Base, base, IsCached, IsAbsent, next_in, look_places, held_after, OneTouch, AllTouched}
-use Rattle.rg_reservoir.proofs.Seeking.{cached_same, absent_same, one_image, before_end, found_open, found_here, found_next, turn, near}
+use Rattle.rg_reservoir.proofs.Fetching.{chunk_legal}
+use Rattle.rg_reservoir.proofs.Seeking.{cached_same, illegal_same, next_some, absent_same, one_image, before_end, found_open, found_here, found_next, turn, near}
 use Rattle.rg_reservoir.proofs.Peeking.{err_moves}
-use Rattle.rg_reservoir.proofs.Touching.{none_touched, one_touched, two_touched, two_places, asks_one, asks_next, look_one, look_two, look_far}
+use Rattle.rg_reservoir.proofs.Touching.{none_touched, one_touched, two_touched, two_places, asks_one, asks_next, look_one, look_two, look_far, no_next, one_next, is_behind, none_behind}
 use Rattle.rg_reservoir.proofs.reservoir.Reservoir.seek.Goals as goal
 
 pub returns-then-spot-self-clause-finds : goal.returns-then-spot-self-clause-finds
@@ -360,3 +362,67 @@ returns-in-Err-touch-clause-never_damaged g c =
     let f = turn (g.H.Host.now c.args.host.now) v (g.H.Host.may c.args.host.now) (base c.args.self.now) c.args.self.now.open.events c.args.self.now.next_offset c.args.self.now.last_time c.args.self.now.cache c.touch.new.self.cache c.args.spot.now c.in-Some.next told right spells lt mid turns in
     let here = ap (λ (b : Base). chunk_at b.shape.fields c.in-Some.next (v b.file)) c.touch.ensures.stays.base ∙ f.chunk.here in
     c.in-Err-touch.ensures.never_damaged v f.chunk.chunk f.chunk.next p (c.touch.ensures.leaves.now_stays ∙ told) here (err_moves c.in-Err-touch.fault (Damaged p) e)
+
+pub returns-then-spot-self-clause-legal : goal.returns-then-spot-self-clause-legal
+returns-then-spot-self-clause-legal g c = λ v told was lt. absurd (omega (arith, c.if-spot-self.true, lt))
+
+pub returns-in-Ok-false-clause-legal : goal.returns-in-Ok-false-clause-legal
+returns-in-Ok-false-clause-legal g c = λ v told was lt.
+    let absent : IsAbsent c.args.self.now.schema.fields c.args.spot.now.place c.args.self.now.log.end (v c.args.self.now.log.file) = c.in-Ok-false.ensures.absent c.in-Ok-false.field-0-test v told in
+    record {
+      here = c.in-Ok-false.ensures.legal v told was;
+      behind = λ chunk next at within is. absurd (omega (arith, within, absent chunk next at));
+    }
+
+pub returns-in-None-clause-legal : goal.returns-in-None-clause-legal
+returns-in-None-clause-legal g c = λ v told was lt.
+    let self = c.args.self.now in
+    let fields = self.schema.fields in
+    let bytes = v self.log.file in
+    let place = c.args.spot.now.place in
+    let index = c.args.spot.now.index in
+    let mid : IsCached fields bytes c.touch.new.self.cache = c.touch.ensures.cached v told was in
+    let h : (kept : Kept) × (item_at place c.touch.new.self.cache ≡ Some kept) = search rules in
+    let stays : next_in (item_at place c.touch.new.self.cache) index ≡ None = search rules in
+    record {
+      here = chunk_legal fields place h.0.next h.0.chunk bytes (mid place h.0 h.1);
+      behind = λ chunk next at within is. absurd (none_behind fields bytes place index chunk next (no_next fields bytes c.touch.new.self.cache place index h.0 mid h.1 stays) at is);
+    }
+
+pub returns-in-Ok-false-touch-clause-legal : goal.returns-in-Ok-false-touch-clause-legal
+returns-in-Ok-false-touch-clause-legal g c = λ v told was lt.
+    let self = c.args.self.now in
+    let fields = self.schema.fields in
+    let bytes = v self.log.file in
+    let place = c.args.spot.now.place in
+    let index = c.args.spot.now.index in
+    let mid : IsCached fields bytes c.touch.new.self.cache = c.touch.ensures.cached v told was in
+    let eqF = ap (λ (b : Base). b.shape.fields) c.touch.ensures.stays.base in
+    let eqf = ap (λ (b : Base). b.file) c.touch.ensures.stays.base in
+    let turns : next_in (item_at place c.touch.new.self.cache) index ≡ Some c.in-Some.next = search rules in
+    let k = next_some (item_at place c.touch.new.self.cache) index c.in-Some.next turns in
+    let second = c.in-Ok-false-touch.ensures.legal v (c.touch.ensures.leaves.now_stays ∙ told) (cached_same _ _ _ _ v c.touch.new.self.cache (sym eqF) (sym eqf) mid) in
+    let moved : IsIllegal fields c.in-Some.next bytes → ⊥ = λ bad. second (illegal_same _ _ _ _ v c.in-Some.next (sym eqF) (sym eqf) bad) in
+    record {
+      here = chunk_legal fields place k.0.next k.0.chunk bytes (mid place k.0 k.1);
+      behind = λ chunk next at within is bad. moved (subst (λ (q : ℕ). IsIllegal fields q bytes) (is_behind fields bytes place index c.in-Some.next chunk next (one_next fields bytes c.touch.new.self.cache place index c.in-Some.next mid turns) at is) bad);
+    }
+
+pub returns-clause-legal : goal.returns-clause-legal
+returns-clause-legal g c = λ v told was lt.
+    let self = c.args.self.now in
+    let fields = self.schema.fields in
+    let bytes = v self.log.file in
+    let place = c.args.spot.now.place in
+    let index = c.args.spot.now.index in
+    let mid : IsCached fields bytes c.touch.new.self.cache = c.touch.ensures.cached v told was in
+    let eqF = ap (λ (b : Base). b.shape.fields) c.touch.ensures.stays.base in
+    let eqf = ap (λ (b : Base). b.file) c.touch.ensures.stays.base in
+    let turns : next_in (item_at place c.touch.new.self.cache) index ≡ Some c.in-Some.next = search rules in
+    let k = next_some (item_at place c.touch.new.self.cache) index c.in-Some.next turns in
+    let h : (kept : Kept) × (item_at c.in-Some.next c.touch-2.new.self.cache ≡ Some kept) = search rules in
+    let last : IsCached fields bytes c.touch-2.new.self.cache = cached_same _ _ _ _ v c.touch-2.new.self.cache eqF eqf (c.touch-2.ensures.cached v (c.touch.ensures.leaves.now_stays ∙ told) (cached_same _ _ _ _ v c.touch.new.self.cache (sym eqF) (sym eqf) mid)) in
+    record {
+      here = chunk_legal fields place k.0.next k.0.chunk bytes (mid place k.0 k.1);
+      behind = λ chunk next at within is bad. chunk_legal fields c.in-Some.next h.0.next h.0.chunk bytes (last c.in-Some.next h.0 h.1) (subst (λ (q : ℕ). IsIllegal fields q bytes) (is_behind fields bytes place index c.in-Some.next chunk next (one_next fields bytes c.touch.new.self.cache place index c.in-Some.next mid turns) at is) bad);
+    }

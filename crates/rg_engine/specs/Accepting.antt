@@ -9,7 +9,7 @@ use Rattle.rg_engine.specs.declared.fault.EngineFault.{EngineFault}
 use Rattle.rg_engine.specs.declared.fault.EngineFault.TheVariants as fault
 
 -- There are as many keys as before. Without a refusal they are those of the event, and the list is empty and has room for so many answers.
-pub record IsPrepared (groups : List GroupNode) (event : Event) (count : ℕ) (result : Result Unit EngineFault) (keys keys' : List (List ℕ)) (answers : List Answer) (capacity : ℕ) : Type 0 where
+pub record IsPrepared {E : Type 0} (groups : List GroupNode) (event : Event) (count : ℕ) (result : Result Unit E) (keys keys' : List (List ℕ)) (answers : List Answer) (capacity : ℕ) : Type 0 where
   pub same : length keys' ≡ length keys
   pub made : OnOk result (keys' ≡ keys_for groups event)
   pub empty : OnOk result (answers ≡ [])

@@ -215,6 +215,89 @@ impl<T: Table> Engine<T> {
         }
     }
 
+    /// Answers the last event of the past as `take` does, and appends nothing: the edges move to its time,
+    /// and each aggregator of each query is answered over the past's events, which end with this one.
+    /// Any refusal ends the engine.
+    pub fn answer<P: Past, L: Ledger>(
+        &mut self,
+        past: &mut P,
+        event: &Event,
+        steps: &mut Steps<L>,
+    ) -> Result<Answers, EngineFault>
+        requires within { AreWithin self.old.spots (length (P.events past.old)) }
+        ensures stands { (n : ℕ) (first front : List Event) → P.events past.old ≡ front ++ event.now ∷ [] →
+            CarriesOn self.old.plan n (P.sound past.old) (P.spells past.old) (T.tells self.old.table)
+            (P.events past.old) (P.events past.old) first (T.cell self.old.table) self.old.spots →
+            OnOk result (NodeStands self.old.plan n (P.events past.new) (T.cell self.new.table) (numbers_of self.new.spots)) }
+        ensures bad { (n : ℕ) (first front : List Event) → P.events past.old ≡ front ++ event.now ∷ [] →
+            IsErrOf result (EngineFault.BadState n) →
+            CarriesOn self.old.plan n (P.sound past.old) (P.spells past.old) (T.tells self.old.table)
+            (P.events past.old) (P.events past.old) first (T.cell self.old.table) self.old.spots → ⊥ }
+
+        // Where the event is the last one and all nodes can be carried on, the answers are those from scratch.
+        ensures answers { (queries : List Asked) (first front : List Event) → self.old.plan ≡ plan_for queries →
+            P.events past.old ≡ front ++ event.now ∷ [] →
+            ((n : ℕ) → CarriesOn self.old.plan n (P.sound past.old) (P.spells past.old) (T.tells self.old.table)
+            (P.events past.old) (P.events past.old) first (T.cell self.old.table) self.old.spots) →
+            IfOk result (λ answers. answers ≡ answers_to queries (P.events past.old) event.now) }
+
+        ensures ticks { OnOk result (steps.new + come self.old.plan (numbers_of self.old.spots)
+            ≡ steps.old + come self.old.plan (numbers_of self.new.spots)) }
+        ensures events { P.events past.new ≡ P.events past.old }
+        ensures room { P.has_room past.old → P.has_room past.new }
+        ensures cause { (fault : PastFault) → IsErrOf result (EngineFault.Past fault) →
+            HasCause (P.illegal past.new) ⊥ (P.ended past.old) (P.faults past.old) (P.faults past.new) fault }
+        ensures never_damaged { (place : ℕ) → P.sound past.old → All (P.spells past.old) self.old.spots →
+            IsErrOf result (EngineFault.Past (PastFault.Damaged place)) → ⊥ }
+        ensures table { IsErrOf result EngineFault.Table → Rose (T.faults self.old.table) (T.faults self.new.table) }
+        ensures ended { IsErrOf result EngineFault.Ended ↔ (self.old.ended ≡ true) }
+        ensures ends { self.new.ended ≡ is_err result }
+        ensures plan { self.new.plan ≡ self.old.plan }
+        ensures edges { EdgesMove (P.sound past.old) (P.spells past.old) (P.spells past.new) (length (P.events past.new)) self.old.spots self.new.spots }
+        ensures past { Kept P.goes P.sound P.ended P.faults past.old past.new }
+        ensures rows { TableKept T.tells T.faults self.old.table self.new.table }
+    {
+        if self.ended {
+            return Err(EngineFault::Ended);
+        }
+        self.ended = true;
+        match prepare(
+            event,
+            self.plan.groups(),
+            &mut self.keys,
+            self.nodes.len(),
+            &mut self.spare,
+        ) {
+            Err(_) => return Err(EngineFault::Memory),
+            Ok(()) => {}
+        }
+        match move_rows(
+            &self.plan,
+            &mut self.edges,
+            &mut self.rows,
+            past,
+            event.time,
+            steps,
+        ) {
+            Err(fault) => return Err(fault),
+            Ok(()) => {}
+        }
+        match answer_each(
+            &mut self.rows.table,
+            self.plan.aggs(),
+            &self.nodes,
+            &self.keys,
+            &mut self.spare,
+        ) {
+            Err(fault) => return Err(table_fault(fault)),
+            Ok(()) => {
+                self.ended = false;
+                let answers = mem::replace(&mut self.spare, Vec::new(self.alloc));
+                Ok(Answers::from(answers))
+            }
+        }
+    }
+
     /// Takes a list of answers back, so that the answers to the next event are put into its room and
     /// take no memory.
     pub fn reuse(&mut self, answers: Answers)
@@ -329,6 +412,21 @@ impl<T: Table> Engine<T> {
     }
 }
 
+/// Makes the key of an event at each group node, and room for so many answers to it in an empty list.
+fn prepare(
+    event: &Event,
+    groups: &[GroupNode],
+    keys: &mut Vec<Key>,
+    count: usize,
+    answers: &mut Vec<Answer>,
+) -> Result<(), Memory>
+    requires keys { length keys.old.items ≡ length groups.now }
+    ensures prepared { IsPrepared groups.now event.now count result keys.old.items keys.new.items answers.new.items (vec_capacity answers.new) }
+{
+    make_keys(keys, groups, event)?;
+    make_room(answers, count)
+}
+
 /// Appends an event to a past, once its key at each group node is made and a list has room for so many
 /// answers to it.
 fn accept<P: Past>(
@@ -347,11 +445,7 @@ fn accept<P: Past>(
     ensures accepted { IsAccepted event (P.ended past.old) (P.limit past.old) (P.events past.old) (P.events past.new) (P.has_room past.old) (P.has_room past.new) result }
     ensures past { Kept P.goes P.sound P.ended P.faults past.old past.new }
 {
-    match make_keys(keys, groups, &event) {
-        Err(_) => return Err(EngineFault::Memory),
-        Ok(()) => {}
-    }
-    match make_room(answers, count) {
+    match prepare(&event, groups, keys, count, answers) {
         Err(_) => return Err(EngineFault::Memory),
         Ok(()) => {}
     }

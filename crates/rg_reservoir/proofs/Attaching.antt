@@ -8,7 +8,7 @@ use Rattle.rg_event.specs.declared.schema.Field.{Field}
 use Rattle.std.specs.Prelude.{slice_index}
 use Rattle.rg_event.specs.Shapes.{Shape, IsSchema}
 use Rattle.rg_event.specs.Rising.{IsRising, next_offset, last_time}
-use Rattle.rg_frame.specs.Frames.{payload_at}
+use Rattle.rg_frame.specs.Frames.{payload_at, IsLog}
 use Rattle.rg_frame.specs.Looks.{IsClosed}
 use Rattle.rg_frame.proofs.Payloads.{closed_payload}
 use Rattle.rg_cache.specs.Cache.{Cache, item_at}
@@ -151,6 +151,13 @@ events_then shape events first end tally old new has (inr (none, ends, step)) o 
     ] in
     (begun.0, subst (λ (l : List Event). HasEvents shape l new) (sym empty) begun.1)
 
+-- a legal log without a frame has no event
+pub no_events : (shape : Shape) (events : List Event) (bytes : List ℕ) → HasEvents shape events bytes → IsLog [] 0 bytes → events ≡ []
+no_events shape events bytes has none = elim (laid shape events bytes has) [
+  | inl no_frame ↦ no_frame.1
+  | inr l ↦ absurd (some_none _ _ l.schema.here (log_at [] 0 bytes none).none)
+]
+
 pub attached :
     (w : Image) (after : Image → Type 0) (b : Base) (tally : Tally) (cache : Cache Kept) (events : List Event) → IsOpened (schema_payload b.shape) b.first b.end tally (w b.file) → Laid b.shape events (w b.file) → b.committed ≡ tally.count
     → HasSchemaFrame b.shape (w b.file) × HasEvents b.shape events (w b.file) → ((q : ℕ) → item_at q cache ≡ None) → ((u : Image) → after u → u b.file ≡ w b.file) → IsSoundIn w after b [] tally.next tally.time cache × (all_events (Some w) b [] ≡ events)
@@ -216,6 +223,12 @@ bad_walk bytes place t (a ∷ ps) end u (b ∷ qs) q x heads closed bad gate non
     let next : bad.1.0 ≡ heads.1.0 = cc in
     let bad1 = subst (λ (l : List ℕ). Heads bytes (place + 9 + length l) bad.1.0 qs q x) same bad.1.2 in
     bad_walk bytes (place + 9 + length a) heads.1.0 ps end u qs q x heads.1.2 closed (subst (λ (y : Tally). Heads bytes (place + 9 + length a) y qs q x) next bad1) gate none
+
+-- a log without a frame isn't refused
+pub unframed : (ours bytes : List ℕ) → IsLog [] 0 bytes → IsOther ours bytes ⊎ ((p : ℕ) × IsBadFrame ours p bytes) → ⊥
+unframed ours bytes none (inl other) = some_none _ _ other.here (log_at [] 0 bytes none).none
+unframed ours bytes none (inr (p, inl bad)) = open_closed 0 bytes bad.1.gate (log_at [] 0 bytes none).closed
+unframed ours bytes none (inr (p, inr (f, here, ends, bad))) = some_none _ _ here (log_at [] 0 bytes none).none
 
 -- a log that was opened isn't refused
 pub refused : (shape : Shape) (first end : ℕ) (tally : Tally) (old new : List ℕ) → IsSchema shape → Opens (schema_payload shape) first end old new → IsOpened (schema_payload shape) first end tally new

@@ -1,4 +1,4 @@
-ghost use Rattle.std.specs.Prelude.{◌≡◌, ◌≢◌, ◌⊎◌, ◌≤◌, ◌<◌, ◌+◌, ◌^◌, [], ◌∷◌, ℕ, List, Some, None, Ok, Err, true, false, IfOk, IfErr, OnOk, OnErr, IsErrOf, IsTrue, length};
+ghost use Rattle.std.specs.Prelude.{◌≡◌, ◌≢◌, ◌⊎◌, ◌≤◌, ◌<◌, ◌+◌, ◌^◌, [], ◌∷◌, ℕ, List, Some, None, Ok, Err, true, false, IfOk, IfErr, IfSome, IfNone, OnOk, OnErr, IsErrOf, IsTrue, length};
 ghost use Rattle.std.specs.Option.{ForSome};
 ghost use Rattle.rg_bytes.specs.Counts.{Rose};
 ghost use Rattle.rg_host.specs.Image.{Image, Becomes};
@@ -145,6 +145,38 @@ pub fn open_log<H: Host>(alloc: Global, ours: &[u8], host: &mut H) -> Result<Ope
     let first = log.end();
     match read_heads(&mut log, host) {
         Ok(tally) => Ok(Opened { log, first, tally }),
+        Err(fault) => Err(fault),
+    }
+}
+
+/// Reads the heads of the log to its end, where the log has a frame. Nothing is written.
+pub fn read_log<H: Host>(
+    alloc: Global,
+    ours: &[u8],
+    host: &mut H,
+) -> Result<Option<Opened>, ReservoirFault>
+    ensures opened { IfOk result (λ found. IfSome found (λ o. ForSome (H.now host.old) (λ v. IsOpened ours.now o.first o.log.end o.tally (v 2)))) }
+    ensures none { IfOk result (λ found. IfNone found (ForSome (H.now host.old) (λ v. IsLog [] 0 (v 2)))) }
+    ensures log { IfOk result (λ found. IfSome found (λ o. (o.log.file ≡ 2) × (o.log.ready ≡ true) × (o.log.ended ≡ false) × (o.tally.count ≤ 2 ^ 40))) }
+    ensures differs { IsErrOf result ReservoirFault.SchemaDiffers → ForSome (H.now host.old) (λ v. IsOther ours.now (v 2)) }
+    ensures damaged { (p : ℕ) → IsErrOf result (ReservoirFault.Damaged p) → ForSome (H.now host.old) (λ v. IsBadFrame ours.now p (v 2)) }
+    ensures neither { (IsErrOf result ReservoirFault.Full → ⊥) × (IsErrOf result ReservoirFault.Ended → ⊥) }
+    ensures leaves { LeavesAll H.now H.may H.clock H.since H.said host.old host.new }
+    ensures disk { IsErrOf result ReservoirFault.Disk → Rose (H.disk_faults host.old) (H.disk_faults host.new) }
+    ensures disk_faults { H.disk_faults host.old ≤ H.disk_faults host.new }
+    ensures out_faults { H.out_faults host.new ≡ H.out_faults host.old }
+{
+    let mut log = FrameLog::new(2);
+    let found = match first_frame(alloc, &mut log, ours, host) {
+        Ok(found) => found,
+        Err(fault) => return Err(fault),
+    };
+    if !found {
+        return Ok(None);
+    }
+    let first = log.end();
+    match read_heads(&mut log, host) {
+        Ok(tally) => Ok(Some(Opened { log, first, tally })),
         Err(fault) => Err(fault),
     }
 }

@@ -19,7 +19,7 @@ ghost use Rattle.rg_reservoir.specs.Naming.{IsNamed};
 
 use crate::fault::ReservoirFault;
 use crate::fetch::fetch;
-use crate::first::open_log;
+use crate::first::{open_log, read_log};
 use crate::kept::Kept;
 use crate::names::count_unnamed;
 use rg_bytes::Memory;
@@ -159,6 +159,63 @@ impl Reservoir {
                 loads: 0,
                 limit: room.limit,
             }),
+            Err(fault) => Err(fault),
+        }
+    }
+
+    /// A reservoir over the log of file 2 to read alone, as `attach` makes one, and none where the log has no
+    /// frame: nothing is written, also no first frame. Its open chunk stays empty.
+    pub fn view<H: Host>(
+        alloc: Global,
+        host: &mut H,
+        schema: &Schema,
+        room: Room,
+    ) -> Result<Option<Reservoir>, ReservoirFault>
+        requires chunk { (1 ≤ room.chunk) × (room.chunk ≤ 4096) }
+        requires cache { (1 ≤ room.cache) × (room.cache ≤ 1024) }
+        requires limit { room.limit ≤ 2 ^ 40 }
+
+        // Over a legal log of which nothing is pending.
+        ensures sound { (v : Image) (events : List TheEvent) → H.now host.old ≡ Some v → NothingPending 2 (H.now host.old) (H.may host.old) → HasEvents schema.now events (v 2)
+            → IfOk result (λ found. IfSome found (λ r. IsSound (H.now host.new) (H.may host.new) r × (all_events (H.now host.new) (base r) (opened r) ≡ events))) }
+        ensures empty_log { (v : Image) (events : List TheEvent) → H.now host.old ≡ Some v → HasEvents schema.now events (v 2) → IfOk result (λ found. IfNone found (events ≡ [])) }
+        ensures legal { (v : Image) (events : List TheEvent) (p : ℕ) → H.now host.old ≡ Some v → HasEvents schema.now events (v 2) → IsErrOf result (ReservoirFault.Damaged p) → ⊥ }
+        ensures legal_ours { (v : Image) (events : List TheEvent) → H.now host.old ≡ Some v → HasEvents schema.now events (v 2) → IsErrOf result ReservoirFault.SchemaDiffers → ⊥ }
+
+        // Of any image.
+        ensures none { IfOk result (λ found. IfNone found (ForSome (H.now host.old) (λ v. HasPayloads [] (v 2)))) }
+        ensures exact { (v : Image) → H.now host.old ≡ Some v → IsOther (schema_payload schema.now) (v 2) ⊎ ((p : ℕ) × IsBadFrame (schema_payload schema.now) p (v 2)) → IfOk result (λ _. ⊥) }
+        ensures differs { IsErrOf result ReservoirFault.SchemaDiffers → ForSome (H.now host.old) (λ v. IsOther (schema_payload schema.now) (v 2)) }
+        ensures damaged { (p : ℕ) → IsErrOf result (ReservoirFault.Damaged p) → ForSome (H.now host.old) (λ v. IsBadFrame (schema_payload schema.now) p (v 2)) }
+        ensures disk { IsErrOf result ReservoirFault.Disk → Rose (H.disk_faults host.old) (H.disk_faults host.new) }
+        ensures neither { (IsErrOf result ReservoirFault.Full → ⊥) × (IsErrOf result ReservoirFault.Ended → ⊥) }
+
+        ensures going { IfOk result (λ found. IfSome found (λ r. ((base r).ended ≡ false) × ((base r).file ≡ 2) × ((base r).shape ≡ schema.now) × ((base r).limit ≡ room.limit))) }
+        ensures empty { IfOk result (λ found. IfSome found (λ r. (opened r ≡ []) × (room_of r ≡ room.chunk) × (places (cache_of r) ≡ []) × ((cache_of r).cap ≡ room.cache) × (loads_of r ≡ 0))) }
+        ensures leaves { LeavesAll H.now H.may H.clock H.since H.said host.old host.new }
+        ensures disk_faults { H.disk_faults host.old ≤ H.disk_faults host.new }
+        ensures out_faults { H.out_faults host.new ≡ H.out_faults host.old }
+    {
+        let taken = match take_rooms(alloc, schema, room) {
+            Ok(taken) => taken,
+            Err(_) => return Err(ReservoirFault::Memory),
+        };
+        match read_log(alloc, &taken.ours, host) {
+            Ok(Some(opened)) => Ok(Some(Reservoir {
+                alloc,
+                schema: taken.schema,
+                log: opened.log,
+                first: opened.first,
+                ended: false,
+                cache: taken.cache,
+                open: taken.open,
+                committed: opened.tally.count,
+                next_offset: opened.tally.next,
+                last_time: opened.tally.time,
+                loads: 0,
+                limit: room.limit,
+            })),
+            Ok(None) => Ok(None),
             Err(fault) => Err(fault),
         }
     }

@@ -1,0 +1,50 @@
+use Rattle.std.proofs.Common.{rules, ◌≡◌, ◌∙◌, ◌+◌, ap, sym, subst, ℕ, [], Err, Some, length, IsTrue, false, inr}
+use Rattle.rg_frame.specs.Frames.{IsLog, HasPayloads, Begins, payload_at}
+use Rattle.rg_frame.specs.LogState.{LogState}
+use Rattle.rg_reservoir.specs.declared.fault.ReservoirFault.TheVariants.{Damaged}
+use Rattle.rg_reservoir.specs.declared.fault.ReservoirFault.{ReservoirFault}
+use Rattle.rg_reservoir.specs.Heads.{Passed, IsBad}
+use Rattle.rg_reservoir.proofs.first.read_log.Goals as goal
+
+pub returns-then-not-found-clause-none : goal.returns-then-not-found-clause-none
+returns-then-not-found-clause-none g c = λ v told.
+    let no : c.in-Ok.found ≡ false = search rules in
+    let is_file : c.new-log.result.file ≡ 2 = ap (λ (l : LogState). l.file) c.new-log.ensures.fresh in
+    subst (λ (f : ℕ). IsLog [] 0 (v f)) is_file ((c.in-Ok.ensures.none no).1 v told)
+
+pub read_heads-requires-clause-begun : goal.read_heads-requires-clause-begun
+read_heads-requires-clause-begun g c = λ v told.
+    let yes : IsTrue c.in-Ok.found = search rules in
+    let found = c.in-Ok.ensures.found yes in
+    let was : g.H.Host.now c.args.host.now ≡ Some v = sym c.first_frame.ensures.leaves.now_stays ∙ told in
+    let f = found v was in
+    (f.2.0, subst (λ (n : ℕ). Begins f.2.0 c.first_frame.new.log.end (v n)) (sym c.first_frame.ensures.same.0) f.2.1)
+
+pub returns-in-Ok-read_heads-clause-opened : goal.returns-in-Ok-read_heads-clause-opened
+returns-in-Ok-read_heads-clause-opened g c = λ v told.
+    let yes : IsTrue c.in-Ok.found = search rules in
+    let is_file : c.new-log.result.file ≡ 2 = ap (λ (l : LogState). l.file) c.new-log.ensures.fresh in
+    let file : c.first_frame.new.log.file ≡ 2 = c.first_frame.ensures.same.0 ∙ is_file in
+    let mid : g.H.Host.now c.first_frame.new.host ≡ Some v = c.first_frame.ensures.leaves.now_stays ∙ told in
+    let f = c.in-Ok.ensures.found yes v told in
+    let p = c.in-Ok-read_heads.ensures.passed v mid in
+    let l = c.in-Ok-read_heads.ensures.ends v mid in
+    record {
+      here = subst (λ (n : ℕ). payload_at 0 (v n) ≡ Some c.args.ours.now) is_file f.0;
+      ends = c.end-first.ensures.end ∙ f.1;
+      passed = subst (λ (n : ℕ). Passed (v 2) n c.read_heads.new.log.end c.in-Ok-read_heads.tally) (sym c.end-first.ensures.end) (subst (λ (n : ℕ). Passed (v n) c.first_frame.new.log.end c.read_heads.new.log.end c.in-Ok-read_heads.tally) file p);
+      payloads = l.0;
+      log = subst (λ (n : ℕ). IsLog l.0 c.read_heads.new.log.end (v n)) file l.1;
+      has = subst (λ (n : ℕ). HasPayloads l.0 (v n)) file l.2;
+    }
+
+pub returns-in-Err-read_heads-clause-damaged : goal.returns-in-Err-read_heads-clause-damaged
+returns-in-Err-read_heads-clause-damaged g c = λ p e v told.
+    let yes : IsTrue c.in-Ok.found = search rules in
+    let is_file : c.new-log.result.file ≡ 2 = ap (λ (l : LogState). l.file) c.new-log.ensures.fresh in
+    let file : c.first_frame.new.log.file ≡ 2 = c.first_frame.ensures.same.0 ∙ is_file in
+    let same : c.in-Err-read_heads.fault ≡ Damaged p = cc in
+    let mid : g.H.Host.now c.first_frame.new.host ≡ Some v = c.first_frame.ensures.leaves.now_stays ∙ told in
+    let f = c.in-Ok.ensures.found yes v told in
+    let bad = c.in-Err-read_heads.ensures.damaged p (ap (λ (f : ReservoirFault). Err f) same) v mid in
+    inr (c.first_frame.new.log.end, subst (λ (n : ℕ). payload_at 0 (v n) ≡ Some c.args.ours.now) is_file f.0, f.1, subst (λ (n : ℕ). IsBad (v n) c.first_frame.new.log.end p) file bad)

@@ -5,79 +5,101 @@ use rg_bytes::{
 use std::alloc::Global;
 use std::test::Fail;
 
+/// Whether a text is read as these numbers: as one without a sign, and as one that may have a sign.
+fn is_read(text: &str, whole: Option<u64>, signed: Option<i64>) -> bool {
+    read_whole(text.as_bytes()) == whole && read_signed(text.as_bytes()) == signed
+}
+
 #[test]
-fn reads_numbers(rt: HostRuntime) {
-    let cases = [
-        ("", None, None),
-        ("0", Some(0), Some(0)),
-        ("9", Some(9), Some(9)),
-        ("10", Some(10), Some(10)),
-        ("123", Some(123), Some(123)),
-        ("1234", Some(1234), Some(1234)),
-        ("12345", Some(12345), Some(12345)),
-        ("654321", Some(654321), Some(654321)),
-        ("1000007", Some(1000007), Some(1000007)),
-        ("10203040", Some(10203040), Some(10203040)),
-        ("999999999", Some(999999999), Some(999999999)),
-        ("4294967296", Some(4294967296), Some(4294967296)),
-        ("10000000001", Some(10000000001), Some(10000000001)),
-        ("123456789012", Some(123456789012), Some(123456789012)),
-        ("1700000000000", Some(1700000000000), Some(1700000000000)),
-        ("12345678901234", Some(12345678901234), Some(12345678901234)),
-        (
-            "100000000000000",
-            Some(100000000000000),
-            Some(100000000000000),
-        ),
-        (
-            "1000000000000000",
-            Some(1000000000000000),
-            Some(1000000000000000),
-        ),
-        (
-            "98765432109876543",
-            Some(98765432109876543),
-            Some(98765432109876543),
-        ),
-        (
-            "123456789012345678",
-            Some(123456789012345678),
-            Some(123456789012345678),
-        ),
-        (
-            "9223372036854775807",
-            Some(9223372036854775807),
-            Some(9223372036854775807),
-        ),
-        ("9223372036854775808", Some(9223372036854775808), None),
-        ("9999999999999999999", Some(9999999999999999999), None),
-        ("18446744073709551615", Some(18446744073709551615), None),
-        ("18446744073709551616", None, None),
-        ("99999999999999999999", None, None),
-        ("00000000000000000042", Some(42), Some(42)),
-        ("000000000000000000042", None, None),
-        ("100000000000000000000", None, None),
-        ("+1", None, Some(1)),
-        ("-1", None, Some(-1)),
-        ("-0", None, Some(0)),
-        ("-", None, None),
-        ("+", None, None),
-        ("+-1", None, None),
-        ("--1", None, None),
-        ("-9223372036854775807", None, Some(-9223372036854775807)),
-        ("-9223372036854775808", None, None),
-        ("+9223372036854775807", None, Some(9223372036854775807)),
-        ("+9223372036854775808", None, None),
-        ("-00000000000000000042", None, Some(-42)),
-        ("-000000000000000000042", None, None),
-        ("1/", None, None),
-        (":1", None, None),
-        (" 1", None, None),
-        ("1 2", None, None),
+fn a_number_is_read_with_and_without_a_sign(rt: HostRuntime) {
+    let numbers: [(&str, i64); 11] = [
+        ("0", 0),
+        ("9", 9),
+        ("10", 10),
+        ("123", 123),
+        ("1234", 1234),
+        ("12345", 12345),
+        ("654321", 654321),
+        ("1000007", 1000007),
+        ("10203040", 10203040),
+        ("999999999", 999999999),
+        ("4294967296", 4294967296),
     ];
-    for (text, whole, signed) in cases {
-        assert_eq!(rt; read_whole(text.as_bytes()), whole, "{text:?}");
-        assert_eq!(rt; read_signed(text.as_bytes()), signed, "{text:?}");
+    for (text, number) in numbers {
+        let whole = number.unsigned_abs();
+        assert!(rt; is_read(text, Some(whole), Some(number)), "{text:?}");
+    }
+}
+
+#[test]
+fn a_number_of_up_to_twenty_digits_is_read(rt: HostRuntime) {
+    let numbers: [(&str, i64); 10] = [
+        ("10000000001", 10000000001),
+        ("123456789012", 123456789012),
+        ("1700000000000", 1700000000000),
+        ("12345678901234", 12345678901234),
+        ("100000000000000", 100000000000000),
+        ("1000000000000000", 1000000000000000),
+        ("98765432109876543", 98765432109876543),
+        ("123456789012345678", 123456789012345678),
+        ("9223372036854775807", 9223372036854775807),
+        ("00000000000000000042", 42),
+    ];
+    for (text, number) in numbers {
+        let whole = number.unsigned_abs();
+        assert!(rt; is_read(text, Some(whole), Some(number)), "{text:?}");
+    }
+}
+
+#[test]
+fn a_number_past_63_bits_is_read_without_a_sign_alone(rt: HostRuntime) {
+    let numbers: [(&str, u64); 3] = [
+        ("9223372036854775808", 9223372036854775808),
+        ("9999999999999999999", 9999999999999999999),
+        ("18446744073709551615", 18446744073709551615),
+    ];
+    for (text, whole) in numbers {
+        assert!(rt; is_read(text, Some(whole), None), "{text:?}");
+    }
+}
+
+#[test]
+fn a_sign_stands_before_a_number_that_may_have_one(rt: HostRuntime) {
+    let numbers: [(&str, i64); 6] = [
+        ("+1", 1),
+        ("-1", -1),
+        ("-0", 0),
+        ("-9223372036854775807", -9223372036854775807),
+        ("+9223372036854775807", 9223372036854775807),
+        ("-00000000000000000042", -42),
+    ];
+    for (text, signed) in numbers {
+        assert!(rt; is_read(text, None, Some(signed)), "{text:?}");
+    }
+}
+
+#[test]
+fn what_is_no_number_is_not_read(rt: HostRuntime) {
+    let texts = [
+        "",
+        "18446744073709551616",
+        "99999999999999999999",
+        "000000000000000000042",
+        "100000000000000000000",
+        "-",
+        "+",
+        "+-1",
+        "--1",
+        "-9223372036854775808",
+        "+9223372036854775808",
+        "-000000000000000000042",
+        "1/",
+        ":1",
+        " 1",
+        "1 2",
+    ];
+    for text in texts {
+        assert!(rt; is_read(text, None, None), "{text:?}");
     }
 }
 
@@ -124,13 +146,22 @@ fn are_next(reader: &mut ByteReader<'_>) -> bool {
     are_whole && reader.i64() == Ok(-2) && reader.i128() == Ok(i128::MIN + 3)
 }
 
+/// Whether those numbers are read back of these bytes, and then the bytes behind them.
+fn are_read_back(numbers: &[u8]) -> bool {
+    let mut reader = ByteReader::new(numbers);
+    let is_short = reader.bytes(41) == Err(Short);
+    is_short
+        && are_next(&mut reader)
+        && reader.left() == 3
+        && reader.bytes(3) == Ok(b"end".as_slice())
+}
+
 #[test]
 fn reads_back_what_was_put(rt: HostRuntime) -> Result<(), Fail> {
     let out = numbers(rt.alloc())?;
-    let mut reader = ByteReader::new(&out);
-    assert_eq!(rt; reader.bytes(41), Err(Short));
-    assert!(rt; are_next(&mut reader) && reader.left() == 3);
-    assert_eq!(rt; reader.bytes(3), Ok(b"end".as_slice()));
+    let are_back = are_read_back(&out);
+    drop(out);
+    assert!(rt; are_back);
     Ok(())
 }
 
@@ -145,8 +176,8 @@ fn are_short(reader: &mut ByteReader<'_>) -> bool {
 #[test]
 fn a_reader_stays_where_too_few_bytes_are_left(rt: HostRuntime) {
     let mut reader = ByteReader::new(b"end");
-    assert!(rt; are_short(&mut reader));
-    assert_eq!(rt; reader.bytes(3), Ok(b"end".as_slice()));
-    let behind = (reader.u8(), reader.bytes(0));
-    assert_eq!(rt; behind, (Err(Short), Ok(b"".as_slice())));
+    let is_left = are_short(&mut reader) && reader.bytes(3) == Ok(b"end".as_slice());
+    assert!(rt; is_left);
+    let is_at_end = reader.u8() == Err(Short) && reader.bytes(0) == Ok(b"".as_slice());
+    assert!(rt; is_at_end);
 }

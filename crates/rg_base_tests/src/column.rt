@@ -77,19 +77,33 @@ fn read_two(
     Ok((read, from.left()))
 }
 
-#[test]
-fn payments_are_written_by_columns_and_read_back(rt: HostRuntime) -> Result<(), Fail> {
-    let alloc = rt.alloc();
-    let schema = Schema::parse(alloc, PAYMENTS)?;
-    let events = payments(alloc, &rt)?;
+/// Whether events are written as these columns behind what stands, and read back before what stands behind them.
+fn are_kept(
+    alloc: Global,
+    schema: &Schema,
+    events: &Events,
+    columns: &[u8],
+) -> Result<bool, Memory> {
     let mut out = b"x".to_vec(alloc)?;
-    encode_columns(&schema, events.as_slice(), &mut out)?;
-    let written = (out.get(..1), out.get(1..));
-    assert_eq!(rt; written, (Some(b"x".as_slice()), Some(COLUMNS)));
+    encode_columns(schema, events.as_slice(), &mut out)?;
+    let are_written = out.first() == Some(&b'x') && out.get(1..) == Some(columns);
     out.extend_from_slice(b"rest")?;
     let mut from = ByteReader::new(&out);
-    let is_behind = from.u8() == Ok(b'x');
-    assert!(rt; is_behind && are_read(alloc, &schema, &mut from, &events) && from.left() == 4);
+    let are_read = from.u8() == Ok(b'x')
+        && are_read(alloc, schema, &mut from, events)
+        && from.left() == 4;
+    drop(out);
+    Ok(are_written && are_read)
+}
+
+#[test]
+fn payments_are_written_by_columns_and_read_back(rt: HostRuntime) -> Result<(), Fail> {
+    let schema = Schema::parse(rt.alloc(), PAYMENTS)?;
+    let events = payments(rt.alloc(), &rt)?;
+    let are_payments = are_kept(rt.alloc(), &schema, &events, COLUMNS)?;
+    drop(events);
+    drop(schema);
+    assert!(rt; are_payments);
     Ok(())
 }
 
@@ -97,8 +111,8 @@ fn payments_are_written_by_columns_and_read_back(rt: HostRuntime) -> Result<(), 
 fn columns_that_are_cut_are_short_and_the_reader_stays(rt: HostRuntime) -> Result<(), Fail> {
     for end in 0..COLUMNS.len() {
         let front = COLUMNS.get(..end).unwrap_or(b"");
-        let read = read_two(rt.alloc(), PAYMENTS, front)?;
-        assert_eq!(rt; read, (Err(ColumnFault::Short), end), "at {end}");
+        let (read, left) = read_two(rt.alloc(), PAYMENTS, front)?;
+        assert!(rt; read == Err(ColumnFault::Short) && left == end, "at {end}");
     }
     Ok(())
 }
@@ -113,34 +127,58 @@ fn changed(alloc: Global, at: usize, bytes: &[u8]) -> Result<Vec<u8>, Fail> {
     Ok(columns)
 }
 
+/// The fault of the columns of the two payments with other bytes from a place on, if there is one.
+fn fault_at(alloc: Global, at: usize, bytes: &[u8]) -> Result<Result<(), ColumnFault>, Fail> {
+    let columns = changed(alloc, at, bytes)?;
+    let (read, _) = read_two(alloc, PAYMENTS, &columns)?;
+    drop(columns);
+    Ok(read)
+}
+
 #[test]
-fn the_first_bad_column_is_named(rt: HostRuntime) -> Result<(), Fail> {
-    let table: [(usize, &[u8], Result<(), ColumnFault>); 14] = [
-        (0, b"", Ok(())),
+fn columns_of_another_width_or_base_are_bad(rt: HostRuntime) -> Result<(), Fail> {
+    let table: [(usize, &[u8], u32); 7] = [
         // No such width, at the offsets and at the amounts.
-        (8, b"\x03", Err(ColumnFault::BadColumn(0))),
-        (48, b"\0", Err(ColumnFault::BadColumn(3))),
+        (8, b"\x03", 0),
+        (48, b"\0", 3),
         // No difference is 0, so the base isn't the least offset, time or amount.
-        (9, b"\x01\x02", Err(ColumnFault::BadColumn(0))),
-        (23, b"\x01", Err(ColumnFault::BadColumn(0))),
-        (49, b"\x01", Err(ColumnFault::BadColumn(3))),
+        (9, b"\x01\x02", 0),
+        (23, b"\x01", 0),
+        (49, b"\x01", 3),
         // The times need 2 bytes alone, and the amounts 1.
-        (25, b"\0", Err(ColumnFault::BadColumn(0))),
-        (48, b"\x02\0\0\0\x64", Err(ColumnFault::BadColumn(3))),
-        // An offset above 2^62 - 1, a time above 10^15, and amounts above 10^12 and below -10^12.
-        (0, b"\x40", Err(ColumnFault::BadColumn(0))),
-        (12, b"\x7f", Err(ColumnFault::BadColumn(0))),
-        (40, b"\x7f", Err(ColumnFault::BadColumn(3))),
-        (40, b"\x80", Err(ColumnFault::BadColumn(3))),
-        // A merchant that is no UTF-8, and a card that is longer than what is left.
-        (36, b"\xff", Err(ColumnFault::BadColumn(2))),
-        (28, b"\xff", Err(ColumnFault::Short)),
+        (25, b"\0", 0),
+        (48, b"\x02\0\0\0\x64", 3),
     ];
-    for (at, bytes, want) in table {
-        let columns = changed(rt.alloc(), at, bytes)?;
-        let (read, _) = read_two(rt.alloc(), PAYMENTS, &columns)?;
-        assert_eq!(rt; read, want, "at {at}");
+    for (at, bytes, column) in table {
+        let fault = fault_at(rt.alloc(), at, bytes)?;
+        assert!(rt; fault == Err(ColumnFault::BadColumn(column)), "at {at}");
     }
+    Ok(())
+}
+
+#[test]
+fn columns_of_values_that_no_event_has_are_bad(rt: HostRuntime) -> Result<(), Fail> {
+    let table: [(usize, &[u8], u32); 5] = [
+        // An offset above 2^62 - 1, a time above 10^15, and amounts above 10^12 and below -10^12.
+        (0, b"\x40", 0),
+        (12, b"\x7f", 0),
+        (40, b"\x7f", 3),
+        (40, b"\x80", 3),
+        // A merchant that is no UTF-8.
+        (36, b"\xff", 2),
+    ];
+    for (at, bytes, column) in table {
+        let fault = fault_at(rt.alloc(), at, bytes)?;
+        assert!(rt; fault == Err(ColumnFault::BadColumn(column)), "at {at}");
+    }
+    Ok(())
+}
+
+#[test]
+fn a_text_that_is_longer_than_what_is_left_is_short(rt: HostRuntime) -> Result<(), Fail> {
+    let cut = fault_at(rt.alloc(), 28, b"\xff")?;
+    let unchanged = fault_at(rt.alloc(), 0, b"")?;
+    assert!(rt; cut == Err(ColumnFault::Short) && unchanged == Ok(()));
     Ok(())
 }
 
@@ -162,39 +200,59 @@ fn pair(alloc: Global, one: Value, two: Value) -> Result<Events, Memory> {
 /// The offsets and the times of a pair.
 const PAIR: &[u8] = b"\0\0\0\0\0\0\0\0\x01\0\x01\0\0\0\0\0\0\0\0\x01\0\0";
 
+/// Whether a pair of these values is written as the columns of a pair and then this one, and read back.
+fn is_kept(
+    alloc: Global,
+    schema: &[u8],
+    values: (Value, Value),
+    column: &[u8],
+) -> Result<bool, Fail> {
+    let schema = Schema::parse(alloc, schema)?;
+    let events = pair(alloc, values.0, values.1)?;
+    let mut columns = PAIR.to_vec(alloc)?;
+    columns.extend_from_slice(column)?;
+    let is_back = are_kept(alloc, &schema, &events, &columns)?;
+    drop(columns);
+    drop(events);
+    drop(schema);
+    Ok(is_back)
+}
+
 #[test]
 fn numbers_may_be_as_far_apart_as_they_can(rt: HostRuntime) -> Result<(), Fail> {
-    let alloc = rt.alloc();
-    let table: [(&[u8], Events, &[u8]); 3] = [
+    let ids = is_kept(
+        rt.alloc(),
+        b"s(ts,who:id)",
+        (Value::Id(0), Value::Id(u64::MAX)),
+        b"\0\0\0\0\0\0\0\0\x08\0\0\0\0\0\0\0\0\xff\xff\xff\xff\xff\xff\xff\xff",
+    )?;
+    let ints = is_kept(
+        rt.alloc(),
+        b"s(ts,sum:int)",
         (
-            b"s(ts,who:id)",
-            pair(alloc, Value::Id(0), Value::Id(u64::MAX))?,
-            b"\0\0\0\0\0\0\0\0\x08\0\0\0\0\0\0\0\0\xff\xff\xff\xff\xff\xff\xff\xff",
+            Value::Int(1_000_000_000_000),
+            Value::Int(-1_000_000_000_000),
         ),
-        (
-            b"s(ts,sum:int)",
-            pair(
-                alloc,
-                Value::Int(1_000_000_000_000),
-                Value::Int(-1_000_000_000_000),
-            )?,
-            b"\xff\xff\xff\x17\x2b\x5a\xf0\0\x08\0\0\x01\xd1\xa9\x4a\x20\0\0\0\0\0\0\0\0\0",
-        ),
-        (
-            b"s(ts,paid:flag)",
-            pair(alloc, Value::Flag(true), Value::Flag(false))?,
-            b"\x01\0",
-        ),
-    ];
-    for (text, events, column) in table {
-        let schema = Schema::parse(alloc, text)?;
-        let mut out = Vec::new(alloc);
-        encode_columns(&schema, events.as_slice(), &mut out)?;
-        let written = (out.get(..PAIR.len()), out.get(PAIR.len()..));
-        assert_eq!(rt; written, (Some(PAIR), Some(column)));
-        assert!(rt; are_read(alloc, &schema, &mut ByteReader::new(&out), &events));
-    }
+        b"\xff\xff\xff\x17\x2b\x5a\xf0\0\x08\0\0\x01\xd1\xa9\x4a\x20\0\0\0\0\0\0\0\0\0",
+    )?;
+    let flags = is_kept(
+        rt.alloc(),
+        b"s(ts,paid:flag)",
+        (Value::Flag(true), Value::Flag(false)),
+        b"\x01\0",
+    )?;
+    assert!(rt; ids && ints && flags);
     Ok(())
+}
+
+/// Whether the column behind those of a pair is bad, and the reader stays.
+fn is_bad(alloc: Global, schema: &[u8], column: &[u8]) -> Result<bool, Fail> {
+    let mut columns = PAIR.to_vec(alloc)?;
+    columns.extend_from_slice(column)?;
+    let (read, left) = read_two(alloc, schema, &columns)?;
+    let is_left = left == columns.len();
+    drop(columns);
+    Ok(read == Err(ColumnFault::BadColumn(1)) && is_left)
 }
 
 #[test]
@@ -207,15 +265,23 @@ fn numbers_past_64_bits_and_other_flags_are_bad(rt: HostRuntime) -> Result<(), F
         (b"s(ts,paid:flag)", b"\x01\x02"),
     ];
     for (text, column) in table {
-        let mut columns = PAIR.to_vec(rt.alloc())?;
-        columns.extend_from_slice(column)?;
-        let (read, left) = read_two(rt.alloc(), text, &columns)?;
-        assert_eq!(rt;
-            (read, left),
-            (Err(ColumnFault::BadColumn(1)), columns.len())
-        );
+        assert!(rt; is_bad(rt.alloc(), text, column)?);
     }
     Ok(())
+}
+
+/// Whether a number's least width is this one, which says how many these bytes are, and the number is written as them
+/// and read back.
+fn is_least(alloc: Global, number: u64, want: Width, bytes: &[u8]) -> Result<bool, Memory> {
+    let width = Width::least(number);
+    let mut out = Vec::new(alloc);
+    width.put(number, &mut out)?;
+    let is_put = out.as_slice() == bytes;
+    drop(out);
+    let is_said = usize::from(width.byte()) == bytes.len()
+        && Width::from_byte(width.byte()) == Some(want);
+    let is_taken = want.take(&mut ByteReader::new(bytes)) == Ok(number);
+    Ok(width == want && is_put && is_said && is_taken)
 }
 
 #[test]
@@ -230,16 +296,8 @@ fn a_number_is_written_in_its_least_width(rt: HostRuntime) -> Result<(), Fail> {
         (4_294_967_296, Width::Eight, b"\0\0\0\x01\0\0\0\0"),
     ];
     for (number, want, bytes) in table {
-        let width = Width::least(number);
-        assert_eq!(rt; width, want, "at {number}");
-        let is_said = usize::from(width.byte()) == bytes.len()
-            && Width::from_byte(width.byte()) == Some(want);
-        assert!(rt; is_said, "at {number}");
-        let mut out = Vec::new(rt.alloc());
-        width.put(number, &mut out)?;
-        let taken = want.take(&mut ByteReader::new(bytes));
-        assert_eq!(rt; (out.as_slice(), taken), (bytes, Ok(number)));
+        assert!(rt; is_least(rt.alloc(), number, want, bytes)?, "at {number}");
     }
-    assert_eq!(rt; Width::from_byte(3), None);
+    assert!(rt; Width::from_byte(3).is_none());
     Ok(())
 }

@@ -11,18 +11,26 @@ fn three_texts(alloc: Global) -> Result<Texts, Memory> {
     Ok(texts)
 }
 
+/// Whether these are those three texts.
+fn are_three(texts: &Texts) -> bool {
+    match texts.as_slice() {
+        [one, two, none] => {
+            one.as_slice() == b"one".as_slice()
+                && two.as_slice() == b"two".as_slice()
+                && none.as_slice().is_empty()
+        }
+        _ => false,
+    }
+}
+
 #[test]
 fn texts_keep_what_is_pushed_in_order(rt: HostRuntime) -> Result<(), Memory> {
     let texts = three_texts(rt.alloc())?;
     let copies = texts.copy(rt.alloc())?;
-    assert_eq!(rt; copies, texts);
-    match copies.as_slice() {
-        [one, two, none] => {
-            let pushed = (one.as_slice(), two.as_slice(), none.as_slice().len());
-            assert_eq!(rt; pushed, (b"one".as_slice(), b"two".as_slice(), 0));
-        }
-        other => panic!(rt; "{other:?}"),
-    }
+    let are_kept = copies == texts && are_three(&copies);
+    drop(copies);
+    drop(texts);
+    assert!(rt; are_kept);
     Ok(())
 }
 
@@ -31,8 +39,10 @@ fn a_copy_of_texts_stays_where_its_source_grows(rt: HostRuntime) -> Result<(), M
     let mut texts = three_texts(rt.alloc())?;
     let copies = texts.copy(rt.alloc())?;
     texts.push(Bytes::new(rt.alloc()))?;
-    assert!(rt; copies != texts);
-    assert_eq!(rt; Texts::from(texts.into_vec()).as_slice().len(), 4);
+    let are_other = copies != texts;
+    drop(copies);
+    let are_four = Texts::from(texts.into_vec()).as_slice().len() == 4;
+    assert!(rt; are_other && are_four);
     Ok(())
 }
 
@@ -48,9 +58,11 @@ fn events_keep_what_is_pushed_in_order(rt: HostRuntime) -> Result<(), Memory> {
             values,
         })?;
     }
-    match events.as_slice() {
-        [first, second] => assert!(rt; first.time == 5 && second.time == 3),
-        other => panic!(rt; "{other:?}"),
-    }
+    let are_kept = match events.as_slice() {
+        [first, second] => first.time == 5 && second.time == 3,
+        _ => false,
+    };
+    drop(events);
+    assert!(rt; are_kept);
     Ok(())
 }

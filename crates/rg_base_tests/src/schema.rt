@@ -52,46 +52,60 @@ fn copied(alloc: Global, text: &[u8]) -> Result<Schema, Fail> {
 #[test]
 fn a_copied_schema_is_written_as_it_was_read(rt: HostRuntime) -> Result<(), Fail> {
     let text = b"payments(ts,card:text,merchant:text,amount:int)";
-    assert_eq!(rt; text.len(), 47);
     let copy = copied(rt.alloc(), text)?;
-    assert_eq!(rt; written(rt.alloc(), &copy)?.as_slice(), text.as_slice());
+    let written = written(rt.alloc(), &copy)?;
+    drop(copy);
+    let is_same = written.as_slice() == text.as_slice();
+    drop(written);
+    assert!(rt; is_same && text.len() == 47);
     Ok(())
+}
+
+/// Whether a copy of the schema's only column is an int of this name.
+fn has_int(alloc: Global, schema: &Schema, name: &[u8]) -> Result<bool, Memory> {
+    match schema.fields() {
+        [field] => {
+            let copy = field.copy(alloc)?;
+            Ok(copy.name.as_bytes() == name && copy.kind == Kind::Int)
+        }
+        _ => Ok(false),
+    }
 }
 
 #[test]
 fn a_schema_says_its_stream_its_time_and_its_columns(rt: HostRuntime) -> Result<(), Fail> {
     let schema = Schema::parse(rt.alloc(), b"payments(ts,amount:int)")?;
-    let names = (schema.stream().as_bytes(), schema.time().as_bytes());
-    assert_eq!(rt; names, (b"payments".as_slice(), b"ts".as_slice()));
-    match schema.fields() {
-        [amount] => {
-            let copy = amount.copy(rt.alloc())?;
-            let column = (copy.name.as_bytes(), copy.kind);
-            assert_eq!(rt; column, (b"amount".as_slice(), Kind::Int));
-        }
-        _ => panic!(rt; "not one column"),
-    }
+    let has_amount = has_int(rt.alloc(), &schema, b"amount")?;
+    let is_named = schema.stream().as_bytes() == b"payments".as_slice()
+        && schema.time().as_bytes() == b"ts".as_slice();
+    drop(schema);
+    assert!(rt; has_amount && is_named);
     Ok(())
+}
+
+/// Whether the name that a text is has its bytes; none where it is no name.
+fn has_its_bytes(alloc: Global, text: &[u8]) -> Result<Option<bool>, Memory> {
+    match Name::new(alloc, text)? {
+        Some(name) => Ok(Some(name.as_bytes() == text)),
+        None => Ok(None),
+    }
 }
 
 #[test]
 fn a_name_is_a_word_that_is_not_reserved(rt: HostRuntime) -> Result<(), Fail> {
     let long = [b'x'; 65];
-    let table: [(&[u8], bool); 8] = [
-        (b"count", true),
-        (b"from_", true),
-        (&long[..64], true),
-        (&long, false),
-        (b"Select", false),
-        (b"9a", false),
-        (b"a-b", false),
-        (b"", false),
+    let table: [(&[u8], Option<bool>); 8] = [
+        (b"count", Some(true)),
+        (b"from_", Some(true)),
+        (&long[..64], Some(true)),
+        (&long, None),
+        (b"Select", None),
+        (b"9a", None),
+        (b"a-b", None),
+        (b"", None),
     ];
-    for (text, is_name) in table {
-        match Name::new(rt.alloc(), text)? {
-            Some(name) => assert!(rt; is_name && name.as_bytes() == text),
-            None => assert!(rt; !is_name),
-        }
+    for (text, want) in table {
+        assert!(rt; has_its_bytes(rt.alloc(), text)? == want, "at {text:?}");
     }
     Ok(())
 }
@@ -141,9 +155,22 @@ fn what_is_no_schema_is_bad(rt: HostRuntime) -> Result<(), Fail> {
     Ok(())
 }
 
+/// Whether the text with so many columns is a schema's.
+fn is_wide_kept(alloc: Global, columns: usize) -> Result<bool, Memory> {
+    let text = wide(alloc, columns)?;
+    is_kept(alloc, &text)
+}
+
+/// Whether the text with so many columns is no schema's.
+fn is_wide_bad(alloc: Global, columns: usize) -> Result<bool, Memory> {
+    let text = wide(alloc, columns)?;
+    is_bad(alloc, &text)
+}
+
 #[test]
 fn a_schema_has_at_most_32_columns(rt: HostRuntime) -> Result<(), Fail> {
-    assert!(rt; is_kept(rt.alloc(), &wide(rt.alloc(), 32)?)?);
-    assert!(rt; is_bad(rt.alloc(), &wide(rt.alloc(), 33)?)?);
+    let is_read = is_wide_kept(rt.alloc(), 32)?;
+    let is_refused = is_wide_bad(rt.alloc(), 33)?;
+    assert!(rt; is_read && is_refused);
     Ok(())
 }

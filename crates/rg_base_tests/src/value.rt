@@ -24,7 +24,7 @@ fn an_int_lies_within_a_million_millions(rt: HostRuntime) -> Result<(), Fail> {
         ("", None),
     ];
     for (text, want) in table {
-        assert_eq!(rt; int_of(rt.alloc(), text)?, want, "at {text}");
+        assert!(rt; int_of(rt.alloc(), text)? == want, "at {text}");
     }
     Ok(())
 }
@@ -46,7 +46,7 @@ fn an_id_is_below_two_to_the_64_and_has_no_sign(rt: HostRuntime) -> Result<(), F
         ("-1", None),
     ];
     for (text, want) in table {
-        assert_eq!(rt; id_of(rt.alloc(), text)?, want, "at {text}");
+        assert!(rt; id_of(rt.alloc(), text)? == want, "at {text}");
     }
     Ok(())
 }
@@ -69,27 +69,33 @@ fn a_flag_is_one_of_four_words(rt: HostRuntime) -> Result<(), Fail> {
         ("", None),
     ];
     for (text, want) in table {
-        assert_eq!(rt; flag_of(rt.alloc(), text)?, want, "at {text}");
+        assert!(rt; flag_of(rt.alloc(), text)? == want, "at {text}");
     }
     Ok(())
+}
+
+/// Whether the value that a text is has its bytes; none where it is no value.
+fn has_its_bytes(alloc: Global, text: &[u8]) -> Result<Option<bool>, Memory> {
+    match parse_value(alloc, Kind::Text, text)? {
+        Some(Value::Text(word)) => Ok(Some(word.as_bytes() == text)),
+        Some(_) => Ok(Some(false)),
+        None => Ok(None),
+    }
 }
 
 #[test]
 fn a_text_is_utf8_of_at_most_255_bytes(rt: HostRuntime) -> Result<(), Fail> {
     let long = [b'a'; 256];
-    let table: [(&[u8], bool); 6] = [
-        (b"", true),
-        (b"caf\xc3\xa9", true),
-        (&long[..255], true),
-        (&long, false),
-        (b"caf\xc3", false),
-        (b"\xff", false),
+    let table: [(&[u8], Option<bool>); 6] = [
+        (b"", Some(true)),
+        (b"caf\xc3\xa9", Some(true)),
+        (&long[..255], Some(true)),
+        (&long, None),
+        (b"caf\xc3", None),
+        (b"\xff", None),
     ];
-    for (text, is_text) in table {
-        match parse_value(rt.alloc(), Kind::Text, text)? {
-            Some(Value::Text(word)) => assert!(rt; is_text && word.as_bytes() == text),
-            _ => assert!(rt; !is_text),
-        }
+    for (text, want) in table {
+        assert!(rt; has_its_bytes(rt.alloc(), text)? == want, "at {text:?}");
     }
     Ok(())
 }
@@ -111,57 +117,75 @@ fn a_shorter_text_comes_first(rt: HostRuntime) -> Result<(), Memory> {
         (b"", b"a", Ordering::Less),
     ];
     for (first, second, want) in table {
-        assert_eq!(rt;
-            order(rt.alloc(), first, second)?,
-            Some(want),
+        assert!(rt;
+            order(rt.alloc(), first, second)? == Some(want),
             "at {first:?}"
         );
     }
     Ok(())
 }
 
-#[test]
-fn values_go_by_their_tagged_bytes(rt: HostRuntime) {
-    let table: [(Value, Value, Ordering); 5] = [
-        (Value::Int(1), Value::Int(-1), Ordering::Less),
-        (Value::Int(-2), Value::Int(-1), Ordering::Less),
-        (Value::Int(-1), Value::Id(0), Ordering::Less),
-        (Value::Flag(true), Value::Flag(false), Ordering::Greater),
-        (Value::Id(7), Value::Id(7), Ordering::Equal),
-    ];
-    for (first, second, want) in table {
-        assert_eq!(rt; first.cmp(&second), want, "at {first:?}");
-    }
+/// How two values compare.
+fn order_of(first: Value, second: Value) -> Ordering {
+    first.cmp(&second)
 }
 
 #[test]
-fn a_tag_stands_before_the_value(rt: HostRuntime) -> Result<(), Fail> {
-    let alloc = rt.alloc();
+fn values_go_by_their_tagged_bytes(rt: HostRuntime) {
+    let are_less = order_of(Value::Int(1), Value::Int(-1)) == Ordering::Less
+        && order_of(Value::Int(-2), Value::Int(-1)) == Ordering::Less
+        && order_of(Value::Int(-1), Value::Id(0)) == Ordering::Less;
+    assert!(rt; are_less);
+    assert!(rt; order_of(Value::Flag(true), Value::Flag(false)) == Ordering::Greater);
+    assert!(rt; order_of(Value::Id(7), Value::Id(7)) == Ordering::Equal);
+}
+
+/// A text and an int, each behind its tag, behind what stands.
+fn tagged(alloc: Global) -> Result<Vec<u8>, Fail> {
     let mut out = b"x".to_vec(alloc)?;
     if let Some(word) = Word::new(alloc, b"c1")? {
         put_tagged(&Value::Text(word), &mut out)?;
     }
     put_tagged(&Value::Int(-1), &mut out)?;
-    assert_eq!(rt;
-        out.as_slice(),
-        b"x\x03\x02c1\x01\xff\xff\xff\xff\xff\xff\xff\xff".as_slice()
-    );
-    Ok(())
+    Ok(out)
 }
 
 #[test]
-fn what_is_no_tagged_value_is_refused(rt: HostRuntime) -> Result<(), Fail> {
-    let table: [(&[u8], Result<Value, EventFault>); 6] = [
-        (b"\x04\x01x", Ok(Value::Flag(true))),
-        (b"\x02\0\0\0\0\0\0\x01\x02", Ok(Value::Id(258))),
-        (b"", Err(EventFault::Short)),
-        (b"\x03\x03c1", Err(EventFault::Short)),
-        (b"\x05\x01", Err(EventFault::BadValue(0))),
-        (b"\x04\x02", Err(EventFault::BadValue(0))),
+fn a_tag_stands_before_the_value(rt: HostRuntime) -> Result<(), Fail> {
+    let out = tagged(rt.alloc())?;
+    let want = b"x\x03\x02c1\x01\xff\xff\xff\xff\xff\xff\xff\xff";
+    assert!(rt; out.as_slice() == want.as_slice());
+    Ok(())
+}
+
+/// Whether these bytes are read as this value.
+fn is_read(alloc: Global, bytes: &[u8], want: &Value) -> bool {
+    match get_tagged(alloc, &mut ByteReader::new(bytes)) {
+        Ok(value) => value == *want,
+        Err(_) => false,
+    }
+}
+
+/// Why these bytes are no tagged value.
+fn fault_of(alloc: Global, bytes: &[u8]) -> Option<EventFault> {
+    match get_tagged(alloc, &mut ByteReader::new(bytes)) {
+        Ok(_) => None,
+        Err(fault) => Some(fault),
+    }
+}
+
+#[test]
+fn what_is_no_tagged_value_is_refused(rt: HostRuntime) {
+    assert!(rt; is_read(rt.alloc(), b"\x04\x01x", &Value::Flag(true)));
+    let id = b"\x02\0\0\0\0\0\0\x01\x02";
+    assert!(rt; is_read(rt.alloc(), id, &Value::Id(258)));
+    let table: [(&[u8], EventFault); 4] = [
+        (b"", EventFault::Short),
+        (b"\x03\x03c1", EventFault::Short),
+        (b"\x05\x01", EventFault::BadValue(0)),
+        (b"\x04\x02", EventFault::BadValue(0)),
     ];
     for (bytes, want) in table {
-        let read = get_tagged(rt.alloc(), &mut ByteReader::new(bytes));
-        assert_eq!(rt; read, want, "at {bytes:?}");
+        assert!(rt; fault_of(rt.alloc(), bytes) == Some(want), "at {bytes:?}");
     }
-    Ok(())
 }

@@ -19,7 +19,7 @@ run_once() {
         echo "$1: not all lines were accepted: $(tail -n 1 "$work/out")" >&2
         exit 1
     fi
-    slot=$(cat "$work/store/slot0" "$work/store/slot1" | wc -c)
+    slot=$(stat -c %s "$work/store/slot0" "$work/store/slot1" | sort -n | tail -n 1)
     log=$(wc -c < "$work/store/events")
 }
 
@@ -38,5 +38,5 @@ for name in two eight; do
     done
     few=$(median "$name$cards" 3)
     many=$(median "$name$((cards * 2))" 3)
-    echo "$name aggregators: $few KB at $cards keys, $many KB at $((cards * 2)): $(each $((few * 1024)) $((many * 1024))) bytes a key; both slots $slot_of_few and $slot bytes: $(each "$slot_of_few" "$slot") bytes a key; the log $((log / cards / 2)) bytes a payment"
+    echo "$name aggregators: $few KB at $cards keys, $many KB at $((cards * 2)): $(each $((few * 1024)) $((many * 1024))) bytes a key; the slot of the end $slot_of_few and $slot bytes: $(each "$slot_of_few" "$slot") bytes a key; the log $(each 0 $((log / 2))) bytes a payment"
 done

@@ -39,73 +39,114 @@ fn three_texts(rt: &impl Abort, alloc: Global) -> Result<Distinct, Memory> {
     Ok(distinct)
 }
 
+/// Whether a state of some values is written as these bytes.
+fn is_written<A: Aggregate>(alloc: Global, state: &A, want: &[u8]) -> Result<bool, Memory> {
+    if state.is_empty() {
+        return Ok(false);
+    }
+    let mut out = Vec::new(alloc);
+    state.encode(&mut out)?;
+    Ok(out.as_slice() == want)
+}
+
 #[test]
 fn of_no_values_none_differ(rt: HostRuntime) {
     let distinct = Distinct::empty(rt.alloc());
-    assert!(rt; distinct.is_empty());
-    assert_eq!(rt; distinct.answer(), Answer::Number(0));
+    let is_none = distinct.is_empty() && distinct.answer() == Answer::Number(0);
+    drop(distinct);
+    assert!(rt; is_none);
 }
 
 #[test]
 fn equal_texts_are_written_once(rt: HostRuntime) -> Result<(), Fail> {
     let distinct = three_texts(&rt, rt.alloc())?;
-    assert!(rt; !distinct.is_empty());
-    let mut out = Vec::new(rt.alloc());
-    distinct.encode(&mut out)?;
-    assert_eq!(rt;
-        out.as_slice(),
-        b"\x07\0\0\0\0\0\0\0\x02\x03\x02m1\0\0\0\0\0\0\0\x02\x03\x02m2\0\0\0\0\0\0\0\x01".as_slice()
-    );
+    let is_so = is_written(
+        rt.alloc(),
+        &distinct,
+        b"\x07\0\0\0\0\0\0\0\x02\x03\x02m1\0\0\0\0\0\0\0\x02\x03\x02m2\0\0\0\0\0\0\0\x01",
+    )?;
+    drop(distinct);
+    assert!(rt; is_so);
     Ok(())
+}
+
+/// Those texts without the first m1.
+fn two_texts(rt: &impl Abort, alloc: Global) -> Result<Distinct, Memory> {
+    let first = text(rt, alloc, b"m1")?;
+    let mut distinct = three_texts(rt, alloc)?;
+    let removed = distinct.remove(&first);
+    drop(first);
+    assert!(rt; removed.is_ok());
+    Ok(distinct)
 }
 
 #[test]
 fn a_removal_lowers_the_count_that_is_written(rt: HostRuntime) -> Result<(), Fail> {
-    let first = text(&rt, rt.alloc(), b"m1")?;
-    let mut distinct = three_texts(&rt, rt.alloc())?;
-    assert!(rt; distinct.remove(&first).is_ok());
-    assert!(rt; !distinct.is_empty());
-    let mut out = Vec::new(rt.alloc());
-    distinct.encode(&mut out)?;
-    assert_eq!(rt;
-        out.as_slice(),
-        b"\x07\0\0\0\0\0\0\0\x02\x03\x02m1\0\0\0\0\0\0\0\x01\x03\x02m2\0\0\0\0\0\0\0\x01".as_slice()
-    );
+    let distinct = two_texts(&rt, rt.alloc())?;
+    let is_so = is_written(
+        rt.alloc(),
+        &distinct,
+        b"\x07\0\0\0\0\0\0\0\x02\x03\x02m1\0\0\0\0\0\0\0\x01\x03\x02m2\0\0\0\0\0\0\0\x01",
+    )?;
+    drop(distinct);
+    assert!(rt; is_so);
     Ok(())
+}
+
+/// Whether a state of a text and another one forgets the first at its removal, and refuses to remove it again.
+fn forgets(distinct: &mut Distinct, first: &Value) -> bool {
+    let had_both = distinct.answer() == Answer::Number(2)
+        && distinct.size() == 2
+        && distinct.kind() == Some(Kind::Text);
+    let is_gone = distinct.remove(first).is_ok() && distinct.answer() == Answer::Number(1);
+    had_both && is_gone && distinct.remove(first) == Err(Unfit)
 }
 
 #[test]
 fn a_text_is_forgotten_at_its_last_removal(rt: HostRuntime) -> Result<(), Fail> {
     let first = text(&rt, rt.alloc(), b"m1")?;
-    let mut distinct = three_texts(&rt, rt.alloc())?;
-    assert!(rt; distinct.remove(&first).is_ok());
-    let left = (distinct.answer(), distinct.size(), distinct.kind());
-    assert_eq!(rt; left, (Answer::Number(2), 2, Some(Kind::Text)));
-    let left = (distinct.remove(&first), distinct.answer());
-    assert_eq!(rt; left, (Ok(()), Answer::Number(1)));
-    assert_eq!(rt; distinct.remove(&first), Err(Unfit));
+    let mut distinct = two_texts(&rt, rt.alloc())?;
+    let is_forgotten = forgets(&mut distinct, &first);
+    drop(distinct);
+    drop(first);
+    assert!(rt; is_forgotten);
     Ok(())
+}
+
+/// A state of the ints -1 and 1.
+fn two_ints(rt: &impl Abort, alloc: Global) -> Result<Distinct, Memory> {
+    let mut distinct = Distinct::empty(alloc);
+    add(rt, &mut distinct, &Value::Int(-1))?;
+    add(rt, &mut distinct, &Value::Int(1))?;
+    Ok(distinct)
 }
 
 #[test]
 fn ints_stand_by_their_bytes(rt: HostRuntime) -> Result<(), Fail> {
-    let alloc = rt.alloc();
-    let mut distinct = Distinct::empty(alloc);
-    add(&rt, &mut distinct, &Value::Int(-1))?;
-    add(&rt, &mut distinct, &Value::Int(1))?;
-    assert!(rt; !distinct.is_empty());
-    let mut out = Vec::new(alloc);
-    distinct.encode(&mut out)?;
-    assert_eq!(rt;
-        out.as_slice(),
-        b"\x07\0\0\0\0\0\0\0\x02\x01\0\0\0\0\0\0\0\x01\0\0\0\0\0\0\0\x01\x01\xff\xff\xff\xff\xff\xff\xff\xff\0\0\0\0\0\0\0\x01".as_slice()
-    );
+    let distinct = two_ints(&rt, rt.alloc())?;
+    let is_so = is_written(
+        rt.alloc(),
+        &distinct,
+        b"\x07\0\0\0\0\0\0\0\x02\x01\0\0\0\0\0\0\0\x01\0\0\0\0\0\0\0\x01\x01\xff\xff\xff\xff\xff\xff\xff\xff\0\0\0\0\0\0\0\x01",
+    )?;
+    drop(distinct);
+    assert!(rt; is_so);
     Ok(())
+}
+
+/// How many values the state stands for that a first pair and a second one begin.
+fn size_of_two(
+    alloc: Global,
+    first: &[u8],
+    second: &[u8],
+) -> Result<Result<u64, StateFault>, Memory> {
+    let mut bytes = first.to_vec(alloc)?;
+    bytes.extend_from_slice(second)?;
+    Ok(size_read(alloc, &bytes))
 }
 
 #[test]
 fn what_is_no_distinct_count_is_refused(rt: HostRuntime) -> Result<(), Fail> {
-    let alloc = rt.alloc();
     let flag: &[u8] = b"\x07\0\0\0\0\0\0\0\x02\x04\x01\0\0\0\0\0\0\0\x05";
     let table: [(&[u8], Result<u64, StateFault>); 4] = [
         (b"\x04\x00\0\0\0\0\0\0\0\x01", Err(StateFault::Unfit)),
@@ -114,9 +155,8 @@ fn what_is_no_distinct_count_is_refused(rt: HostRuntime) -> Result<(), Fail> {
         (b"\x04", Err(StateFault::Short)),
     ];
     for (second, want) in table {
-        let mut bytes = flag.to_vec(alloc)?;
-        bytes.extend_from_slice(second)?;
-        assert_eq!(rt; size_read(alloc, &bytes), want, "at {second:?}");
+        let read = size_of_two(rt.alloc(), flag, second)?;
+        assert!(rt; read == want, "at {second:?}");
     }
     let alone: [(&[u8], Result<u64, StateFault>); 3] = [
         (b"\x07\0\0\0\0\0\0\0\x01\x04\x01\0\0\0\0\0\0\0\x05x", Ok(5)),
@@ -127,7 +167,7 @@ fn what_is_no_distinct_count_is_refused(rt: HostRuntime) -> Result<(), Fail> {
         (b"\x05\0\0\0\0\0\0\0\x01", Err(StateFault::Unfit)),
     ];
     for (bytes, want) in alone {
-        assert_eq!(rt; size_read(alloc, bytes), want, "at {bytes:?}");
+        assert!(rt; size_read(rt.alloc(), bytes) == want, "at {bytes:?}");
     }
     Ok(())
 }

@@ -36,104 +36,144 @@ fn max_of(rt: &impl Abort, alloc: Global, numbers: &[i64]) -> Result<Max, Memory
     Ok(max)
 }
 
+/// Whether a state of some values is written as these bytes.
+fn is_written<A: Aggregate>(alloc: Global, state: &A, want: &[u8]) -> Result<bool, Memory> {
+    if state.is_empty() {
+        return Ok(false);
+    }
+    let mut out = Vec::new(alloc);
+    state.encode(&mut out)?;
+    Ok(out.as_slice() == want)
+}
+
 #[test]
 fn no_values_have_no_extreme(rt: HostRuntime) {
-    assert_eq!(rt; Min::empty(rt.alloc()).answer(), Answer::Dash);
-    assert_eq!(rt; Max::empty(rt.alloc()).answer(), Answer::Dash);
+    let least = Min::empty(rt.alloc()).answer();
+    let greatest = Max::empty(rt.alloc()).answer();
+    assert!(rt; least == Answer::Dash && greatest == Answer::Dash);
+}
+
+/// Whether a removal of a number from a state answers so, and leaves this answer, this size and these pairs.
+fn leaves(
+    min: &mut Min,
+    number: i64,
+    removed: Result<(), Unfit>,
+    left: (Answer, u64, u64),
+) -> bool {
+    let is_answered = min.remove(&Value::Int(number)) == removed;
+    is_answered && (min.answer(), min.size(), min.pairs()) == left
+}
+
+/// Whether the ints 3, 1, 2 and 2 of a state go one after another, and no other value does.
+fn all_go(min: &mut Min) -> bool {
+    let stays = leaves(min, 0, Err(Unfit), (Answer::Number(1), 4, 2));
+    let three = leaves(min, 3, Ok(()), (Answer::Number(1), 3, 2));
+    let one = leaves(min, 1, Ok(()), (Answer::Number(2), 2, 1));
+    let two = leaves(min, 2, Ok(()), (Answer::Number(2), 1, 1));
+    let last = leaves(min, 2, Ok(()), (Answer::Dash, 0, 0));
+    let none = leaves(min, 2, Err(Unfit), (Answer::Dash, 0, 0));
+    stays && three && one && two && last && none && min.is_empty()
 }
 
 #[test]
 fn the_least_goes_with_its_values(rt: HostRuntime) -> Result<(), Fail> {
     let mut min = min_of(&rt, rt.alloc(), &[3, 1, 2, 2])?;
-    let table = [
-        (0, Err(Unfit), Answer::Number(1), 4, 2),
-        (3, Ok(()), Answer::Number(1), 3, 2),
-        (1, Ok(()), Answer::Number(2), 2, 1),
-        (2, Ok(()), Answer::Number(2), 1, 1),
-        (2, Ok(()), Answer::Dash, 0, 0),
-        (2, Err(Unfit), Answer::Dash, 0, 0),
-    ];
-    for (number, removed, answer, size, pairs) in table {
-        assert_eq!(rt;
-            min.remove(&Value::Int(number)),
-            removed,
-            "{number} of {size}"
-        );
-        let left = (min.answer(), min.size(), min.pairs());
-        assert_eq!(rt; left, (answer, size, pairs), "{number} of {size}");
-    }
-    assert!(rt; min.is_empty());
+    let do_go = all_go(&mut min);
+    drop(min);
+    assert!(rt; do_go);
     Ok(())
+}
+
+/// Whether the greatest of the ints 3, 1, 2 and 2 of a state goes, and no id does.
+fn greatest_goes(max: &mut Max) -> bool {
+    let is_three = max.answer() == Answer::Number(3) && max.pairs() == 2;
+    let is_gone = max.remove(&Value::Int(3)).is_ok();
+    let is_two = max.answer() == Answer::Number(2) && max.pairs() == 1;
+    let is_refused = max.remove(&Value::Id(2)) == Err(Unfit);
+    is_three && is_gone && is_two && is_refused && max.size() == 3
 }
 
 #[test]
 fn the_greatest_goes_with_its_values(rt: HostRuntime) -> Result<(), Fail> {
     let mut max = max_of(&rt, rt.alloc(), &[3, 1, 2, 2])?;
-    assert_eq!(rt; (max.answer(), max.pairs()), (Answer::Number(3), 2));
-    assert!(rt; max.remove(&Value::Int(3)).is_ok());
-    assert_eq!(rt; (max.answer(), max.pairs()), (Answer::Number(2), 1));
-    let refused = (max.remove(&Value::Id(2)), max.size());
-    assert_eq!(rt; refused, (Err(Unfit), 3));
+    let does_go = greatest_goes(&mut max);
+    drop(max);
+    assert!(rt; does_go);
     Ok(())
 }
 
 #[test]
 fn a_least_value_is_written_as_its_pairs(rt: HostRuntime) -> Result<(), Fail> {
     let min = min_of(&rt, rt.alloc(), &[3, 1, 2, 2])?;
-    assert!(rt; !min.is_empty());
-    let mut out = Vec::new(rt.alloc());
-    min.encode(&mut out)?;
-    assert_eq!(rt;
-        out.as_slice(),
-        b"\x15\0\0\0\0\0\0\0\x04\0\0\0\0\0\0\0\x02\x01\0\0\0\0\0\0\0\x01\0\0\0\0\0\0\0\x01\x01\0\0\0\0\0\0\0\x02\0\0\0\0\0\0\0\x02".as_slice()
-    );
+    let is_so = is_written(
+        rt.alloc(),
+        &min,
+        b"\x15\0\0\0\0\0\0\0\x04\0\0\0\0\0\0\0\x02\x01\0\0\0\0\0\0\0\x01\0\0\0\0\0\0\0\x01\x01\0\0\0\0\0\0\0\x02\0\0\0\0\0\0\0\x02",
+    )?;
+    drop(min);
+    assert!(rt; is_so);
     Ok(())
 }
 
+/// The pairs of the ints 3, 1, 2 and 2 where the greatest is asked.
+const GREATEST: &[u8] =
+    b"\x16\0\0\0\0\0\0\0\x04\0\0\0\0\0\0\0\x02\x01\0\0\0\0\0\0\0\x03\0\0\0\0\0\0\0\x01\x01\0\0\0\0\0\0\0\x02\0\0\0\0\0\0\0\x02";
+
 #[test]
-fn a_greatest_value_is_written_as_its_pairs_and_read_back(rt: HostRuntime) -> Result<(), Fail> {
+fn a_greatest_value_is_written_as_its_pairs(rt: HostRuntime) -> Result<(), Fail> {
     let max = max_of(&rt, rt.alloc(), &[3, 1, 2, 2])?;
-    assert!(rt; !max.is_empty());
-    let mut out = Vec::new(rt.alloc());
-    max.encode(&mut out)?;
-    assert_eq!(rt;
-        out.as_slice(),
-        b"\x16\0\0\0\0\0\0\0\x04\0\0\0\0\0\0\0\x02\x01\0\0\0\0\0\0\0\x03\0\0\0\0\0\0\0\x01\x01\0\0\0\0\0\0\0\x02\0\0\0\0\0\0\0\x02".as_slice()
-    );
-    match Max::decode(rt.alloc(), &mut ByteReader::new(&out)) {
-        Ok(mut read) => {
-            let left = (read.remove(&Value::Int(3)), read.answer(), read.size());
-            assert_eq!(rt; left, (Ok(()), Answer::Number(2), 3));
-        }
-        Err(fault) => panic!(rt; "{fault:?}"),
-    }
+    let is_so = is_written(rt.alloc(), &max, GREATEST)?;
+    drop(max);
+    assert!(rt; is_so);
     Ok(())
+}
+
+/// Whether a state is read of these bytes whose greatest int is 3, and then 2.
+fn is_read_back(alloc: Global, bytes: &[u8]) -> bool {
+    match Max::decode(alloc, &mut ByteReader::new(bytes)) {
+        Ok(mut read) => {
+            let is_gone = read.remove(&Value::Int(3)).is_ok();
+            is_gone && read.answer() == Answer::Number(2) && read.size() == 3
+        }
+        Err(_) => false,
+    }
+}
+
+#[test]
+fn a_greatest_value_is_read_back(rt: HostRuntime) {
+    assert!(rt; is_read_back(rt.alloc(), GREATEST));
 }
 
 #[test]
 fn ints_beat_each_other_by_their_signs(rt: HostRuntime) -> Result<(), Fail> {
     let min = min_of(&rt, rt.alloc(), &[5, -1, -1])?;
     let found = (min.answer(), min.pairs(), min.kind());
-    assert_eq!(rt; found, (Answer::Number(-1), 1, Some(Kind::Int)));
-    assert!(rt; !min.is_empty());
-    let mut out = Vec::new(rt.alloc());
-    min.encode(&mut out)?;
-    assert_eq!(rt;
-        out.as_slice(),
-        b"\x15\0\0\0\0\0\0\0\x03\0\0\0\0\0\0\0\x01\x01\xff\xff\xff\xff\xff\xff\xff\xff\0\0\0\0\0\0\0\x02".as_slice()
-    );
+    let is_so = is_written(
+        rt.alloc(),
+        &min,
+        b"\x15\0\0\0\0\0\0\0\x03\0\0\0\0\0\0\0\x01\x01\xff\xff\xff\xff\xff\xff\xff\xff\0\0\0\0\0\0\0\x02",
+    )?;
+    drop(min);
+    assert!(rt; is_so && found == (Answer::Number(-1), 1, Some(Kind::Int)));
     Ok(())
+}
+
+/// A state of the ids 9, 10 and the greatest.
+fn three_ids(rt: &impl Abort, alloc: Global) -> Result<Max, Memory> {
+    let mut max = Max::empty(alloc);
+    for id in [9, 10, u64::MAX] {
+        add(rt, &mut max, Value::Id(id))?;
+    }
+    Ok(max)
 }
 
 #[test]
 fn ids_beat_each_other_by_their_sizes(rt: HostRuntime) -> Result<(), Fail> {
-    let mut max = Max::empty(rt.alloc());
-    for id in [9, 10, u64::MAX] {
-        add(&rt, &mut max, Value::Id(id))?;
-    }
+    let max = three_ids(&rt, rt.alloc())?;
     let found = (max.answer(), max.pairs(), max.kind());
+    drop(max);
     let greatest = Answer::Number(i128::from(u64::MAX));
-    assert_eq!(rt; found, (greatest, 1, Some(Kind::Id)));
+    assert!(rt; found == (greatest, 1, Some(Kind::Id)));
     Ok(())
 }
 
@@ -232,9 +272,26 @@ fn mixed_changes_leave_what_a_plain_list_has(rt: HostRuntime) -> Result<(), Fail
     Ok(())
 }
 
+/// Whether a removal of an id from the state that these bytes end answers so, and one of an int is refused.
+fn is_removed_so(
+    alloc: Global,
+    state: &[u8],
+    value: u64,
+    want: Result<(), Unfit>,
+) -> Result<bool, Memory> {
+    let mut bytes = b"\x15".to_vec(alloc)?;
+    bytes.extend_from_slice(state)?;
+    match Min::decode(alloc, &mut ByteReader::new(&bytes)) {
+        Ok(mut min) => {
+            let is_so = min.remove(&Value::Id(value)) == want;
+            Ok(is_so && min.remove(&Value::Int(6)) == Err(Unfit))
+        }
+        Err(_) => Ok(false),
+    }
+}
+
 #[test]
 fn values_of_no_list_of_the_state_stay(rt: HostRuntime) -> Result<(), Fail> {
-    let alloc = rt.alloc();
     let largest = u64::MAX;
     let table: [(&[u8], u64, Result<(), Unfit>); 8] = [
         // All three values are in the pairs, so only the first one can go.
@@ -283,26 +340,33 @@ fn values_of_no_list_of_the_state_stay(rt: HostRuntime) -> Result<(), Fail> {
         ),
     ];
     for (state, value, want) in table {
-        let mut bytes = b"\x15".to_vec(alloc)?;
-        bytes.extend_from_slice(state)?;
-        match Min::decode(alloc, &mut ByteReader::new(&bytes)) {
-            Ok(mut min) => {
-                assert_eq!(rt;
-                    min.remove(&Value::Id(value)),
-                    want,
-                    "at {value} of {state:?}"
-                );
-                assert_eq!(rt; min.remove(&Value::Int(6)), Err(Unfit));
-            }
-            Err(fault) => panic!(rt; "{fault:?} at {state:?}"),
-        }
+        let is_so = is_removed_so(rt.alloc(), state, value, want)?;
+        assert!(rt; is_so, "at {value} of {state:?}");
     }
     Ok(())
 }
 
+/// How many values the state stands for that these bytes begin with.
+fn size_read(alloc: Global, bytes: &[u8]) -> Result<u64, StateFault> {
+    match Min::decode(alloc, &mut ByteReader::new(bytes)) {
+        Ok(min) => Ok(min.size()),
+        Err(fault) => Err(fault),
+    }
+}
+
+/// How many values the state stands for that a first pair and a second one begin.
+fn size_of_two(
+    alloc: Global,
+    first: &[u8],
+    second: &[u8],
+) -> Result<Result<u64, StateFault>, Memory> {
+    let mut bytes = first.to_vec(alloc)?;
+    bytes.extend_from_slice(second)?;
+    Ok(size_read(alloc, &bytes))
+}
+
 #[test]
 fn what_is_no_state_is_refused(rt: HostRuntime) -> Result<(), Fail> {
-    let alloc = rt.alloc();
     let first: &[u8] =
         b"\x15\0\0\0\0\0\0\0\x04\0\0\0\0\0\0\0\x02\x02\0\0\0\0\0\0\0\x09\0\0\0\0\0\0\0\x01";
     let table: [(&[u8], Result<u64, StateFault>); 10] = [
@@ -327,14 +391,14 @@ fn what_is_no_state_is_refused(rt: HostRuntime) -> Result<(), Fail> {
         (b"", Err(StateFault::Short)),
     ];
     for (second, want) in table {
-        let mut bytes = first.to_vec(alloc)?;
-        bytes.extend_from_slice(second)?;
-        let read = match Min::decode(alloc, &mut ByteReader::new(&bytes)) {
-            Ok(min) => Ok(min.size()),
-            Err(fault) => Err(fault),
-        };
-        assert_eq!(rt; read, want, "at {second:?}");
+        let read = size_of_two(rt.alloc(), first, second)?;
+        assert!(rt; read == want, "at {second:?}");
     }
+    Ok(())
+}
+
+#[test]
+fn what_begins_no_state_is_refused(rt: HostRuntime) {
     let table: [(&[u8], StateFault); 7] = [
         (
             b"\x05\0\0\0\0\0\0\0\x01\x01\0\0\0\0\0\0\0\x01\0\0\0\0\0\0\0\x01",
@@ -351,10 +415,6 @@ fn what_is_no_state_is_refused(rt: HostRuntime) -> Result<(), Fail> {
         ),
     ];
     for (bytes, want) in table {
-        match Min::decode(alloc, &mut ByteReader::new(bytes)) {
-            Ok(_) => panic!(rt; "read {bytes:?}"),
-            Err(fault) => assert_eq!(rt; fault, want, "at {bytes:?}"),
-        }
+        assert!(rt; size_read(rt.alloc(), bytes) == Err(want), "at {bytes:?}");
     }
-    Ok(())
 }

@@ -3,7 +3,6 @@ use rg_config::{ConfigFault, Plan, QueryRefusal, SettingsFault, read_plan};
 use rg_event::Room;
 use rg_query::QueryFault;
 use std::alloc::Global;
-use std::process::Abort;
 use std::test::Fail;
 
 const COUNT: &[u8] = b"SELECT count(*) FROM payments GROUP BY card OVER SLIDING 5 minutes";
@@ -53,17 +52,31 @@ fn wide(alloc: Global, counts: usize, columns: usize) -> Result<Vec<u8>, Memory>
     Ok(text)
 }
 
-fn assert_refused(rt: &(impl Abort + AllocGlobal), text: &[u8], fault: ConfigFault) {
-    match read_plan(rt.alloc(), text) {
-        Ok(plan) => panic!(rt; "{plan:?}"),
-        Err(found) => assert_eq!(rt; found, fault),
+/// Whether a plan's text is refused for this fault.
+fn is_refused(alloc: Global, text: &[u8], fault: ConfigFault) -> bool {
+    match read_plan(alloc, text) {
+        Ok(_) => false,
+        Err(found) => found == fault,
     }
 }
 
 #[test]
 fn what_is_no_document_is_toml(rt: HostRuntime) {
-    assert_refused(&rt, b"x", ConfigFault::Toml);
-    assert_refused(&rt, b"x = \"\xff\"", ConfigFault::Toml);
+    assert!(rt; is_refused(rt.alloc(), b"x", ConfigFault::Toml));
+    assert!(rt; is_refused(rt.alloc(), b"x = \"\xff\"", ConfigFault::Toml));
+}
+
+/// Whether a plan with this stream and these settings is refused for this fault.
+fn is_refused_with(
+    alloc: Global,
+    stream: &[u8],
+    settings: &[u8],
+    fault: ConfigFault,
+) -> Result<bool, Memory> {
+    let text = plan_with(alloc, stream, settings)?;
+    let is_so = is_refused(alloc, &text, fault);
+    drop(text);
+    Ok(is_so)
 }
 
 #[test]
@@ -77,16 +90,25 @@ fn a_stream_is_a_name_and_columns(rt: HostRuntime) -> Result<(), Fail> {
         b"[stream]\nname = \"p\"\ncolumns = [\"t\", \"a:float\"]\n",
         b"[stream]\nname = \"p\"\ncolumns = []\n",
     ];
+    let settings = b"[settings]\ncache = 0\n";
     for stream in streams {
-        let text = plan_with(rt.alloc(), stream, b"[settings]\ncache = 0\n")?;
-        assert_refused(&rt, &text, ConfigFault::Stream);
+        assert!(rt; is_refused_with(rt.alloc(), stream, settings, ConfigFault::Stream)?);
     }
     Ok(())
 }
 
+/// Whether a plan with this setting is refused for this fault of its settings.
+fn is_not_set(alloc: Global, setting: &[u8], fault: SettingsFault) -> Result<bool, Memory> {
+    let mut settings = Vec::from_slice(alloc, b"[settings]\n")?;
+    settings.extend_from_slice(setting)?;
+    let is_so = is_refused_with(alloc, PAYMENTS, &settings, ConfigFault::Settings(fault))?;
+    drop(settings);
+    Ok(is_so)
+}
+
 #[test]
-fn a_setting_stands_in_its_range(rt: HostRuntime) -> Result<(), Fail> {
-    let settings: [(&[u8], SettingsFault); 14] = [
+fn a_cache_and_a_chunk_stand_in_their_ranges(rt: HostRuntime) -> Result<(), Fail> {
+    let settings: [(&[u8], SettingsFault); 9] = [
         (b"cache = 0\n", SettingsFault::Cache),
         (b"cache = 1_025\n", SettingsFault::Cache),
         (b"cache = 1.0\n", SettingsFault::Cache),
@@ -96,6 +118,16 @@ fn a_setting_stands_in_its_range(rt: HostRuntime) -> Result<(), Fail> {
         (b"chunk = 4_097\n", SettingsFault::Chunk),
         (b"cache = 1_024\nchunk = 65\n", SettingsFault::CachedEvents),
         (b"cache = 1_024\n", SettingsFault::CachedEvents),
+    ];
+    for (setting, fault) in settings {
+        assert!(rt; is_not_set(rt.alloc(), setting, fault)?);
+    }
+    Ok(())
+}
+
+#[test]
+fn a_setting_stands_in_its_range(rt: HostRuntime) -> Result<(), Fail> {
+    let settings: [(&[u8], SettingsFault); 5] = [
         (b"commit = 1_000_001\n", SettingsFault::Commit),
         (b"save = 0\n", SettingsFault::Save),
         (b"events = 1_099_511_627_777\n", SettingsFault::Events),
@@ -103,12 +135,18 @@ fn a_setting_stands_in_its_range(rt: HostRuntime) -> Result<(), Fail> {
         (b"room = 1\ncache = 0\n", SettingsFault::Key),
     ];
     for (setting, fault) in settings {
-        let mut table = Vec::from_slice(rt.alloc(), b"[settings]\n")?;
-        table.extend_from_slice(setting)?;
-        let text = plan_with(rt.alloc(), PAYMENTS, &table)?;
-        assert_refused(&rt, &text, ConfigFault::Settings(fault));
+        assert!(rt; is_not_set(rt.alloc(), setting, fault)?);
     }
     Ok(())
+}
+
+/// Whether a plan with this top over a stream is refused for this fault of its settings.
+fn is_no_top(alloc: Global, top: &[u8], fault: SettingsFault) -> Result<bool, Memory> {
+    let mut text = Vec::from_slice(alloc, top)?;
+    text.extend_from_slice(PAYMENTS)?;
+    let is_so = is_refused(alloc, &text, ConfigFault::Settings(fault));
+    drop(text);
+    Ok(is_so)
 }
 
 #[test]
@@ -121,89 +159,106 @@ fn the_top_has_queries_and_no_other_key(rt: HostRuntime) -> Result<(), Fail> {
         (b"queries = [\"q\"]\nsettings = 1\n", SettingsFault::Table),
     ];
     for (top, fault) in tops {
-        let mut text = Vec::from_slice(rt.alloc(), top)?;
-        text.extend_from_slice(PAYMENTS)?;
-        assert_refused(&rt, &text, ConfigFault::Settings(fault));
+        assert!(rt; is_no_top(rt.alloc(), top, fault)?);
     }
-    let text = plan_with(rt.alloc(), PAYMENTS, b"[more]\n")?;
-    assert_refused(&rt, &text, ConfigFault::Settings(SettingsFault::TopKey));
+    let fault = ConfigFault::Settings(SettingsFault::TopKey);
+    assert!(rt; is_refused_with(rt.alloc(), PAYMENTS, b"[more]\n", fault)?);
     Ok(())
 }
 
 /// A plan with all but the last two settings.
 fn set(alloc: Global) -> Result<Plan, Fail> {
-    let settings = b"[settings]\ncache = 1\nchunk = 2\ncommit = 2\nsave = 4\n";
-    let text = plan_with(alloc, PAYMENTS, settings)?;
-    Ok(read_plan(alloc, &text)?)
+    plan_set(
+        alloc,
+        b"[settings]\ncache = 1\nchunk = 2\ncommit = 2\nsave = 4\n",
+    )
+}
+
+/// Whether a plan's schema is written as this.
+fn has_schema(alloc: Global, plan: &Plan, want: &[u8]) -> Result<bool, Memory> {
+    let mut schema = Vec::new(alloc);
+    plan.schema.write(&mut schema)?;
+    Ok(schema.as_slice() == want)
+}
+
+/// Whether a plan has one query, which is printed so.
+fn has_query(plan: &Plan, want: &[u8]) -> bool {
+    match plan.queries.as_slice() {
+        [query] => query.as_slice() == want && plan.task.queries() == 1,
+        _ => false,
+    }
 }
 
 #[test]
 fn a_stream_and_its_queries_are_read(rt: HostRuntime) -> Result<(), Fail> {
     let plan = set(rt.alloc())?;
-    let mut schema = Vec::new(rt.alloc());
-    plan.schema.write(&mut schema)?;
-    assert_eq!(rt;
-        schema.as_slice(),
-        b"payments(ts,card:text,merchant:text,amount:int)".as_slice()
-    );
-    match plan.queries.as_slice() {
-        [query] => assert_eq!(rt; query.as_slice(), PRINTED),
-        queries => panic!(rt; "{queries:?}"),
-    }
-    assert_eq!(rt; plan.task.queries(), 1);
+    let schema = b"payments(ts,card:text,merchant:text,amount:int)";
+    let is_schema = has_schema(rt.alloc(), &plan, schema)?;
+    let is_read = is_schema && has_query(&plan, PRINTED);
+    drop(plan);
+    assert!(rt; is_read);
     Ok(())
+}
+
+/// Whether a plan has this room, commits and saves so often, and takes no header.
+fn is_set(plan: &Plan, room: Room, commit: u64, save: u64) -> bool {
+    plan.room == room && plan.commit == commit && plan.save == save && !plan.header
 }
 
 #[test]
 fn what_is_set_is_read(rt: HostRuntime) -> Result<(), Fail> {
     let plan = set(rt.alloc())?;
-    assert_eq!(rt;
-        plan.room,
-        Room {
-            chunk: 2,
-            cache: 1,
-            limit: 1_099_511_627_776
-        }
-    );
-    assert!(rt; plan.commit == 2 && plan.save == 4 && !plan.header);
+    let room = Room {
+        chunk: 2,
+        cache: 1,
+        limit: 1_099_511_627_776,
+    };
+    let is_read = is_set(&plan, room, 2, 4);
+    drop(plan);
+    assert!(rt; is_read);
     Ok(())
+}
+
+/// The plan with these settings.
+fn plan_set(alloc: Global, settings: &[u8]) -> Result<Plan, Fail> {
+    let text = plan_with(alloc, PAYMENTS, settings)?;
+    Ok(read_plan(alloc, &text)?)
 }
 
 #[test]
 fn what_is_not_set_has_a_default(rt: HostRuntime) -> Result<(), Fail> {
-    let text = plan_with(rt.alloc(), PAYMENTS, b"")?;
-    let plan = read_plan(rt.alloc(), &text)?;
-    assert_eq!(rt;
-        plan.room,
-        Room {
-            chunk: 1_024,
-            cache: 64,
-            limit: 1_099_511_627_776
-        }
-    );
-    assert!(rt; plan.commit == 1_024 && plan.save == 65_536 && !plan.header);
+    let plan = plan_set(rt.alloc(), b"")?;
+    let room = Room {
+        chunk: 1_024,
+        cache: 64,
+        limit: 1_099_511_627_776,
+    };
+    let is_read = is_set(&plan, room, 1_024, 65_536);
+    drop(plan);
+    assert!(rt; is_read);
     Ok(())
 }
 
 #[test]
 fn a_limit_and_a_header_may_be_set_alone(rt: HostRuntime) -> Result<(), Fail> {
-    let settings = b"[settings]\nevents = 7\nheader = true\n";
-    let text = plan_with(rt.alloc(), PAYMENTS, settings)?;
-    let plan = read_plan(rt.alloc(), &text)?;
-    assert!(rt; plan.room.limit == 7 && plan.header && plan.commit == 1_024);
+    let plan = plan_set(rt.alloc(), b"[settings]\nevents = 7\nheader = true\n")?;
+    let is_read = plan.room.limit == 7 && plan.header && plan.commit == 1_024;
+    drop(plan);
+    assert!(rt; is_read);
     Ok(())
 }
 
-/// This query, behind so many others, is the first that isn't taken.
-fn assert_not_taken(
-    rt: &(impl Abort + AllocGlobal),
+/// Whether this query, behind so many others, is the first that isn't taken.
+fn is_not_taken(
+    alloc: Global,
     before: u32,
     query: &[u8],
     refusal: QueryRefusal,
-) -> Result<(), Fail> {
-    let text = plan_of(rt.alloc(), before as usize, query)?;
-    assert_refused(rt, &text, ConfigFault::Query(before, refusal));
-    Ok(())
+) -> Result<bool, Memory> {
+    let text = plan_of(alloc, before as usize, query)?;
+    let is_so = is_refused(alloc, &text, ConfigFault::Query(before, refusal));
+    drop(text);
+    Ok(is_so)
 }
 
 #[test]
@@ -216,22 +271,39 @@ fn the_first_query_that_is_not_taken_is_named(rt: HostRuntime) -> Result<(), Fai
         (64, b"SELECT", QueryRefusal::TooMany),
     ];
     for (before, query, refusal) in table {
-        assert_not_taken(&rt, before, query, refusal)?;
+        assert!(rt; is_not_taken(rt.alloc(), before, query, refusal)?);
     }
     Ok(())
 }
 
+/// Whether a query with so many counts and nine columns of its key is the first that isn't taken.
+fn is_too_wide(
+    alloc: Global,
+    before: u32,
+    counts: usize,
+    refusal: QueryRefusal,
+) -> Result<bool, Memory> {
+    let query = wide(alloc, counts, 9)?;
+    let is_so = is_not_taken(alloc, before, &query, refusal)?;
+    drop(query);
+    Ok(is_so)
+}
+
+/// How many queries are taken where the last of 64 is as wide as it may be.
+fn taken(alloc: Global) -> Result<u32, Fail> {
+    let query = wide(alloc, 16, 8)?;
+    let text = plan_of(alloc, 63, &query)?;
+    drop(query);
+    let plan = read_plan(alloc, &text)?;
+    drop(text);
+    Ok(plan.task.queries())
+}
+
 #[test]
 fn a_query_has_at_most_16_aggregators_and_8_columns(rt: HostRuntime) -> Result<(), Fail> {
-    let table = [
-        (1, 17, QueryRefusal::TooManyAggs),
-        (2, 16, QueryRefusal::TooManyColumns),
-    ];
-    for (before, aggs, refusal) in table {
-        let query = wide(rt.alloc(), aggs, 9)?;
-        assert_not_taken(&rt, before, &query, refusal)?;
-    }
-    let text = plan_of(rt.alloc(), 63, &wide(rt.alloc(), 16, 8)?)?;
-    assert_eq!(rt; read_plan(rt.alloc(), &text)?.task.queries(), 64);
+    let aggs = is_too_wide(rt.alloc(), 1, 17, QueryRefusal::TooManyAggs)?;
+    let columns = is_too_wide(rt.alloc(), 2, 16, QueryRefusal::TooManyColumns)?;
+    assert!(rt; aggs && columns);
+    assert!(rt; taken(rt.alloc())? == 64);
     Ok(())
 }

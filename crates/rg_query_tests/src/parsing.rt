@@ -13,16 +13,16 @@ fn payments(alloc: Global) -> Result<Schema, SchemaFault> {
 }
 
 /// Why a text is no query over payments.
-fn fault_of(alloc: Global, schema: &Schema, text: &[u8]) -> Option<QueryFault> {
-    match parse(alloc, schema, text) {
-        Ok(_) => None,
-        Err(fault) => Some(fault),
+fn fault_of(alloc: Global, text: &[u8]) -> Result<Option<QueryFault>, SchemaFault> {
+    let schema = payments(alloc)?;
+    match parse(alloc, &schema, text) {
+        Ok(_) => Ok(None),
+        Err(fault) => Ok(Some(fault)),
     }
 }
 
 #[test]
 fn syntax_comes_first_then_names_then_kinds_then_spans(rt: HostRuntime) -> Result<(), Fail> {
-    let schema = payments(rt.alloc())?;
     let table: [(&[u8], QueryFault); 7] = [
         (b"", QueryFault::Syntax(0)),
         (b"SELECT count(*)", QueryFault::Syntax(15)),
@@ -48,14 +48,13 @@ fn syntax_comes_first_then_names_then_kinds_then_spans(rt: HostRuntime) -> Resul
         ),
     ];
     for (text, want) in table {
-        assert_eq!(rt; fault_of(rt.alloc(), &schema, text), Some(want), "{text:?}");
+        assert!(rt; fault_of(rt.alloc(), text)? == Some(want), "{text:?}");
     }
     Ok(())
 }
 
 #[test]
 fn the_first_name_that_nothing_has_is_told(rt: HostRuntime) -> Result<(), Fail> {
-    let schema = payments(rt.alloc())?;
     let table: [(&[u8], usize); 6] = [
         (b"SELECT sum(x) FROM payments OVER INFINITE", 11),
         (b"SELECT sum(Amount) FROM payments OVER INFINITE", 11),
@@ -71,78 +70,84 @@ fn the_first_name_that_nothing_has_is_told(rt: HostRuntime) -> Result<(), Fail> 
         ),
     ];
     for (text, place) in table {
-        assert_eq!(rt;
-            fault_of(rt.alloc(), &schema, text),
-            Some(QueryFault::UnknownName(place)),
-            "{text:?}"
-        );
+        let fault = fault_of(rt.alloc(), text)?;
+        assert!(rt; fault == Some(QueryFault::UnknownName(place)), "{text:?}");
     }
     Ok(())
 }
 
 #[test]
-fn the_first_field_or_literal_of_a_wrong_kind_is_told(rt: HostRuntime) -> Result<(), Fail> {
-    let schema = payments(rt.alloc())?;
-    let table: [(&[u8], Option<usize>); 12] = [
-        (b"SELECT sum(card) FROM payments OVER INFINITE", Some(11)),
-        (
-            b"SELECT sum(terminal) FROM payments OVER INFINITE",
-            Some(11),
-        ),
+fn the_first_field_of_a_wrong_kind_is_told(rt: HostRuntime) -> Result<(), Fail> {
+    let table: [(&[u8], usize); 4] = [
+        (b"SELECT sum(card) FROM payments OVER INFINITE", 11),
+        (b"SELECT sum(terminal) FROM payments OVER INFINITE", 11),
         (
             b"SELECT max(terminal), last(card) FROM payments OVER INFINITE",
-            Some(27),
-        ),
-        (
-            b"SELECT count(*) FROM payments WHERE amount > 1000000000001 OVER INFINITE",
-            Some(45),
-        ),
-        (
-            b"SELECT count(*) FROM payments WHERE amount > -1000000000000 OVER INFINITE",
-            None,
-        ),
-        (
-            b"SELECT count(*) FROM payments WHERE card = 5 OVER INFINITE",
-            Some(43),
-        ),
-        (
-            b"SELECT count(*) FROM payments WHERE card = '\xff' OVER INFINITE",
-            Some(43),
-        ),
-        (
-            b"SELECT count(*) FROM payments WHERE terminal = -1 OVER INFINITE",
-            Some(47),
-        ),
-        (
-            b"SELECT count(*) FROM payments WHERE terminal = 18446744073709551615 OVER INFINITE",
-            None,
-        ),
-        (
-            b"SELECT count(*) FROM payments WHERE terminal = 18446744073709551616 OVER INFINITE",
-            Some(47),
-        ),
-        (
-            b"SELECT count(*) FROM payments WHERE online = 1 OVER INFINITE",
-            Some(45),
+            27,
         ),
         (
             b"SELECT count(*) FROM payments WHERE online < 1 OVER INFINITE",
-            Some(36),
+            36,
         ),
     ];
     for (text, place) in table {
-        assert_eq!(rt;
-            fault_of(rt.alloc(), &schema, text),
-            place.map(QueryFault::WrongKind),
-            "{text:?}"
-        );
+        let fault = fault_of(rt.alloc(), text)?;
+        assert!(rt; fault == Some(QueryFault::WrongKind(place)), "{text:?}");
     }
+    Ok(())
+}
+
+#[test]
+fn the_first_literal_of_a_wrong_kind_is_told(rt: HostRuntime) -> Result<(), Fail> {
+    let table: [(&[u8], usize); 6] = [
+        (
+            b"SELECT count(*) FROM payments WHERE amount > 1000000000001 OVER INFINITE",
+            45,
+        ),
+        (
+            b"SELECT count(*) FROM payments WHERE card = 5 OVER INFINITE",
+            43,
+        ),
+        (
+            b"SELECT count(*) FROM payments WHERE card = '\xff' OVER INFINITE",
+            43,
+        ),
+        (
+            b"SELECT count(*) FROM payments WHERE terminal = -1 OVER INFINITE",
+            47,
+        ),
+        (
+            b"SELECT count(*) FROM payments WHERE terminal = 18446744073709551616 OVER INFINITE",
+            47,
+        ),
+        (
+            b"SELECT count(*) FROM payments WHERE online = 1 OVER INFINITE",
+            45,
+        ),
+    ];
+    for (text, place) in table {
+        let fault = fault_of(rt.alloc(), text)?;
+        assert!(rt; fault == Some(QueryFault::WrongKind(place)), "{text:?}");
+    }
+    Ok(())
+}
+
+#[test]
+fn the_least_int_and_the_greatest_id_are_literals(rt: HostRuntime) -> Result<(), Fail> {
+    let int = fault_of(
+        rt.alloc(),
+        b"SELECT count(*) FROM payments WHERE amount > -1000000000000 OVER INFINITE",
+    )?;
+    let id = fault_of(
+        rt.alloc(),
+        b"SELECT count(*) FROM payments WHERE terminal = 18446744073709551615 OVER INFINITE",
+    )?;
+    assert!(rt; int.is_none() && id.is_none());
     Ok(())
 }
 
 #[test]
 fn a_span_has_at_most_ten_to_the_15_milliseconds(rt: HostRuntime) -> Result<(), Fail> {
-    let schema = payments(rt.alloc())?;
     let table: [(&[u8], Option<usize>); 7] = [
         (
             b"SELECT count(*) FROM payments OVER SLIDING 11574074 days",
@@ -174,11 +179,8 @@ fn a_span_has_at_most_ten_to_the_15_milliseconds(rt: HostRuntime) -> Result<(), 
         ),
     ];
     for (text, place) in table {
-        assert_eq!(rt;
-            fault_of(rt.alloc(), &schema, text),
-            place.map(QueryFault::BadSpan),
-            "{text:?}"
-        );
+        let fault = fault_of(rt.alloc(), text)?;
+        assert!(rt; fault == place.map(QueryFault::BadSpan), "{text:?}");
     }
     Ok(())
 }
@@ -193,20 +195,21 @@ fn behind_spaces(alloc: Global, spaces: usize) -> Result<Vec<u8>, AllocError> {
     Ok(text)
 }
 
+/// How long a query behind so many spaces is, and why it is no query.
+fn spaced(alloc: Global, spaces: usize) -> Result<(usize, Option<QueryFault>), Fail> {
+    let text = behind_spaces(alloc, spaces)?;
+    let length = text.len();
+    let fault = fault_of(alloc, &text)?;
+    drop(text);
+    Ok((length, fault))
+}
+
 #[test]
 fn a_text_has_4096_bytes_at_most(rt: HostRuntime) -> Result<(), Fail> {
-    let schema = payments(rt.alloc())?;
-    let table = [
-        (4_053, 4_096, None),
-        (4_054, 4_097, Some(QueryFault::TooLarge)),
-    ];
-    for (spaces, length, want) in table {
-        let text = behind_spaces(rt.alloc(), spaces)?;
-        assert_eq!(rt;
-            (text.len(), fault_of(rt.alloc(), &schema, &text)),
-            (length, want)
-        );
-    }
+    let (length, fault) = spaced(rt.alloc(), 4_053)?;
+    assert!(rt; length == 4_096 && fault.is_none());
+    let (length, fault) = spaced(rt.alloc(), 4_054)?;
+    assert!(rt; length == 4_097 && fault == Some(QueryFault::TooLarge));
     Ok(())
 }
 
@@ -224,13 +227,19 @@ fn enclosed(alloc: Global, parentheses: usize) -> Result<Vec<u8>, AllocError> {
     Ok(text)
 }
 
+/// Why a query with a condition in so many parentheses is no query.
+fn fault_of_enclosed(alloc: Global, parentheses: usize) -> Result<Option<QueryFault>, Fail> {
+    let text = enclosed(alloc, parentheses)?;
+    let fault = fault_of(alloc, &text)?;
+    drop(text);
+    Ok(fault)
+}
+
 #[test]
 fn a_condition_stands_in_32_parentheses_at_most(rt: HostRuntime) -> Result<(), Fail> {
-    let schema = payments(rt.alloc())?;
-    for (parentheses, want) in [(32, None), (33, Some(QueryFault::TooLarge))] {
-        let text = enclosed(rt.alloc(), parentheses)?;
-        assert_eq!(rt; fault_of(rt.alloc(), &schema, &text), want, "{parentheses}");
-    }
+    let most = fault_of_enclosed(rt.alloc(), 32)?;
+    let more = fault_of_enclosed(rt.alloc(), 33)?;
+    assert!(rt; most.is_none() && more == Some(QueryFault::TooLarge));
     Ok(())
 }
 
@@ -266,12 +275,8 @@ fn is_card_its(condition: &Condition) -> bool {
     }
 }
 
-#[test]
-fn a_query_of_every_clause_is_what_its_text_says(rt: HostRuntime) -> Result<(), Fail> {
-    let schema = payments(rt.alloc())?;
-    let text =
-        b"select COUNT(*), Sum(amount), countdistinct(card) from payments\n\twhere terminal >= -0 AND not (card = 'it''s' or online != false)\n\tGroup BY card, terminal over sliding 2 Minutes delayed by 7 MS";
-    let query = parse(rt.alloc(), &schema, text)?;
+/// Whether a query is what the text of every clause says.
+fn is_of_every_clause(query: &Query) -> bool {
     let aggs = [
         Agg {
             func: Func::Count,
@@ -286,14 +291,26 @@ fn a_query_of_every_clause_is_what_its_text_says(rt: HostRuntime) -> Result<(), 
             field: 1,
         },
     ];
-    assert_eq!(rt; query.aggs.as_slice(), aggs.as_slice());
-    assert_eq!(rt; query.group.as_slice(), [1, 4].as_slice());
     let window = Window {
         delay: 7,
         length: Some(120_000),
     };
-    assert_eq!(rt; query.window, window);
-    assert!(rt; is_filter(&query));
+    query.aggs.as_slice() == aggs.as_slice()
+        && query.group.as_slice() == [1, 4].as_slice()
+        && query.window == window
+        && is_filter(query)
+}
+
+#[test]
+fn a_query_of_every_clause_is_what_its_text_says(rt: HostRuntime) -> Result<(), Fail> {
+    let schema = payments(rt.alloc())?;
+    let text =
+        b"select COUNT(*), Sum(amount), countdistinct(card) from payments\n\twhere terminal >= -0 AND not (card = 'it''s' or online != false)\n\tGroup BY card, terminal over sliding 2 Minutes delayed by 7 MS";
+    let query = parse(rt.alloc(), &schema, text)?;
+    drop(schema);
+    let is_said = is_of_every_clause(&query);
+    drop(query);
+    assert!(rt; is_said);
     Ok(())
 }
 

@@ -117,58 +117,77 @@ fn alike(alloc: Global) -> Result<TaskPlan, Fail> {
     plan_of(alloc, &queries)
 }
 
+/// A copy of that plan.
+fn copy_of_alike(alloc: Global) -> Result<TaskPlan, Fail> {
+    let plan = alike(alloc)?;
+    Ok(plan.copy(alloc)?)
+}
+
 #[test]
 fn queries_that_begin_alike_share_nodes(rt: HostRuntime) -> Result<(), Fail> {
-    let plan = alike(rt.alloc())?.copy(rt.alloc())?;
-    assert_eq!(rt; plan.offsets(), [0, 300000].as_slice());
-    assert_eq!(rt; plan.windows(), [window(0, 300000)].as_slice());
-    assert_eq!(rt; sizes(&plan), (1, 1, 1, 2));
+    let plan = copy_of_alike(rt.alloc())?;
+    let are_shared = plan.offsets() == [0, 300000].as_slice()
+        && plan.windows() == [window(0, 300000)].as_slice()
+        && sizes(&plan) == (1, 1, 1, 2);
+    drop(plan);
+    assert!(rt; are_shared);
     Ok(())
+}
+
+/// Whether each path of a plan of a count, and of a sum and that count, leads where it is to.
+fn has_paths(plan: &TaskPlan) -> bool {
+    let paths = (plan.path(0, 0), plan.path(1, 0), plan.path(1, 1));
+    let is_right = paths == (Some(0), Some(1), Some(0));
+    is_right && plan.path(1, 2).is_none() && plan.path(2, 0).is_none()
 }
 
 #[test]
 fn a_path_leads_to_an_aggregator_of_a_query(rt: HostRuntime) -> Result<(), Fail> {
-    let plan = alike(rt.alloc())?.copy(rt.alloc())?;
-    let table = [
-        (0, 0, Some(0)),
-        (1, 0, Some(1)),
-        (1, 1, Some(0)),
-        (1, 2, None),
-        (2, 0, None),
-    ];
-    for (query, agg, want) in table {
-        assert_eq!(rt; plan.path(query, agg), want, "{agg} of {query}");
-    }
+    let plan = copy_of_alike(rt.alloc())?;
+    let are_right = has_paths(&plan);
+    drop(plan);
+    assert!(rt; are_right);
     Ok(())
 }
 
-#[test]
-fn conditions_part_queries(rt: HostRuntime) -> Result<(), Fail> {
-    let alloc = rt.alloc();
+/// The plan of three queries, of which two have one condition and two one key.
+fn parted(alloc: Global) -> Result<TaskPlan, Fail> {
     let mut queries = Vec::new(alloc);
     for (amount, by_card) in [(100, false), (200, false), (100, true)] {
         let filter = Condition::Compare(3, Op::Gt, Value::Int(amount));
         queries.push(query(alloc, &[count()], Some(filter), by_card, window(0, 5))?)?;
     }
-    let plan = plan_of(alloc, &queries)?;
+    plan_of(alloc, &queries)
+}
+
+#[test]
+fn conditions_part_queries(rt: HostRuntime) -> Result<(), Fail> {
+    let plan = parted(rt.alloc())?;
     let nodes = (
         plan.windows().len(),
         plan.filters().len(),
         plan.groups().len(),
     );
-    assert_eq!(rt; nodes, (1, 2, 3));
-    assert_eq!(rt; plan.path(2, 0), Some(2));
+    let path = plan.path(2, 0);
+    drop(plan);
+    assert!(rt; nodes == (1, 2, 3) && path == Some(2));
     Ok(())
+}
+
+/// The plan of two windows.
+fn of_two_windows(alloc: Global) -> Result<TaskPlan, Fail> {
+    let mut queries = Vec::new(alloc);
+    queries.push(query(alloc, &[count()], None, false, window(5, 10))?)?;
+    queries.push(query(alloc, &[count()], None, false, window(0, 5))?)?;
+    plan_of(alloc, &queries)
 }
 
 #[test]
 fn offsets_of_two_windows_rise(rt: HostRuntime) -> Result<(), Fail> {
-    let alloc = rt.alloc();
-    let mut queries = Vec::new(alloc);
-    queries.push(query(alloc, &[count()], None, false, window(5, 10))?)?;
-    queries.push(query(alloc, &[count()], None, false, window(0, 5))?)?;
-    let plan = plan_of(alloc, &queries)?;
-    assert_eq!(rt; plan.offsets(), [0, 5, 15].as_slice());
+    let plan = of_two_windows(rt.alloc())?;
+    let do_rise = plan.offsets() == [0, 5, 15].as_slice();
+    drop(plan);
+    assert!(rt; do_rise);
     Ok(())
 }
 
@@ -202,43 +221,54 @@ fn of_64(alloc: Global, are_apart: bool) -> Result<TaskPlan, Fail> {
 #[test]
 fn queries_that_share_all(rt: HostRuntime) -> Result<(), Fail> {
     let plan = of_64(rt.alloc(), false)?;
-    assert_eq!(rt; (plan.queries(), sizes(&plan)), (64, (1, 1, 1, 16)));
-    assert_eq!(rt; plan.offsets(), [0, 5].as_slice());
-    assert_eq!(rt; plan.nodes(0), plan.nodes(63));
-    assert_eq!(rt; plan.path(63, 15), Some(15));
+    let are_shared = plan.queries() == 64
+        && sizes(&plan) == (1, 1, 1, 16)
+        && plan.offsets() == [0, 5].as_slice();
+    let is_one = plan.nodes(0) == plan.nodes(63) && plan.path(63, 15) == Some(15);
+    drop(plan);
+    assert!(rt; are_shared && is_one);
     Ok(())
 }
 
 #[test]
 fn queries_that_share_nothing(rt: HostRuntime) -> Result<(), Fail> {
     let plan = of_64(rt.alloc(), true)?;
-    assert_eq!(rt;
-        (plan.offsets().len(), sizes(&plan)),
-        (128, (64, 64, 64, 1024))
-    );
+    let are_apart = plan.offsets().len() == 128 && sizes(&plan) == (64, 64, 64, 1024);
     let paths = (plan.path(0, 15), plan.path(1, 0), plan.path(63, 15));
-    assert_eq!(rt; paths, (Some(15), Some(16), Some(1023)));
-    assert_eq!(rt; plan.nodes(64).is_none(), true);
+    let ends = plan.nodes(64).is_none();
+    drop(plan);
+    assert!(rt; are_apart && ends);
+    assert!(rt; paths == (Some(15), Some(16), Some(1023)));
     Ok(())
+}
+
+/// Why a count, and then so many counts in one query, are refused.
+fn fault_of_counts(alloc: Global, counts: &[Agg]) -> Result<Option<PlanFault>, Fail> {
+    let mut queries = Vec::new(alloc);
+    queries.push(query(alloc, &[count()], None, false, window(0, 5))?)?;
+    queries.push(query(alloc, counts, None, false, window(0, 5))?)?;
+    Ok(fault_of(alloc, &queries))
 }
 
 #[test]
 fn too_many_parts_are_refused(rt: HostRuntime) -> Result<(), Fail> {
-    let alloc = rt.alloc();
-    let mut queries = Vec::new(alloc);
-    queries.push(query(alloc, &[count()], None, false, window(0, 5))?)?;
-    queries.push(query(alloc, &[count(); 17], None, false, window(0, 5))?)?;
-    assert_eq!(rt; fault_of(alloc, &queries), Some(PlanFault::TooMany(1)));
+    let fault = fault_of_counts(rt.alloc(), &[count(); 17])?;
+    assert!(rt; fault == Some(PlanFault::TooMany(1)));
     Ok(())
 }
 
-#[test]
-fn the_query_behind_64_is_refused(rt: HostRuntime) -> Result<(), Fail> {
-    let alloc = rt.alloc();
+/// Why 65 queries are refused.
+fn fault_of_65(alloc: Global) -> Result<Option<PlanFault>, Fail> {
     let mut queries = Vec::new(alloc);
     for _ in 0..65 {
         queries.push(query(alloc, &[count()], None, false, window(0, 5))?)?;
     }
-    assert_eq!(rt; fault_of(alloc, &queries), Some(PlanFault::TooMany(64)));
+    Ok(fault_of(alloc, &queries))
+}
+
+#[test]
+fn the_query_behind_64_is_refused(rt: HostRuntime) -> Result<(), Fail> {
+    let fault = fault_of_65(rt.alloc())?;
+    assert!(rt; fault == Some(PlanFault::TooMany(64)));
     Ok(())
 }

@@ -1,5 +1,5 @@
 -- A base payload is read as the checkpoint that it is written from, and so it says one checkpoint.
-use Rattle.std.proofs.Common.{◌≡◌, ◌⊎◌, inl, inr, ℕ, ◌<◌, ◌≤◌, ◌^◌, true, List, [], ◌∷◌, ◌++◌, length, Option, Some, None, Ok, Err, refl, ap, sym, ◌∙◌, subst, arith, append_assoc, append-nil}
+use Rattle.std.proofs.Common.{◌≡◌, ◌⊎◌, inl, inr, ℕ, ◌<◌, ◌≤◌, true, List, [], ◌∷◌, ◌++◌, length, Option, Some, None, Ok, Err, refl, ap, sym, ◌∙◌, subst, arith, append_assoc, append-nil}
 use Rattle.std.specs.List.{All}
 use Rattle.std.proofs.lemmas.Grind.{common_steps}
 use Rattle.std.proofs.lemmas.List.Elements.{All-head, All-tail}
@@ -10,7 +10,7 @@ use Rattle.rg_bytes.proofs.Lists.{StepsBack, more_back}
 use Rattle.rg_agg.specs.Held.{Held, held_bytes}
 use Rattle.rg_agg.specs.Standing.{size_in}
 use Rattle.rg_past.specs.declared.past.Spot.{Spot}
-use Rattle.rg_state.specs.Rows.{Entry, AreRising, entry_bytes}
+use Rattle.rg_state.specs.Rows.{Entry, entry_bytes}
 use Rattle.rg_state.specs.States.{IsHeld, state_at}
 use Rattle.rg_state.proofs.ReadBack.{state_read_back}
 use Rattle.rg_checkpoint.specs.declared.base.Checkpoint.{Checkpoint}

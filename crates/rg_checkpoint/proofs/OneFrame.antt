@@ -1,5 +1,5 @@
 -- A file of one frame, as a log finds it in two steps and a reading.
-use Rattle.std.proofs.Common.{◌≡◌, ◌⊎◌, inl, inr, ℕ, ◌+◌, ◌<◌, ◌≤◌, ◌^◌, List, [], ◌∷◌, length, false, refl, ap, sym, ◌∙◌, subst, arith}
+use Rattle.std.proofs.Common.{◌≡◌, ◌⊎◌, inl, inr, ℕ, ◌+◌, ◌<◌, ◌^◌, List, [], ◌∷◌, length, false, ap, ◌∙◌, subst, arith}
 use Rattle.rg_host.specs.Image.{Image}
 use Rattle.rg_frame.specs.Frames.{IsLog, Begins, IsDamaged}
 use Rattle.rg_frame.specs.LogState.{LogState}

@@ -7,10 +7,11 @@ use Rattle.std.specs.List.{All, Contains}
 use Rattle.std.specs.Int.{w64, to_be_bytes}
 use Rattle.rg_agg.specs.Held.{Held}
 use Rattle.rg_past.specs.declared.past.Spot.{Spot}
+use Rattle.rg_state.specs.Counted.{WritesCounted}
 use Rattle.rg_state.specs.Rows.{Cells, Entry, Lists, entry_bytes, entries_bytes}
 use Rattle.rg_bytes.specs.Reading.{list_bytes}
 use Rattle.rg_checkpoint.specs.Base.{counted_texts, counted_spots, IsEntry, AreTexts, AreSpots}
-use Rattle.rg_checkpoint.specs.Writing.{Encodes, front_bytes}
+use Rattle.rg_checkpoint.specs.Writing.{Encodes, front_bytes, head_bytes}
 
 pub two_more : (old first second middle new : List ℕ) → middle ≡ old ++ first → new ≡ middle ++ second → new ≡ old ++ (first ++ second)
 two_more old first second middle new one two = rw (two, one) (append_assoc old first second)
@@ -33,12 +34,21 @@ item_legal P items i item there is all legal =
 pub all_taken : {A : Type 0} (P : A → Type 0) (items : List A) (i : ℕ) → length items ≤ i → All P (take i items) → All P items
 all_taken P items i past all = subst (All P) (take_all i items past) all
 
--- all that stands before the rows
-pub front_put : (old texts count spots rows n1 n2 n3 n4 n5 : List ℕ) → n1 ≡ old ++ 66 ∷ [] → n2 ≡ n1 ++ texts → n3 ≡ n2 ++ count → n4 ≡ n3 ++ spots → n5 ≡ n4 ++ rows → n5 ≡ old ++ (66 ∷ (texts ++ (count ++ (spots ++ rows))))
-front_put old texts count spots rows n1 n2 n3 n4 n5 e1 e2 e3 e4 e5 =
-    rw (e5, e4, e3, e2, e1)
-    (append_assoc (((old ++ 66 ∷ []) ++ texts) ++ count) spots rows ∙ append_assoc ((old ++ 66 ∷ []) ++ texts) count (spots ++ rows)
-    ∙ append_assoc (old ++ 66 ∷ []) texts (count ++ (spots ++ rows)) ∙ append_assoc old (66 ∷ []) (texts ++ (count ++ (spots ++ rows))))
+-- all that stands before the number of the rows
+pub head_put : (old texts count spots n1 n2 n3 n4 : List ℕ) → n1 ≡ old ++ 66 ∷ [] → n2 ≡ n1 ++ texts → n3 ≡ n2 ++ count → n4 ≡ n3 ++ spots → n4 ≡ old ++ (66 ∷ (texts ++ (count ++ spots)))
+head_put old texts count spots n1 n2 n3 n4 e1 e2 e3 e4 =
+    rw (e4, e3, e2, e1)
+    (append_assoc ((old ++ 66 ∷ []) ++ texts) count spots ∙ append_assoc (old ++ 66 ∷ []) texts (count ++ spots) ∙ append_assoc old (66 ∷ []) (texts ++ (count ++ spots)))
+
+-- the number behind it
+front_put : (queries : List (List ℕ)) (count : ℕ) (spots : List Spot) (rows : ℕ) (old : List ℕ) → (old ++ head_bytes queries count spots) ++ to_be_bytes w64 rows ≡ old ++ front_bytes queries count spots rows
+front_put queries count spots rows old =
+    let a = counted_texts queries in
+    let b = to_be_bytes w64 count in
+    let d = counted_spots spots in
+    let e = to_be_bytes w64 rows in
+    append_assoc old (head_bytes queries count spots) e
+    ∙ ap (λ (bytes : List ℕ). old ++ (66 ∷ bytes)) (append_assoc a (b ++ d) e ∙ ap (λ (bytes : List ℕ). a ++ bytes) (append_assoc b d e))
 
 -- the bytes of rows, as a table writes them
 entries_list : (entries : List Entry) → entries_bytes entries ≡ list_bytes entry_bytes entries
@@ -50,23 +60,28 @@ pub rows_legal : (cells : Cells) (entries : List Entry) → Lists cells entries 
 rows_legal cells entries lists each =
     All-weaker (Contains entries) IsEntry (λ entry among. each entry.node entry.key entry.held ((lists.rows entry.node entry.key entry.held).1 among)) entries (All-contains_itself entries)
 
-pub encodes : (cells : Cells) (queries : List (List ℕ)) (count : ℕ) (spots : List Spot) (rows : ℕ) (entries : List Entry) (old middle new written : List ℕ) → Lists cells entries → AreTexts queries → count < 2 ^ 64 → AreSpots spots
-    → rows < 2 ^ 64 → rows ≡ length entries → All IsEntry entries → middle ≡ old ++ front_bytes queries count spots rows → new ≡ middle ++ written → written ≡ entries_bytes entries → Encodes cells queries count spots old new
-encodes cells queries count spots rows entries old middle new written lists texts fits are few counted each first second is = record {
-  payload = front_bytes queries count spots rows ++ written;
-  rows = entries;
-  lists = lists;
-  base = record {
-    is =
-        let listed : written ≡ list_bytes entry_bytes entries = is ∙ entries_list entries in
-        let number : to_be_bytes w64 rows ≡ to_be_bytes w64 (length entries) = ap (to_be_bytes w64) counted in
-        let a = counted_texts queries in
-        let b = to_be_bytes w64 count in
-        let d = counted_spots spots in
-        let e = to_be_bytes w64 rows in
-        ap (λ (bytes : List ℕ). 66 ∷ bytes)
-        (append_assoc a (b ++ (d ++ e)) written ∙ ap (λ (bytes : List ℕ). a ++ bytes) (append_assoc b (d ++ e) written ∙ ap (λ (bytes : List ℕ). b ++ bytes) (append_assoc d e written ∙ ap (λ (bytes : List ℕ). d ++ bytes) (ap (λ (bytes : List ℕ). e ++ bytes) listed ∙ ap (λ (bytes : List ℕ). bytes ++ list_bytes entry_bytes entries) number))));
-    legal = record { queries = texts; count = fits; spots = are; rows = record { few = omega (arith, few, counted); each = each; rising = lists.rising } };
-  };
-  added = rw (second, first) (append_assoc old (front_bytes queries count spots rows) written);
-}
+-- what stands before the rows' number, and then the rows behind it
+pub encodes : (cells : Cells) (queries : List (List ℕ)) (count : ℕ) (spots : List Spot) (old middle new : List ℕ) (rows : WritesCounted cells middle new) → AreTexts queries → count < 2 ^ 64 → AreSpots spots
+    → All IsEntry rows.rows.0 → middle ≡ old ++ head_bytes queries count spots → Encodes cells queries count spots old new
+encodes cells queries count spots old middle new rows texts fits are each first =
+    let entries : List Entry = rows.rows.0 in
+    let written : List ℕ = rows.written in
+    let number : List ℕ = to_be_bytes w64 (length entries) in
+    record {
+      payload = front_bytes queries count spots (length entries) ++ written;
+      rows = entries;
+      lists = rows.rows.1;
+      base = record {
+        is =
+            let listed : written ≡ list_bytes entry_bytes entries = rows.rows.2 ∙ entries_list entries in
+            let a = counted_texts queries in
+            let b = to_be_bytes w64 count in
+            let d = counted_spots spots in
+            ap (λ (bytes : List ℕ). 66 ∷ bytes)
+            (append_assoc a (b ++ (d ++ number)) written ∙ ap (λ (bytes : List ℕ). a ++ bytes) (append_assoc b (d ++ number) written ∙ ap (λ (bytes : List ℕ). b ++ bytes) (append_assoc d number written ∙ ap (λ (bytes : List ℕ). d ++ (number ++ bytes)) listed)));
+        legal = record { queries = texts; count = fits; spots = are; rows = record { few = rows.few; each = each; rising = rows.rows.1.rising } };
+      };
+      added =
+          rows.added ∙ sym (append_assoc middle number written) ∙ ap (λ (bytes : List ℕ). bytes ++ written) (ap (λ (bytes : List ℕ). bytes ++ number) first ∙ front_put queries count spots (length entries) old)
+          ∙ append_assoc old (front_bytes queries count spots (length entries)) written;
+    }

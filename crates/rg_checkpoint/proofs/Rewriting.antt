@@ -1,5 +1,5 @@
 -- A slot that is emptied and then written.
-use Rattle.std.proofs.Common.{◌≡◌, ◌≢◌, ℕ, List, [], ◌∷◌, Option, Some, true, false, refl, ap, sym, ◌∙◌, subst}
+use Rattle.std.proofs.Common.{◌≡◌, ℕ, List, [], Option, Some, true, false, refl, ap, ◌∙◌, subst}
 use Rattle.std.specs.Option.{ForSome}
 use Rattle.rg_host.specs.Image.{Image, Becomes, InFile, NothingPending}
 use Rattle.rg_host.specs.Moments.{Moment, Moments}

@@ -1,9 +1,8 @@
 -- What the frames of a file say of a slot.
-use Rattle.std.proofs.Common.{◌≡◌, ◌≢◌, ◌⊎◌, inl, inr, ℕ, zero, suc, ◌+◌, ◌<◌, ◌≤◌, ◌^◌, List, [], ◌∷◌, ◌++◌, length, Option, Some, None, Ok, Err, refl, ap, sym, ◌∙◌, subst, arith}
+use Rattle.std.proofs.Common.{◌≡◌, ◌≢◌, ◌⊎◌, inl, inr, ℕ, zero, suc, ◌+◌, ◌<◌, ◌^◌, List, [], ◌∷◌, length, Option, Some, None, ap, sym, ◌∙◌, subst, arith}
 use Rattle.std.specs.Option.{ForSome}
 use Rattle.rg_host.specs.Image.{Image, NothingPending}
-use Rattle.rg_frame.specs.Frames.{frames, IsLog, HasPayloads, EndsAt, Begins, IsDamaged, payload_at}
-use Rattle.rg_frame.specs.FrameList.{frame_list}
+use Rattle.rg_frame.specs.Frames.{frames, IsLog, HasPayloads, EndsAt, IsDamaged, payload_at}
 use Rattle.rg_frame.specs.Looks.{HoldsFrame, IsClosed, IsTorn}
 use Rattle.rg_frame.specs.Steps.{OldOrNone, Grows, From, Appended, Leaves}
 use Rattle.rg_frame.proofs.FrameLaws.{length-frames}

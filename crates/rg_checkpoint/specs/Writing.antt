@@ -9,6 +9,10 @@ use Rattle.rg_checkpoint.specs.Base.{IsBase, counted_texts, counted_spots}
 abbrev pub front_bytes : List (List ℕ) → ℕ → List Spot → ℕ → List ℕ
 front_bytes queries count spots rows = 66 ∷ (counted_texts queries ++ (to_be_bytes w64 count ++ (counted_spots spots ++ to_be_bytes w64 rows)))
 
+-- all that stands before the number of the rows
+abbrev pub head_bytes : List (List ℕ) → ℕ → List Spot → List ℕ
+head_bytes queries count spots = 66 ∷ (counted_texts queries ++ (to_be_bytes w64 count ++ counted_spots spots))
+
 -- what was added is the base payload of these, with all rows of the table in order
 pub record Encodes (cells : Cells) (queries : List (List ℕ)) (count : ℕ) (spots : List Spot) (old new : List ℕ) : Type 0 where
   pub payload : List ℕ

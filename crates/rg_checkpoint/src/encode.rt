@@ -5,7 +5,7 @@ ghost use Rattle.rg_bytes.specs.Keeps.{Keeps};
 ghost use Rattle.rg_bytes.specs.Reading.{list_bytes};
 ghost use Rattle.rg_state.specs.Rows.{Same};
 ghost use Rattle.rg_checkpoint.specs.Base.{text_bytes, spot_bytes, counted_texts, counted_spots, IsText, IsSpot, AreTexts, AreSpots};
-ghost use Rattle.rg_checkpoint.specs.Writing.{Encodes, front_bytes};
+ghost use Rattle.rg_checkpoint.specs.Writing.{Encodes, head_bytes};
 
 use crate::decode::BASE_TAG;
 use rg_bytes::{Memory, put_bytes, put_u8, put_u32, put_u64};
@@ -31,8 +31,7 @@ pub fn encode_checkpoint<T: Table>(
     ensures later { T.faults table.old ≤ T.faults table.new }
 {
     let start = out.len();
-    let rows = table.rows();
-    match put_front(queries, count, spots, rows, out) {
+    match put_front(queries, count, spots, out) {
         Ok(()) => {}
         Err(_) => {
             out.truncate(start);
@@ -48,15 +47,14 @@ pub fn encode_checkpoint<T: Table>(
     }
 }
 
-/// Writes all that stands before the rows. An error, here and below, leaves it begun.
+/// Writes all that stands before the number of the rows. An error, here and below, leaves it begun.
 fn put_front(
     queries: &Texts,
     count: u64,
     spots: &[Spot],
-    rows: u64,
     out: &mut Vec<u8>,
 ) -> Result<(), Memory>
-    ensures ok { OnOk result (out.new.items ≡ out.old.items ++ front_bytes queries.now count spots.now rows) }
+    ensures ok { OnOk result (out.new.items ≡ out.old.items ++ head_bytes queries.now count spots.now) }
     ensures queries { OnOk result (AreTexts queries.now) }
     ensures spots { OnOk result (AreSpots spots.now) }
     ensures err { OnErr result (Keeps out.old.items out.new.items) }
@@ -74,10 +72,6 @@ fn put_front(
         Err(memory) => return Err(memory),
     }
     match put_spots(spots, out) {
-        Ok(()) => {}
-        Err(memory) => return Err(memory),
-    }
-    match put_u64(out, rows) {
         Ok(()) => Ok(()),
         Err(memory) => Err(memory),
     }

@@ -5,6 +5,7 @@ mod made;
 mod slow;
 
 use crate::common::plan_of;
+use crate::takes::rows_in;
 use check::{replay_checked, take_checked};
 use made::{event, queries};
 use rg_bytes::Memory;
@@ -13,7 +14,7 @@ use rg_event::{Event, Steps};
 use rg_metric::{Answer, Answers, Query};
 use rg_past::{Past, PastFault, Spot, VecPast};
 use rg_plan::TaskPlan;
-use rg_state::{MemTable, Table};
+use rg_state::MemTable;
 use slow::slow_answers;
 use std::alloc::Global;
 use std::marker::Brand;
@@ -129,13 +130,14 @@ fn fill<L: Ledger>(alloc: Global, blank: Blank) -> Result<Filled, Fail>
     };
     let number = first_number(engine.spots());
     let queries = engine.plan().queries();
-    let has_rows = engine.table().rows() > 0;
+    let has_rows = rows_in(alloc, engine.table())? > 0;
+    let mut table = engine.into_table();
     Ok(Filled {
         queries,
         first: first.as_slice().first().copied(),
         refused,
         number,
-        has_rows: has_rows && engine.into_table().rows() > 0,
+        has_rows: has_rows && rows_in(alloc, &mut table)? > 0,
     })
 }
 

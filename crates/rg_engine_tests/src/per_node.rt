@@ -1,6 +1,7 @@
 ghost use Rattle.rg_agg.specs.Stands.{IsInt, IsNumber};
 ghost use Rattle.rg_state.specs.Takes.{Takes};
 
+use crate::takes::rows_in;
 use rg_agg::{Aggregate, Answer, Count, First, GREATEST_SIZE, Sum, is_like};
 use rg_event::Value;
 use rg_state::{Change, Func, Key, MemTable, Table};
@@ -162,13 +163,13 @@ impl Both {
     }
 
     /// Whether the table has as many rows as the maps.
-    fn is_as_large(&self) -> bool {
+    fn is_as_large(&mut self) -> Result<bool, Fail> {
         let counts = self.counts.rows.len();
         let sums = self.sums.rows.len();
         let rows = counts
             .saturating_add(sums)
             .saturating_add(self.firsts.rows.len());
-        self.table.rows() == rows as u64
+        Ok(rows_in(self.alloc, &mut self.table)? == rows as u64)
     }
 }
 
@@ -181,7 +182,7 @@ fn a_thousand_mixed_changes_do_what_maps_by_node_do(rt: HostRuntime) -> Result<(
             .wrapping_mul(6_364_136_223_846_793_005)
             .wrapping_add(1_442_695_040_888_963_407);
         let is_same = both.change(random)?;
-        assert!(rt; is_same && both.is_as_large(), "at {random}");
+        assert!(rt; is_same && both.is_as_large()?, "at {random}");
     }
     Ok(())
 }

@@ -2,7 +2,7 @@ ghost use Rattle.std.specs.Prelude.{◌<◌, IfOk};
 ghost use Rattle.rg_agg.specs.Standing.{size_in};
 ghost use Rattle.rg_state.specs.States.{held_of};
 
-use crate::takes::change;
+use crate::takes::{change, rows_in};
 use rg_agg::{Answer, StateFault};
 use rg_bytes::ByteReader;
 use rg_event::{Kind, Value};
@@ -38,7 +38,7 @@ fn a_row_answers_for_its_node_and_key(rt: HostRuntime) -> Result<(), Fail> {
     let first = key_of(alloc, b"\x03\x02c1")?;
     let second = key_of(alloc, b"\x03\x02c2")?;
     let mut table = three_rows(alloc, &first, &second)?;
-    assert_eq!(rt; table.rows(), 3);
+    assert_eq!(rt; rows_in(alloc, &mut table)?, 3);
     let answers = [
         (2, Func::Sum, Answer::Number(250)),
         (0, Func::Count, Answer::Number(2)),
@@ -50,8 +50,9 @@ fn a_row_answers_for_its_node_and_key(rt: HostRuntime) -> Result<(), Fail> {
     Ok(())
 }
 
-/// The rows of the table above, behind an x.
+/// The number of the rows of the table above, and the rows, behind an x.
 const THREE_ROWS: &[u8] = b"x\
+    \0\0\0\0\0\0\0\x03\
     \0\0\0\0\0\0\0\x04\x03\x02c1\x01\0\0\0\0\0\0\0\x02\
     \0\0\0\0\0\0\0\x04\x03\x02c2\x01\0\0\0\0\0\0\0\x01\
     \0\0\0\x02\0\0\0\x04\x03\x02c1\x02\0\0\0\0\0\0\0\x02\
@@ -87,7 +88,7 @@ fn a_row_that_becomes_empty_is_gone(rt: HostRuntime) -> Result<(), Fail> {
         let is_so = done == Some(want) && table.answer(3, &key, Func::First) == Ok(answer);
         assert!(rt; is_so, "{step:?} {id}");
     }
-    assert_eq!(rt; table.rows(), 0);
+    assert_eq!(rt; rows_in(rt.alloc(), &mut table)?, 0);
     Ok(())
 }
 

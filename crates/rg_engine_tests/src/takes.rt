@@ -4,8 +4,23 @@ ghost use Rattle.rg_event.specs.Tagged.{IsLegal};
 ghost use Rattle.rg_state.specs.Takes.{Takes};
 
 use rg_agg::{GREATEST_INT, Number};
+use rg_bytes::ByteReader;
 use rg_event::Value;
 use rg_state::{Change, Func, Key, MemTable, Table, TableFault};
+use std::alloc::Global;
+use std::test::Fail;
+
+/// How many rows a table says that it writes.
+pub(crate) fn rows_in(alloc: Global, table: &mut MemTable) -> Result<u64, Fail> {
+    let mut out = Vec::new(alloc);
+    if table.write_rows(&mut out).is_err() {
+        return Err(Fail::new("the rows were not written"));
+    }
+    match ByteReader::new(&out).u64() {
+        Ok(rows) => Ok(rows),
+        Err(_) => Err(Fail::new("no number of rows was written")),
+    }
+}
 
 /// Changes a row where its function takes the value; none where it doesn't.
 pub(crate) fn change(

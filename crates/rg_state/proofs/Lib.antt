@@ -1,7 +1,6 @@
 pub mod Placed
 pub mod Slotted
-pub mod Written
-pub mod Counted
+pub mod Sheeted
 pub mod OneKind
 pub mod ReadBack
 mod Sizes

@@ -1,5 +1,5 @@
 -- What a state keeps is settled by its function and the values that it stands for.
-use Rattle.std.proofs.Common.{◌≡◌, ℕ, zero, suc, ◌+◌, ◌<◌, Bool, true, false, List, [], ◌∷◌, length, if◌then◌else◌, Option, Some, None, refl, ap, sym, ◌∙◌, subst, arith}
+use Rattle.std.proofs.Common.{◌≡◌, ℕ, zero, suc, ◌<◌, Bool, true, false, List, [], ◌∷◌, length, refl, ap, sym, ◌∙◌, subst, arith}
 use Rattle.std.specs.Cmp.Lexicographic.{slice_cmp}
 use Rattle.std.specs.Ordering.{nat_cmp, is_lt, ordering_reverse}
 use Rattle.std.specs.declared.cmp.Ordering.{Ordering}
@@ -13,7 +13,7 @@ use Rattle.rg_metric.specs.Answers.{numbers, total, total_of_squares}
 use Rattle.rg_metric.specs.Same.{same_value}
 use Rattle.rg_metric.proofs.Same.{same_value-true, same_value-same}
 use Rattle.rg_agg.specs.Held.{Held, counted, summed, averaged, squared, queued, ended, lowest, highest, varied}
-use Rattle.rg_agg.specs.Standing.{func_of, AreThere, count_in, places, Stands}
+use Rattle.rg_agg.specs.Standing.{func_of, AreThere, count_in, Stands}
 use Rattle.rg_agg.specs.Stands.{last_value}
 use Rattle.rg_agg.specs.Unbeaten.{is_less, is_greater, unbeaten}
 use Rattle.rg_tally.specs.Pairs.{AreRising}

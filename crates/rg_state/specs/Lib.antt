@@ -5,4 +5,6 @@ pub mod Kepts
 pub mod Cells
 pub mod CellLaws
 pub mod Keeping
+pub mod Counted
+pub mod Sheets
 pub mod Kinds

@@ -1,12 +1,14 @@
 //! The states of aggregators by node and key, and a table of them in memory.
 #![tactic(auto)]
 
+mod ahead;
 mod decode;
 mod key_rows;
 mod law;
 mod mem_table;
 mod one;
 mod own;
+mod sheets;
 mod slot_changes;
 mod slots;
 mod state;

@@ -10,7 +10,7 @@ use crate::one::Refusal;
 use crate::slots::Slots;
 use crate::state::AggState;
 use crate::table::{Change, Table, TableFault};
-use crate::writing::{count_nodes, write_nodes};
+use crate::writing::write_counted;
 use rg_event::Value;
 use rg_group::Key;
 use rg_metric::{Answer, Func};
@@ -25,6 +25,8 @@ pub struct MemTable {
     slots: Slots,
     /// One above the greatest node that was named in a change or put in.
     nodes: u64,
+    /// What was made of the looks at the rows that were written last. Nothing asks for it.
+    seen: u64,
     ghost few: { nodes ≤ 2 ^ 32 },
     ghost below: { AreBelow nodes slots.map slots.rows.items },
 }
@@ -40,6 +42,7 @@ impl MemTable {
             alloc,
             slots: Slots::new(alloc),
             nodes: 0,
+            seen: 0,
         }
     }
 }
@@ -135,17 +138,16 @@ impl Table for MemTable {
 
     fn write_rows(&mut self, out: &mut Vec<u8>) -> Result<(), TableFault> {
         let start = out.len();
-        match write_nodes(self.nodes, &self.slots, out) {
-            Ok(()) => Ok(()),
+        match write_counted(self.alloc, self.nodes, &self.slots, out) {
+            Ok(seen) => {
+                self.seen = seen;
+                Ok(())
+            }
             Err(_) => {
                 out.truncate(start);
                 Err(TableFault::Memory)
             }
         }
-    }
-
-    fn rows(&self) -> u64 {
-        count_nodes(self.nodes, &self.slots)
     }
 
     ghost filled = { λ table node key held _ found. filled_cell table.slots.map table.slots.rows.items node key held found };

@@ -4,7 +4,8 @@ ghost use Rattle.rg_event.specs.declared.value.Value.{Value};
 ghost use Rattle.rg_agg.specs.Held.{Held};
 ghost use Rattle.rg_agg.specs.Standing.{size_in};
 ghost use Rattle.rg_metric.specs.Answers.{answer_of};
-ghost use Rattle.rg_state.specs.Rows.{RowStands, Changed, Counts, Suits, Unfit, IsRefused, IsOf, Same, Others, Entry, Lists, Writes};
+ghost use Rattle.rg_state.specs.Counted.{WritesCounted};
+ghost use Rattle.rg_state.specs.Rows.{RowStands, Changed, Counts, Suits, Unfit, IsRefused, IsOf, Same, Others, Entry, Lists};
 ghost use Rattle.rg_state.specs.States.{held_of, IsHeld};
 ghost use Rattle.rg_state.specs.Takes.{Takes};
 
@@ -92,10 +93,10 @@ pub trait Table {
         ensures tells { tells self.new ↔ tells self.old }
         ensures later { faults self.old ≤ faults self.new };
 
-    /// Writes all rows at the end, rising by node and key: the node in 4 bytes, the key's length in 4
-    /// and its bytes, and the state. A refusal leaves `out` as it was.
+    /// Writes the number of the rows in 8 bytes at the end, and then all rows, rising by node and key: the
+    /// node in 4 bytes, the key's length in 4 and its bytes, and the state. A refusal leaves `out` as it was.
     fn write_rows(&mut self, out: &mut Vec<u8>) -> Result<(), TableFault>
-        ensures written { tells self.old → OnOk result ((written : List ℕ) × Writes (cell self.old) written × (out.new.items ≡ out.old.items ++ written)) }
+        ensures written { tells self.old → OnOk result (WritesCounted (cell self.old) out.old.items out.new.items) }
         ensures appended { OnOk result ((written : List ℕ) × (out.new.items ≡ out.old.items ++ written)) }
         ensures same { tells self.old → Same (cell self.old) (cell self.new) }
         ensures err { OnErr result (out.new.items ≡ out.old.items) }
@@ -103,10 +104,6 @@ pub trait Table {
         ensures disk { IsErrOf result TableFault.Disk → Rose (faults self.old) (faults self.new) }
         ensures tells { tells self.new ↔ tells self.old }
         ensures later { faults self.old ≤ faults self.new };
-
-    /// How many rows there are.
-    fn rows(&self) -> u64
-        ensures { tells self.now → (entries : List Entry) → Lists (cell self.now) entries → result ≡ length entries };
 
     /// No row is empty.
     ghost filled: { (table : Self) (node : ℕ) (key : List ℕ) (held : Held) → tells table → cell table node key ≡ Some held → 0 < size_in held };

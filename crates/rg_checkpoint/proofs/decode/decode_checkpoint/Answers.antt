@@ -1,4 +1,4 @@
-use Rattle.std.proofs.Common.{◌≡◌, rules}
+use Rattle.std.proofs.Common.{◌≡◌}
 use Rattle.rg_checkpoint.specs.declared.fault.CheckpointFault.TheVariants.{BadCheckpoint}
 use Rattle.rg_checkpoint.proofs.Back.{base_is_one, no_base, more_left, same_base}
 use Rattle.rg_checkpoint.proofs.decode.decode_checkpoint.Goals as goal

@@ -1,4 +1,4 @@
-use Rattle.std.proofs.Common.{◌≡◌, ◌<◌, ◌^◌, length, subst, sym, rules}
+use Rattle.std.proofs.Common.{◌<◌, ◌^◌, length, subst, sym, rules}
 use Rattle.rg_checkpoint.specs.Entries.{entries_of}
 use Rattle.rg_checkpoint.specs.Base.{AreRows}
 use Rattle.rg_checkpoint.proofs.decode.take_rows.Goals as goal

@@ -1,15 +1,13 @@
-use Rattle.std.proofs.Common.{◌≡◌, ◌<◌, ◌≤◌, ◌^◌, length, rules}
-use Rattle.rg_state.specs.Rows.{Entry}
+use Rattle.std.proofs.Common.{rules}
 use Rattle.rg_checkpoint.proofs.Puts.{encodes, rows_legal}
 use Rattle.rg_checkpoint.proofs.encode.encode_checkpoint.Goals as goal
 
 pub returns-in-Ok-write_rows-clause-written : goal.returns-in-Ok-write_rows-clause-written
 returns-in-Ok-write_rows-clause-written g c = λ tells.
     let cells = g.T.Table.cell c.args.table.now in
-    let w = c.in-Ok-write_rows.ensures.written tells in
-    encodes cells c.args.queries.now c.args.count c.args.spots.now c.rows-rows.result w.1.0 c.args.out.now.items c.put_front.new.out.items c.write_rows.new.out.items w.0 w.1.1 c.in-Ok.ensures.queries (search rules) c.in-Ok.ensures.spots
-    (search rules) (c.rows-rows.ensures tells w.1.0 w.1.1)
-    (rows_legal cells w.1.0 w.1.1 (λ node key held found.
+    let rows = c.in-Ok-write_rows.ensures.written tells in
+    encodes cells c.args.queries.now c.args.count c.args.spots.now c.args.out.now.items c.put_front.new.out.items c.write_rows.new.out.items rows c.in-Ok.ensures.queries (search rules) c.in-Ok.ensures.spots
+    (rows_legal cells rows.rows.0 rows.rows.1 (λ node key held found.
     let law = g.met.T.Table in
     record { node = (law.bounded c.args.table.now node key held tells found).0; key = (law.bounded c.args.table.now node key held tells found).1; some = law.filled c.args.table.now node key held tells found; held = law.states c.args.table.now node key held tells found }))
-    c.in-Ok.ensures.ok w.2 w.1.2
+    c.in-Ok.ensures.ok

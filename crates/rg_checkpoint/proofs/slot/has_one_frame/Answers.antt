@@ -1,4 +1,4 @@
-use Rattle.std.proofs.Common.{◌≡◌, Err, ap, ◌∙◌}
+use Rattle.std.proofs.Common.{Err, ap, ◌∙◌}
 use Rattle.rg_checkpoint.proofs.OneFrame.{none_first, damaged_first, found_first, one_found, damaged_found, more_found}
 use Rattle.rg_checkpoint.proofs.slot.has_one_frame.Goals as goal
 

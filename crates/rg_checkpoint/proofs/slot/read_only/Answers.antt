@@ -1,4 +1,4 @@
-use Rattle.std.proofs.Common.{◌≡◌, ◌<◌, ◌^◌, Err, length, refl, ap, ◌∙◌, rules}
+use Rattle.std.proofs.Common.{◌<◌, ◌^◌, Err, length, ap, ◌∙◌, rules}
 use Rattle.rg_checkpoint.proofs.OneFrame.{read_found, closed_read, torn_read}
 use Rattle.rg_checkpoint.proofs.slot.read_only.Goals as goal
 

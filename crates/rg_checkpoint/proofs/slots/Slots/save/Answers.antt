@@ -1,4 +1,4 @@
-use Rattle.std.proofs.Common.{◌≡◌, ℕ, refl, subst, sym}
+use Rattle.std.proofs.Common.{ℕ, subst}
 use Rattle.std.specs.Prelude.{⊤}
 use Rattle.rg_host.specs.Image.{Becomes, InFile, NothingPending}
 use Rattle.rg_frame.specs.Calls.{Writes}

@@ -1,0 +1,115 @@
+use crate::key_rows::KeyRows;
+use crate::slots::Slots;
+use crate::state::AggState;
+use rg_agg::Aggregate;
+use rg_group::Key;
+use std::alloc::Global;
+use std::collections::btree_map::Iter;
+
+/// How many keys are looked at together.
+const TOGETHER: usize = 64;
+
+/// Looks at the rows of keys ahead of their turn to be written, at those of 64 keys at a time. Rows lie
+/// far apart, and a look waits for none before it, as writing does: so the processor fetches many rows in
+/// the time of one.
+#[derive(Drop)]
+pub(crate) struct Ahead<'a> {
+    slots: &'a Slots,
+    keys: Iter<'a, Key, u32>,
+    /// The slots of the keys that are looked at together.
+    near: Vec<u32>,
+    /// How many keys were looked at whose turn is still to come.
+    left: usize,
+    /// Made of all that was looked at, so that no look is left out of the program.
+    pub(crate) seen: u64,
+}
+
+impl<'a> Ahead<'a> {
+    /// Before the turn of the first key.
+    pub(crate) fn new(alloc: Global, slots: &'a Slots) -> Ahead<'a> {
+        Ahead {
+            slots,
+            keys: slots.map.iter(),
+            near: Vec::new(alloc),
+            left: 0,
+            seen: 0,
+        }
+    }
+
+    /// The turn of a key comes.
+    pub(crate) fn turn(&mut self) {
+        if self.left == 0 {
+            self.look_at_keys();
+            self.look_at_rows();
+            self.left = TOGETHER;
+        }
+        self.left = self.left.saturating_sub(1);
+    }
+
+    /// Takes the slots of the next keys. Where memory runs out they are fewer.
+    fn look_at_keys(&mut self) {
+        self.near.clear();
+        for _ in 0..TOGETHER {
+            match self.keys.next() {
+                None => return,
+                Some((key, slot)) => {
+                    let front = key.as_slice().first().copied().unwrap_or(0);
+                    let count = count_in(self.slots, *slot);
+                    self.seen = self.seen.wrapping_add(front as u64);
+                    self.seen = self.seen.wrapping_add(count as u64);
+                    let _ = self.near.push(*slot);
+                }
+            }
+        }
+    }
+
+    /// Looks at the rows in these slots.
+    fn look_at_rows(&mut self) {
+        let mut seen = self.seen;
+        for slot in &self.near {
+            seen = seen.wrapping_add(seen_in(self.slots, *slot));
+        }
+        self.seen = seen;
+    }
+}
+
+/// How many rows a slot has.
+fn count_in(slots: &Slots, slot: u32) -> usize {
+    match slots.rows.get(slot as usize) {
+        None => 0,
+        Some(rows) => rows.kept.len(),
+    }
+}
+
+/// Of each row in a slot its node and how many values it stands for, added up.
+fn seen_in(slots: &Slots, slot: u32) -> u64 {
+    match slots.rows.get(slot as usize) {
+        None => 0,
+        Some(rows) => seen_of(rows),
+    }
+}
+
+/// The same of the rows of a key.
+fn seen_of(rows: &KeyRows) -> u64 {
+    let mut seen: u64 = 0;
+    for kept in &rows.kept {
+        seen = seen.wrapping_add(kept.node as u64);
+        seen = seen.wrapping_add(size_of_state(&kept.state));
+    }
+    seen
+}
+
+/// How many values a state stands for.
+fn size_of_state(state: &AggState) -> u64 {
+    match state {
+        AggState::Count(state) => state.size(),
+        AggState::Sum(state) => state.size(),
+        AggState::Avg(state) => state.size(),
+        AggState::SumSq(state) => state.size(),
+        AggState::Min(state) => state.size(),
+        AggState::Max(state) => state.size(),
+        AggState::Distinct(state) => state.size(),
+        AggState::First(state) => state.size(),
+        AggState::Last(state) => state.size(),
+    }
+}

@@ -1,0 +1,100 @@
+ghost use Rattle.std.specs.Prelude.{◌≡◌, ◌≤◌, ◌<◌, ◌^◌, ◌++◌, ◌∷◌, [], true, length, IfOk, OnOk, OnErr};
+ghost use Rattle.rg_agg.specs.Standing.{size_in};
+ghost use Rattle.rg_bytes.specs.Keeps.{Keeps};
+ghost use Rattle.rg_state.specs.Kepts.{are_sound};
+ghost use Rattle.rg_state.specs.Rows.{entry_bytes};
+ghost use Rattle.rg_state.specs.Sheets.{sheets_bytes, sheets_rows, IsReady, Gets, AreBlank};
+ghost use Rattle.rg_state.specs.States.{held_of};
+
+use crate::key_rows::Kept;
+use crate::state::AggState;
+use rg_bytes::{Memory, put_bytes, put_u32};
+use rg_group::Key;
+use std::alloc::Global;
+
+/// The bytes of the rows of a node, and how many rows they are.
+#[derive(Debug, Drop)]
+pub(crate) struct Sheet {
+    pub(crate) bytes: Vec<u8>,
+    pub(crate) rows: u64,
+}
+
+/// So many sheets with nothing on them.
+pub(crate) fn blank_sheets(alloc: Global, nodes: u64) -> Result<Vec<Sheet>, Memory>
+    ensures { IfOk result (λ sheets. AreBlank nodes sheets.items) }
+{
+    let mut sheets = Vec::new(alloc);
+    for _ in 0..nodes {
+        let bytes = Vec::new(alloc);
+        sheets.push(Sheet { bytes, rows: 0 })?;
+    }
+    Ok(sheets)
+}
+
+/// Writes each row of a key on its node's sheet. Where memory runs out some of them may stand there.
+pub(crate) fn put_key(key: &Key, kepts: &[Kept], sheets: &mut Vec<Sheet>) -> Result<(), Memory>
+    requires sound { are_sound kepts.now ≡ true }
+    requires ready { IsReady key.now kepts.now sheets.old.items }
+    ensures { OnOk result (Gets key.now kepts.now sheets.old.items sheets.new.items) }
+{
+    for kept in kepts {
+        put_row(key, kept, sheets)?;
+    }
+    Ok(())
+}
+
+/// Writes a row of a key on its node's sheet. Where memory runs out a prefix of it may stand there.
+fn put_row(key: &Key, kept: &Kept, sheets: &mut Vec<Sheet>) -> Result<(), Memory>
+    requires { IsReady key.now (kept.now ∷ []) sheets.old.items }
+    ensures { OnOk result (Gets key.now (kept.now ∷ []) sheets.old.items sheets.new.items) }
+{
+    let sheet = &mut sheets[kept.node as usize];
+    write_row(kept.node, key, &kept.state, &mut sheet.bytes)?;
+    sheet.rows += 1;
+    Ok(())
+}
+
+/// Writes a row at the end. Where memory runs out a prefix of it may stand there.
+fn write_row(node: u32, key: &Key, state: &AggState, out: &mut Vec<u8>) -> Result<(), Memory>
+    requires short { length key.now ≤ 2056 }
+    requires some { 0 < size_in (held_of state.now) }
+    ensures { OnOk result (out.new.items ≡ out.old.items ++ entry_bytes (record { node = node; key = key.now; held = held_of state.now })) }
+{
+    let bytes = key.as_slice();
+    put_u32(out, node)?;
+    put_u32(out, bytes.len() as u32)?;
+    put_bytes(out, bytes)?;
+    state.encode(out)
+}
+
+/// How many rows stand on all sheets.
+pub(crate) fn count_rows(sheets: &[Sheet]) -> u64
+    requires { sheets_rows sheets.now < 2 ^ 64 }
+    ensures { result ≡ sheets_rows sheets.now }
+{
+    let mut count = 0;
+    for sheet in sheets {
+        count += sheet.rows;
+    }
+    count
+}
+
+/// How many bytes stand on all sheets, for the room that they are written into.
+pub(crate) fn count_bytes(sheets: &[Sheet]) -> usize {
+    let mut count: usize = 0;
+    for sheet in sheets {
+        count = count.saturating_add(sheet.bytes.len());
+    }
+    count
+}
+
+/// Writes all sheets at the end, one after another. Where memory runs out some of them may stand there.
+pub(crate) fn put_sheets(sheets: &[Sheet], out: &mut Vec<u8>) -> Result<(), Memory>
+    ensures ok { OnOk result (out.new.items ≡ out.old.items ++ sheets_bytes sheets.now) }
+    ensures err { OnErr result (Keeps out.old.items out.new.items) }
+{
+    for sheet in sheets {
+        put_bytes(out, &sheet.bytes)?;
+    }
+    Ok(())
+}

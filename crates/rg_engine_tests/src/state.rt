@@ -2,7 +2,7 @@ ghost use Rattle.std.specs.Prelude.{◌<◌, IfOk};
 ghost use Rattle.rg_agg.specs.Standing.{size_in};
 ghost use Rattle.rg_state.specs.States.{held_of};
 
-use crate::takes::{change, rows_in};
+use crate::takes::change;
 use rg_agg::{Answer, StateFault};
 use rg_bytes::ByteReader;
 use rg_event::{Kind, Value};
@@ -32,21 +32,42 @@ fn three_rows(alloc: Global, first: &Key, second: &Key) -> Result<MemTable, Fail
     Ok(table)
 }
 
-#[test]
-fn a_row_answers_for_its_node_and_key(rt: HostRuntime) -> Result<(), Fail> {
-    let alloc = rt.alloc();
+/// A table of those three rows, and the key of the first.
+fn with_first_key(alloc: Global) -> Result<(MemTable, Key), Fail> {
     let first = key_of(alloc, b"\x03\x02c1")?;
     let second = key_of(alloc, b"\x03\x02c2")?;
-    let mut table = three_rows(alloc, &first, &second)?;
-    assert_eq!(rt; rows_in(alloc, &mut table)?, 3);
-    let answers = [
-        (2, Func::Sum, Answer::Number(250)),
-        (0, Func::Count, Answer::Number(2)),
-        (1, Func::Avg, Answer::Dash),
-    ];
-    for (node, func, want) in answers {
-        assert_eq!(rt; table.answer(node, &first, func), Ok(want), "{func:?}");
-    }
+    let table = three_rows(alloc, &first, &second)?;
+    drop(second);
+    Ok((table, first))
+}
+
+/// Whether a table says that it writes so many rows.
+fn has_rows(alloc: Global, table: &mut MemTable, count: u64) -> bool {
+    let mut out = Vec::new(alloc);
+    let is_written = table.write_rows(&mut out).is_ok();
+    let is_said = match ByteReader::new(&out).u64() {
+        Ok(rows) => rows == count,
+        Err(_) => false,
+    };
+    drop(out);
+    is_written && is_said
+}
+
+/// Whether a table of those three rows answers for the node and the key of each, and for a node without a row.
+fn answers_three(alloc: Global, table: &mut MemTable, key: &Key) -> bool {
+    let sum = table.answer(2, key, Func::Sum) == Ok(Answer::Number(250));
+    let count = table.answer(0, key, Func::Count) == Ok(Answer::Number(2));
+    let mean = table.answer(1, key, Func::Avg) == Ok(Answer::Dash);
+    has_rows(alloc, table, 3) && sum && count && mean
+}
+
+#[test]
+fn a_row_answers_for_its_node_and_key(rt: HostRuntime) -> Result<(), Fail> {
+    let (mut table, first) = with_first_key(rt.alloc())?;
+    let is_answered = answers_three(rt.alloc(), &mut table, &first);
+    drop(first);
+    drop(table);
+    assert!(rt; is_answered);
     Ok(())
 }
 
@@ -60,84 +81,110 @@ const THREE_ROWS: &[u8] = b"x\
 
 #[test]
 fn rows_are_written_by_node_and_key(rt: HostRuntime) -> Result<(), Fail> {
-    let alloc = rt.alloc();
-    let first = key_of(alloc, b"\x03\x02c1")?;
-    let second = key_of(alloc, b"\x03\x02c2")?;
-    let mut table = three_rows(alloc, &first, &second)?;
-    let mut out = b"x".to_vec(alloc)?;
-    let is_written = table.write_rows(&mut out).is_ok();
-    assert!(rt; is_written && out.as_slice() == THREE_ROWS);
+    let (mut table, first) = with_first_key(rt.alloc())?;
+    drop(first);
+    let mut out = b"x".to_vec(rt.alloc())?;
+    let is_done = table.write_rows(&mut out).is_ok();
+    drop(table);
+    let is_written = is_done && out.as_slice() == THREE_ROWS;
+    drop(out);
+    assert!(rt; is_written);
     Ok(())
+}
+
+/// Whether a change by an id of the first value of a row answers so, and leaves this answer.
+fn leaves(
+    table: &mut MemTable,
+    key: &Key,
+    step: Change,
+    id: u64,
+    want: Result<(), TableFault>,
+    answer: Answer,
+) -> bool {
+    let done = change(table, 3, key, Func::First, step, &Value::Id(id));
+    done == Some(want) && table.answer(3, key, Func::First) == Ok(answer)
+}
+
+/// Whether a row comes and goes with its values.
+fn comes_and_goes(alloc: Global, table: &mut MemTable, key: &Key) -> bool {
+    let unfit = Err(TableFault::BadState(3));
+    let one = leaves(table, key, Change::Add, 7, Ok(()), Answer::Number(7));
+    let two = leaves(table, key, Change::Add, 2, Ok(()), Answer::Number(7));
+    let stays = leaves(table, key, Change::Remove, 2, unfit, Answer::Number(7));
+    let first = leaves(table, key, Change::Remove, 7, Ok(()), Answer::Number(2));
+    let last = leaves(table, key, Change::Remove, 2, Ok(()), Answer::Dash);
+    let none = leaves(table, key, Change::Remove, 2, unfit, Answer::Dash);
+    one && two && stays && first && last && none && has_rows(alloc, table, 0)
 }
 
 #[test]
 fn a_row_that_becomes_empty_is_gone(rt: HostRuntime) -> Result<(), Fail> {
-    let mut table = MemTable::new(rt.alloc());
     let key = key_of(rt.alloc(), b"\x03\x02c1")?;
-    let unfit = Err(TableFault::BadState(3));
-    let steps = [
-        (Change::Add, 7, Ok(()), Answer::Number(7)),
-        (Change::Add, 2, Ok(()), Answer::Number(7)),
-        (Change::Remove, 2, unfit, Answer::Number(7)),
-        (Change::Remove, 7, Ok(()), Answer::Number(2)),
-        (Change::Remove, 2, Ok(()), Answer::Dash),
-        (Change::Remove, 2, unfit, Answer::Dash),
-    ];
-    for (step, id, want, answer) in steps {
-        let done = change(&mut table, 3, &key, Func::First, step, &Value::Id(id));
-        let is_so = done == Some(want) && table.answer(3, &key, Func::First) == Ok(answer);
-        assert!(rt; is_so, "{step:?} {id}");
-    }
-    assert_eq!(rt; rows_in(rt.alloc(), &mut table)?, 0);
+    let mut table = MemTable::new(rt.alloc());
+    let is_gone = comes_and_goes(rt.alloc(), &mut table, &key);
+    drop(table);
+    drop(key);
+    assert!(rt; is_gone);
     Ok(())
+}
+
+/// Whether a row of the last value refuses a sum, a value of another kind and an answer of another function.
+fn refuses_others(table: &mut MemTable, key: &Key) -> bool {
+    let refused = Err(TableFault::BadState(1));
+    let int = Value::Int(5);
+    let is_added = change(table, 1, key, Func::Last, Change::Add, &int) == Some(Ok(()));
+    let is_no_sum = change(table, 1, key, Func::Sum, Change::Add, &int) == Some(refused);
+    let id = Value::Id(5);
+    let is_no_id = change(table, 1, key, Func::Last, Change::Add, &id) == Some(refused);
+    let is_no_first = table.answer(1, key, Func::First) == Err(TableFault::BadState(1));
+    is_added && is_no_sum && is_no_id && is_no_first
 }
 
 #[test]
 fn a_row_of_another_function_or_kind_is_refused(rt: HostRuntime) -> Result<(), Fail> {
-    let mut table = MemTable::new(rt.alloc());
     let key = key_of(rt.alloc(), b"")?;
-    let refused = Err(TableFault::BadState(1));
-    let rows = [
-        (Func::Last, Value::Int(5), Ok(())),
-        (Func::Sum, Value::Int(5), refused),
-        (Func::Last, Value::Id(5), refused),
-    ];
-    for (func, value, want) in &rows {
-        let done = change(&mut table, 1, &key, *func, Change::Add, value);
-        assert_eq!(rt; done, Some(*want), "{func:?} {value:?}");
-    }
-    assert_eq!(rt;
-        table.answer(1, &key, Func::First),
-        Err(TableFault::BadState(1))
-    );
+    let mut table = MemTable::new(rt.alloc());
+    let is_refused = refuses_others(&mut table, &key);
+    drop(table);
+    drop(key);
+    assert!(rt; is_refused);
     Ok(())
+}
+
+/// Whether a row of a function over 3, 1 and 2 answers so, and so once the 3 is removed.
+fn follows(
+    table: &mut MemTable,
+    node: u32,
+    key: &Key,
+    func: Func,
+    before: Answer,
+    after: Answer,
+) -> bool {
+    let three = change(table, node, key, func, Change::Add, &Value::Int(3));
+    let one = change(table, node, key, func, Change::Add, &Value::Int(1));
+    let two = change(table, node, key, func, Change::Add, &Value::Int(2));
+    let is_before = table.answer(node, key, func) == Ok(before);
+    let gone = change(table, node, key, func, Change::Remove, &Value::Int(3));
+    let is_changed = three == Some(Ok(())) && one == three && two == three && gone == three;
+    is_changed && is_before && table.answer(node, key, func) == Ok(after)
+}
+
+/// Whether rows of three functions follow a removal.
+fn all_follow(table: &mut MemTable, key: &Key) -> bool {
+    let (one, two, three) = (Answer::Number(1), Answer::Number(2), Answer::Number(3));
+    let greatest = follows(table, 0, key, Func::Max, three, two);
+    let least = follows(table, 1, key, Func::Min, one, one);
+    greatest && least && follows(table, 2, key, Func::CountDistinct, three, two)
 }
 
 #[test]
 fn extremes_and_distinct_counts_follow_a_removal(rt: HostRuntime) -> Result<(), Fail> {
-    let mut table = MemTable::new(rt.alloc());
     let key = key_of(rt.alloc(), b"")?;
-    let rows = [
-        (0, Func::Max, Answer::Number(3), Answer::Number(2)),
-        (1, Func::Min, Answer::Number(1), Answer::Number(1)),
-        (2, Func::CountDistinct, Answer::Number(3), Answer::Number(2)),
-    ];
-    let steps = [
-        (Change::Add, 3),
-        (Change::Add, 1),
-        (Change::Add, 2),
-        (Change::Remove, 3),
-    ];
-    for (node, func, before, after) in rows {
-        for (step, number) in steps {
-            if step == Change::Remove {
-                assert_eq!(rt; table.answer(node, &key, func), Ok(before), "{func:?}");
-            }
-            let done = change(&mut table, node, &key, func, step, &Value::Int(number));
-            assert_eq!(rt; done, Some(Ok(())), "{func:?} {step:?} {number}");
-        }
-        assert_eq!(rt; table.answer(node, &key, func), Ok(after), "{func:?}");
-    }
+    let mut table = MemTable::new(rt.alloc());
+    let do_follow = all_follow(&mut table, &key);
+    drop(table);
+    drop(key);
+    assert!(rt; do_follow);
     Ok(())
 }
 
@@ -154,31 +201,50 @@ fn state_of(alloc: Global, bytes: &[u8]) -> Result<AggState, Fail>
 /// A sum of two ints.
 const SUM: &[u8] = b"\x02\0\0\0\0\0\0\0\x02\0\0\0\0\0\0\0\0\0\0\0\0\0\0\0\xfa";
 
+/// Whether a state fits a sum of ints alone.
+fn fits_a_sum(state: &AggState) -> bool {
+    state.fits(Func::Sum, Some(Kind::Int))
+        && !state.fits(Func::Avg, Some(Kind::Int))
+        && !state.fits(Func::Sum, Some(Kind::Id))
+}
+
 #[test]
 fn a_state_fits_its_function_and_kind_and_is_written_as_read(rt: HostRuntime) -> Result<(), Fail> {
-    let alloc = rt.alloc();
-    let state = state_of(alloc, SUM)?;
-    let fits = state.fits(Func::Sum, Some(Kind::Int))
-        && !state.fits(Func::Avg, Some(Kind::Int))
-        && !state.fits(Func::Sum, Some(Kind::Id));
-    assert!(rt; fits);
-    let mut out = Vec::new(alloc);
+    let state = state_of(rt.alloc(), SUM)?;
+    let fits = fits_a_sum(&state);
+    let mut out = Vec::new(rt.alloc());
     state.encode(&mut out)?;
-    assert_eq!(rt; out.as_slice(), SUM);
+    drop(state);
+    let is_written = out.as_slice() == SUM;
+    drop(out);
+    assert!(rt; fits && is_written);
     Ok(())
+}
+
+/// A table with that sum at node 4 of a key.
+fn with_sum(alloc: Global, key: &Key) -> Result<MemTable, Fail> {
+    let state = state_of(alloc, SUM)?;
+    let mut table = MemTable::new(alloc);
+    table.insert(4, key.copy(alloc)?, state)?;
+    Ok(table)
+}
+
+/// Whether the sum at node 4 is 250, and 50 once 200 is taken from it.
+fn answers_and_changes(table: &mut MemTable, key: &Key) -> bool {
+    let is_sum = table.answer(4, key, Func::Sum) == Ok(Answer::Number(250));
+    let taken = change(table, 4, key, Func::Sum, Change::Remove, &Value::Int(200));
+    let is_less = table.answer(4, key, Func::Sum) == Ok(Answer::Number(50));
+    is_sum && taken == Some(Ok(())) && is_less
 }
 
 #[test]
 fn a_state_that_is_put_in_answers_and_changes(rt: HostRuntime) -> Result<(), Fail> {
-    let alloc = rt.alloc();
-    let state = state_of(alloc, SUM)?;
-    let mut table = MemTable::new(alloc);
-    let key = key_of(alloc, b"\x03\x02c1")?;
-    assert!(rt; table.insert(4, key.copy(alloc)?, state).is_ok());
-    assert_eq!(rt; table.answer(4, &key, Func::Sum), Ok(Answer::Number(250)));
-    let value = Value::Int(200);
-    let is_taken = change(&mut table, 4, &key, Func::Sum, Change::Remove, &value) == Some(Ok(()));
-    assert!(rt; is_taken && table.answer(4, &key, Func::Sum) == Ok(Answer::Number(50)));
+    let key = key_of(rt.alloc(), b"\x03\x02c1")?;
+    let mut table = with_sum(rt.alloc(), &key)?;
+    let is_so = answers_and_changes(&mut table, &key);
+    drop(table);
+    drop(key);
+    assert!(rt; is_so);
     Ok(())
 }
 
@@ -270,17 +336,22 @@ fn a_copy_stays_where_its_source_changes(rt: HostRuntime) -> Result<(), Fail> {
         ),
     ];
     for (func, bytes, copied, changed) in table {
-        assert_eq!(rt;
-            answers_of(rt.alloc(), func, bytes)?,
-            (copied, changed),
-            "at {func:?}"
-        );
+        let answers = answers_of(rt.alloc(), func, bytes)?;
+        assert!(rt; answers == (copied, changed), "at {func:?}");
     }
     Ok(())
 }
 
+/// Why these bytes begin with no state.
+fn fault_of(alloc: Global, bytes: &[u8]) -> Option<StateFault> {
+    match AggState::decode(alloc, &mut ByteReader::new(bytes)) {
+        Ok(_) => None,
+        Err(fault) => Some(fault),
+    }
+}
+
 #[test]
-fn what_is_no_state_is_refused(rt: HostRuntime) -> Result<(), Fail> {
+fn what_is_no_state_is_refused(rt: HostRuntime) {
     let table: [(&[u8], StateFault); 6] = [
         (b"", StateFault::Short),
         // Tags of an earlier version.
@@ -294,10 +365,6 @@ fn what_is_no_state_is_refused(rt: HostRuntime) -> Result<(), Fail> {
         (b"\x03\0\0\0\0\0\0\0\x01\0", StateFault::Short),
     ];
     for (bytes, want) in table {
-        match AggState::decode(rt.alloc(), &mut ByteReader::new(bytes)) {
-            Ok(_) => return Err(Fail::new("a state was read")),
-            Err(fault) => assert_eq!(rt; fault, want, "at {bytes:?}"),
-        }
+        assert!(rt; fault_of(rt.alloc(), bytes) == Some(want), "at {bytes:?}");
     }
-    Ok(())
 }

@@ -1,0 +1,92 @@
+use Rattle.std.proofs.Common.{◌≡◌, ◌∙◌, inl, List, [], Err, ap, sym, subst}
+use Rattle.std.specs.Prelude.{⊤}
+use Rattle.rg_engine.specs.Feeding.{Serves}
+use Rattle.rg_event.specs.Shapes.{Shape}
+use Rattle.rg_event.specs.declared.event.Event.{Event}
+use Rattle.rg_host.specs.Puts.{Puts}
+use Rattle.rg_host.proofs.PutRuns.{puts-then}
+use Rattle.rg_reservoir.specs.Kept.{base}
+use Rattle.rg_replay.specs.Playing.{Answered}
+use Rattle.rg_replay.specs.Replay.{replay_text}
+use Rattle.rg_replay.proofs.Causes.{log_expected, log_disk, log_damaged, log_differs, log_not_write}
+use Rattle.rg_replay.proofs.Played.{if_err_of}
+use Rattle.rg_replay.proofs.Progress.{last_put, none_put, answered_behind}
+use Rattle.rg_replay.proofs.Quiet.{puts_nothing, leaves_all, leaves_store-then, caused_opened, caused_end}
+use Rattle.rg_replay.proofs.replaying.replay_log.Goals as goal
+
+-- where the log has a frame
+
+pub returns-in-Ok-Some-clause-answered : goal.returns-in-Ok-Some-clause-answered
+returns-in-Ok-Some-clause-answered g c = λ queries events is.
+    let sound = (rw c.in-Ok-Some.field-0-is at c.in-Ok-Some.ensures.sound) is.image events is.told is.settled is.has in
+    let going = rw c.in-Ok-Some.field-0-is at c.in-Ok-Some.ensures.going in
+    let text = replay_text queries c.args.first events in
+    let went = c.replay_opened.ensures.answered queries events (record {
+      read = record { list = sound.1; sound = sound.0; runs = going.0 };
+      made = is.made;
+      serves = subst (λ (shape : Shape). Serves shape.fields c.args.plan) (sym going.2) is.serves;
+    }) in
+    answered_behind text text (Puts g.H.Host.said g.H.Host.clock g.H.Host.since c.view.new.host c.replay_opened.new.host) (Puts g.H.Host.said g.H.Host.clock g.H.Host.since c.args.host.now c.replay_opened.new.host) ⊤
+    (λ x put. puts-then g.H.Host.said g.H.Host.clock g.H.Host.since _ _ _ [] x (puts_nothing g.H.Host.now g.H.Host.may g.H.Host.clock g.H.Host.since g.H.Host.said _ _ c.view.ensures.leaves) put) c.replay_opened.result went
+
+pub returns-in-Ok-Some-clause-refused : goal.returns-in-Ok-Some-clause-refused
+returns-in-Ok-Some-clause-refused g c = λ v told why. absurd (c.in-Ok-Some.ensures.exact v told why)
+
+pub returns-in-Ok-Some-clause-cause : goal.returns-in-Ok-Some-clause-cause
+returns-in-Ok-Some-clause-cause g c =
+    let going = rw c.in-Ok-Some.field-0-is at c.in-Ok-Some.ensures.going in
+    if_err_of c.replay_opened.result _ _ c.replay_opened.ensures.cause (λ fault cause.
+    caused_opened g.H.Host.now g.H.Host.may g.H.Host.clock g.H.Host.since g.H.Host.disk_faults g.H.Host.out_faults (base c.in-Ok-Some.viewed) c.args.schema.now fault _ _ _ going.1 going.2
+    (leaves_all g.H.Host.now g.H.Host.may g.H.Host.clock g.H.Host.since g.H.Host.said g.H.Host.disk_faults g.H.Host.out_faults _ _ c.view.ensures.leaves c.view.ensures.disk_faults c.view.ensures.out_faults) cause)
+
+pub returns-in-Ok-Some-clause-leaves : goal.returns-in-Ok-Some-clause-leaves
+returns-in-Ok-Some-clause-leaves g c = leaves_store-then g.H.Host.now g.H.Host.may g.H.Host.clock g.H.Host.since g.H.Host.disk_faults g.H.Host.out_faults _ _ _
+    (leaves_all g.H.Host.now g.H.Host.may g.H.Host.clock g.H.Host.since g.H.Host.said g.H.Host.disk_faults g.H.Host.out_faults _ _ c.view.ensures.leaves c.view.ensures.disk_faults c.view.ensures.out_faults) c.replay_opened.ensures.leaves
+
+-- where it has none
+
+pub returns-in-Ok-None-clause-answered : goal.returns-in-Ok-None-clause-answered
+returns-in-Ok-None-clause-answered g c = λ queries events is.
+    let none : events ≡ [] = (rw c.in-Ok-None.field-0-is at c.in-Ok-None.ensures.empty_log) is.image events is.told is.has in
+    let quiet = puts_nothing g.H.Host.now g.H.Host.may g.H.Host.clock g.H.Host.since g.H.Host.said _ _ c.view.ensures.leaves in
+    subst (λ (l : List Event). Answered (replay_text queries c.args.first l) (replay_text queries c.args.first l) (Puts g.H.Host.said g.H.Host.clock g.H.Host.since c.args.host.now c.put_end.new.host) ⊤ c.put_end.result) (sym none)
+    (last_put queries c.args.first [] (Puts g.H.Host.said g.H.Host.clock g.H.Host.since c.args.host.now c.view.new.host) (Puts g.H.Host.said g.H.Host.clock g.H.Host.since c.view.new.host c.put_end.new.host) (Puts g.H.Host.said g.H.Host.clock g.H.Host.since c.args.host.now c.put_end.new.host)
+    (λ x y. puts-then g.H.Host.said g.H.Host.clock g.H.Host.since _ _ _ x y) quiet c.put_end.result c.put_end.ensures.puts)
+
+pub returns-in-Ok-None-clause-refused : goal.returns-in-Ok-None-clause-refused
+returns-in-Ok-None-clause-refused g c = λ v told why. absurd (c.in-Ok-None.ensures.exact v told why)
+
+pub returns-in-Ok-None-clause-cause : goal.returns-in-Ok-None-clause-cause
+returns-in-Ok-None-clause-cause g c = if_err_of c.put_end.result _ _ c.put_end.ensures.write (λ fault put.
+    caused_end g.H.Host.now g.H.Host.may g.H.Host.clock g.H.Host.since g.H.Host.disk_faults g.H.Host.out_faults c.args.schema.now fault _ _ _
+    (leaves_all g.H.Host.now g.H.Host.may g.H.Host.clock g.H.Host.since g.H.Host.said g.H.Host.disk_faults g.H.Host.out_faults _ _ c.view.ensures.leaves c.view.ensures.disk_faults c.view.ensures.out_faults) put)
+
+pub returns-in-Ok-None-clause-leaves : goal.returns-in-Ok-None-clause-leaves
+returns-in-Ok-None-clause-leaves g c = leaves_store-then g.H.Host.now g.H.Host.may g.H.Host.clock g.H.Host.since g.H.Host.disk_faults g.H.Host.out_faults _ _ _
+    (leaves_all g.H.Host.now g.H.Host.may g.H.Host.clock g.H.Host.since g.H.Host.said g.H.Host.disk_faults g.H.Host.out_faults _ _ c.view.ensures.leaves c.view.ensures.disk_faults c.view.ensures.out_faults) c.put_end.ensures.leaves
+
+-- where the log is refused
+
+pub returns-in-Err-clause-answered : goal.returns-in-Err-clause-answered
+returns-in-Err-clause-answered g c = λ queries events is.
+    let refused = c.in-Err.ensures in
+    let why = log_expected c.in-Err.fault (λ p e. refused.legal is.image events p is.told is.has (ap Err e)) (λ e. refused.legal_ours is.image events is.told is.has (ap Err e)) in
+    let none = none_put (replay_text queries c.args.first events) (Puts g.H.Host.said g.H.Host.clock g.H.Host.since c.args.host.now c.view.new.host) c.from.result (puts_nothing g.H.Host.now g.H.Host.may g.H.Host.clock g.H.Host.since g.H.Host.said _ _ c.view.ensures.leaves) in
+    (rw (← c.from.ensures) at why, none)
+
+pub returns-in-Err-clause-refused : goal.returns-in-Err-clause-refused
+returns-in-Err-clause-refused g c = λ v told why. (tt, puts_nothing g.H.Host.now g.H.Host.may g.H.Host.clock g.H.Host.since g.H.Host.said _ _ c.view.ensures.leaves)
+
+pub returns-in-Err-clause-cause : goal.returns-in-Err-clause-cause
+returns-in-Err-clause-cause g c =
+    let refused = c.in-Err.ensures in
+    let f = c.in-Err.fault in
+    record {
+      disk = λ is. refused.disk (ap Err (log_disk f (sym c.from.ensures ∙ is)));
+      damaged = λ p is. inl (refused.damaged p (ap Err (log_damaged f p (sym c.from.ensures ∙ is))));
+      write = λ is. absurd (log_not_write f (sym c.from.ensures ∙ is));
+      differs = λ is. refused.differs (ap Err (log_differs f (sym c.from.ensures ∙ is)));
+    }
+
+pub returns-in-Err-clause-leaves : goal.returns-in-Err-clause-leaves
+returns-in-Err-clause-leaves g c = leaves_all g.H.Host.now g.H.Host.may g.H.Host.clock g.H.Host.since g.H.Host.said g.H.Host.disk_faults g.H.Host.out_faults _ _ c.view.ensures.leaves c.view.ensures.disk_faults c.view.ensures.out_faults

@@ -48,12 +48,7 @@ pub fn encode_checkpoint<T: Table>(
 }
 
 /// Writes all that stands before the number of the rows. An error, here and below, leaves it begun.
-fn put_front(
-    queries: &Texts,
-    count: u64,
-    spots: &[Spot],
-    out: &mut Vec<u8>,
-) -> Result<(), Memory>
+fn put_front(queries: &Texts, count: u64, spots: &[Spot], out: &mut Vec<u8>) -> Result<(), Memory>
     ensures ok { OnOk result (out.new.items ≡ out.old.items ++ head_bytes queries.now count spots.now) }
     ensures queries { OnOk result (AreTexts queries.now) }
     ensures spots { OnOk result (AreSpots spots.now) }

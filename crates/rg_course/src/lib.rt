@@ -10,8 +10,6 @@
 
 mod verdict;
 
-pub use verdict::{law_before, law_next, law_read};
-
 ghost use Rattle.std.specs.Prelude.{◌≡◌, ℕ, ◌+◌, ◌-◌, ◌≤◌, ◌<◌, ◌^◌, max, true, List, [], ◌∷◌, ◌++◌, length, get_or, drop, Option, Some, None};
 ghost use Rattle.rg_event.specs.declared.event.Event.{Event};
 ghost use Rattle.rg_event.specs.Rising.{next_offset, IsRising};
@@ -27,6 +25,8 @@ ghost use Rattle.rg_course.specs.Acknowledged.{SaysStored, SaysSaved, SaysLast, 
 ghost use Rattle.rg_course.specs.Pieces.{AreLines, whole_pieces};
 ghost use Rattle.rg_course.specs.Stores.{IsNear, course_of};
 ghost use Rattle.rg_course.specs.Turns.{Covers};
+
+pub use verdict::{law_before, law_next, law_read};
 
 /// A line below the next offset of the store is passed over, and any other gets its verdict. Over an
 /// empty store the events and the replies are those of the whole input, each with its marks behind it.

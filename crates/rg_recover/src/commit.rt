@@ -16,9 +16,9 @@ ghost use Rattle.rg_recover.specs.Stepping.{IsWithinStep, IsStored};
 use crate::fault::TaskFault;
 use crate::session::Session;
 use rg_host::Host;
+use rg_open::law_steps;
 use rg_reservoir::Reservoir;
 use rg_state::Table;
-use rg_open::law_steps;
 
 /// Commits the open chunk of a reservoir.
 pub(crate) fn commit_open<H: Host>(reservoir: &mut Reservoir, host: &mut H) -> Result<(), TaskFault>

@@ -22,8 +22,8 @@ use rg_checkpoint::{Slots, encode_checkpoint};
 use rg_engine::Engine;
 use rg_event::Texts;
 use rg_host::Host;
-use rg_state::{Table, TableFault};
 use rg_open::{law_checkpoints, law_steps};
+use rg_state::{Table, TableFault};
 use std::alloc::Global;
 
 /// The base payload of an engine after that many events.

@@ -25,8 +25,14 @@ fn access_of(words: &[String]) -> Access
 {
     match Command::named(words) {
         Some(Command::Run(_)) => Access::Write,
-        Some(Command::Check | Command::Dump | Command::Info | Command::Trial(_, _)) | None =>
-            Access::Read,
+        Some(
+            Command::Replay(_)
+            | Command::Check
+            | Command::Dump
+            | Command::Info
+            | Command::Trial(_, _),
+        )
+        | None => Access::Read,
     }
 }
 

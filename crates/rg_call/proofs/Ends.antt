@@ -18,10 +18,11 @@ use Rattle.rg_listing.specs.Stops.{StopsAt}
 use Rattle.rg_listing.specs.Listing.{check_text}
 use Rattle.rg_listing.proofs.Stopped.{nothing_whole}
 use Rattle.rg_call.specs.Causes.{RefusesStore, RefusesGap}
+use Rattle.rg_call.specs.Replays.{RefusesReplay}
 use Rattle.rg_report.specs.Statuses.{last_line}
-use Rattle.rg_call.specs.Call.{CarriesRun, IsRun, ReadsPlan, ShowsStore, Told, ToldPlan, plan_text, ForText, refusal_line, refusal_of, line_for, ending_status, ending_line, IsLegalPlan, IsRefusedPlan, IsDamaged, IsUndamaged, IsPossible, status_by, plan_status, store_status, status_for}
+use Rattle.rg_call.specs.Call.{CarriesRun, IsRun, IsReplay, ReadsPlan, ShowsStore, Told, ToldPlan, plan_text, ForText, refusal_line, refusal_of, line_for, ending_status, ending_line, IsLegalPlan, IsRefusedPlan, IsDamaged, IsUndamaged, IsPossible, status_by, plan_status, store_status, status_for}
 use Rattle.rg_call.specs.declared.command.Command.{Command}
-use Rattle.rg_call.specs.declared.command.Command.TheVariants.{Run, Check, Dump, Info, Trial}
+use Rattle.rg_call.specs.declared.command.Command.TheVariants.{Run, Replay, Check, Dump, Info, Trial}
 use Rattle.rg_report.specs.declared.status.Status.{Status}
 use Rattle.rg_call.specs.declared.ending.Ending.{Ending}
 use Rattle.rg_call.specs.declared.ending.Ending.TheVariants as ends
@@ -141,20 +142,28 @@ refused_line asks image status line (inr (inr (inr is))) refused has = line_as a
 pub write_line : (asks : Result Planned ConfigFault) (image : Image) (status : Status) → status ≡ Write → line_for asks image status ≡ []
 write_line asks image status write = ap (line_for asks image) write
 
--- A legal plan of a run is carried out.
+-- A legal plan of a run or a replay is carried out.
 
-carries : (first : ℕ) (bytes : List ℕ) (asks : Result Planned ConfigFault) (p : Planned) → IsPlan bytes p → asks ≡ r.Ok p → CarriesRun (Some (Run first)) bytes asks
-carries first bytes asks p is same = subst (λ v. CarriesRun (Some (Run first)) bytes v) (sym same) is.within
+-- the words name a run or a replay
+abbrev pub GoesOver : Option Command → Type 0
+GoesOver command = IsRun command ⊎ IsReplay command
+
+module _ (command : Option Command) (reads : ReadsPlan command) (carried : (bytes : List ℕ) (p : Planned) → length bytes ≤ 65536 → CarriesRun command bytes (r.Ok p)) where
+  never_carried : (plan : Option (List ℕ)) (store : Option Image) (p : Planned) → IfSome plan (λ bytes. IsPlan bytes p) → ToldPlan command plan store → ⊥
+  never_carried plan store p legal told =
+      let P : Option (List ℕ) → Type 0 = λ v. IfSome v (λ bytes. IsPlan bytes p) in
+      let is : IsPlan told.plan_bytes p = subst P (told.plan_is reads) legal in
+      told.no_run (subst (λ v. CarriesRun command told.plan_bytes v) (sym (asks_is told.plan_bytes p is told.asks told.says)) (carried told.plan_bytes p is.within))
+
+  never_legal : (plan : Option (List ℕ)) (store : Option Image) → IsLegalPlan plan → ToldPlan command plan store → ⊥
+  never_legal (Some bytes) store legal told = never_carried (Some bytes) store legal.0 legal.1 told
+  never_legal None store legal told = absurd (let e : None ≡ Some told.plan_bytes = told.plan_is reads in cc)
 
 pub no_carried : (first : ℕ) (plan : Option (List ℕ)) (store : Option Image) (p : Planned) → IfSome plan (λ bytes. IsPlan bytes p) → ToldPlan (Some (Run first)) plan store → ⊥
-no_carried first plan store p legal told =
-    let P : Option (List ℕ) → Type 0 = λ v. IfSome v (λ bytes. IsPlan bytes p) in
-    let is : IsPlan told.plan_bytes p = subst P (told.plan_is tt) legal in
-    told.no_run (carries first told.plan_bytes told.asks p is (asks_is told.plan_bytes p is told.asks told.says))
+no_carried first plan store p legal told = never_carried (Some (Run first)) tt (λ bytes q within. within) plan store p legal told
 
-no_carried_legal : (first : ℕ) (plan : Option (List ℕ)) (store : Option Image) → IsLegalPlan plan → ToldPlan (Some (Run first)) plan store → ⊥
-no_carried_legal first (Some bytes) store legal told = no_carried first (Some bytes) store legal.0 legal.1 told
-no_carried_legal first None store legal told = absurd (let e : None ≡ Some told.plan_bytes = told.plan_is tt in cc)
+pub no_replayed : (first : ℕ) (plan : Option (List ℕ)) (store : Option Image) (p : Planned) → IfSome plan (λ bytes. IsPlan bytes p) → ToldPlan (Some (Replay first)) plan store → ⊥
+no_replayed first plan store p legal told = never_carried (Some (Replay first)) tt (λ bytes q within. within) plan store p legal told
 
 -- What a check puts, by the plan that was read.
 
@@ -195,32 +204,36 @@ pub record Causes (command : Option Command) (plan input : Option (List ℕ)) (s
   pub usage_always : command ≡ None → status ≡ Usage
   pub ok_only : status ≡ Ok → (ReadsPlan command → IsLegalPlan plan) × (ShowsStore command → IsUndamaged store)
   pub plan_only : status ≡ BadPlan → ReadsPlan command × IsRefusedPlan plan
-  pub store_only : status ≡ Store → (ShowsStore command × IsDamaged store) ⊎ (IsRun command × IsLegalPlan plan)
+  pub store_only : status ≡ Store → (ShowsStore command × IsDamaged store) ⊎ (GoesOver command × IsLegalPlan plan)
   pub gap_only : status ≡ Gap → IsRun command × IsLegalPlan plan
-  pub disk_only : status ≡ Disk → (ShowsStore command ⊎ (IsRun command × IsLegalPlan plan)) × D
+  pub disk_only : status ≡ Disk → (ShowsStore command ⊎ (GoesOver command × IsLegalPlan plan)) × D
   pub read_only : status ≡ Read → A ⊎ B
   pub write_only : status ≡ Write → C
   pub limit_only : status ≡ Limit → (ReadsPlan command × IsLonger 65536 plan) ⊎ (IsLegalPlan plan × IsRun command × IsLonger (2 ^ 50) input)
   pub possible_only : IsPossible status
 
+neither : ⊥ ⊎ ⊥ → ⊥
+neither (inl run) = run
+neither (inr replay) = replay
+
 no_rose : (A B C : Type 0) → (A ⊎ B ⊎ C → ⊥) → A ⊎ B → ⊥
 no_rose A B C none (inl a) = none (inl a)
 no_rose A B C none (inr b) = none (inr (inl b))
 
--- of a command that reads its plan, where a legal one isn't carried out as a run
+-- of a command that reads its plan, where a legal one isn't carried out
 module _ (command : Command) (plan : List ℕ) (input : Option (List ℕ)) (store : Option Image) (asks : Result Planned ConfigFault) (says : Says plan asks) (A B C D : Type 0) where
-  module _ (none : A ⊎ B ⊎ C → ⊥) (reads : ReadsPlan (Some command)) (no_shows : ShowsStore (Some command) → ⊥) (no_run : IsRun (Some command) → IsLegalPlan (Some plan) → ⊥) where
-    no_store : (ShowsStore (Some command) × IsDamaged store) ⊎ (IsRun (Some command) × IsLegalPlan (Some plan)) → ⊥
+  module _ (none : A ⊎ B ⊎ C → ⊥) (reads : ReadsPlan (Some command)) (no_shows : ShowsStore (Some command) → ⊥) (no_run : GoesOver (Some command) → IsLegalPlan (Some plan) → ⊥) where
+    no_store : (ShowsStore (Some command) × IsDamaged store) ⊎ (GoesOver (Some command) × IsLegalPlan (Some plan)) → ⊥
     no_store (inl shows) = no_shows shows.0
     no_store (inr runs) = no_run runs.0 runs.1
 
-    no_files : ShowsStore (Some command) ⊎ (IsRun (Some command) × IsLegalPlan (Some plan)) → ⊥
+    no_files : ShowsStore (Some command) ⊎ (GoesOver (Some command) × IsLegalPlan (Some plan)) → ⊥
     no_files (inl shows) = no_shows shows
     no_files (inr runs) = no_run runs.0 runs.1
 
     limit_for : (ReadsPlan (Some command) × IsLonger 65536 (Some plan)) ⊎ (IsLegalPlan (Some plan) × IsRun (Some command) × IsLonger (2 ^ 50) input) → plan_status plan asks ≡ Limit
     limit_for (inl longer) = status_longer plan asks longer.1
-    limit_for (inr longer) = absurd (no_run longer.1 longer.0)
+    limit_for (inr longer) = absurd (no_run (inl longer.1) longer.0)
 
     plan_completes : (status : Status) → Causes (Some command) (Some plan) input store A B C D status → (status ≡ plan_status plan asks) ⊎ (status ≡ Memory)
     plan_completes Ok c = inl (sym (status_legal plan asks says ((c.ok_only refl).0 reads)))
@@ -232,18 +245,18 @@ module _ (command : Command) (plan : List ℕ) (input : Option (List ℕ)) (stor
     plan_completes Disk c = absurd (no_files (c.disk_only refl).0)
     plan_completes Limit c = inl (sym (limit_for (c.limit_only refl)))
     plan_completes Memory c = inr refl
-    plan_completes Gap c = let h = c.gap_only refl in absurd (no_run h.0 h.1)
+    plan_completes Gap c = let h = c.gap_only refl in absurd (no_run (inl h.0) h.1)
     plan_completes Differs c = absurd c.possible_only
 
 -- of a command that puts what the store has, which reads neither plan nor input
-module _ (command : Command) (plan input : Option (List ℕ)) (image : Image) (A B C D : Type 0) (shows : ShowsStore (Some command)) (no_plan : ReadsPlan (Some command) → ⊥) (no_run : IsRun (Some command) → ⊥) where
-  store_for : (ShowsStore (Some command) × IsDamaged (Some image)) ⊎ (IsRun (Some command) × IsLegalPlan plan) → store_status (damage_of (image 2)) ≡ Store
+module _ (command : Command) (plan input : Option (List ℕ)) (image : Image) (A B C D : Type 0) (shows : ShowsStore (Some command)) (no_plan : ReadsPlan (Some command) → ⊥) (no_run : GoesOver (Some command) → ⊥) where
+  store_for : (ShowsStore (Some command) × IsDamaged (Some image)) ⊎ (GoesOver (Some command) × IsLegalPlan plan) → store_status (damage_of (image 2)) ≡ Store
   store_for (inl damaged) = ap store_status (damaged.1 image refl).1
   store_for (inr runs) = absurd (no_run runs.0)
 
   no_limit : (ReadsPlan (Some command) × IsLonger 65536 plan) ⊎ (IsLegalPlan plan × IsRun (Some command) × IsLonger (2 ^ 50) input) → ⊥
   no_limit (inl longer) = no_plan longer.0
-  no_limit (inr longer) = no_run longer.1
+  no_limit (inr longer) = no_run (inl longer.1)
 
   store_completes : (A ⊎ B ⊎ C ⊎ D → ⊥) → (status : Status) → Causes (Some command) plan input (Some image) A B C D status → (status ≡ store_status (damage_of (image 2))) ⊎ (status ≡ Memory)
   store_completes none Ok c = inl (sym (ap store_status ((c.ok_only refl).1 shows image refl)))
@@ -255,7 +268,7 @@ module _ (command : Command) (plan input : Option (List ℕ)) (image : Image) (A
   store_completes none Disk c = absurd (none (inr (inr (inr (c.disk_only refl).1))))
   store_completes none Limit c = absurd (no_limit (c.limit_only refl))
   store_completes none Memory c = inr refl
-  store_completes none Gap c = absurd (no_run (c.gap_only refl).0)
+  store_completes none Gap c = absurd (no_run (inl (c.gap_only refl).0))
   store_completes none Differs c = absurd c.possible_only
 
 -- of a trial, which has neither a plan nor an input nor files
@@ -268,10 +281,10 @@ module _ (lines seed : ℕ) (plan input : Option (List ℕ)) (store : Option Ima
   trial_completes none Ok c = inl refl
   trial_completes none Usage c = absurd (let e : Some (Trial lines seed) ≡ None = c.usage_only refl in cc)
   trial_completes none BadPlan c = absurd (c.plan_only refl).0
-  trial_completes none Store c = absurd (⊎_elim (λ shows. shows.0) (λ runs. runs.0) (c.store_only refl))
+  trial_completes none Store c = absurd (⊎_elim (λ shows. shows.0) (λ over. neither over.0) (c.store_only refl))
   trial_completes none Read c = absurd (no_rose A B C none (c.read_only refl))
   trial_completes none Write c = absurd (none (inr (inr (c.write_only refl))))
-  trial_completes none Disk c = absurd (⊎_elim (λ shows. shows) (λ runs. runs.0) (c.disk_only refl).0)
+  trial_completes none Disk c = absurd (⊎_elim (λ shows. shows) (λ over. neither over.0) (c.disk_only refl).0)
   trial_completes none Limit c = absurd (never_long (c.limit_only refl))
   trial_completes none Memory c = inr refl
   trial_completes none Gap c = absurd (c.gap_only refl).0
@@ -294,16 +307,20 @@ pub completes : (command : Option Command) (plan input : Option (List ℕ)) (sto
 completes (Some (Run first)) plan input store A B C D status causes told none =
     let P : Option (List ℕ) → Type 0 = λ v. Causes (Some (Run first)) v input store A B C D status in
     let Q : Option (List ℕ) → Type 0 = λ v. IsLegalPlan v in
-    plan_completes (Run first) told.plan_bytes input store told.asks told.says A B C D (three A B C (ShowsStore (Some (Run first)) × D) none) tt (λ shows. shows) (λ run legal. no_carried_legal first plan store (subst Q (sym (told.plan_is tt)) legal) told) status (subst P (told.plan_is tt) causes)
+    plan_completes (Run first) told.plan_bytes input store told.asks told.says A B C D (three A B C (ShowsStore (Some (Run first)) × D) none) tt (λ shows. shows) (λ over legal. never_legal (Some (Run first)) tt (λ bytes q within. within) plan store (subst Q (sym (told.plan_is tt)) legal) told) status (subst P (told.plan_is tt) causes)
+completes (Some (Replay first)) plan input store A B C D status causes told none =
+    let P : Option (List ℕ) → Type 0 = λ v. Causes (Some (Replay first)) v input store A B C D status in
+    let Q : Option (List ℕ) → Type 0 = λ v. IsLegalPlan v in
+    plan_completes (Replay first) told.plan_bytes input store told.asks told.says A B C D (three A B C (ShowsStore (Some (Replay first)) × D) none) tt (λ shows. shows) (λ over legal. never_legal (Some (Replay first)) tt (λ bytes q within. within) plan store (subst Q (sym (told.plan_is tt)) legal) told) status (subst P (told.plan_is tt) causes)
 completes (Some Check) plan input store A B C D status causes told none =
     let P : Option (List ℕ) → Type 0 = λ v. Causes (Some Check) v input store A B C D status in
-    plan_completes Check told.plan_bytes input store told.asks told.says A B C D (three A B C (ShowsStore (Some Check) × D) none) tt (λ shows. shows) (λ run legal. run) status (subst P (told.plan_is tt) causes)
+    plan_completes Check told.plan_bytes input store told.asks told.says A B C D (three A B C (ShowsStore (Some Check) × D) none) tt (λ shows. shows) (λ over legal. neither over) status (subst P (told.plan_is tt) causes)
 completes (Some Dump) plan input store A B C D status causes told none =
     let P : Option Image → Type 0 = λ v. Causes (Some Dump) plan input v A B C D status in
-    store_completes Dump plan input told.image A B C D tt (λ plan. plan) (λ run. run) (four A B C D (ShowsStore (Some Dump)) tt none) status (subst P (told.image_is tt) causes)
+    store_completes Dump plan input told.image A B C D tt (λ plan. plan) neither (four A B C D (ShowsStore (Some Dump)) tt none) status (subst P (told.image_is tt) causes)
 completes (Some Info) plan input store A B C D status causes told none =
     let P : Option Image → Type 0 = λ v. Causes (Some Info) plan input v A B C D status in
-    store_completes Info plan input told.image A B C D tt (λ plan. plan) (λ run. run) (four A B C D (ShowsStore (Some Info)) tt none) status (subst P (told.image_is tt) causes)
+    store_completes Info plan input told.image A B C D tt (λ plan. plan) neither (four A B C D (ShowsStore (Some Info)) tt none) status (subst P (told.image_is tt) causes)
 completes (Some (Trial lines seed)) plan input store A B C D status causes told none = trial_completes lines seed plan input store A B C D (three A B C (ShowsStore (Some (Trial lines seed)) × D) none) status causes
 completes None plan input store A B C D status causes told none = inl (causes.usage_always refl)
 
@@ -361,9 +378,16 @@ runs command first is = subst (λ v. IsRun v) (sym is) tt
 
 -- what the causes of a call say of its plan
 
-pub store_legal : (command : Option Command) (plan : Option (List ℕ)) (store new : Option Image) (alone : Type 0) (Ends : List ℕ → Type 0) → (ShowsStore command × IsDamaged store) ⊎ (IsRun command × ((last : List ℕ) × RefusesStore plan store new alone last × Ends last)) → (ShowsStore command × IsDamaged store) ⊎ (IsRun command × IsLegalPlan plan)
-store_legal command plan store new alone Ends (inl shows) = inl shows
-store_legal command plan store new alone Ends (inr refuses) = inr (refuses.0, legal_of plan refuses.1.1.asks refuses.1.1.legal)
+pub store_legal : (command : Option Command) (plan : Option (List ℕ)) (store new : Option Image) (may : Image → Type 0) (alone : Type 0) (Ends : List ℕ → Type 0) →
+    (ShowsStore command × IsDamaged store) ⊎ (IsRun command × ((last : List ℕ) × RefusesStore plan store new alone last × Ends last)) ⊎ (IsReplay command × ((last : List ℕ) × RefusesReplay plan store may last × Ends last)) → (ShowsStore command × IsDamaged store) ⊎ (GoesOver command × IsLegalPlan plan)
+store_legal command plan store new may alone Ends (inl shows) = inl shows
+store_legal command plan store new may alone Ends (inr (inl refuses)) = inr (inl refuses.0, legal_of plan refuses.1.1.asks refuses.1.1.legal)
+store_legal command plan store new may alone Ends (inr (inr refuses)) = inr (inr refuses.0, legal_of plan refuses.1.1.asks refuses.1.1.legal)
+
+pub disk_legal : (command : Option Command) (Legal D : Type 0) → (ShowsStore command ⊎ (IsRun command × Legal) ⊎ (IsReplay command × Legal)) × D → (ShowsStore command ⊎ (GoesOver command × Legal)) × D
+disk_legal command Legal D (inl shows, rose) = (inl shows, rose)
+disk_legal command Legal D (inr (inl runs), rose) = (inr (inl runs.0, runs.1), rose)
+disk_legal command Legal D (inr (inr replays), rose) = (inr (inr replays.0, replays.1), rose)
 
 pub gap_legal : (command : Option Command) (plan : Option (List ℕ)) (old : Option Image) (alone : Type 0) (Ends : List ℕ → Type 0) → (first : ℕ) × (command ≡ Some (Run first)) × ((last : List ℕ) × RefusesGap plan old first alone last × Ends last) → IsRun command × IsLegalPlan plan
 gap_legal command plan old alone Ends refuses = (runs command refuses.0 refuses.1, legal_of plan refuses.2.1.asks refuses.2.1.legal)

@@ -7,3 +7,4 @@ pub mod Carrying
 pub mod Telling
 pub mod Worked
 pub mod TurnedAway
+pub mod Replaying

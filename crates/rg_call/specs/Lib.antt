@@ -3,3 +3,4 @@ pub mod Call
 pub mod Stored
 pub mod Causes
 pub mod TurnedAway
+pub mod Replays

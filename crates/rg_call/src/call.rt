@@ -24,15 +24,17 @@ ghost use Rattle.rg_run.specs.Begun.{course_for, lines_in};
 ghost use Rattle.rg_run.specs.Reading.{IsLonger, IsWithinLimit};
 ghost use Rattle.rg_call.specs.Plan.{IsPlan, IsRefusal};
 ghost use Rattle.rg_report.specs.Statuses.{last_line as status_line};
-ghost use Rattle.rg_call.specs.Call.{command_of, IsRun, ReadsPlan, ShowsStore, CarriesRun, Told, ToldPlan, SaysSo, ForText, plan_text, before_damage, line_for, refusal_line, damage_line, status_after, line_after, ending_status, ending_line, ending_refusal, EndsBy, TellsFault, status_for, IsLegalPlan, TellsNoPlan, IsRefusedPlan, IsDamaged, IsUndamaged, IsPossible};
+ghost use Rattle.rg_call.specs.Call.{command_of, IsRun, IsReplay, ReadsPlan, ShowsStore, CarriesRun, Told, ToldPlan, SaysSo, ForText, plan_text, before_damage, line_for, refusal_line, damage_line, status_after, line_after, ending_status, ending_line, ending_refusal, EndsBy, TellsFault, status_for, IsLegalPlan, TellsNoPlan, IsRefusedPlan, IsDamaged, IsUndamaged, IsPossible};
 ghost use Rattle.rg_call.specs.Causes.{RefusesStore, RefusesGap, EndsWith};
 ghost use Rattle.rg_call.specs.Stored.{ToldRun, begun_in, IsLastOf, IsToldFrom, Went, IsComplete, EndsWhole, EndsAnswered, IsAtMostOneAhead, HasLastSaved, Resumes};
 ghost use Rattle.rg_call.specs.TurnedAway.{EndsUnfit, EndsBehind, IsTurnedAway, IsBehind};
+ghost use Rattle.rg_call.specs.Replays.{ToldReplay, text_of_replay, RefusesReplay, Replayed, ReplaysNothing, PutsReplay, PutsRefusal};
 
 use crate::command::Command;
 use crate::dump::dump;
 use crate::ending::Ending;
 use crate::info::info;
+use crate::replay::replay;
 use crate::running::run;
 use crate::trial::trial;
 use rg_bytes::{Memory, put_bytes, write_whole};
@@ -195,6 +197,45 @@ fn run_with_plan<P: Source, I: Source, H: Host>(
     }
 }
 
+/// Reads the plan, and answers the stored events again by it, from that offset on.
+fn replay_with_plan<P: Source, H: Host>(
+    alloc: Global,
+    first: u64,
+    plan: &mut P,
+    host: &mut H,
+) -> Result<(), Ending>
+    ensures replayed { (told : ToldReplay (P.left plan.old) (H.now host.old) (H.may host.old)) →
+        Replayed H.said H.clock H.since (text_of_replay told first) (Rose (P.faults plan.old) (P.faults plan.new)) (status_after result) (line_after result) host.old host.new }
+    ensures unfit { (bytes : List ℕ) (asks : Planned) (v : Image) → P.left plan.old ≡ Some bytes → IsPlan bytes asks → H.now host.old ≡ Some v → IsUnfit asks v → ReplaysNothing H.said H.clock H.since asks (H.now host.old) (status_after result) (line_after result) host.old host.new }
+
+    // Where the plan isn't legal, nothing is put.
+    ensures completes { OnOk result (ToldPlan (Some (Command.Replay first)) (P.left plan.old) (H.now host.old) → ⊥) }
+    ensures stops { IfErr result (λ ending. ToldPlan (Some (Command.Replay first)) (P.left plan.old) (H.now host.old) → Puts H.said H.clock H.since host.old host.new []) }
+    ensures line { IfErr result (λ ending. (told : ToldPlan (Some (Command.Replay first)) (P.left plan.old) (H.now host.old)) → ending_line ending ≡ line_for told.asks told.image (ending_status ending)) }
+
+    ensures legal { OnOk result (IsLegalPlan (P.left plan.old)) }
+    ensures refused { IfErr result (λ ending. ending_status ending ≡ Status.Plan → IsRefusedPlan (P.left plan.old)) }
+    ensures told { IfErr result (λ ending. ending_status ending ≡ Status.Plan → TellsFault (P.left plan.old) (ending_refusal ending)) }
+    ensures store { IfErr result (λ ending. ending_status ending ≡ Status.Store → RefusesReplay (P.left plan.old) (H.now host.old) (H.may host.old) (ending_line ending)) }
+    ensures disk { IfErr result (λ ending. ending_status ending ≡ Status.Disk → IsLegalPlan (P.left plan.old) × Rose (H.disk_faults host.old) (H.disk_faults host.new)) }
+    ensures read { IfErr result (λ ending. ending_status ending ≡ Status.Read → Rose (P.faults plan.old) (P.faults plan.new)) }
+    ensures write { IfErr result (λ ending. ending_status ending ≡ Status.Write → IsLegalPlan (P.left plan.old) × Rose (H.out_faults host.old) (H.out_faults host.new)) }
+    ensures limit { IfErr result (λ ending. ending_status ending ≡ Status.Limit → IsLonger 65536 (P.left plan.old)) }
+    ensures possible { IfErr result (λ ending. IsPossible (ending_status ending) × (ending_status ending ≢ Status.Ok) × (ending_status ending ≢ Status.Usage)) }
+    ensures no_gap { IfErr result (λ ending. ending_status ending ≢ Status.Gap) }
+    ensures leaves { LeavesFiles H.now H.may H.clock H.since host.old host.new }
+    ensures later_out { H.out_faults host.old ≤ H.out_faults host.new }
+{
+    let asked = match load_plan(alloc, plan) {
+        Ok(asked) => asked,
+        Err(ending) => return Err(ending),
+    };
+    match replay::<H, Brand>(alloc, &asked, first, host, Blank::new(1)) {
+        Ok(()) => Ok(()),
+        Err(ending) => Err(ending),
+    }
+}
+
 /// Does what the command asks for.
 fn run_command<P: Source, I: Source, H: Host>(
     alloc: Global,
@@ -208,6 +249,9 @@ fn run_command<P: Source, I: Source, H: Host>(
     ensures went { (first : ℕ) → command ≡ Command.Run first → (told : ToldRun (P.left plan.old) (I.left input.old) (H.now host.old) (H.may host.old) (H.said host.old)) → (from : ℕ)
         × Went H.may H.clock H.since H.said told.asks (begun_in told from first) told.ready.openable.image (I.left input.new) (Rose (P.faults plan.old) (P.faults plan.new)) (status_after result) (line_after result) host.old host.new }
     ensures never_damaged { IsRun (Some command) → ToldRun (P.left plan.old) (I.left input.old) (H.now host.old) (H.may host.old) (H.said host.old) → status_after result ≡ Status.Store → ⊥ }
+    ensures replayed { (first : ℕ) → command ≡ Command.Replay first → (told : ToldReplay (P.left plan.old) (H.now host.old) (H.may host.old)) →
+        Replayed H.said H.clock H.since (text_of_replay told first) (Rose (P.faults plan.old) (P.faults plan.new)) (status_after result) (line_after result) host.old host.new }
+    ensures replay_unfit { (bytes : List ℕ) (asks : Planned) (v : Image) → IsReplay (Some command) → P.left plan.old ≡ Some bytes → IsPlan bytes asks → H.now host.old ≡ Some v → IsUnfit asks v → ReplaysNothing H.said H.clock H.since asks (H.now host.old) (status_after result) (line_after result) host.old host.new }
     ensures completes { OnOk result ((told : ToldPlan (Some command) (P.left plan.old) (H.now host.old)) → ForText (Some command) Status.Ok told.asks told.image (λ text. Puts H.said H.clock H.since host.old host.new (ended text))) }
     ensures stops { IfErr result (λ ending. (told : ToldPlan (Some command) (P.left plan.old) (H.now host.old)) → ForText (Some command) (ending_status ending) told.asks told.image (λ text. (put : List ℕ) × Puts H.said H.clock H.since host.old host.new put × StopsAt (ending_status ending ≡ Status.Write) text put)) }
     ensures line { IfErr result (λ ending. (told : ToldPlan (Some command) (P.left plan.old) (H.now host.old)) → ending_line ending ≡ line_for told.asks told.image (ending_status ending)) }
@@ -225,14 +269,16 @@ fn run_command<P: Source, I: Source, H: Host>(
     ensures read { IfErr result (λ ending. ending_status ending ≡ Status.Read → Rose (P.faults plan.old) (P.faults plan.new) ⊎ (IsLegalPlan (P.left plan.old) × IsRun (Some command) × Rose (I.faults input.old) (I.faults input.new))) }
     ensures write { IfErr result (λ ending. ending_status ending ≡ Status.Write → (ReadsPlan (Some command) → IsLegalPlan (P.left plan.old)) × Rose (H.out_faults host.old) (H.out_faults host.new)) }
     ensures limit { IfErr result (λ ending. ending_status ending ≡ Status.Limit → (ReadsPlan (Some command) × IsLonger 65536 (P.left plan.old)) ⊎ (IsLegalPlan (P.left plan.old) × IsRun (Some command) × IsLonger (2 ^ 50) (I.left input.old))) }
-    ensures store { IfErr result (λ ending. ending_status ending ≡ Status.Store → (ShowsStore (Some command) × IsDamaged (H.now host.old)) ⊎ (IsRun (Some command) × RefusesStore (P.left plan.old) (H.now host.old) (H.now host.new) (input.new ≡ input.old) (ending_line ending))) }
+    ensures store { IfErr result (λ ending. ending_status ending ≡ Status.Store → (ShowsStore (Some command) × IsDamaged (H.now host.old)) ⊎ (IsRun (Some command) × RefusesStore (P.left plan.old) (H.now host.old) (H.now host.new) (input.new ≡ input.old) (ending_line ending))
+        ⊎ (IsReplay (Some command) × RefusesReplay (P.left plan.old) (H.now host.old) (H.may host.old) (ending_line ending))) }
     ensures all_before { IfErr result (λ ending. ending_status ending ≡ Status.Store → ShowsStore (Some command) → ForSome (H.now host.old) (λ image. Puts H.said H.clock H.since host.old host.new (ended (before_damage (Some command) image)) × (ending_line ending ≡ damage_line (damage_of (image 2))))) }
     ensures gap { IfErr result (λ ending. ending_status ending ≡ Status.Gap → (first : ℕ) × (command ≡ Command.Run first) × RefusesGap (P.left plan.old) (H.now host.old) first (input.new ≡ input.old) (ending_line ending)) }
-    ensures disk { IfErr result (λ ending. ending_status ending ≡ Status.Disk → (ShowsStore (Some command) ⊎ (IsRun (Some command) × IsLegalPlan (P.left plan.old))) × Rose (H.disk_faults host.old) (H.disk_faults host.new)) }
+    ensures disk { IfErr result (λ ending. ending_status ending ≡ Status.Disk → (ShowsStore (Some command) ⊎ (IsRun (Some command) × IsLegalPlan (P.left plan.old)) ⊎ (IsReplay (Some command) × IsLegalPlan (P.left plan.old))) × Rose (H.disk_faults host.old) (H.disk_faults host.new)) }
     ensures possible { IfErr result (λ ending. IsPossible (ending_status ending) × (ending_status ending ≢ Status.Ok) × (ending_status ending ≢ Status.Usage)) }
     ensures plan_first { (status_after result ≡ Status.Plan) ⊎ TellsNoPlan (P.left plan.old) → input.new ≡ input.old }
     ensures read_first { IfErr result (λ ending. ending_status ending ≡ Status.Read → ((input.new ≡ input.old) × LeavesFiles H.now H.may H.clock H.since host.old host.new) ⊎ Rose (I.faults input.old) (I.faults input.new)) }
     ensures no_input { command ≡ Command.Check → input.new ≡ input.old }
+    ensures replay_alone { IsReplay (Some command) → input.new ≡ input.old }
     ensures alone { (ReadsPlan (Some command) → ⊥) → (plan.new ≡ plan.old) × (input.new ≡ input.old) }
     ensures trial { (lines seed : ℕ) → command ≡ Command.Trial lines seed → (status_after result ≡ Status.Ok) ⊎ (status_after result ≡ Status.Memory) ⊎ (status_after result ≡ Status.Write) }
     ensures leaves { (IsRun (Some command) → ⊥) ⊎ (status_after result ≡ Status.Plan) ⊎ TellsNoPlan (P.left plan.old) → LeavesFiles H.now H.may H.clock H.since host.old host.new }
@@ -240,6 +286,7 @@ fn run_command<P: Source, I: Source, H: Host>(
 {
     match command {
         Command::Run(first) => run_with_plan(alloc, first, plan, input, host),
+        Command::Replay(first) => replay_with_plan(alloc, first, plan, host),
         Command::Check => check_with_plan(alloc, plan, host),
         Command::Dump => dump(alloc, host),
         Command::Info => info(alloc, host),
@@ -297,6 +344,12 @@ fn run_words<P: Source, I: Source, H: Host>(
         ⊎ Rose (P.faults plan.old) (P.faults plan.new) ⊎ Rose (H.out_faults host.old) (H.out_faults host.new) }
     ensures resumes { result ≡ Status.Ok → command_of words.now ≡ Some (Command.Run 0) → (told : ToldRun (P.left plan.old) (I.left input.old) (H.now host.old) (H.may host.old) (H.said host.old)) →
         told.ready.held ≡ below (next_offset told.ready.held) (events_after (terms_of told.asks).basis [] 0 (lines_of told.input_bytes)) → (from : ℕ) × Resumes told.asks (begun_in told from 0) (H.said host.new) }
+    ensures replayed { result ≡ Status.Ok → (first : ℕ) → command_of words.now ≡ Some (Command.Replay first) → (told : ToldReplay (P.left plan.old) (H.now host.old) (H.may host.old)) →
+        Puts H.said H.clock H.since host.old host.new (ended (text_of_replay told first)) }
+    ensures replay_put { (first : ℕ) → command_of words.now ≡ Some (Command.Replay first) → (told : ToldReplay (P.left plan.old) (H.now host.old) (H.may host.old)) →
+        PutsReplay H.said H.clock H.since (text_of_replay told first) (Rose (H.out_faults host.old) (H.out_faults host.new)) result host.old host.new }
+    ensures replay_refused { IsReplay (command_of words.now) → (bytes : List ℕ) (asks : Planned) (v : Image) → P.left plan.old ≡ Some bytes → IsPlan bytes asks → H.now host.old ≡ Some v → IsUnfit asks v →
+        PutsRefusal H.said H.clock H.since asks (H.now host.old) (Rose (H.out_faults host.old) (H.out_faults host.new)) result host.old host.new }
     ensures input_read { result ≡ Status.Ok → IsRun (command_of words.now) → IsAtEnd (I.left input.new) }
     ensures gap_always { result ≡ Status.Ok → (first : ℕ) → command_of words.now ≡ Some (Command.Run first) → (told : ToldRun (P.left plan.old) (I.left input.old) (H.now host.old) (H.may host.old) (H.said host.old)) → first ≤ next_offset told.ready.held }
     ensures behind { (first : ℕ) → command_of words.now ≡ Some (Command.Run first) → (told : ToldRun (P.left plan.old) (I.left input.old) (H.now host.old) (H.may host.old) (H.said host.old)) (slot : ℕ) → next_offset told.ready.held < first → (input.new ≡ input.old)
@@ -307,12 +360,13 @@ fn run_words<P: Source, I: Source, H: Host>(
     ensures ok_only { result ≡ Status.Ok → (ReadsPlan (command_of words.now) → IsLegalPlan (P.left plan.old)) × (IsRun (command_of words.now) → IsWithinLimit (2 ^ 50) (I.left input.old)) × (ShowsStore (command_of words.now) → IsUndamaged (H.now host.old)) }
     ensures plan_only { result ≡ Status.Plan → ReadsPlan (command_of words.now) × IsRefusedPlan (P.left plan.old) }
     ensures store_only { result ≡ Status.Store → (ShowsStore (command_of words.now) × IsDamaged (H.now host.old))
-        ⊎ (IsRun (command_of words.now) × ((last : List ℕ) × RefusesStore (P.left plan.old) (H.now host.old) (H.now host.new) (input.new ≡ input.old) last × (EndsWith (H.said host.new) last ⊎ Rose (H.out_faults host.old) (H.out_faults host.new)))) }
+        ⊎ (IsRun (command_of words.now) × ((last : List ℕ) × RefusesStore (P.left plan.old) (H.now host.old) (H.now host.new) (input.new ≡ input.old) last × (EndsWith (H.said host.new) last ⊎ Rose (H.out_faults host.old) (H.out_faults host.new))))
+        ⊎ (IsReplay (command_of words.now) × ((last : List ℕ) × RefusesReplay (P.left plan.old) (H.now host.old) (H.may host.old) last × (EndsWith (H.said host.new) last ⊎ Rose (H.out_faults host.old) (H.out_faults host.new)))) }
     ensures store_always { IsRun (command_of words.now) → (bytes : List ℕ) (asks : Planned) (v : Image) → P.left plan.old ≡ Some bytes → IsPlan bytes asks → H.now host.old ≡ Some v → IsUnfit asks v → (input.new ≡ input.old)
         × IsTurnedAway H.now H.may H.clock H.since H.said asks v (Rose (P.faults plan.old) (P.faults plan.new)) (Rose (H.out_faults host.old) (H.out_faults host.new)) result host.old host.new }
     ensures gap_only { result ≡ Status.Gap → (first : ℕ) × (command_of words.now ≡ Some (Command.Run first))
         × ((last : List ℕ) × RefusesGap (P.left plan.old) (H.now host.old) first (input.new ≡ input.old) last × (EndsWith (H.said host.new) last ⊎ Rose (H.out_faults host.old) (H.out_faults host.new))) }
-    ensures disk_only { result ≡ Status.Disk → (ShowsStore (command_of words.now) ⊎ (IsRun (command_of words.now) × IsLegalPlan (P.left plan.old))) × Rose (H.disk_faults host.old) (H.disk_faults host.new) }
+    ensures disk_only { result ≡ Status.Disk → (ShowsStore (command_of words.now) ⊎ (IsRun (command_of words.now) × IsLegalPlan (P.left plan.old)) ⊎ (IsReplay (command_of words.now) × IsLegalPlan (P.left plan.old))) × Rose (H.disk_faults host.old) (H.disk_faults host.new) }
     ensures read_only { result ≡ Status.Read → Rose (P.faults plan.old) (P.faults plan.new) ⊎ (IsLegalPlan (P.left plan.old) × IsRun (command_of words.now) × Rose (I.faults input.old) (I.faults input.new)) }
     ensures write_only { result ≡ Status.Write → (ReadsPlan (command_of words.now) → IsLegalPlan (P.left plan.old)) × Rose (H.out_faults host.old) (H.out_faults host.new) }
     ensures limit_only { result ≡ Status.Limit → (ReadsPlan (command_of words.now) × IsLonger 65536 (P.left plan.old)) ⊎ (IsLegalPlan (P.left plan.old) × IsRun (command_of words.now) × IsLonger (2 ^ 50) (I.left input.old)) }
@@ -325,6 +379,7 @@ fn run_words<P: Source, I: Source, H: Host>(
     ensures plan_first { (result ≡ Status.Plan) ⊎ TellsNoPlan (P.left plan.old) → input.new ≡ input.old }
     ensures read_first { result ≡ Status.Read → ((input.new ≡ input.old) × LeavesFiles H.now H.may H.clock H.since host.old host.new) ⊎ Rose (I.faults input.old) (I.faults input.new) }
     ensures check_alone { command_of words.now ≡ Some Command.Check → input.new ≡ input.old }
+    ensures replay_alone { IsReplay (command_of words.now) → input.new ≡ input.old }
     ensures alone { (ReadsPlan (command_of words.now) → ⊥) → (plan.new ≡ plan.old) × (input.new ≡ input.old) }
     ensures files_stay { (IsRun (command_of words.now) → ⊥) ⊎ (result ≡ Status.Plan) ⊎ TellsNoPlan (P.left plan.old) → LeavesFiles H.now H.may H.clock H.since host.old host.new }
     ensures rows_before_damage { result ≡ Status.Store → ShowsStore (command_of words.now) → ForSome (H.now host.old) (λ image. Puts H.said H.clock H.since host.old host.new (ended (before_damage (command_of words.now) image) ++ damage_line (damage_of (image 2)))) ⊎ Rose (H.out_faults host.old) (H.out_faults host.new) }
@@ -344,16 +399,20 @@ fn run_words<P: Source, I: Source, H: Host>(
 
 /// Does all that the program does: with the words `run PLAN STORE` it answers the input by the plan over
 /// the store, with `check PLAN` it prints the plan, with `dump STORE` the log of the store, which is file 2
-/// of the host, with `info STORE` how much the log and the two slots, files 0 and 1, have, and with
-/// `self N SEED` what is counted of a run on N made lines.
+/// of the host, with `info STORE` how much the log and the two slots, files 0 and 1, have, with
+/// `replay PLAN STORE` it answers the log's events again by the plan, and with `self N SEED` it puts what is
+/// counted of a run on N made lines.
 ///
 /// `words` are those after the program's name; behind a run's store may stand the offset of the input's
-/// first line, at most 2^61, which must be at most the store's next one. At most 65,536 bytes of `plan`
+/// first line, at most 2^61, which must be at most the store's next one, and behind a replay's the least
+/// offset of an event whose line is put, at most 2^61, 0 where it isn't said. At most 65,536 bytes of `plan`
 /// and 2^50 bytes of `input` are taken, and one more where there is one. What a run puts out is `open`
 /// with what the store has, the answer of each line from the store's next offset on, in order, each with
 /// the marks that are due, and at last what is stored and saved and `done LINES EVENTS`; what a check
 /// puts out is each query and then the task plan; what a dump puts out is the schema's text and then each
-/// event as a row; what `info` puts out is six lines, once the whole log was read; what a trial puts out is
+/// event as a row; what `info` puts out is six lines, once the whole log was read; what a replay puts out is
+/// the line of each event from that offset on, as a run puts it, each answer by the events up to and with its
+/// own, and at last `done NEXT COUNT`, the next offset and how many events there are; what a trial puts out is
 /// four lines, and it touches neither plan nor input nor a file of the host. Another status than Ok puts
 /// its last line behind whole lines of these.
 pub fn railgun<P: Source, I: Source, H: Host>(
@@ -364,7 +423,7 @@ pub fn railgun<P: Source, I: Source, H: Host>(
     host: &mut H,
     refusal: &mut Option<Refusal>,
 ) -> Status
-    // A call that carries out no run: at status Ok just the text that the definitions give was put out.
+    // A call that carries out no run or replay: at status Ok just the text that the definitions give was put out.
     ensures complete { result ≡ Status.Ok → (told : Told (command_of words.now) (P.left plan.old) (H.now host.old)) →
         SaysSo told.plan_bytes (λ asks. (CarriesRun (command_of words.now) told.plan_bytes asks → ⊥) → ForText (command_of words.now) Status.Ok asks told.image (λ text. Puts H.said H.clock H.since host.old host.new (ended text))) }
 
@@ -417,13 +476,27 @@ pub fn railgun<P: Source, I: Source, H: Host>(
         × IsBehind H.may H.clock H.since H.said told.asks told.ready.held told.ready.openable.image first slot (Rose (P.faults plan.old) (P.faults plan.new)) (Rose (H.out_faults host.old) (H.out_faults host.new)) result host.old host.new }
     ensures gap_never { result ≡ Status.Gap → (first : ℕ) → command_of words.now ≡ Some (Command.Run first) → (told : ToldRun (P.left plan.old) (I.left input.old) (H.now host.old) (H.may host.old) (H.said host.old)) → next_offset told.ready.held < first }
 
+    // A replay over a store that is ready: at status Ok just its text was put out, each answer by the events up to and with its own.
+    ensures replayed { result ≡ Status.Ok → (first : ℕ) → command_of words.now ≡ Some (Command.Replay first) → (told : ToldReplay (P.left plan.old) (H.now host.old) (H.may host.old)) →
+        Puts H.said H.clock H.since host.old host.new (ended (text_of_replay told first)) }
+
+    // At each status, a front of that text was put out, or whole lines of it and a front of the status's last line; unless a put failed,
+    // that line is whole.
+    ensures replay_put { (first : ℕ) → command_of words.now ≡ Some (Command.Replay first) → (told : ToldReplay (P.left plan.old) (H.now host.old) (H.may host.old)) →
+        PutsReplay H.said H.clock H.since (text_of_replay told first) (Rose (H.out_faults host.old) (H.out_faults host.new)) result host.old host.new }
+
+    // Over a store of another schema, or with a frame that its heads show to be bad, nothing was put but the last line, which says why.
+    ensures replay_refused { IsReplay (command_of words.now) → (bytes : List ℕ) (asks : Planned) (v : Image) → P.left plan.old ≡ Some bytes → IsPlan bytes asks → H.now host.old ≡ Some v → IsUnfit asks v →
+        PutsRefusal H.said H.clock H.since asks (H.now host.old) (Rose (H.out_faults host.old) (H.out_faults host.new)) result host.old host.new }
+
     // Each status has its cause. Memory alone is free.
     ensures usage_only { result ≡ Status.Usage → command_of words.now ≡ None }
     ensures usage_always { command_of words.now ≡ None → result ≡ Status.Usage }
     ensures ok_only { result ≡ Status.Ok → (ReadsPlan (command_of words.now) → IsLegalPlan (P.left plan.old)) × (IsRun (command_of words.now) → IsWithinLimit (2 ^ 50) (I.left input.old)) × (ShowsStore (command_of words.now) → IsUndamaged (H.now host.old)) }
     ensures plan_only { result ≡ Status.Plan → ReadsPlan (command_of words.now) × IsRefusedPlan (P.left plan.old) }
     ensures store_only { result ≡ Status.Store → (ShowsStore (command_of words.now) × IsDamaged (H.now host.old))
-        ⊎ (IsRun (command_of words.now) × ((last : List ℕ) × RefusesStore (P.left plan.old) (H.now host.old) (H.now host.new) (input.new ≡ input.old) last × (EndsWith (H.said host.new) last ⊎ Rose (H.out_faults host.old) (H.out_faults host.new)))) }
+        ⊎ (IsRun (command_of words.now) × ((last : List ℕ) × RefusesStore (P.left plan.old) (H.now host.old) (H.now host.new) (input.new ≡ input.old) last × (EndsWith (H.said host.new) last ⊎ Rose (H.out_faults host.old) (H.out_faults host.new))))
+        ⊎ (IsReplay (command_of words.now) × ((last : List ℕ) × RefusesReplay (P.left plan.old) (H.now host.old) (H.may host.old) last × (EndsWith (H.said host.new) last ⊎ Rose (H.out_faults host.old) (H.out_faults host.new)))) }
 
     // Over a store of another schema, or with a bad frame, a run says which, and leaves the input and the files alone.
     ensures store_always { IsRun (command_of words.now) → (bytes : List ℕ) (asks : Planned) (v : Image) → P.left plan.old ≡ Some bytes → IsPlan bytes asks → H.now host.old ≡ Some v → IsUnfit asks v → (input.new ≡ input.old)
@@ -431,7 +504,7 @@ pub fn railgun<P: Source, I: Source, H: Host>(
 
     ensures gap_only { result ≡ Status.Gap → (first : ℕ) × (command_of words.now ≡ Some (Command.Run first))
         × ((last : List ℕ) × RefusesGap (P.left plan.old) (H.now host.old) first (input.new ≡ input.old) last × (EndsWith (H.said host.new) last ⊎ Rose (H.out_faults host.old) (H.out_faults host.new))) }
-    ensures disk_only { result ≡ Status.Disk → (ShowsStore (command_of words.now) ⊎ (IsRun (command_of words.now) × IsLegalPlan (P.left plan.old))) × Rose (H.disk_faults host.old) (H.disk_faults host.new) }
+    ensures disk_only { result ≡ Status.Disk → (ShowsStore (command_of words.now) ⊎ (IsRun (command_of words.now) × IsLegalPlan (P.left plan.old)) ⊎ (IsReplay (command_of words.now) × IsLegalPlan (P.left plan.old))) × Rose (H.disk_faults host.old) (H.disk_faults host.new) }
     ensures read_only { result ≡ Status.Read → Rose (P.faults plan.old) (P.faults plan.new) ⊎ (IsLegalPlan (P.left plan.old) × IsRun (command_of words.now) × Rose (I.faults input.old) (I.faults input.new)) }
     ensures write_only { result ≡ Status.Write → (ReadsPlan (command_of words.now) → IsLegalPlan (P.left plan.old)) × Rose (H.out_faults host.old) (H.out_faults host.new) }
     ensures limit_only { result ≡ Status.Limit → (ReadsPlan (command_of words.now) × IsLonger 65536 (P.left plan.old)) ⊎ (IsLegalPlan (P.left plan.old) × IsRun (command_of words.now) × IsLonger (2 ^ 50) (I.left input.old)) }
@@ -443,6 +516,9 @@ pub fn railgun<P: Source, I: Source, H: Host>(
     // A trial has a store of its own in memory: a host in memory fails for want of memory alone.
     ensures trial_only { (lines seed : ℕ) → command_of words.now ≡ Some (Command.Trial lines seed) → (result ≡ Status.Ok) ⊎ (result ≡ Status.Memory) ⊎ (result ≡ Status.Write) }
 
+    // A store that is ready for a replay is never refused.
+    ensures replay_never { IsReplay (command_of words.now) → ToldReplay (P.left plan.old) (H.now host.old) (H.may host.old) → result ≢ Status.Store }
+
     // A store that is ready for a run is never refused.
     ensures store_never { IsRun (command_of words.now) → ToldRun (P.left plan.old) (I.left input.old) (H.now host.old) (H.may host.old) (H.said host.old) → result ≢ Status.Store }
 
@@ -450,12 +526,13 @@ pub fn railgun<P: Source, I: Source, H: Host>(
     ensures refusal_told { result ≡ Status.Plan → TellsFault (P.left plan.old) refusal.new }
 
     // The words are looked at before the plan is read, the plan before the store, and the store before the input: where the plan is
-    // refused, too long or can't be read, the input and the files are left alone. Only a run reads the input, and only a run or a check
-    // the plan.
+    // refused, too long or can't be read, the input and the files are left alone. Only a run reads the input, and only a run, a replay or a
+    // check the plan.
     ensures usage_first { result ≡ Status.Usage → (plan.new ≡ plan.old) × (input.new ≡ input.old) }
     ensures plan_first { (result ≡ Status.Plan) ⊎ TellsNoPlan (P.left plan.old) → input.new ≡ input.old }
     ensures read_first { result ≡ Status.Read → ((input.new ≡ input.old) × LeavesFiles H.now H.may H.clock H.since host.old host.new) ⊎ Rose (I.faults input.old) (I.faults input.new) }
     ensures check_alone { command_of words.now ≡ Some Command.Check → input.new ≡ input.old }
+    ensures replay_alone { IsReplay (command_of words.now) → input.new ≡ input.old }
     ensures alone { (ReadsPlan (command_of words.now) → ⊥) → (plan.new ≡ plan.old) × (input.new ≡ input.old) }
 
     // Only a run whose plan is read may write a file: else the files stay, and at each moment a crash might have left of them what it could
@@ -479,7 +556,11 @@ pub fn railgun<P: Source, I: Source, H: Host>(
     ensures completes_store { IsRun (command_of words.now) → (bytes : List ℕ) (asks : Planned) (v : Image) → P.left plan.old ≡ Some bytes → IsPlan bytes asks → H.now host.old ≡ Some v → IsUnfit asks v →
         ¬ (Rose (P.faults plan.old) (P.faults plan.new) ⊎ Rose (H.disk_faults host.old) (H.disk_faults host.new)) → (result ≡ Status.Store) ⊎ (result ≡ Status.Memory) }
 
-    // Where it begins behind the store's next offset, it says so.
+    // A replay by a legal plan then ends well, for want of memory, or with the store's refusal.
+    ensures completes_replay { IsReplay (command_of words.now) → (bytes : List ℕ) (asks : Planned) → P.left plan.old ≡ Some bytes → IsPlan bytes asks →
+        ¬ (Rose (P.faults plan.old) (P.faults plan.new) ⊎ Rose (H.out_faults host.old) (H.out_faults host.new) ⊎ Rose (H.disk_faults host.old) (H.disk_faults host.new)) → (result ≡ Status.Ok) ⊎ (result ≡ Status.Memory) ⊎ (result ≡ Status.Store) }
+
+    // Where a run begins behind the store's next offset, it says so.
     ensures completes_gap { (first : ℕ) → command_of words.now ≡ Some (Command.Run first) → (told : ToldRun (P.left plan.old) (I.left input.old) (H.now host.old) (H.may host.old) (H.said host.old)) → next_offset told.ready.held < first →
         ¬ (Rose (P.faults plan.old) (P.faults plan.new) ⊎ Rose (H.disk_faults host.old) (H.disk_faults host.new)) → (result ≡ Status.Gap) ⊎ (result ≡ Status.Memory) }
 {

@@ -1,10 +1,10 @@
 ghost use Rattle.std.specs.Prelude.{◌≡◌, ◌≤◌, ◌^◌, ℕ, Some, true, codes, bytes_eq};
 ghost use Rattle.rg_bytes.specs.Numbers.{whole_of};
-ghost use Rattle.rg_call.specs.Call.{command_of, with_file, run_at, trial_at};
+ghost use Rattle.rg_call.specs.Call.{command_of, with_file, with_two, with_first, run_at, replay_at, trial_at};
 
 use rg_bytes::read_whole;
 
-/// The greatest offset that the first line of an input may have.
+/// The greatest offset that the first line of an input, or of a replay, may have.
 const GREATEST_FIRST: u64 = 1 << 61;
 
 /// The greatest number of lines of a trial.
@@ -15,6 +15,8 @@ const TRIAL_LINES: u64 = 200_000;
 pub enum Command {
     /// `run PLAN STORE FIRST`: the first line of the input has that offset, 0 where it isn't said.
     Run(u64),
+    /// `replay PLAN STORE FIRST`: the least offset whose line is put, 0 where it isn't said.
+    Replay(u64),
     /// `check PLAN`
     Check,
     /// `dump STORE`
@@ -50,6 +52,16 @@ fn run_from(first: &[u8]) -> Option<Command>
     }
 }
 
+/// The replay from the offset on that this text says, where it says one.
+fn replay_from(first: &[u8]) -> Option<Command>
+    ensures { result ≡ replay_at (whole_of first.now) }
+{
+    match read_whole(first) {
+        Some(first) if first <= GREATEST_FIRST => Some(Command::Replay(first)),
+        _ => None,
+    }
+}
+
 /// The trial on as many lines of a seed as these texts say, where they say so.
 fn trial_on(lines: &[u8], seed: &[u8]) -> Option<Command>
     ensures { result ≡ trial_at (whole_of lines.now) (whole_of seed.now) }
@@ -60,6 +72,34 @@ fn trial_on(lines: &[u8], seed: &[u8]) -> Option<Command>
     }
 }
 
+/// The command of three words of which this is the first and these are the others, where they are one.
+fn with_two(command: &str, second: &[u8], third: &[u8]) -> Option<Command>
+    ensures { result ≡ with_two (bytes_eq command.now (codes "run")) (bytes_eq command.now (codes "replay")) (bytes_eq command.now (codes "self")) (whole_of second.now) (whole_of third.now) }
+{
+    if command == "run" {
+        Some(Command::Run(0))
+    } else if command == "replay" {
+        Some(Command::Replay(0))
+    } else if command == "self" {
+        trial_on(second, third)
+    } else {
+        None
+    }
+}
+
+/// The command of four words of which these are the first and the last, where they are one.
+fn with_first(command: &str, first: &[u8]) -> Option<Command>
+    ensures { result ≡ with_first (bytes_eq command.now (codes "run")) (bytes_eq command.now (codes "replay")) (whole_of first.now) }
+{
+    if command == "run" {
+        run_from(first)
+    } else if command == "replay" {
+        replay_from(first)
+    } else {
+        None
+    }
+}
+
 impl Command {
     /// The command of these words, where they are one.
     pub fn named(words: &[String]) -> Option<Command>
@@ -67,11 +107,10 @@ impl Command {
     {
         match words {
             [command, _] => with_file(command.as_str()),
-            [command, _, _] if command.as_str() == "run" => Some(Command::Run(0)),
-            [command, lines, seed] if command.as_str() == "self" => {
-                trial_on(lines.as_bytes(), seed.as_bytes())
+            [command, second, third] => {
+                with_two(command.as_str(), second.as_bytes(), third.as_bytes())
             }
-            [command, _, _, first] if command.as_str() == "run" => run_from(first.as_bytes()),
+            [command, _, _, first] => with_first(command.as_str(), first.as_bytes()),
             _ => None,
         }
     }

@@ -9,6 +9,7 @@ mod dump;
 mod ending;
 mod info;
 mod refused;
+mod replay;
 mod running;
 mod trial;
 

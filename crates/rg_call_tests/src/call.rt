@@ -10,6 +10,7 @@ mod cached;
 mod dumped;
 mod informed;
 mod made;
+mod replayed;
 mod stopped;
 mod stored;
 mod tried;

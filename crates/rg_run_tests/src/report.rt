@@ -32,7 +32,7 @@ fn assert_says(
 #[test]
 fn words_that_are_refused_are_told_the_forms(rt: HostRuntime) -> Result<(), Fail> {
     let forms =
-        "usage: railgun run PLAN STORE [FIRST]\n       railgun check PLAN\n       railgun dump STORE\n       railgun info STORE\n       railgun self N SEED\nrailgun 0.1.0";
+        "usage: railgun run PLAN STORE [FIRST]\n       railgun replay PLAN STORE [FIRST]\n       railgun check PLAN\n       railgun dump STORE\n       railgun info STORE\n       railgun self N SEED\nrailgun 0.1.0";
     assert_says(&rt, Status::Usage, None, None, forms)
 }
 

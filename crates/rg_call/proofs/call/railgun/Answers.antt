@@ -1,7 +1,8 @@
 use Rattle.std.proofs.Common.{⊎_elim, inl, inr, arith}
 use Rattle.rg_call.specs.Call.{command_of}
-use Rattle.rg_call.proofs.Ends.{completes, run_completes, store_legal, gap_legal, read_of, runs, said_by, with_said}
+use Rattle.rg_call.proofs.Ends.{completes, run_completes, store_legal, disk_legal, gap_legal, read_of, runs, said_by, with_said}
 use Rattle.rg_call.proofs.TurnedAway.{unfit_status, behind_status}
+use Rattle.rg_call.proofs.Replaying.{no_run, refusal_of, ready_never, replay_completes, no_gap, plan_long}
 use Rattle.rg_call.proofs.call.railgun.Goals as goal
 
 pub returns-clause-complete : goal.returns-clause-complete
@@ -31,9 +32,9 @@ returns-clause-completes g c = λ told none.
             usage_always = c.run_words.ensures.usage_always;
             ok_only = λ is. ((c.run_words.ensures.ok_only is).0, (c.run_words.ensures.ok_only is).2);
             plan_only = c.run_words.ensures.plan_only;
-            store_only = λ is. store_legal _ _ _ _ _ _ (c.run_words.ensures.store_only is);
+            store_only = λ is. store_legal _ _ _ _ _ _ _ (c.run_words.ensures.store_only is);
             gap_only = λ is. gap_legal _ _ _ _ _ (c.run_words.ensures.gap_only is);
-            disk_only = c.run_words.ensures.disk_only;
+            disk_only = λ is. disk_legal _ _ _ (c.run_words.ensures.disk_only is);
             read_only = λ is. read_of _ _ _ _ (c.run_words.ensures.read_only is);
             write_only = λ is. (c.run_words.ensures.write_only is).1;
             limit_only = c.run_words.ensures.limit_only;
@@ -53,9 +54,9 @@ returns-clause-completes_run g c = λ first is told within begins none.
       usage_always = c.run_words.ensures.usage_always;
       ok_only = λ is. ((c.run_words.ensures.ok_only is).0, (c.run_words.ensures.ok_only is).2);
       plan_only = c.run_words.ensures.plan_only;
-      store_only = λ is. store_legal _ _ _ _ _ _ (c.run_words.ensures.store_only is);
+      store_only = λ is. store_legal _ _ _ _ _ _ _ (c.run_words.ensures.store_only is);
       gap_only = λ is. gap_legal _ _ _ _ _ (c.run_words.ensures.gap_only is);
-      disk_only = c.run_words.ensures.disk_only;
+      disk_only = λ is. disk_legal _ _ _ (c.run_words.ensures.disk_only is);
       read_only = λ is. read_of _ _ _ _ (c.run_words.ensures.read_only is);
       write_only = λ is. (c.run_words.ensures.write_only is).1;
       limit_only = c.run_words.ensures.limit_only;
@@ -70,3 +71,17 @@ returns-clause-completes_gap g c = λ first is told behind none.
 pub returns-clause-completes_store : goal.returns-clause-completes_store
 returns-clause-completes_store g c = λ run bytes asks v told says now unfit none.
     unfit_status asks v _ _ c.run_words.result _ (c.run_words.ensures.store_always run bytes asks v told says now unfit).1.ends (λ disk. (c.run_words.ensures.disk_only disk).1) none
+
+pub returns-clause-replay_never : goal.returns-clause-replay_never
+returns-clause-replay_never g c = λ replays told is.
+    let refuses = refusal_of (command_of c.args.words.now) _ _ _ replays (c.run_words.ensures.store_only is) in
+    ready_never _ _ _ refuses.0 told refuses.1
+
+pub returns-clause-completes_replay : goal.returns-clause-completes_replay
+returns-clause-completes_replay g c = λ replays bytes asks told says none.
+    replay_completes (command_of c.args.words.now) replays _ bytes asks told says _ _ _ none c.run_words.result
+    c.run_words.ensures.usage_only (λ is. (c.run_words.ensures.plan_only is).1)
+    (λ is. ⊎_elim (λ unread. unread) (λ input. absurd (no_run (command_of c.args.words.now) replays input.1)) (c.run_words.ensures.read_only is))
+    (λ is. (c.run_words.ensures.write_only is).1) (λ is. (c.run_words.ensures.disk_only is).1)
+    (λ is within. plan_long (command_of c.args.words.now) replays _ _ bytes told _ within (c.run_words.ensures.limit_only is))
+    (λ is. let gap = c.run_words.ensures.gap_only is in no_gap (command_of c.args.words.now) replays gap.0 gap.1) c.run_words.ensures.possible_only

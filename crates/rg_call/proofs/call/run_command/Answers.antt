@@ -1,7 +1,7 @@
-use Rattle.std.proofs.Common.{◌≡◌, ⊎_elim, inl, [], refl, sym, ◌∙◌}
+use Rattle.std.proofs.Common.{◌≡◌, ⊎_elim, inl, inr, [], refl, sym, ◌∙◌}
 use Rattle.rg_dump.specs.Dump.{dump_text}
 use Rattle.rg_call.specs.Call.{ending_status, ending_line}
-use Rattle.rg_call.specs.declared.command.Command.TheVariants.{Run}
+use Rattle.rg_call.specs.declared.command.Command.TheVariants.{Run, Replay}
 use Rattle.rg_report.specs.declared.status.Status.TheVariants.{Write}
 use Rattle.rg_listing.proofs.Stopped.{nothing_stops}
 use Rattle.rg_call.proofs.Inputs.{on_err, on_errs, on_ok, any_err}
@@ -38,6 +38,37 @@ returns-in-Run-clause-plan_first g c = λ why. (c.run_with_plan.ensures.plan_fir
 
 pub returns-in-Run-clause-leaves : goal.returns-in-Run-clause-leaves
 returns-in-Run-clause-leaves g c = rw c.in-Run.is (λ why. ⊎_elim (λ not_run. absurd (not_run tt)) (λ no_plan. (c.run_with_plan.ensures.plan_first no_plan).1) why)
+
+pub returns-in-Replay-clause-replayed : goal.returns-in-Replay-clause-replayed
+returns-in-Replay-clause-replayed g c = λ n is told.
+    let e : Replay n ≡ Replay c.in-Replay.first = sym is ∙ c.in-Replay.is in
+    let same : n ≡ c.in-Replay.first = cc in
+    rw same (c.replay_with_plan.ensures.replayed told)
+
+pub returns-in-Replay-clause-replay_unfit : goal.returns-in-Replay-clause-replay_unfit
+returns-in-Replay-clause-replay_unfit g c = λ bytes asks v replays told says now unfit. c.replay_with_plan.ensures.unfit bytes asks v told says now unfit
+
+pub returns-in-Replay-clause-completes : goal.returns-in-Replay-clause-completes
+returns-in-Replay-clause-completes g c = rw c.in-Replay.is (on_ok c.replay_with_plan.result _ _ (λ never told. absurd (never told)) c.replay_with_plan.ensures.completes)
+
+pub returns-in-Replay-clause-stops : goal.returns-in-Replay-clause-stops
+returns-in-Replay-clause-stops g c =
+    rw c.in-Replay.is (on_err c.replay_with_plan.result _ _ (λ ending stops told. record { text = []; is = refl; holds = ([], stops told, nothing_stops (ending_status ending ≡ Write) []) }) c.replay_with_plan.ensures.stops)
+
+pub returns-in-Replay-clause-line : goal.returns-in-Replay-clause-line
+returns-in-Replay-clause-line g c = rw c.in-Replay.is c.replay_with_plan.ensures.line
+
+pub returns-in-Replay-clause-store : goal.returns-in-Replay-clause-store
+returns-in-Replay-clause-store g c = rw c.in-Replay.is (on_err c.replay_with_plan.result _ _ (λ ending store is. inr (inr (tt, store is))) c.replay_with_plan.ensures.store)
+
+pub returns-in-Replay-clause-disk : goal.returns-in-Replay-clause-disk
+returns-in-Replay-clause-disk g c = rw c.in-Replay.is (on_err c.replay_with_plan.result _ _ (λ ending disk is. (inr (inr (tt, (disk is).0)), (disk is).1)) c.replay_with_plan.ensures.disk)
+
+pub returns-in-Replay-clause-gap : goal.returns-in-Replay-clause-gap
+returns-in-Replay-clause-gap g c = on_err c.replay_with_plan.result _ _ (λ ending no is. absurd (no is)) c.replay_with_plan.ensures.no_gap
+
+pub returns-in-Replay-clause-read_first : goal.returns-in-Replay-clause-read_first
+returns-in-Replay-clause-read_first g c = any_err c.replay_with_plan.result _ (λ ending is. inl (refl, c.replay_with_plan.ensures.leaves))
 
 pub returns-in-Check-clause-completes : goal.returns-in-Check-clause-completes
 returns-in-Check-clause-completes g c = rw c.in-Check.is c.check_with_plan.ensures.completes

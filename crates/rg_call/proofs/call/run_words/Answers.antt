@@ -7,11 +7,12 @@ use Rattle.rg_host.proofs.Runs.{leaves_files-none, leaves_files-then}
 use Rattle.rg_report.specs.Statuses.{last_line}
 use Rattle.rg_call.specs.Call.{command_of, line_for, ending_status, ending_line}
 use Rattle.rg_call.specs.Causes.{RefusesStore}
-use Rattle.rg_call.specs.declared.command.Command.TheVariants.{Run}
+use Rattle.rg_call.specs.declared.command.Command.TheVariants.{Run, Replay}
 use Rattle.rg_report.specs.declared.status.Status.TheVariants.{Ok, Usage, Write}
 use Rattle.rg_call.proofs.Ends.{all_put, all_front, front_alone, line_alone, put_then, whole_then, write_line, own_line, rose_first, rose_last, command_is}
 use Rattle.rg_call.proofs.Telling.{all_promised, one_ahead, slots_saved, told_from, ends_whole, ends_answered, completed, resumed}
 use Rattle.rg_call.proofs.TurnedAway.{ok_unfit, ok_behind, turned_away, lies_behind}
+use Rattle.rg_call.proofs.Replaying.{replays_as, puts_all, puts_so, refuses_so}
 use Rattle.rg_call.proofs.call.run_words.Goals as goal
 
 -- the words are no form of a command
@@ -105,6 +106,19 @@ returns-in-Ok-clause-resumes g c = λ ok is told held.
 pub returns-in-Ok-clause-gap_always : goal.returns-in-Ok-clause-gap_always
 returns-in-Ok-clause-gap_always g c = λ ok first is told.
     (c.in-Ok.ensures.went first (command_is _ c.in-Some.command (Run first) (sym c.named.ensures ∙ c.in-Some.is) is) told).1.no_gap refl
+
+pub returns-in-Ok-clause-replayed : goal.returns-in-Ok-clause-replayed
+returns-in-Ok-clause-replayed g c = λ ok first is told.
+    let went = c.in-Ok.ensures.replayed first (command_is _ c.in-Some.command (Replay first) (sym c.named.ensures ∙ c.in-Some.is) is) told in
+    subst (λ (v : List ℕ). Puts g.H.Host.said g.H.Host.clock g.H.Host.since c.args.host.now c.run_command.new.host v) (went.all refl) went.puts
+
+pub returns-in-Ok-clause-replay_put : goal.returns-in-Ok-clause-replay_put
+returns-in-Ok-clause-replay_put g c = λ first is told.
+    puts_all g.H.Host.said g.H.Host.clock g.H.Host.since _ _ _ _ _ (c.in-Ok.ensures.replayed first (command_is _ c.in-Some.command (Replay first) (sym c.named.ensures ∙ c.in-Some.is) is) told)
+
+pub returns-in-Ok-clause-replay_refused : goal.returns-in-Ok-clause-replay_refused
+returns-in-Ok-clause-replay_refused g c = λ replays bytes asks v told says now unfit.
+    absurd ((c.in-Ok.ensures.replay_unfit bytes asks v (replays_as _ c.in-Some.command (sym c.named.ensures ∙ c.in-Some.is) replays) told says now unfit).not_ok refl)
 
 pub returns-in-Ok-clause-store_always : goal.returns-in-Ok-clause-store_always
 returns-in-Ok-clause-store_always g c =
@@ -212,6 +226,19 @@ pub returns-in-Err-clause-gap_never : goal.returns-in-Err-clause-gap_never
 returns-in-Err-clause-gap_never g c = rw c.end-in-Err.ensures.status (λ gap first is told.
     (c.in-Err.ensures.went first (command_is _ c.in-Some.command (Run first) (sym c.named.ensures ∙ c.in-Some.is) is) told).1.gap gap)
 
+pub returns-in-Err-clause-replay_put : goal.returns-in-Err-clause-replay_put
+returns-in-Err-clause-replay_put g c = rw c.end-in-Err.ensures.status (λ first is told.
+    puts_so g.H.Host.said g.H.Host.clock g.H.Host.since _ _ _ (ending_status c.in-Err.ending) (ending_line c.in-Err.ending) c.args.host.now c.run_command.new.host c.end-in-Err.new.host
+    (c.in-Err.ensures.replayed first (command_is _ c.in-Some.command (Replay first) (sym c.named.ensures ∙ c.in-Some.is) is) told)
+    (λ write. rose_first _ _ _ (c.in-Err.ensures.write write).1 c.end-in-Err.ensures.later_out)
+    c.end-in-Err.ensures.part (⊎_elim (λ whole. inl whole) (λ rose. inr (rose_last _ _ _ c.in-Err.ensures.later_out rose)) c.end-in-Err.ensures.whole))
+
+pub returns-in-Err-clause-replay_refused : goal.returns-in-Err-clause-replay_refused
+returns-in-Err-clause-replay_refused g c = rw c.end-in-Err.ensures.status (λ replays bytes asks v told says now unfit.
+    refuses_so g.H.Host.said g.H.Host.clock g.H.Host.since asks _ _ (ending_status c.in-Err.ending) (ending_line c.in-Err.ending) c.args.host.now c.run_command.new.host c.end-in-Err.new.host
+    (c.in-Err.ensures.replay_unfit bytes asks v (replays_as _ c.in-Some.command (sym c.named.ensures ∙ c.in-Some.is) replays) told says now unfit)
+    c.end-in-Err.ensures.part (⊎_elim (λ whole. inl whole) (λ rose. inr (rose_last _ _ _ c.in-Err.ensures.later_out rose)) c.end-in-Err.ensures.whole))
+
 pub returns-in-Err-clause-store_only : goal.returns-in-Err-clause-store_only
 returns-in-Err-clause-store_only g c =
     let form : command_of c.args.words.now ≡ Some c.in-Some.command = sym c.named.ensures ∙ c.in-Some.is in
@@ -219,7 +246,10 @@ returns-in-Err-clause-store_only g c =
     let R : Option Image → Type 0 = λ v. RefusesStore (g.P.Source.left c.args.plan.now) (g.H.Host.now c.args.host.now) v (c.run_command.new.input ≡ c.args.input.now) (ending_line c.in-Err.ending) in
     ⊎_elim
     (λ shows. inl shows)
-    (λ runs. inr (runs.0, (ending_line c.in-Err.ending, subst R (sym c.end-in-Err.ensures.leaves.now_stays) runs.1, ⊎_elim (λ whole. inl (g.H.Host.said c.run_command.new.host, whole.grows)) (λ rose. inr (rose_last _ _ _ c.in-Err.ensures.later_out rose)) c.end-in-Err.ensures.whole)))
+    (λ over. ⊎_elim
+    (λ runs. inr (inl (runs.0, (ending_line c.in-Err.ending, subst R (sym c.end-in-Err.ensures.leaves.now_stays) runs.1, ⊎_elim (λ whole. inl (g.H.Host.said c.run_command.new.host, whole.grows)) (λ rose. inr (rose_last _ _ _ c.in-Err.ensures.later_out rose)) c.end-in-Err.ensures.whole))))
+    (λ replays. inr (inr (replays.0, (ending_line c.in-Err.ending, replays.1, ⊎_elim (λ whole. inl (g.H.Host.said c.run_command.new.host, whole.grows)) (λ rose. inr (rose_last _ _ _ c.in-Err.ensures.later_out rose)) c.end-in-Err.ensures.whole))))
+    over)
     (c.in-Err.ensures.store is))
 
 pub returns-in-Err-clause-store_always : goal.returns-in-Err-clause-store_always

@@ -180,10 +180,10 @@ module _ {T : Type 0} (plan : Planned) (b : Begun) (left : Option (List ℕ)) (o
       }
 
 -- a run under way, after a call that put what it had gathered
-pub way_on : {T : Type 0} (plan : Planned) (b : Begun) (left : Option (List ℕ)) (reading : Reading) (offset next : ℕ) (now then : Option Image) (may may_then : Image → Type 0) (said said_then : Option (List ℕ)) (gathered gathered_then : List ℕ) (told told_then : Type 0) (cells cells_then : Cells) (s after : Sitting T)
-    (way : IsUnderWay plan b left reading offset now may said gathered told cells s) → next ≡ offset → events_of then after ≡ events_of now s → IsAwaiting plan (course_for plan b) next way.items then may_then said_then gathered_then told_then cells_then after
-    → IsUnderWay plan b left reading next then may_then said_then gathered_then told_then cells_then after
-way_on plan b left reading offset next now then may may_then said said_then gathered gathered_then told told_then cells cells_then s after way same events awaits = record {
+pub way_on : {T : Type 0} (plan : Planned) (b : Begun) (left : Option (List ℕ)) (reading : Reading) (offset offset_then : ℕ) (now then : Option Image) (may may_then : Image → Type 0) (said said_then : Option (List ℕ)) (gathered gathered_then : List ℕ) (told told_then : Type 0) (cells cells_then : Cells) (s after : Sitting T)
+    (way : IsUnderWay plan b left reading offset now may said gathered told cells s) → offset_then ≡ offset → events_of then after ≡ events_of now s → IsAwaiting plan (course_for plan b) offset_then way.items then may_then said_then gathered_then told_then cells_then after
+    → IsUnderWay plan b left reading offset_then then may_then said_then gathered_then told_then cells_then after
+way_on plan b left reading offset offset_then now then may may_then said said_then gathered gathered_then told told_then cells cells_then s after way same events awaits = record {
   handed = way.handed;
   items = way.items;
   read = way.read;

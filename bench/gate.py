@@ -1,10 +1,11 @@
 #!/usr/bin/env python3
-"""Runs the gate, `rt ci`, and prints what it cost: processor seconds of each crate's proof, tests and edits, the dearest
-edits, the most memory of one process, and the time that passed. Its output goes through, and its status is the status.
+"""Runs the gate, `rt ci`, and prints what it cost: processor seconds of each crate's proof, tests, seed and edits, the
+dearest edits, the most memory of one process, and the time that passed. Its output goes through, and its status is the
+status. A crate's seed is one more proof of it, which its edits begin with, and a look at it without an edit at the end.
 
-Usage: gate.py, at the top of the repository. A crate's edits are tried in turn, each over what the ones before it
-proved, so the first one's figure has a proof of the whole crate in it; a look at the crate without an edit comes last.
-It looks at the running processes each half second: what ends sooner is missed, and the last line has that too.
+Usage: gate.py [--anew] [NAME..], at the top of the repository: the words are handed to rt ci. What an earlier run on this
+machine passed is kept and costs nothing, but for --anew. It looks at the running processes each half second: what ends
+sooner is missed, and the last line has that too.
 
 Usage: gate.py --functions. It runs nothing, and lists the functions whose steps have more than 4 MB, by what `rt check`
 kept in crates/NAME/out, and the tests of more than ten exits: an assertion counts two, a `?` one. These take longest."""
@@ -18,7 +19,7 @@ import sys
 import time
 
 TICK, PAGE = os.sysconf("SC_CLK_TCK"), os.sysconf("SC_PAGE_SIZE")
-PARTS = ["proof", "tests", "first edit", "edits", "compile"]
+PARTS = ["proof", "tests", "seed", "edits"]
 MOST_STEPS, MOST_EXITS = 4_000_000, 10
 
 
@@ -53,25 +54,30 @@ def running():
 
 
 class Check:
-    """A check that was seen: its crate, the room of an edit or none, and the most that it and its copies took."""
+    """A check that was seen: its crate, whether it is of an edit, and the most that it and its copies took."""
 
     def __init__(self, top):
         self.crate, self.words = top.crate(), top.words
-        self.room = top.folder if "/rt-edit-" in top.folder else None
+        self.is_of_edit = "/rt-edit-" in top.folder
         self.seconds = self.held = 0
 
+    def over(self):
+        """The name of the kept work that an edit's check stands on: seed, or the edit's number; none from nothing."""
+        if "--incremental" not in self.words:
+            return ""
+        return os.path.basename(self.words[self.words.index("--incremental") + 1])
+
     def part(self):
-        if self.room:
-            return "edits"
-        if "--crate-checked" in self.words:
-            return "compile"
+        if self.is_of_edit:
+            return "seed" if self.over() == "seed" else "edits"
         return "tests" if "--test" in self.words else "proof"
 
-    def label(self, number, names):
-        """What the check of this number in its crate tries: an edit, the crate by itself, or an edit from nothing."""
-        if "--incremental" not in self.words:
-            return "from nothing"
-        return names[number] if number < len(names) else "without an edit"
+    def label(self):
+        """What an edit's check tries."""
+        names = sorted(os.path.basename(file) for file in glob.glob(f"crates/{self.crate}/must-fail/*.edit"))
+        number = self.over()
+        is_known = number.isdigit() and int(number) < len(names)
+        return f"{self.crate} {names[int(number)] if is_known else 'an edit, from nothing'}"
 
 
 def look(gate, checks):
@@ -98,7 +104,7 @@ def look(gate, checks):
 
 def run_gate():
     began, checks = time.monotonic(), {}
-    gate = subprocess.Popen(["rt", "ci"])
+    gate = subprocess.Popen(["rt", "ci", *sys.argv[1:]])
     while gate.poll() is None:
         look(gate.pid, checks)
         time.sleep(0.5)
@@ -112,16 +118,8 @@ def run_gate():
 
 def print_costs(checks):
     costs, held = collections.defaultdict(collections.Counter), collections.Counter()
-    edits, numbers = [], collections.Counter()
     for it in checks:
-        part = it.part()
-        if part == "edits":
-            names = sorted(os.path.basename(file) for file in glob.glob(f"crates/{it.crate}/must-fail/*.edit"))
-            number = numbers[it.crate]
-            numbers[it.crate] += 1
-            edits.append((it.seconds, f"{it.crate} {it.label(number, names)}"))
-            part = "edits" if number else "first edit"
-        costs[it.crate][part] += it.seconds
+        costs[it.crate][it.part()] += it.seconds
         held[it.crate] = max(held[it.crate], it.held)
     rows = {crate: [costs[crate][part] for part in PARTS] for crate in costs}
     rows = dict(sorted(rows.items(), key=lambda it: -sum(it[1])))
@@ -129,7 +127,8 @@ def print_costs(checks):
     for crate, row in rows.items():
         print_row(crate, row, f"{held[crate] / 1e9:12.1f}")
     print_row("all", [sum(it) for it in zip(*rows.values())], f"{max(held.values(), default=0) / 1e9:12.1f}")
-    for seconds, label in sorted(edits, reverse=True)[:10]:
+    edits = sorted(((it.seconds, it.label()) for it in checks if it.part() == "edits"), reverse=True)
+    for seconds, label in edits[:10]:
         print(f"a dear edit: {seconds:5.0f} s {label}")
 
 
@@ -166,7 +165,7 @@ def tests_in(file):
 def main():
     if sys.argv[1:] == ["--functions"]:
         return print_functions()
-    if sys.argv[1:]:
+    if any(it.startswith("-") and it != "--anew" for it in sys.argv[1:]):
         sys.exit(__doc__)
     return run_gate()
 

@@ -6,8 +6,8 @@ use Rattle.rg_event.specs.Codec.{IsEventOf}
 use Rattle.rg_event.specs.declared.schema.Field.{Field}
 use Rattle.rg_event.specs.declared.event.Event.{Event}
 use Rattle.rg_event.specs.Rising.{next_offset}
-use Rattle.rg_metric.specs.declared.reply.Reply.{Reply}
-use Rattle.rg_metric.specs.declared.reply.Reply.TheVariants.{Late, Full, Head}
+use Rattle.rg_reply.specs.declared.reply.Reply.{Reply}
+use Rattle.rg_reply.specs.declared.reply.Reply.TheVariants.{Late, Full, Head}
 use Rattle.rg_row.specs.Fields.{fields_of, cleaned}
 use Rattle.rg_row.specs.Rows.{row_of}
 use Rattle.rg_row.specs.declared.fault.RowFault.{RowFault}

@@ -9,7 +9,7 @@ use Rattle.std.specs.Prelude.{codes, decimal}
 use Rattle.std.proofs.Math.ListN.{get_or-append}
 use Rattle.rg_event.specs.declared.event.Event.{Event}
 use Rattle.rg_event.specs.Rising.{next_offset}
-use Rattle.rg_metric.specs.declared.reply.Reply.{Reply}
+use Rattle.rg_reply.specs.declared.reply.Reply.{Reply}
 use Rattle.rg_reply.specs.Texts.{reply_text, reply_line, mark_line}
 use Rattle.rg_reply.specs.declared.mark.Mark.TheVariants.{Opened, Stored, Saved, Finished}
 use Rattle.rg_course.specs.Verdicts.{Verdict, accepted_after, reply_of}

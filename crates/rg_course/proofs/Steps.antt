@@ -4,8 +4,8 @@ use Rattle.std.specs.List.{list_any}
 use Rattle.std.proofs.lemmas.Bool.{lt-ltb, ltb-true, ltb-false, leb-false}
 use Rattle.rg_event.specs.declared.event.Event.{Event}
 use Rattle.rg_event.specs.Rising.{next_offset, last_time}
-use Rattle.rg_metric.specs.declared.reply.Reply.{Reply}
-use Rattle.rg_metric.specs.declared.reply.Reply.TheVariants.{Late, Full}
+use Rattle.rg_reply.specs.declared.reply.Reply.{Reply}
+use Rattle.rg_reply.specs.declared.reply.Reply.TheVariants.{Late, Full}
 use Rattle.rg_course.specs.Verdicts.{Verdict, read_as, verdict_of, line_verdict}
 use Rattle.rg_course.specs.Verdicts.Verdict.{refused, accepted}
 use Rattle.rg_course.proofs.Events.{read_fits}

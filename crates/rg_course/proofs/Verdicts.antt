@@ -9,7 +9,7 @@ use Rattle.rg_course.specs.Verdicts.{verdict_of, reply_of}
 use Rattle.rg_metric.specs.Queries.{Asked}
 use Rattle.rg_metric.specs.Replies.{answers_to}
 use Rattle.rg_metric.specs.declared.answer.Answer.{Answer}
-use Rattle.rg_metric.specs.declared.reply.Reply.TheVariants.{Late, Full, Answered}
+use Rattle.rg_reply.specs.declared.reply.Reply.TheVariants.{Late, Full, Answered}
 use Rattle.rg_course.specs.Verdicts.Verdict.{refused, accepted}
 
 -- some of these events has a greater time

@@ -6,8 +6,8 @@ use Rattle.rg_event.specs.declared.event.Event.{Event}
 use Rattle.rg_event.specs.declared.schema.Field.{Field}
 use Rattle.rg_metric.specs.Queries.{Asked}
 use Rattle.rg_metric.specs.Replies.{answers_to}
-use Rattle.rg_metric.specs.declared.reply.Reply.{Reply}
-use Rattle.rg_metric.specs.declared.reply.Reply.TheVariants.{Head, Long, Row, Fields, Time, Value, Late, Full, Answered}
+use Rattle.rg_reply.specs.declared.reply.Reply.{Reply}
+use Rattle.rg_reply.specs.declared.reply.Reply.TheVariants.{Head, Long, Row, Fields, Time, Value, Late, Full, Answered}
 use Rattle.rg_row.specs.Fields.{cleaned}
 use Rattle.rg_row.specs.Rows.{row_of}
 use Rattle.rg_row.specs.declared.fault.RowFault.{RowFault}

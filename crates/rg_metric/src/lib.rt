@@ -1,19 +1,16 @@
 //! Queries as values, and what each of them answers, from scratch.
 //!
 //! A `Query` is what a query's text asks for; its plain form in contracts is `Asked`. The answers to
-//! an event are defined here by a walk over all events (`answers_to`), and a `Reply` is what a line
-//! is answered with: those answers, or why it was refused.
+//! an event are defined here by a walk over all events (`answers_to`).
 #![tactic(auto)]
 
 mod answer;
 mod column;
 mod condition;
 mod query;
-mod reply;
 
 pub use answer::{Answer, Answers};
 pub use column::column_value;
 pub use condition::Condition;
 pub use query::{Agg, Aggs, Columns, Query, Window};
-pub use reply::Reply;
 pub use rg_words::{Func, Op};

@@ -6,7 +6,7 @@ use Rattle.rg_host.specs.Image.{Image}
 use Rattle.rg_event.specs.Rising.{IsRising, last_time}
 use Rattle.rg_event.specs.Shapes.{Shape}
 use Rattle.rg_event.specs.declared.event.Event.{Event}
-use Rattle.rg_metric.specs.declared.reply.Reply.TheVariants.{Late, Full}
+use Rattle.rg_reply.specs.declared.reply.Reply.TheVariants.{Late, Full}
 use Rattle.rg_config.specs.Plans.{Planned}
 use Rattle.rg_row.specs.Rows.{row_of}
 use Rattle.rg_row.specs.declared.fault.RowFault.{RowFault}

@@ -7,8 +7,8 @@ use Rattle.rg_event.specs.declared.event.Event.{Event}
 use Rattle.rg_event.specs.Rising.{next_offset, IsRising}
 use Rattle.rg_metric.specs.Queries.{Asked}
 use Rattle.rg_metric.specs.Replies.{answers_to}
-use Rattle.rg_metric.specs.declared.reply.Reply.{Reply}
-use Rattle.rg_metric.specs.declared.reply.Reply.TheVariants.{Answered}
+use Rattle.rg_reply.specs.declared.reply.Reply.{Reply}
+use Rattle.rg_reply.specs.declared.reply.Reply.TheVariants.{Answered}
 use Rattle.rg_reply.specs.Texts.{reply_line}
 use Rattle.rg_replay.specs.Replay.{replayed, line_from, line_of, line_at, lines_before, replay_lines, end_line, replay_text}
 

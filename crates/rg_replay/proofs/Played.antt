@@ -9,7 +9,7 @@ use Rattle.rg_event.specs.declared.event.Event.{Event}
 use Rattle.rg_host.specs.Image.{Image}
 use Rattle.rg_host.specs.Moments.{Moment}
 use Rattle.rg_metric.specs.Queries.{Asked}
-use Rattle.rg_metric.specs.declared.reply.Reply.TheVariants.{Answered}
+use Rattle.rg_reply.specs.declared.reply.Reply.TheVariants.{Answered}
 use Rattle.rg_past.specs.declared.past.Spot.{Spot}
 use Rattle.rg_past.specs.declared.past.PastFault.TheVariants as past
 use Rattle.rg_state.specs.Rows.{Cells}

@@ -6,8 +6,8 @@ use Rattle.std.proofs.lemmas.List.{append-nil}
 use Rattle.rg_event.specs.declared.event.Event.{Event}
 use Rattle.rg_event.specs.Rising.{next_offset, IsRising}
 use Rattle.rg_metric.specs.Replies.{answers_to}
-use Rattle.rg_metric.specs.declared.reply.Reply.{Reply}
-use Rattle.rg_metric.specs.declared.reply.Reply.TheVariants.{Late, Full, Answered}
+use Rattle.rg_reply.specs.declared.reply.Reply.{Reply}
+use Rattle.rg_reply.specs.declared.reply.Reply.TheVariants.{Late, Full, Answered}
 use Rattle.rg_reply.specs.Texts.{reply_line}
 use Rattle.rg_course.specs.Verdicts.{Basis, Verdict, verdict_of, line_verdict, read_as}
 use Rattle.rg_course.specs.Verdicts.Verdict.{refused, accepted}

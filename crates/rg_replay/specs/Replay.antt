@@ -5,8 +5,8 @@ use Rattle.rg_event.specs.Rising.{next_offset}
 use Rattle.rg_metric.specs.Queries.{Asked}
 use Rattle.rg_metric.specs.Replies.{answers_to}
 use Rattle.rg_metric.specs.declared.answer.Answer.{Answer}
-use Rattle.rg_metric.specs.declared.reply.Reply.{Reply}
-use Rattle.rg_metric.specs.declared.reply.Reply.TheVariants.{Answered}
+use Rattle.rg_reply.specs.declared.reply.Reply.{Reply}
+use Rattle.rg_reply.specs.declared.reply.Reply.TheVariants.{Answered}
 use Rattle.rg_reply.specs.Texts.{reply_line, mark_line}
 use Rattle.rg_reply.specs.declared.mark.Mark.TheVariants.{Finished}
 

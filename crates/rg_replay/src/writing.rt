@@ -9,8 +9,7 @@ ghost use Rattle.rg_replay.specs.Replay.{line_from};
 use crate::fault::ReplayFault;
 use rg_bytes::Memory;
 use rg_host::{Host, put_all};
-use rg_metric::Reply;
-use rg_reply::{Mark, write_mark, write_reply};
+use rg_reply::{Mark, Reply, write_mark, write_reply};
 
 /// Writes the line of a reply in place of what is in `line`.
 fn write_answer(line: &mut Vec<u8>, offset: u64, reply: &Reply) -> Result<(), Memory>

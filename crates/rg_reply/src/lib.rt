@@ -1,4 +1,5 @@
-//! The text of replies and marks.
+//! The text of replies and marks. A `Reply` is what a line is answered with: its answers, or why it was
+//! refused.
 #![tactic(auto)]
 
 mod mark;
@@ -6,4 +7,4 @@ mod part;
 mod reply;
 
 pub use mark::{Mark, write_mark};
-pub use reply::write_reply;
+pub use reply::{Reply, write_reply};

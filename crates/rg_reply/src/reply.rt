@@ -5,7 +5,32 @@ ghost use Rattle.rg_reply.specs.Texts.{answer_text, answers_text, reply_text, re
 
 use crate::part::put_numbered;
 use rg_bytes::{Memory, put_bytes, put_u8, write_signed, write_whole};
-use rg_metric::{Answer, Answers, Reply};
+use rg_metric::{Answer, Answers};
+
+/// What is answered to a line.
+#[derive(Debug, Drop)]
+pub enum Reply {
+    /// The header.
+    Head,
+    /// A control line was carried out.
+    Done,
+    /// The line is longer than 65,535 bytes.
+    Long,
+    /// The line isn't a row.
+    Row,
+    /// The row has too few or too many fields.
+    Fields,
+    /// The first field is no time.
+    Time,
+    /// The value of that column, from 1, isn't of its kind.
+    Value(u32),
+    /// An event accepted before it has a greater time.
+    Late,
+    /// As many events as there may be were accepted before it.
+    Full,
+    /// The event was accepted.
+    Answered(Answers),
+}
 
 /// Writes what is answered to the line with this offset, and LF.
 pub fn write_reply(out: &mut Vec<u8>, offset: u64, reply: &Reply) -> Result<(), Memory>

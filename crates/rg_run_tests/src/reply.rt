@@ -1,5 +1,5 @@
-use rg_metric::{Answer, Answers, Reply};
-use rg_reply::{Mark, write_mark, write_reply};
+use rg_metric::{Answer, Answers};
+use rg_reply::{Mark, Reply, write_mark, write_reply};
 use std::test::Fail;
 
 #[test]

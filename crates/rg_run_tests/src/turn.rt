@@ -1,4 +1,4 @@
-use rg_metric::Reply;
+use rg_reply::Reply;
 use rg_turn::{Due, due_at, write_end, write_turn};
 use std::test::Fail;
 

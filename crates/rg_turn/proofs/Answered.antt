@@ -6,7 +6,7 @@ use Rattle.rg_host.specs.Lines.{ended}
 use Rattle.rg_host.specs.Moments.{Moment, Moments, LeavesAll}
 use Rattle.rg_host.proofs.Runs.{leaves_all-none}
 use Rattle.rg_event.specs.Rising.{next_offset}
-use Rattle.rg_metric.specs.declared.reply.Reply.{Reply}
+use Rattle.rg_reply.specs.declared.reply.Reply.{Reply}
 use Rattle.rg_config.specs.Plans.{Planned}
 use Rattle.rg_row.specs.Rows.{row_of}
 use Rattle.rg_state.specs.Rows.{Cells}

@@ -3,7 +3,7 @@ use Rattle.std.proofs.Common.{◌≡◌, ℕ, ◌+◌, ◌≤◌, ◌<◌, ◌^�
 use Rattle.rg_host.specs.Image.{Image}
 use Rattle.rg_event.specs.declared.event.Event.{Event}
 use Rattle.rg_event.specs.Rising.{next_offset}
-use Rattle.rg_metric.specs.declared.reply.Reply.{Reply}
+use Rattle.rg_reply.specs.declared.reply.Reply.{Reply}
 use Rattle.rg_config.specs.Plans.{Planned}
 use Rattle.rg_state.specs.Rows.{Cells}
 use Rattle.rg_reservoir.specs.Kept.{next_of}

@@ -16,8 +16,8 @@ use crate::fault::TurnFault;
 use crate::gather::stop;
 use crate::tell::tell;
 use rg_host::Host;
-use rg_metric::Reply;
 use rg_recover::{Session, TaskFault};
+use rg_reply::Reply;
 use rg_state::Table;
 
 /// Gathers the reply to a line that is refused before a session sees it. Each refusal but `Write` leaves

@@ -1,5 +1,5 @@
 use Rattle.std.proofs.Common.{false, Err, ap, sym, refl, ◌∙◌}
-use Rattle.rg_metric.specs.declared.reply.Reply.TheVariants.{Answered}
+use Rattle.rg_reply.specs.declared.reply.Reply.TheVariants.{Answered}
 use Rattle.rg_reservoir.specs.Kept.{opened}
 use Rattle.rg_course.specs.Verdicts.{Verdict, accepted_after, reply_of}
 use Rattle.rg_open.specs.Stores.{store_of}

@@ -27,6 +27,7 @@ fn access_of(words: &[String]) -> Access
         Some(Command::Run(_)) => Access::Write,
         Some(
             Command::Replay(_)
+            | Command::Verify
             | Command::Check
             | Command::Dump
             | Command::Info

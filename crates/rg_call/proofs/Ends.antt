@@ -19,10 +19,11 @@ use Rattle.rg_listing.specs.Listing.{check_text}
 use Rattle.rg_listing.proofs.Stopped.{nothing_whole}
 use Rattle.rg_call.specs.Causes.{RefusesStore, RefusesGap}
 use Rattle.rg_call.specs.Replays.{RefusesReplay}
+use Rattle.rg_call.specs.Verifies.{RefusesVerify}
 use Rattle.rg_report.specs.Statuses.{last_line}
-use Rattle.rg_call.specs.Call.{CarriesRun, IsRun, IsReplay, ReadsPlan, ShowsStore, Told, ToldPlan, plan_text, ForText, refusal_line, refusal_of, line_for, ending_status, ending_line, IsLegalPlan, IsRefusedPlan, IsDamaged, IsUndamaged, IsPossible, status_by, plan_status, store_status, status_for}
+use Rattle.rg_call.specs.Call.{CarriesRun, IsRun, IsReplay, IsVerify, ReadsPlan, ShowsStore, Told, ToldPlan, plan_text, ForText, refusal_line, refusal_of, line_for, ending_status, ending_line, IsLegalPlan, IsRefusedPlan, IsDamaged, IsUndamaged, IsPossible, status_by, plan_status, store_status, status_for}
 use Rattle.rg_call.specs.declared.command.Command.{Command}
-use Rattle.rg_call.specs.declared.command.Command.TheVariants.{Run, Replay, Check, Dump, Info, Trial}
+use Rattle.rg_call.specs.declared.command.Command.TheVariants.{Run, Replay, Verify, Check, Dump, Info, Trial}
 use Rattle.rg_report.specs.declared.status.Status.{Status}
 use Rattle.rg_call.specs.declared.ending.Ending.{Ending}
 use Rattle.rg_call.specs.declared.ending.Ending.TheVariants as ends
@@ -142,11 +143,11 @@ refused_line asks image status line (inr (inr (inr is))) refused has = line_as a
 pub write_line : (asks : Result Planned ConfigFault) (image : Image) (status : Status) → status ≡ Write → line_for asks image status ≡ []
 write_line asks image status write = ap (line_for asks image) write
 
--- A legal plan of a run or a replay is carried out.
+-- A legal plan of a run, a replay or a verify is carried out.
 
--- the words name a run or a replay
+-- the words name a run, a replay or a verify
 abbrev pub GoesOver : Option Command → Type 0
-GoesOver command = IsRun command ⊎ IsReplay command
+GoesOver command = IsRun command ⊎ IsReplay command ⊎ IsVerify command
 
 module _ (command : Option Command) (reads : ReadsPlan command) (carried : (bytes : List ℕ) (p : Planned) → length bytes ≤ 65536 → CarriesRun command bytes (r.Ok p)) where
   never_carried : (plan : Option (List ℕ)) (store : Option Image) (p : Planned) → IfSome plan (λ bytes. IsPlan bytes p) → ToldPlan command plan store → ⊥
@@ -164,6 +165,9 @@ no_carried first plan store p legal told = never_carried (Some (Run first)) tt (
 
 pub no_replayed : (first : ℕ) (plan : Option (List ℕ)) (store : Option Image) (p : Planned) → IfSome plan (λ bytes. IsPlan bytes p) → ToldPlan (Some (Replay first)) plan store → ⊥
 no_replayed first plan store p legal told = never_carried (Some (Replay first)) tt (λ bytes q within. within) plan store p legal told
+
+pub no_verified : (plan : Option (List ℕ)) (store : Option Image) (p : Planned) → IfSome plan (λ bytes. IsPlan bytes p) → ToldPlan (Some Verify) plan store → ⊥
+no_verified plan store p legal told = never_carried (Some Verify) tt (λ bytes q within. within) plan store p legal told
 
 -- What a check puts, by the plan that was read.
 
@@ -210,11 +214,12 @@ pub record Causes (command : Option Command) (plan input : Option (List ℕ)) (s
   pub read_only : status ≡ Read → A ⊎ B
   pub write_only : status ≡ Write → C
   pub limit_only : status ≡ Limit → (ReadsPlan command × IsLonger 65536 plan) ⊎ (IsLegalPlan plan × IsRun command × IsLonger (2 ^ 50) input)
-  pub possible_only : IsPossible status
+  pub differs_only : status ≡ Differs → IsVerify command × IsLegalPlan plan
 
-neither : ⊥ ⊎ ⊥ → ⊥
+neither : ⊥ ⊎ ⊥ ⊎ ⊥ → ⊥
 neither (inl run) = run
-neither (inr replay) = replay
+neither (inr (inl replay)) = replay
+neither (inr (inr verify)) = verify
 
 no_rose : (A B C : Type 0) → (A ⊎ B ⊎ C → ⊥) → A ⊎ B → ⊥
 no_rose A B C none (inl a) = none (inl a)
@@ -246,7 +251,7 @@ module _ (command : Command) (plan : List ℕ) (input : Option (List ℕ)) (stor
     plan_completes Limit c = inl (sym (limit_for (c.limit_only refl)))
     plan_completes Memory c = inr refl
     plan_completes Gap c = let h = c.gap_only refl in absurd (no_run (inl h.0) h.1)
-    plan_completes Differs c = absurd c.possible_only
+    plan_completes Differs c = let h = c.differs_only refl in absurd (no_run (inr (inr h.0)) h.1)
 
 -- of a command that puts what the store has, which reads neither plan nor input
 module _ (command : Command) (plan input : Option (List ℕ)) (image : Image) (A B C D : Type 0) (shows : ShowsStore (Some command)) (no_plan : ReadsPlan (Some command) → ⊥) (no_run : GoesOver (Some command) → ⊥) where
@@ -269,7 +274,7 @@ module _ (command : Command) (plan input : Option (List ℕ)) (image : Image) (A
   store_completes none Limit c = absurd (no_limit (c.limit_only refl))
   store_completes none Memory c = inr refl
   store_completes none Gap c = absurd (no_run (inl (c.gap_only refl).0))
-  store_completes none Differs c = absurd c.possible_only
+  store_completes none Differs c = absurd (no_run (inr (inr (c.differs_only refl).0)))
 
 -- of a trial, which has neither a plan nor an input nor files
 module _ (lines seed : ℕ) (plan input : Option (List ℕ)) (store : Option Image) (A B C D : Type 0) where
@@ -288,7 +293,7 @@ module _ (lines seed : ℕ) (plan input : Option (List ℕ)) (store : Option Ima
   trial_completes none Limit c = absurd (never_long (c.limit_only refl))
   trial_completes none Memory c = inr refl
   trial_completes none Gap c = absurd (c.gap_only refl).0
-  trial_completes none Differs c = absurd c.possible_only
+  trial_completes none Differs c = absurd (c.differs_only refl).0
 
 three : (A B C E : Type 0) → (A ⊎ B ⊎ C ⊎ E → ⊥) → A ⊎ B ⊎ C → ⊥
 three A B C E none (inl a) = none (inl a)
@@ -312,6 +317,10 @@ completes (Some (Replay first)) plan input store A B C D status causes told none
     let P : Option (List ℕ) → Type 0 = λ v. Causes (Some (Replay first)) v input store A B C D status in
     let Q : Option (List ℕ) → Type 0 = λ v. IsLegalPlan v in
     plan_completes (Replay first) told.plan_bytes input store told.asks told.says A B C D (three A B C (ShowsStore (Some (Replay first)) × D) none) tt (λ shows. shows) (λ over legal. never_legal (Some (Replay first)) tt (λ bytes q within. within) plan store (subst Q (sym (told.plan_is tt)) legal) told) status (subst P (told.plan_is tt) causes)
+completes (Some Verify) plan input store A B C D status causes told none =
+    let P : Option (List ℕ) → Type 0 = λ v. Causes (Some Verify) v input store A B C D status in
+    let Q : Option (List ℕ) → Type 0 = λ v. IsLegalPlan v in
+    plan_completes Verify told.plan_bytes input store told.asks told.says A B C D (three A B C (ShowsStore (Some Verify) × D) none) tt (λ shows. shows) (λ over legal. never_legal (Some Verify) tt (λ bytes q within. within) plan store (subst Q (sym (told.plan_is tt)) legal) told) status (subst P (told.plan_is tt) causes)
 completes (Some Check) plan input store A B C D status causes told none =
     let P : Option (List ℕ) → Type 0 = λ v. Causes (Some Check) v input store A B C D status in
     plan_completes Check told.plan_bytes input store told.asks told.says A B C D (three A B C (ShowsStore (Some Check) × D) none) tt (λ shows. shows) (λ over legal. neither over) status (subst P (told.plan_is tt) causes)
@@ -362,7 +371,7 @@ module _ (first : ℕ) (bytes all : List ℕ) (store : Option Image) (A B C D : 
   run_by Limit no_store c = absurd (not_long (c.limit_only refl))
   run_by Memory no_store c = inr (inr refl)
   run_by Gap no_store c = inr (inl refl)
-  run_by Differs no_store c = absurd c.possible_only
+  run_by Differs no_store c = absurd (c.differs_only refl).0
 
 pub run_completes : (command : Option Command) (first : ℕ) → command ≡ Some (Run first) → (plan input : Option (List ℕ)) (store : Option Image) (A B C D : Type 0) (status : Status) → Causes command plan input store A B C D status → (bytes : List ℕ) → plan ≡ Some bytes → (asks : Planned) → IsPlan bytes asks →
     (all : List ℕ) → input ≡ Some all → length all ≤ 2 ^ 50 → (A ⊎ B ⊎ C ⊎ D → ⊥) → (status ≡ Store → ⊥) → (status ≡ Ok) ⊎ (status ≡ Gap) ⊎ (status ≡ Memory)
@@ -379,15 +388,18 @@ runs command first is = subst (λ v. IsRun v) (sym is) tt
 -- what the causes of a call say of its plan
 
 pub store_legal : (command : Option Command) (plan : Option (List ℕ)) (store new : Option Image) (may : Image → Type 0) (alone : Type 0) (Ends : List ℕ → Type 0) →
-    (ShowsStore command × IsDamaged store) ⊎ (IsRun command × ((last : List ℕ) × RefusesStore plan store new alone last × Ends last)) ⊎ (IsReplay command × ((last : List ℕ) × RefusesReplay plan store may last × Ends last)) → (ShowsStore command × IsDamaged store) ⊎ (GoesOver command × IsLegalPlan plan)
+    (ShowsStore command × IsDamaged store) ⊎ (IsRun command × ((last : List ℕ) × RefusesStore plan store new alone last × Ends last)) ⊎ (IsReplay command × ((last : List ℕ) × RefusesReplay plan store may last × Ends last))
+    ⊎ (IsVerify command × ((last : List ℕ) × RefusesVerify plan store last × Ends last)) → (ShowsStore command × IsDamaged store) ⊎ (GoesOver command × IsLegalPlan plan)
 store_legal command plan store new may alone Ends (inl shows) = inl shows
 store_legal command plan store new may alone Ends (inr (inl refuses)) = inr (inl refuses.0, legal_of plan refuses.1.1.asks refuses.1.1.legal)
-store_legal command plan store new may alone Ends (inr (inr refuses)) = inr (inr refuses.0, legal_of plan refuses.1.1.asks refuses.1.1.legal)
+store_legal command plan store new may alone Ends (inr (inr (inl refuses))) = inr (inr (inl refuses.0), legal_of plan refuses.1.1.asks refuses.1.1.legal)
+store_legal command plan store new may alone Ends (inr (inr (inr refuses))) = inr (inr (inr refuses.0), legal_of plan refuses.1.1.asks refuses.1.1.legal)
 
-pub disk_legal : (command : Option Command) (Legal D : Type 0) → (ShowsStore command ⊎ (IsRun command × Legal) ⊎ (IsReplay command × Legal)) × D → (ShowsStore command ⊎ (GoesOver command × Legal)) × D
+pub disk_legal : (command : Option Command) (Legal D : Type 0) → (ShowsStore command ⊎ (IsRun command × Legal) ⊎ (IsReplay command × Legal) ⊎ (IsVerify command × Legal)) × D → (ShowsStore command ⊎ (GoesOver command × Legal)) × D
 disk_legal command Legal D (inl shows, rose) = (inl shows, rose)
 disk_legal command Legal D (inr (inl runs), rose) = (inr (inl runs.0, runs.1), rose)
-disk_legal command Legal D (inr (inr replays), rose) = (inr (inr replays.0, replays.1), rose)
+disk_legal command Legal D (inr (inr (inl replays)), rose) = (inr (inr (inl replays.0), replays.1), rose)
+disk_legal command Legal D (inr (inr (inr verifies)), rose) = (inr (inr (inr verifies.0), verifies.1), rose)
 
 pub gap_legal : (command : Option Command) (plan : Option (List ℕ)) (old : Option Image) (alone : Type 0) (Ends : List ℕ → Type 0) → (first : ℕ) × (command ≡ Some (Run first)) × ((last : List ℕ) × RefusesGap plan old first alone last × Ends last) → IsRun command × IsLegalPlan plan
 gap_legal command plan old alone Ends refuses = (runs command refuses.0 refuses.1, legal_of plan refuses.2.1.asks refuses.2.1.legal)

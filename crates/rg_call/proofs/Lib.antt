@@ -8,3 +8,4 @@ pub mod Telling
 pub mod Worked
 pub mod TurnedAway
 pub mod Replaying
+pub mod Verifying

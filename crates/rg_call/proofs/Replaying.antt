@@ -29,11 +29,11 @@ use Rattle.rg_report.specs.Statuses.{last_line}
 use Rattle.rg_report.specs.declared.status.Status.{Status}
 use Rattle.rg_report.specs.declared.status.Status.TheVariants.{Ok, Usage, Plan as BadPlan, Store, Read, Write, Disk, Limit, Memory, Gap, Differs}
 use Rattle.rg_call.specs.Plan.{IsPlan}
-use Rattle.rg_call.specs.Call.{IsRun, IsReplay, ReadsPlan, ShowsStore, IsRefusedPlan, IsLegalPlan, IsDamaged, IsPossible, damage_line, schema_line, state_line, Fails}
+use Rattle.rg_call.specs.Call.{IsRun, IsReplay, IsVerify, ReadsPlan, ShowsStore, IsRefusedPlan, IsLegalPlan, IsDamaged, IsPossible, damage_line, schema_line, state_line, Fails}
 use Rattle.rg_call.specs.TurnedAway.{EndsFailed}
 use Rattle.rg_call.specs.Replays.{IsReadyReplay, ToldReplay, text_of_replay, EndsReplay, IsReplayLine, IsReplayRefusal, RefusesReplay, IsReplayStatus, IsReplayEnd, Replayed, ReplaysNothing, PutsReplay, PutsRefusal}
 use Rattle.rg_call.specs.declared.command.Command.{Command}
-use Rattle.rg_call.specs.declared.command.Command.TheVariants.{Run, Replay, Check, Dump, Info, Trial}
+use Rattle.rg_call.specs.declared.command.Command.TheVariants.{Run, Replay, Verify, Check, Dump, Info, Trial}
 use Rattle.rg_call.proofs.Plans.{one_plan}
 use Rattle.rg_call.proofs.Carrying.{bytes_ask}
 use Rattle.rg_call.proofs.Ends.{all_put, all_front, put_then, whole_then}
@@ -332,6 +332,7 @@ never_gap = never Gap (λ e. absurd (cc e)) (λ e. absurd (cc e)) (λ e. absurd 
 pub no_shows : (command : Option Command) → IsReplay command → ShowsStore command → ⊥
 no_shows (Some (Run first)) is shows = is
 no_shows (Some (Replay first)) is shows = shows
+no_shows (Some Verify) is shows = is
 no_shows (Some Check) is shows = is
 no_shows (Some Dump) is shows = is
 no_shows (Some Info) is shows = is
@@ -341,11 +342,22 @@ no_shows None is shows = is
 pub no_run : (command : Option Command) → IsReplay command → IsRun command → ⊥
 no_run (Some (Run first)) is run = is
 no_run (Some (Replay first)) is run = run
+no_run (Some Verify) is run = is
 no_run (Some Check) is run = is
 no_run (Some Dump) is run = is
 no_run (Some Info) is run = is
 no_run (Some (Trial lines seed)) is run = is
 no_run None is run = is
+
+pub no_verify : (command : Option Command) → IsReplay command → IsVerify command → ⊥
+no_verify (Some (Run first)) is verify = is
+no_verify (Some (Replay first)) is verify = verify
+no_verify (Some Verify) is verify = is
+no_verify (Some Check) is verify = is
+no_verify (Some Dump) is verify = is
+no_verify (Some Info) is verify = is
+no_verify (Some (Trial lines seed)) is verify = is
+no_verify None is verify = is
 
 named : (command : Option Command) → IsReplay command → command ≡ None → ⊥
 named command is none = subst IsReplay none is
@@ -367,10 +379,11 @@ pub replays_as : (given : Option Command) (command : Command) → given ≡ Some
 replays_as given command is replays = subst IsReplay is replays
 
 -- the store's refusal is that of a replay
-pub refusal_of : (command : Option Command) (Shows Runs Replays : Type 0) → IsReplay command → (ShowsStore command × Shows) ⊎ (IsRun command × Runs) ⊎ (IsReplay command × Replays) → Replays
-refusal_of command Shows Runs Replays is (inl shows) = absurd (no_shows command is shows.0)
-refusal_of command Shows Runs Replays is (inr (inl runs)) = absurd (no_run command is runs.0)
-refusal_of command Shows Runs Replays is (inr (inr replays)) = replays.1
+pub refusal_of : (command : Option Command) (Shows Runs Replays Verifies : Type 0) → IsReplay command → (ShowsStore command × Shows) ⊎ (IsRun command × Runs) ⊎ (IsReplay command × Replays) ⊎ (IsVerify command × Verifies) → Replays
+refusal_of command Shows Runs Replays Verifies is (inl shows) = absurd (no_shows command is shows.0)
+refusal_of command Shows Runs Replays Verifies is (inr (inl runs)) = absurd (no_run command is runs.0)
+refusal_of command Shows Runs Replays Verifies is (inr (inr (inl replays))) = replays.1
+refusal_of command Shows Runs Replays Verifies is (inr (inr (inr verifies))) = absurd (no_verify command is verifies.0)
 
 -- a store that is ready isn't refused
 pub ready_never : (plan : Option (List ℕ)) (now : Option Image) (may : Image → Type 0) (last : List ℕ) → ToldReplay plan now may → RefusesReplay plan now may last → ⊥
@@ -384,21 +397,21 @@ module _ (command : Option Command) (replays : IsReplay command) (bytes : List �
   not_refused : IsRefusedPlan (Some bytes) → ⊥
   not_refused refused = let e : r.Ok asks ≡ r.Err refused.0 = one_plan bytes (r.Ok asks) (r.Err refused.0) says.says refused.1.says in absurd (cc)
 
-  replay_ends : (status : Status) → (status ≡ Usage → command ≡ None) → (status ≡ BadPlan → IsRefusedPlan (Some bytes)) → (status ≡ Read → A) → (status ≡ Write → C) → (status ≡ Disk → D) → (status ≡ Limit → length bytes ≤ 65536 → ⊥) → (status ≡ Gap → ⊥) → IsPossible status → (status ≡ Ok) ⊎ (status ≡ Memory) ⊎ (status ≡ Store)
-  replay_ends Ok usage plan read write disk limit gap possible = inl refl
-  replay_ends Usage usage plan read write disk limit gap possible = absurd (named command replays (usage refl))
-  replay_ends BadPlan usage plan read write disk limit gap possible = absurd (not_refused (plan refl))
-  replay_ends Store usage plan read write disk limit gap possible = inr (inr refl)
-  replay_ends Read usage plan read write disk limit gap possible = absurd (none (inl (read refl)))
-  replay_ends Write usage plan read write disk limit gap possible = absurd (none (inr (inl (write refl))))
-  replay_ends Disk usage plan read write disk limit gap possible = absurd (none (inr (inr (disk refl))))
-  replay_ends Limit usage plan read write disk limit gap possible = absurd (limit refl says.within)
-  replay_ends Memory usage plan read write disk limit gap possible = inr (inl refl)
-  replay_ends Gap usage plan read write disk limit gap possible = absurd (gap refl)
-  replay_ends Differs usage plan read write disk limit gap possible = absurd possible
+  replay_ends : (status : Status) → (status ≡ Usage → command ≡ None) → (status ≡ BadPlan → IsRefusedPlan (Some bytes)) → (status ≡ Read → A) → (status ≡ Write → C) → (status ≡ Disk → D) → (status ≡ Limit → length bytes ≤ 65536 → ⊥) → (status ≡ Gap → ⊥) → (status ≡ Differs → ⊥) → (status ≡ Ok) ⊎ (status ≡ Memory) ⊎ (status ≡ Store)
+  replay_ends Ok usage plan read write disk limit gap differs = inl refl
+  replay_ends Usage usage plan read write disk limit gap differs = absurd (named command replays (usage refl))
+  replay_ends BadPlan usage plan read write disk limit gap differs = absurd (not_refused (plan refl))
+  replay_ends Store usage plan read write disk limit gap differs = inr (inr refl)
+  replay_ends Read usage plan read write disk limit gap differs = absurd (none (inl (read refl)))
+  replay_ends Write usage plan read write disk limit gap differs = absurd (none (inr (inl (write refl))))
+  replay_ends Disk usage plan read write disk limit gap differs = absurd (none (inr (inr (disk refl))))
+  replay_ends Limit usage plan read write disk limit gap differs = absurd (limit refl says.within)
+  replay_ends Memory usage plan read write disk limit gap differs = inr (inl refl)
+  replay_ends Gap usage plan read write disk limit gap differs = absurd (gap refl)
+  replay_ends Differs usage plan read write disk limit gap differs = absurd (differs refl)
 
 pub replay_completes : (command : Option Command) → IsReplay command → (plan : Option (List ℕ)) (bytes : List ℕ) (asks : Planned) → plan ≡ Some bytes → IsPlan bytes asks → (A C D : Type 0) → (A ⊎ C ⊎ D → ⊥) → (status : Status) → (status ≡ Usage → command ≡ None) → (status ≡ BadPlan → IsRefusedPlan plan) → (status ≡ Read → A) → (status ≡ Write → C) →
-    (status ≡ Disk → D) → (status ≡ Limit → (length bytes ≤ 65536 → ⊥)) → (status ≡ Gap → ⊥) → IsPossible status → (status ≡ Ok) ⊎ (status ≡ Memory) ⊎ (status ≡ Store)
-replay_completes command replays plan bytes asks is says A C D none status usage refused read write disk limit gap possible =
+    (status ≡ Disk → D) → (status ≡ Limit → (length bytes ≤ 65536 → ⊥)) → (status ≡ Gap → ⊥) → (status ≡ Differs → ⊥) → (status ≡ Ok) ⊎ (status ≡ Memory) ⊎ (status ≡ Store)
+replay_completes command replays plan bytes asks is says A C D none status usage refused read write disk limit gap differs =
     let P : Option (List ℕ) → Type 0 = λ v. IsRefusedPlan v in
-    replay_ends command replays bytes asks says A C D none status usage (λ bad. subst P is (refused bad)) read write disk limit gap possible
+    replay_ends command replays bytes asks says A C D none status usage (λ bad. subst P is (refused bad)) read write disk limit gap differs

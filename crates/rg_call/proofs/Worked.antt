@@ -53,7 +53,7 @@ abbrev asking_all : List ℕ → List Field → List Asked → ℕ → Bool → 
 asking_all stream fields queries events header = record {
   shape = record { stream = stream; time = codes "ts"; fields = fields };
   queries = queries;
-  settings = record { cache = 1; chunk = 2; commit = 2; save = 4; events = events; header = header };
+  settings = record { cache = 1; chunk = 2; commit = 2; save = 4; events = events; header = header; grace = 0 };
 }
 
 -- a plan of one query over payments

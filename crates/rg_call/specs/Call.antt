@@ -21,7 +21,7 @@ use Rattle.rg_trial.specs.declared.trials.Trial.{Trial as Counted}
 use Rattle.rg_report.specs.Statuses.{last_line}
 use Rattle.rg_call.specs.Plan.{IsPlan, IsRefusal}
 use Rattle.rg_call.specs.declared.command.Command.{Command}
-use Rattle.rg_call.specs.declared.command.Command.TheVariants.{Run, Replay, Check, Dump, Info, Trial}
+use Rattle.rg_call.specs.declared.command.Command.TheVariants.{Run, Replay, Verify, Check, Dump, Info, Trial}
 use Rattle.rg_call.specs.declared.ending.Ending.{Ending}
 use Rattle.rg_report.specs.declared.refusal.Refusal.{Refusal}
 use Rattle.rg_call.specs.declared.ending.Ending.TheVariants as ending
@@ -60,11 +60,16 @@ abbrev pub when_trial : Bool → Option ℕ → Option ℕ → Option Command
 when_trial true lines seed = trial_at lines seed
 when_trial false lines seed = None
 
--- the command of three words that is named `run`, `replay` or `self`, if it is one of these
-abbrev pub with_two : Bool → Bool → Bool → Option ℕ → Option ℕ → Option Command
-with_two true replay trial lines seed = Some (Run 0)
-with_two false true trial lines seed = Some (Replay 0)
-with_two false false trial lines seed = when_trial trial lines seed
+-- the same, where it may name a verify too
+abbrev pub when_verify : Bool → Bool → Option ℕ → Option ℕ → Option Command
+when_verify true trial lines seed = Some Verify
+when_verify false trial lines seed = when_trial trial lines seed
+
+-- the command of three words that is named `run`, `replay`, `verify` or `self`, if it is one of these
+abbrev pub with_two : Bool → Bool → Bool → Bool → Option ℕ → Option ℕ → Option Command
+with_two true replay verify trial lines seed = Some (Run 0)
+with_two false true verify trial lines seed = Some (Replay 0)
+with_two false false verify trial lines seed = when_verify verify trial lines seed
 
 -- a replay from that offset on, which is at most 2^61
 abbrev pub replay_at : Option ℕ → Option Command
@@ -82,12 +87,12 @@ with_first true replay first = run_at first
 with_first false replay first = when_replay replay first
 
 -- what the words ask for: `check PLAN`, `dump STORE`, `info STORE`, `run PLAN STORE`, `run PLAN STORE FIRST`, `replay PLAN STORE`,
--- `replay PLAN STORE FIRST`, or `self N SEED`
+-- `replay PLAN STORE FIRST`, `verify PLAN STORE`, or `self N SEED`
 abbrev pub command_of : List (String Global) → Option Command
 command_of [] = None
 command_of (command ∷ []) = None
 command_of (command ∷ (file ∷ [])) = with_file (bytes_eq (string_bytes command) (codes "check")) (bytes_eq (string_bytes command) (codes "dump")) (bytes_eq (string_bytes command) (codes "info"))
-command_of (command ∷ (second ∷ (third ∷ []))) = with_two (bytes_eq (string_bytes command) (codes "run")) (bytes_eq (string_bytes command) (codes "replay")) (bytes_eq (string_bytes command) (codes "self")) (whole_of (string_bytes second)) (whole_of (string_bytes third))
+command_of (command ∷ (second ∷ (third ∷ []))) = with_two (bytes_eq (string_bytes command) (codes "run")) (bytes_eq (string_bytes command) (codes "replay")) (bytes_eq (string_bytes command) (codes "verify")) (bytes_eq (string_bytes command) (codes "self")) (whole_of (string_bytes second)) (whole_of (string_bytes third))
 command_of (command ∷ (plan ∷ (store ∷ (first ∷ [])))) = with_first (bytes_eq (string_bytes command) (codes "run")) (bytes_eq (string_bytes command) (codes "replay")) (whole_of (string_bytes first))
 command_of (command ∷ (plan ∷ (store ∷ (first ∷ (more ∷ words))))) = None
 
@@ -95,6 +100,7 @@ command_of (command ∷ (plan ∷ (store ∷ (first ∷ (more ∷ words))))) = N
 abbrev pub IsRun : Option Command → Type 0
 IsRun (Some (Run first)) = ⊤
 IsRun (Some (Replay first)) = ⊥
+IsRun (Some Verify) = ⊥
 IsRun (Some Check) = ⊥
 IsRun (Some Dump) = ⊥
 IsRun (Some Info) = ⊥
@@ -105,18 +111,32 @@ IsRun None = ⊥
 abbrev pub IsReplay : Option Command → Type 0
 IsReplay (Some (Run first)) = ⊥
 IsReplay (Some (Replay first)) = ⊤
+IsReplay (Some Verify) = ⊥
 IsReplay (Some Check) = ⊥
 IsReplay (Some Dump) = ⊥
 IsReplay (Some Info) = ⊥
 IsReplay (Some (Trial lines seed)) = ⊥
 IsReplay None = ⊥
 
--- the call is a run or a replay, and its plan, of these bytes, is no longer than it may be and legal, so that it is carried out
+-- the words name a verify
+abbrev pub IsVerify : Option Command → Type 0
+IsVerify (Some (Run first)) = ⊥
+IsVerify (Some (Replay first)) = ⊥
+IsVerify (Some Verify) = ⊤
+IsVerify (Some Check) = ⊥
+IsVerify (Some Dump) = ⊥
+IsVerify (Some Info) = ⊥
+IsVerify (Some (Trial lines seed)) = ⊥
+IsVerify None = ⊥
+
+-- the call is a run, a replay or a verify, and its plan, of these bytes, is no longer than it may be and legal, so that it is carried out
 abbrev pub CarriesRun : Option Command → List ℕ → Result Planned ConfigFault → Type 0
 CarriesRun (Some (Run first)) bytes (r.Ok plan) = length bytes ≤ 65536
 CarriesRun (Some (Run first)) bytes (r.Err refusal) = ⊥
 CarriesRun (Some (Replay first)) bytes (r.Ok plan) = length bytes ≤ 65536
 CarriesRun (Some (Replay first)) bytes (r.Err refusal) = ⊥
+CarriesRun (Some Verify) bytes (r.Ok plan) = length bytes ≤ 65536
+CarriesRun (Some Verify) bytes (r.Err refusal) = ⊥
 CarriesRun (Some Check) bytes asks = ⊥
 CarriesRun (Some Dump) bytes asks = ⊥
 CarriesRun (Some Info) bytes asks = ⊥
@@ -127,6 +147,7 @@ CarriesRun None bytes asks = ⊥
 abbrev pub ReadsPlan : Option Command → Type 0
 ReadsPlan (Some (Run first)) = ⊤
 ReadsPlan (Some (Replay first)) = ⊤
+ReadsPlan (Some Verify) = ⊤
 ReadsPlan (Some Check) = ⊤
 ReadsPlan (Some Dump) = ⊥
 ReadsPlan (Some Info) = ⊥
@@ -137,6 +158,7 @@ ReadsPlan None = ⊥
 abbrev pub ShowsStore : Option Command → Type 0
 ShowsStore (Some (Run first)) = ⊥
 ShowsStore (Some (Replay first)) = ⊥
+ShowsStore (Some Verify) = ⊥
 ShowsStore (Some Check) = ⊥
 ShowsStore (Some Dump) = ⊤
 ShowsStore (Some Info) = ⊤
@@ -156,7 +178,7 @@ pub record SaysSo (bytes : List ℕ) (P : Result Planned ConfigFault → Type 0)
   pub says : Says bytes asks
   pub holds : P asks
 
--- the same as `Told`, and what the plan's bytes say; and no run or replay is carried out
+-- the same as `Told`, and what the plan's bytes say; and no run, replay or verify is carried out
 pub record ToldPlan (command : Option Command) (plan : Option (List ℕ)) (store : Option Image) : Type 0 where
   pub plan_bytes : List ℕ
   pub image : Image
@@ -199,11 +221,12 @@ IsTrialAt Memory lines seed text = text ≡ []
 IsTrialAt Gap lines seed text = text ≡ []
 IsTrialAt Differs lines seed text = text ≡ []
 
--- The text of a call which carries out no run or replay, for what its words and its plan ask, and for the image of the store; file 2 is the log.
+-- The text of a call which carries out no run, replay or verify, for what its words and its plan ask, and for the image of the store; file 2 is the log.
 -- At status Ok all of it is put, and at any other a front of it.
 abbrev pub IsTextOf : Option Command → Status → Result Planned ConfigFault → Image → List (List ℕ) → Type 0
 IsTextOf (Some (Run first)) status asks image text = text ≡ []
 IsTextOf (Some (Replay first)) status asks image text = text ≡ []
+IsTextOf (Some Verify) status asks image text = text ≡ []
 IsTextOf (Some Check) status asks image text = text ≡ plan_text asks
 IsTextOf (Some Dump) status asks image text = text ≡ dump_text (image 2)
 IsTextOf (Some Info) status asks image text = IsInfoAt status image text
@@ -220,6 +243,7 @@ pub record ForText (command : Option Command) (status : Status) (asks : Result P
 abbrev pub before_damage : Option Command → Image → List (List ℕ)
 before_damage (Some (Run first)) image = []
 before_damage (Some (Replay first)) image = []
+before_damage (Some Verify) image = []
 before_damage (Some Check) image = []
 before_damage (Some Dump) image = dump_text (image 2)
 before_damage (Some Info) image = []
@@ -254,7 +278,7 @@ abbrev pub refusal_of : Result Planned ConfigFault → List ℕ
 refusal_of (r.Ok plan) = []
 refusal_of (r.Err refusal) = refusal_line refusal
 
--- the last line that a status puts where no run or replay is carried out, for what the plan's bytes say and for the image of the store
+-- the last line that a status puts where no run, replay or verify is carried out, for what the plan's bytes say and for the image of the store
 abbrev pub line_for : Result Planned ConfigFault → Image → Status → List ℕ
 line_for asks image Ok = last_line Ok
 line_for asks image Usage = last_line Usage
@@ -363,7 +387,7 @@ IsUndamaged store = ForSome store (λ image. damage_of (image 2) ≡ None)
 abbrev pub IsDamaged : Option Image → Type 0
 IsDamaged store = ForSome store (λ image. (place : ℕ) × (damage_of (image 2) ≡ Some place))
 
--- the statuses that may come until there is a command that compares
+-- the statuses of a command that compares nothing
 abbrev pub IsPossible : Status → Type 0
 IsPossible Ok = ⊤
 IsPossible Usage = ⊤
@@ -391,10 +415,11 @@ abbrev pub store_status : Option ℕ → Status
 store_status None = Ok
 store_status (Some place) = Store
 
--- the status that words, plan and store call for, where no run or replay is carried out
+-- the status that words, plan and store call for, where no run, replay or verify is carried out
 abbrev pub status_for : Option Command → List ℕ → Result Planned ConfigFault → Image → Status
 status_for (Some (Run first)) plan asks image = plan_status plan asks
 status_for (Some (Replay first)) plan asks image = plan_status plan asks
+status_for (Some Verify) plan asks image = plan_status plan asks
 status_for (Some Check) plan asks image = plan_status plan asks
 status_for (Some Dump) plan asks image = store_status (damage_of (image 2))
 status_for (Some Info) plan asks image = store_status (damage_of (image 2))

@@ -4,3 +4,4 @@ pub mod Stored
 pub mod Causes
 pub mod TurnedAway
 pub mod Replays
+pub mod Verifies

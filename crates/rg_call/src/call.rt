@@ -20,15 +20,17 @@ ghost use Rattle.rg_open.specs.Opening.{IsFromIn};
 ghost use Rattle.rg_open.specs.Unfit.{IsUnfit, IsLeftAlone};
 ghost use Rattle.rg_open.specs.Within.{IsWithinOpening};
 ghost use Rattle.rg_turn.specs.Turning.{terms_of};
+ghost use Rattle.rg_verify.specs.Verify.{IsSaid, IsCut};
 ghost use Rattle.rg_run.specs.Begun.{course_for, lines_in};
 ghost use Rattle.rg_run.specs.Reading.{IsLonger, IsWithinLimit};
 ghost use Rattle.rg_call.specs.Plan.{IsPlan, IsRefusal};
 ghost use Rattle.rg_report.specs.Statuses.{last_line as status_line};
-ghost use Rattle.rg_call.specs.Call.{command_of, IsRun, IsReplay, ReadsPlan, ShowsStore, CarriesRun, Told, ToldPlan, SaysSo, ForText, plan_text, before_damage, line_for, refusal_line, damage_line, status_after, line_after, ending_status, ending_line, ending_refusal, EndsBy, TellsFault, status_for, IsLegalPlan, TellsNoPlan, IsRefusedPlan, IsDamaged, IsUndamaged, IsPossible};
+ghost use Rattle.rg_call.specs.Call.{command_of, IsRun, IsReplay, IsVerify, ReadsPlan, ShowsStore, CarriesRun, Told, ToldPlan, SaysSo, ForText, plan_text, before_damage, line_for, refusal_line, damage_line, status_after, line_after, ending_status, ending_line, ending_refusal, EndsBy, TellsFault, status_for, IsLegalPlan, TellsNoPlan, IsRefusedPlan, IsDamaged, IsUndamaged, IsPossible};
 ghost use Rattle.rg_call.specs.Causes.{RefusesStore, RefusesGap, EndsWith};
 ghost use Rattle.rg_call.specs.Stored.{ToldRun, begun_in, IsLastOf, IsToldFrom, Went, IsComplete, EndsWhole, EndsAnswered, IsAtMostOneAhead, HasLastSaved, Resumes};
 ghost use Rattle.rg_call.specs.TurnedAway.{EndsUnfit, EndsBehind, IsTurnedAway, IsBehind};
 ghost use Rattle.rg_call.specs.Replays.{ToldReplay, text_of_replay, RefusesReplay, Replayed, ReplaysNothing, PutsReplay, PutsRefusal};
+ghost use Rattle.rg_call.specs.Verifies.{ToldVerify, terms_for, RefusesVerify, IsRefusedStore, IsVerifyLast, IsWhole, is_differs, Verified, IsSilent, PutsLine};
 
 use crate::command::Command;
 use crate::dump::dump;
@@ -37,6 +39,7 @@ use crate::info::info;
 use crate::replay::replay;
 use crate::running::run;
 use crate::trial::trial;
+use crate::verify::verify;
 use rg_bytes::{Memory, put_bytes, write_whole};
 use rg_config::{ConfigFault, Plan, read_plan};
 use rg_host::{AllFault, Host, Source, put_all, read_all};
@@ -236,6 +239,45 @@ fn replay_with_plan<P: Source, H: Host>(
     }
 }
 
+/// Reads the plan, and holds the slots of the store against its log by it.
+fn verify_with_plan<P: Source, H: Host>(
+    alloc: Global,
+    plan: &mut P,
+    host: &mut H,
+) -> Result<(), Ending>
+    ensures verified { (told : ToldVerify (P.left plan.old) (H.now host.old)) →
+        Verified H.said H.clock H.since told.asks told.ready.image told.ready.events (Rose (P.faults plan.old) (P.faults plan.new)) (status_after result) (line_after result) host.old host.new }
+    ensures silent { IsSilent H.said H.clock H.since (status_after result) host.old host.new }
+    ensures fit { IsWhole (status_after result) → (bytes : List ℕ) (asks : Planned) (v : Image) → P.left plan.old ≡ Some bytes → IsPlan bytes asks → H.now host.old ≡ Some v → IsRefusedStore asks v → ⊥ }
+
+    // Where the plan isn't legal, nothing is put.
+    ensures completes { OnOk result (ToldPlan (Some Command.Verify) (P.left plan.old) (H.now host.old) → ⊥) }
+    ensures stops { IfErr result (λ ending. ToldPlan (Some Command.Verify) (P.left plan.old) (H.now host.old) → Puts H.said H.clock H.since host.old host.new []) }
+    ensures line { IfErr result (λ ending. (told : ToldPlan (Some Command.Verify) (P.left plan.old) (H.now host.old)) → ending_line ending ≡ line_for told.asks told.image (ending_status ending)) }
+
+    ensures legal { IsWhole (status_after result) → IsLegalPlan (P.left plan.old) }
+    ensures refused { IfErr result (λ ending. ending_status ending ≡ Status.Plan → IsRefusedPlan (P.left plan.old)) }
+    ensures told { IfErr result (λ ending. ending_status ending ≡ Status.Plan → TellsFault (P.left plan.old) (ending_refusal ending)) }
+    ensures store { IfErr result (λ ending. ending_status ending ≡ Status.Store → RefusesVerify (P.left plan.old) (H.now host.old) (ending_line ending)) }
+    ensures disk { IfErr result (λ ending. ending_status ending ≡ Status.Disk → IsLegalPlan (P.left plan.old) × Rose (H.disk_faults host.old) (H.disk_faults host.new)) }
+    ensures read { IfErr result (λ ending. ending_status ending ≡ Status.Read → Rose (P.faults plan.old) (P.faults plan.new)) }
+    ensures write { IfErr result (λ ending. ending_status ending ≡ Status.Write → IsLegalPlan (P.left plan.old) × Rose (H.out_faults host.old) (H.out_faults host.new)) }
+    ensures limit { IfErr result (λ ending. ending_status ending ≡ Status.Limit → IsLonger 65536 (P.left plan.old)) }
+    ensures early { IfErr result (λ ending. (ending_status ending ≢ Status.Ok) × (ending_status ending ≢ Status.Usage)) }
+    ensures no_gap { IfErr result (λ ending. ending_status ending ≢ Status.Gap) }
+    ensures leaves { LeavesFiles H.now H.may H.clock H.since host.old host.new }
+    ensures later_out { H.out_faults host.old ≤ H.out_faults host.new }
+{
+    let asked = match load_plan(alloc, plan) {
+        Ok(asked) => asked,
+        Err(ending) => return Err(ending),
+    };
+    match verify(alloc, &asked, host) {
+        Ok(()) => Ok(()),
+        Err(ending) => Err(ending),
+    }
+}
+
 /// Does what the command asks for.
 fn run_command<P: Source, I: Source, H: Host>(
     alloc: Global,
@@ -252,6 +294,11 @@ fn run_command<P: Source, I: Source, H: Host>(
     ensures replayed { (first : ℕ) → command ≡ Command.Replay first → (told : ToldReplay (P.left plan.old) (H.now host.old) (H.may host.old)) →
         Replayed H.said H.clock H.since (text_of_replay told first) (Rose (P.faults plan.old) (P.faults plan.new)) (status_after result) (line_after result) host.old host.new }
     ensures replay_unfit { (bytes : List ℕ) (asks : Planned) (v : Image) → IsReplay (Some command) → P.left plan.old ≡ Some bytes → IsPlan bytes asks → H.now host.old ≡ Some v → IsUnfit asks v → ReplaysNothing H.said H.clock H.since asks (H.now host.old) (status_after result) (line_after result) host.old host.new }
+    ensures verified { IsVerify (Some command) → (told : ToldVerify (P.left plan.old) (H.now host.old)) →
+        Verified H.said H.clock H.since told.asks told.ready.image told.ready.events (Rose (P.faults plan.old) (P.faults plan.new)) (status_after result) (line_after result) host.old host.new }
+    ensures silent { IsVerify (Some command) → IsSilent H.said H.clock H.since (status_after result) host.old host.new }
+    ensures fit { IsVerify (Some command) → IsWhole (status_after result) → (bytes : List ℕ) (asks : Planned) (v : Image) → P.left plan.old ≡ Some bytes → IsPlan bytes asks → H.now host.old ≡ Some v → IsRefusedStore asks v → ⊥ }
+    ensures differs { IfErr result (λ ending. ending_status ending ≡ Status.Differs → IsVerify (Some command) × IsLegalPlan (P.left plan.old)) }
     ensures completes { OnOk result ((told : ToldPlan (Some command) (P.left plan.old) (H.now host.old)) → ForText (Some command) Status.Ok told.asks told.image (λ text. Puts H.said H.clock H.since host.old host.new (ended text))) }
     ensures stops { IfErr result (λ ending. (told : ToldPlan (Some command) (P.left plan.old) (H.now host.old)) → ForText (Some command) (ending_status ending) told.asks told.image (λ text. (put : List ℕ) × Puts H.said H.clock H.since host.old host.new put × StopsAt (ending_status ending ≡ Status.Write) text put)) }
     ensures line { IfErr result (λ ending. (told : ToldPlan (Some command) (P.left plan.old) (H.now host.old)) → ending_line ending ≡ line_for told.asks told.image (ending_status ending)) }
@@ -270,15 +317,16 @@ fn run_command<P: Source, I: Source, H: Host>(
     ensures write { IfErr result (λ ending. ending_status ending ≡ Status.Write → (ReadsPlan (Some command) → IsLegalPlan (P.left plan.old)) × Rose (H.out_faults host.old) (H.out_faults host.new)) }
     ensures limit { IfErr result (λ ending. ending_status ending ≡ Status.Limit → (ReadsPlan (Some command) × IsLonger 65536 (P.left plan.old)) ⊎ (IsLegalPlan (P.left plan.old) × IsRun (Some command) × IsLonger (2 ^ 50) (I.left input.old))) }
     ensures store { IfErr result (λ ending. ending_status ending ≡ Status.Store → (ShowsStore (Some command) × IsDamaged (H.now host.old)) ⊎ (IsRun (Some command) × RefusesStore (P.left plan.old) (H.now host.old) (H.now host.new) (input.new ≡ input.old) (ending_line ending))
-        ⊎ (IsReplay (Some command) × RefusesReplay (P.left plan.old) (H.now host.old) (H.may host.old) (ending_line ending))) }
+        ⊎ (IsReplay (Some command) × RefusesReplay (P.left plan.old) (H.now host.old) (H.may host.old) (ending_line ending)) ⊎ (IsVerify (Some command) × RefusesVerify (P.left plan.old) (H.now host.old) (ending_line ending))) }
     ensures all_before { IfErr result (λ ending. ending_status ending ≡ Status.Store → ShowsStore (Some command) → ForSome (H.now host.old) (λ image. Puts H.said H.clock H.since host.old host.new (ended (before_damage (Some command) image)) × (ending_line ending ≡ damage_line (damage_of (image 2))))) }
     ensures gap { IfErr result (λ ending. ending_status ending ≡ Status.Gap → (first : ℕ) × (command ≡ Command.Run first) × RefusesGap (P.left plan.old) (H.now host.old) first (input.new ≡ input.old) (ending_line ending)) }
-    ensures disk { IfErr result (λ ending. ending_status ending ≡ Status.Disk → (ShowsStore (Some command) ⊎ (IsRun (Some command) × IsLegalPlan (P.left plan.old)) ⊎ (IsReplay (Some command) × IsLegalPlan (P.left plan.old))) × Rose (H.disk_faults host.old) (H.disk_faults host.new)) }
-    ensures possible { IfErr result (λ ending. IsPossible (ending_status ending) × (ending_status ending ≢ Status.Ok) × (ending_status ending ≢ Status.Usage)) }
+    ensures disk { IfErr result (λ ending. ending_status ending ≡ Status.Disk → (ShowsStore (Some command) ⊎ (IsRun (Some command) × IsLegalPlan (P.left plan.old)) ⊎ (IsReplay (Some command) × IsLegalPlan (P.left plan.old)) ⊎ (IsVerify (Some command) × IsLegalPlan (P.left plan.old))) × Rose (H.disk_faults host.old) (H.disk_faults host.new)) }
+    ensures early { IfErr result (λ ending. (ending_status ending ≢ Status.Ok) × (ending_status ending ≢ Status.Usage)) }
     ensures plan_first { (status_after result ≡ Status.Plan) ⊎ TellsNoPlan (P.left plan.old) → input.new ≡ input.old }
     ensures read_first { IfErr result (λ ending. ending_status ending ≡ Status.Read → ((input.new ≡ input.old) × LeavesFiles H.now H.may H.clock H.since host.old host.new) ⊎ Rose (I.faults input.old) (I.faults input.new)) }
     ensures no_input { command ≡ Command.Check → input.new ≡ input.old }
     ensures replay_alone { IsReplay (Some command) → input.new ≡ input.old }
+    ensures verify_alone { IsVerify (Some command) → input.new ≡ input.old }
     ensures alone { (ReadsPlan (Some command) → ⊥) → (plan.new ≡ plan.old) × (input.new ≡ input.old) }
     ensures trial { (lines seed : ℕ) → command ≡ Command.Trial lines seed → (status_after result ≡ Status.Ok) ⊎ (status_after result ≡ Status.Memory) ⊎ (status_after result ≡ Status.Write) }
     ensures leaves { (IsRun (Some command) → ⊥) ⊎ (status_after result ≡ Status.Plan) ⊎ TellsNoPlan (P.left plan.old) → LeavesFiles H.now H.may H.clock H.since host.old host.new }
@@ -287,6 +335,7 @@ fn run_command<P: Source, I: Source, H: Host>(
     match command {
         Command::Run(first) => run_with_plan(alloc, first, plan, input, host),
         Command::Replay(first) => replay_with_plan(alloc, first, plan, host),
+        Command::Verify => verify_with_plan(alloc, plan, host),
         Command::Check => check_with_plan(alloc, plan, host),
         Command::Dump => dump(alloc, host),
         Command::Info => info(alloc, host),
@@ -350,6 +399,13 @@ fn run_words<P: Source, I: Source, H: Host>(
         PutsReplay H.said H.clock H.since (text_of_replay told first) (Rose (H.out_faults host.old) (H.out_faults host.new)) result host.old host.new }
     ensures replay_refused { IsReplay (command_of words.now) → (bytes : List ℕ) (asks : Planned) (v : Image) → P.left plan.old ≡ Some bytes → IsPlan bytes asks → H.now host.old ≡ Some v → IsUnfit asks v →
         PutsRefusal H.said H.clock H.since asks (H.now host.old) (Rose (H.out_faults host.old) (H.out_faults host.new)) result host.old host.new }
+    ensures verified { IsVerify (command_of words.now) → IsWhole result → (told : ToldVerify (P.left plan.old) (H.now host.old)) →
+        IsSaid (terms_for told.asks) told.ready.image told.ready.events (Puts H.said H.clock H.since host.old host.new) (is_differs result) }
+    ensures verify_cut { IsVerify (command_of words.now) → result ≡ Status.Write → (told : ToldVerify (P.left plan.old) (H.now host.old)) →
+        IsCut (terms_for told.asks) told.ready.image told.ready.events (Puts H.said H.clock H.since host.old host.new) }
+    ensures verify_silent { IsVerify (command_of words.now) → (bytes : List ℕ) (asks : Planned) → P.left plan.old ≡ Some bytes → IsPlan bytes asks → (IsWhole result → ⊥) → result ≢ Status.Write →
+        (last : List ℕ) × IsVerifyLast asks (H.now host.old) result last × PutsLine H.said H.clock H.since last (Rose (H.out_faults host.old) (H.out_faults host.new)) host.old host.new }
+    ensures verify_fit { IsVerify (command_of words.now) → IsWhole result → (bytes : List ℕ) (asks : Planned) (v : Image) → P.left plan.old ≡ Some bytes → IsPlan bytes asks → H.now host.old ≡ Some v → IsRefusedStore asks v → ⊥ }
     ensures input_read { result ≡ Status.Ok → IsRun (command_of words.now) → IsAtEnd (I.left input.new) }
     ensures gap_always { result ≡ Status.Ok → (first : ℕ) → command_of words.now ≡ Some (Command.Run first) → (told : ToldRun (P.left plan.old) (I.left input.old) (H.now host.old) (H.may host.old) (H.said host.old)) → first ≤ next_offset told.ready.held }
     ensures behind { (first : ℕ) → command_of words.now ≡ Some (Command.Run first) → (told : ToldRun (P.left plan.old) (I.left input.old) (H.now host.old) (H.may host.old) (H.said host.old)) (slot : ℕ) → next_offset told.ready.held < first → (input.new ≡ input.old)
@@ -361,17 +417,18 @@ fn run_words<P: Source, I: Source, H: Host>(
     ensures plan_only { result ≡ Status.Plan → ReadsPlan (command_of words.now) × IsRefusedPlan (P.left plan.old) }
     ensures store_only { result ≡ Status.Store → (ShowsStore (command_of words.now) × IsDamaged (H.now host.old))
         ⊎ (IsRun (command_of words.now) × ((last : List ℕ) × RefusesStore (P.left plan.old) (H.now host.old) (H.now host.new) (input.new ≡ input.old) last × (EndsWith (H.said host.new) last ⊎ Rose (H.out_faults host.old) (H.out_faults host.new))))
-        ⊎ (IsReplay (command_of words.now) × ((last : List ℕ) × RefusesReplay (P.left plan.old) (H.now host.old) (H.may host.old) last × (EndsWith (H.said host.new) last ⊎ Rose (H.out_faults host.old) (H.out_faults host.new)))) }
+        ⊎ (IsReplay (command_of words.now) × ((last : List ℕ) × RefusesReplay (P.left plan.old) (H.now host.old) (H.may host.old) last × (EndsWith (H.said host.new) last ⊎ Rose (H.out_faults host.old) (H.out_faults host.new))))
+        ⊎ (IsVerify (command_of words.now) × ((last : List ℕ) × RefusesVerify (P.left plan.old) (H.now host.old) last × (EndsWith (H.said host.new) last ⊎ Rose (H.out_faults host.old) (H.out_faults host.new)))) }
     ensures store_always { IsRun (command_of words.now) → (bytes : List ℕ) (asks : Planned) (v : Image) → P.left plan.old ≡ Some bytes → IsPlan bytes asks → H.now host.old ≡ Some v → IsUnfit asks v → (input.new ≡ input.old)
         × IsTurnedAway H.now H.may H.clock H.since H.said asks v (Rose (P.faults plan.old) (P.faults plan.new)) (Rose (H.out_faults host.old) (H.out_faults host.new)) result host.old host.new }
     ensures gap_only { result ≡ Status.Gap → (first : ℕ) × (command_of words.now ≡ Some (Command.Run first))
         × ((last : List ℕ) × RefusesGap (P.left plan.old) (H.now host.old) first (input.new ≡ input.old) last × (EndsWith (H.said host.new) last ⊎ Rose (H.out_faults host.old) (H.out_faults host.new))) }
-    ensures disk_only { result ≡ Status.Disk → (ShowsStore (command_of words.now) ⊎ (IsRun (command_of words.now) × IsLegalPlan (P.left plan.old)) ⊎ (IsReplay (command_of words.now) × IsLegalPlan (P.left plan.old))) × Rose (H.disk_faults host.old) (H.disk_faults host.new) }
+    ensures disk_only { result ≡ Status.Disk → (ShowsStore (command_of words.now) ⊎ (IsRun (command_of words.now) × IsLegalPlan (P.left plan.old)) ⊎ (IsReplay (command_of words.now) × IsLegalPlan (P.left plan.old)) ⊎ (IsVerify (command_of words.now) × IsLegalPlan (P.left plan.old))) × Rose (H.disk_faults host.old) (H.disk_faults host.new) }
     ensures read_only { result ≡ Status.Read → Rose (P.faults plan.old) (P.faults plan.new) ⊎ (IsLegalPlan (P.left plan.old) × IsRun (command_of words.now) × Rose (I.faults input.old) (I.faults input.new)) }
     ensures write_only { result ≡ Status.Write → (ReadsPlan (command_of words.now) → IsLegalPlan (P.left plan.old)) × Rose (H.out_faults host.old) (H.out_faults host.new) }
     ensures limit_only { result ≡ Status.Limit → (ReadsPlan (command_of words.now) × IsLonger 65536 (P.left plan.old)) ⊎ (IsLegalPlan (P.left plan.old) × IsRun (command_of words.now) × IsLonger (2 ^ 50) (I.left input.old)) }
     ensures failure_told { (result ≡ Status.Ok) ⊎ (result ≡ Status.Plan) ⊎ (result ≡ Status.Store) ⊎ (result ≡ Status.Gap) ⊎ EndsWith (H.said host.new) (status_line result) ⊎ Rose (H.out_faults host.old) (H.out_faults host.new) }
-    ensures possible_only { IsPossible result }
+    ensures differs_only { result ≡ Status.Differs → IsVerify (command_of words.now) × IsLegalPlan (P.left plan.old) }
     ensures trial_only { (lines seed : ℕ) → command_of words.now ≡ Some (Command.Trial lines seed) → (result ≡ Status.Ok) ⊎ (result ≡ Status.Memory) ⊎ (result ≡ Status.Write) }
     ensures store_never { IsRun (command_of words.now) → ToldRun (P.left plan.old) (I.left input.old) (H.now host.old) (H.may host.old) (H.said host.old) → result ≢ Status.Store }
     ensures refusal_told { result ≡ Status.Plan → TellsFault (P.left plan.old) refusal.new }
@@ -380,6 +437,7 @@ fn run_words<P: Source, I: Source, H: Host>(
     ensures read_first { result ≡ Status.Read → ((input.new ≡ input.old) × LeavesFiles H.now H.may H.clock H.since host.old host.new) ⊎ Rose (I.faults input.old) (I.faults input.new) }
     ensures check_alone { command_of words.now ≡ Some Command.Check → input.new ≡ input.old }
     ensures replay_alone { IsReplay (command_of words.now) → input.new ≡ input.old }
+    ensures verify_alone { IsVerify (command_of words.now) → input.new ≡ input.old }
     ensures alone { (ReadsPlan (command_of words.now) → ⊥) → (plan.new ≡ plan.old) × (input.new ≡ input.old) }
     ensures files_stay { (IsRun (command_of words.now) → ⊥) ⊎ (result ≡ Status.Plan) ⊎ TellsNoPlan (P.left plan.old) → LeavesFiles H.now H.may H.clock H.since host.old host.new }
     ensures rows_before_damage { result ≡ Status.Store → ShowsStore (command_of words.now) → ForSome (H.now host.old) (λ image. Puts H.said H.clock H.since host.old host.new (ended (before_damage (command_of words.now) image) ++ damage_line (damage_of (image 2)))) ⊎ Rose (H.out_faults host.old) (H.out_faults host.new) }
@@ -400,8 +458,8 @@ fn run_words<P: Source, I: Source, H: Host>(
 /// Does all that the program does: with the words `run PLAN STORE` it answers the input by the plan over
 /// the store, with `check PLAN` it prints the plan, with `dump STORE` the log of the store, which is file 2
 /// of the host, with `info STORE` how much the log and the two slots, files 0 and 1, have, with
-/// `replay PLAN STORE` it answers the log's events again by the plan, and with `self N SEED` it puts what is
-/// counted of a run on N made lines.
+/// `replay PLAN STORE` it answers the log's events again by the plan, with `verify PLAN STORE` it holds the two
+/// slots against the log's events, and with `self N SEED` it puts what is counted of a run on N made lines.
 ///
 /// `words` are those after the program's name; behind a run's store may stand the offset of the input's
 /// first line, at most 2^61, which must be at most the store's next one, and behind a replay's the least
@@ -412,8 +470,9 @@ fn run_words<P: Source, I: Source, H: Host>(
 /// puts out is each query and then the task plan; what a dump puts out is the schema's text and then each
 /// event as a row; what `info` puts out is six lines, once the whole log was read; what a replay puts out is
 /// the line of each event from that offset on, as a run puts it, each answer by the events up to and with its
-/// own, and at last `done NEXT COUNT`, the next offset and how many events there are; what a trial puts out is
-/// four lines, and it touches neither plan nor input nor a file of the host. Another status than Ok puts
+/// own, and at last `done NEXT COUNT`, the next offset and how many events there are; what a verify puts out is
+/// a line for each slot, once the whole log was read; what a trial puts out is four lines, and it touches
+/// neither plan nor input nor a file of the host. Another status than Ok and Differs puts
 /// its last line behind whole lines of these.
 pub fn railgun<P: Source, I: Source, H: Host>(
     alloc: Global,
@@ -423,7 +482,7 @@ pub fn railgun<P: Source, I: Source, H: Host>(
     host: &mut H,
     refusal: &mut Option<Refusal>,
 ) -> Status
-    // A call that carries out no run or replay: at status Ok just the text that the definitions give was put out.
+    // A call that carries out no run, replay or verify: at status Ok just the text that the definitions give was put out.
     ensures complete { result ≡ Status.Ok → (told : Told (command_of words.now) (P.left plan.old) (H.now host.old)) →
         SaysSo told.plan_bytes (λ asks. (CarriesRun (command_of words.now) told.plan_bytes asks → ⊥) → ForText (command_of words.now) Status.Ok asks told.image (λ text. Puts H.said H.clock H.since host.old host.new (ended text))) }
 
@@ -489,6 +548,20 @@ pub fn railgun<P: Source, I: Source, H: Host>(
     ensures replay_refused { IsReplay (command_of words.now) → (bytes : List ℕ) (asks : Planned) (v : Image) → P.left plan.old ≡ Some bytes → IsPlan bytes asks → H.now host.old ≡ Some v → IsUnfit asks v →
         PutsRefusal H.said H.clock H.since asks (H.now host.old) (Rose (H.out_faults host.old) (H.out_faults host.new)) result host.old host.new }
 
+    // A verify over a legal log: the line of each slot was put, what its checkpoint is to the plan and the events; the status is Differs
+    // exactly where one of them is unfit or wrong.
+    ensures verified { IsVerify (command_of words.now) → IsWhole result → (told : ToldVerify (P.left plan.old) (H.now host.old)) →
+        IsSaid (terms_for told.asks) told.ready.image told.ready.events (Puts H.said H.clock H.since host.old host.new) (is_differs result) }
+
+    // Where a put failed, a prefix of these lines was put.
+    ensures verify_cut { IsVerify (command_of words.now) → result ≡ Status.Write → (told : ToldVerify (P.left plan.old) (H.now host.old)) →
+        IsCut (terms_for told.asks) told.ready.image told.ready.events (Puts H.said H.clock H.since host.old host.new) }
+
+    // At each other status nothing was put but the last line, and of a damaged log, or one of another schema, no line of a slot is put.
+    ensures verify_silent { IsVerify (command_of words.now) → (bytes : List ℕ) (asks : Planned) → P.left plan.old ≡ Some bytes → IsPlan bytes asks → (IsWhole result → ⊥) → result ≢ Status.Write →
+        (last : List ℕ) × IsVerifyLast asks (H.now host.old) result last × PutsLine H.said H.clock H.since last (Rose (H.out_faults host.old) (H.out_faults host.new)) host.old host.new }
+    ensures verify_fit { IsVerify (command_of words.now) → IsWhole result → (bytes : List ℕ) (asks : Planned) (v : Image) → P.left plan.old ≡ Some bytes → IsPlan bytes asks → H.now host.old ≡ Some v → IsRefusedStore asks v → ⊥ }
+
     // Each status has its cause. Memory alone is free.
     ensures usage_only { result ≡ Status.Usage → command_of words.now ≡ None }
     ensures usage_always { command_of words.now ≡ None → result ≡ Status.Usage }
@@ -496,7 +569,8 @@ pub fn railgun<P: Source, I: Source, H: Host>(
     ensures plan_only { result ≡ Status.Plan → ReadsPlan (command_of words.now) × IsRefusedPlan (P.left plan.old) }
     ensures store_only { result ≡ Status.Store → (ShowsStore (command_of words.now) × IsDamaged (H.now host.old))
         ⊎ (IsRun (command_of words.now) × ((last : List ℕ) × RefusesStore (P.left plan.old) (H.now host.old) (H.now host.new) (input.new ≡ input.old) last × (EndsWith (H.said host.new) last ⊎ Rose (H.out_faults host.old) (H.out_faults host.new))))
-        ⊎ (IsReplay (command_of words.now) × ((last : List ℕ) × RefusesReplay (P.left plan.old) (H.now host.old) (H.may host.old) last × (EndsWith (H.said host.new) last ⊎ Rose (H.out_faults host.old) (H.out_faults host.new)))) }
+        ⊎ (IsReplay (command_of words.now) × ((last : List ℕ) × RefusesReplay (P.left plan.old) (H.now host.old) (H.may host.old) last × (EndsWith (H.said host.new) last ⊎ Rose (H.out_faults host.old) (H.out_faults host.new))))
+        ⊎ (IsVerify (command_of words.now) × ((last : List ℕ) × RefusesVerify (P.left plan.old) (H.now host.old) last × (EndsWith (H.said host.new) last ⊎ Rose (H.out_faults host.old) (H.out_faults host.new)))) }
 
     // Over a store of another schema, or with a bad frame, a run says which, and leaves the input and the files alone.
     ensures store_always { IsRun (command_of words.now) → (bytes : List ℕ) (asks : Planned) (v : Image) → P.left plan.old ≡ Some bytes → IsPlan bytes asks → H.now host.old ≡ Some v → IsUnfit asks v → (input.new ≡ input.old)
@@ -504,11 +578,11 @@ pub fn railgun<P: Source, I: Source, H: Host>(
 
     ensures gap_only { result ≡ Status.Gap → (first : ℕ) × (command_of words.now ≡ Some (Command.Run first))
         × ((last : List ℕ) × RefusesGap (P.left plan.old) (H.now host.old) first (input.new ≡ input.old) last × (EndsWith (H.said host.new) last ⊎ Rose (H.out_faults host.old) (H.out_faults host.new))) }
-    ensures disk_only { result ≡ Status.Disk → (ShowsStore (command_of words.now) ⊎ (IsRun (command_of words.now) × IsLegalPlan (P.left plan.old)) ⊎ (IsReplay (command_of words.now) × IsLegalPlan (P.left plan.old))) × Rose (H.disk_faults host.old) (H.disk_faults host.new) }
+    ensures disk_only { result ≡ Status.Disk → (ShowsStore (command_of words.now) ⊎ (IsRun (command_of words.now) × IsLegalPlan (P.left plan.old)) ⊎ (IsReplay (command_of words.now) × IsLegalPlan (P.left plan.old)) ⊎ (IsVerify (command_of words.now) × IsLegalPlan (P.left plan.old))) × Rose (H.disk_faults host.old) (H.disk_faults host.new) }
     ensures read_only { result ≡ Status.Read → Rose (P.faults plan.old) (P.faults plan.new) ⊎ (IsLegalPlan (P.left plan.old) × IsRun (command_of words.now) × Rose (I.faults input.old) (I.faults input.new)) }
     ensures write_only { result ≡ Status.Write → (ReadsPlan (command_of words.now) → IsLegalPlan (P.left plan.old)) × Rose (H.out_faults host.old) (H.out_faults host.new) }
     ensures limit_only { result ≡ Status.Limit → (ReadsPlan (command_of words.now) × IsLonger 65536 (P.left plan.old)) ⊎ (IsLegalPlan (P.left plan.old) × IsRun (command_of words.now) × IsLonger (2 ^ 50) (I.left input.old)) }
-    ensures possible_only { IsPossible result }
+    ensures differs_only { result ≡ Status.Differs → IsVerify (command_of words.now) × IsLegalPlan (P.left plan.old) }
 
     // Words that are refused, and what failed, are told last over every host, unless a put failed; the causes say so of a store and a gap.
     ensures failure_told { (result ≡ Status.Ok) ⊎ (result ≡ Status.Plan) ⊎ (result ≡ Status.Store) ⊎ (result ≡ Status.Gap) ⊎ EndsWith (H.said host.new) (status_line result) ⊎ Rose (H.out_faults host.old) (H.out_faults host.new) }
@@ -519,6 +593,9 @@ pub fn railgun<P: Source, I: Source, H: Host>(
     // A store that is ready for a replay is never refused.
     ensures replay_never { IsReplay (command_of words.now) → ToldReplay (P.left plan.old) (H.now host.old) (H.may host.old) → result ≢ Status.Store }
 
+    // A store whose log is legal is never refused by a verify.
+    ensures verify_never { IsVerify (command_of words.now) → ToldVerify (P.left plan.old) (H.now host.old) → result ≢ Status.Store }
+
     // A store that is ready for a run is never refused.
     ensures store_never { IsRun (command_of words.now) → ToldRun (P.left plan.old) (I.left input.old) (H.now host.old) (H.may host.old) (H.said host.old) → result ≢ Status.Store }
 
@@ -526,13 +603,14 @@ pub fn railgun<P: Source, I: Source, H: Host>(
     ensures refusal_told { result ≡ Status.Plan → TellsFault (P.left plan.old) refusal.new }
 
     // The words are looked at before the plan is read, the plan before the store, and the store before the input: where the plan is
-    // refused, too long or can't be read, the input and the files are left alone. Only a run reads the input, and only a run, a replay or a
-    // check the plan.
+    // refused, too long or can't be read, the input and the files are left alone. Only a run reads the input, and only a run, a replay, a
+    // verify or a check the plan.
     ensures usage_first { result ≡ Status.Usage → (plan.new ≡ plan.old) × (input.new ≡ input.old) }
     ensures plan_first { (result ≡ Status.Plan) ⊎ TellsNoPlan (P.left plan.old) → input.new ≡ input.old }
     ensures read_first { result ≡ Status.Read → ((input.new ≡ input.old) × LeavesFiles H.now H.may H.clock H.since host.old host.new) ⊎ Rose (I.faults input.old) (I.faults input.new) }
     ensures check_alone { command_of words.now ≡ Some Command.Check → input.new ≡ input.old }
     ensures replay_alone { IsReplay (command_of words.now) → input.new ≡ input.old }
+    ensures verify_alone { IsVerify (command_of words.now) → input.new ≡ input.old }
     ensures alone { (ReadsPlan (command_of words.now) → ⊥) → (plan.new ≡ plan.old) × (input.new ≡ input.old) }
 
     // Only a run whose plan is read may write a file: else the files stay, and at each moment a crash might have left of them what it could
@@ -559,6 +637,10 @@ pub fn railgun<P: Source, I: Source, H: Host>(
     // A replay by a legal plan then ends well, for want of memory, or with the store's refusal.
     ensures completes_replay { IsReplay (command_of words.now) → (bytes : List ℕ) (asks : Planned) → P.left plan.old ≡ Some bytes → IsPlan bytes asks →
         ¬ (Rose (P.faults plan.old) (P.faults plan.new) ⊎ Rose (H.out_faults host.old) (H.out_faults host.new) ⊎ Rose (H.disk_faults host.old) (H.disk_faults host.new)) → (result ≡ Status.Ok) ⊎ (result ≡ Status.Memory) ⊎ (result ≡ Status.Store) }
+
+    // A verify by a legal plan then puts its lines, or ends for want of memory, or with the store's refusal.
+    ensures completes_verify { IsVerify (command_of words.now) → (bytes : List ℕ) (asks : Planned) → P.left plan.old ≡ Some bytes → IsPlan bytes asks →
+        ¬ (Rose (P.faults plan.old) (P.faults plan.new) ⊎ Rose (H.out_faults host.old) (H.out_faults host.new) ⊎ Rose (H.disk_faults host.old) (H.disk_faults host.new)) → IsWhole result ⊎ (result ≡ Status.Memory) ⊎ (result ≡ Status.Store) }
 
     // Where a run begins behind the store's next offset, it says so.
     ensures completes_gap { (first : ℕ) → command_of words.now ≡ Some (Command.Run first) → (told : ToldRun (P.left plan.old) (I.left input.old) (H.now host.old) (H.may host.old) (H.said host.old)) → next_offset told.ready.held < first →

@@ -17,6 +17,8 @@ pub enum Command {
     Run(u64),
     /// `replay PLAN STORE FIRST`: the least offset whose line is put, 0 where it isn't said.
     Replay(u64),
+    /// `verify PLAN STORE`
+    Verify,
     /// `check PLAN`
     Check,
     /// `dump STORE`
@@ -74,12 +76,14 @@ fn trial_on(lines: &[u8], seed: &[u8]) -> Option<Command>
 
 /// The command of three words of which this is the first and these are the others, where they are one.
 fn with_two(command: &str, second: &[u8], third: &[u8]) -> Option<Command>
-    ensures { result ≡ with_two (bytes_eq command.now (codes "run")) (bytes_eq command.now (codes "replay")) (bytes_eq command.now (codes "self")) (whole_of second.now) (whole_of third.now) }
+    ensures { result ≡ with_two (bytes_eq command.now (codes "run")) (bytes_eq command.now (codes "replay")) (bytes_eq command.now (codes "verify")) (bytes_eq command.now (codes "self")) (whole_of second.now) (whole_of third.now) }
 {
     if command == "run" {
         Some(Command::Run(0))
     } else if command == "replay" {
         Some(Command::Replay(0))
+    } else if command == "verify" {
+        Some(Command::Verify)
     } else if command == "self" {
         trial_on(second, third)
     } else {

@@ -12,6 +12,7 @@ mod refused;
 mod replay;
 mod running;
 mod trial;
+mod verify;
 
 pub use call::railgun;
 pub use command::Command;

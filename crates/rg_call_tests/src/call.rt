@@ -5,15 +5,19 @@ use std::alloc::Global;
 use std::process::Abort;
 use std::test::Fail;
 
+mod asked;
 mod bounds;
 mod cached;
 mod dumped;
+mod graced;
+mod hostile;
 mod informed;
 mod made;
 mod replayed;
 mod stopped;
 mod stored;
 mod tried;
+mod verified;
 
 /// What a call finds: its words, the bytes of plan and input, and which of their reads fail.
 #[derive(Clone, Copy)]

@@ -5,7 +5,7 @@ use Rattle.std.specs.Str.{is_utf8}
 use Rattle.toml.specs.Data.{Data, Items, Members, no_items, item, no_members, member, get_member, as_str, as_array, as_integer, as_bool, as_table}
 use Rattle.toml.specs.Parse.{parse_document}
 use Rattle.rg_config.specs.declared.fault.SettingsFault.{SettingsFault}
-use Rattle.rg_config.specs.declared.fault.SettingsFault.TheVariants.{TopKey, Queries, Table, Key, Cache, Chunk, Commit, Save, Events, Header, CachedEvents}
+use Rattle.rg_config.specs.declared.fault.SettingsFault.TheVariants.{TopKey, Queries, Table, Key, Cache, Chunk, Commit, Save, Events, Header, Grace, CachedEvents}
 
 -- the table that the bytes stand for: they are text, and the text is a document
 abbrev pub document : List ℕ → Option Members
@@ -70,6 +70,8 @@ pub record Settings : Type 0 where
   pub events : ℕ
   -- the first line is a header
   pub header : Bool
+  -- by how much an event may be earlier than the last one before it
+  pub grace : ℕ
 
 -- n is from low to high
 abbrev pub IsFromTo : ℕ → ℕ → ℕ → Type 0
@@ -84,6 +86,7 @@ pub record AreInRange (settings : Settings) : Type 0 where
   pub commit : IsFromTo 1 1000000 settings.commit
   pub save : IsFromTo 1 1000000 settings.save
   pub events : IsFromTo 1 (2 ^ 40) settings.events
+  pub grace : IsFromTo 0 (10 ^ 15) settings.grace
 
 -- a reading of what another one found, or that one's fault
 abbrev pub and_then : {A B : Type 0} → (A → Result B SettingsFault) → Result A SettingsFault → Result B SettingsFault
@@ -113,7 +116,7 @@ abbrev pub flag_at : List ℕ → SettingsFault → Members → Result Bool Sett
 flag_at key fault table = ok_or (flag_or (get_member key table)) fault
 
 abbrev pub setting_keys : List (List ℕ)
-setting_keys = codes "cache" ∷ codes "chunk" ∷ codes "commit" ∷ codes "save" ∷ codes "events" ∷ codes "header" ∷ []
+setting_keys = codes "cache" ∷ codes "chunk" ∷ codes "commit" ∷ codes "save" ∷ codes "events" ∷ codes "header" ∷ codes "grace" ∷ []
 
 -- the cache holds at most 65,536 events
 abbrev pub fits : Settings → Result Settings SettingsFault
@@ -122,8 +125,9 @@ fits settings = if nat_le (settings.cache * settings.chunk) 65536 then Ok settin
 abbrev pub settings_in : Members → Result Settings SettingsFault
 settings_in table =
     if all_keys setting_keys table then
-    and_then (λ cache. and_then (λ chunk. and_then (λ commit. and_then (λ save. and_then (λ events. and_then (λ header.
-    fits (record { cache = cache; chunk = chunk; commit = commit; save = save; events = events; header = header }))
+    and_then (λ cache. and_then (λ chunk. and_then (λ commit. and_then (λ save. and_then (λ events. and_then (λ header. and_then (λ grace.
+    fits (record { cache = cache; chunk = chunk; commit = commit; save = save; events = events; header = header; grace = grace }))
+    (number_at (codes "grace") Grace 0 1000000000000000 0 table))
     (flag_at (codes "header") Header table))
     (number_at (codes "events") Events 1 1099511627776 1099511627776 table))
     (number_at (codes "save") Save 1 1000000 65536 table))

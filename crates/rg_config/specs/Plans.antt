@@ -24,7 +24,7 @@ abbrev pub planned : Plan → Planned
 planned plan = record {
   shape = plan.schema;
   queries = asked_by plan.task;
-  settings = record { cache = plan.room.cache; chunk = plan.room.chunk; commit = plan.commit; save = plan.save; events = plan.room.limit; header = plan.header };
+  settings = record { cache = plan.room.cache; chunk = plan.room.chunk; commit = plan.commit; save = plan.save; events = plan.room.limit; header = plan.header; grace = plan.grace };
 }
 
 -- the table describes the stream of a schema

@@ -30,6 +30,7 @@ settings_view settings = record {
   save = settings.save;
   events = settings.room.limit;
   header = settings.header;
+  grace = settings.grace;
 }
 
 -- the schema whose text a table describes, or that there is none

@@ -38,6 +38,8 @@ pub enum SettingsFault {
     Events,
     /// `header` is neither true nor false.
     Header,
+    /// `grace` is no whole number from 0 to 10^15.
+    Grace,
     /// `cache` chunks of `chunk` events are more than 65,536 events.
     CachedEvents,
 }

@@ -43,6 +43,8 @@ pub struct Plan {
     pub save: u64,
     /// Whether the first line is a header.
     pub header: bool,
+    /// By how many milliseconds an event may be earlier than the last one before it, from 0 to 10^15.
+    pub grace: u64,
 }
 
 /// Reads the bytes of a plan file.
@@ -93,6 +95,7 @@ fn plan_of(alloc: Global, bytes: &[u8]) -> Result<Plan, ConfigFault>
         commit: settings.commit,
         save: settings.save,
         header: settings.header,
+        grace: settings.grace,
     })
 }
 

@@ -10,7 +10,9 @@ use rg_event::Room;
 use toml::{Table, Value};
 
 /// The keys of the table of settings.
-const SETTING_KEYS: [&str; 6] = ["cache", "chunk", "commit", "save", "events", "header"];
+const SETTING_KEYS: [&str; 7] = [
+    "cache", "chunk", "commit", "save", "events", "header", "grace",
+];
 
 /// How many events the cache holds at most.
 const MOST_CACHED: u64 = 65_536;
@@ -58,6 +60,13 @@ const EVENTS: Range = Range {
     otherwise: 1_099_511_627_776,
 };
 
+/// By how many milliseconds an event may be earlier than the last one: at most 10^15.
+const GRACE: Range = Range {
+    least: 0,
+    most: 1_000_000_000_000_000,
+    otherwise: 0,
+};
+
 /// What may be set, each in its range.
 #[derive(Clone, Copy, Debug)]
 pub(crate) struct Settings {
@@ -65,6 +74,7 @@ pub(crate) struct Settings {
     pub(crate) commit: u64,
     pub(crate) save: u64,
     pub(crate) header: bool,
+    pub(crate) grace: u64,
 }
 
 /// The settings of a plan, with defaults for what is missing.
@@ -95,6 +105,7 @@ fn defaults() -> Settings
         commit: COMMIT.otherwise,
         save: SAVE.otherwise,
         header: false,
+        grace: GRACE.otherwise,
     }
 }
 
@@ -112,6 +123,7 @@ fn settings_in(table: &Table) -> Result<Settings, SettingsFault>
     let save = number_at(table, "save", SettingsFault::Save, SAVE)?;
     let limit = number_at(table, "events", SettingsFault::Events, EVENTS)?;
     let header = flag_at(table, "header", SettingsFault::Header)?;
+    let grace = number_at(table, "grace", SettingsFault::Grace, GRACE)?;
     if cache * chunk > MOST_CACHED {
         return Err(SettingsFault::CachedEvents);
     }
@@ -124,6 +136,7 @@ fn settings_in(table: &Table) -> Result<Settings, SettingsFault>
         commit,
         save,
         header,
+        grace,
     })
 }
 

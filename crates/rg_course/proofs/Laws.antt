@@ -18,4 +18,4 @@ pub read_event : (basis : Basis) (offset : ℕ) (line : Option (List ℕ)) (e : 
 read_event basis offset line e is small = event_is basis.fields offset e small (read_fits basis offset line e is)
 
 pub next_after_line : (basis : Basis) (events : List Event) (offset : ℕ) (line : Option (List ℕ)) → next_offset events ≤ offset → next_offset (accepted_after events (line_verdict basis events offset line)) ≤ offset + 1
-next_after_line basis events offset line next = next_after basis.most events basis offset line next
+next_after_line basis events offset line next = next_after events basis offset line next

@@ -2,6 +2,8 @@ pub mod Verdicts
 pub mod Accepted
 pub mod Events
 pub mod Laws
+pub mod Controls
+pub mod Grace
 pub mod Lines
 pub mod Alike
 pub mod Prefixes

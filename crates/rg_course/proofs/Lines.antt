@@ -3,8 +3,10 @@ use Rattle.std.proofs.Common.{◌≡◌, ℕ, zero, suc, ◌+◌, ◌≤◌, ◌
 use Rattle.std.proofs.lemmas.Bool.{lt-ltb, le-ltb}
 use Rattle.rg_event.specs.declared.event.Event.{Event}
 use Rattle.rg_reply.specs.Texts.{reply_line}
-use Rattle.rg_course.specs.Verdicts.{Basis, Verdict, accepted_after, line_verdict, accepted_before, reply_to}
-use Rattle.rg_course.specs.Verdicts.Verdict.{refused, accepted}
+use Rattle.rg_course.specs.Verdicts.{Basis, Verdict, accepted_after, line_verdict}
+use Rattle.rg_course.specs.Verdicts.Verdict.{refused, obeyed, accepted, moved}
+use Rattle.rg_course.specs.declared.control.Control.TheVariants.{Commit, Save, Ahead}
+use Rattle.rg_course.specs.Verdicts.{accepted_before, reply_to}
 use Rattle.rg_course.specs.Accepted.{verdict_from, after_turn, events_before}
 use Rattle.rg_course.specs.Output.{Terms, stored_line, saved_line, is_every, is_saved, saves, marks_of, turn_lines, put_at}
 use Rattle.rg_course.proofs.Steps.{or_true}
@@ -38,4 +40,8 @@ put_first terms lines i =
 pub saved_marks : (terms : Terms) (events : List Event) (verdict : Verdict) → saves terms events verdict ≡ true →
     marks_of terms events verdict ≡ stored_line (accepted_after events verdict) ∷ (saved_line (accepted_after events verdict) ∷ [])
 saved_marks terms events (refused reply) due = absurd (cc)
+saved_marks terms events (obeyed Commit) due = absurd (cc)
+saved_marks terms events (obeyed Save) due = refl
+saved_marks terms events (obeyed Ahead) due = absurd (cc)
 saved_marks terms events (accepted e) due = rw (or_true (is_every terms.commit (length (events ++ e ∷ []))) (is_saved terms (events ++ e ∷ [])) due, due) refl
+saved_marks terms events (moved e) due = rw (or_true (is_every terms.commit (length (events ++ e ∷ []))) (is_saved terms (events ++ e ∷ [])) due, due) refl

@@ -1,13 +1,13 @@
 -- What one line adds.
-use Rattle.std.proofs.Common.{◌≡◌, ℕ, ◌≤◌, ◌<◌, ◌||◌, nat_le, nat_lt, Bool, true, false, cond, List, [], ◌∷◌, ◌++◌, length, Option, Some, None, Result, Ok, Err, refl, ap, arith}
-use Rattle.std.specs.List.{list_any}
-use Rattle.std.proofs.lemmas.Bool.{lt-ltb, ltb-true, ltb-false, leb-false}
+use Rattle.std.proofs.Common.{◌≡◌, ℕ, ◌≤◌, ◌<◌, ◌+◌, ◌||◌, nat_le, nat_lt, Bool, true, false, cond, List, [], ◌∷◌, ◌++◌, length, Option, Some, None, Result, Ok, Err, refl, ap, arith}
+use Rattle.std.proofs.lemmas.Bool.{ltb-true, ltb-false, leb-false}
 use Rattle.rg_event.specs.declared.event.Event.{Event}
 use Rattle.rg_event.specs.Rising.{next_offset, last_time}
 use Rattle.rg_reply.specs.declared.reply.Reply.{Reply}
 use Rattle.rg_reply.specs.declared.reply.Reply.TheVariants.{Late, Full}
-use Rattle.rg_course.specs.Verdicts.{Verdict, read_as, verdict_of, line_verdict}
-use Rattle.rg_course.specs.Verdicts.Verdict.{refused, accepted}
+use Rattle.rg_course.specs.Verdicts.{Verdict, control_at, read_as, verdict_of, obeyed_or, line_verdict}
+use Rattle.rg_course.specs.Verdicts.Verdict.{refused, accepted, moved}
+use Rattle.rg_course.specs.declared.control.Control.{Control}
 use Rattle.rg_course.proofs.Events.{read_fits}
 use Rattle.rg_course.specs.Accepted.{verdict_from, after_turn}
 use Rattle.rg_course.specs.Output.{turn_lines, Terms}
@@ -16,22 +16,9 @@ use Rattle.rg_course.specs.Ahead.{after_line, lines_for}
 abbrev pub Item : Type 0
 Item = Option (List ℕ)
 
--- some of these events has a greater time
-abbrev later_than : ℕ → List Event → Bool
-later_than time events = list_any (λ x. nat_lt time x.time) events
-
 pub or_true : (a b : Bool) → b ≡ true → (a || b) ≡ true
 or_true true b h = refl
 or_true false b h = h
-
-any_later : (events : List Event) (time : ℕ) → time < last_time events → later_than time events ≡ true
-any_later [] time k = absurd (omega arith)
-any_later (x ∷ []) time k = rw (lt-ltb time x.time k) refl
-any_later (x ∷ (y ∷ events)) time k = or_true (nat_lt time x.time) (later_than time (y ∷ events)) (any_later (y ∷ events) time k)
-
-by_last : (events : List Event) (time : ℕ) → later_than time events ≡ false → (b : Bool) → nat_lt time (last_time events) ≡ b → last_time events ≤ time
-by_last events time all true t = absurd (let yes : later_than time events ≡ true = any_later events time (ltb-true _ _ t) in cc)
-by_last events time all false t = ltb-false _ _ t
 
 -- an event that is accepted from the line at this offset, after these
 pub record IsAccepted (terms : Terms) (events : List Event) (offset : ℕ) (e : Event) : Type 0 where
@@ -46,21 +33,32 @@ pub data Decided (terms : Terms) (next : ℕ) (events : List Event) (offset : �
   adds : (e : Event) → next ≤ offset → IsAccepted terms events offset e → after_turn events v ≡ events ++ e ∷ [] → Decided terms next events offset v
 
 module _ (terms : Terms) (next : ℕ) (events : List Event) (offset : ℕ) (item : Item) where
-  by_room : (e : Event) → next ≤ offset → e.offset ≡ offset → later_than e.time events ≡ false → (b : Bool) → nat_le terms.basis.most (length events) ≡ b → Decided terms next events offset (Some (cond b (refused Full) (accepted e)))
-  by_room e after at in_time true full = stays after refl
-  by_room e after at in_time false room = adds e after (record { at = at; in_time = by_last events e.time in_time (nat_lt e.time (last_time events)) refl; room = leb-false _ _ room }) refl
+  by_move : (e : Event) → next ≤ offset → e.offset ≡ offset → length events < terms.basis.most → (b : Bool) → nat_lt e.time (last_time events) ≡ b →
+      Decided terms next events offset (Some (cond b (moved (record e { time = last_time events })) (accepted e)))
+  by_move e after at room true early = adds (record e { time = last_time events }) after (record { at = at; in_time = omega arith; room = room }) refl
+  by_move e after at room false in_time = adds e after (record { at = at; in_time = ltb-false _ _ in_time; room = room }) refl
 
-  by_time : (e : Event) → next ≤ offset → e.offset ≡ offset → (b : Bool) → later_than e.time events ≡ b → Decided terms next events offset (Some (cond b (refused Late) (cond (nat_le terms.basis.most (length events)) (refused Full) (accepted e))))
-  by_time e after at true late = stays after refl
-  by_time e after at false in_time = by_room e after at in_time (nat_le terms.basis.most (length events)) refl
+  by_room : (e : Event) → next ≤ offset → e.offset ≡ offset → (b : Bool) → nat_le terms.basis.most (length events) ≡ b →
+      Decided terms next events offset (Some (cond b (refused Full) (cond (nat_lt e.time (last_time events)) (moved (record e { time = last_time events })) (accepted e))))
+  by_room e after at true full = stays after refl
+  by_room e after at false room = by_move e after at (leb-false _ _ room) (nat_lt e.time (last_time events)) refl
 
-  by_look : next ≤ offset → (look : Result Event Reply) → read_as terms.basis offset item ≡ look → Decided terms next events offset (Some (verdict_of terms.basis.most events look))
+  by_time : (e : Event) → next ≤ offset → e.offset ≡ offset → (b : Bool) →
+      Decided terms next events offset (Some (cond b (refused Late) (cond (nat_le terms.basis.most (length events)) (refused Full) (cond (nat_lt e.time (last_time events)) (moved (record e { time = last_time events })) (accepted e)))))
+  by_time e after at true = stays after refl
+  by_time e after at false = by_room e after at (nat_le terms.basis.most (length events)) refl
+
+  by_look : next ≤ offset → (look : Result Event Reply) → read_as terms.basis offset item ≡ look → Decided terms next events offset (Some (verdict_of terms.basis.most terms.basis.grace events look))
   by_look after (Err reply) look = stays after refl
-  by_look after (Ok e) look = by_time e after (read_fits terms.basis offset item e look).at (later_than e.time events) refl
+  by_look after (Ok e) look = by_time e after (read_fits terms.basis offset item e look).at (nat_lt (e.time + terms.basis.grace) (last_time events))
+
+  by_control : next ≤ offset → (control : Option Control) → Decided terms next events offset (Some (obeyed_or control (verdict_of terms.basis.most terms.basis.grace events (read_as terms.basis offset item))))
+  by_control after (Some control) = stays after refl
+  by_control after None = by_look after (read_as terms.basis offset item) refl
 
   by_next : (b : Bool) → nat_lt offset next ≡ b → Decided terms next events offset (cond b None (Some (line_verdict terms.basis events offset item)))
   by_next true below = passes (ltb-true _ _ below) refl
-  by_next false after = by_look (ltb-false _ _ after) (read_as terms.basis offset item) refl
+  by_next false after = by_control (ltb-false _ _ after) (control_at terms.basis offset item)
 
   decided : Decided terms next events offset (verdict_from terms.basis next events offset item)
   decided = by_next (nat_lt offset next) refl

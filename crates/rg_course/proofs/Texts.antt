@@ -9,7 +9,7 @@ use Rattle.rg_event.specs.declared.event.Event.{Event}
 use Rattle.rg_metric.specs.declared.answer.Answer.{Answer}
 use Rattle.rg_metric.specs.declared.answer.Answer.TheVariants.{Number, Ratio, Dash}
 use Rattle.rg_reply.specs.declared.reply.Reply.{Reply}
-use Rattle.rg_reply.specs.declared.reply.Reply.TheVariants.{Head, Done, Long, Row, Fields, Time, Value, Late, Full, Answered}
+use Rattle.rg_reply.specs.declared.reply.Reply.TheVariants.{Head, Done, Long, Row, Fields, Time, Value, Late, Full, Answered, Moved}
 use Rattle.rg_reply.specs.Texts.{answer_text, answers_text, reply_text, reply_line, mark_line}
 use Rattle.rg_reply.specs.declared.mark.Mark.{Mark}
 use Rattle.rg_reply.specs.declared.mark.Mark.TheVariants.{Opened, Stored, Saved, Finished}
@@ -83,6 +83,7 @@ reply_text_no_lf (Value column) = no_lf_more (codes "value ") (decimal column) (
 reply_text_no_lf Late = no_lf (codes "late") refl
 reply_text_no_lf Full = no_lf (codes "full") refl
 reply_text_no_lf (Answered answers) = no_lf_more (codes "ok") (answers_text answers) (no_lf (codes "ok") refl) (answers_no_lf answers)
+reply_text_no_lf (Moved answers) = no_lf_more (codes "moved") (answers_text answers) (no_lf (codes "moved") refl) (answers_no_lf answers)
 
 reply_no_lf : (offset : ℕ) (reply : Reply) → HasNoLf (reply_line offset reply)
 reply_no_lf offset reply = no_lf_more (decimal offset) (codes " " ++ reply_text reply) (decimal_no_lf offset) (refl, reply_text_no_lf reply)

@@ -1,9 +1,12 @@
 -- What holds of every run.
-use Rattle.std.specs.Prelude.{◌≡◌, ℕ, ◌+◌, ◌≤◌, nat_lt, List, ◌++◌, Option}
-use Rattle.std.specs.List.{filter}
+use Rattle.std.specs.Prelude.{◌≡◌, ℕ, ◌+◌, ◌≤◌, nat_lt, nat_le, List, ◌++◌, length, Option, Result, Ok, Err, if◌then◌else◌}
+use Rattle.std.specs.List.{filter, list_any}
 use Rattle.rg_event.specs.declared.event.Event.{Event}
 use Rattle.rg_event.specs.Rising.{next_offset}
-use Rattle.rg_course.specs.Verdicts.{Basis}
+use Rattle.rg_reply.specs.declared.reply.Reply.{Reply}
+use Rattle.rg_reply.specs.declared.reply.Reply.TheVariants.{Late, Full}
+use Rattle.rg_course.specs.Verdicts.{Basis, Verdict}
+use Rattle.rg_course.specs.Verdicts.Verdict.{refused, accepted}
 use Rattle.rg_course.specs.Accepted.{events_after}
 use Rattle.rg_course.specs.Output.{Terms, put_at, put_before, out}
 
@@ -24,11 +27,20 @@ pub record MayLeave (basis : Basis) (held : List Event) (first : ℕ) (lines : L
 abbrev pub below : ℕ → List Event → List Event
 below n events = filter (λ e. nat_lt e.offset n) events
 
--- two that accept alike, whatever they ask: with the same columns, header and limit
+-- the verdict on an event or a refusal where none may be earlier: an event is late where one before it has a greater time
+abbrev pub strict_verdict : ℕ → List Event → Result Event Reply → Verdict
+strict_verdict most events (Err reply) = refused reply
+strict_verdict most events (Ok e) =
+    if list_any (λ x. nat_lt e.time x.time) events then refused Late
+    else if nat_le most (length events) then refused Full
+    else accepted e
+
+-- two that accept alike, whatever they ask: with the same columns, header, limit and grace
 pub record AcceptAlike (one two : Basis) : Type 0 where
   pub fields : one.fields ≡ two.fields
   pub most : one.most ≡ two.most
   pub header : one.header ≡ two.header
+  pub grace : one.grace ≡ two.grace
 
 -- Two texts make up a whole one: the second begins behind `before`, a prefix of the first one, and what both have is the same.
 pub record Overlaps (before one two whole : List (List ℕ)) : Type 0 where

@@ -5,7 +5,8 @@ use Rattle.rg_event.specs.Rising.{next_offset}
 use Rattle.rg_reply.specs.Texts.{reply_line, mark_line}
 use Rattle.rg_reply.specs.declared.mark.Mark.TheVariants.{Opened, Stored, Saved, Finished}
 use Rattle.rg_course.specs.Verdicts.{Basis, Verdict, accepted_after, reply_of}
-use Rattle.rg_course.specs.Verdicts.Verdict.{refused, accepted}
+use Rattle.rg_course.specs.Verdicts.Verdict.{refused, obeyed, accepted, moved}
+use Rattle.rg_course.specs.declared.control.Control.TheVariants.{Commit, Save, Ahead}
 use Rattle.rg_course.specs.Accepted.{verdict_from, events_before, events_after}
 
 -- All of a plan that the text of a run rests on: neither the size of the cache nor that of a chunk.
@@ -39,12 +40,20 @@ is_stored terms events = is_every terms.commit (length events) || is_saved terms
 -- all events are stored before a line with this verdict is answered
 abbrev pub stores : Terms → List Event → Verdict → Bool
 stores terms events (refused reply) = false
+stores terms events (obeyed Commit) = true
+stores terms events (obeyed Save) = true
+stores terms events (obeyed Ahead) = false
 stores terms events (accepted e) = is_stored terms (events ++ e ∷ [])
+stores terms events (moved e) = is_stored terms (events ++ e ∷ [])
 
 -- a checkpoint of all events is saved before it is answered
 abbrev pub saves : Terms → List Event → Verdict → Bool
 saves terms events (refused reply) = false
+saves terms events (obeyed Commit) = false
+saves terms events (obeyed Save) = true
+saves terms events (obeyed Ahead) = false
 saves terms events (accepted e) = is_saved terms (events ++ e ∷ [])
+saves terms events (moved e) = is_saved terms (events ++ e ∷ [])
 
 abbrev pub line_where : Bool → List ℕ → List (List ℕ)
 line_where true line = line ∷ []

@@ -1,13 +1,14 @@
 //! What is decided on a line, what a run accepts and puts out, and the laws by which a stopped run goes on.
 //!
 //! The definitions are in `specs/`: `Verdicts` has what a line is read as, the verdict on it and the reply,
-//! over a `Basis` alone (the columns, the queries, the limit of events and whether there is a header);
+//! over a `Basis` alone (the columns, the queries, the limit of events, whether there is a header, and the grace);
 //! `Accepted` says which events a run accepts over a store that held some before, `Output` what it puts,
 //! `Ahead` what is still to come in mid-run, `Acknowledged` what the lines that were put promise of the
 //! store, and `Stores`, `Steps` and `Turns` what holds of store and output at each moment. Each function
 //! here is a law without a body.
 #![tactic(auto)]
 
+mod control;
 mod verdict;
 
 ghost use Rattle.std.specs.Prelude.{◌≡◌, ℕ, ◌+◌, ◌-◌, ◌≤◌, ◌<◌, ◌^◌, max, true, List, [], ◌∷◌, ◌++◌, length, get_or, drop, Option, Some, None};
@@ -26,7 +27,8 @@ ghost use Rattle.rg_course.specs.Pieces.{AreLines, whole_pieces};
 ghost use Rattle.rg_course.specs.Stores.{IsNear, course_of};
 ghost use Rattle.rg_course.specs.Turns.{Covers};
 
-pub use verdict::{law_before, law_next, law_read};
+pub use control::{Control, control_in};
+pub use verdict::{law_before, law_grace, law_next, law_read};
 
 /// A line below the next offset of the store is passed over, and any other gets its verdict. Over an
 /// empty store the events and the replies are those of the whole input, each with its marks behind it.
@@ -97,7 +99,7 @@ pub fn law_resume()
         held ≡ below (next_offset held) (events_after terms.basis [] 0 lines) → IsSuffixOf (out terms held 0 lines) (unstopped terms lines) }
 {}
 
-/// What is accepted depends on the columns, the header and the limit alone, and not on what is asked:
+/// What is accepted depends on the columns, the header, the limit and the grace alone, and not on what is asked:
 /// runs of other queries over the same store accept alike.
 #[tactic(auto, using(crate::proofs::Alike::accepted_alike))]
 pub fn law_alike()

@@ -1,8 +1,9 @@
 ghost use Rattle.std.specs.Prelude.{◌≡◌, ◌≤◌, ◌<◌, ◌^◌, ◌+◌, ◌++◌, ◌∷◌, [], ℕ, List, Option, Ok, length};
 ghost use Rattle.rg_event.specs.declared.event.Event.{Event as TheEvent};
 ghost use Rattle.rg_event.specs.Codec.{IsEventOf};
-ghost use Rattle.rg_event.specs.Rising.{next_offset};
-ghost use Rattle.rg_course.specs.Verdicts.{Basis, read_as, accepted_after, line_verdict, accepted_before, reply_to};
+ghost use Rattle.rg_event.specs.Rising.{next_offset, IsRising};
+ghost use Rattle.rg_course.specs.Verdicts.{Basis, control_at, read_as, obeyed_or, accepted_after, line_verdict, accepted_before, reply_to};
+ghost use Rattle.rg_course.specs.Laws.{strict_verdict};
 
 /// What was accepted among the first lines, and the reply to each of them, doesn't depend on what
 /// comes behind them.
@@ -22,4 +23,12 @@ pub fn law_read()
 #[tactic(auto, using(crate::proofs::Laws::next_after_line))]
 pub fn law_next()
     ensures { (basis : Basis) (events : List TheEvent) (offset : ℕ) (line : Option (List ℕ)) → next_offset events ≤ offset → next_offset (accepted_after events (line_verdict basis events offset line)) ≤ offset + 1 }
+{}
+
+/// Without grace an event is late just where one accepted before it has a greater time, and none is
+/// moved: what is decided on a line that asks for nothing is what it was before there was any grace.
+#[tactic(auto, using(crate::proofs::Grace::no_grace))]
+pub fn law_grace()
+    ensures { (basis : Basis) (events : List TheEvent) (offset : ℕ) (line : Option (List ℕ)) → basis.grace ≡ 0 → IsRising events →
+        line_verdict basis events offset line ≡ obeyed_or (control_at basis offset line) (strict_verdict basis.most events (read_as basis offset line)) }
 {}

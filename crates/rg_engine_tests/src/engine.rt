@@ -2,11 +2,10 @@ ghost use Rattle.std.specs.Prelude.{◌≡◌, ◌<◌, length, IfOk};
 
 mod check;
 mod made;
-mod slow;
 
 use crate::common::plan_of;
 use crate::takes::rows_in;
-use check::{replay_checked, take_checked};
+use check::take_checked;
 use made::{event, queries};
 use rg_bytes::Memory;
 use rg_engine::{Engine, EngineFault};
@@ -15,7 +14,6 @@ use rg_metric::{Answer, Answers, Query};
 use rg_past::{Past, PastFault, Spot, VecPast};
 use rg_plan::TaskPlan;
 use rg_state::MemTable;
-use slow::slow_answers;
 use std::alloc::Global;
 use std::marker::Brand;
 use std::sync::ledger::{Blank, Ledger};
@@ -53,46 +51,6 @@ fn answers_to<L: Ledger>(
         Some(Ok(answers)) => Ok(answers),
         _ => Err(Fail::from(Memory)),
     }
-}
-
-/// The first one of some made events that the engine answers as no walk over all of them does. At each
-/// tenth one another engine, which has seen nothing yet, is moved over the past, and goes on in place
-/// of the first.
-fn first_difference<L: Ledger>(alloc: Global, blank: Blank) -> Result<Option<u64>, Fail>
-    requires named { blank.name ≡ L.name }
-    requires parts { blank.parts ≡ L.parts }
-    requires whole { 0 < blank.parts }
-{
-    let mut steps = Steps::<L>::new(blank);
-    let queries = queries(alloc)?;
-    let mut past = VecPast::new(alloc, 1000);
-    let mut engine = engine_of(alloc, &past, &queries)?;
-    let mut time: u64 = 0;
-    for number in 0..60 {
-        let made = event(alloc, number, time)?;
-        time = made.time;
-        let answers = answers_to(&mut engine, &mut past, made, &mut steps)?;
-        let expected = slow_answers(alloc, &queries, past.events())?;
-        if answers.as_slice() != expected.as_slice() {
-            return Ok(Some(number));
-        }
-        engine.reuse(answers);
-        if number % 10 == 9 {
-            engine = engine_of(alloc, &past, &queries)?;
-            match replay_checked(&mut engine, &mut past, time, &mut steps) {
-                Some(Ok(())) => {}
-                _ => return Ok(Some(number)),
-            }
-        }
-    }
-    Ok(None)
-}
-
-#[test]
-fn the_answers_are_those_of_a_walk_over_all_events(rt: HostRuntime) -> Result<(), Fail> {
-    let difference = first_difference::<Brand>(rt.alloc(), Blank::new(1))?;
-    assert_eq!(rt; difference, None);
-    Ok(())
 }
 
 fn first_number(spots: &[Spot]) -> Option<u64> {

@@ -126,6 +126,21 @@ fn a_cache_and_a_chunk_stand_in_their_ranges(rt: HostRuntime) -> Result<(), Fail
 }
 
 #[test]
+fn a_grace_is_from_zero_to_ten_to_the_fifteenth(rt: HostRuntime) -> Result<(), Fail> {
+    let settings: [(&[u8], SettingsFault); 5] = [
+        (b"grace = -1\n", SettingsFault::Grace),
+        (b"grace = 1_000_000_000_000_001\n", SettingsFault::Grace),
+        (b"grace = 1.0\n", SettingsFault::Grace),
+        (b"grace = true\nheader = 1\n", SettingsFault::Header),
+        (b"grace = \"1\"\ncache = 1_024\n", SettingsFault::Grace),
+    ];
+    for (setting, fault) in settings {
+        assert!(rt; is_not_set(rt.alloc(), setting, fault)?);
+    }
+    Ok(())
+}
+
+#[test]
 fn a_setting_stands_in_its_range(rt: HostRuntime) -> Result<(), Fail> {
     let settings: [(&[u8], SettingsFault); 5] = [
         (b"commit = 1_000_001\n", SettingsFault::Commit),
@@ -200,9 +215,13 @@ fn a_stream_and_its_queries_are_read(rt: HostRuntime) -> Result<(), Fail> {
     Ok(())
 }
 
-/// Whether a plan has this room, commits and saves so often, and takes no header.
+/// Whether a plan has this room, commits and saves so often, takes no header and has no grace.
 fn is_set(plan: &Plan, room: Room, commit: u64, save: u64) -> bool {
-    plan.room == room && plan.commit == commit && plan.save == save && !plan.header
+    plan.room == room
+        && plan.commit == commit
+        && plan.save == save
+        && !plan.header
+        && plan.grace == 0
 }
 
 #[test]
@@ -245,6 +264,22 @@ fn a_limit_and_a_header_may_be_set_alone(rt: HostRuntime) -> Result<(), Fail> {
     let is_read = plan.room.limit == 7 && plan.header && plan.commit == 1_024;
     drop(plan);
     assert!(rt; is_read);
+    Ok(())
+}
+
+/// Whether this is read as a grace of so many milliseconds.
+fn is_grace(alloc: Global, settings: &[u8], grace: u64) -> Result<bool, Fail> {
+    let plan = plan_set(alloc, settings)?;
+    let is_read = plan.grace == grace && !plan.header;
+    drop(plan);
+    Ok(is_read)
+}
+
+#[test]
+fn the_least_and_the_greatest_grace_are_read(rt: HostRuntime) -> Result<(), Fail> {
+    assert!(rt; is_grace(rt.alloc(), b"[settings]\ngrace = 0\n", 0)?);
+    let most = b"[settings]\ngrace = 1_000_000_000_000_000\n";
+    assert!(rt; is_grace(rt.alloc(), most, 1_000_000_000_000_000)?);
     Ok(())
 }
 

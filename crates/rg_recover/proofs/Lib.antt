@@ -10,3 +10,4 @@ pub mod Saved
 pub mod Resuming
 pub mod Nodes
 pub mod Placed
+pub mod Loading

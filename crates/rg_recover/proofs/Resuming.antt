@@ -15,11 +15,12 @@ use Rattle.rg_open.specs.Settling.{AreSettled}
 use Rattle.rg_recover.specs.Sessions.{IsRunning, count_in}
 
 -- it runs, where its engine was started over a settled store
-pub started_running : {T : Type 0} (plan : Planned) (now : Option Image) (may : Image → Type 0) (told : Type 0) (cells : Cells) (r : Reservoir) (engine : Seen T) (texts : List (List ℕ)) (keep : Option ℕ) (saved : ℕ) → IsStarted plan now may told cells r engine texts keep saved
-    → AreSettled now may → (base r).limit ≡ plan.settings.events → IsRunning plan now may told cells (record { reservoir = r; engine = engine; texts = texts; keep = keep; saved = saved; ended = false })
-started_running plan now may told cells r engine texts keep saved started settled limit = record {
+pub started_running : {T : Type 0} (plan : Planned) (now : Option Image) (may : Image → Type 0) (told : Type 0) (cells : Cells) (r : Reservoir) (engine : Seen T) (texts : List (List ℕ)) (grace : ℕ) (keep : Option ℕ) (saved : ℕ) → IsStarted plan now may told cells r engine texts keep saved
+    → AreSettled now may → (base r).limit ≡ plan.settings.events → grace ≡ plan.settings.grace → IsRunning plan now may told cells (record { reservoir = r; engine = engine; texts = texts; grace = grace; keep = keep; saved = saved; ended = false })
+started_running plan now may told cells r engine texts grace keep saved started settled limit grace_is = record {
   ready = record { in_step = started.in_step; tells = started.tells; serves = started.serves; plan_is = started.plan_is };
   limit_is = limit;
+  grace_is = grace_is;
   going = refl;
   first_settled = settled.first;
   second_settled = settled.second;

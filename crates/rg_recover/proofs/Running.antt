@@ -22,11 +22,12 @@ kept_still plan may after keep chunk slot saved committed then is more stepped k
 
 -- it runs still after a step on the log that leaves its engine ready
 pub runs_still : {T : Type 0} (plan : Planned) (now then : Option Image) (may after : Image → Type 0) (told told_still : Type 0) (cells rows : Cells) (s new : Sitting T) (chunk : List Event) → IsRunning plan now may told cells s
-    → IsReady plan then after told_still rows new.reservoir new.engine new.texts → (base new.reservoir).limit ≡ (base s.reservoir).limit → new.ended ≡ false → NothingPending 0 then after → NothingPending 1 then after
+    → IsReady plan then after told_still rows new.reservoir new.engine new.texts → (base new.reservoir).limit ≡ (base s.reservoir).limit → new.grace ≡ s.grace → new.ended ≡ false → NothingPending 0 then after → NothingPending 1 then after
     → new.keep ≡ s.keep → new.saved ≡ s.saved → (base s.reservoir).committed ≤ (base new.reservoir).committed → ((u : Image) → after u → IsStepped (store_of plan) s.keep chunk may u) → IsRunning plan then after told_still rows new
-runs_still plan now then may after told told_still cells rows s new chunk runs ready limit going first second keep saved more stepped = record {
+runs_still plan now then may after told told_still cells rows s new chunk runs ready limit grace going first second keep saved more stepped = record {
   ready = ready;
   limit_is = limit ∙ runs.limit_is;
+  grace_is = grace ∙ runs.grace_is;
   going = going;
   first_settled = first;
   second_settled = second;

@@ -60,11 +60,11 @@ of_slot (suc (suc n)) P below first second = absurd (omega (arith, below))
 some_same : (a b : ℕ) → ◌≡◌ {A = Option ℕ} (Some a) (Some b) → a ≡ b
 some_same a b is = cc
 
-module _ {T : Type 0} (plan : Planned) (now then : Option Image) (may after : Image → Type 0) (told told_still : Type 0) (cells rows : Cells) (r : Reservoir) (e f : Seen T) (texts : List (List ℕ)) (keep : Option ℕ) (saved slot count : ℕ) (ended : Bool)
-    (runs : IsRunning plan now may told cells (record { reservoir = r; engine = e; texts = texts; keep = keep; saved = saved; ended = ended })) where
+module _ {T : Type 0} (plan : Planned) (now then : Option Image) (may after : Image → Type 0) (told told_still : Type 0) (cells rows : Cells) (r : Reservoir) (e f : Seen T) (texts : List (List ℕ)) (grace : ℕ) (keep : Option ℕ) (saved slot count : ℕ) (ended : Bool)
+    (runs : IsRunning plan now may told cells (record { reservoir = r; engine = e; texts = texts; grace = grace; keep = keep; saved = saved; ended = ended })) where
   pub running_saved : told_still → Same cells rows → f.plan ≡ e.plan → f.spots ≡ e.spots → LogStays now then may after → NothingPending 0 then after → NothingPending 1 then after → IsKeep keep → slot ≡ other_of keep → count ≤ (base r).committed
       → ((u : Image) → after u → IsStepped (store_of plan) keep [] may u) → ((u : Image) → after u → IsSavedTo (store_of plan) (other_of keep) count may u)
-      → IsRunning plan then after told_still rows (record { reservoir = r; engine = f; texts = texts; keep = Some slot; saved = count; ended = false })
+      → IsRunning plan then after told_still rows (record { reservoir = r; engine = f; texts = texts; grace = grace; keep = Some slot; saved = count; ended = false })
   running_saved tells same plan_same spots_same stays first second legal slot_is few stepped saved_to =
       let step = runs.ready.in_step in
       let log = step.reservoir in
@@ -85,6 +85,7 @@ module _ {T : Type 0} (plan : Planned) (now then : Option Image) (may after : Im
           plan_is = plan_same ∙ runs.ready.plan_is;
         };
         limit_is = runs.limit_is;
+        grace_is = runs.grace_is;
         going = refl;
         first_settled = first;
         second_settled = second;

@@ -16,11 +16,12 @@ use Rattle.rg_reservoir.specs.declared.reservoir.Reservoir.{Reservoir}
 use Rattle.rg_checkpoint.specs.Slots.{IsKeep}
 use Rattle.rg_open.specs.Opened.{IsInStep, IsKeptInSlot}
 
--- its reservoir, its engine, the printed texts of its queries, the slot that was used or written last and of how many events that one is, and whether it has ended
+-- its reservoir, its engine, the printed texts of its queries, by how much an event may be earlier than the last one, the slot that was used or written last and of how many events that one is, and whether it has ended
 pub record Sitting (T : Type 0) : Type 0 where
   pub reservoir : Reservoir
   pub engine : Seen T
   pub texts : List (List ℕ)
+  pub grace : ℕ
   pub keep : Option ℕ
   pub saved : ℕ
   pub ended : Bool
@@ -28,10 +29,10 @@ pub record Sitting (T : Type 0) : Type 0 where
 -- the same as a tuple of its parts
 abbrev pub sitting_code : {T : Type 0} → Coded T → Coded (Sitting T)
 sitting_code {T} code =
-    code_by (Reservoir × (Seen T × (List (List ℕ) × (Option ℕ × (ℕ × Bool)))))
-    (coded× reservoir_row.coded (coded× (seen_code code) (coded× (coded_list (coded_list coded_ℕ)) (coded× (coded_option coded_ℕ) (coded× coded_ℕ coded_bool)))))
-    (λ s. (s.reservoir, (s.engine, (s.texts, (s.keep, (s.saved, s.ended))))))
-    (λ p. record { reservoir = p.0; engine = p.1.0; texts = p.1.1.0; keep = p.1.1.1.0; saved = p.1.1.1.1.0; ended = p.1.1.1.1.1 })
+    code_by (Reservoir × (Seen T × (List (List ℕ) × (ℕ × (Option ℕ × (ℕ × Bool))))))
+    (coded× reservoir_row.coded (coded× (seen_code code) (coded× (coded_list (coded_list coded_ℕ)) (coded× coded_ℕ (coded× (coded_option coded_ℕ) (coded× coded_ℕ coded_bool))))))
+    (λ s. (s.reservoir, (s.engine, (s.texts, (s.grace, (s.keep, (s.saved, s.ended)))))))
+    (λ p. record { reservoir = p.0; engine = p.1.0; texts = p.1.1.0; grace = p.1.1.1.0; keep = p.1.1.1.1.0; saved = p.1.1.1.1.1.0; ended = p.1.1.1.1.1.1 })
     (λ _. refl)
 
 -- how many events a reservoir has, stored or not
@@ -65,6 +66,7 @@ pub record IsReady {T : Type 0} (plan : Planned) (now : Option Image) (may : Ima
 pub record IsRunning {T : Type 0} (plan : Planned) (now : Option Image) (may : Image → Type 0) (is_told : Type 0) (cells : Cells) (s : Sitting T) : Type 0 where
   pub ready : IsReady plan now may is_told cells s.reservoir s.engine s.texts
   pub limit_is : (base s.reservoir).limit ≡ plan.settings.events
+  pub grace_is : s.grace ≡ plan.settings.grace
   pub going : s.ended ≡ false
   pub first_settled : NothingPending 0 now may
   pub second_settled : NothingPending 1 now may

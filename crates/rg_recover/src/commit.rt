@@ -86,6 +86,7 @@ impl<T: Table> Session<T> {
         ensures empty { OnOk result (opened self.new.reservoir ≡ []) }
         ensures count { count_in self.new.reservoir ≡ count_in self.old.reservoir }
         ensures stays { (self.new.engine ≡ self.old.engine) × (self.new.texts ≡ self.old.texts) × (self.new.keep ≡ self.old.keep) × (self.new.saved ≡ self.old.saved) }
+        ensures grace { self.new.grace ≡ self.old.grace }
         ensures last { next_of self.new.reservoir ≡ next_of self.old.reservoir }
         ensures log { ((base self.new.reservoir).shape ≡ (base self.old.reservoir).shape) × ((base self.new.reservoir).file ≡ (base self.old.reservoir).file) }
         ensures rooms { (room_of self.new.reservoir ≡ room_of self.old.reservoir) × ((cache_of self.new.reservoir).cap ≡ (cache_of self.old.reservoir).cap) × ((base self.new.reservoir).limit ≡ (base self.old.reservoir).limit) }

@@ -5,6 +5,7 @@
 //! leave are truthful and have the events stored before, or these and the whole open chunk.
 #![tactic(auto)]
 
+mod ahead;
 mod commit;
 mod fault;
 mod law;

@@ -1,15 +1,14 @@
-ghost use Rattle.std.specs.Prelude.{◌≡◌, ◌≢◌, ◌↔◌, ◌⊎◌, ◌≤◌, ◌<◌, ◌^◌, ◌==◌, nat_lt, ◌++◌, [], ◌∷◌, ℕ, List, Option, length, true, false, IfOk, OnOk, OnErr, IsErrOf};
+ghost use Rattle.std.specs.Prelude.{◌≡◌, ◌≢◌, ◌↔◌, ◌⊎◌, ◌≤◌, ◌<◌, ◌+◌, ◌^◌, ◌==◌, nat_lt, ◌++◌, [], ◌∷◌, ℕ, List, Option, length, Ok, true, false, IfOk, OnOk, OnErr, IsErrOf};
 ghost use Rattle.std.specs.List.{list_any};
 ghost use Rattle.std.specs.Option.{ForSome};
 ghost use Rattle.rg_bytes.specs.Counts.{Rose};
 ghost use Rattle.rg_host.specs.Image.{NothingPending};
 ghost use Rattle.rg_host.specs.Moments.{LeavesAll};
 ghost use Rattle.rg_event.specs.Codec.{IsEventOf};
-ghost use Rattle.rg_event.specs.Rising.{IsRising, last_time};
+ghost use Rattle.rg_event.specs.Rising.{last_time};
 ghost use Rattle.rg_event.specs.declared.event.Event.{Event as TheEvent};
 ghost use Rattle.rg_frame.specs.LogState.{ReachesEnd};
 ghost use Rattle.rg_metric.specs.Replies.{answers_to};
-ghost use Rattle.rg_metric.specs.declared.answer.Answer.{Answer as TheAnswer};
 ghost use Rattle.rg_config.specs.Plans.{Planned};
 ghost use Rattle.rg_row.specs.Rows.{row_of};
 ghost use Rattle.rg_reservoir.specs.Chain.{IsIllegal};
@@ -19,7 +18,7 @@ ghost use Rattle.rg_course.specs.Verdicts.{accepted_after, fault_reply, or_reply
 ghost use Rattle.rg_window.specs.Placed.{AreWithin};
 ghost use Rattle.rg_open.specs.Stores.{store_of};
 ghost use Rattle.rg_open.specs.Blame.{NodeRuns, IsPlaced};
-ghost use Rattle.rg_recover.specs.Deciding.{verdict_on, as_verdict, IfAccepted};
+ghost use Rattle.rg_recover.specs.Deciding.{verdict_on, as_verdict, answered_as, AreBefore, Follows, IfAccepted, HasAnswers};
 ghost use Rattle.rg_recover.specs.Sessions.{IsReady, IsRunning, count_in, events_of, stored_of};
 ghost use Rattle.rg_recover.specs.Stepping.{IsWithinStep, IsStored};
 
@@ -38,13 +37,26 @@ use rg_row::{RowFault, read_row};
 use rg_state::Table;
 use std::sync::ledger::Ledger;
 
+/// The greatest time that a row may have, in milliseconds.
+const MOST_TIME: u64 = 1_000_000_000_000_000;
+
 /// What a session decides on a line.
 #[derive(Debug, Drop)]
 enum Decision {
     /// The line is refused with this reply.
     Refused(Reply),
-    /// The line is accepted as this event.
-    Accepted(Event),
+    /// The line is accepted as this event; where it was moved, the event has the last time in place of its own.
+    Accepted { event: Event, is_moved: bool },
+}
+
+/// The reply that has these answers to an event, which was moved or not.
+fn reply_with(answers: Answers, is_moved: bool) -> Reply
+    ensures { result ≡ answered_as is_moved answers }
+{
+    if is_moved {
+        return Reply::Moved(answers);
+    }
+    Reply::Answered(answers)
 }
 
 /// The reply to a fault of a row; want of memory has none.
@@ -58,6 +70,58 @@ fn row_reply(fault: RowFault) -> Reply
         RowFault::Time => Reply::Time,
         RowFault::Value(column) => Reply::Value(column),
         RowFault::Memory => unreachable!(),
+    }
+}
+
+/// The time of the last event, and 0 where there is none.
+fn last_of(reservoir: &Reservoir) -> u64
+    ensures last { (events : List TheEvent) → AreBefore events reservoir.now → result ≡ last_time events }
+    ensures time { 0 < count_in reservoir.now → time_of reservoir.now ≡ result }
+{
+    match reservoir.last_time() {
+        None => 0,
+        Some(last) => last,
+    }
+}
+
+/// Whether an event of that time is late behind a last one of the other time: earlier by more than the
+/// grace. A last time that no row may have is one of a damaged log, and nothing is moved to it.
+#[tactic(auto, using(crate::proofs::Lines::late_by))]
+fn is_late(time: u64, last: u64, grace: u64) -> bool
+    ensures late { last ≤ 1000000000000000 → result ≡ nat_lt (time + grace) last }
+    ensures small { result ≡ false → time < last → last ≤ 1000000000000000 }
+{
+    if last > MOST_TIME {
+        return time < last;
+    }
+    last.saturating_sub(time) > grace
+}
+
+/// Decides on the event of a row: whether it is late, or one too many, or is accepted, with its own time or
+/// the last one.
+fn judge(reservoir: &Reservoir, most: u64, grace: u64, event: Event) -> Decision
+    requires fits { IsEventOf (base reservoir.now).shape.fields event }
+    ensures says { (events : List TheEvent) → AreBefore events reservoir.now → as_verdict result ≡ verdict_of most grace events (Ok event) }
+    ensures accepts { most ≡ (base reservoir.now).limit → IfAccepted result (Follows reservoir.now event.offset) }
+{
+    let last = last_of(reservoir);
+    if is_late(event.time, last, grace) {
+        return Decision::Refused(Reply::Late);
+    }
+    if reservoir.count() >= most {
+        return Decision::Refused(Reply::Full);
+    }
+    if event.time < last {
+        let mut event = event;
+        event.time = last;
+        return Decision::Accepted {
+            event,
+            is_moved: true,
+        };
+    }
+    Decision::Accepted {
+        event,
+        is_moved: false,
     }
 }
 
@@ -140,41 +204,20 @@ impl<T: Table> Session<T> {
     fn decide(&self, offset: u64, line: &[u8]) -> Result<Decision, Memory>
         requires one_line { list_any (λ byte. byte == 10) line.now ≡ false }
         requires small { offset < 2 ^ 62 }
-        ensures says { (events : List TheEvent) → IsRising events → time_of self.now.reservoir ≡ last_time events → length events ≡ count_in self.now.reservoir →
-            IfOk result (λ decision. as_verdict decision ≡ verdict_of (base self.now.reservoir).limit events (or_reply (row_of (base self.now.reservoir).shape.fields offset line.now))) }
-        ensures fits { IfOk result (λ decision. IfAccepted decision (λ event. IsEventOf (base self.now.reservoir).shape.fields event)) }
-        ensures placed { IfOk result (λ decision. IfAccepted decision (λ event. event.offset ≡ offset)) }
-        ensures in_time { IfOk result (λ decision. IfAccepted decision (λ event. 0 < count_in self.now.reservoir → time_of self.now.reservoir ≤ event.time)) }
-        ensures below { IfOk result (λ decision. IfAccepted decision (λ event. count_in self.now.reservoir < (base self.now.reservoir).limit)) }
+        ensures says { (events : List TheEvent) → AreBefore events self.now.reservoir →
+            IfOk result (λ decision. as_verdict decision ≡ verdict_of (base self.now.reservoir).limit self.now.grace events (or_reply (row_of (base self.now.reservoir).shape.fields offset line.now))) }
+        ensures accepts { IfOk result (λ decision. IfAccepted decision (Follows self.now.reservoir offset)) }
     {
-        let event = match read_row(self.alloc, &self.schema, offset, line) {
-            Ok(event) => event,
-            Err(RowFault::Memory) => return Err(Memory),
-            Err(fault) => return Ok(Decision::Refused(row_reply(fault))),
-        };
-        if self.is_late(event.time) {
-            return Ok(Decision::Refused(Reply::Late));
-        }
-        if self.reservoir.count() >= self.most {
-            return Ok(Decision::Refused(Reply::Full));
-        }
-        Ok(Decision::Accepted(event))
-    }
-
-    /// Whether an event has a greater time than that one.
-    fn is_late(&self, time: u64) -> bool
-        ensures late { (events : List TheEvent) → IsRising events → time_of self.now.reservoir ≡ last_time events → length events ≡ count_in self.now.reservoir →
-            result ≡ list_any (λ x. nat_lt time x.time) events }
-        ensures in_time { result ≡ false → 0 < count_in self.now.reservoir → time_of self.now.reservoir ≤ time }
-    {
-        match self.reservoir.last_time() {
-            None => false,
-            Some(last) => time < last,
+        match read_row(self.alloc, &self.schema, offset, line) {
+            Ok(event) => Ok(judge(&self.reservoir, self.most, self.grace, event)),
+            Err(RowFault::Memory) => Err(Memory),
+            Err(fault) => Ok(Decision::Refused(row_reply(fault))),
         }
     }
 
     /// Decides on a cleaned line, and answers it; an accepted one is answered over all events, itself
-    /// among them. Where there is no room for its event, all events are stored first. A line that isn't
+    /// among them. One that is earlier than the last event, by no more than the grace, is accepted with the
+    /// last time in place of its own. Where there is no room for its event, all events are stored first. A line that isn't
     /// accepted touches nothing. Any refusal ends the session: each later call is refused with `Ended`,
     /// and touches nothing.
     pub fn line<H: Host, L: Ledger>(
@@ -218,7 +261,7 @@ impl<T: Table> Session<T> {
         // Where there is room, no file is written.
         ensures roomy { length (opened self.old.reservoir) < room_of self.old.reservoir → LeavesAll H.now H.may H.clock H.since H.said host.old host.new × (base self.new.reservoir ≡ base self.old.reservoir) }
 
-        ensures refused { IfOk result (λ reply. ((answers : List TheAnswer) × (reply ≡ Reply.Answered answers)) ⊎ ((self.new ≡ self.old) × (host.new ≡ host.old) × (steps.new ≡ steps.old))) }
+        ensures refused { IfOk result (λ reply. HasAnswers reply ⊎ ((self.new ≡ self.old) × (host.new ≡ host.old) × (steps.new ≡ steps.old))) }
         ensures damaged { (p : ℕ) → IsErrOf result (TaskFault.Damaged p) → ForSome (H.now host.new) (λ v. IsIllegal (base self.new.reservoir).shape.fields p (v (base self.new.reservoir).file)) }
         ensures disk { IsErrOf result TaskFault.Disk → Rose (H.disk_faults host.old) (H.disk_faults host.new) }
         ensures table { IsErrOf result TaskFault.Table → Rose (T.faults self.old.engine.table) (T.faults self.new.engine.table) }
@@ -227,6 +270,7 @@ impl<T: Table> Session<T> {
         ensures goes { OnOk result (self.new.ended ≡ false) }
         ensures ends { OnErr result (self.new.ended ≡ true) }
         ensures stays { (self.new.texts ≡ self.old.texts) × (self.new.keep ≡ self.old.keep) × (self.new.saved ≡ self.old.saved) }
+        ensures grace { self.new.grace ≡ self.old.grace }
         ensures log { ((base self.new.reservoir).shape ≡ (base self.old.reservoir).shape) × ((base self.new.reservoir).file ≡ (base self.old.reservoir).file) }
         ensures rooms { (room_of self.new.reservoir ≡ room_of self.old.reservoir) × ((cache_of self.new.reservoir).cap ≡ (cache_of self.old.reservoir).cap) × ((base self.new.reservoir).limit ≡ (base self.old.reservoir).limit) }
         ensures rows { TableKept T.tells T.faults self.old.engine.table self.new.engine.table }
@@ -238,8 +282,8 @@ impl<T: Table> Session<T> {
         if self.ended {
             return Err(TaskFault::Ended);
         }
-        let event = match self.decide(offset, line) {
-            Ok(Decision::Accepted(event)) => event,
+        let (event, is_moved) = match self.decide(offset, line) {
+            Ok(Decision::Accepted { event, is_moved }) => (event, is_moved),
             Ok(Decision::Refused(reply)) => return Ok(reply),
             Err(Memory) => {
                 self.ended = true;
@@ -250,7 +294,7 @@ impl<T: Table> Session<T> {
         match take_in(&mut self.reservoir, &mut self.engine, host, event, steps) {
             Ok(answers) => {
                 self.ended = false;
-                Ok(Reply::Answered(answers))
+                Ok(reply_with(answers, is_moved))
             }
             Err(fault) => Err(fault),
         }
@@ -263,6 +307,7 @@ impl<T: Table> Session<T> {
     {
         match reply {
             Reply::Answered(answers) => self.engine.reuse(answers),
+            Reply::Moved(answers) => self.engine.reuse(answers),
             _ => {}
         }
     }

@@ -90,6 +90,7 @@ impl<T: Table> Session<T> {
         ensures empty { IfOk result (λ r. opened r.0.reservoir ≡ []) }
         ensures going { IfOk result (λ r. r.0.ended ≡ false) }
         ensures rooms { IfOk result (λ r. (room_of r.0.reservoir ≡ plan.now.room.chunk) × ((cache_of r.0.reservoir).cap ≡ plan.now.room.cache) × ((base r.0.reservoir).limit ≡ plan.now.room.limit)) }
+        ensures grace { IfOk result (λ r. r.0.grace ≡ plan.now.grace) }
         ensures log { IfOk result (λ r. ((base r.0.reservoir).shape ≡ plan.now.schema) × ((base r.0.reservoir).file ≡ 2)) }
         ensures numbers { IfOk result (λ r. (r.1.next ≡ next_of r.0.reservoir) × (r.1.count ≡ count_in r.0.reservoir) × (r.1.from ≡ r.0.saved)) }
         ensures reaches { IfOk result (λ r. ReachesEnd (log_of r.0.reservoir) (H.now host.new)) }
@@ -99,7 +100,10 @@ impl<T: Table> Session<T> {
         ensures out_faults { H.out_faults host.new ≡ H.out_faults host.old }
     {
         match open_store(alloc, host, plan, table, steps) {
-            Ok((opened, resumed)) => Ok((Session::new(alloc, plan.room.limit, opened), resumed)),
+            Ok((opened, resumed)) => Ok((
+                Session::new(alloc, plan.room.limit, plan.grace, opened),
+                resumed,
+            )),
             Err(refused) => Err(refused),
         }
     }

@@ -109,6 +109,7 @@ impl<T: Table> Session<T> {
         ensures written { OnOk result ((self.new.keep ≡ Some (other_of self.old.keep)) ⊎ IsSaved self.old) }
         ensures idle { (slot : ℕ) → self.old.ended ≡ false → self.old.keep ≡ Some slot → self.old.saved ≡ count_in self.old.reservoir → opened self.old.reservoir ≡ [] →
             (result ≡ Ok self.old.saved) × (self.new ≡ self.old) × (host.new ≡ host.old) }
+        ensures grace { self.new.grace ≡ self.old.grace }
         ensures log { ((base self.new.reservoir).shape ≡ (base self.old.reservoir).shape) × ((base self.new.reservoir).file ≡ (base self.old.reservoir).file) }
         ensures rooms { (room_of self.new.reservoir ≡ room_of self.old.reservoir) × ((cache_of self.new.reservoir).cap ≡ (cache_of self.old.reservoir).cap) × ((base self.new.reservoir).limit ≡ (base self.old.reservoir).limit) }
         ensures rows { TableKept T.tells T.faults self.old.engine.table self.new.engine.table }
@@ -167,6 +168,7 @@ impl<T: Table> Session<T> {
         ensures placed { (plan : Planned) → IsPlaced plan (H.now host.old) (H.may host.old) self.old.reservoir self.old.engine → OnOk result (IsPlaced plan (H.now host.new) (H.may host.new) self.new.reservoir self.new.engine) }
         ensures log { LogStays (H.now host.old) (H.now host.new) (H.may host.old) (H.may host.new) }
         ensures reservoir { self.new.reservoir ≡ self.old.reservoir }
+        ensures grace { self.new.grace ≡ self.old.grace }
         ensures rows { TableKept T.tells T.faults self.old.engine.table self.new.engine.table }
         ensures count { IfOk result (λ count. count ≡ count_in self.new.reservoir) }
         ensures saved { OnOk result (self.new.saved ≡ count_in self.new.reservoir) }

@@ -6,3 +6,4 @@ pub mod Progress
 pub mod Quiet
 pub mod Runs
 pub mod Starting
+pub mod Wholes

@@ -104,3 +104,7 @@ below_count queries events n told is = slice_get_within events n told.event is.e
 pub if_err_of : {T E : Type 0} (result : Result T E) (P Q : E → Type 0) → IfErr result P → ((x : E) → P x → Q x) → IfErr result Q
 if_err_of (Ok x) P Q has follows = tt
 if_err_of (Err x) P Q has follows = follows x has
+
+pub if_err_at : {T E : Type 0} (result : Result T E) (P : E → Type 0) → IfErr result P → (x : E) → result ≡ Err x → P x
+if_err_at (Ok y) P has x is = absurd cc
+if_err_at (Err y) P has x is = let same : y ≡ x = cc in subst P same has

@@ -12,14 +12,14 @@ use Rattle.rg_host.specs.Puts.{IsPrefix}
 use Rattle.rg_host.proofs.Endings.{ended-append}
 use Rattle.rg_replay.specs.declared.fault.ReplayFault.{ReplayFault}
 use Rattle.rg_replay.specs.declared.fault.ReplayFault.TheVariants.{Write}
-use Rattle.rg_replay.specs.Playing.{StopsIn, IsExpected, PutsLines, Answered}
+use Rattle.rg_replay.specs.Playing.{StopsIn, IsExpected, PutsLines, AreAdded, Gathered, Answered}
 use Rattle.rg_replay.specs.Replay.{line_at, lines_before, replay_lines, end_line, replay_text}
 use Rattle.rg_replay.proofs.Lines.{text_split}
 
--- the lines of the first so many events were put, and this holds
-pub record Progress (queries : List Asked) (first : ℕ) (events : List Event) (number : ℕ) (Put : List ℕ → Type 0) (Then : Type 0) : Type 0 where
+-- the lines of the first so many events were put or are gathered, and this holds
+pub record Progress (queries : List Asked) (first : ℕ) (events : List Event) (number : ℕ) (Put : List ℕ → Type 0) (gathered : List ℕ) (Then : Type 0) : Type 0 where
   pub within : number ≤ length events
-  pub puts : Put (ended (lines_before queries first events number))
+  pub lines : Gathered (lines_before queries first events number) Put gathered
   pub goes : Then
 
 -- a prefix of some lines' bytes behind others is one of both, and of more
@@ -33,56 +33,75 @@ prefix_behind before line rest put prefix = (
       ∙ sym (ended-append (before ++ line) rest),
 )
 
-module _ (queries : List Asked) (first : ℕ) (events : List Event) (number : ℕ) (Old Step New : List ℕ → Type 0) (join : (x y : List ℕ) → Old x → Step y → New (x ++ y)) (Then : Type 0) (at : Progress queries first events number Old Then) where
+-- what was put and gathered of some lines, and then more
+module _ (Old Step New : List ℕ → Type 0) (join : (x y : List ℕ) → Old x → Step y → New (x ++ y)) (lines : List (List ℕ)) (before : List ℕ) (at : Gathered lines Old before) where
+  -- nothing was put since
+  pub still : Step [] → New (ended at.out)
+  still step = subst New (append-nil (ended at.out)) (join (ended at.out) [] at.puts step)
+
+  -- those that were gathered stand with these behind the ones that were put
+  all_with : (more : List (List ℕ)) → at.out ++ (at.held ++ more) ≡ lines ++ more
+  all_with more = sym (append_assoc at.out at.held more) ∙ ap (λ l. l ++ more) at.both
+
+  pub all_out : (more : List (List ℕ)) → Step (ended (at.held ++ more)) → New (ended (lines ++ more))
+  all_out more step = subst New (sym (ended-append at.out (at.held ++ more)) ∙ ap ended (all_with more)) (join (ended at.out) (ended (at.held ++ more)) at.puts step)
+
+  pub added : (more : List (List ℕ)) (gathered : List ℕ) → AreAdded (at.held ++ more) Step gathered → Gathered (lines ++ more) New gathered
+  added more gathered (inl kept) = record { out = at.out; held = at.held ++ more; both = all_with more; puts = still kept.0; text_is = kept.1 }
+  added more gathered (inr put) = record { out = lines ++ more; held = []; both = append-nil (lines ++ more); puts = all_out more put.0; text_is = put.1 }
+
+  -- it stopped before more of a text came
+  pub stopped_at : (text rest : List (List ℕ)) (fault : ReplayFault) → text ≡ lines ++ rest → Step [] → StopsIn text New fault
+  stopped_at text rest fault split step = (ended at.out, still step, inl (record { lines = at.out; more = at.held ++ rest; of_text = all_with rest ∙ sym split; is = sym (append-nil (ended at.out)) }))
+
+  -- or in a put of what was gathered and more
+  pub cut_in : (text more rest : List (List ℕ)) (fault : ReplayFault) → text ≡ (lines ++ more) ++ rest → fault ≡ Write → (put : List ℕ) → IsPrefix put (ended (at.held ++ more)) → Step put → StopsIn text New fault
+  cut_in text more rest fault split write put prefix step =
+      (ended at.out ++ put, join (ended at.out) put at.puts step, inr (write, subst (λ l. IsPrefix (ended at.out ++ put) (ended l)) (ap (λ l. l ++ rest) (all_with more) ∙ sym split) (prefix_behind at.out (at.held ++ more) rest put prefix)))
+
+module _ (queries : List Asked) (first : ℕ) (events : List Event) (number : ℕ) (Old Step New : List ℕ → Type 0) (join : (x y : List ℕ) → Old x → Step y → New (x ++ y)) (before : List ℕ) (Then : Type 0) (at : Progress queries first events number Old before Then) where
   abbrev front : List (List ℕ)
   front = lines_before queries first events number
 
-  -- the line of the next event was put
-  pub next : (then : ℕ) (After : Type 0) → then ≡ number + 1 → then ≤ length events → Step (ended (line_at queries first events number)) → After → Progress queries first events then New After
-  next then After is within step after =
+  -- the line of the next event was put or gathered
+  pub next : (then : ℕ) (After : Type 0) (gathered : List ℕ) → then ≡ number + 1 → then ≤ length events → AreAdded (at.lines.held ++ line_at queries first events number) Step gathered → After → Progress queries first events then New gathered After
+  next then After gathered is within step after =
       let one : then ≡ suc number = omega (arith, is) in
       record {
         within = within;
-        puts = subst New (sym (ap (λ m. ended (lines_before queries first events m)) one ∙ ended-append front (line_at queries first events number))) (join (ended front) (ended (line_at queries first events number)) at.puts step);
+        lines = subst (λ m. Gathered (lines_before queries first events m) New gathered) (sym one) (added Old Step New join front before at.lines (line_at queries first events number) gathered step);
         goes = after;
       }
 
-  -- all were put
-  pub finish : number ≡ length events → Step [] → New (ended (replay_lines queries first events))
-  finish is step = subst New (append-nil (ended front) ∙ ap (λ m. ended (lines_before queries first events m)) is) (join (ended front) [] at.puts step)
+  -- all were put or are gathered
+  pub finish : (gathered : List ℕ) → number ≡ length events → Step [] → gathered ≡ ended at.lines.held → Gathered (replay_lines queries first events) New gathered
+  finish gathered is step same = subst (λ m. Gathered (lines_before queries first events m) New gathered) is
+      (record { out = at.lines.out; held = at.lines.held; both = at.lines.both; puts = still Old Step New join front before at.lines step; text_is = same })
 
   -- it stopped before the next line
   pub stop : (fault : ReplayFault) → Step [] → StopsIn (replay_text queries first events) New fault
   stop fault step =
       let split = text_split queries first events number at.within in
-      (ended front, subst New (append-nil (ended front)) (join (ended front) [] at.puts step), inl (record { lines = front; more = split.0; of_text = sym split.1; is = sym (append-nil (ended front)) }))
+      stopped_at Old Step New join front before at.lines (replay_text queries first events) split.0 fault split.1 step
 
-  -- or within it
-  pub cut : (fault : ReplayFault) → fault ≡ Write → number < length events → (put : List ℕ) → IsPrefix put (ended (line_at queries first events number)) → Step put → StopsIn (replay_text queries first events) New fault
+  -- or in a put of those up to it
+  pub cut : (fault : ReplayFault) → fault ≡ Write → number < length events → (put : List ℕ) → IsPrefix put (ended (at.lines.held ++ line_at queries first events number)) → Step put → StopsIn (replay_text queries first events) New fault
   cut fault write below put prefix step =
       let split = text_split queries first events (suc number) (omega (arith, below)) in
-      (ended front ++ put, join (ended front) put at.puts step, inr (write, subst (λ l. IsPrefix (ended front ++ put) (ended l)) (sym split.1) (prefix_behind front (line_at queries first events number) split.0 put prefix)))
+      cut_in Old Step New join front before at.lines (replay_text queries first events) (line_at queries first events number) split.0 fault split.1 write put prefix step
 
--- behind all lines, the last line is put, or a prefix of it
-module _ (queries : List Asked) (first : ℕ) (events : List Event) (Old Step New : List ℕ → Type 0) (join : (x y : List ℕ) → Old x → Step y → New (x ++ y)) (puts : Old (ended (replay_lines queries first events))) where
+-- behind all lines, what is gathered is put with the last line, or a prefix of both
+module _ (queries : List Asked) (first : ℕ) (events : List Event) (Old Step New : List ℕ → Type 0) (join : (x y : List ℕ) → Old x → Step y → New (x ++ y)) (before : List ℕ) (at : Gathered (replay_lines queries first events) Old before) where
   abbrev all : List (List ℕ)
   all = replay_lines queries first events
 
-  pub whole : Step (ended (end_line events ∷ [])) → New (ended (replay_text queries first events))
-  whole step = subst New (sym (ended-append all (end_line events ∷ []))) (join (ended all) (ended (end_line events ∷ [])) puts step)
+  abbrev text : List (List ℕ)
+  text = replay_text queries first events
 
-  pub stop_last : (fault : ReplayFault) → Step [] → StopsIn (replay_text queries first events) New fault
-  stop_last fault step = (ended all, subst New (append-nil (ended all)) (join (ended all) [] puts step), inl (record { lines = all; more = end_line events ∷ []; of_text = refl; is = sym (append-nil (ended all)) }))
-
-  pub cut_last : (fault : ReplayFault) → fault ≡ Write → (put : List ℕ) → IsPrefix put (ended (end_line events ∷ [])) → Step put → StopsIn (replay_text queries first events) New fault
-  cut_last fault write put prefix step =
-      (ended all ++ put, join (ended all) put puts step, inr (write, subst (λ l. IsPrefix (ended all ++ put) (ended l)) (append-nil (all ++ end_line events ∷ [])) (prefix_behind all (end_line events ∷ []) [] put prefix)))
-
-  -- whichever of these
-  pub last_put : (result : Result Unit ReplayFault) → PutsLines (end_line events ∷ []) Step result → Answered (replay_text queries first events) (replay_text queries first events) New ⊤ result
-  last_put (Ok x) step = (whole step, tt)
-  last_put (Err fault) (inl memory) = (inr (inl memory.0), stop_last fault memory.1)
-  last_put (Err fault) (inr write) = (inr (inr write.0), cut_last fault write.0 write.1.0 write.1.1 write.1.2)
+  pub last_put : (result : Result Unit ReplayFault) → PutsLines (at.held ++ end_line events ∷ []) Step result → Answered (replay_text queries first events) (replay_text queries first events) New ⊤ result
+  last_put (Ok x) step = (all_out Old Step New join all before at (end_line events ∷ []) step, tt)
+  last_put (Err fault) (inl memory) = (inr (inl memory.0), stopped_at Old Step New join all before at text (end_line events ∷ []) fault refl memory.1)
+  last_put (Err fault) (inr write) = (inr (inr write.0), cut_in Old Step New join all before at text (end_line events ∷ []) [] fault (sym (append-nil text)) write.0 write.1.0 write.1.1 write.1.2)
 
 -- nothing was put of a text
 pub none_put : (text : List (List ℕ)) (Put : List ℕ → Type 0) (fault : ReplayFault) → Put [] → StopsIn text Put fault
@@ -91,6 +110,11 @@ none_put text Put fault none = ([], none, inl (record { lines = []; more = text;
 -- the last line's numbers
 pub end_is : (events : List Event) (n m : ℕ) → n ≡ next_offset events → m ≡ length events → mark_line (Finished n m) ≡ end_line events
 end_is events n m next count = ap (λ k. mark_line (Finished k m)) next ∙ ap (λ k. mark_line (Finished (next_offset events) k)) count
+
+-- lines that were added behind nothing
+pub added_behind : (lines : List (List ℕ)) (Step New : List ℕ → Type 0) (gathered : List ℕ) → ((x : List ℕ) → Step x → New x) → AreAdded lines Step gathered → AreAdded lines New gathered
+added_behind lines Step New gathered behind (inl kept) = inl (behind [] kept.0, kept.1)
+added_behind lines Step New gathered behind (inr put) = inr (behind (ended lines) put.0, put.1)
 
 -- what was put behind nothing
 pub answered_behind : (lines text : List (List ℕ)) (Step New : List ℕ → Type 0) (Then : Type 0) → ((x : List ℕ) → Step x → New x) → (result : Result Unit ReplayFault) → Answered lines text Step Then result → Answered lines text New Then result

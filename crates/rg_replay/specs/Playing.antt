@@ -1,5 +1,5 @@
 -- A replay over a reservoir and its host.
-use Rattle.std.specs.Prelude.{◌≡◌, ◌⊎◌, ℕ, ◌+◌, ◌≤◌, ◌<◌, Bool, false, List, [], length, replicate, Option, Some, None, Result, Ok, Err, IfOk, IfErr, IsTrue}
+use Rattle.std.specs.Prelude.{◌≡◌, ◌⊎◌, ℕ, ◌+◌, ◌≤◌, ◌<◌, Bool, false, List, [], ◌++◌, length, replicate, Option, Some, None, Result, Ok, Err, IfOk, IfErr, IsTrue}
 use Rattle.std.specs.Option.{ForSome}
 use Rattle.rg_bytes.specs.Counts.{Rose}
 use Rattle.rg_event.specs.Shapes.{Shape}
@@ -78,6 +78,11 @@ pub record LeavesStore {H : Type 0} (now : H → Option Image) (may : H → Imag
   pub disk : disk_faults old ≤ disk_faults new
   pub out : out_faults old ≤ out_faults new
 
+-- no file was written, and what stopped a replay of any log has its cause
+pub record EndsOver {H : Type 0} (now : H → Option Image) (may : H → Image → Type 0) (clock : H → ℕ) (since : H → ℕ → Moment → Type 0) (disk_faults out_faults : H → ℕ) (shape : Shape) (result : Result Unit ReplayFault) (old new : H) : Type 0 where
+  pub leaves : LeavesStore now may clock since disk_faults out_faults old new
+  pub cause : IfErr result (λ fault. IsCausedOver now disk_faults out_faults shape fault old new)
+
 -- memory ran out, or a put failed and was counted
 abbrev pub IsPutFault : {H : Type 0} → (H → ℕ) → ReplayFault → H → H → Type 0
 IsPutFault out_faults fault old new = (fault ≡ Memory) ⊎ ((fault ≡ Write) × Rose (out_faults old) (out_faults new))
@@ -87,11 +92,29 @@ abbrev pub PutsLines : List (List ℕ) → (List ℕ → Type 0) → Result Unit
 PutsLines lines Put (Ok x) = Put (ended lines)
 PutsLines lines Put (Err fault) = ((fault ≡ Memory) × Put []) ⊎ ((fault ≡ Write) × ((put : List ℕ) × IsPrefix put (ended lines) × Put put))
 
--- what a turn comes to: the line of the next event was put, or there was none; or it stopped before that line, or within it
-pub record Turned (queries : List Asked) (first : ℕ) (events : List Event) (number : ℕ) (Put : List ℕ → Type 0) (Then : Type 0) (result : Result Bool ReplayFault) : Type 0 where
-  pub more : IfOk result (λ more. IsTrue more → Put (ended (line_at queries first events number)) × Then)
-  pub last : IfOk result (λ more. more ≡ false → (number ≡ length events) × Put [] × Then)
-  pub stopped : IfErr result (λ fault. (IsFromOutside fault × Put []) ⊎ ((fault ≡ Write) × (number < length events) × ((put : List ℕ) × IsPrefix put (ended (line_at queries first events number)) × Put put)))
+-- these lines are gathered, or were put
+abbrev pub AreAdded : List (List ℕ) → (List ℕ → Type 0) → List ℕ → Type 0
+AreAdded lines Put gathered = (Put [] × (gathered ≡ ended lines)) ⊎ (Put (ended lines) × (gathered ≡ []))
+
+-- the same; or a put failed and a prefix of them was put; or memory ran out and nothing was
+abbrev pub AddsLines : List (List ℕ) → (List ℕ → Type 0) → List ℕ → Result Unit ReplayFault → Type 0
+AddsLines lines Put gathered (Ok x) = AreAdded lines Put gathered
+AddsLines lines Put gathered (Err fault) = ((fault ≡ Memory) × Put []) ⊎ ((fault ≡ Write) × ((put : List ℕ) × IsPrefix put (ended lines) × Put put))
+
+-- of these lines some were put, and those behind them are gathered
+pub record Gathered (lines : List (List ℕ)) (Put : List ℕ → Type 0) (gathered : List ℕ) : Type 0 where
+  pub out : List (List ℕ)
+  pub held : List (List ℕ)
+  pub both : out ++ held ≡ lines
+  pub puts : Put (ended out)
+  pub text_is : gathered ≡ ended held
+
+-- what a turn comes to, where these lines are gathered: the line of the next event was added to them, or there was none; or it stopped before that line, or
+-- in a put of these with it
+pub record Turned (queries : List Asked) (first : ℕ) (events : List Event) (number : ℕ) (held : List (List ℕ)) (Put : List ℕ → Type 0) (gathered : List ℕ) (Then : Type 0) (result : Result Bool ReplayFault) : Type 0 where
+  pub more : IfOk result (λ more. IsTrue more → AreAdded (held ++ line_at queries first events number) Put gathered × Then)
+  pub last : IfOk result (λ more. more ≡ false → (number ≡ length events) × Put [] × (gathered ≡ ended held) × Then)
+  pub stopped : IfErr result (λ fault. (IsFromOutside fault × Put []) ⊎ ((fault ≡ Write) × (number < length events) × ((put : List ℕ) × IsPrefix put (ended (held ++ line_at queries first events number)) × Put put)))
 
 -- whole lines of a text were put, or, where a put failed, a prefix of it
 abbrev pub StopsIn : List (List ℕ) → (List ℕ → Type 0) → ReplayFault → Type 0
@@ -105,6 +128,11 @@ IsExpected fault = (fault ≡ Disk) ⊎ (fault ≡ Memory) ⊎ (fault ≡ Write)
 abbrev pub Answered : List (List ℕ) → List (List ℕ) → (List ℕ → Type 0) → Type 0 → Result Unit ReplayFault → Type 0
 Answered lines text Put Then (Ok x) = Put (ended lines) × Then
 Answered lines text Put Then (Err fault) = IsExpected fault × StopsIn text Put fault
+
+-- all these lines were put or are gathered, and then this holds; or it stopped within a text
+abbrev pub Answering : List (List ℕ) → List (List ℕ) → (List ℕ → Type 0) → List ℕ → Type 0 → Result Unit ReplayFault → Type 0
+Answering lines text Put gathered Then (Ok x) = Gathered lines Put gathered × Then
+Answering lines text Put gathered Then (Err fault) = IsExpected fault × StopsIn text Put fault
 
 -- the spot of event 0
 abbrev pub start_of : Base → Spot

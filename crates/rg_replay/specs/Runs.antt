@@ -1,21 +1,26 @@
 -- The lines that a run puts for the payments that it accepts.
-use Rattle.std.specs.Prelude.{ℕ, zero, suc, ◌+◌, List, [], ◌∷◌, ◌++◌, get_or, Option, Some, None}
+use Rattle.std.specs.Prelude.{ℕ, zero, suc, ◌+◌, List, [], ◌∷◌, ◌++◌, length, drop, codes, decimal, get_or, Option, Some, None}
 use Rattle.rg_event.specs.declared.event.Event.{Event}
 use Rattle.rg_event.specs.Rising.{next_offset}
 use Rattle.rg_course.specs.Verdicts.{Verdict}
-use Rattle.rg_course.specs.Verdicts.Verdict.{accepted}
+use Rattle.rg_course.specs.Verdicts.Verdict.{accepted, moved}
 use Rattle.rg_course.specs.Accepted.{verdict_from, events_before}
 use Rattle.rg_course.specs.Output.{Terms, put_at}
 
--- the first of these lines, where the verdict is that an event is accepted
-abbrev pub reply_if : Option Verdict → List (List ℕ) → List (List ℕ)
-reply_if (Some (accepted e)) (line ∷ lines) = line ∷ []
-reply_if verdict lines = []
+-- the line of a reply that begins with the word `moved`, with `ok` in place of it
+abbrev pub with_ok : ℕ → List ℕ → List ℕ
+with_ok offset line = decimal offset ++ (codes " ok" ++ drop (length (decimal offset ++ codes " moved")) line)
+
+-- the first of these lines, where the verdict is that an event is accepted; with `ok`, where it is moved: that isn't stored
+abbrev pub reply_if : ℕ → Option Verdict → List (List ℕ) → List (List ℕ)
+reply_if offset (Some (accepted e)) (line ∷ lines) = line ∷ []
+reply_if offset (Some (moved e)) (line ∷ lines) = with_ok offset line ∷ []
+reply_if offset verdict lines = []
 
 -- the reply to line i of an input, where its event is accepted: the first line that the run puts for it
 abbrev pub answered_at : Terms → List Event → ℕ → List (Option (List ℕ)) → ℕ → List (List ℕ)
 answered_at terms held first lines i =
-    reply_if (verdict_from terms.basis (next_offset held) (events_before terms.basis held first lines i) (first + i) (get_or lines i None)) (put_at terms held first lines i)
+    reply_if (first + i) (verdict_from terms.basis (next_offset held) (events_before terms.basis held first lines i) (first + i) (get_or lines i None)) (put_at terms held first lines i)
 
 -- the same of the first i lines
 abbrev pub answered_before : Terms → List Event → ℕ → List (Option (List ℕ)) → ℕ → List (List ℕ)

@@ -7,8 +7,8 @@ ghost use Rattle.rg_replay.specs.Replay.{replay_lines};
 ghost use Rattle.rg_replay.specs.Runs.{answered_before};
 
 /// A replay of what a run leaves puts for the payments that this run accepted just the lines that the run put
-/// for them, byte by byte: for all payments where its store was empty, and else from the store's next offset
-/// on.
+/// for them, byte by byte, but with `ok` for those that were moved: for all payments where its store was empty,
+/// and else from the store's next offset on.
 #[tactic(auto, using(crate::proofs::Runs::same_as_run, crate::proofs::Runs::same_from_nothing))]
 pub fn law_same_as_run()
     ensures same_as_run { (terms : Terms) (lines : List (Option (List ℕ))) →

@@ -11,9 +11,11 @@ mod replaying;
 mod stepping;
 mod storing;
 mod turning;
+mod whole;
 mod writing;
 
 pub use fault::ReplayFault;
 pub use law::law_same_as_run;
 pub use replaying::replay;
 pub use stepping::{Told, step};
+pub use whole::law_whole_text;

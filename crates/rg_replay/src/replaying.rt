@@ -13,7 +13,7 @@ ghost use Rattle.rg_reservoir.specs.Chain.{IsIllegal};
 ghost use Rattle.rg_reservoir.specs.Kept.{base, opened, all_events, IsSound};
 ghost use Rattle.rg_engine.specs.Feeding.{Serves};
 ghost use Rattle.rg_plan.specs.Plans.{plan_for};
-ghost use Rattle.rg_replay.specs.Playing.{IsPlaced, IsPlaying, IsReplayable, IsCaused, IsCausedOver, LeavesStore, StopsIn, IsExpected, Answered, HasBegun, HasRead, IsReadFor, start_of};
+ghost use Rattle.rg_replay.specs.Playing.{IsPlaced, IsPlaying, IsReplayable, IsCaused, EndsOver, LeavesStore, StopsIn, IsExpected, Answered, Answering, HasBegun, HasRead, IsReadFor, start_of};
 ghost use Rattle.rg_replay.specs.Replay.{replay_lines, replay_text};
 
 use crate::fault::ReplayFault;
@@ -51,33 +51,61 @@ pub(crate) fn begin(
     }
 }
 
-/// Answers all events of a reservoir, from the first one on.
+/// Answers all events of a reservoir, from the first one on. Lines that aren't put yet are gathered in `text`.
 pub(crate) fn answer_all<H: Host, L: Ledger>(
     alloc: Global,
     host: &mut H,
     reservoir: &mut Reservoir,
     engine: &mut Engine<MemTable>,
     first: u64,
-    line: &mut Vec<u8>,
+    text: &mut Vec<u8>,
     steps: &mut Steps<L>,
 ) -> Result<(), ReplayFault>
+    requires none { text.old.items ≡ [] }
     requires placed { IsPlaced reservoir.old engine.old (start_of (base reservoir.old)) }
     ensures answered { (queries : List Asked) (events : List TheEvent) →
         IsPlaying queries events (H.now host.old) (H.may host.old) (⟦<MemTable as Table>⟧.tells engine.old.table) (⟦<MemTable as Table>⟧.cell engine.old.table) reservoir.old engine.old (start_of (base reservoir.old)) →
-        Answered (replay_lines queries first events) (replay_text queries first events) (Puts H.said H.clock H.since host.old host.new) (HasRead events (H.now host.new) (H.may host.new) reservoir.new) result }
+        Answering (replay_lines queries first events) (replay_text queries first events) (Puts H.said H.clock H.since host.old host.new) text.new.items (HasRead events (H.now host.new) (H.may host.new) reservoir.new) result }
     ensures cause { IfErr result (λ fault. IsCaused H.now H.disk_faults H.out_faults (base reservoir.old) fault host.old host.new) }
     ensures leaves { LeavesStore H.now H.may H.clock H.since H.disk_faults H.out_faults host.old host.new }
 {
     let mut spot = reservoir.start();
     'payments: loop {
         match turn(
-            alloc, host, reservoir, engine, &mut spot, first, line, steps,
+            alloc, host, reservoir, engine, &mut spot, first, text, steps,
         ) {
             Ok(true) => {}
             Ok(false) => return Ok(()),
             Err(fault) => return Err(fault),
         }
     }
+}
+
+/// Answers all events of a reservoir by an engine of this plan, from the first one on. Lines that aren't put yet
+/// are gathered in `text`; after a refusal they are lost.
+fn answer_by<H: Host, L: Ledger>(
+    alloc: Global,
+    host: &mut H,
+    reservoir: &mut Reservoir,
+    plan: TaskPlan,
+    first: u64,
+    text: &mut Vec<u8>,
+    steps: &mut Steps<L>,
+) -> Result<(), ReplayFault>
+    requires none { text.old.items ≡ [] }
+    requires runs { (base reservoir.old).ended ≡ false }
+    ensures answered { (queries : List Asked) (events : List TheEvent) → IsReadFor queries events plan (H.now host.old) (H.may host.old) reservoir.old →
+        Answering (replay_lines queries first events) (replay_text queries first events) (Puts H.said H.clock H.since host.old host.new) text.new.items (HasRead events (H.now host.new) (H.may host.new) reservoir.new) result }
+    ensures cause { IfErr result (λ fault. IsCaused H.now H.disk_faults H.out_faults (base reservoir.old) fault host.old host.new) }
+    ensures leaves { LeavesStore H.now H.may H.clock H.since H.disk_faults H.out_faults host.old host.new }
+{
+    let mut engine = match begin(alloc, plan, reservoir.start()) {
+        Ok(engine) => engine,
+        Err(fault) => return Err(fault),
+    };
+    let answered = answer_all(alloc, host, reservoir, &mut engine, first, text, steps);
+    drop(engine);
+    answered
 }
 
 /// Answers all events of a reservoir and puts the last line.
@@ -95,16 +123,12 @@ fn replay_opened<H: Host, L: Ledger>(
     ensures cause { IfErr result (λ fault. IsCaused H.now H.disk_faults H.out_faults (base reservoir.old) fault host.old host.new) }
     ensures leaves { LeavesStore H.now H.may H.clock H.since H.disk_faults H.out_faults host.old host.new }
 {
-    let mut engine = match begin(alloc, plan, reservoir.start()) {
-        Ok(engine) => engine,
-        Err(fault) => return Err(fault),
-    };
-    let mut line = Vec::new(alloc);
-    match answer_all(alloc, host, reservoir, &mut engine, first, &mut line, steps) {
+    let mut text = Vec::new(alloc);
+    match answer_by(alloc, host, reservoir, plan, first, &mut text, steps) {
         Ok(()) => {}
         Err(fault) => return Err(fault),
     }
-    put_end(host, &mut line, reservoir.next_offset(), reservoir.count())
+    put_end(host, &mut text, reservoir.next_offset(), reservoir.count())
 }
 
 /// Puts the answers to all events of the log in file 2 again, by the queries of a plan: for each event whose
@@ -153,7 +177,7 @@ pub fn replay<H: Host, L: Ledger>(
     replay_log(alloc, host, schema, room, plan, first, steps)
 }
 
-/// The same as `replay`, with what it promises in four clauses.
+/// The same as `replay`, with what it promises in three clauses.
 fn replay_log<H: Host, L: Ledger>(
     alloc: Global,
     host: &mut H,
@@ -170,18 +194,23 @@ fn replay_log<H: Host, L: Ledger>(
         Answered (replay_text queries first events) (replay_text queries first events) (Puts H.said H.clock H.since host.old host.new) ⊤ result }
     ensures refused { (v : Image) → H.now host.old ≡ Some v → IsOther (schema_payload schema.now) (v 2) ⊎ ((p : ℕ) × IsBadFrame (schema_payload schema.now) p (v 2)) →
         OnOk result ⊥ × Puts H.said H.clock H.since host.old host.new [] }
-    ensures cause { IfErr result (λ fault. IsCausedOver H.now H.disk_faults H.out_faults schema.now fault host.old host.new) }
-    ensures leaves { LeavesStore H.now H.may H.clock H.since H.disk_faults H.out_faults host.old host.new }
+    ensures ends { EndsOver H.now H.may H.clock H.since H.disk_faults H.out_faults schema.now result host.old host.new }
 {
     match Reservoir::view(alloc, host, schema, room) {
         Ok(Some(viewed)) => {
             let mut reservoir = viewed;
-            replay_opened(alloc, host, &mut reservoir, plan, first, steps)
+            let replayed = replay_opened(alloc, host, &mut reservoir, plan, first, steps);
+            drop(reservoir);
+            replayed
         }
         Ok(None) => {
-            let mut line = Vec::new(alloc);
-            put_end(host, &mut line, 0, 0)
+            drop(plan);
+            let mut text = Vec::new(alloc);
+            put_end(host, &mut text, 0, 0)
         }
-        Err(fault) => Err(ReplayFault::from(fault)),
+        Err(fault) => {
+            drop(plan);
+            Err(ReplayFault::from(fault))
+        }
     }
 }

@@ -1,5 +1,6 @@
 ghost use Rattle.std.specs.Prelude.{◌≡◌, ◌+◌, ◌≤◌, ◌^◌, ℕ, List, true, IfOk, IfErr, OnOk, IsTrue};
 ghost use Rattle.rg_event.specs.declared.event.Event.{Event as TheEvent};
+ghost use Rattle.rg_host.specs.Lines.{ended};
 ghost use Rattle.rg_host.specs.Puts.{Puts};
 ghost use Rattle.rg_metric.specs.Queries.{Asked};
 ghost use Rattle.rg_reservoir.specs.Kept.{base};
@@ -19,8 +20,8 @@ use rg_state::{MemTable, Table};
 use std::alloc::Global;
 use std::sync::ledger::Ledger;
 
-/// Answers the next event of a reservoir and puts its line, where its offset is at least `first`. Says
-/// whether there was one. `line` is a buffer for the line.
+/// Answers the next event of a reservoir and gathers its line, where its offset is at least `first`. Says
+/// whether there was one. What is gathered in `text` is put where it is long.
 pub(crate) fn turn<H: Host, L: Ledger>(
     alloc: Global,
     host: &mut H,
@@ -28,13 +29,13 @@ pub(crate) fn turn<H: Host, L: Ledger>(
     engine: &mut Engine<MemTable>,
     spot: &mut Spot,
     first: u64,
-    line: &mut Vec<u8>,
+    text: &mut Vec<u8>,
     steps: &mut Steps<L>,
 ) -> Result<bool, ReplayFault>
     requires placed { IsPlaced reservoir.old engine.old spot.old }
-    ensures turned { (queries : List Asked) (events : List TheEvent) →
+    ensures turned { (queries : List Asked) (events : List TheEvent) (held : List (List ℕ)) → text.old.items ≡ ended held →
         IsPlaying queries events (H.now host.old) (H.may host.old) (⟦<MemTable as Table>⟧.tells engine.old.table) (⟦<MemTable as Table>⟧.cell engine.old.table) reservoir.old engine.old spot.old →
-        Turned queries first events spot.old.number (Puts H.said H.clock H.since host.old host.new)
+        Turned queries first events spot.old.number held (Puts H.said H.clock H.since host.old host.new) text.new.items
         (IsPlaying queries events (H.now host.new) (H.may host.new) (⟦<MemTable as Table>⟧.tells engine.new.table) (⟦<MemTable as Table>⟧.cell engine.new.table) reservoir.new engine.new spot.new) result }
     ensures placed { OnOk result (IsPlaced reservoir.new engine.new spot.new) }
     ensures one { IfOk result (λ more. IsTrue more → (spot.new.number ≡ spot.old.number + 1) × (spot.new.number ≤ 2 ^ 40)) }
@@ -48,7 +49,7 @@ pub(crate) fn turn<H: Host, L: Ledger>(
         Err(fault) => return Err(fault),
     };
     let reply = Reply::Answered(answers);
-    match put_reply(host, line, first, event.offset, &reply) {
+    match put_reply(host, text, first, event.offset, &reply) {
         Ok(()) => {}
         Err(fault) => return Err(fault),
     }

@@ -4,7 +4,7 @@ use Rattle.std.specs.Fmt.{signed_decimal}
 use Rattle.rg_metric.specs.declared.answer.Answer.{Answer}
 use Rattle.rg_metric.specs.declared.answer.Answer.TheVariants.{Number, Ratio, Dash}
 use Rattle.rg_reply.specs.declared.reply.Reply.{Reply}
-use Rattle.rg_reply.specs.declared.reply.Reply.TheVariants.{Head, Done, Long, Row, Fields, Time, Value, Late, Full, Answered}
+use Rattle.rg_reply.specs.declared.reply.Reply.TheVariants.{Head, Done, Long, Row, Fields, Time, Value, Late, Full, Answered, Moved}
 use Rattle.rg_reply.specs.declared.mark.Mark.{Mark}
 use Rattle.rg_reply.specs.declared.mark.Mark.TheVariants.{Opened, Stored, Saved, Finished}
 
@@ -30,6 +30,7 @@ reply_text (Value column) = codes "value " ++ decimal column
 reply_text Late = codes "late"
 reply_text Full = codes "full"
 reply_text (Answered answers) = codes "ok" ++ answers_text answers
+reply_text (Moved answers) = codes "moved" ++ answers_text answers
 
 -- what is answered to the line with this offset
 abbrev pub reply_line : ℕ → Reply → List ℕ

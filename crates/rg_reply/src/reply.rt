@@ -24,12 +24,14 @@ pub enum Reply {
     Time,
     /// The value of that column, from 1, isn't of its kind.
     Value(u32),
-    /// An event accepted before it has a greater time.
+    /// It is earlier than the last accepted event, by more than the grace.
     Late,
     /// As many events as there may be were accepted before it.
     Full,
     /// The event was accepted.
     Answered(Answers),
+    /// The event was accepted with the last time in place of its own.
+    Moved(Answers),
 }
 
 /// Writes what is answered to the line with this offset, and LF.
@@ -71,15 +73,17 @@ fn put_reply(out: &mut Vec<u8>, reply: &Reply) -> Result<(), Memory>
         Reply::Value(column) => put_numbered(out, b"value ", u64::from(*column)),
         Reply::Late => put_bytes(out, b"late"),
         Reply::Full => put_bytes(out, b"full"),
-        Reply::Answered(answers) => put_answered(out, answers),
+        Reply::Answered(answers) => put_answered(out, b"ok", answers),
+        Reply::Moved(answers) => put_answered(out, b"moved", answers),
     }
 }
 
-fn put_answered(out: &mut Vec<u8>, answers: &Answers) -> Result<(), Memory>
-    ensures ok { OnOk result (out.new.items ≡ out.old.items ++ (codes "ok" ++ answers_text answers.now)) }
+/// Writes a word, and the answers behind it.
+fn put_answered(out: &mut Vec<u8>, word: &[u8], answers: &Answers) -> Result<(), Memory>
+    ensures ok { OnOk result (out.new.items ≡ out.old.items ++ (word.now ++ answers_text answers.now)) }
     ensures err { OnErr result (Keeps out.old.items out.new.items) }
 {
-    put_bytes(out, b"ok")?;
+    put_bytes(out, word)?;
     for answer in answers.as_slice() {
         put_u8(out, b' ')?;
         put_answer(out, *answer)?;

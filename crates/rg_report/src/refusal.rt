@@ -52,7 +52,7 @@ impl fmt::Display for SettingsWords {
             SettingsFault::Queries => "plan: queries must be a list of one string or more",
             SettingsFault::Table => "plan: settings must be a table",
             SettingsFault::Key => {
-                "settings: a key other than cache, chunk, commit, save, events and header"
+                "settings: a key other than cache, chunk, commit, save, events, header and grace"
             }
             SettingsFault::Cache => "settings: cache must be 1 to 1024",
             SettingsFault::Chunk => "settings: chunk must be 1 to 4096",
@@ -60,6 +60,7 @@ impl fmt::Display for SettingsWords {
             SettingsFault::Save => "settings: save must be 1 to 1000000",
             SettingsFault::Events => "settings: events must be 1 to 1099511627776",
             SettingsFault::Header => "settings: header must be true or false",
+            SettingsFault::Grace => "settings: grace must be 0 to 1000000000000000",
             SettingsFault::CachedEvents => "settings: cache times chunk must be at most 65536",
         })
     }

@@ -4,7 +4,7 @@ use std::{fmt, io};
 
 /// The forms of the words, and the version.
 const USAGE: &str =
-    "usage: railgun run PLAN STORE [FIRST]\n       railgun replay PLAN STORE [FIRST]\n       railgun check PLAN\n       railgun dump STORE\n       railgun info STORE\n       railgun self N SEED\nrailgun 0.1.0";
+    "usage: railgun run PLAN STORE [FIRST]\n       railgun replay PLAN STORE [FIRST]\n       railgun verify PLAN STORE\n       railgun check PLAN\n       railgun dump STORE\n       railgun info STORE\n       railgun self N SEED\nrailgun 0.1.0";
 
 /// What is said of a call that ended early: what went wrong, and where.
 #[derive(Drop)]

@@ -7,6 +7,7 @@
 //! these and the whole open chunk.
 #![tactic(auto)]
 
+mod ahead;
 mod fault;
 mod fetch;
 mod first;

@@ -39,10 +39,10 @@ pub struct Reservoir {
     schema: Schema,
     log: FrameLog,
     first: u64,
-    ended: bool,
+    pub(crate) ended: bool,
     cache: ChunkCache<Kept>,
     open: OpenChunk,
-    committed: u64,
+    pub(crate) committed: u64,
     next_offset: u64,
     last_time: u64,
     loads: u64,
@@ -98,6 +98,7 @@ fn are_within(spots: &[Spot], committed: u64) -> bool
 }
 
 impl Reservoir {
+    ghost use Rattle.rg_reservoir.specs.Ahead.{closed_next};
     ghost use Rattle.rg_reservoir.specs.Ends.{ends_looked};
     ghost use Rattle.rg_reservoir.specs.Kept.{base, opened, room_of, log_of, cache_of, loads_of, next_of as the_next_of, time_of, all_events, CommittedOrAll, IsCached, IsSound, Spells, SpellsLater, Found, Stays, next_in, seen, look_places, held_after, IsTouched, AllTouched, IsInside, IsAbsent, IsLegalLook, Adds, Added};
 
@@ -306,7 +307,11 @@ impl Reservoir {
     }
 
     /// Touches a place, and loads its chunk where it isn't held. Says whether there is one.
-    fn touch<H: Host>(&mut self, host: &mut H, place: u64) -> Result<bool, ReservoirFault>
+    pub(crate) fn touch<H: Host>(
+        &mut self,
+        host: &mut H,
+        place: u64,
+    ) -> Result<bool, ReservoirFault>
         ensures stays { Stays self.old self.new }
         ensures cached { (v : Image) → H.now host.old ≡ Some v → IsCached (base self.old).shape.fields (v (base self.old).file) (cache_of self.old) → IsCached (base self.old).shape.fields (v (base self.old).file) (cache_of self.new) }
         ensures held { IfOk result (λ found. IsTrue found → (kept : Kept) × (item_at place (cache_of self.new) ≡ Some kept)) }
@@ -349,12 +354,27 @@ impl Reservoir {
     }
 
     /// The next place, where the index is the count of the chunk that is held at that one.
-    fn next_of(&self, place: u64, index: u32) -> Option<u64>
+    pub(crate) fn next_of(&self, place: u64, index: u32) -> Option<u64>
         ensures { result ≡ next_in (item_at place (cache_of self.now)) index }
     {
         match self.cache.get(place) {
             Some(kept) => {
                 if kept.chunk.count() == index {
+                    return Some(kept.next);
+                }
+                None
+            }
+            None => None,
+        }
+    }
+
+    /// The place behind the chunk that is held at that one, where a closed chunk stands there.
+    pub(crate) fn closed_next(&self, place: u64) -> Option<u64>
+        ensures { result ≡ closed_next (base self.now).end (item_at place (cache_of self.now)) }
+    {
+        match self.cache.get(place) {
+            Some(kept) => {
+                if kept.next < self.log.end() {
                     return Some(kept.next);
                 }
                 None

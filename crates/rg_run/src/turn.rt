@@ -16,6 +16,7 @@ ghost use Rattle.rg_run.specs.UnderWay.{IsUnderWay, Answers, HasFinished};
 use crate::fault::{RunFault, turn_fault};
 use crate::gather::{put_ahead, stop};
 use rg_config::Plan;
+use rg_course::control_in;
 use rg_event::Steps;
 use rg_host::{Host, Line, LineFault, Lines, Source};
 use rg_recover::TaskFault;
@@ -32,7 +33,8 @@ fn is_header(plan: &Plan, offset: u64) -> bool
     plan.header && offset == 0
 }
 
-/// Answers a line of the input, which is a header or is taken cleaned: its lines are gathered.
+/// Answers a line of the input, which is a header or is taken cleaned: it asks for something, or is a row.
+/// Its lines are gathered.
 fn answer_text<H: Host, L: Ledger>(
     turning: &mut Turning<MemTable>,
     plan: &Plan,
@@ -67,7 +69,11 @@ fn answer_text<H: Host, L: Ledger>(
     if is_header(plan, offset) {
         return turning.refuse(host, &Reply::Head);
     }
-    turning.answer(host, plan, clean(offset, text), steps)
+    let line = clean(offset, text);
+    match control_in(line) {
+        Some(control) => turning.obey(host, control),
+        None => turning.answer(host, plan, line, steps),
+    }
 }
 
 /// Answers a line of the input that is too long: its line is gathered.

@@ -10,10 +10,14 @@ fn writes_replies_and_marks(rt: HostRuntime) -> Result<(), Fail> {
     answers.push(Answer::Ratio(350, 2))?;
     answers.push(Answer::Dash)?;
 
+    let mut moved = Answers::new(rt.alloc());
+    moved.push(Answer::Number(7))?;
+
     let mut out = Vec::new(rt.alloc());
     let replies = [
         (0, Reply::Head),
         (1, Reply::Answered(Answers::new(rt.alloc()))),
+        (2, Reply::Moved(moved)),
         (3, Reply::Answered(answers)),
         (4, Reply::Done),
         (5, Reply::Long),
@@ -38,7 +42,7 @@ fn writes_replies_and_marks(rt: HostRuntime) -> Result<(), Fail> {
     }
 
     let lines =
-        b"0 head\n1 ok\n3 ok 2 -5 350/2 -\n4 done\n5 long\n6 row\n7 value 32\n8 fields\n9 time\n10 late\n18446744073709551615 full\nopen 2 2 0\nstored 3\nsaved 2\ndone 4 4\n";
+        b"0 head\n1 ok\n2 moved 7\n3 ok 2 -5 350/2 -\n4 done\n5 long\n6 row\n7 value 32\n8 fields\n9 time\n10 late\n18446744073709551615 full\nopen 2 2 0\nstored 3\nsaved 2\ndone 4 4\n";
     assert_eq!(rt; out.as_slice(), lines.as_slice());
     Ok(())
 }

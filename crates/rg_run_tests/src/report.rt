@@ -32,7 +32,7 @@ fn assert_says(
 #[test]
 fn words_that_are_refused_are_told_the_forms(rt: HostRuntime) -> Result<(), Fail> {
     let forms =
-        "usage: railgun run PLAN STORE [FIRST]\n       railgun replay PLAN STORE [FIRST]\n       railgun check PLAN\n       railgun dump STORE\n       railgun info STORE\n       railgun self N SEED\nrailgun 0.1.0";
+        "usage: railgun run PLAN STORE [FIRST]\n       railgun replay PLAN STORE [FIRST]\n       railgun verify PLAN STORE\n       railgun check PLAN\n       railgun dump STORE\n       railgun info STORE\n       railgun self N SEED\nrailgun 0.1.0";
     assert_says(&rt, Status::Usage, None, None, forms)
 }
 
@@ -71,7 +71,7 @@ fn a_setting_is_told_its_range(rt: HostRuntime) -> Result<(), Fail> {
         ),
         (
             SettingsFault::Key,
-            "plan.toml: settings: a key other than cache, chunk, commit, save, events and header",
+            "plan.toml: settings: a key other than cache, chunk, commit, save, events, header and grace",
         ),
         (
             SettingsFault::Cache,
@@ -96,6 +96,10 @@ fn a_setting_is_told_its_range(rt: HostRuntime) -> Result<(), Fail> {
         (
             SettingsFault::Header,
             "plan.toml: settings: header must be true or false",
+        ),
+        (
+            SettingsFault::Grace,
+            "plan.toml: settings: grace must be 0 to 1000000000000000",
         ),
         (
             SettingsFault::CachedEvents,

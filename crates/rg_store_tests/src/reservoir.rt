@@ -76,7 +76,11 @@ fn put<H: Host>(reservoir: &mut Reservoir, host: &mut H, event: Event) -> Result
 }
 
 /// A reservoir with a chunk for each of three events, without columns, of offset 0, 1 and 2.
-fn three<H: Host>(alloc: Global, host: &mut H, cache: u32) -> Result<Reservoir, ReservoirFault>
+pub(crate) fn three<H: Host>(
+    alloc: Global,
+    host: &mut H,
+    cache: u32,
+) -> Result<Reservoir, ReservoirFault>
     requires { (1 ≤ cache) × (cache ≤ 1024) }
 {
     let room = Room {
@@ -107,7 +111,7 @@ fn bare(alloc: Global, offset: u64) -> Event
 }
 
 /// Whether the event of a spot has this offset.
-fn shows<H: Host>(
+pub(crate) fn shows<H: Host>(
     reservoir: &mut Reservoir,
     host: &mut H,
     spot: &Spot,
@@ -183,7 +187,7 @@ fn commit_two<H: Host>(
 }
 
 /// A reservoir of payments, with chunks of two events.
-fn payments<H: Host>(alloc: Global, host: &mut H) -> Result<Reservoir, ReservoirFault>
+pub(crate) fn payments<H: Host>(alloc: Global, host: &mut H) -> Result<Reservoir, ReservoirFault>
     ensures reaches { IfOk result (λ r. ReachesEnd (log_of r) (H.now host.new)) }
     ensures empty { IfOk result (λ r. opened r ≡ []) }
 {
@@ -412,7 +416,7 @@ fn names_in(alloc: Global, bytes: &[u8], text: &[u8], spots: &[Spot]) -> Result<
     Ok(named)
 }
 
-fn spot(place: u64, index: u32, number: u64) -> Spot {
+pub(crate) fn spot(place: u64, index: u32, number: u64) -> Spot {
     Spot {
         place,
         index,

@@ -1,5 +1,5 @@
 -- A turn from the clauses of a session's calls and of a put.
-use Rattle.std.proofs.Common.{◌≡◌, ◌⊎◌, inl, inr, ℕ, ◌+◌, ◌≤◌, List, [], ◌∷◌, ◌++◌, Option, Some, sym, ◌∙◌, ap, subst, append_assoc}
+use Rattle.std.proofs.Common.{◌≡◌, ◌⊎◌, inl, inr, ℕ, ◌+◌, ◌≤◌, List, [], ◌∷◌, ◌++◌, Option, Some, Result, sym, ◌∙◌, ap, subst, append_assoc}
 use Rattle.std.proofs.lemmas.List.{append-nil}
 use Rattle.rg_host.specs.Image.{Image}
 use Rattle.rg_host.specs.Lines.{ended}
@@ -7,11 +7,12 @@ use Rattle.rg_host.specs.Moments.{Moment, LeavesAll}
 use Rattle.rg_host.proofs.Endings.{ended-append}
 use Rattle.rg_event.specs.declared.event.Event.{Event}
 use Rattle.rg_event.specs.Rising.{next_offset}
+use Rattle.rg_reply.specs.declared.reply.Reply.{Reply}
 use Rattle.rg_config.specs.Plans.{Planned}
-use Rattle.rg_row.specs.Rows.{row_of}
 use Rattle.rg_state.specs.Rows.{Cells}
 use Rattle.rg_reservoir.specs.Kept.{Base, base, opened, stored}
-use Rattle.rg_course.specs.Verdicts.{accepted_after, read_as, or_reply, verdict_of}
+use Rattle.rg_course.specs.declared.control.Control.{Control}
+use Rattle.rg_course.specs.Verdicts.{Verdict, accepted_after, read_as, verdict_of, obeyed_or, line_verdict}
 use Rattle.rg_course.specs.Accepted.{after_turn, verdict_from}
 use Rattle.rg_course.specs.Ahead.{after_line, lines_for}
 use Rattle.rg_course.specs.Laws.{IsPrefixOf}
@@ -31,13 +32,18 @@ use Rattle.rg_open.specs.Stores.{store_of}
 use Rattle.rg_recover.specs.Deciding.{verdict_on}
 use Rattle.rg_recover.specs.Sessions.{Sitting, IsRunning, events_of, stored_of}
 use Rattle.rg_recover.specs.Stepping.{IsWithinStep, IsStored}
-use Rattle.rg_turn.specs.Turning.{terms_of, IsGathered, IsAwaiting, IsMidTurn, HasStopped}
+use Rattle.rg_turn.specs.Turning.{terms_of, IsRow, IsGathered, IsAwaiting, IsMidTurn, HasStopped}
 use Rattle.rg_turn.proofs.Gathering.{between_at, put_apart}
 
--- a line is decided as its session decides it
-pub judged : (plan : Planned) (events : List Event) (offset : ℕ) (item : Item) (line : List ℕ) → next_offset events ≤ offset → read_as (terms_of plan).basis offset item ≡ or_reply (row_of plan.shape.fields offset line)
+-- a row is decided as its session decides it
+pub row_verdict_is : (plan : Planned) (events : List Event) (offset : ℕ) (item : Item) (line : List ℕ) → IsRow (terms_of plan).basis offset item line → line_verdict (terms_of plan).basis events offset item ≡ verdict_on plan events offset line
+row_verdict_is plan events offset item line is =
+    let basis = (terms_of plan).basis in
+    ap (λ (c : Option Control). obeyed_or c (verdict_of basis.most basis.grace events (read_as basis offset item))) is.asks_nothing ∙ ap (λ (r : Result Event Reply). verdict_of basis.most basis.grace events r) is.reads
+
+pub judged : (plan : Planned) (events : List Event) (offset : ℕ) (item : Item) (line : List ℕ) → next_offset events ≤ offset → IsRow (terms_of plan).basis offset item line
     → verdict_from (terms_of plan).basis (next_offset events) events offset item ≡ Some (verdict_on plan events offset line)
-judged plan events offset item line next reads = looked_at (terms_of plan).basis (next_offset events) events offset item next ∙ ap (λ v. Some (verdict_of plan.settings.events events v)) reads
+judged plan events offset item line next reads = looked_at (terms_of plan).basis (next_offset events) events offset item next ∙ ap (λ (v : Verdict). Some v) (row_verdict_is plan events offset item line reads)
 
 module _ (plan : Planned) (course : Course) (offset : ℕ) (item : Item) (items : List Item) where
   -- the events before a line begin those with it
@@ -72,7 +78,7 @@ module _ {H T : Type 0} (now : H → Option Image) (may : H → Image → Type 0
 
   -- the line is taken: no file was written, or all was put
   pub line_taken : (told told_then : Type 0) (cells cells_then : Cells) (old new : H) (s then : Sitting T) (gathered line : List ℕ) → (a : IsAwaiting plan course offset (item ∷ items) (now old) (may old) (said old) gathered told cells s)
-      → next_offset (events_of (now old) s) ≤ offset → read_as (terms_of plan).basis offset item ≡ or_reply (row_of plan.shape.fields offset line)
+      → next_offset (events_of (now old) s) ≤ offset → IsRow (terms_of plan).basis offset item line
       → IsRunning plan (now new) (may new) told_then cells_then then → said new ≡ said old → then.keep ≡ s.keep
       → IsStored (store_of plan) s.keep (opened s.reservoir) (stored_of (now old) s) (stored_of (now new) then) (may old) (may new)
       → events_of (now new) then ≡ accepted_after (events_of (now old) s) (verdict_on plan (events_of (now old) s) offset line)

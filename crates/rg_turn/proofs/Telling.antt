@@ -23,9 +23,9 @@ use Rattle.rg_recover.specs.Sessions.{Sitting, IsRunning, count_in, events_of, s
 use Rattle.rg_recover.proofs.Sound.{long, next_is}
 use Rattle.rg_turn.specs.declared.due.Due.{Due}
 use Rattle.rg_turn.specs.declared.due.Due.TheVariants.{Nothing, Commit, Save}
-use Rattle.rg_turn.specs.Due.{is_due, marks_for}
+use Rattle.rg_turn.specs.Due.{marks_for}
 use Rattle.rg_turn.specs.Turning.{terms_of, IsMidTurn, IsDueDone}
-use Rattle.rg_turn.proofs.Marking.{marks_due, stores_due, saves_due}
+use Rattle.rg_turn.proofs.Marking.{due_on, marks_due, stores_due, saves_due}
 
 -- the next offset and the number of events of a session that runs
 pub next_by : {T : Type 0} (plan : Planned) (now : Option Image) (may : Image → Type 0) (told : Type 0) (cells : Cells) (s : Sitting T) → IsRunning plan now may told cells s → next_of s.reservoir ≡ next_offset (events_of now s)
@@ -49,7 +49,7 @@ done_saved Commit plan now may s done save = absurd (let e : ◌≡◌ {A = Due}
 done_saved Save plan now may s done save = let same : length (stored_of now s) ≡ length (events_of now s) = ap length done.0 in (omega (arith, same), done.1)
 
 module _ {T : Type 0} (plan : Planned) (course : Course) (offset : ℕ) (item : Item) (items : List Item) (events begun : List Event) (begun_keep : Option ℕ) (start : Image → Type 0) (now : Option Image) (may : Image → Type 0) (said : Option (List ℕ)) (gathered : List ℕ) (told : Type 0) (cells : Cells) (s : Sitting T)
-    (m : IsMidTurn plan course offset item items events begun begun_keep start now may said gathered told cells s) (next : next_offset events ≤ offset) (due : Due) (before : ℕ) (before_is : before ≡ length events) (due_is : due ≡ is_due plan.settings.commit plan.settings.save before (count_in s.reservoir)) where
+    (m : IsMidTurn plan course offset item items events begun begun_keep start now may said gathered told cells s) (next : next_offset events ≤ offset) (due : Due) (due_is : due ≡ due_on (terms_of plan) events (line_verdict (terms_of plan).basis events offset item)) where
   abbrev terms : Terms
   terms = terms_of plan
 
@@ -71,16 +71,13 @@ module _ {T : Type 0} (plan : Planned) (course : Course) (offset : ℕ) (item : 
   next_then : next_of s.reservoir ≡ next_offset after
   next_then = next_by plan now may told cells s m.running ∙ ap next_offset after_is
 
-  due_by : due ≡ is_due plan.settings.commit plan.settings.save (length events) (length after)
-  due_by = due_is ∙ ap (λ n. is_due plan.settings.commit plan.settings.save n (count_in s.reservoir)) before_is ∙ ap (λ n. is_due plan.settings.commit plan.settings.save (length events) n) count_is
-
   -- what is put are the lines of the turn
   pub lines_told : (reply : Reply) → reply ≡ reply_of plan.queries events verdict → reply_line offset reply ∷ marks_for due (next_of s.reservoir) (count_in s.reservoir) ≡ lines_for terms events offset item
   lines_told reply is =
-      let d = is_due plan.settings.commit plan.settings.save (length events) (length after) in
+      let d = due_on terms events verdict in
       ap (λ r. reply_line offset r ∷ marks_for due (next_of s.reservoir) (count_in s.reservoir)) is
       ∙ ap (λ (l : List (List ℕ)). reply_line offset (reply_of plan.queries events verdict) ∷ l)
-      (ap (λ (e : Due). marks_for e (next_of s.reservoir) (count_in s.reservoir)) due_by ∙ ap (λ n. marks_for d n (count_in s.reservoir)) next_then ∙ ap (λ n. marks_for d (next_offset after) n) count_is ∙ sym (marks_due terms events verdict))
+      (ap (λ (e : Due). marks_for e (next_of s.reservoir) (count_in s.reservoir)) due_is ∙ ap (λ n. marks_for d n (count_in s.reservoir)) next_then ∙ ap (λ n. marks_for d (next_offset after) n) count_is ∙ sym (marks_due terms events verdict))
       ∙ sym (ap (λ v. turn_lines terms events offset v) looked)
 
   -- and what their marks say is so
@@ -88,12 +85,12 @@ module _ {T : Type 0} (plan : Planned) (course : Course) (offset : ℕ) (item : 
   marks_hold small done =
       let v = verdict_from terms.basis (next_offset events) events offset item in
       let whole : after_turn events v ≡ after = ap (λ w. after_turn events w) looked in
-      let low : next_offset (after_turn events v) ≤ offset + 1 = subst (λ (l : List Event). next_offset l ≤ offset + 1) (sym whole) (next_after terms.basis.most events terms.basis offset item next) in
+      let low : next_offset (after_turn events v) ≤ offset + 1 = subst (λ (l : List Event). next_offset l ≤ offset + 1) (sym whole) (next_after events terms.basis offset item next) in
       let few : length (after_turn events v) ≤ 2 ^ 40 = subst (λ (l : List Event). length l ≤ 2 ^ 40) m.follows (few_by plan now may told cells s m.running) in
       turn_marks Image (store_of plan) terms events offset v (stored_of now s) s.keep may (omega (arith, small)) (omega (arith, low, small)) (omega (arith, few))
-      (λ w is yes. let same = verdict_is w is in done_stored due plan now may s done (λ none. stores_due terms events verdict (ap (λ (x : Verdict). stores terms events x) same ∙ yes) (sym due_by ∙ none)) ∙ after_is ∙ ap (λ (x : Verdict). accepted_after events x) same)
+      (λ w is yes. let same = verdict_is w is in done_stored due plan now may s done (λ none. stores_due terms events verdict (ap (λ (x : Verdict). stores terms events x) same ∙ yes) (sym due_is ∙ none)) ∙ after_is ∙ ap (λ (x : Verdict). accepted_after events x) same)
       (λ w is yes. let same = verdict_is w is in
-      subst (λ (l : List Event). HasInKept (store_of plan) (stored_of now s) s.keep may (length l)) (after_is ∙ ap (λ (x : Verdict). accepted_after events x) same) (done_saved due plan now may s done (due_by ∙ saves_due terms events verdict (ap (λ (x : Verdict). saves terms events x) same ∙ yes))))
+      subst (λ (l : List Event). HasInKept (store_of plan) (stored_of now s) s.keep may (length l)) (after_is ∙ ap (λ (x : Verdict). accepted_after events x) same) (done_saved due plan now may s done (due_is ∙ saves_due terms events verdict (ap (λ (x : Verdict). saves terms events x) same ∙ yes))))
     where
       verdict_is : (w : Verdict) → verdict_from terms.basis (next_offset events) events offset item ≡ Some w → verdict ≡ w
       verdict_is w is = let both : ◌≡◌ {A = Option Verdict} (Some verdict) (Some w) = sym looked ∙ is in cc

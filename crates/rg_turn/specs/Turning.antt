@@ -1,11 +1,14 @@
 -- A durable run between two lines, within a turn, and stopped.
-use Rattle.std.specs.Prelude.{◌≡◌, ◌⊎◌, ℕ, ◌<◌, List, [], ◌∷◌, ◌++◌, length, Option, Some, ⊤}
+use Rattle.std.specs.Prelude.{◌≡◌, ◌⊎◌, ℕ, ◌<◌, List, [], ◌∷◌, ◌++◌, length, Option, Some, None, Err, ⊤}
 use Rattle.rg_host.specs.Image.{Image}
 use Rattle.rg_host.specs.Lines.{ended}
 use Rattle.rg_event.specs.declared.event.Event.{Event}
 use Rattle.rg_config.specs.Plans.{Planned}
 use Rattle.rg_state.specs.Rows.{Cells}
 use Rattle.rg_reservoir.specs.Kept.{opened, room_of}
+use Rattle.rg_reply.specs.declared.reply.Reply.{Reply}
+use Rattle.rg_row.specs.Rows.{row_of}
+use Rattle.rg_course.specs.Verdicts.{Basis, control_at, read_as, or_reply}
 use Rattle.rg_course.specs.Output.{Terms}
 use Rattle.rg_course.specs.Ahead.{after_line}
 use Rattle.rg_course.specs.Laws.{IsPrefixOf}
@@ -21,10 +24,20 @@ use Rattle.rg_turn.specs.declared.due.Due.TheVariants.{Nothing, Commit, Save}
 -- what the text of a run of a plan rests on
 abbrev pub terms_of : Planned → Terms
 terms_of plan = record {
-  basis = record { fields = plan.shape.fields; queries = plan.queries; most = plan.settings.events; header = plan.settings.header };
+  basis = record { fields = plan.shape.fields; queries = plan.queries; most = plan.settings.events; header = plan.settings.header; grace = plan.settings.grace };
   commit = plan.settings.commit;
   save = plan.settings.save;
 }
+
+-- The line at this offset asks for nothing, and is read as the row of this cleaned text.
+pub record IsRow (basis : Basis) (offset : ℕ) (item : Option (List ℕ)) (line : List ℕ) : Type 0 where
+  pub asks_nothing : control_at basis offset item ≡ None
+  pub reads : read_as basis offset item ≡ or_reply (row_of basis.fields offset line)
+
+-- It asks for nothing, and is refused with this reply before there is a row.
+pub record IsRefused (basis : Basis) (offset : ℕ) (item : Option (List ℕ)) (reply : Reply) : Type 0 where
+  pub asks_nothing : control_at basis offset item ≡ None
+  pub reads : read_as basis offset item ≡ Err reply
 
 -- Of the lines of all turns so far, the first ones are put and the others are gathered, to be put together: the events that are stored came
 -- with at most one line more than was put.

@@ -6,16 +6,14 @@ ghost use Rattle.rg_host.specs.Moments.{Moments};
 ghost use Rattle.rg_frame.specs.LogState.{ReachesEnd};
 ghost use Rattle.rg_config.specs.Plans.{planned};
 ghost use Rattle.rg_config.specs.Read.{IsReadPlan};
-ghost use Rattle.rg_row.specs.Rows.{row_of};
 ghost use Rattle.rg_reservoir.specs.Chain.{IsIllegal};
 ghost use Rattle.rg_reservoir.specs.Kept.{base, log_of, next_of};
-ghost use Rattle.rg_course.specs.Verdicts.{read_as, or_reply};
 ghost use Rattle.rg_course.specs.Ahead.{after_line};
 ghost use Rattle.rg_course.specs.Stores.{Course, StaysOnCourse};
 ghost use Rattle.rg_open.specs.Stores.{store_of};
 ghost use Rattle.rg_open.specs.Blame.{NodeRuns, IsPlaced};
 ghost use Rattle.rg_recover.specs.Sessions.{events_of};
-ghost use Rattle.rg_turn.specs.Turning.{IsAwaiting, HasStopped, HasWay, terms_of};
+ghost use Rattle.rg_turn.specs.Turning.{IsRow, IsAwaiting, HasStopped, HasWay, terms_of};
 
 use crate::due::due_at;
 use crate::fault::TurnFault;
@@ -50,19 +48,19 @@ pub(crate) fn answer_line<H: Host, T: Table, L: Ledger>(
 
     ensures moments { (course : Course) (item : Option (List ℕ)) (items : List (Option (List ℕ))) →
         IsAwaiting (planned plan.now) course offset (item ∷ items) (H.now host.old) (H.may host.old) (H.said host.old) gathered.old.items (T.tells session.old.engine.table) (T.cell session.old.engine.table) session.old →
-        read_as (terms_of (planned plan.now)).basis offset item ≡ or_reply (row_of (planned plan.now).shape.fields offset line.now) →
+        IsRow (terms_of (planned plan.now)).basis offset item line.now →
         Moments H.clock H.since host.old host.new (StaysOnCourse (store_of (planned plan.now)) course []) }
     ensures awaits { (course : Course) (item : Option (List ℕ)) (items : List (Option (List ℕ))) →
         IsAwaiting (planned plan.now) course offset (item ∷ items) (H.now host.old) (H.may host.old) (H.said host.old) gathered.old.items (T.tells session.old.engine.table) (T.cell session.old.engine.table) session.old →
-        read_as (terms_of (planned plan.now)).basis offset item ≡ or_reply (row_of (planned plan.now).shape.fields offset line.now) →
+        IsRow (terms_of (planned plan.now)).basis offset item line.now →
         OnOk result (IsAwaiting (planned plan.now) course (offset + 1) items (H.now host.new) (H.may host.new) (H.said host.new) gathered.new.items (T.tells session.new.engine.table) (T.cell session.new.engine.table) session.new) }
     ensures events { (course : Course) (item : Option (List ℕ)) (items : List (Option (List ℕ))) →
         IsAwaiting (planned plan.now) course offset (item ∷ items) (H.now host.old) (H.may host.old) (H.said host.old) gathered.old.items (T.tells session.old.engine.table) (T.cell session.old.engine.table) session.old →
-        read_as (terms_of (planned plan.now)).basis offset item ≡ or_reply (row_of (planned plan.now).shape.fields offset line.now) →
+        IsRow (terms_of (planned plan.now)).basis offset item line.now →
         OnOk result (events_of (H.now host.new) session.new ≡ after_line (terms_of (planned plan.now)).basis (events_of (H.now host.old) session.old) offset item) }
     ensures stopped { (course : Course) (item : Option (List ℕ)) (items : List (Option (List ℕ))) →
         IsAwaiting (planned plan.now) course offset (item ∷ items) (H.now host.old) (H.may host.old) (H.said host.old) gathered.old.items (T.tells session.old.engine.table) (T.cell session.old.engine.table) session.old →
-        read_as (terms_of (planned plan.now)).basis offset item ≡ or_reply (row_of (planned plan.now).shape.fields offset line.now) →
+        IsRow (terms_of (planned plan.now)).basis offset item line.now →
         IfErr result (λ fault. (fault ≡ TurnFault.Write) ⊎ HasStopped (planned plan.now) course (H.may host.new) (H.said host.new)) }
 
     ensures never_bad { (course : Course) (items : List (Option (List ℕ))) (n : ℕ) →

@@ -10,6 +10,8 @@ mod due;
 mod fault;
 mod finish;
 mod gather;
+mod load;
+mod obey;
 mod refuse;
 mod save;
 mod settle;

@@ -1,15 +1,14 @@
-ghost use Rattle.std.specs.Prelude.{◌≡◌, ◌⊎◌, ◌≤◌, ◌<◌, ◌+◌, ◌^◌, [], ◌∷◌, ℕ, List, Option, Err, IfErr, OnOk, IsErrOf};
+ghost use Rattle.std.specs.Prelude.{◌≡◌, ◌⊎◌, ◌≤◌, ◌<◌, ◌+◌, ◌^◌, [], ◌∷◌, ℕ, List, Option, IfErr, OnOk, IsErrOf};
 ghost use Rattle.rg_bytes.specs.Counts.{Rose};
 ghost use Rattle.rg_host.specs.Moments.{Moments};
 ghost use Rattle.rg_config.specs.Plans.{Planned};
 ghost use Rattle.rg_reservoir.specs.Kept.{next_of};
-ghost use Rattle.rg_course.specs.Verdicts.{read_as};
 ghost use Rattle.rg_course.specs.Ahead.{after_line};
 ghost use Rattle.rg_course.specs.Stores.{Course, StaysOnCourse};
 ghost use Rattle.rg_open.specs.Stores.{store_of};
 ghost use Rattle.rg_open.specs.Blame.{NodeRuns, IsPlaced};
 ghost use Rattle.rg_recover.specs.Sessions.{events_of};
-ghost use Rattle.rg_turn.specs.Turning.{IsAwaiting, HasStopped, terms_of};
+ghost use Rattle.rg_turn.specs.Turning.{IsRefused, IsAwaiting, HasStopped, terms_of};
 
 use crate::due::Due;
 use crate::fault::TurnFault;
@@ -35,19 +34,19 @@ pub(crate) fn refuse_line<H: Host, T: Table>(
 
     ensures moments { (plan : Planned) (course : Course) (item : Option (List ℕ)) (items : List (Option (List ℕ))) →
         IsAwaiting plan course offset (item ∷ items) (H.now host.old) (H.may host.old) (H.said host.old) gathered.old.items (T.tells session.now.engine.table) (T.cell session.now.engine.table) session.now →
-        read_as (terms_of plan).basis offset item ≡ Err reply.now →
+        IsRefused (terms_of plan).basis offset item reply.now →
         Moments H.clock H.since host.old host.new (StaysOnCourse (store_of plan) course []) }
     ensures awaits { (plan : Planned) (course : Course) (item : Option (List ℕ)) (items : List (Option (List ℕ))) →
         IsAwaiting plan course offset (item ∷ items) (H.now host.old) (H.may host.old) (H.said host.old) gathered.old.items (T.tells session.now.engine.table) (T.cell session.now.engine.table) session.now →
-        read_as (terms_of plan).basis offset item ≡ Err reply.now →
+        IsRefused (terms_of plan).basis offset item reply.now →
         OnOk result (IsAwaiting plan course (offset + 1) items (H.now host.new) (H.may host.new) (H.said host.new) gathered.new.items (T.tells session.now.engine.table) (T.cell session.now.engine.table) session.now) }
     ensures events { (plan : Planned) (course : Course) (item : Option (List ℕ)) (items : List (Option (List ℕ))) →
         IsAwaiting plan course offset (item ∷ items) (H.now host.old) (H.may host.old) (H.said host.old) gathered.old.items (T.tells session.now.engine.table) (T.cell session.now.engine.table) session.now →
-        read_as (terms_of plan).basis offset item ≡ Err reply.now →
+        IsRefused (terms_of plan).basis offset item reply.now →
         OnOk result (events_of (H.now host.new) session.now ≡ after_line (terms_of plan).basis (events_of (H.now host.old) session.now) offset item) }
     ensures stopped { (plan : Planned) (course : Course) (item : Option (List ℕ)) (items : List (Option (List ℕ))) →
         IsAwaiting plan course offset (item ∷ items) (H.now host.old) (H.may host.old) (H.said host.old) gathered.old.items (T.tells session.now.engine.table) (T.cell session.now.engine.table) session.now →
-        read_as (terms_of plan).basis offset item ≡ Err reply.now →
+        IsRefused (terms_of plan).basis offset item reply.now →
         IfErr result (λ fault. (fault ≡ TurnFault.Write) ⊎ HasStopped plan course (H.may host.new) (H.said host.new)) }
 
     ensures node { (plan : Planned) (n : ℕ) → NodeRuns plan n (H.now host.old) (H.may host.old) (T.tells session.now.engine.table) (T.cell session.now.engine.table) session.now.reservoir session.now.engine →

@@ -1,4 +1,4 @@
-ghost use Rattle.std.specs.Prelude.{◌≡◌, ◌⊎◌, ◌≤◌, ◌<◌, ◌+◌, ◌^◌, ◌==◌, nat_le, nat_lt, [], ◌∷◌, length, ℕ, List, Option, Err, true, false, IfErr, OnOk, IsErrOf};
+ghost use Rattle.std.specs.Prelude.{◌≡◌, ◌⊎◌, ◌≤◌, ◌<◌, ◌+◌, ◌^◌, ◌==◌, nat_le, nat_lt, [], ◌∷◌, length, ℕ, List, Option, true, false, IfErr, OnOk, IsErrOf};
 ghost use Rattle.std.specs.List.{list_any};
 ghost use Rattle.std.specs.Option.{ForSome};
 ghost use Rattle.rg_bytes.specs.Counts.{Rose};
@@ -6,16 +6,14 @@ ghost use Rattle.rg_host.specs.Moments.{Moments};
 ghost use Rattle.rg_frame.specs.LogState.{ReachesEnd};
 ghost use Rattle.rg_config.specs.Plans.{Planned, planned};
 ghost use Rattle.rg_config.specs.Read.{IsReadPlan};
-ghost use Rattle.rg_row.specs.Rows.{row_of};
 ghost use Rattle.rg_reservoir.specs.Chain.{IsIllegal};
 ghost use Rattle.rg_reservoir.specs.Kept.{base, log_of, next_of};
-ghost use Rattle.rg_course.specs.Verdicts.{read_as, or_reply};
 ghost use Rattle.rg_course.specs.Ahead.{after_line};
 ghost use Rattle.rg_course.specs.Stores.{Course, StaysOnCourse};
 ghost use Rattle.rg_open.specs.Stores.{store_of};
 ghost use Rattle.rg_open.specs.Blame.{NodeRuns, IsPlaced};
 ghost use Rattle.rg_recover.specs.Sessions.{events_of};
-ghost use Rattle.rg_turn.specs.Turning.{IsAwaiting, HasStopped, terms_of};
+ghost use Rattle.rg_turn.specs.Turning.{IsRow, IsRefused, IsAwaiting, HasStopped, terms_of};
 
 use crate::answer::answer_line;
 use crate::fault::TurnFault;
@@ -96,7 +94,7 @@ impl<T: Table> Turning<T> {
 
     /// Whether the next line has an offset below that of the session's next event: an earlier run
     /// answered it.
-    fn is_passed(&self) -> bool
+    pub(crate) fn is_passed(&self) -> bool
         ensures { result ≡ nat_lt self.now.offset (next_of self.now.session.reservoir) }
     {
         self.offset < self.session.next()
@@ -119,19 +117,19 @@ impl<T: Table> Turning<T> {
 
         ensures moments { (course : Course) (item : Option (List ℕ)) (items : List (Option (List ℕ))) →
             IsAwaiting (planned plan.now) course self.old.offset (item ∷ items) (H.now host.old) (H.may host.old) (H.said host.old) self.old.gathered.items (T.tells self.old.session.engine.table) (T.cell self.old.session.engine.table) self.old.session →
-            read_as (terms_of (planned plan.now)).basis self.old.offset item ≡ or_reply (row_of (planned plan.now).shape.fields self.old.offset line.now) →
+            IsRow (terms_of (planned plan.now)).basis self.old.offset item line.now →
             Moments H.clock H.since host.old host.new (StaysOnCourse (store_of (planned plan.now)) course []) }
         ensures awaits { (course : Course) (item : Option (List ℕ)) (items : List (Option (List ℕ))) →
             IsAwaiting (planned plan.now) course self.old.offset (item ∷ items) (H.now host.old) (H.may host.old) (H.said host.old) self.old.gathered.items (T.tells self.old.session.engine.table) (T.cell self.old.session.engine.table) self.old.session →
-            read_as (terms_of (planned plan.now)).basis self.old.offset item ≡ or_reply (row_of (planned plan.now).shape.fields self.old.offset line.now) →
+            IsRow (terms_of (planned plan.now)).basis self.old.offset item line.now →
             OnOk result (IsAwaiting (planned plan.now) course self.new.offset items (H.now host.new) (H.may host.new) (H.said host.new) self.new.gathered.items (T.tells self.new.session.engine.table) (T.cell self.new.session.engine.table) self.new.session) }
         ensures events { (course : Course) (item : Option (List ℕ)) (items : List (Option (List ℕ))) →
             IsAwaiting (planned plan.now) course self.old.offset (item ∷ items) (H.now host.old) (H.may host.old) (H.said host.old) self.old.gathered.items (T.tells self.old.session.engine.table) (T.cell self.old.session.engine.table) self.old.session →
-            read_as (terms_of (planned plan.now)).basis self.old.offset item ≡ or_reply (row_of (planned plan.now).shape.fields self.old.offset line.now) →
+            IsRow (terms_of (planned plan.now)).basis self.old.offset item line.now →
             OnOk result (events_of (H.now host.new) self.new.session ≡ after_line (terms_of (planned plan.now)).basis (events_of (H.now host.old) self.old.session) self.old.offset item) }
         ensures stopped { (course : Course) (item : Option (List ℕ)) (items : List (Option (List ℕ))) →
             IsAwaiting (planned plan.now) course self.old.offset (item ∷ items) (H.now host.old) (H.may host.old) (H.said host.old) self.old.gathered.items (T.tells self.old.session.engine.table) (T.cell self.old.session.engine.table) self.old.session →
-            read_as (terms_of (planned plan.now)).basis self.old.offset item ≡ or_reply (row_of (planned plan.now).shape.fields self.old.offset line.now) →
+            IsRow (terms_of (planned plan.now)).basis self.old.offset item line.now →
             IfErr result (λ fault. (fault ≡ TurnFault.Write) ⊎ HasStopped (planned plan.now) course (H.may host.new) (H.said host.new)) }
         ensures never_bad { (course : Course) (items : List (Option (List ℕ))) (n : ℕ) →
             IsAwaiting (planned plan.now) course self.old.offset items (H.now host.old) (H.may host.old) (H.said host.old) self.old.gathered.items (T.tells self.old.session.engine.table) (T.cell self.old.session.engine.table) self.old.session →
@@ -191,19 +189,19 @@ impl<T: Table> Turning<T> {
 
         ensures moments { (plan : Planned) (course : Course) (item : Option (List ℕ)) (items : List (Option (List ℕ))) →
             IsAwaiting plan course self.old.offset (item ∷ items) (H.now host.old) (H.may host.old) (H.said host.old) self.old.gathered.items (T.tells self.old.session.engine.table) (T.cell self.old.session.engine.table) self.old.session →
-            read_as (terms_of plan).basis self.old.offset item ≡ Err reply.now →
+            IsRefused (terms_of plan).basis self.old.offset item reply.now →
             Moments H.clock H.since host.old host.new (StaysOnCourse (store_of plan) course []) }
         ensures awaits { (plan : Planned) (course : Course) (item : Option (List ℕ)) (items : List (Option (List ℕ))) →
             IsAwaiting plan course self.old.offset (item ∷ items) (H.now host.old) (H.may host.old) (H.said host.old) self.old.gathered.items (T.tells self.old.session.engine.table) (T.cell self.old.session.engine.table) self.old.session →
-            read_as (terms_of plan).basis self.old.offset item ≡ Err reply.now →
+            IsRefused (terms_of plan).basis self.old.offset item reply.now →
             OnOk result (IsAwaiting plan course self.new.offset items (H.now host.new) (H.may host.new) (H.said host.new) self.new.gathered.items (T.tells self.new.session.engine.table) (T.cell self.new.session.engine.table) self.new.session) }
         ensures events { (plan : Planned) (course : Course) (item : Option (List ℕ)) (items : List (Option (List ℕ))) →
             IsAwaiting plan course self.old.offset (item ∷ items) (H.now host.old) (H.may host.old) (H.said host.old) self.old.gathered.items (T.tells self.old.session.engine.table) (T.cell self.old.session.engine.table) self.old.session →
-            read_as (terms_of plan).basis self.old.offset item ≡ Err reply.now →
+            IsRefused (terms_of plan).basis self.old.offset item reply.now →
             OnOk result (events_of (H.now host.new) self.new.session ≡ after_line (terms_of plan).basis (events_of (H.now host.old) self.old.session) self.old.offset item) }
         ensures stopped { (plan : Planned) (course : Course) (item : Option (List ℕ)) (items : List (Option (List ℕ))) →
             IsAwaiting plan course self.old.offset (item ∷ items) (H.now host.old) (H.may host.old) (H.said host.old) self.old.gathered.items (T.tells self.old.session.engine.table) (T.cell self.old.session.engine.table) self.old.session →
-            read_as (terms_of plan).basis self.old.offset item ≡ Err reply.now →
+            IsRefused (terms_of plan).basis self.old.offset item reply.now →
             IfErr result (λ fault. (fault ≡ TurnFault.Write) ⊎ HasStopped plan course (H.may host.new) (H.said host.new)) }
         ensures node { (plan : Planned) (n : ℕ) → NodeRuns plan n (H.now host.old) (H.may host.old) (T.tells self.old.session.engine.table) (T.cell self.old.session.engine.table) self.old.session.reservoir self.old.session.engine →
             NodeRuns plan n (H.now host.new) (H.may host.new) (T.tells self.new.session.engine.table) (T.cell self.new.session.engine.table) self.new.session.reservoir self.new.session.engine }

@@ -136,7 +136,7 @@ going_on plan input held lines now may v told settled left = record {
 
 -- and by each plan that accepts alike
 same_accepted : (one two : Planned) (input : List ℕ) → AcceptsAlike one two → accepted_of one input ≡ accepted_of two input
-same_accepted one two input alike = sym (accepted_alike (terms_of one).basis (terms_of two).basis [] 0 (lines_of input) (record { fields = ap (λ (shape : Shape). shape.fields) alike.shape; most = alike.most; header = alike.header }))
+same_accepted one two input alike = sym (accepted_alike (terms_of one).basis (terms_of two).basis [] 0 (lines_of input) (record { fields = ap (λ (shape : Shape). shape.fields) alike.shape; most = alike.most; header = alike.header; grace = alike.grace }))
 
 pub going_on_alike : (one two : Planned) (input : List ℕ) (now : Option Image) (may : Image → Type 0) → AcceptsAlike one two → IsGoingOn one input now may → IsGoingOn two input now may
 going_on_alike one two input now may alike s = record {

@@ -44,11 +44,12 @@ pub record IsGoingOn (plan : Planned) (input : List ℕ) (now : Option Image) (m
 abbrev pub Words : Type 0
 Words = List (String Global)
 
--- two plans accept the same events, whatever they ask: with the same schema, limit and header
+-- two plans accept the same events, whatever they ask: with the same schema, limit, header and grace
 pub record AcceptsAlike (one two : Planned) : Type 0 where
   pub shape : one.shape ≡ two.shape
   pub most : one.settings.events ≡ two.settings.events
   pub header : one.settings.header ≡ two.settings.header
+  pub grace : one.settings.grace ≡ two.settings.grace
 
 -- What such runs are given: the words of a run whose first line has the offset 0, a legal plan, an input within its limit, and such a store.
 pub record IsStartable (words : Words) (plan input : List ℕ) (host : Ledger) : Type 0 where

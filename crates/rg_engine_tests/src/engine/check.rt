@@ -27,20 +27,6 @@ pub(super) fn take_checked<T: Table, L: Ledger>(
     }
 }
 
-/// Replays a past that no edge is behind.
-pub(super) fn replay_checked<T: Table, L: Ledger>(
-    engine: &mut Engine<T>,
-    past: &mut VecPast,
-    t: u64,
-    steps: &mut Steps<L>,
-) -> Option<Result<(), EngineFault>> {
-    if are_within(engine.spots(), past.events().len()) {
-        Some(engine.replay(past, t, steps))
-    } else {
-        None
-    }
-}
-
 fn is_in_range(event: &Event) -> bool
     ensures { IsTrue result → IsInRange event.now }
 {

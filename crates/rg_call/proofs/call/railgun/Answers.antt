@@ -2,7 +2,8 @@ use Rattle.std.proofs.Common.{⊎_elim, inl, inr, arith}
 use Rattle.rg_call.specs.Call.{command_of}
 use Rattle.rg_call.proofs.Ends.{completes, run_completes, store_legal, disk_legal, gap_legal, read_of, runs, said_by, with_said}
 use Rattle.rg_call.proofs.TurnedAway.{unfit_status, behind_status}
-use Rattle.rg_call.proofs.Replaying.{no_run, refusal_of, ready_never, replay_completes, no_gap, plan_long}
+use Rattle.rg_call.proofs.Replaying.{no_run, no_verify, refusal_of, ready_never, replay_completes, no_gap, plan_long}
+use Rattle.rg_call.proofs.Verifying as verify
 use Rattle.rg_call.proofs.call.railgun.Goals as goal
 
 pub returns-clause-complete : goal.returns-clause-complete
@@ -38,7 +39,7 @@ returns-clause-completes g c = λ told none.
             read_only = λ is. read_of _ _ _ _ (c.run_words.ensures.read_only is);
             write_only = λ is. (c.run_words.ensures.write_only is).1;
             limit_only = c.run_words.ensures.limit_only;
-            possible_only = c.run_words.ensures.possible_only;
+            differs_only = c.run_words.ensures.differs_only;
           })
           (with_said _ _ _ told no_run) none;
     }
@@ -60,7 +61,7 @@ returns-clause-completes_run g c = λ first is told within begins none.
       read_only = λ is. read_of _ _ _ _ (c.run_words.ensures.read_only is);
       write_only = λ is. (c.run_words.ensures.write_only is).1;
       limit_only = c.run_words.ensures.limit_only;
-      possible_only = c.run_words.ensures.possible_only;
+      differs_only = c.run_words.ensures.differs_only;
     })
     told.plan_bytes told.plan_is told.asks told.says told.input_bytes told.input_is within none (c.run_words.ensures.store_never (runs _ first is) told))
 
@@ -74,7 +75,7 @@ returns-clause-completes_store g c = λ run bytes asks v told says now unfit non
 
 pub returns-clause-replay_never : goal.returns-clause-replay_never
 returns-clause-replay_never g c = λ replays told is.
-    let refuses = refusal_of (command_of c.args.words.now) _ _ _ replays (c.run_words.ensures.store_only is) in
+    let refuses = refusal_of (command_of c.args.words.now) _ _ _ _ replays (c.run_words.ensures.store_only is) in
     ready_never _ _ _ refuses.0 told refuses.1
 
 pub returns-clause-completes_replay : goal.returns-clause-completes_replay
@@ -84,4 +85,18 @@ returns-clause-completes_replay g c = λ replays bytes asks told says none.
     (λ is. ⊎_elim (λ unread. unread) (λ input. absurd (no_run (command_of c.args.words.now) replays input.1)) (c.run_words.ensures.read_only is))
     (λ is. (c.run_words.ensures.write_only is).1) (λ is. (c.run_words.ensures.disk_only is).1)
     (λ is within. plan_long (command_of c.args.words.now) replays _ _ bytes told _ within (c.run_words.ensures.limit_only is))
-    (λ is. let gap = c.run_words.ensures.gap_only is in no_gap (command_of c.args.words.now) replays gap.0 gap.1) c.run_words.ensures.possible_only
+    (λ is. let gap = c.run_words.ensures.gap_only is in no_gap (command_of c.args.words.now) replays gap.0 gap.1) (λ is. no_verify (command_of c.args.words.now) replays (c.run_words.ensures.differs_only is).0)
+
+pub returns-clause-verify_never : goal.returns-clause-verify_never
+returns-clause-verify_never g c = λ verifies told is.
+    let refuses = verify.refusal_of (command_of c.args.words.now) _ _ _ _ verifies (c.run_words.ensures.store_only is) in
+    verify.ready_never _ _ refuses.0 told refuses.1
+
+pub returns-clause-completes_verify : goal.returns-clause-completes_verify
+returns-clause-completes_verify g c = λ verifies bytes asks told says none.
+    verify.verify_completes (command_of c.args.words.now) verifies _ bytes asks told says _ _ _ none c.run_words.result
+    c.run_words.ensures.usage_only (λ is. (c.run_words.ensures.plan_only is).1)
+    (λ is. ⊎_elim (λ unread. unread) (λ input. absurd (verify.no_run (command_of c.args.words.now) verifies input.1)) (c.run_words.ensures.read_only is))
+    (λ is. (c.run_words.ensures.write_only is).1) (λ is. (c.run_words.ensures.disk_only is).1)
+    (λ is within. verify.plan_long (command_of c.args.words.now) verifies _ _ bytes told _ within (c.run_words.ensures.limit_only is))
+    (λ is. let gap = c.run_words.ensures.gap_only is in verify.no_gap (command_of c.args.words.now) verifies gap.0 gap.1)

@@ -59,16 +59,38 @@ pub returns-in-Replay-clause-line : goal.returns-in-Replay-clause-line
 returns-in-Replay-clause-line g c = rw c.in-Replay.is c.replay_with_plan.ensures.line
 
 pub returns-in-Replay-clause-store : goal.returns-in-Replay-clause-store
-returns-in-Replay-clause-store g c = rw c.in-Replay.is (on_err c.replay_with_plan.result _ _ (λ ending store is. inr (inr (tt, store is))) c.replay_with_plan.ensures.store)
+returns-in-Replay-clause-store g c = rw c.in-Replay.is (on_err c.replay_with_plan.result _ _ (λ ending store is. inr (inr (inl (tt, store is)))) c.replay_with_plan.ensures.store)
 
 pub returns-in-Replay-clause-disk : goal.returns-in-Replay-clause-disk
-returns-in-Replay-clause-disk g c = rw c.in-Replay.is (on_err c.replay_with_plan.result _ _ (λ ending disk is. (inr (inr (tt, (disk is).0)), (disk is).1)) c.replay_with_plan.ensures.disk)
+returns-in-Replay-clause-disk g c = rw c.in-Replay.is (on_err c.replay_with_plan.result _ _ (λ ending disk is. (inr (inr (inl (tt, (disk is).0))), (disk is).1)) c.replay_with_plan.ensures.disk)
 
 pub returns-in-Replay-clause-gap : goal.returns-in-Replay-clause-gap
 returns-in-Replay-clause-gap g c = on_err c.replay_with_plan.result _ _ (λ ending no is. absurd (no is)) c.replay_with_plan.ensures.no_gap
 
 pub returns-in-Replay-clause-read_first : goal.returns-in-Replay-clause-read_first
 returns-in-Replay-clause-read_first g c = any_err c.replay_with_plan.result _ (λ ending is. inl (refl, c.replay_with_plan.ensures.leaves))
+
+pub returns-in-Verify-clause-completes : goal.returns-in-Verify-clause-completes
+returns-in-Verify-clause-completes g c = rw c.in-Verify.is (on_ok c.verify_with_plan.result _ _ (λ never told. absurd (never told)) c.verify_with_plan.ensures.completes)
+
+pub returns-in-Verify-clause-stops : goal.returns-in-Verify-clause-stops
+returns-in-Verify-clause-stops g c =
+    rw c.in-Verify.is (on_err c.verify_with_plan.result _ _ (λ ending stops told. record { text = []; is = refl; holds = ([], stops told, nothing_stops (ending_status ending ≡ Write) []) }) c.verify_with_plan.ensures.stops)
+
+pub returns-in-Verify-clause-line : goal.returns-in-Verify-clause-line
+returns-in-Verify-clause-line g c = rw c.in-Verify.is c.verify_with_plan.ensures.line
+
+pub returns-in-Verify-clause-store : goal.returns-in-Verify-clause-store
+returns-in-Verify-clause-store g c = rw c.in-Verify.is (on_err c.verify_with_plan.result _ _ (λ ending store is. inr (inr (inr (tt, store is)))) c.verify_with_plan.ensures.store)
+
+pub returns-in-Verify-clause-disk : goal.returns-in-Verify-clause-disk
+returns-in-Verify-clause-disk g c = rw c.in-Verify.is (on_err c.verify_with_plan.result _ _ (λ ending disk is. (inr (inr (inr (tt, (disk is).0))), (disk is).1)) c.verify_with_plan.ensures.disk)
+
+pub returns-in-Verify-clause-gap : goal.returns-in-Verify-clause-gap
+returns-in-Verify-clause-gap g c = on_err c.verify_with_plan.result _ _ (λ ending no is. absurd (no is)) c.verify_with_plan.ensures.no_gap
+
+pub returns-in-Verify-clause-read_first : goal.returns-in-Verify-clause-read_first
+returns-in-Verify-clause-read_first g c = any_err c.verify_with_plan.result _ (λ ending is. inl (refl, c.verify_with_plan.ensures.leaves))
 
 pub returns-in-Check-clause-completes : goal.returns-in-Check-clause-completes
 returns-in-Check-clause-completes g c = rw c.in-Check.is c.check_with_plan.ensures.completes

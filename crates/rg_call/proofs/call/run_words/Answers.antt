@@ -5,14 +5,18 @@ use Rattle.rg_host.specs.Puts.{IsPrefix, Puts}
 use Rattle.rg_host.proofs.PutRuns.{puts-nothing, puts-then}
 use Rattle.rg_host.proofs.Runs.{leaves_files-none, leaves_files-then}
 use Rattle.rg_report.specs.Statuses.{last_line}
-use Rattle.rg_call.specs.Call.{command_of, line_for, ending_status, ending_line}
+use Rattle.rg_call.specs.Call.{command_of, ReadsPlan, line_for, ending_status, ending_line}
 use Rattle.rg_call.specs.Causes.{RefusesStore}
+use Rattle.rg_call.specs.Verifies.{terms_for, is_differs}
+use Rattle.rg_verify.specs.Verify.{IsSaid, IsCut}
+use Rattle.rg_call.specs.declared.command.Command.{Command}
 use Rattle.rg_call.specs.declared.command.Command.TheVariants.{Run, Replay}
 use Rattle.rg_report.specs.declared.status.Status.TheVariants.{Ok, Usage, Write}
 use Rattle.rg_call.proofs.Ends.{all_put, all_front, front_alone, line_alone, put_then, whole_then, write_line, own_line, rose_first, rose_last, command_is}
 use Rattle.rg_call.proofs.Telling.{all_promised, one_ahead, slots_saved, told_from, ends_whole, ends_answered, completed, resumed}
 use Rattle.rg_call.proofs.TurnedAway.{ok_unfit, ok_behind, turned_away, lies_behind}
 use Rattle.rg_call.proofs.Replaying.{replays_as, puts_all, puts_so, refuses_so}
+use Rattle.rg_call.proofs.Verifying.{verifies_as, verifies_back, whole_line, last_at, refusal_of, no_gap, puts_line}
 use Rattle.rg_call.proofs.call.run_words.Goals as goal
 
 -- the words are no form of a command
@@ -226,6 +230,45 @@ pub returns-in-Err-clause-gap_never : goal.returns-in-Err-clause-gap_never
 returns-in-Err-clause-gap_never g c = rw c.end-in-Err.ensures.status (λ gap first is told.
     (c.in-Err.ensures.went first (command_is _ c.in-Some.command (Run first) (sym c.named.ensures ∙ c.in-Some.is) is) told).1.gap gap)
 
+pub returns-in-Ok-clause-verified : goal.returns-in-Ok-clause-verified
+returns-in-Ok-clause-verified g c = λ verifies whole told. (c.in-Ok.ensures.verified (verifies_as _ c.in-Some.command (sym c.named.ensures ∙ c.in-Some.is) verifies) told).all whole
+
+pub returns-in-Ok-clause-verify_silent : goal.returns-in-Ok-clause-verify_silent
+returns-in-Ok-clause-verify_silent g c = λ verifies bytes asks told says not_whole. absurd (not_whole (inl refl))
+
+pub returns-in-Ok-clause-verify_fit : goal.returns-in-Ok-clause-verify_fit
+returns-in-Ok-clause-verify_fit g c = λ verifies whole bytes asks v told says now.
+    c.in-Ok.ensures.fit (verifies_as _ c.in-Some.command (sym c.named.ensures ∙ c.in-Some.is) verifies) whole bytes asks v told says now
+
+pub returns-in-Err-clause-verified : goal.returns-in-Err-clause-verified
+returns-in-Err-clause-verified g c = rw c.end-in-Err.ensures.status (λ verifies whole told.
+    let went = c.in-Err.ensures.verified (verifies_as _ c.in-Some.command (sym c.named.ensures ∙ c.in-Some.is) verifies) told in
+    let same = c.end-in-Err.ensures.silent (went.line ∙ whole_line (ending_status c.in-Err.ending) whole) in
+    subst (λ h. IsSaid (terms_for told.asks) told.ready.image told.ready.events (Puts g.H.Host.said g.H.Host.clock g.H.Host.since c.args.host.now h) (is_differs (ending_status c.in-Err.ending))) (sym same) (went.all whole))
+
+pub returns-in-Err-clause-verify_cut : goal.returns-in-Err-clause-verify_cut
+returns-in-Err-clause-verify_cut g c = rw c.end-in-Err.ensures.status (λ verifies write told.
+    let went = c.in-Err.ensures.verified (verifies_as _ c.in-Some.command (sym c.named.ensures ∙ c.in-Some.is) verifies) told in
+    let same = c.end-in-Err.ensures.silent (went.line ∙ ap last_line write) in
+    subst (λ h. IsCut (terms_for told.asks) told.ready.image told.ready.events (Puts g.H.Host.said g.H.Host.clock g.H.Host.since c.args.host.now h)) (sym same) (went.cut write))
+
+pub returns-in-Err-clause-verify_silent : goal.returns-in-Err-clause-verify_silent
+returns-in-Err-clause-verify_silent g c = rw c.end-in-Err.ensures.status (λ verifies bytes asks told says not_whole not_write.
+    let own = verifies_as _ c.in-Some.command (sym c.named.ensures ∙ c.in-Some.is) verifies in (
+      ending_line c.in-Err.ending,
+      last_at _ (g.H.Host.now c.args.host.now) (ending_status c.in-Err.ending) (ending_line c.in-Err.ending) bytes asks told says (λ bad. (c.in-Err.ensures.refused bad).1) (λ is. refusal_of (Some c.in-Some.command) _ _ _ _ own (c.in-Err.ensures.store is))
+          (λ is. let gap = c.in-Err.ensures.gap is in no_gap (Some c.in-Some.command) own gap.0 (ap Some gap.1)) (own_line c.in-Err.ending),
+      puts_line g.H.Host.said g.H.Host.clock g.H.Host.since (ending_line c.in-Err.ending) _ c.args.host.now c.run_command.new.host c.end-in-Err.new.host (c.in-Err.ensures.silent own not_whole not_write)
+          c.end-in-Err.ensures.part (⊎_elim (λ whole. inl whole) (λ rose. inr (rose_last _ _ _ c.in-Err.ensures.later_out rose)) c.end-in-Err.ensures.whole),
+    ))
+
+pub returns-in-Err-clause-verify_fit : goal.returns-in-Err-clause-verify_fit
+returns-in-Err-clause-verify_fit g c = rw c.end-in-Err.ensures.status (λ verifies whole bytes asks v told says now.
+    c.in-Err.ensures.fit (verifies_as _ c.in-Some.command (sym c.named.ensures ∙ c.in-Some.is) verifies) whole bytes asks v told says now)
+
+pub returns-in-Err-clause-differs_only : goal.returns-in-Err-clause-differs_only
+returns-in-Err-clause-differs_only g c = rw c.end-in-Err.ensures.status (λ is. let h = c.in-Err.ensures.differs is in (verifies_back _ c.in-Some.command (sym c.named.ensures ∙ c.in-Some.is) h.0, h.1))
+
 pub returns-in-Err-clause-replay_put : goal.returns-in-Err-clause-replay_put
 returns-in-Err-clause-replay_put g c = rw c.end-in-Err.ensures.status (λ first is told.
     puts_so g.H.Host.said g.H.Host.clock g.H.Host.since _ _ _ (ending_status c.in-Err.ending) (ending_line c.in-Err.ending) c.args.host.now c.run_command.new.host c.end-in-Err.new.host
@@ -248,7 +291,10 @@ returns-in-Err-clause-store_only g c =
     (λ shows. inl shows)
     (λ over. ⊎_elim
     (λ runs. inr (inl (runs.0, (ending_line c.in-Err.ending, subst R (sym c.end-in-Err.ensures.leaves.now_stays) runs.1, ⊎_elim (λ whole. inl (g.H.Host.said c.run_command.new.host, whole.grows)) (λ rose. inr (rose_last _ _ _ c.in-Err.ensures.later_out rose)) c.end-in-Err.ensures.whole))))
-    (λ replays. inr (inr (replays.0, (ending_line c.in-Err.ending, replays.1, ⊎_elim (λ whole. inl (g.H.Host.said c.run_command.new.host, whole.grows)) (λ rose. inr (rose_last _ _ _ c.in-Err.ensures.later_out rose)) c.end-in-Err.ensures.whole))))
+    (λ more. ⊎_elim
+    (λ replays. inr (inr (inl (replays.0, (ending_line c.in-Err.ending, replays.1, ⊎_elim (λ whole. inl (g.H.Host.said c.run_command.new.host, whole.grows)) (λ rose. inr (rose_last _ _ _ c.in-Err.ensures.later_out rose)) c.end-in-Err.ensures.whole)))))
+    (λ verifies. inr (inr (inr (verifies.0, (ending_line c.in-Err.ending, verifies.1, ⊎_elim (λ whole. inl (g.H.Host.said c.run_command.new.host, whole.grows)) (λ rose. inr (rose_last _ _ _ c.in-Err.ensures.later_out rose)) c.end-in-Err.ensures.whole)))))
+    more)
     over)
     (c.in-Err.ensures.store is))
 
@@ -310,3 +356,8 @@ pub returns-in-Err-clause-failure_told : goal.returns-in-Err-clause-failure_told
 returns-in-Err-clause-failure_told g c =
     rw c.end-in-Err.ensures.status (⊎_elim (λ plan. inr (inl plan)) (λ more. ⊎_elim (λ store. inr (inr (inl store))) (λ more. ⊎_elim (λ gap. inr (inr (inr (inl gap))))
     (λ own. inr (inr (inr (inr (⊎_elim (λ whole. inl (g.H.Host.said c.run_command.new.host, whole.grows ∙ ap (λ line. after (g.H.Host.said c.run_command.new.host) line) own)) (λ rose. inr (rose_last _ _ _ c.in-Err.ensures.later_out rose)) c.end-in-Err.ensures.whole))))) more) more) (own_line c.in-Err.ending))
+
+pub returns-in-Err-clause-alone : goal.returns-in-Err-clause-alone
+returns-in-Err-clause-alone g c = λ unread.
+    let form : command_of c.args.words.now ≡ Some c.in-Some.command = sym c.named.ensures ∙ c.in-Some.is in
+    c.in-Err.ensures.alone (subst (λ (o : Option Command). ReadsPlan o → ⊥) form unread)

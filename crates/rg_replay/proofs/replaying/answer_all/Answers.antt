@@ -1,4 +1,4 @@
-use Rattle.std.proofs.Common.{◌≡◌, ◌∙◌, ⊎_elim, inr, length, ap, sym, subst, refl, arith}
+use Rattle.std.proofs.Common.{◌≡◌, ◌∙◌, ⊎_elim, inr, [], length, ap, sym, subst, refl, arith}
 use Rattle.rg_host.specs.Puts.{Puts}
 use Rattle.rg_host.proofs.PutRuns.{puts-nothing, puts-then}
 use Rattle.rg_past.specs.declared.past.Spot.{Spot}
@@ -20,8 +20,8 @@ payments-init g c =
       placed = subst (λ (s : Spot). IsPlaced r e s) at c.requires.placed;
       same = refl;
       store = leaves_store-none g.H.Host.now g.H.Host.may g.H.Host.clock g.H.Host.since g.H.Host.disk_faults g.H.Host.out_faults _ (λ t u m. g.met.H.Host.sinks _ t u m) (λ m now. (g.met.H.Host.only_now _ m now).0);
-      goes = λ queries events is. subst (λ (s : Spot). Progress queries c.args.first events s.number (Puts g.H.Host.said g.H.Host.clock g.H.Host.since c.args.host.now c.args.host.now) (IsPlaying queries events (g.H.Host.now c.args.host.now) (g.H.Host.may c.args.host.now) (rows.tells e.table) (rows.cell e.table) r e s)) at
-          (record { within = omega arith; puts = puts-nothing g.H.Host.said g.H.Host.clock g.H.Host.since _ (λ t u m. g.met.H.Host.sinks _ t u m) (λ m. g.met.H.Host.only_now _ m); goes = is });
+      goes = λ queries events is. subst (λ (s : Spot). Progress queries c.args.first events s.number (Puts g.H.Host.said g.H.Host.clock g.H.Host.since c.args.host.now c.args.host.now) c.args.text.now.items (IsPlaying queries events (g.H.Host.now c.args.host.now) (g.H.Host.may c.args.host.now) (rows.tells e.table) (rows.cell e.table) r e s)) at
+          (record { within = omega arith; lines = record { out = []; held = []; both = refl; puts = puts-nothing g.H.Host.said g.H.Host.clock g.H.Host.since _ (λ t u m. g.met.H.Host.sinks _ t u m) (λ m. g.met.H.Host.only_now _ m); text_is = c.requires.none }; goes = is });
     }
 
 pub payments-preserved : goal.payments-preserved
@@ -34,19 +34,19 @@ payments-preserved g c =
       store = leaves_store-then g.H.Host.now g.H.Host.may g.H.Host.clock g.H.Host.since g.H.Host.disk_faults g.H.Host.out_faults _ _ _ inv.store c.turn.ensures.leaves;
       goes = λ queries events is.
           let at = inv.goes queries events is in
-          let more = (turn.turned queries events at.goes).more c.in-Ok-true.field-0-test in
+          let more = (turn.turned queries events at.lines.held at.lines.text_is at.goes).more c.in-Ok-true.field-0-test in
           next queries c.args.first events c.payments.spot.number (Puts g.H.Host.said g.H.Host.clock g.H.Host.since c.args.host.now c.payments.host) (Puts g.H.Host.said g.H.Host.clock g.H.Host.since c.payments.host c.turn.new.host) (Puts g.H.Host.said g.H.Host.clock g.H.Host.since c.args.host.now c.turn.new.host)
-          (λ x y. puts-then g.H.Host.said g.H.Host.clock g.H.Host.since _ _ _ x y) _ at c.turn.new.spot.number _ (turn.one c.in-Ok-true.field-0-test).0
+          (λ x y. puts-then g.H.Host.said g.H.Host.clock g.H.Host.since _ _ _ x y) c.payments.text.items _ at c.turn.new.spot.number _ c.turn.new.text.items (turn.one c.in-Ok-true.field-0-test).0
           (omega (arith, turn.placed.number, ap length more.1.list, long (g.H.Host.now c.turn.new.host) c.turn.new.reservoir)) more.0 more.1;
     }
 
 pub returns-in-Ok-false-clause-answered : goal.returns-in-Ok-false-clause-answered
 returns-in-Ok-false-clause-answered g c = λ queries events is.
     let at = c.payments.invariant.goes queries events is in
-    let last = (c.in-Ok-false.ensures.turned queries events at.goes).last c.in-Ok-false.field-0-test in (
+    let last = (c.in-Ok-false.ensures.turned queries events at.lines.held at.lines.text_is at.goes).last c.in-Ok-false.field-0-test in (
       finish queries c.args.first events c.payments.spot.number (Puts g.H.Host.said g.H.Host.clock g.H.Host.since c.args.host.now c.payments.host) (Puts g.H.Host.said g.H.Host.clock g.H.Host.since c.payments.host c.turn.new.host) (Puts g.H.Host.said g.H.Host.clock g.H.Host.since c.args.host.now c.turn.new.host)
-          (λ x y. puts-then g.H.Host.said g.H.Host.clock g.H.Host.since _ _ _ x y) _ at last.0 last.1,
-      record { list = last.2.list; sound = last.2.on.sound; runs = c.in-Ok-false.ensures.placed.runs },
+          (λ x y. puts-then g.H.Host.said g.H.Host.clock g.H.Host.since _ _ _ x y) c.payments.text.items _ at c.turn.new.text.items last.0 last.1 last.2,
+      record { list = last.3.list; sound = last.3.on.sound; runs = c.in-Ok-false.ensures.placed.runs },
     )
 
 pub returns-in-Err-clause-answered : goal.returns-in-Err-clause-answered
@@ -57,9 +57,9 @@ returns-in-Err-clause-answered g c = λ queries events is.
     let step = Puts g.H.Host.said g.H.Host.clock g.H.Host.since c.payments.host c.turn.new.host in
     let new = Puts g.H.Host.said g.H.Host.clock g.H.Host.since c.args.host.now c.turn.new.host in
     ⊎_elim
-    (λ none. (expected fault none.0, stop queries c.args.first events c.payments.spot.number old step new (λ x y. puts-then g.H.Host.said g.H.Host.clock g.H.Host.since _ _ _ x y) _ at fault none.1))
-    (λ part. (inr (inr part.0), cut queries c.args.first events c.payments.spot.number old step new (λ x y. puts-then g.H.Host.said g.H.Host.clock g.H.Host.since _ _ _ x y) _ at fault part.0 part.1 part.2.0 part.2.1 part.2.2))
-    (c.in-Err.ensures.turned queries events at.goes).stopped
+    (λ none. (expected fault none.0, stop queries c.args.first events c.payments.spot.number old step new (λ x y. puts-then g.H.Host.said g.H.Host.clock g.H.Host.since _ _ _ x y) c.payments.text.items _ at fault none.1))
+    (λ part. (inr (inr part.0), cut queries c.args.first events c.payments.spot.number old step new (λ x y. puts-then g.H.Host.said g.H.Host.clock g.H.Host.since _ _ _ x y) c.payments.text.items _ at fault part.0 part.1 part.2.0 part.2.1 part.2.2))
+    (c.in-Err.ensures.turned queries events at.lines.held at.lines.text_is at.goes).stopped
 
 pub returns-in-Err-clause-cause : goal.returns-in-Err-clause-cause
 returns-in-Err-clause-cause g c =

@@ -14,7 +14,7 @@ invariant-payments g l = record {
   same : base l.reservoir ≡ base l.fn.reservoir;
   store : LeavesStore g.H.Host.now g.H.Host.may g.H.Host.clock g.H.Host.since g.H.Host.disk_faults g.H.Host.out_faults l.fn.host l.host;
   goes : (queries : List Asked) (events : List Event) → IsPlaying queries events (g.H.Host.now l.fn.host) (g.H.Host.may l.fn.host) (rows.tells l.fn.engine.table) (rows.cell l.fn.engine.table) l.fn.reservoir l.fn.engine (start_of (base l.fn.reservoir))
-      → Progress queries l.fn.first events l.spot.number (Puts g.H.Host.said g.H.Host.clock g.H.Host.since l.fn.host l.host) (IsPlaying queries events (g.H.Host.now l.host) (g.H.Host.may l.host) (rows.tells l.engine.table) (rows.cell l.engine.table) l.reservoir l.engine l.spot);
+      → Progress queries l.fn.first events l.spot.number (Puts g.H.Host.said g.H.Host.clock g.H.Host.since l.fn.host l.host) l.text.items (IsPlaying queries events (g.H.Host.now l.host) (g.H.Host.may l.host) (rows.tells l.engine.table) (rows.cell l.engine.table) l.reservoir l.engine l.spot);
 }
 
 abbrev pub decreases-payments : goal.decreases-payments

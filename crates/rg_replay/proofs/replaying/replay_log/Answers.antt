@@ -1,4 +1,4 @@
-use Rattle.std.proofs.Common.{◌≡◌, ◌∙◌, inl, List, [], Err, ap, sym, subst}
+use Rattle.std.proofs.Common.{◌≡◌, ◌∙◌, inl, List, [], Err, refl, ap, sym, subst}
 use Rattle.std.specs.Prelude.{⊤}
 use Rattle.rg_engine.specs.Feeding.{Serves}
 use Rattle.rg_event.specs.Shapes.{Shape}
@@ -21,27 +21,27 @@ returns-in-Ok-Some-clause-answered g c = λ queries events is.
     let sound = (rw c.in-Ok-Some.field-0-is at c.in-Ok-Some.ensures.sound) is.image events is.told is.settled is.has in
     let going = rw c.in-Ok-Some.field-0-is at c.in-Ok-Some.ensures.going in
     let text = replay_text queries c.args.first events in
-    let went = c.replay_opened.ensures.answered queries events (record {
+    let went = c.replay_opened-replayed.ensures.answered queries events (record {
       read = record { list = sound.1; sound = sound.0; runs = going.0 };
       made = is.made;
       serves = subst (λ (shape : Shape). Serves shape.fields c.args.plan) (sym going.2) is.serves;
     }) in
-    answered_behind text text (Puts g.H.Host.said g.H.Host.clock g.H.Host.since c.view.new.host c.replay_opened.new.host) (Puts g.H.Host.said g.H.Host.clock g.H.Host.since c.args.host.now c.replay_opened.new.host) ⊤
-    (λ x put. puts-then g.H.Host.said g.H.Host.clock g.H.Host.since _ _ _ [] x (puts_nothing g.H.Host.now g.H.Host.may g.H.Host.clock g.H.Host.since g.H.Host.said _ _ c.view.ensures.leaves) put) c.replay_opened.result went
+    answered_behind text text (Puts g.H.Host.said g.H.Host.clock g.H.Host.since c.view.new.host c.replay_opened-replayed.new.host) (Puts g.H.Host.said g.H.Host.clock g.H.Host.since c.args.host.now c.replay_opened-replayed.new.host) ⊤
+    (λ x put. puts-then g.H.Host.said g.H.Host.clock g.H.Host.since _ _ _ [] x (puts_nothing g.H.Host.now g.H.Host.may g.H.Host.clock g.H.Host.since g.H.Host.said _ _ c.view.ensures.leaves) put) c.replay_opened-replayed.result went
 
 pub returns-in-Ok-Some-clause-refused : goal.returns-in-Ok-Some-clause-refused
 returns-in-Ok-Some-clause-refused g c = λ v told why. absurd (c.in-Ok-Some.ensures.exact v told why)
 
-pub returns-in-Ok-Some-clause-cause : goal.returns-in-Ok-Some-clause-cause
-returns-in-Ok-Some-clause-cause g c =
-    let going = rw c.in-Ok-Some.field-0-is at c.in-Ok-Some.ensures.going in
-    if_err_of c.replay_opened.result _ _ c.replay_opened.ensures.cause (λ fault cause.
-    caused_opened g.H.Host.now g.H.Host.may g.H.Host.clock g.H.Host.since g.H.Host.disk_faults g.H.Host.out_faults (base c.in-Ok-Some.viewed) c.args.schema.now fault _ _ _ going.1 going.2
-    (leaves_all g.H.Host.now g.H.Host.may g.H.Host.clock g.H.Host.since g.H.Host.said g.H.Host.disk_faults g.H.Host.out_faults _ _ c.view.ensures.leaves c.view.ensures.disk_faults c.view.ensures.out_faults) cause)
-
-pub returns-in-Ok-Some-clause-leaves : goal.returns-in-Ok-Some-clause-leaves
-returns-in-Ok-Some-clause-leaves g c = leaves_store-then g.H.Host.now g.H.Host.may g.H.Host.clock g.H.Host.since g.H.Host.disk_faults g.H.Host.out_faults _ _ _
-    (leaves_all g.H.Host.now g.H.Host.may g.H.Host.clock g.H.Host.since g.H.Host.said g.H.Host.disk_faults g.H.Host.out_faults _ _ c.view.ensures.leaves c.view.ensures.disk_faults c.view.ensures.out_faults) c.replay_opened.ensures.leaves
+pub returns-in-Ok-Some-clause-ends : goal.returns-in-Ok-Some-clause-ends
+returns-in-Ok-Some-clause-ends g c = record {
+  leaves = leaves_store-then g.H.Host.now g.H.Host.may g.H.Host.clock g.H.Host.since g.H.Host.disk_faults g.H.Host.out_faults _ _ _
+      (leaves_all g.H.Host.now g.H.Host.may g.H.Host.clock g.H.Host.since g.H.Host.said g.H.Host.disk_faults g.H.Host.out_faults _ _ c.view.ensures.leaves c.view.ensures.disk_faults c.view.ensures.out_faults) c.replay_opened-replayed.ensures.leaves;
+  cause =
+      let going = rw c.in-Ok-Some.field-0-is at c.in-Ok-Some.ensures.going in
+      if_err_of c.replay_opened-replayed.result _ _ c.replay_opened-replayed.ensures.cause (λ fault cause.
+      caused_opened g.H.Host.now g.H.Host.may g.H.Host.clock g.H.Host.since g.H.Host.disk_faults g.H.Host.out_faults (base c.in-Ok-Some.viewed) c.args.schema.now fault _ _ _ going.1 going.2
+      (leaves_all g.H.Host.now g.H.Host.may g.H.Host.clock g.H.Host.since g.H.Host.said g.H.Host.disk_faults g.H.Host.out_faults _ _ c.view.ensures.leaves c.view.ensures.disk_faults c.view.ensures.out_faults) cause);
+}
 
 -- where it has none
 
@@ -51,19 +51,19 @@ returns-in-Ok-None-clause-answered g c = λ queries events is.
     let quiet = puts_nothing g.H.Host.now g.H.Host.may g.H.Host.clock g.H.Host.since g.H.Host.said _ _ c.view.ensures.leaves in
     subst (λ (l : List Event). Answered (replay_text queries c.args.first l) (replay_text queries c.args.first l) (Puts g.H.Host.said g.H.Host.clock g.H.Host.since c.args.host.now c.put_end.new.host) ⊤ c.put_end.result) (sym none)
     (last_put queries c.args.first [] (Puts g.H.Host.said g.H.Host.clock g.H.Host.since c.args.host.now c.view.new.host) (Puts g.H.Host.said g.H.Host.clock g.H.Host.since c.view.new.host c.put_end.new.host) (Puts g.H.Host.said g.H.Host.clock g.H.Host.since c.args.host.now c.put_end.new.host)
-    (λ x y. puts-then g.H.Host.said g.H.Host.clock g.H.Host.since _ _ _ x y) quiet c.put_end.result c.put_end.ensures.puts)
+    (λ x y. puts-then g.H.Host.said g.H.Host.clock g.H.Host.since _ _ _ x y) c.new-text.result.items (record { out = []; held = []; both = refl; puts = quiet; text_is = c.new-text.ensures.items }) c.put_end.result (c.put_end.ensures.puts [] c.new-text.ensures.items))
 
 pub returns-in-Ok-None-clause-refused : goal.returns-in-Ok-None-clause-refused
 returns-in-Ok-None-clause-refused g c = λ v told why. absurd (c.in-Ok-None.ensures.exact v told why)
 
-pub returns-in-Ok-None-clause-cause : goal.returns-in-Ok-None-clause-cause
-returns-in-Ok-None-clause-cause g c = if_err_of c.put_end.result _ _ c.put_end.ensures.write (λ fault put.
-    caused_end g.H.Host.now g.H.Host.may g.H.Host.clock g.H.Host.since g.H.Host.disk_faults g.H.Host.out_faults c.args.schema.now fault _ _ _
-    (leaves_all g.H.Host.now g.H.Host.may g.H.Host.clock g.H.Host.since g.H.Host.said g.H.Host.disk_faults g.H.Host.out_faults _ _ c.view.ensures.leaves c.view.ensures.disk_faults c.view.ensures.out_faults) put)
-
-pub returns-in-Ok-None-clause-leaves : goal.returns-in-Ok-None-clause-leaves
-returns-in-Ok-None-clause-leaves g c = leaves_store-then g.H.Host.now g.H.Host.may g.H.Host.clock g.H.Host.since g.H.Host.disk_faults g.H.Host.out_faults _ _ _
-    (leaves_all g.H.Host.now g.H.Host.may g.H.Host.clock g.H.Host.since g.H.Host.said g.H.Host.disk_faults g.H.Host.out_faults _ _ c.view.ensures.leaves c.view.ensures.disk_faults c.view.ensures.out_faults) c.put_end.ensures.leaves
+pub returns-in-Ok-None-clause-ends : goal.returns-in-Ok-None-clause-ends
+returns-in-Ok-None-clause-ends g c = record {
+  leaves = leaves_store-then g.H.Host.now g.H.Host.may g.H.Host.clock g.H.Host.since g.H.Host.disk_faults g.H.Host.out_faults _ _ _
+      (leaves_all g.H.Host.now g.H.Host.may g.H.Host.clock g.H.Host.since g.H.Host.said g.H.Host.disk_faults g.H.Host.out_faults _ _ c.view.ensures.leaves c.view.ensures.disk_faults c.view.ensures.out_faults) c.put_end.ensures.leaves;
+  cause = if_err_of c.put_end.result _ _ c.put_end.ensures.write (λ fault put.
+      caused_end g.H.Host.now g.H.Host.may g.H.Host.clock g.H.Host.since g.H.Host.disk_faults g.H.Host.out_faults c.args.schema.now fault _ _ _
+      (leaves_all g.H.Host.now g.H.Host.may g.H.Host.clock g.H.Host.since g.H.Host.said g.H.Host.disk_faults g.H.Host.out_faults _ _ c.view.ensures.leaves c.view.ensures.disk_faults c.view.ensures.out_faults) put);
+}
 
 -- where the log is refused
 
@@ -77,16 +77,16 @@ returns-in-Err-clause-answered g c = λ queries events is.
 pub returns-in-Err-clause-refused : goal.returns-in-Err-clause-refused
 returns-in-Err-clause-refused g c = λ v told why. (tt, puts_nothing g.H.Host.now g.H.Host.may g.H.Host.clock g.H.Host.since g.H.Host.said _ _ c.view.ensures.leaves)
 
-pub returns-in-Err-clause-cause : goal.returns-in-Err-clause-cause
-returns-in-Err-clause-cause g c =
-    let refused = c.in-Err.ensures in
-    let f = c.in-Err.fault in
-    record {
-      disk = λ is. refused.disk (ap Err (log_disk f (sym c.from.ensures ∙ is)));
-      damaged = λ p is. inl (refused.damaged p (ap Err (log_damaged f p (sym c.from.ensures ∙ is))));
-      write = λ is. absurd (log_not_write f (sym c.from.ensures ∙ is));
-      differs = λ is. refused.differs (ap Err (log_differs f (sym c.from.ensures ∙ is)));
-    }
-
-pub returns-in-Err-clause-leaves : goal.returns-in-Err-clause-leaves
-returns-in-Err-clause-leaves g c = leaves_all g.H.Host.now g.H.Host.may g.H.Host.clock g.H.Host.since g.H.Host.said g.H.Host.disk_faults g.H.Host.out_faults _ _ c.view.ensures.leaves c.view.ensures.disk_faults c.view.ensures.out_faults
+pub returns-in-Err-clause-ends : goal.returns-in-Err-clause-ends
+returns-in-Err-clause-ends g c = record {
+  leaves = leaves_all g.H.Host.now g.H.Host.may g.H.Host.clock g.H.Host.since g.H.Host.said g.H.Host.disk_faults g.H.Host.out_faults _ _ c.view.ensures.leaves c.view.ensures.disk_faults c.view.ensures.out_faults;
+  cause =
+      let refused = c.in-Err.ensures in
+      let f = c.in-Err.fault in
+      record {
+        disk = λ is. refused.disk (ap Err (log_disk f (sym c.from.ensures ∙ is)));
+        damaged = λ p is. inl (refused.damaged p (ap Err (log_damaged f p (sym c.from.ensures ∙ is))));
+        write = λ is. absurd (log_not_write f (sym c.from.ensures ∙ is));
+        differs = λ is. refused.differs (ap Err (log_differs f (sym c.from.ensures ∙ is)));
+      };
+}

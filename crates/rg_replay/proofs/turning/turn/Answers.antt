@@ -1,28 +1,31 @@
-use Rattle.std.proofs.Common.{⊎_elim, inl, inr, ℕ, List, [], ap, sym, subst}
+use Rattle.std.proofs.Common.{⊎_elim, inl, inr, ℕ, List, [], ◌++◌, ap, sym, subst}
 use Rattle.rg_host.specs.Lines.{ended}
 use Rattle.rg_host.specs.Puts.{IsPrefix, Puts}
 use Rattle.rg_host.proofs.PutRuns.{puts-then}
 use Rattle.rg_reservoir.specs.Kept.{base}
 use Rattle.rg_state.specs.contracts.mem_table.MemTableTable.TheImpl.{ghosts as rows}
 use Rattle.rg_replay.specs.Going.{Came}
-use Rattle.rg_replay.specs.Playing.{IsPlaying}
+use Rattle.rg_replay.specs.Playing.{IsPlaying, AreAdded}
+use Rattle.rg_replay.specs.Replay.{line_at}
 use Rattle.rg_replay.proofs.Quiet.{puts_nothing, leaves_of, leaves_store-then, caused_later, caused_put}
 use Rattle.rg_replay.proofs.Starting.{playing_still}
 use Rattle.rg_replay.proofs.Played.{line_told, small_count, below_count}
+use Rattle.rg_replay.proofs.Progress.{added_behind}
 use Rattle.rg_replay.proofs.turning.turn.Goals as goal
 
 pub returns-clause-turned : goal.returns-clause-turned
-returns-clause-turned g c = λ queries events is.
+returns-clause-turned g c = λ queries events held gathered is.
     let step = c.in-Ok-Some.ensures in
     let told = c.in-Ok-Some.told in
     let came = subst (λ found. Came queries events c.args.spot.now.number found (IsPlaying queries events (g.H.Host.now c.step_stored.new.host) (g.H.Host.may c.step_stored.new.host) (rows.tells c.step_stored.new.engine.table) (rows.cell c.step_stored.new.engine.table) c.step_stored.new.reservoir c.step_stored.new.engine c.step_stored.new.spot)) c.in-Ok-Some.field-0-is (step.came queries events is) in
     let quiet = puts_nothing g.H.Host.now g.H.Host.may g.H.Host.clock g.H.Host.since g.H.Host.said _ _ c.step_stored.ensures.quiet.leaves in
-    let line = ap ended (line_told queries c.args.first events c.args.spot.now.number told came.0) in
-    let put = subst (λ l. Puts g.H.Host.said g.H.Host.clock g.H.Host.since c.args.host.now c.put_reply.new.host l) line (puts-then g.H.Host.said g.H.Host.clock g.H.Host.since _ _ _ [] _ quiet c.in-Ok.ensures.puts) in
+    let line = line_told queries c.args.first events c.args.spot.now.number told came.0 in
+    let added = subst (λ (l : List (List ℕ)). AreAdded (held ++ l) (Puts g.H.Host.said g.H.Host.clock g.H.Host.since c.step_stored.new.host c.put_reply.new.host) c.put_reply.new.text.items) line (c.in-Ok.ensures.puts held gathered) in
     let leaves = c.put_reply.ensures.leaves.leaves in
     record {
       more = λ yes. (
-        put,
+        added_behind (held ++ line_at queries c.args.first events c.args.spot.now.number) (Puts g.H.Host.said g.H.Host.clock g.H.Host.since c.step_stored.new.host c.put_reply.new.host) (Puts g.H.Host.said g.H.Host.clock g.H.Host.since c.args.host.now c.put_reply.new.host) c.put_reply.new.text.items
+            (λ x put. puts-then g.H.Host.said g.H.Host.clock g.H.Host.since _ _ _ [] x quiet put) added,
         subst (λ e. IsPlaying queries events (g.H.Host.now c.put_reply.new.host) (g.H.Host.may c.put_reply.new.host) (rows.tells e.table) (rows.cell e.table) c.step_stored.new.reservoir e c.step_stored.new.spot) (sym c.give_back.ensures)
             (playing_still queries events _ _ _ _ _ _ c.step_stored.new.reservoir c.step_stored.new.engine c.step_stored.new.spot leaves.now_stays leaves.may_stays came.1),
       );
@@ -31,35 +34,35 @@ returns-clause-turned g c = λ queries events is.
     }
 
 pub returns-in-Ok-None-clause-turned : goal.returns-in-Ok-None-clause-turned
-returns-in-Ok-None-clause-turned g c = λ queries events is.
+returns-in-Ok-None-clause-turned g c = λ queries events held gathered is.
     let came = subst (λ found. Came queries events c.args.spot.now.number found (IsPlaying queries events (g.H.Host.now c.step_stored.new.host) (g.H.Host.may c.step_stored.new.host) (rows.tells c.step_stored.new.engine.table) (rows.cell c.step_stored.new.engine.table) c.step_stored.new.reservoir c.step_stored.new.engine c.step_stored.new.spot)) c.in-Ok-None.field-0-is (c.in-Ok-None.ensures.came queries events is) in
     record {
       more = λ yes. absurd cc;
-      last = λ no. (came.0, puts_nothing g.H.Host.now g.H.Host.may g.H.Host.clock g.H.Host.since g.H.Host.said _ _ c.step_stored.ensures.quiet.leaves, came.1);
+      last = λ no. (came.0, puts_nothing g.H.Host.now g.H.Host.may g.H.Host.clock g.H.Host.since g.H.Host.said _ _ c.step_stored.ensures.quiet.leaves, gathered, came.1);
       stopped = tt;
     }
 
 pub returns-in-Err-clause-turned : goal.returns-in-Err-clause-turned
-returns-in-Err-clause-turned g c = λ queries events is. record {
+returns-in-Err-clause-turned g c = λ queries events held gathered is. record {
   more = tt;
   last = tt;
   stopped = inl (c.in-Err.ensures.outside queries events is, puts_nothing g.H.Host.now g.H.Host.may g.H.Host.clock g.H.Host.since g.H.Host.said _ _ c.step_stored.ensures.quiet.leaves);
 }
 
 pub returns-in-Err-put_reply-clause-turned : goal.returns-in-Err-put_reply-clause-turned
-returns-in-Err-put_reply-clause-turned g c = λ queries events is.
+returns-in-Err-put_reply-clause-turned g c = λ queries events held gathered is.
     let step = c.in-Ok-Some.ensures in
     let told = c.in-Ok-Some.told in
     let came = subst (λ found. Came queries events c.args.spot.now.number found (IsPlaying queries events (g.H.Host.now c.step_stored.new.host) (g.H.Host.may c.step_stored.new.host) (rows.tells c.step_stored.new.engine.table) (rows.cell c.step_stored.new.engine.table) c.step_stored.new.reservoir c.step_stored.new.engine c.step_stored.new.spot)) c.in-Ok-Some.field-0-is (step.came queries events is) in
     let quiet = puts_nothing g.H.Host.now g.H.Host.may g.H.Host.clock g.H.Host.since g.H.Host.said _ _ c.step_stored.ensures.quiet.leaves in
-    let line = ap ended (line_told queries c.args.first events c.args.spot.now.number told came.0) in
+    let line = ap (λ (l : List (List ℕ)). ended (held ++ l)) (line_told queries c.args.first events c.args.spot.now.number told came.0) in
     record {
       more = tt;
       last = tt;
       stopped = ⊎_elim
           (λ memory. inl (inr memory.0, puts-then g.H.Host.said g.H.Host.clock g.H.Host.since _ _ _ [] [] quiet memory.1))
           (λ write. inr (write.0, below_count queries events c.args.spot.now.number told came.0, (write.1.0, subst (λ (l : List ℕ). IsPrefix write.1.0 l) line write.1.1, puts-then g.H.Host.said g.H.Host.clock g.H.Host.since _ _ _ [] write.1.0 quiet write.1.2)))
-          c.in-Err-put_reply.ensures.puts;
+          (c.in-Err-put_reply.ensures.puts held gathered);
     }
 
 pub returns-clause-one : goal.returns-clause-one

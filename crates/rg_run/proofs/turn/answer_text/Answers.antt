@@ -2,11 +2,9 @@ use Rattle.std.proofs.Common.{Some, ◌∷◌, ◌==◌, sym, ◌∙◌, ap}
 use Rattle.std.specs.List.{list_any}
 use Rattle.std.proofs.lemmas.Result.{on_ok_weaker}
 use Rattle.rg_config.specs.Plans.{planned}
-use Rattle.rg_course.specs.Verdicts.{or_reply}
-use Rattle.rg_row.specs.Rows.{row_of}
 use Rattle.rg_turn.specs.Turning.{terms_of}
 use Rattle.rg_run.proofs.Causes.{never_by, bad_by, undamaged_by, damaged_by}
-use Rattle.rg_run.proofs.Texts.{no_lf_cleaned, as_header, as_line}
+use Rattle.rg_run.proofs.Texts.{no_lf_cleaned, as_header, as_row, as_control}
 use Rattle.rg_run.proofs.turn.answer_text.Goals as goal
 
 pub returns-then-is_header-clause-answers : goal.returns-then-is_header-clause-answers
@@ -23,11 +21,27 @@ returns-then-is_header-clause-answers g c =
       never_bad = λ course items a. never_by c.refuse.result c.refuse.ensures.faults;
     }
 
-pub returns-clause-answers : goal.returns-clause-answers
-returns-clause-answers g c =
+pub returns-in-Some-clause-answers : goal.returns-in-Some-clause-answers
+returns-in-Some-clause-answers g c =
     let plan = planned c.args.plan.now in
-    let item = Some c.args.text.now in
-    let reads = as_line (terms_of plan).basis c.args.turning.now.offset item (sym c.is_header.ensures ∙ c.if-is_header.false) ∙ ap (λ l. or_reply (row_of plan.shape.fields c.args.turning.now.offset l)) (sym c.clean.ensures) in
+    let text = c.args.text.now in
+    let item = Some text in
+    let asks = as_control (terms_of plan).basis c.args.turning.now.offset text c.clean-line.result.now (sym c.is_header.ensures ∙ c.if-is_header.false) c.clean-line.ensures c.in-Some.control (sym c.in-Some.is ∙ c.control_in.ensures) in
+    record {
+      moments = λ course items a. c.obey.ensures.moments plan course item items a asks;
+      awaits = λ course items a. c.obey.ensures.awaits plan course item items a asks;
+      events = λ course items a. c.obey.ensures.events plan course item items a asks;
+      stopped = λ course items a. c.obey.ensures.stopped plan course item items a asks;
+      never_damaged = λ course items a. damaged_by c.obey.result (λ p is. c.obey.ensures.never_damaged plan course (item ∷ items) p a is);
+      never_bad = λ course items a. bad_by c.obey.result (λ n is. c.obey.ensures.never_bad n is);
+    }
+
+pub returns-in-None-clause-answers : goal.returns-in-None-clause-answers
+returns-in-None-clause-answers g c =
+    let plan = planned c.args.plan.now in
+    let text = c.args.text.now in
+    let item = Some text in
+    let reads = as_row (terms_of plan).basis c.args.turning.now.offset text c.clean-line.result.now (sym c.is_header.ensures ∙ c.if-is_header.false) c.clean-line.ensures (sym c.in-None.is ∙ c.control_in.ensures) in
     record {
       moments = λ course items a. c.answer.ensures.moments course item items a reads;
       awaits = λ course items a. c.answer.ensures.awaits course item items a reads;
@@ -44,4 +58,7 @@ pub returns-then-is_header-clause-placed : goal.returns-then-is_header-clause-pl
 returns-then-is_header-clause-placed g c = λ placed. on_ok_weaker c.refuse.result (λ _. c.refuse.ensures.placed (planned c.args.plan.now) placed) c.refuse.ensures.offset
 
 pub answer-requires-clause-one_line : goal.answer-requires-clause-one_line
-answer-requires-clause-one_line g c = ap (λ l. list_any (λ byte. byte == 10) l) c.clean.ensures ∙ no_lf_cleaned c.args.turning.now.offset c.args.text.now c.requires.one_line
+answer-requires-clause-one_line g c = ap (λ l. list_any (λ byte. byte == 10) l) c.clean-line.ensures ∙ no_lf_cleaned c.args.turning.now.offset c.args.text.now c.requires.one_line
+
+pub returns-in-Some-clause-undamaged : goal.returns-in-Some-clause-undamaged
+returns-in-Some-clause-undamaged g c = λ p placed is. c.obey.ensures.undamaged (planned c.args.plan.now) p placed is

@@ -122,7 +122,7 @@ returns-in-Ok-tell-clause-awaits g c = λ course item items a reads.
     subst (λ (x : Sitting g.row.T.Denot). IsAwaiting plan course (c.args.offset + 1) items (g.H.Host.now c.settle.new.host) (g.H.Host.may c.settle.new.host) (g.H.Host.said c.settle.new.host) c.tell.new.gathered.items (g.T.Table.tells x.engine.table) (g.T.Table.cell x.engine.table) x) (sym c.reuse.ensures)
     (then_awaits g.H.Host.now g.H.Host.may g.H.Host.clock g.H.Host.since g.H.Host.said plan course c.args.offset item items (g.T.Table.tells s.engine.table) (g.T.Table.cell s.engine.table) h c.line.new.host s then c.args.gathered.now.items a c.requires.way (c.line.ensures.within_step plan s.keep a.running) c.line.ensures.roomy
     c.args.line.now (g.T.Table.tells then.engine.table) (g.T.Table.cell then.engine.table) c.requires.next reads (c.in-Ok.ensures.running plan a.running) c.line.ensures.stays.1 (c.in-Ok.ensures.stored plan s.keep a.running) (c.in-Ok.ensures.events plan a.running)
-    (g.T.Table.tells last.engine.table) (g.T.Table.cell last.engine.table) c.settle.new.host last left m2 c.due_at-due.result c.count-before.result c.count.result c.count-before.ensures c.count.ensures (c.in-Ok-settle.ensures.count plan m1.running) c.due_at-due.ensures
+    (g.T.Table.tells last.engine.table) (g.T.Table.cell last.engine.table) c.settle.new.host last left m2 c.due_at-due.result c.count-before.result c.count.result c.count-before.ensures c.count.ensures c.due_at-due.ensures
     c.requires.small done c.in-Ok.reply (c.in-Ok.ensures.reply plan a.running) c.tell.new.gathered.items c.in-Ok-tell.ensures.all)
 
 pub returns-in-Ok-tell-clause-events : goal.returns-in-Ok-tell-clause-events

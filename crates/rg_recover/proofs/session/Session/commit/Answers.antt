@@ -23,13 +23,13 @@ returns-in-Ok-clause-running g c = rw (← c.self.view_is) (λ plan runs.
     let h = c.args.host.now in
     let then = c.commit_open.new.host in
     let e = c.self.inside.engine in
-    let s : Sitting g.row.T.Denot = record { reservoir = c.self.inside.reservoir; engine = e; texts = c.self.inside.texts; keep = c.self.inside.keep; saved = c.self.inside.saved; ended = c.self.inside.ended } in
-    let new : Sitting g.row.T.Denot = record { reservoir = c.commit_open.new.reservoir; engine = e; texts = c.self.inside.texts; keep = c.self.inside.keep; saved = c.self.inside.saved; ended = c.self.inside.ended } in
+    let s : Sitting g.row.T.Denot = record { reservoir = c.self.inside.reservoir; engine = e; texts = c.self.inside.texts; grace = c.self.inside.grace; keep = c.self.inside.keep; saved = c.self.inside.saved; ended = c.self.inside.ended } in
+    let new : Sitting g.row.T.Denot = record { reservoir = c.commit_open.new.reservoir; engine = e; texts = c.self.inside.texts; grace = c.self.inside.grace; keep = c.self.inside.keep; saved = c.self.inside.saved; ended = c.self.inside.ended } in
     let log = runs.ready.in_step.reservoir in
     runs_still plan (g.H.Host.now h) (g.H.Host.now then) (g.H.Host.may h) (g.H.Host.may then) (g.T.Table.tells e.table) (g.T.Table.tells e.table) (g.T.Table.cell e.table) (g.T.Table.cell e.table) s new (opened c.self.inside.reservoir) runs
     (ready_stepped plan (g.H.Host.now h) (g.H.Host.now then) (g.H.Host.may h) (g.H.Host.may then) (g.T.Table.tells e.table) (g.T.Table.cell e.table) c.self.inside.reservoir c.commit_open.new.reservoir e c.self.inside.texts runs.ready
     (c.in-Ok.ensures.in_step plan (g.T.Table.cell e.table) e.spots c.self.inside.texts runs.ready.in_step))
-    c.in-Ok.ensures.stays.2 c.if-self.false (c.in-Ok.ensures.settled plan 0 log first_apart runs.first_settled) (c.in-Ok.ensures.settled plan 1 log second_apart runs.second_settled)
+    c.in-Ok.ensures.stays.2 refl c.if-self.false (c.in-Ok.ensures.settled plan 0 log first_apart runs.first_settled) (c.in-Ok.ensures.settled plan 1 log second_apart runs.second_settled)
     refl refl c.in-Ok.ensures.grows (c.in-Ok.ensures.stepped plan c.self.inside.keep log))
 
 pub returns-in-Err-Memory-clause-within_step : goal.returns-in-Err-Memory-clause-within_step
@@ -47,6 +47,7 @@ returns-in-Err g c = record {
   empty = tt;
   count = search rules;
   stays = search rules;
+  grace = search rules;
   last = search rules;
   log = search rules;
   rooms = search rules;

@@ -1,4 +1,4 @@
-use Rattle.std.proofs.Common.{◌≡◌, ◌∙◌, ◌+◌, List, take, sym, subst}
+use Rattle.std.proofs.Common.{◌≡◌, ◌∙◌, ◌+◌, List, take, refl, sym, subst}
 use Rattle.rg_event.specs.Rising.{next_offset}
 use Rattle.rg_event.specs.declared.event.Event.{Event}
 use Rattle.rg_config.specs.Plans.{planned}
@@ -14,8 +14,8 @@ returns-in-Ok-clause-running g c = λ openable tells.
     let h = c.open_store.new.host in
     let o = c.in-Ok.opened in
     subst (λ (s : Sitting g.row.T.Denot). IsRunning (planned c.args.plan.now) (g.H.Host.now h) (g.H.Host.may h) (g.T.Table.tells s.engine.table) (g.T.Table.cell s.engine.table) s) (sym c.new.ensures)
-    (started_running (planned c.args.plan.now) (g.H.Host.now h) (g.H.Host.may h) (g.T.Table.tells o.engine.table) (g.T.Table.cell o.engine.table) o.reservoir o.engine o.texts o.keep o.saved
-    (c.in-Ok.ensures.started openable tells) (c.in-Ok.ensures.settled openable.image openable.told) c.in-Ok.ensures.reservoir.3)
+    (started_running (planned c.args.plan.now) (g.H.Host.now h) (g.H.Host.may h) (g.T.Table.tells o.engine.table) (g.T.Table.cell o.engine.table) o.reservoir o.engine o.texts c.args.plan.now.grace o.keep o.saved
+    (c.in-Ok.ensures.started openable tells) (c.in-Ok.ensures.settled openable.image openable.told) c.in-Ok.ensures.reservoir.3 refl)
 
 pub returns-in-Ok-clause-passed : goal.returns-in-Ok-clause-passed
 returns-in-Ok-clause-passed g c = λ openable.

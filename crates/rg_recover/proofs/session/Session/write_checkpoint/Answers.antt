@@ -19,7 +19,7 @@ returns-in-Ok-write_slot-clause-within_step g c =
     rw (← c.self.view_is) (λ plan runs.
     let h = c.args.host.now in
     let e = c.self.inside.engine in
-    let s : Sitting g.row.T.Denot = record { reservoir = c.self.inside.reservoir; engine = e; texts = c.self.inside.texts; keep = c.self.inside.keep; saved = c.self.inside.saved; ended = c.self.inside.ended } in
+    let s : Sitting g.row.T.Denot = record { reservoir = c.self.inside.reservoir; engine = e; texts = c.self.inside.texts; grace = c.self.inside.grace; keep = c.self.inside.keep; saved = c.self.inside.saved; ended = c.self.inside.ended } in
     let enc = subst (λ (p : List ℕ). Encodes (g.T.Table.cell e.table) c.self.inside.texts c.count-count.result e.spots [] p) (sym c.deref.ensures.value) (c.in-Ok.ensures.encodes runs.ready.tells) in
     let to = to_write plan (g.H.Host.now h) (g.H.Host.may h) (g.T.Table.tells e.table) (g.T.Table.cell e.table) s c.count-count.result c.deref.result.now runs empty c.self.invariant.keep enc c.count-count.ensures.count
     (λ checkpoint. c.law_checkpoints.ensures.saved plan h c.self.inside.reservoir (g.T.Table.cell e.table) checkpoint) in
@@ -31,7 +31,7 @@ returns-in-Ok-write_slot-clause-running g c =
     rw (← c.self.view_is) (λ plan runs.
     let h = c.args.host.now in
     let e = c.self.inside.engine in
-    let s : Sitting g.row.T.Denot = record { reservoir = c.self.inside.reservoir; engine = e; texts = c.self.inside.texts; keep = c.self.inside.keep; saved = c.self.inside.saved; ended = c.self.inside.ended } in
+    let s : Sitting g.row.T.Denot = record { reservoir = c.self.inside.reservoir; engine = e; texts = c.self.inside.texts; grace = c.self.inside.grace; keep = c.self.inside.keep; saved = c.self.inside.saved; ended = c.self.inside.ended } in
     let enc = subst (λ (p : List ℕ). Encodes (g.T.Table.cell e.table) c.self.inside.texts c.count-count.result e.spots [] p) (sym c.deref.ensures.value) (c.in-Ok.ensures.encodes runs.ready.tells) in
     let to = to_write plan (g.H.Host.now h) (g.H.Host.may h) (g.T.Table.tells e.table) (g.T.Table.cell e.table) s c.count-count.result c.deref.result.now runs empty c.self.invariant.keep enc c.count-count.ensures.count
     (λ checkpoint. c.law_checkpoints.ensures.saved plan h c.self.inside.reservoir (g.T.Table.cell e.table) checkpoint) in
@@ -39,7 +39,7 @@ returns-in-Ok-write_slot-clause-running g c =
     let then = c.write_slot.new.host in
     let saved = checkpoint_of c.self.inside.texts c.count-count.result e.spots enc.rows in
     running_saved plan (g.H.Host.now h) (g.H.Host.now then) (g.H.Host.may h) (g.H.Host.may then) (g.T.Table.tells e.table) (g.T.Table.tells f.table) (g.T.Table.cell e.table) (g.T.Table.cell f.table)
-    c.self.inside.reservoir e f c.self.inside.texts c.self.inside.keep c.self.inside.saved c.in-Ok-write_slot.slot c.count-count.result c.self.inside.ended runs
+    c.self.inside.reservoir e f c.self.inside.texts c.self.inside.grace c.self.inside.keep c.self.inside.saved c.in-Ok-write_slot.slot c.count-count.result c.self.inside.ended runs
     (c.write_payload.ensures.rows.tells.1 runs.ready.tells) (c.write_payload.ensures.same runs.ready.tells)
     (ap (λ (x : Seen g.row.T.Denot). x.plan) c.write_payload.ensures.engine) (ap (λ (x : Seen g.row.T.Denot). x.spots) c.write_payload.ensures.engine)
     c.write_slot.ensures.log (c.in-Ok-write_slot.ensures.settled 0 runs.first_settled) (c.in-Ok-write_slot.ensures.settled 1 runs.second_settled) c.self.invariant.keep c.in-Ok-write_slot.ensures.number
@@ -53,7 +53,7 @@ returns-clause-within_step g c =
     rw (← c.self.view_is) (λ plan runs.
     let h = c.args.host.now in
     let e = c.self.inside.engine in
-    let s : Sitting g.row.T.Denot = record { reservoir = c.self.inside.reservoir; engine = e; texts = c.self.inside.texts; keep = c.self.inside.keep; saved = c.self.inside.saved; ended = c.self.inside.ended } in
+    let s : Sitting g.row.T.Denot = record { reservoir = c.self.inside.reservoir; engine = e; texts = c.self.inside.texts; grace = c.self.inside.grace; keep = c.self.inside.keep; saved = c.self.inside.saved; ended = c.self.inside.ended } in
     let enc = subst (λ (p : List ℕ). Encodes (g.T.Table.cell e.table) c.self.inside.texts c.count-count.result e.spots [] p) (sym c.deref.ensures.value) (c.in-Ok.ensures.encodes runs.ready.tells) in
     let to = to_write plan (g.H.Host.now h) (g.H.Host.may h) (g.T.Table.tells e.table) (g.T.Table.cell e.table) s c.count-count.result c.deref.result.now runs empty c.self.invariant.keep enc c.count-count.ensures.count
     (λ checkpoint. c.law_checkpoints.ensures.saved plan h c.self.inside.reservoir (g.T.Table.cell e.table) checkpoint) in

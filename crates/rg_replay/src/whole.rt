@@ -1,0 +1,15 @@
+ghost use Rattle.std.specs.Prelude.{◌≡◌, ℕ, List, [], ◌∷◌, ◌++◌, Option};
+ghost use Rattle.rg_event.specs.declared.event.Event.{Event};
+ghost use Rattle.rg_event.specs.Rising.{next_offset, IsRising};
+ghost use Rattle.rg_course.specs.Accepted.{events_before};
+ghost use Rattle.rg_course.specs.Output.{Terms};
+ghost use Rattle.rg_replay.specs.Replay.{end_line, replay_text};
+ghost use Rattle.rg_replay.specs.Runs.{answered_before};
+
+/// The whole text of a replay over what a run leaves, from the next offset of the events that its store held on:
+/// the lines for the payments that the run accepted, and the last line.
+#[tactic(auto, using(crate::proofs::Wholes::same_text))]
+pub fn law_whole_text()
+    ensures whole { (terms : Terms) (held : List Event) (first : ℕ) (lines : List (Option (List ℕ))) (i : ℕ) (events : List Event) → IsRising held → events ≡ events_before terms.basis held first lines i →
+        replay_text terms.basis.queries (next_offset held) events ≡ answered_before terms held first lines i ++ end_line events ∷ [] }
+{}

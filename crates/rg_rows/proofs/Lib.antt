@@ -1,0 +1,12 @@
+pub mod Sizes
+pub mod Values
+pub mod Suited
+pub mod Listed
+pub mod Gathers
+pub mod Kept
+pub mod Keeps
+pub mod Beyond
+pub mod Times
+pub mod Maps
+pub mod Rowwise
+pub mod Judged

@@ -1,0 +1,5 @@
+pub mod Reading
+pub mod Logs
+pub mod Fits
+pub mod Judged
+pub mod Chunks

@@ -1,0 +1,18 @@
+use Rattle.std.proofs.Common.{length, refl, sym, subst}
+use Rattle.std.specs.Prelude.{◌↔◌, IsTrue, All}
+use Rattle.std.proofs.lemmas.Result.{IfOk-weaker}
+use Rattle.rg_reservoir.specs.Naming.{IsNamed}
+use Rattle.rg_verify.specs.Fitting.{FitsAmong}
+use Rattle.rg_verify.proofs.Fits.{is_false, among, not_among}
+use Rattle.rg_verify.proofs.fitting.is_fit.Goals as goal
+
+pub returns-then-not-fits-clause-fit : goal.returns-then-not-fits-clause-fit
+returns-then-not-fits-clause-fit g c = λ v payloads told has.
+    not_among c.args.fields.now c.args.task.now c.args.log.now.framed (length c.args.log.now.events) payloads c.args.checkpoint.now (λ beside. is_false (subst IsTrue c.if-not-fits.true (c.fits.ensures.1 beside)))
+
+pub returns-in-Some-clause-fit : goal.returns-in-Some-clause-fit
+returns-in-Some-clause-fit g c = λ v payloads told has.
+    IfOk-weaker c.spots_are_named.result (λ are. IsTrue are ↔ All (IsNamed payloads (length c.args.log.now.events)) c.args.checkpoint.now.spots)
+    (λ are. IsTrue are ↔ FitsAmong c.args.fields.now c.args.task.now c.args.log.now.framed (length c.args.log.now.events) payloads c.args.checkpoint.now)
+    (λ are named. among c.args.fields.now c.args.task.now c.args.log.now.framed (length c.args.log.now.events) payloads c.args.checkpoint.now are (c.fits.ensures.0 (subst IsTrue (sym c.if-not-fits.false) refl)) named)
+    (c.spots_are_named.ensures.named v payloads told has)

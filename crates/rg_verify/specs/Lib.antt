@@ -1,0 +1,5 @@
+pub mod Faults
+pub mod Payments
+pub mod Verdicts
+pub mod Fitting
+pub mod Verify

@@ -1,0 +1,28 @@
+-- What a log has, up to where it ends or is damaged.
+use Rattle.std.specs.Prelude.{ℕ, Bool, true, false, List, [], ◌∷◌, ◌++◌}
+use Rattle.rg_event.specs.declared.event.Event.{Event}
+use Rattle.rg_reservoir.specs.declared.walk.Stage.{Stage}
+use Rattle.rg_reservoir.specs.declared.walk.Stage.TheVariants as stage
+use Rattle.rg_dump.specs.Stages.{stages_of}
+
+-- the events of a frame
+abbrev pub stage_events : Stage → List Event
+stage_events (stage.Schema shape) = []
+stage_events (stage.Chunk events) = events
+
+-- the events of frames, one after another
+abbrev pub events_in : List Stage → List Event
+events_in [] = []
+events_in (s ∷ stages) = stage_events s ++ events_in stages
+
+abbrev pub has_frames : List Stage → Bool
+has_frames [] = false
+has_frames (s ∷ stages) = true
+
+-- the events of the log of a file
+abbrev pub payments_in : List ℕ → List Event
+payments_in bytes = events_in (stages_of bytes).stages
+
+-- the log of a file has a frame
+abbrev pub is_framed : List ℕ → Bool
+is_framed bytes = has_frames (stages_of bytes).stages

@@ -1,0 +1,79 @@
+use rg_bytes::Memory;
+use rg_checkpoint::SlotFault;
+use rg_reservoir::ReservoirFault;
+use std::error::Error;
+use std::fmt;
+
+/// Why the lines on the slots weren't all put.
+#[derive(Clone, Copy, Debug, PartialEq, Eq, Hash)]
+pub enum VerifyFault {
+    /// A call on a file failed, and the host has counted it.
+    Disk,
+    /// The open frame of the log at that place, in bytes, is the first one that isn't whole, isn't what its
+    /// position asks for, or doesn't continue the frames before it.
+    Damaged(u64),
+    /// The log's first frame is another schema than the plan's.
+    SchemaDiffers,
+    /// Memory ran out.
+    Memory,
+    /// A put of the output failed, and the host has counted it.
+    Write,
+}
+
+impl fmt::Display for VerifyFault {
+    fn fmt<W: fmt::Write>(&self, f: &mut fmt::Formatter<W>) -> fmt::Result {
+        match self {
+            VerifyFault::Disk => f.write_str("a call on a file failed"),
+            VerifyFault::Damaged(place) => write!(f, "the frame at byte {place} is damaged"),
+            VerifyFault::SchemaDiffers => f.write_str("the log has another schema"),
+            VerifyFault::Memory => f.write_str("out of memory"),
+            VerifyFault::Write => f.write_str("a put of the output failed"),
+        }
+    }
+}
+
+impl Error for VerifyFault {}
+
+impl From<Memory> for VerifyFault {
+    ghost use Rattle.std.specs.Prelude.{◌≡◌};
+    ghost use Rattle.rg_verify.specs.declared.fault.VerifyFault.TheVariants.{Memory};
+
+    ghost from_gives = { λ _ fault. fault ≡ Memory };
+
+    fn from(_memory: Memory) -> VerifyFault {
+        VerifyFault::Memory
+    }
+}
+
+/// What a fault of a log that is read is here. None of the last two comes then.
+impl From<ReservoirFault> for VerifyFault {
+    ghost use Rattle.std.specs.Prelude.{◌≡◌};
+    ghost use Rattle.rg_verify.specs.Faults.{of_log};
+
+    ghost from_gives = { λ old fault. fault ≡ of_log old };
+
+    fn from(fault: ReservoirFault) -> VerifyFault {
+        match fault {
+            ReservoirFault::Disk => VerifyFault::Disk,
+            ReservoirFault::Damaged(place) => VerifyFault::Damaged(place),
+            ReservoirFault::Memory => VerifyFault::Memory,
+            ReservoirFault::SchemaDiffers => VerifyFault::SchemaDiffers,
+            ReservoirFault::Full | ReservoirFault::Ended => VerifyFault::Memory,
+        }
+    }
+}
+
+/// What a fault of the slots is here. Reading them never answers the last one.
+impl From<SlotFault> for VerifyFault {
+    ghost use Rattle.std.specs.Prelude.{◌≡◌};
+    ghost use Rattle.rg_verify.specs.Faults.{of_slot};
+
+    ghost from_gives = { λ old fault. fault ≡ of_slot old };
+
+    fn from(fault: SlotFault) -> VerifyFault {
+        match fault {
+            SlotFault::Disk => VerifyFault::Disk,
+            SlotFault::Memory | SlotFault::Ended => VerifyFault::Memory,
+        }
+    }
+}

@@ -1,0 +1,89 @@
+ghost use Rattle.std.specs.Prelude.{◌≡◌, ◌<◌, ◌≤◌, ◌++◌, ◌∷◌, [], ℕ, Some, None, length, slice_get, IfOk, OnOk, IsErrOf};
+ghost use Rattle.std.specs.Option.{ForSome};
+ghost use Rattle.rg_bytes.specs.Counts.{Rose};
+ghost use Rattle.rg_dump.specs.Dump.{damage_of};
+ghost use Rattle.rg_event.specs.declared.event.Event.{Event};
+ghost use Rattle.rg_host.specs.Moments.{LeavesAll};
+ghost use Rattle.rg_reservoir.specs.declared.walk.Stage.TheVariants as stage;
+ghost use Rattle.rg_verify.specs.Payments.{stage_events, payments_in, is_framed};
+
+use crate::fault::VerifyFault;
+use rg_bytes::Memory;
+use rg_chunk::Chunk;
+use rg_event::Events;
+use rg_host::Host;
+use rg_reservoir::{Stage, Walk};
+use std::alloc::Global;
+
+/// What a log has.
+#[derive(Debug, Drop)]
+pub(crate) struct Payments {
+    /// All payments, in order.
+    pub(crate) events: Events,
+    /// Whether there is a frame.
+    pub(crate) framed: bool,
+}
+
+/// Adds a copy of the event of that index of a chunk.
+#[tactic(auto, using(crate::proofs::Chunks::has_event))]
+fn push_event(alloc: Global, events: &mut Events, chunk: &Chunk, index: u32) -> Result<(), Memory>
+    requires within { index < length chunk.now }
+    ensures { OnOk result ((event : Event) × (slice_get chunk.now index ≡ Some event) × (events.new ≡ events.old ++ event ∷ [])) }
+{
+    let event = match chunk.get(index) {
+        Some(event) => event,
+        None => unreachable!(),
+    };
+    let copy = event.copy(alloc)?;
+    events.push(copy)?;
+    Ok(())
+}
+
+/// Adds copies of the events of a chunk.
+fn push_chunk(alloc: Global, events: &mut Events, chunk: &Chunk) -> Result<(), Memory>
+    ensures { OnOk result (events.new ≡ events.old ++ chunk.now) }
+{
+    'places: for index in 0..chunk.count() {
+        push_event(alloc, events, chunk, index)?;
+    }
+    Ok(())
+}
+
+/// Adds copies of the events of a frame.
+fn push_stage(alloc: Global, events: &mut Events, stage: &Stage) -> Result<(), Memory>
+    ensures { OnOk result (events.new ≡ events.old ++ stage_events stage.now) }
+{
+    match stage {
+        Stage::Schema(_) => Ok(()),
+        Stage::Chunk(chunk) => push_chunk(alloc, events, chunk),
+    }
+}
+
+/// Reads the whole log of file 2, chunks included. It takes the memory of all payments.
+pub(crate) fn read_log<H: Host>(alloc: Global, host: &mut H) -> Result<Payments, VerifyFault>
+    ensures events { IfOk result (λ log. ForSome (H.now host.old) (λ v. log.events ≡ payments_in (v 2))) }
+    ensures framed { IfOk result (λ log. ForSome (H.now host.old) (λ v. log.framed ≡ is_framed (v 2))) }
+    ensures undamaged { OnOk result (ForSome (H.now host.old) (λ v. damage_of (v 2) ≡ None)) }
+    ensures damaged { (p : ℕ) → IsErrOf result (VerifyFault.Damaged p) → ForSome (H.now host.old) (λ v. damage_of (v 2) ≡ Some p) }
+    ensures never { (IsErrOf result VerifyFault.Write → ⊥) × (IsErrOf result VerifyFault.SchemaDiffers → ⊥) }
+    ensures disk { IsErrOf result VerifyFault.Disk → Rose (H.disk_faults host.old) (H.disk_faults host.new) }
+    ensures leaves { LeavesAll H.now H.may H.clock H.since H.said host.old host.new }
+    ensures disk_faults { H.disk_faults host.old ≤ H.disk_faults host.new }
+    ensures out_faults { H.out_faults host.new ≡ H.out_faults host.old }
+{
+    let mut walk = Walk::new(alloc);
+    let mut events = Events::new(alloc);
+    let mut framed = false;
+    'frames: loop {
+        let stage = match walk.next(host) {
+            Ok(Some(stage)) => stage,
+            Ok(None) => return Ok(Payments { events, framed }),
+            Err(fault) => return Err(VerifyFault::from(fault)),
+        };
+        match push_stage(alloc, &mut events, &stage) {
+            Ok(()) => {}
+            Err(_) => return Err(VerifyFault::Memory),
+        }
+        framed = true;
+    }
+}

@@ -1,0 +1,256 @@
+ghost use Rattle.std.specs.Prelude.{◌≡◌, ◌⊎◌, ◌≤◌, ◌^◌, true, [], ℕ, List, Some, None, IfOk, IfErr, IfSome, OnOk, IsErrOf};
+ghost use Rattle.std.specs.Option.{ForSome};
+ghost use Rattle.rg_bytes.specs.Counts.{Rose};
+ghost use Rattle.rg_event.specs.Shapes.{Shape};
+ghost use Rattle.rg_event.specs.declared.event.Event.{Event as TheEvent};
+ghost use Rattle.rg_dump.specs.Dump.{damage_of};
+ghost use Rattle.rg_frame.specs.Frames.{HasPayloads};
+ghost use Rattle.rg_host.specs.Image.{Image};
+ghost use Rattle.rg_host.specs.Lines.{ended};
+ghost use Rattle.rg_host.specs.Moments.{LeavesAll, LeavesFiles};
+ghost use Rattle.rg_host.specs.Puts.{IsPrefix, Puts};
+ghost use Rattle.rg_log.specs.Log.{schema_payload};
+ghost use Rattle.rg_reservoir.specs.Attached.{IsOther};
+ghost use Rattle.rg_reservoir.specs.Kept.{opened};
+ghost use Rattle.rg_rows.specs.Rows.{AreServed};
+ghost use Rattle.rg_verify.specs.Faults.{IsFromOutside};
+ghost use Rattle.rg_verify.specs.Fitting.{AreVerdicts, terms_of};
+ghost use Rattle.rg_verify.specs.Payments.{is_framed};
+ghost use Rattle.rg_verify.specs.Verify.{IsVerifiable, IsVerified, IsSaid, IsCut, verify_lines, one_differs};
+
+use crate::fault::VerifyFault;
+use crate::finding::{find, first_damage};
+use crate::judging::{Wanted, judge_slot};
+use crate::payments::{Payments, read_log};
+use crate::text::lines_of;
+use crate::verdict::Verdict;
+use rg_checkpoint::Slots;
+use rg_event::{Room, Schema, Texts};
+use rg_host::{Failed, Host, put_all};
+use rg_plan::TaskPlan;
+use rg_reservoir::Reservoir;
+use std::alloc::Global;
+
+/// What both slots are.
+#[derive(Clone, Copy, Debug, PartialEq, Eq, Hash)]
+struct Verdicts {
+    first: Verdict,
+    second: Verdict,
+}
+
+/// What the two slots are to the queries beside this log.
+fn judge_both<H: Host>(
+    alloc: Global,
+    host: &mut H,
+    found: &Option<Reservoir>,
+    wanted: &Wanted<'_>,
+    log: &Payments,
+    slots: &Slots,
+) -> Result<Verdicts, VerifyFault>
+    requires empty { IfSome found.now (λ r. opened r ≡ []) }
+    requires fresh { slots.now.fresh ≡ true }
+    ensures verdicts { (shape : Shape) (v : Image) (payloads : List (List ℕ)) → shape.fields ≡ wanted.now.fields.now → H.now host.old ≡ Some v → HasPayloads payloads (v 2) → log.now.framed ≡ is_framed (v 2) → AreServed wanted.now.task.now log.now.events →
+        IfOk result (λ verdicts. AreVerdicts (terms_of wanted.now.queries.now shape wanted.now.task.now) (v 2) log.now.events slots.now.first slots.now.second verdicts.first verdicts.second) }
+    ensures outside { IfErr result IsFromOutside }
+    ensures no_write { IsErrOf result VerifyFault.Write → ⊥ }
+    ensures disk { IsErrOf result VerifyFault.Disk → Rose (H.disk_faults host.old) (H.disk_faults host.new) }
+    ensures leaves { LeavesAll H.now H.may H.clock H.since H.said host.old host.new }
+    ensures disk_faults { H.disk_faults host.old ≤ H.disk_faults host.new }
+    ensures out_faults { H.out_faults host.new ≡ H.out_faults host.old }
+{
+    let first = match judge_slot(alloc, host, found, wanted, log, slots, 0) {
+        Ok(first) => first,
+        Err(fault) => return Err(fault),
+    };
+    match judge_slot(alloc, host, found, wanted, log, slots, 1) {
+        Ok(second) => Ok(Verdicts { first, second }),
+        Err(fault) => Err(fault),
+    }
+}
+
+/// Holds both slots against a log that was read to its end.
+fn judge_slots<H: Host>(
+    alloc: Global,
+    host: &mut H,
+    found: &Option<Reservoir>,
+    wanted: &Wanted<'_>,
+    log: &Payments,
+) -> Result<Verdicts, VerifyFault>
+    requires empty { IfSome found.now (λ r. opened r ≡ []) }
+    ensures verified { (shape : Shape) (v : Image) (payloads : List (List ℕ)) → shape.fields ≡ wanted.now.fields.now → H.now host.old ≡ Some v → HasPayloads payloads (v 2) → log.now.framed ≡ is_framed (v 2) → AreServed wanted.now.task.now log.now.events →
+        IfOk result (λ verdicts. IsVerified (terms_of wanted.now.queries.now shape wanted.now.task.now) v log.now.events verdicts.first verdicts.second) }
+    ensures outside { IfErr result IsFromOutside }
+    ensures no_write { IsErrOf result VerifyFault.Write → ⊥ }
+    ensures disk { IsErrOf result VerifyFault.Disk → Rose (H.disk_faults host.old) (H.disk_faults host.new) }
+    ensures leaves { LeavesAll H.now H.may H.clock H.since H.said host.old host.new }
+    ensures disk_faults { H.disk_faults host.old ≤ H.disk_faults host.new }
+    ensures out_faults { H.out_faults host.new ≡ H.out_faults host.old }
+{
+    match Slots::attach(alloc, host) {
+        Ok(slots) => judge_both(alloc, host, found, wanted, log, &slots),
+        Err(fault) => Err(VerifyFault::from(fault)),
+    }
+}
+
+/// Holds both slots against a log that was read to its end, by the queries of a plan.
+fn judge_read<H: Host>(
+    alloc: Global,
+    host: &mut H,
+    schema: &Schema,
+    task: &TaskPlan,
+    queries: &Texts,
+    found: &Option<Reservoir>,
+    log: &Payments,
+) -> Result<Verdicts, VerifyFault>
+    requires empty { IfSome found.now (λ r. opened r ≡ []) }
+    ensures verified { (v : Image) (payloads : List (List ℕ)) → H.now host.old ≡ Some v → HasPayloads payloads (v 2) → log.now.framed ≡ is_framed (v 2) → AreServed task.now log.now.events →
+        IfOk result (λ verdicts. IsVerified (terms_of queries.now schema.now task.now) v log.now.events verdicts.first verdicts.second) }
+    ensures outside { IfErr result IsFromOutside }
+    ensures no_write { IsErrOf result VerifyFault.Write → ⊥ }
+    ensures disk { IsErrOf result VerifyFault.Disk → Rose (H.disk_faults host.old) (H.disk_faults host.new) }
+    ensures leaves { LeavesAll H.now H.may H.clock H.since H.said host.old host.new }
+    ensures disk_faults { H.disk_faults host.old ≤ H.disk_faults host.new }
+    ensures out_faults { H.out_faults host.new ≡ H.out_faults host.old }
+{
+    let wanted = Wanted {
+        queries,
+        fields: schema.fields(),
+        task,
+    };
+    judge_slots(alloc, host, found, &wanted, log)
+}
+
+/// Reads the whole log, and holds both slots against it.
+fn judge_log<H: Host>(
+    alloc: Global,
+    host: &mut H,
+    schema: &Schema,
+    task: &TaskPlan,
+    queries: &Texts,
+    found: &Option<Reservoir>,
+) -> Result<Verdicts, VerifyFault>
+    requires empty { IfSome found.now (λ r. opened r ≡ []) }
+    ensures verified { (v : Image) (events : List TheEvent) → H.now host.old ≡ Some v → IsVerifiable (terms_of queries.now schema.now task.now) v events →
+        IfOk result (λ verdicts. IsVerified (terms_of queries.now schema.now task.now) v events verdicts.first verdicts.second) }
+    ensures outside { (v : Image) (events : List TheEvent) → H.now host.old ≡ Some v → IsVerifiable (terms_of queries.now schema.now task.now) v events → IfErr result IsFromOutside }
+    ensures undamaged { OnOk result (ForSome (H.now host.old) (λ v. damage_of (v 2) ≡ None)) }
+    ensures damaged { (p : ℕ) → IsErrOf result (VerifyFault.Damaged p) → ForSome (H.now host.old) (λ v. damage_of (v 2) ≡ Some p) }
+    ensures never { (IsErrOf result VerifyFault.Write → ⊥) × (IsErrOf result VerifyFault.SchemaDiffers → ⊥) }
+    ensures disk { IsErrOf result VerifyFault.Disk → Rose (H.disk_faults host.old) (H.disk_faults host.new) }
+    ensures leaves { LeavesAll H.now H.may H.clock H.since H.said host.old host.new }
+    ensures disk_faults { H.disk_faults host.old ≤ H.disk_faults host.new }
+    ensures out_faults { H.out_faults host.new ≡ H.out_faults host.old }
+{
+    let log = match read_log(alloc, host) {
+        Ok(log) => log,
+        Err(fault) => return Err(fault),
+    };
+    judge_read(alloc, host, schema, task, queries, found, &log)
+}
+
+/// Holds both slots against the log, and puts nothing.
+fn judge_store<H: Host>(
+    alloc: Global,
+    host: &mut H,
+    schema: &Schema,
+    room: Room,
+    task: &TaskPlan,
+    queries: &Texts,
+) -> Result<Verdicts, VerifyFault>
+    requires chunk { (1 ≤ room.chunk) × (room.chunk ≤ 4096) }
+    requires cache { (1 ≤ room.cache) × (room.cache ≤ 1024) }
+    requires limit { room.limit ≤ 2 ^ 40 }
+    ensures verified { (v : Image) (events : List TheEvent) → H.now host.old ≡ Some v → IsVerifiable (terms_of queries.now schema.now task.now) v events →
+        IfOk result (λ verdicts. IsVerified (terms_of queries.now schema.now task.now) v events verdicts.first verdicts.second) }
+    ensures outside { (v : Image) (events : List TheEvent) → H.now host.old ≡ Some v → IsVerifiable (terms_of queries.now schema.now task.now) v events → IfErr result IsFromOutside }
+    ensures other { (v : Image) → H.now host.old ≡ Some v → IsOther (schema_payload schema.now) (v 2) → OnOk result ⊥ }
+    ensures undamaged { OnOk result (ForSome (H.now host.old) (λ v. damage_of (v 2) ≡ None)) }
+    ensures damaged { (p : ℕ) → IsErrOf result (VerifyFault.Damaged p) → ForSome (H.now host.old) (λ v. damage_of (v 2) ≡ Some p) }
+    ensures differs { IsErrOf result VerifyFault.SchemaDiffers → ForSome (H.now host.old) (λ v. IsOther (schema_payload schema.now) (v 2)) }
+    ensures no_write { IsErrOf result VerifyFault.Write → ⊥ }
+    ensures disk { IsErrOf result VerifyFault.Disk → Rose (H.disk_faults host.old) (H.disk_faults host.new) }
+    ensures leaves { LeavesAll H.now H.may H.clock H.since H.said host.old host.new }
+    ensures disk_faults { H.disk_faults host.old ≤ H.disk_faults host.new }
+    ensures out_faults { H.out_faults host.new ≡ H.out_faults host.old }
+{
+    match find(alloc, host, schema, room) {
+        Ok(found) => judge_log(alloc, host, schema, task, queries, &found),
+        Err(VerifyFault::Damaged(_)) => Err(first_damage(alloc, host)),
+        Err(VerifyFault::SchemaDiffers) => Err(VerifyFault::SchemaDiffers),
+        Err(VerifyFault::Disk) => Err(VerifyFault::Disk),
+        Err(VerifyFault::Memory | VerifyFault::Write) => Err(VerifyFault::Memory),
+    }
+}
+
+/// Holds each slot's checkpoint against the log, and puts a line for each, ended by LF: that the slot isn't
+/// complete, that it is of other queries than these, that it is unfit, the least node whose rows don't stand
+/// for the first payments, or that all do, and of how many payments the checkpoint is. It answers whether a
+/// checkpoint is unfit or wrong. The whole log is read first, chunks included: a damaged one puts nothing and
+/// is told by its first damaged place, and so is one of other columns. No file is written.
+///
+/// `task` is the plan of the queries that are printed so. It takes the memory of all payments, and what
+/// `check_rows` takes.
+pub fn verify<H: Host>(
+    alloc: Global,
+    host: &mut H,
+    schema: &Schema,
+    room: Room,
+    task: &TaskPlan,
+    queries: &Texts,
+) -> Result<bool, VerifyFault>
+    requires chunk { (1 ≤ room.chunk) × (room.chunk ≤ 4096) }
+    requires cache { (1 ≤ room.cache) × (room.cache ≤ 1024) }
+    requires limit { room.limit ≤ 2 ^ 40 }
+
+    // Over a legal log: the lines of both slots were put, or a prefix of them where a put failed, and the store isn't refused.
+    ensures completes { (v : Image) (events : List TheEvent) → H.now host.old ≡ Some v → IsVerifiable (terms_of queries.now schema.now task.now) v events →
+        IfOk result (IsSaid (terms_of queries.now schema.now task.now) v events (Puts H.said H.clock H.since host.old host.new)) }
+    ensures cut { IsErrOf result VerifyFault.Write → (v : Image) (events : List TheEvent) → H.now host.old ≡ Some v → IsVerifiable (terms_of queries.now schema.now task.now) v events →
+        IsCut (terms_of queries.now schema.now task.now) v events (Puts H.said H.clock H.since host.old host.new) }
+    ensures outside { (v : Image) (events : List TheEvent) → H.now host.old ≡ Some v → IsVerifiable (terms_of queries.now schema.now task.now) v events → IfErr result IsFromOutside }
+
+    // Over any image: lines are put only where no frame is damaged and the schema is this one, and else nothing.
+    ensures undamaged { OnOk result (ForSome (H.now host.old) (λ v. damage_of (v 2) ≡ None)) }
+    ensures other { (v : Image) → H.now host.old ≡ Some v → IsOther (schema_payload schema.now) (v 2) → OnOk result ⊥ }
+    ensures silent { IfErr result (λ fault. (fault ≡ VerifyFault.Write) ⊎ Puts H.said H.clock H.since host.old host.new []) }
+
+    // Each refusal but want of memory has its cause.
+    ensures damaged { (p : ℕ) → IsErrOf result (VerifyFault.Damaged p) → ForSome (H.now host.old) (λ v. damage_of (v 2) ≡ Some p) }
+    ensures differs { IsErrOf result VerifyFault.SchemaDiffers → ForSome (H.now host.old) (λ v. IsOther (schema_payload schema.now) (v 2)) }
+    ensures disk { IsErrOf result VerifyFault.Disk → Rose (H.disk_faults host.old) (H.disk_faults host.new) }
+    ensures write { IsErrOf result VerifyFault.Write → Rose (H.out_faults host.old) (H.out_faults host.new) }
+
+    ensures leaves { LeavesFiles H.now H.may H.clock H.since host.old host.new }
+    ensures disk_faults { H.disk_faults host.old ≤ H.disk_faults host.new }
+    ensures out_faults { H.out_faults host.old ≤ H.out_faults host.new }
+{
+    let verdicts = match judge_store(alloc, host, schema, room, task, queries) {
+        Ok(verdicts) => verdicts,
+        Err(fault) => return Err(fault),
+    };
+    put_verdicts(alloc, host, verdicts)
+}
+
+/// Puts the lines of both slots.
+fn put_verdicts<H: Host>(
+    alloc: Global,
+    host: &mut H,
+    verdicts: Verdicts,
+) -> Result<bool, VerifyFault>
+    ensures all { IfOk result (λ differ. Puts H.said H.clock H.since host.old host.new (ended (verify_lines verdicts.first verdicts.second)) × (differ ≡ one_differs verdicts.first verdicts.second)) }
+    ensures cut { IsErrOf result VerifyFault.Write → (part : List ℕ) × IsPrefix part (ended (verify_lines verdicts.first verdicts.second)) × Puts H.said H.clock H.since host.old host.new part }
+    ensures write { IsErrOf result VerifyFault.Write → Rose (H.out_faults host.old) (H.out_faults host.new) }
+    ensures faults { IfErr result (λ fault. (fault ≡ VerifyFault.Write) ⊎ ((fault ≡ VerifyFault.Memory) × Puts H.said H.clock H.since host.old host.new [])) }
+    ensures leaves { LeavesFiles H.now H.may H.clock H.since host.old host.new }
+    ensures disk_faults { H.disk_faults host.new ≡ H.disk_faults host.old }
+    ensures out_faults { H.out_faults host.old ≤ H.out_faults host.new }
+{
+    let text = match lines_of(alloc, verdicts.first, verdicts.second) {
+        Ok(text) => text,
+        Err(_) => return Err(VerifyFault::Memory),
+    };
+    match put_all(host, &text) {
+        Ok(()) => Ok(verdicts.first.differs() || verdicts.second.differs()),
+        Err(Failed) => Err(VerifyFault::Write),
+    }
+}

@@ -1,13 +1,14 @@
 #!/usr/bin/env python3
 """Counts the lines of the definitions that clauses of `railgun` rest on, those that they cite, and those that these cite.
 
-Usage: closure.py [--list] [CLAUSE..]; without a name, of `complete_run`, `every_moment` and `resumes` together. It follows
+Usage: closure.py [--list] [--check] [CLAUSE..]; without a name, of `complete_run`, `every_moment` and `resumes` together. It follows
 the names in specs/*.antt and their `use` lines, and counts the lines of each definition with the comment above it, blank
 ones left out; of the types of programs that are named (a struct, an enum) the lines as well. A name that a definition
 binds itself is no citation. What std, the kit's crates and the traits' own clauses say isn't counted, and no proof is.
-It prints the table that docs/PROMISES.md has, in the order in which the parts read best; with --list, also each definition
-with its lines, file and first line, and each type. It fails where a clause or a file that is named isn't there, and where a
-definition rests on a proof of another file."""
+It prints the table that docs/PROMISES.md has, in the order in which the parts read best; with --check, only the rows that
+the page doesn't have so; with --list, also each definition with its lines, file and first line, and each type. It fails
+where a clause or a file that is named isn't there, where a definition rests on a proof of another file, and where --check
+prints a row."""
 
 import collections
 import glob
@@ -24,10 +25,10 @@ CRATES = [it.split(":")[0].split()[0] for it in open("crates.txt", encoding="utf
 
 # The definitions of a run in the order in which they read best. A file beside its crate stands where the file is named.
 PARTS = [
-    ("the run: what is put, and what each moment leaves", "rg_call rg_run rg_turn rg_course rg_open rg_report rg_host"),
+    ("the run: what is put, and what each moment leaves", "rg_call rg_replay rg_trial rg_listing rg_run rg_turn rg_course rg_open rg_report rg_host"),
     ("what a line says", "rg_host/Lines rg_row rg_event rg_bytes"),
-    ("what a reply is, from scratch", "rg_metric rg_reply"),
-    ("the log: bytes of frames and chunks", "rg_frame rg_log rg_chunk rg_column rg_event/Codec rg_event/Tagged rg_event/Words rg_bytes/Reading"),
+    ("what a reply is, from scratch", "rg_metric rg_reply rg_scratch"),
+    ("the log: bytes of frames and chunks", "rg_frame rg_log rg_reservoir rg_dump rg_info rg_chunk rg_column rg_event/Codec rg_event/Tagged rg_event/Words rg_bytes/Reading"),
     ("checkpoints: their bytes, and when they are true", "rg_checkpoint rg_restore rg_state rg_agg rg_plan rg_group rg_window rg_engine rg_query/Printing"),
     ("what the bytes of a plan say", "rg_config rg_query rg_parse rg_grammar rg_token rg_words"),
 ]
@@ -218,14 +219,20 @@ def clause(call, label):
 
 
 def main():
-    wanted = [it for it in sys.argv[1:] if it != "--list"] or ["complete_run", "every_moment", "resumes"]
+    wanted = [it for it in sys.argv[1:] if not it.startswith("--")] or ["complete_run", "every_moment", "resumes"]
     with open("crates/rg_call/src/call.rt", encoding="utf-8") as it:
         call = it.read()
     closure = Closure()
     top = type("Top", (), {"uses": uses(call.replace("use crate::", "use rg_call::")), "parts": {}, "makers": {}})()
     for label in wanted:
         closure.follow(top, "clause", [clause(call, label)])
-    show(closure, "--list" in sys.argv)
+    found = sorted(closure.reached.values(), key=lambda it: (CRATES.index(it.crate), it.file, it.line))
+    rows = table(found)
+    if "--check" in sys.argv:
+        with open("docs/PROMISES.md", encoding="utf-8") as it:
+            page = it.read().splitlines()
+        sys.exit("\n".join(it for it in rows if it not in page) or 0)
+    show(closure, found, rows, "--list" in sys.argv)
 
 
 def part_of(crate, file):
@@ -238,19 +245,23 @@ def part_of(crate, file):
     sys.exit(f"no part has {crate}")
 
 
-def show(closure, listed):
-    found = sorted(closure.reached.values(), key=lambda it: (CRATES.index(it.crate), it.file, it.line))
+def table(found):
+    """The rows of the table: the parts, and all."""
     sums = collections.defaultdict(collections.Counter)
     for it in found:
         for where in (part_of(it.crate, it.file), "all"):
             sums[where].update(definitions=1, lines=it.lines, comments=it.comments)
             sums[where, "files"][it.file] += it.lines
+    rows = [f"| {what} | {sums[at]['lines']} | {sums[at]['definitions']} | {names_of(sums[at, 'files'])} |" for at, (what, _) in enumerate(PARTS)]
+    every, crates = sums["all"], {it.crate for it in found}
+    last = f"| All | {every['lines']}, of these {every['comments']} of comments | {every['definitions']} | {len(sums['all', 'files'])} files of {len(crates)} crates |"
+    return [*rows, last]
+
+
+def show(closure, found, rows, listed):
     print("| What | Lines | Definitions | Files of `specs`, with their lines |")
     print("|---|---|---|---|")
-    for at, (what, _) in enumerate(PARTS):
-        print(f"| {what} | {sums[at]['lines']} | {sums[at]['definitions']} | {names_of(sums[at, 'files'])} |")
-    every = sums["all"]
-    print(f"| All | {every['lines']}, of these {every['comments']} of comments | {every['definitions']} | {len(sums['all', 'files'])} files of {len({it.crate for it in found})} crates |")
+    print("\n".join(rows))
     types = closure.types.values()
     print(f"\nBesides, {len(types)} types of programs that these name: {sum(it[1] for it in types)} lines, of these {sum(it[2] for it in types)} of comments.")
     if listed:

@@ -11,6 +11,23 @@ median() {
     cut -d ' ' -f "$2" "$work/$1" | sort -n | awk '{ figures[NR] = $1 } END { print figures[(NR + 1) / 2] }'
 }
 
+# The row of a table with these cells.
+row() {
+    local cell
+    for cell in "$@"; do
+        printf '| %s ' "$cell"
+    done
+    echo "|"
+}
+
+# A number of thousands, and kilobytes as megabytes of 10^6 bytes.
+thousands() {
+    awk -v it="$1" 'BEGIN { n = int(it / 1000 + 0.5); if (n < 1000) printf "%d,000", n; else printf "%d,%03d,000", n / 1000, n % 1000 }'
+}
+megabytes() {
+    awk -v it="$1" 'BEGIN { printf "%.1f MB", it * 1024 / 1000000 }'
+}
+
 # A plan with a window of this length: a count and a sum by card.
 plan() {
     cat << PLAN

@@ -8,7 +8,7 @@ lines=${LINES:-300000}
 payments 100000 "$lines" > "$work/payments"
 
 # The line of the table for a command.
-row() {
+measure_row() {
     local what=$1
     shift
     echo "| $what | $("$bench/latency.py" "$rate" "$work/payments" "$@" | awk '{ print $1 " | " $2 " | " $3 " | " $4 }') |"
@@ -22,6 +22,6 @@ for save in "" 1000000; do
         printf '[settings]\nsave = %s\n' "$save" >> "$work/plan"
     fi
     rm -rf "$work/store"
-    row "railgun, \`save\` ${save:-as it is}" "$program" run "$work/plan" "$work/store"
+    measure_row "railgun, \`save\` ${save:-as it is}" "$program" run "$work/plan" "$work/store"
 done
-row "the plain program" python3 -u "$bench/reference.py" 2592000000
+measure_row "the plain program" python3 -u "$bench/reference.py" 2592000000

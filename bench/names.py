@@ -1,11 +1,11 @@
 #!/usr/bin/env python3
-"""Sees that what README and docs/*.md name in backticks is there, and prints what isn't; the status is 1 then.
+"""Sees that what README, docs/*.md and examples/*/README.md name in backticks is there, and prints what isn't; the status is 1 then.
 
 `CLAUSE` of `CALL` asks for the clause on that call or type, and on each of several, in the crates that the first cell of
 the row names, or the one above; in a column 'Clause of `CALL`' each word is one on it. In a column 'Clauses' another
 word is of these crates, and in a column 'Refused' one behind a crate is an edit of it. Words elsewhere are of the code,
 specs or strings of any crate, comments left out. Paths, links, commits, forms of railgun's words and commands of rt are
-looked up. Blocks of code, and what else has a space or a sign, are data and left out."""
+looked up, and a file of `CRATE` in that crate. Blocks of code, and what else has a space or a sign, are data and left out."""
 import collections, glob, os, pathlib, re, subprocess, sys
 
 os.chdir(os.path.join(os.path.dirname(os.path.abspath(__file__)), ".."))
@@ -37,7 +37,7 @@ def has(crates, word, call=""):
 
 def is_there(word, crates):
     """Whether what stands between backticks is there, or is data."""
-    if it := re.match(r"(?:railgun )?((?:run|check|dump|info|self) [A-Z].*)", word):
+    if it := re.match(r"(?:railgun )?((?:run|replay|check|dump|info|self) [A-Z].*)", word):
         return f"    railgun {it[1]}\n" in pathlib.Path("docs/FORMATS.md").read_text()
     if word.startswith("rt "):
         return re.search(rf"\brt {word[3:]}\b|[ |]{word[3:]}\|", commands)
@@ -45,7 +45,7 @@ def is_there(word, crates):
         return subprocess.run(["git", "cat-file", "-e", word + "^{commit}"], check=False).returncode == 0
     path = re.sub(r"\b[A-Z]+\b", "*", word.split()[0]).replace("/out/railgun", "")
     if re.fullmatch(r"(bench|crates|docs|rg_\w+|proofs)/.*|[\w/]+\.(antt|rt|py|sh|md)", path):
-        return any(glob.glob(top + path, recursive=True) for top in ("", "crates/", "crates/*/", "crates/*/*/", "crates/*/proofs/**/"))
+        return any(glob.glob(top + path, recursive=True) for top in ("", "crates/", "crates/*/", "crates/*/*/", "crates/*/proofs/**/", "examples/*/"))
     return word in words if re.fullmatch(r"rg_\w+", word) else not re.fullmatch(r"[A-Za-z_]\w*(::\w+)*", word) or has(crates, word)
 
 def look(page, text, column="", crates=()):
@@ -57,6 +57,8 @@ def look(page, text, column="", crates=()):
         folders = [it if "/" in it else f"crates/{it}/must-fail" for it in ITEM.findall(names)]
         missing.update({f"{page}: {at}/{it}.edit": 1 for it in ITEM.findall(edits) for at in folders if not os.path.exists(f"{at}/{it}.edit")})
     for left, right in PAIR.findall(plain):
+        for it in re.findall(r"`(\w+\.(?:rt|antt))`", left):
+            missing.update({f"{page}: `{it}` of `{crate}`": 1 for crate in ITEM.findall(right) if not glob.glob(f"crates/{crate}/*/{it}")})
         for it in re.findall(r"`([A-Za-z_][\w:]*)`", left):
             rest = [other for other in rest if other != it]
             if not all(has(crates, it, call) for call in ITEM.findall(right)):
@@ -65,7 +67,7 @@ def look(page, text, column="", crates=()):
 
 for code in glob.glob("crates/*/src/**/*.rt", recursive=True) + glob.glob("crates/*/specs/**/*.antt", recursive=True) + glob.glob("crates/*/proofs/*.antt"):
     index(code)
-for page in ["README.md", *sorted(glob.glob("docs/*.md"))]:
+for page in ["README.md", *sorted(glob.glob("docs/*.md") + glob.glob("examples/*/README.md"))]:
     header, crates, text = [], [], pathlib.Path(page).read_text()
     for line in re.sub(r"^ *```.*?^ *```|^    .*?$", "", text, flags=re.S | re.M).splitlines():
         cells = [it.strip() for it in line.strip()[1:-1].split("|")] if line.startswith("|") else [line]

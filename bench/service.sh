@@ -1,8 +1,8 @@
 #!/usr/bin/env bash
 # Tries what docs/SERVICE.md says, over the sample, and compares all answers with one run over the whole of it: a run
 # behind named pipes that is killed and goes on with FIRST from `info`; one that is killed in a put, so that one reply is
-# missing; copies of a store in use and of one at rest, put back; other queries over a store in use; and, where
-# systemd-socket-activate is there, the service of examples/service over a socket, killed and called again.
+# missing; lines that were cut; copies of a store in use and of one at rest, put back; other queries over a store in use;
+# and, where systemd-socket-activate is there, the service of examples/service over a socket, killed and called again.
 # It prints a line for each, and fails where an answer differs. Outside the gate.
 # `rt run` in crates/railgun builds the program first; PROGRAM names another one.
 . "$(dirname "$0")/common.sh"
@@ -157,11 +157,30 @@ try_full_pipe() {
     [ "$next" -eq $((replied + 1)) ] || fail "$replied replies were put, and the next offset is $next"
     sed -n "$((next + 1)),\$p" payments | "$program" run each.toml ahead "$next" > after
     sees after each_whole.txt "$next"
-    head -n "$next" payments | "$program" run each.toml again | replies > again.txt
-    tail -n 1 again.txt > lost
+    "$program" replay each.toml ahead "$((next - 1))" > lost
     replies stopped after lost > got
     cmp got wanted_replies || fail "the reply to line $((next - 1)) is missing"
-    echo "a kill in a put: the reply to line $((next - 1)) was missing, and a run over a new store has it"
+    head -n "$next" payments | "$program" run each.toml again | replies > got
+    cmp got <(head -n "$next" wanted_replies) || fail "a run over a new store answers otherwise"
+    echo "a kill in a put: the reply to line $((next - 1)) was missing, and a replay of the store has it"
+}
+
+# The reply to a last line without LF, of this plan.
+reply_to_piece() {
+    rm -rf piece
+    printf '%s' "$2" | "$program" run "$1" piece | sed -n 's/^0 //p'
+}
+
+# No piece of a row that ends with a flag is a row, but the whole row without its LF.
+try_cut() {
+    local row=1000,c1,m1,1299,true reply length
+    reply_to_piece plan.toml 1000,c1,m1,12 | grep -q '^ok ' || fail "a row of a smaller amount isn't accepted"
+    for length in $(seq $((${#row} - 1))); do
+        reply=$(reply_to_piece schema.toml "${row:0:length}")
+        case $reply in ok*) fail "the piece '${row:0:length}' is accepted" ;; esac
+    done
+    reply_to_piece schema.toml "$row" | grep -q '^ok ' || fail "the whole row isn't accepted"
+    echo "a row that ends with a flag: none of the $((${#row} - 1)) pieces of it is accepted; without one '1000,c1,m1,12' is"
 }
 
 # Goes on over a copy of a store, with the rest of the input.
@@ -269,6 +288,7 @@ replies whole > wanted_replies
 [ "$(wc -l < wanted_replies)" -eq "$count" ] || fail "the whole run answered $(wc -l < wanted_replies) lines"
 try_kills
 try_full_pipe
+try_cut
 try_backups
 try_copies
 try_other_queries

@@ -1,7 +1,8 @@
 #!/usr/bin/env bash
 # What the store costs: a million payments, five seconds apart, with a count and a sum by card over 30 days, each run over a new store on the disk of the temporary folder.
 # Commits of 1,024 payments and of one (the latter with fewer lines); the bytes of the store; an opening from a checkpoint and one that answers all payments again; a checkpoint of 100,000 keys.
-# Processor time (user and system), the time that passed and peak memory: the medians of three. It fails where a line isn't accepted. Outside the gate.
+# Processor time (user and system) and the time that passed: the medians of three. It prints the table that docs/SPEED.md has.
+# It fails where a line isn't accepted. Outside the gate.
 # `rt run` in crates/railgun builds the program first; PROGRAM names another one.
 . "$(dirname "$0")/common.sh"
 lines=${1:-1000000}
@@ -22,9 +23,9 @@ run_once() {
     fi
 }
 
-# Says the figures of this name.
+# The row of a table with the figures of this name.
 tell() {
-    echo "$2: $(median "$1" 1) s of processor time, $(median "$1" 2) s passed, $(median "$1" 3) KB"
+    row "$2" "$(median "$1" 1) s" "$(median "$1" 2) s" "${3-}"
 }
 
 payments 40 "$lines" > "$work/payments"
@@ -43,11 +44,13 @@ for _ in 1 2 3; do
     rm "$work/store/slot0" "$work/store/slot1"
     run_once replay "$work/none" "0 $lines"
 done
-tell commit "$lines lines, a commit each 1,024"
-echo "the log: $(wc -c < "$work/store/events") bytes, $(awk -v bytes="$(wc -c < "$work/store/events")" -v lines="$lines" 'BEGIN { printf "%.1f", bytes / lines }') each payment"
-tell each "10,000 lines, a commit each"
-tell from "an opening of $lines payments from a checkpoint of all"
-tell replay "an opening of $lines payments without a checkpoint"
+each_payment=$(awk -v bytes="$(wc -c < "$work/store/events")" -v lines="$lines" 'BEGIN { printf "%.1f", bytes / lines }')
+row What "Processor time" "Time passed" ""
+row --- --- --- ---
+tell commit "$lines lines of 40 cards, a commit each 1,024" "the log: $each_payment bytes each payment"
+tell each "10,000 lines, a commit each: two syncs a line"
+tell from "opening $lines payments from a checkpoint of all"
+tell replay "opening $lines payments without a checkpoint: all are answered again"
 
 payments 100000 200000 > "$work/payments"
 settings "save = 100000" > "$work/saves.toml"
@@ -58,6 +61,6 @@ for _ in 1 2 3; do
         run_once "$name" "$work/payments" "200000 200000"
     done
 done
-tell save "200,000 lines of 100,000 cards, a checkpoint at the end"
-tell saves "the same, and a checkpoint after 100,000"
-echo "a checkpoint of 100,000 keys and two aggregators: $(wc -c < "$work/store/slot0") bytes"
+took=$(awk -v saves="$(median saves 1)" -v save="$(median save 1)" 'BEGIN { printf "%.2f", saves - save }')
+size=$(awk -v bytes="$(wc -c < "$work/store/slot0")" 'BEGIN { printf "%.1f", bytes / 1000000 }')
+row "a checkpoint of 100,000 keys and two aggregators" "$took s" "" "$size MB; the difference of two runs"

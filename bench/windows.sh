@@ -1,6 +1,7 @@
 #!/usr/bin/env bash
 # What a line costs by the number of cards and the length of the window: a million payments, five seconds apart, a count and a sum by card.
-# Processor time (user and system), lines a second of it and peak memory, beside those of bench/reference.py on the same lines, run in turn: the medians of three.
+# Processor time (user and system), lines a second of it and peak memory, beside the time of bench/reference.py on the same lines, run in turn: the medians of three.
+# It prints the table that docs/SPEED.md has.
 # Each run of the program begins with a new store, on the disk of the temporary folder; what it says of its store is left out of the comparison.
 # It fails where a line isn't accepted, or where the two programs answer differently. Outside the gate.
 # `rt run` in crates/railgun builds the program first; PROGRAM names another one.
@@ -18,13 +19,8 @@ measure() {
     fi
 }
 
-# The figures of a program.
-figures() {
-    local cpu
-    cpu=$(median "$1" 1)
-    awk -v cpu="$cpu" -v lines="$lines" -v peak="$(median "$1" 3)" 'BEGIN { printf "%.2f s, %d lines a second, %d KB", cpu, lines / cpu, peak }'
-}
-
+row "Cards, window" Program Reference Ratio "Lines a second" "Peak memory"
+row --- --- --- --- --- ---
 for cards in 40 100000; do
     payments "$cards" "$lines" > "$work/payments"
     while read -r milliseconds window; do
@@ -36,8 +32,9 @@ for cards in 40 100000; do
             measure reference python3 "$bench/reference.py" "$milliseconds"
             grep -vE '^(open|stored|saved) ' "$work/railgun.out" | cmp - "$work/reference.out"
         done
-        ratio=$(awk -v railgun="$(median railgun 1)" -v reference="$(median reference 1)" 'BEGIN { printf "%.2f", reference / railgun }')
-        echo "$cards cards, $window: $(figures railgun); reference: $(figures reference); ratio $ratio"
+        took=$(median railgun 1) other=$(median reference 1)
+        read -r own others ratio rate < <(awk -v a="$took" -v b="$other" -v n="$lines" 'BEGIN { printf "%.2f %.2f %.2f %d\n", a, b, b / a, n / a }')
+        row "${cards/%000/,000}, $window" "$own s" "$others s" "$ratio" "$(thousands "$rate")" "$(megabytes "$(median railgun 3)")"
     done << WINDOWS
 300000 5 minutes
 3600000 1 hour

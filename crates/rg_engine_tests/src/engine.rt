@@ -10,7 +10,7 @@ use made::{event, queries};
 use rg_bytes::Memory;
 use rg_engine::{Engine, EngineFault};
 use rg_event::{Event, Steps};
-use rg_metric::{Answer, Answers, Query};
+use rg_metric::{Answer, Query};
 use rg_past::{Past, PastFault, Spot, VecPast};
 use rg_plan::TaskPlan;
 use rg_state::MemTable;
@@ -40,17 +40,33 @@ fn engine_of(alloc: Global, past: &VecPast, queries: &[Query]) -> Result<Engine<
     }
 }
 
-/// The answers to an event.
-fn answers_to<L: Ledger>(
+/// Whether an event is answered, and this is its first answer.
+fn answers<L: Ledger>(
     engine: &mut Engine<MemTable>,
     past: &mut VecPast,
     event: Event,
     steps: &mut Steps<L>,
-) -> Result<Answers, Fail> {
+    first: Answer,
+) -> bool {
     match take_checked(engine, past, event, steps) {
-        Some(Ok(answers)) => Ok(answers),
-        _ => Err(Fail::from(Memory)),
+        Some(Ok(answers)) => answers.as_slice().first() == Some(&first),
+        _ => false,
     }
+}
+
+/// Whether an event is refused since the past is full, and the first edge stays where it was.
+fn is_refused<L: Ledger>(
+    engine: &mut Engine<MemTable>,
+    past: &mut VecPast,
+    event: Event,
+    steps: &mut Steps<L>,
+) -> bool {
+    let before = first_number(engine.spots());
+    let is_full = match take_checked(engine, past, event, steps) {
+        Some(Err(fault)) => fault == EngineFault::Past(PastFault::Full),
+        _ => false,
+    };
+    is_full && before == Some(2) && first_number(engine.spots()) == before
 }
 
 fn first_number(spots: &[Spot]) -> Option<u64> {
@@ -60,55 +76,46 @@ fn first_number(spots: &[Spot]) -> Option<u64> {
     }
 }
 
-/// What a past of two events answers to three.
-#[derive(Debug, PartialEq, Drop)]
-struct Filled {
-    queries: u32,
-    first: Option<Answer>,
-    refused: Option<EngineFault>,
-    number: Option<u64>,
-    has_rows: bool,
+/// Whether an engine over a past for two events answers the first two of three, of one card, and refuses the third.
+fn fills<L: Ledger>(
+    engine: &mut Engine<MemTable>,
+    first: Event,
+    second: Event,
+    third: Event,
+    past: &mut VecPast,
+    steps: &mut Steps<L>,
+) -> bool {
+    let one = answers(engine, past, first, steps, Answer::Number(1));
+    let two = answers(engine, past, second, steps, Answer::Number(2));
+    one && two && is_refused(engine, past, third, steps)
 }
 
-fn fill<L: Ledger>(alloc: Global, blank: Blank) -> Result<Filled, Fail>
+/// Whether an engine's table has rows, once it is handed back.
+fn has_rows(alloc: Global, engine: Engine<MemTable>) -> Result<bool, Fail> {
+    let mut table = engine.into_table();
+    Ok(rows_in(alloc, &mut table)? > 0)
+}
+
+fn stays_when_full<L: Ledger>(alloc: Global, blank: Blank) -> Result<bool, Fail>
     requires named { blank.name ≡ L.name }
     requires parts { blank.parts ≡ L.parts }
     requires whole { 0 < blank.parts }
 {
-    let mut steps = Steps::<L>::new(blank);
-    let queries = queries(alloc)?;
     let mut past = VecPast::new(alloc, 2);
-    let mut engine = engine_of(alloc, &past, &queries)?;
-    let first = answers_to(&mut engine, &mut past, event(alloc, 0, 0)?, &mut steps)?;
-    answers_to(&mut engine, &mut past, event(alloc, 3, 0)?, &mut steps)?;
-    let more = event(alloc, 4, 1)?;
-    let refused = match take_checked(&mut engine, &mut past, more, &mut steps) {
-        Some(Err(fault)) => Some(fault),
-        _ => None,
-    };
-    let number = first_number(engine.spots());
-    let queries = engine.plan().queries();
-    let has_rows = rows_in(alloc, engine.table())? > 0;
-    let mut table = engine.into_table();
-    Ok(Filled {
-        queries,
-        first: first.as_slice().first().copied(),
-        refused,
-        number,
-        has_rows: has_rows && rows_in(alloc, &mut table)? > 0,
-    })
+    let first = event(alloc, 0, 0)?;
+    let second = event(alloc, 3, 0)?;
+    let third = event(alloc, 4, 1)?;
+    let mut engine = engine_of(alloc, &past, &queries(alloc)?)?;
+    let mut steps = Steps::<L>::new(blank);
+    let is_so = fills(&mut engine, first, second, third, &mut past, &mut steps);
+    drop(steps);
+    drop(past);
+    Ok(has_rows(alloc, engine)? && is_so)
 }
 
 #[test]
 fn a_full_past_is_refused_and_the_engine_stays(rt: HostRuntime) -> Result<(), Fail> {
-    let filled = fill::<Brand>(rt.alloc(), Blank::new(1))?;
-    let expected = Filled {
-        queries: 6,
-        first: Some(Answer::Number(1)),
-        refused: Some(EngineFault::Past(PastFault::Full)),
-        number: Some(2),
-        has_rows: true,
-    };
-    assert_eq!(rt; filled, expected);
+    let is_so = stays_when_full::<Brand>(rt.alloc(), Blank::new(1))?;
+    assert!(rt; is_so);
     Ok(())
 }

@@ -15,8 +15,6 @@ mod key;
 #[cfg(test)]
 mod past;
 #[cfg(test)]
-mod per_node;
-#[cfg(test)]
 mod scratch;
 #[cfg(test)]
 mod state;

@@ -32,12 +32,12 @@ spot_back spot rest is =
     let stood : spot_bytes spot ++ rest ≡ to_be_bytes w64 spot.place ++ (to_be_bytes w32 spot.index ++ behind) = refl in
     rw (u64_read BadCheckpoint (spot_bytes spot ++ rest) spot.place (to_be_bytes w32 spot.index ++ behind) stood is.place, u32_read BadCheckpoint (to_be_bytes w32 spot.index ++ behind) spot.index behind refl is.index, u64_read BadCheckpoint behind spot.number rest refl is.number) refl
 
-key_back : (key rest : List ℕ) → length key ≤ 2056 → key_at (to_be_bytes w32 (length key) ++ (key ++ rest)) ≡ Ok (key, rest)
+pub key_back : (key rest : List ℕ) → length key ≤ 2056 → key_at (to_be_bytes w32 (length key) ++ (key ++ rest)) ≡ Ok (key, rest)
 unfolding key_at
 key_back key rest short =
     rw (u32_read BadCheckpoint _ (length key) (key ++ rest) refl (omega (arith, short))) (grind (arith, common_steps, bytes_read BadCheckpoint (length key) (key ++ rest) key rest refl refl))
 
-held_back : (held : Held) (rest : List ℕ) → IsHeld held → 0 < size_in held → state_at (held_bytes held ++ rest) ≡ Ok (held, rest)
+pub held_back : (held : Held) (rest : List ℕ) → IsHeld held → 0 < size_in held → state_at (held_bytes held ++ rest) ≡ Ok (held, rest)
 held_back held rest is some =
     subst (λ (h : Held). state_at (held_bytes h ++ rest) ≡ Ok (h, rest)) is.1 (state_read_back is.0 rest (subst (λ (h : Held). 0 < size_in h) (sym is.1) some))
 
@@ -78,7 +78,7 @@ unfolding counted_texts_at
 texts_back texts rest are =
     rw (u32_read BadCheckpoint (counted_texts texts ++ rest) (length texts) (list_bytes text_bytes texts ++ rest) (append_assoc (to_be_bytes w32 (length texts)) (list_bytes text_bytes texts) rest) are.few) (more_back next_text_at text_bytes [] texts rest (texts_steps [] texts are.each))
 
-spots_back : (spots : List Spot) (rest : List ℕ) → AreSpots spots → counted_spots_at (counted_spots spots ++ rest) ≡ Ok (spots, rest)
+pub spots_back : (spots : List Spot) (rest : List ℕ) → AreSpots spots → counted_spots_at (counted_spots spots ++ rest) ≡ Ok (spots, rest)
 unfolding counted_spots_at
 spots_back spots rest are =
     rw (u32_read BadCheckpoint (counted_spots spots ++ rest) (length spots) (list_bytes spot_bytes spots ++ rest) (append_assoc (to_be_bytes w32 (length spots)) (list_bytes spot_bytes spots) rest) are.few) (more_back next_spot_at spot_bytes [] spots rest (spots_steps [] spots are.each))

@@ -1,5 +1,5 @@
 -- Bytes written one after another.
-use Rattle.std.proofs.Common.{◌≡◌, ℕ, suc, ◌+◌, ◌<◌, ◌≤◌, ◌^◌, List, [], ◌∷◌, ◌++◌, length, get_or, take, drop, Some, refl, ap, sym, ◌∙◌, subst, arith, append_assoc}
+use Rattle.std.proofs.Common.{◌≡◌, ℕ, Bool, true, false, Option, None, suc, ◌+◌, ◌<◌, ◌≤◌, ◌^◌, List, [], ◌∷◌, ◌++◌, length, get_or, take, drop, Some, refl, ap, sym, ◌∙◌, subst, arith, append_assoc}
 use Rattle.std.proofs.Math.Seq.{drop-cons}
 use Rattle.std.proofs.lemmas.List.{take_more, take_all}
 use Rattle.std.proofs.lemmas.List.Elements.{All-append, All-cons, All-nil, All-weaker, All-contains_itself}
@@ -7,11 +7,13 @@ use Rattle.std.specs.List.{All, Contains}
 use Rattle.std.specs.Int.{w64, to_be_bytes}
 use Rattle.rg_agg.specs.Held.{Held}
 use Rattle.rg_past.specs.declared.past.Spot.{Spot}
+use Rattle.rg_state.specs.Changes.{Marks, RowChange, change_of, changes_in, change_bytes, changes_bytes, WritesChanges}
 use Rattle.rg_state.specs.Counted.{WritesCounted}
-use Rattle.rg_state.specs.Rows.{Cells, Entry, Lists, entry_bytes, entries_bytes}
+use Rattle.rg_state.specs.Rows.{Cells, Entry, Lists, ListsOf, entry_bytes, entries_bytes}
 use Rattle.rg_bytes.specs.Reading.{list_bytes}
 use Rattle.rg_checkpoint.specs.Base.{counted_texts, counted_spots, IsEntry, AreTexts, AreSpots}
-use Rattle.rg_checkpoint.specs.Writing.{Encodes, front_bytes, head_bytes}
+use Rattle.rg_checkpoint.specs.Updates.{IsRowChange, counted_changes}
+use Rattle.rg_checkpoint.specs.Writing.{Encodes, EncodesChanges, front_bytes, head_bytes, change_front_bytes}
 
 pub two_more : (old first second middle new : List ℕ) → middle ≡ old ++ first → new ≡ middle ++ second → new ≡ old ++ (first ++ second)
 two_more old first second middle new one two = rw (two, one) (append_assoc old first second)
@@ -85,3 +87,50 @@ encodes cells queries count spots old middle new rows texts fits are each first 
           rows.added ∙ sym (append_assoc middle number written) ∙ ap (λ (bytes : List ℕ). bytes ++ written) (ap (λ (bytes : List ℕ). bytes ++ number) first ∙ front_put queries count spots (length entries) old)
           ∙ append_assoc old (front_bytes queries count spots (length entries)) written;
     }
+
+-- Changes
+
+-- all that stands before the rows that changed, and their number
+pub change_front_put : (old count spots n1 n2 n3 : List ℕ) → n1 ≡ old ++ 68 ∷ [] → n2 ≡ n1 ++ count → n3 ≡ n2 ++ spots → n3 ≡ old ++ (68 ∷ (count ++ spots))
+change_front_put old count spots n1 n2 n3 e1 e2 e3 = rw (e3, e2, e1) (append_assoc (old ++ 68 ∷ []) count spots ∙ append_assoc old (68 ∷ []) (count ++ spots))
+
+-- the bytes of rows that changed, as a table writes them
+changes_list : (changes : List RowChange) → changes_bytes changes ≡ list_bytes change_bytes changes
+changes_list [] = refl
+changes_list (change ∷ changes) = ap (λ bytes. change_bytes change ++ bytes) (changes_list changes)
+
+change_legal : (node : ℕ) (key : List ℕ) (named there : Bool) (row now : Option Held) → change_of named there row ≡ Some now → ((held : Held) → row ≡ Some held → IsEntry (record { node = node; key = key; held = held }))
+    → (there ≡ true → (node < 2 ^ 32) × (length key ≤ 2056)) → IsRowChange (record { node = node; key = key; held = now })
+change_legal node key true there (Some held) now is entry fits =
+    let same : Some held ≡ now = cc in
+    let legal = entry held refl in
+    subst (λ (n : Option Held). IsRowChange (record { node = node; key = key; held = n })) same (record { node = legal.node; key = legal.key; now = (legal.some, legal.held) })
+change_legal node key true true None now is entry fits =
+    let same : None ≡ now = cc in
+    subst (λ (n : Option Held). IsRowChange (record { node = node; key = key; held = n })) same (record { node = (fits refl).0; key = (fits refl).1; now = tt })
+change_legal node key true false None now is entry fits = cc
+change_legal node key false there row now is entry fits = cc
+
+-- what changed in a table, each of which can stand in a change payload
+pub changes_legal : (named there : Marks) (cells : Cells) (changes : List RowChange) → ListsOf (changes_in named there cells) changes → ((node : ℕ) (key : List ℕ) (held : Held) → cells node key ≡ Some held → IsEntry (record { node = node; key = key; held = held }))
+    → ((node : ℕ) (key : List ℕ) → there node key ≡ true → (node < 2 ^ 32) × (length key ≤ 2056)) → All IsRowChange changes
+changes_legal named there cells changes lists entry fits =
+    All-weaker (Contains changes) IsRowChange
+    (λ change among. change_legal change.node change.key (named change.node change.key) (there change.node change.key) (cells change.node change.key) change.held ((lists.rows change.node change.key change.held).1 among) (entry change.node change.key) (fits change.node change.key))
+    changes (All-contains_itself changes)
+
+-- what stands before the rows that changed, and then these behind their number
+pub encodes_changes : (named there : Marks) (cells : Cells) (count : ℕ) (spots : List Spot) (old middle new written : List ℕ) (changed : WritesChanges named there cells written) → count < 2 ^ 64 → AreSpots spots
+    → All IsRowChange changed.changes → middle ≡ old ++ change_front_bytes count spots → new ≡ middle ++ written → EncodesChanges named there cells count spots old new
+encodes_changes named there cells count spots old middle new written changed fits are each first second = record {
+  payload = change_front_bytes count spots ++ written;
+  rows = changed.changes;
+  lists = changed.lists;
+  is = record {
+    is =
+        let listed : written ≡ counted_changes changed.changes = changed.is ∙ ap (λ bytes. to_be_bytes w64 (length changed.changes) ++ bytes) (changes_list changed.changes) in
+        ap (λ (bytes : List ℕ). 68 ∷ bytes) (append_assoc (to_be_bytes w64 count) (counted_spots spots) written ∙ ap (λ (bytes : List ℕ). to_be_bytes w64 count ++ (counted_spots spots ++ bytes)) listed);
+    legal = record { count = fits; spots = are; rows = record { few = changed.few; each = each; rising = changed.lists.rising } };
+  };
+  added = second ∙ ap (λ (bytes : List ℕ). bytes ++ written) first ∙ append_assoc old (change_front_bytes count spots) written;
+}

@@ -156,7 +156,7 @@ fn take_text(alloc: Global, from: &mut ByteReader<'_>) -> Result<Bytes, Checkpoi
 
 /// Takes spots behind their number.
 #[tactic(auto, unfolding(crate::specs::Reading::counted_spots_at))]
-fn take_spots(alloc: Global, from: &mut ByteReader<'_>) -> Result<Spots, CheckpointFault>
+pub(crate) fn take_spots(alloc: Global, from: &mut ByteReader<'_>) -> Result<Spots, CheckpointFault>
     ensures agrees { Agrees (λ spots. spots) (counted_spots_at from.old) result from.new }
     ensures ok { IfOk result (λ spots. from.old ≡ counted_spots spots ++ from.new) }
     ensures legal { IfOk result AreSpots }
@@ -329,7 +329,7 @@ fn take_row(alloc: Global, from: &mut ByteReader<'_>) -> Result<Row, CheckpointF
 
 /// Takes a key behind its length.
 #[tactic(auto, unfolding(crate::specs::Reading::key_at))]
-fn take_key(alloc: Global, from: &mut ByteReader<'_>) -> Result<Key, CheckpointFault>
+pub(crate) fn take_key(alloc: Global, from: &mut ByteReader<'_>) -> Result<Key, CheckpointFault>
     ensures agrees { Agrees (λ key. key) (key_at from.old) result from.new }
     ensures ok { IfOk result (λ key. from.old ≡ to_be_bytes w32 (length key) ++ (key ++ from.new)) }
     ensures legal { IfOk result (λ key. length key ≤ 2056) }
@@ -348,7 +348,10 @@ fn take_key(alloc: Global, from: &mut ByteReader<'_>) -> Result<Key, CheckpointF
 }
 
 /// Takes the state of one of the aggregators.
-fn take_state(alloc: Global, from: &mut ByteReader<'_>) -> Result<AggState, CheckpointFault>
+pub(crate) fn take_state(
+    alloc: Global,
+    from: &mut ByteReader<'_>,
+) -> Result<AggState, CheckpointFault>
     ensures agrees { Agrees held_of (as_reading (state_at from.old)) result from.new }
     ensures ok { IfOk result (λ state. from.old ≡ held_bytes (held_of state) ++ from.new) }
     ensures some { IfOk result (λ state. 0 < size_in (held_of state)) }
@@ -384,7 +387,7 @@ fn take_bytes(
 
 /// Takes 1 byte.
 #[tactic(auto, using(rg_bytes::proofs::Reading::u8_read, rg_bytes::proofs::Reading::u8_short))]
-fn take_u8(from: &mut ByteReader<'_>) -> Result<u8, CheckpointFault>
+pub(crate) fn take_u8(from: &mut ByteReader<'_>) -> Result<u8, CheckpointFault>
     ensures agrees { Agrees (λ n. n) (u8_at from.old) result from.new }
     ensures ok { IfOk result (λ n. from.old ≡ n ∷ from.new) }
 {
@@ -396,7 +399,7 @@ fn take_u8(from: &mut ByteReader<'_>) -> Result<u8, CheckpointFault>
 
 /// Takes a number of 4 bytes.
 #[tactic(auto, using(rg_bytes::proofs::Reading::u32_read, rg_bytes::proofs::Reading::u32_short))]
-fn take_u32(from: &mut ByteReader<'_>) -> Result<u32, CheckpointFault>
+pub(crate) fn take_u32(from: &mut ByteReader<'_>) -> Result<u32, CheckpointFault>
     ensures agrees { Agrees (λ n. n) (u32_at from.old) result from.new }
     ensures ok { IfOk result (λ n. from.old ≡ to_be_bytes w32 n ++ from.new) }
 {
@@ -408,7 +411,7 @@ fn take_u32(from: &mut ByteReader<'_>) -> Result<u32, CheckpointFault>
 
 /// Takes a number of 8 bytes.
 #[tactic(auto, using(rg_bytes::proofs::Reading::u64_read, rg_bytes::proofs::Reading::u64_short))]
-fn take_u64(from: &mut ByteReader<'_>) -> Result<u64, CheckpointFault>
+pub(crate) fn take_u64(from: &mut ByteReader<'_>) -> Result<u64, CheckpointFault>
     ensures agrees { Agrees (λ n. n) (u64_at from.old) result from.new }
     ensures ok { IfOk result (λ n. from.old ≡ to_be_bytes w64 n ++ from.new) }
 {

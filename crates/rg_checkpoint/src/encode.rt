@@ -3,11 +3,13 @@ ghost use Rattle.std.specs.Int.{w32, w64, to_be_bytes};
 ghost use Rattle.rg_bytes.specs.Counts.{Rose};
 ghost use Rattle.rg_bytes.specs.Keeps.{Keeps};
 ghost use Rattle.rg_bytes.specs.Reading.{list_bytes};
+ghost use Rattle.rg_state.specs.Changes.{SameMarks};
 ghost use Rattle.rg_state.specs.Rows.{Same};
 ghost use Rattle.rg_checkpoint.specs.Base.{text_bytes, spot_bytes, counted_texts, counted_spots, IsText, IsSpot, AreTexts, AreSpots};
-ghost use Rattle.rg_checkpoint.specs.Writing.{Encodes, head_bytes};
+ghost use Rattle.rg_checkpoint.specs.Writing.{Encodes, EncodesChanges, head_bytes, change_front_bytes};
 
 use crate::decode::BASE_TAG;
+use crate::update::CHANGE_TAG;
 use rg_bytes::{Memory, put_bytes, put_u8, put_u32, put_u64};
 use rg_event::{Bytes, Texts};
 use rg_past::Spot;
@@ -44,6 +46,61 @@ pub fn encode_checkpoint<T: Table>(
             out.truncate(start);
             Err(fault)
         }
+    }
+}
+
+/// Writes a change payload of what changed in the table since its mark at the end. Spots whose number is
+/// 2^32 or more are refused as memory. A refusal leaves `out` as it was.
+pub fn encode_changes<T: Table>(
+    count: u64,
+    spots: &[Spot],
+    table: &mut T,
+    out: &mut Vec<u8>,
+) -> Result<(), TableFault>
+    ensures written { T.tells table.old → OnOk result (EncodesChanges (T.named table.old) (T.there table.old) (T.cell table.old) count spots.now out.old.items out.new.items) }
+    ensures same { T.tells table.old → Same (T.cell table.old) (T.cell table.new) }
+    ensures same_named { T.tells table.old → SameMarks (T.named table.old) (T.named table.new) }
+    ensures same_there { T.tells table.old → SameMarks (T.there table.old) (T.there table.new) }
+    ensures err { OnErr result (out.new.items ≡ out.old.items) }
+    ensures no_bad { (n : ℕ) → IsErrOf result (TableFault.BadState n) → ⊥ }
+    ensures disk { IsErrOf result TableFault.Disk → Rose (T.faults table.old) (T.faults table.new) }
+    ensures tells { T.tells table.new ↔ T.tells table.old }
+    ensures later { T.faults table.old ≤ T.faults table.new }
+{
+    let start = out.len();
+    match put_change_front(count, spots, out) {
+        Ok(()) => {}
+        Err(_) => {
+            out.truncate(start);
+            return Err(TableFault::Memory);
+        }
+    }
+    match table.write_changes(out) {
+        Ok(()) => Ok(()),
+        Err(fault) => {
+            out.truncate(start);
+            Err(fault)
+        }
+    }
+}
+
+/// Writes all that stands before the rows that changed.
+fn put_change_front(count: u64, spots: &[Spot], out: &mut Vec<u8>) -> Result<(), Memory>
+    ensures ok { OnOk result (out.new.items ≡ out.old.items ++ change_front_bytes count spots.now) }
+    ensures spots { OnOk result (AreSpots spots.now) }
+    ensures err { OnErr result (Keeps out.old.items out.new.items) }
+{
+    match put_u8(out, CHANGE_TAG) {
+        Ok(()) => {}
+        Err(memory) => return Err(memory),
+    }
+    match put_u64(out, count) {
+        Ok(()) => {}
+        Err(memory) => return Err(memory),
+    }
+    match put_spots(spots, out) {
+        Ok(()) => Ok(()),
+        Err(memory) => Err(memory),
     }
 }
 

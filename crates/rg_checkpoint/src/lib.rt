@@ -5,17 +5,22 @@
 //! other one holds its old checkpoint, none, or the new one.
 #![tactic(auto)]
 
+mod applying;
 mod base;
 mod decode;
 mod encode;
 mod fault;
+mod law;
 mod slot;
 mod slots;
+mod update;
 
+pub use applying::apply_changes;
 pub use base::{Checkpoint, Row, Rows};
 pub use decode::decode_checkpoint;
-pub use encode::encode_checkpoint;
+pub use encode::{encode_changes, encode_checkpoint};
 pub use fault::{CheckpointFault, SlotFault};
+pub use law::law_changes;
 pub use rg_event::Texts;
 pub use rg_past::{Spot, Spots};
 pub use rg_state::{AggState, Key, Table, TableFault};

@@ -13,6 +13,8 @@ mod filter;
 #[cfg(test)]
 mod key;
 #[cfg(test)]
+mod marks;
+#[cfg(test)]
 mod past;
 #[cfg(test)]
 mod scratch;

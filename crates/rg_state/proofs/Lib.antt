@@ -1,6 +1,12 @@
 pub mod Placed
 pub mod Slotted
 pub mod Sheeted
+pub mod Listed
+pub mod Since
+pub mod Marking
+pub mod Stepping
+pub mod Unused
+pub mod Touched
 pub mod OneKind
 pub mod ReadBack
 mod Sizes

@@ -6,18 +6,17 @@ use Rattle.std.specs.Cmp.Lexicographic.{slice_cmp, bytes_decides}
 use Rattle.std.specs.Ordering.{nat_cmp, is_eq}
 use Rattle.std.proofs.lemmas.Bool.Decides.{Decides-eqb}
 use Rattle.std.proofs.lemmas.Map.Text.{is_eq-slice_cmp}
-use Rattle.rg_state.specs.Cells.{row_at, count_at, row_by, slot_in, cell_in, IsBound}
-use Rattle.rg_state.specs.Kepts.{held_at, OthersKept, IsKeptSame}
-use Rattle.rg_state.specs.Rows.{Others, Same}
+use Rattle.rg_state.specs.Cells.{row_at, count_at, row_by, slot_in, seen_in, IsBound, OthersSeen, SameSeen}
+use Rattle.rg_state.specs.Kepts.{unseen, seen_at, OthersKept, IsKeptSame}
 use Rattle.rg_state.specs.declared.key_rows.Kept.{Kept}
 use Rattle.rg_state.specs.declared.key_rows.KeyRows.{KeyRows}
 
 abbrev pub Map : Type 0
 Map = BTreeMap (List ℕ) ℕ
 
-pub row_there : (rows : List KeyRows) (slot node : ℕ) (r : KeyRows) → slot < length rows → r ≡ get_or rows slot r → row_at rows slot node ≡ held_at r.kept.items node
+pub row_there : (rows : List KeyRows) (slot node : ℕ) (r : KeyRows) → slot < length rows → r ≡ get_or rows slot r → row_at rows slot node ≡ seen_at r.kept.items node
 row_there [] slot node r within is = absurd (omega arith)
-row_there (x ∷ rows) zero node r within is = ap (λ r. held_at r.kept.items node) (sym is)
+row_there (x ∷ rows) zero node r within is = ap (λ r. seen_at r.kept.items node) (sym is)
 row_there (x ∷ rows) (suc slot) node r within is = row_there rows slot node r (omega arith) is
 
 pub count_there : (rows : List KeyRows) (slot : ℕ) (r : KeyRows) → slot < length rows → r ≡ get_or rows slot r → count_at rows slot ≡ length r.kept.items
@@ -30,7 +29,7 @@ within_of [] slot some = absurd (omega arith)
 within_of (x ∷ rows) zero some = omega arith
 within_of (x ∷ rows) (suc slot) some = let later : slot < length rows = within_of rows slot some in omega arith
 
-pub row_set : (rows : List KeyRows) (slot node : ℕ) (r : KeyRows) → slot < length rows → row_at (set rows slot r) slot node ≡ held_at r.kept.items node
+pub row_set : (rows : List KeyRows) (slot node : ℕ) (r : KeyRows) → slot < length rows → row_at (set rows slot r) slot node ≡ seen_at r.kept.items node
 row_set [] slot node r within = absurd (omega arith)
 row_set (x ∷ rows) zero node r within = refl
 row_set (x ∷ rows) (suc slot) node r within = row_set rows slot node r (omega arith)
@@ -40,7 +39,7 @@ count_set [] slot r within = absurd (omega arith)
 count_set (x ∷ rows) zero r within = refl
 count_set (x ∷ rows) (suc slot) r within = count_set rows slot r (omega arith)
 
-row_beside : (rows : List KeyRows) (slot other node : ℕ) (r : KeyRows) → (other ≡ slot → ⊥) → row_at (set rows slot r) other node ≡ row_at rows other node
+pub row_beside : (rows : List KeyRows) (slot other node : ℕ) (r : KeyRows) → (other ≡ slot → ⊥) → row_at (set rows slot r) other node ≡ row_at rows other node
 row_beside [] slot other node r apart = refl
 row_beside (x ∷ rows) zero zero node r apart = absurd (apart refl)
 row_beside (x ∷ rows) zero (suc other) node r apart = refl
@@ -59,7 +58,7 @@ is_apart n m d e = true≢false (sym ((Decides-eqb n m).1 e) ∙ d)
 
 -- a slot more, without rows
 
-empty_row : (ks : List Kept) (node : ℕ) → length ks ≡ 0 → held_at ks node ≡ None
+empty_row : (ks : List Kept) (node : ℕ) → length ks ≡ 0 → seen_at ks node ≡ unseen
 empty_row [] node none = refl
 empty_row (k ∷ ks) node none = absurd (omega arith)
 
@@ -82,7 +81,7 @@ last_count (x ∷ rows) r none = last_count rows r none
 pub free_pushed : (rows new : List KeyRows) (r : KeyRows) → length r.kept.items ≡ 0 → new ≡ rows ++ r ∷ [] → (length rows < length new) × (count_at new (length rows) ≡ 0)
 free_pushed rows new r none pushed = (omega (arith, ap length pushed, length-append rows (r ∷ [])), ap (λ rs. count_at rs (length rows)) pushed ∙ last_count rows r none)
 
-bound_more : (map : Map) (rows : List KeyRows) (r : KeyRows) → length r.kept.items ≡ 0 → IsBound map rows → IsBound map (rows ++ r ∷ [])
+pub bound_more : (map : Map) (rows : List KeyRows) (r : KeyRows) → length r.kept.items ≡ 0 → IsBound map rows → IsBound map (rows ++ r ∷ [])
 bound_more map rows r none bound = record {
   ordered = bound.ordered;
   filled = λ key slot found. (let was : 0 < count_at rows slot = bound.filled key slot found in omega (arith, count_pushed rows r slot none, was));
@@ -110,18 +109,18 @@ bound_written map rows slot r bound within some = record {
   short = bound.short;
 }
 
-pub cell_of : (map : Map) (rows : List KeyRows) (key : List ℕ) (slot node : ℕ) → slot_in map key ≡ Some slot → cell_in map rows node key ≡ row_at rows slot node
+pub cell_of : (map : Map) (rows : List KeyRows) (key : List ℕ) (slot node : ℕ) → slot_in map key ≡ Some slot → seen_in map rows node key ≡ row_at rows slot node
 cell_of map rows key slot node found = ap (λ s. row_by rows s node) found
 
-pub cell_read : (map : Map) (rows : List KeyRows) (key : List ℕ) (slot node : ℕ) (r : KeyRows) → slot_in map key ≡ Some slot → slot < length rows → r ≡ get_or rows slot r → cell_in map rows node key ≡ held_at r.kept.items node
+pub cell_read : (map : Map) (rows : List KeyRows) (key : List ℕ) (slot node : ℕ) (r : KeyRows) → slot_in map key ≡ Some slot → slot < length rows → r ≡ get_or rows slot r → seen_in map rows node key ≡ seen_at r.kept.items node
 cell_read map rows key slot node r found within is = cell_of map rows key slot node found ∙ row_there rows slot node r within is
 
-pub cell_written : (map : Map) (rows : List KeyRows) (key : List ℕ) (slot node : ℕ) (r : KeyRows) → slot_in map key ≡ Some slot → slot < length rows → cell_in map (set rows slot r) node key ≡ held_at r.kept.items node
+pub cell_written : (map : Map) (rows : List KeyRows) (key : List ℕ) (slot node : ℕ) (r : KeyRows) → slot_in map key ≡ Some slot → slot < length rows → seen_in map (set rows slot r) node key ≡ seen_at r.kept.items node
 cell_written map rows key slot node r found within = cell_of map (set rows slot r) key slot node found ∙ row_set rows slot node r within
 
 -- the rows of another key, or of the same key where its rows but for some node's stay
 others_in : (map : Map) (rows : List KeyRows) (key : List ℕ) (slot : ℕ) (old new : KeyRows) (n : ℕ) (k : List ℕ) → IsBound map rows → slot_in map key ≡ Some slot → slot < length rows → old ≡ get_or rows slot old →
-    (k ≡ key → held_at new.kept.items n ≡ held_at old.kept.items n) → (other : ℕ) → slot_in map k ≡ Some other → (b : Bool) → (other == slot) ≡ b → row_at (set rows slot new) other n ≡ row_at rows other n
+    (k ≡ key → seen_at new.kept.items n ≡ seen_at old.kept.items n) → (other : ℕ) → slot_in map k ≡ Some other → (b : Bool) → (other == slot) ≡ b → row_at (set rows slot new) other n ≡ row_at rows other n
 others_in map rows key slot old new n k bound found within is stays other there true d =
     let e : other ≡ slot = (Decides-eqb other slot).0 d in
     let same : k ≡ key = bound.apart k key slot (there ∙ ap Some e) found in
@@ -129,22 +128,22 @@ others_in map rows key slot old new n k bound found within is stays other there 
 others_in map rows key slot old new n k bound found within is stays other there false d = row_beside rows slot other n new (is_apart other slot d)
 
 others_by : (map : Map) (rows : List KeyRows) (key : List ℕ) (slot : ℕ) (old new : KeyRows) (n : ℕ) (k : List ℕ) → IsBound map rows → slot_in map key ≡ Some slot → slot < length rows → old ≡ get_or rows slot old →
-    (k ≡ key → held_at new.kept.items n ≡ held_at old.kept.items n) → (at : Option ℕ) → slot_in map k ≡ at → row_by (set rows slot new) at n ≡ row_by rows at n
+    (k ≡ key → seen_at new.kept.items n ≡ seen_at old.kept.items n) → (at : Option ℕ) → slot_in map k ≡ at → row_by (set rows slot new) at n ≡ row_by rows at n
 others_by map rows key slot old new n k bound found within is stays None there = refl
 others_by map rows key slot old new n k bound found within is stays (Some other) there = others_in map rows key slot old new n k bound found within is stays other there (other == slot) refl
 
 pub others_written : (map : Map) (rows : List KeyRows) (key : List ℕ) (slot node : ℕ) (old new : KeyRows) → IsBound map rows → slot_in map key ≡ Some slot → slot < length rows → old ≡ get_or rows slot old →
-    OthersKept node old.kept.items new.kept.items → Others node key (cell_in map rows) (cell_in map (set rows slot new))
+    OthersKept node old.kept.items new.kept.items → OthersSeen node key (seen_in map rows) (seen_in map (set rows slot new))
 others_written map rows key slot node old new bound found within is others n k apart =
     others_by map rows key slot old new n k bound found within is (λ same. others n (λ e. apart (e, same))) (slot_in map k) refl
 
 pub same_written : (map : Map) (rows : List KeyRows) (key : List ℕ) (slot : ℕ) (old new : KeyRows) → IsBound map rows → slot_in map key ≡ Some slot → slot < length rows → old ≡ get_or rows slot old →
-    IsKeptSame old.kept.items new.kept.items → Same (cell_in map rows) (cell_in map (set rows slot new))
+    IsKeptSame old.kept.items new.kept.items → SameSeen (seen_in map rows) (seen_in map (set rows slot new))
 same_written map rows key slot old new bound found within is same n k =
     others_by map rows key slot old new n k bound found within is (λ e. same.same n) (slot_in map k) refl
 
 pub err_written : {A E : Type 0} (result : Result A E) (map : Map) (rows : List KeyRows) (key : List ℕ) (slot : ℕ) (old new : KeyRows) → IsBound map rows → slot_in map key ≡ Some slot → slot < length rows → old ≡ get_or rows slot old →
-    OnErr result (IsKeptSame old.kept.items new.kept.items) → OnErr result (Same (cell_in map rows) (cell_in map (set rows slot new)))
+    OnErr result (IsKeptSame old.kept.items new.kept.items) → OnErr result (SameSeen (seen_in map rows) (seen_in map (set rows slot new)))
 err_written (Ok done) map rows key slot old new bound found within is same = same
 err_written (Err refused) map rows key slot old new bound found within is same = same_written map rows key slot old new bound found within is same
 
@@ -168,7 +167,7 @@ not_equal : (key k : List ℕ) → bytes_eq key k ≡ false → k ≡ key → �
 not_equal key k d e = true≢false (sym ((bytes_decides key k).1 (sym e)) ∙ d)
 
 pub others_opened : (old new : Map) (rows : List KeyRows) (key : List ℕ) (slot : ℕ) (r : KeyRows) → IsBound old rows → count_at rows slot ≡ 0 → Updates (slice_cmp nat_cmp) old new key (Some slot) →
-    (n : ℕ) (k : List ℕ) → (k ≡ key → ⊥) → cell_in new (set rows slot r) n k ≡ cell_in old rows n k
+    (n : ℕ) (k : List ℕ) → (k ≡ key → ⊥) → seen_in new (set rows slot r) n k ≡ seen_in old rows n k
 others_opened old new rows key slot r bound free updates n k apart =
     ap (λ s. row_by (set rows slot r) s n) (stays_for old new key slot updates k apart) ∙ by_slot (slot_in old k) refl
   where
@@ -222,14 +221,14 @@ same_rows : (rows new : List KeyRows) (n : ℕ) → ((slot node : ℕ) → row_a
 same_rows rows new n same None = refl
 same_rows rows new n same (Some slot) = same slot n
 
-pub cells_same : (map other : Map) (rows new : List KeyRows) (n : ℕ) (k : List ℕ) → other ≡ map → ((slot node : ℕ) → row_at new slot node ≡ row_at rows slot node) → cell_in other new n k ≡ cell_in map rows n k
+pub cells_same : (map other : Map) (rows new : List KeyRows) (n : ℕ) (k : List ℕ) → other ≡ map → ((slot node : ℕ) → row_at new slot node ≡ row_at rows slot node) → seen_in other new n k ≡ seen_in map rows n k
 cells_same map other rows new n k is same = ap (λ m. row_by new (slot_in m k) n) is ∙ same_rows rows new n same (slot_in map k)
 
-pub all_same : (map other : Map) (rows new : List KeyRows) → other ≡ map → new ≡ rows → Same (cell_in map rows) (cell_in other new)
-all_same map other rows new maps is n k = ap (λ m. cell_in m new n k) maps ∙ ap (λ rs. cell_in map rs n k) is
+pub all_same : (map other : Map) (rows new : List KeyRows) → other ≡ map → new ≡ rows → SameSeen (seen_in map rows) (seen_in other new)
+all_same map other rows new maps is n k = ap (λ m. seen_in m new n k) maps ∙ ap (λ rs. seen_in map rs n k) is
 
 -- a slot past the last one
-pub none_past : (rows : List KeyRows) (slot node : ℕ) → length rows ≤ slot → row_at rows slot node ≡ None
+pub none_past : (rows : List KeyRows) (slot node : ℕ) → length rows ≤ slot → row_at rows slot node ≡ unseen
 none_past [] slot node past = refl
 none_past (r ∷ rows) zero node past = absurd (omega arith)
 none_past (r ∷ rows) (suc slot) node past = none_past rows slot node (omega arith)
@@ -263,7 +262,7 @@ bound_lost old new rows key slot r bound found ordered updates = record {
   short = λ k other there. bound.short k other (kept_then old new key updates k other there).1;
 }
 
-pub cell_lost : (old new : Map) (rows : List KeyRows) (key : List ℕ) (n : ℕ) → UpdatesBy (slice_cmp nat_cmp) (slice_cmp nat_cmp key) old new None → cell_in new rows n key ≡ None
+pub cell_lost : (old new : Map) (rows : List KeyRows) (key : List ℕ) (n : ℕ) → UpdatesBy (slice_cmp nat_cmp) (slice_cmp nat_cmp key) old new None → seen_in new rows n key ≡ unseen
 cell_lost old new rows key n updates = ap (λ at. row_by rows at n) (lost old new key updates)
 
 beside_lost : (old : Map) (rows : List KeyRows) (key : List ℕ) (slot : ℕ) (r : KeyRows) (n : ℕ) (k : List ℕ) (at : Option ℕ) → IsBound old rows → slot_in old key ≡ Some slot → (k ≡ key → ⊥) → slot_in old k ≡ at → row_by (set rows slot r) at n ≡ row_by rows at n
@@ -272,23 +271,23 @@ beside_lost old rows key slot r n k (Some other) bound found apart is = row_besi
 
 others_lost_by : (old new : Map) (rows : List KeyRows) (key : List ℕ) (slot node : ℕ) (was r : KeyRows) → IsBound old rows → slot_in old key ≡ Some slot → UpdatesBy (slice_cmp nat_cmp) (slice_cmp nat_cmp key) old new None →
     slot < length rows → was ≡ get_or rows slot was → OthersKept node was.kept.items r.kept.items → length r.kept.items ≡ 0 →
-    (n : ℕ) (k : List ℕ) → ((n ≡ node) × (k ≡ key) → ⊥) → (b : Bool) → bytes_eq key k ≡ b → cell_in new (set rows slot r) n k ≡ cell_in old rows n k
+    (n : ℕ) (k : List ℕ) → ((n ≡ node) × (k ≡ key) → ⊥) → (b : Bool) → bytes_eq key k ≡ b → seen_in new (set rows slot r) n k ≡ seen_in old rows n k
 others_lost_by old new rows key slot node was r bound found updates within is others none n k apart true d =
     let e : key ≡ k = (bytes_decides key k).0 d in
-    let gone : cell_in new (set rows slot r) n key ≡ None = cell_lost old new (set rows slot r) key n updates in
-    let before : cell_in old rows n key ≡ None = cell_read old rows key slot n was found within is ∙ sym (others n (λ same. apart (same, sym e))) ∙ empty_row r.kept.items n none in
-    subst (λ k. cell_in new (set rows slot r) n k ≡ cell_in old rows n k) e (gone ∙ sym before)
+    let gone : seen_in new (set rows slot r) n key ≡ unseen = cell_lost old new (set rows slot r) key n updates in
+    let before : seen_in old rows n key ≡ unseen = cell_read old rows key slot n was found within is ∙ sym (others n (λ same. apart (same, sym e))) ∙ empty_row r.kept.items n none in
+    subst (λ k. seen_in new (set rows slot r) n k ≡ seen_in old rows n k) e (gone ∙ sym before)
 others_lost_by old new rows key slot node was r bound found updates within is others none n k apart false d =
     ap (λ at. row_by (set rows slot r) at n) (stays_lost old new key updates k (not_equal key k d)) ∙ beside_lost old rows key slot r n k (slot_in old k) bound found (not_equal key k d) refl
 
 -- the rows of other keys and nodes, where the last row of a key went
 pub others_lost : (old new : Map) (rows : List KeyRows) (key : List ℕ) (slot node : ℕ) (was r : KeyRows) → IsBound old rows → slot_in old key ≡ Some slot → UpdatesBy (slice_cmp nat_cmp) (slice_cmp nat_cmp key) old new None →
-    slot < length rows → was ≡ get_or rows slot was → OthersKept node was.kept.items r.kept.items → length r.kept.items ≡ 0 → Others node key (cell_in old rows) (cell_in new (set rows slot r))
+    slot < length rows → was ≡ get_or rows slot was → OthersKept node was.kept.items r.kept.items → length r.kept.items ≡ 0 → OthersSeen node key (seen_in old rows) (seen_in new (set rows slot r))
 others_lost old new rows key slot node was r bound found updates within is others none n k apart =
     others_lost_by old new rows key slot node was r bound found updates within is others none n k apart (bytes_eq key k) refl
 
 -- the node that lost its row, by what is in its slot and by what the key finds
-pub gone_row : (old new : Map) (rows : List KeyRows) (key : List ℕ) (n : ℕ) (r : KeyRows) → UpdatesBy (slice_cmp nat_cmp) (slice_cmp nat_cmp key) old new None → length r.kept.items ≡ 0 → cell_in new rows n key ≡ held_at r.kept.items n
+pub gone_row : (old new : Map) (rows : List KeyRows) (key : List ℕ) (n : ℕ) (r : KeyRows) → UpdatesBy (slice_cmp nat_cmp) (slice_cmp nat_cmp key) old new None → length r.kept.items ≡ 0 → seen_in new rows n key ≡ seen_at r.kept.items n
 gone_row old new rows key n r updates none = cell_lost old new rows key n updates ∙ sym (empty_row r.kept.items n none)
 
 pub some_put : {A E : Type 0} (result : Result A E) (old new : List Kept) → OnOk result (length new ≡ length old + 1) → OnErr result (IsKeptSame old new) → 0 < length old → 0 < length new
@@ -304,3 +303,22 @@ few_opened old new (Some slot) count few = omega (arith, count, few)
 pub few_lost : (old new : Map) (was : Option ℕ) → length new.entries + (if is_some was then 1 else 0) ≡ length old.entries → length old.entries < 2 ^ 32 → length new.entries < 2 ^ 32
 few_lost old new None count few = omega (arith, count, few)
 few_lost old new (Some slot) count few = omega (arith, count, few)
+
+pub count_past : (rows : List KeyRows) (slot : ℕ) → length rows ≤ slot → count_at rows slot ≡ 0
+count_past [] slot past = refl
+count_past (r ∷ rows) zero past = absurd (omega arith)
+count_past (r ∷ rows) (suc slot) past = count_past rows slot (omega arith)
+
+-- a key that is put in with the row of one node
+others_put_by : (old new : Map) (rows more : List KeyRows) (kept : List Kept) (key : List ℕ) (node : ℕ) → slot_in old key ≡ None → ((n : ℕ) → seen_in new more n key ≡ seen_at kept n) → ((n : ℕ) → (n ≡ node → ⊥) → seen_at kept n ≡ unseen) →
+    ((n : ℕ) (k : List ℕ) → (k ≡ key → ⊥) → seen_in new more n k ≡ seen_in old rows n k) → (n : ℕ) (k : List ℕ) → ((n ≡ node) × (k ≡ key) → ⊥) → (b : Bool) → bytes_eq key k ≡ b → seen_in new more n k ≡ seen_in old rows n k
+others_put_by old new rows more kept key node none here beside others n k apart true d =
+    let same : k ≡ key = sym ((bytes_decides key k).0 d) in
+    ap (λ t. seen_in new more n t) same ∙ here n ∙ beside n (λ e. apart (e, same)) ∙ sym (ap (λ at. row_by rows at n) none) ∙ ap (λ t. seen_in old rows n t) (sym same)
+others_put_by old new rows more kept key node none here beside others n k apart false d = others n k (not_equal key k d)
+
+pub others_put : {A E : Type 0} (result : Result A E) (old new : Map) (rows more : List KeyRows) (none kept : List Kept) (key : List ℕ) (node : ℕ) → slot_in old key ≡ None → length none ≡ 0 → OthersKept node none kept → OnOk result ((n : ℕ) → seen_in new more n key ≡ seen_at kept n) →
+    OnErr result (SameSeen (seen_in old rows) (seen_in new more)) → ((n : ℕ) (k : List ℕ) → (k ≡ key → ⊥) → seen_in new more n k ≡ seen_in old rows n k) → OthersSeen node key (seen_in old rows) (seen_in new more)
+others_put (Ok done) old new rows more none kept key node lost empty beside here err others n k apart =
+    others_put_by old new rows more kept key node lost here (λ m far. beside m far ∙ empty_row none m empty) others n k apart (bytes_eq key k) refl
+others_put (Err refused) old new rows more none kept key node lost empty beside here err others n k apart = err n k

@@ -1,6 +1,7 @@
--- No row is empty, each keeps what a state keeps and has a short key, and the rows of the nodes in order are all of them.
+-- No row is empty, each keeps what a state keeps and has a short key, and what stands at the nodes in order is all of it.
 use Rattle.std.proofs.Common.{◌≡◌, ℕ, zero, suc, ◌+◌, ◌^◌, ◌<◌, ◌≤◌, ◌==◌, length, List, [], ◌∷◌, ◌++◌, Option, Some, None, Bool, true, false, refl, ap, sym, ◌∙◌, subst, inl, inr, ◌⊎◌, arith, ltb-true}
-use Rattle.std.specs.Prelude.{cond, is_none, nat_lt}
+use Rattle.std.specs.Prelude.{cond, not, ◌||◌, nat_lt}
+use Rattle.std.proofs.lemmas.Bool.{ltb-false}
 use Rattle.std.specs.Cmp.{first_so, second_so}
 use Rattle.std.specs.List.{All, Contains}
 use Rattle.std.specs.List.Sorted.{IsStrictlySortedBy}
@@ -15,9 +16,10 @@ use Rattle.std.proofs.lemmas.Map.Text.{is_eq-slice_cmp}
 use Rattle.std.proofs.lemmas.Map.Views.{All-found, All-after_first}
 use Rattle.rg_agg.specs.Held.{Held}
 use Rattle.rg_agg.specs.Standing.{size_in}
-use Rattle.rg_state.specs.Cells.{row_at, row_by, slot_in, cell_in, and_row, node_entries, entries_from, IsBound, AreBelow}
-use Rattle.rg_state.specs.Kepts.{held_at, are_sound}
-use Rattle.rg_state.specs.Rows.{Entry, IsBelow, AreRising, Lists}
+use Rattle.rg_state.specs.Cells.{row_at, row_by, slot_in, seen_in, cell_in, named_in, there_in, held_row, told_row, and_row, node_entries, entries_from, at_slot, IsBound, AreBelow}
+use Rattle.rg_state.specs.Changes.{changes_in}
+use Rattle.rg_state.specs.Kepts.{Seen, unseen, seen, seen_at, shown, told, stands_in, is_fair, is_idle, is_marked, are_sound}
+use Rattle.rg_state.specs.Rows.{At, IsBelow, AreRising, ListsOf, Lists}
 use Rattle.rg_state.specs.States.{held_of, IsHeld}
 use Rattle.rg_state.specs.declared.key_rows.Kept.{Kept}
 use Rattle.rg_state.specs.declared.key_rows.KeyRows.{KeyRows}
@@ -28,28 +30,38 @@ Map = BTreeMap (List ℕ) ℕ
 -- no row is empty
 
 pub sound_rest : (kept : Kept) (rest : List Kept) → are_sound (kept ∷ rest) ≡ true → are_sound rest ≡ true
-sound_rest kept rest sound = second_so _ _ (second_so (is_none (held_at rest kept.node)) _ sound)
+sound_rest kept rest sound = second_so _ _ (second_so (not (stands_in rest kept.node)) _ sound)
 
-pub some_first : (kept : Kept) (rest : List Kept) → are_sound (kept ∷ rest) ≡ true → nat_lt 0 (size_in (held_of kept.state)) ≡ true
-some_first kept rest sound = first_so _ _ (second_so (is_none (held_at rest kept.node)) _ sound)
+pub fair_first : (kept : Kept) (rest : List Kept) → are_sound (kept ∷ rest) ≡ true → is_fair kept ≡ true
+fair_first kept rest sound = first_so _ _ (second_so (not (stands_in rest kept.node)) _ sound)
 
-filled_by : (kept : Kept) (rest : List Kept) (node : ℕ) (held : Held) (b : Bool) → are_sound (kept ∷ rest) ≡ true → cond b (Some (held_of kept.state)) (held_at rest node) ≡ Some held →
-    (held_at rest node ≡ Some held → 0 < size_in held) → 0 < size_in held
-filled_by kept rest node held true sound found later =
-    let same : held_of kept.state ≡ held = cc in
-    subst (λ held. 0 < size_in held) same (ltb-true 0 _ (some_first kept rest sound))
-filled_by kept rest node held false sound found later = later found
+some_of : (n : ℕ) → (n == 0) ≡ false → 0 < n
+some_of zero is = cc
+some_of (suc n) is = omega arith
 
-filled_in : (kepts : List Kept) (node : ℕ) (held : Held) → are_sound kepts ≡ true → held_at kepts node ≡ Some held → 0 < size_in held
-filled_in [] node held sound found = cc
-filled_in (kept ∷ rest) node held sound found = filled_by kept rest node held (kept.node == node) sound found (filled_in rest node held (sound_rest kept rest sound))
+filled_by : (mine held : Held) (b : Bool) → (size_in mine == 0) ≡ b → cond b None (Some mine) ≡ Some held → 0 < size_in held
+filled_by mine held true none found = cc
+filled_by mine held false some found =
+    let same : mine ≡ held = cc in
+    subst (λ h. 0 < size_in h) same (some_of _ some)
 
-pub filled_row : (rows : List KeyRows) (slot node : ℕ) (held : Held) → row_at rows slot node ≡ Some held → 0 < size_in held
+pub filled_shown : (mine held : Held) → shown mine ≡ Some held → 0 < size_in held
+filled_shown mine held found = filled_by mine held (size_in mine == 0) refl found
+
+filled_cond : (kept : Kept) (rest : Seen) (held : Held) (b : Bool) → (cond b (seen kept) rest).held ≡ Some held → (rest.held ≡ Some held → 0 < size_in held) → 0 < size_in held
+filled_cond kept rest held true found later = filled_shown (held_of kept.state) held found
+filled_cond kept rest held false found later = later found
+
+filled_in : (kepts : List Kept) (node : ℕ) (held : Held) → (seen_at kepts node).held ≡ Some held → 0 < size_in held
+filled_in [] node held found = cc
+filled_in (kept ∷ rest) node held found = filled_cond kept (seen_at rest node) held (kept.node == node) found (filled_in rest node held)
+
+pub filled_row : (rows : List KeyRows) (slot node : ℕ) (held : Held) → (row_at rows slot node).held ≡ Some held → 0 < size_in held
 filled_row [] slot node held found = cc
-filled_row (r ∷ rows) zero node held found = filled_in r.kept.items node held r.sound found
+filled_row (r ∷ rows) zero node held found = filled_in r.kept.items node held found
 filled_row (r ∷ rows) (suc slot) node held found = filled_row rows slot node held found
 
-filled_at : (rows : List KeyRows) (at : Option ℕ) (node : ℕ) (held : Held) → row_by rows at node ≡ Some held → 0 < size_in held
+filled_at : (rows : List KeyRows) (at : Option ℕ) (node : ℕ) (held : Held) → (row_by rows at node).held ≡ Some held → 0 < size_in held
 filled_at rows None node held found = cc
 filled_at rows (Some slot) node held found = filled_row rows slot node held found
 
@@ -58,178 +70,272 @@ filled_cell map rows node key held found = filled_at rows (slot_in map key) node
 
 -- what a row keeps is what a state keeps
 
-state_by : (kept : Kept) (rest : List Kept) (node : ℕ) (held : Held) (b : Bool) → cond b (Some (held_of kept.state)) (held_at rest node) ≡ Some held → (held_at rest node ≡ Some held → IsHeld held) → IsHeld held
-state_by kept rest node held true found later = (kept.state, cc)
-state_by kept rest node held false found later = later found
+state_shown : (kept : Kept) (held : Held) (b : Bool) → cond b None (Some (held_of kept.state)) ≡ Some held → IsHeld held
+state_shown kept held true found = cc
+state_shown kept held false found = (kept.state, cc)
 
-state_in : (kepts : List Kept) (node : ℕ) (held : Held) → held_at kepts node ≡ Some held → IsHeld held
+state_cond : (kept : Kept) (rest : Seen) (held : Held) (b : Bool) → (cond b (seen kept) rest).held ≡ Some held → (rest.held ≡ Some held → IsHeld held) → IsHeld held
+state_cond kept rest held true found later = state_shown kept held (size_in (held_of kept.state) == 0) found
+state_cond kept rest held false found later = later found
+
+state_in : (kepts : List Kept) (node : ℕ) (held : Held) → (seen_at kepts node).held ≡ Some held → IsHeld held
 state_in [] node held found = cc
-state_in (kept ∷ rest) node held found = state_by kept rest node held (kept.node == node) found (state_in rest node held)
+state_in (kept ∷ rest) node held found = state_cond kept (seen_at rest node) held (kept.node == node) found (state_in rest node held)
 
-state_row : (rows : List KeyRows) (slot node : ℕ) (held : Held) → row_at rows slot node ≡ Some held → IsHeld held
+state_row : (rows : List KeyRows) (slot node : ℕ) (held : Held) → (row_at rows slot node).held ≡ Some held → IsHeld held
 state_row [] slot node held found = cc
 state_row (r ∷ rows) zero node held found = state_in r.kept.items node held found
 state_row (r ∷ rows) (suc slot) node held found = state_row rows slot node held found
 
-state_at : (rows : List KeyRows) (at : Option ℕ) (node : ℕ) (held : Held) → row_by rows at node ≡ Some held → IsHeld held
+state_at : (rows : List KeyRows) (at : Option ℕ) (node : ℕ) (held : Held) → (row_by rows at node).held ≡ Some held → IsHeld held
 state_at rows None node held found = cc
 state_at rows (Some slot) node held found = state_row rows slot node held found
 
 pub state_cell : (map : Map) (rows : List KeyRows) (node : ℕ) (key : List ℕ) (held : Held) → cell_in map rows node key ≡ Some held → IsHeld held
 state_cell map rows node key held found = state_at rows (slot_in map key) node held found
 
--- a row's key is short, and so is the number of its node where there are few nodes
+-- a row that was there was named
 
-short_at : (map : Map) (rows : List KeyRows) (node : ℕ) (key : List ℕ) (held : Held) (at : Option ℕ) → IsBound map rows → slot_in map key ≡ at → row_by rows at node ≡ Some held → length key ≤ 2056
-short_at map rows node key held None bound is found = cc
-short_at map rows node key held (Some slot) bound is found = bound.short key slot is
+there_of : (there named : Bool) → (not there || named) ≡ true → there ≡ true → named ≡ true
+there_of true named marked is = marked
+there_of false named marked is = cc
 
-short_cell : (map : Map) (rows : List KeyRows) (node : ℕ) (key : List ℕ) (held : Held) → IsBound map rows → cell_in map rows node key ≡ Some held → length key ≤ 2056
-short_cell map rows node key held bound found = short_at map rows node key held (slot_in map key) bound refl found
+there_cond : (kept : Kept) (rest : Seen) (b : Bool) → is_marked kept ≡ true → (cond b (seen kept) rest).there ≡ true → (rest.there ≡ true → rest.named ≡ true) → (cond b (seen kept) rest).named ≡ true
+there_cond kept rest true marked is later = there_of kept.there kept.named marked is
+there_cond kept rest false marked is later = later is
+
+there_named : (kepts : List Kept) (node : ℕ) → are_sound kepts ≡ true → (seen_at kepts node).there ≡ true → (seen_at kepts node).named ≡ true
+there_named [] node sound is = cc
+there_named (kept ∷ rest) node sound is =
+    there_cond kept (seen_at rest node) (kept.node == node) (second_so (not (is_idle kept)) _ (fair_first kept rest sound)) is (there_named rest node (sound_rest kept rest sound))
+
+pub there_row : (rows : List KeyRows) (slot node : ℕ) → (row_at rows slot node).there ≡ true → (row_at rows slot node).named ≡ true
+there_row [] slot node is = cc
+there_row (r ∷ rows) zero node is = there_named r.kept.items node r.sound is
+there_row (r ∷ rows) (suc slot) node is = there_row rows slot node is
+
+there_at : (rows : List KeyRows) (at : Option ℕ) (node : ℕ) → (row_by rows at node).there ≡ true → (row_by rows at node).named ≡ true
+there_at rows None node is = cc
+there_at rows (Some slot) node is = there_row rows slot node is
+
+pub there_cell : (map : Map) (rows : List KeyRows) (node : ℕ) (key : List ℕ) → there_in map rows node key ≡ true → named_in map rows node key ≡ true
+there_cell map rows node key is = there_at rows (slot_in map key) node is
+
+-- the key of what is in a slot is short, and so is the number of its node where there are few nodes
+
+module _ {X : Type 0} (map : Map) (rows : List KeyRows) (bound : IsBound map rows) (row : ℕ → ℕ → Option X) where
+  short_at : (key : List ℕ) (node : ℕ) (held : X) (at : Option ℕ) → slot_in map key ≡ at → at_slot row at node ≡ Some held → length key ≤ 2056
+  short_at key node held None is found = cc
+  short_at key node held (Some slot) is found = bound.short key slot is
+
+  pub short_of : (key : List ℕ) (node : ℕ) (held : X) → at_slot row (slot_in map key) node ≡ Some held → length key ≤ 2056
+  short_of key node held found = short_at key node held (slot_in map key) refl found
+
+cell_by : (rows : List KeyRows) (at : Option ℕ) (node : ℕ) → (row_by rows at node).held ≡ at_slot (held_row rows) at node
+cell_by rows None node = refl
+cell_by rows (Some slot) node = refl
+
+pub cell_slot : (map : Map) (rows : List KeyRows) (node : ℕ) (key : List ℕ) → cell_in map rows node key ≡ at_slot (held_row rows) (slot_in map key) node
+cell_slot map rows node key = cell_by rows (slot_in map key) node
+
+told_by : (rows : List KeyRows) (at : Option ℕ) (node : ℕ) → told (row_by rows at node) ≡ at_slot (told_row rows) at node
+told_by rows None node = refl
+told_by rows (Some slot) node = refl
+
+pub told_slot : (map : Map) (rows : List KeyRows) (node : ℕ) (key : List ℕ) → changes_in (named_in map rows) (there_in map rows) (cell_in map rows) node key ≡ at_slot (told_row rows) (slot_in map key) node
+told_slot map rows node key = told_by rows (slot_in map key) node
+
+below_by : (nodes node : ℕ) (b : Bool) → nat_lt node nodes ≡ b → (nodes ≤ node → ⊥) → node < nodes
+below_by nodes node true is not_past = ltb-true node nodes is
+below_by nodes node false is not_past = absurd (not_past (omega (arith, ltb-false node nodes is)))
+
+-- a row of which something is seen is of a node below the number
+pub seen_below : (map : Map) (rows : List KeyRows) (nodes node : ℕ) (key : List ℕ) → AreBelow nodes map rows → (seen_in map rows node key ≡ unseen → ⊥) → node < nodes
+seen_below map rows nodes node key below some = below_by nodes node (nat_lt node nodes) refl (λ past. some (below node key past))
+
+some_seen : (row : Seen) (held : Held) → row.held ≡ Some held → row ≡ unseen → ⊥
+some_seen row held is none =
+    let never : None ≡ Some held = sym (ap (λ (r : Seen). r.held) none) ∙ is in cc
+
+pub cell_below : (map : Map) (rows : List KeyRows) (nodes node : ℕ) (key : List ℕ) (held : Held) → AreBelow nodes map rows → cell_in map rows node key ≡ Some held → node < nodes
+cell_below map rows nodes node key held below found = seen_below map rows nodes node key below (some_seen (seen_in map rows node key) held found)
+
+there_seen : (row : Seen) → row.there ≡ true → row ≡ unseen → ⊥
+there_seen row is none =
+    let never : false ≡ true = sym (ap (λ (r : Seen). r.there) none) ∙ is in cc
+
+pub there_below : (map : Map) (rows : List KeyRows) (nodes node : ℕ) (key : List ℕ) → AreBelow nodes map rows → there_in map rows node key ≡ true → node < nodes
+there_below map rows nodes node key below is = seen_below map rows nodes node key below (there_seen (seen_in map rows node key) is)
+
+told_seen : (row : Seen) (now : Option Held) → told row ≡ Some now → row ≡ unseen → ⊥
+told_seen row now is none =
+    let never : None ≡ Some now = sym (ap told none) ∙ is in cc
+
+pub told_below : (map : Map) (rows : List KeyRows) (nodes node : ℕ) (key : List ℕ) (now : Option Held) → AreBelow nodes map rows → told (seen_in map rows node key) ≡ Some now → node < nodes
+told_below map rows nodes node key now below is = seen_below map rows nodes node key below (told_seen (seen_in map rows node key) now is)
 
 pub bounded_cell : (map : Map) (rows : List KeyRows) (nodes node : ℕ) (key : List ℕ) (held : Held) → nodes ≤ 2 ^ 32 → IsBound map rows → AreBelow nodes map rows → cell_in map rows node key ≡ Some held → (node < 2 ^ 32) × (length key ≤ 2056)
-bounded_cell map rows nodes node key held few bound below found = (omega (arith, few, below node key held found), short_cell map rows node key held bound found)
+bounded_cell map rows nodes node key held few bound below found =
+    (omega (arith, few, cell_below map rows nodes node key held below found), short_of map rows bound (held_row rows) key node held (sym (cell_slot map rows node key) ∙ found))
 
--- each row is in the list
+there_slot : (map : Map) (rows : List KeyRows) (key : List ℕ) (node : ℕ) (at : Option ℕ) → IsBound map rows → slot_in map key ≡ at → (row_by rows at node).there ≡ true → length key ≤ 2056
+there_slot map rows key node None bound is found = cc
+there_slot map rows key node (Some slot) bound is found = bound.short key slot is
 
-abbrev entry_of : ℕ → List ℕ → Held → Entry
-entry_of node key held = record { node = node; key = key; held = held }
+pub bounded_there : (map : Map) (rows : List KeyRows) (nodes node : ℕ) (key : List ℕ) → nodes ≤ 2 ^ 32 → IsBound map rows → AreBelow nodes map rows → there_in map rows node key ≡ true → (node < 2 ^ 32) × (length key ≤ 2056)
+bounded_there map rows nodes node key few bound below found =
+    (omega (arith, few, there_below map rows nodes node key below found), there_slot map rows key node (slot_in map key) bound refl found)
 
-here : (entry : Entry) (entries : List Entry) → Contains (entry ∷ entries) entry
-here entry entries = Contains-append_left (entry ∷ []) entries entry (0, omega arith, refl)
+-- what stands at the nodes in order, in the slots of the keys in order
 
-among_later : (node : ℕ) (key : List ℕ) (row : Option Held) (entries : List Entry) (entry : Entry) → Contains entries entry → Contains (and_row node key row entries) entry
-among_later node key None entries entry among = among
-among_later node key (Some held) entries entry among = Contains-append_right (entry_of node key held ∷ []) entries entry among
+module _ {X : Type 0} (row : ℕ → ℕ → Option X) where
+  abbrev entry_of : ℕ → List ℕ → X → At X
+  entry_of node key held = record { node = node; key = key; held = held }
 
-among_first : (node : ℕ) (key : List ℕ) (held : Held) (row : Option Held) (entries : List Entry) → row ≡ Some held → Contains (and_row node key row entries) (entry_of node key held)
-among_first node key held None entries is = cc
-among_first node key held (Some other) entries is =
-    let same : other ≡ held = cc in
-    subst (λ h. Contains (and_row node key (Some other) entries) (entry_of node key h)) same (here (entry_of node key other) entries)
+  here : (entry : At X) (entries : List (At X)) → Contains (entry ∷ entries) entry
+  here entry entries = Contains-append_left (entry ∷ []) entries entry (0, omega arith, refl)
 
-key_by : (rows : List KeyRows) (node : ℕ) (key : List ℕ) (held : Held) (pair : List ℕ × ℕ) (pairs : List (List ℕ × ℕ)) (b : Bool) → is_eq (slice_cmp nat_cmp key pair.0) ≡ b →
-    row_by rows (cond b (Some pair.1) (lookup (is_at (slice_cmp nat_cmp key)) pairs)) node ≡ Some held →
-    (row_by rows (lookup (is_at (slice_cmp nat_cmp key)) pairs) node ≡ Some held → Contains (node_entries node rows pairs) (entry_of node key held)) →
-    Contains (node_entries node rows (pair ∷ pairs)) (entry_of node key held)
-key_by rows node key held pair pairs true is found rest =
-    let same : key ≡ pair.0 = (bytes_decides key pair.0).0 (sym (is_eq-slice_cmp key pair.0) ∙ is) in
-    subst (λ k. Contains (node_entries node rows (pair ∷ pairs)) (entry_of node k held)) (sym same) (among_first node pair.0 held (row_at rows pair.1 node) (node_entries node rows pairs) found)
-key_by rows node key held pair pairs false is found rest = among_later node pair.0 (row_at rows pair.1 node) (node_entries node rows pairs) (entry_of node key held) (rest found)
+  among_later : (node : ℕ) (key : List ℕ) (x : Option X) (entries : List (At X)) (entry : At X) → Contains entries entry → Contains (and_row node key x entries) entry
+  among_later node key None entries entry among = among
+  among_later node key (Some held) entries entry among = Contains-append_right (entry_of node key held ∷ []) entries entry among
 
-key_there : (rows : List KeyRows) (node : ℕ) (key : List ℕ) (held : Held) (pairs : List (List ℕ × ℕ)) → row_by rows (lookup (is_at (slice_cmp nat_cmp key)) pairs) node ≡ Some held → Contains (node_entries node rows pairs) (entry_of node key held)
-key_there rows node key held [] found = cc
-key_there rows node key held (pair ∷ pairs) found = key_by rows node key held pair pairs (is_eq (slice_cmp nat_cmp key pair.0)) refl found (key_there rows node key held pairs)
+  among_first : (node : ℕ) (key : List ℕ) (held : X) (x : Option X) (entries : List (At X)) → x ≡ Some held → Contains (and_row node key x entries) (entry_of node key held)
+  among_first node key held None entries is = cc
+  among_first node key held (Some other) entries is =
+      let same : other ≡ held = cc in
+      subst (λ h. Contains (and_row node key (Some other) entries) (entry_of node key h)) same (here (entry_of node key other) entries)
 
-one_more : {a b : ℕ} → (a ≡ b) ⊎ (a < b) → (suc a ≡ suc b) ⊎ (suc a < suc b)
-one_more (inl same) = inl (ap suc same)
-one_more (inr less) = inr (omega arith)
+  key_by : (node : ℕ) (key : List ℕ) (held : X) (pair : List ℕ × ℕ) (pairs : List (List ℕ × ℕ)) (b : Bool) → is_eq (slice_cmp nat_cmp key pair.0) ≡ b →
+      at_slot row (cond b (Some pair.1) (lookup (is_at (slice_cmp nat_cmp key)) pairs)) node ≡ Some held →
+      (at_slot row (lookup (is_at (slice_cmp nat_cmp key)) pairs) node ≡ Some held → Contains (node_entries row node pairs) (entry_of node key held)) →
+      Contains (node_entries row node (pair ∷ pairs)) (entry_of node key held)
+  key_by node key held pair pairs true is found rest =
+      let same : key ≡ pair.0 = (bytes_decides key pair.0).0 (sym (is_eq-slice_cmp key pair.0) ∙ is) in
+      subst (λ k. Contains (node_entries row node (pair ∷ pairs)) (entry_of node k held)) (sym same) (among_first node pair.0 held (row pair.1 node) (node_entries row node pairs) found)
+  key_by node key held pair pairs false is found rest = among_later node pair.0 (row pair.1 node) (node_entries row node pairs) (entry_of node key held) (rest found)
 
-same_or_less : (a b : ℕ) → a ≤ b → (a ≡ b) ⊎ (a < b)
-same_or_less zero zero le = inl refl
-same_or_less zero (suc b) le = inr (omega arith)
-same_or_less (suc a) zero le = absurd (omega arith)
-same_or_less (suc a) (suc b) le = one_more (same_or_less a b (omega arith))
+  key_there : (node : ℕ) (key : List ℕ) (held : X) (pairs : List (List ℕ × ℕ)) → at_slot row (lookup (is_at (slice_cmp nat_cmp key)) pairs) node ≡ Some held → Contains (node_entries row node pairs) (entry_of node key held)
+  key_there node key held [] found = cc
+  key_there node key held (pair ∷ pairs) found = key_by node key held pair pairs (is_eq (slice_cmp nat_cmp key pair.0)) refl found (key_there node key held pairs)
 
-node_by : (first count : ℕ) (rows : List KeyRows) (pairs : List (List ℕ × ℕ)) (node : ℕ) (key : List ℕ) (held : Held) → row_by rows (lookup (is_at (slice_cmp nat_cmp key)) pairs) node ≡ Some held →
-    (suc first ≤ node → Contains (entries_from (suc first) count rows pairs) (entry_of node key held)) → (first ≡ node) ⊎ (first < node) → Contains (entries_from first (suc count) rows pairs) (entry_of node key held)
-node_by first count rows pairs node key held found later (inl same) =
-    Contains-append_left (node_entries first rows pairs) (entries_from (suc first) count rows pairs) (entry_of node key held)
-    (subst (λ n. Contains (node_entries n rows pairs) (entry_of node key held)) (sym same) (key_there rows node key held pairs found))
-node_by first count rows pairs node key held found later (inr less) =
-    Contains-append_right (node_entries first rows pairs) (entries_from (suc first) count rows pairs) (entry_of node key held) (later (omega arith))
+  one_more : {a b : ℕ} → (a ≡ b) ⊎ (a < b) → (suc a ≡ suc b) ⊎ (suc a < suc b)
+  one_more (inl same) = inl (ap suc same)
+  one_more (inr less) = inr (omega arith)
 
-row_there : (first count : ℕ) (rows : List KeyRows) (pairs : List (List ℕ × ℕ)) (node : ℕ) (key : List ℕ) (held : Held) → first ≤ node → node < first + count →
-    row_by rows (lookup (is_at (slice_cmp nat_cmp key)) pairs) node ≡ Some held → Contains (entries_from first count rows pairs) (entry_of node key held)
-row_there first zero rows pairs node key held low high found = absurd (omega arith)
-row_there first (suc count) rows pairs node key held low high found =
-    node_by first count rows pairs node key held found (λ low. row_there (suc first) count rows pairs node key held low (omega arith) found) (same_or_less first node low)
+  same_or_less : (a b : ℕ) → a ≤ b → (a ≡ b) ⊎ (a < b)
+  same_or_less zero zero le = inl refl
+  same_or_less zero (suc b) le = inr (omega arith)
+  same_or_less (suc a) zero le = absurd (omega arith)
+  same_or_less (suc a) (suc b) le = one_more (same_or_less a b (omega arith))
 
--- each entry of the list is a row
+  node_by : (first count : ℕ) (pairs : List (List ℕ × ℕ)) (node : ℕ) (key : List ℕ) (held : X) → at_slot row (lookup (is_at (slice_cmp nat_cmp key)) pairs) node ≡ Some held →
+      (suc first ≤ node → Contains (entries_from row (suc first) count pairs) (entry_of node key held)) → (first ≡ node) ⊎ (first < node) → Contains (entries_from row first (suc count) pairs) (entry_of node key held)
+  node_by first count pairs node key held found later (inl same) =
+      Contains-append_left (node_entries row first pairs) (entries_from row (suc first) count pairs) (entry_of node key held)
+      (subst (λ n. Contains (node_entries row n pairs) (entry_of node key held)) (sym same) (key_there node key held pairs found))
+  node_by first count pairs node key held found later (inr less) =
+      Contains-append_right (node_entries row first pairs) (entries_from row (suc first) count pairs) (entry_of node key held) (later (omega arith))
 
-abbrev IsRowOf : Map → List KeyRows → ℕ → Entry → Type 0
-IsRowOf map rows node entry = (entry.node ≡ node) × (cell_in map rows node entry.key ≡ Some entry.held)
+  row_there : (first count : ℕ) (pairs : List (List ℕ × ℕ)) (node : ℕ) (key : List ℕ) (held : X) → first ≤ node → node < first + count →
+      at_slot row (lookup (is_at (slice_cmp nat_cmp key)) pairs) node ≡ Some held → Contains (entries_from row first count pairs) (entry_of node key held)
+  row_there first zero pairs node key held low high found = absurd (omega arith)
+  row_there first (suc count) pairs node key held low high found =
+      node_by first count pairs node key held found (λ low. row_there (suc first) count pairs node key held low (omega arith) found) (same_or_less first node low)
 
-abbrev IsRow : Map → List KeyRows → Entry → Type 0
-IsRow map rows entry = cell_in map rows entry.node entry.key ≡ Some entry.held
+  -- each entry of the list stands there
 
-abbrev IsFound : Map → List ℕ × ℕ → Type 0
-IsFound map pair = slot_in map pair.0 ≡ Some pair.1
+  abbrev IsOf : Map → ℕ → At X → Type 0
+  IsOf map node entry = (entry.node ≡ node) × (at_slot row (slot_in map entry.key) node ≡ Some entry.held)
 
-all_with : (P : Entry → Type 0) (node : ℕ) (key : List ℕ) (row : Option Held) (entries : List Entry) → ((held : Held) → row ≡ Some held → P (entry_of node key held)) → All P entries → All P (and_row node key row entries)
-all_with P node key None entries first rest = rest
-all_with P node key (Some held) entries first rest = All-cons P (entry_of node key held) entries (first held refl) rest
+  abbrev IsThere : Map → At X → Type 0
+  IsThere map entry = at_slot row (slot_in map entry.key) entry.node ≡ Some entry.held
 
-back_in : (map : Map) (rows : List KeyRows) (node : ℕ) (pairs : List (List ℕ × ℕ)) → All (IsFound map) pairs → All (IsRowOf map rows node) (node_entries node rows pairs)
-back_in map rows node [] found = All-nil (IsRowOf map rows node)
-back_in map rows node (pair ∷ pairs) found =
-    all_with (IsRowOf map rows node) node pair.0 (row_at rows pair.1 node) (node_entries node rows pairs)
-    (λ held is. (refl, ap (λ slot. row_by rows slot node) (All-head (IsFound map) pair pairs found) ∙ is))
-    (back_in map rows node pairs (All-tail (IsFound map) pair pairs found))
+  abbrev IsFound : Map → List ℕ × ℕ → Type 0
+  IsFound map pair = slot_in map pair.0 ≡ Some pair.1
 
-back_from : (map : Map) (rows : List KeyRows) (first count : ℕ) (pairs : List (List ℕ × ℕ)) → All (IsFound map) pairs → All (IsRow map rows) (entries_from first count rows pairs)
-back_from map rows first zero pairs found = All-nil (IsRow map rows)
-back_from map rows first (suc count) pairs found =
-    All-append (IsRow map rows) (node_entries first rows pairs) (entries_from (suc first) count rows pairs)
-    (All-weaker (IsRowOf map rows first) (IsRow map rows) (λ entry is. ap (λ n. cell_in map rows n entry.key) is.0 ∙ is.1) (node_entries first rows pairs) (back_in map rows first pairs found))
-    (back_from map rows (suc first) count pairs found)
+  all_with : (P : At X → Type 0) (node : ℕ) (key : List ℕ) (x : Option X) (entries : List (At X)) → ((held : X) → x ≡ Some held → P (entry_of node key held)) → All P entries → All P (and_row node key x entries)
+  all_with P node key None entries first rest = rest
+  all_with P node key (Some held) entries first rest = All-cons P (entry_of node key held) entries (first held refl) rest
 
--- they rise
+  back_in : (map : Map) (node : ℕ) (pairs : List (List ℕ × ℕ)) → All (IsFound map) pairs → All (IsOf map node) (node_entries row node pairs)
+  back_in map node [] found = All-nil (IsOf map node)
+  back_in map node (pair ∷ pairs) found =
+      all_with (IsOf map node) node pair.0 (row pair.1 node) (node_entries row node pairs)
+      (λ held is. (refl, ap (λ slot. at_slot row slot node) (All-head (IsFound map) pair pairs found) ∙ is))
+      (back_in map node pairs (All-tail (IsFound map) pair pairs found))
 
-rising_more : (entry : Entry) (entries : List Entry) → All (IsBelow entry) entries → AreRising entries → AreRising (entry ∷ entries)
-rising_more entry [] below rising = tt
-rising_more entry (next ∷ entries) below rising = (All-head (IsBelow entry) next entries below, rising)
+  back_from : (map : Map) (first count : ℕ) (pairs : List (List ℕ × ℕ)) → All (IsFound map) pairs → All (IsThere map) (entries_from row first count pairs)
+  back_from map first zero pairs found = All-nil (IsThere map)
+  back_from map first (suc count) pairs found =
+      All-append (IsThere map) (node_entries row first pairs) (entries_from row (suc first) count pairs)
+      (All-weaker (IsOf map first) (IsThere map) (λ entry is. ap (λ n. at_slot row (slot_in map entry.key) n) is.0 ∙ is.1) (node_entries row first pairs) (back_in map first pairs found))
+      (back_from map (suc first) count pairs found)
 
-rising_with : (node : ℕ) (key : List ℕ) (row : Option Held) (entries later : List Entry) → ((held : Held) → All (IsBelow (entry_of node key held)) (entries ++ later)) → AreRising (entries ++ later) → AreRising (and_row node key row entries ++ later)
-rising_with node key None entries later below rising = rising
-rising_with node key (Some held) entries later below rising = rising_more (entry_of node key held) (entries ++ later) (below held) rising
+  -- they rise
 
-abbrev IsOfNode : ℕ → Entry → Type 0
-IsOfNode node entry = entry.node ≡ node
+  rising_more : (entry : At X) (entries : List (At X)) → All (IsBelow entry) entries → AreRising entries → AreRising (entry ∷ entries)
+  rising_more entry [] below rising = tt
+  rising_more entry (next ∷ entries) below rising = (All-head (IsBelow entry) next entries below, rising)
 
-abbrev IsAbove : ℕ → Entry → Type 0
-IsAbove node entry = node < entry.node
+  rising_with : (node : ℕ) (key : List ℕ) (x : Option X) (entries later : List (At X)) → ((held : X) → All (IsBelow (entry_of node key held)) (entries ++ later)) → AreRising (entries ++ later) → AreRising (and_row node key x entries ++ later)
+  rising_with node key None entries later below rising = rising
+  rising_with node key (Some held) entries later below rising = rising_more (entry_of node key held) (entries ++ later) (below held) rising
 
-of_node : (node : ℕ) (rows : List KeyRows) (pairs : List (List ℕ × ℕ)) → All (IsOfNode node) (node_entries node rows pairs)
-of_node node rows [] = All-nil (IsOfNode node)
-of_node node rows (pair ∷ pairs) = all_with (IsOfNode node) node pair.0 (row_at rows pair.1 node) (node_entries node rows pairs) (λ held is. refl) (of_node node rows pairs)
+  abbrev IsOfNode : ℕ → At X → Type 0
+  IsOfNode node entry = entry.node ≡ node
 
-above : (node first count : ℕ) (rows : List KeyRows) (pairs : List (List ℕ × ℕ)) → node < first → All (IsAbove node) (entries_from first count rows pairs)
-above node first zero rows pairs less = All-nil (IsAbove node)
-above node first (suc count) rows pairs less =
-    All-append (IsAbove node) (node_entries first rows pairs) (entries_from (suc first) count rows pairs)
-    (All-weaker (IsOfNode first) (IsAbove node) (λ entry is. omega (arith, is, less)) (node_entries first rows pairs) (of_node first rows pairs))
-    (above node (suc first) count rows pairs (omega arith))
+  abbrev IsAbove : ℕ → At X → Type 0
+  IsAbove node entry = node < entry.node
 
-abbrev IsAfter : List ℕ → List ℕ → Type 0
-IsAfter key other = slice_cmp nat_cmp key other ≡ Less
+  of_node : (node : ℕ) (pairs : List (List ℕ × ℕ)) → All (IsOfNode node) (node_entries row node pairs)
+  of_node node [] = All-nil (IsOfNode node)
+  of_node node (pair ∷ pairs) = all_with (IsOfNode node) node pair.0 (row pair.1 node) (node_entries row node pairs) (λ held is. refl) (of_node node pairs)
 
-below_keys : (node : ℕ) (key : List ℕ) (held : Held) (rows : List KeyRows) (pairs : List (List ℕ × ℕ)) → All (IsAfter key) (keys_of pairs) → All (IsBelow (entry_of node key held)) (node_entries node rows pairs)
-below_keys node key held rows [] after = All-nil (IsBelow (entry_of node key held))
-below_keys node key held rows (pair ∷ pairs) after =
-    all_with (IsBelow (entry_of node key held)) node pair.0 (row_at rows pair.1 node) (node_entries node rows pairs)
-    (λ h is. inr (refl, ap is_lt (All-head (IsAfter key) pair.0 (keys_of pairs) after)))
-    (below_keys node key held rows pairs (All-tail (IsAfter key) pair.0 (keys_of pairs) after))
+  above : (node first count : ℕ) (pairs : List (List ℕ × ℕ)) → node < first → All (IsAbove node) (entries_from row first count pairs)
+  above node first zero pairs less = All-nil (IsAbove node)
+  above node first (suc count) pairs less =
+      All-append (IsAbove node) (node_entries row first pairs) (entries_from row (suc first) count pairs)
+      (All-weaker (IsOfNode first) (IsAbove node) (λ entry is. omega (arith, is, less)) (node_entries row first pairs) (of_node first pairs))
+      (above node (suc first) count pairs (omega arith))
 
-rising_in : (node : ℕ) (rows : List KeyRows) (pairs : List (List ℕ × ℕ)) (later : List Entry) → IsStrictlySortedBy (slice_cmp nat_cmp) (keys_of pairs) → All (IsAbove node) later → AreRising later → AreRising (node_entries node rows pairs ++ later)
-rising_in node rows [] later sorted less rising = rising
-rising_in node rows (pair ∷ pairs) later sorted less rising =
-    rising_with node pair.0 (row_at rows pair.1 node) (node_entries node rows pairs) later
-    (λ held. All-append (IsBelow (entry_of node pair.0 held)) (node_entries node rows pairs) later
-    (below_keys node pair.0 held rows pairs (All-after_first (slice_cmp nat_cmp) pair.0 (keys_of pairs) sorted))
-    (All-weaker (IsAbove node) (IsBelow (entry_of node pair.0 held)) (λ entry is. inl is) later less))
-    (rising_in node rows pairs later (sorted_tail (slice_cmp nat_cmp) pair.0 (keys_of pairs) sorted) less rising)
+  abbrev IsAfter : List ℕ → List ℕ → Type 0
+  IsAfter key other = slice_cmp nat_cmp key other ≡ Less
 
-rising_from : (first count : ℕ) (rows : List KeyRows) (pairs : List (List ℕ × ℕ)) → IsStrictlySortedBy (slice_cmp nat_cmp) (keys_of pairs) → AreRising (entries_from first count rows pairs)
-rising_from first zero rows pairs sorted = tt
-rising_from first (suc count) rows pairs sorted =
-    rising_in first rows pairs (entries_from (suc first) count rows pairs) sorted (above first (suc first) count rows pairs (omega arith)) (rising_from (suc first) count rows pairs sorted)
+  below_keys : (node : ℕ) (key : List ℕ) (held : X) (pairs : List (List ℕ × ℕ)) → All (IsAfter key) (keys_of pairs) → All (IsBelow (entry_of node key held)) (node_entries row node pairs)
+  below_keys node key held [] after = All-nil (IsBelow (entry_of node key held))
+  below_keys node key held (pair ∷ pairs) after =
+      all_with (IsBelow (entry_of node key held)) node pair.0 (row pair.1 node) (node_entries row node pairs)
+      (λ h is. inr (refl, ap is_lt (All-head (IsAfter key) pair.0 (keys_of pairs) after)))
+      (below_keys node key held pairs (All-tail (IsAfter key) pair.0 (keys_of pairs) after))
 
-pub lists_all : (map : Map) (rows : List KeyRows) (nodes : ℕ) → IsBound map rows → AreBelow nodes map rows → Lists (cell_in map rows) (entries_from 0 nodes rows map.entries)
-lists_all map rows nodes bound below = record {
-  rising = rising_from 0 nodes rows map.entries bound.ordered;
-  rows = λ node key held. (
-    (λ found. row_there 0 nodes rows map.entries node key held (omega arith) (omega (arith, below node key held found)) found),
-    (λ among. All-contains (IsRow map rows) (entries_from 0 nodes rows map.entries) (entry_of node key held) (back_from map rows 0 nodes map.entries (All-found nat_list_cmp_total map bound.ordered)) among),
-  );
-}
+  rising_in : (node : ℕ) (pairs : List (List ℕ × ℕ)) (later : List (At X)) → IsStrictlySortedBy (slice_cmp nat_cmp) (keys_of pairs) → All (IsAbove node) later → AreRising later → AreRising (node_entries row node pairs ++ later)
+  rising_in node [] later sorted less rising = rising
+  rising_in node (pair ∷ pairs) later sorted less rising =
+      rising_with node pair.0 (row pair.1 node) (node_entries row node pairs) later
+      (λ held. All-append (IsBelow (entry_of node pair.0 held)) (node_entries row node pairs) later
+      (below_keys node pair.0 held pairs (All-after_first (slice_cmp nat_cmp) pair.0 (keys_of pairs) sorted))
+      (All-weaker (IsAbove node) (IsBelow (entry_of node pair.0 held)) (λ entry is. inl is) later less))
+      (rising_in node pairs later (sorted_tail (slice_cmp nat_cmp) pair.0 (keys_of pairs) sorted) less rising)
+
+  rising_from : (first count : ℕ) (pairs : List (List ℕ × ℕ)) → IsStrictlySortedBy (slice_cmp nat_cmp) (keys_of pairs) → AreRising (entries_from row first count pairs)
+  rising_from first zero pairs sorted = tt
+  rising_from first (suc count) pairs sorted =
+      rising_in first pairs (entries_from row (suc first) count pairs) sorted (above first (suc first) count pairs (omega arith)) (rising_from (suc first) count pairs sorted)
+
+  lists_by : (map : Map) (rows : List KeyRows) (nodes : ℕ) (at : ℕ → List ℕ → Option X) → IsBound map rows → ((node : ℕ) (key : List ℕ) → at node key ≡ at_slot row (slot_in map key) node)
+      → ((node : ℕ) (key : List ℕ) (held : X) → at node key ≡ Some held → node < nodes) → ListsOf at (entries_from row 0 nodes map.entries)
+  lists_by map rows nodes at bound is below = record {
+    rising = rising_from 0 nodes map.entries bound.ordered;
+    rows = λ node key held. (
+      (λ found. row_there 0 nodes map.entries node key held (omega arith) (omega (arith, below node key held found)) (sym (is node key) ∙ found)),
+      (λ among. is node key ∙ All-contains (IsThere map) (entries_from row 0 nodes map.entries) (entry_of node key held) (back_from map 0 nodes map.entries (All-found nat_list_cmp_total map bound.ordered)) among),
+    );
+  }
+
+pub lists_all : (map : Map) (rows : List KeyRows) (nodes : ℕ) → IsBound map rows → AreBelow nodes map rows → Lists (cell_in map rows) (entries_from (held_row rows) 0 nodes map.entries)
+lists_all map rows nodes bound below = lists_by (held_row rows) map rows nodes (cell_in map rows) bound (cell_slot map rows) (λ node key held found. cell_below map rows nodes node key held below found)
+
+pub lists_changes : (map : Map) (rows : List KeyRows) (nodes : ℕ) → IsBound map rows → AreBelow nodes map rows
+    → ListsOf (changes_in (named_in map rows) (there_in map rows) (cell_in map rows)) (entries_from (told_row rows) 0 nodes map.entries)
+lists_changes map rows nodes bound below =
+    lists_by (told_row rows) map rows nodes (changes_in (named_in map rows) (there_in map rows) (cell_in map rows)) bound (told_slot map rows) (λ node key now found. told_below map rows nodes node key now below found)

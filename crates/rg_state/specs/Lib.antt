@@ -1,10 +1,15 @@
 pub mod Takes
 pub mod Rows
 pub mod States
+pub mod Changes
 pub mod Kepts
 pub mod Cells
+pub mod Clean
+pub mod Settling
+pub mod Unused
 pub mod CellLaws
 pub mod Keeping
 pub mod Counted
 pub mod Sheets
+pub mod Touched
 pub mod Kinds

@@ -1,13 +1,63 @@
 -- The sheets that rows are written on, one a node.
-use Rattle.std.specs.Prelude.{◌≡◌, ℕ, zero, suc, ◌+◌, ◌<◌, ◌≤◌, ◌^◌, List, [], ◌∷◌, ◌++◌, length, Some}
-use Rattle.rg_agg.specs.Held.{Held}
-use Rattle.rg_agg.specs.Standing.{size_in}
-use Rattle.rg_state.specs.Kepts.{held_at}
-use Rattle.rg_state.specs.Cells.{and_row, node_entries}
-use Rattle.rg_state.specs.Rows.{Entry, entries_bytes}
+use Rattle.std.specs.Prelude.{◌≡◌, ℕ, zero, suc, ◌+◌, ◌<◌, ◌≤◌, ◌^◌, Bool, List, [], ◌∷◌, ◌++◌, length, Option, None, Some, is_some}
+use Rattle.std.specs.Option.{option_map}
+use Rattle.std.specs.Int.{w32, w64, to_be_bytes}
+use Rattle.rg_agg.specs.Held.{held_bytes}
+use Rattle.rg_state.specs.Cells.{row_at}
+use Rattle.rg_state.specs.Changes.{change_bytes, now_bytes}
+use Rattle.rg_state.specs.Kepts.{Seen, seen_at, shown, told}
+use Rattle.rg_state.specs.Rows.{entry_bytes}
+use Rattle.rg_state.specs.States.{held_of}
+use Rattle.rg_state.specs.declared.state.AggState.{AggState}
 use Rattle.rg_state.specs.declared.key_rows.Kept.{Kept}
 use Rattle.rg_state.specs.declared.key_rows.KeyRows.{KeyRows}
 use Rattle.rg_state.specs.declared.sheets.Sheet.{Sheet}
+use Rattle.rg_state.specs.declared.sheets.Wanted.{Wanted}
+use Rattle.rg_state.specs.declared.sheets.Wanted.TheVariants.{Rows, Changes}
+
+-- the row is one of those that are wanted
+abbrev pub is_wanted : Wanted → Seen → Bool
+is_wanted Rows row = is_some row.held
+is_wanted Changes row = is_some (told row)
+
+-- its bytes, where it is
+abbrev pub span_of : Wanted → ℕ → List ℕ → Seen → Option (List ℕ)
+span_of Rows node key row = option_map (λ held. entry_bytes (record { node = node; key = key; held = held })) row.held
+span_of Changes node key row = option_map (λ now. change_bytes (record { node = node; key = key; held = now })) (told row)
+
+-- the bytes of a row that is wanted: its node, its key, and its state, or how it is now
+abbrev pub tail_bytes : Wanted → AggState → List ℕ
+tail_bytes Rows state = held_bytes (held_of state)
+tail_bytes Changes state = now_bytes (shown (held_of state))
+
+abbrev pub row_bytes : Wanted → List ℕ → Kept → List ℕ
+row_bytes wanted key kept = to_be_bytes w32 kept.node ++ (to_be_bytes w32 (length key) ++ (key ++ tail_bytes wanted kept.state))
+
+-- Spans: the bytes of rows, each row's by themselves
+
+abbrev pub and_span : Option (List ℕ) → List (List ℕ) → List (List ℕ)
+and_span None spans = spans
+and_span (Some span) spans = span ∷ spans
+
+abbrev pub joined : List (List ℕ) → List ℕ
+joined [] = []
+joined (span ∷ spans) = span ++ joined spans
+
+-- those of a node, the keys rising
+abbrev pub node_spans : Wanted → ℕ → List KeyRows → List (List ℕ × ℕ) → List (List ℕ)
+node_spans wanted node rows [] = []
+node_spans wanted node rows (pair ∷ pairs) = and_span (span_of wanted node pair.0 (row_at rows pair.1 node)) (node_spans wanted node rows pairs)
+
+-- those of so many nodes from the first one on
+abbrev pub spans_from : Wanted → ℕ → ℕ → List KeyRows → List (List ℕ × ℕ) → List (List ℕ)
+spans_from wanted first zero rows pairs = []
+spans_from wanted first (suc count) rows pairs = node_spans wanted first rows pairs ++ spans_from wanted (suc first) count rows pairs
+
+-- spans behind their number, in 8 bytes
+abbrev pub counted_spans : List (List ℕ) → List ℕ
+counted_spans spans = to_be_bytes w64 (length spans) ++ joined spans
+
+-- Sheets
 
 -- bytes, and how many rows they are
 pub record Page : Type 0 where
@@ -27,9 +77,9 @@ page_at [] node = blank
 page_at (sheet ∷ sheets) zero = page_of sheet.bytes.items sheet.rows
 page_at (sheet ∷ sheets) (suc node) = page_at sheets node
 
--- these rows are written behind what is there
-abbrev pub and_rows : Page → List Entry → Page
-and_rows page entries = page_of (page.bytes ++ entries_bytes entries) (page.rows + length entries)
+-- these spans are written behind what is there
+abbrev pub and_spans : Page → List (List ℕ) → Page
+and_spans page spans = page_of (page.bytes ++ joined spans) (page.rows + length spans)
 
 -- all sheets one after another
 abbrev pub sheets_bytes : List Sheet → List ℕ
@@ -46,15 +96,24 @@ pub record HasRoom (sheets : List Sheet) (node : ℕ) : Type 0 where
   pub there : node < length sheets
   pub few : (page_at sheets node).rows < 2 ^ 32
 
--- a key's rows can be written: it is short, none of them is empty, and each of their nodes has room
-pub record IsReady (key : List ℕ) (kepts : List Kept) (sheets : List Sheet) : Type 0 where
+-- the rows of a key that are wanted can be written: the key is short, and each of their nodes has room
+pub record IsReady (wanted : Wanted) (key : List ℕ) (kepts : List Kept) (sheets : List Sheet) : Type 0 where
   pub short : length key ≤ 2056
-  pub some : (node : ℕ) (held : Held) → held_at kepts node ≡ Some held → 0 < size_in held
-  pub room : (node : ℕ) (held : Held) → held_at kepts node ≡ Some held → HasRoom sheets node
+  pub room : (node : ℕ) (span : List ℕ) → span_of wanted node key (seen_at kepts node) ≡ Some span → HasRoom sheets node
 
--- each node's sheet gets the row of its node among these
-pub record Gets (key : List ℕ) (kepts : List Kept) (old new : List Sheet) : Type 0 where
-  pub pages : (node : ℕ) → page_at new node ≡ and_rows (page_at old node) (and_row node key (held_at kepts node) [])
+-- each node's sheet gets the row of its node among these, where it is wanted
+pub record Gets (wanted : Wanted) (key : List ℕ) (kepts : List Kept) (old new : List Sheet) : Type 0 where
+  pub pages : (node : ℕ) → page_at new node ≡ and_spans (page_at old node) (and_span (span_of wanted node key (seen_at kepts node)) [])
+  pub count : length new ≡ length old
+
+-- the same, of the rows in a slot
+pub record IsReadyAt (wanted : Wanted) (key : List ℕ) (rows : List KeyRows) (slot : ℕ) (sheets : List Sheet) : Type 0 where
+  pub within : slot < length rows
+  pub short : length key ≤ 2056
+  pub room : (node : ℕ) (span : List ℕ) → span_of wanted node key (row_at rows slot node) ≡ Some span → HasRoom sheets node
+
+pub record GetsAt (wanted : Wanted) (key : List ℕ) (rows : List KeyRows) (slot : ℕ) (old new : List Sheet) : Type 0 where
+  pub pages : (node : ℕ) → page_at new node ≡ and_spans (page_at old node) (and_span (span_of wanted node key (row_at rows slot node)) [])
   pub count : length new ≡ length old
 
 -- there are so many sheets with nothing on them
@@ -62,7 +121,7 @@ pub record AreBlank (nodes : ℕ) (sheets : List Sheet) : Type 0 where
   pub pages : (node : ℕ) → page_at sheets node ≡ blank
   pub count : length sheets ≡ nodes
 
--- there are so many sheets, and each has the rows of its node
-pub record AreFilled (nodes : ℕ) (rows : List KeyRows) (pairs : List (List ℕ × ℕ)) (sheets : List Sheet) : Type 0 where
-  pub pages : (node : ℕ) → page_at sheets node ≡ and_rows blank (node_entries node rows pairs)
+-- there are so many sheets, and each has the rows of its node that are wanted
+pub record AreFilled (wanted : Wanted) (nodes : ℕ) (rows : List KeyRows) (pairs : List (List ℕ × ℕ)) (sheets : List Sheet) : Type 0 where
+  pub pages : (node : ℕ) → page_at sheets node ≡ and_spans blank (node_spans wanted node rows pairs)
   pub count : length sheets ≡ nodes

@@ -1,8 +1,9 @@
-ghost use Rattle.std.specs.Prelude.{◌≡◌, ◌+◌, ◌<◌, ◌≤◌, ℕ, true, None, Some, length, IfOk, IfSome, IsNone, OnOk, OnErr, IsErrOf, ◌==◌, slice_index_or};
+ghost use Rattle.std.specs.Prelude.{◌≡◌, ◌+◌, ◌<◌, ◌≤◌, ℕ, true, false, not, ◌==◌, cond, None, Some, length, take, is_some, IfOk, IfSome, IsNone, OnOk, OnErr, IsErrOf, slice_index_or, All};
 ghost use Rattle.std.specs.Option.{option_map};
 ghost use Rattle.rg_agg.specs.Standing.{size_in};
-ghost use Rattle.rg_state.specs.Kepts.{held_at, are_sound, OthersKept, IsKeptSame};
-ghost use Rattle.rg_state.specs.Rows.{Changed, Counts, Suits, Unfit, IsRefused, IsOf};
+ghost use Rattle.rg_state.specs.Kepts.{Seen, unseen, fresh, settled, told, seen, seen_at, stands_in, is_marked, is_idle, is_fair, are_sound, OthersKept, IsKeptSame, IsMarked, Stepped};
+ghost use Rattle.rg_state.specs.Rows.{Unfit, IsRefused};
+ghost use Rattle.rg_state.specs.Clean.{IsClean};
 ghost use Rattle.rg_state.specs.States.{held_of};
 ghost use Rattle.rg_state.specs.Takes.{Takes};
 
@@ -15,11 +16,117 @@ use rg_event::Value;
 use rg_metric::Func;
 use std::alloc::Global;
 
-/// The state of a node's row.
+/// The state of a node's row, and what is remembered of the row since the mark. A row that is gone and
+/// was there at the mark keeps an empty state until the table is marked once more.
 #[derive(Debug, Drop)]
 pub(crate) struct Kept {
     pub(crate) node: u32,
+    /// The row was named since the mark.
+    pub(crate) named: bool,
+    /// It was named, and was there at the mark.
+    pub(crate) there: bool,
     pub(crate) state: AggState,
+}
+
+impl Kept {
+    /// Whether the row is gone, and wasn't there at the mark.
+    fn is_idle(&self) -> bool
+        ensures { result ≡ is_idle self.now }
+    {
+        self.state.is_empty() && !self.there
+    }
+
+    /// Whether there is a row.
+    pub(crate) fn is_there(&self) -> bool
+        ensures { result ≡ is_some (seen self.now).held }
+    {
+        !self.state.is_empty()
+    }
+
+    /// Whether the row is one to be written as changed: it was named, and it is there or was.
+    pub(crate) fn is_changed(&self) -> bool
+        ensures { result ≡ is_some (told (seen self.now)) }
+    {
+        if !self.named {
+            return false;
+        }
+        self.there || !self.state.is_empty()
+    }
+
+    /// Marks the row as named. One that wasn't is there, and so it was there at the mark.
+    fn name(&mut self)
+        ensures node { self.new.node ≡ self.old.node }
+        ensures state { self.new.state ≡ self.old.state }
+        ensures named { self.new.named ≡ true }
+        ensures there { self.new.there ≡ cond self.old.named self.old.there true }
+    {
+        if !self.named {
+            self.named = true;
+            self.there = true;
+        }
+    }
+
+    /// Forgets what is remembered of the row.
+    fn forget(&mut self)
+        ensures node { self.new.node ≡ self.old.node }
+        ensures state { self.new.state ≡ self.old.state }
+        ensures named { self.new.named ≡ false }
+        ensures there { self.new.there ≡ false }
+    {
+        self.named = false;
+        self.there = false;
+    }
+
+    /// Adds a value to the row. One that is gone begins anew.
+    fn add(&mut self, alloc: Global, func: Func, value: &Value) -> Result<(), Refusal>
+        requires takes { Takes func value.now }
+        requires fair { is_fair self.old ≡ true }
+        ensures node { self.new.node ≡ self.old.node }
+        ensures fair { is_fair self.new ≡ true }
+        ensures stepped { OnOk result (Stepped func Change.Add value.now (seen self.old) (seen self.new)) }
+        ensures err { OnErr result (seen self.new ≡ seen self.old) }
+        ensures unfit { IsErrOf result Refusal.Unfit → Unfit func Change.Add value.now (seen self.old).held }
+        ensures causes { IsErrOf result Refusal.Unfit → IsRefused func Change.Add value.now (seen self.old).held }
+    {
+        if self.state.is_empty() {
+            match first_state(alloc, func, value) {
+                Ok(state) => {
+                    self.state = state;
+                    return Ok(());
+                }
+                Err(_) => return Err(Refusal::Memory),
+            }
+        }
+        match add_own(&mut self.state, func, value) {
+            Ok(()) => {
+                self.name();
+                Ok(())
+            }
+            Err(refusal) => Err(refusal),
+        }
+    }
+
+    /// Takes the first value of the row away. The row may be gone then.
+    fn take(&mut self, func: Func, value: &Value) -> Result<(), Refusal>
+        requires fair { is_fair self.old ≡ true }
+        ensures node { self.new.node ≡ self.old.node }
+        ensures marked { is_marked self.new ≡ true }
+        ensures stepped { OnOk result (Stepped func Change.Remove value.now (seen self.old) (seen self.new)) }
+        ensures err { OnErr result (seen self.new ≡ seen self.old) }
+        ensures fair { OnErr result (is_fair self.new ≡ true) }
+        ensures unfit { OnErr result (Unfit func Change.Remove value.now (seen self.old).held) }
+    {
+        if self.state.is_empty() {
+            return Err(Refusal::Unfit);
+        }
+        match take_own(&mut self.state, func, value) {
+            Ok(()) => {
+                self.name();
+                Ok(())
+            }
+            Err(refusal) => Err(refusal),
+        }
+    }
 }
 
 /// The rows of one key, each node once.
@@ -39,7 +146,7 @@ impl KeyRows {
         }
     }
 
-    /// Whether there is no row.
+    /// Whether nothing is kept of any node.
     pub(crate) fn is_empty(&self) -> bool
         ensures { result ≡ (length self.now.kept.items == 0) }
     {
@@ -49,7 +156,7 @@ impl KeyRows {
     /// Where the state of a node stands.
     fn place(&self, node: u32) -> Option<usize>
         ensures found { IfSome result (λ place. (place < length self.now.kept.items) × ((other : Kept) → (slice_index_or self.now.kept.items place other).node ≡ node)) }
-        ensures none { IsNone result → held_at self.now.kept.items node ≡ None }
+        ensures none { IsNone result → stands_in self.now.kept.items node ≡ false }
     {
         for place in 0..self.kept.len() {
             let kept = &self.kept[place];
@@ -62,12 +169,15 @@ impl KeyRows {
 
     /// The state of a node, where there is a row.
     pub(crate) fn get(&self, node: u32) -> Option<&AggState>
-        ensures { option_map (λ state. held_of state.now) result ≡ held_at self.now.kept.items node }
+        ensures { option_map (λ state. held_of state.now) result ≡ (seen_at self.now.kept.items node).held }
     {
         match self.place(node) {
             None => None,
             Some(place) => {
                 let kept = &self.kept[place];
+                if kept.state.is_empty() {
+                    return None;
+                }
                 Some(&kept.state)
             }
         }
@@ -82,20 +192,17 @@ impl KeyRows {
         value: &Value,
     ) -> Result<(), Refusal>
         requires { Takes func value.now }
-        ensures changed { OnOk result (Changed func Change.Add value.now (held_at self.old.kept.items node) (held_at self.new.kept.items node)) }
-        ensures suits { OnOk result (Suits func Change.Add value.now (held_at self.old.kept.items node)) }
-        ensures own { OnOk result (IsOf func (held_at self.new.kept.items node)) }
-        ensures size { OnOk result (Counts Change.Add (held_at self.old.kept.items node) (held_at self.new.kept.items node)) }
+        ensures stepped { OnOk result (Stepped func Change.Add value.now (seen_at self.old.kept.items node) (seen_at self.new.kept.items node)) }
         ensures others { OthersKept node self.old.kept.items self.new.kept.items }
         ensures count { OnOk result (length self.old.kept.items ≤ length self.new.kept.items) }
         ensures err { OnErr result (IsKeptSame self.old.kept.items self.new.kept.items) }
-        ensures unfit { IsErrOf result Refusal.Unfit → Unfit func Change.Add value.now (held_at self.old.kept.items node) }
-        ensures causes { IsErrOf result Refusal.Unfit → IsRefused func Change.Add value.now (held_at self.old.kept.items node) }
+        ensures unfit { IsErrOf result Refusal.Unfit → Unfit func Change.Add value.now (seen_at self.old.kept.items node).held }
+        ensures causes { IsErrOf result Refusal.Unfit → IsRefused func Change.Add value.now (seen_at self.old.kept.items node).held }
     {
         match self.place(node) {
             Some(place) => {
                 let kept = &mut self.kept[place];
-                match add_own(&mut kept.state, func, value) {
+                match kept.add(alloc, func, value) {
                     Ok(()) => return Ok(()),
                     Err(refusal) => return Err(refusal),
                 }
@@ -106,7 +213,7 @@ impl KeyRows {
             Ok(state) => state,
             Err(_) => return Err(Refusal::Memory),
         };
-        match self.insert(node, state) {
+        match self.push(node, state) {
             Ok(()) => Ok(()),
             Err(_) => Err(Refusal::Memory),
         }
@@ -114,24 +221,21 @@ impl KeyRows {
 
     /// Takes the first value of the row of a node away.
     pub(crate) fn take(&mut self, node: u32, func: Func, value: &Value) -> Result<(), Refusal>
-        ensures changed { OnOk result (Changed func Change.Remove value.now (held_at self.old.kept.items node) (held_at self.new.kept.items node)) }
-        ensures suits { OnOk result (Suits func Change.Remove value.now (held_at self.old.kept.items node)) }
-        ensures own { OnOk result (IsOf func (held_at self.new.kept.items node)) }
-        ensures size { OnOk result (Counts Change.Remove (held_at self.old.kept.items node) (held_at self.new.kept.items node)) }
+        ensures stepped { OnOk result (Stepped func Change.Remove value.now (seen_at self.old.kept.items node) (seen_at self.new.kept.items node)) }
         ensures others { OthersKept node self.old.kept.items self.new.kept.items }
         ensures err { OnErr result (IsKeptSame self.old.kept.items self.new.kept.items) }
-        ensures unfit { OnErr result (Unfit func Change.Remove value.now (held_at self.old.kept.items node)) }
+        ensures unfit { OnErr result (Unfit func Change.Remove value.now (seen_at self.old.kept.items node).held) }
     {
         let place = match self.place(node) {
             None => return Err(Refusal::Unfit),
             Some(place) => place,
         };
         let kept = &mut self.kept[place];
-        match take_own(&mut kept.state, func, value) {
+        match kept.take(func, value) {
             Err(refusal) => return Err(refusal),
             Ok(()) => {}
         }
-        if !kept.state.is_empty() {
+        if !kept.is_idle() {
             return Ok(());
         }
         self.kept.remove(place);
@@ -140,15 +244,82 @@ impl KeyRows {
 
     /// Puts a row where there is none.
     pub(crate) fn insert(&mut self, node: u32, state: AggState) -> Result<(), Memory>
-        requires free { held_at self.old.kept.items node ≡ None }
+        requires free { (seen_at self.old.kept.items node).held ≡ None }
         requires some { 0 < size_in (held_of state) }
-        ensures row { OnOk result (held_at self.new.kept.items node ≡ Some (held_of state)) }
+        ensures row { OnOk result ((seen_at self.new.kept.items node).held ≡ Some (held_of state)) }
+        ensures marks { OnOk result (IsMarked (seen_at self.old.kept.items node) (seen_at self.new.kept.items node)) }
+        ensures others { OthersKept node self.old.kept.items self.new.kept.items }
+        ensures count { OnOk result (length self.old.kept.items ≤ length self.new.kept.items) }
+        ensures err { OnErr result (IsKeptSame self.old.kept.items self.new.kept.items) }
+    {
+        match self.place(node) {
+            Some(place) => {
+                let kept = &mut self.kept[place];
+                kept.state = state;
+                return Ok(());
+            }
+            None => {}
+        }
+        match self.push(node, state) {
+            Ok(()) => Ok(()),
+            Err(memory) => Err(memory),
+        }
+    }
+
+    /// Puts a row of a node of which nothing is kept.
+    pub(crate) fn push(&mut self, node: u32, state: AggState) -> Result<(), Memory>
+        requires free { stands_in self.old.kept.items node ≡ false }
+        requires some { 0 < size_in (held_of state) }
+        ensures row { OnOk result (seen_at self.new.kept.items node ≡ fresh (held_of state)) }
         ensures others { OthersKept node self.old.kept.items self.new.kept.items }
         ensures count { OnOk result (length self.new.kept.items ≡ length self.old.kept.items + 1) }
         ensures err { OnErr result (IsKeptSame self.old.kept.items self.new.kept.items) }
     {
         self.kept.reserve_exact(1)?;
-        self.kept.push(Kept { node, state })?;
+        self.kept.push(Kept {
+            node,
+            named: true,
+            there: false,
+            state,
+        })?;
         Ok(())
     }
+
+    /// Forgets what is remembered of each row, and drops those that are gone.
+    pub(crate) fn settle(&mut self)
+        ensures { (node : ℕ) → seen_at self.new.kept.items node ≡ settled (seen_at self.old.kept.items node) }
+    {
+        settle_all(&mut self.kept);
+    }
+}
+
+/// The same, of a list of them.
+fn settle_all(kept: &mut Vec<Kept>)
+    requires { are_sound kept.old.items ≡ true }
+    ensures sound { are_sound kept.new.items ≡ true }
+    ensures rows { (node : ℕ) → seen_at kept.new.items node ≡ settled (seen_at kept.old.items node) }
+{
+    let mut place = 0;
+    while place < kept.len() {
+        place = settle_at(kept, place);
+    }
+}
+
+/// The same, of the one in a place. Answers the place of the next one.
+fn settle_at(kept: &mut Vec<Kept>, place: usize) -> usize
+    requires sound { are_sound kept.old.items ≡ true }
+    requires within { place < length kept.old.items }
+    ensures sound { are_sound kept.new.items ≡ true }
+    ensures rows { (node : ℕ) → settled (seen_at kept.new.items node) ≡ settled (seen_at kept.old.items node) }
+    ensures clean { All IsClean (take place kept.old.items) → All IsClean (take result kept.new.items) }
+    ensures left { length kept.new.items + place + 1 ≡ length kept.old.items + result }
+    ensures next { result ≤ length kept.new.items }
+{
+    let one = &mut kept[place];
+    if !one.state.is_empty() {
+        one.forget();
+        return place + 1;
+    }
+    kept.remove(place);
+    place
 }

@@ -1,12 +1,14 @@
-ghost use Rattle.std.specs.Prelude.{◌≡◌, ◌↔◌, ◌<◌, ◌≤◌, ◌+◌, ◌^◌, ℕ, List, None, max, IfOk, OnOk, OnErr, IsErrOf};
+ghost use Rattle.std.specs.Prelude.{◌≡◌, ◌↔◌, ◌<◌, ◌≤◌, ◌+◌, ◌^◌, ℕ, List, None, max, true, IfOk, OnOk, OnErr, IsErrOf};
 ghost use Rattle.rg_bytes.specs.Counts.{Rose};
 ghost use Rattle.rg_event.specs.declared.value.Value.{Value};
 ghost use Rattle.rg_metric.specs.Answers.{answer_of};
-ghost use Rattle.rg_state.specs.Cells.{cell_in, AreBelow};
+ghost use Rattle.rg_state.specs.Cells.{cell_in, named_in, there_in, AreBelow};
+ghost use Rattle.rg_state.specs.Changes.{SameMarks, OtherMarks, NoMarks, IsNamed, was_there};
 ghost use Rattle.rg_state.specs.Rows.{RowStands, Changed, Counts, Suits, Unfit, IsRefused, IsOf, Same, Others};
 ghost use Rattle.rg_state.specs.Takes.{Takes};
 
 use crate::one::Refusal;
+use crate::sheets::Wanted;
 use crate::slots::Slots;
 use crate::state::AggState;
 use crate::table::{Change, Table, TableFault};
@@ -17,8 +19,8 @@ use rg_metric::{Answer, Func};
 use std::alloc::Global;
 
 /// A table whose rows stand in memory: one ordered map gives each key a slot, and a slot has the states
-/// of its key by node. It takes at most 2^32 - 1 keys at a time, and none of more than 2,056 bytes: more
-/// of them is refused as memory.
+/// of its key by node, each with what is remembered of its row since the mark. It takes at most 2^32 - 1
+/// keys at a time, and none of more than 2,056 bytes: more of them is refused as memory.
 #[derive(Drop)]
 pub struct MemTable {
     alloc: Global,
@@ -35,6 +37,8 @@ impl MemTable {
     /// A table without a row.
     pub fn new(alloc: Global) -> MemTable
         ensures none { (node : ℕ) (key : List ℕ) → ⟦<MemTable as Table>⟧.cell result node key ≡ None }
+        ensures none_named { NoMarks (⟦<MemTable as Table>⟧.named result) }
+        ensures none_there { NoMarks (⟦<MemTable as Table>⟧.there result) }
         ensures tells { ⟦<MemTable as Table>⟧.tells result }
         ensures faults { ⟦<MemTable as Table>⟧.faults result ≡ 0 }
     {
@@ -60,10 +64,14 @@ fn reach(nodes: u64, node: u32) -> u64
 
 impl Table for MemTable {
     ghost use Rattle.std.specs.Prelude.{⊤};
-    ghost use Rattle.rg_state.specs.Cells.{cell_in, entries_from};
-    ghost use Rattle.rg_state.specs.CellLaws.{filled_cell, state_cell, bounded_cell, lists_all};
+    ghost use Rattle.rg_state.specs.Cells.{cell_in, named_in, there_in, held_row, entries_from};
+    ghost use Rattle.rg_state.specs.CellLaws.{filled_cell, state_cell, bounded_cell, there_cell, bounded_there, lists_all};
 
     ghost cell = { λ table. cell_in table.slots.map table.slots.rows.items };
+
+    ghost named = { λ table. named_in table.slots.map table.slots.rows.items };
+
+    ghost there = { λ table. there_in table.slots.map table.slots.rows.items };
 
     ghost tells = { λ _. ⊤ };
 
@@ -84,6 +92,12 @@ impl Table for MemTable {
         ensures size { ⟦<MemTable as Table>⟧.tells self.old → OnOk result (Counts change (⟦<MemTable as Table>⟧.cell self.old node key.now) (⟦<MemTable as Table>⟧.cell self.new node key.now)) }
         ensures others { ⟦<MemTable as Table>⟧.tells self.old → Others node key.now (⟦<MemTable as Table>⟧.cell self.old) (⟦<MemTable as Table>⟧.cell self.new) }
         ensures err { ⟦<MemTable as Table>⟧.tells self.old → OnErr result (Same (⟦<MemTable as Table>⟧.cell self.old) (⟦<MemTable as Table>⟧.cell self.new)) }
+        ensures named { ⟦<MemTable as Table>⟧.tells self.old → OnOk result (IsNamed (⟦<MemTable as Table>⟧.named self.new node key.now) (⟦<MemTable as Table>⟧.there self.new node key.now) (⟦<MemTable as Table>⟧.cell self.new node key.now)) }
+        ensures there { ⟦<MemTable as Table>⟧.tells self.old → OnOk result (⟦<MemTable as Table>⟧.there self.new node key.now ≡ was_there (⟦<MemTable as Table>⟧.named self.old node key.now) (⟦<MemTable as Table>⟧.there self.old node key.now) (⟦<MemTable as Table>⟧.cell self.old node key.now)) }
+        ensures other_named { ⟦<MemTable as Table>⟧.tells self.old → OtherMarks node key.now (⟦<MemTable as Table>⟧.named self.old) (⟦<MemTable as Table>⟧.named self.new) }
+        ensures other_there { ⟦<MemTable as Table>⟧.tells self.old → OtherMarks node key.now (⟦<MemTable as Table>⟧.there self.old) (⟦<MemTable as Table>⟧.there self.new) }
+        ensures same_named { ⟦<MemTable as Table>⟧.tells self.old → OnErr result (SameMarks (⟦<MemTable as Table>⟧.named self.old) (⟦<MemTable as Table>⟧.named self.new)) }
+        ensures same_there { ⟦<MemTable as Table>⟧.tells self.old → OnErr result (SameMarks (⟦<MemTable as Table>⟧.there self.old) (⟦<MemTable as Table>⟧.there self.new)) }
         ensures bad { (n : ℕ) → IsErrOf result (TableFault.BadState n) → n ≡ node }
         ensures unfit { (n : ℕ) → IsErrOf result (TableFault.BadState n) → ⟦<MemTable as Table>⟧.tells self.old → Unfit func change value.now (⟦<MemTable as Table>⟧.cell self.old node key.now) }
         ensures causes { (n : ℕ) → IsErrOf result (TableFault.BadState n) → ⟦<MemTable as Table>⟧.tells self.old → IsRefused func change value.now (⟦<MemTable as Table>⟧.cell self.old node key.now) }
@@ -112,6 +126,8 @@ impl Table for MemTable {
         ensures answer { ⟦<MemTable as Table>⟧.tells self.old → (values : List Value) → RowStands func (⟦<MemTable as Table>⟧.cell self.old node key.now) values → IfOk result (λ answer. answer ≡ answer_of func values) }
         ensures own { ⟦<MemTable as Table>⟧.tells self.old → OnOk result (IsOf func (⟦<MemTable as Table>⟧.cell self.old node key.now)) }
         ensures same { ⟦<MemTable as Table>⟧.tells self.old → Same (⟦<MemTable as Table>⟧.cell self.old) (⟦<MemTable as Table>⟧.cell self.new) }
+        ensures same_named { ⟦<MemTable as Table>⟧.tells self.old → SameMarks (⟦<MemTable as Table>⟧.named self.old) (⟦<MemTable as Table>⟧.named self.new) }
+        ensures same_there { ⟦<MemTable as Table>⟧.tells self.old → SameMarks (⟦<MemTable as Table>⟧.there self.old) (⟦<MemTable as Table>⟧.there self.new) }
         ensures bad { (n : ℕ) → IsErrOf result (TableFault.BadState n) → n ≡ node }
         ensures unfit { (n : ℕ) → IsErrOf result (TableFault.BadState n) → ⟦<MemTable as Table>⟧.tells self.old → (values : List Value) → RowStands func (⟦<MemTable as Table>⟧.cell self.old node key.now) values → ⊥ }
         ensures causes { (n : ℕ) → IsErrOf result (TableFault.BadState n) → ⟦<MemTable as Table>⟧.tells self.old → IsOf func (⟦<MemTable as Table>⟧.cell self.old node key.now) → ⊥ }
@@ -138,7 +154,25 @@ impl Table for MemTable {
 
     fn write_rows(&mut self, out: &mut Vec<u8>) -> Result<(), TableFault> {
         let start = out.len();
-        match write_counted(self.alloc, self.nodes, &self.slots, out) {
+        match write_counted(self.alloc, Wanted::Rows, self.nodes, &self.slots, out) {
+            Ok(seen) => {
+                self.seen = seen;
+                Ok(())
+            }
+            Err(_) => {
+                out.truncate(start);
+                Err(TableFault::Memory)
+            }
+        }
+    }
+
+    fn mark(&mut self) {
+        self.slots.settle();
+    }
+
+    fn write_changes(&mut self, out: &mut Vec<u8>) -> Result<(), TableFault> {
+        let start = out.len();
+        match write_counted(self.alloc, Wanted::Changes, self.nodes, &self.slots, out) {
             Ok(seen) => {
                 self.seen = seen;
                 Ok(())
@@ -156,5 +190,9 @@ impl Table for MemTable {
 
     ghost bounded = { λ table node key held _ found. bounded_cell table.slots.map table.slots.rows.items table.nodes node key held table.few table.slots.bound table.below found };
 
-    ghost finite = { λ table _. (entries_from 0 table.nodes table.slots.rows.items table.slots.map.entries, lists_all table.slots.map table.slots.rows.items table.nodes table.slots.bound table.below) };
+    ghost there_named = { λ table node key _ is. there_cell table.slots.map table.slots.rows.items node key is };
+
+    ghost there_bounded = { λ table node key _ is. bounded_there table.slots.map table.slots.rows.items table.nodes node key table.few table.slots.bound table.below is };
+
+    ghost finite = { λ table _. (entries_from (held_row table.slots.rows.items) 0 table.nodes table.slots.map.entries, lists_all table.slots.map table.slots.rows.items table.nodes table.slots.bound table.below) };
 }

@@ -2,15 +2,16 @@ ghost use Rattle.std.specs.Prelude.{◌≡◌, ◌<◌, None, Some, List, IsSome
 ghost use Rattle.rg_agg.specs.Standing.{size_in};
 ghost use Rattle.rg_event.specs.declared.value.Value.{Value};
 ghost use Rattle.rg_metric.specs.Answers.{answer_of};
-ghost use Rattle.rg_state.specs.Cells.{slot_in, cell_in};
-ghost use Rattle.rg_state.specs.Rows.{RowStands, Changed, Counts, Suits, Unfit, IsRefused, IsOf, Others, Same};
+ghost use Rattle.rg_state.specs.Cells.{slot_in, seen_in, cell_in, OthersSeen, SameSeen};
+ghost use Rattle.rg_state.specs.Kepts.{fresh, IsMarked, Stepped};
+ghost use Rattle.rg_state.specs.Rows.{RowStands, Unfit, IsRefused, IsOf};
 ghost use Rattle.rg_state.specs.States.{held_of};
 ghost use Rattle.rg_state.specs.Takes.{Takes};
 
 use crate::key_rows::KeyRows;
 use crate::one::Refusal;
 use crate::own::{blank_answer, first_state, own_answer};
-use crate::slots::Slots;
+use crate::slots::{Slots, put_within, touch};
 use crate::state::AggState;
 use crate::table::Change;
 use rg_bytes::Memory;
@@ -30,12 +31,9 @@ impl Slots {
         value: &Value,
     ) -> Result<(), Refusal>
         requires { Takes func value.now }
-        ensures changed { OnOk result (Changed func Change.Add value.now (cell_in self.old.map self.old.rows.items node key.now) (cell_in self.new.map self.new.rows.items node key.now)) }
-        ensures suits { OnOk result (Suits func Change.Add value.now (cell_in self.old.map self.old.rows.items node key.now)) }
-        ensures own { OnOk result (IsOf func (cell_in self.new.map self.new.rows.items node key.now)) }
-        ensures size { OnOk result (Counts Change.Add (cell_in self.old.map self.old.rows.items node key.now) (cell_in self.new.map self.new.rows.items node key.now)) }
-        ensures others { Others node key.now (cell_in self.old.map self.old.rows.items) (cell_in self.new.map self.new.rows.items) }
-        ensures err { OnErr result (Same (cell_in self.old.map self.old.rows.items) (cell_in self.new.map self.new.rows.items)) }
+        ensures stepped { OnOk result (Stepped func Change.Add value.now (seen_in self.old.map self.old.rows.items node key.now) (seen_in self.new.map self.new.rows.items node key.now)) }
+        ensures others { OthersSeen node key.now (seen_in self.old.map self.old.rows.items) (seen_in self.new.map self.new.rows.items) }
+        ensures err { OnErr result (SameSeen (seen_in self.old.map self.old.rows.items) (seen_in self.new.map self.new.rows.items)) }
         ensures unfit { IsErrOf result Refusal.Unfit → Unfit func Change.Add value.now (cell_in self.old.map self.old.rows.items node key.now) }
         ensures causes { IsErrOf result Refusal.Unfit → IsRefused func Change.Add value.now (cell_in self.old.map self.old.rows.items node key.now) }
     {
@@ -69,15 +67,13 @@ impl Slots {
     ) -> Result<(), Refusal>
         requires takes { Takes func value.now }
         requires found { slot_in self.old.map key.now ≡ Some slot }
-        ensures changed { OnOk result (Changed func Change.Add value.now (cell_in self.old.map self.old.rows.items node key.now) (cell_in self.new.map self.new.rows.items node key.now)) }
-        ensures suits { OnOk result (Suits func Change.Add value.now (cell_in self.old.map self.old.rows.items node key.now)) }
-        ensures own { OnOk result (IsOf func (cell_in self.new.map self.new.rows.items node key.now)) }
-        ensures size { OnOk result (Counts Change.Add (cell_in self.old.map self.old.rows.items node key.now) (cell_in self.new.map self.new.rows.items node key.now)) }
-        ensures others { Others node key.now (cell_in self.old.map self.old.rows.items) (cell_in self.new.map self.new.rows.items) }
-        ensures err { OnErr result (Same (cell_in self.old.map self.old.rows.items) (cell_in self.new.map self.new.rows.items)) }
+        ensures stepped { OnOk result (Stepped func Change.Add value.now (seen_in self.old.map self.old.rows.items node key.now) (seen_in self.new.map self.new.rows.items node key.now)) }
+        ensures others { OthersSeen node key.now (seen_in self.old.map self.old.rows.items) (seen_in self.new.map self.new.rows.items) }
+        ensures err { OnErr result (SameSeen (seen_in self.old.map self.old.rows.items) (seen_in self.new.map self.new.rows.items)) }
         ensures unfit { IsErrOf result Refusal.Unfit → Unfit func Change.Add value.now (cell_in self.old.map self.old.rows.items node key.now) }
         ensures causes { IsErrOf result Refusal.Unfit → IsRefused func Change.Add value.now (cell_in self.old.map self.old.rows.items node key.now) }
     {
+        touch(&mut self.touched, slot);
         let rows = &mut self.rows[slot as usize];
         rows.add(alloc, node, func, value)
     }
@@ -90,12 +86,9 @@ impl Slots {
         func: Func,
         value: &Value,
     ) -> Result<(), Refusal>
-        ensures changed { OnOk result (Changed func Change.Remove value.now (cell_in self.old.map self.old.rows.items node key.now) (cell_in self.new.map self.new.rows.items node key.now)) }
-        ensures suits { OnOk result (Suits func Change.Remove value.now (cell_in self.old.map self.old.rows.items node key.now)) }
-        ensures own { OnOk result (IsOf func (cell_in self.new.map self.new.rows.items node key.now)) }
-        ensures size { OnOk result (Counts Change.Remove (cell_in self.old.map self.old.rows.items node key.now) (cell_in self.new.map self.new.rows.items node key.now)) }
-        ensures others { Others node key.now (cell_in self.old.map self.old.rows.items) (cell_in self.new.map self.new.rows.items) }
-        ensures err { OnErr result (Same (cell_in self.old.map self.old.rows.items) (cell_in self.new.map self.new.rows.items)) }
+        ensures stepped { OnOk result (Stepped func Change.Remove value.now (seen_in self.old.map self.old.rows.items node key.now) (seen_in self.new.map self.new.rows.items node key.now)) }
+        ensures others { OthersSeen node key.now (seen_in self.old.map self.old.rows.items) (seen_in self.new.map self.new.rows.items) }
+        ensures err { OnErr result (SameSeen (seen_in self.old.map self.old.rows.items) (seen_in self.new.map self.new.rows.items)) }
         ensures unfit { OnErr result (Unfit func Change.Remove value.now (cell_in self.old.map self.old.rows.items node key.now)) }
     {
         match self.find(key) {
@@ -115,14 +108,12 @@ impl Slots {
         value: &Value,
     ) -> Result<(), Refusal>
         requires found { slot_in self.old.map key.now ≡ Some slot }
-        ensures changed { OnOk result (Changed func Change.Remove value.now (cell_in self.old.map self.old.rows.items node key.now) (cell_in self.new.map self.new.rows.items node key.now)) }
-        ensures suits { OnOk result (Suits func Change.Remove value.now (cell_in self.old.map self.old.rows.items node key.now)) }
-        ensures own { OnOk result (IsOf func (cell_in self.new.map self.new.rows.items node key.now)) }
-        ensures size { OnOk result (Counts Change.Remove (cell_in self.old.map self.old.rows.items node key.now) (cell_in self.new.map self.new.rows.items node key.now)) }
-        ensures others { Others node key.now (cell_in self.old.map self.old.rows.items) (cell_in self.new.map self.new.rows.items) }
-        ensures err { OnErr result (Same (cell_in self.old.map self.old.rows.items) (cell_in self.new.map self.new.rows.items)) }
+        ensures stepped { OnOk result (Stepped func Change.Remove value.now (seen_in self.old.map self.old.rows.items node key.now) (seen_in self.new.map self.new.rows.items node key.now)) }
+        ensures others { OthersSeen node key.now (seen_in self.old.map self.old.rows.items) (seen_in self.new.map self.new.rows.items) }
+        ensures err { OnErr result (SameSeen (seen_in self.old.map self.old.rows.items) (seen_in self.new.map self.new.rows.items)) }
         ensures unfit { OnErr result (Unfit func Change.Remove value.now (cell_in self.old.map self.old.rows.items node key.now)) }
     {
+        touch(&mut self.touched, slot);
         let rows = &mut self.rows[slot as usize];
         match rows.take(node, func, value) {
             Err(refusal) => return Err(refusal),
@@ -133,7 +124,7 @@ impl Slots {
         }
         self.map.remove(key);
         self.recent.slot = None;
-        let _ = self.free.push(slot);
+        put_within(&mut self.free, slot);
         Ok(())
     }
 
@@ -148,8 +139,9 @@ impl Slots {
         requires free { cell_in self.old.map self.old.rows.items node key ≡ None }
         requires some { 0 < size_in (held_of state) }
         ensures row { OnOk result (cell_in self.new.map self.new.rows.items node key ≡ Some (held_of state)) }
-        ensures others { Others node key (cell_in self.old.map self.old.rows.items) (cell_in self.new.map self.new.rows.items) }
-        ensures err { OnErr result (Same (cell_in self.old.map self.old.rows.items) (cell_in self.new.map self.new.rows.items)) }
+        ensures marks { OnOk result (IsMarked (seen_in self.old.map self.old.rows.items node key) (seen_in self.new.map self.new.rows.items node key)) }
+        ensures others { OthersSeen node key (seen_in self.old.map self.old.rows.items) (seen_in self.new.map self.new.rows.items) }
+        ensures err { OnErr result (SameSeen (seen_in self.old.map self.old.rows.items) (seen_in self.new.map self.new.rows.items)) }
     {
         match self.find(&key) {
             Some(slot) => return self.insert_in(slot, node, &key, state),
@@ -164,9 +156,11 @@ impl Slots {
         requires free { cell_in self.old.map self.old.rows.items node key.now ≡ None }
         requires some { 0 < size_in (held_of state) }
         ensures row { OnOk result (cell_in self.new.map self.new.rows.items node key.now ≡ Some (held_of state)) }
-        ensures others { Others node key.now (cell_in self.old.map self.old.rows.items) (cell_in self.new.map self.new.rows.items) }
-        ensures err { OnErr result (Same (cell_in self.old.map self.old.rows.items) (cell_in self.new.map self.new.rows.items)) }
+        ensures marks { OnOk result (IsMarked (seen_in self.old.map self.old.rows.items node key.now) (seen_in self.new.map self.new.rows.items node key.now)) }
+        ensures others { OthersSeen node key.now (seen_in self.old.map self.old.rows.items) (seen_in self.new.map self.new.rows.items) }
+        ensures err { OnErr result (SameSeen (seen_in self.old.map self.old.rows.items) (seen_in self.new.map self.new.rows.items)) }
     {
+        touch(&mut self.touched, slot);
         let rows = &mut self.rows[slot as usize];
         rows.insert(node, state)
     }
@@ -175,12 +169,12 @@ impl Slots {
     fn put(&mut self, alloc: Global, node: u32, key: Key, state: AggState) -> Result<(), Memory>
         requires none { slot_in self.old.map key ≡ None }
         requires some { 0 < size_in (held_of state) }
-        ensures row { OnOk result (cell_in self.new.map self.new.rows.items node key ≡ Some (held_of state)) }
-        ensures others { Others node key (cell_in self.old.map self.old.rows.items) (cell_in self.new.map self.new.rows.items) }
-        ensures err { OnErr result (Same (cell_in self.old.map self.old.rows.items) (cell_in self.new.map self.new.rows.items)) }
+        ensures row { OnOk result (seen_in self.new.map self.new.rows.items node key ≡ fresh (held_of state)) }
+        ensures others { OthersSeen node key (seen_in self.old.map self.old.rows.items) (seen_in self.new.map self.new.rows.items) }
+        ensures err { OnErr result (SameSeen (seen_in self.old.map self.old.rows.items) (seen_in self.new.map self.new.rows.items)) }
     {
         let mut rows = KeyRows::new(alloc);
-        rows.insert(node, state)?;
+        rows.push(node, state)?;
         self.open(alloc, key, rows)
     }
 
@@ -189,7 +183,7 @@ impl Slots {
         ensures answer { (values : List Value) → RowStands func (cell_in self.old.map self.old.rows.items node key.now) values → result ≡ Some (answer_of func values) }
         ensures own { IsSome result → IsOf func (cell_in self.old.map self.old.rows.items node key.now) }
         ensures causes { IsNone result → IsOf func (cell_in self.old.map self.old.rows.items node key.now) → ⊥ }
-        ensures same { Same (cell_in self.old.map self.old.rows.items) (cell_in self.new.map self.new.rows.items) }
+        ensures same { SameSeen (seen_in self.old.map self.old.rows.items) (seen_in self.new.map self.new.rows.items) }
     {
         match self.find(key) {
             None => Some(blank_answer(func)),

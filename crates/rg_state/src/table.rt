@@ -1,9 +1,10 @@
-ghost use Rattle.std.specs.Prelude.{◌≡◌, ◌↔◌, ℕ, ◌≤◌, ◌<◌, ◌^◌, ◌++◌, List, Some, None, Option, length, IfOk, OnOk, OnErr, IsErrOf};
+ghost use Rattle.std.specs.Prelude.{◌≡◌, ◌↔◌, ℕ, ◌≤◌, ◌<◌, ◌^◌, ◌++◌, List, Some, None, Option, Bool, true, length, IfOk, OnOk, OnErr, IsErrOf};
 ghost use Rattle.rg_bytes.specs.Counts.{Rose};
 ghost use Rattle.rg_event.specs.declared.value.Value.{Value};
 ghost use Rattle.rg_agg.specs.Held.{Held};
 ghost use Rattle.rg_agg.specs.Standing.{size_in};
 ghost use Rattle.rg_metric.specs.Answers.{answer_of};
+ghost use Rattle.rg_state.specs.Changes.{SameMarks, OtherMarks, NoMarks, IsNamed, was_there, WritesChanges};
 ghost use Rattle.rg_state.specs.Counted.{WritesCounted};
 ghost use Rattle.rg_state.specs.Rows.{RowStands, Changed, Counts, Suits, Unfit, IsRefused, IsOf, Same, Others, Entry, Lists};
 ghost use Rattle.rg_state.specs.States.{held_of, IsHeld};
@@ -39,6 +40,13 @@ pub trait Table {
     /// What the row of a node and a key keeps, where there is one.
     ghost cell: { Self → ℕ → List ℕ → Option Held };
 
+    /// The row was named by a change or an insert since the table was marked last. One that wasn't there
+    /// then and isn't there now needn't be.
+    ghost named: { Self → ℕ → List ℕ → Bool };
+
+    /// The row was named, and it was there when the table was marked last.
+    ghost there: { Self → ℕ → List ℕ → Bool };
+
     /// The table tells its rows.
     ghost tells: { Self → Type 0 };
 
@@ -62,6 +70,12 @@ pub trait Table {
         ensures size { tells self.old → OnOk result (Counts change (cell self.old node key.now) (cell self.new node key.now)) }
         ensures others { tells self.old → Others node key.now (cell self.old) (cell self.new) }
         ensures err { tells self.old → OnErr result (Same (cell self.old) (cell self.new)) }
+        ensures named { tells self.old → OnOk result (IsNamed (named self.new node key.now) (there self.new node key.now) (cell self.new node key.now)) }
+        ensures there { tells self.old → OnOk result (there self.new node key.now ≡ was_there (named self.old node key.now) (there self.old node key.now) (cell self.old node key.now)) }
+        ensures other_named { tells self.old → OtherMarks node key.now (named self.old) (named self.new) }
+        ensures other_there { tells self.old → OtherMarks node key.now (there self.old) (there self.new) }
+        ensures same_named { tells self.old → OnErr result (SameMarks (named self.old) (named self.new)) }
+        ensures same_there { tells self.old → OnErr result (SameMarks (there self.old) (there self.new)) }
         ensures bad { (n : ℕ) → IsErrOf result (TableFault.BadState n) → n ≡ node }
         ensures unfit { (n : ℕ) → IsErrOf result (TableFault.BadState n) → tells self.old → Unfit func change value.now (cell self.old node key.now) }
         ensures causes { (n : ℕ) → IsErrOf result (TableFault.BadState n) → tells self.old → IsRefused func change value.now (cell self.old node key.now) }
@@ -74,6 +88,8 @@ pub trait Table {
         ensures answer { tells self.old → (values : List Value) → RowStands func (cell self.old node key.now) values → IfOk result (λ answer. answer ≡ answer_of func values) }
         ensures own { tells self.old → OnOk result (IsOf func (cell self.old node key.now)) }
         ensures same { tells self.old → Same (cell self.old) (cell self.new) }
+        ensures same_named { tells self.old → SameMarks (named self.old) (named self.new) }
+        ensures same_there { tells self.old → SameMarks (there self.old) (there self.new) }
         ensures bad { (n : ℕ) → IsErrOf result (TableFault.BadState n) → n ≡ node }
         ensures unfit { (n : ℕ) → IsErrOf result (TableFault.BadState n) → tells self.old → (values : List Value) → RowStands func (cell self.old node key.now) values → ⊥ }
         ensures causes { (n : ℕ) → IsErrOf result (TableFault.BadState n) → tells self.old → IsOf func (cell self.old node key.now) → ⊥ }
@@ -88,6 +104,12 @@ pub trait Table {
         ensures row { tells self.old → OnOk result (cell self.new node key ≡ Some (held_of state)) }
         ensures others { tells self.old → Others node key (cell self.old) (cell self.new) }
         ensures err { tells self.old → OnErr result (Same (cell self.old) (cell self.new)) }
+        ensures named { tells self.old → OnOk result (IsNamed (named self.new node key) (there self.new node key) (cell self.new node key)) }
+        ensures there { tells self.old → OnOk result (there self.new node key ≡ was_there (named self.old node key) (there self.old node key) (cell self.old node key)) }
+        ensures other_named { tells self.old → OtherMarks node key (named self.old) (named self.new) }
+        ensures other_there { tells self.old → OtherMarks node key (there self.old) (there self.new) }
+        ensures same_named { tells self.old → OnErr result (SameMarks (named self.old) (named self.new)) }
+        ensures same_there { tells self.old → OnErr result (SameMarks (there self.old) (there self.new)) }
         ensures no_bad { (n : ℕ) → IsErrOf result (TableFault.BadState n) → ⊥ }
         ensures disk { IsErrOf result TableFault.Disk → Rose (faults self.old) (faults self.new) }
         ensures tells { tells self.new ↔ tells self.old }
@@ -99,6 +121,31 @@ pub trait Table {
         ensures written { tells self.old → OnOk result (WritesCounted (cell self.old) out.old.items out.new.items) }
         ensures appended { OnOk result ((written : List ℕ) × (out.new.items ≡ out.old.items ++ written)) }
         ensures same { tells self.old → Same (cell self.old) (cell self.new) }
+        ensures same_named { tells self.old → SameMarks (named self.old) (named self.new) }
+        ensures same_there { tells self.old → SameMarks (there self.old) (there self.new) }
+        ensures err { OnErr result (out.new.items ≡ out.old.items) }
+        ensures no_bad { (n : ℕ) → IsErrOf result (TableFault.BadState n) → ⊥ }
+        ensures disk { IsErrOf result TableFault.Disk → Rose (faults self.old) (faults self.new) }
+        ensures tells { tells self.new ↔ tells self.old }
+        ensures later { faults self.old ≤ faults self.new };
+
+    /// Makes this the mark: no row was named since. The rows stay. It takes no memory.
+    fn mark(&mut self)
+        ensures same { tells self.old → Same (cell self.old) (cell self.new) }
+        ensures none_named { tells self.old → NoMarks (named self.new) }
+        ensures none_there { tells self.old → NoMarks (there self.new) }
+        ensures tells { tells self.new ↔ tells self.old }
+        ensures later { faults self.old ≤ faults self.new };
+
+    /// Writes what changed since the mark at the end: in 8 bytes how many rows that are, and the rows that
+    /// were named and are there or were, rising by node and key: the node in 4 bytes, the key's length in 4
+    /// and its bytes, and 00 for a row that is gone, or 01 and the state. A refusal leaves `out` as it was.
+    fn write_changes(&mut self, out: &mut Vec<u8>) -> Result<(), TableFault>
+        ensures written { tells self.old → OnOk result ((written : List ℕ) × WritesChanges (named self.old) (there self.old) (cell self.old) written × (out.new.items ≡ out.old.items ++ written)) }
+        ensures appended { OnOk result ((written : List ℕ) × (out.new.items ≡ out.old.items ++ written)) }
+        ensures same { tells self.old → Same (cell self.old) (cell self.new) }
+        ensures same_named { tells self.old → SameMarks (named self.old) (named self.new) }
+        ensures same_there { tells self.old → SameMarks (there self.old) (there self.new) }
         ensures err { OnErr result (out.new.items ≡ out.old.items) }
         ensures no_bad { (n : ℕ) → IsErrOf result (TableFault.BadState n) → ⊥ }
         ensures disk { IsErrOf result TableFault.Disk → Rose (faults self.old) (faults self.new) }
@@ -114,6 +161,11 @@ pub trait Table {
     /// The number of a node fits the 4 bytes that it is written in, and a row's key has at most 257
     /// bytes for each of eight columns.
     ghost bounded: { (table : Self) (node : ℕ) (key : List ℕ) (held : Held) → tells table → cell table node key ≡ Some held → (node < 2 ^ 32) × (length key ≤ 2056) };
+
+    /// A row that was there was named, and is one whose node and key fit.
+    ghost there_named: { (table : Self) (node : ℕ) (key : List ℕ) → tells table → there table node key ≡ true → named table node key ≡ true };
+
+    ghost there_bounded: { (table : Self) (node : ℕ) (key : List ℕ) → tells table → there table node key ≡ true → (node < 2 ^ 32) × (length key ≤ 2056) };
 
     /// The rows are finitely many.
     ghost finite: { (table : Self) → tells table → (entries : List Entry) × Lists (cell table) entries };

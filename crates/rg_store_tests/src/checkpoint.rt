@@ -14,7 +14,7 @@ use std::alloc::Global;
 use std::test::Fail;
 
 /// The base payload of one query, two payments, one spot and one row.
-const PAYLOAD: [u8; 71] = [
+pub(crate) const PAYLOAD: [u8; 71] = [
     0x42, 0x00, 0x00, 0x00, 0x01, 0x00, 0x00, 0x00, 0x01, 0x71, 0x00, 0x00, 0x00, 0x00, 0x00, 0x00,
     0x00, 0x02, 0x00, 0x00, 0x00, 0x01, 0x00, 0x00, 0x00, 0x00, 0x00, 0x00, 0x00, 0x39, 0x00, 0x00,
     0x00, 0x00, 0x00, 0x00, 0x00, 0x00, 0x00, 0x00, 0x00, 0x00, 0x00, 0x00, 0x00, 0x00, 0x00, 0x00,
@@ -36,7 +36,7 @@ const ROW: usize = 50;
 const ROWS: usize = 49;
 
 /// A list of one text.
-fn texts(alloc: Global, text: &[u8]) -> Result<Texts, Memory> {
+pub(crate) fn texts(alloc: Global, text: &[u8]) -> Result<Texts, Memory> {
     let mut texts = Texts::new(alloc);
     texts.push(Bytes::from_slice(alloc, text)?)?;
     Ok(texts)
@@ -60,7 +60,7 @@ fn is_refused(alloc: Global, payload: &[u8]) -> bool {
 }
 
 /// A table of the count of two events.
-fn counted(alloc: Global) -> Result<MemTable, Fail> {
+pub(crate) fn counted(alloc: Global) -> Result<MemTable, Fail> {
     let mut table = MemTable::new(alloc);
     let key = Key::from(b"\x03\x02c1".to_vec(alloc)?);
     for _ in 0..2u32 {
@@ -70,7 +70,7 @@ fn counted(alloc: Global) -> Result<MemTable, Fail> {
 }
 
 /// The spot of the first event.
-const SPOT: Spot = Spot {
+pub(crate) const SPOT: Spot = Spot {
     place: 57,
     index: 0,
     number: 0,

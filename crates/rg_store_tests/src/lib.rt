@@ -8,6 +8,8 @@ mod ahead;
 #[cfg(test)]
 mod cache;
 #[cfg(test)]
+mod changes;
+#[cfg(test)]
 mod checkpoint;
 #[cfg(test)]
 mod chunk;

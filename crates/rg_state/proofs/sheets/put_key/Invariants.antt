@@ -4,6 +4,6 @@ use Rattle.rg_state.proofs.sheets.put_key.Given as goal
 
 abbrev pub invariant-loop-kept : goal.invariant-loop-kept
 invariant-loop-kept l = record {
-  left : Left l.key l.kepts l.kept-index l.fn.sheets.items l.sheets.items;
+  left : Left l.wanted l.key l.kepts l.kept-index l.fn.sheets.items l.sheets.items;
   count : length l.sheets.items ≡ length l.fn.sheets.items;
 }

@@ -1,0 +1,22 @@
+use Rattle.std.proofs.Common.{◌<◌, ◌^◌, ◌++◌, ◌∙◌, length, refl, ap, subst}
+use Rattle.std.specs.Int.{w64, to_be_bytes}
+use Rattle.rg_state.specs.Cells.{told_row, entries_from}
+use Rattle.rg_state.specs.CellLaws.{lists_changes}
+use Rattle.rg_state.specs.Changes.{changes_bytes}
+use Rattle.rg_state.proofs.Sheeted.{changes_counted, changes_put}
+use Rattle.rg_state.proofs.mem_table.MemTableTable.write_changes.Goals as goal
+
+pub returns-in-Ok-clause-written : goal.returns-in-Ok-clause-written
+returns-in-Ok-clause-written c told =
+    let slots = c.args.self.now.slots in
+    let nodes = c.args.self.now.nodes in
+    let entries = entries_from (told_row slots.rows.items) 0 nodes slots.map.entries in (
+      to_be_bytes w64 (length entries) ++ changes_bytes entries,
+      record {
+        changes = entries;
+        lists = lists_changes slots.map slots.rows.items nodes slots.bound c.args.self.now.below;
+        few = subst (λ n. n < 2 ^ 64) (changes_counted slots.rows.items nodes slots.map.entries) c.in-Ok.ensures.few;
+        is = refl;
+      },
+      c.in-Ok.ensures.ok ∙ ap (λ bytes. c.args.out.now.items ++ bytes) (changes_put slots.rows.items nodes slots.map.entries),
+    )

@@ -1,92 +1,41 @@
 -- What the frames of a file say of a slot.
-use Rattle.std.proofs.Common.{◌≡◌, ◌≢◌, ◌⊎◌, inl, inr, ℕ, zero, suc, ◌+◌, ◌<◌, ◌^◌, List, [], ◌∷◌, length, Option, Some, None, ap, sym, ◌∙◌, subst, arith}
+use Rattle.std.proofs.Common.{◌≡◌, ◌≢◌, ◌⊎◌, inl, inr, ℕ, zero, suc, List, [], ◌∷◌, Option, Some, None, refl, ap, sym, ◌∙◌, subst, arith}
 use Rattle.std.specs.Option.{ForSome}
 use Rattle.rg_host.specs.Image.{Image, NothingPending}
-use Rattle.rg_frame.specs.Frames.{frames, IsLog, HasPayloads, EndsAt, IsDamaged, payload_at}
-use Rattle.rg_frame.specs.Looks.{HoldsFrame, IsClosed, IsTorn}
+use Rattle.rg_frame.specs.Frames.{IsLog, HasPayloads, EndsAt}
 use Rattle.rg_frame.specs.Steps.{OldOrNone, Grows, From, Appended, Leaves}
-use Rattle.rg_frame.proofs.FrameLaws.{length-frames}
-use Rattle.rg_frame.proofs.FrameLists.{frame_list-has, frame_list-damaged, payloads_one}
-use Rattle.rg_frame.proofs.Payloads.{holds_payload, torn_payload, closed_payload, payload_between, payload_none}
+use Rattle.rg_frame.proofs.FrameLists.{payloads_one}
 use Rattle.rg_checkpoint.specs.declared.base.Checkpoint.{Checkpoint}
 use Rattle.rg_checkpoint.specs.Base.{IsBase}
-use Rattle.rg_checkpoint.specs.Slots.{IsOnly, HasNoOnly, HasSlot, HasNoSlot, IsSlot, Turns, Written, other_of, IsKeep}
-use Rattle.rg_checkpoint.proofs.Back.{base_is_one}
-
-head_is : (a b : List ℕ) (x y : List (List ℕ)) → a ∷ x ≡ b ∷ y → a ≡ b
-head_is a b x y e = cc
-
--- a file has one such payload
-pub only_is_one : (p q bytes : List ℕ) → IsOnly p bytes → IsOnly q bytes → p ≡ q
-only_is_one p q bytes a b = head_is p q [] [] (payloads_one (p ∷ []) (q ∷ []) bytes a b)
+use Rattle.rg_checkpoint.specs.Slots.{IsOnly, Says, HasSlot, HasNoSlot, IsSlot, Turns, Written, other_of, IsKeep}
+use Rattle.rg_checkpoint.proofs.Saying.{says_one}
 
 -- a slot has one checkpoint
 pub slot_is_one : (bytes : List ℕ) (a b : Checkpoint) → HasSlot bytes a → HasSlot bytes b → a ≡ b
 slot_is_one bytes a b x y =
-    base_is_one y.payload a b (subst (λ (p : List ℕ). IsBase p a) (only_is_one x.payload y.payload bytes x.only y.only) x.base) y.base
+    says_one y.payloads a b (subst (λ (l : List (List ℕ)). Says l a) (payloads_one x.payloads y.payloads bytes x.has y.has) x.says) y.says
 
 -- what is read of a slot is what it holds
 pub slot_told : (bytes : List ℕ) (slot : Option Checkpoint) (checkpoint : Checkpoint) → IsSlot bytes slot → HasSlot bytes checkpoint → slot ≡ Some checkpoint
 slot_told bytes None checkpoint none has = absurd (none checkpoint has)
 slot_told bytes (Some read) checkpoint is has = ap (λ (c : Checkpoint). Some c) (slot_is_one bytes read checkpoint is has)
 
--- a file that isn't one payload
+-- a file without a frame
+pub none_slot : (bytes : List ℕ) → HasPayloads [] bytes → HasNoSlot bytes
+none_slot bytes none = λ checkpoint slot. subst (λ (l : List (List ℕ)). Says l checkpoint) (payloads_one slot.payloads [] bytes slot.has none) slot.says
 
-pub none_only : (bytes : List ℕ) → HasPayloads [] bytes → HasNoOnly bytes
-none_only bytes none = λ payload only. let same = payloads_one [] (payload ∷ []) bytes none only in cc
+-- payloads of which the first is no base payload
+pub bad_first : (payload : List ℕ) (back : List (List ℕ)) (checkpoint : Checkpoint) → ((base : Checkpoint) → IsBase payload base → ⊥) → Says (payload ∷ back) checkpoint → ⊥
+bad_first payload back checkpoint bad says = bad says.0 says.1
 
-pub damaged_only : (place : ℕ) (bytes : List ℕ) → IsDamaged place bytes → HasNoOnly bytes
-damaged_only place bytes damaged = λ payload only.
-    let listed = frame_list-has (payload ∷ []) bytes only in
-    let undefined = frame_list-damaged place bytes damaged in
-    cc
+-- one base payload alone
+pub base_slot : (payload bytes : List ℕ) (checkpoint : Checkpoint) → IsOnly payload bytes → IsBase payload checkpoint → HasSlot bytes checkpoint
+base_slot payload bytes checkpoint only base = record { payloads = payload ∷ []; has = only; says = (checkpoint, base, refl) }
 
-first_is : (payload bytes : List ℕ) → IsOnly payload bytes → payload_at 0 bytes ≡ Some payload
-first_is payload bytes only = payload_between [] [] payload bytes only
-
-second_is : (payload bytes : List ℕ) → IsOnly payload bytes → payload_at (9 + length payload) bytes ≡ None
-second_is payload bytes only =
-    let ends : length (frames (payload ∷ [])) ≡ 9 + length payload = omega (arith, length-frames payload []) in
-    subst (λ (n : ℕ). payload_at n bytes ≡ None) ends (payload_none (payload ∷ []) bytes only)
-
-pub closed_only : (bytes : List ℕ) → IsClosed 0 bytes → HasNoOnly bytes
-closed_only bytes closed = λ payload only.
-    let none = closed_payload 0 bytes closed in
-    let some = first_is payload bytes only in
-    cc
-
-pub torn_only : (bytes : List ℕ) → IsTorn 0 bytes → HasNoOnly bytes
-torn_only bytes torn = λ payload only.
-    let none = torn_payload 0 bytes torn in
-    let some = first_is payload bytes only in
-    cc
-
--- a whole frame stands behind the first one
-pub second_only : (first second bytes : List ℕ) (next : ℕ) → HoldsFrame 0 first bytes → length first < 2 ^ 64 → next ≡ 9 + length first → HoldsFrame next second bytes → length second < 2 ^ 64 → HasNoOnly bytes
-second_only first second bytes next holds fits at more small = λ payload only.
-    let read = holds_payload 0 first bytes holds fits in
-    let is = first_is payload bytes only in
-    let same : first ≡ payload = some_is first payload (payload_at 0 bytes) read is in
-    let none : payload_at next bytes ≡ None = subst (λ (n : ℕ). payload_at n bytes ≡ None) (sym (at ∙ ap (λ (l : List ℕ). 9 + length l) same)) (second_is payload bytes only) in
-    let some = holds_payload next second bytes more small in
-    cc
-  where
-    some_is : (a b : List ℕ) (o : Option (List ℕ)) → o ≡ Some a → o ≡ Some b → a ≡ b
-    some_is a b o x y = cc
-
--- the payload that stands first is the only one, where there is one alone
-pub read_only_is : (payload read bytes : List ℕ) → IsOnly payload bytes → HoldsFrame 0 read bytes → length read < 2 ^ 64 → IsOnly read bytes
-read_only_is payload read bytes only holds fits =
-    let some = holds_payload 0 read bytes holds fits in
-    let is = first_is payload bytes only in
-    let same : payload ≡ read = cc in
-    subst (λ (p : List ℕ). IsOnly p bytes) same only
-
-pub no_only_slot : (bytes : List ℕ) → HasNoOnly bytes → HasNoSlot bytes
-no_only_slot bytes none = λ checkpoint slot. none slot.payload slot.only
-
-pub bad_slot : (payload bytes : List ℕ) → IsOnly payload bytes → ((checkpoint : Checkpoint) → IsBase payload checkpoint → ⊥) → HasNoSlot bytes
-bad_slot payload bytes only bad = λ checkpoint slot. bad checkpoint (subst (λ (p : List ℕ). IsBase p checkpoint) (only_is_one slot.payload payload bytes slot.only only) slot.base)
+pub slot_base : (payload bytes : List ℕ) (checkpoint : Checkpoint) → IsOnly payload bytes → HasSlot bytes checkpoint → IsBase payload checkpoint
+slot_base payload bytes checkpoint only slot =
+    let says : Says (payload ∷ []) checkpoint = subst (λ (l : List (List ℕ)). Says l checkpoint) (payloads_one slot.payloads (payload ∷ []) bytes slot.has only) slot.says in
+    subst (λ (c : Checkpoint). IsBase payload c) (sym says.2) says.1
 
 -- writing
 
@@ -95,15 +44,15 @@ turns_same payload old new same = λ checkpoint base. inl same
 
 pub turns_cleared : (payload old new : List ℕ) → OldOrNone old new → Turns payload old new
 turns_cleared payload old new (inl same) = λ checkpoint base. inl same
-turns_cleared payload old new (inr none) = λ checkpoint base. inr (inl (no_only_slot new (none_only new none)))
+turns_cleared payload old new (inr none) = λ checkpoint base. inr (inl (none_slot new none))
 
 -- the frame list of a file without a frame ends at place 0
 front_ends : (bytes : List ℕ) → HasPayloads [] bytes → EndsAt 0 bytes
 front_ends bytes none = ([], subst (λ (n : ℕ). IsLog [] n bytes) (sym none.frames.1.ends) none.frames.1)
 
 turned_by : (payload old new : List ℕ) (checkpoint : Checkpoint) → IsBase payload checkpoint → HasPayloads [] new ⊎ HasPayloads (payload ∷ []) new → (new ≡ old) ⊎ (HasNoSlot new ⊎ HasSlot new checkpoint)
-turned_by payload old new checkpoint base (inl none) = inr (inl (no_only_slot new (none_only new none)))
-turned_by payload old new checkpoint base (inr only) = inr (inr (record { payload = payload; only = only; base = base }))
+turned_by payload old new checkpoint base (inl none) = inr (inl (none_slot new none))
+turned_by payload old new checkpoint base (inr only) = inr (inr (base_slot payload new checkpoint only base))
 
 pub turns_appended : (end : ℕ) (payload old middle new : List ℕ) → end ≡ 0 → HasPayloads [] middle → From end (Grows payload) middle new → Turns payload old new
 turns_appended end payload old middle new front none step = λ checkpoint base. turned_by payload old new checkpoint base (step (subst (λ (n : ℕ). EndsAt n middle) (sym front) (front_ends middle none)) [] none)
@@ -111,8 +60,8 @@ turns_appended end payload old middle new front none step = λ checkpoint base. 
 pub written_appended : (end next : ℕ) (payload middle new : List ℕ) → end ≡ 0 → HasPayloads [] middle → Appended end payload next middle new → HasPayloads (payload ∷ []) new
 written_appended end next payload middle new front none step = (step (subst (λ (n : ℕ). EndsAt n middle) (sym front) (front_ends middle none))).0 [] none
 
-pub written_only : (payload old new : List ℕ) → HasPayloads (payload ∷ []) new → Written payload old new
-written_only payload old new only = λ checkpoint base. record { payload = payload; only = only; base = base }
+pub written_only : (payload old new : List ℕ) → IsOnly payload new → Written payload old new
+written_only payload old new only = λ checkpoint base. base_slot payload new checkpoint only base
 
 -- the kept slot is another one
 pub kept_apart : (keep : Option ℕ) (i : ℕ) → IsKeep keep → keep ≡ Some i → i ≢ other_of keep

@@ -28,7 +28,7 @@ pub enum SlotFault {
     Disk,
     /// Memory ran out, in `attach`.
     Memory,
-    /// An earlier `save` failed.
+    /// An earlier `save` or `extend` failed.
     Ended,
 }
 
@@ -37,7 +37,7 @@ impl fmt::Display for SlotFault {
         match self {
             SlotFault::Disk => f.write_str("a call on a slot failed"),
             SlotFault::Memory => f.write_str("out of memory"),
-            SlotFault::Ended => f.write_str("an earlier save failed"),
+            SlotFault::Ended => f.write_str("an earlier save or extend failed"),
         }
     }
 }

@@ -1,111 +1,165 @@
-ghost use Rattle.std.specs.Prelude.{◌≡◌, ◌≤◌, ◌<◌, ℕ, List, [], ◌∷◌, IfOk, IfSome, IfNone, IsErr, IsErrOf, OnOk, Err, true, false, ⊤};
-ghost use Rattle.std.specs.Option.{ForSome};
+ghost use Rattle.std.specs.Prelude.{◌<◌, IfOk, OnErr};
 ghost use Rattle.rg_bytes.specs.Counts.{Rose};
-ghost use Rattle.rg_frame.specs.Calls.{Writes};
-ghost use Rattle.rg_frame.specs.Frames.{HasPayloads};
-ghost use Rattle.rg_host.specs.Image.{Becomes, InFile, NothingPending};
-ghost use Rattle.rg_host.specs.Moments.{LeavesAll};
-ghost use Rattle.rg_checkpoint.specs.Slots.{IsOnly, HasNoOnly, IsSlot, Turns, Written};
+ghost use Rattle.rg_checkpoint.specs.OnlyRead.{OnlyReads, IsReadFault};
+ghost use Rattle.rg_checkpoint.specs.Reached.{IsFound, IsBegun, IsReadSlot, IsStage};
+ghost use Rattle.rg_checkpoint.specs.Rewritten.{IsRewriting, IsRewritten};
 
+use crate::applying::apply_changes;
 use crate::base::Checkpoint;
 use crate::decode::decode_checkpoint;
 use crate::fault::{CheckpointFault, SlotFault};
+use crate::sizes::SlotSizes;
 use rg_frame::{FrameFault, FrameLog};
 use rg_host::{Failed, Host};
 use std::alloc::Global;
 
-/// The checkpoint of a slot; none where the slot isn't complete.
+/// The log of a complete slot, which has come to the end of its frames, and their sizes.
+#[derive(Drop)]
+pub(crate) struct SlotEnd {
+    pub(crate) log: FrameLog,
+    pub(crate) sizes: SlotSizes,
+}
+
+/// What is read of a slot: the checkpoint that its frames say, and where they end.
+#[derive(Drop)]
+pub(crate) struct Read {
+    pub(crate) checkpoint: Checkpoint,
+    pub(crate) end: SlotEnd,
+}
+
+/// What stands behind the frames that were read.
+#[derive(Drop)]
+enum Found {
+    /// One frame more, with this payload.
+    Payload(Vec<u8>),
+    /// No open gate, so they are all.
+    End,
+    /// An open gate without a whole frame, so the file has no frame list.
+    Torn,
+}
+
+/// Where the reading of a slot stands.
+#[derive(Clone, Copy, PartialEq, Eq)]
+enum Stage {
+    /// One change payload more was applied.
+    Goes,
+    /// All frames were read.
+    Complete,
+    /// The slot isn't complete.
+    Incomplete,
+}
+
+/// The checkpoint of a slot, and where its frames end; none where the slot isn't complete. Of its
+/// payloads one at a time is in memory.
 pub(crate) fn read_slot<H: Host>(
     alloc: Global,
     host: &mut H,
     file: u32,
-) -> Result<Option<Checkpoint>, SlotFault>
+) -> Result<Option<Read>, SlotFault>
     requires { file < 8 }
-    ensures slot { IfOk result (λ slot. ForSome (H.now host.old) (λ v. IsSlot (v file) slot)) }
-    ensures disk { IsErrOf result SlotFault.Disk → Rose (H.disk_faults host.old) (H.disk_faults host.new) }
-    ensures no_ended { IsErrOf result SlotFault.Ended → ⊥ }
-    ensures leaves { LeavesAll H.now H.may H.clock H.since H.said host.old host.new }
-    ensures disk_faults { H.disk_faults host.old ≤ H.disk_faults host.new }
-    ensures out_faults { H.out_faults host.new ≡ H.out_faults host.old }
-    ensures reads { H.reads host.old ≤ H.reads host.new }
+    ensures slot { IfOk result (IsReadSlot (H.now host.old) file) }
+    ensures fault { IsReadFault result (Rose (H.disk_faults host.old) (H.disk_faults host.new)) }
+    ensures quiet { OnlyReads H.now H.may H.clock H.since H.said H.disk_faults H.out_faults H.reads host.old host.new }
 {
-    let payload = match read_only(alloc, host, file) {
-        Ok(Some(payload)) => payload,
-        Ok(None) => return Ok(None),
+    let mut log = FrameLog::new(file);
+    let payload = match next_payload(alloc, host, &mut log) {
+        Ok(Found::Payload(payload)) => payload,
+        Ok(Found::End) => return Ok(None),
+        Ok(Found::Torn) => return Ok(None),
         Err(fault) => return Err(fault),
     };
-    match decode_checkpoint(alloc, &payload) {
-        Ok(checkpoint) => Ok(Some(checkpoint)),
-        Err(CheckpointFault::BadCheckpoint) => Ok(None),
-        Err(CheckpointFault::Memory) => Err(SlotFault::Memory),
+    let checkpoint = match decode_checkpoint(alloc, &payload) {
+        Ok(checkpoint) => checkpoint,
+        Err(CheckpointFault::BadCheckpoint) => return Ok(None),
+        Err(CheckpointFault::Memory) => return Err(SlotFault::Memory),
+    };
+    let sizes = SlotSizes::of_base(payload.len() as u64);
+    let end = SlotEnd { log, sizes };
+    read_changes(alloc, host, Read { checkpoint, end })
+}
+
+/// Reads the change payloads behind a base payload, and applies each of them.
+fn read_changes<H: Host>(
+    alloc: Global,
+    host: &mut H,
+    begun: Read,
+) -> Result<Option<Read>, SlotFault>
+    requires { IsBegun (H.now host.old) begun.end.log.file begun }
+    ensures slot { IfOk result (IsReadSlot (H.now host.old) begun.end.log.file) }
+    ensures fault { IsReadFault result (Rose (H.disk_faults host.old) (H.disk_faults host.new)) }
+    ensures quiet { OnlyReads H.now H.may H.clock H.since H.said H.disk_faults H.out_faults H.reads host.old host.new }
+{
+    let mut read = begun;
+    'frames: loop {
+        match read_change(alloc, host, &mut read) {
+            Ok(Stage::Goes) => {}
+            Ok(Stage::Complete) => return Ok(Some(read)),
+            Ok(Stage::Incomplete) => return Ok(None),
+            Err(fault) => return Err(fault),
+        }
     }
 }
 
-/// The payload of the only frame of a file; none where its frame list isn't one payload.
-fn read_only<H: Host>(alloc: Global, host: &mut H, file: u32) -> Result<Option<Vec<u8>>, SlotFault>
-    requires { file < 8 }
-    ensures some { IfOk result (λ r. IfSome r (λ payload. ForSome (H.now host.old) (λ v. IsOnly payload.items (v file)))) }
-    ensures none { IfOk result (λ r. IfNone r (ForSome (H.now host.old) (λ v. HasNoOnly (v file)))) }
-    ensures disk { IsErrOf result SlotFault.Disk → Rose (H.disk_faults host.old) (H.disk_faults host.new) }
-    ensures no_ended { IsErrOf result SlotFault.Ended → ⊥ }
-    ensures leaves { LeavesAll H.now H.may H.clock H.since H.said host.old host.new }
-    ensures disk_faults { H.disk_faults host.old ≤ H.disk_faults host.new }
-    ensures out_faults { H.out_faults host.new ≡ H.out_faults host.old }
-    ensures reads { H.reads host.old ≤ H.reads host.new }
+/// Reads one change payload more, if there is one, and applies it.
+fn read_change<H: Host>(alloc: Global, host: &mut H, read: &mut Read) -> Result<Stage, SlotFault>
+    requires { IsBegun (H.now host.old) read.old.end.log.file read.old }
+    ensures stage { IfOk result (IsStage (H.now host.old) read.old.end.log.file read.old read.new) }
+    ensures fault { IsReadFault result (Rose (H.disk_faults host.old) (H.disk_faults host.new)) }
+    ensures quiet { OnlyReads H.now H.may H.clock H.since H.said H.disk_faults H.out_faults H.reads host.old host.new }
 {
-    match has_one_frame(host, file) {
-        Ok(true) => {}
-        Ok(false) => return Ok(None),
+    let payload = match next_payload(alloc, host, &mut read.end.log) {
+        Ok(Found::Payload(payload)) => payload,
+        Ok(Found::End) => return Ok(Stage::Complete),
+        Ok(Found::Torn) => return Ok(Stage::Incomplete),
         Err(fault) => return Err(fault),
+    };
+    match apply_changes(alloc, &payload, &mut read.checkpoint) {
+        Ok(()) => {}
+        Err(CheckpointFault::BadCheckpoint) => return Ok(Stage::Incomplete),
+        Err(CheckpointFault::Memory) => return Err(SlotFault::Memory),
     }
+    read.end.sizes = read.end.sizes.with_change(payload.len() as u64);
+    Ok(Stage::Goes)
+}
+
+/// Reads the payload at which a log stands, if there is one, and moves the log behind it.
+fn next_payload<H: Host>(
+    alloc: Global,
+    host: &mut H,
+    log: &mut FrameLog,
+) -> Result<Found, SlotFault>
+    ensures found { IfOk result (IsFound (H.now host.old) log.old log.new) }
+    ensures fault { IsReadFault result (Rose (H.disk_faults host.old) (H.disk_faults host.new)) }
+    ensures quiet { OnlyReads H.now H.may H.clock H.since H.said H.disk_faults H.out_faults H.reads host.old host.new }
+{
+    let head = match log.step(host, &mut []) {
+        Ok(Some(head)) => head,
+        Ok(None) => return Ok(Found::End),
+        Err(FrameFault::Damaged(_)) => return Ok(Found::Torn),
+        Err(_) => return Err(SlotFault::Disk),
+    };
     let mut payload = Vec::new(alloc);
-    match FrameLog::new(file).read(host, 0, &mut payload) {
-        Ok(Some(_)) => Ok(Some(payload)),
-        Ok(None) => Ok(None),
-        Err(FrameFault::Damaged(_)) => Ok(None),
+    match log.read(host, head.place, &mut payload) {
+        Ok(Some(next)) => {
+            if next != head.next {
+                return Ok(Found::Torn);
+            }
+            Ok(Found::Payload(payload))
+        }
+        Ok(None) => Ok(Found::Torn),
+        Err(FrameFault::Damaged(_)) => Ok(Found::Torn),
         Err(FrameFault::Disk) => Err(SlotFault::Disk),
         Err(FrameFault::Memory) => Err(SlotFault::Memory),
         Err(FrameFault::Ended) => Err(SlotFault::Memory),
     }
 }
 
-/// Whether the frame list of a file is one payload. It takes no memory.
-fn has_one_frame<H: Host>(host: &mut H, file: u32) -> Result<bool, SlotFault>
+/// Drops the frames of a file, and writes this payload as its only frame. Answers where that ends.
+pub(crate) fn rewrite<H: Host>(host: &mut H, file: u32, payload: &[u8]) -> Result<SlotEnd, Failed>
     requires { file < 8 }
-    ensures one { IfOk result (λ one. one ≡ true → ForSome (H.now host.old) (λ v. (payload : List ℕ) × IsOnly payload (v file))) }
-    ensures not_one { IfOk result (λ one. one ≡ false → ForSome (H.now host.old) (λ v. HasNoOnly (v file))) }
-    ensures disk { IsErr result → (result ≡ Err SlotFault.Disk) × Rose (H.disk_faults host.old) (H.disk_faults host.new) }
-    ensures leaves { LeavesAll H.now H.may H.clock H.since H.said host.old host.new }
-    ensures disk_faults { H.disk_faults host.old ≤ H.disk_faults host.new }
-    ensures out_faults { H.out_faults host.new ≡ H.out_faults host.old }
-    ensures reads { H.reads host.old ≤ H.reads host.new }
-{
-    let mut log = FrameLog::new(file);
-    match log.step(host, &mut []) {
-        Ok(Some(_)) => {}
-        Ok(None) => return Ok(false),
-        Err(FrameFault::Damaged(_)) => return Ok(false),
-        Err(_) => return Err(SlotFault::Disk),
-    }
-    match log.step(host, &mut []) {
-        Ok(Some(_)) => Ok(false),
-        Ok(None) => Ok(true),
-        Err(FrameFault::Damaged(_)) => Ok(false),
-        Err(_) => Err(SlotFault::Disk),
-    }
-}
-
-/// Drops the frames of a file, and writes this payload as its only frame.
-pub(crate) fn rewrite<H: Host>(host: &mut H, file: u32, payload: &[u8]) -> Result<(), Failed>
-    requires { file < 8 }
-    ensures written { OnOk result (Becomes (H.now host.old) (H.now host.new) (InFile file (Written payload.now))) }
-    ensures pending { OnOk result (NothingPending file (H.now host.new) (H.may host.new)) }
-    ensures leaves { Writes H.now H.may H.clock H.since H.said file (Turns payload.now) host.old host.new }
-    ensures others { Becomes (H.now host.old) (H.now host.new) (InFile file (λ _ _. ⊤)) }
-    ensures cause { IsErr result → Rose (H.disk_faults host.old) (H.disk_faults host.new) }
-    ensures disk_faults { H.disk_faults host.old ≤ H.disk_faults host.new }
-    ensures out_faults { H.out_faults host.new ≡ H.out_faults host.old }
-    ensures reads { H.reads host.old ≤ H.reads host.new }
+    ensures ok { IfOk result (IsRewritten H.now H.may file payload.now host.old host.new) }
+    ensures err { OnErr result (Rose (H.disk_faults host.old) (H.disk_faults host.new)) }
+    ensures any { IsRewriting H.now H.may H.clock H.since H.said H.disk_faults H.out_faults H.reads file payload.now host.old host.new }
 {
     let mut log = FrameLog::new(file);
     match log.clear(host) {
@@ -113,7 +167,10 @@ pub(crate) fn rewrite<H: Host>(host: &mut H, file: u32, payload: &[u8]) -> Resul
         Err(_) => return Err(Failed),
     }
     match log.append(host, payload) {
-        Ok(_) => Ok(()),
+        Ok(_) => Ok(SlotEnd {
+            log,
+            sizes: SlotSizes::of_base(payload.len() as u64),
+        }),
         Err(_) => Err(Failed),
     }
 }

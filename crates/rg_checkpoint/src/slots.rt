@@ -1,37 +1,49 @@
-ghost use Rattle.std.specs.Prelude.{◌≡◌, ◌≢◌, ◌↔◌, ◌≤◌, ◌<◌, ℕ, IfOk, IsErrOf, OnOk, OnErr, Option, Some, None, Err, true, false, Decides, ⊤};
+ghost use Rattle.std.specs.Prelude.{◌≡◌, ◌≢◌, ◌↔◌, ◌≤◌, ◌<◌, ◌+◌, ℕ, length, is_some, IfOk, IsErrOf, OnOk, OnErr, Option, Some, None, Err, true, false, Decides, ⊤};
 ghost use Rattle.std.specs.Option.{ForSome, option_copied};
 ghost use Rattle.rg_bytes.specs.Counts.{Rose};
 ghost use Rattle.rg_frame.specs.Calls.{Writes};
+ghost use Rattle.rg_frame.specs.Steps.{Grown};
 ghost use Rattle.rg_host.specs.Image.{Becomes, InFile, NothingPending};
 ghost use Rattle.rg_host.specs.Moments.{LeavesAll, Moments};
+ghost use Rattle.rg_checkpoint.specs.Ends.{IsEnd, IsTaken, sizes_at, checkpoint_at, end_at};
 ghost use Rattle.rg_checkpoint.specs.Newest.{IsNewestOf, CountsAs, picked};
-ghost use Rattle.rg_checkpoint.specs.Slots.{slot_in, IsSlot, Turns, Written, IsKeep, other_of};
+ghost use Rattle.rg_checkpoint.specs.Sizes.{OfSizes, longer, sizes_of, more_sizes, end_of};
+ghost use Rattle.rg_checkpoint.specs.Slots.{slot_in, sizes_in, with_sizes, IsSlot, AreSizes, ReachesSlots, IsOnly, Turns, Written, Lengthens, Lengthened, IsKeep, other_of};
 
 use crate::base::Checkpoint;
 use crate::fault::SlotFault;
-use crate::slot::{read_slot, rewrite};
+use crate::sizes::SlotSizes;
+use crate::slot::{Read, SlotEnd, read_slot, rewrite};
 use rg_event::Texts;
 use rg_host::Host;
 use std::alloc::Global;
 use std::marker::Model;
 
-/// The two slots of a store, files 0 and 1, each of which holds one checkpoint or none.
+/// The two slots of a store, files 0 and 1, each of which holds one checkpoint or none: a base
+/// payload, and the change payloads behind it.
 ///
-/// They are fresh until something is saved or taken, and ended once a `save` failed.
+/// They are fresh until something is saved, added or taken, and ended once a `save` or an `extend`
+/// failed.
 #[derive(Drop)]
 pub struct Slots {
     first: Option<Checkpoint>,
     second: Option<Checkpoint>,
+    first_end: Option<SlotEnd>,
+    second_end: Option<SlotEnd>,
     fresh: bool,
     ended: bool,
 }
 
 impl Model for Slots {
+    ghost use Rattle.std.specs.Prelude.{◌≡◌};
+    ghost use Rattle.rg_checkpoint.specs.Ends.{IsEndOf, sizes_at};
     ghost use Rattle.rg_checkpoint.specs.Slots.{Attached};
 
     ghost Value = { Attached };
 
-    ghost view = { λ s. record { first = s.first; second = s.second; fresh = s.fresh; ended = s.ended } };
+    ghost view = { λ s. record { first = s.first; second = s.second; first_sizes = sizes_at s.first_end; second_sizes = sizes_at s.second_end; fresh = s.fresh; ended = s.ended } };
+
+    ghost invariant = { λ s. IsEndOf 0 s.ended s.first_end × IsEndOf 1 s.ended s.second_end };
 }
 
 impl Slots {
@@ -39,7 +51,10 @@ impl Slots {
     pub fn attach<H: Host>(alloc: Global, host: &mut H) -> Result<Slots, SlotFault>
         ensures first { IfOk result (λ slots. ForSome (H.now host.old) (λ v. IsSlot (v 0) slots.first)) }
         ensures second { IfOk result (λ slots. ForSome (H.now host.old) (λ v. IsSlot (v 1) slots.second)) }
+        ensures first_sizes { IfOk result (λ slots. ForSome (H.now host.old) (λ v. AreSizes (v 0) slots.first_sizes)) }
+        ensures second_sizes { IfOk result (λ slots. ForSome (H.now host.old) (λ v. AreSizes (v 1) slots.second_sizes)) }
         ensures fresh { IfOk result (λ slots. (slots.fresh ≡ true) × (slots.ended ≡ false)) }
+        ensures reaches { IfOk result (λ slots. ReachesSlots slots (H.now host.new)) }
         ensures disk { IsErrOf result SlotFault.Disk → Rose (H.disk_faults host.old) (H.disk_faults host.new) }
         ensures no_ended { IsErrOf result SlotFault.Ended → ⊥ }
         ensures leaves { LeavesAll H.now H.may H.clock H.since H.said host.old host.new }
@@ -47,17 +62,19 @@ impl Slots {
         ensures out_faults { H.out_faults host.new ≡ H.out_faults host.old }
         ensures reads { H.reads host.old ≤ H.reads host.new }
     {
-        let first = match read_slot(alloc, host, 0) {
-            Ok(slot) => slot,
+        let (first, first_end) = match read_slot(alloc, host, 0) {
+            Ok(read) => parts(read),
             Err(fault) => return Err(fault),
         };
-        let second = match read_slot(alloc, host, 1) {
-            Ok(slot) => slot,
+        let (second, second_end) = match read_slot(alloc, host, 1) {
+            Ok(read) => parts(read),
             Err(fault) => return Err(fault),
         };
         Ok(Slots {
             first,
             second,
+            first_end,
+            second_end,
             fresh: true,
             ended: false,
         })
@@ -71,6 +88,17 @@ impl Slots {
         match i {
             0 => self.first.as_ref(),
             1 => self.second.as_ref(),
+            _ => None,
+        }
+    }
+
+    /// The sizes of what stands in slot `i` now; none exactly where that isn't complete.
+    pub fn sizes(&self, i: u32) -> Option<SlotSizes>
+        ensures sizes { result ≡ sizes_in self.now i }
+    {
+        match i {
+            0 => sizes_of_end(&self.first_end),
+            1 => sizes_of_end(&self.second_end),
             _ => None,
         }
     }
@@ -91,7 +119,7 @@ impl Slots {
     pub fn take(&mut self, i: u32) -> Option<Checkpoint>
         requires fresh { self.old.fresh ≡ true }
         ensures slot { result ≡ slot_in self.old i }
-        ensures after { self.new ≡ record { first = None; second = None; fresh = false; ended = self.old.ended } }
+        ensures after { self.new ≡ record self.old { first = None; second = None; fresh = false } }
     {
         self.fresh = false;
         let first = self.first.take();
@@ -108,7 +136,7 @@ impl Slots {
     pub fn take_both(&mut self) -> (Option<Checkpoint>, Option<Checkpoint>)
         requires fresh { self.old.fresh ≡ true }
         ensures slots { (result.0 ≡ self.old.first) × (result.1 ≡ self.old.second) }
-        ensures after { self.new ≡ record { first = None; second = None; fresh = false; ended = self.old.ended } }
+        ensures after { self.new ≡ record self.old { first = None; second = None; fresh = false } }
     {
         self.fresh = false;
         let first = self.first.take();
@@ -129,6 +157,7 @@ impl Slots {
         requires keep { IsKeep keep }
         ensures number { IfOk result (λ i. i ≡ other_of keep) }
         ensures written { OnOk result (Becomes (H.now host.old) (H.now host.new) (InFile (other_of keep) (Written payload.now))) }
+        ensures only { OnOk result (Becomes (H.now host.old) (H.now host.new) (InFile (other_of keep) (λ _ bytes. IsOnly payload.now bytes))) }
         ensures pending { OnOk result (NothingPending (other_of keep) (H.now host.new) (H.may host.new)) }
         ensures others_pending { (f : ℕ) → f ≢ other_of keep → NothingPending f (H.now host.old) (H.may host.old) → NothingPending f (H.now host.new) (H.may host.new) }
         ensures others { Becomes (H.now host.old) (H.now host.new) (InFile (other_of keep) (λ _ _. ⊤)) }
@@ -142,8 +171,9 @@ impl Slots {
         ensures ended { (result ≡ Err SlotFault.Ended) ↔ (self.old.ended ≡ true) }
         ensures untouched { self.old.ended ≡ true → host.new ≡ host.old }
         ensures disk { self.old.ended ≡ false → OnErr result ((result ≡ Err SlotFault.Disk) × Rose (H.disk_faults host.old) (H.disk_faults host.new)) }
-        ensures ok { OnOk result (self.new ≡ record self.old { fresh = false }) }
+        ensures ok { OnOk result (self.new ≡ with_sizes (other_of keep) (Some (sizes_of (length payload.now))) (record self.old { fresh = false })) }
         ensures err { OnErr result (self.new ≡ record self.old { fresh = false; ended = true }) }
+        ensures reaches { ReachesSlots self.old (H.now host.old) → ReachesSlots self.new (H.now host.new) }
         ensures disk_faults { H.disk_faults host.old ≤ H.disk_faults host.new }
         ensures out_faults { H.out_faults host.new ≡ H.out_faults host.old }
         ensures reads { H.reads host.old ≤ H.reads host.new }
@@ -154,19 +184,135 @@ impl Slots {
         }
         let file = other(keep);
         match rewrite(host, file, payload) {
-            Ok(()) => Ok(file),
+            Ok(end) => {
+                self.put_end(file, end);
+                Ok(file)
+            }
+            Err(_) => Err(self.fail()),
+        }
+    }
+
+    /// Adds a change payload behind the frames of slot `i`, which is complete. Whatever call fails, and
+    /// wherever the run stops, the slot has its old checkpoint or the one with the changes, where the
+    /// payload applies to the old one; the other slot and the log are as they were. After a fault the
+    /// slots have ended. It takes no memory.
+    pub fn extend<H: Host>(&mut self, host: &mut H, i: u32, payload: &[u8]) -> Result<(), SlotFault>
+        requires complete { is_some (sizes_in self.old i) ≡ true }
+        requires reaches { ReachesSlots self.old (H.now host.old) }
+
+        // Where the file is of the sizes that are known of it.
+        ensures written { OnOk result (Becomes (H.now host.old) (H.now host.new) (InFile i (OfSizes (sizes_in self.old i) (Lengthened payload.now)))) }
+        ensures grown { OnOk result (Becomes (H.now host.old) (H.now host.new) (InFile i (OfSizes (sizes_in self.old i) (Grown payload.now)))) }
+        ensures pending { OnOk result (NothingPending i (H.now host.new) (H.may host.new)) }
+        ensures others_pending { (f : ℕ) → f ≢ i → NothingPending f (H.now host.old) (H.may host.old) → NothingPending f (H.now host.new) (H.may host.new) }
+        ensures others { Becomes (H.now host.old) (H.now host.new) (InFile i (λ _ _. ⊤)) }
+
+        // In each image since the start the slot has its old checkpoint or the new one, and the other files are, together,
+        // as they could be left at the start. One of them of which nothing was pending is as it was.
+        ensures leaves { Writes H.now H.may H.clock H.since H.said i (OfSizes (sizes_in self.old i) (Lengthens payload.now)) host.old host.new }
+        ensures stay { (f : ℕ) → f ≢ i → NothingPending f (H.now host.old) (H.may host.old) →
+            Moments H.clock H.since host.old host.new (λ m. ForSome (H.now host.old) (λ w. m.image f ≡ w f)) }
+
+        ensures ended { (result ≡ Err SlotFault.Ended) ↔ (self.old.ended ≡ true) }
+        ensures untouched { self.old.ended ≡ true → host.new ≡ host.old }
+        ensures disk { self.old.ended ≡ false → OnErr result ((result ≡ Err SlotFault.Disk) × Rose (H.disk_faults host.old) (H.disk_faults host.new)) }
+        ensures ok { OnOk result (self.new ≡ with_sizes i (longer (sizes_in self.old i) (length payload.now)) (record self.old { fresh = false })) }
+        ensures err { OnErr result (self.new ≡ record self.old { fresh = false; ended = true }) }
+        ensures reaches { ReachesSlots self.new (H.now host.new) }
+        ensures disk_faults { H.disk_faults host.old ≤ H.disk_faults host.new }
+        ensures out_faults { H.out_faults host.new ≡ H.out_faults host.old }
+        ensures reads { H.reads host.new ≡ H.reads host.old }
+    {
+        self.fresh = false;
+        if self.ended {
+            return Err(SlotFault::Ended);
+        }
+        let mut end = match self.take_end(i) {
+            Some(end) => end,
+            None => unreachable!(),
+        };
+        match end.log.append(host, payload) {
+            Ok(_) => {
+                end.count(payload.len() as u64);
+                self.put_end(i, end);
+                Ok(())
+            }
             Err(_) => {
-                self.ended = true;
-                Err(SlotFault::Disk)
+                let fault = self.fail();
+                self.put_end(i, end);
+                Err(fault)
             }
         }
+    }
+
+    /// Ends the slots after a failed `save` or `extend`.
+    fn fail(&mut self) -> SlotFault
+        ensures { (self.new ≡ record self.old { ended = true }) × (result ≡ SlotFault.Disk) }
+    {
+        self.ended = true;
+        SlotFault::Disk
+    }
+
+    /// Takes the log of a slot.
+    fn take_end(&mut self, i: u32) -> Option<SlotEnd>
+        ensures { IsTaken i self.old self.new result }
+    {
+        match i {
+            0 => self.first_end.take(),
+            1 => self.second_end.take(),
+            _ => None,
+        }
+    }
+
+    /// Puts the log of a slot.
+    fn put_end(&mut self, i: u32, end: SlotEnd)
+        requires { (i < 2) × IsEnd i self.old.ended end }
+        ensures { self.new ≡ with_sizes i (Some end.sizes) self.old }
+    {
+        if i == 0 {
+            self.first_end = Some(end);
+        } else {
+            self.second_end = Some(end);
+        }
+    }
+}
+
+impl SlotEnd {
+    /// Counts a change payload of so many bytes, behind which the log has come. No log comes further
+    /// than 2^62, so the sums hold.
+    fn count(&mut self, change: u64)
+        requires { self.old.log.end ≡ end_of self.old.sizes + 9 + change }
+        ensures { self.new ≡ record self.old { sizes = more_sizes self.old.sizes change } }
+    {
+        let _within = self.log.end();
+        self.sizes = self.sizes.with_change(change);
+    }
+}
+
+/// The checkpoint of what was read of a slot, and where its frames end.
+fn parts(read: Option<Read>) -> (Option<Checkpoint>, Option<SlotEnd>)
+    ensures { (result.0 ≡ checkpoint_at read) × (result.1 ≡ end_at read) }
+{
+    match read {
+        Some(Read { checkpoint, end }) => (Some(checkpoint), Some(end)),
+        None => (None, None),
+    }
+}
+
+/// The sizes of a slot's frames.
+fn sizes_of_end(end: &Option<SlotEnd>) -> Option<SlotSizes>
+    ensures { result ≡ sizes_at end.now }
+{
+    match end {
+        Some(end) => Some(end.sizes),
+        None => None,
     }
 }
 
 /// The slot that is written where that one is kept.
 fn other(keep: Option<u32>) -> u32
     ensures number { result ≡ other_of keep }
-    ensures few { result < 8 }
+    ensures few { result < 2 }
 {
     match keep {
         Some(0) => 1,

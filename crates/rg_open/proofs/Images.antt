@@ -12,7 +12,7 @@ use Rattle.rg_log.specs.Log.{schema_payload, joined, HasChunks, IsChunkOf, IsLeg
 use Rattle.rg_log.proofs.Growing.{one_shape, begins_log}
 use Rattle.rg_checkpoint.specs.declared.base.Checkpoint.{Checkpoint}
 use Rattle.rg_checkpoint.specs.Slots.{HasSlot, HasNoSlot, other_of, IsKeep}
-use Rattle.rg_checkpoint.proofs.SlotLaws.{slot_is_one, none_only, no_only_slot}
+use Rattle.rg_checkpoint.proofs.SlotLaws.{slot_is_one, none_slot}
 use Rattle.rg_open.specs.Truth.{IsTrueFor, IsTrueOf, IsTruthfulImage, MayGrow}
 use Rattle.rg_open.proofs.Truths.{no_schema, true_for, grows_true, grows_legal}
 
@@ -112,4 +112,4 @@ no_frames = record { frames = (0, record { rest = []; ends = refl; is = refl; st
 
 -- an image without a byte
 pub empty_truthful : IsTruthfulImage (λ file. [])
-empty_truthful = record { log = inl no_frames; slots = λ i below checkpoint slot. absurd (no_only_slot [] (none_only [] no_frames) checkpoint slot) }
+empty_truthful = record { log = inl no_frames; slots = λ i below checkpoint slot. absurd (none_slot [] no_frames checkpoint slot) }

@@ -16,6 +16,8 @@ mod chunk;
 #[cfg(test)]
 mod dump;
 #[cfg(test)]
+mod extend;
+#[cfg(test)]
 mod frames;
 #[cfg(test)]
 mod fuse_host;

@@ -11,10 +11,10 @@ use Rattle.rg_host.specs.MemHost.{Ledger, begun, now_in, may_in, said_in}
 use Rattle.rg_host.specs.Lines.{ended, lines_of}
 use Rattle.rg_frame.specs.Frames.{HasPayloads}
 use Rattle.rg_frame.proofs.Gates.{none-empty}
-use Rattle.rg_frame.proofs.FrameLists.{payloads_one}
 use Rattle.rg_log.specs.Log.{HasEvents, IsLegalLog, IsOfSchema}
 use Rattle.rg_checkpoint.specs.declared.base.Checkpoint.{Checkpoint}
 use Rattle.rg_checkpoint.specs.Slots.{HasSlot, HasNoSlot, IsSlot}
+use Rattle.rg_checkpoint.proofs.SlotLaws.{none_slot}
 use Rattle.rg_config.specs.Plans.{Planned}
 use Rattle.rg_course.specs.Output.{text_of_run}
 use Rattle.rg_open.specs.Opening.{IsOpenable, IsFromIn}
@@ -45,7 +45,7 @@ pub no_payload : (i : ℕ) → HasPayloads [] (bare i)
 no_payload i = subst (HasPayloads []) (sym (bare_is 8 i)) (none-empty [] (omega arith))
 
 pub no_slot : (i : ℕ) → HasNoSlot (bare i)
-no_slot i checkpoint slot = let same : slot.payload ∷ [] ≡ [] = payloads_one (slot.payload ∷ []) [] (bare i) slot.only (no_payload i) in absurd cc
+no_slot i = none_slot (bare i) (no_payload i)
 
 pub bare_truthful : IsTruthfulImage bare
 bare_truthful = record { log = inl (no_payload 2); slots = λ i below checkpoint slot. absurd (no_slot i checkpoint slot) }

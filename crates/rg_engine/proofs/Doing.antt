@@ -16,6 +16,7 @@ use Rattle.rg_agg.specs.Held.{Held}
 use Rattle.rg_plan.specs.Named.{Node}
 use Rattle.rg_state.specs.declared.table.Change.{Change}
 use Rattle.rg_state.specs.declared.table.TableFault.{TableFault}
+use Rattle.rg_state.specs.Changes.{Marks}
 use Rattle.rg_state.specs.Rows.{Cells, Others}
 use Rattle.rg_engine.specs.declared.part.FilterPart.{FilterPart}
 use Rattle.rg_engine.specs.declared.part.GroupPart.{GroupPart}
@@ -174,9 +175,9 @@ ticks_more ticks parts i part d start old new within is h k =
     omega arith
 
 -- the same step, by the tree and the offset that others are equal to
-pub stepped_as : (parts parts' : List FilterPart) (offset offset' : ℕ) (x : Event) (result : Result Unit TableFault) (told told' : Type 0) (cells cells' : Cells) (faults faults' steps steps' : ℕ) → parts ≡ parts' → offset ≡ offset' →
-    Stepped (λ n. nodes_numbered n parts) (ticks_at offset parts) offset x result told told' cells cells' faults faults' steps steps' →
-    Stepped (λ n. nodes_numbered n parts') (ticks_at offset' parts') offset' x result told told' cells cells' faults faults' steps steps'
-stepped_as parts parts' offset offset' x result told told' cells cells' faults faults' steps steps' e f h =
-    subst (λ o. Stepped (λ n. nodes_numbered n parts') (ticks_at o parts') o x result told told' cells cells' faults faults' steps steps') f
-    (subst (λ ps. Stepped (λ n. nodes_numbered n ps) (ticks_at offset ps) offset x result told told' cells cells' faults faults' steps steps') e h)
+pub stepped_as : (parts parts' : List FilterPart) (offset offset' : ℕ) (x : Event) (result : Result Unit TableFault) (told told' : Type 0) (named named' there there' : Marks) (cells cells' : Cells) (faults faults' steps steps' : ℕ) → parts ≡ parts' → offset ≡ offset' →
+    Stepped (λ n. nodes_numbered n parts) (ticks_at offset parts) offset x result told told' named named' there there' cells cells' faults faults' steps steps' →
+    Stepped (λ n. nodes_numbered n parts') (ticks_at offset' parts') offset' x result told told' named named' there there' cells cells' faults faults' steps steps'
+stepped_as parts parts' offset offset' x result told told' named named' there there' cells cells' faults faults' steps steps' e f h =
+    subst (λ o. Stepped (λ n. nodes_numbered n parts') (ticks_at o parts') o x result told told' named named' there there' cells cells' faults faults' steps steps') f
+    (subst (λ ps. Stepped (λ n. nodes_numbered n ps) (ticks_at offset ps) offset x result told told' named named' there there' cells cells' faults faults' steps steps') e h)

@@ -8,6 +8,7 @@ use Rattle.rg_event.specs.Rising.{last_time, IsRising}
 use Rattle.rg_plan.specs.Named.{Node, node_at}
 use Rattle.rg_plan.specs.Plans.{Tasks}
 use Rattle.rg_plan.specs.Whole.{IsWhole}
+use Rattle.rg_state.specs.Changes.{Marks, IsSince}
 use Rattle.rg_state.specs.Rows.{Cells}
 use Rattle.rg_state.specs.declared.table.TableFault.{TableFault}
 use Rattle.rg_state.specs.declared.table.TableFault.TheVariants.{BadState, Disk}
@@ -26,12 +27,12 @@ use Rattle.rg_engine.proofs.Nodewise.{stands_after, none_after, never_bad}
 use Rattle.rg_engine.proofs.Ticks.{all_ticks}
 
 module _ {V O N M P : Type 0} (v0 : V) (offsets_of : V → O) (list_of : O → List ℕ) (rows_name : V → N) (steps_name : V → M) (parts_of : V → P) (items_of : P → List FilterPart)
-    (told_of : V → Type 0) (cells_of : V → Cells) (faults_of steps_of : V → ℕ) where
+    (told_of : V → Type 0) (named_of there_of : V → Marks) (cells_of : V → Cells) (faults_of steps_of : V → ℕ) where
   abbrev pub step_of : V → ℕ → Event → Result Unit TableFault → V → Type 0
   step_of v edge x result w =
       (offsets_of w ≡ offsets_of v) × (rows_name w ≡ rows_name v) × (steps_name w ≡ steps_name v) × (parts_of w ≡ parts_of v)
       × Stepped (λ n. nodes_numbered n (items_of (parts_of v))) (ticks_at (slice_index_or (list_of (offsets_of v)) edge 0) (items_of (parts_of v)))
-      (slice_index_or (list_of (offsets_of v)) edge 0) x result (told_of v) (told_of w) (cells_of v) (cells_of w) (faults_of v) (faults_of w) (steps_of v) (steps_of w)
+      (slice_index_or (list_of (offsets_of v)) edge 0) x result (told_of v) (told_of w) (named_of v) (named_of w) (there_of v) (there_of w) (cells_of v) (cells_of w) (faults_of v) (faults_of w) (steps_of v) (steps_of w)
 
   -- what each visit keeps
   pub record Keeps (v w : V) : Type 0 where
@@ -40,10 +41,11 @@ module _ {V O N M P : Type 0} (v0 : V) (offsets_of : V → O) (list_of : O → L
     pub steps : steps_name w ≡ steps_name v
     pub parts : parts_of w ≡ parts_of v
     pub tells : told_of w ↔ told_of v
+    pub since : told_of v → (base : Cells) → IsSince base (named_of v) (there_of v) (cells_of v) → IsSince base (named_of w) (there_of w) (cells_of w)
     pub later : faults_of v ≤ faults_of w
 
   keeps_same : (v : V) → Keeps v v
-  keeps_same v = record { offsets = refl; rows = refl; steps = refl; parts = refl; tells = (λ t. t, λ t. t); later = omega arith }
+  keeps_same v = record { offsets = refl; rows = refl; steps = refl; parts = refl; tells = (λ t. t, λ t. t); since = λ told base is. is; later = omega arith }
 
   keeps_join : (u v w : V) → Keeps u v → Keeps v w → Keeps u w
   keeps_join u v w a b = record {
@@ -52,11 +54,12 @@ module _ {V O N M P : Type 0} (v0 : V) (offsets_of : V → O) (list_of : O → L
     steps = b.steps ∙ a.steps;
     parts = b.parts ∙ a.parts;
     tells = (λ t. a.tells.0 (b.tells.0 t), λ t. b.tells.1 (a.tells.1 t));
+    since = λ told base is. b.since (a.tells.1 told) base (a.since told base is);
     later = omega arith;
   }
 
   keeps_one : (v w : V) (edge : ℕ) (x : Event) (result : Result Unit TableFault) → step_of v edge x result w → Keeps v w
-  keeps_one v w edge x result s = record { offsets = s.0; rows = s.1; steps = s.2; parts = s.3; tells = s.4.tells; later = s.4.later }
+  keeps_one v w edge x result s = record { offsets = s.0; rows = s.1; steps = s.2; parts = s.3; tells = s.4.tells; since = s.4.since; later = s.4.later }
 
   pub chain_keeps : (visits : List (ℕ × Event)) (v w : V) → Visited step_of v visits w → Keeps v w
   chain_keeps visits v w chain = chain_goes step_of Keeps keeps_same keeps_join keeps_one visits v w chain

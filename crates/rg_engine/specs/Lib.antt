@@ -13,3 +13,4 @@ pub mod Edges
 pub mod Parts
 pub mod Seen
 pub mod Stepping
+pub mod Since

@@ -10,6 +10,7 @@ use Rattle.rg_plan.specs.Named.{Node}
 use Rattle.rg_state.specs.declared.table.Change.{Change}
 use Rattle.rg_state.specs.declared.table.TableFault.{TableFault}
 use Rattle.rg_state.specs.declared.table.TableFault.TheVariants.{BadState, Disk}
+use Rattle.rg_state.specs.Changes.{Marks, IsSince}
 use Rattle.rg_state.specs.Rows.{Cells, Unfit}
 use Rattle.rg_state.specs.Takes.{Takes}
 use Rattle.rg_engine.specs.Windows.{passes_at}
@@ -42,10 +43,11 @@ Stuck key offset x [] row = ⊥
 Stuck key offset x (node ∷ nodes) row = Balks node key offset x row ⊎ ((between : Option Held) × Does node.agg.func (node_deed node key offset x) row between × Stuck key offset x nodes between)
 
 -- a table before and after an event that passed the edge of this offset: each row by the nodes of its number
-pub record Stepped (nodes : ℕ → List Node) (ticks offset : ℕ) (x : Event) (result : Result Unit TableFault) (told told' : Type 0) (cells cells' : Cells) (faults faults' steps steps' : ℕ) : Type 0 where
+pub record Stepped (nodes : ℕ → List Node) (ticks offset : ℕ) (x : Event) (result : Result Unit TableFault) (told told' : Type 0) (named named' there there' : Marks) (cells cells' : Cells) (faults faults' steps steps' : ℕ) : Type 0 where
   pub done : OnOk result (told → (n : ℕ) (key : List ℕ) → Done key offset x (nodes n) (cells n key) (cells' n key))
   pub stuck : (n : ℕ) → IsErrOf result (BadState n) → told → (key : List ℕ) × Stuck key offset x (nodes n) (cells n key)
   pub ticked : OnOk result (steps' ≡ steps + ticks)
   pub disk : IsErrOf result Disk → Rose faults faults'
   pub tells : told' ↔ told
+  pub since : told → (base : Cells) → IsSince base named there cells → IsSince base named' there' cells'
   pub later : faults ≤ faults'

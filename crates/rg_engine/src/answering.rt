@@ -7,6 +7,7 @@ ghost use Rattle.rg_plan.specs.Plans.{Tasks};
 ghost use Rattle.rg_plan.specs.Whole.{IsWhole};
 ghost use Rattle.rg_state.specs.Rows.{Same};
 ghost use Rattle.rg_engine.specs.Answering.{keys_for, node_answers};
+ghost use Rattle.rg_engine.specs.Since.{KeepsSince};
 ghost use Rattle.rg_engine.specs.Standing.{RowIs};
 
 use rg_bytes::Memory;
@@ -67,6 +68,7 @@ pub(crate) fn answer_each<T: Table>(
         ((key : List ℕ) → RowIs (node_at plan n) key e.time events (T.cell table.old n key)) → ⊥ }
     ensures same { T.tells table.old → Same (T.cell table.old) (T.cell table.new) }
     ensures disk { IsErrOf result TableFault.Disk → Rose (T.faults table.old) (T.faults table.new) }
+    ensures since { KeepsSince T.tells T.named T.there T.cell table.old table.new }
     ensures tells { T.tells table.new ↔ T.tells table.old }
     ensures later { T.faults table.old ≤ T.faults table.new }
 {

@@ -1,4 +1,4 @@
-ghost use Rattle.std.specs.Prelude.{◌≡◌, ◌↔◌, ℕ, ◌+◌, ◌≤◌, cond, List, Option, Some, slice_index_or, OnOk, IsErrOf};
+ghost use Rattle.std.specs.Prelude.{◌≡◌, ℕ, ◌+◌, ◌≤◌, cond, List, Option, Some, slice_index_or, OnOk, IsErrOf};
 ghost use Rattle.rg_bytes.specs.Counts.{Rose};
 ghost use Rattle.rg_event.specs.declared.value.Value.{Value};
 ghost use Rattle.rg_metric.specs.declared.query.Window.{Window};
@@ -8,6 +8,7 @@ ghost use Rattle.rg_group.specs.Keys.{key_bytes};
 ghost use Rattle.rg_state.specs.Rows.{Others, Unfit};
 ghost use Rattle.rg_state.specs.Takes.{Takes};
 ghost use Rattle.rg_engine.specs.Deeds.{handed, deed_with, Does};
+ghost use Rattle.rg_engine.specs.Since.{KeepsSince};
 ghost use Rattle.rg_engine.specs.Standing.{has_edge};
 ghost use Rattle.rg_engine.specs.Parts.{agg_nodes, group_nodes, nodes_numbered, ticks_at};
 ghost use Rattle.rg_engine.specs.Stepping.{IsPassed, Done, Stuck};
@@ -52,6 +53,7 @@ impl<'p, 'r, 's, T: Table, L: Ledger> Visit for Changer<'p, 'r, 's, T, L> {
         × (w.rows.now.parts ≡ v.rows.now.parts)
         × Stepped (λ n. nodes_numbered n v.rows.now.parts.items) (ticks_at (slice_index_or v.plan.now.offsets edge 0) v.rows.now.parts.items)
         (slice_index_or v.plan.now.offsets edge 0) x result (T.tells v.rows.now.table) (T.tells w.rows.now.table)
+        (T.named v.rows.now.table) (T.named w.rows.now.table) (T.there v.rows.now.table) (T.there w.rows.now.table)
         (T.cell v.rows.now.table) (T.cell w.rows.now.table) (T.faults v.rows.now.table) (T.faults w.rows.now.table) v.steps.now w.steps.now };
 
     fn event(&mut self, edge: u32, event: &Event) -> Result<(), TableFault> {
@@ -93,7 +95,7 @@ fn pass_filters<T: Table, L: Ledger>(
         (q : List ℕ) × Stuck q offset event.now (nodes_numbered n parts.now) (T.cell table.old n q) }
     ensures ticked { OnOk result (steps.new ≡ steps.old + ticks_at offset parts.now) }
     ensures disk { IsErrOf result TableFault.Disk → Rose (T.faults table.old) (T.faults table.new) }
-    ensures tells { T.tells table.new ↔ T.tells table.old }
+    ensures since { KeepsSince T.tells T.named T.there T.cell table.old table.new }
     ensures later { T.faults table.old ≤ T.faults table.new }
 {
     'filters: for part in parts {
@@ -122,7 +124,7 @@ fn pass_filter<T: Table, L: Ledger>(
         (T.cell table.old n q) }
     ensures ticked { OnOk result (steps.new ≡ steps.old + cond (has_edge part.now.window offset) 1 0) }
     ensures disk { IsErrOf result TableFault.Disk → Rose (T.faults table.old) (T.faults table.new) }
-    ensures tells { T.tells table.new ↔ T.tells table.old }
+    ensures since { KeepsSince T.tells T.named T.there T.cell table.old table.new }
     ensures later { T.faults table.old ≤ T.faults table.new }
 {
     let change = match side(&part.window, offset) {
@@ -150,7 +152,7 @@ fn change_groups<T: Table>(
         (window : Window) (condition : Option Test) (offset : ℕ) → IsPassed window condition offset change event.now →
         (q : List ℕ) × Stuck q offset event.now (group_nodes window condition n groups.now) (T.cell table.old n q) }
     ensures disk { IsErrOf result TableFault.Disk → Rose (T.faults table.old) (T.faults table.new) }
-    ensures tells { T.tells table.new ↔ T.tells table.old }
+    ensures since { KeepsSince T.tells T.named T.there T.cell table.old table.new }
     ensures later { T.faults table.old ≤ T.faults table.new }
 {
     'groups: for part in groups {
@@ -179,7 +181,7 @@ fn change_group<T: Table>(
         (q : List ℕ) × Stuck q offset event.now (agg_nodes window condition part.now.columns n part.now.aggs.items)
         (T.cell table.old n q) }
     ensures disk { IsErrOf result TableFault.Disk → Rose (T.faults table.old) (T.faults table.new) }
-    ensures tells { T.tells table.new ↔ T.tells table.old }
+    ensures since { KeepsSince T.tells T.named T.there T.cell table.old table.new }
     ensures later { T.faults table.old ≤ T.faults table.new }
 {
     match key.set_of(part.columns.as_slice(), event) {
@@ -205,7 +207,7 @@ fn change_each<T: Table>(
         key.now ≡ key_bytes (key_of columns event.now) →
         (q : List ℕ) × Stuck q offset event.now (agg_nodes window condition columns n aggs.now) (T.cell table.old n q) }
     ensures disk { IsErrOf result TableFault.Disk → Rose (T.faults table.old) (T.faults table.new) }
-    ensures tells { T.tells table.new ↔ T.tells table.old }
+    ensures since { KeepsSince T.tells T.named T.there T.cell table.old table.new }
     ensures later { T.faults table.old ≤ T.faults table.new }
 {
     'aggs: for part in aggs {
@@ -234,7 +236,7 @@ fn change_row<T: Table>(
         (value : Value) → handed part.agg.field event.now ≡ Some value → Takes part.agg.func value →
         Unfit part.agg.func change value (T.cell table.old part.node key.now) }
     ensures disk { IsErrOf result TableFault.Disk → Rose (T.faults table.old) (T.faults table.new) }
-    ensures tells { T.tells table.new ↔ T.tells table.old }
+    ensures since { KeepsSince T.tells T.named T.there T.cell table.old table.new }
     ensures later { T.faults table.old ≤ T.faults table.new }
 {
     if part.agg.field == 0 {
@@ -262,7 +264,7 @@ fn change_value<T: Table>(
     ensures refuses { (n : ℕ) → IsErrOf result (TableFault.BadState n) → T.tells table.old → Takes part.agg.func value.now →
         Unfit part.agg.func change value.now (T.cell table.old part.node key.now) }
     ensures disk { IsErrOf result TableFault.Disk → Rose (T.faults table.old) (T.faults table.new) }
-    ensures tells { T.tells table.new ↔ T.tells table.old }
+    ensures since { KeepsSince T.tells T.named T.there T.cell table.old table.new }
     ensures later { T.faults table.old ≤ T.faults table.new }
 {
     if !takes(part.agg.func, value) {

@@ -15,6 +15,7 @@ ghost use Rattle.rg_engine.specs.Accepting.{IsPrepared, IsAccepted};
 ghost use Rattle.rg_engine.specs.Carrying.{CarriesOn, EdgesMove, Appends, ends_by};
 ghost use Rattle.rg_engine.specs.Faults.{WantsMemory, RefusesAlways};
 ghost use Rattle.rg_engine.specs.Passed.{AreAtPositions, passed_count};
+ghost use Rattle.rg_engine.specs.Since.{KeepsSince};
 ghost use Rattle.rg_engine.specs.Standing.{IsAtPosition, NodeStands, come};
 
 use crate::answering::{answer_each, make_keys, make_room};
@@ -167,6 +168,7 @@ impl<T: Table> Engine<T> {
         ensures edges { EdgesMove (P.sound past.old) (P.spells past.old) (P.spells past.new) (length (P.events past.new)) self.old.spots self.new.spots }
         ensures past { Kept P.goes P.sound P.ended P.faults past.old past.new }
         ensures rows { TableKept T.tells T.faults self.old.table self.new.table }
+        ensures since { KeepsSince T.tells T.named T.there T.cell self.old.table self.new.table }
     {
         if self.ended {
             drop(event);
@@ -256,6 +258,7 @@ impl<T: Table> Engine<T> {
         ensures edges { EdgesMove (P.sound past.old) (P.spells past.old) (P.spells past.new) (length (P.events past.new)) self.old.spots self.new.spots }
         ensures past { Kept P.goes P.sound P.ended P.faults past.old past.new }
         ensures rows { TableKept T.tells T.faults self.old.table self.new.table }
+        ensures since { KeepsSince T.tells T.named T.there T.cell self.old.table self.new.table }
     {
         if self.ended {
             return Err(EngineFault::Ended);
@@ -352,6 +355,7 @@ impl<T: Table> Engine<T> {
         ensures edges { EdgesMove (P.sound past.old) (P.spells past.old) (P.spells past.new) (length (P.events past.new)) self.old.spots self.new.spots }
         ensures past { Kept P.goes P.sound P.ended P.faults past.old past.new }
         ensures rows { TableKept T.tells T.faults self.old.table self.new.table }
+        ensures since { KeepsSince T.tells T.named T.there T.cell self.old.table self.new.table }
     {
         if self.ended {
             return Err(EngineFault::Ended);

@@ -7,6 +7,7 @@ ghost use Rattle.rg_past.specs.Keeping.{Kept, HasCause};
 ghost use Rattle.rg_state.specs.Keeping.{TableKept};
 ghost use Rattle.rg_window.specs.Placed.{AreWithin, IsSpelledAt, numbers_of};
 ghost use Rattle.rg_engine.specs.Carrying.{CarriesOn, EdgesMove};
+ghost use Rattle.rg_engine.specs.Since.{KeepsSince};
 ghost use Rattle.rg_engine.specs.Standing.{IsAtPosition, NodeStands, come};
 ghost use Rattle.rg_engine.specs.Parts.{ArePartsOf};
 
@@ -59,6 +60,7 @@ pub(crate) fn move_rows<P: Past, T: Table, L: Ledger>(
 
     ensures same_parts { rows.new.parts ≡ rows.old.parts }
     ensures rows { TableKept T.tells T.faults rows.old.table rows.new.table }
+    ensures since { KeepsSince T.tells T.named T.there T.cell rows.old.table rows.new.table }
     ensures same_offsets { edges.new.offsets ≡ edges.old.offsets }
     ensures same_length { length edges.new.spots ≡ length edges.old.spots }
     ensures edges { EdgesMove (P.sound past.old) (P.spells past.old) (P.spells past.new) (length (P.events past.new)) edges.old.spots edges.new.spots }
@@ -111,6 +113,7 @@ fn move_changer<'p, 'r, 's, P: Past, T: Table, L: Ledger>(
     ensures lent { (changer.new.rows.ghost_name ≡ changer.old.rows.ghost_name) × (changer.new.steps.ghost_name ≡ changer.old.steps.ghost_name) }
     ensures same_parts { changer.new.rows.now.parts ≡ changer.old.rows.now.parts }
     ensures rows { TableKept T.tells T.faults changer.old.rows.now.table changer.new.rows.now.table }
+    ensures since { KeepsSince T.tells T.named T.there T.cell changer.old.rows.now.table changer.new.rows.now.table }
     ensures same_offsets { edges.new.offsets ≡ edges.old.offsets }
     ensures same_length { length edges.new.spots ≡ length edges.old.spots }
     ensures edges { EdgesMove (P.sound past.old) (P.spells past.old) (P.spells past.new) (length (P.events past.new)) edges.old.spots edges.new.spots }

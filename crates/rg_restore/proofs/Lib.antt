@@ -8,3 +8,4 @@ pub mod RowKinds
 pub mod Saving
 pub mod Standing
 pub mod Trying
+pub mod Since

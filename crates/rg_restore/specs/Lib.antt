@@ -5,3 +5,4 @@ pub mod NamingLaws
 pub mod Opening
 pub mod Slots
 pub mod Truthful
+pub mod Since

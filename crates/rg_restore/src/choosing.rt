@@ -6,6 +6,7 @@ ghost use Rattle.rg_window.specs.Placed.{numbers_of};
 ghost use Rattle.rg_restore.specs.Choosing.{AreOrdered, IsChosen, candidate_of};
 ghost use Rattle.rg_restore.specs.Fit.{IsFit};
 ghost use Rattle.rg_restore.specs.Opening.{IsUsable};
+ghost use Rattle.rg_restore.specs.Since.{AreRowsIn};
 ghost use Rattle.rg_restore.specs.Slots.{slot_in, AreTruthful, HaveBegun, IsBest, IsFrom};
 ghost use Rattle.rg_restore.specs.Truthful.{IsTruthful};
 
@@ -120,6 +121,7 @@ pub(crate) fn begin<P: Names>(
     ensures from { P.told past.old → IfOk result (λ begun.
         IsFrom (IsFit (P.named past.old) queries.now fields.now plan.now (length (P.Past.events past.old))) (slot_in saved) begun.slot begun.checkpoint.count) }
     ensures begun { IfOk result (λ begun. HaveBegun plan.now.offsets (slot_in saved) begun.slot (numbers_of begun.checkpoint.spots)) }
+    ensures rows { IfOk result (λ begun. AreRowsIn (slot_in saved) begun.slot begun.checkpoint.rows) }
     ensures truthful { P.Past.sound past.old → (P.Past.ended past.old → ⊥) →
         AreTruthful (P.Past.spells past.old) queries.now plan.now (P.Past.events past.old) (slot_in saved) →
         IfOk result (λ begun. IsTruthful (P.Past.spells past.new) plan.now (P.Past.events past.new) begun.checkpoint) }

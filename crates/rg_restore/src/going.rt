@@ -7,6 +7,7 @@ ghost use Rattle.rg_past.specs.declared.past.PastFault.{PastFault};
 ghost use Rattle.rg_state.specs.Keeping.{TableKept};
 ghost use Rattle.rg_window.specs.Placed.{AreWithin, numbers_of};
 ghost use Rattle.rg_engine.specs.Passed.{passed_count};
+ghost use Rattle.rg_engine.specs.Since.{KeepsSince};
 ghost use Rattle.rg_engine.specs.Standing.{IsTold, NodeStands, come};
 ghost use Rattle.rg_restore.specs.Opening.{CanStand, IsGoing};
 ghost use Rattle.rg_restore.specs.Truthful.{StandsFor, SpotsAt, EngineStands};
@@ -61,6 +62,7 @@ pub(crate) fn go_on<P: Past, T: Table, L: Ledger>(
 
     ensures engine { IfOk result (λ engine. IsGoing plan (length (P.events past.new)) engine) }
     ensures table { IfOk result (λ engine. TableKept T.tells T.faults table engine.table) }
+    ensures since { IfOk result (λ engine. KeepsSince T.tells T.named T.there T.cell table engine.table) }
     ensures back { IfErr result (λ refused. TableKept T.tells T.faults table refused.1) }
     ensures events { P.events past.new ≡ P.events past.old }
     ensures room { P.has_room past.old → P.has_room past.new }

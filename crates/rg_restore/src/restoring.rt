@@ -3,7 +3,9 @@ ghost use Rattle.rg_bytes.specs.Counts.{Rose};
 ghost use Rattle.rg_event.specs.Rising.{last_time};
 ghost use Rattle.rg_past.specs.Keeping.{Kept, HasCause};
 ghost use Rattle.rg_past.specs.declared.past.PastFault.{PastFault};
+ghost use Rattle.rg_state.specs.Changes.{IsSince};
 ghost use Rattle.rg_state.specs.Keeping.{TableKept};
+ghost use Rattle.rg_state.specs.Rows.{at_in};
 ghost use Rattle.rg_window.specs.Placed.{numbers_of};
 ghost use Rattle.rg_engine.specs.Passed.{passed_count};
 ghost use Rattle.rg_engine.specs.Standing.{IsTold, NodeStands, come};
@@ -22,8 +24,9 @@ use std::alloc::Global;
 use std::sync::ledger::Ledger;
 
 /// An engine that goes on from a checkpoint, over a table without a row: the rows are moved into the
-/// table, and the edges are moved on from their spots to `last`, the time of the past's last event, in
-/// milliseconds, and 0 where there is none. Its count and its queries are not looked at.
+/// table, which is marked then, and the edges are moved on from their spots to `last`, the time of the
+/// past's last event, in milliseconds, and 0 where there is none. Its count and its queries are not
+/// looked at.
 ///
 /// Where the checkpoint is true of the past's events, the engine stands for all of them, and only those
 /// behind the checkpoint are passed. Each node is promised by itself, whatever the rows and spots of
@@ -71,6 +74,9 @@ pub fn restore<P: Past, T: Table, L: Ledger>(
     ensures not_ended { IfErr result (λ refused. refused.0 ≡ EngineFault.Ended → ⊥) }
 
     ensures engine { IfOk result (λ engine. IsGoing plan (length (P.events past.new)) engine) }
+
+    // What changed in the table is told since the rows of the checkpoint.
+    ensures since { T.tells table → IfOk result (λ engine. IsSince (at_in checkpoint.rows) (T.named engine.table) (T.there engine.table) (T.cell engine.table)) }
     ensures table { IfOk result (λ engine. TableKept T.tells T.faults table engine.table) }
     ensures back { IfErr result (λ refused. TableKept T.tells T.faults table refused.1) }
     ensures events { P.events past.new ≡ P.events past.old }

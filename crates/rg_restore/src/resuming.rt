@@ -10,6 +10,7 @@ ghost use Rattle.rg_engine.specs.Standing.{come};
 ghost use Rattle.rg_checkpoint.specs.declared.base.Checkpoint.{Checkpoint};
 ghost use Rattle.rg_restore.specs.Fit.{IsFit};
 ghost use Rattle.rg_restore.specs.Opening.{CanStand, IsEmpty, IsGoing};
+ghost use Rattle.rg_restore.specs.Since.{IsSinceSlot};
 ghost use Rattle.rg_restore.specs.Slots.{slot_in, AreTruthful, HaveBegun, IsBest, IsFrom};
 ghost use Rattle.rg_restore.specs.Truthful.{EngineStands, NodeGoes, NodeIsTrue};
 
@@ -92,6 +93,9 @@ pub fn resume<P: Names, T: Table, L: Ledger>(
     ensures not_ended { IfErr result (λ refused. refused.0 ≡ EngineFault.Ended → ⊥) }
 
     ensures engine { IfOk result (λ r. IsGoing plan (length (P.Past.events past.new)) r.0) }
+
+    // What changed in the table is told since the rows of the checkpoint that was used; without one, since it had none.
+    ensures since { T.tells table → IfOk result (λ r. IsSinceSlot (slot_in saved) r.1.slot (T.named r.0.table) (T.there r.0.table) (T.cell r.0.table)) }
     ensures table { IfOk result (λ r. TableKept T.tells T.faults table r.0.table) }
     ensures back { IfErr result (λ refused. TableKept T.tells T.faults table refused.1) }
     ensures events { P.Past.events past.new ≡ P.Past.events past.old }

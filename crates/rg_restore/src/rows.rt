@@ -2,21 +2,22 @@ ghost use Rattle.std.specs.Prelude.{◌≡◌, ℕ, OnOk, IsErrOf};
 ghost use Rattle.rg_bytes.specs.Counts.{Rose};
 ghost use Rattle.rg_past.specs.declared.past.PastFault.{PastFault};
 ghost use Rattle.rg_state.specs.Keeping.{TableKept};
-ghost use Rattle.rg_state.specs.Rows.{AreRising, Lists};
+ghost use Rattle.rg_state.specs.Rows.{AreRising};
 ghost use Rattle.rg_checkpoint.specs.Entries.{entries_of, AreFilled};
 ghost use Rattle.rg_restore.specs.Opening.{IsEmpty};
+ghost use Rattle.rg_restore.specs.Since.{IsMarkedAt};
 
 use rg_checkpoint::Row;
 use rg_engine::EngineFault;
 use rg_state::{Table, TableFault};
 
-/// Moves rows into a table without a row. None of them is copied. After a refusal the first ones of
-/// them are there.
+/// Moves rows into a table without a row, and marks it once all are there. None of them is copied. After
+/// a refusal the first ones of them are there.
 pub(crate) fn move_rows<T: Table>(table: &mut T, rows: Vec<Row>) -> Result<(), TableFault>
     requires rising { AreRising (entries_of rows.items) }
     requires filled { AreFilled (entries_of rows.items) }
     requires empty { T.tells table.old → IsEmpty (T.cell table.old) }
-    ensures lists { T.tells table.old → OnOk result (Lists (T.cell table.new) (entries_of rows.items)) }
+    ensures marked { T.tells table.old → OnOk result (IsMarkedAt (entries_of rows.items) (T.named table.new) (T.there table.new) (T.cell table.new)) }
     ensures no_bad { (n : ℕ) → IsErrOf result (TableFault.BadState n) → ⊥ }
     ensures disk { IsErrOf result TableFault.Disk → Rose (T.faults table.old) (T.faults table.new) }
     ensures kept { TableKept T.tells T.faults table.old table.new }
@@ -28,6 +29,7 @@ pub(crate) fn move_rows<T: Table>(table: &mut T, rows: Vec<Row>) -> Result<(), T
             Ok(()) => {}
         }
     }
+    table.mark();
     Ok(())
 }
 

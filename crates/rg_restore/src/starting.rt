@@ -3,7 +3,9 @@ ghost use Rattle.rg_bytes.specs.Counts.{Rose};
 ghost use Rattle.rg_event.specs.Rising.{last_time};
 ghost use Rattle.rg_past.specs.Keeping.{Kept, HasCause};
 ghost use Rattle.rg_past.specs.declared.past.PastFault.{PastFault};
+ghost use Rattle.rg_state.specs.Changes.{IsSince};
 ghost use Rattle.rg_state.specs.Keeping.{TableKept};
+ghost use Rattle.rg_state.specs.Rows.{at_in};
 ghost use Rattle.rg_window.specs.Placed.{numbers_of};
 ghost use Rattle.rg_engine.specs.Passed.{passed_count};
 ghost use Rattle.rg_engine.specs.Standing.{come};
@@ -29,6 +31,7 @@ pub(crate) fn at_start<P: Past>(
     plan: &TaskPlan,
 ) -> Result<Checkpoint, Memory>
     ensures count { IfOk result (λ checkpoint. checkpoint.count ≡ 0) }
+    ensures none { IfOk result (λ checkpoint. checkpoint.rows ≡ []) }
     ensures zeros { IfOk result (λ checkpoint. numbers_of checkpoint.spots ≡ map (λ _. 0) plan.now.offsets) }
     ensures usable { IfOk result (λ checkpoint. IsUsable plan.now (length (P.events past.now)) checkpoint) }
     ensures truthful { P.sound past.now → (P.ended past.now → ⊥) →
@@ -75,6 +78,9 @@ pub fn start<P: Past, T: Table, L: Ledger>(
     ensures not_ended { IfErr result (λ refused. refused.0 ≡ EngineFault.Ended → ⊥) }
 
     ensures engine { IfOk result (λ engine. IsGoing plan (length (P.events past.new)) engine) }
+
+    // What changed in the table is told since it had no row.
+    ensures since { T.tells table → IfOk result (λ engine. IsSince (at_in []) (T.named engine.table) (T.there engine.table) (T.cell engine.table)) }
     ensures table { IfOk result (λ engine. TableKept T.tells T.faults table engine.table) }
     ensures back { IfErr result (λ refused. TableKept T.tells T.faults table refused.1) }
     ensures events { P.events past.new ≡ P.events past.old }

@@ -12,6 +12,8 @@ mod listing;
 #[cfg(test)]
 mod open;
 #[cfg(test)]
+mod ordered;
+#[cfg(test)]
 mod real;
 #[cfg(test)]
 mod reply;

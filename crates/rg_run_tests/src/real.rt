@@ -1,7 +1,11 @@
+ghost use Rattle.std.specs.Prelude.{◌<◌};
+
 use rg_host::{Failed, Host, Source};
 use rg_real::{Access, FileSource, FolderHost, ReaderSource};
-use std::io;
 use std::io::{Read, Write};
+use std::os::unix::fs::symlink;
+use std::test::Fail;
+use std::{fs, io};
 
 /// Gives and takes one byte a call, but fails at its second.
 #[derive(Drop)]
@@ -143,7 +147,7 @@ fn a_reader_writes_and_makes_nothing(rt: HostRuntime) {
     let fails = host.write_at(2, 0, b"a") == Err(Failed) && host.sync(2) == Err(Failed);
     let is_told = host.disk_error().is_some();
     assert!(rt; is_empty && fails && is_told);
-    assert_eq!(rt; std::fs::exists(&rt, "unmade").ok(), Some(false));
+    assert_eq!(rt; fs::exists(&rt, "unmade").ok(), Some(false));
 }
 
 /// What a host gives for a file's length, while another one has the folder.
@@ -167,5 +171,45 @@ fn a_write_past_the_greatest_place_fails(rt: HostRuntime) -> Result<(), Failed> 
     let mut host = over(&rt, "long", Access::Write);
     assert_eq!(rt; host.write_at(2, 1 << 62, b"a"), Err(Failed));
     assert_eq!(rt; host.len(2)?, 0);
+    Ok(())
+}
+
+/// Whether each call on this file of this folder fails for a reader and for a writer, and is told.
+fn is_refused(rt: &HostRuntime, folder: &str, file: u32) -> bool
+    requires { file < 8 }
+{
+    let mut reader = over(rt, folder, Access::Read);
+    let mut writer = over(rt, folder, Access::Write);
+    let mut buf = [0; 2];
+    let unread = reader.len(file) == Err(Failed)
+        && reader.read_at(file, 0, &mut buf) == Err(Failed);
+    let unwritten = writer.write_at(file, 0, b"a") == Err(Failed)
+        && writer.sync(file) == Err(Failed);
+    unread && unwritten && reader.disk_error().is_some() && writer.disk_error().is_some()
+}
+
+/// Makes folders with a link to a file, one to nothing, a file with two names, and a folder in place of a file.
+fn make_odd(rt: &HostRuntime) -> io::Result<()> {
+    for folder in ["linked", "twice", "odd"] {
+        fs::create_dir(rt, folder)?;
+    }
+    fs::write(rt, "linked/other", b"abc".as_slice())?;
+    symlink(rt, "other", "linked/slot0")?;
+    symlink(rt, "nowhere", "linked/slot1")?;
+    fs::write(rt, "twice/events", b"abc".as_slice())?;
+    fs::hard_link(rt, "twice/events", "twice/slot1")?;
+    fs::create_dir(rt, "odd/events")
+}
+
+#[test]
+fn what_is_no_plain_file_with_one_name_is_refused(rt: HostRuntime) -> Result<(), Fail> {
+    make_odd(&rt)?;
+    let links = is_refused(&rt, "linked", 0) && is_refused(&rt, "linked", 1);
+    let names = is_refused(&rt, "twice", 1) && is_refused(&rt, "twice", 2);
+    assert!(rt; links && names && is_refused(&rt, "odd", 2));
+    // nothing was written, and with one name the file is taken
+    fs::remove_file(&rt, "twice/slot1")?;
+    let mut host = over(&rt, "twice", Access::Write);
+    assert_eq!(rt; host.len(2), Ok(3));
     Ok(())
 }

@@ -1,4 +1,6 @@
-use super::{CHECK, Setting, assert_outcome, outcome, sound};
+use super::stored::{assert_run, failing};
+use super::verified::verify;
+use super::{CHECK, Setting, assert_outcome, outcome, plan_of, sound};
 use rg_report::Status;
 use std::alloc::Global;
 use std::test::Fail;
@@ -112,4 +114,48 @@ fn a_plan_at_all_its_bounds_is_listed(rt: HostRuntime) -> Result<(), Fail> {
     );
     assert_eq!(rt; text.as_str().lines().last(), Some("agg 1023 63 sum(c23)"));
     Ok(())
+}
+
+/// A count by eight columns of text.
+const BY_TEXTS: &str =
+    "SELECT count(*) FROM payments GROUP BY a, b, c, d, e, f, g, h OVER INFINITE";
+
+const TEXT_COLUMNS: &str =
+    "\"ts\", \"a:text\", \"b:text\", \"c:text\", \"d:text\", \"e:text\", \"f:text\", \"g:text\", \"h:text\"";
+
+/// A row of eight texts of 255 bytes: each takes 257 bytes of a key, which has 2,056.
+fn longest_row(alloc: Global) -> Result<String, Fail> {
+    let mut row = String::from_str(alloc, "7")?;
+    for _ in 0..TEXTS {
+        let text = repeated(alloc, "x", 255)?;
+        write!(row, ",{text}")?;
+    }
+    row.push_str("\n")?;
+    Ok(row)
+}
+
+#[test]
+fn a_key_of_the_greatest_length_is_kept(rt: HostRuntime) -> Result<(), Fail> {
+    let alloc = rt.alloc();
+    let plan = plan_of(alloc, BY_TEXTS, TEXT_COLUMNS, "")?;
+    let row = longest_row(alloc)?;
+    let mut host = failing(alloc, &[])?;
+    let first = sound(plan.as_bytes(), row.as_bytes());
+    let put = "open 0 0 0\n0 ok 1\nstored 1\nsaved 1\ndone 1 1\n";
+    assert_run(&rt, &first, &mut host, put, Status::Ok)?;
+    // the checkpoint has its row, and the next line finds it
+    let next = Setting {
+        words: &["run", "plan", "store", "1"],
+        ..first
+    };
+    let put = "open 1 1 1\n1 ok 2\nstored 2\nsaved 2\ndone 2 2\n";
+    assert_run(&rt, &next, &mut host, put, Status::Ok)?;
+    let both = verify(plan.as_bytes());
+    assert_run(
+        &rt,
+        &both,
+        &mut host,
+        "slot 0 ok 1\nslot 1 ok 2\n",
+        Status::Ok,
+    )
 }

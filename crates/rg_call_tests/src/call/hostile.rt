@@ -1,6 +1,8 @@
 use super::dumped::LOG;
 use super::stored::{THREE, with_log};
-use super::verified::{COUNT_AT, SPOT_AT, files_of, host_of, with_byte, without_first_row};
+use super::verified::{
+    COUNT_AT, SPOT_AT, files_of, host_of, state_at, verified, with_byte, without_first_row,
+};
 use super::{PAYMENTS, SMALL, Setting, TOTALS, plan_of, sound, status_on};
 use rg_host::MemHost;
 use rg_report::Status;
@@ -83,6 +85,26 @@ fn an_unfit_slot_is_passed_over(rt: HostRuntime) -> Result<(), Fail> {
         let slot = with_byte(alloc, &files[0], at, byte)?;
         let mut host = host_of(alloc, &slot, &files[1], &files[2])?;
         assert_eq!(rt; first_line(alloc, &mut host)?.as_str(), "open 3 3 0");
+    }
+    Ok(())
+}
+
+/// Where the tag of a slot's payload stands, behind the gate and the length.
+const TAG_AT: usize = 9;
+
+#[test]
+fn a_slot_of_an_older_kind_is_none(rt: HostRuntime) -> Result<(), Fail> {
+    let alloc = rt.alloc();
+    let plan = plan_of(alloc, TOTALS, PAYMENTS, SMALL)?;
+    let [first, second, log] = files_of(alloc, plan.as_bytes(), THREE)?;
+    // a payload of another kind, and a state with a tag that was once written
+    for (at, byte) in [(TAG_AT, 0x41), (state_at(&first), 5), (state_at(&first), 6)] {
+        let slot = with_byte(alloc, &first, at, byte)?;
+        let (text, status, _) = verified(alloc, plan.as_bytes(), &slot, &second, &log)?;
+        let is_none = text.as_str() == "slot 0 none\nslot 1 none\n" && status == Status::Ok;
+        let mut host = host_of(alloc, &slot, &second, &log)?;
+        let line = first_line(alloc, &mut host)?;
+        assert!(rt; is_none && line.as_str() == "open 3 3 0", "{at} {byte}");
     }
     Ok(())
 }

@@ -12,7 +12,7 @@ use std::test::Fail;
 const VERIFY: [&str; 3] = ["verify", "plan", "store"];
 
 /// A verify by this plan that fails where it reads an input.
-fn verify<'a>(plan: &'a [u8]) -> Setting<'a> {
+pub(super) fn verify<'a>(plan: &'a [u8]) -> Setting<'a> {
     Setting {
         words: &VERIFY,
         plan,
@@ -36,6 +36,11 @@ fn place_of(bytes: &[u8], wanted: &[u8]) -> usize {
         }
     }
     bytes.len()
+}
+
+/// Where the tag of the state of the first row of a slot stands.
+pub(super) fn state_at(slot: &[u8]) -> usize {
+    place_of(slot, &COUNT).saturating_add(4)
 }
 
 /// The files that a run over this input by this plan leaves.
@@ -91,7 +96,7 @@ pub(super) fn without_first_row(alloc: Global, slot: &[u8]) -> Result<Vec<u8>, F
 }
 
 /// What a verify by this plan puts over these files, its status, and whether the files are as they were.
-fn verified(
+pub(super) fn verified(
     alloc: Global,
     plan: &[u8],
     first: &[u8],

@@ -3,6 +3,7 @@ use Rattle.std.specs.Prelude.{Err, IsErrOf}
 use Rattle.rg_plan.specs.Named.{node_at}
 use Rattle.rg_engine.specs.Answering.{node_answers}
 use Rattle.rg_engine.specs.Standing.{RowIs}
+use Rattle.rg_engine.proofs.Since.{keeps_looked, keeps_then}
 use Rattle.rg_engine.proofs.Answered.{answered_at, row_at, one_more}
 use Rattle.rg_engine.proofs.answering.answer_each.Goals as goal
 
@@ -25,6 +26,7 @@ nodes-preserved g c =
       count = omega (arith, ap length c.push_reserved.ensures.items, length-append c.nodes.answers.items (c.in-Ok.answer ∷ []), i.count);
       room = c.push_reserved.ensures.capacity ∙ i.room;
       same = λ told m q. made.same (i.tells.1 told) m q ∙ i.same told m q;
+      since = keeps_then _ _ _ _ _ _ _ i.since (keeps_looked _ _ _ _ _ _ made.tells made.same made.same_named made.same_there);
       tells = (λ told. i.tells.0 (made.tells.0 told), λ told. made.tells.1 (i.tells.1 told));
       later = omega arith;
     }
@@ -43,3 +45,8 @@ returns-in-Err-clause-bad g c = λ m bad told plan events e whole same stands.
     let row = row_at plan events e c.args.aggs.now n _ key (g.T.Table.cell c.nodes.table n key) whole same in_range
     (subst (λ row. RowIs (node_at plan n) key e.time events row) (sym (i.same told n key)) (subst (λ k. RowIs (node_at plan k) key e.time events (g.T.Table.cell c.args.table.now k key)) here (stands key))) in
     c.in-Err.ensures.unfit m (err_as bad) (i.tells.1 told) row.0 row.1
+
+pub returns-in-Err-clause-since : goal.returns-in-Err-clause-since
+returns-in-Err-clause-since g c =
+    let refused = c.in-Err.ensures in
+    keeps_then _ _ _ _ _ _ _ c.nodes.invariant.since (keeps_looked _ _ _ _ _ _ refused.tells refused.same refused.same_named refused.same_there)

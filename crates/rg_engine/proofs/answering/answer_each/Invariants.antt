@@ -5,6 +5,7 @@ use Rattle.rg_plan.specs.Plans.{Tasks}
 use Rattle.rg_plan.specs.Whole.{IsWhole}
 use Rattle.rg_state.specs.Rows.{Same}
 use Rattle.rg_engine.specs.Answering.{keys_for, node_answers}
+use Rattle.rg_engine.specs.Since.{KeepsSince}
 use Rattle.rg_engine.specs.Standing.{RowIs}
 use Rattle.rg_engine.proofs.answering.answer_each.Given as goal
 
@@ -16,6 +17,7 @@ invariant-nodes g l = record {
   count : length l.answers.items ≡ length l.initial.answers.items + l.node-index;
   room : vec_capacity l.answers ≡ vec_capacity l.initial.answers;
   same : g.T.Table.tells l.initial.table → Same (g.T.Table.cell l.initial.table) (g.T.Table.cell l.table);
+  since : KeepsSince g.T.Table.tells g.T.Table.named g.T.Table.there g.T.Table.cell l.initial.table l.table;
   tells : g.T.Table.tells l.table ↔ g.T.Table.tells l.initial.table;
   later : g.T.Table.faults l.initial.table ≤ g.T.Table.faults l.table;
 }

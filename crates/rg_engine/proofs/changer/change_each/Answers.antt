@@ -1,4 +1,5 @@
 use Rattle.std.proofs.Common.{refl, arith}
+use Rattle.rg_engine.proofs.Since.{keeps_then}
 use Rattle.rg_engine.proofs.Doing.{done_one, done_more, stuck_one, stuck_more}
 use Rattle.rg_engine.specs.Parts.{node_under, node_if}
 use Rattle.std.specs.Prelude.{◌==◌}
@@ -13,8 +14,8 @@ aggs-preserved g c =
           done_more q offset c.args.event.now (λ part. node_if (part.node == n) (node_under window condition columns part)) c.args.aggs.now c.aggs.part-index _ _ c.aggs-test.true refl _ _ _
           (i.done told window condition columns offset is of_event n q)
           (done_one window condition columns offset c.args.change c.args.event.now _ c.args.key.now (g.T.Table.cell c.aggs.table) (g.T.Table.cell c.change_row.new.table) n q is of_event
-          (made.does (i.tells.1 told)) (made.others (i.tells.1 told)));
-      tells = (λ told. i.tells.0 (made.tells.0 told), λ told. made.tells.1 (i.tells.1 told));
+          (made.does (i.since.tells.1 told)) (made.others (i.since.tells.1 told)));
+      since = keeps_then _ _ _ _ _ _ _ i.since made.since;
       later = omega arith;
     }
 
@@ -27,5 +28,8 @@ returns-in-Err-clause-stuck g c = λ n bad told window condition columns offset 
       stuck_more key offset c.args.event.now (λ part. node_if (part.node == n) (node_under window condition columns part)) c.args.aggs.now c.aggs.part-index _ _ c.aggs-test.true refl _ _
           (i.done told window condition columns offset is of_event n key)
           (stuck_one window condition columns offset c.args.change c.args.event.now _ key (g.T.Table.cell c.aggs.table) (g.T.Table.cell c.aggs.table) n here is of_event
-          (c.in-Err.ensures.refuses n bad (i.tells.1 told))),
+          (c.in-Err.ensures.refuses n bad (i.since.tells.1 told))),
     )
+
+pub returns-in-Err-clause-since : goal.returns-in-Err-clause-since
+returns-in-Err-clause-since g c = keeps_then _ _ _ _ _ _ _ c.aggs.invariant.since c.in-Err.ensures.since

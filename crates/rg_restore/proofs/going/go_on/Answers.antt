@@ -1,4 +1,4 @@
-use Rattle.std.proofs.Common.{Err, ◌≡◌, ◌∙◌, length, ap, sym, arith, subst}
+use Rattle.std.proofs.Common.{Err, ◌≡◌, ◌∙◌, length, ap, sym}
 use Rattle.std.proofs.lemmas.Option.{slice_get_within}
 use Rattle.rg_plan.specs.Plans.{Tasks}
 use Rattle.rg_restore.proofs.Placing.{are_at, spelled_in, all_later, node_stands, node_told}
@@ -51,3 +51,6 @@ returns-clause-spelled g c =
     let many : length c.replay.new.self.spots ≡ length c.args.spots.now =
     c.spots-spots.ensures.same ∙ ap (λ (p : Tasks). length p.offsets) (c.in-Ok-replay.ensures.plan ∙ c.in-Ok.ensures.plan) ∙ sym c.requires.same in
     λ sound all. all_later (g.P.Past.spells c.args.past.now) (g.P.Past.spells c.replay.new.past) c.args.spots.now c.replay.new.self.spots many (later sound) all
+
+pub returns-clause-since : goal.returns-clause-since
+returns-clause-since g c = rw (c.in-Ok.ensures.table) at c.in-Ok-replay.ensures.since

@@ -89,3 +89,6 @@ returns-clause-spelled g c = λ sound runs.
       | inr best ↦ All-weaker (g.P.Names.named c.args.past.now) (g.P.Past.spells c.begin.new.past) (λ spot named. (c.begin.ensures.spells spot).1 ((g.met.P.Names.sound_named c.args.past.now spot sound).0 named)) c.in-Ok.begun.checkpoint.spots best.1.fit.spelled
     ] in
     c.in-Ok-restore.ensures.spelled (c.begin.ensures.past.sound sound) spelled
+
+pub returns-clause-since : goal.returns-clause-since
+returns-clause-since g c = λ told. (c.in-Ok.begun.checkpoint.rows, c.in-Ok.ensures.rows, c.in-Ok-restore.ensures.since told)

@@ -1,4 +1,6 @@
-use Rattle.std.proofs.Common.{◌∙◌, ◌+◌, take, ap}
+use Rattle.std.proofs.Common.{◌∙◌, ◌+◌, take, ap, subst}
+use Rattle.rg_state.specs.Changes.{IsSince}
+use Rattle.rg_state.specs.Rows.{at_in}
 use Rattle.rg_engine.specs.Passed.{passed_count}
 use Rattle.rg_restore.proofs.starting.start.Goals as goal
 
@@ -9,3 +11,8 @@ returns-clause-passed g c = λ sound runs last.
 
 pub returns-in-Err-restore-clause-never_damaged : goal.returns-in-Err-restore-clause-never_damaged
 returns-in-Err-restore-clause-never_damaged g c = λ place sound runs is. c.in-Err-restore.ensures.never_damaged place sound (c.in-Ok.ensures.truthful sound runs).spots.spelled is
+
+pub returns-clause-since : goal.returns-clause-since
+returns-clause-since g c = λ told.
+    let table = c.in-Ok-restore.engine.table in
+    subst (λ rows. IsSince (at_in rows) (g.T.Table.named table) (g.T.Table.there table) (g.T.Table.cell table)) c.in-Ok.ensures.none (c.in-Ok-restore.ensures.since told)

@@ -9,6 +9,7 @@ use Rattle.rg_engine.specs.Answering.{keys_for, node_answers}
 use Rattle.rg_engine.specs.Feeding.{IsFed}
 use Rattle.rg_engine.proofs.Taken.{last_of, stands_same, stands_events, row_stands, answers_are, asked_within}
 use Rattle.rg_engine.proofs.Plain.{same_fault}
+use Rattle.rg_engine.proofs.Since.{keeps_then}
 use Rattle.rg_engine.proofs.engine.Engine.answer.Goals as goal
 
 pub answer_each-requires-clause-nodes : goal.answer_each-requires-clause-nodes
@@ -51,3 +52,9 @@ returns-in-Err-answer_each-clause-bad g c = rw (← c.self.view_is) (λ n first 
     let after = moved.stands n first (ap last_time is ∙ last_of front event) on in
     c.in-Err-answer_each.ensures.bad n (ap Err (c.table_fault.ensures.bad n (same_fault bad))) (moved.rows.tells.1 on.tells) plan (front ++ event ∷ []) event c.self.invariant.whole (sym c.aggs.ensures.aggs)
     (λ key. row_stands plan n (g.P.Past.events c.args.past.now) (front ++ event ∷ []) event.time (g.T.Table.cell c.move_rows.new.rows.table) _ is (last_of front event) after key))
+
+pub returns-clause-since : goal.returns-clause-since
+returns-clause-since g c = rw (← c.self.view_is) (keeps_then _ _ _ _ _ _ _ c.in-Ok-move_rows.ensures.since c.in-Ok-answer_each.ensures.since)
+
+pub returns-in-Err-answer_each-clause-since : goal.returns-in-Err-answer_each-clause-since
+returns-in-Err-answer_each-clause-since g c = rw (← c.self.view_is) (keeps_then _ _ _ _ _ _ _ c.in-Ok-move_rows.ensures.since c.in-Err-answer_each.ensures.since)

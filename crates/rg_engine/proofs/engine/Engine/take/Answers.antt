@@ -14,6 +14,7 @@ use Rattle.rg_engine.specs.Carrying.{is_ending}
 use Rattle.rg_engine.proofs.Taken.{not_bad, not_damaged, not_table, not_ended, refused_always, refused_cause, ends_true, edges_from, edges_still, last_of, stands_same, stands_events, row_stands, carried_on, spelled_later, spelled_at, numbers_same, front_and_more, answers_are, asked_within}
 use Rattle.rg_engine.proofs.Passed.{steps_passed}
 use Rattle.rg_engine.proofs.Plain.{same_fault}
+use Rattle.rg_engine.proofs.Since.{keeps_then}
 use Rattle.rg_engine.proofs.engine.Engine.take.Goals as goal
 
 pub answer_each-requires-clause-nodes : goal.answer_each-requires-clause-nodes
@@ -159,3 +160,9 @@ returns-in-Err-clause-edges g c =
     let refused = c.in-Err.ensures in
     let within = rw (← c.self.view_is) at c.requires.within in
     rw (← c.self.view_is) (edges_still _ _ _ _ _ _ within (ap length refused.accepted.same) (λ sound spot spells. g.met.P.Past.stays_spelled _ _ spot refused.past.goes sound spells))
+
+pub returns-clause-since : goal.returns-clause-since
+returns-clause-since g c = rw (← c.self.view_is) (keeps_then _ _ _ _ _ _ _ c.in-Ok-move_rows.ensures.since c.in-Ok-answer_each.ensures.since)
+
+pub returns-in-Err-answer_each-clause-since : goal.returns-in-Err-answer_each-clause-since
+returns-in-Err-answer_each-clause-since g c = rw (← c.self.view_is) (keeps_then _ _ _ _ _ _ _ c.in-Ok-move_rows.ensures.since c.in-Err-answer_each.ensures.since)

@@ -1,0 +1,195 @@
+use rg_host::Host;
+use rg_real::{Access, FolderHost, Hold};
+use std::alloc::Allocator;
+use std::cell::RefCell;
+use std::fs::{File, Metadata, OpenFile, OpenOptions, TryLockError};
+use std::io;
+use std::io::{Read, Seek, SeekFrom, Write};
+use std::os::unix::fs::FileExt;
+use std::rc::Rc;
+use std::rt::Files;
+use std::test::Fail;
+
+/// What was asked of a folder that changes it or brings it to the disk, a line each, in order.
+type Notes = Rc<RefCell<String>>;
+
+/// Adds a line to the notes. One that finds no room is left out, and a test then fails.
+fn note(notes: &Notes, what: &str, path: &str) {
+    if let Ok(mut text) = notes.try_borrow_mut() {
+        for part in [what, " ", path, "\n"] {
+            let _ = text.push_str(part);
+        }
+    }
+}
+
+/// The real files, with notes of what is asked of them.
+#[derive(Drop)]
+struct Noting {
+    rt: HostRuntime,
+    notes: Notes,
+}
+
+/// A real file, with notes of what is asked of it.
+#[derive(Drop)]
+struct NotedFile {
+    file: File,
+    path: String,
+    notes: Notes,
+}
+
+impl Read for NotedFile {
+    fn read(&mut self, buf: &mut [u8]) -> io::Result<usize> {
+        self.file.read(buf)
+    }
+}
+
+impl Write for NotedFile {
+    fn write(&mut self, buf: &[u8]) -> io::Result<usize> {
+        self.file.write(buf)
+    }
+
+    fn flush(&mut self) -> io::Result<()> {
+        self.file.flush()
+    }
+}
+
+impl Seek for NotedFile {
+    fn seek(&mut self, to: SeekFrom) -> io::Result<u64> {
+        self.file.seek(to)
+    }
+}
+
+impl OpenFile for NotedFile {
+    fn metadata(&self) -> io::Result<Metadata> {
+        self.file.metadata()
+    }
+
+    fn set_len(&self, size: u64) -> io::Result<()> {
+        note(&self.notes, "cut", self.path.as_str());
+        self.file.set_len(size)
+    }
+
+    fn sync_all(&self) -> io::Result<()> {
+        note(&self.notes, "sync", self.path.as_str());
+        self.file.sync_all()
+    }
+
+    fn sync_data(&self) -> io::Result<()> {
+        note(&self.notes, "sync data", self.path.as_str());
+        self.file.sync_data()
+    }
+}
+
+impl FileExt for NotedFile {
+    fn read_at(&self, buf: &mut [u8], offset: u64) -> io::Result<usize> {
+        self.file.read_at(buf, offset)
+    }
+
+    fn write_at(&self, buf: &[u8], offset: u64) -> io::Result<usize> {
+        note(&self.notes, "write", self.path.as_str());
+        self.file.write_at(buf, offset)
+    }
+}
+
+impl Hold for NotedFile {
+    fn hold(&self) -> Result<(), TryLockError> {
+        note(&self.notes, "hold", self.path.as_str());
+        self.file.hold()
+    }
+}
+
+impl Files for Noting {
+    type File = NotedFile;
+
+    type Dir = <HostRuntime as Files>::Dir;
+
+    fn open_file(&self, how: &OpenOptions, path: &str) -> io::Result<NotedFile> {
+        if how.asks_write() {
+            note(&self.notes, "make", path);
+        }
+        Ok(NotedFile {
+            file: self.rt.open_file(how, path)?,
+            path: String::from_str(self.rt.alloc(), path)?,
+            notes: self.notes.clone()?,
+        })
+    }
+
+    fn open_dir(&self, path: &str) -> io::Result<Self::Dir> {
+        self.rt.open_dir(path)
+    }
+
+    fn metadata(&self, path: &str) -> io::Result<Metadata> {
+        self.rt.metadata(path)
+    }
+
+    fn symlink_metadata(&self, path: &str) -> io::Result<Metadata> {
+        self.rt.symlink_metadata(path)
+    }
+
+    fn copy(&self, from: &str, to: &str) -> io::Result<u64> {
+        note(&self.notes, "copy", to);
+        self.rt.copy(from, to)
+    }
+
+    fn rename(&self, from: &str, to: &str) -> io::Result<()> {
+        note(&self.notes, "rename", to);
+        self.rt.rename(from, to)
+    }
+
+    fn remove_file(&self, path: &str) -> io::Result<()> {
+        note(&self.notes, "remove", path);
+        self.rt.remove_file(path)
+    }
+
+    fn create_dir(&self, path: &str) -> io::Result<()> {
+        note(&self.notes, "make", path);
+        self.rt.create_dir(path)
+    }
+
+    fn remove_dir(&self, path: &str) -> io::Result<()> {
+        note(&self.notes, "remove", path);
+        self.rt.remove_dir(path)
+    }
+
+    fn remove_dir_all<B: Allocator>(&self, alloc: B, path: &str) -> io::Result<()> {
+        note(&self.notes, "remove", path);
+        self.rt.remove_dir_all(alloc, path)
+    }
+}
+
+/// What is noted while a host over this folder syncs its log, writes it, syncs it again, and syncs a slot.
+fn notes_of(rt: HostRuntime, folder: &str) -> Result<String, Fail> {
+    let notes = Rc::new(rt.alloc(), RefCell::new(String::new(rt.alloc())))?;
+    let files = Noting {
+        rt,
+        notes: notes.clone()?,
+    };
+    let mut host = FolderHost::new(&files, rt.alloc(), folder, Access::Write, io::sink());
+    let _ = host.sync(2);
+    let _ = host.write_at(2, 0, b"abc");
+    let _ = host.sync(2);
+    let _ = host.sync(0);
+    match notes.try_borrow() {
+        Ok(text) => Ok(String::from_str(rt.alloc(), text.as_str())?),
+        Err(_) => Ok(String::new(rt.alloc())),
+    }
+}
+
+#[test]
+fn a_store_is_made_and_stored_in_order(rt: HostRuntime) -> Result<(), Fail> {
+    // the folder and its name in the one above, the files, and at a file's first sync its name too
+    let made = "make ordered\nsync ordered/..\n";
+    let opened =
+        "make ordered/events\nhold ordered/events\nmake ordered/slot0\nmake ordered/slot1\n";
+    let synced =
+        "sync ordered/events\nsync ordered/.\nwrite ordered/events\nsync data ordered/events\nsync ordered/slot0\nsync ordered/.\n";
+    let first = format!(in rt.alloc(); "{made}{opened}{synced}")?;
+    assert_eq!(rt; notes_of(rt, "ordered")?.as_str(), first.as_str());
+    // a store that is there is not made again, and its names are stored again
+    let again = format!(in rt.alloc(); "{opened}{synced}")?;
+    assert_eq!(rt; notes_of(rt, "ordered")?.as_str(), again.as_str());
+    // a folder without a log may be one whose name wasn't stored
+    std::fs::remove_file(&rt, "ordered/events")?;
+    assert_eq!(rt; notes_of(rt, "ordered")?.as_str(), first.as_str());
+    Ok(())
+}

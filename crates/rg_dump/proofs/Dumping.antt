@@ -8,7 +8,7 @@ use Rattle.rg_host.specs.Puts.{IsPrefix, StopsWith}
 use Rattle.rg_host.proofs.Endings.{ended-append}
 use Rattle.rg_frame.specs.Looks.{IsClosed}
 use Rattle.rg_reservoir.specs.Heads.{nothing}
-use Rattle.rg_reservoir.specs.Walked.{place_of, schema_of as known_of, tally_of, IsNext, IsRefusedWalk}
+use Rattle.rg_reservoir.specs.Walked.{place_of, so_far_of, schema_of as known_of, tally_of, IsNext, IsRefusedWalk}
 use Rattle.rg_reservoir.specs.declared.walk.Stage.{Stage}
 use Rattle.rg_reservoir.specs.declared.walk.Walk.{Walk}
 use Rattle.rg_reservoir.specs.declared.fault.ReservoirFault.{ReservoirFault}
@@ -72,7 +72,7 @@ module _ (now mid : Option Image) (same : mid ≡ now) (Old Step New : List ℕ 
   cut W s old new failed p next part prefix put = λ v told.
       let at = at_next (v 2) s old new p.stages (p.at v told) (next v (same ∙ told)) in
       let lines = all_lines p.stages in
-      let rest = all_lines (stages_from at.most (place_of new) (known_of new) (tally_of new) (v 2)).stages in
+      let rest = all_lines (stages_from at.most (place_of new) (so_far_of new) (v 2)).stages in
       let text : dump_text (v 2) ≡ (lines ++ stage_lines s) ++ rest = ap all_lines at.are ∙ all_lines-append (p.stages ++ s ∷ []) _ ∙ ap (λ (l : List (List ℕ)). l ++ rest) (all_lines-push p.stages s) in
       let all : ended (dump_text (v 2)) ≡ ended lines ++ (ended (stage_lines s) ++ ended rest) =
       ap ended text ∙ ended-append (lines ++ stage_lines s) rest ∙ ap (λ (l : List ℕ). l ++ ended rest) (ended-append lines (stage_lines s)) ∙ append_assoc (ended lines) (ended (stage_lines s)) (ended rest) in

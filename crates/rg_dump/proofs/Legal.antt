@@ -1,5 +1,5 @@
 -- The frames of a legal log, and its dump.
-use Rattle.std.proofs.Common.{◌≡◌, ◌∙◌, inr, ℕ, zero, suc, ◌+◌, ◌≤◌, List, [], ◌∷◌, ◌++◌, length, map, Option, Some, None, option_map, refl, sym, ap, subst, arith, append_assoc}
+use Rattle.std.proofs.Common.{◌≡◌, ◌∙◌, inr, ℕ, zero, suc, ◌+◌, ◌≤◌, List, [], ◌∷◌, ◌++◌, length, map, Option, Some, None, refl, sym, ap, subst, arith, append_assoc}
 use Rattle.std.proofs.lemmas.List.{map-append, append-nil}
 use Rattle.rg_event.specs.Shapes.{Shape, IsSchema, schema_text}
 use Rattle.rg_event.specs.declared.event.Event.{Event}
@@ -11,17 +11,21 @@ use Rattle.rg_chunk.specs.Chunks.{chunk_of}
 use Rattle.rg_chunk.specs.Heads.{head_of}
 use Rattle.rg_log.specs.Log.{schema_payload, chunks_of, joined, HasChunks, HasEvents, HasSchemaFrame, IsLegalLog}
 use Rattle.rg_log.proofs.Growing.{Parted, part}
-use Rattle.rg_log.proofs.Reading.{schema_said}
-use Rattle.rg_reservoir.specs.Heads.{nothing, told_by, Heads}
-use Rattle.rg_reservoir.specs.declared.heads.Tally.{Tally}
+use Rattle.rg_log.specs.Entries.{nothing, told_by, unread, behind}
+use Rattle.rg_log.specs.declared.entry.LogSoFar.{LogSoFar}
+use Rattle.rg_reservoir.specs.Walked.{stage_after}
+use Rattle.rg_reservoir.specs.declared.walk.Stage.{Stage}
+use Rattle.rg_reservoir.specs.Heads.{Heads}
+use Rattle.rg_log.specs.declared.summary.LogSummary.{LogSummary}
 use Rattle.rg_reservoir.specs.declared.walk.Stage.TheVariants as stage
 use Rattle.rg_reservoir.proofs.Attaching.{legal_not_bad}
 use Rattle.rg_reservoir.proofs.Committing.{log_at}
 use Rattle.rg_reservoir.proofs.Heading.{heads_push}
 use Rattle.rg_reservoir.proofs.Legal.{laid}
+use Rattle.rg_reservoir.proofs.Walking.{schema_step, chunk_step}
 use Rattle.rg_reservoir.proofs.Listing.{log_of}
 use Rattle.rg_dump.specs.Rows.{row_line}
-use Rattle.rg_dump.specs.Stages.{Stages, Part, schema_part, chunk_part, part_of, before, with_part, stages_from, stages_of}
+use Rattle.rg_dump.specs.Stages.{Stages, before, with_frame, stages_from, stages_of}
 use Rattle.rg_dump.specs.Dump.{all_lines, dump_text}
 use Rattle.rg_dump.proofs.Reading.{some_none, payload_open, payload_gate, reads_end}
 
@@ -30,12 +34,12 @@ closed_behind : (payloads : List (List ℕ)) (place : ℕ) (bytes : List ℕ) �
 closed_behind payloads place bytes has is = (log_at payloads place bytes (log_of payloads place bytes has is)).closed
 
 -- a frame whose payload is that part, and then what stands behind it
-frame_read : (most place : ℕ) (schema : Option Shape) (tally : Tally) (bytes payload : List ℕ) (p : Part) → payload_at place bytes ≡ Some payload → part_of schema tally payload ≡ Some p
-    → stages_from (suc most) place schema tally bytes ≡ before p.is (stages_from most (place + 9 + length payload) p.schema p.tally bytes)
+frame_read : (most place : ℕ) (so_far next : LogSoFar) (bytes payload : List ℕ) (s : Stage) → payload_at place bytes ≡ Some payload → stage_after so_far payload ≡ Some (s, next)
+    → stages_from (suc most) place so_far bytes ≡ before s (stages_from most (place + 9 + length payload) next bytes)
 unfolding stages_from
-frame_read most place schema tally bytes payload p here is =
+frame_read most place so_far next bytes payload s here is =
     rw ((payload_open place bytes payload here).0, here)
-    (ap (λ (o : Option Part). with_part place o (λ (part : Part). stages_from most (place + 9 + length payload) part.schema part.tally bytes)) is)
+    (ap (λ (o : Option (Stage × LogSoFar)). with_frame place o (λ (said : LogSoFar). stages_from most (place + 9 + length payload) said bytes)) is)
 
 same_payload : (place : ℕ) (bytes p q : List ℕ) → payload_at place bytes ≡ Some p → payload_at place bytes ≡ Some q → p ≡ q
 same_payload place bytes p q here also = let e : Some p ≡ Some q = sym here ∙ also in cc
@@ -48,7 +52,7 @@ module _ (shape : Shape) (events : List Event) (bytes : List ℕ) (schema : IsSc
   first = 9 + length (schema_payload shape)
 
   -- a chunk of a legal log continues those before it
-  follows : (done : List (List ℕ)) (place : ℕ) (tally : Tally) (p : List ℕ) → Heads bytes first nothing done place tally → payload_at place bytes ≡ Some p → told_by tally (head_of p) ≡ None → ⊥
+  follows : (done : List (List ℕ)) (place : ℕ) (tally : LogSummary) (p : List ℕ) → Heads bytes first nothing done place tally → payload_at place bytes ≡ Some p → told_by tally (head_of p) ≡ None → ⊥
   follows done place tally p heads at none = legal_not_bad shape events place bytes schema (laid shape events bytes legal) (inr (
     first,
     here,
@@ -62,12 +66,12 @@ module _ (shape : Shape) (events : List Event) (bytes : List ℕ) (schema : IsSc
     },
   ))
 
-  chunks_read : (most : ℕ) (front done rest : List (List ℕ)) (chunks : List (List Event)) (place : ℕ) (tally : Tally) → HasPayloads (front ++ rest) bytes → place ≡ length (frames front) → length bytes ≤ place + most
-      → chunks_of shape.fields rest ≡ Some chunks → Heads bytes first nothing done place tally → stages_from most place (Some shape) tally bytes ≡ all_chunks chunks
+  chunks_read : (most : ℕ) (front done rest : List (List ℕ)) (chunks : List (List Event)) (place : ℕ) (tally : LogSummary) → HasPayloads (front ++ rest) bytes → place ≡ length (frames front) → length bytes ≤ place + most
+      → chunks_of shape.fields rest ≡ Some chunks → Heads bytes first nothing done place tally → stages_from most place (behind shape tally) bytes ≡ all_chunks chunks
   chunks_read most front done [] chunks place tally has is enough said heads =
       let none : chunks ≡ [] = cc in
       let whole : HasPayloads front bytes = subst (λ (l : List (List ℕ)). HasPayloads l bytes) (append-nil front) has in
-      reads_end most place (Some shape) tally bytes (closed_behind front place bytes whole is) ∙ ap all_chunks (sym none)
+      reads_end most place (behind shape tally) bytes (closed_behind front place bytes whole is) ∙ ap all_chunks (sym none)
   chunks_read zero front done (p ∷ rest) chunks place tally has is enough said heads =
       absurd (omega (arith, enough, (payload_open place bytes p (subst (λ (n : ℕ). payload_at n bytes ≡ Some p) (sym is) (payload_between front rest p bytes has))).1))
   chunks_read (suc most) front done (p ∷ rest) chunks place tally has is enough said heads =
@@ -82,12 +86,11 @@ module _ (shape : Shape) (events : List Event) (bytes : List ℕ) (schema : IsSc
       at : payload_at place bytes ≡ Some p
       at = subst (λ (n : ℕ). payload_at n bytes ≡ Some p) (sym is) (payload_between front rest p bytes has)
 
-      by : (o : Option Tally) → told_by tally (head_of p) ≡ o → ((next : Tally) → told_by tally (head_of p) ≡ Some next → stages_from most (place + 9 + length p) (Some shape) next bytes ≡ all_chunks f.more)
-          → stages_from (suc most) place (Some shape) tally bytes ≡ all_chunks chunks
+      by : (o : Option LogSummary) → told_by tally (head_of p) ≡ o → ((next : LogSummary) → told_by tally (head_of p) ≡ Some next → stages_from most (place + 9 + length p) (behind shape next) bytes ≡ all_chunks f.more)
+          → stages_from (suc most) place (behind shape tally) bytes ≡ all_chunks chunks
       by None none more = absurd (follows done place tally p heads at none)
       by (Some next) told more =
-          frame_read most place (Some shape) tally bytes p (record { is = stage.Chunk f.chunk; schema = Some shape; tally = next }) at
-          (ap (λ (o : Option (List Event)). chunk_part shape o (told_by tally (head_of p))) f.chunk_is ∙ ap (λ (o : Option Tally). chunk_part shape (Some f.chunk) o) told)
+          frame_read most place (behind shape tally) (behind shape next) bytes p (stage.Chunk f.chunk) at (chunk_step shape tally next p f.chunk f.chunk_is told)
           ∙ ap (before (stage.Chunk f.chunk)) (more next told)
           ∙ ap all_chunks (sym f.is)
 
@@ -98,11 +101,10 @@ legal_stages shape chunks bytes framed legal = by legal.payloads legal.has legal
     here : payload_at 0 bytes ≡ Some (schema_payload shape)
     here = payload_between [] framed.0 (schema_payload shape) bytes framed.1
 
-    start : (n : ℕ) (rest : List (List ℕ)) → length bytes ≡ n → HasPayloads (schema_payload shape ∷ rest) bytes → chunks_of shape.fields rest ≡ Some chunks → stages_from n 0 None nothing bytes ≡ before (stage.Schema shape) (all_chunks chunks)
+    start : (n : ℕ) (rest : List (List ℕ)) → length bytes ≡ n → HasPayloads (schema_payload shape ∷ rest) bytes → chunks_of shape.fields rest ≡ Some chunks → stages_from n 0 unread bytes ≡ before (stage.Schema shape) (all_chunks chunks)
     start zero rest long has said = absurd (omega (arith, long, (payload_open 0 bytes (schema_payload shape) here).1))
     start (suc most) rest long has said =
-        frame_read most 0 None nothing bytes (schema_payload shape) (schema_part nothing shape) here
-        (ap (λ (o : Option Shape). option_map (schema_part nothing) o) (schema_said shape legal.schema))
+        frame_read most 0 unread (behind shape nothing) bytes (schema_payload shape) (stage.Schema shape) here (schema_step shape legal.schema)
         ∙ ap (before (stage.Schema shape))
         (chunks_read shape (joined chunks) bytes legal.schema (chunks, legal, refl) here most (schema_payload shape ∷ []) [] rest chunks (0 + 9 + length (schema_payload shape)) nothing has
         (omega (arith, length-frames (schema_payload shape) [])) (omega (arith, long)) said (refl, refl))
@@ -124,4 +126,4 @@ legal_dump shape events bytes framed legal =
 
 -- and a log without frames has none
 pub empty_stages : (bytes : List ℕ) → HasPayloads [] bytes → stages_of bytes ≡ record { stages = []; damage = None }
-empty_stages bytes has = reads_end (length bytes) 0 None nothing bytes (closed_behind [] 0 bytes has refl)
+empty_stages bytes has = reads_end (length bytes) 0 unread bytes (closed_behind [] 0 bytes has refl)

@@ -1,9 +1,12 @@
 -- How far a walk over a log has come.
-use Rattle.std.proofs.Common.{◌≡◌, ◌∙◌, ℕ, ◌+◌, ◌≤◌, List, [], ◌∷◌, ◌++◌, length, Some, None, refl, sym, ap, arith, append_assoc}
+use Rattle.std.proofs.Common.{◌≡◌, ◌∙◌, ℕ, ◌+◌, ◌≤◌, List, [], ◌∷◌, ◌++◌, length, Option, Some, None, sym, ap, arith, append_assoc}
 use Rattle.std.proofs.lemmas.List.{append-nil}
 use Rattle.rg_frame.specs.Looks.{IsClosed}
-use Rattle.rg_reservoir.specs.Heads.{nothing}
-use Rattle.rg_reservoir.specs.Walked.{place_of, schema_of as known_of, tally_of, IsNext, IsRefusedWalk}
+use Rattle.rg_event.specs.Shapes.{Shape}
+use Rattle.rg_log.specs.Entries.{nothing, unread}
+use Rattle.rg_log.specs.declared.entry.LogSoFar.{LogSoFar}
+use Rattle.rg_log.specs.declared.summary.LogSummary.{LogSummary}
+use Rattle.rg_reservoir.specs.Walked.{place_of, so_far_of, schema_of as known_of, tally_of, IsNext, IsRefusedWalk}
 use Rattle.rg_reservoir.specs.declared.walk.Stage.{Stage}
 use Rattle.rg_reservoir.specs.declared.walk.Walk.{Walk}
 use Rattle.rg_dump.specs.Stages.{Stages, stages_from, stages_of}
@@ -14,12 +17,16 @@ use Rattle.rg_dump.proofs.Reading.{reads_end, reads_damage, reads_frame}
 pub record IsAt (bytes : List ℕ) (walk : Walk) (stages : List Stage) : Type 0 where
   pub most : ℕ
   pub enough : length bytes ≤ place_of walk + most
-  pub are : (stages_of bytes).stages ≡ stages ++ (stages_from most (place_of walk) (known_of walk) (tally_of walk) bytes).stages
-  pub damage : damage_of bytes ≡ (stages_from most (place_of walk) (known_of walk) (tally_of walk) bytes).damage
+  pub are : (stages_of bytes).stages ≡ stages ++ (stages_from most (place_of walk) (so_far_of walk) bytes).stages
+  pub damage : damage_of bytes ≡ (stages_from most (place_of walk) (so_far_of walk) bytes).damage
+
+abbrev said : Option Shape → LogSummary → LogSoFar
+said schema summary = record { schema = schema; summary = summary }
 
 pub at_start : (bytes : List ℕ) (walk : Walk) → place_of walk ≡ 0 → known_of walk ≡ None → tally_of walk ≡ nothing → IsAt bytes walk []
 at_start bytes walk place schema tally =
-    let same : stages_of bytes ≡ stages_from (length bytes) (place_of walk) (known_of walk) (tally_of walk) bytes = rw (place, schema, tally) refl in
+    let none : unread ≡ so_far_of walk = sym (ap (λ (o : Option Shape). said o (tally_of walk)) schema ∙ ap (said None) tally) in
+    let same : stages_of bytes ≡ stages_from (length bytes) (place_of walk) (so_far_of walk) bytes = ap (λ (n : ℕ). stages_from (length bytes) n unread bytes) (sym place) ∙ ap (λ (l : LogSoFar). stages_from (length bytes) (place_of walk) l bytes) none in
     record { most = length bytes; enough = omega arith; are = ap (λ (d : Stages). d.stages) same; damage = ap (λ (d : Stages). d.damage) same }
 
 pub at_next : (bytes : List ℕ) (s : Stage) (old new : Walk) (stages : List Stage) → IsAt bytes old stages → IsNext bytes old s new → IsAt bytes new (stages ++ s ∷ [])
@@ -35,7 +42,7 @@ at_next bytes s old new stages at next =
 -- at the end of the log these frames are all
 pub at_end : (bytes : List ℕ) (walk : Walk) (stages : List Stage) → IsAt bytes walk stages → IsClosed (place_of walk) bytes → ((stages_of bytes).stages ≡ stages) × (damage_of bytes ≡ None)
 at_end bytes walk stages at closed =
-    let e = reads_end at.most (place_of walk) (known_of walk) (tally_of walk) bytes closed in
+    let e = reads_end at.most (place_of walk) (so_far_of walk) bytes closed in
     (at.are ∙ ap (λ (d : Stages). stages ++ d.stages) e ∙ append-nil stages, at.damage ∙ ap (λ (d : Stages). d.damage) e)
 
 -- and at a damaged place

@@ -7,15 +7,16 @@ use Rattle.rg_frame.specs.Looks.{IsClosed}
 use Rattle.rg_chunk.specs.Heads.{head_for, last_stamp}
 use Rattle.rg_chunk.specs.declared.head.ChunkHead.{ChunkHead}
 use Rattle.rg_chunk.proofs.Chunks.{chunk_head}
-use Rattle.rg_reservoir.specs.Heads.{nothing, may_follow, added, told_by}
-use Rattle.rg_reservoir.specs.Walked.{place_of, schema_of as known_of, tally_of, IsNext, IsRefusedWalk}
-use Rattle.rg_reservoir.specs.declared.heads.Tally.{Tally}
+use Rattle.rg_log.specs.Entries.{nothing, may_follow, added, told_by}
+use Rattle.rg_reservoir.specs.Walked.{place_of, so_far_of, schema_of as known_of, tally_of, IsNext, IsRefusedWalk}
+use Rattle.rg_log.specs.declared.summary.LogSummary.{LogSummary}
 use Rattle.rg_reservoir.specs.declared.walk.Stage.{Stage}
 use Rattle.rg_reservoir.specs.declared.walk.Stage.TheVariants as stage
 use Rattle.rg_reservoir.specs.declared.walk.Walk.{Walk}
 use Rattle.rg_reservoir.specs.declared.fault.ReservoirFault.{ReservoirFault}
 use Rattle.rg_reservoir.specs.declared.fault.ReservoirFault.TheVariants as walk
-use Rattle.rg_reservoir.proofs.ChunkHeads.{chunk_size}
+use Rattle.rg_log.proofs.ChunkHeads.{chunk_size}
+use Rattle.rg_reservoir.proofs.Walking.{took_schema, took_chunk}
 use Rattle.rg_dump.specs.Dump.{damage_of}
 use Rattle.rg_dump.proofs.Walking.{IsAt, at_start, at_next, at_end, at_damage}
 use Rattle.rg_info.specs.Faults.{of_walk}
@@ -29,12 +30,12 @@ events_in-push [] s = append-nil (stage_events s)
 events_in-push (first ∷ stages) s = ap (λ (l : List Event). stage_events first ++ l) (events_in-push stages s) ∙ sym (append_assoc (stage_events first) (events_in stages) (stage_events s))
 
 -- what is so of a chunk that continues those before it
-record Follows (t m : Tally) (h : ChunkHead) : Type 0 where
+record Follows (t m : LogSummary) (h : ChunkHead) : Type 0 where
   is : m ≡ added t h
   offset : h.last_offset < 2 ^ 62
   few : t.count + h.count ≤ 2 ^ 40
 
-follows_in : (t : Tally) (h : ChunkHead) → may_follow t h ≡ true → (h.last_offset < 2 ^ 62) × (t.count + h.count ≤ 2 ^ 40)
+follows_in : (t : LogSummary) (h : ChunkHead) → may_follow t h ≡ true → (h.last_offset < 2 ^ 62) × (t.count + h.count ≤ 2 ^ 40)
 follows_in t h s =
     let a = and_parts (nat_le t.next h.first_offset && nat_le h.first_offset h.last_offset && nat_lt h.last_offset 4611686018427387904 && nat_le t.time h.first_time && nat_le h.first_time h.last_time) (nat_le (t.count + h.count) 1099511627776) s in
     let b = and_parts (nat_le t.next h.first_offset && nat_le h.first_offset h.last_offset && nat_lt h.last_offset 4611686018427387904 && nat_le t.time h.first_time) (nat_le h.first_time h.last_time) a.0 in
@@ -42,7 +43,7 @@ follows_in t h s =
     let d = and_parts (nat_le t.next h.first_offset && nat_le h.first_offset h.last_offset) (nat_lt h.last_offset 4611686018427387904) c.0 in
     (omega (arith, ltb-true h.last_offset 4611686018427387904 d.1), omega (arith, leb-true (t.count + h.count) 1099511627776 a.1))
 
-follows_told : (t m : Tally) (h : ChunkHead) → told_by t (Some h) ≡ Some m → Follows t m h
+follows_told : (t m : LogSummary) (h : ChunkHead) → told_by t (Some h) ≡ Some m → Follows t m h
 follows_told t m h e = by (may_follow t h) refl
   where
     by : (b : Bool) → may_follow t h ≡ b → Follows t m h
@@ -59,7 +60,7 @@ pub record IsSummed (bytes : List ℕ) (walk : Walk) (summary : Summary) : Type 
   pub count : (tally_of walk).count ≡ length (events_in stages)
 
 pub summed_start : (bytes : List ℕ) (walk : Walk) (summary : Summary) → place_of walk ≡ 0 → known_of walk ≡ None → tally_of walk ≡ nothing → summary ≡ summary_of [] → IsSummed bytes walk summary
-summed_start bytes walk summary place schema tally is = record { stages = []; at = at_start bytes walk place schema tally; is = is; count = ap (λ (t : Tally). t.count) tally }
+summed_start bytes walk summary place schema tally is = record { stages = []; at = at_start bytes walk place schema tally; is = is; count = ap (λ (t : LogSummary). t.count) tally }
 
 same_summary : (a b : Summary) → a.frames ≡ b.frames → a.events ≡ b.events → a.next ≡ b.next → a.time ≡ b.time → a ≡ b
 same_summary a b frames events next time =
@@ -88,16 +89,16 @@ module _ (bytes : List ℕ) (old new : Walk) (summary : Summary) (so_far : IsSum
   pub summed_next : (s : Stage) → IsNext bytes old s new → IsSummed bytes new (with_stage summary s)
   summed_next (stage.Schema shape) next =
       let none = append-nil (events_in so_far.stages) in
-      summed_by (stage.Schema shape) next (ap (λ (l : List Event). summary_with (length so_far.stages + 1) l) (sym none)) (ap (λ (t : Tally). t.count) next.2.tally ∙ so_far.count ∙ ap length (sym none))
+      summed_by (stage.Schema shape) next (ap (λ (l : List Event). summary_with (length so_far.stages + 1) l) (sym none)) (ap (λ (t : LogSummary). t.count) (took_schema next.0 (so_far_of old) (so_far_of new) shape next.2.0) ∙ so_far.count ∙ ap length (sym none))
   summed_next (stage.Chunk events) next =
-      let taken = next.2 in
+      let taken = took_chunk next.0 (so_far_of old) (so_far_of new) events next.2.0 in
       let front = events_in so_far.stages in
       let head = chunk_head taken.shape.fields next.0 events taken.said in
       let f = follows_told (tally_of old) (tally_of new) (head_for events) (sym (ap (told_by (tally_of old)) head) ∙ taken.follows) in
       let some = (chunk_size taken.shape.fields next.0 events taken.said).0 in
       let few : length front + length events ≤ 2 ^ 40 = omega (arith, f.few, so_far.count) in
       summed_by (stage.Chunk events) next (chunk_summary (length so_far.stages) front events some few f.offset)
-      (ap (λ (t : Tally). t.count) f.is ∙ omega (arith, so_far.count, length-append front events))
+      (ap (λ (t : LogSummary). t.count) f.is ∙ omega (arith, so_far.count, length-append front events))
 
 -- at the end of the log it is that of the file
 pub summed_end : (bytes : List ℕ) (walk : Walk) (summary : Summary) → IsSummed bytes walk summary → IsClosed (place_of walk) bytes → (summary ≡ summary_in bytes) × (damage_of bytes ≡ None)

@@ -43,7 +43,8 @@ legal_is events all is = by (is_rising events && nat_le (length events) 10995116
         record { same = let e : Some events ≡ Some all = sym (ap (λ (b : Bool). if b then Some events else None) t) ∙ is in cc; rising = rising_is events f.0; few = leb-true (length events) 1099511627776 f.1 }
     by false f = absurd (let e : None ≡ Some all = sym (ap (λ (b : Bool). if b then Some events else None) f) ∙ is in cc)
 
-schema_is : (payload : List ℕ) (shape : Shape) → schema_of payload ≡ Some shape → IsSchema shape × (payload ≡ schema_payload shape)
+-- a payload that says a schema is that schema's
+pub schema_is : (payload : List ℕ) (shape : Shape) → schema_of payload ≡ Some shape → IsSchema shape × (payload ≡ schema_payload shape)
 schema_is [] shape is = absurd cc
 schema_is (tag ∷ text) shape is = by (tag == 83) refl
   where

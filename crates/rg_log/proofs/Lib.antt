@@ -7,3 +7,6 @@ pub mod Columned
 pub mod Chunked
 pub mod Exact
 pub mod Worked
+pub mod Entries
+pub mod ChunkHeads
+pub mod Summaries

@@ -1,3 +1,4 @@
+pub mod Entries
 pub mod Log
 pub mod Reading
 pub mod Spots

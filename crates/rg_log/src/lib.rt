@@ -6,7 +6,8 @@
 //! layers above learn from them what an append leaves of the events and of the spots.
 #![tactic(auto)]
 
-ghost use Rattle.std.specs.Prelude.{◌≡◌, ◌⊎◌, ◌↔◌, ◌≤◌, ◌<◌, ◌^◌, ℕ, List, [], ◌∷◌, ◌++◌, length, slice_get, Option, Some, None, All, IsSome};
+ghost use Rattle.std.specs.Prelude.{◌≡◌, ◌⊎◌, ◌↔◌, ◌≤◌, ◌<◌, ◌^◌, ℕ, List, [], ◌∷◌, ◌++◌, length, take, slice_get, Option, Some, None, option_map, All, IsSome, ◌+◌};
+ghost use Rattle.rg_event.specs.Codec.{IsEventOf};
 ghost use Rattle.rg_event.specs.Shapes.{Shape, IsSchema};
 ghost use Rattle.rg_event.specs.declared.event.Event.{Event};
 ghost use Rattle.rg_event.specs.Rising.{IsRising, next_offset};
@@ -14,11 +15,20 @@ ghost use Rattle.rg_past.specs.declared.past.Spot.{Spot};
 ghost use Rattle.rg_frame.specs.Bytes.{IsByte};
 ghost use Rattle.rg_frame.specs.Frames.{frames, HasPayloads, IsDamaged};
 ghost use Rattle.rg_frame.specs.Steps.{Grows, Grown};
+ghost use Rattle.rg_chunk.specs.Heads.{head_of};
+ghost use Rattle.rg_log.specs.Entries.{nothing, told_by, summary_of, unread, behind, count_of, further_entry, entry_after, entries_after};
+ghost use Rattle.rg_log.specs.declared.entry.LogSoFar.{LogSoFar as TheLogSoFar};
+ghost use Rattle.rg_log.specs.declared.summary.LogSummary.{LogSummary as TheLogSummary};
 ghost use Rattle.rg_log.specs.Log.{schema_payload, chunks_of, joined, HasChunks, IsChunkOf, HasEvents, HasLegalLog, HasSchemaFrame, IsOfSchema};
 ghost use Rattle.rg_log.specs.Reading.{events_of, next_of};
-ghost use Rattle.rg_log.specs.Spots.{IsInChunk, SpotAt, SpotIn, NamedByHeads};
+ghost use Rattle.rg_log.specs.Spots.{count_in, IsInChunk, SpotAt, SpotIn, NamedByHeads};
 
+mod entry;
+mod summary;
+
+pub use entry::{Entry, EntryFault, LogSoFar, read_entry};
 use rg_frame::law_frames;
+pub use summary::LogSummary;
 
 /// A file has one list of events, that which `events_of` reads, and at most one schema. Where its frame list is undefined,
 /// there are no events to read.
@@ -50,6 +60,21 @@ pub fn law_log()
 {
     law_frames();
 }
+
+/// One step judges each frame of a log. Before the first frame it takes the frame of a schema, and no other; behind it, it
+/// takes a chunk exactly where the head of the payload may follow the chunks before it, and counts its events. So it takes
+/// each frame of a legal log, and then says the schema and what the events come to.
+pub fn law_entries()
+    ensures first { (shape : Shape) → IsSchema shape → entry_after unread (schema_payload shape) ≡ Some (behind shape nothing) }
+    ensures only_first { (payload : List ℕ) (next : TheLogSoFar) → entry_after unread payload ≡ Some next → (shape : Shape) × IsSchema shape × (payload ≡ schema_payload shape) × (next ≡ behind shape nothing) }
+    ensures chunk { (shape : Shape) (summary : TheLogSummary) (payload : List ℕ) → entry_after (behind shape summary) payload ≡ option_map (behind shape) (told_by summary (head_of payload)) }
+    ensures front { (a b : List ℕ) → take 37 a ≡ take 37 b → further_entry a ≡ further_entry b }
+    ensures counts { (payload : List ℕ) → count_in payload ≡ option_map count_of (further_entry payload) }
+    ensures counted { (shape : Shape) (summary : TheLogSummary) (payload : List ℕ) (next : TheLogSoFar) → entry_after (behind shape summary) payload ≡ Some next →
+        (count : ℕ) × (count_in payload ≡ Some count) × (next.summary.count ≡ summary.count + count) × (next.schema ≡ Some shape) }
+    ensures legal { (shape : Shape) (payloads : List (List ℕ)) (chunks : List (List Event)) → IsSchema shape → HasChunks shape payloads chunks → 1 ≤ length payloads → IsRising (joined chunks) →
+        length (joined chunks) ≤ 2 ^ 40 → All (IsEventOf shape.fields) (joined chunks) → entries_after unread payloads ≡ Some (behind shape (summary_of (joined chunks))) }
+{}
 
 /// Spots stay what they are when a chunk comes behind a log, and the heads of the chunks alone tell which spots of a
 /// legal log are spelled.

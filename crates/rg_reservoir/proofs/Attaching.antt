@@ -1,6 +1,5 @@
 -- What the heads of a legal log say of its events.
-use Rattle.std.proofs.Common.{◌≡◌, ◌∙◌, ◌⊎◌, inl, inr, ℕ, ◌+◌, ◌^◌, ◌≤◌, ◌<◌, Bool, true, false, List, [], ◌∷◌, ◌++◌, length, Option, Some, None, option_map, refl, sym, ap, subst, arith, append_assoc, length-append, nat_le, nat_lt, if◌then◌else◌}
-use Rattle.std.proofs.lemmas.Bool.Decides.{nat_tests}
+use Rattle.std.proofs.Common.{◌≡◌, ◌∙◌, ◌⊎◌, inl, inr, ℕ, ◌+◌, ◌^◌, ◌≤◌, List, [], ◌∷◌, ◌++◌, length, Option, Some, None, option_map, refl, sym, ap, subst, arith, append_assoc}
 use Rattle.std.proofs.lemmas.List.{append-nil}
 use Rattle.rg_host.specs.Image.{Image}
 use Rattle.rg_event.specs.declared.event.Event.{Event}
@@ -12,19 +11,19 @@ use Rattle.rg_frame.specs.Frames.{payload_at, IsLog}
 use Rattle.rg_frame.specs.Looks.{IsClosed}
 use Rattle.rg_frame.proofs.Payloads.{closed_payload}
 use Rattle.rg_cache.specs.Cache.{Cache, item_at}
-use Rattle.rg_chunk.specs.declared.head.ChunkHead.{ChunkHead}
 use Rattle.rg_chunk.specs.Chunks.{chunk_of}
-use Rattle.rg_reservoir.proofs.ChunkHeads.{first_offset, first_time, last_offset, chunk_time, RisesFrom}
 use Rattle.rg_event.specs.Codec.{IsEventOf}
 use Rattle.std.specs.Prelude.{All}
-use Rattle.std.proofs.lemmas.List.Elements.{All-nil, All-head, All-tail}
+use Rattle.std.proofs.lemmas.List.Elements.{All-nil}
 use Rattle.rg_chunk.specs.Heads.{head_of, head_for}
 use Rattle.rg_chunk.proofs.Chunks.{chunk_head}
 use Rattle.rg_reservoir.specs.declared.kept.Kept.{Kept}
-use Rattle.rg_reservoir.specs.declared.heads.Tally.{Tally}
+use Rattle.rg_log.specs.declared.summary.LogSummary.{LogSummary}
 use Rattle.rg_log.specs.Log.{joined, schema_payload}
 use Rattle.rg_reservoir.specs.Chain.{chunk_in, chunk_at, Chain, IsFirst}
-use Rattle.rg_reservoir.specs.Heads.{nothing, may_follow, added, told_by, Heads, IsOpenGate, IsBad}
+use Rattle.rg_log.specs.Entries.{nothing, added, told_by, summary_of}
+use Rattle.rg_log.proofs.Summaries.{added_is, told_added, all_behind, legal_told}
+use Rattle.rg_reservoir.specs.Heads.{Heads, IsOpenGate, IsBad}
 use Rattle.rg_reservoir.specs.Kept.{Base, stored, all_events, IsSoundIn}
 use Rattle.rg_reservoir.specs.Attached.{Opens, IsOpened, IsOther, IsBadFrame}
 use Rattle.rg_log.specs.Log.{HasEvents, HasSchemaFrame}
@@ -33,11 +32,8 @@ use Rattle.rg_reservoir.proofs.Listing.{listed}
 use Rattle.rg_reservoir.proofs.Legal.{Laid, IsLaid, laid, framed}
 use Rattle.rg_reservoir.proofs.Chains.{some_none, chunk_at_size}
 use Rattle.rg_reservoir.proofs.Committing.{log_at}
-use Rattle.rg_reservoir.proofs.Committed.{stored_by, rises_behind}
+use Rattle.rg_reservoir.proofs.Committed.{stored_by}
 use Rattle.rg_reservoir.proofs.Firsts.{one_payload}
-
-abbrev pub tally_of : List Event → Tally
-tally_of events = record { count = length events; next = next_offset events; time = last_time events }
 
 -- the payload of a chunk
 pub record IsChunk (fields : List Field) (place : ℕ) (bytes : List ℕ) (chunk : List Event) (next : ℕ) : Type 0 where
@@ -67,47 +63,11 @@ chunk_parts fields place bytes (Some p) c n here e = by (chunk_of fields p) refl
 pub chunk_payload : (fields : List Field) (place : ℕ) (bytes : List ℕ) (c : List Event) (n : ℕ) → chunk_at fields place bytes ≡ Some (c, n) → IsChunk fields place bytes c n
 chunk_payload fields place bytes c n e = chunk_parts fields place bytes (payload_at place bytes) c n refl e
 
-last_next : (c : List Event) → 1 ≤ length c → next_offset c ≡ last_offset c + 1
-last_next [] some = absurd (omega arith)
-last_next (x ∷ []) some = refl
-last_next (x ∷ (y ∷ c)) some = last_next (y ∷ c) (omega arith)
-
-next_more : (front c : List Event) → 1 ≤ length c → next_offset (front ++ c) ≡ last_offset c + 1
-next_more [] c some = last_next c some
-next_more (x ∷ []) [] some = absurd (omega arith)
-next_more (x ∷ []) (y ∷ c) some = last_next (y ∷ c) some
-next_more (x ∷ (y ∷ front)) c some = next_more (y ∷ front) c some
-
-last_same : (c : List Event) → last_time c ≡ chunk_time c
-last_same [] = refl
-last_same (x ∷ []) = refl
-last_same (x ∷ (y ∷ c)) = last_same (y ∷ c)
-
-time_more : (front c : List Event) → 1 ≤ length c → last_time (front ++ c) ≡ chunk_time c
-time_more [] c some = last_same c
-time_more (x ∷ []) [] some = absurd (omega arith)
-time_more (x ∷ []) (y ∷ c) some = last_same (y ∷ c)
-time_more (x ∷ (y ∷ front)) c some = time_more (y ∷ front) c some
-
-added_is : (front c : List Event) → 1 ≤ length c → added (tally_of front) (head_for c) ≡ tally_of (front ++ c)
-added_is front c some =
-    let a : length front + length c ≡ length (front ++ c) = sym (length-append front c) in
-    let b : last_offset c + 1 ≡ next_offset (front ++ c) = sym (next_more front c some) in
-    let d : chunk_time c ≡ last_time (front ++ c) = sym (time_more front c some) in
-    cc
-
-pub told_added : (t m : Tally) (h : ChunkHead) → told_by t (Some h) ≡ Some m → m ≡ added t h
-told_added t m h e = by (may_follow t h) refl
-  where
-    by : (b : Bool) → may_follow t h ≡ b → m ≡ added t h
-    by true s = let f : Some (added t h) ≡ Some m = sym (ap (λ (b : Bool). if b then Some (added t h) else None) s) ∙ e in cc
-    by false s = let f : None ≡ Some m = sym (ap (λ (b : Bool). if b then Some (added t h) else None) s) ∙ e in absurd cc
-
 -- heads and chunks are of one another
 by_heads :
-    (fields : List Field) (bytes : List ℕ) (place : ℕ) (front : List Event) (chunks : List (List Event)) (end : ℕ) (payloads : List (List ℕ)) (stop : ℕ) (t u : Tally) → Chain fields bytes place chunks end → payload_at end bytes ≡ None
-    → t ≡ tally_of front → Heads bytes place t payloads stop u → payload_at stop bytes ≡ None → (stop ≡ end) × (u ≡ tally_of (front ++ joined chunks))
-by_heads fields bytes place front [] end [] stop t u chain ends start heads stops = (sym heads.0 ∙ chain, sym heads.1 ∙ start ∙ ap tally_of (sym (append-nil front)))
+    (fields : List Field) (bytes : List ℕ) (place : ℕ) (front : List Event) (chunks : List (List Event)) (end : ℕ) (payloads : List (List ℕ)) (stop : ℕ) (t u : LogSummary) → Chain fields bytes place chunks end → payload_at end bytes ≡ None
+    → t ≡ summary_of front → Heads bytes place t payloads stop u → payload_at stop bytes ≡ None → (stop ≡ end) × (u ≡ summary_of (front ++ joined chunks))
+by_heads fields bytes place front [] end [] stop t u chain ends start heads stops = (sym heads.0 ∙ chain, sym heads.1 ∙ start ∙ ap summary_of (sym (append-nil front)))
 by_heads fields bytes place front [] end (p ∷ payloads) stop t u chain ends start heads stops = absurd (some_none _ _ heads.0 (subst (λ (q : ℕ). payload_at q bytes ≡ None) (sym chain) ends))
 by_heads fields bytes place front (c ∷ chunks) end [] stop t u chain ends start heads stops =
     let k = chunk_payload fields place bytes c chain.0 chain.1 in
@@ -117,13 +77,13 @@ by_heads fields bytes place front (c ∷ chunks) end (p ∷ payloads) stop t u c
     let same : p ≡ k.payload = one_payload place p k.payload bytes heads.0 k.here in
     let head : head_of p ≡ Some (head_for c) = ap head_of same ∙ chunk_head fields k.payload c k.says in
     let some = (chunk_at_size fields place bytes c chain.0 chain.1).0 in
-    let mid : heads.1.0 ≡ tally_of (front ++ c) = told_added t heads.1.0 (head_for c) (sym (ap (told_by t) head) ∙ heads.1.1) ∙ ap (λ (x : Tally). added x (head_for c)) start ∙ added_is front c some in
+    let mid : heads.1.0 ≡ summary_of (front ++ c) = told_added t heads.1.0 (head_for c) (sym (ap (told_by t) head) ∙ heads.1.1) ∙ ap (λ (x : LogSummary). added x (head_for c)) start ∙ added_is front c some in
     let next : chain.0 ≡ place + 9 + length p = k.next_is ∙ ap (λ (l : List ℕ). place + 9 + length l) (sym same) in
     let rest = by_heads fields bytes (place + 9 + length p) (front ++ c) chunks end payloads stop heads.1.0 u (subst (λ (q : ℕ). Chain fields bytes q chunks end) next chain.2) ends mid heads.1.2 stops in
-    (rest.0, rest.1 ∙ ap tally_of (append_assoc front c (joined chunks)))
+    (rest.0, rest.1 ∙ ap summary_of (append_assoc front c (joined chunks)))
 
 -- what was legal is so behind the first frame
-pub legal_then : (shape : Shape) (events : List Event) (first end : ℕ) (tally : Tally) (old new : List ℕ) → IsLaid shape events old → Opens (schema_payload shape) first end old new → IsOpened (schema_payload shape) first end tally new → Laid shape events new
+pub legal_then : (shape : Shape) (events : List Event) (first end : ℕ) (tally : LogSummary) (old new : List ℕ) → IsLaid shape events old → Opens (schema_payload shape) first end old new → IsOpened (schema_payload shape) first end tally new → Laid shape events new
 legal_then shape events first end tally old new (inl none) (inl same) o = absurd (some_none _ _ o.here (closed_payload 0 new (subst (λ (l : List ℕ). IsClosed 0 l) (sym same) none.0)))
 legal_then shape events first end tally old new (inr has) (inl same) o = subst (λ (l : List ℕ). Laid shape events l) (sym same) has
 legal_then shape events first end tally old new (inr has) (inr begun) o = absurd (some_none _ _ has.schema.here (log_at [] 0 old begun.0).none)
@@ -141,7 +101,7 @@ legal_then shape events first end tally old new (inl none) (inr begun) o = recor
 }
 
 -- and has its events
-pub events_then : (shape : Shape) (events : List Event) (first end : ℕ) (tally : Tally) (old new : List ℕ) → HasEvents shape events old → Opens (schema_payload shape) first end old new → IsOpened (schema_payload shape) first end tally new → HasSchemaFrame shape new × HasEvents shape events new
+pub events_then : (shape : Shape) (events : List Event) (first end : ℕ) (tally : LogSummary) (old new : List ℕ) → HasEvents shape events old → Opens (schema_payload shape) first end old new → IsOpened (schema_payload shape) first end tally new → HasSchemaFrame shape new × HasEvents shape events new
 events_then shape events first end tally old new has (inl same) o = (framed (schema_payload shape) new o.payloads o.has o.here, subst (λ (l : List ℕ). HasEvents shape events l) (sym same) has)
 events_then shape events first end tally old new has (inr (none, ends, step)) o =
     let begun = begun_log shape old new has.1.schema (listed [] 0 old none (omega arith)) step in
@@ -159,7 +119,7 @@ no_events shape events bytes has none = elim (laid shape events bytes has) [
 ]
 
 pub attached :
-    (w : Image) (after : Image → Type 0) (b : Base) (tally : Tally) (cache : Cache Kept) (events : List Event) → IsOpened (schema_payload b.shape) b.first b.end tally (w b.file) → Laid b.shape events (w b.file) → b.committed ≡ tally.count
+    (w : Image) (after : Image → Type 0) (b : Base) (tally : LogSummary) (cache : Cache Kept) (events : List Event) → IsOpened (schema_payload b.shape) b.first b.end tally (w b.file) → Laid b.shape events (w b.file) → b.committed ≡ tally.count
     → HasSchemaFrame b.shape (w b.file) × HasEvents b.shape events (w b.file) → ((q : ℕ) → item_at q cache ≡ None) → ((u : Image) → after u → u b.file ≡ w b.file) → IsSoundIn w after b [] tally.next tally.time cache × (all_events (Some w) b [] ≡ events)
 attached w after b tally cache events o log count legal empty settled =
     let first : log.first ≡ b.first = log.schema.ends ∙ sym o.ends in
@@ -167,8 +127,8 @@ attached w after b tally cache events o log count legal empty settled =
     let chain0 : Chain b.shape.fields (w b.file) b.first log.chunks log.end = subst (λ (p : ℕ). Chain b.shape.fields (w b.file) p log.chunks log.end) first log.chain in
     let same = by_heads b.shape.fields (w b.file) b.first [] log.chunks log.end o.passed.chunks b.end nothing tally chain0 (closed_payload log.end (w b.file) log.ends) refl o.passed.are at.none in
     let chain : Chain b.shape.fields (w b.file) b.first log.chunks b.end = subst (λ (p : ℕ). Chain b.shape.fields (w b.file) b.first log.chunks p) (sym same.0) chain0 in
-    let told : tally ≡ tally_of (joined log.chunks) = same.1 in
-    let counted : length (joined log.chunks) ≡ b.committed = sym (ap (λ (t : Tally). t.count) told) ∙ sym count in
+    let told : tally ≡ summary_of (joined log.chunks) = same.1 in
+    let counted : length (joined log.chunks) ≡ b.committed = sym (ap (λ (t : LogSummary). t.count) told) ∙ sym count in
     let none : chunk_at b.shape.fields b.end (w b.file) ≡ None = ap (chunk_in b.shape.fields b.end) at.none in
     let stored_is : stored (Some w) b ≡ joined log.chunks = stored_by w b log.chunks chain none counted in
     let all_is : all_events (Some w) b [] ≡ joined log.chunks = append-nil _ ∙ stored_is in
@@ -197,8 +157,8 @@ attached w after b tally cache events o log count legal empty settled =
           cached = λ place kept held. absurd (some_none _ _ held (empty place));
           inside = λ place kept held. absurd (some_none _ _ held (empty place));
           rising = subst IsRising (sym all_is) rising;
-          next_is = ap (λ (t : Tally). t.next) told ∙ ap next_offset (sym all_is);
-          time_is = ap (λ (t : Tally). t.time) told ∙ ap last_time (sym all_is);
+          next_is = ap (λ (t : LogSummary). t.next) told ∙ ap next_offset (sym all_is);
+          time_is = ap (λ (t : LogSummary). t.time) told ∙ ap last_time (sym all_is);
           fits = tt;
           few = omega (arith, counted, ap length log.joined, log.few);
         };
@@ -211,18 +171,18 @@ open_closed place bytes gate (inl short) = omega (arith, gate.longer, short)
 open_closed place bytes gate (inr other) = other (ap (λ (l : List ℕ). slice_index l 0) gate.is)
 
 bad_walk :
-    (bytes : List ℕ) (place : ℕ) (t : Tally) (ps : List (List ℕ)) (end : ℕ) (u : Tally) (qs : List (List ℕ)) (q : ℕ) (x : Tally) → Heads bytes place t ps end u → IsClosed end bytes → Heads bytes place t qs q x → IsOpenGate q bytes
+    (bytes : List ℕ) (place : ℕ) (t : LogSummary) (ps : List (List ℕ)) (end : ℕ) (u : LogSummary) (qs : List (List ℕ)) (q : ℕ) (x : LogSummary) → Heads bytes place t ps end u → IsClosed end bytes → Heads bytes place t qs q x → IsOpenGate q bytes
     → ((payload : List ℕ) → payload_at q bytes ≡ Some payload → told_by x (head_of payload) ≡ None) → ⊥
 bad_walk bytes place t [] end u [] q x heads closed bad gate none = open_closed q bytes gate (subst (λ (n : ℕ). IsClosed n bytes) (sym heads.0 ∙ bad.0) closed)
 bad_walk bytes place t [] end u (b ∷ qs) q x heads closed bad gate none = some_none _ _ bad.0 (closed_payload place bytes (subst (λ (n : ℕ). IsClosed n bytes) (sym heads.0) closed))
 bad_walk bytes place t (a ∷ ps) end u [] q x heads closed bad gate none =
-    some_none _ _ heads.1.1 (ap (λ (y : Tally). told_by y (head_of a)) bad.1 ∙ none a (subst (λ (n : ℕ). payload_at n bytes ≡ Some a) bad.0 heads.0))
+    some_none _ _ heads.1.1 (ap (λ (y : LogSummary). told_by y (head_of a)) bad.1 ∙ none a (subst (λ (n : ℕ). payload_at n bytes ≡ Some a) bad.0 heads.0))
 bad_walk bytes place t (a ∷ ps) end u (b ∷ qs) q x heads closed bad gate none =
     let same : b ≡ a = one_payload place b a bytes bad.0 heads.0 in
     let g : Some bad.1.0 ≡ Some heads.1.0 = sym bad.1.1 ∙ ap (λ (l : List ℕ). told_by t (head_of l)) same ∙ heads.1.1 in
     let next : bad.1.0 ≡ heads.1.0 = cc in
     let bad1 = subst (λ (l : List ℕ). Heads bytes (place + 9 + length l) bad.1.0 qs q x) same bad.1.2 in
-    bad_walk bytes (place + 9 + length a) heads.1.0 ps end u qs q x heads.1.2 closed (subst (λ (y : Tally). Heads bytes (place + 9 + length a) y qs q x) next bad1) gate none
+    bad_walk bytes (place + 9 + length a) heads.1.0 ps end u qs q x heads.1.2 closed (subst (λ (y : LogSummary). Heads bytes (place + 9 + length a) y qs q x) next bad1) gate none
 
 -- a log without a frame isn't refused
 pub unframed : (ours bytes : List ℕ) → IsLog [] 0 bytes → IsOther ours bytes ⊎ ((p : ℕ) × IsBadFrame ours p bytes) → ⊥
@@ -231,7 +191,7 @@ unframed ours bytes none (inr (p, inl bad)) = open_closed 0 bytes bad.1.gate (lo
 unframed ours bytes none (inr (p, inr (f, here, ends, bad))) = some_none _ _ here (log_at [] 0 bytes none).none
 
 -- a log that was opened isn't refused
-pub refused : (shape : Shape) (first end : ℕ) (tally : Tally) (old new : List ℕ) → IsSchema shape → Opens (schema_payload shape) first end old new → IsOpened (schema_payload shape) first end tally new
+pub refused : (shape : Shape) (first end : ℕ) (tally : LogSummary) (old new : List ℕ) → IsSchema shape → Opens (schema_payload shape) first end old new → IsOpened (schema_payload shape) first end tally new
     → IsOther (schema_payload shape) old ⊎ ((p : ℕ) × IsBadFrame (schema_payload shape) p old) → ⊥
 refused shape first end tally old new legal (inl same) o (inl other) = other.other (one_payload 0 (schema_payload other.shape) (schema_payload shape) old other.here (subst (λ (l : List ℕ). payload_at 0 l ≡ Some (schema_payload shape)) same o.here))
 refused shape first end tally old new legal (inl same) o (inr (p, inl bad)) = bad.1.none shape legal (subst (λ (l : List ℕ). payload_at 0 l ≡ Some (schema_payload shape)) same o.here)
@@ -248,54 +208,23 @@ pub other_not_bad : (ours : List ℕ) (p : ℕ) (bytes : List ℕ) → IsOther o
 other_not_bad ours p bytes other (inl bad) = bad.1.none other.shape other.legal other.here
 other_not_bad ours p bytes other (inr (f, here, ends, bad)) = other.other (one_payload 0 (schema_payload other.shape) ours bytes other.here here)
 
--- the first and last of a chunk of events that rise
-rises_ends : (n t : ℕ) (c more : List Event) → 1 ≤ length c → RisesFrom n t (c ++ more) → (n ≤ first_offset c) × (first_offset c ≤ last_offset c) × (t ≤ first_time c) × (first_time c ≤ chunk_time c)
-rises_ends n t [] more some rising = absurd (omega arith)
-rises_ends n t (x ∷ []) more some rising = (rising.0, omega arith, rising.1, omega arith)
-rises_ends n t (x ∷ (y ∷ c)) more some rising =
-    let rest = rises_ends (x.offset + 1) x.time (y ∷ c) more (omega arith) rising.2 in
-    (rising.0, omega (arith, rest.0, rest.1), rising.1, omega (arith, rest.2, rest.3))
-
-may_follow_is : (t : Tally) (h : ChunkHead) → t.next ≤ h.first_offset → h.first_offset ≤ h.last_offset → h.last_offset < 4611686018427387904 → t.time ≤ h.first_time → h.first_time ≤ h.last_time → t.count + h.count ≤ 1099511627776 → may_follow t h ≡ true
-may_follow_is t h a b c d e f =
-    let a1 : nat_le t.next h.first_offset ≡ true = grind (arith, nat_tests) in
-    let b1 : nat_le h.first_offset h.last_offset ≡ true = grind (arith, nat_tests) in
-    let c1 : nat_lt h.last_offset 4611686018427387904 ≡ true = grind (arith, nat_tests) in
-    let d1 : nat_le t.time h.first_time ≡ true = grind (arith, nat_tests) in
-    let e1 : nat_le h.first_time h.last_time ≡ true = grind (arith, nat_tests) in
-    let f1 : nat_le (t.count + h.count) 1099511627776 ≡ true = grind (arith, nat_tests) in
-    rw (a1, b1, c1, d1, e1, f1) refl
-
--- the last offset of a chunk of legal events
-last_within : (fields : List Field) (c more : List Event) → 1 ≤ length c → All (IsEventOf fields) (c ++ more) → last_offset c < 2 ^ 62
-last_within fields [] more some all = absurd (omega arith)
-last_within fields (x ∷ []) more some all = (All-head (IsEventOf fields) x more all).offset
-last_within fields (x ∷ (y ∷ c)) more some all = last_within fields (y ∷ c) more (omega arith) (All-tail (IsEventOf fields) x ((y ∷ c) ++ more) all)
-
-all_behind : (P : Event → Type 0) (a b : List Event) → All P (a ++ b) → All P b
-all_behind P [] b all = all
-all_behind P (x ∷ a) b all = all_behind P a b (All-tail P x (a ++ b) all)
-
 legal_walk :
-    (fields : List Field) (bytes : List ℕ) (place : ℕ) (front : List Event) (chunks : List (List Event)) (end : ℕ) (qs : List (List ℕ)) (q : ℕ) (t x : Tally) → Chain fields bytes place chunks end → IsClosed end bytes
-    → IsRising (front ++ joined chunks) → length (front ++ joined chunks) ≤ 2 ^ 40 → All (IsEventOf fields) (joined chunks) → t ≡ tally_of front → Heads bytes place t qs q x → IsOpenGate q bytes → ((payload : List ℕ) → payload_at q bytes ≡ Some payload → told_by x (head_of payload) ≡ None) → ⊥
+    (fields : List Field) (bytes : List ℕ) (place : ℕ) (front : List Event) (chunks : List (List Event)) (end : ℕ) (qs : List (List ℕ)) (q : ℕ) (t x : LogSummary) → Chain fields bytes place chunks end → IsClosed end bytes
+    → IsRising (front ++ joined chunks) → length (front ++ joined chunks) ≤ 2 ^ 40 → All (IsEventOf fields) (joined chunks) → t ≡ summary_of front → Heads bytes place t qs q x → IsOpenGate q bytes → ((payload : List ℕ) → payload_at q bytes ≡ Some payload → told_by x (head_of payload) ≡ None) → ⊥
 legal_walk fields bytes place front [] end [] q t x chain closed rising few of start heads gate none = open_closed q bytes gate (subst (λ (n : ℕ). IsClosed n bytes) (sym chain ∙ heads.0) closed)
 legal_walk fields bytes place front [] end (p ∷ qs) q t x chain closed rising few of start heads gate none = some_none _ _ heads.0 (closed_payload place bytes (subst (λ (n : ℕ). IsClosed n bytes) (sym chain) closed))
 legal_walk fields bytes place front (c ∷ chunks) end [] q t x chain closed rising few of start heads gate none =
     let k = chunk_payload fields place bytes c chain.0 chain.1 in
     let size = chunk_at_size fields place bytes c chain.0 chain.1 in
-    let e = rises_ends (next_offset front) (last_time front) c (joined chunks) size.0 (rises_behind front (c ++ joined chunks) rising) in
-    let count : length front + length c ≤ 1099511627776 = omega (arith, few, length-append front (c ++ joined chunks), length-append c (joined chunks)) in
-    let may : may_follow (tally_of front) (head_for c) ≡ true = may_follow_is (tally_of front) (head_for c) e.0 e.1 (omega (arith, last_within fields c (joined chunks) size.0 of)) e.2 e.3 count in
-    let told : told_by x (head_of k.payload) ≡ Some (added (tally_of front) (head_for c)) =
-    ap (told_by x) (chunk_head fields k.payload c k.says) ∙ ap (λ (y : Tally). told_by y (Some (head_for c))) (sym heads.1 ∙ start) ∙ ap (λ (b : Bool). if b then Some (added (tally_of front) (head_for c)) else None) may in
+    let told : told_by x (head_of k.payload) ≡ Some (summary_of (front ++ c)) =
+    ap (told_by x) (chunk_head fields k.payload c k.says) ∙ ap (λ (y : LogSummary). told_by y (Some (head_for c))) (sym heads.1 ∙ start) ∙ legal_told fields front c (joined chunks) size.0 rising few of in
     some_none _ _ told (none k.payload (subst (λ (n : ℕ). payload_at n bytes ≡ Some k.payload) heads.0 k.here))
 legal_walk fields bytes place front (c ∷ chunks) end (p ∷ qs) q t x chain closed rising few of start heads gate none =
     let k = chunk_payload fields place bytes c chain.0 chain.1 in
     let same : p ≡ k.payload = one_payload place p k.payload bytes heads.0 k.here in
     let head : head_of p ≡ Some (head_for c) = ap head_of same ∙ chunk_head fields k.payload c k.says in
     let some = (chunk_at_size fields place bytes c chain.0 chain.1).0 in
-    let mid : heads.1.0 ≡ tally_of (front ++ c) = told_added t heads.1.0 (head_for c) (sym (ap (told_by t) head) ∙ heads.1.1) ∙ ap (λ (y : Tally). added y (head_for c)) start ∙ added_is front c some in
+    let mid : heads.1.0 ≡ summary_of (front ++ c) = told_added t heads.1.0 (head_for c) (sym (ap (told_by t) head) ∙ heads.1.1) ∙ ap (λ (y : LogSummary). added y (head_for c)) start ∙ added_is front c some in
     let next : chain.0 ≡ place + 9 + length p = k.next_is ∙ ap (λ (l : List ℕ). place + 9 + length l) (sym same) in
     let joins : front ++ (c ++ joined chunks) ≡ (front ++ c) ++ joined chunks = sym (append_assoc front c (joined chunks)) in
     legal_walk fields bytes (place + 9 + length p) (front ++ c) chunks end qs q heads.1.0 x (subst (λ (n : ℕ). Chain fields bytes n chunks end) next chain.2) closed (subst IsRising joins rising) (subst (λ (l : List Event). length l ≤ 2 ^ 40) joins few) (all_behind (IsEventOf fields) c (joined chunks) of) mid heads.1.2 gate none

@@ -52,10 +52,15 @@ pub of_step : (f : FrameFault) (q : ℕ) → (f ≡ frame.Disk) ⊎ (f ≡ frame
 of_step f q (inl is) = inl is
 of_step f q (inr is) = inr (inr is)
 
-pub never_judged : (f : ReservoirFault) → (f ≡ SchemaDiffers) ⊎ (f ≡ Damaged 0) ⊎ (f ≡ Memory) → (f ≡ Full → ⊥) × (f ≡ Ended → ⊥)
-never_judged f (inl is) = (λ e. (let g : SchemaDiffers ≡ Full = sym is ∙ e in cc), λ e. (let g : SchemaDiffers ≡ Ended = sym is ∙ e in cc))
-never_judged f (inr (inl is)) = (λ e. (let g : Damaged 0 ≡ Full = sym is ∙ e in cc), λ e. (let g : Damaged 0 ≡ Ended = sym is ∙ e in cc))
-never_judged f (inr (inr is)) = (λ e. (let g : Memory ≡ Full = sym is ∙ e in cc), λ e. (let g : Memory ≡ Ended = sym is ∙ e in cc))
+-- a frame that is refused stands at the place that was read
+pub refused_at : (f : ReservoirFault) (q p : ℕ) (A : Type 0) → f ≡ Damaged p → ((f ≡ Damaged q) × A) ⊎ (f ≡ Memory) → (q ≡ p) × A
+refused_at f q p A is (inl (at, why)) = let e : Damaged q ≡ Damaged p = sym at ∙ is in ((let same : q ≡ p = cc in same), why)
+refused_at f q p A is (inr memory) = absurd (let e : Damaged p ≡ Memory = sym is ∙ memory in cc)
+
+-- and it is refused as nothing else
+pub refused_so : (f : ReservoirFault) (q : ℕ) (A : Type 0) → ((f ≡ Damaged q) × A) ⊎ (f ≡ Memory) → (f ≡ SchemaDiffers → ⊥) × (f ≡ Full → ⊥) × (f ≡ Ended → ⊥) × (f ≡ Disk → ⊥)
+refused_so f q A (inl (is, why)) = (λ e. (let g : Damaged q ≡ SchemaDiffers = sym is ∙ e in cc), λ e. (let g : Damaged q ≡ Full = sym is ∙ e in cc), λ e. (let g : Damaged q ≡ Ended = sym is ∙ e in cc), λ e. (let g : Damaged q ≡ Disk = sym is ∙ e in cc))
+refused_so f q A (inr is) = (λ e. (let g : Memory ≡ SchemaDiffers = sym is ∙ e in cc), λ e. (let g : Memory ≡ Full = sym is ∙ e in cc), λ e. (let g : Memory ≡ Ended = sym is ∙ e in cc), λ e. (let g : Memory ≡ Disk = sym is ∙ e in cc))
 
 -- which fault of a reservoir a past's fault comes from
 
@@ -102,7 +107,3 @@ look_fault f (inr (inr (inr is))) = (λ e. (let g : Ended ≡ SchemaDiffers = sy
 pub append_fault : (f : ReservoirFault) (r : PastFault) → (f ≡ Ended) ⊎ (f ≡ Full) → r ≡ to_past f → (r ≡ past.Ended) ⊎ (r ≡ past.Full)
 append_fault f r (inl is) e = inl (e ∙ ap to_past is)
 append_fault f r (inr is) e = inr (e ∙ ap to_past is)
-
-pub never_taken : (f : ReservoirFault) (p : ℕ) → (f ≡ Damaged p) ⊎ (f ≡ Memory) → (f ≡ SchemaDiffers → ⊥) × (f ≡ Full → ⊥) × (f ≡ Ended → ⊥)
-never_taken f p (inl is) = (λ e. (let g : Damaged p ≡ SchemaDiffers = sym is ∙ e in cc), λ e. (let g : Damaged p ≡ Full = sym is ∙ e in cc), λ e. (let g : Damaged p ≡ Ended = sym is ∙ e in cc))
-never_taken f p (inr is) = (λ e. (let g : Memory ≡ SchemaDiffers = sym is ∙ e in cc), λ e. (let g : Memory ≡ Full = sym is ∙ e in cc), λ e. (let g : Memory ≡ Ended = sym is ∙ e in cc))

@@ -5,7 +5,7 @@ use Rattle.rg_event.specs.declared.event.Event.{Event}
 use Rattle.rg_event.specs.declared.schema.Field.{Field}
 use Rattle.rg_frame.specs.Frames.{payload_at}
 use Rattle.rg_chunk.specs.Chunks.{chunk_of}
-use Rattle.rg_reservoir.proofs.ChunkHeads.{chunk_size}
+use Rattle.rg_log.proofs.ChunkHeads.{chunk_size}
 use Rattle.rg_log.specs.Log.{joined}
 use Rattle.rg_reservoir.specs.Chain.{chunk_in, chunk_at, Chain, with_chunk, events_from, padded}
 

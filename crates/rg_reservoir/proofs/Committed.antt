@@ -16,7 +16,6 @@ use Rattle.rg_cache.specs.Cache.{Cache}
 use Rattle.rg_chunk.specs.Chunks.{chunk_bytes, chunk_of}
 use Rattle.rg_chunk.specs.declared.head.Layout.TheVariants.{Columns}
 use Rattle.rg_chunk.proofs.Chunks.{chunk_back}
-use Rattle.rg_reservoir.proofs.ChunkHeads.{RisesFrom}
 use Rattle.rg_reservoir.specs.declared.kept.Kept.{Kept}
 use Rattle.std.proofs.lemmas.List.Elements.{All-from_recursion}
 use Rattle.rg_log.specs.Log.{joined, IsChunkOf, HasEvents, HasSchemaFrame}
@@ -28,21 +27,6 @@ use Rattle.rg_reservoir.specs.Kept.{Base, stored, all_events, CommittedOrAll, Is
 use Rattle.rg_reservoir.proofs.Chains.{chunk_at_size, joined-append, chain_push, from_chain, padded_same}
 use Rattle.rg_reservoir.proofs.Committing.{chunk_stays, chunk_behind, chain_behind, chain_stays, first_stays, LogAt, log_at, LogMore, log_more}
 use Rattle.rg_reservoir.proofs.Seeking.{stored_is, before_end, one_image}
-
--- events that rise, from these on
-pub rises_behind : (front : List Event) (es : List Event) → IsRising (front ++ es) → RisesFrom (next_offset front) (last_time front) es
-rises_behind [] [] rising = tt
-rises_behind [] (e ∷ es) rising = (omega arith, omega arith, rises_one e es rising)
-  where
-    rises_one : (e : Event) (es : List Event) → IsRising (e ∷ es) → RisesFrom (e.offset + 1) e.time es
-    rises_one e [] rising = tt
-    rises_one e (f ∷ es) rising = (omega (arith, rising.0), rising.1, rises_one f es rising.2)
-rises_behind (x ∷ []) es rising = one x es rising
-  where
-    one : (e : Event) (es : List Event) → IsRising (e ∷ es) → RisesFrom (e.offset + 1) e.time es
-    one e [] rising = tt
-    one e (f ∷ es) rising = (omega (arith, rising.0), rising.1, one f es rising.2)
-rises_behind (x ∷ (y ∷ front)) es rising = rises_behind (y ∷ front) es rising.2
 
 rising_behind : (xs ys : List Event) → IsRising (xs ++ ys) → IsRising ys
 rising_behind [] ys rising = rising

@@ -7,11 +7,13 @@ use Rattle.rg_frame.specs.Frames.{frames, body, Begins, IsLog, payload_at}
 use Rattle.rg_frame.specs.Looks.{IsTorn, Next}
 use Rattle.rg_frame.proofs.FrameLaws.{frames-push}
 use Rattle.rg_frame.proofs.Payloads.{holds_payload, torn_payload}
-use Rattle.rg_chunk.specs.declared.head.ChunkHead.{ChunkHead}
 use Rattle.rg_chunk.specs.Heads.{head_of}
-use Rattle.rg_reservoir.proofs.ChunkHeads.{head_same}
-use Rattle.rg_reservoir.specs.declared.heads.Tally.{Tally}
-use Rattle.rg_reservoir.specs.Heads.{nothing, told_by, Heads, Passed, IsOpenGate, IsBad, HeadAt}
+use Rattle.rg_log.proofs.Entries.{front as same_entry, further, not_further, no_further}
+use Rattle.rg_log.specs.declared.entry.Entry.{Entry}
+use Rattle.rg_log.specs.declared.entry.LogSoFar.{LogSoFar}
+use Rattle.rg_log.specs.declared.summary.LogSummary.{LogSummary}
+use Rattle.rg_log.specs.Entries.{nothing, told_by, further_entry}
+use Rattle.rg_reservoir.specs.Heads.{Heads, Passed, IsOpenGate, IsBad, EntryAt, IsPassed, CannotPass}
 use Rattle.rg_reservoir.proofs.Chains.{some_none}
 
 -- what stands in front of the last frame's end
@@ -41,47 +43,52 @@ front_same size n front payload long whole cut same =
     by true t = let le : size ≤ 37 = grind (arith, nat_tests) in ap (λ (l : List ℕ). take 37 l) (take_all n payload (omega (arith, le, cut, long)))
     by false f = let lt : 37 < size = grind (arith, nat_tests) in let n37 : n ≡ 37 = omega (arith, lt, cut) in ap (λ (k : ℕ). take 37 (take k payload)) n37 ∙ take-take 37 37 payload (omega arith)
 
-pub head_at : (payloads : List (List ℕ)) (place next size n : ℕ) (front bytes : List ℕ) (head : Option ChunkHead) → Begins payloads place bytes → next ≤ 2 ^ 62 → length front ≡ 37 → n ≡ min 37 size → head ≡ head_of (take n front) → Next payloads size front next bytes → HeadAt bytes payloads place next head
-head_at payloads place next size n front bytes head b most whole cut says found =
+pub entry_at : (payloads : List (List ℕ)) (place next size n : ℕ) (front bytes : List ℕ) (entry : Option Entry) → Begins payloads place bytes → next ≤ 2 ^ 62 → length front ≡ 37 → n ≡ min 37 size → entry ≡ further_entry (take n front) → Next payloads size front next bytes → EntryAt bytes payloads place next entry
+entry_at payloads place next size n front bytes entry b most whole cut says found =
     let m = begins_more payloads found.payload place next bytes b.ends most found.begins in
     record {
       payload = found.payload;
       here = m.0;
       gate = m.2;
       next_is = m.1;
-      says = says ∙ head_same (take n front) found.payload (front_same size n front found.payload found.size_is whole cut found.first);
+      says = says ∙ same_entry (take n front) found.payload (front_same size n front found.payload found.size_is whole cut found.first);
       begins = found.begins;
     }
 
-pub heads_push : (bytes : List ℕ) (place : ℕ) (tally : Tally) (payloads : List (List ℕ)) (end : ℕ) (last next : Tally) (payload : List ℕ)
+pub heads_push : (bytes : List ℕ) (place : ℕ) (tally : LogSummary) (payloads : List (List ℕ)) (end : ℕ) (last next : LogSummary) (payload : List ℕ)
     → Heads bytes place tally payloads end last → payload_at end bytes ≡ Some payload → told_by last (head_of payload) ≡ Some next → Heads bytes place tally (payloads ++ payload ∷ []) (end + 9 + length payload) next
 heads_push bytes place tally [] end last next payload heads here told =
-    (subst (λ (p : ℕ). payload_at p bytes ≡ Some payload) (sym heads.0) here, (next, subst (λ (t : Tally). told_by t (head_of payload) ≡ Some next) (sym heads.1) told, (ap (λ (p : ℕ). p + 9 + length payload) heads.0, refl)))
+    (subst (λ (p : ℕ). payload_at p bytes ≡ Some payload) (sym heads.0) here, (next, subst (λ (t : LogSummary). told_by t (head_of payload) ≡ Some next) (sym heads.1) told, (ap (λ (p : ℕ). p + 9 + length payload) heads.0, refl)))
 heads_push bytes place tally (p ∷ payloads) end last next payload heads here told =
     (heads.0, (heads.1.0, heads.1.1, heads_push bytes (place + 9 + length p) heads.1.0 payloads end last next payload heads.1.2 here told))
 
 pub passed_start : (bytes : List ℕ) (first : ℕ) (payloads : List (List ℕ)) → Begins payloads first bytes → Passed bytes first first nothing
 passed_start bytes first payloads begins = record { chunks = []; are = (refl, refl); payloads = payloads; begins = begins }
 
-pub passed_more : (bytes : List ℕ) (first end next : ℕ) (tally more : Tally) (head : Option ChunkHead) (p : Passed bytes first end tally) → HeadAt bytes p.payloads end next head → told_by tally head ≡ Some more → Passed bytes first next more
-passed_more bytes first end next tally more head p h told = record {
+passed_more : (bytes : List ℕ) (first end next : ℕ) (tally more : LogSummary) (entry : Option Entry) (p : Passed bytes first end tally) (h : EntryAt bytes p.payloads end next entry) → told_by tally (head_of h.payload) ≡ Some more → Passed bytes first next more
+passed_more bytes first end next tally more entry p h told = record {
   chunks = p.chunks ++ h.payload ∷ [];
   are = subst (λ (n : ℕ). Heads bytes first nothing (p.chunks ++ h.payload ∷ []) n more) (sym h.next_is)
-      (heads_push bytes first nothing p.chunks end tally more h.payload p.are h.here (ap (told_by tally) (sym h.says) ∙ told));
+      (heads_push bytes first nothing p.chunks end tally more h.payload p.are h.here told);
   payloads = p.payloads ++ h.payload ∷ [];
   begins = h.begins;
 }
 
-pub bad_head : (bytes : List ℕ) (first end next : ℕ) (tally : Tally) (head : Option ChunkHead) (p : Passed bytes first end tally) → HeadAt bytes p.payloads end next head → told_by tally head ≡ None → IsBad bytes first end
-bad_head bytes first end next tally head p h none = record {
+bad_entry : (bytes : List ℕ) (first end next : ℕ) (tally : LogSummary) (entry : Option Entry) (p : Passed bytes first end tally) (h : EntryAt bytes p.payloads end next entry) → told_by tally (head_of h.payload) ≡ None → IsBad bytes first end
+bad_entry bytes first end next tally entry p h none = record {
   chunks = p.chunks;
   tally = tally;
   are = p.are;
   gate = h.gate;
-  bad = λ q here. let g : Some h.payload ≡ Some q = sym h.here ∙ here in let same : h.payload ≡ q = cc in ap (λ (l : List ℕ). told_by tally (head_of l)) (sym same) ∙ ap (told_by tally) (sym h.says) ∙ none;
+  bad = λ q here. let g : Some h.payload ≡ Some q = sym h.here ∙ here in let same : h.payload ≡ q = cc in ap (λ (l : List ℕ). told_by tally (head_of l)) (sym same) ∙ none;
 }
 
-pub torn_head : (bytes : List ℕ) (first end : ℕ) (tally : Tally) → Passed bytes first end tally → IsTorn end bytes → IsBad bytes first end
+-- a frame that can't be passed is no chunk that may follow
+cannot_pass : (payload : List ℕ) (so_far : LogSoFar) (found : Option Entry) → found ≡ further_entry payload → CannotPass found so_far → told_by so_far.summary (head_of payload) ≡ None
+cannot_pass payload so_far None says none = no_further payload so_far.summary (sym says)
+cannot_pass payload so_far (Some entry) says none = not_further payload so_far entry (sym says) none
+
+pub torn_head : (bytes : List ℕ) (first end : ℕ) (tally : LogSummary) → Passed bytes first end tally → IsTorn end bytes → IsBad bytes first end
 torn_head bytes first end tally p torn = record {
   chunks = p.chunks;
   tally = tally;
@@ -91,16 +98,18 @@ torn_head bytes first end tally p torn = record {
 }
 
 -- the same of a file's bytes by another name
-pub passed_on : (bytes same : List ℕ) (first end next : ℕ) (tally more : Tally) (head : Option ChunkHead) → bytes ≡ same → Passed same first end tally → ((payloads : List (List ℕ)) → Begins payloads end bytes → HeadAt bytes payloads end next head) → told_by tally head ≡ Some more → Passed same first next more
-passed_on bytes same first end next tally more head is p found told =
-    passed_more same first end next tally more head p (subst (λ (l : List ℕ). HeadAt l p.payloads end next head) is (found p.payloads (subst (λ (l : List ℕ). Begins p.payloads end l) (sym is) p.begins))) told
+pub passed_on : (bytes same : List ℕ) (first end next : ℕ) (old new : LogSoFar) (entry : Option Entry) → bytes ≡ same → Passed same first end old.summary → ((payloads : List (List ℕ)) → Begins payloads end bytes → EntryAt bytes payloads end next entry) → IsPassed entry old new → Passed same first next new.summary
+passed_on bytes same first end next old new entry is p found passed =
+    let h = subst (λ (l : List ℕ). EntryAt l p.payloads end next entry) is (found p.payloads (subst (λ (l : List ℕ). Begins p.payloads end l) (sym is) p.begins)) in
+    passed_more same first end next old.summary new.summary entry p h (further h.payload old new passed.0 (sym h.says ∙ passed.1) passed.2).told
 
-pub bad_on : (bytes same : List ℕ) (first end next : ℕ) (tally : Tally) (head : Option ChunkHead) → bytes ≡ same → Passed same first end tally → ((payloads : List (List ℕ)) → Begins payloads end bytes → HeadAt bytes payloads end next head) → told_by tally head ≡ None → IsBad same first end
-bad_on bytes same first end next tally head is p found none =
-    bad_head same first end next tally head p (subst (λ (l : List ℕ). HeadAt l p.payloads end next head) is (found p.payloads (subst (λ (l : List ℕ). Begins p.payloads end l) (sym is) p.begins))) none
+pub bad_on : (bytes same : List ℕ) (first end next : ℕ) (so_far : LogSoFar) (entry : Option Entry) → bytes ≡ same → Passed same first end so_far.summary → ((payloads : List (List ℕ)) → Begins payloads end bytes → EntryAt bytes payloads end next entry) → CannotPass entry so_far → IsBad same first end
+bad_on bytes same first end next so_far entry is p found none =
+    let h = subst (λ (l : List ℕ). EntryAt l p.payloads end next entry) is (found p.payloads (subst (λ (l : List ℕ). Begins p.payloads end l) (sym is) p.begins)) in
+    bad_entry same first end next so_far.summary entry p h (cannot_pass h.payload so_far entry h.says none)
 
-pub torn_on : (bytes same : List ℕ) (first end : ℕ) (tally : Tally) → bytes ≡ same → Passed same first end tally → ((payloads : List (List ℕ)) → Begins payloads end bytes → IsTorn end bytes) → IsBad same first end
+pub torn_on : (bytes same : List ℕ) (first end : ℕ) (tally : LogSummary) → bytes ≡ same → Passed same first end tally → ((payloads : List (List ℕ)) → Begins payloads end bytes → IsTorn end bytes) → IsBad same first end
 torn_on bytes same first end tally is p torn = torn_head same first end tally p (subst (λ (l : List ℕ). IsTorn end l) is (torn p.payloads (subst (λ (l : List ℕ). Begins p.payloads end l) (sym is) p.begins)))
 
-pub ends_on : (bytes same : List ℕ) (first end : ℕ) (tally : Tally) → bytes ≡ same → Passed same first end tally → ((payloads : List (List ℕ)) → Begins payloads end bytes → IsLog payloads end bytes) → (payloads : List (List ℕ)) × IsLog payloads end same
+pub ends_on : (bytes same : List ℕ) (first end : ℕ) (tally : LogSummary) → bytes ≡ same → Passed same first end tally → ((payloads : List (List ℕ)) → Begins payloads end bytes → IsLog payloads end bytes) → (payloads : List (List ℕ)) × IsLog payloads end same
 ends_on bytes same first end tally is p log = (p.payloads, subst (λ (l : List ℕ). IsLog p.payloads end l) is (log p.payloads (subst (λ (l : List ℕ). Begins p.payloads end l) (sym is) p.begins)))

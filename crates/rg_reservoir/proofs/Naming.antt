@@ -1,5 +1,5 @@
 -- Which spots the heads of a log name, counted frame by frame.
-use Rattle.std.proofs.Common.{◌≡◌, ◌∙◌, ◌⊎◌, inl, inr, ℕ, ◌+◌, ◌-◌, ◌^◌, ◌≤◌, ◌<◌, ◌||◌, ◌==◌, Bool, IsTrue, true, false, List, [], ◌∷◌, ◌++◌, length, Option, Some, None, option_map, All, refl, sym, ap, subst, arith, append_assoc}
+use Rattle.std.proofs.Common.{◌≡◌, ◌∙◌, inl, inr, ℕ, ◌+◌, ◌-◌, ◌^◌, ◌≤◌, ◌<◌, ◌||◌, ◌==◌, Bool, IsTrue, true, false, List, [], ◌∷◌, ◌++◌, length, Option, Some, None, option_map, All, refl, sym, ap, subst, arith, append_assoc}
 use Rattle.std.proofs.lemmas.Bool.{or_cases, eqb-true, eq-eqb}
 use Rattle.std.proofs.lemmas.List.{append-nil}
 use Rattle.std.specs.Prelude.{count_by, slice_index, slice_index_or, ◌↔◌}
@@ -15,15 +15,19 @@ use Rattle.rg_frame.proofs.FrameLaws.{length-frames, length-frames-push}
 use Rattle.rg_frame.proofs.FrameLists.{payloads_one}
 use Rattle.rg_frame.proofs.Payloads.{payload_between, payload_none, torn_payload}
 use Rattle.rg_chunk.specs.Chunks.{chunk_of}
-use Rattle.rg_chunk.specs.Heads.{head_of, head_for}
+use Rattle.rg_chunk.specs.Heads.{head_of}
 use Rattle.rg_chunk.specs.declared.head.ChunkHead.{ChunkHead}
 use Rattle.rg_chunk.proofs.Chunks.{chunk_head}
+use Rattle.rg_log.specs.Entries.{count_of, further_entry}
+use Rattle.rg_log.specs.declared.entry.Entry.{Entry}
+use Rattle.rg_log.specs.declared.entry.Entry.TheVariants.{Chunk}
+use Rattle.rg_log.proofs.Entries.{counts}
 use Rattle.rg_log.specs.Log.{chunks_of, joined, HasChunks, HasEvents}
 use Rattle.rg_log.specs.Spots.{count_in, is_in_chunk, is_at_end, named_at, named_from, named_by_heads, NamedByHeads}
 use Rattle.rg_log.proofs.Growing.{part}
 use Rattle.rg_log.proofs.Naming.{in_chunk_is, at_end_is, named_in}
 use Rattle.rg_reservoir.specs.Chain.{chunk_in, IsIllegal}
-use Rattle.rg_reservoir.specs.Heads.{HeadAt}
+use Rattle.rg_reservoir.specs.Heads.{EntryAt}
 use Rattle.rg_reservoir.specs.Kept.{base, opened, next_of, time_of, cache_of, IsRight, IsSound, Spells}
 use Rattle.rg_reservoir.specs.Naming.{Reached, LeftOf, Left, IsHeadless, IsNamed}
 use Rattle.rg_reservoir.specs.declared.reservoir.Reservoir.{Reservoir}
@@ -104,20 +108,20 @@ left_more spots place before left next count less payloads bytes p l has here sa
     record { at = reached_more payloads place next p l.at n.0 n.1 size; count = sum }
 
 -- the look at one chunk more, by what was found of it
-pub left_on : (spots : List Spot) (place before left next less : ℕ) (bytes same : List ℕ) (head : ChunkHead) (found : Option ChunkHead) → bytes ≡ same → Left spots place before left same → ((payloads : List (List ℕ)) → Begins payloads place bytes → HeadAt bytes payloads place next found)
-    → found ≡ Some head → less ≡ left - count_by (is_in_chunk place before head.count) spots → Left spots next (before + head.count) less same
-left_on spots place before left next less bytes same head found is l heads there count =
-    let h = subst (λ (b : List ℕ). HeadAt b l.front place next found) is (heads l.front (subst (λ (b : List ℕ). Begins l.front place b) (sym is) l.begins)) in
-    let says : count_in h.payload ≡ Some head.count = ap (option_map (λ (x : ChunkHead). x.count)) (sym h.says ∙ there) in
+pub left_on : (spots : List Spot) (place before left next less : ℕ) (bytes same : List ℕ) (count : ℕ) (found : Option Entry) → bytes ≡ same → Left spots place before left same → ((payloads : List (List ℕ)) → Begins payloads place bytes → EntryAt bytes payloads place next found)
+    → option_map count_of found ≡ Some count → less ≡ left - count_by (is_in_chunk place before count) spots → Left spots next (before + count) less same
+left_on spots place before left next less bytes same count found is l heads there fewer =
+    let h = subst (λ (b : List ℕ). EntryAt b l.front place next found) is (heads l.front (subst (λ (b : List ℕ). Begins l.front place b) (sym is) l.begins)) in
+    let says : count_in h.payload ≡ Some count = counts h.payload ∙ ap (option_map count_of) (sym h.says) ∙ there in
     record {
       past = omega (arith, h.next_is);
       front = l.front ++ h.payload ∷ [];
       begins = h.begins;
-      each = λ payloads has. left_more spots place before left next head.count less payloads same h.payload (l.each payloads has) has h.here says h.next_is count;
+      each = λ payloads has. left_more spots place before left next count less payloads same h.payload (l.each payloads has) has h.here says h.next_is fewer;
     }
 
 -- the first frame is looked at for its length alone
-pub left_start : (spots : List Spot) (place next : ℕ) (bytes : List ℕ) (found : Option ChunkHead) → place ≡ 0 → ((payloads : List (List ℕ)) → Begins payloads place bytes → HeadAt bytes payloads place next found) → Left spots next 0 (length spots) bytes
+pub left_start : (spots : List Spot) (place next : ℕ) (bytes : List ℕ) (found : Option Entry) → place ≡ 0 → ((payloads : List (List ℕ)) → Begins payloads place bytes → EntryAt bytes payloads place next found) → Left spots next 0 (length spots) bytes
 left_start spots place next bytes found start heads =
     let h = heads [] (record { rest = bytes; ends = sym start; is = refl; goes = inl refl }) in
     record {
@@ -174,13 +178,25 @@ headless_torn place bytes torn at = record {
 pub reached_start : (payloads : List (List ℕ)) → Reached payloads 0
 reached_start payloads = record { done = []; rest = payloads; is = refl; place_is = refl }
 
-pub headless_on : (spots : List Spot) (place before left next : ℕ) (bytes same : List ℕ) (found : Option ChunkHead) → bytes ≡ same → Left spots place before left same → ((payloads : List (List ℕ)) → Begins payloads place bytes → HeadAt bytes payloads place next found) → found ≡ None → IsHeadless place same
+none_found : (found : Option Entry) → option_map count_of found ≡ None → found ≡ None
+none_found None none = refl
+none_found (Some entry) none = absurd (let f : Some (count_of entry) ≡ None = none in cc)
+
+-- what is no further frame has no head
+headless : (payload : List ℕ) → further_entry payload ≡ None → head_of payload ≡ None
+headless payload none = by (head_of payload) refl none
+  where
+    by : (o : Option ChunkHead) → head_of payload ≡ o → option_map (λ (head : ChunkHead). Chunk head) o ≡ None → head_of payload ≡ None
+    by None says e = says
+    by (Some head) says e = absurd (let f : Some (Chunk head) ≡ None = e in cc)
+
+pub headless_on : (spots : List Spot) (place before left next : ℕ) (bytes same : List ℕ) (found : Option Entry) → bytes ≡ same → Left spots place before left same → ((payloads : List (List ℕ)) → Begins payloads place bytes → EntryAt bytes payloads place next found) → option_map count_of found ≡ None → IsHeadless place same
 headless_on spots place before left next bytes same found is l heads none =
-    let h = subst (λ (b : List ℕ). HeadAt b l.front place next found) is (heads l.front (subst (λ (b : List ℕ). Begins l.front place b) (sym is) l.begins)) in
+    let h = subst (λ (b : List ℕ). EntryAt b l.front place next found) is (heads l.front (subst (λ (b : List ℕ). Begins l.front place b) (sym is) l.begins)) in
     record {
       gate = h.gate;
       first = λ zero. absurd (omega (arith, zero, l.past));
-      none = λ p here. let same : h.payload ≡ p = one_payload place h.payload p same h.here here in ap head_of (sym same) ∙ sym h.says ∙ none;
+      none = λ p here. let same : h.payload ≡ p = one_payload place h.payload p same h.here here in ap head_of (sym same) ∙ headless h.payload (sym h.says ∙ none_found found none);
       at = λ payloads has. (l.each payloads has).at;
     }
 

@@ -1,11 +1,26 @@
 -- A walk over the frames of a log.
-use Rattle.std.proofs.Common.{◌≡◌, ℕ, ◌+◌, ◌^◌, ◌<◌, List, ◌∷◌, ◌++◌, length, drop, ap, subst, arith, length-append, length-drop}
+use Rattle.std.proofs.Common.{◌≡◌, ◌∙◌, ℕ, ◌+◌, ◌^◌, ◌<◌, List, ◌∷◌, ◌++◌, length, drop, Option, Some, None, option_map, option_and_then, refl, sym, ap, subst, arith, length-append, length-drop}
+use Rattle.rg_event.specs.Shapes.{Shape, IsSchema}
+use Rattle.rg_event.specs.declared.event.Event.{Event}
+use Rattle.rg_chunk.specs.Chunks.{chunk_of}
+use Rattle.rg_chunk.specs.Heads.{head_of, head_for}
+use Rattle.rg_chunk.specs.declared.head.ChunkHead.{ChunkHead}
+use Rattle.rg_chunk.proofs.Chunks.{chunk_head}
+use Rattle.rg_log.specs.Entries.{nothing, told_by, unread, behind, entry_of, further_entry, with_entry, events_by}
+use Rattle.rg_log.specs.Log.{schema_payload}
+use Rattle.rg_log.specs.declared.entry.Entry.{Entry}
+use Rattle.rg_log.specs.declared.entry.Entry.TheVariants as entry
+use Rattle.rg_log.specs.declared.entry.LogSoFar.{LogSoFar}
+use Rattle.rg_log.specs.declared.summary.LogSummary.{LogSummary}
+use Rattle.rg_log.proofs.Entries.{further}
+use Rattle.rg_log.proofs.Reading.{schema_said}
 use Rattle.rg_frame.specs.Frames.{body}
 use Rattle.rg_frame.specs.Looks.{HoldsFrame, IsTorn}
 use Rattle.rg_frame.proofs.Payloads.{holds_payload, torn_payload}
 use Rattle.rg_reservoir.specs.Heads.{IsOpenGate}
-use Rattle.rg_reservoir.specs.Walked.{place_of, IsTaken, IsNext, IsUntaken, IsRefusedWalk}
+use Rattle.rg_reservoir.specs.Walked.{place_of, stage_by, with_both, stage_after, IsTaken, IsNext, IsUntaken, IsRefusedWalk}
 use Rattle.rg_reservoir.specs.declared.walk.Stage.{Stage}
+use Rattle.rg_reservoir.specs.declared.walk.Stage.TheVariants as stage
 use Rattle.rg_reservoir.specs.declared.walk.Walk.{Walk}
 use Rattle.rg_reservoir.proofs.Chains.{some_none}
 use Rattle.rg_reservoir.proofs.Firsts.{one_payload}
@@ -31,3 +46,94 @@ walk_bad bytes payload next walk holds small is untaken = record {
   gate = gate_of (place_of walk) payload bytes holds;
   untaken = λ p here. subst (λ (l : List ℕ). IsUntaken l walk) (one_payload (place_of walk) payload p bytes (holds_payload (place_of walk) payload bytes holds (omega (arith, small, is))) here) untaken;
 }
+
+-- one step of a walk
+
+abbrev step_of : LogSoFar → List ℕ → Option Entry → Option (Stage × LogSoFar)
+step_of so_far payload found = option_and_then (λ (e : Entry). with_both (stage_by so_far.schema payload e) (with_entry so_far e)) found
+
+-- the frame of a schema, and a chunk that may follow those before it
+pub schema_step : (shape : Shape) → IsSchema shape → stage_after unread (schema_payload shape) ≡ Some (stage.Schema shape, behind shape nothing)
+schema_step shape legal = ap (λ (o : Option Shape). step_of unread (schema_payload shape) (option_map (λ (s : Shape). entry.Schema s) o)) (schema_said shape legal)
+
+pub chunk_step : (shape : Shape) (summary next : LogSummary) (payload : List ℕ) (events : List Event) → chunk_of shape.fields payload ≡ Some events → told_by summary (head_of payload) ≡ Some next → stage_after (behind shape summary) payload ≡ Some (stage.Chunk events, behind shape next)
+chunk_step shape summary next payload events said told =
+    let head = chunk_head shape.fields payload events said in
+    ap (λ (o : Option ChunkHead). step_of (behind shape summary) payload (option_map (λ (h : ChunkHead). entry.Chunk h) o)) head
+    ∙ ap (λ (o : Option (List Event)). with_both (option_map (λ (l : List Event). stage.Chunk l) o) (with_entry (behind shape summary) (entry.Chunk (head_for events)))) said
+    ∙ ap (λ (o : Option LogSummary). with_both (Some (stage.Chunk events)) (option_map (behind shape) o)) (sym (ap (told_by summary) head) ∙ told)
+
+-- what a step says
+
+abbrev stage_in : Stage → Option (Stage × LogSoFar) → Stage
+stage_in other None = other
+stage_in other (Some both) = both.0
+
+abbrev next_in : LogSoFar → Option (Stage × LogSoFar) → LogSoFar
+next_in other None = other
+next_in other (Some both) = both.1
+
+both_parts : (a : Option Stage) (b : Option LogSoFar) (s : Stage) (new : LogSoFar) → with_both a b ≡ Some (s, new) → (a ≡ Some s) × (b ≡ Some new)
+both_parts None b s new e = absurd (let f : None ≡ Some (s, new) = e in cc)
+both_parts (Some t) None s new e = absurd (let f : None ≡ Some (s, new) = e in cc)
+both_parts (Some t) (Some next) s new e = (ap (λ (o : Option (Stage × LogSoFar)). Some (stage_in t o)) e, ap (λ (o : Option (Stage × LogSoFar)). Some (next_in next o)) e)
+
+pub record IsRead (payload : List ℕ) (old : LogSoFar) (s : Stage) (new : LogSoFar) : Type 0 where
+  pub entry : Entry
+  pub is : entry_of old.schema payload ≡ Some entry
+  pub whole : stage_by old.schema payload entry ≡ Some s
+  pub passed : with_entry old entry ≡ Some new
+
+pub read_parts : (payload : List ℕ) (old : LogSoFar) (s : Stage) (new : LogSoFar) → stage_after old payload ≡ Some (s, new) → IsRead payload old s new
+read_parts payload old s new is = by (entry_of old.schema payload) refl is
+  where
+    by : (o : Option Entry) → entry_of old.schema payload ≡ o → step_of old payload o ≡ Some (s, new) → IsRead payload old s new
+    by None said e = absurd (let f : None ≡ Some (s, new) = e in cc)
+    by (Some x) said e = let b = both_parts (stage_by old.schema payload x) (with_entry old x) s new e in record { entry = x; is = said; whole = b.0; passed = b.1 }
+
+chunk_whole : (o : Option (List Event)) (s : Stage) → option_map (λ (events : List Event). stage.Chunk events) o ≡ Some s → (events : List Event) × (o ≡ Some events) × (s ≡ stage.Chunk events)
+chunk_whole None s e = absurd (let f : None ≡ Some s = e in cc)
+chunk_whole (Some events) s e = let f : Some (stage.Chunk events) ≡ Some s = e in (events, refl, (let same : stage.Chunk events ≡ s = cc in sym same))
+
+-- with the schema's frame the chunks come to the same
+pub took_schema : (payload : List ℕ) (old new : LogSoFar) (shape : Shape) → stage_after old payload ≡ Some (stage.Schema shape, new) → new.summary ≡ old.summary
+took_schema payload old new shape step = by read.entry read.whole read.passed
+  where
+    read : IsRead payload old (stage.Schema shape) new
+    read = read_parts payload old (stage.Schema shape) new step
+
+    by : (e : Entry) → stage_by old.schema payload e ≡ Some (stage.Schema shape) → with_entry old e ≡ Some new → new.summary ≡ old.summary
+    by (entry.Schema other) whole passed =
+        let f : Some (record { schema = Some other; summary = old.summary }) ≡ Some new = passed in
+        let same : record { schema = Some other; summary = old.summary } ≡ new = cc in
+        ap (λ (l : LogSoFar). l.summary) (sym same)
+    by (entry.Chunk head) whole passed =
+        let w = chunk_whole (events_by old.schema payload) (stage.Schema shape) whole in
+        absurd (let f : stage.Schema shape ≡ stage.Chunk w.0 = w.2 in cc)
+
+-- a chunk is one of the schema in force, and may follow those before it
+pub record IsChunkStep (payload : List ℕ) (old new : LogSoFar) (events : List Event) : Type 0 where
+  pub shape : Shape
+  pub known : old.schema ≡ Some shape
+  pub said : chunk_of shape.fields payload ≡ Some events
+  pub follows : told_by old.summary (head_of payload) ≡ Some new.summary
+
+known_events : (schema : Option Shape) (payload : List ℕ) (events : List Event) → events_by schema payload ≡ Some events → (shape : Shape) × (schema ≡ Some shape) × (chunk_of shape.fields payload ≡ Some events)
+known_events None payload events is = absurd (let f : None ≡ Some events = is in cc)
+known_events (Some shape) payload events is = (shape, refl, is)
+
+pub took_chunk : (payload : List ℕ) (old new : LogSoFar) (events : List Event) → stage_after old payload ≡ Some (stage.Chunk events, new) → IsChunkStep payload old new events
+took_chunk payload old new events step = by read.entry read.is read.whole read.passed
+  where
+    read : IsRead payload old (stage.Chunk events) new
+    read = read_parts payload old (stage.Chunk events) new step
+
+    by : (e : Entry) → entry_of old.schema payload ≡ Some e → stage_by old.schema payload e ≡ Some (stage.Chunk events) → with_entry old e ≡ Some new → IsChunkStep payload old new events
+    by (entry.Schema other) is whole passed = absurd (let f : Some (stage.Schema other) ≡ Some (stage.Chunk events) = whole in cc)
+    by (entry.Chunk head) is whole passed =
+        let w = chunk_whole (events_by old.schema payload) (stage.Chunk events) whole in
+        let f : stage.Chunk events ≡ stage.Chunk w.0 = w.2 in
+        let same : w.0 ≡ events = cc in
+        let k = known_events old.schema payload w.0 w.1 in
+        let front : further_entry payload ≡ Some (entry.Chunk head) = sym (ap (λ (o : Option Shape). entry_of o payload) k.1) ∙ is in
+        record { shape = k.0; known = k.1; said = k.2 ∙ ap (λ (l : List Event). Some l) same; follows = (further payload old new (entry.Chunk head) front passed).told }

@@ -3,8 +3,8 @@ use Rattle.std.specs.Prelude.{◌≡◌, ◌≢◌, ◌⊎◌, ◌+◌, ℕ, Lis
 use Rattle.rg_event.specs.Shapes.{Shape, IsSchema}
 use Rattle.rg_frame.specs.Frames.{payload_at, IsLog, HasPayloads}
 use Rattle.rg_frame.specs.Steps.{Grows, Grown}
-use Rattle.rg_reservoir.specs.declared.heads.Tally.{Tally}
 use Rattle.rg_log.specs.Log.{schema_payload}
+use Rattle.rg_log.specs.declared.summary.LogSummary.{LogSummary}
 use Rattle.rg_reservoir.specs.Heads.{IsOpenGate, IsBad, Passed}
 
 -- the first frame is no schema's
@@ -32,7 +32,7 @@ abbrev pub Opens : List ℕ → ℕ → ℕ → List ℕ → List ℕ → Type 0
 Opens ours first end old new = (new ≡ old) ⊎ (IsLog [] 0 old × (end ≡ first) × Grown ours old new)
 
 -- the log is read to its end
-pub record IsOpened (ours : List ℕ) (first end : ℕ) (tally : Tally) (bytes : List ℕ) : Type 0 where
+pub record IsOpened (ours : List ℕ) (first end : ℕ) (tally : LogSummary) (bytes : List ℕ) : Type 0 where
   pub here : payload_at 0 bytes ≡ Some ours
   pub ends : first ≡ 9 + length ours
   pub passed : Passed bytes first end tally

@@ -1,56 +1,57 @@
 -- How far a walk over a log has come, and what a frame of it is.
-use Rattle.std.specs.Prelude.{◌≡◌, ◌⊎◌, ◌+◌, ℕ, List, length, Option, Some, None}
-use Rattle.rg_event.specs.Shapes.{Shape, IsSchema}
+use Rattle.std.specs.Prelude.{◌≡◌, ◌+◌, ℕ, List, length, Option, Some, None, option_map, option_and_then}
+use Rattle.rg_event.specs.Shapes.{Shape}
 use Rattle.rg_event.specs.declared.event.Event.{Event}
 use Rattle.rg_frame.specs.Frames.{payload_at}
-use Rattle.rg_chunk.specs.Chunks.{chunk_of}
-use Rattle.rg_chunk.specs.Heads.{head_of}
-use Rattle.rg_log.specs.Log.{schema_payload}
-use Rattle.rg_reservoir.specs.Heads.{told_by, IsOpenGate}
-use Rattle.rg_reservoir.specs.declared.heads.Tally.{Tally}
+use Rattle.rg_log.specs.Entries.{entry_of, with_entry, events_by}
+use Rattle.rg_log.specs.declared.entry.Entry.{Entry}
+use Rattle.rg_log.specs.declared.entry.Entry.TheVariants as entry
+use Rattle.rg_log.specs.declared.entry.LogSoFar.{LogSoFar}
+use Rattle.rg_log.specs.declared.summary.LogSummary.{LogSummary}
+use Rattle.rg_reservoir.specs.Heads.{IsOpenGate}
 use Rattle.rg_reservoir.specs.declared.walk.Stage.{Stage}
 use Rattle.rg_reservoir.specs.declared.walk.Stage.TheVariants as stage
 use Rattle.rg_reservoir.specs.declared.walk.Walk.{Walk}
 
--- the place that it has come to; the schema, once its frame was read; and what the heads of the chunks said
+-- the place that it has come to; what the frames so far say: the schema, once its frame was read, and what the heads of the chunks come to
 abbrev pub place_of : Walk → ℕ
 place_of w = w.place
 
+abbrev pub so_far_of : Walk → LogSoFar
+so_far_of w = w.so_far
+
 abbrev pub schema_of : Walk → Option Shape
-schema_of w = w.schema
+schema_of w = w.so_far.schema
 
-abbrev pub tally_of : Walk → Tally
-tally_of w = w.tally
+abbrev pub tally_of : Walk → LogSummary
+tally_of w = w.so_far.summary
 
--- that payload is the schema's, or a chunk's that continues the frames before it; the walk goes on at that place
-pub record IsSchemaOf (payload : List ℕ) (next : ℕ) (old : Walk) (shape : Shape) (new : Walk) : Type 0 where
-  pub start : schema_of old ≡ None
-  pub legal : IsSchema shape
-  pub is : payload ≡ schema_payload shape
-  pub place : place_of new ≡ next
-  pub schema : schema_of new ≡ Some shape
-  pub tally : tally_of new ≡ tally_of old
+-- what a frame is that is read whole: the schema, or the events of a chunk by the schema in force
+abbrev pub stage_by : Option Shape → List ℕ → Entry → Option Stage
+stage_by schema payload (entry.Schema shape) = Some (stage.Schema shape)
+stage_by schema payload (entry.Chunk head) = option_map (λ (events : List Event). stage.Chunk events) (events_by schema payload)
 
-pub record IsChunkOf (payload : List ℕ) (next : ℕ) (old : Walk) (chunk : List Event) (new : Walk) : Type 0 where
-  pub shape : Shape
-  pub known : schema_of old ≡ Some shape
-  pub said : chunk_of shape.fields payload ≡ Some chunk
-  pub follows : told_by (tally_of old) (head_of payload) ≡ Some (tally_of new)
-  pub place : place_of new ≡ next
-  pub schema : schema_of new ≡ schema_of old
+-- both, where they are there
+abbrev pub with_both : Option Stage → Option LogSoFar → Option (Stage × LogSoFar)
+with_both None next = None
+with_both (Some s) None = None
+with_both (Some s) (Some next) = Some (s, next)
 
+-- one step, read whole: what the frame of this payload is, and what the frames then say, where it may follow those so far
+abbrev pub stage_after : LogSoFar → List ℕ → Option (Stage × LogSoFar)
+stage_after so_far payload = option_and_then (λ (e : Entry). with_both (stage_by so_far.schema payload e) (with_entry so_far e)) (entry_of so_far.schema payload)
+
+-- that payload is this stage of the log, and the walk goes on at that place
 abbrev pub IsTaken : List ℕ → ℕ → Walk → Stage → Walk → Type 0
-IsTaken payload next old (stage.Schema shape) new = IsSchemaOf payload next old shape new
-IsTaken payload next old (stage.Chunk chunk) new = IsChunkOf payload next old chunk new
+IsTaken payload next old s new = (stage_after (so_far_of old) payload ≡ Some (s, so_far_of new)) × (place_of new ≡ next)
 
 -- the frame where the walk has come to is that stage of the log, and the walk goes on behind it
 abbrev pub IsNext : List ℕ → Walk → Stage → Walk → Type 0
 IsNext bytes old stage new = (payload : List ℕ) × (payload_at (place_of old) bytes ≡ Some payload) × IsTaken payload (place_of old + 9 + length payload) old stage new
 
--- that payload is neither the schema's, where no frame was read, nor a chunk's that continues the frames before it
-pub record IsUntaken (payload : List ℕ) (walk : Walk) : Type 0 where
-  pub no_schema : schema_of walk ≡ None → (shape : Shape) → IsSchema shape → payload ≡ schema_payload shape → ⊥
-  pub no_chunk : (shape : Shape) → schema_of walk ≡ Some shape → (chunk_of shape.fields payload ≡ None) ⊎ (told_by (tally_of walk) (head_of payload) ≡ None)
+-- that payload isn't what its place asks for, or doesn't continue the frames so far
+abbrev pub IsUntaken : List ℕ → Walk → Type 0
+IsUntaken payload walk = stage_after (so_far_of walk) payload ≡ None
 
 -- an open gate stands where the walk has come to, and behind it no whole frame with a payload that may follow
 pub record IsRefusedWalk (bytes : List ℕ) (walk : Walk) : Type 0 where

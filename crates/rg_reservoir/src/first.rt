@@ -2,55 +2,20 @@ ghost use Rattle.std.specs.Prelude.{◌≡◌, ◌≢◌, ◌⊎◌, ◌≤◌, 
 ghost use Rattle.std.specs.Option.{ForSome};
 ghost use Rattle.rg_bytes.specs.Counts.{Rose};
 ghost use Rattle.rg_host.specs.Image.{Image, Becomes};
-ghost use Rattle.rg_event.specs.Shapes.{Shape, IsSchema};
 ghost use Rattle.rg_frame.specs.Frames.{payload_at, Begins, IsLog};
 ghost use Rattle.rg_host.specs.Moments.{LeavesAll};
 ghost use Rattle.rg_host.specs.Image.{NothingPending};
 ghost use Rattle.rg_frame.specs.Calls.{Writes};
 ghost use Rattle.rg_frame.specs.LogState.{ReachesEnd};
-ghost use Rattle.rg_log.specs.Log.{schema_payload};
+ghost use Rattle.rg_log.specs.Entries.{unread, nothing};
 ghost use Rattle.rg_reservoir.specs.Attached.{IsNoSchema, IsOther, IsBadFrame, SchemaAdded, Opens, IsOpened};
 
 use crate::fault::ReservoirFault;
-use crate::heads::{Tally, read_heads};
-use rg_event::{Schema, SchemaFault};
+use crate::heads::read_heads;
 use rg_frame::FrameLog;
 use rg_host::Host;
+use rg_log::{EntryFault, LogSoFar, LogSummary};
 use std::alloc::Global;
-
-/// Reads the schema that a payload says, where it says one.
-pub(crate) fn read_schema(alloc: Global, payload: &[u8]) -> Result<Schema, ReservoirFault>
-    ensures is { IfOk result (λ schema. IsSchema schema × (payload.now ≡ schema_payload schema)) }
-    ensures damaged { (p : ℕ) → IsErrOf result (ReservoirFault.Damaged p) → (p ≡ 0) × ((shape : Shape) → IsSchema shape → payload.now ≡ schema_payload shape → ⊥) }
-    ensures faults { IfErr result (λ fault. (fault ≡ ReservoirFault.Damaged 0) ⊎ (fault ≡ ReservoirFault.Memory)) }
-{
-    let text = match payload {
-        [tag, text @ ..] => {
-            if *tag != 0x53 {
-                return Err(ReservoirFault::Damaged(0));
-            }
-            text
-        }
-        [] => return Err(ReservoirFault::Damaged(0)),
-    };
-    match Schema::parse(alloc, text) {
-        Ok(schema) => Ok(schema),
-        Err(SchemaFault::Bad) => Err(ReservoirFault::Damaged(0)),
-        Err(SchemaFault::Memory) => Err(ReservoirFault::Memory),
-    }
-}
-
-/// Judges a first frame that isn't ours.
-fn judge(alloc: Global, payload: &[u8]) -> ReservoirFault
-    ensures differs { (result ≡ ReservoirFault.SchemaDiffers) → (shape : Shape) × IsSchema shape × (payload.now ≡ schema_payload shape) }
-    ensures damaged { (p : ℕ) → (result ≡ ReservoirFault.Damaged p) → (p ≡ 0) × ((shape : Shape) → IsSchema shape → payload.now ≡ schema_payload shape → ⊥) }
-    ensures faults { (result ≡ ReservoirFault.SchemaDiffers) ⊎ (result ≡ ReservoirFault.Damaged 0) ⊎ (result ≡ ReservoirFault.Memory) }
-{
-    if let Err(fault) = read_schema(alloc, payload) {
-        return fault;
-    }
-    ReservoirFault::SchemaDiffers
-}
 
 /// Whether these are the same bytes.
 fn is_same(payload: &[u8], ours: &[u8]) -> bool
@@ -64,10 +29,13 @@ fn is_same(payload: &[u8], ours: &[u8]) -> bool
 fn first_frame<H: Host>(
     alloc: Global,
     log: &mut FrameLog,
+    so_far: &mut LogSoFar,
     ours: &[u8],
     host: &mut H,
 ) -> Result<bool, ReservoirFault>
     requires start { log.old.end ≡ 0 }
+    requires unread { so_far.old ≡ unread }
+    ensures nothing { so_far.new.summary ≡ nothing }
     ensures found { IfOk result (λ found. IsTrue found → ForSome (H.now host.old) (λ v. (payload_at 0 (v log.old.file) ≡ Some ours.now) × (log.new.end ≡ 9 + length ours.now) × ((payloads : List (List ℕ)) × Begins payloads log.new.end (v log.old.file)))) }
     ensures none { IfOk result (λ found. found ≡ false → (log.new ≡ record log.old { ready = true }) × ForSome (H.now host.old) (λ v. IsLog [] 0 (v log.old.file))) }
     ensures differs { IsErrOf result ReservoirFault.SchemaDiffers → ForSome (H.now host.old) (λ v. IsOther ours.now (v log.old.file)) }
@@ -92,10 +60,15 @@ fn first_frame<H: Host>(
         Ok(None) => return Err(ReservoirFault::Damaged(0)),
         Err(fault) => return Err(ReservoirFault::from(fault)),
     }
+    match so_far.take(alloc, &payload) {
+        Ok(_) => {}
+        Err(EntryFault::Bad) => return Err(ReservoirFault::Damaged(0)),
+        Err(EntryFault::Memory) => return Err(ReservoirFault::Memory),
+    }
     if is_same(&payload, ours) {
         return Ok(true);
     }
-    Err(judge(alloc, &payload))
+    Err(ReservoirFault::SchemaDiffers)
 }
 
 /// A log that was read to its end: where its first chunk would stand, and what its heads say.
@@ -103,7 +76,7 @@ fn first_frame<H: Host>(
 pub struct Opened {
     pub log: FrameLog,
     pub first: u64,
-    pub tally: Tally,
+    pub tally: LogSummary,
 }
 
 /// Reads the heads of the log to its end, and writes the first frame where the log has none.
@@ -122,7 +95,8 @@ pub fn open_log<H: Host>(alloc: Global, ours: &[u8], host: &mut H) -> Result<Ope
     ensures out_faults { H.out_faults host.new ≡ H.out_faults host.old }
 {
     let mut log = FrameLog::new(2);
-    let found = match first_frame(alloc, &mut log, ours, host) {
+    let mut so_far = LogSoFar::new();
+    let found = match first_frame(alloc, &mut log, &mut so_far, ours, host) {
         Ok(found) => found,
         Err(fault) => return Err(fault),
     };
@@ -132,18 +106,11 @@ pub fn open_log<H: Host>(alloc: Global, ours: &[u8], host: &mut H) -> Result<Ope
             Err(_) => return Err(ReservoirFault::Disk),
         }
         let first = log.end();
-        return Ok(Opened {
-            log,
-            first,
-            tally: Tally {
-                count: 0,
-                next: 0,
-                time: 0,
-            },
-        });
+        let tally = LogSummary::new();
+        return Ok(Opened { log, first, tally });
     }
     let first = log.end();
-    match read_heads(&mut log, host) {
+    match read_heads(alloc, &mut log, &mut so_far, host) {
         Ok(tally) => Ok(Opened { log, first, tally }),
         Err(fault) => Err(fault),
     }
@@ -167,7 +134,8 @@ pub fn read_log<H: Host>(
     ensures out_faults { H.out_faults host.new ≡ H.out_faults host.old }
 {
     let mut log = FrameLog::new(2);
-    let found = match first_frame(alloc, &mut log, ours, host) {
+    let mut so_far = LogSoFar::new();
+    let found = match first_frame(alloc, &mut log, &mut so_far, ours, host) {
         Ok(found) => found,
         Err(fault) => return Err(fault),
     };
@@ -175,7 +143,7 @@ pub fn read_log<H: Host>(
         return Ok(None);
     }
     let first = log.end();
-    match read_heads(&mut log, host) {
+    match read_heads(alloc, &mut log, &mut so_far, host) {
         Ok(tally) => Ok(Some(Opened { log, first, tally })),
         Err(fault) => Err(fault),
     }

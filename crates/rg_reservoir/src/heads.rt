@@ -5,27 +5,20 @@ ghost use Rattle.rg_frame.specs.Frames.{Begins, IsLog, HasPayloads};
 ghost use Rattle.rg_host.specs.Moments.{LeavesAll};
 ghost use Rattle.rg_frame.specs.LogState.{ReachesEnd};
 ghost use Rattle.rg_frame.specs.Looks.{IsTorn};
-ghost use Rattle.rg_chunk.specs.Heads.{head_of};
-ghost use Rattle.rg_reservoir.specs.Heads.{HeadAt, told_by, Passed, IsBad};
+ghost use Rattle.rg_log.specs.Entries.{nothing};
+ghost use Rattle.rg_reservoir.specs.Heads.{EntryAt, IsPassed, CannotPass, Passed, IsBad};
 
 use crate::fault::ReservoirFault;
-use rg_chunk::{ChunkHead, read_head};
 use rg_frame::{FrameFault, FrameLog};
 use rg_host::Host;
+use rg_log::{Entry, EntryFault, LogSoFar, LogSummary, read_entry};
+use std::alloc::Global;
 
-/// What the heads of a log's front say: how many events there are, the least offset of the next one, and the last time.
-#[derive(Clone, Copy, Debug, PartialEq, Eq)]
-pub struct Tally {
-    pub count: u64,
-    pub next: u64,
-    pub time: u64,
-}
-
-/// A frame that was found, and the head of its chunk, where it begins with one.
-#[derive(Clone, Copy, Debug, PartialEq, Eq)]
-pub struct FoundHead {
+/// A frame that was found, and what it is behind the first one, by its first 37 bytes; none where it is no frame of a log.
+#[derive(Debug, Drop)]
+pub struct FoundEntry {
     pub place: u64,
-    pub head: Option<ChunkHead>,
+    pub entry: Option<Entry>,
 }
 
 fn shorter(size: u64) -> usize
@@ -34,11 +27,14 @@ fn shorter(size: u64) -> usize
     if size < 37 { size as usize } else { 37 }
 }
 
-/// Reads the head of the next frame, and moves the log on.
-pub fn next_head<H: Host>(log: &mut FrameLog, host: &mut H) -> Result<Option<FoundHead>, FrameFault>
+/// Reads the first bytes of the next frame, and moves the log on.
+pub fn next_entry<H: Host>(
+    log: &mut FrameLog,
+    host: &mut H,
+) -> Result<Option<FoundEntry>, FrameFault>
     ensures place { IfOk result (λ r. IfSome r (λ found. (found.place ≡ log.old.end) × (log.old.end + 9 ≤ log.new.end))) }
     ensures some { IfOk result (λ r. IfSome r (λ found. ForSome (H.now host.old) (λ v. (payloads : List (List ℕ)) → Begins payloads log.old.end (v log.old.file)
-        → HeadAt (v log.old.file) payloads log.old.end log.new.end found.head))) }
+        → EntryAt (v log.old.file) payloads log.old.end log.new.end found.entry))) }
     ensures none { IfOk result (λ r. IfNone r ((log.new ≡ record log.old { ready = true }) × ForSome (H.now host.old) (λ v. (payloads : List (List ℕ)) → Begins payloads log.old.end (v log.old.file) → IsLog payloads log.old.end (v log.old.file)))) }
     ensures damaged { (p : ℕ) → IsErrOf result (FrameFault.Damaged p) → ForSome (H.now host.old) (λ v. IsTorn p (v log.old.file)) }
     ensures small { IfOk result (λ r. IfSome r (λ _. log.new.end ≤ 2 ^ 62)) }
@@ -58,54 +54,44 @@ pub fn next_head<H: Host>(log: &mut FrameLog, host: &mut H) -> Result<Option<Fou
         Ok(None) => return Ok(None),
         Err(fault) => return Err(fault),
     };
-    let head = read_head(&front[..shorter(found.length)]);
-    Ok(Some(FoundHead {
+    let entry = read_entry(&front[..shorter(found.length)]);
+    Ok(Some(FoundEntry {
         place: found.place,
-        head,
+        entry,
     }))
 }
 
-impl Tally {
-    /// The same with one chunk more, where it may follow.
-    pub fn with(&self, head: Option<ChunkHead>) -> Option<Tally>
-        requires next { self.now.next ≤ 2 ^ 62 }
-        requires count { self.now.count ≤ 2 ^ 40 }
-        ensures told { result ≡ told_by self.now head }
-        ensures next { IfSome result (λ tally. tally.next ≤ 2 ^ 62) }
-        ensures count { IfSome result (λ tally. tally.count ≤ 2 ^ 40) }
-    {
-        let head = match head {
-            Some(head) => head,
-            None => return None,
-        };
-        if head.first_offset < self.next || head.last_offset < head.first_offset {
-            return None;
-        }
-        if head.last_offset >= 4_611_686_018_427_387_904 {
-            return None;
-        }
-        if head.first_time < self.time || head.last_time < head.first_time {
-            return None;
-        }
-        let count = self.count + u64::from(head.count);
-        if count > 1_099_511_627_776 {
-            return None;
-        }
-        Some(Tally {
-            count,
-            next: head.last_offset + 1,
-            time: head.last_time,
-        })
+/// Goes on behind a frame that was found, where it may follow those so far.
+fn pass_found(alloc: Global, so_far: &mut LogSoFar, found: FoundEntry) -> Result<(), ReservoirFault>
+    ensures passed { OnOk result (IsPassed found.entry so_far.old so_far.new) }
+    ensures few { so_far.old.summary.count ≤ 2 ^ 40 → so_far.new.summary.count ≤ 2 ^ 40 }
+    ensures faults { IfErr result (λ fault. ((fault ≡ ReservoirFault.Damaged found.place) × CannotPass found.entry so_far.old) ⊎ (fault ≡ ReservoirFault.Memory)) }
+{
+    let place = found.place;
+    let entry = match found.entry {
+        Some(entry) => entry,
+        None => return Err(ReservoirFault::Damaged(place)),
+    };
+    match so_far.pass(alloc, &entry) {
+        Ok(()) => Ok(()),
+        Err(EntryFault::Bad) => Err(ReservoirFault::Damaged(place)),
+        Err(EntryFault::Memory) => Err(ReservoirFault::Memory),
     }
 }
 
 /// Reads the heads of the chunks from the log's end on, and moves the log behind them.
-pub fn read_heads<H: Host>(log: &mut FrameLog, host: &mut H) -> Result<Tally, ReservoirFault>
+pub fn read_heads<H: Host>(
+    alloc: Global,
+    log: &mut FrameLog,
+    so_far: &mut LogSoFar,
+    host: &mut H,
+) -> Result<LogSummary, ReservoirFault>
+    requires start { so_far.old.summary ≡ nothing }
     requires small { log.old.end ≤ 2 ^ 62 }
     requires begun { ForSome (H.now host.old) (λ v. (payloads : List (List ℕ)) × Begins payloads log.old.end (v log.old.file)) }
     ensures passed { IfOk result (λ tally. ForSome (H.now host.old) (λ v. Passed (v log.old.file) log.old.end log.new.end tally)) }
     ensures ends { IfOk result (λ tally. ForSome (H.now host.old) (λ v. (payloads : List (List ℕ)) × IsLog payloads log.new.end (v log.old.file) × HasPayloads payloads (v log.old.file))) }
-    ensures few { IfOk result (λ tally. (tally.count ≤ 2 ^ 40) × (tally.next ≤ 2 ^ 62)) }
+    ensures few { IfOk result (λ tally. tally.count ≤ 2 ^ 40) }
     ensures damaged { (p : ℕ) → IsErrOf result (ReservoirFault.Damaged p) → ForSome (H.now host.old) (λ v. IsBad (v log.old.file) log.old.end p) }
     ensures no_other { IsErrOf result ReservoirFault.SchemaDiffers → ⊥ }
     ensures neither { (IsErrOf result ReservoirFault.Full → ⊥) × (IsErrOf result ReservoirFault.Ended → ⊥) }
@@ -117,20 +103,15 @@ pub fn read_heads<H: Host>(log: &mut FrameLog, host: &mut H) -> Result<Tally, Re
     ensures disk_faults { H.disk_faults host.old ≤ H.disk_faults host.new }
     ensures out_faults { H.out_faults host.new ≡ H.out_faults host.old }
 {
-    let mut tally = Tally {
-        count: 0,
-        next: 0,
-        time: 0,
-    };
     'heads: loop {
-        let found = match next_head(log, host) {
+        let found = match next_entry(log, host) {
             Ok(Some(found)) => found,
-            Ok(None) => return Ok(tally),
+            Ok(None) => return Ok(so_far.summary),
             Err(fault) => return Err(ReservoirFault::from(fault)),
         };
-        tally = match tally.with(found.head) {
-            Some(tally) => tally,
-            None => return Err(ReservoirFault::Damaged(found.place)),
-        };
+        match pass_found(alloc, so_far, found) {
+            Ok(()) => {}
+            Err(fault) => return Err(fault),
+        }
     }
 }

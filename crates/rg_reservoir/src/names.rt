@@ -1,13 +1,14 @@
-ghost use Rattle.std.specs.Prelude.{◌≡◌, ◌⊎◌, ◌≤◌, ◌+◌, ◌*◌, ◌^◌, ℕ, List, IfOk, IfErr, OnOk, IsErrOf, length, count_by};
+ghost use Rattle.std.specs.Prelude.{◌≡◌, ◌⊎◌, ◌≤◌, ◌+◌, ◌*◌, ◌^◌, ℕ, List, IfOk, IfErr, OnOk, IsErrOf, length, count_by, option_map};
 ghost use Rattle.std.specs.Option.{ForSome};
 ghost use Rattle.rg_bytes.specs.Counts.{Rose};
 ghost use Rattle.rg_host.specs.Moments.{LeavesAll};
 ghost use Rattle.rg_frame.specs.Frames.{HasPayloads};
+ghost use Rattle.rg_log.specs.Entries.{count_of};
 ghost use Rattle.rg_log.specs.Spots.{is_in_chunk, is_at_end, named_by_heads};
 ghost use Rattle.rg_reservoir.specs.Naming.{Left, IsHeadless};
 
 use crate::fault::ReservoirFault;
-use crate::heads::next_head;
+use crate::heads::{FoundEntry, next_entry};
 use rg_frame::FrameLog;
 use rg_host::Host;
 use rg_past::Spot;
@@ -39,6 +40,16 @@ fn count_at_end(spots: &[Spot], place: u64, before: u128) -> usize
         .count()
 }
 
+/// How many events a frame that was found has; none where it is no frame of a log.
+fn count_in_found(found: FoundEntry) -> Option<u32>
+    ensures { result ≡ option_map count_of found.entry }
+{
+    match found.entry {
+        Some(entry) => Some(entry.count()),
+        None => None,
+    }
+}
+
 /// Goes over the heads of the chunks from the log's end on, and answers how many of the spots name nothing.
 fn count_behind<H: Host>(
     log: &mut FrameLog,
@@ -60,19 +71,20 @@ fn count_behind<H: Host>(
     let mut left = spots.len();
     let mut before: u128 = 0;
     'heads: loop {
-        let found = match next_head(log, host) {
+        let found = match next_entry(log, host) {
             Ok(Some(found)) => found,
             Ok(None) => {
                 return Ok(left.saturating_sub(count_at_end(spots, log.end(), before)));
             }
             Err(fault) => return Err(ReservoirFault::from(fault)),
         };
-        let head = match found.head {
-            Some(head) => head,
-            None => return Err(ReservoirFault::Damaged(found.place)),
+        let place = found.place;
+        let count = match count_in_found(found) {
+            Some(count) => count,
+            None => return Err(ReservoirFault::Damaged(place)),
         };
-        left = left.saturating_sub(count_in_chunk(spots, found.place, before, head.count));
-        before += u128::from(head.count);
+        left = left.saturating_sub(count_in_chunk(spots, place, before, count));
+        before += u128::from(count);
     }
 }
 
@@ -90,7 +102,7 @@ pub fn count_unnamed<H: Host>(host: &mut H, spots: &[Spot]) -> Result<usize, Res
     ensures out_faults { H.out_faults host.new ≡ H.out_faults host.old }
 {
     let mut log = FrameLog::new(2);
-    match next_head(&mut log, host) {
+    match next_entry(&mut log, host) {
         Ok(Some(_)) => {}
         Ok(None) => return Ok(spots.len()),
         Err(fault) => return Err(ReservoirFault::from(fault)),

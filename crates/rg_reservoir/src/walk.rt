@@ -3,17 +3,15 @@ ghost use Rattle.std.specs.Option.{ForSome};
 ghost use Rattle.rg_bytes.specs.Counts.{Rose};
 ghost use Rattle.rg_host.specs.Moments.{LeavesAll};
 ghost use Rattle.rg_frame.specs.Looks.{IsClosed};
-ghost use Rattle.rg_chunk.specs.Chunks.{chunk_of};
-ghost use Rattle.rg_chunk.specs.Heads.{head_of};
-ghost use Rattle.rg_reservoir.specs.Heads.{nothing, told_by};
+ghost use Rattle.rg_reservoir.specs.Heads.{nothing};
+ghost use Rattle.rg_reservoir.specs.Walked.{stage_by, stage_after};
 
 use crate::fault::ReservoirFault;
-use crate::first::read_schema;
-use crate::heads::Tally;
-use rg_chunk::{Chunk, ChunkFault, read_head};
+use rg_chunk::Chunk;
 use rg_event::Schema;
 use rg_frame::FrameLog;
 use rg_host::Host;
+use rg_log::{Entry, EntryFault, LogSoFar};
 use std::alloc::Global;
 
 /// What a frame of a log is.
@@ -30,43 +28,49 @@ pub enum Stage {
 pub struct Walk {
     alloc: Global,
     place: u64,
-    schema: Option<Schema>,
-    tally: Tally,
-    ghost next: { tally.next ≤ 2 ^ 62 },
-    ghost count: { tally.count ≤ 2 ^ 40 },
+    so_far: LogSoFar,
 }
 
-/// A chunk that continues those before it, and what the heads say with it.
-#[derive(Drop)]
-struct Taken {
-    chunk: Chunk,
-    tally: Tally,
-}
-
-/// Reads the chunk that a payload says, where it says one that may follow those before it.
-fn take_chunk(
+/// What a frame is, read whole. `Bad` comes exactly where it is no chunk of the schema in force.
+fn read_stage(
     alloc: Global,
-    schema: &Schema,
-    tally: &Tally,
+    so_far: &LogSoFar,
+    entry: &Entry,
     payload: &[u8],
-    place: u64,
-) -> Result<Taken, ReservoirFault>
-    requires next { tally.now.next ≤ 2 ^ 62 }
-    requires count { tally.now.count ≤ 2 ^ 40 }
-    ensures said { IfOk result (λ taken. chunk_of schema.now.fields payload.now ≡ Some taken.chunk) }
-    ensures told { IfOk result (λ taken. told_by tally.now (head_of payload.now) ≡ Some taken.tally) }
-    ensures small { IfOk result (λ taken. (taken.tally.next ≤ 2 ^ 62) × (taken.tally.count ≤ 2 ^ 40)) }
-    ensures damaged { (p : ℕ) → IsErrOf result (ReservoirFault.Damaged p) → (p ≡ place) × ((chunk_of schema.now.fields payload.now ≡ None) ⊎ (told_by tally.now (head_of payload.now) ≡ None)) }
-    ensures faults { IfErr result (λ fault. (fault ≡ ReservoirFault.Damaged place) ⊎ (fault ≡ ReservoirFault.Memory)) }
+) -> Result<Stage, EntryFault>
+    ensures is { IfOk result (λ stage. stage_by so_far.now.schema payload.now entry.now ≡ Some stage) }
+    ensures bad { IsErrOf result EntryFault.Bad → stage_by so_far.now.schema payload.now entry.now ≡ None }
 {
-    let chunk = match Chunk::decode(alloc, schema, payload) {
-        Ok(chunk) => chunk,
-        Err(ChunkFault::BadChunk) => return Err(ReservoirFault::Damaged(place)),
-        Err(ChunkFault::Memory) => return Err(ReservoirFault::Memory),
+    match entry {
+        Entry::Schema(schema) => match schema.copy(alloc) {
+            Ok(schema) => Ok(Stage::Schema(schema)),
+            Err(_) => Err(EntryFault::Memory),
+        },
+        Entry::Chunk(_) => match so_far.events(alloc, payload) {
+            Ok(chunk) => Ok(Stage::Chunk(chunk)),
+            Err(fault) => Err(fault),
+        },
+    }
+}
+
+/// Takes the next frame, read whole. `Bad` comes exactly where it isn't what its place asks for, or doesn't continue those
+/// before it. A fault leaves the frames so far as they were.
+fn take_stage(alloc: Global, so_far: &mut LogSoFar, payload: &[u8]) -> Result<Stage, EntryFault>
+    ensures is { IfOk result (λ stage. stage_after so_far.old payload.now ≡ Some (stage, so_far.new)) }
+    ensures bad { IsErrOf result EntryFault.Bad → stage_after so_far.old payload.now ≡ None }
+    ensures err { OnErr result (so_far.new ≡ so_far.old) }
+{
+    let entry = match so_far.entry(alloc, payload) {
+        Ok(entry) => entry,
+        Err(fault) => return Err(fault),
     };
-    match tally.with(read_head(payload)) {
-        Some(tally) => Ok(Taken { chunk, tally }),
-        None => Err(ReservoirFault::Damaged(place)),
+    let stage = match read_stage(alloc, so_far, &entry, payload) {
+        Ok(stage) => stage,
+        Err(fault) => return Err(fault),
+    };
+    match so_far.pass(alloc, &entry) {
+        Ok(()) => Ok(stage),
+        Err(fault) => Err(fault),
     }
 }
 
@@ -82,36 +86,8 @@ impl Walk {
         Walk {
             alloc,
             place: 0,
-            schema: None,
-            tally: Tally {
-                count: 0,
-                next: 0,
-                time: 0,
-            },
+            so_far: LogSoFar::new(),
         }
-    }
-
-    /// Takes the payload of the first frame.
-    fn take_schema(&mut self, payload: &[u8], next: u64) -> Result<Stage, ReservoirFault>
-        requires { schema_of self.old ≡ None }
-        ensures taken { IfOk result (λ stage. IsTaken payload.now next self.old stage self.new) }
-        ensures place { OnOk result (place_of self.new ≡ next) }
-        ensures damaged { (p : ℕ) → IsErrOf result (ReservoirFault.Damaged p) → (p ≡ place_of self.old) × IsUntaken payload.now self.old }
-        ensures faults { IfErr result (λ fault. (fault ≡ ReservoirFault.Damaged (place_of self.old)) ⊎ (fault ≡ ReservoirFault.Memory)) }
-        ensures err { OnErr result (self.new ≡ self.old) }
-    {
-        let schema = match read_schema(self.alloc, payload) {
-            Ok(schema) => schema,
-            Err(ReservoirFault::Memory) => return Err(ReservoirFault::Memory),
-            Err(_) => return Err(ReservoirFault::Damaged(self.place)),
-        };
-        let known = match schema.copy(self.alloc) {
-            Ok(known) => known,
-            Err(_) => return Err(ReservoirFault::Memory),
-        };
-        self.schema = Some(known);
-        self.place = next;
-        Ok(Stage::Schema(schema))
     }
 
     /// Takes the payload of the frame that the walk has come to.
@@ -122,17 +98,13 @@ impl Walk {
         ensures faults { IfErr result (λ fault. (fault ≡ ReservoirFault.Damaged (place_of self.old)) ⊎ (fault ≡ ReservoirFault.Memory)) }
         ensures err { OnErr result (self.new ≡ self.old) }
     {
-        let result = match &self.schema {
-            Some(schema) => take_chunk(self.alloc, schema, &self.tally, payload, self.place),
-            None => return self.take_schema(payload, next),
-        };
-        match result {
-            Ok(taken) => {
+        match take_stage(self.alloc, &mut self.so_far, payload) {
+            Ok(stage) => {
                 self.place = next;
-                self.tally = taken.tally;
-                Ok(Stage::Chunk(taken.chunk))
+                Ok(stage)
             }
-            Err(fault) => Err(fault),
+            Err(EntryFault::Bad) => Err(ReservoirFault::Damaged(self.place)),
+            Err(EntryFault::Memory) => Err(ReservoirFault::Memory),
         }
     }
 

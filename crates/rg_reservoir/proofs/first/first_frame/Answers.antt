@@ -1,12 +1,15 @@
-use Rattle.std.proofs.Common.{◌≡◌, ◌≢◌, ◌∙◌, ap, sym, subst, ℕ, [], Err, Some, arith}
+use Rattle.std.proofs.Common.{◌≡◌, ◌≢◌, ◌∙◌, refl, ap, sym, subst, ℕ, [], Err, Some, arith}
 use Rattle.rg_host.specs.Image.{Image}
 use Rattle.rg_frame.specs.Frames.{IsLog, Begins, payload_at}
 use Rattle.rg_frame.specs.Looks.{IsTorn, IsClosed, Next, HoldsFrame}
 use Rattle.rg_frame.specs.declared.fault.FrameFault.{FrameFault}
-use Rattle.rg_reservoir.specs.declared.fault.ReservoirFault.TheVariants.{Damaged, SchemaDiffers, Full, Ended}
+use Rattle.rg_reservoir.specs.declared.fault.ReservoirFault.TheVariants.{Damaged, Full, Ended}
 use Rattle.rg_frame.specs.LogState.{LogState}
-use Rattle.rg_reservoir.proofs.Causes.{from_damaged, torn_at, read_at, never_full, never_ended, of_step, never_judged}
+use Rattle.rg_reservoir.proofs.Causes.{from_damaged, torn_at, read_at, never_full, never_ended, of_step}
 use Rattle.rg_reservoir.proofs.Firsts.{begins_none, FirstAt, first_at, torn_first, read_first, first_ours, first_other, first_none, closed_first}
+use Rattle.rg_log.specs.Entries.{entry_after}
+use Rattle.rg_log.specs.declared.entry.LogSoFar.{LogSoFar}
+use Rattle.rg_log.proofs.Entries.{only_first, no_first}
 use Rattle.rg_reservoir.proofs.first.first_frame.Goals as goal
 
 pub returns-in-Ok-None-clause-none : goal.returns-in-Ok-None-clause-none
@@ -60,7 +63,7 @@ returns-then-is_same-clause-found g c = λ yes v told.
     let n = rw c.in-Ok-Some-read.field-0-is at c.in-Ok-Some-read.ensures.next in
     let f = rw c.in-Ok-Some-read.field-0-is at c.in-Ok-Some-read.ensures.fits in
     read_first 0 c.in-Ok-Some-read.field-0-0 c.read.new.out.items (v c.args.log.now.file) (subst (λ (q : ℕ). HoldsFrame 0 c.read.new.out.items (v q)) file (h v (c.step.ensures.leaves.now_stays ∙ told))) f n in
-    let same : c.read.new.out.items ≡ c.args.ours.now = sym c.deref.ensures.value ∙ c.is_same.ensures.same c.if-is_same.true in
+    let same : c.read.new.out.items ≡ c.args.ours.now = sym c.deref-2.ensures.value ∙ c.is_same.ensures.same c.if-is_same.true in
     first_ours c.step.new.self.end c.read.new.out.items c.args.ours.now (v c.args.log.now.file) (first v told) (here v told) same
 
 pub returns-clause-differs : goal.returns-clause-differs
@@ -78,13 +81,12 @@ returns-clause-differs g c = λ e v told.
     let n = rw c.in-Ok-Some-read.field-0-is at c.in-Ok-Some-read.ensures.next in
     let f = rw c.in-Ok-Some-read.field-0-is at c.in-Ok-Some-read.ensures.fits in
     read_first 0 c.in-Ok-Some-read.field-0-0 c.read.new.out.items (v c.args.log.now.file) (subst (λ (q : ℕ). HoldsFrame 0 c.read.new.out.items (v q)) file (h v (c.step.ensures.leaves.now_stays ∙ told))) f n in
-    let bad : c.judge.result ≡ SchemaDiffers = cc in
-    let j = c.judge.ensures.differs bad in
-    let differs : c.read.new.out.items ≢ c.args.ours.now = λ same. c.is_same.ensures.other c.if-is_same.false (c.deref.ensures.value ∙ same) in
-    first_other c.read.new.out.items c.args.ours.now (v c.args.log.now.file) j.0 (here v told) differs j.1 (sym c.deref-2.ensures.value ∙ j.2)
+    let differs : c.read.new.out.items ≢ c.args.ours.now = λ same. c.is_same.ensures.other c.if-is_same.false (c.deref-2.ensures.value ∙ same) in
+    let f = only_first c.deref.result.now c.take.new.self (ap (λ (l : LogSoFar). entry_after l c.deref.result.now) (sym c.requires.unread) ∙ c.in-Ok.ensures.ok) in
+    first_other c.read.new.out.items c.args.ours.now (v c.args.log.now.file) f.0 (here v told) differs f.1 (sym c.deref.ensures.value ∙ f.2)
 
-pub returns-clause-damaged : goal.returns-clause-damaged
-returns-clause-damaged g c = λ p e.
+pub returns-in-Err-Bad-clause-damaged : goal.returns-in-Err-Bad-clause-damaged
+returns-in-Err-Bad-clause-damaged g c = λ p e.
     let moved = rw c.in-Ok-Some.field-0-is at c.in-Ok-Some.ensures.moved in
     let end : c.step.new.self.end ≡ c.in-Ok-Some.field-0-0.next = ap (λ (l : LogState). l.end) moved.2 in
     let file : c.step.new.self.file ≡ c.args.log.now.file = ap (λ (l : LogState). l.file) moved.2 in
@@ -98,9 +100,9 @@ returns-clause-damaged g c = λ p e.
     let n = rw c.in-Ok-Some-read.field-0-is at c.in-Ok-Some-read.ensures.next in
     let f = rw c.in-Ok-Some-read.field-0-is at c.in-Ok-Some-read.ensures.fits in
     read_first 0 c.in-Ok-Some-read.field-0-0 c.read.new.out.items (v c.args.log.now.file) (subst (λ (q : ℕ). HoldsFrame 0 c.read.new.out.items (v q)) file (h v (c.step.ensures.leaves.now_stays ∙ told))) f n in
-    let bad : c.judge.result ≡ Damaged p = cc in
-    let j = c.judge.ensures.damaged p bad in
-    (j.0, λ v told. first_none c.step.new.self.end c.read.new.out.items (v c.args.log.now.file) (first v told) (here v told) (λ shape legal is. j.1 shape legal (c.deref-2.ensures.value ∙ is)))
+    let at : 0 ≡ p = cc in
+    let none = no_first c.deref.result.now (ap (λ (l : LogSoFar). entry_after l c.deref.result.now) (sym c.requires.unread) ∙ (rw c.in-Err-Bad.field-0-is at c.in-Err-Bad.ensures.bad) refl) in
+    (sym at, λ v told. first_none c.step.new.self.end c.read.new.out.items (v c.args.log.now.file) (first v told) (here v told) (λ shape legal is. none shape legal (c.deref.ensures.value ∙ is)))
 
 pub returns-in-Err-clause-neither : goal.returns-in-Err-clause-neither
 returns-in-Err-clause-neither g c = (
@@ -113,8 +115,3 @@ returns-in-Err-read-clause-neither g c = (
   λ e. (let is : c.from-in-Err-read.result ≡ Full = cc in never_full c.in-Err-read.fault (sym c.from-in-Err-read.ensures ∙ is)),
   λ e. (let is : c.from-in-Err-read.result ≡ Ended = cc in never_ended c.in-Err-read.fault 0 c.in-Err-read.ensures.faults (sym c.from-in-Err-read.ensures ∙ is)),
 )
-
-pub returns-clause-neither : goal.returns-clause-neither
-returns-clause-neither g c =
-    let no = never_judged c.judge.result c.judge.ensures.faults in
-    (λ e. no.0 (let is : c.judge.result ≡ Full = cc in is), λ e. no.1 (let is : c.judge.result ≡ Ended = cc in is))

@@ -6,6 +6,8 @@ use Rattle.rg_frame.specs.Steps.{Appended}
 use Rattle.rg_frame.specs.LogState.{LogState, ReachesEnd}
 use Rattle.rg_reservoir.specs.declared.fault.ReservoirFault.TheVariants.{Damaged}
 use Rattle.rg_reservoir.specs.declared.fault.ReservoirFault.{ReservoirFault}
+use Rattle.rg_log.specs.declared.summary.LogSummary.{LogSummary}
+use Rattle.rg_reservoir.specs.Attached.{IsOpened}
 use Rattle.rg_reservoir.specs.Heads.{Passed, IsBad}
 use Rattle.rg_reservoir.proofs.Listing.{listed, grown_log, reaches_start}
 use Rattle.rg_reservoir.proofs.Firsts.{quiet, added, becomes_back, opened_new}
@@ -56,7 +58,8 @@ returns-then-not-found-clause-opened g c = λ x told.
     let next : c.append.new.self.end ≡ c.first_frame.new.log.end + 9 + length c.args.ours.now = ap (λ (l : LogState). l.end) c.in-Ok-append.ensures.ok in
     let log1 : IsLog (c.args.ours.now ∷ []) c.append.new.self.end (x c.first_frame.new.log.file) =
     grown_log [] c.args.ours.now c.first_frame.new.log.end c.append.new.self.end (back.0 c.first_frame.new.log.file) (x c.first_frame.new.log.file) (back.2.there ([], log0)).0 (listed [] c.first_frame.new.log.end (back.0 c.first_frame.new.log.file) log0 (omega (arith, end))) end next in
-    opened_new c.args.ours.now c.end-first.result c.append.new.self.end (x 2) c.end-first.ensures.within.1 c.end-first.ensures.end (subst (λ (f : ℕ). IsLog (c.args.ours.now ∷ []) c.append.new.self.end (x f)) file log1)
+    subst (λ (t : LogSummary). IsOpened c.args.ours.now c.end-first.result c.append.new.self.end t (x 2)) (sym c.new-tally.ensures)
+    (opened_new c.args.ours.now c.end-first.result c.append.new.self.end (x 2) c.end-first.ensures.within.1 c.end-first.ensures.end (subst (λ (f : ℕ). IsLog (c.args.ours.now ∷ []) c.append.new.self.end (x f)) file log1))
 
 pub returns-then-not-found-clause-opens : goal.returns-then-not-found-clause-opens
 returns-then-not-found-clause-opens g c =
@@ -119,15 +122,15 @@ pub returns-in-Ok-read_heads-clause-writes : goal.returns-in-Ok-read_heads-claus
 returns-in-Ok-read_heads-clause-writes g c =
     quiet g.H.Host.now g.H.Host.may g.H.Host.clock g.H.Host.since g.H.Host.said c.args.ours.now _ _ (leaves_all-then g.H.Host.now g.H.Host.may g.H.Host.clock g.H.Host.since g.H.Host.said _ _ _ c.first_frame.ensures.leaves c.read_heads.ensures.leaves)
 
-pub returns-in-Err-read_heads-clause-writes : goal.returns-in-Err-read_heads-clause-writes
-returns-in-Err-read_heads-clause-writes g c =
-    quiet g.H.Host.now g.H.Host.may g.H.Host.clock g.H.Host.since g.H.Host.said c.args.ours.now _ _ (leaves_all-then g.H.Host.now g.H.Host.may g.H.Host.clock g.H.Host.since g.H.Host.said _ _ _ c.first_frame.ensures.leaves c.read_heads.ensures.leaves)
-
 pub returns-in-Ok-read_heads-clause-reaches : goal.returns-in-Ok-read_heads-clause-reaches
 returns-in-Ok-read_heads-clause-reaches g c = c.read_heads.ensures.reaches (c.first_frame.ensures.reaches (subst (λ (l : LogState). ReachesEnd l (g.H.Host.now c.args.host.now)) (sym c.new-log.ensures.fresh) (λ going v told. reaches_start (v 2))))
 
-pub returns-in-Err-read_heads-clause-damaged : goal.returns-in-Err-read_heads-clause-damaged
-returns-in-Err-read_heads-clause-damaged g c = λ p e v told.
+pub returns-clause-writes : goal.returns-clause-writes
+returns-clause-writes g c =
+    quiet g.H.Host.now g.H.Host.may g.H.Host.clock g.H.Host.since g.H.Host.said c.args.ours.now _ _ (leaves_all-then g.H.Host.now g.H.Host.may g.H.Host.clock g.H.Host.since g.H.Host.said _ _ _ c.first_frame.ensures.leaves c.read_heads.ensures.leaves)
+
+pub returns-clause-damaged : goal.returns-clause-damaged
+returns-clause-damaged g c = λ p e v told.
     let yes : IsTrue c.in-Ok.found = search rules in
     let found = c.in-Ok.ensures.found yes in
     let is_file : c.new-log.result.file ≡ 2 = ap (λ (l : LogState). l.file) c.new-log.ensures.fresh in

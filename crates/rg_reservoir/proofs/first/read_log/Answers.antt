@@ -1,4 +1,4 @@
-use Rattle.std.proofs.Common.{rules, ◌≡◌, ◌∙◌, ◌+◌, ap, sym, subst, ℕ, [], Err, Some, length, IsTrue, false, inr}
+use Rattle.std.proofs.Common.{rules, ◌≡◌, ◌∙◌, ap, sym, subst, ℕ, [], Err, Some, IsTrue, false, inr}
 use Rattle.rg_frame.specs.Frames.{IsLog, HasPayloads, Begins, payload_at}
 use Rattle.rg_frame.specs.LogState.{LogState}
 use Rattle.rg_reservoir.specs.declared.fault.ReservoirFault.TheVariants.{Damaged}
@@ -38,8 +38,8 @@ returns-in-Ok-read_heads-clause-opened g c = λ v told.
       has = subst (λ (n : ℕ). HasPayloads l.0 (v n)) file l.2;
     }
 
-pub returns-in-Err-read_heads-clause-damaged : goal.returns-in-Err-read_heads-clause-damaged
-returns-in-Err-read_heads-clause-damaged g c = λ p e v told.
+pub returns-clause-damaged : goal.returns-clause-damaged
+returns-clause-damaged g c = λ p e v told.
     let yes : IsTrue c.in-Ok.found = search rules in
     let is_file : c.new-log.result.file ≡ 2 = ap (λ (l : LogState). l.file) c.new-log.ensures.fresh in
     let file : c.first_frame.new.log.file ≡ 2 = c.first_frame.ensures.same.0 ∙ is_file in

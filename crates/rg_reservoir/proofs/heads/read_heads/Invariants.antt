@@ -7,9 +7,8 @@ use Rattle.rg_reservoir.proofs.heads.read_heads.Given as goal
 
 abbrev pub invariant-heads : goal.invariant-heads
 invariant-heads g l = record {
-  passed : ForSome (g.H.Host.now l.fn.host) (λ v. Passed (v l.fn.log.file) l.fn.log.end l.log.end l.tally);
-  few : l.tally.count ≤ 2 ^ 40;
-  next : l.tally.next ≤ 2 ^ 62;
+  passed : ForSome (g.H.Host.now l.fn.host) (λ v. Passed (v l.fn.log.file) l.fn.log.end l.log.end l.so_far.summary);
+  few : l.so_far.summary.count ≤ 2 ^ 40;
   small : l.log.end ≤ 2 ^ 62;
   reaches : ReachesEnd l.fn.log (g.H.Host.now l.fn.host) → ReachesEnd l.log (g.H.Host.now l.host);
   file : l.log.file ≡ l.fn.log.file;

@@ -1,10 +1,8 @@
 use Rattle.std.proofs.Common.{◌≡◌, ◌∙◌, ◌+◌, ◌-◌, ◌<◌, ◌^◌, ap, sym, subst, ℕ, Err, arith, rules}
 use Rattle.std.specs.Prelude.{count_by}
-use Rattle.rg_frame.specs.Frames.{IsLog}
 use Rattle.rg_frame.specs.LogState.{LogState}
 use Rattle.rg_frame.specs.Looks.{IsTorn}
 use Rattle.rg_frame.specs.declared.fault.FrameFault.{FrameFault}
-use Rattle.rg_host.specs.Image.{Image}
 use Rattle.rg_host.proofs.Runs.{leaves_all-then}
 use Rattle.rg_log.specs.Spots.{is_in_chunk, is_at_end}
 use Rattle.rg_reservoir.specs.Naming.{Left, IsHeadless}
@@ -39,26 +37,27 @@ returns-in-None-clause-damaged g c = λ p e v told.
     let h = rw c.in-Ok-Some.field-0-is at c.in-Ok-Some.ensures.some in
     let at = rw c.in-Ok-Some.field-0-is at c.in-Ok-Some.ensures.place in
     subst (λ (q : ℕ). IsHeadless q (v c.args.log.now.file)) (sym at.0 ∙ same)
-    (headless_on c.args.spots.now c.heads.log.end c.heads.before c.heads.left c.next_head.new.log.end (v c.heads.log.file) (v c.args.log.now.file) c.in-Ok-Some.found.head (ap v inv.file) (inv.counted v told) (h v (inv.leaves.now_stays ∙ told)) c.in-None.is)
+    (headless_on c.args.spots.now c.heads.log.end c.heads.before c.heads.left c.next_entry.new.log.end (v c.heads.log.file) (v c.args.log.now.file) c.in-Ok-Some.found.entry (ap v inv.file) (inv.counted v told) (h v (inv.leaves.now_stays ∙ told)) (sym c.count_in_found.ensures ∙ c.in-None.is))
 
 pub heads-preserved : goal.heads-preserved
 heads-preserved g c =
     let inv = c.heads.invariant in
     let h = rw c.in-Ok-Some.field-0-is at c.in-Ok-Some.ensures.some in
     let at = rw c.in-Ok-Some.field-0-is at c.in-Ok-Some.ensures.place in
-    let wide : c.from-before.result ≡ c.in-Some.head.count = search rules in
-    let narrow : c.in-Some.head.count < 2 ^ 32 = search rules in
-    let count : c.saturating_sub-left.result ≡ c.heads.left - count_by (is_in_chunk c.heads.log.end c.heads.before c.in-Some.head.count) c.args.spots.now =
-    search rules ∙ ap (λ (n : ℕ). c.heads.left - n) (c.count_in_chunk.ensures ∙ ap (λ (q : ℕ). count_by (is_in_chunk q c.heads.before c.in-Some.head.count) c.args.spots.now) at.0) in
+    let wide : c.from-before.result ≡ c.in-Some.count = search rules in
+    let there = sym c.count_in_found.ensures ∙ c.in-Some.is in
+    let narrow : c.in-Some.count < 2 ^ 32 = search rules in
+    let count : c.saturating_sub-left.result ≡ c.heads.left - count_by (is_in_chunk c.heads.log.end c.heads.before c.in-Some.count) c.args.spots.now =
+    search rules ∙ ap (λ (n : ℕ). c.heads.left - n) (c.count_in_chunk.ensures ∙ ap (λ (q : ℕ). count_by (is_in_chunk q c.heads.before c.in-Some.count) c.args.spots.now) at.0) in
     record {
-      counted = λ v told. subst (λ (n : ℕ). Left c.args.spots.now c.next_head.new.log.end (c.heads.before + n) c.saturating_sub-left.result (v c.args.log.now.file)) (sym wide)
-          (left_on c.args.spots.now c.heads.log.end c.heads.before c.heads.left c.next_head.new.log.end c.saturating_sub-left.result (v c.heads.log.file) (v c.args.log.now.file) c.in-Some.head c.in-Ok-Some.found.head (ap v inv.file) (inv.counted v told) (h v (inv.leaves.now_stays ∙ told)) c.in-Some.is count);
+      counted = λ v told. subst (λ (n : ℕ). Left c.args.spots.now c.next_entry.new.log.end (c.heads.before + n) c.saturating_sub-left.result (v c.args.log.now.file)) (sym wide)
+          (left_on c.args.spots.now c.heads.log.end c.heads.before c.heads.left c.next_entry.new.log.end c.saturating_sub-left.result (v c.heads.log.file) (v c.args.log.now.file) c.in-Some.count c.in-Ok-Some.found.entry (ap v inv.file) (inv.counted v told) (h v (inv.leaves.now_stays ∙ told)) there count);
       few = omega (arith, inv.few, wide, narrow, at.1);
       small = rw c.in-Ok-Some.field-0-is at c.in-Ok-Some.ensures.small;
-      file = c.next_head.ensures.same.0 ∙ inv.file;
-      leaves = leaves_all-then g.H.Host.now g.H.Host.may g.H.Host.clock g.H.Host.since g.H.Host.said _ _ _ inv.leaves c.next_head.ensures.leaves;
-      disk_faults = omega (arith, inv.disk_faults, c.next_head.ensures.disk_faults);
-      out_faults = c.next_head.ensures.out_faults ∙ inv.out_faults;
+      file = c.next_entry.ensures.same.0 ∙ inv.file;
+      leaves = leaves_all-then g.H.Host.now g.H.Host.may g.H.Host.clock g.H.Host.since g.H.Host.said _ _ _ inv.leaves c.next_entry.ensures.leaves;
+      disk_faults = omega (arith, inv.disk_faults, c.next_entry.ensures.disk_faults);
+      out_faults = c.next_entry.ensures.out_faults ∙ inv.out_faults;
     }
 
 pub returns-in-Ok-None-clause-lists : goal.returns-in-Ok-None-clause-lists

@@ -1,4 +1,4 @@
-use Rattle.std.proofs.Common.{◌≡◌, ◌∙◌, ◌+◌, ap, sym, subst, ℕ, List, Err, Option, Some, length, refl, arith, rules, IfOk, OnOk}
+use Rattle.std.proofs.Common.{◌≡◌, ◌∙◌, ◌+◌, ap, sym, subst, ℕ, List, Err, Option, Some, length, IfOk, OnOk}
 use Rattle.std.specs.Prelude.{count_by}
 use Rattle.rg_frame.specs.Frames.{HasPayloads}
 use Rattle.rg_frame.specs.LogState.{LogState}
@@ -33,19 +33,19 @@ pub count_behind-requires-clause-begun : goal.count_behind-requires-clause-begun
 count_behind-requires-clause-begun g c = λ v told.
     let h = rw c.in-Ok-Some.field-0-is at c.in-Ok-Some.ensures.some in
     let start : c.new-log.result.end ≡ 0 = ap (λ (l : LogState). l.end) c.new-log.ensures.fresh in
-    subst (λ (f : ℕ). Left c.args.spots.now c.next_head.new.log.end 0 (length c.args.spots.now) (v f)) (sym c.next_head.ensures.same.0)
-    (left_start c.args.spots.now c.new-log.result.end c.next_head.new.log.end (v c.new-log.result.file) c.in-Ok-Some.field-0-0.head start (h v (sym c.next_head.ensures.leaves.now_stays ∙ told)))
+    subst (λ (f : ℕ). Left c.args.spots.now c.next_entry.new.log.end 0 (length c.args.spots.now) (v f)) (sym c.next_entry.ensures.same.0)
+    (left_start c.args.spots.now c.new-log.result.end c.next_entry.new.log.end (v c.new-log.result.file) c.in-Ok-Some.field-0-0.entry start (h v (sym c.next_entry.ensures.leaves.now_stays ∙ told)))
 
 pub returns-clause-counted : goal.returns-clause-counted
 returns-clause-counted g c =
-    let file : c.next_head.new.log.file ≡ 2 = c.next_head.ensures.same.0 ∙ ap (λ (l : LogState). l.file) c.new-log.ensures.fresh in
+    let file : c.next_entry.new.log.file ≡ 2 = c.next_entry.ensures.same.0 ∙ ap (λ (l : LogState). l.file) c.new-log.ensures.fresh in
     subst (λ (f : ℕ). IfOk c.count_behind.result (λ left. (v : Image) → g.H.Host.now c.args.host.now ≡ Some v → (payloads : List (List ℕ)) → HasPayloads payloads (v f) → left + count_by (named_by_heads payloads) c.args.spots.now ≡ length c.args.spots.now)) file
-    (subst (λ (o : Option Image). IfOk c.count_behind.result (λ left. (v : Image) → o ≡ Some v → (payloads : List (List ℕ)) → HasPayloads payloads (v c.next_head.new.log.file) → left + count_by (named_by_heads payloads) c.args.spots.now ≡ length c.args.spots.now)) c.next_head.ensures.leaves.now_stays c.count_behind.ensures.counted)
+    (subst (λ (o : Option Image). IfOk c.count_behind.result (λ left. (v : Image) → o ≡ Some v → (payloads : List (List ℕ)) → HasPayloads payloads (v c.next_entry.new.log.file) → left + count_by (named_by_heads payloads) c.args.spots.now ≡ length c.args.spots.now)) c.next_entry.ensures.leaves.now_stays c.count_behind.ensures.counted)
 
 pub returns-clause-damaged : goal.returns-clause-damaged
 returns-clause-damaged g c = λ p e v told.
-    let file : c.next_head.new.log.file ≡ 2 = c.next_head.ensures.same.0 ∙ ap (λ (l : LogState). l.file) c.new-log.ensures.fresh in
-    subst (λ (f : ℕ). IsHeadless p (v f)) file (c.count_behind.ensures.damaged p e v (c.next_head.ensures.leaves.now_stays ∙ told))
+    let file : c.next_entry.new.log.file ≡ 2 = c.next_entry.ensures.same.0 ∙ ap (λ (l : LogState). l.file) c.new-log.ensures.fresh in
+    subst (λ (f : ℕ). IsHeadless p (v f)) file (c.count_behind.ensures.damaged p e v (c.next_entry.ensures.leaves.now_stays ∙ told))
 
 pub returns-in-Ok-None-clause-lists : goal.returns-in-Ok-None-clause-lists
 returns-in-Ok-None-clause-lists g c = λ v told.
@@ -56,6 +56,6 @@ returns-in-Ok-None-clause-lists g c = λ v told.
 
 pub returns-clause-lists : goal.returns-clause-lists
 returns-clause-lists g c =
-    let file : c.next_head.new.log.file ≡ 2 = c.next_head.ensures.same.0 ∙ ap (λ (l : LogState). l.file) c.new-log.ensures.fresh in
+    let file : c.next_entry.new.log.file ≡ 2 = c.next_entry.ensures.same.0 ∙ ap (λ (l : LogState). l.file) c.new-log.ensures.fresh in
     subst (λ (f : ℕ). OnOk c.count_behind.result ((v : Image) → g.H.Host.now c.args.host.now ≡ Some v → (payloads : List (List ℕ)) × HasPayloads payloads (v f))) file
-    (subst (λ (o : Option Image). OnOk c.count_behind.result ((v : Image) → o ≡ Some v → (payloads : List (List ℕ)) × HasPayloads payloads (v c.next_head.new.log.file))) c.next_head.ensures.leaves.now_stays c.count_behind.ensures.lists)
+    (subst (λ (o : Option Image). OnOk c.count_behind.result ((v : Image) → o ≡ Some v → (payloads : List (List ℕ)) × HasPayloads payloads (v c.next_entry.new.log.file))) c.next_entry.ensures.leaves.now_stays c.count_behind.ensures.lists)

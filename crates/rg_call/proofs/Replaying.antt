@@ -20,8 +20,12 @@ use Rattle.rg_listing.proofs.Stopped.{nothing_stops}
 use Rattle.rg_reservoir.specs.Attached.{IsOther, IsBadFrame}
 use Rattle.rg_reservoir.specs.Chain.{IsIllegal}
 use Rattle.rg_open.specs.Unfit.{IsUnfit}
+use Rattle.rg_turn.specs.Turning.{terms_of}
+use Rattle.rg_run.specs.Begun.{Begun, course_for, lines_in}
 use Rattle.rg_run.specs.Reading.{IsLonger}
 use Rattle.rg_replay.specs.Replay.{replay_text}
+use Rattle.rg_replay.specs.Runs.{text_of_left}
+use Rattle.rg_replay.proofs.Wholes.{same_text_from}
 use Rattle.rg_replay.specs.Playing.{IsReplayable, IsExpected, StopsIn}
 use Rattle.rg_replay.specs.declared.fault.ReplayFault.{ReplayFault}
 use Rattle.rg_replay.specs.declared.fault.ReplayFault.TheVariants as replay
@@ -260,6 +264,12 @@ module _ {H : Type 0} (said : H → Option (List ℕ)) (clock : H → ℕ) (sinc
     front = all_front text;
     whole = inl (all_put text);
   }
+
+  -- of what a run left, in the run's own lines
+  pub puts_left : (plan : Option (List ℕ)) (now : Option Image) (may : Image → Type 0) (told : ToldReplay plan now may) (first : ℕ) (ran : Begun) (count : ℕ) (old new : H) → told.ready.events ≡ (course_for told.asks ran).events count →
+      Puts said clock since old new (ended (text_of_replay told first)) → Puts said clock since old new (ended (text_of_left first (terms_of told.asks) ran.held ran.first (lines_in ran) count))
+  puts_left plan now may told first ran count old new left puts =
+      subst (λ (text : List (List ℕ)). Puts said clock since old new (ended text)) (same_text_from first (terms_of told.asks) ran.held ran.first (lines_in ran) count told.ready.events left) puts
 
   module _ (text : List (List ℕ)) (unread failed : Type 0) (status : Status) (last : List ℕ) (old mid new : H) (went : Replayed said clock since text unread status last old mid) (write : status ≡ Write → failed) where
     puts_part : (part : List ℕ) → IsPrefix part last → Puts said clock since mid new part → StopsWith text (last_line status) (went.put ++ part) ⊎ failed → PutsReplay said clock since text failed status old new

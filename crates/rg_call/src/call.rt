@@ -21,7 +21,8 @@ ghost use Rattle.rg_open.specs.Unfit.{IsUnfit, IsLeftAlone};
 ghost use Rattle.rg_open.specs.Within.{IsWithinOpening};
 ghost use Rattle.rg_turn.specs.Turning.{terms_of};
 ghost use Rattle.rg_verify.specs.Verify.{IsSaid, IsCut};
-ghost use Rattle.rg_run.specs.Begun.{course_for, lines_in};
+ghost use Rattle.rg_replay.specs.Runs.{text_of_left};
+ghost use Rattle.rg_run.specs.Begun.{Begun, course_for, lines_in};
 ghost use Rattle.rg_run.specs.Reading.{IsLonger, IsWithinLimit};
 ghost use Rattle.rg_call.specs.Plan.{IsPlan, IsRefusal};
 ghost use Rattle.rg_report.specs.Statuses.{last_line as status_line};
@@ -538,6 +539,13 @@ pub fn railgun<P: Source, I: Source, H: Host>(
     // A replay over a store that is ready: at status Ok just its text was put out, each answer by the events up to and with its own.
     ensures replayed { result ≡ Status.Ok → (first : ℕ) → command_of words.now ≡ Some (Command.Replay first) → (told : ToldReplay (P.left plan.old) (H.now host.old) (H.may host.old)) →
         Puts H.said H.clock H.since host.old host.new (ended (text_of_replay told first)) }
+
+    // Of what a run of the same plan left after the first lines of its input, which are all of them where it came to its end: the lines of what
+    // its store held before, then the line that the run puts for each payment that it accepts, byte by byte but with `ok` for a moved one, and
+    // the last line.
+    ensures same_as_run { result ≡ Status.Ok → (first : ℕ) → command_of words.now ≡ Some (Command.Replay first) → (told : ToldReplay (P.left plan.old) (H.now host.old) (H.may host.old)) →
+        (ran : Begun) (count : ℕ) → told.ready.events ≡ (course_for told.asks ran).events count →
+        Puts H.said H.clock H.since host.old host.new (ended (text_of_left first (terms_of told.asks) ran.held ran.first (lines_in ran) count)) }
 
     // At each status, a front of that text was put out, or whole lines of it and a front of the status's last line; unless a put failed,
     // that line is whole.

@@ -1,16 +1,18 @@
 use rg_call::railgun;
-use rg_host::{Image, MemHost, MemSource};
+use rg_host::{Host, Image, MemHost, MemSource};
 use rg_report::Status;
 use std::alloc::Global;
 use std::process::Abort;
 use std::test::Fail;
 
+mod again;
 mod asked;
 mod bounds;
 mod cached;
 mod dumped;
 mod graced;
 mod hostile;
+mod in_use;
 mod informed;
 mod made;
 mod replayed;
@@ -18,6 +20,7 @@ mod stopped;
 mod stored;
 mod tried;
 mod verified;
+mod watched;
 
 /// What a call finds: its words, the bytes of plan and input, and which of their reads fail.
 #[derive(Clone, Copy)]
@@ -85,7 +88,7 @@ fn sound<'a>(plan: &'a [u8], input: &'a [u8]) -> Setting<'a> {
 }
 
 /// The status of the call on this host.
-fn status_on(alloc: Global, setting: &Setting<'_>, host: &mut MemHost) -> Result<Status, Fail> {
+fn status_on<H: Host>(alloc: Global, setting: &Setting<'_>, host: &mut H) -> Result<Status, Fail> {
     let mut words = Vec::new(alloc);
     for word in setting.words {
         words.push(String::from_str(alloc, word)?)?;

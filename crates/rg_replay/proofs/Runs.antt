@@ -1,5 +1,5 @@
 -- A replay of what a run leaves puts the lines that the run put for its payments.
-use Rattle.std.proofs.Common.{◌≡◌, ◌∙◌, ◌≤◌, ◌+◌, ℕ, zero, suc, nat_lt, nat_le, cond, Bool, true, false, List, [], ◌∷◌, ◌++◌, length, drop, codes, decimal, Option, Some, None, Result, Ok, Err, refl, ap, sym, arith, get_or, append_assoc}
+use Rattle.std.proofs.Common.{◌≡◌, ◌∙◌, ◌≤◌, ◌+◌, ℕ, zero, suc, nat_lt, nat_le, cond, Bool, true, false, List, [], ◌∷◌, ◌++◌, length, codes, decimal, Option, Some, None, Result, Ok, Err, refl, ap, sym, arith, get_or, append_assoc}
 use Rattle.std.proofs.lemmas.Bool.Decides.{nat_tests}
 use Rattle.std.proofs.lemmas.List.{append-nil}
 use Rattle.std.proofs.lemmas.List.Prefix.{front_rest}
@@ -16,8 +16,8 @@ use Rattle.rg_course.specs.Verdicts.Verdict.{refused, obeyed, accepted, moved}
 use Rattle.rg_course.specs.Accepted.{verdict_from, after_turn, events_before, events_after}
 use Rattle.rg_course.specs.Output.{Terms, turn_lines}
 use Rattle.rg_course.proofs.Events.{read_fits}
-use Rattle.rg_replay.specs.Replay.{replay_lines}
-use Rattle.rg_replay.specs.Runs.{with_ok, reply_if, answered_at, answered_before}
+use Rattle.rg_replay.specs.Replay.{replay_lines, line_from}
+use Rattle.rg_replay.specs.Runs.{with_ok, reply_if, answered_at, answered_before, where_from, answered_from}
 use Rattle.rg_replay.proofs.Lines.{lines_push, line_kept, none_before, below_next}
 
 -- the event that is stored of a line
@@ -93,3 +93,52 @@ same_as_run terms held first lines (suc i) rising =
 
 pub same_from_nothing : (terms : Terms) (lines : List (Option (List ℕ))) → replay_lines terms.basis.queries 0 (events_after terms.basis [] 0 lines) ≡ answered_before terms [] 0 lines (length lines)
 same_from_nothing terms lines = same_as_run terms [] 0 lines (length lines) tt
+
+-- no line is none from any offset on
+none_from : (from offset : ℕ) → where_from from offset [] ≡ []
+none_from from offset = by (nat_le from offset) []
+  where
+    by : (b : Bool) (lines : List (List ℕ)) → cond b lines lines ≡ lines
+    by true lines = refl
+    by false lines = refl
+
+module _ (terms : Terms) (from : ℕ) (events : List Event) (offset : ℕ) (line : Option (List ℕ)) where
+  -- one event more, from any offset on
+  event_from : (e : Event) → e.offset ≡ offset →
+      replay_lines terms.basis.queries from (events ++ e ∷ []) ≡ replay_lines terms.basis.queries from events ++ line_from from offset (Answered (answers_to terms.basis.queries (events ++ e ∷ []) e))
+  event_from e at =
+      lines_push terms.basis.queries from events e
+      ∙ ap (λ n. replay_lines terms.basis.queries from events ++ line_from from n (Answered (answers_to terms.basis.queries (events ++ e ∷ []) e))) at
+
+  none_more : replay_lines terms.basis.queries from events ≡ replay_lines terms.basis.queries from events ++ where_from from offset []
+  none_more = sym (ap (λ l. replay_lines terms.basis.queries from events ++ l) (none_from from offset) ∙ append-nil (replay_lines terms.basis.queries from events))
+
+  -- one line of an input, by its verdict
+  turn_by : (verdict : Option Verdict) → ((v : Verdict) (e : Event) → verdict ≡ Some v → stored_of v ≡ Some e → e.offset ≡ offset) →
+      replay_lines terms.basis.queries from (after_turn events verdict) ≡ replay_lines terms.basis.queries from events ++ where_from from offset (reply_if offset verdict (turn_lines terms events offset verdict))
+  turn_by None at = none_more
+  turn_by (Some (refused reply)) at = none_more
+  turn_by (Some (obeyed control)) at = none_more
+  turn_by (Some (accepted e)) at = event_from e (at (accepted e) e refl refl)
+  turn_by (Some (moved e)) at =
+      event_from e (at (moved e) e refl refl)
+      ∙ ap (λ l. replay_lines terms.basis.queries from events ++ where_from from offset (l ∷ [])) (ok_line offset (answers_to terms.basis.queries (events ++ e ∷ []) e))
+
+  offset_by : (b : Bool) → (v : Verdict) (e : Event) → cond b None (Some (line_verdict terms.basis events offset line)) ≡ Some v → stored_of v ≡ Some e → e.offset ≡ offset
+  offset_by true v e is stored = absurd (cc)
+  offset_by false v e is stored =
+      let same : line_verdict terms.basis events offset line ≡ v = cc in
+      stored_offset terms.basis events offset line e (ap (λ (w : Verdict). stored_of w) same ∙ stored)
+
+  turn_from : (next : ℕ) → replay_lines terms.basis.queries from (after_turn events (verdict_from terms.basis next events offset line))
+      ≡ replay_lines terms.basis.queries from events ++ where_from from offset (reply_if offset (verdict_from terms.basis next events offset line) (turn_lines terms events offset (verdict_from terms.basis next events offset line)))
+  turn_from next = turn_by (verdict_from terms.basis next events offset line) (offset_by (nat_lt offset next))
+
+-- from any offset on, a replay of what a run leaves after the first lines puts the lines of what the store held, and then the run's
+pub same_from : (from : ℕ) (terms : Terms) (held : List Event) (first : ℕ) (lines : List (Option (List ℕ))) (i : ℕ) →
+    replay_lines terms.basis.queries from (events_before terms.basis held first lines i) ≡ replay_lines terms.basis.queries from held ++ answered_from from terms held first lines i
+same_from from terms held first lines zero = sym (append-nil (replay_lines terms.basis.queries from held))
+same_from from terms held first lines (suc i) =
+    turn_from terms from (events_before terms.basis held first lines i) (first + i) (get_or lines i None) (next_offset held)
+    ∙ ap (λ l. l ++ where_from from (first + i) (answered_at terms held first lines i)) (same_from from terms held first lines i)
+    ∙ append_assoc (replay_lines terms.basis.queries from held) (answered_from from terms held first lines i) (where_from from (first + i) (answered_at terms held first lines i))

@@ -17,7 +17,7 @@ const LATER: [u8; 77] = [
 const THREE_AGAIN: &str = "0 ok 1 100\n1 ok 2 300\n2 ok 2 250\ndone 3 3\n";
 
 /// A replay by this plan that fails where it reads an input.
-fn replay<'a>(words: &'a [&'a str], plan: &'a [u8]) -> Setting<'a> {
+pub(super) fn replay<'a>(words: &'a [&'a str], plan: &'a [u8]) -> Setting<'a> {
     Setting {
         words,
         plan,
@@ -27,10 +27,10 @@ fn replay<'a>(words: &'a [&'a str], plan: &'a [u8]) -> Setting<'a> {
     }
 }
 
-const REPLAY: [&str; 3] = ["replay", "plan", "store"];
+pub(super) const REPLAY: [&str; 3] = ["replay", "plan", "store"];
 
 /// The log of three payments in two chunks of rows, with this length of the last one's first text.
-fn three_in_rows(alloc: Global, length: u8) -> Result<Vec<u8>, Fail> {
+pub(super) fn three_in_rows(alloc: Global, length: u8) -> Result<Vec<u8>, Fail> {
     let mut log = LOG[..163].to_vec(alloc)?;
     log.extend_from_slice(&LATER[..62])?;
     log.push(length)?;
@@ -47,7 +47,7 @@ fn log_of_run(alloc: Global) -> Result<Vec<u8>, Fail> {
 }
 
 /// What a replay over a store with this log puts, its status, and whether the log is as it was.
-fn replayed(alloc: Global, log: &[u8]) -> Result<(String, Status, bool), Fail> {
+pub(super) fn replayed(alloc: Global, log: &[u8]) -> Result<(String, Status, bool), Fail> {
     let plan = plan_of(alloc, TOTALS, PAYMENTS, SMALL)?;
     let mut host = with_log(alloc, log)?;
     let status = status_on(alloc, &replay(&REPLAY, plan.as_bytes()), &mut host)?;

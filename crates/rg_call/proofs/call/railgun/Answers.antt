@@ -2,7 +2,7 @@ use Rattle.std.proofs.Common.{⊎_elim, inl, inr, arith}
 use Rattle.rg_call.specs.Call.{command_of}
 use Rattle.rg_call.proofs.Ends.{completes, run_completes, store_legal, disk_legal, gap_legal, read_of, runs, said_by, with_said}
 use Rattle.rg_call.proofs.TurnedAway.{unfit_status, behind_status}
-use Rattle.rg_call.proofs.Replaying.{no_run, no_verify, refusal_of, ready_never, replay_completes, no_gap, plan_long}
+use Rattle.rg_call.proofs.Replaying.{no_run, no_verify, refusal_of, ready_never, replay_completes, no_gap, plan_long, puts_left}
 use Rattle.rg_call.proofs.Verifying as verify
 use Rattle.rg_call.proofs.call.railgun.Goals as goal
 
@@ -72,6 +72,10 @@ returns-clause-completes_gap g c = λ first is told behind none.
 pub returns-clause-completes_store : goal.returns-clause-completes_store
 returns-clause-completes_store g c = λ run bytes asks v told says now unfit none.
     unfit_status asks v _ _ c.run_words.result _ (c.run_words.ensures.store_always run bytes asks v told says now unfit).1.ends (λ disk. (c.run_words.ensures.disk_only disk).1) none
+
+pub returns-clause-same_as_run : goal.returns-clause-same_as_run
+returns-clause-same_as_run g c = λ ok first is told ran count left.
+    puts_left g.H.Host.said g.H.Host.clock g.H.Host.since _ _ _ told first ran count c.args.host.now c.run_words.new.host left (c.run_words.ensures.replayed ok first is told)
 
 pub returns-clause-replay_never : goal.returns-clause-replay_never
 returns-clause-replay_never g c = λ replays told is.

@@ -1,12 +1,12 @@
 #!/usr/bin/env python3
 """Stops a run at each of its calls on the disk, and the run that goes on at each of its first calls, and runs the rest.
 
-Usage: stops.py PROGRAM PLAN PAYMENTS FOLDER [SEED]; bench/stops.sh makes the plan and the payments.
+Usage: stops.py PROGRAM PLAN LINES FOLDER [SEED]; bench/stops.sh makes the plan and the lines.
 
 A run of the program is watched by strace: each write, sync and put, in order. From these the files are made that a
 crash behind each of them may leave, by the disk that docs/RECOVERY.md describes: what was written and not synced is
 old, new, a byte in its whole range, or a mixture by chance. Over each such store the program runs again over the same
-payments, and has to end with status 0, to have every payment that was told as stored, and to put behind its open line
+lines, and has to end with status 0, to have every payment that was told as stored, and to put behind its open line
 what a run puts that never stopped, from its next offset on. That run is watched too, and stopped once more behind each
 of its first calls; the run behind that has to do the same. Each sixteenth store is dumped and compared.
 The status is 1 where one of them fails; its store is kept then."""
@@ -28,11 +28,11 @@ QUOTED = re.compile(r'"((?:\\x[0-9a-f]{2})*)"')
 
 
 class Bench:
-    """The program, a plan, and what a run over the payments puts that never stops."""
+    """The program, a plan, and what a run over the lines puts that never stops."""
 
-    def __init__(self, program, plan, payments, folder):
-        self.program, self.plan, self.payments, self.folder = program, plan, payments, folder
-        with open(payments, "rb") as it:
+    def __init__(self, program, plan, lines, folder):
+        self.program, self.plan, self.input, self.folder = program, plan, lines, folder
+        with open(lines, "rb") as it:
             self.lines = it.read().count(b"\n")
         status, said = self.run(self.lay("whole", {}))
         if status:
@@ -52,7 +52,7 @@ class Bench:
         return store
 
     def run(self, store, *before):
-        with open(self.payments, "rb") as it:
+        with open(self.input, "rb") as it:
             ran = subprocess.run([*before, self.program, "run", self.plan, store], stdin=it, stdout=subprocess.PIPE, stderr=subprocess.DEVNULL)
         return ran.returncode, ran.stdout
 
@@ -187,9 +187,9 @@ def kept(bench, name, image, why):
 
 
 def main():
-    program, plan, payments, folder = sys.argv[1:5]
+    program, plan, lines, folder = sys.argv[1:5]
     seed = sys.argv[5] if len(sys.argv) > 5 else "1"
-    bench = Bench(program, plan, payments, folder)
+    bench = Bench(program, plan, lines, folder)
     status, _, calls = bench.watched(bench.lay("watched", {}))
     if status:
         sys.exit(f"the watched run ended with status {status}")
@@ -200,7 +200,7 @@ def main():
             tried += some
             faults += [fault] if fault else []
     print(*faults[:20], sep="\n", end="\n" if faults else "")
-    print(f"{bench.lines} payments, {len(calls)} calls on the disk and puts, seed {seed}: {tried} stops were tried, {len(faults)} failed")
+    print(f"{bench.lines} lines, {len(calls)} calls on the disk and puts, seed {seed}: {tried} stops were tried, {len(faults)} failed")
     return 1 if faults else 0
 
 

@@ -2,6 +2,7 @@
 use Rattle.std.proofs.Common.{◌≡◌, ◌⊎◌, inl, inr, ⊎_elim, ℕ, ◌-◌, ◌<◌, ◌≤◌, ◌^◌, List, [], ◌++◌, length, drop, Option, Some, refl, ap, sym, ◌∙◌, subst, arith}
 use Rattle.std.specs.List.{Contains}
 use Rattle.std.specs.Option.{ForSome}
+use Rattle.std.specs.Prelude.{Result, IfOk}
 use Rattle.std.proofs.lemmas.List.{append-nil}
 use Rattle.std.proofs.lemmas.List.Elements.{Contains-append_left, Contains-append_cases}
 use Rattle.rg_bytes.specs.Counts.{Rose}
@@ -43,7 +44,7 @@ use Rattle.rg_call.specs.Call.{command_of}
 use Rattle.rg_call.specs.declared.command.Command.TheVariants.{Run}
 use Rattle.rg_call.specs.Stored.{ToldRun, IsLastOf, Resumes}
 use Rattle.rg_call.specs.Plan.{IsPlan}
-use Rattle.rg_twice.specs.Twice.{accepted_of, Words, IsGoingOn, IsStartable, AcceptsAlike, IsLeft, PutsRest, EndsWell, MayEnd, Runs}
+use Rattle.rg_twice.specs.Twice.{accepted_of, Words, IsGoingOn, IsStartable, AcceptsAlike, IsLeft, IsLastLeft, PutsRest, EndsWell, MayEnd, Runs}
 use Rattle.rg_report.specs.declared.status.Status.{Status}
 use Rattle.rg_report.specs.declared.status.Status.TheVariants.{Ok, Usage, Plan as BadPlan, Store, Read, Write, Disk, Limit, Memory, Gap, Differs}
 use Rattle.rg_call.proofs.LastLines.{line_of_status}
@@ -196,11 +197,11 @@ startable_anew words plan input asks names says within = record {
 all_effects : (effects : List Effect) (count : ℕ) → count ≡ length effects → first_effects count effects ≡ effects
 all_effects effects count all = let none : length effects - count ≡ 0 = omega (arith, all) in ap (λ n. drop n effects) none
 
--- a moment after the last call is one since an earlier one
-pub moment_at_end : (host : Ledger) (v : Image) (start count : ℕ) → start ≤ count → count ≡ clock_in host → since_in host count (record { image = v; said = said_after (first_effects count host.effects) }) → since_in host start (record { image = v; said = said_after host.effects })
-moment_at_end host v start count before all at =
-    let since = since_sinks (image_of host.first) host.effects start count (record { image = v; said = said_after (first_effects count host.effects) }) before at in
-    subst (λ (l : List Effect). since_in host start (record { image = v; said = said_after l })) (all_effects host.effects count all) since
+-- what is picked after the last call is left of the host as it stands
+pub last_left : {E : Type 0} (host : Ledger) (count : ℕ) → count ≡ clock_in host → (result : Result Ledger E) → IfOk result (λ left. ForSome (now_in left) (λ v. since_in host count (record { image = v; said = said_after (first_effects count host.effects) }))) → IfOk result (λ left. ForSome (now_in left) (λ v. IsLastLeft host v))
+last_left host count all result picked =
+    let at_end = subst (λ (es : List Effect). IfOk result (λ left. ForSome (now_in left) (λ v. since_in host count (record { image = v; said = said_after es })))) (all_effects host.effects count all) picked in
+    subst (λ (n : ℕ). IfOk result (λ left. ForSome (now_in left) (λ v. since_in host n (record { image = v; said = said_after host.effects })))) all at_end
 
 -- an image that a crash may leave now is of a moment since an earlier one
 pub moment_now : (host : Ledger) (u : Image) (start : ℕ) → start ≤ clock_in host → may_in host u → since_in host start (record { image = u; said = said_after host.effects })
@@ -252,16 +253,15 @@ RunsInMemory plan input status old new = Runs now_in may_in clock_in since_in sa
 
 module _ (plan : Planned) (input : List ℕ) (status : Status) where
   -- what may be left once the last call was made
-  pub fused_left : (old new : Fused Ledger) → RunsFused plan input status old new → (s : IsGoingOn plan input (now_in old.inner) (may_in old.inner)) → (first : Ledger) → first ≡ new.inner → (count : ℕ) → count ≡ clock_in first → (v : Image)
-      → since_in first count (record { image = v; said = said_after (first_effects count first.effects) })
+  pub fused_left : (old new : Fused Ledger) → RunsFused plan input status old new → (s : IsGoingOn plan input (now_in old.inner) (may_in old.inner)) → (first : Ledger) → first ≡ new.inner → (v : Image) → IsLastLeft first v
       → (bytes : List ℕ) × (said_in first ≡ after (said_in old.inner) bytes) × IsLeft plan s.held (accepted_of plan input) (whole_pieces bytes) v
-  fused_left old new runs s first first_is count all v at =
+  fused_left old new runs s first first_is v at =
       let ready = ready_for plan input (now_in old.inner) (may_in old.inner) s (said_in old.inner) (said_after old.inner.effects) refl in
-      let w = runs ready in
+      let w = runs.has_run ready in
       let later : clock_in old.inner ≤ clock_in new.inner = w.moments.later in
       let last : clock_in first ≡ clock_in new.inner = ap clock_in first_is in
-      let at_end = moment_at_end first v (clock_in old.inner) count (omega (arith, later, last, all)) all at in
-      let inside = subst (λ (h : Ledger). since_in h (clock_in old.inner) (record { image = v; said = said_after first.effects })) first_is at_end in
+      let since = since_sinks (image_of first.first) first.effects (clock_in old.inner) (clock_in first) (record { image = v; said = said_after first.effects }) (omega (arith, later, last)) at in
+      let inside = subst (λ (h : Ledger). since_in h (clock_in old.inner) (record { image = v; said = said_after first.effects })) first_is since in
       let promised = w.moments.each (record { image = v; said = said_after first.effects }) inside in
       let left = left_at plan (begun_by ready w.from 0 input) refl s.on_course status w.last w.last_is (may_in old.inner) (left_of_plan plan input (now_in old.inner) (may_in old.inner) s) (left_has plan input (now_in old.inner) (may_in old.inner) s) v (said_after first.effects) promised in
       (left.0, ap (λ (bytes : List ℕ). Some bytes) left.1, left.2)
@@ -270,7 +270,7 @@ module _ (plan : Planned) (input : List ℕ) (status : Status) where
   pub memory_left : (old new : Ledger) → RunsInMemory plan input status old new → (s : IsGoingOn plan input (now_in old) (may_in old)) → said_in old ≡ Some [] → (u : Image) → may_in new u → IsLeft plan s.held (accepted_of plan input) (whole_pieces (said_after new.effects)) u
   memory_left old new runs s none u may =
       let ready = ready_for plan input (now_in old) (may_in old) s (said_in old) [] none in
-      let w = runs ready in
+      let w = runs.has_run ready in
       let promised = w.moments.each (record { image = u; said = said_after new.effects }) (moment_now new u (clock_in old) w.moments.later may) in
       let left = left_at plan (begun_by ready w.from 0 input) refl s.on_course status w.last w.last_is (may_in old) (left_of_plan plan input (now_in old) (may_in old) s) (left_has plan input (now_in old) (may_in old) s) u (said_after new.effects) promised in
       let all : said_after new.effects ≡ left.0 = left.1 in

@@ -5,7 +5,8 @@ use Rattle.rg_event.specs.declared.event.Event.{Event}
 use Rattle.rg_event.specs.Rising.{next_offset}
 use Rattle.rg_host.specs.Image.{Image, NothingPending}
 use Rattle.rg_host.specs.Lines.{lines_of, ended}
-use Rattle.rg_host.specs.MemHost.{Ledger, now_in, may_in}
+use Rattle.rg_host.specs.Effects.{said_after}
+use Rattle.rg_host.specs.MemHost.{Ledger, now_in, may_in, clock_in, since_in}
 use Rattle.rg_host.specs.Moments.{Moment, Moments}
 use Rattle.rg_config.specs.Plans.{Planned}
 use Rattle.rg_course.specs.Accepted.{events_after}
@@ -76,6 +77,10 @@ pub record IsLeft (plan : Planned) (held accepted : List Event) (lines : List (L
   pub begins : IsPrefixOf events accepted
   pub stored : HoldsStored lines accepted events
 
+-- a crash may leave that image of the host as it stands, with all that was put
+abbrev pub IsLastLeft : Ledger → Image → Type 0
+IsLastLeft host v = since_in host (clock_in host) (record { image = v; said = said_after host.effects })
+
 -- What was put is an open line, and then the last lines of what a run puts that is never stopped.
 pub record PutsRest (plan : Planned) (input : List ℕ) (said : Option (List ℕ)) : Type 0 where
   pub held : List Event
@@ -103,5 +108,5 @@ module _ {H : Type 0} (now : H → Option Image) (may : H → Image → Type 0) 
     pub resumes : status ≡ Ok → ready.held ≡ below (next_offset ready.held) (accepted_of plan input) → (begins : ℕ) × Resumes plan (begun_by ready begins 0 input) (said new)
 
   -- it did so if the store was ready
-  abbrev pub Runs : Planned → List ℕ → Status → H → H → Type 0
-  Runs plan input status old new = (ready : IsReadyRun plan (now old) (may old) (said old)) → HasRun plan input status old new ready
+  pub record Runs (plan : Planned) (input : List ℕ) (status : Status) (old new : H) : Type 0 where
+    pub has_run : (ready : IsReadyRun plan (now old) (may old) (said old)) → HasRun plan input status old new ready

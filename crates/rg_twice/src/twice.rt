@@ -4,7 +4,7 @@ ghost use Rattle.rg_bytes.specs.Counts.{Rose};
 ghost use Rattle.rg_bytes.specs.Known.{after};
 ghost use Rattle.rg_config.specs.Plans.{Planned};
 ghost use Rattle.rg_host.specs.Image.{Image, NothingPending};
-ghost use Rattle.rg_host.specs.MemHost.{now_in, may_in, said_in, begun};
+ghost use Rattle.rg_host.specs.MemHost.{now_in, may_in, clock_in, since_in, said_in, begun};
 ghost use Rattle.rg_course.specs.Acknowledged.{HoldsStored};
 ghost use Rattle.rg_course.specs.Laws.{IsPrefixOf};
 ghost use Rattle.rg_course.specs.Pieces.{whole_pieces};
@@ -13,7 +13,7 @@ ghost use Rattle.rg_open.specs.Truth.{IsTruthfulImage};
 ghost use Rattle.rg_run.specs.Begun.{IsReadyRun};
 ghost use Rattle.rg_call.specs.Call.{command_of};
 ghost use Rattle.rg_call.specs.Plan.{IsPlan};
-ghost use Rattle.rg_twice.specs.Twice.{accepted_of, Words, AcceptsAlike, IsStartable, HasSuch, IsLeft, PutsRest, EndsWell, MayEnd, Runs};
+ghost use Rattle.rg_twice.specs.Twice.{accepted_of, Words, AcceptsAlike, IsStartable, HasSuch, IsLeft, IsLastLeft, PutsRest, EndsWell, MayEnd, Runs};
 
 use crate::slice_source::SliceSource;
 use rg_bytes::Memory;
@@ -58,6 +58,15 @@ pub struct Stopped {
     pub status: Status,
 }
 
+/// A host with files that a crash might leave of this one after its last call. No call was made on it.
+fn left_by(host: &MemHost, pick: Pick) -> Result<MemHost, Memory>
+    ensures last { IfOk result (λ left. ForSome (now_in left) (λ v. IsLastLeft host.now v)) }
+    ensures begun { IfOk result (λ left. left ≡ begun left.first []) }
+    ensures settled { IfOk result (λ left. (file : ℕ) → NothingPending file (now_in left) (may_in left)) }
+{
+    host.stop_image(host.calls(), pick)
+}
+
 /// Runs over this host up to so many calls on it, after which each fails, and picks one of the images
 /// that a crash might then leave. A run of the same words, plan and input goes on from there, and may
 /// be stopped again.
@@ -81,8 +90,28 @@ pub fn run_stopped(
     let mut fuse = FuseHost::new(host, stop);
     let status = run_bytes(alloc, words, plan, input, &mut fuse);
     let host = fuse.into_inner();
-    let left = host.stop_image(host.calls(), pick)?;
+    let left = left_by(&host, pick)?;
     Ok(Stopped { host, left, status })
+}
+
+/// Runs over what a stop left to the end. Gives the host as the stopped run left it, this one as the
+/// second run did, and the status of each run.
+fn run_on(
+    alloc: Global,
+    words: &[String],
+    plan: &[u8],
+    input: &[u8],
+    stopped: Stopped,
+) -> (MemHost, MemHost, Status, Status)
+    ensures first { (result.0 ≡ stopped.host) × (result.2 ≡ stopped.status) }
+    ensures runs { command_of words.now ≡ Some (Command.Run 0) → (asks : Planned) → IsPlan plan.now asks → Runs now_in may_in clock_in since_in said_in asks input.now result.3 stopped.left result.1 }
+    ensures ends { command_of words.now ≡ Some (Command.Run 0) → (asks : Planned) → IsPlan plan.now asks → IsReadyRun asks (now_in stopped.left) (may_in stopped.left) (said_in stopped.left) → length input.now ≤ 2 ^ 50 →
+        EndsWell result.3 (Rose stopped.left.out_faults result.1.out_faults) (Rose stopped.left.disk_faults result.1.disk_faults) }
+{
+    let Stopped { host, left, status } = stopped;
+    let mut second = left;
+    let end = run_bytes(alloc, words, plan, input, &mut second);
+    (host, second, status, end)
 }
 
 /// Runs over this host up to so many calls on it, after which each fails; picks one of the images that
@@ -117,12 +146,6 @@ pub fn run_twice(
     ensures first_status { IsStartable words.now plan.now input.now host → IfOk result (λ both. MayEnd both.2) }
     ensures second_status { IsStartable words.now plan.now input.now host → IfOk result (λ both. (both.3 ≡ Status.Ok) ⊎ (both.3 ≡ Status.Memory) ⊎ (0 < both.1.disk_faults) ⊎ (0 < both.1.out_faults)) }
 {
-    let Stopped {
-        host: first,
-        left,
-        status,
-    } = run_stopped(alloc, words, plan, input, host, stop, pick)?;
-    let mut second = left;
-    let end = run_bytes(alloc, words, plan, input, &mut second);
-    Ok((first, second, status, end))
+    let stopped = run_stopped(alloc, words, plan, input, host, stop, pick)?;
+    Ok(run_on(alloc, words, plan, input, stopped))
 }

@@ -6,27 +6,63 @@ use std::process::Abort;
 use std::str;
 use std::test::Fail;
 
-/// Payments of five minutes by card, in chunks of two; a commit after each two, a checkpoint after each four.
-const PLAN: &[u8] =
-    b"queries = [\"SELECT count(*), sum(amount) FROM payments GROUP BY card OVER SLIDING 5 minutes\"]\n\n[stream]\nname = \"payments\"\ncolumns = [\"ts\", \"card:text\", \"merchant:text\", \"amount:int\"]\n\n[settings]\ncache = 1\nchunk = 2\ncommit = 2\nsave = 4\n";
+/// A plan, some lines, and what runs over them put.
+#[derive(Clone, Copy)]
+struct Case<'a> {
+    plan: &'a [u8],
+    lines: &'a [u8],
+    /// The open lines that a run may begin with, each behind the next offset that it tells.
+    opens: &'a [(u64, &'a str)],
+    /// What a run over a new store puts for each line, its marks behind it, and last what it puts at the
+    /// end. A run that goes on puts those of the lines from the store's next offset on.
+    turns: &'a [&'a str],
+}
 
-/// Three payments of one card, of which the third meets a window without the first.
-const THREE: &[u8] = b"0,c1,m1,100\n299999,c1,m2,200\n300000,c1,m1,50\n";
+/// The open line of a run over a new store.
+const OPEN: &str = "open 0 0 0\n";
 
-/// What a run over a new store puts for them, where nothing stops it.
-const WHOLE: &[u8] =
-    b"open 0 0 0\n0 ok 1 100\n1 ok 2 300\nstored 2\n2 ok 2 250\nstored 3\nsaved 3\ndone 3 3\n";
+/// Three payments of one card, of which the third meets a window of five minutes without the first. They
+/// go into chunks of two; a commit follows each two, a checkpoint each four.
+const PAYMENTS: Case<'static> = Case {
+    plan: b"queries = [\"SELECT count(*), sum(amount) FROM payments GROUP BY card OVER SLIDING 5 minutes\"]\n\n[stream]\nname = \"payments\"\ncolumns = [\"ts\", \"card:text\", \"merchant:text\", \"amount:int\"]\n\n[settings]\ncache = 1\nchunk = 2\ncommit = 2\nsave = 4\n",
+    lines: b"0,c1,m1,100\n299999,c1,m2,200\n300000,c1,m1,50\n",
+    opens: &[
+        (0, OPEN),
+        (2, "open 2 2 0\n"),
+        (3, "open 3 3 0\n"),
+        (3, "open 3 3 3\n"),
+    ],
+    turns: &[
+        "0 ok 1 100\n",
+        "1 ok 2 300\nstored 2\n",
+        "2 ok 2 250\n",
+        "stored 3\nsaved 3\ndone 3 3\n",
+    ],
+};
 
-/// What a run puts over a store that has all of them and its last checkpoint.
-const AGAIN: &[u8] = b"open 3 3 3\nstored 3\nsaved 3\ndone 3 3\n";
-
-/// What a run to its end may put, by what it finds in the store, and how many of the payments that is.
-const ENDS: [(u64, &[u8]); 4] = [
-    (0, WHOLE),
-    (2, b"open 2 2 0\n2 ok 2 250\nstored 3\nsaved 3\ndone 3 3\n"),
-    (3, b"open 3 3 0\nstored 3\nsaved 3\ndone 3 3\n"),
-    (3, AGAIN),
-];
+/// Such payments between control lines, where one may be late by ten milliseconds, as the last one is.
+const CONTROLLED: Case<'static> = Case {
+    plan: b"queries = [\"SELECT count(*), sum(amount) FROM payments GROUP BY card OVER SLIDING 5 minutes\"]\n\n[stream]\nname = \"payments\"\ncolumns = [\"ts\", \"card:text\", \"merchant:text\", \"amount:int\"]\n\n[settings]\ncache = 1\nchunk = 2\ncommit = 2\nsave = 4\ngrace = 10\n",
+    lines: b"0,c1,m1,100\n!commit\n299999,c1,m2,200\n!save\n!ahead\n300000,c1,m1,50\n299995,c1,m3,7\n",
+    opens: &[
+        (0, OPEN),
+        (1, "open 1 1 0\n"),
+        (3, "open 3 2 0\n"),
+        (3, "open 3 2 2\n"),
+        (7, "open 7 4 2\n"),
+        (7, "open 7 4 4\n"),
+    ],
+    turns: &[
+        "0 ok 1 100\n",
+        "1 done\nstored 1\n",
+        "2 ok 2 300\nstored 3\n",
+        "3 done\nstored 3\nsaved 2\n",
+        "4 done\n",
+        "5 ok 2 250\n",
+        "6 moved 3 257\nstored 7\nsaved 4\n",
+        "stored 7\nsaved 4\ndone 7 4\n",
+    ],
+};
 
 /// After how many calls a run that goes on is stopped again, at most.
 const MOST_AGAIN: u64 = 12;
@@ -40,47 +76,90 @@ const PICKS: [Pick; 5] = [
     Pick::Torn(255),
 ];
 
-/// Files that a stop left, and how many of the payments a run to its end found there.
+/// A case, and the words of its runs.
+#[derive(Drop)]
+struct Trial<'a> {
+    alloc: Global,
+    words: Vec<String>,
+    case: Case<'a>,
+}
+
+/// What a run did, and what its stop left.
+#[derive(Drop)]
+struct Ran {
+    /// The offset below which it said last that all is stored.
+    told: u64,
+    /// The next offset that it found in the store, where it came to its end and put just what it should.
+    found: Option<u64>,
+    /// Whether a call that failed ended it.
+    is_cut: bool,
+    calls: u64,
+    left: MemHost,
+}
+
+/// Files over which each run goes on as it should, and the next offset that is found there. Two runs
+/// over the same files are the same.
 #[derive(Drop)]
 struct Left {
     files: MemHost,
-    found: u64,
+    next: u64,
 }
 
-/// Files that were left before: those over which a run went to its end, and those of them over which a
-/// run was stopped again too. Two runs over the same files are the same.
-#[derive(Drop)]
-struct Seen {
-    ended: Vec<Left>,
-    tried: Vec<Left>,
+/// The text that was put; none, where it is no text.
+fn text(host: &MemHost) -> &str {
+    str::from_utf8(host.output()).unwrap_or("")
 }
 
-fn words(alloc: Global) -> Result<Vec<String>, Fail> {
-    let mut words = Vec::new(alloc);
-    for word in ["run", "plan", "store"] {
-        words.push(String::from_str(alloc, word)?)?;
+/// The number of the last whole line that says what is stored; 0 without one.
+fn told(put: &str) -> u64 {
+    let mut told = 0;
+    for line in put.split_inclusive('\n') {
+        let Some(rest) = line.strip_prefix("stored ") else {
+            continue;
+        };
+        if let Some(number) = rest.strip_suffix('\n') {
+            told = number.parse().unwrap_or(u64::MAX);
+        }
     }
-    Ok(words)
+    told
 }
 
-fn new_host(alloc: Global) -> Result<MemHost, Fail> {
-    Ok(MemHost::new(alloc, Image::new(alloc), Vec::new(alloc))?)
-}
-
-/// How many of the payments are stored by the whole lines of what a run put.
-fn told(output: &[u8]) -> Result<u64, Fail> {
-    let text = str::from_utf8(output)?;
-    if text.contains("\nstored 3\n") {
-        return Ok(3);
+/// Whether these are just the turns from this one on.
+fn are_turns(put: &[u8], turns: &[&str], first: u64) -> bool {
+    let mut rest = put;
+    for turn in turns.iter().skip(first as usize) {
+        let Some(more) = rest.strip_prefix(turn.as_bytes()) else {
+            return false;
+        };
+        rest = more;
     }
-    Ok(if text.contains("\nstored 2\n") { 2 } else { 0 })
+    rest.is_empty()
 }
 
-/// How many of the payments a run found in the store, where it came to its end and put what it should.
-fn found(output: &[u8], status: Status) -> Option<u64> {
-    for (count, end) in ENDS {
-        if status == Status::Ok && output == end {
-            return Some(count);
+/// Whether this is a front of what a run over a new store puts.
+fn is_front(put: &[u8], turns: &[&str]) -> bool {
+    let Some(mut rest) = put.strip_prefix(OPEN.as_bytes()) else {
+        return OPEN.as_bytes().starts_with(put);
+    };
+    for turn in turns {
+        let Some(more) = rest.strip_prefix(turn.as_bytes()) else {
+            return turn.as_bytes().starts_with(rest);
+        };
+        rest = more;
+    }
+    rest.is_empty()
+}
+
+/// The next offset that a run found in the store, where it came to its end and put just what it should.
+fn next_found(case: &Case<'_>, status: Status, put: &str) -> Option<u64> {
+    if status != Status::Ok {
+        return None;
+    }
+    for (next, open) in case.opens {
+        if let Some(rest) = put.strip_prefix(*open) {
+            if are_turns(rest.as_bytes(), case.turns, *next) {
+                return Some(*next);
+            }
         }
     }
     None
@@ -93,271 +172,215 @@ fn known(seen: &[Left], files: &MemHost) -> Option<u64> {
             && left.files.file(1) == files.file(1)
             && left.files.file(2) == files.file(2)
         {
-            return Some(left.found);
+            return Some(left.next);
         }
     }
     None
 }
 
-/// What a run finds that goes over these files to its end, where it puts what it should.
-fn found_over(
-    alloc: Global,
-    words: &[String],
-    ended: &mut Vec<Left>,
-    files: MemHost,
-) -> Result<Option<u64>, Fail> {
-    if let Some(count) = known(ended, &files) {
-        return Ok(Some(count));
-    }
-    let host = files.stop_image(0, Pick::Old)?;
-    let run = run_stopped(alloc, words, PLAN, THREE, host, u64::MAX, Pick::New)?;
-    let count = found(run.host.output(), run.status);
-    drop(run);
-    if let Some(found) = count {
-        ended.push(Left { files, found })?;
-    }
-    Ok(count)
+fn new_host(alloc: Global) -> Result<MemHost, Fail> {
+    Ok(MemHost::new(alloc, Image::new(alloc), Vec::new(alloc))?)
 }
 
-/// Whether a run over these files, in which so many payments were found, is stopped again after so many
-/// calls, and the next one then goes on with all that is said to be stored.
-fn goes_on_again(
-    alloc: Global,
-    words: &[String],
-    ended: &mut Vec<Left>,
-    files: &MemHost,
-    count: u64,
-    again: u64,
-) -> Result<bool, Fail> {
-    let host = files.stop_image(0, Pick::Old)?;
-    let Stopped { host, left, .. } = run_stopped(
-        alloc,
-        words,
-        PLAN,
-        THREE,
-        host,
-        again,
-        Pick::Torn(1),
-    )?;
-    let told = told(host.output())?;
-    drop(host);
-    Ok(match found_over(alloc, words, ended, left)? {
-        Some(found) => count <= found && told <= found,
-        None => false,
-    })
-}
-
-/// How many of the payments are found in what a stop left, where each run over it goes on as it should,
-/// also one that is stopped again.
-fn found_left(
-    alloc: Global,
-    words: &[String],
-    seen: &mut Seen,
-    files: MemHost,
-) -> Result<Option<u64>, Fail> {
-    if let Some(count) = known(&seen.tried, &files) {
-        return Ok(Some(count));
+impl<'a> Trial<'a> {
+    fn new(alloc: Global, case: Case<'a>) -> Result<Trial<'a>, Fail> {
+        let mut words = Vec::new(alloc);
+        for word in ["run", "plan", "store"] {
+            words.push(String::from_str(alloc, word)?)?;
+        }
+        Ok(Trial { alloc, words, case })
     }
-    let same = files.stop_image(0, Pick::Old)?;
-    let Some(found) = found_over(alloc, words, &mut seen.ended, same)? else {
-        return Ok(None);
-    };
-    for again in 0..=MOST_AGAIN {
-        if !goes_on_again(alloc, words, &mut seen.ended, &files, found, again)? {
+
+    /// Runs over this host up to so many calls.
+    fn run(&self, host: MemHost, stop: u64, pick: Pick) -> Result<Ran, Fail> {
+        let Stopped { host, left, status } = run_stopped(
+            self.alloc,
+            &self.words,
+            self.case.plan,
+            self.case.lines,
+            host,
+            stop,
+            pick,
+        )?;
+        let ran = Ran {
+            told: told(text(&host)),
+            found: next_found(&self.case, status, text(&host)),
+            is_cut: status == Status::Write || status == Status::Disk,
+            calls: host.calls(),
+            left,
+        };
+        drop(host);
+        Ok(ran)
+    }
+
+    /// The next offset that a run to its end finds in these files, where it puts what it should.
+    fn next_in(&self, files: &MemHost) -> Result<Option<u64>, Fail> {
+        Ok(
+            self.run(files.stop_image(0, Pick::Old)?, u64::MAX, Pick::New)?
+                .found,
+        )
+    }
+
+    /// Whether a run over these files, whose next offset is this, is stopped again after so many calls,
+    /// and the next one then goes on with all that is said to be stored.
+    fn goes_on_again(&self, files: &MemHost, next: u64, again: u64) -> Result<bool, Fail> {
+        let ran = self.run(files.stop_image(0, Pick::Old)?, again, Pick::Torn(1))?;
+        Ok(match self.next_in(&ran.left)? {
+            Some(found) => next <= found && ran.told <= found,
+            None => false,
+        })
+    }
+
+    /// The next offset of these files, where each run over them goes on as it should, also one that is
+    /// stopped again.
+    fn next_again(&self, files: &MemHost) -> Result<Option<u64>, Fail> {
+        let Some(next) = self.next_in(files)? else {
             return Ok(None);
+        };
+        for again in 0..=MOST_AGAIN {
+            if !self.goes_on_again(files, next, again)? {
+                return Ok(None);
+            }
         }
+        Ok(Some(next))
     }
-    seen.tried.push(Left { files, found })?;
-    Ok(Some(found))
-}
 
-/// Whether a run over a new store is stopped after just so many calls of so many, and the runs over
-/// what that leaves go on with all that is said to be stored.
-fn goes_on(
-    alloc: Global,
-    words: &[String],
-    seen: &mut Seen,
-    calls: u64,
-    stop: u64,
-    pick: Pick,
-) -> Result<bool, Fail> {
-    let Stopped { host, left, status } = run_stopped(
-        alloc,
-        words,
-        PLAN,
-        THREE,
-        new_host(alloc)?,
-        stop,
-        pick,
-    )?;
-    let is_cut = status == Status::Write || status == Status::Disk;
-    let is_there = host.calls() == stop && is_cut == (stop < calls);
-    let told = told(host.output())?;
-    drop(host);
-    Ok(match found_left(alloc, words, seen, left)? {
-        Some(found) => is_there && told <= found,
-        None => false,
-    })
-}
-
-/// The number of calls of a run over a new store.
-fn calls_of(alloc: Global, words: &[String]) -> Result<u64, Fail> {
-    let run = run_stopped(
-        alloc,
-        words,
-        PLAN,
-        THREE,
-        new_host(alloc)?,
-        u64::MAX,
-        Pick::New,
-    )?;
-    let calls = run.host.calls();
-    drop(run);
-    Ok(calls)
-}
-
-/// Of the calls of a run over a new store, those before the middle one, or the others and the end.
-#[derive(Clone, Copy, PartialEq, Eq)]
-enum Half {
-    First,
-    Last,
-}
-
-/// The number of calls after which a run, stopped so, isn't followed by runs that go on as they should.
-fn lost(alloc: Global, words: &[String], half: Half, pick: Pick) -> Result<Option<u64>, Fail> {
-    let calls = calls_of(alloc, words)?;
-    let mut seen = Seen {
-        ended: Vec::new(alloc),
-        tried: Vec::new(alloc),
-    };
-    for stop in 0..=calls {
-        let is_asked = (stop < calls / 2) == (half == Half::First);
-        if is_asked && !goes_on(alloc, words, &mut seen, calls, stop, pick)? {
-            return Ok(Some(stop));
+    /// The same, of files of which some were seen before.
+    fn next_left(&self, seen: &mut Vec<Left>, files: MemHost) -> Result<Option<u64>, Fail> {
+        if let Some(next) = known(seen, &files) {
+            return Ok(Some(next));
         }
+        let found = self.next_again(&files)?;
+        if let Some(next) = found {
+            seen.push(Left { files, next })?;
+        }
+        Ok(found)
     }
-    Ok(None)
+
+    /// Whether a run over a new store is stopped after just so many calls of so many, and the runs over
+    /// what that leaves go on with all that is said to be stored.
+    fn goes_on(
+        &self,
+        seen: &mut Vec<Left>,
+        calls: u64,
+        stop: u64,
+        pick: Pick,
+    ) -> Result<bool, Fail> {
+        let ran = self.run(new_host(self.alloc)?, stop, pick)?;
+        let is_whole = ran.found == Some(0);
+        let is_there = ran.calls == stop && ran.is_cut != is_whole && is_whole == (stop == calls);
+        let told = ran.told;
+        Ok(match self.next_left(seen, ran.left)? {
+            Some(next) => is_there && told <= next,
+            None => false,
+        })
+    }
+
+    /// The number of calls of a run over a new store.
+    fn calls(&self) -> Result<u64, Fail> {
+        Ok(self.run(new_host(self.alloc)?, u64::MAX, Pick::New)?.calls)
+    }
+
+    /// A number of calls after which a run, stopped so, isn't followed by runs that go on as they should.
+    /// Of the numbers from 0 to that of all calls, it looks at one part of so many.
+    fn lost(&self, part: u64, parts: u64) -> Result<Option<u64>, Fail> {
+        let calls = self.calls()?;
+        let size = calls.checked_div(parts).unwrap_or(0).saturating_add(1);
+        let mut seen = Vec::new(self.alloc);
+        for stop in 0..=calls {
+            for pick in PICKS {
+                let is_asked = stop.checked_div(size) == Some(part);
+                if is_asked && !self.goes_on(&mut seen, calls, stop, pick)? {
+                    return Ok(Some(stop));
+                }
+            }
+        }
+        Ok(None)
+    }
+
+    /// Whether two runs, of which the first is stopped so, put what they should.
+    fn put_both(&self, stop: u64) -> Result<bool, Fail> {
+        let (first, second, status, end) = run_twice(
+            self.alloc,
+            &self.words,
+            self.case.plan,
+            self.case.lines,
+            new_host(self.alloc)?,
+            stop,
+            Pick::Torn(1),
+        )?;
+        let told = told(text(&first));
+        let is_whole = next_found(&self.case, status, text(&first)) == Some(0);
+        let is_front = is_front(first.output(), self.case.turns);
+        let found = next_found(&self.case, end, text(&second));
+        drop(first);
+        drop(second);
+        Ok(match found {
+            Some(next) => told <= next && is_front && is_whole == (status == Status::Ok),
+            None => false,
+        })
+    }
+
+    /// A number of calls after which the first of two runs is stopped, where they don't put what they
+    /// should.
+    fn wrong(&self) -> Result<Option<u64>, Fail> {
+        for stop in 0..=self.calls()? {
+            if !self.put_both(stop)? {
+                return Ok(Some(stop));
+            }
+        }
+        Ok(None)
+    }
 }
 
-/// Each stop of the run in this half is gone on from where this is left of the bytes that were pending.
-fn assert_goes_on(rt: &(impl Abort + AllocGlobal), half: Half, pick: Pick) -> Result<(), Fail> {
-    let words = words(rt.alloc())?;
-    let lost = lost(rt.alloc(), &words, half, pick)?;
-    drop(words);
+/// Each stop of this part of so many is gone on from, whatever is left of the bytes that were pending.
+fn assert_goes_on(
+    rt: &(impl Abort + AllocGlobal),
+    case: Case<'_>,
+    part: u64,
+    parts: u64,
+) -> Result<(), Fail> {
+    let lost = Trial::new(rt.alloc(), case)?.lost(part, parts)?;
     assert_eq!(rt; lost, None);
     Ok(())
 }
 
 #[test]
-fn a_run_goes_on_from_old_bytes_of_an_early_stop(rt: HostRuntime) -> Result<(), Fail> {
-    assert_goes_on(&rt, Half::First, Pick::Old)
+fn a_run_goes_on_from_each_early_stop(rt: HostRuntime) -> Result<(), Fail> {
+    assert_goes_on(&rt, PAYMENTS, 0, 2)
 }
 
 #[test]
-fn a_run_goes_on_from_old_bytes_of_a_late_stop(rt: HostRuntime) -> Result<(), Fail> {
-    assert_goes_on(&rt, Half::Last, Pick::Old)
+fn a_run_goes_on_from_each_late_stop(rt: HostRuntime) -> Result<(), Fail> {
+    assert_goes_on(&rt, PAYMENTS, 1, 2)
 }
 
 #[test]
-fn a_run_goes_on_from_new_bytes_of_an_early_stop(rt: HostRuntime) -> Result<(), Fail> {
-    assert_goes_on(&rt, Half::First, Pick::New)
+fn a_run_with_control_lines_goes_on_from_each_stop_of_its_first_third(
+    rt: HostRuntime,
+) -> Result<(), Fail> {
+    assert_goes_on(&rt, CONTROLLED, 0, 3)
 }
 
 #[test]
-fn a_run_goes_on_from_new_bytes_of_a_late_stop(rt: HostRuntime) -> Result<(), Fail> {
-    assert_goes_on(&rt, Half::Last, Pick::New)
+fn a_run_with_control_lines_goes_on_from_each_stop_of_its_second_third(
+    rt: HostRuntime,
+) -> Result<(), Fail> {
+    assert_goes_on(&rt, CONTROLLED, 1, 3)
 }
 
 #[test]
-fn a_run_goes_on_from_bytes_0_of_an_early_stop(rt: HostRuntime) -> Result<(), Fail> {
-    assert_goes_on(&rt, Half::First, Pick::Torn(0))
-}
-
-#[test]
-fn a_run_goes_on_from_bytes_0_of_a_late_stop(rt: HostRuntime) -> Result<(), Fail> {
-    assert_goes_on(&rt, Half::Last, Pick::Torn(0))
-}
-
-#[test]
-fn a_run_goes_on_from_bytes_1_of_an_early_stop(rt: HostRuntime) -> Result<(), Fail> {
-    assert_goes_on(&rt, Half::First, Pick::Torn(1))
-}
-
-#[test]
-fn a_run_goes_on_from_bytes_1_of_a_late_stop(rt: HostRuntime) -> Result<(), Fail> {
-    assert_goes_on(&rt, Half::Last, Pick::Torn(1))
-}
-
-#[test]
-fn a_run_goes_on_from_bytes_255_of_an_early_stop(rt: HostRuntime) -> Result<(), Fail> {
-    assert_goes_on(&rt, Half::First, Pick::Torn(255))
-}
-
-#[test]
-fn a_run_goes_on_from_bytes_255_of_a_late_stop(rt: HostRuntime) -> Result<(), Fail> {
-    assert_goes_on(&rt, Half::Last, Pick::Torn(255))
-}
-
-/// Whether two runs, of which the first is stopped so, put what they should.
-fn puts_both(alloc: Global, words: &[String], stop: u64) -> Result<bool, Fail> {
-    let (first, second, _, end) = run_twice(
-        alloc,
-        words,
-        PLAN,
-        THREE,
-        new_host(alloc)?,
-        stop,
-        Pick::Torn(1),
-    )?;
-    let told = told(first.output())?;
-    let is_front = WHOLE.starts_with(first.output());
-    let found = found(second.output(), end);
-    drop(first);
-    drop(second);
-    Ok(match found {
-        Some(found) => is_front && told <= found,
-        None => false,
-    })
+fn a_run_with_control_lines_goes_on_from_each_stop_of_its_last_third(
+    rt: HostRuntime,
+) -> Result<(), Fail> {
+    assert_goes_on(&rt, CONTROLLED, 2, 3)
 }
 
 #[test]
 fn two_runs_put_what_they_should(rt: HostRuntime) -> Result<(), Fail> {
-    let words = words(rt.alloc())?;
-    let calls = calls_of(rt.alloc(), &words)?;
-    for stop in 0..=calls {
-        assert!(rt; puts_both(rt.alloc(), &words, stop)?, "{stop}");
-    }
-    Ok(())
-}
-
-/// Whether a stop after this many calls, behind the last one, leaves all that the run put and stored.
-fn is_whole(alloc: Global, words: &[String], stop: u64, pick: Pick) -> Result<bool, Fail> {
-    let (first, second, status, end) = run_twice(
-        alloc,
-        words,
-        PLAN,
-        THREE,
-        new_host(alloc)?,
-        stop,
-        pick,
-    )?;
-    let is_whole = first.output() == WHOLE && second.output() == AGAIN;
-    drop(first);
-    drop(second);
-    Ok(is_whole && status == Status::Ok && end == Status::Ok)
-}
-
-#[test]
-fn a_stop_behind_the_last_call_leaves_all(rt: HostRuntime) -> Result<(), Fail> {
-    let words = words(rt.alloc())?;
-    let calls = calls_of(rt.alloc(), &words)?;
-    for pick in PICKS {
-        for stop in [calls, u64::MAX] {
-            assert!(rt;
-                is_whole(rt.alloc(), &words, stop, pick)?,
-                "{stop} {pick:?}"
-            );
-        }
+    for case in [PAYMENTS, CONTROLLED] {
+        let wrong = Trial::new(rt.alloc(), case)?.wrong()?;
+        assert_eq!(rt; wrong, None);
     }
     Ok(())
 }

@@ -6,17 +6,19 @@ use Rattle.rg_twice.proofs.Stops.{told_by, ends_well, never_rises, never_longer}
 use Rattle.rg_twice.proofs.twice.run_bytes.Goals as goal
 
 pub returns-clause-runs : goal.returns-clause-runs
-returns-clause-runs g c = λ run asks says ready.
-    let told = told_by c.args.plan.now c.args.input.now c.new-plan_source.result c.new-input_source.result c.new-plan_source.ensures c.new-input_source.ensures asks says _ _ _ ready in
-    let w = c.railgun.ensures.every_moment 0 run told in
-    record {
-      from = w.0;
-      last = w.1;
-      last_is = w.2;
-      moments = w.4;
-      complete = λ ok u left. (c.railgun.ensures.complete_run ok 0 run told).1.has u left;
-      resumes = λ ok on_course. c.railgun.ensures.resumes ok run told on_course;
-    }
+returns-clause-runs g c = λ run asks says. record {
+  has_run = λ ready.
+      let told = told_by c.args.plan.now c.args.input.now c.new-plan_source.result c.new-input_source.result c.new-plan_source.ensures c.new-input_source.ensures asks says _ _ _ ready in
+      let w = c.railgun.ensures.every_moment 0 run told in
+      record {
+        from = w.0;
+        last = w.1;
+        last_is = w.2;
+        moments = w.4;
+        complete = λ ok u left. (c.railgun.ensures.complete_run ok 0 run told).1.has u left;
+        resumes = λ ok on_course. c.railgun.ensures.resumes ok run told on_course;
+      };
+}
 
 pub returns-clause-ends : goal.returns-clause-ends
 returns-clause-ends g c = λ run asks says ready within.

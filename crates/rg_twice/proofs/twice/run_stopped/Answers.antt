@@ -12,18 +12,18 @@ use Rattle.rg_twice.proofs.twice.run_stopped.Goals as goal
 
 pub returns-clause-left : goal.returns-clause-left
 returns-clause-left c = λ start.
-    let runs = subst (λ (f : Fused Ledger). RunsFused start.asks c.args.input.now c.run_bytes-status.result f c.run_bytes-status.new.host) c.new-fuse.ensures (λ ready. c.run_bytes-status.ensures.runs start.names_run start.asks start.says ready) in
+    let runs = subst (λ (f : Fused Ledger). RunsFused start.asks c.args.input.now c.run_bytes-status.result f c.run_bytes-status.new.host) c.new-fuse.ensures (c.run_bytes-status.ensures.runs start.names_run start.asks start.says) in
     let image = image_of c.in_ok-left.left.first in
     let now_is = ap now_in c.in_ok-left.ensures.begun in
-    let left = fused_left start.asks c.args.input.now c.run_bytes-status.result (record { inner = c.args.host; left = c.args.stop; disk_faults = 0; out_faults = 0; reads = 0 }) c.run_bytes-status.new.host runs start.store c.into_inner-host.result c.into_inner-host.ensures c.calls.result c.calls.ensures image (c.in_ok-left.ensures.moment image now_is) in
+    let left = fused_left start.asks c.args.input.now c.run_bytes-status.result (record { inner = c.args.host; left = c.args.stop; disk_faults = 0; out_faults = 0; reads = 0 }) c.run_bytes-status.new.host runs start.store c.into_inner-host.result c.into_inner-host.ensures image (c.in_ok-left.ensures.last image now_is) in
     (left.0, left.1, told_such (λ (v : Image). IsLeft start.asks start.store.held (accepted_of start.asks c.args.input.now) (whole_pieces left.0) v) (now_in c.in_ok-left.left) image now_is left.2)
 
 pub returns-clause-again : goal.returns-clause-again
 returns-clause-again c = λ start others other asked names says alike.
-    let runs = subst (λ (f : Fused Ledger). RunsFused start.asks c.args.input.now c.run_bytes-status.result f c.run_bytes-status.new.host) c.new-fuse.ensures (λ ready. c.run_bytes-status.ensures.runs start.names_run start.asks start.says ready) in
+    let runs = subst (λ (f : Fused Ledger). RunsFused start.asks c.args.input.now c.run_bytes-status.result f c.run_bytes-status.new.host) c.new-fuse.ensures (c.run_bytes-status.ensures.runs start.names_run start.asks start.says) in
     let image = image_of c.in_ok-left.left.first in
     let now_is = ap now_in c.in_ok-left.ensures.begun in
-    let left = fused_left start.asks c.args.input.now c.run_bytes-status.result (record { inner = c.args.host; left = c.args.stop; disk_faults = 0; out_faults = 0; reads = 0 }) c.run_bytes-status.new.host runs start.store c.into_inner-host.result c.into_inner-host.ensures c.calls.result c.calls.ensures image (c.in_ok-left.ensures.moment image now_is) in
+    let left = fused_left start.asks c.args.input.now c.run_bytes-status.result (record { inner = c.args.host; left = c.args.stop; disk_faults = 0; out_faults = 0; reads = 0 }) c.run_bytes-status.new.host runs start.store c.into_inner-host.result c.into_inner-host.ensures image (c.in_ok-left.ensures.last image now_is) in
     record {
       names_run = names;
       asks = asked;

@@ -12,10 +12,12 @@ use Rattle.rg_host.proofs.Runs.{moments-none}
 use Rattle.rg_course.specs.Stores.{StaysOnCourseSince}
 use Rattle.rg_open.specs.Stores.{store_of}
 use Rattle.rg_open.specs.Opening.{IsFromIn}
-use Rattle.rg_turn.specs.Turning.{HasStopped}
-use Rattle.rg_run.specs.Begun.{Begun, IsReadyRun, begun_by, course_for}
+use Rattle.rg_live.specs.Ran.{HasStopped}
+use Rattle.rg_run.specs.Begun.{Begun, course_for}
+use Rattle.rg_live.specs.Ready.{IsReadyRun, begun_by}
 use Rattle.rg_run.specs.Reading.{IsLonger}
-use Rattle.rg_run.specs.UnderWay.{HasAnswered, HasFinished, IsUnopened, IsLeft}
+use Rattle.rg_run.specs.UnderWay.{HasAnswered}
+use Rattle.rg_live.specs.Ran.{HasFinished, IsUnopened, IsLeft}
 use Rattle.rg_run.specs.declared.fault.RunFault.{RunFault}
 use Rattle.rg_run.specs.declared.fault.RunFault.TheVariants as run
 use Rattle.rg_call.specs.Plan.{IsPlan}

@@ -31,9 +31,10 @@ use Rattle.rg_course.proofs.Whole.{may_leave, out_again}
 use Rattle.rg_open.specs.Stores.{store_of}
 use Rattle.rg_open.specs.Truth.{IsTruthfulImage}
 use Rattle.rg_open.specs.Opening.{IsFromIn}
-use Rattle.rg_turn.specs.Turning.{HasStopped, terms_of}
+use Rattle.rg_live.specs.Ran.{HasStopped}
+use Rattle.rg_task.specs.Terms.{terms_of}
 use Rattle.rg_run.specs.Begun.{Begun, course_for, lines_in}
-use Rattle.rg_run.specs.UnderWay.{IsUnopened}
+use Rattle.rg_live.specs.Ran.{IsUnopened}
 use Rattle.rg_report.specs.Statuses.{last_line}
 use Rattle.rg_call.specs.Stored.{Went, IsLastOf, IsToldFrom, IsComplete, EndsWhole, EndsAnswered, IsAtMostOneAhead, HasLastSaved, Resumes}
 use Rattle.rg_report.specs.declared.status.Status.{Status}

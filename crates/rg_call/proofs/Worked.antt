@@ -20,7 +20,7 @@ use Rattle.rg_config.specs.Plans.{Planned}
 use Rattle.rg_plan.specs.Plans.{plan_for, Tasks as TaskPlanned}
 use Rattle.rg_engine.specs.Passed.{passed_count}
 use Rattle.rg_course.specs.Output.{text_of_run}
-use Rattle.rg_turn.specs.Turning.{terms_of}
+use Rattle.rg_task.specs.Terms.{terms_of}
 use Rattle.rg_listing.specs.Listing.{task_text, check_text}
 
 abbrev card : Field

@@ -16,9 +16,12 @@ use Rattle.rg_course.specs.Stores.{IsNear, StaysOnCourseSince}
 use Rattle.rg_open.specs.Stores.{store_of, Has, HasSaved}
 use Rattle.rg_open.specs.Truth.{IsTruthfulImage}
 use Rattle.rg_open.specs.Opening.{IsFromIn}
-use Rattle.rg_turn.specs.Turning.{HasStopped, terms_of}
-use Rattle.rg_run.specs.Begun.{IsReadyRun, Begun, begun_by, lines_in, course_for}
-use Rattle.rg_run.specs.UnderWay.{HasAnswered, HasFinished, IsUnopened}
+use Rattle.rg_live.specs.Ran.{HasStopped}
+use Rattle.rg_task.specs.Terms.{terms_of}
+use Rattle.rg_live.specs.Ready.{IsReadyRun, begun_by}
+use Rattle.rg_run.specs.Begun.{Begun, lines_in, course_for}
+use Rattle.rg_run.specs.UnderWay.{HasAnswered}
+use Rattle.rg_live.specs.Ran.{HasFinished, IsUnopened}
 use Rattle.rg_call.specs.Plan.{IsPlan}
 use Rattle.rg_report.specs.Statuses.{last_line}
 use Rattle.rg_call.specs.Call.{damage_line, gap_line}

@@ -19,7 +19,7 @@ ghost use Rattle.rg_open.specs.Stores.{store_of};
 ghost use Rattle.rg_open.specs.Opening.{IsFromIn};
 ghost use Rattle.rg_open.specs.Unfit.{IsUnfit, IsLeftAlone};
 ghost use Rattle.rg_open.specs.Within.{IsWithinOpening};
-ghost use Rattle.rg_turn.specs.Turning.{terms_of};
+ghost use Rattle.rg_task.specs.Terms.{terms_of};
 ghost use Rattle.rg_verify.specs.Verify.{IsSaid, IsCut};
 ghost use Rattle.rg_replay.specs.Runs.{text_of_left};
 ghost use Rattle.rg_run.specs.Begun.{Begun, course_for, lines_in};

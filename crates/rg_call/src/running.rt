@@ -7,7 +7,7 @@ ghost use Rattle.rg_config.specs.Plans.{planned};
 ghost use Rattle.rg_config.specs.Read.{IsReadPlan};
 ghost use Rattle.rg_open.specs.Unfit.{IsUnfit, IsLeftAlone};
 ghost use Rattle.rg_open.specs.Within.{IsWithinOpening};
-ghost use Rattle.rg_run.specs.Begun.{IsReadyRun, begun_by};
+ghost use Rattle.rg_live.specs.Ready.{IsReadyRun, begun_by};
 ghost use Rattle.rg_run.specs.Reading.{IsLonger, IsWithinLimit};
 ghost use Rattle.rg_call.specs.Call.{EndsRun, ending_status, ending_line, status_after, line_after, gap_line};
 ghost use Rattle.rg_call.specs.Causes.{IsStoreLine, IsNextOf};
@@ -76,7 +76,7 @@ pub fn run<I: Source, H: Host, L: Ledger>(
     ensures later_out { H.out_faults host.old ≤ H.out_faults host.new }
 {
     let mut steps = Steps::<L>::new(blank);
-    match rg_run::run(alloc, plan, first, input, host, &mut steps) {
+    match rg_live::run(alloc, plan, first, input, host, &mut steps) {
         Ok(()) => Ok(()),
         Err(fault) => Err(ending_of(alloc, first, fault)),
     }

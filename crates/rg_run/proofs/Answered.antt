@@ -1,19 +1,16 @@
 -- A run over an opened store that ended before its first line.
-use Rattle.std.proofs.Common.{◌≡◌, ◌⊎◌, inl, inr, ⊎_elim, ℕ, ◌<◌, ◌≤◌, ◌^◌, [], List, Option, Result, Ok, Err, refl, arith}
+use Rattle.std.proofs.Common.{◌≡◌, ◌⊎◌, inl, inr, ⊎_elim, ℕ, ◌<◌, ◌≤◌, ◌^◌, [], List, Option, Result, Ok, Err, refl, ap, sym, ◌∙◌, subst, arith}
 use Rattle.std.specs.Prelude.{IfOk, OnOk}
 use Rattle.rg_bytes.specs.Counts.{Rose}
 use Rattle.rg_bytes.specs.Known.{IsAtEnd}
-use Rattle.rg_host.specs.Image.{Image}
 use Rattle.rg_host.specs.Moments.{Moment, Moments}
 use Rattle.rg_host.specs.Reading.{Reading}
 use Rattle.rg_host.proofs.Runs.{moments_then}
 use Rattle.rg_config.specs.Plans.{Planned}
-use Rattle.rg_state.specs.Rows.{Cells}
 use Rattle.rg_course.specs.Stores.{StaysOnCourse}
-use Rattle.rg_open.specs.Stores.{store_of}
-use Rattle.rg_recover.specs.Sessions.{Sitting}
-use Rattle.rg_turn.specs.Turning.{HasStopped}
+use Rattle.rg_run.specs.Turning.{HasStopped}
 use Rattle.rg_run.specs.Answered.{StaysTrue, Explains}
+use Rattle.rg_task.specs.View.{View}
 use Rattle.rg_run.specs.Begun.{Begun, course_for}
 use Rattle.rg_run.specs.Reading.{HasTaken, IsWithinLimit}
 use Rattle.rg_run.specs.Turned.{GoesTrue, IsReadOut}
@@ -23,9 +20,9 @@ use Rattle.rg_run.specs.declared.fault.RunFault.TheVariants.{Disk, Damaged, Sche
 use Rattle.rg_run.proofs.Causes.{err_is, gap_is, gap_others, if_err_by, put_others}
 use Rattle.rg_run.proofs.Taking.{within}
 
-module _ {H : Type 0} (may : H → Image → Type 0) (clock : H → ℕ) (since : H → ℕ → Moment → Type 0) (said : H → Option (List ℕ)) (plan : Planned) (b : Begun) (left : Option (List ℕ)) (old new : H) (moments : Moments clock since old new (StaysOnCourse (store_of plan) (course_for plan b) [])) where
+module _ {K : Type 0} (view : View K) (plan : Planned) (b : Begun) (left : Option (List ℕ)) (old new : K) (moments : Moments view.clock view.since old new (StaysOnCourse (view.store plan) (course_for plan b) [])) where
   -- a gap
-  pub true_at_gap : {A : Type 0} (n : ℕ) → new ≡ old → StaysTrue may clock since said {A = A} plan b left (Err (Gap n)) old new
+  pub true_at_gap : {A : Type 0} (n : ℕ) → new ≡ old → StaysTrue view {A = A} plan b left (Err (Gap n)) old new
   true_at_gap n same = record {
     moments = moments;
     finished = tt;
@@ -36,7 +33,7 @@ module _ {H : Type 0} (may : H → Image → Type 0) (clock : H → ℕ) (since 
   }
 
   -- a put that failed
-  pub true_unput : {A : Type 0} (fault : RunFault) → (fault ≡ Write) ⊎ (fault ≡ Memory) → (fault ≡ Write) ⊎ (new ≡ old) → StaysTrue may clock since said {A = A} plan b left (Err fault) old new
+  pub true_unput : {A : Type 0} (fault : RunFault) → (fault ≡ Write) ⊎ (fault ≡ Memory) → (fault ≡ Write) ⊎ (new ≡ old) → StaysTrue view {A = A} plan b left (Err fault) old new
   true_unput fault which stopped =
       let not = put_others fault which in
       record {
@@ -49,38 +46,38 @@ module _ {H : Type 0} (may : H → Image → Type 0) (clock : H → ℕ) (since 
       }
 
 -- the open line was put, and the lines were answered
-pub true_from : {H A : Type 0} (may : H → Image → Type 0) (clock : H → ℕ) (since : H → ℕ → Moment → Type 0) (said : H → Option (List ℕ)) (plan : Planned) (b : Begun) (left : Option (List ℕ)) (old mid new : H) (r : Result A RunFault) → Moments clock since old mid (StaysOnCourse (store_of plan) (course_for plan b) [])
-    → GoesTrue may clock since said plan b left (λ _. HasFinished plan b (may new) (said new)) r mid new → StaysTrue may clock since said plan b left r old new
-true_from may clock since said plan b left old mid new r first goes = record {
-  moments = moments_then clock since old mid new (StaysOnCourse (store_of plan) (course_for plan b) []) (StaysOnCourse (store_of plan) (course_for plan b) []) (StaysOnCourse (store_of plan) (course_for plan b) []) first goes.moments (λ m h. h) (λ m h. h);
+pub true_from : {K A : Type 0} (view : View K) (plan : Planned) (b : Begun) (left : Option (List ℕ)) (old mid new : K) (r : Result A RunFault) → Moments view.clock view.since old mid (StaysOnCourse (view.store plan) (course_for plan b) [])
+    → GoesTrue view plan b left (λ _. HasFinished view plan b new) r mid new → StaysTrue view plan b left r old new
+true_from view plan b left old mid new r first goes = record {
+  moments = moments_then view.clock view.since old mid new (StaysOnCourse (view.store plan) (course_for plan b) []) (StaysOnCourse (view.store plan) (course_for plan b) []) (StaysOnCourse (view.store plan) (course_for plan b) []) first goes.moments (λ m h. h) (λ m h. h);
   finished = goes.done;
-  stopped = if_err_by r (λ f. (f ≡ Write) ⊎ HasStopped plan (course_for plan b) (may new) (said new)) (λ f. (f ≡ Write) ⊎ (HasStopped plan (course_for plan b) (may new) (said new) ⊎ (new ≡ old))) (λ f. ⊎_elim (λ write. inl write) (λ stopped. inr (inl stopped))) goes.stopped;
+  stopped = if_err_by r (λ f. (f ≡ Write) ⊎ HasStopped view plan (course_for plan b) new) (λ f. (f ≡ Write) ⊎ (HasStopped view plan (course_for plan b) new ⊎ (new ≡ old))) (λ f. ⊎_elim (λ write. inl write) (λ stopped. inr (inl stopped))) goes.stopped;
   answered = goes.answered;
   never_bad = goes.never_bad;
   never_damaged = goes.never_damaged;
 }
 
-module _ {H I : Type 0} (now : H → Option Image) (may : H → Image → Type 0) (disk_faults out_faults : H → ℕ) (left : I → Option (List ℕ)) (faults : I → ℕ) {T : Type 0} (plan : Planned) (next first : ℕ) (told : Type 0) (cells : Cells) (s : Sitting T) (input : I) (old : H) where
-  pub gap_explained : {A : Type 0} → next < first → Explains now may disk_faults out_faults left faults {A = A} plan next first told cells s (Err (Gap next)) input input old old
-  gap_explained behind =
-      let not = gap_others next in
+module _ {K I : Type 0} (view : View K) (disk_faults out_faults : K → ℕ) (left : I → Option (List ℕ)) (faults : I → ℕ) (plan : Planned) (first : ℕ) (input : I) (old : K) where
+  pub gap_explained : {A : Type 0} (n : ℕ) → n ≡ (view.at old).next → n < first → Explains view disk_faults out_faults left faults {A = A} plan first (Err (Gap n)) input input old old
+  gap_explained n is behind =
+      let not = gap_others n in
       record {
-        behind = λ h. (refl, refl, refl);
-        gap = λ n is. (gap_is next n (err_is (Gap next) (Gap n) is), behind, refl);
+        behind = λ h. (refl, refl, ap (λ (m : ℕ). Gap m) is);
+        gap = λ k e. (sym is ∙ gap_is n k (err_is (Gap n) (Gap k) e), subst (λ (m : ℕ). m < first) is behind, refl);
         no_gap = tt;
-        differs = λ is. not.1 (err_is (Gap next) SchemaDiffers is);
-        bad = λ k runs is. (not.5 k).0 (err_is (Gap next) (BadState k) is);
-        undamaged = λ k placed is. (not.5 k).1 (err_is (Gap next) (Damaged k) is);
-        damaged = λ k is. absurd ((not.5 k).1 (err_is (Gap next) (Damaged k) is));
+        differs = λ e. not.1 (err_is (Gap n) SchemaDiffers e);
+        bad = λ k runs e. (not.5 k).0 (err_is (Gap n) (BadState k) e);
+        undamaged = λ k placed e. (not.5 k).1 (err_is (Gap n) (Damaged k) e);
+        damaged = λ k e. absurd ((not.5 k).1 (err_is (Gap n) (Damaged k) e));
         at_end = tt;
         within = tt;
-        read = λ is. absurd (not.2 (err_is (Gap next) Read is));
-        limit = λ is. absurd (not.3 (err_is (Gap next) Limit is));
-        write = λ is. absurd (not.4 (err_is (Gap next) Write is));
-        disk = λ is. absurd (not.0 (err_is (Gap next) Disk is));
+        read = λ e. absurd (not.2 (err_is (Gap n) Read e));
+        limit = λ e. absurd (not.3 (err_is (Gap n) Limit e));
+        write = λ e. absurd (not.4 (err_is (Gap n) Write e));
+        disk = λ e. absurd (not.0 (err_is (Gap n) Disk e));
       }
 
-  pub unput_explained : {A : Type 0} (fault : RunFault) (new : H) → first ≤ next → (fault ≡ Write) ⊎ (fault ≡ Memory) → (fault ≡ Write → Rose (out_faults old) (out_faults new)) → Explains now may disk_faults out_faults left faults {A = A} plan next first told cells s (Err fault) input input old new
+  pub unput_explained : {A : Type 0} (fault : RunFault) (new : K) → first ≤ (view.at old).next → (fault ≡ Write) ⊎ (fault ≡ Memory) → (fault ≡ Write → Rose (out_faults old) (out_faults new)) → Explains view disk_faults out_faults left faults {A = A} plan first (Err fault) input input old new
   unput_explained fault new ahead which write =
       let not = put_others fault which in
       record {

@@ -1,42 +1,23 @@
--- A whole run, from its beginning and its lines.
-use Rattle.std.proofs.Common.{◌≡◌, inl, ℕ, ◌≤◌, false, List, [], Option, Some, refl, sym, ◌∙◌, subst, arith}
-use Rattle.std.proofs.lemmas.List.{append-nil}
-use Rattle.std.specs.Option.{ForSome}
-use Rattle.rg_host.specs.Image.{Image}
+-- A run before its first line.
+use Rattle.std.proofs.Common.{◌≡◌, List, [], ℕ, false, Option, Some, refl, sym, subst, arith}
 use Rattle.rg_host.specs.Lines.{lines_of}
-use Rattle.rg_host.specs.Moments.{Moment, Moments}
 use Rattle.rg_host.specs.Reading.{Reading}
-use Rattle.rg_host.proofs.Runs.{moments-none}
 use Rattle.rg_config.specs.Plans.{Planned}
-use Rattle.rg_state.specs.Rows.{Cells}
-use Rattle.rg_course.specs.Stores.{StaysOnCourseSince}
-use Rattle.rg_open.specs.Stores.{store_of}
-use Rattle.rg_recover.specs.Sessions.{Sitting, events_of}
-use Rattle.rg_turn.specs.Turning.{IsAwaiting}
-use Rattle.rg_run.specs.Begun.{IsReadyRun, Begun, begun_by, course_for}
+use Rattle.rg_task.specs.View.{View}
+use Rattle.rg_run.specs.Turning.{IsAwaiting}
+use Rattle.rg_run.specs.Begun.{Begun, course_for}
 use Rattle.rg_run.specs.Reading.{HasRead}
-use Rattle.rg_run.specs.UnderWay.{IsUnderWay, IsUnopened}
+use Rattle.rg_run.specs.UnderWay.{IsUnderWay}
 use Rattle.rg_run.proofs.Taking.{read_none}
 
-module _ {H : Type 0} (now : H → Option Image) (may : H → Image → Type 0) (clock : H → ℕ) (since : H → ℕ → Moment → Type 0) (said : H → Option (List ℕ)) (plan : Planned) where
-  -- a run that never began
-  pub none_moments : (only : (h : H) (m : Moment) → since h (clock h) m → may h m.image × ForSome (said h) (λ t. m.said ≡ t)) (sinks : (h : H) (t u : ℕ) (m : Moment) → t ≤ u → since h u m → since h t m) (old : H) (ready : IsReadyRun plan (now old) (may old) (said old)) (from first : ℕ) (input : List ℕ) →
-      Moments clock since old old (StaysOnCourseSince (store_of plan) (course_for plan (begun_by ready from first input)) (may old) [])
-  none_moments only sinks old ready from first input = moments-none clock since old (StaysOnCourseSince (store_of plan) (course_for plan (begun_by ready from first input)) (may old) []) (λ t u m le h. sinks old t u m le h)
-      (λ m h. let at = only old m h in inl (at.0, ([], ([], refl), at.1 ready.put ready.told ∙ sym (append-nil ready.put))))
-
-  pub none_unopened : (b : Begun) (old : H) → IsUnopened may said plan b old old
-  none_unopened b old = record { said_stays = refl; left = λ u left. inl left }
-
--- before the first line
-pub way_first : {T : Type 0} (plan : Planned) (b : Begun) (left : Option (List ℕ)) (reading : Reading) (offset : ℕ) (now : Option Image) (may : Image → Type 0) (said : Option (List ℕ)) (gathered : List ℕ) (told : Type 0) (cells : Cells) (s : Sitting T) →
-    left ≡ Some b.input → reading.pending ≡ [] → reading.ended ≡ false → offset ≡ b.first → IsAwaiting plan (course_for plan b) b.first (lines_of b.input) now may said gathered told cells s → events_of now s ≡ b.held → IsUnderWay plan b left reading offset now may said gathered told cells s
-way_first plan b left reading offset now may said gathered told cells s left_is pending still at awaits events = record {
+pub way_first : {K : Type 0} (view : View K) (plan : Planned) (b : Begun) (left : Option (List ℕ)) (reading : Reading) (offset : ℕ) (t : K) (gathered : List ℕ) →
+    left ≡ Some b.input → reading.pending ≡ [] → reading.ended ≡ false → offset ≡ b.first → IsAwaiting view plan (course_for plan b) b.first (lines_of b.input) t gathered → (view.at t).events ≡ b.held → IsUnderWay view plan b left reading offset t gathered
+way_first view plan b left reading offset t gathered left_is pending still at awaits events = record {
   handed = [];
   items = lines_of b.input;
   read = subst (λ (l : Option (List ℕ)). HasRead b.input l reading []) (sym left_is) (read_none b.input reading pending still);
   whole = refl;
   offset_is = omega (arith, at);
-  awaiting = subst (λ (n : ℕ). IsAwaiting plan (course_for plan b) n (lines_of b.input) now may said gathered told cells s) (sym at) awaits;
+  awaiting = subst (λ (n : ℕ). IsAwaiting view plan (course_for plan b) n (lines_of b.input) t gathered) (sym at) awaits;
   events = events;
 }

@@ -1,17 +1,11 @@
 -- What a line that was answered leaves, and why one was not.
 use Rattle.std.proofs.Common.{◌≡◌, ◌⊎◌, inl, inr, ℕ, ◌<◌, ◌^◌, true, false, Option, Ok, Err, refl, sym, ◌∙◌, subst}
-use Rattle.std.specs.Option.{ForSome}
 use Rattle.rg_bytes.specs.Counts.{Rose}
-use Rattle.rg_host.specs.Image.{Image}
 use Rattle.rg_config.specs.Plans.{Planned}
-use Rattle.rg_state.specs.Rows.{Cells}
-use Rattle.rg_reservoir.specs.Chain.{IsIllegal}
-use Rattle.rg_reservoir.specs.Kept.{base}
-use Rattle.rg_open.specs.Blame.{NodeRuns, IsPlaced}
-use Rattle.rg_recover.specs.Sessions.{Sitting}
-use Rattle.rg_recover.specs.declared.fault.TaskFault.TheVariants as task
-use Rattle.rg_turn.specs.declared.fault.TurnFault.{TurnFault}
-use Rattle.rg_turn.specs.declared.fault.TurnFault.TheVariants as turn
+use Rattle.rg_task.specs.declared.fault.TaskFault.TheVariants as task
+use Rattle.rg_run.specs.declared.fault.TurnFault.{TurnFault}
+use Rattle.rg_run.specs.declared.fault.TurnFault.TheVariants as turn
+use Rattle.rg_task.specs.View.{View}
 use Rattle.rg_run.specs.Faults.{of_turn}
 use Rattle.rg_run.specs.Turned.{MoreOr, StopsFor}
 use Rattle.rg_run.specs.declared.fault.RunFault.{RunFault}
@@ -24,8 +18,8 @@ more on = record { on_is = λ is. on; over_is = λ is. absurd (let e : true ≡ 
 pub no_more : {on over : Type 0} → over → MoreOr on over false
 no_more over = record { on_is = λ is. absurd (let e : false ≡ true = is in cc); over_is = λ is. over }
 
-module _ {H I : Type 0} (now : H → Option Image) (may : H → Image → Type 0) (disk_faults out_faults : H → ℕ) (faults : I → ℕ) {T : Type 0} (plan : Planned) (told : Type 0) (cells : Cells) (s then : Sitting T) (taken : ℕ) (input input_then : I) (old new : H) where
-  pub why_none : {A : Type 0} (value : A) → StopsFor now may disk_faults out_faults faults plan told cells s then taken (Ok value) input input_then old new
+module _ {K I : Type 0} (view : View K) (disk_faults out_faults : K → ℕ) (faults : I → ℕ) (plan : Planned) (taken : ℕ) (input input_then : I) (old new : K) where
+  pub why_none : {A : Type 0} (value : A) → StopsFor view disk_faults out_faults faults plan taken (Ok value) input input_then old new
   why_none value = record {
     bad = λ n runs is. ok_never value (BadState n) is;
     undamaged = λ p placed is. ok_never value (Damaged p) is;
@@ -39,11 +33,11 @@ module _ {H I : Type 0} (now : H → Option Image) (may : H → Image → Type 0
   }
 
   pub why_turn : {A : Type 0} (fault : TurnFault) (ran : RunFault) → ran ≡ of_turn fault
-      → ((n : ℕ) → NodeRuns plan n (now old) (may old) told cells s.reservoir s.engine → fault ≡ turn.Task (task.BadState n) → ⊥)
-      → ((p : ℕ) → IsPlaced plan (now old) (may old) s.reservoir s.engine → fault ≡ turn.Task (task.Damaged p) → ⊥)
-      → ((p : ℕ) → fault ≡ turn.Task (task.Damaged p) → ForSome (now new) (λ v. IsIllegal (base then.reservoir).shape.fields p (v (base then.reservoir).file)))
+      → ((n : ℕ) → view.node plan n old → fault ≡ turn.Task (task.BadState n) → ⊥)
+      → ((p : ℕ) → view.placed plan old → fault ≡ turn.Task (task.Damaged p) → ⊥)
+      → ((p : ℕ) → fault ≡ turn.Task (task.Damaged p) → view.illegal p new)
       → (fault ≡ turn.Write → Rose (out_faults old) (out_faults new)) → (fault ≡ turn.Task task.Disk → Rose (disk_faults old) (disk_faults new))
-      → StopsFor now may disk_faults out_faults faults {A = A} plan told cells s then taken (Err ran) input input_then old new
+      → StopsFor view disk_faults out_faults faults {A = A} plan taken (Err ran) input input_then old new
   why_turn fault ran ran_is bad undamaged damaged write disk =
       let others = turn_others fault in
       record {
@@ -58,7 +52,7 @@ module _ {H I : Type 0} (now : H → Option Image) (may : H → Image → Type 0
         gap = λ n is. others.3 n (sym ran_is ∙ err_is ran (Gap n) is);
       }
 
-  pub why_read : {A : Type 0} → Rose (faults input) (faults input_then) → StopsFor now may disk_faults out_faults faults {A = A} plan told cells s then taken (Err Read) input input_then old new
+  pub why_read : {A : Type 0} → Rose (faults input) (faults input_then) → StopsFor view disk_faults out_faults faults {A = A} plan taken (Err Read) input input_then old new
   why_read rose = record {
     bad = λ n runs is. let e : ◌≡◌ {A = RunFault} Read (BadState n) = err_is Read (BadState n) is in cc;
     undamaged = λ p placed is. let e : ◌≡◌ {A = RunFault} Read (Damaged p) = err_is Read (Damaged p) is in cc;
@@ -71,7 +65,7 @@ module _ {H I : Type 0} (now : H → Option Image) (may : H → Image → Type 0
     gap = λ n is. let e : ◌≡◌ {A = RunFault} Read (Gap n) = err_is Read (Gap n) is in cc;
   }
 
-  pub why_limit : {A : Type 0} → 2 ^ 50 < taken → StopsFor now may disk_faults out_faults faults {A = A} plan told cells s then taken (Err Limit) input input_then old new
+  pub why_limit : {A : Type 0} → 2 ^ 50 < taken → StopsFor view disk_faults out_faults faults {A = A} plan taken (Err Limit) input input_then old new
   why_limit past = record {
     bad = λ n runs is. let e : ◌≡◌ {A = RunFault} Limit (BadState n) = err_is Limit (BadState n) is in cc;
     undamaged = λ p placed is. let e : ◌≡◌ {A = RunFault} Limit (Damaged p) = err_is Limit (Damaged p) is in cc;
@@ -85,12 +79,12 @@ module _ {H I : Type 0} (now : H → Option Image) (may : H → Image → Type 0
   }
 
   -- a put failed
-  pub why_write : {A : Type 0} (fault : RunFault) → fault ≡ Write → Rose (out_faults old) (out_faults new) → StopsFor now may disk_faults out_faults faults {A = A} plan told cells s then taken (Err fault) input input_then old new
+  pub why_write : {A : Type 0} (fault : RunFault) → fault ≡ Write → Rose (out_faults old) (out_faults new) → StopsFor view disk_faults out_faults faults {A = A} plan taken (Err fault) input input_then old new
   why_write fault is rose =
       let not = put_or_memory turn.Write (inl refl) in
       why_turn turn.Write fault is (λ n runs e. not.0 n e) (λ p placed e. not.1 p e) (λ p e. absurd (not.1 p e)) (λ e. rose) (λ e. absurd (not.2 e))
 
   -- what was gathered was put before that fault, or that put failed
-  pub why_stopped : {A : Type 0} (fault result : RunFault) → StopsFor now may disk_faults out_faults faults {A = A} plan told cells s then taken (Err fault) input input_then old new → (result ≡ fault) ⊎ ((result ≡ Write) × Rose (out_faults old) (out_faults new)) → StopsFor now may disk_faults out_faults faults {A = A} plan told cells s then taken (Err result) input input_then old new
-  why_stopped {A} fault result why (inl same) = subst (λ (f : RunFault). StopsFor now may disk_faults out_faults faults {A = A} plan told cells s then taken (Err f) input input_then old new) (sym same) why
+  pub why_stopped : {A : Type 0} (fault result : RunFault) → StopsFor view disk_faults out_faults faults {A = A} plan taken (Err fault) input input_then old new → (result ≡ fault) ⊎ ((result ≡ Write) × Rose (out_faults old) (out_faults new)) → StopsFor view disk_faults out_faults faults {A = A} plan taken (Err result) input input_then old new
+  why_stopped {A} fault result why (inl same) = subst (λ (f : RunFault). StopsFor view disk_faults out_faults faults {A = A} plan taken (Err f) input input_then old new) (sym same) why
   why_stopped fault result why (inr put) = why_write result put.0 put.1

@@ -1,18 +1,32 @@
-//! A whole run: the store of a plan is opened, the lines of an input are answered in turn, and the end is
-//! put. What comes in are a plan, a source and a host; what goes out are the lines of the run's text.
-//! Upward: over a store whose images are truthful, at each moment the image that a crash might leave and
-//! what was put are on the course of the run, and at its end all was put and all accepted events are
-//! stored.
+//! A whole run: the lines of an input are answered in turn by a task, what is due is stored before the reply
+//! to a line is put with its marks, and the end is put. What comes in are a plan, a source and a task over an
+//! opened store; what goes out are the lines of the run's text. Upward: from a moment between two lines each
+//! turn leads to the next one, and the end of the input to a store that has all events, with the whole text
+//! put; and at each moment the image that a crash might leave and what was put are on the course of the run.
 #![tactic(auto)]
 
-mod answering;
+mod ahead;
+mod answer;
+mod due;
 mod fault;
+mod finish;
 mod gather;
 mod lines;
-mod opening;
+mod load;
+mod obey;
+mod refuse;
 mod running;
+mod save;
+mod settle;
+mod store;
+mod tell;
 mod telling;
+mod text;
 mod turn;
+mod turning;
 
-pub use fault::RunFault;
+pub use due::{Due, due_at};
+pub use fault::{RunFault, TurnFault};
 pub use running::run;
+pub use text::{write_end, write_turn};
+pub use turning::Turning;

@@ -1,5 +1,5 @@
 use rg_reply::Reply;
-use rg_turn::{Due, due_at, write_end, write_turn};
+use rg_run::{Due, due_at, write_end, write_turn};
 use std::test::Fail;
 
 #[test]

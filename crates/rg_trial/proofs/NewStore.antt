@@ -21,9 +21,9 @@ use Rattle.rg_open.specs.Opening.{IsOpenable, IsFromIn}
 use Rattle.rg_restore.specs.Slots.{slot_in, IsFrom}
 use Rattle.rg_restore.specs.declared.choosing.Saved.{Saved}
 use Rattle.rg_open.specs.Truth.{texts_of, IsTruthfulImage}
-use Rattle.rg_turn.specs.Turning.{terms_of}
-use Rattle.rg_run.specs.Begun.{IsReadyRun, begun_by}
-use Rattle.rg_run.specs.UnderWay.{HasFinished}
+use Rattle.rg_task.specs.Terms.{terms_of}
+use Rattle.rg_live.specs.Ready.{IsReadyRun, begun_by}
+use Rattle.rg_live.specs.Ran.{HasFinished}
 use Rattle.rg_run.specs.declared.fault.RunFault.{RunFault}
 use Rattle.rg_run.specs.declared.fault.RunFault.TheVariants as run
 use Rattle.rg_course.specs.Accepted.{events_after}

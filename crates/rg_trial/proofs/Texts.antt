@@ -9,7 +9,7 @@ use Rattle.rg_config.specs.Plans.{Planned}
 use Rattle.rg_course.specs.Accepted.{events_after}
 use Rattle.rg_course.specs.Output.{open_line, put_before, stored_line, saved_line}
 use Rattle.rg_host.proofs.Endings.{ended-append}
-use Rattle.rg_turn.specs.Turning.{terms_of}
+use Rattle.rg_task.specs.Terms.{terms_of}
 use Rattle.rg_trial.specs.Trials.{text_for, count_for}
 use Rattle.rg_trial.proofs.Words.{snoc_front}
 

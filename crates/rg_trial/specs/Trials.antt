@@ -6,7 +6,7 @@ use Rattle.rg_config.specs.Plans.{Planned, Says}
 use Rattle.rg_config.specs.declared.fault.ConfigFault.{ConfigFault}
 use Rattle.rg_course.specs.Accepted.{events_after}
 use Rattle.rg_course.specs.Output.{text_of_run}
-use Rattle.rg_turn.specs.Turning.{terms_of}
+use Rattle.rg_task.specs.Terms.{terms_of}
 use Rattle.rg_run.specs.declared.fault.RunFault.{RunFault}
 use Rattle.rg_run.specs.declared.fault.RunFault.TheVariants as run
 use Rattle.rg_scratch.specs.Lines.{made_line}

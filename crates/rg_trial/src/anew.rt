@@ -9,7 +9,8 @@ use rg_bytes::Memory;
 use rg_config::Plan;
 use rg_event::Steps;
 use rg_host::{Image, MemHost, MemSource};
-use rg_run::{RunFault, run};
+use rg_live::run;
+use rg_run::RunFault;
 use std::alloc::Global;
 use std::sync::ledger::{Blank, Ledger};
 

@@ -36,8 +36,9 @@ use Rattle.rg_course.proofs.Texts.{pieces_prefix}
 use Rattle.rg_course.proofs.Whole.{may_leave, accepted_again, left_below}
 use Rattle.rg_open.specs.Stores.{store_of, Has, IsOfPlan}
 use Rattle.rg_open.specs.Truth.{IsTrueOf, IsTruthfulImage}
-use Rattle.rg_turn.specs.Turning.{terms_of}
-use Rattle.rg_run.specs.Begun.{Begun, IsReadyRun, begun_by, course_for}
+use Rattle.rg_task.specs.Terms.{terms_of}
+use Rattle.rg_run.specs.Begun.{Begun, course_for}
+use Rattle.rg_live.specs.Ready.{IsReadyRun, begun_by}
 use Rattle.rg_run.specs.Reading.{IsLonger}
 use Rattle.rg_trial.proofs.NewStore.{bare, no_payload, bare_truthful, bare_has, new_host}
 use Rattle.rg_call.specs.Call.{command_of}

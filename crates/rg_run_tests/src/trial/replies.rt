@@ -8,7 +8,7 @@ use rg_event::{Event, Steps};
 use rg_host::{Image, MemHost, MemSource};
 use rg_reply::{Reply, write_reply};
 use rg_row::read_row;
-use rg_run::run;
+use rg_live::run;
 use rg_scratch::{answer_from_scratch, make_line};
 use std::alloc::Global;
 use std::marker::Brand;

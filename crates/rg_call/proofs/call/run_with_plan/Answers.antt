@@ -4,7 +4,7 @@ use Rattle.rg_host.proofs.Runs.{leaves_files-none}
 use Rattle.rg_config.specs.Plans.{Planned, planned}
 use Rattle.rg_call.specs.Call.{ending_status, ending_line}
 use Rattle.rg_open.specs.Unfit.{IsUnfit}
-use Rattle.rg_run.proofs.TurnedAway.{none_alone, none_within}
+use Rattle.rg_live.proofs.TurnedAway.{none_alone, none_within}
 use Rattle.rg_call.specs.Stored.{begun_in}
 use Rattle.rg_call.specs.declared.command.Command.TheVariants.{Run}
 use Rattle.rg_report.specs.declared.status.Status.TheVariants.{Ok, Plan as BadPlan}

@@ -2,7 +2,6 @@ use Rattle.std.proofs.Common.{[], arith, ◌∙◌, ap, refl, Err}
 use Rattle.rg_host.proofs.Runs.{moments_then}
 use Rattle.rg_config.specs.Plans.{planned}
 use Rattle.rg_course.specs.Stores.{StaysOnCourse}
-use Rattle.rg_open.specs.Stores.{store_of}
 use Rattle.rg_run.specs.Begun.{course_for}
 use Rattle.rg_run.specs.declared.fault.RunFault.TheVariants as run
 use Rattle.rg_run.proofs.Causes.{err_is}
@@ -15,13 +14,12 @@ lines-init g c = record {
   counted = c.requires.counted;
   within = c.requires.within;
   going = c.requires.going;
-  reaches = c.requires.reaches;
   way = λ b w. w;
   node = λ n runs. runs;
   placed = λ placed. placed;
-  moments = λ b w. stays g.H.Host.now g.H.Host.may g.H.Host.clock g.H.Host.since g.H.Host.said (planned c.args.plan.now) b _ _ _ _ _ _ _ _ w g.met.H.Host.only_now g.met.H.Host.sinks;
+  moments = λ b w. stays g.K.Task.view g.met.K.Task.only_now g.met.K.Task.sinks (planned c.args.plan.now) b _ _ _ _ _ w;
   taken = λ start t. t;
-  log = (refl, refl);
+  goes = g.K.Task.view.goes_same c.args.task.now;
   later = omega arith;
   disk_faults = omega arith;
   out_faults = omega arith;
@@ -34,13 +32,12 @@ lines-preserved g c =
       counted = on.counted;
       within = on.within.1;
       going = on.going;
-      reaches = on.reaches;
       way = λ b w. (c.in-Ok-true.ensures.goes b (c.lines.invariant.way b w)).done.on_is c.in-Ok-true.field-0-test;
       node = λ n runs. on.node n (c.lines.invariant.node n runs);
       placed = λ placed. on.placed (c.lines.invariant.placed placed);
-      moments = λ b w. moments_then g.H.Host.clock g.H.Host.since c.args.host.now c.lines.host c.turn.new.host (StaysOnCourse (store_of (planned c.args.plan.now)) (course_for (planned c.args.plan.now) b) []) (StaysOnCourse (store_of (planned c.args.plan.now)) (course_for (planned c.args.plan.now) b) []) (StaysOnCourse (store_of (planned c.args.plan.now)) (course_for (planned c.args.plan.now) b) []) (c.lines.invariant.moments b w) (c.turn.ensures.goes b (c.lines.invariant.way b w)).moments (λ m h. h) (λ m h. h);
+      moments = λ b w. moments_then g.K.Task.view.clock g.K.Task.view.since c.args.task.now c.lines.task c.turn.new.task (StaysOnCourse (g.K.Task.view.store (planned c.args.plan.now)) (course_for (planned c.args.plan.now) b) []) (StaysOnCourse (g.K.Task.view.store (planned c.args.plan.now)) (course_for (planned c.args.plan.now) b) []) (StaysOnCourse (g.K.Task.view.store (planned c.args.plan.now)) (course_for (planned c.args.plan.now) b) []) (c.lines.invariant.moments b w) (c.turn.ensures.goes b (c.lines.invariant.way b w)).moments (λ m h. h) (λ m h. h);
       taken = λ start t. c.turn.ensures.takes.taken start (c.lines.invariant.taken start t);
-      log = (c.turn.ensures.takes.log.0 ∙ c.lines.invariant.log.0, c.turn.ensures.takes.log.1 ∙ c.lines.invariant.log.1);
+      goes = g.K.Task.view.goes_join c.args.task.now c.lines.task c.turn.new.task c.lines.invariant.goes c.turn.ensures.takes.counts.goes;
       later = omega (arith, c.lines.invariant.later, c.turn.ensures.takes.counts.later);
       disk_faults = omega (arith, c.lines.invariant.disk_faults, c.turn.ensures.takes.counts.disk_faults_grow);
       out_faults = omega (arith, c.lines.invariant.out_faults, c.turn.ensures.takes.counts.out_faults_grow);
@@ -53,13 +50,13 @@ lines-smaller g c =
 
 pub returns-in-Ok-false-clause-goes : goal.returns-in-Ok-false-clause-goes
 returns-in-Ok-false-clause-goes g c = λ b w.
-    true_at_ok g.H.Host.may g.H.Host.clock g.H.Host.since g.H.Host.said (planned c.args.plan.now) b _ c.args.host.now c.turn.new.host (moments_then g.H.Host.clock g.H.Host.since c.args.host.now c.lines.host c.turn.new.host (StaysOnCourse (store_of (planned c.args.plan.now)) (course_for (planned c.args.plan.now) b) []) (StaysOnCourse (store_of (planned c.args.plan.now)) (course_for (planned c.args.plan.now) b) []) (StaysOnCourse (store_of (planned c.args.plan.now)) (course_for (planned c.args.plan.now) b) []) (c.lines.invariant.moments b w) (c.turn.ensures.goes b (c.lines.invariant.way b w)).moments (λ m h. h) (λ m h. h)) _ ((c.in-Ok-false.ensures.goes b (c.lines.invariant.way b w)).done.over_is c.in-Ok-false.field-0-test)
+    true_at_ok g.K.Task.view (planned c.args.plan.now) b _ c.args.task.now c.turn.new.task (moments_then g.K.Task.view.clock g.K.Task.view.since c.args.task.now c.lines.task c.turn.new.task (StaysOnCourse (g.K.Task.view.store (planned c.args.plan.now)) (course_for (planned c.args.plan.now) b) []) (StaysOnCourse (g.K.Task.view.store (planned c.args.plan.now)) (course_for (planned c.args.plan.now) b) []) (StaysOnCourse (g.K.Task.view.store (planned c.args.plan.now)) (course_for (planned c.args.plan.now) b) []) (c.lines.invariant.moments b w) (c.turn.ensures.goes b (c.lines.invariant.way b w)).moments (λ m h. h) (λ m h. h)) _ ((c.in-Ok-false.ensures.goes b (c.lines.invariant.way b w)).done.over_is c.in-Ok-false.field-0-test)
 
 pub returns-in-Err-clause-goes : goal.returns-in-Err-clause-goes
 returns-in-Err-clause-goes g c = λ b w.
     let turned = c.in-Err.ensures.goes b (c.lines.invariant.way b w) in
     record {
-      moments = moments_then g.H.Host.clock g.H.Host.since c.args.host.now c.lines.host c.turn.new.host (StaysOnCourse (store_of (planned c.args.plan.now)) (course_for (planned c.args.plan.now) b) []) (StaysOnCourse (store_of (planned c.args.plan.now)) (course_for (planned c.args.plan.now) b) []) (StaysOnCourse (store_of (planned c.args.plan.now)) (course_for (planned c.args.plan.now) b) []) (c.lines.invariant.moments b w) (c.turn.ensures.goes b (c.lines.invariant.way b w)).moments (λ m h. h) (λ m h. h);
+      moments = moments_then g.K.Task.view.clock g.K.Task.view.since c.args.task.now c.lines.task c.turn.new.task (StaysOnCourse (g.K.Task.view.store (planned c.args.plan.now)) (course_for (planned c.args.plan.now) b) []) (StaysOnCourse (g.K.Task.view.store (planned c.args.plan.now)) (course_for (planned c.args.plan.now) b) []) (StaysOnCourse (g.K.Task.view.store (planned c.args.plan.now)) (course_for (planned c.args.plan.now) b) []) (c.lines.invariant.moments b w) (c.turn.ensures.goes b (c.lines.invariant.way b w)).moments (λ m h. h) (λ m h. h);
       done = tt;
       stopped = turned.stopped;
       answered = turned.answered;
@@ -71,8 +68,8 @@ pub returns-in-Ok-false-clause-takes : goal.returns-in-Ok-false-clause-takes
 returns-in-Ok-false-clause-takes g c = record {
   done = c.in-Ok-false.ensures.takes.done.over_is c.in-Ok-false.field-0-test;
   taken = λ start t. c.turn.ensures.takes.taken start (c.lines.invariant.taken start t);
-  log = (c.turn.ensures.takes.log.0 ∙ c.lines.invariant.log.0, c.turn.ensures.takes.log.1 ∙ c.lines.invariant.log.1);
   counts = record {
+    goes = g.K.Task.view.goes_join c.args.task.now c.lines.task c.turn.new.task c.lines.invariant.goes c.turn.ensures.takes.counts.goes;
     later = omega (arith, c.lines.invariant.later, c.turn.ensures.takes.counts.later);
     disk_faults_grow = omega (arith, c.lines.invariant.disk_faults, c.turn.ensures.takes.counts.disk_faults_grow);
     out_faults_grow = omega (arith, c.lines.invariant.out_faults, c.turn.ensures.takes.counts.out_faults_grow);
@@ -83,8 +80,8 @@ pub returns-in-Err-clause-takes : goal.returns-in-Err-clause-takes
 returns-in-Err-clause-takes g c = record {
   done = tt;
   taken = λ start t. c.turn.ensures.takes.taken start (c.lines.invariant.taken start t);
-  log = (c.turn.ensures.takes.log.0 ∙ c.lines.invariant.log.0, c.turn.ensures.takes.log.1 ∙ c.lines.invariant.log.1);
   counts = record {
+    goes = g.K.Task.view.goes_join c.args.task.now c.lines.task c.turn.new.task c.lines.invariant.goes c.turn.ensures.takes.counts.goes;
     later = omega (arith, c.lines.invariant.later, c.turn.ensures.takes.counts.later);
     disk_faults_grow = omega (arith, c.lines.invariant.disk_faults, c.turn.ensures.takes.counts.disk_faults_grow);
     out_faults_grow = omega (arith, c.lines.invariant.out_faults, c.turn.ensures.takes.counts.out_faults_grow);
@@ -92,7 +89,7 @@ returns-in-Err-clause-takes g c = record {
 }
 
 pub returns-in-Ok-false-clause-cause : goal.returns-in-Ok-false-clause-cause
-returns-in-Ok-false-clause-cause g c = why_none g.H.Host.now g.H.Host.may g.H.Host.disk_faults g.H.Host.out_faults g.I.Source.faults (planned c.args.plan.now) _ _ c.args.turning.now.session _ _ _ _ _ _ _
+returns-in-Ok-false-clause-cause g c = why_none g.K.Task.view g.K.Task.disk_faults g.K.Task.out_faults g.I.Source.faults (planned c.args.plan.now) _ _ _ _ _ _
 
 pub returns-in-Err-clause-cause : goal.returns-in-Err-clause-cause
 returns-in-Err-clause-cause g c =

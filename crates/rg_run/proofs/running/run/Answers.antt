@@ -1,106 +1,97 @@
-use Rattle.std.proofs.Common.{inr, refl, ◌≡◌, ⊎_elim}
+use Rattle.std.proofs.Common.{Err, ℕ, List, ◌≤◌, ◌^◌, refl, sym, ◌∙◌, ap, subst, arith}
 use Rattle.rg_config.specs.Plans.{planned}
-use Rattle.rg_run.specs.Begun.{begun_by}
-use Rattle.rg_run.specs.declared.fault.RunFault.{RunFault}
-use Rattle.rg_run.specs.declared.fault.RunFault.TheVariants as run
-use Rattle.rg_run.proofs.Runs.{none_moments, none_unopened}
-use Rattle.rg_run.proofs.TurnedAway.{none_alone, none_within}
+use Rattle.rg_task.specs.State.{State}
+use Rattle.rg_run.specs.UnderWay.{IsUnderWay}
+use Rattle.rg_run.proofs.Answered.{true_at_gap, true_unput, gap_explained, unput_explained, true_from, read_all_by}
+use Rattle.rg_run.proofs.Beginning.{quiet, part_moments, first_way}
+use Rattle.rg_run.proofs.Causes.{on_ok}
+use Rattle.rg_run.proofs.Taking.{taken_none, longer}
 use Rattle.rg_run.proofs.running.run.Goals as goal
 
-pub returns-in-Err-clause-ran : goal.returns-in-Err-clause-ran
-returns-in-Err-clause-ran g c = λ ready all left. (
-  0,
-  record {
-    is_from = inr refl;
-    moments = none_moments g.H.Host.now g.H.Host.may g.H.Host.clock g.H.Host.since g.H.Host.said (planned c.args.plan.now) g.met.H.Host.only_now g.met.H.Host.sinks c.args.host.now ready 0 c.args.first all;
-    finished = tt;
-    stopped = inr (inr (none_unopened g.H.Host.now g.H.Host.may g.H.Host.clock g.H.Host.since g.H.Host.said (planned c.args.plan.now) (begun_by ready 0 c.args.first all) c.args.host.now));
-    answered = λ which. ⊎_elim (λ is. absurd (let e : ◌≡◌ {A = RunFault} run.Memory run.Read = is in cc)) (λ is. absurd (let e : ◌≡◌ {A = RunFault} run.Memory run.Limit = is in cc)) which;
-  },
-)
+pub returns-then-first-next-clause-begun : goal.returns-then-first-next-clause-begun
+returns-then-first-next-clause-begun g c = λ b start.
+    true_at_gap g.K.Task.view (planned c.args.plan.now) b _ c.args.task.now c.args.task.now (quiet g.K.Task.view g.met.K.Task.only_now g.met.K.Task.sinks (planned c.args.plan.now) b _ _ _ _ _ c.args.task.now start refl refl) c.next-next.result refl
 
-pub returns-in-Err-clause-behind : goal.returns-in-Err-clause-behind
-returns-in-Err-clause-behind g c = λ ready keep behind.
-    (refl, none_within g.H.Host.may g.H.Host.clock g.H.Host.since g.H.Host.said g.met.H.Host.only_now g.met.H.Host.sinks (planned c.args.plan.now) keep ready.openable.image c.args.host.now, tt)
+pub returns-then-first-next-clause-cause : goal.returns-then-first-next-clause-cause
+returns-then-first-next-clause-cause g c =
+    gap_explained g.K.Task.view g.K.Task.disk_faults g.K.Task.out_faults g.I.Source.left g.I.Source.faults (planned c.args.plan.now) c.args.first c.args.input.now c.args.task.now c.next-next.result c.next-next.ensures c.if-first-next.true
 
-pub returns-in-Err-clause-unfit : goal.returns-in-Err-clause-unfit
-returns-in-Err-clause-unfit g c = λ v told unfit.
-    (refl, none_alone g.H.Host.now g.H.Host.may g.H.Host.clock g.H.Host.since g.H.Host.said g.met.H.Host.now_may g.met.H.Host.only_now g.met.H.Host.sinks v c.args.host.now told, tt)
+pub returns-then-first-next-clause-goes : goal.returns-then-first-next-clause-goes
+returns-then-first-next-clause-goes g c = g.K.Task.view.goes_same c.args.task.now
 
-pub run_lines-ran-requires-clause-fresh : goal.run_lines-ran-requires-clause-fresh
-run_lines-ran-requires-clause-fresh g c = record { pending = c.in-Ok.ensures.pending; taken = c.in-Ok.ensures.taken; spent = c.in-Ok.ensures.spent; still_open = c.in-Ok.ensures.ended }
+pub returns-then-first-next-clause-counts : goal.returns-then-first-next-clause-counts
+returns-then-first-next-clause-counts g c = record { goes = g.K.Task.view.goes_same c.args.task.now; later = omega arith; disk_faults_grow = omega arith; out_faults_grow = omega arith }
 
-pub returns-clause-ran : goal.returns-clause-ran
-returns-clause-ran g c = c.run_lines-ran.ensures.ready.ran
+pub returns-in-Err-clause-begun : goal.returns-in-Err-clause-begun
+returns-in-Err-clause-begun g c = λ b start.
+    let part = c.put_mark.ensures.part in
+    true_unput g.K.Task.view (planned c.args.plan.now) b _ c.args.task.now c.put_mark.new.task (part_moments g.K.Task.view (planned c.args.plan.now) b _ _ _ _ _ c.args.task.now start c.next-next.ensures c.count.ensures c.put_mark.new.task c.put_mark.ensures.leaves c.put_mark.ensures.keeps part.0 part.1 part.2) c.in-Err.fault c.in-Err.ensures.faults c.in-Err.ensures.none
 
-pub returns-clause-behind : goal.returns-clause-behind
-returns-clause-behind g c = c.run_lines-ran.ensures.ready.behind
+pub returns-in-Err-clause-cause : goal.returns-in-Err-clause-cause
+returns-in-Err-clause-cause g c =
+    let ahead : c.args.first ≤ (g.K.Task.view.at c.args.task.now).next = omega (arith, c.if-first-next.false, c.next-next.ensures) in
+    unput_explained g.K.Task.view g.K.Task.disk_faults g.K.Task.out_faults g.I.Source.left g.I.Source.faults (planned c.args.plan.now) c.args.first c.args.input.now c.args.task.now c.in-Err.fault c.put_mark.new.task ahead c.in-Err.ensures.faults (λ is. c.in-Err.ensures.write (ap (λ f. Err f) is))
 
-pub returns-clause-never_bad : goal.returns-clause-never_bad
-returns-clause-never_bad g c = c.run_lines-ran.ensures.ready.never_bad
+pub returns-in-Err-clause-goes : goal.returns-in-Err-clause-goes
+returns-in-Err-clause-goes g c = c.put_mark.ensures.keeps.goes
 
-pub returns-clause-never_damaged : goal.returns-clause-never_damaged
-returns-clause-never_damaged g c = c.run_lines-ran.ensures.ready.never_damaged
+pub returns-in-Err-clause-counts : goal.returns-in-Err-clause-counts
+returns-in-Err-clause-counts g c = record { goes = c.put_mark.ensures.keeps.goes; later = omega arith; disk_faults_grow = omega (arith, c.put_mark.ensures.disk_faults); out_faults_grow = c.put_mark.ensures.out_faults }
 
-pub returns-clause-never_differs : goal.returns-clause-never_differs
-returns-clause-never_differs g c = c.run_lines-ran.ensures.ready.never_differs
+pub answer_lines-ran-requires-clause-going : goal.answer_lines-ran-requires-clause-going
+answer_lines-ran-requires-clause-going g c = ap (λ (x : State). x.ended) c.put_mark.ensures.keeps.at_stays ∙ c.requires.going
 
-pub returns-clause-unfit : goal.returns-clause-unfit
-returns-clause-unfit g c = c.run_lines-ran.ensures.unfit.unfit
+pub answer_lines-ran-requires-clause-counted : goal.answer_lines-ran-requires-clause-counted
+answer_lines-ran-requires-clause-counted g c = omega (arith, c.new-turning.ensures.offset, c.requires.first)
 
-pub returns-clause-exact : goal.returns-clause-exact
-returns-clause-exact g c = c.run_lines-ran.ensures.unfit.exact
+pub answer_lines-ran-requires-clause-within : goal.answer_lines-ran-requires-clause-within
+answer_lines-ran-requires-clause-within g c = omega (arith, c.requires.fresh.spent)
 
-pub returns-clause-gap : goal.returns-clause-gap
-returns-clause-gap g c = c.run_lines-ran.ensures.cause.gap
+pub returns-clause-begun : goal.returns-clause-begun
+returns-clause-begun g c = λ b start.
+    let plan = planned c.args.plan.now in
+    let left = g.I.Source.left c.args.input.now in
+    let mid = c.put_mark.new.task in
+    let part = c.put_mark.ensures.part in
+    let way = first_way g.K.Task.view plan b left _ _ _ _ c.args.task.now start c.next-next.ensures c.count.ensures mid c.put_mark.ensures.leaves c.put_mark.ensures.keeps c.in-Ok.ensures.all c.args.lines.now c.requires.fresh in
+    let at = subst (λ (l : List ℕ). IsUnderWay g.K.Task.view plan b left c.args.lines.now c.args.first mid l) (sym c.new-turning.ensures.gathered) way in
+    let from = subst (λ (n : ℕ). IsUnderWay g.K.Task.view plan b left c.args.lines.now n mid c.new-turning.result.gathered.items) (sym c.new-turning.ensures.offset) at in
+    true_from g.K.Task.view plan b _ c.args.task.now mid c.answer_lines-ran.new.task c.answer_lines-ran.result (part_moments g.K.Task.view plan b left _ _ _ _ c.args.task.now start c.next-next.ensures c.count.ensures mid c.put_mark.ensures.leaves c.put_mark.ensures.keeps part.0 part.1 part.2) (c.answer_lines-ran.ensures.goes b from)
 
-pub returns-clause-gap_next : goal.returns-clause-gap_next
-returns-clause-gap_next g c = c.run_lines-ran.ensures.cause.gap_next
+pub returns-clause-cause : goal.returns-clause-cause
+returns-clause-cause g c =
+    let plan = planned c.args.plan.now in
+    let start = g.I.Source.left c.args.input.now in
+    let takes = c.answer_lines-ran.ensures.takes in
+    let why = c.answer_lines-ran.ensures.cause in
+    let ahead : c.args.first ≤ (g.K.Task.view.at c.args.task.now).next = omega (arith, c.if-first-next.false, c.next-next.ensures) in
+    let taken = takes.taken start (taken_none start c.args.lines.now c.requires.fresh.taken c.requires.fresh.still_open) in
+    let all = read_all_by c.answer_lines-ran.result start (g.I.Source.left c.answer_lines-ran.new.input) c.answer_lines-ran.new.lines taken takes.done in
+    record {
+      behind = λ h. absurd (omega (arith, h, ahead));
+      gap = λ n is. absurd (why.gap n is);
+      no_gap = on_ok c.answer_lines-ran.result (c.args.first ≤ (g.K.Task.view.at c.args.task.now).next) ahead;
+      differs = λ is. why.differs is;
+      bad = λ n runs is. why.bad n (c.put_mark.ensures.keeps.node plan n runs) is;
+      undamaged = λ p placed is. why.undamaged p (c.put_mark.ensures.keeps.placed plan placed) is;
+      damaged = why.damaged;
+      at_end = all.0;
+      within = all.1;
+      read = why.read;
+      limit = λ is. longer start (g.I.Source.left c.answer_lines-ran.new.input) c.answer_lines-ran.new.lines (2 ^ 50) taken (why.limit is);
+      write = λ is. let rose = why.write is in omega (arith, rose, c.put_mark.ensures.out_faults);
+      disk = λ is. let rose = why.disk is in omega (arith, rose, c.put_mark.ensures.disk_faults);
+    }
 
-pub returns-clause-no_gap : goal.returns-clause-no_gap
-returns-clause-no_gap g c = c.run_lines-ran.ensures.cause.no_gap
+pub returns-clause-goes : goal.returns-clause-goes
+returns-clause-goes g c = g.K.Task.view.goes_join c.args.task.now c.put_mark.new.task c.answer_lines-ran.new.task c.put_mark.ensures.keeps.goes c.answer_lines-ran.ensures.takes.counts.goes
 
-pub returns-clause-differs : goal.returns-clause-differs
-returns-clause-differs g c = c.run_lines-ran.ensures.cause.differs
-
-pub returns-clause-damaged : goal.returns-clause-damaged
-returns-clause-damaged g c = c.run_lines-ran.ensures.cause.damaged
-
-pub returns-clause-bad : goal.returns-clause-bad
-returns-clause-bad g c = c.run_lines-ran.ensures.cause.bad
-
-pub returns-clause-undamaged : goal.returns-clause-undamaged
-returns-clause-undamaged g c = c.run_lines-ran.ensures.cause.undamaged
-
-pub returns-clause-at_end : goal.returns-clause-at_end
-returns-clause-at_end g c = c.run_lines-ran.ensures.cause.at_end
-
-pub returns-clause-within : goal.returns-clause-within
-returns-clause-within g c = c.run_lines-ran.ensures.cause.within
-
-pub returns-clause-read : goal.returns-clause-read
-returns-clause-read g c = c.run_lines-ran.ensures.cause.read
-
-pub returns-clause-limit : goal.returns-clause-limit
-returns-clause-limit g c = c.run_lines-ran.ensures.cause.limit
-
-pub returns-clause-write : goal.returns-clause-write
-returns-clause-write g c = c.run_lines-ran.ensures.cause.write
-
-pub returns-clause-disk : goal.returns-clause-disk
-returns-clause-disk g c = c.run_lines-ran.ensures.cause.disk
-
-pub returns-clause-store_first : goal.returns-clause-store_first
-returns-clause-store_first g c = c.run_lines-ran.ensures.cause.store_first
-
-pub returns-clause-gap_first : goal.returns-clause-gap_first
-returns-clause-gap_first g c = c.run_lines-ran.ensures.cause.gap_first
-
-pub returns-clause-later : goal.returns-clause-later
-returns-clause-later g c = c.run_lines-ran.ensures.counts.later
-
-pub returns-clause-disk_faults : goal.returns-clause-disk_faults
-returns-clause-disk_faults g c = c.run_lines-ran.ensures.counts.disk_faults_grow
-
-pub returns-clause-out_faults : goal.returns-clause-out_faults
-returns-clause-out_faults g c = c.run_lines-ran.ensures.counts.out_faults_grow
+pub returns-clause-counts : goal.returns-clause-counts
+returns-clause-counts g c =
+    let counts = c.answer_lines-ran.ensures.takes.counts in
+    record {
+      goes = g.K.Task.view.goes_join c.args.task.now c.put_mark.new.task c.answer_lines-ran.new.task c.put_mark.ensures.keeps.goes counts.goes;
+      later = counts.later;
+      disk_faults_grow = omega (arith, c.put_mark.ensures.disk_faults, counts.disk_faults_grow);
+      out_faults_grow = omega (arith, c.put_mark.ensures.out_faults, counts.out_faults_grow);
+    }

@@ -2,7 +2,8 @@ use Rattle.std.proofs.Common.{Some, ◌∷◌, ◌==◌, sym, ◌∙◌, ap}
 use Rattle.std.specs.List.{list_any}
 use Rattle.std.proofs.lemmas.Result.{on_ok_weaker}
 use Rattle.rg_config.specs.Plans.{planned}
-use Rattle.rg_turn.specs.Turning.{terms_of}
+use Rattle.rg_task.specs.State.{State}
+use Rattle.rg_task.specs.Terms.{terms_of}
 use Rattle.rg_run.proofs.Causes.{never_by, bad_by, undamaged_by, damaged_by}
 use Rattle.rg_run.proofs.Texts.{no_lf_cleaned, as_header, as_row, as_control}
 use Rattle.rg_run.proofs.turn.answer_text.Goals as goal
@@ -52,13 +53,19 @@ returns-in-None-clause-answers g c =
     }
 
 pub returns-then-is_header-clause-node : goal.returns-then-is_header-clause-node
-returns-then-is_header-clause-node g c = λ n runs. on_ok_weaker c.refuse.result (λ _. c.refuse.ensures.node (planned c.args.plan.now) n runs) c.refuse.ensures.offset
+returns-then-is_header-clause-node g c = λ n runs. on_ok_weaker c.refuse.result (λ _. c.refuse.ensures.keeps.node (planned c.args.plan.now) n runs) c.refuse.ensures.offset
 
 pub returns-then-is_header-clause-placed : goal.returns-then-is_header-clause-placed
-returns-then-is_header-clause-placed g c = λ placed. on_ok_weaker c.refuse.result (λ _. c.refuse.ensures.placed (planned c.args.plan.now) placed) c.refuse.ensures.offset
+returns-then-is_header-clause-placed g c = λ placed. on_ok_weaker c.refuse.result (λ _. c.refuse.ensures.keeps.placed (planned c.args.plan.now) placed) c.refuse.ensures.offset
 
 pub answer-requires-clause-one_line : goal.answer-requires-clause-one_line
 answer-requires-clause-one_line g c = ap (λ l. list_any (λ byte. byte == 10) l) c.clean-line.ensures ∙ no_lf_cleaned c.args.turning.now.offset c.args.text.now c.requires.one_line
 
 pub returns-in-Some-clause-undamaged : goal.returns-in-Some-clause-undamaged
 returns-in-Some-clause-undamaged g c = λ p placed is. c.obey.ensures.undamaged (planned c.args.plan.now) p placed is
+
+pub returns-then-is_header-clause-going : goal.returns-then-is_header-clause-going
+returns-then-is_header-clause-going g c = on_ok_weaker c.refuse.result (λ _. ap (λ (x : State). x.ended) c.refuse.ensures.keeps.at_stays ∙ c.requires.going) c.refuse.ensures.offset
+
+pub returns-then-is_header-clause-log : goal.returns-then-is_header-clause-log
+returns-then-is_header-clause-log g c = c.refuse.ensures.keeps.goes

@@ -1,0 +1,12 @@
+pub mod Still
+pub mod Nodes
+pub mod Reaching
+pub mod Causes
+pub mod Saved
+pub mod Openings
+pub mod TurnedAway
+pub mod Runs
+pub mod Beginning
+pub mod Opened
+pub mod Bridging
+pub mod Exits

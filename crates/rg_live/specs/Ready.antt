@@ -1,0 +1,21 @@
+-- A store that is ready for a run.
+use Rattle.std.specs.Prelude.{◌≡◌, ℕ, List, Option, Some}
+use Rattle.rg_host.specs.Image.{Image}
+use Rattle.rg_event.specs.declared.event.Event.{Event}
+use Rattle.rg_config.specs.Plans.{Planned}
+use Rattle.rg_open.specs.Stores.{Has}
+use Rattle.rg_open.specs.Opening.{IsOpenable}
+use Rattle.rg_run.specs.Begun.{Begun}
+
+-- Before a run: the host tells its image and what had been put; each image that might be left is truthful, and its log is of the
+-- plan's schema or has no frame; and these are the events of the image's log.
+pub record IsReadyRun (plan : Planned) (now : Option Image) (may : Image → Type 0) (said : Option (List ℕ)) : Type 0 where
+  pub openable : IsOpenable plan now may
+  pub put : List ℕ
+  pub told : said ≡ Some put
+  pub held : List Event
+  pub has : Has plan held openable.image
+
+-- of a run over a store that is ready
+abbrev pub begun_by : {plan : Planned} → {now : Option Image} → {may : Image → Type 0} → {said : Option (List ℕ)} → IsReadyRun plan now may said → ℕ → ℕ → List ℕ → Begun
+begun_by ready from first input = record { said = ready.put; held = ready.held; from = from; first = first; input = input }

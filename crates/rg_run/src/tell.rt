@@ -1,0 +1,66 @@
+ghost use Rattle.std.specs.Prelude.{◌≡◌, ◌⊎◌, ◌≤◌, ◌++◌, ◌∷◌, ℕ, List, IfErr, OnOk, OnErr, IsErrOf, length};
+ghost use Rattle.rg_bytes.specs.Counts.{Rose};
+ghost use Rattle.rg_host.specs.Lines.{ended};
+ghost use Rattle.rg_host.specs.Moments.{LeavesFiles};
+ghost use Rattle.rg_host.specs.Puts.{IsPrefix, Puts};
+ghost use Rattle.rg_reply.specs.Texts.{reply_line};
+ghost use Rattle.rg_task.specs.View.{Keeps};
+ghost use Rattle.rg_run.specs.Due.{marks_for, last_lines};
+
+use crate::due::Due;
+use crate::fault::TurnFault;
+use crate::text::{write_end, write_turn};
+use rg_task::{Task, TaskFault};
+use rg_reply::Reply;
+
+/// Gathers the lines of a turn, which are written into `text`. Want of memory gathers nothing.
+pub(crate) fn tell<K: Task>(
+    task: &K,
+    text: &mut Vec<u8>,
+    gathered: &mut Vec<u8>,
+    offset: u64,
+    reply: &Reply,
+    due: Due,
+) -> Result<(), TurnFault>
+    ensures all { OnOk result (gathered.new.items ≡ gathered.old.items ++ ended (reply_line offset reply.now ∷ marks_for due (K.view.at task.now).next (length (K.view.at task.now).events))) }
+    ensures none { OnErr result (gathered.new.items ≡ gathered.old.items) }
+    ensures faults { IfErr result (λ fault. fault ≡ TurnFault.Task TaskFault.Memory) }
+{
+    match write_turn(text, offset, reply, due, task.next(), task.count()) {
+        Ok(()) => {}
+        Err(_) => return Err(TurnFault::Task(TaskFault::Memory)),
+    }
+    match gathered.extend_from_slice(text) {
+        Ok(()) => Ok(()),
+        Err(_) => Err(TurnFault::Task(TaskFault::Memory)),
+    }
+}
+
+/// Puts the lines of the end of the input, which are written into `text`. Want of memory puts nothing;
+/// after `Write` a prefix of them was put.
+pub(crate) fn tell_end<K: Task>(
+    task: &mut K,
+    text: &mut Vec<u8>,
+    offset: u64,
+    next: u64,
+    count: u64,
+) -> Result<(), TurnFault>
+    ensures all { OnOk result (Puts K.view.said K.view.clock K.view.since task.old task.new (ended (last_lines offset next count))) }
+    ensures part { (part : List ℕ) × IsPrefix part (ended (last_lines offset next count)) × Puts K.view.said K.view.clock K.view.since task.old task.new part }
+    ensures none { IfErr result (λ fault. (fault ≡ TurnFault.Write) ⊎ (task.new ≡ task.old)) }
+    ensures keeps { Keeps K.view task.old task.new }
+    ensures leaves { LeavesFiles K.view.now K.view.may K.view.clock K.view.since task.old task.new }
+    ensures write { IsErrOf result TurnFault.Write → Rose (K.out_faults task.old) (K.out_faults task.new) }
+    ensures faults { IfErr result (λ fault. (fault ≡ TurnFault.Write) ⊎ (fault ≡ TurnFault.Task TaskFault.Memory)) }
+    ensures disk_faults { K.disk_faults task.new ≡ K.disk_faults task.old }
+    ensures out_faults { K.out_faults task.old ≤ K.out_faults task.new }
+{
+    match write_end(text, offset, next, count) {
+        Ok(()) => {}
+        Err(_) => return Err(TurnFault::Task(TaskFault::Memory)),
+    }
+    match task.put(text) {
+        Ok(()) => Ok(()),
+        Err(_) => Err(TurnFault::Write),
+    }
+}

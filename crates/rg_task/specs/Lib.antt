@@ -1,0 +1,4 @@
+pub mod Terms
+pub mod State
+pub mod Stepping
+pub mod View

@@ -20,7 +20,7 @@ use Rattle.rg_listing.proofs.Stopped.{nothing_stops}
 use Rattle.rg_reservoir.specs.Attached.{IsOther, IsBadFrame}
 use Rattle.rg_reservoir.specs.Chain.{IsIllegal}
 use Rattle.rg_open.specs.Unfit.{IsUnfit}
-use Rattle.rg_turn.specs.Turning.{terms_of}
+use Rattle.rg_task.specs.Terms.{terms_of}
 use Rattle.rg_run.specs.Begun.{Begun, course_for, lines_in}
 use Rattle.rg_run.specs.Reading.{IsLonger}
 use Rattle.rg_replay.specs.Replay.{replay_text}

@@ -55,25 +55,25 @@ impl<'a, H: Host, T: Table, L: Ledger> Task for Live<'a, H, T, L> {
     ghost use Rattle.rg_live.specs.LivingLaws.{running_next, running_few, running_placed, log-then};
 
     ghost view = { record {
-        store = store_of;
-        now = λ p. H.now p.host.now;
-        may = λ p. H.may p.host.now;
-        clock = λ p. H.clock p.host.now;
-        since = λ p. H.since p.host.now;
-        said = λ p. H.said p.host.now;
-        at = λ p. state_of (H.now p.host.now) p.session.now;
-        roomy = λ p. length (opened p.session.now.reservoir) < room_of p.session.now.reservoir;
-        runs = λ plan p. IsRunning plan (H.now p.host.now) (H.may p.host.now) (T.tells p.session.now.engine.table) (T.cell p.session.now.engine.table) p.session.now;
-        node = λ plan n p. NodeRuns plan n (H.now p.host.now) (H.may p.host.now) (T.tells p.session.now.engine.table) (T.cell p.session.now.engine.table) p.session.now.reservoir p.session.now.engine;
-        placed = λ plan p. IsPlaced plan (H.now p.host.now) (H.may p.host.now) p.session.now.reservoir p.session.now.engine;
-        illegal = λ place p. IsIllegalIn (H.now p.host.now) p.session.now place;
-        goes = λ p q. ((q.session.ghost_name ≡ p.session.ghost_name) × (q.host.ghost_name ≡ p.host.ghost_name) × (q.steps.ghost_name ≡ p.steps.ghost_name)) × SameLog p.session.now q.session.now;
-        whole = λ p. refl;
-        next_is = λ plan p runs. running_next plan (H.now p.host.now) (H.may p.host.now) (T.tells p.session.now.engine.table) (T.cell p.session.now.engine.table) p.session.now runs;
-        few = λ plan p runs. running_few plan (H.now p.host.now) (H.may p.host.now) (T.tells p.session.now.engine.table) (T.cell p.session.now.engine.table) p.session.now runs;
-        run_placed = λ plan p runs. running_placed plan (H.now p.host.now) (H.may p.host.now) (T.tells p.session.now.engine.table) (T.cell p.session.now.engine.table) p.session.now runs;
-        goes_same = λ p. ((refl, refl, refl), (refl, refl));
-        goes_join = λ p q r first second. ((second.0.0 ∙ first.0.0, second.0.1 ∙ first.0.1, second.0.2 ∙ first.0.2), log-then p.session.now q.session.now r.session.now first.1 second.1);
+      store = store_of;
+      now = λ p. H.now p.host.now;
+      may = λ p. H.may p.host.now;
+      clock = λ p. H.clock p.host.now;
+      since = λ p. H.since p.host.now;
+      said = λ p. H.said p.host.now;
+      at = λ p. state_of (H.now p.host.now) p.session.now;
+      roomy = λ p. length (opened p.session.now.reservoir) < room_of p.session.now.reservoir;
+      runs = λ plan p. IsRunning plan (H.now p.host.now) (H.may p.host.now) (T.tells p.session.now.engine.table) (T.cell p.session.now.engine.table) p.session.now;
+      node = λ plan n p. NodeRuns plan n (H.now p.host.now) (H.may p.host.now) (T.tells p.session.now.engine.table) (T.cell p.session.now.engine.table) p.session.now.reservoir p.session.now.engine;
+      placed = λ plan p. IsPlaced plan (H.now p.host.now) (H.may p.host.now) p.session.now.reservoir p.session.now.engine;
+      illegal = λ place p. IsIllegalIn (H.now p.host.now) p.session.now place;
+      goes = λ p q. ((q.session.ghost_name ≡ p.session.ghost_name) × (q.host.ghost_name ≡ p.host.ghost_name) × (q.steps.ghost_name ≡ p.steps.ghost_name)) × SameLog p.session.now q.session.now;
+      whole = λ p. refl;
+      next_is = λ plan p runs. running_next plan (H.now p.host.now) (H.may p.host.now) (T.tells p.session.now.engine.table) (T.cell p.session.now.engine.table) p.session.now runs;
+      few = λ plan p runs. running_few plan (H.now p.host.now) (H.may p.host.now) (T.tells p.session.now.engine.table) (T.cell p.session.now.engine.table) p.session.now runs;
+      run_placed = λ plan p runs. running_placed plan (H.now p.host.now) (H.may p.host.now) (T.tells p.session.now.engine.table) (T.cell p.session.now.engine.table) p.session.now runs;
+      goes_same = λ p. ((refl, refl, refl), (refl, refl));
+      goes_join = λ p q r first second. ((second.0.0 ∙ first.0.0, second.0.1 ∙ first.0.1, second.0.2 ∙ first.0.2), log-then p.session.now q.session.now r.session.now first.1 second.1);
     } };
 
     ghost disk_faults = { λ p. H.disk_faults p.host.now + T.faults p.session.now.engine.table };

@@ -32,7 +32,7 @@ use Rattle.rg_run.proofs.Gathering.{between_at}
 use Rattle.rg_run.proofs.Saving.{rest_saved}
 use Rattle.rg_run.proofs.Stepping.{has_stopped}
 
-module _ {K : Type 0} (view : View K) (plan : Planned) (course : Course) (offset : ℕ) (old saved : K) 
+module _ {K : Type 0} (view : View K) (plan : Planned) (course : Course) (offset : ℕ) (old saved : K)
     (a : IsAwaiting view plan course offset [] old []) (within : IsWithinStep view.may view.clock view.since view.said (view.store plan) (view.at old).keep (view.at old).chunk old saved) where
   abbrev events : List Event
   events = (view.at old).events

@@ -76,7 +76,7 @@ module _ {K : Type 0} (view : View K) (plan : Planned) (b : Begun) (left : Optio
     never_damaged = λ p is. (read_others fault which).1 p (err_is fault (Damaged p) is);
   }
 
-module _ {K : Type 0} (view : View K) (plan : Planned) (b : Begun) (left : Option (List ℕ)) (old_r : Reading) (offset : ℕ) (gathered : List ℕ) (old : K) 
+module _ {K : Type 0} (view : View K) (plan : Planned) (b : Begun) (left : Option (List ℕ)) (old_r : Reading) (offset : ℕ) (gathered : List ℕ) (old : K)
     (way : IsUnderWay view plan b left old_r offset old gathered) where
   -- a line was handed out
   module _ (then_left : Option (List ℕ)) (new_r : Reading) (item : Item) (takes : TakesLine old_r new_r left then_left item) where

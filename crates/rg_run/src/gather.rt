@@ -36,10 +36,7 @@ pub(crate) fn put_gathered<K: Task>(task: &mut K, gathered: &mut Vec<u8>) -> Res
 
 /// Puts what is gathered where the session's next event has no room: what is not stored yet is then
 /// stored before that event is taken, and must not be ahead of what was put.
-pub(crate) fn make_way<K: Task>(
-    task: &mut K,
-    gathered: &mut Vec<u8>,
-) -> Result<(), TurnFault>
+pub(crate) fn make_way<K: Task>(task: &mut K, gathered: &mut Vec<u8>) -> Result<(), TurnFault>
     ensures moments { (plan : Planned) (course : Course) (offset : ℕ) (items : List (Option (List ℕ))) →
         IsAwaiting K.view plan course offset items task.old gathered.old.items →
         Moments K.view.clock K.view.since task.old task.new (StaysOnCourse (K.view.store plan) course []) }

@@ -18,8 +18,8 @@ use crate::settle::settle;
 use crate::tell::tell;
 use crate::turning::Turning;
 use rg_course::Control;
-use rg_task::{Task, TaskFault};
 use rg_reply::Reply;
+use rg_task::{Task, TaskFault};
 
 /// What is done on the disk for a line that asks for this.
 fn due_asked(control: Control) -> Due

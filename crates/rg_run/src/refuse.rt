@@ -12,8 +12,8 @@ use crate::due::Due;
 use crate::fault::TurnFault;
 use crate::gather::stop;
 use crate::tell::tell;
-use rg_task::{Task, TaskFault};
 use rg_reply::Reply;
+use rg_task::{Task, TaskFault};
 
 /// Gathers the reply to a line that is refused before a session sees it. Each refusal but `Write` leaves
 /// whole lines put, and nothing gathered.

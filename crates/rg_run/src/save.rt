@@ -13,10 +13,7 @@ use rg_task::{Task, TaskFault};
 
 /// Stores all events of a session within a turn, and saves a checkpoint of them, once all that is gathered
 /// is put.
-pub(crate) fn save_all<K: Task>(
-    task: &mut K,
-    gathered: &mut Vec<u8>,
-) -> Result<(), TurnFault>
+pub(crate) fn save_all<K: Task>(task: &mut K, gathered: &mut Vec<u8>) -> Result<(), TurnFault>
     ensures moments { (plan : Planned) (course : Course) (offset : ℕ) (item : Option (List ℕ)) (items : List (Option (List ℕ))) (start : K) →
         IsMidTurn K.view plan course offset item items start task.old gathered.old.items →
         Moments K.view.clock K.view.since task.old task.new (StaysOnCourse (K.view.store plan) course []) }

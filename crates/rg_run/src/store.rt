@@ -11,10 +11,7 @@ use crate::gather::put_gathered;
 use rg_task::{Task, TaskFault};
 
 /// Stores all events of a session within a turn, once all that is gathered is put.
-pub(crate) fn store<K: Task>(
-    task: &mut K,
-    gathered: &mut Vec<u8>,
-) -> Result<(), TurnFault>
+pub(crate) fn store<K: Task>(task: &mut K, gathered: &mut Vec<u8>) -> Result<(), TurnFault>
     ensures moments { (plan : Planned) (course : Course) (offset : ℕ) (item : Option (List ℕ)) (items : List (Option (List ℕ))) (start : K) →
         IsMidTurn K.view plan course offset item items start task.old gathered.old.items →
         Moments K.view.clock K.view.since task.old task.new (StaysOnCourse (K.view.store plan) course []) }

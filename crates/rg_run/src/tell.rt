@@ -10,8 +10,8 @@ ghost use Rattle.rg_run.specs.Due.{marks_for, last_lines};
 use crate::due::Due;
 use crate::fault::TurnFault;
 use crate::text::{write_end, write_turn};
-use rg_task::{Task, TaskFault};
 use rg_reply::Reply;
+use rg_task::{Task, TaskFault};
 
 /// Gathers the lines of a turn, which are written into `text`. Want of memory gathers nothing.
 pub(crate) fn tell<K: Task>(

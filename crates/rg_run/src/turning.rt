@@ -16,8 +16,8 @@ use crate::fault::TurnFault;
 use crate::gather::{make_way, put_gathered};
 use crate::refuse::refuse_line;
 use rg_config::Plan;
-use rg_task::{Task, TaskFault};
 use rg_reply::Reply;
+use rg_task::{Task, TaskFault};
 use std::alloc::Global;
 
 /// A durable run between two lines of its input.
@@ -193,13 +193,7 @@ impl Turning {
             self.offset += 1;
             return Ok(());
         }
-        match refuse_line(
-            task,
-            &mut self.text,
-            &mut self.gathered,
-            self.offset,
-            reply,
-        ) {
+        match refuse_line(task, &mut self.text, &mut self.gathered, self.offset, reply) {
             Ok(()) => {
                 self.offset += 1;
                 Ok(())

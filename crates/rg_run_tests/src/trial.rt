@@ -1,3 +1,4 @@
+mod replayed;
 mod replies;
 
 use rg_bytes::Memory;

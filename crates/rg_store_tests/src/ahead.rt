@@ -1,10 +1,10 @@
 ghost use Rattle.std.specs.Prelude.{◌≤◌};
 
 use crate::payments::{FILE, WRITTEN, host_with};
-use crate::reservoir::{payments, shows, spot, three};
-use rg_host::FuseHost;
+use crate::reservoir::{payments, shows, sound_bytes, spot, three};
+use rg_host::{FuseHost, MemHost};
 use rg_past::Spot;
-use rg_reservoir::ReservoirFault;
+use rg_reservoir::{Reservoir, ReservoirFault};
 use std::alloc::Global;
 use std::test::Fail;
 
@@ -55,19 +55,29 @@ fn a_load_ahead_goes_from_spot_to_spot(rt: HostRuntime) -> Result<(), Fail> {
     Ok(())
 }
 
-/// Whether looks at the events 0 and 1, and one more load ahead, read nothing once they were loaded ahead, and the log is
-/// as it was.
-fn reads_once(alloc: Global) -> Result<bool, Fail> {
-    let mut host = host_with(alloc, &[], &[])?;
-    let mut reservoir = three(alloc, &mut host, 2)?;
-    let log = host.file(2).to_vec(alloc)?;
+/// Whether looks at the events 0 and 1, and one more load ahead, read nothing once they were loaded ahead.
+fn looks_once(reservoir: &mut Reservoir, host: &mut MemHost) -> Result<bool, ReservoirFault> {
     let (first, second) = (spot(22, 0, 0), spot(88, 0, 1));
-    reservoir.ahead(&mut host, &[first])?;
+    reservoir.ahead(host, &[first])?;
     let reads = host.count_reads();
-    let is_first = shows(&mut reservoir, &mut host, &first, 0)?;
-    let is_second = shows(&mut reservoir, &mut host, &second, 1)?;
-    reservoir.ahead(&mut host, &[first])?;
-    Ok(is_first && is_second && host.count_reads() == reads && host.file(2) == log.as_slice())
+    let is_first = shows(reservoir, host, &first, 0)?;
+    let is_second = shows(reservoir, host, &second, 1)?;
+    reservoir.ahead(host, &[first])?;
+    Ok(is_first && is_second && host.count_reads() == reads)
+}
+
+/// Whether that is so of the log of three events, which is written first.
+fn reads_once_on(alloc: Global, host: &mut MemHost) -> Result<bool, ReservoirFault> {
+    let mut reservoir = three(alloc, host, 2)?;
+    looks_once(&mut reservoir, host)
+}
+
+/// Whether that is so, and the log is as it was.
+fn reads_once(alloc: Global) -> Result<bool, Fail> {
+    let log = sound_bytes(alloc)?;
+    let mut host = host_with(alloc, &[], &[])?;
+    let is_once = reads_once_on(alloc, &mut host)?;
+    Ok(is_once && host.file(2) == log.as_slice())
 }
 
 #[test]

@@ -30,20 +30,30 @@ fn loaded(alloc: Global, cap: u32) -> Result<ChunkCache<u64>, Memory>
 fn a_cache_of_one_holds_the_last_place(rt: HostRuntime) -> Result<(), Memory> {
     let mut cache = loaded(rt.alloc(), 1)?;
     let is_last = cache.cap() == 1 && cache.held() == 1 && cache.get(50) == Some(&500);
-    assert!(rt; is_last && !cache.holds(13));
+    let is_alone = is_last && !cache.holds(13);
     let is_touched = cache.touch(50) == Some(&500) && cache.touch(13).is_none();
-    assert!(rt; is_touched && !cache.promote(13) && cache.held() == 1);
+    let is_promoted = cache.promote(13);
+    let held = cache.held();
+    drop(cache);
+    assert!(rt; is_alone && is_touched && !is_promoted && held == 1);
     Ok(())
+}
+
+/// Whether a cache of the places 13 and 50 drops the one that was touched longest ago, twice.
+fn drops_the_oldest(cache: &mut ChunkCache<u64>) -> Result<bool, Memory> {
+    let is_touched = cache.touch(13) == Some(&130);
+    load(cache, 90, 900)?;
+    let is_dropped = !cache.holds(50) && cache.holds(90) && cache.promote(13);
+    load(cache, 50, 501)?;
+    let is_kept = cache.get(13) == Some(&130) && cache.get(50) == Some(&501);
+    Ok(is_touched && is_dropped && is_kept && !cache.holds(90) && cache.held() == 2)
 }
 
 #[test]
 fn a_cache_of_two_drops_the_place_touched_longest_ago(rt: HostRuntime) -> Result<(), Memory> {
     let mut cache = loaded(rt.alloc(), 2)?;
-    assert_eq!(rt; cache.touch(13), Some(&130));
-    load(&mut cache, 90, 900)?;
-    assert!(rt; !cache.holds(50) && cache.holds(90) && cache.promote(13));
-    load(&mut cache, 50, 501)?;
-    let is_kept = cache.get(13) == Some(&130) && cache.get(50) == Some(&501);
-    assert!(rt; is_kept && !cache.holds(90) && cache.held() == 2);
+    let is_so = drops_the_oldest(&mut cache)?;
+    drop(cache);
+    assert!(rt; is_so);
     Ok(())
 }

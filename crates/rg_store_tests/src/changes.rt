@@ -28,27 +28,32 @@ const KEY: usize = 52;
 /// The place where the rows begin.
 const ROW: usize = 41;
 
+/// Counts an event of the card of this key, or takes one away.
+fn count(alloc: Global, table: &mut MemTable, key: &[u8], change: Change) -> Result<(), Fail> {
+    let key = Key::from(key.to_vec(alloc)?);
+    Ok(table.change(0, &key, Func::Count, change, &Value::Flag(true))?)
+}
+
 /// The table of the count of two events of the card `c1`, marked, after these went and one of `c2` came.
 fn changed(alloc: Global) -> Result<MemTable, Fail> {
     let mut table = counted(alloc)?;
     table.mark();
-    let first = Key::from(b"\x03\x02c1".to_vec(alloc)?);
-    let second = Key::from(b"\x03\x02c2".to_vec(alloc)?);
-    for _ in 0..2u32 {
-        table.change(0, &first, Func::Count, Change::Remove, &Value::Flag(true))?;
-    }
-    table.change(0, &second, Func::Count, Change::Add, &Value::Flag(true))?;
+    count(alloc, &mut table, b"\x03\x02c1", Change::Remove)?;
+    count(alloc, &mut table, b"\x03\x02c1", Change::Remove)?;
+    count(alloc, &mut table, b"\x03\x02c2", Change::Add)?;
     Ok(table)
 }
 
 #[test]
 fn changes_are_written_as_the_format_says(rt: HostRuntime) -> Result<(), Fail> {
-    let alloc = rt.alloc();
-    let mut table = changed(alloc)?;
-    let mut out = b"x".to_vec(alloc)?;
+    let mut out = b"x".to_vec(rt.alloc())?;
+    let mut table = changed(rt.alloc())?;
     encode_changes(3, &[SPOT], &mut table, &mut out)?;
+    drop(table);
     let is_behind = out.get(..1) == Some(b"x".as_slice());
-    assert!(rt; is_behind && out.get(1..) == Some(CHANGES.as_slice()));
+    let is_written = out.get(1..) == Some(CHANGES.as_slice());
+    drop(out);
+    assert!(rt; is_behind && is_written);
     Ok(())
 }
 
@@ -62,13 +67,14 @@ fn has_the_other_row(checkpoint: Checkpoint) -> bool {
 
 #[test]
 fn changes_make_the_later_checkpoint(rt: HostRuntime) -> Result<(), Fail> {
-    let alloc = rt.alloc();
-    let mut checkpoint = decode_checkpoint(alloc, &PAYLOAD)?;
-    apply_changes(alloc, &CHANGES, &mut checkpoint)?;
-    let queries = texts(alloc, b"q")?;
+    let queries = texts(rt.alloc(), b"q")?;
+    let mut checkpoint = decode_checkpoint(rt.alloc(), &PAYLOAD)?;
+    apply_changes(rt.alloc(), &CHANGES, &mut checkpoint)?;
     let is_counted = checkpoint.count == 3 && checkpoint.spots.as_slice() == [SPOT].as_slice();
     let is_of_them = checkpoint.queries.as_slice() == queries.as_slice();
-    assert!(rt; is_counted && is_of_them && has_the_other_row(checkpoint));
+    let has_row = has_the_other_row(checkpoint);
+    drop(queries);
+    assert!(rt; is_counted && is_of_them && has_row);
     Ok(())
 }
 
@@ -88,51 +94,50 @@ fn answer(alloc: Global, payload: &[u8]) -> Result<Option<u64>, Fail> {
     }
 }
 
-#[test]
-fn what_is_no_change_payload_is_refused(rt: HostRuntime) -> Result<(), Fail> {
-    let alloc = rt.alloc();
+/// The answer to the first bytes of the change payload and one more.
+fn answer_up_to(alloc: Global, end: usize) -> Result<Option<u64>, Fail> {
     let mut longer = CHANGES.to_vec(alloc)?;
     longer.push(0)?;
-    for end in 0..=longer.len() {
-        let is_whole = end == CHANGES.len();
-        let answer = answer(alloc, longer.get(..end).unwrap_or(b""))?;
-        assert!(rt; answer.is_some() == is_whole, "at {end}");
+    answer(alloc, longer.get(..end).unwrap_or(b""))
+}
+
+#[test]
+fn what_is_no_change_payload_is_refused(rt: HostRuntime) -> Result<(), Fail> {
+    for end in 0..78 {
+        let answer = answer_up_to(rt.alloc(), end)?;
+        assert!(rt; answer.is_some() == (end == 76), "at {end}");
     }
-    assert_eq!(rt; answer(alloc, &PAYLOAD)?, None);
+    let answer = answer(rt.alloc(), &PAYLOAD)?;
+    assert!(rt; answer.is_none());
     Ok(())
 }
 
 /// The change payload with another byte at that place.
-fn with_byte(place: usize, byte: u8) -> [u8; 76]
-    requires { place < 76 }
-{
+fn with_byte(place: usize, byte: u8) -> [u8; 76] {
     let mut bytes = CHANGES;
-    bytes[place] = byte;
+    if let Some(old) = bytes.get_mut(place) {
+        *old = byte;
+    }
     bytes
-}
-
-/// The answers to the change payload with one byte and with another one at that place.
-fn answers(
-    alloc: Global,
-    place: usize,
-    first: u8,
-    second: u8,
-) -> Result<(Option<u64>, Option<u64>), Fail>
-    requires { place < 76 }
-{
-    let one = answer(alloc, &with_byte(place, first))?;
-    let two = answer(alloc, &with_byte(place, second))?;
-    Ok((one, two))
 }
 
 #[test]
 fn changes_that_do_not_fit_the_checkpoint_are_refused(rt: HostRuntime) -> Result<(), Fail> {
-    let of_one_and_two = answers(rt.alloc(), COUNT, 1, 2)?;
-    let one_row_and_three = answers(rt.alloc(), ROWS, 1, 3)?;
-    let never_there_and_falling = answers(rt.alloc(), KEY, b'0', b'3')?;
-    assert_eq!(rt; of_one_and_two, (None, Some(2)));
-    assert_eq!(rt; one_row_and_three, (None, None));
-    assert_eq!(rt; never_there_and_falling, (None, None));
+    let rows = [
+        // of one payment, and of two
+        (COUNT, 1, None),
+        (COUNT, 2, Some(2)),
+        // one row, and three
+        (ROWS, 1, None),
+        (ROWS, 3, None),
+        // a row that goes was never there, and rows that fall
+        (KEY, b'0', None),
+        (KEY, b'3', None),
+    ];
+    for (place, byte, want) in rows {
+        let answer = answer(rt.alloc(), &with_byte(place, byte))?;
+        assert!(rt; answer == want, "{byte} at {place}");
+    }
     Ok(())
 }
 

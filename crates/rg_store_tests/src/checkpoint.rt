@@ -8,7 +8,7 @@ use rg_checkpoint::{
     encode_checkpoint,
 };
 use rg_event::{Bytes, Value};
-use rg_host::{Host, Image, MemHost, Pick};
+use rg_host::{Host, MemHost, Pick};
 use rg_state::{Change, Func, MemTable, Table};
 use std::alloc::Global;
 use std::test::Fail;
@@ -113,18 +113,22 @@ fn a_checkpoint_is_read_back(rt: HostRuntime) -> Result<(), Fail> {
     Ok(())
 }
 
-#[test]
-fn what_is_no_base_payload_is_refused(rt: HostRuntime) -> Result<(), Fail> {
-    let alloc = rt.alloc();
+/// Whether the first bytes of the payload and one more are refused as none.
+fn is_refused_up_to(alloc: Global, end: usize) -> Result<bool, Fail> {
     let mut longer = PAYLOAD.to_vec(alloc)?;
     longer.push(0)?;
-    for end in 0..=longer.len() {
-        let is_whole = end == PAYLOAD.len();
-        assert!(rt; is_refused(alloc, &longer[..end]) != is_whole, "at {end}");
+    Ok(is_refused(alloc, longer.get(..end).unwrap_or(b"")))
+}
+
+#[test]
+fn what_is_no_base_payload_is_refused(rt: HostRuntime) -> Result<(), Fail> {
+    for end in 0..73 {
+        let is_refused = is_refused_up_to(rt.alloc(), end)?;
+        assert!(rt; is_refused == (end != 71), "at {end}");
     }
-    let tag_of_a_change = is_refused(alloc, &with_byte(0, 0x44));
-    let no_values = is_refused(alloc, &with_byte(VALUES, 0));
-    let another_node = decode_checkpoint(alloc, &with_byte(NODE, 9)).is_ok();
+    let tag_of_a_change = is_refused(rt.alloc(), &with_byte(0, 0x44));
+    let no_values = is_refused(rt.alloc(), &with_byte(VALUES, 0));
+    let another_node = decode_checkpoint(rt.alloc(), &with_byte(NODE, 9)).is_ok();
     assert!(rt; tag_of_a_change && no_values && another_node);
     Ok(())
 }
@@ -214,19 +218,48 @@ fn save(
     Ok(())
 }
 
-/// A host after a save into slot 0 of count 2 and one into slot 1 of count 3, and then one into slot
-/// 0 of count 4; and how many calls the first two made.
-fn three_saves(alloc: Global) -> Result<(MemHost, u64), Fail> {
-    let mut host = MemHost::new(alloc, Image::new(alloc), Vec::new(alloc))?;
-    let mut slots = attach(alloc, &mut host)?;
-    save(&mut slots, &mut host, None, 2, 0)?;
-    save(&mut slots, &mut host, Some(0), 3, 1)?;
+/// Saves into slot 0 of count 2 and into slot 1 of count 3, and then into slot 0 of count 4. Answers how many calls
+/// the host had after the first two.
+fn save_three(slots: &mut Slots, host: &mut MemHost) -> Result<u64, Fail> {
+    save(slots, host, None, 2, 0)?;
+    save(slots, host, Some(0), 3, 1)?;
     let calls = host.calls();
-    save(&mut slots, &mut host, Some(1), 4, 0)?;
+    save(slots, host, Some(1), 4, 0)?;
+    Ok(calls)
+}
+
+/// How many calls this host had after the first two of those three saves.
+fn saved(alloc: Global, host: &mut MemHost) -> Result<u64, Fail> {
+    let mut slots = attach(alloc, host)?;
+    save_three(&mut slots, host)
+}
+
+/// A host after those three saves, and how many calls the first two made.
+fn three_saves(alloc: Global) -> Result<(MemHost, u64), Fail> {
+    let mut host = store(alloc, b"", b"", b"", &[])?;
+    let calls = saved(alloc, &mut host)?;
     Ok((host, calls))
 }
 
-/// The counts of the slots and of the newest one, after a stop behind so many calls.
+/// The count of the slot that is the newest of these queries up to this count.
+fn newest_in(slots: &Slots, queries: &Texts, below: u64) -> Option<u64>
+    requires { slots.now.fresh ≡ true }
+{
+    match slots.newest(queries, below) {
+        Some(i) => count_in(slots, i),
+        None => None,
+    }
+}
+
+/// The counts of the slots of a host and of the newest one.
+fn counts(alloc: Global, host: &mut MemHost) -> Result<[Option<u64>; 3], Fail> {
+    let queries = texts(alloc, b"q")?;
+    let slots = attach(alloc, host)?;
+    let newest = newest_in(&slots, &queries, 9);
+    Ok([count_in(&slots, 0), count_in(&slots, 1), newest])
+}
+
+/// The same after a stop behind so many calls.
 fn counts_after(
     alloc: Global,
     host: &MemHost,
@@ -237,13 +270,7 @@ fn counts_after(
         return Err(Fail::new("there were fewer calls"));
     }
     let mut left = host.stop_image(call, pick)?;
-    let queries = texts(alloc, b"q")?;
-    let slots = attach(alloc, &mut left)?;
-    let newest = match slots.newest(&queries, 9) {
-        Some(i) => count_in(&slots, i),
-        None => None,
-    };
-    Ok([count_in(&slots, 0), count_in(&slots, 1), newest])
+    counts(alloc, &mut left)
 }
 
 /// Whether the slots are the old ones, none or the new ones, the newest one is the greatest, and is not older than before.
@@ -291,11 +318,31 @@ fn a_stop_leaves_the_old_checkpoint_or_none_or_the_new_one(rt: HostRuntime) -> R
     Ok(())
 }
 
+/// The newest slot of these queries and up to this count; 2 where there is a slot 2.
+fn newest_slot(slots: &Slots, queries: &Texts, below: u64) -> Option<u32>
+    requires { slots.now.fresh ≡ true }
+{
+    if slots.slot(2).is_some() {
+        return Some(2);
+    }
+    slots.newest(queries, below)
+}
+
+/// The same of a host's slots, and of the query with this text.
+fn newest_on(
+    alloc: Global,
+    host: &mut MemHost,
+    text: &[u8],
+    below: u64,
+) -> Result<Option<u32>, Fail> {
+    let queries = texts(alloc, text)?;
+    let slots = attach(alloc, host)?;
+    Ok(newest_slot(&slots, &queries, below))
+}
+
 #[test]
 fn the_newest_has_these_queries_and_at_most_this_count(rt: HostRuntime) -> Result<(), Fail> {
-    let alloc = rt.alloc();
-    let (mut host, _) = three_saves(alloc)?;
-    let slots = attach(alloc, &mut host)?;
+    let (mut host, _) = three_saves(rt.alloc())?;
     let rows = [
         (b"q", 4, Some(0)),
         (b"q", 3, Some(1)),
@@ -303,42 +350,70 @@ fn the_newest_has_these_queries_and_at_most_this_count(rt: HostRuntime) -> Resul
         (b"r", 9, None),
     ];
     for (text, below, want) in rows {
-        let queries = texts(alloc, text)?;
-        assert_eq!(rt; slots.newest(&queries, below), want, "of {below}");
+        let newest = newest_on(rt.alloc(), &mut host, text, below)?;
+        assert!(rt; newest == want, "of {below}");
     }
-    assert!(rt; slots.slot(2).is_none());
     Ok(())
+}
+
+/// Takes slot 1, and answers its count.
+fn take_second(slots: &mut Slots) -> u64
+    requires { slots.old.fresh ≡ true }
+{
+    match slots.take(1) {
+        Some(taken) => taken.count,
+        None => 0,
+    }
+}
+
+/// The count of slot 1, which is taken, and then saved anew with the count 4.
+fn take_and_save(alloc: Global, host: &mut MemHost) -> Result<u64, Fail> {
+    let mut slots = attach(alloc, host)?;
+    let count = take_second(&mut slots);
+    save(&mut slots, host, Some(0), 4, 1)?;
+    Ok(count)
 }
 
 #[test]
 fn a_slot_that_was_taken_is_saved_anew(rt: HostRuntime) -> Result<(), Fail> {
-    let alloc = rt.alloc();
-    let (mut host, _) = three_saves(alloc)?;
-    let mut slots = attach(alloc, &mut host)?;
-    let count = match slots.take(1) {
-        Some(taken) => taken.count,
-        None => 0,
-    };
-    assert_eq!(rt; count, 3);
-    save(&mut slots, &mut host, Some(0), 4, 1)?;
-    let queries = texts(alloc, b"q")?;
-    let slots = attach(alloc, &mut host)?;
-    assert_eq!(rt; slots.newest(&queries, 4), Some(0));
+    let (mut host, _) = three_saves(rt.alloc())?;
+    let taken = take_and_save(rt.alloc(), &mut host)?;
+    let newest = newest_on(rt.alloc(), &mut host, b"q", 4)?;
+    drop(host);
+    assert!(rt; taken == 3 && newest == Some(0));
     Ok(())
+}
+
+/// The first 80 bytes of slot 0 after three saves: one frame, without a gate behind it.
+fn one_frame(alloc: Global) -> Result<Vec<u8>, Fail> {
+    let (host, _) = three_saves(alloc)?;
+    Ok(host.file(0).get(..80).unwrap_or(b"").to_vec(alloc)?)
+}
+
+/// That frame twice, and a closed gate.
+fn two_frames(alloc: Global) -> Result<Vec<u8>, Fail> {
+    let mut two = one_frame(alloc)?;
+    let one = one_frame(alloc)?;
+    two.extend_from_slice(&one)?;
+    two.push(0)?;
+    Ok(two)
+}
+
+/// The counts of the slots of these bytes.
+fn counts_of(alloc: Global, first: &[u8], second: &[u8]) -> Result<[Option<u64>; 3], Fail> {
+    let mut host = store(alloc, b"", first, second, &[])?;
+    counts(alloc, &mut host)
 }
 
 #[test]
 fn a_slot_of_other_frames_is_not_complete(rt: HostRuntime) -> Result<(), Fail> {
-    let alloc = rt.alloc();
-    let (host, _) = three_saves(alloc)?;
-    let frame = host.file(0);
-    let cut = frame.get(..80).unwrap_or(b"");
-    assert_eq!(rt; cut.len(), 80);
-    let mut two = cut.to_vec(alloc)?;
-    two.extend_from_slice(frame)?;
-    let mut other = store(alloc, b"", &two, cut, &[])?;
-    let slots = attach(alloc, &mut other)?;
-    assert!(rt; slots.slot(0).is_none() && slots.slot(1).is_none());
+    let one = one_frame(rt.alloc())?;
+    let two = two_frames(rt.alloc())?;
+    let length = one.len();
+    let counts = counts_of(rt.alloc(), &two, &one)?;
+    drop(two);
+    drop(one);
+    assert!(rt; length == 80 && counts == [None, None, None]);
     Ok(())
 }
 

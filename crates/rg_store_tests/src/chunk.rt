@@ -41,14 +41,21 @@ fn open_of_two(alloc: Global) -> Result<OpenChunk, Fail>
     Ok(open)
 }
 
+/// Writes an open chunk of two payments behind these bytes.
+fn write_two(alloc: Global, out: &mut Vec<u8>) -> Result<(), Fail> {
+    let schema = Schema::parse(alloc, SCHEMA)?;
+    let open = open_of_two(alloc)?;
+    Ok(open.encode(&schema, out)?)
+}
+
 #[test]
 fn an_open_chunk_is_written_as_its_payload(rt: HostRuntime) -> Result<(), Fail> {
-    let alloc = rt.alloc();
-    let open = open_of_two(alloc)?;
-    let mut out = b"x".to_vec(alloc)?;
-    open.encode(&Schema::parse(alloc, SCHEMA)?, &mut out)?;
+    let mut out = b"x".to_vec(rt.alloc())?;
+    write_two(rt.alloc(), &mut out)?;
     let is_behind = out.get(..1) == Some(b"x".as_slice());
-    assert!(rt; is_behind && out.get(1..) == Some(TWO_BY_COLUMNS.as_slice()));
+    let is_written = out.get(1..) == Some(TWO_BY_COLUMNS.as_slice());
+    drop(out);
+    assert!(rt; is_behind && is_written);
     Ok(())
 }
 
@@ -59,9 +66,11 @@ fn an_open_chunk_has_its_events_until_it_is_cleared(rt: HostRuntime) -> Result<(
         (Some(first), Some(second), None) => first.offset == 0 && second.offset == 1,
         _ => false,
     };
-    assert!(rt; has_both && open.is_full() && open.count() == 2);
+    let is_full = open.is_full() && open.count() == 2;
     open.clear();
-    assert!(rt; open.count() == 0 && open.get(0).is_none());
+    let is_empty = open.count() == 0 && open.get(0).is_none();
+    drop(open);
+    assert!(rt; has_both && is_full && is_empty);
     Ok(())
 }
 
@@ -97,15 +106,20 @@ fn has_second(chunk: &Chunk, want: &Event) -> bool {
     is_second && chunk.count() == 2 && chunk.get(2).is_none()
 }
 
+/// Whether a payload has the two payments.
+fn has_two(alloc: Global, payload: &[u8]) -> Result<bool, Fail> {
+    let want = payment(alloc, 1, 299_999, &[b"c1", b"m2"], 200)?;
+    let schema = Schema::parse(alloc, SCHEMA)?;
+    let chunk = Chunk::decode(alloc, &schema, payload)?;
+    Ok(has_second(&chunk, &want))
+}
+
 #[test]
 fn a_payload_says_its_events(rt: HostRuntime) -> Result<(), Fail> {
-    let alloc = rt.alloc();
-    let schema = Schema::parse(alloc, SCHEMA)?;
-    let want = payment(alloc, 1, 299_999, &[b"c1", b"m2"], 200)?;
     let payloads: [&[u8]; 2] = [&TWO, &TWO_BY_COLUMNS];
     for payload in payloads {
-        let chunk = Chunk::decode(alloc, &schema, payload)?;
-        assert!(rt; has_second(&chunk, &want));
+        let is_said = has_two(rt.alloc(), payload)?;
+        assert!(rt; is_said);
     }
     Ok(())
 }
@@ -123,20 +137,25 @@ fn refusal(alloc: Global, payload: &[u8]) -> Result<Option<ChunkFault>, Fail> {
     Ok(Chunk::decode(alloc, &schema, payload).err())
 }
 
+/// Why the first bytes of the payload and one more are refused, where they are.
+fn refusal_up_to(alloc: Global, payload: &[u8], end: usize) -> Result<Option<ChunkFault>, Fail> {
+    let mut longer = payload.to_vec(alloc)?;
+    longer.push(0)?;
+    refusal(alloc, longer.get(..end).unwrap_or(b""))
+}
+
 #[test]
 fn a_payload_that_is_cut_or_longer_is_refused(rt: HostRuntime) -> Result<(), Fail> {
     let payloads: [&[u8]; 2] = [&TWO, &TWO_BY_COLUMNS];
     for payload in payloads {
-        let mut longer = payload.to_vec(rt.alloc())?;
-        longer.push(0)?;
-        for end in 0..=longer.len() {
-            let fault = refusal(rt.alloc(), longer.get(..end).unwrap_or(b""))?;
+        for end in 0..payload.len().saturating_add(2) {
+            let fault = refusal_up_to(rt.alloc(), payload, end)?;
             let want = if end == payload.len() {
                 None
             } else {
                 Some(ChunkFault::BadChunk)
             };
-            assert_eq!(rt; fault, want, "the first {end} bytes");
+            assert!(rt; fault == want, "the first {end} bytes");
         }
     }
     Ok(())
@@ -176,7 +195,7 @@ fn rows_that_are_no_chunk_are_refused(rt: HostRuntime) -> Result<(), Fail> {
     ];
     for (what, first, second) in table {
         let fault = refusal_with(rt.alloc(), &TWO, first, second)?;
-        assert_eq!(rt; fault, Some(ChunkFault::BadChunk), "{what}");
+        assert!(rt; fault == Some(ChunkFault::BadChunk), "{what}");
     }
     Ok(())
 }
@@ -194,13 +213,13 @@ fn columns_that_are_no_chunk_are_refused(rt: HostRuntime) -> Result<(), Fail> {
     ];
     for (what, first, second) in table {
         let fault = refusal_with(rt.alloc(), &TWO_BY_COLUMNS, first, second)?;
-        assert_eq!(rt; fault, Some(ChunkFault::BadChunk), "{what}");
+        assert!(rt; fault == Some(ChunkFault::BadChunk), "{what}");
     }
     Ok(())
 }
 
-/// The payload of the most events with the longest texts.
-fn longest(alloc: Global) -> Result<Vec<u8>, Fail> {
+/// An open chunk of the most events with the longest texts.
+fn open_of_longest(alloc: Global) -> Result<OpenChunk, Fail> {
     let text = [b'a'; 255];
     let mut open = OpenChunk::new(alloc, 4096)?;
     for offset in 0..4096 {
@@ -209,25 +228,38 @@ fn longest(alloc: Global) -> Result<Vec<u8>, Fail> {
             open.push(event);
         }
     }
-    let schema = Schema::parse(alloc, SCHEMA)?;
+    Ok(open)
+}
+
+/// Its payload.
+fn longest(alloc: Global) -> Result<Vec<u8>, Fail> {
+    let open = open_of_longest(alloc)?;
     let mut out = Vec::new(alloc);
     if open.count() > 0 {
-        open.encode(&schema, &mut out)?;
+        open.encode(&Schema::parse(alloc, SCHEMA)?, &mut out)?;
     }
     Ok(out)
+}
+
+/// Whether the last event of a payload is of this offset, one less than its count.
+fn ends_with(alloc: Global, payload: &[u8], offset: u32) -> Result<bool, Fail> {
+    let schema = Schema::parse(alloc, SCHEMA)?;
+    let chunk = Chunk::decode(alloc, &schema, payload)?;
+    let is_last = match chunk.get(offset) {
+        Some(event) => event.offset == u64::from(offset),
+        None => false,
+    };
+    Ok(is_last && chunk.count() == offset.saturating_add(1))
 }
 
 #[test]
 fn the_most_events_with_the_longest_texts_are_read_back(rt: HostRuntime) -> Result<(), Fail> {
     let out = longest(rt.alloc())?;
+    let length = out.len();
+    let is_read = ends_with(rt.alloc(), &out, 4095)?;
+    drop(out);
     // The head, three bases and widths, and 516 bytes a payment: 2 for the offset, 1 for the time and for the amount.
-    assert_eq!(rt; out.len(), 37 + 27 + 4096 * 516);
-    let schema = Schema::parse(rt.alloc(), SCHEMA)?;
-    let chunk = Chunk::decode(rt.alloc(), &schema, &out)?;
-    let is_last = match chunk.get(4095) {
-        Some(event) => event.offset == 4095,
-        None => false,
-    };
-    assert!(rt; is_last && chunk.count() == 4096);
+    assert_eq!(rt; length, 37 + 27 + 4096 * 516);
+    assert!(rt; is_read);
     Ok(())
 }

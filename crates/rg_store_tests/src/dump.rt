@@ -21,8 +21,11 @@ fn dumps(alloc: Global, host: &mut MemHost, want: Result<(), DumpFault>, text: &
 fn three_payments_are_three_rows(rt: HostRuntime) -> Result<(), Fail> {
     let bytes = file(rt.alloc(), &[SCHEMA_PAYLOAD, &TWO, &ONE])?;
     let mut host = host_with(rt.alloc(), &bytes, &[])?;
-    assert!(rt; dumps(rt.alloc(), &mut host, Ok(()), THREE_ROWS));
-    assert!(rt; bytes.len() == 240 && host.file(2) == bytes.as_slice());
+    let is_dumped = dumps(rt.alloc(), &mut host, Ok(()), THREE_ROWS);
+    let is_kept = bytes.len() == 240 && host.file(2) == bytes.as_slice();
+    drop(host);
+    drop(bytes);
+    assert!(rt; is_dumped && is_kept);
     Ok(())
 }
 
@@ -145,22 +148,36 @@ fn each_kind_of_value_is_printed(rt: HostRuntime) -> Result<(), Fail> {
     Ok(())
 }
 
+/// A host with the log of three payments, on which these calls fail.
+fn host_of_three(alloc: Global, failing: &[u64]) -> Result<MemHost, Fail> {
+    let bytes = file(alloc, &[SCHEMA_PAYLOAD, &TWO, &ONE])?;
+    host_with(alloc, &bytes, failing)
+}
+
+/// How many calls the dump of three payments makes.
+fn count_calls(alloc: Global) -> Result<u64, Fail> {
+    let mut host = host_of_three(alloc, &[])?;
+    if dump(alloc, &mut host) != Ok(()) {
+        return Err(Fail::new("it was not dumped"));
+    }
+    Ok(host.calls())
+}
+
+/// Whether a dump fails where this call does, puts a front of the rows, and leaves the log as it was.
+fn fails_well(alloc: Global, call: u64) -> Result<bool, Fail> {
+    let mut host = host_of_three(alloc, &[call])?;
+    let log = host.file(2).to_vec(alloc)?;
+    let ends = dump(alloc, &mut host);
+    let is_fault = matches!(ends, Err(DumpFault::Disk | DumpFault::Write));
+    let is_front = THREE_ROWS.starts_with(host.output());
+    Ok(is_fault && is_front && host.file(2) == log.as_slice())
+}
+
 #[test]
 fn each_call_that_fails_ends_the_dump(rt: HostRuntime) -> Result<(), Fail> {
-    let bytes = file(rt.alloc(), &[SCHEMA_PAYLOAD, &TWO, &ONE])?;
-    let mut whole = host_with(rt.alloc(), &bytes, &[])?;
-    assert_eq!(rt; dump(rt.alloc(), &mut whole), Ok(()));
-    for call in 0..whole.calls() {
-        let mut host = host_with(rt.alloc(), &bytes, &[call])?;
-        let is_fault = matches!(
-            dump(rt.alloc(), &mut host),
-            Err(DumpFault::Disk | DumpFault::Write)
-        );
-        let is_front = THREE_ROWS.starts_with(host.output());
-        assert!(rt;
-            is_fault && is_front && host.file(2) == bytes.as_slice(),
-            "at {call}"
-        );
+    for call in 0..count_calls(rt.alloc())? {
+        let is_well = fails_well(rt.alloc(), call)?;
+        assert!(rt; is_well, "at {call}");
     }
     Ok(())
 }

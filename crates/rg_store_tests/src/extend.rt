@@ -3,8 +3,8 @@ ghost use Rattle.rg_checkpoint.specs.Slots.{ReachesSlots};
 
 use crate::payments::store;
 use rg_checkpoint::{SlotFault, SlotSizes, Slots};
-use rg_host::{Host, Image, MemHost, Pick};
-use std::alloc::Global;
+use rg_host::{Host, MemHost, Pick};
+use std::alloc::{AllocError, Global};
 use std::test::Fail;
 
 /// A slot of a base payload and two change payloads: two payments and the count 2 of the card `c1`;
@@ -75,51 +75,47 @@ fn extend(slots: &mut Slots, host: &mut MemHost, payload: &[u8]) -> Result<(), S
     slots.extend(host, 0, payload)
 }
 
-/// A host whose slot 0 was saved and then extended twice, the slots, and how many calls the save made.
-fn extended(alloc: Global, failing: &[u64]) -> Result<(MemHost, Slots, u64), Fail> {
-    let mut host = store(alloc, b"", b"", b"", failing)?;
-    let mut slots = attach(alloc, &mut host)?;
-    match slots.save(&mut host, None, payload(0, FIRST)) {
+/// Saves slot 0 and extends it twice, and answers how many calls the host had after the save.
+fn grow(slots: &mut Slots, host: &mut MemHost) -> Result<u64, SlotFault>
+    requires { ReachesSlots slots.old (⟦<MemHost as Host>⟧.now host.old) }
+{
+    match slots.save(host, None, payload(0, FIRST)) {
         Ok(_) => {}
-        Err(_) => return Err(Fail::new("it was not saved")),
+        Err(fault) => return Err(fault),
     }
     let calls = host.calls();
-    match extend(&mut slots, &mut host, payload(FIRST, SECOND)) {
+    match extend(slots, host, payload(FIRST, SECOND)) {
         Ok(()) => {}
-        Err(_) => return Ok((host, slots, calls)),
+        Err(fault) => return Err(fault),
     }
-    match extend(&mut slots, &mut host, payload(SECOND, END)) {
-        Ok(()) => Ok((host, slots, calls)),
+    match extend(slots, host, payload(SECOND, END)) {
+        Ok(()) => Ok(calls),
+        Err(fault) => Err(fault),
+    }
+}
+
+/// How many calls an empty host had after the save, once its slot 0 was saved and extended twice, and the
+/// sizes of its slots.
+fn grown(alloc: Global, host: &mut MemHost) -> Result<(u64, [Option<SlotSizes>; 2]), Fail> {
+    let mut slots = attach(alloc, host)?;
+    match grow(&mut slots, host) {
+        Ok(calls) => Ok((calls, [slots.sizes(0), slots.sizes(1)])),
         Err(_) => Err(Fail::new("it was not extended")),
     }
 }
 
 #[test]
 fn changes_are_added_as_the_format_says(rt: HostRuntime) -> Result<(), Fail> {
-    let (host, slots, _) = extended(rt.alloc(), &[])?;
-    assert_eq!(rt; host.file(0), &SLOT[..]);
-    let sizes = SlotSizes {
+    let mut host = store(rt.alloc(), b"", b"", b"", &[])?;
+    let (_, sizes) = grown(rt.alloc(), &mut host)?;
+    let is_written = host.file(0) == &SLOT[..];
+    drop(host);
+    let first = SlotSizes {
         base: 71,
         changes: 117,
         frames: 2,
     };
-    assert_eq!(rt; (slots.sizes(0), slots.sizes(1)), (Some(sizes), None));
-    Ok(())
-}
-
-#[test]
-fn a_slot_with_changes_is_read_up_to_its_closed_gate(rt: HostRuntime) -> Result<(), Fail> {
-    let alloc = rt.alloc();
-    let mut two = SLOT.to_vec(alloc)?;
-    assert_eq!(rt; read_bytes(alloc, &two)?, Some((4, 0)));
-    if let Some(gate) = two.get_mut(SECOND) {
-        *gate = 0;
-    }
-    assert_eq!(rt; read_bytes(alloc, &two)?, Some((3, 1)));
-    if let Some(gate) = two.get_mut(FIRST) {
-        *gate = 0;
-    }
-    assert_eq!(rt; read_bytes(alloc, &two)?, Some((2, 1)));
+    assert!(rt; is_written && sizes == [Some(first), None]);
     Ok(())
 }
 
@@ -133,8 +129,16 @@ fn with_byte(place: usize, byte: u8) -> [u8; 216] {
 }
 
 #[test]
+fn a_slot_with_changes_is_read_up_to_its_closed_gate(rt: HostRuntime) -> Result<(), Fail> {
+    for (gate, count, rows) in [(END, 4, 0), (SECOND, 3, 1), (FIRST, 2, 1)] {
+        let read = read_bytes(rt.alloc(), &with_byte(gate, 0))?;
+        assert!(rt; read == Some((count, rows)), "closed at {gate}");
+    }
+    Ok(())
+}
+
+#[test]
 fn a_change_that_does_not_apply_leaves_no_checkpoint(rt: HostRuntime) -> Result<(), Fail> {
-    let alloc = rt.alloc();
     let rows = [
         ("the count falls", 97, 1),
         ("a base behind the base", 89, 0x42),
@@ -143,27 +147,50 @@ fn a_change_that_does_not_apply_leaves_no_checkpoint(rt: HostRuntime) -> Result<
         ("the second frame is cut", 160, 0x37),
     ];
     for (name, place, byte) in rows {
-        assert_eq!(rt; read_bytes(alloc, &with_byte(place, byte))?, None, "{name}");
+        let read = read_bytes(rt.alloc(), &with_byte(place, byte))?;
+        assert!(rt; read.is_none(), "{name}");
     }
     Ok(())
+}
+
+/// A slot of a base payload and so many change payloads, all alike.
+fn slot_of(alloc: Global, changes: u32) -> Result<Vec<u8>, AllocError> {
+    let mut bytes = SLOT.get(..FIRST).unwrap_or(b"").to_vec(alloc)?;
+    for _ in 0..changes {
+        bytes.extend_from_slice(SLOT.get(FIRST..SECOND).unwrap_or(b""))?;
+    }
+    bytes.push(0)?;
+    Ok(bytes)
+}
+
+/// How many change payloads slot 0 has, where it is complete.
+fn changes_in(slots: &Slots) -> Option<u64>
+    requires { slots.now.fresh ≡ true }
+{
+    if slots.slot(0).is_none() {
+        return None;
+    }
+    let sizes = slots.sizes(0)?;
+    Some(sizes.frames)
+}
+
+/// The same of a slot of these bytes.
+fn count_changes(alloc: Global, bytes: &[u8]) -> Result<Option<u64>, Fail> {
+    let mut host = store(alloc, b"", bytes, b"", &[])?;
+    let slots = attach(alloc, &mut host)?;
+    Ok(changes_in(&slots))
 }
 
 #[test]
 fn a_slot_of_65_changes_is_read(rt: HostRuntime) -> Result<(), Fail> {
-    let alloc = rt.alloc();
-    let mut bytes = SLOT.get(..FIRST).unwrap_or(b"").to_vec(alloc)?;
-    for _ in 0..65u32 {
-        bytes.extend_from_slice(SLOT.get(FIRST..SECOND).unwrap_or(b""))?;
-    }
-    bytes.push(0)?;
-    let mut host = store(alloc, b"", &bytes, b"", &[])?;
-    let slots = attach(alloc, &mut host)?;
-    let frames = slots.sizes(0).map(|sizes| sizes.frames);
-    assert_eq!(rt; (frames, slots.slot(0).is_some()), (Some(65), true));
+    let bytes = slot_of(rt.alloc(), 65)?;
+    let changes = count_changes(rt.alloc(), &bytes)?;
+    drop(bytes);
+    assert_eq!(rt; changes, Some(65));
     Ok(())
 }
 
-/// Whether a stop behind each call of the extensions leaves no older checkpoint than one before did.
+/// Whether a stop behind each call of the extensions, by this pick, leaves no older checkpoint than one before did.
 fn leaves_old_or_new(alloc: Global, host: &MemHost, from: u64, pick: Pick) -> Result<bool, Fail> {
     let mut before = 2;
     for call in from..=host.calls() {
@@ -183,24 +210,54 @@ fn leaves_old_or_new(alloc: Global, host: &MemHost, from: u64, pick: Pick) -> Re
     Ok(before == 4)
 }
 
+/// Whether that is so by each of these picks.
+fn leaves_old_or_new_by_each(alloc: Global, host: &MemHost, from: u64) -> Result<bool, Fail> {
+    for pick in [Pick::Old, Pick::New, Pick::Torn(0), Pick::Torn(255)] {
+        if !leaves_old_or_new(alloc, host, from, pick)? {
+            return Ok(false);
+        }
+    }
+    Ok(true)
+}
+
 #[test]
 fn a_stop_leaves_the_old_checkpoint_or_the_new_one(rt: HostRuntime) -> Result<(), Fail> {
-    let (host, _, calls) = extended(rt.alloc(), &[])?;
-    for pick in [Pick::Old, Pick::New, Pick::Torn(0), Pick::Torn(255)] {
-        let is_legal = leaves_old_or_new(rt.alloc(), &host, calls, pick)?;
-        assert!(rt; is_legal, "with {pick:?}");
-    }
+    let mut host = store(rt.alloc(), b"", b"", b"", &[])?;
+    let (calls, _) = grown(rt.alloc(), &mut host)?;
+    let is_legal = leaves_old_or_new_by_each(rt.alloc(), &host, calls)?;
+    drop(host);
+    assert!(rt; is_legal);
     Ok(())
+}
+
+/// Whether an extension of a host's slots fails, and a save behind it has ended and makes no call.
+fn has_ended(alloc: Global, host: &mut MemHost) -> Result<bool, Fail> {
+    let mut slots = attach(alloc, host)?;
+    let is_failed = grow(&mut slots, host) == Err(SlotFault::Disk);
+    let made = host.calls();
+    let again = slots.save(host, Some(0), payload(0, FIRST));
+    Ok(is_failed && again == Err(SlotFault::Ended) && host.calls() == made)
+}
+
+/// How many calls a save makes on an empty host, with the attach before it.
+fn calls_of_save(alloc: Global) -> Result<u64, Fail> {
+    let mut host = store(alloc, b"", b"", b"", &[])?;
+    let (calls, _) = grown(alloc, &mut host)?;
+    Ok(calls)
+}
+
+/// Whether that is so where the first call of an extension fails, and the slot has its base payload then.
+fn ends_with_base(alloc: Global, calls: u64) -> Result<bool, Fail> {
+    let mut host = store(alloc, b"", b"", b"", &[calls])?;
+    let has_ended = has_ended(alloc, &mut host)?;
+    let left = read_bytes(alloc, host.file(0))?;
+    Ok(has_ended && calls < host.calls() && left == Some((2, 1)))
 }
 
 #[test]
 fn slots_end_where_an_extension_fails(rt: HostRuntime) -> Result<(), Fail> {
-    let (_, _, calls) = extended(rt.alloc(), &[])?;
-    let (mut host, mut slots, _) = extended(rt.alloc(), &[calls])?;
-    let made = host.calls();
-    let again = slots.save(&mut host, Some(0), payload(0, FIRST));
-    assert_eq!(rt; again, Err(SlotFault::Ended));
-    assert!(rt; calls < made && host.calls() == made);
-    assert_eq!(rt; read_bytes(rt.alloc(), host.file(0))?, Some((2, 1)));
+    let calls = calls_of_save(rt.alloc())?;
+    let has_base = ends_with_base(rt.alloc(), calls)?;
+    assert!(rt; has_base);
     Ok(())
 }

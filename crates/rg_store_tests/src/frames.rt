@@ -100,27 +100,39 @@ fn frames_are_stepped_over_with_their_first_bytes(rt: HostRuntime) -> Result<(),
     Ok(())
 }
 
+/// Whether nothing is read at this place of file 2.
+fn is_end(alloc: Global, host: &mut MemHost, place: u64) -> Result<bool, FrameFault> {
+    let mut read = Vec::new(alloc);
+    Ok(FrameLog::new(2).read(host, place, &mut read)?.is_none())
+}
+
 #[test]
 fn frames_are_read_back(rt: HostRuntime) -> Result<(), Fail> {
-    let alloc = rt.alloc();
-    let mut host = host_with(alloc, &TWO_FRAMES, &[])?;
-    assert!(rt; lists(alloc, &mut host, &[b"ab", b"c"])?);
-    let mut read = Vec::new(alloc);
-    assert_eq!(rt; FrameLog::new(2).read(&mut host, 22, &mut read)?, None);
+    let mut host = host_with(rt.alloc(), &TWO_FRAMES, &[])?;
+    let are_both = lists(rt.alloc(), &mut host, &[b"ab", b"c"])?;
+    let is_end = is_end(rt.alloc(), &mut host, 22)?;
+    drop(host);
+    assert!(rt; are_both && is_end);
     Ok(())
+}
+
+/// How many frames a file 2 of these bytes has, of at most three.
+fn count_in(alloc: Global, bytes: &[u8]) -> Result<Result<u32, FrameFault>, Fail> {
+    let mut host = host_with(alloc, bytes, &[])?;
+    Ok(count_frames(&mut host))
 }
 
 #[test]
 fn a_cut_file_is_damaged_at_the_cut_frame(rt: HostRuntime) -> Result<(), Fail> {
     for cut in 0..23 {
-        let mut host = host_with(rt.alloc(), &TWO_FRAMES[..cut], &[])?;
         let want = match cut {
             0 | 1 => Ok(0),
             2..=11 => Err(FrameFault::Damaged(0)),
             12..=21 => Err(FrameFault::Damaged(11)),
             _ => Ok(2),
         };
-        assert_eq!(rt; count_frames(&mut host), want, "cut to {cut} bytes");
+        let count = count_in(rt.alloc(), &TWO_FRAMES[..cut])?;
+        assert!(rt; count == want, "cut to {cut} bytes");
     }
     Ok(())
 }
@@ -130,11 +142,10 @@ fn a_gate_of_another_value_ends_the_list(rt: HostRuntime) -> Result<(), Fail> {
     for gate in [0, 2, 0x37, 0xff] {
         let mut bytes = TWO_FRAMES;
         bytes[11] = gate;
-        let mut host = host_with(rt.alloc(), &bytes, &[])?;
-        assert_eq!(rt; count_frames(&mut host), Ok(1), "gate {gate}");
+        let one = count_in(rt.alloc(), &bytes)?;
         bytes[0] = gate;
-        let mut host = host_with(rt.alloc(), &bytes, &[])?;
-        assert_eq!(rt; count_frames(&mut host), Ok(0), "gate {gate}");
+        let none = count_in(rt.alloc(), &bytes)?;
+        assert!(rt; one == Ok(1) && none == Ok(0), "gate {gate}");
     }
     Ok(())
 }
@@ -143,8 +154,8 @@ fn a_gate_of_another_value_ends_the_list(rt: HostRuntime) -> Result<(), Fail> {
 fn a_length_past_the_file_is_damage(rt: HostRuntime) -> Result<(), Fail> {
     for last in [0xff, 0xfe, 0xf7, 0xf6] {
         let bytes = [1, 0xff, 0xff, 0xff, 0xff, 0xff, 0xff, 0xff, last, 5, 0];
-        let mut host = host_with(rt.alloc(), &bytes, &[])?;
-        assert_eq!(rt; count_frames(&mut host), Err(FrameFault::Damaged(0)));
+        let count = count_in(rt.alloc(), &bytes)?;
+        assert!(rt; count == Err(FrameFault::Damaged(0)), "of {last}");
     }
     Ok(())
 }
@@ -165,55 +176,101 @@ fn is_old_or_new(
     Ok(has_one || has_other)
 }
 
-#[test]
-fn a_stop_in_an_append_leaves_the_old_list_or_the_new_one(rt: HostRuntime) -> Result<(), Fail> {
-    let alloc = rt.alloc();
-    let mut host = host_with(alloc, &[], &[])?;
-    let first = append_two(&mut host)?;
-    for call in 0..=host.calls() {
-        for pick in PICKS {
-            let mut stopped = host.stop_image(call, pick)?;
-            let kept = is_old_or_new(alloc, &mut stopped, call >= first)?;
-            assert!(rt; kept, "after {call} calls");
+/// Whether a stop behind so many calls of this host leaves the old list or the new one, by each pick.
+fn leaves_old_or_new(
+    alloc: Global,
+    host: &MemHost,
+    call: u64,
+    has_first: bool,
+) -> Result<bool, Fail> {
+    for pick in PICKS {
+        if call > host.calls() {
+            return Ok(false);
+        }
+        let mut stopped = host.stop_image(call, pick)?;
+        if !is_old_or_new(alloc, &mut stopped, has_first)? {
+            return Ok(false);
         }
     }
-    assert!(rt; lists(alloc, &mut host, &[b"ab", b"c"])?);
+    Ok(true)
+}
+
+/// Whether that is so after each call, where the first list stood after so many.
+fn each_leaves_old_or_new(alloc: Global, host: &MemHost, first: u64) -> Result<bool, Fail> {
+    for call in 0..=host.calls() {
+        if !leaves_old_or_new(alloc, host, call, call >= first)? {
+            return Ok(false);
+        }
+    }
+    Ok(true)
+}
+
+#[test]
+fn a_stop_in_an_append_leaves_the_old_list_or_the_new_one(rt: HostRuntime) -> Result<(), Fail> {
+    let mut host = host_with(rt.alloc(), &[], &[])?;
+    let first = append_two(&mut host)?;
+    let are_kept = each_leaves_old_or_new(rt.alloc(), &host, first)?;
+    let are_both = lists(rt.alloc(), &mut host, &[b"ab", b"c"])?;
+    drop(host);
+    assert!(rt; are_kept && are_both);
     Ok(())
+}
+
+/// Whether the two appends fail where this call does, and leave the old list or the new one.
+fn fails_well(alloc: Global, call: u64) -> Result<bool, Fail> {
+    let mut host = host_with(alloc, &[], &[call])?;
+    let is_failed = append_two(&mut host) == Err(FrameFault::Disk);
+    let is_kept = leaves_old_or_new(alloc, &host, host.calls(), call >= 10)?;
+    Ok(is_failed && is_kept)
 }
 
 #[test]
 fn a_failed_append_leaves_the_old_list_or_the_new_one(rt: HostRuntime) -> Result<(), Fail> {
-    let alloc = rt.alloc();
     for call in 0..17 {
-        let mut host = host_with(alloc, &[], &[call])?;
-        assert_eq!(rt; append_two(&mut host), Err(FrameFault::Disk), "call {call}");
-        for pick in PICKS {
-            let mut stopped = host.stop_image(host.calls(), pick)?;
-            let kept = is_old_or_new(alloc, &mut stopped, call >= 10)?;
-            assert!(rt; kept, "call {call}");
-        }
+        let is_well = fails_well(rt.alloc(), call)?;
+        assert!(rt; is_well, "call {call}");
     }
     Ok(())
 }
 
+/// Whether a stopped host has both frames or none.
+fn has_both_or_none(alloc: Global, stopped: &mut MemHost) -> Result<bool, FrameFault> {
+    let is_none = lists(alloc, stopped, &[])?;
+    Ok(lists(alloc, stopped, &[b"ab", b"c"])? || is_none)
+}
+
+/// Whether a stop behind so many calls of this host leaves that, by each pick.
+fn leaves_both_or_none(alloc: Global, host: &MemHost, call: u64) -> Result<bool, Fail> {
+    for pick in PICKS {
+        if call > host.calls() {
+            return Ok(false);
+        }
+        let mut stopped = host.stop_image(call, pick)?;
+        if !has_both_or_none(alloc, &mut stopped)? {
+            return Ok(false);
+        }
+    }
+    Ok(true)
+}
+
+/// Whether a clear on which this call fails is Ok just where it makes fewer calls, and each stop leaves both frames or
+/// none.
+fn clears_well(alloc: Global, call: u64) -> Result<bool, Fail> {
+    let mut host = host_with(alloc, &TWO_FRAMES, &[call])?;
+    let is_cleared = FrameLog::new(2).clear(&mut host).is_ok();
+    for stop in 0..=host.calls() {
+        if !leaves_both_or_none(alloc, &host, stop)? {
+            return Ok(false);
+        }
+    }
+    Ok(is_cleared == (call == 3))
+}
+
 #[test]
 fn a_stop_in_a_clear_leaves_the_old_list_or_none(rt: HostRuntime) -> Result<(), Fail> {
-    let alloc = rt.alloc();
     for call in 0..4 {
-        let mut host = host_with(alloc, &TWO_FRAMES, &[call])?;
-        let mut log = FrameLog::new(2);
-        let cleared = log.clear(&mut host);
-        assert_eq!(rt; cleared.is_ok(), call == 3, "call {call}");
-        for stop in 0..=host.calls() {
-            for pick in PICKS {
-                let mut stopped = host.stop_image(stop, pick)?;
-                let none = lists(alloc, &mut stopped, &[])?;
-                assert!(rt;
-                    none || lists(alloc, &mut stopped, &[b"ab", b"c"])?,
-                    "call {stop}"
-                );
-            }
-        }
+        let is_well = clears_well(rt.alloc(), call)?;
+        assert!(rt; is_well, "call {call}");
     }
     Ok(())
 }
@@ -229,18 +286,20 @@ fn a_failed_write_ends_a_log(rt: HostRuntime) -> Result<(), Fail> {
     Ok(())
 }
 
+/// Whether a clear leaves these bytes of file 2 alone after its one read.
+fn leaves_alone(alloc: Global, bytes: &[u8]) -> Result<bool, Fail> {
+    let mut host = host_with(alloc, bytes, &[])?;
+    FrameLog::new(2).clear(&mut host)?;
+    Ok(host.calls() == 1 && host.file(2) == bytes)
+}
+
 #[test]
 fn a_closed_gate_is_not_written_by_a_clear(rt: HostRuntime) -> Result<(), Fail> {
     for gate in [0, 2, 0x37, 0xff] {
         let mut bytes = TWO_FRAMES;
         bytes[0] = gate;
-        let mut host = host_with(rt.alloc(), &bytes, &[])?;
-        let mut log = FrameLog::new(2);
-        log.clear(&mut host)?;
-        assert!(rt;
-            host.calls() == 1 && host.file(2) == bytes.as_slice(),
-            "gate {gate}"
-        );
+        let is_left = leaves_alone(rt.alloc(), &bytes)?;
+        assert!(rt; is_left, "gate {gate}");
     }
     Ok(())
 }

@@ -16,6 +16,18 @@ fn tells(alloc: Global, host: &mut MemHost, text: &[u8]) -> bool {
     info(alloc, host) == Ok(()) && host.output() == text
 }
 
+/// Whether the store of this log and these slots is told so.
+fn tells_of(
+    alloc: Global,
+    log: &[u8],
+    first: &[u8],
+    second: &[u8],
+    text: &[u8],
+) -> Result<bool, Fail> {
+    let mut host = store(alloc, log, first, second, &[])?;
+    Ok(tells(alloc, &mut host, text))
+}
+
 #[test]
 fn three_payments_and_a_checkpoint_are_told(rt: HostRuntime) -> Result<(), Fail> {
     let log = file(rt.alloc(), &[SCHEMA_PAYLOAD, &TWO, &ONE])?;
@@ -72,8 +84,8 @@ fn a_store_without_payments_has_none(rt: HostRuntime) -> Result<(), Fail> {
         ),
     ];
     for (log, text) in table {
-        let mut host = store(rt.alloc(), log, b"", b"", &[])?;
-        assert!(rt; tells(rt.alloc(), &mut host, text));
+        let is_told = tells_of(rt.alloc(), log, b"", b"", text)?;
+        assert!(rt; is_told);
     }
     Ok(())
 }
@@ -96,29 +108,52 @@ fn a_damaged_log_puts_nothing(rt: HostRuntime) -> Result<(), Fail> {
     Ok(())
 }
 
+/// Whether a store without payments, whose first slot is cut and whose second one isn't, is told so.
+fn tells_of_cut(alloc: Global, text: &[u8]) -> Result<bool, Fail> {
+    let log = file(alloc, &[SCHEMA_PAYLOAD])?;
+    let slot = file(alloc, &[&CHECKPOINT])?;
+    let length = slot.len().saturating_sub(1);
+    tells_of(alloc, &log, slot.get(..length).unwrap_or(b""), &slot, text)
+}
+
 #[test]
 fn a_slot_that_is_cut_is_none(rt: HostRuntime) -> Result<(), Fail> {
-    let log = file(rt.alloc(), &[SCHEMA_PAYLOAD])?;
-    let slot = file(rt.alloc(), &[&CHECKPOINT])?;
-    let mut cut = file(rt.alloc(), &[&CHECKPOINT])?;
-    cut.pop();
-    let mut host = store(rt.alloc(), &log, &cut, &slot, &[])?;
     let text = b"events 0\nnext 0\ntime -\nframes 1\nslot 0 none\nslot 1 3 1\n";
-    assert!(rt; tells(rt.alloc(), &mut host, text));
+    let is_told = tells_of_cut(rt.alloc(), text)?;
+    assert!(rt; is_told);
     Ok(())
+}
+
+/// The store of three payments and a checkpoint of them, on which these calls fail.
+fn store_of_three(alloc: Global, failing: &[u64]) -> Result<MemHost, Fail> {
+    let log = file(alloc, &[SCHEMA_PAYLOAD, &TWO, &ONE])?;
+    let slot = file(alloc, &[&CHECKPOINT])?;
+    store(alloc, &log, &slot, b"", failing)
+}
+
+/// How its info ends where this call fails, and whether nothing was put then.
+fn info_failing(alloc: Global, call: u64) -> Result<(Result<(), InfoFault>, bool), Fail> {
+    let mut host = store_of_three(alloc, &[call])?;
+    let ends = info(alloc, &mut host);
+    Ok((ends, host.output().is_empty()))
+}
+
+/// How many calls its info makes.
+fn count_calls(alloc: Global) -> Result<u64, Fail> {
+    let mut host = store_of_three(alloc, &[])?;
+    if info(alloc, &mut host) != Ok(()) {
+        return Err(Fail::new("it was not told"));
+    }
+    Ok(host.calls())
 }
 
 #[test]
 fn each_call_that_fails_is_a_fault(rt: HostRuntime) -> Result<(), Fail> {
-    let log = file(rt.alloc(), &[SCHEMA_PAYLOAD, &TWO, &ONE])?;
-    let slot = file(rt.alloc(), &[&CHECKPOINT])?;
-    let mut whole = store(rt.alloc(), &log, &slot, b"", &[])?;
-    assert_eq!(rt; info(rt.alloc(), &mut whole), Ok(()));
     let mut last = Ok(());
-    for call in 0..whole.calls() {
-        let mut host = store(rt.alloc(), &log, &slot, b"", &[call])?;
-        last = info(rt.alloc(), &mut host);
-        assert!(rt; last != Ok(()) && host.output().is_empty(), "at {call}");
+    for call in 0..count_calls(rt.alloc())? {
+        let (ends, is_silent) = info_failing(rt.alloc(), call)?;
+        assert!(rt; ends != Ok(()) && is_silent, "at {call}");
+        last = ends;
     }
     // the last call is the put
     assert_eq!(rt; last, Err(InfoFault::Write));

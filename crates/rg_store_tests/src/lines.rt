@@ -43,6 +43,16 @@ impl Source for Pieces<'_> {
     }
 }
 
+/// Whether these lines come next.
+fn gives(lines: &mut Lines, source: &mut Pieces<'_>, expected: &[Line<'_>]) -> bool {
+    for line in expected {
+        if lines.next(source) != Ok(*line) {
+            return false;
+        }
+    }
+    true
+}
+
 #[test]
 fn lines_go_over_the_borders_of_pieces(rt: HostRuntime) -> Result<(), Fail> {
     let mut source = in_pieces(b"one\n\nthree\nlast", 2, 99);
@@ -55,9 +65,9 @@ fn lines_go_over_the_borders_of_pieces(rt: HostRuntime) -> Result<(), Fail> {
         Line::End,
         Line::End,
     ];
-    for line in expected {
-        assert_eq!(rt; lines.next(&mut source), Ok(line));
-    }
+    let are_given = gives(&mut lines, &mut source, &expected);
+    drop(lines);
+    assert!(rt; are_given);
     Ok(())
 }
 
@@ -81,18 +91,29 @@ fn the_same_lines_come_after_a_failed_read(rt: HostRuntime) -> Result<(), Fail> 
 fn nothing_is_read_behind_a_last_text(rt: HostRuntime) -> Result<(), Fail> {
     let mut source = in_pieces(b"a", 2, 2);
     let mut lines = Lines::new(rt.alloc())?;
-    for line in [Line::Text(b"a"), Line::End, Line::End] {
-        assert_eq!(rt; lines.next(&mut source), Ok(line));
-    }
-    assert!(rt; source.reads == 2 && source.failed == 0);
+    let expected = [Line::Text(b"a"), Line::End, Line::End];
+    let are_given = gives(&mut lines, &mut source, &expected);
+    drop(lines);
+    assert!(rt; are_given && source.reads == 2 && source.failed == 0);
     Ok(())
+}
+
+/// Whether a line is held or none is, this comes next, and there were so many reads by then.
+fn comes(
+    lines: &mut Lines,
+    source: &mut Pieces<'_>,
+    held: bool,
+    line: Result<Line<'_>, LineFault>,
+    reads: u64,
+) -> bool {
+    let is_held = lines.has_line();
+    lines.next(source) == line && is_held == held && source.reads == reads
 }
 
 #[test]
 fn a_line_is_held_once_its_lf_has_come(rt: HostRuntime) -> Result<(), Fail> {
     let mut source = in_pieces(b"one\ntwo\nla", 8, 2);
     let mut lines = Lines::new(rt.alloc())?;
-    // Whether a line is held, what comes next, and how many reads there were by then.
     let expected = [
         (false, Ok(Line::Text(b"one".as_slice())), 1),
         (true, Ok(Line::Text(b"two".as_slice())), 1),
@@ -101,12 +122,8 @@ fn a_line_is_held_once_its_lf_has_come(rt: HostRuntime) -> Result<(), Fail> {
         (false, Ok(Line::End), 4),
     ];
     for (held, line, reads) in expected {
-        let is_held = lines.has_line();
-        assert_eq!(rt; lines.next(&mut source), line);
-        assert!(rt;
-            is_held == held && source.reads == reads,
-            "after {reads} reads"
-        );
+        let has_come = comes(&mut lines, &mut source, held, line, reads);
+        assert!(rt; has_come, "after {reads} reads");
     }
     Ok(())
 }
@@ -124,16 +141,12 @@ fn long_text(alloc: Global, first: usize, second: usize) -> Result<Vec<u8>, Allo
 #[test]
 fn a_line_of_65536_bytes_is_long(rt: HostRuntime) -> Result<(), Fail> {
     let text = long_text(rt.alloc(), 65_535, 65_536)?;
-    let longest = vec![in rt.alloc(); b'a'; 65_535]?;
     let mut source = in_pieces(&text, 40_000, 99);
     let mut lines = Lines::new(rt.alloc())?;
-    for line in [
-        Line::Text(&longest),
-        Line::Long,
-        Line::Text(b"c"),
-        Line::End,
-    ] {
-        assert_eq!(rt; lines.next(&mut source), Ok(line));
-    }
+    let longest = text.get(..65_535).unwrap_or(b"");
+    let expected = [Line::Text(longest), Line::Long, Line::Text(b"c"), Line::End];
+    let are_given = gives(&mut lines, &mut source, &expected);
+    drop(lines);
+    assert!(rt; are_given);
     Ok(())
 }

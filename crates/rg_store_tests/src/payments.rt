@@ -1,3 +1,5 @@
+ghost use Rattle.std.specs.Prelude.{◌<◌};
+
 use rg_bytes::{Memory, put_bytes, put_u64};
 use rg_host::{Image, MemHost};
 use std::alloc::Global;
@@ -87,6 +89,14 @@ pub(crate) fn host_with(alloc: Global, bytes: &[u8], failing: &[u64]) -> Result<
     Ok(MemHost::new(alloc, image, failing.to_vec(alloc)?)?)
 }
 
+/// Sets a file of an image to a copy of these bytes.
+fn set(alloc: Global, image: &mut Image, file: u32, bytes: &[u8]) -> Result<(), Memory>
+    requires { file < 8 }
+{
+    let bytes = bytes.to_vec(alloc)?;
+    image.set(file, bytes)
+}
+
 /// A host with this log and these slots, whose calls of these numbers fail.
 pub(crate) fn store(
     alloc: Global,
@@ -96,8 +106,8 @@ pub(crate) fn store(
     failing: &[u64],
 ) -> Result<MemHost, Fail> {
     let mut image = Image::new(alloc);
-    image.set(0, first.to_vec(alloc)?)?;
-    image.set(1, second.to_vec(alloc)?)?;
-    image.set(2, log.to_vec(alloc)?)?;
+    set(alloc, &mut image, 0, first)?;
+    set(alloc, &mut image, 1, second)?;
+    set(alloc, &mut image, 2, log)?;
     Ok(MemHost::new(alloc, image, failing.to_vec(alloc)?)?)
 }

@@ -4,11 +4,10 @@ ghost use Rattle.rg_reservoir.specs.Kept.{log_of, opened};
 
 use crate::payments::{FILE, SCHEMA, WRITTEN, host_with};
 use rg_event::{Event, Room, Schema, Value, Values, Word};
-use rg_host::{FuseHost, Host};
+use rg_host::{FuseHost, Host, MemHost};
 use rg_past::{Past, PastFault, Spot};
 use rg_reservoir::{Reservoir, ReservoirFault, Stage, Stored, Walk};
 use std::alloc::Global;
-use std::process::Abort;
 use std::test::Fail;
 
 /// The frame of a chunk of one payment more, and a closed gate.
@@ -75,6 +74,39 @@ fn put<H: Host>(reservoir: &mut Reservoir, host: &mut H, event: Event) -> Result
     }
 }
 
+/// A reservoir of the log with this schema, with chunks of one event.
+fn attached<H: Host>(
+    alloc: Global,
+    host: &mut H,
+    text: &[u8],
+    cache: u32,
+) -> Result<Reservoir, ReservoirFault>
+    requires { (1 ≤ cache) × (cache ≤ 1024) }
+    ensures reaches { IfOk result (λ r. ReachesEnd (log_of r) (H.now host.new)) }
+    ensures empty { IfOk result (λ r. opened r ≡ []) }
+{
+    let room = Room {
+        chunk: 1,
+        cache,
+        limit: 100,
+    };
+    let schema = schema(alloc, text)?;
+    Reservoir::attach(alloc, host, &schema, room)
+}
+
+/// Puts three events of offset 0, 1 and 2, without columns.
+fn put_three<H: Host>(
+    alloc: Global,
+    reservoir: &mut Reservoir,
+    host: &mut H,
+) -> Result<(), ReservoirFault>
+    requires { ReachesEnd (log_of reservoir.old) (H.now host.old) }
+{
+    put(reservoir, host, bare(alloc, 0))?;
+    put(reservoir, host, bare(alloc, 1))?;
+    put(reservoir, host, bare(alloc, 2))
+}
+
 /// A reservoir with a chunk for each of three events, without columns, of offset 0, 1 and 2.
 pub(crate) fn three<H: Host>(
     alloc: Global,
@@ -83,19 +115,8 @@ pub(crate) fn three<H: Host>(
 ) -> Result<Reservoir, ReservoirFault>
     requires { (1 ≤ cache) × (cache ≤ 1024) }
 {
-    let room = Room {
-        chunk: 1,
-        cache,
-        limit: 100,
-    };
-    let schema = schema(alloc, b"payments(ts)")?;
-    let mut reservoir = match Reservoir::attach(alloc, host, &schema, room) {
-        Ok(reservoir) => reservoir,
-        Err(fault) => return Err(fault),
-    };
-    put(&mut reservoir, host, bare(alloc, 0))?;
-    put(&mut reservoir, host, bare(alloc, 1))?;
-    put(&mut reservoir, host, bare(alloc, 2))?;
+    let mut reservoir = attached(alloc, host, b"payments(ts)", cache)?;
+    put_three(alloc, &mut reservoir, host)?;
     Ok(reservoir)
 }
 
@@ -127,32 +148,44 @@ pub(crate) fn shows<H: Host>(
     }
 }
 
-/// How many chunks were loaded, and how many are held, after two looks at event 0 and two at event
-/// 2, in turn. One more look at event 2 reads nothing.
-fn looks(alloc: Global, cache: u32) -> Result<(u64, u32), Fail>
-    requires { (1 ≤ cache) × (cache ≤ 1024) }
-{
-    let mut host = host_with(alloc, &[], &[])?;
-    let mut reservoir = three(alloc, &mut host, cache)?;
+/// Whether two looks at event 0 and two at event 2, in turn, show them, and one more look at event 2 reads nothing.
+fn look_twice(reservoir: &mut Reservoir, host: &mut MemHost) -> Result<bool, ReservoirFault> {
     let (first, last) = (spot(22, 0, 0), spot(154, 0, 2));
     for _ in 0..2u32 {
-        let is_first = shows(&mut reservoir, &mut host, &first, 0)?;
-        if !is_first || !shows(&mut reservoir, &mut host, &last, 2)? {
-            return Err(Fail::new("another event was shown"));
+        let is_first = shows(reservoir, host, &first, 0)?;
+        if !is_first || !shows(reservoir, host, &last, 2)? {
+            return Ok(false);
         }
     }
     let reads = host.count_reads();
-    let is_last = shows(&mut reservoir, &mut host, &last, 2)?;
-    if !is_last || host.count_reads() != reads {
-        return Err(Fail::new("a chunk that is held was read"));
-    }
-    Ok((reservoir.loads(), reservoir.held()))
+    Ok(shows(reservoir, host, &last, 2)? && host.count_reads() == reads)
+}
+
+/// Whether that is so, and then how many chunks were loaded, and how many are held.
+fn looks_on(
+    alloc: Global,
+    host: &mut MemHost,
+    cache: u32,
+) -> Result<(bool, u64, u32), ReservoirFault>
+    requires { (1 ≤ cache) × (cache ≤ 1024) }
+{
+    let mut reservoir = three(alloc, host, cache)?;
+    let is_so = look_twice(&mut reservoir, host)?;
+    Ok((is_so, reservoir.loads(), reservoir.held()))
+}
+
+/// The same on a host of its own.
+fn looks(alloc: Global, cache: u32) -> Result<(bool, u64, u32), Fail>
+    requires { (1 ≤ cache) × (cache ≤ 1024) }
+{
+    let mut host = host_with(alloc, &[], &[])?;
+    Ok(looks_on(alloc, &mut host, cache)?)
 }
 
 #[test]
 fn a_cache_of_one_loads_a_chunk_again(rt: HostRuntime) -> Result<(), Fail> {
-    assert_eq!(rt; looks(rt.alloc(), 1)?, (4, 1));
-    assert_eq!(rt; looks(rt.alloc(), 2)?, (2, 2));
+    assert_eq!(rt; looks(rt.alloc(), 1)?, (true, 4, 1));
+    assert_eq!(rt; looks(rt.alloc(), 2)?, (true, 2, 2));
     Ok(())
 }
 
@@ -200,114 +233,172 @@ pub(crate) fn payments<H: Host>(alloc: Global, host: &mut H) -> Result<Reservoir
     Reservoir::attach(alloc, host, &schema, room)
 }
 
+/// Begins a log and commits two payments. Whether the log was of 58 bytes and without payments before.
+fn write_two(alloc: Global, host: &mut MemHost) -> Result<bool, ReservoirFault> {
+    let mut reservoir = payments(alloc, host)?;
+    let is_new = host.file(2).len() == 58 && reservoir.last_time().is_none();
+    commit_two(alloc, &mut reservoir, host)?;
+    Ok(is_new)
+}
+
 #[test]
 fn a_log_is_written_as_the_format_says(rt: HostRuntime) -> Result<(), Fail> {
-    let alloc = rt.alloc();
-    let mut host = host_with(alloc, &[], &[])?;
-    let mut reservoir = payments(alloc, &mut host)?;
-    assert!(rt; host.file(2).len() == 58 && reservoir.last_time().is_none());
-    commit_two(alloc, &mut reservoir, &mut host)?;
-    assert_eq!(rt; host.file(2), WRITTEN.as_slice());
+    let mut host = host_with(rt.alloc(), &[], &[])?;
+    let is_new = write_two(rt.alloc(), &mut host)?;
+    let is_written = host.file(2) == WRITTEN.as_slice();
+    drop(host);
+    assert!(rt; is_new && is_written);
     Ok(())
+}
+
+/// Puts the third payment into a log of two.
+fn write_third(alloc: Global, host: &mut MemHost) -> Result<(), ReservoirFault> {
+    let mut reservoir = payments(alloc, host)?;
+    let third = payment(alloc, 2, 300_000, b"m1", 50)?;
+    put(&mut reservoir, host, third)
+}
+
+/// Whether these bytes stand at these places.
+fn has_bytes(bytes: &[u8], rows: &[(usize, u8)]) -> bool {
+    for (at, byte) in rows {
+        if bytes.get(*at) != Some(byte) {
+            return false;
+        }
+    }
+    true
+}
+
+/// Whether a log has two payments as a run writes them, the third one, and the gates of that.
+fn is_of_two_chunks(log: &[u8]) -> bool {
+    let has_third = log.len() == 237 && log.get(154..) == Some(THIRD.as_slice());
+    let has_two = log.get(..154) == WRITTEN.get(..154);
+    has_third && has_two && has_bytes(log, &[(0, 1), (57, 1), (154, 1), (236, 0)])
 }
 
 #[test]
 fn a_log_of_two_chunks_has_its_gates_where_the_format_says(rt: HostRuntime) -> Result<(), Fail> {
-    let alloc = rt.alloc();
-    let mut host = host_with(alloc, &[], &[])?;
-    let mut reservoir = payments(alloc, &mut host)?;
-    commit_two(alloc, &mut reservoir, &mut host)?;
-    let third = payment(alloc, 2, 300_000, b"m1", 50)?;
-    put(&mut reservoir, &mut host, third)?;
-    let log = host.file(2);
-    let has_third = log.len() == 237 && log.get(154..) == Some(THIRD.as_slice());
-    assert!(rt; has_third && log.get(..154) == WRITTEN.get(..154));
-    for (at, gate) in [(0, 1u8), (57, 1), (154, 1), (236, 0)] {
-        assert_eq!(rt; log.get(at), Some(&gate));
-    }
+    let mut host = host_with(rt.alloc(), &[], &[])?;
+    write_two(rt.alloc(), &mut host)?;
+    write_third(rt.alloc(), &mut host)?;
+    let is_written = is_of_two_chunks(host.file(2));
+    drop(host);
+    assert!(rt; is_written);
     Ok(())
+}
+
+/// Whether a log has two payments by rows, and then the third one.
+fn is_of_rows_and_third(log: &[u8]) -> bool {
+    log.get(..163) == FILE.get(..163) && log.get(163..) == Some(THIRD.as_slice())
+}
+
+/// Whether a past over the payments of a host meets events of these offsets, and then the end.
+fn meets(alloc: Global, host: &mut MemHost, offsets: &[u64]) -> Result<bool, ReservoirFault> {
+    let mut reservoir = payments(alloc, host)?;
+    let mut past = Stored::new(&mut reservoir, host);
+    Ok(walk(&mut past, offsets) == Ok(true))
 }
 
 #[test]
 fn a_log_of_rows_goes_on_by_columns(rt: HostRuntime) -> Result<(), Fail> {
-    let alloc = rt.alloc();
-    let mut host = host_with(alloc, &FILE, &[])?;
-    let mut reservoir = payments(alloc, &mut host)?;
-    let third = payment(alloc, 2, 300_000, b"m1", 50)?;
-    put(&mut reservoir, &mut host, third)?;
-    let is_kept = host.file(2).get(..163) == FILE.get(..163);
-    assert!(rt; is_kept && host.file(2).get(163..) == Some(THIRD.as_slice()));
-    let mut past = Stored::new(&mut reservoir, &mut host);
-    assert!(rt; walk(&rt, &mut past, &[0, 1, 2]).is_ok());
+    let mut host = host_with(rt.alloc(), &FILE, &[])?;
+    write_third(rt.alloc(), &mut host)?;
+    let is_written = is_of_rows_and_third(host.file(2));
+    let has_all = meets(rt.alloc(), &mut host, &[0, 1, 2])?;
+    drop(host);
+    assert!(rt; is_written && has_all);
     Ok(())
+}
+
+/// How many payments a log has that is attached, how many are committed, the next offset, and the last time.
+fn numbers(
+    alloc: Global,
+    host: &mut MemHost,
+) -> Result<(u64, u64, u64, Option<u64>), ReservoirFault> {
+    let reservoir = payments(alloc, host)?;
+    let count = reservoir.count();
+    let committed = reservoir.committed();
+    Ok((
+        count,
+        committed,
+        reservoir.next_offset(),
+        reservoir.last_time(),
+    ))
 }
 
 #[test]
 fn a_log_is_attached_again(rt: HostRuntime) -> Result<(), Fail> {
     let mut host = host_with(rt.alloc(), &FILE, &[])?;
-    let reservoir = payments(rt.alloc(), &mut host)?;
-    let counts = (
-        reservoir.count(),
-        reservoir.committed(),
-        reservoir.next_offset(),
-    );
-    assert_eq!(rt; counts, (2, 2, 2));
-    assert_eq!(rt; reservoir.last_time(), Some(299_999));
-    assert_eq!(rt; host.file(2), FILE.as_slice());
+    let numbers = numbers(rt.alloc(), &mut host)?;
+    let is_kept = host.file(2) == FILE.as_slice();
+    drop(host);
+    assert!(rt; is_kept && numbers == (2, 2, 2, Some(299_999)));
     Ok(())
 }
 
-/// Meets events of these offsets from the start on, and then the end.
-fn walk<P: Past>(rt: &impl Abort, past: &mut P, offsets: &[u64]) -> Result<(), PastFault> {
+/// Whether events of these offsets are met from the start on, and then the end.
+fn walk<P: Past>(past: &mut P, offsets: &[u64]) -> Result<bool, PastFault> {
     let mut spot = past.start();
     for offset in offsets {
         match past.peek(&mut spot)? {
             Some(event) => {
-                assert_eq!(rt; event.offset, *offset);
+                if event.offset != *offset {
+                    return Ok(false);
+                }
                 past.advance(&mut spot);
             }
-            None => panic!(rt; "the end stands before offset {offset}"),
+            None => return Ok(false),
         }
     }
-    assert!(rt; past.peek(&mut spot)?.is_none());
-    Ok(())
+    Ok(past.peek(&mut spot)?.is_none())
+}
+
+/// Whether a past over three events in a chunk each meets them.
+fn meets_three(alloc: Global) -> Result<bool, Fail> {
+    let mut host = host_with(alloc, &[], &[])?;
+    let mut reservoir = three(alloc, &mut host, 1)?;
+    let mut past = Stored::new(&mut reservoir, &mut host);
+    Ok(walk(&mut past, &[0, 1, 2]) == Ok(true))
 }
 
 #[test]
 fn a_past_over_a_disk_meets_each_event(rt: HostRuntime) -> Result<(), Fail> {
-    let mut host = host_with(rt.alloc(), &[], &[])?;
-    let mut reservoir = three(rt.alloc(), &mut host, 1)?;
-    let mut past = Stored::new(&mut reservoir, &mut host);
-    assert!(rt; walk(&rt, &mut past, &[0, 1, 2]).is_ok());
+    let has_met = meets_three(rt.alloc())?;
+    assert!(rt; has_met);
     Ok(())
+}
+
+/// What the next frame of a walk is: 0 for a schema, how many events a chunk has, and none at the end.
+fn next_count(frames: &mut Walk, host: &mut MemHost) -> Result<Option<u32>, ReservoirFault> {
+    match frames.next(host)? {
+        Some(Stage::Schema(_)) => Ok(Some(0)),
+        Some(Stage::Chunk(chunk)) => Ok(Some(chunk.count())),
+        None => Ok(None),
+    }
+}
+
+/// What the first three frames of a log are.
+fn first_counts(alloc: Global, host: &mut MemHost) -> Result<[Option<u32>; 3], ReservoirFault> {
+    let mut frames = Walk::new(alloc);
+    let first = next_count(&mut frames, host)?;
+    let second = next_count(&mut frames, host)?;
+    Ok([first, second, next_count(&mut frames, host)?])
 }
 
 #[test]
 fn a_walk_meets_each_frame(rt: HostRuntime) -> Result<(), Fail> {
     let mut host = host_with(rt.alloc(), &FILE, &[])?;
-    let mut frames = Walk::new(rt.alloc());
-    let first = frames.next(&mut host)?;
-    let is_schema = matches!(&first, Some(Stage::Schema(_)));
-    let second = frames.next(&mut host)?;
-    let has_two = match &second {
-        Some(Stage::Chunk(chunk)) => chunk.count() == 2,
-        _ => false,
-    };
-    assert!(rt; is_schema && has_two);
-    assert!(rt; frames.next(&mut host)?.is_none());
+    let counts = first_counts(rt.alloc(), &mut host)?;
+    drop(host);
+    assert_eq!(rt; counts, [Some(0), Some(2), None]);
     Ok(())
 }
 
 /// How many events the chunk behind the first frame has, or why a walk refuses it.
-fn second(alloc: Global, bytes: &[u8]) -> Result<Result<u32, ReservoirFault>, Fail> {
+fn second(alloc: Global, bytes: &[u8]) -> Result<Result<Option<u32>, ReservoirFault>, Fail> {
     let mut host = host_with(alloc, bytes, &[])?;
     let mut frames = Walk::new(alloc);
-    frames.next(&mut host)?;
-    match frames.next(&mut host) {
-        Ok(Some(Stage::Chunk(chunk))) => Ok(Ok(chunk.count())),
-        Ok(_) => Err(Fail::new("the chunk is missing")),
-        Err(fault) => Ok(Err(fault)),
-    }
+    next_count(&mut frames, &mut host)?;
+    Ok(next_count(&mut frames, &mut host))
 }
 
 #[test]
@@ -323,7 +414,7 @@ fn a_chunk_of_bad_columns_is_refused_where_it_stands(rt: HostRuntime) -> Result<
         let refused = second(alloc, &bytes)?;
         assert_eq!(rt; refused, Err(ReservoirFault::Damaged(57)), "{byte} at {at}");
     }
-    assert_eq!(rt; second(alloc, &WRITTEN)?, Ok(2));
+    assert_eq!(rt; second(alloc, &WRITTEN)?, Ok(Some(2)));
     Ok(())
 }
 
@@ -350,7 +441,7 @@ fn refusal(
 }
 
 /// The bytes of a log whose frames stand at 0, 22, 88 and 154, and which ends at 220.
-fn sound_bytes(alloc: Global) -> Result<Vec<u8>, Fail> {
+pub(crate) fn sound_bytes(alloc: Global) -> Result<Vec<u8>, Fail> {
     let mut host = host_with(alloc, &[], &[])?;
     three(alloc, &mut host, 1)?;
     Ok(host.file(2).to_vec(alloc)?)
@@ -371,7 +462,8 @@ fn a_bad_log_is_refused_at_its_first_bad_frame(rt: HostRuntime) -> Result<(), Fa
         (183, 9, Some(ReservoirFault::Damaged(154))),
     ];
     for (at, byte, fault) in rows {
-        assert_eq!(rt; refusal(alloc, &bytes, at, byte, b"payments(ts)")?, fault);
+        let refused = refusal(alloc, &bytes, at, byte, b"payments(ts)")?;
+        assert!(rt; refused == fault, "{byte} at {at}");
     }
     Ok(())
 }
@@ -399,21 +491,36 @@ fn a_cut_log_is_refused_at_its_last_frame(rt: HostRuntime) -> Result<(), Fail> {
     Ok(())
 }
 
-/// Whether these spots name events or the end of a log, which is attached first. No chunk is loaded.
-fn names_in(alloc: Global, bytes: &[u8], text: &[u8], spots: &[Spot]) -> Result<bool, Fail> {
-    let mut host = host_with(alloc, bytes, &[])?;
-    let room = Room {
-        chunk: 1,
-        cache: 1,
-        limit: 100,
-    };
-    let schema = schema(alloc, text)?;
-    let reservoir = Reservoir::attach(alloc, &mut host, &schema, room)?;
-    let named = reservoir.names(&mut host, spots)?;
+/// Whether these spots name events or the end of a host's log, which is attached first; none where a chunk was loaded.
+fn names_over(
+    alloc: Global,
+    host: &mut MemHost,
+    text: &[u8],
+    spots: &[Spot],
+) -> Result<Option<bool>, ReservoirFault> {
+    let reservoir = attached(alloc, host, text, 1)?;
+    let named = reservoir.names(host, spots)?;
     if reservoir.loads() > 0 || reservoir.held() > 0 {
-        return Err(Fail::new("a chunk was loaded"));
+        return Ok(None);
     }
-    Ok(named)
+    Ok(Some(named))
+}
+
+/// The same of a log of these bytes.
+fn names_in(
+    alloc: Global,
+    bytes: &[u8],
+    text: &[u8],
+    spots: &[Spot],
+) -> Result<Option<bool>, Fail> {
+    let mut host = host_with(alloc, bytes, &[])?;
+    Ok(names_over(alloc, &mut host, text, spots)?)
+}
+
+/// The same of a spot in a log of three events, in a chunk each.
+fn names_in_three(alloc: Global, spot: Spot) -> Result<Option<bool>, Fail> {
+    let bytes = sound_bytes(alloc)?;
+    names_in(alloc, &bytes, b"payments(ts)", &[spot])
 }
 
 pub(crate) fn spot(place: u64, index: u32, number: u64) -> Spot {
@@ -426,31 +533,38 @@ pub(crate) fn spot(place: u64, index: u32, number: u64) -> Spot {
 
 #[test]
 fn a_spot_is_named_in_each_of_its_spellings(rt: HostRuntime) -> Result<(), Fail> {
-    let alloc = rt.alloc();
-    let bytes = sound_bytes(alloc)?;
-    let rows: [(Spot, bool); 16] = [
-        (spot(22, 0, 0), true),
-        (spot(22, 1, 1), true),
-        (spot(88, 0, 1), true),
-        (spot(88, 1, 2), true),
-        (spot(154, 0, 2), true),
-        (spot(154, 1, 3), true),
-        (spot(220, 0, 3), true),
+    for spot in [
+        spot(22, 0, 0),
+        spot(22, 1, 1),
+        spot(88, 0, 1),
+        spot(88, 1, 2),
+        spot(154, 0, 2),
+        spot(154, 1, 3),
+        spot(220, 0, 3),
+    ] {
+        let named = names_in_three(rt.alloc(), spot)?;
+        assert!(rt; named == Some(true), "at {spot:?}");
+    }
+    Ok(())
+}
+
+#[test]
+fn another_spot_is_not_named(rt: HostRuntime) -> Result<(), Fail> {
+    for spot in [
         // Another number, a place inside a chunk and one inside a frame's length.
-        (spot(22, 0, 1), false),
-        (spot(88, 0, 0), false),
-        (spot(60, 0, 0), false),
-        (spot(23, 0, 0), false),
+        spot(22, 0, 1),
+        spot(88, 0, 0),
+        spot(60, 0, 0),
+        spot(23, 0, 0),
         // An index one past the count, the schema's frame, and what is behind the end.
-        (spot(22, 2, 2), false),
-        (spot(0, 0, 0), false),
-        (spot(220, 1, 3), false),
-        (spot(220, 0, 4), false),
-        (spot(221, 0, 3), false),
-    ];
-    for (spot, want) in rows {
-        let is = names_in(alloc, &bytes, b"payments(ts)", &[spot])?;
-        assert_eq!(rt; is, want, "at {spot:?}");
+        spot(22, 2, 2),
+        spot(0, 0, 0),
+        spot(220, 1, 3),
+        spot(220, 0, 4),
+        spot(221, 0, 3),
+    ] {
+        let named = names_in_three(rt.alloc(), spot)?;
+        assert!(rt; named == Some(false), "at {spot:?}");
     }
     Ok(())
 }
@@ -475,11 +589,8 @@ fn each_spot_of_a_list_is_looked_at(rt: HostRuntime) -> Result<(), Fail> {
         (&[spot(57, 0, 0), spot(58, 0, 0), spot(57, 1, 1)], false),
     ];
     for (spots, want) in rows {
-        assert_eq!(rt;
-            names_in(alloc, &FILE, SCHEMA, spots)?,
-            want,
-            "at {spots:?}"
-        );
+        let named = names_in(alloc, &FILE, SCHEMA, spots)?;
+        assert_eq!(rt; named, Some(want), "at {spots:?}");
     }
     Ok(())
 }
@@ -492,11 +603,8 @@ fn without_a_chunk_the_end_is_behind_the_first_frame(rt: HostRuntime) -> Result<
         (spot(0, 0, 0), false),
         (spot(22, 1, 0), false),
     ] {
-        assert_eq!(rt;
-            names_in(alloc, &[], b"payments(ts)", &[at])?,
-            want,
-            "at {at:?}"
-        );
+        let named = names_in(alloc, &[], b"payments(ts)", &[at])?;
+        assert_eq!(rt; named, Some(want), "at {at:?}");
     }
     Ok(())
 }
@@ -507,9 +615,9 @@ fn a_failed_read_is_no_answer(rt: HostRuntime) -> Result<(), Fail> {
     let mut host = host_with(alloc, &FILE, &[])?;
     let reservoir = payments(alloc, &mut host)?;
     let mut fuse = FuseHost::new(host, 3);
-    assert_eq!(rt;
-        reservoir.names(&mut fuse, &[spot(57, 0, 0)]),
-        Err(ReservoirFault::Disk)
-    );
+    let named = reservoir.names(&mut fuse, &[spot(57, 0, 0)]);
+    drop(fuse);
+    drop(reservoir);
+    assert_eq!(rt; named, Err(ReservoirFault::Disk));
     Ok(())
 }

@@ -34,7 +34,6 @@ pub record View (K : Type 0) : Type 1 where
   pub illegal : ℕ → K → Type 0
   -- from an earlier state of one task to a later one its log stays that of the same schema, in the same file
   pub goes : K → K → Type 0
-
   pub whole : (t : K) → (at t).stored ++ (at t).chunk ≡ (at t).events
   pub next_is : (plan : Planned) (t : K) → runs plan t → (at t).next ≡ next_offset (at t).events
   pub few : (plan : Planned) (t : K) → runs plan t → length (at t).events ≤ 2 ^ 40

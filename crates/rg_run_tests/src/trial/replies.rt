@@ -6,9 +6,9 @@ use rg_bytes::{Memory, put_bytes};
 use rg_config::{Plan, read_plan};
 use rg_event::{Event, Steps};
 use rg_host::{Image, MemHost, MemSource};
+use rg_live::run;
 use rg_reply::{Reply, write_reply};
 use rg_row::read_row;
-use rg_live::run;
 use rg_scratch::{answer_from_scratch, make_line};
 use std::alloc::Global;
 use std::marker::Brand;
@@ -22,20 +22,20 @@ const SEED: u64 = 7;
 
 /// What is asked of the lines, and how much is kept.
 #[derive(Clone, Copy)]
-struct Case<'a> {
+pub(super) struct Case<'a> {
     /// The queries, each in quotes.
-    queries: &'a str,
-    settings: &'a str,
+    pub(super) queries: &'a str,
+    pub(super) settings: &'a str,
 }
 
 /// Small settings, by which chunks are read back and checkpoints saved.
-const SMALL: &str = "cache = 1\nchunk = 2\ncommit = 3\nsave = 5\n";
+pub(super) const SMALL: &str = "cache = 1\nchunk = 2\ncommit = 3\nsave = 5\n";
 
 /// Each function over a short window and a long one, without and with a key, and where nothing counts;
 /// conditions with AND, OR and NOT; delays shorter and longer than their windows; windows without end;
 /// queries that share windows, conditions and keys. Many lines are just 3758, 9739, 11618, 65727, 76906
 /// or 153812 ms apart.
-const CASES: [Case<'static>; 6] = [
+pub(super) const CASES: [Case<'static>; 6] = [
     Case {
         queries: "\"SELECT count(*), sum(amount), avg(amount), sumsq(amount), first(amount), last(amount), min(amount), max(amount), countDistinct(merchant) FROM payments OVER SLIDING 9739 ms\"",
         settings: SMALL,
@@ -63,7 +63,7 @@ const CASES: [Case<'static>; 6] = [
 ];
 
 /// The plan of a case.
-fn plan_of(alloc: Global, case: Case<'_>) -> Result<Plan, Fail>
+pub(super) fn plan_of(alloc: Global, case: Case<'_>) -> Result<Plan, Fail>
     ensures { IfOk result IsReadPlan }
 {
     let Case { queries, settings } = case;
@@ -77,7 +77,7 @@ fn plan_of(alloc: Global, case: Case<'_>) -> Result<Plan, Fail>
 }
 
 /// The first of the made lines, each with one of three shops and a flag behind it.
-fn first_lines(alloc: Global, lines: u64) -> Result<String, Fail>
+pub(super) fn first_lines(alloc: Global, lines: u64) -> Result<String, Fail>
     requires { lines ≤ 200000 }
 {
     let mut input = Vec::new(alloc);
@@ -120,7 +120,11 @@ fn reply_from_scratch(alloc: Global, plan: &Plan, events: &[Event]) -> Result<Re
 }
 
 /// The lines of the replies to an input, all from scratch.
-fn replies_from_scratch(alloc: Global, plan: &Plan, input: &str) -> Result<String, Fail> {
+pub(super) fn replies_from_scratch(
+    alloc: Global,
+    plan: &Plan,
+    input: &str,
+) -> Result<String, Fail> {
     let mut replies = Vec::new(alloc);
     let mut events = Vec::new(alloc);
     for line in input.lines() {
@@ -133,7 +137,7 @@ fn replies_from_scratch(alloc: Global, plan: &Plan, input: &str) -> Result<Strin
 }
 
 /// Runs over the store on this host, with an input whose first line has offset 0.
-fn run_on<L: Ledger>(
+pub(super) fn run_on<L: Ledger>(
     alloc: Global,
     plan: &Plan,
     input: &[u8],

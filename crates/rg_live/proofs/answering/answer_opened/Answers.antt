@@ -13,7 +13,7 @@ use Rattle.rg_live.proofs.answering.answer_opened.Goals as goal
 pub returns-clause-begun : goal.returns-clause-begun
 returns-clause-begun g c =
     back (λ (h : g.row.H.Denot). (b : Begun) (next count : ℕ) → IsToBegin (planned c.args.plan.now) b (g.I.Source.left c.args.input.now) next count c.args.from c.args.first (g.H.Host.now c.args.host.now) (g.H.Host.may c.args.host.now) (g.H.Host.said c.args.host.now) (rows.tells c.args.session.now.engine.table) (rows.cell c.args.session.now.engine.table) c.args.session.now
-        → StaysTrue g.H.Host.may g.H.Host.clock g.H.Host.since g.H.Host.said (planned c.args.plan.now) b (g.I.Source.left c.answer_over.new.input) c.answer_over.result c.args.host.now h) c.answer_over.new.live.host.now _ (search rules)
+    → StaysTrue g.H.Host.may g.H.Host.clock g.H.Host.since g.H.Host.said (planned c.args.plan.now) b (g.I.Source.left c.answer_over.new.input) c.answer_over.result c.args.host.now h) c.answer_over.new.live.host.now _ (search rules)
     (rw (c.new-live.ensures.session, c.new-live.ensures.host) at c.answer_over.ensures.begun)
 
 pub returns-clause-cause : goal.returns-clause-cause

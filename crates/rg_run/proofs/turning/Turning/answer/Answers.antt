@@ -91,7 +91,7 @@ returns-in-Err-answer_line-clause-undamaged g c = λ p placed is.
     c.answer_line.ensures.undamaged p (c.make_way.ensures.keeps.placed (planned c.args.plan.now) placed) (c.in-Err-answer_line.is ∙ is)
 
 pub answer_line-requires-clause-next : goal.answer_line-requires-clause-next
-answer_line-requires-clause-next g c = 
+answer_line-requires-clause-next g c =
     let above : (g.K.Task.view.at c.args.task.now).next ≤ c.args.self.now.offset = ltb-false _ _ (sym c.is_passed.ensures ∙ c.if-is_passed.false) in
     omega (arith, above, ap (λ (x : State). x.next) c.make_way.ensures.keeps.at_stays)
 

@@ -1,3 +1,4 @@
 pub mod Chunks
+pub mod Extended
 pub mod Faults
 pub mod Heads

@@ -1,24 +1,26 @@
-ghost use Rattle.std.specs.Prelude.{◌≡◌, ◌⊎◌, ◌≤◌, ◌<◌, ◌++◌, [], List, Ok, Err, IfOk, IfSome, All, length, slice_get, option_copied};
+ghost use Rattle.std.specs.Prelude.{◌≡◌, ◌⊎◌, ◌≤◌, ◌<◌, ◌++◌, [], List, Ok, Err, IfOk, IfSome, OnOk, OnErr, All, length, slice_get, option_copied};
 ghost use Rattle.rg_bytes.specs.Reading.{list_bytes, more_at};
 ghost use Rattle.rg_event.specs.Codec.{Agrees as AgreesAt, IsEventOf, event_bytes};
 ghost use Rattle.rg_event.specs.Rising.{IsRising};
 ghost use Rattle.rg_event.specs.declared.event.Event.{Event as TheEvent};
 ghost use Rattle.rg_column.specs.Columns.{columns_bytes};
 ghost use Rattle.rg_chunk.specs.Chunks.{Agrees, HasOffset, IsChunk, chunk_at, chunk_of, event_from_at, events_at, follows, laid_bytes, next_event_at, payload_bytes, rises_from, rising_columns_at};
+ghost use Rattle.rg_chunk.specs.Extended.{all_extended as the_extended};
 ghost use Rattle.rg_chunk.specs.declared.head.Layout.{Layout as TheLayout};
 
 use crate::fault::{ChunkFault, event_fault};
 use crate::head::{Layout, is_head_of, take_head};
+use crate::longer::all_extended;
 use rg_bytes::{ByteReader, Memory};
 use rg_column::decode_columns;
-use rg_event::{Event, EventFault, Events, Schema, decode};
+use rg_event::{Event, EventFault, Events, Schema, Values, decode};
 use std::alloc::Global;
 use std::marker::Model;
 
 /// The events of a chunk payload, the first one first. A contract sees it as their list.
 #[derive(Debug, Drop)]
 pub struct Chunk {
-    events: Events,
+    events: Vec<Event>,
 }
 
 impl Model for Chunk {
@@ -27,9 +29,9 @@ impl Model for Chunk {
 
     ghost Value = { List TheEvent };
 
-    ghost view = { λ c. c.events };
+    ghost view = { λ c. c.events.items };
 
-    ghost invariant = { λ c. (1 ≤ length c.events) × (length c.events ≤ 4096) };
+    ghost invariant = { λ c. (1 ≤ length c.events.items) × (length c.events.items ≤ 4096) };
 }
 
 impl Chunk {
@@ -46,7 +48,9 @@ impl Chunk {
                 if from.left() > 0 {
                     return Err(ChunkFault::BadChunk);
                 }
-                Ok(Chunk { events })
+                Ok(Chunk {
+                    events: events.into_vec(),
+                })
             }
             Err(fault) => Err(ChunkFault::from(fault)),
         }
@@ -58,7 +62,7 @@ impl Chunk {
         ensures some { 1 ≤ result }
         ensures few { result ≤ 4096 }
     {
-        self.events.as_slice().len() as u32
+        self.events.len() as u32
     }
 
     /// The event of that index, which begins at 0.
@@ -66,8 +70,21 @@ impl Chunk {
         ensures event { option_copied result ≡ slice_get self.now index }
         ensures few { IfSome result (λ _. index < 4096) }
     {
-        let events = self.events.as_slice();
-        events.get(index as usize)
+        self.events.get(index as usize)
+    }
+
+    /// Puts these values behind those of each event. Where memory runs out all events are as they were.
+    pub fn extend(&mut self, values: &Values) -> Result<(), Memory>
+        ensures ok { OnOk result (self.new ≡ the_extended values.now self.old) }
+        ensures err { OnErr result (self.new ≡ self.old) }
+    {
+        match all_extended(*self.events.allocator(), &self.events, values) {
+            Ok(longer) => {
+                self.events = longer;
+                Ok(())
+            }
+            Err(memory) => Err(memory),
+        }
     }
 }
 

@@ -7,6 +7,7 @@
 mod chunk;
 mod fault;
 mod head;
+mod longer;
 mod open;
 
 pub use chunk::Chunk;

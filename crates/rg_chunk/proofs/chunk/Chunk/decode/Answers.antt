@@ -1,4 +1,5 @@
-use Rattle.std.proofs.Common.{◌≡◌, ◌⊎◌, ◌<◌, ◌++◌, length, Ok, Err, rules}
+use Rattle.std.proofs.Common.{◌≡◌, ◌∙◌, ◌⊎◌, ◌<◌, ◌++◌, List, length, Some, Ok, Err, ap, sym, rules}
+use Rattle.rg_event.specs.declared.event.Event.{Event}
 use Rattle.rg_event.specs.declared.codec.EventFault.TheVariants.{Memory}
 use Rattle.rg_chunk.specs.Chunks.{chunk_at, payload_bytes}
 use Rattle.rg_chunk.specs.declared.fault.ChunkFault.TheVariants.{BadChunk}
@@ -18,17 +19,17 @@ pub returns-else-left-gt0-clause-agrees : goal.returns-else-left-gt0-clause-agre
 returns-else-left-gt0-clause-agrees c =
     let read : chunk_at c.args.schema.now.fields c.args.payload.now ≡ Ok (c.in-Ok.events, c.take_chunk.new.from) = search rules in
     let none : length c.take_chunk.new.from ≡ 0 = search rules in
-    whole_all _ c.in-Ok.events c.take_chunk.new.from read none
+    whole_all _ c.in-Ok.events c.take_chunk.new.from read none ∙ ap (λ (events : List Event). Some events) (sym c.into_vec.ensures)
 
 pub returns-else-left-gt0-clause-bytes : goal.returns-else-left-gt0-clause-bytes
 returns-else-left-gt0-clause-bytes c =
     let none : length c.take_chunk.new.from ≡ 0 = search rules in
     let laid = c.in-Ok.ensures.ok in
     let stood : c.args.payload.now ≡ payload_bytes laid.0 c.args.schema.now.fields c.in-Ok.events ++ c.take_chunk.new.from = search (rules, laid.1) in
-    (laid.0, nothing_left c.args.payload.now (payload_bytes laid.0 c.args.schema.now.fields c.in-Ok.events) c.take_chunk.new.from stood none)
+    (laid.0, nothing_left c.args.payload.now (payload_bytes laid.0 c.args.schema.now.fields c.in-Ok.events) c.take_chunk.new.from stood none ∙ ap (payload_bytes laid.0 c.args.schema.now.fields) (sym c.into_vec.ensures))
 
 pub returns-else-left-gt0-clause-reads_back : goal.returns-else-left-gt0-clause-reads_back
-returns-else-left-gt0-clause-reads_back c layout events is stood = chunk_reads_back layout c.args.schema.now.fields c.args.payload.now (Ok c.in-Ok.events) events (returns-else-left-gt0-clause-agrees c) is stood
+returns-else-left-gt0-clause-reads_back c layout events is stood = chunk_reads_back layout c.args.schema.now.fields c.args.payload.now (Ok c.into_vec.result.items) events (returns-else-left-gt0-clause-agrees c) is stood
 
 pub returns-in-Err-clause-agrees : goal.returns-in-Err-clause-agrees
 returns-in-Err-clause-agrees c =

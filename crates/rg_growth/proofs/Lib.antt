@@ -1,0 +1,4 @@
+pub mod Grown
+pub mod Lengths
+pub mod Read
+pub mod Whole

@@ -117,6 +117,24 @@ impl Key {
         })
     }
 
+    /// Gives it the bytes of another key, in the room that it has where that is enough. Where memory runs
+    /// out it has none.
+    pub fn set_to(&mut self, other: &Key) -> Result<(), Memory>
+        ensures bytes { OnOk result (self.new ≡ other.now) }
+    {
+        self.bytes.clear();
+        match self.bytes.extend_from_slice(&other.bytes) {
+            Ok(()) => {
+                self.head = other.head;
+                Ok(())
+            }
+            Err(_) => {
+                self.head = 0;
+                Err(Memory)
+            }
+        }
+    }
+
     pub fn as_slice(&self) -> &[u8]
         ensures { result.now ≡ self.now }
     {

@@ -6,7 +6,9 @@ pub mod Since
 pub mod Marking
 pub mod Stepping
 pub mod Unused
-pub mod Touched
+pub mod Flagged
+pub mod Named
+pub mod Ordered
 pub mod OneKind
 pub mod ReadBack
 mod Sizes

@@ -267,14 +267,14 @@ spans_few : (wanted : Wanted) (node : ℕ) (rows : List KeyRows) (pairs : List (
 spans_few wanted node rows [] = omega arith
 spans_few wanted node rows (pair ∷ pairs) = omega (arith, spans_few wanted node rows pairs, and_few (span_of wanted node pair.0 (row_at rows pair.1 node)) (node_spans wanted node rows pairs))
 
-pub ready_at : (wanted : Wanted) (map : Map) (rows : List KeyRows) (pair : List ℕ × ℕ) (left : List (List ℕ × ℕ)) (now : List Sheet) → IsBound map rows → length map.entries < 2 ^ 32 → AreBelow (length now) map rows → slot_in map pair.0 ≡ Some pair.1 →
-    ((node : ℕ) → and_spans (page_at now node) (node_spans wanted node rows left) ≡ and_spans blank (node_spans wanted node rows map.entries)) → IsReadyAt wanted pair.0 rows pair.1 now
-ready_at wanted map rows pair left now bound few below found so_far = record {
+pub ready_at : (wanted : Wanted) (map : Map) (rows : List KeyRows) (pair : List ℕ × ℕ) (left all : List (List ℕ × ℕ)) (now : List Sheet) → IsBound map rows → length all < 2 ^ 32 → AreBelow (length now) map rows → slot_in map pair.0 ≡ Some pair.1 →
+    ((node : ℕ) → and_spans (page_at now node) (node_spans wanted node rows left) ≡ and_spans blank (node_spans wanted node rows all)) → IsReadyAt wanted pair.0 rows pair.1 now
+ready_at wanted map rows pair left all now bound few below found so_far = record {
   within = within_of rows pair.1 (bound.filled pair.0 pair.1 found);
   short = bound.short pair.0 pair.1 found;
   room = λ node span is. record {
     there = seen_below map rows (length now) node pair.0 below (span_seen wanted node pair.0 span (seen_in map rows node pair.0) (ap (λ at. span_of wanted node pair.0 (slot_row rows at node)) found ∙ is));
-    few = omega (arith, few, spans_few wanted node rows map.entries, rows_same (and_spans (page_at now node) (node_spans wanted node rows left)) (and_spans blank (node_spans wanted node rows map.entries)) (so_far node));
+    few = omega (arith, few, spans_few wanted node rows all, rows_same (and_spans (page_at now node) (node_spans wanted node rows left)) (and_spans blank (node_spans wanted node rows all)) (so_far node));
   };
 }
 

@@ -34,7 +34,7 @@ row_set [] slot node r within = absurd (omega arith)
 row_set (x ∷ rows) zero node r within = refl
 row_set (x ∷ rows) (suc slot) node r within = row_set rows slot node r (omega arith)
 
-count_set : (rows : List KeyRows) (slot : ℕ) (r : KeyRows) → slot < length rows → count_at (set rows slot r) slot ≡ length r.kept.items
+pub count_set : (rows : List KeyRows) (slot : ℕ) (r : KeyRows) → slot < length rows → count_at (set rows slot r) slot ≡ length r.kept.items
 count_set [] slot r within = absurd (omega arith)
 count_set (x ∷ rows) zero r within = refl
 count_set (x ∷ rows) (suc slot) r within = count_set rows slot r (omega arith)
@@ -46,19 +46,19 @@ row_beside (x ∷ rows) zero (suc other) node r apart = refl
 row_beside (x ∷ rows) (suc slot) zero node r apart = refl
 row_beside (x ∷ rows) (suc slot) (suc other) node r apart = row_beside rows slot other node r (λ e. apart (ap suc e))
 
-count_beside : (rows : List KeyRows) (slot other : ℕ) (r : KeyRows) → (other ≡ slot → ⊥) → count_at (set rows slot r) other ≡ count_at rows other
+pub count_beside : (rows : List KeyRows) (slot other : ℕ) (r : KeyRows) → (other ≡ slot → ⊥) → count_at (set rows slot r) other ≡ count_at rows other
 count_beside [] slot other r apart = refl
 count_beside (x ∷ rows) zero zero r apart = absurd (apart refl)
 count_beside (x ∷ rows) zero (suc other) r apart = refl
 count_beside (x ∷ rows) (suc slot) zero r apart = refl
 count_beside (x ∷ rows) (suc slot) (suc other) r apart = count_beside rows slot other r (λ e. apart (ap suc e))
 
-is_apart : (n m : ℕ) → (n == m) ≡ false → n ≡ m → ⊥
+pub is_apart : (n m : ℕ) → (n == m) ≡ false → n ≡ m → ⊥
 is_apart n m d e = true≢false (sym ((Decides-eqb n m).1 e) ∙ d)
 
 -- a slot more, without rows
 
-empty_row : (ks : List Kept) (node : ℕ) → length ks ≡ 0 → seen_at ks node ≡ unseen
+pub empty_row : (ks : List Kept) (node : ℕ) → length ks ≡ 0 → seen_at ks node ≡ unseen
 empty_row [] node none = refl
 empty_row (k ∷ ks) node none = absurd (omega arith)
 
@@ -68,7 +68,7 @@ row_pushed [] r (suc slot) node none = refl
 row_pushed (x ∷ rows) r zero node none = refl
 row_pushed (x ∷ rows) r (suc slot) node none = row_pushed rows r slot node none
 
-count_pushed : (rows : List KeyRows) (r : KeyRows) (slot : ℕ) → length r.kept.items ≡ 0 → count_at (rows ++ r ∷ []) slot ≡ count_at rows slot
+pub count_pushed : (rows : List KeyRows) (r : KeyRows) (slot : ℕ) → length r.kept.items ≡ 0 → count_at (rows ++ r ∷ []) slot ≡ count_at rows slot
 count_pushed [] r zero none = none
 count_pushed [] r (suc slot) none = refl
 count_pushed (x ∷ rows) r zero none = refl
@@ -163,7 +163,7 @@ apart_false key other apart = is_eq-slice_cmp key other ∙ is_false (bytes_eq k
 stays_for : (old new : Map) (key : List ℕ) (slot : ℕ) → Updates (slice_cmp nat_cmp) old new key (Some slot) → (k : List ℕ) → (k ≡ key → ⊥) → slot_in new k ≡ slot_in old k
 stays_for old new key slot updates k apart = updates.2 k (apart_false key k apart)
 
-not_equal : (key k : List ℕ) → bytes_eq key k ≡ false → k ≡ key → ⊥
+pub not_equal : (key k : List ℕ) → bytes_eq key k ≡ false → k ≡ key → ⊥
 not_equal key k d e = true≢false (sym ((bytes_decides key k).1 (sym e)) ∙ d)
 
 pub others_opened : (old new : Map) (rows : List KeyRows) (key : List ℕ) (slot : ℕ) (r : KeyRows) → IsBound old rows → count_at rows slot ≡ 0 → Updates (slice_cmp nat_cmp) old new key (Some slot) →
@@ -238,7 +238,7 @@ none_past (r ∷ rows) (suc slot) node past = none_past rows slot node (omega ar
 lost : (old new : Map) (key : List ℕ) → UpdatesBy (slice_cmp nat_cmp) (slice_cmp nat_cmp key) old new None → slot_in new key ≡ None
 lost old new key updates = updates.1
 
-stays_lost : (old new : Map) (key : List ℕ) → UpdatesBy (slice_cmp nat_cmp) (slice_cmp nat_cmp key) old new None → (k : List ℕ) → (k ≡ key → ⊥) → slot_in new k ≡ slot_in old k
+pub stays_lost : (old new : Map) (key : List ℕ) → UpdatesBy (slice_cmp nat_cmp) (slice_cmp nat_cmp key) old new None → (k : List ℕ) → (k ≡ key → ⊥) → slot_in new k ≡ slot_in old k
 stays_lost old new key updates k apart = updates.2 k (apart_false key k apart)
 
 -- a key that has a slot then had it before, and is another one
@@ -265,7 +265,7 @@ bound_lost old new rows key slot r bound found ordered updates = record {
 pub cell_lost : (old new : Map) (rows : List KeyRows) (key : List ℕ) (n : ℕ) → UpdatesBy (slice_cmp nat_cmp) (slice_cmp nat_cmp key) old new None → seen_in new rows n key ≡ unseen
 cell_lost old new rows key n updates = ap (λ at. row_by rows at n) (lost old new key updates)
 
-beside_lost : (old : Map) (rows : List KeyRows) (key : List ℕ) (slot : ℕ) (r : KeyRows) (n : ℕ) (k : List ℕ) (at : Option ℕ) → IsBound old rows → slot_in old key ≡ Some slot → (k ≡ key → ⊥) → slot_in old k ≡ at → row_by (set rows slot r) at n ≡ row_by rows at n
+pub beside_lost : (old : Map) (rows : List KeyRows) (key : List ℕ) (slot : ℕ) (r : KeyRows) (n : ℕ) (k : List ℕ) (at : Option ℕ) → IsBound old rows → slot_in old key ≡ Some slot → (k ≡ key → ⊥) → slot_in old k ≡ at → row_by (set rows slot r) at n ≡ row_by rows at n
 beside_lost old rows key slot r n k None bound found apart is = refl
 beside_lost old rows key slot r n k (Some other) bound found apart is = row_beside rows slot other n r (λ e. apart (bound.apart k key slot (is ∙ ap Some e) found))
 

@@ -12,13 +12,13 @@ is_false true never = absurd (never refl)
 is_false false never = refl
 
 -- 1 where two numbers are the same, and else 0
-abbrev one_at : ℕ → ℕ → ℕ
+abbrev pub one_at : ℕ → ℕ → ℕ
 one_at n m = cond (n == m) 1 0
 
-one_same : (n : ℕ) → one_at n n ≡ 1
+pub one_same : (n : ℕ) → one_at n n ≡ 1
 one_same n = ap (λ b. cond b 1 0) ((Decides-eqb n n).1 refl)
 
-one_apart : (n m : ℕ) → (n ≡ m → ⊥) → one_at n m ≡ 0
+pub one_apart : (n m : ℕ) → (n ≡ m → ⊥) → one_at n m ≡ 0
 one_apart n m apart = ap (λ b. cond b 1 0) (is_false (n == m) (λ e. apart ((Decides-eqb n m).0 e)))
 
 one_none : (n : ℕ) → n ≡ 0 → one_at n 0 ≡ 1
@@ -82,7 +82,7 @@ room_left free room rows slot are within some = omega (arith, are.count, are.roo
 
 -- the list at its end
 
-times_pushed : (free : List ℕ) (slot other : ℕ) → times (free ++ slot ∷ []) other ≡ times free other + one_at slot other
+pub times_pushed : (free : List ℕ) (slot other : ℕ) → times (free ++ slot ∷ []) other ≡ times free other + one_at slot other
 times_pushed [] slot other = omega arith
 times_pushed (first ∷ free) slot other =
     let rest : times (free ++ slot ∷ []) other ≡ times free other + one_at slot other = times_pushed free slot other in

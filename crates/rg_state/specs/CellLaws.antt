@@ -1,28 +1,31 @@
 -- No row is empty, each keeps what a state keeps and has a short key, and what stands at the nodes in order is all of it.
 use Rattle.std.proofs.Common.{◌≡◌, ℕ, zero, suc, ◌+◌, ◌^◌, ◌<◌, ◌≤◌, ◌==◌, length, List, [], ◌∷◌, ◌++◌, Option, Some, None, Bool, true, false, refl, ap, sym, ◌∙◌, subst, inl, inr, ◌⊎◌, arith, ltb-true}
-use Rattle.std.specs.Prelude.{cond, not, ◌||◌, nat_lt}
+use Rattle.std.specs.Prelude.{cond, not, ◌||◌, nat_lt, is_some}
 use Rattle.std.proofs.lemmas.Bool.{ltb-false}
 use Rattle.std.specs.Cmp.{first_so, second_so}
 use Rattle.std.specs.List.{All, Contains}
 use Rattle.std.specs.List.Sorted.{IsStrictlySortedBy}
-use Rattle.std.specs.Map.{lookup, keys_of}
-use Rattle.std.specs.BTreeMap.{BTreeMap, is_at}
+use Rattle.std.specs.Map.{keys_of}
+use Rattle.std.specs.BTreeMap.{BTreeMap}
 use Rattle.std.specs.Cmp.Lexicographic.{slice_cmp, bytes_decides, nat_list_cmp_total}
 use Rattle.std.specs.Ordering.{nat_cmp, is_eq, is_lt}
 use Rattle.std.specs.declared.cmp.Ordering.TheVariants.{Less}
 use Rattle.std.proofs.lemmas.List.Elements.{All-nil, All-cons, All-append, All-contains, All-weaker, All-head, All-tail, Contains-append_left, Contains-append_right}
 use Rattle.std.proofs.lemmas.Map.Keys.{sorted_tail}
 use Rattle.std.proofs.lemmas.Map.Text.{is_eq-slice_cmp}
-use Rattle.std.proofs.lemmas.Map.Views.{All-found, All-after_first}
+use Rattle.std.proofs.lemmas.Map.Views.{All-found, All-after_first, Contains-from_lookup}
 use Rattle.rg_agg.specs.Held.{Held}
 use Rattle.rg_agg.specs.Standing.{size_in}
 use Rattle.rg_state.specs.Cells.{row_at, row_by, slot_in, seen_in, cell_in, named_in, there_in, held_row, told_row, and_row, node_entries, entries_from, at_slot, IsBound, AreBelow}
 use Rattle.rg_state.specs.Changes.{changes_in}
 use Rattle.rg_state.specs.Kepts.{Seen, unseen, seen, seen_at, shown, told, stands_in, is_fair, is_idle, is_marked, are_sound}
 use Rattle.rg_state.specs.Rows.{At, IsBelow, AreRising, ListsOf, Lists}
+use Rattle.rg_state.specs.Sheets.{is_wanted, AreInOrder}
 use Rattle.rg_state.specs.States.{held_of, IsHeld}
 use Rattle.rg_state.specs.declared.key_rows.Kept.{Kept}
 use Rattle.rg_state.specs.declared.key_rows.KeyRows.{KeyRows}
+use Rattle.rg_state.specs.declared.sheets.Wanted.{Wanted}
+use Rattle.rg_state.specs.declared.sheets.Wanted.TheVariants.{Rows, Changes}
 
 abbrev Map : Type 0
 Map = BTreeMap (List ℕ) ℕ
@@ -205,18 +208,13 @@ module _ {X : Type 0} (row : ℕ → ℕ → Option X) where
       let same : other ≡ held = cc in
       subst (λ h. Contains (and_row node key (Some other) entries) (entry_of node key h)) same (here (entry_of node key other) entries)
 
-  key_by : (node : ℕ) (key : List ℕ) (held : X) (pair : List ℕ × ℕ) (pairs : List (List ℕ × ℕ)) (b : Bool) → is_eq (slice_cmp nat_cmp key pair.0) ≡ b →
-      at_slot row (cond b (Some pair.1) (lookup (is_at (slice_cmp nat_cmp key)) pairs)) node ≡ Some held →
-      (at_slot row (lookup (is_at (slice_cmp nat_cmp key)) pairs) node ≡ Some held → Contains (node_entries row node pairs) (entry_of node key held)) →
-      Contains (node_entries row node (pair ∷ pairs)) (entry_of node key held)
-  key_by node key held pair pairs true is found rest =
-      let same : key ≡ pair.0 = (bytes_decides key pair.0).0 (sym (is_eq-slice_cmp key pair.0) ∙ is) in
-      subst (λ k. Contains (node_entries row node (pair ∷ pairs)) (entry_of node k held)) (sym same) (among_first node pair.0 held (row pair.1 node) (node_entries row node pairs) found)
-  key_by node key held pair pairs false is found rest = among_later node pair.0 (row pair.1 node) (node_entries row node pairs) (entry_of node key held) (rest found)
-
-  key_there : (node : ℕ) (key : List ℕ) (held : X) (pairs : List (List ℕ × ℕ)) → at_slot row (lookup (is_at (slice_cmp nat_cmp key)) pairs) node ≡ Some held → Contains (node_entries row node pairs) (entry_of node key held)
-  key_there node key held [] found = cc
-  key_there node key held (pair ∷ pairs) found = key_by node key held pair pairs (is_eq (slice_cmp nat_cmp key pair.0)) refl found (key_there node key held pairs)
+  -- the pair of a key is among some, and something stands in its slot
+  node_has : (node : ℕ) (key : List ℕ) (slot : ℕ) (held : X) (pairs : List (List ℕ × ℕ)) → Contains pairs (key, slot) → row slot node ≡ Some held → Contains (node_entries row node pairs) (entry_of node key held)
+  node_has node key slot held [] (k, within, is) found = absurd (omega (arith, within))
+  node_has node key slot held (pair ∷ pairs) (zero, within, is) found =
+      subst (λ (p : List ℕ × ℕ). Contains (and_row node p.0 (row p.1 node) (node_entries row node pairs)) (entry_of node key held)) (sym is) (among_first node key held (row slot node) (node_entries row node pairs) found)
+  node_has node key slot held (pair ∷ pairs) (suc k, within, is) found =
+      among_later node pair.0 (row pair.1 node) (node_entries row node pairs) (entry_of node key held) (node_has node key slot held pairs (k, omega (arith, within), is) found)
 
   one_more : {a b : ℕ} → (a ≡ b) ⊎ (a < b) → (suc a ≡ suc b) ⊎ (suc a < suc b)
   one_more (inl same) = inl (ap suc same)
@@ -228,19 +226,19 @@ module _ {X : Type 0} (row : ℕ → ℕ → Option X) where
   same_or_less (suc a) zero le = absurd (omega arith)
   same_or_less (suc a) (suc b) le = one_more (same_or_less a b (omega arith))
 
-  node_by : (first count : ℕ) (pairs : List (List ℕ × ℕ)) (node : ℕ) (key : List ℕ) (held : X) → at_slot row (lookup (is_at (slice_cmp nat_cmp key)) pairs) node ≡ Some held →
+  node_by : (first count : ℕ) (pairs : List (List ℕ × ℕ)) (node : ℕ) (key : List ℕ) (slot : ℕ) (held : X) → Contains pairs (key, slot) → row slot node ≡ Some held →
       (suc first ≤ node → Contains (entries_from row (suc first) count pairs) (entry_of node key held)) → (first ≡ node) ⊎ (first < node) → Contains (entries_from row first (suc count) pairs) (entry_of node key held)
-  node_by first count pairs node key held found later (inl same) =
+  node_by first count pairs node key slot held among found later (inl same) =
       Contains-append_left (node_entries row first pairs) (entries_from row (suc first) count pairs) (entry_of node key held)
-      (subst (λ n. Contains (node_entries row n pairs) (entry_of node key held)) (sym same) (key_there node key held pairs found))
-  node_by first count pairs node key held found later (inr less) =
+      (subst (λ n. Contains (node_entries row n pairs) (entry_of node key held)) (sym same) (node_has node key slot held pairs among found))
+  node_by first count pairs node key slot held among found later (inr less) =
       Contains-append_right (node_entries row first pairs) (entries_from row (suc first) count pairs) (entry_of node key held) (later (omega arith))
 
-  row_there : (first count : ℕ) (pairs : List (List ℕ × ℕ)) (node : ℕ) (key : List ℕ) (held : X) → first ≤ node → node < first + count →
-      at_slot row (lookup (is_at (slice_cmp nat_cmp key)) pairs) node ≡ Some held → Contains (entries_from row first count pairs) (entry_of node key held)
-  row_there first zero pairs node key held low high found = absurd (omega arith)
-  row_there first (suc count) pairs node key held low high found =
-      node_by first count pairs node key held found (λ low. row_there (suc first) count pairs node key held low (omega arith) found) (same_or_less first node low)
+  row_there : (first count : ℕ) (pairs : List (List ℕ × ℕ)) (node : ℕ) (key : List ℕ) (slot : ℕ) (held : X) → first ≤ node → node < first + count →
+      Contains pairs (key, slot) → row slot node ≡ Some held → Contains (entries_from row first count pairs) (entry_of node key held)
+  row_there first zero pairs node key slot held low high among found = absurd (omega arith)
+  row_there first (suc count) pairs node key slot held low high among found =
+      node_by first count pairs node key slot held among found (λ low. row_there (suc first) count pairs node key slot held low (omega arith) among found) (same_or_less first node low)
 
   -- each entry of the list stands there
 
@@ -322,20 +320,46 @@ module _ {X : Type 0} (row : ℕ → ℕ → Option X) where
   rising_from first (suc count) pairs sorted =
       rising_in first pairs (entries_from row (suc first) count pairs) sorted (above first (suc first) count pairs (omega arith)) (rising_from (suc first) count pairs sorted)
 
-  lists_by : (map : Map) (rows : List KeyRows) (nodes : ℕ) (at : ℕ → List ℕ → Option X) → IsBound map rows → ((node : ℕ) (key : List ℕ) → at node key ≡ at_slot row (slot_in map key) node)
-      → ((node : ℕ) (key : List ℕ) (held : X) → at node key ≡ Some held → node < nodes) → ListsOf at (entries_from row 0 nodes map.entries)
-  lists_by map rows nodes at bound is below = record {
-    rising = rising_from 0 nodes map.entries bound.ordered;
+  there_by : (map : Map) (rows : List KeyRows) (wanted : Wanted) (nodes : ℕ) (pairs : List (List ℕ × ℕ)) (node : ℕ) (key : List ℕ) (held : X) (at : Option ℕ) → AreInOrder wanted map rows pairs →
+      ((slot node : ℕ) (held : X) → row slot node ≡ Some held → is_wanted wanted (row_at rows slot node) ≡ true) → node < nodes → slot_in map key ≡ at → at_slot row at node ≡ Some held → Contains (entries_from row 0 nodes pairs) (entry_of node key held)
+  there_by map rows wanted nodes pairs node key held None order wants below is found = cc
+  there_by map rows wanted nodes pairs node key held (Some slot) order wants below is found =
+      row_there 0 nodes pairs node key slot held (omega arith) (omega (arith, below)) (order.all key slot node is (wants slot node held found)) found
+
+  lists_by : (map : Map) (rows : List KeyRows) (wanted : Wanted) (nodes : ℕ) (at : ℕ → List ℕ → Option X) (pairs : List (List ℕ × ℕ)) → AreInOrder wanted map rows pairs →
+      ((slot node : ℕ) (held : X) → row slot node ≡ Some held → is_wanted wanted (row_at rows slot node) ≡ true) → ((node : ℕ) (key : List ℕ) → at node key ≡ at_slot row (slot_in map key) node)
+      → ((node : ℕ) (key : List ℕ) (held : X) → at node key ≡ Some held → node < nodes) → ListsOf at (entries_from row 0 nodes pairs)
+  lists_by map rows wanted nodes at pairs order wants is below = record {
+    rising = rising_from 0 nodes pairs order.rising;
     rows = λ node key held. (
-      (λ found. row_there 0 nodes map.entries node key held (omega arith) (omega (arith, below node key held found)) (sym (is node key) ∙ found)),
-      (λ among. is node key ∙ All-contains (IsThere map) (entries_from row 0 nodes map.entries) (entry_of node key held) (back_from map 0 nodes map.entries (All-found nat_list_cmp_total map bound.ordered)) among),
+      (λ found. there_by map rows wanted nodes pairs node key held (slot_in map key) order wants (below node key held found) refl (sym (is node key) ∙ found)),
+      (λ among. is node key ∙ All-contains (IsThere map) (entries_from row 0 nodes pairs) (entry_of node key held) (back_from map 0 nodes pairs order.found) among),
     );
   }
 
-pub lists_all : (map : Map) (rows : List KeyRows) (nodes : ℕ) → IsBound map rows → AreBelow nodes map rows → Lists (cell_in map rows) (entries_from (held_row rows) 0 nodes map.entries)
-lists_all map rows nodes bound below = lists_by (held_row rows) map rows nodes (cell_in map rows) bound (cell_slot map rows) (λ node key held found. cell_below map rows nodes node key held below found)
+-- all keys are in order
 
-pub lists_changes : (map : Map) (rows : List KeyRows) (nodes : ℕ) → IsBound map rows → AreBelow nodes map rows
-    → ListsOf (changes_in (named_in map rows) (there_in map rows) (cell_in map rows)) (entries_from (told_row rows) 0 nodes map.entries)
-lists_changes map rows nodes bound below =
-    lists_by (told_row rows) map rows nodes (changes_in (named_in map rows) (there_in map rows) (cell_in map rows)) bound (told_slot map rows) (λ node key now found. told_below map rows nodes node key now below found)
+pub map_order : (wanted : Wanted) (map : Map) (rows : List KeyRows) → IsBound map rows → AreInOrder wanted map rows map.entries
+map_order wanted map rows bound = record {
+  rising = bound.ordered;
+  found = All-found nat_list_cmp_total map bound.ordered;
+  all = λ key slot node found is. Contains-from_lookup {eq = λ q k. is_eq (slice_cmp nat_cmp q k)} (λ q k t. (bytes_decides q k).0 (sym (is_eq-slice_cmp q k) ∙ t)) key slot map.entries found;
+}
+
+some_held : (row : Seen) (held : Held) → row.held ≡ Some held → is_some row.held ≡ true
+some_held row held is = ap is_some is
+
+some_told : (row : Seen) (now : Option Held) → told row ≡ Some now → is_some (told row) ≡ true
+some_told row now is = ap is_some is
+
+pub lists_rows : (map : Map) (rows : List KeyRows) (nodes : ℕ) (pairs : List (List ℕ × ℕ)) → AreInOrder Rows map rows pairs → AreBelow nodes map rows → Lists (cell_in map rows) (entries_from (held_row rows) 0 nodes pairs)
+lists_rows map rows nodes pairs order below =
+    lists_by (held_row rows) map rows Rows nodes (cell_in map rows) pairs order (λ slot node held is. some_held (row_at rows slot node) held is) (cell_slot map rows) (λ node key held found. cell_below map rows nodes node key held below found)
+
+pub lists_all : (map : Map) (rows : List KeyRows) (nodes : ℕ) → IsBound map rows → AreBelow nodes map rows → Lists (cell_in map rows) (entries_from (held_row rows) 0 nodes map.entries)
+lists_all map rows nodes bound below = lists_rows map rows nodes map.entries (map_order Rows map rows bound) below
+
+pub lists_changes : (map : Map) (rows : List KeyRows) (nodes : ℕ) (pairs : List (List ℕ × ℕ)) → AreInOrder Changes map rows pairs → AreBelow nodes map rows
+    → ListsOf (changes_in (named_in map rows) (there_in map rows) (cell_in map rows)) (entries_from (told_row rows) 0 nodes pairs)
+lists_changes map rows nodes pairs order below =
+    lists_by (told_row rows) map rows Changes nodes (changes_in (named_in map rows) (there_in map rows) (cell_in map rows)) pairs order (λ slot node now is. some_told (row_at rows slot node) now is) (told_slot map rows) (λ node key now found. told_below map rows nodes node key now below found)

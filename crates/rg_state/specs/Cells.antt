@@ -1,5 +1,5 @@
 -- The rows of all keys, by slot, and the list of them.
-use Rattle.std.specs.Prelude.{◌≡◌, ℕ, zero, suc, ◌<◌, ◌≤◌, List, [], ◌∷◌, ◌++◌, length, Option, None, Some}
+use Rattle.std.specs.Prelude.{◌≡◌, ℕ, zero, suc, ◌<◌, ◌≤◌, ◌==◌, not, Bool, List, [], ◌∷◌, ◌++◌, length, Option, None, Some}
 use Rattle.std.specs.BTreeMap.{BTreeMap, IsOrdered, get}
 use Rattle.std.specs.Cmp.Lexicographic.{slice_cmp}
 use Rattle.std.specs.Ordering.{nat_cmp}
@@ -20,6 +20,10 @@ abbrev pub count_at : List KeyRows → ℕ → ℕ
 count_at [] slot = 0
 count_at (rows ∷ more) zero = length rows.kept.items
 count_at (rows ∷ more) (suc slot) = count_at more slot
+
+-- something is
+abbrev pub is_used : List KeyRows → ℕ → Bool
+is_used rows slot = not (count_at rows slot == 0)
 
 abbrev pub row_by : List KeyRows → Option ℕ → ℕ → Seen
 row_by rows None node = unseen
@@ -55,6 +59,17 @@ pub record IsBound (map : BTreeMap (List ℕ) ℕ) (rows : List KeyRows) : Type 
   pub filled : (key : List ℕ) (slot : ℕ) → slot_in map key ≡ Some slot → 0 < count_at rows slot
   pub apart : (key other : List ℕ) (slot : ℕ) → slot_in map key ≡ Some slot → slot_in map other ≡ Some slot → key ≡ other
   pub short : (key : List ℕ) (slot : ℕ) → slot_in map key ≡ Some slot → length key ≤ 2056
+
+-- the key that a slot has or had last; there is none past the last slot
+abbrev pub key_at : List (List ℕ) → ℕ → List ℕ
+key_at [] slot = []
+key_at (key ∷ keys) zero = key
+key_at (key ∷ keys) (suc slot) = key_at keys slot
+
+-- each slot in which something is kept is that of its key, and each slot has room for one
+pub record AreNamed (map : BTreeMap (List ℕ) ℕ) (keys : List (List ℕ)) (rows : List KeyRows) : Type 0 where
+  pub back : (slot : ℕ) → 0 < count_at rows slot → slot_in map (key_at keys slot) ≡ Some slot
+  pub roomy : length rows ≤ length keys
 
 -- the remembered slot is the key's
 abbrev pub IsRemembered : BTreeMap (List ℕ) ℕ → List ℕ → Option ℕ → Type 0

@@ -5,7 +5,6 @@ pub mod Changes
 pub mod Kepts
 pub mod Cells
 pub mod Clean
-pub mod Settling
 pub mod Unused
 pub mod CellLaws
 pub mod Keeping

@@ -1,9 +1,16 @@
 -- The sheets that rows are written on, one a node.
-use Rattle.std.specs.Prelude.{◌≡◌, ℕ, zero, suc, ◌+◌, ◌<◌, ◌≤◌, ◌^◌, Bool, List, [], ◌∷◌, ◌++◌, length, Option, None, Some, is_some}
+use Rattle.std.specs.Prelude.{◌≡◌, ℕ, zero, suc, ◌+◌, ◌<◌, ◌≤◌, ◌^◌, Bool, true, List, [], ◌∷◌, ◌++◌, length, map, Option, None, Some, is_some}
+use Rattle.std.specs.BTreeMap.{BTreeMap}
+use Rattle.std.specs.Cmp.Lexicographic.{slice_cmp}
+use Rattle.std.specs.List.{All, Contains}
+use Rattle.std.specs.List.Sorted.{IsStrictlySortedBy}
+use Rattle.std.specs.Map.{keys_of}
+use Rattle.std.specs.Ordering.{nat_cmp}
+use Rattle.std.specs.declared.cmp.Ordering.{Ordering}
 use Rattle.std.specs.Option.{option_map}
 use Rattle.std.specs.Int.{w32, w64, to_be_bytes}
 use Rattle.rg_agg.specs.Held.{held_bytes}
-use Rattle.rg_state.specs.Cells.{row_at}
+use Rattle.rg_state.specs.Cells.{row_at, key_at, slot_in}
 use Rattle.rg_state.specs.Changes.{change_bytes, now_bytes}
 use Rattle.rg_state.specs.Kepts.{Seen, seen_at, shown, told}
 use Rattle.rg_state.specs.Rows.{entry_bytes}
@@ -56,6 +63,22 @@ spans_from wanted first (suc count) rows pairs = node_spans wanted first rows pa
 -- spans behind their number, in 8 bytes
 abbrev pub counted_spans : List (List ℕ) → List ℕ
 counted_spans spans = to_be_bytes w64 (length spans) ++ joined spans
+
+-- Keys in order
+
+-- the order of two slots, by their keys
+abbrev pub slot_cmp : List (List ℕ) → ℕ → ℕ → Ordering
+slot_cmp keys slot other = slice_cmp nat_cmp (key_at keys slot) (key_at keys other)
+
+-- slots behind their keys
+abbrev pub pairs_of : List (List ℕ) → List ℕ → List (List ℕ × ℕ)
+pairs_of keys slots = map (λ slot. (key_at keys slot, slot)) slots
+
+-- these are keys with their slots, the keys rising, and among them is each in whose slot a row is wanted
+pub record AreInOrder (wanted : Wanted) (map : BTreeMap (List ℕ) ℕ) (rows : List KeyRows) (pairs : List (List ℕ × ℕ)) : Type 0 where
+  pub rising : IsStrictlySortedBy (slice_cmp nat_cmp) (keys_of pairs)
+  pub found : All (λ pair. slot_in map pair.0 ≡ Some pair.1) pairs
+  pub all : (key : List ℕ) (slot node : ℕ) → slot_in map key ≡ Some slot → is_wanted wanted (row_at rows slot node) ≡ true → Contains pairs (key, slot)
 
 -- Sheets
 
@@ -125,3 +148,17 @@ pub record AreBlank (nodes : ℕ) (sheets : List Sheet) : Type 0 where
 pub record AreFilled (wanted : Wanted) (nodes : ℕ) (rows : List KeyRows) (pairs : List (List ℕ × ℕ)) (sheets : List Sheet) : Type 0 where
   pub pages : (node : ℕ) → page_at sheets node ≡ and_spans blank (node_spans wanted node rows pairs)
   pub count : length sheets ≡ nodes
+
+-- there are so many sheets, and they have all rows that are wanted, each node's by its keys in order
+pub record AreWritten (wanted : Wanted) (nodes : ℕ) (map : BTreeMap (List ℕ) ℕ) (rows : List KeyRows) (sheets : List Sheet) : Type 0 where
+  pub pairs : List (List ℕ × ℕ)
+  pub order : AreInOrder wanted map rows pairs
+  pub few : length pairs < 2 ^ 32
+  pub filled : AreFilled wanted nodes rows pairs sheets
+
+-- all rows that are wanted are written at the end, behind their number: node by node, each node's by its keys in order
+pub record WritesSpans (wanted : Wanted) (nodes : ℕ) (map : BTreeMap (List ℕ) ℕ) (rows : List KeyRows) (old new : List ℕ) : Type 0 where
+  pub pairs : List (List ℕ × ℕ)
+  pub order : AreInOrder wanted map rows pairs
+  pub few : length (spans_from wanted 0 nodes rows pairs) < 2 ^ 64
+  pub is : new ≡ old ++ counted_spans (spans_from wanted 0 nodes rows pairs)

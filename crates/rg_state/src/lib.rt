@@ -13,6 +13,7 @@ mod slot_changes;
 mod slots;
 mod state;
 mod table;
+mod touched;
 mod writing;
 
 pub use law::law_states;

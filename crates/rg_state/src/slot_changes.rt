@@ -11,7 +11,7 @@ ghost use Rattle.rg_state.specs.Takes.{Takes};
 use crate::key_rows::KeyRows;
 use crate::one::Refusal;
 use crate::own::{blank_answer, first_state, own_answer};
-use crate::slots::{Slots, put_within, touch};
+use crate::slots::{Slots, put_within};
 use crate::state::AggState;
 use crate::table::Change;
 use rg_bytes::Memory;
@@ -73,7 +73,7 @@ impl Slots {
         ensures unfit { IsErrOf result Refusal.Unfit → Unfit func Change.Add value.now (cell_in self.old.map self.old.rows.items node key.now) }
         ensures causes { IsErrOf result Refusal.Unfit → IsRefused func Change.Add value.now (cell_in self.old.map self.old.rows.items node key.now) }
     {
-        touch(&mut self.touched, slot);
+        self.touched.touch(slot);
         let rows = &mut self.rows[slot as usize];
         rows.add(alloc, node, func, value)
     }
@@ -113,7 +113,7 @@ impl Slots {
         ensures err { OnErr result (SameSeen (seen_in self.old.map self.old.rows.items) (seen_in self.new.map self.new.rows.items)) }
         ensures unfit { OnErr result (Unfit func Change.Remove value.now (cell_in self.old.map self.old.rows.items node key.now)) }
     {
-        touch(&mut self.touched, slot);
+        self.touched.touch(slot);
         let rows = &mut self.rows[slot as usize];
         match rows.take(node, func, value) {
             Err(refusal) => return Err(refusal),
@@ -160,7 +160,7 @@ impl Slots {
         ensures others { OthersSeen node key.now (seen_in self.old.map self.old.rows.items) (seen_in self.new.map self.new.rows.items) }
         ensures err { OnErr result (SameSeen (seen_in self.old.map self.old.rows.items) (seen_in self.new.map self.new.rows.items)) }
     {
-        touch(&mut self.touched, slot);
+        self.touched.touch(slot);
         let rows = &mut self.rows[slot as usize];
         rows.insert(node, state)
     }

@@ -1,7 +1,7 @@
 ghost use Rattle.std.specs.Prelude.{◌≡◌, ◌≤◌, ◌<◌, ◌^◌, ◌++◌, ℕ, false, length, IfOk, IsTrue, OnOk, OnErr};
 ghost use Rattle.rg_bytes.specs.Keeps.{Keeps};
 ghost use Rattle.rg_state.specs.Cells.{AreBelow, row_at};
-ghost use Rattle.rg_state.specs.Sheets.{counted_spans, is_wanted, spans_from, AreFilled, IsReadyAt, GetsAt};
+ghost use Rattle.rg_state.specs.Sheets.{is_wanted, pairs_of, AreInOrder, AreWritten, IsReadyAt, GetsAt, WritesSpans};
 
 use crate::ahead::Ahead;
 use crate::sheets::{Sheet, Wanted, blank_sheets, count_bytes, count_rows, put_key, put_sheets};
@@ -9,6 +9,10 @@ use crate::slots::Slots;
 use rg_bytes::{Memory, put_u64};
 use rg_group::Key;
 use std::alloc::Global;
+
+/// Where more than so many times as many keys have rows as slots were touched, what changed is found by these
+/// slots, and else by a walk over the keys.
+const MANY: usize = 8;
 
 /// Writes the number of the rows that are wanted in 8 bytes at the end, and those of the nodes below this
 /// number, which are all. Where memory runs out a prefix of them may stand there. Answers what was made of
@@ -22,11 +26,10 @@ pub(crate) fn write_counted(
 ) -> Result<u64, Memory>
     requires few { nodes ≤ 2 ^ 32 }
     requires below { AreBelow nodes slots.now.map slots.now.rows.items }
-    ensures ok { OnOk result (out.new.items ≡ out.old.items ++ counted_spans (spans_from wanted 0 nodes slots.now.rows.items slots.now.map.entries)) }
-    ensures few { OnOk result (length (spans_from wanted 0 nodes slots.now.rows.items slots.now.map.entries) < 2 ^ 64) }
+    ensures ok { OnOk result (WritesSpans wanted nodes slots.now.map slots.now.rows.items out.old.items out.new.items) }
     ensures err { OnErr result (Keeps out.old.items out.new.items) }
 {
-    let filled = fill_sheets(alloc, wanted, nodes, slots)?;
+    let filled = fill(alloc, wanted, nodes, slots)?;
     out.reserve(count_bytes(&filled.sheets).saturating_add(8))?;
     put_u64(out, count_rows(&filled.sheets))?;
     put_sheets(&filled.sheets, out)?;
@@ -40,10 +43,58 @@ struct Filled {
     seen: u64,
 }
 
-/// A sheet for each node below this number, with all its rows that are wanted: one walk over the keys.
+/// A sheet for each node below this number, with all its rows that are wanted.
+fn fill(alloc: Global, wanted: Wanted, nodes: u64, slots: &Slots) -> Result<Filled, Memory>
+    requires { AreBelow nodes slots.now.map slots.now.rows.items }
+    ensures { IfOk result (λ filled. AreWritten wanted nodes slots.now.map slots.now.rows.items filled.sheets.items) }
+{
+    match wanted {
+        Wanted::Rows => fill_sheets(alloc, Wanted::Rows, nodes, slots),
+        Wanted::Changes => fill_changes(alloc, nodes, slots),
+    }
+}
+
+/// The same of the rows that changed. Where few slots were touched it goes through these alone.
+fn fill_changes(alloc: Global, nodes: u64, slots: &Slots) -> Result<Filled, Memory>
+    requires { AreBelow nodes slots.now.map slots.now.rows.items }
+    ensures { IfOk result (λ filled. AreWritten Wanted.Changes nodes slots.now.map slots.now.rows.items filled.sheets.items) }
+{
+    if !are_few(slots.touched.slots.len(), slots.map.len()) {
+        return fill_sheets(alloc, Wanted::Changes, nodes, slots);
+    }
+    let changed = slots.changed(alloc)?;
+    fill_listed(alloc, nodes, slots, &changed)
+}
+
+/// Whether few slots were touched, by the number of keys.
+fn are_few(touched: usize, keys: usize) -> bool
+    ensures { IsTrue result → touched ≤ keys }
+{
+    match touched.checked_mul(MANY) {
+        None => false,
+        Some(many) => many < keys,
+    }
+}
+
+/// The same, where the rows that changed are in these slots, their keys rising.
+fn fill_listed(alloc: Global, nodes: u64, slots: &Slots, changed: &[u32]) -> Result<Filled, Memory>
+    requires below { AreBelow nodes slots.now.map slots.now.rows.items }
+    requires order { AreInOrder Wanted.Changes slots.now.map slots.now.rows.items (pairs_of slots.now.keys.items changed.now) }
+    requires few { length changed.now < 2 ^ 32 }
+    ensures { IfOk result (λ filled. AreWritten Wanted.Changes nodes slots.now.map slots.now.rows.items filled.sheets.items) }
+{
+    let mut sheets = blank_sheets(alloc, nodes)?;
+    for slot in changed {
+        let key = &slots.keys[*slot as usize];
+        put_slot(Wanted::Changes, key, *slot, slots, &mut sheets)?;
+    }
+    Ok(Filled { sheets, seen: 0 })
+}
+
+/// The same by a walk over all keys.
 fn fill_sheets(alloc: Global, wanted: Wanted, nodes: u64, slots: &Slots) -> Result<Filled, Memory>
     requires { AreBelow nodes slots.now.map slots.now.rows.items }
-    ensures { IfOk result (λ filled. AreFilled wanted nodes slots.now.rows.items slots.now.map.entries filled.sheets.items) }
+    ensures { IfOk result (λ filled. AreWritten wanted nodes slots.now.map slots.now.rows.items filled.sheets.items) }
 {
     let mut sheets = blank_sheets(alloc, nodes)?;
     let mut ahead = Ahead::new(alloc, slots);

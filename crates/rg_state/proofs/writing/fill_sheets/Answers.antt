@@ -1,6 +1,7 @@
 use Rattle.std.proofs.Common.{◌≡◌, ◌∙◌, sym, subst, Some}
 use Rattle.std.proofs.lemmas.List.Elements.{All-head, All-rest, All-same}
 use Rattle.rg_state.specs.Cells.{slot_in, AreBelow}
+use Rattle.rg_state.specs.CellLaws.{map_order}
 use Rattle.rg_state.proofs.Sheeted.{first_left, walk_more, walk_end, ready_at}
 use Rattle.rg_state.proofs.writing.fill_sheets.Goals as goal
 
@@ -14,7 +15,7 @@ loop-key-init c = record {
 pub put_slot-requires : goal.put_slot-requires
 put_slot-requires c =
     let found : slot_in c.args.slots.now.map c.in-Some.key.now ≡ Some c.in-Some.slot.now = All-head (λ pair. slot_in c.args.slots.now.map pair.0 ≡ Some pair.1) (c.in-Some.key.now, c.in-Some.slot.now) c.next.new.self (rw c.in-Some.ensures.steps at c.loop-key.invariant.found) in
-    ready_at c.args.wanted c.args.slots.now.map c.args.slots.now.rows.items (c.in-Some.key.now, c.in-Some.slot.now) c.loop-key.key-iterator c.loop-key.sheets.items
+    ready_at c.args.wanted c.args.slots.now.map c.args.slots.now.rows.items (c.in-Some.key.now, c.in-Some.slot.now) c.loop-key.key-iterator c.args.slots.now.map.entries c.loop-key.sheets.items
     c.args.slots.now.bound c.args.slots.now.few (subst (λ n. AreBelow n c.args.slots.now.map c.args.slots.now.rows.items) (sym c.loop-key.invariant.count) c.requires) found c.loop-key.invariant.pages
 
 pub loop-key-preserved : goal.loop-key-preserved
@@ -26,6 +27,11 @@ loop-key-preserved c = record {
 
 pub returns : goal.returns
 returns c = record {
-  pages = λ node. walk_end c.args.wanted c.args.slots.now.rows.items c.loop-key.key-iterator c.loop-key.sheets.items node _ c.in-None.ensures.steps.0 (c.loop-key.invariant.pages node);
-  count = c.loop-key.invariant.count;
+  pairs = c.args.slots.now.map.entries;
+  order = map_order c.args.wanted c.args.slots.now.map c.args.slots.now.rows.items c.args.slots.now.bound;
+  few = c.args.slots.now.few;
+  filled = record {
+    pages = λ node. walk_end c.args.wanted c.args.slots.now.rows.items c.loop-key.key-iterator c.loop-key.sheets.items node _ c.in-None.ensures.steps.0 (c.loop-key.invariant.pages node);
+    count = c.loop-key.invariant.count;
+  };
 }

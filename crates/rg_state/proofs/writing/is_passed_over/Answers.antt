@@ -1,5 +1,5 @@
 use Rattle.rg_state.specs.Cells.{row_at}
-use Rattle.rg_state.proofs.Touched.{told_quiet}
+use Rattle.rg_state.proofs.Flagged.{told_quiet}
 use Rattle.rg_state.proofs.writing.is_passed_over.Goals as goal
 
 pub returns-in-Changes : goal.returns-in-Changes

@@ -10,13 +10,14 @@ pub returns-in-Ok-clause-written : goal.returns-in-Ok-clause-written
 returns-in-Ok-clause-written c told =
     let slots = c.args.self.now.slots in
     let nodes = c.args.self.now.nodes in
-    let entries = entries_from (told_row slots.rows.items) 0 nodes slots.map.entries in (
+    let made = c.in-Ok.ensures.ok in
+    let entries = entries_from (told_row slots.rows.items) 0 nodes made.pairs in (
       to_be_bytes w64 (length entries) ++ changes_bytes entries,
       record {
         changes = entries;
-        lists = lists_changes slots.map slots.rows.items nodes slots.bound c.args.self.now.below;
-        few = subst (λ n. n < 2 ^ 64) (changes_counted slots.rows.items nodes slots.map.entries) c.in-Ok.ensures.few;
+        lists = lists_changes slots.map slots.rows.items nodes made.pairs made.order c.args.self.now.below;
+        few = subst (λ n. n < 2 ^ 64) (changes_counted slots.rows.items nodes made.pairs) made.few;
         is = refl;
       },
-      c.in-Ok.ensures.ok ∙ ap (λ bytes. c.args.out.now.items ++ bytes) (changes_put slots.rows.items nodes slots.map.entries),
+      made.is ∙ ap (λ bytes. c.args.out.now.items ++ bytes) (changes_put slots.rows.items nodes made.pairs),
     )

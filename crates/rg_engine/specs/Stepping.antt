@@ -11,10 +11,11 @@ use Rattle.rg_state.specs.declared.table.Change.{Change}
 use Rattle.rg_state.specs.declared.table.TableFault.{TableFault}
 use Rattle.rg_state.specs.declared.table.TableFault.TheVariants.{BadState, Disk}
 use Rattle.rg_state.specs.Changes.{Marks, IsSince}
-use Rattle.rg_state.specs.Rows.{Cells, Unfit}
+use Rattle.rg_state.specs.Rows.{Cells, Others, Unfit}
 use Rattle.rg_state.specs.Takes.{Takes}
 use Rattle.rg_engine.specs.Windows.{passes_at}
-use Rattle.rg_engine.specs.Deeds.{side_of, handed, node_deed, Does}
+use Rattle.rg_engine.specs.declared.part.AggPart.{AggPart}
+use Rattle.rg_engine.specs.Deeds.{side_of, handed, deed_with, node_deed, Does}
 
 -- the event meets the condition, and at this offset the window does this with it
 pub record IsPassed (window : Window) (condition : Option Test) (offset : ℕ) (change : Change) (x : Event) : Type 0 where
@@ -41,6 +42,19 @@ pub record Balks (node : Node) (key : List ℕ) (offset : ℕ) (x : Event) (row 
 abbrev pub Stuck : List ℕ → ℕ → Event → List Node → Option Held → Type 0
 Stuck key offset x [] row = ⊥
 Stuck key offset x (node ∷ nodes) row = Balks node key offset x row ⊎ ((between : Option Held) × Does node.agg.func (node_deed node key offset x) row between × Stuck key offset x nodes between)
+
+-- Rows before and after an aggregator was handed an event for a key: the row of its node and that key did what the change asks, or it refused the
+-- event's value; and all other rows are as before.
+pub record ChangesRow (part : AggPart) (change : Change) (x : Event) (key : List ℕ) (result : Result Unit TableFault) (cells cells' : Cells) : Type 0 where
+  pub does : OnOk result (Does part.agg.func (deed_with change (handed part.agg.field x)) (cells part.node key) (cells' part.node key))
+  pub others : Others part.node key cells cells'
+  pub bad : (n : ℕ) → IsErrOf result (BadState n) → n ≡ part.node
+  pub refuses : (n : ℕ) → IsErrOf result (BadState n) → (value : Value) → handed part.agg.field x ≡ Some value → Takes part.agg.func value → Unfit part.agg.func change value (cells part.node key)
+
+-- Rows before and after an event that passed the edge of this offset: each was changed by the nodes of its number; or one of these balked.
+pub record ChangesRows (nodes : ℕ → List Node) (offset : ℕ) (x : Event) (result : Result Unit TableFault) (cells cells' : Cells) : Type 0 where
+  pub done : OnOk result ((n : ℕ) (key : List ℕ) → Done key offset x (nodes n) (cells n key) (cells' n key))
+  pub stuck : (n : ℕ) → IsErrOf result (BadState n) → (key : List ℕ) × Stuck key offset x (nodes n) (cells n key)
 
 -- a table before and after an event that passed the edge of this offset: each row by the nodes of its number
 pub record Stepped (nodes : ℕ → List Node) (ticks offset : ℕ) (x : Event) (result : Result Unit TableFault) (told told' : Type 0) (named named' there there' : Marks) (cells cells' : Cells) (faults faults' steps steps' : ℕ) : Type 0 where

@@ -2,4 +2,3 @@ pub mod Chains
 pub mod Passes
 pub mod Runs
 pub mod Spelled
-pub mod Written

@@ -1,6 +1,5 @@
 -- Edges one after the other.
 use Rattle.std.proofs.Common.{◌≡◌, ℕ, zero, suc, ◌≤◌, ◌<◌, ◌+◌, List, [], ◌∷◌, ◌++◌, length, get_or, set, Result, refl, inl, inr, ap, sym, subst, ◌∙◌, arith, length-append}
-use Rattle.std.specs.Prelude.{OnOk, IfErr, Ok, Err}
 use Rattle.std.proofs.lemmas.List.{append-nil, get_or-map, get_or-set_other}
 use Rattle.rg_event.specs.declared.event.Event.{Event}
 use Rattle.rg_past.specs.declared.past.Spot.{Spot}
@@ -102,13 +101,20 @@ still-more ps spots edge i spot h l = rw (numbers_of-set spots edge spot) (get_o
 abbrev pub no_spot : Spot
 no_spot = record { place = 0; index = 0; number = 0 }
 
-pub Next-edge : (events known : List Event) (os : List ℕ) (old spots : List Spot) (t edge : ℕ) (s new : Spot) → known ≡ events → length spots ≡ length old → edge < length spots →
-    ((k : ℕ) → edge ≤ k → get_or (numbers_of spots) k 0 ≡ get_or (numbers_of old) k 0) →
-    Next os t (numbers_of old) (numbers_of spots) (numbers_of (set spots edge new)) events edge (get_or spots edge s).number new.number (passed known t (get_or os edge 0) (get_or spots edge s).number)
-Next-edge events known os old spots t edge s new e n l h =
-    let b : get_or (numbers_of spots) edge 0 ≡ (get_or spots edge s).number = number_at spots edge s l in
+-- what a list holds at one of its places, whatever stands for an element that is none
+get_or_any : {A : Type 0} (xs : List A) (i : ℕ) (d e : A) → i < length xs → get_or xs i d ≡ get_or xs i e
+get_or_any [] i d e within = absurd (omega arith)
+get_or_any (x ∷ xs) zero d e within = refl
+get_or_any (x ∷ xs) (suc i) d e within = get_or_any xs i d e (omega arith)
+
+pub Next-edge : (events known : List Event) (os : List ℕ) (old spots : List Spot) (t edge offset : ℕ) (spot new : Spot) → known ≡ events → length spots ≡ length old → edge < length spots → edge < length os →
+    spot ≡ get_or spots edge spot → offset ≡ get_or os edge offset → ((k : ℕ) → edge ≤ k → get_or (numbers_of spots) k 0 ≡ get_or (numbers_of old) k 0) →
+    Next os t (numbers_of old) (numbers_of spots) (numbers_of (set spots edge new)) events edge spot.number new.number (passed known t offset spot.number)
+Next-edge events known os old spots t edge offset spot new e n l m here there h =
+    let b : get_or (numbers_of spots) edge 0 ≡ spot.number = number_at spots edge spot l ∙ ap (λ (s : Spot). s.number) (sym here) in
+    let o : get_or os edge 0 ≡ offset = get_or_any os edge 0 offset m ∙ sym there in
     record {
-      whole = ap (λ v. passed v t (get_or os edge 0) (get_or spots edge s).number) e ∙ ap (λ v. passed events t (get_or os edge 0) v) (sym b ∙ h edge (omega arith));
+      whole = ap (λ v. passed v t offset spot.number) e ∙ ap (λ v. passed events t v spot.number) (sym o) ∙ ap (λ v. passed events t (get_or os edge 0) v) (sym b ∙ h edge (omega arith));
       place = sym b;
       below = omega (arith, length-numbers_of spots);
       set = numbers_of-set spots edge new;
@@ -120,15 +126,13 @@ pub Reaches-from_Moved : {V F : Type 0} (step : V → ℕ → Event → Result U
 Reaches-from_Moved step before after os t old new told events end edge moved within known =
     moved.counts edge ∙ ap (λ visited. get_or old edge 0 + length visited) (moved.known edge within known)
 
--- the same of a call's answer
-pub reached_by : {V F E : Type 0} (step : V → ℕ → Event → Result Unit F → V → Type 0) (before after : V) (os : List ℕ) (t : ℕ) (old new : List ℕ) (told : ℕ → Type 0) (events : List Event) (end edge : ℕ) (result : Result Unit E) →
-    OnOk result (Moved step before after os t old new told events end) → edge < end → told edge → OnOk result (Reaches events t os old new edge)
-reached_by step before after os t old new told events end edge (Ok x) moved within known = Reaches-from_Moved step before after os t old new told events end edge moved within known
-reached_by step before after os t old new told events end edge (Err e) moved within known = tt
+-- no edge goes back
+pub rises_moved : {V F : Type 0} (step : V → ℕ → Event → Result Unit F → V → Type 0) (before after : V) (os : List ℕ) (t : ℕ) (old new : List ℕ) (told : ℕ → Type 0) (events : List Event) (end edge : ℕ) →
+    Moved step before after os t old new told events end → get_or old edge 0 ≤ get_or new edge 0
+rises_moved step before after os t old new told events end edge moved = omega (arith, moved.counts edge)
 
--- no edge goes back, whether the move was refused or not
-pub rises_by : {V F : Type 0} (step : V → ℕ → Event → Result Unit F → V → Type 0) (before after : V) (os : List ℕ) (t : ℕ) (old new : List ℕ) (told : ℕ → Type 0) (events : List Event) (end edge : ℕ) (result : Result Unit (MoveFault F)) →
-    OnOk result (Moved step before after os t old new told events end) → IfErr result (λ fault. HaltsAt step before after os t old new told events fault) → get_or old edge 0 ≤ get_or new edge 0
-rises_by step before after os t old new told events end edge (Ok x) moved halted = omega (arith, moved.counts edge)
-rises_by step before after os t old new told events end edge (Err (Past fault)) moved halted = omega (arith, halted.2.counts edge)
-rises_by step before after os t old new told events end edge (Err (Visit fault)) moved halted = omega (arith, halted.2.counts edge)
+-- nor where a move was refused
+pub rises_halted : {V F : Type 0} (step : V → ℕ → Event → Result Unit F → V → Type 0) (before after : V) (os : List ℕ) (t : ℕ) (old new : List ℕ) (told : ℕ → Type 0) (events : List Event) (edge : ℕ) (fault : MoveFault F) →
+    HaltsAt step before after os t old new told events fault → get_or old edge 0 ≤ get_or new edge 0
+rises_halted step before after os t old new told events edge (Past fault) halted = omega (arith, halted.2.counts edge)
+rises_halted step before after os t old new told events edge (Visit fault) halted = omega (arith, halted.2.counts edge)

@@ -19,6 +19,10 @@ pub spelled_spot : (S : Spot → Type 0) (spots : List Spot) (edge : ℕ) (d : S
 spelled_spot S spots edge d h =
     subst S (same_some (sym h.1 ∙ slice_get-get_or spots edge d (slice_get_within spots edge h.0 h.1))) h.2
 
+-- the same, where it is known
+pub spelled_of : (S : Spot → Type 0) (spots : List Spot) (edge : ℕ) (spot : Spot) → spot ≡ get_or spots edge spot → IsSpelledAt S spots edge → S spot
+spelled_of S spots edge spot is h = subst S (sym is) (spelled_spot S spots edge spot h)
+
 -- the spot of an index is spelled
 pub spelled_here : (S : Spot → Type 0) (spots : List Spot) (edge : ℕ) (d : Spot) → edge < length spots → S (get_or spots edge d) → IsSpelledAt S spots edge
 spelled_here S spots edge d l h = (get_or spots edge d, slice_get-get_or spots edge d l, h)

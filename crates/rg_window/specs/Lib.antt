@@ -1,4 +1,5 @@
 pub mod Chain
 pub mod Halting
+pub mod Moving
 pub mod Passing
 pub mod Placed

@@ -1,7 +1,8 @@
-ghost use Rattle.std.specs.Prelude.{◌≡◌, ℕ, ◌≤◌, ◌<◌, ◌^◌, [], length, All, IfOk, IfErr, OnOk, IsErrOf, slice_index_or};
+ghost use Rattle.std.specs.Prelude.{◌≡◌, ℕ, ◌≤◌, ◌<◌, ◌^◌, length, All, IfOk, IfErr, OnOk, IsErrOf, slice_index_or};
 ghost use Rattle.rg_past.specs.Keeping.{Kept, HasCause};
-ghost use Rattle.rg_window.specs.Chain.{Went, Moved};
-ghost use Rattle.rg_window.specs.Halting.{StopsAt, HaltsAt};
+ghost use Rattle.rg_window.specs.Chain.{Moved};
+ghost use Rattle.rg_window.specs.Halting.{Goes, HaltsAt};
+ghost use Rattle.rg_window.specs.Moving.{MayRefuse, Keeps};
 ghost use Rattle.rg_window.specs.Passing.{has_come, passed, Reaches};
 ghost use Rattle.rg_window.specs.Placed.{AreRising, AreWithin, IsSpelledAt, numbers_of};
 
@@ -119,56 +120,18 @@ impl Edges {
         ensures room { P.has_room past.old → P.has_room past.new }
         ensures past { Kept P.goes P.sound P.ended P.faults past.old past.new }
     {
-        move_each(&self.offsets, &mut self.spots, past, t, visit)
-    }
-}
-
-/// Moves edges of these offsets, each from its spot, to time t, one after the other.
-fn move_each<P: Past, V: Visit>(
-    offsets: &[u64],
-    spots: &mut [Spot],
-    past: &mut P,
-    t: u64,
-    visit: &mut V,
-) -> Result<(), MoveFault<V::Fault>>
-    requires same { length spots.old ≡ length offsets.now }
-    requires few { length spots.old < 2 ^ 32 }
-    requires within { AreWithin spots.old (length (P.events past.old)) }
-    ensures moved { OnOk result (Moved V.step visit.old visit.new offsets.now t
-        (numbers_of spots.old) (numbers_of spots.new)
-        (λ edge. P.sound past.old × IsSpelledAt (P.spells past.old) spots.old edge)
-        (P.events past.old) (length offsets.now)) }
-    ensures halted { IfErr result (λ fault. HaltsAt V.step visit.old visit.new offsets.now t
-        (numbers_of spots.old) (numbers_of spots.new)
-        (λ edge. P.sound past.old × IsSpelledAt (P.spells past.old) spots.old edge)
-        (P.events past.old) fault) }
-    ensures stops { P.ended past.old → 0 < length offsets.now →
-        IsErrOf result (MoveFault.Past PastFault.Ended) }
-    ensures unvisited { P.ended past.old → visit.new ≡ visit.old }
-    ensures cause { (fault : PastFault) → IsErrOf result (MoveFault.Past fault) →
-        HasCause (P.illegal past.new) ⊥ (P.ended past.old) (P.faults past.old) (P.faults past.new) fault }
-    ensures never_damaged { (place : ℕ) → P.sound past.old → All (P.spells past.old) spots.old →
-        IsErrOf result (MoveFault.Past (PastFault.Damaged place)) → ⊥ }
-    ensures same { length spots.new ≡ length spots.old }
-    ensures within { AreWithin spots.new (length (P.events past.old)) }
-    ensures spells { P.sound past.old → (edge : ℕ) →
-        IsSpelledAt (P.spells past.old) spots.old edge →
-        IsSpelledAt (P.spells past.new) spots.new edge }
-    ensures events { P.events past.new ≡ P.events past.old }
-    ensures room { P.has_room past.old → P.has_room past.new }
-    ensures past { Kept P.goes P.sound P.ended P.faults past.old past.new }
-{
-    'edges: for edge in 0..spots.len() {
-        let mut spot = spots[edge];
-        let offset = offsets[edge];
-        let moved = move_edge(past, &mut spot, edge as u32, offset, t, visit);
-        spots[edge] = spot;
-        match moved {
-            Err(fault) => return Err(fault),
-            Ok(()) => {}
+        'edges: for edge in 0..self.spots.len() {
+            let mut spot = self.spots[edge];
+            let offset = self.offsets[edge];
+            let moved = move_edge(past, &mut spot, edge as u32, offset, t, visit);
+            self.spots[edge] = spot;
+            match moved {
+                Err(fault) => return Err(fault),
+                Ok(()) => {}
+            }
         }
+        Ok(())
     }
-    Ok(())
 }
 
 /// Moves one edge to time t.
@@ -181,23 +144,12 @@ fn move_edge<P: Past, V: Visit>(
     visit: &mut V,
 ) -> Result<(), MoveFault<V::Fault>>
     requires { spot.old.number ≤ length (P.events past.old) }
-    ensures went { OnOk result (Went V.step edge visit.old visit.new spot.old.number spot.new.number
+    ensures goes { Goes V.step edge visit.old visit.new spot.old.number spot.new.number
         (P.sound past.old × P.spells past.old spot.old)
-        (passed (P.events past.old) t offset spot.old.number) []) }
-    ensures stops { IfErr result (λ fault. StopsAt V.step edge visit.old visit.new spot.old.number spot.new.number
-        (P.sound past.old × P.spells past.old spot.old)
-        (passed (P.events past.old) t offset spot.old.number) fault) }
-    ensures refuses { P.ended past.old → IsErrOf result (MoveFault.Past PastFault.Ended) }
-    ensures unvisited { P.ended past.old → visit.new ≡ visit.old }
-    ensures cause { (fault : PastFault) → IsErrOf result (MoveFault.Past fault) →
-        HasCause (P.illegal past.new) ⊥ (P.ended past.old) (P.faults past.old) (P.faults past.new) fault }
-    ensures never_damaged { (place : ℕ) → P.sound past.old → P.spells past.old spot.old →
-        IsErrOf result (MoveFault.Past (PastFault.Damaged place)) → ⊥ }
-    ensures within { spot.new.number ≤ length (P.events past.old) }
-    ensures spells { P.sound past.old → P.spells past.old spot.old → P.spells past.new spot.new }
-    ensures events { P.events past.new ≡ P.events past.old }
-    ensures room { P.has_room past.old → P.has_room past.new }
-    ensures past { Kept P.goes P.sound P.ended P.faults past.old past.new }
+        (passed (P.events past.old) t offset spot.old.number) result }
+    ensures refuses { MayRefuse (P.illegal past.new) (P.ended past.old) (P.sound past.old × P.spells past.old spot.old)
+        (P.faults past.old) (P.faults past.new) visit.old visit.new result }
+    ensures keeps { Keeps P.goes P.sound P.ended P.has_room P.events P.faults P.spells past.old past.new spot.old spot.new }
 {
     'edge: loop {
         let event = match past.peek(spot) {

@@ -1,4 +1,4 @@
-use Rattle.std.proofs.Common.{◌≡◌, ◌+◌, ◌<◌, ◌∙◌, ap, sym, arith, ◌∷◌, length}
+use Rattle.std.proofs.Common.{◌≡◌, ◌+◌, ◌<◌, ◌∙◌, ap, sym, arith, ◌∷◌, length, rules}
 use Rattle.std.specs.Prelude.{slice_get}
 use Rattle.std.specs.Option.{option_copied}
 use Rattle.rg_past.specs.declared.past.PastFault.TheVariants.{Damaged}
@@ -7,23 +7,23 @@ use Rattle.rg_window.specs.Passing.{passed}
 use Rattle.rg_window.proofs.Chains.{ok_err, past_err, Went-end, Went-more, Refused-next, passed-come, passed-stays, passed-end}
 use Rattle.rg_window.proofs.edges.move_edge.Goals as goal
 
-pub returns-in-Ok-None-clause-went : goal.returns-in-Ok-None-clause-went
-returns-in-Ok-None-clause-went g c =
+pub returns-in-Ok-None-clause-goes : goal.returns-in-Ok-None-clause-goes
+returns-in-Ok-None-clause-goes g c =
     let i = c.edge.invariant in
     Went-end _ c.args.edge _ _ _ _ c.peek.new.spot.number _ _ _ i.went c.peek.ensures.number
     (λ s. passed-end (g.P.Past.events c.args.past.now) c.args.t c.args.offset c.edge.spot.number
     (ap (λ v. slice_get v c.edge.spot.number) (sym i.events) ∙ sym (c.in-Ok-None.ensures.event (i.past.sound s.0) (i.spells s.0 s.1)) ∙ ap option_copied c.in-Ok-None.field-0-is))
 
-pub returns-then-not-has_come_to-clause-went : goal.returns-then-not-has_come_to-clause-went
-returns-then-not-has_come_to-clause-went g c =
+pub returns-then-not-has_come_to-clause-goes : goal.returns-then-not-has_come_to-clause-goes
+returns-then-not-has_come_to-clause-goes g c =
     let i = c.edge.invariant in
     Went-end _ c.args.edge _ _ _ _ c.peek.new.spot.number _ _ _ i.went c.peek.ensures.number
     (λ s. passed-stays (g.P.Past.events c.args.past.now) c.args.t c.args.offset c.edge.spot.number c.in-Ok-Some.event.now
     (ap (λ v. slice_get v c.edge.spot.number) (sym i.events) ∙ sym (c.in-Ok-Some.ensures.event (i.past.sound s.0) (i.spells s.0 s.1)) ∙ ap option_copied c.in-Ok-Some.field-0-is)
     (sym c.if-not-has_come_to.ensures))
 
-pub returns-in-Err-event-clause-stops : goal.returns-in-Err-event-clause-stops
-returns-in-Err-event-clause-stops g c =
+pub returns-in-Err-event-clause-goes : goal.returns-in-Err-event-clause-goes
+returns-in-Err-event-clause-goes g c =
     let i = c.edge.invariant in
     Refused-next _ c.args.edge _ _ _ _ _ c.peek.new.spot.number _ _ _ _ c.in-Ok-Some.event.now _ i.went c.in-Err-event.ensures c.peek.ensures.number
     (λ s. passed-come (g.P.Past.events c.args.past.now) c.args.t c.args.offset c.edge.spot.number c.in-Ok-Some.event.now
@@ -50,7 +50,12 @@ edge-preserved g c =
       unvisited = λ e. absurd (ok_err (c.in-Ok-Some.ensures.ended.1 (i.past.ended.1 e)));
     }
 
-pub returns-in-Err-clause-never_damaged : goal.returns-in-Err-clause-never_damaged
-returns-in-Err-clause-never_damaged g c = λ place sound spelled is.
+pub returns-in-Err-clause-refuses : goal.returns-in-Err-clause-refuses
+returns-in-Err-clause-refuses g c =
     let i = c.edge.invariant in
-    c.in-Err.ensures.never_damaged place (i.past.sound sound) (i.spells sound spelled) (past_err c.in-Err.fault (Damaged place) is)
+    record {
+      ended = search rules;
+      unvisited = i.unvisited;
+      cause = search rules;
+      never_damaged = λ place told is. c.in-Err.ensures.never_damaged place (i.past.sound told.0) (i.spells told.0 told.1) (past_err c.in-Err.fault (Damaged place) is);
+    }

@@ -78,6 +78,11 @@ pub record LeavesStore {H : Type 0} (now : H → Option Image) (may : H → Imag
   pub disk : disk_faults old ≤ disk_faults new
   pub out : out_faults old ≤ out_faults new
 
+-- the same, and what only a commit changes stays
+pub record LeavesLog {H : Type 0} (now : H → Option Image) (may : H → Image → Type 0) (clock : H → ℕ) (since : H → ℕ → Moment → Type 0) (disk_faults out_faults : H → ℕ) (r then : Reservoir) (old new : H) : Type 0 where
+  pub base : base then ≡ base r
+  pub store : LeavesStore now may clock since disk_faults out_faults old new
+
 -- no file was written, and what stopped a replay of any log has its cause
 pub record EndsOver {H : Type 0} (now : H → Option Image) (may : H → Image → Type 0) (clock : H → ℕ) (since : H → ℕ → Moment → Type 0) (disk_faults out_faults : H → ℕ) (shape : Shape) (result : Result Unit ReplayFault) (old new : H) : Type 0 where
   pub leaves : LeavesStore now may clock since disk_faults out_faults old new

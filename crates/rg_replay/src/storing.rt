@@ -1,4 +1,5 @@
 ghost use Rattle.std.specs.Prelude.{◌≡◌, ◌+◌, ℕ, List, IfOk, IfErr, IfSome, OnOk};
+ghost use Rattle.std.specs.Result.{MatchResult};
 ghost use Rattle.rg_event.specs.declared.event.Event.{Event as TheEvent};
 ghost use Rattle.rg_metric.specs.Queries.{Asked};
 ghost use Rattle.rg_reservoir.specs.Kept.{base};
@@ -30,11 +31,10 @@ pub(crate) fn step_stored<H: Host, L: Ledger>(
     requires placed { IsPlaced reservoir.old engine.old spot.old }
     ensures came { (queries : List Asked) (events : List TheEvent) →
         IsPlaying queries events (H.now host.old) (H.may host.old) (⟦<MemTable as Table>⟧.tells engine.old.table) (⟦<MemTable as Table>⟧.cell engine.old.table) reservoir.old engine.old spot.old →
-        IfOk result (λ found. Came queries events spot.old.number found
-        (IsPlaying queries events (H.now host.new) (H.may host.new) (⟦<MemTable as Table>⟧.tells engine.new.table) (⟦<MemTable as Table>⟧.cell engine.new.table) reservoir.new engine.new spot.new)) }
-    ensures outside { (queries : List Asked) (events : List TheEvent) →
-        IsPlaying queries events (H.now host.old) (H.may host.old) (⟦<MemTable as Table>⟧.tells engine.old.table) (⟦<MemTable as Table>⟧.cell engine.old.table) reservoir.old engine.old spot.old →
-        IfErr result IsFromOutside }
+        MatchResult result
+        (λ found. Came queries events spot.old.number found
+        (IsPlaying queries events (H.now host.new) (H.may host.new) (⟦<MemTable as Table>⟧.tells engine.new.table) (⟦<MemTable as Table>⟧.cell engine.new.table) reservoir.new engine.new spot.new))
+        IsFromOutside }
     ensures placed { OnOk result (IsPlaced reservoir.new engine.new spot.new) }
     ensures one { IfOk result (λ found. IfSome found (λ _. spot.new.number ≡ spot.old.number + 1)) }
     ensures cause { IfErr result (λ fault. IsCaused H.now H.disk_faults H.out_faults (base reservoir.old) fault host.old host.new) }

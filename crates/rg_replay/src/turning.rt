@@ -4,7 +4,7 @@ ghost use Rattle.rg_host.specs.Lines.{ended};
 ghost use Rattle.rg_host.specs.Puts.{Puts};
 ghost use Rattle.rg_metric.specs.Queries.{Asked};
 ghost use Rattle.rg_reservoir.specs.Kept.{base};
-ghost use Rattle.rg_replay.specs.Playing.{IsPlaced, IsPlaying, IsCaused, LeavesStore, Turned};
+ghost use Rattle.rg_replay.specs.Playing.{IsPlaced, IsPlaying, IsCaused, LeavesLog, Turned};
 
 use crate::fault::ReplayFault;
 use crate::stepping::Told;
@@ -40,8 +40,7 @@ pub(crate) fn turn<H: Host, L: Ledger>(
     ensures placed { OnOk result (IsPlaced reservoir.new engine.new spot.new) }
     ensures one { IfOk result (λ more. IsTrue more → (spot.new.number ≡ spot.old.number + 1) × (spot.new.number ≤ 2 ^ 40)) }
     ensures cause { IfErr result (λ fault. IsCaused H.now H.disk_faults H.out_faults (base reservoir.old) fault host.old host.new) }
-    ensures leaves { LeavesStore H.now H.may H.clock H.since H.disk_faults H.out_faults host.old host.new }
-    ensures base { base reservoir.new ≡ base reservoir.old }
+    ensures log { LeavesLog H.now H.may H.clock H.since H.disk_faults H.out_faults reservoir.old reservoir.new host.old host.new }
 {
     let Told { event, answers } = match step_stored(alloc, host, reservoir, engine, spot, steps) {
         Ok(Some(told)) => told,

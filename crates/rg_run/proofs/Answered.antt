@@ -3,22 +3,21 @@ use Rattle.std.proofs.Common.{◌≡◌, ◌⊎◌, inl, inr, ⊎_elim, ℕ, ◌
 use Rattle.std.specs.Prelude.{IfOk, OnOk}
 use Rattle.rg_bytes.specs.Counts.{Rose}
 use Rattle.rg_bytes.specs.Known.{IsAtEnd}
-use Rattle.rg_host.specs.Moments.{Moment, Moments}
+use Rattle.rg_host.specs.Moments.{Moments}
 use Rattle.rg_host.specs.Reading.{Reading}
 use Rattle.rg_host.proofs.Runs.{moments_then}
 use Rattle.rg_config.specs.Plans.{Planned}
 use Rattle.rg_course.specs.Stores.{StaysOnCourse}
-use Rattle.rg_run.specs.Turning.{HasStopped}
 use Rattle.rg_run.specs.Answered.{StaysTrue, Explains}
 use Rattle.rg_task.specs.View.{View}
 use Rattle.rg_run.specs.Begun.{Begun, course_for}
 use Rattle.rg_run.specs.Reading.{HasTaken, IsWithinLimit}
-use Rattle.rg_run.specs.Turned.{GoesTrue, IsReadOut}
+use Rattle.rg_run.specs.Turned.{GoesTrue, IsReadOut, StopsFor}
 use Rattle.rg_run.specs.UnderWay.{HasFinished}
 use Rattle.rg_run.specs.declared.fault.RunFault.{RunFault}
 use Rattle.rg_run.specs.declared.fault.RunFault.TheVariants.{Disk, Damaged, SchemaDiffers, BadState, Gap, Read, Limit, Memory, Write}
-use Rattle.rg_run.proofs.Causes.{err_is, gap_is, gap_others, if_err_by, put_others}
-use Rattle.rg_run.proofs.Taking.{within}
+use Rattle.rg_run.proofs.Causes.{err_is, gap_is, gap_others, ok_never, on_ok, put_others}
+use Rattle.rg_run.proofs.Taking.{longer, within}
 
 module _ {K : Type 0} (view : View K) (plan : Planned) (b : Begun) (left : Option (List ℕ)) (old new : K) (moments : Moments view.clock view.since old new (StaysOnCourse (view.store plan) (course_for plan b) [])) where
   -- a gap
@@ -45,16 +44,27 @@ module _ {K : Type 0} (view : View K) (plan : Planned) (b : Begun) (left : Optio
         never_damaged = λ k is. (not.4 k).1 (err_is fault (Damaged k) is);
       }
 
--- the open line was put, and the lines were answered
-pub true_from : {K A : Type 0} (view : View K) (plan : Planned) (b : Begun) (left : Option (List ℕ)) (old mid new : K) (r : Result A RunFault) → Moments view.clock view.since old mid (StaysOnCourse (view.store plan) (course_for plan b) [])
-    → GoesTrue view plan b left (λ _. HasFinished view plan b new) r mid new → StaysTrue view plan b left r old new
-true_from view plan b left old mid new r first goes = record {
+  -- all lines were answered, and the end was put
+  pub true_at_end : {A : Type 0} (value : A) → HasFinished view plan b new → StaysTrue view plan b left (Ok value) old new
+  true_at_end value done = record {
+    moments = moments;
+    finished = done;
+    stopped = tt;
+    answered = tt;
+    never_bad = λ n is. ok_never value (BadState n) is;
+    never_damaged = λ p is. ok_never value (Damaged p) is;
+  }
+
+-- the last line that was taken was not answered
+pub true_then : {K A B : Type 0} (view : View K) (plan : Planned) (b : Begun) (left : Option (List ℕ)) (old mid new : K) (fault : RunFault) (Done : B → Type 0) → Moments view.clock view.since old mid (StaysOnCourse (view.store plan) (course_for plan b) [])
+    → GoesTrue view plan b left Done (Err fault) mid new → StaysTrue view {A = A} plan b left (Err fault) old new
+true_then view plan b left old mid new fault Done first goes = record {
   moments = moments_then view.clock view.since old mid new (StaysOnCourse (view.store plan) (course_for plan b) []) (StaysOnCourse (view.store plan) (course_for plan b) []) (StaysOnCourse (view.store plan) (course_for plan b) []) first goes.moments (λ m h. h) (λ m h. h);
-  finished = goes.done;
-  stopped = if_err_by r (λ f. (f ≡ Write) ⊎ HasStopped view plan (course_for plan b) new) (λ f. (f ≡ Write) ⊎ (HasStopped view plan (course_for plan b) new ⊎ (new ≡ old))) (λ f. ⊎_elim (λ write. inl write) (λ stopped. inr (inl stopped))) goes.stopped;
+  finished = tt;
+  stopped = ⊎_elim (λ write. inl write) (λ stopped. inr (inl stopped)) goes.stopped;
   answered = goes.answered;
-  never_bad = goes.never_bad;
-  never_damaged = goes.never_damaged;
+  never_bad = λ n is. goes.never_bad n (ap (λ f. Err f) (err_is fault (BadState n) is));
+  never_damaged = λ p is. goes.never_damaged p (ap (λ f. Err f) (err_is fault (Damaged p) is));
 }
 
 module _ {K I : Type 0} (view : View K) (disk_faults out_faults : K → ℕ) (left : I → Option (List ℕ)) (faults : I → ℕ) (plan : Planned) (first : ℕ) (input : I) (old : K) where
@@ -97,6 +107,27 @@ module _ {K I : Type 0} (view : View K) (disk_faults out_faults : K → ℕ) (le
       }
 
 -- all of an input was read
-pub read_all_by : {A : Type 0} (r : Result A RunFault) (start left : Option (List ℕ)) (reading : Reading) → HasTaken start left reading → IfOk r (λ _. IsReadOut reading) → OnOk r (IsAtEnd left) × OnOk r (IsWithinLimit (2 ^ 50) start)
+read_all_by : {A : Type 0} (r : Result A RunFault) (start left : Option (List ℕ)) (reading : Reading) → HasTaken start left reading → IfOk r (λ _. IsReadOut reading) → OnOk r (IsAtEnd left) × OnOk r (IsWithinLimit (2 ^ 50) start)
 read_all_by (Ok a) start left reading taken end = (taken.at_end end.ended, within start left reading (2 ^ 50) taken (taken.at_end end.ended) end.few)
 read_all_by (Err f) start left reading taken end = (tt, tt)
+
+-- lines of the input were answered, and why no more
+pub lines_explained : {K I A : Type 0} (view : View K) (disk_faults out_faults : K → ℕ) (left : I → Option (List ℕ)) (faults : I → ℕ) (plan : Planned) (first : ℕ) (input input_then : I) (old new : K) (reading : Reading) (r : Result A RunFault) → first ≤ (view.at old).next → HasTaken (left input) (left input_then) reading → IfOk r (λ _. IsReadOut reading)
+    → StopsFor view disk_faults out_faults faults plan reading.taken r input input_then old new → Explains view disk_faults out_faults left faults plan first r input input_then old new
+lines_explained view disk_faults out_faults left faults plan first input input_then old new reading r ahead taken end why =
+    let all = read_all_by r (left input) (left input_then) reading taken end in
+    record {
+      behind = λ h. absurd (omega (arith, h, ahead));
+      gap = λ n is. absurd (why.gap n is);
+      no_gap = on_ok r (first ≤ (view.at old).next) ahead;
+      differs = why.differs;
+      bad = why.bad;
+      undamaged = why.undamaged;
+      damaged = why.damaged;
+      at_end = all.0;
+      within = all.1;
+      read = why.read;
+      limit = λ is. longer (left input) (left input_then) reading (2 ^ 50) taken (why.limit is);
+      write = why.write;
+      disk = why.disk;
+    }

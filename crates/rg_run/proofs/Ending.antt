@@ -1,9 +1,9 @@
 -- The end of a run: all events are saved, and the last lines are put.
-use Rattle.std.proofs.Common.{◌≡◌, ℕ, ◌+◌, ◌≤◌, ◌<◌, ◌^◌, List, [], ◌++◌, length, Option, Some, refl, sym, ◌∙◌, ap, subst, arith}
+use Rattle.std.proofs.Common.{◌≡◌, ℕ, ◌+◌, ◌≤◌, ◌<◌, ◌^◌, List, [], ◌++◌, length, Some, refl, sym, ◌∙◌, ap, subst, arith}
 use Rattle.std.proofs.lemmas.List.{append-nil}
 use Rattle.rg_host.specs.Image.{Image}
 use Rattle.rg_host.specs.Lines.{ended}
-use Rattle.rg_host.specs.Moments.{Moment, Moments, LeavesFiles}
+use Rattle.rg_host.specs.Moments.{Moments, LeavesFiles}
 use Rattle.rg_host.specs.Puts.{IsPrefix, IsPartWay, Puts}
 use Rattle.rg_host.proofs.Runs.{moments_then}
 use Rattle.rg_event.specs.declared.event.Event.{Event}

@@ -1,7 +1,6 @@
 -- A moment between two lines, after chunks were loaded ahead.
 use Rattle.std.proofs.Common.{◌≡◌, ℕ, List, [], ◌++◌, Option, sym, ◌∙◌, subst}
-use Rattle.rg_host.specs.Image.{Image}
-use Rattle.rg_host.specs.Moments.{Moment, Moments, LeavesAll}
+use Rattle.rg_host.specs.Moments.{Moments, LeavesAll}
 use Rattle.rg_event.specs.declared.event.Event.{Event}
 use Rattle.rg_config.specs.Plans.{Planned}
 use Rattle.rg_course.specs.Stores.{Course, StaysOnCourse}

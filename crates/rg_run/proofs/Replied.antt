@@ -1,9 +1,8 @@
 -- A turn at which a line is taken, what is due is done, and the lines are gathered.
 use Rattle.std.proofs.Common.{◌≡◌, ◌⊎◌, inl, inr, ℕ, ◌+◌, ◌≤◌, ◌<◌, ◌^◌, List, [], ◌∷◌, ◌++◌, length, Option, Some, Result, refl, sym, ◌∙◌, ap, subst}
-use Rattle.std.specs.Option.{ForSome}
 use Rattle.rg_host.specs.Image.{Image}
 use Rattle.rg_host.specs.Lines.{ended}
-use Rattle.rg_host.specs.Moments.{Moment, Moments, LeavesAll}
+use Rattle.rg_host.specs.Moments.{Moments, LeavesAll}
 use Rattle.rg_host.proofs.Runs.{leaves_all-none}
 use Rattle.rg_event.specs.declared.event.Event.{Event}
 use Rattle.rg_event.specs.Rising.{next_offset}

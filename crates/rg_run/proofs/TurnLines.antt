@@ -19,7 +19,6 @@ use Rattle.rg_course.proofs.Steps.{Item}
 use Rattle.rg_run.specs.declared.due.Due.{Due}
 use Rattle.rg_run.specs.declared.due.Due.TheVariants.{Nothing, Commit, Save}
 use Rattle.rg_run.specs.Due.{marks_for}
-use Rattle.rg_task.specs.Stepping.{IsAllSaved}
 use Rattle.rg_task.specs.Terms.{terms_of}
 use Rattle.rg_task.specs.View.{View}
 use Rattle.rg_run.specs.Turning.{IsMidTurn, IsDueDone}

@@ -1,5 +1,5 @@
 -- What a line that was answered leaves, and why one was not.
-use Rattle.std.proofs.Common.{◌≡◌, ◌⊎◌, inl, inr, ℕ, ◌<◌, ◌^◌, true, false, Option, Ok, Err, refl, sym, ◌∙◌, subst}
+use Rattle.std.proofs.Common.{◌≡◌, ◌⊎◌, inl, inr, ℕ, ◌<◌, ◌^◌, true, false, Ok, Err, refl, sym, ◌∙◌, subst}
 use Rattle.rg_bytes.specs.Counts.{Rose}
 use Rattle.rg_config.specs.Plans.{Planned}
 use Rattle.rg_task.specs.declared.fault.TaskFault.TheVariants as task

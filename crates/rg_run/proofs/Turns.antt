@@ -1,10 +1,10 @@
 -- A run from one line of its input to the next.
-use Rattle.std.proofs.Common.{◌≡◌, true, ◌⊎◌, inl, inr, ⊎_elim, ℕ, ◌+◌, List, [], ◌∷◌, ◌++◌, length, Option, Some, Result, Ok, Err, refl, ap, sym, ◌∙◌, subst, arith, append_assoc, length-append}
+use Rattle.std.proofs.Common.{◌≡◌, Bool, true, ◌⊎◌, inl, inr, ⊎_elim, ℕ, ◌+◌, List, [], ◌∷◌, ◌++◌, length, Option, Some, Result, Ok, Err, refl, ap, sym, ◌∙◌, subst, arith, append_assoc, length-append}
 use Rattle.std.proofs.lemmas.List.{append-nil, append_cancel_right}
-use Rattle.std.specs.Prelude.{◌≤◌, OnOk, IfErr}
+use Rattle.std.specs.Prelude.{OnOk, IfErr}
 use Rattle.rg_host.specs.Image.{Image}
 use Rattle.rg_host.specs.Lines.{ended}
-use Rattle.rg_host.specs.Moments.{Moment, Moments}
+use Rattle.rg_host.specs.Moments.{Moments}
 use Rattle.rg_host.specs.Reading.{Reading, Next}
 use Rattle.rg_host.specs.declared.lines.Line.TheVariants.{End}
 use Rattle.rg_host.specs.declared.lines.LineFault.{LineFault}
@@ -26,7 +26,7 @@ use Rattle.rg_run.proofs.Replied.{still_on_course}
 use Rattle.rg_task.specs.State.{State}
 use Rattle.rg_task.specs.View.{View, OnlyNow, Sinks}
 use Rattle.rg_run.specs.Begun.{Begun, course_for}
-use Rattle.rg_run.specs.Faults.{of_turn}
+use Rattle.rg_run.specs.Faults.{of_turn, of_line}
 use Rattle.rg_run.specs.Gathered.{PutsOnly, StopsFrom}
 use Rattle.rg_run.specs.Turned.{MoreOr, GoesTrue}
 use Rattle.rg_run.specs.UnderWay.{IsUnderWay, Answers, HasAnswered, HasFinished}
@@ -123,6 +123,18 @@ module _ {K : Type 0} (view : View K) (plan : Planned) (b : Begun) (left : Optio
           (subst (λ (r : Result A TurnFault). IfErr r (λ f. (n : ℕ) → f ≡ turn.Task (task.BadState n) → ⊥)) is line_never_bad)
           (subst (λ (r : Result A TurnFault). IfErr r (λ f. (p : ℕ) → f ≡ turn.Task (task.Damaged p) → ⊥)) is line_never_damaged)
           (line_stopped fault is)
+
+    goes_by : {A : Type 0} (result : Result A TurnFault) (offset_then : ℕ) (gathered_then : List ℕ) (new : K) → Answers view plan item offset offset_then gathered gathered_then old new result → OnOk result (offset_then ≡ offset + 1)
+        → GoesTrue view plan b then_left (MoreOr (IsUnderWay view plan b then_left new_r offset_then new gathered_then) (HasFinished view plan b new)) (of_line result) old new
+    goes_by (Ok done) offset_then gathered_then new a moved = goes_on (Ok done) offset_then gathered_then new a done refl moved
+    goes_by (Err fault) offset_then gathered_then new a moved = goes_err (Err fault) offset_then gathered_then new a (MoreOr (IsUnderWay view plan b then_left new_r offset_then new gathered_then) (HasFinished view plan b new)) fault (of_turn fault) refl refl
+
+    pub line_goes : {A : Type 0} (result : Result A TurnFault) (offset_then : ℕ) (gathered_then : List ℕ) (new : K) → Answers view plan item offset offset_then gathered gathered_then old new result → OnOk result (offset_then ≡ offset + 1)
+        → (ran : Result Bool RunFault) → ran ≡ of_line result
+        → GoesTrue view plan b then_left (MoreOr (IsUnderWay view plan b then_left new_r offset_then new gathered_then) (HasFinished view plan b new)) ran old new
+    line_goes result offset_then gathered_then new a moved ran ran_is =
+        subst (λ (r : Result Bool RunFault). GoesTrue view plan b then_left (MoreOr (IsUnderWay view plan b then_left new_r offset_then new gathered_then) (HasFinished view plan b new)) r old new)
+        (sym ran_is) (goes_by result offset_then gathered_then new a moved)
 
   -- the end came
   pub end_awaits : (then_left : Option (List ℕ)) (new_r : Reading) → Next old_r new_r left then_left (Ok End) → IsAwaiting view plan (course_for plan b) offset [] old gathered

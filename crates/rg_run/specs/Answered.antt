@@ -1,10 +1,9 @@
 -- How the lines of an opened store's run were answered.
-use Rattle.std.specs.Prelude.{◌≡◌, ◌⊎◌, ◌≤◌, ◌<◌, ◌^◌, ℕ, List, [], length, false, Option, Some, OnOk, IfErr, IsErrOf, Result}
+use Rattle.std.specs.Prelude.{◌≡◌, ◌⊎◌, ◌≤◌, ◌<◌, ◌^◌, ℕ, List, [], false, Option, Some, OnOk, IfErr, IsErrOf, Result}
 use Rattle.rg_bytes.specs.Counts.{Rose}
 use Rattle.rg_bytes.specs.Known.{IsAtEnd}
 use Rattle.rg_host.specs.Moments.{Moments}
 use Rattle.rg_host.specs.Reading.{Reading}
-use Rattle.rg_event.specs.Rising.{next_offset}
 use Rattle.rg_config.specs.Plans.{Planned}
 use Rattle.rg_course.specs.Stores.{StaysOnCourse}
 use Rattle.rg_course.specs.Steps.{IsAtRest}

@@ -1,5 +1,5 @@
 -- What becomes of the gathered lines before the input is read, and where it can't be read on.
-use Rattle.std.specs.Prelude.{◌≡◌, ◌⊎◌, ◌≤◌, ℕ, List, [], Option, OnOk, IfErr, IsErrOf, Result}
+use Rattle.std.specs.Prelude.{◌≡◌, ◌⊎◌, ◌≤◌, ◌+◌, ◌^◌, ℕ, List, [], false, Option, OnOk, IfErr, IsErrOf, Result}
 use Rattle.rg_bytes.specs.Counts.{Rose}
 use Rattle.rg_host.specs.Lines.{HasNoLf}
 use Rattle.rg_host.specs.Moments.{Moments}
@@ -15,6 +15,14 @@ use Rattle.rg_run.specs.declared.fault.RunFault.TheVariants.{Write}
 -- the input need not be read while something is gathered: nothing is, or the next line is held whole
 abbrev pub MayRead : List ℕ → List ℕ → Type 0
 MayRead gathered pending = (gathered ≡ []) ⊎ (¬ HasNoLf pending)
+
+-- The next line can be taken: offsets are counted with the lines, the task has not ended, and the input need not be read while something
+-- is gathered.
+pub record IsReady {K : Type 0} (view : View K) (reading : Reading) (offset : ℕ) (gathered : List ℕ) (t : K) : Type 0 where
+  pub counted : offset ≤ 2 ^ 61 + reading.spent
+  pub within : reading.spent ≤ 2 ^ 50
+  pub ahead : MayRead gathered reading.pending
+  pub going : (view.at t).ended ≡ false
 
 module _ {K : Type 0} (view : View K) (disk_faults out_faults : K → ℕ) where
   -- A call that puts gathered lines, or a part of them, and does nothing else: a run under way is on its course at each moment of it.

@@ -14,44 +14,6 @@ use crate::turning::Turning;
 use rg_task::{Task, TaskFault};
 
 impl Turning {
-    /// At the end of the input stores all events, saves a checkpoint of them, and puts the lines that say
-    /// so, with the last line, where nothing is gathered. Each refusal but `Write` leaves whole lines put.
-    fn close<K: Task>(&mut self, task: &mut K) -> Result<(), TurnFault>
-        requires small { self.old.offset < 2 ^ 62 }
-
-        ensures moments { (plan : Planned) (course : Course) →
-            IsAwaiting K.view plan course self.old.offset [] task.old [] →
-            Moments K.view.clock K.view.since task.old task.new (StaysOnCourse (K.view.store plan) course []) }
-        ensures done { (plan : Planned) (course : Course) →
-            IsAwaiting K.view plan course self.old.offset [] task.old [] →
-            OnOk result ((put : List ℕ) × (K.view.said task.new ≡ Some put) × IsDone (K.view.store plan) course (K.view.may task.new) put) }
-        ensures read { (plan : Planned) (course : Course) (v : Image) →
-            IsAwaiting K.view plan course self.old.offset [] task.old [] →
-            K.view.now task.new ≡ Some v → OnOk result ((K.view.store plan).IsTruthful v × (K.view.store plan).HasEvents course.accepted v) }
-        ensures stopped { (plan : Planned) (course : Course) →
-            IsAwaiting K.view plan course self.old.offset [] task.old [] →
-            IfErr result (λ fault. (fault ≡ TurnFault.Write) ⊎ HasStopped K.view plan course task.new) }
-
-        ensures write { IsErrOf result TurnFault.Write → Rose (K.out_faults task.old) (K.out_faults task.new) }
-        ensures disk { IsErrOf result (TurnFault.Task TaskFault.Disk) → Rose (K.disk_faults task.old) (K.disk_faults task.new) }
-        ensures ended { IsErrOf result (TurnFault.Task TaskFault.Ended) → (K.view.at task.old).ended ≡ true }
-        ensures faults { IfErr result (λ fault. (fault ≡ TurnFault.Task TaskFault.Disk) ⊎ (fault ≡ TurnFault.Task TaskFault.Memory) ⊎ (fault ≡ TurnFault.Task TaskFault.Ended) ⊎ (fault ≡ TurnFault.Write)) }
-        ensures log { K.view.goes task.old task.new }
-        ensures disk_faults { K.disk_faults task.old ≤ K.disk_faults task.new }
-        ensures out_faults { K.out_faults task.old ≤ K.out_faults task.new }
-    {
-        match task.save() {
-            Ok(_count) => {}
-            Err(fault) => return Err(TurnFault::Task(fault)),
-        }
-        let next = task.next();
-        let count = task.count();
-        match tell_end(task, &mut self.text, self.offset, next, count) {
-            Ok(()) => Ok(()),
-            Err(fault) => Err(fault),
-        }
-    }
-
     /// At the end of the input puts what is gathered, stores all events, saves a checkpoint of them, and
     /// puts the lines that say so, with the last line. Each refusal but `Write` leaves whole lines put.
     pub fn finish<K: Task>(&mut self, task: &mut K) -> Result<(), TurnFault>
@@ -82,9 +44,12 @@ impl Turning {
             Ok(()) => {}
             Err(fault) => return Err(fault),
         }
-        match self.close(task) {
-            Ok(()) => Ok(()),
-            Err(fault) => Err(fault),
+        match task.save() {
+            Ok(_count) => {}
+            Err(fault) => return Err(TurnFault::Task(fault)),
         }
+        let next = task.next();
+        let count = task.count();
+        tell_end(task, &mut self.text, self.offset, next, count)
     }
 }

@@ -6,15 +6,12 @@
 #![tactic(auto)]
 
 mod ahead;
-mod answer;
 mod due;
 mod fault;
 mod finish;
 mod gather;
-mod lines;
 mod load;
 mod obey;
-mod refuse;
 mod running;
 mod save;
 mod settle;

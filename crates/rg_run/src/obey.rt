@@ -32,59 +32,6 @@ fn due_asked(control: Control) -> Due
     }
 }
 
-/// Stores or saves all events, where a line asks for that, and gathers its reply with the marks. Each refusal
-/// but `Write` leaves whole lines put, and nothing gathered.
-pub(crate) fn obey_line<K: Task>(
-    task: &mut K,
-    text: &mut Vec<u8>,
-    gathered: &mut Vec<u8>,
-    offset: u64,
-    control: Control,
-) -> Result<(), TurnFault>
-    requires next { (K.view.at task.old).next ≤ offset }
-    requires small { offset < 2 ^ 62 }
-
-    ensures moments { (plan : Planned) (course : Course) (item : Option (List ℕ)) (items : List (Option (List ℕ))) →
-        IsAwaiting K.view plan course offset (item ∷ items) task.old gathered.old.items →
-        control_at (terms_of plan).basis offset item ≡ Some control →
-        Moments K.view.clock K.view.since task.old task.new (StaysOnCourse (K.view.store plan) course []) }
-    ensures awaits { (plan : Planned) (course : Course) (item : Option (List ℕ)) (items : List (Option (List ℕ))) →
-        IsAwaiting K.view plan course offset (item ∷ items) task.old gathered.old.items →
-        control_at (terms_of plan).basis offset item ≡ Some control →
-        OnOk result (IsAwaiting K.view plan course (offset + 1) items task.new gathered.new.items) }
-    ensures events { (plan : Planned) (course : Course) (item : Option (List ℕ)) (items : List (Option (List ℕ))) →
-        IsAwaiting K.view plan course offset (item ∷ items) task.old gathered.old.items →
-        control_at (terms_of plan).basis offset item ≡ Some control →
-        OnOk result ((K.view.at task.new).events ≡ after_line (terms_of plan).basis (K.view.at task.old).events offset item) }
-    ensures stopped { (plan : Planned) (course : Course) (item : Option (List ℕ)) (items : List (Option (List ℕ))) →
-        IsAwaiting K.view plan course offset (item ∷ items) task.old gathered.old.items →
-        control_at (terms_of plan).basis offset item ≡ Some control →
-        IfErr result (λ fault. (fault ≡ TurnFault.Write) ⊎ HasStopped K.view plan course task.new) }
-
-    ensures node { (plan : Planned) (n : ℕ) → K.view.node plan n task.old →
-        OnOk result (K.view.node plan n task.new) }
-    ensures placed { (plan : Planned) → K.view.placed plan task.old → OnOk result (K.view.placed plan task.new) }
-
-    ensures disk { IsErrOf result (TurnFault.Task TaskFault.Disk) → Rose (K.disk_faults task.old) (K.disk_faults task.new) }
-    ensures write { IsErrOf result TurnFault.Write → Rose (K.out_faults task.old) (K.out_faults task.new) }
-    ensures ended { IsErrOf result (TurnFault.Task TaskFault.Ended) → (K.view.at task.old).ended ≡ true }
-    ensures faults { IfErr result (λ fault. (fault ≡ TurnFault.Task TaskFault.Disk) ⊎ (fault ≡ TurnFault.Task TaskFault.Memory) ⊎ (fault ≡ TurnFault.Task TaskFault.Ended) ⊎ (fault ≡ TurnFault.Write)) }
-    ensures log { K.view.goes task.old task.new }
-    ensures goes { (K.view.at task.old).ended ≡ false → OnOk result ((K.view.at task.new).ended ≡ false) }
-    ensures disk_faults { K.disk_faults task.old ≤ K.disk_faults task.new }
-    ensures out_faults { K.out_faults task.old ≤ K.out_faults task.new }
-{
-    let due = due_asked(control);
-    match settle(task, gathered, due) {
-        Ok(()) => {}
-        Err(fault) => return Err(fault),
-    }
-    match tell(task, text, gathered, offset, &Reply::Done, due) {
-        Ok(()) => Ok(()),
-        Err(fault) => Err(stop(task, gathered, fault)),
-    }
-}
-
 impl Turning {
     /// Passes over the next line, or does what it asks for, and gathers its reply with the marks. A load ahead
     /// changes only which chunks are in memory. All that is gathered is put before a file is written. Each
@@ -135,18 +82,24 @@ impl Turning {
             Ok(()) => {}
             Err(fault) => return Err(fault),
         }
-        match obey_line(
+        let due = due_asked(control);
+        match settle(task, &mut self.gathered, due) {
+            Ok(()) => {}
+            Err(fault) => return Err(fault),
+        }
+        match tell(
             task,
             &mut self.text,
             &mut self.gathered,
             self.offset,
-            control,
+            &Reply::Done,
+            due,
         ) {
             Ok(()) => {
                 self.offset += 1;
                 Ok(())
             }
-            Err(fault) => Err(fault),
+            Err(fault) => Err(stop(task, &mut self.gathered, fault)),
         }
     }
 }

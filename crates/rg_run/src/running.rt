@@ -4,9 +4,10 @@ ghost use Rattle.rg_config.specs.Read.{IsReadPlan};
 ghost use Rattle.rg_run.specs.Answered.{IsFresh, IsToBegin, StaysTrue, Explains, CountsGrow};
 ghost use Rattle.rg_run.specs.Begun.{Begun};
 
+use crate::ahead::put_ahead;
 use crate::fault::RunFault;
-use crate::lines::answer_lines;
 use crate::telling::put_mark;
+use crate::turn::turn;
 use crate::turning::Turning;
 use rg_config::Plan;
 use rg_host::{Lines, Source};
@@ -46,7 +47,15 @@ pub fn run<I: Source, K: Task>(
         Err(fault) => return Err(fault),
     }
     let mut turning = Turning::new(alloc, first);
-    let ran = answer_lines(lines, &mut turning, plan, input, task);
-    drop(turning);
-    ran
+    'lines: loop {
+        match put_ahead(lines, &mut turning, task) {
+            Ok(()) => {}
+            Err(fault) => return Err(fault),
+        }
+        match turn(lines, &mut turning, plan, input, task) {
+            Ok(true) => {}
+            Ok(false) => return Ok(()),
+            Err(fault) => return Err(fault),
+        }
+    }
 }

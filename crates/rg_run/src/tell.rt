@@ -1,10 +1,8 @@
-ghost use Rattle.std.specs.Prelude.{◌≡◌, ◌⊎◌, ◌≤◌, ◌++◌, ◌∷◌, ℕ, List, IfErr, OnOk, OnErr, IsErrOf, length};
+ghost use Rattle.std.specs.Prelude.{◌≡◌, ◌⊎◌, ◌++◌, ◌∷◌, IfErr, OnOk, OnErr, IsErrOf, length};
 ghost use Rattle.rg_bytes.specs.Counts.{Rose};
 ghost use Rattle.rg_host.specs.Lines.{ended};
-ghost use Rattle.rg_host.specs.Moments.{LeavesFiles};
-ghost use Rattle.rg_host.specs.Puts.{IsPrefix, Puts};
 ghost use Rattle.rg_reply.specs.Texts.{reply_line};
-ghost use Rattle.rg_task.specs.View.{Keeps};
+ghost use Rattle.rg_run.specs.Calls.{PutsAll, OnlyPuts};
 ghost use Rattle.rg_run.specs.Due.{marks_for, last_lines};
 
 use crate::due::Due;
@@ -45,15 +43,11 @@ pub(crate) fn tell_end<K: Task>(
     next: u64,
     count: u64,
 ) -> Result<(), TurnFault>
-    ensures all { OnOk result (Puts K.view.said K.view.clock K.view.since task.old task.new (ended (last_lines offset next count))) }
-    ensures part { (part : List ℕ) × IsPrefix part (ended (last_lines offset next count)) × Puts K.view.said K.view.clock K.view.since task.old task.new part }
+    ensures puts { PutsAll K.view (ended (last_lines offset next count)) result task.old task.new }
+    ensures only { OnlyPuts K.view K.disk_faults K.out_faults task.old task.new }
     ensures none { IfErr result (λ fault. (fault ≡ TurnFault.Write) ⊎ (task.new ≡ task.old)) }
-    ensures keeps { Keeps K.view task.old task.new }
-    ensures leaves { LeavesFiles K.view.now K.view.may K.view.clock K.view.since task.old task.new }
     ensures write { IsErrOf result TurnFault.Write → Rose (K.out_faults task.old) (K.out_faults task.new) }
     ensures faults { IfErr result (λ fault. (fault ≡ TurnFault.Write) ⊎ (fault ≡ TurnFault.Task TaskFault.Memory)) }
-    ensures disk_faults { K.disk_faults task.new ≡ K.disk_faults task.old }
-    ensures out_faults { K.out_faults task.old ≤ K.out_faults task.new }
 {
     match write_end(text, offset, next, count) {
         Ok(()) => {}

@@ -11,10 +11,11 @@ ghost use Rattle.rg_course.specs.Stores.{Course, StaysOnCourse};
 ghost use Rattle.rg_task.specs.Terms.{terms_of};
 ghost use Rattle.rg_run.specs.Turning.{IsRow, IsRefused, IsAwaiting, HasStopped};
 
-use crate::answer::answer_line;
+use crate::due::{Due, due_at};
 use crate::fault::TurnFault;
-use crate::gather::{make_way, put_gathered};
-use crate::refuse::refuse_line;
+use crate::gather::{make_way, put_gathered, stop};
+use crate::settle::settle;
+use crate::tell::tell;
 use rg_config::Plan;
 use rg_reply::Reply;
 use rg_task::{Task, TaskFault};
@@ -70,10 +71,7 @@ impl Turning {
         ensures disk_faults { K.disk_faults task.new ≡ K.disk_faults task.old }
         ensures out_faults { K.out_faults task.old ≤ K.out_faults task.new }
     {
-        match put_gathered(task, &mut self.gathered) {
-            Ok(()) => Ok(()),
-            Err(fault) => Err(fault),
-        }
+        put_gathered(task, &mut self.gathered)
     }
 
     /// Whether the next line has an offset below that of the session's next event: an earlier run
@@ -144,19 +142,36 @@ impl Turning {
             Ok(()) => {}
             Err(fault) => return Err(fault),
         }
-        match answer_line(
+        let before = task.count();
+        let reply = match task.line(self.offset, line) {
+            Ok(reply) => reply,
+            Err(fault) => return Err(stop(task, &mut self.gathered, TurnFault::Task(fault))),
+        };
+        let due = due_at(plan.commit, plan.save, before, task.count());
+        match settle(task, &mut self.gathered, due) {
+            Ok(()) => {}
+            Err(fault) => {
+                drop(reply);
+                return Err(fault);
+            }
+        }
+        match tell(
             task,
-            plan,
             &mut self.text,
             &mut self.gathered,
             self.offset,
-            line,
+            &reply,
+            due,
         ) {
             Ok(()) => {
+                task.reuse(reply);
                 self.offset += 1;
                 Ok(())
             }
-            Err(fault) => Err(fault),
+            Err(fault) => {
+                drop(reply);
+                Err(stop(task, &mut self.gathered, fault))
+            }
         }
     }
 
@@ -193,12 +208,19 @@ impl Turning {
             self.offset += 1;
             return Ok(());
         }
-        match refuse_line(task, &mut self.text, &mut self.gathered, self.offset, reply) {
+        match tell(
+            task,
+            &mut self.text,
+            &mut self.gathered,
+            self.offset,
+            reply,
+            Due::Nothing,
+        ) {
             Ok(()) => {
                 self.offset += 1;
                 Ok(())
             }
-            Err(fault) => Err(fault),
+            Err(fault) => Err(stop(task, &mut self.gathered, fault)),
         }
     }
 }

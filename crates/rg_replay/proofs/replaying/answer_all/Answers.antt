@@ -30,8 +30,8 @@ payments-preserved g c =
     let turn = c.in-Ok-true.ensures in
     record {
       placed = turn.placed;
-      same = c.turn.ensures.base ∙ inv.same;
-      store = leaves_store-then g.H.Host.now g.H.Host.may g.H.Host.clock g.H.Host.since g.H.Host.disk_faults g.H.Host.out_faults _ _ _ inv.store c.turn.ensures.leaves;
+      same = c.turn.ensures.log.base ∙ inv.same;
+      store = leaves_store-then g.H.Host.now g.H.Host.may g.H.Host.clock g.H.Host.since g.H.Host.disk_faults g.H.Host.out_faults _ _ _ inv.store c.turn.ensures.log.store;
       goes = λ queries events is.
           let at = inv.goes queries events is in
           let more = (turn.turned queries events at.lines.held at.lines.text_is at.goes).more c.in-Ok-true.field-0-test in
@@ -67,7 +67,7 @@ returns-in-Err-clause-cause g c =
     caused_later g.H.Host.now g.H.Host.may g.H.Host.clock g.H.Host.since g.H.Host.disk_faults g.H.Host.out_faults _ _ c.in-Err.fault _ _ _ inv.same inv.store c.in-Err.ensures.cause
 
 pub returns-in-Ok-false-clause-leaves : goal.returns-in-Ok-false-clause-leaves
-returns-in-Ok-false-clause-leaves g c = leaves_store-then g.H.Host.now g.H.Host.may g.H.Host.clock g.H.Host.since g.H.Host.disk_faults g.H.Host.out_faults _ _ _ c.payments.invariant.store c.turn.ensures.leaves
+returns-in-Ok-false-clause-leaves g c = leaves_store-then g.H.Host.now g.H.Host.may g.H.Host.clock g.H.Host.since g.H.Host.disk_faults g.H.Host.out_faults _ _ _ c.payments.invariant.store c.turn.ensures.log.store
 
 pub returns-in-Err-clause-leaves : goal.returns-in-Err-clause-leaves
-returns-in-Err-clause-leaves g c = leaves_store-then g.H.Host.now g.H.Host.may g.H.Host.clock g.H.Host.since g.H.Host.disk_faults g.H.Host.out_faults _ _ _ c.payments.invariant.store c.turn.ensures.leaves
+returns-in-Err-clause-leaves g c = leaves_store-then g.H.Host.now g.H.Host.may g.H.Host.clock g.H.Host.since g.H.Host.disk_faults g.H.Host.out_faults _ _ _ c.payments.invariant.store c.turn.ensures.log.store

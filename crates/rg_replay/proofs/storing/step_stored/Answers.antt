@@ -32,8 +32,8 @@ returns-in-Ok-clause-came g c = λ queries events is.
     (playing queries events (g.H.Host.now past.past.host.now) (g.H.Host.may past.past.host.now) (rows.tells new.table) (rows.cell new.table) past.past.reservoir.now new spot past.shown c.step.ensures.number (same ∙ is.list) on))
     (went queries (on_list queries events (g.H.Host.now c.args.host.now) (g.H.Host.may c.args.host.now) (rows.tells e.table) (rows.cell e.table) c.args.reservoir.now e c.args.spot.now is))
 
-pub returns-in-Err-clause-outside : goal.returns-in-Err-clause-outside
-returns-in-Err-clause-outside g c = λ queries events is.
+pub returns-in-Err-clause-came : goal.returns-in-Err-clause-came
+returns-in-Err-clause-came g c = λ queries events is.
     let went = rw (c.new-past.ensures.past, c.new-past.ensures.shown, c.new.ensures.reservoir, c.new.ensures.host) at c.in-Err.ensures.outside in
     let e = c.args.engine.now in
     rw (← c.from.ensures) at (outside_by c.in-Err.fault (went queries (on_list queries events (g.H.Host.now c.args.host.now) (g.H.Host.may c.args.host.now) (rows.tells e.table) (rows.cell e.table) c.args.reservoir.now e c.args.spot.now is)))

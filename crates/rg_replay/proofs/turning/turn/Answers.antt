@@ -46,7 +46,7 @@ pub returns-in-Err-clause-turned : goal.returns-in-Err-clause-turned
 returns-in-Err-clause-turned g c = λ queries events held gathered is. record {
   more = tt;
   last = tt;
-  stopped = inl (c.in-Err.ensures.outside queries events is, puts_nothing g.H.Host.now g.H.Host.may g.H.Host.clock g.H.Host.since g.H.Host.said _ _ c.step_stored.ensures.quiet.leaves);
+  stopped = inl (c.in-Err.ensures.came queries events is, puts_nothing g.H.Host.now g.H.Host.may g.H.Host.clock g.H.Host.since g.H.Host.said _ _ c.step_stored.ensures.quiet.leaves);
 }
 
 pub returns-in-Err-put_reply-clause-turned : goal.returns-in-Err-put_reply-clause-turned
@@ -77,16 +77,28 @@ returns-in-Err-put_reply-clause-cause g c =
     (leaves_of g.H.Host.now g.H.Host.may g.H.Host.clock g.H.Host.since g.H.Host.said g.H.Host.disk_faults g.H.Host.out_faults _ _ _ _ quiet)
     (caused_put g.H.Host.now g.H.Host.may g.H.Host.clock g.H.Host.since g.H.Host.disk_faults g.H.Host.out_faults _ c.in-Err-put_reply.fault _ _ c.in-Err-put_reply.ensures.write)
 
-pub returns-clause-leaves : goal.returns-clause-leaves
-returns-clause-leaves g c = leaves_store-then g.H.Host.now g.H.Host.may g.H.Host.clock g.H.Host.since g.H.Host.disk_faults g.H.Host.out_faults _ _ _
-    (leaves_of g.H.Host.now g.H.Host.may g.H.Host.clock g.H.Host.since g.H.Host.said g.H.Host.disk_faults g.H.Host.out_faults _ _ _ _ c.step_stored.ensures.quiet) c.put_reply.ensures.leaves
+pub returns-clause-log : goal.returns-clause-log
+returns-clause-log g c = record {
+  base = c.step_stored.ensures.quiet.base;
+  store = leaves_store-then g.H.Host.now g.H.Host.may g.H.Host.clock g.H.Host.since g.H.Host.disk_faults g.H.Host.out_faults _ _ _
+      (leaves_of g.H.Host.now g.H.Host.may g.H.Host.clock g.H.Host.since g.H.Host.said g.H.Host.disk_faults g.H.Host.out_faults _ _ _ _ c.step_stored.ensures.quiet) c.put_reply.ensures.leaves;
+}
 
-pub returns-in-Err-put_reply-clause-leaves : goal.returns-in-Err-put_reply-clause-leaves
-returns-in-Err-put_reply-clause-leaves g c = leaves_store-then g.H.Host.now g.H.Host.may g.H.Host.clock g.H.Host.since g.H.Host.disk_faults g.H.Host.out_faults _ _ _
-    (leaves_of g.H.Host.now g.H.Host.may g.H.Host.clock g.H.Host.since g.H.Host.said g.H.Host.disk_faults g.H.Host.out_faults _ _ _ _ c.step_stored.ensures.quiet) c.put_reply.ensures.leaves
+pub returns-in-Err-put_reply-clause-log : goal.returns-in-Err-put_reply-clause-log
+returns-in-Err-put_reply-clause-log g c = record {
+  base = c.step_stored.ensures.quiet.base;
+  store = leaves_store-then g.H.Host.now g.H.Host.may g.H.Host.clock g.H.Host.since g.H.Host.disk_faults g.H.Host.out_faults _ _ _
+      (leaves_of g.H.Host.now g.H.Host.may g.H.Host.clock g.H.Host.since g.H.Host.said g.H.Host.disk_faults g.H.Host.out_faults _ _ _ _ c.step_stored.ensures.quiet) c.put_reply.ensures.leaves;
+}
 
-pub returns-in-Ok-None-clause-leaves : goal.returns-in-Ok-None-clause-leaves
-returns-in-Ok-None-clause-leaves g c = leaves_of g.H.Host.now g.H.Host.may g.H.Host.clock g.H.Host.since g.H.Host.said g.H.Host.disk_faults g.H.Host.out_faults _ _ _ _ c.step_stored.ensures.quiet
+pub returns-in-Ok-None-clause-log : goal.returns-in-Ok-None-clause-log
+returns-in-Ok-None-clause-log g c = record {
+  base = c.step_stored.ensures.quiet.base;
+  store = leaves_of g.H.Host.now g.H.Host.may g.H.Host.clock g.H.Host.since g.H.Host.said g.H.Host.disk_faults g.H.Host.out_faults _ _ _ _ c.step_stored.ensures.quiet;
+}
 
-pub returns-in-Err-clause-leaves : goal.returns-in-Err-clause-leaves
-returns-in-Err-clause-leaves g c = leaves_of g.H.Host.now g.H.Host.may g.H.Host.clock g.H.Host.since g.H.Host.said g.H.Host.disk_faults g.H.Host.out_faults _ _ _ _ c.step_stored.ensures.quiet
+pub returns-in-Err-clause-log : goal.returns-in-Err-clause-log
+returns-in-Err-clause-log g c = record {
+  base = c.step_stored.ensures.quiet.base;
+  store = leaves_of g.H.Host.now g.H.Host.may g.H.Host.clock g.H.Host.since g.H.Host.said g.H.Host.disk_faults g.H.Host.out_faults _ _ _ _ c.step_stored.ensures.quiet;
+}

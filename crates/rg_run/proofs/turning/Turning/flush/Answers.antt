@@ -1,24 +1,17 @@
-use Rattle.std.proofs.Common.{List, ℕ, sym, subst}
-use Rattle.rg_run.specs.Turning.{IsAwaiting}
-use Rattle.rg_run.proofs.Gathering.{awaiting_held, awaiting_put, held_moments}
+use Rattle.rg_run.proofs.Called.{put_moments, put_awaits}
 use Rattle.rg_run.proofs.turning.Turning.flush.Goals as goal
 
-pub returns-in-Ok-clause-moments : goal.returns-in-Ok-clause-moments
-returns-in-Ok-clause-moments g c = λ plan course items a.
+pub returns-clause-moments : goal.returns-clause-moments
+returns-clause-moments g c = λ plan course items a.
+    let put = c.put_gathered.ensures in
     let t = c.args.self.now in
-    let h = c.args.task.now in
-    held_moments g.K.Task.view plan course h c.put_gathered.new.task t.gathered.items (awaiting_held g.K.Task.view plan course t.offset h t.gathered.items items a) c.put_gathered.ensures.leaves c.put_gathered.ensures.part
+    put_moments g.K.Task.view g.K.Task.disk_faults g.K.Task.out_faults c.args.task.now c.put_gathered.new.task t.gathered.items put.only plan course t.offset items a c.put_gathered.result put.puts
 
-pub returns-in-Err-clause-moments : goal.returns-in-Err-clause-moments
-returns-in-Err-clause-moments g c = λ plan course items a.
+pub returns-clause-awaits : goal.returns-clause-awaits
+returns-clause-awaits g c = λ plan course items a.
+    let put = c.put_gathered.ensures in
     let t = c.args.self.now in
-    let h = c.args.task.now in
-    held_moments g.K.Task.view plan course h c.put_gathered.new.task t.gathered.items (awaiting_held g.K.Task.view plan course t.offset h t.gathered.items items a) c.put_gathered.ensures.leaves c.put_gathered.ensures.part
+    put_awaits g.K.Task.view g.K.Task.disk_faults g.K.Task.out_faults c.args.task.now c.put_gathered.new.task t.gathered.items put.only plan course t.offset items a c.put_gathered.result put.puts c.put_gathered.new.gathered.items put.empty
 
-pub returns-in-Ok-clause-awaits : goal.returns-in-Ok-clause-awaits
-returns-in-Ok-clause-awaits g c = λ plan course items a.
-    let t = c.args.self.now in
-    let h = c.args.task.now in
-    let new = c.put_gathered.new.task in
-    subst (λ (l : List ℕ). IsAwaiting g.K.Task.view plan course t.offset items new l) (sym c.put_gathered.ensures.empty)
-    (awaiting_put g.K.Task.view plan course t.offset h new t.gathered.items c.put_gathered.ensures.leaves c.put_gathered.ensures.keeps c.in-Ok.ensures.all items a)
+pub returns-clause-keeps : goal.returns-clause-keeps
+returns-clause-keeps g c = c.put_gathered.ensures.only.keeps

@@ -1,5 +1,5 @@
 -- A log that was attached over a store of the plan.
-use Rattle.std.proofs.Common.{◌≡◌, ◌≢◌, ◌∙◌, inl, inr, ℕ, false, List, [], Option, Some, None, sym, subst, arith}
+use Rattle.std.proofs.Common.{◌≡◌, ◌≢◌, ◌∙◌, inl, inr, ℕ, false, List, [], Option, Some, None, refl, sym, subst, arith}
 use Rattle.std.specs.Option.{ForSome}
 use Rattle.rg_host.specs.Image.{Image, NothingPending}
 use Rattle.rg_event.specs.Shapes.{Shape, IsSchema}
@@ -8,7 +8,8 @@ use Rattle.rg_frame.specs.Steps.{Leaves}
 use Rattle.rg_log.specs.Log.{schema_payload, HasEvents, HasLegalLog, IsOfSchema}
 use Rattle.rg_log.proofs.Growing.{begins_log}
 use Rattle.rg_config.specs.Plans.{Planned}
-use Rattle.rg_checkpoint.specs.Slots.{IsSlot}
+use Rattle.rg_checkpoint.specs.Sizes.{ReachesSizes}
+use Rattle.rg_checkpoint.specs.Slots.{Attached, IsSlot, AreSizes, ReachesSlots}
 use Rattle.rg_restore.specs.declared.choosing.Saved.{Saved}
 use Rattle.rg_reservoir.specs.Attached.{SchemaAdded}
 use Rattle.rg_reservoir.specs.Kept.{base, opened, all_events, IsSound}
@@ -17,6 +18,7 @@ use Rattle.rg_course.specs.Steps.{IsMidStep, IsStepped}
 use Rattle.rg_open.specs.Stores.{store_of}
 use Rattle.rg_open.proofs.Images.{events_in}
 use Rattle.rg_open.proofs.Sound.{open_left, opened_left}
+use Rattle.rg_open.specs.Opened.{AreSized, AreSizesLeft}
 use Rattle.rg_open.specs.Opening.{IsOpenable, AreSlots, IsFound}
 use Rattle.rg_open.specs.Settling.{AreSettled}
 
@@ -44,6 +46,25 @@ slot_same i Step now may v u apart told settled left = left.0.2 i apart ∙ sett
 pub pending_stays : (i : ℕ) (Step : List ℕ → List ℕ → Type 0) (now then : Option Image) (may after : Image → Type 0) (v : Image) → i ≢ 2 → now ≡ Some v → ((w : Image) → then ≡ Some w → after w) → ((u : Image) → after u → Leaves 2 Step now may u)
     → NothingPending i now may → NothingPending i then after
 pending_stays i Step now then may after v apart told reads left settled w also u one = slot_same i Step now may v u apart told settled (left u one) ∙ sym (slot_same i Step now may v w apart told settled (left w (reads w also)))
+
+-- the sizes of the slots stay
+pub sized_left : (Step : List ℕ → List ℕ → Type 0) (now : Option Image) (may after : Image → Type 0) (v : Image) → now ≡ Some v → AreSettled now may → ((u : Image) → after u → Leaves 2 Step now may u)
+    → (slots : Attached) → AreSized slots v → AreSizesLeft after slots
+sized_left Step now may after v told settled left slots sized u one = record {
+  first = subst (λ (bytes : List ℕ). AreSizes bytes slots.first_sizes) (sym (slot_same 0 Step now may v u (λ e. absurd (omega (arith, e))) told settled.first (left u one))) sized.first;
+  second = subst (λ (bytes : List ℕ). AreSizes bytes slots.second_sizes) (sym (slot_same 1 Step now may v u (λ e. absurd (omega (arith, e))) told settled.second (left u one))) sized.second;
+}
+
+-- and their files are still longer than those
+pub reach_left : (Step : List ℕ → List ℕ → Type 0) (now then : Option Image) (may after : Image → Type 0) → (now ≡ None → then ≡ None) → ((w : Image) → then ≡ Some w → after w) → AreSettled now may → ((u : Image) → after u → Leaves 2 Step now may u)
+    → (slots : Attached) → ReachesSlots slots now → ReachesSlots slots then
+reach_left Step None then may after untold reads settled left slots reach going w also = let e : ◌≡◌ {A = Option Image} (Some w) None = sym also ∙ untold refl in absurd cc
+reach_left Step (Some v) then may after untold reads settled left slots reach going w also =
+    let step = left w (reads w also) in
+    let was = reach going v refl in (
+      subst (ReachesSizes slots.first_sizes) (sym (slot_same 0 Step (Some v) may v w (λ e. absurd (omega (arith, e))) refl settled.first step)) was.0,
+      subst (ReachesSizes slots.second_sizes) (sym (slot_same 1 Step (Some v) may v w (λ e. absurd (omega (arith, e))) refl settled.second step)) was.1,
+    )
 
 module _ (plan : Planned) (schema : IsSchema plan.shape) (now then : Option Image) (may after : Image → Type 0) (openable : IsOpenable plan now may) (settled : AreSettled now may) (left : (u : Image) → after u → Leaves 2 (SchemaAdded (schema_payload plan.shape)) now may u) where
   -- what was found

@@ -1,5 +1,5 @@
 -- Which node of the used checkpoint isn't true, from the spots of a reservoir to those of its log.
-use Rattle.std.proofs.Common.{◌≡◌, ◌∙◌, ◌↔◌, ◌⊎◌, inl, inr, ℕ, List, [], ◌∷◌, length, Option, Some, None, refl, sym, ap, subst}
+use Rattle.std.proofs.Common.{◌≡◌, ◌∙◌, ◌↔◌, inl, inr, ℕ, List, [], ◌∷◌, length, Option, Some, refl, sym, ap, subst}
 use Rattle.std.specs.Prelude.{All}
 use Rattle.std.proofs.lemmas.List.Elements.{All-nil}
 use Rattle.rg_host.specs.Image.{Image}
@@ -11,7 +11,7 @@ use Rattle.rg_frame.specs.Frames.{FitsFrame, HasPayloads, payload_at}
 use Rattle.rg_frame.proofs.FrameLists.{payloads_one}
 use Rattle.rg_frame.proofs.Payloads.{payload_none}
 use Rattle.rg_log.specs.Log.{schema_payload}
-use Rattle.rg_log.specs.Spots.{SpotAt, SpotIn}
+use Rattle.rg_log.specs.Spots.{SpotAt}
 use Rattle.rg_config.specs.Plans.{Planned}
 use Rattle.rg_plan.specs.Plans.{Tasks, plan_for}
 use Rattle.rg_query.specs.Legal.{IsLegalQuery}

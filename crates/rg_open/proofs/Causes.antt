@@ -1,5 +1,8 @@
 -- Which fault of a layer below an opening's fault is.
-use Rattle.std.proofs.Common.{◌≡◌, ℕ, Result, Err, refl, ap}
+use Rattle.std.proofs.Common.{◌≡◌, ◌≤◌, ◌⊎◌, inl, inr, ℕ, Option, Result, Err, refl, ap, arith}
+use Rattle.rg_bytes.specs.Counts.{Rose}
+use Rattle.rg_host.specs.Image.{Image}
+use Rattle.rg_config.specs.declared.plan.Plan.{Plan}
 use Rattle.rg_past.specs.declared.past.PastFault.TheVariants as past
 use Rattle.rg_engine.specs.declared.fault.EngineFault.{EngineFault}
 use Rattle.rg_engine.specs.declared.fault.EngineFault.TheVariants as engine
@@ -8,7 +11,8 @@ use Rattle.rg_checkpoint.specs.declared.fault.SlotFault.TheVariants as slots
 use Rattle.rg_reservoir.specs.declared.fault.ReservoirFault.{ReservoirFault}
 use Rattle.rg_reservoir.specs.declared.fault.ReservoirFault.TheVariants as reservoir
 use Rattle.rg_open.specs.declared.fault.OpenFault.{OpenFault}
-use Rattle.rg_open.specs.declared.fault.OpenFault.TheVariants.{Disk, Damaged, SchemaDiffers, BadState, Table}
+use Rattle.rg_open.specs.declared.fault.OpenFault.TheVariants.{Disk, Damaged, SchemaDiffers, BadState, Memory, Table}
+use Rattle.rg_open.specs.Finds.{IsNotFound}
 use Rattle.rg_open.specs.Faults.{of_slots, of_reservoir, of_engine}
 
 pub same_fault : {A : Type 0} (e f : OpenFault) → ◌≡◌ {A = Result A OpenFault} (Err e) (Err f) → e ≡ f
@@ -106,3 +110,33 @@ never_differs (engine.BadState node) is = cc
 never_differs engine.Memory is = cc
 never_differs engine.Ended is = cc
 never_differs engine.Table is = cc
+
+-- a count that rose is not below where it began, nor where it went on
+pub rose_first : (a b c : ℕ) → Rose a b → b ≤ c → Rose a c
+rose_first a b c rose later = omega (arith, rose, later)
+
+pub rose_last : (a b c : ℕ) → a ≤ b → Rose b c → Rose a c
+rose_last a b c later rose = omega (arith, later, rose)
+
+-- where a call on a file failed, or memory ran out
+pub slots_unread : (plan : Plan) (now : Option Image) (may : Image → Type 0) (rose : Type 0) (fault : OpenFault) → (fault ≡ Disk) ⊎ (fault ≡ Memory) → (fault ≡ Disk → rose) → IsNotFound plan now may rose fault
+slots_unread plan now may rose fault (inl e) rises = record {
+  disk = rises;
+  damaged = λ p is. absurd cc;
+  undamaged = λ v events p told has is. cc;
+  never_damaged = λ p openable is. cc;
+  differs = λ is. absurd cc;
+  never_differs = λ openable is. cc;
+  no_state = λ n is. cc;
+  no_table = λ is. cc;
+}
+slots_unread plan now may rose fault (inr e) rises = record {
+  disk = rises;
+  damaged = λ p is. absurd cc;
+  undamaged = λ v events p told has is. cc;
+  never_damaged = λ p openable is. cc;
+  differs = λ is. absurd cc;
+  never_differs = λ openable is. cc;
+  no_state = λ n is. cc;
+  no_table = λ is. cc;
+}

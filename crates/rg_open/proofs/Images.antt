@@ -1,5 +1,5 @@
 -- A truthful image stays truthful.
-use Rattle.std.proofs.Common.{◌≡◌, ◌≢◌, ◌∙◌, ◌⊎◌, inl, inr, ℕ, zero, suc, ◌<◌, ◌==◌, Bool, true, false, List, [], ◌∷◌, ◌++◌, Option, Some, None, refl, sym, ap, subst, arith}
+use Rattle.std.proofs.Common.{◌≡◌, ◌≢◌, ◌⊎◌, inl, inr, ℕ, ◌<◌, ◌==◌, Bool, true, false, List, [], ◌∷◌, refl, sym, subst, arith}
 use Rattle.std.proofs.lemmas.Bool.Decides.{Decides-eqb}
 use Rattle.std.proofs.lemmas.List.Elements.{All-nil}
 use Rattle.rg_host.specs.Image.{Image}
@@ -8,12 +8,12 @@ use Rattle.rg_event.specs.declared.event.Event.{Event}
 use Rattle.rg_frame.specs.Frames.{FitsFrame, HasPayloads}
 use Rattle.rg_frame.specs.Steps.{Grows}
 use Rattle.rg_frame.proofs.FrameLists.{payloads_one}
-use Rattle.rg_log.specs.Log.{schema_payload, joined, HasChunks, IsChunkOf, IsLegalLog, HasEvents, HasLegalLog, HasSchemaFrame, IsOfSchema}
+use Rattle.rg_log.specs.Log.{schema_payload, joined, HasChunks, IsChunkOf, IsLegalLog, HasEvents, HasLegalLog, HasSchemaFrame}
 use Rattle.rg_log.proofs.Growing.{one_shape, begins_log}
 use Rattle.rg_checkpoint.specs.declared.base.Checkpoint.{Checkpoint}
-use Rattle.rg_checkpoint.specs.Slots.{HasSlot, HasNoSlot, other_of, IsKeep}
+use Rattle.rg_checkpoint.specs.Slots.{HasSlot, HasNoSlot}
 use Rattle.rg_checkpoint.proofs.SlotLaws.{slot_is_one, none_slot}
-use Rattle.rg_open.specs.Truth.{IsTrueFor, IsTrueOf, IsTruthfulImage, MayGrow}
+use Rattle.rg_open.specs.Truth.{IsTrueOf, IsTruthfulImage, MayGrow}
 use Rattle.rg_open.proofs.Truths.{no_schema, true_for, grows_true, grows_legal}
 
 pub below_apart : (i : ℕ) → i < 2 → i ≢ 2

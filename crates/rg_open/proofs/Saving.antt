@@ -1,5 +1,5 @@
 -- Checkpoints that are true of a log, and what they are to a plan over its schema.
-use Rattle.std.proofs.Common.{◌≡◌, ◌∙◌, ℕ, ◌<◌, List, [], ◌∷◌, ◌++◌, length, map, Option, Some, Ok, Result, refl, sym, ap, subst}
+use Rattle.std.proofs.Common.{◌≡◌, ◌∙◌, ℕ, List, [], ◌∷◌, length, Option, Some, refl, sym, ap, subst}
 use Rattle.std.specs.Prelude.{All}
 use Rattle.std.proofs.lemmas.List.{append-nil}
 use Rattle.std.proofs.lemmas.List.Elements.{All-head, All-tail, All-weaker}
@@ -15,23 +15,20 @@ use Rattle.rg_query.proofs.Again.{differ}
 use Rattle.rg_config.specs.Plans.{Planned}
 use Rattle.rg_config.specs.Read.{IsSaid}
 use Rattle.rg_plan.specs.Plans.{plan_for}
-use Rattle.rg_cache.specs.Cache.{Cache}
 use Rattle.rg_log.specs.Log.{joined, HasEvents, HasSchemaFrame}
 use Rattle.rg_log.specs.Spots.{SpotIn}
 use Rattle.rg_log.proofs.Growing.{one_list}
 use Rattle.rg_state.specs.Rows.{Cells, Lists}
 use Rattle.rg_engine.specs.Feeding.{Serves}
 use Rattle.rg_checkpoint.specs.declared.base.Checkpoint.{Checkpoint}
-use Rattle.rg_checkpoint.specs.Slots.{HasSlot}
 use Rattle.rg_restore.specs.Fit.{IsFit}
 use Rattle.rg_restore.specs.Truthful.{IsTruthful, EngineStands}
 use Rattle.rg_restore.proofs.Saving.{saved}
 use Rattle.rg_restore.proofs.RowKinds.{truthful_fits}
-use Rattle.rg_reservoir.specs.declared.kept.Kept.{Kept}
 use Rattle.rg_reservoir.specs.declared.reservoir.Reservoir.{Reservoir}
-use Rattle.rg_reservoir.specs.Kept.{Base, base, opened, all_events, next_of, time_of, cache_of, IsRight, Spells}
+use Rattle.rg_reservoir.specs.Kept.{base, opened, all_events, next_of, time_of, cache_of, IsRight, Spells}
 use Rattle.rg_reservoir.proofs.Spelled.{spelled_there}
-use Rattle.rg_open.specs.Truth.{texts_of, IsTrueFor, IsTrueOf, IsTruthfulImage}
+use Rattle.rg_open.specs.Truth.{texts_of, IsTrueOf}
 use Rattle.rg_open.specs.Opened.{IsToSave}
 use Rattle.rg_open.proofs.Truths.{true_for}
 use Rattle.rg_open.proofs.Sound.{framed, has_events, all_are, pending}

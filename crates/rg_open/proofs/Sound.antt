@@ -1,5 +1,5 @@
 -- What a sound reservoir leaves on the disk, as steps of the store of its plan.
-use Rattle.std.proofs.Common.{◌≡◌, ◌≢◌, ◌∙◌, ◌⊎◌, inl, inr, ℕ, ◌^◌, ◌≤◌, ◌==◌, Bool, true, false, List, [], ◌∷◌, ◌++◌, length, Option, Some, None, refl, sym, ap, subst}
+use Rattle.std.proofs.Common.{◌≡◌, ◌≢◌, ◌∙◌, inl, inr, ℕ, ◌^◌, ◌≤◌, ◌==◌, Bool, true, false, List, [], ◌++◌, length, Option, Some, refl, sym, ap, subst}
 use Rattle.std.proofs.lemmas.Bool.Decides.{Decides-eqb}
 use Rattle.rg_host.specs.Image.{Image, NothingPending}
 use Rattle.rg_event.specs.Rising.{IsRising}
@@ -15,7 +15,7 @@ use Rattle.rg_log.proofs.Growing.{one_list}
 use Rattle.rg_reservoir.specs.declared.kept.Kept.{Kept}
 use Rattle.rg_reservoir.specs.Attached.{SchemaAdded}
 use Rattle.rg_reservoir.specs.Kept.{Base, all_events, IsRight, Adds, Added}
-use Rattle.rg_reservoir.proofs.Committed.{all_is, rises, fewer, is_chunk, ends_at}
+use Rattle.rg_reservoir.proofs.Committed.{rises, fewer, is_chunk, ends_at}
 use Rattle.rg_reservoir.proofs.Seeking.{stored_is}
 use Rattle.rg_config.specs.Plans.{Planned}
 use Rattle.rg_course.specs.Steps.{IsMidStep, IsStepped}

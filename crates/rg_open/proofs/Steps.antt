@@ -1,10 +1,11 @@
 -- What the steps on the disk leave, as steps of the store of a plan.
-use Rattle.std.proofs.Common.{◌≡◌, ◌≢◌, ◌∙◌, ◌⊎◌, inl, inr, ℕ, zero, suc, ◌^◌, ◌≤◌, ◌<◌, List, [], ◌∷◌, ◌++◌, length, Option, Some, None, refl, sym, ap, subst, arith}
+use Rattle.std.proofs.Common.{◌≡◌, ◌≢◌, ◌∙◌, ◌⊎◌, inl, inr, ⊎_elim, ℕ, zero, suc, ◌≤◌, ◌<◌, List, [], ◌∷◌, ◌++◌, Option, Some, None, true, refl, sym, ap, subst, arith}
+use Rattle.std.proofs.lemmas.Bool.{cases_eq}
 use Rattle.std.proofs.lemmas.List.{append-nil}
+use Rattle.std.specs.Prelude.{is_some}
 use Rattle.std.specs.Option.{ForSome}
-use Rattle.rg_host.specs.Image.{Image, NothingPending}
-use Rattle.rg_event.specs.Shapes.{Shape, IsSchema}
-use Rattle.rg_event.specs.Rising.{IsRising}
+use Rattle.rg_host.specs.Image.{Image}
+use Rattle.rg_event.specs.Shapes.{IsSchema}
 use Rattle.rg_event.specs.declared.event.Event.{Event}
 use Rattle.rg_frame.specs.Frames.{HasPayloads}
 use Rattle.rg_frame.specs.Steps.{Leaves, Grows, Grown}
@@ -13,11 +14,14 @@ use Rattle.rg_log.specs.Log.{schema_payload, IsChunkOf, HasEvents, HasSchemaFram
 use Rattle.rg_log.proofs.Growing.{grows_log, grown_log, begins_log, one_list}
 use Rattle.rg_config.specs.Plans.{Planned}
 use Rattle.rg_checkpoint.specs.declared.base.Checkpoint.{Checkpoint}
-use Rattle.rg_checkpoint.specs.Base.{IsBase}
-use Rattle.rg_checkpoint.specs.Slots.{HasSlot, HasNoSlot, Turns, Written, other_of, IsKeep}
-use Rattle.rg_checkpoint.proofs.SlotLaws.{kept_apart}
+use Rattle.rg_checkpoint.specs.declared.sizes.SlotSizes.{SlotSizes}
+use Rattle.rg_checkpoint.specs.Sizes.{OfSizes}
+use Rattle.rg_checkpoint.specs.Slots.{HasSlot, HasNoSlot, AreSizes, Lengthens, Lengthened, other_of, IsKeep}
+use Rattle.rg_checkpoint.specs.Updates.{Applies}
+use Rattle.rg_checkpoint.proofs.SlotLaws.{kept_apart, slot_is_one}
 use Rattle.rg_course.specs.Steps.{IsMidStep, IsStepped, IsSavedTo}
 use Rattle.rg_open.specs.Truth.{texts_of, IsTrueOf, IsTruthfulImage, MayGrow}
+use Rattle.rg_open.specs.Opened.{IsToExtend}
 use Rattle.rg_open.specs.Stores.{HasSaved, store_of}
 use Rattle.rg_open.proofs.Truths.{grown_grows}
 use Rattle.rg_open.proofs.Images.{below_apart, commits, begins, writes, same_image}
@@ -164,3 +168,78 @@ module _ (plan : Planned) (keep : Option ℕ) (legal : IsKeep keep) (checkpoint 
     events = λ es has. subst (HasEvents plan.shape es) (sym log_same) has;
     saved = record { below = other_below keep legal; checkpoint = checkpoint; complete = has; texts = texts; most = most };
   }
+
+-- a file is of the sizes that are known of it, so a step that asks for them is taken
+pub of_sizes : (known : Option SlotSizes) (Step : List ℕ → List ℕ → Type 0) (old new : List ℕ) → is_some known ≡ true → AreSizes old known → OfSizes known Step old new → Step old new
+of_sizes None Step old new some are step = absurd cc
+of_sizes (Some sizes) Step old new some are step = step sizes refl are.0
+
+-- Changes come behind the checkpoint of a slot.
+module _ (plan : Planned) (slot : ℕ) (below : slot < 2) (payload : List ℕ) (before after : Checkpoint) (applies : Applies payload before after) (may : Image → Type 0) (u v : Image) (left : may u) (others : (f : ℕ) → f ≢ slot → v f ≡ u f)
+    (has : HasSlot (u slot) before) (true_of : IsTrueOf (u 2) after) where
+  same_log : v 2 ≡ u 2
+  same_log = others 2 (λ e. absurd (omega (arith, below, e)))
+
+  truthful_by : HasSlot (v slot) before ⊎ HasSlot (v slot) after → IsTruthfulImage u → IsTruthfulImage v
+  truthful_by (inl old) is = writes slot u v before below others (inr (inr old)) (is.slots slot below before has) is
+  truthful_by (inr new) is = writes slot u v after below others (inr (inr new)) true_of is
+
+  -- the slot still counts as many
+  still_saved : HasSlot (v slot) before ⊎ HasSlot (v slot) after → (count : ℕ) → HasSaved plan slot count u → HasSaved plan slot count v
+  still_saved step count is = by step
+    where
+      one : is.checkpoint ≡ before
+      one = slot_is_one (u slot) is.checkpoint before is.complete has
+
+      texts : before.queries ≡ texts_of plan.shape plan.queries
+      texts = subst (λ (c : Checkpoint). c.queries ≡ texts_of plan.shape plan.queries) one is.texts
+
+      most : count ≤ before.count
+      most = subst (λ (c : Checkpoint). count ≤ c.count) one is.most
+
+      by : HasSlot (v slot) before ⊎ HasSlot (v slot) after → HasSaved plan slot count v
+      by (inl old) = record { below = below; checkpoint = before; complete = old; texts = texts; most = most }
+      by (inr new) = record { below = below; checkpoint = after; complete = new; texts = applies.updated.queries ∙ texts; most = omega (arith, most, applies.updated.grows, applies.updated.count) }
+
+  -- at a moment of it
+  pub extend_mid : (keep : Option ℕ) → HasSlot (v slot) before ⊎ HasSlot (v slot) after → IsMidStep (store_of plan) keep [] may v
+  extend_mid keep step = record {
+    from = u;
+    left = left;
+    truthful = truthful_by step;
+    schema = λ is. subst (IsOfSchema plan.shape) (sym same_log) is;
+    events = λ es is. inl (subst (HasEvents plan.shape es) (sym same_log) is);
+    slots = λ i count kept is. ⊎_elim (λ same. subst (λ (n : ℕ). HasSaved plan n count v) (sym same) (still_saved step count (subst (λ (n : ℕ). HasSaved plan n count u) same is))) (λ apart. saved_stays plan i count slot u v apart others is) (cases_eq i slot);
+  }
+
+  -- after it
+  pub extend_done : after.queries ≡ texts_of plan.shape plan.queries → HasSlot (v slot) after → IsSavedTo (store_of plan) slot after.count may v
+  extend_done texts new = record {
+    from = u;
+    left = left;
+    truthful = truthful_by (inr new);
+    schema = λ is. subst (IsOfSchema plan.shape) (sym same_log) is;
+    events = λ es is. subst (HasEvents plan.shape es) (sym same_log) is;
+    saved = record { below = below; checkpoint = after; complete = new; texts = texts; most = omega arith };
+  }
+
+-- What a call that adds changes to a slot may leave, where the slot can be extended so.
+module _ (plan : Planned) (now : Option Image) (may : Image → Type 0) (slot : ℕ) (sizes : Option SlotSizes) (payload : List ℕ) (before after : Checkpoint) (to : IsToExtend plan now may slot sizes payload before after) (u : Image) where
+  -- the step that the slot's file took, from what it is in the image that the others come from
+  step_in : (Step : List ℕ → List ℕ → Type 0) → (left : Leaves slot (OfSizes sizes Step) now may u) → Step (left.0.0 slot) (u slot)
+  step_in Step left =
+      let w = left.0.0 in
+      let same : w slot ≡ to.image slot = to.settled to.image to.told w left.0.1 in
+      of_sizes sizes Step (w slot) (u slot) to.known (to.sizes_are w left.0.1) (subst (λ (bytes : List ℕ). OfSizes sizes Step bytes (u slot)) (sym same) (left.1 to.settled to.image to.told))
+
+  pub extends : (keep : Option ℕ) → Leaves slot (OfSizes sizes (Lengthens payload)) now may u → IsMidStep (store_of plan) keep [] may u
+  extends keep left =
+      let w = left.0.0 in
+      let has = to.has w left.0.1 in
+      extend_mid plan slot to.below payload before after to.applies may w u left.0.1 left.0.2 has (to.true_of w left.0.1) keep (step_in (Lengthens payload) left before after has to.applies)
+
+  pub extended : Leaves slot (OfSizes sizes (Lengthened payload)) now may u → IsSavedTo (store_of plan) slot after.count may u
+  extended left =
+      let w = left.0.0 in
+      let has = to.has w left.0.1 in
+      extend_done plan slot to.below payload before after to.applies may w u left.0.1 left.0.2 has (to.true_of w left.0.1) to.texts (step_in (Lengthened payload) left before after has to.applies)

@@ -1,20 +1,17 @@
 -- A checkpoint that is true of a log stays true when a chunk comes behind it.
-use Rattle.std.proofs.Common.{◌≡◌, ◌⊎◌, inl, inr, ℕ, List, [], ◌∷◌, ◌++◌, refl, sym, subst}
-use Rattle.std.specs.Prelude.{All}
-use Rattle.std.proofs.lemmas.List.{append-nil}
-use Rattle.rg_event.specs.Shapes.{Shape, IsSchema}
+use Rattle.std.proofs.Common.{◌≡◌, ◌⊎◌, inl, inr, ℕ, List, [], ◌∷◌, ◌++◌, refl, subst}
+use Rattle.rg_event.specs.Shapes.{Shape}
 use Rattle.rg_event.specs.declared.event.Event.{Event}
 use Rattle.rg_past.specs.declared.past.Spot.{Spot}
 use Rattle.rg_plan.specs.Plans.{plan_for}
 use Rattle.rg_frame.specs.Frames.{HasPayloads}
 use Rattle.rg_frame.specs.Steps.{Grows, Grown}
 use Rattle.rg_frame.proofs.FrameLists.{payloads_one}
-use Rattle.rg_log.specs.Log.{schema_payload, IsChunkOf, HasEvents, HasLegalLog, HasSchemaFrame, IsOfSchema}
+use Rattle.rg_log.specs.Log.{schema_payload, IsChunkOf, HasEvents, HasLegalLog, HasSchemaFrame}
 use Rattle.rg_log.specs.Spots.{SpotIn}
-use Rattle.rg_log.proofs.Growing.{one_schema, one_list, grows_log, grown_log, begins_log}
+use Rattle.rg_log.proofs.Growing.{one_schema, grows_log}
 use Rattle.rg_log.proofs.Spelling.{spot_stays_in}
 use Rattle.rg_checkpoint.specs.declared.base.Checkpoint.{Checkpoint}
-use Rattle.rg_restore.specs.Truthful.{IsTruthful}
 use Rattle.rg_restore.proofs.Saving.{later, same_past}
 use Rattle.rg_open.specs.Truth.{IsTrueFor, IsTrueOf, MayGrow}
 

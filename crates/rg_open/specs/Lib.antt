@@ -7,3 +7,6 @@ pub mod Opening
 pub mod Within
 pub mod Unfit
 pub mod Blame
+pub mod Finds
+pub mod Starts
+pub mod Opens

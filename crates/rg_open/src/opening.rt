@@ -4,20 +4,22 @@ ghost use Rattle.rg_bytes.specs.Counts.{Rose};
 ghost use Rattle.rg_host.specs.Image.{Image};
 ghost use Rattle.rg_event.specs.Rising.{next_offset};
 ghost use Rattle.rg_event.specs.declared.event.Event.{Event};
-ghost use Rattle.rg_frame.specs.Calls.{Writes};
 ghost use Rattle.rg_frame.specs.LogState.{ReachesEnd};
 ghost use Rattle.rg_log.specs.Log.{schema_payload, HasEvents};
 ghost use Rattle.rg_config.specs.Plans.{planned};
 ghost use Rattle.rg_config.specs.Read.{IsReadPlan};
-ghost use Rattle.rg_reservoir.specs.Attached.{IsOther, IsBadFrame, SchemaAdded};
+ghost use Rattle.rg_reservoir.specs.Attached.{IsOther, IsBadFrame};
 ghost use Rattle.rg_reservoir.specs.Chain.{IsIllegal};
 ghost use Rattle.rg_reservoir.specs.Kept.{base, opened, room_of, cache_of, log_of, next_of, all_events};
 ghost use Rattle.rg_state.specs.Keeping.{TableKept};
 ghost use Rattle.rg_engine.specs.Passed.{passed_count};
-ghost use Rattle.rg_checkpoint.specs.Slots.{IsKeep};
+ghost use Rattle.rg_checkpoint.specs.Slots.{IsKeep, ReachesSlots, sizes_in};
 ghost use Rattle.rg_restore.specs.Opening.{IsEmpty, IsGoing};
 ghost use Rattle.rg_open.specs.Blame.{IsBlamed, NodeRuns, IsPlaced};
+ghost use Rattle.rg_open.specs.Finds.{WritesSchema};
+ghost use Rattle.rg_open.specs.Opens.{HasOpened, HasNotOpened};
 ghost use Rattle.rg_open.specs.Opening.{IsOpenable, IsStarted, IsResumed, IsFromIn};
+ghost use Rattle.rg_open.specs.Opened.{IsKeptSince};
 ghost use Rattle.rg_open.specs.Settling.{AreSettled};
 ghost use Rattle.rg_open.specs.Unfit.{IsUnfit, SaysWhy, IsLeftAlone};
 ghost use Rattle.rg_open.specs.Within.{IsWithinOpening, IsAfterOpening};
@@ -96,58 +98,14 @@ fn open_settled<H: Host, T: Table, L: Ledger>(
     steps: &mut Steps<L>,
 ) -> Result<(Opened<T>, Resumed), (OpenFault, T)>
     requires read { IsReadPlan plan.now }
+    requires settled { AreSettled (H.now host.old) (H.may host.old) }
     requires copies { (copies.schema ≡ plan.now.schema) × (copies.texts ≡ plan.now.queries) × (copies.task ≡ plan.now.task) }
     requires empty { T.tells table → IsEmpty (T.cell table) }
-
-    ensures started { IsOpenable (planned plan.now) (H.now host.old) (H.may host.old) → AreSettled (H.now host.old) (H.may host.old) → T.tells table →
-        IfOk result (λ r. IsStarted (planned plan.now) (H.now host.new) (H.may host.new) (T.tells r.0.engine.table) (T.cell r.0.engine.table) r.0.reservoir r.0.engine r.0.texts r.0.keep r.0.saved) }
-    ensures settled { (v : Image) → H.now host.old ≡ Some v → AreSettled (H.now host.old) (H.may host.old) → OnOk result (AreSettled (H.now host.new) (H.may host.new)) }
-    ensures events { (v : Image) (events : List Event) → H.now host.old ≡ Some v → AreSettled (H.now host.old) (H.may host.old) → HasEvents plan.now.schema events (v 2) →
-        IfOk result (λ r. (all_events (H.now host.new) (base r.0.reservoir) [] ≡ events) × (r.1.next ≡ next_offset events)) }
-    ensures passed { IsOpenable (planned plan.now) (H.now host.old) (H.may host.old) → AreSettled (H.now host.old) (H.may host.old) →
-        IfOk result (λ r. steps.new ≡ steps.old + passed_count plan.now.task (take r.1.from (all_events (H.now host.new) (base r.0.reservoir) [])) (all_events (H.now host.new) (base r.0.reservoir) [])) }
-    ensures never_differs { IsOpenable (planned plan.now) (H.now host.old) (H.may host.old) → IfErr result (λ refused. refused.0 ≡ OpenFault.SchemaDiffers → ⊥) }
-    ensures never_bad { (n : ℕ) → IsOpenable (planned plan.now) (H.now host.old) (H.may host.old) → AreSettled (H.now host.old) (H.may host.old) → T.tells table →
-        IfErr result (λ refused. refused.0 ≡ OpenFault.BadState n → ⊥) }
-    ensures is_from { (v : Image) → H.now host.old ≡ Some v → IsOpenable (planned plan.now) (H.now host.old) (H.may host.old) → AreSettled (H.now host.old) (H.may host.old) →
-        IfOk result (λ r. IsFromIn (planned plan.now) v r.1.from) }
-    ensures never_damaged { (p : ℕ) → IsOpenable (planned plan.now) (H.now host.old) (H.may host.old) → AreSettled (H.now host.old) (H.may host.old) →
-        IfErr result (λ refused. refused.0 ≡ OpenFault.Damaged p → ⊥) }
-
-    ensures resumed { (v : Image) → H.now host.old ≡ Some v → IfOk result (λ r.
-        IsResumed v (H.now host.new) plan.now.queries plan.now.schema.fields plan.now.task r.0.reservoir r.0.engine r.0.keep r.1.from steps.old steps.new) }
-
-    ensures bad { (v : Image) (events : List Event) (n : ℕ) → H.now host.old ≡ Some v → AreSettled (H.now host.old) (H.may host.old) → HasEvents plan.now.schema events (v 2) → T.tells table →
-        IfErr result (λ refused. refused.0 ≡ OpenFault.BadState n → IsBlamed (planned plan.now) v events n) }
-    ensures node { (v : Image) (events : List Event) (n : ℕ) → H.now host.old ≡ Some v → AreSettled (H.now host.old) (H.may host.old) → HasEvents plan.now.schema events (v 2) → T.tells table →
-        IfOk result (λ r. (NodeRuns (planned plan.now) n (H.now host.new) (H.may host.new) (T.tells r.0.engine.table) (T.cell r.0.engine.table) r.0.reservoir r.0.engine → ⊥) → IsBlamed (planned plan.now) v events n) }
-
-    ensures undamaged { (v : Image) (events : List Event) (p : ℕ) → H.now host.old ≡ Some v → AreSettled (H.now host.old) (H.may host.old) → HasEvents plan.now.schema events (v 2) →
-        IfErr result (λ refused. refused.0 ≡ OpenFault.Damaged p → ⊥) }
-    ensures placed { (v : Image) (events : List Event) → H.now host.old ≡ Some v → AreSettled (H.now host.old) (H.may host.old) → HasEvents plan.now.schema events (v 2) →
-        IfOk result (λ r. IsPlaced (planned plan.now) (H.now host.new) (H.may host.new) r.0.reservoir r.0.engine) }
-
-    ensures disk { IfErr result (λ refused. refused.0 ≡ OpenFault.Disk → Rose (H.disk_faults host.old) (H.disk_faults host.new)) }
-    ensures differs { IfErr result (λ refused. refused.0 ≡ OpenFault.SchemaDiffers → ForSome (H.now host.old) (λ v. IsOther (schema_payload plan.now.schema) (v 2))) }
-    ensures damaged { (p : ℕ) → IfErr result (λ refused. refused.0 ≡ OpenFault.Damaged p →
-        ForSome (H.now host.old) (λ v. IsBadFrame (schema_payload plan.now.schema) p (v 2)) ⊎ ForSome (H.now host.new) (λ v. IsIllegal plan.now.schema.fields p (v 2))) }
-    ensures exact { (v : Image) → H.now host.old ≡ Some v → IsOther (schema_payload plan.now.schema) (v 2) ⊎ ((p : ℕ) × IsBadFrame (schema_payload plan.now.schema) p (v 2)) → IfOk result (λ _. ⊥) }
-    ensures why { (v : Image) → H.now host.old ≡ Some v → IsUnfit (planned plan.now) v → IfErr result (λ refused. SaysWhy (planned plan.now) v refused.0) }
-    ensures table_disk { IfErr result (λ refused. refused.0 ≡ OpenFault.Table → Rose (T.faults table) (T.faults refused.1)) }
-
+    ensures opened { IfOk result (λ r. HasOpened H.now H.may T.tells T.faults T.named T.there T.cell plan.now table host.old host.new steps.old steps.new r.0.reservoir r.0.engine r.0.slots r.0.keep r.1.from) }
     ensures copies { IfOk result (λ r. (r.0.schema ≡ plan.now.schema) × (r.0.texts ≡ plan.now.queries)) }
-    ensures reservoir { IfOk result (λ r. ((base r.0.reservoir).ended ≡ false) × ((base r.0.reservoir).file ≡ 2) × ((base r.0.reservoir).shape ≡ plan.now.schema) × ((base r.0.reservoir).limit ≡ plan.now.room.limit)) }
-    ensures none { IfOk result (λ r. (opened r.0.reservoir ≡ []) × (room_of r.0.reservoir ≡ plan.now.room.chunk) × ((cache_of r.0.reservoir).cap ≡ plan.now.room.cache)) }
-    ensures slots { IfOk result (λ r. r.0.slots.ended ≡ false) }
-    ensures keep { IfOk result (λ r. IsKeep r.0.keep) }
-    ensures reaches { IfOk result (λ r. ReachesEnd (log_of r.0.reservoir) (H.now host.new)) }
-    ensures engine { IfOk result (λ r. IsGoing plan.now.task (base r.0.reservoir).committed r.0.engine) }
     ensures numbers { IfOk result (λ r. (r.1.next ≡ next_of r.0.reservoir) × (r.1.count ≡ (base r.0.reservoir).committed) × (r.1.from ≡ r.0.saved)) }
-    ensures table { IfOk result (λ r. TableKept T.tells T.faults table r.0.engine.table) }
-    ensures back { IfErr result (λ refused. TableKept T.tells T.faults table refused.1) }
-    ensures writes { Writes H.now H.may H.clock H.since H.said 2 (SchemaAdded (schema_payload plan.now.schema)) host.old host.new }
-    ensures disk_faults { H.disk_faults host.old ≤ H.disk_faults host.new }
-    ensures out_faults { H.out_faults host.new ≡ H.out_faults host.old }
+    ensures refused { IfErr result (λ refused. HasNotOpened H.now H.may T.tells T.faults T.named T.there T.cell plan.now table host.old host.new (Rose (H.disk_faults host.old) (H.disk_faults host.new)) refused.0 refused.1) }
+    ensures writes { WritesSchema H.now H.may H.clock H.since H.said H.disk_faults H.out_faults plan.now host.old host.new }
 {
     let found = match find(alloc, host, plan) {
         Ok(found) => found,
@@ -212,6 +170,8 @@ pub fn open_store<H: Host, T: Table, L: Ledger>(
     // Over a store whose images are truthful and of the plan's schema or without a frame.
     ensures started { IsOpenable (planned plan.now) (H.now host.old) (H.may host.old) → T.tells table →
         IfOk result (λ r. IsStarted (planned plan.now) (H.now host.new) (H.may host.new) (T.tells r.0.engine.table) (T.cell r.0.engine.table) r.0.reservoir r.0.engine r.0.texts r.0.keep r.0.saved) }
+    ensures since { IsOpenable (planned plan.now) (H.now host.old) (H.may host.old) → T.tells table →
+        IfOk result (λ r. (slot : ℕ) → r.0.keep ≡ Some slot → IsKeptSince (H.may host.new) slot r.0.saved plan.now.queries (sizes_in r.0.slots slot) (T.named r.0.engine.table) (T.there r.0.engine.table) (T.cell r.0.engine.table)) }
     ensures passed { IsOpenable (planned plan.now) (H.now host.old) (H.may host.old) →
         IfOk result (λ r. steps.new ≡ steps.old + passed_count plan.now.task (take r.1.from (all_events (H.now host.new) (base r.0.reservoir) [])) (all_events (H.now host.new) (base r.0.reservoir) [])) }
     ensures never_differs { IsOpenable (planned plan.now) (H.now host.old) (H.may host.old) → IfErr result (λ refused. refused.0 ≡ OpenFault.SchemaDiffers → ⊥) }
@@ -255,6 +215,7 @@ pub fn open_store<H: Host, T: Table, L: Ledger>(
     ensures slots { IfOk result (λ r. r.0.slots.ended ≡ false) }
     ensures keep { IfOk result (λ r. IsKeep r.0.keep) }
     ensures reaches { IfOk result (λ r. ReachesEnd (log_of r.0.reservoir) (H.now host.new)) }
+    ensures slots_reach { IfOk result (λ r. ReachesSlots r.0.slots (H.now host.new)) }
     ensures engine { IfOk result (λ r. IsGoing plan.now.task (base r.0.reservoir).committed r.0.engine) }
     ensures numbers { IfOk result (λ r. (r.1.next ≡ next_of r.0.reservoir) × (r.1.count ≡ (base r.0.reservoir).committed) × (r.1.from ≡ r.0.saved)) }
     ensures table { IfOk result (λ r. TableKept T.tells T.faults table r.0.engine.table) }

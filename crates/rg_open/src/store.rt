@@ -12,7 +12,9 @@ ghost use Rattle.rg_plan.specs.Plans.{plan_for};
 ghost use Rattle.rg_state.specs.Rows.{Cells, Lists};
 ghost use Rattle.rg_engine.specs.Feeding.{Serves};
 ghost use Rattle.rg_checkpoint.specs.declared.base.Checkpoint.{Checkpoint};
-ghost use Rattle.rg_checkpoint.specs.Slots.{HasSlot, HasNoSlot, Turns, Written, other_of, IsKeep};
+ghost use Rattle.rg_checkpoint.specs.declared.sizes.SlotSizes.{SlotSizes};
+ghost use Rattle.rg_checkpoint.specs.Sizes.{OfSizes};
+ghost use Rattle.rg_checkpoint.specs.Slots.{HasSlot, HasNoSlot, Turns, Written, Lengthens, Lengthened, other_of, IsKeep};
 ghost use Rattle.rg_checkpoint.specs.Base.{IsBase};
 ghost use Rattle.rg_restore.specs.Fit.{IsFit};
 ghost use Rattle.rg_restore.specs.Truthful.{IsTruthful};
@@ -22,7 +24,7 @@ ghost use Rattle.rg_reservoir.specs.declared.reservoir.Reservoir.{Reservoir};
 ghost use Rattle.rg_course.specs.Steps.{IsMidStep, IsStepped, IsSavedTo};
 ghost use Rattle.rg_open.specs.Truth.{texts_of, IsTrueOf, IsTruthfulImage, MayGrow};
 ghost use Rattle.rg_open.specs.Stores.{store_of};
-ghost use Rattle.rg_open.specs.Opened.{IsOpenedFor, IsToSave};
+ghost use Rattle.rg_open.specs.Opened.{IsOpenedFor, IsToSave, IsToExtend};
 
 use rg_host::Host;
 
@@ -54,7 +56,8 @@ pub fn law_checkpoints<H: Host>()
 {}
 
 /// Each step on the disk, at a moment of it and after it, as a step of the store of the plan: a commit of the
-/// open chunk of a sound reservoir, the opening of a log, and a save of a checkpoint that is true.
+/// open chunk of a sound reservoir, the opening of a log, a save of a checkpoint that is true, and changes
+/// behind a checkpoint that make a true one of it.
 pub fn law_steps<H: Host>()
     ensures commits { (host : H) (plan : Planned) (keep : Option ℕ) (r : Reservoir) (u : Image) → IsOpenedFor plan (H.now host) (H.may host) r → length (opened r) ≤ 4096 →
         Leaves 2 (From (base r).end (Adds (base r).shape.fields (opened r))) (H.now host) (H.may host) u → IsMidStep (store_of plan) keep (opened r) (H.may host) u }
@@ -69,4 +72,10 @@ pub fn law_steps<H: Host>()
     ensures saved { (host : H) (plan : Planned) (keep : Option ℕ) (payload : List ℕ) (checkpoint : Checkpoint) (v u : Image) → IsKeep keep → IsBase payload checkpoint → H.now host ≡ Option.Some v → NothingPending (other_of keep) (H.now host) (H.may host) →
         ((w : Image) → H.may host w → IsTrueOf (w 2) checkpoint) → checkpoint.queries ≡ texts_of plan.shape plan.queries → Leaves (other_of keep) (Written payload) (H.now host) (H.may host) u →
         IsSavedTo (store_of plan) (other_of keep) checkpoint.count (H.may host) u }
+
+    // Changes behind the checkpoint of a slot, whichever is kept: it is as it was, or the new one; and then the new one.
+    ensures extends { (host : H) (plan : Planned) (keep : Option ℕ) (slot : ℕ) (sizes : Option SlotSizes) (payload : List ℕ) (before after : Checkpoint) (u : Image) → IsToExtend plan (H.now host) (H.may host) slot sizes payload before after →
+        Leaves slot (OfSizes sizes (Lengthens payload)) (H.now host) (H.may host) u → IsMidStep (store_of plan) keep [] (H.may host) u }
+    ensures extended { (host : H) (plan : Planned) (slot : ℕ) (sizes : Option SlotSizes) (payload : List ℕ) (before after : Checkpoint) (u : Image) → IsToExtend plan (H.now host) (H.may host) slot sizes payload before after →
+        Leaves slot (OfSizes sizes (Lengthened payload)) (H.now host) (H.may host) u → IsSavedTo (store_of plan) slot after.count (H.may host) u }
 {}

@@ -1,144 +1,182 @@
-use Rattle.std.proofs.Common.{◌≡◌, ◌∙◌, ◌+◌, inl, inr, [], ℕ, List, Option, ap, sym, subst, Err}
+use Rattle.std.proofs.Common.{◌≡◌, ◌∙◌, ◌+◌, inl, inr, [], ℕ, List, Option, take, ap, sym, subst, arith}
 use Rattle.rg_host.specs.Image.{Image}
 use Rattle.rg_event.specs.Shapes.{Shape}
+use Rattle.rg_event.specs.declared.event.Event.{Event}
 use Rattle.rg_config.specs.Plans.{planned}
 use Rattle.rg_plan.specs.Plans.{Tasks}
 use Rattle.rg_log.specs.Log.{schema_payload}
+use Rattle.rg_checkpoint.specs.Slots.{ReachesSlots}
+use Rattle.rg_engine.specs.Passed.{passed_count}
 use Rattle.rg_engine.specs.Standing.{come}
 use Rattle.rg_window.specs.Placed.{numbers_of}
 use Rattle.rg_reservoir.specs.Attached.{SchemaAdded}
 use Rattle.rg_reservoir.specs.Chain.{IsIllegal}
 use Rattle.rg_reservoir.specs.Kept.{Base, base, all_events}
+use Rattle.rg_restore.specs.Naming.{HeadsName}
+use Rattle.rg_restore.specs.Opening.{IsGoing}
 use Rattle.rg_restore.specs.Slots.{slot_in, HaveBegun}
-use Rattle.rg_event.specs.declared.event.Event.{Event}
 use Rattle.rg_open.specs.Blame.{opened_list}
-use Rattle.rg_open.specs.Opening.{IsStarted}
 use Rattle.rg_open.proofs.Blame.{amiss_in}
-use Rattle.rg_open.proofs.Found.{begun_keep, from_later, from_texts, next_is}
+use Rattle.rg_open.proofs.Causes.{rose_last}
+use Rattle.rg_open.proofs.Found.{begun_keep, from_later, from_texts, kept_since, next_is, reaches_still}
 use Rattle.rg_open.proofs.Settles.{all-fewer, fewer-all_settled, writes-before}
 use Rattle.rg_open.proofs.Unfit.{why}
 use Rattle.rg_open.proofs.opening.open_settled.Goals as goal
 
-pub returns-in-Err-clause-damaged : goal.returns-in-Err-clause-damaged
-returns-in-Err-clause-damaged g c = λ p is. inl (c.in-Err.ensures.damaged p (ap (λ f. Err f) is))
+pub start-requires-clause-start : goal.start-requires-clause-start
+start-requires-clause-start g c = record { task = c.requires.copies.2; going = c.in-Ok.ensures.found.going.0; none = c.in-Ok.ensures.found.empty.0; empty = c.requires.empty }
 
-pub returns-in-Err-clause-never_damaged : goal.returns-in-Err-clause-never_damaged
-returns-in-Err-clause-never_damaged g c = λ p openable settled is. c.in-Err.ensures.never_damaged p openable (ap (λ f. Err f) is)
-
-pub returns-in-Ok-start-clause-started : goal.returns-in-Ok-start-clause-started
-returns-in-Ok-start-clause-started g c = λ openable settled tells.
-    let h = c.start.new.host in
-    let e = c.in-Ok-start.engine in
-    subst (λ (texts : List (List ℕ)). IsStarted {T = g.row.T.Denot} (planned c.args.plan.now) (g.H.Host.now h) (g.H.Host.may h) (g.T.Table.tells e.table) (g.T.Table.cell e.table) c.start.new.reservoir e texts c.in-Ok-start.origin.slot c.in-Ok-start.origin.from) (sym c.requires.copies.1)
-    (c.in-Ok-start.ensures.started (c.in-Ok.ensures.found openable settled) tells)
-
-pub returns-in-Ok-start-clause-settled : goal.returns-in-Ok-start-clause-settled
-returns-in-Ok-start-clause-settled g c = λ v told settled.
-    let fewer = all-fewer g.H.Host.now g.H.Host.may g.H.Host.clock g.H.Host.since g.H.Host.said c.find.new.host c.start.new.host c.start.ensures.leaves in
-    fewer-all_settled g.H.Host.now g.H.Host.may g.H.Host.clock g.H.Host.since g.H.Host.said c.find.new.host c.start.new.host fewer (c.in-Ok.ensures.settled v told settled)
-
-pub returns-in-Ok-start-clause-events : goal.returns-in-Ok-start-clause-events
-returns-in-Ok-start-clause-events g c = λ v events told settled has.
-    let h = g.H.Host.now c.start.new.host in
-    let r = c.start.new.reservoir in
-    let all : all_events h (base r) [] ≡ events =
-    ap (λ (o : Option Image). all_events o (base r) []) c.start.ensures.leaves.now_stays
-    ∙ ap (λ (b : Base). all_events (g.H.Host.now c.find.new.host) b []) c.start.ensures.base
-    ∙ c.in-Ok.ensures.events v events told settled has in
-    (all, c.next_offset.ensures ∙ next_is h (g.H.Host.may c.start.new.host) r events (c.start.ensures.sound (c.in-Ok.ensures.log v events told settled has).sound) (ap (λ (b : Base). b.ended) c.start.ensures.base ∙ c.in-Ok.ensures.going.0) c.start.ensures.opened all)
-
-pub returns-in-Ok-start-clause-resumed : goal.returns-in-Ok-start-clause-resumed
-returns-in-Ok-start-clause-resumed g c = λ v told.
-    let plan = c.args.plan.now in
-    let saved = c.in-Ok.found.saved in
-    let slot = c.in-Ok-start.origin.slot in
-    let ticked = subst (λ (k : Tasks). (before : List ℕ) × HaveBegun k.offsets (slot_in saved) slot before × (c.start.new.steps + come k before ≡ c.args.steps.now + come k (numbers_of c.in-Ok-start.engine.spots))) c.requires.copies.2 c.in-Ok-start.ensures.ticks in
+pub returns-in-Err-clause-refused : goal.returns-in-Err-clause-refused
+returns-in-Err-clause-refused g c =
+    let f = c.in-Err.ensures.refused in
     record {
-      saved = saved;
-      slots = c.in-Ok.ensures.slots v told;
-      is_from = from_later (g.H.Host.now c.find.new.host) (g.H.Host.now c.start.new.host) (base c.in-Ok.found.reservoir) (base c.start.new.reservoir) plan.queries plan.schema.fields c.args.copies.task plan.task (slot_in saved) slot c.in-Ok-start.origin.from
-          c.start.ensures.leaves.now_stays c.start.ensures.base c.requires.copies.2 (c.in-Ok-start.ensures.from (c.in-Ok.ensures.listed v told));
-      before = ticked.0;
-      begun = ticked.1;
-      ticks = ticked.2;
+      disk = f.disk;
+      differs = f.differs;
+      never_differs = f.never_differs;
+      damaged = λ p is. inl (f.damaged p is);
+      never_damaged = f.never_damaged;
+      undamaged = f.undamaged;
+      bad = λ v events n told has tells is. absurd (f.no_state n is);
+      never_bad = λ n openable tells is. f.no_state n is;
+      why = λ v told unfit. why (planned c.args.plan.now) v c.in-Err.fault (λ is. f.differs is v told) (λ p is. f.damaged p is v told) f.no_table f.no_state;
+      table_disk = λ is. absurd (f.no_table is);
+      table_kept = record { tells = (λ told. told, λ told. told); later = omega arith };
     }
 
-pub returns-in-Ok-start-clause-is_from : goal.returns-in-Ok-start-clause-is_from
-returns-in-Ok-start-clause-is_from g c = λ v told openable settled.
-    let plan = c.args.plan.now in
-    let h = c.find.new.host in
+pub returns-in-Ok-start-clause-opened : goal.returns-in-Ok-start-clause-opened
+returns-in-Ok-start-clause-opened g c =
+    let given = c.args.plan.now in
+    let plan = planned given in
+    let m = c.find.new.host in
+    let n = c.start.new.host in
     let found = c.in-Ok.found in
+    let finds = c.in-Ok.ensures.found in
+    let starts = c.in-Ok-start.ensures.started in
+    let left = c.start.ensures.leaves in
     let origin = c.in-Ok-start.origin in
+    let engine = c.in-Ok-start.engine in
+    let r = c.start.new.reservoir in
+    let saved = found.saved in
+    let task = c.args.copies.task in
+    let tasks_are = c.requires.copies.2 in
+    let before = c.args.steps.now in
+    let after = c.start.new.steps in
+    let reads = g.met.H.Host.now_may m in
+    let fewer = all-fewer g.H.Host.now g.H.Host.may g.H.Host.clock g.H.Host.since g.H.Host.said m n left.leaves in
+    let same : all_events (g.H.Host.now n) (base r) [] ≡ all_events (g.H.Host.now m) (base found.reservoir) [] =
+    ap (λ (o : Option Image). all_events o (base r) []) left.leaves.now_stays ∙ ap (λ (b : Base). all_events (g.H.Host.now m) b []) left.based in
+    let ticked = subst (λ (k : Tasks). (numbers : List ℕ) × HaveBegun k.offsets (slot_in saved) origin.slot numbers × (after + come k numbers ≡ before + come k (numbers_of engine.spots))) tasks_are starts.ticks in
     record {
-      saved = found.saved;
-      slots = c.in-Ok.ensures.slots v told;
-      keep = origin.slot;
-      is = from_texts (planned plan) (g.H.Host.now h) (g.H.Host.may h) found.reservoir found.saved (c.in-Ok.ensures.found openable settled) c.args.copies.task (c.requires.copies.2 ∙ c.requires.read.task) plan.queries c.requires.read.printed
-          (λ w also. g.met.H.Host.now_may h w also) c.requires.read.said c.requires.read.legal origin.slot origin.from (c.in-Ok-start.ensures.from (c.in-Ok.ensures.listed v told));
+      started = λ openable tells. starts.started (finds.found openable) tells;
+      since = λ openable tells.
+          kept_since plan (g.H.Host.now m) (g.H.Host.may m) found.reservoir saved (finds.found openable) task (tasks_are ∙ c.requires.read.task) (g.H.Host.may n) left.leaves.may_stays.no_more reads (HeadsName (g.H.Host.now m) (base found.reservoir))
+          given.queries given.schema.fields (base found.reservoir).committed found.slots (finds.sizes openable.image openable.told) origin.slot origin.from (starts.is_from (finds.listed openable.image openable.told))
+          (g.T.Table.named engine.table) (g.T.Table.there engine.table) (g.T.Table.cell engine.table) (starts.since tells);
+      passed = λ openable.
+          subst (λ (k : Tasks). after ≡ before + passed_count k (take origin.from (all_events (g.H.Host.now n) (base r) [])) (all_events (g.H.Host.now n) (base r) [])) tasks_are
+          (subst (λ (l : List Event). after ≡ before + passed_count task (take origin.from l) l) (sym same) (starts.passed (finds.found openable)));
+      is_from = λ v told openable. record {
+        saved = saved;
+        slots = finds.slots_are v told;
+        keep = origin.slot;
+        is = from_texts plan (g.H.Host.now m) (g.H.Host.may m) found.reservoir saved (finds.found openable) task (tasks_are ∙ c.requires.read.task) given.queries c.requires.read.printed reads c.requires.read.said c.requires.read.legal
+            origin.slot origin.from (starts.is_from (finds.listed v told));
+      };
+      events = λ v events told has. same ∙ finds.events v events told has;
+      next = λ v events told has.
+          next_is (g.H.Host.now n) (g.H.Host.may n) r events (left.sound (finds.log v events told has).sound) (ap (λ (b : Base). b.ended) left.based ∙ finds.going.0) left.empty (same ∙ finds.events v events told has);
+      node = λ v events k told has tells not.
+          let log = finds.log v events told has in
+          record {
+            saved = saved;
+            slots = finds.slots_are v told;
+            payloads = has.1.payloads;
+            has = has.1.has;
+            amiss = amiss_in plan (g.H.Host.now m) (g.H.Host.may m) found.reservoir log finds.empty.0 (opened_list given.schema has.1.payloads) (finds.list v has.1.payloads told has.1.has) events saved k
+                (ap (λ (l : List Event). all_events (g.H.Host.now m) (base found.reservoir) l) finds.empty.0 ∙ finds.events v events told has) (starts.node k log tells not);
+          };
+      placed = λ v events told has. starts.placed (finds.log v events told has);
+      settled = λ v told. fewer-all_settled g.H.Host.now g.H.Host.may g.H.Host.clock g.H.Host.since g.H.Host.said m n fewer (finds.settled v told);
+      resumed = λ v told. record {
+        saved = saved;
+        slots = finds.slots_are v told;
+        is_from = from_later (g.H.Host.now m) (g.H.Host.now n) (base found.reservoir) (base r) given.queries given.schema.fields task given.task (slot_in saved) origin.slot origin.from left.leaves.now_stays left.based tasks_are
+            (starts.is_from (finds.listed v told));
+        before = ticked.0;
+        begun = ticked.1;
+        ticks = ticked.2;
+      };
+      fit = finds.fit;
+      going = (
+        ap (λ (b : Base). b.ended) left.based ∙ finds.going.0,
+        ap (λ (b : Base). b.file) left.based ∙ finds.going.1,
+        ap (λ (b : Base). b.shape) left.based ∙ finds.going.2,
+        ap (λ (b : Base). b.limit) left.based ∙ finds.going.3,
+      );
+      empty = (left.empty, left.room ∙ finds.empty.1, left.cap ∙ finds.empty.2);
+      reaches = reaches_still (g.H.Host.now m) (g.H.Host.now n) found.reservoir r left.leaves.now_stays left.based finds.reaches;
+      slots_go = finds.slots_go;
+      slots_reach = subst (ReachesSlots found.slots) (sym left.leaves.now_stays) finds.slots_reach;
+      keep_is = begun_keep task.offsets saved origin.slot starts.ticks.0 starts.ticks.1;
+      engine_goes = subst (λ (k : Tasks). IsGoing k (base r).committed engine) tasks_are starts.engine_goes;
+      table_kept = starts.table_kept;
     }
-
-pub returns-in-Ok-start-clause-keep : goal.returns-in-Ok-start-clause-keep
-returns-in-Ok-start-clause-keep g c = begun_keep c.args.copies.task.offsets c.in-Ok.found.saved c.in-Ok-start.origin.slot c.in-Ok-start.ensures.ticks.0 c.in-Ok-start.ensures.ticks.1
 
 pub returns-in-Ok-start-clause-writes : goal.returns-in-Ok-start-clause-writes
 returns-in-Ok-start-clause-writes g c =
-    let fewer = all-fewer g.H.Host.now g.H.Host.may g.H.Host.clock g.H.Host.since g.H.Host.said c.find.new.host c.start.new.host c.start.ensures.leaves in
-    writes-before g.H.Host.now g.H.Host.may g.H.Host.clock g.H.Host.since g.H.Host.said 2 (SchemaAdded (schema_payload c.args.plan.now.schema)) c.args.host.now c.find.new.host c.start.new.host c.find.ensures.writes fewer
+    let wrote = c.find.ensures.writes in
+    let left = c.start.ensures.leaves in
+    let fewer = all-fewer g.H.Host.now g.H.Host.may g.H.Host.clock g.H.Host.since g.H.Host.said c.find.new.host c.start.new.host left.leaves in
+    record {
+      writes = writes-before g.H.Host.now g.H.Host.may g.H.Host.clock g.H.Host.since g.H.Host.said 2 (SchemaAdded (schema_payload c.args.plan.now.schema)) c.args.host.now c.find.new.host c.start.new.host wrote.writes fewer;
+      disk_faults = omega (arith, wrote.disk_faults, left.disk_faults);
+      out_faults = left.out_faults ∙ wrote.out_faults;
+    }
 
-pub returns-in-Err-start-clause-never_damaged : goal.returns-in-Err-start-clause-never_damaged
-returns-in-Err-start-clause-never_damaged g c = λ p openable settled is. c.in-Err-start.ensures.never_damaged p (c.in-Ok.ensures.found openable settled) is
-
-pub returns-in-Err-start-clause-damaged : goal.returns-in-Err-start-clause-damaged
-returns-in-Err-start-clause-damaged g c = λ p is. inr (λ w told.
+pub returns-in-Err-start-clause-refused : goal.returns-in-Err-start-clause-refused
+returns-in-Err-start-clause-refused g c =
+    let given = c.args.plan.now in
+    let plan = planned given in
+    let m = c.find.new.host in
+    let n = c.start.new.host in
+    let found = c.in-Ok.found in
+    let finds = c.in-Ok.ensures.found in
+    let f = c.in-Err-start.ensures.refused in
+    let based = c.start.ensures.leaves.based in
     let b = base c.start.new.reservoir in
-    let shape : b.shape ≡ c.args.plan.now.schema = ap (λ (a : Base). a.shape) c.start.ensures.base ∙ c.in-Ok.ensures.going.2 in
-    let file : b.file ≡ 2 = ap (λ (a : Base). a.file) c.start.ensures.base ∙ c.in-Ok.ensures.going.1 in
-    subst (λ (f : ℕ). IsIllegal c.args.plan.now.schema.fields p (w f)) file (subst (λ (s : Shape). IsIllegal s.fields p (w b.file)) shape (c.in-Err-start.ensures.damaged p is w told)))
+    record {
+      disk = λ is. rose_last (g.H.Host.disk_faults c.args.host.now) (g.H.Host.disk_faults m) (g.H.Host.disk_faults n) c.find.ensures.writes.disk_faults (f.disk is);
+      differs = λ is. absurd (f.same_schema is);
+      never_differs = λ openable is. f.same_schema is;
+      damaged = λ p is. inr (λ w told.
+          let shape : b.shape ≡ given.schema = ap (λ (a : Base). a.shape) based ∙ finds.going.2 in
+          let file : b.file ≡ 2 = ap (λ (a : Base). a.file) based ∙ finds.going.1 in
+          subst (λ (i : ℕ). IsIllegal given.schema.fields p (w i)) file (subst (λ (s : Shape). IsIllegal s.fields p (w b.file)) shape (f.damaged p is w told)));
+      never_damaged = λ p openable is. f.undamaged p (finds.found openable).reservoir.sound is;
+      undamaged = λ v events p told has is. f.undamaged p (finds.log v events told has).sound is;
+      bad = λ v events k told has tells is.
+          let log = finds.log v events told has in
+          record {
+            saved = found.saved;
+            slots = finds.slots_are v told;
+            payloads = has.1.payloads;
+            has = has.1.has;
+            amiss = amiss_in plan (g.H.Host.now m) (g.H.Host.may m) found.reservoir log finds.empty.0 (opened_list given.schema has.1.payloads) (finds.list v has.1.payloads told has.1.has) events found.saved k
+                (ap (λ (l : List Event). all_events (g.H.Host.now m) (base found.reservoir) l) finds.empty.0 ∙ finds.events v events told has) (f.bad k log tells is);
+          };
+      never_bad = λ k openable tells is. f.never_bad k (finds.found openable) tells is;
+      why = λ v told unfit. absurd (finds.fit v told unfit);
+      table_disk = f.table_disk;
+      table_kept = f.table_kept;
+    }
 
 pub returns-in-Err-start-clause-writes : goal.returns-in-Err-start-clause-writes
 returns-in-Err-start-clause-writes g c =
-    let fewer = all-fewer g.H.Host.now g.H.Host.may g.H.Host.clock g.H.Host.since g.H.Host.said c.find.new.host c.start.new.host c.start.ensures.leaves in
-    writes-before g.H.Host.now g.H.Host.may g.H.Host.clock g.H.Host.since g.H.Host.said 2 (SchemaAdded (schema_payload c.args.plan.now.schema)) c.args.host.now c.find.new.host c.start.new.host c.find.ensures.writes fewer
-
-pub returns-in-Err-clause-why : goal.returns-in-Err-clause-why
-returns-in-Err-clause-why g c = λ v told unfit.
-    why (planned c.args.plan.now) v c.in-Err.fault (λ is. c.in-Err.ensures.differs (ap (λ f. Err f) is) v told) (λ p is. c.in-Err.ensures.damaged p (ap (λ f. Err f) is) v told)
-    (λ is. c.in-Err.ensures.neither.0 (ap (λ f. Err f) is)) (λ n is. c.in-Err.ensures.neither.1 n (ap (λ f. Err f) is))
-
-pub returns-in-Err-start-clause-why : goal.returns-in-Err-start-clause-why
-returns-in-Err-start-clause-why g c = λ v told unfit. absurd (c.in-Ok.ensures.exact v told unfit)
-
-pub returns-in-Err-start-clause-bad : goal.returns-in-Err-start-clause-bad
-returns-in-Err-start-clause-bad g c = λ v events n told settled has tells is.
-    let found = c.in-Ok.found in
-    let log = c.in-Ok.ensures.log v events told settled has in
+    let wrote = c.find.ensures.writes in
+    let left = c.start.ensures.leaves in
+    let fewer = all-fewer g.H.Host.now g.H.Host.may g.H.Host.clock g.H.Host.since g.H.Host.said c.find.new.host c.start.new.host left.leaves in
     record {
-      saved = found.saved;
-      slots = c.in-Ok.ensures.slots v told;
-      payloads = has.1.payloads;
-      has = has.1.has;
-      amiss = amiss_in (planned c.args.plan.now) (g.H.Host.now c.find.new.host) (g.H.Host.may c.find.new.host) found.reservoir log c.in-Ok.ensures.empty.0 (opened_list c.args.plan.now.schema has.1.payloads) (c.in-Ok.ensures.list v has.1.payloads told has.1.has) events found.saved n
-          (ap (λ (l : List Event). all_events (g.H.Host.now c.find.new.host) (base found.reservoir) l) c.in-Ok.ensures.empty.0 ∙ c.in-Ok.ensures.events v events told settled has) (c.in-Err-start.ensures.bad n log tells is);
+      writes = writes-before g.H.Host.now g.H.Host.may g.H.Host.clock g.H.Host.since g.H.Host.said 2 (SchemaAdded (schema_payload c.args.plan.now.schema)) c.args.host.now c.find.new.host c.start.new.host wrote.writes fewer;
+      disk_faults = omega (arith, wrote.disk_faults, left.disk_faults);
+      out_faults = left.out_faults ∙ wrote.out_faults;
     }
-
-pub returns-in-Ok-start-clause-node : goal.returns-in-Ok-start-clause-node
-returns-in-Ok-start-clause-node g c = λ v events n told settled has tells not.
-    let found = c.in-Ok.found in
-    let log = c.in-Ok.ensures.log v events told settled has in
-    record {
-      saved = found.saved;
-      slots = c.in-Ok.ensures.slots v told;
-      payloads = has.1.payloads;
-      has = has.1.has;
-      amiss = amiss_in (planned c.args.plan.now) (g.H.Host.now c.find.new.host) (g.H.Host.may c.find.new.host) found.reservoir log c.in-Ok.ensures.empty.0 (opened_list c.args.plan.now.schema has.1.payloads) (c.in-Ok.ensures.list v has.1.payloads told has.1.has) events found.saved n
-          (ap (λ (l : List Event). all_events (g.H.Host.now c.find.new.host) (base found.reservoir) l) c.in-Ok.ensures.empty.0 ∙ c.in-Ok.ensures.events v events told settled has) (c.in-Ok-start.ensures.node n log tells not);
-    }
-
-pub returns-in-Err-clause-undamaged : goal.returns-in-Err-clause-undamaged
-returns-in-Err-clause-undamaged g c = λ v events p told settled has is. c.in-Err.ensures.undamaged v events p told has (ap (λ f. Err f) is)
-
-pub returns-in-Err-start-clause-undamaged : goal.returns-in-Err-start-clause-undamaged
-returns-in-Err-start-clause-undamaged g c = λ v events p told settled has is. c.in-Err-start.ensures.undamaged p (c.in-Ok.ensures.log v events told settled has).sound is
-
-pub returns-in-Ok-start-clause-placed : goal.returns-in-Ok-start-clause-placed
-returns-in-Ok-start-clause-placed g c = λ v events told settled has. c.in-Ok-start.ensures.placed (c.in-Ok.ensures.log v events told settled has)

@@ -1,4 +1,4 @@
-use Rattle.std.proofs.Common.{◌∙◌, ◌+◌, List, take, length, ap, sym, subst, arith}
+use Rattle.std.proofs.Common.{◌≡◌, ◌∙◌, ◌+◌, true, List, take, length, ap, sym, subst, arith}
 use Rattle.rg_event.specs.declared.event.Event.{Event}
 use Rattle.rg_past.specs.declared.past.PastFault.TheVariants as past
 use Rattle.rg_config.specs.Plans.{planned}
@@ -6,26 +6,26 @@ use Rattle.rg_engine.specs.Passed.{passed_count}
 use Rattle.rg_reservoir.specs.Kept.{Base, base, opened, all_events}
 use Rattle.rg_reservoir.specs.GoingLaws.{all_long}
 use Rattle.rg_restore.specs.NamingLaws.{sound_listed}
-use Rattle.rg_restore.specs.Naming.{HeadsName}
+use Rattle.rg_restore.specs.Naming.{IsListed, HeadsName}
+use Rattle.rg_restore.specs.Fit.{IsFit}
 use Rattle.rg_restore.specs.Opening.{IsGoing}
-use Rattle.rg_restore.specs.Slots.{slot_in}
-use Rattle.rg_open.proofs.Causes.{bad_by, damaged_by, disk_by}
+use Rattle.rg_restore.specs.Slots.{slot_in, IsFrom}
+use Rattle.rg_open.proofs.Causes.{bad_by, damaged_by, disk_by, never_differs, table_by}
 use Rattle.rg_open.proofs.Found.{none_still, from_heads, are_truthful, kept_by, started}
 use Rattle.rg_open.proofs.Logs.{can_stand, last_is}
 use Rattle.rg_open.proofs.Blame.{amiss_by, runs_by}
 use Rattle.rg_open.proofs.starting.start_over.Goals as goal
 
-pub returns-in-Ok-clause-from : goal.returns-in-Ok-clause-from
-returns-in-Ok-clause-from g c = λ listed.
-    let p = c.args.past.now in
-    let now = g.H.Host.now p.host.now in
-    let r = p.reservoir.now in
-    from_heads now (base r) (opened r) c.args.plan.now.queries c.fields.result.now c.args.plan.now.schema.fields c.args.task (length (all_events now (base r) (opened r))) (slot_in c.args.saved) c.in-Ok.started.1.slot c.in-Ok.started.1.from
-    c.requires.none c.requires.going c.fields.ensures.columns (omega (arith, all_long now (base r) (opened r), ap length c.requires.none)) (c.in-Ok.ensures.from listed)
+pub resume-requires-clause-ready : goal.resume-requires-clause-ready
+resume-requires-clause-ready g c = (c.requires.start.none, c.requires.start.going)
+
+pub resume-requires-clause-empty : goal.resume-requires-clause-empty
+resume-requires-clause-empty g c = c.requires.start.empty
 
 pub returns-in-Ok-clause-started : goal.returns-in-Ok-clause-started
-returns-in-Ok-clause-started g c = λ found tells.
-    let plan = planned c.args.plan.now in
+returns-in-Ok-clause-started g c =
+    let given = c.args.plan.now in
+    let plan = planned given in
     let p = c.args.past.now in
     let q = c.resume.new.past in
     let now = g.H.Host.now p.host.now in
@@ -34,112 +34,113 @@ returns-in-Ok-clause-started g c = λ found tells.
     let after = g.H.Host.may q.host.now in
     let r = p.reservoir.now in
     let s = q.reservoir.now in
+    let to = c.requires.start in
+    let runs : (base r).ended ≡ true → ⊥ = λ e. (let x = sym e ∙ to.going in cc) in
     let goes = c.resume.ensures.past.goes in
-    let tasks_are = c.requires.task ∙ c.requires.read.task in
+    let tasks_are = to.task ∙ c.requires.read.task in
+    let tells = g.T.Table.tells c.args.table in
     let engine = c.in-Ok.started.0 in
-    let stands = c.in-Ok.ensures.stands (can_stand plan now may r found.reservoir found.empty c.args.task tasks_are (g.T.Table.tells c.args.table) c.requires.read.legal tells) (λ e. (let x = sym e ∙ c.requires.going in cc))
-    (last_is plan now may r found.reservoir found.empty c.last_of-last.result c.last_of-last.ensures.some c.last_of-last.ensures.none)
-    (are_truthful plan now may r c.args.saved found c.args.task tasks_are c.args.plan.now.queries c.requires.read.printed (λ v told. g.met.H.Host.now_may p.host.now v told) c.requires.read.said) in
-    started plan now may r c.args.saved found c.args.task tasks_are then after s goes.base (none_still now then r s goes.base c.requires.none c.resume.ensures.events) (goes.sound found.reservoir.sound) goes.leaves.may_stays.no_more
-    (g.T.Table.tells engine.table) (g.T.Table.cell engine.table) engine c.args.plan.now.queries c.in-Ok.started.1.slot c.in-Ok.started.1.from c.requires.read.printed c.requires.read.said c.requires.read.legal
-    (c.in-Ok.ensures.table.tells.1 tells) c.in-Ok.ensures.engine.plan_is stands
-    (kept_by plan now may r c.args.saved found c.args.task tasks_are after goes.leaves.may_stays.no_more (HeadsName now (base r)) c.args.plan.now.queries c.args.plan.now.schema.fields (base r).committed c.requires.read.printed c.in-Ok.started.1.slot c.in-Ok.started.1.from
-    (returns-in-Ok-clause-from g c (sound_listed now may r (λ v told. g.met.H.Host.now_may p.host.now v told) found.reservoir.sound)))
+    let origin = c.in-Ok.started.1 in
+    let cells = g.T.Table.cell engine.table in
+    let none = none_still now then r s goes.base to.none c.resume.ensures.events in
+    let reads = g.met.H.Host.now_may p.host.now in
+    let all : List Event = all_events now (base r) (opened r) in
+    let is_from : IsListed now → IsFrom (IsFit (HeadsName now (base r)) given.queries given.schema.fields c.args.task (base r).committed) (slot_in c.args.saved) origin.slot origin.from = λ listed.
+    from_heads now (base r) (opened r) given.queries c.fields.result.now given.schema.fields c.args.task (length all) (slot_in c.args.saved) origin.slot origin.from
+    to.none to.going c.fields.ensures.columns (omega (arith, all_long now (base r) (opened r), ap length to.none)) (c.in-Ok.ensures.from listed) in
+    record {
+      started = λ found told.
+          let truthful = are_truthful plan now may r c.args.saved found c.args.task tasks_are given.queries c.requires.read.printed reads c.requires.read.said in
+          let stands = c.in-Ok.ensures.stands (can_stand plan now may r found.reservoir found.empty c.args.task tasks_are tells c.requires.read.legal told) runs
+          (last_is plan now may r found.reservoir found.empty c.last_of-last.result c.last_of-last.ensures.some c.last_of-last.ensures.none) truthful in
+          started plan now may r c.args.saved found c.args.task tasks_are then after s goes.base none (goes.sound found.reservoir.sound) goes.leaves.may_stays.no_more
+          (g.T.Table.tells engine.table) cells engine given.queries origin.slot origin.from c.requires.read.printed c.requires.read.said c.requires.read.legal
+          (c.in-Ok.ensures.table.tells.1 told) c.in-Ok.ensures.engine.plan_is stands
+          (kept_by plan now may r c.args.saved found c.args.task tasks_are after goes.leaves.may_stays.no_more (HeadsName now (base r)) given.queries given.schema.fields (base r).committed c.requires.read.printed origin.slot origin.from
+          (is_from (sound_listed now may r reads found.reservoir.sound)));
+      passed = λ found.
+          let truthful = are_truthful plan now may r c.args.saved found c.args.task tasks_are given.queries c.requires.read.printed reads c.requires.read.said in
+          c.in-Ok.ensures.passed found.reservoir.sound runs (last_is plan now may r found.reservoir found.empty c.last_of-last.result c.last_of-last.ensures.some c.last_of-last.ensures.none) truthful
+          ∙ ap (λ (l : List Event). c.args.steps.now + passed_count c.args.task (take origin.from all) l) c.resume.ensures.events
+          ∙ ap (λ (o : List Event). c.args.steps.now + passed_count c.args.task (take origin.from (all_events now (base r) o)) (all_events now (base r) o)) to.none;
+      is_from = is_from;
+      ticks = c.in-Ok.ensures.ticks;
+      node = λ n log told not.
+          let blame = c.in-Ok.ensures.node n (can_stand plan now may r log to.none c.args.task tasks_are tells c.requires.read.legal told) runs
+          (last_is plan now may r log to.none c.last_of-last.result c.last_of-last.ensures.some c.last_of-last.ensures.none)
+          (λ goes_on. not (runs_by plan now may r log c.args.task tasks_are then after s goes.base (goes.sound log.sound) n (g.T.Table.tells engine.table) cells engine
+          c.requires.read.legal (c.in-Ok.ensures.table.tells.1 told) c.in-Ok.ensures.engine.plan_is goes_on)) in
+          amiss_by plan now may r log given.queries c.fields.result.now c.args.task c.args.saved n blame.0 blame.1 c.requires.read.printed c.fields.ensures.columns tasks_are blame.2 blame.3;
+      placed = λ log. record {
+        reservoir = record {
+          sound = goes.sound log.sound;
+          going = ap (λ (b : Base). b.ended) goes.base ∙ log.going;
+          file = ap (λ (b : Base). b.file) goes.base ∙ log.file;
+          shape = ap (λ (b : Base). b.shape) goes.base ∙ log.shape;
+        };
+        spots = c.in-Ok.ensures.spelled log.sound runs;
+      };
+      engine_goes = subst (λ n. IsGoing c.args.task n engine) (omega (arith, all_long then (base s) (opened s), ap length none)) c.in-Ok.ensures.engine;
+      since = c.in-Ok.ensures.since;
+      table_kept = c.in-Ok.ensures.table;
+    }
 
-pub returns-in-Ok-clause-passed : goal.returns-in-Ok-clause-passed
-returns-in-Ok-clause-passed g c = λ found.
-    let plan = planned c.args.plan.now in
-    let p = c.args.past.now in
-    let now = g.H.Host.now p.host.now in
-    let may = g.H.Host.may p.host.now in
-    let r = p.reservoir.now in
-    let from = c.in-Ok.started.1.from in
-    let tasks_are = c.requires.task ∙ c.requires.read.task in
-    let count = c.in-Ok.ensures.passed found.reservoir.sound (λ e. (let x = sym e ∙ c.requires.going in cc))
-    (last_is plan now may r found.reservoir found.empty c.last_of-last.result c.last_of-last.ensures.some c.last_of-last.ensures.none)
-    (are_truthful plan now may r c.args.saved found c.args.task tasks_are c.args.plan.now.queries c.requires.read.printed (λ v told. g.met.H.Host.now_may p.host.now v told) c.requires.read.said) in
-    count
-    ∙ ap (λ (l : List Event). c.args.steps.now + passed_count c.args.task (take from (all_events now (base r) (opened r))) l) c.resume.ensures.events
-    ∙ ap (λ (o : List Event). c.args.steps.now + passed_count c.args.task (take from (all_events now (base r) o)) (all_events now (base r) o)) c.requires.none
-
-pub returns-in-Ok-clause-engine : goal.returns-in-Ok-clause-engine
-returns-in-Ok-clause-engine g c =
-    let p = c.args.past.now in
-    let q = c.resume.new.past in
-    let then = g.H.Host.now q.host.now in
-    let s = q.reservoir.now in
-    let none = none_still (g.H.Host.now p.host.now) then p.reservoir.now s c.resume.ensures.past.goes.base c.requires.none c.resume.ensures.events in
-    subst (λ n. IsGoing c.args.task n c.in-Ok.started.0) (omega (arith, all_long then (base s) (opened s), ap length none)) c.in-Ok.ensures.engine
-
-pub returns-in-Err-clause-never_bad : goal.returns-in-Err-clause-never_bad
-returns-in-Err-clause-never_bad g c = λ n found tells is.
-    let plan = planned c.args.plan.now in
-    let p = c.args.past.now in
-    let now = g.H.Host.now p.host.now in
-    let may = g.H.Host.may p.host.now in
-    let r = p.reservoir.now in
-    let tasks_are = c.requires.task ∙ c.requires.read.task in
-    c.in-Err.ensures.never_bad n (can_stand plan now may r found.reservoir found.empty c.args.task tasks_are (g.T.Table.tells c.args.table) c.requires.read.legal tells) (λ e. (let x = sym e ∙ c.requires.going in cc))
-    (are_truthful plan now may r c.args.saved found c.args.task tasks_are c.args.plan.now.queries c.requires.read.printed (λ v told. g.met.H.Host.now_may p.host.now v told) c.requires.read.said)
-    (bad_by c.in-Err.fault n (sym c.from.ensures ∙ is))
-
-pub returns-in-Err-clause-never_damaged : goal.returns-in-Err-clause-never_damaged
-returns-in-Err-clause-never_damaged g c = λ p found is.
-    c.in-Err.ensures.never_damaged p found.reservoir.sound (λ e. (let x = sym e ∙ c.requires.going in cc)) (damaged_by c.in-Err.fault p (sym c.from.ensures ∙ is))
-
-pub returns-in-Err-clause-disk : goal.returns-in-Err-clause-disk
-returns-in-Err-clause-disk g c = λ is. c.in-Err.ensures.cause past.Disk (disk_by c.in-Err.fault (sym c.from.ensures ∙ is))
-
-pub returns-in-Err-clause-damaged : goal.returns-in-Err-clause-damaged
-returns-in-Err-clause-damaged g c = λ p is. c.in-Err.ensures.cause (past.Damaged p) (damaged_by c.in-Err.fault p (sym c.from.ensures ∙ is))
-
-pub returns-in-Err-clause-opened : goal.returns-in-Err-clause-opened
-returns-in-Err-clause-opened g c =
+pub returns-in-Ok-clause-leaves : goal.returns-in-Ok-clause-leaves
+returns-in-Ok-clause-leaves g c =
     let p = c.args.past.now in
     let q = c.resume.new.past in
-    none_still (g.H.Host.now p.host.now) (g.H.Host.now q.host.now) p.reservoir.now q.reservoir.now c.resume.ensures.past.goes.base c.requires.none c.resume.ensures.events
-
-pub returns-in-Err-clause-bad : goal.returns-in-Err-clause-bad
-returns-in-Err-clause-bad g c = λ n log tells is.
-    let plan = planned c.args.plan.now in
-    let p = c.args.past.now in
-    let now = g.H.Host.now p.host.now in
-    let may = g.H.Host.may p.host.now in
-    let r = p.reservoir.now in
-    let tasks_are = c.requires.task ∙ c.requires.read.task in
-    let blame = c.in-Err.ensures.bad n (can_stand plan now may r log c.requires.none c.args.task tasks_are (g.T.Table.tells c.args.table) c.requires.read.legal tells) (λ e. (let x = sym e ∙ c.requires.going in cc)) (bad_by c.in-Err.fault n (sym c.from.ensures ∙ is)) in
-    amiss_by plan now may r log c.args.plan.now.queries c.fields.result.now c.args.task c.args.saved n blame.0 blame.1 c.requires.read.printed c.fields.ensures.columns tasks_are blame.2 blame.3
-
-pub returns-in-Ok-clause-node : goal.returns-in-Ok-clause-node
-returns-in-Ok-clause-node g c = λ n log tells not.
-    let plan = planned c.args.plan.now in
-    let p = c.args.past.now in
-    let q = c.resume.new.past in
-    let now = g.H.Host.now p.host.now in
-    let may = g.H.Host.may p.host.now in
-    let r = p.reservoir.now in
-    let goes = c.resume.ensures.past.goes in
-    let tasks_are = c.requires.task ∙ c.requires.read.task in
-    let engine = c.in-Ok.started.0 in
-    let blame = c.in-Ok.ensures.node n (can_stand plan now may r log c.requires.none c.args.task tasks_are (g.T.Table.tells c.args.table) c.requires.read.legal tells) (λ e. (let x = sym e ∙ c.requires.going in cc))
-    (last_is plan now may r log c.requires.none c.last_of-last.result c.last_of-last.ensures.some c.last_of-last.ensures.none)
-    (λ goes_on. not (runs_by plan now may r log c.args.task tasks_are (g.H.Host.now q.host.now) (g.H.Host.may q.host.now) q.reservoir.now goes.base (goes.sound log.sound) n (g.T.Table.tells engine.table) (g.T.Table.cell engine.table) engine
-    c.requires.read.legal (c.in-Ok.ensures.table.tells.1 tells) c.in-Ok.ensures.engine.plan_is goes_on)) in
-    amiss_by plan now may r log c.args.plan.now.queries c.fields.result.now c.args.task c.args.saved n blame.0 blame.1 c.requires.read.printed c.fields.ensures.columns tasks_are blame.2 blame.3
-
-pub returns-in-Err-clause-undamaged : goal.returns-in-Err-clause-undamaged
-returns-in-Err-clause-undamaged g c = λ p sound is.
-    c.in-Err.ensures.never_damaged p sound (λ e. (let x = sym e ∙ c.requires.going in cc)) (damaged_by c.in-Err.fault p (sym c.from.ensures ∙ is))
-
-pub returns-in-Ok-clause-placed : goal.returns-in-Ok-clause-placed
-returns-in-Ok-clause-placed g c = λ log.
     let goes = c.resume.ensures.past.goes in
     record {
-      reservoir = record {
-        sound = goes.sound log.sound;
-        going = ap (λ (b : Base). b.ended) goes.base ∙ log.going;
-        file = ap (λ (b : Base). b.file) goes.base ∙ log.file;
-        shape = ap (λ (b : Base). b.shape) goes.base ∙ log.shape;
-      };
-      spots = c.in-Ok.ensures.spelled log.sound (λ e. (let x = sym e ∙ c.requires.going in cc));
+      based = goes.base;
+      room = goes.room;
+      cap = goes.cap;
+      empty = none_still (g.H.Host.now p.host.now) (g.H.Host.now q.host.now) p.reservoir.now q.reservoir.now goes.base c.requires.start.none c.resume.ensures.events;
+      sound = goes.sound;
+      leaves = goes.leaves;
+      disk_faults = c.resume.ensures.past.later;
+      out_faults = goes.outs_stay;
+    }
+
+pub returns-in-Err-clause-refused : goal.returns-in-Err-clause-refused
+returns-in-Err-clause-refused g c =
+    let given = c.args.plan.now in
+    let plan = planned given in
+    let p = c.args.past.now in
+    let now = g.H.Host.now p.host.now in
+    let may = g.H.Host.may p.host.now in
+    let r = p.reservoir.now in
+    let to = c.requires.start in
+    let fault = c.in-Err.fault in
+    let runs : (base r).ended ≡ true → ⊥ = λ e. (let x = sym e ∙ to.going in cc) in
+    let tasks_are = to.task ∙ c.requires.read.task in
+    let tells = g.T.Table.tells c.args.table in
+    record {
+      disk = λ is. c.in-Err.ensures.cause past.Disk (disk_by fault (sym c.from.ensures ∙ is));
+      damaged = λ n is. c.in-Err.ensures.cause (past.Damaged n) (damaged_by fault n (sym c.from.ensures ∙ is));
+      undamaged = λ n sound is. c.in-Err.ensures.never_damaged n sound runs (damaged_by fault n (sym c.from.ensures ∙ is));
+      same_schema = λ is. never_differs fault (sym c.from.ensures ∙ is);
+      bad = λ n log told is.
+          let blame = c.in-Err.ensures.bad n (can_stand plan now may r log to.none c.args.task tasks_are tells c.requires.read.legal told) runs (bad_by fault n (sym c.from.ensures ∙ is)) in
+          amiss_by plan now may r log given.queries c.fields.result.now c.args.task c.args.saved n blame.0 blame.1 c.requires.read.printed c.fields.ensures.columns tasks_are blame.2 blame.3;
+      never_bad = λ n found told is.
+          c.in-Err.ensures.never_bad n (can_stand plan now may r found.reservoir found.empty c.args.task tasks_are tells c.requires.read.legal told) runs
+          (are_truthful plan now may r c.args.saved found c.args.task tasks_are given.queries c.requires.read.printed (g.met.H.Host.now_may p.host.now) c.requires.read.said) (bad_by fault n (sym c.from.ensures ∙ is));
+      table_disk = λ is. c.in-Err.ensures.disk (table_by fault (sym c.from.ensures ∙ is));
+      table_kept = c.in-Err.ensures.back;
+    }
+
+pub returns-in-Err-clause-leaves : goal.returns-in-Err-clause-leaves
+returns-in-Err-clause-leaves g c =
+    let p = c.args.past.now in
+    let q = c.resume.new.past in
+    let goes = c.resume.ensures.past.goes in
+    record {
+      based = goes.base;
+      room = goes.room;
+      cap = goes.cap;
+      empty = none_still (g.H.Host.now p.host.now) (g.H.Host.now q.host.now) p.reservoir.now q.reservoir.now goes.base c.requires.start.none c.resume.ensures.events;
+      sound = goes.sound;
+      leaves = goes.leaves;
+      disk_faults = c.resume.ensures.past.later;
+      out_faults = goes.outs_stay;
     }

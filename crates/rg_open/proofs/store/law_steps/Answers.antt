@@ -1,12 +1,11 @@
-use Rattle.std.proofs.Common.{◌≡◌, ℕ, Option, Some, subst, arith}
+use Rattle.std.proofs.Common.{Option, subst, arith}
 use Rattle.rg_host.specs.Image.{Image, NothingPending}
 use Rattle.rg_frame.specs.Steps.{Leaves, From}
 use Rattle.rg_log.specs.Log.{schema_payload}
-use Rattle.rg_checkpoint.specs.Slots.{other_of}
 use Rattle.rg_reservoir.specs.Attached.{SchemaAdded}
 use Rattle.rg_reservoir.specs.Kept.{base, opened, next_of, time_of, cache_of, Adds}
 use Rattle.rg_open.proofs.Sound.{ends_in, commit_left, committed_left, open_left, opened_left}
-use Rattle.rg_open.proofs.Steps.{step_from, save_mid, save_done}
+use Rattle.rg_open.proofs.Steps.{step_from, save_mid, save_done, extends, extended}
 use Rattle.rg_open.proofs.store.law_steps.Goals as goal
 
 pub returns : goal.returns
@@ -35,4 +34,6 @@ returns g c = record {
   saved = λ host plan keep payload checkpoint v u legal base told settled true_of texts left.
       let x = left.0.0 in
       save_done plan keep legal checkpoint (g.H.Host.may host) x u left.0.1 left.0.2 (true_of x left.0.1) checkpoint.count texts (omega arith) (left.1 settled v told checkpoint base);
+  extends = λ host plan keep slot sizes payload before after u to left. extends plan (g.H.Host.now host) (g.H.Host.may host) slot sizes payload before after to u keep left;
+  extended = λ host plan slot sizes payload before after u to left. extended plan (g.H.Host.now host) (g.H.Host.may host) slot sizes payload before after to u left;
 }

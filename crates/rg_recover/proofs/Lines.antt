@@ -17,6 +17,7 @@ use Rattle.rg_reply.specs.declared.reply.Reply.TheVariants.{Late, Full}
 use Rattle.rg_config.specs.Plans.{Planned}
 use Rattle.rg_row.specs.Rows.{row_of}
 use Rattle.rg_row.specs.declared.fault.RowFault.{RowFault}
+use Rattle.rg_state.specs.Changes.{Marks}
 use Rattle.rg_state.specs.Rows.{Cells}
 use Rattle.rg_course.specs.Verdicts.{Verdict, refused, accepted, moved, verdict_of, or_reply, fault_reply, accepted_after, reply_of}
 use Rattle.rg_course.proofs.Verdicts.{is_late, is_full, is_moved, is_accepted}
@@ -85,11 +86,11 @@ after_accepted events event true = refl
 after_accepted events event false = refl
 
 -- what is decided by a session that runs is what its plan gives
-pub decided : {T : Type 0} (plan : Planned) (now : Option Image) (may : Image → Type 0) (told : Type 0) (cells : Cells) (s : Sitting T) (offset : ℕ) (line : List ℕ) (verdict : Verdict)
-    → IsRunning plan now may told cells s
+pub decided : {T : Type 0} (plan : Planned) (now : Option Image) (may : Image → Type 0) (Tells : T → Type 0) (cell : T → Cells) (named there : T → Marks) (s : Sitting T) (offset : ℕ) (line : List ℕ) (verdict : Verdict)
+    → IsRunning plan now may Tells cell named there s
     → ((events : List Event) → AreBefore events s.reservoir → verdict ≡ verdict_of (base s.reservoir).limit s.grace events (or_reply (row_of (base s.reservoir).shape.fields offset line)))
     → verdict ≡ verdict_on plan (events_of now s) offset line
-decided plan now may told cells s offset line verdict runs says =
+decided plan now may Tells cell named there s offset line verdict runs says =
     let log = runs.ready.in_step.reservoir in
     let small = last_small (base s.reservoir).shape.fields (events_of now s) (all_fit now may s.reservoir log.sound log.going) in
     says (events_of now s) (record { small = small; last = time_is now may s.reservoir log.sound log.going; count = long now s.reservoir })

@@ -7,7 +7,9 @@ use Rattle.rg_host.proofs.Runs.{nothing_pending-kept}
 use Rattle.rg_event.specs.declared.event.Event.{Event}
 use Rattle.rg_config.specs.Plans.{Planned}
 use Rattle.rg_plan.specs.Plans.{plan_for}
+use Rattle.rg_state.specs.Changes.{Marks}
 use Rattle.rg_state.specs.Rows.{Cells}
+use Rattle.rg_checkpoint.specs.Slots.{sizes_in}
 use Rattle.rg_engine.specs.Seen.{Seen}
 use Rattle.rg_restore.specs.Truthful.{EngineStands, NodeGoes}
 use Rattle.rg_reservoir.specs.Chain.{IsIllegal}
@@ -20,10 +22,11 @@ use Rattle.rg_open.specs.Blame.{NodeRuns, IsPlaced}
 use Rattle.rg_recover.specs.Faults.{of_reservoir}
 use Rattle.rg_recover.specs.Sessions.{Sitting, IsRunning}
 use Rattle.rg_recover.specs.declared.fault.TaskFault.TheVariants.{Disk, Damaged, Memory, Ended}
+use Rattle.rg_recover.proofs.Stays.{kept_on, slots_quiet}
 
 -- the session with another reservoir
 abbrev pub with_reservoir : {T : Type 0} → Reservoir → Sitting T → Sitting T
-with_reservoir r s = record { reservoir = r; engine = s.engine; texts = s.texts; grace = s.grace; keep = s.keep; saved = s.saved; ended = s.ended }
+with_reservoir r s = record { reservoir = r; engine = s.engine; texts = s.texts; grace = s.grace; slots = s.slots; keep = s.keep; saved = s.saved; ended = s.ended }
 
 module _ (now then : Option Image) (old new : Reservoir) (same : then ≡ now) (stays : Stays old new) where
   -- what is said of the image, of what a commit changes, and of the open chunk
@@ -49,8 +52,8 @@ module _ (now then : Option Image) (old new : Reservoir) (same : then ≡ now) (
       shape = ap (λ (b : Base). b.shape) stays.base ∙ is.shape;
     }
 
-    module _ {T : Type 0} (told : Type 0) (cells : Cells) where
-      pub running_ahead : (s : Sitting T) → IsRunning plan now may told cells (with_reservoir old s) → IsRunning plan then after told cells (with_reservoir new s)
+    module _ {T : Type 0} (Tells : T → Type 0) (cell : T → Cells) (named there : T → Marks) where
+      pub running_ahead : (s : Sitting T) → IsRunning plan now may Tells cell named there (with_reservoir old s) → IsRunning plan then after Tells cell named there (with_reservoir new s)
       running_ahead s r =
           let fewer = outcomes.no_more in
           let step = r.ready.in_step in
@@ -60,7 +63,7 @@ module _ (now then : Option Image) (old new : Reservoir) (same : then ≡ now) (
                 reservoir = opened_still step.reservoir;
                 said = step.said;
                 truthful = λ u left. step.truthful u (fewer u left);
-                stands = carried (λ o b l. EngineStands (Spells o b l) (plan_for plan.queries) (all_events o b l) cells s.engine.spots) step.stands;
+                stands = carried (λ o b l. EngineStands (Spells o b l) (plan_for plan.queries) (all_events o b l) (cell s.engine.table) s.engine.spots) step.stands;
                 texts_are = step.texts_are;
               };
               tells = r.ready.tells;
@@ -75,8 +78,12 @@ module _ (now then : Option Image) (old new : Reservoir) (same : then ≡ now) (
             kept = λ slot keep.
                 let k = r.kept slot keep in
                 record { below = k.below; stored = subst (λ (b : Base). s.saved ≤ b.committed) (sym stays.base) k.stored; has = λ u left. k.has u (fewer u left) };
+            since = λ slot keep.
+                let e = s.engine.table in
+                kept_on may after slot s.saved s.texts (sizes_in s.slots slot) (named e) (there e) (named e) (there e) (cell e) (cell e) (r.kept slot keep).below (slots_quiet now then may after same fewer).left (λ rows is. is) (r.since slot keep);
           }
 
+    module _ {T : Type 0} (told : Type 0) (cells : Cells) where
       pub node_ahead : (n : ℕ) (engine : Seen T) → NodeRuns plan n now may told cells old engine → NodeRuns plan n then after told cells new engine
       node_ahead n engine runs = record {
         reservoir = opened_still runs.reservoir;

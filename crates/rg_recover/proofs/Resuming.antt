@@ -1,23 +1,28 @@
 -- A session that is made of a store that was opened.
-use Rattle.std.proofs.Common.{◌≡◌, ◌≤◌, ℕ, false, List, [], length, Option, refl, sym, ap, subst, arith}
+use Rattle.std.proofs.Common.{◌≡◌, ◌≤◌, ℕ, false, List, [], length, Option, Some, refl, sym, ap, subst, arith}
 use Rattle.std.proofs.lemmas.List.{append-nil}
 use Rattle.rg_host.specs.Image.{Image}
 use Rattle.rg_event.specs.declared.event.Event.{Event}
 use Rattle.rg_past.specs.declared.past.Spot.{Spot}
 use Rattle.rg_config.specs.Plans.{Planned}
+use Rattle.rg_state.specs.Changes.{Marks}
 use Rattle.rg_state.specs.Rows.{Cells}
+use Rattle.rg_checkpoint.specs.Slots.{Attached, sizes_in}
 use Rattle.rg_window.specs.Placed.{AreWithin}
 use Rattle.rg_engine.specs.Seen.{Seen}
 use Rattle.rg_reservoir.specs.Kept.{base, opened, stored, all_events}
 use Rattle.rg_reservoir.specs.declared.reservoir.Reservoir.{Reservoir}
+use Rattle.rg_open.specs.Opened.{IsKeptSince}
 use Rattle.rg_open.specs.Opening.{IsStarted}
 use Rattle.rg_open.specs.Settling.{AreSettled}
 use Rattle.rg_recover.specs.Sessions.{IsRunning, count_in}
 
 -- it runs, where its engine was started over a settled store
-pub started_running : {T : Type 0} (plan : Planned) (now : Option Image) (may : Image → Type 0) (told : Type 0) (cells : Cells) (r : Reservoir) (engine : Seen T) (texts : List (List ℕ)) (grace : ℕ) (keep : Option ℕ) (saved : ℕ) → IsStarted plan now may told cells r engine texts keep saved
-    → AreSettled now may → (base r).limit ≡ plan.settings.events → grace ≡ plan.settings.grace → IsRunning plan now may told cells (record { reservoir = r; engine = engine; texts = texts; grace = grace; keep = keep; saved = saved; ended = false })
-started_running plan now may told cells r engine texts grace keep saved started settled limit grace_is = record {
+pub started_running : {T : Type 0} (plan : Planned) (now : Option Image) (may : Image → Type 0) (Tells : T → Type 0) (cell : T → Cells) (named there : T → Marks) (r : Reservoir) (engine : Seen T) (texts : List (List ℕ)) (grace : ℕ) (slots : Attached) (keep : Option ℕ) (saved : ℕ)
+    → IsStarted plan now may (Tells engine.table) (cell engine.table) r engine texts keep saved → AreSettled now may → (base r).limit ≡ plan.settings.events → grace ≡ plan.settings.grace
+    → ((slot : ℕ) → keep ≡ Some slot → IsKeptSince may slot saved texts (sizes_in slots slot) (named engine.table) (there engine.table) (cell engine.table))
+    → IsRunning plan now may Tells cell named there (record { reservoir = r; engine = engine; texts = texts; grace = grace; slots = slots; keep = keep; saved = saved; ended = false })
+started_running plan now may Tells cell named there r engine texts grace slots keep saved started settled limit grace_is since = record {
   ready = record { in_step = started.in_step; tells = started.tells; serves = started.serves; plan_is = started.plan_is };
   limit_is = limit;
   grace_is = grace_is;
@@ -25,6 +30,7 @@ started_running plan now may told cells r engine texts grace keep saved started 
   first_settled = settled.first;
   second_settled = settled.second;
   kept = started.kept;
+  since = since;
 }
 
 -- all its events are stored

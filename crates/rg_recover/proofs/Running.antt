@@ -1,15 +1,19 @@
 -- A session that runs, from one call to the next.
-use Rattle.std.proofs.Common.{◌≡◌, ◌≢◌, ℕ, ◌≤◌, false, List, [], ◌∷◌, length, Option, Some, refl, sym, ◌∙◌, subst, arith}
-use Rattle.rg_host.specs.Image.{Image, NothingPending}
+use Rattle.std.proofs.Common.{◌≡◌, ℕ, ◌≤◌, false, List, [], ◌∷◌, length, Option, Some, refl, sym, ◌∙◌, subst, arith}
+use Rattle.rg_host.specs.Image.{Image}
 use Rattle.rg_event.specs.declared.event.Event.{Event}
 use Rattle.rg_config.specs.Plans.{Planned}
+use Rattle.rg_state.specs.Changes.{Marks, IsSince}
 use Rattle.rg_state.specs.Rows.{Cells}
+use Rattle.rg_checkpoint.specs.Slots.{Attached, sizes_in}
 use Rattle.rg_reservoir.specs.Kept.{base, opened}
 use Rattle.rg_reservoir.specs.declared.reservoir.Reservoir.{Reservoir}
 use Rattle.rg_course.specs.Steps.{IsStepped}
 use Rattle.rg_open.specs.Stores.{store_of}
-use Rattle.rg_open.specs.Opened.{IsKeptInSlot}
+use Rattle.rg_open.specs.Opened.{IsKeptInSlot, IsKeptSince}
 use Rattle.rg_recover.specs.Sessions.{Sitting, IsReady, IsRunning, count_in}
+use Rattle.rg_recover.specs.Stepping.{SlotsStay}
+use Rattle.rg_recover.proofs.Stays.{kept_on, slot_settled}
 
 -- the slot that is kept, after a step on the log
 pub kept_still : (plan : Planned) (may after : Image → Type 0) (keep : Option ℕ) (chunk : List Event) (slot saved committed then : ℕ) → keep ≡ Some slot → committed ≤ then → ((u : Image) → after u → IsStepped (store_of plan) keep chunk may u)
@@ -21,19 +25,28 @@ kept_still plan may after keep chunk slot saved committed then is more stepped k
 }
 
 -- it runs still after a step on the log that leaves its engine ready
-pub runs_still : {T : Type 0} (plan : Planned) (now then : Option Image) (may after : Image → Type 0) (told told_still : Type 0) (cells rows : Cells) (s new : Sitting T) (chunk : List Event) → IsRunning plan now may told cells s
-    → IsReady plan then after told_still rows new.reservoir new.engine new.texts → (base new.reservoir).limit ≡ (base s.reservoir).limit → new.grace ≡ s.grace → new.ended ≡ false → NothingPending 0 then after → NothingPending 1 then after
-    → new.keep ≡ s.keep → new.saved ≡ s.saved → (base s.reservoir).committed ≤ (base new.reservoir).committed → ((u : Image) → after u → IsStepped (store_of plan) s.keep chunk may u) → IsRunning plan then after told_still rows new
-runs_still plan now then may after told told_still cells rows s new chunk runs ready limit grace going first second keep saved more stepped = record {
+pub runs_still : {T : Type 0} (plan : Planned) (now then : Option Image) (may after : Image → Type 0) (Tells : T → Type 0) (cell : T → Cells) (named there : T → Marks) (s new : Sitting T) (chunk : List Event) → IsRunning plan now may Tells cell named there s
+    → IsReady plan then after (Tells new.engine.table) (cell new.engine.table) new.reservoir new.engine new.texts → (base new.reservoir).limit ≡ (base s.reservoir).limit → new.grace ≡ s.grace → new.ended ≡ false → SlotsStay now then may after
+    → ((old : Cells) → IsSince old (named s.engine.table) (there s.engine.table) (cell s.engine.table) → IsSince old (named new.engine.table) (there new.engine.table) (cell new.engine.table))
+    → new.keep ≡ s.keep → new.saved ≡ s.saved → new.texts ≡ s.texts → new.slots ≡ s.slots → (base s.reservoir).committed ≤ (base new.reservoir).committed → ((u : Image) → after u → IsStepped (store_of plan) s.keep chunk may u)
+    → IsRunning plan then after Tells cell named there new
+runs_still plan now then may after Tells cell named there s new chunk runs ready limit grace going stays goes keep saved texts slots more stepped = record {
   ready = ready;
   limit_is = limit ∙ runs.limit_is;
   grace_is = grace ∙ runs.grace_is;
   going = going;
-  first_settled = first;
-  second_settled = second;
+  first_settled = slot_settled now then may after 0 (omega arith) stays runs.first_settled;
+  second_settled = slot_settled now then may after 1 (omega arith) stays runs.second_settled;
   kept = λ slot is.
       let was : s.keep ≡ Some slot = sym keep ∙ is in
       subst (λ (n : ℕ). IsKeptInSlot plan after slot n (base new.reservoir).committed) (sym saved) (kept_still plan may after s.keep chunk slot s.saved (base s.reservoir).committed (base new.reservoir).committed was more stepped (runs.kept slot was));
+  since = λ slot is.
+      let was : s.keep ≡ Some slot = sym keep ∙ is in
+      let e = new.engine.table in
+      subst (λ (n : ℕ). IsKeptSince after slot n new.texts (sizes_in new.slots slot) (named e) (there e) (cell e)) (sym saved)
+      (subst (λ (l : List (List ℕ)). IsKeptSince after slot s.saved l (sizes_in new.slots slot) (named e) (there e) (cell e)) (sym texts)
+      (subst (λ (p : Attached). IsKeptSince after slot s.saved s.texts (sizes_in p slot) (named e) (there e) (cell e)) (sym slots)
+      (kept_on may after slot s.saved s.texts (sizes_in s.slots slot) (named s.engine.table) (there s.engine.table) (named e) (there e) (cell s.engine.table) (cell e) (runs.kept slot was).below stays.left goes (runs.since slot was))));
 }
 
 -- no event is open where no more were saved than are stored, and those are all
@@ -43,10 +56,3 @@ none_open r saved stored all = by (opened r) (omega (arith, stored, all))
     by : (l : List Event) → length l ≡ 0 → l ≡ []
     by [] is = refl
     by (x ∷ l) is = absurd (omega (arith, is))
-
--- neither slot is the log
-pub first_apart : ◌≢◌ {A = ℕ} 0 2
-first_apart e = absurd (omega (arith, e))
-
-pub second_apart : ◌≢◌ {A = ℕ} 1 2
-second_apart e = absurd (omega (arith, e))

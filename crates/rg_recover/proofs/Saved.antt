@@ -1,7 +1,9 @@
 -- A session that runs still after a checkpoint was written.
-use Rattle.std.proofs.Common.{◌≡◌, ◌⊎◌, inl, inr, ◌<◌, ◌≤◌, ℕ, zero, suc, Bool, false, List, [], ◌++◌, length, Option, Some, refl, sym, ◌∙◌, subst, arith}
+use Rattle.std.proofs.Common.{◌≡◌, ◌⊎◌, inl, inr, ◌<◌, ◌≤◌, ℕ, zero, suc, Bool, false, List, [], ◌++◌, length, Option, Some, refl, sym, ◌∙◌, ap, subst, arith, true≢false}
 use Rattle.std.proofs.lemmas.List.{append-nil}
-use Rattle.rg_host.specs.Image.{Image, NothingPending}
+use Rattle.std.specs.Prelude.{is_some}
+use Rattle.rg_host.specs.Image.{Image, Becomes, InFile, NothingPending}
+use Rattle.rg_frame.specs.Steps.{Grown, Leaves}
 use Rattle.rg_event.specs.Rising.{last_time}
 use Rattle.rg_event.specs.declared.event.Event.{Event}
 use Rattle.rg_past.specs.declared.past.Spot.{Spot}
@@ -9,12 +11,19 @@ use Rattle.rg_config.specs.Plans.{Planned}
 use Rattle.rg_plan.specs.Named.{node_at}
 use Rattle.rg_plan.specs.Plans.{Tasks, plan_for}
 use Rattle.rg_agg.specs.Held.{Held}
-use Rattle.rg_state.specs.Rows.{Cells, Entry, Lists, Same}
+use Rattle.rg_state.specs.Changes.{Marks, NoMarks, IsSince}
+use Rattle.rg_state.specs.Rows.{Cells, Entry, Lists, Same, at_in}
+use Rattle.rg_state.proofs.Listed.{at_lists}
 use Rattle.rg_engine.specs.Seen.{Seen}
 use Rattle.rg_engine.specs.Standing.{RowIs}
 use Rattle.rg_checkpoint.specs.Base.{IsBase}
-use Rattle.rg_checkpoint.specs.Slots.{IsKeep, other_of}
-use Rattle.rg_checkpoint.specs.Writing.{Encodes}
+use Rattle.rg_checkpoint.specs.Sizes.{HasSizes, OfSizes, longer, more_sizes, sizes_of}
+use Rattle.rg_checkpoint.specs.Slots.{AreSizes, Attached, HasSlot, IsKeep, IsOnly, Lengthened, Lengthens, Turns, Written, other_of, sizes_in}
+use Rattle.rg_checkpoint.specs.Updates.{IsUpdate}
+use Rattle.rg_checkpoint.specs.Writing.{Encodes, EncodesChanges}
+use Rattle.rg_checkpoint.specs.declared.sizes.SlotSizes.{SlotSizes}
+use Rattle.rg_checkpoint.proofs.Extending.{payload_applies}
+use Rattle.rg_checkpoint.proofs.Lengthening.{grown_sizes, only_sizes}
 use Rattle.rg_checkpoint.specs.declared.base.Checkpoint.{Checkpoint}
 use Rattle.rg_reservoir.specs.Kept.{base, opened, all_events, Spells}
 use Rattle.rg_reservoir.specs.declared.reservoir.Reservoir.{Reservoir}
@@ -22,12 +31,14 @@ use Rattle.rg_restore.specs.Truthful.{StandsFor, EngineStands}
 use Rattle.rg_course.specs.Stores.{Store}
 use Rattle.rg_course.specs.Steps.{IsMidStep, IsStepped, IsSavedTo}
 use Rattle.rg_open.specs.Stores.{store_of, HasSaved}
-use Rattle.rg_open.specs.Opened.{IsToSave}
-use Rattle.rg_open.specs.Truth.{IsTrueOf}
+use Rattle.rg_open.specs.Opened.{IsKeptSince, IsToExtend, IsToSave}
+use Rattle.rg_open.specs.Truth.{IsTrueOf, texts_of}
 use Rattle.rg_open.proofs.Steps.{other_below}
-use Rattle.rg_recover.specs.Saving.{IsToWrite}
+use Rattle.rg_recover.specs.Saving.{Framed, IsChosen, IsToWrite, Turned, Turning, sizes_then, slot_for}
 use Rattle.rg_recover.specs.Sessions.{Sitting, IsRunning, count_in}
 use Rattle.rg_recover.specs.Stepping.{LogStays}
+use Rattle.rg_recover.specs.declared.payload.Payload.{Payload}
+use Rattle.rg_recover.specs.declared.payload.Payload.TheVariants.{Base, Changes}
 use Rattle.rg_recover.proofs.Beside.{sound_beside, events_beside, spells_beside}
 use Rattle.rg_recover.proofs.Ready.{stands_still}
 use Rattle.rg_recover.proofs.Sound.{long}
@@ -60,12 +71,143 @@ of_slot (suc (suc n)) P below first second = absurd (omega (arith, below))
 some_same : (a b : ℕ) → ◌≡◌ {A = Option ℕ} (Some a) (Some b) → a ≡ b
 some_same a b is = cc
 
-module _ {T : Type 0} (plan : Planned) (now then : Option Image) (may after : Image → Type 0) (told told_still : Type 0) (cells rows : Cells) (r : Reservoir) (e f : Seen T) (texts : List (List ℕ)) (grace : ℕ) (keep : Option ℕ) (saved slot count : ℕ) (ended : Bool)
-    (runs : IsRunning plan now may told cells (record { reservoir = r; engine = e; texts = texts; grace = grace; keep = keep; saved = saved; ended = ended })) where
-  pub running_saved : told_still → Same cells rows → f.plan ≡ e.plan → f.spots ≡ e.spots → LogStays now then may after → NothingPending 0 then after → NothingPending 1 then after → IsKeep keep → slot ≡ other_of keep → count ≤ (base r).committed
-      → ((u : Image) → after u → IsStepped (store_of plan) keep [] may u) → ((u : Image) → after u → IsSavedTo (store_of plan) (other_of keep) count may u)
-      → IsRunning plan then after told_still rows (record { reservoir = r; engine = f; texts = texts; grace = grace; keep = Some slot; saved = count; ended = false })
-  running_saved tells same plan_same spots_same stays first second legal slot_is few stepped saved_to =
+abbrev pub checkpoint_of : List (List ℕ) → ℕ → List Spot → List Entry → Checkpoint
+checkpoint_of texts count spots rows = record { queries = texts; count = count; spots = spots; rows = rows }
+
+-- what was chosen of a session that runs, once all its events are stored
+module _ {T : Type 0} (plan : Planned) (now : Option Image) (may : Image → Type 0) (Tells : T → Type 0) (cell : T → Cells) (named there : T → Marks) (s : Sitting T) (count : ℕ)
+    (runs : IsRunning plan now may Tells cell named there s) (empty : opened s.reservoir ≡ []) (legal : IsKeep s.keep) (count_is : count ≡ count_in s.reservoir)
+    (law : (checkpoint : Checkpoint) → IsToSave plan now may s.reservoir (cell s.engine.table) checkpoint.spots checkpoint.queries → Lists (cell s.engine.table) checkpoint.rows → checkpoint.count ≡ length (all_events now (base s.reservoir) (opened s.reservoir)) → (u : Image) → may u → IsTrueOf (u 2) checkpoint) where
+  true_of_all : (rows : List Entry) → Lists (cell s.engine.table) rows → (u : Image) → may u → IsTrueOf (u 2) (checkpoint_of s.texts count s.engine.spots rows)
+  true_of_all rows lists = law (checkpoint_of s.texts count s.engine.spots rows) (record { in_step = runs.ready.in_step; empty = empty }) lists (count_is ∙ sym (long now s.reservoir))
+
+  -- all rows are to be written
+  to_write : (payload : List ℕ) (enc : Encodes (cell s.engine.table) s.texts count s.engine.spots [] payload) → IsToWrite plan now may s.keep payload (checkpoint_of s.texts count s.engine.spots enc.rows)
+  to_write payload enc = record {
+    base = subst (λ (p : List ℕ). IsBase p (checkpoint_of s.texts count s.engine.spots enc.rows)) (sym enc.added) enc.base;
+    image = runs.ready.in_step.reservoir.sound.0;
+    told = runs.ready.in_step.reservoir.sound.1;
+    settled = of_slot (other_of s.keep) (λ (f : ℕ). NothingPending f now may) (other_below s.keep legal) runs.first_settled runs.second_settled;
+    true_of = true_of_all enc.rows enc.lists;
+    texts = runs.ready.in_step.texts_are;
+  }
+
+  -- or what changed
+  to_extend : (slot : ℕ) (payload : List ℕ) (rows : List Entry) (kept : s.keep ≡ Some slot) → EncodesChanges (named s.engine.table) (there s.engine.table) (cell s.engine.table) count s.engine.spots [] payload → Lists (cell s.engine.table) rows
+      → IsToExtend plan now may slot (sizes_in s.slots slot) payload (runs.since slot kept).checkpoint (checkpoint_of s.texts count s.engine.spots rows)
+  to_extend slot payload rows kept enc lists =
+      let since = runs.since slot kept in
+      let was = runs.kept slot kept in
+      record {
+        below = was.below;
+        image = runs.ready.in_step.reservoir.sound.0;
+        told = runs.ready.in_step.reservoir.sound.1;
+        settled = of_slot slot (λ (f : ℕ). NothingPending f now may) was.below runs.first_settled runs.second_settled;
+        known = since.known;
+        sizes_are = since.sizes_are;
+        has = since.has;
+        applies = payload_applies payload since.checkpoint (checkpoint_of s.texts count s.engine.spots rows) enc.rows (named s.engine.table) (there s.engine.table) (cell s.engine.table) since.since enc.lists
+            (subst (λ (p : List ℕ). IsUpdate p (record { count = count; spots = s.engine.spots; rows = enc.rows })) (sym enc.added) enc.is) lists (sym since.texts_are)
+            (omega (arith, since.count, was.stored, count_is));
+        true_of = true_of_all rows lists;
+        texts = runs.ready.in_step.texts_are;
+      }
+
+  module _ (rows : List Entry) (lists : Lists (cell s.engine.table) rows) where
+    abbrev Chosen : Payload → Type 0
+    Chosen = IsChosen (named s.engine.table) (there s.engine.table) (cell s.engine.table) s.texts count s.engine.spots s.slots s.keep
+
+    -- an image at a moment of the writing is one within a step of the store
+    pub turning_mid : ((payload : List ℕ) (checkpoint : Checkpoint) (v u : Image) → IsKeep s.keep → IsBase payload checkpoint → now ≡ Some v → NothingPending (other_of s.keep) now may → ((w : Image) → may w → IsTrueOf (w 2) checkpoint)
+        → Leaves (other_of s.keep) (Turns payload) now may u → IsMidStep (store_of plan) s.keep [] may u)
+        → ((slot : ℕ) (sizes : Option SlotSizes) (payload : List ℕ) (before after : Checkpoint) (u : Image) → IsToExtend plan now may slot sizes payload before after → Leaves slot (OfSizes sizes (Lengthens payload)) now may u → IsMidStep (store_of plan) s.keep [] may u)
+        → (payload : Payload) → Chosen payload → (u : Image) → Leaves (slot_for s.keep payload) (Turning s.slots payload) now may u → IsMidStep (store_of plan) s.keep [] may u
+    turning_mid saves extends (Base bytes) chosen u left =
+        let to = to_write bytes.items chosen.0 in
+        saves bytes.items (checkpoint_of s.texts count s.engine.spots chosen.0.rows) to.image u legal to.base to.told to.settled to.true_of left
+    turning_mid saves extends (Changes slot bytes) chosen u left =
+        extends slot (sizes_in s.slots slot) bytes.items (runs.since slot chosen.1).checkpoint (checkpoint_of s.texts count s.engine.spots rows) u (to_extend slot bytes.items rows chosen.1 chosen.0 lists) left
+
+    -- and one after it has the new checkpoint
+    pub turned_saved : ((payload : List ℕ) (checkpoint : Checkpoint) (v u : Image) → IsKeep s.keep → IsBase payload checkpoint → now ≡ Some v → NothingPending (other_of s.keep) now may → ((w : Image) → may w → IsTrueOf (w 2) checkpoint)
+        → checkpoint.queries ≡ texts_of plan.shape plan.queries → Leaves (other_of s.keep) (Written payload) now may u → IsSavedTo (store_of plan) (other_of s.keep) checkpoint.count may u)
+        → ((slot : ℕ) (sizes : Option SlotSizes) (payload : List ℕ) (before after : Checkpoint) (u : Image) → IsToExtend plan now may slot sizes payload before after → Leaves slot (OfSizes sizes (Lengthened payload)) now may u → IsSavedTo (store_of plan) slot after.count may u)
+        → (payload : Payload) → Chosen payload → (u : Image) → Leaves (slot_for s.keep payload) (Turned s.slots payload) now may u → IsSavedTo (store_of plan) (slot_for s.keep payload) count may u
+    turned_saved saved extended (Base bytes) chosen u left =
+        let to = to_write bytes.items chosen.0 in
+        saved bytes.items (checkpoint_of s.texts count s.engine.spots chosen.0.rows) to.image u legal to.base to.told to.settled to.true_of to.texts left
+    turned_saved saved extended (Changes slot bytes) chosen u left =
+        extended slot (sizes_in s.slots slot) bytes.items (runs.since slot chosen.1).checkpoint (checkpoint_of s.texts count s.engine.spots rows) u (to_extend slot bytes.items rows chosen.1 chosen.0 lists) left
+
+    -- what is kept of the slot then, where the table was marked
+    module _ (now_may : (v : Image) → now ≡ Some v → may v) (then : Option Image) (after : Image → Type 0) (f : T) (same : Same (cell s.engine.table) (cell f)) (none : NoMarks (named f)) where
+      since_mark : (l : List Entry) → Lists (cell s.engine.table) l → IsSince (at_in l) (named f) (there f) (cell f)
+      since_mark l is = record {
+        unnamed = λ n key off. same n key ∙ at_lists (cell s.engine.table) l n key is;
+        stood = λ n key on. absurd (true≢false (sym on ∙ none n key));
+      }
+
+      -- in each image that might be left it is as reads give it
+      settled_as : (slot : ℕ) (P : List ℕ → Type 0) (w : Image) → then ≡ Some w → NothingPending slot then after → P (w slot) → (u : Image) → after u → P (u slot)
+      settled_as slot P w told pending is u one = subst P (sym (pending w told u one)) is
+
+      kept_base : (payload : List ℕ) (enc : Encodes (cell s.engine.table) s.texts count s.engine.spots [] payload) → Becomes now then (InFile (other_of s.keep) (Written payload)) → Becomes now then (InFile (other_of s.keep) (λ _ bytes. IsOnly payload bytes))
+          → NothingPending (other_of s.keep) then after → IsKeptSince after (other_of s.keep) count s.texts (Some (sizes_of (length payload))) (named f) (there f) (cell f)
+      kept_base payload enc written only pending =
+          let slot = other_of s.keep in
+          let to = to_write payload enc in
+          let saved = checkpoint_of s.texts count s.engine.spots enc.rows in
+          let w = written.told to.image to.told in
+          let x = only.told to.image to.told in
+          let has = settled_as slot (λ bytes. HasSlot bytes saved) w.0 w.1 pending (w.2.there saved to.base) in
+          record {
+            checkpoint = saved;
+            has = has;
+            known = refl;
+            sizes_are = λ u one. (settled_as slot (λ bytes. HasSizes bytes (sizes_of (length payload))) x.0 x.1 pending (only_sizes payload (x.0 slot) x.2.there) u one, (saved, has u one));
+            count = refl;
+            texts_are = refl;
+            since = since_mark enc.rows enc.lists;
+          }
+
+      kept_more : (slot : ℕ) (payload : List ℕ) (kept : s.keep ≡ Some slot) (sizes : SlotSizes) → sizes_in s.slots slot ≡ Some sizes → EncodesChanges (named s.engine.table) (there s.engine.table) (cell s.engine.table) count s.engine.spots [] payload
+          → Becomes now then (InFile slot (OfSizes (sizes_in s.slots slot) (Lengthened payload))) → Becomes now then (InFile slot (OfSizes (sizes_in s.slots slot) (Grown payload))) → NothingPending slot then after
+          → IsKeptSince after slot count s.texts (longer (sizes_in s.slots slot) (length payload)) (named f) (there f) (cell f)
+      kept_more slot payload kept sizes known enc lengthened grown pending =
+          let to = to_extend slot payload rows kept enc lists in
+          let before = (runs.since slot kept).checkpoint in
+          let saved = checkpoint_of s.texts count s.engine.spots rows in
+          let at = now_may to.image to.told in
+          let of : HasSizes (to.image slot) sizes = (subst (λ (o : Option SlotSizes). AreSizes (to.image slot) o) known (to.sizes_are to.image at)).0 in
+          let w = lengthened.told to.image to.told in
+          let x = grown.told to.image to.told in
+          let has = settled_as slot (λ bytes. HasSlot bytes saved) w.0 w.1 pending (w.2.there sizes known of before saved (to.has to.image at) to.applies) in
+          record {
+            checkpoint = saved;
+            has = has;
+            known = ap (λ (o : Option SlotSizes). is_some (longer o (length payload))) known;
+            sizes_are = λ u one. subst (λ (o : Option SlotSizes). AreSizes (u slot) (longer o (length payload))) (sym known)
+                (settled_as slot (λ bytes. HasSizes bytes (more_sizes sizes (length payload))) x.0 x.1 pending (grown_sizes payload (to.image slot) (x.0 slot) sizes of (x.2.there sizes known of)) u one, (saved, has u one));
+            count = refl;
+            texts_are = refl;
+            since = since_mark rows lists;
+          }
+
+      pub kept_chosen : (payload : Payload) → Chosen payload → Becomes now then (InFile (slot_for s.keep payload) (Turned s.slots payload)) → Becomes now then (InFile (slot_for s.keep payload) (Framed s.slots payload)) → NothingPending (slot_for s.keep payload) then after
+          → IsKeptSince after (slot_for s.keep payload) count s.texts (sizes_then s.slots payload) (named f) (there f) (cell f)
+      kept_chosen (Base bytes) chosen turned framed pending = kept_base bytes.items chosen.0 turned framed pending
+      kept_chosen (Changes slot bytes) chosen turned framed pending = kept_more slot bytes.items chosen.1 chosen.2.0 chosen.2.1 chosen.0 turned framed pending
+
+-- it runs then
+module _ {T : Type 0} (plan : Planned) (now then : Option Image) (may after : Image → Type 0) (Tells : T → Type 0) (cell : T → Cells) (named there : T → Marks) (s : Sitting T) (f : Seen T) (put : Attached) (slot count : ℕ)
+    (runs : IsRunning plan now may Tells cell named there s) where
+  pub running_saved : Tells f.table → Same (cell s.engine.table) (cell f.table) → f.plan ≡ s.engine.plan → f.spots ≡ s.engine.spots → LogStays now then may after → NothingPending 0 then after → NothingPending 1 then after → slot < 2 → count ≤ (base s.reservoir).committed
+      → ((u : Image) → after u → IsStepped (store_of plan) s.keep [] may u) → ((u : Image) → after u → IsSavedTo (store_of plan) slot count may u)
+      → IsKeptSince after slot count s.texts (sizes_in put slot) (named f.table) (there f.table) (cell f.table)
+      → IsRunning plan then after Tells cell named there (record { reservoir = s.reservoir; engine = f; texts = s.texts; grace = s.grace; slots = put; keep = Some slot; saved = count; ended = false })
+  running_saved tells same plan_same spots_same stays first second below few stepped saved_to since =
+      let r = s.reservoir in
+      let e = s.engine in
       let step = runs.ready.in_step in
       let log = step.reservoir in
       record {
@@ -74,10 +216,10 @@ module _ {T : Type 0} (plan : Planned) (now then : Option Image) (may after : Im
             reservoir = record { sound = sound_beside now then may after r log.file stays log.sound; going = log.going; file = log.file; shape = log.shape };
             said = step.said;
             truthful = λ u one. (stepped u one).truthful (step.truthful (stepped u one).from (stepped u one).left);
-            stands = subst (λ (at : List Spot). EngineStands (Spells then (base r) (opened r)) (plan_for plan.queries) (all_events then (base r) (opened r)) rows at) (sym spots_same)
-                (stands_still (Spells now (base r) (opened r)) (Spells then (base r) (opened r)) (plan_for plan.queries) (all_events now (base r) (opened r)) (all_events then (base r) (opened r)) rows e.spots
+            stands = subst (λ (at : List Spot). EngineStands (Spells then (base r) (opened r)) (plan_for plan.queries) (all_events then (base r) (opened r)) (cell f.table) at) (sym spots_same)
+                (stands_still (Spells now (base r) (opened r)) (Spells then (base r) (opened r)) (plan_for plan.queries) (all_events now (base r) (opened r)) (all_events then (base r) (opened r)) (cell f.table) e.spots
                 (spells_beside now then may after r log.file stays) (events_beside now then may after r log.file stays log.sound)
-                (record { rows = rows_still (plan_for plan.queries) (all_events now (base r) (opened r)) cells rows same step.stands.rows; spots = step.stands.spots }));
+                (record { rows = rows_still (plan_for plan.queries) (all_events now (base r) (opened r)) (cell e.table) (cell f.table) same step.stands.rows; spots = step.stands.spots }));
             texts_are = step.texts_are;
           };
           tells = tells;
@@ -90,30 +232,11 @@ module _ {T : Type 0} (plan : Planned) (now then : Option Image) (may after : Im
         first_settled = first;
         second_settled = second;
         kept = λ n is.
-            let at : other_of keep ≡ n = sym slot_is ∙ some_same slot n is in
+            let at : slot ≡ n = some_same slot n is in
             record {
-              below = subst (λ (m : ℕ). m < 2) at (other_below keep legal);
+              below = subst (λ (m : ℕ). m < 2) at below;
               stored = few;
               has = λ u one. subst (λ (m : ℕ). HasSaved plan m count u) at (saved_to u one).saved;
             };
+        since = λ n is. subst (λ (m : ℕ). IsKeptSince after m count s.texts (sizes_in put m) (named f.table) (there f.table) (cell f.table)) (some_same slot n is) since;
       }
-
-abbrev pub checkpoint_of : List (List ℕ) → ℕ → List Spot → List Entry → Checkpoint
-checkpoint_of texts count spots rows = record { queries = texts; count = count; spots = spots; rows = rows }
-
--- what a session that runs has, once all its events are stored, is to be written
-pub to_write : {T : Type 0} (plan : Planned) (now : Option Image) (may : Image → Type 0) (told : Type 0) (cells : Cells) (s : Sitting T) (count : ℕ) (payload : List ℕ) → IsRunning plan now may told cells s → opened s.reservoir ≡ [] → IsKeep s.keep
-    → (enc : Encodes cells s.texts count s.engine.spots [] payload) → count ≡ count_in s.reservoir
-    → ((checkpoint : Checkpoint) → IsToSave plan now may s.reservoir cells checkpoint.spots checkpoint.queries → Lists cells checkpoint.rows → checkpoint.count ≡ length (all_events now (base s.reservoir) (opened s.reservoir)) → (u : Image) → may u → IsTrueOf (u 2) checkpoint)
-    → IsToWrite plan now may s.keep payload (checkpoint_of s.texts count s.engine.spots enc.rows)
-to_write plan now may told cells s count payload runs empty legal enc count_is law =
-    let step = runs.ready.in_step in
-    let sound = step.reservoir.sound in
-    record {
-      base = subst (λ (p : List ℕ). IsBase p (checkpoint_of s.texts count s.engine.spots enc.rows)) (sym enc.added) enc.base;
-      image = sound.0;
-      told = sound.1;
-      settled = of_slot (other_of s.keep) (λ (f : ℕ). NothingPending f now may) (other_below s.keep legal) runs.first_settled runs.second_settled;
-      true_of = law (checkpoint_of s.texts count s.engine.spots enc.rows) (record { in_step = step; empty = empty }) enc.lists (count_is ∙ sym (long now s.reservoir));
-      texts = step.texts_are;
-    }

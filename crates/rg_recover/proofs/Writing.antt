@@ -1,11 +1,9 @@
 -- A slot that was written.
-use Rattle.std.proofs.Common.{◌≡◌, ◌≢◌, ◌==◌, ℕ, Bool, true, false, List, Option, refl, sym, subst}
+use Rattle.std.proofs.Common.{◌≡◌, ◌≢◌, ◌==◌, ◌<◌, ℕ, Bool, true, false, List, Option, refl, sym, subst, arith}
 use Rattle.std.specs.Prelude.{⊤}
 use Rattle.std.proofs.lemmas.Bool.Decides.{Decides-eqb}
 use Rattle.rg_host.specs.Image.{Image, Becomes, InFile, NothingPending}
 use Rattle.rg_frame.specs.Steps.{Leaves, OthersStay}
-use Rattle.rg_checkpoint.specs.Slots.{IsKeep, other_of}
-use Rattle.rg_open.proofs.Steps.{log_apart}
 use Rattle.rg_recover.specs.Stepping.{LogStays}
 
 -- after a write that is settled each image that might be left has what was written
@@ -19,12 +17,19 @@ written_left file Step now then may after step settled others u left = (
 )
 
 -- the log stays where a slot was written
-pub log_stays : (keep : Option ℕ) → IsKeep keep → (now then : Option Image) (may after : Image → Type 0) → Becomes now then (InFile (other_of keep) (λ _ _. ⊤)) → ((u : Image) → after u → OthersStay (other_of keep) may u) → LogStays now then may after
-log_stays keep legal now then may after step others = record {
-  told = λ v told. let became = step.told v told in (became.0, became.1, became.2.elsewhere 2 (log_apart keep legal));
+pub log_stays : (slot : ℕ) → slot < 2 → (now then : Option Image) (may after : Image → Type 0) → Becomes now then (InFile slot (λ _ _. ⊤)) → ((u : Image) → after u → OthersStay slot may u) → LogStays now then may after
+log_stays slot below now then may after step others = record {
+  told = λ v told. let became = step.told v told in (became.0, became.1, became.2.elsewhere 2 apart);
   untold = step.untold;
-  left = λ u left. let x = others u left in (x.0, x.1, x.2 2 (log_apart keep legal));
+  left = λ u left. let x = others u left in (x.0, x.1, x.2 2 apart);
 }
+  where
+    apart : 2 ≢ slot
+    apart e = absurd (omega (arith, below, e))
+
+-- and where nothing was
+pub log_same : (now : Option Image) (may : Image → Type 0) → LogStays now now may may
+log_same now may = record { told = λ v told. (v, told, refl); untold = λ none. none; left = λ u left. (u, left, refl) }
 
 -- of any file, where that is so of the written one and of the others
 pub settled_by : (file written : ℕ) (P : ℕ → Type 0) → P written → (file ≢ written → P file) → P file

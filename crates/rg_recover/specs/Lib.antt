@@ -3,3 +3,15 @@ pub mod Stepping
 pub mod Faults
 pub mod Deciding
 pub mod Saving
+pub mod Storing
+pub mod Taking
+pub mod Living
+pub mod LivingLaws
+pub mod LiveView
+pub mod Ready
+pub mod RunFaults
+pub mod Ran
+pub mod Answered
+pub mod Opened
+pub mod Runs
+pub mod Anew

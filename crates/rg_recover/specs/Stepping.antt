@@ -1,5 +1,5 @@
 -- What a call on a session does to the store of its plan.
-use Rattle.std.specs.Prelude.{◌≡◌, ◌⊎◌, ℕ, List, [], ◌++◌, Option, Some, None}
+use Rattle.std.specs.Prelude.{◌≡◌, ◌⊎◌, ◌<◌, ℕ, List, [], ◌++◌, Option, Some, None}
 use Rattle.std.specs.Option.{ForSome}
 use Rattle.rg_host.specs.Image.{Image}
 use Rattle.rg_host.specs.Moments.{Moment, Moments}
@@ -26,3 +26,9 @@ pub record LogStays (now then : Option Image) (may after : Image → Type 0) : T
   pub told : (v : Image) → now ≡ Some v → (w : Image) × (then ≡ Some w) × (w 2 ≡ v 2)
   pub untold : now ≡ None → then ≡ None
   pub left : (u : Image) → after u → (x : Image) × may x × (u 2 ≡ x 2)
+
+-- The slots' files stay as reads give them, and in each image that might be left they are, together, as in one that might have been.
+pub record SlotsStay (now then : Option Image) (may after : Image → Type 0) : Type 0 where
+  pub told : (v : Image) → now ≡ Some v → (w : Image) × (then ≡ Some w) × ((slot : ℕ) → slot < 2 → w slot ≡ v slot)
+  pub untold : now ≡ None → then ≡ None
+  pub left : (u : Image) → after u → (x : Image) × may x × ((slot : ℕ) → slot < 2 → u slot ≡ x slot)

@@ -4,6 +4,7 @@ ghost use Rattle.rg_bytes.specs.Counts.{Rose};
 ghost use Rattle.rg_host.specs.Image.{Image};
 ghost use Rattle.rg_host.specs.Moments.{LeavesAll};
 ghost use Rattle.rg_frame.specs.LogState.{ReachesEnd};
+ghost use Rattle.rg_checkpoint.specs.Slots.{ReachesSlots};
 ghost use Rattle.rg_config.specs.Plans.{Planned};
 ghost use Rattle.rg_reservoir.specs.Ahead.{all_ahead, SomeTouched};
 ghost use Rattle.rg_reservoir.specs.Chain.{IsIllegal};
@@ -24,16 +25,16 @@ impl<T: Table> Session<T> {
     /// refusal ends the session.
     pub fn ahead<H: Host>(&mut self, host: &mut H) -> Result<(), TaskFault>
         // Of a session that runs: at each moment, and after the call.
-        ensures within_step { (plan : Planned) (keep : Option ℕ) → IsRunning plan (H.now host.old) (H.may host.old) (T.tells self.old.engine.table) (T.cell self.old.engine.table) self.old →
+        ensures within_step { (plan : Planned) (keep : Option ℕ) → IsRunning plan (H.now host.old) (H.may host.old) T.tells T.cell T.named T.there self.old →
             IsWithinStep H.may H.clock H.since H.said (store_of plan) keep (opened self.old.reservoir) host.old host.new }
-        ensures stored { (plan : Planned) (keep : Option ℕ) → IsRunning plan (H.now host.old) (H.may host.old) (T.tells self.old.engine.table) (T.cell self.old.engine.table) self.old →
+        ensures stored { (plan : Planned) (keep : Option ℕ) → IsRunning plan (H.now host.old) (H.may host.old) T.tells T.cell T.named T.there self.old →
             OnOk result (IsStored (store_of plan) keep (opened self.old.reservoir) (stored_of (H.now host.old) self.old) (stored_of (H.now host.new) self.new) (H.may host.old) (H.may host.new)) }
         ensures events { (events_of (H.now host.new) self.new ≡ events_of (H.now host.old) self.old) × (stored_of (H.now host.new) self.new ≡ stored_of (H.now host.old) self.old) }
-        ensures running { (plan : Planned) → IsRunning plan (H.now host.old) (H.may host.old) (T.tells self.old.engine.table) (T.cell self.old.engine.table) self.old →
-            OnOk result (IsRunning plan (H.now host.new) (H.may host.new) (T.tells self.new.engine.table) (T.cell self.new.engine.table) self.new) }
+        ensures running { (plan : Planned) → IsRunning plan (H.now host.old) (H.may host.old) T.tells T.cell T.named T.there self.old →
+            OnOk result (IsRunning plan (H.now host.new) (H.may host.new) T.tells T.cell T.named T.there self.new) }
         ensures loaded { (plan : Planned) → (placed : IsPlaced plan (H.now host.old) (H.may host.old) self.old.reservoir self.old.engine) →
             OnOk result (AllTouched (all_ahead (base self.old.reservoir) (placed.reservoir.sound.0 (base self.old.reservoir).file) self.old.engine.spots) (cache_of self.old.reservoir) (loads_of self.old.reservoir) (H.reads host.old) (cache_of self.new.reservoir) (loads_of self.new.reservoir) (H.reads host.new)) }
-        ensures never_damaged { (plan : Planned) (p : ℕ) → IsRunning plan (H.now host.old) (H.may host.old) (T.tells self.old.engine.table) (T.cell self.old.engine.table) self.old →
+        ensures never_damaged { (plan : Planned) (p : ℕ) → IsRunning plan (H.now host.old) (H.may host.old) T.tells T.cell T.named T.there self.old →
             IsErrOf result (TaskFault.Damaged p) → ⊥ }
 
         // Each node and each edge by itself.
@@ -57,6 +58,8 @@ impl<T: Table> Session<T> {
         ensures goes { OnOk result (self.new.ended ≡ false) }
         ensures ends { OnErr result (self.new.ended ≡ true) }
         ensures reaches { (self.old.ended ≡ false → ReachesEnd (log_of self.old.reservoir) (H.now host.old)) → self.new.ended ≡ false → ReachesEnd (log_of self.new.reservoir) (H.now host.new) }
+        ensures slots { self.new.slots ≡ self.old.slots }
+        ensures slots_reach { ReachesSlots self.old.slots (H.now host.old) → self.new.ended ≡ false → ReachesSlots self.new.slots (H.now host.new) }
         ensures disk_faults { H.disk_faults host.old ≤ H.disk_faults host.new }
         ensures out_faults { H.out_faults host.new ≡ H.out_faults host.old }
     {

@@ -1,17 +1,14 @@
-ghost use Rattle.std.specs.Prelude.{◌≡◌, ◌≢◌, ◌↔◌, ◌⊎◌, ◌≤◌, [], ℕ, List, Option, length, true, false, IfOk, IfErr, OnOk, OnErr, IsErrOf};
+ghost use Rattle.std.specs.Prelude.{◌≡◌, ◌↔◌, ◌⊎◌, ◌≤◌, [], ℕ, List, Option, true, false, IfOk, IfErr, OnOk, IsErrOf};
 ghost use Rattle.rg_bytes.specs.Counts.{Rose};
-ghost use Rattle.rg_host.specs.Image.{Image, NothingPending};
-ghost use Rattle.rg_past.specs.declared.past.Spot.{Spot};
 ghost use Rattle.rg_frame.specs.LogState.{ReachesEnd};
+ghost use Rattle.rg_checkpoint.specs.Slots.{ReachesSlots};
 ghost use Rattle.rg_config.specs.Plans.{Planned};
-ghost use Rattle.rg_reservoir.specs.Kept.{base, opened, room_of, cache_of, log_of, next_of, time_of, stored, all_events, IsSound, Spells};
-ghost use Rattle.rg_state.specs.Rows.{Cells};
-ghost use Rattle.rg_course.specs.Steps.{IsStepped};
+ghost use Rattle.rg_reservoir.specs.Kept.{base, opened, room_of, cache_of, log_of, next_of};
 ghost use Rattle.rg_open.specs.Stores.{store_of};
-ghost use Rattle.rg_open.specs.Opened.{IsOpenedFor, IsInStep};
 ghost use Rattle.rg_open.specs.Blame.{NodeRuns, IsPlaced};
 ghost use Rattle.rg_recover.specs.Sessions.{IsRunning, count_in, events_of, stored_of};
-ghost use Rattle.rg_recover.specs.Stepping.{IsWithinStep, IsStored};
+ghost use Rattle.rg_recover.specs.Stepping.{IsWithinStep, IsStored, SlotsStay};
+ghost use Rattle.rg_recover.specs.Storing.{CanStore, StoresChunk, KeepsEvents, HasStoringCause};
 
 use crate::fault::TaskFault;
 use crate::session::Session;
@@ -22,39 +19,11 @@ use rg_state::Table;
 
 /// Commits the open chunk of a reservoir.
 pub(crate) fn commit_open<H: Host>(reservoir: &mut Reservoir, host: &mut H) -> Result<(), TaskFault>
-    requires reaches { ReachesEnd (log_of reservoir.old) (H.now host.old) }
-    requires few { length (opened reservoir.old) ≤ 4096 }
-
-    ensures within_step { (plan : Planned) (keep : Option ℕ) → IsOpenedFor plan (H.now host.old) (H.may host.old) reservoir.old →
-        IsWithinStep H.may H.clock H.since H.said (store_of plan) keep (opened reservoir.old) host.old host.new }
-    ensures stepped { (plan : Planned) (keep : Option ℕ) → IsOpenedFor plan (H.now host.old) (H.may host.old) reservoir.old →
-        OnOk result ((u : Image) → H.may host.new u → IsStepped (store_of plan) keep (opened reservoir.old) (H.may host.old) u) }
-    ensures in_step { (plan : Planned) (cells : Cells) (spots : List Spot) (texts : List (List ℕ)) → IsInStep plan (H.now host.old) (H.may host.old) reservoir.old cells spots texts →
-        OnOk result (IsInStep plan (H.now host.new) (H.may host.new) reservoir.new cells spots texts) }
-    ensures opened { (plan : Planned) → IsOpenedFor plan (H.now host.old) (H.may host.old) reservoir.old → OnOk result (IsOpenedFor plan (H.now host.new) (H.may host.new) reservoir.new) }
-    ensures spelled { IsSound (H.now host.old) (H.may host.old) reservoir.old →
-        OnOk result ((spot : Spot) → Spells (H.now host.old) (base reservoir.old) (opened reservoir.old) spot → Spells (H.now host.new) (base reservoir.new) (opened reservoir.new) spot) }
-    ensures settled { (plan : Planned) (file : ℕ) → IsOpenedFor plan (H.now host.old) (H.may host.old) reservoir.old → file ≢ 2 → NothingPending file (H.now host.old) (H.may host.old) →
-        OnOk result (NothingPending file (H.now host.new) (H.may host.new)) }
-    ensures list { IsSound (H.now host.old) (H.may host.old) reservoir.old → OnOk result (all_events (H.now host.new) (base reservoir.new) (opened reservoir.new) ≡ all_events (H.now host.old) (base reservoir.old) (opened reservoir.old)) }
-    ensures stored { IsSound (H.now host.old) (H.may host.old) reservoir.old → OnOk result (stored (H.now host.new) (base reservoir.new) ≡ all_events (H.now host.old) (base reservoir.old) (opened reservoir.old)) }
-
+    requires can { CanStore (H.now host.old) reservoir.old }
+    ensures stores { StoresChunk H.now H.may H.clock H.since H.said result reservoir.old reservoir.new host.old host.new }
+    ensures keeps { KeepsEvents H.now H.said H.disk_faults H.out_faults reservoir.old reservoir.new host.old host.new }
     ensures empty { OnOk result (opened reservoir.new ≡ []) }
-    ensures count { count_in reservoir.new ≡ count_in reservoir.old }
-    ensures fits { length (opened reservoir.new) ≤ length (opened reservoir.old) }
-    ensures grows { (base reservoir.old).committed ≤ (base reservoir.new).committed }
-    ensures stays { ((base reservoir.new).shape ≡ (base reservoir.old).shape) × ((base reservoir.new).file ≡ (base reservoir.old).file) × ((base reservoir.new).limit ≡ (base reservoir.old).limit) × (room_of reservoir.new ≡ room_of reservoir.old) }
-    ensures cap { (cache_of reservoir.new).cap ≡ (cache_of reservoir.old).cap }
-    ensures last { (next_of reservoir.new ≡ next_of reservoir.old) × (time_of reservoir.new ≡ time_of reservoir.old) }
-    ensures reaches { ReachesEnd (log_of reservoir.new) (H.now host.new) }
-    ensures going { OnOk result ((base reservoir.new).ended ≡ false) }
-    ensures ended { IsErrOf result TaskFault.Ended → (base reservoir.old).ended ≡ true }
-    ensures memory { IsErrOf result TaskFault.Memory → (reservoir.new ≡ reservoir.old) × (host.new ≡ host.old) }
-    ensures disk { IsErrOf result TaskFault.Disk → Rose (H.disk_faults host.old) (H.disk_faults host.new) }
-    ensures faults { IfErr result (λ fault. (fault ≡ TaskFault.Disk) ⊎ (fault ≡ TaskFault.Memory) ⊎ (fault ≡ TaskFault.Ended)) }
-    ensures said { H.said host.new ≡ H.said host.old }
-    ensures disk_faults { H.disk_faults host.old ≤ H.disk_faults host.new }
-    ensures out_faults { H.out_faults host.new ≡ H.out_faults host.old }
+    ensures cause { IfErr result (HasStoringCause (Rose (H.disk_faults host.old) (H.disk_faults host.new)) ((reservoir.new ≡ reservoir.old) × (host.new ≡ host.old))) }
 {
     law_steps::<H>();
     match reservoir.commit(host) {
@@ -70,14 +39,14 @@ impl<T: Table> Session<T> {
         requires reaches { self.old.ended ≡ false → ReachesEnd (log_of self.old.reservoir) (H.now host.old) }
 
         // Of a session that runs: at each moment, and after the call.
-        ensures within_step { (plan : Planned) (keep : Option ℕ) → IsRunning plan (H.now host.old) (H.may host.old) (T.tells self.old.engine.table) (T.cell self.old.engine.table) self.old →
+        ensures within_step { (plan : Planned) (keep : Option ℕ) → IsRunning plan (H.now host.old) (H.may host.old) T.tells T.cell T.named T.there self.old →
             IsWithinStep H.may H.clock H.since H.said (store_of plan) keep (opened self.old.reservoir) host.old host.new }
-        ensures stored { (plan : Planned) (keep : Option ℕ) → IsRunning plan (H.now host.old) (H.may host.old) (T.tells self.old.engine.table) (T.cell self.old.engine.table) self.old →
+        ensures stored { (plan : Planned) (keep : Option ℕ) → IsRunning plan (H.now host.old) (H.may host.old) T.tells T.cell T.named T.there self.old →
             OnOk result (IsStored (store_of plan) keep (opened self.old.reservoir) (stored_of (H.now host.old) self.old) (stored_of (H.now host.new) self.new) (H.may host.old) (H.may host.new)) }
-        ensures events { (plan : Planned) → IsRunning plan (H.now host.old) (H.may host.old) (T.tells self.old.engine.table) (T.cell self.old.engine.table) self.old →
+        ensures events { (plan : Planned) → IsRunning plan (H.now host.old) (H.may host.old) T.tells T.cell T.named T.there self.old →
             OnOk result (events_of (H.now host.new) self.new ≡ events_of (H.now host.old) self.old) }
-        ensures running { (plan : Planned) → IsRunning plan (H.now host.old) (H.may host.old) (T.tells self.old.engine.table) (T.cell self.old.engine.table) self.old →
-            OnOk result (IsRunning plan (H.now host.new) (H.may host.new) (T.tells self.new.engine.table) (T.cell self.new.engine.table) self.new) }
+        ensures running { (plan : Planned) → IsRunning plan (H.now host.old) (H.may host.old) T.tells T.cell T.named T.there self.old →
+            OnOk result (IsRunning plan (H.now host.new) (H.may host.new) T.tells T.cell T.named T.there self.new) }
         ensures node { (plan : Planned) (n : ℕ) → NodeRuns plan n (H.now host.old) (H.may host.old) (T.tells self.old.engine.table) (T.cell self.old.engine.table) self.old.reservoir self.old.engine →
             OnOk result (NodeRuns plan n (H.now host.new) (H.may host.new) (T.tells self.new.engine.table) (T.cell self.new.engine.table) self.new.reservoir self.new.engine) }
         ensures placed { (plan : Planned) → IsPlaced plan (H.now host.old) (H.may host.old) self.old.reservoir self.old.engine → OnOk result (IsPlaced plan (H.now host.new) (H.may host.new) self.new.reservoir self.new.engine) }
@@ -98,6 +67,10 @@ impl<T: Table> Session<T> {
         ensures goes { OnOk result (self.new.ended ≡ false) }
         ensures ends { IfErr result (λ fault. (fault ≡ TaskFault.Memory) ⊎ (self.new.ended ≡ true)) }
         ensures reaches { self.new.ended ≡ false → ReachesEnd (log_of self.new.reservoir) (H.now host.new) }
+        // The slots' files stay, and as far as they reached they do still.
+        ensures slots_stay { OnOk result (SlotsStay (H.now host.old) (H.now host.new) (H.may host.old) (H.may host.new)) }
+        ensures slots { self.new.slots ≡ self.old.slots }
+        ensures slots_reach { ReachesSlots self.old.slots (H.now host.old) → self.new.ended ≡ false → ReachesSlots self.new.slots (H.now host.new) }
         ensures said { H.said host.new ≡ H.said host.old }
         ensures disk_faults { H.disk_faults host.old ≤ H.disk_faults host.new }
         ensures out_faults { H.out_faults host.new ≡ H.out_faults host.old }

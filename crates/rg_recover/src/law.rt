@@ -14,11 +14,11 @@ use rg_state::Table;
 /// columns, that each image that a crash might leave has just the stored ones, and that all are stored
 /// where the slot that is kept has a checkpoint of all.
 pub fn law_running<H: Host, T: Table>()
-    ensures next { (plan : Planned) (host : H) (s : Sitting T) → IsRunning plan (H.now host) (H.may host) (T.tells s.engine.table) (T.cell s.engine.table) s → next_of s.reservoir ≡ next_offset (events_of (H.now host) s) }
-    ensures count { (plan : Planned) (host : H) (s : Sitting T) → IsRunning plan (H.now host) (H.may host) (T.tells s.engine.table) (T.cell s.engine.table) s → count_in s.reservoir ≡ length (events_of (H.now host) s) }
-    ensures saved { (plan : Planned) (host : H) (s : Sitting T) (slot : ℕ) → IsRunning plan (H.now host) (H.may host) (T.tells s.engine.table) (T.cell s.engine.table) s → s.keep ≡ Some slot → s.saved ≡ count_in s.reservoir → opened s.reservoir ≡ [] }
-    ensures rising { (plan : Planned) (host : H) (s : Sitting T) → IsRunning plan (H.now host) (H.may host) (T.tells s.engine.table) (T.cell s.engine.table) s → IsRising (events_of (H.now host) s) }
-    ensures fits { (plan : Planned) (host : H) (s : Sitting T) → IsRunning plan (H.now host) (H.may host) (T.tells s.engine.table) (T.cell s.engine.table) s → All (IsEventOf plan.shape.fields) (events_of (H.now host) s) }
-    ensures framed { (plan : Planned) (host : H) (s : Sitting T) (u : Image) → IsRunning plan (H.now host) (H.may host) (T.tells s.engine.table) (T.cell s.engine.table) s → H.may host u → HasSchemaFrame plan.shape (u 2) }
-    ensures stored { (plan : Planned) (host : H) (s : Sitting T) (u : Image) → IsRunning plan (H.now host) (H.may host) (T.tells s.engine.table) (T.cell s.engine.table) s → H.may host u → HasEvents plan.shape (stored_of (H.now host) s) (u 2) }
+    ensures next { (plan : Planned) (host : H) (s : Sitting T) → IsRunning plan (H.now host) (H.may host) T.tells T.cell T.named T.there s → next_of s.reservoir ≡ next_offset (events_of (H.now host) s) }
+    ensures count { (plan : Planned) (host : H) (s : Sitting T) → IsRunning plan (H.now host) (H.may host) T.tells T.cell T.named T.there s → count_in s.reservoir ≡ length (events_of (H.now host) s) }
+    ensures saved { (plan : Planned) (host : H) (s : Sitting T) (slot : ℕ) → IsRunning plan (H.now host) (H.may host) T.tells T.cell T.named T.there s → s.keep ≡ Some slot → s.saved ≡ count_in s.reservoir → opened s.reservoir ≡ [] }
+    ensures rising { (plan : Planned) (host : H) (s : Sitting T) → IsRunning plan (H.now host) (H.may host) T.tells T.cell T.named T.there s → IsRising (events_of (H.now host) s) }
+    ensures fits { (plan : Planned) (host : H) (s : Sitting T) → IsRunning plan (H.now host) (H.may host) T.tells T.cell T.named T.there s → All (IsEventOf plan.shape.fields) (events_of (H.now host) s) }
+    ensures framed { (plan : Planned) (host : H) (s : Sitting T) (u : Image) → IsRunning plan (H.now host) (H.may host) T.tells T.cell T.named T.there s → H.may host u → HasSchemaFrame plan.shape (u 2) }
+    ensures stored { (plan : Planned) (host : H) (s : Sitting T) (u : Image) → IsRunning plan (H.now host) (H.may host) T.tells T.cell T.named T.there s → H.may host u → HasEvents plan.shape (stored_of (H.now host) s) (u 2) }
 {}

@@ -1,33 +1,29 @@
-ghost use Rattle.std.specs.Prelude.{◌≡◌, ◌≢◌, ◌↔◌, ◌⊎◌, ◌≤◌, ◌<◌, ◌+◌, ◌^◌, ◌==◌, nat_lt, ◌++◌, [], ◌∷◌, ℕ, List, Option, length, Ok, true, false, IfOk, OnOk, OnErr, IsErrOf};
+ghost use Rattle.std.specs.Prelude.{◌≡◌, ◌↔◌, ◌⊎◌, ◌≤◌, ◌<◌, ◌+◌, ◌^◌, ◌==◌, nat_lt, ℕ, List, Option, length, Ok, true, false, IfOk, OnOk, OnErr, IsErrOf};
 ghost use Rattle.std.specs.List.{list_any};
 ghost use Rattle.std.specs.Option.{ForSome};
 ghost use Rattle.rg_bytes.specs.Counts.{Rose};
-ghost use Rattle.rg_host.specs.Image.{NothingPending};
 ghost use Rattle.rg_host.specs.Moments.{LeavesAll};
 ghost use Rattle.rg_event.specs.Codec.{IsEventOf};
 ghost use Rattle.rg_event.specs.Rising.{last_time};
 ghost use Rattle.rg_event.specs.declared.event.Event.{Event as TheEvent};
 ghost use Rattle.rg_frame.specs.LogState.{ReachesEnd};
-ghost use Rattle.rg_metric.specs.Replies.{answers_to};
+ghost use Rattle.rg_checkpoint.specs.Slots.{ReachesSlots};
 ghost use Rattle.rg_config.specs.Plans.{Planned};
 ghost use Rattle.rg_row.specs.Rows.{row_of};
 ghost use Rattle.rg_reservoir.specs.Chain.{IsIllegal};
-ghost use Rattle.rg_reservoir.specs.Kept.{base, opened, room_of, cache_of, log_of, next_of, time_of, stored, all_events};
+ghost use Rattle.rg_reservoir.specs.Kept.{base, opened, room_of, cache_of, log_of, next_of, time_of};
 ghost use Rattle.rg_state.specs.Keeping.{TableKept};
 ghost use Rattle.rg_course.specs.Verdicts.{accepted_after, fault_reply, or_reply, reply_of, verdict_of};
-ghost use Rattle.rg_window.specs.Placed.{AreWithin};
 ghost use Rattle.rg_open.specs.Stores.{store_of};
 ghost use Rattle.rg_open.specs.Blame.{NodeRuns, IsPlaced};
 ghost use Rattle.rg_recover.specs.Deciding.{verdict_on, as_verdict, answered_as, AreBefore, Follows, IfAccepted, HasAnswers};
-ghost use Rattle.rg_recover.specs.Sessions.{IsReady, IsRunning, count_in, events_of, stored_of};
+ghost use Rattle.rg_recover.specs.Sessions.{IsRunning, count_in, events_of, stored_of};
 ghost use Rattle.rg_recover.specs.Stepping.{IsWithinStep, IsStored};
 
-use crate::commit::commit_open;
 use crate::fault::TaskFault;
 use crate::session::Session;
-use crate::taking::take;
+use crate::taking::take_in;
 use rg_bytes::Memory;
-use rg_engine::Engine;
 use rg_event::{Event, Steps};
 use rg_host::Host;
 use rg_metric::Answers;
@@ -125,80 +121,6 @@ fn judge(reservoir: &Reservoir, most: u64, grace: u64, event: Event) -> Decision
     }
 }
 
-/// Lets the engine take an event; the reservoir first commits its open chunk where it has no room.
-fn take_in<H: Host, T: Table, L: Ledger>(
-    reservoir: &mut Reservoir,
-    engine: &mut Engine<T>,
-    host: &mut H,
-    event: Event,
-    steps: &mut Steps<L>,
-) -> Result<Answers, TaskFault>
-    requires some_room { 1 ≤ room_of reservoir.old }
-    requires few { length (opened reservoir.old) ≤ 4096 }
-    requires full { length (opened reservoir.old) ≤ room_of reservoir.old }
-    requires fits { IsEventOf (base reservoir.old).shape.fields event }
-    requires next { next_of reservoir.old ≤ event.offset }
-    requires time { 0 < count_in reservoir.old → time_of reservoir.old ≤ event.time }
-    requires within { AreWithin engine.old.spots (count_in reservoir.old) }
-    requires below { count_in reservoir.old < (base reservoir.old).limit }
-    requires engine_goes { engine.old.ended ≡ false }
-    requires reservoir_goes { (base reservoir.old).ended ≡ false }
-    requires reaches { ReachesEnd (log_of reservoir.old) (H.now host.old) }
-
-    ensures answers { (plan : Planned) (texts : List (List ℕ)) → IsReady plan (H.now host.old) (H.may host.old) (T.tells engine.old.table) (T.cell engine.old.table) reservoir.old engine.old texts →
-        IfOk result (λ answers. answers ≡ answers_to plan.queries (all_events (H.now host.old) (base reservoir.old) (opened reservoir.old) ++ event ∷ []) event) }
-    ensures ready { (plan : Planned) (texts : List (List ℕ)) → IsReady plan (H.now host.old) (H.may host.old) (T.tells engine.old.table) (T.cell engine.old.table) reservoir.old engine.old texts →
-        OnOk result (IsReady plan (H.now host.new) (H.may host.new) (T.tells engine.new.table) (T.cell engine.new.table) reservoir.new engine.new texts) }
-    ensures bad { (plan : Planned) (texts : List (List ℕ)) (n : ℕ) → IsReady plan (H.now host.old) (H.may host.old) (T.tells engine.old.table) (T.cell engine.old.table) reservoir.old engine.old texts →
-        IsErrOf result (TaskFault.BadState n) → ⊥ }
-    ensures never_damaged { (plan : Planned) (texts : List (List ℕ)) (p : ℕ) → IsReady plan (H.now host.old) (H.may host.old) (T.tells engine.old.table) (T.cell engine.old.table) reservoir.old engine.old texts →
-        IsErrOf result (TaskFault.Damaged p) → ⊥ }
-    ensures node { (plan : Planned) (n : ℕ) → NodeRuns plan n (H.now host.old) (H.may host.old) (T.tells engine.old.table) (T.cell engine.old.table) reservoir.old engine.old →
-        OnOk result (NodeRuns plan n (H.now host.new) (H.may host.new) (T.tells engine.new.table) (T.cell engine.new.table) reservoir.new engine.new) }
-    ensures never_bad_node { (plan : Planned) (n : ℕ) → NodeRuns plan n (H.now host.old) (H.may host.old) (T.tells engine.old.table) (T.cell engine.old.table) reservoir.old engine.old →
-        IsErrOf result (TaskFault.BadState n) → ⊥ }
-    ensures placed { (plan : Planned) → IsPlaced plan (H.now host.old) (H.may host.old) reservoir.old engine.old → OnOk result (IsPlaced plan (H.now host.new) (H.may host.new) reservoir.new engine.new) }
-    ensures undamaged { (plan : Planned) (p : ℕ) → IsPlaced plan (H.now host.old) (H.may host.old) reservoir.old engine.old → IsErrOf result (TaskFault.Damaged p) → ⊥ }
-    ensures events { (plan : Planned) (texts : List (List ℕ)) → IsReady plan (H.now host.old) (H.may host.old) (T.tells engine.old.table) (T.cell engine.old.table) reservoir.old engine.old texts →
-        OnOk result (all_events (H.now host.new) (base reservoir.new) (opened reservoir.new) ≡ all_events (H.now host.old) (base reservoir.old) (opened reservoir.old) ++ event ∷ []) }
-    ensures within_step { (plan : Planned) (texts : List (List ℕ)) (keep : Option ℕ) → IsReady plan (H.now host.old) (H.may host.old) (T.tells engine.old.table) (T.cell engine.old.table) reservoir.old engine.old texts →
-        IsWithinStep H.may H.clock H.since H.said (store_of plan) keep (opened reservoir.old) host.old host.new }
-    ensures stored { (plan : Planned) (texts : List (List ℕ)) (keep : Option ℕ) → IsReady plan (H.now host.old) (H.may host.old) (T.tells engine.old.table) (T.cell engine.old.table) reservoir.old engine.old texts →
-        OnOk result (IsStored (store_of plan) keep (opened reservoir.old) (stored (H.now host.old) (base reservoir.old)) (stored (H.now host.new) (base reservoir.new)) (H.may host.old) (H.may host.new)) }
-    ensures settled { (plan : Planned) (texts : List (List ℕ)) (file : ℕ) → IsReady plan (H.now host.old) (H.may host.old) (T.tells engine.old.table) (T.cell engine.old.table) reservoir.old engine.old texts → file ≢ 2 →
-        NothingPending file (H.now host.old) (H.may host.old) → OnOk result (NothingPending file (H.now host.new) (H.may host.new)) }
-    ensures roomy { length (opened reservoir.old) < room_of reservoir.old → LeavesAll H.now H.may H.clock H.since H.said host.old host.new × (base reservoir.new ≡ base reservoir.old) }
-    ensures damaged { (p : ℕ) → IsErrOf result (TaskFault.Damaged p) → ForSome (H.now host.new) (λ v. IsIllegal (base reservoir.new).shape.fields p (v (base reservoir.new).file)) }
-    ensures disk { IsErrOf result TaskFault.Disk → Rose (H.disk_faults host.old) (H.disk_faults host.new) }
-    ensures table { IsErrOf result TaskFault.Table → Rose (T.faults engine.old.table) (T.faults engine.new.table) }
-    ensures not_ended { IsErrOf result TaskFault.Ended → ⊥ }
-
-    ensures engine_goes { OnOk result (engine.new.ended ≡ false) }
-    ensures reservoir_goes { OnOk result ((base reservoir.new).ended ≡ false) }
-    ensures plan { engine.new.plan ≡ engine.old.plan }
-    ensures rows { TableKept T.tells T.faults engine.old.table engine.new.table }
-    ensures within { AreWithin engine.new.spots (count_in reservoir.new) }
-    ensures shape { (base reservoir.new).shape ≡ (base reservoir.old).shape }
-    ensures file { (base reservoir.new).file ≡ (base reservoir.old).file }
-    ensures limit { (base reservoir.new).limit ≡ (base reservoir.old).limit }
-    ensures room { room_of reservoir.new ≡ room_of reservoir.old }
-    ensures cap { (cache_of reservoir.new).cap ≡ (cache_of reservoir.old).cap }
-    ensures full { length (opened reservoir.new) ≤ room_of reservoir.new }
-    ensures grows { (base reservoir.old).committed ≤ (base reservoir.new).committed }
-    ensures reaches { OnOk result (ReachesEnd (log_of reservoir.new) (H.now host.new)) }
-    ensures said { H.said host.new ≡ H.said host.old }
-    ensures disk_faults { H.disk_faults host.old ≤ H.disk_faults host.new }
-    ensures out_faults { H.out_faults host.new ≡ H.out_faults host.old }
-{
-    if reservoir.has_room() {
-        return take(reservoir, engine, host, event, steps);
-    }
-    match commit_open(reservoir, host) {
-        Ok(()) => take(reservoir, engine, host, event, steps),
-        Err(fault) => Err(fault),
-    }
-}
-
 impl<T: Table> Session<T> {
     /// Decides on a line. The order of the refusals is that of a row's faults, then `Late`, then `Full`.
     fn decide(&self, offset: u64, line: &[u8]) -> Result<Decision, Memory>
@@ -233,19 +155,19 @@ impl<T: Table> Session<T> {
         requires reaches { self.old.ended ≡ false → ReachesEnd (log_of self.old.reservoir) (H.now host.old) }
 
         // Of a session that runs: what is answered and accepted, and at each moment, and after the call.
-        ensures reply { (plan : Planned) → IsRunning plan (H.now host.old) (H.may host.old) (T.tells self.old.engine.table) (T.cell self.old.engine.table) self.old →
+        ensures reply { (plan : Planned) → IsRunning plan (H.now host.old) (H.may host.old) T.tells T.cell T.named T.there self.old →
             IfOk result (λ reply. reply ≡ reply_of plan.queries (events_of (H.now host.old) self.old) (verdict_on plan (events_of (H.now host.old) self.old) offset line.now)) }
-        ensures events { (plan : Planned) → IsRunning plan (H.now host.old) (H.may host.old) (T.tells self.old.engine.table) (T.cell self.old.engine.table) self.old →
+        ensures events { (plan : Planned) → IsRunning plan (H.now host.old) (H.may host.old) T.tells T.cell T.named T.there self.old →
             OnOk result (events_of (H.now host.new) self.new ≡ accepted_after (events_of (H.now host.old) self.old) (verdict_on plan (events_of (H.now host.old) self.old) offset line.now)) }
-        ensures running { (plan : Planned) → IsRunning plan (H.now host.old) (H.may host.old) (T.tells self.old.engine.table) (T.cell self.old.engine.table) self.old →
-            OnOk result (IsRunning plan (H.now host.new) (H.may host.new) (T.tells self.new.engine.table) (T.cell self.new.engine.table) self.new) }
-        ensures within_step { (plan : Planned) (keep : Option ℕ) → IsRunning plan (H.now host.old) (H.may host.old) (T.tells self.old.engine.table) (T.cell self.old.engine.table) self.old →
+        ensures running { (plan : Planned) → IsRunning plan (H.now host.old) (H.may host.old) T.tells T.cell T.named T.there self.old →
+            OnOk result (IsRunning plan (H.now host.new) (H.may host.new) T.tells T.cell T.named T.there self.new) }
+        ensures within_step { (plan : Planned) (keep : Option ℕ) → IsRunning plan (H.now host.old) (H.may host.old) T.tells T.cell T.named T.there self.old →
             IsWithinStep H.may H.clock H.since H.said (store_of plan) keep (opened self.old.reservoir) host.old host.new }
-        ensures stored { (plan : Planned) (keep : Option ℕ) → IsRunning plan (H.now host.old) (H.may host.old) (T.tells self.old.engine.table) (T.cell self.old.engine.table) self.old →
+        ensures stored { (plan : Planned) (keep : Option ℕ) → IsRunning plan (H.now host.old) (H.may host.old) T.tells T.cell T.named T.there self.old →
             OnOk result (IsStored (store_of plan) keep (opened self.old.reservoir) (stored_of (H.now host.old) self.old) (stored_of (H.now host.new) self.new) (H.may host.old) (H.may host.new)) }
-        ensures never_bad { (plan : Planned) (n : ℕ) → IsRunning plan (H.now host.old) (H.may host.old) (T.tells self.old.engine.table) (T.cell self.old.engine.table) self.old →
+        ensures never_bad { (plan : Planned) (n : ℕ) → IsRunning plan (H.now host.old) (H.may host.old) T.tells T.cell T.named T.there self.old →
             IsErrOf result (TaskFault.BadState n) → ⊥ }
-        ensures never_damaged { (plan : Planned) (p : ℕ) → IsRunning plan (H.now host.old) (H.may host.old) (T.tells self.old.engine.table) (T.cell self.old.engine.table) self.old →
+        ensures never_damaged { (plan : Planned) (p : ℕ) → IsRunning plan (H.now host.old) (H.may host.old) T.tells T.cell T.named T.there self.old →
             IsErrOf result (TaskFault.Damaged p) → ⊥ }
 
         // A node that can be carried on is carried on, and its state is never bad.
@@ -275,6 +197,8 @@ impl<T: Table> Session<T> {
         ensures rooms { (room_of self.new.reservoir ≡ room_of self.old.reservoir) × ((cache_of self.new.reservoir).cap ≡ (cache_of self.old.reservoir).cap) × ((base self.new.reservoir).limit ≡ (base self.old.reservoir).limit) }
         ensures rows { TableKept T.tells T.faults self.old.engine.table self.new.engine.table }
         ensures reaches { self.new.ended ≡ false → ReachesEnd (log_of self.new.reservoir) (H.now host.new) }
+        ensures slots { self.new.slots ≡ self.old.slots }
+        ensures slots_reach { ReachesSlots self.old.slots (H.now host.old) → self.new.ended ≡ false → ReachesSlots self.new.slots (H.now host.new) }
         ensures said { H.said host.new ≡ H.said host.old }
         ensures disk_faults { H.disk_faults host.old ≤ H.disk_faults host.new }
         ensures out_faults { H.out_faults host.new ≡ H.out_faults host.old }

@@ -13,6 +13,7 @@ ghost use Rattle.rg_reservoir.specs.Chain.{IsIllegal};
 ghost use Rattle.rg_reservoir.specs.Kept.{base, opened, room_of, cache_of, log_of, next_of};
 ghost use Rattle.rg_state.specs.Keeping.{TableKept};
 ghost use Rattle.rg_engine.specs.Passed.{passed_count};
+ghost use Rattle.rg_checkpoint.specs.Slots.{ReachesSlots};
 ghost use Rattle.rg_restore.specs.Opening.{IsEmpty};
 ghost use Rattle.rg_open.specs.Blame.{IsBlamed, NodeRuns, IsPlaced};
 ghost use Rattle.rg_open.specs.Opening.{IsOpenable, IsResumed, IsFromIn};
@@ -48,7 +49,7 @@ impl<T: Table> Session<T> {
 
         // Over a store whose images are truthful and of the plan's schema or without a frame.
         ensures running { IsOpenable (planned plan.now) (H.now host.old) (H.may host.old) → T.tells table →
-            IfOk result (λ r. IsRunning (planned plan.now) (H.now host.new) (H.may host.new) (T.tells r.0.engine.table) (T.cell r.0.engine.table) r.0) }
+            IfOk result (λ r. IsRunning (planned plan.now) (H.now host.new) (H.may host.new) T.tells T.cell T.named T.there r.0) }
         ensures passed { IsOpenable (planned plan.now) (H.now host.old) (H.may host.old) →
             IfOk result (λ r. steps.new ≡ steps.old + passed_count plan.now.task (take r.1.from (events_of (H.now host.new) r.0)) (events_of (H.now host.new) r.0)) }
         ensures never_differs { IsOpenable (planned plan.now) (H.now host.old) (H.may host.old) → IfErr result (λ refused. refused.0 ≡ OpenFault.SchemaDiffers → ⊥) }
@@ -94,6 +95,7 @@ impl<T: Table> Session<T> {
         ensures log { IfOk result (λ r. ((base r.0.reservoir).shape ≡ plan.now.schema) × ((base r.0.reservoir).file ≡ 2)) }
         ensures numbers { IfOk result (λ r. (r.1.next ≡ next_of r.0.reservoir) × (r.1.count ≡ count_in r.0.reservoir) × (r.1.from ≡ r.0.saved)) }
         ensures reaches { IfOk result (λ r. ReachesEnd (log_of r.0.reservoir) (H.now host.new)) }
+        ensures slots_reach { IfOk result (λ r. ReachesSlots r.0.slots (H.now host.new)) }
         ensures table { IfOk result (λ r. TableKept T.tells T.faults table r.0.engine.table) }
         ensures back { IfErr result (λ refused. TableKept T.tells T.faults table refused.1) }
         ensures disk_faults { H.disk_faults host.old ≤ H.disk_faults host.new }

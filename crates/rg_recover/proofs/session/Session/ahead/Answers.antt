@@ -41,9 +41,9 @@ returns-in-Ok-clause-running g c = rw (← c.self.view_is) (λ plan runs.
     let h = c.args.host.now in
     let then = c.ahead.new.host in
     let e = c.self.inside.engine in
-    let s : Sitting g.row.T.Denot = record { reservoir = c.self.inside.reservoir; engine = e; texts = c.self.inside.texts; grace = c.self.inside.grace; keep = c.self.inside.keep; saved = c.self.inside.saved; ended = c.self.inside.ended } in
+    let s : Sitting g.row.T.Denot = record { reservoir = c.self.inside.reservoir; engine = e; texts = c.self.inside.texts; grace = c.self.inside.grace; slots = c.self.inside.slots; keep = c.self.inside.keep; saved = c.self.inside.saved; ended = c.self.inside.ended } in
     running_ahead (g.H.Host.now h) (g.H.Host.now then) c.self.inside.reservoir c.ahead.new.self c.ahead.ensures.leaves.now_stays c.ahead.ensures.stays (g.H.Host.may h) (g.H.Host.may then) c.ahead.ensures.leaves.may_stays c.ahead.ensures.sound plan
-    (g.T.Table.tells e.table) (g.T.Table.cell e.table) s runs)
+    g.T.Table.tells g.T.Table.cell g.T.Table.named g.T.Table.there s runs)
 
 pub returns-in-Ok-clause-loaded : goal.returns-in-Ok-clause-loaded
 returns-in-Ok-clause-loaded g c = rw (← c.self.view_is) (λ plan placed.

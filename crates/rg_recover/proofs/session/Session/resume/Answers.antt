@@ -1,9 +1,11 @@
-use Rattle.std.proofs.Common.{◌≡◌, ◌∙◌, ◌+◌, List, take, refl, sym, subst}
+use Rattle.std.proofs.Common.{◌≡◌, ◌∙◌, ◌+◌, ℕ, List, take, refl, sym, subst}
 use Rattle.rg_event.specs.Rising.{next_offset}
 use Rattle.rg_event.specs.declared.event.Event.{Event}
 use Rattle.rg_config.specs.Plans.{planned}
 use Rattle.rg_engine.specs.Passed.{passed_count}
+use Rattle.rg_checkpoint.specs.Slots.{ReachesSlots, sizes_in}
 use Rattle.rg_open.specs.Blame.{IsBlamed, NodeRuns, IsPlaced}
+use Rattle.rg_open.specs.Opened.{IsKeptSince}
 use Rattle.rg_open.specs.Opening.{IsResumed}
 use Rattle.rg_recover.specs.Sessions.{Sitting, IsRunning, events_of, stored_of}
 use Rattle.rg_recover.proofs.Resuming.{started_running, all_of_none, stored_of_none}
@@ -13,9 +15,12 @@ pub returns-in-Ok-clause-running : goal.returns-in-Ok-clause-running
 returns-in-Ok-clause-running g c = λ openable tells.
     let h = c.open_store.new.host in
     let o = c.in-Ok.opened in
-    subst (λ (s : Sitting g.row.T.Denot). IsRunning (planned c.args.plan.now) (g.H.Host.now h) (g.H.Host.may h) (g.T.Table.tells s.engine.table) (g.T.Table.cell s.engine.table) s) (sym c.new.ensures)
-    (started_running (planned c.args.plan.now) (g.H.Host.now h) (g.H.Host.may h) (g.T.Table.tells o.engine.table) (g.T.Table.cell o.engine.table) o.reservoir o.engine o.texts c.args.plan.now.grace o.keep o.saved
-    (c.in-Ok.ensures.started openable tells) (c.in-Ok.ensures.settled openable.image openable.told) c.in-Ok.ensures.reservoir.3 refl)
+    let e = o.engine.table in
+    subst (λ (s : Sitting g.row.T.Denot). IsRunning (planned c.args.plan.now) (g.H.Host.now h) (g.H.Host.may h) g.T.Table.tells g.T.Table.cell g.T.Table.named g.T.Table.there s) (sym c.new.ensures)
+    (started_running (planned c.args.plan.now) (g.H.Host.now h) (g.H.Host.may h) g.T.Table.tells g.T.Table.cell g.T.Table.named g.T.Table.there o.reservoir o.engine o.texts c.args.plan.now.grace o.slots o.keep o.saved
+    (c.in-Ok.ensures.started openable tells) (c.in-Ok.ensures.settled openable.image openable.told) c.in-Ok.ensures.reservoir.3 refl
+    (λ slot is. subst (λ (l : List (List ℕ)). IsKeptSince (g.H.Host.may h) slot o.saved l (sizes_in o.slots slot) (g.T.Table.named e) (g.T.Table.there e) (g.T.Table.cell e)) (sym c.in-Ok.ensures.copies.1)
+    (c.in-Ok.ensures.since openable tells slot is)))
 
 pub returns-in-Ok-clause-passed : goal.returns-in-Ok-clause-passed
 returns-in-Ok-clause-passed g c = λ openable.
@@ -50,3 +55,6 @@ pub returns-in-Ok-clause-placed : goal.returns-in-Ok-clause-placed
 returns-in-Ok-clause-placed g c = λ v events told has.
     let h = c.open_store.new.host in
     subst (λ (s : Sitting g.row.T.Denot). IsPlaced (planned c.args.plan.now) (g.H.Host.now h) (g.H.Host.may h) s.reservoir s.engine) (sym c.new.ensures) (c.in-Ok.ensures.placed v events told has)
+
+pub returns-in-Ok-clause-slots_reach : goal.returns-in-Ok-clause-slots_reach
+returns-in-Ok-clause-slots_reach g c = subst (λ (s : Sitting g.row.T.Denot). ReachesSlots s.slots (g.H.Host.now c.open_store.new.host)) (sym c.new.ensures) c.in-Ok.ensures.slots_reach

@@ -1,9 +1,0 @@
-pub mod Living
-pub mod LivingLaws
-pub mod LiveView
-pub mod Ready
-pub mod Faults
-pub mod Ran
-pub mod Answered
-pub mod Opened
-pub mod Runs

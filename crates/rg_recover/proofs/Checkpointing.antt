@@ -1,0 +1,80 @@
+-- A checkpoint that was chosen and written.
+use Rattle.std.proofs.Common.{◌≡◌, ◌<◌, ◌≤◌, ℕ, false, List, [], length, Option, Some, refl, sym, ◌∙◌, ap, subst, arith}
+use Rattle.rg_host.specs.Image.{Image, NothingPending}
+use Rattle.rg_host.specs.Moments.{Moment}
+use Rattle.rg_frame.specs.Steps.{Leaves}
+use Rattle.rg_config.specs.Plans.{Planned}
+use Rattle.rg_state.specs.Changes.{Marks}
+use Rattle.rg_state.specs.Rows.{Cells, Entry, Lists}
+use Rattle.rg_engine.specs.Seen.{Seen}
+use Rattle.rg_checkpoint.specs.Base.{IsBase}
+use Rattle.rg_checkpoint.specs.Sizes.{OfSizes}
+use Rattle.rg_checkpoint.specs.Slots.{Attached, IsKeep, Lengthened, Lengthens, Turns, Written, other_of, sizes_in, with_sizes}
+use Rattle.rg_checkpoint.specs.declared.base.Checkpoint.{Checkpoint}
+use Rattle.rg_checkpoint.specs.declared.sizes.SlotSizes.{SlotSizes}
+use Rattle.rg_reservoir.specs.Kept.{base, opened, all_events}
+use Rattle.rg_course.specs.Steps.{IsMidStep, IsSavedTo}
+use Rattle.rg_open.specs.Opened.{IsKeptSince, IsToExtend, IsToSave}
+use Rattle.rg_open.specs.Stores.{store_of}
+use Rattle.rg_open.specs.Truth.{IsTrueOf, texts_of}
+use Rattle.rg_recover.specs.Saving.{Framed, HasWritten, IsChosen, IsMarked, IsOfKept, KeepsRows, Turned, Turning, WritesSlot, sizes_then, slot_for}
+use Rattle.rg_recover.specs.Sessions.{Sitting, IsRunning, count_in}
+use Rattle.rg_recover.specs.Stepping.{IsWithinStep}
+use Rattle.rg_recover.specs.declared.payload.Payload.{Payload}
+use Rattle.rg_recover.proofs.Choosing.{keeps_then, sizes_with, slot_below}
+use Rattle.rg_recover.proofs.Saved.{kept_chosen, mid_is_stepped, running_saved, turned_saved, turning_mid}
+use Rattle.rg_recover.proofs.Within.{writes_within}
+use Rattle.rg_recover.proofs.Writing.{log_stays, settled_by, written_left}
+
+module _ {H T : Type 0} (now : H → Option Image) (may : H → Image → Type 0) (clock : H → ℕ) (since : H → ℕ → Moment → Type 0) (said : H → Option (List ℕ)) (disk out : H → ℕ)
+    (Tells : T → Type 0) (faults : T → ℕ) (cell : T → Cells) (named there : T → Marks) (plan : Planned) (s : Sitting T) (old new : H) (count : ℕ)
+    (runs : IsRunning plan (now old) (may old) Tells cell named there s) (empty : opened s.reservoir ≡ []) (legal : IsKeep s.keep) (count_is : count ≡ count_in s.reservoir)
+    (law : (checkpoint : Checkpoint) → IsToSave plan (now old) (may old) s.reservoir (cell s.engine.table) checkpoint.spots checkpoint.queries → Lists (cell s.engine.table) checkpoint.rows → checkpoint.count ≡ length (all_events (now old) (base s.reservoir) (opened s.reservoir)) → (u : Image) → may old u → IsTrueOf (u 2) checkpoint)
+    (rows : List Entry) (lists : Lists (cell s.engine.table) rows) (payload : Payload)
+    (chosen : IsChosen (named s.engine.table) (there s.engine.table) (cell s.engine.table) s.texts count s.engine.spots s.slots s.keep payload)
+    (saves : (bytes : List ℕ) (checkpoint : Checkpoint) (v u : Image) → IsKeep s.keep → IsBase bytes checkpoint → now old ≡ Some v → NothingPending (other_of s.keep) (now old) (may old) → ((w : Image) → may old w → IsTrueOf (w 2) checkpoint)
+    → Leaves (other_of s.keep) (Turns bytes) (now old) (may old) u → IsMidStep (store_of plan) s.keep [] (may old) u)
+    (extends : (slot : ℕ) (sizes : Option SlotSizes) (bytes : List ℕ) (before after : Checkpoint) (u : Image) → IsToExtend plan (now old) (may old) slot sizes bytes before after → Leaves slot (OfSizes sizes (Lengthens bytes)) (now old) (may old) u → IsMidStep (store_of plan) s.keep [] (may old) u)
+    (writes : WritesSlot now may clock since said disk out (slot_for s.keep payload) (Turning s.slots payload) old new) where
+  -- each moment of it is within a step of the store
+  pub chosen_within : IsWithinStep may clock since said (store_of plan) s.keep [] old new
+  chosen_within = writes_within now may clock since said (store_of plan) s.keep [] (slot_for s.keep payload) (Turning s.slots payload) old new writes.writes
+      (turning_mid plan (now old) (may old) Tells cell named there s count runs empty legal count_is law rows lists saves extends payload chosen)
+
+  module _ (saved : (bytes : List ℕ) (checkpoint : Checkpoint) (v u : Image) → IsKeep s.keep → IsBase bytes checkpoint → now old ≡ Some v → NothingPending (other_of s.keep) (now old) (may old) → ((w : Image) → may old w → IsTrueOf (w 2) checkpoint)
+      → checkpoint.queries ≡ texts_of plan.shape plan.queries → Leaves (other_of s.keep) (Written bytes) (now old) (may old) u → IsSavedTo (store_of plan) (other_of s.keep) checkpoint.count (may old) u)
+      (extended : (slot : ℕ) (sizes : Option SlotSizes) (bytes : List ℕ) (before after : Checkpoint) (u : Image) → IsToExtend plan (now old) (may old) slot sizes bytes before after → Leaves slot (OfSizes sizes (Lengthened bytes)) (now old) (may old) u → IsSavedTo (store_of plan) slot after.count (may old) u)
+      (now_may : (v : Image) → now old ≡ Some v → may old v) (of_kept : IsOfKept s.keep s.slots payload)
+      (m f : Seen T) (first : KeepsRows Tells faults cell s.engine m) (second : KeepsRows Tells faults cell m f) (marked : IsMarked Tells named there m.table f.table)
+      (done : HasWritten now may (slot_for s.keep payload) (Turned s.slots payload) (Framed s.slots payload) old new)
+      (put : Attached) (slot : ℕ) (at : slot ≡ slot_for s.keep payload) (put_is : put ≡ with_sizes slot (sizes_then s.slots payload) (record s.slots { fresh = false })) where
+    settled : (file : ℕ) → NothingPending file (now old) (may old) → NothingPending file (now new) (may new)
+    settled file was = settled_by file (slot_for s.keep payload) (λ (f : ℕ). NothingPending f (now new) (may new)) done.pending (λ apart. writes.others_pending file apart was)
+
+    below : slot < 2
+    below = subst (λ (n : ℕ). n < 2) (sym at) (slot_below s.slots s.keep payload legal of_kept)
+
+    all_saved : (u : Image) → may new u → IsSavedTo (store_of plan) slot count (may old) u
+    all_saved u one = subst (λ (n : ℕ). IsSavedTo (store_of plan) n count (may old) u) (sym at)
+        (turned_saved plan (now old) (may old) Tells cell named there s count runs empty legal count_is law rows lists saved extended payload chosen u
+        (written_left (slot_for s.keep payload) (Turned s.slots payload) (now old) (now new) (may old) (may new) done.after done.pending (λ w left. (writes.writes.left w left).0) u one))
+
+    told : Tells m.table
+    told = first.rows.tells.1 runs.ready.tells
+
+    both : KeepsRows Tells faults cell s.engine f
+    both = keeps_then Tells faults cell s.engine m f first second
+
+    kept : IsKeptSince (may new) slot count s.texts (sizes_in put slot) (named f.table) (there f.table) (cell f.table)
+    kept =
+        subst (λ (o : Option SlotSizes). IsKeptSince (may new) slot count s.texts o (named f.table) (there f.table) (cell f.table)) (sym (ap (λ (p : Attached). sizes_in p slot) put_is ∙ sizes_with (record s.slots { fresh = false }) slot (sizes_then s.slots payload) below))
+        (subst (λ (n : ℕ). IsKeptSince (may new) n count s.texts (sizes_then s.slots payload) (named f.table) (there f.table) (cell f.table)) (sym at)
+        (kept_chosen plan (now old) (may old) Tells cell named there s count runs empty legal count_is law rows lists now_may (now new) (may new) f.table (both.same runs.ready.tells) (marked.none_named told) payload chosen done.after done.frames done.pending))
+
+    -- and the session runs behind it
+    pub chosen_running : IsRunning plan (now new) (may new) Tells cell named there (record { reservoir = s.reservoir; engine = f; texts = s.texts; grace = s.grace; slots = put; keep = Some slot; saved = count; ended = false })
+    chosen_running = running_saved plan (now old) (now new) (may old) (may new) Tells cell named there s f put slot count runs (second.rows.tells.1 told) (both.same runs.ready.tells)
+        (ap (λ (e : Seen T). e.plan) both.engine) (ap (λ (e : Seen T). e.spots) both.engine)
+        (log_stays (slot_for s.keep payload) (slot_below s.slots s.keep payload legal of_kept) (now old) (now new) (may old) (may new) writes.others (λ w left. (writes.writes.left w left).0))
+        (settled 0 runs.first_settled) (settled 1 runs.second_settled) below (omega (arith, count_is, ap length empty))
+        (λ u one. mid_is_stepped (store_of plan) s.keep (may old) u (chosen_within.left u one)) all_saved kept

@@ -1,0 +1,132 @@
+ghost use Rattle.std.specs.Prelude.{◌≡◌, ◌⊎◌, ◌≤◌, ◌<◌, ◌^◌, ℕ, List, Option, Some, IfErr, OnOk, IsErrOf};
+ghost use Rattle.std.specs.Option.{ForSome};
+ghost use Rattle.rg_bytes.specs.Counts.{Rose};
+ghost use Rattle.rg_bytes.specs.Known.{IsAtEnd};
+ghost use Rattle.rg_host.specs.Image.{Image};
+ghost use Rattle.rg_event.specs.declared.event.Event.{Event};
+ghost use Rattle.rg_event.specs.Rising.{next_offset};
+ghost use Rattle.rg_log.specs.Log.{schema_payload, HasEvents};
+ghost use Rattle.rg_config.specs.Plans.{planned};
+ghost use Rattle.rg_config.specs.Read.{IsReadPlan};
+ghost use Rattle.rg_reservoir.specs.Attached.{IsOther, IsBadFrame};
+ghost use Rattle.rg_reservoir.specs.Chain.{IsIllegal};
+ghost use Rattle.rg_open.specs.Blame.{IsBlamed};
+ghost use Rattle.rg_open.specs.Unfit.{IsUnfit, IsLeftAlone};
+ghost use Rattle.rg_open.specs.Within.{IsWithinOpening};
+ghost use Rattle.rg_recover.specs.Ready.{IsReadyRun, begun_by};
+ghost use Rattle.rg_recover.specs.RunFaults.{SaysWhy, IsGapOrFailed};
+ghost use Rattle.rg_run.specs.Answered.{IsFresh};
+ghost use Rattle.rg_recover.specs.Answered.{CountsGrow};
+ghost use Rattle.rg_run.specs.Reading.{IsLonger, IsWithinLimit};
+ghost use Rattle.rg_recover.specs.Runs.{RunsReady, RefusesUnfit, HasCause};
+ghost use Rattle.rg_recover.specs.Ran.{Ran};
+
+use crate::answering::answer_opened;
+use crate::opening::open_session;
+use rg_config::Plan;
+use rg_event::Steps;
+use rg_host::{Host, Lines, Source};
+use rg_run::RunFault;
+use std::alloc::Global;
+use std::sync::ledger::Ledger;
+
+/// Answers the lines of an input by a plan, over the store on a host. The first line has the offset
+/// `first`; it must be at most the store's next one, or nothing is read, stored or put. Each refusal but
+/// `Write` leaves whole lines put.
+pub fn run<I: Source, H: Host, L: Ledger>(
+    alloc: Global,
+    plan: &Plan,
+    first: u64,
+    input: &mut I,
+    host: &mut H,
+    steps: &mut Steps<L>,
+) -> Result<(), RunFault>
+    requires read { IsReadPlan plan.now }
+    requires first { first ≤ 2 ^ 61 }
+
+    // Over a store whose images are truthful, and an input that tells its bytes.
+    ensures ran { (ready : IsReadyRun (planned plan.now) (H.now host.old) (H.may host.old) (H.said host.old)) (all : List ℕ) → I.left input.old ≡ Some all →
+        (from : ℕ) × Ran H.may H.clock H.since H.said (planned plan.now) (begun_by ready from first all) ready.openable.image (I.left input.new) result host.old host.new }
+    ensures behind { (ready : IsReadyRun (planned plan.now) (H.now host.old) (H.may host.old) (H.said host.old)) (keep : Option ℕ) → next_offset ready.held < first →
+        (input.new ≡ input.old) × IsWithinOpening H.may H.clock H.since H.said (planned plan.now) keep ready.openable.image host.old host.new × IfErr result IsGapOrFailed }
+    ensures never_bad { (ready : IsReadyRun (planned plan.now) (H.now host.old) (H.may host.old) (H.said host.old)) (all : List ℕ) (n : ℕ) → I.left input.old ≡ Some all → IsErrOf result (RunFault.BadState n) → ⊥ }
+    ensures never_damaged { (ready : IsReadyRun (planned plan.now) (H.now host.old) (H.may host.old) (H.said host.old)) (all : List ℕ) (p : ℕ) → I.left input.old ≡ Some all → IsErrOf result (RunFault.Damaged p) → ⊥ }
+    ensures never_differs { IsReadyRun (planned plan.now) (H.now host.old) (H.may host.old) (H.said host.old) → IsErrOf result RunFault.SchemaDiffers → ⊥ }
+
+    // Over an image that isn't fit for the plan it is refused for that, and the input, the files and the output are left alone.
+    ensures unfit { (v : Image) → H.now host.old ≡ Some v → IsUnfit (planned plan.now) v →
+        (input.new ≡ input.old) × IsLeftAlone H.now H.may H.clock H.since H.said v host.old host.new × IfErr result (SaysWhy (planned plan.now) v) }
+
+    // Each refusal has its cause.
+    ensures gap { (n : ℕ) → IsErrOf result (RunFault.Gap n) → n < first }
+
+    // Over any log that is legal: its first line is at most the next offset, which a gap tells.
+    ensures gap_next { (v : Image) (events : List Event) (n : ℕ) → H.now host.old ≡ Some v → HasEvents plan.now.schema events (v 2) → IsErrOf result (RunFault.Gap n) → n ≡ next_offset events }
+    ensures no_gap { (v : Image) (events : List Event) → H.now host.old ≡ Some v → HasEvents plan.now.schema events (v 2) → OnOk result (first ≤ next_offset events) }
+    ensures differs { IsErrOf result RunFault.SchemaDiffers → ForSome (H.now host.old) (λ v. IsOther (schema_payload plan.now.schema) (v 2)) }
+    ensures damaged { (p : ℕ) → IsErrOf result (RunFault.Damaged p) →
+        ForSome (H.now host.old) (λ v. IsBadFrame (schema_payload plan.now.schema) p (v 2)) ⊎ ForSome (H.now host.new) (λ v. IsIllegal plan.now.schema.fields p (v 2)) }
+    ensures exact { (v : Image) → H.now host.old ≡ Some v → IsOther (schema_payload plan.now.schema) (v 2) ⊎ ((p : ℕ) × IsBadFrame (schema_payload plan.now.schema) p (v 2)) → OnOk result ⊥ }
+    ensures bad { (v : Image) (events : List Event) (n : ℕ) → H.now host.old ≡ Some v → HasEvents plan.now.schema events (v 2) →
+        IsErrOf result (RunFault.BadState n) → IsBlamed (planned plan.now) v events n }
+    ensures undamaged { (v : Image) (events : List Event) (p : ℕ) → H.now host.old ≡ Some v → HasEvents plan.now.schema events (v 2) → IsErrOf result (RunFault.Damaged p) → ⊥ }
+    ensures at_end { OnOk result (IsAtEnd (I.left input.new)) }
+    ensures within { OnOk result (IsWithinLimit (2 ^ 50) (I.left input.old)) }
+    ensures read { IsErrOf result RunFault.Read → Rose (I.faults input.old) (I.faults input.new) }
+    ensures limit { IsErrOf result RunFault.Limit → IsLonger (2 ^ 50) (I.left input.old) }
+    ensures write { IsErrOf result RunFault.Write → Rose (H.out_faults host.old) (H.out_faults host.new) }
+    ensures disk { IsErrOf result RunFault.Disk → Rose (H.disk_faults host.old) (H.disk_faults host.new) }
+
+    // The store is opened before the input is read.
+    ensures store_first { IsErrOf result RunFault.SchemaDiffers → input.new ≡ input.old }
+    ensures gap_first { (n : ℕ) → IsErrOf result (RunFault.Gap n) → input.new ≡ input.old }
+
+    ensures later { I.faults input.old ≤ I.faults input.new }
+    ensures disk_faults { H.disk_faults host.old ≤ H.disk_faults host.new }
+    ensures out_faults { H.out_faults host.old ≤ H.out_faults host.new }
+{
+    let mut lines = match Lines::new(alloc) {
+        Ok(lines) => lines,
+        Err(_) => return Err(RunFault::Memory),
+    };
+    let ran = run_lines(alloc, &mut lines, plan, first, input, host, steps);
+    drop(lines);
+    ran
+}
+
+/// A run that has its buffer.
+fn run_lines<I: Source, H: Host, L: Ledger>(
+    alloc: Global,
+    lines: &mut Lines,
+    plan: &Plan,
+    first: u64,
+    input: &mut I,
+    host: &mut H,
+    steps: &mut Steps<L>,
+) -> Result<(), RunFault>
+    requires read { IsReadPlan plan.now }
+    requires first { first ≤ 2 ^ 61 }
+    requires fresh { IsFresh lines.old }
+    ensures ready { RunsReady H.now H.may H.clock H.since H.said I.left (planned plan.now) first result input.old input.new host.old host.new }
+    ensures unfit { RefusesUnfit H.now H.may H.clock H.since H.said I.left (planned plan.now) result input.old input.new host.old host.new }
+    ensures cause { HasCause H.now H.disk_faults H.out_faults I.left I.faults (planned plan.now) first result input.old input.new host.old host.new }
+    ensures counts { CountsGrow H.disk_faults H.out_faults I.faults input.old input.new host.old host.new }
+{
+    let (mut session, resumed) = match open_session(alloc, host, plan, steps) {
+        Ok(opened) => opened,
+        Err(fault) => return Err(fault),
+    };
+    let ran = answer_opened(
+        alloc,
+        lines,
+        &mut session,
+        plan,
+        resumed.from,
+        first,
+        input,
+        host,
+        steps,
+    );
+    drop(session);
+    ran
+}

@@ -12,12 +12,12 @@ use Rattle.rg_host.proofs.Runs.{moments-none}
 use Rattle.rg_course.specs.Stores.{StaysOnCourseSince}
 use Rattle.rg_open.specs.Stores.{store_of}
 use Rattle.rg_open.specs.Opening.{IsFromIn}
-use Rattle.rg_live.specs.Ran.{HasStopped}
+use Rattle.rg_recover.specs.Ran.{HasStopped}
 use Rattle.rg_run.specs.Begun.{Begun, course_for}
-use Rattle.rg_live.specs.Ready.{IsReadyRun, begun_by}
+use Rattle.rg_recover.specs.Ready.{IsReadyRun, begun_by}
 use Rattle.rg_run.specs.Reading.{IsLonger}
 use Rattle.rg_run.specs.UnderWay.{HasAnswered}
-use Rattle.rg_live.specs.Ran.{HasFinished, IsUnopened, IsLeft}
+use Rattle.rg_recover.specs.Ran.{HasFinished, IsUnopened, IsLeft}
 use Rattle.rg_run.specs.declared.fault.RunFault.{RunFault}
 use Rattle.rg_run.specs.declared.fault.RunFault.TheVariants as run
 use Rattle.rg_call.specs.Plan.{IsPlan}
@@ -29,7 +29,7 @@ use Rattle.rg_call.specs.Stored.{ToldRun, begun_in, IsLastOf, Went}
 use Rattle.rg_report.specs.declared.status.Status.{Status}
 use Rattle.rg_report.specs.declared.status.Status.TheVariants.{Ok, Plan as BadPlan, Store, Read, Write, Limit, Memory, Gap}
 use Rattle.rg_call.proofs.Plans.{one_plan}
-use Rattle.rg_call.proofs.Refusing.{run_ok, run_read, run_limit, run_gap, run_store, run_is, run_last}
+use Rattle.rg_call.proofs.Refusing.{run_at, run_is, run_last}
 
 pub answered_for : (plan : Planned) (b : Begun) (left said : Option (List ℕ)) (limit also : Type 0) → (limit → also) → HasAnswered plan b left said limit → HasAnswered plan b left said also
 answered_for plan b left said limit also so h = record { got = h.got; past = h.past; took = h.took; one = h.one; none_past = ⊎_elim (λ none. inl none) (λ is. inr (so is)) h.none_past; put = h.put }
@@ -58,20 +58,20 @@ module _ {H : Type 0} (may : H → Image → Type 0) (clock : H → ℕ) (since 
     left_by not_write (inr stop) = stop
 
     answered_by : ((cause ≡ run.Read) ⊎ (cause ≡ run.Limit) → HasAnswered plan b left (said new) (cause ≡ run.Limit)) → (status ≡ Read) ⊎ (status ≡ Limit) → HasAnswered plan b left (said new) (status ≡ Limit)
-    answered_by answered (inl is) = answered_for plan b left (said new) (cause ≡ run.Limit) (status ≡ Limit) (λ e. run_is b.first cause run.Limit status Limit last (λ h. h.0) ends e) (answered (inl (run_read b.first cause status last ends is)))
-    answered_by answered (inr is) = answered_for plan b left (said new) (cause ≡ run.Limit) (status ≡ Limit) (λ e. is) (answered (inr (run_limit b.first cause status last ends is)))
+    answered_by answered (inl is) = answered_for plan b left (said new) (cause ≡ run.Limit) (status ≡ Limit) (λ e. run_is b.first cause run.Limit status Limit last (λ h. h.0) ends e) (answered (inl (run_at b.first cause status last ends Read is)))
+    answered_by answered (inr is) = answered_for plan b left (said new) (cause ≡ run.Limit) (status ≡ Limit) (λ e. is) (answered (inr (run_at b.first cause status last ends Limit is)))
 
     pub went_err : IsFromIn plan v b.from ⊎ (said new ≡ said old) → OnCourse → IsLeft may said plan b cause old new → ((cause ≡ run.Read) ⊎ (cause ≡ run.Limit) → HasAnswered plan b left (said new) (cause ≡ run.Limit)) →
         (cause ≡ run.SchemaDiffers → ⊥) → ((n : ℕ) → cause ≡ run.BadState n → ⊥) → ((n : ℕ) → cause ≡ run.Gap n → n < b.first) → ((n : ℕ) → cause ≡ run.Gap n → n ≡ next_offset b.held) → Went may clock since said plan b v left ⊥ status last old new
     went_err is_from moments stop answered differs bad behind next = record {
       is_from = is_from;
       moments = moments;
-      finished = λ is. absurd (run_ok b.first cause status last ends is);
+      finished = λ is. absurd (run_at b.first cause status last ends Ok is);
       stopped = λ not_ok not_write. left_by not_write stop;
       answered = λ is. inl (answered_by answered is);
       last_is = run_last b cause status last ends differs bad next;
-      no_gap = λ is. absurd (run_ok b.first cause status last ends is);
-      gap = λ is. let g = run_gap b.first cause status last ends is in omega (arith, behind g.0 g.1, next g.0 g.1);
+      no_gap = λ is. absurd (run_at b.first cause status last ends Ok is);
+      gap = λ is. let g = run_at b.first cause status last ends Gap is in omega (arith, behind g.0 g.1, next g.0 g.1);
     }
 
 -- the line of a refused store
@@ -80,13 +80,13 @@ pub store_line : (plan : Planned) (old new : Option Image) (alone : Type 0) (fir
 store_line plan old new alone first cause status last ends is differs damaged state = ⊎_elim
     (λ other. let h = differs other.0 in inl (other.1, h.0, h.1))
     (λ more. ⊎_elim (λ damage. inr (inl (damage.0, damage.2, damaged damage.0 damage.1))) (λ bad. inr (inr (bad.0, bad.2, state bad.0 bad.1))) more)
-    (run_store first cause status last ends is)
+    (run_at first cause status last ends Store is)
 
 pub never_store : (first : ℕ) (cause : RunFault) (status : Status) (last : List ℕ) → EndsRun first cause status last → status ≡ Store → (cause ≡ run.SchemaDiffers → ⊥) → ((n : ℕ) → cause ≡ run.BadState n → ⊥) → ((p : ℕ) → cause ≡ run.Damaged p → ⊥) → ⊥
 never_store first cause status last ends is differs bad damaged = ⊎_elim
     (λ other. differs other.0)
     (λ more. ⊎_elim (λ damage. damaged damage.0 damage.1) (λ worse. bad worse.0 worse.1) more)
-    (run_store first cause status last ends is)
+    (run_at first cause status last ends Store is)
 
 -- a cause of a read that failed
 pub went_for : {H : Type 0} (may : H → Image → Type 0) (clock : H → ℕ) (since : H → ℕ → Moment → Type 0) (said : H → Option (List ℕ)) (plan : Planned) (b : Begun) (v : Image) (left : Option (List ℕ)) (unread : Type 0) (status : Status) (last : List ℕ) (old new : H) →

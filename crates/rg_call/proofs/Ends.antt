@@ -3,27 +3,30 @@ use Rattle.std.proofs.Common.{◌≡◌, ◌⊎◌, inl, inr, ⊎_elim, ℕ, ◌
 use Rattle.std.specs.Prelude as r
 use Rattle.std.proofs.lemmas.List.{append-nil}
 use Rattle.std.proofs.lemmas.Bool.{lt-ltb, le-ltb}
-use Rattle.std.specs.Prelude.{IfSome}
+use Rattle.std.specs.Prelude.{IfSome, OnOk, OnErr}
 use Rattle.rg_bytes.specs.Counts.{Rose}
 use Rattle.rg_config.specs.Plans.{Planned, Says}
 use Rattle.rg_config.specs.declared.fault.ConfigFault.{ConfigFault}
 use Rattle.rg_config.proofs.Total.{says_something}
 use Rattle.rg_host.specs.Lines.{ended}
 use Rattle.rg_host.specs.Image.{Image}
-use Rattle.rg_host.specs.Puts.{IsPrefix, StopsWith, IsPut}
+use Rattle.rg_host.specs.Moments.{Moment}
+use Rattle.rg_host.specs.Puts.{IsPrefix, Puts, StopsWith, IsPut}
 use Rattle.rg_dump.specs.Dump.{damage_of}
 use Rattle.rg_run.specs.Reading.{IsLonger}
 use Rattle.rg_call.specs.Plan.{IsPlan, IsRefusal}
 use Rattle.rg_listing.specs.Stops.{StopsAt}
 use Rattle.rg_listing.specs.Listing.{check_text}
 use Rattle.rg_listing.proofs.Stopped.{nothing_whole}
-use Rattle.rg_call.specs.Causes.{RefusesStore, RefusesGap}
+use Rattle.rg_call.specs.Causes.{RefusesStore}
 use Rattle.rg_call.specs.Replays.{RefusesReplay}
-use Rattle.rg_call.specs.Verifies.{RefusesVerify}
+use Rattle.rg_call.specs.Verifies.{RefusesVerify, PutsLine}
+use Rattle.rg_call.specs.Done.{Causes}
 use Rattle.rg_report.specs.Statuses.{last_line}
-use Rattle.rg_call.specs.Call.{CarriesRun, IsRun, IsReplay, IsVerify, ReadsPlan, ShowsStore, Told, ToldPlan, plan_text, ForText, refusal_line, refusal_of, line_for, ending_status, ending_line, IsLegalPlan, IsRefusedPlan, IsDamaged, IsUndamaged, IsPossible, status_by, plan_status, store_status, status_for}
+use Rattle.rg_call.specs.Call.{CarriesRun, IsRun, IsReplay, IsVerify, ReadsPlan, ShowsStore, Told, ToldPlan, plan_text, ForText, refusal_line, refusal_of, line_for, ending_status, ending_line, IsLegalPlan, IsRefusedPlan, IsDamaged, IsUndamaged, status_by, plan_status, store_status, status_for, status_after, line_after}
 use Rattle.rg_call.specs.declared.command.Command.{Command}
 use Rattle.rg_call.specs.declared.command.Command.TheVariants.{Run, Replay, Verify, Check, Dump, Info, Trial}
+use Rattle.rg_report.specs.declared.refusal.Refusal.{Refusal}
 use Rattle.rg_report.specs.declared.status.Status.{Status}
 use Rattle.rg_call.specs.declared.ending.Ending.{Ending}
 use Rattle.rg_call.specs.declared.ending.Ending.TheVariants as ends
@@ -202,8 +205,9 @@ status_legal bytes asks says legal = status_within bytes asks legal.1.within ∙
 status_refused : (bytes : List ℕ) (asks : Result Planned ConfigFault) → Says bytes asks → IsRefusedPlan (Some bytes) → plan_status bytes asks ≡ BadPlan
 status_refused bytes asks says refused = status_within bytes asks refused.1.within ∙ ap status_by (one_plan bytes asks (r.Err refused.0) says refused.1.says)
 
--- The causes of the statuses of a call. A, B, C and D say that the counts of plan, input, output and disk rose.
-pub record Causes (command : Option Command) (plan input : Option (List ℕ)) (store : Option Image) (A B C D : Type 0) (status : Status) : Type 0 where
+-- What the causes of the statuses of a call come to, where it is asked only which status it has. A, B, C and D say that the counts of plan, input,
+-- output and disk rose.
+pub record Plainly (command : Option Command) (plan input : Option (List ℕ)) (store : Option Image) (A B C D : Type 0) (status : Status) : Type 0 where
   pub usage_only : status ≡ Usage → command ≡ None
   pub usage_always : command ≡ None → status ≡ Usage
   pub ok_only : status ≡ Ok → (ReadsPlan command → IsLegalPlan plan) × (ShowsStore command → IsUndamaged store)
@@ -240,7 +244,7 @@ module _ (command : Command) (plan : List ℕ) (input : Option (List ℕ)) (stor
     limit_for (inl longer) = status_longer plan asks longer.1
     limit_for (inr longer) = absurd (no_run (inl longer.1) longer.0)
 
-    plan_completes : (status : Status) → Causes (Some command) (Some plan) input store A B C D status → (status ≡ plan_status plan asks) ⊎ (status ≡ Memory)
+    plan_completes : (status : Status) → Plainly (Some command) (Some plan) input store A B C D status → (status ≡ plan_status plan asks) ⊎ (status ≡ Memory)
     plan_completes Ok c = inl (sym (status_legal plan asks says ((c.ok_only refl).0 reads)))
     plan_completes Usage c = absurd (let e : Some command ≡ None = c.usage_only refl in cc)
     plan_completes BadPlan c = inl (sym (status_refused plan asks says (c.plan_only refl).1))
@@ -263,7 +267,7 @@ module _ (command : Command) (plan input : Option (List ℕ)) (image : Image) (A
   no_limit (inl longer) = no_plan longer.0
   no_limit (inr longer) = no_run (inl longer.1)
 
-  store_completes : (A ⊎ B ⊎ C ⊎ D → ⊥) → (status : Status) → Causes (Some command) plan input (Some image) A B C D status → (status ≡ store_status (damage_of (image 2))) ⊎ (status ≡ Memory)
+  store_completes : (A ⊎ B ⊎ C ⊎ D → ⊥) → (status : Status) → Plainly (Some command) plan input (Some image) A B C D status → (status ≡ store_status (damage_of (image 2))) ⊎ (status ≡ Memory)
   store_completes none Ok c = inl (sym (ap store_status ((c.ok_only refl).1 shows image refl)))
   store_completes none Usage c = absurd (let e : Some command ≡ None = c.usage_only refl in cc)
   store_completes none BadPlan c = absurd (no_plan (c.plan_only refl).0)
@@ -282,7 +286,7 @@ module _ (lines seed : ℕ) (plan input : Option (List ℕ)) (store : Option Ima
   never_long (inl longer) = longer.0
   never_long (inr longer) = longer.1
 
-  trial_completes : (A ⊎ B ⊎ C → ⊥) → (status : Status) → Causes (Some (Trial lines seed)) plan input store A B C D status → (status ≡ Ok) ⊎ (status ≡ Memory)
+  trial_completes : (A ⊎ B ⊎ C → ⊥) → (status : Status) → Plainly (Some (Trial lines seed)) plan input store A B C D status → (status ≡ Ok) ⊎ (status ≡ Memory)
   trial_completes none Ok c = inl refl
   trial_completes none Usage c = absurd (let e : Some (Trial lines seed) ≡ None = c.usage_only refl in cc)
   trial_completes none BadPlan c = absurd (c.plan_only refl).0
@@ -307,28 +311,28 @@ four A B C D Shows shows none (inr (inr (inl c))) = none (inr (inr (inl c)))
 four A B C D Shows shows none (inr (inr (inr d))) = none (inr (inr (inr (shows, d))))
 
 -- where no count rose, the status is the one that words, plan and store call for, or Memory
-pub completes : (command : Option Command) (plan input : Option (List ℕ)) (store : Option Image) (A B C D : Type 0) (status : Status) → Causes command plan input store A B C D status → (told : ToldPlan command plan store) → (A ⊎ B ⊎ C ⊎ (ShowsStore command × D) → ⊥) →
+pub completes : (command : Option Command) (plan input : Option (List ℕ)) (store : Option Image) (A B C D : Type 0) (status : Status) → Plainly command plan input store A B C D status → (told : ToldPlan command plan store) → (A ⊎ B ⊎ C ⊎ (ShowsStore command × D) → ⊥) →
     (status ≡ status_for command told.plan_bytes told.asks told.image) ⊎ (status ≡ Memory)
 completes (Some (Run first)) plan input store A B C D status causes told none =
-    let P : Option (List ℕ) → Type 0 = λ v. Causes (Some (Run first)) v input store A B C D status in
+    let P : Option (List ℕ) → Type 0 = λ v. Plainly (Some (Run first)) v input store A B C D status in
     let Q : Option (List ℕ) → Type 0 = λ v. IsLegalPlan v in
     plan_completes (Run first) told.plan_bytes input store told.asks told.says A B C D (three A B C (ShowsStore (Some (Run first)) × D) none) tt (λ shows. shows) (λ over legal. never_legal (Some (Run first)) tt (λ bytes q within. within) plan store (subst Q (sym (told.plan_is tt)) legal) told) status (subst P (told.plan_is tt) causes)
 completes (Some (Replay first)) plan input store A B C D status causes told none =
-    let P : Option (List ℕ) → Type 0 = λ v. Causes (Some (Replay first)) v input store A B C D status in
+    let P : Option (List ℕ) → Type 0 = λ v. Plainly (Some (Replay first)) v input store A B C D status in
     let Q : Option (List ℕ) → Type 0 = λ v. IsLegalPlan v in
     plan_completes (Replay first) told.plan_bytes input store told.asks told.says A B C D (three A B C (ShowsStore (Some (Replay first)) × D) none) tt (λ shows. shows) (λ over legal. never_legal (Some (Replay first)) tt (λ bytes q within. within) plan store (subst Q (sym (told.plan_is tt)) legal) told) status (subst P (told.plan_is tt) causes)
 completes (Some Verify) plan input store A B C D status causes told none =
-    let P : Option (List ℕ) → Type 0 = λ v. Causes (Some Verify) v input store A B C D status in
+    let P : Option (List ℕ) → Type 0 = λ v. Plainly (Some Verify) v input store A B C D status in
     let Q : Option (List ℕ) → Type 0 = λ v. IsLegalPlan v in
     plan_completes Verify told.plan_bytes input store told.asks told.says A B C D (three A B C (ShowsStore (Some Verify) × D) none) tt (λ shows. shows) (λ over legal. never_legal (Some Verify) tt (λ bytes q within. within) plan store (subst Q (sym (told.plan_is tt)) legal) told) status (subst P (told.plan_is tt) causes)
 completes (Some Check) plan input store A B C D status causes told none =
-    let P : Option (List ℕ) → Type 0 = λ v. Causes (Some Check) v input store A B C D status in
+    let P : Option (List ℕ) → Type 0 = λ v. Plainly (Some Check) v input store A B C D status in
     plan_completes Check told.plan_bytes input store told.asks told.says A B C D (three A B C (ShowsStore (Some Check) × D) none) tt (λ shows. shows) (λ over legal. neither over) status (subst P (told.plan_is tt) causes)
 completes (Some Dump) plan input store A B C D status causes told none =
-    let P : Option Image → Type 0 = λ v. Causes (Some Dump) plan input v A B C D status in
+    let P : Option Image → Type 0 = λ v. Plainly (Some Dump) plan input v A B C D status in
     store_completes Dump plan input told.image A B C D tt (λ plan. plan) neither (four A B C D (ShowsStore (Some Dump)) tt none) status (subst P (told.image_is tt) causes)
 completes (Some Info) plan input store A B C D status causes told none =
-    let P : Option Image → Type 0 = λ v. Causes (Some Info) plan input v A B C D status in
+    let P : Option Image → Type 0 = λ v. Plainly (Some Info) plan input v A B C D status in
     store_completes Info plan input told.image A B C D tt (λ plan. plan) neither (four A B C D (ShowsStore (Some Info)) tt none) status (subst P (told.image_is tt) causes)
 completes (Some (Trial lines seed)) plan input store A B C D status causes told none = trial_completes lines seed plan input store A B C D (three A B C (ShowsStore (Some (Trial lines seed)) × D) none) status causes
 completes None plan input store A B C D status causes told none = inl (causes.usage_always refl)
@@ -360,7 +364,7 @@ module _ (first : ℕ) (bytes all : List ℕ) (store : Option Image) (A B C D : 
   not_long (inl longer) = omega (arith, longer.1, says.within)
   not_long (inr longer) = omega (arith, longer.2, within)
 
-  run_by : (status : Status) → (status ≡ Store → ⊥) → Causes (Some (Run first)) (Some bytes) (Some all) store A B C D status → (status ≡ Ok) ⊎ (status ≡ Gap) ⊎ (status ≡ Memory)
+  run_by : (status : Status) → (status ≡ Store → ⊥) → Plainly (Some (Run first)) (Some bytes) (Some all) store A B C D status → (status ≡ Ok) ⊎ (status ≡ Gap) ⊎ (status ≡ Memory)
   run_by Ok no_store c = inl refl
   run_by Usage no_store c = absurd (let e : Some (Run first) ≡ None = c.usage_only refl in cc)
   run_by BadPlan no_store c = absurd (not_refused (c.plan_only refl).1)
@@ -373,12 +377,12 @@ module _ (first : ℕ) (bytes all : List ℕ) (store : Option Image) (A B C D : 
   run_by Gap no_store c = inr (inl refl)
   run_by Differs no_store c = absurd (c.differs_only refl).0
 
-pub run_completes : (command : Option Command) (first : ℕ) → command ≡ Some (Run first) → (plan input : Option (List ℕ)) (store : Option Image) (A B C D : Type 0) (status : Status) → Causes command plan input store A B C D status → (bytes : List ℕ) → plan ≡ Some bytes → (asks : Planned) → IsPlan bytes asks →
+pub run_completes : (command : Option Command) (first : ℕ) → command ≡ Some (Run first) → (plan input : Option (List ℕ)) (store : Option Image) (A B C D : Type 0) (status : Status) → Plainly command plan input store A B C D status → (bytes : List ℕ) → plan ≡ Some bytes → (asks : Planned) → IsPlan bytes asks →
     (all : List ℕ) → input ≡ Some all → length all ≤ 2 ^ 50 → (A ⊎ B ⊎ C ⊎ D → ⊥) → (status ≡ Store → ⊥) → (status ≡ Ok) ⊎ (status ≡ Gap) ⊎ (status ≡ Memory)
 run_completes command first is plan input store A B C D status causes bytes plan_is asks says all input_is within none no_store =
-    let P : Option Command → Type 0 = λ v. Causes v plan input store A B C D status in
-    let Q : Option (List ℕ) → Type 0 = λ v. Causes (Some (Run first)) v input store A B C D status in
-    let R : Option (List ℕ) → Type 0 = λ v. Causes (Some (Run first)) (Some bytes) v store A B C D status in
+    let P : Option Command → Type 0 = λ v. Plainly v plan input store A B C D status in
+    let Q : Option (List ℕ) → Type 0 = λ v. Plainly (Some (Run first)) v input store A B C D status in
+    let R : Option (List ℕ) → Type 0 = λ v. Plainly (Some (Run first)) (Some bytes) v store A B C D status in
     run_by first bytes all store A B C D asks says within none status no_store (subst R input_is (subst Q plan_is (subst P is causes)))
 
 -- the words name a run
@@ -387,30 +391,109 @@ runs command first is = subst (λ v. IsRun v) (sym is) tt
 
 -- what the causes of a call say of its plan
 
-pub store_legal : (command : Option Command) (plan : Option (List ℕ)) (store new : Option Image) (may : Image → Type 0) (alone : Type 0) (Ends : List ℕ → Type 0) →
-    (ShowsStore command × IsDamaged store) ⊎ (IsRun command × ((last : List ℕ) × RefusesStore plan store new alone last × Ends last)) ⊎ (IsReplay command × ((last : List ℕ) × RefusesReplay plan store may last × Ends last))
-    ⊎ (IsVerify command × ((last : List ℕ) × RefusesVerify plan store last × Ends last)) → (ShowsStore command × IsDamaged store) ⊎ (GoesOver command × IsLegalPlan plan)
-store_legal command plan store new may alone Ends (inl shows) = inl shows
-store_legal command plan store new may alone Ends (inr (inl refuses)) = inr (inl refuses.0, legal_of plan refuses.1.1.asks refuses.1.1.legal)
-store_legal command plan store new may alone Ends (inr (inr (inl refuses))) = inr (inr (inl refuses.0), legal_of plan refuses.1.1.asks refuses.1.1.legal)
-store_legal command plan store new may alone Ends (inr (inr (inr refuses))) = inr (inr (inr refuses.0), legal_of plan refuses.1.1.asks refuses.1.1.legal)
+store_legal : (command : Option Command) (plan : Option (List ℕ)) (store new : Option Image) (may : Image → Type 0) (alone : Type 0) (last : List ℕ) →
+    (ShowsStore command × IsDamaged store) ⊎ (IsRun command × RefusesStore plan store new alone last) ⊎ (IsReplay command × RefusesReplay plan store may last) ⊎ (IsVerify command × RefusesVerify plan store last) → (ShowsStore command × IsDamaged store) ⊎ (GoesOver command × IsLegalPlan plan)
+store_legal command plan store new may alone last (inl shows) = inl shows
+store_legal command plan store new may alone last (inr (inl refuses)) = inr (inl refuses.0, legal_of plan refuses.1.asks refuses.1.legal)
+store_legal command plan store new may alone last (inr (inr (inl refuses))) = inr (inr (inl refuses.0), legal_of plan refuses.1.asks refuses.1.legal)
+store_legal command plan store new may alone last (inr (inr (inr refuses))) = inr (inr (inr refuses.0), legal_of plan refuses.1.asks refuses.1.legal)
 
-pub disk_legal : (command : Option Command) (Legal D : Type 0) → (ShowsStore command ⊎ (IsRun command × Legal) ⊎ (IsReplay command × Legal) ⊎ (IsVerify command × Legal)) × D → (ShowsStore command ⊎ (GoesOver command × Legal)) × D
+disk_legal : (command : Option Command) (Legal D : Type 0) → (ShowsStore command ⊎ (IsRun command × Legal) ⊎ (IsReplay command × Legal) ⊎ (IsVerify command × Legal)) × D → (ShowsStore command ⊎ (GoesOver command × Legal)) × D
 disk_legal command Legal D (inl shows, rose) = (inl shows, rose)
 disk_legal command Legal D (inr (inl runs), rose) = (inr (inl runs.0, runs.1), rose)
 disk_legal command Legal D (inr (inr (inl replays)), rose) = (inr (inr (inl replays.0), replays.1), rose)
 disk_legal command Legal D (inr (inr (inr verifies)), rose) = (inr (inr (inr verifies.0), verifies.1), rose)
 
-pub gap_legal : (command : Option Command) (plan : Option (List ℕ)) (old : Option Image) (alone : Type 0) (Ends : List ℕ → Type 0) → (first : ℕ) × (command ≡ Some (Run first)) × ((last : List ℕ) × RefusesGap plan old first alone last × Ends last) → IsRun command × IsLegalPlan plan
-gap_legal command plan old alone Ends refuses = (runs command refuses.0 refuses.1, legal_of plan refuses.2.1.asks refuses.2.1.legal)
-
-pub read_of : (A B C D : Type 0) → A ⊎ (C × D × B) → A ⊎ B
+read_of : (A B C D : Type 0) → A ⊎ (C × D × B) → A ⊎ B
 read_of A B C D (inl a) = inl a
 read_of A B C D (inr b) = inr b.2
 
--- an ending that refuses neither a plan nor a store nor an input has the last line of its status
-pub own_line : (ending : Ending) → (ending_status ending ≡ BadPlan) ⊎ (ending_status ending ≡ Store) ⊎ (ending_status ending ≡ Gap) ⊎ (ending_line ending ≡ last_line (ending_status ending))
+pub plainly : (command : Option Command) (plan input : Option (List ℕ)) (old new : Option Image) (may : Image → Type 0) (alone A B C D : Type 0) (status : Status) (last : List ℕ) (told : Option Refusal) → Causes command plan input old new may alone A B C D status last told → Plainly command plan input old A B C D status
+plainly command plan input old new may alone A B C D status last told c = record {
+  usage_only = c.usage_only;
+  usage_always = c.usage_always;
+  ok_only = λ is. ((c.ok_only is).0, (c.ok_only is).2);
+  plan_only = c.plan_only;
+  store_only = λ is. store_legal command plan old new may alone last (c.store_only is);
+  gap_only = λ is. let gap = c.gap_only is in (runs command gap.0 gap.1, legal_of plan gap.2.asks gap.2.legal);
+  disk_only = λ is. disk_legal command (IsLegalPlan plan) D (c.disk_only is);
+  read_only = λ is. read_of A B (IsLegalPlan plan) (IsRun command) (c.read_only is);
+  write_only = λ is. (c.write_only is).1;
+  limit_only = c.limit_only;
+  differs_only = c.differs_only;
+}
+
+-- a call that refuses neither a plan nor a store nor an input has the last line of its status
+own_line : (ending : Ending) → (ending_status ending ≡ BadPlan) ⊎ (ending_status ending ≡ Store) ⊎ (ending_status ending ≡ Gap) ⊎ (ending_line ending ≡ last_line (ending_status ending))
 own_line (ends.Refused line refusal) = inl refl
 own_line (ends.Store line) = inr (inl refl)
 own_line (ends.Gap line) = inr (inr (inl refl))
 own_line (ends.Failed status) = inr (inr (inr refl))
+
+pub own_after : {A : Type 0} (done : Result A Ending) → (status_after done ≡ BadPlan) ⊎ (status_after done ≡ Store) ⊎ (status_after done ≡ Gap) ⊎ (line_after done ≡ last_line (status_after done))
+own_after (r.Ok value) = inr (inr (inr refl))
+own_after (r.Err ending) = own_line ending
+
+-- a call that came to its end has none
+pub line_ok : {A : Type 0} (done : Result A Ending) → status_after done ≡ Ok → line_after done ≡ []
+line_ok (r.Ok value) is = refl
+line_ok (r.Err (ends.Refused line refusal)) is = absurd (let e : BadPlan ≡ Ok = is in cc)
+line_ok (r.Err (ends.Store line)) is = absurd (let e : Store ≡ Ok = is in cc)
+line_ok (r.Err (ends.Gap line)) is = absurd (let e : Gap ≡ Ok = is in cc)
+line_ok (r.Err (ends.Failed status)) is = ap last_line is
+
+-- the run that the words name
+pub run_named : (command : Option Command) → IsRun command → (first : ℕ) × (command ≡ Some (Run first))
+run_named (Some (Run first)) is = (first, refl)
+run_named (Some (Replay first)) is = absurd is
+run_named (Some Verify) is = absurd is
+run_named (Some Check) is = absurd is
+run_named (Some Dump) is = absurd is
+run_named (Some Info) is = absurd is
+run_named (Some (Trial lines seed)) is = absurd is
+run_named None is = absurd is
+
+-- a run reads its plan
+pub run_reads : (command : Option Command) → IsRun command → ReadsPlan command
+run_reads command is = subst ReadsPlan (sym (run_named command is).1) tt
+
+-- the last line is whole, unless a put failed
+pub whole_put : {H : Type 0} (said : H → Option (List ℕ)) (clock : H → ℕ) (since : H → ℕ → Moment → Type 0) (last : List ℕ) (failed also : Type 0) (mid new : H) → (failed → also) → PutsLine said clock since last failed mid new → Puts said clock since mid new last ⊎ also
+whole_put said clock since last failed also mid new so put = ⊎_elim (λ whole. inl (subst (λ v. Puts said clock since mid new v) whole put.puts)) (λ rose. inr (so rose)) put.whole
+
+-- a refusal of the store, with what its last line says
+pub store_told : (command : Option Command) (plan : Option (List ℕ)) (old mid new : Option Image) (may : Image → Type 0) (alone : Type 0) (last : List ℕ) (Ends : List ℕ → Type 0) → new ≡ mid → Ends last →
+    (ShowsStore command × IsDamaged old) ⊎ (IsRun command × RefusesStore plan old mid alone last) ⊎ (IsReplay command × RefusesReplay plan old may last) ⊎ (IsVerify command × RefusesVerify plan old last) →
+    (ShowsStore command × IsDamaged old) ⊎ (IsRun command × ((last : List ℕ) × RefusesStore plan old new alone last × Ends last)) ⊎ (IsReplay command × ((last : List ℕ) × RefusesReplay plan old may last × Ends last))
+    ⊎ (IsVerify command × ((last : List ℕ) × RefusesVerify plan old last × Ends last))
+store_told command plan old mid new may alone last Ends same ends (inl shows) = inl shows
+store_told command plan old mid new may alone last Ends same ends (inr (inl run)) = inr (inl (run.0, (last, subst (λ v. RefusesStore plan old v alone last) (sym same) run.1, ends)))
+store_told command plan old mid new may alone last Ends same ends (inr (inr (inl replay))) = inr (inr (inl (replay.0, (last, replay.1, ends))))
+store_told command plan old mid new may alone last Ends same ends (inr (inr (inr verify))) = inr (inr (inr (verify.0, (last, verify.1, ends))))
+
+-- causes by counts that rise further
+pub causes_then : (command : Option Command) (plan input : Option (List ℕ)) (old new : Option Image) (may : Image → Type 0) (alone unread misread unput undone failed spoilt : Type 0) (status : Status) (last : List ℕ) (told : Option Refusal) → (unput → failed) → (undone → spoilt) →
+    Causes command plan input old new may alone unread misread unput undone status last told → Causes command plan input old new may alone unread misread failed spoilt status last told
+causes_then command plan input old new may alone unread misread unput undone failed spoilt status last told put disk c = record {
+  usage_only = c.usage_only;
+  usage_always = c.usage_always;
+  ok_only = c.ok_only;
+  plan_only = c.plan_only;
+  fault_told = c.fault_told;
+  store_only = c.store_only;
+  gap_only = c.gap_only;
+  disk_only = λ is. ((c.disk_only is).0, disk (c.disk_only is).1);
+  read_only = c.read_only;
+  write_only = λ is. ((c.write_only is).0, put (c.write_only is).1);
+  limit_only = c.limit_only;
+  differs_only = c.differs_only;
+}
+
+pub no_bytes : (xs : List ℕ) → length xs ≡ 0 → xs ≡ []
+no_bytes [] none = refl
+no_bytes (x ∷ xs) none = absurd (omega (arith, none))
+
+-- what a put of the last line leaves
+pub line_put_by : {H A E : Type 0} (said : H → Option (List ℕ)) (clock : H → ℕ) (since : H → ℕ → Moment → Type 0) (last : List ℕ) (failed : Type 0) (mid new : H) (result : Result A E) → OnOk result (Puts said clock since mid new last) → (part : List ℕ) × IsPrefix part last × Puts said clock since mid new part → OnErr result failed → PutsLine said clock since last failed mid new
+line_put_by said clock since last failed mid new (r.Ok value) all part cause = record { part = last; front = ([], append-nil last); whole = inl refl; puts = all }
+line_put_by said clock since last failed mid new (r.Err error) all part cause = record { part = part.0; front = part.1; whole = inr cause; puts = part.2 }

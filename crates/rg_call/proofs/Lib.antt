@@ -3,9 +3,12 @@ pub mod Plans
 pub mod Ends
 pub mod Refusing
 pub mod LastLines
+pub mod Counting
 pub mod Carrying
 pub mod Telling
 pub mod Worked
+pub mod Unread
+pub mod Done
 pub mod TurnedAway
 pub mod Replaying
 pub mod Verifying

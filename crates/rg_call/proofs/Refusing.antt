@@ -1,6 +1,7 @@
 -- What a refused run, dump or `info` says, and a trial.
 use Rattle.std.proofs.Common.{◌≡◌, ◌⊎◌, inl, inr, ℕ, List, [], Some, Result, refl, ap, sym, ◌∙◌, subst}
 use Rattle.std.specs.Prelude as r
+use Rattle.std.specs.Prelude.{⊤}
 use Rattle.rg_config.specs.Plans.{Planned}
 use Rattle.rg_config.specs.declared.fault.ConfigFault.{ConfigFault}
 use Rattle.rg_config.specs.declared.fault.ConfigFault.TheVariants as config
@@ -19,11 +20,11 @@ use Rattle.rg_run.specs.declared.fault.RunFault.{RunFault}
 use Rattle.rg_run.specs.declared.fault.RunFault.TheVariants as run
 use Rattle.rg_listing.specs.Stops.{StopsAt}
 use Rattle.rg_report.specs.Statuses.{last_line}
-use Rattle.rg_call.specs.Call.{line_for, damage_line, schema_line, state_line, gap_line, EndsDump, EndsInfo, IsInfoAt, EndsRun, IsPossible, ending_status, ending_line}
+use Rattle.rg_call.specs.Call.{line_for, damage_line, schema_line, state_line, gap_line, EndsDump, EndsInfo, IsInfoAt, EndsRun, ending_status, ending_line}
 use Rattle.rg_call.specs.Stored.{IsLastOf}
 use Rattle.rg_call.specs.declared.ending.Ending.{Ending}
 use Rattle.rg_report.specs.declared.status.Status.{Status}
-use Rattle.rg_report.specs.declared.status.Status.TheVariants.{Ok, Usage, Plan as BadPlan, Store, Read, Write, Disk, Limit, Memory, Gap}
+use Rattle.rg_report.specs.declared.status.Status.TheVariants.{Store, Read, Write, Disk, Limit, Memory, Gap}
 use Rattle.rg_listing.proofs.Stopped.{nothing_stops}
 
 -- A dump.
@@ -138,66 +139,6 @@ trial_line status last image asks (inr is) line = line ∙ ap last_line is ∙ a
 
 -- A run.
 
-pub run_read : (first : ℕ) (cause : RunFault) (status : Status) (last : List ℕ) → EndsRun first cause status last → status ≡ Read → cause ≡ run.Read
-run_read first run.Disk status last ends is = absurd (let e : Disk ≡ Read = sym ends.0 ∙ is in cc)
-run_read first (run.Damaged p) status last (inl says) is = absurd (let e : Store ≡ Read = sym says.0 ∙ is in cc)
-run_read first (run.Damaged p) status last (inr fails) is = absurd (let e : Memory ≡ Read = sym fails.0 ∙ is in cc)
-run_read first run.SchemaDiffers status last (inl says) is = absurd (let e : Store ≡ Read = sym says.0 ∙ is in cc)
-run_read first run.SchemaDiffers status last (inr fails) is = absurd (let e : Memory ≡ Read = sym fails.0 ∙ is in cc)
-run_read first (run.BadState n) status last (inl says) is = absurd (let e : Store ≡ Read = sym says.0 ∙ is in cc)
-run_read first (run.BadState n) status last (inr fails) is = absurd (let e : Memory ≡ Read = sym fails.0 ∙ is in cc)
-run_read first (run.Gap n) status last (inl says) is = absurd (let e : Gap ≡ Read = sym says.0 ∙ is in cc)
-run_read first (run.Gap n) status last (inr fails) is = absurd (let e : Memory ≡ Read = sym fails.0 ∙ is in cc)
-run_read first run.Read status last ends is = refl
-run_read first run.Limit status last ends is = absurd (let e : Limit ≡ Read = sym ends.0 ∙ is in cc)
-run_read first run.Memory status last ends is = absurd (let e : Memory ≡ Read = sym ends.0 ∙ is in cc)
-run_read first run.Write status last ends is = absurd (let e : Write ≡ Read = sym ends.0 ∙ is in cc)
-
-pub run_limit : (first : ℕ) (cause : RunFault) (status : Status) (last : List ℕ) → EndsRun first cause status last → status ≡ Limit → cause ≡ run.Limit
-run_limit first run.Disk status last ends is = absurd (let e : Disk ≡ Limit = sym ends.0 ∙ is in cc)
-run_limit first (run.Damaged p) status last (inl says) is = absurd (let e : Store ≡ Limit = sym says.0 ∙ is in cc)
-run_limit first (run.Damaged p) status last (inr fails) is = absurd (let e : Memory ≡ Limit = sym fails.0 ∙ is in cc)
-run_limit first run.SchemaDiffers status last (inl says) is = absurd (let e : Store ≡ Limit = sym says.0 ∙ is in cc)
-run_limit first run.SchemaDiffers status last (inr fails) is = absurd (let e : Memory ≡ Limit = sym fails.0 ∙ is in cc)
-run_limit first (run.BadState n) status last (inl says) is = absurd (let e : Store ≡ Limit = sym says.0 ∙ is in cc)
-run_limit first (run.BadState n) status last (inr fails) is = absurd (let e : Memory ≡ Limit = sym fails.0 ∙ is in cc)
-run_limit first (run.Gap n) status last (inl says) is = absurd (let e : Gap ≡ Limit = sym says.0 ∙ is in cc)
-run_limit first (run.Gap n) status last (inr fails) is = absurd (let e : Memory ≡ Limit = sym fails.0 ∙ is in cc)
-run_limit first run.Read status last ends is = absurd (let e : Read ≡ Limit = sym ends.0 ∙ is in cc)
-run_limit first run.Limit status last ends is = refl
-run_limit first run.Memory status last ends is = absurd (let e : Memory ≡ Limit = sym ends.0 ∙ is in cc)
-run_limit first run.Write status last ends is = absurd (let e : Write ≡ Limit = sym ends.0 ∙ is in cc)
-
-pub run_ok : (first : ℕ) (cause : RunFault) (status : Status) (last : List ℕ) → EndsRun first cause status last → status ≡ Ok → ⊥
-run_ok first run.Disk status last ends is = absurd (let e : Disk ≡ Ok = sym ends.0 ∙ is in cc)
-run_ok first (run.Damaged p) status last (inl says) is = absurd (let e : Store ≡ Ok = sym says.0 ∙ is in cc)
-run_ok first (run.Damaged p) status last (inr fails) is = absurd (let e : Memory ≡ Ok = sym fails.0 ∙ is in cc)
-run_ok first run.SchemaDiffers status last (inl says) is = absurd (let e : Store ≡ Ok = sym says.0 ∙ is in cc)
-run_ok first run.SchemaDiffers status last (inr fails) is = absurd (let e : Memory ≡ Ok = sym fails.0 ∙ is in cc)
-run_ok first (run.BadState n) status last (inl says) is = absurd (let e : Store ≡ Ok = sym says.0 ∙ is in cc)
-run_ok first (run.BadState n) status last (inr fails) is = absurd (let e : Memory ≡ Ok = sym fails.0 ∙ is in cc)
-run_ok first (run.Gap n) status last (inl says) is = absurd (let e : Gap ≡ Ok = sym says.0 ∙ is in cc)
-run_ok first (run.Gap n) status last (inr fails) is = absurd (let e : Memory ≡ Ok = sym fails.0 ∙ is in cc)
-run_ok first run.Read status last ends is = absurd (let e : Read ≡ Ok = sym ends.0 ∙ is in cc)
-run_ok first run.Limit status last ends is = absurd (let e : Limit ≡ Ok = sym ends.0 ∙ is in cc)
-run_ok first run.Memory status last ends is = absurd (let e : Memory ≡ Ok = sym ends.0 ∙ is in cc)
-run_ok first run.Write status last ends is = absurd (let e : Write ≡ Ok = sym ends.0 ∙ is in cc)
-
-pub run_gap : (first : ℕ) (cause : RunFault) (status : Status) (last : List ℕ) → EndsRun first cause status last → status ≡ Gap → (n : ℕ) × (cause ≡ run.Gap n) × (last ≡ gap_line first n)
-run_gap first run.Disk status last ends is = absurd (let e : Disk ≡ Gap = sym ends.0 ∙ is in cc)
-run_gap first (run.Damaged p) status last (inl says) is = absurd (let e : Store ≡ Gap = sym says.0 ∙ is in cc)
-run_gap first (run.Damaged p) status last (inr fails) is = absurd (let e : Memory ≡ Gap = sym fails.0 ∙ is in cc)
-run_gap first run.SchemaDiffers status last (inl says) is = absurd (let e : Store ≡ Gap = sym says.0 ∙ is in cc)
-run_gap first run.SchemaDiffers status last (inr fails) is = absurd (let e : Memory ≡ Gap = sym fails.0 ∙ is in cc)
-run_gap first (run.BadState n) status last (inl says) is = absurd (let e : Store ≡ Gap = sym says.0 ∙ is in cc)
-run_gap first (run.BadState n) status last (inr fails) is = absurd (let e : Memory ≡ Gap = sym fails.0 ∙ is in cc)
-run_gap first (run.Gap n) status last (inl says) is = (n, refl, says.1)
-run_gap first (run.Gap n) status last (inr fails) is = absurd (let e : Memory ≡ Gap = sym fails.0 ∙ is in cc)
-run_gap first run.Read status last ends is = absurd (let e : Read ≡ Gap = sym ends.0 ∙ is in cc)
-run_gap first run.Limit status last ends is = absurd (let e : Limit ≡ Gap = sym ends.0 ∙ is in cc)
-run_gap first run.Memory status last ends is = absurd (let e : Memory ≡ Gap = sym ends.0 ∙ is in cc)
-run_gap first run.Write status last ends is = absurd (let e : Write ≡ Gap = sym ends.0 ∙ is in cc)
-
 -- the cause of a refused store
 abbrev pub IsStoreFault : RunFault → List ℕ → Type 0
 IsStoreFault cause last =
@@ -205,24 +146,35 @@ IsStoreFault cause last =
     ⊎ ((p : ℕ) × (cause ≡ run.Damaged p) × (last ≡ damage_line (Some p)))
     ⊎ ((n : ℕ) × (cause ≡ run.BadState n) × (last ≡ state_line n))
 
-pub run_store : (first : ℕ) (cause : RunFault) (status : Status) (last : List ℕ) → EndsRun first cause status last → status ≡ Store → IsStoreFault cause last
-run_store first run.Disk status last ends is = absurd (let e : Disk ≡ Store = sym ends.0 ∙ is in cc)
-run_store first (run.Damaged p) status last (inl says) is = inr (inl (p, refl, says.1))
-run_store first (run.Damaged p) status last (inr fails) is = absurd (let e : Memory ≡ Store = sym fails.0 ∙ is in cc)
-run_store first run.SchemaDiffers status last (inl says) is = inl (refl, says.1)
-run_store first run.SchemaDiffers status last (inr fails) is = absurd (let e : Memory ≡ Store = sym fails.0 ∙ is in cc)
-run_store first (run.BadState n) status last (inl says) is = inr (inr (n, refl, says.1))
-run_store first (run.BadState n) status last (inr fails) is = absurd (let e : Memory ≡ Store = sym fails.0 ∙ is in cc)
-run_store first (run.Gap n) status last (inl says) is = absurd (let e : Gap ≡ Store = sym says.0 ∙ is in cc)
-run_store first (run.Gap n) status last (inr fails) is = absurd (let e : Memory ≡ Store = sym fails.0 ∙ is in cc)
-run_store first run.Read status last ends is = absurd (let e : Read ≡ Store = sym ends.0 ∙ is in cc)
-run_store first run.Limit status last ends is = absurd (let e : Limit ≡ Store = sym ends.0 ∙ is in cc)
-run_store first run.Memory status last ends is = absurd (let e : Memory ≡ Store = sym ends.0 ∙ is in cc)
-run_store first run.Write status last ends is = absurd (let e : Write ≡ Store = sym ends.0 ∙ is in cc)
+-- what a status says of the fault that a run ended at, and of the last line
+abbrev pub SaysFault : ℕ → RunFault → List ℕ → Status → Type 0
+SaysFault first cause last Store = IsStoreFault cause last
+SaysFault first cause last Read = cause ≡ run.Read
+SaysFault first cause last Write = cause ≡ run.Write
+SaysFault first cause last Disk = cause ≡ run.Disk
+SaysFault first cause last Limit = cause ≡ run.Limit
+SaysFault first cause last Memory = ⊤
+SaysFault first cause last Gap = (n : ℕ) × (cause ≡ run.Gap n) × (last ≡ gap_line first n)
+SaysFault first cause last other = ⊥
 
--- the statuses of a run that ends early
-abbrev pub IsRunStatus : Status → Type 0
-IsRunStatus status = (status ≡ Store) ⊎ (status ≡ Gap) ⊎ (status ≡ Disk) ⊎ (status ≡ Read) ⊎ (status ≡ Limit) ⊎ (status ≡ Memory) ⊎ (status ≡ Write)
+says_fault : (first : ℕ) (cause : RunFault) (status : Status) (last : List ℕ) → EndsRun first cause status last → SaysFault first cause last status
+says_fault first run.Disk status last ends = subst (SaysFault first run.Disk last) (sym ends.0) refl
+says_fault first (run.Damaged p) status last (inl says) = subst (SaysFault first (run.Damaged p) last) (sym says.0) (inr (inl (p, refl, says.1)))
+says_fault first (run.Damaged p) status last (inr fails) = subst (SaysFault first (run.Damaged p) last) (sym fails.0) tt
+says_fault first run.SchemaDiffers status last (inl says) = subst (SaysFault first run.SchemaDiffers last) (sym says.0) (inl (refl, says.1))
+says_fault first run.SchemaDiffers status last (inr fails) = subst (SaysFault first run.SchemaDiffers last) (sym fails.0) tt
+says_fault first (run.BadState n) status last (inl says) = subst (SaysFault first (run.BadState n) last) (sym says.0) (inr (inr (n, refl, says.1)))
+says_fault first (run.BadState n) status last (inr fails) = subst (SaysFault first (run.BadState n) last) (sym fails.0) tt
+says_fault first (run.Gap n) status last (inl says) = subst (SaysFault first (run.Gap n) last) (sym says.0) (n, refl, says.1)
+says_fault first (run.Gap n) status last (inr fails) = subst (SaysFault first (run.Gap n) last) (sym fails.0) tt
+says_fault first run.Read status last ends = subst (SaysFault first run.Read last) (sym ends.0) refl
+says_fault first run.Limit status last ends = subst (SaysFault first run.Limit last) (sym ends.0) refl
+says_fault first run.Memory status last ends = subst (SaysFault first run.Memory last) (sym ends.0) tt
+says_fault first run.Write status last ends = subst (SaysFault first run.Write last) (sym ends.0) refl
+
+-- at a status that is known
+pub run_at : (first : ℕ) (cause : RunFault) (status : Status) (last : List ℕ) → EndsRun first cause status last → (known : Status) → status ≡ known → SaysFault first cause last known
+run_at first cause status last ends known is = subst (SaysFault first cause last) is (says_fault first cause status last ends)
 
 -- a status of its own
 pub run_is : (first : ℕ) (cause other : RunFault) (status wanted : Status) (last : List ℕ) → (EndsRun first other status last → status ≡ wanted) → EndsRun first cause status last → cause ≡ other → status ≡ wanted
@@ -246,62 +198,3 @@ run_last b run.Read status last ends differs bad gap = last_at b status Read las
 run_last b run.Limit status last ends differs bad gap = last_at b status Limit last ends.0 ends.1
 run_last b run.Memory status last ends differs bad gap = last_at b status Memory last ends.0 ends.1
 run_last b run.Write status last ends differs bad gap = last_at b status Write last ends.0 ends.1
-
--- Statuses that end a call early.
-
-abbrev pub IsEarly : Status → Type 0
-IsEarly status = IsPossible status × (status ≡ Ok → ⊥) × (status ≡ Usage → ⊥)
-
-early_at : (status : Status) → IsEarly status → (other : Status) → other ≡ status → IsEarly other
-early_at status early other is = subst IsEarly (sym is) early
-
-pub run_early : (status : Status) → IsRunStatus status → IsEarly status
-run_early status (inl is) = early_at Store (tt, (λ e. absurd (cc e)), (λ e. absurd (cc e))) status is
-run_early status (inr (inl is)) = early_at Gap (tt, (λ e. absurd (cc e)), (λ e. absurd (cc e))) status is
-run_early status (inr (inr (inl is))) = early_at Disk (tt, (λ e. absurd (cc e)), (λ e. absurd (cc e))) status is
-run_early status (inr (inr (inr (inl is)))) = early_at Read (tt, (λ e. absurd (cc e)), (λ e. absurd (cc e))) status is
-run_early status (inr (inr (inr (inr (inl is))))) = early_at Limit (tt, (λ e. absurd (cc e)), (λ e. absurd (cc e))) status is
-run_early status (inr (inr (inr (inr (inr (inl is)))))) = early_at Memory (tt, (λ e. absurd (cc e)), (λ e. absurd (cc e))) status is
-run_early status (inr (inr (inr (inr (inr (inr is)))))) = early_at Write (tt, (λ e. absurd (cc e)), (λ e. absurd (cc e))) status is
-
--- of a plan that was not read
-pub load_early : (status : Status) → (status ≡ BadPlan) ⊎ (status ≡ Read) ⊎ (status ≡ Limit) ⊎ (status ≡ Memory) → IsEarly status
-load_early status (inl is) = early_at BadPlan (tt, (λ e. absurd (cc e)), (λ e. absurd (cc e))) status is
-load_early status (inr (inl is)) = early_at Read (tt, (λ e. absurd (cc e)), (λ e. absurd (cc e))) status is
-load_early status (inr (inr (inl is))) = early_at Limit (tt, (λ e. absurd (cc e)), (λ e. absurd (cc e))) status is
-load_early status (inr (inr (inr is))) = early_at Memory (tt, (λ e. absurd (cc e)), (λ e. absurd (cc e))) status is
-
--- of a check
-
-pub load_no_store : (status : Status) → (status ≡ BadPlan) ⊎ (status ≡ Read) ⊎ (status ≡ Limit) ⊎ (status ≡ Memory) → status ≡ Store → ⊥
-load_no_store status (inl is) other = absurd (let e : BadPlan ≡ Store = sym is ∙ other in cc)
-load_no_store status (inr (inl is)) other = absurd (let e : Read ≡ Store = sym is ∙ other in cc)
-load_no_store status (inr (inr (inl is))) other = absurd (let e : Limit ≡ Store = sym is ∙ other in cc)
-load_no_store status (inr (inr (inr is))) other = absurd (let e : Memory ≡ Store = sym is ∙ other in cc)
-
-pub load_no_gap : (status : Status) → (status ≡ BadPlan) ⊎ (status ≡ Read) ⊎ (status ≡ Limit) ⊎ (status ≡ Memory) → status ≡ Gap → ⊥
-load_no_gap status (inl is) other = absurd (let e : BadPlan ≡ Gap = sym is ∙ other in cc)
-load_no_gap status (inr (inl is)) other = absurd (let e : Read ≡ Gap = sym is ∙ other in cc)
-load_no_gap status (inr (inr (inl is))) other = absurd (let e : Limit ≡ Gap = sym is ∙ other in cc)
-load_no_gap status (inr (inr (inr is))) other = absurd (let e : Memory ≡ Gap = sym is ∙ other in cc)
-
-pub load_no_disk : (status : Status) → (status ≡ BadPlan) ⊎ (status ≡ Read) ⊎ (status ≡ Limit) ⊎ (status ≡ Memory) → status ≡ Disk → ⊥
-load_no_disk status (inl is) other = absurd (let e : BadPlan ≡ Disk = sym is ∙ other in cc)
-load_no_disk status (inr (inl is)) other = absurd (let e : Read ≡ Disk = sym is ∙ other in cc)
-load_no_disk status (inr (inr (inl is))) other = absurd (let e : Limit ≡ Disk = sym is ∙ other in cc)
-load_no_disk status (inr (inr (inr is))) other = absurd (let e : Memory ≡ Disk = sym is ∙ other in cc)
-
-pub load_no_write : (status : Status) → (status ≡ BadPlan) ⊎ (status ≡ Read) ⊎ (status ≡ Limit) ⊎ (status ≡ Memory) → status ≡ Write → ⊥
-load_no_write status (inl is) other = absurd (let e : BadPlan ≡ Write = sym is ∙ other in cc)
-load_no_write status (inr (inl is)) other = absurd (let e : Read ≡ Write = sym is ∙ other in cc)
-load_no_write status (inr (inr (inl is))) other = absurd (let e : Limit ≡ Write = sym is ∙ other in cc)
-load_no_write status (inr (inr (inr is))) other = absurd (let e : Memory ≡ Write = sym is ∙ other in cc)
-
-pub run_no_plan : (status : Status) → IsRunStatus status → status ≡ BadPlan → ⊥
-run_no_plan status (inl is) other = absurd (let e : Store ≡ BadPlan = sym is ∙ other in cc)
-run_no_plan status (inr (inl is)) other = absurd (let e : Gap ≡ BadPlan = sym is ∙ other in cc)
-run_no_plan status (inr (inr (inl is))) other = absurd (let e : Disk ≡ BadPlan = sym is ∙ other in cc)
-run_no_plan status (inr (inr (inr (inl is)))) other = absurd (let e : Read ≡ BadPlan = sym is ∙ other in cc)
-run_no_plan status (inr (inr (inr (inr (inl is))))) other = absurd (let e : Limit ≡ BadPlan = sym is ∙ other in cc)
-run_no_plan status (inr (inr (inr (inr (inr (inl is)))))) other = absurd (let e : Memory ≡ BadPlan = sym is ∙ other in cc)
-run_no_plan status (inr (inr (inr (inr (inr (inr is)))))) other = absurd (let e : Write ≡ BadPlan = sym is ∙ other in cc)

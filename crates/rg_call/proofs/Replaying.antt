@@ -5,7 +5,6 @@ use Rattle.std.specs.Prelude.{IfSome}
 use Rattle.std.specs.Option.{ForSome}
 use Rattle.std.proofs.lemmas.List.{append-nil}
 use Rattle.rg_bytes.specs.Counts.{Rose}
-use Rattle.rg_event.specs.declared.event.Event.{Event}
 use Rattle.rg_log.specs.Log.{schema_payload}
 use Rattle.rg_plan.specs.Plans.{Tasks, plan_for}
 use Rattle.rg_engine.specs.Feeding.{Serves}
@@ -13,7 +12,7 @@ use Rattle.rg_config.specs.Plans.{Planned}
 use Rattle.rg_host.specs.Image.{Image}
 use Rattle.rg_host.specs.Lines.{ended}
 use Rattle.rg_host.specs.Moments.{Moment}
-use Rattle.rg_host.specs.Puts.{IsPrefix, IsPut, Puts, StopsWith}
+use Rattle.rg_host.specs.Puts.{IsPrefix, Puts, StopsWith}
 use Rattle.rg_host.proofs.PutRuns.{puts-then}
 use Rattle.rg_listing.specs.Stops.{StopsAt}
 use Rattle.rg_listing.proofs.Stopped.{nothing_stops}
@@ -33,7 +32,7 @@ use Rattle.rg_report.specs.Statuses.{last_line}
 use Rattle.rg_report.specs.declared.status.Status.{Status}
 use Rattle.rg_report.specs.declared.status.Status.TheVariants.{Ok, Usage, Plan as BadPlan, Store, Read, Write, Disk, Limit, Memory, Gap, Differs}
 use Rattle.rg_call.specs.Plan.{IsPlan}
-use Rattle.rg_call.specs.Call.{IsRun, IsReplay, IsVerify, ReadsPlan, ShowsStore, IsRefusedPlan, IsLegalPlan, IsDamaged, IsPossible, damage_line, schema_line, state_line, Fails}
+use Rattle.rg_call.specs.Call.{IsRun, IsReplay, IsVerify, ReadsPlan, ShowsStore, IsRefusedPlan, damage_line, schema_line, state_line, Fails}
 use Rattle.rg_call.specs.TurnedAway.{EndsFailed}
 use Rattle.rg_call.specs.Replays.{IsReadyReplay, ToldReplay, text_of_replay, EndsReplay, IsReplayLine, IsReplayRefusal, RefusesReplay, IsReplayStatus, IsReplayEnd, Replayed, ReplaysNothing, PutsReplay, PutsRefusal}
 use Rattle.rg_call.specs.declared.command.Command.{Command}
@@ -304,19 +303,6 @@ module _ {H : Type 0} (said : H → Option (List ℕ)) (clock : H → ℕ) (sinc
     refuses_so some (inr rose) = refuses_part some.0 some.1 (inr rose) some.2
 
 -- The statuses of a replay whose plan was read.
-abbrev IsEarly : Status → Type 0
-IsEarly status = IsPossible status × (status ≡ Ok → ⊥) × (status ≡ Usage → ⊥)
-
-early_at : (status other : Status) → IsEarly status → other ≡ status → IsEarly other
-early_at status other early is = subst IsEarly (sym is) early
-
-pub replay_early : (status : Status) → (status ≡ Ok → ⊥) → IsReplayStatus status → IsEarly status
-replay_early status not_ok (inl is) = absurd (not_ok is)
-replay_early status not_ok (inr (inl is)) = early_at Store status (tt, (λ e. absurd (cc e)), (λ e. absurd (cc e))) is
-replay_early status not_ok (inr (inr (inl is))) = early_at Disk status (tt, (λ e. absurd (cc e)), (λ e. absurd (cc e))) is
-replay_early status not_ok (inr (inr (inr (inl is)))) = early_at Memory status (tt, (λ e. absurd (cc e)), (λ e. absurd (cc e))) is
-replay_early status not_ok (inr (inr (inr (inr is)))) = early_at Write status (tt, (λ e. absurd (cc e)), (λ e. absurd (cc e))) is
-
 module _ (other : Status) (not_ok : Ok ≡ other → ⊥) (not_store : Store ≡ other → ⊥) (not_disk : Disk ≡ other → ⊥) (not_memory : Memory ≡ other → ⊥) (not_write : Write ≡ other → ⊥) where
   never : (status : Status) → IsReplayStatus status → status ≡ other → ⊥
   never status (inl is) = other_than status Ok other is not_ok
@@ -333,6 +319,12 @@ never_read = never Read (λ e. absurd (cc e)) (λ e. absurd (cc e)) (λ e. absur
 
 pub never_limit : (status : Status) → IsReplayStatus status → status ≡ Limit → ⊥
 never_limit = never Limit (λ e. absurd (cc e)) (λ e. absurd (cc e)) (λ e. absurd (cc e)) (λ e. absurd (cc e)) (λ e. absurd (cc e))
+
+pub never_usage : (status : Status) → IsReplayStatus status → status ≡ Usage → ⊥
+never_usage = never Usage (λ e. absurd (cc e)) (λ e. absurd (cc e)) (λ e. absurd (cc e)) (λ e. absurd (cc e)) (λ e. absurd (cc e))
+
+pub never_differs : (status : Status) → IsReplayStatus status → status ≡ Differs → ⊥
+never_differs = never Differs (λ e. absurd (cc e)) (λ e. absurd (cc e)) (λ e. absurd (cc e)) (λ e. absurd (cc e)) (λ e. absurd (cc e))
 
 pub never_gap : (status : Status) → IsReplayStatus status → status ≡ Gap → ⊥
 never_gap = never Gap (λ e. absurd (cc e)) (λ e. absurd (cc e)) (λ e. absurd (cc e)) (λ e. absurd (cc e)) (λ e. absurd (cc e))
@@ -384,9 +376,16 @@ plan_long command replays plan input bytes is Legal within (inl longer) =
     omega (arith, long, within)
 plan_long command replays plan input bytes is Legal within (inr longer) = no_run command replays longer.1
 
--- the command that the words name, as a replay
-pub replays_as : (given : Option Command) (command : Command) → given ≡ Some command → IsReplay given → IsReplay (Some command)
-replays_as given command is replays = subst IsReplay is replays
+-- the replay that the words name
+pub replay_named : (command : Option Command) → IsReplay command → (first : ℕ) × (command ≡ Some (Replay first))
+replay_named (Some (Run first)) is = absurd is
+replay_named (Some (Replay first)) is = (first, refl)
+replay_named (Some Verify) is = absurd is
+replay_named (Some Check) is = absurd is
+replay_named (Some Dump) is = absurd is
+replay_named (Some Info) is = absurd is
+replay_named (Some (Trial lines seed)) is = absurd is
+replay_named None is = absurd is
 
 -- the store's refusal is that of a replay
 pub refusal_of : (command : Option Command) (Shows Runs Replays Verifies : Type 0) → IsReplay command → (ShowsStore command × Shows) ⊎ (IsRun command × Runs) ⊎ (IsReplay command × Replays) ⊎ (IsVerify command × Verifies) → Replays

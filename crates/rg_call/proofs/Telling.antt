@@ -31,10 +31,10 @@ use Rattle.rg_course.proofs.Whole.{may_leave, out_again}
 use Rattle.rg_open.specs.Stores.{store_of}
 use Rattle.rg_open.specs.Truth.{IsTruthfulImage}
 use Rattle.rg_open.specs.Opening.{IsFromIn}
-use Rattle.rg_live.specs.Ran.{HasStopped}
+use Rattle.rg_recover.specs.Ran.{HasStopped}
 use Rattle.rg_task.specs.Terms.{terms_of}
 use Rattle.rg_run.specs.Begun.{Begun, course_for, lines_in}
-use Rattle.rg_live.specs.Ran.{IsUnopened}
+use Rattle.rg_recover.specs.Ran.{IsUnopened}
 use Rattle.rg_report.specs.Statuses.{last_line}
 use Rattle.rg_call.specs.Stored.{Went, IsLastOf, IsToldFrom, IsComplete, EndsWhole, EndsAnswered, IsAtMostOneAhead, HasLastSaved, Resumes}
 use Rattle.rg_report.specs.declared.status.Status.{Status}
@@ -201,7 +201,7 @@ module _ {H : Type 0} (now : H → Option Image) (may : H → Image → Type 0) 
     pub told_from : IsToldFrom plan v b last (said new)
     told_from = ⊎_elim (λ is. inl is) (λ same. inr (part, front, puts.grows ∙ ap (λ t. after t part) (same ∙ told))) went.is_from
 
-    ends_at : (is : (status ≡ Read) ⊎ (status ≡ Limit)) → last ≡ last_line status
+    pub ends_at : (is : (status ≡ Read) ⊎ (status ≡ Limit)) → last ≡ last_line status
     ends_at (inl is) = quiet_at b status Read last is went.last_is ∙ ap last_line (sym is)
     ends_at (inr is) = quiet_at b status Limit last is went.last_is ∙ ap last_line (sym is)
 

@@ -18,8 +18,8 @@ use Rattle.rg_open.specs.Stores.{Has, HasSaved}
 use Rattle.rg_config.specs.Plans.{Planned}
 use Rattle.rg_open.specs.Unfit.{IsLeftAlone}
 use Rattle.rg_open.specs.Within.{IsAsRead, IsInOpening, IsWithinOpening}
-use Rattle.rg_live.specs.Ready.{IsReadyRun}
-use Rattle.rg_live.specs.Faults.{SaysWhy, IsGapOrFailed}
+use Rattle.rg_recover.specs.Ready.{IsReadyRun}
+use Rattle.rg_recover.specs.RunFaults.{SaysWhy, IsGapOrFailed}
 use Rattle.rg_run.specs.Reading.{IsLonger}
 use Rattle.rg_run.specs.declared.fault.RunFault.{RunFault}
 use Rattle.rg_run.specs.declared.fault.RunFault.TheVariants as run

@@ -1,5 +1,5 @@
 -- How a verify goes and ends.
-use Rattle.std.proofs.Common.{◌≡◌, ◌⊎◌, inl, inr, ⊎_elim, ℕ, ◌<◌, ◌≤◌, ◌^◌, true, false, List, [], ◌++◌, length, Option, Some, None, refl, ap, sym, ◌∙◌, subst, arith}
+use Rattle.std.proofs.Common.{◌≡◌, ◌⊎◌, inl, inr, ℕ, ◌<◌, ◌≤◌, ◌^◌, true, false, List, [], length, Option, Some, None, refl, ap, sym, ◌∙◌, subst, arith}
 use Rattle.std.specs.Prelude as r
 use Rattle.std.specs.Prelude.{IfSome}
 use Rattle.std.specs.Option.{ForSome}
@@ -30,7 +30,7 @@ use Rattle.rg_report.specs.declared.status.Status.TheVariants.{Ok, Usage, Plan a
 use Rattle.rg_call.specs.Plan.{IsPlan}
 use Rattle.rg_call.specs.Call.{IsRun, IsReplay, IsVerify, ReadsPlan, ShowsStore, IsRefusedPlan, damage_line, schema_line, Fails}
 use Rattle.rg_call.specs.TurnedAway.{EndsFailed}
-use Rattle.rg_call.specs.Verifies.{terms_for, IsReadyVerify, ToldVerify, EndsVerify, IsWhole, IsVerifyLine, IsVerifyLast, IsVerifyRefusal, RefusesVerify, IsRefusedStore, IsVerifyStatus, IsVerifyEnd, is_differs, Verified, IsSilent, PutsLine}
+use Rattle.rg_call.specs.Verifies.{terms_for, IsReadyVerify, ToldVerify, EndsVerify, IsWhole, IsVerifyLine, IsVerifyLast, RefusesVerify, IsRefusedStore, IsVerifyStatus, IsVerifyEnd, Verified, IsSilent, PutsLine}
 use Rattle.rg_call.specs.declared.command.Command.{Command}
 use Rattle.rg_call.specs.declared.command.Command.TheVariants.{Run, Replay, Verify, Check, Dump, Info, Trial}
 use Rattle.rg_call.proofs.Plans.{one_plan}
@@ -282,13 +282,6 @@ never_gap = never Gap (λ e. absurd (cc e)) (λ e. absurd (cc e)) (λ e. absurd 
 pub never_usage : (status : Status) → IsVerifyStatus status → status ≡ Usage → ⊥
 never_usage = never Usage (λ e. absurd (cc e)) (λ e. absurd (cc e)) (λ e. absurd (cc e)) (λ e. absurd (cc e)) (λ e. absurd (cc e)) (λ e. absurd (cc e))
 
--- of a plan that was not read
-pub load_not_whole : (status : Status) → (status ≡ BadPlan) ⊎ (status ≡ Read) ⊎ (status ≡ Limit) ⊎ (status ≡ Memory) → IsWhole status → ⊥
-load_not_whole status (inl is) = never_whole status BadPlan is (λ e. absurd (cc e)) (λ e. absurd (cc e))
-load_not_whole status (inr (inl is)) = never_whole status Read is (λ e. absurd (cc e)) (λ e. absurd (cc e))
-load_not_whole status (inr (inr (inl is))) = never_whole status Limit is (λ e. absurd (cc e)) (λ e. absurd (cc e))
-load_not_whole status (inr (inr (inr is))) = never_whole status Memory is (λ e. absurd (cc e)) (λ e. absurd (cc e))
-
 -- The words name a verify: no other command.
 
 pub no_shows : (command : Option Command) → IsVerify command → ShowsStore command → ⊥
@@ -326,13 +319,6 @@ named command is none = subst IsVerify none is
 
 pub no_gap : (command : Option Command) → IsVerify command → (first : ℕ) → command ≡ Some (Run first) → ⊥
 no_gap command verifies first is = subst IsVerify is verifies
-
--- the command that the words name, as a verify
-pub verifies_as : (given : Option Command) (command : Command) → given ≡ Some command → IsVerify given → IsVerify (Some command)
-verifies_as given command is verifies = subst IsVerify is verifies
-
-pub verifies_back : (given : Option Command) (command : Command) → given ≡ Some command → IsVerify (Some command) → IsVerify given
-verifies_back given command is verifies = subst IsVerify (sym is) verifies
 
 -- where it was too long, the plan was
 pub plan_long : (command : Option Command) → IsVerify command → (plan input : Option (List ℕ)) (bytes : List ℕ) → plan ≡ Some bytes → (Legal : Type 0) → length bytes ≤ 65536 →

@@ -27,7 +27,7 @@ use Rattle.rg_report.specs.declared.refusal.Refusal.{Refusal}
 use Rattle.rg_call.specs.declared.ending.Ending.TheVariants as ending
 use Rattle.rg_listing.specs.Listing.{check_text}
 use Rattle.rg_report.specs.declared.status.Status.{Status}
-use Rattle.rg_report.specs.declared.status.Status.TheVariants.{Ok, Usage, Plan as BadPlan, Store, Read, Write, Disk, Limit, Memory, Gap, Differs}
+use Rattle.rg_report.specs.declared.status.Status.TheVariants.{Ok, Usage, Plan as BadPlan, Store, Read, Write, Disk, Limit, Memory, Gap}
 
 -- the command, where the word names it
 abbrev pub when : Bool → Command → Option Command
@@ -52,8 +52,7 @@ run_at None = None
 -- a trial on so many lines of a seed, where both are numbers and there are at most 200,000 lines
 abbrev pub trial_at : Option ℕ → Option ℕ → Option Command
 trial_at (Some lines) (Some seed) = if nat_le lines 200000 then Some (Trial lines seed) else None
-trial_at (Some lines) None = None
-trial_at None seed = None
+trial_at lines seed = None
 
 -- the same, where the word names a trial
 abbrev pub when_trial : Bool → Option ℕ → Option ℕ → Option Command
@@ -96,74 +95,126 @@ command_of (command ∷ (second ∷ (third ∷ []))) = with_two (bytes_eq (strin
 command_of (command ∷ (plan ∷ (store ∷ (first ∷ [])))) = with_first (bytes_eq (string_bytes command) (codes "run")) (bytes_eq (string_bytes command) (codes "replay")) (whole_of (string_bytes first))
 command_of (command ∷ (plan ∷ (store ∷ (first ∷ (more ∷ words))))) = None
 
+-- The plan's bytes are no longer than they may be, and say a plan.
+abbrev pub IsCarried : List ℕ → Result Planned ConfigFault → Type 0
+IsCarried bytes (r.Ok plan) = length bytes ≤ 65536
+IsCarried bytes (r.Err refusal) = ⊥
+
+-- all lines that a check puts for what the plan's bytes say
+abbrev pub plan_text : Result Planned ConfigFault → List (List ℕ)
+plan_text (r.Ok plan) = check_text plan
+plan_text (r.Err refusal) = []
+
+-- Lines that are put once all was read stand before the last line of this status: at Ok, and where a put failed.
+abbrev pub puts_lines : Status → Bool
+puts_lines Ok = true
+puts_lines Write = true
+puts_lines other = false
+
+-- the text is one of which P holds where lines are put, and else there is none
+abbrev pub IsPutOf : Bool → (List (List ℕ) → Type 0) → List (List ℕ) → Type 0
+IsPutOf true P text = P text
+IsPutOf false P text = text ≡ []
+
+-- the lines that `info` puts of the store of that image
+abbrev pub IsInfoAt : Status → Image → List (List ℕ) → Type 0
+IsInfoAt status image text = IsPutOf (puts_lines status) (λ lines. IsInfo image lines) text
+
+-- the lines that a trial on so many lines of a seed puts: the four of its numbers
+abbrev pub IsTrialAt : Status → ℕ → ℕ → List (List ℕ) → Type 0
+IsTrialAt status lines seed text = IsPutOf (puts_lines status) (λ four. (counted : Counted) × IsTrial seed lines counted × (four ≡ trial_lines counted)) text
+
+-- the status of what the plan's bytes say
+abbrev pub status_by : Result Planned ConfigFault → Status
+status_by (r.Err refusal) = BadPlan
+status_by (r.Ok plan) = Ok
+
+-- the same, where the plan may be too long
+abbrev pub plan_status : List ℕ → Result Planned ConfigFault → Status
+plan_status plan asks = if nat_lt 65536 (length plan) then Limit else status_by asks
+
+-- the status of a command that puts what the store has, by the place where the log is damaged
+abbrev pub store_status : Option ℕ → Status
+store_status None = Ok
+store_status (Some place) = Store
+
+-- What the words ask for. `text` and `status` are of a call which carries out no run, replay or verify; `before_damage` are the lines that are
+-- put of a damaged log, before the line that says the place.
+pub record Form : Type 1 where
+  pub runs : Type 0
+  pub replays : Type 0
+  pub verifies : Type 0
+  pub reads_plan : Type 0
+  pub shows_store : Type 0
+  pub carries : List ℕ → Result Planned ConfigFault → Type 0
+  pub text : Status → Result Planned ConfigFault → Image → List (List ℕ) → Type 0
+  pub before_damage : Image → List (List ℕ)
+  pub status : List ℕ → Result Planned ConfigFault → Image → Status
+
+-- a form by its fields, in their order
+abbrev pub form : Type 0 → Type 0 → Type 0 → Type 0 → Type 0 → (List ℕ → Result Planned ConfigFault → Type 0) → (Status → Result Planned ConfigFault → Image → List (List ℕ) → Type 0) → (Image → List (List ℕ)) → (List ℕ → Result Planned ConfigFault → Image → Status) → Form
+form runs replays verifies reads_plan shows_store carries text before_damage status = record {
+  runs = runs;
+  replays = replays;
+  verifies = verifies;
+  reads_plan = reads_plan;
+  shows_store = shows_store;
+  carries = carries;
+  text = text;
+  before_damage = before_damage;
+  status = status;
+}
+
+abbrev pub never_carried : List ℕ → Result Planned ConfigFault → Type 0
+never_carried bytes asks = ⊥
+
+abbrev pub no_text : Status → Result Planned ConfigFault → Image → List (List ℕ) → Type 0
+no_text status asks image text = text ≡ []
+
+abbrev pub no_lines : Image → List (List ℕ)
+no_lines image = []
+
+abbrev pub by_plan : List ℕ → Result Planned ConfigFault → Image → Status
+by_plan plan asks image = plan_status plan asks
+
+abbrev pub by_store : List ℕ → Result Planned ConfigFault → Image → Status
+by_store plan asks image = store_status (damage_of (image 2))
+
+-- what each command does, a row each: whether it runs, replays, verifies, reads its plan and shows the store; and then whether its plan is
+-- carried out over the store, its text, the lines before a damage, and its status
+abbrev pub form_of : Option Command → Form
+form_of (Some (Run first)) = form ⊤ ⊥ ⊥ ⊤ ⊥ IsCarried no_text no_lines by_plan
+form_of (Some (Replay first)) = form ⊥ ⊤ ⊥ ⊤ ⊥ IsCarried no_text no_lines by_plan
+form_of (Some Verify) = form ⊥ ⊥ ⊤ ⊤ ⊥ IsCarried no_text no_lines by_plan
+form_of (Some Check) = form ⊥ ⊥ ⊥ ⊤ ⊥ never_carried (λ status asks image text. text ≡ plan_text asks) no_lines by_plan
+form_of (Some Dump) = form ⊥ ⊥ ⊥ ⊥ ⊤ never_carried (λ status asks image text. text ≡ dump_text (image 2)) (λ image. dump_text (image 2)) by_store
+form_of (Some Info) = form ⊥ ⊥ ⊥ ⊥ ⊤ never_carried (λ status asks image text. IsInfoAt status image text) no_lines by_store
+form_of (Some (Trial lines seed)) = form ⊥ ⊥ ⊥ ⊥ ⊥ never_carried (λ status asks image text. IsTrialAt status lines seed text) no_lines (λ plan asks image. Ok)
+form_of None = form ⊥ ⊥ ⊥ ⊥ ⊥ never_carried no_text no_lines (λ plan asks image. Usage)
+
 -- the words name a run
 abbrev pub IsRun : Option Command → Type 0
-IsRun (Some (Run first)) = ⊤
-IsRun (Some (Replay first)) = ⊥
-IsRun (Some Verify) = ⊥
-IsRun (Some Check) = ⊥
-IsRun (Some Dump) = ⊥
-IsRun (Some Info) = ⊥
-IsRun (Some (Trial lines seed)) = ⊥
-IsRun None = ⊥
+IsRun command = (form_of command).runs
 
 -- the words name a replay
 abbrev pub IsReplay : Option Command → Type 0
-IsReplay (Some (Run first)) = ⊥
-IsReplay (Some (Replay first)) = ⊤
-IsReplay (Some Verify) = ⊥
-IsReplay (Some Check) = ⊥
-IsReplay (Some Dump) = ⊥
-IsReplay (Some Info) = ⊥
-IsReplay (Some (Trial lines seed)) = ⊥
-IsReplay None = ⊥
+IsReplay command = (form_of command).replays
 
 -- the words name a verify
 abbrev pub IsVerify : Option Command → Type 0
-IsVerify (Some (Run first)) = ⊥
-IsVerify (Some (Replay first)) = ⊥
-IsVerify (Some Verify) = ⊤
-IsVerify (Some Check) = ⊥
-IsVerify (Some Dump) = ⊥
-IsVerify (Some Info) = ⊥
-IsVerify (Some (Trial lines seed)) = ⊥
-IsVerify None = ⊥
+IsVerify command = (form_of command).verifies
 
 -- the call is a run, a replay or a verify, and its plan, of these bytes, is no longer than it may be and legal, so that it is carried out
 abbrev pub CarriesRun : Option Command → List ℕ → Result Planned ConfigFault → Type 0
-CarriesRun (Some (Run first)) bytes (r.Ok plan) = length bytes ≤ 65536
-CarriesRun (Some (Run first)) bytes (r.Err refusal) = ⊥
-CarriesRun (Some (Replay first)) bytes (r.Ok plan) = length bytes ≤ 65536
-CarriesRun (Some (Replay first)) bytes (r.Err refusal) = ⊥
-CarriesRun (Some Verify) bytes (r.Ok plan) = length bytes ≤ 65536
-CarriesRun (Some Verify) bytes (r.Err refusal) = ⊥
-CarriesRun (Some Check) bytes asks = ⊥
-CarriesRun (Some Dump) bytes asks = ⊥
-CarriesRun (Some Info) bytes asks = ⊥
-CarriesRun (Some (Trial lines seed)) bytes asks = ⊥
-CarriesRun None bytes asks = ⊥
+CarriesRun command = (form_of command).carries
 
 -- the words name a command that reads its plan
 abbrev pub ReadsPlan : Option Command → Type 0
-ReadsPlan (Some (Run first)) = ⊤
-ReadsPlan (Some (Replay first)) = ⊤
-ReadsPlan (Some Verify) = ⊤
-ReadsPlan (Some Check) = ⊤
-ReadsPlan (Some Dump) = ⊥
-ReadsPlan (Some Info) = ⊥
-ReadsPlan (Some (Trial lines seed)) = ⊥
-ReadsPlan None = ⊥
+ReadsPlan command = (form_of command).reads_plan
 
 -- the words name a command that puts what the store has, whatever the plan
 abbrev pub ShowsStore : Option Command → Type 0
-ShowsStore (Some (Run first)) = ⊥
-ShowsStore (Some (Replay first)) = ⊥
-ShowsStore (Some Verify) = ⊥
-ShowsStore (Some Check) = ⊥
-ShowsStore (Some Dump) = ⊤
-ShowsStore (Some Info) = ⊤
-ShowsStore (Some (Trial lines seed)) = ⊥
-ShowsStore None = ⊥
+ShowsStore command = (form_of command).shows_store
 
 -- Where the call reads the plan, that tells its bytes, which are these. Where it puts what the store has, the host tells its image.
 pub record Told (command : Option Command) (plan : Option (List ℕ)) (store : Option Image) : Type 0 where
@@ -188,50 +239,10 @@ pub record ToldPlan (command : Option Command) (plan : Option (List ℕ)) (store
   pub says : Says plan_bytes asks
   pub no_run : CarriesRun command plan_bytes asks → ⊥
 
--- all lines that a check puts for what the plan's bytes say
-abbrev pub plan_text : Result Planned ConfigFault → List (List ℕ)
-plan_text (r.Ok plan) = check_text plan
-plan_text (r.Err refusal) = []
-
--- the lines that `info` puts of the store of that image: all there are, at Ok and where a put failed, and none at any other status
-abbrev pub IsInfoAt : Status → Image → List (List ℕ) → Type 0
-IsInfoAt Ok image text = IsInfo image text
-IsInfoAt Usage image text = text ≡ []
-IsInfoAt BadPlan image text = text ≡ []
-IsInfoAt Store image text = text ≡ []
-IsInfoAt Read image text = text ≡ []
-IsInfoAt Write image text = IsInfo image text
-IsInfoAt Disk image text = text ≡ []
-IsInfoAt Limit image text = text ≡ []
-IsInfoAt Memory image text = text ≡ []
-IsInfoAt Gap image text = text ≡ []
-IsInfoAt Differs image text = text ≡ []
-
--- the lines that a trial on so many lines of a seed puts: the four of its numbers, at Ok and where a put failed, and none at any other status
-abbrev pub IsTrialAt : Status → ℕ → ℕ → List (List ℕ) → Type 0
-IsTrialAt Ok lines seed text = (counted : Counted) × IsTrial seed lines counted × (text ≡ trial_lines counted)
-IsTrialAt Usage lines seed text = text ≡ []
-IsTrialAt BadPlan lines seed text = text ≡ []
-IsTrialAt Store lines seed text = text ≡ []
-IsTrialAt Read lines seed text = text ≡ []
-IsTrialAt Write lines seed text = (counted : Counted) × IsTrial seed lines counted × (text ≡ trial_lines counted)
-IsTrialAt Disk lines seed text = text ≡ []
-IsTrialAt Limit lines seed text = text ≡ []
-IsTrialAt Memory lines seed text = text ≡ []
-IsTrialAt Gap lines seed text = text ≡ []
-IsTrialAt Differs lines seed text = text ≡ []
-
 -- The text of a call which carries out no run, replay or verify, for what its words and its plan ask, and for the image of the store; file 2 is the log.
 -- At status Ok all of it is put, and at any other a front of it.
 abbrev pub IsTextOf : Option Command → Status → Result Planned ConfigFault → Image → List (List ℕ) → Type 0
-IsTextOf (Some (Run first)) status asks image text = text ≡ []
-IsTextOf (Some (Replay first)) status asks image text = text ≡ []
-IsTextOf (Some Verify) status asks image text = text ≡ []
-IsTextOf (Some Check) status asks image text = text ≡ plan_text asks
-IsTextOf (Some Dump) status asks image text = text ≡ dump_text (image 2)
-IsTextOf (Some Info) status asks image text = IsInfoAt status image text
-IsTextOf (Some (Trial lines seed)) status asks image text = IsTrialAt status lines seed text
-IsTextOf None status asks image text = text ≡ []
+IsTextOf command = (form_of command).text
 
 -- P holds of that text
 pub record ForText (command : Option Command) (status : Status) (asks : Result Planned ConfigFault) (image : Image) (P : List (List ℕ) → Type 0) : Type 0 where
@@ -241,14 +252,7 @@ pub record ForText (command : Option Command) (status : Status) (asks : Result P
 
 -- the lines that a command which puts what the store has puts of a damaged log, before the line that says the place
 abbrev pub before_damage : Option Command → Image → List (List ℕ)
-before_damage (Some (Run first)) image = []
-before_damage (Some (Replay first)) image = []
-before_damage (Some Verify) image = []
-before_damage (Some Check) image = []
-before_damage (Some Dump) image = dump_text (image 2)
-before_damage (Some Info) image = []
-before_damage (Some (Trial lines seed)) image = []
-before_damage None image = []
+before_damage command = (form_of command).before_damage
 
 -- the line that refuses a plan, with its LF
 abbrev pub refusal_line : ConfigFault → List ℕ
@@ -280,17 +284,9 @@ refusal_of (r.Err refusal) = refusal_line refusal
 
 -- the last line that a status puts where no run, replay or verify is carried out, for what the plan's bytes say and for the image of the store
 abbrev pub line_for : Result Planned ConfigFault → Image → Status → List ℕ
-line_for asks image Ok = last_line Ok
-line_for asks image Usage = last_line Usage
 line_for asks image BadPlan = refusal_of asks
 line_for asks image Store = damage_line (damage_of (image 2))
-line_for asks image Read = last_line Read
-line_for asks image Write = last_line Write
-line_for asks image Disk = last_line Disk
-line_for asks image Limit = last_line Limit
-line_for asks image Memory = last_line Memory
-line_for asks image Gap = last_line Gap
-line_for asks image Differs = last_line Differs
+line_for asks image other = last_line other
 
 -- the status and the last line of a call that ends early
 abbrev pub ending_status : Ending → Status
@@ -319,6 +315,10 @@ status_after (r.Err cause) = ending_status cause
 abbrev pub line_after : {A : Type 0} → Result A Ending → List ℕ
 line_after (r.Ok done) = []
 line_after (r.Err cause) = ending_line cause
+
+abbrev pub refusal_after : {A : Type 0} → Result A Ending → Option Refusal
+refusal_after (r.Ok done) = None
+refusal_after (r.Err cause) = ending_refusal cause
 
 -- where the plan tells its bytes, this is the fault that refuses them
 abbrev pub TellsFault : Option (List ℕ) → Option Refusal → Type 0
@@ -387,41 +387,6 @@ IsUndamaged store = ForSome store (λ image. damage_of (image 2) ≡ None)
 abbrev pub IsDamaged : Option Image → Type 0
 IsDamaged store = ForSome store (λ image. (place : ℕ) × (damage_of (image 2) ≡ Some place))
 
--- the statuses of a command that compares nothing
-abbrev pub IsPossible : Status → Type 0
-IsPossible Ok = ⊤
-IsPossible Usage = ⊤
-IsPossible BadPlan = ⊤
-IsPossible Store = ⊤
-IsPossible Read = ⊤
-IsPossible Write = ⊤
-IsPossible Disk = ⊤
-IsPossible Limit = ⊤
-IsPossible Memory = ⊤
-IsPossible Gap = ⊤
-IsPossible Differs = ⊥
-
--- the status of what the plan's bytes say
-abbrev pub status_by : Result Planned ConfigFault → Status
-status_by (r.Err refusal) = BadPlan
-status_by (r.Ok plan) = Ok
-
--- the same, where the plan may be too long
-abbrev pub plan_status : List ℕ → Result Planned ConfigFault → Status
-plan_status plan asks = if nat_lt 65536 (length plan) then Limit else status_by asks
-
--- the status of a command that puts what the store has, by the place where the log is damaged
-abbrev pub store_status : Option ℕ → Status
-store_status None = Ok
-store_status (Some place) = Store
-
 -- the status that words, plan and store call for, where no run, replay or verify is carried out
 abbrev pub status_for : Option Command → List ℕ → Result Planned ConfigFault → Image → Status
-status_for (Some (Run first)) plan asks image = plan_status plan asks
-status_for (Some (Replay first)) plan asks image = plan_status plan asks
-status_for (Some Verify) plan asks image = plan_status plan asks
-status_for (Some Check) plan asks image = plan_status plan asks
-status_for (Some Dump) plan asks image = store_status (damage_of (image 2))
-status_for (Some Info) plan asks image = store_status (damage_of (image 2))
-status_for (Some (Trial lines seed)) plan asks image = Ok
-status_for None plan asks image = Usage
+status_for command = (form_of command).status

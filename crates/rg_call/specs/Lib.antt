@@ -5,3 +5,4 @@ pub mod Causes
 pub mod TurnedAway
 pub mod Replays
 pub mod Verifies
+pub mod Done

@@ -16,17 +16,17 @@ use Rattle.rg_course.specs.Stores.{IsNear, StaysOnCourseSince}
 use Rattle.rg_open.specs.Stores.{store_of, Has, HasSaved}
 use Rattle.rg_open.specs.Truth.{IsTruthfulImage}
 use Rattle.rg_open.specs.Opening.{IsFromIn}
-use Rattle.rg_live.specs.Ran.{HasStopped}
+use Rattle.rg_recover.specs.Ran.{HasStopped}
 use Rattle.rg_task.specs.Terms.{terms_of}
-use Rattle.rg_live.specs.Ready.{IsReadyRun, begun_by}
+use Rattle.rg_recover.specs.Ready.{IsReadyRun, begun_by}
 use Rattle.rg_run.specs.Begun.{Begun, lines_in, course_for}
 use Rattle.rg_run.specs.UnderWay.{HasAnswered}
-use Rattle.rg_live.specs.Ran.{HasFinished, IsUnopened}
+use Rattle.rg_recover.specs.Ran.{HasFinished, IsUnopened}
 use Rattle.rg_call.specs.Plan.{IsPlan}
 use Rattle.rg_report.specs.Statuses.{last_line}
 use Rattle.rg_call.specs.Call.{damage_line, gap_line}
 use Rattle.rg_report.specs.declared.status.Status.{Status}
-use Rattle.rg_report.specs.declared.status.Status.TheVariants.{Ok, Usage, Plan as BadPlan, Store, Read, Write, Disk, Limit, Memory, Gap, Differs}
+use Rattle.rg_report.specs.declared.status.Status.TheVariants.{Ok, Usage, Plan as BadPlan, Store, Read, Write, Limit, Gap, Differs}
 
 -- What a run is told: its plan, the bytes of its input, and a store that is ready for the plan.
 pub record ToldRun (plan input : Option (List ℕ)) (now : Option Image) (may : Image → Type 0) (said : Option (List ℕ)) : Type 0 where
@@ -44,17 +44,12 @@ begun_in told from first = begun_by told.ready from first told.input_bytes
 
 -- the last line that a status puts of a run that began so
 abbrev pub IsLastOf : Status → Begun → List ℕ → Type 0
-IsLastOf Ok b last = last ≡ last_line Ok
 IsLastOf Usage b last = ⊥
 IsLastOf BadPlan b last = ⊥
 IsLastOf Store b last = (place : ℕ) × (last ≡ damage_line (Some place))
-IsLastOf Read b last = last ≡ last_line Read
-IsLastOf Write b last = last ≡ last_line Write
-IsLastOf Disk b last = last ≡ last_line Disk
-IsLastOf Limit b last = last ≡ last_line Limit
-IsLastOf Memory b last = last ≡ last_line Memory
 IsLastOf Gap b last = last ≡ gap_line b.first (next_offset b.held)
 IsLastOf Differs b last = ⊥
+IsLastOf other b last = last ≡ last_line other
 
 -- The run went on from the greatest count of a complete slot of the image with the plan's queries, or from 0 where there is none; or a
 -- front of its last line was put and nothing else.

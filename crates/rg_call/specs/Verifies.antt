@@ -1,5 +1,5 @@
 -- What a verify puts, and why it ends.
-use Rattle.std.specs.Prelude.{◌≡◌, ◌⊎◌, ℕ, Bool, true, false, List, [], Option, Some, None, IfSome}
+use Rattle.std.specs.Prelude.{◌≡◌, ◌⊎◌, ℕ, Bool, true, false, List, [], Option, Some, IfSome}
 use Rattle.std.specs.Option.{ForSome}
 use Rattle.rg_bytes.specs.Counts.{Rose}
 use Rattle.rg_event.specs.declared.event.Event.{Event}
@@ -18,7 +18,7 @@ use Rattle.rg_verify.specs.declared.fault.VerifyFault.{VerifyFault}
 use Rattle.rg_verify.specs.declared.fault.VerifyFault.TheVariants as verify
 use Rattle.rg_report.specs.Statuses.{last_line}
 use Rattle.rg_report.specs.declared.status.Status.{Status}
-use Rattle.rg_report.specs.declared.status.Status.TheVariants.{Ok, Usage, Plan as BadPlan, Store, Read, Write, Disk, Limit, Memory, Gap, Differs}
+use Rattle.rg_report.specs.declared.status.Status.TheVariants.{Ok, Store, Read, Write, Disk, Memory, Differs}
 use Rattle.rg_call.specs.Plan.{IsPlan}
 use Rattle.rg_call.specs.Call.{damage_line, schema_line, Fails, SaysLine}
 
@@ -93,17 +93,8 @@ pub record IsVerifyEnd {H : Type 0} (now : H → Option Image) (disk_faults out_
 
 -- the status says that a checkpoint isn't what the events give
 abbrev pub is_differs : Status → Bool
-is_differs Ok = false
-is_differs Usage = false
-is_differs BadPlan = false
-is_differs Store = false
-is_differs Read = false
-is_differs Write = false
-is_differs Disk = false
-is_differs Limit = false
-is_differs Memory = false
-is_differs Gap = false
 is_differs Differs = true
+is_differs other = false
 
 module _ {H : Type 0} (said : H → Option (List ℕ)) (clock : H → ℕ) (since : H → ℕ → Moment → Type 0) where
   -- How a verify over a store of that image, whose log has these events, went up to its last line; `unread` says that a read of the plan failed.

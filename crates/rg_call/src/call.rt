@@ -1,126 +1,51 @@
-ghost use Rattle.std.specs.Prelude.{codes, decimal, ◌≡◌, ◌≢◌, ◌⊎◌, ◌++◌, ◌≤◌, ◌<◌, ◌^◌, ℕ, List, [], Some, None, Option, IfOk, IfErr, IfSome, OnOk, OnErr, IsErrOf, length};
+ghost use Rattle.std.specs.Prelude.{◌≡◌, ◌≢◌, ◌⊎◌, ◌++◌, ◌≤◌, ◌<◌, ◌^◌, ℕ, List, [], Some, None, ⊤, length};
 ghost use Rattle.std.specs.Option.{ForSome};
 ghost use Rattle.rg_bytes.specs.Counts.{Rose};
-ghost use Rattle.rg_bytes.specs.Known.{IsAtEnd};
+ghost use Rattle.rg_bytes.specs.Known.{after, IsAtEnd};
+ghost use Rattle.rg_event.specs.declared.event.Event.{Event};
 ghost use Rattle.rg_event.specs.Rising.{next_offset};
-ghost use Rattle.rg_config.specs.Plans.{Planned, planned};
-ghost use Rattle.rg_config.specs.declared.fault.ConfigFault.{ConfigFault as Fault};
-ghost use Rattle.rg_config.specs.Read.{IsReadPlan};
+ghost use Rattle.rg_config.specs.Plans.{Planned};
 ghost use Rattle.rg_host.specs.Image.{Image};
 ghost use Rattle.rg_host.specs.Lines.{ended, lines_of};
 ghost use Rattle.rg_host.specs.Moments.{Moments, LeavesFiles};
-ghost use Rattle.rg_host.specs.Puts.{IsPrefix, Puts, IsPut, StopsWith};
+ghost use Rattle.rg_host.specs.Puts.{Puts, IsPut, StopsWith};
 ghost use Rattle.rg_dump.specs.Dump.{damage_of};
-ghost use Rattle.rg_listing.specs.Stops.{StopsAt};
 ghost use Rattle.rg_course.specs.Accepted.{events_after};
 ghost use Rattle.rg_course.specs.Laws.{below};
 ghost use Rattle.rg_course.specs.Stores.{Promised};
-ghost use Rattle.rg_open.specs.Stores.{store_of};
+ghost use Rattle.rg_open.specs.Stores.{store_of, Has};
 ghost use Rattle.rg_open.specs.Opening.{IsFromIn};
-ghost use Rattle.rg_open.specs.Unfit.{IsUnfit, IsLeftAlone};
-ghost use Rattle.rg_open.specs.Within.{IsWithinOpening};
+ghost use Rattle.rg_open.specs.Unfit.{IsUnfit};
 ghost use Rattle.rg_task.specs.Terms.{terms_of};
 ghost use Rattle.rg_verify.specs.Verify.{IsSaid, IsCut};
 ghost use Rattle.rg_replay.specs.Runs.{text_of_left};
 ghost use Rattle.rg_run.specs.Begun.{Begun, course_for, lines_in};
 ghost use Rattle.rg_run.specs.Reading.{IsLonger, IsWithinLimit};
-ghost use Rattle.rg_call.specs.Plan.{IsPlan, IsRefusal};
+ghost use Rattle.rg_call.specs.Plan.{IsPlan};
 ghost use Rattle.rg_report.specs.Statuses.{last_line as status_line};
-ghost use Rattle.rg_call.specs.Call.{command_of, IsRun, IsReplay, IsVerify, ReadsPlan, ShowsStore, CarriesRun, Told, ToldPlan, SaysSo, ForText, plan_text, before_damage, line_for, refusal_line, damage_line, status_after, line_after, ending_status, ending_line, ending_refusal, EndsBy, TellsFault, status_for, IsLegalPlan, TellsNoPlan, IsRefusedPlan, IsDamaged, IsUndamaged, IsPossible};
+ghost use Rattle.rg_call.specs.Call.{command_of, IsRun, IsReplay, IsVerify, ReadsPlan, ShowsStore, CarriesRun, Told, SaysSo, ForText, before_damage, line_for, damage_line, status_after, line_after, refusal_after, TellsFault, status_for, IsLegalPlan, TellsNoPlan, IsRefusedPlan, IsDamaged, IsUndamaged};
+ghost use Rattle.rg_call.specs.Done.{ReplaysBy, VerifiesBy, Shows, Causes, LeavesAlone, Does};
 ghost use Rattle.rg_call.specs.Causes.{RefusesStore, RefusesGap, EndsWith};
-ghost use Rattle.rg_call.specs.Stored.{ToldRun, begun_in, IsLastOf, IsToldFrom, Went, IsComplete, EndsWhole, EndsAnswered, IsAtMostOneAhead, HasLastSaved, Resumes};
-ghost use Rattle.rg_call.specs.TurnedAway.{EndsUnfit, EndsBehind, IsTurnedAway, IsBehind};
-ghost use Rattle.rg_call.specs.Replays.{ToldReplay, text_of_replay, RefusesReplay, Replayed, ReplaysNothing, PutsReplay, PutsRefusal};
-ghost use Rattle.rg_call.specs.Verifies.{ToldVerify, terms_for, RefusesVerify, IsRefusedStore, IsVerifyLast, IsWhole, is_differs, Verified, IsSilent, PutsLine};
+ghost use Rattle.rg_call.specs.Stored.{ToldRun, begun_in, IsLastOf, IsToldFrom, IsComplete, EndsWhole, EndsAnswered, IsAtMostOneAhead, HasLastSaved, Resumes};
+ghost use Rattle.rg_call.specs.TurnedAway.{IsTurnedAway, IsBehind};
+ghost use Rattle.rg_call.specs.Replays.{ToldReplay, text_of_replay, RefusesReplay, PutsReplay, PutsRefusal};
+ghost use Rattle.rg_call.specs.Verifies.{ToldVerify, terms_for, RefusesVerify, IsRefusedStore, IsVerifyLast, IsWhole, is_differs, PutsLine};
 
 use crate::command::Command;
 use crate::dump::dump;
 use crate::ending::Ending;
 use crate::info::info;
+use crate::load::load_plan;
 use crate::replay::replay;
 use crate::running::run;
 use crate::trial::trial;
 use crate::verify::verify;
-use rg_bytes::{Memory, put_bytes, write_whole};
-use rg_config::{ConfigFault, Plan, read_plan};
-use rg_host::{AllFault, Host, Source, put_all, read_all};
+use rg_host::{Host, Source, put_all};
 use rg_listing::{CheckFault, check};
-use rg_report::{Refusal, Status, TomlFault};
+use rg_report::{Refusal, Status};
 use std::alloc::Global;
 use std::marker::Brand;
 use std::sync::ledger::Blank;
-
-/// The greatest number of bytes of a plan.
-const PLAN_BYTES: usize = 65_536;
-
-/// Writes the line that refuses a plan by its query with this number, with its LF.
-fn write_refused_query(line: &mut Vec<u8>, number: u32) -> Result<(), Memory>
-    ensures { OnOk result (line.new.items ≡ line.old.items ++ (codes "refused plan query " ++ (decimal number ++ codes "\n"))) }
-{
-    put_bytes(line, b"refused plan query ")?;
-    write_whole(line, u64::from(number))?;
-    put_bytes(line, b"\n")
-}
-
-/// Writes the line that refuses a plan, with its LF.
-fn write_refusal(line: &mut Vec<u8>, fault: ConfigFault) -> Result<(), Memory>
-    ensures { OnOk result (line.new.items ≡ line.old.items ++ refusal_line fault) }
-{
-    match fault {
-        ConfigFault::Toml => put_bytes(line, b"refused plan toml\n"),
-        ConfigFault::Stream => put_bytes(line, b"refused plan stream\n"),
-        ConfigFault::Settings(_) => put_bytes(line, b"refused plan settings\n"),
-        ConfigFault::Query(number, _) => write_refused_query(line, number),
-        ConfigFault::Memory => Ok(()),
-    }
-}
-
-/// Where these bytes stop being TOML, if they do.
-fn toml_fault(alloc: Global, bytes: &[u8]) -> Option<TomlFault> {
-    match toml::table_from_slice(alloc, bytes) {
-        Ok(_) => None,
-        Err(why) => Some(TomlFault::new(bytes, why)),
-    }
-}
-
-/// How a call ends whose plan has these bytes and is refused.
-fn refuse_plan(alloc: Global, bytes: &[u8], fault: ConfigFault) -> Ending
-    ensures { EndsBy fault result }
-{
-    if fault == ConfigFault::Memory {
-        return Ending::Failed(Status::Memory);
-    }
-    let toml = toml_fault(alloc, bytes);
-    let mut line = Vec::new(alloc);
-    match write_refusal(&mut line, fault) {
-        Ok(()) => Ending::Refused(line, Refusal { fault, toml }),
-        Err(_) => Ending::Failed(Status::Memory),
-    }
-}
-
-/// Reads the plan.
-fn load_plan<P: Source>(alloc: Global, plan: &mut P) -> Result<Plan, Ending>
-    ensures legal { IfOk result (λ asked. IfSome (P.left plan.old) (λ bytes. IsPlan bytes (planned asked))) }
-    ensures is_read { IfOk result IsReadPlan }
-    ensures refused { IfErr result (λ ending. ending_status ending ≡ Status.Plan → IfSome (P.left plan.old) (λ bytes. (refusal : Fault) × IsRefusal bytes refusal × (ending_line ending ≡ refusal_line refusal))) }
-    ensures told { IfErr result (λ ending. ending_status ending ≡ Status.Plan → TellsFault (P.left plan.old) (ending_refusal ending)) }
-    ensures line { IfErr result (λ ending. (ending_status ending ≡ Status.Plan) ⊎ (ending_line ending ≡ status_line (ending_status ending))) }
-    ensures read { IfErr result (λ ending. ending_status ending ≡ Status.Read → Rose (P.faults plan.old) (P.faults plan.new)) }
-    ensures limit { IfErr result (λ ending. ending_status ending ≡ Status.Limit → IsLonger 65536 (P.left plan.old)) }
-    ensures others { IfErr result (λ ending. (ending_status ending ≡ Status.Plan) ⊎ (ending_status ending ≡ Status.Read) ⊎ (ending_status ending ≡ Status.Limit) ⊎ (ending_status ending ≡ Status.Memory)) }
-    ensures later { P.faults plan.old ≤ P.faults plan.new }
-{
-    let bytes = match read_all(alloc, plan, PLAN_BYTES) {
-        Ok(bytes) => bytes,
-        Err(AllFault::Read) => return Err(Ending::Failed(Status::Read)),
-        Err(AllFault::Limit) => return Err(Ending::Failed(Status::Limit)),
-        Err(AllFault::Memory) => return Err(Ending::Failed(Status::Memory)),
-    };
-    match read_plan(alloc, &bytes) {
-        Ok(asked) => Ok(asked),
-        Err(fault) => Err(refuse_plan(alloc, &bytes, fault)),
-    }
-}
 
 /// Reads the plan, and prints it.
 fn check_with_plan<P: Source, H: Host>(
@@ -128,16 +53,8 @@ fn check_with_plan<P: Source, H: Host>(
     plan: &mut P,
     host: &mut H,
 ) -> Result<(), Ending>
-    ensures completes { OnOk result ((told : ToldPlan (Some Command.Check) (P.left plan.old) (H.now host.old)) → ForText (Some Command.Check) Status.Ok told.asks told.image (λ text. Puts H.said H.clock H.since host.old host.new (ended text))) }
-    ensures stops { IfErr result (λ ending. (told : ToldPlan (Some Command.Check) (P.left plan.old) (H.now host.old)) → ForText (Some Command.Check) (ending_status ending) told.asks told.image (λ text. (put : List ℕ) × Puts H.said H.clock H.since host.old host.new put × StopsAt (ending_status ending ≡ Status.Write) text put)) }
-    ensures line { IfErr result (λ ending. (told : ToldPlan (Some Command.Check) (P.left plan.old) (H.now host.old)) → ending_line ending ≡ line_for told.asks told.image (ending_status ending)) }
-    ensures legal { OnOk result (IsLegalPlan (P.left plan.old)) }
-    ensures refused { IfErr result (λ ending. ending_status ending ≡ Status.Plan → IsRefusedPlan (P.left plan.old)) }
-    ensures told { IfErr result (λ ending. ending_status ending ≡ Status.Plan → TellsFault (P.left plan.old) (ending_refusal ending)) }
-    ensures read { IfErr result (λ ending. ending_status ending ≡ Status.Read → Rose (P.faults plan.old) (P.faults plan.new)) }
-    ensures write { IfErr result (λ ending. ending_status ending ≡ Status.Write → IsLegalPlan (P.left plan.old) × Rose (H.out_faults host.old) (H.out_faults host.new)) }
-    ensures limit { IfErr result (λ ending. ending_status ending ≡ Status.Limit → IsLonger 65536 (P.left plan.old)) }
-    ensures others { IfErr result (λ ending. (ending_status ending ≡ Status.Plan) ⊎ (ending_status ending ≡ Status.Read) ⊎ (ending_status ending ≡ Status.Limit) ⊎ (ending_status ending ≡ Status.Memory) ⊎ (ending_status ending ≡ Status.Write)) }
+    ensures shows { Shows H.now H.may H.clock H.since H.said (Some Command.Check) (P.left plan.old) (status_after result) (line_after result) host.old host.new }
+    ensures causes { Causes (Some Command.Check) (P.left plan.old) None (H.now host.old) (H.now host.new) (H.may host.old) ⊤ (Rose (P.faults plan.old) (P.faults plan.new)) ⊥ (Rose (H.out_faults host.old) (H.out_faults host.new)) (Rose (H.disk_faults host.old) (H.disk_faults host.new)) (status_after result) (line_after result) (refusal_after result) }
     ensures leaves { LeavesFiles H.now H.may H.clock H.since host.old host.new }
     ensures later_out { H.out_faults host.old ≤ H.out_faults host.new }
 {
@@ -152,55 +69,6 @@ fn check_with_plan<P: Source, H: Host>(
     }
 }
 
-/// Reads the plan, and answers the input by it over the store, where the first line has that offset.
-fn run_with_plan<P: Source, I: Source, H: Host>(
-    alloc: Global,
-    first: u64,
-    plan: &mut P,
-    input: &mut I,
-    host: &mut H,
-) -> Result<(), Ending>
-    requires first { first ≤ 2 ^ 61 }
-    ensures went { (told : ToldRun (P.left plan.old) (I.left input.old) (H.now host.old) (H.may host.old) (H.said host.old)) → (from : ℕ)
-        × Went H.may H.clock H.since H.said told.asks (begun_in told from first) told.ready.openable.image (I.left input.new) (Rose (P.faults plan.old) (P.faults plan.new)) (status_after result) (line_after result) host.old host.new }
-    ensures never_damaged { ToldRun (P.left plan.old) (I.left input.old) (H.now host.old) (H.may host.old) (H.said host.old) → status_after result ≡ Status.Store → ⊥ }
-
-    // Where the plan isn't legal, nothing is put.
-    ensures completes { OnOk result (ToldPlan (Some (Command.Run first)) (P.left plan.old) (H.now host.old) → ⊥) }
-    ensures stops { IfErr result (λ ending. ToldPlan (Some (Command.Run first)) (P.left plan.old) (H.now host.old) → Puts H.said H.clock H.since host.old host.new []) }
-    ensures line { IfErr result (λ ending. (told : ToldPlan (Some (Command.Run first)) (P.left plan.old) (H.now host.old)) → ending_line ending ≡ line_for told.asks told.image (ending_status ending)) }
-
-    ensures at_end { OnOk result (IsAtEnd (I.left input.new)) }
-    ensures legal { OnOk result (IsLegalPlan (P.left plan.old)) }
-    ensures within { OnOk result (IsWithinLimit (2 ^ 50) (I.left input.old)) }
-    ensures behind { (told : ToldRun (P.left plan.old) (I.left input.old) (H.now host.old) (H.may host.old) (H.said host.old)) (keep : Option ℕ) → next_offset told.ready.held < first →
-        (input.new ≡ input.old) × IsWithinOpening H.may H.clock H.since H.said told.asks keep told.ready.openable.image host.old host.new
-        × EndsBehind first (next_offset told.ready.held) (Rose (P.faults plan.old) (P.faults plan.new)) (status_after result) (line_after result) }
-    ensures unfit { (bytes : List ℕ) (asks : Planned) (v : Image) → P.left plan.old ≡ Some bytes → IsPlan bytes asks → H.now host.old ≡ Some v → IsUnfit asks v →
-        (input.new ≡ input.old) × IsLeftAlone H.now H.may H.clock H.since H.said v host.old host.new × EndsUnfit asks v (Rose (P.faults plan.old) (P.faults plan.new)) (status_after result) (line_after result) }
-    ensures refused { IfErr result (λ ending. ending_status ending ≡ Status.Plan → IsRefusedPlan (P.left plan.old)) }
-    ensures told { IfErr result (λ ending. ending_status ending ≡ Status.Plan → TellsFault (P.left plan.old) (ending_refusal ending)) }
-    ensures store { IfErr result (λ ending. ending_status ending ≡ Status.Store → RefusesStore (P.left plan.old) (H.now host.old) (H.now host.new) (input.new ≡ input.old) (ending_line ending)) }
-    ensures gap { IfErr result (λ ending. ending_status ending ≡ Status.Gap → RefusesGap (P.left plan.old) (H.now host.old) first (input.new ≡ input.old) (ending_line ending)) }
-    ensures disk { IfErr result (λ ending. ending_status ending ≡ Status.Disk → IsLegalPlan (P.left plan.old) × Rose (H.disk_faults host.old) (H.disk_faults host.new)) }
-    ensures read { IfErr result (λ ending. ending_status ending ≡ Status.Read → Rose (P.faults plan.old) (P.faults plan.new) ⊎ (IsLegalPlan (P.left plan.old) × Rose (I.faults input.old) (I.faults input.new))) }
-    ensures write { IfErr result (λ ending. ending_status ending ≡ Status.Write → IsLegalPlan (P.left plan.old) × Rose (H.out_faults host.old) (H.out_faults host.new)) }
-    ensures limit { IfErr result (λ ending. ending_status ending ≡ Status.Limit → IsLonger 65536 (P.left plan.old) ⊎ (IsLegalPlan (P.left plan.old) × IsLonger (2 ^ 50) (I.left input.old))) }
-    ensures possible { IfErr result (λ ending. IsPossible (ending_status ending) × (ending_status ending ≢ Status.Ok) × (ending_status ending ≢ Status.Usage)) }
-    ensures plan_first { (status_after result ≡ Status.Plan) ⊎ TellsNoPlan (P.left plan.old) → (input.new ≡ input.old) × LeavesFiles H.now H.may H.clock H.since host.old host.new }
-    ensures read_first { IfErr result (λ ending. ending_status ending ≡ Status.Read → ((input.new ≡ input.old) × LeavesFiles H.now H.may H.clock H.since host.old host.new) ⊎ Rose (I.faults input.old) (I.faults input.new)) }
-    ensures later_out { H.out_faults host.old ≤ H.out_faults host.new }
-{
-    let asked = match load_plan(alloc, plan) {
-        Ok(asked) => asked,
-        Err(ending) => return Err(ending),
-    };
-    match run::<I, H, Brand>(alloc, &asked, first, input, host, Blank::new(1)) {
-        Ok(()) => Ok(()),
-        Err(ending) => Err(ending),
-    }
-}
-
 /// Reads the plan, and answers the stored events again by it, from that offset on.
 fn replay_with_plan<P: Source, H: Host>(
     alloc: Global,
@@ -208,25 +76,9 @@ fn replay_with_plan<P: Source, H: Host>(
     plan: &mut P,
     host: &mut H,
 ) -> Result<(), Ending>
-    ensures replayed { (told : ToldReplay (P.left plan.old) (H.now host.old) (H.may host.old)) →
-        Replayed H.said H.clock H.since (text_of_replay told first) (Rose (P.faults plan.old) (P.faults plan.new)) (status_after result) (line_after result) host.old host.new }
-    ensures unfit { (bytes : List ℕ) (asks : Planned) (v : Image) → P.left plan.old ≡ Some bytes → IsPlan bytes asks → H.now host.old ≡ Some v → IsUnfit asks v → ReplaysNothing H.said H.clock H.since asks (H.now host.old) (status_after result) (line_after result) host.old host.new }
-
-    // Where the plan isn't legal, nothing is put.
-    ensures completes { OnOk result (ToldPlan (Some (Command.Replay first)) (P.left plan.old) (H.now host.old) → ⊥) }
-    ensures stops { IfErr result (λ ending. ToldPlan (Some (Command.Replay first)) (P.left plan.old) (H.now host.old) → Puts H.said H.clock H.since host.old host.new []) }
-    ensures line { IfErr result (λ ending. (told : ToldPlan (Some (Command.Replay first)) (P.left plan.old) (H.now host.old)) → ending_line ending ≡ line_for told.asks told.image (ending_status ending)) }
-
-    ensures legal { OnOk result (IsLegalPlan (P.left plan.old)) }
-    ensures refused { IfErr result (λ ending. ending_status ending ≡ Status.Plan → IsRefusedPlan (P.left plan.old)) }
-    ensures told { IfErr result (λ ending. ending_status ending ≡ Status.Plan → TellsFault (P.left plan.old) (ending_refusal ending)) }
-    ensures store { IfErr result (λ ending. ending_status ending ≡ Status.Store → RefusesReplay (P.left plan.old) (H.now host.old) (H.may host.old) (ending_line ending)) }
-    ensures disk { IfErr result (λ ending. ending_status ending ≡ Status.Disk → IsLegalPlan (P.left plan.old) × Rose (H.disk_faults host.old) (H.disk_faults host.new)) }
-    ensures read { IfErr result (λ ending. ending_status ending ≡ Status.Read → Rose (P.faults plan.old) (P.faults plan.new)) }
-    ensures write { IfErr result (λ ending. ending_status ending ≡ Status.Write → IsLegalPlan (P.left plan.old) × Rose (H.out_faults host.old) (H.out_faults host.new)) }
-    ensures limit { IfErr result (λ ending. ending_status ending ≡ Status.Limit → IsLonger 65536 (P.left plan.old)) }
-    ensures possible { IfErr result (λ ending. IsPossible (ending_status ending) × (ending_status ending ≢ Status.Ok) × (ending_status ending ≢ Status.Usage)) }
-    ensures no_gap { IfErr result (λ ending. ending_status ending ≢ Status.Gap) }
+    ensures goes { ReplaysBy H.now H.may H.clock H.since H.said first (P.left plan.old) (Rose (P.faults plan.old) (P.faults plan.new)) (status_after result) (line_after result) host.old host.new }
+    ensures shows { Shows H.now H.may H.clock H.since H.said (Some (Command.Replay first)) (P.left plan.old) (status_after result) (line_after result) host.old host.new }
+    ensures causes { Causes (Some (Command.Replay first)) (P.left plan.old) None (H.now host.old) (H.now host.new) (H.may host.old) ⊤ (Rose (P.faults plan.old) (P.faults plan.new)) ⊥ (Rose (H.out_faults host.old) (H.out_faults host.new)) (Rose (H.disk_faults host.old) (H.disk_faults host.new)) (status_after result) (line_after result) (refusal_after result) }
     ensures leaves { LeavesFiles H.now H.may H.clock H.since host.old host.new }
     ensures later_out { H.out_faults host.old ≤ H.out_faults host.new }
 {
@@ -234,10 +86,7 @@ fn replay_with_plan<P: Source, H: Host>(
         Ok(asked) => asked,
         Err(ending) => return Err(ending),
     };
-    match replay::<H, Brand>(alloc, &asked, first, host, Blank::new(1)) {
-        Ok(()) => Ok(()),
-        Err(ending) => Err(ending),
-    }
+    replay::<H, Brand>(alloc, &asked, first, host, Blank::new(1))
 }
 
 /// Reads the plan, and holds the slots of the store against its log by it.
@@ -246,26 +95,9 @@ fn verify_with_plan<P: Source, H: Host>(
     plan: &mut P,
     host: &mut H,
 ) -> Result<(), Ending>
-    ensures verified { (told : ToldVerify (P.left plan.old) (H.now host.old)) →
-        Verified H.said H.clock H.since told.asks told.ready.image told.ready.events (Rose (P.faults plan.old) (P.faults plan.new)) (status_after result) (line_after result) host.old host.new }
-    ensures silent { IsSilent H.said H.clock H.since (status_after result) host.old host.new }
-    ensures fit { IsWhole (status_after result) → (bytes : List ℕ) (asks : Planned) (v : Image) → P.left plan.old ≡ Some bytes → IsPlan bytes asks → H.now host.old ≡ Some v → IsRefusedStore asks v → ⊥ }
-
-    // Where the plan isn't legal, nothing is put.
-    ensures completes { OnOk result (ToldPlan (Some Command.Verify) (P.left plan.old) (H.now host.old) → ⊥) }
-    ensures stops { IfErr result (λ ending. ToldPlan (Some Command.Verify) (P.left plan.old) (H.now host.old) → Puts H.said H.clock H.since host.old host.new []) }
-    ensures line { IfErr result (λ ending. (told : ToldPlan (Some Command.Verify) (P.left plan.old) (H.now host.old)) → ending_line ending ≡ line_for told.asks told.image (ending_status ending)) }
-
-    ensures legal { IsWhole (status_after result) → IsLegalPlan (P.left plan.old) }
-    ensures refused { IfErr result (λ ending. ending_status ending ≡ Status.Plan → IsRefusedPlan (P.left plan.old)) }
-    ensures told { IfErr result (λ ending. ending_status ending ≡ Status.Plan → TellsFault (P.left plan.old) (ending_refusal ending)) }
-    ensures store { IfErr result (λ ending. ending_status ending ≡ Status.Store → RefusesVerify (P.left plan.old) (H.now host.old) (ending_line ending)) }
-    ensures disk { IfErr result (λ ending. ending_status ending ≡ Status.Disk → IsLegalPlan (P.left plan.old) × Rose (H.disk_faults host.old) (H.disk_faults host.new)) }
-    ensures read { IfErr result (λ ending. ending_status ending ≡ Status.Read → Rose (P.faults plan.old) (P.faults plan.new)) }
-    ensures write { IfErr result (λ ending. ending_status ending ≡ Status.Write → IsLegalPlan (P.left plan.old) × Rose (H.out_faults host.old) (H.out_faults host.new)) }
-    ensures limit { IfErr result (λ ending. ending_status ending ≡ Status.Limit → IsLonger 65536 (P.left plan.old)) }
-    ensures early { IfErr result (λ ending. (ending_status ending ≢ Status.Ok) × (ending_status ending ≢ Status.Usage)) }
-    ensures no_gap { IfErr result (λ ending. ending_status ending ≢ Status.Gap) }
+    ensures goes { VerifiesBy H.now H.may H.clock H.since H.said (P.left plan.old) (Rose (P.faults plan.old) (P.faults plan.new)) (status_after result) (line_after result) host.old host.new }
+    ensures shows { Shows H.now H.may H.clock H.since H.said (Some Command.Verify) (P.left plan.old) (status_after result) (line_after result) host.old host.new }
+    ensures causes { Causes (Some Command.Verify) (P.left plan.old) None (H.now host.old) (H.now host.new) (H.may host.old) ⊤ (Rose (P.faults plan.old) (P.faults plan.new)) ⊥ (Rose (H.out_faults host.old) (H.out_faults host.new)) (Rose (H.disk_faults host.old) (H.disk_faults host.new)) (status_after result) (line_after result) (refusal_after result) }
     ensures leaves { LeavesFiles H.now H.may H.clock H.since host.old host.new }
     ensures later_out { H.out_faults host.old ≤ H.out_faults host.new }
 {
@@ -273,68 +105,30 @@ fn verify_with_plan<P: Source, H: Host>(
         Ok(asked) => asked,
         Err(ending) => return Err(ending),
     };
-    match verify(alloc, &asked, host) {
-        Ok(()) => Ok(()),
-        Err(ending) => Err(ending),
-    }
+    verify(alloc, &asked, host)
 }
 
-/// Does what the command asks for.
+/// Does what the words ask for. An error says how the call ends: its last line isn't put yet.
 fn run_command<P: Source, I: Source, H: Host>(
     alloc: Global,
-    command: Command,
+    words: &[String],
     plan: &mut P,
     input: &mut I,
     host: &mut H,
 ) -> Result<(), Ending>
-    requires first { (first : ℕ) → command ≡ Command.Run first → first ≤ 2 ^ 61 }
-    requires few { (lines seed : ℕ) → command ≡ Command.Trial lines seed → lines ≤ 200000 }
-    ensures went { (first : ℕ) → command ≡ Command.Run first → (told : ToldRun (P.left plan.old) (I.left input.old) (H.now host.old) (H.may host.old) (H.said host.old)) → (from : ℕ)
-        × Went H.may H.clock H.since H.said told.asks (begun_in told from first) told.ready.openable.image (I.left input.new) (Rose (P.faults plan.old) (P.faults plan.new)) (status_after result) (line_after result) host.old host.new }
-    ensures never_damaged { IsRun (Some command) → ToldRun (P.left plan.old) (I.left input.old) (H.now host.old) (H.may host.old) (H.said host.old) → status_after result ≡ Status.Store → ⊥ }
-    ensures replayed { (first : ℕ) → command ≡ Command.Replay first → (told : ToldReplay (P.left plan.old) (H.now host.old) (H.may host.old)) →
-        Replayed H.said H.clock H.since (text_of_replay told first) (Rose (P.faults plan.old) (P.faults plan.new)) (status_after result) (line_after result) host.old host.new }
-    ensures replay_unfit { (bytes : List ℕ) (asks : Planned) (v : Image) → IsReplay (Some command) → P.left plan.old ≡ Some bytes → IsPlan bytes asks → H.now host.old ≡ Some v → IsUnfit asks v → ReplaysNothing H.said H.clock H.since asks (H.now host.old) (status_after result) (line_after result) host.old host.new }
-    ensures verified { IsVerify (Some command) → (told : ToldVerify (P.left plan.old) (H.now host.old)) →
-        Verified H.said H.clock H.since told.asks told.ready.image told.ready.events (Rose (P.faults plan.old) (P.faults plan.new)) (status_after result) (line_after result) host.old host.new }
-    ensures silent { IsVerify (Some command) → IsSilent H.said H.clock H.since (status_after result) host.old host.new }
-    ensures fit { IsVerify (Some command) → IsWhole (status_after result) → (bytes : List ℕ) (asks : Planned) (v : Image) → P.left plan.old ≡ Some bytes → IsPlan bytes asks → H.now host.old ≡ Some v → IsRefusedStore asks v → ⊥ }
-    ensures differs { IfErr result (λ ending. ending_status ending ≡ Status.Differs → IsVerify (Some command) × IsLegalPlan (P.left plan.old)) }
-    ensures completes { OnOk result ((told : ToldPlan (Some command) (P.left plan.old) (H.now host.old)) → ForText (Some command) Status.Ok told.asks told.image (λ text. Puts H.said H.clock H.since host.old host.new (ended text))) }
-    ensures stops { IfErr result (λ ending. (told : ToldPlan (Some command) (P.left plan.old) (H.now host.old)) → ForText (Some command) (ending_status ending) told.asks told.image (λ text. (put : List ℕ) × Puts H.said H.clock H.since host.old host.new put × StopsAt (ending_status ending ≡ Status.Write) text put)) }
-    ensures line { IfErr result (λ ending. (told : ToldPlan (Some command) (P.left plan.old) (H.now host.old)) → ending_line ending ≡ line_for told.asks told.image (ending_status ending)) }
-    ensures at_end { OnOk result (IsRun (Some command) → IsAtEnd (I.left input.new)) }
-    ensures legal { OnOk result (ReadsPlan (Some command) → IsLegalPlan (P.left plan.old)) }
-    ensures undamaged { OnOk result (ShowsStore (Some command) → IsUndamaged (H.now host.old)) }
-    ensures within { OnOk result (IsRun (Some command) → IsWithinLimit (2 ^ 50) (I.left input.old)) }
-    ensures behind { (first : ℕ) → command ≡ Command.Run first → (told : ToldRun (P.left plan.old) (I.left input.old) (H.now host.old) (H.may host.old) (H.said host.old)) (keep : Option ℕ) → next_offset told.ready.held < first →
-        (input.new ≡ input.old) × IsWithinOpening H.may H.clock H.since H.said told.asks keep told.ready.openable.image host.old host.new
-        × EndsBehind first (next_offset told.ready.held) (Rose (P.faults plan.old) (P.faults plan.new)) (status_after result) (line_after result) }
-    ensures unfit { (bytes : List ℕ) (asks : Planned) (v : Image) → IsRun (Some command) → P.left plan.old ≡ Some bytes → IsPlan bytes asks → H.now host.old ≡ Some v → IsUnfit asks v →
-        (input.new ≡ input.old) × IsLeftAlone H.now H.may H.clock H.since H.said v host.old host.new × EndsUnfit asks v (Rose (P.faults plan.old) (P.faults plan.new)) (status_after result) (line_after result) }
-    ensures refused { IfErr result (λ ending. ending_status ending ≡ Status.Plan → ReadsPlan (Some command) × IsRefusedPlan (P.left plan.old)) }
-    ensures told { IfErr result (λ ending. ending_status ending ≡ Status.Plan → TellsFault (P.left plan.old) (ending_refusal ending)) }
-    ensures read { IfErr result (λ ending. ending_status ending ≡ Status.Read → Rose (P.faults plan.old) (P.faults plan.new) ⊎ (IsLegalPlan (P.left plan.old) × IsRun (Some command) × Rose (I.faults input.old) (I.faults input.new))) }
-    ensures write { IfErr result (λ ending. ending_status ending ≡ Status.Write → (ReadsPlan (Some command) → IsLegalPlan (P.left plan.old)) × Rose (H.out_faults host.old) (H.out_faults host.new)) }
-    ensures limit { IfErr result (λ ending. ending_status ending ≡ Status.Limit → (ReadsPlan (Some command) × IsLonger 65536 (P.left plan.old)) ⊎ (IsLegalPlan (P.left plan.old) × IsRun (Some command) × IsLonger (2 ^ 50) (I.left input.old))) }
-    ensures store { IfErr result (λ ending. ending_status ending ≡ Status.Store → (ShowsStore (Some command) × IsDamaged (H.now host.old)) ⊎ (IsRun (Some command) × RefusesStore (P.left plan.old) (H.now host.old) (H.now host.new) (input.new ≡ input.old) (ending_line ending))
-        ⊎ (IsReplay (Some command) × RefusesReplay (P.left plan.old) (H.now host.old) (H.may host.old) (ending_line ending)) ⊎ (IsVerify (Some command) × RefusesVerify (P.left plan.old) (H.now host.old) (ending_line ending))) }
-    ensures all_before { IfErr result (λ ending. ending_status ending ≡ Status.Store → ShowsStore (Some command) → ForSome (H.now host.old) (λ image. Puts H.said H.clock H.since host.old host.new (ended (before_damage (Some command) image)) × (ending_line ending ≡ damage_line (damage_of (image 2))))) }
-    ensures gap { IfErr result (λ ending. ending_status ending ≡ Status.Gap → (first : ℕ) × (command ≡ Command.Run first) × RefusesGap (P.left plan.old) (H.now host.old) first (input.new ≡ input.old) (ending_line ending)) }
-    ensures disk { IfErr result (λ ending. ending_status ending ≡ Status.Disk → (ShowsStore (Some command) ⊎ (IsRun (Some command) × IsLegalPlan (P.left plan.old)) ⊎ (IsReplay (Some command) × IsLegalPlan (P.left plan.old)) ⊎ (IsVerify (Some command) × IsLegalPlan (P.left plan.old))) × Rose (H.disk_faults host.old) (H.disk_faults host.new)) }
-    ensures early { IfErr result (λ ending. (ending_status ending ≢ Status.Ok) × (ending_status ending ≢ Status.Usage)) }
-    ensures plan_first { (status_after result ≡ Status.Plan) ⊎ TellsNoPlan (P.left plan.old) → input.new ≡ input.old }
-    ensures read_first { IfErr result (λ ending. ending_status ending ≡ Status.Read → ((input.new ≡ input.old) × LeavesFiles H.now H.may H.clock H.since host.old host.new) ⊎ Rose (I.faults input.old) (I.faults input.new)) }
-    ensures no_input { command ≡ Command.Check → input.new ≡ input.old }
-    ensures replay_alone { IsReplay (Some command) → input.new ≡ input.old }
-    ensures verify_alone { IsVerify (Some command) → input.new ≡ input.old }
-    ensures alone { (ReadsPlan (Some command) → ⊥) → (plan.new ≡ plan.old) × (input.new ≡ input.old) }
-    ensures trial { (lines seed : ℕ) → command ≡ Command.Trial lines seed → (status_after result ≡ Status.Ok) ⊎ (status_after result ≡ Status.Memory) ⊎ (status_after result ≡ Status.Write) }
-    ensures leaves { (IsRun (Some command) → ⊥) ⊎ (status_after result ≡ Status.Plan) ⊎ TellsNoPlan (P.left plan.old) → LeavesFiles H.now H.may H.clock H.since host.old host.new }
+    ensures does { Does H.now H.may H.clock H.since H.said (command_of words.now) (P.left plan.old) (I.left input.old) (I.left input.new) (input.new ≡ input.old) (Rose (P.faults plan.old) (P.faults plan.new)) (status_after result) (line_after result) host.old host.new }
+    ensures shows { Shows H.now H.may H.clock H.since H.said (command_of words.now) (P.left plan.old) (status_after result) (line_after result) host.old host.new }
+    ensures causes { Causes (command_of words.now) (P.left plan.old) (I.left input.old) (H.now host.old) (H.now host.new) (H.may host.old) (input.new ≡ input.old) (Rose (P.faults plan.old) (P.faults plan.new)) (Rose (I.faults input.old) (I.faults input.new)) (Rose (H.out_faults host.old) (H.out_faults host.new)) (Rose (H.disk_faults host.old) (H.disk_faults host.new)) (status_after result) (line_after result) (refusal_after result) }
+    ensures alone { LeavesAlone (command_of words.now) (P.left plan.old) (plan.new ≡ plan.old) (input.new ≡ input.old) (LeavesFiles H.now H.may H.clock H.since host.old host.new) (Rose (I.faults input.old) (I.faults input.new)) (status_after result) }
     ensures later_out { H.out_faults host.old ≤ H.out_faults host.new }
 {
+    let Some(command) = Command::named(words) else {
+        return Err(Ending::Failed(Status::Usage));
+    };
     match command {
-        Command::Run(first) => run_with_plan(alloc, first, plan, input, host),
+        Command::Run(first) => {
+            run::<P, I, H, Brand>(alloc, first, plan, input, host, Blank::new(1))
+        }
         Command::Replay(first) => replay_with_plan(alloc, first, plan, host),
         Command::Verify => verify_with_plan(alloc, plan, host),
         Command::Check => check_with_plan(alloc, plan, host),
@@ -344,116 +138,36 @@ fn run_command<P: Source, I: Source, H: Host>(
     }
 }
 
-/// Puts the last line of a call that ends early, if it has one. Its own failure leaves the status.
-fn end<H: Host>(host: &mut H, ending: &Ending) -> Status
-    ensures status { result ≡ ending_status ending.now }
-    ensures part { (part : List ℕ) × IsPrefix part (ending_line ending.now) × Puts H.said H.clock H.since host.old host.new part }
-    ensures whole { Puts H.said H.clock H.since host.old host.new (ending_line ending.now) ⊎ Rose (H.out_faults host.old) (H.out_faults host.new) }
-    ensures silent { ending_line ending.now ≡ [] → host.new ≡ host.old }
+/// Why the plan was refused, where it was.
+fn refusal_after(done: &Result<(), Ending>) -> Option<Refusal>
+    ensures { result ≡ refusal_after done.now }
+{
+    match done {
+        Ok(()) => None,
+        Err(ending) => ending.refusal(),
+    }
+}
+
+/// Puts the last line of a call, if it has one, and answers its status. Its own failure leaves the
+/// status.
+fn end<H: Host>(host: &mut H, done: &Result<(), Ending>) -> Status
+    ensures status { result ≡ status_after done.now }
+    ensures put { PutsLine H.said H.clock H.since (line_after done.now) (Rose (H.out_faults host.old) (H.out_faults host.new)) host.old host.new }
+    ensures silent { line_after done.now ≡ [] → host.new ≡ host.old }
     ensures leaves { LeavesFiles H.now H.may H.clock H.since host.old host.new }
     ensures disk_faults { H.disk_faults host.new ≡ H.disk_faults host.old }
     ensures later_out { H.out_faults host.old ≤ H.out_faults host.new }
 {
+    let ending = match done {
+        Ok(()) => return Status::Ok,
+        Err(ending) => ending,
+    };
     let line = ending.last_line();
     if line.is_empty() {
         return ending.status();
     }
-    match put_all(host, line) {
-        Ok(()) => ending.status(),
-        Err(_) => ending.status(),
-    }
-}
-
-/// Carries out the words and ends with a status, clause by clause but for what follows from the causes.
-fn run_words<P: Source, I: Source, H: Host>(
-    alloc: Global,
-    words: &[String],
-    plan: &mut P,
-    input: &mut I,
-    host: &mut H,
-    refusal: &mut Option<Refusal>,
-) -> Status
-    ensures complete { result ≡ Status.Ok → (told : ToldPlan (command_of words.now) (P.left plan.old) (H.now host.old)) → ForText (command_of words.now) Status.Ok told.asks told.image (λ text. Puts H.said H.clock H.since host.old host.new (ended text)) }
-    ensures put_so_far { (told : ToldPlan (command_of words.now) (P.left plan.old) (H.now host.old)) → ForText (command_of words.now) result told.asks told.image (λ text.
-        (put : List ℕ) × Puts H.said H.clock H.since host.old host.new put × IsPut text (line_for told.asks told.image result) put) }
-    ensures last_line_whole { (told : ToldPlan (command_of words.now) (P.left plan.old) (H.now host.old)) → ForText (command_of words.now) result told.asks told.image (λ text.
-        ((put : List ℕ) × Puts H.said H.clock H.since host.old host.new put × StopsWith text (line_for told.asks told.image result) put) ⊎ Rose (H.out_faults host.old) (H.out_faults host.new)) }
-    ensures complete_run { result ≡ Status.Ok → (first : ℕ) → command_of words.now ≡ Some (Command.Run first) → (told : ToldRun (P.left plan.old) (I.left input.old) (H.now host.old) (H.may host.old) (H.said host.old)) →
-        (from : ℕ) × IsComplete told.asks (begun_in told from first) told.ready.openable.image (H.may host.new) (H.said host.new) }
-    ensures every_moment { (first : ℕ) → command_of words.now ≡ Some (Command.Run first) → (told : ToldRun (P.left plan.old) (I.left input.old) (H.now host.old) (H.may host.old) (H.said host.old)) → (from : ℕ) × (last : List ℕ) × IsLastOf result (begun_in told from first) last
-        × IsToldFrom told.asks told.ready.openable.image (begun_in told from first) last (H.said host.new)
-        × Moments H.clock H.since host.old host.new (λ m. Promised (store_of told.asks) (course_for told.asks (begun_in told from first)) (H.may host.old) last m.image m.said) }
-    ensures last_line_run { (first : ℕ) → command_of words.now ≡ Some (Command.Run first) → (told : ToldRun (P.left plan.old) (I.left input.old) (H.now host.old) (H.may host.old) (H.said host.old)) →
-        ((from : ℕ) × (last : List ℕ) × IsLastOf result (begun_in told from first) last × IsToldFrom told.asks told.ready.openable.image (begun_in told from first) last (H.said host.new) × EndsWhole told.asks (begun_in told from first) last (H.said host.new)) ⊎ Rose (H.out_faults host.old) (H.out_faults host.new) }
-    ensures no_reply_lost { (first : ℕ) → command_of words.now ≡ Some (Command.Run first) → (told : ToldRun (P.left plan.old) (I.left input.old) (H.now host.old) (H.may host.old) (H.said host.old)) → (from : ℕ) × (last : List ℕ) × IsLastOf result (begun_in told from first) last
-        × Moments H.clock H.since host.old host.new (IsAtMostOneAhead told.asks (begun_in told from first) (H.may host.old) last) }
-    ensures saved_kept { (first : ℕ) → command_of words.now ≡ Some (Command.Run first) → (told : ToldRun (P.left plan.old) (I.left input.old) (H.now host.old) (H.may host.old) (H.said host.old)) → (from : ℕ)
-        × Moments H.clock H.since host.old host.new (HasLastSaved told.asks (begun_in told from first)) }
-    ensures replies_put { (result ≡ Status.Read) ⊎ (result ≡ Status.Limit) → (first : ℕ) → command_of words.now ≡ Some (Command.Run first) → (told : ToldRun (P.left plan.old) (I.left input.old) (H.now host.old) (H.may host.old) (H.said host.old)) →
-        ((from : ℕ) × IsFromIn told.asks told.ready.openable.image from × EndsAnswered told.asks (begun_in told from first) (I.left input.new) (status_line result) (H.said host.new) (result ≡ Status.Limit))
-        ⊎ Rose (P.faults plan.old) (P.faults plan.new) ⊎ Rose (H.out_faults host.old) (H.out_faults host.new) }
-    ensures resumes { result ≡ Status.Ok → command_of words.now ≡ Some (Command.Run 0) → (told : ToldRun (P.left plan.old) (I.left input.old) (H.now host.old) (H.may host.old) (H.said host.old)) →
-        told.ready.held ≡ below (next_offset told.ready.held) (events_after (terms_of told.asks).basis [] 0 (lines_of told.input_bytes)) → (from : ℕ) × Resumes told.asks (begun_in told from 0) (H.said host.new) }
-    ensures replayed { result ≡ Status.Ok → (first : ℕ) → command_of words.now ≡ Some (Command.Replay first) → (told : ToldReplay (P.left plan.old) (H.now host.old) (H.may host.old)) →
-        Puts H.said H.clock H.since host.old host.new (ended (text_of_replay told first)) }
-    ensures replay_put { (first : ℕ) → command_of words.now ≡ Some (Command.Replay first) → (told : ToldReplay (P.left plan.old) (H.now host.old) (H.may host.old)) →
-        PutsReplay H.said H.clock H.since (text_of_replay told first) (Rose (H.out_faults host.old) (H.out_faults host.new)) result host.old host.new }
-    ensures replay_refused { IsReplay (command_of words.now) → (bytes : List ℕ) (asks : Planned) (v : Image) → P.left plan.old ≡ Some bytes → IsPlan bytes asks → H.now host.old ≡ Some v → IsUnfit asks v →
-        PutsRefusal H.said H.clock H.since asks (H.now host.old) (Rose (H.out_faults host.old) (H.out_faults host.new)) result host.old host.new }
-    ensures verified { IsVerify (command_of words.now) → IsWhole result → (told : ToldVerify (P.left plan.old) (H.now host.old)) →
-        IsSaid (terms_for told.asks) told.ready.image told.ready.events (Puts H.said H.clock H.since host.old host.new) (is_differs result) }
-    ensures verify_cut { IsVerify (command_of words.now) → result ≡ Status.Write → (told : ToldVerify (P.left plan.old) (H.now host.old)) →
-        IsCut (terms_for told.asks) told.ready.image told.ready.events (Puts H.said H.clock H.since host.old host.new) }
-    ensures verify_silent { IsVerify (command_of words.now) → (bytes : List ℕ) (asks : Planned) → P.left plan.old ≡ Some bytes → IsPlan bytes asks → (IsWhole result → ⊥) → result ≢ Status.Write →
-        (last : List ℕ) × IsVerifyLast asks (H.now host.old) result last × PutsLine H.said H.clock H.since last (Rose (H.out_faults host.old) (H.out_faults host.new)) host.old host.new }
-    ensures verify_fit { IsVerify (command_of words.now) → IsWhole result → (bytes : List ℕ) (asks : Planned) (v : Image) → P.left plan.old ≡ Some bytes → IsPlan bytes asks → H.now host.old ≡ Some v → IsRefusedStore asks v → ⊥ }
-    ensures input_read { result ≡ Status.Ok → IsRun (command_of words.now) → IsAtEnd (I.left input.new) }
-    ensures gap_always { result ≡ Status.Ok → (first : ℕ) → command_of words.now ≡ Some (Command.Run first) → (told : ToldRun (P.left plan.old) (I.left input.old) (H.now host.old) (H.may host.old) (H.said host.old)) → first ≤ next_offset told.ready.held }
-    ensures behind { (first : ℕ) → command_of words.now ≡ Some (Command.Run first) → (told : ToldRun (P.left plan.old) (I.left input.old) (H.now host.old) (H.may host.old) (H.said host.old)) (slot : ℕ) → next_offset told.ready.held < first → (input.new ≡ input.old)
-        × IsBehind H.may H.clock H.since H.said told.asks told.ready.held told.ready.openable.image first slot (Rose (P.faults plan.old) (P.faults plan.new)) (Rose (H.out_faults host.old) (H.out_faults host.new)) result host.old host.new }
-    ensures gap_never { result ≡ Status.Gap → (first : ℕ) → command_of words.now ≡ Some (Command.Run first) → (told : ToldRun (P.left plan.old) (I.left input.old) (H.now host.old) (H.may host.old) (H.said host.old)) → next_offset told.ready.held < first }
-    ensures usage_only { result ≡ Status.Usage → command_of words.now ≡ None }
-    ensures usage_always { command_of words.now ≡ None → result ≡ Status.Usage }
-    ensures ok_only { result ≡ Status.Ok → (ReadsPlan (command_of words.now) → IsLegalPlan (P.left plan.old)) × (IsRun (command_of words.now) → IsWithinLimit (2 ^ 50) (I.left input.old)) × (ShowsStore (command_of words.now) → IsUndamaged (H.now host.old)) }
-    ensures plan_only { result ≡ Status.Plan → ReadsPlan (command_of words.now) × IsRefusedPlan (P.left plan.old) }
-    ensures store_only { result ≡ Status.Store → (ShowsStore (command_of words.now) × IsDamaged (H.now host.old))
-        ⊎ (IsRun (command_of words.now) × ((last : List ℕ) × RefusesStore (P.left plan.old) (H.now host.old) (H.now host.new) (input.new ≡ input.old) last × (EndsWith (H.said host.new) last ⊎ Rose (H.out_faults host.old) (H.out_faults host.new))))
-        ⊎ (IsReplay (command_of words.now) × ((last : List ℕ) × RefusesReplay (P.left plan.old) (H.now host.old) (H.may host.old) last × (EndsWith (H.said host.new) last ⊎ Rose (H.out_faults host.old) (H.out_faults host.new))))
-        ⊎ (IsVerify (command_of words.now) × ((last : List ℕ) × RefusesVerify (P.left plan.old) (H.now host.old) last × (EndsWith (H.said host.new) last ⊎ Rose (H.out_faults host.old) (H.out_faults host.new)))) }
-    ensures store_always { IsRun (command_of words.now) → (bytes : List ℕ) (asks : Planned) (v : Image) → P.left plan.old ≡ Some bytes → IsPlan bytes asks → H.now host.old ≡ Some v → IsUnfit asks v → (input.new ≡ input.old)
-        × IsTurnedAway H.now H.may H.clock H.since H.said asks v (Rose (P.faults plan.old) (P.faults plan.new)) (Rose (H.out_faults host.old) (H.out_faults host.new)) result host.old host.new }
-    ensures gap_only { result ≡ Status.Gap → (first : ℕ) × (command_of words.now ≡ Some (Command.Run first))
-        × ((last : List ℕ) × RefusesGap (P.left plan.old) (H.now host.old) first (input.new ≡ input.old) last × (EndsWith (H.said host.new) last ⊎ Rose (H.out_faults host.old) (H.out_faults host.new))) }
-    ensures disk_only { result ≡ Status.Disk → (ShowsStore (command_of words.now) ⊎ (IsRun (command_of words.now) × IsLegalPlan (P.left plan.old)) ⊎ (IsReplay (command_of words.now) × IsLegalPlan (P.left plan.old)) ⊎ (IsVerify (command_of words.now) × IsLegalPlan (P.left plan.old))) × Rose (H.disk_faults host.old) (H.disk_faults host.new) }
-    ensures read_only { result ≡ Status.Read → Rose (P.faults plan.old) (P.faults plan.new) ⊎ (IsLegalPlan (P.left plan.old) × IsRun (command_of words.now) × Rose (I.faults input.old) (I.faults input.new)) }
-    ensures write_only { result ≡ Status.Write → (ReadsPlan (command_of words.now) → IsLegalPlan (P.left plan.old)) × Rose (H.out_faults host.old) (H.out_faults host.new) }
-    ensures limit_only { result ≡ Status.Limit → (ReadsPlan (command_of words.now) × IsLonger 65536 (P.left plan.old)) ⊎ (IsLegalPlan (P.left plan.old) × IsRun (command_of words.now) × IsLonger (2 ^ 50) (I.left input.old)) }
-    ensures failure_told { (result ≡ Status.Ok) ⊎ (result ≡ Status.Plan) ⊎ (result ≡ Status.Store) ⊎ (result ≡ Status.Gap) ⊎ EndsWith (H.said host.new) (status_line result) ⊎ Rose (H.out_faults host.old) (H.out_faults host.new) }
-    ensures differs_only { result ≡ Status.Differs → IsVerify (command_of words.now) × IsLegalPlan (P.left plan.old) }
-    ensures trial_only { (lines seed : ℕ) → command_of words.now ≡ Some (Command.Trial lines seed) → (result ≡ Status.Ok) ⊎ (result ≡ Status.Memory) ⊎ (result ≡ Status.Write) }
-    ensures store_never { IsRun (command_of words.now) → ToldRun (P.left plan.old) (I.left input.old) (H.now host.old) (H.may host.old) (H.said host.old) → result ≢ Status.Store }
-    ensures refusal_told { result ≡ Status.Plan → TellsFault (P.left plan.old) refusal.new }
-    ensures usage_first { result ≡ Status.Usage → (plan.new ≡ plan.old) × (input.new ≡ input.old) }
-    ensures plan_first { (result ≡ Status.Plan) ⊎ TellsNoPlan (P.left plan.old) → input.new ≡ input.old }
-    ensures read_first { result ≡ Status.Read → ((input.new ≡ input.old) × LeavesFiles H.now H.may H.clock H.since host.old host.new) ⊎ Rose (I.faults input.old) (I.faults input.new) }
-    ensures check_alone { command_of words.now ≡ Some Command.Check → input.new ≡ input.old }
-    ensures replay_alone { IsReplay (command_of words.now) → input.new ≡ input.old }
-    ensures verify_alone { IsVerify (command_of words.now) → input.new ≡ input.old }
-    ensures alone { (ReadsPlan (command_of words.now) → ⊥) → (plan.new ≡ plan.old) × (input.new ≡ input.old) }
-    ensures files_stay { (IsRun (command_of words.now) → ⊥) ⊎ (result ≡ Status.Plan) ⊎ TellsNoPlan (P.left plan.old) → LeavesFiles H.now H.may H.clock H.since host.old host.new }
-    ensures rows_before_damage { result ≡ Status.Store → ShowsStore (command_of words.now) → ForSome (H.now host.old) (λ image. Puts H.said H.clock H.since host.old host.new (ended (before_damage (command_of words.now) image) ++ damage_line (damage_of (image 2)))) ⊎ Rose (H.out_faults host.old) (H.out_faults host.new) }
-{
-    *refusal = None;
-    let Some(command) = Command::named(words) else {
-        return end(host, &Ending::Failed(Status::Usage));
-    };
-    match run_command(alloc, command, plan, input, host) {
-        Ok(()) => Status::Ok,
-        Err(ending) => {
-            *refusal = ending.refusal();
-            end(host, &ending)
-        }
-    }
+    let _ = put_all(host, line);
+    ending.status()
 }
 
 /// Does all that the program does: with the words `run PLAN STORE` it answers the input by the plan over
@@ -518,10 +232,11 @@ pub fn railgun<P: Source, I: Source, H: Host>(
     ensures saved_kept { (first : ℕ) → command_of words.now ≡ Some (Command.Run first) → (told : ToldRun (P.left plan.old) (I.left input.old) (H.now host.old) (H.may host.old) (H.said host.old)) → (from : ℕ)
         × Moments H.clock H.since host.old host.new (HasLastSaved told.asks (begun_in told from first)) }
 
-    // Where the input could not be read on, each line that LF ended was answered, and the last line follows, unless a put failed.
+    // Where the input could not be read on, each line that LF ended was answered, and the last line follows, unless a put failed; where a
+    // read of the plan failed, that line alone was put, and the input was left alone.
     ensures replies_put { (result ≡ Status.Read) ⊎ (result ≡ Status.Limit) → (first : ℕ) → command_of words.now ≡ Some (Command.Run first) → (told : ToldRun (P.left plan.old) (I.left input.old) (H.now host.old) (H.may host.old) (H.said host.old)) →
         ((from : ℕ) × IsFromIn told.asks told.ready.openable.image from × EndsAnswered told.asks (begun_in told from first) (I.left input.new) (status_line result) (H.said host.new) (result ≡ Status.Limit))
-        ⊎ Rose (P.faults plan.old) (P.faults plan.new) ⊎ Rose (H.out_faults host.old) (H.out_faults host.new) }
+        ⊎ ((input.new ≡ input.old) × (H.said host.new ≡ after (H.said host.old) (status_line result)) × Rose (P.faults plan.old) (P.faults plan.new)) ⊎ Rose (H.out_faults host.old) (H.out_faults host.new) }
 
     // A run over what an earlier run of the same input left goes on with the text of one that is never stopped.
     ensures resumes { result ≡ Status.Ok → command_of words.now ≡ Some (Command.Run 0) → (told : ToldRun (P.left plan.old) (I.left input.old) (H.now host.old) (H.may host.old) (H.said host.old)) →
@@ -530,6 +245,9 @@ pub fn railgun<P: Source, I: Source, H: Host>(
 
     // A run goes on only where its first line is at most the store's next one.
     ensures gap_always { result ≡ Status.Ok → (first : ℕ) → command_of words.now ≡ Some (Command.Run first) → (told : ToldRun (P.left plan.old) (I.left input.old) (H.now host.old) (H.may host.old) (H.said host.old)) → first ≤ next_offset told.ready.held }
+
+    // So over any legal log, whatever the slots have and whatever the input and the output tell.
+    ensures no_gap { result ≡ Status.Ok → (first : ℕ) → command_of words.now ≡ Some (Command.Run first) → (bytes : List ℕ) (asks : Planned) (v : Image) (events : List Event) → P.left plan.old ≡ Some bytes → IsPlan bytes asks → H.now host.old ≡ Some v → Has asks events v → first ≤ next_offset events }
 
     // Where it is behind that, nothing is read, answered or stored: nothing is put but the last line.
     ensures behind { (first : ℕ) → command_of words.now ≡ Some (Command.Run first) → (told : ToldRun (P.left plan.old) (I.left input.old) (H.now host.old) (H.may host.old) (H.said host.old)) (slot : ℕ) → next_offset told.ready.held < first → (input.new ≡ input.old)
@@ -654,5 +372,7 @@ pub fn railgun<P: Source, I: Source, H: Host>(
     ensures completes_gap { (first : ℕ) → command_of words.now ≡ Some (Command.Run first) → (told : ToldRun (P.left plan.old) (I.left input.old) (H.now host.old) (H.may host.old) (H.said host.old)) → next_offset told.ready.held < first →
         ¬ (Rose (P.faults plan.old) (P.faults plan.new) ⊎ Rose (H.disk_faults host.old) (H.disk_faults host.new)) → (result ≡ Status.Gap) ⊎ (result ≡ Status.Memory) }
 {
-    run_words(alloc, words, plan, input, host, refusal)
+    let done = run_command(alloc, words, plan, input, host);
+    *refusal = refusal_after(&done);
+    end(host, &done)
 }

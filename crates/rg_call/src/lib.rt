@@ -8,6 +8,7 @@ mod command;
 mod dump;
 mod ending;
 mod info;
+mod load;
 mod refused;
 mod replay;
 mod running;
@@ -16,3 +17,4 @@ mod verify;
 
 pub use call::railgun;
 pub use command::Command;
+pub use trial::{TrialFault, run_trial};

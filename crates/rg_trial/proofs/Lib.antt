@@ -1,5 +1,4 @@
 pub mod Words
 pub mod Inputs
 pub mod Texts
-pub mod NewStore
 pub mod Numbers

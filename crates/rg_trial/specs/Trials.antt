@@ -1,5 +1,5 @@
 -- The trial: what it puts, and what is counted of that.
-use Rattle.std.specs.Prelude.{◌≡◌, ◌≤◌, ◌^◌, ℕ, zero, suc, List, [], ◌∷◌, ◌++◌, length, codes, decimal, Option, Some, Ok, ⊤}
+use Rattle.std.specs.Prelude.{◌≡◌, ℕ, zero, suc, List, [], ◌∷◌, ◌++◌, length, codes, decimal, Ok}
 use Rattle.std.specs.List.{sum}
 use Rattle.rg_host.specs.Lines.{ended, lines_of}
 use Rattle.rg_config.specs.Plans.{Planned, Says}
@@ -7,8 +7,6 @@ use Rattle.rg_config.specs.declared.fault.ConfigFault.{ConfigFault}
 use Rattle.rg_course.specs.Accepted.{events_after}
 use Rattle.rg_course.specs.Output.{text_of_run}
 use Rattle.rg_task.specs.Terms.{terms_of}
-use Rattle.rg_run.specs.declared.fault.RunFault.{RunFault}
-use Rattle.rg_run.specs.declared.fault.RunFault.TheVariants as run
 use Rattle.rg_scratch.specs.Lines.{made_line}
 use Rattle.rg_trial.specs.declared.trials.Trial.{Trial}
 
@@ -29,11 +27,6 @@ text_for plan input = ended (text_of_run (terms_of plan) [] 0 0 (lines_of input)
 abbrev pub count_for : Planned → List ℕ → ℕ
 count_for plan input = length (events_after (terms_of plan).basis [] 0 (lines_of input))
 
--- a run over a new store put its whole text
-pub record HasRun (plan : Planned) (input : List ℕ) (said : Option (List ℕ)) : Type 0 where
-  pub put : said ≡ Some (text_for plan input)
-  pub few : count_for plan input ≤ 2 ^ 40
-
 -- The numbers of a trial on so many made lines of a seed: how many lines and accepted events there are, how many bytes the text of the
 -- run has, and their sum as numbers.
 pub record IsTrial (seed n : ℕ) (t : Trial) : Type 0 where
@@ -43,14 +36,6 @@ pub record IsTrial (seed n : ℕ) (t : Trial) : Type 0 where
   pub events : t.events ≡ count_for asks (ended (made_lines seed n))
   pub bytes : t.bytes ≡ length (text_for asks (ended (made_lines seed n)))
   pub sum_is : t.sum ≡ sum (text_for asks (ended (made_lines seed n)))
-
--- a run over a new store may meet this fault: its store is neither damaged nor another plan's, and its input has no gap
-abbrev pub MayMeet : RunFault → Type 0
-MayMeet (run.Damaged place) = ⊥
-MayMeet run.SchemaDiffers = ⊥
-MayMeet (run.BadState node) = ⊥
-MayMeet (run.Gap next) = ⊥
-MayMeet fault = ⊤
 
 -- the four lines of a trial
 abbrev pub trial_lines : Trial → List (List ℕ)

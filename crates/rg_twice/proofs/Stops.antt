@@ -38,9 +38,9 @@ use Rattle.rg_open.specs.Stores.{store_of, Has, IsOfPlan}
 use Rattle.rg_open.specs.Truth.{IsTrueOf, IsTruthfulImage}
 use Rattle.rg_task.specs.Terms.{terms_of}
 use Rattle.rg_run.specs.Begun.{Begun, course_for}
-use Rattle.rg_live.specs.Ready.{IsReadyRun, begun_by}
+use Rattle.rg_recover.specs.Ready.{IsReadyRun, begun_by}
 use Rattle.rg_run.specs.Reading.{IsLonger}
-use Rattle.rg_trial.proofs.NewStore.{bare, no_payload, bare_truthful, bare_has, new_host}
+use Rattle.rg_recover.proofs.NewStore.{bare, no_payload, bare_truthful, bare_has, new_host}
 use Rattle.rg_call.specs.Call.{command_of}
 use Rattle.rg_call.specs.declared.command.Command.TheVariants.{Run}
 use Rattle.rg_call.specs.Stored.{ToldRun, IsLastOf, Resumes}

@@ -17,7 +17,7 @@ use Rattle.rg_course.specs.Stores.{Promised}
 use Rattle.rg_open.specs.Stores.{Has, IsOfPlan, store_of}
 use Rattle.rg_open.specs.Truth.{IsTruthfulImage}
 use Rattle.rg_task.specs.Terms.{terms_of}
-use Rattle.rg_live.specs.Ready.{IsReadyRun, begun_by}
+use Rattle.rg_recover.specs.Ready.{IsReadyRun, begun_by}
 use Rattle.rg_run.specs.Begun.{course_for}
 use Rattle.rg_call.specs.Plan.{IsPlan}
 use Rattle.rg_call.specs.Call.{command_of}

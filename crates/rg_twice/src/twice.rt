@@ -10,7 +10,7 @@ ghost use Rattle.rg_course.specs.Laws.{IsPrefixOf};
 ghost use Rattle.rg_course.specs.Pieces.{whole_pieces};
 ghost use Rattle.rg_open.specs.Stores.{Has};
 ghost use Rattle.rg_open.specs.Truth.{IsTruthfulImage};
-ghost use Rattle.rg_live.specs.Ready.{IsReadyRun};
+ghost use Rattle.rg_recover.specs.Ready.{IsReadyRun};
 ghost use Rattle.rg_call.specs.Call.{command_of};
 ghost use Rattle.rg_call.specs.Plan.{IsPlan};
 ghost use Rattle.rg_twice.specs.Twice.{accepted_of, Words, AcceptsAlike, IsStartable, HasSuch, IsLeft, IsLastLeft, PutsRest, EndsWell, MayEnd, Runs};

@@ -1,150 +1,177 @@
-use Rattle.std.proofs.Common.{◌≡◌, ⊎_elim, inl, inr, [], refl, sym, ◌∙◌}
-use Rattle.rg_dump.specs.Dump.{dump_text}
-use Rattle.rg_call.specs.Call.{ending_status, ending_line}
-use Rattle.rg_call.specs.declared.command.Command.TheVariants.{Run, Replay}
-use Rattle.rg_report.specs.declared.status.Status.TheVariants.{Write}
+use Rattle.std.proofs.Common.{◌≡◌, [], Some, None, refl, ap, sym, ◌∙◌}
 use Rattle.rg_listing.proofs.Stopped.{nothing_stops}
-use Rattle.rg_call.proofs.Inputs.{on_err, on_errs, on_ok, any_err}
-use Rattle.rg_call.proofs.Refusing.{damage_told, trial_line}
+use Rattle.rg_call.specs.Call.{command_of}
+use Rattle.rg_call.specs.declared.command.Command.TheVariants.{Run, Replay, Verify, Check, Dump, Info, Trial}
+use Rattle.rg_report.specs.declared.status.Status.TheVariants.{Usage, Write}
+use Rattle.rg_call.proofs.Unread.{nothing_put, files_left}
+use Rattle.rg_call.proofs.Done.{causes_usage, without_input, leaves_alone, store_causes, trial_causes, trial_status, dump_shows, info_shows, trial_shows, does_run, does_replay, does_verify, does_trial, does_other}
 use Rattle.rg_call.proofs.call.run_command.Goals as goal
 
-pub returns-in-Run-clause-went : goal.returns-in-Run-clause-went
-returns-in-Run-clause-went g c = λ n is told.
-    let e : Run n ≡ Run c.in-Run.first = sym is ∙ c.in-Run.is in
-    let same : n ≡ c.in-Run.first = cc in
-    rw same (c.run_with_plan.ensures.went told)
+-- the words are no form of a command
 
-pub returns-in-Run-clause-behind : goal.returns-in-Run-clause-behind
-returns-in-Run-clause-behind g c = λ n is told keep.
-    let e : Run n ≡ Run c.in-Run.first = sym is ∙ c.in-Run.is in
-    let same : n ≡ c.in-Run.first = cc in
-    rw same (c.run_with_plan.ensures.behind told keep)
+pub returns-in_default-clause-does : goal.returns-in_default-clause-does
+returns-in_default-clause-does g c =
+    let form : command_of c.args.words.now ≡ None = sym c.named.ensures ∙ c.in_default.is in
+    rw form (does_other g.H.Host.now g.H.Host.may g.H.Host.clock g.H.Host.since g.H.Host.said _ _ _ _ _ _ _ _ _ None (λ run. run) (λ replay. replay) (λ verify. verify) (λ lines seed is. let e : None ≡ Some (Trial lines seed) = is in absurd (cc)))
 
-pub returns-in-Run-clause-completes : goal.returns-in-Run-clause-completes
-returns-in-Run-clause-completes g c = rw c.in-Run.is (on_ok c.run_with_plan.result _ _ (λ never told. absurd (never told)) c.run_with_plan.ensures.completes)
+pub returns-in_default-clause-shows : goal.returns-in_default-clause-shows
+returns-in_default-clause-shows g c =
+    let form : command_of c.args.words.now ≡ None = sym c.named.ensures ∙ c.in_default.is in
+    rw form (record {
+      all = λ e. absurd (cc e);
+      part = λ told. record { text = []; is = refl; holds = ([], nothing_put g.H.Host.now g.H.Host.may g.H.Host.clock g.H.Host.since g.H.Host.said g.met.H.Host.only_now g.met.H.Host.sinks c.args.host.now, nothing_stops (Usage ≡ Write) []) };
+      line = λ told. refl;
+      before = λ is shows. absurd shows;
+    })
 
-pub returns-in-Run-clause-stops : goal.returns-in-Run-clause-stops
-returns-in-Run-clause-stops g c =
-    rw c.in-Run.is (on_err c.run_with_plan.result _ _ (λ ending stops told. record { text = []; is = refl; holds = ([], stops told, nothing_stops (ending_status ending ≡ Write) []) }) c.run_with_plan.ensures.stops)
+pub returns-in_default-clause-causes : goal.returns-in_default-clause-causes
+returns-in_default-clause-causes g c =
+    let form : command_of c.args.words.now ≡ None = sym c.named.ensures ∙ c.in_default.is in
+    rw form (causes_usage _ _ _ _ _ _ _ _ _ _ _ _)
 
-pub returns-in-Run-clause-line : goal.returns-in-Run-clause-line
-returns-in-Run-clause-line g c = rw c.in-Run.is c.run_with_plan.ensures.line
+pub returns-in_default-clause-alone : goal.returns-in_default-clause-alone
+returns-in_default-clause-alone g c =
+    let form : command_of c.args.words.now ≡ None = sym c.named.ensures ∙ c.in_default.is in
+    rw form (leaves_alone None _ _ _ _ _ _ (λ unread. refl) refl (files_left g.H.Host.now g.H.Host.may g.H.Host.clock g.H.Host.since g.H.Host.said g.met.H.Host.only_now g.met.H.Host.sinks c.args.host.now))
 
-pub returns-in-Run-clause-unfit : goal.returns-in-Run-clause-unfit
-returns-in-Run-clause-unfit g c = λ bytes asks v run told says now unfit. c.run_with_plan.ensures.unfit bytes asks v told says now unfit
+-- each command
 
-pub returns-in-Run-clause-plan_first : goal.returns-in-Run-clause-plan_first
-returns-in-Run-clause-plan_first g c = λ why. (c.run_with_plan.ensures.plan_first why).0
+pub returns-in-Run-clause-does : goal.returns-in-Run-clause-does
+returns-in-Run-clause-does g c =
+    let form : command_of c.args.words.now ≡ Some (Run c.in-Run.first) = sym c.named.ensures ∙ c.in-Some.is ∙ ap (λ v. Some v) c.in-Run.is in
+    rw form (does_run g.H.Host.now g.H.Host.may g.H.Host.clock g.H.Host.since g.H.Host.said _ _ _ _ _ _ _ _ _ c.in-Run.first c.run.ensures.goes)
 
-pub returns-in-Run-clause-leaves : goal.returns-in-Run-clause-leaves
-returns-in-Run-clause-leaves g c = rw c.in-Run.is (λ why. ⊎_elim (λ not_run. absurd (not_run tt)) (λ no_plan. (c.run_with_plan.ensures.plan_first no_plan).1) why)
+pub returns-in-Run-clause-shows : goal.returns-in-Run-clause-shows
+returns-in-Run-clause-shows g c =
+    let form : command_of c.args.words.now ≡ Some (Run c.in-Run.first) = sym c.named.ensures ∙ c.in-Some.is ∙ ap (λ v. Some v) c.in-Run.is in
+    rw form (c.run.ensures.shows)
 
-pub returns-in-Replay-clause-replayed : goal.returns-in-Replay-clause-replayed
-returns-in-Replay-clause-replayed g c = λ n is told.
-    let e : Replay n ≡ Replay c.in-Replay.first = sym is ∙ c.in-Replay.is in
-    let same : n ≡ c.in-Replay.first = cc in
-    rw same (c.replay_with_plan.ensures.replayed told)
+pub returns-in-Run-clause-causes : goal.returns-in-Run-clause-causes
+returns-in-Run-clause-causes g c =
+    let form : command_of c.args.words.now ≡ Some (Run c.in-Run.first) = sym c.named.ensures ∙ c.in-Some.is ∙ ap (λ v. Some v) c.in-Run.is in
+    rw form (c.run.ensures.causes)
 
-pub returns-in-Replay-clause-replay_unfit : goal.returns-in-Replay-clause-replay_unfit
-returns-in-Replay-clause-replay_unfit g c = λ bytes asks v replays told says now unfit. c.replay_with_plan.ensures.unfit bytes asks v told says now unfit
+pub returns-in-Run-clause-alone : goal.returns-in-Run-clause-alone
+returns-in-Run-clause-alone g c =
+    let form : command_of c.args.words.now ≡ Some (Run c.in-Run.first) = sym c.named.ensures ∙ c.in-Some.is ∙ ap (λ v. Some v) c.in-Run.is in
+    rw form (c.run.ensures.alone)
 
-pub returns-in-Replay-clause-completes : goal.returns-in-Replay-clause-completes
-returns-in-Replay-clause-completes g c = rw c.in-Replay.is (on_ok c.replay_with_plan.result _ _ (λ never told. absurd (never told)) c.replay_with_plan.ensures.completes)
+pub returns-in-Replay-clause-does : goal.returns-in-Replay-clause-does
+returns-in-Replay-clause-does g c =
+    let form : command_of c.args.words.now ≡ Some (Replay c.in-Replay.first) = sym c.named.ensures ∙ c.in-Some.is ∙ ap (λ v. Some v) c.in-Replay.is in
+    rw form (does_replay g.H.Host.now g.H.Host.may g.H.Host.clock g.H.Host.since g.H.Host.said _ _ _ _ _ _ _ _ _ c.in-Replay.first c.replay_with_plan.ensures.goes)
 
-pub returns-in-Replay-clause-stops : goal.returns-in-Replay-clause-stops
-returns-in-Replay-clause-stops g c =
-    rw c.in-Replay.is (on_err c.replay_with_plan.result _ _ (λ ending stops told. record { text = []; is = refl; holds = ([], stops told, nothing_stops (ending_status ending ≡ Write) []) }) c.replay_with_plan.ensures.stops)
+pub returns-in-Replay-clause-shows : goal.returns-in-Replay-clause-shows
+returns-in-Replay-clause-shows g c =
+    let form : command_of c.args.words.now ≡ Some (Replay c.in-Replay.first) = sym c.named.ensures ∙ c.in-Some.is ∙ ap (λ v. Some v) c.in-Replay.is in
+    rw form (c.replay_with_plan.ensures.shows)
 
-pub returns-in-Replay-clause-line : goal.returns-in-Replay-clause-line
-returns-in-Replay-clause-line g c = rw c.in-Replay.is c.replay_with_plan.ensures.line
+pub returns-in-Replay-clause-causes : goal.returns-in-Replay-clause-causes
+returns-in-Replay-clause-causes g c =
+    let form : command_of c.args.words.now ≡ Some (Replay c.in-Replay.first) = sym c.named.ensures ∙ c.in-Some.is ∙ ap (λ v. Some v) c.in-Replay.is in
+    rw form (without_input (Some (Replay c.in-Replay.first)) (λ run. run) _ _ _ _ _ _ _ _ _ _ _ _ _ c.replay_with_plan.ensures.causes)
 
-pub returns-in-Replay-clause-store : goal.returns-in-Replay-clause-store
-returns-in-Replay-clause-store g c = rw c.in-Replay.is (on_err c.replay_with_plan.result _ _ (λ ending store is. inr (inr (inl (tt, store is)))) c.replay_with_plan.ensures.store)
+pub returns-in-Replay-clause-alone : goal.returns-in-Replay-clause-alone
+returns-in-Replay-clause-alone g c =
+    let form : command_of c.args.words.now ≡ Some (Replay c.in-Replay.first) = sym c.named.ensures ∙ c.in-Some.is ∙ ap (λ v. Some v) c.in-Replay.is in
+    rw form (leaves_alone (Some (Replay c.in-Replay.first)) _ _ _ _ _ _ (λ unread. absurd (unread tt)) refl c.replay_with_plan.ensures.leaves)
 
-pub returns-in-Replay-clause-disk : goal.returns-in-Replay-clause-disk
-returns-in-Replay-clause-disk g c = rw c.in-Replay.is (on_err c.replay_with_plan.result _ _ (λ ending disk is. (inr (inr (inl (tt, (disk is).0))), (disk is).1)) c.replay_with_plan.ensures.disk)
+pub returns-in-Verify-clause-does : goal.returns-in-Verify-clause-does
+returns-in-Verify-clause-does g c =
+    let form : command_of c.args.words.now ≡ Some Verify = sym c.named.ensures ∙ c.in-Some.is ∙ ap (λ v. Some v) c.in-Verify.is in
+    rw form (does_verify g.H.Host.now g.H.Host.may g.H.Host.clock g.H.Host.since g.H.Host.said _ _ _ _ _ _ _ _ _ c.verify_with_plan.ensures.goes)
 
-pub returns-in-Replay-clause-gap : goal.returns-in-Replay-clause-gap
-returns-in-Replay-clause-gap g c = on_err c.replay_with_plan.result _ _ (λ ending no is. absurd (no is)) c.replay_with_plan.ensures.no_gap
+pub returns-in-Verify-clause-shows : goal.returns-in-Verify-clause-shows
+returns-in-Verify-clause-shows g c =
+    let form : command_of c.args.words.now ≡ Some Verify = sym c.named.ensures ∙ c.in-Some.is ∙ ap (λ v. Some v) c.in-Verify.is in
+    rw form (c.verify_with_plan.ensures.shows)
 
-pub returns-in-Replay-clause-read_first : goal.returns-in-Replay-clause-read_first
-returns-in-Replay-clause-read_first g c = any_err c.replay_with_plan.result _ (λ ending is. inl (refl, c.replay_with_plan.ensures.leaves))
+pub returns-in-Verify-clause-causes : goal.returns-in-Verify-clause-causes
+returns-in-Verify-clause-causes g c =
+    let form : command_of c.args.words.now ≡ Some Verify = sym c.named.ensures ∙ c.in-Some.is ∙ ap (λ v. Some v) c.in-Verify.is in
+    rw form (without_input (Some Verify) (λ run. run) _ _ _ _ _ _ _ _ _ _ _ _ _ c.verify_with_plan.ensures.causes)
 
-pub returns-in-Verify-clause-completes : goal.returns-in-Verify-clause-completes
-returns-in-Verify-clause-completes g c = rw c.in-Verify.is (on_ok c.verify_with_plan.result _ _ (λ never told. absurd (never told)) c.verify_with_plan.ensures.completes)
+pub returns-in-Verify-clause-alone : goal.returns-in-Verify-clause-alone
+returns-in-Verify-clause-alone g c =
+    let form : command_of c.args.words.now ≡ Some Verify = sym c.named.ensures ∙ c.in-Some.is ∙ ap (λ v. Some v) c.in-Verify.is in
+    rw form (leaves_alone (Some Verify) _ _ _ _ _ _ (λ unread. absurd (unread tt)) refl c.verify_with_plan.ensures.leaves)
 
-pub returns-in-Verify-clause-stops : goal.returns-in-Verify-clause-stops
-returns-in-Verify-clause-stops g c =
-    rw c.in-Verify.is (on_err c.verify_with_plan.result _ _ (λ ending stops told. record { text = []; is = refl; holds = ([], stops told, nothing_stops (ending_status ending ≡ Write) []) }) c.verify_with_plan.ensures.stops)
+pub returns-in-Check-clause-does : goal.returns-in-Check-clause-does
+returns-in-Check-clause-does g c =
+    let form : command_of c.args.words.now ≡ Some Check = sym c.named.ensures ∙ c.in-Some.is ∙ ap (λ v. Some v) c.in-Check.is in
+    rw form (does_other g.H.Host.now g.H.Host.may g.H.Host.clock g.H.Host.since g.H.Host.said _ _ _ _ _ _ _ _ _ (Some Check) (λ run. run) (λ replay. replay) (λ verify. verify) (λ lines seed is. let e : Some Check ≡ Some (Trial lines seed) = is in absurd (cc)))
 
-pub returns-in-Verify-clause-line : goal.returns-in-Verify-clause-line
-returns-in-Verify-clause-line g c = rw c.in-Verify.is c.verify_with_plan.ensures.line
+pub returns-in-Check-clause-shows : goal.returns-in-Check-clause-shows
+returns-in-Check-clause-shows g c =
+    let form : command_of c.args.words.now ≡ Some Check = sym c.named.ensures ∙ c.in-Some.is ∙ ap (λ v. Some v) c.in-Check.is in
+    rw form (c.check_with_plan.ensures.shows)
 
-pub returns-in-Verify-clause-store : goal.returns-in-Verify-clause-store
-returns-in-Verify-clause-store g c = rw c.in-Verify.is (on_err c.verify_with_plan.result _ _ (λ ending store is. inr (inr (inr (tt, store is)))) c.verify_with_plan.ensures.store)
+pub returns-in-Check-clause-causes : goal.returns-in-Check-clause-causes
+returns-in-Check-clause-causes g c =
+    let form : command_of c.args.words.now ≡ Some Check = sym c.named.ensures ∙ c.in-Some.is ∙ ap (λ v. Some v) c.in-Check.is in
+    rw form (without_input (Some Check) (λ run. run) _ _ _ _ _ _ _ _ _ _ _ _ _ c.check_with_plan.ensures.causes)
 
-pub returns-in-Verify-clause-disk : goal.returns-in-Verify-clause-disk
-returns-in-Verify-clause-disk g c = rw c.in-Verify.is (on_err c.verify_with_plan.result _ _ (λ ending disk is. (inr (inr (inr (tt, (disk is).0))), (disk is).1)) c.verify_with_plan.ensures.disk)
+pub returns-in-Check-clause-alone : goal.returns-in-Check-clause-alone
+returns-in-Check-clause-alone g c =
+    let form : command_of c.args.words.now ≡ Some Check = sym c.named.ensures ∙ c.in-Some.is ∙ ap (λ v. Some v) c.in-Check.is in
+    rw form (leaves_alone (Some Check) _ _ _ _ _ _ (λ unread. absurd (unread tt)) refl c.check_with_plan.ensures.leaves)
 
-pub returns-in-Verify-clause-gap : goal.returns-in-Verify-clause-gap
-returns-in-Verify-clause-gap g c = on_err c.verify_with_plan.result _ _ (λ ending no is. absurd (no is)) c.verify_with_plan.ensures.no_gap
+pub returns-in-Dump-clause-does : goal.returns-in-Dump-clause-does
+returns-in-Dump-clause-does g c =
+    let form : command_of c.args.words.now ≡ Some Dump = sym c.named.ensures ∙ c.in-Some.is ∙ ap (λ v. Some v) c.in-Dump.is in
+    rw form (does_other g.H.Host.now g.H.Host.may g.H.Host.clock g.H.Host.since g.H.Host.said _ _ _ _ _ _ _ _ _ (Some Dump) (λ run. run) (λ replay. replay) (λ verify. verify) (λ lines seed is. let e : Some Dump ≡ Some (Trial lines seed) = is in absurd (cc)))
 
-pub returns-in-Verify-clause-read_first : goal.returns-in-Verify-clause-read_first
-returns-in-Verify-clause-read_first g c = any_err c.verify_with_plan.result _ (λ ending is. inl (refl, c.verify_with_plan.ensures.leaves))
+pub returns-in-Dump-clause-shows : goal.returns-in-Dump-clause-shows
+returns-in-Dump-clause-shows g c =
+    let form : command_of c.args.words.now ≡ Some Dump = sym c.named.ensures ∙ c.in-Some.is ∙ ap (λ v. Some v) c.in-Dump.is in
+    rw form (dump_shows g.H.Host.now g.H.Host.may g.H.Host.clock g.H.Host.since g.H.Host.said _ _ _ c.dump.result c.dump.ensures.completes c.dump.ensures.stops c.dump.ensures.all_before c.dump.ensures.line c.dump.ensures.others)
 
-pub returns-in-Check-clause-completes : goal.returns-in-Check-clause-completes
-returns-in-Check-clause-completes g c = rw c.in-Check.is c.check_with_plan.ensures.completes
+pub returns-in-Dump-clause-causes : goal.returns-in-Dump-clause-causes
+returns-in-Dump-clause-causes g c =
+    let form : command_of c.args.words.now ≡ Some Dump = sym c.named.ensures ∙ c.in-Some.is ∙ ap (λ v. Some v) c.in-Dump.is in
+    rw form (store_causes (Some Dump) _ _ _ _ _ _ _ _ _ _ (λ none. let e : Some Dump ≡ None = none in absurd (cc)) tt (λ plan. plan) (λ run. run) c.dump.result c.dump.ensures.undamaged c.dump.ensures.store c.dump.ensures.disk c.dump.ensures.write c.dump.ensures.others)
 
-pub returns-in-Check-clause-stops : goal.returns-in-Check-clause-stops
-returns-in-Check-clause-stops g c = rw c.in-Check.is c.check_with_plan.ensures.stops
+pub returns-in-Dump-clause-alone : goal.returns-in-Dump-clause-alone
+returns-in-Dump-clause-alone g c =
+    let form : command_of c.args.words.now ≡ Some Dump = sym c.named.ensures ∙ c.in-Some.is ∙ ap (λ v. Some v) c.in-Dump.is in
+    rw form (leaves_alone (Some Dump) _ _ _ _ _ _ (λ unread. refl) refl c.dump.ensures.leaves)
 
-pub returns-in-Check-clause-line : goal.returns-in-Check-clause-line
-returns-in-Check-clause-line g c = rw c.in-Check.is c.check_with_plan.ensures.line
+pub returns-in-Info-clause-does : goal.returns-in-Info-clause-does
+returns-in-Info-clause-does g c =
+    let form : command_of c.args.words.now ≡ Some Info = sym c.named.ensures ∙ c.in-Some.is ∙ ap (λ v. Some v) c.in-Info.is in
+    rw form (does_other g.H.Host.now g.H.Host.may g.H.Host.clock g.H.Host.since g.H.Host.said _ _ _ _ _ _ _ _ _ (Some Info) (λ run. run) (λ replay. replay) (λ verify. verify) (λ lines seed is. let e : Some Info ≡ Some (Trial lines seed) = is in absurd (cc)))
 
-pub returns-in-Dump-clause-completes : goal.returns-in-Dump-clause-completes
-returns-in-Dump-clause-completes g c =
-    rw c.in-Dump.is (on_ok c.dump.result _ _ (λ done told. record { text = dump_text (told.image 2); is = refl; holds = done told.image (told.image_is tt) }) c.dump.ensures.completes)
+pub returns-in-Info-clause-shows : goal.returns-in-Info-clause-shows
+returns-in-Info-clause-shows g c =
+    let form : command_of c.args.words.now ≡ Some Info = sym c.named.ensures ∙ c.in-Some.is ∙ ap (λ v. Some v) c.in-Info.is in
+    rw form (info_shows g.H.Host.now g.H.Host.may g.H.Host.clock g.H.Host.since g.H.Host.said _ _ _ c.info.result c.info.ensures.completes c.info.ensures.stops c.info.ensures.none_before c.info.ensures.line c.info.ensures.others)
 
-pub returns-in-Dump-clause-stops : goal.returns-in-Dump-clause-stops
-returns-in-Dump-clause-stops g c =
-    rw c.in-Dump.is (on_err c.dump.result _ _ (λ ending stops told. record { text = dump_text (told.image 2); is = refl; holds = stops told.image (told.image_is tt) }) c.dump.ensures.stops)
+pub returns-in-Info-clause-causes : goal.returns-in-Info-clause-causes
+returns-in-Info-clause-causes g c =
+    let form : command_of c.args.words.now ≡ Some Info = sym c.named.ensures ∙ c.in-Some.is ∙ ap (λ v. Some v) c.in-Info.is in
+    rw form (store_causes (Some Info) _ _ _ _ _ _ _ _ _ _ (λ none. let e : Some Info ≡ None = none in absurd (cc)) tt (λ plan. plan) (λ run. run) c.info.result c.info.ensures.undamaged c.info.ensures.store c.info.ensures.disk c.info.ensures.write c.info.ensures.others)
 
-pub returns-in-Dump-clause-all_before : goal.returns-in-Dump-clause-all_before
-returns-in-Dump-clause-all_before g c =
-    rw c.in-Dump.is (on_errs c.dump.result _ _ _ (λ ending before line is shows image told. (before is image told, damage_told ending image (line image told) is)) c.dump.ensures.all_before c.dump.ensures.line)
+pub returns-in-Info-clause-alone : goal.returns-in-Info-clause-alone
+returns-in-Info-clause-alone g c =
+    let form : command_of c.args.words.now ≡ Some Info = sym c.named.ensures ∙ c.in-Some.is ∙ ap (λ v. Some v) c.in-Info.is in
+    rw form (leaves_alone (Some Info) _ _ _ _ _ _ (λ unread. refl) refl c.info.ensures.leaves)
 
-pub returns-in-Info-clause-completes : goal.returns-in-Info-clause-completes
-returns-in-Info-clause-completes g c =
-    rw c.in-Info.is (on_ok c.info.result _ _ (λ done told. let t = done told.image (told.image_is tt) in record { text = t.0; is = t.1; holds = t.2 }) c.info.ensures.completes)
+pub returns-in-Trial-clause-does : goal.returns-in-Trial-clause-does
+returns-in-Trial-clause-does g c =
+    let form : command_of c.args.words.now ≡ Some (Trial c.in-Trial.lines c.in-Trial.seed) = sym c.named.ensures ∙ c.in-Some.is ∙ ap (λ v. Some v) c.in-Trial.is in
+    rw form (does_trial g.H.Host.now g.H.Host.may g.H.Host.clock g.H.Host.since g.H.Host.said _ _ _ _ _ _ _ _ _ c.in-Trial.lines c.in-Trial.seed (trial_status c.trial.result c.trial.ensures.others))
 
-pub returns-in-Info-clause-stops : goal.returns-in-Info-clause-stops
-returns-in-Info-clause-stops g c =
-    rw c.in-Info.is (on_err c.info.result _ _ (λ ending stops told. let t = stops told.image (told.image_is tt) in record { text = t.0; is = t.1; holds = t.2 }) c.info.ensures.stops)
+pub returns-in-Trial-clause-shows : goal.returns-in-Trial-clause-shows
+returns-in-Trial-clause-shows g c =
+    let form : command_of c.args.words.now ≡ Some (Trial c.in-Trial.lines c.in-Trial.seed) = sym c.named.ensures ∙ c.in-Some.is ∙ ap (λ v. Some v) c.in-Trial.is in
+    rw form (trial_shows g.H.Host.now g.H.Host.may g.H.Host.clock g.H.Host.since g.H.Host.said _ _ _ c.in-Trial.lines c.in-Trial.seed c.trial.result c.trial.ensures.completes c.trial.ensures.stops c.trial.ensures.line c.trial.ensures.others)
 
-pub returns-in-Info-clause-all_before : goal.returns-in-Info-clause-all_before
-returns-in-Info-clause-all_before g c =
-    rw c.in-Info.is (on_errs c.info.result _ _ _ (λ ending none line is shows image told. (none is, damage_told ending image (line image told) is)) c.info.ensures.none_before c.info.ensures.line)
+pub returns-in-Trial-clause-causes : goal.returns-in-Trial-clause-causes
+returns-in-Trial-clause-causes g c =
+    let form : command_of c.args.words.now ≡ Some (Trial c.in-Trial.lines c.in-Trial.seed) = sym c.named.ensures ∙ c.in-Some.is ∙ ap (λ v. Some v) c.in-Trial.is in
+    rw form (trial_causes c.in-Trial.lines c.in-Trial.seed _ _ _ _ _ _ _ _ _ _ c.trial.result c.trial.ensures.write c.trial.ensures.others)
 
-pub returns-in-Check-clause-read_first : goal.returns-in-Check-clause-read_first
-returns-in-Check-clause-read_first g c = any_err c.check_with_plan.result _ (λ ending is. inl (refl, c.check_with_plan.ensures.leaves))
-
-pub returns-in-Dump-clause-read_first : goal.returns-in-Dump-clause-read_first
-returns-in-Dump-clause-read_first g c = any_err c.dump.result _ (λ ending is. inl (refl, c.dump.ensures.leaves))
-
-pub returns-in-Info-clause-read_first : goal.returns-in-Info-clause-read_first
-returns-in-Info-clause-read_first g c = any_err c.info.result _ (λ ending is. inl (refl, c.info.ensures.leaves))
-
-pub returns-in-Trial-clause-completes : goal.returns-in-Trial-clause-completes
-returns-in-Trial-clause-completes g c =
-    rw c.in-Trial.is (on_ok c.trial.result _ _ (λ done told. record { text = done.0; is = done.1; holds = done.2 }) c.trial.ensures.completes)
-
-pub returns-in-Trial-clause-stops : goal.returns-in-Trial-clause-stops
-returns-in-Trial-clause-stops g c =
-    rw c.in-Trial.is (on_err c.trial.result _ _ (λ ending stops told. record { text = stops.0; is = stops.1; holds = stops.2 }) c.trial.ensures.stops)
-
-pub returns-in-Trial-clause-line : goal.returns-in-Trial-clause-line
-returns-in-Trial-clause-line g c =
-    rw c.in-Trial.is (on_errs c.trial.result _ _ _ (λ ending others line told. trial_line (ending_status ending) (ending_line ending) told.image told.asks others line) c.trial.ensures.others c.trial.ensures.line)
-
-pub returns-in-Trial-clause-read_first : goal.returns-in-Trial-clause-read_first
-returns-in-Trial-clause-read_first g c = any_err c.trial.result _ (λ ending is. inl (refl, c.trial.ensures.leaves))
+pub returns-in-Trial-clause-alone : goal.returns-in-Trial-clause-alone
+returns-in-Trial-clause-alone g c =
+    let form : command_of c.args.words.now ≡ Some (Trial c.in-Trial.lines c.in-Trial.seed) = sym c.named.ensures ∙ c.in-Some.is ∙ ap (λ v. Some v) c.in-Trial.is in
+    rw form (leaves_alone (Some (Trial c.in-Trial.lines c.in-Trial.seed)) _ _ _ _ _ _ (λ unread. refl) refl c.trial.ensures.leaves)

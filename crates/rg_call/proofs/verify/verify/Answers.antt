@@ -1,4 +1,4 @@
-use Rattle.std.proofs.Common.{true, false, Err, ap, subst, List, ℕ}
+use Rattle.std.proofs.Common.{true, false, Err, ap, subst}
 use Rattle.rg_host.specs.Puts.{Puts}
 use Rattle.rg_config.specs.Plans.{planned}
 use Rattle.rg_engine.proofs.Legal.{serves}

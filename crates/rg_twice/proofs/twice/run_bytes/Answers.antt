@@ -1,6 +1,6 @@
 use Rattle.std.proofs.Common.{◌<◌, ◌^◌, ⊎_elim, arith}
 use Rattle.rg_event.specs.Rising.{next_offset}
-use Rattle.rg_live.specs.Ready.{begun_by}
+use Rattle.rg_recover.specs.Ready.{begun_by}
 use Rattle.rg_call.proofs.Ends.{runs}
 use Rattle.rg_twice.proofs.Stops.{told_by, ends_well, never_rises, never_longer}
 use Rattle.rg_twice.proofs.twice.run_bytes.Goals as goal

@@ -5,7 +5,7 @@ use Rattle.rg_host.specs.Fused.{Fused}
 use Rattle.rg_host.specs.Image.{Image}
 use Rattle.rg_host.specs.MemHost.{Ledger, now_in, may_in, said_in}
 use Rattle.rg_course.specs.Pieces.{whole_pieces}
-use Rattle.rg_live.specs.Ready.{IsReadyRun}
+use Rattle.rg_recover.specs.Ready.{IsReadyRun}
 use Rattle.rg_twice.specs.Twice.{accepted_of, IsLeft}
 use Rattle.rg_twice.proofs.Stops.{RunsFused, fused_left, told_such, going_on, going_on_alike, ready_for, first_ends}
 use Rattle.rg_twice.proofs.twice.run_stopped.Goals as goal

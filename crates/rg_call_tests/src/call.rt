@@ -5,22 +5,12 @@ use std::alloc::Global;
 use std::process::Abort;
 use std::test::Fail;
 
-mod again;
 mod asked;
 mod bounds;
-mod cached;
-mod dumped;
 mod graced;
-mod hostile;
-mod in_use;
-mod informed;
+mod kept;
 mod made;
-mod replayed;
-mod stopped;
-mod stored;
 mod tried;
-mod verified;
-mod watched;
 
 /// What a call finds: its words, the bytes of plan and input, and which of their reads fail.
 #[derive(Clone, Copy)]

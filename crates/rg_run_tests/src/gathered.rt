@@ -5,7 +5,7 @@ use rg_bytes::Memory;
 use rg_config::{Plan, read_plan};
 use rg_event::Steps;
 use rg_host::{Failed, Image, MemHost, Source};
-use rg_live::run;
+use rg_recover::run;
 use std::alloc::Global;
 use std::marker::Brand;
 use std::sync::ledger::{Blank, Ledger};

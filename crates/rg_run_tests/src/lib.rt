@@ -1,5 +1,5 @@
 //! Tests of what a run says and of what it is started with: lines, replies, turns, the opening of a store,
-//! the real outside, listings, reports and trials.
+//! the real outside, listings and reports.
 //!
 //! They call what these crates offer to all, and stand in a crate of their own, so that none of the crates
 //! below is proved once more for its tests. No program names this crate.
@@ -16,12 +16,14 @@ mod ordered;
 #[cfg(test)]
 mod real;
 #[cfg(test)]
+mod replayed;
+#[cfg(test)]
+mod replies;
+#[cfg(test)]
 mod reply;
 #[cfg(test)]
 mod report;
 #[cfg(test)]
 mod row;
-#[cfg(test)]
-mod trial;
 #[cfg(test)]
 mod turn;

@@ -1,4 +1,4 @@
-use super::stored::{THREE, THREE_PUT, assert_run, failing};
+use super::kept::{THREE, THREE_PUT, assert_run, failing};
 use super::{PAYMENTS, SMALL, Setting, TOTALS, assert_outcome, plan_of, sound};
 use rg_report::Status;
 use std::process::Abort;

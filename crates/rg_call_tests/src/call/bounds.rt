@@ -1,5 +1,4 @@
-use super::stored::{assert_run, failing};
-use super::verified::verify;
+use super::kept::{assert_run, failing, verify};
 use super::{CHECK, Setting, assert_outcome, outcome, plan_of, sound};
 use rg_report::Status;
 use std::alloc::Global;
@@ -150,12 +149,13 @@ fn a_key_of_the_greatest_length_is_kept(rt: HostRuntime) -> Result<(), Fail> {
     };
     let put = "open 1 1 1\n1 ok 2\nstored 2\nsaved 2\ndone 2 2\n";
     assert_run(&rt, &next, &mut host, put, Status::Ok)?;
+    // which is written behind it as a row that changed
     let both = verify(plan.as_bytes());
     assert_run(
         &rt,
         &both,
         &mut host,
-        "slot 0 ok 1\nslot 1 ok 2\n",
+        "slot 0 ok 2\nslot 1 none\n",
         Status::Ok,
     )
 }

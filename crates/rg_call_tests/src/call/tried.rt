@@ -1,5 +1,5 @@
 use super::Setting;
-use super::stored::{assert_run, failing};
+use super::kept::{assert_run, failing};
 use rg_report::Status;
 use std::test::Fail;
 

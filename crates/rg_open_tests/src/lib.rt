@@ -1,0 +1,8 @@
+//! Tests of openings over slots that have changes behind their bases.
+//!
+//! They call what the opening of a store offers to all, and stand in a crate of their own, so that it isn't proved
+//! once more for its tests. No program names this crate.
+#![tactic(auto)]
+
+#[cfg(test)]
+mod opening;

@@ -25,7 +25,7 @@ CRATES = [it.split(":")[0].split()[0] for it in open("crates.txt", encoding="utf
 
 # The definitions of a run in the order in which they read best. A file beside its crate stands where the file is named.
 PARTS = [
-    ("the run: what is put, and what each moment leaves", "rg_call rg_replay rg_trial rg_listing rg_live rg_run rg_task rg_course rg_open rg_report rg_host"),
+    ("the run: what is put, and what each moment leaves", "rg_call rg_replay rg_trial rg_listing rg_recover rg_run rg_task rg_course rg_open rg_report rg_host"),
     ("what a line says", "rg_host/Lines rg_row rg_event rg_bytes"),
     ("what a reply is, from scratch", "rg_metric rg_reply rg_scratch"),
     ("the log: bytes of frames and chunks", "rg_frame rg_log rg_reservoir rg_dump rg_info rg_chunk rg_column rg_event/Codec rg_event/Tagged rg_event/Words rg_bytes/Reading"),

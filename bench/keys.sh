@@ -1,6 +1,7 @@
 #!/usr/bin/env bash
 # What keys and payments cost: a run over so many payments, each of a card of its own, five seconds apart, in a window of 30 days, with two and with eight aggregators by card.
 # The bytes of memory that a key more takes at the peak of a run, in which a checkpoint is saved, and in a slot; those of a payment in the log. Medians of three.
+# With more cards than `save` has payments, 65,536 here, a slot may be a base and changes behind it: take fewer for the bytes of a key in a base.
 # It fails where a line isn't accepted. Outside the gate. `rt run` in crates/railgun builds the program first; PROGRAM names another one.
 . "$(dirname "$0")/common.sh"
 cards=${1:-200000}

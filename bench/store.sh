@@ -1,6 +1,6 @@
 #!/usr/bin/env bash
 # What the store costs: a million payments, five seconds apart, with a count and a sum by card over 30 days, each run over a new store on the disk of the temporary folder.
-# Commits of 1,024 payments and of one (the latter with fewer lines); the bytes of the store; an opening from a checkpoint and one that answers all payments again; a checkpoint of 100,000 keys.
+# Commits of 1,024 payments and of one (the latter with fewer lines); the bytes of the store; an opening from a checkpoint and one that answers all payments again; a checkpoint of 100,000 keys, a base for which what changed is made as well, and found too long.
 # Processor time (user and system) and the time that passed: the medians of three. It prints the table that docs/SPEED.md has.
 # It fails where a line isn't accepted. Outside the gate.
 # `rt run` in crates/railgun builds the program first; PROGRAM names another one.

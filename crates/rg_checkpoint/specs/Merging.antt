@@ -38,7 +38,7 @@ without (row ∷ rows) change = if is_same row change then rows else row ∷ row
 abbrev pub now_of : RowChange → List Entry
 now_of change = and_row change.node change.key change.held []
 
--- each change behind the rows before it, in place of its own row
+-- each change behind the rows before it, in place of the row of its key
 abbrev pub merged : List Entry → List RowChange → List Entry
 merged rows [] = rows
 merged rows (change ∷ changes) = before rows change ++ (now_of change ++ merged (without (behind rows change) change) changes)

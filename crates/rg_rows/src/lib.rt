@@ -1,7 +1,7 @@
 //! Rows against payments: whether the rows of a checkpoint stand for the first payments of a log.
 //!
 //! A task plan, payments and a checkpoint come in; the least node with a wrong, a missing or an extra
-//! row goes out. Upward: the answer is exact, by the relation that the engine's own rows meet. Each
+//! row goes out. Upward: the answer is exact, by the relation that rows of the engine meet. Each
 //! value is gathered anew by the definition, from window, condition and key of each payment: no edge
 //! moves, no value is taken away again, and no table is asked. With the engine it shares the states of
 //! the aggregators alone, which are made here by adding the values in order.

@@ -1,4 +1,4 @@
-//! Tests of the public calls of the base layer: bytes, events and columns. They stand in a crate of their own, so that
+//! Tests of the public calls of the base layer: bytes, events, columns and growths. They stand in a crate of their own, so that
 //! no crate of the layer is proved a second time for its tests.
 #![tactic(auto)]
 
@@ -8,6 +8,8 @@ mod bytes;
 mod column;
 #[cfg(test)]
 mod event;
+#[cfg(test)]
+mod growth;
 #[cfg(test)]
 mod lists;
 #[cfg(test)]

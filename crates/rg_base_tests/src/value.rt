@@ -1,184 +1,132 @@
 use rg_bytes::{ByteReader, Memory};
-use rg_event::{EventFault, Kind, Value, Word, get_tagged, parse_value, put_tagged};
+use rg_event::{EventFault, Kind, Value, get_tagged, parse_value, put_tagged};
 use std::alloc::Global;
 use std::cmp::Ordering;
 use std::test::Fail;
 
-fn int_of(alloc: Global, text: &str) -> Result<Option<i64>, Memory> {
-    match parse_value(alloc, Kind::Int, text.as_bytes())? {
-        Some(Value::Int(number)) => Ok(Some(number)),
-        _ => Ok(None),
-    }
+/// Whether a text is a value of this kind that has these bytes behind its tag; where there are none, that it is no
+/// value.
+fn is_value(alloc: Global, kind: Kind, text: &[u8], want: &[u8]) -> Result<bool, Memory> {
+    let value = match parse_value(alloc, kind, text)? {
+        Some(value) => value,
+        None => return Ok(want.is_empty()),
+    };
+    let mut out = Vec::new(alloc);
+    put_tagged(&value, &mut out)?;
+    drop(value);
+    Ok(out.as_slice() == want)
 }
 
 #[test]
 fn an_int_lies_within_a_million_millions(rt: HostRuntime) -> Result<(), Fail> {
-    let table = [
-        ("1000000000000", Some(1_000_000_000_000)),
-        ("-1000000000000", Some(-1_000_000_000_000)),
-        ("1000000000001", None),
-        ("-1000000000001", None),
-        ("+1", Some(1)),
-        ("-0", Some(0)),
-        ("1.5", None),
-        ("", None),
+    let table: [(&[u8], &[u8]); 8] = [
+        (b"1000000000000", b"\x01\0\0\0\xe8\xd4\xa5\x10\0"),
+        (b"-1000000000000", b"\x01\xff\xff\xff\x17\x2b\x5a\xf0\0"),
+        (b"1000000000001", b""),
+        (b"-1000000000001", b""),
+        (b"+1", b"\x01\0\0\0\0\0\0\0\x01"),
+        (b"-0", b"\x01\0\0\0\0\0\0\0\0"),
+        (b"1.5", b""),
+        (b"", b""),
     ];
     for (text, want) in table {
-        assert!(rt; int_of(rt.alloc(), text)? == want, "at {text}");
+        assert!(rt; is_value(rt.alloc(), Kind::Int, text, want)?);
     }
     Ok(())
-}
-
-fn id_of(alloc: Global, text: &str) -> Result<Option<u64>, Memory> {
-    match parse_value(alloc, Kind::Id, text.as_bytes())? {
-        Some(Value::Id(number)) => Ok(Some(number)),
-        _ => Ok(None),
-    }
 }
 
 #[test]
-fn an_id_is_below_two_to_the_64_and_has_no_sign(rt: HostRuntime) -> Result<(), Fail> {
-    let table = [
-        ("0", Some(0)),
-        ("18446744073709551615", Some(18446744073709551615)),
-        ("18446744073709551616", None),
-        ("+1", None),
-        ("-1", None),
+fn an_id_has_no_sign_and_a_flag_is_one_of_four_words(rt: HostRuntime) -> Result<(), Fail> {
+    let table: [(Kind, &[u8], &[u8]); 8] = [
+        (
+            Kind::Id,
+            b"18446744073709551615",
+            b"\x02\xff\xff\xff\xff\xff\xff\xff\xff",
+        ),
+        (Kind::Id, b"18446744073709551616", b""),
+        (Kind::Id, b"+1", b""),
+        (Kind::Flag, b"true", b"\x04\x01"),
+        (Kind::Flag, b"1", b"\x04\x01"),
+        (Kind::Flag, b"false", b"\x04\0"),
+        (Kind::Flag, b"0", b"\x04\0"),
+        (Kind::Flag, b"TRUE", b""),
     ];
-    for (text, want) in table {
-        assert!(rt; id_of(rt.alloc(), text)? == want, "at {text}");
+    for (kind, text, want) in table {
+        assert!(rt; is_value(rt.alloc(), kind, text, want)?);
     }
     Ok(())
-}
-
-fn flag_of(alloc: Global, text: &str) -> Result<Option<bool>, Memory> {
-    match parse_value(alloc, Kind::Flag, text.as_bytes())? {
-        Some(Value::Flag(flag)) => Ok(Some(flag)),
-        _ => Ok(None),
-    }
-}
-
-#[test]
-fn a_flag_is_one_of_four_words(rt: HostRuntime) -> Result<(), Fail> {
-    let table = [
-        ("true", Some(true)),
-        ("1", Some(true)),
-        ("false", Some(false)),
-        ("0", Some(false)),
-        ("TRUE", None),
-        ("", None),
-    ];
-    for (text, want) in table {
-        assert!(rt; flag_of(rt.alloc(), text)? == want, "at {text}");
-    }
-    Ok(())
-}
-
-/// Whether the value that a text is has its bytes; none where it is no value.
-fn has_its_bytes(alloc: Global, text: &[u8]) -> Result<Option<bool>, Memory> {
-    match parse_value(alloc, Kind::Text, text)? {
-        Some(Value::Text(word)) => Ok(Some(word.as_bytes() == text)),
-        Some(_) => Ok(Some(false)),
-        None => Ok(None),
-    }
 }
 
 #[test]
 fn a_text_is_utf8_of_at_most_255_bytes(rt: HostRuntime) -> Result<(), Fail> {
-    let long = [b'a'; 256];
-    let table: [(&[u8], Option<bool>); 6] = [
-        (b"", Some(true)),
-        (b"caf\xc3\xa9", Some(true)),
-        (&long[..255], Some(true)),
-        (&long, None),
-        (b"caf\xc3", None),
-        (b"\xff", None),
+    let mut long = [b'a'; 257];
+    long[0] = 3;
+    long[1] = 255;
+    let table: [(&[u8], &[u8]); 5] = [
+        (b"", b"\x03\0"),
+        (b"caf\xc3\xa9", b"\x03\x05caf\xc3\xa9"),
+        (&long[2..], &long),
+        (&[b'a'; 256], b""),
+        (b"caf\xc3", b""),
     ];
     for (text, want) in table {
-        assert!(rt; has_its_bytes(rt.alloc(), text)? == want, "at {text:?}");
+        assert!(rt; is_value(rt.alloc(), Kind::Text, text, want)?);
     }
     Ok(())
 }
 
-/// How two texts compare; none where one of them is no text.
-fn order(alloc: Global, first: &[u8], second: &[u8]) -> Result<Option<Ordering>, Memory> {
-    match (Word::new(alloc, first)?, Word::new(alloc, second)?) {
-        (Some(first), Some(second)) => Ok(Some(first.cmp(&second))),
-        _ => Ok(None),
-    }
+/// The value that these bytes are, tag and all, or why they are none.
+fn value_of(alloc: Global, bytes: &[u8]) -> Result<Value, EventFault> {
+    get_tagged(alloc, &mut ByteReader::new(bytes))
 }
 
-#[test]
-fn a_shorter_text_comes_first(rt: HostRuntime) -> Result<(), Memory> {
-    let table: [(&[u8], &[u8], Ordering); 4] = [
-        (b"b", b"aa", Ordering::Less),
-        (b"ab", b"aa", Ordering::Greater),
-        (b"aa", b"aa", Ordering::Equal),
-        (b"", b"a", Ordering::Less),
-    ];
-    for (first, second, want) in table {
-        assert!(rt;
-            order(rt.alloc(), first, second)? == Some(want),
-            "at {first:?}"
-        );
-    }
-    Ok(())
-}
-
-/// How two values compare.
-fn order_of(first: Value, second: Value) -> Ordering {
-    first.cmp(&second)
+/// How two values compare that these bytes are.
+fn order_of(alloc: Global, first: &[u8], second: &[u8]) -> Result<Ordering, EventFault> {
+    Ok(value_of(alloc, first)?.cmp(&value_of(alloc, second)?))
 }
 
 #[test]
 fn values_go_by_their_tagged_bytes(rt: HostRuntime) {
-    let are_less = order_of(Value::Int(1), Value::Int(-1)) == Ordering::Less
-        && order_of(Value::Int(-2), Value::Int(-1)) == Ordering::Less
-        && order_of(Value::Int(-1), Value::Id(0)) == Ordering::Less;
-    assert!(rt; are_less);
-    assert!(rt; order_of(Value::Flag(true), Value::Flag(false)) == Ordering::Greater);
-    assert!(rt; order_of(Value::Id(7), Value::Id(7)) == Ordering::Equal);
-}
-
-/// A text and an int, each behind its tag, behind what stands.
-fn tagged(alloc: Global) -> Result<Vec<u8>, Fail> {
-    let mut out = b"x".to_vec(alloc)?;
-    if let Some(word) = Word::new(alloc, b"c1")? {
-        put_tagged(&Value::Text(word), &mut out)?;
-    }
-    put_tagged(&Value::Int(-1), &mut out)?;
-    Ok(out)
-}
-
-#[test]
-fn a_tag_stands_before_the_value(rt: HostRuntime) -> Result<(), Fail> {
-    let out = tagged(rt.alloc())?;
-    let want = b"x\x03\x02c1\x01\xff\xff\xff\xff\xff\xff\xff\xff";
-    assert!(rt; out.as_slice() == want.as_slice());
-    Ok(())
-}
-
-/// Whether these bytes are read as this value.
-fn is_read(alloc: Global, bytes: &[u8], want: &Value) -> bool {
-    match get_tagged(alloc, &mut ByteReader::new(bytes)) {
-        Ok(value) => value == *want,
-        Err(_) => false,
+    let table: [(&[u8], &[u8], Ordering); 8] = [
+        (b"\x03\x01b", b"\x03\x02aa", Ordering::Less),
+        (b"\x03\x02ab", b"\x03\x02aa", Ordering::Greater),
+        (b"\x03\x02aa", b"\x03\x02aa", Ordering::Equal),
+        // 1 and -1, and -2 and -1.
+        (
+            b"\x01\0\0\0\0\0\0\0\x01",
+            b"\x01\xff\xff\xff\xff\xff\xff\xff\xff",
+            Ordering::Less,
+        ),
+        (
+            b"\x01\xff\xff\xff\xff\xff\xff\xff\xfe",
+            b"\x01\xff\xff\xff\xff\xff\xff\xff\xff",
+            Ordering::Less,
+        ),
+        // -1 and an id of 258.
+        (
+            b"\x01\xff\xff\xff\xff\xff\xff\xff\xff",
+            b"\x02\0\0\0\0\0\0\x01\x02",
+            Ordering::Less,
+        ),
+        (b"\x04\x01", b"\x04\0", Ordering::Greater),
+        (
+            b"\x02\0\0\0\0\0\0\0\x07",
+            b"\x02\0\0\0\0\0\0\0\x07",
+            Ordering::Equal,
+        ),
+    ];
+    for (first, second, want) in table {
+        assert!(rt; order_of(rt.alloc(), first, second) == Ok(want));
     }
 }
 
 /// Why these bytes are no tagged value.
 fn fault_of(alloc: Global, bytes: &[u8]) -> Option<EventFault> {
-    match get_tagged(alloc, &mut ByteReader::new(bytes)) {
-        Ok(_) => None,
-        Err(fault) => Some(fault),
-    }
+    value_of(alloc, bytes).err()
 }
 
 #[test]
 fn what_is_no_tagged_value_is_refused(rt: HostRuntime) {
-    assert!(rt; is_read(rt.alloc(), b"\x04\x01x", &Value::Flag(true)));
-    let id = b"\x02\0\0\0\0\0\0\x01\x02";
-    assert!(rt; is_read(rt.alloc(), id, &Value::Id(258)));
     let table: [(&[u8], EventFault); 4] = [
         (b"", EventFault::Short),
         (b"\x03\x03c1", EventFault::Short),
@@ -186,6 +134,6 @@ fn what_is_no_tagged_value_is_refused(rt: HostRuntime) {
         (b"\x04\x02", EventFault::BadValue(0)),
     ];
     for (bytes, want) in table {
-        assert!(rt; fault_of(rt.alloc(), bytes) == Some(want), "at {bytes:?}");
+        assert!(rt; fault_of(rt.alloc(), bytes) == Some(want));
     }
 }

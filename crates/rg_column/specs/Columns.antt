@@ -52,3 +52,11 @@ pub record AreColumnsOf (fields : List Field) (count : ℕ) (events : List Event
   pub legal : All (IsEventOf fields) events
   pub counted : length events ≡ count
   pub some : 1 ≤ count
+
+-- the columns of these fields were taken from a text, of which that is left, as values of these events
+pub record AreTaken (fields : List Field) (begun events : List Event) (text left : List ℕ) : Type 0 where
+  pub spelled : text ≡ fields_bytes fields 0 events ++ left
+  pub legal : All (IsEventOf fields) events
+  pub count : length events ≡ length begun
+  pub offsets : map (number_of Offset) events ≡ map (number_of Offset) begun
+  pub times : map (number_of Time) events ≡ map (number_of Time) begun

@@ -1,10 +1,9 @@
-ghost use Rattle.std.specs.Prelude.{◌≡◌, ◌⊎◌, ◌≤◌, ◌++◌, [], All, List, ℕ, map, length, Ok, Err, IfOk, OnOk, OnErr};
+ghost use Rattle.std.specs.Prelude.{◌≡◌, ◌⊎◌, ◌≤◌, ◌++◌, [], All, List, ℕ, length, Ok, Err, IfOk, OnOk, OnErr};
 ghost use Rattle.rg_bytes.specs.Keeps.{Keeps};
 ghost use Rattle.rg_event.specs.Codec.{IsEventOf};
 ghost use Rattle.rg_event.specs.declared.event.Event.{Event as TheEvent};
 ghost use Rattle.rg_column.specs.Widths.{Agrees, AgreesList};
-ghost use Rattle.rg_column.specs.Numbers.{number_of};
-ghost use Rattle.rg_column.specs.Columns.{columns_at, columns_bytes, fields_at, fields_bytes, AreColumnsOf};
+ghost use Rattle.rg_column.specs.Columns.{columns_at, columns_bytes, fields_at, fields_bytes, AreColumnsOf, AreTaken};
 
 use crate::fault::ColumnFault;
 use crate::numbers::{put_numbers, take_numbers};
@@ -124,11 +123,7 @@ fn take_fields(
     requires count { length started.items ≡ count }
     requires legal { All (IsEventOf []) started.items }
     ensures agrees { AgreesList (fields_at fields.now 0 count started.items from.old) result from.new }
-    ensures ok { IfOk result (λ events. from.old ≡ fields_bytes fields.now 0 events.items ++ from.new) }
-    ensures legal { IfOk result (λ events. All (IsEventOf fields.now) events.items) }
-    ensures count { IfOk result (λ events. length events.items ≡ count) }
-    ensures offsets { IfOk result (λ events. map (number_of Series.Offset) events.items ≡ map (number_of Series.Offset) started.items) }
-    ensures times { IfOk result (λ events. map (number_of Series.Time) events.items ≡ map (number_of Series.Time) started.items) }
+    ensures taken { IfOk result (λ events. AreTaken fields.now started.items events.items from.old from.new) }
 {
     let mut events = started;
     let mut index = 0;

@@ -1,12 +1,12 @@
 ghost use Rattle.std.specs.Prelude.{◌≡◌, ◌≢◌, ◌≤◌, ◌<◌, ◌+◌, ◌^◌, ℕ, [], ◌∷◌, length, slice_index, OnOk, OnErr, ⊤};
 ghost use Rattle.std.specs.Option.{ForSome};
 ghost use Rattle.rg_bytes.specs.Counts.{Rose};
-ghost use Rattle.rg_host.specs.Image.{Becomes, InFile, Torn, Holds, NothingPending};
+ghost use Rattle.rg_host.specs.Image.{Becomes, InFile, Torn, NothingPending};
 ghost use Rattle.rg_host.specs.Moments.{LeavesAll};
-ghost use Rattle.rg_frame.specs.Calls.{Writes};
-ghost use Rattle.rg_frame.specs.Frames.{FitsFrame, HasPayloads};
+ghost use Rattle.rg_frame.specs.Calls.{Writes, HasStaged, HasOpened, WritesOne};
+ghost use Rattle.rg_frame.specs.Frames.{HasPayloads};
 ghost use Rattle.rg_frame.specs.LogState.{Reaches};
-ghost use Rattle.rg_frame.specs.Steps.{Brief, Begun, Keeps, Staged, From, Grows, Added, Appended, OldOrNone, Shut};
+ghost use Rattle.rg_frame.specs.Steps.{Brief, Begun, Keeps, From, Grows, Added, Appended, OldOrNone, Shut};
 
 use rg_host::{Failed, Host};
 
@@ -15,12 +15,8 @@ fn begin<H: Host>(host: &mut H, file: u32) -> Result<(), Failed>
     requires file { file < 8 }
     ensures begun { OnOk result (Becomes (H.now host.old) (H.now host.new) (InFile file Begun)) }
     ensures pending { OnOk result (NothingPending file (H.now host.old) (H.may host.old) → NothingPending file (H.now host.new) (H.may host.new)) }
-    ensures leaves { Writes H.now H.may H.clock H.since H.said file Brief host.old host.new }
-    ensures others { Becomes (H.now host.old) (H.now host.new) (InFile file (λ _ _. ⊤)) }
+    ensures wrote { WritesOne H.now H.may H.clock H.since H.said H.disk_faults H.out_faults H.reads file Brief host.old host.new }
     ensures cause { OnErr result (Rose (H.disk_faults host.old) (H.disk_faults host.new)) }
-    ensures disk_faults { H.disk_faults host.old ≤ H.disk_faults host.new }
-    ensures out_faults { H.out_faults host.new ≡ H.out_faults host.old }
-    ensures reads { H.reads host.new ≡ H.reads host.old }
 {
     if host.len(file)? > 1 {
         return Ok(());
@@ -35,16 +31,9 @@ fn stage<H: Host>(host: &mut H, file: u32, end: u64, payload: &[u8]) -> Result<(
     requires file { file < 8 }
     requires room { end ≤ 2 ^ 62 }
     requires within { ForSome (H.now host.old) (λ v. end + 1 ≤ length (v file)) }
-    ensures staged { OnOk result (Becomes (H.now host.old) (H.now host.new) (InFile file (Staged end payload.now))) }
-    ensures pending { OnOk result (NothingPending file (H.now host.new) (H.may host.new)) }
-    ensures limit { OnOk result (end + 10 + length payload.now ≤ 2 ^ 62) }
-    ensures fits { FitsFrame payload.now }
-    ensures leaves { Writes H.now H.may H.clock H.since H.said file (Keeps (end + 1)) host.old host.new }
-    ensures others { Becomes (H.now host.old) (H.now host.new) (InFile file (λ _ _. ⊤)) }
+    ensures staged { OnOk result (HasStaged H.now H.may file end payload.now host.old host.new) }
+    ensures wrote { WritesOne H.now H.may H.clock H.since H.said H.disk_faults H.out_faults H.reads file (Keeps (end + 1)) host.old host.new }
     ensures cause { OnErr result (Rose (H.disk_faults host.old) (H.disk_faults host.new)) }
-    ensures disk_faults { H.disk_faults host.old ≤ H.disk_faults host.new }
-    ensures out_faults { H.out_faults host.new ≡ H.out_faults host.old }
-    ensures reads { H.reads host.new ≡ H.reads host.old }
 {
     let size = payload.len() as u64;
     host.write_at(file, end + 1, &size.to_be_bytes())?;
@@ -58,14 +47,9 @@ fn stage<H: Host>(host: &mut H, file: u32, end: u64, payload: &[u8]) -> Result<(
 fn open_gate<H: Host>(host: &mut H, file: u32, end: u64) -> Result<(), Failed>
     requires file { file < 8 }
     requires within { ForSome (H.now host.old) (λ v. end ≤ length (v file)) }
-    ensures opened { OnOk result (Becomes (H.now host.old) (H.now host.new) (InFile file (Holds end (1 ∷ [])))) }
-    ensures pending { OnOk result (NothingPending file (H.now host.new) (H.may host.new)) }
-    ensures leaves { Writes H.now H.may H.clock H.since H.said file (Torn end 1) host.old host.new }
-    ensures others { Becomes (H.now host.old) (H.now host.new) (InFile file (λ _ _. ⊤)) }
+    ensures opened { OnOk result (HasOpened H.now H.may file end host.old host.new) }
+    ensures wrote { WritesOne H.now H.may H.clock H.since H.said H.disk_faults H.out_faults H.reads file (Torn end 1) host.old host.new }
     ensures cause { OnErr result (Rose (H.disk_faults host.old) (H.disk_faults host.new)) }
-    ensures disk_faults { H.disk_faults host.old ≤ H.disk_faults host.new }
-    ensures out_faults { H.out_faults host.new ≡ H.out_faults host.old }
-    ensures reads { H.reads host.new ≡ H.reads host.old }
 {
     host.write_at(file, end, &[1])?;
     host.sync(file)?;

@@ -99,6 +99,12 @@ pub record Oversteps (old new : Reading) (left now : Option (List ℕ)) : Type 0
   pub pending : new.pending ≡ old.pending
   pub ended : new.ended ≡ old.ended
 
+-- More lines may come: the end wasn't found, no more was taken than may be, and where nothing is held all of it was spent.
+pub record MayHaveLines (reading : Reading) : Type 0 where
+  pub limit : reading.taken ≤ 2 ^ 50
+  pub not_ended : reading.ended ≡ false
+  pub all_spent : reading.pending ≡ [] → reading.spent ≡ reading.taken
+
 -- What a call that asks for more bytes does, and whether there were any.
 abbrev pub Asks : Reading → Reading → Option (List ℕ) → Option (List ℕ) → Result Bool LineFault → Type 0
 Asks old new left now (Ok true) = Takes old new left now × (old.taken < new.taken) × (new.taken ≤ 2 ^ 50)

@@ -1,7 +1,7 @@
 ghost use Rattle.std.specs.Prelude.{◌≡◌, ℕ, ◌+◌, ◌<◌, ◌≤◌, ◌∷◌, ◌++◌, [], length, take, slice_range, true, false, IfOk, OnErr, OnSome, IfSome, IfNone};
 ghost use Rattle.rg_bytes.specs.Counts.{Rose};
 ghost use Rattle.rg_bytes.specs.Known.{before, IsAtEnd};
-ghost use Rattle.rg_host.specs.Buffered.{Fills};
+ghost use Rattle.rg_host.specs.Buffered.{Fills, IsPart, KeepsFirst, ReadsPart};
 ghost use Rattle.rg_host.specs.Lines.{HasNoLf};
 
 use crate::source::{Failed, Source};
@@ -185,13 +185,9 @@ fn read_part<S: Source>(
     from: usize,
     to: usize,
 ) -> Result<usize, Failed>
-    requires room { from < to }
-    requires within { to ≤ length bytes.old.items }
-    ensures count { IfOk result (λ n. from + n ≤ to) }
-    ensures size { length bytes.new.items ≡ length bytes.old.items }
-    ensures prefix { take from bytes.new.items ≡ take from bytes.old.items }
-    ensures bytes { IfOk result (λ n. S.left src.old ≡ before (slice_range bytes.new.items from (from + n)) (S.left src.new)) }
-    ensures end { IfOk result (λ n. n ≡ 0 → IsAtEnd (S.left src.new)) }
+    requires part { IsPart bytes.old.items from to }
+    ensures read { IfOk result (ReadsPart bytes.new.items from to (S.left src.old) (S.left src.new)) }
+    ensures first { KeepsFirst from bytes.old.items bytes.new.items }
     ensures kept { OnErr result (S.left src.new ≡ S.left src.old) }
     ensures cause { OnErr result (Rose (S.faults src.old) (S.faults src.new)) }
     ensures later { S.faults src.old ≤ S.faults src.new }

@@ -2,7 +2,7 @@ ghost use Rattle.std.specs.Prelude.{◌≡◌, ℕ, ◌+◌, ◌-◌, ◌<◌, �
 ghost use Rattle.rg_bytes.specs.Counts.{Rose};
 ghost use Rattle.rg_bytes.specs.Known.{IsAtEnd};
 ghost use Rattle.rg_host.specs.Lines.{HasNoLf};
-ghost use Rattle.rg_host.specs.Scan.{kind_of, Drops};
+ghost use Rattle.rg_host.specs.Scan.{kind_of, Drops, MayHaveLines};
 
 use crate::buffer::{Buffer, LONG};
 use crate::lines::LineFault;
@@ -183,9 +183,7 @@ impl Scanner {
 
     /// Looks for the next line, and asks for more bytes until it is found.
     fn search<S: Source>(&mut self, src: &mut S) -> Result<Found, LineFault>
-        requires limit { self.old.reading.taken ≤ 2 ^ 50 }
-        requires not_ended { self.old.reading.ended ≡ false }
-        requires all_spent { self.old.reading.pending ≡ [] → self.old.reading.spent ≡ self.old.reading.taken }
+        requires going { MayHaveLines self.old.reading }
         ensures next { Loads self.old.reading self.new.reading self.new.line (S.left src.old) (S.left src.new) result }
         ensures cause { IsErrOf result LineFault.Read → Rose (S.faults src.old) (S.faults src.new) }
         ensures later { S.faults src.old ≤ S.faults src.new }

@@ -10,3 +10,8 @@ pub mod Worked
 pub mod Entries
 pub mod ChunkHeads
 pub mod Summaries
+pub mod Extending
+pub mod Staging
+pub mod StageReading
+pub mod Plain
+pub mod GrownLogs

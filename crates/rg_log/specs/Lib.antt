@@ -2,3 +2,4 @@ pub mod Entries
 pub mod Log
 pub mod Reading
 pub mod Spots
+pub mod Stages

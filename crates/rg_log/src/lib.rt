@@ -2,6 +2,7 @@
 //!
 //! The definitions are in `specs/`: `Log` says when the bytes of a file are a legal log of a schema with some events,
 //! `Reading` gives these events as a function of the bytes, and `Spots` says which place and index name which event.
+//! `Stages` says the same of a log whose schema may grow; no log has a growth yet.
 //! Each law is a function without arguments whose clauses state it; none of them does anything when it is called. The
 //! layers above learn from them what an append leaves of the events and of the spots.
 #![tactic(auto)]
@@ -10,18 +11,23 @@ ghost use Rattle.std.specs.Prelude.{◌≡◌, ◌⊎◌, ◌↔◌, ◌≤◌, 
 ghost use Rattle.rg_event.specs.Codec.{IsEventOf};
 ghost use Rattle.rg_event.specs.Shapes.{Shape, IsSchema};
 ghost use Rattle.rg_event.specs.declared.event.Event.{Event};
-ghost use Rattle.rg_event.specs.Rising.{IsRising, next_offset};
+ghost use Rattle.rg_event.specs.Rising.{IsRising, next_offset, last_time};
+ghost use Rattle.rg_event.specs.declared.value.Value.{Value};
+ghost use Rattle.rg_growth.specs.Payloads.{IsGrowth};
+ghost use Rattle.rg_growth.specs.declared.growth.Growth.{Growth};
 ghost use Rattle.rg_past.specs.declared.past.Spot.{Spot};
 ghost use Rattle.rg_frame.specs.Bytes.{IsByte};
 ghost use Rattle.rg_frame.specs.Frames.{frames, HasPayloads, IsDamaged};
 ghost use Rattle.rg_frame.specs.Steps.{Grows, Grown};
+ghost use Rattle.rg_chunk.specs.Extended.{all_extended};
 ghost use Rattle.rg_chunk.specs.Heads.{head_of};
 ghost use Rattle.rg_log.specs.Entries.{nothing, told_by, summary_of, unread, behind, count_of, further_entry, entry_after, entries_after};
 ghost use Rattle.rg_log.specs.declared.entry.LogSoFar.{LogSoFar as TheLogSoFar};
 ghost use Rattle.rg_log.specs.declared.summary.LogSummary.{LogSummary as TheLogSummary};
-ghost use Rattle.rg_log.specs.Log.{schema_payload, chunks_of, joined, HasChunks, IsChunkOf, HasEvents, HasLegalLog, HasSchemaFrame, IsOfSchema};
+ghost use Rattle.rg_log.specs.Log.{schema_payload, chunks_of, joined, HasChunks, IsChunkOf, IsLegalLog, HasEvents, HasLegalLog, HasSchemaFrame, IsOfSchema};
 ghost use Rattle.rg_log.specs.Reading.{events_of, next_of};
 ghost use Rattle.rg_log.specs.Spots.{count_in, IsInChunk, SpotAt, SpotIn, NamedByHeads};
+ghost use Rattle.rg_log.specs.Stages.{Stage, logged, plain, IsGrownLog, HasLogged, HasFrame};
 
 mod entry;
 mod summary;
@@ -75,6 +81,39 @@ pub fn law_entries()
     ensures legal { (shape : Shape) (payloads : List (List ℕ)) (chunks : List (List Event)) → IsSchema shape → HasChunks shape payloads chunks → 1 ≤ length payloads → IsRising (joined chunks) →
         length (joined chunks) ≤ 2 ^ 40 → All (IsEventOf shape.fields) (joined chunks) → entries_after unread payloads ≡ Some (behind shape (summary_of (joined chunks))) }
 {}
+
+/// A file has one list of stages, so one list of events and, with a frame, one schema in force at its end, of which all its
+/// events are. A log without a growth is what it was before growths were known, with the same events.
+pub fn law_stages()
+    ensures one { (shape other : Shape) (stages others : List Stage) (bytes : List ℕ) → IsGrownLog shape stages bytes → IsGrownLog other others bytes → stages ≡ others }
+    ensures one_schema { (shape other : Shape) (stages others : List Stage) (bytes : List ℕ) → HasFrame bytes → IsGrownLog shape stages bytes → IsGrownLog other others bytes → shape ≡ other }
+    ensures one_list { (shape other : Shape) (events others : List Event) (bytes : List ℕ) → HasLogged shape events bytes → HasLogged other others bytes → events ≡ others }
+    ensures of { (shape : Shape) (events : List Event) (bytes : List ℕ) → HasLogged shape events bytes → All (IsEventOf shape.fields) events }
+    ensures as_before { (shape : Shape) (chunks : List (List Event)) (bytes : List ℕ) → IsLegalLog shape chunks bytes ↔ IsGrownLog shape (plain chunks) bytes }
+    ensures same_events { (chunks : List (List Event)) → logged (plain chunks) ≡ joined chunks }
+    ensures events_before { (shape : Shape) (events : List Event) (bytes : List ℕ) → HasEvents shape events bytes → HasLogged shape events bytes }
+{
+    law_frames();
+}
+
+/// A growth comes behind a log that has a frame: its schema is in force then, and the events are the old ones, each with the
+/// growth's values behind its own. A chunk comes behind one: its events come behind the old ones.
+pub fn law_grown()
+    ensures grown { (shape : Shape) (growth : Growth) (events : List Event) (payload old new : List ℕ) → HasFrame old → HasLogged shape events old → IsGrowth shape payload growth →
+        Grown payload old new → HasLogged growth.to (all_extended growth.values events) new }
+    ensures grows { (shape : Shape) (growth : Growth) (events : List Event) (payload old new : List ℕ) → HasFrame old → HasLogged shape events old → IsGrowth shape payload growth →
+        Grows payload old new → HasLogged shape events new ⊎ HasLogged growth.to (all_extended growth.values events) new }
+    ensures added { (shape : Shape) (events chunk : List Event) (payload old new : List ℕ) → HasFrame old → HasLogged shape events old → IsChunkOf shape payload chunk →
+        IsRising (events ++ chunk) → length (events ++ chunk) ≤ 2 ^ 40 → Grown payload old new → HasLogged shape (events ++ chunk) new }
+
+    // Further values change neither number nor order.
+    ensures count { (values : List Value) (events : List Event) → length (all_extended values events) ≡ length events }
+    ensures rising { (values : List Value) (events : List Event) → IsRising events → IsRising (all_extended values events) }
+    ensures next { (values : List Value) (events : List Event) → next_offset (all_extended values events) ≡ next_offset events }
+    ensures time { (values : List Value) (events : List Event) → last_time (all_extended values events) ≡ last_time events }
+{
+    law_frames();
+}
 
 /// Spots stay what they are when a chunk comes behind a log, and the heads of the chunks alone tell which spots of a
 /// legal log are spelled.

@@ -8,6 +8,24 @@ use rg_reservoir::{Reservoir, ReservoirFault};
 use std::alloc::Global;
 use std::test::Fail;
 
+/// How many chunks are loaded by a load ahead for these spots of three events, which are written first, and how many
+/// are held then.
+fn has_loaded_on(
+    alloc: Global,
+    host: &mut MemHost,
+    cache: u32,
+    spots: &[Spot],
+) -> Result<(u64, u32), ReservoirFault>
+    requires { (1 ≤ cache) × (cache ≤ 1024) }
+{
+    let mut reservoir = three(alloc, host, cache)?;
+    let ahead = reservoir.ahead(host, spots);
+    let loaded = (reservoir.loads(), reservoir.held());
+    drop(reservoir);
+    ahead?;
+    Ok(loaded)
+}
+
 /// Whether so many chunks were loaded, and so many are held, after a load ahead for these spots of a log whose three
 /// chunks stand at 22, 88 and 154, and which ends at 220.
 fn has_loaded(
@@ -20,9 +38,9 @@ fn has_loaded(
     requires { (1 ≤ cache) × (cache ≤ 1024) }
 {
     let mut host = host_with(alloc, &[], &[])?;
-    let mut reservoir = three(alloc, &mut host, cache)?;
-    let is_ok = reservoir.ahead(&mut host, spots).is_ok();
-    Ok(is_ok && reservoir.loads() == loads && reservoir.held() == held)
+    let has_loaded = has_loaded_on(alloc, &mut host, cache, spots);
+    drop(host);
+    Ok(has_loaded? == (loads, held))
 }
 
 #[test]
@@ -76,8 +94,10 @@ fn reads_once_on(alloc: Global, host: &mut MemHost) -> Result<bool, ReservoirFau
 fn reads_once(alloc: Global) -> Result<bool, Fail> {
     let log = sound_bytes(alloc)?;
     let mut host = host_with(alloc, &[], &[])?;
-    let is_once = reads_once_on(alloc, &mut host)?;
-    Ok(is_once && host.file(2) == log.as_slice())
+    let is_once = reads_once_on(alloc, &mut host);
+    let is_kept = host.file(2) == log.as_slice();
+    drop(host);
+    Ok(is_once? && is_kept)
 }
 
 #[test]
@@ -86,14 +106,21 @@ fn what_was_loaded_ahead_is_not_read_again(rt: HostRuntime) -> Result<(), Fail> 
     Ok(())
 }
 
+/// Loads ahead for the first event of a host's log of payments.
+fn ahead_on(alloc: Global, host: &mut MemHost) -> Result<(), ReservoirFault> {
+    let mut reservoir = payments(alloc, host)?;
+    reservoir.ahead(host, &[spot(57, 0, 0)])
+}
+
 /// Why a load ahead for its first event is refused by a log of payments with this byte in place of the one at 110, which
 /// stands inside its chunk.
 fn refusal(alloc: Global, byte: u8) -> Result<Option<ReservoirFault>, Fail> {
     let mut bytes = WRITTEN;
     bytes[110] = byte;
     let mut host = host_with(alloc, &bytes, &[])?;
-    let mut reservoir = payments(alloc, &mut host)?;
-    Ok(reservoir.ahead(&mut host, &[spot(57, 0, 0)]).err())
+    let fault = ahead_on(alloc, &mut host).err();
+    drop(host);
+    Ok(fault)
 }
 
 #[test]

@@ -2,6 +2,7 @@ use crate::payments::{ONE, ONE_BY_COLUMNS, SCHEMA_PAYLOAD, TWO, TWO_BY_COLUMNS, 
 use rg_dump::{DumpFault, dump};
 use rg_host::{Host, MemHost};
 use std::alloc::Global;
+use std::process::Abort;
 use std::test::Fail;
 
 const SCHEMA_LINE: &[u8] = b"payments(ts,card:text,merchant:text,amount:int)\n";
@@ -12,21 +13,35 @@ const TWO_ROWS: &[u8] =
 const THREE_ROWS: &[u8] =
     b"payments(ts,card:text,merchant:text,amount:int)\n0,0,c1,m1,100\n1,299999,c1,m2,200\n2,300000,c1,m1,50\n";
 
-/// Whether the dump of a host's log ends so, with this output.
-fn dumps(alloc: Global, host: &mut MemHost, want: Result<(), DumpFault>, text: &[u8]) -> bool {
-    dump(alloc, host) == want && host.output() == text
+/// Whether the dump of this log ends so, with this output, and leaves the log.
+fn dumps(
+    alloc: Global,
+    log: &[u8],
+    want: Result<(), DumpFault>,
+    text: &[u8],
+) -> Result<bool, Fail> {
+    let mut host = host_with(alloc, log, &[])?;
+    let is_dumped = dump(alloc, &mut host) == want && host.output() == text;
+    let is_kept = host.file(2) == log;
+    drop(host);
+    Ok(is_dumped && is_kept)
+}
+
+/// The dump of a log of so many bytes with these payloads is the three rows.
+fn assert_three(
+    rt: &(impl Abort + AllocGlobal),
+    payloads: &[&[u8]],
+    length: usize,
+) -> Result<(), Fail> {
+    let log = file(rt.alloc(), payloads)?;
+    let is_dumped = dumps(rt.alloc(), &log, Ok(()), THREE_ROWS)?;
+    assert!(rt; is_dumped && log.len() == length, "of {length} bytes");
+    Ok(())
 }
 
 #[test]
 fn three_payments_are_three_rows(rt: HostRuntime) -> Result<(), Fail> {
-    let bytes = file(rt.alloc(), &[SCHEMA_PAYLOAD, &TWO, &ONE])?;
-    let mut host = host_with(rt.alloc(), &bytes, &[])?;
-    let is_dumped = dumps(rt.alloc(), &mut host, Ok(()), THREE_ROWS);
-    let is_kept = bytes.len() == 240 && host.file(2) == bytes.as_slice();
-    drop(host);
-    drop(bytes);
-    assert!(rt; is_dumped && is_kept);
-    Ok(())
+    assert_three(&rt, &[SCHEMA_PAYLOAD, &TWO, &ONE], 240)
 }
 
 #[test]
@@ -38,38 +53,40 @@ fn rows_and_columns_are_dumped_alike(rt: HostRuntime) -> Result<(), Fail> {
         (&TWO_BY_COLUMNS, &ONE_BY_COLUMNS, 237),
     ];
     for (two, one, length) in table {
-        let bytes = file(rt.alloc(), &[SCHEMA_PAYLOAD, two, one])?;
-        let mut host = host_with(rt.alloc(), &bytes, &[])?;
-        let is_dumped = dumps(rt.alloc(), &mut host, Ok(()), THREE_ROWS);
-        assert!(rt; is_dumped && bytes.len() == length, "of {length} bytes");
+        assert_three(&rt, &[SCHEMA_PAYLOAD, two, one], length)?;
     }
     Ok(())
 }
 
 #[test]
 fn nothing_is_put_for_a_log_without_frames(rt: HostRuntime) -> Result<(), Fail> {
-    let files: [&[u8]; 4] = [b"", b"\x01", b"\x00", b"\x00\x01\x02"];
-    for bytes in files {
-        let mut host = host_with(rt.alloc(), bytes, &[])?;
-        assert!(rt; dumps(rt.alloc(), &mut host, Ok(()), b""), "at {bytes:?}");
+    let logs: [&[u8]; 4] = [b"", b"\x01", b"\x00", b"\x00\x01\x02"];
+    for log in logs {
+        let is_dumped = dumps(rt.alloc(), log, Ok(()), b"")?;
+        assert!(rt; is_dumped, "at {log:?}");
     }
     Ok(())
 }
 
+/// How the dump of the log of three payments ends that is cut to so many bytes, and its output.
+fn dumped_of_cut(cut: usize) -> (Result<(), DumpFault>, &'static [u8]) {
+    match cut {
+        0 | 1 => (Ok(()), b""),
+        2..=57 => (Err(DumpFault::Damaged(0)), b""),
+        58..=163 => (Err(DumpFault::Damaged(57)), SCHEMA_LINE),
+        164..=239 => (Err(DumpFault::Damaged(163)), TWO_ROWS),
+        _ => (Ok(()), THREE_ROWS),
+    }
+}
+
 #[test]
 fn a_log_cut_anywhere_is_dumped_up_to_its_damage(rt: HostRuntime) -> Result<(), Fail> {
-    let bytes = file(rt.alloc(), &[SCHEMA_PAYLOAD, &TWO, &ONE])?;
-    assert_eq!(rt; bytes.len(), 240);
-    for cut in 0..=bytes.len() {
-        let (text, want): (&[u8], Result<(), DumpFault>) = match cut {
-            0 | 1 => (b"", Ok(())),
-            2..=57 => (b"", Err(DumpFault::Damaged(0))),
-            58..=163 => (SCHEMA_LINE, Err(DumpFault::Damaged(57))),
-            164..=239 => (TWO_ROWS, Err(DumpFault::Damaged(163))),
-            _ => (THREE_ROWS, Ok(())),
-        };
-        let mut host = host_with(rt.alloc(), &bytes[..cut], &[])?;
-        assert!(rt; dumps(rt.alloc(), &mut host, want, text), "at {cut}");
+    let log = file(rt.alloc(), &[SCHEMA_PAYLOAD, &TWO, &ONE])?;
+    assert_eq!(rt; log.len(), 240);
+    for cut in 0..=240 {
+        let (want, text) = dumped_of_cut(cut);
+        let is_dumped = dumps(rt.alloc(), log.get(..cut).unwrap_or(b""), want, text)?;
+        assert!(rt; is_dumped, "at {cut}");
     }
     Ok(())
 }
@@ -81,6 +98,19 @@ const WIDE: [u8; 90] = [
     0, 4, 0x93, 0xdf, 2, 2, b'c', b'1', b'c', b'1', 2, 2, b'm', b'1', b'm', b'2', 0, 0, 0, 0, 0, 0,
     0, 100, 2, 0, 0, 0, 100,
 ];
+
+/// The dump of a log with these payloads ends with damage at this place, behind this output.
+fn assert_damaged(
+    rt: &(impl Abort + AllocGlobal),
+    payloads: &[&[u8]],
+    text: &[u8],
+    place: u64,
+) -> Result<(), Fail> {
+    let log = file(rt.alloc(), payloads)?;
+    let is_dumped = dumps(rt.alloc(), &log, Err(DumpFault::Damaged(place)), text)?;
+    assert!(rt; is_dumped, "at {place}");
+    Ok(())
+}
 
 #[test]
 fn a_frame_that_is_not_what_it_should_be_is_damage(rt: HostRuntime) -> Result<(), Fail> {
@@ -107,10 +137,7 @@ fn a_frame_that_is_not_what_it_should_be_is_damage(rt: HostRuntime) -> Result<()
         ),
     ];
     for (payloads, text, place) in table {
-        let bytes = file(rt.alloc(), payloads)?;
-        let mut host = host_with(rt.alloc(), &bytes, &[])?;
-        let want = Err(DumpFault::Damaged(place));
-        assert!(rt; dumps(rt.alloc(), &mut host, want, text), "at {place}");
+        assert_damaged(&rt, payloads, text, place)?;
     }
     Ok(())
 }
@@ -136,16 +163,21 @@ const KINDS_BY_COLUMNS: [u8; 85] = [
 const KINDS_DUMPED: &[u8] =
     b"p(ts,t:text,f:flag,g:flag,i:id,n:int)\n7,5,\"a,\"\"b\r\",true,false,18446744073709551615,-3\n";
 
+/// It is, where this is the payload of its chunk.
+fn assert_kinds(rt: &(impl Abort + AllocGlobal), chunk: &[u8]) -> Result<(), Fail> {
+    let log = file(
+        rt.alloc(),
+        &[b"Sp(ts,t:text,f:flag,g:flag,i:id,n:int)", chunk],
+    )?;
+    let is_dumped = dumps(rt.alloc(), &log, Ok(()), KINDS_DUMPED)?;
+    assert!(rt; is_dumped);
+    Ok(())
+}
+
 #[test]
 fn each_kind_of_value_is_printed(rt: HostRuntime) -> Result<(), Fail> {
-    let schema = b"Sp(ts,t:text,f:flag,g:flag,i:id,n:int)";
-    let chunks: [&[u8]; 2] = [&KINDS, &KINDS_BY_COLUMNS];
-    for chunk in chunks {
-        let bytes = file(rt.alloc(), &[schema, chunk])?;
-        let mut host = host_with(rt.alloc(), &bytes, &[])?;
-        assert!(rt; dumps(rt.alloc(), &mut host, Ok(()), KINDS_DUMPED));
-    }
-    Ok(())
+    assert_kinds(&rt, &KINDS)?;
+    assert_kinds(&rt, &KINDS_BY_COLUMNS)
 }
 
 /// A host with the log of three payments, on which these calls fail.
@@ -157,20 +189,25 @@ fn host_of_three(alloc: Global, failing: &[u64]) -> Result<MemHost, Fail> {
 /// How many calls the dump of three payments makes.
 fn count_calls(alloc: Global) -> Result<u64, Fail> {
     let mut host = host_of_three(alloc, &[])?;
-    if dump(alloc, &mut host) != Ok(()) {
+    let is_dumped = dump(alloc, &mut host) == Ok(());
+    let calls = host.calls();
+    drop(host);
+    if !is_dumped {
         return Err(Fail::new("it was not dumped"));
     }
-    Ok(host.calls())
+    Ok(calls)
 }
 
 /// Whether a dump fails where this call does, puts a front of the rows, and leaves the log as it was.
 fn fails_well(alloc: Global, call: u64) -> Result<bool, Fail> {
+    let log = file(alloc, &[SCHEMA_PAYLOAD, &TWO, &ONE])?;
     let mut host = host_of_three(alloc, &[call])?;
-    let log = host.file(2).to_vec(alloc)?;
     let ends = dump(alloc, &mut host);
     let is_fault = matches!(ends, Err(DumpFault::Disk | DumpFault::Write));
     let is_front = THREE_ROWS.starts_with(host.output());
-    Ok(is_fault && is_front && host.file(2) == log.as_slice())
+    let is_kept = host.file(2) == log.as_slice();
+    drop(host);
+    Ok(is_fault && is_front && is_kept)
 }
 
 #[test]

@@ -1,7 +1,8 @@
 use crate::payments::{ONE, ONE_BY_COLUMNS, SCHEMA_PAYLOAD, TWO, file, store};
-use rg_host::{Host, MemHost};
+use rg_host::MemHost;
 use rg_info::{InfoFault, info};
 use std::alloc::Global;
+use std::process::Abort;
 use std::test::Fail;
 
 /// A checkpoint of three payments: one query, whose text is `q`, no spot and no row.
@@ -11,12 +12,7 @@ const CHECKPOINT: [u8; 30] = [
 
 const WHOLE: &[u8] = b"events 3\nnext 3\ntime 300000\nframes 3\nslot 0 3 1\nslot 1 none\n";
 
-/// Whether a host's store is told so.
-fn tells(alloc: Global, host: &mut MemHost, text: &[u8]) -> bool {
-    info(alloc, host) == Ok(()) && host.output() == text
-}
-
-/// Whether the store of this log and these slots is told so.
+/// Whether the store of this log and these slots is told so, and left.
 fn tells_of(
     alloc: Global,
     log: &[u8],
@@ -25,36 +21,51 @@ fn tells_of(
     text: &[u8],
 ) -> Result<bool, Fail> {
     let mut host = store(alloc, log, first, second, &[])?;
-    Ok(tells(alloc, &mut host, text))
+    let is_told = info(alloc, &mut host) == Ok(()) && host.output() == text;
+    let is_left = host.file(0) == first && host.file(1) == second && host.file(2) == log;
+    drop(host);
+    Ok(is_told && is_left)
+}
+
+/// The store of a log with these payloads, and of the checkpoint in the first slot, or else in the second one, is
+/// told so.
+fn assert_told(
+    rt: &(impl Abort + AllocGlobal),
+    payloads: &[&[u8]],
+    is_first: bool,
+    text: &[u8],
+) -> Result<(), Fail> {
+    let log = file(rt.alloc(), payloads)?;
+    let slot = file(rt.alloc(), &[&CHECKPOINT])?;
+    let is_told = if is_first {
+        tells_of(rt.alloc(), &log, &slot, b"", text)?
+    } else {
+        tells_of(rt.alloc(), &log, b"", &slot, text)?
+    };
+    assert!(rt; is_told);
+    Ok(())
 }
 
 #[test]
 fn three_payments_and_a_checkpoint_are_told(rt: HostRuntime) -> Result<(), Fail> {
-    let log = file(rt.alloc(), &[SCHEMA_PAYLOAD, &TWO, &ONE])?;
-    let slot = file(rt.alloc(), &[&CHECKPOINT])?;
-    let table: [(&[u8], &[u8], &[u8]); 2] = [
-        (&slot, b"", WHOLE),
-        (
-            b"",
-            &slot,
-            b"events 3\nnext 3\ntime 300000\nframes 3\nslot 0 none\nslot 1 3 1\n",
-        ),
-    ];
-    for (first, second, text) in table {
-        let mut host = store(rt.alloc(), &log, first, second, &[])?;
-        assert!(rt; tells(rt.alloc(), &mut host, text));
-        assert!(rt; host.file(1) == second && host.file(2) == log.as_slice());
-    }
-    Ok(())
+    let payloads: [&[u8]; 3] = [SCHEMA_PAYLOAD, &TWO, &ONE];
+    assert_told(&rt, &payloads, true, WHOLE)?;
+    let second = b"events 3\nnext 3\ntime 300000\nframes 3\nslot 0 none\nslot 1 3 1\n";
+    assert_told(&rt, &payloads, false, second)
 }
 
 #[test]
 fn a_chunk_by_columns_counts_as_one_of_rows(rt: HostRuntime) -> Result<(), Fail> {
-    let log = file(rt.alloc(), &[SCHEMA_PAYLOAD, &TWO, &ONE_BY_COLUMNS])?;
-    let slot = file(rt.alloc(), &[&CHECKPOINT])?;
-    let mut host = store(rt.alloc(), &log, &slot, b"", &[])?;
-    assert!(rt; tells(rt.alloc(), &mut host, WHOLE));
-    Ok(())
+    assert_told(&rt, &[SCHEMA_PAYLOAD, &TWO, &ONE_BY_COLUMNS], true, WHOLE)
+}
+
+/// Whether the info of the store of this log and this slot ends with damage at this place, and puts nothing.
+fn is_damaged(alloc: Global, log: &[u8], slot: &[u8], place: u64) -> Result<bool, Fail> {
+    let mut host = store(alloc, log, slot, b"", &[])?;
+    let is_damage = info(alloc, &mut host) == Err(InfoFault::Damaged(place));
+    let is_silent = host.output().is_empty();
+    drop(host);
+    Ok(is_damage && is_silent)
 }
 
 #[test]
@@ -64,9 +75,8 @@ fn a_chunk_of_bad_columns_is_damage(rt: HostRuntime) -> Result<(), Fail> {
     bad[72] = 1;
     let log = file(rt.alloc(), &[SCHEMA_PAYLOAD, &TWO, &bad])?;
     let slot = file(rt.alloc(), &[&CHECKPOINT])?;
-    let mut host = store(rt.alloc(), &log, &slot, b"", &[])?;
-    assert_eq!(rt; info(rt.alloc(), &mut host), Err(InfoFault::Damaged(163)));
-    assert_eq!(rt; host.output(), b"".as_slice());
+    let is_damaged = is_damaged(rt.alloc(), &log, &slot, 163)?;
+    assert!(rt; is_damaged);
     Ok(())
 }
 
@@ -90,20 +100,24 @@ fn a_store_without_payments_has_none(rt: HostRuntime) -> Result<(), Fail> {
     Ok(())
 }
 
+/// Where the log of three payments is damaged that is cut to so many bytes.
+fn place_of_cut(cut: usize) -> u64 {
+    match cut {
+        0..=57 => 0,
+        58..=163 => 57,
+        _ => 163,
+    }
+}
+
 #[test]
 fn a_damaged_log_puts_nothing(rt: HostRuntime) -> Result<(), Fail> {
     let log = file(rt.alloc(), &[SCHEMA_PAYLOAD, &TWO, &ONE])?;
     assert_eq!(rt; log.len(), 240);
     let slot = file(rt.alloc(), &[&CHECKPOINT])?;
-    for cut in 2..log.len() {
-        let place = match cut {
-            0..=57 => 0,
-            58..=163 => 57,
-            _ => 163,
-        };
-        let mut host = store(rt.alloc(), &log[..cut], &slot, b"", &[])?;
-        let is_damage = info(rt.alloc(), &mut host) == Err(InfoFault::Damaged(place));
-        assert!(rt; is_damage && host.output().is_empty(), "at {cut}");
+    for cut in 2..240 {
+        let bytes = log.get(..cut).unwrap_or(b"");
+        let is_damaged = is_damaged(rt.alloc(), bytes, &slot, place_of_cut(cut))?;
+        assert!(rt; is_damaged, "at {cut}");
     }
     Ok(())
 }
@@ -135,16 +149,21 @@ fn store_of_three(alloc: Global, failing: &[u64]) -> Result<MemHost, Fail> {
 fn info_failing(alloc: Global, call: u64) -> Result<(Result<(), InfoFault>, bool), Fail> {
     let mut host = store_of_three(alloc, &[call])?;
     let ends = info(alloc, &mut host);
-    Ok((ends, host.output().is_empty()))
+    let is_silent = host.output().is_empty();
+    drop(host);
+    Ok((ends, is_silent))
 }
 
 /// How many calls its info makes.
 fn count_calls(alloc: Global) -> Result<u64, Fail> {
     let mut host = store_of_three(alloc, &[])?;
-    if info(alloc, &mut host) != Ok(()) {
+    let is_told = info(alloc, &mut host) == Ok(());
+    let calls = host.calls();
+    drop(host);
+    if !is_told {
         return Err(Fail::new("it was not told"));
     }
-    Ok(host.calls())
+    Ok(calls)
 }
 
 #[test]

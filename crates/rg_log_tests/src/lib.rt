@@ -11,6 +11,8 @@ mod chunk;
 #[cfg(test)]
 mod dump;
 #[cfg(test)]
+mod extended;
+#[cfg(test)]
 mod info;
 #[cfg(test)]
 mod payments;

@@ -170,8 +170,10 @@ fn looks_on(
     requires { (1 ≤ cache) × (cache ≤ 1024) }
 {
     let mut reservoir = three(alloc, host, cache)?;
-    let is_so = look_twice(&mut reservoir, host)?;
-    Ok((is_so, reservoir.loads(), reservoir.held()))
+    let is_so = look_twice(&mut reservoir, host);
+    let (loads, held) = (reservoir.loads(), reservoir.held());
+    drop(reservoir);
+    Ok((is_so?, loads, held))
 }
 
 /// The same on a host of its own.
@@ -179,7 +181,9 @@ fn looks(alloc: Global, cache: u32) -> Result<(bool, u64, u32), Fail>
     requires { (1 ≤ cache) × (cache ≤ 1024) }
 {
     let mut host = host_with(alloc, &[], &[])?;
-    Ok(looks_on(alloc, &mut host, cache)?)
+    let looks = looks_on(alloc, &mut host, cache);
+    drop(host);
+    Ok(looks?)
 }
 
 #[test]
@@ -237,17 +241,21 @@ pub(crate) fn payments<H: Host>(alloc: Global, host: &mut H) -> Result<Reservoir
 fn write_two(alloc: Global, host: &mut MemHost) -> Result<bool, ReservoirFault> {
     let mut reservoir = payments(alloc, host)?;
     let is_new = host.file(2).len() == 58 && reservoir.last_time().is_none();
-    commit_two(alloc, &mut reservoir, host)?;
-    Ok(is_new)
+    let committed = commit_two(alloc, &mut reservoir, host);
+    drop(reservoir);
+    match committed {
+        Ok(()) => Ok(is_new),
+        Err(fault) => Err(fault),
+    }
 }
 
 #[test]
 fn a_log_is_written_as_the_format_says(rt: HostRuntime) -> Result<(), Fail> {
     let mut host = host_with(rt.alloc(), &[], &[])?;
-    let is_new = write_two(rt.alloc(), &mut host)?;
+    let is_new = write_two(rt.alloc(), &mut host);
     let is_written = host.file(2) == WRITTEN.as_slice();
     drop(host);
-    assert!(rt; is_new && is_written);
+    assert!(rt; is_new == Ok(true) && is_written);
     Ok(())
 }
 
@@ -278,11 +286,11 @@ fn is_of_two_chunks(log: &[u8]) -> bool {
 #[test]
 fn a_log_of_two_chunks_has_its_gates_where_the_format_says(rt: HostRuntime) -> Result<(), Fail> {
     let mut host = host_with(rt.alloc(), &[], &[])?;
-    write_two(rt.alloc(), &mut host)?;
-    write_third(rt.alloc(), &mut host)?;
+    let two = write_two(rt.alloc(), &mut host);
+    let third = write_third(rt.alloc(), &mut host);
     let is_written = is_of_two_chunks(host.file(2));
     drop(host);
-    assert!(rt; is_written);
+    assert!(rt; two == Ok(true) && third == Ok(()) && is_written);
     Ok(())
 }
 
@@ -301,11 +309,11 @@ fn meets(alloc: Global, host: &mut MemHost, offsets: &[u64]) -> Result<bool, Res
 #[test]
 fn a_log_of_rows_goes_on_by_columns(rt: HostRuntime) -> Result<(), Fail> {
     let mut host = host_with(rt.alloc(), &FILE, &[])?;
-    write_third(rt.alloc(), &mut host)?;
+    let third = write_third(rt.alloc(), &mut host);
     let is_written = is_of_rows_and_third(host.file(2));
-    let has_all = meets(rt.alloc(), &mut host, &[0, 1, 2])?;
+    let has_all = meets(rt.alloc(), &mut host, &[0, 1, 2]);
     drop(host);
-    assert!(rt; is_written && has_all);
+    assert!(rt; third == Ok(()) && is_written && has_all == Ok(true));
     Ok(())
 }
 
@@ -315,23 +323,23 @@ fn numbers(
     host: &mut MemHost,
 ) -> Result<(u64, u64, u64, Option<u64>), ReservoirFault> {
     let reservoir = payments(alloc, host)?;
-    let count = reservoir.count();
-    let committed = reservoir.committed();
-    Ok((
-        count,
-        committed,
+    let numbers = (
+        reservoir.count(),
+        reservoir.committed(),
         reservoir.next_offset(),
         reservoir.last_time(),
-    ))
+    );
+    drop(reservoir);
+    Ok(numbers)
 }
 
 #[test]
 fn a_log_is_attached_again(rt: HostRuntime) -> Result<(), Fail> {
     let mut host = host_with(rt.alloc(), &FILE, &[])?;
-    let numbers = numbers(rt.alloc(), &mut host)?;
+    let numbers = numbers(rt.alloc(), &mut host);
     let is_kept = host.file(2) == FILE.as_slice();
     drop(host);
-    assert!(rt; is_kept && numbers == (2, 2, 2, Some(299_999)));
+    assert!(rt; is_kept && numbers == Ok((2, 2, 2, Some(299_999))));
     Ok(())
 }
 
@@ -352,12 +360,19 @@ fn walk<P: Past>(past: &mut P, offsets: &[u64]) -> Result<bool, PastFault> {
     Ok(past.peek(&mut spot)?.is_none())
 }
 
-/// Whether a past over three events in a chunk each meets them.
+/// Whether a past over three events in a chunk each, which are written first, meets them.
+fn meets_three_on(alloc: Global, host: &mut MemHost) -> Result<bool, ReservoirFault> {
+    let mut reservoir = three(alloc, host, 1)?;
+    let mut past = Stored::new(&mut reservoir, host);
+    Ok(walk(&mut past, &[0, 1, 2]) == Ok(true))
+}
+
+/// The same of a host of its own.
 fn meets_three(alloc: Global) -> Result<bool, Fail> {
     let mut host = host_with(alloc, &[], &[])?;
-    let mut reservoir = three(alloc, &mut host, 1)?;
-    let mut past = Stored::new(&mut reservoir, &mut host);
-    Ok(walk(&mut past, &[0, 1, 2]) == Ok(true))
+    let has_met = meets_three_on(alloc, &mut host);
+    drop(host);
+    Ok(has_met?)
 }
 
 #[test]
@@ -387,18 +402,25 @@ fn first_counts(alloc: Global, host: &mut MemHost) -> Result<[Option<u32>; 3], R
 #[test]
 fn a_walk_meets_each_frame(rt: HostRuntime) -> Result<(), Fail> {
     let mut host = host_with(rt.alloc(), &FILE, &[])?;
-    let counts = first_counts(rt.alloc(), &mut host)?;
+    let counts = first_counts(rt.alloc(), &mut host);
     drop(host);
-    assert_eq!(rt; counts, [Some(0), Some(2), None]);
+    assert_eq!(rt; counts, Ok([Some(0), Some(2), None]));
     Ok(())
+}
+
+/// How many events the chunk behind the first frame of a host's log has.
+fn second_on(alloc: Global, host: &mut MemHost) -> Result<Option<u32>, ReservoirFault> {
+    let mut frames = Walk::new(alloc);
+    next_count(&mut frames, host)?;
+    next_count(&mut frames, host)
 }
 
 /// How many events the chunk behind the first frame has, or why a walk refuses it.
 fn second(alloc: Global, bytes: &[u8]) -> Result<Result<Option<u32>, ReservoirFault>, Fail> {
     let mut host = host_with(alloc, bytes, &[])?;
-    let mut frames = Walk::new(alloc);
-    next_count(&mut frames, &mut host)?;
-    Ok(next_count(&mut frames, &mut host))
+    let count = second_on(alloc, &mut host);
+    drop(host);
+    Ok(count)
 }
 
 #[test]
@@ -418,6 +440,19 @@ fn a_chunk_of_bad_columns_is_refused_where_it_stands(rt: HostRuntime) -> Result<
     Ok(())
 }
 
+/// Why a host's log isn't attached.
+fn refusal_on(alloc: Global, host: &mut MemHost, text: &[u8]) -> Option<ReservoirFault> {
+    let room = Room {
+        chunk: 1,
+        cache: 1,
+        limit: 2,
+    };
+    match schema(alloc, text) {
+        Ok(schema) => Reservoir::attach(alloc, host, &schema, room).err(),
+        Err(fault) => Some(fault),
+    }
+}
+
 /// Why a log with this byte in place of the one that stood there isn't attached.
 fn refusal(
     alloc: Global,
@@ -431,20 +466,26 @@ fn refusal(
         bytes[at] = byte;
     }
     let mut host = host_with(alloc, &bytes, &[])?;
-    let room = Room {
-        chunk: 1,
-        cache: 1,
-        limit: 2,
-    };
-    let schema = schema(alloc, text)?;
-    Ok(Reservoir::attach(alloc, &mut host, &schema, room).err())
+    let fault = refusal_on(alloc, &mut host, text);
+    drop(host);
+    Ok(fault)
+}
+
+/// Writes three events in a chunk each.
+fn put_three_on(alloc: Global, host: &mut MemHost) -> Result<(), ReservoirFault> {
+    let reservoir = three(alloc, host, 1)?;
+    drop(reservoir);
+    Ok(())
 }
 
 /// The bytes of a log whose frames stand at 0, 22, 88 and 154, and which ends at 220.
 pub(crate) fn sound_bytes(alloc: Global) -> Result<Vec<u8>, Fail> {
     let mut host = host_with(alloc, &[], &[])?;
-    three(alloc, &mut host, 1)?;
-    Ok(host.file(2).to_vec(alloc)?)
+    let written = put_three_on(alloc, &mut host);
+    let bytes = host.file(2).to_vec(alloc);
+    drop(host);
+    written?;
+    Ok(bytes?)
 }
 
 #[test]
@@ -499,11 +540,11 @@ fn names_over(
     spots: &[Spot],
 ) -> Result<Option<bool>, ReservoirFault> {
     let reservoir = attached(alloc, host, text, 1)?;
-    let named = reservoir.names(host, spots)?;
-    if reservoir.loads() > 0 || reservoir.held() > 0 {
-        return Ok(None);
-    }
-    Ok(Some(named))
+    let named = reservoir.names(host, spots);
+    let is_unloaded = reservoir.loads() == 0 && reservoir.held() == 0;
+    drop(reservoir);
+    let named = named?;
+    Ok(if is_unloaded { Some(named) } else { None })
 }
 
 /// The same of a log of these bytes.
@@ -514,7 +555,9 @@ fn names_in(
     spots: &[Spot],
 ) -> Result<Option<bool>, Fail> {
     let mut host = host_with(alloc, bytes, &[])?;
-    Ok(names_over(alloc, &mut host, text, spots)?)
+    let named = names_over(alloc, &mut host, text, spots);
+    drop(host);
+    Ok(named?)
 }
 
 /// The same of a spot in a log of three events, in a chunk each.

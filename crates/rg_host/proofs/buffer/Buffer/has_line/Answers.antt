@@ -1,6 +1,5 @@
 use Rattle.std.proofs.Common.{None, Some, arith, slice_range}
 use Rattle.memchr.specs.Find.{IsFirstByte, is_byte}
-use Rattle.rg_host.specs.Lines.{HasNoLf}
 use Rattle.rg_host.proofs.Ranges.{range_found, range_unfound}
 use Rattle.rg_host.proofs.Finds.{lf_found}
 use Rattle.rg_host.proofs.buffer.Buffer.has_line.Goals as goal

@@ -15,18 +15,18 @@ lines-preserved g c =
     }
 
 pub returns-in-Some-clause-next : goal.returns-in-Some-clause-next
-returns-in-Some-clause-next g c = loads_found _ _ _ _ _ _ c.in-Some.found c.lines.invariant.takes c.lines.invariant.limit c.requires.not_ended c.in-Some.ensures.line
+returns-in-Some-clause-next g c = loads_found _ _ _ _ _ _ c.in-Some.found c.lines.invariant.takes c.lines.invariant.limit c.requires.going.not_ended c.in-Some.ensures.line
 
 pub returns-in-Err-clause-next : goal.returns-in-Err-clause-next
 returns-in-Err-clause-next g c =
     let asks = asks_from c.find.new.self c.lines.self _ _ _ (Err c.in-Err.fault) _ c.in_default.ensures.same refl c.in-Err.ensures.asks in
-    next_refused _ c.lines.self.reading _ _ _ _ c.in-Err.fault c.lines.invariant.takes c.lines.invariant.limit c.requires.not_ended c.in_default.ensures.none asks
+    next_refused _ c.lines.self.reading _ _ _ _ c.in-Err.fault c.lines.invariant.takes c.lines.invariant.limit c.requires.going.not_ended c.in_default.ensures.none asks
 
 pub returns-in-Ok-false-clause-next : goal.returns-in-Ok-false-clause-next
 returns-in-Ok-false-clause-next g c =
     let asks = asks_from c.find.new.self c.lines.self _ _ _ (Ok false) _ c.in_default.ensures.same (ap (λ (more : Bool). Ok more) c.in-Ok-false.field-0-test) c.in-Ok-false.ensures.asks in
     loads_finished _ c.ask.new.self.reading _ _ _ _ c.finish.result (takes_then _ c.lines.self.reading _ _ _ _ c.lines.invariant.takes asks.0) asks.1
-    c.requires.all_spent c.requires.not_ended asks.3 c.finish.ensures.line c.finish.ensures.all_spent c.finish.ensures.end
+    c.requires.going.all_spent c.requires.going.not_ended asks.3 c.finish.ensures.line c.finish.ensures.all_spent c.finish.ensures.end
 
 pub returns-in-Some-clause-held : goal.returns-in-Some-clause-held
 returns-in-Some-clause-held g c = λ some. (c.lines.invariant.held some).1

@@ -1,9 +1,8 @@
 -- What the heads of a legal log say of its events.
-use Rattle.std.proofs.Common.{◌≡◌, ◌∙◌, ◌⊎◌, inl, inr, ℕ, ◌+◌, ◌^◌, ◌≤◌, List, [], ◌∷◌, ◌++◌, length, Option, Some, None, option_map, refl, sym, ap, subst, arith, append_assoc}
+use Rattle.std.proofs.Common.{◌≡◌, ◌∙◌, ◌⊎◌, inl, inr, ℕ, ◌+◌, ◌^◌, ◌≤◌, List, [], ◌∷◌, ◌++◌, length, Some, None, refl, sym, ap, subst, arith, append_assoc}
 use Rattle.std.proofs.lemmas.List.{append-nil}
 use Rattle.rg_host.specs.Image.{Image}
 use Rattle.rg_event.specs.declared.event.Event.{Event}
-use Rattle.rg_event.specs.declared.schema.Field.{Field}
 use Rattle.std.specs.Prelude.{slice_index}
 use Rattle.rg_event.specs.Shapes.{Shape, IsSchema}
 use Rattle.rg_event.specs.Rising.{IsRising, next_offset, last_time}
@@ -23,8 +22,9 @@ use Rattle.rg_log.specs.Log.{joined, schema_payload}
 use Rattle.rg_reservoir.specs.Chain.{chunk_in, chunk_at, Chain, IsFirst}
 use Rattle.rg_log.specs.Entries.{nothing, added, told_by, summary_of}
 use Rattle.rg_log.proofs.Summaries.{added_is, told_added, all_behind, legal_told}
+use Rattle.rg_reservoir.specs.Views.{View, plain}
 use Rattle.rg_reservoir.specs.Heads.{Heads, IsOpenGate, IsBad}
-use Rattle.rg_reservoir.specs.Kept.{Base, stored, all_events, IsSoundIn}
+use Rattle.rg_reservoir.specs.Kept.{Base, view_of, stored, all_events, IsSoundIn}
 use Rattle.rg_reservoir.specs.Attached.{Opens, IsOpened, IsOther, IsBadFrame}
 use Rattle.rg_log.specs.Log.{HasEvents, HasSchemaFrame}
 use Rattle.rg_log.proofs.Growing.{begun_log}
@@ -34,52 +34,37 @@ use Rattle.rg_reservoir.proofs.Chains.{some_none, chunk_at_size}
 use Rattle.rg_reservoir.proofs.Committing.{log_at}
 use Rattle.rg_reservoir.proofs.Committed.{stored_by}
 use Rattle.rg_reservoir.proofs.Firsts.{one_payload}
+use Rattle.rg_reservoir.proofs.Viewing.{plain_is, parts}
 
--- the payload of a chunk
-pub record IsChunk (fields : List Field) (place : ℕ) (bytes : List ℕ) (chunk : List Event) (next : ℕ) : Type 0 where
+-- the payload of a chunk, in a log without a growth
+pub record IsChunk (shape : Shape) (place : ℕ) (bytes : List ℕ) (chunk : List Event) (next : ℕ) : Type 0 where
   pub payload : List ℕ
   pub here : payload_at place bytes ≡ Some payload
   pub next_is : next ≡ place + 9 + length payload
-  pub says : chunk_of fields payload ≡ Some chunk
+  pub says : chunk_of shape.fields payload ≡ Some chunk
 
-abbrev events_in : Option (List Event × ℕ) → List Event
-events_in None = []
-events_in (Some c) = c.0
-
-abbrev next_in : Option (List Event × ℕ) → ℕ
-next_in None = 0
-next_in (Some c) = c.1
-
-chunk_parts : (fields : List Field) (place : ℕ) (bytes : List ℕ) (o : Option (List ℕ)) (c : List Event) (n : ℕ) → payload_at place bytes ≡ o → chunk_in fields place o ≡ Some (c, n) → IsChunk fields place bytes c n
-chunk_parts fields place bytes None c n here e = absurd (some_none _ _ e refl)
-chunk_parts fields place bytes (Some p) c n here e = by (chunk_of fields p) refl
-  where
-    by : (o : Option (List Event)) → chunk_of fields p ≡ o → IsChunk fields place bytes c n
-    by None is = let f : None ≡ Some (c, n) = sym (ap (option_map (λ events. (events, place + 9 + length p))) is) ∙ e in absurd cc
-    by (Some d) is =
-        let f : Some (d, place + 9 + length p) ≡ Some (c, n) = sym (ap (option_map (λ events. (events, place + 9 + length p))) is) ∙ e in
-        record { payload = p; here = here; next_is = sym (ap next_in f); says = is ∙ ap (λ (l : List Event). Some l) (ap events_in f) }
-
-pub chunk_payload : (fields : List Field) (place : ℕ) (bytes : List ℕ) (c : List Event) (n : ℕ) → chunk_at fields place bytes ≡ Some (c, n) → IsChunk fields place bytes c n
-chunk_payload fields place bytes c n e = chunk_parts fields place bytes (payload_at place bytes) c n refl e
+pub chunk_payload : (shape : Shape) (place : ℕ) (bytes : List ℕ) (c : List Event) (n : ℕ) → chunk_at (plain shape) place bytes ≡ Some (c, n) → IsChunk shape place bytes c n
+chunk_payload shape place bytes c n e =
+    let k = parts (plain shape) place (payload_at place bytes) c n e in
+    record { payload = k.payload; here = k.here; next_is = sym k.next_is; says = k.says ∙ ap (λ (l : List Event). Some l) k.chunk_is }
 
 -- heads and chunks are of one another
 by_heads :
-    (fields : List Field) (bytes : List ℕ) (place : ℕ) (front : List Event) (chunks : List (List Event)) (end : ℕ) (payloads : List (List ℕ)) (stop : ℕ) (t u : LogSummary) → Chain fields bytes place chunks end → payload_at end bytes ≡ None
+    (shape : Shape) (bytes : List ℕ) (place : ℕ) (front : List Event) (chunks : List (List Event)) (end : ℕ) (payloads : List (List ℕ)) (stop : ℕ) (t u : LogSummary) → Chain (plain shape) bytes place chunks end → payload_at end bytes ≡ None
     → t ≡ summary_of front → Heads bytes place t payloads stop u → payload_at stop bytes ≡ None → (stop ≡ end) × (u ≡ summary_of (front ++ joined chunks))
-by_heads fields bytes place front [] end [] stop t u chain ends start heads stops = (sym heads.0 ∙ chain, sym heads.1 ∙ start ∙ ap summary_of (sym (append-nil front)))
-by_heads fields bytes place front [] end (p ∷ payloads) stop t u chain ends start heads stops = absurd (some_none _ _ heads.0 (subst (λ (q : ℕ). payload_at q bytes ≡ None) (sym chain) ends))
-by_heads fields bytes place front (c ∷ chunks) end [] stop t u chain ends start heads stops =
-    let k = chunk_payload fields place bytes c chain.0 chain.1 in
+by_heads shape bytes place front [] end [] stop t u chain ends start heads stops = (sym heads.0 ∙ chain, sym heads.1 ∙ start ∙ ap summary_of (sym (append-nil front)))
+by_heads shape bytes place front [] end (p ∷ payloads) stop t u chain ends start heads stops = absurd (some_none _ _ heads.0 (subst (λ (q : ℕ). payload_at q bytes ≡ None) (sym chain) ends))
+by_heads shape bytes place front (c ∷ chunks) end [] stop t u chain ends start heads stops =
+    let k = chunk_payload shape place bytes c chain.0 chain.1 in
     absurd (some_none _ _ k.here (subst (λ (q : ℕ). payload_at q bytes ≡ None) (sym heads.0) stops))
-by_heads fields bytes place front (c ∷ chunks) end (p ∷ payloads) stop t u chain ends start heads stops =
-    let k = chunk_payload fields place bytes c chain.0 chain.1 in
+by_heads shape bytes place front (c ∷ chunks) end (p ∷ payloads) stop t u chain ends start heads stops =
+    let k = chunk_payload shape place bytes c chain.0 chain.1 in
     let same : p ≡ k.payload = one_payload place p k.payload bytes heads.0 k.here in
-    let head : head_of p ≡ Some (head_for c) = ap head_of same ∙ chunk_head fields k.payload c k.says in
-    let some = (chunk_at_size fields place bytes c chain.0 chain.1).0 in
+    let head : head_of p ≡ Some (head_for c) = ap head_of same ∙ chunk_head shape.fields k.payload c k.says in
+    let some = (chunk_at_size (plain shape) place bytes c chain.0 chain.1).0 in
     let mid : heads.1.0 ≡ summary_of (front ++ c) = told_added t heads.1.0 (head_for c) (sym (ap (told_by t) head) ∙ heads.1.1) ∙ ap (λ (x : LogSummary). added x (head_for c)) start ∙ added_is front c some in
     let next : chain.0 ≡ place + 9 + length p = k.next_is ∙ ap (λ (l : List ℕ). place + 9 + length l) (sym same) in
-    let rest = by_heads fields bytes (place + 9 + length p) (front ++ c) chunks end payloads stop heads.1.0 u (subst (λ (q : ℕ). Chain fields bytes q chunks end) next chain.2) ends mid heads.1.2 stops in
+    let rest = by_heads shape bytes (place + 9 + length p) (front ++ c) chunks end payloads stop heads.1.0 u (subst (λ (q : ℕ). Chain (plain shape) bytes q chunks end) next chain.2) ends mid heads.1.2 stops in
     (rest.0, rest.1 ∙ ap summary_of (append_assoc front c (joined chunks)))
 
 -- what was legal is so behind the first frame
@@ -119,17 +104,18 @@ no_events shape events bytes has none = elim (laid shape events bytes has) [
 ]
 
 pub attached :
-    (w : Image) (after : Image → Type 0) (b : Base) (tally : LogSummary) (cache : Cache Kept) (events : List Event) → IsOpened (schema_payload b.shape) b.first b.end tally (w b.file) → Laid b.shape events (w b.file) → b.committed ≡ tally.count
+    (w : Image) (after : Image → Type 0) (b : Base) (tally : LogSummary) (cache : Cache Kept) (events : List Event) → b.growths ≡ [] → IsOpened (schema_payload b.shape) b.first b.end tally (w b.file) → Laid b.shape events (w b.file) → b.committed ≡ tally.count
     → HasSchemaFrame b.shape (w b.file) × HasEvents b.shape events (w b.file) → ((q : ℕ) → item_at q cache ≡ None) → ((u : Image) → after u → u b.file ≡ w b.file) → IsSoundIn w after b [] tally.next tally.time cache × (all_events (Some w) b [] ≡ events)
-attached w after b tally cache events o log count legal empty settled =
+attached w after b tally cache events ungrown o log count legal empty settled =
     let first : log.first ≡ b.first = log.schema.ends ∙ sym o.ends in
     let at = log_at o.payloads b.end (w b.file) o.log in
-    let chain0 : Chain b.shape.fields (w b.file) b.first log.chunks log.end = subst (λ (p : ℕ). Chain b.shape.fields (w b.file) p log.chunks log.end) first log.chain in
-    let same = by_heads b.shape.fields (w b.file) b.first [] log.chunks log.end o.passed.chunks b.end nothing tally chain0 (closed_payload log.end (w b.file) log.ends) refl o.passed.are at.none in
-    let chain : Chain b.shape.fields (w b.file) b.first log.chunks b.end = subst (λ (p : ℕ). Chain b.shape.fields (w b.file) b.first log.chunks p) (sym same.0) chain0 in
+    let chain0 : Chain (plain b.shape) (w b.file) b.first log.chunks log.end = subst (λ (p : ℕ). Chain (plain b.shape) (w b.file) p log.chunks log.end) first log.chain in
+    let same = by_heads b.shape (w b.file) b.first [] log.chunks log.end o.passed.chunks b.end nothing tally chain0 (closed_payload log.end (w b.file) log.ends) refl o.passed.are at.none in
+    let chain : Chain (view_of b) (w b.file) b.first log.chunks b.end =
+    subst (λ (view : View). Chain view (w b.file) b.first log.chunks b.end) (sym (plain_is b ungrown)) (subst (λ (p : ℕ). Chain (plain b.shape) (w b.file) b.first log.chunks p) (sym same.0) chain0) in
     let told : tally ≡ summary_of (joined log.chunks) = same.1 in
     let counted : length (joined log.chunks) ≡ b.committed = sym (ap (λ (t : LogSummary). t.count) told) ∙ sym count in
-    let none : chunk_at b.shape.fields b.end (w b.file) ≡ None = ap (chunk_in b.shape.fields b.end) at.none in
+    let none : chunk_at (view_of b) b.end (w b.file) ≡ None = ap (chunk_in (view_of b) b.end) at.none in
     let stored_is : stored (Some w) b ≡ joined log.chunks = stored_by w b log.chunks chain none counted in
     let all_is : all_events (Some w) b [] ≡ joined log.chunks = append-nil _ ∙ stored_is in
     let schema : IsFirst b.shape b.first (w b.file) = record { here = o.here; ends = o.ends } in
@@ -144,6 +130,7 @@ attached w after b tally cache events o log count legal empty settled =
         );
         right = λ going. record {
           settled = settled;
+          plain = ungrown;
           schema = schema;
           chunks = log.chunks;
           chain = chain;
@@ -209,25 +196,25 @@ other_not_bad ours p bytes other (inl bad) = bad.1.none other.shape other.legal 
 other_not_bad ours p bytes other (inr (f, here, ends, bad)) = other.other (one_payload 0 (schema_payload other.shape) ours bytes other.here here)
 
 legal_walk :
-    (fields : List Field) (bytes : List ℕ) (place : ℕ) (front : List Event) (chunks : List (List Event)) (end : ℕ) (qs : List (List ℕ)) (q : ℕ) (t x : LogSummary) → Chain fields bytes place chunks end → IsClosed end bytes
-    → IsRising (front ++ joined chunks) → length (front ++ joined chunks) ≤ 2 ^ 40 → All (IsEventOf fields) (joined chunks) → t ≡ summary_of front → Heads bytes place t qs q x → IsOpenGate q bytes → ((payload : List ℕ) → payload_at q bytes ≡ Some payload → told_by x (head_of payload) ≡ None) → ⊥
-legal_walk fields bytes place front [] end [] q t x chain closed rising few of start heads gate none = open_closed q bytes gate (subst (λ (n : ℕ). IsClosed n bytes) (sym chain ∙ heads.0) closed)
-legal_walk fields bytes place front [] end (p ∷ qs) q t x chain closed rising few of start heads gate none = some_none _ _ heads.0 (closed_payload place bytes (subst (λ (n : ℕ). IsClosed n bytes) (sym chain) closed))
-legal_walk fields bytes place front (c ∷ chunks) end [] q t x chain closed rising few of start heads gate none =
-    let k = chunk_payload fields place bytes c chain.0 chain.1 in
-    let size = chunk_at_size fields place bytes c chain.0 chain.1 in
+    (shape : Shape) (bytes : List ℕ) (place : ℕ) (front : List Event) (chunks : List (List Event)) (end : ℕ) (qs : List (List ℕ)) (q : ℕ) (t x : LogSummary) → Chain (plain shape) bytes place chunks end → IsClosed end bytes
+    → IsRising (front ++ joined chunks) → length (front ++ joined chunks) ≤ 2 ^ 40 → All (IsEventOf shape.fields) (joined chunks) → t ≡ summary_of front → Heads bytes place t qs q x → IsOpenGate q bytes → ((payload : List ℕ) → payload_at q bytes ≡ Some payload → told_by x (head_of payload) ≡ None) → ⊥
+legal_walk shape bytes place front [] end [] q t x chain closed rising few of start heads gate none = open_closed q bytes gate (subst (λ (n : ℕ). IsClosed n bytes) (sym chain ∙ heads.0) closed)
+legal_walk shape bytes place front [] end (p ∷ qs) q t x chain closed rising few of start heads gate none = some_none _ _ heads.0 (closed_payload place bytes (subst (λ (n : ℕ). IsClosed n bytes) (sym chain) closed))
+legal_walk shape bytes place front (c ∷ chunks) end [] q t x chain closed rising few of start heads gate none =
+    let k = chunk_payload shape place bytes c chain.0 chain.1 in
+    let size = chunk_at_size (plain shape) place bytes c chain.0 chain.1 in
     let told : told_by x (head_of k.payload) ≡ Some (summary_of (front ++ c)) =
-    ap (told_by x) (chunk_head fields k.payload c k.says) ∙ ap (λ (y : LogSummary). told_by y (Some (head_for c))) (sym heads.1 ∙ start) ∙ legal_told fields front c (joined chunks) size.0 rising few of in
+    ap (told_by x) (chunk_head shape.fields k.payload c k.says) ∙ ap (λ (y : LogSummary). told_by y (Some (head_for c))) (sym heads.1 ∙ start) ∙ legal_told shape.fields front c (joined chunks) size.0 rising few of in
     some_none _ _ told (none k.payload (subst (λ (n : ℕ). payload_at n bytes ≡ Some k.payload) heads.0 k.here))
-legal_walk fields bytes place front (c ∷ chunks) end (p ∷ qs) q t x chain closed rising few of start heads gate none =
-    let k = chunk_payload fields place bytes c chain.0 chain.1 in
+legal_walk shape bytes place front (c ∷ chunks) end (p ∷ qs) q t x chain closed rising few of start heads gate none =
+    let k = chunk_payload shape place bytes c chain.0 chain.1 in
     let same : p ≡ k.payload = one_payload place p k.payload bytes heads.0 k.here in
-    let head : head_of p ≡ Some (head_for c) = ap head_of same ∙ chunk_head fields k.payload c k.says in
-    let some = (chunk_at_size fields place bytes c chain.0 chain.1).0 in
+    let head : head_of p ≡ Some (head_for c) = ap head_of same ∙ chunk_head shape.fields k.payload c k.says in
+    let some = (chunk_at_size (plain shape) place bytes c chain.0 chain.1).0 in
     let mid : heads.1.0 ≡ summary_of (front ++ c) = told_added t heads.1.0 (head_for c) (sym (ap (told_by t) head) ∙ heads.1.1) ∙ ap (λ (y : LogSummary). added y (head_for c)) start ∙ added_is front c some in
     let next : chain.0 ≡ place + 9 + length p = k.next_is ∙ ap (λ (l : List ℕ). place + 9 + length l) (sym same) in
     let joins : front ++ (c ++ joined chunks) ≡ (front ++ c) ++ joined chunks = sym (append_assoc front c (joined chunks)) in
-    legal_walk fields bytes (place + 9 + length p) (front ++ c) chunks end qs q heads.1.0 x (subst (λ (n : ℕ). Chain fields bytes n chunks end) next chain.2) closed (subst IsRising joins rising) (subst (λ (l : List Event). length l ≤ 2 ^ 40) joins few) (all_behind (IsEventOf fields) c (joined chunks) of) mid heads.1.2 gate none
+    legal_walk shape bytes (place + 9 + length p) (front ++ c) chunks end qs q heads.1.0 x (subst (λ (n : ℕ). Chain (plain shape) bytes n chunks end) next chain.2) closed (subst IsRising joins rising) (subst (λ (l : List Event). length l ≤ 2 ^ 40) joins few) (all_behind (IsEventOf shape.fields) c (joined chunks) of) mid heads.1.2 gate none
 
 -- a legal log isn't refused
 pub legal_not_bad : (shape : Shape) (events : List Event) (p : ℕ) (bytes : List ℕ) → IsSchema shape → IsLaid shape events bytes → IsBadFrame (schema_payload shape) p bytes → ⊥
@@ -236,7 +223,7 @@ legal_not_bad shape events p bytes legal (inl none) (inr (f, here, ends, bad)) =
 legal_not_bad shape events p bytes legal (inr has) (inl bad) = bad.1.none shape legal has.schema.here
 legal_not_bad shape events p bytes legal (inr has) (inr (f, here, ends, bad)) =
     let one : f ≡ has.first = ends ∙ sym has.schema.ends in
-    legal_walk shape.fields bytes has.first [] has.chunks has.end bad.chunks p nothing bad.tally has.chain has.ends (subst IsRising (sym has.joined) has.rising) (subst (λ (l : List Event). length l ≤ 2 ^ 40) (sym has.joined) has.few) (subst (All (IsEventOf shape.fields)) (sym has.joined) has.of) refl
+    legal_walk shape bytes has.first [] has.chunks has.end bad.chunks p nothing bad.tally has.chain has.ends (subst IsRising (sym has.joined) has.rising) (subst (λ (l : List Event). length l ≤ 2 ^ 40) (sym has.joined) has.few) (subst (All (IsEventOf shape.fields)) (sym has.joined) has.of) refl
     (subst (λ (n : ℕ). Heads bytes n nothing bad.chunks p bad.tally) one bad.are) bad.gate bad.bad
 
 -- nor is it of another schema

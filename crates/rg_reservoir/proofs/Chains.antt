@@ -1,13 +1,13 @@
 -- How chunks stand one after another.
-use Rattle.std.proofs.Common.{◌≡◌, ◌∙◌, ℕ, zero, suc, ◌+◌, ◌≤◌, ◌<◌, List, [], ◌∷◌, ◌++◌, length, Option, Some, None, option_map, refl, sym, ap, subst, arith, append_assoc, length-append}
+use Rattle.std.proofs.Common.{◌≡◌, ◌∙◌, ℕ, zero, suc, ◌+◌, ◌≤◌, ◌<◌, List, [], ◌∷◌, ◌++◌, length, Option, Some, None, refl, sym, ap, subst, arith, append_assoc, length-append}
 use Rattle.std.specs.Prelude.{slice_get}
 use Rattle.rg_event.specs.declared.event.Event.{Event}
-use Rattle.rg_event.specs.declared.schema.Field.{Field}
 use Rattle.rg_frame.specs.Frames.{payload_at}
-use Rattle.rg_chunk.specs.Chunks.{chunk_of}
 use Rattle.rg_log.proofs.ChunkHeads.{chunk_size}
 use Rattle.rg_log.specs.Log.{joined}
-use Rattle.rg_reservoir.specs.Chain.{chunk_in, chunk_at, Chain, with_chunk, events_from, padded}
+use Rattle.rg_reservoir.specs.Chain.{chunk_at, Chain, with_chunk, events_from, padded}
+use Rattle.rg_reservoir.specs.Views.{View, shape_at}
+use Rattle.rg_reservoir.proofs.Viewing.{length-grown, parts}
 
 abbrev first_of : Option (List Event × ℕ) → List Event
 first_of None = []
@@ -25,49 +25,43 @@ pub some_none : {A : Type 0} (o : Option A) (a : A) → o ≡ Some a → o ≡ N
 some_none o a e f = let g : Some a ≡ None = sym e ∙ f in cc
 
 -- a chunk has events, and no more than there may be
-chunk_in_size : (fields : List Field) (place : ℕ) (o : Option (List ℕ)) (c : List Event) (n : ℕ) → chunk_in fields place o ≡ Some (c, n) → (1 ≤ length c) × (length c ≤ 4096)
-chunk_in_size fields place None c n e = absurd cc
-chunk_in_size fields place (Some payload) c n e = by (chunk_of fields payload) refl
-  where
-    by : (o : Option (List Event)) → chunk_of fields payload ≡ o → (1 ≤ length c) × (length c ≤ 4096)
-    by None is = let f : None ≡ Some (c, n) = sym (ap (option_map (λ events. (events, place + 9 + length payload))) is) ∙ e in absurd cc
-    by (Some d) is =
-        let f : Some (d, place + 9 + length payload) ≡ Some (c, n) = sym (ap (option_map (λ events. (events, place + 9 + length payload))) is) ∙ e in
-        chunk_size fields payload c (is ∙ ap (λ (l : List Event). Some l) (ap first_of f))
-
-pub chunk_at_size : (fields : List Field) (place : ℕ) (bytes : List ℕ) (c : List Event) (n : ℕ) → chunk_at fields place bytes ≡ Some (c, n) → (1 ≤ length c) × (length c ≤ 4096)
-chunk_at_size fields place bytes c n e = chunk_in_size fields place (payload_at place bytes) c n e
+pub chunk_at_size : (view : View) (place : ℕ) (bytes : List ℕ) (c : List Event) (n : ℕ) → chunk_at view place bytes ≡ Some (c, n) → (1 ≤ length c) × (length c ≤ 4096)
+chunk_at_size view place bytes c n e =
+    let k = parts view place (payload_at place bytes) c n e in
+    let size = chunk_size (shape_at view place).fields k.payload k.events k.says in
+    let same : length c ≡ length k.events = ap length (sym k.chunk_is) ∙ length-grown view.growths place k.events in
+    (omega (arith, same, size.0), omega (arith, same, size.1))
 
 pub joined-append : (a b : List (List Event)) → joined (a ++ b) ≡ joined a ++ joined b
 joined-append [] b = refl
 joined-append (c ∷ a) b = ap (λ (l : List Event). c ++ l) (joined-append a b) ∙ sym (append_assoc c (joined a) (joined b))
 
-module _ (fields : List Field) (bytes : List ℕ) where
-  pub chain_push : (place : ℕ) (before : List (List Event)) (q : ℕ) (c : List Event) (next : ℕ) → Chain fields bytes place before q → chunk_at fields q bytes ≡ Some (c, next) → Chain fields bytes place (before ++ c ∷ []) next
-  chain_push place [] q c next chain here = (next, subst (λ (p : ℕ). chunk_at fields p bytes ≡ Some (c, next)) (sym chain) here, refl)
+module _ (view : View) (bytes : List ℕ) where
+  pub chain_push : (place : ℕ) (before : List (List Event)) (q : ℕ) (c : List Event) (next : ℕ) → Chain view bytes place before q → chunk_at view q bytes ≡ Some (c, next) → Chain view bytes place (before ++ c ∷ []) next
+  chain_push place [] q c next chain here = (next, subst (λ (p : ℕ). chunk_at view p bytes ≡ Some (c, next)) (sym chain) here, refl)
   chain_push place (b ∷ before) q c next chain here = (chain.0, chain.1, chain_push chain.0 before q c next chain.2 here)
 
   -- all chunks go on behind one of them
-  pub chain_split : (place : ℕ) (all before : List (List Event)) (end q : ℕ) (c : List Event) (next : ℕ) → Chain fields bytes place all end → chunk_at fields end bytes ≡ None → Chain fields bytes place before q → chunk_at fields q bytes ≡ Some (c, next)
-      → (after : List (List Event)) × (all ≡ before ++ c ∷ after) × Chain fields bytes next after end
-  chain_split place [] [] end q c next chain ends to here = absurd (some_none _ _ here (subst (λ (p : ℕ). chunk_at fields p bytes ≡ None) (sym chain ∙ to) ends))
+  pub chain_split : (place : ℕ) (all before : List (List Event)) (end q : ℕ) (c : List Event) (next : ℕ) → Chain view bytes place all end → chunk_at view end bytes ≡ None → Chain view bytes place before q → chunk_at view q bytes ≡ Some (c, next)
+      → (after : List (List Event)) × (all ≡ before ++ c ∷ after) × Chain view bytes next after end
+  chain_split place [] [] end q c next chain ends to here = absurd (some_none _ _ here (subst (λ (p : ℕ). chunk_at view p bytes ≡ None) (sym chain ∙ to) ends))
   chain_split place (d ∷ all) [] end q c next chain ends to here =
-      let same = one_chunk _ d c chain.0 next chain.1 (subst (λ (p : ℕ). chunk_at fields p bytes ≡ Some (c, next)) (sym to) here) in
-      (all, ap (λ (x : List Event). x ∷ all) same.0, subst (λ (p : ℕ). Chain fields bytes p all end) same.1 chain.2)
-  chain_split place [] (b ∷ before) end q c next chain ends to here = absurd (some_none _ _ to.1 (subst (λ (p : ℕ). chunk_at fields p bytes ≡ None) (sym chain) ends))
+      let same = one_chunk _ d c chain.0 next chain.1 (subst (λ (p : ℕ). chunk_at view p bytes ≡ Some (c, next)) (sym to) here) in
+      (all, ap (λ (x : List Event). x ∷ all) same.0, subst (λ (p : ℕ). Chain view bytes p all end) same.1 chain.2)
+  chain_split place [] (b ∷ before) end q c next chain ends to here = absurd (some_none _ _ to.1 (subst (λ (p : ℕ). chunk_at view p bytes ≡ None) (sym chain) ends))
   chain_split place (d ∷ all) (b ∷ before) end q c next chain ends to here =
       let same = one_chunk _ d b chain.0 to.0 chain.1 to.1 in
-      let rest = chain_split to.0 all before end q c next (subst (λ (p : ℕ). Chain fields bytes p all end) same.1 chain.2) ends to.2 here in
+      let rest = chain_split to.0 all before end q c next (subst (λ (p : ℕ). Chain view bytes p all end) same.1 chain.2) ends to.2 here in
       (rest.0, ap (λ (x : List Event). x ∷ all) same.0 ∙ ap (λ (l : List (List Event)). b ∷ l) rest.1, rest.2)
 
   -- the events that stand from a place on are those of the chunks
-  pub from_chain : (most place : ℕ) (chunks : List (List Event)) (end : ℕ) → Chain fields bytes place chunks end → chunk_at fields end bytes ≡ None → length (joined chunks) ≤ most → events_from fields most place bytes ≡ joined chunks
+  pub from_chain : (most place : ℕ) (chunks : List (List Event)) (end : ℕ) → Chain view bytes place chunks end → chunk_at view end bytes ≡ None → length (joined chunks) ≤ most → events_from view most place bytes ≡ joined chunks
   from_chain zero place [] end chain ends few = refl
-  from_chain (suc most) place [] end chain ends few = rw (subst (λ (p : ℕ). chunk_at fields p bytes ≡ None) (sym chain) ends) refl
-  from_chain zero place (c ∷ chunks) end chain ends few = absurd (omega (arith, length-append c (joined chunks), (chunk_at_size fields place bytes c chain.0 chain.1).0, few))
+  from_chain (suc most) place [] end chain ends few = rw (subst (λ (p : ℕ). chunk_at view p bytes ≡ None) (sym chain) ends) refl
+  from_chain zero place (c ∷ chunks) end chain ends few = absurd (omega (arith, length-append c (joined chunks), (chunk_at_size view place bytes c chain.0 chain.1).0, few))
   from_chain (suc most) place (c ∷ chunks) end chain ends few =
-      let le : length (joined chunks) ≤ most = omega (arith, length-append c (joined chunks), (chunk_at_size fields place bytes c chain.0 chain.1).0, few) in
-      ap (λ (o : Option (List Event × ℕ)). with_chunk o (λ next. events_from fields most next bytes)) chain.1 ∙ ap (λ (l : List Event). c ++ l) (from_chain most chain.0 chunks end chain.2 ends le)
+      let le : length (joined chunks) ≤ most = omega (arith, length-append c (joined chunks), (chunk_at_size view place bytes c chain.0 chain.1).0, few) in
+      ap (λ (o : Option (List Event × ℕ)). with_chunk o (λ next. events_from view most next bytes)) chain.1 ∙ ap (λ (l : List Event). c ++ l) (from_chain most chain.0 chunks end chain.2 ends le)
 
 pub padded_same : (count : ℕ) (events : List Event) → length events ≡ count → padded count events ≡ events
 padded_same zero [] e = refl

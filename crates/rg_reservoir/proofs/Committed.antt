@@ -4,7 +4,6 @@ use Rattle.std.proofs.lemmas.List.{append-nil, take_all}
 use Rattle.rg_host.specs.Image.{Image}
 use Rattle.rg_event.specs.Codec.{IsEventOf}
 use Rattle.rg_event.specs.declared.event.Event.{Event}
-use Rattle.rg_event.specs.declared.schema.Field.{Field}
 use Rattle.rg_event.specs.Rising.{IsRising, next_offset, last_time}
 use Rattle.rg_past.specs.declared.past.Spot.{Spot}
 use Rattle.rg_frame.proofs.FrameLists.{payloads_one}
@@ -21,12 +20,14 @@ use Rattle.std.proofs.lemmas.List.Elements.{All-from_recursion}
 use Rattle.rg_log.specs.Log.{joined, IsChunkOf, HasEvents, HasSchemaFrame}
 use Rattle.rg_log.proofs.Growing.{grows_log, grown_log}
 use Rattle.rg_reservoir.specs.Chain.{chunk_in, chunk_at, Chain, with_chunk, events_from, padded, IsFirst}
+use Rattle.rg_reservoir.specs.Views.{View}
 use Rattle.rg_reservoir.proofs.Listing.{log_of, last_small, grown_log as grown_end}
 use Rattle.rg_reservoir.proofs.Legal.{chunk_made}
-use Rattle.rg_reservoir.specs.Kept.{Base, stored, all_events, CommittedOrAll, IsRight, IsSoundIn, InChunk, InOpen, Spells, Adds}
+use Rattle.rg_reservoir.specs.Kept.{Base, view_of, stored, all_events, CommittedOrAll, IsRight, IsSoundIn, InChunk, InOpen, Spells, Adds}
 use Rattle.rg_reservoir.proofs.Chains.{chunk_at_size, joined-append, chain_push, from_chain, padded_same}
 use Rattle.rg_reservoir.proofs.Committing.{chunk_stays, chunk_behind, chain_behind, chain_stays, first_stays, LogAt, log_at, LogMore, log_more}
 use Rattle.rg_reservoir.proofs.Seeking.{stored_is, before_end, one_image}
+use Rattle.rg_reservoir.proofs.Viewing.{plain_is}
 
 rising_behind : (xs ys : List Event) → IsRising (xs ++ ys) → IsRising ys
 rising_behind [] ys rising = rising
@@ -34,12 +35,12 @@ rising_behind (x ∷ []) [] rising = tt
 rising_behind (x ∷ []) (y ∷ ys) rising = rising.2
 rising_behind (x ∷ (z ∷ xs)) ys rising = rising_behind (z ∷ xs) ys rising.2
 
-pub stored_by : (v : Image) (b : Base) (chunks : List (List Event)) → Chain b.shape.fields (v b.file) b.first chunks b.end → chunk_at b.shape.fields b.end (v b.file) ≡ None → length (joined chunks) ≡ b.committed → stored (Some v) b ≡ joined chunks
+pub stored_by : (v : Image) (b : Base) (chunks : List (List Event)) → Chain (view_of b) (v b.file) b.first chunks b.end → chunk_at (view_of b) b.end (v b.file) ≡ None → length (joined chunks) ≡ b.committed → stored (Some v) b ≡ joined chunks
 stored_by v b chunks chain ends counted =
-    ap (padded b.committed) (from_chain b.shape.fields (v b.file) b.committed b.first chunks b.end chain ends (omega (arith, counted))) ∙ padded_same b.committed (joined chunks) counted
+    ap (padded b.committed) (from_chain (view_of b) (v b.file) b.committed b.first chunks b.end chain ends (omega (arith, counted))) ∙ padded_same b.committed (joined chunks) counted
 
 abbrev pub grown : Base → ℕ → ℕ → Base
-grown b end count = record { shape = b.shape; file = b.file; first = b.first; end = end; ended = b.ended; committed = b.committed + count; limit = b.limit }
+grown b end count = record { shape = b.shape; growths = b.growths; file = b.file; first = b.first; end = end; ended = b.ended; committed = b.committed + count; limit = b.limit }
 
 joined_push : (chunks : List (List Event)) (chunk : List Event) → joined (chunks ++ chunk ∷ []) ≡ joined chunks ++ chunk
 joined_push chunks chunk = joined-append chunks (chunk ∷ []) ∙ ap (λ (l : List Event). joined chunks ++ l) (append-nil chunk)
@@ -88,20 +89,21 @@ module _ (v w : Image) (may after : Image → Type 0) (b : Base) (opened : List 
   front : take b.end (w b.file) ≡ take b.end (v b.file)
   front = new.front ∙ sym old.front
 
-  pub here : chunk_at b.shape.fields b.end (w b.file) ≡ Some (opened, end)
-  here = chunk_made b.shape.fields b.end (w b.file) (chunk_bytes b.shape.fields opened) opened end new.here (said v may b opened next time cache right some few) new.next_is
+  pub here : chunk_at (view_of b) b.end (w b.file) ≡ Some (opened, end)
+  here = subst (λ (view : View). chunk_at view b.end (w b.file) ≡ Some (opened, end)) (sym (plain_is b right.plain))
+      (chunk_made b.shape b.end (w b.file) (chunk_bytes b.shape.fields opened) opened end new.here (said v may b opened next time cache right some few) new.next_is)
 
-  pub chain : Chain b.shape.fields (w b.file) b.first right.chunks b.end
-  chain = chain_stays b.shape.fields (v b.file) (w b.file) b.first b.end right.chunks b.end front (λ _. new.more) (omega arith) right.chain
+  pub chain : Chain (view_of b) (w b.file) b.first right.chunks b.end
+  chain = chain_stays (view_of b) (v b.file) (w b.file) b.first b.end right.chunks b.end front (λ _. new.more) (omega arith) right.chain
 
   pub schema : IsFirst b.shape b.first (w b.file)
-  schema = first_stays b.shape b.first b.end (v b.file) (w b.file) front (chain_behind b.shape.fields (v b.file) b.first right.chunks b.end right.chain) (λ _. new.more) right.schema
+  schema = first_stays b.shape b.first b.end (v b.file) (w b.file) front (chain_behind (view_of b) (v b.file) b.first right.chunks b.end right.chain) (λ _. new.more) right.schema
 
-  pub longer : Chain b.shape.fields (w b.file) b.first (right.chunks ++ opened ∷ []) end
-  longer = chain_push b.shape.fields (w b.file) b.first right.chunks b.end opened end chain here
+  pub longer : Chain (view_of b) (w b.file) b.first (right.chunks ++ opened ∷ []) end
+  longer = chain_push (view_of b) (w b.file) b.first right.chunks b.end opened end chain here
 
-  pub ends : chunk_at b.shape.fields end (w b.file) ≡ None
-  ends = ap (chunk_in b.shape.fields end) (log_at (right.payloads ++ chunk_bytes b.shape.fields opened ∷ []) end (w b.file) is).none
+  pub ends : chunk_at (view_of b) end (w b.file) ≡ None
+  ends = ap (chunk_in (view_of b) end) (log_at (right.payloads ++ chunk_bytes b.shape.fields opened ∷ []) end (w b.file) is).none
 
   pub closed : IsClosed end (w b.file)
   closed = (log_at (right.payloads ++ chunk_bytes b.shape.fields opened ∷ []) end (w b.file) is).closed
@@ -126,6 +128,7 @@ module _ (v w : Image) (may after : Image → Type 0) (b : Base) (opened : List 
     );
     right = λ going. record {
       settled = settled;
+      plain = right.plain;
       schema = schema;
       chunks = right.chunks ++ opened ∷ [];
       chain = longer;
@@ -136,7 +139,7 @@ module _ (v w : Image) (may after : Image → Type 0) (b : Base) (opened : List 
       legal = subst (λ (l : List Event). HasEvents b.shape l (w b.file)) (sym (joined_push right.chunks opened)) legal.1;
       framed = legal.0;
       counted = counted;
-      cached = λ place kept held. chunk_stays b.shape.fields place b.end (v b.file) (w b.file) kept.chunk kept.next front (right.cached place kept held) (right.inside place kept held) new.more;
+      cached = λ place kept held. chunk_stays (view_of b) place b.end (v b.file) (w b.file) kept.chunk kept.next front (right.cached place kept held) (right.inside place kept held) new.more;
       inside = λ place kept held. omega (arith, right.inside place kept held, new.next_is);
       rising = subst IsRising (sym all_new) right.rising;
       next_is = right.next_is ∙ ap next_offset (sym all_new);
@@ -161,8 +164,8 @@ module _ (v w : Image) (may after : Image → Type 0) (b : Base) (opened : List 
             chunks = i.chunks;
             chunk = i.chunk;
             next = i.next;
-            chain = chain_stays b.shape.fields (v b.file) (w b.file) b.first b.end i.chunks s.place front (λ _. new.more) (omega (arith, le, chunk_behind b.shape.fields s.place (v b.file) i.chunk i.next i.here)) i.chain;
-            here = chunk_stays b.shape.fields s.place b.end (v b.file) (w b.file) i.chunk i.next front i.here le new.more;
+            chain = chain_stays (view_of b) (v b.file) (w b.file) b.first b.end i.chunks s.place front (λ _. new.more) (omega (arith, le, chunk_behind (view_of b) s.place (v b.file) i.chunk i.next i.here)) i.chain;
+            here = chunk_stays (view_of b) s.place b.end (v b.file) (w b.file) i.chunk i.next front i.here le new.more;
             number_is = i.number_is;
             most = i.most;
           }
@@ -170,18 +173,18 @@ module _ (v w : Image) (may after : Image → Type 0) (b : Base) (opened : List 
         chunks = right.chunks;
         chunk = opened;
         next = end;
-        chain = subst (λ (p : ℕ). Chain b.shape.fields (w b.file) b.first right.chunks p) (sym o.place_is) chain;
-        here = subst (λ (p : ℕ). chunk_at b.shape.fields p (w b.file) ≡ Some (opened, end)) (sym o.place_is) here;
+        chain = subst (λ (p : ℕ). Chain (view_of b) (w b.file) b.first right.chunks p) (sym o.place_is) chain;
+        here = subst (λ (p : ℕ). chunk_at (view_of b) p (w b.file) ≡ Some (opened, end)) (sym o.place_is) here;
         number_is = omega (arith, o.number_is, right.counted);
         most = omega (arith, o.number_is, spells.number);
       }
 
 pub grown_is : (b : Base) (file end committed count : ℕ) (ended : Bool) → file ≡ b.file → ended ≡ b.ended → committed ≡ b.committed + count
-    → record { shape = b.shape; file = file; first = b.first; end = end; ended = ended; committed = committed; limit = b.limit } ≡ grown b end count
+    → record { shape = b.shape; growths = b.growths; file = file; first = b.first; end = end; ended = ended; committed = committed; limit = b.limit } ≡ grown b end count
 grown_is b file end committed count ended f e c =
-    ap (λ (n : ℕ). record { shape = b.shape; file = n; first = b.first; end = end; ended = ended; committed = committed; limit = b.limit }) f
-    ∙ (ap (λ (x : Bool). record { shape = b.shape; file = b.file; first = b.first; end = end; ended = x; committed = committed; limit = b.limit }) e
-    ∙ ap (λ (n : ℕ). record { shape = b.shape; file = b.file; first = b.first; end = end; ended = b.ended; committed = n; limit = b.limit }) c)
+    ap (λ (n : ℕ). record { shape = b.shape; growths = b.growths; file = n; first = b.first; end = end; ended = ended; committed = committed; limit = b.limit }) f
+    ∙ (ap (λ (x : Bool). record { shape = b.shape; growths = b.growths; file = b.file; first = b.first; end = end; ended = x; committed = committed; limit = b.limit }) e
+    ∙ ap (λ (n : ℕ). record { shape = b.shape; growths = b.growths; file = b.file; first = b.first; end = end; ended = b.ended; committed = n; limit = b.limit }) c)
 
 module _ (v : Image) (may : Image → Type 0) (b : Base) (opened : List Event) (next time : ℕ) (cache : Cache Kept) (right : IsRight v may b opened next time cache) where
   -- nothing is pending
@@ -221,46 +224,46 @@ padded_front (suc n) [] ys le = absurd (omega arith)
 padded_front (suc n) (x ∷ xs) ys le = ap (λ (l : List Event). x ∷ l) (padded_front n xs ys (omega arith))
 
 -- the events from a place on begin with those of the chunks there
-from_front : (fields : List Field) (bytes : List ℕ) (most place : ℕ) (chunks : List (List Event)) (end : ℕ) → Chain fields bytes place chunks end → length (joined chunks) ≤ most → (tail : List Event) × (events_from fields most place bytes ≡ joined chunks ++ tail)
-from_front fields bytes most place [] end chain few = (events_from fields most place bytes, refl)
-from_front fields bytes zero place (c ∷ chunks) end chain few = absurd (omega (arith, length-append c (joined chunks), (chunk_at_size fields place bytes c chain.0 chain.1).0, few))
-from_front fields bytes (suc most) place (c ∷ chunks) end chain few =
-    let rest = from_front fields bytes most chain.0 chunks end chain.2 (omega (arith, length-append c (joined chunks), (chunk_at_size fields place bytes c chain.0 chain.1).0, few)) in
-    (rest.0, ap (λ (o : Option (List Event × ℕ)). with_chunk o (λ n. events_from fields most n bytes)) chain.1 ∙ ap (λ (l : List Event). c ++ l) rest.1 ∙ sym (append_assoc c (joined chunks) rest.0))
+from_front : (view : View) (bytes : List ℕ) (most place : ℕ) (chunks : List (List Event)) (end : ℕ) → Chain view bytes place chunks end → length (joined chunks) ≤ most → (tail : List Event) × (events_from view most place bytes ≡ joined chunks ++ tail)
+from_front view bytes most place [] end chain few = (events_from view most place bytes, refl)
+from_front view bytes zero place (c ∷ chunks) end chain few = absurd (omega (arith, length-append c (joined chunks), (chunk_at_size view place bytes c chain.0 chain.1).0, few))
+from_front view bytes (suc most) place (c ∷ chunks) end chain few =
+    let rest = from_front view bytes most chain.0 chunks end chain.2 (omega (arith, length-append c (joined chunks), (chunk_at_size view place bytes c chain.0 chain.1).0, few)) in
+    (rest.0, ap (λ (o : Option (List Event × ℕ)). with_chunk o (λ n. events_from view most n bytes)) chain.1 ∙ ap (λ (l : List Event). c ++ l) rest.1 ∙ sym (append_assoc c (joined chunks) rest.0))
 
-stored_front : (w : Image) (b : Base) (chunks : List (List Event)) (end : ℕ) → Chain b.shape.fields (w b.file) b.first chunks end → length (joined chunks) ≡ b.committed → stored (Some w) b ≡ joined chunks
+stored_front : (w : Image) (b : Base) (chunks : List (List Event)) (end : ℕ) → Chain (view_of b) (w b.file) b.first chunks end → length (joined chunks) ≡ b.committed → stored (Some w) b ≡ joined chunks
 stored_front w b chunks end chain counted =
-    let f = from_front b.shape.fields (w b.file) b.committed b.first chunks end chain (omega (arith, counted)) in
+    let f = from_front (view_of b) (w b.file) b.committed b.first chunks end chain (omega (arith, counted)) in
     ap (padded b.committed) f.1 ∙ padded_front b.committed (joined chunks) f.0 (omega (arith, counted)) ∙ take_all b.committed (joined chunks) (omega (arith, counted))
 
 abbrev pub failed : Base → Base
-failed b = record { shape = b.shape; file = b.file; first = b.first; end = b.end; ended = true; committed = b.committed; limit = b.limit }
+failed b = record { shape = b.shape; growths = b.growths; file = b.file; first = b.first; end = b.end; ended = true; committed = b.committed; limit = b.limit }
 
-pub failed_is : (b : Base) (file end : ℕ) (ended : Bool) → file ≡ b.file → end ≡ b.end → ended ≡ true → record { shape = b.shape; file = file; first = b.first; end = end; ended = ended; committed = b.committed; limit = b.limit } ≡ failed b
+pub failed_is : (b : Base) (file end : ℕ) (ended : Bool) → file ≡ b.file → end ≡ b.end → ended ≡ true → record { shape = b.shape; growths = b.growths; file = file; first = b.first; end = end; ended = ended; committed = b.committed; limit = b.limit } ≡ failed b
 failed_is b file end ended f n e =
-    ap (λ (m : ℕ). record { shape = b.shape; file = m; first = b.first; end = end; ended = ended; committed = b.committed; limit = b.limit }) f
-    ∙ (ap (λ (m : ℕ). record { shape = b.shape; file = b.file; first = b.first; end = m; ended = ended; committed = b.committed; limit = b.limit }) n
-    ∙ ap (λ (x : Bool). record { shape = b.shape; file = b.file; first = b.first; end = b.end; ended = x; committed = b.committed; limit = b.limit }) e)
+    ap (λ (m : ℕ). record { shape = b.shape; growths = b.growths; file = m; first = b.first; end = end; ended = ended; committed = b.committed; limit = b.limit }) f
+    ∙ (ap (λ (m : ℕ). record { shape = b.shape; growths = b.growths; file = b.file; first = b.first; end = m; ended = ended; committed = b.committed; limit = b.limit }) n
+    ∙ ap (λ (x : Bool). record { shape = b.shape; growths = b.growths; file = b.file; first = b.first; end = b.end; ended = x; committed = b.committed; limit = b.limit }) e)
 
 true_false : true ≡ false → ⊥
 true_false e = cc
 
 module _ (v : Image) (may : Image → Type 0) (b : Base) (opened : List Event) (next time : ℕ) (cache : Cache Kept) (right : IsRight v may b opened next time cache) where
-  chain_left : (u : List ℕ) → length opened ≤ 4096 → Adds b.shape.fields opened (v b.file) u → Chain b.shape.fields u b.first right.chunks b.end
-  chain_left u few (inl same) = subst (λ (bytes : List ℕ). Chain b.shape.fields bytes b.first right.chunks b.end) (sym same) right.chain
+  chain_left : (u : List ℕ) → length opened ≤ 4096 → Adds b.shape.fields opened (v b.file) u → Chain (view_of b) u b.first right.chunks b.end
+  chain_left u few (inl same) = subst (λ (bytes : List ℕ). Chain (view_of b) bytes b.first right.chunks b.end) (sym same) right.chain
   chain_left u few (inr (some, grows)) = by (grows right.payloads right.has)
     where
       was_at : LogAt right.payloads b.end (v b.file)
       was_at = log_at right.payloads b.end (v b.file) (log_of right.payloads b.end (v b.file) right.has right.end_is)
 
-      by : HasPayloads right.payloads u ⊎ HasPayloads (right.payloads ++ chunk_bytes b.shape.fields opened ∷ []) u → Chain b.shape.fields u b.first right.chunks b.end
+      by : HasPayloads right.payloads u ⊎ HasPayloads (right.payloads ++ chunk_bytes b.shape.fields opened ∷ []) u → Chain (view_of b) u b.first right.chunks b.end
       by (inl has) =
           let at = log_at right.payloads b.end u (log_of right.payloads b.end u has right.end_is) in
-          chain_stays b.shape.fields (v b.file) u b.first b.end right.chunks b.end (at.front ∙ sym was_at.front) at.more (omega arith) right.chain
+          chain_stays (view_of b) (v b.file) u b.first b.end right.chunks b.end (at.front ∙ sym was_at.front) at.more (omega arith) right.chain
       by (inr has) =
           let end = length (frames (right.payloads ++ chunk_bytes b.shape.fields opened ∷ [])) in
           let more = log_more right.payloads (chunk_bytes b.shape.fields opened) b.end end u (last_small right.payloads (chunk_bytes b.shape.fields opened) u has) (sym right.end_is) (log_of (right.payloads ++ chunk_bytes b.shape.fields opened ∷ []) end u has refl) in
-          chain_stays b.shape.fields (v b.file) u b.first b.end right.chunks b.end (more.front ∙ sym was_at.front) (λ _. more.more) (omega arith) right.chain
+          chain_stays (view_of b) (v b.file) u b.first b.end right.chunks b.end (more.front ∙ sym was_at.front) (λ _. more.more) (omega arith) right.chain
 
   pub failed_sound :
       (now : Option Image) (w : Image) (after : Image → Type 0) → now ≡ Some v → length opened ≤ 4096

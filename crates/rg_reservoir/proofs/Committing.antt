@@ -1,21 +1,21 @@
 -- What stands in a log after one frame more.
-use Rattle.std.proofs.Common.{◌≡◌, ◌≢◌, ◌∙◌, inl, inr, ℕ, suc, ◌+◌, ◌-◌, ◌^◌, ◌≤◌, ◌<◌, ◌==◌, nat_le, Bool, true, false, List, [], ◌∷◌, ◌++◌, length, take, drop, Option, Some, None, refl, sym, ap, subst, arith, append_assoc, length-append, length-drop}
+use Rattle.std.proofs.Common.{◌≡◌, ◌≢◌, ◌∙◌, inl, inr, ℕ, suc, ◌+◌, ◌-◌, ◌^◌, ◌≤◌, ◌<◌, ◌==◌, nat_le, Bool, true, false, List, [], ◌∷◌, ◌++◌, length, take, drop, Some, None, refl, sym, ap, subst, arith, append_assoc, length-append, length-drop}
 use Rattle.std.proofs.lemmas.Grind.{common_steps}
 use Rattle.std.proofs.lemmas.Bool.Decides.{nat_tests}
 use Rattle.std.proofs.lemmas.List.{take-take, take_at, drop_at, drop-take, length-take-le}
 use Rattle.std.specs.Prelude.{slice_index}
 use Rattle.std.specs.Int.{to_be_bytes, from_be_bytes, w64}
 use Rattle.rg_event.specs.declared.event.Event.{Event}
-use Rattle.rg_event.specs.declared.schema.Field.{Field}
 use Rattle.rg_frame.specs.Frames.{body, frames, Ends, IsLog, size_in, payload_in, payload_at}
 use Rattle.rg_frame.specs.Looks.{IsClosed}
 use Rattle.rg_frame.proofs.FrameLaws.{frames-push}
 use Rattle.rg_frame.proofs.Payloads.{holds_payload}
-use Rattle.rg_chunk.specs.Chunks.{chunk_of}
 use Rattle.rg_event.specs.Shapes.{Shape}
 use Rattle.rg_log.specs.Log.{schema_payload}
 use Rattle.rg_reservoir.specs.Chain.{chunk_in, chunk_at, Chain, IsFirst}
+use Rattle.rg_reservoir.specs.Views.{View}
 use Rattle.rg_reservoir.proofs.Chains.{some_none}
+use Rattle.rg_reservoir.proofs.Viewing.{parts, passed_behind}
 
 payload_parts : (gate : ℕ) (rest p : List ℕ) → payload_in (gate ∷ rest) ≡ Some p → (gate ≡ 1) × (9 + size_in rest ≤ length rest) × (take (size_in rest) (drop 8 rest) ≡ p)
 payload_parts gate rest p is = by (gate == 1) (nat_le (9 + size_in rest) (length rest)) refl refl
@@ -58,37 +58,31 @@ payload_stays place end old new p same is le lt =
     sym (drop-take place (suc j) old) ∙ ap (λ (l : List ℕ). drop place l) (subst (λ (n : ℕ). take n old ≡ take n new) (sym sum) (sym same)) ∙ drop-take place (suc j) new in
     front_payload j (drop place old) (drop place new) p front is (omega (arith, le)) (omega (arith, le, lt, length-drop place new))
 
-abbrev next_of : Option (List Event × ℕ) → ℕ
-next_of None = 0
-next_of (Some x) = x.1
+-- a chunk is that of a payload which ends before the place where the next one stands
+chunk_from : (view : View) (place : ℕ) (bytes : List ℕ) (c : List Event) (n : ℕ) → chunk_at view place bytes ≡ Some (c, n) → (p : List ℕ) × (payload_at place bytes ≡ Some p) × (place + 9 + length p ≤ n)
+chunk_from view place bytes c n e =
+    let k = parts view place (payload_at place bytes) c n e in
+    (k.payload, k.here, omega (arith, k.next_is, passed_behind view.growths (place + 9 + length k.payload)))
 
-chunk_from : (fields : List Field) (place : ℕ) (o : Option (List ℕ)) (c : List Event) (n : ℕ) → chunk_in fields place o ≡ Some (c, n) → (p : List ℕ) × (o ≡ Some p) × (n ≡ place + 9 + length p)
-chunk_from fields place None c n e = absurd (some_none _ _ e refl)
-chunk_from fields place (Some p) c n e = by (chunk_of fields p) refl
-  where
-    by : (o : Option (List Event)) → chunk_of fields p ≡ o → (q : List ℕ) × (Some p ≡ Some q) × (n ≡ place + 9 + length q)
-    by None is = let f : None ≡ Some (c, n) = sym (rw is refl) ∙ e in absurd cc
-    by (Some d) is = let f : Some (d, place + 9 + length p) ≡ Some (c, n) = sym (rw is refl) ∙ e in (p, refl, sym (ap next_of f))
-
-pub chunk_stays : (fields : List Field) (place end : ℕ) (old new : List ℕ) (c : List Event) (n : ℕ) → take end new ≡ take end old → chunk_at fields place old ≡ Some (c, n) → n ≤ end → end < length new → chunk_at fields place new ≡ Some (c, n)
-chunk_stays fields place end old new c n same is le lt =
-    let f = chunk_from fields place (payload_at place old) c n is in
+pub chunk_stays : (view : View) (place end : ℕ) (old new : List ℕ) (c : List Event) (n : ℕ) → take end new ≡ take end old → chunk_at view place old ≡ Some (c, n) → n ≤ end → end < length new → chunk_at view place new ≡ Some (c, n)
+chunk_stays view place end old new c n same is le lt =
+    let f = chunk_from view place old c n is in
     let p = payload_stays place end old new f.0 same f.1 (omega (arith, f.2, le)) lt in
-    ap (chunk_in fields place) (p ∙ sym f.1) ∙ is
+    ap (chunk_in view place) (p ∙ sym f.1) ∙ is
 
-pub chunk_behind : (fields : List Field) (place : ℕ) (bytes : List ℕ) (c : List Event) (n : ℕ) → chunk_at fields place bytes ≡ Some (c, n) → place + 9 ≤ n
-chunk_behind fields place bytes c n is = let f = chunk_from fields place (payload_at place bytes) c n is in omega (arith, f.2)
+pub chunk_behind : (view : View) (place : ℕ) (bytes : List ℕ) (c : List Event) (n : ℕ) → chunk_at view place bytes ≡ Some (c, n) → place + 9 ≤ n
+chunk_behind view place bytes c n is = let f = chunk_from view place bytes c n is in omega (arith, f.2)
 
-pub chain_behind : (fields : List Field) (bytes : List ℕ) (place : ℕ) (chunks : List (List Event)) (end : ℕ) → Chain fields bytes place chunks end → place ≤ end
-chain_behind fields bytes place [] end chain = omega (arith, chain)
-chain_behind fields bytes place (c ∷ chunks) end chain = omega (arith, chunk_behind fields place bytes c chain.0 chain.1, chain_behind fields bytes chain.0 chunks end chain.2)
+pub chain_behind : (view : View) (bytes : List ℕ) (place : ℕ) (chunks : List (List Event)) (end : ℕ) → Chain view bytes place chunks end → place ≤ end
+chain_behind view bytes place [] end chain = omega (arith, chain)
+chain_behind view bytes place (c ∷ chunks) end chain = omega (arith, chunk_behind view place bytes c chain.0 chain.1, chain_behind view bytes chain.0 chunks end chain.2)
 
-pub chain_stays : (fields : List Field) (old new : List ℕ) (place limit : ℕ) (chunks : List (List Event)) (end : ℕ) → take limit new ≡ take limit old → (0 < limit → limit < length new) → end ≤ limit → Chain fields old place chunks end → Chain fields new place chunks end
-chain_stays fields old new place limit [] end same lt most chain = chain
-chain_stays fields old new place limit (c ∷ chunks) end same lt most chain =
-    let le = chain_behind fields old chain.0 chunks end chain.2 in
-    let some : 0 < limit = omega (arith, le, most, chunk_behind fields place old c chain.0 chain.1) in
-    (chain.0, chunk_stays fields place limit old new c chain.0 same chain.1 (omega (arith, le, most)) (lt some), chain_stays fields old new chain.0 limit chunks end same lt most chain.2)
+pub chain_stays : (view : View) (old new : List ℕ) (place limit : ℕ) (chunks : List (List Event)) (end : ℕ) → take limit new ≡ take limit old → (0 < limit → limit < length new) → end ≤ limit → Chain view old place chunks end → Chain view new place chunks end
+chain_stays view old new place limit [] end same lt most chain = chain
+chain_stays view old new place limit (c ∷ chunks) end same lt most chain =
+    let le = chain_behind view old chain.0 chunks end chain.2 in
+    let some : 0 < limit = omega (arith, le, most, chunk_behind view place old c chain.0 chain.1) in
+    (chain.0, chunk_stays view place limit old new c chain.0 same chain.1 (omega (arith, le, most)) (lt some), chain_stays view old new chain.0 limit chunks end same lt most chain.2)
 
 -- where a list of frames ends
 pub log_behind : (payloads : List (List ℕ)) (rest : List ℕ) → Ends payloads rest → 0 < length (frames payloads) → 0 < length rest

@@ -1,40 +1,67 @@
 -- What stands at a place, by what was read there.
-use Rattle.std.proofs.Common.{◌≡◌, ◌∙◌, ℕ, ◌+◌, ◌^◌, ◌<◌, List, ◌++◌, length, Some, None, refl, ap, subst, inl, inr, slice_index, ◌≤◌, arith, length-append, length-drop}
+use Rattle.std.proofs.Common.{◌≡◌, ◌∙◌, ℕ, ◌+◌, ◌^◌, ◌<◌, List, [], ◌++◌, length, Option, Some, None, option_map, option_and_then, refl, sym, ap, subst, inl, inr, slice_index, arith, length-append, length-drop}
 use Rattle.rg_event.specs.declared.event.Event.{Event}
 use Rattle.rg_event.specs.declared.schema.Field.{Field}
-use Rattle.rg_frame.specs.Frames.{body}
+use Rattle.rg_frame.specs.Frames.{body, payload_at}
 use Rattle.rg_frame.specs.Looks.{IsTorn, IsClosed, HoldsFrame}
 use Rattle.rg_frame.proofs.Payloads.{holds_payload, torn_payload, closed_payload}
 use Rattle.rg_chunk.specs.Chunks.{chunk_of}
 use Rattle.rg_reservoir.specs.Chain.{chunk_in, chunk_at, IsIllegal}
+use Rattle.rg_reservoir.specs.Kept.{Base, view_of}
+use Rattle.rg_reservoir.specs.Views.{View, shape_at, grown_at, passed}
 use Rattle.rg_reservoir.proofs.Chains.{some_none}
+use Rattle.rg_reservoir.proofs.Viewing.{parts, plain_fields}
 
-pub fetch_some : (fields : List Field) (place next : ℕ) (payload bytes : List ℕ) (chunk : List Event) → HoldsFrame place payload bytes → next < 2 ^ 62 → next ≡ place + 9 + length payload → chunk_of fields payload ≡ Some chunk → chunk_at fields place bytes ≡ Some (chunk, next)
-fetch_some fields place next payload bytes chunk holds small is said =
-    ap (chunk_in fields place) (holds_payload place payload bytes holds (omega (arith, small, is))) ∙ rw (said, is) refl
+abbrev with_next : ℕ → Option (List Event) → Option (List Event × ℕ)
+with_next next said = option_map (λ (events : List Event). (events, next)) said
 
-pub fetch_none : (fields : List Field) (place : ℕ) (bytes : List ℕ) → IsClosed place bytes → chunk_at fields place bytes ≡ None
-fetch_none fields place bytes closed = ap (chunk_in fields place) (closed_payload place bytes closed)
+-- what is read of a payload, with the place behind it
+by_next : (view : View) (place next : ℕ) (said : Option (List Event)) → option_map (λ (events : List Event). (grown_at view.growths place events, next)) said ≡ with_next next (option_map (grown_at view.growths place) said)
+by_next view place next None = refl
+by_next view place next (Some events) = refl
+
+pub fetch_some :
+    (view : View) (place next : ℕ) (payload bytes : List ℕ) (chunk : List Event) → HoldsFrame place payload bytes → next < 2 ^ 62 → next ≡ place + 9 + length payload → option_map (grown_at view.growths place) (chunk_of (shape_at view place).fields payload) ≡ Some chunk
+    → chunk_at view place bytes ≡ Some (chunk, passed view.growths next)
+fetch_some view place next payload bytes chunk holds small is said =
+    ap (chunk_in view place) (holds_payload place payload bytes holds (omega (arith, small, is))) ∙ by_next view place (passed view.growths (place + 9 + length payload)) (chunk_of (shape_at view place).fields payload)
+    ∙ ap (with_next (passed view.growths (place + 9 + length payload))) said ∙ ap (λ (n : ℕ). Some (chunk, passed view.growths n)) (sym is)
+
+pub fetch_none : (view : View) (place : ℕ) (bytes : List ℕ) → IsClosed place bytes → chunk_at view place bytes ≡ None
+fetch_none view place bytes closed = ap (chunk_in view place) (closed_payload place bytes closed)
 
 pub fetch_torn : (fields : List Field) (place : ℕ) (bytes : List ℕ) → IsTorn place bytes → IsIllegal fields place bytes
-fetch_torn fields place bytes torn = record { rest = torn.rest; is = torn.is; longer = torn.longer; none = ap (chunk_in fields place) (torn_payload place bytes torn) }
+fetch_torn fields place bytes torn = record { rest = torn.rest; is = torn.is; longer = torn.longer; none = ap (option_and_then (chunk_of fields)) (torn_payload place bytes torn) }
 
-pub fetch_bad : (fields : List Field) (place next : ℕ) (payload bytes : List ℕ) → HoldsFrame place payload bytes → next < 2 ^ 62 → next ≡ place + 9 + length payload → chunk_of fields payload ≡ None → IsIllegal fields place bytes
-fetch_bad fields place next payload bytes holds small is said = record {
+not_grown : (view : View) (place : ℕ) (said : Option (List Event)) → option_map (grown_at view.growths place) said ≡ None → said ≡ None
+not_grown view place None none = refl
+not_grown view place (Some events) none = absurd cc
+
+pub fetch_bad :
+    (view : View) (place next : ℕ) (payload bytes : List ℕ) → HoldsFrame place payload bytes → next < 2 ^ 62 → next ≡ place + 9 + length payload → option_map (grown_at view.growths place) (chunk_of (shape_at view place).fields payload) ≡ None
+    → IsIllegal (shape_at view place).fields place bytes
+fetch_bad view place next payload bytes holds small is said = record {
   rest = body payload ++ holds.rest;
   is = holds.is;
   longer = omega (arith, ap length holds.is, length-drop place bytes, length-append (body payload) holds.rest, holds.more);
-  none = ap (chunk_in fields place) (holds_payload place payload bytes holds (omega (arith, small, is))) ∙ rw said refl;
+  none = ap (option_and_then (chunk_of (shape_at view place).fields)) (holds_payload place payload bytes holds (omega (arith, small, is))) ∙ not_grown view place (chunk_of (shape_at view place).fields payload) said;
 }
 
 -- at a place where a chunk stands, and at one without an open gate, nothing is illegal
-pub chunk_legal : (fields : List Field) (place next : ℕ) (chunk : List Event) (bytes : List ℕ) → chunk_at fields place bytes ≡ Some (chunk, next) → IsIllegal fields place bytes → ⊥
-chunk_legal fields place next chunk bytes here bad = some_none (chunk_at fields place bytes) (chunk, next) here bad.none
+
+pub chunk_legal : (view : View) (place next : ℕ) (chunk : List Event) (bytes : List ℕ) → chunk_at view place bytes ≡ Some (chunk, next) → IsIllegal (shape_at view place).fields place bytes → ⊥
+chunk_legal view place next chunk bytes here bad =
+    let k = parts view place (payload_at place bytes) chunk next here in
+    some_none (option_and_then (chunk_of (shape_at view place).fields) (payload_at place bytes)) k.events (ap (option_and_then (chunk_of (shape_at view place).fields)) k.here ∙ k.says) bad.none
+
+-- so too where there is no growth, by the one schema
+pub plain_legal : (b : Base) (place next : ℕ) (chunk : List Event) (bytes : List ℕ) → b.growths ≡ [] → chunk_at (view_of b) place bytes ≡ Some (chunk, next) → IsIllegal b.shape.fields place bytes → ⊥
+plain_legal b place next chunk bytes none here bad = chunk_legal (view_of b) place next chunk bytes here (subst (λ (fields : List Field). IsIllegal fields place bytes) (sym (plain_fields b place none)) bad)
 
 pub closed_legal : (fields : List Field) (place : ℕ) (bytes : List ℕ) → IsClosed place bytes → IsIllegal fields place bytes → ⊥
 closed_legal fields place bytes (inl short) bad = omega (arith, short, bad.longer)
 closed_legal fields place bytes (inr other) bad = other (ap (λ (l : List ℕ). slice_index l 0) bad.is)
 
 -- a place where a chunk stands isn't damaged
-pub never_illegal : (fields : List Field) (place next p : ℕ) (chunk : List Event) (bytes : List ℕ) → chunk_at fields place bytes ≡ Some (chunk, next) → p ≡ place → IsIllegal fields p bytes → ⊥
-never_illegal fields place next p chunk bytes here at bad = some_none (chunk_at fields place bytes) (chunk, next) here (subst (λ (q : ℕ). chunk_at fields q bytes ≡ None) at bad.none)
+pub never_illegal : (view : View) (place next p : ℕ) (chunk : List Event) (bytes : List ℕ) → chunk_at view place bytes ≡ Some (chunk, next) → p ≡ place → IsIllegal (shape_at view p).fields p bytes → ⊥
+never_illegal view place next p chunk bytes here at bad = chunk_legal view place next chunk bytes here (subst (λ (q : ℕ). IsIllegal (shape_at view q).fields q bytes) at bad)

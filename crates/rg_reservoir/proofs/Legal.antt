@@ -4,7 +4,6 @@ use Rattle.std.specs.Prelude.{All}
 use Rattle.std.proofs.lemmas.List.{append-nil}
 use Rattle.rg_event.specs.Codec.{IsEventOf}
 use Rattle.rg_event.specs.declared.event.Event.{Event}
-use Rattle.rg_event.specs.declared.schema.Field.{Field}
 use Rattle.rg_event.specs.Shapes.{Shape}
 use Rattle.rg_event.specs.Rising.{IsRising}
 use Rattle.rg_frame.specs.Frames.{frames, HasPayloads, payload_at}
@@ -15,27 +14,28 @@ use Rattle.rg_chunk.specs.Chunks.{chunk_of}
 use Rattle.rg_log.specs.Log.{schema_payload, chunks_of, joined, HasChunks, HasEvents}
 use Rattle.rg_log.proofs.Growing.{part}
 use Rattle.rg_reservoir.specs.Chain.{chunk_in, chunk_at, Chain, IsFirst}
+use Rattle.rg_reservoir.specs.Views.{plain}
 use Rattle.rg_reservoir.proofs.Chains.{some_none}
 use Rattle.rg_reservoir.proofs.Committing.{log_at}
 use Rattle.rg_reservoir.proofs.Listing.{log_of}
 
--- the chunk of a payload at a place
-pub chunk_made : (fields : List Field) (place : ℕ) (bytes p : List ℕ) (c : List Event) (n : ℕ) → payload_at place bytes ≡ Some p → chunk_of fields p ≡ Some c → n ≡ place + 9 + length p → chunk_at fields place bytes ≡ Some (c, n)
-chunk_made fields place bytes p c n here said is =
-    ap (chunk_in fields place) here ∙ ap (option_map (λ (events : List Event). (events, place + 9 + length p))) said ∙ ap (λ (m : ℕ). Some (c, m)) (sym is)
+-- the chunk of a payload at a place of a log without a growth
+pub chunk_made : (shape : Shape) (place : ℕ) (bytes p : List ℕ) (c : List Event) (n : ℕ) → payload_at place bytes ≡ Some p → chunk_of shape.fields p ≡ Some c → n ≡ place + 9 + length p → chunk_at (plain shape) place bytes ≡ Some (c, n)
+chunk_made shape place bytes p c n here said is =
+    ap (chunk_in (plain shape) place) here ∙ ap (option_map (λ (events : List Event). (events, place + 9 + length p))) said ∙ ap (λ (m : ℕ). Some (c, m)) (sym is)
 
 -- the chunks of frames stand at their places
-pub chain_of : (fields : List Field) (bytes : List ℕ) (done rest later : List (List ℕ)) (chunks : List (List Event)) → HasPayloads (done ++ (rest ++ later)) bytes → chunks_of fields rest ≡ Some chunks → Chain fields bytes (length (frames done)) chunks (length (frames (done ++ rest)))
-chain_of fields bytes done [] later chunks has are =
+pub chain_of : (shape : Shape) (bytes : List ℕ) (done rest later : List (List ℕ)) (chunks : List (List Event)) → HasPayloads (done ++ (rest ++ later)) bytes → chunks_of shape.fields rest ≡ Some chunks → Chain (plain shape) bytes (length (frames done)) chunks (length (frames (done ++ rest)))
+chain_of shape bytes done [] later chunks has are =
     let none : chunks ≡ [] = cc in
-    subst (λ (l : List (List Event)). Chain fields bytes (length (frames done)) l (length (frames (done ++ [])))) (sym none) (ap (λ (l : List (List ℕ)). length (frames l)) (sym (append-nil done)))
-chain_of fields bytes done (p ∷ rest) later chunks has are =
-    let f = part (chunk_of fields p) (chunks_of fields rest) chunks are in
+    subst (λ (l : List (List Event)). Chain (plain shape) bytes (length (frames done)) l (length (frames (done ++ [])))) (sym none) (ap (λ (l : List (List ℕ)). length (frames l)) (sym (append-nil done)))
+chain_of shape bytes done (p ∷ rest) later chunks has are =
+    let f = part (chunk_of shape.fields p) (chunks_of shape.fields rest) chunks are in
     let next = length (frames (done ++ p ∷ [])) in
-    let here : chunk_at fields (length (frames done)) bytes ≡ Some (f.chunk, next) = chunk_made fields (length (frames done)) bytes p f.chunk next (payload_between done (rest ++ later) p bytes has) f.chunk_is (length-frames-push done p) in
-    let more = chain_of fields bytes (done ++ p ∷ []) rest later f.more (subst (λ (l : List (List ℕ)). HasPayloads l bytes) (sym (append_assoc done (p ∷ []) (rest ++ later))) has) f.more_is in
-    subst (λ (l : List (List Event)). Chain fields bytes (length (frames done)) l (length (frames (done ++ p ∷ rest)))) (sym f.is)
-    (next, here, subst (λ (l : List (List ℕ)). Chain fields bytes next f.more (length (frames l))) (append_assoc done (p ∷ []) rest) more)
+    let here : chunk_at (plain shape) (length (frames done)) bytes ≡ Some (f.chunk, next) = chunk_made shape (length (frames done)) bytes p f.chunk next (payload_between done (rest ++ later) p bytes has) f.chunk_is (length-frames-push done p) in
+    let more = chain_of shape bytes (done ++ p ∷ []) rest later f.more (subst (λ (l : List (List ℕ)). HasPayloads l bytes) (sym (append_assoc done (p ∷ []) (rest ++ later))) has) f.more_is in
+    subst (λ (l : List (List Event)). Chain (plain shape) bytes (length (frames done)) l (length (frames (done ++ p ∷ rest)))) (sym f.is)
+    (next, here, subst (λ (l : List (List ℕ)). Chain (plain shape) bytes next f.more (length (frames l))) (append_assoc done (p ∷ []) rest) more)
 
 -- a legal log of that schema with frames, by places
 pub record Laid (shape : Shape) (events : List Event) (bytes : List ℕ) : Type 0 where
@@ -43,7 +43,7 @@ pub record Laid (shape : Shape) (events : List Event) (bytes : List ℕ) : Type 
   pub schema : IsFirst shape first bytes
   pub chunks : List (List Event)
   pub end : ℕ
-  pub chain : Chain shape.fields bytes first chunks end
+  pub chain : Chain (plain shape) bytes first chunks end
   pub ends : IsClosed end bytes
   pub joined : joined chunks ≡ events
   pub rising : IsRising events
@@ -66,7 +66,7 @@ laid shape events bytes x = by x.1.payloads x.1.has x.1.log
           schema = record { here = payload_between [] payloads (schema_payload shape) bytes ours; ends = omega (arith, length-frames (schema_payload shape) []) };
           chunks = x.0;
           end = length (frames (schema_payload shape ∷ payloads));
-          chain = chain_of shape.fields bytes (schema_payload shape ∷ []) payloads [] x.0 (subst (λ (l : List (List ℕ)). HasPayloads (schema_payload shape ∷ l) bytes) (sym (append-nil payloads)) ours) log.1;
+          chain = chain_of shape bytes (schema_payload shape ∷ []) payloads [] x.0 (subst (λ (l : List (List ℕ)). HasPayloads (schema_payload shape ∷ l) bytes) (sym (append-nil payloads)) ours) log.1;
           ends = (log_at (schema_payload shape ∷ payloads) (length (frames (schema_payload shape ∷ payloads))) bytes (log_of (schema_payload shape ∷ payloads) (length (frames (schema_payload shape ∷ payloads))) bytes ours refl)).closed;
           joined = x.2;
           rising = subst IsRising x.2 x.1.rising;

@@ -7,14 +7,14 @@ use Rattle.rg_host.specs.Image.{Image, SameOutcomes}
 use Rattle.rg_host.specs.Moments.{Moment}
 use Rattle.rg_host.proofs.Runs.{leaves_all-then}
 use Rattle.rg_event.specs.declared.event.Event.{Event}
-use Rattle.rg_event.specs.declared.schema.Field.{Field}
+use Rattle.rg_reservoir.specs.Views.{View}
 use Rattle.rg_past.specs.declared.past.Spot.{Spot}
 use Rattle.rg_bytes.specs.Counts.{Rose}
 use Rattle.rg_cache.specs.Cache.{Cache, item_at, holds_place, places, least_recently_used, touches}
 use Rattle.rg_cache.proofs.Recency.{touched_further}
 use Rattle.rg_reservoir.specs.declared.kept.Kept.{Kept}
 use Rattle.rg_reservoir.specs.Chain.{chunk_at, Chain}
-use Rattle.rg_reservoir.specs.Kept.{Base, base, opened, next_of, time_of, cache_of, IsCached, IsInside, IsRight, IsSoundIn, IsSound, InChunk, Stays, next_in, look_places, held_after, OneTouch, AllTouched}
+use Rattle.rg_reservoir.specs.Kept.{Base, base, view_of, opened, next_of, time_of, cache_of, IsCached, IsInside, IsRight, IsSoundIn, IsSound, InChunk, Stays, next_in, look_places, held_after, OneTouch, AllTouched}
 use Rattle.rg_reservoir.specs.declared.reservoir.Reservoir.{Reservoir}
 use Rattle.rg_reservoir.specs.Ahead.{event_place, closed_behind, ahead_places, all_ahead, closed_next, Picks, OneLoad, AllLoaded, SomeTouched, OnlyLoads}
 use Rattle.rg_reservoir.proofs.Chains.{chain_split}
@@ -105,68 +105,68 @@ pub ahead_far : (b : Base) (bytes : List ℕ) (spot : Spot) → b.committed ≤ 
 ahead_far b bytes spot far = if_true _ _ _ (le_true _ _ far)
 
 ahead_near : (b : Base) (bytes : List ℕ) (spot : Spot) → spot.number < b.committed →
-    ahead_places b bytes spot ≡ look_places b bytes spot ++ closed_behind b.end (chunk_at b.shape.fields (event_place (chunk_at b.shape.fields spot.place bytes) spot.index spot.place) bytes)
+    ahead_places b bytes spot ≡ look_places b bytes spot ++ closed_behind b.end (chunk_at (view_of b) (event_place (chunk_at (view_of b) spot.place bytes) spot.index spot.place) bytes)
 ahead_near b bytes spot near = if_false _ _ _ (le_false _ _ near)
 
 -- where the event's chunk is that at the spot's place
-event_here : (fields : List Field) (bytes : List ℕ) (cache : Cache Kept) (place index : ℕ) (kept : Kept) → IsCached fields bytes cache → item_at place cache ≡ Some kept → next_in (item_at place cache) index ≡ None → event_place (chunk_at fields place bytes) index place ≡ place
-event_here fields bytes cache place index kept cached held none = ap (λ o. event_place o index place) (cached place kept held) ∙ by (index == length kept.chunk) refl
+event_here : (view : View) (bytes : List ℕ) (cache : Cache Kept) (place index : ℕ) (kept : Kept) → IsCached view bytes cache → item_at place cache ≡ Some kept → next_in (item_at place cache) index ≡ None → event_place (chunk_at view place bytes) index place ≡ place
+event_here view bytes cache place index kept cached held none = ap (λ o. event_place o index place) (cached place kept held) ∙ by (index == length kept.chunk) refl
   where
     by : (c : Bool) → (index == length kept.chunk) ≡ c → event_place (Some (kept.chunk, kept.next)) index place ≡ place
     by true t = let f : Some kept.next ≡ None = sym (if_true _ _ _ t) ∙ sym (ap (λ o. next_in o index) held) ∙ none in absurd cc
     by false f = if_false _ _ _ f
 
 -- where it is the next one
-event_next : (fields : List Field) (bytes : List ℕ) (cache : Cache Kept) (place index n : ℕ) → IsCached fields bytes cache → next_in (item_at place cache) index ≡ Some n → event_place (chunk_at fields place bytes) index place ≡ n
-event_next fields bytes cache place index n cached some =
+event_next : (view : View) (bytes : List ℕ) (cache : Cache Kept) (place index n : ℕ) → IsCached view bytes cache → next_in (item_at place cache) index ≡ Some n → event_place (chunk_at view place bytes) index place ≡ n
+event_next view bytes cache place index n cached some =
     let k = next_some (item_at place cache) index n some in
     ap (λ o. event_place o index place) (cached place k.0 k.1) ∙ if_true _ _ _ (eq_true index (length k.0.chunk) k.2) ∙ k.3
 
-pub ahead_one : (b : Base) (bytes : List ℕ) (spot : Spot) (mid : Cache Kept) (kept : Kept) → spot.number < b.committed → IsCached b.shape.fields bytes mid → item_at spot.place mid ≡ Some kept → next_in (item_at spot.place mid) spot.index ≡ None →
-    ahead_places b bytes spot ≡ (spot.place ∷ []) ++ closed_behind b.end (chunk_at b.shape.fields spot.place bytes)
+pub ahead_one : (b : Base) (bytes : List ℕ) (spot : Spot) (mid : Cache Kept) (kept : Kept) → spot.number < b.committed → IsCached (view_of b) bytes mid → item_at spot.place mid ≡ Some kept → next_in (item_at spot.place mid) spot.index ≡ None →
+    ahead_places b bytes spot ≡ (spot.place ∷ []) ++ closed_behind b.end (chunk_at (view_of b) spot.place bytes)
 ahead_one b bytes spot mid kept near cached held none =
-    ahead_near b bytes spot near ∙ ap (λ (l : List ℕ). l ++ closed_behind b.end (chunk_at b.shape.fields (event_place (chunk_at b.shape.fields spot.place bytes) spot.index spot.place) bytes)) (look_one b bytes spot mid kept near cached held none)
-    ∙ ap (λ (p : ℕ). (spot.place ∷ []) ++ closed_behind b.end (chunk_at b.shape.fields p bytes)) (event_here b.shape.fields bytes mid spot.place spot.index kept cached held none)
+    ahead_near b bytes spot near ∙ ap (λ (l : List ℕ). l ++ closed_behind b.end (chunk_at (view_of b) (event_place (chunk_at (view_of b) spot.place bytes) spot.index spot.place) bytes)) (look_one b bytes spot mid kept near cached held none)
+    ∙ ap (λ (p : ℕ). (spot.place ∷ []) ++ closed_behind b.end (chunk_at (view_of b) p bytes)) (event_here (view_of b) bytes mid spot.place spot.index kept cached held none)
 
-pub ahead_two : (b : Base) (bytes : List ℕ) (spot : Spot) (mid : Cache Kept) (n : ℕ) → spot.number < b.committed → IsCached b.shape.fields bytes mid → next_in (item_at spot.place mid) spot.index ≡ Some n →
-    ahead_places b bytes spot ≡ (spot.place ∷ (n ∷ [])) ++ closed_behind b.end (chunk_at b.shape.fields n bytes)
+pub ahead_two : (b : Base) (bytes : List ℕ) (spot : Spot) (mid : Cache Kept) (n : ℕ) → spot.number < b.committed → IsCached (view_of b) bytes mid → next_in (item_at spot.place mid) spot.index ≡ Some n →
+    ahead_places b bytes spot ≡ (spot.place ∷ (n ∷ [])) ++ closed_behind b.end (chunk_at (view_of b) n bytes)
 ahead_two b bytes spot mid n near cached some =
-    ahead_near b bytes spot near ∙ ap (λ (l : List ℕ). l ++ closed_behind b.end (chunk_at b.shape.fields (event_place (chunk_at b.shape.fields spot.place bytes) spot.index spot.place) bytes)) (look_two b bytes spot mid n near cached some)
-    ∙ ap (λ (p : ℕ). (spot.place ∷ (n ∷ [])) ++ closed_behind b.end (chunk_at b.shape.fields p bytes)) (event_next b.shape.fields bytes mid spot.place spot.index n cached some)
+    ahead_near b bytes spot near ∙ ap (λ (l : List ℕ). l ++ closed_behind b.end (chunk_at (view_of b) (event_place (chunk_at (view_of b) spot.place bytes) spot.index spot.place) bytes)) (look_two b bytes spot mid n near cached some)
+    ∙ ap (λ (p : ℕ). (spot.place ∷ (n ∷ [])) ++ closed_behind b.end (chunk_at (view_of b) p bytes)) (event_next (view_of b) bytes mid spot.place spot.index n cached some)
 
 -- The chunk behind one that is held.
 
-pub behind_held : (end : ℕ) (fields : List Field) (bytes : List ℕ) (cache : Cache Kept) (place : ℕ) (kept : Kept) → IsCached fields bytes cache → item_at place cache ≡ Some kept → closed_behind end (chunk_at fields place bytes) ≡ closed_behind end (Some (kept.chunk, kept.next))
-behind_held end fields bytes cache place kept cached held = ap (closed_behind end) (cached place kept held)
+pub behind_held : (end : ℕ) (view : View) (bytes : List ℕ) (cache : Cache Kept) (place : ℕ) (kept : Kept) → IsCached view bytes cache → item_at place cache ≡ Some kept → closed_behind end (chunk_at view place bytes) ≡ closed_behind end (Some (kept.chunk, kept.next))
+behind_held end view bytes cache place kept cached held = ap (closed_behind end) (cached place kept held)
 
-pub none_behind : (end : ℕ) (fields : List Field) (bytes : List ℕ) (cache : Cache Kept) (place : ℕ) (kept : Kept) → IsCached fields bytes cache → item_at place cache ≡ Some kept → closed_next end (item_at place cache) ≡ None → closed_behind end (chunk_at fields place bytes) ≡ []
-none_behind end fields bytes cache place kept cached held none = behind_held end fields bytes cache place kept cached held ∙ by (nat_lt kept.next end) refl
+pub none_behind : (end : ℕ) (view : View) (bytes : List ℕ) (cache : Cache Kept) (place : ℕ) (kept : Kept) → IsCached view bytes cache → item_at place cache ≡ Some kept → closed_next end (item_at place cache) ≡ None → closed_behind end (chunk_at view place bytes) ≡ []
+none_behind end view bytes cache place kept cached held none = behind_held end view bytes cache place kept cached held ∙ by (nat_lt kept.next end) refl
   where
     by : (c : Bool) → nat_lt kept.next end ≡ c → closed_behind end (Some (kept.chunk, kept.next)) ≡ []
     by true t = let f : Some kept.next ≡ None = sym (if_true _ _ _ t) ∙ sym (ap (λ o. closed_next end o) held) ∙ none in absurd cc
     by false f = if_false _ _ _ f
 
-pub some_behind : (end : ℕ) (fields : List Field) (bytes : List ℕ) (cache : Cache Kept) (place : ℕ) (kept : Kept) (n : ℕ) → IsCached fields bytes cache → item_at place cache ≡ Some kept → closed_next end (item_at place cache) ≡ Some n →
-    (closed_behind end (chunk_at fields place bytes) ≡ n ∷ []) × (kept.next ≡ n) × (n < end)
-some_behind end fields bytes cache place kept n cached held some = by (nat_lt kept.next end) refl
+pub some_behind : (end : ℕ) (view : View) (bytes : List ℕ) (cache : Cache Kept) (place : ℕ) (kept : Kept) (n : ℕ) → IsCached view bytes cache → item_at place cache ≡ Some kept → closed_next end (item_at place cache) ≡ Some n →
+    (closed_behind end (chunk_at view place bytes) ≡ n ∷ []) × (kept.next ≡ n) × (n < end)
+some_behind end view bytes cache place kept n cached held some = by (nat_lt kept.next end) refl
   where
-    by : (c : Bool) → nat_lt kept.next end ≡ c → (closed_behind end (chunk_at fields place bytes) ≡ n ∷ []) × (kept.next ≡ n) × (n < end)
+    by : (c : Bool) → nat_lt kept.next end ≡ c → (closed_behind end (chunk_at view place bytes) ≡ n ∷ []) × (kept.next ≡ n) × (n < end)
     by true t =
         let f : Some kept.next ≡ Some n = sym (if_true _ _ _ t) ∙ sym (ap (λ o. closed_next end o) held) ∙ some in
         let same : kept.next ≡ n = cc in
-        (behind_held end fields bytes cache place kept cached held ∙ if_true _ _ _ t ∙ ap (λ (m : ℕ). m ∷ []) same, same, omega (arith, same, ltb-true _ _ t))
+        (behind_held end view bytes cache place kept cached held ∙ if_true _ _ _ t ∙ ap (λ (m : ℕ). m ∷ []) same, same, omega (arith, same, ltb-true _ _ t))
     by false f = let g : None ≡ Some n = sym (if_false _ _ _ f) ∙ sym (ap (λ o. closed_next end o) held) ∙ some in absurd cc
 
 -- a chunk stands where one that isn't the last ends
 pub follows_on : (v : Image) (may : Image → Type 0) (b : Base) (opened : List Event) (next time : ℕ) (cache : Cache Kept) → IsRight v may b opened next time cache → (place index number : ℕ) (i : InChunk b (v b.file) place index number) → i.next < b.end →
-    (chunk : List Event) × (behind : ℕ) × (chunk_at b.shape.fields i.next (v b.file) ≡ Some (chunk, behind)) × (behind ≤ b.end)
+    (chunk : List Event) × (behind : ℕ) × (chunk_at (view_of b) i.next (v b.file) ≡ Some (chunk, behind)) × (behind ≤ b.end)
 follows_on v may b opened next time cache right place index number i before =
-    let split = chain_split b.shape.fields (v b.file) b.first right.chunks i.chunks b.end place i.chunk i.next right.chain (fetch_none b.shape.fields b.end (v b.file) right.ends) i.chain i.here in
+    let split = chain_split (view_of b) (v b.file) b.first right.chunks i.chunks b.end place i.chunk i.next right.chain (fetch_none (view_of b) b.end (v b.file) right.ends) i.chain i.here in
     more split.0 split.2
   where
-    more : (after : List (List Event)) → Chain b.shape.fields (v b.file) i.next after b.end → (chunk : List Event) × (behind : ℕ) × (chunk_at b.shape.fields i.next (v b.file) ≡ Some (chunk, behind)) × (behind ≤ b.end)
+    more : (after : List (List Event)) → Chain (view_of b) (v b.file) i.next after b.end → (chunk : List Event) × (behind : ℕ) × (chunk_at (view_of b) i.next (v b.file) ≡ Some (chunk, behind)) × (behind ≤ b.end)
     more [] chain = absurd (omega (arith, chain, before))
-    more (c ∷ after) chain = (c, chain.0, chain.1, chain_behind b.shape.fields (v b.file) chain.0 after b.end chain.2)
+    more (c ∷ after) chain = (c, chain.0, chain.1, chain_behind (view_of b) (v b.file) chain.0 after b.end chain.2)
 
 -- For spots in order.
 
@@ -207,8 +207,8 @@ pub stays_same : (a : Reservoir) → Stays a a
 stays_same a = record { base = refl; opened = refl; room = refl; next = refl; time = refl; log = refl; cap = refl }
 
 module _ (a b : Reservoir) (same : base b ≡ base a) where
-  pub cached_step : (v : Image) (old new : Cache Kept) → (IsCached (base b).shape.fields (v (base b).file) old → IsCached (base b).shape.fields (v (base b).file) new) → IsCached (base a).shape.fields (v (base a).file) old → IsCached (base a).shape.fields (v (base a).file) new
-  cached_step v old new step was = subst (λ (x : Base). IsCached x.shape.fields (v x.file) new) same (step (subst (λ (x : Base). IsCached x.shape.fields (v x.file) old) (sym same) was))
+  pub cached_step : (v : Image) (old new : Cache Kept) → (IsCached (view_of (base b)) (v (base b).file) old → IsCached (view_of (base b)) (v (base b).file) new) → IsCached (view_of (base a)) (v (base a).file) old → IsCached (view_of (base a)) (v (base a).file) new
+  cached_step v old new step was = subst (λ (x : Base). IsCached (view_of x) (v x.file) new) same (step (subst (λ (x : Base). IsCached (view_of x) (v x.file) old) (sym same) was))
 
   pub inside_step : (old new : Cache Kept) → (IsInside (base b).end old → IsInside (base b).end new) → IsInside (base a).end old → IsInside (base a).end new
   inside_step old new step was = subst (λ (x : Base). IsInside x.end new) same (step (subst (λ (x : Base). IsInside x.end old) (sym same) was))
@@ -216,7 +216,7 @@ module _ (a b : Reservoir) (same : base b ≡ base a) where
 -- what is sound stays so, over the same image
 pub sound_still :
     (now then : Option Image) (may after : Image → Type 0) (old new : Reservoir) → then ≡ now → SameOutcomes may after → Stays old new
-    → ((v : Image) → now ≡ Some v → IsCached old.schema.fields (v old.log.file) old.cache → IsCached old.schema.fields (v old.log.file) new.cache) → (IsInside old.log.end old.cache → IsInside old.log.end new.cache) → (sound : IsSound now may old)
+    → ((v : Image) → now ≡ Some v → IsCached (view_of (base old)) (v old.log.file) old.cache → IsCached (view_of (base old)) (v old.log.file) new.cache) → (IsInside old.log.end old.cache → IsInside old.log.end new.cache) → (sound : IsSound now may old)
     → (then ≡ Some sound.0) × IsSoundIn sound.0 after (base new) (opened new) (next_of new) (time_of new) (cache_of new)
 sound_still now then may after old new same outcomes stays kept inside sound =
     let s = sound_stays now then may after old new same outcomes stays kept inside sound in

@@ -1,5 +1,5 @@
 -- Which spots the heads of a log name, counted frame by frame.
-use Rattle.std.proofs.Common.{◌≡◌, ◌∙◌, inl, inr, ℕ, ◌+◌, ◌-◌, ◌^◌, ◌≤◌, ◌<◌, ◌||◌, ◌==◌, Bool, IsTrue, true, false, List, [], ◌∷◌, ◌++◌, length, Option, Some, None, option_map, All, refl, sym, ap, subst, arith, append_assoc}
+use Rattle.std.proofs.Common.{◌≡◌, ◌∙◌, inl, inr, ℕ, ◌+◌, ◌-◌, ◌^◌, ◌≤◌, ◌<◌, ◌||◌, ◌==◌, Bool, IsTrue, true, false, List, [], ◌∷◌, ◌++◌, length, Option, Some, None, option_map, option_and_then, All, refl, sym, ap, subst, arith, append_assoc}
 use Rattle.std.proofs.lemmas.Bool.{or_cases, eqb-true, eq-eqb}
 use Rattle.std.proofs.lemmas.List.{append-nil}
 use Rattle.std.specs.Prelude.{count_by, slice_index, slice_index_or, ◌↔◌}
@@ -26,7 +26,7 @@ use Rattle.rg_log.specs.Log.{chunks_of, joined, HasChunks, HasEvents}
 use Rattle.rg_log.specs.Spots.{count_in, is_in_chunk, is_at_end, named_at, named_from, named_by_heads, NamedByHeads}
 use Rattle.rg_log.proofs.Growing.{part}
 use Rattle.rg_log.proofs.Naming.{in_chunk_is, at_end_is, named_in}
-use Rattle.rg_reservoir.specs.Chain.{chunk_in, IsIllegal}
+use Rattle.rg_reservoir.specs.Chain.{IsIllegal}
 use Rattle.rg_reservoir.specs.Heads.{EntryAt}
 use Rattle.rg_reservoir.specs.Kept.{base, opened, next_of, time_of, cache_of, IsRight, IsSound, Spells}
 use Rattle.rg_reservoir.specs.Naming.{Reached, LeftOf, Left, IsHeadless, IsNamed}
@@ -211,9 +211,9 @@ no_chunk fields p none = by (chunk_of fields p) refl
 pub headless_illegal : (fields : List Field) (place : ℕ) (bytes : List ℕ) → IsHeadless place bytes → IsIllegal fields place bytes
 headless_illegal fields place bytes h = record { rest = h.gate.rest; is = h.gate.is; longer = h.gate.longer; none = by (payload_at place bytes) refl }
   where
-    by : (o : Option (List ℕ)) → payload_at place bytes ≡ o → chunk_in fields place o ≡ None
+    by : (o : Option (List ℕ)) → payload_at place bytes ≡ o → option_and_then (chunk_of fields) o ≡ None
     by None is = refl
-    by (Some p) is = ap (option_map (λ events. (events, place + 9 + length p))) (no_chunk fields p (h.none p is))
+    by (Some p) is = no_chunk fields p (h.none p is)
 
 -- each chunk of a legal log has a head
 chunk_there : (fields : List Field) (done : List (List ℕ)) (q : List ℕ) (more : List (List ℕ)) (chunks : List (List Event)) → chunks_of fields (done ++ q ∷ more) ≡ Some chunks → (chunk : List Event) × (chunk_of fields q ≡ Some chunk)

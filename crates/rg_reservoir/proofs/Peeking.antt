@@ -17,16 +17,17 @@ use Rattle.rg_reservoir.specs.declared.kept.Kept.{Kept}
 use Rattle.rg_reservoir.specs.declared.reservoir.Reservoir.{Reservoir}
 use Rattle.rg_log.specs.Log.{joined}
 use Rattle.rg_reservoir.specs.Chain.{chunk_at, Chain, IsIllegal}
-use Rattle.rg_reservoir.specs.Kept.{Base, base, room_of, stored, all_events, IsCached, IsInside, IsRight, IsSoundIn, IsSound, InChunk, InFront, InOpen, count_of, Spells, SpellsLater, Stays, seen}
+use Rattle.rg_reservoir.specs.Kept.{Base, base, view_of, room_of, stored, all_events, IsCached, IsInside, IsRight, IsSoundIn, IsSound, InChunk, InFront, InOpen, count_of, Spells, SpellsLater, Stays, seen}
 use Rattle.rg_reservoir.specs.Going.{Goes}
 
 -- fewer outcomes of a crash, and another cache that is right
-sound_cache : (v : Image) (may after : Image → Type 0) (b : Base) (opened : List Event) (next time : ℕ) (cache new : Cache Kept) → ((u : Image) → after u → may u) → (IsCached b.shape.fields (v b.file) cache → IsCached b.shape.fields (v b.file) new) → (IsInside b.end cache → IsInside b.end new)
+sound_cache : (v : Image) (may after : Image → Type 0) (b : Base) (opened : List Event) (next time : ℕ) (cache new : Cache Kept) → ((u : Image) → after u → may u) → (IsCached (view_of b) (v b.file) cache → IsCached (view_of b) (v b.file) new) → (IsInside b.end cache → IsInside b.end new)
     → IsSoundIn v may b opened next time cache → IsSoundIn v after b opened next time new
 sound_cache v may after b opened next time cache new fewer kept stay sound = record {
   each = λ u left. sound.each u (fewer u left);
   right = λ going. let r = sound.right going in record {
     settled = λ u left. r.settled u (fewer u left);
+    plain = r.plain;
     schema = r.schema;
     chunks = r.chunks;
     chain = r.chain;
@@ -50,7 +51,7 @@ sound_cache v may after b opened next time cache new fewer kept stay sound = rec
 -- what is sound stays so where only the cache changes
 pub sound_stays :
     (now then : Option Image) (may after : Image → Type 0) (old new : Reservoir) → then ≡ now → SameOutcomes may after → Stays old new
-    → ((v : Image) → now ≡ Some v → IsCached old.schema.fields (v old.log.file) old.cache → IsCached old.schema.fields (v old.log.file) new.cache) → (IsInside old.log.end old.cache → IsInside old.log.end new.cache) → IsSound now may old → IsSound then after new
+    → ((v : Image) → now ≡ Some v → IsCached (view_of (base old)) (v old.log.file) old.cache → IsCached (view_of (base old)) (v old.log.file) new.cache) → (IsInside old.log.end old.cache → IsInside old.log.end new.cache) → IsSound now may old → IsSound then after new
 sound_stays now then may after old new same outcomes stays kept stay sound =
     let s0 = sound_cache sound.0 may after (base old) old.open.events old.next_offset old.last_time old.cache new.cache outcomes.no_more (kept sound.0 sound.1) stay sound.2 in
     let s1 = subst (λ (b : Base). IsSoundIn sound.0 after b old.open.events old.next_offset old.last_time new.cache) (sym stays.base) s0 in
@@ -70,6 +71,7 @@ sound_added v may b opened next time cache e follows fits few sound =
       each = λ u left. let s = sound.each u left in (s.0, s.1, s.2, s.3, (s.4.0 ++ e ∷ [], all ∙ ap (λ (l : List Event). l ++ e ∷ []) s.4.1 ∙ append_assoc s.0 s.4.0 (e ∷ [])));
       right = λ going. let r = sound.right going in record {
         settled = r.settled;
+        plain = r.plain;
         schema = r.schema;
         chunks = r.chunks;
         chain = r.chain;
@@ -113,8 +115,8 @@ advanced now b opened old spot lt place index number later = record { image = la
         chunks = i.chunks;
         chunk = i.chunk;
         next = i.next;
-        chain = subst (λ (p : ℕ). Chain b.shape.fields (later.image b.file) b.first i.chunks p) (sym place) i.chain;
-        here = subst (λ (p : ℕ). chunk_at b.shape.fields p (later.image b.file) ≡ Some (i.chunk, i.next)) (sym place) i.here;
+        chain = subst (λ (p : ℕ). Chain (view_of b) (later.image b.file) b.first i.chunks p) (sym place) i.chain;
+        here = subst (λ (p : ℕ). chunk_at (view_of b) p (later.image b.file) ≡ Some (i.chunk, i.next)) (sym place) i.here;
         number_is = omega (arith, number, index, i.number_is);
         most = omega (arith, f.1.within, index);
       },
@@ -125,7 +127,7 @@ advanced now b opened old spot lt place index number later = record { image = la
 pub started : (now : Option Image) (v : Image) (may : Image → Type 0) (b : Base) (opened : List Event) (next time : ℕ) (cache : Cache Kept) (spot : Spot) → now ≡ Some v → IsRight v may b opened next time cache → spot.place ≡ b.first → spot.index ≡ 0 → spot.number ≡ 0 → Spells now b opened spot
 started now v may b opened next time cache spot told right place index number = record { image = v; told = told; number = omega (arith, number); spelling = by right.chunks right.chain right.counted }
   where
-    by : (chunks : List (List Event)) → Chain b.shape.fields (v b.file) b.first chunks b.end → length (joined chunks) ≡ b.committed → ((spot.number ≤ b.committed) × InChunk b (v b.file) spot.place spot.index spot.number) ⊎ InOpen b spot.place spot.index spot.number
+    by : (chunks : List (List Event)) → Chain (view_of b) (v b.file) b.first chunks b.end → length (joined chunks) ≡ b.committed → ((spot.number ≤ b.committed) × InChunk b (v b.file) spot.place spot.index spot.number) ⊎ InOpen b spot.place spot.index spot.number
     by [] chain counted = inr (record { place_is = place ∙ chain; number_is = omega (arith, number, index, counted) })
     by (c ∷ chunks) chain counted = inl (
       omega (arith, number),
@@ -134,7 +136,7 @@ started now v may b opened next time cache spot told right place index number = 
         chunk = c;
         next = chain.0;
         chain = sym place;
-        here = subst (λ (p : ℕ). chunk_at b.shape.fields p (v b.file) ≡ Some (c, chain.0)) (sym place) chain.1;
+        here = subst (λ (p : ℕ). chunk_at (view_of b) p (v b.file) ≡ Some (c, chain.0)) (sym place) chain.1;
         number_is = omega (arith, number, index);
         most = omega (arith, index);
       },
@@ -189,7 +191,7 @@ some_map (Some x) P Q f h = f x h
 module _ {H : Type 0} (now : H → Option Image) (may : H → Image → Type 0) (clock : H → ℕ) (since : H → ℕ → Moment → Type 0) (said : H → Option (List ℕ)) (out_faults : H → ℕ) where
   pub goes_seek :
       (pr : MutBor Reservoir) (ph : MutBor H) (qr : MutBor Reservoir) (qh : MutBor H) → qr.ghost_name ≡ pr.ghost_name → qh.ghost_name ≡ ph.ghost_name → Stays pr.now qr.now → LeavesAll now may clock since said ph.now qh.now → out_faults qh.now ≡ out_faults ph.now
-      → ((v : Image) → now ph.now ≡ Some v → IsCached pr.now.schema.fields (v pr.now.log.file) pr.now.cache → IsCached pr.now.schema.fields (v pr.now.log.file) qr.now.cache) → (IsInside pr.now.log.end pr.now.cache → IsInside pr.now.log.end qr.now.cache) → Goes now may clock since said out_faults pr ph qr qh
+      → ((v : Image) → now ph.now ≡ Some v → IsCached (view_of (base pr.now)) (v pr.now.log.file) pr.now.cache → IsCached (view_of (base pr.now)) (v pr.now.log.file) qr.now.cache) → (IsInside pr.now.log.end pr.now.cache → IsInside pr.now.log.end qr.now.cache) → Goes now may clock since said out_faults pr ph qr qh
   goes_seek pr ph qr qh r h stays leaves outs kept stay = record {
     same_reservoir = r;
     same_host = h;

@@ -5,12 +5,13 @@ use Rattle.std.specs.Prelude.{slice_get}
 use Rattle.rg_host.specs.Image.{Image}
 use Rattle.rg_event.specs.declared.event.Event.{Event}
 use Rattle.rg_event.specs.declared.schema.Field.{Field}
+use Rattle.rg_reservoir.specs.Views.{View}
 use Rattle.rg_past.specs.declared.past.Spot.{Spot}
 use Rattle.rg_cache.specs.Cache.{Cache, item_at}
 use Rattle.rg_reservoir.specs.declared.kept.Kept.{Kept}
 use Rattle.rg_log.specs.Log.{joined}
 use Rattle.rg_reservoir.specs.Chain.{chunk_at, Chain, padded, IsIllegal}
-use Rattle.rg_reservoir.specs.Kept.{Base, stored, all_events, IsCached, IsInside, IsAbsent, IsRight, InChunk, InFront, InOpen, count_of, Spells, seen_in, seen, next_in, Found}
+use Rattle.rg_reservoir.specs.Kept.{Base, view_of, stored, all_events, IsCached, IsInside, IsAbsent, IsRight, InChunk, InFront, InOpen, count_of, Spells, seen_in, seen, next_in, Found}
 use Rattle.rg_reservoir.proofs.Fetching.{fetch_none}
 use Rattle.rg_reservoir.proofs.Committing.{chain_behind}
 use Rattle.rg_reservoir.proofs.Chains.{one_chunk, some_none, joined-append, chunk_at_size, chain_push, chain_split, from_chain, padded_same, padded_long, get_right, get_chunk}
@@ -32,13 +33,13 @@ counted now b opened = omega (arith, length-append (stored now b) opened, stored
 module _ (v : Image) (may : Image → Type 0) (b : Base) (opened : List Event) (next time : ℕ) (cache : Cache Kept) (right : IsRight v may b opened next time cache) where
   pub stored_is : stored (Some v) b ≡ joined right.chunks
   stored_is =
-      ap (padded b.committed) (from_chain b.shape.fields (v b.file) b.committed b.first right.chunks b.end right.chain (fetch_none b.shape.fields b.end (v b.file) right.ends) (omega (arith, right.counted)))
+      ap (padded b.committed) (from_chain (view_of b) (v b.file) b.committed b.first right.chunks b.end right.chain (fetch_none (view_of b) b.end (v b.file) right.ends) (omega (arith, right.counted)))
       ∙ padded_same b.committed (joined right.chunks) right.counted
 
   -- the event of an index of a chunk
   pub event_is : (place index number : ℕ) (i : InChunk b (v b.file) place index number) → index < length i.chunk → slice_get (all_events (Some v) b opened) number ≡ slice_get i.chunk index
   event_is place index number i lt =
-      let split = chain_split b.shape.fields (v b.file) b.first right.chunks i.chunks b.end place i.chunk i.next right.chain (fetch_none b.shape.fields b.end (v b.file) right.ends) i.chain i.here in
+      let split = chain_split (view_of b) (v b.file) b.first right.chunks i.chunks b.end place i.chunk i.next right.chain (fetch_none (view_of b) b.end (v b.file) right.ends) i.chain i.here in
       ap (λ (n : ℕ). slice_get (all_events (Some v) b opened) n) i.number_is
       ∙ ap (λ (l : List Event). slice_get (l ++ opened) (length (joined i.chunks) + index)) (stored_is ∙ ap joined split.1)
       ∙ get_chunk i.chunks split.0 i.chunk opened index lt
@@ -46,27 +47,27 @@ module _ (v : Image) (may : Image → Type 0) (b : Base) (opened : List Event) (
   -- no chunk goes past the end
   pub before_end : (place index number : ℕ) (i : InChunk b (v b.file) place index number) → i.next ≤ b.end
   before_end place index number i =
-      let split = chain_split b.shape.fields (v b.file) b.first right.chunks i.chunks b.end place i.chunk i.next right.chain (fetch_none b.shape.fields b.end (v b.file) right.ends) i.chain i.here in
-      chain_behind b.shape.fields (v b.file) i.next split.0 b.end split.2
+      let split = chain_split (view_of b) (v b.file) b.first right.chunks i.chunks b.end place i.chunk i.next right.chain (fetch_none (view_of b) b.end (v b.file) right.ends) i.chain i.here in
+      chain_behind (view_of b) (v b.file) i.next split.0 b.end split.2
 
   -- where events follow a chunk, the next one stands behind it
   pub goes_on : (place index number : ℕ) (i : InChunk b (v b.file) place index number) → index ≡ length i.chunk → number < b.committed → InFront b (v b.file) i.next 0 number
   goes_on place index number i all lt =
-      let split = chain_split b.shape.fields (v b.file) b.first right.chunks i.chunks b.end place i.chunk i.next right.chain (fetch_none b.shape.fields b.end (v b.file) right.ends) i.chain i.here in
+      let split = chain_split (view_of b) (v b.file) b.first right.chunks i.chunks b.end place i.chunk i.next right.chain (fetch_none (view_of b) b.end (v b.file) right.ends) i.chain i.here in
       more split.0 split.1 split.2
     where
-      more : (after : List (List Event)) → right.chunks ≡ i.chunks ++ i.chunk ∷ after → Chain b.shape.fields (v b.file) i.next after b.end → InFront b (v b.file) i.next 0 number
+      more : (after : List (List Event)) → right.chunks ≡ i.chunks ++ i.chunk ∷ after → Chain (view_of b) (v b.file) i.next after b.end → InFront b (v b.file) i.next 0 number
       more [] is chain =
           let all_of : joined right.chunks ≡ joined i.chunks ++ (i.chunk ++ []) = ap joined is ∙ joined-append i.chunks (i.chunk ∷ []) in
           absurd (omega (arith, right.counted, ap length all_of, length-append (joined i.chunks) (i.chunk ++ []), length-append i.chunk [], all, i.number_is, lt))
       more (d ∷ after) is chain =
-          let size = chunk_at_size b.shape.fields i.next (v b.file) d chain.0 chain.1 in
+          let size = chunk_at_size (view_of b) i.next (v b.file) d chain.0 chain.1 in
           record {
             chunk = record {
               chunks = i.chunks ++ i.chunk ∷ [];
               chunk = d;
               next = chain.0;
-              chain = chain_push b.shape.fields (v b.file) b.first i.chunks place i.chunk i.next i.chain i.here;
+              chain = chain_push (view_of b) (v b.file) b.first i.chunks place i.chunk i.next i.chain i.here;
               here = chain.1;
               number_is = omega (arith, i.number_is, all, ap length (joined-append i.chunks (i.chunk ∷ [])), length-append (joined i.chunks) (i.chunk ++ []), length-append i.chunk []);
               most = omega arith;
@@ -115,7 +116,7 @@ found_open now b opened cache old spot spells ge number place index =
 
 found_by :
     (now : Option Image) (v : Image) (may : Image → Type 0) (b : Base) (opened : List Event) (next time : ℕ) (first cache : Cache Kept) (spot : Spot) (kept : Kept) → now ≡ Some v → IsRight v may b opened next time first
-    → (f : InFront b (v b.file) spot.place spot.index spot.number) → spot.number < b.committed → IsCached b.shape.fields (v b.file) cache → item_at spot.place cache ≡ Some kept → Found now b opened cache spot spot.number
+    → (f : InFront b (v b.file) spot.place spot.index spot.number) → spot.number < b.committed → IsCached (view_of b) (v b.file) cache → item_at spot.place cache ≡ Some kept → Found now b opened cache spot spot.number
 found_by now v may b opened next time first cache spot kept told right f lt cached held =
     let i = f.chunk in
     let same = one_chunk _ kept.chunk i.chunk kept.next i.next (cached spot.place kept held) i.here in
@@ -129,7 +130,7 @@ found_by now v may b opened next time first cache spot kept told right f lt cach
 -- no turn to the next chunk
 pub found_here :
     (now : Option Image) (v : Image) (may : Image → Type 0) (b : Base) (opened : List Event) (next time : ℕ) (first cache : Cache Kept) (spot : Spot) (kept : Kept) → now ≡ Some v → IsRight v may b opened next time first
-    → Spells now b opened spot → spot.number < b.committed → IsCached b.shape.fields (v b.file) cache → item_at spot.place cache ≡ Some kept → next_in (item_at spot.place cache) spot.index ≡ None → Found now b opened cache spot spot.number
+    → Spells now b opened spot → spot.number < b.committed → IsCached (view_of b) (v b.file) cache → item_at spot.place cache ≡ Some kept → next_in (item_at spot.place cache) spot.index ≡ None → Found now b opened cache spot spot.number
 found_here now v may b opened next time first cache spot kept told right spells lt cached held stays =
     let i = near now v b opened spot told spells lt in
     let same = one_chunk _ kept.chunk i.chunk kept.next i.next (cached spot.place kept held) i.here in
@@ -149,7 +150,7 @@ next_some (Some kept) index n e = by (index == length kept.chunk) refl
 -- the turn to the next chunk
 pub turn :
     (now : Option Image) (v : Image) (may : Image → Type 0) (b : Base) (opened : List Event) (next time : ℕ) (first mid : Cache Kept) (spot : Spot) (n : ℕ) → now ≡ Some v → IsRight v may b opened next time first
-    → Spells now b opened spot → spot.number < b.committed → IsCached b.shape.fields (v b.file) mid → next_in (item_at spot.place mid) spot.index ≡ Some n → InFront b (v b.file) n 0 spot.number
+    → Spells now b opened spot → spot.number < b.committed → IsCached (view_of b) (v b.file) mid → next_in (item_at spot.place mid) spot.index ≡ Some n → InFront b (v b.file) n 0 spot.number
 turn now v may b opened next time first mid spot n told right spells lt cached turns =
     let i = near now v b opened spot told spells lt in
     let k = next_some (item_at spot.place mid) spot.index n turns in
@@ -158,8 +159,8 @@ turn now v may b opened next time first mid spot n told right spells lt cached t
 
 pub found_next :
     (now : Option Image) (v : Image) (may : Image → Type 0) (b : Base) (opened : List Event) (next time : ℕ) (first mid cache : Cache Kept) (old spot : Spot) (kept : Kept) (n : ℕ) → now ≡ Some v → IsRight v may b opened next time first
-    → Spells now b opened old → old.number < b.committed → IsCached b.shape.fields (v b.file) mid → next_in (item_at old.place mid) old.index ≡ Some n → spot.number ≡ old.number → spot.place ≡ n → spot.index ≡ 0
-    → IsCached b.shape.fields (v b.file) cache → item_at n cache ≡ Some kept → Spells now b opened spot × Found now b opened cache spot old.number
+    → Spells now b opened old → old.number < b.committed → IsCached (view_of b) (v b.file) mid → next_in (item_at old.place mid) old.index ≡ Some n → spot.number ≡ old.number → spot.place ≡ n → spot.index ≡ 0
+    → IsCached (view_of b) (v b.file) cache → item_at n cache ≡ Some kept → Spells now b opened spot × Found now b opened cache spot old.number
 found_next now v may b opened next time first mid cache old spot kept n told right spells lt cached_mid turns number place index cached held =
     let f0 = turn now v may b opened next time first mid old n told right spells lt cached_mid turns in
     let f1 = subst (λ (p : ℕ). InFront b (v b.file) p 0 old.number) (sym place) f0 in
@@ -170,13 +171,13 @@ found_next now v may b opened next time first mid cache old spot kept n told rig
       subst (λ (m : ℕ). Found now b opened cache spot m) number (found_by now v may b opened next time first cache spot kept told right f less cached (subst (λ (p : ℕ). item_at p cache ≡ Some kept) (sym place) held)),
     )
 
--- the same columns and the same file have the same chunks
-pub cached_same : (F G : List Field) (f g : ℕ) (v : Image) (cache : Cache Kept) → F ≡ G → f ≡ g → IsCached F (v f) cache → IsCached G (v g) cache
-cached_same F G f g v cache fields file cached = subst (λ (n : ℕ). IsCached G (v n) cache) file (subst (λ (l : List Field). IsCached l (v f) cache) fields cached)
+-- the same view of the same file has the same chunks
+pub cached_same : (F G : View) (f g : ℕ) (v : Image) (cache : Cache Kept) → F ≡ G → f ≡ g → IsCached F (v f) cache → IsCached G (v g) cache
+cached_same F G f g v cache view file cached = subst (λ (n : ℕ). IsCached G (v n) cache) file (subst (λ (w : View). IsCached w (v f) cache) view cached)
 
-pub absent_same : (F G : List Field) (f g d e : ℕ) (v : Image) (place : ℕ) → F ≡ G → f ≡ g → d ≡ e → IsAbsent F place d (v f) → IsAbsent G place e (v g)
-absent_same F G f g d e v place fields file end absent =
-    subst (λ (m : ℕ). IsAbsent G place m (v g)) end (subst (λ (n : ℕ). IsAbsent G place d (v n)) file (subst (λ (l : List Field). IsAbsent l place d (v f)) fields absent))
+pub absent_same : (F G : View) (f g d e : ℕ) (v : Image) (place : ℕ) → F ≡ G → f ≡ g → d ≡ e → IsAbsent F place d (v f) → IsAbsent G place e (v g)
+absent_same F G f g d e v place view file end absent =
+    subst (λ (m : ℕ). IsAbsent G place m (v g)) end (subst (λ (n : ℕ). IsAbsent G place d (v n)) file (subst (λ (w : View). IsAbsent w place d (v f)) view absent))
 
 pub illegal_same : (F G : List Field) (f g : ℕ) (v : Image) (place : ℕ) → F ≡ G → f ≡ g → IsIllegal F place (v f) → IsIllegal G place (v g)
 illegal_same F G f g v place fields file bad = subst (λ (n : ℕ). IsIllegal G place (v n)) file (subst (λ (l : List Field). IsIllegal l place (v f)) fields bad)
@@ -190,19 +191,19 @@ inside_others end old new place kept le others was q x held = elim (others q x h
 pub inside_moved : (end : ℕ) (old new : Cache Kept) → ((q : ℕ) → item_at q new ≡ item_at q old) → IsInside end old → IsInside end new
 inside_moved end old new items was q x held = was q x (sym (items q) ∙ held)
 
-pub absent_none : (fields : List Field) (place end : ℕ) (bytes : List ℕ) → chunk_at fields place bytes ≡ None → IsAbsent fields place end bytes
-absent_none fields place end bytes none = λ chunk next some. absurd (some_none _ _ some none)
+pub absent_none : (view : View) (place end : ℕ) (bytes : List ℕ) → chunk_at view place bytes ≡ None → IsAbsent view place end bytes
+absent_none view place end bytes none = λ chunk next some. absurd (some_none _ _ some none)
 
-pub absent_far : (fields : List Field) (place end : ℕ) (bytes : List ℕ) (kept : Kept) → chunk_at fields place bytes ≡ Some (kept.chunk, kept.next) → end < kept.next → IsAbsent fields place end bytes
-absent_far fields place end bytes kept here far = λ chunk next some. omega (arith, (one_chunk _ kept.chunk chunk kept.next next here some).1, far)
+pub absent_far : (view : View) (place end : ℕ) (bytes : List ℕ) (kept : Kept) → chunk_at view place bytes ≡ Some (kept.chunk, kept.next) → end < kept.next → IsAbsent view place end bytes
+absent_far view place end bytes kept here far = λ chunk next some. omega (arith, (one_chunk _ kept.chunk chunk kept.next next here some).1, far)
 
 -- what was put, and what was there
-pub kept_others : (fields : List Field) (bytes : List ℕ) (old new : Cache Kept) (place : ℕ) (kept : Kept) → chunk_at fields place bytes ≡ Some (kept.chunk, kept.next)
-    → ((q : ℕ) (x : Kept) → item_at q new ≡ Some x → ((q ≡ place) × (x ≡ kept)) ⊎ (item_at q old ≡ Some x)) → IsCached fields bytes old → IsCached fields bytes new
-kept_others fields bytes old new place kept here others was q x held = elim (others q x held) [
-  | inl same ↦ subst (λ (p : ℕ). chunk_at fields p bytes ≡ Some (x.chunk, x.next)) (sym same.0) (here ∙ ap (λ (k : Kept). Some (k.chunk, k.next)) (sym same.1))
+pub kept_others : (view : View) (bytes : List ℕ) (old new : Cache Kept) (place : ℕ) (kept : Kept) → chunk_at view place bytes ≡ Some (kept.chunk, kept.next)
+    → ((q : ℕ) (x : Kept) → item_at q new ≡ Some x → ((q ≡ place) × (x ≡ kept)) ⊎ (item_at q old ≡ Some x)) → IsCached view bytes old → IsCached view bytes new
+kept_others view bytes old new place kept here others was q x held = elim (others q x held) [
+  | inl same ↦ subst (λ (p : ℕ). chunk_at view p bytes ≡ Some (x.chunk, x.next)) (sym same.0) (here ∙ ap (λ (k : Kept). Some (k.chunk, k.next)) (sym same.1))
   | inr there ↦ was q x there
 ]
 
-pub cached_moved : (fields : List Field) (bytes : List ℕ) (old new : Cache Kept) → ((q : ℕ) → item_at q new ≡ item_at q old) → IsCached fields bytes old → IsCached fields bytes new
-cached_moved fields bytes old new items was q x held = was q x (sym (items q) ∙ held)
+pub cached_moved : (view : View) (bytes : List ℕ) (old new : Cache Kept) → ((q : ℕ) → item_at q new ≡ item_at q old) → IsCached view bytes old → IsCached view bytes new
+cached_moved view bytes old new items was q x held = was q x (sym (items q) ∙ held)

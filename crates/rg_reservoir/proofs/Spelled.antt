@@ -3,7 +3,6 @@ use Rattle.std.proofs.Common.{◌≡◌, ◌∙◌, ◌⊎◌, inl, inr, ℕ, �
 use Rattle.std.proofs.lemmas.List.{append-nil}
 use Rattle.rg_host.specs.Image.{Image}
 use Rattle.rg_event.specs.declared.event.Event.{Event}
-use Rattle.rg_event.specs.declared.schema.Field.{Field}
 use Rattle.rg_past.specs.declared.past.Spot.{Spot}
 use Rattle.rg_frame.specs.Frames.{frames, HasPayloads, payload_at}
 use Rattle.rg_frame.proofs.FrameLaws.{length-frames, length-frames-push}
@@ -16,44 +15,47 @@ use Rattle.rg_log.specs.Spots.{SpotAt, SpotIn}
 use Rattle.rg_log.proofs.Spelling.{spot_within}
 use Rattle.rg_reservoir.specs.declared.kept.Kept.{Kept}
 use Rattle.rg_reservoir.specs.Chain.{chunk_at, Chain}
-use Rattle.rg_reservoir.specs.Kept.{Base, IsRight, InChunk, InOpen, Spells}
+use Rattle.rg_reservoir.specs.Kept.{Base, view_of, IsRight, InChunk, InOpen, Spells}
+use Rattle.rg_event.specs.Shapes.{Shape}
+use Rattle.rg_reservoir.specs.Views.{View, plain}
 use Rattle.rg_reservoir.proofs.Attaching.{chunk_payload}
 use Rattle.rg_reservoir.proofs.Chains.{some_none}
 use Rattle.rg_reservoir.proofs.Firsts.{one_payload}
 use Rattle.rg_reservoir.proofs.Legal.{chunk_made, chain_of}
 use Rattle.rg_reservoir.proofs.Seeking.{one_image}
+use Rattle.rg_reservoir.proofs.Viewing.{plain_is}
 
 -- a chunk at a place where that payload stands
-chunk_there : (fields : List Field) (place : ℕ) (bytes p : List ℕ) (c : List Event) (n : ℕ) → payload_at place bytes ≡ Some p → chunk_at fields place bytes ≡ Some (c, n) → (chunk_of fields p ≡ Some c) × (n ≡ place + 9 + length p)
-chunk_there fields place bytes p c n here is =
-    let k = chunk_payload fields place bytes c n is in
+chunk_there : (shape : Shape) (place : ℕ) (bytes p : List ℕ) (c : List Event) (n : ℕ) → payload_at place bytes ≡ Some p → chunk_at (plain shape) place bytes ≡ Some (c, n) → (chunk_of shape.fields p ≡ Some c) × (n ≡ place + 9 + length p)
+chunk_there shape place bytes p c n here is =
+    let k = chunk_payload shape place bytes c n is in
     let same : k.payload ≡ p = one_payload place k.payload p bytes k.here here in
-    (ap (chunk_of fields) (sym same) ∙ k.says, k.next_is ∙ ap (λ (l : List ℕ). place + 9 + length l) same)
+    (ap (chunk_of shape.fields) (sym same) ∙ k.says, k.next_is ∙ ap (λ (l : List ℕ). place + 9 + length l) same)
 
-no_chunk : (fields : List Field) (place : ℕ) (bytes : List ℕ) (c : List Event) (n : ℕ) → payload_at place bytes ≡ None → chunk_at fields place bytes ≡ Some (c, n) → ⊥
-no_chunk fields place bytes c n none is = some_none _ _ (chunk_payload fields place bytes c n is).here none
+no_chunk : (shape : Shape) (place : ℕ) (bytes : List ℕ) (c : List Event) (n : ℕ) → payload_at place bytes ≡ None → chunk_at (plain shape) place bytes ≡ Some (c, n) → ⊥
+no_chunk shape place bytes c n none is = some_none _ _ (chunk_payload shape place bytes c n is).here none
 
 -- no frame stands where the list ends
 end_none : (done : List (List ℕ)) (bytes : List ℕ) → HasPayloads (done ++ []) bytes → payload_at (length (frames done)) bytes ≡ None
 end_none done bytes has = subst (λ (l : List (List ℕ)). payload_at (length (frames l)) bytes ≡ None) (append-nil done) (payload_none (done ++ []) bytes has)
 
 -- a chunk of the file is one of the frame list, and the chunks before it are those of the frames before it
-record Found (fields : List Field) (done rest : List (List ℕ)) (before : List (List Event)) (q : ℕ) (c : List Event) : Type 0 where
+record Found (shape : Shape) (done rest : List (List ℕ)) (before : List (List Event)) (q : ℕ) (c : List Event) : Type 0 where
   earlier : List (List ℕ)
   payload : List ℕ
   later : List (List ℕ)
   is : rest ≡ earlier ++ payload ∷ later
-  before_is : chunks_of fields earlier ≡ Some before
-  chunk_is : chunk_of fields payload ≡ Some c
+  before_is : chunks_of shape.fields earlier ≡ Some before
+  chunk_is : chunk_of shape.fields payload ≡ Some c
   place_is : q ≡ length (frames (done ++ earlier))
 
-found : (fields : List Field) (bytes : List ℕ) (done rest : List (List ℕ)) (place : ℕ) (before : List (List Event)) (q : ℕ) (c : List Event) (next : ℕ) → HasPayloads (done ++ rest) bytes → place ≡ length (frames done)
-    → Chain fields bytes place before q → chunk_at fields q bytes ≡ Some (c, next) → Found fields done rest before q c
-found fields bytes done [] place [] q c next has at chain here =
-    absurd (no_chunk fields q bytes c next (subst (λ (n : ℕ). payload_at n bytes ≡ None) (sym at ∙ chain) (end_none done bytes has)) here)
-found fields bytes done [] place (b ∷ before) q c next has at chain here =
-    absurd (no_chunk fields place bytes b chain.0 (subst (λ (n : ℕ). payload_at n bytes ≡ None) (sym at) (end_none done bytes has)) chain.1)
-found fields bytes done (p ∷ rest) place [] q c next has at chain here =
+found : (shape : Shape) (bytes : List ℕ) (done rest : List (List ℕ)) (place : ℕ) (before : List (List Event)) (q : ℕ) (c : List Event) (next : ℕ) → HasPayloads (done ++ rest) bytes → place ≡ length (frames done)
+    → Chain (plain shape) bytes place before q → chunk_at (plain shape) q bytes ≡ Some (c, next) → Found shape done rest before q c
+found shape bytes done [] place [] q c next has at chain here =
+    absurd (no_chunk shape q bytes c next (subst (λ (n : ℕ). payload_at n bytes ≡ None) (sym at ∙ chain) (end_none done bytes has)) here)
+found shape bytes done [] place (b ∷ before) q c next has at chain here =
+    absurd (no_chunk shape place bytes b chain.0 (subst (λ (n : ℕ). payload_at n bytes ≡ None) (sym at) (end_none done bytes has)) chain.1)
+found shape bytes done (p ∷ rest) place [] q c next has at chain here =
     let there : payload_at q bytes ≡ Some p = subst (λ (n : ℕ). payload_at n bytes ≡ Some p) (sym at ∙ chain) (payload_between done rest p bytes has) in
     record {
       earlier = [];
@@ -61,35 +63,35 @@ found fields bytes done (p ∷ rest) place [] q c next has at chain here =
       later = rest;
       is = refl;
       before_is = refl;
-      chunk_is = (chunk_there fields q bytes p c next there here).0;
+      chunk_is = (chunk_there shape q bytes p c next there here).0;
       place_is = sym chain ∙ at ∙ ap (λ (l : List (List ℕ)). length (frames l)) (sym (append-nil done));
     }
-found fields bytes done (p ∷ rest) place (b ∷ before) q c next has at chain here =
+found shape bytes done (p ∷ rest) place (b ∷ before) q c next has at chain here =
     let there : payload_at place bytes ≡ Some p = subst (λ (n : ℕ). payload_at n bytes ≡ Some p) (sym at) (payload_between done rest p bytes has) in
-    let one = chunk_there fields place bytes p b chain.0 there chain.1 in
-    let f = found fields bytes (done ++ p ∷ []) rest chain.0 before q c next (subst (λ (l : List (List ℕ)). HasPayloads l bytes) (sym (append_assoc done (p ∷ []) rest)) has) (omega (arith, one.1, at, length-frames-push done p)) chain.2 here in
+    let one = chunk_there shape place bytes p b chain.0 there chain.1 in
+    let f = found shape bytes (done ++ p ∷ []) rest chain.0 before q c next (subst (λ (l : List (List ℕ)). HasPayloads l bytes) (sym (append_assoc done (p ∷ []) rest)) has) (omega (arith, one.1, at, length-frames-push done p)) chain.2 here in
     record {
       earlier = p ∷ f.earlier;
       payload = f.payload;
       later = f.later;
       is = ap (λ (l : List (List ℕ)). p ∷ l) f.is;
-      before_is = ap (λ (o : Option (List Event)). with_chunk o (chunks_of fields f.earlier)) one.0 ∙ ap (λ (o : Option (List (List Event))). with_chunk (Some b) o) f.before_is;
+      before_is = ap (λ (o : Option (List Event)). with_chunk o (chunks_of shape.fields f.earlier)) one.0 ∙ ap (λ (o : Option (List (List Event))). with_chunk (Some b) o) f.before_is;
       chunk_is = f.chunk_is;
       place_is = f.place_is ∙ ap (λ (l : List (List ℕ)). length (frames l)) (append_assoc done (p ∷ []) f.earlier);
     }
 
 -- all chunks, up to a place where no frame stands
-all_found : (fields : List Field) (bytes : List ℕ) (done rest : List (List ℕ)) (place : ℕ) (chunks : List (List Event)) (end : ℕ) → HasPayloads (done ++ rest) bytes → place ≡ length (frames done) → Chain fields bytes place chunks end → payload_at end bytes ≡ None
-    → (chunks_of fields rest ≡ Some chunks) × (end ≡ length (frames (done ++ rest)))
-all_found fields bytes done [] place [] end has at chain none = (refl, sym chain ∙ at ∙ ap (λ (l : List (List ℕ)). length (frames l)) (sym (append-nil done)))
-all_found fields bytes done [] place (b ∷ chunks) end has at chain none = absurd (no_chunk fields place bytes b chain.0 (subst (λ (n : ℕ). payload_at n bytes ≡ None) (sym at) (end_none done bytes has)) chain.1)
-all_found fields bytes done (p ∷ rest) place [] end has at chain none =
+all_found : (shape : Shape) (bytes : List ℕ) (done rest : List (List ℕ)) (place : ℕ) (chunks : List (List Event)) (end : ℕ) → HasPayloads (done ++ rest) bytes → place ≡ length (frames done) → Chain (plain shape) bytes place chunks end → payload_at end bytes ≡ None
+    → (chunks_of shape.fields rest ≡ Some chunks) × (end ≡ length (frames (done ++ rest)))
+all_found shape bytes done [] place [] end has at chain none = (refl, sym chain ∙ at ∙ ap (λ (l : List (List ℕ)). length (frames l)) (sym (append-nil done)))
+all_found shape bytes done [] place (b ∷ chunks) end has at chain none = absurd (no_chunk shape place bytes b chain.0 (subst (λ (n : ℕ). payload_at n bytes ≡ None) (sym at) (end_none done bytes has)) chain.1)
+all_found shape bytes done (p ∷ rest) place [] end has at chain none =
     absurd (some_none _ _ (subst (λ (n : ℕ). payload_at n bytes ≡ Some p) (sym at ∙ chain) (payload_between done rest p bytes has)) none)
-all_found fields bytes done (p ∷ rest) place (b ∷ chunks) end has at chain none =
+all_found shape bytes done (p ∷ rest) place (b ∷ chunks) end has at chain none =
     let there : payload_at place bytes ≡ Some p = subst (λ (n : ℕ). payload_at n bytes ≡ Some p) (sym at) (payload_between done rest p bytes has) in
-    let one = chunk_there fields place bytes p b chain.0 there chain.1 in
-    let f = all_found fields bytes (done ++ p ∷ []) rest chain.0 chunks end (subst (λ (l : List (List ℕ)). HasPayloads l bytes) (sym (append_assoc done (p ∷ []) rest)) has) (omega (arith, one.1, at, length-frames-push done p)) chain.2 none in
-    (ap (λ (o : Option (List Event)). with_chunk o (chunks_of fields rest)) one.0 ∙ ap (λ (o : Option (List (List Event))). with_chunk (Some b) o) f.0, f.1 ∙ ap (λ (l : List (List ℕ)). length (frames l)) (append_assoc done (p ∷ []) rest))
+    let one = chunk_there shape place bytes p b chain.0 there chain.1 in
+    let f = all_found shape bytes (done ++ p ∷ []) rest chain.0 chunks end (subst (λ (l : List (List ℕ)). HasPayloads l bytes) (sym (append_assoc done (p ∷ []) rest)) has) (omega (arith, one.1, at, length-frames-push done p)) chain.2 none in
+    (ap (λ (o : Option (List Event)). with_chunk o (chunks_of shape.fields rest)) one.0 ∙ ap (λ (o : Option (List (List Event))). with_chunk (Some b) o) f.0, f.1 ∙ ap (λ (l : List (List ℕ)). length (frames l)) (append_assoc done (p ∷ []) rest))
 
 module _ (v : Image) (may : Image → Type 0) (b : Base) (next time : ℕ) (cache : Cache Kept) (right : IsRight v may b [] next time cache) where
   abbrev rest : List (List ℕ)
@@ -101,8 +103,15 @@ module _ (v : Image) (may : Image → Type 0) (b : Base) (next time : ℕ) (cach
   first_is : b.first ≡ length (frames (schema_payload b.shape ∷ []))
   first_is = omega (arith, right.schema.ends, length-frames (schema_payload b.shape) [])
 
+  -- the log has no growth
+  as_plain : (P : View → Type 0) → P (view_of b) → P (plain b.shape)
+  as_plain P p = subst P (plain_is b right.plain) p
+
+  as_seen : (P : View → Type 0) → P (plain b.shape) → P (view_of b)
+  as_seen P p = subst P (sym (plain_is b right.plain)) p
+
   all : (chunks_of b.shape.fields rest ≡ Some right.chunks) × (b.end ≡ length (frames (schema_payload b.shape ∷ rest)))
-  all = all_found b.shape.fields (v b.file) (schema_payload b.shape ∷ []) rest b.first right.chunks b.end has first_is right.chain (closed_payload b.end (v b.file) right.ends)
+  all = all_found b.shape (v b.file) (schema_payload b.shape ∷ []) rest b.first right.chunks b.end has first_is (as_plain (λ view. Chain view (v b.file) b.first right.chunks b.end) right.chain) (closed_payload b.end (v b.file) right.ends)
 
   -- a spot that the reservoir spells is spelled in the log
   pub spelled_there : (now : Option Image) (spot : Spot) → now ≡ Some v → Spells now b [] spot → SpotIn b.shape (v b.file) spot
@@ -111,7 +120,9 @@ module _ (v : Image) (may : Image → Type 0) (b : Base) (next time : ℕ) (cach
       by : ((spot.number ≤ b.committed) × InChunk b (spells.image b.file) spot.place spot.index spot.number) ⊎ InOpen b spot.place spot.index spot.number → SpotAt b.shape (schema_payload b.shape ∷ rest) spot
       by (inl near) =
           let i = subst (λ (u : Image). InChunk b (u b.file) spot.place spot.index spot.number) (one_image now spells.image v spells.told told) near.1 in
-          let f = found b.shape.fields (v b.file) (schema_payload b.shape ∷ []) rest b.first i.chunks spot.place i.chunk i.next has first_is i.chain i.here in
+          let here : chunk_at (plain b.shape) spot.place (v b.file) ≡ Some (i.chunk, i.next) = as_plain (λ view. chunk_at view spot.place (v b.file) ≡ Some (i.chunk, i.next)) i.here in
+          let chain : Chain (plain b.shape) (v b.file) b.first i.chunks spot.place = as_plain (λ view. Chain view (v b.file) b.first i.chunks spot.place) i.chain in
+          let f = found b.shape (v b.file) (schema_payload b.shape ∷ []) rest b.first i.chunks spot.place i.chunk i.next has first_is chain here in
           inl (record {
             earlier = f.earlier;
             payload = f.payload;
@@ -145,9 +156,12 @@ module _ (v : Image) (may : Image → Type 0) (b : Base) (next time : ℕ) (cach
       by (inl i) =
           let parts : HasPayloads (schema_payload b.shape ∷ (i.earlier ++ i.payload ∷ i.later)) (v b.file) = subst (λ (l : List (List ℕ)). HasPayloads l (v b.file)) i.is has in
           let place = sym i.place_is in
-          let chain : Chain b.shape.fields (v b.file) b.first i.before spot.place =
-          subst (λ (n : ℕ). Chain b.shape.fields (v b.file) b.first i.before n) place
-          (subst (λ (n : ℕ). Chain b.shape.fields (v b.file) n i.before (length (frames (schema_payload b.shape ∷ i.earlier)))) (sym first_is) (chain_of b.shape.fields (v b.file) (schema_payload b.shape ∷ []) i.earlier (i.payload ∷ i.later) i.before parts i.before_is)) in
+          let chain : Chain (plain b.shape) (v b.file) b.first i.before spot.place =
+          subst (λ (n : ℕ). Chain (plain b.shape) (v b.file) b.first i.before n) place
+          (subst (λ (n : ℕ). Chain (plain b.shape) (v b.file) n i.before (length (frames (schema_payload b.shape ∷ i.earlier)))) (sym first_is) (chain_of b.shape (v b.file) (schema_payload b.shape ∷ []) i.earlier (i.payload ∷ i.later) i.before parts i.before_is)) in
+          let here : chunk_at (plain b.shape) spot.place (v b.file) ≡ Some (i.chunk, spot.place + 9 + length i.payload) =
+          subst (λ (n : ℕ). chunk_at (plain b.shape) n (v b.file) ≡ Some (i.chunk, n + 9 + length i.payload)) place
+          (chunk_made b.shape (length (frames (schema_payload b.shape ∷ i.earlier))) (v b.file) i.payload i.chunk (length (frames (schema_payload b.shape ∷ i.earlier)) + 9 + length i.payload) (payload_between (schema_payload b.shape ∷ i.earlier) i.later i.payload (v b.file) parts) i.chunk_is refl) in
           record {
             image = v;
             told = told;
@@ -158,9 +172,8 @@ module _ (v : Image) (may : Image → Type 0) (b : Base) (next time : ℕ) (cach
                 chunks = i.before;
                 chunk = i.chunk;
                 next = spot.place + 9 + length i.payload;
-                chain = chain;
-                here = subst (λ (n : ℕ). chunk_at b.shape.fields n (v b.file) ≡ Some (i.chunk, n + 9 + length i.payload)) place (chunk_made b.shape.fields (length (frames (schema_payload b.shape ∷ i.earlier))) (v b.file) i.payload i.chunk (length (frames (schema_payload b.shape ∷ i.earlier)) + 9 + length i.payload)
-                    (payload_between (schema_payload b.shape ∷ i.earlier) i.later i.payload (v b.file) parts) i.chunk_is refl);
+                chain = as_seen (λ view. Chain view (v b.file) b.first i.before spot.place) chain;
+                here = as_seen (λ view. chunk_at view spot.place (v b.file) ≡ Some (i.chunk, spot.place + 9 + length i.payload)) here;
                 number_is = i.number_is;
                 most = i.most;
               },

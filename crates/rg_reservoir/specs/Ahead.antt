@@ -8,7 +8,7 @@ use Rattle.rg_event.specs.declared.event.Event.{Event}
 use Rattle.rg_past.specs.declared.past.Spot.{Spot}
 use Rattle.rg_cache.specs.Cache.{Cache, holds_place, places, least_recently_used, touches}
 use Rattle.rg_reservoir.specs.Chain.{chunk_at, IsIllegal}
-use Rattle.rg_reservoir.specs.Kept.{Base, base, cache_of, loads_of, look_places, held_after, IsCached, IsInside, IsSound, Stays, AllTouched}
+use Rattle.rg_reservoir.specs.Kept.{Base, base, view_of, cache_of, loads_of, look_places, held_after, IsCached, IsInside, IsSound, Stays, AllTouched}
 use Rattle.rg_reservoir.specs.declared.fault.ReservoirFault.{ReservoirFault}
 use Rattle.rg_reservoir.specs.declared.fault.ReservoirFault.TheVariants as fault
 use Rattle.rg_reservoir.specs.declared.kept.Kept.{Kept}
@@ -28,7 +28,7 @@ closed_behind end (Some chunk) = if nat_lt chunk.1 end then chunk.1 ∷ [] else 
 abbrev pub ahead_places : Base → List ℕ → Spot → List ℕ
 ahead_places b bytes spot =
     if nat_le b.committed spot.number then []
-    else look_places b bytes spot ++ closed_behind b.end (chunk_at b.shape.fields (event_place (chunk_at b.shape.fields spot.place bytes) spot.index spot.place) bytes)
+    else look_places b bytes spot ++ closed_behind b.end (chunk_at (view_of b) (event_place (chunk_at (view_of b) spot.place bytes) spot.index spot.place) bytes)
 
 -- those for these spots, in order
 abbrev pub all_ahead : Base → List ℕ → List Spot → List ℕ
@@ -68,7 +68,7 @@ pub record SomeTouched (wanted : List ℕ) (old new : Cache Kept) (loads loads_t
 -- From old to new chunks were loaded, and nothing else: what is in the cache stays right, and no file and no output changes.
 pub record OnlyLoads {H : Type 0} (now : H → Option Image) (may : H → Image → Type 0) (clock : H → ℕ) (since : H → ℕ → Moment → Type 0) (said : H → Option (List ℕ)) (disk_faults out_faults : H → ℕ) (old new : Reservoir) (host after : H) : Type 0 where
   pub stays : Stays old new
-  pub cached : (v : Image) → now host ≡ Some v → IsCached (base old).shape.fields (v (base old).file) (cache_of old) → IsCached (base old).shape.fields (v (base old).file) (cache_of new)
+  pub cached : (v : Image) → now host ≡ Some v → IsCached (view_of (base old)) (v (base old).file) (cache_of old) → IsCached (view_of (base old)) (v (base old).file) (cache_of new)
   pub inside : IsInside (base old).end (cache_of old) → IsInside (base old).end (cache_of new)
   pub leaves : LeavesAll now may clock since said host after
   pub disk_faults_rise : disk_faults host ≤ disk_faults after
@@ -76,12 +76,12 @@ pub record OnlyLoads {H : Type 0} (now : H → Option Image) (may : H → Image 
 
 -- Of the places that a log of these bytes asks for some were touched. Over a sound reservoir of whose image that holds all of them were, where the call was Ok, and nothing is damaged.
 pub record Touches {H : Type 0} (now : H → Option Image) (may : H → Image → Type 0) (reads : H → ℕ) (asked : List ℕ → List ℕ) (Holds : Image → Type 0) (result : Result Unit ReservoirFault) (old new : Reservoir) (host after : H) : Type 0 where
-  pub touched : (v : Image) → now host ≡ Some v → IsCached (base old).shape.fields (v (base old).file) (cache_of old) → SomeTouched (asked (v (base old).file)) (cache_of old) (cache_of new) (loads_of old) (loads_of new)
+  pub touched : (v : Image) → now host ≡ Some v → IsCached (view_of (base old)) (v (base old).file) (cache_of old) → SomeTouched (asked (v (base old).file)) (cache_of old) (cache_of new) (loads_of old) (loads_of new)
   pub loaded : (sound : IsSound (now host) (may host) old) → Holds sound.0 → OnOk result (AllTouched (asked (sound.0 (base old).file)) (cache_of old) (loads_of old) (reads host) (cache_of new) (loads_of new) (reads after))
   pub never_damaged : (sound : IsSound (now host) (may host) old) → Holds sound.0 → (p : ℕ) → IsErrOf result (fault.Damaged p) → ⊥
 
 -- what stops a load: a failed call on the file, a damaged place, or want of memory
-pub record IsLoadStop {H : Type 0} (now : H → Option Image) (disk_faults : H → ℕ) (result : Result Unit ReservoirFault) (old : Reservoir) (host after : H) : Type 0 where
+pub record IsLoadStop {H R : Type 0} (now : H → Option Image) (disk_faults : H → ℕ) (result : Result R ReservoirFault) (old : Reservoir) (host after : H) : Type 0 where
   pub damaged : (p : ℕ) → IsErrOf result (fault.Damaged p) → ForSome (now host) (λ v. IsIllegal (base old).shape.fields p (v (base old).file))
   pub disk : IsErrOf result fault.Disk → Rose (disk_faults host) (disk_faults after)
   pub faults : IfErr result (λ e. (e ≡ fault.Disk) ⊎ (e ≡ fault.Memory) ⊎ ((p : ℕ) × (e ≡ fault.Damaged p)))

@@ -17,12 +17,15 @@ use Rattle.rg_cache.specs.Cache.{Cache, item_at, holds_place, places, least_rece
 use Rattle.rg_chunk.specs.Chunks.{chunk_bytes}
 use Rattle.rg_log.specs.Log.{joined, HasEvents, HasSchemaFrame}
 use Rattle.rg_reservoir.specs.Chain.{chunk_at, Chain, events_from, padded, IsFirst, IsIllegal}
+use Rattle.rg_reservoir.specs.Views.{View, seen_from}
 use Rattle.rg_reservoir.specs.declared.kept.Kept.{Kept}
 use Rattle.rg_reservoir.specs.declared.reservoir.Reservoir.{Reservoir}
+use Rattle.rg_reservoir.specs.declared.growing.Growing.{Growing}
 
--- what only a commit changes: the schema, the log's file, the place behind its first frame and its end, whether it has ended, and how many events are in it and may be
+-- what only a commit changes: the schema, the growths of the log, its file, the place behind its first frame and its end, whether it has ended, and how many events are in it and may be
 pub record Base : Type 0 where
   pub shape : Shape
+  pub growths : List Growing
   pub file : ℕ
   pub first : ℕ
   pub end : ℕ
@@ -31,7 +34,11 @@ pub record Base : Type 0 where
   pub limit : ℕ
 
 abbrev pub base : Reservoir → Base
-base r = record { shape = r.schema; file = r.log.file; first = r.first; end = r.log.end; ended = r.ended; committed = r.committed; limit = r.limit }
+base r = record { shape = r.schema; growths = r.growths; file = r.log.file; first = r.first; end = r.log.end; ended = r.ended; committed = r.committed; limit = r.limit }
+
+-- the log as its end sees it
+abbrev pub view_of : Base → View
+view_of b = seen_from b.shape b.growths
 
 -- the events of the open chunk, and for how many it has room
 abbrev pub opened : Reservoir → List Event
@@ -60,7 +67,7 @@ time_of r = r.last_time
 
 -- the events of the log, as the host tells it: just as many as were committed
 abbrev pub stored : Option Image → Base → List Event
-stored (Some v) b = padded b.committed (events_from b.shape.fields b.committed b.first (v b.file))
+stored (Some v) b = padded b.committed (events_from (view_of b) b.committed b.first (v b.file))
 stored None b = padded b.committed []
 
 -- and then those of the open chunk
@@ -68,27 +75,28 @@ abbrev pub all_events : Option Image → Base → List Event → List Event
 all_events now b opened = stored now b ++ opened
 
 -- each chunk in the cache is that of its place
-abbrev pub IsCached : List Field → List ℕ → Cache Kept → Type 0
-IsCached fields bytes cache = (place : ℕ) (kept : Kept) → item_at place cache ≡ Some kept → chunk_at fields place bytes ≡ Some (kept.chunk, kept.next)
+abbrev pub IsCached : View → List ℕ → Cache Kept → Type 0
+IsCached view bytes cache = (place : ℕ) (kept : Kept) → item_at place cache ≡ Some kept → chunk_at view place bytes ≡ Some (kept.chunk, kept.next)
 
 -- no chunk in the cache goes past that place, so what is written there changes none
 abbrev pub IsInside : ℕ → Cache Kept → Type 0
 IsInside end cache = (place : ℕ) (kept : Kept) → item_at place cache ≡ Some kept → kept.next ≤ end
 
 -- no chunk stands at that place, or it goes past the end
-abbrev pub IsAbsent : List Field → ℕ → ℕ → List ℕ → Type 0
-IsAbsent fields place end bytes = (chunk : List Event) (next : ℕ) → chunk_at fields place bytes ≡ Some (chunk, next) → end < next
+abbrev pub IsAbsent : View → ℕ → ℕ → List ℕ → Type 0
+IsAbsent view place end bytes = (chunk : List Event) (next : ℕ) → chunk_at view place bytes ≡ Some (chunk, next) → end < next
 
 -- events that begin others
 abbrev pub IsPrefix : List Event → List Event → Type 0
 IsPrefix front events = (more : List Event) × (events ≡ front ++ more)
 
--- what is kept of the log is that log's, and what is kept of all events is theirs
+-- what is kept of the log is that log's, which has no growth, and what is kept of all events is theirs
 pub record IsRight (v : Image) (may : Image → Type 0) (b : Base) (opened : List Event) (next time : ℕ) (cache : Cache Kept) : Type 0 where
   pub settled : (u : Image) → may u → u b.file ≡ v b.file
+  pub plain : b.growths ≡ []
   pub schema : IsFirst b.shape b.first (v b.file)
   pub chunks : List (List Event)
-  pub chain : Chain b.shape.fields (v b.file) b.first chunks b.end
+  pub chain : Chain (view_of b) (v b.file) b.first chunks b.end
   pub ends : IsClosed b.end (v b.file)
   pub payloads : List (List ℕ)
   pub has : HasPayloads payloads (v b.file)
@@ -96,7 +104,7 @@ pub record IsRight (v : Image) (may : Image → Type 0) (b : Base) (opened : Lis
   pub legal : HasEvents b.shape (joined chunks) (v b.file)
   pub framed : HasSchemaFrame b.shape (v b.file)
   pub counted : length (joined chunks) ≡ b.committed
-  pub cached : IsCached b.shape.fields (v b.file) cache
+  pub cached : IsCached (view_of b) (v b.file) cache
   pub inside : IsInside b.end cache
   pub rising : IsRising (all_events (Some v) b opened)
   pub next_is : next ≡ next_offset (all_events (Some v) b opened)
@@ -118,8 +126,8 @@ pub record InChunk (b : Base) (bytes : List ℕ) (place index number : ℕ) : Ty
   pub chunks : List (List Event)
   pub chunk : List Event
   pub next : ℕ
-  pub chain : Chain b.shape.fields bytes b.first chunks place
-  pub here : chunk_at b.shape.fields place bytes ≡ Some (chunk, next)
+  pub chain : Chain (view_of b) bytes b.first chunks place
+  pub here : chunk_at (view_of b) place bytes ≡ Some (chunk, next)
   pub number_is : number ≡ length (joined chunks) + index
   pub most : index ≤ length chunk
 
@@ -186,12 +194,12 @@ next_place None index = []
 
 -- the places that a look at a spot touches
 abbrev pub look_places : Base → List ℕ → Spot → List ℕ
-look_places b bytes spot = if nat_le b.committed spot.number then [] else spot.place ∷ next_place (chunk_at b.shape.fields spot.place bytes) spot.index
+look_places b bytes spot = if nat_le b.committed spot.number then [] else spot.place ∷ next_place (chunk_at (view_of b) spot.place bytes) spot.index
 
 -- no illegal chunk stands at the spot's place, nor, where the spot is behind the last event of a chunk that lies within the log, at the next place
 pub record IsLegalLook (b : Base) (bytes : List ℕ) (spot : Spot) : Type 0 where
   pub here : IsIllegal b.shape.fields spot.place bytes → ⊥
-  pub behind : (chunk : List Event) (next : ℕ) → chunk_at b.shape.fields spot.place bytes ≡ Some (chunk, next) → next ≤ b.end → spot.index ≡ length chunk → IsIllegal b.shape.fields next bytes → ⊥
+  pub behind : (chunk : List Event) (next : ℕ) → chunk_at (view_of b) spot.place bytes ≡ Some (chunk, next) → next ≤ b.end → spot.index ≡ length chunk → IsIllegal b.shape.fields next bytes → ⊥
 
 -- the places that are held after these touches
 abbrev pub held_after : Cache Kept → List ℕ → List ℕ
@@ -237,7 +245,7 @@ pub record IsTouched (wanted : List ℕ) (old : Cache Kept) (loads reads : ℕ) 
 -- a look at a spot: all stays but the cache and the loads, and the first of its touches succeeded; over a sound log and a spelled spot all of them, where the look was answered
 pub record Looked (now : Option Image) (old : Reservoir) (spot : Spot) (reads reads_then : ℕ) (Answered : Type 0) (new : Reservoir) : Type 0 where
   pub stays : Stays old new
-  pub cached : (v : Image) → now ≡ Some v → IsCached (base old).shape.fields (v (base old).file) (cache_of old) → IsCached (base old).shape.fields (v (base old).file) (cache_of new)
+  pub cached : (v : Image) → now ≡ Some v → IsCached (view_of (base old)) (v (base old).file) (cache_of old) → IsCached (view_of (base old)) (v (base old).file) (cache_of new)
   pub inside : IsInside (base old).end (cache_of old) → IsInside (base old).end (cache_of new)
-  pub touched : (v : Image) → now ≡ Some v → IsCached (base old).shape.fields (v (base old).file) (cache_of old) → IsTouched (look_places (base old) (v (base old).file) spot) (cache_of old) (loads_of old) reads (cache_of new) (loads_of new) reads_then
+  pub touched : (v : Image) → now ≡ Some v → IsCached (view_of (base old)) (v (base old).file) (cache_of old) → IsTouched (look_places (base old) (v (base old).file) spot) (cache_of old) (loads_of old) reads (cache_of new) (loads_of new) reads_then
   pub loaded : Answered → (v : Image) → now ≡ Some v → AllTouched (look_places (base old) (v (base old).file) spot) (cache_of old) (loads_of old) reads (cache_of new) (loads_of new) reads_then

@@ -1,10 +1,14 @@
 -- How far a look at the heads of a log has come that asks which spots they name.
-use Rattle.std.specs.Prelude.{◌≡◌, ◌+◌, ℕ, List, ◌++◌, length, count_by, Some, None, ◌≤◌}
+use Rattle.std.specs.Prelude.{◌≡◌, ◌⊎◌, ◌+◌, ℕ, List, ◌++◌, length, count_by, Option, Some, None, ◌≤◌, Result, IfOk, OnOk, IfErr, IsErrOf}
+use Rattle.std.specs.Option.{ForSome}
+use Rattle.rg_host.specs.Image.{Image}
 use Rattle.rg_past.specs.declared.past.Spot.{Spot}
 use Rattle.rg_frame.specs.Frames.{frames, payload_at, Begins, HasPayloads}
 use Rattle.rg_chunk.specs.Heads.{head_of}
 use Rattle.rg_log.specs.Spots.{named_from, named_by_heads, NamedByHeads}
 use Rattle.rg_reservoir.specs.Heads.{IsOpenGate}
+use Rattle.rg_reservoir.specs.declared.fault.ReservoirFault.{ReservoirFault}
+use Rattle.rg_reservoir.specs.declared.fault.ReservoirFault.TheVariants as fault
 
 -- a frame begins at that place, and stands behind these ones of the frame list
 pub record Reached (payloads : List (List ℕ)) (place : ℕ) : Type 0 where
@@ -37,3 +41,14 @@ pub record IsHeadless (place : ℕ) (bytes : List ℕ) : Type 0 where
 -- the spot is named by the heads, and its number is at most that one
 abbrev pub IsNamed : List (List ℕ) → ℕ → Spot → Type 0
 IsNamed payloads committed spot = NamedByHeads payloads spot × (spot.number ≤ committed)
+
+-- so many of the spots name nothing by the heads of that file, which has a frame list
+pub record HasCounted (spots : List Spot) (now : Option Image) (file : ℕ) (result : Result ℕ ReservoirFault) : Type 0 where
+  pub counted : IfOk result (λ left. ForSome now (λ v. (payloads : List (List ℕ)) → HasPayloads payloads (v file) → left + count_by (named_by_heads payloads) spots ≡ length spots))
+  pub lists : OnOk result (ForSome now (λ v. (payloads : List (List ℕ)) × HasPayloads payloads (v file)))
+
+-- why the spots weren't counted: an open gate has no head of a chunk behind it, or a call on the file failed
+pub record IsCountStop (now : Option Image) (file : ℕ) (rose : Type 0) (result : Result ℕ ReservoirFault) : Type 0 where
+  pub damaged : (p : ℕ) → IsErrOf result (fault.Damaged p) → ForSome now (λ v. IsHeadless p (v file))
+  pub disk : IsErrOf result fault.Disk → rose
+  pub faults : IfErr result (λ e. (e ≡ fault.Disk) ⊎ ((p : ℕ) × (e ≡ fault.Damaged p)))

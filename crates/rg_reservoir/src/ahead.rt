@@ -6,7 +6,7 @@ ghost use Rattle.rg_host.specs.Moments.{LeavesAll};
 ghost use Rattle.rg_cache.specs.Cache.{item_at};
 ghost use Rattle.rg_reservoir.specs.Ahead.{closed_behind, ahead_places, all_ahead, SomeTouched, OnlyLoads, Touches, IsLoadStop};
 ghost use Rattle.rg_reservoir.specs.Chain.{chunk_at, IsIllegal};
-ghost use Rattle.rg_reservoir.specs.Kept.{base, opened, cache_of, loads_of, IsCached, IsInside, IsSound, Spells, InChunk, Stays, AllTouched};
+ghost use Rattle.rg_reservoir.specs.Kept.{base, view_of, opened, cache_of, loads_of, IsCached, IsInside, IsSound, Spells, InChunk, Stays, AllTouched};
 ghost use Rattle.rg_reservoir.specs.declared.kept.Kept.{Kept};
 
 use crate::fault::ReservoirFault;
@@ -23,11 +23,11 @@ impl Reservoir {
         ensures stays { Stays self.old self.new }
 
         // Over any image that is told, some of the touches and no other; over a sound reservoir and spelled spots all of them.
-        ensures touched { (v : Image) → H.now host.old ≡ Some v → IsCached (base self.old).shape.fields (v (base self.old).file) (cache_of self.old) →
+        ensures touched { (v : Image) → H.now host.old ≡ Some v → IsCached (view_of (base self.old)) (v (base self.old).file) (cache_of self.old) →
             SomeTouched (all_ahead (base self.old) (v (base self.old).file) spots.now) (cache_of self.old) (cache_of self.new) (loads_of self.old) (loads_of self.new) }
         ensures loaded { (sound : IsSound (H.now host.old) (H.may host.old) self.old) → All (Spells (H.now host.old) (base self.old) (opened self.old)) spots.now →
             OnOk result (AllTouched (all_ahead (base self.old) (sound.0 (base self.old).file) spots.now) (cache_of self.old) (loads_of self.old) (H.reads host.old) (cache_of self.new) (loads_of self.new) (H.reads host.new)) }
-        ensures cached { (v : Image) → H.now host.old ≡ Some v → IsCached (base self.old).shape.fields (v (base self.old).file) (cache_of self.old) → IsCached (base self.old).shape.fields (v (base self.old).file) (cache_of self.new) }
+        ensures cached { (v : Image) → H.now host.old ≡ Some v → IsCached (view_of (base self.old)) (v (base self.old).file) (cache_of self.old) → IsCached (view_of (base self.old)) (v (base self.old).file) (cache_of self.new) }
         ensures inside { IsInside (base self.old).end (cache_of self.old) → IsInside (base self.old).end (cache_of self.new) }
         ensures sound { IsSound (H.now host.old) (H.may host.old) self.old → IsSound (H.now host.new) (H.may host.new) self.new }
         ensures never_damaged { (p : ℕ) → IsSound (H.now host.old) (H.may host.old) self.old → All (Spells (H.now host.old) (base self.old) (opened self.old)) spots.now → IsErrOf result (ReservoirFault.Damaged p) → ⊥ }
@@ -98,7 +98,7 @@ impl Reservoir {
         requires going { (base self.old).ended ≡ false }
         requires held { (kept : Kept) × (item_at place (cache_of self.old) ≡ Some kept) }
         ensures only { OnlyLoads H.now H.may H.clock H.since H.said H.disk_faults H.out_faults self.old self.new host.old host.new }
-        ensures touches { Touches H.now H.may H.reads (λ bytes. closed_behind (base self.old).end (chunk_at (base self.old).shape.fields place bytes)) (λ v. (index : ℕ) × (number : ℕ) × InChunk (base self.old) (v (base self.old).file) place index number) result self.old self.new host.old host.new }
+        ensures touches { Touches H.now H.may H.reads (λ bytes. closed_behind (base self.old).end (chunk_at (view_of (base self.old)) place bytes)) (λ v. (index : ℕ) × (number : ℕ) × InChunk (base self.old) (v (base self.old).file) place index number) result self.old self.new host.old host.new }
         ensures stops { IsLoadStop H.now H.disk_faults result self.old host.old host.new }
     {
         let next = match self.closed_next(place) {

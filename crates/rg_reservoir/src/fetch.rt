@@ -1,40 +1,70 @@
-ghost use Rattle.std.specs.Prelude.{◌≡◌, ◌⊎◌, ◌≤◌, ◌<◌, ◌+◌, ◌^◌, ℕ, List, Some, None, IfOk, IfErr, IfSome, IfNone, IsErrOf, length};
-ghost use Rattle.std.specs.Option.{ForSome};
+ghost use Rattle.std.specs.Prelude.{◌<◌, Some, None, option_map};
 ghost use Rattle.rg_bytes.specs.Counts.{Rose};
-ghost use Rattle.rg_host.specs.Image.{Image};
-ghost use Rattle.rg_host.specs.Moments.{LeavesAll};
-ghost use Rattle.rg_event.specs.declared.event.Event.{Event};
-ghost use Rattle.rg_frame.specs.Looks.{IsClosed};
-ghost use Rattle.rg_reservoir.specs.Chain.{chunk_at, IsIllegal};
+ghost use Rattle.rg_chunk.specs.Chunks.{Agrees, chunk_of};
+ghost use Rattle.rg_reservoir.specs.Views.{grown_at, seen_from, shape_at};
+ghost use Rattle.rg_reservoir.specs.Fetched.{HasFetched, IsFetchStop};
+ghost use Rattle.rg_reservoir.specs.Reading.{LeavesLog};
 
 use crate::fault::ReservoirFault;
 use crate::kept::Kept;
+use crate::view::Growths;
 use rg_chunk::{Chunk, ChunkFault};
 use rg_event::Schema;
 use rg_frame::FrameLog;
 use rg_host::Host;
 use std::alloc::Global;
 
+/// The chunk that a payload at a place says, by the schema in force there.
+#[tactic(auto, using(crate::proofs::Viewing::by_earlier, crate::proofs::Viewing::by_last))]
+fn decode(
+    alloc: Global,
+    schema: &Schema,
+    growths: &Growths,
+    place: u64,
+    payload: &[u8],
+) -> Result<Chunk, ChunkFault>
+    ensures { Agrees (chunk_of (shape_at (seen_from schema.now growths.now) place).fields payload.now) result }
+{
+    match growths.before(place) {
+        Some(from) => Chunk::decode(alloc, from, payload),
+        None => Chunk::decode(alloc, schema, payload),
+    }
+}
+
+/// The same, with the values of the growths behind it.
+#[tactic(auto, using(crate::proofs::Viewing::grown_said, crate::proofs::Viewing::grown_refused))]
+fn decode_grown(
+    alloc: Global,
+    schema: &Schema,
+    growths: &Growths,
+    place: u64,
+    payload: &[u8],
+) -> Result<Chunk, ChunkFault>
+    ensures { Agrees (option_map (grown_at growths.now place) (chunk_of (shape_at (seen_from schema.now growths.now) place).fields payload.now)) result }
+{
+    let mut chunk = match decode(alloc, schema, growths, place, payload) {
+        Ok(chunk) => chunk,
+        Err(fault) => return Err(fault),
+    };
+    match growths.extend(place, &mut chunk) {
+        Ok(()) => Ok(chunk),
+        Err(_) => Err(ChunkFault::Memory),
+    }
+}
+
 /// Reads the chunk at a place. Where one stands there, the place isn't refused as damaged; and there is none
 /// only where no open gate stands there: an open frame that isn't a chunk is refused.
 pub fn fetch<H: Host>(
     alloc: Global,
     schema: &Schema,
+    growths: &Growths,
     log: &FrameLog,
     host: &mut H,
     place: u64,
 ) -> Result<Option<Kept>, ReservoirFault>
-    ensures some { IfOk result (λ r. IfSome r (λ kept. ForSome (H.now host.old) (λ v. chunk_at schema.now.fields place (v log.now.file) ≡ Some (kept.chunk, kept.next)))) }
-    ensures none { IfOk result (λ r. IfNone r (ForSome (H.now host.old) (λ v. IsClosed place (v log.now.file)))) }
-    ensures damaged { (p : ℕ) → IsErrOf result (ReservoirFault.Damaged p) → ForSome (H.now host.old) (λ v. IsIllegal schema.now.fields p (v log.now.file)) }
-    ensures never_damaged { (v : Image) (chunk : List Event) (next p : ℕ) → H.now host.old ≡ Some v → chunk_at schema.now.fields place (v log.now.file) ≡ Some (chunk, next) → IsErrOf result (ReservoirFault.Damaged p) → ⊥ }
-    ensures leaves { LeavesAll H.now H.may H.clock H.since H.said host.old host.new }
-    ensures disk { IsErrOf result ReservoirFault.Disk → Rose (H.disk_faults host.old) (H.disk_faults host.new) }
-    ensures disk_faults { H.disk_faults host.old ≤ H.disk_faults host.new }
-    ensures out_faults { H.out_faults host.new ≡ H.out_faults host.old }
-    ensures reads { H.reads host.old ≤ H.reads host.new }
-    ensures rose { IfOk result (λ r. IfSome r (λ _. Rose (H.reads host.old) (H.reads host.new))) }
-    ensures faults { IfErr result (λ fault. (fault ≡ ReservoirFault.Disk) ⊎ (fault ≡ ReservoirFault.Memory) ⊎ ((p : ℕ) × (fault ≡ ReservoirFault.Damaged p))) }
+    ensures fetched { HasFetched H.now H.reads (seen_from schema.now growths.now) place log.now.file result host.old host.new }
+    ensures stops { IsFetchStop (H.now host.old) (seen_from schema.now growths.now) log.now.file (Rose (H.disk_faults host.old) (H.disk_faults host.new)) result }
+    ensures leaves { LeavesLog H.now H.may H.clock H.since H.said H.disk_faults H.out_faults host.old host.new }
 {
     let mut payload = Vec::new(alloc);
     let next = match log.read(host, place, &mut payload) {
@@ -42,8 +72,11 @@ pub fn fetch<H: Host>(
         Ok(None) => return Ok(None),
         Err(fault) => return Err(ReservoirFault::from(fault)),
     };
-    match Chunk::decode(alloc, schema, &payload) {
-        Ok(chunk) => Ok(Some(Kept { chunk, next })),
+    match decode_grown(alloc, schema, growths, place, &payload) {
+        Ok(chunk) => Ok(Some(Kept {
+            chunk,
+            next: growths.passed(next),
+        })),
         Err(ChunkFault::BadChunk) => Err(ReservoirFault::Damaged(place)),
         Err(ChunkFault::Memory) => Err(ReservoirFault::Memory),
     }

@@ -1,14 +1,15 @@
-ghost use Rattle.std.specs.Prelude.{◌≡◌, ◌≢◌, ◌⊎◌, ◌≤◌, ◌<◌, ◌+◌, ◌^◌, [], ◌∷◌, ℕ, List, Some, None, Ok, Err, true, false, IfOk, IfErr, IfSome, IfNone, OnOk, OnErr, IsErrOf, IsTrue, length};
+ghost use Rattle.std.specs.Prelude.{◌≡◌, ◌≢◌, ◌≤◌, ◌<◌, ◌^◌, [], ℕ, Some, None, Ok, Err, true, false, IfOk, IfSome, IfNone, OnOk, IsErrOf, IsTrue};
 ghost use Rattle.std.specs.Option.{ForSome};
 ghost use Rattle.rg_bytes.specs.Counts.{Rose};
 ghost use Rattle.rg_host.specs.Image.{Image, Becomes};
-ghost use Rattle.rg_frame.specs.Frames.{payload_at, Begins, IsLog};
+ghost use Rattle.rg_frame.specs.Frames.{IsLog};
 ghost use Rattle.rg_host.specs.Moments.{LeavesAll};
 ghost use Rattle.rg_host.specs.Image.{NothingPending};
 ghost use Rattle.rg_frame.specs.Calls.{Writes};
 ghost use Rattle.rg_frame.specs.LogState.{ReachesEnd};
 ghost use Rattle.rg_log.specs.Entries.{unread, nothing};
-ghost use Rattle.rg_reservoir.specs.Attached.{IsNoSchema, IsOther, IsBadFrame, SchemaAdded, Opens, IsOpened};
+ghost use Rattle.rg_reservoir.specs.Attached.{IsOther, IsBadFrame, SchemaAdded, Opens, IsOpened};
+ghost use Rattle.rg_reservoir.specs.Reading.{LeavesLog, FirstRead, IsFirstStop};
 
 use crate::fault::ReservoirFault;
 use crate::heads::read_heads;
@@ -36,17 +37,9 @@ fn first_frame<H: Host>(
     requires start { log.old.end ≡ 0 }
     requires unread { so_far.old ≡ unread }
     ensures nothing { so_far.new.summary ≡ nothing }
-    ensures found { IfOk result (λ found. IsTrue found → ForSome (H.now host.old) (λ v. (payload_at 0 (v log.old.file) ≡ Some ours.now) × (log.new.end ≡ 9 + length ours.now) × ((payloads : List (List ℕ)) × Begins payloads log.new.end (v log.old.file)))) }
-    ensures none { IfOk result (λ found. found ≡ false → (log.new ≡ record log.old { ready = true }) × ForSome (H.now host.old) (λ v. IsLog [] 0 (v log.old.file))) }
-    ensures differs { IsErrOf result ReservoirFault.SchemaDiffers → ForSome (H.now host.old) (λ v. IsOther ours.now (v log.old.file)) }
-    ensures damaged { (p : ℕ) → IsErrOf result (ReservoirFault.Damaged p) → (p ≡ 0) × ForSome (H.now host.old) (λ v. IsNoSchema (v log.old.file)) }
-    ensures same { (log.new.file ≡ log.old.file) × (log.new.ended ≡ log.old.ended) }
-    ensures reaches { ReachesEnd log.old (H.now host.old) → ReachesEnd log.new (H.now host.new) }
-    ensures leaves { LeavesAll H.now H.may H.clock H.since H.said host.old host.new }
-    ensures neither { (IsErrOf result ReservoirFault.Full → ⊥) × (IsErrOf result ReservoirFault.Ended → ⊥) }
-    ensures disk { IsErrOf result ReservoirFault.Disk → Rose (H.disk_faults host.old) (H.disk_faults host.new) }
-    ensures disk_faults { H.disk_faults host.old ≤ H.disk_faults host.new }
-    ensures out_faults { H.out_faults host.new ≡ H.out_faults host.old }
+    ensures first { FirstRead ours.now (H.now host.old) (H.now host.new) result log.old log.new }
+    ensures stops { IsFirstStop ours.now (H.now host.old) log.old.file (Rose (H.disk_faults host.old) (H.disk_faults host.new)) result }
+    ensures leaves { LeavesLog H.now H.may H.clock H.since H.said H.disk_faults H.out_faults host.old host.new }
 {
     let mut front = [0u8; 0];
     match log.step(host, &mut front) {

@@ -11,12 +11,14 @@ mod ahead;
 mod fault;
 mod fetch;
 mod first;
+mod growing;
 mod heads;
 mod kept;
 mod law;
 mod names;
 mod reservoir;
 mod stored;
+mod view;
 mod walk;
 
 pub use fault::ReservoirFault;

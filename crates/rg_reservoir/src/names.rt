@@ -1,11 +1,12 @@
-ghost use Rattle.std.specs.Prelude.{◌≡◌, ◌⊎◌, ◌≤◌, ◌+◌, ◌*◌, ◌^◌, ℕ, List, IfOk, IfErr, OnOk, IsErrOf, length, count_by, option_map};
+ghost use Rattle.std.specs.Prelude.{◌≡◌, ◌⊎◌, ◌≤◌, ◌+◌, ◌^◌, ℕ, List, IfOk, IfErr, OnOk, IsErrOf, length, count_by, option_map};
 ghost use Rattle.std.specs.Option.{ForSome};
 ghost use Rattle.rg_bytes.specs.Counts.{Rose};
 ghost use Rattle.rg_host.specs.Moments.{LeavesAll};
 ghost use Rattle.rg_frame.specs.Frames.{HasPayloads};
 ghost use Rattle.rg_log.specs.Entries.{count_of};
 ghost use Rattle.rg_log.specs.Spots.{is_in_chunk, is_at_end, named_by_heads};
-ghost use Rattle.rg_reservoir.specs.Naming.{Left, IsHeadless};
+ghost use Rattle.rg_reservoir.specs.Naming.{Left, IsHeadless, HasCounted, IsCountStop};
+ghost use Rattle.rg_reservoir.specs.Reading.{LeavesLog};
 
 use crate::fault::ReservoirFault;
 use crate::heads::{FoundEntry, next_entry};
@@ -58,15 +59,9 @@ fn count_behind<H: Host>(
 ) -> Result<usize, ReservoirFault>
     requires small { log.old.end ≤ 2 ^ 62 }
     requires begun { ForSome (H.now host.old) (λ v. Left spots.now log.old.end 0 (length spots.now) (v log.old.file)) }
-    ensures counted { IfOk result (λ left. ForSome (H.now host.old) (λ v. (payloads : List (List ℕ)) → HasPayloads payloads (v log.old.file)
-        → left + count_by (named_by_heads payloads) spots.now ≡ length spots.now)) }
-    ensures lists { OnOk result (ForSome (H.now host.old) (λ v. (payloads : List (List ℕ)) × HasPayloads payloads (v log.old.file))) }
-    ensures damaged { (p : ℕ) → IsErrOf result (ReservoirFault.Damaged p) → ForSome (H.now host.old) (λ v. IsHeadless p (v log.old.file)) }
-    ensures faults { IfErr result (λ fault. (fault ≡ ReservoirFault.Disk) ⊎ ((p : ℕ) × (fault ≡ ReservoirFault.Damaged p))) }
-    ensures leaves { LeavesAll H.now H.may H.clock H.since H.said host.old host.new }
-    ensures disk { IsErrOf result ReservoirFault.Disk → Rose (H.disk_faults host.old) (H.disk_faults host.new) }
-    ensures disk_faults { H.disk_faults host.old ≤ H.disk_faults host.new }
-    ensures out_faults { H.out_faults host.new ≡ H.out_faults host.old }
+    ensures counts { HasCounted spots.now (H.now host.old) log.old.file result }
+    ensures stops { IsCountStop (H.now host.old) log.old.file (Rose (H.disk_faults host.old) (H.disk_faults host.new)) result }
+    ensures leaves { LeavesLog H.now H.may H.clock H.since H.said H.disk_faults H.out_faults host.old host.new }
 {
     let mut left = spots.len();
     let mut before: u128 = 0;

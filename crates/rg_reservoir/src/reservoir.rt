@@ -1,27 +1,28 @@
-ghost use Rattle.std.specs.Prelude.{◌≡◌, ◌⊎◌, ◌↔◌, ◌≤◌, ◌<◌, ◌+◌, ◌-◌, ◌^◌, ◌++◌, [], ◌∷◌, ℕ, List, Ok, Err, Some, None, true, false, min, IfOk, IfErr, IfSome, IfNone, OnOk, OnErr, IsErrOf, IsTrue, length, slice_get, option_copied, All};
+ghost use Rattle.std.specs.Prelude.{◌≡◌, ◌⊎◌, ◌↔◌, ◌≤◌, ◌<◌, ◌+◌, ◌-◌, ◌^◌, ◌++◌, [], ◌∷◌, ℕ, List, Ok, Err, Some, None, true, false, IfOk, IfErr, IfSome, IfNone, OnOk, OnErr, IsErrOf, IsTrue, length, slice_get, option_copied, All};
 ghost use Rattle.std.specs.Option.{ForSome};
 ghost use Rattle.std.specs.Borrow.{sem};
 ghost use Rattle.rg_bytes.specs.Counts.{Rose};
 ghost use Rattle.rg_host.specs.Image.{Image, Becomes, InFile, NothingPending};
 ghost use Rattle.rg_host.specs.Moments.{Moments, LeavesAll};
 ghost use Rattle.rg_event.specs.declared.event.Event.{Event as TheEvent};
-ghost use Rattle.rg_event.specs.Shapes.{IsSchema};
 ghost use Rattle.rg_past.specs.declared.past.Spot.{Spot};
 ghost use Rattle.rg_frame.specs.Calls.{Writes};
-ghost use Rattle.rg_frame.specs.Frames.{EndsAt, HasPayloads};
+ghost use Rattle.rg_frame.specs.Frames.{HasPayloads};
 ghost use Rattle.rg_frame.specs.LogState.{ReachesEnd};
 ghost use Rattle.rg_frame.specs.Steps.{From};
-ghost use Rattle.rg_cache.specs.Cache.{cache as the_cache, item_at, holds_place, places, least_recently_used, touches};
+ghost use Rattle.rg_cache.specs.Cache.{item_at, holds_place, places};
 ghost use Rattle.rg_log.specs.Log.{schema_payload, HasEvents};
 ghost use Rattle.rg_reservoir.specs.Attached.{IsOther, IsBadFrame, SchemaAdded, Opens, IsOpened};
-ghost use Rattle.rg_reservoir.specs.Chain.{chunk_at, IsIllegal};
+ghost use Rattle.rg_reservoir.specs.Chain.{IsIllegal};
 ghost use Rattle.rg_reservoir.specs.Naming.{IsNamed};
+ghost use Rattle.rg_reservoir.specs.Taken.{AreTaken};
 
 use crate::fault::ReservoirFault;
 use crate::fetch::fetch;
 use crate::first::{open_log, read_log};
 use crate::kept::Kept;
 use crate::names::count_unnamed;
+use crate::view::Growths;
 use rg_bytes::Memory;
 use rg_cache::ChunkCache;
 use rg_chunk::OpenChunk;
@@ -37,6 +38,7 @@ use std::alloc::Global;
 pub struct Reservoir {
     alloc: Global,
     schema: Schema,
+    growths: Growths,
     log: FrameLog,
     first: u64,
     pub(crate) ended: bool,
@@ -47,6 +49,7 @@ pub struct Reservoir {
     last_time: u64,
     loads: u64,
     limit: u64,
+    ghost plain: { growths ≡ [] },
     ghost small: { limit ≤ 2 ^ 40 },
     ghost few: { committed + length open.events ≤ 2 ^ 40 },
     ghost file: { log.file ≡ 2 },
@@ -58,6 +61,7 @@ pub struct Reservoir {
 #[derive(Drop)]
 struct Rooms {
     schema: Schema,
+    growths: Growths,
     ours: Vec<u8>,
     cache: ChunkCache<Kept>,
     open: OpenChunk,
@@ -67,11 +71,7 @@ struct Rooms {
 fn take_rooms(alloc: Global, schema: &Schema, room: Room) -> Result<Rooms, Memory>
     requires chunk { (1 ≤ room.chunk) × (room.chunk ≤ 4096) }
     requires cache { (1 ≤ room.cache) × (room.cache ≤ 1024) }
-    ensures schema { IfOk result (λ r. r.schema ≡ schema.now) }
-    ensures legal { IfOk result (λ r. IsSchema schema.now) }
-    ensures ours { IfOk result (λ r. r.ours.items ≡ schema_payload schema.now) }
-    ensures cache { IfOk result (λ r. r.cache ≡ the_cache [] room.cache) }
-    ensures opened { IfOk result (λ r. (r.open.events ≡ []) × (r.open.cap ≡ room.chunk)) }
+    ensures taken { IfOk result (AreTaken schema.now room.chunk room.cache) }
 {
     let schema = schema.copy(alloc)?;
     let mut ours = Vec::new(alloc);
@@ -84,6 +84,7 @@ fn take_rooms(alloc: Global, schema: &Schema, room: Room) -> Result<Rooms, Memor
     let open = OpenChunk::new(alloc, room.chunk)?;
     Ok(Rooms {
         schema,
+        growths: Growths::new(alloc),
         ours,
         cache,
         open,
@@ -98,9 +99,10 @@ fn are_within(spots: &[Spot], committed: u64) -> bool
 }
 
 impl Reservoir {
-    ghost use Rattle.rg_reservoir.specs.Ahead.{closed_next};
+    ghost use Rattle.rg_reservoir.specs.Ahead.{closed_next, OnlyLoads, IsLoadStop};
+    ghost use Rattle.rg_reservoir.specs.Touched.{HasTouched, HasSought, SeekLoads, SeekHeld, IsSeekStop};
     ghost use Rattle.rg_reservoir.specs.Ends.{ends_looked};
-    ghost use Rattle.rg_reservoir.specs.Kept.{base, opened, room_of, log_of, cache_of, loads_of, next_of as the_next_of, time_of, all_events, CommittedOrAll, IsCached, IsSound, Spells, SpellsLater, Found, Stays, next_in, seen, look_places, held_after, IsTouched, AllTouched, IsInside, IsAbsent, IsLegalLook, Adds, Added};
+    ghost use Rattle.rg_reservoir.specs.Kept.{base, view_of, opened, room_of, log_of, cache_of, loads_of, next_of as the_next_of, time_of, all_events, CommittedOrAll, IsCached, IsSound, Spells, SpellsLater, next_in, seen, IsLegalLook, Adds, Added};
 
     /// A reservoir over the log of file 2, with room for `room.chunk` events in its open chunk, 1 to
     /// 4,096, for `room.cache` chunks in memory, 1 to 1,024, and for `room.limit` events in all, at
@@ -149,6 +151,7 @@ impl Reservoir {
             Ok(opened) => Ok(Reservoir {
                 alloc,
                 schema: taken.schema,
+                growths: taken.growths,
                 log: opened.log,
                 first: opened.first,
                 ended: false,
@@ -205,6 +208,7 @@ impl Reservoir {
             Ok(Some(opened)) => Ok(Some(Reservoir {
                 alloc,
                 schema: taken.schema,
+                growths: taken.growths,
                 log: opened.log,
                 first: opened.first,
                 ended: false,
@@ -312,32 +316,21 @@ impl Reservoir {
         host: &mut H,
         place: u64,
     ) -> Result<bool, ReservoirFault>
-        ensures stays { Stays self.old self.new }
-        ensures cached { (v : Image) → H.now host.old ≡ Some v → IsCached (base self.old).shape.fields (v (base self.old).file) (cache_of self.old) → IsCached (base self.old).shape.fields (v (base self.old).file) (cache_of self.new) }
-        ensures held { IfOk result (λ found. IsTrue found → (kept : Kept) × (item_at place (cache_of self.new) ≡ Some kept)) }
-        ensures absent { IfOk result (λ found. found ≡ false → ForSome (H.now host.old) (λ v. IsAbsent (base self.old).shape.fields place (base self.old).end (v (base self.old).file))) }
-        ensures legal { (v : Image) → H.now host.old ≡ Some v → IsCached (base self.old).shape.fields (v (base self.old).file) (cache_of self.old) → OnOk result (IsIllegal (base self.old).shape.fields place (v (base self.old).file) → ⊥) }
-        ensures inside { IsInside (base self.old).end (cache_of self.old) → IsInside (base self.old).end (cache_of self.new) }
-        ensures places { IfOk result (λ found. IsTrue found → places (cache_of self.new) ≡ least_recently_used (cache_of self.old).cap (touches (cache_of self.old) (place ∷ []))) }
-        ensures left { IfOk result (λ found. found ≡ false → (cache_of self.new ≡ cache_of self.old) × (loads_of self.new ≡ loads_of self.old)) }
-        ensures refused { OnErr result ((cache_of self.new ≡ cache_of self.old) × (loads_of self.new ≡ loads_of self.old)) }
-        ensures cap { (cache_of self.new).cap ≡ (cache_of self.old).cap }
-        ensures reads { H.reads host.old ≤ H.reads host.new }
-        ensures items { IsTrue (holds_place place (cache_of self.old)) → (other : ℕ) → item_at other (cache_of self.new) ≡ item_at other (cache_of self.old) }
-        ensures hit { IsTrue (holds_place place (cache_of self.old)) → (result ≡ Ok true) × (H.reads host.new ≡ H.reads host.old) × ((loads_of self.new) ≡ (loads_of self.old)) }
-        ensures miss { holds_place place (cache_of self.old) ≡ false → IfOk result (λ found. IsTrue found → Rose (H.reads host.old) (H.reads host.new) × ((loads_of self.new) ≡ min ((loads_of self.old) + 1) (2 ^ 64 - 1))) }
-        ensures damaged { (p : ℕ) → IsErrOf result (ReservoirFault.Damaged p) → ForSome (H.now host.old) (λ v. IsIllegal (base self.old).shape.fields p (v (base self.old).file)) }
-        ensures never_damaged { (v : Image) (chunk : List TheEvent) (next p : ℕ) → H.now host.old ≡ Some v → chunk_at (base self.old).shape.fields place (v (base self.old).file) ≡ Some (chunk, next) → IsErrOf result (ReservoirFault.Damaged p) → ⊥ }
-        ensures leaves { LeavesAll H.now H.may H.clock H.since H.said host.old host.new }
-        ensures disk { IsErrOf result ReservoirFault.Disk → Rose (H.disk_faults host.old) (H.disk_faults host.new) }
-        ensures disk_faults { H.disk_faults host.old ≤ H.disk_faults host.new }
-        ensures out_faults { H.out_faults host.new ≡ H.out_faults host.old }
-        ensures faults { IfErr result (λ fault. (fault ≡ ReservoirFault.Disk) ⊎ (fault ≡ ReservoirFault.Memory) ⊎ ((p : ℕ) × (fault ≡ ReservoirFault.Damaged p))) }
+        ensures only { OnlyLoads H.now H.may H.clock H.since H.said H.disk_faults H.out_faults self.old self.new host.old host.new }
+        ensures touched { HasTouched H.now H.reads place result self.old self.new host.old host.new }
+        ensures stops { IsLoadStop H.now H.disk_faults result self.old host.old host.new }
     {
         if self.cache.promote(place) {
             return Ok(true);
         }
-        let kept = match fetch(self.alloc, &self.schema, &self.log, host, place) {
+        let kept = match fetch(
+            self.alloc,
+            &self.schema,
+            &self.growths,
+            &self.log,
+            host,
+            place,
+        ) {
             Ok(Some(kept)) => kept,
             Ok(None) => return Ok(false),
             Err(fault) => return Err(fault),
@@ -390,31 +383,11 @@ impl Reservoir {
         spot: &mut Spot,
     ) -> Result<(), ReservoirFault>
         requires { spot.old.number ≤ (base self.old).committed + length (opened self.old) }
-        ensures stays { Stays self.old self.new }
-        ensures cached { (v : Image) → H.now host.old ≡ Some v → IsCached (base self.old).shape.fields (v (base self.old).file) (cache_of self.old) → IsCached (base self.old).shape.fields (v (base self.old).file) (cache_of self.new) }
-        ensures inside { IsInside (base self.old).end (cache_of self.old) → IsInside (base self.old).end (cache_of self.new) }
-        ensures legal { (v : Image) → H.now host.old ≡ Some v → IsCached (base self.old).shape.fields (v (base self.old).file) (cache_of self.old) → spot.old.number < (base self.old).committed → OnOk result (IsLegalLook (base self.old) (v (base self.old).file) spot.old) }
-        ensures number { spot.new.number ≡ spot.old.number }
-        ensures placed { OnOk result ((base self.old).committed ≤ spot.new.number → spot.new.number ≡ (base self.old).committed + spot.new.index) }
-        ensures spelled { IsSound (H.now host.old) (H.may host.old) self.old → Spells (H.now host.old) (base self.old) (opened self.old) spot.old → Spells (H.now host.old) (base self.old) (opened self.old) spot.new }
-        ensures finds { IsSound (H.now host.old) (H.may host.old) self.old → Spells (H.now host.old) (base self.old) (opened self.old) spot.old → OnOk result (Found (H.now host.old) (base self.old) (opened self.old) (cache_of self.new) spot.new spot.old.number) }
-        ensures touched { (v : Image) → H.now host.old ≡ Some v → IsCached (base self.old).shape.fields (v (base self.old).file) (cache_of self.old) → IsTouched (look_places (base self.old) (v (base self.old).file) spot.old) (cache_of self.old) (loads_of self.old) (H.reads host.old) (cache_of self.new) (loads_of self.new) (H.reads host.new) }
-        ensures all_touched { IsSound (H.now host.old) (H.may host.old) self.old → Spells (H.now host.old) (base self.old) (opened self.old) spot.old → OnOk result (ForSome (H.now host.old) (λ v. places (cache_of self.new) ≡ held_after (cache_of self.old) (look_places (base self.old) (v (base self.old).file) spot.old))) }
-        ensures loaded { IsSound (H.now host.old) (H.may host.old) self.old → Spells (H.now host.old) (base self.old) (opened self.old) spot.old → OnOk result (ForSome (H.now host.old) (λ v.
-            AllTouched (look_places (base self.old) (v (base self.old).file) spot.old) (cache_of self.old) (loads_of self.old) (H.reads host.old) (cache_of self.new) (loads_of self.new) (H.reads host.new))) }
-        ensures untouched { (base self.old).ended ≡ false → (base self.old).committed ≤ spot.old.number → OnErr result ⊥ × (self.new ≡ self.old) × (host.new ≡ host.old) }
-        ensures hit { (base self.old).ended ≡ false → spot.old.number < (base self.old).committed → IsTrue (holds_place spot.old.place (cache_of self.old)) → next_in (item_at spot.old.place (cache_of self.old)) spot.old.index ≡ None
-            → OnErr result ⊥ × (loads_of self.new ≡ loads_of self.old) × (H.reads host.new ≡ H.reads host.old) }
-        ensures hit_next { (next : ℕ) → (base self.old).ended ≡ false → spot.old.number < (base self.old).committed → IsTrue (holds_place spot.old.place (cache_of self.old)) → next_in (item_at spot.old.place (cache_of self.old)) spot.old.index ≡ Some next
-            → IsTrue (holds_place next (cache_of self.old)) → OnErr result ⊥ × (loads_of self.new ≡ loads_of self.old) × (H.reads host.new ≡ H.reads host.old) }
-        ensures ended { IsErrOf result ReservoirFault.Ended ↔ ((base self.old).ended ≡ true) }
-        ensures faults { IfErr result (λ fault. (fault ≡ ReservoirFault.Disk) ⊎ (fault ≡ ReservoirFault.Memory) ⊎ ((p : ℕ) × (fault ≡ ReservoirFault.Damaged p)) ⊎ (fault ≡ ReservoirFault.Ended)) }
-        ensures damaged { (p : ℕ) → IsErrOf result (ReservoirFault.Damaged p) → ForSome (H.now host.old) (λ v. IsIllegal (base self.old).shape.fields p (v (base self.old).file)) }
-        ensures never_damaged { (p : ℕ) → IsSound (H.now host.old) (H.may host.old) self.old → Spells (H.now host.old) (base self.old) (opened self.old) spot.old → IsErrOf result (ReservoirFault.Damaged p) → ⊥ }
-        ensures leaves { LeavesAll H.now H.may H.clock H.since H.said host.old host.new }
-        ensures disk { IsErrOf result ReservoirFault.Disk → Rose (H.disk_faults host.old) (H.disk_faults host.new) }
-        ensures disk_faults { H.disk_faults host.old ≤ H.disk_faults host.new }
-        ensures out_faults { H.out_faults host.new ≡ H.out_faults host.old }
+        ensures only { OnlyLoads H.now H.may H.clock H.since H.said H.disk_faults H.out_faults self.old self.new host.old host.new }
+        ensures sought { HasSought H.now H.may result self.old self.new host.old spot.old spot.new }
+        ensures loads { SeekLoads H.now H.may H.reads result self.old self.new host.old host.new spot.old }
+        ensures held { SeekHeld H.reads (OnErr result ⊥) self.old self.new host.old host.new spot.old }
+        ensures stops { IsSeekStop H.now H.may H.disk_faults result self.old host.old host.new spot.old }
     {
         if self.ended {
             return Err(ReservoirFault::Ended);
@@ -466,7 +439,7 @@ impl Reservoir {
         ensures never_damaged { (p : ℕ) → IsSound (H.now host.old) (H.may host.old) self.old → Spells (H.now host.old) (base self.old) (opened self.old) spot.old → IsErrOf result (ReservoirFault.Damaged p) → ⊥ }
 
         // A chunk whose inside is illegal is refused, over any log: it is never taken for the end of the past.
-        ensures legal { (v : Image) → H.now host.old ≡ Some v → IsCached (base self.old).shape.fields (v (base self.old).file) (cache_of self.old) → spot.old.number < (base self.old).committed → OnOk result (IsLegalLook (base self.old) (v (base self.old).file) spot.old) }
+        ensures legal { (v : Image) → H.now host.old ≡ Some v → IsCached (view_of (base self.old)) (v (base self.old).file) (cache_of self.old) → spot.old.number < (base self.old).committed → OnOk result (IsLegalLook (base self.old) (v (base self.old).file) spot.old) }
         ensures disk { IsErrOf result ReservoirFault.Disk → Rose (H.disk_faults host.old) (H.disk_faults host.new) }
         ensures faults { IfErr result (λ fault. (fault ≡ ReservoirFault.Disk) ⊎ (fault ≡ ReservoirFault.Memory) ⊎ ((p : ℕ) × (fault ≡ ReservoirFault.Damaged p)) ⊎ (fault ≡ ReservoirFault.Ended)) }
 

@@ -14,46 +14,46 @@ use Rattle.rg_reservoir.proofs.Firsts.{quiet, added, becomes_back, opened_new}
 use Rattle.rg_reservoir.proofs.first.open_log.Goals as goal
 
 pub returns-in-Err-clause-writes : goal.returns-in-Err-clause-writes
-returns-in-Err-clause-writes g c = quiet g.H.Host.now g.H.Host.may g.H.Host.clock g.H.Host.since g.H.Host.said c.args.ours.now _ _ c.first_frame.ensures.leaves
+returns-in-Err-clause-writes g c = quiet g.H.Host.now g.H.Host.may g.H.Host.clock g.H.Host.since g.H.Host.said c.args.ours.now _ _ c.first_frame.ensures.leaves.leaves
 
 pub append-requires-clause-ready : goal.append-requires-clause-ready
 append-requires-clause-ready g c =
     let no : c.in-Ok.found ≡ false = search rules in
-    ap (λ (l : LogState). l.ready) (c.in-Ok.ensures.none no).0
+    ap (λ (l : LogState). l.ready) (c.in-Ok.ensures.first.none no).0
 
 pub append-requires-clause-reaches : goal.append-requires-clause-reaches
-append-requires-clause-reaches g c = c.first_frame.ensures.reaches (subst (λ (l : LogState). ReachesEnd l (g.H.Host.now c.args.host.now)) (sym c.new-log.ensures.fresh) (λ going v told. reaches_start (v 2)))
+append-requires-clause-reaches g c = c.first_frame.ensures.first.reaches (subst (λ (l : LogState). ReachesEnd l (g.H.Host.now c.args.host.now)) (sym c.new-log.ensures.fresh) (λ going v told. reaches_start (v 2)))
 
 pub returns-in-Err-append-clause-writes : goal.returns-in-Err-append-clause-writes
 returns-in-Err-append-clause-writes g c =
     let no : c.in-Ok.found ≡ false = search rules in
-    let found_none = c.in-Ok.ensures.none no in
+    let found_none = c.in-Ok.ensures.first.none no in
     let is_file : c.new-log.result.file ≡ 2 = ap (λ (l : LogState). l.file) c.new-log.ensures.fresh in
     let none : (v : Image) → g.H.Host.now c.args.host.now ≡ Some v → IsLog [] 0 (v 2) = λ v told. subst (λ (f : ℕ). IsLog [] 0 (v f)) is_file (found_none.1 v told) in
-    let file : c.first_frame.new.log.file ≡ 2 = c.first_frame.ensures.same.0 ∙ is_file in
+    let file : c.first_frame.new.log.file ≡ 2 = c.first_frame.ensures.first.same.0 ∙ is_file in
     let end : c.first_frame.new.log.end ≡ 0 = ap (λ (l : LogState). l.end) found_none.0 ∙ ap (λ (l : LogState). l.end) c.new-log.ensures.fresh in
-    added g.H.Host.now g.H.Host.may g.H.Host.clock g.H.Host.since g.H.Host.said c.args.ours.now _ _ _ c.first_frame.new.log.file c.first_frame.new.log.end file end c.first_frame.ensures.leaves none c.append.ensures.leaves
+    added g.H.Host.now g.H.Host.may g.H.Host.clock g.H.Host.since g.H.Host.said c.args.ours.now _ _ _ c.first_frame.new.log.file c.first_frame.new.log.end file end c.first_frame.ensures.leaves.leaves none c.append.ensures.leaves
 
 pub returns-then-not-found-clause-writes : goal.returns-then-not-found-clause-writes
 returns-then-not-found-clause-writes g c =
     let no : c.in-Ok.found ≡ false = search rules in
-    let found_none = c.in-Ok.ensures.none no in
+    let found_none = c.in-Ok.ensures.first.none no in
     let is_file : c.new-log.result.file ≡ 2 = ap (λ (l : LogState). l.file) c.new-log.ensures.fresh in
     let none : (v : Image) → g.H.Host.now c.args.host.now ≡ Some v → IsLog [] 0 (v 2) = λ v told. subst (λ (f : ℕ). IsLog [] 0 (v f)) is_file (found_none.1 v told) in
-    let file : c.first_frame.new.log.file ≡ 2 = c.first_frame.ensures.same.0 ∙ is_file in
+    let file : c.first_frame.new.log.file ≡ 2 = c.first_frame.ensures.first.same.0 ∙ is_file in
     let end : c.first_frame.new.log.end ≡ 0 = ap (λ (l : LogState). l.end) found_none.0 ∙ ap (λ (l : LogState). l.end) c.new-log.ensures.fresh in
-    added g.H.Host.now g.H.Host.may g.H.Host.clock g.H.Host.since g.H.Host.said c.args.ours.now _ _ _ c.first_frame.new.log.file c.first_frame.new.log.end file end c.first_frame.ensures.leaves none c.append.ensures.leaves
+    added g.H.Host.now g.H.Host.may g.H.Host.clock g.H.Host.since g.H.Host.said c.args.ours.now _ _ _ c.first_frame.new.log.file c.first_frame.new.log.end file end c.first_frame.ensures.leaves.leaves none c.append.ensures.leaves
 
 pub returns-then-not-found-clause-opened : goal.returns-then-not-found-clause-opened
 returns-then-not-found-clause-opened g c = λ x told.
     let no : c.in-Ok.found ≡ false = search rules in
-    let found_none = c.in-Ok.ensures.none no in
+    let found_none = c.in-Ok.ensures.first.none no in
     let is_file : c.new-log.result.file ≡ 2 = ap (λ (l : LogState). l.file) c.new-log.ensures.fresh in
     let none : (v : Image) → g.H.Host.now c.args.host.now ≡ Some v → IsLog [] 0 (v 2) = λ v told. subst (λ (f : ℕ). IsLog [] 0 (v f)) is_file (found_none.1 v told) in
-    let file : c.first_frame.new.log.file ≡ 2 = c.first_frame.ensures.same.0 ∙ is_file in
+    let file : c.first_frame.new.log.file ≡ 2 = c.first_frame.ensures.first.same.0 ∙ is_file in
     let end : c.first_frame.new.log.end ≡ 0 = ap (λ (l : LogState). l.end) found_none.0 ∙ ap (λ (l : LogState). l.end) c.new-log.ensures.fresh in
     let back = becomes_back _ _ _ x c.in-Ok-append.ensures.appended told in
-    let was : g.H.Host.now c.args.host.now ≡ Some back.0 = sym c.first_frame.ensures.leaves.now_stays ∙ back.1 in
+    let was : g.H.Host.now c.args.host.now ≡ Some back.0 = sym c.first_frame.ensures.leaves.leaves.now_stays ∙ back.1 in
     let log0 : IsLog [] c.first_frame.new.log.end (back.0 c.first_frame.new.log.file) = subst (λ (e : ℕ). IsLog [] e (back.0 c.first_frame.new.log.file)) (sym end) (subst (λ (f : ℕ). IsLog [] 0 (back.0 f)) (sym file) (none back.0 was)) in
     let next : c.append.new.self.end ≡ c.first_frame.new.log.end + 9 + length c.args.ours.now = ap (λ (l : LogState). l.end) c.in-Ok-append.ensures.ok in
     let log1 : IsLog (c.args.ours.now ∷ []) c.append.new.self.end (x c.first_frame.new.log.file) =
@@ -64,13 +64,13 @@ returns-then-not-found-clause-opened g c = λ x told.
 pub returns-then-not-found-clause-opens : goal.returns-then-not-found-clause-opens
 returns-then-not-found-clause-opens g c =
     let no : c.in-Ok.found ≡ false = search rules in
-    let found_none = c.in-Ok.ensures.none no in
+    let found_none = c.in-Ok.ensures.first.none no in
     let is_file : c.new-log.result.file ≡ 2 = ap (λ (l : LogState). l.file) c.new-log.ensures.fresh in
     let none : (v : Image) → g.H.Host.now c.args.host.now ≡ Some v → IsLog [] 0 (v 2) = λ v told. subst (λ (f : ℕ). IsLog [] 0 (v f)) is_file (found_none.1 v told) in
-    let file : c.first_frame.new.log.file ≡ 2 = c.first_frame.ensures.same.0 ∙ is_file in
+    let file : c.first_frame.new.log.file ≡ 2 = c.first_frame.ensures.first.same.0 ∙ is_file in
     let end : c.first_frame.new.log.end ≡ 0 = ap (λ (l : LogState). l.end) found_none.0 ∙ ap (λ (l : LogState). l.end) c.new-log.ensures.fresh in
     let appended = c.in-Ok-append.ensures.appended in
-    let mid = c.first_frame.ensures.leaves.now_stays in
+    let mid = c.first_frame.ensures.leaves.leaves.now_stays in
     record {
       told = λ v told.
           let t = appended.told v (mid ∙ told) in
@@ -82,25 +82,25 @@ returns-then-not-found-clause-opens g c =
 pub returns-then-not-found-clause-settled : goal.returns-then-not-found-clause-settled
 returns-then-not-found-clause-settled g c = λ settled v told u left.
     let is_file : c.new-log.result.file ≡ 2 = ap (λ (l : LogState). l.file) c.new-log.ensures.fresh in
-    let file : c.first_frame.new.log.file ≡ 2 = c.first_frame.ensures.same.0 ∙ is_file in
+    let file : c.first_frame.new.log.file ≡ 2 = c.first_frame.ensures.first.same.0 ∙ is_file in
     subst (λ (f : ℕ). u f ≡ v f) file (c.in-Ok-append.ensures.pending v told u left)
 
 pub read_heads-requires-clause-begun : goal.read_heads-requires-clause-begun
 read_heads-requires-clause-begun g c = λ v told.
     let yes : IsTrue c.in-Ok.found = search rules in
-    let found = c.in-Ok.ensures.found yes in
-    let was : g.H.Host.now c.args.host.now ≡ Some v = sym c.first_frame.ensures.leaves.now_stays ∙ told in
+    let found = c.in-Ok.ensures.first.found yes in
+    let was : g.H.Host.now c.args.host.now ≡ Some v = sym c.first_frame.ensures.leaves.leaves.now_stays ∙ told in
     let f = found v was in
-    (f.2.0, subst (λ (n : ℕ). Begins f.2.0 c.first_frame.new.log.end (v n)) (sym c.first_frame.ensures.same.0) f.2.1)
+    (f.2.0, subst (λ (n : ℕ). Begins f.2.0 c.first_frame.new.log.end (v n)) (sym c.first_frame.ensures.first.same.0) f.2.1)
 
 pub returns-in-Ok-read_heads-clause-opened : goal.returns-in-Ok-read_heads-clause-opened
 returns-in-Ok-read_heads-clause-opened g c = λ v told.
     let yes : IsTrue c.in-Ok.found = search rules in
-    let found = c.in-Ok.ensures.found yes in
+    let found = c.in-Ok.ensures.first.found yes in
     let is_file : c.new-log.result.file ≡ 2 = ap (λ (l : LogState). l.file) c.new-log.ensures.fresh in
-    let file : c.first_frame.new.log.file ≡ 2 = c.first_frame.ensures.same.0 ∙ is_file in
+    let file : c.first_frame.new.log.file ≡ 2 = c.first_frame.ensures.first.same.0 ∙ is_file in
     let mid : g.H.Host.now c.first_frame.new.host ≡ Some v = sym c.read_heads.ensures.leaves.now_stays ∙ told in
-    let was : g.H.Host.now c.args.host.now ≡ Some v = sym c.first_frame.ensures.leaves.now_stays ∙ mid in
+    let was : g.H.Host.now c.args.host.now ≡ Some v = sym c.first_frame.ensures.leaves.leaves.now_stays ∙ mid in
     let f = found v was in
     let p = c.in-Ok-read_heads.ensures.passed v mid in
     let l = c.in-Ok-read_heads.ensures.ends v mid in
@@ -115,28 +115,28 @@ returns-in-Ok-read_heads-clause-opened g c = λ v told.
 
 pub returns-in-Ok-read_heads-clause-settled : goal.returns-in-Ok-read_heads-clause-settled
 returns-in-Ok-read_heads-clause-settled g c = λ settled.
-    let leaves = leaves_all-then g.H.Host.now g.H.Host.may g.H.Host.clock g.H.Host.since g.H.Host.said _ _ _ c.first_frame.ensures.leaves c.read_heads.ensures.leaves in
+    let leaves = leaves_all-then g.H.Host.now g.H.Host.may g.H.Host.clock g.H.Host.since g.H.Host.said _ _ _ c.first_frame.ensures.leaves.leaves c.read_heads.ensures.leaves in
     leaves_all-settled g.H.Host.now g.H.Host.may g.H.Host.clock g.H.Host.since g.H.Host.said 2 _ _ leaves settled
 
 pub returns-in-Ok-read_heads-clause-writes : goal.returns-in-Ok-read_heads-clause-writes
 returns-in-Ok-read_heads-clause-writes g c =
-    quiet g.H.Host.now g.H.Host.may g.H.Host.clock g.H.Host.since g.H.Host.said c.args.ours.now _ _ (leaves_all-then g.H.Host.now g.H.Host.may g.H.Host.clock g.H.Host.since g.H.Host.said _ _ _ c.first_frame.ensures.leaves c.read_heads.ensures.leaves)
+    quiet g.H.Host.now g.H.Host.may g.H.Host.clock g.H.Host.since g.H.Host.said c.args.ours.now _ _ (leaves_all-then g.H.Host.now g.H.Host.may g.H.Host.clock g.H.Host.since g.H.Host.said _ _ _ c.first_frame.ensures.leaves.leaves c.read_heads.ensures.leaves)
 
 pub returns-in-Ok-read_heads-clause-reaches : goal.returns-in-Ok-read_heads-clause-reaches
-returns-in-Ok-read_heads-clause-reaches g c = c.read_heads.ensures.reaches (c.first_frame.ensures.reaches (subst (λ (l : LogState). ReachesEnd l (g.H.Host.now c.args.host.now)) (sym c.new-log.ensures.fresh) (λ going v told. reaches_start (v 2))))
+returns-in-Ok-read_heads-clause-reaches g c = c.read_heads.ensures.reaches (c.first_frame.ensures.first.reaches (subst (λ (l : LogState). ReachesEnd l (g.H.Host.now c.args.host.now)) (sym c.new-log.ensures.fresh) (λ going v told. reaches_start (v 2))))
 
 pub returns-clause-writes : goal.returns-clause-writes
 returns-clause-writes g c =
-    quiet g.H.Host.now g.H.Host.may g.H.Host.clock g.H.Host.since g.H.Host.said c.args.ours.now _ _ (leaves_all-then g.H.Host.now g.H.Host.may g.H.Host.clock g.H.Host.since g.H.Host.said _ _ _ c.first_frame.ensures.leaves c.read_heads.ensures.leaves)
+    quiet g.H.Host.now g.H.Host.may g.H.Host.clock g.H.Host.since g.H.Host.said c.args.ours.now _ _ (leaves_all-then g.H.Host.now g.H.Host.may g.H.Host.clock g.H.Host.since g.H.Host.said _ _ _ c.first_frame.ensures.leaves.leaves c.read_heads.ensures.leaves)
 
 pub returns-clause-damaged : goal.returns-clause-damaged
 returns-clause-damaged g c = λ p e v told.
     let yes : IsTrue c.in-Ok.found = search rules in
-    let found = c.in-Ok.ensures.found yes in
+    let found = c.in-Ok.ensures.first.found yes in
     let is_file : c.new-log.result.file ≡ 2 = ap (λ (l : LogState). l.file) c.new-log.ensures.fresh in
-    let file : c.first_frame.new.log.file ≡ 2 = c.first_frame.ensures.same.0 ∙ is_file in
+    let file : c.first_frame.new.log.file ≡ 2 = c.first_frame.ensures.first.same.0 ∙ is_file in
     let same : c.in-Err-read_heads.fault ≡ Damaged p = cc in
-    let mid : g.H.Host.now c.first_frame.new.host ≡ Some v = c.first_frame.ensures.leaves.now_stays ∙ told in
+    let mid : g.H.Host.now c.first_frame.new.host ≡ Some v = c.first_frame.ensures.leaves.leaves.now_stays ∙ told in
     let f = found v told in
     let bad = c.in-Err-read_heads.ensures.damaged p (ap (λ (f : ReservoirFault). Err f) same) v mid in
     inr (c.first_frame.new.log.end, subst (λ (n : ℕ). payload_at 0 (v n) ≡ Some c.args.ours.now) is_file f.0, f.1, subst (λ (n : ℕ). IsBad (v n) c.first_frame.new.log.end p) file bad)

@@ -10,23 +10,23 @@ pub returns-then-not-found-clause-none : goal.returns-then-not-found-clause-none
 returns-then-not-found-clause-none g c = λ v told.
     let no : c.in-Ok.found ≡ false = search rules in
     let is_file : c.new-log.result.file ≡ 2 = ap (λ (l : LogState). l.file) c.new-log.ensures.fresh in
-    subst (λ (f : ℕ). IsLog [] 0 (v f)) is_file ((c.in-Ok.ensures.none no).1 v told)
+    subst (λ (f : ℕ). IsLog [] 0 (v f)) is_file ((c.in-Ok.ensures.first.none no).1 v told)
 
 pub read_heads-requires-clause-begun : goal.read_heads-requires-clause-begun
 read_heads-requires-clause-begun g c = λ v told.
     let yes : IsTrue c.in-Ok.found = search rules in
-    let found = c.in-Ok.ensures.found yes in
-    let was : g.H.Host.now c.args.host.now ≡ Some v = sym c.first_frame.ensures.leaves.now_stays ∙ told in
+    let found = c.in-Ok.ensures.first.found yes in
+    let was : g.H.Host.now c.args.host.now ≡ Some v = sym c.first_frame.ensures.leaves.leaves.now_stays ∙ told in
     let f = found v was in
-    (f.2.0, subst (λ (n : ℕ). Begins f.2.0 c.first_frame.new.log.end (v n)) (sym c.first_frame.ensures.same.0) f.2.1)
+    (f.2.0, subst (λ (n : ℕ). Begins f.2.0 c.first_frame.new.log.end (v n)) (sym c.first_frame.ensures.first.same.0) f.2.1)
 
 pub returns-in-Ok-read_heads-clause-opened : goal.returns-in-Ok-read_heads-clause-opened
 returns-in-Ok-read_heads-clause-opened g c = λ v told.
     let yes : IsTrue c.in-Ok.found = search rules in
     let is_file : c.new-log.result.file ≡ 2 = ap (λ (l : LogState). l.file) c.new-log.ensures.fresh in
-    let file : c.first_frame.new.log.file ≡ 2 = c.first_frame.ensures.same.0 ∙ is_file in
-    let mid : g.H.Host.now c.first_frame.new.host ≡ Some v = c.first_frame.ensures.leaves.now_stays ∙ told in
-    let f = c.in-Ok.ensures.found yes v told in
+    let file : c.first_frame.new.log.file ≡ 2 = c.first_frame.ensures.first.same.0 ∙ is_file in
+    let mid : g.H.Host.now c.first_frame.new.host ≡ Some v = c.first_frame.ensures.leaves.leaves.now_stays ∙ told in
+    let f = c.in-Ok.ensures.first.found yes v told in
     let p = c.in-Ok-read_heads.ensures.passed v mid in
     let l = c.in-Ok-read_heads.ensures.ends v mid in
     record {
@@ -42,9 +42,9 @@ pub returns-clause-damaged : goal.returns-clause-damaged
 returns-clause-damaged g c = λ p e v told.
     let yes : IsTrue c.in-Ok.found = search rules in
     let is_file : c.new-log.result.file ≡ 2 = ap (λ (l : LogState). l.file) c.new-log.ensures.fresh in
-    let file : c.first_frame.new.log.file ≡ 2 = c.first_frame.ensures.same.0 ∙ is_file in
+    let file : c.first_frame.new.log.file ≡ 2 = c.first_frame.ensures.first.same.0 ∙ is_file in
     let same : c.in-Err-read_heads.fault ≡ Damaged p = cc in
-    let mid : g.H.Host.now c.first_frame.new.host ≡ Some v = c.first_frame.ensures.leaves.now_stays ∙ told in
-    let f = c.in-Ok.ensures.found yes v told in
+    let mid : g.H.Host.now c.first_frame.new.host ≡ Some v = c.first_frame.ensures.leaves.leaves.now_stays ∙ told in
+    let f = c.in-Ok.ensures.first.found yes v told in
     let bad = c.in-Err-read_heads.ensures.damaged p (ap (λ (f : ReservoirFault). Err f) same) v mid in
     inr (c.first_frame.new.log.end, subst (λ (n : ℕ). payload_at 0 (v n) ≡ Some c.args.ours.now) is_file f.0, f.1, subst (λ (n : ℕ). IsBad (v n) c.first_frame.new.log.end p) file bad)

@@ -11,33 +11,47 @@ use Rattle.rg_reservoir.proofs.Causes.{from_damaged, torn_at}
 use Rattle.rg_reservoir.proofs.Naming.{left_on, left_end, left_listed, headless_torn, headless_on}
 use Rattle.rg_reservoir.proofs.names.count_behind.Goals as goal
 
-pub returns-in-Ok-None-clause-counted : goal.returns-in-Ok-None-clause-counted
-returns-in-Ok-None-clause-counted g c = λ v told.
-    let inv = c.heads.invariant in
-    let h = rw c.in-Ok-None.field-0-is at c.in-Ok-None.ensures.none in
-    let end : c.end.result ≡ c.heads.log.end = c.end.ensures.end ∙ ap (λ (l : LogState). l.end) h.0 in
-    let count : c.saturating_sub.result ≡ c.heads.left - count_by (is_at_end c.heads.log.end c.heads.before) c.args.spots.now =
-    search rules ∙ ap (λ (n : ℕ). c.heads.left - n) (c.count_at_end.ensures ∙ ap (λ (e : ℕ). count_by (is_at_end e c.heads.before) c.args.spots.now) end) in
-    left_end c.args.spots.now c.heads.log.end c.heads.before c.heads.left c.saturating_sub.result (v c.heads.log.file) (v c.args.log.now.file) (ap v inv.file) (inv.counted v told) (h.1 v (inv.leaves.now_stays ∙ told)) count
+pub returns-in-Ok-None-clause-counts : goal.returns-in-Ok-None-clause-counts
+returns-in-Ok-None-clause-counts g c = record {
+  counted = λ v told.
+      let inv = c.heads.invariant in
+      let h = rw c.in-Ok-None.field-0-is at c.in-Ok-None.ensures.none in
+      let end : c.end.result ≡ c.heads.log.end = c.end.ensures.end ∙ ap (λ (l : LogState). l.end) h.0 in
+      let count : c.saturating_sub.result ≡ c.heads.left - count_by (is_at_end c.heads.log.end c.heads.before) c.args.spots.now =
+      search rules ∙ ap (λ (n : ℕ). c.heads.left - n) (c.count_at_end.ensures ∙ ap (λ (e : ℕ). count_by (is_at_end e c.heads.before) c.args.spots.now) end) in
+      left_end c.args.spots.now c.heads.log.end c.heads.before c.heads.left c.saturating_sub.result (v c.heads.log.file) (v c.args.log.now.file) (ap v inv.file) (inv.counted v told) (h.1 v (inv.leaves.now_stays ∙ told)) count;
+  lists = λ v told.
+      let inv = c.heads.invariant in
+      let h = rw c.in-Ok-None.field-0-is at c.in-Ok-None.ensures.none in
+      left_listed c.args.spots.now c.heads.log.end c.heads.before c.heads.left (v c.heads.log.file) (v c.args.log.now.file) (ap v inv.file) (inv.counted v told) (h.1 v (inv.leaves.now_stays ∙ told)) inv.small;
+}
 
-pub returns-in-Err-clause-damaged : goal.returns-in-Err-clause-damaged
-returns-in-Err-clause-damaged g c = λ p e v told.
-    let inv = c.heads.invariant in
-    let same : c.from.result ≡ Damaged p = cc in
-    let is = from_damaged c.in-Err.fault p (sym c.from.ensures ∙ same) in
-    let torn = c.in-Err.ensures.damaged p (ap (λ (f : FrameFault). Err f) is) v (inv.leaves.now_stays ∙ told) in
-    let at : p ≡ c.heads.log.end = torn_at c.in-Err.fault p c.heads.log.end is (c.in-Err.ensures.faults) in
-    let here : IsTorn c.heads.log.end (v c.args.log.now.file) = subst (λ (f : ℕ). IsTorn c.heads.log.end (v f)) inv.file (subst (λ (q : ℕ). IsTorn q (v c.heads.log.file)) at torn) in
-    subst (λ (q : ℕ). IsHeadless q (v c.args.log.now.file)) (sym at) (headless_torn c.heads.log.end (v c.args.log.now.file) here (λ payloads has. ((inv.counted v told).each payloads has).at))
+pub returns-in-Err-clause-stops : goal.returns-in-Err-clause-stops
+returns-in-Err-clause-stops g c = record {
+  damaged = λ p e v told.
+      let inv = c.heads.invariant in
+      let same : c.from.result ≡ Damaged p = cc in
+      let is = from_damaged c.in-Err.fault p (sym c.from.ensures ∙ same) in
+      let torn = c.in-Err.ensures.damaged p (ap (λ (f : FrameFault). Err f) is) v (inv.leaves.now_stays ∙ told) in
+      let at : p ≡ c.heads.log.end = torn_at c.in-Err.fault p c.heads.log.end is (c.in-Err.ensures.faults) in
+      let here : IsTorn c.heads.log.end (v c.args.log.now.file) = subst (λ (f : ℕ). IsTorn c.heads.log.end (v f)) inv.file (subst (λ (q : ℕ). IsTorn q (v c.heads.log.file)) at torn) in
+      subst (λ (q : ℕ). IsHeadless q (v c.args.log.now.file)) (sym at) (headless_torn c.heads.log.end (v c.args.log.now.file) here (λ payloads has. ((inv.counted v told).each payloads has).at));
+  disk = search rules;
+  faults = search rules;
+}
 
-pub returns-in-None-clause-damaged : goal.returns-in-None-clause-damaged
-returns-in-None-clause-damaged g c = λ p e v told.
-    let inv = c.heads.invariant in
-    let same : c.in-Ok-Some.found.place ≡ p = cc in
-    let h = rw c.in-Ok-Some.field-0-is at c.in-Ok-Some.ensures.some in
-    let at = rw c.in-Ok-Some.field-0-is at c.in-Ok-Some.ensures.place in
-    subst (λ (q : ℕ). IsHeadless q (v c.args.log.now.file)) (sym at.0 ∙ same)
-    (headless_on c.args.spots.now c.heads.log.end c.heads.before c.heads.left c.next_entry.new.log.end (v c.heads.log.file) (v c.args.log.now.file) c.in-Ok-Some.found.entry (ap v inv.file) (inv.counted v told) (h v (inv.leaves.now_stays ∙ told)) (sym c.count_in_found.ensures ∙ c.in-None.is))
+pub returns-in-None-clause-stops : goal.returns-in-None-clause-stops
+returns-in-None-clause-stops g c = record {
+  damaged = λ p e v told.
+      let inv = c.heads.invariant in
+      let same : c.in-Ok-Some.found.place ≡ p = cc in
+      let h = rw c.in-Ok-Some.field-0-is at c.in-Ok-Some.ensures.some in
+      let at = rw c.in-Ok-Some.field-0-is at c.in-Ok-Some.ensures.place in
+      subst (λ (q : ℕ). IsHeadless q (v c.args.log.now.file)) (sym at.0 ∙ same)
+      (headless_on c.args.spots.now c.heads.log.end c.heads.before c.heads.left c.next_entry.new.log.end (v c.heads.log.file) (v c.args.log.now.file) c.in-Ok-Some.found.entry (ap v inv.file) (inv.counted v told) (h v (inv.leaves.now_stays ∙ told)) (sym c.count_in_found.ensures ∙ c.in-None.is));
+  disk = search rules;
+  faults = search rules;
+}
 
 pub heads-preserved : goal.heads-preserved
 heads-preserved g c =
@@ -59,9 +73,3 @@ heads-preserved g c =
       disk_faults = omega (arith, inv.disk_faults, c.next_entry.ensures.disk_faults);
       out_faults = c.next_entry.ensures.out_faults ∙ inv.out_faults;
     }
-
-pub returns-in-Ok-None-clause-lists : goal.returns-in-Ok-None-clause-lists
-returns-in-Ok-None-clause-lists g c = λ v told.
-    let inv = c.heads.invariant in
-    let h = rw c.in-Ok-None.field-0-is at c.in-Ok-None.ensures.none in
-    left_listed c.args.spots.now c.heads.log.end c.heads.before c.heads.left (v c.heads.log.file) (v c.args.log.now.file) (ap v inv.file) (inv.counted v told) (h.1 v (inv.leaves.now_stays ∙ told)) inv.small

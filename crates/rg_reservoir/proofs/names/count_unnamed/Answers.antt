@@ -40,12 +40,12 @@ pub returns-clause-counted : goal.returns-clause-counted
 returns-clause-counted g c =
     let file : c.next_entry.new.log.file ≡ 2 = c.next_entry.ensures.same.0 ∙ ap (λ (l : LogState). l.file) c.new-log.ensures.fresh in
     subst (λ (f : ℕ). IfOk c.count_behind.result (λ left. (v : Image) → g.H.Host.now c.args.host.now ≡ Some v → (payloads : List (List ℕ)) → HasPayloads payloads (v f) → left + count_by (named_by_heads payloads) c.args.spots.now ≡ length c.args.spots.now)) file
-    (subst (λ (o : Option Image). IfOk c.count_behind.result (λ left. (v : Image) → o ≡ Some v → (payloads : List (List ℕ)) → HasPayloads payloads (v c.next_entry.new.log.file) → left + count_by (named_by_heads payloads) c.args.spots.now ≡ length c.args.spots.now)) c.next_entry.ensures.leaves.now_stays c.count_behind.ensures.counted)
+    (subst (λ (o : Option Image). IfOk c.count_behind.result (λ left. (v : Image) → o ≡ Some v → (payloads : List (List ℕ)) → HasPayloads payloads (v c.next_entry.new.log.file) → left + count_by (named_by_heads payloads) c.args.spots.now ≡ length c.args.spots.now)) c.next_entry.ensures.leaves.now_stays c.count_behind.ensures.counts.counted)
 
 pub returns-clause-damaged : goal.returns-clause-damaged
 returns-clause-damaged g c = λ p e v told.
     let file : c.next_entry.new.log.file ≡ 2 = c.next_entry.ensures.same.0 ∙ ap (λ (l : LogState). l.file) c.new-log.ensures.fresh in
-    subst (λ (f : ℕ). IsHeadless p (v f)) file (c.count_behind.ensures.damaged p e v (c.next_entry.ensures.leaves.now_stays ∙ told))
+    subst (λ (f : ℕ). IsHeadless p (v f)) file (c.count_behind.ensures.stops.damaged p e v (c.next_entry.ensures.leaves.now_stays ∙ told))
 
 pub returns-in-Ok-None-clause-lists : goal.returns-in-Ok-None-clause-lists
 returns-in-Ok-None-clause-lists g c = λ v told.
@@ -58,4 +58,4 @@ pub returns-clause-lists : goal.returns-clause-lists
 returns-clause-lists g c =
     let file : c.next_entry.new.log.file ≡ 2 = c.next_entry.ensures.same.0 ∙ ap (λ (l : LogState). l.file) c.new-log.ensures.fresh in
     subst (λ (f : ℕ). OnOk c.count_behind.result ((v : Image) → g.H.Host.now c.args.host.now ≡ Some v → (payloads : List (List ℕ)) × HasPayloads payloads (v f))) file
-    (subst (λ (o : Option Image). OnOk c.count_behind.result ((v : Image) → o ≡ Some v → (payloads : List (List ℕ)) × HasPayloads payloads (v c.next_entry.new.log.file))) c.next_entry.ensures.leaves.now_stays c.count_behind.ensures.lists)
+    (subst (λ (o : Option Image). OnOk c.count_behind.result ((v : Image) → o ≡ Some v → (payloads : List (List ℕ)) × HasPayloads payloads (v c.next_entry.new.log.file))) c.next_entry.ensures.leaves.now_stays c.count_behind.ensures.counts.lists)

@@ -28,7 +28,7 @@ returns-clause-sound g c = λ sound.
     let same = grown_is (base self) c.append.new.self.file c.append.new.self.end (self.committed + c.from.result) (length opened) self.ended (ap (λ (l : LogState). l.file) c.in-Ok-append.ensures.ok) refl count in
     let s0 = committed v w (g.H.Host.may c.args.host.now) (g.H.Host.may c.append.new.host) (base self) opened self.next_offset self.last_time self.cache right c.append.new.self.end some few step end_is (λ u left. c.in-Ok-append.ensures.pending w became.1 u left) in
     let s1 = subst (λ (b : Base). IsSoundIn w (g.H.Host.may c.append.new.host) b [] self.next_offset self.last_time self.cache) (sym same) s0 in
-    (w, became.1, subst (λ (l : List Event). IsSoundIn w (g.H.Host.may c.append.new.host) (record { shape = self.schema; file = c.append.new.self.file; first = self.first; end = c.append.new.self.end; ended = self.ended; committed = self.committed + c.from.result; limit = self.limit }) l self.next_offset self.last_time self.cache) (sym c.clear.ensures.events) s1)
+    (w, became.1, subst (λ (l : List Event). IsSoundIn w (g.H.Host.may c.append.new.host) (record { shape = self.schema; growths = self.growths; file = c.append.new.self.file; first = self.first; end = c.append.new.self.end; ended = self.ended; committed = self.committed + c.from.result; limit = self.limit }) l self.next_offset self.last_time self.cache) (sym c.clear.ensures.events) s1)
 
 pub returns-clause-list : goal.returns-clause-list
 returns-clause-list g c = λ sound.
@@ -47,7 +47,7 @@ returns-clause-list g c = λ sound.
     let few : length opened ≤ 4096 = omega (arith, c.count-count.ensures.count, c.count-count.ensures.few) in
     let count : self.committed + c.from.result ≡ self.committed + length opened = search rules in
     let same = grown_is (base self) c.append.new.self.file c.append.new.self.end (self.committed + c.from.result) (length opened) self.ended (ap (λ (l : LogState). l.file) c.in-Ok-append.ensures.ok) refl count in
-    ap (λ (l : List Event). all_events (g.H.Host.now c.append.new.host) (record { shape = self.schema; file = c.append.new.self.file; first = self.first; end = c.append.new.self.end; ended = self.ended; committed = self.committed + c.from.result; limit = self.limit }) l) c.clear.ensures.events
+    ap (λ (l : List Event). all_events (g.H.Host.now c.append.new.host) (record { shape = self.schema; growths = self.growths; file = c.append.new.self.file; first = self.first; end = c.append.new.self.end; ended = self.ended; committed = self.committed + c.from.result; limit = self.limit }) l) c.clear.ensures.events
     ∙ ap (λ (b : Base). all_events (g.H.Host.now c.append.new.host) b []) same ∙ ap (λ o. all_events o (grown (base self) c.append.new.self.end (length opened)) []) became.1
     ∙ all_new v w (g.H.Host.may c.args.host.now) (g.H.Host.may c.append.new.host) (base self) opened self.next_offset self.last_time self.cache right c.append.new.self.end some few step end_is ∙ ap (λ o. all_events o (base self) opened) (sym told)
 
@@ -70,7 +70,7 @@ returns-clause-spelled g c = λ sound spot spells.
     let same = grown_is (base self) c.append.new.self.file c.append.new.self.end (self.committed + c.from.result) (length opened) self.ended (ap (λ (l : LogState). l.file) c.in-Ok-append.ensures.ok) refl count in
     let s0 = spells_on v w (g.H.Host.may c.args.host.now) (g.H.Host.may c.append.new.host) (base self) opened self.next_offset self.last_time self.cache right c.append.new.self.end some few step end_is (g.H.Host.now c.args.host.now) (g.H.Host.now c.append.new.host) spot told became.1 spells in
     let s1 = subst (λ (b : Base). Spells (g.H.Host.now c.append.new.host) b [] spot) (sym same) s0 in
-    subst (λ (l : List Event). Spells (g.H.Host.now c.append.new.host) (record { shape = self.schema; file = c.append.new.self.file; first = self.first; end = c.append.new.self.end; ended = self.ended; committed = self.committed + c.from.result; limit = self.limit }) l spot) (sym c.clear.ensures.events) s1
+    subst (λ (l : List Event). Spells (g.H.Host.now c.append.new.host) (record { shape = self.schema; growths = self.growths; file = c.append.new.self.file; first = self.first; end = c.append.new.self.end; ended = self.ended; committed = self.committed + c.from.result; limit = self.limit }) l spot) (sym c.clear.ensures.events) s1
 
 -- nothing is written
 
@@ -163,4 +163,4 @@ returns-in-Err-append-clause-sound_disk g c = λ sound failed w new_told.
     let state = c.in-Err-append.ensures.err in
     let s0 = failed_sound sound.0 (g.H.Host.may c.args.host.now) (base self) self.open.events self.next_offset self.last_time self.cache (sound.2.right going) (g.H.Host.now c.args.host.now) w (g.H.Host.may c.append.new.host) sound.1 few
     (λ u left. subst (λ (f : ℕ). Leaves f (From self.log.end (Adds self.schema.fields self.open.events)) (g.H.Host.now c.args.host.now) (g.H.Host.may c.args.host.now) u) (sym self.file) (leaves.left u left)) (g.met.H.Host.now_may c.append.new.host w new_told) in
-    (w, new_told, subst (λ (l : LogState). IsSoundIn w (g.H.Host.may c.append.new.host) (record { shape = self.schema; file = l.file; first = self.first; end = l.end; ended = true; committed = self.committed; limit = self.limit }) self.open.events self.next_offset self.last_time self.cache) (sym state) s0)
+    (w, new_told, subst (λ (l : LogState). IsSoundIn w (g.H.Host.may c.append.new.host) (record { shape = self.schema; growths = self.growths; file = l.file; first = self.first; end = l.end; ended = true; committed = self.committed; limit = self.limit }) self.open.events self.next_offset self.last_time self.cache) (sym state) s0)

@@ -3,7 +3,7 @@ use Rattle.std.proofs.lemmas.List.{take_all}
 use Rattle.rg_host.proofs.Runs.{leaves_all-none}
 use Rattle.rg_past.specs.declared.past.Spot.{Spot}
 use Rattle.rg_reservoir.specs.Ahead.{all_ahead, SomeTouched}
-use Rattle.rg_reservoir.specs.Kept.{Base, base, IsCached, IsSound, AllTouched}
+use Rattle.rg_reservoir.specs.Kept.{Base, base, view_of, IsCached, IsSound, AllTouched}
 use Rattle.rg_reservoir.proofs.Peeking.{spells_stay}
 use Rattle.rg_reservoir.proofs.Loading.{only_then, only_sound, stays_same, some_none, some_step, some_stop, all_step}
 use Rattle.rg_reservoir.proofs.reservoir.Reservoir.load_each.Goals as goal
@@ -34,7 +34,7 @@ spots-preserved g c =
     record {
       only = only_then self mid new c.args.host.now c.spots.host c.load_ahead.new.host only c.load_ahead.ensures.only;
       touched = λ v told was.
-          let held = subst (λ (b : Base). IsCached b.shape.fields (v b.file) mid.cache) (sym same) (only.cached v told was) in
+          let held = subst (λ (b : Base). IsCached (view_of b) (v b.file) mid.cache) (sym same) (only.cached v told was) in
           some_step self mid same v c.args.spots.now c.spots.spot-index _ c.spots-test.true self.cache mid.cache new.cache self.loads mid.loads new.loads (c.spots.invariant.touched v told was) (c.load_ahead.ensures.touches.touched v (only.leaves.now_stays ∙ told) held);
       loaded = λ sound all.
           let still = only_sound self mid c.args.host.now c.spots.host only sound in
@@ -56,7 +56,7 @@ returns-in-Err-clause-touches g c =
     let same : base mid ≡ base self = only.stays.base in
     record {
       touched = λ v told was.
-          let held = subst (λ (b : Base). IsCached b.shape.fields (v b.file) mid.cache) (sym same) (only.cached v told was) in
+          let held = subst (λ (b : Base). IsCached (view_of b) (v b.file) mid.cache) (sym same) (only.cached v told was) in
           some_stop self mid same v c.args.spots.now c.spots.spot-index _ c.spots-test.true self.cache mid.cache new.cache self.loads mid.loads new.loads (c.spots.invariant.touched v told was) (c.load_ahead.ensures.touches.touched v (only.leaves.now_stays ∙ told) held);
       loaded = λ sound all. search rules;
       never_damaged = λ sound all p e.

@@ -14,13 +14,13 @@ pub seek-requires : goal.seek-requires
 seek-requires g c = omega (arith, c.requires, all_long (g.H.Host.now c.args.self.now.host.now) (base c.args.self.now.reservoir.now) c.args.self.now.reservoir.now.open.events)
 
 pub at-requires-clause-number : goal.at-requires-clause-number
-at-requires-clause-number g c = omega (arith, c.requires, c.seek.ensures.number, all_long (g.H.Host.now c.args.self.now.host.now) (base c.args.self.now.reservoir.now) c.args.self.now.reservoir.now.open.events, ap (λ (b : Base). b.committed) c.seek.ensures.stays.base, ap length c.seek.ensures.stays.opened)
+at-requires-clause-number g c = omega (arith, c.requires, c.seek.ensures.sought.number, all_long (g.H.Host.now c.args.self.now.host.now) (base c.args.self.now.reservoir.now) c.args.self.now.reservoir.now.open.events, ap (λ (b : Base). b.committed) c.seek.ensures.only.stays.base, ap length c.seek.ensures.only.stays.opened)
 
 pub returns-in-Err : goal.returns-in-Err
 returns-in-Err g c =
-    let stays = c.seek.ensures.stays in
-    let same = c.seek.ensures.leaves.now_stays in
-    let goes = goes_seek g.H.Host.now g.H.Host.may g.H.Host.clock g.H.Host.since g.H.Host.said g.H.Host.out_faults c.args.self.now.reservoir c.args.self.now.host (record { ref_ptr = c.args.self.now.reservoir.ref_ptr; ghost_name = c.args.self.now.reservoir.ghost_name; now = c.seek.new.self }) (record { ref_ptr = c.args.self.now.host.ref_ptr; ghost_name = c.args.self.now.host.ghost_name; now = c.seek.new.host }) refl refl stays c.seek.ensures.leaves c.seek.ensures.out_faults c.seek.ensures.cached c.seek.ensures.inside in (
+    let stays = c.seek.ensures.only.stays in
+    let same = c.seek.ensures.only.leaves.now_stays in
+    let goes = goes_seek g.H.Host.now g.H.Host.may g.H.Host.clock g.H.Host.since g.H.Host.said g.H.Host.out_faults c.args.self.now.reservoir c.args.self.now.host (record { ref_ptr = c.args.self.now.reservoir.ref_ptr; ghost_name = c.args.self.now.reservoir.ghost_name; now = c.seek.new.self }) (record { ref_ptr = c.args.self.now.host.ref_ptr; ghost_name = c.args.self.now.host.ghost_name; now = c.seek.new.host }) refl refl stays c.seek.ensures.only.leaves c.seek.ensures.only.out_faults_stay c.seek.ensures.only.cached c.seek.ensures.only.inside in (
       (
         refl,
         λ _. tt,
@@ -30,37 +30,37 @@ returns-in-Err g c =
           (λ e. sym (ap (λ (b : Base). b.ended) stays.base) ∙ e, λ e. ap (λ (b : Base). b.ended) stays.base ∙ e),
           goes.sound,
           λ room. omega (arith, room, ap length stays.opened, stays.room),
-          c.seek.ensures.disk_faults,
-          λ e. c.in-Err.ensures.disk (ap (λ (f : ReservoirFault). Err f) (past_disk c.in-Err.fault c.from.result c.from.ensures (err_is c.from.result past.Disk e))),
-          λ p e. illegal_stays (g.H.Host.now c.args.self.now.host.now) (g.H.Host.now c.seek.new.host) c.args.self.now.reservoir.now c.seek.new.self p same stays (c.in-Err.ensures.damaged p (ap (λ (f : ReservoirFault). Err f) (past_damaged c.in-Err.fault c.from.result p c.from.ensures (look_fault c.in-Err.fault c.in-Err.ensures.faults).0 (err_is c.from.result (past.Damaged p) e)))),
-          λ sound spells. (spells_stay (g.H.Host.now c.args.self.now.host.now) (g.H.Host.now c.seek.new.host) c.args.self.now.reservoir.now c.seek.new.self c.seek.new.spot same stays (c.seek.ensures.spelled sound spells), tt),
-          record { stays = stays; cached = c.seek.ensures.cached; inside = c.seek.ensures.inside; touched = c.seek.ensures.touched; loaded = λ answered. absurd answered.2 },
+          c.seek.ensures.only.disk_faults_rise,
+          λ e. c.in-Err.ensures.stops.disk (ap (λ (f : ReservoirFault). Err f) (past_disk c.in-Err.fault c.from.result c.from.ensures (err_is c.from.result past.Disk e))),
+          λ p e. illegal_stays (g.H.Host.now c.args.self.now.host.now) (g.H.Host.now c.seek.new.host) c.args.self.now.reservoir.now c.seek.new.self p same stays (c.in-Err.ensures.stops.damaged p (ap (λ (f : ReservoirFault). Err f) (past_damaged c.in-Err.fault c.from.result p c.from.ensures (look_fault c.in-Err.fault c.in-Err.ensures.stops.faults).0 (err_is c.from.result (past.Damaged p) e)))),
+          λ sound spells. (spells_stay (g.H.Host.now c.args.self.now.host.now) (g.H.Host.now c.seek.new.host) c.args.self.now.reservoir.now c.seek.new.self c.seek.new.spot same stays (c.seek.ensures.sought.spelled sound spells), tt),
+          record { stays = stays; cached = c.seek.ensures.only.cached; inside = c.seek.ensures.only.inside; touched = c.seek.ensures.loads.touched; loaded = λ answered. absurd answered.2 },
           record {
-            untouched = λ going far. let k = c.in-Err.ensures.untouched going far in absurd k.0;
-            hit = λ going near held stands. let k = c.in-Err.ensures.hit going near held stands in absurd k.0;
-            hit_next = λ next going near held turns holds. let k = c.in-Err.ensures.hit_next next going near held turns holds in absurd k.0;
+            untouched = λ going far. let k = c.in-Err.ensures.held.untouched going far in absurd k.0;
+            hit = λ going near held stands. let k = c.in-Err.ensures.held.hit going near held stands in absurd k.0;
+            hit_next = λ next going near held turns holds. let k = c.in-Err.ensures.held.hit_next next going near held turns holds in absurd k.0;
           },
         ),
       ),
       record {
         after = tt;
-        number = c.seek.ensures.number;
+        number = c.seek.ensures.sought.number;
         within = tt;
         event = λ _ _. tt;
         ended = (
-          λ e. c.in-Err.ensures.ended.0 (ap (λ (f : ReservoirFault). Err f) (past_ended c.in-Err.fault c.from.result c.from.ensures (err_is c.from.result past.Ended e))),
-          λ e. ap (λ (f : PastFault). Err f) (c.from.ensures ∙ ap to_past (err_is c.in-Err.fault Ended (c.in-Err.ensures.ended.1 e))),
+          λ e. c.in-Err.ensures.stops.ended.0 (ap (λ (f : ReservoirFault). Err f) (past_ended c.in-Err.fault c.from.result c.from.ensures (err_is c.from.result past.Ended e))),
+          λ e. ap (λ (f : PastFault). Err f) (c.from.ensures ∙ ap to_past (err_is c.in-Err.fault Ended (c.in-Err.ensures.stops.ended.1 e))),
         );
-        never_damaged = λ p sound spells e. c.in-Err.ensures.never_damaged p sound spells (ap (λ (f : ReservoirFault). Err f) (past_damaged c.in-Err.fault c.from.result p c.from.ensures (look_fault c.in-Err.fault c.in-Err.ensures.faults).0 (err_is c.from.result (past.Damaged p) e)));
-        no_full = λ e. (look_fault c.in-Err.fault c.in-Err.ensures.faults).1 (past_full c.in-Err.fault c.from.result c.from.ensures (err_is c.from.result past.Full e));
+        never_damaged = λ p sound spells e. c.in-Err.ensures.stops.never_damaged p sound spells (ap (λ (f : ReservoirFault). Err f) (past_damaged c.in-Err.fault c.from.result p c.from.ensures (look_fault c.in-Err.fault c.in-Err.ensures.stops.faults).0 (err_is c.from.result (past.Damaged p) e)));
+        no_full = λ e. (look_fault c.in-Err.fault c.in-Err.ensures.stops.faults).1 (past_full c.in-Err.fault c.from.result c.from.ensures (err_is c.from.result past.Full e));
       },
     )
 
 pub returns : goal.returns
 returns g c =
-    let stays = c.seek.ensures.stays in
-    let same = c.seek.ensures.leaves.now_stays in
-    let goes = goes_seek g.H.Host.now g.H.Host.may g.H.Host.clock g.H.Host.since g.H.Host.said g.H.Host.out_faults c.args.self.now.reservoir c.args.self.now.host (record { ref_ptr = c.args.self.now.reservoir.ref_ptr; ghost_name = c.args.self.now.reservoir.ghost_name; now = c.seek.new.self }) (record { ref_ptr = c.args.self.now.host.ref_ptr; ghost_name = c.args.self.now.host.ghost_name; now = c.seek.new.host }) refl refl stays c.seek.ensures.leaves c.seek.ensures.out_faults c.seek.ensures.cached c.seek.ensures.inside in (
+    let stays = c.seek.ensures.only.stays in
+    let same = c.seek.ensures.only.leaves.now_stays in
+    let goes = goes_seek g.H.Host.now g.H.Host.may g.H.Host.clock g.H.Host.since g.H.Host.said g.H.Host.out_faults c.args.self.now.reservoir c.args.self.now.host (record { ref_ptr = c.args.self.now.reservoir.ref_ptr; ghost_name = c.args.self.now.reservoir.ghost_name; now = c.seek.new.self }) (record { ref_ptr = c.args.self.now.host.ref_ptr; ghost_name = c.args.self.now.host.ghost_name; now = c.seek.new.host }) refl refl stays c.seek.ensures.only.leaves c.seek.ensures.only.out_faults_stay c.seek.ensures.only.cached c.seek.ensures.only.inside in (
       (
         refl,
         λ _. tt,
@@ -70,24 +70,24 @@ returns g c =
           (λ e. sym (ap (λ (b : Base). b.ended) stays.base) ∙ e, λ e. ap (λ (b : Base). b.ended) stays.base ∙ e),
           goes.sound,
           λ room. omega (arith, room, ap length stays.opened, stays.room),
-          c.seek.ensures.disk_faults,
+          c.seek.ensures.only.disk_faults_rise,
           λ e. absurd (ok_not_err c.at.result past.Disk e),
           λ p e. absurd (ok_not_err c.at.result (past.Damaged p) e),
-          λ sound spells. (spells_stay (g.H.Host.now c.args.self.now.host.now) (g.H.Host.now c.seek.new.host) c.args.self.now.reservoir.now c.seek.new.self c.seek.new.spot same stays (c.seek.ensures.spelled sound spells), later_stays (g.H.Host.now c.args.self.now.host.now) (g.H.Host.now c.seek.new.host) c.args.self.now.reservoir.now c.seek.new.self c.seek.new.spot same stays (c.in-Ok.ensures.finds sound spells).later),
-          record { stays = stays; cached = c.seek.ensures.cached; inside = c.seek.ensures.inside; touched = c.seek.ensures.touched; loaded = λ answered. c.in-Ok.ensures.loaded answered.0 answered.1 },
+          λ sound spells. (spells_stay (g.H.Host.now c.args.self.now.host.now) (g.H.Host.now c.seek.new.host) c.args.self.now.reservoir.now c.seek.new.self c.seek.new.spot same stays (c.seek.ensures.sought.spelled sound spells), later_stays (g.H.Host.now c.args.self.now.host.now) (g.H.Host.now c.seek.new.host) c.args.self.now.reservoir.now c.seek.new.self c.seek.new.spot same stays (c.in-Ok.ensures.sought.finds sound spells).later),
+          record { stays = stays; cached = c.seek.ensures.only.cached; inside = c.seek.ensures.only.inside; touched = c.seek.ensures.loads.touched; loaded = λ answered. c.in-Ok.ensures.loads.loaded answered.0 answered.1 },
           record {
-            untouched = λ going far. let k = c.seek.ensures.untouched going far in (tt, k.1, k.2);
-            hit = λ going near held stands. (tt, (c.seek.ensures.hit going near held stands).1, (c.seek.ensures.hit going near held stands).2);
-            hit_next = λ next going near held turns holds. let k = c.seek.ensures.hit_next next going near held turns holds in (tt, k.1, k.2);
+            untouched = λ going far. let k = c.seek.ensures.held.untouched going far in (tt, k.1, k.2);
+            hit = λ going near held stands. (tt, (c.seek.ensures.held.hit going near held stands).1, (c.seek.ensures.held.hit going near held stands).2);
+            hit_next = λ next going near held turns holds. let k = c.seek.ensures.held.hit_next next going near held turns holds in (tt, k.1, k.2);
           },
         ),
       ),
       record {
         after = tt;
-        number = c.seek.ensures.number;
+        number = c.seek.ensures.sought.number;
         within = some_map c.at.result _ _ (λ x w. (omega (arith, w.0, all_long (g.H.Host.now c.args.self.now.host.now) (base c.args.self.now.reservoir.now) c.args.self.now.reservoir.now.open.events, ap (λ (b : Base). b.committed) stays.base, ap length stays.opened), w.1)) c.at.ensures.within;
-        event = λ sound spells. c.at.ensures.event ∙ seen_stays c.args.self.now.reservoir.now c.seek.new.self c.seek.new.spot stays ∙ (c.in-Ok.ensures.finds sound spells).shows;
-        ended = (λ e. absurd (ok_not_err c.at.result past.Ended e), λ e. absurd (ok_not_err tt Ended (c.in-Ok.ensures.ended.1 e)));
+        event = λ sound spells. c.at.ensures.event ∙ seen_stays c.args.self.now.reservoir.now c.seek.new.self c.seek.new.spot stays ∙ (c.in-Ok.ensures.sought.finds sound spells).shows;
+        ended = (λ e. absurd (ok_not_err c.at.result past.Ended e), λ e. absurd (ok_not_err tt Ended (c.in-Ok.ensures.stops.ended.1 e)));
         never_damaged = λ p sound spells e. ok_not_err c.at.result (past.Damaged p) e;
         no_full = λ e. ok_not_err c.at.result past.Full e;
       },

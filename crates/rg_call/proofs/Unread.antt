@@ -94,6 +94,7 @@ long_taken plan None got took size = subst (λ v. IsLonger 65536 v) (sym took) t
 pub told_fault : (bytes : List ℕ) (cause : ConfigFault) → Tells bytes (r.Err cause) → (cause ≡ config.Memory → ⊥) → Says bytes (r.Err cause)
 told_fault bytes config.Toml tells not = tells
 told_fault bytes config.Stream tells not = tells
+told_fault bytes (config.Defaults why) tells not = tells
 told_fault bytes (config.Settings why) tells not = tells
 told_fault bytes (config.Query number why) tells not = tells
 told_fault bytes config.Memory tells not = absurd (not refl)

@@ -1,5 +1,5 @@
 -- The definitions on worked rows.
-use Rattle.std.proofs.Common.{◌≡◌, ℕ, pos, List, [], ◌∷◌, Bool, true, false, Option, Some, None, take, refl}
+use Rattle.std.proofs.Common.{◌≡◌, ℕ, pos, List, [], ◌∷◌, map, Bool, true, false, Option, Some, None, take, refl}
 use Rattle.std.specs.Prelude.{codes}
 use Rattle.std.specs.Fmt.{digits}
 use Rattle.std.specs.Str.{is_utf8, chars}
@@ -48,10 +48,11 @@ counting filter group window = record { aggs = payments ∷ []; filter = filter;
 abbrev over_five_minutes : List ℕ → List Agg → Asked
 over_five_minutes group aggs = record { aggs = aggs; filter = None; group = group; window = sliding 300000 0 }
 
--- a plan of these queries
+-- a plan of these queries, without defaults
 abbrev asking_all : List ℕ → List Field → List Asked → ℕ → Bool → Planned
 asking_all stream fields queries events header = record {
   shape = record { stream = stream; time = codes "ts"; fields = fields };
+  defaults = map (λ (field : Field). None) fields;
   queries = queries;
   settings = record { cache = 1; chunk = 2; commit = 2; save = 4; events = events; header = header; grace = 0 };
 }

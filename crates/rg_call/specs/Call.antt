@@ -258,6 +258,7 @@ before_damage command = (form_of command).before_damage
 abbrev pub refusal_line : ConfigFault → List ℕ
 refusal_line fault.Toml = codes "refused plan toml\n"
 refusal_line fault.Stream = codes "refused plan stream\n"
+refusal_line (fault.Defaults cause) = codes "refused plan stream\n"
 refusal_line (fault.Settings cause) = codes "refused plan settings\n"
 refusal_line (fault.Query number cause) = codes "refused plan query " ++ (decimal number ++ codes "\n")
 refusal_line fault.Memory = []

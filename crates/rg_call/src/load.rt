@@ -32,6 +32,7 @@ fn write_refusal(line: &mut Vec<u8>, fault: ConfigFault) -> Result<(), Memory>
     match fault {
         ConfigFault::Toml => put_bytes(line, b"refused plan toml\n"),
         ConfigFault::Stream => put_bytes(line, b"refused plan stream\n"),
+        ConfigFault::Defaults(_) => put_bytes(line, b"refused plan stream\n"),
         ConfigFault::Settings(_) => put_bytes(line, b"refused plan settings\n"),
         ConfigFault::Query(number, _) => write_refused_query(line, number),
         ConfigFault::Memory => Ok(()),

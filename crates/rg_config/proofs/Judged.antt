@@ -1,5 +1,5 @@
 -- How a text is judged that was read.
-use Rattle.std.proofs.Common.{◌≡◌, ◌⊎◌, inl, inr, ℕ, ◌<◌, List, Option, Some, None, Result, Ok, Err, refl, ap}
+use Rattle.std.proofs.Common.{◌≡◌, ◌⊎◌, inl, inr, ℕ, ◌<◌, List, Some, None, Ok, Err, refl, ap}
 use Rattle.rg_event.specs.Shapes.{Shape}
 use Rattle.rg_metric.specs.Queries.{Asked}
 use Rattle.rg_query.specs.Saying as saying

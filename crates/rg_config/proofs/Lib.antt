@@ -1,7 +1,9 @@
+pub mod DefaultsRead
 pub mod Legal
 pub mod One
 pub mod Taken
 pub mod Total
 pub mod Judged
+pub mod Parts
 pub mod Rests
 pub mod Said

@@ -1,16 +1,18 @@
 -- The bytes of a plan file say one thing.
-use Rattle.std.proofs.Common.{◌≡◌, ◌∙◌, ◌⊎◌, refl, sym, ap, subst, ℕ, suc, ◌+◌, ◌++◌, List, [], ◌∷◌, length, Option, Some, None, Result, Ok, Err, false, inl, inr, arith}
+use Rattle.std.proofs.Common.{◌≡◌, ◌∙◌, ◌⊎◌, refl, sym, ap, subst, ℕ, suc, ◌+◌, ◌++◌, List, [], ◌∷◌, length, Option, Some, None, Result, Ok, Err, inl, inr, arith}
 use Rattle.toml.specs.Data.{Members}
 use Rattle.rg_event.specs.Shapes.{Shape, IsSchema, schema_text}
 use Rattle.rg_event.specs.Reading.{shape_of}
 use Rattle.rg_event.proofs.Readable.{read_back}
+use Rattle.rg_event.specs.declared.value.Value.{Value}
 use Rattle.rg_metric.specs.Queries.{Asked}
 use Rattle.rg_query.proofs.One.{one_query}
-use Rattle.rg_config.specs.Documents.{document, stream_of, rest_of, Settings}
+use Rattle.rg_config.specs.Documents.{document, stream_of, stream_defaults, rest_of, Settings}
 use Rattle.rg_config.specs.Plans.{Planned, HasStream, NoStream, IsJudged, IsTaken, IsRefusedQuery, AllTaken, FirstRefused, Says, Tells, Agrees, planned, judged}
 use Rattle.rg_config.specs.declared.plan.Plan.{Plan}
 use Rattle.rg_config.specs.declared.fault.ConfigFault.{ConfigFault}
-use Rattle.rg_config.specs.declared.fault.ConfigFault.TheVariants.{Toml, Stream, Settings as BadSettings, Query, Memory}
+use Rattle.rg_config.specs.declared.fault.ConfigFault.TheVariants.{Toml, Stream, Defaults as BadDefaults, Settings as BadSettings, Query, Memory}
+use Rattle.rg_config.specs.declared.fault.DefaultsFault.{DefaultsFault}
 use Rattle.rg_config.specs.declared.fault.SettingsFault.{SettingsFault}
 use Rattle.rg_config.specs.declared.fault.QueryRefusal.{QueryRefusal}
 
@@ -104,32 +106,38 @@ one_place number shape (first ∷ front) rest (second ∷ also_front) also_rest 
     also.1 (subst (λ n. IsRefusedQuery n shape also_text other) also_place differs) in
     (ap suc here.0, here.1)
 
--- What is said, stage by stage: the queries of a schema, what stands beside the stream, the table, the bytes
+-- What is said, stage by stage: the queries of a schema, what stands beside the stream, the defaults, the table, the bytes
 
-abbrev QueriesSay : Shape → List (List ℕ) → Settings → Result Planned ConfigFault → Type 0
-QueriesSay shape texts settings said =
-    ((queries : List Asked) × ((said ≡ Ok (record { shape = shape; queries = queries; settings = settings })) × AllTaken 0 shape texts queries))
+abbrev QueriesSay : Shape → List (Option Value) → List (List ℕ) → Settings → Result Planned ConfigFault → Type 0
+QueriesSay shape defaults texts settings said =
+    ((queries : List Asked) × ((said ≡ Ok (record { shape = shape; defaults = defaults; queries = queries; settings = settings })) × AllTaken 0 shape texts queries))
     ⊎ ((number : ℕ) × (refusal : QueryRefusal) × (said ≡ Err (Query number refusal)) × FirstRefused shape texts number refusal)
 
-abbrev RestSays : Members → Shape → Result Planned ConfigFault → Type 0
-RestSays top shape said =
+abbrev RestSays : Members → Shape → List (Option Value) → Result Planned ConfigFault → Type 0
+RestSays top shape defaults said =
     ((fault : SettingsFault) × (said ≡ Err (BadSettings fault)) × (rest_of top ≡ Err fault))
-    ⊎ ((rest : List (List ℕ) × Settings) × ((rest_of top ≡ Ok rest) × QueriesSay shape rest.0 rest.1 said))
+    ⊎ ((rest : List (List ℕ) × Settings) × ((rest_of top ≡ Ok rest) × QueriesSay shape defaults rest.0 rest.1 said))
+
+abbrev DefaultsSay : Members → Shape → Result Planned ConfigFault → Type 0
+DefaultsSay top shape said =
+    ((fault : DefaultsFault) × (said ≡ Err (BadDefaults fault)) × (stream_defaults shape.fields top ≡ Err fault))
+    ⊎ ((defaults : List (Option Value)) × ((stream_defaults shape.fields top ≡ Ok defaults) × RestSays top shape defaults said))
 
 abbrev TopSays : Members → Result Planned ConfigFault → Type 0
-TopSays top said = ((said ≡ Err Stream) × NoStream top) ⊎ ((shape : Shape) × (HasStream top shape × RestSays top shape said))
+TopSays top said = ((said ≡ Err Stream) × NoStream top) ⊎ ((shape : Shape) × (HasStream top shape × DefaultsSay top shape said))
 
 abbrev BytesSay : List ℕ → Result Planned ConfigFault → Type 0
 BytesSay bytes said = ((said ≡ Err Toml) × (document bytes ≡ None)) ⊎ ((top : Members) × ((document bytes ≡ Some top) × TopSays top said))
 
 staged : (bytes : List ℕ) (said : Result Planned ConfigFault) → Says bytes said → BytesSay bytes said
 staged bytes (Ok plan) says =
-    inr (says.top, (says.document, inr (plan.shape, (says.stream, inr ((says.texts, plan.settings), (says.rest, inl (plan.queries, (refl, says.queries))))))))
+    inr (says.top, (says.document, inr (plan.shape, (says.stream, inr (plan.defaults, (says.defaults, inr ((says.texts, plan.settings), (says.rest, inl (plan.queries, (refl, says.queries))))))))))
 staged bytes (Err Toml) says = inl (refl, says)
 staged bytes (Err Stream) says = inr (says.top, (says.document, inl (refl, says.none)))
-staged bytes (Err (BadSettings fault)) says = inr (says.top, (says.document, inr (says.shape, (says.stream, inl (fault, refl, says.none)))))
+staged bytes (Err (BadDefaults fault)) says = inr (says.top, (says.document, inr (says.shape, (says.stream, inl (fault, refl, says.none)))))
+staged bytes (Err (BadSettings fault)) says = inr (says.top, (says.document, inr (says.shape, (says.stream, inr (says.defaults, (says.declared, inl (fault, refl, says.none)))))))
 staged bytes (Err (Query number refusal)) says =
-    inr (says.top, (says.document, inr (says.shape, (says.stream, inr ((says.texts, says.settings), (says.rest, inr (number, refusal, refl, says.first)))))))
+    inr (says.top, (says.document, inr (says.shape, (says.stream, inr (says.defaults, (says.declared, inr ((says.texts, says.settings), (says.rest, inr (number, refusal, refl, says.first)))))))))
 staged bytes (Err Memory) says = absurd says
 
 refused_there :
@@ -151,32 +159,43 @@ one_first shape texts n m refusal other first next =
     let number : n ≡ m = first.place ∙ (same.0 ∙ sym next.place) in
     (number, one_refusal m shape next.text refusal other (subst (λ t. IsRefusedQuery m shape t refusal) same.1 (subst (λ i. IsRefusedQuery i shape first.text refusal) number first.refused)) next.refused)
 
-one_of_queries :
-    (shape : Shape) (texts : List (List ℕ)) (settings : Settings) (said other : Result Planned ConfigFault)
-    → QueriesSay shape texts settings said → QueriesSay shape texts settings other → said ≡ other
-one_of_queries shape texts settings said other (inl (qs, (is, all))) (inl (rs, (also, taken))) =
-    is ∙ (ap (λ queries. Ok (record { shape = shape; queries = queries; settings = settings })) (one_list 0 shape texts qs rs all taken) ∙ sym also)
-one_of_queries shape texts settings said other (inl (qs, (is, all))) (inr (n, refusal, also, first)) =
-    absurd (none_refused 0 shape first.front first.rest first.text refusal qs
-    (subst (λ ts. AllTaken 0 shape ts qs) first.split all)
-    (refused_there shape texts n refusal first))
-one_of_queries shape texts settings said other (inr (n, refusal, is, first)) (inl (rs, (also, taken))) =
-    absurd (none_refused 0 shape first.front first.rest first.text refusal rs
-    (subst (λ ts. AllTaken 0 shape ts rs) first.split taken)
-    (refused_there shape texts n refusal first))
-one_of_queries shape texts settings said other (inr (n, refusal, is, first)) (inr (m, also_refusal, also, next)) =
-    let same = one_first shape texts n m refusal also_refusal first next in
-    is ∙ (ap (λ i. Err (Query i refusal)) same.0 ∙ (ap (λ r. Err (Query m r)) same.1 ∙ sym also))
+module _ (shape : Shape) (defaults : List (Option Value)) where
+  one_of_queries :
+      (texts : List (List ℕ)) (settings : Settings) (said other : Result Planned ConfigFault)
+      → QueriesSay shape defaults texts settings said → QueriesSay shape defaults texts settings other → said ≡ other
+  one_of_queries texts settings said other (inl (qs, (is, all))) (inl (rs, (also, taken))) =
+      is ∙ (ap (λ queries. Ok (record { shape = shape; defaults = defaults; queries = queries; settings = settings })) (one_list 0 shape texts qs rs all taken) ∙ sym also)
+  one_of_queries texts settings said other (inl (qs, (is, all))) (inr (n, refusal, also, first)) =
+      absurd (none_refused 0 shape first.front first.rest first.text refusal qs
+      (subst (λ ts. AllTaken 0 shape ts qs) first.split all)
+      (refused_there shape texts n refusal first))
+  one_of_queries texts settings said other (inr (n, refusal, is, first)) (inl (rs, (also, taken))) =
+      absurd (none_refused 0 shape first.front first.rest first.text refusal rs
+      (subst (λ ts. AllTaken 0 shape ts rs) first.split taken)
+      (refused_there shape texts n refusal first))
+  one_of_queries texts settings said other (inr (n, refusal, is, first)) (inr (m, also_refusal, also, next)) =
+      let same = one_first shape texts n m refusal also_refusal first next in
+      is ∙ (ap (λ i. Err (Query i refusal)) same.0 ∙ (ap (λ r. Err (Query m r)) same.1 ∙ sym also))
 
-one_of_rest : (top : Members) (shape : Shape) (said other : Result Planned ConfigFault) → RestSays top shape said → RestSays top shape other → said ≡ other
-one_of_rest top shape said other (inl (fault, is, none)) (inl (cause, also, missing)) =
+  one_of_rest : (top : Members) (said other : Result Planned ConfigFault) → RestSays top shape defaults said → RestSays top shape defaults other → said ≡ other
+  one_of_rest top said other (inl (fault, is, none)) (inl (cause, also, missing)) =
+      let same : fault ≡ cause = cc in
+      is ∙ (ap (λ f. Err (BadSettings f)) same ∙ sym also)
+  one_of_rest top said other (inl (fault, is, none)) (inr (rest, (some, says))) = absurd cc
+  one_of_rest top said other (inr (rest, (some, says))) (inl (fault, also, missing)) = absurd cc
+  one_of_rest top said other (inr (rest, (some, says))) (inr (more, (also, tells))) =
+      let same : more ≡ rest = cc in
+      one_of_queries rest.0 rest.1 said other says (subst (λ r. QueriesSay shape defaults r.0 r.1 other) same tells)
+
+one_of_defaults : (top : Members) (shape : Shape) (said other : Result Planned ConfigFault) → DefaultsSay top shape said → DefaultsSay top shape other → said ≡ other
+one_of_defaults top shape said other (inl (fault, is, none)) (inl (cause, also, missing)) =
     let same : fault ≡ cause = cc in
-    is ∙ (ap (λ f. Err (BadSettings f)) same ∙ sym also)
-one_of_rest top shape said other (inl (fault, is, none)) (inr (rest, (some, says))) = absurd cc
-one_of_rest top shape said other (inr (rest, (some, says))) (inl (fault, also, missing)) = absurd cc
-one_of_rest top shape said other (inr (rest, (some, says))) (inr (more, (also, tells))) =
-    let same : more ≡ rest = cc in
-    one_of_queries shape rest.0 rest.1 said other says (subst (λ r. QueriesSay shape r.0 r.1 other) same tells)
+    is ∙ (ap (λ f. Err (BadDefaults f)) same ∙ sym also)
+one_of_defaults top shape said other (inl (fault, is, none)) (inr (defaults, (some, says))) = absurd cc
+one_of_defaults top shape said other (inr (defaults, (some, says))) (inl (fault, also, missing)) = absurd cc
+one_of_defaults top shape said other (inr (defaults, (some, says))) (inr (more, (also, tells))) =
+    let same : more ≡ defaults = cc in
+    one_of_rest shape defaults top said other says (subst (λ ds. RestSays top shape ds other) same tells)
 
 one_of_top : (top : Members) (said other : Result Planned ConfigFault) → TopSays top said → TopSays top other → said ≡ other
 one_of_top top said other (inl (is, none)) (inl (also, missing)) = is ∙ sym also
@@ -184,7 +203,7 @@ one_of_top top said other (inl (is, none)) (inr (shape, (has, says))) = absurd (
 one_of_top top said other (inr (shape, (has, says))) (inl (also, missing)) = absurd (missing shape has)
 one_of_top top said other (inr (shape, (has, says))) (inr (form, (holds, tells))) =
     let same : form ≡ shape = one_stream top form shape holds has in
-    one_of_rest top shape said other says (subst (λ s. RestSays top s other) same tells)
+    one_of_defaults top shape said other says (subst (λ s. DefaultsSay top s other) same tells)
 
 one_of_bytes : (bytes : List ℕ) (said other : Result Planned ConfigFault) → BytesSay bytes said → BytesSay bytes other → said ≡ other
 one_of_bytes bytes said other (inl (is, none)) (inl (also, missing)) = is ∙ sym also
@@ -203,5 +222,6 @@ agrees bytes (Ok plan) tells said says = one_plan bytes said (Ok (planned plan))
 agrees bytes (Err Memory) tells said says = inr refl
 agrees bytes (Err Toml) tells said says = inl (one_plan bytes said (Err Toml) says tells)
 agrees bytes (Err Stream) tells said says = inl (one_plan bytes said (Err Stream) says tells)
+agrees bytes (Err (BadDefaults fault)) tells said says = inl (one_plan bytes said (Err (BadDefaults fault)) says tells)
 agrees bytes (Err (BadSettings fault)) tells said says = inl (one_plan bytes said (Err (BadSettings fault)) says tells)
 agrees bytes (Err (Query number refusal)) tells said says = inl (one_plan bytes said (Err (Query number refusal)) says tells)

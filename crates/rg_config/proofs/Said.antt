@@ -1,12 +1,12 @@
 -- Queries that are taken are each said by a text.
-use Rattle.std.proofs.Common.{◌≡◌, refl, sym, subst, ℕ, suc, List, [], ◌∷◌, Option, Some, None, Result, Ok, Err, All}
+use Rattle.std.proofs.Common.{◌≡◌, subst, ℕ, suc, List, [], ◌∷◌, Option, Some, None, Result, Ok, Err, All}
 use Rattle.std.proofs.lemmas.List.Elements.{All-nil, All-cons, All-head, All-tail}
 use Rattle.rg_event.specs.Shapes.{Shape}
 use Rattle.rg_metric.specs.Queries.{Asked}
 use Rattle.rg_query.specs.Legal.{IsLegalQuery}
 use Rattle.rg_query.specs.Saying.{Means, Says}
 use Rattle.rg_query.specs.declared.fault.QueryFault.{QueryFault}
-use Rattle.rg_config.specs.Plans.{AllTaken, IsTaken, judged, unless, excess_in}
+use Rattle.rg_config.specs.Plans.{AllTaken, judged, unless, excess_in}
 use Rattle.rg_config.specs.Read.{IsSaid}
 use Rattle.rg_config.specs.declared.fault.QueryRefusal.{QueryRefusal}
 

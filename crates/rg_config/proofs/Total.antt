@@ -1,16 +1,18 @@
 -- All bytes say something.
-use Rattle.std.proofs.Common.{◌≡◌, ◌⊎◌, ◌∙◌, sym, refl, ap, subst, ℕ, suc, ◌+◌, ◌≤◌, ◌<◌, List, [], ◌∷◌, ◌++◌, length, nat_lt, Bool, true, false, Option, Some, None, Result, Ok, Err, inl, inr, arith}
+use Rattle.std.proofs.Common.{◌≡◌, ◌⊎◌, ◌∙◌, sym, refl, ap, subst, ℕ, suc, ◌+◌, List, [], ◌∷◌, ◌++◌, length, nat_lt, Bool, true, false, Option, Some, None, Result, Ok, Err, inl, inr, arith}
 use Rattle.std.proofs.lemmas.Bool.{ltb-true, ltb-false}
 use Rattle.toml.specs.Data.{Members}
 use Rattle.rg_event.specs.Shapes.{Shape}
+use Rattle.rg_event.specs.declared.value.Value.{Value}
 use Rattle.rg_event.specs.Reading.{shape_of}
 use Rattle.rg_event.proofs.Readable.{joined_of, legal_of, read_back}
 use Rattle.rg_metric.specs.Queries.{Asked}
 use Rattle.rg_query.proofs.Total.{says_something as query_says}
-use Rattle.rg_config.specs.Documents.{document, stream_of, rest_of, Settings}
+use Rattle.rg_config.specs.Documents.{document, stream_of, stream_defaults, rest_of, Settings}
 use Rattle.rg_config.specs.Plans.{Planned, HasStream, NoStream, IsJudged, IsTaken, IsRefusedQuery, AllTaken, FirstRefused, Says, judged}
 use Rattle.rg_config.specs.declared.fault.ConfigFault.{ConfigFault}
-use Rattle.rg_config.specs.declared.fault.ConfigFault.TheVariants.{Toml, Stream, Settings as BadSettings, Query}
+use Rattle.rg_config.specs.declared.fault.ConfigFault.TheVariants.{Toml, Stream, Defaults as BadDefaults, Settings as BadSettings, Query}
+use Rattle.rg_config.specs.declared.fault.DefaultsFault.{DefaultsFault}
 use Rattle.rg_config.specs.declared.fault.SettingsFault.{SettingsFault}
 use Rattle.rg_config.specs.declared.fault.QueryRefusal.{QueryRefusal}
 use Rattle.rg_config.specs.declared.fault.QueryRefusal.TheVariants.{TooMany}
@@ -109,26 +111,33 @@ abbrev SaySomething : List ℕ → Type 0
 SaySomething bytes = (said : Result Planned ConfigFault) × Says bytes said
 
 module _ (bytes : List ℕ) (top : Members) (is : document bytes ≡ Some top) where
-  by_queries : (shape : Shape) → HasStream top shape → (texts : List (List ℕ)) (settings : Settings) → rest_of top ≡ Ok (texts, settings) → TakenOrFirst 0 shape texts → SaySomething bytes
-  by_queries shape stream texts settings rest (inl all) = (
-    Ok (record { shape = shape; queries = all.0; settings = settings }),
-    record { top = top; texts = texts; document = is; stream = stream; rest = rest; queries = all.1 },
-  )
-  by_queries shape stream texts settings rest (inr first) = (
-    Err (Query (length first.front) first.refusal),
-    record { top = top; shape = shape; texts = texts; settings = settings; document = is; stream = stream; rest = rest; first = first_refused shape texts first },
-  )
+  module _ (shape : Shape) (stream : HasStream top shape) where
+    by_queries :
+        (defaults : List (Option Value)) → stream_defaults shape.fields top ≡ Ok defaults → (texts : List (List ℕ)) (settings : Settings)
+        → rest_of top ≡ Ok (texts, settings) → TakenOrFirst 0 shape texts → SaySomething bytes
+    by_queries defaults declared texts settings rest (inl all) = (
+      Ok (record { shape = shape; defaults = defaults; queries = all.0; settings = settings }),
+      record { top = top; texts = texts; document = is; stream = stream; defaults = declared; rest = rest; queries = all.1 },
+    )
+    by_queries defaults declared texts settings rest (inr first) = (
+      Err (Query (length first.front) first.refusal),
+      record { top = top; shape = shape; defaults = defaults; texts = texts; settings = settings; document = is; stream = stream; declared = declared; rest = rest; first = first_refused shape texts first },
+    )
 
-  by_rest : (shape : Shape) → HasStream top shape → (rest : Result (List (List ℕ) × Settings) SettingsFault) → rest_of top ≡ rest → SaySomething bytes
-  by_rest shape stream (Ok (texts, settings)) rest = by_queries shape stream texts settings rest (taken_or_first 0 shape texts)
-  by_rest shape stream (Err cause) none = (Err (BadSettings cause), record { top = top; shape = shape; document = is; stream = stream; none = none })
+    by_rest : (defaults : List (Option Value)) → stream_defaults shape.fields top ≡ Ok defaults → (rest : Result (List (List ℕ) × Settings) SettingsFault) → rest_of top ≡ rest → SaySomething bytes
+    by_rest defaults declared (Ok (texts, settings)) rest = by_queries defaults declared texts settings rest (taken_or_first 0 shape texts)
+    by_rest defaults declared (Err cause) none = (Err (BadSettings cause), record { top = top; shape = shape; defaults = defaults; document = is; stream = stream; declared = declared; none = none })
+
+    by_defaults : (defaults : Result (List (Option Value)) DefaultsFault) → stream_defaults shape.fields top ≡ defaults → SaySomething bytes
+    by_defaults (Ok defaults) declared = by_rest defaults declared (rest_of top) refl
+    by_defaults (Err cause) none = (Err (BadDefaults cause), record { top = top; shape = shape; document = is; stream = stream; none = none })
 
   no_stream : NoStream top → SaySomething bytes
   no_stream none = (Err Stream, record { top = top; document = is; none = none })
 
   by_shape : (text : List ℕ) → stream_of top ≡ Some text → (shape : Option Shape) → shape_of text ≡ shape → SaySomething bytes
   by_shape text described (Some shape) read =
-      by_rest shape (record { text = text; described = described; is = joined_of text shape read; legal = legal_of text shape read }) (rest_of top) refl
+      by_defaults shape (record { text = text; described = described; is = joined_of text shape read; legal = legal_of text shape read }) (stream_defaults shape.fields top) refl
   by_shape text described None none = no_stream (λ shape stream.
       let same : stream.text ≡ text = cc (described, stream.described) in
       let read : shape_of text ≡ Some shape = read_back text shape stream.legal (sym same ∙ stream.is) in

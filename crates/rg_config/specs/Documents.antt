@@ -1,9 +1,15 @@
 -- What stands in the table of a plan file.
-use Rattle.std.specs.Prelude.{ℕ, ℤ, pos, negsuc, ◌*◌, ◌≤◌, ◌^◌, nat_le, ◌&&◌, ◌||◌, Bool, true, false, codes, List, [], ◌∷◌, ◌++◌, Option, None, Some, option_map, option_and_then, Result, Ok, Err, bytes_eq, if◌then◌else◌}
+use Rattle.std.specs.Prelude.{ℕ, suc, ℤ, pos, negsuc, ◌*◌, ◌≤◌, ◌^◌, nat_le, ◌&&◌, ◌||◌, Bool, true, false, codes, List, [], ◌∷◌, ◌++◌, map, Option, None, Some, option_map, option_and_then, Result, Ok, Err, bytes_eq, if◌then◌else◌}
 use Rattle.std.specs.Option.{ok_or}
 use Rattle.std.specs.Str.{is_utf8}
 use Rattle.toml.specs.Data.{Data, Items, Members, no_items, item, no_members, member, get_member, as_str, as_array, as_integer, as_bool, as_table}
 use Rattle.toml.specs.Parse.{parse_document}
+use Rattle.rg_event.specs.Parsing.{value_of}
+use Rattle.rg_event.specs.declared.schema.Field.{Field}
+use Rattle.rg_event.specs.declared.value.Kind.{Kind}
+use Rattle.rg_event.specs.declared.value.Value.{Value}
+use Rattle.rg_config.specs.declared.fault.DefaultsFault.{DefaultsFault}
+use Rattle.rg_config.specs.declared.fault.DefaultsFault.TheVariants.{Table as NoTable, Key as NoColumn, Column}
 use Rattle.rg_config.specs.declared.fault.SettingsFault.{SettingsFault}
 use Rattle.rg_config.specs.declared.fault.SettingsFault.TheVariants.{TopKey, Queries, Table, Key, Cache, Chunk, Commit, Save, Events, Header, Grace, CachedEvents}
 
@@ -47,15 +53,59 @@ joined (column ∷ columns) = column ++ more_columns columns
 abbrev pub stream_text : List ℕ → List (List ℕ) → List ℕ
 stream_text name columns = name ++ (codes "(" ++ (joined columns ++ codes ")"))
 
--- the text of the stream that a table describes, whose keys are `name`, a string, and `columns`, an array of strings
+-- the text of the stream that a table describes: its keys are `name`, a string, `columns`, an array of strings, and, where it is there, `defaults`
 abbrev pub described : Members → Option (List ℕ)
 described table =
-    if all_keys (codes "name" ∷ codes "columns" ∷ []) table then
+    if all_keys (codes "name" ∷ codes "columns" ∷ codes "defaults" ∷ []) table then
     option_and_then (λ name. option_map (stream_text name) (texts_at (codes "columns") table)) (text_at (codes "name") table)
     else None
 
+-- the table of the stream
+abbrev pub stream_table : Members → Option Members
+stream_table top = option_and_then as_table (get_member (codes "stream") top)
+
 abbrev pub stream_of : Members → Option (List ℕ)
-stream_of top = option_and_then described (option_and_then as_table (get_member (codes "stream") top))
+stream_of top = option_and_then described (stream_table top)
+
+-- a reading of what another one found, or that one's fault
+abbrev pub and_then : {A B E : Type 0} → (A → Result B E) → Result A E → Result B E
+and_then f (Ok found) = f found
+and_then f (Err fault) = Err fault
+
+-- The defaults of its columns
+
+-- the names of the columns
+abbrev pub names : List Field → List (List ℕ)
+names fields = map (λ (field : Field). field.name) fields
+
+-- the default of a column of this kind: none where nothing is said, or the value that a string says
+abbrev pub default_of : Kind → Option Data → Option (Option Value)
+default_of kind None = Some None
+default_of kind (Some found) = option_map Some (option_and_then (value_of kind) (as_str found))
+
+-- that of each column, of which the first has this number; or the number of the first that has a bad one
+abbrev pub defaults_from : ℕ → List Field → Members → Result (List (Option Value)) DefaultsFault
+defaults_from number [] table = Ok []
+defaults_from number (field ∷ fields) table =
+    and_then (λ default. and_then (λ more. Ok (default ∷ more)) (defaults_from (suc number) fields table))
+    (ok_or (default_of field.kind (get_member field.name table)) (Column number))
+
+-- those that a table says, whose keys are names of the columns: the time has number 0
+abbrev pub defaults_in : List Field → Members → Result (List (Option Value)) DefaultsFault
+defaults_in fields table = if all_keys (names fields) table then defaults_from 1 fields table else Err NoColumn
+
+-- none for any of them
+abbrev pub no_defaults : List Field → List (Option Value)
+no_defaults fields = map (λ (field : Field). None) fields
+
+-- none where nothing is said
+abbrev pub defaults_or : List Field → Option Data → Result (List (Option Value)) DefaultsFault
+defaults_or fields None = Ok (no_defaults fields)
+defaults_or fields (Some found) = and_then (defaults_in fields) (ok_or (as_table found) NoTable)
+
+-- those that the table of the stream says
+abbrev pub stream_defaults : List Field → Members → Result (List (Option Value)) DefaultsFault
+stream_defaults fields top = defaults_or fields (option_and_then (get_member (codes "defaults")) (stream_table top))
 
 -- The settings
 
@@ -87,11 +137,6 @@ pub record AreInRange (settings : Settings) : Type 0 where
   pub save : IsFromTo 1 1000000 settings.save
   pub events : IsFromTo 1 (2 ^ 40) settings.events
   pub grace : IsFromTo 0 (10 ^ 15) settings.grace
-
--- a reading of what another one found, or that one's fault
-abbrev pub and_then : {A B : Type 0} → (A → Result B SettingsFault) → Result A SettingsFault → Result B SettingsFault
-and_then f (Ok found) = f found
-and_then f (Err fault) = Err fault
 
 -- an integer within bounds
 abbrev pub within : ℕ → ℕ → ℤ → Option ℕ

@@ -2,13 +2,15 @@
 use Rattle.std.specs.Prelude.{◌≡◌, ◌⊎◌, ◌<◌, ◌≤◌, ℕ, suc, nat_lt, List, [], ◌∷◌, ◌++◌, length, Option, Some, None, Result, Ok, Err, ⊤, if◌then◌else◌}
 use Rattle.toml.specs.Data.{Members}
 use Rattle.rg_event.specs.Shapes.{Shape, IsSchema, schema_text}
+use Rattle.rg_event.specs.declared.value.Value.{Value}
 use Rattle.rg_metric.specs.Queries.{Asked}
 use Rattle.rg_plan.specs.Named.{asked_by}
 use Rattle.rg_query.specs.Saying as saying
 use Rattle.rg_query.specs.declared.fault.QueryFault.{QueryFault}
-use Rattle.rg_config.specs.Documents.{document, stream_of, rest_of, Settings}
+use Rattle.rg_config.specs.Documents.{document, stream_of, stream_defaults, rest_of, Settings}
 use Rattle.rg_config.specs.declared.fault.ConfigFault.{ConfigFault}
-use Rattle.rg_config.specs.declared.fault.ConfigFault.TheVariants.{Toml, Stream, Settings as BadSettings, Query, Memory}
+use Rattle.rg_config.specs.declared.fault.ConfigFault.TheVariants.{Toml, Stream, Defaults as BadDefaults, Settings as BadSettings, Query, Memory}
+use Rattle.rg_config.specs.declared.fault.DefaultsFault.{DefaultsFault}
 use Rattle.rg_config.specs.declared.fault.SettingsFault.{SettingsFault}
 use Rattle.rg_config.specs.declared.fault.QueryRefusal.{QueryRefusal}
 use Rattle.rg_config.specs.declared.fault.QueryRefusal.TheVariants.{TooMany, Text, TooManyAggs, TooManyColumns}
@@ -17,12 +19,15 @@ use Rattle.rg_config.specs.declared.plan.Plan.{Plan}
 -- a plan as plain data
 pub record Planned : Type 0 where
   pub shape : Shape
+  -- for each column past the time, what stands for its value in the events that came before the column
+  pub defaults : List (Option Value)
   pub queries : List Asked
   pub settings : Settings
 
 abbrev pub planned : Plan → Planned
 planned plan = record {
   shape = plan.schema;
+  defaults = plan.defaults;
   queries = asked_by plan.task;
   settings = record { cache = plan.room.cache; chunk = plan.room.chunk; commit = plan.commit; save = plan.save; events = plan.room.limit; header = plan.header; grace = plan.grace };
 }
@@ -90,6 +95,7 @@ pub record HasPlan (bytes : List ℕ) (plan : Planned) : Type 0 where
   pub texts : List (List ℕ)
   pub document : document bytes ≡ Some top
   pub stream : HasStream top plan.shape
+  pub defaults : stream_defaults plan.shape.fields top ≡ Ok plan.defaults
   pub rest : rest_of top ≡ Ok (texts, plan.settings)
   pub queries : AllTaken 0 plan.shape texts plan.queries
 
@@ -98,28 +104,40 @@ pub record HasNoStream (bytes : List ℕ) : Type 0 where
   pub document : document bytes ≡ Some top
   pub none : NoStream top
 
-pub record HasNoSettings (bytes : List ℕ) (fault : SettingsFault) : Type 0 where
+pub record HasNoDefaults (bytes : List ℕ) (fault : DefaultsFault) : Type 0 where
   pub top : Members
   pub shape : Shape
   pub document : document bytes ≡ Some top
   pub stream : HasStream top shape
+  pub none : stream_defaults shape.fields top ≡ Err fault
+
+pub record HasNoSettings (bytes : List ℕ) (fault : SettingsFault) : Type 0 where
+  pub top : Members
+  pub shape : Shape
+  pub defaults : List (Option Value)
+  pub document : document bytes ≡ Some top
+  pub stream : HasStream top shape
+  pub declared : stream_defaults shape.fields top ≡ Ok defaults
   pub none : rest_of top ≡ Err fault
 
 pub record HasNoQuery (bytes : List ℕ) (number : ℕ) (refusal : QueryRefusal) : Type 0 where
   pub top : Members
   pub shape : Shape
+  pub defaults : List (Option Value)
   pub texts : List (List ℕ)
   pub settings : Settings
   pub document : document bytes ≡ Some top
   pub stream : HasStream top shape
+  pub declared : stream_defaults shape.fields top ≡ Ok defaults
   pub rest : rest_of top ≡ Ok (texts, settings)
   pub first : FirstRefused shape texts number refusal
 
--- the bytes say a plan, or: they are no document; no stream; no settings, or no queries; or a query that isn't taken
+-- the bytes say a plan, or: they are no document; no stream; no defaults of its columns; no settings, or no queries; or a query that isn't taken
 abbrev pub Says : List ℕ → Result Planned ConfigFault → Type 0
 Says bytes (Ok plan) = HasPlan bytes plan
 Says bytes (Err Toml) = document bytes ≡ None
 Says bytes (Err Stream) = HasNoStream bytes
+Says bytes (Err (BadDefaults fault)) = HasNoDefaults bytes fault
 Says bytes (Err (BadSettings fault)) = HasNoSettings bytes fault
 Says bytes (Err (Query number refusal)) = HasNoQuery bytes number refusal
 Says bytes (Err Memory) = ⊥

@@ -1,6 +1,7 @@
 -- A plan as it was read.
 use Rattle.std.specs.Prelude.{◌≡◌, ℕ, List, map, Ok, All}
 use Rattle.rg_event.specs.Shapes.{Shape}
+use Rattle.rg_growth.specs.Growing.{AreDefaultsOf}
 use Rattle.rg_metric.specs.Queries.{Asked}
 use Rattle.rg_plan.specs.Plans.{plan_for}
 use Rattle.rg_query.specs.Legal.{IsLegalQuery}
@@ -16,10 +17,12 @@ pub record IsSaid (shape : Shape) (query : Asked) : Type 0 where
   pub text : List ℕ
   pub means : Means shape text (Ok query)
 
--- its queries stand beside as they are printed, its task is their plan, some text says each of them over its schema, and each setting lies in its range
+-- Its queries stand beside as they are printed, its task is their plan, some text says each of them over its schema, each
+-- setting lies in its range, and each column has a default of its kind or none.
 pub record IsReadPlan (plan : Plan) : Type 0 where
   pub printed : plan.queries ≡ map (query_text plan.schema) (planned plan).queries
   pub task : plan.task ≡ plan_for (planned plan).queries
   pub legal : All (IsLegalQuery plan.schema) (planned plan).queries
   pub said : All (IsSaid plan.schema) (planned plan).queries
   pub ranges : AreInRange (planned plan).settings
+  pub defaults : AreDefaultsOf plan.schema.fields plan.defaults

@@ -7,12 +7,26 @@ pub enum ConfigFault {
     Toml,
     /// The table `stream` describes no schema.
     Stream,
+    /// The defaults of its columns can't be read, for this cause.
+    Defaults(DefaultsFault),
     /// What stands beside the stream can't be read, for this cause.
     Settings(SettingsFault),
     /// The first query, counted from 0, that isn't taken, and why.
     Query(u32, QueryRefusal),
     /// Memory ran out.
     Memory,
+}
+
+/// Why the defaults of a stream's columns can't be read. The first of this order is answered.
+#[derive(Clone, Copy, Debug, PartialEq, Eq, Hash)]
+pub enum DefaultsFault {
+    /// `defaults` is no table.
+    Table,
+    /// A key of it is the name of no column past the time.
+    Key,
+    /// That of the column with this number, where the time has number 0, is no string that says a value of its kind; no
+    /// such column stands before it.
+    Column(u32),
 }
 
 /// Why what stands beside the stream can't be read. The first of this order is answered.

@@ -5,19 +5,21 @@ ghost use Rattle.rg_plan.specs.Offsets.{IsMeasured};
 ghost use Rattle.rg_plan.specs.Plans.{plan_for, excess};
 ghost use Rattle.rg_query.specs.Legal.{IsLegalQuery};
 ghost use Rattle.rg_query.specs.Printing.{query_text};
+ghost use Rattle.rg_growth.specs.Growing.{AreDefaultsOf};
 ghost use Rattle.rg_config.specs.Plans.{Planned, planned, Says, Tells, Agrees};
 ghost use Rattle.toml.specs.View.{table_view};
 ghost use Rattle.rg_config.specs.Documents.{AreInRange, rest_of};
-ghost use Rattle.rg_config.specs.Read.{IsSaid};
-ghost use Rattle.rg_config.specs.Reading.{ReadsRest, settings_view};
+ghost use Rattle.rg_config.specs.Read.{IsReadPlan, IsSaid};
+ghost use Rattle.rg_config.specs.Reading.{ReadsPlan, ReadsRest, settings_view};
 ghost use Rattle.rg_config.specs.declared.fault.ConfigFault.{ConfigFault as Fault};
 
 use crate::fault::{ConfigFault, SettingsFault};
 use crate::queries::{Queries, read_queries};
 use crate::settings::{Settings, read_settings};
-use crate::stream::read_stream;
+use crate::stream::{Stream, read_stream};
 use crate::table::{has_only, read_table, texts_at};
 use rg_event::{Room, Schema, Texts};
+use rg_growth::Defaults;
 use rg_metric::Query;
 use rg_plan::{PlanFault, TaskPlan, compile};
 use std::alloc::Global;
@@ -31,6 +33,9 @@ const TOP_KEYS: [&str; 3] = ["queries", "stream", "settings"];
 pub struct Plan {
     /// The columns of the input.
     pub schema: Schema,
+    /// For each column past the time, what stands for its value in the events that came before the column, if
+    /// something does.
+    pub defaults: Defaults,
     /// The queries as they are printed, in order.
     pub queries: Texts,
     /// The plan of the queries: 1 to 64.
@@ -68,27 +73,38 @@ pub fn read_plan(alloc: Global, bytes: &[u8]) -> Result<Plan, ConfigFault>
     ensures said { IfOk result (λ plan. All (IsSaid plan.schema) (planned plan).queries) }
     // each setting lies in its range
     ensures ranges { IfOk result (λ plan. AreInRange (planned plan).settings) }
+    // each column has a default of its kind, or none
+    ensures defaults { IfOk result (λ plan. AreDefaultsOf plan.schema.fields plan.defaults) }
 {
     plan_of(alloc, bytes)
 }
 
 /// Reads a plan, part by part.
-#[tactic(auto, using(crate::proofs::Legal::measured, crate::proofs::Legal::some_aggs, crate::proofs::Said::all_said))]
+#[tactic(auto, using(crate::proofs::Parts::table_tells, crate::proofs::Parts::stream_tells, crate::proofs::Parts::rest_tells, crate::proofs::Parts::plan_tells))]
 fn plan_of(alloc: Global, bytes: &[u8]) -> Result<Plan, ConfigFault>
     ensures sound { Tells bytes.now result }
-    ensures printed { IfOk result (λ plan. plan.queries ≡ map (query_text plan.schema) (planned plan).queries) }
-    ensures task { IfOk result (λ plan. plan.task ≡ plan_for (planned plan).queries) }
-    ensures legal { IfOk result (λ plan. All (IsLegalQuery plan.schema) (planned plan).queries) }
-    ensures said { IfOk result (λ plan. All (IsSaid plan.schema) (planned plan).queries) }
-    ensures ranges { IfOk result (λ plan. AreInRange (planned plan).settings) }
+    ensures read { IfOk result IsReadPlan }
 {
     let top = read_table(alloc, bytes)?;
-    let schema = read_stream(alloc, &top)?;
-    let Rest { texts, settings } = read_rest(alloc, &top)?;
-    let Queries { printed, parsed } = read_queries(alloc, &schema, &texts)?;
+    let stream = read_stream(alloc, &top)?;
+    let rest = read_rest(alloc, &top)?;
+    plan_with(alloc, stream, rest)
+}
+
+/// The plan with this stream, and with what stands beside it.
+#[tactic(auto, using(crate::proofs::Legal::measured, crate::proofs::Legal::some_aggs, crate::proofs::Said::all_said))]
+fn plan_with(alloc: Global, stream: Stream, rest: Rest<'_>) -> Result<Plan, ConfigFault>
+    requires ranges { AreInRange (settings_view rest.settings) }
+    requires defaults { AreDefaultsOf stream.schema.fields stream.defaults }
+    ensures reads { ReadsPlan stream.schema stream.defaults (map (λ text. text.now) rest.entry.texts.items) (settings_view rest.entry.settings) result }
+    ensures read { IfOk result IsReadPlan }
+{
+    let Queries { printed, parsed } = read_queries(alloc, &stream.schema, &rest.texts)?;
     let task = task_of(alloc, &parsed)?;
+    let settings = rest.settings;
     Ok(Plan {
-        schema,
+        schema: stream.schema,
+        defaults: stream.defaults,
         queries: printed,
         task,
         room: settings.room,

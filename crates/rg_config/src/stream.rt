@@ -1,28 +1,68 @@
-ghost use Rattle.std.specs.Prelude.{◌≡◌, ◌++◌, map, IfOk, OnOk};
-ghost use Rattle.toml.specs.View.{table_view};
-ghost use Rattle.rg_config.specs.Documents.{stream_text as the_text, more_columns, joined as the_columns, described as the_description, stream_of};
-ghost use Rattle.rg_config.specs.Reading.{Reads, ReadsStream};
+ghost use Rattle.std.specs.Prelude.{◌≡◌, ◌++◌, codes, map, option_map, option_and_then, IfOk, OnOk};
+ghost use Rattle.toml.specs.Data.{get_member};
+ghost use Rattle.toml.specs.View.{view, table_view};
+ghost use Rattle.rg_growth.specs.Growing.{AreDefaultsOf};
+ghost use Rattle.rg_config.specs.Documents.{stream_text as the_text, more_columns, joined as the_columns, described as the_description, stream_of, stream_table};
+ghost use Rattle.rg_config.specs.Reading.{Reads, ReadsSchema, ReadsStream};
 ghost use Rattle.rg_config.specs.declared.fault.ConfigFault.TheVariants as Fault;
 
+use crate::defaults::read_defaults;
 use crate::fault::ConfigFault;
 use crate::table::{has_only, text_at, texts_at, value_at};
 use rg_bytes::Memory;
 use rg_event::{Schema, SchemaFault};
+use rg_growth::Defaults;
 use std::alloc::Global;
-use toml::Table;
+use toml::{Table, Value};
 
 /// The keys of the table of the stream.
-const STREAM_KEYS: [&str; 2] = ["name", "columns"];
+const STREAM_KEYS: [&str; 3] = ["name", "columns", "defaults"];
+
+/// The schema of a stream, and the defaults of its columns.
+#[derive(Debug, Drop)]
+pub(crate) struct Stream {
+    pub(crate) schema: Schema,
+    pub(crate) defaults: Defaults,
+}
+
+/// Reads the stream of a plan.
+#[tactic(auto, using(crate::proofs::DefaultsRead::are_defaults, crate::proofs::Parts::schema_refused, crate::proofs::Parts::defaults_read, crate::proofs::Parts::defaults_refused))]
+pub(crate) fn read_stream(alloc: Global, top: &Table) -> Result<Stream, ConfigFault>
+    ensures reads { ReadsStream (table_view top.now) result }
+    ensures defaults { IfOk result (λ stream. AreDefaultsOf stream.schema.fields stream.defaults) }
+{
+    let schema = match read_schema(alloc, top) {
+        Ok(schema) => schema,
+        Err(fault) => return Err(fault),
+    };
+    match read_defaults(alloc, schema.fields(), defaults_said(top)) {
+        Ok(defaults) => Ok(Stream { schema, defaults }),
+        Err(fault) => Err(fault),
+    }
+}
 
 /// The schema of the stream.
-pub(crate) fn read_stream(alloc: Global, top: &Table) -> Result<Schema, ConfigFault>
-    ensures { ReadsStream (table_view top.now) result }
+fn read_schema(alloc: Global, top: &Table) -> Result<Schema, ConfigFault>
+    ensures { ReadsSchema (table_view top.now) result }
 {
     let text = stream_text(alloc, top)?;
     match Schema::parse(alloc, &text) {
         Ok(schema) => Ok(schema),
         Err(SchemaFault::Bad) => Err(ConfigFault::Stream),
         Err(SchemaFault::Memory) => Err(ConfigFault::Memory),
+    }
+}
+
+/// What the table of the stream says of defaults.
+fn defaults_said(top: &Table) -> Option<&Value>
+    ensures { option_map (λ value. view value.now) result ≡ option_and_then (get_member (codes "defaults")) (stream_table (table_view top.now)) }
+{
+    match value_at(top, "stream") {
+        Some(value) => match value.as_table() {
+            Some(table) => value_at(table, "defaults"),
+            None => None,
+        },
+        None => None,
     }
 }
 

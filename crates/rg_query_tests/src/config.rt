@@ -1,87 +1,38 @@
 use rg_bytes::Memory;
-use rg_config::{ConfigFault, Plan, QueryRefusal, SettingsFault, read_plan};
-use rg_event::Room;
+use rg_config::{ConfigFault, DefaultsFault, Plan, QueryRefusal, SettingsFault, read_plan};
+use rg_event::{Room, Value};
 use rg_query::QueryFault;
 use std::alloc::Global;
 use std::test::Fail;
 
-const COUNT: &[u8] = b"SELECT count(*) FROM payments GROUP BY card OVER SLIDING 5 minutes";
+/// A list of one query.
+const QUERIES: &[u8] =
+    b"queries = [\"SELECT count(*) FROM payments GROUP BY card OVER SLIDING 5 minutes\"]\n";
 
 /// That query as it is printed: 5 minutes are 300,000 milliseconds.
 const PRINTED: &[u8] = b"SELECT count(*) FROM payments GROUP BY card OVER SLIDING 300000 ms";
 
-/// A plan of one query, with this stream and these settings.
-fn plan_with(alloc: Global, stream: &[u8], settings: &[u8]) -> Result<Vec<u8>, Memory> {
-    let mut text = Vec::from_slice(alloc, b"queries = [\"")?;
-    text.extend_from_slice(COUNT)?;
-    text.extend_from_slice(b"\"]\n")?;
-    text.extend_from_slice(stream)?;
-    text.extend_from_slice(settings)?;
-    Ok(text)
-}
-
 const PAYMENTS: &[u8] =
     b"[stream]\nname = \"payments\"\ncolumns = [\"ts\", \"card:text\", \"merchant:text\", \"amount:int\"]\n";
 
-/// A plan of `COUNT` so many times and of a last query, without settings.
-fn plan_of(alloc: Global, before: usize, last: &[u8]) -> Result<Vec<u8>, Memory> {
-    let mut text = Vec::from_slice(alloc, b"queries = [")?;
-    for _ in 0..before {
-        text.extend_from_slice(b"\"")?;
-        text.extend_from_slice(COUNT)?;
-        text.extend_from_slice(b"\", ")?;
+/// These texts, one behind another.
+fn joined(alloc: Global, texts: &[&[u8]]) -> Result<Vec<u8>, Memory> {
+    let mut all = Vec::new(alloc);
+    for text in texts {
+        all.extend_from_slice(text)?;
     }
-    text.extend_from_slice(b"\"")?;
-    text.extend_from_slice(last)?;
-    text.extend_from_slice(b"\"]\n")?;
-    text.extend_from_slice(PAYMENTS)?;
-    Ok(text)
+    Ok(all)
 }
 
-/// A query with so many counts, or columns of its key.
-fn wide(alloc: Global, counts: usize, columns: usize) -> Result<Vec<u8>, Memory> {
-    let mut text = Vec::from_slice(alloc, b"SELECT count(*)")?;
-    for _ in 1..counts {
-        text.extend_from_slice(b", count(*)")?;
-    }
-    text.extend_from_slice(b" FROM payments GROUP BY card")?;
-    for _ in 1..columns {
-        text.extend_from_slice(b", card")?;
-    }
-    text.extend_from_slice(b" OVER INFINITE")?;
-    Ok(text)
-}
-
-/// Whether a plan's text is refused for this fault.
-fn is_refused(alloc: Global, text: &[u8], fault: ConfigFault) -> bool {
-    match read_plan(alloc, text) {
-        Ok(_) => false,
-        Err(found) => found == fault,
-    }
-}
-
-#[test]
-fn what_is_no_document_is_toml(rt: HostRuntime) {
-    assert!(rt; is_refused(rt.alloc(), b"x", ConfigFault::Toml));
-    assert!(rt; is_refused(rt.alloc(), b"x = \"\xff\"", ConfigFault::Toml));
-}
-
-/// Whether a plan with this stream and these settings is refused for this fault.
-fn is_refused_with(
-    alloc: Global,
-    stream: &[u8],
-    settings: &[u8],
-    fault: ConfigFault,
-) -> Result<bool, Memory> {
-    let text = plan_with(alloc, stream, settings)?;
-    let is_so = is_refused(alloc, &text, fault);
-    drop(text);
-    Ok(is_so)
+/// What the plan with these texts is refused for, if it is.
+fn fault_of(alloc: Global, texts: &[&[u8]]) -> Result<Option<ConfigFault>, Memory> {
+    let text = joined(alloc, texts)?;
+    Ok(read_plan(alloc, &text).err())
 }
 
 #[test]
 fn a_stream_is_a_name_and_columns(rt: HostRuntime) -> Result<(), Fail> {
-    let streams: [&[u8]; 7] = [
+    let streams: [&[u8]; 8] = [
         b"",
         b"stream = 1\n",
         b"[stream]\nname = \"p\"\n",
@@ -89,21 +40,60 @@ fn a_stream_is_a_name_and_columns(rt: HostRuntime) -> Result<(), Fail> {
         b"[stream]\nname = \"p\"\ncolumns = [\"t\"]\nkey = 1\n",
         b"[stream]\nname = \"p\"\ncolumns = [\"t\", \"a:float\"]\n",
         b"[stream]\nname = \"p\"\ncolumns = []\n",
+        b"[stream]\nname = \"p\"\ncolumns = [\"t t\"]\ndefaults = 1\n",
     ];
-    let settings = b"[settings]\ncache = 0\n";
     for stream in streams {
-        assert!(rt; is_refused_with(rt.alloc(), stream, settings, ConfigFault::Stream)?);
+        let texts = [QUERIES, stream, b"[settings]\ncache = 0\n"];
+        assert!(rt; fault_of(rt.alloc(), &texts)? == Some(ConfigFault::Stream));
     }
     Ok(())
 }
 
-/// Whether a plan with this setting is refused for this fault of its settings.
-fn is_not_set(alloc: Global, setting: &[u8], fault: SettingsFault) -> Result<bool, Memory> {
-    let mut settings = Vec::from_slice(alloc, b"[settings]\n")?;
-    settings.extend_from_slice(setting)?;
-    let is_so = is_refused_with(alloc, PAYMENTS, &settings, ConfigFault::Settings(fault))?;
-    drop(settings);
-    Ok(is_so)
+/// What the defaults of the payments are refused for, before a bad setting.
+fn fault_of_defaults(alloc: Global, defaults: &[u8]) -> Result<Option<ConfigFault>, Memory> {
+    fault_of(
+        alloc,
+        &[QUERIES, PAYMENTS, defaults, b"[settings]\ncache = 0\n"],
+    )
+}
+
+#[test]
+fn a_default_is_a_string_that_says_a_value_of_its_column(rt: HostRuntime) -> Result<(), Fail> {
+    let table: [(&[u8], DefaultsFault); 9] = [
+        (b"defaults = \"0\"\n", DefaultsFault::Table),
+        (b"defaults = []\n", DefaultsFault::Table),
+        // The time, a name that no column has, and one in other letters.
+        (b"[stream.defaults]\nts = \"0\"\n", DefaultsFault::Key),
+        (
+            b"[stream.defaults]\ncity = \"?\"\namount = 1\n",
+            DefaultsFault::Key,
+        ),
+        (b"[stream.defaults]\nCard = \"?\"\n", DefaultsFault::Key),
+        // No string, and no int; the first column that has a bad one is told, whichever the file has first.
+        (b"[stream.defaults]\namount = 1\n", DefaultsFault::Column(3)),
+        (
+            b"[stream.defaults]\namount = \"1.5\"\n",
+            DefaultsFault::Column(3),
+        ),
+        (
+            b"[stream.defaults]\namount = \"\"\ncard = 1\n",
+            DefaultsFault::Column(1),
+        ),
+        (
+            b"[stream.defaults]\ncard = \"?\"\nmerchant = []\n",
+            DefaultsFault::Column(2),
+        ),
+    ];
+    for (defaults, fault) in table {
+        let want = Some(ConfigFault::Defaults(fault));
+        assert!(rt; fault_of_defaults(rt.alloc(), defaults)? == want);
+    }
+    Ok(())
+}
+
+/// What these settings of a plan over the payments are refused for.
+fn fault_of_settings(alloc: Global, settings: &[u8]) -> Result<Option<ConfigFault>, Memory> {
+    fault_of(alloc, &[QUERIES, PAYMENTS, b"[settings]\n", settings])
 }
 
 #[test]
@@ -120,180 +110,186 @@ fn a_cache_and_a_chunk_stand_in_their_ranges(rt: HostRuntime) -> Result<(), Fail
         (b"cache = 1_024\n", SettingsFault::CachedEvents),
     ];
     for (setting, fault) in settings {
-        assert!(rt; is_not_set(rt.alloc(), setting, fault)?);
+        let want = Some(ConfigFault::Settings(fault));
+        assert!(rt; fault_of_settings(rt.alloc(), setting)? == want);
     }
     Ok(())
 }
 
 #[test]
-fn a_grace_is_from_zero_to_ten_to_the_fifteenth(rt: HostRuntime) -> Result<(), Fail> {
-    let settings: [(&[u8], SettingsFault); 5] = [
-        (b"grace = -1\n", SettingsFault::Grace),
-        (b"grace = 1_000_000_000_000_001\n", SettingsFault::Grace),
-        (b"grace = 1.0\n", SettingsFault::Grace),
-        (b"grace = true\nheader = 1\n", SettingsFault::Header),
-        (b"grace = \"1\"\ncache = 1_024\n", SettingsFault::Grace),
-    ];
-    for (setting, fault) in settings {
-        assert!(rt; is_not_set(rt.alloc(), setting, fault)?);
-    }
-    Ok(())
-}
-
-#[test]
-fn a_setting_stands_in_its_range(rt: HostRuntime) -> Result<(), Fail> {
-    let settings: [(&[u8], SettingsFault); 5] = [
+fn another_setting_stands_in_its_range(rt: HostRuntime) -> Result<(), Fail> {
+    let settings: [(&[u8], SettingsFault); 9] = [
         (b"commit = 1_000_001\n", SettingsFault::Commit),
         (b"save = 0\n", SettingsFault::Save),
         (b"events = 1_099_511_627_777\n", SettingsFault::Events),
         (b"header = 1\n", SettingsFault::Header),
         (b"room = 1\ncache = 0\n", SettingsFault::Key),
+        (b"grace = -1\n", SettingsFault::Grace),
+        (b"grace = 1_000_000_000_000_001\n", SettingsFault::Grace),
+        (b"grace = true\nheader = 1\n", SettingsFault::Header),
+        (b"grace = \"1\"\ncache = 1_024\n", SettingsFault::Grace),
     ];
     for (setting, fault) in settings {
-        assert!(rt; is_not_set(rt.alloc(), setting, fault)?);
+        let want = Some(ConfigFault::Settings(fault));
+        assert!(rt; fault_of_settings(rt.alloc(), setting)? == want);
     }
     Ok(())
-}
-
-/// Whether a plan with this top over a stream is refused for this fault of its settings.
-fn is_no_top(alloc: Global, top: &[u8], fault: SettingsFault) -> Result<bool, Memory> {
-    let mut text = Vec::from_slice(alloc, top)?;
-    text.extend_from_slice(PAYMENTS)?;
-    let is_so = is_refused(alloc, &text, ConfigFault::Settings(fault));
-    drop(text);
-    Ok(is_so)
 }
 
 #[test]
 fn the_top_has_queries_and_no_other_key(rt: HostRuntime) -> Result<(), Fail> {
-    let tops: [(&[u8], SettingsFault); 5] = [
-        (b"", SettingsFault::Queries),
-        (b"queries = []\n", SettingsFault::Queries),
-        (b"queries = [1]\n", SettingsFault::Queries),
-        (b"queries = \"q\"\n", SettingsFault::Queries),
-        (b"queries = [\"q\"]\nsettings = 1\n", SettingsFault::Table),
+    let tops: [(&[u8], ConfigFault); 8] = [
+        (b"x", ConfigFault::Toml),
+        (b"x = \"\xff\"\n", ConfigFault::Toml),
+        (b"", ConfigFault::Settings(SettingsFault::Queries)),
+        (
+            b"queries = []\n",
+            ConfigFault::Settings(SettingsFault::Queries),
+        ),
+        (
+            b"queries = [1]\n",
+            ConfigFault::Settings(SettingsFault::Queries),
+        ),
+        (
+            b"queries = \"q\"\n",
+            ConfigFault::Settings(SettingsFault::Queries),
+        ),
+        (
+            b"queries = [\"q\"]\nsettings = 1\n",
+            ConfigFault::Settings(SettingsFault::Table),
+        ),
+        (
+            b"more = 1\nsettings = 1\n",
+            ConfigFault::Settings(SettingsFault::TopKey),
+        ),
     ];
     for (top, fault) in tops {
-        assert!(rt; is_no_top(rt.alloc(), top, fault)?);
+        assert!(rt; fault_of(rt.alloc(), &[top, PAYMENTS])? == Some(fault));
     }
-    let fault = ConfigFault::Settings(SettingsFault::TopKey);
-    assert!(rt; is_refused_with(rt.alloc(), PAYMENTS, b"[more]\n", fault)?);
     Ok(())
 }
 
-/// A plan with all but the last two settings.
-fn set(alloc: Global) -> Result<Plan, Fail> {
-    plan_set(
-        alloc,
-        b"[settings]\ncache = 1\nchunk = 2\ncommit = 2\nsave = 4\n",
-    )
+/// The plan of one query with this end.
+fn plan_of(alloc: Global, end: &[u8]) -> Result<Plan, Fail> {
+    let text = joined(alloc, &[QUERIES, PAYMENTS, end])?;
+    Ok(read_plan(alloc, &text)?)
 }
 
-/// Whether a plan's schema is written as this.
-fn has_schema(alloc: Global, plan: &Plan, want: &[u8]) -> Result<bool, Memory> {
+/// Whether a plan is of the payments and has one query, which is printed so.
+fn is_of_payments(alloc: Global, plan: &Plan) -> Result<bool, Memory> {
     let mut schema = Vec::new(alloc);
     plan.schema.write(&mut schema)?;
-    Ok(schema.as_slice() == want)
+    let is_schema = schema.as_slice()
+        == b"payments(ts,card:text,merchant:text,amount:int)".as_slice();
+    drop(schema);
+    match plan.queries.as_slice() {
+        [query] => Ok(is_schema && query.as_slice() == PRINTED && plan.task.queries() == 1),
+        _ => Ok(false),
+    }
 }
 
-/// Whether a plan has one query, which is printed so.
-fn has_query(plan: &Plan, want: &[u8]) -> bool {
-    match plan.queries.as_slice() {
-        [query] => query.as_slice() == want && plan.task.queries() == 1,
+/// Whether a plan is read that has what stands where nothing is set, but for this room and these numbers of a commit and a
+/// save, this header and this grace.
+fn is_set(
+    alloc: Global,
+    settings: &[u8],
+    room: Room,
+    numbers: (u64, u64, bool, u64),
+) -> Result<bool, Fail> {
+    let plan = plan_of(alloc, settings)?;
+    let is_room = plan.room == room;
+    let found = (plan.commit, plan.save, plan.header, plan.grace);
+    let is_read = is_of_payments(alloc, &plan)?;
+    drop(plan);
+    Ok(is_read && is_room && found == numbers)
+}
+
+#[test]
+fn what_is_set_is_read_and_all_else_has_its_default(rt: HostRuntime) -> Result<(), Fail> {
+    let limit = 1_099_511_627_776;
+    let most = 1_000_000_000_000_000;
+    let table: [(&[u8], u32, u32, u64, (u64, u64, bool, u64)); 4] = [
+        (b"", 1_024, 64, limit, (1_024, 65_536, false, 0)),
+        (
+            b"[settings]\ncache = 1\nchunk = 2\ncommit = 2\nsave = 4\n",
+            2,
+            1,
+            limit,
+            (2, 4, false, 0),
+        ),
+        (
+            b"[settings]\nevents = 7\nheader = true\ngrace = 0\n",
+            1_024,
+            64,
+            7,
+            (1_024, 65_536, true, 0),
+        ),
+        (
+            b"[settings]\ngrace = 1_000_000_000_000_000\n",
+            1_024,
+            64,
+            limit,
+            (1_024, 65_536, false, most),
+        ),
+    ];
+    for (settings, chunk, cache, limit, numbers) in table {
+        let room = Room {
+            chunk,
+            cache,
+            limit,
+        };
+        assert!(rt; is_set(rt.alloc(), settings, room, numbers)?);
+    }
+    Ok(())
+}
+
+/// Whether these are the defaults of the payments: an empty card, no merchant, and -5.
+fn are_two(defaults: &[Option<Value>]) -> bool {
+    match defaults {
+        [Some(Value::Text(card)), None, Some(Value::Int(-5))] => card.as_bytes().is_empty(),
         _ => false,
     }
 }
 
-#[test]
-fn a_stream_and_its_queries_are_read(rt: HostRuntime) -> Result<(), Fail> {
-    let plan = set(rt.alloc())?;
-    let schema = b"payments(ts,card:text,merchant:text,amount:int)";
-    let is_schema = has_schema(rt.alloc(), &plan, schema)?;
-    let is_read = is_schema && has_query(&plan, PRINTED);
-    drop(plan);
-    assert!(rt; is_read);
-    Ok(())
-}
-
-/// Whether a plan has this room, commits and saves so often, takes no header and has no grace.
-fn is_set(plan: &Plan, room: Room, commit: u64, save: u64) -> bool {
-    plan.room == room
-        && plan.commit == commit
-        && plan.save == save
-        && !plan.header
-        && plan.grace == 0
+/// Whether there is no default of the payments.
+fn are_none(defaults: &[Option<Value>]) -> bool {
+    matches!(defaults, [None, None, None])
 }
 
 #[test]
-fn what_is_set_is_read(rt: HostRuntime) -> Result<(), Fail> {
-    let plan = set(rt.alloc())?;
-    let room = Room {
-        chunk: 2,
-        cache: 1,
-        limit: 1_099_511_627_776,
-    };
-    let is_read = is_set(&plan, room, 2, 4);
-    drop(plan);
-    assert!(rt; is_read);
+fn a_column_has_its_default_or_none(rt: HostRuntime) -> Result<(), Fail> {
+    let some = plan_of(
+        rt.alloc(),
+        b"[stream.defaults]\namount = \"-5\"\ncard = \"\"\n",
+    )?;
+    let are_some = are_two(some.defaults.as_slice());
+    drop(some);
+    let empty = plan_of(rt.alloc(), b"defaults = {}\n")?;
+    let are_empty = are_none(empty.defaults.as_slice());
+    drop(empty);
+    let missing = plan_of(rt.alloc(), b"")?;
+    let are_missing = are_none(missing.defaults.as_slice());
+    drop(missing);
+    assert!(rt; are_some && are_empty && are_missing);
     Ok(())
 }
 
-/// The plan with these settings.
-fn plan_set(alloc: Global, settings: &[u8]) -> Result<Plan, Fail> {
-    let text = plan_with(alloc, PAYMENTS, settings)?;
-    Ok(read_plan(alloc, &text)?)
+/// The texts of a query so many times in their list, and of a last one.
+fn listed(alloc: Global, before: u32, last: &[u8]) -> Result<Vec<u8>, Memory> {
+    let mut text = Vec::from_slice(alloc, b"queries = [")?;
+    for _ in 0..before {
+        text.extend_from_slice(b"\"SELECT count(*) FROM payments OVER INFINITE\", ")?;
+    }
+    text.extend_from_slice(b"\"")?;
+    text.extend_from_slice(last)?;
+    text.extend_from_slice(b"\"]\n")?;
+    Ok(text)
 }
 
-#[test]
-fn what_is_not_set_has_a_default(rt: HostRuntime) -> Result<(), Fail> {
-    let plan = plan_set(rt.alloc(), b"")?;
-    let room = Room {
-        chunk: 1_024,
-        cache: 64,
-        limit: 1_099_511_627_776,
-    };
-    let is_read = is_set(&plan, room, 1_024, 65_536);
-    drop(plan);
-    assert!(rt; is_read);
-    Ok(())
-}
-
-#[test]
-fn a_limit_and_a_header_may_be_set_alone(rt: HostRuntime) -> Result<(), Fail> {
-    let plan = plan_set(rt.alloc(), b"[settings]\nevents = 7\nheader = true\n")?;
-    let is_read = plan.room.limit == 7 && plan.header && plan.commit == 1_024;
-    drop(plan);
-    assert!(rt; is_read);
-    Ok(())
-}
-
-/// Whether this is read as a grace of so many milliseconds.
-fn is_grace(alloc: Global, settings: &[u8], grace: u64) -> Result<bool, Fail> {
-    let plan = plan_set(alloc, settings)?;
-    let is_read = plan.grace == grace && !plan.header;
-    drop(plan);
-    Ok(is_read)
-}
-
-#[test]
-fn the_least_and_the_greatest_grace_are_read(rt: HostRuntime) -> Result<(), Fail> {
-    assert!(rt; is_grace(rt.alloc(), b"[settings]\ngrace = 0\n", 0)?);
-    let most = b"[settings]\ngrace = 1_000_000_000_000_000\n";
-    assert!(rt; is_grace(rt.alloc(), most, 1_000_000_000_000_000)?);
-    Ok(())
-}
-
-/// Whether this query, behind so many others, is the first that isn't taken.
-fn is_not_taken(
-    alloc: Global,
-    before: u32,
-    query: &[u8],
-    refusal: QueryRefusal,
-) -> Result<bool, Memory> {
-    let text = plan_of(alloc, before as usize, query)?;
-    let is_so = is_refused(alloc, &text, ConfigFault::Query(before, refusal));
-    drop(text);
-    Ok(is_so)
+/// What a plan is refused for that has this query behind so many others.
+fn fault_of_last(alloc: Global, before: u32, query: &[u8]) -> Result<Option<ConfigFault>, Memory> {
+    let texts = listed(alloc, before, query)?;
+    fault_of(alloc, &[&texts, PAYMENTS])
 }
 
 #[test]
@@ -306,39 +302,41 @@ fn the_first_query_that_is_not_taken_is_named(rt: HostRuntime) -> Result<(), Fai
         (64, b"SELECT", QueryRefusal::TooMany),
     ];
     for (before, query, refusal) in table {
-        assert!(rt; is_not_taken(rt.alloc(), before, query, refusal)?);
+        let want = Some(ConfigFault::Query(before, refusal));
+        assert!(rt; fault_of_last(rt.alloc(), before, query)? == want);
     }
     Ok(())
 }
 
-/// Whether a query with so many counts and nine columns of its key is the first that isn't taken.
-fn is_too_wide(
+/// 16 counts of the payments by 8 columns, the most that a query may have.
+const WIDE: [&[u8]; 3] = [
+    b"SELECT count(*), count(*), count(*), count(*), count(*), count(*), count(*), count(*), count(*), count(*), count(*), count(*), count(*), count(*), count(*), count(*)",
+    b" FROM payments GROUP BY card, card, card, card, card, card, card, card",
+    b" OVER INFINITE",
+];
+
+/// What a plan is refused for whose last query is that with more behind its counts and its columns.
+fn fault_of_wide(
     alloc: Global,
     before: u32,
-    counts: usize,
-    refusal: QueryRefusal,
-) -> Result<bool, Memory> {
-    let query = wide(alloc, counts, 9)?;
-    let is_so = is_not_taken(alloc, before, &query, refusal)?;
-    drop(query);
-    Ok(is_so)
-}
-
-/// How many queries are taken where the last of 64 is as wide as it may be.
-fn taken(alloc: Global) -> Result<u32, Fail> {
-    let query = wide(alloc, 16, 8)?;
-    let text = plan_of(alloc, 63, &query)?;
-    drop(query);
-    let plan = read_plan(alloc, &text)?;
-    drop(text);
-    Ok(plan.task.queries())
+    counts: &[u8],
+    columns: &[u8],
+) -> Result<Option<ConfigFault>, Memory> {
+    let query = joined(alloc, &[WIDE[0], counts, WIDE[1], columns, WIDE[2]])?;
+    fault_of_last(alloc, before, &query)
 }
 
 #[test]
 fn a_query_has_at_most_16_aggregators_and_8_columns(rt: HostRuntime) -> Result<(), Fail> {
-    let aggs = is_too_wide(rt.alloc(), 1, 17, QueryRefusal::TooManyAggs)?;
-    let columns = is_too_wide(rt.alloc(), 2, 16, QueryRefusal::TooManyColumns)?;
-    assert!(rt; aggs && columns);
-    assert!(rt; taken(rt.alloc())? == 64);
+    let aggs = Some(ConfigFault::Query(1, QueryRefusal::TooManyAggs));
+    let columns = Some(ConfigFault::Query(2, QueryRefusal::TooManyColumns));
+    let table: [(u32, &[u8], &[u8], Option<ConfigFault>); 3] = [
+        (1, b", count(*)", b", card", aggs),
+        (2, b"", b", card", columns),
+        (63, b"", b"", None),
+    ];
+    for (before, counts, more, want) in table {
+        assert!(rt; fault_of_wide(rt.alloc(), before, counts, more)? == want);
+    }
     Ok(())
 }

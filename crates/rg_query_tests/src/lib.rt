@@ -5,8 +5,6 @@
 #[cfg(test)]
 mod config;
 #[cfg(test)]
-mod metric;
-#[cfg(test)]
 mod parsing;
 #[cfg(test)]
 mod plan;

@@ -2,57 +2,12 @@ ghost use Rattle.std.specs.Prelude.{◌≡◌, map, false, All, IsTrue};
 ghost use Rattle.rg_metric.specs.Queries.{asked, Asked};
 ghost use Rattle.rg_plan.specs.Offsets.{IsMeasured};
 
-use rg_bytes::Memory;
-use rg_event::Value;
-use rg_metric::{Agg, Aggs, Columns, Condition, Func, Op, Query, Window};
+use rg_event::Schema;
+use rg_metric::{Query, Window};
 use rg_plan::{PlanFault, TaskPlan, compile};
+use rg_query::parse;
 use std::alloc::Global;
 use std::test::Fail;
-
-fn window(delay: u64, length: u64) -> Window {
-    Window {
-        delay,
-        length: Some(length),
-    }
-}
-
-fn count() -> Agg {
-    Agg {
-        func: Func::Count,
-        field: 0,
-    }
-}
-
-fn sum() -> Agg {
-    Agg {
-        func: Func::Sum,
-        field: 3,
-    }
-}
-
-/// A query by column 1, or by none.
-fn query(
-    alloc: Global,
-    asked: &[Agg],
-    filter: Option<Condition>,
-    by_card: bool,
-    window: Window,
-) -> Result<Query, Fail> {
-    let mut aggs = Aggs::new(alloc);
-    for agg in asked {
-        aggs.push(*agg)?;
-    }
-    let mut group = Columns::new(alloc);
-    if by_card {
-        group.push(1)?;
-    }
-    Ok(Query {
-        aggs,
-        filter,
-        group,
-        window,
-    })
-}
 
 fn are_measured(queries: &[Query]) -> bool
     ensures { IsTrue result → All (λ (q : Asked). IsMeasured q.window) (map asked queries.now) }
@@ -77,64 +32,89 @@ fn is_too_long(window: Window) -> bool
     }
 }
 
-/// The plan of queries whose windows are measured.
-fn plan_of(alloc: Global, queries: &[Query]) -> Result<TaskPlan, Fail> {
+/// The plan of queries whose windows are measured, or why they are refused.
+fn compiled(alloc: Global, queries: &[Query]) -> Result<Result<TaskPlan, PlanFault>, Fail> {
     if !are_measured(queries) {
-        return Err(Fail::from(Memory));
+        return Err(Fail::new("a window is too long"));
     }
-    match compile(alloc, queries) {
-        Ok(plan) => Ok(plan),
-        Err(fault) => Err(Fail::from(fault)),
-    }
+    Ok(compile(alloc, queries))
 }
 
-/// Why queries whose windows are measured are refused.
-fn fault_of(alloc: Global, queries: &[Query]) -> Option<PlanFault> {
-    if !are_measured(queries) {
-        return None;
+/// The queries that these texts say.
+fn queries_of(alloc: Global, texts: &[&[u8]]) -> Result<Vec<Query>, Fail> {
+    let schema = Schema::parse(alloc, b"p(ts,card:text,a:int,b:int)")?;
+    let mut queries = Vec::new(alloc);
+    for text in texts {
+        queries.push(parse(alloc, &schema, text)?)?;
     }
-    match compile(alloc, queries) {
-        Ok(_) => None,
-        Err(fault) => Some(fault),
+    Ok(queries)
+}
+
+/// A copy of the plan of the queries that these texts say, or why they are refused.
+fn planned(alloc: Global, texts: &[&[u8]]) -> Result<Result<TaskPlan, PlanFault>, Fail> {
+    let queries = queries_of(alloc, texts)?;
+    match compiled(alloc, &queries)? {
+        Ok(plan) => Ok(Ok(plan.copy(alloc)?)),
+        Err(fault) => Ok(Err(fault)),
     }
 }
 
 /// How many windows, filters, groups and aggregators a plan has.
-fn sizes(plan: &TaskPlan) -> (usize, usize, usize, usize) {
-    (
+fn sizes(plan: &TaskPlan) -> [usize; 4] {
+    [
         plan.windows().len(),
         plan.filters().len(),
         plan.groups().len(),
         plan.aggs().len(),
-    )
+    ]
 }
 
-/// The plan of a count, and of a sum and that count, by the same key over the same window.
-fn alike(alloc: Global) -> Result<TaskPlan, Fail> {
-    let mut queries = Vec::new(alloc);
-    queries.push(query(alloc, &[count()], None, true, window(0, 300000))?)?;
-    queries.push(query(alloc, &[sum(), count()], None, true, window(0, 300000))?)?;
-    plan_of(alloc, &queries)
+/// Whether the plan of these queries has so many nodes and these offsets.
+fn has(alloc: Global, texts: &[&[u8]], nodes: [usize; 4], offsets: &[u64]) -> Result<bool, Fail> {
+    match planned(alloc, texts)? {
+        Ok(plan) => Ok(sizes(&plan) == nodes && plan.offsets() == offsets),
+        Err(_) => Ok(false),
+    }
 }
 
-/// A copy of that plan.
-fn copy_of_alike(alloc: Global) -> Result<TaskPlan, Fail> {
-    let plan = alike(alloc)?;
-    Ok(plan.copy(alloc)?)
-}
+/// A count, and a sum and that count, by the same key over the same window.
+const ALIKE: [&[u8]; 2] = [
+    b"SELECT count(*) FROM p GROUP BY card OVER SLIDING 5 minutes",
+    b"SELECT sum(a), count(*) FROM p GROUP BY card OVER SLIDING 5 minutes",
+];
+
+/// Three queries, of which two have one condition and two one key.
+const PARTED: [&[u8]; 3] = [
+    b"SELECT count(*) FROM p WHERE a > 100 OVER SLIDING 5 ms",
+    b"SELECT count(*) FROM p WHERE a > 200 OVER SLIDING 5 ms",
+    b"SELECT count(*) FROM p WHERE a > 100 GROUP BY card OVER SLIDING 5 ms",
+];
+
+/// Two windows.
+const APART: [&[u8]; 2] = [
+    b"SELECT count(*) FROM p OVER SLIDING 10 ms DELAYED BY 5 ms",
+    b"SELECT count(*) FROM p OVER SLIDING 5 ms",
+];
+
+/// A query with the most aggregators.
+const WIDE: &[u8] =
+    b"SELECT sum(a), sum(b), avg(a), avg(b), sumsq(a), sumsq(b), min(a), min(b), max(a), max(b), first(a), first(b), last(a), last(b), countDistinct(a), countDistinct(b) FROM p OVER SLIDING 5 ms";
 
 #[test]
-fn queries_that_begin_alike_share_nodes(rt: HostRuntime) -> Result<(), Fail> {
-    let plan = copy_of_alike(rt.alloc())?;
-    let are_shared = plan.offsets() == [0, 300000].as_slice()
-        && plan.windows() == [window(0, 300000)].as_slice()
-        && sizes(&plan) == (1, 1, 1, 2);
-    drop(plan);
-    assert!(rt; are_shared);
+fn queries_share_what_they_have_in_common(rt: HostRuntime) -> Result<(), Fail> {
+    let table: [(&[&[u8]], [usize; 4], &[u64]); 4] = [
+        (&ALIKE, [1, 1, 1, 2], &[0, 300000]),
+        (&PARTED, [1, 2, 3, 3], &[0, 5]),
+        (&APART, [2, 2, 2, 2], &[0, 5, 15]),
+        (&[WIDE; 64], [1, 1, 1, 16], &[0, 5]),
+    ];
+    for (texts, nodes, offsets) in table {
+        assert!(rt; has(rt.alloc(), texts, nodes, offsets)?);
+    }
     Ok(())
 }
 
-/// Whether each path of a plan of a count, and of a sum and that count, leads where it is to.
+/// Whether each path of the plan of those alike leads where it is to.
 fn has_paths(plan: &TaskPlan) -> bool {
     let paths = (plan.path(0, 0), plan.path(1, 0), plan.path(1, 1));
     let is_right = paths == (Some(0), Some(1), Some(0));
@@ -143,132 +123,53 @@ fn has_paths(plan: &TaskPlan) -> bool {
 
 #[test]
 fn a_path_leads_to_an_aggregator_of_a_query(rt: HostRuntime) -> Result<(), Fail> {
-    let plan = copy_of_alike(rt.alloc())?;
-    let are_right = has_paths(&plan);
-    drop(plan);
+    let are_right = match planned(rt.alloc(), &ALIKE)? {
+        Ok(plan) => has_paths(&plan),
+        Err(_) => false,
+    };
     assert!(rt; are_right);
     Ok(())
 }
 
-/// The plan of three queries, of which two have one condition and two one key.
-fn parted(alloc: Global) -> Result<TaskPlan, Fail> {
-    let mut queries = Vec::new(alloc);
-    for (amount, by_card) in [(100, false), (200, false), (100, true)] {
-        let filter = Condition::Compare(3, Op::Gt, Value::Int(amount));
-        queries.push(query(alloc, &[count()], Some(filter), by_card, window(0, 5))?)?;
+/// 64 queries with the most aggregators, each over a window of its own.
+fn each_apart(alloc: Global) -> Result<Vec<Query>, Fail> {
+    let mut queries = queries_of(alloc, &[WIDE; 64])?;
+    for (delay, query) in queries.iter_mut().enumerate() {
+        query.window.delay = delay as u64;
     }
-    plan_of(alloc, &queries)
+    Ok(queries)
 }
 
-#[test]
-fn conditions_part_queries(rt: HostRuntime) -> Result<(), Fail> {
-    let plan = parted(rt.alloc())?;
-    let nodes = (
-        plan.windows().len(),
-        plan.filters().len(),
-        plan.groups().len(),
-    );
-    let path = plan.path(2, 0);
-    drop(plan);
-    assert!(rt; nodes == (1, 2, 3) && path == Some(2));
-    Ok(())
-}
-
-/// The plan of two windows.
-fn of_two_windows(alloc: Global) -> Result<TaskPlan, Fail> {
-    let mut queries = Vec::new(alloc);
-    queries.push(query(alloc, &[count()], None, false, window(5, 10))?)?;
-    queries.push(query(alloc, &[count()], None, false, window(0, 5))?)?;
-    plan_of(alloc, &queries)
-}
-
-#[test]
-fn offsets_of_two_windows_rise(rt: HostRuntime) -> Result<(), Fail> {
-    let plan = of_two_windows(rt.alloc())?;
-    let do_rise = plan.offsets() == [0, 5, 15].as_slice();
-    drop(plan);
-    assert!(rt; do_rise);
-    Ok(())
-}
-
-/// The sums of columns 1 to 16.
-fn sums(alloc: Global) -> Result<Vec<Agg>, Fail> {
-    let mut sums = Vec::new(alloc);
-    for field in 1..17 {
-        sums.push(Agg {
-            func: Func::Sum,
-            field,
-        })?;
-    }
-    Ok(sums)
-}
-
-/// The plan of 64 queries of those sums, each over a window of its own or all over one.
-fn of_64(alloc: Global, are_apart: bool) -> Result<TaskPlan, Fail> {
-    let sums = sums(alloc)?;
-    let mut queries = Vec::new(alloc);
-    for delay in 0..64 {
-        let window = if are_apart {
-            window(delay, 1000)
-        } else {
-            window(0, 5)
-        };
-        queries.push(query(alloc, &sums, None, true, window)?)?;
-    }
-    plan_of(alloc, &queries)
-}
-
-#[test]
-fn queries_that_share_all(rt: HostRuntime) -> Result<(), Fail> {
-    let plan = of_64(rt.alloc(), false)?;
-    let are_shared = plan.queries() == 64
-        && sizes(&plan) == (1, 1, 1, 16)
-        && plan.offsets() == [0, 5].as_slice();
-    let is_one = plan.nodes(0) == plan.nodes(63) && plan.path(63, 15) == Some(15);
-    drop(plan);
-    assert!(rt; are_shared && is_one);
-    Ok(())
+/// Whether a plan of those shares nothing.
+fn shares_nothing(plan: &TaskPlan) -> bool {
+    let paths = (plan.path(0, 15), plan.path(1, 0), plan.path(63, 15));
+    let is_apart = plan.queries() == 64 && sizes(plan) == [64, 64, 64, 1024];
+    is_apart && paths == (Some(15), Some(16), Some(1023)) && plan.nodes(64).is_none()
 }
 
 #[test]
 fn queries_that_share_nothing(rt: HostRuntime) -> Result<(), Fail> {
-    let plan = of_64(rt.alloc(), true)?;
-    let are_apart = plan.offsets().len() == 128 && sizes(&plan) == (64, 64, 64, 1024);
-    let paths = (plan.path(0, 15), plan.path(1, 0), plan.path(63, 15));
-    let ends = plan.nodes(64).is_none();
-    drop(plan);
-    assert!(rt; are_apart && ends);
-    assert!(rt; paths == (Some(15), Some(16), Some(1023)));
+    let queries = each_apart(rt.alloc())?;
+    let are_apart = match compiled(rt.alloc(), &queries)? {
+        Ok(plan) => shares_nothing(&plan),
+        Err(_) => false,
+    };
+    drop(queries);
+    assert!(rt; are_apart);
     Ok(())
 }
 
-/// Why a count, and then so many counts in one query, are refused.
-fn fault_of_counts(alloc: Global, counts: &[Agg]) -> Result<Option<PlanFault>, Fail> {
-    let mut queries = Vec::new(alloc);
-    queries.push(query(alloc, &[count()], None, false, window(0, 5))?)?;
-    queries.push(query(alloc, counts, None, false, window(0, 5))?)?;
-    Ok(fault_of(alloc, &queries))
+/// Why the queries that these texts say are refused, if they are.
+fn fault_of(alloc: Global, texts: &[&[u8]]) -> Result<Option<PlanFault>, Fail> {
+    Ok(planned(alloc, texts)?.err())
 }
 
 #[test]
-fn too_many_parts_are_refused(rt: HostRuntime) -> Result<(), Fail> {
-    let fault = fault_of_counts(rt.alloc(), &[count(); 17])?;
-    assert!(rt; fault == Some(PlanFault::TooMany(1)));
-    Ok(())
-}
-
-/// Why 65 queries are refused.
-fn fault_of_65(alloc: Global) -> Result<Option<PlanFault>, Fail> {
-    let mut queries = Vec::new(alloc);
-    for _ in 0..65 {
-        queries.push(query(alloc, &[count()], None, false, window(0, 5))?)?;
-    }
-    Ok(fault_of(alloc, &queries))
-}
-
-#[test]
-fn the_query_behind_64_is_refused(rt: HostRuntime) -> Result<(), Fail> {
-    let fault = fault_of_65(rt.alloc())?;
-    assert!(rt; fault == Some(PlanFault::TooMany(64)));
+fn too_many_parts_and_the_query_behind_64_are_refused(rt: HostRuntime) -> Result<(), Fail> {
+    let more =
+        b"SELECT count(*), count(*), count(*), count(*), count(*), count(*), count(*), count(*), count(*), count(*), count(*), count(*), count(*), count(*), count(*), count(*), count(*) FROM p OVER INFINITE";
+    let parts = fault_of(rt.alloc(), &[WIDE, more])?;
+    let queries = fault_of(rt.alloc(), &[ALIKE[0]; 65])?;
+    assert!(rt; parts == Some(PlanFault::TooMany(1)) && queries == Some(PlanFault::TooMany(64)));
     Ok(())
 }

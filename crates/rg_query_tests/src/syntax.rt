@@ -1,6 +1,6 @@
 use rg_parse::{Call, Duration, Expr, Raw, Span, SyntaxFault, read_syntax};
 use rg_words::{Func, Op, TimeUnit};
-use std::alloc::{AllocError, Global};
+use std::alloc::Global;
 use std::test::Fail;
 
 /// Why a text is no query.
@@ -27,15 +27,6 @@ fn is_asked(raw: &Raw) -> bool {
         && matches!(&raw.filter, Some(Expr::And(_, _)))
 }
 
-#[test]
-fn what_a_query_asks_for_is_read(rt: HostRuntime) -> Result<(), Fail> {
-    let raw = read_syntax(rt.alloc(), EVERY_CLAUSE)?;
-    let is_read = is_asked(&raw);
-    drop(raw);
-    assert!(rt; is_read);
-    Ok(())
-}
-
 /// Whether a query has a key of two columns, and a window of 5 minutes with a delay of 10 milliseconds.
 fn is_keyed(raw: &Raw) -> bool {
     let group = [span(95, 99), span(101, 105)];
@@ -53,59 +44,51 @@ fn is_keyed(raw: &Raw) -> bool {
 }
 
 #[test]
-fn the_key_and_the_window_of_a_query_are_read(rt: HostRuntime) -> Result<(), Fail> {
+fn a_query_of_every_clause_is_read(rt: HostRuntime) -> Result<(), Fail> {
     let raw = read_syntax(rt.alloc(), EVERY_CLAUSE)?;
-    let is_read = is_keyed(&raw);
+    let is_read = is_asked(&raw) && is_keyed(&raw);
     drop(raw);
     assert!(rt; is_read);
     Ok(())
 }
 
 #[test]
-fn a_query_without_a_filter_or_a_key_is_read(rt: HostRuntime) {
-    let short = fault_of(rt.alloc(), b"SELECT count(*) FROM p OVER INFINITE");
-    let delayed = fault_of(
-        rt.alloc(),
-        b"SELECT count(*) FROM p OVER INFINITE DELAYED BY 1 day",
-    );
-    assert!(rt; short.is_none() && delayed.is_none());
-}
-
-#[test]
 fn a_text_goes_wrong_at_its_first_wrong_token(rt: HostRuntime) {
-    let table: [(&[u8], usize); 6] = [
-        (b"", 0),
-        (b"SELECT count(*)", 15),
-        (b"SELECT count(amount) FROM payments OVER INFINITE", 13),
-        (b"SELECT sum(*) FROM payments OVER INFINITE", 11),
+    let table: [(&[u8], Option<usize>); 9] = [
+        (b"", Some(0)),
+        (b"SELECT count(*)", Some(15)),
+        (b"SELECT sum(*) FROM payments OVER INFINITE", Some(11)),
         (
-            b"SELECT count(*) FROM payments WHERE a = 'x OVER INFINITE",
-            40,
+            b"SELECT count(*) FROM p WHERE a = 'x OVER INFINITE",
+            Some(33),
         ),
-        (b"SELECT count(*) FROM p WHERE a = 1) OVER INFINITE", 34),
+        (
+            b"SELECT count(*) FROM p WHERE a = 1) OVER INFINITE",
+            Some(34),
+        ),
+        (b"SELECT count(*) FROM p OVER SLIDING -5 ms", Some(36)),
+        (
+            b"SELECT count(*) FROM p OVER INFINITE DELAYED 1 day",
+            Some(45),
+        ),
+        (b"SELECT count(*) FROM p OVER INFINITE ~", Some(37)),
+        // A query without a filter or a key.
+        (
+            b"SELECT count(*) FROM p OVER INFINITE DELAYED BY 1 day",
+            None,
+        ),
     ];
     for (text, place) in table {
-        let fault = fault_of(rt.alloc(), text);
-        assert!(rt; fault == Some(SyntaxFault::At(place)), "{text:?}");
+        assert!(rt; fault_of(rt.alloc(), text) == place.map(SyntaxFault::At));
     }
 }
 
-#[test]
-fn a_window_goes_wrong_at_its_first_wrong_token(rt: HostRuntime) {
-    let table: [(&[u8], usize); 4] = [
-        (b"SELECT count(*) FROM p OVER SLIDING -5 ms", 36),
-        (b"SELECT count(*) FROM p OVER SLIDING 5 weeks", 38),
-        (b"SELECT count(*) FROM p OVER INFINITE DELAYED 1 day", 45),
-        (b"SELECT count(*) FROM p OVER INFINITE ~", 37),
-    ];
-    for (text, place) in table {
-        let fault = fault_of(rt.alloc(), text);
-        assert!(rt; fault == Some(SyntaxFault::At(place)), "{text:?}");
-    }
-}
-
-/// A condition in so many parentheses, and so many of them closed.
-fn nested(alloc: Global, opened: usize, closed: usize) -> Result<Vec<u8>, AllocError> {
+/// Why a text that ends in so many parentheses, so many of them closed, is no query.
+fn fault_of_nested(
+    alloc: Global,
+    opened: usize,
+    closed: usize,
+) -> Result<Option<SyntaxFault>, Fail> {
     let mut text = Vec::from_slice(alloc, b"SELECT count(*) FROM p WHERE ")?;
     for _ in 0..opened {
         text.push(b'(')?;
@@ -114,29 +97,13 @@ fn nested(alloc: Global, opened: usize, closed: usize) -> Result<Vec<u8>, AllocE
     for _ in 0..closed {
         text.push(b')')?;
     }
-    Ok(text)
-}
-
-/// Why a text with a condition in so many parentheses, so many of them closed, is no query.
-fn fault_of_nested(
-    alloc: Global,
-    opened: usize,
-    closed: usize,
-    end: &[u8],
-) -> Result<Option<SyntaxFault>, Fail> {
-    let mut text = nested(alloc, opened, closed)?;
-    text.extend_from_slice(end)?;
-    let fault = fault_of(alloc, &text);
-    drop(text);
-    Ok(fault)
+    Ok(fault_of(alloc, &text))
 }
 
 #[test]
 fn a_condition_nests_32_deep_and_no_deeper(rt: HostRuntime) -> Result<(), Fail> {
-    let deeper = fault_of_nested(rt.alloc(), 33, 33, b"")?;
-    let open = fault_of_nested(rt.alloc(), 32, 31, b"")?;
-    let closed = fault_of_nested(rt.alloc(), 32, 32, b" OVER INFINITE")?;
-    assert!(rt; deeper == Some(SyntaxFault::TooDeep));
-    assert!(rt; open == Some(SyntaxFault::At(97)) && closed.is_none());
+    let deeper = fault_of_nested(rt.alloc(), 33, 33)?;
+    let open = fault_of_nested(rt.alloc(), 32, 31)?;
+    assert!(rt; deeper == Some(SyntaxFault::TooDeep) && open == Some(SyntaxFault::At(97)));
     Ok(())
 }

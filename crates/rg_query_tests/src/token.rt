@@ -46,41 +46,20 @@ fn a_query_has_its_words_numbers_texts_and_signs(rt: HostRuntime) -> Result<(), 
 }
 
 #[test]
-fn a_text_ends_at_its_last_quote_that_closes(rt: HostRuntime) -> Result<(), Fail> {
-    let is_so = has(rt.alloc(), b"'abc''d", &[piece(0, 5, Shape::Text)], 5)?;
-    assert!(rt; is_so);
-    Ok(())
-}
-
-#[test]
-fn the_21st_digit_begins_another_number(rt: HostRuntime) -> Result<(), Fail> {
-    let is_so = has(
-        rt.alloc(),
-        b"123456789012345678901",
-        &[piece(0, 20, Shape::Number), piece(20, 21, Shape::Number)],
-        21,
-    )?;
-    assert!(rt; is_so);
-    Ok(())
-}
-
-#[test]
-fn a_sign_without_a_digit_is_no_token(rt: HostRuntime) -> Result<(), Fail> {
-    let is_so = has(rt.alloc(), b"-", &[], 0)?;
-    assert!(rt; is_so);
-    Ok(())
-}
-
-#[test]
-fn no_bytes_have_no_tokens(rt: HostRuntime) -> Result<(), Fail> {
-    let is_so = has(rt.alloc(), b"", &[], 0)?;
-    assert!(rt; is_so);
-    Ok(())
-}
-
-#[test]
-fn tokens_end_where_none_begins(rt: HostRuntime) -> Result<(), Fail> {
-    let is_so = has(rt.alloc(), b"a ! b", &[piece(0, 1, Shape::Word)], 2)?;
-    assert!(rt; is_so);
+fn the_longest_token_is_taken_and_tokens_end_where_none_begins(
+    rt: HostRuntime,
+) -> Result<(), Fail> {
+    let digits = [piece(0, 20, Shape::Number), piece(20, 21, Shape::Number)];
+    let table: [(&[u8], &[Piece], usize); 5] = [
+        // A text ends at its last quote that closes.
+        (b"'abc''d", &[piece(0, 5, Shape::Text)], 5),
+        (b"123456789012345678901", &digits, 21),
+        (b"-", &[], 0),
+        (b"", &[], 0),
+        (b"a ! b", &[piece(0, 1, Shape::Word)], 2),
+    ];
+    for (text, want, end) in table {
+        assert!(rt; has(rt.alloc(), text, want, end)?);
+    }
     Ok(())
 }

@@ -1,4 +1,4 @@
-use rg_config::{ConfigFault, QueryRefusal, SettingsFault};
+use rg_config::{ConfigFault, DefaultsFault, QueryRefusal, SettingsFault};
 use rg_query::QueryFault;
 use std::fmt;
 
@@ -39,6 +39,23 @@ pub struct Refusal {
     pub fault: ConfigFault,
     /// Where the plan stops being TOML, if it isn't.
     pub toml: Option<TomlFault>,
+}
+
+/// A fault of the defaults of a stream's columns, in words.
+#[derive(Drop)]
+struct DefaultsWords(DefaultsFault);
+
+impl fmt::Display for DefaultsWords {
+    fn fmt<W: fmt::Write>(&self, f: &mut fmt::Formatter<W>) -> fmt::Result {
+        match self.0 {
+            DefaultsFault::Table => f.write_str("defaults must be a table"),
+            DefaultsFault::Key => f.write_str("a default of no column past the time"),
+            DefaultsFault::Column(number) => write!(
+                f,
+                "the default of column {number}, where the time is 0, must be a string that says a value of its kind"
+            ),
+        }
+    }
 }
 
 /// A fault of the settings, or of what stands beside them, in words.
@@ -106,6 +123,7 @@ impl fmt::Display for Refusal {
             ConfigFault::Stream => f.write_str(
                 "stream: name and columns must be there, and describe a time and up to 32 columns NAME:KIND",
             ),
+            ConfigFault::Defaults(fault) => write!(f, "stream: {}", DefaultsWords(fault)),
             ConfigFault::Settings(fault) => write!(f, "{}", SettingsWords(fault)),
             ConfigFault::Query(number, refusal) => {
                 write!(f, "query {number}: {}", QueryWords(refusal))

@@ -1,4 +1,4 @@
-use rg_config::{ConfigFault, QueryRefusal, SettingsFault};
+use rg_config::{ConfigFault, DefaultsFault, QueryRefusal, SettingsFault};
 use rg_query::QueryFault;
 use rg_report::{Refusal, Report, Status, TomlFault};
 use std::io;
@@ -114,6 +114,29 @@ fn a_setting_is_told_its_range(rt: HostRuntime) -> Result<(), Fail> {
         "plan.toml: stream: name and columns must be there, and describe a time and up to 32 columns NAME:KIND";
     let why = Some(refusal(ConfigFault::Stream));
     assert_says(&rt, Status::Plan, why, None, stream)
+}
+
+#[test]
+fn a_default_is_told_its_fault_and_column(rt: HostRuntime) -> Result<(), Fail> {
+    let sentences = [
+        (
+            DefaultsFault::Table,
+            "plan.toml: stream: defaults must be a table",
+        ),
+        (
+            DefaultsFault::Key,
+            "plan.toml: stream: a default of no column past the time",
+        ),
+        (
+            DefaultsFault::Column(4),
+            "plan.toml: stream: the default of column 4, where the time is 0, must be a string that says a value of its kind",
+        ),
+    ];
+    for (fault, sentence) in sentences {
+        let why = Some(refusal(ConfigFault::Defaults(fault)));
+        assert_says(&rt, Status::Plan, why, None, sentence)?;
+    }
+    Ok(())
 }
 
 #[test]

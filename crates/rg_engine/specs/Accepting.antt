@@ -1,5 +1,6 @@
 -- What is made for an event before a past takes it, and why it is refused.
 use Rattle.std.specs.Prelude.{◌≡◌, ◌<◌, ◌≤◌, ℕ, List, [], ◌∷◌, ◌++◌, length, Result, OnOk, OnErr, IfErr, ⊤}
+use Rattle.rg_event.specs.Rising.{MayFollow}
 use Rattle.rg_event.specs.declared.event.Event.{Event}
 use Rattle.rg_metric.specs.declared.answer.Answer.{Answer}
 use Rattle.rg_past.specs.declared.past.PastFault.TheVariants as past
@@ -31,3 +32,9 @@ pub record IsAccepted (event : Event) (had_ended : Type 0) (limit : ℕ) (events
   pub same : OnErr result (events' ≡ events)
   pub room : OnErr result (has_room → has_room')
   pub refused : IfErr result (IsRefusal had_ended (limit ≤ length events))
+
+-- an event may come to a past: there is room, it fits, and it may follow the events of a sound past that hasn't ended
+pub record MayAppend (has_room does_fit is_sound had_ended : Type 0) (events : List Event) (event : Event) : Type 0 where
+  pub room : has_room
+  pub fits : does_fit
+  pub follows : is_sound → (had_ended → ⊥) → MayFollow events event

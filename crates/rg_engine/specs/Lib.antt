@@ -1,6 +1,7 @@
 pub mod Carrying
 pub mod Codes
 pub mod Windows
+pub mod Moving
 pub mod Faults
 pub mod Feeding
 pub mod Standing

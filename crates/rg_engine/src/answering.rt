@@ -1,14 +1,8 @@
-ghost use Rattle.std.specs.Prelude.{◌≡◌, ◌↔◌, ℕ, ◌+◌, ◌<◌, ◌≤◌, List, [], ◌++◌, length, All, OnOk, IsErrOf, vec_capacity};
-ghost use Rattle.rg_bytes.specs.Counts.{Rose};
+ghost use Rattle.std.specs.Prelude.{◌≡◌, ◌+◌, ◌<◌, ◌≤◌, [], length, All, OnOk, vec_capacity};
 ghost use Rattle.rg_event.specs.declared.event.Event.{Event};
 ghost use Rattle.rg_plan.specs.declared.node.AggNode.{AggNode};
-ghost use Rattle.rg_plan.specs.Named.{node_at};
-ghost use Rattle.rg_plan.specs.Plans.{Tasks};
-ghost use Rattle.rg_plan.specs.Whole.{IsWhole};
-ghost use Rattle.rg_state.specs.Rows.{Same};
-ghost use Rattle.rg_engine.specs.Answering.{keys_for, node_answers};
-ghost use Rattle.rg_engine.specs.Since.{KeepsSince};
-ghost use Rattle.rg_engine.specs.Standing.{RowIs};
+ghost use Rattle.rg_engine.specs.Answering.{keys_for, TellsAnswers};
+ghost use Rattle.rg_engine.specs.Since.{GoesOn};
 
 use rg_bytes::Memory;
 use rg_event::Event;
@@ -59,18 +53,8 @@ pub(crate) fn answer_each<T: Table>(
     requires room { length answers.old.items + length nodes.now ≤ vec_capacity answers.old }
     requires nodes { All (λ node. node < length aggs.now) nodes.now }
     requires groups { All (λ (agg : AggNode). agg.group < length keys.now) aggs.now }
-    ensures answers { T.tells table.old → (plan : Tasks) (events : List Event) (e : Event) → IsWhole plan →
-        plan.aggs ≡ aggs.now → keys.now ≡ keys_for plan.groups e →
-        ((n : ℕ) (key : List ℕ) → RowIs (node_at plan n) key e.time events (T.cell table.old n key)) →
-        OnOk result (answers.new.items ≡ answers.old.items ++ node_answers plan events e nodes.now) }
-    ensures bad { (n : ℕ) → IsErrOf result (TableFault.BadState n) → T.tells table.old →
-        (plan : Tasks) (events : List Event) (e : Event) → IsWhole plan → plan.aggs ≡ aggs.now →
-        ((key : List ℕ) → RowIs (node_at plan n) key e.time events (T.cell table.old n key)) → ⊥ }
-    ensures same { T.tells table.old → Same (T.cell table.old) (T.cell table.new) }
-    ensures disk { IsErrOf result TableFault.Disk → Rose (T.faults table.old) (T.faults table.new) }
-    ensures since { KeepsSince T.tells T.named T.there T.cell table.old table.new }
-    ensures tells { T.tells table.new ↔ T.tells table.old }
-    ensures later { T.faults table.old ≤ T.faults table.new }
+    ensures told { TellsAnswers (T.tells table.old) aggs.now keys.now nodes.now (T.cell table.old) (T.cell table.new) answers.old.items answers.new.items result }
+    ensures goes { GoesOn T.tells T.named T.there T.cell T.faults table.old table.new result }
 {
     'nodes: for node in nodes {
         let agg = aggs[*node as usize];

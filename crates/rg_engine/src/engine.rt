@@ -1,6 +1,6 @@
-ghost use Rattle.std.specs.Prelude.{◌≡◌, ◌↔◌, ◌⊎◌, ℕ, ◌+◌, ◌≤◌, ◌<◌, List, [], ◌∷◌, ◌++◌, length, true, false, Some, slice_get, All, IfOk, IfErr, OnOk, IsErrOf, vec_capacity};
+ghost use Rattle.std.specs.Prelude.{◌≡◌, ◌↔◌, ℕ, ◌+◌, ◌≤◌, ◌<◌, List, [], ◌∷◌, ◌++◌, length, true, false, Some, slice_get, All, IfOk, IfErr, OnOk, IsErrOf, vec_capacity};
 ghost use Rattle.std.specs.Result.{is_err};
-ghost use Rattle.std.specs.Borrow.{Lends, follows, sem};
+ghost use Rattle.std.specs.Borrow.{Lends, sem};
 ghost use Rattle.rg_bytes.specs.Counts.{Rose};
 ghost use Rattle.rg_event.specs.declared.event.Event.{Event};
 ghost use Rattle.rg_metric.specs.Queries.{Asked};
@@ -11,9 +11,9 @@ ghost use Rattle.rg_plan.specs.Plans.{plan_for};
 ghost use Rattle.rg_state.specs.Keeping.{TableKept};
 ghost use Rattle.rg_window.specs.Placed.{AreWithin, IsSpelledAt, numbers_of};
 ghost use Rattle.rg_engine.specs.contracts.engine.Engine.{the_row};
-ghost use Rattle.rg_engine.specs.Accepting.{IsPrepared, IsAccepted};
+ghost use Rattle.rg_engine.specs.Accepting.{IsPrepared, IsAccepted, MayAppend};
 ghost use Rattle.rg_engine.specs.Carrying.{CarriesOn, EdgesMove, Appends, ends_by};
-ghost use Rattle.rg_engine.specs.Faults.{WantsMemory, RefusesAlways};
+ghost use Rattle.rg_engine.specs.Faults.{RefusesAlways};
 ghost use Rattle.rg_engine.specs.Passed.{AreAtPositions, passed_count};
 ghost use Rattle.rg_engine.specs.Since.{KeepsSince};
 ghost use Rattle.rg_engine.specs.Standing.{IsAtPosition, NodeStands, come};
@@ -394,18 +394,6 @@ impl<T: Table> Engine<T> {
         &mut rows.table
     }
 
-    /// Its spots and its table at once: a checkpoint is written from both. Plan, spots and whether it
-    /// has ended stay, whatever the caller does to the table.
-    pub fn parts(&mut self) -> (&[Spot], &mut T)
-        ensures* writes_back { sem 𝓛 (follows (the_row T.row T.Table) T.row self.entry.ghost_name result.1.ghost_name (λ table. record self.old { table = table })) }
-        ensures spots { result.0.now ≡ self.old.spots }
-        ensures same { length self.old.spots ≡ length self.old.plan.offsets }
-        ensures table { result.1.now ≡ self.old.table }
-    {
-        let rows = &mut self.rows;
-        (self.edges.spots(), &mut rows.table)
-    }
-
     /// Its table, where nothing more is asked of it.
     pub fn into_table(self) -> T
         ensures { result ≡ self.table }
@@ -442,9 +430,7 @@ fn accept<P: Past>(
     answers: &mut Vec<Answer>,
 ) -> Result<(), EngineFault>
     requires keys { length keys.old.items ≡ length groups.now }
-    requires room { P.has_room past.old }
-    requires fits { P.fits past.old event }
-    requires follows { P.sound past.old → (P.ended past.old → ⊥) → MayFollow (P.events past.old) event }
+    requires may { MayAppend (P.has_room past.old) (P.fits past.old event) (P.sound past.old) (P.ended past.old) (P.events past.old) event }
     ensures prepared { IsPrepared groups.now event count result keys.old.items keys.new.items answers.new.items (vec_capacity answers.new) }
     ensures accepted { IsAccepted event (P.ended past.old) (P.limit past.old) (P.events past.old) (P.events past.new) (P.has_room past.old) (P.has_room past.new) result }
     ensures past { Kept P.goes P.sound P.ended P.faults past.old past.new }

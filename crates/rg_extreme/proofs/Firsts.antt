@@ -1,5 +1,5 @@
 -- Lists that begin with a value, of pairs that may begin with it: those that are beaten come before the values of the pairs.
-use Rattle.std.proofs.Common.{◌≡◌, ℕ, zero, suc, ◌+◌, ◌-◌, ◌<◌, ◌≤◌, ◌==◌, ◌||◌, ◌⊎◌, inl, inr, Bool, true, false, Some, List, [], ◌∷◌, ◌++◌, length, refl, ap, sym, ◌∙◌, subst, arith, length-append}
+use Rattle.std.proofs.Common.{◌≡◌, ℕ, zero, suc, ◌+◌, ◌-◌, ◌<◌, ◌==◌, ◌⊎◌, inl, inr, Bool, true, false, Some, List, [], ◌∷◌, ◌++◌, length, refl, ap, sym, ◌∙◌, subst, arith, length-append}
 use Rattle.std.specs.List.{list_any}
 use Rattle.std.proofs.Math.ListN.{replicate}
 use Rattle.std.proofs.lemmas.Bool.{true≢false, eqb-true, eqb-false}
@@ -19,10 +19,10 @@ use Rattle.rg_metric.proofs.Same.{same_value-true, same_value-same}
 use Rattle.rg_tally.specs.Pairs.{AreOf, AreRising}
 use Rattle.rg_tally.proofs.Listed.{listed, listed_length}
 use Rattle.rg_extreme.specs.Deques.{IsDeque, first_value, without_first}
-use Rattle.rg_extreme.specs.Sides.{beats, weakest, can_beat, some_can_beat}
+use Rattle.rg_extreme.specs.Sides.{beats, weakest, some_can_beat}
 use Rattle.rg_extreme.specs.declared.side.Side.{Side}
 use Rattle.rg_extreme.specs.declared.side.Side.TheVariants.{Least, Greatest}
-use Rattle.rg_extreme.proofs.Ranks.{AreRanked, ranks}
+use Rattle.rg_extreme.proofs.Ranks.{ranks}
 use Rattle.rg_extreme.proofs.Rows.{fewer_are, fewer_rising, fewer_sum}
 use Rattle.rg_extreme.proofs.Unbeaten.{AllOf, FirstNot, alike_of_kind, like_kind}
 

@@ -92,3 +92,8 @@ pushed_tally beats n old new value count few tally is behind some room put = rec
 
 pub counted : (most : ℕ) (so_far : List (Value × ℕ)) (n : ℕ) → 0 < n → counts_sum so_far + n ≤ most → is_count most so_far n ≡ true
 counted most so_far n some few = and_from _ _ (le-leb 1 n (omega (arith, some))) (le-leb (counts_sum so_far + n) most few)
+
+-- of a value that was read more is known
+pub if_ok_then : {A E : Type 0} {P Q : A → Type 0} (result : Result A E) → ((x : A) → P x → Q x) → IfOk result P → IfOk result Q
+if_ok_then (Ok x) then is = then x is
+if_ok_then (Err e) then is = tt

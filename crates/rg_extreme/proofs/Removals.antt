@@ -1,5 +1,5 @@
 -- One value fewer, by the value that comes first in the pairs.
-use Rattle.std.proofs.Common.{◌≡◌, ℕ, ◌+◌, ◌-◌, ◌<◌, Bool, true, false, Some, None, List, [], ◌∷◌, ◌++◌, length, ◌⊎◌, inl, inr, refl, ap, sym, ◌∙◌, subst, arith}
+use Rattle.std.proofs.Common.{◌≡◌, ℕ, ◌+◌, ◌-◌, ◌<◌, ◌≤◌, Bool, true, false, Some, None, List, [], ◌∷◌, ◌++◌, length, ◌⊎◌, inl, inr, refl, ap, sym, ◌∙◌, subst, arith}
 use Rattle.std.specs.Prelude.{Result, Ok, Err, OnOk, OnErr}
 use Rattle.std.proofs.lemmas.Bool.{true≢false}
 use Rattle.rg_agg.specs.Held.{is_like}
@@ -21,7 +21,7 @@ use Rattle.rg_extreme.specs.Sides.{beats, some_can_beat}
 use Rattle.rg_extreme.specs.declared.side.Side.{Side}
 use Rattle.rg_extreme.proofs.Answered.{answers_least, answers_greatest}
 use Rattle.rg_extreme.proofs.Extremes.{extreme_less, extreme_like, extreme_more, extreme_same, other_kind, beyond, no_room, none_beats, no_pairs}
-use Rattle.rg_extreme.proofs.Rows.{fewer_are, fewer_rising, fewer_sum}
+use Rattle.rg_extreme.proofs.Rows.{fewer_are, fewer_length, fewer_rising, fewer_sum}
 use Rattle.rg_extreme.proofs.Unbeaten.{none_kept}
 
 first_is : (p : Value × ℕ) (ps : List (Value × ℕ)) (f : Value) → Some f ≡ first_value (p ∷ ps) → f ≡ p.0
@@ -105,6 +105,19 @@ no_beaten side n kept (p ∷ ps) f v w values is same it sound (inr not) stands 
 pub none_first : (side : Side) (n : ℕ) (pairs : List (Value × ℕ)) (v : Value) (values : List Value) → None ≡ first_value pairs → IsExtreme (beats side) n pairs (v ∷ values) → ⊥
 none_first side n [] v values is stands = no_pairs side n [] v values refl stands
 none_first side n (p ∷ ps) v values is stands = cc
+
+-- a call that takes a value out of the first pair, or leaves all as they are, leaves no more pairs
+shorter : (pairs : List (Value × ℕ)) → length (without_first pairs) ≤ length pairs
+shorter [] = omega arith
+shorter (p ∷ ps) = fewer_length p ps
+
+pub no_more : {A E : Type 0} (result : Result A E) (old new : List (Value × ℕ)) → OnOk result (new ≡ without_first old) → OnErr result (new ≡ old) → length new ≤ length old
+no_more (Ok done) old new is same = omega (arith, ap length is, shorter old)
+no_more (Err refused) old new is same = omega (arith, ap length same)
+
+pub as_many : {A E : Type 0} (result : Result A E) (old new : List (Value × ℕ)) → OnOk result (new ≡ old) → OnErr result (new ≡ old) → length new ≤ length old
+as_many (Ok done) old new is same = omega (arith, ap length is)
+as_many (Err refused) old new is same = omega (arith, ap length same)
 
 -- two answers together
 pub ok_both : {A E P Q R : Type 0} (result : Result A E) → OnOk result P → OnOk result Q → (P → Q → R) → OnOk result R

@@ -3,3 +3,4 @@ pub mod Deques
 pub mod States
 pub mod Extremes
 pub mod Ticks
+pub mod Changes

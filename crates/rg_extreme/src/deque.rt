@@ -1,13 +1,13 @@
-ghost use Rattle.std.specs.Prelude.{◌≡◌, ◌⊎◌, ◌+◌, ◌<◌, ◌≤◌, ◌^◌, List, [], ◌∷◌, ◌++◌, length, true, false, IfOk, OnOk, OnErr};
+ghost use Rattle.std.specs.Prelude.{◌≡◌, ◌⊎◌, ◌+◌, ◌<◌, List, [], ◌++◌, length, true, false, IfOk, OnOk, OnErr};
 ghost use Rattle.std.specs.List.{All};
 ghost use Rattle.rg_agg.specs.Held.{extreme_bytes};
 ghost use Rattle.rg_agg.specs.Numbers.{seen, value_of};
 ghost use Rattle.rg_agg.specs.Standing.{IsLike, pairs_kind};
-ghost use Rattle.rg_agg.specs.Stands.{IsNumber};
 ghost use Rattle.rg_bytes.specs.Keeps.{Keeps};
 ghost use Rattle.rg_event.specs.Tagged.{value_kind};
 ghost use Rattle.rg_event.specs.declared.value.Value.{Value};
-ghost use Rattle.rg_extreme.specs.Deques.{begun, first_value, with_value, without_first};
+ghost use Rattle.rg_extreme.specs.Changes.{Gains, Loses, LosesBeaten, LosesFirst, MayTake};
+ghost use Rattle.rg_extreme.specs.Deques.{first_value, without_first};
 ghost use Rattle.rg_extreme.specs.Sides.{beats, some_can_beat};
 ghost use Rattle.rg_extreme.specs.States.{IsSound, StandsIn, pairs_in};
 ghost use Rattle.rg_extreme.specs.declared.side.Side.{Side as SideValue};
@@ -94,17 +94,8 @@ impl Deque {
         value: &Value,
         steps: &mut Steps<L>,
     ) -> Result<(), Memory>
-        requires sound { IsSound side self.old }
-        requires room { self.old.size < 2 ^ 40 }
-        requires takes { IsNumber value.now }
-        requires like { IsLike (pairs_kind (pairs_in self.old)) value.now }
-        ensures sound { IsSound side self.new }
-        ensures pairs { OnOk result (pairs_in self.new ≡ with_value (beats side) value.now (pairs_in self.old)) }
-        ensures size { OnOk result (self.new.size ≡ self.old.size + 1) }
-        ensures ticks { OnOk result (steps.new + length (pairs_in self.new) ≡ steps.old + length (pairs_in self.old) + begun (pairs_in self.new)) }
-        ensures err { OnErr result (pairs_in self.new ≡ pairs_in self.old) }
-        ensures err_size { OnErr result (self.new.size ≡ self.old.size) }
-        ensures no_tick { OnErr result (steps.new ≡ steps.old) }
+        requires { MayTake side self.old value.now }
+        ensures { Gains side value.now self.old self.new steps.old steps.new result }
     {
         let Some(number) = Number::of(value) else {
             unreachable!();
@@ -119,14 +110,8 @@ impl Deque {
 
     /// Takes the first value away. A refusal leaves the deque as it was.
     pub(crate) fn remove(&mut self, side: Side, value: &Value) -> Result<(), Unfit>
-        requires sound { IsSound side self.old }
-        ensures sound { IsSound side self.new }
-        ensures ok { OnOk result ((values : List Value) → StandsIn side self.old (value.now ∷ values) → StandsIn side self.new values) }
-        ensures size { OnOk result (self.old.size ≡ self.new.size + 1) }
-        ensures begins { OnOk result ((values : List Value) × StandsIn side self.old (value.now ∷ values)) }
-        ensures pairs { length (pairs_in self.new) ≤ length (pairs_in self.old) }
-        ensures unfit { OnErr result ((values : List Value) → StandsIn side self.old (value.now ∷ values) → ⊥) }
-        ensures err { OnErr result (self.new ≡ self.old) }
+        requires { IsSound side self.old }
+        ensures { Loses side value.now self.old self.new result }
     {
         let Some(number) = Number::of(value) else {
             return Err(Unfit);
@@ -148,13 +133,7 @@ impl Deque {
     fn remove_first(&mut self, side: Side) -> Result<(), Unfit>
         requires sound { IsSound side self.old }
         requires some { 0 < length (pairs_in self.old) }
-        ensures sound { IsSound side self.new }
-        ensures pairs { OnOk result (pairs_in self.new ≡ without_first (pairs_in self.old)) }
-        ensures size { OnOk result (self.old.size ≡ self.new.size + 1) }
-        ensures may { OnOk result ((self.old.kept ≡ self.old.size) ⊎ (some_can_beat side (first_value (without_first (pairs_in self.old))) ≡ true)) }
-        ensures more { OnErr result (self.old.kept < self.old.size) }
-        ensures none { OnErr result (some_can_beat side (first_value (without_first (pairs_in self.old))) ≡ false) }
-        ensures err { OnErr result (self.new ≡ self.old) }
+        ensures { LosesFirst side self.old self.new result }
     {
         if !self.can_lose_first(side) {
             return Err(Unfit);
@@ -181,14 +160,8 @@ impl Deque {
 
     /// Takes a value away that isn't the first pair's: one that is beaten, where there is one more than the pairs have.
     fn remove_beaten(&mut self, side: Side, first: Number, number: Number) -> Result<(), Unfit>
-        requires sound { IsSound side self.old }
-        ensures sound { IsSound side self.new }
-        ensures pairs { OnOk result (pairs_in self.new ≡ pairs_in self.old) }
-        ensures size { OnOk result (self.old.size ≡ self.new.size + 1) }
-        ensures beaten { OnOk result (beats side (value_of first) (value_of number) ≡ true) }
-        ensures more { OnOk result (self.old.kept < self.old.size) }
-        ensures unfit { OnErr result ((self.old.kept ≡ self.old.size) ⊎ (beats side (value_of first) (value_of number) ≡ false)) }
-        ensures err { OnErr result (self.new ≡ self.old) }
+        requires { IsSound side self.old }
+        ensures { LosesBeaten side (value_of first) (value_of number) self.old self.new result }
     {
         if self.kept == self.size || !side.beats(first, number) {
             return Err(Unfit);

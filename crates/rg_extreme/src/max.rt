@@ -2,6 +2,7 @@ ghost use Rattle.std.specs.Prelude.{◌≡◌, ◌+◌, ◌<◌, ◌≤◌, ◌^
 ghost use Rattle.rg_agg.specs.Standing.{IsLike, MayBeginWith, Stands, kind_in, size_in};
 ghost use Rattle.rg_agg.specs.Stands.{IsNumber};
 ghost use Rattle.rg_event.specs.declared.value.Value.{Value as TheValue};
+ghost use Rattle.rg_extreme.specs.Changes.{IsAdded, MayAdd};
 ghost use Rattle.rg_extreme.specs.Deques.{IsDeque-prop, begun, pairs_of};
 ghost use Rattle.rg_extreme.specs.Sides.{beats};
 ghost use Rattle.rg_extreme.specs.States.{IsSound, pairs_in};
@@ -138,12 +139,8 @@ fn add_uncounted<L: Ledger>(state: &mut Max, value: &Value, blank: Blank) -> Res
     requires named { blank.name ≡ L.name }
     requires parts { blank.parts ≡ L.parts }
     requires whole { 0 < blank.parts }
-    requires room { size_in (⟦<Max as Aggregate>⟧.held state.old) < 2 ^ 40 }
-    requires takes { IsNumber value.now }
-    requires like { IsLike (kind_in (⟦<Max as Aggregate>⟧.held state.old)) value.now }
-    ensures ok { OnOk result ((values : List TheValue) → Stands (⟦<Max as Aggregate>⟧.held state.old) values → Stands (⟦<Max as Aggregate>⟧.held state.new) (values ++ value.now ∷ [])) }
-    ensures size { OnOk result (size_in (⟦<Max as Aggregate>⟧.held state.new) ≡ size_in (⟦<Max as Aggregate>⟧.held state.old) + 1) }
-    ensures err { OnErr result (⟦<Max as Aggregate>⟧.held state.new ≡ ⟦<Max as Aggregate>⟧.held state.old) }
+    requires may { MayAdd (⟦<Max as Aggregate>⟧.held state.old) value.now }
+    ensures added { IsAdded value.now (⟦<Max as Aggregate>⟧.held state.old) (⟦<Max as Aggregate>⟧.held state.new) result }
 {
     state.add_counted(value, &mut Steps::<L>::new(blank))
 }

@@ -5,11 +5,11 @@ ghost use Rattle.rg_agg.specs.Numbers.{seen, value_of};
 ghost use Rattle.rg_agg.specs.Standing.{AreThere, counts_sum};
 ghost use Rattle.rg_agg.specs.Stands.{IsNumber};
 ghost use Rattle.rg_bytes.specs.Keeps.{Keeps};
-ghost use Rattle.rg_event.specs.declared.value.Kind.{Kind as KindValue};
-ghost use Rattle.rg_extreme.specs.Deques.{first_value, is_beaten, is_same, pushed, raised, with_value, without_first};
+ghost use Rattle.rg_extreme.specs.Changes.{DropsBeaten};
+ghost use Rattle.rg_extreme.specs.Deques.{first_value, is_beaten, is_same, pushed, raised, without_first};
 ghost use Rattle.rg_extreme.specs.Sides.{beats};
 ghost use Rattle.rg_extreme.specs.States.{as_pairs};
-ghost use Rattle.rg_tally.specs.Pairs.{AreOf, IsTally};
+ghost use Rattle.rg_tally.specs.Pairs.{IsTally};
 ghost use Rattle.rg_tally.specs.Reading.{last_kept};
 
 use crate::side::Side;
@@ -116,15 +116,7 @@ pub(crate) fn drop_beaten<L: Ledger>(
     steps: &mut Steps<L>,
 ) -> u64
     requires { IsTally IsNumber (beats side) (as_pairs pairs.old.items) }
-    ensures tally { IsTally IsNumber (beats side) (as_pairs pairs.new.items) }
-    ensures kept { (kind : KindValue) → AreOf IsNumber kind (as_pairs pairs.old.items) → AreOf IsNumber kind (as_pairs pairs.new.items) }
-    ensures same { with_value (beats side) (value_of number) (as_pairs pairs.new.items) ≡ with_value (beats side) (value_of number) (as_pairs pairs.old.items) }
-    ensures stays { is_beaten (beats side) (last_kept (as_pairs pairs.new.items)) (value_of number) ≡ false }
-    ensures ticks { steps.new + length pairs.new.items ≡ steps.old + length pairs.old.items }
-    ensures sum { result + counts_sum (as_pairs pairs.new.items) ≡ counts_sum (as_pairs pairs.old.items) }
-    ensures fewer { length pairs.new.items ≤ length pairs.old.items }
-    ensures whole { length pairs.new.items ≡ length pairs.old.items → pairs.new.items ≡ pairs.old.items }
-    ensures capacity { deque_capacity pairs.new ≡ deque_capacity pairs.old }
+    ensures { DropsBeaten side (value_of number) pairs.old.items pairs.new.items (deque_capacity pairs.old) (deque_capacity pairs.new) steps.old steps.new result }
 {
     let mut gone = 0u64;
     'beaten: while beats_last(side, pairs, number) {

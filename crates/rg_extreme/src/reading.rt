@@ -1,4 +1,4 @@
-ghost use Rattle.std.specs.Prelude.{◌≡◌, ℕ, ◌+◌, ◌<◌, ◌≤◌, ◌^◌, ◌&&◌, List, [], ◌∷◌, ◌++◌, length, true, IfOk, OnOk, OnErr};
+ghost use Rattle.std.specs.Prelude.{◌≡◌, ℕ, ◌+◌, ◌<◌, ◌≤◌, ◌^◌, ◌&&◌, List, [], ◌∷◌, ◌++◌, true, IfOk, OnOk, OnErr};
 ghost use Rattle.std.specs.Int.{w64, to_be_bytes};
 ghost use Rattle.rg_agg.specs.Held.{Agrees, Returns, extreme_bytes, number_value_at, pairs_bytes};
 ghost use Rattle.rg_agg.specs.Numbers.{value_of};
@@ -6,6 +6,7 @@ ghost use Rattle.rg_agg.specs.Standing.{counts_sum};
 ghost use Rattle.rg_agg.specs.Stands.{IsNumber};
 ghost use Rattle.rg_event.specs.Tagged.{tagged_bytes};
 ghost use Rattle.rg_event.specs.declared.value.Value.{Value};
+ghost use Rattle.rg_extreme.specs.Changes.{ComesNext, IsMade};
 ghost use Rattle.rg_extreme.specs.Deques.{IsDeque};
 ghost use Rattle.rg_extreme.specs.Extremes.{extreme_at};
 ghost use Rattle.rg_extreme.specs.Sides.{beats};
@@ -93,9 +94,7 @@ fn read_pairs(
     requires few { size ≤ 2 ^ 40 }
     ensures agrees { Agrees pairs_in (more_pairs_at number_value_at (beats side) size [] count from.old) result from.new }
     ensures ok { IfOk result (λ deque. from.old ≡ pairs_bytes (pairs_in deque) ++ from.new) }
-    ensures size { IfOk result (λ deque. deque.size ≡ size) }
-    ensures count { IfOk result (λ deque. length (pairs_in deque) ≡ count) }
-    ensures sound { IfOk result (λ deque. IsSound side deque) }
+    ensures made { IfOk result (λ deque. IsMade side size count deque) }
 {
     let mut deque = Deque {
         pairs: VecDeque::new(alloc),
@@ -137,10 +136,7 @@ fn read_pair(
     requires most { deque.now.kept ≤ deque.now.size }
     ensures agrees { Agrees (λ pair. (value_of pair.0, pair.1)) (pair_at number_value_at (beats side) deque.now.size (pairs_in deque.now) from.old) result from.new }
     ensures ok { IfOk result (λ pair. from.old ≡ tagged_bytes (value_of pair.0) ++ (to_be_bytes w64 pair.1 ++ from.new)) }
-    ensures legal { IfOk result (λ pair. IsNumber (value_of pair.0)) }
-    ensures behind { IfOk result (λ pair. comes_behind (beats side) (last_kept (pairs_in deque.now)) (value_of pair.0) ≡ true) }
-    ensures some { IfOk result (λ pair. 0 < pair.1) }
-    ensures few { IfOk result (λ pair. deque.now.kept + pair.1 ≤ deque.now.size) }
+    ensures next { IfOk result (λ pair. ComesNext side deque.now (value_of pair.0) pair.1) }
 {
     let number = read_behind(alloc, side, &deque.pairs, from)?;
     let count = read_count(deque, from)?;

@@ -5,6 +5,7 @@ pub mod Listed
 pub mod Since
 pub mod Marking
 pub mod Stepping
+pub mod RowSteps
 pub mod Unused
 pub mod Flagged
 pub mod Named

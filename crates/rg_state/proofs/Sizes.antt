@@ -5,7 +5,7 @@ use Rattle.rg_agg.specs.Held.{Held, counted, summed, averaged, squared, queued, 
 use Rattle.rg_agg.specs.Standing.{Stands, size_in}
 use Rattle.rg_event.specs.declared.value.Value.{Value}
 
-size_is : (held : Held) (values : List Value) → Stands held values → size_in held ≡ length values
+pub size_is : (held : Held) (values : List Value) → Stands held values → size_in held ≡ length values
 size_is (counted n) values stands = stands
 size_is (summed n sum) values stands = stands.count
 size_is (averaged n sum) values stands = stands.count

@@ -8,8 +8,16 @@ use Rattle.std.proofs.lemmas.Bool.Decides.{Decides-eqb}
 use Rattle.std.proofs.lemmas.Map.Text.{is_eq-slice_cmp}
 use Rattle.rg_state.specs.Cells.{row_at, count_at, row_by, slot_in, seen_in, IsBound, OthersSeen, SameSeen}
 use Rattle.rg_state.specs.Kepts.{unseen, seen_at, OthersKept, IsKeptSame}
+use Rattle.rg_agg.specs.Held.{Held}
+use Rattle.rg_bytes.specs.declared.memory.Memory.{Memory}
+use Rattle.rg_event.specs.declared.value.Value.{Value}
+use Rattle.rg_words.specs.declared.func.Func.{Func}
+use Rattle.rg_state.specs.SlotSteps.{SlotsGet, SlotsStep}
+use Rattle.rg_state.specs.Stepping.{RowsStep, RowsGet}
 use Rattle.rg_state.specs.declared.key_rows.Kept.{Kept}
 use Rattle.rg_state.specs.declared.key_rows.KeyRows.{KeyRows}
+use Rattle.rg_state.specs.declared.one.Refusal.{Refusal}
+use Rattle.rg_state.specs.declared.table.Change.{Change}
 
 abbrev pub Map : Type 0
 Map = BTreeMap (List ℕ) ℕ
@@ -146,10 +154,6 @@ pub err_written : {A E : Type 0} (result : Result A E) (map : Map) (rows : List 
     OnErr result (IsKeptSame old.kept.items new.kept.items) → OnErr result (SameSeen (seen_in map rows) (seen_in map (set rows slot new)))
 err_written (Ok done) map rows key slot old new bound found within is same = same
 err_written (Err refused) map rows key slot old new bound found within is same = same_written map rows key slot old new bound found within is same
-
-pub some_added : {E : Type 0} (result : Result Unit E) (old new : List Kept) → OnOk result (length old ≤ length new) → OnErr result (IsKeptSame old new) → 0 < length old → 0 < length new
-some_added (Ok done) old new count same was = omega (arith, count)
-some_added (Err refused) old new count same was = omega (arith, same.count)
 
 -- a key that is given a slot
 
@@ -322,3 +326,41 @@ pub others_put : {A E : Type 0} (result : Result A E) (old new : Map) (rows more
 others_put (Ok done) old new rows more none kept key node lost empty beside here err others n k apart =
     others_put_by old new rows more kept key node lost here (λ m far. beside m far ∙ empty_row none m empty) others n k apart (bytes_eq key k) refl
 others_put (Err refused) old new rows more none kept key node lost empty beside here err others n k apart = err n k
+
+-- a slot that was found in a map that is the same
+pub found_in : (map was_map : Map) (key : List ℕ) (slot : ℕ) → map ≡ was_map → Some slot ≡ slot_in was_map key → slot_in map key ≡ Some slot
+found_in map was_map key slot maps is = ap (λ m. slot_in m key) maps ∙ sym is
+
+-- what is done to the rows in the slot of a key, as seen from a map and rows that are the same
+
+module _ (map was_map : Map) (rows was : List KeyRows) (key : List ℕ) (slot node : ℕ) (old new : KeyRows) (maps : map ≡ was_map) (same : rows ≡ was) (bound : IsBound map rows) (found : slot_in map key ≡ Some slot) (is : old ≡ get_or rows slot old) where
+  within_it : slot < length rows
+  within_it = within_of rows slot (bound.filled key slot found)
+
+  read : seen_in map rows node key ≡ seen_at old.kept.items node
+  read = cell_read map rows key slot node old found within_it is
+
+  pub step_written : (func : Func) (change : Change) (value : Value) (result : Result Unit Refusal) → RowsStep func change value node old.kept.items new.kept.items result → SlotsStep func change value node key (seen_in was_map was) (seen_in map (set rows slot new)) result
+  step_written func change value result step = rw (sym maps, sym same) (record {
+    stepped = rw (read, cell_written map rows key slot node new found within_it) step.stepped;
+    others = others_written map rows key slot node old new bound found within_it is step.others;
+    err = err_written result map rows key slot old new bound found within_it is step.err;
+    refuses = rw read step.refuses;
+  })
+
+  pub step_lost : (func : Func) (change : Change) (value : Value) (lost : Map) → UpdatesBy (slice_cmp nat_cmp) (slice_cmp nat_cmp key) map lost None → length new.kept.items ≡ 0 → RowsStep func change value node old.kept.items new.kept.items (Ok tt)
+      → SlotsStep func change value node key (seen_in was_map was) (seen_in lost (set rows slot new)) (Ok tt)
+  step_lost func change value lost updates none step = rw (sym maps, sym same) (record {
+    stepped = rw (read, gone_row map lost (set rows slot new) key node new updates none) step.stepped;
+    others = others_lost map lost rows key slot node old new bound found updates within_it is step.others none;
+    err = tt;
+    refuses = tt;
+  })
+
+  pub got_written : (held : Held) (result : Result Unit Memory) → RowsGet held node old.kept.items new.kept.items result → SlotsGet held node key (seen_in was_map was) (seen_in map (set rows slot new)) result
+  got_written held result got = rw (sym maps, sym same) (record {
+    row = rw (cell_written map rows key slot node new found within_it) got.row;
+    marks = rw (read, cell_written map rows key slot node new found within_it) got.marks;
+    others = others_written map rows key slot node old new bound found within_it is got.others;
+    err = err_written result map rows key slot old new bound found within_it is got.err;
+  })

@@ -1,18 +1,24 @@
 -- What a change of one state does to its row, and to what is remembered of it.
 use Rattle.std.proofs.Common.{◌≡◌, inl, inr, ℕ, zero, suc, ◌+◌, ◌<◌, ◌==◌, ◌&&◌, ◌||◌, not, cond, Bool, true, false, Option, Some, None, refl, ap, sym, ◌∙◌, subst, arith}
-use Rattle.std.specs.Prelude.{is_some, Err, IsErrOf}
+use Rattle.std.proofs.Common.{List, ◌∷◌, [], ◌++◌, length-append}
+use Rattle.std.specs.Prelude.{is_some, Ok, Err}
 use Rattle.std.specs.Cmp.{first_so, second_so}
 use Rattle.std.proofs.lemmas.Bool.Decides.{Decides-eqb}
 use Rattle.rg_agg.specs.Held.{Held}
-use Rattle.rg_agg.specs.Standing.{size_in, func_of}
+use Rattle.rg_agg.specs.Standing.{size_in, func_of, Stands}
 use Rattle.rg_event.specs.declared.value.Value.{Value}
 use Rattle.rg_words.specs.declared.func.Func.{Func}
 use Rattle.rg_state.specs.Kepts.{Seen, unseen, fresh, seen, shown, is_fair, is_idle, is_marked, IsMarked, Stepped}
 use Rattle.rg_state.specs.Rows.{Changed, Suits, Counts, Unfit}
 use Rattle.rg_state.specs.States.{held_of}
+use Rattle.rg_state.specs.Stepping.{Adds, Drops, Refuses, KeptStep}
 use Rattle.rg_state.specs.declared.key_rows.Kept.{Kept}
+use Rattle.rg_state.specs.declared.one.Refusal.{Refusal}
+use Rattle.rg_state.specs.declared.one.Refusal.TheVariants as refusal
+use Rattle.rg_state.specs.declared.state.AggState.{AggState}
 use Rattle.rg_state.specs.declared.table.Change.{Change}
 use Rattle.rg_state.specs.declared.table.Change.TheVariants.{Add, Remove}
+use Rattle.rg_state.proofs.Sizes.{size_is, none_left}
 
 is_false : (b : Bool) → (b ≡ true → ⊥) → b ≡ false
 is_false true never = absurd (never refl)
@@ -160,10 +166,6 @@ marked_fresh held = record { named = inl refl; there = refl }
 pub marked_put : (old new : Seen) → old.named ≡ true → new.named ≡ old.named → new.there ≡ old.there → IsMarked old new
 marked_put old new named same_named same_there = record { named = inl (same_named ∙ named); there = same_there ∙ sym (ap (λ b. cond b old.there (is_some old.held)) named) }
 
--- a refusal of one call is that of another that hands it on
-pub handed_on : {A B E : Type 0} {Q : Type 0} (given wanted : E) → (IsErrOf {T = A} (Err given) wanted → Q) → IsErrOf {T = B} (Err given) wanted → Q
-handed_on given wanted claim is = let same : given ≡ wanted = cc in claim (ap Err same)
-
 and_first : (a b : Bool) → (a && b) ≡ true → a ≡ true
 and_first true b is = refl
 and_first false b is = is
@@ -198,3 +200,83 @@ marked_same a b named there is = ap (λ (t : Bool). not t || b.named) there ∙ 
 
 pub marked_clear : (kept : Kept) → kept.there ≡ false → is_marked kept ≡ true
 marked_clear kept is = ap (λ (t : Bool). not t || kept.named) is
+
+-- a state of the function's own, and what becomes of its row
+
+module _ (func : Func) (value : Value) (a b : Held) (own : func_of a ≡ func) where
+  added_row : func_of b ≡ func_of a → ((values : List Value) → Stands a values → Stands b (values ++ value ∷ [])) → Changed func Add value (Some a) (Some b)
+  added_row same ok = λ values is. (same ∙ own, ok values is.1, omega (arith, length-append values (value ∷ [])))
+
+  taken_row : func_of b ≡ func_of a → ((values : List Value) → Stands a (value ∷ values) → Stands b values) → 0 < size_in b → Changed func Remove value (Some a) (Some b)
+  taken_row same ok some = λ values is. (same ∙ own, ok values is.1, subst (λ n. 0 < n) (size_is b values (ok values is.1)) some)
+
+  emptied_row : ((values : List Value) → Stands a (value ∷ values) → Stands b values) → size_in b ≡ 0 → Changed func Remove value (Some a) None
+  emptied_row ok none = λ values is. none_left b values (ok values is.1) (sym none)
+
+-- why a value more is refused, and one fewer
+add_refused : (func : Func) (value : Value) (a b : Held) (cause : Refusal) → Adds value a b (Err cause) → Refuses func Add value (Some a) cause
+add_refused func value a b refusal.Memory is = tt
+add_refused func value a b refusal.Unfit is = (λ values stands. is.unfit refl values stands.1, λ suits. is.causes refl suits.1 suits.2)
+
+drop_refused : (func : Func) (value : Value) (a b : Held) (cause : Refusal) → Drops value a b (Err cause) → Refuses func Remove value (Some a) cause
+drop_refused func value a b cause is = λ values stands. is.unfit values stands.1
+
+-- a state of another function is unfit
+other_refused : (func : Func) (change : Change) (value : Value) (a : Held) → (func_of a ≡ func → ⊥) → Refuses func change value (Some a) refusal.Unfit
+other_refused func Add value a other = (λ values stands few like. other stands.0, λ suits. other suits.0)
+other_refused func Remove value a other = λ values stands. other stands.0
+
+-- a row that stays
+pub kept_refused : (func : Func) (change : Change) (value : Value) (old : Kept) → (size_in (held_of old.state) == 0) ≡ false → (func_of (held_of old.state) ≡ func → ⊥) → KeptStep func change value old old (Err refusal.Unfit)
+kept_refused func change value old full other = record { node = refl; stepped = tt; err = refl; refuses = rw (shown_full (held_of old.state) full) (other_refused func change value (held_of old.state) other) }
+
+pub none_refused : (func : Func) (value : Value) (old : Kept) → (size_in (held_of old.state) == 0) ≡ true → KeptStep func Remove value old old (Err refusal.Unfit)
+none_refused func value old none = record { node = refl; stepped = tt; err = refl; refuses = rw (shown_none (held_of old.state) none) (unfit_none func value) }
+
+-- a row that is gone begins anew
+pub kept_begun : (func : Func) (value : Value) (old : Kept) (st : AggState) → is_fair old ≡ true → (size_in (held_of old.state) == 0) ≡ true → Changed func Add value None (Some (held_of st)) → func_of (held_of st) ≡ func → size_in (held_of st) ≡ 1
+    → KeptStep func Add value old (record { node = old.node; named = old.named; there = old.there; state = st }) (Ok tt)
+kept_begun func value old st fair none changed own size =
+    let some : 0 < size_in (held_of st) = omega (arith, size) in
+    record {
+      node = refl;
+      stepped = stepped_begun func value (seen old) _ (held_of st) (shown_none (held_of old.state) none) (named_gone old fair none) (shown_some (held_of st) some) refl refl changed own size;
+      err = tt;
+      refuses = tt;
+    }
+
+-- what a call on a row's own state does to the row, which is named then
+module _ (func : Func) (value : Value) (old : Kept) (full : (size_in (held_of old.state) == 0) ≡ false) (own : func_of (held_of old.state) ≡ func) where
+  module _ (st : AggState) (new : Kept) (same : new.state ≡ st) (node : new.node ≡ old.node) (named : new.named ≡ true) (there : new.there ≡ cond old.named old.there true) (keeps : func_of (held_of st) ≡ func_of (held_of old.state)) where
+    pub kept_added : Adds value (held_of old.state) (held_of st) (Ok tt) → KeptStep func Add value old new (Ok tt)
+    kept_added is =
+        let some : 0 < size_in (held_of st) = omega (arith, is.size) in
+        record {
+          node = node;
+          stepped = stepped_added func value (seen old) (seen new) (held_of old.state) (held_of st) (shown_full (held_of old.state) full) (ap (λ s. shown (held_of s)) same ∙ shown_some (held_of st) some) named there
+              (added_row func value (held_of old.state) (held_of st) own keeps is.ok) (own, is.room, is.like) (keeps ∙ own) is.size;
+          err = tt;
+          refuses = tt;
+        }
+
+    pub kept_taken : Drops value (held_of old.state) (held_of st) (Ok tt) → KeptStep func Remove value old new (Ok tt)
+    kept_taken is = record {
+      node = node;
+      stepped = stepped_taken func value (seen old) (seen new) (held_of old.state) (held_of st) (shown_full (held_of old.state) full) (ap (λ s. shown (held_of s)) same) named there
+          (own, is.begins) (taken_row func value (held_of old.state) (held_of st) own keeps is.ok) (emptied_row func value (held_of old.state) (held_of st) own is.ok) (keeps ∙ own) is.size;
+      err = tt;
+      refuses = tt;
+    }
+
+  module _ (st : AggState) (cause : Refusal) where
+    abbrev pub left : Kept
+    left = record { node = old.node; named = old.named; there = old.there; state = st }
+
+    stays : held_of st ≡ held_of old.state → seen left ≡ seen old
+    stays same = ap (λ held. record { held = shown held; named = old.named; there = old.there }) same
+
+    pub add_stays : Adds value (held_of old.state) (held_of st) (Err cause) → KeptStep func Add value old left (Err cause)
+    add_stays is = record { node = refl; stepped = tt; err = stays is.err; refuses = rw (shown_full (held_of old.state) full) (add_refused func value (held_of old.state) (held_of st) cause is) }
+
+    pub take_stays : Drops value (held_of old.state) (held_of st) (Err cause) → KeptStep func Remove value old left (Err cause)
+    take_stays is = record { node = refl; stepped = tt; err = stays is.err; refuses = rw (shown_full (held_of old.state) full) (drop_refused func value (held_of old.state) (held_of st) cause is) }

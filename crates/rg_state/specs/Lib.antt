@@ -12,3 +12,5 @@ pub mod Counted
 pub mod Sheets
 pub mod Touched
 pub mod Kinds
+pub mod Stepping
+pub mod SlotSteps

@@ -1,14 +1,13 @@
-ghost use Rattle.std.specs.Prelude.{◌≡◌, ◌+◌, ◌<◌, ◌≤◌, ℕ, true, false, not, ◌==◌, cond, None, Some, length, take, is_some, IfOk, IfSome, IsNone, OnOk, OnErr, IsErrOf, slice_index_or, All};
+ghost use Rattle.std.specs.Prelude.{◌≡◌, ◌+◌, ◌<◌, ◌≤◌, ℕ, true, false, ◌==◌, cond, None, length, is_some, IfSome, IsNone, OnOk, OnErr, slice_index_or};
 ghost use Rattle.std.specs.Option.{option_map};
 ghost use Rattle.rg_agg.specs.Standing.{size_in};
-ghost use Rattle.rg_state.specs.Kepts.{Seen, unseen, fresh, settled, told, seen, seen_at, stands_in, is_marked, is_idle, is_fair, are_sound, OthersKept, IsKeptSame, IsMarked, Stepped};
-ghost use Rattle.rg_state.specs.Rows.{Unfit, IsRefused};
-ghost use Rattle.rg_state.specs.Clean.{IsClean};
+ghost use Rattle.rg_state.specs.Kepts.{fresh, settled, told, seen, seen_at, stands_in, is_marked, is_idle, is_fair, are_sound, OthersKept, IsKeptSame};
 ghost use Rattle.rg_state.specs.States.{held_of};
+ghost use Rattle.rg_state.specs.Stepping.{KeptStep, RowsStep, RowsGet, SettlesAt};
 ghost use Rattle.rg_state.specs.Takes.{Takes};
 
 use crate::one::Refusal;
-use crate::own::{add_own, first_state, take_own};
+use crate::own::first_state;
 use crate::state::AggState;
 use crate::table::Change;
 use rg_bytes::Memory;
@@ -77,16 +76,12 @@ impl Kept {
         self.there = false;
     }
 
-    /// Adds a value to the row. One that is gone begins anew.
+    /// Adds a value to the row, where its state is the function's. One that is gone begins anew.
     fn add(&mut self, alloc: Global, func: Func, value: &Value) -> Result<(), Refusal>
         requires takes { Takes func value.now }
         requires fair { is_fair self.old ≡ true }
-        ensures node { self.new.node ≡ self.old.node }
         ensures fair { is_fair self.new ≡ true }
-        ensures stepped { OnOk result (Stepped func Change.Add value.now (seen self.old) (seen self.new)) }
-        ensures err { OnErr result (seen self.new ≡ seen self.old) }
-        ensures unfit { IsErrOf result Refusal.Unfit → Unfit func Change.Add value.now (seen self.old).held }
-        ensures causes { IsErrOf result Refusal.Unfit → IsRefused func Change.Add value.now (seen self.old).held }
+        ensures step { KeptStep func Change.Add value.now self.old self.new result }
     {
         if self.state.is_empty() {
             match first_state(alloc, func, value) {
@@ -97,7 +92,10 @@ impl Kept {
                 Err(_) => return Err(Refusal::Memory),
             }
         }
-        match add_own(&mut self.state, func, value) {
+        if self.state.func() != func {
+            return Err(Refusal::Unfit);
+        }
+        match self.state.add(value) {
             Ok(()) => {
                 self.name();
                 Ok(())
@@ -106,20 +104,20 @@ impl Kept {
         }
     }
 
-    /// Takes the first value of the row away. The row may be gone then.
+    /// Takes the first value of the row away, where its state is the function's. The row may be gone then.
     fn take(&mut self, func: Func, value: &Value) -> Result<(), Refusal>
-        requires fair { is_fair self.old ≡ true }
-        ensures node { self.new.node ≡ self.old.node }
+        requires { is_fair self.old ≡ true }
         ensures marked { is_marked self.new ≡ true }
-        ensures stepped { OnOk result (Stepped func Change.Remove value.now (seen self.old) (seen self.new)) }
-        ensures err { OnErr result (seen self.new ≡ seen self.old) }
         ensures fair { OnErr result (is_fair self.new ≡ true) }
-        ensures unfit { OnErr result (Unfit func Change.Remove value.now (seen self.old).held) }
+        ensures step { KeptStep func Change.Remove value.now self.old self.new result }
     {
         if self.state.is_empty() {
             return Err(Refusal::Unfit);
         }
-        match take_own(&mut self.state, func, value) {
+        if self.state.func() != func {
+            return Err(Refusal::Unfit);
+        }
+        match self.state.remove(value) {
             Ok(()) => {
                 self.name();
                 Ok(())
@@ -192,20 +190,13 @@ impl KeyRows {
         value: &Value,
     ) -> Result<(), Refusal>
         requires { Takes func value.now }
-        ensures stepped { OnOk result (Stepped func Change.Add value.now (seen_at self.old.kept.items node) (seen_at self.new.kept.items node)) }
-        ensures others { OthersKept node self.old.kept.items self.new.kept.items }
-        ensures count { OnOk result (length self.old.kept.items ≤ length self.new.kept.items) }
-        ensures err { OnErr result (IsKeptSame self.old.kept.items self.new.kept.items) }
-        ensures unfit { IsErrOf result Refusal.Unfit → Unfit func Change.Add value.now (seen_at self.old.kept.items node).held }
-        ensures causes { IsErrOf result Refusal.Unfit → IsRefused func Change.Add value.now (seen_at self.old.kept.items node).held }
+        ensures count { length self.old.kept.items ≤ length self.new.kept.items }
+        ensures step { RowsStep func Change.Add value.now node self.old.kept.items self.new.kept.items result }
     {
         match self.place(node) {
             Some(place) => {
                 let kept = &mut self.kept[place];
-                match kept.add(alloc, func, value) {
-                    Ok(()) => return Ok(()),
-                    Err(refusal) => return Err(refusal),
-                }
+                return kept.add(alloc, func, value);
             }
             None => {}
         }
@@ -221,10 +212,7 @@ impl KeyRows {
 
     /// Takes the first value of the row of a node away.
     pub(crate) fn take(&mut self, node: u32, func: Func, value: &Value) -> Result<(), Refusal>
-        ensures stepped { OnOk result (Stepped func Change.Remove value.now (seen_at self.old.kept.items node) (seen_at self.new.kept.items node)) }
-        ensures others { OthersKept node self.old.kept.items self.new.kept.items }
-        ensures err { OnErr result (IsKeptSame self.old.kept.items self.new.kept.items) }
-        ensures unfit { OnErr result (Unfit func Change.Remove value.now (seen_at self.old.kept.items node).held) }
+        ensures { RowsStep func Change.Remove value.now node self.old.kept.items self.new.kept.items result }
     {
         let place = match self.place(node) {
             None => return Err(Refusal::Unfit),
@@ -246,11 +234,8 @@ impl KeyRows {
     pub(crate) fn insert(&mut self, node: u32, state: AggState) -> Result<(), Memory>
         requires free { (seen_at self.old.kept.items node).held ≡ None }
         requires some { 0 < size_in (held_of state) }
-        ensures row { OnOk result ((seen_at self.new.kept.items node).held ≡ Some (held_of state)) }
-        ensures marks { OnOk result (IsMarked (seen_at self.old.kept.items node) (seen_at self.new.kept.items node)) }
-        ensures others { OthersKept node self.old.kept.items self.new.kept.items }
-        ensures count { OnOk result (length self.old.kept.items ≤ length self.new.kept.items) }
-        ensures err { OnErr result (IsKeptSame self.old.kept.items self.new.kept.items) }
+        ensures count { length self.old.kept.items ≤ length self.new.kept.items }
+        ensures got { RowsGet (held_of state) node self.old.kept.items self.new.kept.items result }
     {
         match self.place(node) {
             Some(place) => {
@@ -260,10 +245,7 @@ impl KeyRows {
             }
             None => {}
         }
-        match self.push(node, state) {
-            Ok(()) => Ok(()),
-            Err(memory) => Err(memory),
-        }
+        self.push(node, state)
     }
 
     /// Puts a row of a node of which nothing is kept.
@@ -309,11 +291,7 @@ fn settle_all(kept: &mut Vec<Kept>)
 fn settle_at(kept: &mut Vec<Kept>, place: usize) -> usize
     requires sound { are_sound kept.old.items ≡ true }
     requires within { place < length kept.old.items }
-    ensures sound { are_sound kept.new.items ≡ true }
-    ensures rows { (node : ℕ) → settled (seen_at kept.new.items node) ≡ settled (seen_at kept.old.items node) }
-    ensures clean { All IsClean (take place kept.old.items) → All IsClean (take result kept.new.items) }
-    ensures left { length kept.new.items + place + 1 ≡ length kept.old.items + result }
-    ensures next { result ≤ length kept.new.items }
+    ensures { SettlesAt place result kept.old.items kept.new.items }
 {
     let one = &mut kept[place];
     if !one.state.is_empty() {

@@ -1,8 +1,8 @@
-ghost use Rattle.std.specs.Prelude.{◌≡◌, ◌+◌, ◌<◌, None, Some, List, [], IsSome, IsNone, IfOk, OnOk, OnErr, IsErrOf};
+ghost use Rattle.std.specs.Prelude.{◌≡◌, None, Some, List, [], IsSome, IsNone, IfOk};
 ghost use Rattle.rg_agg.specs.Standing.{func_of, size_in};
 ghost use Rattle.rg_event.specs.declared.value.Value.{Value};
 ghost use Rattle.rg_metric.specs.Answers.{answer_of};
-ghost use Rattle.rg_state.specs.Rows.{RowStands, Changed, Suits, Unfit, IsRefused, IsOf};
+ghost use Rattle.rg_state.specs.Rows.{RowStands, Changed, IsOf};
 ghost use Rattle.rg_state.specs.States.{held_of};
 ghost use Rattle.rg_state.specs.Takes.{Takes};
 
@@ -27,39 +27,6 @@ pub(crate) fn first_state(alloc: Global, func: Func, value: &Value) -> Result<Ag
         Err(Refusal::Memory) => Err(Memory),
         Err(Refusal::Unfit) => unreachable!(),
     }
-}
-
-/// Adds a value to a row's state, where that is the function's.
-pub(crate) fn add_own(state: &mut AggState, func: Func, value: &Value) -> Result<(), Refusal>
-    requires { Takes func value.now }
-    ensures changed { OnOk result (Changed func Change.Add value.now (Some (held_of state.old)) (Some (held_of state.new))) }
-    ensures suits { OnOk result (Suits func Change.Add value.now (Some (held_of state.old))) }
-    ensures own { OnOk result (func_of (held_of state.new) ≡ func) }
-    ensures size { OnOk result (size_in (held_of state.new) ≡ size_in (held_of state.old) + 1) }
-    ensures unfit { IsErrOf result Refusal.Unfit → Unfit func Change.Add value.now (Some (held_of state.old)) }
-    ensures causes { IsErrOf result Refusal.Unfit → IsRefused func Change.Add value.now (Some (held_of state.old)) }
-    ensures err { OnErr result (held_of state.new ≡ held_of state.old) }
-{
-    if state.func() != func {
-        return Err(Refusal::Unfit);
-    }
-    state.add(value)
-}
-
-/// Takes the first value of a row's state away, where that is the function's. The state may be empty then.
-pub(crate) fn take_own(state: &mut AggState, func: Func, value: &Value) -> Result<(), Refusal>
-    ensures suits { OnOk result (Suits func Change.Remove value.now (Some (held_of state.old))) }
-    ensures changed { OnOk result (0 < size_in (held_of state.new) → Changed func Change.Remove value.now (Some (held_of state.old)) (Some (held_of state.new))) }
-    ensures emptied { OnOk result (size_in (held_of state.new) ≡ 0 → Changed func Change.Remove value.now (Some (held_of state.old)) None) }
-    ensures own { OnOk result (func_of (held_of state.new) ≡ func) }
-    ensures size { OnOk result (size_in (held_of state.old) ≡ size_in (held_of state.new) + 1) }
-    ensures unfit { OnErr result (Unfit func Change.Remove value.now (Some (held_of state.old))) }
-    ensures err { OnErr result (held_of state.new ≡ held_of state.old) }
-{
-    if state.func() != func {
-        return Err(Refusal::Unfit);
-    }
-    state.remove(value)
 }
 
 /// The answer of a row's state, where that is the function's.

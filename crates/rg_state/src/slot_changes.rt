@@ -1,17 +1,18 @@
-ghost use Rattle.std.specs.Prelude.{◌≡◌, ◌<◌, None, Some, List, IsSome, IsNone, OnOk, OnErr, IsErrOf};
+ghost use Rattle.std.specs.Prelude.{◌≡◌, ◌<◌, None, Some, List, IsSome, IsNone, OnOk, OnErr};
 ghost use Rattle.rg_agg.specs.Standing.{size_in};
 ghost use Rattle.rg_event.specs.declared.value.Value.{Value};
 ghost use Rattle.rg_metric.specs.Answers.{answer_of};
 ghost use Rattle.rg_state.specs.Cells.{slot_in, seen_in, cell_in, OthersSeen, SameSeen};
-ghost use Rattle.rg_state.specs.Kepts.{fresh, IsMarked, Stepped};
-ghost use Rattle.rg_state.specs.Rows.{RowStands, Unfit, IsRefused, IsOf};
+ghost use Rattle.rg_state.specs.Kepts.{fresh};
+ghost use Rattle.rg_state.specs.Rows.{RowStands, IsOf};
 ghost use Rattle.rg_state.specs.States.{held_of};
+ghost use Rattle.rg_state.specs.SlotSteps.{SlotsGet, SlotsStep};
 ghost use Rattle.rg_state.specs.Takes.{Takes};
 
 use crate::key_rows::KeyRows;
 use crate::one::Refusal;
 use crate::own::{blank_answer, first_state, own_answer};
-use crate::slots::{Slots, put_within};
+use crate::slots::{Slots, push_within};
 use crate::state::AggState;
 use crate::table::Change;
 use rg_bytes::Memory;
@@ -31,14 +32,14 @@ impl Slots {
         value: &Value,
     ) -> Result<(), Refusal>
         requires { Takes func value.now }
-        ensures stepped { OnOk result (Stepped func Change.Add value.now (seen_in self.old.map self.old.rows.items node key.now) (seen_in self.new.map self.new.rows.items node key.now)) }
-        ensures others { OthersSeen node key.now (seen_in self.old.map self.old.rows.items) (seen_in self.new.map self.new.rows.items) }
-        ensures err { OnErr result (SameSeen (seen_in self.old.map self.old.rows.items) (seen_in self.new.map self.new.rows.items)) }
-        ensures unfit { IsErrOf result Refusal.Unfit → Unfit func Change.Add value.now (cell_in self.old.map self.old.rows.items node key.now) }
-        ensures causes { IsErrOf result Refusal.Unfit → IsRefused func Change.Add value.now (cell_in self.old.map self.old.rows.items node key.now) }
+        ensures { SlotsStep func Change.Add value.now node key.now (seen_in self.old.map self.old.rows.items) (seen_in self.new.map self.new.rows.items) result }
     {
         match self.find(key) {
-            Some(slot) => return self.add_in(alloc, slot, node, key, func, value),
+            Some(slot) => {
+                self.touched.touch(slot);
+                let rows = &mut self.rows[slot as usize];
+                return rows.add(alloc, node, func, value);
+            }
             None => {}
         }
         let state = match first_state(alloc, func, value) {
@@ -55,30 +56,7 @@ impl Slots {
         }
     }
 
-    /// Adds a value to the row of a node in the slot of a key.
-    fn add_in(
-        &mut self,
-        alloc: Global,
-        slot: u32,
-        node: u32,
-        key: &Key,
-        func: Func,
-        value: &Value,
-    ) -> Result<(), Refusal>
-        requires takes { Takes func value.now }
-        requires found { slot_in self.old.map key.now ≡ Some slot }
-        ensures stepped { OnOk result (Stepped func Change.Add value.now (seen_in self.old.map self.old.rows.items node key.now) (seen_in self.new.map self.new.rows.items node key.now)) }
-        ensures others { OthersSeen node key.now (seen_in self.old.map self.old.rows.items) (seen_in self.new.map self.new.rows.items) }
-        ensures err { OnErr result (SameSeen (seen_in self.old.map self.old.rows.items) (seen_in self.new.map self.new.rows.items)) }
-        ensures unfit { IsErrOf result Refusal.Unfit → Unfit func Change.Add value.now (cell_in self.old.map self.old.rows.items node key.now) }
-        ensures causes { IsErrOf result Refusal.Unfit → IsRefused func Change.Add value.now (cell_in self.old.map self.old.rows.items node key.now) }
-    {
-        self.touched.touch(slot);
-        let rows = &mut self.rows[slot as usize];
-        rows.add(alloc, node, func, value)
-    }
-
-    /// Takes the first value of the row of a node and a key away.
+    /// Takes the first value of the row of a node and a key away. A key that has no row then loses its slot.
     pub(crate) fn remove(
         &mut self,
         node: u32,
@@ -86,33 +64,12 @@ impl Slots {
         func: Func,
         value: &Value,
     ) -> Result<(), Refusal>
-        ensures stepped { OnOk result (Stepped func Change.Remove value.now (seen_in self.old.map self.old.rows.items node key.now) (seen_in self.new.map self.new.rows.items node key.now)) }
-        ensures others { OthersSeen node key.now (seen_in self.old.map self.old.rows.items) (seen_in self.new.map self.new.rows.items) }
-        ensures err { OnErr result (SameSeen (seen_in self.old.map self.old.rows.items) (seen_in self.new.map self.new.rows.items)) }
-        ensures unfit { OnErr result (Unfit func Change.Remove value.now (cell_in self.old.map self.old.rows.items node key.now)) }
+        ensures { SlotsStep func Change.Remove value.now node key.now (seen_in self.old.map self.old.rows.items) (seen_in self.new.map self.new.rows.items) result }
     {
-        match self.find(key) {
-            None => Err(Refusal::Unfit),
-            Some(slot) => self.take_in(slot, node, key, func, value),
-        }
-    }
-
-    /// Takes the first value of the row of a node in the slot of a key away. A key that has no row then
-    /// loses its slot.
-    fn take_in(
-        &mut self,
-        slot: u32,
-        node: u32,
-        key: &Key,
-        func: Func,
-        value: &Value,
-    ) -> Result<(), Refusal>
-        requires found { slot_in self.old.map key.now ≡ Some slot }
-        ensures stepped { OnOk result (Stepped func Change.Remove value.now (seen_in self.old.map self.old.rows.items node key.now) (seen_in self.new.map self.new.rows.items node key.now)) }
-        ensures others { OthersSeen node key.now (seen_in self.old.map self.old.rows.items) (seen_in self.new.map self.new.rows.items) }
-        ensures err { OnErr result (SameSeen (seen_in self.old.map self.old.rows.items) (seen_in self.new.map self.new.rows.items)) }
-        ensures unfit { OnErr result (Unfit func Change.Remove value.now (cell_in self.old.map self.old.rows.items node key.now)) }
-    {
+        let slot = match self.find(key) {
+            None => return Err(Refusal::Unfit),
+            Some(slot) => slot,
+        };
         self.touched.touch(slot);
         let rows = &mut self.rows[slot as usize];
         match rows.take(node, func, value) {
@@ -124,7 +81,7 @@ impl Slots {
         }
         self.map.remove(key);
         self.recent.slot = None;
-        put_within(&mut self.free, slot);
+        push_within(&mut self.free, slot);
         Ok(())
     }
 
@@ -138,31 +95,17 @@ impl Slots {
     ) -> Result<(), Memory>
         requires free { cell_in self.old.map self.old.rows.items node key ≡ None }
         requires some { 0 < size_in (held_of state) }
-        ensures row { OnOk result (cell_in self.new.map self.new.rows.items node key ≡ Some (held_of state)) }
-        ensures marks { OnOk result (IsMarked (seen_in self.old.map self.old.rows.items node key) (seen_in self.new.map self.new.rows.items node key)) }
-        ensures others { OthersSeen node key (seen_in self.old.map self.old.rows.items) (seen_in self.new.map self.new.rows.items) }
-        ensures err { OnErr result (SameSeen (seen_in self.old.map self.old.rows.items) (seen_in self.new.map self.new.rows.items)) }
+        ensures { SlotsGet (held_of state) node key (seen_in self.old.map self.old.rows.items) (seen_in self.new.map self.new.rows.items) result }
     {
         match self.find(&key) {
-            Some(slot) => return self.insert_in(slot, node, &key, state),
+            Some(slot) => {
+                self.touched.touch(slot);
+                let rows = &mut self.rows[slot as usize];
+                return rows.insert(node, state);
+            }
             None => {}
         }
         self.put(alloc, node, key, state)
-    }
-
-    /// Puts a row into the slot of a key, where there is none of the node.
-    fn insert_in(&mut self, slot: u32, node: u32, key: &Key, state: AggState) -> Result<(), Memory>
-        requires found { slot_in self.old.map key.now ≡ Some slot }
-        requires free { cell_in self.old.map self.old.rows.items node key.now ≡ None }
-        requires some { 0 < size_in (held_of state) }
-        ensures row { OnOk result (cell_in self.new.map self.new.rows.items node key.now ≡ Some (held_of state)) }
-        ensures marks { OnOk result (IsMarked (seen_in self.old.map self.old.rows.items node key.now) (seen_in self.new.map self.new.rows.items node key.now)) }
-        ensures others { OthersSeen node key.now (seen_in self.old.map self.old.rows.items) (seen_in self.new.map self.new.rows.items) }
-        ensures err { OnErr result (SameSeen (seen_in self.old.map self.old.rows.items) (seen_in self.new.map self.new.rows.items)) }
-    {
-        self.touched.touch(slot);
-        let rows = &mut self.rows[slot as usize];
-        rows.insert(node, state)
     }
 
     /// Puts a row of a key that has none.

@@ -1,10 +1,10 @@
-ghost use Rattle.std.specs.Prelude.{◌≡◌, ◌↔◌, IsTrue, ◌+◌, ◌<◌, ◌^◌, ◌==◌, None, List, [], ◌∷◌, ◌++◌, length, IfOk, OnOk, OnErr, IsErrOf};
+ghost use Rattle.std.specs.Prelude.{◌≡◌, ◌↔◌, IsTrue, ◌<◌, ◌==◌, None, List, [], ◌++◌, IfOk, OnOk, OnErr};
 ghost use Rattle.rg_agg.specs.Held.{held_bytes};
-ghost use Rattle.rg_agg.specs.Standing.{Stands, MayBeginWith, func_of, size_in, kind_in, IsLike};
+ghost use Rattle.rg_agg.specs.Standing.{Stands, func_of, size_in, kind_in};
 ghost use Rattle.rg_event.specs.declared.value.Value.{Value};
 ghost use Rattle.rg_metric.specs.Answers.{answer_of};
-ghost use Rattle.rg_state.specs.Rows.{AreLike};
 ghost use Rattle.rg_state.specs.States.{held_of, IsFor, IsOfKind};
+ghost use Rattle.rg_state.specs.Stepping.{Adds, Drops};
 ghost use Rattle.rg_state.specs.Takes.{Takes};
 
 use crate::one::{Refusal, add_to, keeps_kind, take_from};
@@ -160,15 +160,9 @@ impl AggState {
 
     /// Adds a value at the back. A refusal leaves what it keeps.
     pub(crate) fn add(&mut self, value: &Value) -> Result<(), Refusal>
-        requires takes { Takes (func_of (held_of self.old)) value.now }
-        ensures ok { OnOk result ((values : List Value) → Stands (held_of self.old) values → Stands (held_of self.new) (values ++ value.now ∷ [])) }
+        requires { Takes (func_of (held_of self.old)) value.now }
         ensures func { func_of (held_of self.new) ≡ func_of (held_of self.old) }
-        ensures size { OnOk result (size_in (held_of self.new) ≡ size_in (held_of self.old) + 1) }
-        ensures room { OnOk result (size_in (held_of self.old) < 2 ^ 40) }
-        ensures like { OnOk result (IsLike (kind_in (held_of self.old)) value.now) }
-        ensures unfit { IsErrOf result Refusal.Unfit → (values : List Value) → Stands (held_of self.old) values → length values < 2 ^ 40 → AreLike value.now values → ⊥ }
-        ensures causes { IsErrOf result Refusal.Unfit → size_in (held_of self.old) < 2 ^ 40 → IsLike (kind_in (held_of self.old)) value.now → ⊥ }
-        ensures err { OnErr result (held_of self.new ≡ held_of self.old) }
+        ensures adds { Adds value.now (held_of self.old) (held_of self.new) result }
     {
         each!(self, state => add_to(state, value))
     }
@@ -176,12 +170,8 @@ impl AggState {
     /// Takes the first value away. A refusal leaves what it keeps, and comes of a state that stands for
     /// no list that begins with the value.
     pub(crate) fn remove(&mut self, value: &Value) -> Result<(), Refusal>
-        ensures ok { OnOk result ((values : List Value) → Stands (held_of self.old) (value.now ∷ values) → Stands (held_of self.new) values) }
         ensures func { func_of (held_of self.new) ≡ func_of (held_of self.old) }
-        ensures size { OnOk result (size_in (held_of self.old) ≡ size_in (held_of self.new) + 1) }
-        ensures begins { OnOk result (MayBeginWith (held_of self.old) value.now) }
-        ensures unfit { OnErr result ((values : List Value) → Stands (held_of self.old) (value.now ∷ values) → ⊥) }
-        ensures err { OnErr result (held_of self.new ≡ held_of self.old) }
+        ensures drops { Drops value.now (held_of self.old) (held_of self.new) result }
     {
         each!(self, state => take_from(state, value))
     }

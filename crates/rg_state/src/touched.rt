@@ -1,8 +1,8 @@
-ghost use Rattle.std.specs.Prelude.{◌≡◌, ◌-◌, ◌<◌, ◌++◌, ◌∷◌, [], ℕ, true, false, length, set, vec_capacity, IfSome, IsNone, IsTrue, OnOk, OnErr};
+ghost use Rattle.std.specs.Prelude.{◌≡◌, ◌-◌, ◌<◌, ◌++◌, ◌∷◌, [], true, false, length, set, vec_capacity, IfSome, IsNone, IsTrue, OnOk, OnErr};
 ghost use Rattle.std.proofs.Props.{props};
 ghost use Rattle.rg_state.specs.Touched.{flag_at, AreListed};
 
-use crate::slots::put_within;
+use crate::slots::push_within;
 use rg_bytes::Memory;
 use std::alloc::Global;
 
@@ -47,7 +47,7 @@ impl Touched {
             return;
         }
         self.flags[slot as usize] = true;
-        put_within(&mut self.slots, slot);
+        push_within(&mut self.slots, slot);
     }
 
     /// Takes the last of them out, where there is one.

@@ -1,5 +1,7 @@
 -- Values with how often each is there.
-use Rattle.std.specs.Prelude.{◌≡◌, ℕ, ◌+◌, ◌<◌, ◌≤◌, ◌^◌, true, Bool, List, [], ◌∷◌, Some, ⊤, if◌then◌else◌}
+use Rattle.std.specs.Prelude.{◌≡◌, ℕ, ◌+◌, ◌<◌, ◌≤◌, ◌^◌, true, false, IsTrue, Bool, List, [], ◌∷◌, None, Some, ⊤, if◌then◌else◌}
+use Rattle.std.specs.BTreeMap.{BTreeMap, IsOrdered, get}
+use Rattle.std.specs.declared.cmp.Ordering.{Ordering}
 use Rattle.rg_agg.specs.Standing.{counts_sum, count_in, pairs_kind}
 use Rattle.rg_event.specs.Tagged.{value_kind}
 use Rattle.rg_event.specs.declared.value.Kind.{Kind}
@@ -46,3 +48,12 @@ pub record IsSized (legal : Value → Type 0) (n : ℕ) (pairs : List (Value × 
   pub size : n ≡ counts_sum pairs
   pub few : n ≤ 2 ^ 40
   pub alike : AreAlike legal pairs
+
+-- A key of a map is counted once more where it is there; where it isn't, the entries stay, and none of them has its value.
+pub record Raises {K : Type 0} (cmp : K → K → Ordering) (value_of : K → Value) (legal : Value → Type 0) (key : K) (old new : BTreeMap K ℕ) (was_there : Bool) : Type 0 where
+  pub there : IsTrue was_there → OneMore (value_of key) (pairs_by value_of old.entries) (pairs_by value_of new.entries)
+  pub kept : (kind : Kind) → AreOf legal kind (pairs_by value_of old.entries) → AreOf legal kind (pairs_by value_of new.entries)
+  pub none : was_there ≡ false → count_in (value_of key) (pairs_by value_of old.entries) ≡ 0
+  pub absent : was_there ≡ false → get cmp new key ≡ None
+  pub same : was_there ≡ false → new.entries ≡ old.entries
+  pub ordered : IsOrdered cmp new

@@ -5,7 +5,7 @@ ghost use Rattle.rg_agg.specs.Standing.{counts_sum, count_in};
 ghost use Rattle.rg_bytes.specs.Keeps.{Keeps};
 ghost use Rattle.rg_event.specs.Tagged.{tag_of, value_kind};
 ghost use Rattle.rg_event.specs.declared.value.Kind.{Kind as KindValue};
-ghost use Rattle.rg_tally.specs.Pairs.{pairs_by, OneMore, AreOf, AreAlike};
+ghost use Rattle.rg_tally.specs.Pairs.{pairs_by, OneMore, AreOf, AreAlike, Raises};
 ghost use Rattle.rg_tally.specs.Reading.{last_kept, comes_behind};
 
 use crate::ranked::Ranked;
@@ -40,12 +40,7 @@ pub(crate) fn add_in<K: Ranked>(
 /// Counts a key once more where it is there; else it answers false, and the map is as before.
 fn raise<K: Ranked>(map: &mut BTreeMap<K, u64>, key: &K) -> bool
     requires { counts_sum (pairs_by K.value_of map.old.entries) < 2 ^ 40 }
-    ensures there { IsTrue result → OneMore (K.value_of key.now) (pairs_by K.value_of map.old.entries) (pairs_by K.value_of map.new.entries) }
-    ensures kept { (kind : KindValue) → AreOf K.legal kind (pairs_by K.value_of map.old.entries) → AreOf K.legal kind (pairs_by K.value_of map.new.entries) }
-    ensures none { result ≡ false → count_in (K.value_of key.now) (pairs_by K.value_of map.old.entries) ≡ 0 }
-    ensures absent { result ≡ false → get K.cmp map.new key.now ≡ None }
-    ensures same { result ≡ false → map.new.entries ≡ map.old.entries }
-    ensures ordered { IsOrdered K.cmp map.new }
+    ensures { Raises K.cmp K.value_of K.legal key.now map.old map.new result }
 {
     match map.get_mut(key) {
         Some(count) => {

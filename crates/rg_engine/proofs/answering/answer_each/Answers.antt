@@ -31,22 +31,40 @@ nodes-preserved g c =
       later = omega arith;
     }
 
-pub returns-clause-answers : goal.returns-clause-answers
-returns-clause-answers g c = λ told plan events e whole same keys stands.
-    c.nodes.invariant.answers told plan events e whole same keys stands ∙ ap (λ ns. c.args.answers.now.items ++ node_answers plan events e ns) (take_all c.nodes.node-index c.args.nodes.now c.nodes-test.false)
+pub returns-clause-told : goal.returns-clause-told
+returns-clause-told g c = record {
+  answers = λ told plan events e whole same keys stands.
+      c.nodes.invariant.answers told plan events e whole same keys stands ∙ ap (λ ns. c.args.answers.now.items ++ node_answers plan events e ns) (take_all c.nodes.node-index c.args.nodes.now c.nodes-test.false);
+  bad = λ m bad. cc;
+  same = c.nodes.invariant.same;
+}
 
-pub returns-in-Err-clause-bad : goal.returns-in-Err-clause-bad
-returns-in-Err-clause-bad g c = λ m bad told plan events e whole same stands.
+pub returns-clause-goes : goal.returns-clause-goes
+returns-clause-goes g c = record { since = c.nodes.invariant.since; later = c.nodes.invariant.later; disk = λ is. cc }
+
+pub returns-in-Err-clause-told : goal.returns-in-Err-clause-told
+returns-in-Err-clause-told g c =
     let i = c.nodes.invariant in
-    let n = get_or c.args.nodes.now c.nodes.node-index 0 in
-    let key = c.index-keys-agg.result in
-    let here : m ≡ n = c.in-Err.ensures.bad m (err_as bad) in
-    let in_range = c.requires.nodes c.nodes.node-index 0 c.nodes-test.true in
-    let row = row_at plan events e c.args.aggs.now n _ key (g.T.Table.cell c.nodes.table n key) whole same in_range
-    (subst (λ row. RowIs (node_at plan n) key e.time events row) (sym (i.same told n key)) (subst (λ k. RowIs (node_at plan k) key e.time events (g.T.Table.cell c.args.table.now k key)) here (stands key))) in
-    c.in-Err.ensures.unfit m (err_as bad) (i.tells.1 told) row.0 row.1
-
-pub returns-in-Err-clause-since : goal.returns-in-Err-clause-since
-returns-in-Err-clause-since g c =
     let refused = c.in-Err.ensures in
-    keeps_then _ _ _ _ _ _ _ c.nodes.invariant.since (keeps_looked _ _ _ _ _ _ refused.tells refused.same refused.same_named refused.same_there)
+    record {
+      answers = λ told plan events e whole same keys stands. tt;
+      bad = λ m bad told plan events e whole same stands.
+          let n = get_or c.args.nodes.now c.nodes.node-index 0 in
+          let key = c.index-keys-agg.result in
+          let here : m ≡ n = refused.bad m (err_as bad) in
+          let in_range = c.requires.nodes c.nodes.node-index 0 c.nodes-test.true in
+          let row = row_at plan events e c.args.aggs.now n _ key (g.T.Table.cell c.nodes.table n key) whole same in_range
+          (subst (λ row. RowIs (node_at plan n) key e.time events row) (sym (i.same told n key)) (subst (λ k. RowIs (node_at plan k) key e.time events (g.T.Table.cell c.args.table.now k key)) here (stands key))) in
+          refused.unfit m (err_as bad) (i.tells.1 told) row.0 row.1;
+      same = λ told m q. refused.same (i.tells.1 told) m q ∙ i.same told m q;
+    }
+
+pub returns-in-Err-clause-goes : goal.returns-in-Err-clause-goes
+returns-in-Err-clause-goes g c =
+    let i = c.nodes.invariant in
+    let refused = c.in-Err.ensures in
+    record {
+      since = keeps_then _ _ _ _ _ _ _ i.since (keeps_looked _ _ _ _ _ _ refused.tells refused.same refused.same_named refused.same_there);
+      later = omega (arith, i.later, refused.later);
+      disk = λ is. (let rose = refused.disk (err_as is) in omega (arith, i.later, rose));
+    }

@@ -20,6 +20,6 @@ loop-done-preserved c =
       taken = step_taken old (pairs_in c.push.new.deque) pair c.args.from.now c.loop-done.from c.read_pair.new.from pushed v.taken c.in_ok-number.ensures.ok;
       size = c.push.ensures.size ∙ v.size;
       sum = c.push.ensures.sum;
-      most = omega (arith, c.in-Ok.ensures.kept, c.in_ok-number.ensures.few, v.size);
-      tally = pushed_tally (beats c.args.side) c.args.size old (pairs_in c.push.new.deque) pair.0 pair.1 c.requires.few v.tally c.in_ok-number.ensures.legal c.in_ok-number.ensures.behind c.in_ok-number.ensures.some (omega (arith, v.sum, c.in_ok-number.ensures.few, v.size)) pushed;
+      most = omega (arith, c.in-Ok.ensures.kept, c.in_ok-number.ensures.next.few, v.size);
+      tally = pushed_tally (beats c.args.side) c.args.size old (pairs_in c.push.new.deque) pair.0 pair.1 c.requires.few v.tally c.in_ok-number.ensures.next.legal c.in_ok-number.ensures.next.behind c.in_ok-number.ensures.next.some (omega (arith, v.sum, c.in_ok-number.ensures.next.few, v.size)) pushed;
     }

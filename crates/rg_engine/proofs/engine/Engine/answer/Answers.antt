@@ -22,8 +22,8 @@ returns-clause-stands g c = rw (← c.self.view_is) (λ n first front is on.
     let plan = c.self.inside.plan in
     let event = c.args.event.now in
     let moved = c.in-Ok-move_rows.ensures in
-    let after = moved.stands n first (ap last_time is ∙ last_of front event) on in
-    stands_events plan n _ _ _ _ moved.events (stands_same plan n _ _ _ _ (c.in-Ok-answer_each.ensures.same (moved.rows.tells.1 on.tells)) after))
+    let after = moved.moves.stands n first (ap last_time is ∙ last_of front event) on in
+    stands_events plan n _ _ _ _ moved.past.events (stands_same plan n _ _ _ _ (c.in-Ok-answer_each.ensures.told.same (moved.rows.rows.tells.1 on.tells)) after))
 
 pub returns-clause-answers : goal.returns-clause-answers
 returns-clause-answers g c = rw (← c.self.view_is) (λ queries first front made is on.
@@ -31,30 +31,30 @@ returns-clause-answers g c = rw (← c.self.view_is) (λ queries first front mad
     let event = c.args.event.now in
     let built = c.self.invariant in
     let moved = c.in-Ok-move_rows.ensures in
-    let after = λ (n : ℕ). moved.stands n first (ap last_time is ∙ last_of front event) (on n) in
+    let after = λ (n : ℕ). moved.moves.stands n first (ap last_time is ∙ last_of front event) (on n) in
     let keys = c.deref-2.ensures.value ∙ c.in-Ok.ensures.prepared.made ∙ ap (λ (groups : List GroupNode). keys_for groups event) c.groups.ensures in
-    let told = c.in-Ok-answer_each.ensures.answers (moved.rows.tells.1 (on 0).tells) plan (front ++ event ∷ []) event built.whole (sym c.aggs.ensures.aggs) keys
+    let told = c.in-Ok-answer_each.ensures.told.answers (moved.rows.rows.tells.1 (on 0).tells) plan (front ++ event ∷ []) event built.whole (sym c.aggs.ensures.aggs) keys
     (λ n key. row_stands plan n (g.P.Past.events c.args.past.now) (front ++ event ∷ []) event.time (g.T.Table.cell c.move_rows.new.rows.table) _ is (last_of front event) (after n) key) in
     c.from.ensures ∙ ap (λ (list : Vec Answer Global). list.items) c.replace-answers.ensures.value ∙ answers_are queries plan front event c.deref.result.now _ made (subst (IsFed plan) is (on 0).fed) (c.deref.ensures.value ∙ built.asked)
     (told ∙ ap (λ old. old ++ node_answers plan (front ++ event ∷ []) event c.deref.result.now) c.in-Ok.ensures.prepared.empty) ∙ ap (λ all. answers_to queries all event) (sym is))
 
 pub returns-in-Err-move_rows-clause-bad : goal.returns-in-Err-move_rows-clause-bad
-returns-in-Err-move_rows-clause-bad g c = rw (← c.self.view_is) (λ n first front is bad on. c.in-Err-move_rows.ensures.bad n first (ap Err (same_fault bad)) on)
+returns-in-Err-move_rows-clause-bad g c = rw (← c.self.view_is) (λ n first front is bad on. c.in-Err-move_rows.ensures.moves.bad n first (ap Err (same_fault bad)) on)
 
 pub returns-in-Err-move_rows-clause-never_damaged : goal.returns-in-Err-move_rows-clause-never_damaged
-returns-in-Err-move_rows-clause-never_damaged g c = rw (← c.self.view_is) (λ place sound all is. c.in-Err-move_rows.ensures.never_damaged place sound all (ap Err (same_fault is)))
+returns-in-Err-move_rows-clause-never_damaged g c = rw (← c.self.view_is) (λ place sound all is. c.in-Err-move_rows.ensures.refuses.never_damaged place sound all (ap Err (same_fault is)))
 
 pub returns-in-Err-answer_each-clause-bad : goal.returns-in-Err-answer_each-clause-bad
 returns-in-Err-answer_each-clause-bad g c = rw (← c.self.view_is) (λ n first front is bad on.
     let plan = c.self.inside.plan in
     let event = c.args.event.now in
     let moved = c.in-Ok-move_rows.ensures in
-    let after = moved.stands n first (ap last_time is ∙ last_of front event) on in
-    c.in-Err-answer_each.ensures.bad n (ap Err (c.table_fault.ensures.bad n (same_fault bad))) (moved.rows.tells.1 on.tells) plan (front ++ event ∷ []) event c.self.invariant.whole (sym c.aggs.ensures.aggs)
+    let after = moved.moves.stands n first (ap last_time is ∙ last_of front event) on in
+    c.in-Err-answer_each.ensures.told.bad n (ap Err (c.table_fault.ensures.bad n (same_fault bad))) (moved.rows.rows.tells.1 on.tells) plan (front ++ event ∷ []) event c.self.invariant.whole (sym c.aggs.ensures.aggs)
     (λ key. row_stands plan n (g.P.Past.events c.args.past.now) (front ++ event ∷ []) event.time (g.T.Table.cell c.move_rows.new.rows.table) _ is (last_of front event) after key))
 
 pub returns-clause-since : goal.returns-clause-since
-returns-clause-since g c = rw (← c.self.view_is) (keeps_then _ _ _ _ _ _ _ c.in-Ok-move_rows.ensures.since c.in-Ok-answer_each.ensures.since)
+returns-clause-since g c = rw (← c.self.view_is) (keeps_then _ _ _ _ _ _ _ c.in-Ok-move_rows.ensures.rows.since c.in-Ok-answer_each.ensures.goes.since)
 
 pub returns-in-Err-answer_each-clause-since : goal.returns-in-Err-answer_each-clause-since
-returns-in-Err-answer_each-clause-since g c = rw (← c.self.view_is) (keeps_then _ _ _ _ _ _ _ c.in-Ok-move_rows.ensures.since c.in-Err-answer_each.ensures.since)
+returns-in-Err-answer_each-clause-since g c = rw (← c.self.view_is) (keeps_then _ _ _ _ _ _ _ c.in-Ok-move_rows.ensures.rows.since c.in-Err-answer_each.ensures.goes.since)

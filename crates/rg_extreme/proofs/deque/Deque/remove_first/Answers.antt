@@ -16,10 +16,17 @@ overflow_sub-self c =
 pub overflow_sub-self-2 : goal.overflow_sub-self-2
 overflow_sub-self-2 c = (fewer_deque c.args.side c.args.self.now.size c.args.self.now.kept (pairs_in c.args.self.now) _ c.requires.some c.requires.sound c.lower_first.ensures (c.can_lose_first.ensures.holds c.if-not-can_lose_first.false)).0
 
-pub returns-clause-sound : goal.returns-clause-sound
-returns-clause-sound c = (fewer_deque c.args.side c.args.self.now.size c.args.self.now.kept (pairs_in c.args.self.now) _ c.requires.some c.requires.sound c.lower_first.ensures (c.can_lose_first.ensures.holds c.if-not-can_lose_first.false)).1
-
-pub returns-clause-size : goal.returns-clause-size
-returns-clause-size c =
-    let fewer = fewer_deque c.args.side c.args.self.now.size c.args.self.now.kept (pairs_in c.args.self.now) _ c.requires.some c.requires.sound c.lower_first.ensures (c.can_lose_first.ensures.holds c.if-not-can_lose_first.false) in
-    omega (arith, fewer.0, c.requires.sound.most)
+pub returns : goal.returns
+returns c =
+    let self = c.args.self.now in
+    let may = c.can_lose_first.ensures.holds c.if-not-can_lose_first.false in
+    let fewer = fewer_deque c.args.side self.size self.kept (pairs_in self) _ c.requires.some c.requires.sound c.lower_first.ensures may in
+    record {
+      sound = fewer.1;
+      pairs = c.lower_first.ensures;
+      size = omega (arith, fewer.0, c.requires.sound.most);
+      may = may;
+      more = tt;
+      none = tt;
+      err = tt;
+    }

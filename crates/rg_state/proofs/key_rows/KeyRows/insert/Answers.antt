@@ -1,10 +1,13 @@
-use Rattle.std.proofs.Common.{◌≡◌, ◌==◌, true, refl, ap, sym, ◌∙◌}
+use Rattle.std.proofs.Common.{◌≡◌, ◌==◌, true, refl, ap, sym, ◌∙◌, arith}
+use Rattle.std.proofs.lemmas.List.{length-set}
+use Rattle.std.proofs.lemmas.Result.{on_ok_weaker}
+use Rattle.rg_state.proofs.RowSteps.{grown, put_marks}
 use Rattle.rg_agg.specs.Standing.{size_in}
-use Rattle.rg_state.specs.Kepts.{Seen, seen}
+use Rattle.rg_state.specs.Kepts.{Seen, seen, seen_at}
 use Rattle.rg_state.specs.States.{held_of}
 use Rattle.rg_state.specs.declared.key_rows.Kept.{Kept}
 use Rattle.rg_state.proofs.Placed.{read_at, written_at, others_at, sound_set, fair_at, none_seen}
-use Rattle.rg_state.proofs.Stepping.{fair_some, fair_marked, named_gone, none_shown, shown_some, marked_put, marked_fresh}
+use Rattle.rg_state.proofs.Stepping.{fair_some, fair_marked, named_gone, none_shown, shown_some, marked_put}
 use Rattle.rg_state.proofs.key_rows.KeyRows.insert.Goals as goal
 
 pub invariant_of-self : goal.invariant_of-self
@@ -13,27 +16,36 @@ invariant_of-self c =
     let new : Kept = record { node = old.node; named = old.named; there = old.there; state = c.args.state } in
     record { sound = sound_set c.args.self.now.kept.items c.in-Some.place old new c.args.self.now.sound c.index_mut-kept.ensures.value refl (fair_some new c.requires.some (fair_marked old (fair_at c.args.self.now.kept.items c.in-Some.place old c.args.self.now.sound c.in-Some.ensures.found.0 c.index_mut-kept.ensures.value))) }
 
-pub returns-in-Some-clause-row : goal.returns-in-Some-clause-row
-returns-in-Some-clause-row c =
+pub returns-in-Some-clause-count : goal.returns-in-Some-clause-count
+returns-in-Some-clause-count c =
     let old : Kept = c.index_mut-kept.result.now in
-    let new : Kept = record { node = old.node; named = old.named; there = old.there; state = c.args.state } in
-    ap (λ (s : Seen). s.held) (written_at c.args.self.now.kept.items c.in-Some.place c.args.node old new c.args.self.now.sound c.in-Some.ensures.found c.index_mut-kept.ensures.value refl) ∙ shown_some (held_of c.args.state) c.requires.some
+    omega (arith, length-set c.args.self.now.kept.items c.in-Some.place (record { node = old.node; named = old.named; there = old.there; state = c.args.state }))
 
-pub returns-in-Some-clause-marks : goal.returns-in-Some-clause-marks
-returns-in-Some-clause-marks c =
+pub returns-in-Some-clause-got : goal.returns-in-Some-clause-got
+returns-in-Some-clause-got c =
+    let ks = c.args.self.now.kept.items in
     let old : Kept = c.index_mut-kept.result.now in
     let new : Kept = record { node = old.node; named = old.named; there = old.there; state = c.args.state } in
-    let read = read_at c.args.self.now.kept.items c.in-Some.place c.args.node old c.args.self.now.sound c.in-Some.ensures.found c.index_mut-kept.ensures.value in
+    let sound = c.args.self.now.sound in
+    let placed = c.in-Some.ensures.found in
+    let is = c.index_mut-kept.ensures.value in
+    let read = read_at ks c.in-Some.place c.args.node old sound placed is in
+    let written = written_at ks c.in-Some.place c.args.node old new sound placed is refl in
     let gone : (size_in (held_of old.state) == 0) ≡ true = none_shown (held_of old.state) (sym (ap (λ (s : Seen). s.held) read) ∙ c.requires.free) in
-    let fair = fair_at c.args.self.now.kept.items c.in-Some.place old c.args.self.now.sound c.in-Some.ensures.found.0 c.index_mut-kept.ensures.value in
-    rw (read, written_at c.args.self.now.kept.items c.in-Some.place c.args.node old new c.args.self.now.sound c.in-Some.ensures.found c.index_mut-kept.ensures.value refl) (marked_put (seen old) (seen new) (named_gone old fair gone) refl refl)
+    record {
+      row = ap (λ (s : Seen). s.held) written ∙ shown_some (held_of c.args.state) c.requires.some;
+      marks = rw (read, written) (marked_put (seen old) (seen new) (named_gone old (fair_at ks c.in-Some.place old sound placed.0 is) gone) refl refl);
+      others = others_at ks c.in-Some.place c.args.node old new placed is refl;
+      err = tt;
+    }
 
-pub returns-in-Some-clause-others : goal.returns-in-Some-clause-others
-returns-in-Some-clause-others c =
-    let old : Kept = c.index_mut-kept.result.now in
-    let new : Kept = record { node = old.node; named = old.named; there = old.there; state = c.args.state } in
-    others_at c.args.self.now.kept.items c.in-Some.place c.args.node old new c.in-Some.ensures.found c.index_mut-kept.ensures.value refl
+pub returns-clause-got : goal.returns-clause-got
+returns-clause-got c = record {
+  row = on_ok_weaker c.push.result (λ is. ap (λ (s : Seen). s.held) is) c.push.ensures.row;
+  marks = put_marks c.push.result (seen_at c.args.self.now.kept.items c.args.node) (seen_at c.push.new.self.kept.items c.args.node) (held_of c.args.state) (none_seen c.args.self.now.kept.items c.args.node (c.in-None.ensures.none refl)) c.push.ensures.row;
+  others = c.push.ensures.others;
+  err = c.push.ensures.err;
+}
 
-pub returns-in-Ok-clause-marks : goal.returns-in-Ok-clause-marks
-returns-in-Ok-clause-marks c =
-    rw (none_seen c.args.self.now.kept.items c.args.node (c.in-None.ensures.none refl), c.in-Ok.ensures.row) (marked_fresh (held_of c.args.state))
+pub returns-clause-count : goal.returns-clause-count
+returns-clause-count c = grown c.push.result c.args.self.now.kept.items c.push.new.self.kept.items c.push.ensures.count c.push.ensures.err

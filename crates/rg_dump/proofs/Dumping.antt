@@ -89,6 +89,32 @@ walk_damaged walk.SchemaDiffers place is = absurd cc
 walk_damaged walk.Full place is = absurd cc
 walk_damaged walk.Ended place is = absurd cc
 
+-- and its other causes
+pub walk_disk : (fault : ReservoirFault) → (fault ≡ walk.SchemaDiffers → ⊥) → (fault ≡ walk.Full → ⊥) → (fault ≡ walk.Ended → ⊥) → of_walk fault ≡ dump.Disk → fault ≡ walk.Disk
+walk_disk walk.Disk differs full ended is = refl
+walk_disk (walk.Damaged p) differs full ended is = absurd cc
+walk_disk walk.Memory differs full ended is = absurd cc
+walk_disk walk.SchemaDiffers differs full ended is = absurd (differs refl)
+walk_disk walk.Full differs full ended is = absurd (full refl)
+walk_disk walk.Ended differs full ended is = absurd (ended refl)
+
+pub walk_write : (fault : ReservoirFault) → of_walk fault ≡ dump.Write → ⊥
+walk_write walk.Disk is = cc
+walk_write (walk.Damaged p) is = cc
+walk_write walk.Memory is = cc
+walk_write walk.SchemaDiffers is = cc
+walk_write walk.Full is = cc
+walk_write walk.Ended is = cc
+
+-- what a put of lines was refused for is neither a damage nor a fault of a file
+pub put_damaged : (fault : DumpFault) (place : ℕ) → (fault ≡ dump.Write) ⊎ (fault ≡ dump.Memory) → fault ≡ dump.Damaged place → ⊥
+put_damaged fault place (inl write) is = let e : dump.Write ≡ dump.Damaged place = sym write ∙ is in cc
+put_damaged fault place (inr memory) is = let e : dump.Memory ≡ dump.Damaged place = sym memory ∙ is in cc
+
+pub put_disk : (fault : DumpFault) → (fault ≡ dump.Write) ⊎ (fault ≡ dump.Memory) → fault ≡ dump.Disk → ⊥
+put_disk fault (inl write) is = let e : dump.Write ≡ dump.Disk = sym write ∙ is in cc
+put_disk fault (inr memory) is = let e : dump.Memory ≡ dump.Disk = sym memory ∙ is in cc
+
 damaged_not_written : (fault : DumpFault) (place : ℕ) → fault ≡ dump.Damaged place → fault ≡ dump.Write → ⊥
 damaged_not_written fault place is write = absurd (let e : dump.Damaged place ≡ dump.Write = sym is ∙ write in cc)
 

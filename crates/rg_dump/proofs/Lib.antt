@@ -4,3 +4,4 @@ pub mod Dumping
 pub mod Quiet
 pub mod Rows
 pub mod Legal
+pub mod Leaves

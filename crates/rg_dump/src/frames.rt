@@ -1,15 +1,14 @@
-ghost use Rattle.std.specs.Prelude.{◌≡◌, ◌⊎◌, ◌≤◌, ◌<◌, ◌+◌, ◌^◌, [], ◌∷◌, ◌++◌, ⊤, ℕ, List, Some, None, IsTrue, false, IfOk, IfErr, OnOk, IsErrOf};
+ghost use Rattle.std.specs.Prelude.{◌≡◌, ◌⊎◌, ◌≤◌, [], ◌∷◌, ◌++◌, ℕ, List, Some, None, IfOk, IfErr, OnOk, IsErrOf};
 ghost use Rattle.std.specs.Option.{ForSome};
 ghost use Rattle.rg_bytes.specs.Counts.{Rose};
 ghost use Rattle.rg_host.specs.Lines.{ended};
 ghost use Rattle.rg_host.specs.Moments.{LeavesFiles};
 ghost use Rattle.rg_host.specs.Puts.{IsPrefix, Puts, StopsWith};
-ghost use Rattle.rg_frame.specs.Looks.{IsClosed};
-ghost use Rattle.rg_reservoir.specs.Walked.{place_of, IsNext, IsRefusedWalk};
-ghost use Rattle.rg_reservoir.specs.declared.walk.Stage.{Stage};
 ghost use Rattle.rg_event.specs.Shapes.{schema_text};
 ghost use Rattle.rg_dump.specs.Dump.{stage_lines, dump_text, damage_of, IsCutIn};
+ghost use Rattle.rg_dump.specs.Dumped.{HasDumped, IsNotDumped};
 ghost use Rattle.rg_dump.specs.Faults.{of_walk};
+ghost use Rattle.rg_dump.specs.Leaves.{LeavesPut};
 
 use crate::fault::DumpFault;
 use crate::row::chunk_text;
@@ -45,9 +44,7 @@ fn put_stage<H: Host>(alloc: Global, stage: &Stage, host: &mut H) -> Result<(), 
     ensures part { IfErr result (λ fault. IsCutIn (ended (stage_lines stage.now)) (Puts H.said H.clock H.since host.old host.new) (fault ≡ DumpFault.Write)) }
     ensures write { IsErrOf result DumpFault.Write → Rose (H.out_faults host.old) (H.out_faults host.new) }
     ensures faults { IfErr result (λ fault. (fault ≡ DumpFault.Write) ⊎ (fault ≡ DumpFault.Memory)) }
-    ensures leaves { LeavesFiles H.now H.may H.clock H.since host.old host.new }
-    ensures disk_faults { H.disk_faults host.new ≡ H.disk_faults host.old }
-    ensures out_faults { H.out_faults host.old ≤ H.out_faults host.new }
+    ensures leaves { LeavesPut H.now H.may H.clock H.since H.disk_faults H.out_faults host.old host.new }
 {
     let text = match stage_text(alloc, stage) {
         Ok(text) => text,
@@ -75,17 +72,10 @@ fn walk_fault(fault: ReservoirFault) -> DumpFault
 
 /// Reads the next frame and puts its lines. Answers whether there was one.
 fn dump_next<H: Host>(alloc: Global, walk: &mut Walk, host: &mut H) -> Result<bool, DumpFault>
-    ensures more { IfOk result (λ more. IsTrue more → (stage : Stage) × ForSome (H.now host.old) (λ v. IsNext (v 2) walk.old stage walk.new) × Puts H.said H.clock H.since host.old host.new (ended (stage_lines stage))) }
-    ensures goes_on { IfOk result (λ more. IsTrue more → (place_of walk.old + 9 ≤ place_of walk.new) × (place_of walk.new < 2 ^ 62)) }
-    ensures last { IfOk result (λ more. more ≡ false → ForSome (H.now host.old) (λ v. IsClosed (place_of walk.old) (v 2)) × Puts H.said H.clock H.since host.old host.new []) }
-    ensures cut { IsErrOf result DumpFault.Write → (stage : Stage) × ForSome (H.now host.old) (λ v. IsNext (v 2) walk.old stage walk.new) × IsCutIn (ended (stage_lines stage)) (Puts H.said H.clock H.since host.old host.new) ⊤ }
-    ensures quiet { IfErr result (λ fault. (fault ≡ DumpFault.Write) ⊎ Puts H.said H.clock H.since host.old host.new []) }
-    ensures damaged { (p : ℕ) → IsErrOf result (DumpFault.Damaged p) → (p ≡ place_of walk.old) × ForSome (H.now host.old) (λ v. IsRefusedWalk (v 2) walk.old) }
-    ensures write { IsErrOf result DumpFault.Write → Rose (H.out_faults host.old) (H.out_faults host.new) }
-    ensures disk { IsErrOf result DumpFault.Disk → Rose (H.disk_faults host.old) (H.disk_faults host.new) }
-    ensures leaves { LeavesFiles H.now H.may H.clock H.since host.old host.new }
-    ensures disk_faults { H.disk_faults host.old ≤ H.disk_faults host.new }
-    ensures out_faults { H.out_faults host.old ≤ H.out_faults host.new }
+    ensures dumped { IfOk result (HasDumped (H.now host.old) walk.old walk.new (Puts H.said H.clock H.since host.old host.new)) }
+    ensures refused { IfErr result (IsNotDumped (H.now host.old) walk.old walk.new (Puts H.said H.clock H.since host.old host.new)
+        (Rose (H.disk_faults host.old) (H.disk_faults host.new)) (Rose (H.out_faults host.old) (H.out_faults host.new))) }
+    ensures leaves { LeavesPut H.now H.may H.clock H.since H.disk_faults H.out_faults host.old host.new }
 {
     let stage = match walk.next(host) {
         Ok(Some(stage)) => stage,

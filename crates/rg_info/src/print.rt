@@ -2,8 +2,9 @@ ghost use Rattle.std.specs.Prelude.{◌≡◌, ◌⊎◌, ◌≤◌, [], ℕ, Li
 ghost use Rattle.std.specs.Option.{ForSome};
 ghost use Rattle.rg_bytes.specs.Counts.{Rose};
 ghost use Rattle.rg_dump.specs.Dump.{damage_of};
+ghost use Rattle.rg_dump.specs.Leaves.{LeavesRead};
 ghost use Rattle.rg_host.specs.Lines.{ended};
-ghost use Rattle.rg_host.specs.Moments.{LeavesAll, LeavesFiles};
+ghost use Rattle.rg_host.specs.Moments.{LeavesFiles};
 ghost use Rattle.rg_host.specs.Puts.{IsPrefix, Puts};
 ghost use Rattle.rg_info.specs.Info.{IsInfo};
 
@@ -22,9 +23,7 @@ fn read_store<H: Host>(alloc: Global, host: &mut H) -> Result<Vec<u8>, InfoFault
     ensures damaged { (p : ℕ) → IsErrOf result (InfoFault.Damaged p) → ForSome (H.now host.old) (λ v. damage_of (v 2) ≡ Some p) }
     ensures no_write { IsErrOf result InfoFault.Write → ⊥ }
     ensures disk { IsErrOf result InfoFault.Disk → Rose (H.disk_faults host.old) (H.disk_faults host.new) }
-    ensures leaves { LeavesAll H.now H.may H.clock H.since H.said host.old host.new }
-    ensures disk_faults { H.disk_faults host.old ≤ H.disk_faults host.new }
-    ensures out_faults { H.out_faults host.new ≡ H.out_faults host.old }
+    ensures leaves { LeavesRead H.now H.may H.clock H.since H.said H.disk_faults H.out_faults host.old host.new }
 {
     let summary = match read_log(alloc, host) {
         Ok(summary) => summary,

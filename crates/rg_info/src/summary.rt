@@ -1,9 +1,9 @@
-ghost use Rattle.std.specs.Prelude.{◌≡◌, ◌≤◌, ◌<◌, ◌^◌, ℕ, Some, None, IfOk, OnOk, IsErrOf};
+ghost use Rattle.std.specs.Prelude.{◌≡◌, ◌<◌, ◌^◌, ℕ, Some, None, IfOk, OnOk, IsErrOf};
 ghost use Rattle.std.specs.Option.{ForSome};
 ghost use Rattle.rg_bytes.specs.Counts.{Rose};
 ghost use Rattle.rg_chunk.specs.Heads.{last_stamp};
 ghost use Rattle.rg_dump.specs.Dump.{damage_of};
-ghost use Rattle.rg_host.specs.Moments.{LeavesAll};
+ghost use Rattle.rg_dump.specs.Leaves.{LeavesRead};
 ghost use Rattle.rg_reservoir.specs.declared.walk.Stage.TheVariants as stage;
 ghost use Rattle.rg_info.specs.Summary.{summary_in, with_stage};
 
@@ -77,9 +77,7 @@ pub(crate) fn read_log<H: Host>(alloc: Global, host: &mut H) -> Result<Summary, 
     ensures damaged { (p : ℕ) → IsErrOf result (InfoFault.Damaged p) → ForSome (H.now host.old) (λ v. damage_of (v 2) ≡ Some p) }
     ensures no_write { IsErrOf result InfoFault.Write → ⊥ }
     ensures disk { IsErrOf result InfoFault.Disk → Rose (H.disk_faults host.old) (H.disk_faults host.new) }
-    ensures leaves { LeavesAll H.now H.may H.clock H.since H.said host.old host.new }
-    ensures disk_faults { H.disk_faults host.old ≤ H.disk_faults host.new }
-    ensures out_faults { H.out_faults host.new ≡ H.out_faults host.old }
+    ensures leaves { LeavesRead H.now H.may H.clock H.since H.said H.disk_faults H.out_faults host.old host.new }
 {
     let mut walk = Walk::new(alloc);
     let mut summary = Summary {

@@ -1,3 +1,4 @@
+pub mod Asked
 pub mod Joining
 pub mod Listing
 pub mod Looking

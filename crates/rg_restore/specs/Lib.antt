@@ -1,5 +1,8 @@
+pub mod Asked
+pub mod Begun
 pub mod Choosing
 pub mod Fit
+pub mod GoneOn
 pub mod Naming
 pub mod NamingLaws
 pub mod Opening

@@ -2,10 +2,11 @@
 use Rattle.std.specs.Prelude.{◌≡◌, ℕ, Bool, false, List, length, None}
 use Rattle.rg_event.specs.declared.event.Event.{Event}
 use Rattle.rg_plan.specs.Plans.{Tasks}
-use Rattle.rg_state.specs.Rows.{Cells}
+use Rattle.rg_state.specs.Rows.{AreRising, Cells, Entry}
 use Rattle.rg_window.specs.Placed.{AreWithin}
 use Rattle.rg_engine.specs.Feeding.{IsFed}
 use Rattle.rg_engine.specs.Seen.{Seen}
+use Rattle.rg_checkpoint.specs.Entries.{AreFilled}
 use Rattle.rg_checkpoint.specs.declared.base.Checkpoint.{Checkpoint}
 
 -- a table without a row
@@ -28,3 +29,8 @@ pub record IsGoing {T : Type 0} (plan : Tasks) (count : ℕ) (engine : Seen T) :
   pub plan_is : engine.plan ≡ plan
   pub going : engine.ended ≡ false
   pub within : AreWithin engine.spots count
+
+-- rows that a table can be given: they rise by node and key, and none is empty
+pub record AreMovable (rows : List Entry) : Type 0 where
+  pub rising : AreRising rows
+  pub filled : AreFilled rows

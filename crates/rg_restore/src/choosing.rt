@@ -1,14 +1,10 @@
-ghost use Rattle.std.specs.Prelude.{◌≡◌, ◌↔◌, ◌⊎◌, ℕ, length, option_map, IfOk, IfErr, IsErrOf};
-ghost use Rattle.rg_past.specs.Keeping.{Kept, HasCause};
-ghost use Rattle.rg_past.specs.declared.past.PastFault.{PastFault};
-ghost use Rattle.rg_past.specs.declared.past.Spot.{Spot};
-ghost use Rattle.rg_window.specs.Placed.{numbers_of};
+ghost use Rattle.std.specs.Prelude.{◌≡◌, length, option_map, IfOk, IfErr};
+ghost use Rattle.rg_restore.specs.Asked.{IsRefused, IsUnmade, KeepsEvents, StaysNamed};
+ghost use Rattle.rg_restore.specs.Begun.{IsBegun};
 ghost use Rattle.rg_restore.specs.Choosing.{AreOrdered, IsChosen, candidate_of};
 ghost use Rattle.rg_restore.specs.Fit.{IsFit};
 ghost use Rattle.rg_restore.specs.Opening.{IsUsable};
-ghost use Rattle.rg_restore.specs.Since.{AreRowsIn};
-ghost use Rattle.rg_restore.specs.Slots.{slot_in, AreTruthful, HaveBegun, IsBest, IsFrom};
-ghost use Rattle.rg_restore.specs.Truthful.{IsTruthful};
+ghost use Rattle.rg_restore.specs.Slots.{slot_in};
 
 use crate::judging::judge;
 use crate::names::Names;
@@ -79,13 +75,9 @@ fn choose<P: Names>(
     requires ready { P.is_ready past.old }
     ensures chosen { IfOk result (λ chosen. IsChosen (P.told past.old) (IsFit (P.named past.old) queries.now fields.now plan.now (length (P.Past.events past.old)))
         (IsUsable plan.now (length (P.Past.events past.old))) (slot_in saved) chosen) }
-    ensures spells { (spot : Spot) → P.Past.spells past.new spot ↔ P.Past.spells past.old spot }
-    ensures events { P.Past.events past.new ≡ P.Past.events past.old }
-    ensures room { P.Past.has_room past.old → P.Past.has_room past.new }
-    ensures past { Kept P.Past.goes P.Past.sound P.Past.ended P.Past.faults past.old past.new }
-    ensures cause { (fault : PastFault) → IsErrOf result fault →
-        HasCause (P.Past.illegal past.new) ⊥ (P.Past.ended past.old) (P.Past.faults past.old) (P.Past.faults past.new) fault }
-    ensures never_damaged { (place : ℕ) → P.Past.sound past.old → IsErrOf result (PastFault.Damaged place) → ⊥ }
+    ensures named { StaysNamed P.told P.is_ready P.named P.Past.spells past.old past.new }
+    ensures past { KeepsEvents P.Past.events P.Past.has_room P.Past.goes P.Past.sound P.Past.ended P.Past.faults past.old past.new }
+    ensures cause { IfErr result (IsRefused (P.Past.illegal past.new) (P.Past.sound past.old) (P.Past.ended past.old) (P.Past.faults past.old) (P.Past.faults past.new)) }
 {
     let (newer, older) = in_order(saved);
     match judge(past, plan, fields, queries, newer) {
@@ -93,10 +85,7 @@ fn choose<P: Names>(
         Ok(Some(candidate)) => return Ok(Some(candidate)),
         Ok(None) => {}
     }
-    match judge(past, plan, fields, queries, older) {
-        Err(fault) => return Err(fault),
-        Ok(found) => Ok(found),
-    }
+    judge(past, plan, fields, queries, older)
 }
 
 /// From where an engine goes on.
@@ -117,25 +106,13 @@ pub(crate) fn begin<P: Names>(
     saved: Saved,
 ) -> Result<Beginning, EngineFault>
     requires ready { P.is_ready past.old }
-    ensures usable { IfOk result (λ begun. IsUsable plan.now (length (P.Past.events past.old)) begun.checkpoint) }
-    ensures from { P.told past.old → IfOk result (λ begun.
-        IsFrom (IsFit (P.named past.old) queries.now fields.now plan.now (length (P.Past.events past.old))) (slot_in saved) begun.slot begun.checkpoint.count) }
-    ensures begun { IfOk result (λ begun. HaveBegun plan.now.offsets (slot_in saved) begun.slot (numbers_of begun.checkpoint.spots)) }
-    ensures rows { IfOk result (λ begun. AreRowsIn (slot_in saved) begun.slot begun.checkpoint.rows) }
-    ensures truthful { P.Past.sound past.old → (P.Past.ended past.old → ⊥) →
-        AreTruthful (P.Past.spells past.old) queries.now plan.now (P.Past.events past.old) (slot_in saved) →
-        IfOk result (λ begun. IsTruthful (P.Past.spells past.new) plan.now (P.Past.events past.new) begun.checkpoint) }
-    ensures origin { P.Past.sound past.old → (P.Past.ended past.old → ⊥) → IfOk result (λ begun.
-        IsTruthful (P.Past.spells past.new) plan.now (P.Past.events past.new) begun.checkpoint
-        ⊎ ((i : ℕ) × IsBest (IsFit (P.named past.old) queries.now fields.now plan.now (length (P.Past.events past.old))) (slot_in saved) i begun.checkpoint)) }
-    ensures spells { (spot : Spot) → P.Past.spells past.new spot ↔ P.Past.spells past.old spot }
-    ensures events { P.Past.events past.new ≡ P.Past.events past.old }
-    ensures room { P.Past.has_room past.old → P.Past.has_room past.new }
-    ensures past { Kept P.Past.goes P.Past.sound P.Past.ended P.Past.faults past.old past.new }
-    ensures cause { (fault : PastFault) → IsErrOf result (EngineFault.Past fault) →
-        HasCause (P.Past.illegal past.new) ⊥ (P.Past.ended past.old) (P.Past.faults past.old) (P.Past.faults past.new) fault }
-    ensures never_damaged { (place : ℕ) → P.Past.sound past.old → IsErrOf result (EngineFault.Past (PastFault.Damaged place)) → ⊥ }
-    ensures others { IfErr result (λ fault. (fault ≡ EngineFault.Memory) ⊎ ((cause : PastFault) × (fault ≡ EngineFault.Past cause))) }
+    ensures begun { IfOk result (λ begun. IsBegun (P.Past.sound past.old) (P.told past.old) (P.Past.ended past.old)
+        (IsFit (P.named past.old) queries.now fields.now plan.now (length (P.Past.events past.old)))
+        (P.Past.spells past.old) (P.Past.spells past.new) (P.Past.events past.old) (P.Past.events past.new)
+        queries.now plan.now (slot_in saved) begun.slot begun.checkpoint) }
+    ensures named { StaysNamed P.told P.is_ready P.named P.Past.spells past.old past.new }
+    ensures past { KeepsEvents P.Past.events P.Past.has_room P.Past.goes P.Past.sound P.Past.ended P.Past.faults past.old past.new }
+    ensures cause { IfErr result (IsUnmade (IsRefused (P.Past.illegal past.new) (P.Past.sound past.old) (P.Past.ended past.old) (P.Past.faults past.old) (P.Past.faults past.new)) (λ _. ⊥) ⊥) }
 {
     let chosen = match choose(past, plan, fields, queries, saved) {
         Err(fault) => return Err(EngineFault::Past(fault)),

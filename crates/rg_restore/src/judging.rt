@@ -1,7 +1,5 @@
-ghost use Rattle.std.specs.Prelude.{◌≡◌, ◌↔◌, ℕ, length, Decides, IfOk, IsErrOf, IsTrue};
-ghost use Rattle.rg_past.specs.Keeping.{Kept, HasCause};
-ghost use Rattle.rg_past.specs.declared.past.PastFault.{PastFault};
-ghost use Rattle.rg_past.specs.declared.past.Spot.{Spot};
+ghost use Rattle.std.specs.Prelude.{◌≡◌, ◌↔◌, length, Decides, IfOk, IfErr, IsTrue};
+ghost use Rattle.rg_restore.specs.Asked.{IsRefused, KeepsEvents, StaysNamed};
 ghost use Rattle.rg_restore.specs.Choosing.{IsJudged};
 ghost use Rattle.rg_restore.specs.Fit.{IsFit};
 ghost use Rattle.rg_restore.specs.Opening.{IsUsable};
@@ -31,16 +29,9 @@ fn is_fit<P: Names>(
     requires ready { P.is_ready past.old }
     ensures fit { P.told past.old → IfOk result (λ is. IsTrue is ↔ IsFit (P.named past.old) queries.now fields.now plan.now (length (P.Past.events past.old)) checkpoint.now) }
     ensures usable { IfOk result (λ is. IsTrue is → IsUsable plan.now (length (P.Past.events past.old)) checkpoint.now) }
-    ensures named { (spot : Spot) → P.named past.new spot ↔ P.named past.old spot }
-    ensures spells { (spot : Spot) → P.Past.spells past.new spot ↔ P.Past.spells past.old spot }
-    ensures events { P.Past.events past.new ≡ P.Past.events past.old }
-    ensures ready { P.is_ready past.new }
-    ensures told { P.told past.old → P.told past.new }
-    ensures room { P.Past.has_room past.old → P.Past.has_room past.new }
-    ensures past { Kept P.Past.goes P.Past.sound P.Past.ended P.Past.faults past.old past.new }
-    ensures cause { (fault : PastFault) → IsErrOf result fault →
-        HasCause (P.Past.illegal past.new) ⊥ (P.Past.ended past.old) (P.Past.faults past.old) (P.Past.faults past.new) fault }
-    ensures never_damaged { (place : ℕ) → P.Past.sound past.old → IsErrOf result (PastFault.Damaged place) → ⊥ }
+    ensures named { StaysNamed P.told P.is_ready P.named P.Past.spells past.old past.new }
+    ensures past { KeepsEvents P.Past.events P.Past.has_room P.Past.goes P.Past.sound P.Past.ended P.Past.faults past.old past.new }
+    ensures cause { IfErr result (IsRefused (P.Past.illegal past.new) (P.Past.sound past.old) (P.Past.ended past.old) (P.Past.faults past.old) (P.Past.faults past.new)) }
 {
     if !same_texts(&checkpoint.queries, queries) {
         return Ok(false);
@@ -54,10 +45,7 @@ fn is_fit<P: Names>(
     if !fits_plan(plan, fields, checkpoint.rows.as_slice()) {
         return Ok(false);
     }
-    match past.names(checkpoint.spots.as_slice()) {
-        Err(fault) => return Err(fault),
-        Ok(is) => Ok(is),
-    }
+    past.names(checkpoint.spots.as_slice())
 }
 
 /// The candidate, where there is one and it is fit.
@@ -71,16 +59,9 @@ pub(crate) fn judge<P: Names>(
     requires ready { P.is_ready past.old }
     ensures judged { IfOk result (λ taken. IsJudged (P.told past.old) (IsFit (P.named past.old) queries.now fields.now plan.now (length (P.Past.events past.old)))
         (IsUsable plan.now (length (P.Past.events past.old))) candidate taken) }
-    ensures named { (spot : Spot) → P.named past.new spot ↔ P.named past.old spot }
-    ensures spells { (spot : Spot) → P.Past.spells past.new spot ↔ P.Past.spells past.old spot }
-    ensures events { P.Past.events past.new ≡ P.Past.events past.old }
-    ensures ready { P.is_ready past.new }
-    ensures told { P.told past.old → P.told past.new }
-    ensures room { P.Past.has_room past.old → P.Past.has_room past.new }
-    ensures past { Kept P.Past.goes P.Past.sound P.Past.ended P.Past.faults past.old past.new }
-    ensures cause { (fault : PastFault) → IsErrOf result fault →
-        HasCause (P.Past.illegal past.new) ⊥ (P.Past.ended past.old) (P.Past.faults past.old) (P.Past.faults past.new) fault }
-    ensures never_damaged { (place : ℕ) → P.Past.sound past.old → IsErrOf result (PastFault.Damaged place) → ⊥ }
+    ensures named { StaysNamed P.told P.is_ready P.named P.Past.spells past.old past.new }
+    ensures past { KeepsEvents P.Past.events P.Past.has_room P.Past.goes P.Past.sound P.Past.ended P.Past.faults past.old past.new }
+    ensures cause { IfErr result (IsRefused (P.Past.illegal past.new) (P.Past.sound past.old) (P.Past.ended past.old) (P.Past.faults past.old) (P.Past.faults past.new)) }
 {
     let candidate = match candidate {
         None => return Ok(None),

@@ -89,8 +89,5 @@ pub fn restore<P: Past, T: Table, L: Ledger>(
         Err(fault) => return Err((engine_fault(fault), table)),
         Ok(()) => {}
     }
-    match go_on(alloc, past, plan, table, spots.as_slice(), last, steps) {
-        Err(refused) => return Err(refused),
-        Ok(engine) => Ok(engine),
-    }
+    go_on(alloc, past, plan, table, spots.as_slice(), last, steps)
 }

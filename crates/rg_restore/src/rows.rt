@@ -2,9 +2,8 @@ ghost use Rattle.std.specs.Prelude.{◌≡◌, ℕ, OnOk, IsErrOf};
 ghost use Rattle.rg_bytes.specs.Counts.{Rose};
 ghost use Rattle.rg_past.specs.declared.past.PastFault.{PastFault};
 ghost use Rattle.rg_state.specs.Keeping.{TableKept};
-ghost use Rattle.rg_state.specs.Rows.{AreRising};
-ghost use Rattle.rg_checkpoint.specs.Entries.{entries_of, AreFilled};
-ghost use Rattle.rg_restore.specs.Opening.{IsEmpty};
+ghost use Rattle.rg_checkpoint.specs.Entries.{entries_of};
+ghost use Rattle.rg_restore.specs.Opening.{AreMovable, IsEmpty};
 ghost use Rattle.rg_restore.specs.Since.{IsMarkedAt};
 
 use rg_checkpoint::Row;
@@ -14,8 +13,7 @@ use rg_state::{Table, TableFault};
 /// Moves rows into a table without a row, and marks it once all are there. None of them is copied. After
 /// a refusal the first ones of them are there.
 pub(crate) fn move_rows<T: Table>(table: &mut T, rows: Vec<Row>) -> Result<(), TableFault>
-    requires rising { AreRising (entries_of rows.items) }
-    requires filled { AreFilled (entries_of rows.items) }
+    requires movable { AreMovable (entries_of rows.items) }
     requires empty { T.tells table.old → IsEmpty (T.cell table.old) }
     ensures marked { T.tells table.old → OnOk result (IsMarkedAt (entries_of rows.items) (T.named table.new) (T.there table.new) (T.cell table.new)) }
     ensures no_bad { (n : ℕ) → IsErrOf result (TableFault.BadState n) → ⊥ }

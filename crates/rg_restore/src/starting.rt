@@ -91,8 +91,5 @@ pub fn start<P: Past, T: Table, L: Ledger>(
         Err(_) => return Err((EngineFault::Memory, table)),
         Ok(checkpoint) => checkpoint,
     };
-    match restore(alloc, past, plan, table, checkpoint, last, steps) {
-        Err(refused) => return Err(refused),
-        Ok(engine) => Ok(engine),
-    }
+    restore(alloc, past, plan, table, checkpoint, last, steps)
 }

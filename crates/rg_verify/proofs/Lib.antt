@@ -3,3 +3,4 @@ pub mod Logs
 pub mod Fits
 pub mod Judged
 pub mod Chunks
+pub mod Causes

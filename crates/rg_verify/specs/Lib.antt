@@ -3,3 +3,4 @@ pub mod Payments
 pub mod Verdicts
 pub mod Fitting
 pub mod Verify
+pub mod Causes

@@ -1,8 +1,9 @@
 -- What a log has, up to where it ends or is damaged.
-use Rattle.std.specs.Prelude.{ℕ, Bool, true, false, List, [], ◌∷◌, ◌++◌}
+use Rattle.std.specs.Prelude.{◌≡◌, ℕ, Bool, true, false, List, [], ◌∷◌, ◌++◌, None}
 use Rattle.rg_event.specs.declared.event.Event.{Event}
 use Rattle.rg_reservoir.specs.declared.walk.Stage.{Stage}
 use Rattle.rg_reservoir.specs.declared.walk.Stage.TheVariants as stage
+use Rattle.rg_dump.specs.Dump.{damage_of}
 use Rattle.rg_dump.specs.Stages.{stages_of}
 
 -- the events of a frame
@@ -26,3 +27,9 @@ payments_in bytes = events_in (stages_of bytes).stages
 -- the log of a file has a frame
 abbrev pub is_framed : List ℕ → Bool
 is_framed bytes = has_frames (stages_of bytes).stages
+
+-- the whole log of a file was read: its events, whether it has a frame, and nothing of it is damaged
+pub record IsReadAll (bytes : List ℕ) (events : List Event) (framed : Bool) : Type 0 where
+  pub events_are : events ≡ payments_in bytes
+  pub framed_is : framed ≡ is_framed bytes
+  pub undamaged : damage_of bytes ≡ None

@@ -1,14 +1,10 @@
-ghost use Rattle.std.specs.Prelude.{◌≡◌, ◌⊎◌, ◌≤◌, ◌^◌, [], ℕ, List, false, Some, None, IfOk, IfErr, IfSome, IfNone, IsErrOf};
+ghost use Rattle.std.specs.Prelude.{◌≡◌, [], IfOk, IfErr, IfSome, OnOk, ⊤};
 ghost use Rattle.std.specs.Option.{ForSome};
-ghost use Rattle.rg_bytes.specs.Counts.{Rose};
-ghost use Rattle.rg_event.specs.declared.event.Event.{Event as TheEvent};
-ghost use Rattle.rg_dump.specs.Dump.{damage_of};
-ghost use Rattle.rg_frame.specs.Frames.{HasPayloads};
-ghost use Rattle.rg_host.specs.Image.{Image};
-ghost use Rattle.rg_host.specs.Moments.{LeavesAll};
-ghost use Rattle.rg_log.specs.Log.{HasEvents, schema_payload};
+ghost use Rattle.rg_dump.specs.Leaves.{LeavesRead};
+ghost use Rattle.rg_log.specs.Log.{schema_payload};
 ghost use Rattle.rg_reservoir.specs.Attached.{IsOther};
-ghost use Rattle.rg_reservoir.specs.Kept.{base, opened};
+ghost use Rattle.rg_reservoir.specs.Kept.{opened};
+ghost use Rattle.rg_verify.specs.Causes.{IsFirstDamage, IsOfOther, IsReadable, IsUnjudged};
 
 use crate::fault::VerifyFault;
 use crate::payments::read_log;
@@ -25,20 +21,11 @@ pub(crate) fn find<H: Host>(
     schema: &Schema,
     room: Room,
 ) -> Result<Option<Reservoir>, VerifyFault>
-    requires chunk { (1 ≤ room.chunk) × (room.chunk ≤ 4096) }
-    requires cache { (1 ≤ room.cache) × (room.cache ≤ 1024) }
-    requires limit { room.limit ≤ 2 ^ 40 }
-    ensures found { IfOk result (λ found. IfSome found (λ r. (opened r ≡ []) × ((base r).ended ≡ false))) }
-    ensures none { IfOk result (λ found. IfNone found (ForSome (H.now host.old) (λ v. HasPayloads [] (v 2)))) }
-    ensures legal { (v : Image) (events : List TheEvent) (p : ℕ) → H.now host.old ≡ Some v → HasEvents schema.now events (v 2) → IsErrOf result (VerifyFault.Damaged p) → ⊥ }
-    ensures legal_ours { (v : Image) (events : List TheEvent) → H.now host.old ≡ Some v → HasEvents schema.now events (v 2) → IsErrOf result VerifyFault.SchemaDiffers → ⊥ }
-    ensures other { (v : Image) → H.now host.old ≡ Some v → IsOther (schema_payload schema.now) (v 2) → IfOk result (λ _. ⊥) }
-    ensures differs { IsErrOf result VerifyFault.SchemaDiffers → ForSome (H.now host.old) (λ v. IsOther (schema_payload schema.now) (v 2)) }
-    ensures disk { IsErrOf result VerifyFault.Disk → Rose (H.disk_faults host.old) (H.disk_faults host.new) }
-    ensures no_write { IsErrOf result VerifyFault.Write → ⊥ }
-    ensures leaves { LeavesAll H.now H.may H.clock H.since H.said host.old host.new }
-    ensures disk_faults { H.disk_faults host.old ≤ H.disk_faults host.new }
-    ensures out_faults { H.out_faults host.new ≡ H.out_faults host.old }
+    requires room { IsReadable room }
+    ensures empty { IfOk result (λ found. IfSome found (λ r. opened r ≡ [])) }
+    ensures ours { OnOk result (ForSome (H.now host.old) (λ v. IsOther (schema_payload schema.now) (v 2) → ⊥)) }
+    ensures cause { IfErr result (IsUnjudged (λ _. ⊤) (IsOfOther schema.now (H.now host.old)) (H.disk_faults host.old) (H.disk_faults host.new)) }
+    ensures leaves { LeavesRead H.now H.may H.clock H.since H.said H.disk_faults H.out_faults host.old host.new }
 {
     match Reservoir::view(alloc, host, schema, room) {
         Ok(found) => Ok(found),
@@ -49,12 +36,8 @@ pub(crate) fn find<H: Host>(
 /// Why a log that its heads show to be damaged is refused: its first damaged place, or what a call on
 /// the way there met.
 pub(crate) fn first_damage<H: Host>(alloc: Global, host: &mut H) -> VerifyFault
-    ensures damaged { (p : ℕ) → result ≡ VerifyFault.Damaged p → ForSome (H.now host.old) (λ v. damage_of (v 2) ≡ Some p) }
-    ensures never { (result ≡ VerifyFault.Write → ⊥) × (result ≡ VerifyFault.SchemaDiffers → ⊥) }
-    ensures disk { result ≡ VerifyFault.Disk → Rose (H.disk_faults host.old) (H.disk_faults host.new) }
-    ensures leaves { LeavesAll H.now H.may H.clock H.since H.said host.old host.new }
-    ensures disk_faults { H.disk_faults host.old ≤ H.disk_faults host.new }
-    ensures out_faults { H.out_faults host.new ≡ H.out_faults host.old }
+    ensures cause { IsUnjudged (IsFirstDamage (H.now host.old)) ⊥ (H.disk_faults host.old) (H.disk_faults host.new) result }
+    ensures leaves { LeavesRead H.now H.may H.clock H.since H.said H.disk_faults H.out_faults host.old host.new }
 {
     match read_log(alloc, host) {
         Err(fault) => fault,

@@ -1,12 +1,11 @@
-ghost use Rattle.std.specs.Prelude.{◌≡◌, ◌↔◌, ◌≤◌, [], ℕ, List, Some, length, All, IfOk, IfErr, IfSome, IsErrOf, IsTrue};
-ghost use Rattle.rg_bytes.specs.Counts.{Rose};
+ghost use Rattle.std.specs.Prelude.{◌≡◌, ◌↔◌, ◌≤◌, [], ℕ, List, Some, length, All, IfOk, IfErr, IfSome, IsTrue};
+ghost use Rattle.rg_dump.specs.Leaves.{LeavesRead};
 ghost use Rattle.rg_frame.specs.Frames.{HasPayloads};
 ghost use Rattle.rg_host.specs.Image.{Image};
-ghost use Rattle.rg_host.specs.Moments.{LeavesAll};
 ghost use Rattle.rg_reservoir.specs.Kept.{base, opened};
 ghost use Rattle.rg_reservoir.specs.Naming.{IsNamed};
+ghost use Rattle.rg_verify.specs.Causes.{IsUnjudged};
 ghost use Rattle.rg_verify.specs.Fitting.{FitsBeside, FitsAmong};
-ghost use Rattle.rg_verify.specs.Faults.{IsFromOutside};
 
 use crate::fault::VerifyFault;
 use crate::payments::Payments;
@@ -37,12 +36,8 @@ fn are_named<H: Host>(
 ) -> Result<bool, VerifyFault>
     requires empty { opened reservoir.now ≡ [] }
     ensures named { (v : Image) (payloads : List (List ℕ)) → H.now host.old ≡ Some v → HasPayloads payloads (v 2) → IfOk result (λ are. IsTrue are ↔ All (IsNamed payloads count) spots.now) }
-    ensures outside { IfErr result IsFromOutside }
-    ensures no_write { IsErrOf result VerifyFault.Write → ⊥ }
-    ensures disk { IsErrOf result VerifyFault.Disk → Rose (H.disk_faults host.old) (H.disk_faults host.new) }
-    ensures leaves { LeavesAll H.now H.may H.clock H.since H.said host.old host.new }
-    ensures disk_faults { H.disk_faults host.old ≤ H.disk_faults host.new }
-    ensures out_faults { H.out_faults host.new ≡ H.out_faults host.old }
+    ensures cause { IfErr result (IsUnjudged (λ _. ⊥) ⊥ (H.disk_faults host.old) (H.disk_faults host.new)) }
+    ensures leaves { LeavesRead H.now H.may H.clock H.since H.said H.disk_faults H.out_faults host.old host.new }
 {
     if !has_just(reservoir, count) {
         return Err(VerifyFault::Memory);
@@ -63,12 +58,8 @@ fn spots_are_named<H: Host>(
 ) -> Result<bool, VerifyFault>
     requires empty { opened reservoir.now ≡ [] }
     ensures named { (v : Image) (payloads : List (List ℕ)) → H.now host.old ≡ Some v → HasPayloads payloads (v 2) → IfOk result (λ are. IsTrue are ↔ All (IsNamed payloads (length log.now.events)) checkpoint.now.spots) }
-    ensures outside { IfErr result IsFromOutside }
-    ensures no_write { IsErrOf result VerifyFault.Write → ⊥ }
-    ensures disk { IsErrOf result VerifyFault.Disk → Rose (H.disk_faults host.old) (H.disk_faults host.new) }
-    ensures leaves { LeavesAll H.now H.may H.clock H.since H.said host.old host.new }
-    ensures disk_faults { H.disk_faults host.old ≤ H.disk_faults host.new }
-    ensures out_faults { H.out_faults host.new ≡ H.out_faults host.old }
+    ensures cause { IfErr result (IsUnjudged (λ _. ⊥) ⊥ (H.disk_faults host.old) (H.disk_faults host.new)) }
+    ensures leaves { LeavesRead H.now H.may H.clock H.since H.said H.disk_faults H.out_faults host.old host.new }
 {
     let count = log.events.as_slice().len();
     are_named(host, reservoir, checkpoint.spots.as_slice(), count)
@@ -102,12 +93,8 @@ pub(crate) fn is_fit<H: Host>(
     requires empty { IfSome found.now (λ r. opened r ≡ []) }
     ensures fit { (v : Image) (payloads : List (List ℕ)) → H.now host.old ≡ Some v → HasPayloads payloads (v 2) → IfOk result (λ is. IsTrue is ↔ FitsAmong fields.now task.now log.now.framed (length log.now.events) payloads checkpoint.now) }
     ensures within { IfOk result (λ is. IsTrue is → checkpoint.now.count ≤ length log.now.events) }
-    ensures outside { IfErr result IsFromOutside }
-    ensures no_write { IsErrOf result VerifyFault.Write → ⊥ }
-    ensures disk { IsErrOf result VerifyFault.Disk → Rose (H.disk_faults host.old) (H.disk_faults host.new) }
-    ensures leaves { LeavesAll H.now H.may H.clock H.since H.said host.old host.new }
-    ensures disk_faults { H.disk_faults host.old ≤ H.disk_faults host.new }
-    ensures out_faults { H.out_faults host.new ≡ H.out_faults host.old }
+    ensures cause { IfErr result (IsUnjudged (λ _. ⊥) ⊥ (H.disk_faults host.old) (H.disk_faults host.new)) }
+    ensures leaves { LeavesRead H.now H.may H.clock H.since H.said H.disk_faults H.out_faults host.old host.new }
 {
     if !fits(task, fields, log, checkpoint) {
         return Ok(false);

@@ -1,14 +1,13 @@
-ghost use Rattle.std.specs.Prelude.{◌≡◌, ◌≤◌, true, [], ℕ, List, Some, length, Decides, IfOk, IfErr, IfSome, IsErrOf};
+ghost use Rattle.std.specs.Prelude.{◌≡◌, ◌≤◌, true, [], ℕ, List, Some, length, Decides, IfOk, IfErr, IfSome};
 ghost use Rattle.std.specs.Option.{option_copied};
-ghost use Rattle.rg_bytes.specs.Counts.{Rose};
 ghost use Rattle.rg_checkpoint.specs.Slots.{slot_in};
+ghost use Rattle.rg_dump.specs.Leaves.{LeavesRead};
 ghost use Rattle.rg_event.specs.Shapes.{Shape};
 ghost use Rattle.rg_frame.specs.Frames.{HasPayloads};
 ghost use Rattle.rg_host.specs.Image.{Image};
-ghost use Rattle.rg_host.specs.Moments.{LeavesAll};
 ghost use Rattle.rg_reservoir.specs.Kept.{opened};
 ghost use Rattle.rg_rows.specs.Rows.{AreServed};
-ghost use Rattle.rg_verify.specs.Faults.{IsFromOutside};
+ghost use Rattle.rg_verify.specs.Causes.{IsUnjudged};
 ghost use Rattle.rg_verify.specs.Fitting.{terms_of, IsRowVerdict};
 ghost use Rattle.rg_verify.specs.Payments.{is_framed};
 ghost use Rattle.rg_verify.specs.Verdicts.{IsVerdict};
@@ -86,12 +85,8 @@ fn judge_checkpoint<H: Host>(
     requires empty { IfSome found.now (λ r. opened r ≡ []) }
     ensures verdict { (shape : Shape) (v : Image) (payloads : List (List ℕ)) → shape.fields ≡ wanted.now.fields.now → H.now host.old ≡ Some v → HasPayloads payloads (v 2) → log.now.framed ≡ is_framed (v 2) → AreServed wanted.now.task.now log.now.events →
         IfOk result (IsVerdict (terms_of wanted.now.queries.now shape wanted.now.task.now) (v 2) log.now.events (Some checkpoint.now)) }
-    ensures outside { IfErr result IsFromOutside }
-    ensures no_write { IsErrOf result VerifyFault.Write → ⊥ }
-    ensures disk { IsErrOf result VerifyFault.Disk → Rose (H.disk_faults host.old) (H.disk_faults host.new) }
-    ensures leaves { LeavesAll H.now H.may H.clock H.since H.said host.old host.new }
-    ensures disk_faults { H.disk_faults host.old ≤ H.disk_faults host.new }
-    ensures out_faults { H.out_faults host.new ≡ H.out_faults host.old }
+    ensures cause { IfErr result (IsUnjudged (λ _. ⊥) ⊥ (H.disk_faults host.old) (H.disk_faults host.new)) }
+    ensures leaves { LeavesRead H.now H.may H.clock H.since H.said H.disk_faults H.out_faults host.old host.new }
 {
     if !same_texts(&checkpoint.queries, wanted.queries) {
         return Ok(Verdict::Other(checkpoint.count));
@@ -118,12 +113,8 @@ fn judge<H: Host>(
     requires empty { IfSome found.now (λ r. opened r ≡ []) }
     ensures verdict { (shape : Shape) (v : Image) (payloads : List (List ℕ)) → shape.fields ≡ wanted.now.fields.now → H.now host.old ≡ Some v → HasPayloads payloads (v 2) → log.now.framed ≡ is_framed (v 2) → AreServed wanted.now.task.now log.now.events →
         IfOk result (IsVerdict (terms_of wanted.now.queries.now shape wanted.now.task.now) (v 2) log.now.events (option_copied slot.entry)) }
-    ensures outside { IfErr result IsFromOutside }
-    ensures no_write { IsErrOf result VerifyFault.Write → ⊥ }
-    ensures disk { IsErrOf result VerifyFault.Disk → Rose (H.disk_faults host.old) (H.disk_faults host.new) }
-    ensures leaves { LeavesAll H.now H.may H.clock H.since H.said host.old host.new }
-    ensures disk_faults { H.disk_faults host.old ≤ H.disk_faults host.new }
-    ensures out_faults { H.out_faults host.new ≡ H.out_faults host.old }
+    ensures cause { IfErr result (IsUnjudged (λ _. ⊥) ⊥ (H.disk_faults host.old) (H.disk_faults host.new)) }
+    ensures leaves { LeavesRead H.now H.may H.clock H.since H.said H.disk_faults H.out_faults host.old host.new }
 {
     match slot {
         None => Ok(Verdict::Missing),
@@ -145,12 +136,8 @@ pub(crate) fn judge_slot<H: Host>(
     requires fresh { slots.now.fresh ≡ true }
     ensures verdict { (shape : Shape) (v : Image) (payloads : List (List ℕ)) → shape.fields ≡ wanted.now.fields.now → H.now host.old ≡ Some v → HasPayloads payloads (v 2) → log.now.framed ≡ is_framed (v 2) → AreServed wanted.now.task.now log.now.events →
         IfOk result (IsVerdict (terms_of wanted.now.queries.now shape wanted.now.task.now) (v 2) log.now.events (slot_in slots.now i)) }
-    ensures outside { IfErr result IsFromOutside }
-    ensures no_write { IsErrOf result VerifyFault.Write → ⊥ }
-    ensures disk { IsErrOf result VerifyFault.Disk → Rose (H.disk_faults host.old) (H.disk_faults host.new) }
-    ensures leaves { LeavesAll H.now H.may H.clock H.since H.said host.old host.new }
-    ensures disk_faults { H.disk_faults host.old ≤ H.disk_faults host.new }
-    ensures out_faults { H.out_faults host.new ≡ H.out_faults host.old }
+    ensures cause { IfErr result (IsUnjudged (λ _. ⊥) ⊥ (H.disk_faults host.old) (H.disk_faults host.new)) }
+    ensures leaves { LeavesRead H.now H.may H.clock H.since H.said H.disk_faults H.out_faults host.old host.new }
 {
     judge(alloc, host, found, wanted, log, slots.slot(i))
 }

@@ -1,11 +1,10 @@
-ghost use Rattle.std.specs.Prelude.{◌≡◌, ◌<◌, ◌≤◌, ◌++◌, ◌∷◌, [], ℕ, Some, None, length, slice_get, IfOk, OnOk, IsErrOf};
+ghost use Rattle.std.specs.Prelude.{◌≡◌, ◌<◌, ◌++◌, ◌∷◌, [], Some, length, slice_get, IfOk, IfErr, OnOk};
 ghost use Rattle.std.specs.Option.{ForSome};
-ghost use Rattle.rg_bytes.specs.Counts.{Rose};
-ghost use Rattle.rg_dump.specs.Dump.{damage_of};
+ghost use Rattle.rg_dump.specs.Leaves.{LeavesRead};
 ghost use Rattle.rg_event.specs.declared.event.Event.{Event};
-ghost use Rattle.rg_host.specs.Moments.{LeavesAll};
 ghost use Rattle.rg_reservoir.specs.declared.walk.Stage.TheVariants as stage;
-ghost use Rattle.rg_verify.specs.Payments.{stage_events, payments_in, is_framed};
+ghost use Rattle.rg_verify.specs.Causes.{IsFirstDamage, IsUnjudged};
+ghost use Rattle.rg_verify.specs.Payments.{stage_events, IsReadAll};
 
 use crate::fault::VerifyFault;
 use rg_bytes::Memory;
@@ -61,15 +60,9 @@ fn push_stage(alloc: Global, events: &mut Events, stage: &Stage) -> Result<(), M
 
 /// Reads the whole log of file 2, chunks included. It takes the memory of all payments.
 pub(crate) fn read_log<H: Host>(alloc: Global, host: &mut H) -> Result<Payments, VerifyFault>
-    ensures events { IfOk result (λ log. ForSome (H.now host.old) (λ v. log.events ≡ payments_in (v 2))) }
-    ensures framed { IfOk result (λ log. ForSome (H.now host.old) (λ v. log.framed ≡ is_framed (v 2))) }
-    ensures undamaged { OnOk result (ForSome (H.now host.old) (λ v. damage_of (v 2) ≡ None)) }
-    ensures damaged { (p : ℕ) → IsErrOf result (VerifyFault.Damaged p) → ForSome (H.now host.old) (λ v. damage_of (v 2) ≡ Some p) }
-    ensures never { (IsErrOf result VerifyFault.Write → ⊥) × (IsErrOf result VerifyFault.SchemaDiffers → ⊥) }
-    ensures disk { IsErrOf result VerifyFault.Disk → Rose (H.disk_faults host.old) (H.disk_faults host.new) }
-    ensures leaves { LeavesAll H.now H.may H.clock H.since H.said host.old host.new }
-    ensures disk_faults { H.disk_faults host.old ≤ H.disk_faults host.new }
-    ensures out_faults { H.out_faults host.new ≡ H.out_faults host.old }
+    ensures read { IfOk result (λ log. ForSome (H.now host.old) (λ v. IsReadAll (v 2) log.events log.framed)) }
+    ensures cause { IfErr result (IsUnjudged (IsFirstDamage (H.now host.old)) ⊥ (H.disk_faults host.old) (H.disk_faults host.new)) }
+    ensures leaves { LeavesRead H.now H.may H.clock H.since H.said H.disk_faults H.out_faults host.old host.new }
 {
     let mut walk = Walk::new(alloc);
     let mut events = Events::new(alloc);

@@ -4,15 +4,17 @@ ghost use Rattle.rg_bytes.specs.Counts.{Rose};
 ghost use Rattle.rg_event.specs.Shapes.{Shape};
 ghost use Rattle.rg_event.specs.declared.event.Event.{Event as TheEvent};
 ghost use Rattle.rg_dump.specs.Dump.{damage_of};
+ghost use Rattle.rg_dump.specs.Leaves.{LeavesPut, LeavesRead};
 ghost use Rattle.rg_frame.specs.Frames.{HasPayloads};
 ghost use Rattle.rg_host.specs.Image.{Image};
 ghost use Rattle.rg_host.specs.Lines.{ended};
-ghost use Rattle.rg_host.specs.Moments.{LeavesAll, LeavesFiles};
+ghost use Rattle.rg_host.specs.Moments.{LeavesFiles};
 ghost use Rattle.rg_host.specs.Puts.{IsPrefix, Puts};
 ghost use Rattle.rg_log.specs.Log.{schema_payload};
 ghost use Rattle.rg_reservoir.specs.Attached.{IsOther};
 ghost use Rattle.rg_reservoir.specs.Kept.{opened};
 ghost use Rattle.rg_rows.specs.Rows.{AreServed};
+ghost use Rattle.rg_verify.specs.Causes.{IsFirstDamage, IsOfOther, IsReadable, IsUnjudged};
 ghost use Rattle.rg_verify.specs.Faults.{IsFromOutside};
 ghost use Rattle.rg_verify.specs.Fitting.{AreVerdicts, terms_of};
 ghost use Rattle.rg_verify.specs.Payments.{is_framed};
@@ -51,12 +53,8 @@ fn judge_both<H: Host>(
     requires fresh { slots.now.fresh ≡ true }
     ensures verdicts { (shape : Shape) (v : Image) (payloads : List (List ℕ)) → shape.fields ≡ wanted.now.fields.now → H.now host.old ≡ Some v → HasPayloads payloads (v 2) → log.now.framed ≡ is_framed (v 2) → AreServed wanted.now.task.now log.now.events →
         IfOk result (λ verdicts. AreVerdicts (terms_of wanted.now.queries.now shape wanted.now.task.now) (v 2) log.now.events slots.now.first slots.now.second verdicts.first verdicts.second) }
-    ensures outside { IfErr result IsFromOutside }
-    ensures no_write { IsErrOf result VerifyFault.Write → ⊥ }
-    ensures disk { IsErrOf result VerifyFault.Disk → Rose (H.disk_faults host.old) (H.disk_faults host.new) }
-    ensures leaves { LeavesAll H.now H.may H.clock H.since H.said host.old host.new }
-    ensures disk_faults { H.disk_faults host.old ≤ H.disk_faults host.new }
-    ensures out_faults { H.out_faults host.new ≡ H.out_faults host.old }
+    ensures cause { IfErr result (IsUnjudged (λ _. ⊥) ⊥ (H.disk_faults host.old) (H.disk_faults host.new)) }
+    ensures leaves { LeavesRead H.now H.may H.clock H.since H.said H.disk_faults H.out_faults host.old host.new }
 {
     let first = match judge_slot(alloc, host, found, wanted, log, slots, 0) {
         Ok(first) => first,
@@ -79,12 +77,8 @@ fn judge_slots<H: Host>(
     requires empty { IfSome found.now (λ r. opened r ≡ []) }
     ensures verified { (shape : Shape) (v : Image) (payloads : List (List ℕ)) → shape.fields ≡ wanted.now.fields.now → H.now host.old ≡ Some v → HasPayloads payloads (v 2) → log.now.framed ≡ is_framed (v 2) → AreServed wanted.now.task.now log.now.events →
         IfOk result (λ verdicts. IsVerified (terms_of wanted.now.queries.now shape wanted.now.task.now) v log.now.events verdicts.first verdicts.second) }
-    ensures outside { IfErr result IsFromOutside }
-    ensures no_write { IsErrOf result VerifyFault.Write → ⊥ }
-    ensures disk { IsErrOf result VerifyFault.Disk → Rose (H.disk_faults host.old) (H.disk_faults host.new) }
-    ensures leaves { LeavesAll H.now H.may H.clock H.since H.said host.old host.new }
-    ensures disk_faults { H.disk_faults host.old ≤ H.disk_faults host.new }
-    ensures out_faults { H.out_faults host.new ≡ H.out_faults host.old }
+    ensures cause { IfErr result (IsUnjudged (λ _. ⊥) ⊥ (H.disk_faults host.old) (H.disk_faults host.new)) }
+    ensures leaves { LeavesRead H.now H.may H.clock H.since H.said H.disk_faults H.out_faults host.old host.new }
 {
     match Slots::attach(alloc, host) {
         Ok(slots) => judge_both(alloc, host, found, wanted, log, &slots),
@@ -105,12 +99,8 @@ fn judge_read<H: Host>(
     requires empty { IfSome found.now (λ r. opened r ≡ []) }
     ensures verified { (v : Image) (payloads : List (List ℕ)) → H.now host.old ≡ Some v → HasPayloads payloads (v 2) → log.now.framed ≡ is_framed (v 2) → AreServed task.now log.now.events →
         IfOk result (λ verdicts. IsVerified (terms_of queries.now schema.now task.now) v log.now.events verdicts.first verdicts.second) }
-    ensures outside { IfErr result IsFromOutside }
-    ensures no_write { IsErrOf result VerifyFault.Write → ⊥ }
-    ensures disk { IsErrOf result VerifyFault.Disk → Rose (H.disk_faults host.old) (H.disk_faults host.new) }
-    ensures leaves { LeavesAll H.now H.may H.clock H.since H.said host.old host.new }
-    ensures disk_faults { H.disk_faults host.old ≤ H.disk_faults host.new }
-    ensures out_faults { H.out_faults host.new ≡ H.out_faults host.old }
+    ensures cause { IfErr result (IsUnjudged (λ _. ⊥) ⊥ (H.disk_faults host.old) (H.disk_faults host.new)) }
+    ensures leaves { LeavesRead H.now H.may H.clock H.since H.said H.disk_faults H.out_faults host.old host.new }
 {
     let wanted = Wanted {
         queries,
@@ -132,14 +122,9 @@ fn judge_log<H: Host>(
     requires empty { IfSome found.now (λ r. opened r ≡ []) }
     ensures verified { (v : Image) (events : List TheEvent) → H.now host.old ≡ Some v → IsVerifiable (terms_of queries.now schema.now task.now) v events →
         IfOk result (λ verdicts. IsVerified (terms_of queries.now schema.now task.now) v events verdicts.first verdicts.second) }
-    ensures outside { (v : Image) (events : List TheEvent) → H.now host.old ≡ Some v → IsVerifiable (terms_of queries.now schema.now task.now) v events → IfErr result IsFromOutside }
     ensures undamaged { OnOk result (ForSome (H.now host.old) (λ v. damage_of (v 2) ≡ None)) }
-    ensures damaged { (p : ℕ) → IsErrOf result (VerifyFault.Damaged p) → ForSome (H.now host.old) (λ v. damage_of (v 2) ≡ Some p) }
-    ensures never { (IsErrOf result VerifyFault.Write → ⊥) × (IsErrOf result VerifyFault.SchemaDiffers → ⊥) }
-    ensures disk { IsErrOf result VerifyFault.Disk → Rose (H.disk_faults host.old) (H.disk_faults host.new) }
-    ensures leaves { LeavesAll H.now H.may H.clock H.since H.said host.old host.new }
-    ensures disk_faults { H.disk_faults host.old ≤ H.disk_faults host.new }
-    ensures out_faults { H.out_faults host.new ≡ H.out_faults host.old }
+    ensures cause { IfErr result (IsUnjudged (IsFirstDamage (H.now host.old)) ⊥ (H.disk_faults host.old) (H.disk_faults host.new)) }
+    ensures leaves { LeavesRead H.now H.may H.clock H.since H.said H.disk_faults H.out_faults host.old host.new }
 {
     let log = match read_log(alloc, host) {
         Ok(log) => log,
@@ -157,21 +142,13 @@ fn judge_store<H: Host>(
     task: &TaskPlan,
     queries: &Texts,
 ) -> Result<Verdicts, VerifyFault>
-    requires chunk { (1 ≤ room.chunk) × (room.chunk ≤ 4096) }
-    requires cache { (1 ≤ room.cache) × (room.cache ≤ 1024) }
-    requires limit { room.limit ≤ 2 ^ 40 }
+    requires room { IsReadable room }
     ensures verified { (v : Image) (events : List TheEvent) → H.now host.old ≡ Some v → IsVerifiable (terms_of queries.now schema.now task.now) v events →
         IfOk result (λ verdicts. IsVerified (terms_of queries.now schema.now task.now) v events verdicts.first verdicts.second) }
-    ensures outside { (v : Image) (events : List TheEvent) → H.now host.old ≡ Some v → IsVerifiable (terms_of queries.now schema.now task.now) v events → IfErr result IsFromOutside }
-    ensures other { (v : Image) → H.now host.old ≡ Some v → IsOther (schema_payload schema.now) (v 2) → OnOk result ⊥ }
+    ensures ours { OnOk result (ForSome (H.now host.old) (λ v. IsOther (schema_payload schema.now) (v 2) → ⊥)) }
     ensures undamaged { OnOk result (ForSome (H.now host.old) (λ v. damage_of (v 2) ≡ None)) }
-    ensures damaged { (p : ℕ) → IsErrOf result (VerifyFault.Damaged p) → ForSome (H.now host.old) (λ v. damage_of (v 2) ≡ Some p) }
-    ensures differs { IsErrOf result VerifyFault.SchemaDiffers → ForSome (H.now host.old) (λ v. IsOther (schema_payload schema.now) (v 2)) }
-    ensures no_write { IsErrOf result VerifyFault.Write → ⊥ }
-    ensures disk { IsErrOf result VerifyFault.Disk → Rose (H.disk_faults host.old) (H.disk_faults host.new) }
-    ensures leaves { LeavesAll H.now H.may H.clock H.since H.said host.old host.new }
-    ensures disk_faults { H.disk_faults host.old ≤ H.disk_faults host.new }
-    ensures out_faults { H.out_faults host.new ≡ H.out_faults host.old }
+    ensures cause { IfErr result (IsUnjudged (IsFirstDamage (H.now host.old)) (IsOfOther schema.now (H.now host.old)) (H.disk_faults host.old) (H.disk_faults host.new)) }
+    ensures leaves { LeavesRead H.now H.may H.clock H.since H.said H.disk_faults H.out_faults host.old host.new }
 {
     match find(alloc, host, schema, room) {
         Ok(found) => judge_log(alloc, host, schema, task, queries, &found),
@@ -241,9 +218,7 @@ fn put_verdicts<H: Host>(
     ensures cut { IsErrOf result VerifyFault.Write → (part : List ℕ) × IsPrefix part (ended (verify_lines verdicts.first verdicts.second)) × Puts H.said H.clock H.since host.old host.new part }
     ensures write { IsErrOf result VerifyFault.Write → Rose (H.out_faults host.old) (H.out_faults host.new) }
     ensures faults { IfErr result (λ fault. (fault ≡ VerifyFault.Write) ⊎ ((fault ≡ VerifyFault.Memory) × Puts H.said H.clock H.since host.old host.new [])) }
-    ensures leaves { LeavesFiles H.now H.may H.clock H.since host.old host.new }
-    ensures disk_faults { H.disk_faults host.new ≡ H.disk_faults host.old }
-    ensures out_faults { H.out_faults host.old ≤ H.out_faults host.new }
+    ensures leaves { LeavesPut H.now H.may H.clock H.since H.disk_faults H.out_faults host.old host.new }
 {
     let text = match lines_of(alloc, verdicts.first, verdicts.second) {
         Ok(text) => text,

@@ -10,7 +10,7 @@ returns-in-Ok-put_all-clause-completes g c = λ v told.
       t.0,
       t.1,
       subst (λ (l : List ℕ). Puts g.H.Host.said g.H.Host.clock g.H.Host.since c.args.host.now c.put_all.new.host l) (c.deref.ensures.value ∙ t.2)
-          (puts-then g.H.Host.said g.H.Host.clock g.H.Host.since _ _ _ [] _ (puts_nothing g.H.Host.now g.H.Host.may g.H.Host.clock g.H.Host.since g.H.Host.said _ _ c.in-Ok.ensures.leaves) c.in-Ok-put_all.ensures.all),
+          (puts-then g.H.Host.said g.H.Host.clock g.H.Host.since _ _ _ [] _ (puts_nothing g.H.Host.now g.H.Host.may g.H.Host.clock g.H.Host.since g.H.Host.said _ _ c.in-Ok.ensures.leaves.leaves) c.in-Ok-put_all.ensures.all),
     )
 
 pub returns-clause-cut : goal.returns-clause-cut
@@ -21,5 +21,5 @@ returns-clause-cut g c = λ _. λ v told.
       p.0,
       t.1,
       subst (λ (l : List ℕ). IsPrefix p.0 l) (c.deref.ensures.value ∙ t.2) p.1,
-      puts-then g.H.Host.said g.H.Host.clock g.H.Host.since _ _ _ [] p.0 (puts_nothing g.H.Host.now g.H.Host.may g.H.Host.clock g.H.Host.since g.H.Host.said _ _ c.in-Ok.ensures.leaves) p.2,
+      puts-then g.H.Host.said g.H.Host.clock g.H.Host.since _ _ _ [] p.0 (puts_nothing g.H.Host.now g.H.Host.may g.H.Host.clock g.H.Host.since g.H.Host.said _ _ c.in-Ok.ensures.leaves.leaves) p.2,
     )

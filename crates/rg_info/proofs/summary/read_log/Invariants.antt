@@ -1,7 +1,7 @@
-use Rattle.std.proofs.Common.{◌≡◌, ◌-◌, ◌*◌, ◌≤◌, ◌^◌}
+use Rattle.std.proofs.Common.{◌-◌, ◌*◌, ◌≤◌, ◌^◌}
 use Rattle.std.specs.Option.{ForSome}
-use Rattle.rg_host.specs.Moments.{LeavesAll}
 use Rattle.rg_reservoir.specs.Walked.{place_of}
+use Rattle.rg_dump.specs.Leaves.{LeavesRead}
 use Rattle.rg_info.proofs.Summing.{IsSummed}
 use Rattle.rg_info.proofs.summary.read_log.Given as goal
 
@@ -10,9 +10,7 @@ invariant-frames g l = record {
   summed : ForSome (g.H.Host.now l.fn.host) (λ v. IsSummed (v 2) l.walk l.summary);
   few : 9 * l.summary.frames ≤ place_of l.walk;
   within : place_of l.walk ≤ 2 ^ 62;
-  leaves : LeavesAll g.H.Host.now g.H.Host.may g.H.Host.clock g.H.Host.since g.H.Host.said l.fn.host l.host;
-  disk_faults : g.H.Host.disk_faults l.fn.host ≤ g.H.Host.disk_faults l.host;
-  out_faults : g.H.Host.out_faults l.host ≡ g.H.Host.out_faults l.fn.host;
+  leaves : LeavesRead g.H.Host.now g.H.Host.may g.H.Host.clock g.H.Host.since g.H.Host.said g.H.Host.disk_faults g.H.Host.out_faults l.fn.host l.host;
 }
 
 abbrev pub decreases-frames : goal.decreases-frames

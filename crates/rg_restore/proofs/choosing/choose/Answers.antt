@@ -1,9 +1,10 @@
 use Rattle.std.proofs.Common.{◌≡◌, length, ap, sym, subst}
-use Rattle.rg_past.proofs.Kept.{cause-within}
+use Rattle.std.proofs.lemmas.Result.{IfOk-weaker, IfErr-weaker}
 use Rattle.rg_restore.specs.Choosing.{IsJudged}
 use Rattle.rg_restore.specs.Fit.{IsFit}
 use Rattle.rg_restore.specs.Opening.{IsUsable}
 use Rattle.rg_restore.specs.Slots.{slot_in}
+use Rattle.rg_restore.proofs.Asked.{events-then, named-then, refused-within}
 use Rattle.rg_restore.proofs.Trying.{chosen_first, chosen_second, fit_same, judged_same}
 use Rattle.rg_restore.proofs.choosing.choose.Goals as goal
 
@@ -16,10 +17,6 @@ returns-in-Ok-Some-clause-chosen g c =
     let newer = c.in_order-newer.result.0 in
     chosen_first told Fit Usable (slot_in c.args.saved) newer c.in_order-newer.result.1 c.in-Ok-Some.candidate c.in_order-newer.ensures
     (subst (IsJudged told Fit Usable newer) c.in-Ok-Some.field-0-is c.in-Ok-Some.ensures.judged)
-
-pub returns-in-Err-judge-clause-cause : goal.returns-in-Err-judge-clause-cause
-returns-in-Err-judge-clause-cause g c = λ fault is.
-    cause-within _ ⊥ _ ⊥ _ _ _ _ fault c.judge.ensures.past.later (λ full. full) c.judge.ensures.past.ended.0 (c.in-Err-judge.ensures.cause fault is)
 
 pub returns-clause-chosen : goal.returns-clause-chosen
 returns-clause-chosen g c =
@@ -35,13 +32,23 @@ returns-clause-chosen g c =
     let Later = IsFit (g.P.Names.named new) queries fields plan m in
     let newer = c.in_order-newer.result.0 in
     let older = c.in_order-newer.result.1 in
-    let same : m ≡ n = ap length c.judge.ensures.events in
-    chosen_second told Fit (IsUsable plan n) (slot_in c.args.saved) newer older c.in-Ok.found c.in_order-newer.ensures
+    let same : m ≡ n = ap length c.judge.ensures.past.events in
+    IfOk-weaker c.judge-2.result _ _
+    (λ found judged. chosen_second told Fit (IsUsable plan n) (slot_in c.args.saved) newer older found c.in_order-newer.ensures
     (subst (IsJudged told Fit (IsUsable plan n) newer) c.in-Ok-None.field-0-is c.in-Ok-None.ensures.judged)
-    (judged_same (g.P.Names.told new) told Later Fit (IsUsable plan m) (IsUsable plan n) older c.in-Ok.found c.judge.ensures.told
-    (λ x. fit_same (g.P.Names.named new) (g.P.Names.named old) queries fields plan m n x (λ spot. (c.judge.ensures.named spot).0) same)
-    (λ x. fit_same (g.P.Names.named old) (g.P.Names.named new) queries fields plan n m x (λ spot. (c.judge.ensures.named spot).1) (sym same))
-    (λ x usable. subst (λ k. IsUsable plan k x) same usable) c.in-Ok.ensures.judged)
+    (judged_same (g.P.Names.told new) told Later Fit (IsUsable plan m) (IsUsable plan n) older found c.judge.ensures.named.told
+    (λ x. fit_same (g.P.Names.named new) (g.P.Names.named old) queries fields plan m n x (λ spot. (c.judge.ensures.named.named spot).0) same)
+    (λ x. fit_same (g.P.Names.named old) (g.P.Names.named new) queries fields plan n m x (λ spot. (c.judge.ensures.named.named spot).1) (sym same))
+    (λ x usable. subst (λ k. IsUsable plan k x) same usable) judged))
+    c.judge-2.ensures.judged
 
-pub returns-in-Err-judge-clause-never_damaged : goal.returns-in-Err-judge-clause-never_damaged
-returns-in-Err-judge-clause-never_damaged g c = λ place sound is. c.in-Err-judge.ensures.never_damaged place (c.judge.ensures.past.sound sound) is
+pub returns-clause-named : goal.returns-clause-named
+returns-clause-named g c = named-then _ _ _ _ _ _ _ c.judge.ensures.named c.judge-2.ensures.named
+
+pub returns-clause-past : goal.returns-clause-past
+returns-clause-past g c = events-then _ _ _ _ _ _ _ _ _ g.met.P.Past.transitive c.judge.ensures.past c.judge-2.ensures.past
+
+pub returns-clause-cause : goal.returns-clause-cause
+returns-clause-cause g c =
+    let kept = c.judge.ensures.past.past in
+    IfErr-weaker c.judge-2.result _ _ (λ fault cause. refused-within _ _ _ _ _ _ _ _ fault kept.later kept.sound kept.ended.0 cause) c.judge-2.ensures.cause

@@ -9,13 +9,13 @@ pub insert-requires-clause-free : goal.insert-requires-clause-free
 insert-requires-clause-free g c = λ tells.
     let inv = c.rows.invariant in
     let is : c.args.rows.items ≡ c.rows.yielded ++ c.in-Some.row ∷ c.next.new.self.rest.items = inv.4 ∙ ap (λ xs. c.rows.yielded ++ xs) c.in-Some.ensures.steps.0 in
-    is_free c.args.rows.items c.rows.yielded c.next.new.self.rest.items c.in-Some.row is (g.T.Table.cell c.rows.table) c.requires.rising (inv.2 (inv.3.tells.0 tells))
+    is_free c.args.rows.items c.rows.yielded c.next.new.self.rest.items c.in-Some.row is (g.T.Table.cell c.rows.table) c.requires.movable.rising (inv.2 (inv.3.tells.0 tells))
 
 pub insert-requires-clause-some : goal.insert-requires-clause-some
 insert-requires-clause-some g c =
     let inv = c.rows.invariant in
     let is : c.args.rows.items ≡ c.rows.yielded ++ c.in-Some.row ∷ c.next.new.self.rest.items = inv.4 ∙ ap (λ xs. c.rows.yielded ++ xs) c.in-Some.ensures.steps.0 in
-    is_some c.args.rows.items c.rows.yielded c.next.new.self.rest.items c.in-Some.row is c.requires.filled
+    is_some c.args.rows.items c.rows.yielded c.next.new.self.rest.items c.in-Some.row is c.requires.movable.filled
 
 pub rows-preserved : goal.rows-preserved
 rows-preserved g c =
@@ -25,7 +25,7 @@ rows-preserved g c =
     let is : c.args.rows.items ≡ c.rows.yielded ++ c.in-Some.row ∷ rest = inv.4 ∙ ap (λ xs. c.rows.yielded ++ xs) c.in-Some.ensures.steps.0 in (
       tt,
       tt,
-      λ told. more_listed c.args.rows.items c.rows.yielded rest c.in-Some.row is (g.T.Table.cell c.rows.table) (g.T.Table.cell c.insert.new.self) c.requires.rising (inv.2 told) (done.row (inv.3.tells.1 told)) (done.others (inv.3.tells.1 told)),
+      λ told. more_listed c.args.rows.items c.rows.yielded rest c.in-Some.row is (g.T.Table.cell c.rows.table) (g.T.Table.cell c.insert.new.self) c.requires.movable.rising (inv.2 told) (done.row (inv.3.tells.1 told)) (done.others (inv.3.tells.1 told)),
       table-then g.T.Table.tells g.T.Table.faults _ _ _ inv.3 (record { tells = done.tells; later = done.later }),
       is ∙ sym (append_assoc c.rows.yielded (c.in-Some.row ∷ []) rest),
     )

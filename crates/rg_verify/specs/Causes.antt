@@ -1,0 +1,37 @@
+-- Why a store wasn't held against its log.
+use Rattle.std.specs.Prelude.{◌≡◌, ◌≤◌, ◌^◌, ℕ, List, Option, Some, ⊤}
+use Rattle.std.specs.Option.{ForSome}
+use Rattle.rg_bytes.specs.Counts.{Rose}
+use Rattle.rg_dump.specs.Dump.{damage_of}
+use Rattle.rg_event.specs.Shapes.{Shape}
+use Rattle.rg_event.specs.declared.event.Event.{Event}
+use Rattle.rg_event.specs.declared.room.Room.{Room}
+use Rattle.rg_host.specs.Image.{Image}
+use Rattle.rg_log.specs.Log.{HasEvents, schema_payload}
+use Rattle.rg_reservoir.specs.Attached.{IsOther}
+use Rattle.rg_verify.specs.declared.fault.VerifyFault.{VerifyFault}
+use Rattle.rg_verify.specs.declared.fault.VerifyFault.TheVariants.{Disk, Damaged, SchemaDiffers, Memory, Write}
+
+-- A call that puts nothing was refused: each fault its cause, where these say which place may be damaged, and whether the log may be of another
+-- schema; want of memory has none.
+abbrev pub IsUnjudged : (ℕ → Type 0) → Type 0 → ℕ → ℕ → VerifyFault → Type 0
+IsUnjudged IsDamaged is_other before after Disk = Rose before after
+IsUnjudged IsDamaged is_other before after (Damaged place) = IsDamaged place
+IsUnjudged IsDamaged is_other before after SchemaDiffers = is_other
+IsUnjudged IsDamaged is_other before after Memory = ⊤
+IsUnjudged IsDamaged is_other before after Write = ⊥
+
+-- the first damaged place of the log, where the host tells its image
+abbrev pub IsFirstDamage : Option Image → ℕ → Type 0
+IsFirstDamage now place = ForSome now (λ v. damage_of (v 2) ≡ Some place)
+
+-- the log is of another schema than this, and has no events of it
+pub record IsOfOther (shape : Shape) (now : Option Image) : Type 0 where
+  pub other : ForSome now (λ v. IsOther (schema_payload shape) (v 2))
+  pub no_events : (v : Image) (events : List Event) → now ≡ Some v → HasEvents shape events (v 2) → ⊥
+
+-- rooms and a limit with which a log can be read
+pub record IsReadable (room : Room) : Type 0 where
+  pub chunk : (1 ≤ room.chunk) × (room.chunk ≤ 4096)
+  pub cache : (1 ≤ room.cache) × (room.cache ≤ 1024)
+  pub limit : room.limit ≤ 2 ^ 40

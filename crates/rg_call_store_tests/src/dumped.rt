@@ -1,7 +1,7 @@
-use rg_call::railgun;
-use rg_host::{Image, MemHost, MemSource};
+use super::setting::{Call, RUN, assert_on, assert_over, host_of, status_on, text_behind};
 use rg_report::Status;
 use std::alloc::Global;
+use std::process::Abort;
 use std::test::Fail;
 
 /// The frame of the schema `payments(ts,card:text,merchant:text,amount:int)`, that of a chunk of
@@ -20,74 +20,81 @@ pub(super) const LOG: [u8; 164] = [
 const TEXT: &str =
     "payments(ts,card:text,merchant:text,amount:int)\n0,0,c1,m1,100\n1,299999,c1,m2,200\n";
 
-/// What a dump of a store with this log puts, and its status, where calls of these numbers fail.
-fn dumped(alloc: Global, log: &[u8], failing: &[u64]) -> Result<(String, Status), Fail> {
-    let mut words = Vec::new(alloc);
-    for word in ["dump", "store"] {
-        words.push(String::from_str(alloc, word)?)?;
-    }
-    let mut image = Image::new(alloc);
-    image.set(2, log.to_vec(alloc)?)?;
-    let mut host = MemHost::new(alloc, image, failing.to_vec(alloc)?)?;
-    let mut plan = MemSource::new(Vec::new(alloc), Vec::new(alloc));
-    let mut input = MemSource::new(Vec::new(alloc), Vec::new(alloc));
-    let mut refusal = None;
-    let status = railgun(
-        alloc,
-        &words,
-        &mut plan,
-        &mut input,
-        &mut host,
-        &mut refusal,
-    );
-    let text = String::from_utf8(host.output().to_vec(alloc)?)?;
-    Ok((text, status))
-}
+/// A dump of that log, which fails where it reads a plan or an input.
+pub(super) const DUMP: Call<'static> = Call {
+    words: &["dump", "store"],
+    failing_plan_reads: &[0],
+    failing_reads: &[0],
+    wanted: TEXT,
+    ..RUN
+};
 
 #[test]
 fn a_dump_prints_the_schema_and_the_payments(rt: HostRuntime) -> Result<(), Fail> {
-    let rows: [(&[u8], &str); 2] = [(&LOG, TEXT), (b"", "")];
-    for (log, wanted) in rows {
-        let (text, status) = dumped(rt.alloc(), log, &[])?;
-        assert_eq!(rt; text.as_str(), wanted);
-        assert_eq!(rt; status, Status::Ok);
-    }
-    Ok(())
+    assert_over(&rt, &LOG, &[DUMP])?;
+    assert_over(&rt, b"", &[Call { wanted: "", ..DUMP }])
 }
 
 #[test]
 fn a_damaged_log_is_dumped_up_to_its_damage(rt: HostRuntime) -> Result<(), Fail> {
-    let rows: [(&[u8], &str); 2] = [
-        (
-            &[1, 0, 0, 0, 0, 0, 0, 0, 0xff, 0],
-            "refused store damaged 0\n",
-        ),
-        (
-            &LOG[..100],
-            "payments(ts,card:text,merchant:text,amount:int)\nrefused store damaged 57\n",
-        ),
-    ];
-    for (log, wanted) in rows {
-        let (text, status) = dumped(rt.alloc(), log, &[])?;
-        assert_eq!(rt; text.as_str(), wanted);
-        assert_eq!(rt; status.number(), 4);
-    }
-    Ok(())
+    assert_over(
+        &rt,
+        &[1, 0, 0, 0, 0, 0, 0, 0, 0xff, 0],
+        &[Call {
+            wanted: "refused store damaged 0\n",
+            ends: Status::Store,
+            ..DUMP
+        }],
+    )?;
+    assert_over(
+        &rt,
+        &LOG[..100],
+        &[Call {
+            wanted: "payments(ts,card:text,merchant:text,amount:int)\nrefused store damaged 57\n",
+            ends: Status::Store,
+            ..DUMP
+        }],
+    )
+}
+
+/// A dump of that log whose first call fails, which is on the file, says so.
+fn assert_fails_first(rt: &(impl Abort + AllocGlobal)) -> Result<(), Fail> {
+    let mut host = host_of(rt.alloc(), &LOG, &[0])?;
+    let done = assert_on(
+        rt,
+        &Call {
+            wanted: "failed disk\n",
+            ends: Status::Disk,
+            ..DUMP
+        },
+        &mut host,
+    );
+    drop(host);
+    done
+}
+
+/// Whether a dump of that log whose call of this number fails puts a front of the text; none where that call isn't a
+/// put.
+fn puts_front(alloc: Global, call: u64) -> Result<Option<bool>, Fail> {
+    let mut host = host_of(alloc, &LOG, &[call])?;
+    let status = status_on(alloc, &DUMP, &mut host);
+    let is_front = TEXT.starts_with(text_behind(&host, 0));
+    drop(host);
+    Ok(match status? {
+        Status::Write => Some(is_front),
+        _ => None,
+    })
 }
 
 #[test]
 fn a_dump_whose_calls_fail_says_so(rt: HostRuntime) -> Result<(), Fail> {
-    // the first call is on the file
-    let (text, status) = dumped(rt.alloc(), &LOG, &[0])?;
-    assert_eq!(rt; text.as_str(), "failed disk\n");
-    assert_eq!(rt; status.number(), 7);
+    assert_fails_first(&rt)?;
     // and one of the next is the first put
     let mut put_failed = false;
     for call in 1..9 {
-        let (text, status) = dumped(rt.alloc(), &LOG, &[call])?;
-        if status == Status::Write {
+        if let Some(is_front) = puts_front(rt.alloc(), call)? {
             put_failed = true;
-            assert!(rt; TEXT.starts_with(text.as_str()), "at {call}");
+            assert!(rt; is_front, "at {call}");
         }
     }
     assert!(rt; put_failed);

@@ -3,93 +3,218 @@ use rg_host::{Host, Image, MemHost, MemSource};
 use rg_report::Status;
 use std::alloc::Global;
 use std::process::Abort;
+use std::str;
 use std::test::Fail;
-
-/// What a call finds: its words, the bytes of plan and input, and which of their reads fail.
-#[derive(Clone, Copy)]
-pub(super) struct Setting<'a> {
-    pub(super) words: &'a [&'a str],
-    pub(super) plan: &'a [u8],
-    pub(super) input: &'a [u8],
-    pub(super) failing_plan_reads: &'a [u64],
-    pub(super) failing_reads: &'a [u64],
-}
-
-pub(super) const RUN: [&str; 3] = ["run", "plan", "store"];
 
 pub(super) const PAYMENTS: &str = "\"ts\", \"card:text\", \"merchant:text\", \"amount:int\"";
 
 pub(super) const CARDS: &str = "\"ts\", \"card:text\"";
-
-pub(super) const TEN: &str = "SELECT count(*) FROM payments GROUP BY card OVER SLIDING 10 ms";
 
 pub(super) const TOTALS: &str =
     "SELECT count(*), sum(amount) FROM payments GROUP BY card OVER SLIDING 5 minutes";
 
 pub(super) const SMALL: &str = "cache = 1\nchunk = 2\ncommit = 2\nsave = 4\n";
 
-/// The text of a plan.
-pub(super) fn plan_of(
-    alloc: Global,
-    query: &str,
-    columns: &str,
-    settings: &str,
-) -> Result<String, Fail> {
+/// Three payments of one card, of which the third meets a window without the first.
+pub(super) const THREE: &[u8] = b"0,c1,m1,100\n299999,c1,m2,200\n300000,c1,m1,50\n";
+
+/// What a run in small chunks over an empty store puts for them.
+pub(super) const THREE_PUT: &str =
+    "open 0 0 0\n0 ok 1 100\n1 ok 2 300\nstored 2\n2 ok 2 250\nstored 3\nsaved 3\ndone 3 3\n";
+
+/// Eight payments of one card.
+pub(super) const EIGHT: &[u8] =
+    b"0,c1,m1,1\n1,c1,m1,1\n2,c1,m1,1\n3,c1,m1,1\n4,c1,m1,1\n5,c1,m1,1\n6,c1,m1,1\n7,c1,m1,1\n";
+
+/// What a run in small chunks over an empty store puts for them.
+pub(super) const EIGHT_PUT: &str =
+    "open 0 0 0\n0 ok 1 1\n1 ok 2 2\nstored 2\n2 ok 3 3\n3 ok 4 4\nstored 4\nsaved 4\n4 ok 5 5\n5 ok 6 6\nstored 6\n6 ok 7 7\n7 ok 8 8\nstored 8\nsaved 8\nstored 8\nsaved 8\ndone 8 8\n";
+
+/// What a call finds, what it puts, and how it ends.
+#[derive(Clone, Copy)]
+pub(super) struct Call<'a> {
+    pub(super) words: &'a [&'a str],
+    /// The plan's queries, as they stand between its outer quotes.
+    pub(super) query: &'a str,
+    pub(super) columns: &'a str,
+    pub(super) settings: &'a str,
+    pub(super) input: &'a [u8],
+    pub(super) failing_plan_reads: &'a [u64],
+    pub(super) failing_reads: &'a [u64],
+    pub(super) wanted: &'a str,
+    pub(super) ends: Status,
+}
+
+/// A run over payments, in small chunks, that nothing fails.
+pub(super) const RUN: Call<'static> = Call {
+    words: &["run", "plan", "store"],
+    query: TOTALS,
+    columns: PAYMENTS,
+    settings: SMALL,
+    input: b"",
+    failing_plan_reads: &[],
+    failing_reads: &[],
+    wanted: "",
+    ends: Status::Ok,
+};
+
+/// The text of a call's plan.
+fn plan_of(alloc: Global, call: &Call<'_>) -> Result<String, Fail> {
+    let Call {
+        query,
+        columns,
+        settings,
+        ..
+    } = *call;
     Ok(format!(in alloc;
         "queries = [\"{query}\"]\n\n[stream]\nname = \"payments\"\ncolumns = [{columns}]\n\n[settings]\n{settings}"
     )?)
 }
 
-/// A run that nothing fails.
-pub(super) fn sound<'a>(plan: &'a [u8], input: &'a [u8]) -> Setting<'a> {
-    Setting {
-        words: &RUN,
-        plan,
-        input,
-        failing_plan_reads: &[],
-        failing_reads: &[],
+/// What the program is handed.
+#[derive(Drop)]
+struct Given {
+    words: Vec<String>,
+    plan: MemSource,
+    input: MemSource,
+}
+
+fn words_of(alloc: Global, words: &[&str]) -> Result<Vec<String>, Fail> {
+    let mut owned = Vec::new(alloc);
+    for word in words {
+        owned.push(String::from_str(alloc, word)?)?;
+    }
+    Ok(owned)
+}
+
+fn source_of(alloc: Global, bytes: &[u8], failing: &[u64]) -> Result<MemSource, Fail> {
+    Ok(MemSource::new(bytes.to_vec(alloc)?, failing.to_vec(alloc)?))
+}
+
+impl Given {
+    fn new(alloc: Global, plan: &[u8], call: &Call<'_>) -> Result<Given, Fail> {
+        Ok(Given {
+            words: words_of(alloc, call.words)?,
+            plan: source_of(alloc, plan, call.failing_plan_reads)?,
+            input: source_of(alloc, call.input, call.failing_reads)?,
+        })
+    }
+
+    fn ends_on<H: Host>(&mut self, alloc: Global, host: &mut H) -> Status {
+        let mut refusal = None;
+        railgun(
+            alloc,
+            &self.words,
+            &mut self.plan,
+            &mut self.input,
+            host,
+            &mut refusal,
+        )
     }
 }
 
-/// The status of the call on this host.
-pub(super) fn status_on<H: Host>(
+/// The status of a call by this plan.
+fn status_by(
     alloc: Global,
-    setting: &Setting<'_>,
-    host: &mut H,
+    plan: &[u8],
+    call: &Call<'_>,
+    host: &mut MemHost,
 ) -> Result<Status, Fail> {
-    let mut words = Vec::new(alloc);
-    for word in setting.words {
-        words.push(String::from_str(alloc, word)?)?;
+    let mut given = Given::new(alloc, plan, call)?;
+    let status = given.ends_on(alloc, host);
+    drop(given);
+    Ok(status)
+}
+
+/// The status of a call on this host.
+pub(super) fn status_on(
+    alloc: Global,
+    call: &Call<'_>,
+    host: &mut MemHost,
+) -> Result<Status, Fail> {
+    let plan = plan_of(alloc, call)?;
+    let status = status_by(alloc, plan.as_bytes(), call, host);
+    drop(plan);
+    status
+}
+
+/// What a host has put behind so many bytes.
+pub(super) fn text_behind(host: &MemHost, before: usize) -> &str {
+    str::from_utf8(host.output().get(before..).unwrap_or(b"")).unwrap_or("no text")
+}
+
+/// A host whose log has these bytes, and on which these calls fail.
+pub(super) fn host_of(alloc: Global, log: &[u8], failing: &[u64]) -> Result<MemHost, Fail> {
+    let mut image = Image::new(alloc);
+    image.set(2, log.to_vec(alloc)?)?;
+    Ok(MemHost::new(alloc, image, failing.to_vec(alloc)?)?)
+}
+
+/// A host with the files of this one, on which these calls fail.
+pub(super) fn host_over(alloc: Global, files: &MemHost, failing: &[u64]) -> Result<MemHost, Fail> {
+    let mut image = Image::new(alloc);
+    for file in 0..3 {
+        image.set(file, files.file(file).to_vec(alloc)?)?;
     }
-    let mut plan = MemSource::new(
-        setting.plan.to_vec(alloc)?,
-        setting.failing_plan_reads.to_vec(alloc)?,
-    );
-    let mut input = MemSource::new(
-        setting.input.to_vec(alloc)?,
-        setting.failing_reads.to_vec(alloc)?,
-    );
-    let mut refusal = None;
-    Ok(railgun(alloc, &words, &mut plan, &mut input, host, &mut refusal))
+    Ok(MemHost::new(alloc, image, failing.to_vec(alloc)?)?)
 }
 
-/// What the call puts over an empty store, and its status.
-pub(super) fn outcome(alloc: Global, setting: &Setting<'_>) -> Result<(String, Status), Fail> {
-    let mut host = MemHost::new(alloc, Image::new(alloc), Vec::new(alloc))?;
-    let status = status_on(alloc, setting, &mut host)?;
-    let text = String::from_utf8(host.output().to_vec(alloc)?)?;
-    Ok((text, status))
-}
-
-/// The call over an empty store puts this text, and ends so.
-pub(super) fn assert_outcome(
+/// A call on this host puts what is wanted behind what was put before, and ends so.
+pub(super) fn assert_on(
     rt: &(impl Abort + AllocGlobal),
-    setting: &Setting<'_>,
-    wanted: &str,
-    ends: Status,
+    call: &Call<'_>,
+    host: &mut MemHost,
 ) -> Result<(), Fail> {
-    let (text, status) = outcome(rt.alloc(), setting)?;
-    assert_eq!(rt; text.as_str(), wanted);
-    assert_eq!(rt; status, ends);
+    let before = host.output().len();
+    let status = status_on(rt.alloc(), call, host)?;
+    assert_eq!(rt;
+        (text_behind(host, before), status),
+        (call.wanted, call.ends)
+    );
+    Ok(())
+}
+
+fn assert_all_on(
+    rt: &(impl Abort + AllocGlobal),
+    calls: &[Call<'_>],
+    host: &mut MemHost,
+) -> Result<(), Fail> {
+    for call in calls {
+        assert_on(rt, call, host)?;
+    }
+    Ok(())
+}
+
+/// What is left by these calls on a host whose log has these bytes, one after the other, of which each puts what
+/// is wanted and ends so.
+pub(super) fn left_by(
+    rt: &(impl Abort + AllocGlobal),
+    log: &[u8],
+    calls: &[Call<'_>],
+) -> Result<MemHost, Fail> {
+    let mut host = host_of(rt.alloc(), log, &[])?;
+    match assert_all_on(rt, calls, &mut host) {
+        Ok(()) => Ok(host),
+        Err(fail) => Err(fail),
+    }
+}
+
+/// Each of these calls puts what is wanted, and ends so, over one store whose log has these bytes at first, one
+/// after the other.
+pub(super) fn assert_over(
+    rt: &(impl Abort + AllocGlobal),
+    log: &[u8],
+    calls: &[Call<'_>],
+) -> Result<(), Fail> {
+    let host = left_by(rt, log, calls)?;
+    drop(host);
+    Ok(())
+}
+
+/// The same of an empty store of its own for each.
+pub(super) fn assert_each(rt: &(impl Abort + AllocGlobal), calls: &[Call<'_>]) -> Result<(), Fail> {
+    for call in calls {
+        assert_over(rt, b"", &[*call])?;
+    }
     Ok(())
 }

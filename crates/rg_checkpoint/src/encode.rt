@@ -26,6 +26,8 @@ pub fn encode_checkpoint<T: Table>(
 ) -> Result<(), TableFault>
     ensures written { T.tells table.old → OnOk result (Encodes (T.cell table.old) queries.now count spots.now out.old.items out.new.items) }
     ensures same { T.tells table.old → Same (T.cell table.old) (T.cell table.new) }
+    ensures same_named { T.tells table.old → SameMarks (T.named table.old) (T.named table.new) }
+    ensures same_there { T.tells table.old → SameMarks (T.there table.old) (T.there table.new) }
     ensures err { OnErr result (out.new.items ≡ out.old.items) }
     ensures no_bad { (n : ℕ) → IsErrOf result (TableFault.BadState n) → ⊥ }
     ensures disk { IsErrOf result TableFault.Disk → Rose (T.faults table.old) (T.faults table.new) }

@@ -55,6 +55,14 @@ sized_left Step now may after v told settled left slots sized u one = record {
   second = subst (λ (bytes : List ℕ). AreSizes bytes slots.second_sizes) (sym (slot_same 1 Step now may v u (λ e. absurd (omega (arith, e))) told settled.second (left u one))) sized.second;
 }
 
+-- and what they hold
+pub held_left : (Step : List ℕ → List ℕ → Type 0) (now : Option Image) (may after : Image → Type 0) (v : Image) → now ≡ Some v → AreSettled now may → ((u : Image) → after u → Leaves 2 Step now may u)
+    → (saved : Saved) → AreSlots v saved → (u : Image) → after u → AreSlots u saved
+held_left Step now may after v told settled left saved are u one = record {
+  first = subst (λ (bytes : List ℕ). IsSlot bytes saved.first) (sym (slot_same 0 Step now may v u (λ e. absurd (omega (arith, e))) told settled.first (left u one))) are.first;
+  second = subst (λ (bytes : List ℕ). IsSlot bytes saved.second) (sym (slot_same 1 Step now may v u (λ e. absurd (omega (arith, e))) told settled.second (left u one))) are.second;
+}
+
 -- and their files are still longer than those
 pub reach_left : (Step : List ℕ → List ℕ → Type 0) (now then : Option Image) (may after : Image → Type 0) → (now ≡ None → then ≡ None) → ((w : Image) → then ≡ Some w → after w) → AreSettled now may → ((u : Image) → after u → Leaves 2 Step now may u)
     → (slots : Attached) → ReachesSlots slots now → ReachesSlots slots then
@@ -74,13 +82,9 @@ module _ (plan : Planned) (schema : IsSchema plan.shape) (now then : Option Imag
       let v = openable.image in
       let at : may v = reads v openable.told in
       let events = events_of plan.shape (v 2) schema (openable.truthful v at).log (openable.schema v at) in
-      let here = slots v openable.told in
       record {
         reservoir = record { sound = (sound v events.0 openable.told settled.log events.1).0; going = going; file = file; shape = shape };
         empty = empty;
         truthful = λ u one. let step = stepped plan schema None now may v openable.told settled.log u (left u one) in step.truthful (openable.truthful step.from step.left);
-        slots = λ u one. record {
-          first = subst (λ (bytes : List ℕ). IsSlot bytes saved.first) (sym (slot_same 0 (SchemaAdded (schema_payload plan.shape)) now may v u (λ e. absurd (omega (arith, e))) openable.told settled.first (left u one))) here.first;
-          second = subst (λ (bytes : List ℕ). IsSlot bytes saved.second) (sym (slot_same 1 (SchemaAdded (schema_payload plan.shape)) now may v u (λ e. absurd (omega (arith, e))) openable.told settled.second (left u one))) here.second;
-        };
+        slots = held_left (SchemaAdded (schema_payload plan.shape)) now may after v openable.told settled left saved (slots v openable.told);
       }

@@ -1,6 +1,6 @@
 -- A store that was found, and the engine that is started over it.
 use Rattle.std.proofs.Common.{◌≡◌, ◌∙◌, ◌↔◌, ℕ, zero, suc, ◌<◌, Bool, true, false, List, [], ◌∷◌, length, Option, Some, None, refl, sym, ap, subst, arith}
-use Rattle.std.specs.Prelude.{All, is_some}
+use Rattle.std.specs.Prelude.{All}
 use Rattle.rg_host.specs.Image.{Image}
 use Rattle.rg_event.specs.Rising.{next_offset}
 use Rattle.rg_event.specs.declared.event.Event.{Event}
@@ -13,18 +13,15 @@ use Rattle.rg_config.specs.Plans.{Planned}
 use Rattle.rg_config.specs.Read.{IsSaid}
 use Rattle.rg_query.specs.Legal.{IsLegalQuery}
 use Rattle.rg_plan.specs.Plans.{Tasks, plan_for}
-use Rattle.rg_state.specs.Changes.{Marks, IsSince}
-use Rattle.rg_state.specs.Rows.{Cells, Entry, at_in}
+use Rattle.rg_state.specs.Rows.{Cells}
 use Rattle.rg_engine.specs.Feeding.{Serves}
 use Rattle.rg_engine.specs.Seen.{Seen}
 use Rattle.rg_engine.proofs.Legal.{serves}
 use Rattle.rg_checkpoint.specs.declared.base.Checkpoint.{Checkpoint}
-use Rattle.rg_checkpoint.specs.declared.sizes.SlotSizes.{SlotSizes}
-use Rattle.rg_checkpoint.specs.Slots.{Attached, HasSlot, IsSlot, AreSizes, sizes_in, IsKeep}
+use Rattle.rg_checkpoint.specs.Slots.{HasSlot, IsSlot, IsKeep}
 use Rattle.rg_restore.specs.declared.choosing.Saved.{Saved}
 use Rattle.rg_restore.specs.Fit.{IsFit}
 use Rattle.rg_restore.specs.Naming.{HeadsName, NamesIn}
-use Rattle.rg_restore.specs.Since.{IsSinceSlot}
 use Rattle.rg_restore.specs.Slots.{slot_in, AreTruthful, IsFrom, HaveBegun}
 use Rattle.rg_restore.specs.Truthful.{IsTruthful, EngineStands}
 use Rattle.rg_restore.proofs.RowKinds.{truthful_fits}
@@ -34,7 +31,7 @@ use Rattle.rg_reservoir.specs.Kept.{Base, base, opened, next_of, time_of, cache_
 use Rattle.rg_reservoir.specs.GoingLaws.{all_long}
 use Rattle.rg_reservoir.specs.declared.reservoir.Reservoir.{Reservoir}
 use Rattle.rg_open.specs.Truth.{texts_of, IsTrueOf}
-use Rattle.rg_open.specs.Opened.{IsKeptInSlot, AreSized, AreSizesLeft, IsKeptSince}
+use Rattle.rg_open.specs.Opened.{IsKeptInSlot}
 use Rattle.rg_open.proofs.Sound.{framed}
 use Rattle.rg_open.proofs.Saving.{of_plan}
 use Rattle.rg_open.specs.Opening.{IsFound, IsStarted}
@@ -95,20 +92,6 @@ from_same A B slots same (Some i) from (checkpoint, best, count) = (
   },
   count,
 )
-
-one_checkpoint : (slot : Option Checkpoint) (a b : Checkpoint) → slot ≡ Some a → slot ≡ Some b → a ≡ b
-one_checkpoint slot a b x y = let e : ◌≡◌ {A = Option Checkpoint} (Some a) (Some b) = sym x ∙ y in cc
-
--- the sizes of one of the two slots
-sized_at : (slots : Attached) (u : Image) → AreSized slots u → (i : ℕ) → i < 2 → AreSizes (u i) (sizes_in slots i)
-sized_at slots u sized zero below = sized.first
-sized_at slots u sized (suc zero) below = sized.second
-sized_at slots u sized (suc (suc i)) below = absurd (omega (arith, below))
-
--- they are known of a complete slot
-known_by : (bytes : List ℕ) (sizes : Option SlotSizes) (checkpoint : Checkpoint) → AreSizes bytes sizes → HasSlot bytes checkpoint → is_some sizes ≡ true
-known_by bytes None checkpoint none slot = absurd (none checkpoint slot)
-known_by bytes (Some sizes) checkpoint are slot = refl
 
 module _ (plan : Planned) (now : Option Image) (may : Image → Type 0) (r : Reservoir) (saved : Saved) (found : IsFound plan now may r saved) where
   abbrev image : Image
@@ -173,27 +156,6 @@ module _ (plan : Planned) (now : Option Image) (may : Image → Type 0) (r : Res
         below zero c there = omega arith
         below (suc zero) c there = omega arith
         below (suc (suc n)) c there = absurd cc
-
-    -- and what is told since its checkpoint
-    pub kept_since : (after : Image → Type 0) → ((u : Image) → after u → may u) → ((v : Image) → now ≡ Some v → may v) → (Names : Spot → Type 0) (texts : List (List ℕ)) (fields : List Field) (committed : ℕ) (slots : Attached) → AreSizesLeft may slots
-        → (keep : Option ℕ) (from : ℕ) → IsFrom (IsFit Names texts fields tasks committed) (slot_in saved) keep from → (named there : Marks) (cells : Cells) → IsSinceSlot (slot_in saved) keep named there cells
-        → (slot : ℕ) → keep ≡ Some slot → IsKeptSince after slot from texts (sizes_in slots slot) named there cells
-    kept_since after fewer reads Names texts fields committed slots sized None from is named there cells since slot e = absurd cc
-    kept_since after fewer reads Names texts fields committed slots sized (Some i) from (checkpoint, best, count) named there cells (rows, at, since) slot e =
-        let same : i ≡ slot = cc in
-        let is = slot_of i checkpoint best.there in
-        let one : at.0 ≡ checkpoint = one_checkpoint (slot_in saved i) at.0 checkpoint at.1 best.there in
-        let now_left = reads image found.reservoir.sound.1 in
-        let below = (is image now_left).0 in
-        subst (λ (n : ℕ). IsKeptSince after n from texts (sizes_in slots n) named there cells) same (record {
-          checkpoint = checkpoint;
-          has = λ u left. (is u (fewer u left)).1;
-          known = known_by (image i) (sizes_in slots i) checkpoint (sized_at slots image (sized image now_left) i below) (is image now_left).1;
-          sizes_are = λ u left. sized_at slots u (sized u (fewer u left)) i below;
-          count = sym count;
-          texts_are = best.fit.queries_are;
-          since = subst (λ (l : List Entry). IsSince (at_in l) named there cells) (at.2 ∙ ap (λ (c : Checkpoint). c.rows) one) since;
-        })
 
     -- an engine that was started over it
     module _ (then : Option Image) (after : Image → Type 0) (s : Reservoir) (based : base s ≡ base r) (none : opened s ≡ []) (sound : IsSound then after s) (fewer : (u : Image) → after u → may u) where

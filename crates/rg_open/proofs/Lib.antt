@@ -7,6 +7,7 @@ pub mod Settles
 pub mod Attached
 pub mod Logs
 pub mod Found
+pub mod Known
 pub mod Blame
 pub mod Causes
 pub mod Within

@@ -39,6 +39,7 @@ pub record HasFound (plan : Plan) (now then : Option Image) (may after : Image �
   pub log : (v : Image) (events : List Event) → now ≡ Some v → HasEvents plan.schema events (v 2) → IsOpenedFor (planned plan) then after r
   pub settled : (v : Image) → now ≡ Some v → AreSettled then after
   pub sizes : (v : Image) → now ≡ Some v → AreSizesLeft after slots
+  pub slots_left : (v : Image) → now ≡ Some v → (u : Image) → after u → AreSlots u saved
   -- over any image
   pub slots_are : ForSome now (λ v. AreSlots v saved)
   pub slots_go : slots.ended ≡ false

@@ -1,21 +1,24 @@
 -- What is told of a store that was opened once its files were settled, and why one wasn't.
-use Rattle.std.specs.Prelude.{◌≡◌, ◌⊎◌, ◌+◌, ℕ, List, [], take, false, Option, Some}
+use Rattle.std.specs.Prelude.{◌≡◌, ◌⊎◌, ◌+◌, ◌≤◌, ℕ, List, [], take, false, Option, Some}
 use Rattle.std.specs.Option.{ForSome}
 use Rattle.rg_bytes.specs.Counts.{Rose}
 use Rattle.rg_host.specs.Image.{Image}
 use Rattle.rg_event.specs.Rising.{next_offset}
+use Rattle.rg_event.specs.Shapes.{Shape}
 use Rattle.rg_event.specs.declared.event.Event.{Event}
 use Rattle.rg_frame.specs.LogState.{ReachesEnd}
 use Rattle.rg_log.specs.Log.{schema_payload, HasEvents}
 use Rattle.rg_config.specs.Plans.{planned}
+use Rattle.rg_config.specs.Read.{IsReadPlan}
 use Rattle.rg_config.specs.declared.plan.Plan.{Plan}
+use Rattle.rg_plan.specs.Plans.{Tasks}
 use Rattle.rg_state.specs.Changes.{Marks}
 use Rattle.rg_state.specs.Keeping.{TableKept}
 use Rattle.rg_state.specs.Rows.{Cells}
 use Rattle.rg_engine.specs.Passed.{passed_count}
 use Rattle.rg_engine.specs.Seen.{Seen}
 use Rattle.rg_checkpoint.specs.Slots.{Attached, ReachesSlots, sizes_in, IsKeep}
-use Rattle.rg_restore.specs.Opening.{IsGoing}
+use Rattle.rg_restore.specs.Opening.{IsEmpty, IsGoing}
 use Rattle.rg_reservoir.specs.Attached.{IsOther, IsBadFrame}
 use Rattle.rg_reservoir.specs.Chain.{IsIllegal}
 use Rattle.rg_reservoir.specs.Kept.{base, opened, room_of, cache_of, log_of, next_of, all_events}
@@ -28,12 +31,27 @@ use Rattle.rg_open.specs.Unfit.{IsUnfit, SaysWhy}
 use Rattle.rg_open.specs.declared.fault.OpenFault.{OpenFault}
 use Rattle.rg_open.specs.declared.fault.OpenFault.TheVariants.{Disk, Damaged, SchemaDiffers, BadState, Table}
 
+-- A plan as it was read, copies of what is kept of it, and a table without a row.
+pub record IsToOpen (plan : Plan) (shape : Shape) (texts : List (List ℕ)) (tasks : Tasks) (is_told : Type 0) (cells : Cells) : Type 0 where
+  pub read : IsReadPlan plan
+  pub schema : shape ≡ plan.schema
+  pub texts_are : texts ≡ plan.queries
+  pub task : tasks ≡ plan.task
+  pub empty : is_told → IsEmpty cells
+
+-- What stands beside the reservoir of a store that was opened, and how far the store had come.
+pub record HasCome (plan : Plan) (r : Reservoir) (saved : ℕ) (shape : Shape) (texts : List (List ℕ)) (next count from : ℕ) : Type 0 where
+  pub schema : shape ≡ plan.schema
+  pub texts_are : texts ≡ plan.queries
+  pub next_is : next ≡ next_of r
+  pub count_is : count ≡ (base r).committed
+  pub from_is : from ≡ saved
+
 module _ {H T : Type 0} (now : H → Option Image) (may : H → Image → Type 0) (Tells : T → Type 0) (faults : T → ℕ) (named there : T → Marks) (cells : T → Cells) (plan : Plan) (table : T) (old new : H) where
   -- Over a host whose files were settled a store was opened, and its engine went on from so many events, those of that slot.
   pub record HasOpened (before after : ℕ) (r : Reservoir) (engine : Seen T) (slots : Attached) (keep : Option ℕ) (from : ℕ) : Type 0 where
     -- over a truthful store of the plan
     pub started : IsOpenable (planned plan) (now old) (may old) → Tells table → IsStarted (planned plan) (now new) (may new) (Tells engine.table) (cells engine.table) r engine plan.queries keep from
-    pub since : IsOpenable (planned plan) (now old) (may old) → Tells table → (slot : ℕ) → keep ≡ Some slot → IsKeptSince (may new) slot from plan.queries (sizes_in slots slot) (named engine.table) (there engine.table) (cells engine.table)
     pub passed : IsOpenable (planned plan) (now old) (may old) → after ≡ before + passed_count plan.task (take from (all_events (now new) (base r) [])) (all_events (now new) (base r) [])
     pub is_from : (v : Image) → now old ≡ Some v → IsOpenable (planned plan) (now old) (may old) → IsFromIn (planned plan) v from
     -- over a legal log
@@ -43,6 +61,9 @@ module _ {H T : Type 0} (now : H → Option Image) (may : H → Image → Type 0
         → (NodeRuns (planned plan) n (now new) (may new) (Tells engine.table) (cells engine.table) r engine → ⊥) → IsBlamed (planned plan) v events n
     pub placed : (v : Image) (events : List Event) → now old ≡ Some v → HasEvents plan.schema events (v 2) → IsPlaced (planned plan) (now new) (may new) r engine
     -- over any image
+    pub told : (v : Image) → now old ≡ Some v → (w : Image) × (now new ≡ Some w)
+    pub since : (v : Image) → now old ≡ Some v → Tells table → (slot : ℕ) → keep ≡ Some slot → IsKeptSince (may new) slot from plan.queries (sizes_in slots slot) (named engine.table) (there engine.table) (cells engine.table)
+    pub stored : (v : Image) → now old ≡ Some v → from ≤ (base r).committed
     pub settled : (v : Image) → now old ≡ Some v → AreSettled (now new) (may new)
     pub resumed : (v : Image) → now old ≡ Some v → IsResumed v (now new) plan.queries plan.schema.fields plan.task r engine keep from before after
     pub fit : (v : Image) → now old ≡ Some v → IsUnfit (planned plan) v → ⊥

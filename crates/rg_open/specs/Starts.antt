@@ -5,6 +5,7 @@ use Rattle.rg_bytes.specs.Counts.{Rose}
 use Rattle.rg_host.specs.Image.{Image}
 use Rattle.rg_host.specs.Moments.{Moment, LeavesAll}
 use Rattle.rg_config.specs.Plans.{planned}
+use Rattle.rg_config.specs.Read.{IsReadPlan}
 use Rattle.rg_config.specs.declared.plan.Plan.{Plan}
 use Rattle.rg_plan.specs.Plans.{Tasks}
 use Rattle.rg_state.specs.Changes.{Marks}
@@ -29,8 +30,9 @@ use Rattle.rg_open.specs.Opening.{IsFound, IsStarted}
 use Rattle.rg_open.specs.declared.fault.OpenFault.{OpenFault}
 use Rattle.rg_open.specs.declared.fault.OpenFault.TheVariants.{Disk, Damaged, SchemaDiffers, BadState, Table}
 
--- A reservoir that hasn't ended and whose open chunk is empty, a plan's own task, and a table without a row.
+-- A plan as it was read and its own task, a reservoir that hasn't ended and whose open chunk is empty, and a table without a row.
 pub record IsToStart (plan : Plan) (tasks : Tasks) (is_told : Type 0) (cells : Cells) (r : Reservoir) : Type 0 where
+  pub read : IsReadPlan plan
   pub task : tasks ≡ plan.task
   pub going : (base r).ended ≡ false
   pub none : opened r ≡ []

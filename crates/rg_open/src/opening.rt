@@ -17,7 +17,7 @@ ghost use Rattle.rg_checkpoint.specs.Slots.{IsKeep, ReachesSlots, sizes_in};
 ghost use Rattle.rg_restore.specs.Opening.{IsEmpty, IsGoing};
 ghost use Rattle.rg_open.specs.Blame.{IsBlamed, NodeRuns, IsPlaced};
 ghost use Rattle.rg_open.specs.Finds.{WritesSchema};
-ghost use Rattle.rg_open.specs.Opens.{HasOpened, HasNotOpened};
+ghost use Rattle.rg_open.specs.Opens.{IsToOpen, HasCome, HasOpened, HasNotOpened};
 ghost use Rattle.rg_open.specs.Opening.{IsOpenable, IsStarted, IsResumed, IsFromIn};
 ghost use Rattle.rg_open.specs.Opened.{IsKeptSince};
 ghost use Rattle.rg_open.specs.Settling.{AreSettled};
@@ -97,13 +97,10 @@ fn open_settled<H: Host, T: Table, L: Ledger>(
     table: T,
     steps: &mut Steps<L>,
 ) -> Result<(Opened<T>, Resumed), (OpenFault, T)>
-    requires read { IsReadPlan plan.now }
+    requires ready { IsToOpen plan.now copies.schema copies.texts copies.task (T.tells table) (T.cell table) }
     requires settled { AreSettled (H.now host.old) (H.may host.old) }
-    requires copies { (copies.schema ≡ plan.now.schema) × (copies.texts ≡ plan.now.queries) × (copies.task ≡ plan.now.task) }
-    requires empty { T.tells table → IsEmpty (T.cell table) }
     ensures opened { IfOk result (λ r. HasOpened H.now H.may T.tells T.faults T.named T.there T.cell plan.now table host.old host.new steps.old steps.new r.0.reservoir r.0.engine r.0.slots r.0.keep r.1.from) }
-    ensures copies { IfOk result (λ r. (r.0.schema ≡ plan.now.schema) × (r.0.texts ≡ plan.now.queries)) }
-    ensures numbers { IfOk result (λ r. (r.1.next ≡ next_of r.0.reservoir) × (r.1.count ≡ (base r.0.reservoir).committed) × (r.1.from ≡ r.0.saved)) }
+    ensures come { IfOk result (λ r. HasCome plan.now r.0.reservoir r.0.saved r.0.schema r.0.texts r.1.next r.1.count r.1.from) }
     ensures refused { IfErr result (λ refused. HasNotOpened H.now H.may T.tells T.faults T.named T.there T.cell plan.now table host.old host.new (Rose (H.disk_faults host.old) (H.disk_faults host.new)) refused.0 refused.1) }
     ensures writes { WritesSchema H.now H.may H.clock H.since H.said H.disk_faults H.out_faults plan.now host.old host.new }
 {
@@ -170,8 +167,6 @@ pub fn open_store<H: Host, T: Table, L: Ledger>(
     // Over a store whose images are truthful and of the plan's schema or without a frame.
     ensures started { IsOpenable (planned plan.now) (H.now host.old) (H.may host.old) → T.tells table →
         IfOk result (λ r. IsStarted (planned plan.now) (H.now host.new) (H.may host.new) (T.tells r.0.engine.table) (T.cell r.0.engine.table) r.0.reservoir r.0.engine r.0.texts r.0.keep r.0.saved) }
-    ensures since { IsOpenable (planned plan.now) (H.now host.old) (H.may host.old) → T.tells table →
-        IfOk result (λ r. (slot : ℕ) → r.0.keep ≡ Some slot → IsKeptSince (H.may host.new) slot r.0.saved plan.now.queries (sizes_in r.0.slots slot) (T.named r.0.engine.table) (T.there r.0.engine.table) (T.cell r.0.engine.table)) }
     ensures passed { IsOpenable (planned plan.now) (H.now host.old) (H.may host.old) →
         IfOk result (λ r. steps.new ≡ steps.old + passed_count plan.now.task (take r.1.from (all_events (H.now host.new) (base r.0.reservoir) [])) (all_events (H.now host.new) (base r.0.reservoir) [])) }
     ensures never_differs { IsOpenable (planned plan.now) (H.now host.old) (H.may host.old) → IfErr result (λ refused. refused.0 ≡ OpenFault.SchemaDiffers → ⊥) }
@@ -180,10 +175,17 @@ pub fn open_store<H: Host, T: Table, L: Ledger>(
     ensures never_damaged { (p : ℕ) → IsOpenable (planned plan.now) (H.now host.old) (H.may host.old) → T.tells table → IfErr result (λ refused. refused.0 ≡ OpenFault.Damaged p → ⊥) }
 
     // Over any image that is told: its log's events, from where the engine went on, and what was passed.
+    ensures told { (v : Image) → H.now host.old ≡ Some v → OnOk result ((w : Image) × (H.now host.new ≡ Some w)) }
     ensures settled { (v : Image) → H.now host.old ≡ Some v → OnOk result (AreSettled (H.now host.new) (H.may host.new)) }
     ensures events { (v : Image) (events : List Event) → H.now host.old ≡ Some v → HasEvents plan.now.schema events (v 2) → IfOk result (λ r. (all_events (H.now host.new) (base r.0.reservoir) [] ≡ events) × (r.1.next ≡ next_offset events)) }
     ensures resumed { (v : Image) → H.now host.old ≡ Some v → IfOk result (λ r.
         IsResumed v (H.now host.new) plan.now.queries plan.now.schema.fields plan.now.task r.0.reservoir r.0.engine r.0.keep r.1.from steps.old steps.new) }
+    // What is kept of the slot that was used: its checkpoint is of no more events than there are, its sizes are known, and changes are told
+    // since its rows.
+    ensures since { (v : Image) → H.now host.old ≡ Some v → T.tells table →
+        IfOk result (λ r. (slot : ℕ) → r.0.keep ≡ Some slot → IsKeptSince (H.may host.new) slot r.0.saved plan.now.queries (sizes_in r.0.slots slot) (T.named r.0.engine.table) (T.there r.0.engine.table) (T.cell r.0.engine.table)) }
+    ensures stored { (v : Image) → H.now host.old ≡ Some v → IfOk result (λ r. r.0.saved ≤ (base r.0.reservoir).committed) }
+
     // Where a state is bad, and of each node that can't be carried on, the checkpoint that was used is to blame.
     ensures bad { (v : Image) (events : List Event) (n : ℕ) → H.now host.old ≡ Some v → HasEvents plan.now.schema events (v 2) → T.tells table →
         IfErr result (λ refused. refused.0 ≡ OpenFault.BadState n → IsBlamed (planned plan.now) v events n) }

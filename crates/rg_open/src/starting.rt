@@ -1,6 +1,5 @@
 ghost use Rattle.std.specs.Prelude.{◌≡◌, ◌+◌, ◌<◌, length, IfOk, IfErr};
 ghost use Rattle.rg_bytes.specs.Counts.{Rose};
-ghost use Rattle.rg_config.specs.Read.{IsReadPlan};
 ghost use Rattle.rg_reservoir.specs.Kept.{base, opened, time_of};
 ghost use Rattle.rg_open.specs.Starts.{IsToStart, HasStarted, HasNotStarted, LeavesLog};
 
@@ -38,7 +37,6 @@ fn start_over<H: Host, T: Table, L: Ledger>(
     saved: Saved,
     steps: &mut Steps<L>,
 ) -> Result<(Engine<T>, Origin), (OpenFault, T)>
-    requires read { IsReadPlan plan.now }
     requires start { IsToStart plan.now task (T.tells table) (T.cell table) past.old.reservoir.now }
     ensures started { IfOk result (λ r. HasStarted H.now H.may T.tells T.faults T.named T.there T.cell plan.now saved table past.old.host.now past.new.host.now past.old.reservoir.now past.new.reservoir.now task steps.old steps.new r.0 r.1.slot r.1.from) }
     ensures refused { IfErr result (λ refused. HasNotStarted H.now H.may T.tells T.faults T.named T.there T.cell plan.now saved table past.old.host.now past.new.host.now past.old.reservoir.now past.new.reservoir.now (Rose (H.disk_faults past.old.host.now) (H.disk_faults past.new.host.now)) refused.0 refused.1) }
@@ -76,7 +74,6 @@ pub(crate) fn start<H: Host, T: Table, L: Ledger>(
     saved: Saved,
     steps: &mut Steps<L>,
 ) -> Result<(Engine<T>, Origin), (OpenFault, T)>
-    requires read { IsReadPlan plan.now }
     requires start { IsToStart plan.now task (T.tells table) (T.cell table) reservoir.old }
     ensures started { IfOk result (λ r. HasStarted H.now H.may T.tells T.faults T.named T.there T.cell plan.now saved table host.old host.new reservoir.old reservoir.new task steps.old steps.new r.0 r.1.slot r.1.from) }
     ensures refused { IfErr result (λ refused. HasNotStarted H.now H.may T.tells T.faults T.named T.there T.cell plan.now saved table host.old host.new reservoir.old reservoir.new (Rose (H.disk_faults host.old) (H.disk_faults host.new)) refused.0 refused.1) }

@@ -10,13 +10,13 @@ use Rattle.rg_cache.specs.Cache.{Cache}
 use Rattle.rg_log.specs.Log.{joined, HasEvents, HasSchemaFrame}
 use Rattle.rg_reservoir.specs.declared.kept.Kept.{Kept}
 use Rattle.rg_reservoir.specs.Chain.{Chain, IsFirst, events_from, padded}
-use Rattle.rg_reservoir.specs.Kept.{Base, base, opened, cache_of, next_of, time_of, stored, all_events, IsCached, IsPrefix, IsRight, IsSoundIn, IsSound, Spells, InChunk, InOpen}
+use Rattle.rg_reservoir.specs.Kept.{Base, base, view_of, opened, cache_of, next_of, time_of, stored, all_events, IsCached, IsPrefix, IsRight, IsSoundIn, IsSound, Spells, InChunk, InOpen}
 use Rattle.rg_reservoir.specs.declared.reservoir.Reservoir.{Reservoir}
 use Rattle.rg_recover.specs.Stepping.{LogStays}
 
 module _ (v w : Image) (b : Base) (opened : List Event) (same : w b.file ≡ v b.file) where
   pub stored_same : stored (Some w) b ≡ stored (Some v) b
-  stored_same = ap (λ (bytes : List ℕ). padded b.committed (events_from b.shape.fields b.committed b.first bytes)) same
+  stored_same = ap (λ (bytes : List ℕ). padded b.committed (events_from (view_of b) b.committed b.first bytes)) same
 
   pub all_same : all_events (Some w) b opened ≡ all_events (Some v) b opened
   all_same = ap (λ (l : List Event). l ++ opened) stored_same
@@ -25,9 +25,10 @@ module _ (v w : Image) (b : Base) (opened : List Event) (same : w b.file ≡ v b
     right_beside : ((u : Image) → after u → (x : Image) × may x × (u b.file ≡ x b.file)) → IsRight v may b opened next time cache → IsRight w after b opened next time cache
     right_beside left is = record {
       settled = λ u one. let x = left u one in x.2 ∙ is.settled x.0 x.1 ∙ sym same;
+      plain = is.plain;
       schema = subst (λ (bytes : List ℕ). IsFirst b.shape b.first bytes) (sym same) is.schema;
       chunks = is.chunks;
-      chain = subst (λ (bytes : List ℕ). Chain b.shape.fields bytes b.first is.chunks b.end) (sym same) is.chain;
+      chain = subst (λ (bytes : List ℕ). Chain (view_of b) bytes b.first is.chunks b.end) (sym same) is.chain;
       ends = subst (λ (bytes : List ℕ). IsClosed b.end bytes) (sym same) is.ends;
       payloads = is.payloads;
       has = subst (λ (bytes : List ℕ). HasPayloads is.payloads bytes) (sym same) is.has;
@@ -35,7 +36,7 @@ module _ (v w : Image) (b : Base) (opened : List Event) (same : w b.file ≡ v b
       legal = subst (λ (bytes : List ℕ). HasEvents b.shape (joined is.chunks) bytes) (sym same) is.legal;
       framed = subst (λ (bytes : List ℕ). HasSchemaFrame b.shape bytes) (sym same) is.framed;
       counted = is.counted;
-      cached = subst (λ (bytes : List ℕ). IsCached b.shape.fields bytes cache) (sym same) is.cached;
+      cached = subst (λ (bytes : List ℕ). IsCached (view_of b) bytes cache) (sym same) is.cached;
       inside = is.inside;
       rising = subst (λ (l : List Event). IsRising l) (sym all_same) is.rising;
       next_is = is.next_is ∙ ap next_offset (sym all_same);

@@ -9,22 +9,24 @@ use Rattle.rg_state.specs.Rows.{Cells, Entry, Lists}
 use Rattle.rg_engine.specs.Seen.{Seen}
 use Rattle.rg_checkpoint.specs.Base.{IsBase}
 use Rattle.rg_checkpoint.specs.Sizes.{OfSizes}
-use Rattle.rg_checkpoint.specs.Slots.{Attached, IsKeep, Lengthened, Lengthens, Turns, Written, other_of, sizes_in, with_sizes}
+use Rattle.rg_checkpoint.specs.Slots.{Attached, IsKeep, Lengthened, Lengthens, Turns, Written, other_of, with_sizes}
 use Rattle.rg_checkpoint.specs.declared.base.Checkpoint.{Checkpoint}
 use Rattle.rg_checkpoint.specs.declared.sizes.SlotSizes.{SlotSizes}
 use Rattle.rg_reservoir.specs.Kept.{base, opened, all_events}
 use Rattle.rg_course.specs.Steps.{IsMidStep, IsSavedTo}
-use Rattle.rg_open.specs.Opened.{IsKeptSince, IsToExtend, IsToSave}
+use Rattle.rg_open.specs.Opened.{IsToExtend, IsToSave}
 use Rattle.rg_open.specs.Stores.{store_of}
 use Rattle.rg_open.specs.Truth.{IsTrueOf, texts_of}
 use Rattle.rg_recover.specs.Saving.{Framed, HasWritten, IsChosen, IsMarked, IsOfKept, KeepsRows, Turned, Turning, WritesSlot, sizes_then, slot_for}
-use Rattle.rg_recover.specs.Sessions.{Sitting, IsRunning, count_in}
+use Rattle.rg_recover.specs.Sessions.{Sitting, HasKept, IsRunning, count_in}
 use Rattle.rg_recover.specs.Stepping.{IsWithinStep}
 use Rattle.rg_recover.specs.declared.payload.Payload.{Payload}
-use Rattle.rg_recover.proofs.Choosing.{keeps_then, sizes_with, slot_below}
-use Rattle.rg_recover.proofs.Saved.{kept_chosen, mid_is_stepped, running_saved, turned_saved, turning_mid}
+use Rattle.rg_recover.proofs.Choosing.{keeps_then, slot_below}
+use Rattle.rg_recover.proofs.Keeping.{running_keeps}
+use Rattle.rg_recover.proofs.Saved.{mid_is_stepped, running_saved, turned_saved, turning_mid}
 use Rattle.rg_recover.proofs.Within.{writes_within}
-use Rattle.rg_recover.proofs.Writing.{log_stays, settled_by, written_left}
+use Rattle.rg_recover.proofs.Writing.{log_stays, written_left}
+use Rattle.rg_recover.proofs.Written.{written_keeps}
 
 module _ {H T : Type 0} (now : H → Option Image) (may : H → Image → Type 0) (clock : H → ℕ) (since : H → ℕ → Moment → Type 0) (said : H → Option (List ℕ)) (disk out : H → ℕ)
     (Tells : T → Type 0) (faults : T → ℕ) (cell : T → Cells) (named there : T → Marks) (plan : Planned) (s : Sitting T) (old new : H) (count : ℕ)
@@ -48,9 +50,6 @@ module _ {H T : Type 0} (now : H → Option Image) (may : H → Image → Type 0
       (m f : Seen T) (first : KeepsRows Tells faults cell s.engine m) (second : KeepsRows Tells faults cell m f) (marked : IsMarked Tells named there m.table f.table)
       (done : HasWritten now may (slot_for s.keep payload) (Turned s.slots payload) (Framed s.slots payload) old new)
       (put : Attached) (slot : ℕ) (at : slot ≡ slot_for s.keep payload) (put_is : put ≡ with_sizes slot (sizes_then s.slots payload) (record s.slots { fresh = false })) where
-    settled : (file : ℕ) → NothingPending file (now old) (may old) → NothingPending file (now new) (may new)
-    settled file was = settled_by file (slot_for s.keep payload) (λ (f : ℕ). NothingPending f (now new) (may new)) done.pending (λ apart. writes.others_pending file apart was)
-
     below : slot < 2
     below = subst (λ (n : ℕ). n < 2) (sym at) (slot_below s.slots s.keep payload legal of_kept)
 
@@ -65,16 +64,14 @@ module _ {H T : Type 0} (now : H → Option Image) (may : H → Image → Type 0
     both : KeepsRows Tells faults cell s.engine f
     both = keeps_then Tells faults cell s.engine m f first second
 
-    kept : IsKeptSince (may new) slot count s.texts (sizes_in put slot) (named f.table) (there f.table) (cell f.table)
-    kept =
-        subst (λ (o : Option SlotSizes). IsKeptSince (may new) slot count s.texts o (named f.table) (there f.table) (cell f.table)) (sym (ap (λ (p : Attached). sizes_in p slot) put_is ∙ sizes_with (record s.slots { fresh = false }) slot (sizes_then s.slots payload) below))
-        (subst (λ (n : ℕ). IsKeptSince (may new) n count s.texts (sizes_then s.slots payload) (named f.table) (there f.table) (cell f.table)) (sym at)
-        (kept_chosen plan (now old) (may old) Tells cell named there s count runs empty legal count_is law rows lists now_may (now new) (may new) f.table (both.same runs.ready.tells) (marked.none_named told) payload chosen done.after done.frames done.pending))
+    keeps : HasKept (now new) (may new) cell named there (record { reservoir = s.reservoir; engine = f; texts = s.texts; grace = s.grace; slots = put; keep = Some slot; saved = count; ended = false })
+    keeps = written_keeps now may clock since said disk out Tells faults cell named there s old new count payload legal of_kept empty count_is runs.ready.tells rows lists chosen writes done now_may m f first second marked put slot at put_is
+        (running_keeps plan (now old) (may old) Tells cell named there s runs)
 
     -- and the session runs behind it
     pub chosen_running : IsRunning plan (now new) (may new) Tells cell named there (record { reservoir = s.reservoir; engine = f; texts = s.texts; grace = s.grace; slots = put; keep = Some slot; saved = count; ended = false })
     chosen_running = running_saved plan (now old) (now new) (may old) (may new) Tells cell named there s f put slot count runs (second.rows.tells.1 told) (both.same runs.ready.tells)
         (ap (λ (e : Seen T). e.plan) both.engine) (ap (λ (e : Seen T). e.spots) both.engine)
         (log_stays (slot_for s.keep payload) (slot_below s.slots s.keep payload legal of_kept) (now old) (now new) (may old) (may new) writes.others (λ w left. (writes.writes.left w left).0))
-        (settled 0 runs.first_settled) (settled 1 runs.second_settled) below (omega (arith, count_is, ap length empty))
-        (λ u one. mid_is_stepped (store_of plan) s.keep (may old) u (chosen_within.left u one)) all_saved kept
+        keeps.first_settled keeps.second_settled below (omega (arith, count_is, ap length empty))
+        (λ u one. mid_is_stepped (store_of plan) s.keep (may old) u (chosen_within.left u one)) all_saved (keeps.since slot refl)

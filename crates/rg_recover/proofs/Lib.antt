@@ -7,11 +7,14 @@ pub mod Running
 pub mod Beside
 pub mod Writing
 pub mod Saved
+pub mod Written
 pub mod Resuming
 pub mod Nodes
 pub mod Placed
 pub mod Loading
 pub mod Stays
+pub mod Keeping
+pub mod Sparing
 pub mod Choosing
 pub mod Checkpointing
 pub mod Storing

@@ -5,15 +5,14 @@ use Rattle.rg_event.specs.declared.event.Event.{Event}
 use Rattle.rg_config.specs.Plans.{Planned}
 use Rattle.rg_state.specs.Changes.{Marks, IsSince}
 use Rattle.rg_state.specs.Rows.{Cells}
-use Rattle.rg_checkpoint.specs.Slots.{Attached, sizes_in}
 use Rattle.rg_reservoir.specs.Kept.{base, opened}
 use Rattle.rg_reservoir.specs.declared.reservoir.Reservoir.{Reservoir}
 use Rattle.rg_course.specs.Steps.{IsStepped}
 use Rattle.rg_open.specs.Stores.{store_of}
-use Rattle.rg_open.specs.Opened.{IsKeptInSlot, IsKeptSince}
-use Rattle.rg_recover.specs.Sessions.{Sitting, IsReady, IsRunning, count_in}
+use Rattle.rg_open.specs.Opened.{IsKeptInSlot}
+use Rattle.rg_recover.specs.Sessions.{Sitting, HasKept, IsReady, IsRunning, count_in}
 use Rattle.rg_recover.specs.Stepping.{SlotsStay}
-use Rattle.rg_recover.proofs.Stays.{kept_on, slot_settled}
+use Rattle.rg_recover.proofs.Keeping.{keeps_still, running_keeps}
 
 -- the slot that is kept, after a step on the log
 pub kept_still : (plan : Planned) (may after : Image → Type 0) (keep : Option ℕ) (chunk : List Event) (slot saved committed then : ℕ) → keep ≡ Some slot → committed ≤ then → ((u : Image) → after u → IsStepped (store_of plan) keep chunk may u)
@@ -35,19 +34,16 @@ runs_still plan now then may after Tells cell named there s new chunk runs ready
   limit_is = limit ∙ runs.limit_is;
   grace_is = grace ∙ runs.grace_is;
   going = going;
-  first_settled = slot_settled now then may after 0 (omega arith) stays runs.first_settled;
-  second_settled = slot_settled now then may after 1 (omega arith) stays runs.second_settled;
+  first_settled = keeps.first_settled;
+  second_settled = keeps.second_settled;
   kept = λ slot is.
       let was : s.keep ≡ Some slot = sym keep ∙ is in
       subst (λ (n : ℕ). IsKeptInSlot plan after slot n (base new.reservoir).committed) (sym saved) (kept_still plan may after s.keep chunk slot s.saved (base s.reservoir).committed (base new.reservoir).committed was more stepped (runs.kept slot was));
-  since = λ slot is.
-      let was : s.keep ≡ Some slot = sym keep ∙ is in
-      let e = new.engine.table in
-      subst (λ (n : ℕ). IsKeptSince after slot n new.texts (sizes_in new.slots slot) (named e) (there e) (cell e)) (sym saved)
-      (subst (λ (l : List (List ℕ)). IsKeptSince after slot s.saved l (sizes_in new.slots slot) (named e) (there e) (cell e)) (sym texts)
-      (subst (λ (p : Attached). IsKeptSince after slot s.saved s.texts (sizes_in p slot) (named e) (there e) (cell e)) (sym slots)
-      (kept_on may after slot s.saved s.texts (sizes_in s.slots slot) (named s.engine.table) (there s.engine.table) (named e) (there e) (cell s.engine.table) (cell e) (runs.kept slot was).below stays.left goes (runs.since slot was))));
+  since = keeps.since;
 }
+  where
+    keeps : HasKept then after cell named there new
+    keeps = keeps_still now then may after cell named there s new (running_keeps plan now may Tells cell named there s runs) stays goes keep saved texts slots more
 
 -- no event is open where no more were saved than are stored, and those are all
 pub none_open : (r : Reservoir) (saved : ℕ) → saved ≤ (base r).committed → saved ≡ count_in r → opened r ≡ []

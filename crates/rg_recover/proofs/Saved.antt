@@ -1,9 +1,8 @@
 -- A session that runs still after a checkpoint was written.
-use Rattle.std.proofs.Common.{◌≡◌, ◌⊎◌, inl, inr, ◌<◌, ◌≤◌, ℕ, zero, suc, Bool, false, List, [], ◌++◌, length, Option, Some, refl, sym, ◌∙◌, ap, subst, arith, true≢false}
+use Rattle.std.proofs.Common.{◌≡◌, ◌⊎◌, inl, inr, ◌<◌, ◌≤◌, ℕ, zero, suc, Bool, false, List, [], ◌++◌, length, Option, Some, refl, sym, ◌∙◌, ap, subst, arith}
 use Rattle.std.proofs.lemmas.List.{append-nil}
-use Rattle.std.specs.Prelude.{is_some}
-use Rattle.rg_host.specs.Image.{Image, Becomes, InFile, NothingPending}
-use Rattle.rg_frame.specs.Steps.{Grown, Leaves}
+use Rattle.rg_host.specs.Image.{Image, NothingPending}
+use Rattle.rg_frame.specs.Steps.{Leaves}
 use Rattle.rg_event.specs.Rising.{last_time}
 use Rattle.rg_event.specs.declared.event.Event.{Event}
 use Rattle.rg_past.specs.declared.past.Spot.{Spot}
@@ -11,20 +10,16 @@ use Rattle.rg_config.specs.Plans.{Planned}
 use Rattle.rg_plan.specs.Named.{node_at}
 use Rattle.rg_plan.specs.Plans.{Tasks, plan_for}
 use Rattle.rg_agg.specs.Held.{Held}
-use Rattle.rg_state.specs.Changes.{Marks, NoMarks, IsSince}
-use Rattle.rg_state.specs.Rows.{Cells, Entry, Lists, Same, at_in}
-use Rattle.rg_state.proofs.Listed.{at_lists}
+use Rattle.rg_state.specs.Changes.{Marks}
+use Rattle.rg_state.specs.Rows.{Cells, Entry, Lists, Same}
 use Rattle.rg_engine.specs.Seen.{Seen}
 use Rattle.rg_engine.specs.Standing.{RowIs}
 use Rattle.rg_checkpoint.specs.Base.{IsBase}
-use Rattle.rg_checkpoint.specs.Sizes.{HasSizes, OfSizes, longer, more_sizes, sizes_of}
-use Rattle.rg_checkpoint.specs.Slots.{AreSizes, Attached, HasSlot, IsKeep, IsOnly, Lengthened, Lengthens, Turns, Written, other_of, sizes_in}
-use Rattle.rg_checkpoint.specs.Updates.{IsUpdate}
+use Rattle.rg_checkpoint.specs.Sizes.{OfSizes}
+use Rattle.rg_checkpoint.specs.Slots.{Attached, IsKeep, Lengthened, Lengthens, Turns, Written, other_of, sizes_in}
 use Rattle.rg_checkpoint.specs.Writing.{Encodes, EncodesChanges}
-use Rattle.rg_checkpoint.specs.declared.sizes.SlotSizes.{SlotSizes}
-use Rattle.rg_checkpoint.proofs.Extending.{payload_applies}
-use Rattle.rg_checkpoint.proofs.Lengthening.{grown_sizes, only_sizes}
 use Rattle.rg_checkpoint.specs.declared.base.Checkpoint.{Checkpoint}
+use Rattle.rg_checkpoint.specs.declared.sizes.SlotSizes.{SlotSizes}
 use Rattle.rg_reservoir.specs.Kept.{base, opened, all_events, Spells}
 use Rattle.rg_reservoir.specs.declared.reservoir.Reservoir.{Reservoir}
 use Rattle.rg_restore.specs.Truthful.{StandsFor, EngineStands}
@@ -34,12 +29,13 @@ use Rattle.rg_open.specs.Stores.{store_of, HasSaved}
 use Rattle.rg_open.specs.Opened.{IsKeptSince, IsToExtend, IsToSave}
 use Rattle.rg_open.specs.Truth.{IsTrueOf, texts_of}
 use Rattle.rg_open.proofs.Steps.{other_below}
-use Rattle.rg_recover.specs.Saving.{Framed, IsChosen, IsToWrite, Turned, Turning, sizes_then, slot_for}
+use Rattle.rg_recover.specs.Saving.{IsChosen, IsToWrite, Turned, Turning, slot_for}
 use Rattle.rg_recover.specs.Sessions.{Sitting, IsRunning, count_in}
 use Rattle.rg_recover.specs.Stepping.{LogStays}
 use Rattle.rg_recover.specs.declared.payload.Payload.{Payload}
 use Rattle.rg_recover.specs.declared.payload.Payload.TheVariants.{Base, Changes}
 use Rattle.rg_recover.proofs.Beside.{sound_beside, events_beside, spells_beside}
+use Rattle.rg_recover.proofs.Keeping.{change_applies, checkpoint_of}
 use Rattle.rg_recover.proofs.Ready.{stands_still}
 use Rattle.rg_recover.proofs.Sound.{long}
 
@@ -68,11 +64,8 @@ of_slot zero P below first second = first
 of_slot (suc zero) P below first second = second
 of_slot (suc (suc n)) P below first second = absurd (omega (arith, below))
 
-some_same : (a b : ℕ) → ◌≡◌ {A = Option ℕ} (Some a) (Some b) → a ≡ b
+pub some_same : (a b : ℕ) → ◌≡◌ {A = Option ℕ} (Some a) (Some b) → a ≡ b
 some_same a b is = cc
-
-abbrev pub checkpoint_of : List (List ℕ) → ℕ → List Spot → List Entry → Checkpoint
-checkpoint_of texts count spots rows = record { queries = texts; count = count; spots = spots; rows = rows }
 
 -- what was chosen of a session that runs, once all its events are stored
 module _ {T : Type 0} (plan : Planned) (now : Option Image) (may : Image → Type 0) (Tells : T → Type 0) (cell : T → Cells) (named there : T → Marks) (s : Sitting T) (count : ℕ)
@@ -106,9 +99,7 @@ module _ {T : Type 0} (plan : Planned) (now : Option Image) (may : Image → Typ
         known = since.known;
         sizes_are = since.sizes_are;
         has = since.has;
-        applies = payload_applies payload since.checkpoint (checkpoint_of s.texts count s.engine.spots rows) enc.rows (named s.engine.table) (there s.engine.table) (cell s.engine.table) since.since enc.lists
-            (subst (λ (p : List ℕ). IsUpdate p (record { count = count; spots = s.engine.spots; rows = enc.rows })) (sym enc.added) enc.is) lists (sym since.texts_are)
-            (omega (arith, since.count, was.stored, count_is));
+        applies = change_applies may slot s.saved s.texts (sizes_in s.slots slot) (named s.engine.table) (there s.engine.table) (cell s.engine.table) since count s.engine.spots payload enc rows lists (omega (arith, was.stored, count_is));
         true_of = true_of_all rows lists;
         texts = runs.ready.in_step.texts_are;
       }
@@ -138,65 +129,6 @@ module _ {T : Type 0} (plan : Planned) (now : Option Image) (may : Image → Typ
         saved bytes.items (checkpoint_of s.texts count s.engine.spots chosen.0.rows) to.image u legal to.base to.told to.settled to.true_of to.texts left
     turned_saved saved extended (Changes slot bytes) chosen u left =
         extended slot (sizes_in s.slots slot) bytes.items (runs.since slot chosen.1).checkpoint (checkpoint_of s.texts count s.engine.spots rows) u (to_extend slot bytes.items rows chosen.1 chosen.0 lists) left
-
-    -- what is kept of the slot then, where the table was marked
-    module _ (now_may : (v : Image) → now ≡ Some v → may v) (then : Option Image) (after : Image → Type 0) (f : T) (same : Same (cell s.engine.table) (cell f)) (none : NoMarks (named f)) where
-      since_mark : (l : List Entry) → Lists (cell s.engine.table) l → IsSince (at_in l) (named f) (there f) (cell f)
-      since_mark l is = record {
-        unnamed = λ n key off. same n key ∙ at_lists (cell s.engine.table) l n key is;
-        stood = λ n key on. absurd (true≢false (sym on ∙ none n key));
-      }
-
-      -- in each image that might be left it is as reads give it
-      settled_as : (slot : ℕ) (P : List ℕ → Type 0) (w : Image) → then ≡ Some w → NothingPending slot then after → P (w slot) → (u : Image) → after u → P (u slot)
-      settled_as slot P w told pending is u one = subst P (sym (pending w told u one)) is
-
-      kept_base : (payload : List ℕ) (enc : Encodes (cell s.engine.table) s.texts count s.engine.spots [] payload) → Becomes now then (InFile (other_of s.keep) (Written payload)) → Becomes now then (InFile (other_of s.keep) (λ _ bytes. IsOnly payload bytes))
-          → NothingPending (other_of s.keep) then after → IsKeptSince after (other_of s.keep) count s.texts (Some (sizes_of (length payload))) (named f) (there f) (cell f)
-      kept_base payload enc written only pending =
-          let slot = other_of s.keep in
-          let to = to_write payload enc in
-          let saved = checkpoint_of s.texts count s.engine.spots enc.rows in
-          let w = written.told to.image to.told in
-          let x = only.told to.image to.told in
-          let has = settled_as slot (λ bytes. HasSlot bytes saved) w.0 w.1 pending (w.2.there saved to.base) in
-          record {
-            checkpoint = saved;
-            has = has;
-            known = refl;
-            sizes_are = λ u one. (settled_as slot (λ bytes. HasSizes bytes (sizes_of (length payload))) x.0 x.1 pending (only_sizes payload (x.0 slot) x.2.there) u one, (saved, has u one));
-            count = refl;
-            texts_are = refl;
-            since = since_mark enc.rows enc.lists;
-          }
-
-      kept_more : (slot : ℕ) (payload : List ℕ) (kept : s.keep ≡ Some slot) (sizes : SlotSizes) → sizes_in s.slots slot ≡ Some sizes → EncodesChanges (named s.engine.table) (there s.engine.table) (cell s.engine.table) count s.engine.spots [] payload
-          → Becomes now then (InFile slot (OfSizes (sizes_in s.slots slot) (Lengthened payload))) → Becomes now then (InFile slot (OfSizes (sizes_in s.slots slot) (Grown payload))) → NothingPending slot then after
-          → IsKeptSince after slot count s.texts (longer (sizes_in s.slots slot) (length payload)) (named f) (there f) (cell f)
-      kept_more slot payload kept sizes known enc lengthened grown pending =
-          let to = to_extend slot payload rows kept enc lists in
-          let before = (runs.since slot kept).checkpoint in
-          let saved = checkpoint_of s.texts count s.engine.spots rows in
-          let at = now_may to.image to.told in
-          let of : HasSizes (to.image slot) sizes = (subst (λ (o : Option SlotSizes). AreSizes (to.image slot) o) known (to.sizes_are to.image at)).0 in
-          let w = lengthened.told to.image to.told in
-          let x = grown.told to.image to.told in
-          let has = settled_as slot (λ bytes. HasSlot bytes saved) w.0 w.1 pending (w.2.there sizes known of before saved (to.has to.image at) to.applies) in
-          record {
-            checkpoint = saved;
-            has = has;
-            known = ap (λ (o : Option SlotSizes). is_some (longer o (length payload))) known;
-            sizes_are = λ u one. subst (λ (o : Option SlotSizes). AreSizes (u slot) (longer o (length payload))) (sym known)
-                (settled_as slot (λ bytes. HasSizes bytes (more_sizes sizes (length payload))) x.0 x.1 pending (grown_sizes payload (to.image slot) (x.0 slot) sizes of (x.2.there sizes known of)) u one, (saved, has u one));
-            count = refl;
-            texts_are = refl;
-            since = since_mark rows lists;
-          }
-
-      pub kept_chosen : (payload : Payload) → Chosen payload → Becomes now then (InFile (slot_for s.keep payload) (Turned s.slots payload)) → Becomes now then (InFile (slot_for s.keep payload) (Framed s.slots payload)) → NothingPending (slot_for s.keep payload) then after
-          → IsKeptSince after (slot_for s.keep payload) count s.texts (sizes_then s.slots payload) (named f) (there f) (cell f)
-      kept_chosen (Base bytes) chosen turned framed pending = kept_base bytes.items chosen.0 turned framed pending
-      kept_chosen (Changes slot bytes) chosen turned framed pending = kept_more slot bytes.items chosen.1 chosen.2.0 chosen.2.1 chosen.0 turned framed pending
 
 -- it runs then
 module _ {T : Type 0} (plan : Planned) (now then : Option Image) (may after : Image → Type 0) (Tells : T → Type 0) (cell : T → Cells) (named there : T → Marks) (s : Sitting T) (f : Seen T) (put : Attached) (slot count : ℕ)

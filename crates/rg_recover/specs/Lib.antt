@@ -1,5 +1,6 @@
 pub mod Sessions
 pub mod Stepping
+pub mod Sparing
 pub mod Faults
 pub mod Deciding
 pub mod Saving

@@ -65,6 +65,17 @@ pub record IsReady {T : Type 0} (plan : Planned) (now : Option Image) (may : Ima
   pub serves : Serves plan.shape.fields (plan_for plan.queries)
   pub plan_is : engine.plan ≡ plan_for plan.queries
 
+-- What is kept of the slot that was used or written last, over any image that reads give: nothing of a slot is pending, and in each
+-- image that might be left that slot has one and the same checkpoint, of no more events than are stored, in a file of the sizes that
+-- are known of it; what the table tells of changes is told since that checkpoint.
+pub record HasKept {T : Type 0} (now : Option Image) (may : Image → Type 0) (cell : T → Cells) (named there : T → Marks) (s : Sitting T) : Type 0 where
+  pub image : Image
+  pub told : now ≡ Some image
+  pub first_settled : NothingPending 0 now may
+  pub second_settled : NothingPending 1 now may
+  pub stored : (slot : ℕ) → s.keep ≡ Some slot → s.saved ≤ (base s.reservoir).committed
+  pub since : (slot : ℕ) → s.keep ≡ Some slot → IsKeptSince may slot s.saved s.texts (sizes_in s.slots slot) (named s.engine.table) (there s.engine.table) (cell s.engine.table)
+
 -- A session of that plan runs: its engine is ready, each image that might be left is truthful, nothing of a slot is pending, and the
 -- slot that was used or written last has what it should, of the sizes that are known of it; what the table tells of changes is told
 -- since that slot's checkpoint. The functions are those that tell a table's rows and marks.

@@ -12,6 +12,7 @@ use Rattle.rg_reservoir.specs.declared.reservoir.Reservoir.{Reservoir}
 use Rattle.rg_open.specs.Stores.{store_of}
 use Rattle.rg_open.specs.Opened.{IsOpenedFor, IsInStep}
 use Rattle.rg_recover.specs.Sessions.{count_in}
+use Rattle.rg_recover.specs.Sparing.{IsSpared}
 use Rattle.rg_recover.specs.Stepping.{IsWithinStep, IsStored, SlotsStay}
 use Rattle.rg_recover.specs.declared.fault.TaskFault.{TaskFault}
 use Rattle.rg_recover.specs.declared.fault.TaskFault.TheVariants.{Disk, Damaged, BadState, Memory, Ended, Table}
@@ -45,10 +46,12 @@ module _ {H : Type 0} (now : H → Option Image) (may : H → Image → Type 0) 
     pub events : IsSound (now old) (may old) r → all_events (now new) (base s) (opened s) ≡ all_events (now old) (base r) (opened r)
 
 module _ {H : Type 0} (now : H → Option Image) (may : H → Image → Type 0) (clock : H → ℕ) (since : H → ℕ → Moment → Type 0) (said : H → Option (List ℕ)) where
-  -- Over the log of a plan each moment of the call is within a step that stores the open chunk, and at its end the step is done.
+  -- Over the log of a plan each moment of the call is within a step that stores the open chunk, and at its end the step is done; no slot
+  -- is written.
   pub record StoresChunk {A : Type 0} (result : Result A TaskFault) (r s : Reservoir) (old new : H) : Type 0 where
     pub within : (plan : Planned) (keep : Option ℕ) → IsOpenedFor plan (now old) (may old) r → IsWithinStep may clock since said (store_of plan) keep (opened r) old new
     pub done : OnOk result (HasStored now may r s old new)
+    pub spared : (slot : ℕ) → slot < 2 → IsSpared now may clock since slot old new
 
 module _ {H : Type 0} (said : H → Option (List ℕ)) (disk_faults out_faults : H → ℕ) where
   -- What stays of a log, of its rooms and of what was put, and no count of faults falls.

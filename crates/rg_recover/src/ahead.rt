@@ -8,10 +8,10 @@ ghost use Rattle.rg_checkpoint.specs.Slots.{ReachesSlots};
 ghost use Rattle.rg_config.specs.Plans.{Planned};
 ghost use Rattle.rg_reservoir.specs.Ahead.{all_ahead, SomeTouched};
 ghost use Rattle.rg_reservoir.specs.Chain.{IsIllegal};
-ghost use Rattle.rg_reservoir.specs.Kept.{base, opened, cache_of, loads_of, log_of, IsCached, Stays, AllTouched};
+ghost use Rattle.rg_reservoir.specs.Kept.{base, view_of, opened, cache_of, loads_of, log_of, IsCached, Stays, AllTouched};
 ghost use Rattle.rg_open.specs.Stores.{store_of};
 ghost use Rattle.rg_open.specs.Blame.{NodeRuns, IsPlaced};
-ghost use Rattle.rg_recover.specs.Sessions.{IsRunning, events_of, stored_of};
+ghost use Rattle.rg_recover.specs.Sessions.{HasKept, IsRunning, events_of, stored_of};
 ghost use Rattle.rg_recover.specs.Stepping.{IsWithinStep, IsStored};
 
 use crate::fault::TaskFault;
@@ -37,6 +37,9 @@ impl<T: Table> Session<T> {
         ensures never_damaged { (plan : Planned) (p : ℕ) → IsRunning plan (H.now host.old) (H.may host.old) T.tells T.cell T.named T.there self.old →
             IsErrOf result (TaskFault.Damaged p) → ⊥ }
 
+        // What is kept of the slot that was used or written last is kept, over any image that reads give.
+        ensures keeps { HasKept (H.now host.old) (H.may host.old) T.cell T.named T.there self.old → OnOk result (HasKept (H.now host.new) (H.may host.new) T.cell T.named T.there self.new) }
+
         // Each node and each edge by itself.
         ensures node { (plan : Planned) (n : ℕ) → NodeRuns plan n (H.now host.old) (H.may host.old) (T.tells self.old.engine.table) (T.cell self.old.engine.table) self.old.reservoir self.old.engine →
             OnOk result (NodeRuns plan n (H.now host.new) (H.may host.new) (T.tells self.new.engine.table) (T.cell self.new.engine.table) self.new.reservoir self.new.engine) }
@@ -44,7 +47,7 @@ impl<T: Table> Session<T> {
         ensures undamaged { (plan : Planned) (p : ℕ) → IsPlaced plan (H.now host.old) (H.may host.old) self.old.reservoir self.old.engine → IsErrOf result (TaskFault.Damaged p) → ⊥ }
 
         // Of any: some of those chunks were loaded, and nothing else changed.
-        ensures touched { (v : Image) → H.now host.old ≡ Some v → IsCached (base self.old.reservoir).shape.fields (v (base self.old.reservoir).file) (cache_of self.old.reservoir) →
+        ensures touched { (v : Image) → H.now host.old ≡ Some v → IsCached (view_of (base self.old.reservoir)) (v (base self.old.reservoir).file) (cache_of self.old.reservoir) →
             SomeTouched (all_ahead (base self.old.reservoir) (v (base self.old.reservoir).file) self.old.engine.spots) (cache_of self.old.reservoir) (cache_of self.new.reservoir) (loads_of self.old.reservoir) (loads_of self.new.reservoir) }
         ensures reservoir { Stays self.old.reservoir self.new.reservoir }
         ensures stays { (self.new.engine ≡ self.old.engine) × (self.new.texts ≡ self.old.texts) × (self.new.keep ≡ self.old.keep) × (self.new.saved ≡ self.old.saved) }

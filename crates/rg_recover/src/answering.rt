@@ -21,6 +21,8 @@ use std::sync::ledger::Ledger;
 
 /// Puts the open line of a run over an opened store, and answers all lines of its input. The first line
 /// must be at most the store's next one, or nothing is read or put.
+// Six of its clauses are what it asks, of the plan, the lines, the offset and the session: each comes from another call, and a
+// record of all would be made at its one call to be taken apart here.
 pub(crate) fn answer_opened<I: Source, H: Host, L: Ledger>(
     alloc: Global,
     lines: &mut Lines,
@@ -44,30 +46,5 @@ pub(crate) fn answer_opened<I: Source, H: Host, L: Ledger>(
     ensures counts { CountsGrow H.disk_faults H.out_faults I.faults input.old input.new host.old host.new }
 {
     let mut live = Live::new(session, host, steps);
-    answer_over(alloc, lines, &mut live, plan, from, first, input)
-}
-
-/// The same over the session and its host as a task.
-fn answer_over<I: Source, H: Host, L: Ledger>(
-    alloc: Global,
-    lines: &mut Lines,
-    live: &mut Live<H, MemTable, L>,
-    plan: &Plan,
-    from: u64,
-    first: u64,
-    input: &mut I,
-) -> Result<(), RunFault>
-    requires read { IsReadPlan plan.now }
-    requires fresh { IsFresh lines.old }
-    requires first { first ≤ 2 ^ 61 }
-    requires going { live.old.session.now.ended ≡ false }
-    ensures begun { (b : Begun) (next count : ℕ) → IsToBegin (planned plan.now) b (I.left input.old) next count from first (H.now live.old.host.now) (H.may live.old.host.now) (H.said live.old.host.now) ⟦<MemTable as Table>⟧.tells ⟦<MemTable as Table>⟧.cell ⟦<MemTable as Table>⟧.named ⟦<MemTable as Table>⟧.there live.old.session.now →
-        StaysTrue H.may H.clock H.since H.said (planned plan.now) b (I.left input.new) result live.old.host.now live.new.host.now }
-    ensures cause { Explains H.now H.may H.disk_faults H.out_faults I.left I.faults (planned plan.now) (next_of live.old.session.now.reservoir) first (⟦<MemTable as Table>⟧.tells live.old.session.now.engine.table) (⟦<MemTable as Table>⟧.cell live.old.session.now.engine.table) live.old.session.now result input.old input.new live.old.host.now live.new.host.now }
-    ensures counts { CountsGrow H.disk_faults H.out_faults I.faults input.old input.new live.old.host.now live.new.host.now }
-    ensures same_session { live.new.session.ghost_name ≡ live.old.session.ghost_name }
-    ensures same_host { live.new.host.ghost_name ≡ live.old.host.ghost_name }
-    ensures same_steps { live.new.steps.ghost_name ≡ live.old.steps.ghost_name }
-{
-    run(alloc, lines, plan, from, first, input, live)
+    run(alloc, lines, plan, from, first, input, &mut live)
 }

@@ -1,4 +1,4 @@
-ghost use Rattle.std.specs.Prelude.{◌≡◌, ◌↔◌, ◌⊎◌, ◌≤◌, [], ℕ, List, Option, true, false, IfOk, IfErr, OnOk, IsErrOf};
+ghost use Rattle.std.specs.Prelude.{◌≡◌, ◌↔◌, ◌⊎◌, ◌≤◌, ◌<◌, [], ℕ, List, Option, true, false, IfOk, IfErr, OnOk, IsErrOf};
 ghost use Rattle.rg_bytes.specs.Counts.{Rose};
 ghost use Rattle.rg_frame.specs.LogState.{ReachesEnd};
 ghost use Rattle.rg_checkpoint.specs.Slots.{ReachesSlots};
@@ -6,7 +6,8 @@ ghost use Rattle.rg_config.specs.Plans.{Planned};
 ghost use Rattle.rg_reservoir.specs.Kept.{base, opened, room_of, cache_of, log_of, next_of};
 ghost use Rattle.rg_open.specs.Stores.{store_of};
 ghost use Rattle.rg_open.specs.Blame.{NodeRuns, IsPlaced};
-ghost use Rattle.rg_recover.specs.Sessions.{IsRunning, count_in, events_of, stored_of};
+ghost use Rattle.rg_recover.specs.Sessions.{HasKept, IsRunning, count_in, events_of, stored_of};
+ghost use Rattle.rg_recover.specs.Sparing.{IsSpared};
 ghost use Rattle.rg_recover.specs.Stepping.{IsWithinStep, IsStored, SlotsStay};
 ghost use Rattle.rg_recover.specs.Storing.{CanStore, StoresChunk, KeepsEvents, HasStoringCause};
 
@@ -50,6 +51,10 @@ impl<T: Table> Session<T> {
         ensures node { (plan : Planned) (n : ℕ) → NodeRuns plan n (H.now host.old) (H.may host.old) (T.tells self.old.engine.table) (T.cell self.old.engine.table) self.old.reservoir self.old.engine →
             OnOk result (NodeRuns plan n (H.now host.new) (H.may host.new) (T.tells self.new.engine.table) (T.cell self.new.engine.table) self.new.reservoir self.new.engine) }
         ensures placed { (plan : Planned) → IsPlaced plan (H.now host.old) (H.may host.old) self.old.reservoir self.old.engine → OnOk result (IsPlaced plan (H.now host.new) (H.may host.new) self.new.reservoir self.new.engine) }
+
+        // The slots are as they were: what is kept of one is kept, and none is written, at any moment.
+        ensures keeps { HasKept (H.now host.old) (H.may host.old) T.cell T.named T.there self.old → OnOk result (HasKept (H.now host.new) (H.may host.new) T.cell T.named T.there self.new) }
+        ensures spared { (slot : ℕ) → slot < 2 → IsSpared H.now H.may H.clock H.since slot host.old host.new }
 
         ensures next { IfOk result (λ next. next ≡ next_of self.new.reservoir) }
         ensures empty { OnOk result (opened self.new.reservoir ≡ []) }

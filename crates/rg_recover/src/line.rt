@@ -17,7 +17,7 @@ ghost use Rattle.rg_course.specs.Verdicts.{accepted_after, fault_reply, or_reply
 ghost use Rattle.rg_open.specs.Stores.{store_of};
 ghost use Rattle.rg_open.specs.Blame.{NodeRuns, IsPlaced};
 ghost use Rattle.rg_recover.specs.Deciding.{verdict_on, as_verdict, answered_as, AreBefore, Follows, IfAccepted, HasAnswers};
-ghost use Rattle.rg_recover.specs.Sessions.{IsRunning, count_in, events_of, stored_of};
+ghost use Rattle.rg_recover.specs.Sessions.{HasKept, IsRunning, count_in, events_of, stored_of};
 ghost use Rattle.rg_recover.specs.Stepping.{IsWithinStep, IsStored};
 
 use crate::fault::TaskFault;
@@ -169,6 +169,9 @@ impl<T: Table> Session<T> {
             IsErrOf result (TaskFault.BadState n) → ⊥ }
         ensures never_damaged { (plan : Planned) (p : ℕ) → IsRunning plan (H.now host.old) (H.may host.old) T.tells T.cell T.named T.there self.old →
             IsErrOf result (TaskFault.Damaged p) → ⊥ }
+
+        // What is kept of the slot that was used or written last is kept, over any image that reads give.
+        ensures keeps { T.tells self.old.engine.table → HasKept (H.now host.old) (H.may host.old) T.cell T.named T.there self.old → OnOk result (HasKept (H.now host.new) (H.may host.new) T.cell T.named T.there self.new) }
 
         // A node that can be carried on is carried on, and its state is never bad.
         ensures node { (plan : Planned) (n : ℕ) → NodeRuns plan n (H.now host.old) (H.may host.old) (T.tells self.old.engine.table) (T.cell self.old.engine.table) self.old.reservoir self.old.engine →

@@ -1,8 +1,8 @@
 ghost use Rattle.std.specs.Prelude.{◌≡◌, ◌⊎◌, ◌<◌, [], length, true, false, IfOk, IfErr, OnOk, IfSome, IfNone, Some};
 ghost use Rattle.rg_bytes.specs.Counts.{Rose};
-ghost use Rattle.rg_checkpoint.specs.Slots.{IsKeep, ReachesSlots, sizes_in, with_sizes};
+ghost use Rattle.rg_checkpoint.specs.Slots.{ReachesSlots, sizes_in, with_sizes};
 ghost use Rattle.rg_checkpoint.specs.Writing.{Encodes, EncodesChanges};
-ghost use Rattle.rg_recover.specs.Saving.{may_extend, slot_for, Turning, Turned, Framed, sizes_then, IsKnown, IsChosenOver, IsOfSlot, IsOfKept, IsChosen, KeepsRows, IsMarked, IsWant, WritesSlot, HasWritten};
+ghost use Rattle.rg_recover.specs.Saving.{may_extend, slot_for, Turning, Turned, Framed, sizes_then, IsKnown, IsChosenOver, IsOfSlot, IsOfKept, IsChosen, KeepsRows, KeepsMarks, IsMarked, IsWant, IsToPut, WritesSlot, HasWritten};
 
 use crate::fault::TaskFault;
 use rg_checkpoint::{SlotSizes, Slots, encode_changes, encode_checkpoint};
@@ -69,7 +69,7 @@ fn encode_base<T: Table>(
     engine: &mut Engine<T>,
 ) -> Result<Vec<u8>, TaskFault>
     ensures encodes { T.tells engine.old.table → IfOk result (λ payload. Encodes (T.cell engine.old.table) texts.now count engine.old.spots [] payload.items) }
-    ensures engine { KeepsRows T.tells T.faults T.cell engine.old engine.new }
+    ensures engine { KeepsMarks T.tells T.faults T.cell T.named T.there engine.old engine.new }
     ensures fault { IfErr result (IsWant T.faults engine.old.table engine.new.table) }
 {
     let spots = match engine.spots().to_vec(alloc) {
@@ -90,7 +90,7 @@ fn encode_since<T: Table>(
     engine: &mut Engine<T>,
 ) -> Result<Vec<u8>, TaskFault>
     ensures encodes { T.tells engine.old.table → IfOk result (λ payload. EncodesChanges (T.named engine.old.table) (T.there engine.old.table) (T.cell engine.old.table) count engine.old.spots [] payload.items) }
-    ensures engine { KeepsRows T.tells T.faults T.cell engine.old engine.new }
+    ensures engine { KeepsMarks T.tells T.faults T.cell T.named T.there engine.old engine.new }
     ensures fault { IfErr result (IsWant T.faults engine.old.table engine.new.table) }
 {
     let spots = match engine.spots().to_vec(alloc) {
@@ -116,7 +116,7 @@ fn choose_over<T: Table>(
 ) -> Result<Payload, TaskFault>
     ensures chosen { T.tells engine.old.table → IfOk result (IsChosenOver (T.named engine.old.table) (T.there engine.old.table) (T.cell engine.old.table) texts.now count engine.old.spots sizes) }
     ensures slot { IfOk result (IsOfSlot slot sizes) }
-    ensures engine { KeepsRows T.tells T.faults T.cell engine.old engine.new }
+    ensures engine { KeepsMarks T.tells T.faults T.cell T.named T.there engine.old engine.new }
     ensures fault { IfErr result (IsWant T.faults engine.old.table engine.new.table) }
 {
     let changes = match encode_since(alloc, count, engine) {
@@ -126,6 +126,7 @@ fn choose_over<T: Table>(
     if may_come(sizes, changes.len() as u64) {
         return Ok(Payload::Changes(slot, changes));
     }
+    drop(changes);
     match encode_base(alloc, texts, count, engine) {
         Ok(base) => Ok(Payload::Base(base)),
         Err(fault) => Err(fault),
@@ -143,7 +144,7 @@ pub(crate) fn choose_payload<T: Table>(
 ) -> Result<Payload, TaskFault>
     ensures chosen { T.tells engine.old.table → IfOk result (IsChosen (T.named engine.old.table) (T.there engine.old.table) (T.cell engine.old.table) texts.now count engine.old.spots slots.now keep) }
     ensures kept { IfOk result (IsOfKept keep slots.now) }
-    ensures engine { KeepsRows T.tells T.faults T.cell engine.old engine.new }
+    ensures engine { KeepsMarks T.tells T.faults T.cell T.named T.there engine.old engine.new }
     ensures fault { IfErr result (IsWant T.faults engine.old.table engine.new.table) }
 {
     match kept_of(slots, keep) {
@@ -163,10 +164,7 @@ pub(crate) fn put_payload<H: Host>(
     keep: Option<u32>,
     payload: &Payload,
 ) -> Result<u32, TaskFault>
-    requires keep { IsKeep keep }
-    requires going { slots.old.ended ≡ false }
-    requires kept { IsOfKept keep slots.old payload.now }
-    requires reaches { ReachesSlots slots.old (H.now host.old) }
+    requires ready { IsToPut (H.now host.old) keep slots.old payload.now }
     ensures writes { WritesSlot H.now H.may H.clock H.since H.said H.disk_faults H.out_faults (slot_for keep payload.now) (Turning slots.old payload.now) host.old host.new }
     ensures written { OnOk result (HasWritten H.now H.may (slot_for keep payload.now) (Turned slots.old payload.now) (Framed slots.old payload.now) host.old host.new) }
     ensures slot { IfOk result (λ slot. (slot ≡ slot_for keep payload.now) × (slots.new ≡ with_sizes slot (sizes_then slots.old payload.now) (record slots.old { fresh = false }))) }

@@ -19,7 +19,7 @@ ghost use Rattle.rg_open.specs.Blame.{IsBlamed, NodeRuns, IsPlaced};
 ghost use Rattle.rg_open.specs.Opening.{IsOpenable, IsResumed, IsFromIn};
 ghost use Rattle.rg_open.specs.Unfit.{IsUnfit, SaysWhy, IsLeftAlone};
 ghost use Rattle.rg_open.specs.Within.{IsWithinOpening, IsAfterOpening};
-ghost use Rattle.rg_recover.specs.Sessions.{IsRunning, count_in, events_of, stored_of};
+ghost use Rattle.rg_recover.specs.Sessions.{HasKept, IsRunning, count_in, events_of, stored_of};
 
 use crate::session::Session;
 use rg_config::Plan;
@@ -36,7 +36,7 @@ impl<T: Table> Session<T> {
     /// frame of a log without a frame is written. The engine goes on from the fit checkpoint of the greatest
     /// count, slot 0 where both have it, and from the start where none is fit; no more is passed than the
     /// events behind that. A refusal hands the table back as it then is.
-    #[tactic(auto, using(crate::proofs::Resuming::within_count, crate::proofs::Resuming::fits_none, crate::proofs::Resuming::count_of_none))]
+    #[tactic(auto, using(crate::proofs::Resuming::count_of_none))]
     pub fn resume<H: Host, L: Ledger>(
         alloc: Global,
         host: &mut H,
@@ -62,6 +62,9 @@ impl<T: Table> Session<T> {
             IfOk result (λ r. (events_of (H.now host.new) r.0 ≡ events) × (stored_of (H.now host.new) r.0 ≡ events) × (r.1.next ≡ next_offset events)) }
         ensures resumed { (v : Image) → H.now host.old ≡ Some v → IfOk result (λ r.
             IsResumed v (H.now host.new) plan.now.queries plan.now.schema.fields plan.now.task r.0.reservoir r.0.engine r.0.keep r.1.from steps.old steps.new) }
+
+        // What is kept of the slot that was used.
+        ensures keeps { (v : Image) → H.now host.old ≡ Some v → T.tells table → IfOk result (λ r. HasKept (H.now host.new) (H.may host.new) T.cell T.named T.there r.0) }
 
         // Where a state is bad, and of each node that can't be carried on, the checkpoint that was used is to blame.
         ensures bad { (v : Image) (events : List Event) (n : ℕ) → H.now host.old ≡ Some v → HasEvents plan.now.schema events (v 2) → T.tells table →

@@ -1,15 +1,17 @@
-ghost use Rattle.std.specs.Prelude.{◌≡◌, ◌↔◌, ◌⊎◌, ◌≤◌, [], ℕ, Option, Some, Ok, true, false, IfOk, IfErr, IsTrue, OnOk, OnErr, IsErrOf};
+ghost use Rattle.std.specs.Prelude.{◌≡◌, ◌≢◌, ◌↔◌, ◌⊎◌, ◌≤◌, ◌<◌, [], ℕ, Option, Some, Ok, true, false, IfOk, IfErr, IsTrue, OnOk, OnErr, IsErrOf};
 ghost use Rattle.rg_bytes.specs.Counts.{Rose};
 ghost use Rattle.rg_host.specs.Image.{Becomes};
 ghost use Rattle.rg_frame.specs.LogState.{ReachesEnd};
 ghost use Rattle.rg_config.specs.Plans.{Planned};
 ghost use Rattle.rg_reservoir.specs.Kept.{base, opened, room_of, cache_of, log_of};
+ghost use Rattle.rg_state.specs.Changes.{NoMarks, SameMarks};
 ghost use Rattle.rg_state.specs.Keeping.{TableKept};
 ghost use Rattle.rg_checkpoint.specs.Slots.{ReachesSlots, other_of};
 ghost use Rattle.rg_open.specs.Stores.{store_of};
 ghost use Rattle.rg_open.specs.Blame.{NodeRuns, IsPlaced};
-ghost use Rattle.rg_recover.specs.Saving.{IsSaved, SavesByRule, IsExtended, IsBeside, IsSavedNow, IsLeft};
-ghost use Rattle.rg_recover.specs.Sessions.{IsRunning, count_in, events_of, stored_of};
+ghost use Rattle.rg_recover.specs.Saving.{IsSaved, SavesByRule, SavesExactly, IsExtended, RunsOn, IsBeside, IsSavedAs, IsSavedNow, IsLeft, IsToSave};
+ghost use Rattle.rg_recover.specs.Sessions.{HasKept, IsRunning, count_in, events_of, stored_of};
+ghost use Rattle.rg_recover.specs.Sparing.{IsSpared, SparesOne};
 ghost use Rattle.rg_recover.specs.Stepping.{IsWithinStep, IsStored};
 
 use crate::fault::TaskFault;
@@ -48,8 +50,23 @@ impl<T: Table> Session<T> {
         ensures kept { OnOk result ((slot : ℕ) × (self.new.keep ≡ Some slot)) }
         ensures written { OnOk result ((self.new.keep ≡ Some (other_of self.old.keep)) ⊎ (IsExtended self.old self.new ⊎ IsSaved self.old)) }
 
+        // What is kept of the slot that was used or written last is kept of the one that is written, over any image that reads give.
+        ensures keeps { T.tells self.old.engine.table → HasKept (H.now host.old) (H.may host.old) T.cell T.named T.there self.old → OnOk result (HasKept (H.now host.new) (H.may host.new) T.cell T.named T.there self.new) }
+
         // Where reads give an image: what came behind the kept slot's frames, or stands alone in the other slot's file.
         ensures rule { T.tells self.old.engine.table → OnOk result (Becomes (H.now host.old) (H.now host.new) (λ v w. IsSaved self.old ⊎ SavesByRule T.named T.there T.cell self.old self.new v w)) }
+
+        // So it is exact wherever what is kept of a slot is kept, as it is from an opening on.
+        ensures exact { T.tells self.old.engine.table → HasKept (H.now host.old) (H.may host.old) T.cell T.named T.there self.old →
+            OnOk result (Becomes (H.now host.old) (H.now host.new) (λ v w. IsSaved self.old ⊎ SavesExactly T.named T.there T.cell self.old self.new v w)) }
+
+        // One slot alone is written; and where memory or the table refused, none. The other one is as reads gave it, at each moment.
+        ensures spared { OnOk result ((slot : ℕ) → slot < 2 → self.new.keep ≢ Some slot → IsSpared H.now H.may H.clock H.since slot host.old host.new) }
+        ensures refused { IfErr result (SparesOne (λ slot. IsSpared H.now H.may H.clock H.since slot host.old host.new) self.old.keep) }
+
+        // Nothing is marked once it is written, and a refusal leaves the marks.
+        ensures marked { T.tells self.old.engine.table → OnOk result (IsSaved self.old ⊎ (NoMarks (T.named self.new.engine.table) × NoMarks (T.there self.new.engine.table))) }
+        ensures unmarked { T.tells self.old.engine.table → OnErr result (SameMarks (T.named self.old.engine.table) (T.named self.new.engine.table) × SameMarks (T.there self.old.engine.table) (T.there self.new.engine.table)) }
 
         ensures idle { (slot : ℕ) → self.old.ended ≡ false → self.old.keep ≡ Some slot → self.old.saved ≡ count_in self.old.reservoir → opened self.old.reservoir ≡ [] →
             (result ≡ Ok self.old.saved) × (self.new ≡ self.old) × (host.new ≡ host.old) }
@@ -103,17 +120,13 @@ impl<T: Table> Session<T> {
     /// Writes a checkpoint of all events, which are all stored. What is written is encoded before the first
     /// call on the host, and the table is marked once it is in its slot.
     fn write_checkpoint<H: Host>(&mut self, host: &mut H) -> Result<u64, TaskFault>
-        requires going { self.old.ended ≡ false }
-        requires empty { opened self.old.reservoir ≡ [] }
-        requires slots_reach { ReachesSlots self.old.slots (H.now host.old) }
-        ensures within_step { (plan : Planned) → IsRunning plan (H.now host.old) (H.may host.old) T.tells T.cell T.named T.there self.old →
-            IsWithinStep H.may H.clock H.since H.said (store_of plan) self.old.keep [] host.old host.new }
-        ensures running { (plan : Planned) → IsRunning plan (H.now host.old) (H.may host.old) T.tells T.cell T.named T.there self.old →
-            OnOk result (IsRunning plan (H.now host.new) (H.may host.new) T.tells T.cell T.named T.there self.new) }
-        ensures rule { T.tells self.old.engine.table → OnOk result (Becomes (H.now host.old) (H.now host.new) (SavesByRule T.named T.there T.cell self.old self.new)) }
+        requires ready { IsToSave (H.now host.old) self.old }
+        ensures runs { (plan : Planned) → IsRunning plan (H.now host.old) (H.may host.old) T.tells T.cell T.named T.there self.old →
+            RunsOn H.now H.may H.clock H.since H.said T.tells T.cell T.named T.there plan result self.old self.new host.old host.new }
+        ensures told { T.tells self.old.engine.table → OnOk result (IsSavedAs H.now H.may T.cell T.named T.there self.old self.new host.old host.new) }
         ensures beside { IsBeside H.now H.may H.said H.disk_faults H.out_faults T.tells T.faults T.cell self.old self.new host.old host.new }
-        ensures done { IfOk result (λ count. IsSavedNow count self.old self.new) }
-        ensures fault { IfErr result (IsLeft T.faults self.old self.new (Rose (H.disk_faults host.old) (H.disk_faults host.new))) }
+        ensures done { IfOk result (IsSavedNow (λ slot. IsSpared H.now H.may H.clock H.since slot host.old host.new) self.old self.new) }
+        ensures fault { IfErr result (IsLeft T.tells T.faults T.named T.there (λ slot. IsSpared H.now H.may H.clock H.since slot host.old host.new) (Rose (H.disk_faults host.old) (H.disk_faults host.new)) self.old self.new) }
     {
         law_checkpoints::<H>();
         law_steps::<H>();

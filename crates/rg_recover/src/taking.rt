@@ -1,4 +1,4 @@
-ghost use Rattle.std.specs.Prelude.{◌≡◌, ℕ, List};
+ghost use Rattle.std.specs.Prelude.{ℕ, List};
 ghost use Rattle.rg_config.specs.Plans.{Planned};
 ghost use Rattle.rg_recover.specs.Sessions.{IsReady};
 ghost use Rattle.rg_recover.specs.Storing.{CanStore, StoresChunk, KeepsEvents, MakesRoom};
@@ -28,32 +28,14 @@ pub(crate) fn take_in<H: Host, T: Table, L: Ledger>(
     ensures nodes { CarriesNodes H.now H.may T.tells T.cell result reservoir.old reservoir.new engine.old engine.new host.old host.new }
     ensures takes { TakesEvent H.now H.may H.clock H.since H.said H.disk_faults H.out_faults T.tells T.named T.there T.cell T.faults result reservoir.old reservoir.new engine.old engine.new host.old host.new }
 {
-    let mut past = Stored::new(reservoir, host);
-    take_over(&mut past, engine, event, steps)
-}
-
-/// The same over the reservoir and its host as a past.
-fn take_over<H: Host, T: Table, L: Ledger>(
-    past: &mut Stored<H>,
-    engine: &mut Engine<T>,
-    event: Event,
-    steps: &mut Steps<L>,
-) -> Result<Answers, TaskFault>
-    requires can { CanTake (H.now past.old.host.now) past.old.reservoir.now engine.old event }
-    ensures ready { (plan : Planned) (texts : List (List ℕ)) → IsReady plan (H.now past.old.host.now) (H.may past.old.host.now) (T.tells engine.old.table) (T.cell engine.old.table) past.old.reservoir.now engine.old texts →
-        AnswersReady H.now H.may H.clock H.since H.said T.tells T.cell plan texts event result past.old.reservoir.now past.new.reservoir.now engine.old engine.new past.old.host.now past.new.host.now }
-    ensures nodes { CarriesNodes H.now H.may T.tells T.cell result past.old.reservoir.now past.new.reservoir.now engine.old engine.new past.old.host.now past.new.host.now }
-    ensures takes { TakesEvent H.now H.may H.clock H.since H.said H.disk_faults H.out_faults T.tells T.named T.there T.cell T.faults result past.old.reservoir.now past.new.reservoir.now engine.old engine.new past.old.host.now past.new.host.now }
-    ensures same_reservoir { past.new.reservoir.ghost_name ≡ past.old.reservoir.ghost_name }
-    ensures same_host { past.new.host.ghost_name ≡ past.old.host.ghost_name }
-{
     // an engine has a spot for each offset of its plan, before and after
     let _before = engine.spots();
-    match make_room(past) {
+    match make_room(reservoir, host) {
         Ok(()) => {}
         Err(fault) => return Err(fault),
     }
-    match engine.take(past, event, steps) {
+    let mut past = Stored::new(reservoir, host);
+    match engine.take(&mut past, event, steps) {
         Ok(answers) => {
             let _spots = engine.spots();
             Ok(answers)
@@ -62,17 +44,15 @@ fn take_over<H: Host, T: Table, L: Ledger>(
     }
 }
 
-/// Commits the open chunk of a past where the next event has no room beside it.
-fn make_room<H: Host>(past: &mut Stored<H>) -> Result<(), TaskFault>
-    requires can { CanStore (H.now past.old.host.now) past.old.reservoir.now }
-    ensures stores { StoresChunk H.now H.may H.clock H.since H.said result past.old.reservoir.now past.new.reservoir.now past.old.host.now past.new.host.now }
-    ensures keeps { KeepsEvents H.now H.said H.disk_faults H.out_faults past.old.reservoir.now past.new.reservoir.now past.old.host.now past.new.host.now }
-    ensures room { MakesRoom H.disk_faults result past.old.reservoir.now past.new.reservoir.now past.old.host.now past.new.host.now }
-    ensures same_reservoir { past.new.reservoir.ghost_name ≡ past.old.reservoir.ghost_name }
-    ensures same_host { past.new.host.ghost_name ≡ past.old.host.ghost_name }
+/// Commits the open chunk of a reservoir where the next event has no room beside it.
+fn make_room<H: Host>(reservoir: &mut Reservoir, host: &mut H) -> Result<(), TaskFault>
+    requires can { CanStore (H.now host.old) reservoir.old }
+    ensures stores { StoresChunk H.now H.may H.clock H.since H.said result reservoir.old reservoir.new host.old host.new }
+    ensures keeps { KeepsEvents H.now H.said H.disk_faults H.out_faults reservoir.old reservoir.new host.old host.new }
+    ensures room { MakesRoom H.disk_faults result reservoir.old reservoir.new host.old host.new }
 {
-    if past.reservoir.has_room() {
+    if reservoir.has_room() {
         return Ok(());
     }
-    commit_open(past.reservoir, past.host)
+    commit_open(reservoir, host)
 }

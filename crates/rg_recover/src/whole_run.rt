@@ -95,6 +95,7 @@ pub fn run<I: Source, H: Host, L: Ledger>(
 }
 
 /// A run that has its buffer.
+// Three of its clauses are what it asks, word for word what `answer_opened` asks.
 fn run_lines<I: Source, H: Host, L: Ledger>(
     alloc: Global,
     lines: &mut Lines,

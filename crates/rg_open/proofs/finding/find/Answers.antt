@@ -8,7 +8,7 @@ use Rattle.rg_reservoir.specs.Kept.{base, all_events}
 use Rattle.rg_reservoir.proofs.Firsts.{quiet}
 use Rattle.rg_reservoir.proofs.Seeking.{one_image}
 use Rattle.rg_open.proofs.Blame.{list_opened}
-use Rattle.rg_open.proofs.Attached.{events_of, openable_still, pending_stays, sized_left, reach_left, found_by}
+use Rattle.rg_open.proofs.Attached.{events_of, openable_still, pending_stays, sized_left, held_left, reach_left, found_by}
 use Rattle.rg_open.proofs.Causes.{log_damaged, log_differs, log_disk, log_neither, rose_last, slots_unread}
 use Rattle.rg_open.proofs.Settles.{all-fewer, fewer-all_settled, writes-after}
 use Rattle.rg_open.proofs.finding.find.Goals as goal
@@ -53,6 +53,7 @@ returns-in-Ok-attach-clause-found g c =
         second = pending_stays 1 (SchemaAdded ours) (g.H.Host.now m) (g.H.Host.now n) (g.H.Host.may m) (g.H.Host.may n) v (λ e. absurd (omega (arith, e))) (leaves.now_stays ∙ told) (λ w also. g.met.H.Host.now_may n w also) c.attach.ensures.writes.left still.second;
       };
       sizes = λ v told. sized_left (SchemaAdded ours) (g.H.Host.now m) (g.H.Host.may m) (g.H.Host.may n) v (leaves.now_stays ∙ told) still c.attach.ensures.writes.left c.in-Ok.read.0 (read.sized v told);
+      slots_left = λ v told. held_left (SchemaAdded ours) (g.H.Host.now m) (g.H.Host.may m) (g.H.Host.may n) v (leaves.now_stays ∙ told) still c.attach.ensures.writes.left c.in-Ok.read.1 (read.are v told);
       slots_are = read.are;
       slots_go = read.going;
       list = λ v payloads told has w also.

@@ -1,4 +1,4 @@
-use Rattle.std.proofs.Common.{◌≡◌, ◌∙◌, ◌+◌, inl, inr, [], ℕ, List, Option, take, ap, sym, subst, arith}
+use Rattle.std.proofs.Common.{◌≡◌, ◌≤◌, ◌∙◌, ◌+◌, inl, inr, [], ℕ, List, Option, take, ap, sym, subst, arith}
 use Rattle.rg_host.specs.Image.{Image}
 use Rattle.rg_event.specs.Shapes.{Shape}
 use Rattle.rg_event.specs.declared.event.Event.{Event}
@@ -18,13 +18,14 @@ use Rattle.rg_restore.specs.Slots.{slot_in, HaveBegun}
 use Rattle.rg_open.specs.Blame.{opened_list}
 use Rattle.rg_open.proofs.Blame.{amiss_in}
 use Rattle.rg_open.proofs.Causes.{rose_last}
-use Rattle.rg_open.proofs.Found.{begun_keep, from_later, from_texts, kept_since, next_is, reaches_still}
+use Rattle.rg_open.proofs.Found.{begun_keep, from_later, from_texts, next_is, reaches_still}
+use Rattle.rg_open.proofs.Known.{from_stored, kept_since}
 use Rattle.rg_open.proofs.Settles.{all-fewer, fewer-all_settled, writes-before}
 use Rattle.rg_open.proofs.Unfit.{why}
 use Rattle.rg_open.proofs.opening.open_settled.Goals as goal
 
-pub start-requires-clause-start : goal.start-requires-clause-start
-start-requires-clause-start g c = record { task = c.requires.copies.2; going = c.in-Ok.ensures.found.going.0; none = c.in-Ok.ensures.found.empty.0; empty = c.requires.empty }
+pub start-requires : goal.start-requires
+start-requires g c = record { start = record { read = c.requires.ready.read; task = c.requires.ready.task; going = c.in-Ok.ensures.found.going.0; none = c.in-Ok.ensures.found.empty.0; empty = c.requires.ready.empty } }
 
 pub returns-in-Err-clause-refused : goal.returns-in-Err-clause-refused
 returns-in-Err-clause-refused g c =
@@ -58,7 +59,7 @@ returns-in-Ok-start-clause-opened g c =
     let r = c.start.new.reservoir in
     let saved = found.saved in
     let task = c.args.copies.task in
-    let tasks_are = c.requires.copies.2 in
+    let tasks_are = c.requires.ready.task in
     let before = c.args.steps.now in
     let after = c.start.new.steps in
     let reads = g.met.H.Host.now_may m in
@@ -68,10 +69,13 @@ returns-in-Ok-start-clause-opened g c =
     let ticked = subst (λ (k : Tasks). (numbers : List ℕ) × HaveBegun k.offsets (slot_in saved) origin.slot numbers × (after + come k numbers ≡ before + come k (numbers_of engine.spots))) tasks_are starts.ticks in
     record {
       started = λ openable tells. starts.started (finds.found openable) tells;
-      since = λ openable tells.
-          kept_since plan (g.H.Host.now m) (g.H.Host.may m) found.reservoir saved (finds.found openable) task (tasks_are ∙ c.requires.read.task) (g.H.Host.may n) left.leaves.may_stays.no_more reads (HeadsName (g.H.Host.now m) (base found.reservoir))
-          given.queries given.schema.fields (base found.reservoir).committed found.slots (finds.sizes openable.image openable.told) origin.slot origin.from (starts.is_from (finds.listed openable.image openable.told))
+      told = λ v told. let list = finds.listed v told in (list.0, left.leaves.now_stays ∙ list.2);
+      since = λ v told tells.
+          kept_since (g.H.Host.may m) (g.H.Host.may n) left.leaves.may_stays.no_more saved found.slots (finds.slots_left v told) (finds.sizes v told) (finds.listed v told).0 (reads (finds.listed v told).0 (finds.listed v told).2) (HeadsName (g.H.Host.now m) (base found.reservoir))
+          given.queries given.schema.fields task (base found.reservoir).committed origin.slot origin.from (starts.is_from (finds.listed v told))
           (g.T.Table.named engine.table) (g.T.Table.there engine.table) (g.T.Table.cell engine.table) (starts.since tells);
+      stored = λ v told. subst (λ (b : Base). origin.from ≤ b.committed) (sym left.based)
+          (from_stored (HeadsName (g.H.Host.now m) (base found.reservoir)) given.queries given.schema.fields task (base found.reservoir).committed (slot_in saved) origin.slot origin.from (starts.is_from (finds.listed v told)));
       passed = λ openable.
           subst (λ (k : Tasks). after ≡ before + passed_count k (take origin.from (all_events (g.H.Host.now n) (base r) [])) (all_events (g.H.Host.now n) (base r) [])) tasks_are
           (subst (λ (l : List Event). after ≡ before + passed_count task (take origin.from l) l) (sym same) (starts.passed (finds.found openable)));
@@ -79,7 +83,7 @@ returns-in-Ok-start-clause-opened g c =
         saved = saved;
         slots = finds.slots_are v told;
         keep = origin.slot;
-        is = from_texts plan (g.H.Host.now m) (g.H.Host.may m) found.reservoir saved (finds.found openable) task (tasks_are ∙ c.requires.read.task) given.queries c.requires.read.printed reads c.requires.read.said c.requires.read.legal
+        is = from_texts plan (g.H.Host.now m) (g.H.Host.may m) found.reservoir saved (finds.found openable) task (tasks_are ∙ c.requires.ready.read.task) given.queries c.requires.ready.read.printed reads c.requires.ready.read.said c.requires.ready.read.legal
             origin.slot origin.from (starts.is_from (finds.listed v told));
       };
       events = λ v events told has. same ∙ finds.events v events told has;

@@ -1,6 +1,7 @@
-use Rattle.std.proofs.Common.{◌∙◌, inl, inr, ⊎_elim, ℕ, List, sym, subst, arith}
+use Rattle.std.proofs.Common.{◌∙◌, ◌≤◌, inl, inr, ⊎_elim, ℕ, List, sym, subst, arith}
 use Rattle.rg_config.specs.Plans.{planned}
 use Rattle.rg_checkpoint.specs.Slots.{sizes_in}
+use Rattle.rg_reservoir.specs.Kept.{base}
 use Rattle.rg_open.specs.Opened.{IsKeptSince}
 use Rattle.rg_open.specs.Opening.{IsStarted}
 use Rattle.rg_open.proofs.Attached.{openable_still}
@@ -18,19 +19,22 @@ returns-in-Ok-open_settled-clause-started g c = λ openable tells.
     let resumed = c.in-Ok-open_settled.opened.1 in
     let n = c.open_settled.new.host in
     let table = opened.engine.table in
-    subst (λ (from : ℕ). IsStarted {T = g.row.T.Denot} (planned c.args.plan.now) (g.H.Host.now n) (g.H.Host.may n) (g.T.Table.tells table) (g.T.Table.cell table) opened.reservoir opened.engine opened.texts opened.keep from) c.in-Ok-open_settled.ensures.numbers.2
-    (subst (λ (texts : List (List ℕ)). IsStarted {T = g.row.T.Denot} (planned c.args.plan.now) (g.H.Host.now n) (g.H.Host.may n) (g.T.Table.tells table) (g.T.Table.cell table) opened.reservoir opened.engine texts opened.keep resumed.from) (sym c.in-Ok-open_settled.ensures.copies.1)
+    subst (λ (from : ℕ). IsStarted {T = g.row.T.Denot} (planned c.args.plan.now) (g.H.Host.now n) (g.H.Host.may n) (g.T.Table.tells table) (g.T.Table.cell table) opened.reservoir opened.engine opened.texts opened.keep from) c.in-Ok-open_settled.ensures.come.from_is
+    (subst (λ (texts : List (List ℕ)). IsStarted {T = g.row.T.Denot} (planned c.args.plan.now) (g.H.Host.now n) (g.H.Host.may n) (g.T.Table.tells table) (g.T.Table.cell table) opened.reservoir opened.engine texts opened.keep resumed.from) (sym c.in-Ok-open_settled.ensures.come.texts_are)
     (c.in-Ok-open_settled.ensures.opened.started (openable_still (planned c.args.plan.now) (g.H.Host.now h) (g.H.Host.now m) (g.H.Host.may h) (g.H.Host.may m) leaves.now_stays leaves.fewer openable) tells))
 
 pub returns-in-Ok-open_settled-clause-since : goal.returns-in-Ok-open_settled-clause-since
-returns-in-Ok-open_settled-clause-since g c = λ openable tells slot is.
-    let h = c.args.host.now in
-    let m = c.settle.new.host in
-    let leaves = c.settle.ensures.leaves in
+returns-in-Ok-open_settled-clause-since g c = λ v told tells slot is.
     let opened = c.in-Ok-open_settled.opened.0 in
     let table = opened.engine.table in
-    subst (λ (from : ℕ). IsKeptSince (g.H.Host.may c.open_settled.new.host) slot from c.args.plan.now.queries (sizes_in opened.slots slot) (g.T.Table.named table) (g.T.Table.there table) (g.T.Table.cell table)) c.in-Ok-open_settled.ensures.numbers.2
-    (c.in-Ok-open_settled.ensures.opened.since (openable_still (planned c.args.plan.now) (g.H.Host.now h) (g.H.Host.now m) (g.H.Host.may h) (g.H.Host.may m) leaves.now_stays leaves.fewer openable) tells slot is)
+    subst (λ (from : ℕ). IsKeptSince (g.H.Host.may c.open_settled.new.host) slot from c.args.plan.now.queries (sizes_in opened.slots slot) (g.T.Table.named table) (g.T.Table.there table) (g.T.Table.cell table)) c.in-Ok-open_settled.ensures.come.from_is
+    (c.in-Ok-open_settled.ensures.opened.since v (c.settle.ensures.leaves.now_stays ∙ told) tells slot is)
+
+pub returns-in-Ok-open_settled-clause-stored : goal.returns-in-Ok-open_settled-clause-stored
+returns-in-Ok-open_settled-clause-stored g c = λ v told.
+    let opened = c.in-Ok-open_settled.opened.0 in
+    subst (λ (from : ℕ). from ≤ (base opened.reservoir).committed) c.in-Ok-open_settled.ensures.come.from_is
+    (c.in-Ok-open_settled.ensures.opened.stored v (c.settle.ensures.leaves.now_stays ∙ told))
 
 pub returns-in-Ok-open_settled-clause-passed : goal.returns-in-Ok-open_settled-clause-passed
 returns-in-Ok-open_settled-clause-passed g c = λ openable.
@@ -49,8 +53,11 @@ returns-in-Ok-open_settled-clause-is_from g c = λ v told openable.
 pub returns-in-Ok-open_settled-clause-events : goal.returns-in-Ok-open_settled-clause-events
 returns-in-Ok-open_settled-clause-events g c = λ v events told has. (
   c.in-Ok-open_settled.ensures.opened.events v events (c.settle.ensures.leaves.now_stays ∙ told) has,
-  c.in-Ok-open_settled.ensures.numbers.0 ∙ c.in-Ok-open_settled.ensures.opened.next v events (c.settle.ensures.leaves.now_stays ∙ told) has,
+  c.in-Ok-open_settled.ensures.come.next_is ∙ c.in-Ok-open_settled.ensures.opened.next v events (c.settle.ensures.leaves.now_stays ∙ told) has,
 )
+
+pub returns-in-Ok-open_settled-clause-told : goal.returns-in-Ok-open_settled-clause-told
+returns-in-Ok-open_settled-clause-told g c = λ v told. c.in-Ok-open_settled.ensures.opened.told v (c.settle.ensures.leaves.now_stays ∙ told)
 
 pub returns-in-Ok-open_settled-clause-settled : goal.returns-in-Ok-open_settled-clause-settled
 returns-in-Ok-open_settled-clause-settled g c = λ v told. c.in-Ok-open_settled.ensures.opened.settled v (c.settle.ensures.leaves.now_stays ∙ told)

@@ -5,9 +5,11 @@ use Rattle.rg_open.specs.Starts.{IsToStart, HasStarted, HasNotStarted, LeavesLog
 use Rattle.rg_open.proofs.Moved.{moved}
 use Rattle.rg_open.proofs.starting.start.Goals as goal
 
-pub start_over-requires-clause-start : goal.start_over-requires-clause-start
-start_over-requires-clause-start g c =
-    subst (λ (r : Reservoir). IsToStart c.args.plan.now c.args.task (g.T.Table.tells c.args.table) (g.T.Table.cell c.args.table) r) (sym c.new-past.ensures.reservoir) c.requires.start
+pub start_over-requires : goal.start_over-requires
+start_over-requires g c = record {
+  start =
+      subst (λ (r : Reservoir). IsToStart c.args.plan.now c.args.task (g.T.Table.tells c.args.table) (g.T.Table.cell c.args.table) r) (sym c.new-past.ensures.reservoir) c.requires.start;
+}
 
 pub returns-in-Ok-clause-started : goal.returns-in-Ok-clause-started
 returns-in-Ok-clause-started g c =

@@ -37,7 +37,7 @@ returns-in-Ok-clause-started g c =
     let to = c.requires.start in
     let runs : (base r).ended ≡ true → ⊥ = λ e. (let x = sym e ∙ to.going in cc) in
     let goes = c.resume.ensures.past.goes in
-    let tasks_are = to.task ∙ c.requires.read.task in
+    let tasks_are = to.task ∙ c.requires.start.read.task in
     let tells = g.T.Table.tells c.args.table in
     let engine = c.in-Ok.started.0 in
     let origin = c.in-Ok.started.1 in
@@ -50,27 +50,27 @@ returns-in-Ok-clause-started g c =
     to.none to.going c.fields.ensures.columns (omega (arith, all_long now (base r) (opened r), ap length to.none)) (c.in-Ok.ensures.from listed) in
     record {
       started = λ found told.
-          let truthful = are_truthful plan now may r c.args.saved found c.args.task tasks_are given.queries c.requires.read.printed reads c.requires.read.said in
-          let stands = c.in-Ok.ensures.stands (can_stand plan now may r found.reservoir found.empty c.args.task tasks_are tells c.requires.read.legal told) runs
+          let truthful = are_truthful plan now may r c.args.saved found c.args.task tasks_are given.queries c.requires.start.read.printed reads c.requires.start.read.said in
+          let stands = c.in-Ok.ensures.stands (can_stand plan now may r found.reservoir found.empty c.args.task tasks_are tells c.requires.start.read.legal told) runs
           (last_is plan now may r found.reservoir found.empty c.last_of-last.result c.last_of-last.ensures.some c.last_of-last.ensures.none) truthful in
           started plan now may r c.args.saved found c.args.task tasks_are then after s goes.base none (goes.sound found.reservoir.sound) goes.leaves.may_stays.no_more
-          (g.T.Table.tells engine.table) cells engine given.queries origin.slot origin.from c.requires.read.printed c.requires.read.said c.requires.read.legal
+          (g.T.Table.tells engine.table) cells engine given.queries origin.slot origin.from c.requires.start.read.printed c.requires.start.read.said c.requires.start.read.legal
           (c.in-Ok.ensures.table.tells.1 told) c.in-Ok.ensures.engine.plan_is stands
-          (kept_by plan now may r c.args.saved found c.args.task tasks_are after goes.leaves.may_stays.no_more (HeadsName now (base r)) given.queries given.schema.fields (base r).committed c.requires.read.printed origin.slot origin.from
+          (kept_by plan now may r c.args.saved found c.args.task tasks_are after goes.leaves.may_stays.no_more (HeadsName now (base r)) given.queries given.schema.fields (base r).committed c.requires.start.read.printed origin.slot origin.from
           (is_from (sound_listed now may r reads found.reservoir.sound)));
       passed = λ found.
-          let truthful = are_truthful plan now may r c.args.saved found c.args.task tasks_are given.queries c.requires.read.printed reads c.requires.read.said in
+          let truthful = are_truthful plan now may r c.args.saved found c.args.task tasks_are given.queries c.requires.start.read.printed reads c.requires.start.read.said in
           c.in-Ok.ensures.passed found.reservoir.sound runs (last_is plan now may r found.reservoir found.empty c.last_of-last.result c.last_of-last.ensures.some c.last_of-last.ensures.none) truthful
           ∙ ap (λ (l : List Event). c.args.steps.now + passed_count c.args.task (take origin.from all) l) c.resume.ensures.events
           ∙ ap (λ (o : List Event). c.args.steps.now + passed_count c.args.task (take origin.from (all_events now (base r) o)) (all_events now (base r) o)) to.none;
       is_from = is_from;
       ticks = c.in-Ok.ensures.ticks;
       node = λ n log told not.
-          let blame = c.in-Ok.ensures.node n (can_stand plan now may r log to.none c.args.task tasks_are tells c.requires.read.legal told) runs
+          let blame = c.in-Ok.ensures.node n (can_stand plan now may r log to.none c.args.task tasks_are tells c.requires.start.read.legal told) runs
           (last_is plan now may r log to.none c.last_of-last.result c.last_of-last.ensures.some c.last_of-last.ensures.none)
           (λ goes_on. not (runs_by plan now may r log c.args.task tasks_are then after s goes.base (goes.sound log.sound) n (g.T.Table.tells engine.table) cells engine
-          c.requires.read.legal (c.in-Ok.ensures.table.tells.1 told) c.in-Ok.ensures.engine.plan_is goes_on)) in
-          amiss_by plan now may r log given.queries c.fields.result.now c.args.task c.args.saved n blame.0 blame.1 c.requires.read.printed c.fields.ensures.columns tasks_are blame.2 blame.3;
+          c.requires.start.read.legal (c.in-Ok.ensures.table.tells.1 told) c.in-Ok.ensures.engine.plan_is goes_on)) in
+          amiss_by plan now may r log given.queries c.fields.result.now c.args.task c.args.saved n blame.0 blame.1 c.requires.start.read.printed c.fields.ensures.columns tasks_are blame.2 blame.3;
       placed = λ log. record {
         reservoir = record {
           sound = goes.sound log.sound;
@@ -112,7 +112,7 @@ returns-in-Err-clause-refused g c =
     let to = c.requires.start in
     let fault = c.in-Err.fault in
     let runs : (base r).ended ≡ true → ⊥ = λ e. (let x = sym e ∙ to.going in cc) in
-    let tasks_are = to.task ∙ c.requires.read.task in
+    let tasks_are = to.task ∙ c.requires.start.read.task in
     let tells = g.T.Table.tells c.args.table in
     record {
       disk = λ is. c.in-Err.ensures.cause past.Disk (disk_by fault (sym c.from.ensures ∙ is));
@@ -120,11 +120,11 @@ returns-in-Err-clause-refused g c =
       undamaged = λ n sound is. c.in-Err.ensures.never_damaged n sound runs (damaged_by fault n (sym c.from.ensures ∙ is));
       same_schema = λ is. never_differs fault (sym c.from.ensures ∙ is);
       bad = λ n log told is.
-          let blame = c.in-Err.ensures.bad n (can_stand plan now may r log to.none c.args.task tasks_are tells c.requires.read.legal told) runs (bad_by fault n (sym c.from.ensures ∙ is)) in
-          amiss_by plan now may r log given.queries c.fields.result.now c.args.task c.args.saved n blame.0 blame.1 c.requires.read.printed c.fields.ensures.columns tasks_are blame.2 blame.3;
+          let blame = c.in-Err.ensures.bad n (can_stand plan now may r log to.none c.args.task tasks_are tells c.requires.start.read.legal told) runs (bad_by fault n (sym c.from.ensures ∙ is)) in
+          amiss_by plan now may r log given.queries c.fields.result.now c.args.task c.args.saved n blame.0 blame.1 c.requires.start.read.printed c.fields.ensures.columns tasks_are blame.2 blame.3;
       never_bad = λ n found told is.
-          c.in-Err.ensures.never_bad n (can_stand plan now may r found.reservoir found.empty c.args.task tasks_are tells c.requires.read.legal told) runs
-          (are_truthful plan now may r c.args.saved found c.args.task tasks_are given.queries c.requires.read.printed (g.met.H.Host.now_may p.host.now) c.requires.read.said) (bad_by fault n (sym c.from.ensures ∙ is));
+          c.in-Err.ensures.never_bad n (can_stand plan now may r found.reservoir found.empty c.args.task tasks_are tells c.requires.start.read.legal told) runs
+          (are_truthful plan now may r c.args.saved found c.args.task tasks_are given.queries c.requires.start.read.printed (g.met.H.Host.now_may p.host.now) c.requires.start.read.said) (bad_by fault n (sym c.from.ensures ∙ is));
       table_disk = λ is. c.in-Err.ensures.disk (table_by fault (sym c.from.ensures ∙ is));
       table_kept = c.in-Err.ensures.back;
     }

@@ -12,7 +12,8 @@ use Rattle.rg_open.specs.Stores.{store_of}
 use Rattle.rg_recover.proofs.Causes.{storing_cause, same_at_fault}
 use Rattle.rg_recover.proofs.Ready.{opened_still, stepped_in_step}
 use Rattle.rg_recover.proofs.Sound.{all_stored, log_settled}
-use Rattle.rg_recover.proofs.Stays.{slots_of_log}
+use Rattle.rg_recover.proofs.Sparing.{spared_beside}
+use Rattle.rg_recover.proofs.Stays.{below_log, slots_of_log}
 use Rattle.rg_recover.proofs.Within.{writes_within}
 use Rattle.rg_recover.proofs.commit.commit_open.Goals as goal
 
@@ -30,6 +31,7 @@ returns-in-Ok-clause-stores g c =
       within = λ plan keep log.
           writes_within g.H.Host.now g.H.Host.may g.H.Host.clock g.H.Host.since g.H.Host.said (store_of plan) keep (opened r) 2 (From (base r).end (Adds (base r).shape.fields (opened r))) h then c.commit.ensures.leaves
           (λ u left. c.law_steps.ensures.commits h plan keep r u log few left);
+      spared = λ slot below. spared_beside g.H.Host.now g.H.Host.may g.H.Host.clock g.H.Host.since g.H.Host.said 2 slot (From (base r).end (Adds (base r).shape.fields (opened r))) h then (below_log slot below) c.commit.ensures.leaves;
       done = record {
         going = c.in-Ok.ensures.going.1;
         step = λ plan keep log. record { more = opened r; whole = inr refl; grown = all_stored (g.H.Host.now then) (base s) (all_events (g.H.Host.now h) (base r) (opened r)) (opened s) c.in-Ok.ensures.empty.0 (c.in-Ok.ensures.list log.sound); left = stepped plan keep log };
@@ -53,6 +55,7 @@ returns-in-Err-clause-stores g c =
       within = λ plan keep log.
           writes_within g.H.Host.now g.H.Host.may g.H.Host.clock g.H.Host.since g.H.Host.said (store_of plan) keep (opened r) 2 (From (base r).end (Adds (base r).shape.fields (opened r))) h c.commit.new.host c.commit.ensures.leaves
           (λ u left. c.law_steps.ensures.commits h plan keep r u log few left);
+      spared = λ slot below. spared_beside g.H.Host.now g.H.Host.may g.H.Host.clock g.H.Host.since g.H.Host.said 2 slot (From (base r).end (Adds (base r).shape.fields (opened r))) h c.commit.new.host (below_log slot below) c.commit.ensures.leaves;
       done = tt;
     }
 

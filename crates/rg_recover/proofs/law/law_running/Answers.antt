@@ -3,6 +3,7 @@ use Rattle.std.specs.Prelude.{All}
 use Rattle.rg_event.specs.Codec.{IsEventOf}
 use Rattle.rg_event.specs.Shapes.{Shape}
 use Rattle.rg_recover.specs.Sessions.{events_of}
+use Rattle.rg_recover.proofs.Keeping.{running_keeps}
 use Rattle.rg_recover.proofs.Running.{none_open}
 use Rattle.rg_recover.proofs.Sound.{long, all_rise, next_is, all_fit, log_framed, log_stored}
 use Rattle.rg_recover.proofs.law.law_running.Goals as goal
@@ -29,3 +30,6 @@ returns-clause-framed g c = λ plan host s u runs left. let log = runs.ready.in_
 
 pub returns-clause-stored : goal.returns-clause-stored
 returns-clause-stored g c = λ plan host s u runs left. let log = runs.ready.in_step.reservoir in log_stored (g.H.Host.now host) (g.H.Host.may host) s.reservoir log.sound log.going plan.shape log.shape log.file u left
+
+pub returns-clause-keeps : goal.returns-clause-keeps
+returns-clause-keeps g c = λ plan host s runs. running_keeps plan (g.H.Host.now host) (g.H.Host.may host) g.T.Table.tells g.T.Table.cell g.T.Table.named g.T.Table.there s runs

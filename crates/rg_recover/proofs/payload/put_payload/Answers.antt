@@ -31,7 +31,7 @@ returns-in-Err-clause-writes g c =
     })
 
 pub extend-requires-clause-complete : goal.extend-requires-clause-complete
-extend-requires-clause-complete g c = let kept = rw c.in-Changes.is at c.requires.kept in ap is_some kept.1.1
+extend-requires-clause-complete g c = let kept = rw c.in-Changes.is at c.requires.ready.kept in ap is_some kept.1.1
 
 pub returns-in-Ok-extend-clause-writes : goal.returns-in-Ok-extend-clause-writes
 returns-in-Ok-extend-clause-writes g c =

@@ -3,16 +3,18 @@ use Rattle.std.proofs.lemmas.Result.{on_ok_weaker}
 use Rattle.rg_event.specs.declared.event.Event.{Event}
 use Rattle.rg_reservoir.specs.Kept.{opened}
 use Rattle.rg_open.specs.Stores.{store_of}
+use Rattle.rg_recover.proofs.Sparing.{spared_still}
 use Rattle.rg_recover.proofs.Storing.{still_has}
 use Rattle.rg_recover.proofs.Within.{still_within}
 use Rattle.rg_recover.proofs.taking.make_room.Goals as goal
 
 pub returns-then-has_room-clause-stores : goal.returns-then-has_room-clause-stores
 returns-then-has_room-clause-stores g c =
-    let h = c.args.past.now.host.now in
-    let r = c.args.past.now.reservoir.now in
+    let h = c.args.host.now in
+    let r = c.args.reservoir.now in
     record {
       within = λ plan keep log. still_within g.H.Host.now g.H.Host.may g.H.Host.clock g.H.Host.since g.H.Host.said g.met.H.Host.only_now g.met.H.Host.sinks (store_of plan) keep (opened r) h;
+      spared = λ slot below. spared_still g.H.Host.now g.H.Host.may g.H.Host.clock g.H.Host.since g.H.Host.said g.met.H.Host.only_now g.met.H.Host.sinks slot h;
       done = still_has g.H.Host.now g.H.Host.may g.H.Host.clock g.H.Host.since g.H.Host.said r h c.requires.can.going;
     }
 

@@ -1,13 +1,15 @@
-use Rattle.std.proofs.Common.{◌∙◌, refl, sym, ap, subst, List, Err}
+use Rattle.std.proofs.Common.{◌∙◌, refl, sym, ap, subst, arith, List, Err}
 use Rattle.std.specs.Prelude.{All}
 use Rattle.rg_past.specs.declared.past.Spot.{Spot}
 use Rattle.rg_reservoir.specs.Ahead.{all_ahead}
-use Rattle.rg_reservoir.specs.Kept.{base, opened, cache_of, loads_of, stored, Spells, AllTouched}
+use Rattle.rg_reservoir.specs.Kept.{Base, base, opened, cache_of, loads_of, stored, Spells, AllTouched}
 use Rattle.rg_reservoir.proofs.Loading.{some_none}
 use Rattle.rg_open.specs.Stores.{store_of}
 use Rattle.rg_recover.specs.Sessions.{Sitting}
 use Rattle.rg_recover.proofs.Causes.{same_fault}
+use Rattle.rg_recover.proofs.Keeping.{keeps_still}
 use Rattle.rg_recover.proofs.Loading.{events_still, stored_still, running_ahead, node_ahead, placed_ahead, illegal_still, damaged_load, disk_load, ended_load, load_faults}
+use Rattle.rg_recover.proofs.Stays.{slots_quiet}
 use Rattle.rg_recover.proofs.Within.{quiet_within, quiet_stored}
 use Rattle.rg_recover.proofs.session.Session.ahead.Goals as goal
 
@@ -128,3 +130,14 @@ returns-in-Err-clause-untouched g c = λ is.
     let ended = c.in-Err.ensures.ended.0 (ap (λ v. Err v) fault) in
     let goes = c.self.invariant.reservoir_goes c.if-self.false in
     absurd cc
+
+pub returns-in-Ok-clause-keeps : goal.returns-in-Ok-clause-keeps
+returns-in-Ok-clause-keeps g c = rw (← c.self.view_is) (λ keeps.
+    let h = c.args.host.now in
+    let then = c.ahead.new.host in
+    let e = c.self.inside.engine in
+    let s : Sitting g.row.T.Denot = record { reservoir = c.self.inside.reservoir; engine = e; texts = c.self.inside.texts; grace = c.self.inside.grace; slots = c.self.inside.slots; keep = c.self.inside.keep; saved = c.self.inside.saved; ended = c.self.inside.ended } in
+    let new : Sitting g.row.T.Denot = record { reservoir = c.ahead.new.self; engine = e; texts = c.self.inside.texts; grace = c.self.inside.grace; slots = c.self.inside.slots; keep = c.self.inside.keep; saved = c.self.inside.saved; ended = c.self.inside.ended } in
+    keeps_still (g.H.Host.now h) (g.H.Host.now then) (g.H.Host.may h) (g.H.Host.may then) g.T.Table.cell g.T.Table.named g.T.Table.there s new keeps
+    (slots_quiet (g.H.Host.now h) (g.H.Host.now then) (g.H.Host.may h) (g.H.Host.may then) c.ahead.ensures.leaves.now_stays c.ahead.ensures.leaves.may_stays.no_more) (λ rows is. is) refl refl refl refl
+    (omega (arith, ap (λ (b : Base). b.committed) c.ahead.ensures.stays.base)))

@@ -8,6 +8,8 @@ use Rattle.rg_recover.proofs.Nodes.{node_stored}
 use Rattle.rg_recover.proofs.Placed.{placed_stored}
 use Rattle.rg_recover.proofs.Ready.{ready_stepped}
 use Rattle.rg_recover.proofs.Running.{runs_still}
+use Rattle.rg_recover.proofs.Keeping.{keeps_still}
+use Rattle.rg_recover.proofs.Sparing.{spared_still}
 use Rattle.rg_recover.proofs.Stays.{slots_reach}
 use Rattle.rg_recover.proofs.session.Session.commit.Goals as goal
 
@@ -169,3 +171,25 @@ returns-in-Ok-clause-slots_stay g c = c.in-Ok.ensures.stores.done.slots
 pub returns-in-Ok-clause-slots_reach : goal.returns-in-Ok-clause-slots_reach
 returns-in-Ok-clause-slots_reach g c = rw (← c.self.view_is) (λ reaches going.
     slots_reach c.self.inside.slots (g.H.Host.now c.args.host.now) (g.H.Host.now c.commit_open.new.host) (g.H.Host.may c.args.host.now) (g.H.Host.may c.commit_open.new.host) c.in-Ok.ensures.stores.done.slots reaches)
+
+pub returns-in-Ok-clause-keeps : goal.returns-in-Ok-clause-keeps
+returns-in-Ok-clause-keeps g c = rw (← c.self.view_is) (λ keeps.
+    let h = c.args.host.now in
+    let then = c.commit_open.new.host in
+    let e = c.self.inside.engine in
+    let s : Sitting g.row.T.Denot = record { reservoir = c.self.inside.reservoir; engine = e; texts = c.self.inside.texts; grace = c.self.inside.grace; slots = c.self.inside.slots; keep = c.self.inside.keep; saved = c.self.inside.saved; ended = c.self.inside.ended } in
+    let new : Sitting g.row.T.Denot = record { reservoir = c.commit_open.new.reservoir; engine = e; texts = c.self.inside.texts; grace = c.self.inside.grace; slots = c.self.inside.slots; keep = c.self.inside.keep; saved = c.self.inside.saved; ended = c.self.inside.ended } in
+    keeps_still (g.H.Host.now h) (g.H.Host.now then) (g.H.Host.may h) (g.H.Host.may then) g.T.Table.cell g.T.Table.named g.T.Table.there s new keeps
+    c.in-Ok.ensures.stores.done.slots (λ rows is. is) refl refl refl refl c.commit_open.ensures.keeps.log.more)
+
+pub returns-then-self-clause-spared : goal.returns-then-self-clause-spared
+returns-then-self-clause-spared g c = λ slot below. spared_still g.H.Host.now g.H.Host.may g.H.Host.clock g.H.Host.since g.H.Host.said g.met.H.Host.only_now g.met.H.Host.sinks slot c.args.host.now
+
+pub returns-in-Ok-clause-spared : goal.returns-in-Ok-clause-spared
+returns-in-Ok-clause-spared g c = c.commit_open.ensures.stores.spared
+
+pub returns-in-Err-Memory-clause-spared : goal.returns-in-Err-Memory-clause-spared
+returns-in-Err-Memory-clause-spared g c = c.commit_open.ensures.stores.spared
+
+pub returns-in-Err-clause-spared : goal.returns-in-Err-clause-spared
+returns-in-Err-clause-spared g c = c.commit_open.ensures.stores.spared

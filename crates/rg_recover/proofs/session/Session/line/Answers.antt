@@ -8,6 +8,7 @@ use Rattle.rg_recover.specs.Sessions.{Sitting, events_of, stored_of}
 use Rattle.rg_recover.proofs.Causes.{same_fault}
 use Rattle.rg_recover.proofs.Lines.{decided, reply_accepted, after_accepted, has_answers}
 use Rattle.rg_recover.proofs.Running.{runs_still}
+use Rattle.rg_recover.proofs.Keeping.{keeps_still}
 use Rattle.rg_recover.proofs.Stays.{slots_reach}
 use Rattle.rg_recover.proofs.Within.{still_within, still_stored}
 use Rattle.rg_recover.proofs.session.Session.line.Goals as goal
@@ -190,3 +191,13 @@ returns-in-Err-take_in-clause-out_faults g c = c.take_in.ensures.takes.log.out_f
 pub returns-in-Ok-clause-slots_reach : goal.returns-in-Ok-clause-slots_reach
 returns-in-Ok-clause-slots_reach g c = rw (← c.self.view_is) (λ reaches going.
     slots_reach c.self.inside.slots (g.H.Host.now c.args.host.now) (g.H.Host.now c.take_in.new.host) (g.H.Host.may c.args.host.now) (g.H.Host.may c.take_in.new.host) c.in-Ok.ensures.takes.slots reaches)
+
+pub returns-in-Ok-clause-keeps : goal.returns-in-Ok-clause-keeps
+returns-in-Ok-clause-keeps g c = rw (← c.self.view_is) (λ told keeps.
+    let h = c.args.host.now in
+    let then = c.take_in.new.host in
+    let e = c.self.inside.engine in
+    let s : Sitting g.row.T.Denot = record { reservoir = c.self.inside.reservoir; engine = e; texts = c.self.inside.texts; grace = c.self.inside.grace; slots = c.self.inside.slots; keep = c.self.inside.keep; saved = c.self.inside.saved; ended = c.self.inside.ended } in
+    let new : Sitting g.row.T.Denot = record { reservoir = c.take_in.new.reservoir; engine = c.take_in.new.engine; texts = c.self.inside.texts; grace = c.self.inside.grace; slots = c.self.inside.slots; keep = c.self.inside.keep; saved = c.self.inside.saved; ended = false } in
+    keeps_still (g.H.Host.now h) (g.H.Host.now then) (g.H.Host.may h) (g.H.Host.may then) g.T.Table.cell g.T.Table.named g.T.Table.there s new keeps
+    c.in-Ok.ensures.takes.slots (c.take_in.ensures.takes.changed.since told) refl refl refl refl c.take_in.ensures.takes.log.more)

@@ -1,15 +1,36 @@
-use Rattle.std.proofs.Common.{◌≡◌, ◌∙◌, ◌+◌, ℕ, List, take, refl, sym, subst}
+use Rattle.std.proofs.Common.{◌≡◌, ◌≤◌, ◌∙◌, ◌+◌, ℕ, List, take, refl, sym, subst}
 use Rattle.rg_event.specs.Rising.{next_offset}
 use Rattle.rg_event.specs.declared.event.Event.{Event}
 use Rattle.rg_config.specs.Plans.{planned}
 use Rattle.rg_engine.specs.Passed.{passed_count}
 use Rattle.rg_checkpoint.specs.Slots.{ReachesSlots, sizes_in}
+use Rattle.rg_reservoir.specs.Kept.{room_of}
 use Rattle.rg_open.specs.Blame.{IsBlamed, NodeRuns, IsPlaced}
 use Rattle.rg_open.specs.Opened.{IsKeptSince}
 use Rattle.rg_open.specs.Opening.{IsResumed}
-use Rattle.rg_recover.specs.Sessions.{Sitting, IsRunning, events_of, stored_of}
-use Rattle.rg_recover.proofs.Resuming.{started_running, all_of_none, stored_of_none}
+use Rattle.rg_recover.specs.Sessions.{Sitting, HasKept, IsRunning, events_of, stored_of}
+use Rattle.rg_recover.proofs.Resuming.{started_running, all_of_none, stored_of_none, within_count, fits_none}
 use Rattle.rg_recover.proofs.session.Session.resume.Goals as goal
+
+pub new-requires : goal.new-requires
+new-requires g c =
+    let o = c.in-Ok.opened in
+    let are = c.in-Ok.ensures in
+    let chunk = c.requires.read.ranges.chunk in
+    record {
+      whole = record {
+        shape_is = are.copies.0 ∙ sym are.reservoir.2;
+        most_is = sym are.reservoir.3;
+        within = within_count o.reservoir o.engine.spots are.none.0 are.engine.within;
+        some_room = subst (λ (n : ℕ). 1 ≤ n) (sym are.none.1) chunk.0;
+        few = subst (λ (n : ℕ). n ≤ 4096) (sym are.none.1) chunk.1;
+        fits = fits_none o.reservoir (room_of o.reservoir) are.none.0;
+        engine_goes = λ _. are.engine.going;
+        reservoir_goes = λ _. are.reservoir.0;
+        slots_go = λ _. are.slots;
+        keep = are.keep;
+      };
+    }
 
 pub returns-in-Ok-clause-running : goal.returns-in-Ok-clause-running
 returns-in-Ok-clause-running g c = λ openable tells.
@@ -20,7 +41,7 @@ returns-in-Ok-clause-running g c = λ openable tells.
     (started_running (planned c.args.plan.now) (g.H.Host.now h) (g.H.Host.may h) g.T.Table.tells g.T.Table.cell g.T.Table.named g.T.Table.there o.reservoir o.engine o.texts c.args.plan.now.grace o.slots o.keep o.saved
     (c.in-Ok.ensures.started openable tells) (c.in-Ok.ensures.settled openable.image openable.told) c.in-Ok.ensures.reservoir.3 refl
     (λ slot is. subst (λ (l : List (List ℕ)). IsKeptSince (g.H.Host.may h) slot o.saved l (sizes_in o.slots slot) (g.T.Table.named e) (g.T.Table.there e) (g.T.Table.cell e)) (sym c.in-Ok.ensures.copies.1)
-    (c.in-Ok.ensures.since openable tells slot is)))
+    (c.in-Ok.ensures.since openable.image openable.told tells slot is)))
 
 pub returns-in-Ok-clause-passed : goal.returns-in-Ok-clause-passed
 returns-in-Ok-clause-passed g c = λ openable.
@@ -58,3 +79,20 @@ returns-in-Ok-clause-placed g c = λ v events told has.
 
 pub returns-in-Ok-clause-slots_reach : goal.returns-in-Ok-clause-slots_reach
 returns-in-Ok-clause-slots_reach g c = subst (λ (s : Sitting g.row.T.Denot). ReachesSlots s.slots (g.H.Host.now c.open_store.new.host)) (sym c.new.ensures) c.in-Ok.ensures.slots_reach
+
+pub returns-in-Ok-clause-keeps : goal.returns-in-Ok-clause-keeps
+returns-in-Ok-clause-keeps g c = λ v told tells.
+    let h = c.open_store.new.host in
+    let o = c.in-Ok.opened in
+    let e = o.engine.table in
+    let after = c.in-Ok.ensures.told v told in
+    let settled = c.in-Ok.ensures.settled v told in
+    subst (λ (s : Sitting g.row.T.Denot). HasKept (g.H.Host.now h) (g.H.Host.may h) g.T.Table.cell g.T.Table.named g.T.Table.there s) (sym c.new.ensures) (record {
+      image = after.0;
+      told = after.1;
+      first_settled = settled.first;
+      second_settled = settled.second;
+      stored = λ slot is. c.in-Ok.ensures.stored v told;
+      since = λ slot is.
+          subst (λ (l : List (List ℕ)). IsKeptSince (g.H.Host.may h) slot o.saved l (sizes_in o.slots slot) (g.T.Table.named e) (g.T.Table.there e) (g.T.Table.cell e)) (sym c.in-Ok.ensures.copies.1) (c.in-Ok.ensures.since v told tells slot is);
+    })

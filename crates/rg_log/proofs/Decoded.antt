@@ -111,7 +111,7 @@ flag_within column (byte ∷ bytes) value left small e =
     let p = passed (BadValue column) (nat_le byte 1) (FlagValue (byte == 1)) value bytes left e in
     (subst (λ (v : Value). IsValueOf Flag v) p.1 tt, subst (λ (l : List ℕ). All IsByte l) p.2 (All-tail IsByte byte bytes small))
 
-value_within : (kind : Kind) (column : ℕ) (bytes : List ℕ) (value : Value) (left : List ℕ) → All IsByte bytes → value_at kind column bytes ≡ Ok (value, left) → IsValueOf kind value × All IsByte left
+pub value_within : (kind : Kind) (column : ℕ) (bytes : List ℕ) (value : Value) (left : List ℕ) → All IsByte bytes → value_at kind column bytes ≡ Ok (value, left) → IsValueOf kind value × All IsByte left
 value_within Int column bytes value left small e = int_within column bytes value left small e
 value_within Id column bytes value left small e = id_within bytes value left small e
 value_within Text column bytes value left small e = text_within column bytes value left small e

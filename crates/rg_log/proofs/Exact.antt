@@ -29,12 +29,12 @@ rising_is (x ∷ (y ∷ events)) is =
     let b = and_parts (nat_lt x.offset y.offset) (nat_le x.time y.time) a.0 in
     (ltb-true x.offset y.offset b.0, leb-true x.time y.time b.1, rising_is (y ∷ events) a.1)
 
-record Legal (events all : List Event) : Type 0 where
+pub record Legal (events all : List Event) : Type 0 where
   pub same : events ≡ all
   pub rising : IsRising events
   pub few : length events ≤ 1099511627776
 
-legal_is : (events all : List Event) → legal_events events ≡ Some all → Legal events all
+pub legal_is : (events all : List Event) → legal_events events ≡ Some all → Legal events all
 legal_is events all is = by (is_rising events && nat_le (length events) 1099511627776) refl
   where
     by : (b : Bool) → (is_rising events && nat_le (length events) 1099511627776) ≡ b → Legal events all
@@ -54,11 +54,11 @@ schema_is (tag ∷ text) shape is = by (tag == 83) refl
         (legal_of text shape said, ap (λ (n : ℕ). n ∷ text) (eqb-true tag 83 t) ∙ ap (λ (l : List ℕ). 83 ∷ l) (joined_of text shape said))
     by false f = absurd (let e : None ≡ Some shape = sym (ap (λ (b : Bool). if b then shape_of text else None) f) ∙ is in cc)
 
-small_first : (a b : List ℕ) → All IsByte (a ++ b) → All IsByte a
+pub small_first : (a b : List ℕ) → All IsByte (a ++ b) → All IsByte a
 small_first [] b small = All-nil IsByte
 small_first (n ∷ a) b small = All-cons IsByte n a (All-head IsByte n (a ++ b) small) (small_first a b (All-tail IsByte n (a ++ b) small))
 
-small_second : (a b : List ℕ) → All IsByte (a ++ b) → All IsByte b
+pub small_second : (a b : List ℕ) → All IsByte (a ++ b) → All IsByte b
 small_second [] b small = small
 small_second (n ∷ a) b small = small_second a b (All-tail IsByte n (a ++ b) small)
 

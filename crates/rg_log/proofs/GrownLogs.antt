@@ -15,13 +15,13 @@ use Rattle.rg_log.proofs.Staging.{has-push, logged-growth, logged-chunk}
 
 -- a file has one frame list
 module _ (unique : (a b : List (List ℕ)) (bytes : List ℕ) → HasPayloads a bytes → HasPayloads b bytes → a ≡ b) where
-  stays : (shape : Shape) (events : List Event) (payloads : List (List ℕ)) (old new : List ℕ) → HasLogged shape events old → HasPayloads payloads old → HasPayloads payloads new → HasLogged shape events new
+  pub stays : (shape : Shape) (events : List Event) (payloads : List (List ℕ)) (old new : List ℕ) → HasLogged shape events old → HasPayloads payloads old → HasPayloads payloads new → HasLogged shape events new
   stays shape events payloads old new x has same =
       let e : payloads ≡ x.1.payloads = unique payloads x.1.payloads old has x.1.has in
       (x.0, record { schema = x.1.schema; payloads = x.1.payloads; has = subst (λ (l : List (List ℕ)). HasPayloads l new) e same; log = x.1.log; rising = x.1.rising; few = x.1.few }, x.2)
 
   -- a frame more
-  grown_by : (shape : Shape) (events then : List Event) (first : List ℕ) (payloads : List (List ℕ)) (payload old new : List ℕ) (stage : Stage) (x : HasLogged shape events old) → HasPayloads (first ∷ payloads) old → IsStage shape payload stage → IsSchema (shape_after shape stage)
+  pub grown_by : (shape : Shape) (events then : List Event) (first : List ℕ) (payloads : List (List ℕ)) (payload old new : List ℕ) (stage : Stage) (x : HasLogged shape events old) → HasPayloads (first ∷ payloads) old → IsStage shape payload stage → IsSchema (shape_after shape stage)
       → HasPayloads (first ∷ (payloads ++ payload ∷ [])) new → logged (x.0 ++ stage ∷ []) ≡ then → IsRising then → length then ≤ 2 ^ 40 → HasLogged (shape_after shape stage) then new
   grown_by shape events then first payloads payload old new stage x here is schema has same rising few =
       let log : HasStages shape (first ∷ payloads) x.0 = subst (λ (l : List (List ℕ)). HasStages shape l x.0) (unique x.1.payloads (first ∷ payloads) old x.1.has here) x.1.log in (
@@ -37,7 +37,7 @@ module _ (unique : (a b : List (List ℕ)) (bytes : List ℕ) → HasPayloads a 
         same,
       )
 
-  grown_at : (shape : Shape) (grown : Growth) (events : List Event) (first : List ℕ) (payloads : List (List ℕ)) (payload old new : List ℕ) → HasPayloads (first ∷ payloads) old → HasLogged shape events old → IsGrowth shape payload grown
+  pub grown_at : (shape : Shape) (grown : Growth) (events : List Event) (first : List ℕ) (payloads : List (List ℕ)) (payload old new : List ℕ) → HasPayloads (first ∷ payloads) old → HasLogged shape events old → IsGrowth shape payload grown
       → HasPayloads (first ∷ (payloads ++ payload ∷ [])) new → HasLogged grown.to (all_extended grown.values events) new
   grown_at shape grown events first payloads payload old new here x is has =
       let rising : IsRising events = subst IsRising x.2 x.1.rising in

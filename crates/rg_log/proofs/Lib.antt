@@ -15,3 +15,6 @@ pub mod Staging
 pub mod StageReading
 pub mod Plain
 pub mod GrownLogs
+pub mod GrowthBytes
+pub mod StageListing
+pub mod StageExact

@@ -23,7 +23,7 @@ in_chunk_is place before count spot e =
     let g = and_parts (spot.place == place) (nat_le spot.index count) f.0 in
     (eqb-true spot.place place g.0, leb-true spot.index count g.1, eqb-true spot.number (before + spot.index) f.1)
 
-in_chunk_said : (place before count : ℕ) (spot : Spot) → spot.place ≡ place → spot.index ≤ count → spot.number ≡ before + spot.index → is_in_chunk place before count spot ≡ true
+pub in_chunk_said : (place before count : ℕ) (spot : Spot) → spot.place ≡ place → spot.index ≤ count → spot.number ≡ before + spot.index → is_in_chunk place before count spot ≡ true
 in_chunk_said place before count spot at le many = rw (eq-eqb spot.place place at, le-leb spot.index count le, eq-eqb spot.number (before + spot.index) many) refl
 
 pub at_end_is : (place before : ℕ) (spot : Spot) → is_at_end place before spot ≡ true → (spot.place ≡ place) × (spot.index ≡ 0) × (spot.number ≡ before)
@@ -32,7 +32,7 @@ at_end_is place before spot e =
     let g = and_parts (spot.place == place) (spot.index == 0) f.0 in
     (eqb-true spot.place place g.0, eqb-true spot.index 0 g.1, eqb-true spot.number before f.1)
 
-at_end_said : (place before : ℕ) (spot : Spot) → spot.place ≡ place → spot.index ≡ 0 → spot.number ≡ before → is_at_end place before spot ≡ true
+pub at_end_said : (place before : ℕ) (spot : Spot) → spot.place ≡ place → spot.index ≡ 0 → spot.number ≡ before → is_at_end place before spot ≡ true
 at_end_said place before spot at first many = rw (eq-eqb spot.place place at, eq-eqb spot.index 0 first, eq-eqb spot.number before many) refl
 
 -- the head of a chunk's payload says how many events it has
@@ -40,7 +40,7 @@ counted : (columns : List Field) (payload : List ℕ) (chunk : List Event) → c
 counted columns payload chunk said = ap (λ (o : Option ChunkHead). option_map (λ (head : ChunkHead). head.count) o) (chunk_head columns payload chunk said)
 
 -- what a chunk and those behind it name
-here_or_further : (columns : List Field) (payload : List ℕ) (chunk : List Event) (spot : Spot) (place before : ℕ) (payloads : List (List ℕ)) → chunk_of columns payload ≡ Some chunk
+pub here_or_further : (columns : List Field) (payload : List ℕ) (chunk : List Event) (spot : Spot) (place before : ℕ) (payloads : List (List ℕ)) → chunk_of columns payload ≡ Some chunk
     → named_from place before (payload ∷ payloads) spot ≡ (is_in_chunk place before (length chunk) spot || named_from (place + 9 + length payload) (before + length chunk) payloads spot)
 here_or_further columns payload chunk spot place before payloads said =
     ap (λ (o : Option ℕ). named_at place before spot o (λ behind. named_from (place + 9 + length payload) behind payloads spot)) (counted columns payload chunk said)
@@ -132,7 +132,7 @@ module _ (unique : (a b : List (List ℕ)) (bytes : List ℕ) → HasPayloads a 
   pub none_in : (shape : Shape) (bytes : List ℕ) (spot : Spot) → HasPayloads [] bytes → SpotIn shape bytes spot → ⊥
   none_in shape bytes spot none at = no_spot shape spot (subst (λ (l : List (List ℕ)). SpotAt shape l spot) (unique at.0 [] bytes at.1 none) at.2)
 
-  chunks_in : (shape : Shape) (events : List Event) (payloads : List (List ℕ)) (bytes : List ℕ) → (has : HasEvents shape events bytes) → HasPayloads payloads bytes → HasChunks shape payloads has.0
+  pub chunks_in : (shape : Shape) (events : List Event) (payloads : List (List ℕ)) (bytes : List ℕ) → (has : HasEvents shape events bytes) → HasPayloads payloads bytes → HasChunks shape payloads has.0
   chunks_in shape events payloads bytes has here = subst (λ (l : List (List ℕ)). HasChunks shape l has.0) (unique has.1.payloads payloads bytes has.1.has here) has.1.log
 
   pub within_in : (shape : Shape) (events : List Event) (bytes : List ℕ) (spot : Spot) → HasEvents shape events bytes → SpotIn shape bytes spot → spot.number ≤ length events

@@ -57,7 +57,7 @@ are_of shape (p ∷ payloads) [] are = absurd are
 are_of shape (p ∷ payloads) (c ∷ chunks) are = All-append (IsEventOf shape.fields) c (joined chunks) are.0.of (are_of shape payloads chunks are.1)
 
 -- the frame list says these chunks as a log of one schema exactly where it says them as stages
-has_plain : (shape : Shape) (payloads : List (List ℕ)) (chunks : List (List Event)) → IsSchema shape → HasChunks shape payloads chunks → All (IsEventOf shape.fields) (joined chunks) → HasStages shape payloads (plain chunks)
+pub has_plain : (shape : Shape) (payloads : List (List ℕ)) (chunks : List (List Event)) → IsSchema shape → HasChunks shape payloads chunks → All (IsEventOf shape.fields) (joined chunks) → HasStages shape payloads (plain chunks)
 has_plain shape [] chunks schema none all = ap plain none
 has_plain shape (first ∷ payloads) chunks schema log all = (shape, schema, log.0, plain_are shape payloads chunks log.1 all, plain_shape shape chunks)
 

@@ -15,7 +15,7 @@ rising_said [] rising = refl
 rising_said (x ∷ []) rising = refl
 rising_said (x ∷ (y ∷ events)) rising = rw (lt-ltb x.offset y.offset rising.0, le-leb x.time y.time rising.1) (rising_said (y ∷ events) rising.2)
 
-legal_said : (events : List Event) → IsRising events → length events ≤ 1099511627776 → legal_events events ≡ Some events
+pub legal_said : (events : List Event) → IsRising events → length events ≤ 1099511627776 → legal_events events ≡ Some events
 legal_said events rising few = rw (rising_said events rising, le-leb (length events) 1099511627776 few) refl
 
 -- the schema that the payload of a schema says

@@ -89,7 +89,7 @@ spot_within shape payloads chunks spot log (inl s) =
 spot_within shape payloads chunks spot log (inr s) = omega (arith, s.number_is, ap (λ (l : List (List Event)). length (joined l)) (one_chunks shape payloads s.chunks chunks s.chunks_are log))
 
 -- an item in the middle
-between : (before chunk after : List Event) (index number : ℕ) → index < length chunk → number ≡ length before + index → slice_get (before ++ (chunk ++ after)) number ≡ slice_get chunk index
+pub between : (before chunk after : List Event) (index number : ℕ) → index < length chunk → number ≡ length before + index → slice_get (before ++ (chunk ++ after)) number ≡ slice_get chunk index
 between before [] after index number lt is = absurd (omega (arith, lt))
 between before (d ∷ chunk) after index number lt is =
     let whole : index < length ((d ∷ chunk) ++ after) = omega (arith, lt, length-append (d ∷ chunk) after) in
@@ -109,7 +109,7 @@ pub rest_same : (p q : List ℕ) (x y : List (List ℕ)) → p ∷ x ≡ q ∷ y
 rest_same p q x y e = cc
 
 -- two prefixes of a list whose frames end at one place
-prefix_same : (a b x y : List (List ℕ)) → a ++ x ≡ b ++ y → length (frames a) ≡ length (frames b) → a ≡ b
+pub prefix_same : (a b x y : List (List ℕ)) → a ++ x ≡ b ++ y → length (frames a) ≡ length (frames b) → a ≡ b
 prefix_same [] [] x y e n = refl
 prefix_same [] (q ∷ b) x y e n = absurd (omega (arith, n, length-frames q b))
 prefix_same (p ∷ a) [] x y e n = absurd (omega (arith, n, length-frames p a))

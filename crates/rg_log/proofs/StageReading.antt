@@ -38,7 +38,7 @@ no_head_at bytes said left is =
     not_headed (layout_said one.value) head four.left said left (ap layout_said tag) four.more
 
 -- no head of a chunk begins with the byte 47 in hexadecimal
-no_head : (bytes : List ℕ) → head_of (71 ∷ bytes) ≡ None
+pub no_head : (bytes : List ℕ) → head_of (71 ∷ bytes) ≡ None
 no_head bytes = by (head_at (71 ∷ bytes)) refl
   where
     by : (r : Reading (Layout × ChunkHead)) → head_at (71 ∷ bytes) ≡ r → head_of (71 ∷ bytes) ≡ None
@@ -56,13 +56,13 @@ not_both shape payload events grown events_said growth_said =
 one_growth : (shape : Shape) (payload : List ℕ) (a b : Growth) → IsGrowth shape payload a → IsGrowth shape payload b → a ≡ b
 one_growth shape payload a b x y = same_some (growth_of shape payload) a b (ap (growth_of shape) x.is ∙ growth_back shape a x.of) (ap (growth_of shape) y.is ∙ growth_back shape b y.of)
 
-one_stage : (shape : Shape) (payload : List ℕ) (a b : Stage) → IsStage shape payload a → IsStage shape payload b → a ≡ b
+pub one_stage : (shape : Shape) (payload : List ℕ) (a b : Stage) → IsStage shape payload a → IsStage shape payload b → a ≡ b
 one_stage shape payload (chunk a) (chunk b) x y = ap (λ (l : List Event). chunk l) (same_some (chunk_of shape.fields payload) a b x.said y.said)
 one_stage shape payload (chunk a) (growth b) x y = absurd (not_both shape payload a b x y)
 one_stage shape payload (growth a) (chunk b) x y = absurd (not_both shape payload b a y x)
 one_stage shape payload (growth a) (growth b) x y = ap (λ (g : Growth). growth g) (one_growth shape payload a b x y)
 
-one_stages : (shape : Shape) (payloads : List (List ℕ)) (a b : List Stage) → AreStages shape payloads a → AreStages shape payloads b → a ≡ b
+pub one_stages : (shape : Shape) (payloads : List (List ℕ)) (a b : List Stage) → AreStages shape payloads a → AreStages shape payloads b → a ≡ b
 one_stages shape [] [] [] x y = refl
 one_stages shape [] [] (t ∷ b) x y = absurd y
 one_stages shape [] (s ∷ a) b x y = absurd x
@@ -73,11 +73,11 @@ one_stages shape (p ∷ payloads) (s ∷ a) (t ∷ b) x y =
     let rest : a ≡ b = one_stages (shape_after shape t) payloads a b (subst (λ (u : Stage). AreStages (shape_after shape u) payloads a) e x.1) y.1 in
     ap (λ (u : Stage). u ∷ a) e ∙ ap (λ (l : List Stage). t ∷ l) rest
 
-record OneLog (first : List ℕ) (payloads : List (List ℕ)) (shape other : Shape) (a b : List Stage) : Type 0 where
+pub record OneLog (first : List ℕ) (payloads : List (List ℕ)) (shape other : Shape) (a b : List Stage) : Type 0 where
   pub stages : a ≡ b
   pub shapes : shape ≡ other
 
-one_log : (first : List ℕ) (payloads : List (List ℕ)) (shape other : Shape) (a b : List Stage) → HasStages shape (first ∷ payloads) a → HasStages other (first ∷ payloads) b → OneLog first payloads shape other a b
+pub one_log : (first : List ℕ) (payloads : List (List ℕ)) (shape other : Shape) (a b : List Stage) → HasStages shape (first ∷ payloads) a → HasStages other (first ∷ payloads) b → OneLog first payloads shape other a b
 one_log first payloads shape other a b x y =
     let begun : x.0 ≡ y.0 = one_shape x.0 y.0 x.1 y.1 (sym x.2 ∙ y.2) in
     let same : a ≡ b = one_stages y.0 payloads a b (subst (λ (s : Shape). AreStages s payloads a) begun x.3) y.3 in
@@ -89,7 +89,7 @@ stages_by (first ∷ payloads) shape other a b x y = (one_log first payloads sha
 
 -- from here on, a file has one frame list
 module _ (unique : (a b : List (List ℕ)) (bytes : List ℕ) → HasPayloads a bytes → HasPayloads b bytes → a ≡ b) where
-  log_by : (shape : Shape) (stages : List Stage) (payloads : List (List ℕ)) (bytes : List ℕ) → HasPayloads payloads bytes → IsGrownLog shape stages bytes → HasStages shape payloads stages
+  pub log_by : (shape : Shape) (stages : List Stage) (payloads : List (List ℕ)) (bytes : List ℕ) → HasPayloads payloads bytes → IsGrownLog shape stages bytes → HasStages shape payloads stages
   log_by shape stages payloads bytes has log = subst (λ (l : List (List ℕ)). HasStages shape l stages) (unique log.payloads payloads bytes log.has has) log.log
 
   -- a file has one list of stages

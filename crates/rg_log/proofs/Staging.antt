@@ -13,11 +13,11 @@ use Rattle.rg_chunk.specs.Extended.{extended, all_extended}
 use Rattle.rg_log.specs.Stages.{Stage, chunk, growth, shape_after, in_force, IsStage, AreStages, values_of, logged, HasStages, HasLogged}
 use Rattle.rg_log.proofs.Extending.{extended-none, extended-twice, extended-append, event-extended, values-append}
 
-in_force-push : (shape : Shape) (stages : List Stage) (stage : Stage) → in_force shape (stages ++ stage ∷ []) ≡ shape_after (in_force shape stages) stage
+pub in_force-push : (shape : Shape) (stages : List Stage) (stage : Stage) → in_force shape (stages ++ stage ∷ []) ≡ shape_after (in_force shape stages) stage
 in_force-push shape [] stage = refl
 in_force-push shape (first ∷ stages) stage = in_force-push (shape_after shape first) stages stage
 
-are-push : (shape : Shape) (payloads : List (List ℕ)) (stages : List Stage) (payload : List ℕ) (stage : Stage) → AreStages shape payloads stages → IsStage (in_force shape stages) payload stage → AreStages shape (payloads ++ payload ∷ []) (stages ++ stage ∷ [])
+pub are-push : (shape : Shape) (payloads : List (List ℕ)) (stages : List Stage) (payload : List ℕ) (stage : Stage) → AreStages shape payloads stages → IsStage (in_force shape stages) payload stage → AreStages shape (payloads ++ payload ∷ []) (stages ++ stage ∷ [])
 are-push shape [] [] payload stage are is = (is, tt)
 are-push shape [] (first ∷ stages) payload stage are is = absurd are
 are-push shape (p ∷ payloads) [] payload stage are is = absurd are
@@ -92,7 +92,7 @@ all-extended fields added values (e ∷ events) of all =
     (all-extended fields added values events of (All-tail (IsEventOf fields) e events all))
 
 -- all events are of the schema in force at the end
-logged-of : (shape : Shape) (payloads : List (List ℕ)) (stages : List Stage) → AreStages shape payloads stages → All (IsEventOf (in_force shape stages).fields) (logged stages)
+pub logged-of : (shape : Shape) (payloads : List (List ℕ)) (stages : List Stage) → AreStages shape payloads stages → All (IsEventOf (in_force shape stages).fields) (logged stages)
 logged-of shape [] [] are = All-nil (IsEventOf shape.fields)
 logged-of shape [] (stage ∷ stages) are = absurd are
 logged-of shape (p ∷ payloads) [] are = absurd are

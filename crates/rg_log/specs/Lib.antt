@@ -1,5 +1,6 @@
 pub mod Entries
 pub mod Log
+pub mod Logged
 pub mod Reading
 pub mod Spots
 pub mod Stages

@@ -24,6 +24,7 @@ ghost use Rattle.rg_chunk.specs.Heads.{head_of};
 ghost use Rattle.rg_log.specs.Entries.{nothing, told_by, summary_of, unread, behind, count_of, further_entry, entry_after, entries_after};
 ghost use Rattle.rg_log.specs.declared.entry.LogSoFar.{LogSoFar as TheLogSoFar};
 ghost use Rattle.rg_log.specs.declared.summary.LogSummary.{LogSummary as TheLogSummary};
+ghost use Rattle.rg_log.specs.Logged.{stages_in, logged_of, next_logged, HasGrownLog, IsInForce};
 ghost use Rattle.rg_log.specs.Log.{schema_payload, chunks_of, joined, HasChunks, IsChunkOf, IsLegalLog, HasEvents, HasLegalLog, HasSchemaFrame, IsOfSchema};
 ghost use Rattle.rg_log.specs.Reading.{events_of, next_of};
 ghost use Rattle.rg_log.specs.Spots.{count_in, IsInChunk, SpotAt, SpotIn, NamedByHeads};
@@ -92,6 +93,24 @@ pub fn law_stages()
     ensures as_before { (shape : Shape) (chunks : List (List Event)) (bytes : List ℕ) → IsLegalLog shape chunks bytes ↔ IsGrownLog shape (plain chunks) bytes }
     ensures same_events { (chunks : List (List Event)) → logged (plain chunks) ≡ joined chunks }
     ensures events_before { (shape : Shape) (events : List Event) (bytes : List ℕ) → HasEvents shape events bytes → HasLogged shape events bytes }
+{
+    law_frames();
+}
+
+/// Where the schema may grow, the stages and the events of a file are those that `stages_in` and `logged_of` read. What
+/// `events_of` reads in a log of one schema is read still. Where the frame list is undefined, there are no events to read.
+pub fn law_logged()
+    ensures stages { (shape : Shape) (stages : List Stage) (bytes : List ℕ) → IsGrownLog shape stages bytes → stages_in bytes ≡ Some stages }
+    ensures reads { (shape : Shape) (events : List Event) (bytes : List ℕ) → HasLogged shape events bytes → logged_of bytes ≡ Some events }
+    ensures none { (bytes : List ℕ) → HasPayloads [] bytes → logged_of bytes ≡ Some [] }
+    ensures damaged { (place : ℕ) (bytes : List ℕ) → IsDamaged place bytes → logged_of bytes ≡ None }
+    ensures next { (shape : Shape) (events : List Event) (bytes : List ℕ) → HasLogged shape events bytes → next_logged bytes ≡ Some (next_offset events) }
+    ensures same { (bytes : List ℕ) (events : List Event) → events_of bytes ≡ Some events → logged_of bytes ≡ Some events }
+
+    // In a file, whose numbers are bytes, there are events to read exactly where the log is legal, and they are its own.
+    ensures exact { (bytes : List ℕ) → All IsByte bytes → IsSome (logged_of bytes) ↔ HasGrownLog bytes }
+    ensures legal { (bytes : List ℕ) (events : List Event) → All IsByte bytes → logged_of bytes ≡ Some events →
+        (HasPayloads [] bytes × (events ≡ [])) ⊎ ((shape : Shape) × IsInForce shape bytes × HasLogged shape events bytes) }
 {
     law_frames();
 }

@@ -1,25 +1,14 @@
 -- What is read as a chunk in bytes has events of the columns.
-use Rattle.std.proofs.Common.{◌≡◌, ◌∙◌, ℕ, zero, suc, ◌+◌, ◌^◌, ◌≤◌, ◌<◌, ◌&&◌, nat_le, Bool, true, false, List, [], ◌∷◌, ◌++◌, length, take, drop, Option, Some, None, Ok, Err, refl, sym, ap, subst, arith}
-use Rattle.std.proofs.lemmas.Bool.{leb-true, le-leb}
-use Rattle.std.proofs.lemmas.List.{length-take-le}
-use Rattle.std.proofs.lemmas.List.Elements.{All-nil, All-head, All-tail, All-push, All-take, All-drop}
-use Rattle.std.specs.Prelude.{All, unsigned_abs, ◌==◌}
-use Rattle.std.specs.Int.{Width, w32, w64, byte_len, from_be_bytes, cast_signed}
-use Rattle.std.specs.Option.{unwrap_or}
-use Rattle.std.specs.Str.{is_utf8}
-use Rattle.rg_bytes.specs.Reading.{Reading, and_then, tested, bytes_at, number_at, u8_at, u32_at, u64_at, more_at, whole}
-use Rattle.rg_event.specs.Codec.{IsValueOf, AreValuesOf, IsEventOf, number_up_to_at, int_at, id_at, text_at, flag_at, value_at, values_at, event_at}
+use Rattle.std.proofs.Common.{◌≡◌, ℕ, zero, suc, ◌&&◌, nat_le, List, [], ◌∷◌, ◌++◌, Option, Some, None, Ok, Err, refl, subst}
+use Rattle.std.proofs.lemmas.List.Elements.{All-nil, All-push}
+use Rattle.std.specs.Prelude.{All}
+use Rattle.rg_bytes.specs.Reading.{and_then, tested, u8_at, u32_at, more_at}
+use Rattle.rg_event.specs.Codec.{IsEventOf, event_at}
 use Rattle.rg_event.specs.Rising.{next_offset, last_time}
-use Rattle.rg_event.specs.Words.{is_word}
 use Rattle.rg_event.specs.declared.codec.EventFault.TheVariants.{Short, BadValue}
 use Rattle.rg_event.specs.declared.event.Event.{Event}
 use Rattle.rg_event.specs.declared.schema.Field.{Field}
-use Rattle.rg_event.specs.declared.value.Kind.{Kind}
-use Rattle.rg_event.specs.declared.value.Kind.TheVariants.{Int, Id, Text, Flag}
-use Rattle.rg_event.specs.declared.value.Value.{Value}
-use Rattle.rg_event.specs.declared.value.Value.TheVariants.{Int as IntValue, Id as IdValue, Text as TextValue, Flag as FlagValue}
 use Rattle.rg_frame.specs.Bytes.{IsByte}
-use Rattle.rg_frame.proofs.Listing.{eight_small}
 use Rattle.rg_column.specs.Columns.{columns_at}
 use Rattle.rg_column.specs.Widths.{Reading as ColumnReading}
 use Rattle.rg_chunk.specs.Chunks.{event_from_at, next_event_at, events_at, rises_from, in_chunk, rising_columns_at, chunk_at, chunk_of}

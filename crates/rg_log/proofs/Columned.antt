@@ -1,7 +1,7 @@
 -- What is read as columns of events in bytes is events of the columns.
-use Rattle.std.proofs.Common.{◌≡◌, ◌∙◌, ℕ, zero, suc, ◌+◌, ◌<◌, ◌≤◌, ◌==◌, nat_le, true, List, [], ◌∷◌, ◌++◌, map, length, get_or, take, drop, Option, Some, None, Ok, Err, refl, sym, ap, subst, arith, add-one, drop-cons, length-append, length-drop}
-use Rattle.std.proofs.lemmas.Bool.{cases_lt, le-leb}
-use Rattle.std.proofs.lemmas.List.{length-take-le, drop_all, take_all, get_or_past}
+use Rattle.std.proofs.Common.{◌≡◌, ◌∙◌, ℕ, zero, suc, ◌+◌, ◌<◌, ◌≤◌, ◌==◌, nat_le, true, List, [], ◌∷◌, ◌++◌, map, length, get_or, take, drop, Option, Some, None, Ok, refl, sym, ap, subst, arith, add-one, drop-cons, length-append, length-drop}
+use Rattle.std.proofs.lemmas.Bool.{le-leb}
+use Rattle.std.proofs.lemmas.List.{length-take-le, take_all}
 use Rattle.std.proofs.lemmas.List.Elements.{All-nil, All-head, All-tail, All-push, All-take, All-drop}
 use Rattle.std.specs.Prelude.{All}
 use Rattle.std.specs.Str.{is_utf8}
@@ -17,9 +17,8 @@ use Rattle.rg_event.specs.declared.value.Value.TheVariants.{Id as IdValue, Text 
 use Rattle.rg_frame.specs.Bytes.{IsByte}
 use Rattle.rg_column.specs.Widths.{bits, width_said, difference_at}
 use Rattle.rg_column.specs.Numbers.{base_bits, field_of, is_packed, raised, differences_at, packed_at, numbers_at, AreOf}
-use Rattle.rg_column.specs.Values.{int_value, ints_at, ids_at, text_at, next_text_at, following_at, texts_at, flag_at, flags_at, column_at}
+use Rattle.rg_column.specs.Values.{int_value, ints_at, ids_at, text_at, next_text_at, following_at, texts_at, flag_at, column_at}
 use Rattle.rg_column.specs.Columns.{started, widened, fields_at, columns_at}
-use Rattle.rg_column.specs.declared.fault.ColumnFault.{ColumnFault}
 use Rattle.rg_column.specs.declared.fault.ColumnFault.TheVariants.{Short, BadColumn}
 use Rattle.rg_column.specs.declared.series.Series.{Series}
 use Rattle.rg_column.specs.declared.series.Series.TheVariants.{Offset, Time, Int as Ints, Id as Ids}

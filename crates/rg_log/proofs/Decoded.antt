@@ -1,15 +1,13 @@
 -- What is read as an event in bytes is an event of the columns.
-use Rattle.std.proofs.Common.{◌≡◌, ◌∙◌, ℕ, zero, suc, ◌+◌, ◌^◌, ◌≤◌, ◌<◌, ◌&&◌, nat_le, Bool, true, false, List, [], ◌∷◌, ◌++◌, length, take, drop, Some, Ok, Err, refl, sym, ap, subst, arith}
+use Rattle.std.proofs.Common.{◌≡◌, ◌∙◌, ℕ, ◌+◌, ◌^◌, ◌≤◌, ◌<◌, nat_le, Bool, true, false, List, [], ◌∷◌, length, take, drop, Ok, Err, refl, sym, ap, subst, arith}
 use Rattle.std.proofs.lemmas.Bool.{leb-true, le-leb}
 use Rattle.std.proofs.lemmas.List.{length-take-le}
-use Rattle.std.proofs.lemmas.List.Elements.{All-nil, All-head, All-tail, All-push, All-take, All-drop}
+use Rattle.std.proofs.lemmas.List.Elements.{All-head, All-tail, All-take, All-drop}
 use Rattle.std.specs.Prelude.{All, unsigned_abs, ◌==◌}
 use Rattle.std.specs.Int.{Width, w32, w64, byte_len, from_be_bytes, cast_signed}
-use Rattle.std.specs.Option.{unwrap_or}
 use Rattle.std.specs.Str.{is_utf8}
-use Rattle.rg_bytes.specs.Reading.{Reading, and_then, tested, bytes_at, number_at, u8_at, u32_at, u64_at, more_at, whole}
+use Rattle.rg_bytes.specs.Reading.{Reading, and_then, tested, bytes_at, number_at, u8_at, u32_at, u64_at}
 use Rattle.rg_event.specs.Codec.{IsValueOf, AreValuesOf, IsEventOf, number_up_to_at, int_at, id_at, text_at, flag_at, value_at, values_at, event_at}
-use Rattle.rg_event.specs.Rising.{next_offset, last_time}
 use Rattle.rg_event.specs.Words.{is_word}
 use Rattle.rg_event.specs.declared.codec.EventFault.TheVariants.{Short, BadValue}
 use Rattle.rg_event.specs.declared.event.Event.{Event}

@@ -18,3 +18,4 @@ pub mod GrownLogs
 pub mod GrowthBytes
 pub mod StageListing
 pub mod StageExact
+pub mod InForce

@@ -10,7 +10,7 @@ use Rattle.rg_event.specs.declared.value.Value.{Value}
 use Rattle.rg_chunk.specs.Chunks.{chunk_of}
 use Rattle.rg_chunk.specs.Extended.{all_extended}
 use Rattle.rg_log.specs.Log.{schema_payload, with_chunk, chunks_of, joined, HasChunks, IsLegalLog, HasEvents}
-use Rattle.rg_log.specs.Stages.{chunk, in_force, AreStages, values_of, logged, plain, HasStages, IsGrownLog, HasLogged}
+use Rattle.rg_log.specs.Stages.{in_force, AreStages, values_of, logged, plain, HasStages, IsGrownLog, HasLogged}
 use Rattle.rg_log.proofs.Extending.{extended-none}
 use Rattle.rg_log.proofs.Growing.{part}
 use Rattle.rg_log.proofs.Summaries.{all_behind}

@@ -1,5 +1,5 @@
 -- What the functions read in a file of bytes is a legal log whose schema may have grown, and its events.
-use Rattle.std.proofs.Common.{◌≡◌, ◌∙◌, ◌⊎◌, inl, inr, ℕ, ◌≤◌, List, [], ◌∷◌, ◌++◌, length, Option, Some, None, option_map, option_and_then, refl, sym, ap, subst, rules}
+use Rattle.std.proofs.Common.{◌≡◌, ◌⊎◌, inl, inr, ℕ, List, [], ◌∷◌, ◌++◌, length, Option, Some, None, option_map, option_and_then, refl, sym, subst, rules}
 use Rattle.std.proofs.lemmas.List.Elements.{All-tail}
 use Rattle.std.specs.Prelude.{◌↔◌, All, IsSome}
 use Rattle.std.specs.Int.{to_be_bytes, w64}
@@ -13,11 +13,11 @@ use Rattle.rg_frame.specs.Frames.{body, frames, HasPayloads}
 use Rattle.rg_frame.proofs.Listing.{has_listed}
 use Rattle.rg_chunk.specs.Chunks.{chunk_of}
 use Rattle.rg_log.specs.Log.{schema_payload}
-use Rattle.rg_log.specs.Logged.{chunk_or, stage_of, stages_from, listed_stages, stages_in, logged_of, HasGrownLog, IsInForce}
+use Rattle.rg_log.specs.Logged.{chunk_or, stage_of, stages_from, listed_stages, logged_of, HasGrownLog, IsInForce}
 use Rattle.rg_log.specs.Reading.{schema_of, legal_events}
 use Rattle.rg_log.specs.Stages.{Stage, chunk, growth, shape_after, in_force, IsStage, AreStages, logged, HasStages, HasLogged}
 use Rattle.rg_log.proofs.Chunked.{chunk_within}
-use Rattle.rg_log.proofs.Exact.{schema_is, Legal, legal_is, small_first, small_second}
+use Rattle.rg_log.proofs.Exact.{schema_is, legal_is, small_first, small_second}
 use Rattle.rg_log.proofs.Growing.{same_some}
 use Rattle.rg_log.proofs.GrowthBytes.{growth_is}
 

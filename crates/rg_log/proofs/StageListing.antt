@@ -1,9 +1,9 @@
 -- The stages and the events of a log whose schema may grow are what the functions read in its bytes.
-use Rattle.std.proofs.Common.{◌≡◌, ◌∙◌, ℕ, ◌≤◌, List, [], ◌∷◌, ◌++◌, length, Option, Some, None, option_map, option_and_then, Result, Err, refl, sym, ap}
+use Rattle.std.proofs.Common.{◌≡◌, ◌∙◌, ℕ, List, [], ◌∷◌, ◌++◌, length, Option, Some, None, option_map, option_and_then, Result, Err, refl, sym, ap}
 use Rattle.std.specs.Int.{w32, to_be_bytes}
 use Rattle.rg_bytes.specs.Reading.{list_bytes}
-use Rattle.rg_event.specs.Rising.{IsRising, next_offset}
-use Rattle.rg_event.specs.Shapes.{Shape, IsSchema, schema_text}
+use Rattle.rg_event.specs.Rising.{next_offset}
+use Rattle.rg_event.specs.Shapes.{Shape, schema_text}
 use Rattle.rg_event.specs.Tagged.{tagged_bytes}
 use Rattle.rg_event.specs.declared.event.Event.{Event}
 use Rattle.rg_event.specs.declared.schema.Field.{Field}
@@ -14,7 +14,6 @@ use Rattle.rg_frame.specs.FrameList.{frame_list, payloads_in, defined}
 use Rattle.rg_frame.specs.Frames.{HasPayloads, IsDamaged}
 use Rattle.rg_chunk.specs.Chunks.{chunk_of}
 use Rattle.rg_chunk.specs.Heads.{head_of, head_for}
-use Rattle.rg_chunk.specs.declared.head.ChunkHead.{ChunkHead}
 use Rattle.rg_chunk.proofs.Chunks.{chunk_head}
 use Rattle.rg_log.specs.Log.{joined, chunks_of}
 use Rattle.rg_log.specs.Logged.{chunk_or, stage_of, stages_from, listed_stages, stages_in, logged_of, next_logged}

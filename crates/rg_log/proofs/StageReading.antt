@@ -12,7 +12,7 @@ use Rattle.rg_growth.specs.Payloads.{IsGrowth, growth_of}
 use Rattle.rg_growth.specs.declared.growth.Growth.{Growth}
 use Rattle.rg_growth.proofs.Whole.{growth_back}
 use Rattle.rg_chunk.specs.Chunks.{chunk_of}
-use Rattle.rg_chunk.specs.Heads.{layout_said, headed_at, stamp_at, head_at, head_of, head_for, begun}
+use Rattle.rg_chunk.specs.Heads.{layout_said, headed_at, stamp_at, head_at, head_of, head_for}
 use Rattle.rg_chunk.specs.declared.head.Layout.{Layout}
 use Rattle.rg_chunk.specs.declared.head.ChunkHead.{ChunkHead}
 use Rattle.rg_chunk.proofs.Chunks.{chunk_head}

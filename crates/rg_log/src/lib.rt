@@ -134,6 +134,33 @@ pub fn law_grown()
     law_frames();
 }
 
+/// A log with a frame has one schema in force at its end: the one that it begins with, until a growth comes. A chunk leaves
+/// it in force.
+pub fn law_in_force()
+    ensures one { (shape other : Shape) (bytes : List ℕ) → IsInForce shape bytes → IsInForce other bytes → shape ≡ other }
+    ensures of_log { (shape : Shape) (events : List Event) (bytes : List ℕ) → HasFrame bytes → HasLogged shape events bytes → IsInForce shape bytes }
+    ensures as_before { (shape : Shape) (events : List Event) (bytes : List ℕ) → HasSchemaFrame shape bytes → HasEvents shape events bytes → IsInForce shape bytes }
+
+    // The schema's frame comes behind a log without a frame.
+    ensures begins { (shape : Shape) (old new : List ℕ) → IsSchema shape → HasPayloads [] old → Grows (schema_payload shape) old new →
+        (HasPayloads [] new ⊎ IsInForce shape new) × HasLogged shape [] new }
+    ensures begun { (shape : Shape) (old new : List ℕ) → IsSchema shape → HasPayloads [] old → Grown (schema_payload shape) old new → IsInForce shape new × HasLogged shape [] new }
+
+    // A chunk comes behind a log that its events continue.
+    ensures adds { (shape : Shape) (events chunk : List Event) (payload old new : List ℕ) → IsInForce shape old → HasLogged shape events old → IsChunkOf shape payload chunk →
+        IsRising (events ++ chunk) → length (events ++ chunk) ≤ 2 ^ 40 → Grows payload old new → IsInForce shape new × (HasLogged shape events new ⊎ HasLogged shape (events ++ chunk) new) }
+    ensures added { (shape : Shape) (events chunk : List Event) (payload old new : List ℕ) → IsInForce shape old → HasLogged shape events old → IsChunkOf shape payload chunk →
+        IsRising (events ++ chunk) → length (events ++ chunk) ≤ 2 ^ 40 → Grown payload old new → IsInForce shape new × HasLogged shape (events ++ chunk) new }
+
+    // A growth comes.
+    ensures grows { (shape : Shape) (growth : Growth) (events : List Event) (payload old new : List ℕ) → IsInForce shape old → HasLogged shape events old → IsGrowth shape payload growth →
+        Grows payload old new → (IsInForce shape new × HasLogged shape events new) ⊎ (IsInForce growth.to new × HasLogged growth.to (all_extended growth.values events) new) }
+    ensures grown { (shape : Shape) (growth : Growth) (events : List Event) (payload old new : List ℕ) → IsInForce shape old → HasLogged shape events old → IsGrowth shape payload growth →
+        Grown payload old new → IsInForce growth.to new × HasLogged growth.to (all_extended growth.values events) new }
+{
+    law_frames();
+}
+
 /// Spots stay what they are when a chunk comes behind a log, and the heads of the chunks alone tell which spots of a
 /// legal log are spelled.
 pub fn law_spots()

@@ -19,3 +19,4 @@ pub mod GrowthBytes
 pub mod StageListing
 pub mod StageExact
 pub mod InForce
+pub mod GrownFolds

@@ -1,4 +1,5 @@
 pub mod Entries
+pub mod GrownEntries
 pub mod Log
 pub mod Logged
 pub mod Reading

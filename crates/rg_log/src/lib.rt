@@ -13,7 +13,7 @@ ghost use Rattle.rg_event.specs.Shapes.{Shape, IsSchema};
 ghost use Rattle.rg_event.specs.declared.event.Event.{Event};
 ghost use Rattle.rg_event.specs.Rising.{IsRising, next_offset, last_time};
 ghost use Rattle.rg_event.specs.declared.value.Value.{Value};
-ghost use Rattle.rg_growth.specs.Payloads.{IsGrowth};
+ghost use Rattle.rg_growth.specs.Payloads.{IsGrowth, growth_of};
 ghost use Rattle.rg_growth.specs.declared.growth.Growth.{Growth};
 ghost use Rattle.rg_past.specs.declared.past.Spot.{Spot};
 ghost use Rattle.rg_frame.specs.Bytes.{IsByte};
@@ -21,14 +21,16 @@ ghost use Rattle.rg_frame.specs.Frames.{frames, HasPayloads, IsDamaged};
 ghost use Rattle.rg_frame.specs.Steps.{Grows, Grown};
 ghost use Rattle.rg_chunk.specs.Extended.{all_extended};
 ghost use Rattle.rg_chunk.specs.Heads.{head_of};
+ghost use Rattle.rg_chunk.specs.declared.head.ChunkHead.{ChunkHead};
 ghost use Rattle.rg_log.specs.Entries.{nothing, told_by, summary_of, unread, behind, count_of, further_entry, entry_after, entries_after};
+ghost use Rattle.rg_log.specs.GrownEntries.{GrownEntry, holds, events_in, shape_behind, grown_entry, grown_after, all_grown_after};
 ghost use Rattle.rg_log.specs.declared.entry.LogSoFar.{LogSoFar as TheLogSoFar};
 ghost use Rattle.rg_log.specs.declared.summary.LogSummary.{LogSummary as TheLogSummary};
 ghost use Rattle.rg_log.specs.Logged.{stages_in, logged_of, next_logged, HasGrownLog, IsInForce};
 ghost use Rattle.rg_log.specs.Log.{schema_payload, chunks_of, joined, HasChunks, IsChunkOf, IsLegalLog, HasEvents, HasLegalLog, HasSchemaFrame, IsOfSchema};
 ghost use Rattle.rg_log.specs.Reading.{events_of, next_of};
 ghost use Rattle.rg_log.specs.Spots.{count_in, IsInChunk, SpotAt, SpotIn, NamedByHeads};
-ghost use Rattle.rg_log.specs.Stages.{Stage, logged, plain, IsGrownLog, HasLogged, HasFrame};
+ghost use Rattle.rg_log.specs.Stages.{Stage, logged, plain, HasStages, IsGrownLog, HasLogged, HasFrame};
 
 mod entry;
 mod summary;
@@ -81,6 +83,24 @@ pub fn law_entries()
         (count : ℕ) × (count_in payload ≡ Some count) × (next.summary.count ≡ summary.count + count) × (next.schema ≡ Some shape) }
     ensures legal { (shape : Shape) (payloads : List (List ℕ)) (chunks : List (List Event)) → IsSchema shape → HasChunks shape payloads chunks → 1 ≤ length payloads → IsRising (joined chunks) →
         length (joined chunks) ≤ 2 ^ 40 → All (IsEventOf shape.fields) (joined chunks) → entries_after unread payloads ≡ Some (behind shape (summary_of (joined chunks))) }
+{}
+
+/// Where the schema may grow, one step still judges each frame of a log. Behind the first frame, that of a schema, it takes a
+/// chunk by its head as before, and a growth of the schema in force, which is the other schema from there on. So it takes each
+/// frame of a legal log, and then says the schema in force and what the events come to. What was taken before is taken still.
+pub fn law_grown_entries()
+    ensures first { (shape : Shape) → IsSchema shape → grown_after unread (schema_payload shape) ≡ Some (behind shape nothing) }
+    ensures only_first { (payload : List ℕ) (next : TheLogSoFar) → grown_after unread payload ≡ Some next → (shape : Shape) × IsSchema shape × (payload ≡ schema_payload shape) × (next ≡ behind shape nothing) }
+    ensures chunk { (shape : Shape) (summary : TheLogSummary) (payload : List ℕ) (head : ChunkHead) → head_of payload ≡ Some head →
+        grown_after (behind shape summary) payload ≡ option_map (behind shape) (told_by summary (Some head)) }
+    ensures growth { (shape : Shape) (summary : TheLogSummary) (payload : List ℕ) (growth : Growth) → IsGrowth shape payload growth → grown_after (behind shape summary) payload ≡ Some (behind growth.to summary) }
+    ensures neither { (shape : Shape) (summary : TheLogSummary) (payload : List ℕ) → head_of payload ≡ None → growth_of shape payload ≡ None → grown_after (behind shape summary) payload ≡ None }
+    ensures front { (shape : Shape) (a b : List ℕ) (head : ChunkHead) → take 37 a ≡ take 37 b → grown_entry shape a ≡ Some (holds head) → grown_entry shape b ≡ Some (holds head) }
+    ensures counted { (shape : Shape) (summary : TheLogSummary) (payload : List ℕ) (next : TheLogSoFar) → grown_after (behind shape summary) payload ≡ Some next →
+        (entry : GrownEntry) × (grown_entry shape payload ≡ Some entry) × (next.summary.count ≡ summary.count + events_in entry) × (next.schema ≡ Some (shape_behind shape entry)) }
+    ensures legal { (shape : Shape) (payloads : List (List ℕ)) (stages : List Stage) → HasStages shape payloads stages → 1 ≤ length payloads → IsRising (logged stages) →
+        length (logged stages) ≤ 2 ^ 40 → all_grown_after unread payloads ≡ Some (behind shape (summary_of (logged stages))) }
+    ensures as_before { (so_far last : TheLogSoFar) (payloads : List (List ℕ)) → entries_after so_far payloads ≡ Some last → all_grown_after so_far payloads ≡ Some last }
 {}
 
 /// A file has one list of stages, so one list of events and, with a frame, one schema in force at its end, of which all its

@@ -20,3 +20,6 @@ pub mod StageListing
 pub mod StageExact
 pub mod InForce
 pub mod GrownFolds
+pub mod Stopping
+pub mod StopNaming
+pub mod WorkedGrowth

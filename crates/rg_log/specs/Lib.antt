@@ -5,3 +5,4 @@ pub mod Logged
 pub mod Reading
 pub mod Spots
 pub mod Stages
+pub mod Stops

@@ -30,6 +30,7 @@ ghost use Rattle.rg_log.specs.Logged.{stages_in, logged_of, next_logged, HasGrow
 ghost use Rattle.rg_log.specs.Log.{schema_payload, chunks_of, joined, HasChunks, IsChunkOf, IsLegalLog, HasEvents, HasLegalLog, HasSchemaFrame, IsOfSchema};
 ghost use Rattle.rg_log.specs.Reading.{events_of, next_of};
 ghost use Rattle.rg_log.specs.Spots.{count_in, IsInChunk, SpotAt, SpotIn, NamedByHeads};
+ghost use Rattle.rg_log.specs.Stops.{StopsInChunk, StopAt, StopIn, NamesEvent, StopsByHeads};
 ghost use Rattle.rg_log.specs.Stages.{Stage, logged, plain, HasStages, IsGrownLog, HasLogged, HasFrame};
 
 mod entry;
@@ -219,6 +220,47 @@ pub fn law_spots()
         NamedByHeads payloads spot ↔ SpotAt shape payloads spot }
     ensures named_in { (shape : Shape) (events : List Event) (payloads : List (List ℕ)) (bytes : List ℕ) (spot : Spot) → HasEvents shape events bytes →
         HasPayloads payloads bytes → NamedByHeads payloads spot ↔ SpotIn shape bytes spot }
+{
+    law_frames();
+}
+
+/// Where the schema may grow, a spot stays what it is when any frame comes behind a log, and the heads of the chunks and the
+/// growths alone tell which spots of a legal log are spelled. In a log without a growth they are those of `Spots`.
+pub fn law_stops()
+    ensures stays { (payloads : List (List ℕ)) (payload : List ℕ) (spot : Spot) → StopAt payloads spot → StopAt (payloads ++ payload ∷ []) spot }
+    ensures stays_in { (payload old new : List ℕ) (spot : Spot) → Grows payload old new → StopIn old spot → StopIn new spot }
+
+    // Without a frame no spot is spelled: so each one stays when the schema's frame comes.
+    ensures none { (spot : Spot) → StopAt [] spot → ⊥ }
+    ensures none_in { (bytes : List ℕ) (spot : Spot) → HasPayloads [] bytes → StopIn bytes spot → ⊥ }
+
+    // A spelled spot's number is at most the count; each event has a spelling, and so has the end.
+    ensures within { (shape : Shape) (payloads : List (List ℕ)) (stages : List Stage) (spot : Spot) → HasStages shape payloads stages → StopAt payloads spot → spot.number ≤ length (logged stages) }
+    ensures within_in { (shape : Shape) (events : List Event) (bytes : List ℕ) (spot : Spot) → HasLogged shape events bytes → StopIn bytes spot → spot.number ≤ length events }
+    ensures each { (shape : Shape) (payloads : List (List ℕ)) (stages : List Stage) (number : ℕ) → HasStages shape payloads stages → 1 ≤ length payloads →
+        number ≤ length (logged stages) → (spot : Spot) × StopAt payloads spot × (spot.number ≡ number) }
+
+    // The event that a spot in a chunk names.
+    ensures event { (shape : Shape) (payloads : List (List ℕ)) (stages : List Stage) (spot : Spot) → HasStages shape payloads stages →
+        (at : StopsInChunk payloads spot) → spot.index < length at.chunk → NamesEvent payloads stages spot at }
+    ensures one_number { (payloads : List (List ℕ)) (spot other : Spot) → StopAt payloads spot → StopAt payloads other → spot.place ≡ other.place → spot.index ≡ other.index → spot.number ≡ other.number }
+
+    // The end: where the frames end, whatever the last one is; and behind the last event of the last chunk.
+    ensures end { (shape : Shape) (payloads : List (List ℕ)) (stages : List Stage) (spot : Spot) → HasStages shape payloads stages → 1 ≤ length payloads →
+        spot.place ≡ length (frames payloads) → spot.index ≡ 0 → spot.number ≡ length (logged stages) → StopAt payloads spot }
+    ensures end_of_last { (shape : Shape) (payloads : List (List ℕ)) (payload : List ℕ) (stages : List Stage) (chunk : List Event) (spot : Spot) → HasStages shape payloads stages →
+        1 ≤ length payloads → IsChunkOf shape payload chunk → spot.place ≡ length (frames payloads) → spot.index ≡ length chunk →
+        spot.number ≡ length (logged stages ++ chunk) → StopAt (payloads ++ payload ∷ []) spot }
+
+    // By the heads and the growths alone.
+    ensures named { (shape : Shape) (payloads : List (List ℕ)) (stages : List Stage) (spot : Spot) → HasStages shape payloads stages → StopsByHeads payloads spot ↔ StopAt payloads spot }
+    ensures named_in { (shape : Shape) (events : List Event) (payloads : List (List ℕ)) (bytes : List ℕ) (spot : Spot) → HasLogged shape events bytes →
+        HasPayloads payloads bytes → StopsByHeads payloads spot ↔ StopIn bytes spot }
+
+    // In a log of one schema.
+    ensures as_before { (shape : Shape) (payloads : List (List ℕ)) (chunks : List (List Event)) (spot : Spot) → IsSchema shape → HasChunks shape payloads chunks →
+        All (IsEventOf shape.fields) (joined chunks) → SpotAt shape payloads spot ↔ StopAt payloads spot }
+    ensures as_before_in { (shape : Shape) (events : List Event) (bytes : List ℕ) (spot : Spot) → HasEvents shape events bytes → SpotIn shape bytes spot ↔ StopIn bytes spot }
 {
     law_frames();
 }

@@ -12,18 +12,20 @@ use Rattle.rg_metric.specs.declared.query.Window.{Window}
 use Rattle.rg_metric.specs.Conditions.{Test, passes, value_in}
 use Rattle.rg_metric.specs.Replies.{key_of}
 use Rattle.rg_group.specs.Keys.{key_bytes}
+use Rattle.rg_words.specs.declared.func.Func.{Func}
 use Rattle.rg_agg.specs.Held.{Held}
 use Rattle.rg_plan.specs.Named.{Node}
 use Rattle.rg_state.specs.declared.table.Change.{Change}
 use Rattle.rg_state.specs.declared.table.TableFault.{TableFault}
 use Rattle.rg_state.specs.Changes.{Marks}
-use Rattle.rg_state.specs.Rows.{Cells, Others}
+use Rattle.rg_state.specs.Rows.{Cells, Changed, Others, Unfit}
 use Rattle.rg_engine.specs.declared.part.FilterPart.{FilterPart}
 use Rattle.rg_engine.specs.declared.part.GroupPart.{GroupPart}
 use Rattle.rg_engine.specs.declared.part.AggPart.{AggPart}
 use Rattle.rg_engine.specs.Deeds.{Does, side_of, handed, deed_by, deed_with, node_deed}
 use Rattle.rg_engine.specs.Parts.{node_under, node_if, agg_nodes, group_nodes, nodes_numbered, ticks_at}
-use Rattle.rg_engine.specs.Stepping.{IsPassed, Done, Refuses, Stuck, Stepped}
+use Rattle.rg_engine.specs.Stepping.{IsPassed, IsTaken, Done, Refuses, Stuck, Stepped}
+use Rattle.rg_engine.proofs.Plain.{same_some}
 
 none_true : true ≡ false → ⊥
 none_true e = cc
@@ -165,6 +167,27 @@ module _ (window : Window) (condition : Option Test) (columns : List ℕ) (offse
       Stuck made offset x (node_if (part.node == n) (node_under window condition columns part)) (cells n made)
   stuck_one n same is of_event refuses =
       subst (λ m. Stuck made offset x (node_if (part.node == m) (node_under window condition columns part)) (cells m made)) (sym same) (stuck_by (part.node == part.node) refl is of_event refuses)
+
+-- what a change with the value that is handed makes of a row
+pub does_handed : (func : Func) (change : Change) (value : Value) (given : Option Value) (old new : Option Held) → given ≡ Some value → Changed func change value old new → Does func (deed_with change given) old new
+does_handed func change value given old new is made = subst (λ v. Does func (deed_with change v) old new) (sym is) made
+
+-- a row that refuses the value that is handed, and one that is handed none that is taken
+module _ (window : Window) (condition : Option Test) (columns : List ℕ) (change : Change) (x : Event) (part : AggPart) (row : Option Held) where
+  pub refuses_unfit : (value : Value) → handed part.agg.field x ≡ Some value → Unfit part.agg.func change value row → Refuses (node_under window condition columns part) change x row
+  refuses_unfit value is unfit = λ other given takes. subst (λ v. Unfit part.agg.func change v row) (same_some (sym is ∙ given)) unfit
+
+  pub refuses_untaken : IsTaken part.agg x None → Refuses (node_under window condition columns part) change x row
+  refuses_untaken none = λ value given takes. absurd (none value given takes)
+
+module _ (window : Window) (condition : Option Test) (columns : List ℕ) (offset : ℕ) (change : Change) (x : Event) (aggs : List AggPart) (i : ℕ) (part d : AggPart) (made : List ℕ) (cells between : Cells) where
+  -- behind aggregators that changed the rows, one whose row refuses the event
+  pub stuck_there : (n : ℕ) → i < length aggs → part ≡ get_or aggs i d → n ≡ part.node → IsPassed window condition offset change x → made ≡ key_bytes (key_of columns x) →
+      Done made offset x (agg_nodes window condition columns n (take i aggs)) (cells n made) (between n made) →
+      Refuses (node_under window condition columns part) change x (between part.node made) → Stuck made offset x (agg_nodes window condition columns n aggs) (cells n made)
+  stuck_there n within is same passed of_event done refuses =
+      stuck_more made offset x (λ (p : AggPart). node_if (p.node == n) (node_under window condition columns p)) aggs i part d within is (cells n made) (between n made) done
+      (stuck_one window condition columns offset change x part made between between n same passed of_event refuses)
 
 -- one part's ticks more
 pub ticks_more : {A : Type 0} (ticks : A → ℕ) (parts : List A) (i : ℕ) (part d : A) (start old new : ℕ) → i < length parts → part ≡ get_or parts i d → old ≡ start + sum_by ticks (take i parts) → new ≡ old + ticks part →

@@ -1,6 +1,7 @@
 -- Plain facts that many proofs need.
-use Rattle.std.proofs.Common.{◌≡◌, Bool, true, false, Some, None, refl, sym}
+use Rattle.std.proofs.Common.{◌≡◌, ℕ, Bool, true, false, Some, None, refl, sym}
 use Rattle.std.specs.Prelude.{Err, IsErrOf}
+use Rattle.rg_state.specs.declared.table.TableFault.TheVariants.{BadState}
 
 pub none_some : {A : Type 0} {x : A} → None ≡ Some x → ⊥
 none_some e = cc
@@ -20,3 +21,6 @@ same_tests false false f g = refl
 
 pub same_fault : {A E : Type 0} {x y : E} → IsErrOf {T = A} (Err x) y → x ≡ y
 same_fault e = cc
+
+pub same_node : {A : Type 0} {m n : ℕ} → IsErrOf {T = A} (Err (BadState m)) (BadState n) → n ≡ m
+same_node e = cc

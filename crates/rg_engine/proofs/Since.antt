@@ -31,3 +31,16 @@ since_changed (Ok _) base named there cells named' there' cells' node key is was
     since_named base named there cells named' there' cells' node key since is was others other_named other_there
 since_changed (Err _) base named there cells named' there' cells' node key is was others other_named other_there same same_named same_there since =
     since_same base named there cells named' there' cells' same same_named same_there since
+
+-- the same, of a table
+pub keeps_changed : {T A E : Type 0} (Tells : T → Type 0) (named there : T → Marks) (cells : T → Cells) (old new : T) (result : Result A E) (node : ℕ) (key : List ℕ) → (Tells new ↔ Tells old) →
+    (Tells old → OnOk result (IsNamed (named new node key) (there new node key) (cells new node key))) → (Tells old → OnOk result (there new node key ≡ was_there (named old node key) (there old node key) (cells old node key))) →
+    (Tells old → Others node key (cells old) (cells new)) → (Tells old → OtherMarks node key (named old) (named new)) → (Tells old → OtherMarks node key (there old) (there new)) →
+    (Tells old → OnErr result (Same (cells old) (cells new))) → (Tells old → OnErr result (SameMarks (named old) (named new))) → (Tells old → OnErr result (SameMarks (there old) (there new))) →
+    KeepsSince Tells named there cells old new
+keeps_changed Tells named there cells old new result node key tells is was others other_named other_there same same_named same_there = record {
+  tells = tells;
+  since = λ told base since.
+      since_changed result base (named old) (there old) (cells old) (named new) (there new) (cells new) node key
+      (is told) (was told) (others told) (other_named told) (other_there told) (same told) (same_named told) (same_there told) since;
+}

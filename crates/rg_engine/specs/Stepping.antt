@@ -1,8 +1,9 @@
 -- What an event that passed an edge makes of the rows of a table.
-use Rattle.std.specs.Prelude.{◌≡◌, ◌↔◌, ◌⊎◌, ℕ, ◌+◌, ◌≤◌, List, [], ◌∷◌, Option, Some, Result, OnOk, IsErrOf, true}
+use Rattle.std.specs.Prelude.{◌≡◌, ◌↔◌, ◌⊎◌, ℕ, ◌+◌, ◌≤◌, List, [], ◌∷◌, Option, Some, None, Result, OnOk, IsErrOf, true}
 use Rattle.rg_bytes.specs.Counts.{Rose}
 use Rattle.rg_event.specs.declared.event.Event.{Event}
 use Rattle.rg_event.specs.declared.value.Value.{Value}
+use Rattle.rg_metric.specs.declared.query.Agg.{Agg}
 use Rattle.rg_metric.specs.declared.query.Window.{Window}
 use Rattle.rg_metric.specs.Conditions.{Test, passes}
 use Rattle.rg_agg.specs.Held.{Held}
@@ -11,11 +12,10 @@ use Rattle.rg_state.specs.declared.table.Change.{Change}
 use Rattle.rg_state.specs.declared.table.TableFault.{TableFault}
 use Rattle.rg_state.specs.declared.table.TableFault.TheVariants.{BadState, Disk}
 use Rattle.rg_state.specs.Changes.{Marks, IsSince}
-use Rattle.rg_state.specs.Rows.{Cells, Others, Unfit}
+use Rattle.rg_state.specs.Rows.{Cells, Unfit}
 use Rattle.rg_state.specs.Takes.{Takes}
 use Rattle.rg_engine.specs.Windows.{passes_at}
-use Rattle.rg_engine.specs.declared.part.AggPart.{AggPart}
-use Rattle.rg_engine.specs.Deeds.{side_of, handed, deed_with, node_deed, Does}
+use Rattle.rg_engine.specs.Deeds.{side_of, handed, node_deed, Does}
 
 -- the event meets the condition, and at this offset the window does this with it
 pub record IsPassed (window : Window) (condition : Option Test) (offset : ℕ) (change : Change) (x : Event) : Type 0 where
@@ -26,6 +26,11 @@ pub record IsPassed (window : Window) (condition : Option Test) (offset : ℕ) (
 abbrev pub Done : List ℕ → ℕ → Event → List Node → Option Held → Option Held → Type 0
 Done key offset x [] old new = new ≡ old
 Done key offset x (node ∷ nodes) old new = (between : Option Held) × Does node.agg.func (node_deed node key offset x) old between × Done key offset x nodes between new
+
+-- the value that an event hands an aggregator, where the aggregator takes it
+abbrev pub IsTaken : Agg → Event → Option Value → Type 0
+IsTaken agg x None = (value : Value) → handed agg.field x ≡ Some value → Takes agg.func value → ⊥
+IsTaken agg x (Some value) = (handed agg.field x ≡ Some value) × Takes agg.func value
 
 -- the row can't be changed with a value of the column that the function takes
 abbrev pub Refuses : Node → Change → Event → Option Held → Type 0
@@ -42,14 +47,6 @@ pub record Balks (node : Node) (key : List ℕ) (offset : ℕ) (x : Event) (row 
 abbrev pub Stuck : List ℕ → ℕ → Event → List Node → Option Held → Type 0
 Stuck key offset x [] row = ⊥
 Stuck key offset x (node ∷ nodes) row = Balks node key offset x row ⊎ ((between : Option Held) × Does node.agg.func (node_deed node key offset x) row between × Stuck key offset x nodes between)
-
--- Rows before and after an aggregator was handed an event for a key: the row of its node and that key did what the change asks, or it refused the
--- event's value; and all other rows are as before.
-pub record ChangesRow (part : AggPart) (change : Change) (x : Event) (key : List ℕ) (result : Result Unit TableFault) (cells cells' : Cells) : Type 0 where
-  pub does : OnOk result (Does part.agg.func (deed_with change (handed part.agg.field x)) (cells part.node key) (cells' part.node key))
-  pub others : Others part.node key cells cells'
-  pub bad : (n : ℕ) → IsErrOf result (BadState n) → n ≡ part.node
-  pub refuses : (n : ℕ) → IsErrOf result (BadState n) → (value : Value) → handed part.agg.field x ≡ Some value → Takes part.agg.func value → Unfit part.agg.func change value (cells part.node key)
 
 -- Rows before and after an event that passed the edge of this offset: each was changed by the nodes of its number; or one of these balked.
 pub record ChangesRows (nodes : ℕ → List Node) (offset : ℕ) (x : Event) (result : Result Unit TableFault) (cells cells' : Cells) : Type 0 where

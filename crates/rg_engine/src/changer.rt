@@ -6,13 +6,13 @@ ghost use Rattle.rg_engine.specs.Deeds.{handed};
 ghost use Rattle.rg_engine.specs.Since.{GoesOn};
 ghost use Rattle.rg_engine.specs.Standing.{has_edge};
 ghost use Rattle.rg_engine.specs.Parts.{agg_nodes, group_nodes};
-ghost use Rattle.rg_engine.specs.Stepping.{IsPassed, ChangesRow, ChangesRows};
+ghost use Rattle.rg_engine.specs.Stepping.{IsPassed, IsTaken, ChangesRows};
 
-use crate::part::{AggPart, FilterPart, GroupPart, side};
+use crate::part::{FilterPart, GroupPart, side};
 use crate::takes::takes;
 use rg_event::{Event, Steps, Value};
 use rg_group::Key;
-use rg_metric::column_value;
+use rg_metric::{Agg, column_value};
 use rg_plan::TaskPlan;
 use rg_state::{Change, Table, TableFault};
 use rg_window::Visit;
@@ -113,7 +113,8 @@ fn pass_filter<T: Table, L: Ledger>(
 }
 
 /// Changes the rows of the nodes of some columns under a window and a condition that the event meets:
-/// the key is made once.
+/// the key is made once, and the row of each node is handed the event's value. Without a value that the
+/// node's function takes the row is refused.
 fn change_group<T: Table>(
     table: &mut T,
     key: &mut Key,
@@ -130,7 +131,12 @@ fn change_group<T: Table>(
         Ok(()) => {}
     }
     'aggs: for agg in &part.aggs {
-        match change_row(table, key, *agg, change, event) {
+        let flag = Value::Flag(true);
+        let value = match taken_value(event, agg.agg, &flag) {
+            None => return Err(TableFault::BadState(agg.node)),
+            Some(value) => value,
+        };
+        match table.change(agg.node, key, agg.agg.func, change, value) {
             Err(fault) => return Err(fault),
             Ok(()) => {}
         }
@@ -138,27 +144,19 @@ fn change_group<T: Table>(
     Ok(())
 }
 
-/// Hands an event's value to the row of a node and a key. Without a value that the function takes the
-/// row is refused.
-fn change_row<T: Table>(
-    table: &mut T,
-    key: &Key,
-    part: AggPart,
-    change: Change,
-    event: &Event,
-) -> Result<(), TableFault>
-    ensures row { T.tells table.old → ChangesRow part change event.now key.now result (T.cell table.old) (T.cell table.new) }
-    ensures goes { GoesOn T.tells T.named T.there T.cell T.faults table.old table.new result }
+/// The value that an event hands an aggregator, where the aggregator takes it: of column 0 this flag.
+fn taken_value<'v>(event: &'v Event, agg: Agg, flag: &'v Value) -> Option<&'v Value>
+    requires { flag.now ≡ Value.Flag true }
+    ensures { IsTaken agg event.now (option_copied result) }
 {
-    let flag = Value::Flag(true);
-    let value = match input_value(event, part.agg.field, &flag) {
-        None => return Err(TableFault::BadState(part.node)),
+    let value = match input_value(event, agg.field, flag) {
+        None => return None,
         Some(value) => value,
     };
-    if !takes(part.agg.func, value) {
-        return Err(TableFault::BadState(part.node));
+    if !takes(agg.func, value) {
+        return None;
     }
-    table.change(part.node, key, part.agg.func, change, value)
+    Some(value)
 }
 
 /// The value of an event that an aggregator of this column is handed: of column 0 a flag.

@@ -291,6 +291,10 @@ head-open bytes gate one is = let e : slice_index bytes 0 ≡ slice_index (gate 
 pub head-shut : (bytes : List ℕ) (gate : ℕ) → gate ≢ 1 → bytes ≡ gate ∷ drop 1 bytes → slice_index bytes 0 ≢ 1
 head-shut bytes gate closed is = λ one. (let e : slice_index bytes 0 ≡ slice_index (gate ∷ drop 1 bytes) 0 = ap (λ (l : List ℕ). slice_index l 0) is in closed (sym e ∙ one))
 
+pub head-none : (bytes : List ℕ) → length bytes ≤ 0 → slice_index bytes 0 ≢ 1
+head-none [] le = λ one. omega (arith, one)
+head-none (b ∷ bytes) le = absurd (omega (arith, le))
+
 -- a torn write of an open gate at the head leaves it or closes it
 pub none-torn : (a b c : List ℕ) → a ≡ 1 ∷ drop 1 a → b ≡ a → Torn 0 1 b c → OldOrNone a c
 none-torn a b c is same torn =

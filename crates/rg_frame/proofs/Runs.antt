@@ -1,11 +1,11 @@
 -- How calls that write one file join.
-use Rattle.std.proofs.Common.{◌≡◌, ◌≢◌, ℕ, ◌≤◌, List, [], Option, Some, None, refl, sym, ◌∙◌, subst}
+use Rattle.std.proofs.Common.{◌≡◌, ◌≢◌, ℕ, ◌≤◌, List, [], Option, Some, None, refl, sym, ◌∙◌, subst, arith}
 use Rattle.std.specs.Option.{ForSome}
 use Rattle.std.specs.Prelude.{⊤}
 use Rattle.rg_host.specs.Image.{Image, Becomes, InFile, Torn, IsAfter, Follows, NothingPending}
 use Rattle.rg_host.specs.Moments.{Moment, Moments, LeavesAll}
-use Rattle.rg_host.proofs.Runs.{moments_then, moments-weaker, leaves_all-none}
-use Rattle.rg_frame.specs.Calls.{Writes}
+use Rattle.rg_host.proofs.Runs.{moments_then, moments-weaker, leaves_all-none, leaves_all-then}
+use Rattle.rg_frame.specs.Calls.{Writes, ReadsOnly}
 use Rattle.rg_frame.specs.Frames.{HasPayloads, EndsAt}
 use Rattle.rg_frame.specs.Steps.{Leaves, From}
 
@@ -108,6 +108,33 @@ module _ {H : Type 0} (now : H → Option Image) (may : H → Image → Type 0) 
   writes-others file other S R old new differs became run settled = for_some-after (now old) (now new) (InFile file S) (λ v. (u : Image) → may old u → u other ≡ v other) (λ v. (u : Image) → may new u → u other ≡ v other) settled became (λ x y here step u left.
       let was = (run.left u left).0 in
       was.2 other differs ∙ here was.0 was.1 ∙ sym (step.elsewhere other differs))
+
+-- Calls that only read.
+module _ {H : Type 0} (now : H → Option Image) (may : H → Image → Type 0) (clock : H → ℕ) (since : H → ℕ → Moment → Type 0) (said : H → Option (List ℕ)) (disk out looks : H → ℕ) where
+  -- before the first one
+  pub reads_only-none : (host : H) → ((t u : ℕ) (m : Moment) → t ≤ u → since host u m → since host t m) → ((m : Moment) → since host (clock host) m → may host m.image × ForSome (said host) (λ s. m.said ≡ s)) →
+      ReadsOnly now may clock since said disk out looks host host
+  reads_only-none host sinks only = record {
+    leaves = leaves_all-none now may clock since said host sinks only;
+    disk_faults = omega arith;
+    out_faults = refl;
+    reads = omega arith;
+  }
+
+  -- one after another
+  pub reads_only-then : (old mid new : H) → ReadsOnly now may clock since said disk out looks old mid → ReadsOnly now may clock since said disk out looks mid new → ReadsOnly now may clock since said disk out looks old new
+  reads_only-then old mid new first second = record {
+    leaves = leaves_all-then now may clock since said old mid new first.leaves second.leaves;
+    disk_faults = omega (arith, first.disk_faults, second.disk_faults);
+    out_faults = second.out_faults ∙ first.out_faults;
+    reads = omega (arith, first.reads, second.reads);
+  }
+
+  -- one that asks for a file's length, and then another
+  pub reads_only-behind : (old mid new : H) → LeavesAll now may clock since said old mid → disk old ≤ disk mid → out mid ≡ out old → looks mid ≡ looks old → ReadsOnly now may clock since said disk out looks mid new →
+      ReadsOnly now may clock since said disk out looks old new
+  reads_only-behind old mid new leaves faults same read second =
+      reads_only-then old mid new (record { leaves = leaves; disk_faults = faults; out_faults = same; reads = omega (arith, read) }) second
 
 -- one file changes, and then again
 pub in_file-then : (file : ℕ) (P Q R : List ℕ → List ℕ → Type 0) (old mid new : Option Image) → Becomes old mid (InFile file P) → Becomes mid new (InFile file Q) → ((a b c : List ℕ) → P a b → Q b c → R a c) → Becomes old new (InFile file R)

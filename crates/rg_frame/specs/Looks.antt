@@ -1,6 +1,11 @@
 -- What reading at a place finds.
-use Rattle.std.specs.Prelude.{◌≡◌, ◌≢◌, ◌⊎◌, ◌<◌, ◌≤◌, ℕ, min, List, [], ◌∷◌, ◌++◌, length, take, drop, slice_index}
+use Rattle.std.specs.Prelude.{◌≡◌, ◌≢◌, ◌⊎◌, ◌+◌, ◌<◌, ◌≤◌, ◌^◌, ℕ, min, List, [], ◌∷◌, ◌++◌, length, take, drop, slice_index, Option, Result, OnErr, IfOk, IfErr, IfSome, IfNone, IsErrOf}
+use Rattle.std.specs.Option.{ForSome}
+use Rattle.rg_bytes.specs.Counts.{Rose}
+use Rattle.rg_host.specs.Image.{Image}
 use Rattle.rg_frame.specs.Frames.{body, Begins, IsCut}
+use Rattle.rg_frame.specs.declared.fault.FrameFault.{FrameFault}
+use Rattle.rg_frame.specs.declared.fault.FrameFault.TheVariants.{Damaged, Disk}
 
 -- n bytes from that place: as many as the buffer takes, or all that are there
 pub record IsRead (at n : ℕ) (buf bytes : List ℕ) : Type 0 where
@@ -41,3 +46,25 @@ pub record Next (payloads : List (List ℕ)) (size : ℕ) (head : List ℕ) (nex
   pub begins : Begins (payloads ++ payload ∷ []) next bytes
   pub size_is : length payload ≡ size
   pub first : take (min (length head) size) head ≡ take (min (length head) size) payload
+
+-- A buffer is filled with the bytes of a file from a place on, as far as the file has any: so many of its bytes are read, and it keeps its length. A refusal
+-- is a failure that was counted, and so is each call that read.
+pub record FillsBuffer {E : Type 0} (now : Option Image) (file at : ℕ) (old new : List ℕ) (failed failed' looks looks' : ℕ) (result : Result ℕ E) : Type 0 where
+  pub size : length new ≡ length old
+  pub count : IfOk result (λ n. n ≤ length new)
+  pub bytes : IfOk result (λ n. ForSome now (λ v. IsRead at n new (v file)))
+  pub cause : OnErr result (Rose failed failed')
+  pub reads : 0 < length old → Rose looks looks'
+
+-- What a look at a place of a file finds: how many bytes the payload of the open frame there has, for which something was read; or no open gate.
+pub record LookFinds (now : Option Image) (file place looks looks' : ℕ) (result : Result (Option ℕ) FrameFault) : Type 0 where
+  pub some : IfOk result (λ r. IfSome r (λ size. ForSome now (λ v. HoldsSize place size (v file))))
+  pub fits : IfOk result (λ r. IfSome r (λ size. place + size + 10 ≤ 2 ^ 62))
+  pub none : IfOk result (λ r. IfNone r (ForSome now (λ v. IsClosed place (v file))))
+  pub reads : IfOk result (λ r. IfSome r (λ _. Rose looks looks'))
+
+-- Why it is refused: a call on the file failed and was counted, or the frame at the place is torn.
+pub record LookRefuses (now : Option Image) (file place failed failed' : ℕ) (result : Result (Option ℕ) FrameFault) : Type 0 where
+  pub damaged : (p : ℕ) → IsErrOf result (Damaged p) → (p ≡ place) × ForSome now (λ v. IsTorn place (v file))
+  pub disk : IsErrOf result Disk → Rose failed failed'
+  pub faults : IfErr result (λ fault. (fault ≡ Disk) ⊎ (fault ≡ Damaged place))

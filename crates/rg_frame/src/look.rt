@@ -1,27 +1,23 @@
-ghost use Rattle.std.specs.Prelude.{◌≡◌, ◌⊎◌, ◌≤◌, ◌<◌, ◌+◌, ◌^◌, ℕ, length, OnErr, IfOk, IfErr, IfSome, IfNone, IsErrOf};
-ghost use Rattle.std.specs.Option.{ForSome};
+ghost use Rattle.std.specs.Prelude.{◌≡◌, ◌<◌, ◌+◌, ◌^◌, length};
 ghost use Rattle.std.specs.Int.{to_be_bytes, from_be_bytes, w64};
-ghost use Rattle.rg_bytes.specs.Counts.{Rose};
-ghost use Rattle.rg_host.specs.Moments.{LeavesAll};
-ghost use Rattle.rg_frame.specs.Looks.{IsRead, HoldsSize, IsClosed, IsTorn};
+ghost use Rattle.rg_frame.specs.Calls.{ReadsOnly};
+ghost use Rattle.rg_frame.specs.Looks.{FillsBuffer, LookFinds, LookRefuses};
 
 use crate::fault::FrameFault;
 use rg_host::{Failed, Host};
 
 /// Fills `buf` with the bytes of a file from a place on, as far as the file has any, and answers
 /// how many. After `Failed` nothing is said of what stands in `buf`.
-pub fn read_full<H: Host>(host: &mut H, file: u32, at: u64, buf: &mut [u8]) -> Result<usize, Failed>
+pub(crate) fn read_full<H: Host>(
+    host: &mut H,
+    file: u32,
+    at: u64,
+    buf: &mut [u8],
+) -> Result<usize, Failed>
     requires file { file < 8 }
     requires small { at + length buf.old < 2 ^ 64 }
-    ensures size { length buf.new ≡ length buf.old }
-    ensures count { IfOk result (λ n. n ≤ length buf.new) }
-    ensures bytes { IfOk result (λ n. ForSome (H.now host.old) (λ v. IsRead at n buf.new (v file))) }
-    ensures leaves { LeavesAll H.now H.may H.clock H.since H.said host.old host.new }
-    ensures cause { OnErr result (Rose (H.disk_faults host.old) (H.disk_faults host.new)) }
-    ensures disk_faults { H.disk_faults host.old ≤ H.disk_faults host.new }
-    ensures out_faults { H.out_faults host.new ≡ H.out_faults host.old }
-    ensures reads { 0 < length buf.old → Rose (H.reads host.old) (H.reads host.new) }
-    ensures reads_kept { H.reads host.old ≤ H.reads host.new }
+    ensures filled { FillsBuffer (H.now host.old) file at buf.old buf.new (H.disk_faults host.old) (H.disk_faults host.new) (H.reads host.old) (H.reads host.new) result }
+    ensures stays { ReadsOnly H.now H.may H.clock H.since H.said H.disk_faults H.out_faults H.reads host.old host.new }
 {
     let mut done = 0;
     while done < buf.len() {
@@ -47,19 +43,11 @@ fn number_of(bytes: &[u8]) -> u64
 
 /// How many bytes the payload of the open frame at a place has, and None where the gate there is
 /// not open.
-pub fn look<H: Host>(host: &mut H, file: u32, place: u64) -> Result<Option<u64>, FrameFault>
-    requires file { file < 8 }
-    ensures some { IfOk result (λ r. IfSome r (λ size. ForSome (H.now host.old) (λ v. HoldsSize place size (v file)))) }
-    ensures fits { IfOk result (λ r. IfSome r (λ size. place + size + 10 ≤ 2 ^ 62)) }
-    ensures none { IfOk result (λ r. IfNone r (ForSome (H.now host.old) (λ v. IsClosed place (v file)))) }
-    ensures damaged { (p : ℕ) → IsErrOf result (FrameFault.Damaged p) → (p ≡ place) × ForSome (H.now host.old) (λ v. IsTorn place (v file)) }
-    ensures disk { IsErrOf result FrameFault.Disk → Rose (H.disk_faults host.old) (H.disk_faults host.new) }
-    ensures faults { IfErr result (λ fault. (fault ≡ FrameFault.Disk) ⊎ (fault ≡ FrameFault.Damaged place)) }
-    ensures leaves { LeavesAll H.now H.may H.clock H.since H.said host.old host.new }
-    ensures disk_faults { H.disk_faults host.old ≤ H.disk_faults host.new }
-    ensures out_faults { H.out_faults host.new ≡ H.out_faults host.old }
-    ensures reads { IfOk result (λ r. IfSome r (λ _. Rose (H.reads host.old) (H.reads host.new))) }
-    ensures reads_kept { H.reads host.old ≤ H.reads host.new }
+pub(crate) fn look<H: Host>(host: &mut H, file: u32, place: u64) -> Result<Option<u64>, FrameFault>
+    requires { file < 8 }
+    ensures found { LookFinds (H.now host.old) file place (H.reads host.old) (H.reads host.new) result }
+    ensures refused { LookRefuses (H.now host.old) file place (H.disk_faults host.old) (H.disk_faults host.new) result }
+    ensures stays { ReadsOnly H.now H.may H.clock H.since H.said H.disk_faults H.out_faults H.reads host.old host.new }
 {
     let len = host.len(file)?;
     if len <= 1 {

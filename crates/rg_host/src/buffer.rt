@@ -1,7 +1,6 @@
-ghost use Rattle.std.specs.Prelude.{◌≡◌, ℕ, ◌+◌, ◌<◌, ◌≤◌, ◌∷◌, ◌++◌, [], length, take, slice_range, true, false, IfOk, OnErr, OnSome, IfSome, IfNone};
+ghost use Rattle.std.specs.Prelude.{◌≡◌, ◌<◌, ◌≤◌, ◌∷◌, ◌++◌, [], length, true, false, IfOk, OnErr, OnSome, IfSome, IfNone};
 ghost use Rattle.rg_bytes.specs.Counts.{Rose};
-ghost use Rattle.rg_bytes.specs.Known.{before, IsAtEnd};
-ghost use Rattle.rg_host.specs.Buffered.{Fills, IsPart, KeepsFirst, ReadsPart};
+ghost use Rattle.rg_host.specs.Buffered.{FillsUpTo, IsPart, KeepsFirst, ReadsPart};
 ghost use Rattle.rg_host.specs.Lines.{HasNoLf};
 
 use crate::source::{Failed, Source};
@@ -11,7 +10,7 @@ use std::alloc::Global;
 use std::marker::Model;
 
 /// The length in bytes of the shortest line that is too long.
-pub const LONG: usize = 65_536;
+pub(crate) const LONG: usize = 65_536;
 
 /// How many bytes a buffer has.
 const SIZE: usize = 131_072;
@@ -22,7 +21,7 @@ const PIECE: usize = 16_384;
 /// Bytes that were read from a source and not yet handed out: those from `start` to `end`. Up to
 /// `searched` none of them is LF, so that no byte is looked at twice.
 #[derive(Drop)]
-pub struct Buffer {
+pub(crate) struct Buffer {
     bytes: Vec<u8>,
     line_start: usize,
     line_end: usize,
@@ -48,7 +47,7 @@ impl Model for Buffer {
 
 impl Buffer {
     /// An empty buffer, which takes its memory here and no more later.
-    pub fn new(alloc: Global) -> Result<Buffer, Memory>
+    pub(crate) fn new(alloc: Global) -> Result<Buffer, Memory>
         ensures { IfOk result (λ buffer. buffer.pending ≡ []) }
     {
         let bytes = vec![in alloc; 0u8; SIZE]?;
@@ -63,21 +62,21 @@ impl Buffer {
     }
 
     /// How many bytes are pending.
-    pub fn len(&self) -> usize
+    pub(crate) fn len(&self) -> usize
         ensures { result ≡ length self.now.pending }
     {
         self.end - self.start
     }
 
     /// The line that was cut off last.
-    pub fn line(&self) -> &[u8]
+    pub(crate) fn line(&self) -> &[u8]
         ensures { result.now ≡ self.now.line }
     {
         &self.bytes[self.line_start..self.line_end]
     }
 
     /// Whether a line that LF ends is pending.
-    pub fn has_line(&self) -> bool
+    pub(crate) fn has_line(&self) -> bool
         ensures none { result ≡ false → HasNoLf self.now.pending }
         ensures some { result ≡ true → ¬ HasNoLf self.now.pending }
     {
@@ -88,7 +87,7 @@ impl Buffer {
     }
 
     /// Cuts off the first line that LF ends, and answers its length in bytes.
-    pub fn cut(&mut self) -> Option<usize>
+    pub(crate) fn cut(&mut self) -> Option<usize>
         ensures line { IfSome result (λ n. (self.old.pending ≡ self.new.line ++ 10 ∷ self.new.pending) × (length self.new.line ≡ n)) }
         ensures no_lf { OnSome result (HasNoLf self.new.line) }
         ensures none { IfNone result (HasNoLf self.old.pending) }
@@ -111,7 +110,7 @@ impl Buffer {
     }
 
     /// Cuts off all that is pending as a line, and answers its length in bytes.
-    pub fn cut_rest(&mut self) -> usize
+    pub(crate) fn cut_rest(&mut self) -> usize
         ensures line { self.new.line ≡ self.old.pending }
         ensures length { result ≡ length self.old.pending }
         ensures pending { self.new.pending ≡ [] }
@@ -124,7 +123,7 @@ impl Buffer {
     }
 
     /// Drops all that is pending.
-    pub fn clear(&mut self)
+    pub(crate) fn clear(&mut self)
         ensures { self.new.pending ≡ [] }
     {
         self.line_start = 0;
@@ -153,17 +152,10 @@ impl Buffer {
 
     /// Reads at most `most` bytes behind the pending ones, and answers how many. 0 comes only at
     /// the end of the source. After `Failed` the same bytes are pending.
-    #[tactic(auto, using(crate::proofs::Filling::fills_after, crate::proofs::Filling::kept_after))]
-    pub fn fill<S: Source>(&mut self, src: &mut S, most: u64) -> Result<usize, Failed>
+    pub(crate) fn fill<S: Source>(&mut self, src: &mut S, most: u64) -> Result<usize, Failed>
         requires short { length self.old.pending < LONG }
         requires some { 0 < most }
-        ensures bytes { IfOk result (λ n. Fills self.old.pending self.new.pending (S.left src.old) (S.left src.new) n) }
-        ensures most { IfOk result (λ n. n ≤ most) }
-        ensures end { IfOk result (λ n. n ≡ 0 → IsAtEnd (S.left src.new)) }
-        ensures kept { OnErr result (self.new.pending ≡ self.old.pending) }
-        ensures source_kept { OnErr result (S.left src.new ≡ S.left src.old) }
-        ensures cause { OnErr result (Rose (S.faults src.old) (S.faults src.new)) }
-        ensures later { S.faults src.old ≤ S.faults src.new }
+        ensures { FillsUpTo most self.old.pending self.new.pending (S.left src.old) (S.left src.new) (S.faults src.old) (S.faults src.new) result }
     {
         self.make_room();
         let room = most.min((SIZE - self.end) as u64) as usize;

@@ -12,16 +12,16 @@ returns-then-self-clause-leaves g c =
     writes-weaker g.H.Host.now g.H.Host.may g.H.Host.clock g.H.Host.since g.H.Host.said c.args.self.now.file Same OldOrNone _ _ start (λ w told b same. inl same)
 
 pub returns-in-Ok-clause-pending : goal.returns-in-Ok-clause-pending
-returns-in-Ok-clause-pending g c = subst (λ (s : LogState). NothingPending s.file (g.H.Host.now c.args.host.now) (g.H.Host.may c.args.host.now) → NothingPending s.file (g.H.Host.now c.close.new.host) (g.H.Host.may c.close.new.host)) c.self.view_is c.in-Ok.ensures.pending
+returns-in-Ok-clause-pending g c = subst (λ (s : LogState). NothingPending s.file (g.H.Host.now c.args.host.now) (g.H.Host.may c.args.host.now) → NothingPending s.file (g.H.Host.now c.close.new.host) (g.H.Host.may c.close.new.host)) c.self.view_is c.in-Ok.ensures.closed.pending
 
 pub returns-then-self-clause-others : goal.returns-then-self-clause-others
 returns-then-self-clause-others g c = others-stay c.args.self.now.file _ _ refl
 
 pub returns-in-Ok-clause-others : goal.returns-in-Ok-clause-others
-returns-in-Ok-clause-others g c = subst (λ (s : LogState). Becomes (g.H.Host.now c.args.host.now) (g.H.Host.now c.close.new.host) (InFile s.file (λ _ _. ⊤))) c.self.view_is c.close.ensures.others
+returns-in-Ok-clause-others g c = subst (λ (s : LogState). Becomes (g.H.Host.now c.args.host.now) (g.H.Host.now c.close.new.host) (InFile s.file (λ _ _. ⊤))) c.self.view_is c.close.ensures.wrote.others
 
 pub returns-in-Err-clause-others : goal.returns-in-Err-clause-others
-returns-in-Err-clause-others g c = subst (λ (s : LogState). Becomes (g.H.Host.now c.args.host.now) (g.H.Host.now c.close.new.host) (InFile s.file (λ _ _. ⊤))) c.self.view_is c.close.ensures.others
+returns-in-Err-clause-others g c = subst (λ (s : LogState). Becomes (g.H.Host.now c.args.host.now) (g.H.Host.now c.close.new.host) (InFile s.file (λ _ _. ⊤))) c.self.view_is c.close.ensures.wrote.others
 
 pub returns-in-Ok-clause-shut : goal.returns-in-Ok-clause-shut
-returns-in-Ok-clause-shut g c = subst (λ (s : LogState). Becomes (g.H.Host.now c.args.host.now) (g.H.Host.now c.close.new.host) (InFile s.file Shut)) c.self.view_is c.in-Ok.ensures.shut
+returns-in-Ok-clause-shut g c = subst (λ (s : LogState). Becomes (g.H.Host.now c.args.host.now) (g.H.Host.now c.close.new.host) (InFile s.file Shut)) c.self.view_is c.in-Ok.ensures.closed.shut

@@ -20,10 +20,10 @@ returns-clause-some g c =
     let len : c.resize.new.self.len ≡ length c.resize.new.self.items = search rules in
     let back = items-back c.resize.new.self.len c.read_full.new.buf c.resize.new.self.items size len in
     λ w told. subst (λ (s : LogState). HoldsFrame c.args.place (take c.resize.new.self.len (c.read_full.new.buf ++ drop (length c.read_full.new.buf) c.resize.new.self.items)) (w s.file)) c.self.view_is (subst (λ (l : List ℕ). HoldsFrame c.args.place l (w c.self.inside.file)) (sym back)
-    (let h = rw c.in-Ok-Some.field-0-is at c.in-Ok-Some.ensures.some in holds-read c.args.place c.in-Ok-Some.size _ c.read_full.new.buf (w c.self.inside.file) (h w told) (c.in-Ok-read_full.ensures.bytes w (c.look.ensures.leaves.now_stays ∙ told)) (size ∙ items)))
+    (let h = rw c.in-Ok-Some.field-0-is at c.in-Ok-Some.ensures.found.some in holds-read c.args.place c.in-Ok-Some.size _ c.read_full.new.buf (w c.self.inside.file) (h w told) (c.in-Ok-read_full.ensures.filled.bytes w (c.look.ensures.stays.leaves.now_stays ∙ told)) (size ∙ items)))
 
 pub returns-in-Err-clause-damaged : goal.returns-in-Err-clause-damaged
 returns-in-Err-clause-damaged g c = λ p e.
     let k : c.in-Err.fault ≡ Damaged p = cc in
-    let d = c.in-Err.ensures.damaged p (ap (λ f. Err f) k) in
+    let d = c.in-Err.ensures.refused.damaged p (ap (λ f. Err f) k) in
     λ w told. subst (λ (s : LogState). IsTorn p (w s.file)) c.self.view_is (subst (λ (n : ℕ). IsTorn n (w c.self.inside.file)) (sym d.0) (d.1 w told))

@@ -1,5 +1,5 @@
 -- What is counted of a run over a new store.
-use Rattle.std.proofs.Common.{◌≡◌, ◌∙◌, ℕ, ◌≤◌, ◌^◌, List, length, Option, Some, Ok, ap}
+use Rattle.std.proofs.Common.{◌≡◌, ◌∙◌, ℕ, ◌≤◌, ◌^◌, List, length, Some, Ok, ap}
 use Rattle.std.specs.List.{sum}
 use Rattle.rg_host.specs.Lines.{ended}
 use Rattle.rg_config.specs.Plans.{Planned, Says}

@@ -1,7 +1,6 @@
 -- What each command did.
 use Rattle.std.proofs.Common.{◌≡◌, ◌⊎◌, inl, inr, ⊎_elim, ℕ, ◌^◌, List, [], Option, Some, None, Result, refl, sym, ◌∙◌, subst}
-use Rattle.std.specs.Prelude as r
-use Rattle.std.specs.Prelude.{⊤, OnOk, IfErr, IfSome}
+use Rattle.std.specs.Prelude.{⊤, IfSome}
 use Rattle.std.specs.Option.{ForSome}
 use Rattle.rg_bytes.specs.Counts.{Rose}
 use Rattle.rg_config.specs.Plans.{Planned}
@@ -19,16 +18,16 @@ use Rattle.rg_report.specs.declared.refusal.Refusal.{Refusal}
 use Rattle.rg_report.specs.declared.status.Status.{Status}
 use Rattle.rg_report.specs.declared.status.Status.TheVariants.{Ok, Usage, Plan as BadPlan, Store, Read, Write, Disk, Limit, Memory, Gap, Differs}
 use Rattle.rg_call.specs.declared.command.Command.{Command}
-use Rattle.rg_call.specs.declared.command.Command.TheVariants.{Run, Replay, Verify, Dump, Info, Trial}
+use Rattle.rg_call.specs.declared.command.Command.TheVariants.{Run, Replay, Verify, Check, Dump, Info, Trial}
 use Rattle.rg_call.specs.declared.ending.Ending.{Ending}
 use Rattle.rg_call.specs.Plan.{IsPlan}
-use Rattle.rg_call.specs.Call.{IsRun, IsReplay, IsVerify, ReadsPlan, ShowsStore, IsInfoAt, IsTrialAt, line_for, ending_status, ending_line, ending_refusal, status_after, line_after, refusal_after, IsLegalPlan, TellsNoPlan, IsDamaged, IsUndamaged, ForText}
+use Rattle.rg_call.specs.Call.{IsRun, IsReplay, IsVerify, ReadsPlan, ShowsStore, IsInfoAt, IsTrialAt, line_for, ending_status, ending_line, ending_refusal, IsLegalPlan, TellsNoPlan, IsDamaged, IsUndamaged, ForText}
 use Rattle.rg_call.specs.Replays.{IsReplayEnd}
 use Rattle.rg_call.specs.Verifies.{IsVerifyEnd}
 use Rattle.rg_call.specs.Done.{Causes, LeavesAlone, Shows, Runs, ReplaysBy, VerifiesBy, Does}
 use Rattle.rg_call.proofs.Ends.{all_put, legal_of, runs}
 use Rattle.rg_call.proofs.Plans.{tells_plan}
-use Rattle.rg_call.proofs.Refusing.{damage_told, trial_line}
+use Rattle.rg_call.proofs.Refusing.{IsTrialStatus, damage_told, trial_line}
 use Rattle.rg_call.proofs.Replaying as replay
 use Rattle.rg_call.proofs.Verifying as verify
 
@@ -106,18 +105,18 @@ causes_usage plan input old new may alone unread misread unput undone last told 
   differs_only = λ e. absurd (cc e);
 }
 
--- of a command that reads no input
-module _ (command : Option Command) (no_run : IsRun command → ⊥) (plan input : Option (List ℕ)) (old new : Option Image) (may : Image → Type 0) (alone unread misread unput undone : Type 0) (status : Status) (last : List ℕ) (told : Option Refusal) where
+-- of a command that reads no input, nor a plan where that `misses` is never
+module _ (command : Option Command) (no_run : IsRun command → ⊥) (plan input : Option (List ℕ)) (old new : Option Image) (may : Image → Type 0) (alone misses unread misread unput undone : Type 0) (status : Status) (last : List ℕ) (told : Option Refusal) (so : misses → unread) where
   but_runs : {Shown Ran Again More : Type 0} → Shown ⊎ (IsRun command × Ran) ⊎ More → Shown ⊎ (IsRun command × Again) ⊎ More
   but_runs (inl shown) = inl shown
   but_runs (inr (inl run)) = absurd (no_run run.0)
   but_runs (inr (inr more)) = inr (inr more)
 
-  unread_alone : unread ⊎ (IsLegalPlan plan × IsRun command × ⊥) → unread ⊎ (IsLegalPlan plan × IsRun command × misread)
-  unread_alone (inl failed) = inl failed
+  unread_alone : misses ⊎ (IsLegalPlan plan × IsRun command × ⊥) → unread ⊎ (IsLegalPlan plan × IsRun command × misread)
+  unread_alone (inl failed) = inl (so failed)
   unread_alone (inr run) = absurd run.2
 
-  pub without_input : Causes command plan None old new may ⊤ unread ⊥ unput undone status last told → Causes command plan input old new may alone unread misread unput undone status last told
+  pub without_input : Causes command plan None old new may ⊤ misses ⊥ unput undone status last told → Causes command plan input old new may alone unread misread unput undone status last told
   without_input c = record {
     usage_only = c.usage_only;
     usage_always = c.usage_always;
@@ -191,10 +190,12 @@ StoreStatus ending = (ending_status ending ≡ Store) ⊎ (ending_status ending 
 
 -- of a command that puts what the store has
 module _ (command : Option Command) (plan input : Option (List ℕ)) (old new : Option Image) (may : Image → Type 0) (alone unread misread unput undone : Type 0) (named : command ≡ None → ⊥) (shows : ShowsStore command) (no_plan : ReadsPlan command → ⊥) (no_run : IsRun command → ⊥) where
-  pub store_causes : {A : Type 0} (result : Result A Ending) → OnOk result (IsUndamaged old) → IfErr result (λ ending. ending_status ending ≡ Store → IsDamaged old) → IfErr result (λ ending. ending_status ending ≡ Disk → undone) → IfErr result (λ ending. ending_status ending ≡ Write → unput) → IfErr result StoreStatus →
-      Causes command plan input old new may alone unread misread unput undone (status_after result) (line_after result) (refusal_after result)
-  store_causes (r.Ok value) undamaged store disk write others = causes_ok command plan input old new may alone unread misread unput undone named (λ reads. absurd (no_plan reads)) (λ run. absurd (no_run run)) (λ shown. undamaged)
-  store_causes (r.Err ending) undamaged store disk write others = record {
+  pub store_ok : IsUndamaged old → Causes command plan input old new may alone unread misread unput undone Ok [] None
+  store_ok undamaged = causes_ok command plan input old new may alone unread misread unput undone named (λ reads. absurd (no_plan reads)) (λ run. absurd (no_run run)) (λ shown. undamaged)
+
+  pub store_err : (ending : Ending) → (ending_status ending ≡ Store → IsDamaged old) → (ending_status ending ≡ Disk → undone) → (ending_status ending ≡ Write → unput) → StoreStatus ending →
+      Causes command plan input old new may alone unread misread unput undone (ending_status ending) (ending_line ending) (ending_refusal ending)
+  store_err ending store disk write others = record {
     usage_only = λ is. absurd (never_in_store (ending_status ending) others Usage is);
     usage_always = λ none. absurd (named none);
     ok_only = λ is. absurd (never_in_store (ending_status ending) others Ok is);
@@ -208,15 +209,6 @@ module _ (command : Option Command) (plan input : Option (List ℕ)) (old new : 
     limit_only = λ is. absurd (never_in_store (ending_status ending) others Limit is);
     differs_only = λ is. absurd (never_in_store (ending_status ending) others Differs is);
   }
-
--- of a trial
-pub trial_causes : (lines seed : ℕ) (plan input : Option (List ℕ)) (old new : Option Image) (may : Image → Type 0) (alone unread misread unput undone : Type 0) {A : Type 0} (result : Result A Ending) → IfErr result (λ ending. ending_status ending ≡ Write → unput) → IfErr result (λ ending. (ending_status ending ≡ Memory) ⊎ (ending_status ending ≡ Write)) →
-    Causes (Some (Trial lines seed)) plan input old new may alone unread misread unput undone (status_after result) (line_after result) (refusal_after result)
-trial_causes lines seed plan input old new may alone unread misread unput undone (r.Ok value) write others = causes_ok (Some (Trial lines seed)) plan input old new may alone unread misread unput undone (λ none. let e : Some (Trial lines seed) ≡ None = none in absurd (cc)) (λ reads. absurd reads) (λ run. absurd run) (λ shows. absurd shows)
-trial_causes lines seed plan input old new may alone unread misread unput undone (r.Err ending) write (inl is) = subst (λ s. Causes (Some (Trial lines seed)) plan input old new may alone unread misread unput undone s (ending_line ending) (ending_refusal ending)) (sym is)
-    (causes_memory (Some (Trial lines seed)) plan input old new may alone unread misread unput undone (λ none. let e : Some (Trial lines seed) ≡ None = none in absurd (cc)) (ending_line ending) (ending_refusal ending))
-trial_causes lines seed plan input old new may alone unread misread unput undone (r.Err ending) write (inr is) = subst (λ s. Causes (Some (Trial lines seed)) plan input old new may alone unread misread unput undone s (ending_line ending) (ending_refusal ending)) (sym is)
-    (causes_write (Some (Trial lines seed)) plan input old new may alone unread misread unput undone (λ none. let e : Some (Trial lines seed) ≡ None = none in absurd (cc)) (ending_line ending) (ending_refusal ending) (λ reads. absurd reads) (write is))
 
 -- What was left alone, by a command that reads no input and writes no file.
 pub leaves_alone : (command : Option Command) (plan : Option (List ℕ)) (plan_alone alone files misread : Type 0) (status : Status) → ((ReadsPlan command → ⊥) → plan_alone) → alone → files → LeavesAlone command plan plan_alone alone files misread status
@@ -242,98 +234,127 @@ module _ {H : Type 0} (now : H → Option Image) (may : H → Image → Type 0) 
     abbrev pub LineFor : Ending → Type 0
     LineFor ending = ForSome (now old) (λ image. (asks : Result Planned ConfigFault) → ending_line ending ≡ line_for asks image (ending_status ending))
 
-    pub dump_shows : {A : Type 0} (result : Result A Ending) → OnOk result (ForSome (now old) (λ image. Put (ended (dump_text (image 2))))) →
-        IfErr result (λ ending. ForSome (now old) (λ image. (put : List ℕ) × Put put × StopsAt (ending_status ending ≡ Write) (dump_text (image 2)) put)) →
-        IfErr result (λ ending. ending_status ending ≡ Store → ForSome (now old) (λ image. Put (ended (dump_text (image 2))))) → IfErr result LineFor → IfErr result StoreStatus → Shows now may clock since said (Some Dump) plan (status_after result) (line_after result) old new
-    dump_shows (r.Ok value) all stops before line others = record {
+    pub dump_ok : ForSome (now old) (λ image. Put (ended (dump_text (image 2)))) → Shows now may clock since said (Some Dump) plan Ok [] old new
+    dump_ok all = record {
       all = λ ok told. record { text = dump_text (told.image 2); is = refl; holds = all told.image (told.image_is tt) };
       part = λ told. record { text = dump_text (told.image 2); is = refl; holds = (ended (dump_text (told.image 2)), all told.image (told.image_is tt), inl (all_put (dump_text (told.image 2)))) };
       line = λ told. refl;
       before = λ e. absurd (cc e);
     }
-    dump_shows (r.Err ending) all stops before line others = record {
+
+    pub dump_err : (ending : Ending) → ForSome (now old) (λ image. (put : List ℕ) × Put put × StopsAt (ending_status ending ≡ Write) (dump_text (image 2)) put) → (ending_status ending ≡ Store → ForSome (now old) (λ image. Put (ended (dump_text (image 2))))) →
+        LineFor ending → StoreStatus ending → Shows now may clock since said (Some Dump) plan (ending_status ending) (ending_line ending) old new
+    dump_err ending stops before line others = record {
       all = λ ok. absurd (never_in_store (ending_status ending) others Ok ok);
       part = λ told. record { text = dump_text (told.image 2); is = refl; holds = stops told.image (told.image_is tt) };
       line = λ told. line told.image (told.image_is tt) told.asks;
       before = λ is shows image told. (before is image told, damage_told ending image (line image told) is);
     }
 
-    pub info_shows : {A : Type 0} (result : Result A Ending) → OnOk result (ForSome (now old) (λ image. (text : List (List ℕ)) × IsInfo image text × Put (ended text))) →
-        IfErr result (λ ending. ForSome (now old) (λ image. (text : List (List ℕ)) × IsInfoAt (ending_status ending) image text × ((put : List ℕ) × Put put × StopsAt (ending_status ending ≡ Write) text put))) →
-        IfErr result (λ ending. ending_status ending ≡ Store → Put []) → IfErr result LineFor → IfErr result StoreStatus → Shows now may clock since said (Some Info) plan (status_after result) (line_after result) old new
-    info_shows (r.Ok value) all stops before line others = record {
+    pub info_ok : ForSome (now old) (λ image. (text : List (List ℕ)) × IsInfo image text × Put (ended text)) → Shows now may clock since said (Some Info) plan Ok [] old new
+    info_ok all = record {
       all = λ ok told. let t = all told.image (told.image_is tt) in record { text = t.0; is = t.1; holds = t.2 };
       part = λ told. let t = all told.image (told.image_is tt) in record { text = t.0; is = t.1; holds = (ended t.0, t.2, inl (all_put t.0)) };
       line = λ told. refl;
       before = λ e. absurd (cc e);
     }
-    info_shows (r.Err ending) all stops before line others = record {
+
+    pub info_err : (ending : Ending) → ForSome (now old) (λ image. (text : List (List ℕ)) × IsInfoAt (ending_status ending) image text × ((put : List ℕ) × Put put × StopsAt (ending_status ending ≡ Write) text put)) → (ending_status ending ≡ Store → Put []) →
+        LineFor ending → StoreStatus ending → Shows now may clock since said (Some Info) plan (ending_status ending) (ending_line ending) old new
+    info_err ending stops before line others = record {
       all = λ ok. absurd (never_in_store (ending_status ending) others Ok ok);
       part = λ told. let t = stops told.image (told.image_is tt) in record { text = t.0; is = t.1; holds = t.2 };
       line = λ told. line told.image (told.image_is tt) told.asks;
       before = λ is shows image told. (before is, damage_told ending image (line image told) is);
     }
 
-    pub trial_shows : (lines seed : ℕ) {A : Type 0} (result : Result A Ending) → OnOk result ((text : List (List ℕ)) × IsTrialAt Ok lines seed text × Put (ended text)) →
-        IfErr result (λ ending. (text : List (List ℕ)) × IsTrialAt (ending_status ending) lines seed text × ((put : List ℕ) × Put put × StopsAt (ending_status ending ≡ Write) text put)) →
-        IfErr result (λ ending. ending_line ending ≡ last_line (ending_status ending)) → IfErr result (λ ending. (ending_status ending ≡ Memory) ⊎ (ending_status ending ≡ Write)) → Shows now may clock since said (Some (Trial lines seed)) plan (status_after result) (line_after result) old new
-    trial_shows lines seed (r.Ok value) all stops line others = record {
-      all = λ ok told. record { text = all.0; is = all.1; holds = all.2 };
-      part = λ told. record { text = all.0; is = all.1; holds = (ended all.0, all.2, inl (all_put all.0)) };
-      line = λ told. refl;
-      before = λ e. absurd (cc e);
-    }
-    trial_shows lines seed (r.Err ending) all stops line others = record {
-      all = λ ok. absurd (⊎_elim (λ memory. let e : Memory ≡ Ok = sym memory ∙ ok in absurd (cc)) (λ write. let e : Write ≡ Ok = sym write ∙ ok in absurd (cc)) others);
-      part = λ told. record { text = stops.0; is = stops.1; holds = stops.2 };
-      line = λ told. trial_line (ending_status ending) (ending_line ending) told.image told.asks others line;
-      before = λ is shows. absurd shows;
-    }
+    module _ (lines seed : ℕ) where
+      pub trial_ok : (text : List (List ℕ)) → IsTrialAt Ok lines seed text → Put (ended text) → Shows now may clock since said (Some (Trial lines seed)) plan Ok [] old new
+      trial_ok text is put = record {
+        all = λ ok told. record { text = text; is = is; holds = put };
+        part = λ told. record { text = text; is = is; holds = (ended text, put, inl (all_put text)) };
+        line = λ told. refl;
+        before = λ e. absurd (cc e);
+      }
 
-  -- What the command did.
+      pub trial_err : (status : Status) → IsTrialStatus status → (text : List (List ℕ)) → IsTrialAt status lines seed text → (put : List ℕ) → Put put → StopsAt (status ≡ Write) text put → Shows now may clock since said (Some (Trial lines seed)) plan status (last_line status) old new
+      trial_err status others text is put puts stops = record {
+        all = λ ok. absurd (⊎_elim (λ memory. let e : Memory ≡ Ok = sym memory ∙ ok in absurd (cc)) (λ write. let e : Write ≡ Ok = sym write ∙ ok in absurd (cc)) others);
+        part = λ told. record { text = text; is = is; holds = (put, puts, stops) };
+        line = λ told. trial_line status (last_line status) told.image told.asks others refl;
+        before = λ is shows. absurd shows;
+      }
+
+  -- What the command did, and what it put.
   module _ (plan input left : Option (List ℕ)) (alone unread : Type 0) (status : Status) (last : List ℕ) (old new : H) where
-    pub does_run : (first : ℕ) → Runs now may clock since said first plan input left alone unread status last old new → Does now may clock since said (Some (Run first)) plan input left alone unread status last old new
-    does_run first goes = record {
+    pub does_run : (first : ℕ) → Runs now may clock since said first plan input left alone unread status last old new → Shows now may clock since said (Some (Run first)) plan status last old new → Does now may clock since said (Some (Run first)) plan input left alone unread status last old new
+    does_run first goes shows = record {
       run = λ n is. let e : Some (Run first) ≡ Some (Run n) = is in let same : first ≡ n = cc in subst (λ k. Runs now may clock since said k plan input left alone unread status last old new) same goes;
       replay = λ n is. let e : Some (Run first) ≡ Some (Replay n) = is in absurd (cc);
       verify = λ is. absurd is;
       trial = λ lines seed is. let e : Some (Run first) ≡ Some (Trial lines seed) = is in absurd (cc);
+      shows = shows;
     }
 
-    pub does_replay : (first : ℕ) → ReplaysBy now may clock since said first plan unread status last old new → Does now may clock since said (Some (Replay first)) plan input left alone unread status last old new
-    does_replay first goes = record {
+    pub does_replay : (first : ℕ) → ReplaysBy now may clock since said first plan unread status last old new → Shows now may clock since said (Some (Replay first)) plan status last old new → Does now may clock since said (Some (Replay first)) plan input left alone unread status last old new
+    does_replay first goes shows = record {
       run = λ n is. let e : Some (Replay first) ≡ Some (Run n) = is in absurd (cc);
       replay = λ n is. let e : Some (Replay first) ≡ Some (Replay n) = is in let same : first ≡ n = cc in subst (λ k. ReplaysBy now may clock since said k plan unread status last old new) same goes;
       verify = λ is. absurd is;
       trial = λ lines seed is. let e : Some (Replay first) ≡ Some (Trial lines seed) = is in absurd (cc);
+      shows = shows;
     }
 
-    pub does_verify : VerifiesBy now may clock since said plan unread status last old new → Does now may clock since said (Some Verify) plan input left alone unread status last old new
-    does_verify goes = record {
+    pub does_verify : VerifiesBy now may clock since said plan unread status last old new → Shows now may clock since said (Some Verify) plan status last old new → Does now may clock since said (Some Verify) plan input left alone unread status last old new
+    does_verify goes shows = record {
       run = λ n is. let e : Some Verify ≡ Some (Run n) = is in absurd (cc);
       replay = λ n is. let e : Some Verify ≡ Some (Replay n) = is in absurd (cc);
       verify = λ is. goes;
       trial = λ lines seed is. let e : Some Verify ≡ Some (Trial lines seed) = is in absurd (cc);
+      shows = shows;
     }
 
-    pub does_trial : (lines seed : ℕ) → (status ≡ Ok) ⊎ (status ≡ Memory) ⊎ (status ≡ Write) → Does now may clock since said (Some (Trial lines seed)) plan input left alone unread status last old new
-    does_trial lines seed ends = record {
+    pub does_trial : (lines seed : ℕ) → (status ≡ Ok) ⊎ IsTrialStatus status → Shows now may clock since said (Some (Trial lines seed)) plan status last old new → Does now may clock since said (Some (Trial lines seed)) plan input left alone unread status last old new
+    does_trial lines seed ends shows = record {
       run = λ n is. let e : Some (Trial lines seed) ≡ Some (Run n) = is in absurd (cc);
       replay = λ n is. let e : Some (Trial lines seed) ≡ Some (Replay n) = is in absurd (cc);
       verify = λ is. absurd is;
       trial = λ count other is. ends;
+      shows = shows;
     }
 
     -- another command
-    pub does_other : (command : Option Command) → (IsRun command → ⊥) → (IsReplay command → ⊥) → (IsVerify command → ⊥) → ((lines seed : ℕ) → command ≡ Some (Trial lines seed) → ⊥) → Does now may clock since said command plan input left alone unread status last old new
-    does_other command no_run no_replay no_verify no_trial = record {
+    does_other : (command : Option Command) → (IsRun command → ⊥) → (IsReplay command → ⊥) → (IsVerify command → ⊥) → ((lines seed : ℕ) → command ≡ Some (Trial lines seed) → ⊥) → Shows now may clock since said command plan status last old new → Does now may clock since said command plan input left alone unread status last old new
+    does_other command no_run no_replay no_verify no_trial shows = record {
       run = λ n is. absurd (no_run (runs command n is));
       replay = λ n is. absurd (no_replay (subst IsReplay (sym is) tt));
       verify = λ is. absurd (no_verify is);
       trial = λ lines seed is. absurd (no_trial lines seed is);
+      shows = shows;
     }
 
--- the statuses of a trial
-pub trial_status : {A : Type 0} (result : Result A Ending) → IfErr result (λ ending. (ending_status ending ≡ Memory) ⊎ (ending_status ending ≡ Write)) → (status_after result ≡ Ok) ⊎ (status_after result ≡ Memory) ⊎ (status_after result ≡ Write)
-trial_status (r.Ok value) others = inl refl
-trial_status (r.Err ending) others = inr others
+    pub does_none : Shows now may clock since said None plan status last old new → Does now may clock since said None plan input left alone unread status last old new
+    does_none = does_other None (λ run. run) (λ replay. replay) (λ verify. verify) (λ lines seed is. let e : None ≡ Some (Trial lines seed) = is in absurd (cc))
+
+    pub does_check : Shows now may clock since said (Some Check) plan status last old new → Does now may clock since said (Some Check) plan input left alone unread status last old new
+    does_check = does_other (Some Check) (λ run. run) (λ replay. replay) (λ verify. verify) (λ lines seed is. let e : Some Check ≡ Some (Trial lines seed) = is in absurd (cc))
+
+    pub does_dump : Shows now may clock since said (Some Dump) plan status last old new → Does now may clock since said (Some Dump) plan input left alone unread status last old new
+    does_dump = does_other (Some Dump) (λ run. run) (λ replay. replay) (λ verify. verify) (λ lines seed is. let e : Some Dump ≡ Some (Trial lines seed) = is in absurd (cc))
+
+    pub does_info : Shows now may clock since said (Some Info) plan status last old new → Does now may clock since said (Some Info) plan input left alone unread status last old new
+    does_info = does_other (Some Info) (λ run. run) (λ replay. replay) (λ verify. verify) (λ lines seed is. let e : Some Info ≡ Some (Trial lines seed) = is in absurd (cc))
+
+    -- a command that reads no input, and one that reads no plan either
+    module _ (command : Option Command) (no_run : IsRun command → ⊥) where
+      pub does_unread : Does now may clock since said command plan None None ⊤ unread status last old new → Does now may clock since said command plan input left alone unread status last old new
+      does_unread d = record { run = λ n is. absurd (no_run (runs command n is)); replay = d.replay; verify = d.verify; trial = d.trial; shows = d.shows }
+
+      pub does_planless : (IsReplay command → ⊥) → (IsVerify command → ⊥) → Does now may clock since said command plan None None ⊤ ⊥ status last old new → Does now may clock since said command plan input left alone unread status last old new
+      does_planless no_replay no_verify d = record {
+        run = λ n is. absurd (no_run (runs command n is));
+        replay = λ n is. absurd (no_replay (subst IsReplay (sym is) tt));
+        verify = λ is. absurd (no_verify is);
+        trial = d.trial;
+        shows = d.shows;
+      }

@@ -122,9 +122,6 @@ end_store cause status last (inr (inr (inr w))) is = absurd (other_than status W
 write_is : (cause : ReplayFault) (status : Status) (last : List ℕ) → EndsReplay cause status last → cause ≡ replay.Write → status ≡ Write
 write_is cause status last ends is = let e : EndsReplay replay.Write status last = subst (λ c. EndsReplay c status last) is ends in e.0
 
-pub ends_early : (cause : ReplayFault) (status : Status) (last : List ℕ) → EndsReplay cause status last → status ≡ Ok → ⊥
-ends_early cause status last ends = end_not_ok cause status last (end_is cause status last ends)
-
 -- a store that is ready for a replay is one that the plan's tasks are replayed over
 pub replayable : (plan : Planned) (tasks : Tasks) (now : Option Image) (may : Image → Type 0) → tasks ≡ plan_for plan.queries → Serves plan.shape.fields (plan_for plan.queries) → (ready : IsReadyReplay plan now may) → IsReplayable plan.queries ready.events tasks plan.shape now may
 replayable plan tasks now may made serve ready = record {

@@ -1,7 +1,7 @@
 -- A plan that was not taken.
 use Rattle.std.proofs.Common.{◌≡◌, ◌⊎◌, inl, inr, ⊎_elim, ℕ, ◌+◌, ◌≤◌, List, [], length, Option, Some, None, Result, refl, sym, subst, arith}
 use Rattle.std.specs.Prelude as r
-use Rattle.std.specs.Prelude.{⊤, IfSome}
+use Rattle.std.specs.Prelude.{⊤}
 use Rattle.std.specs.Option.{ForSome}
 use Rattle.std.proofs.lemmas.List.{length-append}
 use Rattle.rg_bytes.specs.Known.{before, IsAtEnd}

@@ -124,9 +124,6 @@ end_store cause status last (inr (inr (inr w))) is = absurd (other_than status W
 write_is : (cause : VerifyFault) (status : Status) (last : List ℕ) → EndsVerify cause status last → cause ≡ verify.Write → status ≡ Write
 write_is cause status last ends is = let e : EndsVerify verify.Write status last = subst (λ c. EndsVerify c status last) is ends in e.0
 
-pub ends_early : (cause : VerifyFault) (status : Status) (last : List ℕ) → EndsVerify cause status last → status ≡ Ok → ⊥
-ends_early cause status last ends is = end_whole cause status last (end_is cause status last ends) (inl is)
-
 -- a store that is ready for a verify is one that the plan's terms are held against
 pub verifiable : (plan : Planned) (now : Option Image) → Serves plan.shape.fields (plan_for plan.queries) → (ready : IsReadyVerify plan now) → IsVerifiable (terms_for plan) ready.image ready.events
 verifiable plan now serves ready = record { has = ready.has; serves = serves }

@@ -1,5 +1,5 @@
 -- A call of the program.
-use Rattle.std.specs.Prelude.{◌≡◌, ◌⊎◌, ℕ, ◌≤◌, nat_lt, nat_le, Bool, true, false, List, [], ◌∷◌, ◌++◌, length, codes, decimal, bytes_eq, string_bytes, String, Option, Some, None, IfSome, Result, ⊤, if◌then◌else◌}
+use Rattle.std.specs.Prelude.{◌≡◌, ◌⊎◌, ℕ, ◌<◌, ◌≤◌, nat_lt, nat_le, Bool, true, false, List, [], ◌∷◌, ◌++◌, length, codes, decimal, bytes_eq, string_bytes, String, Option, Some, None, IfSome, Result, ⊤, if◌then◌else◌}
 use Rattle.std.specs.Prelude as r
 use Rattle.std.specs.Option.{ForSome}
 use Rattle.std.specs.declared.alloc.Global.{Global}
@@ -28,6 +28,12 @@ use Rattle.rg_call.specs.declared.ending.Ending.TheVariants as ending
 use Rattle.rg_listing.specs.Listing.{check_text}
 use Rattle.rg_report.specs.declared.status.Status.{Status}
 use Rattle.rg_report.specs.declared.status.Status.TheVariants.{Ok, Usage, Plan as BadPlan, Store, Read, Write, Disk, Limit, Memory, Gap}
+
+-- A blank of that name, cut into so many parts, is this ledger's, and has some.
+pub record IsBlankOf (name parts its_name its_parts : ℕ) : Type 0 where
+  pub named : name ≡ its_name
+  pub cut : parts ≡ its_parts
+  pub whole : 0 < parts
 
 -- the command, where the word names it
 abbrev pub when : Bool → Command → Option Command

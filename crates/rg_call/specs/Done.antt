@@ -97,9 +97,11 @@ module _ {H : Type 0} (now : H → Option Image) (may : H → Image → Type 0) 
     pub silent : IsSilent said clock since status old new
     pub fit : IsWhole status → (bytes : List ℕ) (asks : Planned) (v : Image) → plan ≡ Some bytes → IsPlan bytes asks → now old ≡ Some v → IsRefusedStore asks v → ⊥
 
-  -- What the command that the words name did. A trial fails for want of memory, or where a put failed, alone.
+  -- What the command that the words name did, and what it put of its text where that is no run, replay or verify. A trial fails for want of
+  -- memory, or where a put failed, alone.
   pub record Does (command : Option Command) (plan input left : Option (List ℕ)) (alone unread : Type 0) (status : Status) (last : List ℕ) (old new : H) : Type 0 where
     pub run : (first : ℕ) → command ≡ Some (Run first) → Runs first plan input left alone unread status last old new
     pub replay : (first : ℕ) → command ≡ Some (Replay first) → ReplaysBy first plan unread status last old new
     pub verify : IsVerify command → VerifiesBy plan unread status last old new
     pub trial : (lines seed : ℕ) → command ≡ Some (Trial lines seed) → (status ≡ Ok) ⊎ (status ≡ Memory) ⊎ (status ≡ Write)
+    pub shows : Shows command plan status last old new

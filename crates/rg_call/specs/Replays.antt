@@ -11,7 +11,7 @@ use Rattle.rg_host.specs.Puts.{IsPrefix, IsPut, Puts, StopsWith}
 use Rattle.rg_listing.specs.Stops.{StopsAt}
 use Rattle.rg_reservoir.specs.Chain.{IsIllegal}
 use Rattle.rg_open.specs.Stores.{Has}
-use Rattle.rg_open.specs.Unfit.{HasOtherSchema, HasBadFrame}
+use Rattle.rg_open.specs.Unfit.{HasOtherSchema, HasBadFrame, IsUnfit}
 use Rattle.rg_replay.specs.Replay.{replay_text}
 use Rattle.rg_replay.specs.declared.fault.ReplayFault.{ReplayFault}
 use Rattle.rg_replay.specs.declared.fault.ReplayFault.TheVariants as replay
@@ -113,3 +113,9 @@ module _ {H : Type 0} (said : H → Option (List ℕ)) (clock : H → ℕ) (sinc
     pub front : IsPrefix part last
     pub whole : (part ≡ last) ⊎ failed
     pub puts : Puts said clock since old new part
+
+module _ {H : Type 0} (now : H → Option Image) (may : H → Image → Type 0) (clock : H → ℕ) (since : H → ℕ → Moment → Type 0) (said : H → Option (List ℕ)) where
+  -- How a replay by that plan went up to its last line, over a store that is ready and over one that isn't fit.
+  pub record ReplaysStore (first : ℕ) (plan : Planned) (status : Status) (last : List ℕ) (old new : H) : Type 0 where
+    pub replayed : (ready : IsReadyReplay plan (now old) (may old)) → Replayed said clock since (replay_text plan.queries first ready.events) ⊥ status last old new
+    pub unfit : (v : Image) → now old ≡ Some v → IsUnfit plan v → ReplaysNothing said clock since plan (now old) status last old new

@@ -114,3 +114,9 @@ module _ {H : Type 0} (said : H → Option (List ℕ)) (clock : H → ℕ) (sinc
     pub front : IsPrefix part last
     pub whole : (part ≡ last) ⊎ failed
     pub puts : Puts said clock since old new part
+
+module _ {H : Type 0} (now : H → Option Image) (said : H → Option (List ℕ)) (clock : H → ℕ) (since : H → ℕ → Moment → Type 0) where
+  -- How a verify by that plan went up to its last line: over a store that is ready, and that else nothing was put.
+  pub record VerifiesStore (plan : Planned) (status : Status) (last : List ℕ) (old new : H) : Type 0 where
+    pub verified : (ready : IsReadyVerify plan (now old)) → Verified said clock since plan ready.image ready.events ⊥ status last old new
+    pub silent : IsSilent said clock since status old new

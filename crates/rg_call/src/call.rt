@@ -24,7 +24,7 @@ ghost use Rattle.rg_run.specs.Reading.{IsLonger, IsWithinLimit};
 ghost use Rattle.rg_call.specs.Plan.{IsPlan};
 ghost use Rattle.rg_report.specs.Statuses.{last_line as status_line};
 ghost use Rattle.rg_call.specs.Call.{command_of, IsRun, IsReplay, IsVerify, ReadsPlan, ShowsStore, CarriesRun, Told, SaysSo, ForText, before_damage, line_for, damage_line, status_after, line_after, refusal_after, TellsFault, status_for, IsLegalPlan, TellsNoPlan, IsRefusedPlan, IsDamaged, IsUndamaged};
-ghost use Rattle.rg_call.specs.Done.{ReplaysBy, VerifiesBy, Shows, Causes, LeavesAlone, Does};
+ghost use Rattle.rg_call.specs.Done.{Causes, LeavesAlone, Does};
 ghost use Rattle.rg_call.specs.Causes.{RefusesStore, RefusesGap, EndsWith};
 ghost use Rattle.rg_call.specs.Stored.{ToldRun, begun_in, IsLastOf, IsToldFrom, IsComplete, EndsWhole, EndsAnswered, IsAtMostOneAhead, HasLastSaved, Resumes};
 ghost use Rattle.rg_call.specs.TurnedAway.{IsTurnedAway, IsBehind};
@@ -53,7 +53,7 @@ fn check_with_plan<P: Source, H: Host>(
     plan: &mut P,
     host: &mut H,
 ) -> Result<(), Ending>
-    ensures shows { Shows H.now H.may H.clock H.since H.said (Some Command.Check) (P.left plan.old) (status_after result) (line_after result) host.old host.new }
+    ensures does { Does H.now H.may H.clock H.since H.said (Some Command.Check) (P.left plan.old) None None ⊤ (Rose (P.faults plan.old) (P.faults plan.new)) (status_after result) (line_after result) host.old host.new }
     ensures causes { Causes (Some Command.Check) (P.left plan.old) None (H.now host.old) (H.now host.new) (H.may host.old) ⊤ (Rose (P.faults plan.old) (P.faults plan.new)) ⊥ (Rose (H.out_faults host.old) (H.out_faults host.new)) (Rose (H.disk_faults host.old) (H.disk_faults host.new)) (status_after result) (line_after result) (refusal_after result) }
     ensures leaves { LeavesFiles H.now H.may H.clock H.since host.old host.new }
     ensures later_out { H.out_faults host.old ≤ H.out_faults host.new }
@@ -76,8 +76,7 @@ fn replay_with_plan<P: Source, H: Host>(
     plan: &mut P,
     host: &mut H,
 ) -> Result<(), Ending>
-    ensures goes { ReplaysBy H.now H.may H.clock H.since H.said first (P.left plan.old) (Rose (P.faults plan.old) (P.faults plan.new)) (status_after result) (line_after result) host.old host.new }
-    ensures shows { Shows H.now H.may H.clock H.since H.said (Some (Command.Replay first)) (P.left plan.old) (status_after result) (line_after result) host.old host.new }
+    ensures does { Does H.now H.may H.clock H.since H.said (Some (Command.Replay first)) (P.left plan.old) None None ⊤ (Rose (P.faults plan.old) (P.faults plan.new)) (status_after result) (line_after result) host.old host.new }
     ensures causes { Causes (Some (Command.Replay first)) (P.left plan.old) None (H.now host.old) (H.now host.new) (H.may host.old) ⊤ (Rose (P.faults plan.old) (P.faults plan.new)) ⊥ (Rose (H.out_faults host.old) (H.out_faults host.new)) (Rose (H.disk_faults host.old) (H.disk_faults host.new)) (status_after result) (line_after result) (refusal_after result) }
     ensures leaves { LeavesFiles H.now H.may H.clock H.since host.old host.new }
     ensures later_out { H.out_faults host.old ≤ H.out_faults host.new }
@@ -95,8 +94,7 @@ fn verify_with_plan<P: Source, H: Host>(
     plan: &mut P,
     host: &mut H,
 ) -> Result<(), Ending>
-    ensures goes { VerifiesBy H.now H.may H.clock H.since H.said (P.left plan.old) (Rose (P.faults plan.old) (P.faults plan.new)) (status_after result) (line_after result) host.old host.new }
-    ensures shows { Shows H.now H.may H.clock H.since H.said (Some Command.Verify) (P.left plan.old) (status_after result) (line_after result) host.old host.new }
+    ensures does { Does H.now H.may H.clock H.since H.said (Some Command.Verify) (P.left plan.old) None None ⊤ (Rose (P.faults plan.old) (P.faults plan.new)) (status_after result) (line_after result) host.old host.new }
     ensures causes { Causes (Some Command.Verify) (P.left plan.old) None (H.now host.old) (H.now host.new) (H.may host.old) ⊤ (Rose (P.faults plan.old) (P.faults plan.new)) ⊥ (Rose (H.out_faults host.old) (H.out_faults host.new)) (Rose (H.disk_faults host.old) (H.disk_faults host.new)) (status_after result) (line_after result) (refusal_after result) }
     ensures leaves { LeavesFiles H.now H.may H.clock H.since host.old host.new }
     ensures later_out { H.out_faults host.old ≤ H.out_faults host.new }
@@ -117,7 +115,6 @@ fn run_command<P: Source, I: Source, H: Host>(
     host: &mut H,
 ) -> Result<(), Ending>
     ensures does { Does H.now H.may H.clock H.since H.said (command_of words.now) (P.left plan.old) (I.left input.old) (I.left input.new) (input.new ≡ input.old) (Rose (P.faults plan.old) (P.faults plan.new)) (status_after result) (line_after result) host.old host.new }
-    ensures shows { Shows H.now H.may H.clock H.since H.said (command_of words.now) (P.left plan.old) (status_after result) (line_after result) host.old host.new }
     ensures causes { Causes (command_of words.now) (P.left plan.old) (I.left input.old) (H.now host.old) (H.now host.new) (H.may host.old) (input.new ≡ input.old) (Rose (P.faults plan.old) (P.faults plan.new)) (Rose (I.faults input.old) (I.faults input.new)) (Rose (H.out_faults host.old) (H.out_faults host.new)) (Rose (H.disk_faults host.old) (H.disk_faults host.new)) (status_after result) (line_after result) (refusal_after result) }
     ensures alone { LeavesAlone (command_of words.now) (P.left plan.old) (plan.new ≡ plan.old) (input.new ≡ input.old) (LeavesFiles H.now H.may H.clock H.since host.old host.new) (Rose (I.faults input.old) (I.faults input.new)) (status_after result) }
     ensures later_out { H.out_faults host.old ≤ H.out_faults host.new }

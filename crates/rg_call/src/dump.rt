@@ -1,15 +1,10 @@
-ghost use Rattle.std.specs.Prelude.{◌≡◌, ◌⊎◌, ◌≤◌, ℕ, List, Result, IfErr, OnOk};
-ghost use Rattle.std.specs.Option.{ForSome};
+ghost use Rattle.std.specs.Prelude.{◌≤◌, ℕ, List, Option, Some, None, ⊤};
 ghost use Rattle.rg_bytes.specs.Counts.{Rose};
-ghost use Rattle.rg_config.specs.Plans.{Planned};
-ghost use Rattle.rg_config.specs.declared.fault.ConfigFault.{ConfigFault};
-ghost use Rattle.rg_host.specs.Lines.{ended};
 ghost use Rattle.rg_host.specs.Moments.{LeavesFiles};
-ghost use Rattle.rg_host.specs.Puts.{Puts};
-ghost use Rattle.rg_dump.specs.Dump.{dump_text};
-ghost use Rattle.rg_call.specs.Call.{line_for, ending_status, ending_line, EndsDump, IsDamaged, IsUndamaged};
-ghost use Rattle.rg_listing.specs.Stops.{StopsAt};
+ghost use Rattle.rg_call.specs.Call.{EndsDump, ending_status, ending_line, status_after, line_after, refusal_after};
+ghost use Rattle.rg_call.specs.Done.{Causes, Does};
 
+use crate::command::Command;
 use crate::ending::Ending;
 use crate::refused::refuse_damage;
 use rg_dump::DumpFault;
@@ -31,18 +26,10 @@ fn ending_of(alloc: Global, fault: DumpFault) -> Ending
 
 /// Puts the dump of the store's log: its schema's text, and then each event as a row of `csv`. No
 /// file is written. A damaged log is dumped up to its first damaged place.
-pub fn dump<H: Host>(alloc: Global, host: &mut H) -> Result<(), Ending>
-    ensures completes { OnOk result (ForSome (H.now host.old) (λ image. Puts H.said H.clock H.since host.old host.new (ended (dump_text (image 2))))) }
-    ensures undamaged { OnOk result (IsUndamaged (H.now host.old)) }
-    ensures stops { IfErr result (λ ending. ForSome (H.now host.old) (λ image. (put : List ℕ) × Puts H.said H.clock H.since host.old host.new put × StopsAt (ending_status ending ≡ Status.Write) (dump_text (image 2)) put)) }
-    ensures all_before { IfErr result (λ ending. ending_status ending ≡ Status.Store → ForSome (H.now host.old) (λ image. Puts H.said H.clock H.since host.old host.new (ended (dump_text (image 2))))) }
-    ensures line { IfErr result (λ ending. ForSome (H.now host.old) (λ image. (asks : Result Planned ConfigFault) → ending_line ending ≡ line_for asks image (ending_status ending))) }
-    ensures store { IfErr result (λ ending. ending_status ending ≡ Status.Store → IsDamaged (H.now host.old)) }
-    ensures disk { IfErr result (λ ending. ending_status ending ≡ Status.Disk → Rose (H.disk_faults host.old) (H.disk_faults host.new)) }
-    ensures write { IfErr result (λ ending. ending_status ending ≡ Status.Write → Rose (H.out_faults host.old) (H.out_faults host.new)) }
-    ensures others { IfErr result (λ ending. (ending_status ending ≡ Status.Store) ⊎ (ending_status ending ≡ Status.Disk) ⊎ (ending_status ending ≡ Status.Memory) ⊎ (ending_status ending ≡ Status.Write)) }
+pub(crate) fn dump<H: Host>(alloc: Global, host: &mut H) -> Result<(), Ending>
+    ensures does { (plan : Option (List ℕ)) → Does H.now H.may H.clock H.since H.said (Some Command.Dump) plan None None ⊤ ⊥ (status_after result) (line_after result) host.old host.new }
+    ensures causes { (plan : Option (List ℕ)) → Causes (Some Command.Dump) plan None (H.now host.old) (H.now host.new) (H.may host.old) ⊤ ⊥ ⊥ (Rose (H.out_faults host.old) (H.out_faults host.new)) (Rose (H.disk_faults host.old) (H.disk_faults host.new)) (status_after result) (line_after result) (refusal_after result) }
     ensures leaves { LeavesFiles H.now H.may H.clock H.since host.old host.new }
-    ensures later_disk { H.disk_faults host.old ≤ H.disk_faults host.new }
     ensures later_out { H.out_faults host.old ≤ H.out_faults host.new }
 {
     match rg_dump::dump(alloc, host) {

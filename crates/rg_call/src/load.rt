@@ -63,7 +63,7 @@ fn refuse_plan(alloc: Global, bytes: &[u8], fault: ConfigFault) -> Ending
 }
 
 /// Reads the plan. An error says how the call ends: its last line isn't put yet.
-pub fn load_plan<P: Source>(alloc: Global, plan: &mut P) -> Result<Plan, Ending>
+pub(crate) fn load_plan<P: Source>(alloc: Global, plan: &mut P) -> Result<Plan, Ending>
     ensures legal { IfOk result (λ asked. IfSome (P.left plan.old) (λ bytes. IsPlan bytes (planned asked))) }
     ensures is_read { IfOk result IsReadPlan }
     ensures unread { IfErr result (λ ending. IsUnread (P.left plan.old) (Rose (P.faults plan.old) (P.faults plan.new)) (ending_status ending) (ending_line ending) (ending_refusal ending)) }

@@ -36,7 +36,7 @@ fn write_gap(line: &mut Vec<u8>, first: u64, next: u64) -> Result<(), Memory>
 }
 
 /// How a call ends whose store's log is damaged at that place.
-pub fn refuse_damage(alloc: Global, place: u64) -> Ending
+pub(crate) fn refuse_damage(alloc: Global, place: u64) -> Ending
     ensures { SaysLine Status.Store (damage_line (Some place)) (ending_status result) (ending_line result) }
 {
     let mut line = Vec::new(alloc);
@@ -47,7 +47,7 @@ pub fn refuse_damage(alloc: Global, place: u64) -> Ending
 }
 
 /// How a call ends whose store has another schema than the plan's.
-pub fn refuse_schema(alloc: Global) -> Ending
+pub(crate) fn refuse_schema(alloc: Global) -> Ending
     ensures { SaysLine Status.Store schema_line (ending_status result) (ending_line result) }
 {
     let mut line = Vec::new(alloc);
@@ -58,7 +58,7 @@ pub fn refuse_schema(alloc: Global) -> Ending
 }
 
 /// How a call ends whose store has rows of that node which don't stand for its events.
-pub fn refuse_state(alloc: Global, node: u32) -> Ending
+pub(crate) fn refuse_state(alloc: Global, node: u32) -> Ending
     ensures { SaysLine Status.Store (state_line node) (ending_status result) (ending_line result) }
 {
     let mut line = Vec::new(alloc);
@@ -69,7 +69,7 @@ pub fn refuse_state(alloc: Global, node: u32) -> Ending
 }
 
 /// How a call ends whose input begins behind the store's next offset.
-pub fn refuse_gap(alloc: Global, first: u64, next: u64) -> Ending
+pub(crate) fn refuse_gap(alloc: Global, first: u64, next: u64) -> Ending
     ensures { SaysLine Status.Gap (gap_line first next) (ending_status result) (ending_line result) }
 {
     let mut line = Vec::new(alloc);

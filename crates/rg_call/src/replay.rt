@@ -1,12 +1,9 @@
-ghost use Rattle.std.specs.Prelude.{◌≡◌, ◌≢◌, ◌≤◌, ◌<◌, Some, IfErr};
+ghost use Rattle.std.specs.Prelude.{◌≤◌};
 ghost use Rattle.rg_config.specs.Plans.{planned};
 ghost use Rattle.rg_config.specs.Read.{IsReadPlan};
-ghost use Rattle.rg_host.specs.Image.{Image};
 ghost use Rattle.rg_host.specs.Moments.{LeavesFiles};
-ghost use Rattle.rg_open.specs.Unfit.{IsUnfit};
-ghost use Rattle.rg_replay.specs.Replay.{replay_text};
-ghost use Rattle.rg_call.specs.Call.{ending_status, ending_line, status_after, line_after};
-ghost use Rattle.rg_call.specs.Replays.{IsReadyReplay, EndsReplay, Replayed, ReplaysNothing, IsReplayEnd};
+ghost use Rattle.rg_call.specs.Call.{IsBlankOf, ending_status, ending_line, status_after, line_after};
+ghost use Rattle.rg_call.specs.Replays.{EndsReplay, ReplaysStore, IsReplayEnd};
 
 use crate::ending::Ending;
 use crate::refused::{refuse_damage, refuse_schema, refuse_state};
@@ -38,22 +35,17 @@ fn ending_of(alloc: Global, fault: ReplayFault) -> Ending
 /// Answers the stored events again by the plan, and puts a line for each from that offset on. It isn't
 /// told how many steps that takes. No file is written. An error says how the call ends: its last line
 /// isn't put yet.
-pub fn replay<H: Host, L: Ledger>(
+pub(crate) fn replay<H: Host, L: Ledger>(
     alloc: Global,
     plan: &Plan,
     first: u64,
     host: &mut H,
     blank: Blank,
 ) -> Result<(), Ending>
-    requires named { blank.name ≡ L.name }
-    requires parts { blank.parts ≡ L.parts }
-    requires whole { 0 < blank.parts }
+    requires of_ledger { IsBlankOf blank.name blank.parts L.name L.parts }
     requires is_read { IsReadPlan plan.now }
-    ensures replayed { (ready : IsReadyReplay (planned plan.now) (H.now host.old) (H.may host.old)) →
-        Replayed H.said H.clock H.since (replay_text (planned plan.now).queries first ready.events) ⊥ (status_after result) (line_after result) host.old host.new }
-    ensures unfit { (v : Image) → H.now host.old ≡ Some v → IsUnfit (planned plan.now) v → ReplaysNothing H.said H.clock H.since (planned plan.now) (H.now host.old) (status_after result) (line_after result) host.old host.new }
+    ensures goes { ReplaysStore H.now H.may H.clock H.since H.said first (planned plan.now) (status_after result) (line_after result) host.old host.new }
     ensures cause { IsReplayEnd H.now H.may H.disk_faults H.out_faults (planned plan.now) (status_after result) (line_after result) host.old host.new }
-    ensures early { IfErr result (λ ending. ending_status ending ≢ Status.Ok) }
     ensures leaves { LeavesFiles H.now H.may H.clock H.since host.old host.new }
     ensures later_out { H.out_faults host.old ≤ H.out_faults host.new }
 {

@@ -1,8 +1,8 @@
-ghost use Rattle.std.specs.Prelude.{◌≡◌, ◌≤◌, ◌<◌, ◌^◌, Some};
+ghost use Rattle.std.specs.Prelude.{◌≡◌, ◌≤◌, ◌^◌, Some};
 ghost use Rattle.rg_bytes.specs.Counts.{Rose};
 ghost use Rattle.rg_host.specs.Moments.{LeavesFiles};
-ghost use Rattle.rg_call.specs.Call.{EndsRun, ending_status, ending_line, status_after, line_after, refusal_after};
-ghost use Rattle.rg_call.specs.Done.{Runs, Shows, Causes, LeavesAlone};
+ghost use Rattle.rg_call.specs.Call.{EndsRun, IsBlankOf, ending_status, ending_line, status_after, line_after, refusal_after};
+ghost use Rattle.rg_call.specs.Done.{Causes, LeavesAlone, Does};
 
 use crate::command::Command;
 use crate::ending::Ending;
@@ -35,7 +35,7 @@ fn ending_of(alloc: Global, first: u64, fault: RunFault) -> Ending
 /// Reads the plan, and answers the input by it over the store on the host, where the first line has that
 /// offset. It isn't told how many steps that takes. An error says how the call ends: its last line isn't
 /// put yet.
-pub fn run<P: Source, I: Source, H: Host, L: Ledger>(
+pub(crate) fn run<P: Source, I: Source, H: Host, L: Ledger>(
     alloc: Global,
     first: u64,
     plan: &mut P,
@@ -43,12 +43,9 @@ pub fn run<P: Source, I: Source, H: Host, L: Ledger>(
     host: &mut H,
     blank: Blank,
 ) -> Result<(), Ending>
-    requires named { blank.name ≡ L.name }
-    requires parts { blank.parts ≡ L.parts }
-    requires whole { 0 < blank.parts }
+    requires of_ledger { IsBlankOf blank.name blank.parts L.name L.parts }
     requires first { first ≤ 2 ^ 61 }
-    ensures goes { Runs H.now H.may H.clock H.since H.said first (P.left plan.old) (I.left input.old) (I.left input.new) (input.new ≡ input.old) (Rose (P.faults plan.old) (P.faults plan.new)) (status_after result) (line_after result) host.old host.new }
-    ensures shows { Shows H.now H.may H.clock H.since H.said (Some (Command.Run first)) (P.left plan.old) (status_after result) (line_after result) host.old host.new }
+    ensures does { Does H.now H.may H.clock H.since H.said (Some (Command.Run first)) (P.left plan.old) (I.left input.old) (I.left input.new) (input.new ≡ input.old) (Rose (P.faults plan.old) (P.faults plan.new)) (status_after result) (line_after result) host.old host.new }
     ensures causes { Causes (Some (Command.Run first)) (P.left plan.old) (I.left input.old) (H.now host.old) (H.now host.new) (H.may host.old) (input.new ≡ input.old) (Rose (P.faults plan.old) (P.faults plan.new)) (Rose (I.faults input.old) (I.faults input.new)) (Rose (H.out_faults host.old) (H.out_faults host.new)) (Rose (H.disk_faults host.old) (H.disk_faults host.new)) (status_after result) (line_after result) (refusal_after result) }
     ensures alone { LeavesAlone (Some (Command.Run first)) (P.left plan.old) (plan.new ≡ plan.old) (input.new ≡ input.old) (LeavesFiles H.now H.may H.clock H.since host.old host.new) (Rose (I.faults input.old) (I.faults input.new)) (status_after result) }
     ensures later_out { H.out_faults host.old ≤ H.out_faults host.new }

@@ -1,17 +1,15 @@
-ghost use Rattle.std.specs.Prelude.{◌≡◌, ◌⊎◌, ◌<◌, ◌≤◌, ℕ, List, Err, IfOk, IfErr, IsErrOf, OnOk};
+ghost use Rattle.std.specs.Prelude.{◌≡◌, ◌<◌, ◌≤◌, ℕ, List, Option, Some, None, Err, ⊤, IfOk, IsErrOf};
 ghost use Rattle.rg_bytes.specs.Counts.{Rose};
-ghost use Rattle.rg_host.specs.Lines.{ended};
 ghost use Rattle.rg_host.specs.Moments.{LeavesFiles};
-ghost use Rattle.rg_host.specs.Puts.{Puts};
 ghost use Rattle.rg_config.specs.Plans.{Says};
 ghost use Rattle.rg_config.specs.declared.fault.ConfigFault.{ConfigFault as Refusal};
 ghost use Rattle.rg_run.specs.declared.fault.RunFault.{RunFault as Fault};
 ghost use Rattle.rg_recover.specs.Anew.{MayMeet};
-ghost use Rattle.rg_listing.specs.Stops.{StopsAt};
-ghost use Rattle.rg_report.specs.Statuses.{last_line};
 ghost use Rattle.rg_trial.specs.Trials.{IsTrial, plan_text};
-ghost use Rattle.rg_call.specs.Call.{ending_status, ending_line, IsTrialAt};
+ghost use Rattle.rg_call.specs.Call.{status_after, line_after, refusal_after};
+ghost use Rattle.rg_call.specs.Done.{Causes, Does};
 
+use crate::command::Command;
 use crate::ending::Ending;
 use rg_bytes::Memory;
 use rg_config::{ConfigFault, read_plan};
@@ -100,13 +98,15 @@ pub fn run_trial<L: Ledger>(
 /// Puts four lines on a trial: how many made lines of the seed it had, at most 200,000, how many of
 /// them it accepted, and the bytes of its text and their sum. No file of the host is touched: the
 /// trial has a store of its own in memory, so whatever stops it is want of memory.
-pub fn trial<H: Host>(alloc: Global, lines: u64, seed: u64, host: &mut H) -> Result<(), Ending>
+pub(crate) fn trial<H: Host>(
+    alloc: Global,
+    lines: u64,
+    seed: u64,
+    host: &mut H,
+) -> Result<(), Ending>
     requires few { lines ≤ 200000 }
-    ensures completes { OnOk result ((text : List (List ℕ)) × IsTrialAt Status.Ok lines seed text × Puts H.said H.clock H.since host.old host.new (ended text)) }
-    ensures stops { IfErr result (λ ending. (text : List (List ℕ)) × IsTrialAt (ending_status ending) lines seed text × ((put : List ℕ) × Puts H.said H.clock H.since host.old host.new put × StopsAt (ending_status ending ≡ Status.Write) text put)) }
-    ensures line { IfErr result (λ ending. ending_line ending ≡ last_line (ending_status ending)) }
-    ensures write { IfErr result (λ ending. ending_status ending ≡ Status.Write → Rose (H.out_faults host.old) (H.out_faults host.new)) }
-    ensures others { IfErr result (λ ending. (ending_status ending ≡ Status.Memory) ⊎ (ending_status ending ≡ Status.Write)) }
+    ensures does { (plan : Option (List ℕ)) → Does H.now H.may H.clock H.since H.said (Some (Command.Trial lines seed)) plan None None ⊤ ⊥ (status_after result) (line_after result) host.old host.new }
+    ensures causes { (plan : Option (List ℕ)) → Causes (Some (Command.Trial lines seed)) plan None (H.now host.old) (H.now host.new) (H.may host.old) ⊤ ⊥ ⊥ (Rose (H.out_faults host.old) (H.out_faults host.new)) (Rose (H.disk_faults host.old) (H.disk_faults host.new)) (status_after result) (line_after result) (refusal_after result) }
     ensures leaves { LeavesFiles H.now H.may H.clock H.since host.old host.new }
     ensures later_out { H.out_faults host.old ≤ H.out_faults host.new }
 {

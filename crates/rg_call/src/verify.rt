@@ -1,9 +1,9 @@
-ghost use Rattle.std.specs.Prelude.{◌≡◌, ◌≢◌, ◌≤◌, IfErr};
+ghost use Rattle.std.specs.Prelude.{◌≤◌};
 ghost use Rattle.rg_config.specs.Plans.{planned};
 ghost use Rattle.rg_config.specs.Read.{IsReadPlan};
 ghost use Rattle.rg_host.specs.Moments.{LeavesFiles};
 ghost use Rattle.rg_call.specs.Call.{ending_status, ending_line, status_after, line_after};
-ghost use Rattle.rg_call.specs.Verifies.{IsReadyVerify, EndsVerify, Verified, IsSilent, IsVerifyEnd};
+ghost use Rattle.rg_call.specs.Verifies.{EndsVerify, VerifiesStore, IsVerifyEnd};
 
 use crate::ending::Ending;
 use crate::refused::{refuse_damage, refuse_schema};
@@ -33,13 +33,10 @@ fn ending_of(alloc: Global, fault: VerifyFault) -> Ending
 /// Holds both slots against the log, and puts a line for each, once the whole log was read. No file is
 /// written. An error says how the call ends: its last line isn't put yet. Where a checkpoint isn't what the
 /// events give, that is Differs, which has none.
-pub fn verify<H: Host>(alloc: Global, plan: &Plan, host: &mut H) -> Result<(), Ending>
+pub(crate) fn verify<H: Host>(alloc: Global, plan: &Plan, host: &mut H) -> Result<(), Ending>
     requires is_read { IsReadPlan plan.now }
-    ensures verified { (ready : IsReadyVerify (planned plan.now) (H.now host.old)) →
-        Verified H.said H.clock H.since (planned plan.now) ready.image ready.events ⊥ (status_after result) (line_after result) host.old host.new }
-    ensures silent { IsSilent H.said H.clock H.since (status_after result) host.old host.new }
+    ensures goes { VerifiesStore H.now H.said H.clock H.since (planned plan.now) (status_after result) (line_after result) host.old host.new }
     ensures cause { IsVerifyEnd H.now H.disk_faults H.out_faults (planned plan.now) (status_after result) (line_after result) host.old host.new }
-    ensures early { IfErr result (λ ending. ending_status ending ≢ Status.Ok) }
     ensures leaves { LeavesFiles H.now H.may H.clock H.since host.old host.new }
     ensures later_out { H.out_faults host.old ≤ H.out_faults host.new }
 {

@@ -1,5 +1,5 @@
 -- What a commit and a save of all events leave of a session.
-use Rattle.std.proofs.Common.{◌≡◌, ℕ, List, [], ◌++◌, length, Option, Some, sym, ◌∙◌, ap, subst}
+use Rattle.std.proofs.Common.{◌≡◌, ℕ, List, [], ◌++◌, Option, Some, sym, ◌∙◌, ap, subst}
 use Rattle.std.proofs.lemmas.List.{append-nil}
 use Rattle.rg_host.specs.Image.{Image}
 use Rattle.rg_event.specs.declared.event.Event.{Event}

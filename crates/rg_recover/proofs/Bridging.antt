@@ -1,6 +1,5 @@
 -- What a run over a task of a session and its host is to the host.
-use Rattle.std.proofs.Common.{◌≡◌, ◌⊎◌, inl, inr, ⊎_elim, ℕ, ◌<◌, ◌≤◌, ◌+◌, List, [], Option, Some, Result, Ok, Err, refl, sym, ◌∙◌, ap, subst, arith}
-use Rattle.std.specs.Prelude.{OnOk, IfErr, IsErrOf}
+use Rattle.std.proofs.Common.{◌≡◌, ◌⊎◌, inl, inr, ⊎_elim, ℕ, ◌≤◌, List, [], Option, Result, ap, subst}
 use Rattle.rg_bytes.specs.Counts.{Rose}
 use Rattle.rg_host.specs.Image.{Image}
 use Rattle.rg_host.specs.Moments.{Moment, Moments}
@@ -12,14 +11,14 @@ use Rattle.rg_reservoir.specs.Chain.{IsIllegal}
 use Rattle.rg_reservoir.specs.Kept.{base, next_of}
 use Rattle.rg_course.specs.Stores.{Course, StaysOnCourse}
 use Rattle.rg_open.specs.Stores.{store_of}
-use Rattle.rg_recover.specs.Sessions.{Sitting, count_in}
+use Rattle.rg_recover.specs.Sessions.{Sitting}
 use Rattle.rg_task.specs.View.{View}
 use Rattle.rg_run.specs.Answered as run
 use Rattle.rg_run.specs.Begun.{Begun, course_for}
 use Rattle.rg_run.specs.Turning as turning
 use Rattle.rg_run.specs.UnderWay as way
 use Rattle.rg_run.specs.declared.fault.RunFault.{RunFault}
-use Rattle.rg_run.specs.declared.fault.RunFault.TheVariants.{Damaged, Write}
+use Rattle.rg_run.specs.declared.fault.RunFault.TheVariants.{Write}
 use Rattle.rg_recover.specs.Answered.{StaysTrue, Explains, CountsGrow}
 use Rattle.rg_recover.specs.Living.{SameLog}
 use Rattle.rg_recover.specs.LiveView.{live_view}

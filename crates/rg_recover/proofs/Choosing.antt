@@ -1,13 +1,12 @@
 -- What a save writes, as it was chosen and after it was written.
-use Rattle.std.proofs.Common.{◌≡◌, ◌≢◌, ◌⊎◌, inl, inr, ◌+◌, ◌-◌, ◌<◌, ◌≤◌, ◌&&◌, nat_le, nat_lt, ℕ, zero, suc, Bool, true, false, List, [], length, Option, Some, None, Ok, Err, refl, sym, ◌∙◌, ap, subst, arith}
+use Rattle.std.proofs.Common.{◌≡◌, ◌⊎◌, inl, inr, ◌+◌, ◌-◌, ◌<◌, ◌≤◌, ◌&&◌, nat_le, nat_lt, ℕ, zero, suc, Bool, true, false, List, [], length, Option, Some, None, Ok, Err, refl, sym, ◌∙◌, ap, subst, arith}
 use Rattle.std.specs.Prelude.{◌==◌, if◌then◌else◌, IfErr, IfOk, OnErr, OnOk, Result, is_some}
 use Rattle.std.proofs.lemmas.Bool.{ltb-true, ltb-false, leb-true, leb-false, le-leb, lt-leb}
-use Rattle.rg_bytes.specs.Counts.{Rose}
 use Rattle.rg_host.specs.Image.{Image, Becomes, InFile}
 use Rattle.rg_host.proofs.Runs.{becomes-weaker}
 use Rattle.rg_past.specs.declared.past.Spot.{Spot}
 use Rattle.rg_state.specs.Changes.{Marks}
-use Rattle.rg_state.specs.Rows.{Cells, Entry, Lists, Same}
+use Rattle.rg_state.specs.Rows.{Cells, Same}
 use Rattle.rg_engine.specs.Seen.{Seen}
 use Rattle.rg_checkpoint.specs.Sizes.{HasSizes, OfSizes, longer, more_sizes, sizes_of}
 use Rattle.rg_frame.specs.Steps.{Grown}
@@ -16,7 +15,7 @@ use Rattle.rg_checkpoint.specs.Writing.{Encodes, EncodesChanges}
 use Rattle.rg_checkpoint.specs.declared.sizes.SlotSizes.{SlotSizes}
 use Rattle.rg_checkpoint.proofs.Lengthening.{below_two}
 use Rattle.rg_open.proofs.Steps.{other_below}
-use Rattle.rg_recover.specs.Saving.{may_extend, InSlot, IsAdded, IsByRule, IsChosen, IsChosenOver, IsExtended, IsOfKept, IsOfSlot, IsRebased, IsWant, KeepsMarks, KeepsRows, Framed, IsSaved, SavesByRule, SavesExactly, sizes_then, slot_for}
+use Rattle.rg_recover.specs.Saving.{may_extend, InSlot, IsByRule, IsChosen, IsChosenOver, IsExtended, IsOfKept, IsOfSlot, IsWant, KeepsMarks, KeepsRows, Framed, IsSaved, SavesByRule, SavesExactly, sizes_then, slot_for}
 use Rattle.rg_recover.specs.Sessions.{Sitting, HasKept, count_in}
 use Rattle.rg_recover.specs.Stepping.{SlotsStay}
 use Rattle.rg_recover.specs.declared.fault.TaskFault.{TaskFault}

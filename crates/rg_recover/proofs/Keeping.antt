@@ -8,7 +8,6 @@ use Rattle.rg_config.specs.Plans.{Planned}
 use Rattle.rg_state.specs.Changes.{Marks, NoMarks, IsSince}
 use Rattle.rg_state.specs.Rows.{Cells, Entry, Lists, Same, at_in}
 use Rattle.rg_state.proofs.Listed.{at_lists}
-use Rattle.rg_engine.specs.Seen.{Seen}
 use Rattle.rg_checkpoint.specs.Base.{IsBase}
 use Rattle.rg_checkpoint.specs.Sizes.{HasSizes, OfSizes, longer, more_sizes, sizes_of}
 use Rattle.rg_checkpoint.specs.Slots.{AreSizes, Attached, HasSlot, IsOnly, Lengthened, Written, other_of, sizes_in}

@@ -29,5 +29,6 @@ pub mod Runs
 pub mod Beginning
 pub mod Opened
 pub mod Bridging
+pub mod Lent
 pub mod Exits
 pub mod NewStore

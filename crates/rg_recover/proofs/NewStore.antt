@@ -1,6 +1,6 @@
 -- A run over a new store in memory.
-use Rattle.std.proofs.Common.{◌≡◌, ◌⊎◌, inl, inr, ℕ, zero, suc, ◌+◌, ◌<◌, ◌≤◌, ◌^◌, List, [], ◌∷◌, ◌++◌, length, replicate, Option, Some, None, refl, ap, sym, ◌∙◌, subst, arith}
-use Rattle.std.specs.Prelude.{All, OnOk, Result}
+use Rattle.std.proofs.Common.{◌≡◌, ◌⊎◌, inl, inr, ℕ, zero, suc, ◌≤◌, ◌^◌, List, [], length, replicate, Option, Some, None, refl, ap, sym, ◌∙◌, subst, arith}
+use Rattle.std.specs.Prelude.{OnOk, Result}
 use Rattle.std.proofs.lemmas.List.Elements.{All-nil}
 use Rattle.rg_event.specs.Codec.{IsEventOf}
 use Rattle.rg_event.specs.Shapes.{Shape, IsSchema}
@@ -11,15 +11,14 @@ use Rattle.rg_host.specs.MemHost.{Ledger, begun, now_in, may_in, said_in}
 use Rattle.rg_host.specs.Lines.{ended, lines_of}
 use Rattle.rg_frame.specs.Frames.{HasPayloads}
 use Rattle.rg_frame.proofs.Gates.{none-empty}
-use Rattle.rg_log.specs.Log.{HasEvents, IsLegalLog, IsOfSchema}
+use Rattle.rg_log.specs.Log.{HasEvents, IsOfSchema}
 use Rattle.rg_checkpoint.specs.declared.base.Checkpoint.{Checkpoint}
-use Rattle.rg_checkpoint.specs.Slots.{HasSlot, HasNoSlot, IsSlot}
+use Rattle.rg_checkpoint.specs.Slots.{HasNoSlot, IsSlot}
 use Rattle.rg_checkpoint.proofs.SlotLaws.{none_slot}
 use Rattle.rg_config.specs.Plans.{Planned}
 use Rattle.rg_course.specs.Output.{text_of_run}
-use Rattle.rg_open.specs.Opening.{IsOpenable, IsFromIn}
+use Rattle.rg_open.specs.Opening.{IsFromIn}
 use Rattle.rg_restore.specs.Slots.{slot_in, IsFrom}
-use Rattle.rg_restore.specs.declared.choosing.Saved.{Saved}
 use Rattle.rg_open.specs.Truth.{texts_of, IsTruthfulImage}
 use Rattle.rg_task.specs.Terms.{terms_of}
 use Rattle.rg_recover.specs.Ready.{IsReadyRun, begun_by}

@@ -18,12 +18,12 @@ use Rattle.rg_open.specs.Stores.{store_of}
 use Rattle.rg_open.specs.Within.{IsWithinOpening}
 use Rattle.rg_recover.specs.Sessions.{Sitting, events_of, stored_of}
 use Rattle.rg_recover.specs.Ran.{HasStopped}
-use Rattle.rg_recover.specs.Answered.{StaysTrue, Explains}
+use Rattle.rg_recover.specs.Answered.{StaysTrue, Explains, CountsGrow}
 use Rattle.rg_run.specs.Begun.{Begun, course_for}
 use Rattle.rg_recover.specs.Ready.{IsReadyRun, begun_by}
 use Rattle.rg_recover.specs.RunFaults.{IsGapOrFailed}
 use Rattle.rg_recover.specs.Opened.{IsToBegin, IsOpened, IsTurnedAway, OpensOnly}
-use Rattle.rg_recover.specs.Runs.{RunsReady, RefusesUnfit, HasCause}
+use Rattle.rg_recover.specs.Runs.{RunsReady, RefusesUnfit, HasCause, IsWholeRun}
 use Rattle.rg_recover.specs.Ran.{IsUnopened, IsLeft, Ran}
 use Rattle.rg_run.specs.declared.fault.RunFault.{RunFault}
 use Rattle.rg_run.specs.declared.fault.RunFault.TheVariants.{Damaged, SchemaDiffers, BadState, Gap, Read, Limit, Write, Disk}
@@ -43,7 +43,7 @@ not_differs fault may is = subst IsGapOrFailed is may
 module _ {H I : Type 0} (now : H → Option Image) (may : H → Image → Type 0) (clock : H → ℕ) (since : H → ℕ → Moment → Type 0) (said : H → Option (List ℕ)) (disk_faults out_faults : H → ℕ) (left : I → Option (List ℕ)) (faults : I → ℕ) (plan : Planned) (first : ℕ) (input : I) (old mid : H) (only : OpensOnly now may clock since said disk_faults out_faults plan old mid) where
   -- No store was opened.
   module _ {A : Type 0} (fault : RunFault) (away : IsTurnedAway now may clock since said disk_faults out_faults plan fault old mid) where
-    pub away_ready : RunsReady now may clock since said left {A = A} plan first (Err fault) input input old mid
+    away_ready : RunsReady now may clock since said left {A = A} plan first (Err fault) input input old mid
     away_ready = record {
       ran = λ ready all comes.
           let w = only.within ready.openable.image None ready.openable.told in (
@@ -62,13 +62,13 @@ module _ {H I : Type 0} (now : H → Option Image) (may : H → Image → Type 0
       never_differs = λ ready is. not_differs fault (away.over_ready ready.openable) (err_is fault SchemaDiffers is);
     }
 
-    pub away_unfit : RefusesUnfit now may clock since said left {A = A} plan (Err fault) input input old mid
+    away_unfit : RefusesUnfit now may clock since said left {A = A} plan (Err fault) input input old mid
     away_unfit = record {
       unfit = λ v told unfit. let at = away.unfit v told unfit in (refl, at.0, at.1);
       exact = λ v told unfit. tt;
     }
 
-    pub away_cause : HasCause now disk_faults out_faults left faults {A = A} plan first (Err fault) input input old mid
+    away_cause : HasCause now disk_faults out_faults left faults {A = A} plan first (Err fault) input input old mid
     away_cause = record {
       gap = λ n is. absurd (away.others.3 n (err_is fault (Gap n) is));
       gap_next = λ v events n told has is. absurd (away.others.3 n (err_is fault (Gap n) is));
@@ -85,6 +85,14 @@ module _ {H I : Type 0} (now : H → Option Image) (may : H → Image → Type 0
       disk = λ is. away.disk (err_is fault Disk is);
       store_first = λ is. refl;
       gap_first = λ n is. refl;
+    }
+
+    pub away_whole : IsWholeRun now may clock since said disk_faults out_faults left faults {A = A} plan first (Err fault) input input old mid
+    away_whole = record {
+      ready = away_ready;
+      unfit = away_unfit;
+      cause = away_cause;
+      counts = record { later = omega arith; disk_faults_grow = only.disk_faults_grow; out_faults_grow = omega (arith, only.out_faults_stay) };
     }
 
   -- The store was opened, and its lines were answered.
@@ -132,7 +140,7 @@ module _ {H I : Type 0} (now : H → Option Image) (may : H → Image → Type 0
               if_err_by r (λ f. f ≡ Gap next) IsGapOrFailed (λ f is. subst IsGapOrFailed (sym is) tt) at_gap.2,
             )
 
-      pub answered_ready : RunsReady now may clock since said left plan first r input input_then old new
+      answered_ready : RunsReady now may clock since said left plan first r input input_then old new
       answered_ready = record {
         ran = λ ready all comes. (from, ran ready all comes);
         behind = λ ready keep behind. behind_of ready keep behind;
@@ -141,7 +149,7 @@ module _ {H I : Type 0} (now : H → Option Image) (may : H → Image → Type 0
         never_differs = λ ready is. why.differs is;
       }
 
-    pub answered_unfit : RefusesUnfit now may clock since said left plan r input input_then old new
+    answered_unfit : RefusesUnfit now may clock since said left plan r input input_then old new
     answered_unfit = record {
       unfit = λ v told unfit. absurd (opened.fit v told unfit);
       exact = λ v told unfit. absurd (opened.fit v told unfit);
@@ -151,7 +159,7 @@ module _ {H I : Type 0} (now : H → Option Image) (may : H → Image → Type 0
     damaged_of p is = λ v told.
         subst (λ (f : ℕ). IsIllegal plan.shape.fields p (v f)) opened.log.1 (subst (λ (shape : Shape). IsIllegal shape.fields p (v (base s.reservoir).file)) opened.log.0 (why.damaged p is v told))
 
-    pub answered_cause : HasCause now disk_faults out_faults left faults plan first r input input_then old new
+    answered_cause : HasCause now disk_faults out_faults left faults plan first r input input_then old new
     answered_cause = record {
       gap = λ n is. let gap = why.gap n is in omega (arith, gap.0, gap.1, at);
       gap_next = λ v events n told has is. sym (why.gap n is).0 ∙ (opened.events v events told has).2;
@@ -168,4 +176,13 @@ module _ {H I : Type 0} (now : H → Option Image) (may : H → Image → Type 0
       disk = λ is. let rose = why.disk is in omega (arith, rose, only.disk_faults_grow);
       store_first = λ is. absurd (why.differs is);
       gap_first = λ n is. (why.gap n is).2;
+    }
+
+    pub answered_whole : ((b : Begun) → IsToBegin plan b (left input) next count from offset (now mid) (may mid) (said mid) Tells cell named there s → StaysTrue may clock since said plan b (left input_then) r mid new) → CountsGrow disk_faults out_faults faults input input_then mid new
+        → IsWholeRun now may clock since said disk_faults out_faults left faults plan first r input input_then old new
+    answered_whole stays grow = record {
+      ready = answered_ready stays;
+      unfit = answered_unfit;
+      cause = answered_cause;
+      counts = record { later = grow.later; disk_faults_grow = omega (arith, only.disk_faults_grow, grow.disk_faults_grow); out_faults_grow = omega (arith, only.out_faults_stay, grow.out_faults_grow) };
     }

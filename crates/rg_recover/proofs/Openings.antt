@@ -1,5 +1,5 @@
 -- What a fault of an opening says of a fault of a run.
-use Rattle.std.proofs.Common.{◌≡◌, ◌⊎◌, inl, inr, ℕ, Result, Ok, Err, refl, ap, sym, ◌∙◌}
+use Rattle.std.proofs.Common.{◌≡◌, ℕ, Result, Ok, Err, refl, ap}
 use Rattle.std.specs.Prelude.{OnOk, IfErr, IsErrOf}
 use Rattle.rg_open.specs.declared.fault.OpenFault.{OpenFault}
 use Rattle.rg_open.specs.declared.fault.OpenFault.TheVariants as opening

@@ -1,5 +1,5 @@
 -- A session that runs still after a checkpoint was written.
-use Rattle.std.proofs.Common.{◌≡◌, ◌⊎◌, inl, inr, ◌<◌, ◌≤◌, ℕ, zero, suc, Bool, false, List, [], ◌++◌, length, Option, Some, refl, sym, ◌∙◌, ap, subst, arith}
+use Rattle.std.proofs.Common.{◌≡◌, ◌⊎◌, inl, inr, ◌<◌, ◌≤◌, ℕ, zero, suc, false, List, [], ◌++◌, length, Option, Some, refl, sym, ◌∙◌, subst, arith}
 use Rattle.std.proofs.lemmas.List.{append-nil}
 use Rattle.rg_host.specs.Image.{Image, NothingPending}
 use Rattle.rg_frame.specs.Steps.{Leaves}
@@ -21,7 +21,6 @@ use Rattle.rg_checkpoint.specs.Writing.{Encodes, EncodesChanges}
 use Rattle.rg_checkpoint.specs.declared.base.Checkpoint.{Checkpoint}
 use Rattle.rg_checkpoint.specs.declared.sizes.SlotSizes.{SlotSizes}
 use Rattle.rg_reservoir.specs.Kept.{base, opened, all_events, Spells}
-use Rattle.rg_reservoir.specs.declared.reservoir.Reservoir.{Reservoir}
 use Rattle.rg_restore.specs.Truthful.{StandsFor, EngineStands}
 use Rattle.rg_course.specs.Stores.{Store}
 use Rattle.rg_course.specs.Steps.{IsMidStep, IsStepped, IsSavedTo}

@@ -1,5 +1,5 @@
 -- A slot that was written for a session.
-use Rattle.std.proofs.Common.{◌≡◌, ◌≢◌, ◌⊎◌, inl, inr, ◌<◌, ◌≤◌, ℕ, true, false, List, [], length, Option, Some, refl, sym, ◌∙◌, ap, subst, arith}
+use Rattle.std.proofs.Common.{◌≡◌, ◌≢◌, ◌⊎◌, inl, inr, ◌<◌, ℕ, true, false, List, [], length, Option, Some, refl, sym, ap, subst, arith}
 use Rattle.rg_bytes.specs.Counts.{Rose}
 use Rattle.rg_host.specs.Image.{Image, NothingPending}
 use Rattle.rg_host.specs.Moments.{Moment}
@@ -8,11 +8,11 @@ use Rattle.rg_state.specs.Rows.{Cells, Entry, Lists}
 use Rattle.rg_engine.specs.Seen.{Seen}
 use Rattle.rg_checkpoint.specs.Slots.{Attached, IsKeep, other_of, sizes_in, with_sizes}
 use Rattle.rg_checkpoint.specs.declared.sizes.SlotSizes.{SlotSizes}
-use Rattle.rg_reservoir.specs.Kept.{base, opened}
+use Rattle.rg_reservoir.specs.Kept.{opened}
 use Rattle.rg_open.specs.Opened.{IsKeptSince}
 use Rattle.rg_recover.specs.Saving.{Framed, HasWritten, IsChosen, IsLeft, IsMarked, IsOfKept, IsWant, KeepsMarks, KeepsRows, Turned, Turning, WritesSlot, sizes_then, slot_for}
 use Rattle.rg_recover.specs.Sessions.{Sitting, HasKept, count_in}
-use Rattle.rg_recover.specs.Sparing.{IsSpared, SparesOne}
+use Rattle.rg_recover.specs.Sparing.{IsSpared}
 use Rattle.rg_recover.specs.declared.fault.TaskFault.{TaskFault}
 use Rattle.rg_recover.specs.declared.fault.TaskFault.TheVariants.{Disk, Memory, Table}
 use Rattle.rg_recover.specs.declared.payload.Payload.{Payload}

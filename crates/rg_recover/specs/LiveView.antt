@@ -1,5 +1,5 @@
 -- A session and its host as a task.
-use Rattle.std.specs.Prelude.{◌≡◌, ◌<◌, ℕ, List, length, Option, refl}
+use Rattle.std.specs.Prelude.{◌<◌, ℕ, List, length, Option, refl}
 use Rattle.rg_host.specs.Image.{Image}
 use Rattle.rg_host.specs.Moments.{Moment}
 use Rattle.rg_state.specs.Changes.{Marks}

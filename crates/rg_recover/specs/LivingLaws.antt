@@ -1,5 +1,5 @@
 -- Laws of a session that runs.
-use Rattle.std.specs.Prelude.{◌≡◌, ◌≤◌, ◌^◌, ℕ, length, Option}
+use Rattle.std.specs.Prelude.{◌≡◌, ◌≤◌, ◌^◌, length, Option}
 use Rattle.std.proofs.Common.{◌∙◌, sym, subst, arith}
 use Rattle.rg_host.specs.Image.{Image}
 use Rattle.rg_event.specs.Rising.{next_offset}

@@ -13,6 +13,7 @@ use Rattle.rg_reservoir.specs.Chain.{IsIllegal}
 use Rattle.rg_open.specs.Blame.{IsBlamed}
 use Rattle.rg_open.specs.Unfit.{HasOtherSchema, HasBadFrame, IsUnfit, IsLeftAlone}
 use Rattle.rg_open.specs.Within.{IsWithinOpening}
+use Rattle.rg_recover.specs.Answered.{CountsGrow}
 use Rattle.rg_recover.specs.Ready.{IsReadyRun, begun_by}
 use Rattle.rg_recover.specs.RunFaults.{SaysWhy, IsGapOrFailed}
 use Rattle.rg_run.specs.Reading.{IsLonger, IsWithinLimit}
@@ -52,3 +53,11 @@ module _ {H I : Type 0} (now : H → Option Image) (disk_faults out_faults : H �
     pub disk : IsErrOf result Disk → Rose (disk_faults old) (disk_faults new)
     pub store_first : IsErrOf result SchemaDiffers → input_then ≡ input
     pub gap_first : (n : ℕ) → IsErrOf result (Gap n) → input_then ≡ input
+
+module _ {H I : Type 0} (now : H → Option Image) (may : H → Image → Type 0) (clock : H → ℕ) (since : H → ℕ → Moment → Type 0) (said : H → Option (List ℕ)) (disk_faults out_faults : H → ℕ) (left : I → Option (List ℕ)) (faults : I → ℕ) where
+  -- All of these, and no count of failed calls fell.
+  pub record IsWholeRun {A : Type 0} (plan : Planned) (first : ℕ) (result : Result A RunFault) (input input_then : I) (old new : H) : Type 0 where
+    pub ready : RunsReady now may clock since said left plan first result input input_then old new
+    pub unfit : RefusesUnfit now may clock since said left plan result input input_then old new
+    pub cause : HasCause now disk_faults out_faults left faults plan first result input input_then old new
+    pub counts : CountsGrow disk_faults out_faults faults input input_then old new

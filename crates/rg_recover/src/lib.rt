@@ -8,7 +8,6 @@
 
 mod ahead;
 mod anew;
-mod answering;
 mod commit;
 mod fault;
 mod handed_on;

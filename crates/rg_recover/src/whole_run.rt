@@ -16,12 +16,11 @@ ghost use Rattle.rg_open.specs.Within.{IsWithinOpening};
 ghost use Rattle.rg_recover.specs.Ready.{IsReadyRun, begun_by};
 ghost use Rattle.rg_recover.specs.RunFaults.{SaysWhy, IsGapOrFailed};
 ghost use Rattle.rg_run.specs.Answered.{IsFresh};
-ghost use Rattle.rg_recover.specs.Answered.{CountsGrow};
 ghost use Rattle.rg_run.specs.Reading.{IsLonger, IsWithinLimit};
-ghost use Rattle.rg_recover.specs.Runs.{RunsReady, RefusesUnfit, HasCause};
+ghost use Rattle.rg_recover.specs.Runs.{IsWholeRun};
 ghost use Rattle.rg_recover.specs.Ran.{Ran};
 
-use crate::answering::answer_opened;
+use crate::live::Live;
 use crate::opening::open_session;
 use rg_config::Plan;
 use rg_event::Steps;
@@ -94,8 +93,8 @@ pub fn run<I: Source, H: Host, L: Ledger>(
     ran
 }
 
-/// A run that has its buffer.
-// Three of its clauses are what it asks, word for word what `answer_opened` asks.
+/// A run that has its buffer: opens the store, puts the open line and answers all lines of the input. The
+/// first line must be at most the store's next one, or nothing is read or put.
 fn run_lines<I: Source, H: Host, L: Ledger>(
     alloc: Global,
     lines: &mut Lines,
@@ -108,26 +107,14 @@ fn run_lines<I: Source, H: Host, L: Ledger>(
     requires read { IsReadPlan plan.now }
     requires first { first ≤ 2 ^ 61 }
     requires fresh { IsFresh lines.old }
-    ensures ready { RunsReady H.now H.may H.clock H.since H.said I.left (planned plan.now) first result input.old input.new host.old host.new }
-    ensures unfit { RefusesUnfit H.now H.may H.clock H.since H.said I.left (planned plan.now) result input.old input.new host.old host.new }
-    ensures cause { HasCause H.now H.disk_faults H.out_faults I.left I.faults (planned plan.now) first result input.old input.new host.old host.new }
-    ensures counts { CountsGrow H.disk_faults H.out_faults I.faults input.old input.new host.old host.new }
+    ensures whole { IsWholeRun H.now H.may H.clock H.since H.said H.disk_faults H.out_faults I.left I.faults (planned plan.now) first result input.old input.new host.old host.new }
 {
     let (mut session, resumed) = match open_session(alloc, host, plan, steps) {
         Ok(opened) => opened,
         Err(fault) => return Err(fault),
     };
-    let ran = answer_opened(
-        alloc,
-        lines,
-        &mut session,
-        plan,
-        resumed.from,
-        first,
-        input,
-        host,
-        steps,
-    );
+    let mut live = Live::new(&mut session, host, steps);
+    let ran = rg_run::run(alloc, lines, plan, resumed.from, first, input, &mut live);
     drop(session);
     ran
 }

@@ -29,7 +29,7 @@ returns-clause-complete g c =
       asks = said.0;
       says = said.1;
       holds = λ no_run.
-          let all = c.run_command-done.ensures.shows.all ok (with_said _ _ _ told no_run) in
+          let all = c.run_command-done.ensures.does.shows.all ok (with_said _ _ _ told no_run) in
           record { text = all.text; is = all.is; holds = subst (λ h. Puts g.H.Host.said g.H.Host.clock g.H.Host.since c.args.host.now h (ended all.text)) (sym (c.end.ensures.silent (line_ok c.run_command-done.result ok))) all.holds };
     })
 
@@ -41,7 +41,7 @@ returns-clause-put_so_far g c =
       asks = said.0;
       says = said.1;
       holds = λ no_run.
-          let text = c.run_command-done.ensures.shows.part (with_said _ _ _ told no_run) in
+          let text = c.run_command-done.ensures.does.shows.part (with_said _ _ _ told no_run) in
           let stops = text.holds in
           let P : List ℕ → Type 0 = λ v. IsPrefix c.end.ensures.put.part v in
           record {
@@ -50,7 +50,7 @@ returns-clause-put_so_far g c =
             holds = (
               _,
               puts-then g.H.Host.said g.H.Host.clock g.H.Host.since _ _ _ _ _ stops.1 c.end.ensures.put.puts,
-              put_then (status_after c.run_command-done.result ≡ Write) (line_for said.0 told.image (status_after c.run_command-done.result)) _ stops.0 c.end.ensures.put.part (write_line said.0 told.image (status_after c.run_command-done.result)) stops.2 (subst P (c.run_command-done.ensures.shows.line (with_said _ _ _ told no_run)) c.end.ensures.put.front),
+              put_then (status_after c.run_command-done.result ≡ Write) (line_for said.0 told.image (status_after c.run_command-done.result)) _ stops.0 c.end.ensures.put.part (write_line said.0 told.image (status_after c.run_command-done.result)) stops.2 (subst P (c.run_command-done.ensures.does.shows.line (with_said _ _ _ told no_run)) c.end.ensures.put.front),
             );
           };
     })
@@ -63,7 +63,7 @@ returns-clause-last_line_whole g c =
       asks = said.0;
       says = said.1;
       holds = λ no_run.
-          let text = c.run_command-done.ensures.shows.part (with_said _ _ _ told no_run) in
+          let text = c.run_command-done.ensures.does.shows.part (with_said _ _ _ told no_run) in
           let stops = text.holds in
           let P : List ℕ → Type 0 = λ v. Puts g.H.Host.said g.H.Host.clock g.H.Host.since c.run_command-done.new.host c.end.new.host v in
           record {
@@ -71,7 +71,7 @@ returns-clause-last_line_whole g c =
             is = text.is;
             holds = ⊎_elim
                 (λ whole. ⊎_elim
-                (λ all. inl (_, puts-then g.H.Host.said g.H.Host.clock g.H.Host.since _ _ _ _ _ stops.1 (subst P (c.run_command-done.ensures.shows.line (with_said _ _ _ told no_run)) whole), all))
+                (λ all. inl (_, puts-then g.H.Host.said g.H.Host.clock g.H.Host.since _ _ _ _ _ stops.1 (subst P (c.run_command-done.ensures.does.shows.line (with_said _ _ _ told no_run)) whole), all))
                 (λ is. inr (rose_first _ _ _ (c.run_command-done.ensures.causes.write_only is).1 c.end.ensures.later_out))
                 (whole_then (status_after c.run_command-done.result ≡ Write) (line_for said.0 told.image (status_after c.run_command-done.result)) _ stops.0 stops.2))
                 (λ rose. inr rose)
@@ -318,7 +318,7 @@ returns-clause-files_stay g c =
 pub returns-clause-rows_before_damage : goal.returns-clause-rows_before_damage
 returns-clause-rows_before_damage g c =
     rw c.end.ensures.status (λ is shows.
-    let before = c.run_command-done.ensures.shows.before is shows in
+    let before = c.run_command-done.ensures.does.shows.before is shows in
     let P : List ℕ → Type 0 = λ v. Puts g.H.Host.said g.H.Host.clock g.H.Host.since c.run_command-done.new.host c.end.new.host v in
     ⊎_elim (λ whole. inl (λ image told. puts-then g.H.Host.said g.H.Host.clock g.H.Host.since _ _ _ _ _ (before image told).0 (subst P (before image told).1 whole))) (λ rose. inr rose) (whole_put g.H.Host.said g.H.Host.clock g.H.Host.since _ _ _ _ _ (rose_last _ _ _ c.run_command-done.ensures.later_out) c.end.ensures.put))
 

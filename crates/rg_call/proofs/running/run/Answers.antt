@@ -11,18 +11,15 @@ use Rattle.rg_call.proofs.Refusing.{run_at}
 use Rattle.rg_call.proofs.Carrying.{went_ok, went_err, went_at, never_at, store_line, never_store, bytes_ask}
 use Rattle.rg_call.proofs.TurnedAway.{ends_unfit, ends_behind, ends_for, behind_at}
 use Rattle.rg_call.proofs.Unread.{causes_unread, shows_unread, runs_unread, files_left}
-use Rattle.rg_call.proofs.Done.{causes_ok, taken}
+use Rattle.rg_call.proofs.Done.{causes_ok, taken, does_run}
 use Rattle.rg_call.proofs.running.run.Goals as goal
 
 -- the plan was not taken
 
-pub returns-in-Err-clause-goes : goal.returns-in-Err-clause-goes
-returns-in-Err-clause-goes g c =
-    runs_unread _ _ _ _ _ c.in-Err.ensures.unread g.H.Host.now g.H.Host.may g.H.Host.clock g.H.Host.since g.H.Host.said g.met.H.Host.now_may g.met.H.Host.only_now g.met.H.Host.sinks c.args.host.now c.args.first _ _ _ refl
-
-pub returns-in-Err-clause-shows : goal.returns-in-Err-clause-shows
-returns-in-Err-clause-shows g c =
-    shows_unread _ _ _ _ _ c.in-Err.ensures.unread g.H.Host.now g.H.Host.may g.H.Host.clock g.H.Host.since g.H.Host.said g.met.H.Host.now_may g.met.H.Host.only_now g.met.H.Host.sinks c.args.host.now (Some (Run c.args.first)) tt (λ shows. shows) (λ asks image. ([], refl))
+pub returns-in-Err-clause-does : goal.returns-in-Err-clause-does
+returns-in-Err-clause-does g c = does_run g.H.Host.now g.H.Host.may g.H.Host.clock g.H.Host.since g.H.Host.said _ _ _ _ _ _ _ _ _ c.args.first
+    (runs_unread _ _ _ _ _ c.in-Err.ensures.unread g.H.Host.now g.H.Host.may g.H.Host.clock g.H.Host.since g.H.Host.said g.met.H.Host.now_may g.met.H.Host.only_now g.met.H.Host.sinks c.args.host.now c.args.first _ _ _ refl)
+    (shows_unread _ _ _ _ _ c.in-Err.ensures.unread g.H.Host.now g.H.Host.may g.H.Host.clock g.H.Host.since g.H.Host.said g.met.H.Host.now_may g.met.H.Host.only_now g.met.H.Host.sinks c.args.host.now (Some (Run c.args.first)) tt (λ shows. shows) (λ asks image. ([], refl)))
 
 pub returns-in-Err-clause-causes : goal.returns-in-Err-clause-causes
 returns-in-Err-clause-causes g c = causes_unread _ _ _ _ _ c.in-Err.ensures.unread (Some (Run c.args.first)) tt (λ none. let e : Some (Run c.args.first) ≡ None = none in absurd (cc)) _ _ _ _ _ _ _ _
@@ -40,30 +37,29 @@ returns-in-Err-clause-alone g c =
 
 -- the run went to its end
 
-pub returns-in-Ok-run-clause-goes : goal.returns-in-Ok-run-clause-goes
-returns-in-Ok-run-clause-goes g c = record {
-  went = λ told. went_at g.H.Host.now g.H.Host.may g.H.Host.clock g.H.Host.since g.H.Host.said _ _ _ _ told _ _ _ _ _ (planned c.in-Ok.asked) c.in-Ok.ensures.legal (λ ready all left.
-      let ran = c.in-Ok-run.ensures.ran ready all left in
-      (ran.0, went_ok _ _ _ _ _ _ _ _ _ _ ran.1.is_from ran.1.moments ran.1.finished (c.in-Ok-run.ensures.no_gap ready.openable.image ready.held ready.openable.told ready.has)));
-  never_damaged = λ told is. absurd (let e : Ok ≡ Store = is in cc);
-  behind = λ told keep behind. behind_at g.H.Host.now g.H.Host.may g.H.Host.clock g.H.Host.since g.H.Host.said _ _ _ _ told keep c.args.first _ _ _ _ (planned c.in-Ok.asked) c.in-Ok.ensures.legal
-      (λ ready late. absurd (omega (arith, late, c.in-Ok-run.ensures.no_gap ready.openable.image ready.held ready.openable.told ready.has))) behind;
-  unfit = λ bytes asks v told says now unfit.
-      let same = bytes_ask _ (planned c.in-Ok.asked) c.in-Ok.ensures.legal bytes asks told says in
-      absurd (c.in-Ok-run.ensures.exact v now (subst (λ (p : Planned). IsUnfit p v) (sym same) unfit));
-  no_gap = λ ok bytes asks v events told says now has.
-      let same = bytes_ask _ (planned c.in-Ok.asked) c.in-Ok.ensures.legal bytes asks told says in
-      c.in-Ok-run.ensures.no_gap v events now (subst (λ (p : Planned). Has p events v) (sym same) has);
-  at_end = λ ok. c.in-Ok-run.ensures.at_end;
-}
-
-pub returns-in-Ok-run-clause-shows : goal.returns-in-Ok-run-clause-shows
-returns-in-Ok-run-clause-shows g c = record {
-  all = λ ok told. absurd (no_carried c.args.first _ _ (planned c.in-Ok.asked) c.in-Ok.ensures.legal told);
-  part = λ told. absurd (no_carried c.args.first _ _ (planned c.in-Ok.asked) c.in-Ok.ensures.legal told);
-  line = λ told. absurd (no_carried c.args.first _ _ (planned c.in-Ok.asked) c.in-Ok.ensures.legal told);
-  before = λ is shows. absurd shows;
-}
+pub returns-in-Ok-run-clause-does : goal.returns-in-Ok-run-clause-does
+returns-in-Ok-run-clause-does g c = does_run g.H.Host.now g.H.Host.may g.H.Host.clock g.H.Host.since g.H.Host.said _ _ _ _ _ _ _ _ _ c.args.first
+    (record {
+      went = λ told. went_at g.H.Host.now g.H.Host.may g.H.Host.clock g.H.Host.since g.H.Host.said _ _ _ _ told _ _ _ _ _ (planned c.in-Ok.asked) c.in-Ok.ensures.legal (λ ready all left.
+          let ran = c.in-Ok-run.ensures.ran ready all left in
+          (ran.0, went_ok _ _ _ _ _ _ _ _ _ _ ran.1.is_from ran.1.moments ran.1.finished (c.in-Ok-run.ensures.no_gap ready.openable.image ready.held ready.openable.told ready.has)));
+      never_damaged = λ told is. absurd (let e : Ok ≡ Store = is in cc);
+      behind = λ told keep behind. behind_at g.H.Host.now g.H.Host.may g.H.Host.clock g.H.Host.since g.H.Host.said _ _ _ _ told keep c.args.first _ _ _ _ (planned c.in-Ok.asked) c.in-Ok.ensures.legal
+          (λ ready late. absurd (omega (arith, late, c.in-Ok-run.ensures.no_gap ready.openable.image ready.held ready.openable.told ready.has))) behind;
+      unfit = λ bytes asks v told says now unfit.
+          let same = bytes_ask _ (planned c.in-Ok.asked) c.in-Ok.ensures.legal bytes asks told says in
+          absurd (c.in-Ok-run.ensures.exact v now (subst (λ (p : Planned). IsUnfit p v) (sym same) unfit));
+      no_gap = λ ok bytes asks v events told says now has.
+          let same = bytes_ask _ (planned c.in-Ok.asked) c.in-Ok.ensures.legal bytes asks told says in
+          c.in-Ok-run.ensures.no_gap v events now (subst (λ (p : Planned). Has p events v) (sym same) has);
+      at_end = λ ok. c.in-Ok-run.ensures.at_end;
+    })
+    (record {
+      all = λ ok told. absurd (no_carried c.args.first _ _ (planned c.in-Ok.asked) c.in-Ok.ensures.legal told);
+      part = λ told. absurd (no_carried c.args.first _ _ (planned c.in-Ok.asked) c.in-Ok.ensures.legal told);
+      line = λ told. absurd (no_carried c.args.first _ _ (planned c.in-Ok.asked) c.in-Ok.ensures.legal told);
+      before = λ is shows. absurd shows;
+    })
 
 pub returns-in-Ok-run-clause-causes : goal.returns-in-Ok-run-clause-causes
 returns-in-Ok-run-clause-causes g c = causes_ok (Some (Run c.args.first)) _ _ _ _ _ _ _ _ _ _
@@ -80,9 +76,9 @@ returns-in-Ok-run-clause-alone g c = record {
 
 -- the run ended early
 
-pub returns-clause-goes : goal.returns-clause-goes
-returns-clause-goes g c =
-    record {
+pub returns-clause-does : goal.returns-clause-does
+returns-clause-does g c = does_run g.H.Host.now g.H.Host.may g.H.Host.clock g.H.Host.since g.H.Host.said _ _ _ _ _ _ _ _ _ c.args.first
+    (record {
       went = λ told. went_at g.H.Host.now g.H.Host.may g.H.Host.clock g.H.Host.since g.H.Host.said _ _ _ _ told _ _ _ _ _ (planned c.in-Ok.asked) c.in-Ok.ensures.legal (λ ready all left.
           let ran = c.in-Err-run.ensures.ran ready all left in (
             ran.0,
@@ -106,15 +102,13 @@ returns-clause-goes g c =
           (at.0, at.1, ends_for (planned c.in-Ok.asked) asks v _ _ _ same (ends_unfit (planned c.in-Ok.asked) v _ c.in-Err-run.fault (ending_status c.ending_of.result) (ending_line c.ending_of.result) c.ending_of.ensures at.2));
       no_gap = λ ok. absurd (run_at _ c.in-Err-run.fault (ending_status c.ending_of.result) (ending_line c.ending_of.result) c.ending_of.ensures Ok ok);
       at_end = λ ok. absurd (run_at _ c.in-Err-run.fault (ending_status c.ending_of.result) (ending_line c.ending_of.result) c.ending_of.ensures Ok ok);
-    }
-
-pub returns-clause-shows : goal.returns-clause-shows
-returns-clause-shows g c = record {
-  all = λ ok told. absurd (no_carried c.args.first _ _ (planned c.in-Ok.asked) c.in-Ok.ensures.legal told);
-  part = λ told. absurd (no_carried c.args.first _ _ (planned c.in-Ok.asked) c.in-Ok.ensures.legal told);
-  line = λ told. absurd (no_carried c.args.first _ _ (planned c.in-Ok.asked) c.in-Ok.ensures.legal told);
-  before = λ is shows. absurd shows;
-}
+    })
+    (record {
+      all = λ ok told. absurd (no_carried c.args.first _ _ (planned c.in-Ok.asked) c.in-Ok.ensures.legal told);
+      part = λ told. absurd (no_carried c.args.first _ _ (planned c.in-Ok.asked) c.in-Ok.ensures.legal told);
+      line = λ told. absurd (no_carried c.args.first _ _ (planned c.in-Ok.asked) c.in-Ok.ensures.legal told);
+      before = λ is shows. absurd shows;
+    })
 
 pub returns-clause-causes : goal.returns-clause-causes
 returns-clause-causes g c =
@@ -168,3 +162,14 @@ returns-clause-alone g c =
       read_first = λ is. inr (c.in-Err-run.ensures.read (ap (λ (f : RunFault). Err f) (at Read is)));
       files_stay = λ why. absurd (⊎_elim (λ no_run. no_run tt) (λ why. taken _ (ending_status c.ending_of.result) (planned c.in-Ok.asked) c.in-Ok.ensures.legal (λ is. at BadPlan is) why) why);
     }
+
+-- a ledger of its own
+
+pub new-steps-requires-clause-named : goal.new-steps-requires-clause-named
+new-steps-requires-clause-named g c = c.requires.of_ledger.named
+
+pub new-steps-requires-clause-parts : goal.new-steps-requires-clause-parts
+new-steps-requires-clause-parts g c = c.requires.of_ledger.cut
+
+pub new-steps-requires-clause-whole : goal.new-steps-requires-clause-whole
+new-steps-requires-clause-whole g c = c.requires.of_ledger.whole

@@ -6,23 +6,22 @@ use Rattle.rg_verify.specs.declared.fault.VerifyFault.{VerifyFault}
 use Rattle.rg_verify.specs.Fitting.{terms_of}
 use Rattle.rg_verify.specs.Verify.{IsSaid, IsCut}
 use Rattle.rg_call.specs.Call.{ending_status, ending_line}
-use Rattle.rg_call.proofs.Verifying.{terms_same, verifiable_as, caused, ok_caused, differs_caused, verified_ok, verified_differs, verified_err, silent_ok, silent_differs, silent_err, ends_early}
+use Rattle.rg_call.proofs.Verifying.{terms_same, verifiable_as, caused, ok_caused, differs_caused, verified_ok, verified_differs, verified_err, silent_ok, silent_differs, silent_err}
 use Rattle.rg_call.proofs.verify.verify.Goals as goal
 
 -- it ended early
 
-pub returns-in-Err-clause-verified : goal.returns-in-Err-clause-verified
-returns-in-Err-clause-verified g c = λ ready.
-    let plan = c.args.plan.now in
-    let over = verifiable_as plan (g.H.Host.now c.args.host.now) c.requires.is_read (serves plan.schema (planned plan).queries c.requires.is_read.legal) ready in
-    verified_err g.H.Host.said g.H.Host.clock g.H.Host.since (planned plan) ready.image ready.events c.args.host.now c.verify.new.host c.in-Err.fault (ending_status c.ending_of.result) (ending_line c.ending_of.result) c.ending_of.ensures
-    (c.in-Err.ensures.outside ready.image ready.events ready.told over)
-    (λ w. subst (λ t. IsCut t ready.image ready.events (Puts g.H.Host.said g.H.Host.clock g.H.Host.since c.args.host.now c.verify.new.host)) (terms_same plan c.requires.is_read)
-    (c.in-Err.ensures.cut (ap (λ (f : VerifyFault). Err f) w) ready.image ready.events ready.told over))
-
-pub returns-in-Err-clause-silent : goal.returns-in-Err-clause-silent
-returns-in-Err-clause-silent g c =
-    silent_err g.H.Host.said g.H.Host.clock g.H.Host.since c.in-Err.fault (ending_status c.ending_of.result) (ending_line c.ending_of.result) c.args.host.now c.verify.new.host c.ending_of.ensures c.in-Err.ensures.silent
+pub returns-in-Err-clause-goes : goal.returns-in-Err-clause-goes
+returns-in-Err-clause-goes g c = record {
+  verified = λ ready.
+      let plan = c.args.plan.now in
+      let over = verifiable_as plan (g.H.Host.now c.args.host.now) c.requires.is_read (serves plan.schema (planned plan).queries c.requires.is_read.legal) ready in
+      verified_err g.H.Host.said g.H.Host.clock g.H.Host.since (planned plan) ready.image ready.events c.args.host.now c.verify.new.host c.in-Err.fault (ending_status c.ending_of.result) (ending_line c.ending_of.result) c.ending_of.ensures
+      (c.in-Err.ensures.outside ready.image ready.events ready.told over)
+      (λ w. subst (λ t. IsCut t ready.image ready.events (Puts g.H.Host.said g.H.Host.clock g.H.Host.since c.args.host.now c.verify.new.host)) (terms_same plan c.requires.is_read)
+      (c.in-Err.ensures.cut (ap (λ (f : VerifyFault). Err f) w) ready.image ready.events ready.told over));
+  silent = silent_err g.H.Host.said g.H.Host.clock g.H.Host.since c.in-Err.fault (ending_status c.ending_of.result) (ending_line c.ending_of.result) c.args.host.now c.verify.new.host c.ending_of.ensures c.in-Err.ensures.silent;
+}
 
 pub returns-in-Err-clause-cause : goal.returns-in-Err-clause-cause
 returns-in-Err-clause-cause g c =
@@ -32,22 +31,19 @@ returns-in-Err-clause-cause g c =
     (λ e. c.in-Err.ensures.differs (ap (λ (f : VerifyFault). Err f) e)) (λ p e. c.in-Err.ensures.damaged p (ap (λ (f : VerifyFault). Err f) e))
     (λ e. c.in-Err.ensures.disk (ap (λ (f : VerifyFault). Err f) e)) (λ e. c.in-Err.ensures.write (ap (λ (f : VerifyFault). Err f) e))
 
-pub returns-in-Err-clause-early : goal.returns-in-Err-clause-early
-returns-in-Err-clause-early g c = ends_early c.in-Err.fault (ending_status c.ending_of.result) (ending_line c.ending_of.result) c.ending_of.ensures
-
 -- a checkpoint isn't what the events give
 
-pub returns-then-differ-clause-verified : goal.returns-then-differ-clause-verified
-returns-then-differ-clause-verified g c = λ ready.
-    let plan = c.args.plan.now in
-    let over = verifiable_as plan (g.H.Host.now c.args.host.now) c.requires.is_read (serves plan.schema (planned plan).queries c.requires.is_read.legal) ready in
-    verified_differs g.H.Host.said g.H.Host.clock g.H.Host.since (planned plan) ready.image ready.events c.args.host.now c.verify.new.host
-    (subst (λ t. IsSaid t ready.image ready.events (Puts g.H.Host.said g.H.Host.clock g.H.Host.since c.args.host.now c.verify.new.host) true) (terms_same plan c.requires.is_read)
-    (subst (λ d. IsSaid (terms_of plan.queries plan.schema plan.task) ready.image ready.events (Puts g.H.Host.said g.H.Host.clock g.H.Host.since c.args.host.now c.verify.new.host) d) c.if-differ.true
-    (c.in-Ok.ensures.completes ready.image ready.events ready.told over)))
-
-pub returns-then-differ-clause-silent : goal.returns-then-differ-clause-silent
-returns-then-differ-clause-silent g c = silent_differs g.H.Host.said g.H.Host.clock g.H.Host.since c.args.host.now c.verify.new.host
+pub returns-then-differ-clause-goes : goal.returns-then-differ-clause-goes
+returns-then-differ-clause-goes g c = record {
+  verified = λ ready.
+      let plan = c.args.plan.now in
+      let over = verifiable_as plan (g.H.Host.now c.args.host.now) c.requires.is_read (serves plan.schema (planned plan).queries c.requires.is_read.legal) ready in
+      verified_differs g.H.Host.said g.H.Host.clock g.H.Host.since (planned plan) ready.image ready.events c.args.host.now c.verify.new.host
+      (subst (λ t. IsSaid t ready.image ready.events (Puts g.H.Host.said g.H.Host.clock g.H.Host.since c.args.host.now c.verify.new.host) true) (terms_same plan c.requires.is_read)
+      (subst (λ d. IsSaid (terms_of plan.queries plan.schema plan.task) ready.image ready.events (Puts g.H.Host.said g.H.Host.clock g.H.Host.since c.args.host.now c.verify.new.host) d) c.if-differ.true
+      (c.in-Ok.ensures.completes ready.image ready.events ready.told over)));
+  silent = silent_differs g.H.Host.said g.H.Host.clock g.H.Host.since c.args.host.now c.verify.new.host;
+}
 
 pub returns-then-differ-clause-cause : goal.returns-then-differ-clause-cause
 returns-then-differ-clause-cause g c =
@@ -55,17 +51,17 @@ returns-then-differ-clause-cause g c =
 
 -- all is as it should be
 
-pub returns-clause-verified : goal.returns-clause-verified
-returns-clause-verified g c = λ ready.
-    let plan = c.args.plan.now in
-    let over = verifiable_as plan (g.H.Host.now c.args.host.now) c.requires.is_read (serves plan.schema (planned plan).queries c.requires.is_read.legal) ready in
-    verified_ok g.H.Host.said g.H.Host.clock g.H.Host.since (planned plan) ready.image ready.events c.args.host.now c.verify.new.host
-    (subst (λ t. IsSaid t ready.image ready.events (Puts g.H.Host.said g.H.Host.clock g.H.Host.since c.args.host.now c.verify.new.host) false) (terms_same plan c.requires.is_read)
-    (subst (λ d. IsSaid (terms_of plan.queries plan.schema plan.task) ready.image ready.events (Puts g.H.Host.said g.H.Host.clock g.H.Host.since c.args.host.now c.verify.new.host) d) c.if-differ.false
-    (c.in-Ok.ensures.completes ready.image ready.events ready.told over)))
-
-pub returns-clause-silent : goal.returns-clause-silent
-returns-clause-silent g c = silent_ok g.H.Host.said g.H.Host.clock g.H.Host.since c.args.host.now c.verify.new.host
+pub returns-clause-goes : goal.returns-clause-goes
+returns-clause-goes g c = record {
+  verified = λ ready.
+      let plan = c.args.plan.now in
+      let over = verifiable_as plan (g.H.Host.now c.args.host.now) c.requires.is_read (serves plan.schema (planned plan).queries c.requires.is_read.legal) ready in
+      verified_ok g.H.Host.said g.H.Host.clock g.H.Host.since (planned plan) ready.image ready.events c.args.host.now c.verify.new.host
+      (subst (λ t. IsSaid t ready.image ready.events (Puts g.H.Host.said g.H.Host.clock g.H.Host.since c.args.host.now c.verify.new.host) false) (terms_same plan c.requires.is_read)
+      (subst (λ d. IsSaid (terms_of plan.queries plan.schema plan.task) ready.image ready.events (Puts g.H.Host.said g.H.Host.clock g.H.Host.since c.args.host.now c.verify.new.host) d) c.if-differ.false
+      (c.in-Ok.ensures.completes ready.image ready.events ready.told over)));
+  silent = silent_ok g.H.Host.said g.H.Host.clock g.H.Host.since c.args.host.now c.verify.new.host;
+}
 
 pub returns-clause-cause : goal.returns-clause-cause
 returns-clause-cause g c =

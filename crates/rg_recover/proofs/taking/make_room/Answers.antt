@@ -1,6 +1,5 @@
-use Rattle.std.proofs.Common.{◌≡◌, [], List, length, refl, ap, arith}
+use Rattle.std.proofs.Common.{length, refl, ap, arith}
 use Rattle.std.proofs.lemmas.Result.{on_ok_weaker}
-use Rattle.rg_event.specs.declared.event.Event.{Event}
 use Rattle.rg_reservoir.specs.Kept.{opened}
 use Rattle.rg_open.specs.Stores.{store_of}
 use Rattle.rg_recover.proofs.Sparing.{spared_still}

@@ -1,6 +1,5 @@
-use Rattle.std.proofs.Common.{◌≡◌, ◌≤◌, ◌<◌, ◌∙◌, ⊎_elim, inr, refl, Ok, Err, ℕ, [], List, ◌∷◌, ◌++◌, length, ap, sym, subst, arith, rules}
+use Rattle.std.proofs.Common.{◌≡◌, ◌<◌, ◌∙◌, ⊎_elim, inr, refl, Ok, Err, ℕ, [], List, ◌∷◌, ◌++◌, length, ap, sym, subst, arith, rules}
 use Rattle.std.proofs.lemmas.List.{append-nil}
-use Rattle.rg_bytes.specs.Counts.{Rose}
 use Rattle.rg_event.specs.Codec.{IsEventOf}
 use Rattle.rg_event.specs.Shapes.{Shape}
 use Rattle.rg_event.specs.declared.event.Event.{Event}

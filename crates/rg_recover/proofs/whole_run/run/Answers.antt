@@ -31,76 +31,76 @@ pub run_lines-ran-requires-clause-fresh : goal.run_lines-ran-requires-clause-fre
 run_lines-ran-requires-clause-fresh g c = record { pending = c.in-Ok.ensures.pending; taken = c.in-Ok.ensures.taken; spent = c.in-Ok.ensures.spent; still_open = c.in-Ok.ensures.ended }
 
 pub returns-clause-ran : goal.returns-clause-ran
-returns-clause-ran g c = c.run_lines-ran.ensures.ready.ran
+returns-clause-ran g c = c.run_lines-ran.ensures.whole.ready.ran
 
 pub returns-clause-behind : goal.returns-clause-behind
-returns-clause-behind g c = c.run_lines-ran.ensures.ready.behind
+returns-clause-behind g c = c.run_lines-ran.ensures.whole.ready.behind
 
 pub returns-clause-never_bad : goal.returns-clause-never_bad
-returns-clause-never_bad g c = c.run_lines-ran.ensures.ready.never_bad
+returns-clause-never_bad g c = c.run_lines-ran.ensures.whole.ready.never_bad
 
 pub returns-clause-never_damaged : goal.returns-clause-never_damaged
-returns-clause-never_damaged g c = c.run_lines-ran.ensures.ready.never_damaged
+returns-clause-never_damaged g c = c.run_lines-ran.ensures.whole.ready.never_damaged
 
 pub returns-clause-never_differs : goal.returns-clause-never_differs
-returns-clause-never_differs g c = c.run_lines-ran.ensures.ready.never_differs
+returns-clause-never_differs g c = c.run_lines-ran.ensures.whole.ready.never_differs
 
 pub returns-clause-unfit : goal.returns-clause-unfit
-returns-clause-unfit g c = c.run_lines-ran.ensures.unfit.unfit
+returns-clause-unfit g c = c.run_lines-ran.ensures.whole.unfit.unfit
 
 pub returns-clause-exact : goal.returns-clause-exact
-returns-clause-exact g c = c.run_lines-ran.ensures.unfit.exact
+returns-clause-exact g c = c.run_lines-ran.ensures.whole.unfit.exact
 
 pub returns-clause-gap : goal.returns-clause-gap
-returns-clause-gap g c = c.run_lines-ran.ensures.cause.gap
+returns-clause-gap g c = c.run_lines-ran.ensures.whole.cause.gap
 
 pub returns-clause-gap_next : goal.returns-clause-gap_next
-returns-clause-gap_next g c = c.run_lines-ran.ensures.cause.gap_next
+returns-clause-gap_next g c = c.run_lines-ran.ensures.whole.cause.gap_next
 
 pub returns-clause-no_gap : goal.returns-clause-no_gap
-returns-clause-no_gap g c = c.run_lines-ran.ensures.cause.no_gap
+returns-clause-no_gap g c = c.run_lines-ran.ensures.whole.cause.no_gap
 
 pub returns-clause-differs : goal.returns-clause-differs
-returns-clause-differs g c = c.run_lines-ran.ensures.cause.differs
+returns-clause-differs g c = c.run_lines-ran.ensures.whole.cause.differs
 
 pub returns-clause-damaged : goal.returns-clause-damaged
-returns-clause-damaged g c = c.run_lines-ran.ensures.cause.damaged
+returns-clause-damaged g c = c.run_lines-ran.ensures.whole.cause.damaged
 
 pub returns-clause-bad : goal.returns-clause-bad
-returns-clause-bad g c = c.run_lines-ran.ensures.cause.bad
+returns-clause-bad g c = c.run_lines-ran.ensures.whole.cause.bad
 
 pub returns-clause-undamaged : goal.returns-clause-undamaged
-returns-clause-undamaged g c = c.run_lines-ran.ensures.cause.undamaged
+returns-clause-undamaged g c = c.run_lines-ran.ensures.whole.cause.undamaged
 
 pub returns-clause-at_end : goal.returns-clause-at_end
-returns-clause-at_end g c = c.run_lines-ran.ensures.cause.at_end
+returns-clause-at_end g c = c.run_lines-ran.ensures.whole.cause.at_end
 
 pub returns-clause-within : goal.returns-clause-within
-returns-clause-within g c = c.run_lines-ran.ensures.cause.within
+returns-clause-within g c = c.run_lines-ran.ensures.whole.cause.within
 
 pub returns-clause-read : goal.returns-clause-read
-returns-clause-read g c = c.run_lines-ran.ensures.cause.read
+returns-clause-read g c = c.run_lines-ran.ensures.whole.cause.read
 
 pub returns-clause-limit : goal.returns-clause-limit
-returns-clause-limit g c = c.run_lines-ran.ensures.cause.limit
+returns-clause-limit g c = c.run_lines-ran.ensures.whole.cause.limit
 
 pub returns-clause-write : goal.returns-clause-write
-returns-clause-write g c = c.run_lines-ran.ensures.cause.write
+returns-clause-write g c = c.run_lines-ran.ensures.whole.cause.write
 
 pub returns-clause-disk : goal.returns-clause-disk
-returns-clause-disk g c = c.run_lines-ran.ensures.cause.disk
+returns-clause-disk g c = c.run_lines-ran.ensures.whole.cause.disk
 
 pub returns-clause-store_first : goal.returns-clause-store_first
-returns-clause-store_first g c = c.run_lines-ran.ensures.cause.store_first
+returns-clause-store_first g c = c.run_lines-ran.ensures.whole.cause.store_first
 
 pub returns-clause-gap_first : goal.returns-clause-gap_first
-returns-clause-gap_first g c = c.run_lines-ran.ensures.cause.gap_first
+returns-clause-gap_first g c = c.run_lines-ran.ensures.whole.cause.gap_first
 
 pub returns-clause-later : goal.returns-clause-later
-returns-clause-later g c = c.run_lines-ran.ensures.counts.later
+returns-clause-later g c = c.run_lines-ran.ensures.whole.counts.later
 
 pub returns-clause-disk_faults : goal.returns-clause-disk_faults
-returns-clause-disk_faults g c = c.run_lines-ran.ensures.counts.disk_faults_grow
+returns-clause-disk_faults g c = c.run_lines-ran.ensures.whole.counts.disk_faults_grow
 
 pub returns-clause-out_faults : goal.returns-clause-out_faults
-returns-clause-out_faults g c = c.run_lines-ran.ensures.counts.out_faults_grow
+returns-clause-out_faults g c = c.run_lines-ran.ensures.whole.counts.out_faults_grow

@@ -1,10 +1,4 @@
-use Rattle.std.proofs.Common.{◌≡◌, inl, inr, ℕ, Option, Err, refl, sym, ◌∙◌, ap, subst, arith}
-use Rattle.std.specs.Option.{ForSome}
-use Rattle.rg_host.specs.Image.{Image}
-use Rattle.rg_reservoir.specs.Kept.{Base, base, opened, stored}
-use Rattle.rg_recover.specs.Sessions.{Sitting, events_of}
-use Rattle.rg_recover.specs.declared.fault.TaskFault.TheVariants as session
-use Rattle.rg_task.specs.declared.fault.TaskFault.TheVariants.{Disk, Damaged, BadState, Memory, Ended}
+use Rattle.std.proofs.Common.{inl, inr, Err, refl, sym, ◌∙◌, ap, arith}
 use Rattle.rg_recover.proofs.TaskCauses.{same_fault, disk_by, ended_by, rose_first, commit_faults, commit_no_table, memory_or}
 use Rattle.rg_recover.proofs.AllSaved.{all_stored}
 use Rattle.rg_recover.proofs.live.LiveTask.commit.Goals as goal

@@ -1,10 +1,7 @@
-use Rattle.std.proofs.Common.{◌≡◌, inl, inr, ℕ, Option, Err, refl, sym, ◌∙◌, ap, subst, arith}
-use Rattle.std.specs.Option.{ForSome}
+use Rattle.std.proofs.Common.{inl, inr, Option, Err, refl, sym, ◌∙◌, ap, arith}
 use Rattle.rg_host.specs.Image.{Image}
-use Rattle.rg_reservoir.specs.Kept.{Base, base, opened, stored}
-use Rattle.rg_recover.specs.Sessions.{Sitting, events_of}
-use Rattle.rg_recover.specs.declared.fault.TaskFault.TheVariants as session
-use Rattle.rg_task.specs.declared.fault.TaskFault.TheVariants.{Disk, Damaged, BadState, Memory, Ended}
+use Rattle.rg_reservoir.specs.Kept.{Base, base, stored}
+use Rattle.rg_recover.specs.Sessions.{Sitting}
 use Rattle.rg_recover.proofs.TaskCauses.{same_fault, bad_by, damaged_by, disk_by, ended_by, rose_first, rose_second}
 use Rattle.rg_recover.proofs.Reaching.{reaching, slots_on}
 use Rattle.rg_recover.proofs.live.LiveTask.line.Goals as goal

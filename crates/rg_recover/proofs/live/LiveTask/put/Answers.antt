@@ -1,4 +1,4 @@
-use Rattle.std.proofs.Common.{◌≡◌, ℕ, Option, refl, sym, ap, subst}
+use Rattle.std.proofs.Common.{Option, refl, sym, ap, subst}
 use Rattle.std.proofs.lemmas.Result.{on_ok_weaker}
 use Rattle.rg_host.specs.Image.{Image}
 use Rattle.rg_recover.specs.Living.{state_of, IsIllegalIn}

@@ -1,4 +1,4 @@
-use Rattle.std.proofs.Common.{◌≡◌, ⊎_elim, inl, inr, refl, ap, arith, rules}
+use Rattle.std.proofs.Common.{◌≡◌, ⊎_elim, inl, inr, refl, ap, rules}
 use Rattle.rg_bytes.specs.Counts.{Rose}
 use Rattle.rg_reservoir.specs.declared.reservoir.Reservoir.{Reservoir}
 use Rattle.rg_recover.specs.Sessions.{Sitting}

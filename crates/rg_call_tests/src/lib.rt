@@ -2,6 +2,18 @@
 #![tactic(auto)]
 
 #[cfg(test)]
-mod call;
+mod answered;
+#[cfg(test)]
+mod asked;
+#[cfg(test)]
+mod bounds;
+#[cfg(test)]
+mod graced;
+#[cfg(test)]
+mod made;
+#[cfg(test)]
+mod setting;
 #[cfg(test)]
 mod trial;
+#[cfg(test)]
+mod tried;

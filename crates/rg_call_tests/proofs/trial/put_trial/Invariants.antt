@@ -1,4 +1,4 @@
-use Rattle.rg_call_tests.proofs.trial.lines_of_trial.Given as goal
+use Rattle.rg_call_tests.proofs.trial.put_trial.Given as goal
 
 abbrev pub ghosts-run_trial : goal.ghosts-run_trial
 ghosts-run_trial a = record { name = a.blank.name; parts = a.blank.parts }

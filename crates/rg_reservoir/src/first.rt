@@ -1,14 +1,7 @@
-ghost use Rattle.std.specs.Prelude.{◌≡◌, ◌≢◌, ◌≤◌, ◌<◌, ◌^◌, [], ℕ, Some, None, Ok, Err, true, false, IfOk, IfSome, IfNone, OnOk, IsErrOf, IsTrue};
-ghost use Rattle.std.specs.Option.{ForSome};
+ghost use Rattle.std.specs.Prelude.{◌≡◌, ◌≢◌, false, IsTrue};
 ghost use Rattle.rg_bytes.specs.Counts.{Rose};
-ghost use Rattle.rg_host.specs.Image.{Image, Becomes};
-ghost use Rattle.rg_frame.specs.Frames.{IsLog};
-ghost use Rattle.rg_host.specs.Moments.{LeavesAll};
-ghost use Rattle.rg_host.specs.Image.{NothingPending};
-ghost use Rattle.rg_frame.specs.Calls.{Writes};
-ghost use Rattle.rg_frame.specs.LogState.{ReachesEnd};
 ghost use Rattle.rg_log.specs.Entries.{unread, nothing};
-ghost use Rattle.rg_reservoir.specs.Attached.{IsOther, IsBadFrame, SchemaAdded, Opens, IsOpened};
+ghost use Rattle.rg_reservoir.specs.LogOpened.{LogOpened, LogRead, IsLogStop, WritesFirst};
 ghost use Rattle.rg_reservoir.specs.Reading.{LeavesLog, FirstRead, IsFirstStop};
 
 use crate::fault::ReservoirFault;
@@ -73,19 +66,14 @@ pub struct Opened {
 }
 
 /// Reads the heads of the log to its end, and writes the first frame where the log has none.
-pub fn open_log<H: Host>(alloc: Global, ours: &[u8], host: &mut H) -> Result<Opened, ReservoirFault>
-    ensures opened { IfOk result (λ o. ForSome (H.now host.new) (λ w. IsOpened ours.now o.first o.log.end o.tally (w 2))) }
-    ensures opens { IfOk result (λ o. Becomes (H.now host.old) (H.now host.new) (λ v w. Opens ours.now o.first o.log.end (v 2) (w 2))) }
-    ensures settled { OnOk result (NothingPending 2 (H.now host.old) (H.may host.old) → NothingPending 2 (H.now host.new) (H.may host.new)) }
-    ensures log { IfOk result (λ o. (o.log.file ≡ 2) × (o.log.ready ≡ true) × (o.log.ended ≡ false) × (o.tally.count ≤ 2 ^ 40)) }
-    ensures reaches { IfOk result (λ o. ReachesEnd o.log (H.now host.new)) }
-    ensures differs { IsErrOf result ReservoirFault.SchemaDiffers → ForSome (H.now host.old) (λ v. IsOther ours.now (v 2)) }
-    ensures damaged { (p : ℕ) → IsErrOf result (ReservoirFault.Damaged p) → ForSome (H.now host.old) (λ v. IsBadFrame ours.now p (v 2)) }
-    ensures writes { Writes H.now H.may H.clock H.since H.said 2 (SchemaAdded ours.now) host.old host.new }
-    ensures neither { (IsErrOf result ReservoirFault.Full → ⊥) × (IsErrOf result ReservoirFault.Ended → ⊥) }
-    ensures disk { IsErrOf result ReservoirFault.Disk → Rose (H.disk_faults host.old) (H.disk_faults host.new) }
-    ensures disk_faults { H.disk_faults host.old ≤ H.disk_faults host.new }
-    ensures out_faults { H.out_faults host.new ≡ H.out_faults host.old }
+pub(crate) fn open_log<H: Host>(
+    alloc: Global,
+    ours: &[u8],
+    host: &mut H,
+) -> Result<Opened, ReservoirFault>
+    ensures opened { LogOpened H.now H.may ours.now result host.old host.new }
+    ensures stops { IsLogStop ours.now (H.now host.old) (Rose (H.disk_faults host.old) (H.disk_faults host.new)) result }
+    ensures writes { WritesFirst H.now H.may H.clock H.since H.said H.disk_faults H.out_faults ours.now host.old host.new }
 {
     let mut log = FrameLog::new(2);
     let mut so_far = LogSoFar::new();
@@ -110,21 +98,14 @@ pub fn open_log<H: Host>(alloc: Global, ours: &[u8], host: &mut H) -> Result<Ope
 }
 
 /// Reads the heads of the log to its end, where the log has a frame. Nothing is written.
-pub fn read_log<H: Host>(
+pub(crate) fn read_log<H: Host>(
     alloc: Global,
     ours: &[u8],
     host: &mut H,
 ) -> Result<Option<Opened>, ReservoirFault>
-    ensures opened { IfOk result (λ found. IfSome found (λ o. ForSome (H.now host.old) (λ v. IsOpened ours.now o.first o.log.end o.tally (v 2)))) }
-    ensures none { IfOk result (λ found. IfNone found (ForSome (H.now host.old) (λ v. IsLog [] 0 (v 2)))) }
-    ensures log { IfOk result (λ found. IfSome found (λ o. (o.log.file ≡ 2) × (o.log.ready ≡ true) × (o.log.ended ≡ false) × (o.tally.count ≤ 2 ^ 40))) }
-    ensures differs { IsErrOf result ReservoirFault.SchemaDiffers → ForSome (H.now host.old) (λ v. IsOther ours.now (v 2)) }
-    ensures damaged { (p : ℕ) → IsErrOf result (ReservoirFault.Damaged p) → ForSome (H.now host.old) (λ v. IsBadFrame ours.now p (v 2)) }
-    ensures neither { (IsErrOf result ReservoirFault.Full → ⊥) × (IsErrOf result ReservoirFault.Ended → ⊥) }
-    ensures leaves { LeavesAll H.now H.may H.clock H.since H.said host.old host.new }
-    ensures disk { IsErrOf result ReservoirFault.Disk → Rose (H.disk_faults host.old) (H.disk_faults host.new) }
-    ensures disk_faults { H.disk_faults host.old ≤ H.disk_faults host.new }
-    ensures out_faults { H.out_faults host.new ≡ H.out_faults host.old }
+    ensures read { LogRead ours.now (H.now host.old) result }
+    ensures stops { IsLogStop ours.now (H.now host.old) (Rose (H.disk_faults host.old) (H.disk_faults host.new)) result }
+    ensures leaves { LeavesLog H.now H.may H.clock H.since H.said H.disk_faults H.out_faults host.old host.new }
 {
     let mut log = FrameLog::new(2);
     let mut so_far = LogSoFar::new();

@@ -1,12 +1,11 @@
-ghost use Rattle.std.specs.Prelude.{◌≡◌, ◌≢◌, ◌⊎◌, ◌≤◌, ◌<◌, ◌+◌, ◌^◌, ℕ, List, Some, None, true, IfOk, IfErr, IfSome, IfNone, OnOk, OnErr, IsErrOf, length, min};
+ghost use Rattle.std.specs.Prelude.{◌≡◌, ◌⊎◌, ◌≤◌, ◌^◌, ℕ, List, IfErr, OnOk, min};
 ghost use Rattle.std.specs.Option.{ForSome};
 ghost use Rattle.rg_bytes.specs.Counts.{Rose};
-ghost use Rattle.rg_frame.specs.Frames.{Begins, IsLog, HasPayloads};
-ghost use Rattle.rg_host.specs.Moments.{LeavesAll};
-ghost use Rattle.rg_frame.specs.LogState.{ReachesEnd};
-ghost use Rattle.rg_frame.specs.Looks.{IsTorn};
+ghost use Rattle.rg_frame.specs.Frames.{Begins};
 ghost use Rattle.rg_log.specs.Entries.{nothing};
-ghost use Rattle.rg_reservoir.specs.Heads.{EntryAt, IsPassed, CannotPass, Passed, IsBad};
+ghost use Rattle.rg_reservoir.specs.Heads.{IsPassed, CannotPass};
+ghost use Rattle.rg_reservoir.specs.HeadsRead.{HasEntry, IsEntryStop, HeadsRead, IsHeadsStop};
+ghost use Rattle.rg_reservoir.specs.Reading.{LeavesLog};
 
 use crate::fault::ReservoirFault;
 use rg_frame::{FrameFault, FrameLog};
@@ -28,25 +27,14 @@ fn shorter(size: u64) -> usize
 }
 
 /// Reads the first bytes of the next frame, and moves the log on.
-pub fn next_entry<H: Host>(
+pub(crate) fn next_entry<H: Host>(
     log: &mut FrameLog,
     host: &mut H,
 ) -> Result<Option<FoundEntry>, FrameFault>
-    ensures place { IfOk result (λ r. IfSome r (λ found. (found.place ≡ log.old.end) × (log.old.end + 9 ≤ log.new.end))) }
-    ensures some { IfOk result (λ r. IfSome r (λ found. ForSome (H.now host.old) (λ v. (payloads : List (List ℕ)) → Begins payloads log.old.end (v log.old.file)
-        → EntryAt (v log.old.file) payloads log.old.end log.new.end found.entry))) }
-    ensures none { IfOk result (λ r. IfNone r ((log.new ≡ record log.old { ready = true }) × ForSome (H.now host.old) (λ v. (payloads : List (List ℕ)) → Begins payloads log.old.end (v log.old.file) → IsLog payloads log.old.end (v log.old.file)))) }
-    ensures damaged { (p : ℕ) → IsErrOf result (FrameFault.Damaged p) → ForSome (H.now host.old) (λ v. IsTorn p (v log.old.file)) }
-    ensures small { IfOk result (λ r. IfSome r (λ _. log.new.end ≤ 2 ^ 62)) }
-    ensures reaches { ReachesEnd log.old (H.now host.old) → ReachesEnd log.new (H.now host.new) }
-    ensures err { OnErr result (log.new ≡ log.old) }
-    ensures same { (log.new.file ≡ log.old.file) × (log.new.ended ≡ log.old.ended) }
-    ensures faults { IfErr result (λ fault. (fault ≡ FrameFault.Disk) ⊎ (fault ≡ FrameFault.Damaged log.old.end)) }
+    ensures found { HasEntry (H.now host.old) (H.now host.new) result log.old log.new }
+    ensures stops { IsEntryStop (H.now host.old) log.old (Rose (H.disk_faults host.old) (H.disk_faults host.new)) result }
     ensures reads { H.reads host.old ≤ H.reads host.new }
-    ensures leaves { LeavesAll H.now H.may H.clock H.since H.said host.old host.new }
-    ensures disk { IsErrOf result FrameFault.Disk → Rose (H.disk_faults host.old) (H.disk_faults host.new) }
-    ensures disk_faults { H.disk_faults host.old ≤ H.disk_faults host.new }
-    ensures out_faults { H.out_faults host.new ≡ H.out_faults host.old }
+    ensures leaves { LeavesLog H.now H.may H.clock H.since H.said H.disk_faults H.out_faults host.old host.new }
 {
     let mut front = [0u8; 37];
     let found = match log.step(host, &mut front) {
@@ -80,7 +68,7 @@ fn pass_found(alloc: Global, so_far: &mut LogSoFar, found: FoundEntry) -> Result
 }
 
 /// Reads the heads of the chunks from the log's end on, and moves the log behind them.
-pub fn read_heads<H: Host>(
+pub(crate) fn read_heads<H: Host>(
     alloc: Global,
     log: &mut FrameLog,
     so_far: &mut LogSoFar,
@@ -89,19 +77,9 @@ pub fn read_heads<H: Host>(
     requires start { so_far.old.summary ≡ nothing }
     requires small { log.old.end ≤ 2 ^ 62 }
     requires begun { ForSome (H.now host.old) (λ v. (payloads : List (List ℕ)) × Begins payloads log.old.end (v log.old.file)) }
-    ensures passed { IfOk result (λ tally. ForSome (H.now host.old) (λ v. Passed (v log.old.file) log.old.end log.new.end tally)) }
-    ensures ends { IfOk result (λ tally. ForSome (H.now host.old) (λ v. (payloads : List (List ℕ)) × IsLog payloads log.new.end (v log.old.file) × HasPayloads payloads (v log.old.file))) }
-    ensures few { IfOk result (λ tally. tally.count ≤ 2 ^ 40) }
-    ensures damaged { (p : ℕ) → IsErrOf result (ReservoirFault.Damaged p) → ForSome (H.now host.old) (λ v. IsBad (v log.old.file) log.old.end p) }
-    ensures no_other { IsErrOf result ReservoirFault.SchemaDiffers → ⊥ }
-    ensures neither { (IsErrOf result ReservoirFault.Full → ⊥) × (IsErrOf result ReservoirFault.Ended → ⊥) }
-    ensures same { (log.new.file ≡ log.old.file) × (log.new.ended ≡ log.old.ended) }
-    ensures ready { OnOk result (log.new.ready ≡ true) }
-    ensures reaches { ReachesEnd log.old (H.now host.old) → ReachesEnd log.new (H.now host.new) }
-    ensures leaves { LeavesAll H.now H.may H.clock H.since H.said host.old host.new }
-    ensures disk { IsErrOf result ReservoirFault.Disk → Rose (H.disk_faults host.old) (H.disk_faults host.new) }
-    ensures disk_faults { H.disk_faults host.old ≤ H.disk_faults host.new }
-    ensures out_faults { H.out_faults host.new ≡ H.out_faults host.old }
+    ensures read { HeadsRead (H.now host.old) (H.now host.new) result log.old log.new }
+    ensures stops { IsHeadsStop (H.now host.old) log.old (Rose (H.disk_faults host.old) (H.disk_faults host.new)) result }
+    ensures leaves { LeavesLog H.now H.may H.clock H.since H.said H.disk_faults H.out_faults host.old host.new }
 {
     'heads: loop {
         let found = match next_entry(log, host) {

@@ -22,7 +22,7 @@ mod view;
 mod walk;
 
 pub use fault::ReservoirFault;
-pub use law::law_spells;
+pub use law::{law_spells, law_views};
 pub use reservoir::Reservoir;
 pub use stored::Stored;
 pub use walk::{Stage, Walk};

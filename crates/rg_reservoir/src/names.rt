@@ -1,11 +1,9 @@
-ghost use Rattle.std.specs.Prelude.{◌≡◌, ◌⊎◌, ◌≤◌, ◌+◌, ◌^◌, ℕ, List, IfOk, IfErr, OnOk, IsErrOf, length, count_by, option_map};
+ghost use Rattle.std.specs.Prelude.{◌≡◌, ◌≤◌, ◌^◌, length, count_by, option_map};
 ghost use Rattle.std.specs.Option.{ForSome};
 ghost use Rattle.rg_bytes.specs.Counts.{Rose};
-ghost use Rattle.rg_host.specs.Moments.{LeavesAll};
-ghost use Rattle.rg_frame.specs.Frames.{HasPayloads};
 ghost use Rattle.rg_log.specs.Entries.{count_of};
-ghost use Rattle.rg_log.specs.Spots.{is_in_chunk, is_at_end, named_by_heads};
-ghost use Rattle.rg_reservoir.specs.Naming.{Left, IsHeadless, HasCounted, IsCountStop};
+ghost use Rattle.rg_log.specs.Spots.{is_in_chunk, is_at_end};
+ghost use Rattle.rg_reservoir.specs.Naming.{Left, HasCounted, IsCountStop};
 ghost use Rattle.rg_reservoir.specs.Reading.{LeavesLog};
 
 use crate::fault::ReservoirFault;
@@ -85,16 +83,10 @@ fn count_behind<H: Host>(
 
 /// Goes over the frames of file 2, and answers how many of the spots name nothing by the heads of its chunks. It takes no
 /// memory.
-pub fn count_unnamed<H: Host>(host: &mut H, spots: &[Spot]) -> Result<usize, ReservoirFault>
-    ensures counted { IfOk result (λ left. ForSome (H.now host.old) (λ v. (payloads : List (List ℕ)) → HasPayloads payloads (v 2)
-        → left + count_by (named_by_heads payloads) spots.now ≡ length spots.now)) }
-    ensures lists { OnOk result (ForSome (H.now host.old) (λ v. (payloads : List (List ℕ)) × HasPayloads payloads (v 2))) }
-    ensures damaged { (p : ℕ) → IsErrOf result (ReservoirFault.Damaged p) → ForSome (H.now host.old) (λ v. IsHeadless p (v 2)) }
-    ensures faults { IfErr result (λ fault. (fault ≡ ReservoirFault.Disk) ⊎ ((p : ℕ) × (fault ≡ ReservoirFault.Damaged p))) }
-    ensures leaves { LeavesAll H.now H.may H.clock H.since H.said host.old host.new }
-    ensures disk { IsErrOf result ReservoirFault.Disk → Rose (H.disk_faults host.old) (H.disk_faults host.new) }
-    ensures disk_faults { H.disk_faults host.old ≤ H.disk_faults host.new }
-    ensures out_faults { H.out_faults host.new ≡ H.out_faults host.old }
+pub(crate) fn count_unnamed<H: Host>(host: &mut H, spots: &[Spot]) -> Result<usize, ReservoirFault>
+    ensures counts { HasCounted spots.now (H.now host.old) 2 result }
+    ensures stops { IsCountStop (H.now host.old) 2 (Rose (H.disk_faults host.old) (H.disk_faults host.new)) result }
+    ensures leaves { LeavesLog H.now H.may H.clock H.since H.said H.disk_faults H.out_faults host.old host.new }
 {
     let mut log = FrameLog::new(2);
     match next_entry(&mut log, host) {

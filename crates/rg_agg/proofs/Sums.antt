@@ -90,6 +90,12 @@ wide_less sum number one two =
 pub sum_small : (n : ℕ) (sum : ℤ) → n ≤ 2 ^ 40 → is_sum n sum ≡ true → unsigned_abs sum ≤ 1099511627776000000000000000000000000
 sum_small n sum few is = let small = leb-true (unsigned_abs sum) (n * 1000000000000) is in omega (arith, small)
 
+-- one int more, added within 128 bits to a sum that is within its bound
+pub is_total_added : (n : ℕ) (sum number : ℤ) (values : List Value) (v : Value) → n ≤ 2 ^ 40 → is_sum n sum ≡ true → unsigned_abs number ≤ 1000000000000 → number ≡ number_of v → IsInt v → IsTotal n sum values
+    → IsTotal (n + 1) (to_z w128 (of_z w128 (to_z w128 (of_z w128 sum) +ℤ to_z w128 (of_z w128 number)))) (values ++ v ∷ [])
+is_total_added n sum number values v few bound small is int stands =
+    rw (wide_more sum number (sum_small n sum few bound) (omega (arith, small))) (is_total_more n sum number values v is int stands)
+
 pub square_sum_small : (n : ℕ) (sum : ℤ) → n ≤ 2 ^ 40 → is_square_sum n sum ≡ true → unsigned_abs sum ≤ 1099511627776000000000000000000000000
 square_sum_small n sum few is = let small = leb-true (unsigned_abs sum) (n * 1000000000000000000000000) (and_parts (int_le (pos 0) sum) (nat_le (unsigned_abs sum) (n * 1000000000000000000000000)) is).1 in omega (arith, small)
 

@@ -1,4 +1,5 @@
 use crate::aggregate::Aggregate;
+use crate::amount::amount;
 use crate::fault::{StateFault, Unfit};
 use crate::total::Total;
 use rg_bytes::{ByteReader, Memory};
@@ -60,8 +61,16 @@ impl Aggregate for Sum {
     }
 
     fn add(&mut self, value: &Value) -> Result<(), Memory> {
-        self.total.add(value);
-        Ok(())
+        match amount(value) {
+            Some(number) => {
+                self.total = Total {
+                    count: self.total.count + 1,
+                    sum: self.total.sum + number,
+                };
+                Ok(())
+            }
+            None => unreachable!(),
+        }
     }
 
     fn remove(&mut self, value: &Value) -> Result<(), Unfit> {

@@ -1,7 +1,7 @@
-ghost use Rattle.std.specs.Prelude.{◌≡◌, ◌+◌, ◌<◌, ◌≤◌, ◌^◌, pos, List, [], ◌∷◌, ◌++◌, IfOk, OnOk, OnErr, IsTrue};
+ghost use Rattle.std.specs.Prelude.{◌≡◌, ◌+◌, ◌<◌, ◌≤◌, ◌^◌, pos, List, ◌∷◌, ◌++◌, IfOk, OnOk, OnErr, IsTrue};
 ghost use Rattle.std.specs.Int.{w64, to_be_bytes};
 ghost use Rattle.rg_agg.specs.Held.{is_sum, sum_bytes, total_at, Agrees};
-ghost use Rattle.rg_agg.specs.Stands.{IsInt, IsTotal};
+ghost use Rattle.rg_agg.specs.Stands.{IsTotal};
 ghost use Rattle.rg_bytes.specs.Keeps.{Keeps};
 ghost use Rattle.rg_event.specs.declared.value.Value.{Value};
 
@@ -37,24 +37,6 @@ impl Total {
         Total {
             count: self.count,
             sum: self.sum,
-        }
-    }
-
-    /// Adds an int.
-    pub(crate) fn add(&mut self, value: &Value)
-        requires room { self.old.count < 2 ^ 40 }
-        requires takes { IsInt value.now }
-        ensures ok { (values : List Value) → IsTotal self.old.count self.old.sum values → IsTotal self.new.count self.new.sum (values ++ value.now ∷ []) }
-        ensures size { self.new.count ≡ self.old.count + 1 }
-    {
-        match amount(value) {
-            Some(number) => {
-                *self = Total {
-                    count: self.count + 1,
-                    sum: self.sum + number,
-                };
-            }
-            None => unreachable!(),
         }
     }
 

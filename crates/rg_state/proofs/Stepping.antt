@@ -11,7 +11,7 @@ use Rattle.rg_words.specs.declared.func.Func.{Func}
 use Rattle.rg_state.specs.Kepts.{Seen, unseen, fresh, seen, shown, is_fair, is_idle, is_marked, IsMarked, Stepped}
 use Rattle.rg_state.specs.Rows.{Changed, Suits, Counts, Unfit}
 use Rattle.rg_state.specs.States.{held_of}
-use Rattle.rg_state.specs.Stepping.{Adds, Drops, Refuses, KeptStep}
+use Rattle.rg_state.specs.Stepping.{Adds, Drops, HasRoom, Refuses, MayCome, KeptStep}
 use Rattle.rg_state.specs.declared.key_rows.Kept.{Kept}
 use Rattle.rg_state.specs.declared.one.Refusal.{Refusal}
 use Rattle.rg_state.specs.declared.one.Refusal.TheVariants as refusal
@@ -213,29 +213,43 @@ module _ (func : Func) (value : Value) (a b : Held) (own : func_of a ≡ func) w
   emptied_row : ((values : List Value) → Stands a (value ∷ values) → Stands b values) → size_in b ≡ 0 → Changed func Remove value (Some a) None
   emptied_row ok none = λ values is. none_left b values (ok values is.1) (sym none)
 
--- why a value more is refused, and one fewer
-add_refused : (func : Func) (value : Value) (a b : Held) (cause : Refusal) → Adds value a b (Err cause) → Refuses func Add value (Some a) cause
-add_refused func value a b refusal.Memory is = tt
-add_refused func value a b refusal.Unfit is = (λ values stands. is.unfit refl values stands.1, λ suits. is.causes refl suits.1 suits.2)
-
+-- why one value fewer is refused
 drop_refused : (func : Func) (value : Value) (a b : Held) (cause : Refusal) → Drops value a b (Err cause) → Refuses func Remove value (Some a) cause
 drop_refused func value a b cause is = λ values stands. is.unfit values stands.1
 
--- a state of another function is unfit
-other_refused : (func : Func) (change : Change) (value : Value) (a : Held) → (func_of a ≡ func → ⊥) → Refuses func change value (Some a) refusal.Unfit
-other_refused func Add value a other = (λ values stands few like. other stands.0, λ suits. other suits.0)
-other_refused func Remove value a other = λ values stands. other stands.0
+contrary : (b : Bool) → b ≡ true → b ≡ false → ⊥
+contrary b holds fails = cc
+
+-- a value may come to a state of the function that has room, and to none of another function
+pub may_come : (func : Func) (value : Value) (a : Held) (room : Bool) → func_of a ≡ func → HasRoom value a room → MayCome func value (Some a) room
+may_come func value a room own is = record {
+  suits = λ holds. (own, is.few holds, is.like holds);
+  refuses = λ fails. (λ values stands. is.unfit fails values stands.1, λ suits. is.causes fails suits.1 suits.2);
+}
+
+pub may_not_come : (func : Func) (value : Value) (a : Held) → (func_of a ≡ func → ⊥) → MayCome func value (Some a) false
+may_not_come func value a other = record {
+  suits = λ holds. absurd (contrary false holds refl);
+  refuses = λ fails. (λ values stands few like. other stands.0, λ suits. other suits.0);
+}
 
 -- a row that stays
-pub kept_refused : (func : Func) (change : Change) (value : Value) (old : Kept) → (size_in (held_of old.state) == 0) ≡ false → (func_of (held_of old.state) ≡ func → ⊥) → KeptStep func change value old old (Err refusal.Unfit)
-kept_refused func change value old full other = record { node = refl; stepped = tt; err = refl; refuses = rw (shown_full (held_of old.state) full) (other_refused func change value (held_of old.state) other) }
+pub kept_refused : (func : Func) (value : Value) (old : Kept) → (size_in (held_of old.state) == 0) ≡ false → Refuses func Add value (Some (held_of old.state)) refusal.Unfit → KeptStep func Add value old old (Err refusal.Unfit)
+kept_refused func value old full refuses = record { node = refl; stepped = tt; err = refl; refuses = rw (shown_full (held_of old.state) full) refuses }
 
-pub none_refused : (func : Func) (value : Value) (old : Kept) → (size_in (held_of old.state) == 0) ≡ true → KeptStep func Remove value old old (Err refusal.Unfit)
-none_refused func value old none = record { node = refl; stepped = tt; err = refl; refuses = rw (shown_none (held_of old.state) none) (unfit_none func value) }
+abbrev pub with_state : Kept → AggState → Kept
+with_state old st = record { node = old.node; named = old.named; there = old.there; state = st }
+
+stays : (old : Kept) (st : AggState) → held_of st ≡ held_of old.state → seen (with_state old st) ≡ seen old
+stays old st same = ap (λ held. record { held = shown held; named = old.named; there = old.there }) same
+
+-- a row to which no value came, for want of memory
+pub add_stays : (func : Func) (value : Value) (old : Kept) (st : AggState) → held_of st ≡ held_of old.state → KeptStep func Add value old (with_state old st) (Err refusal.Memory)
+add_stays func value old st same = record { node = refl; stepped = tt; err = stays old st same; refuses = tt }
 
 -- a row that is gone begins anew
 pub kept_begun : (func : Func) (value : Value) (old : Kept) (st : AggState) → is_fair old ≡ true → (size_in (held_of old.state) == 0) ≡ true → Changed func Add value None (Some (held_of st)) → func_of (held_of st) ≡ func → size_in (held_of st) ≡ 1
-    → KeptStep func Add value old (record { node = old.node; named = old.named; there = old.there; state = st }) (Ok tt)
+    → KeptStep func Add value old (with_state old st) (Ok tt)
 kept_begun func value old st fair none changed own size =
     let some : 0 < size_in (held_of st) = omega (arith, size) in
     record {
@@ -248,13 +262,13 @@ kept_begun func value old st fair none changed own size =
 -- what a call on a row's own state does to the row, which is named then
 module _ (func : Func) (value : Value) (old : Kept) (full : (size_in (held_of old.state) == 0) ≡ false) (own : func_of (held_of old.state) ≡ func) where
   module _ (st : AggState) (new : Kept) (same : new.state ≡ st) (node : new.node ≡ old.node) (named : new.named ≡ true) (there : new.there ≡ cond old.named old.there true) (keeps : func_of (held_of st) ≡ func_of (held_of old.state)) where
-    pub kept_added : Adds value (held_of old.state) (held_of st) (Ok tt) → KeptStep func Add value old new (Ok tt)
-    kept_added is =
+    pub kept_added : Suits func Add value (Some (held_of old.state)) → Adds value (held_of old.state) (held_of st) (Ok tt) → KeptStep func Add value old new (Ok tt)
+    kept_added suits is =
         let some : 0 < size_in (held_of st) = omega (arith, is.size) in
         record {
           node = node;
           stepped = stepped_added func value (seen old) (seen new) (held_of old.state) (held_of st) (shown_full (held_of old.state) full) (ap (λ s. shown (held_of s)) same ∙ shown_some (held_of st) some) named there
-              (added_row func value (held_of old.state) (held_of st) own keeps is.ok) (own, is.room, is.like) (keeps ∙ own) is.size;
+              (added_row func value (held_of old.state) (held_of st) own keeps is.ok) suits (keeps ∙ own) is.size;
           err = tt;
           refuses = tt;
         }
@@ -268,15 +282,5 @@ module _ (func : Func) (value : Value) (old : Kept) (full : (size_in (held_of ol
       refuses = tt;
     }
 
-  module _ (st : AggState) (cause : Refusal) where
-    abbrev pub left : Kept
-    left = record { node = old.node; named = old.named; there = old.there; state = st }
-
-    stays : held_of st ≡ held_of old.state → seen left ≡ seen old
-    stays same = ap (λ held. record { held = shown held; named = old.named; there = old.there }) same
-
-    pub add_stays : Adds value (held_of old.state) (held_of st) (Err cause) → KeptStep func Add value old left (Err cause)
-    add_stays is = record { node = refl; stepped = tt; err = stays is.err; refuses = rw (shown_full (held_of old.state) full) (add_refused func value (held_of old.state) (held_of st) cause is) }
-
-    pub take_stays : Drops value (held_of old.state) (held_of st) (Err cause) → KeptStep func Remove value old left (Err cause)
-    take_stays is = record { node = refl; stepped = tt; err = stays is.err; refuses = rw (shown_full (held_of old.state) full) (drop_refused func value (held_of old.state) (held_of st) cause is) }
+  pub take_stays : (st : AggState) (cause : Refusal) → Drops value (held_of old.state) (held_of st) (Err cause) → KeptStep func Remove value old (with_state old st) (Err cause)
+  take_stays st cause is = record { node = refl; stepped = tt; err = stays old st is.err; refuses = rw (shown_full (held_of old.state) full) (drop_refused func value (held_of old.state) (held_of st) cause is) }

@@ -1,5 +1,5 @@
 -- What a call that changes a state, a row or the rows of a key does, by its answer.
-use Rattle.std.specs.Prelude.{◌≡◌, ℕ, ◌+◌, ◌<◌, ◌≤◌, ◌^◌, true, List, ◌∷◌, ◌++◌, [], length, take, Option, Some, Result, IfErr, OnOk, OnErr, IsErrOf, ⊤}
+use Rattle.std.specs.Prelude.{◌≡◌, ℕ, ◌+◌, ◌<◌, ◌≤◌, ◌^◌, Bool, true, false, List, ◌∷◌, ◌++◌, [], length, take, Option, Some, Result, IfErr, OnOk, OnErr, ⊤}
 use Rattle.std.specs.List.{All}
 use Rattle.rg_agg.specs.Held.{Held}
 use Rattle.rg_agg.specs.Standing.{Stands, MayBeginWith, size_in, kind_in, IsLike}
@@ -8,7 +8,7 @@ use Rattle.rg_event.specs.declared.value.Value.{Value}
 use Rattle.rg_words.specs.declared.func.Func.{Func}
 use Rattle.rg_state.specs.Clean.{IsClean}
 use Rattle.rg_state.specs.Kepts.{seen, seen_at, settled, are_sound, OthersKept, IsKeptSame, IsMarked, Stepped}
-use Rattle.rg_state.specs.Rows.{AreLike, IsRefused, Unfit as IsUnfit}
+use Rattle.rg_state.specs.Rows.{AreLike, Suits, IsRefused, Unfit as IsUnfit}
 use Rattle.rg_state.specs.declared.key_rows.Kept.{Kept}
 use Rattle.rg_state.specs.declared.one.Refusal.{Refusal}
 use Rattle.rg_state.specs.declared.one.Refusal.TheVariants.{Memory, Unfit}
@@ -17,15 +17,18 @@ use Rattle.rg_state.specs.declared.table.Change.TheVariants.{Add, Remove}
 
 -- States
 
--- A value comes to the back of what a state keeps. It is refused where there are 2^40 of them, where they are of another kind, and for want of memory,
--- and then the state keeps the same.
-pub record Adds (value : Value) (old new : Held) (result : Result Unit Refusal) : Type 0 where
+-- Whether there is room for a value more in what a state keeps: there are fewer than 2^40, and it is of their kind. A state that stands for so many
+-- values, all of its kind, has room.
+pub record HasRoom (value : Value) (held : Held) (room : Bool) : Type 0 where
+  pub few : room ≡ true → size_in held < 2 ^ 40
+  pub like : room ≡ true → IsLike (kind_in held) value
+  pub unfit : room ≡ false → (values : List Value) → Stands held values → length values < 2 ^ 40 → AreLike value values → ⊥
+  pub causes : room ≡ false → size_in held < 2 ^ 40 → IsLike (kind_in held) value → ⊥
+
+-- A value comes to the back of what a state keeps, or for want of memory the state keeps the same.
+pub record Adds (value : Value) (old new : Held) (result : Result Unit NoMemory) : Type 0 where
   pub ok : OnOk result ((values : List Value) → Stands old values → Stands new (values ++ value ∷ []))
   pub size : OnOk result (size_in new ≡ size_in old + 1)
-  pub room : OnOk result (size_in old < 2 ^ 40)
-  pub like : OnOk result (IsLike (kind_in old) value)
-  pub unfit : IsErrOf result Unfit → (values : List Value) → Stands old values → length values < 2 ^ 40 → AreLike value values → ⊥
-  pub causes : IsErrOf result Unfit → size_in old < 2 ^ 40 → IsLike (kind_in old) value → ⊥
   pub err : OnErr result (new ≡ old)
 
 -- The first value goes. It is refused by a state that stands for no list that begins with it, and then the state keeps the same.
@@ -43,6 +46,11 @@ abbrev pub Refuses : Func → Change → Value → Option Held → Refusal → T
 Refuses func Add value old Memory = ⊤
 Refuses func Add value old Unfit = IsUnfit func Add value old × IsRefused func Add value old
 Refuses func Remove value old refusal = IsUnfit func Remove value old
+
+-- Whether a value may come to a row: it suits the row, or it is refused.
+pub record MayCome (func : Func) (value : Value) (row : Option Held) (may : Bool) : Type 0 where
+  pub suits : may ≡ true → Suits func Add value row
+  pub refuses : may ≡ false → Refuses func Add value row Unfit
 
 -- What a change of a row does: it is a step, or it is refused for its cause, and the row stays.
 pub record KeptStep (func : Func) (change : Change) (value : Value) (old new : Kept) (result : Result Unit Refusal) : Type 0 where

@@ -76,31 +76,20 @@ impl Kept {
         self.there = false;
     }
 
-    /// Adds a value to the row, where its state is the function's. One that is gone begins anew.
-    fn add(&mut self, alloc: Global, func: Func, value: &Value) -> Result<(), Refusal>
+    /// Begins a row that is gone anew, with one value.
+    fn renew(&mut self, alloc: Global, func: Func, value: &Value) -> Result<(), Refusal>
         requires takes { Takes func value.now }
         requires fair { is_fair self.old ≡ true }
+        requires gone { (size_in (held_of self.old.state) == 0) ≡ true }
         ensures fair { is_fair self.new ≡ true }
         ensures step { KeptStep func Change.Add value.now self.old self.new result }
     {
-        if self.state.is_empty() {
-            match first_state(alloc, func, value) {
-                Ok(state) => {
-                    self.state = state;
-                    return Ok(());
-                }
-                Err(_) => return Err(Refusal::Memory),
-            }
-        }
-        if self.state.func() != func {
-            return Err(Refusal::Unfit);
-        }
-        match self.state.add(value) {
-            Ok(()) => {
-                self.name();
+        match first_state(alloc, func, value) {
+            Ok(state) => {
+                self.state = state;
                 Ok(())
             }
-            Err(refusal) => Err(refusal),
+            Err(_) => Err(Refusal::Memory),
         }
     }
 
@@ -181,7 +170,7 @@ impl KeyRows {
         }
     }
 
-    /// Adds a value to the row of a node.
+    /// Adds a value to the row of a node, where its state is the function's. One that is gone begins anew.
     pub(crate) fn add(
         &mut self,
         alloc: Global,
@@ -193,13 +182,33 @@ impl KeyRows {
         ensures count { length self.old.kept.items ≤ length self.new.kept.items }
         ensures step { RowsStep func Change.Add value.now node self.old.kept.items self.new.kept.items result }
     {
-        match self.place(node) {
-            Some(place) => {
-                let kept = &mut self.kept[place];
-                return kept.add(alloc, func, value);
-            }
-            None => {}
+        let place = match self.place(node) {
+            None => return self.begin(alloc, node, func, value),
+            Some(place) => place,
+        };
+        let kept = &mut self.kept[place];
+        if kept.state.is_empty() {
+            return kept.renew(alloc, func, value);
         }
+        if !kept.state.suits(func, value) {
+            return Err(Refusal::Unfit);
+        }
+        match kept.state.add(value) {
+            Ok(()) => {
+                kept.name();
+                Ok(())
+            }
+            Err(_) => Err(Refusal::Memory),
+        }
+    }
+
+    /// Begins the row of a node of which nothing is kept, with one value.
+    fn begin(&mut self, alloc: Global, node: u32, func: Func, value: &Value) -> Result<(), Refusal>
+        requires takes { Takes func value.now }
+        requires free { stands_in self.old.kept.items node ≡ false }
+        ensures count { length self.old.kept.items ≤ length self.new.kept.items }
+        ensures step { RowsStep func Change.Add value.now node self.old.kept.items self.new.kept.items result }
+    {
         let state = match first_state(alloc, func, value) {
             Ok(state) => state,
             Err(_) => return Err(Refusal::Memory),

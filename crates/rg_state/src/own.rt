@@ -6,7 +6,6 @@ ghost use Rattle.rg_state.specs.Rows.{RowStands, Changed, IsOf};
 ghost use Rattle.rg_state.specs.States.{held_of};
 ghost use Rattle.rg_state.specs.Takes.{Takes};
 
-use crate::one::Refusal;
 use crate::state::AggState;
 use crate::table::Change;
 use rg_bytes::Memory;
@@ -24,8 +23,7 @@ pub(crate) fn first_state(alloc: Global, func: Func, value: &Value) -> Result<Ag
     let mut state = AggState::empty(alloc, func);
     match state.add(value) {
         Ok(()) => Ok(state),
-        Err(Refusal::Memory) => Err(Memory),
-        Err(Refusal::Unfit) => unreachable!(),
+        Err(memory) => Err(memory),
     }
 }
 

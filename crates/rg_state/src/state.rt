@@ -1,13 +1,13 @@
-ghost use Rattle.std.specs.Prelude.{◌≡◌, ◌↔◌, IsTrue, ◌<◌, ◌==◌, None, List, [], ◌++◌, IfOk, OnOk, OnErr};
+ghost use Rattle.std.specs.Prelude.{◌≡◌, ◌↔◌, IsTrue, ◌<◌, ◌^◌, ◌==◌, None, Some, List, [], ◌++◌, IfOk, OnOk, OnErr};
 ghost use Rattle.rg_agg.specs.Held.{held_bytes};
-ghost use Rattle.rg_agg.specs.Standing.{Stands, func_of, size_in, kind_in};
+ghost use Rattle.rg_agg.specs.Standing.{Stands, IsLike, func_of, size_in, kind_in};
 ghost use Rattle.rg_event.specs.declared.value.Value.{Value};
 ghost use Rattle.rg_metric.specs.Answers.{answer_of};
 ghost use Rattle.rg_state.specs.States.{held_of, IsFor, IsOfKind};
-ghost use Rattle.rg_state.specs.Stepping.{Adds, Drops};
+ghost use Rattle.rg_state.specs.Stepping.{Adds, Drops, HasRoom, MayCome};
 ghost use Rattle.rg_state.specs.Takes.{Takes};
 
-use crate::one::{Refusal, add_to, keeps_kind, take_from};
+use crate::one::{Refusal, has_room, keeps_kind, take_from};
 use rg_agg::{Aggregate, Avg, Count, First, Last, Sum, SumSq};
 use rg_bytes::Memory;
 use rg_distinct::Distinct;
@@ -158,13 +158,32 @@ impl AggState {
         }
     }
 
-    /// Adds a value at the back. A refusal leaves what it keeps.
-    pub(crate) fn add(&mut self, value: &Value) -> Result<(), Refusal>
-        requires { Takes (func_of (held_of self.old)) value.now }
+    /// Whether a value may be added: it is a state of this function that has room for it.
+    pub(crate) fn suits(&self, func: Func, value: &Value) -> bool
+        ensures { MayCome func value.now (Some (held_of self.now)) result }
+    {
+        if self.func() != func {
+            return false;
+        }
+        self.has_room(value)
+    }
+
+    /// Whether it has room for a value more: it stands for fewer than 2^40, of its kind.
+    fn has_room(&self, value: &Value) -> bool
+        ensures { HasRoom value.now (held_of self.now) result }
+    {
+        each!(self, state => has_room(state, value))
+    }
+
+    /// Adds a value at the back. Where memory runs out it keeps what it kept.
+    pub(crate) fn add(&mut self, value: &Value) -> Result<(), Memory>
+        requires room { size_in (held_of self.old) < 2 ^ 40 }
+        requires takes { Takes (func_of (held_of self.old)) value.now }
+        requires like { IsLike (kind_in (held_of self.old)) value.now }
         ensures func { func_of (held_of self.new) ≡ func_of (held_of self.old) }
         ensures adds { Adds value.now (held_of self.old) (held_of self.new) result }
     {
-        each!(self, state => add_to(state, value))
+        each!(self, state => state.add(value))
     }
 
     /// Takes the first value away. A refusal leaves what it keeps, and comes of a state that stands for

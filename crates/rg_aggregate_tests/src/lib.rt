@@ -10,3 +10,5 @@ mod distinct;
 mod extreme;
 #[cfg(test)]
 mod tally;
+#[cfg(test)]
+mod tried;

@@ -84,9 +84,9 @@ struct Trial<'a> {
     case: Case<'a>,
 }
 
-/// What a run did, and what its stop left.
-#[derive(Drop)]
-struct Ran {
+/// What a run did.
+#[derive(Clone, Copy)]
+struct Did {
     /// The offset below which it said last that all is stored.
     told: u64,
     /// The next offset that it found in the store, where it came to its end and put just what it should.
@@ -94,6 +94,12 @@ struct Ran {
     /// Whether a call that failed ended it.
     is_cut: bool,
     calls: u64,
+}
+
+/// What a run did, and what its stop left.
+#[derive(Drop)]
+struct Ran {
+    did: Did,
     left: MemHost,
 }
 
@@ -165,13 +171,19 @@ fn next_found(case: &Case<'_>, status: Status, put: &str) -> Option<u64> {
     None
 }
 
+fn have_same_bytes(one: &MemHost, other: &MemHost) -> bool {
+    for file in 0..3 {
+        if one.file(file) != other.file(file) {
+            return false;
+        }
+    }
+    true
+}
+
 /// What was found in these files before.
 fn known(seen: &[Left], files: &MemHost) -> Option<u64> {
     for left in seen {
-        if left.files.file(0) == files.file(0)
-            && left.files.file(1) == files.file(1)
-            && left.files.file(2) == files.file(2)
-        {
+        if have_same_bytes(&left.files, files) {
             return Some(left.next);
         }
     }
@@ -182,13 +194,31 @@ fn new_host(alloc: Global) -> Result<MemHost, Fail> {
     Ok(MemHost::new(alloc, Image::new(alloc), Vec::new(alloc))?)
 }
 
+fn words_of(alloc: Global, words: &[&str]) -> Result<Vec<String>, Fail> {
+    let mut owned = Vec::new(alloc);
+    for word in words {
+        owned.push(String::from_str(alloc, word)?)?;
+    }
+    Ok(owned)
+}
+
+/// What a run of this case that put this did, on a host on which so many calls were made.
+fn done_by(case: &Case<'_>, status: Status, put: &str, calls: u64) -> Did {
+    Did {
+        told: told(put),
+        found: next_found(case, status, put),
+        is_cut: status == Status::Write || status == Status::Disk,
+        calls,
+    }
+}
+
 impl<'a> Trial<'a> {
     fn new(alloc: Global, case: Case<'a>) -> Result<Trial<'a>, Fail> {
-        let mut words = Vec::new(alloc);
-        for word in ["run", "plan", "store"] {
-            words.push(String::from_str(alloc, word)?)?;
-        }
-        Ok(Trial { alloc, words, case })
+        Ok(Trial {
+            alloc,
+            words: words_of(alloc, &["run", "plan", "store"])?,
+            case,
+        })
     }
 
     /// Runs over this host up to so many calls.
@@ -202,31 +232,38 @@ impl<'a> Trial<'a> {
             stop,
             pick,
         )?;
-        let ran = Ran {
-            told: told(text(&host)),
-            found: next_found(&self.case, status, text(&host)),
-            is_cut: status == Status::Write || status == Status::Disk,
-            calls: host.calls(),
-            left,
-        };
+        let did = done_by(&self.case, status, text(&host), host.calls());
         drop(host);
-        Ok(ran)
+        Ok(Ran { did, left })
+    }
+
+    /// Runs over these files up to so many calls.
+    fn run_over(&self, files: &MemHost, stop: u64, pick: Pick) -> Result<Ran, Fail> {
+        self.run(files.stop_image(0, Pick::Old)?, stop, pick)
+    }
+
+    /// Runs over a new store up to so many calls.
+    fn run_anew(&self, stop: u64, pick: Pick) -> Result<Ran, Fail> {
+        self.run(new_host(self.alloc)?, stop, pick)
     }
 
     /// The next offset that a run to its end finds in these files, where it puts what it should.
     fn next_in(&self, files: &MemHost) -> Result<Option<u64>, Fail> {
-        Ok(
-            self.run(files.stop_image(0, Pick::Old)?, u64::MAX, Pick::New)?
-                .found,
-        )
+        let ran = self.run_over(files, u64::MAX, Pick::New)?;
+        let found = ran.did.found;
+        drop(ran);
+        Ok(found)
     }
 
     /// Whether a run over these files, whose next offset is this, is stopped again after so many calls,
     /// and the next one then goes on with all that is said to be stored.
     fn goes_on_again(&self, files: &MemHost, next: u64, again: u64) -> Result<bool, Fail> {
-        let ran = self.run(files.stop_image(0, Pick::Old)?, again, Pick::Torn(1))?;
-        Ok(match self.next_in(&ran.left)? {
-            Some(found) => next <= found && ran.told <= found,
+        let ran = self.run_over(files, again, Pick::Torn(1))?;
+        let told = ran.did.told;
+        let found = self.next_in(&ran.left);
+        drop(ran);
+        Ok(match found? {
+            Some(found) => next <= found && told <= found,
             None => false,
         })
     }
@@ -245,16 +282,24 @@ impl<'a> Trial<'a> {
         Ok(Some(next))
     }
 
+    /// The same, of files that weren't seen before.
+    fn next_unseen(&self, seen: &mut Vec<Left>, files: MemHost) -> Result<Option<u64>, Fail> {
+        let Some(next) = self.next_again(&files)? else {
+            return Ok(None);
+        };
+        seen.push(Left { files, next })?;
+        Ok(Some(next))
+    }
+
     /// The same, of files of which some were seen before.
     fn next_left(&self, seen: &mut Vec<Left>, files: MemHost) -> Result<Option<u64>, Fail> {
-        if let Some(next) = known(seen, &files) {
-            return Ok(Some(next));
+        match known(seen, &files) {
+            Some(next) => {
+                drop(files);
+                Ok(Some(next))
+            }
+            None => self.next_unseen(seen, files),
         }
-        let found = self.next_again(&files)?;
-        if let Some(next) = found {
-            seen.push(Left { files, next })?;
-        }
-        Ok(found)
     }
 
     /// Whether a run over a new store is stopped after just so many calls of so many, and the runs over
@@ -266,36 +311,59 @@ impl<'a> Trial<'a> {
         stop: u64,
         pick: Pick,
     ) -> Result<bool, Fail> {
-        let ran = self.run(new_host(self.alloc)?, stop, pick)?;
-        let is_whole = ran.found == Some(0);
-        let is_there = ran.calls == stop && ran.is_cut != is_whole && is_whole == (stop == calls);
-        let told = ran.told;
-        Ok(match self.next_left(seen, ran.left)? {
-            Some(next) => is_there && told <= next,
+        let Ran { did, left } = self.run_anew(stop, pick)?;
+        let is_whole = did.found == Some(0);
+        let is_there = did.calls == stop && did.is_cut != is_whole && is_whole == (stop == calls);
+        Ok(match self.next_left(seen, left)? {
+            Some(next) => is_there && did.told <= next,
             None => false,
         })
     }
 
-    /// The number of calls of a run over a new store.
-    fn calls(&self) -> Result<u64, Fail> {
-        Ok(self.run(new_host(self.alloc)?, u64::MAX, Pick::New)?.calls)
+    /// The same, whatever is left of the bytes that were pending.
+    fn goes_on_always(&self, seen: &mut Vec<Left>, calls: u64, stop: u64) -> Result<bool, Fail> {
+        for pick in &PICKS {
+            if !self.goes_on(seen, calls, stop, *pick)? {
+                return Ok(false);
+            }
+        }
+        Ok(true)
     }
 
-    /// A number of calls after which a run, stopped so, isn't followed by runs that go on as they should.
-    /// Of the numbers from 0 to that of all calls, it looks at one part of so many.
+    /// The number of calls of a run over a new store.
+    fn calls(&self) -> Result<u64, Fail> {
+        let ran = self.run_anew(u64::MAX, Pick::New)?;
+        let calls = ran.did.calls;
+        drop(ran);
+        Ok(calls)
+    }
+
+    /// A number of calls of this part of the numbers up to that of all calls, each of which has so many, after which
+    /// a run, stopped so, isn't followed by runs that go on as they should.
+    fn lost_in(
+        &self,
+        seen: &mut Vec<Left>,
+        calls: u64,
+        part: u64,
+        size: u64,
+    ) -> Result<Option<u64>, Fail> {
+        for stop in 0..=calls {
+            let is_asked = stop.checked_div(size) == Some(part);
+            if is_asked && !self.goes_on_always(seen, calls, stop)? {
+                return Ok(Some(stop));
+            }
+        }
+        Ok(None)
+    }
+
+    /// Such a number. Of the numbers from 0 to that of all calls, it looks at one part of so many.
     fn lost(&self, part: u64, parts: u64) -> Result<Option<u64>, Fail> {
         let calls = self.calls()?;
         let size = calls.checked_div(parts).unwrap_or(0).saturating_add(1);
         let mut seen = Vec::new(self.alloc);
-        for stop in 0..=calls {
-            for pick in PICKS {
-                let is_asked = stop.checked_div(size) == Some(part);
-                if is_asked && !self.goes_on(&mut seen, calls, stop, pick)? {
-                    return Ok(Some(stop));
-                }
-            }
-        }
-        Ok(None)
+        let lost = self.lost_in(&mut seen, calls, part, size);
+        drop(seen);
+        lost
     }
 
     /// Whether two runs, of which the first is stopped so, put what they should.
@@ -333,54 +401,66 @@ impl<'a> Trial<'a> {
     }
 }
 
-/// Each stop of this part of so many is gone on from, whatever is left of the bytes that were pending.
+/// Of each of these cases each stop of this part of so many is gone on from, whatever is left of the bytes that were
+/// pending.
 fn assert_goes_on(
     rt: &(impl Abort + AllocGlobal),
-    case: Case<'_>,
+    cases: &[Case<'_>],
     part: u64,
     parts: u64,
 ) -> Result<(), Fail> {
-    let lost = Trial::new(rt.alloc(), case)?.lost(part, parts)?;
-    assert_eq!(rt; lost, None);
+    for case in cases {
+        let trial = Trial::new(rt.alloc(), *case)?;
+        let lost = trial.lost(part, parts);
+        drop(trial);
+        assert_eq!(rt; lost?, None);
+    }
+    Ok(())
+}
+
+/// Of each of these cases two runs put what they should, wherever the first one is stopped.
+fn assert_put_both(rt: &(impl Abort + AllocGlobal), cases: &[Case<'_>]) -> Result<(), Fail> {
+    for case in cases {
+        let trial = Trial::new(rt.alloc(), *case)?;
+        let wrong = trial.wrong();
+        drop(trial);
+        assert_eq!(rt; wrong?, None);
+    }
     Ok(())
 }
 
 #[test]
 fn a_run_goes_on_from_each_early_stop(rt: HostRuntime) -> Result<(), Fail> {
-    assert_goes_on(&rt, PAYMENTS, 0, 2)
+    assert_goes_on(&rt, &[PAYMENTS], 0, 2)
 }
 
 #[test]
 fn a_run_goes_on_from_each_late_stop(rt: HostRuntime) -> Result<(), Fail> {
-    assert_goes_on(&rt, PAYMENTS, 1, 2)
+    assert_goes_on(&rt, &[PAYMENTS], 1, 2)
 }
 
 #[test]
 fn a_run_with_control_lines_goes_on_from_each_stop_of_its_first_third(
     rt: HostRuntime,
 ) -> Result<(), Fail> {
-    assert_goes_on(&rt, CONTROLLED, 0, 3)
+    assert_goes_on(&rt, &[CONTROLLED], 0, 3)
 }
 
 #[test]
 fn a_run_with_control_lines_goes_on_from_each_stop_of_its_second_third(
     rt: HostRuntime,
 ) -> Result<(), Fail> {
-    assert_goes_on(&rt, CONTROLLED, 1, 3)
+    assert_goes_on(&rt, &[CONTROLLED], 1, 3)
 }
 
 #[test]
 fn a_run_with_control_lines_goes_on_from_each_stop_of_its_last_third(
     rt: HostRuntime,
 ) -> Result<(), Fail> {
-    assert_goes_on(&rt, CONTROLLED, 2, 3)
+    assert_goes_on(&rt, &[CONTROLLED], 2, 3)
 }
 
 #[test]
 fn two_runs_put_what_they_should(rt: HostRuntime) -> Result<(), Fail> {
-    for case in [PAYMENTS, CONTROLLED] {
-        let wrong = Trial::new(rt.alloc(), case)?.wrong()?;
-        assert_eq!(rt; wrong, None);
-    }
-    Ok(())
+    assert_put_both(&rt, &[PAYMENTS, CONTROLLED])
 }

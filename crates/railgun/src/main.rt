@@ -75,15 +75,6 @@ fn run_on(rt: &HostRuntime, words: &[String]) -> Status {
     status
 }
 
-/// Runs the program on its words. Words that are no text are no form of a command.
-fn start(rt: &HostRuntime) -> Status {
-    match words(rt) {
-        Ok(words) => run_on(rt, &words),
-        Err(error) if error.kind() == io::ErrorKind::OutOfMemory => Status::Memory,
-        Err(_) => run_on(rt, &[]),
-    }
-}
-
 /// A file or stream, by its name, that failed for this reason.
 fn named(name: &str, error: Option<io::Error>) -> Option<(&str, io::Error)> {
     match error {
@@ -99,6 +90,12 @@ fn tell(rt: &HostRuntime, report: Report) {
     }
 }
 
+/// Runs the program on its words. Words that are no text are no form of a command.
 fn main(rt: HostRuntime) -> ExitCode {
-    ExitCode::from(start(&rt).number())
+    let status = match words(&rt) {
+        Ok(words) => run_on(&rt, &words),
+        Err(error) if error.kind() == io::ErrorKind::OutOfMemory => Status::Memory,
+        Err(_) => run_on(&rt, &[]),
+    };
+    ExitCode::from(status.number())
 }

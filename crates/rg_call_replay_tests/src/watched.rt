@@ -1,7 +1,9 @@
-use super::replayed::{REPLAY, replay};
-use super::setting::{PAYMENTS, SMALL, Setting, THREE, TOTALS, failing, plan_of, sound, status_on};
+use super::setting::{
+    Call, REPLAY, REPLAY_THREE, RUN, RUN_THREE, left_by, run_all, status_on, text_behind,
+};
 use rg_host::{Failed, Host, MemHost};
 use std::alloc::Global;
+use std::process::Abort;
 use std::test::Fail;
 
 /// A host in memory that is read alone and notes how. Another process commits to its log: it opens the gate
@@ -119,84 +121,139 @@ impl Host for Watched {
     }
 }
 
-/// What a replay by this plan puts.
-fn replayed_on(alloc: Global, plan: &[u8], host: &mut Watched) -> Result<String, Fail> {
+/// A call on this host puts what is wanted behind what was put before, and ends so.
+fn assert_watched(
+    rt: &(impl Abort + AllocGlobal),
+    call: &Call<'_>,
+    host: &mut Watched,
+) -> Result<(), Fail> {
     let before = host.inner.output().len();
-    let _ = status_on(alloc, &replay(&REPLAY, plan), host)?;
-    let put = host.inner.output().get(before..).unwrap_or(b"");
-    Ok(String::from_utf8(put.to_vec(alloc)?)?)
+    let status = status_on(rt.alloc(), call, host)?;
+    assert_eq!(rt;
+        (text_behind(&host.inner, before), status),
+        (call.wanted, call.ends)
+    );
+    Ok(())
 }
 
+/// Each of these calls, one after the other, does so.
+fn assert_all_watched(
+    rt: &(impl Abort + AllocGlobal),
+    calls: &[Call<'_>],
+    host: &mut Watched,
+) -> Result<(), Fail> {
+    for call in calls {
+        assert_watched(rt, call, host)?;
+    }
+    Ok(())
+}
+
+/// A run over a fourth payment.
+const RUN_FOURTH: Call<'static> = Call {
+    words: &["run", "plan", "store", "3"],
+    input: b"300001,c1,m1,7\n",
+    ..RUN
+};
+
 /// The store of three payments, to which a fourth one is committed where its end was read.
-fn store_in_use(alloc: Global, plan: &[u8]) -> Result<Watched, Fail> {
-    let mut host = failing(alloc, &[])?;
-    let _ = status_on(alloc, &sound(plan, THREE), &mut host)?;
+fn store_in_use(alloc: Global) -> Result<Watched, Fail> {
+    let mut host = left_by(alloc, &[RUN_THREE])?;
     let end = host.file(2).len().saturating_sub(1) as u64;
-    let fourth = Setting {
-        words: &["run", "plan", "store", "3"],
-        ..sound(plan, b"300001,c1,m1,7\n")
-    };
-    let _ = status_on(alloc, &fourth, &mut host)?;
-    Ok(Watched::new(host, end))
+    match run_all(alloc, &[RUN_FOURTH], &mut host) {
+        Ok(()) => Ok(Watched::new(host, end)),
+        Err(fail) => Err(fail),
+    }
+}
+
+/// A replay of all four payments.
+const REPLAY_FOUR: Call<'static> = Call {
+    wanted: "0 ok 1 100\n1 ok 2 300\n2 ok 2 250\n3 ok 3 257\ndone 4 4\n",
+    ..REPLAY
+};
+
+/// A replay of this store reads the gate that is its end once, nothing behind it, and no slot; the next one goes on
+/// behind it.
+fn assert_reads_to_its_end(
+    rt: &(impl Abort + AllocGlobal),
+    host: &mut Watched,
+) -> Result<(), Fail> {
+    assert_all_watched(rt, &[REPLAY_THREE], host)?;
+    assert!(rt; host.looks == 1 && host.others == 0);
+    assert_all_watched(rt, &[REPLAY_FOUR], host)
 }
 
 #[test]
 fn a_replay_reads_the_log_up_to_the_end_that_it_found(rt: HostRuntime) -> Result<(), Fail> {
-    let alloc = rt.alloc();
-    let plan = plan_of(alloc, TOTALS, PAYMENTS, SMALL)?;
-    let mut host = store_in_use(alloc, plan.as_bytes())?;
-    let three = replayed_on(alloc, plan.as_bytes(), &mut host)?;
-    assert_eq!(rt;
-        three.as_str(),
-        "0 ok 1 100\n1 ok 2 300\n2 ok 2 250\ndone 3 3\n"
-    );
-    // the gate that is the end was read once, nothing behind it, and no slot
-    assert!(rt; host.looks == 1 && host.others == 0);
-    let four = replayed_on(alloc, plan.as_bytes(), &mut host)?;
-    assert_eq!(rt;
-        four.as_str(),
-        "0 ok 1 100\n1 ok 2 300\n2 ok 2 250\n3 ok 3 257\ndone 4 4\n"
-    );
-    Ok(())
+    let mut host = store_in_use(rt.alloc())?;
+    let done = assert_reads_to_its_end(&rt, &mut host);
+    drop(host);
+    done
 }
 
 /// How many payments have more than 65,536 bytes of replies, and fewer than twice as many.
 const MANY: u64 = 2600;
 
-/// So many payments of a million millions each.
-fn many_payments(alloc: Global) -> Result<String, Fail> {
-    let mut input = String::new(alloc);
+/// Adds so many payments of a million millions each.
+fn write_payments(input: &mut String) -> Result<(), Fail> {
     for time in 0..MANY {
         write!(input, "{time},c1,m1,1000000000000\n")?;
     }
-    Ok(input)
+    Ok(())
 }
 
-/// What their replay puts.
-fn many_replies(alloc: Global) -> Result<String, Fail> {
-    let mut replies = String::new(alloc);
+/// Adds what their replay puts.
+fn write_replies(replies: &mut String) -> Result<(), Fail> {
     for offset in 0..MANY {
         let count = offset.saturating_add(1);
         write!(replies, "{offset} ok {count} {count}000000000000\n")?;
     }
     write!(replies, "done {MANY} {MANY}\n")?;
-    Ok(replies)
+    Ok(())
+}
+
+/// A host with the store of so many payments.
+fn store_of_many(alloc: Global) -> Result<Watched, Fail> {
+    let mut input = String::new(alloc);
+    write_payments(&mut input)?;
+    let run = Call {
+        settings: "",
+        input: input.as_bytes(),
+        ..RUN
+    };
+    let left = left_by(alloc, &[run]);
+    drop(input);
+    Ok(Watched::new(left?, u64::MAX))
+}
+
+/// A replay on this host puts these lines together, by two puts.
+fn assert_put_together(
+    rt: &(impl Abort + AllocGlobal),
+    replies: &str,
+    host: &mut Watched,
+) -> Result<(), Fail> {
+    let again = Call {
+        settings: "",
+        wanted: replies,
+        ..REPLAY
+    };
+    assert_watched(rt, &again, host)?;
+    assert!(rt; replies.len() > 65_536 && host.puts == 2);
+    Ok(())
+}
+
+/// The same of those of many payments.
+fn assert_many_together(rt: &(impl Abort + AllocGlobal), host: &mut Watched) -> Result<(), Fail> {
+    let mut replies = String::new(rt.alloc());
+    write_replies(&mut replies)?;
+    let done = assert_put_together(rt, replies.as_str(), host);
+    drop(replies);
+    done
 }
 
 #[test]
 fn many_replies_are_put_together(rt: HostRuntime) -> Result<(), Fail> {
-    let alloc = rt.alloc();
-    let plan = plan_of(alloc, TOTALS, PAYMENTS, "")?;
-    let mut host = failing(alloc, &[])?;
-    let payments = many_payments(alloc)?;
-    let _ = status_on(
-        alloc,
-        &sound(plan.as_bytes(), payments.as_bytes()),
-        &mut host,
-    )?;
-    let mut watched = Watched::new(host, u64::MAX);
-    let text = replayed_on(alloc, plan.as_bytes(), &mut watched)?;
-    assert!(rt; text.as_str() == many_replies(alloc)?.as_str() && text.len() > 65_536);
-    assert_eq!(rt; watched.puts, 2);
-    Ok(())
+    let mut host = store_of_many(rt.alloc())?;
+    let done = assert_many_together(&rt, &mut host);
+    drop(host);
+    done
 }

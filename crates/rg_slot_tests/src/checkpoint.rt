@@ -1,15 +1,15 @@
-ghost use Rattle.std.specs.Prelude.{◌≡◌, ◌<◌, IfOk, true};
+ghost use Rattle.std.specs.Prelude.{◌≡◌, ◌<◌, true};
 ghost use Rattle.rg_checkpoint.specs.Slots.{IsKeep};
 
-use crate::slots::store;
+use crate::slots::{assert_none, assert_so, attach, store};
 use rg_bytes::Memory;
 use rg_checkpoint::{
-    Checkpoint, CheckpointFault, Key, SlotFault, Slots, Spot, Texts, decode_checkpoint,
-    encode_checkpoint,
+    Checkpoint, CheckpointFault, Key, SlotFault, Slots, Spot, Texts, apply_changes,
+    decode_checkpoint, encode_changes, encode_checkpoint,
 };
 use rg_event::{Bytes, Value};
 use rg_host::{Host, MemHost, Pick};
-use rg_state::{Change, Func, MemTable, Table, TableFault};
+use rg_state::{Change, Func, MemTable, Table};
 use std::alloc::Global;
 use std::test::Fail;
 
@@ -25,8 +25,10 @@ pub(crate) const PAYLOAD: [u8; 71] = [
 /// The place of the count's last byte.
 const COUNT: usize = 17;
 
-/// The places of the last bytes of the row's node and of its state's count.
+/// The places of the last bytes of the row's node, of its key and of its state's count.
 const NODE: usize = 53;
+
+const KEY: usize = 61;
 
 const VALUES: usize = 70;
 
@@ -35,10 +37,16 @@ const ROW: usize = 50;
 
 const ROWS: usize = 49;
 
+/// The keys of two cards.
+pub(crate) const C1: &[u8] = b"\x03\x02c1";
+
+pub(crate) const C2: &[u8] = b"\x03\x02c2";
+
 /// A list of one text.
-pub(crate) fn texts(alloc: Global, text: &[u8]) -> Result<Texts, Memory> {
+fn texts(alloc: Global, text: &[u8]) -> Result<Texts, Memory> {
+    let text = Bytes::from_slice(alloc, text)?;
     let mut texts = Texts::new(alloc);
-    texts.push(Bytes::from_slice(alloc, text)?)?;
+    texts.push(text)?;
     Ok(texts)
 }
 
@@ -51,143 +59,236 @@ fn with_byte(place: usize, byte: u8) -> [u8; 71]
     bytes
 }
 
-/// Whether a payload is refused as none.
-fn is_refused(alloc: Global, payload: &[u8]) -> bool {
-    matches!(
-        decode_checkpoint(alloc, payload),
-        Err(CheckpointFault::BadCheckpoint)
-    )
+/// Counts an event of the card of this key, or takes one away.
+fn count(alloc: Global, table: &mut MemTable, key: &[u8], change: Change) -> Result<(), Fail> {
+    let key = Key::from(key.to_vec(alloc)?);
+    let value = Value::Flag(true);
+    let done = table.change(0, &key, Func::Count, change, &value);
+    drop(value);
+    drop(key);
+    Ok(done?)
 }
 
-/// A table of the count of two events.
-pub(crate) fn counted(alloc: Global) -> Result<MemTable, Fail> {
-    let mut table = MemTable::new(alloc);
-    let key = Key::from(b"\x03\x02c1".to_vec(alloc)?);
-    for _ in 0..2u32 {
-        table.change(0, &key, Func::Count, Change::Add, &Value::Flag(true))?;
+fn count_all(alloc: Global, table: &mut MemTable, changes: &[(&[u8], Change)]) -> Result<(), Fail> {
+    for (key, change) in changes {
+        count(alloc, table, key, *change)?;
     }
-    Ok(table)
+    Ok(())
 }
 
 /// The spot of the first event.
-pub(crate) const SPOT: Spot = Spot {
+const SPOT: Spot = Spot {
     place: 57,
     index: 0,
     number: 0,
 };
 
-/// Writes a checkpoint of two events, these queries and a table behind what is there.
-fn write(queries: &Texts, table: &mut MemTable, out: &mut Vec<u8>) -> Result<(), TableFault> {
-    encode_checkpoint(queries, 2, &[SPOT], table, out)
+/// Writes a checkpoint of two events of a table.
+fn write_base(alloc: Global, table: &mut MemTable, out: &mut Vec<u8>) -> Result<(), Fail> {
+    let queries = texts(alloc, b"q")?;
+    let done = encode_checkpoint(&queries, 2, &[SPOT], table, out);
+    drop(queries);
+    Ok(done?)
 }
 
-/// The byte `x` and a checkpoint behind it.
-fn written(alloc: Global) -> Result<Vec<u8>, Fail> {
-    let queries = texts(alloc, b"q")?;
-    let mut table = counted(alloc)?;
+/// Counts two events of the card `c1`, and writes a checkpoint of them, or where there are changes these of the
+/// checkpoint of three events.
+fn write(
+    alloc: Global,
+    table: &mut MemTable,
+    changes: Option<&[(&[u8], Change)]>,
+    out: &mut Vec<u8>,
+) -> Result<(), Fail> {
+    count_all(alloc, table, &[(C1, Change::Add), (C1, Change::Add)])?;
+    match changes {
+        None => write_base(alloc, table, out),
+        Some(changes) => {
+            table.mark();
+            count_all(alloc, table, changes)?;
+            Ok(encode_changes(3, &[SPOT], table, out)?)
+        }
+    }
+}
+
+/// The byte `x`, and that behind it.
+pub(crate) fn written(alloc: Global, changes: Option<&[(&[u8], Change)]>) -> Result<Vec<u8>, Fail> {
     let mut out = b"x".to_vec(alloc)?;
-    write(&queries, &mut table, &mut out)?;
-    Ok(out)
+    let mut table = MemTable::new(alloc);
+    let done = write(alloc, &mut table, changes, &mut out);
+    drop(table);
+    match done {
+        Ok(()) => Ok(out),
+        Err(fail) => Err(fail),
+    }
 }
 
 /// Whether the first byte is `x`, and the others are these.
-pub(crate) fn is_behind_x(bytes: &[u8], others: &[u8]) -> bool {
+fn is_behind_x(bytes: &[u8], others: &[u8]) -> bool {
     bytes.get(..1) == Some(b"x".as_slice()) && bytes.get(1..) == Some(others)
+}
+
+/// Whether that is written so.
+pub(crate) fn is_written(
+    alloc: Global,
+    changes: Option<&[(&[u8], Change)]>,
+    want: &[u8],
+) -> Result<bool, Fail> {
+    let out = written(alloc, changes)?;
+    Ok(is_behind_x(&out, want))
 }
 
 #[test]
 fn a_checkpoint_is_written_as_the_format_says(rt: HostRuntime) -> Result<(), Fail> {
-    let out = written(rt.alloc())?;
-    let is_written = is_behind_x(&out, &PAYLOAD);
-    drop(out);
-    assert!(rt; is_written);
-    Ok(())
+    assert_so(&rt, is_written(rt.alloc(), None, &PAYLOAD))
 }
 
-/// Whether it is of two events, of these queries, and has that spot.
-fn is_of_two(checkpoint: &Checkpoint, queries: &Texts) -> bool {
-    checkpoint.count == 2
+/// Whether it is of so many events, of these queries, and has that spot.
+fn is_of(checkpoint: &Checkpoint, queries: &Texts, count: u64) -> bool {
+    checkpoint.count == count
         && checkpoint.queries.as_slice() == queries.as_slice()
         && checkpoint.spots.as_slice() == [SPOT].as_slice()
 }
 
-/// Whether the one row of a checkpoint is of node 0 and the card `c1`.
-fn has_that_row(checkpoint: Checkpoint) -> bool {
+/// Whether the one row of a checkpoint is of node 0 and this key.
+fn has_row(checkpoint: Checkpoint, key: &[u8]) -> bool {
     match checkpoint.rows.into_vec().as_slice() {
-        [row] => row.node == 0 && row.key.as_slice() == b"\x03\x02c1".as_slice(),
+        [row] => row.node == 0 && row.key.as_slice() == key,
         _ => false,
     }
 }
 
+fn apply_all(
+    alloc: Global,
+    changes: &[&[u8]],
+    checkpoint: &mut Checkpoint,
+) -> Result<(), CheckpointFault> {
+    for payload in changes {
+        apply_changes(alloc, payload, checkpoint)?;
+    }
+    Ok(())
+}
+
+/// The checkpoint of two payments, with these changes.
+fn read(alloc: Global, changes: &[&[u8]]) -> Result<Checkpoint, CheckpointFault> {
+    let mut checkpoint = decode_checkpoint(alloc, &PAYLOAD)?;
+    match apply_all(alloc, changes, &mut checkpoint) {
+        Ok(()) => Ok(checkpoint),
+        Err(fault) => Err(fault),
+    }
+}
+
+/// Whether that is of so many payments, of the query `q`, and has that spot and the row of this key.
+pub(crate) fn reads(
+    alloc: Global,
+    changes: &[&[u8]],
+    count: u64,
+    key: &[u8],
+) -> Result<bool, Fail> {
+    let checkpoint = read(alloc, changes)?;
+    let is_of = match texts(alloc, b"q") {
+        Ok(queries) => is_of(&checkpoint, &queries, count),
+        Err(_) => false,
+    };
+    let has_row = has_row(checkpoint, key);
+    Ok(is_of && has_row)
+}
+
 #[test]
 fn a_checkpoint_is_read_back(rt: HostRuntime) -> Result<(), Fail> {
-    let queries = texts(rt.alloc(), b"q")?;
-    let checkpoint = decode_checkpoint(rt.alloc(), &PAYLOAD)?;
-    let is_of_two = is_of_two(&checkpoint, &queries);
-    let has_that_row = has_that_row(checkpoint);
-    assert!(rt; is_of_two && has_that_row);
-    Ok(())
+    assert_so(&rt, reads(rt.alloc(), &[], 2, C1))
 }
 
-/// Whether the first bytes of the payload and one more are refused as none.
-fn is_refused_up_to(alloc: Global, end: usize) -> Result<bool, Fail> {
+/// Why a payload is refused, where it is.
+fn fault_of(alloc: Global, payload: &[u8]) -> Option<CheckpointFault> {
+    decode_checkpoint(alloc, payload).err()
+}
+
+const BAD: Option<CheckpointFault> = Some(CheckpointFault::BadCheckpoint);
+
+/// Why the first bytes of the payload and one more are refused, where they are.
+fn fault_up_to(alloc: Global, end: usize) -> Result<Option<CheckpointFault>, Memory> {
     let mut longer = PAYLOAD.to_vec(alloc)?;
     longer.push(0)?;
-    Ok(is_refused(alloc, longer.get(..end).unwrap_or(b"")))
+    Ok(fault_of(alloc, longer.get(..end).unwrap_or(b"")))
+}
+
+/// The length of the first front that is taken for the payload and isn't it, or the other way round, if there is one.
+fn other_end(alloc: Global) -> Result<Option<usize>, Fail> {
+    for end in 0..73 {
+        let want = if end == 71 { None } else { BAD };
+        if fault_up_to(alloc, end)? != want {
+            return Ok(Some(end));
+        }
+    }
+    Ok(None)
 }
 
 #[test]
-fn what_is_no_base_payload_is_refused(rt: HostRuntime) -> Result<(), Fail> {
-    for end in 0..73 {
-        let is_refused = is_refused_up_to(rt.alloc(), end)?;
-        assert!(rt; is_refused == (end != 71), "at {end}");
-    }
-    let tag_of_a_change = is_refused(rt.alloc(), &with_byte(0, 0x44));
-    let no_values = is_refused(rt.alloc(), &with_byte(VALUES, 0));
-    let another_node = decode_checkpoint(rt.alloc(), &with_byte(NODE, 9)).is_ok();
-    assert!(rt; tag_of_a_change && no_values && another_node);
-    Ok(())
+fn what_is_longer_or_shorter_than_a_base_payload_is_refused(rt: HostRuntime) -> Result<(), Fail> {
+    assert_none(&rt, other_end(rt.alloc()))
 }
 
-/// A payload with this row behind its own.
-fn with_row(alloc: Global, payload: [u8; 71], row: &[u8]) -> Result<Vec<u8>, Memory> {
-    let mut bytes = Vec::from_slice(alloc, &payload)?;
-    bytes.extend_from_slice(row)?;
-    Ok(bytes)
+/// Why the payload is refused, where it is, with a second row of which this is the last byte of its key, behind one
+/// of this node.
+fn fault_of_two(alloc: Global, node: u8, key: u8) -> Result<Option<CheckpointFault>, Memory> {
+    let mut first = with_byte(ROWS, 2);
+    first[NODE] = node;
+    let second = with_byte(KEY, key);
+    let mut bytes = Vec::from_slice(alloc, &first)?;
+    bytes.extend_from_slice(&second[ROW..])?;
+    Ok(fault_of(alloc, &bytes))
+}
+
+/// Whether the same row twice and one that falls are refused, and one that rises isn't.
+fn rows_rise(alloc: Global) -> Result<bool, Fail> {
+    let is_twice = fault_of_two(alloc, 0, b'1')? == BAD;
+    let is_falling = fault_of_two(alloc, 1, b'1')? == BAD;
+    Ok(is_twice && is_falling && fault_of_two(alloc, 0, b'2')?.is_none())
 }
 
 #[test]
 fn rows_that_do_not_rise_are_refused(rt: HostRuntime) -> Result<(), Fail> {
-    let alloc = rt.alloc();
-    let two = with_byte(ROWS, 2);
-    let twice = with_row(alloc, two, &PAYLOAD[ROW..])?;
-    let mut higher = two;
-    higher[NODE] = 1;
-    let falling = with_row(alloc, higher, &PAYLOAD[ROW..])?;
-    assert!(rt; is_refused(alloc, &twice) && is_refused(alloc, &falling));
-    let another_key = with_byte(61, b'2');
-    let rising = with_row(alloc, two, &another_key[ROW..])?;
-    assert!(rt; decode_checkpoint(alloc, &rising).is_ok());
-    Ok(())
+    assert_so(&rt, rows_rise(rt.alloc()))
+}
+
+/// The payload with this byte at each place from one to another.
+fn with_bytes(from: usize, to: usize, byte: u8) -> [u8; 71] {
+    let mut bytes = PAYLOAD;
+    for place in from..to {
+        if let Some(old) = bytes.get_mut(place) {
+            *old = byte;
+        }
+    }
+    bytes
+}
+
+/// Places, a byte at each of them, and why the payload is refused with it.
+const OTHER_BYTES: [(usize, usize, u8, Option<CheckpointFault>); 8] = [
+    // The tag of a change, no values, and another node.
+    (0, 1, 0x44, BAD),
+    (VALUES, 71, 0, BAD),
+    (NODE, 54, 9, None),
+    // Numbers of queries, of a text's bytes, of spots, of rows and of a key's bytes that the bytes don't bear out.
+    (1, 5, 0xff, BAD),
+    (5, 9, 0xff, BAD),
+    (18, 22, 0xff, BAD),
+    (42, 50, 0xff, BAD),
+    (54, 58, 0xff, BAD),
+];
+
+/// The place of the first such byte with which the payload is refused otherwise, if there is one.
+fn other_byte(alloc: Global) -> Option<usize> {
+    for (from, to, byte, want) in &OTHER_BYTES {
+        if fault_of(alloc, &with_bytes(*from, *to, *byte)) != *want {
+            return Some(*from);
+        }
+    }
+    None
 }
 
 #[test]
 fn a_number_that_its_bytes_do_not_bear_out_is_refused(rt: HostRuntime) -> Result<(), Fail> {
-    let alloc = rt.alloc();
-    let mut queries = PAYLOAD;
-    queries[1..5].copy_from_slice(&[0xff; 4]);
-    let mut text = PAYLOAD;
-    text[5..9].copy_from_slice(&[0xff; 4]);
-    let mut spots = PAYLOAD;
-    spots[18..22].copy_from_slice(&[0xff; 4]);
-    let mut rows = PAYLOAD;
-    rows[42..50].copy_from_slice(&[0xff; 8]);
-    let mut key = PAYLOAD;
-    key[54..58].copy_from_slice(&[0xff; 4]);
-    for payload in [queries, text, spots, rows, key] {
-        assert!(rt; is_refused(alloc, &payload));
-    }
-    Ok(())
+    assert_none(&rt, Ok(other_byte(rt.alloc())))
 }
 
 /// A slot is complete, where it is, with one of these counts.
@@ -198,21 +299,62 @@ fn count_in(slots: &Slots, i: u32) -> Option<u64>
     Some(checkpoint.count)
 }
 
-/// The slots of a host.
-fn attach(alloc: Global, host: &mut MemHost) -> Result<Slots, Fail>
-    ensures { IfOk result (λ slots. slots.fresh ≡ true) }
+/// The newest slot of these queries and up to this count; 2 where there is a slot 2.
+fn newest_in(slots: &Slots, queries: &Texts, below: u64) -> Option<u32>
+    requires { slots.now.fresh ≡ true }
 {
-    match Slots::attach(alloc, host) {
-        Ok(slots) => Ok(slots),
-        Err(_) => Err(Fail::new("the slots were not read")),
+    if slots.slot(2).is_some() {
+        return Some(2);
     }
+    slots.newest(queries, below)
 }
 
-#[test]
-fn empty_slots_have_no_checkpoint(rt: HostRuntime) -> Result<(), Fail> {
-    let counts = counts_of(rt.alloc(), b"", b"")?;
-    assert!(rt; counts == [None, None, None]);
-    Ok(())
+/// The counts of a host's slots, and the newest slot of these queries and up to this count.
+fn told_of(
+    alloc: Global,
+    host: &mut MemHost,
+    queries: &Texts,
+    below: u64,
+) -> Result<([Option<u64>; 2], Option<u32>), Fail> {
+    let slots = attach(alloc, host)?;
+    let counts = [count_in(&slots, 0), count_in(&slots, 1)];
+    let newest = newest_in(&slots, queries, below);
+    drop(slots);
+    Ok((counts, newest))
+}
+
+/// The same of the query with this text.
+fn told(
+    alloc: Global,
+    host: &mut MemHost,
+    text: &[u8],
+    below: u64,
+) -> Result<([Option<u64>; 2], Option<u32>), Fail> {
+    let queries = texts(alloc, text)?;
+    let told = told_of(alloc, host, &queries, below);
+    drop(queries);
+    told
+}
+
+/// The counts of the slots of a host and of the newest one.
+fn counts(alloc: Global, host: &mut MemHost) -> Result<[Option<u64>; 3], Fail> {
+    let (counts, newest) = told(alloc, host, b"q", 9)?;
+    let [first, second] = counts;
+    let best = match newest {
+        Some(0) => first,
+        Some(1) => second,
+        Some(_) => return Err(Fail::new("there is a slot 2")),
+        None => None,
+    };
+    Ok([first, second, best])
+}
+
+/// The same of slots of these bytes.
+fn counts_of(alloc: Global, first: &[u8], second: &[u8]) -> Result<[Option<u64>; 3], Fail> {
+    let mut host = store(alloc, first, second, &[])?;
+    let counts = counts(alloc, &mut host);
+    drop(host);
+    counts
 }
 
 /// Saves a checkpoint of this count, and fails where that is not into this slot.
@@ -245,35 +387,21 @@ fn save_three(slots: &mut Slots, host: &mut MemHost) -> Result<u64, Fail> {
 /// How many calls this host had after the first two of those three saves.
 fn saved(alloc: Global, host: &mut MemHost) -> Result<u64, Fail> {
     let mut slots = attach(alloc, host)?;
-    save_three(&mut slots, host)
+    let calls = save_three(&mut slots, host);
+    drop(slots);
+    calls
 }
 
 /// A host after those three saves, and how many calls the first two made.
 fn three_saves(alloc: Global) -> Result<(MemHost, u64), Fail> {
-    let mut host = store(alloc, b"", b"", b"", &[])?;
-    let calls = saved(alloc, &mut host)?;
-    Ok((host, calls))
-}
-
-/// The count of the slot that is the newest of these queries up to this count.
-fn newest_in(slots: &Slots, queries: &Texts, below: u64) -> Option<u64>
-    requires { slots.now.fresh ≡ true }
-{
-    match slots.newest(queries, below) {
-        Some(i) => count_in(slots, i),
-        None => None,
+    let mut host = store(alloc, b"", b"", &[])?;
+    match saved(alloc, &mut host) {
+        Ok(calls) => Ok((host, calls)),
+        Err(fail) => Err(fail),
     }
 }
 
-/// The counts of the slots of a host and of the newest one.
-fn counts(alloc: Global, host: &mut MemHost) -> Result<[Option<u64>; 3], Fail> {
-    let queries = texts(alloc, b"q")?;
-    let slots = attach(alloc, host)?;
-    let newest = newest_in(&slots, &queries, 9);
-    Ok([count_in(&slots, 0), count_in(&slots, 1), newest])
-}
-
-/// The same after a stop behind so many calls.
+/// The counts of the slots and of the newest one after a stop behind so many calls.
 fn counts_after(
     alloc: Global,
     host: &MemHost,
@@ -284,7 +412,9 @@ fn counts_after(
         return Err(Fail::new("there were fewer calls"));
     }
     let mut left = host.stop_image(call, pick)?;
-    counts(alloc, &mut left)
+    let counts = counts(alloc, &mut left);
+    drop(left);
+    counts
 }
 
 /// Whether the slots are the old ones, none or the new ones, the newest one is the greatest, and is not older than before.
@@ -314,60 +444,42 @@ fn leaves_legal_slots(
     Ok(before == 4)
 }
 
-#[test]
-fn a_stop_leaves_the_old_checkpoint_or_none_or_the_new_one(rt: HostRuntime) -> Result<(), Fail> {
-    let (host, settled) = three_saves(rt.alloc())?;
-    let picks = [
-        Pick::Old,
-        Pick::New,
-        Pick::Torn(0),
-        Pick::Torn(1),
-        Pick::Torn(0x37),
-        Pick::Torn(255),
-    ];
-    for pick in picks {
-        let is_legal = leaves_legal_slots(rt.alloc(), &host, settled, pick)?;
-        assert!(rt; is_legal, "with {pick:?}");
+const PICKS: [Pick; 6] = [
+    Pick::Old,
+    Pick::New,
+    Pick::Torn(0),
+    Pick::Torn(1),
+    Pick::Torn(0x37),
+    Pick::Torn(255),
+];
+
+/// Whether that is so by each pick.
+fn leaves_legal_slots_by_each(alloc: Global, host: &MemHost, settled: u64) -> Result<bool, Fail> {
+    for pick in PICKS {
+        if !leaves_legal_slots(alloc, host, settled, pick)? {
+            return Ok(false);
+        }
     }
-    Ok(())
+    Ok(true)
 }
 
-/// The newest slot of these queries and up to this count; 2 where there is a slot 2.
-fn newest_slot(slots: &Slots, queries: &Texts, below: u64) -> Option<u32>
-    requires { slots.now.fresh ≡ true }
-{
-    if slots.slot(2).is_some() {
-        return Some(2);
-    }
-    slots.newest(queries, below)
-}
+/// A query's text, a count, and the newest slot of that query and up to that count.
+const NEWEST: [(&[u8], u64, Option<u32>); 4] = [
+    (b"q", 4, Some(0)),
+    (b"q", 3, Some(1)),
+    (b"q", 2, None),
+    (b"r", 9, None),
+];
 
-/// The same of a host's slots, and of the query with this text.
-fn newest_on(
-    alloc: Global,
-    host: &mut MemHost,
-    text: &[u8],
-    below: u64,
-) -> Result<Option<u32>, Fail> {
-    let queries = texts(alloc, text)?;
-    let slots = attach(alloc, host)?;
-    Ok(newest_slot(&slots, &queries, below))
-}
-
-#[test]
-fn the_newest_has_these_queries_and_at_most_this_count(rt: HostRuntime) -> Result<(), Fail> {
-    let (mut host, _) = three_saves(rt.alloc())?;
-    let rows = [
-        (b"q", 4, Some(0)),
-        (b"q", 3, Some(1)),
-        (b"q", 2, None),
-        (b"r", 9, None),
-    ];
-    for (text, below, want) in rows {
-        let newest = newest_on(rt.alloc(), &mut host, text, below)?;
-        assert!(rt; newest == want, "of {below}");
+/// Whether a host has these newest slots.
+fn has_newest(alloc: Global, host: &mut MemHost) -> Result<bool, Fail> {
+    for (text, below, want) in &NEWEST {
+        let (_, newest) = told(alloc, host, text, *below)?;
+        if newest != *want {
+            return Ok(false);
+        }
     }
-    Ok(())
+    Ok(true)
 }
 
 /// Takes slot 1, and answers its count.
@@ -384,62 +496,114 @@ fn take_second(slots: &mut Slots) -> u64
 fn take_and_save(alloc: Global, host: &mut MemHost) -> Result<u64, Fail> {
     let mut slots = attach(alloc, host)?;
     let count = take_second(&mut slots);
-    save(&mut slots, host, Some(0), 4, 1)?;
+    let saved = save(&mut slots, host, Some(0), 4, 1);
+    drop(slots);
+    saved?;
     Ok(count)
+}
+
+/// Whether slot 1 is of count 3, and slot 0 is the newest one then.
+fn takes_second(alloc: Global, host: &mut MemHost) -> Result<bool, Fail> {
+    let count = take_and_save(alloc, host)?;
+    let (_, newest) = told(alloc, host, b"q", 4)?;
+    Ok(count == 3 && newest == Some(0))
+}
+
+/// What is asked of a host after three saves.
+#[derive(Clone, Copy)]
+enum Ask {
+    LeavesLegalSlots,
+    HasNewest,
+    TakesSecond,
+}
+
+/// Whether it is so.
+fn after_three(alloc: Global, ask: Ask) -> Result<bool, Fail> {
+    let (mut host, settled) = three_saves(alloc)?;
+    let is_so = match ask {
+        Ask::LeavesLegalSlots => leaves_legal_slots_by_each(alloc, &host, settled),
+        Ask::HasNewest => has_newest(alloc, &mut host),
+        Ask::TakesSecond => takes_second(alloc, &mut host),
+    };
+    drop(host);
+    is_so
+}
+
+#[test]
+fn a_stop_leaves_the_old_checkpoint_or_none_or_the_new_one(rt: HostRuntime) -> Result<(), Fail> {
+    assert_so(&rt, after_three(rt.alloc(), Ask::LeavesLegalSlots))
+}
+
+#[test]
+fn the_newest_has_these_queries_and_at_most_this_count(rt: HostRuntime) -> Result<(), Fail> {
+    assert_so(&rt, after_three(rt.alloc(), Ask::HasNewest))
 }
 
 #[test]
 fn a_slot_that_was_taken_is_saved_anew(rt: HostRuntime) -> Result<(), Fail> {
-    let (mut host, _) = three_saves(rt.alloc())?;
-    let taken = take_and_save(rt.alloc(), &mut host)?;
-    let newest = newest_on(rt.alloc(), &mut host, b"q", 4)?;
-    drop(host);
-    assert!(rt; taken == 3 && newest == Some(0));
-    Ok(())
+    assert_so(&rt, after_three(rt.alloc(), Ask::TakesSecond))
 }
 
 /// The first 80 bytes of slot 0 after three saves: one frame, without a gate behind it.
 fn one_frame(alloc: Global) -> Result<Vec<u8>, Fail> {
     let (host, _) = three_saves(alloc)?;
-    Ok(host.file(0).get(..80).unwrap_or(b"").to_vec(alloc)?)
+    let bytes = host.file(0).get(..80).unwrap_or(b"").to_vec(alloc);
+    drop(host);
+    Ok(bytes?)
 }
 
-/// That frame twice, and a closed gate.
-fn two_frames(alloc: Global) -> Result<Vec<u8>, Fail> {
-    let mut two = one_frame(alloc)?;
-    let one = one_frame(alloc)?;
-    two.extend_from_slice(&one)?;
+/// This frame twice, and a closed gate.
+fn twice(alloc: Global, one: &[u8]) -> Result<Vec<u8>, Memory> {
+    let mut two = one.to_vec(alloc)?;
+    two.extend_from_slice(one)?;
     two.push(0)?;
     Ok(two)
 }
 
-/// The counts of the slots of these bytes.
-fn counts_of(alloc: Global, first: &[u8], second: &[u8]) -> Result<[Option<u64>; 3], Fail> {
-    let mut host = store(alloc, b"", first, second, &[])?;
-    counts(alloc, &mut host)
+/// How long that frame is, and the counts of slots of two frames and of one without a gate.
+fn counts_of_frames(alloc: Global) -> Result<(usize, [Option<u64>; 3]), Fail> {
+    let one = one_frame(alloc)?;
+    let two = twice(alloc, &one)?;
+    Ok((one.len(), counts_of(alloc, &two, &one)?))
+}
+
+/// Whether there is no checkpoint in slots of no frame, and in those.
+fn have_no_checkpoint(alloc: Global) -> Result<bool, Fail> {
+    let have_none = counts_of(alloc, b"", b"")? == [None, None, None];
+    Ok(have_none && counts_of_frames(alloc)? == (80, [None, None, None]))
 }
 
 #[test]
-fn a_slot_of_other_frames_is_not_complete(rt: HostRuntime) -> Result<(), Fail> {
-    let one = one_frame(rt.alloc())?;
-    let two = two_frames(rt.alloc())?;
-    let length = one.len();
-    let counts = counts_of(rt.alloc(), &two, &one)?;
-    drop(two);
-    drop(one);
-    assert!(rt; length == 80 && counts == [None, None, None]);
-    Ok(())
+fn a_slot_of_no_frame_or_of_others_is_not_complete(rt: HostRuntime) -> Result<(), Fail> {
+    assert_so(&rt, have_no_checkpoint(rt.alloc()))
+}
+
+/// Whether a save fails whose call on the disk does, and another one behind it makes no call.
+fn end_at_failure(slots: &mut Slots, host: &mut MemHost) -> bool {
+    let before = host.calls();
+    let is_failed = slots.save(host, None, &PAYLOAD) == Err(SlotFault::Disk);
+    let calls = host.calls();
+    let has_ended = slots.save(host, None, &PAYLOAD) == Err(SlotFault::Ended);
+    is_failed && has_ended && before < calls && host.calls() == calls
+}
+
+/// Whether that is so on this host.
+fn ends_on(alloc: Global, host: &mut MemHost) -> Result<bool, Fail> {
+    let mut slots = attach(alloc, host)?;
+    let has_ended = end_at_failure(&mut slots, host);
+    drop(slots);
+    Ok(has_ended)
+}
+
+/// Whether that is so where the call of number 6 fails.
+fn ends_at_six(alloc: Global) -> Result<bool, Fail> {
+    let mut host = store(alloc, b"", b"", &[6])?;
+    let has_ended = ends_on(alloc, &mut host);
+    drop(host);
+    has_ended
 }
 
 #[test]
 fn slots_end_where_a_save_fails(rt: HostRuntime) -> Result<(), Fail> {
-    let mut host = store(rt.alloc(), b"", b"", b"", &[6])?;
-    let mut slots = attach(rt.alloc(), &mut host)?;
-    let before = host.calls();
-    assert_eq!(rt; slots.save(&mut host, None, &PAYLOAD), Err(SlotFault::Disk));
-    let calls = host.calls();
-    let again = slots.save(&mut host, None, &PAYLOAD);
-    assert_eq!(rt; again, Err(SlotFault::Ended));
-    assert!(rt; before < calls && host.calls() == calls);
-    Ok(())
+    assert_so(&rt, ends_at_six(rt.alloc()))
 }

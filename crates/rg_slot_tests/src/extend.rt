@@ -1,7 +1,7 @@
-ghost use Rattle.std.specs.Prelude.{◌≡◌, IfOk, OnOk, true};
+ghost use Rattle.std.specs.Prelude.{◌≡◌, true};
 ghost use Rattle.rg_checkpoint.specs.Slots.{ReachesSlots};
 
-use crate::slots::store;
+use crate::slots::{assert_none, assert_so, attach, store};
 use rg_checkpoint::{SlotFault, SlotSizes, Slots};
 use rg_host::{Host, MemHost, Pick};
 use std::alloc::{AllocError, Global};
@@ -38,30 +38,28 @@ fn payload(from: usize, end: usize) -> &'static [u8] {
     SLOT.get(from.saturating_add(9)..end).unwrap_or(b"")
 }
 
-/// The slots of a host.
-fn attach(alloc: Global, host: &mut MemHost) -> Result<Slots, Fail>
-    ensures fresh { IfOk result (λ slots. slots.fresh ≡ true) }
-    ensures reaches { IfOk result (λ slots. ReachesSlots slots (⟦<MemHost as Host>⟧.now host.new)) }
+/// How many payments the checkpoint of slot 0 is of, and how many rows it has.
+fn read_in(slots: &Slots) -> Option<(u64, usize)>
+    requires { slots.now.fresh ≡ true }
 {
-    match Slots::attach(alloc, host) {
-        Ok(slots) => Ok(slots),
-        Err(_) => Err(Fail::new("the slots were not read")),
-    }
+    let checkpoint = slots.slot(0)?;
+    Some((checkpoint.count, checkpoint.rows.as_slice().len()))
 }
 
-/// How many payments the checkpoint of slot 0 is of, and how many rows it has.
+/// The same of a host's slots.
 fn read(alloc: Global, host: &mut MemHost) -> Result<Option<(u64, usize)>, Fail> {
     let slots = attach(alloc, host)?;
-    let Some(checkpoint) = slots.slot(0) else {
-        return Ok(None);
-    };
-    Ok(Some((checkpoint.count, checkpoint.rows.as_slice().len())))
+    let read = read_in(&slots);
+    drop(slots);
+    Ok(read)
 }
 
 /// The same of a slot of these bytes.
 fn read_bytes(alloc: Global, bytes: &[u8]) -> Result<Option<(u64, usize)>, Fail> {
-    let mut host = store(alloc, b"", bytes, b"", &[])?;
-    read(alloc, &mut host)
+    let mut host = store(alloc, bytes, b"", &[])?;
+    let read = read(alloc, &mut host);
+    drop(host);
+    read
 }
 
 /// Adds a payload to slot 0, where that is complete.
@@ -98,25 +96,32 @@ fn grow(slots: &mut Slots, host: &mut MemHost) -> Result<u64, SlotFault>
 /// sizes of its slots.
 fn grown(alloc: Global, host: &mut MemHost) -> Result<(u64, [Option<SlotSizes>; 2]), Fail> {
     let mut slots = attach(alloc, host)?;
-    match grow(&mut slots, host) {
-        Ok(calls) => Ok((calls, [slots.sizes(0), slots.sizes(1)])),
-        Err(_) => Err(Fail::new("it was not extended")),
-    }
+    let grown = grow(&mut slots, host);
+    let sizes = [slots.sizes(0), slots.sizes(1)];
+    drop(slots);
+    Ok((grown?, sizes))
+}
+
+/// The sizes of the slot.
+const SIZES: SlotSizes = SlotSizes {
+    base: 71,
+    changes: 117,
+    frames: 2,
+};
+
+/// Whether an empty host then has the slot, of these sizes.
+fn grows(alloc: Global) -> Result<bool, Fail> {
+    let mut host = store(alloc, b"", b"", &[])?;
+    let grown = grown(alloc, &mut host);
+    let is_written = host.file(0) == SLOT.as_slice();
+    drop(host);
+    let (_, sizes) = grown?;
+    Ok(is_written && sizes == [Some(SIZES), None])
 }
 
 #[test]
 fn changes_are_added_as_the_format_says(rt: HostRuntime) -> Result<(), Fail> {
-    let mut host = store(rt.alloc(), b"", b"", b"", &[])?;
-    let (_, sizes) = grown(rt.alloc(), &mut host)?;
-    let is_written = host.file(0) == &SLOT[..];
-    drop(host);
-    let first = SlotSizes {
-        base: 71,
-        changes: 117,
-        frames: 2,
-    };
-    assert!(rt; is_written && sizes == [Some(first), None]);
-    Ok(())
+    assert_so(&rt, grows(rt.alloc()))
 }
 
 /// The slot with another byte at that place.
@@ -128,29 +133,36 @@ fn with_byte(place: usize, byte: u8) -> [u8; 216] {
     bytes
 }
 
-#[test]
-fn a_slot_with_changes_is_read_up_to_its_closed_gate(rt: HostRuntime) -> Result<(), Fail> {
-    for (gate, count, rows) in [(END, 4, 0), (SECOND, 3, 1), (FIRST, 2, 1)] {
-        let read = read_bytes(rt.alloc(), &with_byte(gate, 0))?;
-        assert!(rt; read == Some((count, rows)), "closed at {gate}");
+/// A byte of the slot, another one in its place, and what is read then.
+const OTHER_BYTES: [(usize, u8, Option<(u64, usize)>); 8] = [
+    // It is read up to its closed gate.
+    (END, 0, Some((4, 0))),
+    (SECOND, 0, Some((3, 1))),
+    (FIRST, 0, Some((2, 1))),
+    // A change that does not apply leaves no checkpoint: its count falls, it is a base behind the base, the row that is
+    // gone isn't there, it has more rows than there are, and it is cut.
+    (97, 1, None),
+    (89, 0x42, None),
+    (213, 0x32, None),
+    (129, 2, None),
+    (160, 0x37, None),
+];
+
+/// The place of the first such byte with which something else is read, if there is one.
+fn other_byte(alloc: Global) -> Result<Option<usize>, Fail> {
+    for (place, byte, want) in &OTHER_BYTES {
+        if read_bytes(alloc, &with_byte(*place, *byte))? != *want {
+            return Ok(Some(*place));
+        }
     }
-    Ok(())
+    Ok(None)
 }
 
 #[test]
-fn a_change_that_does_not_apply_leaves_no_checkpoint(rt: HostRuntime) -> Result<(), Fail> {
-    let rows = [
-        ("the count falls", 97, 1),
-        ("a base behind the base", 89, 0x42),
-        ("the row that is gone isn't there", 213, 0x32),
-        ("more rows than there are", 129, 2),
-        ("the second frame is cut", 160, 0x37),
-    ];
-    for (name, place, byte) in rows {
-        let read = read_bytes(rt.alloc(), &with_byte(place, byte))?;
-        assert!(rt; read.is_none(), "{name}");
-    }
-    Ok(())
+fn a_slot_is_read_up_to_its_closed_gate_where_its_changes_apply(
+    rt: HostRuntime,
+) -> Result<(), Fail> {
+    assert_none(&rt, other_byte(rt.alloc()))
 }
 
 /// A slot of a base payload and so many change payloads, all alike.
@@ -174,32 +186,48 @@ fn changes_in(slots: &Slots) -> Option<u64>
     Some(sizes.frames)
 }
 
-/// The same of a slot of these bytes.
-fn count_changes(alloc: Global, bytes: &[u8]) -> Result<Option<u64>, Fail> {
-    let mut host = store(alloc, b"", bytes, b"", &[])?;
-    let slots = attach(alloc, &mut host)?;
-    Ok(changes_in(&slots))
+/// The same of a host's slots.
+fn changes_on(alloc: Global, host: &mut MemHost) -> Result<Option<u64>, Fail> {
+    let slots = attach(alloc, host)?;
+    let changes = changes_in(&slots);
+    drop(slots);
+    Ok(changes)
+}
+
+/// Whether a slot of so many changes has them.
+fn has_changes(alloc: Global, count: u32) -> Result<bool, Fail> {
+    let bytes = slot_of(alloc, count)?;
+    let mut host = store(alloc, &bytes, b"", &[])?;
+    let changes = changes_on(alloc, &mut host);
+    drop(host);
+    Ok(changes? == Some(u64::from(count)))
 }
 
 #[test]
 fn a_slot_of_65_changes_is_read(rt: HostRuntime) -> Result<(), Fail> {
-    let bytes = slot_of(rt.alloc(), 65)?;
-    let changes = count_changes(rt.alloc(), &bytes)?;
-    drop(bytes);
-    assert_eq!(rt; changes, Some(65));
-    Ok(())
+    assert_so(&rt, has_changes(rt.alloc(), 65))
+}
+
+/// Of how many payments the checkpoint is that a stop behind so many calls leaves.
+fn count_after(alloc: Global, host: &MemHost, call: u64, pick: Pick) -> Result<Option<u64>, Fail> {
+    if call > host.calls() {
+        return Ok(None);
+    }
+    let mut left = host.stop_image(call, pick)?;
+    let read = read(alloc, &mut left);
+    drop(left);
+    match read? {
+        Some((count, _)) => Ok(Some(count)),
+        None => Ok(None),
+    }
 }
 
 /// Whether a stop behind each call of the extensions, by this pick, leaves no older checkpoint than one before did.
 fn leaves_old_or_new(alloc: Global, host: &MemHost, from: u64, pick: Pick) -> Result<bool, Fail> {
     let mut before = 2;
     for call in from..=host.calls() {
-        if call > host.calls() {
-            return Ok(false);
-        }
-        let mut left = host.stop_image(call, pick)?;
-        let count = match read(alloc, &mut left)? {
-            Some((count, _)) => count,
+        let count = match count_after(alloc, host, call, pick)? {
+            Some(count) => count,
             None => return Ok(false),
         };
         if count < before {
@@ -210,8 +238,9 @@ fn leaves_old_or_new(alloc: Global, host: &MemHost, from: u64, pick: Pick) -> Re
     Ok(before == 4)
 }
 
-/// Whether that is so by each of these picks.
-fn leaves_old_or_new_by_each(alloc: Global, host: &MemHost, from: u64) -> Result<bool, Fail> {
+/// Whether that is so by each of these picks, of the extensions on an empty host.
+fn leave_old_or_new(alloc: Global, host: &mut MemHost) -> Result<bool, Fail> {
+    let (from, _) = grown(alloc, host)?;
     for pick in [Pick::Old, Pick::New, Pick::Torn(0), Pick::Torn(255)] {
         if !leaves_old_or_new(alloc, host, from, pick)? {
             return Ok(false);
@@ -220,81 +249,88 @@ fn leaves_old_or_new_by_each(alloc: Global, host: &MemHost, from: u64) -> Result
     Ok(true)
 }
 
+/// The same of a host of its own.
+fn stops_leave_old_or_new(alloc: Global) -> Result<bool, Fail> {
+    let mut host = store(alloc, b"", b"", &[])?;
+    let are_legal = leave_old_or_new(alloc, &mut host);
+    drop(host);
+    are_legal
+}
+
 #[test]
 fn a_stop_leaves_the_old_checkpoint_or_the_new_one(rt: HostRuntime) -> Result<(), Fail> {
-    let mut host = store(rt.alloc(), b"", b"", b"", &[])?;
-    let (calls, _) = grown(rt.alloc(), &mut host)?;
-    let is_legal = leaves_old_or_new_by_each(rt.alloc(), &host, calls)?;
-    drop(host);
-    assert!(rt; is_legal);
-    Ok(())
+    assert_so(&rt, stops_leave_old_or_new(rt.alloc()))
 }
 
-/// Whether an extension of a host's slots fails, and a save behind it has ended and makes no call.
-fn has_ended(alloc: Global, host: &mut MemHost) -> Result<bool, Fail> {
-    let mut slots = attach(alloc, host)?;
-    let is_failed = grow(&mut slots, host) == Err(SlotFault::Disk);
+/// Whether an extension fails, and a save behind it has ended and makes no call.
+fn end_at_failure(slots: &mut Slots, host: &mut MemHost) -> bool
+    requires { ReachesSlots slots.old (⟦<MemHost as Host>⟧.now host.old) }
+{
+    let is_failed = grow(slots, host) == Err(SlotFault::Disk);
     let made = host.calls();
     let again = slots.save(host, Some(0), payload(0, FIRST));
-    Ok(is_failed && again == Err(SlotFault::Ended) && host.calls() == made)
+    is_failed && again == Err(SlotFault::Ended) && host.calls() == made
 }
 
-/// How many calls a save makes on an empty host, with the attach before it.
-fn calls_of_save(alloc: Global) -> Result<u64, Fail> {
-    let mut host = store(alloc, b"", b"", b"", &[])?;
-    let (calls, _) = grown(alloc, &mut host)?;
-    Ok(calls)
-}
-
-/// Whether that is so where the first call of an extension fails, and the slot has its base payload then.
-fn ends_with_base(alloc: Global, calls: u64) -> Result<bool, Fail> {
-    let mut host = store(alloc, b"", b"", b"", &[calls])?;
-    let has_ended = has_ended(alloc, &mut host)?;
-    let left = read_bytes(alloc, host.file(0))?;
-    Ok(has_ended && calls < host.calls() && left == Some((2, 1)))
-}
-
-#[test]
-fn slots_end_where_an_extension_fails(rt: HostRuntime) -> Result<(), Fail> {
-    let calls = calls_of_save(rt.alloc())?;
-    let has_base = ends_with_base(rt.alloc(), calls)?;
-    assert!(rt; has_base);
-    Ok(())
+/// The same of a host's slots.
+fn has_ended(alloc: Global, host: &mut MemHost) -> Result<bool, Fail> {
+    let mut slots = attach(alloc, host)?;
+    let has_ended = end_at_failure(&mut slots, host);
+    drop(slots);
+    Ok(has_ended)
 }
 
 /// How many calls an empty host has had after a save, and after the extensions behind it.
 fn calls_of_extensions(alloc: Global) -> Result<(u64, u64), Fail> {
-    let mut host = store(alloc, b"", b"", b"", &[])?;
-    let (calls, _) = grown(alloc, &mut host)?;
-    Ok((calls, host.calls()))
+    let mut host = store(alloc, b"", b"", &[])?;
+    let grown = grown(alloc, &mut host);
+    let end = host.calls();
+    drop(host);
+    let (from, _) = grown?;
+    Ok((from, end))
 }
 
-/// Of how many payments the checkpoint is that is left where that call fails, and the slots have ended.
-fn left_by_failure(alloc: Global, call: u64) -> Result<Option<u64>, Fail> {
-    let mut host = store(alloc, b"", b"", b"", &[call])?;
-    if !has_ended(alloc, &mut host)? {
+/// What is read of slot 0 where a call fails on which the slots end, which isn't behind the last one.
+fn left_on(alloc: Global, host: &mut MemHost, call: u64) -> Result<Option<(u64, usize)>, Fail> {
+    if !has_ended(alloc, host)? || call >= host.calls() {
         return Ok(None);
     }
-    match read_bytes(alloc, host.file(0))? {
+    read_bytes(alloc, host.file(0))
+}
+
+/// The same of an empty host on which that call fails.
+fn left_by_failure(alloc: Global, call: u64) -> Result<Option<(u64, usize)>, Fail> {
+    let mut host = store(alloc, b"", b"", &[call])?;
+    let left = left_on(alloc, &mut host, call);
+    drop(host);
+    left
+}
+
+/// Of how many payments the checkpoint is that is left where that call fails.
+fn count_left(alloc: Global, call: u64) -> Result<Option<u64>, Fail> {
+    match left_by_failure(alloc, call)? {
         Some((count, _)) => Ok(Some(count)),
         None => Ok(None),
     }
+}
+
+/// Whether each call that fails leaves the old checkpoint or the new one, and the first one the base with its row.
+fn failures_leave_old_or_new(alloc: Global) -> Result<bool, Fail> {
+    let (from, end) = calls_of_extensions(alloc)?;
+    let mut before = 2;
+    for call in from..end {
+        let left = count_left(alloc, call)?;
+        if left != Some(before) && left != Some(before.saturating_add(1)) {
+            return Ok(false);
+        }
+        before = left.unwrap_or(before);
+    }
+    Ok(before == 4 && left_by_failure(alloc, from)? == Some((2, 1)))
 }
 
 #[test]
 fn each_call_that_fails_leaves_the_old_checkpoint_or_the_new_one(
     rt: HostRuntime,
 ) -> Result<(), Fail> {
-    let (from, end) = calls_of_extensions(rt.alloc())?;
-    let mut before = 2;
-    for call in from..end {
-        let left = left_by_failure(rt.alloc(), call)?;
-        assert!(rt;
-            left == Some(before) || left == Some(before.saturating_add(1)),
-            "at {call}"
-        );
-        before = left.unwrap_or(before);
-    }
-    assert_eq!(rt; before, 4);
-    Ok(())
+    assert_so(&rt, failures_leave_old_or_new(rt.alloc()))
 }

@@ -9,6 +9,7 @@ use rg_open::{OpenFault, Resumed, open_store};
 use rg_state::MemTable;
 use std::alloc::Global;
 use std::marker::Brand;
+use std::process::Abort;
 use std::sync::ledger::{Blank, Ledger};
 use std::test::Fail;
 
@@ -87,12 +88,12 @@ const OTHER: [u8; 30] = [
 const COUNT: usize = 8;
 
 /// The plan that these bytes say.
-fn plan_of(alloc: Global, bytes: &[u8]) -> Result<Plan, Fail>
+fn plan_of(alloc: Global, bytes: &[u8]) -> Result<Plan, Memory>
     ensures { IfOk result IsReadPlan }
 {
     match read_plan(alloc, bytes) {
         Ok(plan) => Ok(plan),
-        Err(_) => Err(Fail::from(Memory)),
+        Err(_) => Err(Memory),
     }
 }
 
@@ -116,13 +117,31 @@ fn set(alloc: Global, image: &mut Image, number: u32, payloads: &[&[u8]]) -> Res
     image.set(number, bytes)
 }
 
+/// Sets the log and both slots of an image to frames of these payloads.
+fn set_all(
+    alloc: Global,
+    image: &mut Image,
+    log: &[&[u8]],
+    first: &[&[u8]],
+    second: &[&[u8]],
+) -> Result<(), Memory> {
+    set(alloc, image, 0, first)?;
+    set(alloc, image, 1, second)?;
+    set(alloc, image, 2, log)
+}
+
 /// A host whose log and whose two slots have these payloads.
-fn store(alloc: Global, log: &[&[u8]], first: &[&[u8]], second: &[&[u8]]) -> Result<MemHost, Fail> {
+fn store(
+    alloc: Global,
+    log: &[&[u8]],
+    first: &[&[u8]],
+    second: &[&[u8]],
+) -> Result<MemHost, Memory> {
     let mut image = Image::new(alloc);
-    set(alloc, &mut image, 0, first)?;
-    set(alloc, &mut image, 1, second)?;
-    set(alloc, &mut image, 2, log)?;
-    Ok(MemHost::new(alloc, image, Vec::new(alloc))?)
+    match set_all(alloc, &mut image, log, first, second) {
+        Ok(()) => MemHost::new(alloc, image, Vec::new(alloc)),
+        Err(memory) => Err(memory),
+    }
 }
 
 /// From how many payments the opening of a store goes on.
@@ -146,69 +165,86 @@ fn from_of<L: Ledger>(
     }
 }
 
-/// The same of the store of this log and these slots, with the plan above.
+/// The same with a blank ledger.
 fn open_counted<L: Ledger>(
     alloc: Global,
-    log: &[&[u8]],
-    first: &[&[u8]],
-    second: &[&[u8]],
+    host: &mut MemHost,
+    plan: &Plan,
     blank: Blank,
-) -> Result<Result<u64, OpenFault>, Fail>
+) -> Result<u64, OpenFault>
     requires named { blank.name ≡ L.name }
     requires parts { blank.parts ≡ L.parts }
     requires whole { 0 < blank.parts }
+    requires plan { IsReadPlan plan.now }
 {
     let mut steps = Steps::<L>::new(blank);
-    let mut host = store(alloc, log, first, second)?;
+    let from = from_of(alloc, host, plan, &mut steps);
+    drop(steps);
+    from
+}
+
+/// The same with the plan above, and a ledger of its own.
+fn open_on(alloc: Global, host: &mut MemHost) -> Result<Result<u64, OpenFault>, Memory> {
     let plan = plan_of(alloc, TOTALS)?;
-    let from = from_of(alloc, &mut host, &plan, &mut steps);
+    let from = open_counted::<Brand>(alloc, host, &plan, Blank::new(1));
     drop(plan);
-    drop(host);
     Ok(from)
 }
 
-/// The same, with a ledger of its own.
-fn open_over(
+/// The same of the store of this log and these slots.
+fn open(
     alloc: Global,
     log: &[&[u8]],
     first: &[&[u8]],
     second: &[&[u8]],
-) -> Result<Result<u64, OpenFault>, Fail> {
-    open_counted::<Brand>(alloc, log, first, second, Blank::new(1))
+) -> Result<Result<u64, OpenFault>, Memory> {
+    let mut host = store(alloc, log, first, second)?;
+    let from = open_on(alloc, &mut host);
+    drop(host);
+    from
 }
 
-/// The same of a log of the first two payments.
-fn open(alloc: Global, first: &[&[u8]], second: &[&[u8]]) -> Result<Result<u64, OpenFault>, Fail> {
-    open_over(alloc, &[SCHEMA, &TWO], first, second)
+/// The logs of the first two payments, and of all three.
+const OF_TWO: &[&[u8]] = &[SCHEMA, &TWO];
+
+const OF_THREE: &[&[u8]] = &[SCHEMA, &TWO, &THIRD];
+
+fn assert_so(rt: &impl Abort, is_so: Result<bool, Memory>) -> Result<(), Fail> {
+    assert!(rt; is_so?);
+    Ok(())
 }
 
-/// The same of a log of all three.
-fn open_three(alloc: Global, first: &[&[u8]]) -> Result<Result<u64, OpenFault>, Fail> {
-    open_over(alloc, &[SCHEMA, &TWO, &THIRD], first, &[])
+/// Whether an opening goes on from the changes behind a base, in whichever slot they are.
+fn goes_on_from_changes(alloc: Global) -> Result<bool, Memory> {
+    Ok(
+        open(alloc, OF_TWO, &[&BASE], &[])? == Ok(1)
+            && open(alloc, OF_TWO, &[&BASE, &CHANGE], &[&BASE])? == Ok(2)
+            && open(alloc, OF_TWO, &[&BASE], &[&BASE, &CHANGE])? == Ok(2)
+            && open(alloc, OF_THREE, &[&BASE, &CHANGE], &[])? == Ok(2),
+    )
 }
 
 #[test]
 fn an_opening_goes_on_from_the_changes_behind_a_base(rt: HostRuntime) -> Result<(), Fail> {
-    let alone = open(rt.alloc(), &[&BASE], &[])?;
-    let changed = open(rt.alloc(), &[&BASE, &CHANGE], &[&BASE])?;
-    let second = open(rt.alloc(), &[&BASE], &[&BASE, &CHANGE])?;
-    let three = open_three(rt.alloc(), &[&BASE, &CHANGE])?;
-    assert_eq!(rt; (alone, changed), (Ok(1), Ok(2)));
-    assert_eq!(rt; (second, three), (Ok(2), Ok(2)));
-    Ok(())
+    assert_so(&rt, goes_on_from_changes(rt.alloc()))
+}
+
+/// Whether changes behind a base of another query are passed over.
+fn passes_other_query(alloc: Global) -> Result<bool, Memory> {
+    Ok(
+        open(alloc, OF_TWO, &[&OTHER, &CHANGE], &[])? == Ok(0)
+            && open(alloc, OF_TWO, &[&OTHER, &CHANGE], &[&BASE])? == Ok(1),
+    )
 }
 
 #[test]
 fn changes_behind_a_base_of_another_query_are_passed_over(rt: HostRuntime) -> Result<(), Fail> {
-    let from = open(rt.alloc(), &[&OTHER, &CHANGE], &[])?;
-    let beside = open(rt.alloc(), &[&OTHER, &CHANGE], &[&BASE])?;
-    assert_eq!(rt; (from, beside), (Ok(0), Ok(1)));
-    Ok(())
+    assert_so(&rt, passes_other_query(rt.alloc()))
 }
 
 /// From where an opening goes on whose slot 0 has this payload behind the base, and whose slot 1 has the base alone.
-fn open_behind(alloc: Global, payload: &[u8]) -> Result<Result<u64, OpenFault>, Fail> {
-    open(alloc, &[&BASE, payload], &[&BASE])
+fn open_behind(alloc: Global, payload: &[u8]) -> Result<Result<u64, OpenFault>, Memory> {
+    open(alloc, OF_TWO, &[&BASE, payload], &[&BASE])
 }
 
 /// The change with another byte at that place.
@@ -220,22 +256,33 @@ fn with_byte(place: usize, byte: u8) -> [u8; 121] {
     bytes
 }
 
+/// Whether a slot is passed over whose change is cut, is of no more payments than the base, or is a base.
+fn passes_other_changes(alloc: Global) -> Result<bool, Memory> {
+    let cut = CHANGE.get(..120).unwrap_or(b"");
+    Ok(
+        open_behind(alloc, cut)? == Ok(1)
+            && open_behind(alloc, &with_byte(COUNT, 0))? == Ok(1)
+            && open_behind(alloc, &BASE)? == Ok(1),
+    )
+}
+
 #[test]
 fn a_slot_whose_change_does_not_apply_is_passed_over(rt: HostRuntime) -> Result<(), Fail> {
-    let cut = open_behind(rt.alloc(), CHANGE.get(..120).unwrap_or(b""))?;
-    let fewer = open_behind(rt.alloc(), &with_byte(COUNT, 0))?;
-    let base = open_behind(rt.alloc(), &BASE)?;
-    assert_eq!(rt; (cut, fewer), (Ok(1), Ok(1)));
-    assert_eq!(rt; base, Ok(1));
-    Ok(())
+    assert_so(&rt, passes_other_changes(rt.alloc()))
+}
+
+/// Whether changes that the payments don't bear out are told where the payments behind them are met.
+fn tells_bad_changes(alloc: Global) -> Result<bool, Memory> {
+    let told = Err(OpenFault::BadState(0));
+    Ok(
+        open(alloc, OF_TWO, &[&BASE, &GONE], &[])? == Ok(2)
+            && open(alloc, OF_THREE, &[&BASE, &GONE], &[])? == told,
+    )
 }
 
 #[test]
 fn changes_that_the_payments_do_not_bear_out_are_told(rt: HostRuntime) -> Result<(), Fail> {
-    let two = open(rt.alloc(), &[&BASE, &GONE], &[])?;
-    let three = open_three(rt.alloc(), &[&BASE, &GONE])?;
-    assert_eq!(rt; (two, three), (Ok(2), Err(OpenFault::BadState(0))));
-    Ok(())
+    assert_so(&rt, tells_bad_changes(rt.alloc()))
 }
 
 /// A base and so many changes, all alike.
@@ -248,11 +295,13 @@ fn payloads(alloc: Global, changes: u32) -> Result<Vec<&'static [u8]>, Memory> {
     Ok(payloads)
 }
 
+/// Whether an opening goes on from so many changes.
+fn goes_on_from(alloc: Global, changes: u32) -> Result<bool, Memory> {
+    let slot = payloads(alloc, changes)?;
+    Ok(open(alloc, OF_TWO, &slot, &[&BASE])? == Ok(2))
+}
+
 #[test]
 fn an_opening_goes_on_from_65_changes(rt: HostRuntime) -> Result<(), Fail> {
-    let slot = payloads(rt.alloc(), 65)?;
-    let from = open(rt.alloc(), &slot, &[&BASE])?;
-    drop(slot);
-    assert_eq!(rt; from, Ok(2));
-    Ok(())
+    assert_so(&rt, goes_on_from(rt.alloc(), 65))
 }

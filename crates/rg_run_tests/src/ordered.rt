@@ -1,6 +1,6 @@
 use rg_host::Host;
 use rg_real::{Access, FolderHost, Hold};
-use std::alloc::Allocator;
+use std::alloc::{Allocator, Global};
 use std::cell::RefCell;
 use std::fs::{File, Metadata, OpenFile, OpenOptions, TryLockError};
 use std::io;
@@ -157,39 +157,59 @@ impl Files for Noting {
     }
 }
 
-/// What is noted while a host over this folder syncs its log, writes it, syncs it again, and syncs a slot.
-fn notes_of(rt: HostRuntime, folder: &str) -> Result<String, Fail> {
-    let notes = Rc::new(rt.alloc(), RefCell::new(String::new(rt.alloc())))?;
-    let files = Noting {
-        rt,
-        notes: notes.clone()?,
-    };
-    let mut host = FolderHost::new(&files, rt.alloc(), folder, Access::Write, io::sink());
+/// Syncs a host's log over this folder, writes it, syncs it again, and syncs a slot.
+fn sync_all(files: &Noting, folder: &str) {
+    let mut host = FolderHost::new(files, files.rt.alloc(), folder, Access::Write, io::sink());
     let _ = host.sync(2);
     let _ = host.write_at(2, 0, b"abc");
     let _ = host.sync(2);
     let _ = host.sync(0);
+}
+
+/// A copy of what was noted.
+fn text_of(alloc: Global, notes: &Notes) -> Result<String, Fail> {
     match notes.try_borrow() {
-        Ok(text) => Ok(String::from_str(rt.alloc(), text.as_str())?),
-        Err(_) => Ok(String::new(rt.alloc())),
+        Ok(text) => Ok(String::from_str(alloc, text.as_str())?),
+        Err(_) => Ok(String::new(alloc)),
     }
+}
+
+/// What is noted then.
+fn notes_of(rt: HostRuntime, folder: &str) -> Result<String, Fail> {
+    let files = Noting {
+        rt,
+        notes: Rc::new(rt.alloc(), RefCell::new(String::new(rt.alloc())))?,
+    };
+    sync_all(&files, folder);
+    let text = text_of(rt.alloc(), &files.notes);
+    drop(files);
+    text
+}
+
+/// What is asked where the store is new: the folder and its name in the one above, the files, and at a file's first
+/// sync its name too.
+const NEW: &str =
+    "make ordered\nsync ordered/..\nmake ordered/events\nhold ordered/events\nmake ordered/slot0\nmake ordered/slot1\nsync ordered/events\nsync ordered/.\nwrite ordered/events\nsync data ordered/events\nsync ordered/slot0\nsync ordered/.\n";
+
+/// What is asked where it is there: it is not made again, and its names are stored again.
+const THERE: &str =
+    "make ordered/events\nhold ordered/events\nmake ordered/slot0\nmake ordered/slot1\nsync ordered/events\nsync ordered/.\nwrite ordered/events\nsync data ordered/events\nsync ordered/slot0\nsync ordered/.\n";
+
+/// Whether just this is asked.
+fn is_noted(rt: HostRuntime, wanted: &str) -> Result<bool, Fail> {
+    let notes = notes_of(rt, "ordered")?;
+    let is_noted = notes.as_str() == wanted;
+    drop(notes);
+    Ok(is_noted)
 }
 
 #[test]
 fn a_store_is_made_and_stored_in_order(rt: HostRuntime) -> Result<(), Fail> {
-    // the folder and its name in the one above, the files, and at a file's first sync its name too
-    let made = "make ordered\nsync ordered/..\n";
-    let opened =
-        "make ordered/events\nhold ordered/events\nmake ordered/slot0\nmake ordered/slot1\n";
-    let synced =
-        "sync ordered/events\nsync ordered/.\nwrite ordered/events\nsync data ordered/events\nsync ordered/slot0\nsync ordered/.\n";
-    let first = format!(in rt.alloc(); "{made}{opened}{synced}")?;
-    assert_eq!(rt; notes_of(rt, "ordered")?.as_str(), first.as_str());
-    // a store that is there is not made again, and its names are stored again
-    let again = format!(in rt.alloc(); "{opened}{synced}")?;
-    assert_eq!(rt; notes_of(rt, "ordered")?.as_str(), again.as_str());
+    let is_made = is_noted(rt, NEW)?;
+    let is_found = is_noted(rt, THERE)?;
     // a folder without a log may be one whose name wasn't stored
     std::fs::remove_file(&rt, "ordered/events")?;
-    assert_eq!(rt; notes_of(rt, "ordered")?.as_str(), first.as_str());
+    let is_stored = is_noted(rt, NEW)?;
+    assert!(rt; is_made && is_found && is_stored);
     Ok(())
 }

@@ -8,6 +8,7 @@ use rg_host::{Image, MemHost};
 use rg_replay::replay;
 use std::alloc::Global;
 use std::marker::Brand;
+use std::process::Abort;
 use std::sync::ledger::{Blank, Ledger};
 use std::test::Fail;
 
@@ -21,13 +22,16 @@ const RUN: Case<'static> = Case {
 };
 
 /// Replays the store on this host by this plan, from offset 0 on.
-fn replay_on<L: Ledger>(
+fn replay_counted<L: Ledger>(
     alloc: Global,
     plan: &Plan,
     host: &mut MemHost,
-    steps: &mut Steps<L>,
+    blank: Blank,
 ) -> Result<(), Fail>
-    requires { IsReadPlan plan.now }
+    requires named { blank.name ≡ L.name }
+    requires parts { blank.parts ≡ L.parts }
+    requires whole { 0 < blank.parts }
+    requires read { IsReadPlan plan.now }
 {
     let room = Room {
         chunk: plan.room.chunk,
@@ -35,60 +39,78 @@ fn replay_on<L: Ledger>(
         limit: 1_000,
     };
     let task = plan.task.copy(alloc)?;
-    match replay(alloc, host, &plan.schema, room, task, 0, steps) {
+    let mut steps = Steps::<L>::new(blank);
+    let replayed = replay(alloc, host, &plan.schema, room, task, 0, &mut steps);
+    drop(steps);
+    match replayed {
         Ok(()) => Ok(()),
         Err(fault) => Err(Fail::from(fault)),
     }
 }
 
-/// What a replay by one plan puts of what a run by another one leaves.
-fn replay_counted<L: Ledger>(
-    alloc: Global,
-    ran: &Plan,
-    plan: &Plan,
-    input: &[u8],
-    blank: Blank,
-) -> Result<Vec<u8>, Fail>
-    requires named { blank.name ≡ L.name }
-    requires parts { blank.parts ≡ L.parts }
-    requires whole { 0 < blank.parts }
-    requires stored { IsReadPlan ran.now }
-    requires read { IsReadPlan plan.now }
-{
-    let mut host = MemHost::new(alloc, Image::new(alloc), Vec::new(alloc))?;
-    let mut steps = Steps::<L>::new(blank);
-    run_on(alloc, ran, input, &mut host, &mut steps)?;
-    let put = host.output().len();
-    replay_on(alloc, plan, &mut host, &mut steps)?;
-    Ok(host.output().get(put..).unwrap_or(b"").to_vec(alloc)?)
-}
-
-/// The same of the run's own plan, with a ledger of its own.
-fn put_by_replay(alloc: Global, plan: &Plan, input: &[u8]) -> Result<Vec<u8>, Fail>
+/// The same, with a ledger of its own.
+fn replay_on(alloc: Global, plan: &Plan, host: &mut MemHost) -> Result<(), Fail>
     requires { IsReadPlan plan.now }
 {
-    let ran = plan_of(alloc, RUN)?;
-    let text = replay_counted::<Brand>(alloc, &ran, plan, input, Blank::new(1));
-    drop(ran);
-    text
+    replay_counted::<Brand>(alloc, plan, host, Blank::new(1))
 }
 
-/// Whether a replay by the plan of a case puts the replies from scratch, and then its last line.
+/// Stores the payments on this host.
+fn store(alloc: Global, input: &str, host: &mut MemHost) -> Result<(), Fail> {
+    let plan = plan_of(alloc, RUN)?;
+    let done = run_on(alloc, &plan, input.as_bytes(), host);
+    drop(plan);
+    done
+}
+
+/// The replies from scratch, and then the last line of a replay.
+fn wanted_by(alloc: Global, plan: &Plan, input: &str) -> Result<String, Fail> {
+    let mut wanted = replies_from_scratch(alloc, plan, input)?;
+    write!(wanted, "done {PAYMENTS} {PAYMENTS}\n")?;
+    Ok(wanted)
+}
+
+/// Whether a replay by this plan of what is stored on this host puts that.
+fn is_put(alloc: Global, plan: &Plan, input: &str, host: &mut MemHost) -> Result<bool, Fail>
+    requires { IsReadPlan plan.now }
+{
+    store(alloc, input, host)?;
+    let stored = host.output().len();
+    replay_on(alloc, plan, host)?;
+    let wanted = wanted_by(alloc, plan, input)?;
+    Ok(host.output().get(stored..).unwrap_or(b"") == wanted.as_bytes())
+}
+
+/// The same on a new host.
+fn is_put_by(alloc: Global, plan: &Plan, input: &str) -> Result<bool, Fail>
+    requires { IsReadPlan plan.now }
+{
+    let mut host = MemHost::new(alloc, Image::new(alloc), Vec::new(alloc))?;
+    let is_put = is_put(alloc, plan, input, &mut host);
+    drop(host);
+    is_put
+}
+
+/// The same by the plan of a case.
 fn is_from_scratch(alloc: Global, case: Case<'_>, input: &str) -> Result<bool, Fail> {
     let plan = plan_of(alloc, case)?;
-    let replies = replies_from_scratch(alloc, &plan, input)?;
-    let text = put_by_replay(alloc, &plan, input.as_bytes())?;
+    let is_put = is_put_by(alloc, &plan, input);
     drop(plan);
-    let wanted = format!(in alloc; "{replies}done {PAYMENTS} {PAYMENTS}\n")?;
-    Ok(text.as_slice() == wanted.as_bytes())
+    is_put
+}
+
+/// The same of each case.
+fn assert_from_scratch(rt: &(impl Abort + AllocGlobal), input: &str) -> Result<(), Fail> {
+    for case in &CASES {
+        assert!(rt; is_from_scratch(rt.alloc(), *case, input)?);
+    }
+    Ok(())
 }
 
 #[test]
 fn other_queries_than_the_runs_are_answered_from_scratch(rt: HostRuntime) -> Result<(), Fail> {
-    let alloc = rt.alloc();
-    let input = first_lines(alloc, PAYMENTS)?;
-    for case in CASES {
-        assert!(rt; is_from_scratch(alloc, case, input.as_str())?);
-    }
-    Ok(())
+    let input = first_lines(rt.alloc(), PAYMENTS)?;
+    let done = assert_from_scratch(&rt, input.as_str());
+    drop(input);
+    done
 }

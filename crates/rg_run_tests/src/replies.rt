@@ -12,6 +12,8 @@ use rg_row::read_row;
 use rg_scratch::{answer_from_scratch, make_line};
 use std::alloc::Global;
 use std::marker::Brand;
+use std::process::Abort;
+use std::str;
 use std::sync::ledger::{Blank, Ledger};
 use std::test::Fail;
 
@@ -76,19 +78,25 @@ pub(super) fn plan_of(alloc: Global, case: Case<'_>) -> Result<Plan, Fail>
     }
 }
 
-/// The first of the made lines, each with one of three shops and a flag behind it.
+/// Adds a made line, with one of three shops and a flag behind it.
+fn add_line(alloc: Global, input: &mut Vec<u8>, i: u64) -> Result<(), Fail>
+    requires { i < 200000 }
+{
+    make_line(SEED, i, input)?;
+    let shop = i / 2 % 3;
+    let online = i % 5 < 2;
+    let more = format!(in alloc; ",{shop},{online}\n")?;
+    put_bytes(input, more.as_bytes())?;
+    Ok(())
+}
+
+/// The first of those lines.
 pub(super) fn first_lines(alloc: Global, lines: u64) -> Result<String, Fail>
     requires { lines ≤ 200000 }
 {
     let mut input = Vec::new(alloc);
     for i in 0..lines {
-        make_line(SEED, i, &mut input)?;
-        let shop = i / 2 % 3;
-        let online = i % 5 < 2;
-        put_bytes(
-            &mut input,
-            format!(in alloc; ",{shop},{online}\n")?.as_bytes(),
-        )?;
+        add_line(alloc, &mut input, i)?;
     }
     Ok(String::from_utf8(input)?)
 }
@@ -119,6 +127,38 @@ fn reply_from_scratch(alloc: Global, plan: &Plan, events: &[Event]) -> Result<Re
     Ok(Reply::Answered(answer_from_scratch(alloc, &plan.task, events, last)?))
 }
 
+/// Adds the event of a line to those before it, and the line of the reply to it.
+fn add_reply(
+    alloc: Global,
+    plan: &Plan,
+    line: &str,
+    events: &mut Vec<Event>,
+    replies: &mut Vec<u8>,
+) -> Result<(), Fail> {
+    let offset = events.len() as u64;
+    let event = event_of(alloc, plan, offset, line.as_bytes())?;
+    events.push(event)?;
+    let reply = reply_from_scratch(alloc, plan, events)?;
+    let done = write_reply(replies, offset, &reply);
+    drop(reply);
+    done?;
+    Ok(())
+}
+
+/// Adds the lines of the replies to an input.
+fn add_replies(
+    alloc: Global,
+    plan: &Plan,
+    input: &str,
+    events: &mut Vec<Event>,
+    replies: &mut Vec<u8>,
+) -> Result<(), Fail> {
+    for line in input.lines() {
+        add_reply(alloc, plan, line, events, replies)?;
+    }
+    Ok(())
+}
+
 /// The lines of the replies to an input, all from scratch.
 pub(super) fn replies_from_scratch(
     alloc: Global,
@@ -127,96 +167,139 @@ pub(super) fn replies_from_scratch(
 ) -> Result<String, Fail> {
     let mut replies = Vec::new(alloc);
     let mut events = Vec::new(alloc);
-    for line in input.lines() {
-        let offset = events.len() as u64;
-        events.push(event_of(alloc, plan, offset, line.as_bytes())?)?;
-        let reply = reply_from_scratch(alloc, plan, &events)?;
-        write_reply(&mut replies, offset, &reply)?;
-    }
+    let done = add_replies(alloc, plan, input, &mut events, &mut replies);
+    drop(events);
+    done?;
     Ok(String::from_utf8(replies)?)
 }
 
 /// Runs over the store on this host, with an input whose first line has offset 0.
-pub(super) fn run_on<L: Ledger>(
+fn run_counted<L: Ledger>(
     alloc: Global,
     plan: &Plan,
     input: &[u8],
     host: &mut MemHost,
-    steps: &mut Steps<L>,
-) -> Result<(), Fail>
-    requires { IsReadPlan plan.now }
-{
-    let mut source = MemSource::new(input.to_vec(alloc)?, Vec::new(alloc));
-    match run(alloc, plan, 0, &mut source, host, steps) {
-        Ok(()) => Ok(()),
-        Err(fault) => Err(Fail::from(fault)),
-    }
-}
-
-/// What two runs over one new store put: the first has half of the lines, and the second, which goes on
-/// from a checkpoint, all of them.
-fn runs_counted<L: Ledger>(
-    alloc: Global,
-    plan: &Plan,
-    half: &[u8],
-    all: &[u8],
     blank: Blank,
-) -> Result<Vec<u8>, Fail>
+) -> Result<(), Fail>
     requires named { blank.name ≡ L.name }
     requires parts { blank.parts ≡ L.parts }
     requires whole { 0 < blank.parts }
     requires read { IsReadPlan plan.now }
 {
-    let mut host = MemHost::new(alloc, Image::new(alloc), Vec::new(alloc))?;
+    let mut source = MemSource::new(input.to_vec(alloc)?, Vec::new(alloc));
     let mut steps = Steps::<L>::new(blank);
-    run_on(alloc, plan, half, &mut host, &mut steps)?;
-    run_on(alloc, plan, all, &mut host, &mut steps)?;
-    Ok(host.output().to_vec(alloc)?)
+    let ran = run(alloc, plan, 0, &mut source, host, &mut steps);
+    drop(steps);
+    drop(source);
+    match ran {
+        Ok(()) => Ok(()),
+        Err(fault) => Err(Fail::from(fault)),
+    }
 }
 
 /// The same, with a ledger of its own.
-fn put_by_runs(alloc: Global, plan: &Plan, half: &[u8], all: &[u8]) -> Result<Vec<u8>, Fail>
+pub(super) fn run_on(
+    alloc: Global,
+    plan: &Plan,
+    input: &[u8],
+    host: &mut MemHost,
+) -> Result<(), Fail>
     requires { IsReadPlan plan.now }
 {
-    runs_counted::<Brand>(alloc, plan, half, all, Blank::new(1))
+    run_counted::<Brand>(alloc, plan, input, host, Blank::new(1))
 }
 
-/// The lines of this text that begin with a digit, as replies do.
-fn replies_in(alloc: Global, text: &str) -> Result<String, Fail> {
-    let mut replies = String::new(alloc);
+/// Runs twice over the store on this host: the first run has half of the lines, and the second, which goes on from a
+/// checkpoint, all of them.
+fn run_both(
+    alloc: Global,
+    plan: &Plan,
+    half: &str,
+    all: &str,
+    host: &mut MemHost,
+) -> Result<(), Fail>
+    requires { IsReadPlan plan.now }
+{
+    run_on(alloc, plan, half.as_bytes(), host)?;
+    run_on(alloc, plan, all.as_bytes(), host)
+}
+
+/// Adds the lines of this text that begin with a digit, as replies do.
+fn add_digit_lines(text: &str, replies: &mut String) -> Result<(), Fail> {
     for line in text.lines() {
         if line.as_bytes().first().is_some_and(u8::is_ascii_digit) {
             replies.push_str(line)?;
             replies.push_str("\n")?;
         }
     }
-    Ok(replies)
+    Ok(())
 }
 
-/// The replies of these two runs.
+/// The replies that a host has put.
+fn replies_in(alloc: Global, host: &MemHost) -> Result<String, Fail> {
+    let mut replies = String::new(alloc);
+    let text = str::from_utf8(host.output()).unwrap_or("0 no text");
+    match add_digit_lines(text, &mut replies) {
+        Ok(()) => Ok(replies),
+        Err(fail) => Err(fail),
+    }
+}
+
+/// The replies of these two runs on this host.
+fn replies_on(
+    alloc: Global,
+    plan: &Plan,
+    half: &str,
+    all: &str,
+    host: &mut MemHost,
+) -> Result<String, Fail>
+    requires { IsReadPlan plan.now }
+{
+    run_both(alloc, plan, half, all, host)?;
+    replies_in(alloc, host)
+}
+
+/// The same over a new store.
 fn replies_of_runs(alloc: Global, plan: &Plan, half: &str, all: &str) -> Result<String, Fail>
     requires { IsReadPlan plan.now }
 {
-    let text = String::from_utf8(put_by_runs(alloc, plan, half.as_bytes(), all.as_bytes())?)?;
-    replies_in(alloc, text.as_str())
+    let mut host = MemHost::new(alloc, Image::new(alloc), Vec::new(alloc))?;
+    let replies = replies_on(alloc, plan, half, all, &mut host);
+    drop(host);
+    replies
 }
 
 /// Whether the replies of two runs by this plan are those from scratch.
+fn are_by(alloc: Global, plan: &Plan, half: &str, all: &str) -> Result<bool, Fail>
+    requires { IsReadPlan plan.now }
+{
+    let replies = replies_of_runs(alloc, plan, half, all)?;
+    let expected = replies_from_scratch(alloc, plan, all)?;
+    Ok(replies.as_str() == expected.as_str())
+}
+
+/// The same by the plan of a case.
 fn are_from_scratch(alloc: Global, case: Case<'_>, half: &str, all: &str) -> Result<bool, Fail> {
     let plan = plan_of(alloc, case)?;
-    let replies = replies_of_runs(alloc, &plan, half, all)?;
-    let expected = replies_from_scratch(alloc, &plan, all)?;
+    let are_same = are_by(alloc, &plan, half, all);
     drop(plan);
-    Ok(replies.as_str() == expected.as_str())
+    are_same
+}
+
+/// The same of each case.
+fn assert_from_scratch(rt: &(impl Abort + AllocGlobal), half: &str, all: &str) -> Result<(), Fail> {
+    for case in &CASES {
+        assert!(rt; are_from_scratch(rt.alloc(), *case, half, all)?);
+    }
+    Ok(())
 }
 
 #[test]
 fn the_replies_are_those_from_scratch(rt: HostRuntime) -> Result<(), Fail> {
-    let alloc = rt.alloc();
-    let half = first_lines(alloc, LINES / 2)?;
-    let all = first_lines(alloc, LINES)?;
-    for case in CASES {
-        assert!(rt; are_from_scratch(alloc, case, half.as_str(), all.as_str())?);
-    }
-    Ok(())
+    let half = first_lines(rt.alloc(), LINES / 2)?;
+    let all = first_lines(rt.alloc(), LINES)?;
+    let done = assert_from_scratch(&rt, half.as_str(), all.as_str());
+    drop(half);
+    drop(all);
+    done
 }

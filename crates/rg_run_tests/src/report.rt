@@ -5,9 +5,15 @@ use std::io;
 use std::process::Abort;
 use std::test::Fail;
 
-/// A refusal of a plan, for another cause than TOML.
-fn refusal(fault: ConfigFault) -> Refusal {
-    Refusal { fault, toml: None }
+/// A report says this.
+fn assert_said(
+    rt: &(impl Abort + AllocGlobal),
+    report: &Report<'_>,
+    sentence: &str,
+) -> Result<(), Fail> {
+    let said = format!(in rt.alloc(); "{report}")?;
+    assert_eq!(rt; said.as_str(), sentence);
+    Ok(())
 }
 
 /// The report of this status says this.
@@ -24,8 +30,23 @@ fn assert_says(
         refusal,
         failure,
     };
-    let said = format!(in rt.alloc(); "{report}")?;
-    assert_eq!(rt; said.as_str(), sentence);
+    let done = assert_said(rt, &report, sentence);
+    drop(report);
+    done
+}
+
+/// The reports of plans that are refused for these causes say this.
+fn assert_each_says(
+    rt: &(impl Abort + AllocGlobal),
+    rows: &[(ConfigFault, &str)],
+) -> Result<(), Fail> {
+    for (fault, sentence) in rows {
+        let why = Refusal {
+            fault: *fault,
+            toml: None,
+        };
+        assert_says(rt, Status::Plan, Some(why), None, sentence)?;
+    }
     Ok(())
 }
 
@@ -56,130 +77,125 @@ fn a_document_is_told_its_line(rt: HostRuntime) -> Result<(), Fail> {
 
 #[test]
 fn a_setting_is_told_its_range(rt: HostRuntime) -> Result<(), Fail> {
-    let sentences = [
-        (
-            SettingsFault::TopKey,
-            "plan.toml: plan: a key other than queries, stream and settings",
-        ),
-        (
-            SettingsFault::Queries,
-            "plan.toml: plan: queries must be a list of one string or more",
-        ),
-        (
-            SettingsFault::Table,
-            "plan.toml: plan: settings must be a table",
-        ),
-        (
-            SettingsFault::Key,
-            "plan.toml: settings: a key other than cache, chunk, commit, save, events, header and grace",
-        ),
-        (
-            SettingsFault::Cache,
-            "plan.toml: settings: cache must be 1 to 1024",
-        ),
-        (
-            SettingsFault::Chunk,
-            "plan.toml: settings: chunk must be 1 to 4096",
-        ),
-        (
-            SettingsFault::Commit,
-            "plan.toml: settings: commit must be 1 to 1000000",
-        ),
-        (
-            SettingsFault::Save,
-            "plan.toml: settings: save must be 1 to 1000000",
-        ),
-        (
-            SettingsFault::Events,
-            "plan.toml: settings: events must be 1 to 1099511627776",
-        ),
-        (
-            SettingsFault::Header,
-            "plan.toml: settings: header must be true or false",
-        ),
-        (
-            SettingsFault::Grace,
-            "plan.toml: settings: grace must be 0 to 1000000000000000",
-        ),
-        (
-            SettingsFault::CachedEvents,
-            "plan.toml: settings: cache times chunk must be at most 65536",
-        ),
-    ];
-    for (fault, sentence) in sentences {
-        let why = Some(refusal(ConfigFault::Settings(fault)));
-        assert_says(&rt, Status::Plan, why, None, sentence)?;
-    }
-    let stream =
-        "plan.toml: stream: name and columns must be there, and describe a time and up to 32 columns NAME:KIND";
-    let why = Some(refusal(ConfigFault::Stream));
-    assert_says(&rt, Status::Plan, why, None, stream)
+    assert_each_says(
+        &rt,
+        &[
+            (
+                ConfigFault::Settings(SettingsFault::TopKey),
+                "plan.toml: plan: a key other than queries, stream and settings",
+            ),
+            (
+                ConfigFault::Settings(SettingsFault::Queries),
+                "plan.toml: plan: queries must be a list of one string or more",
+            ),
+            (
+                ConfigFault::Settings(SettingsFault::Table),
+                "plan.toml: plan: settings must be a table",
+            ),
+            (
+                ConfigFault::Settings(SettingsFault::Key),
+                "plan.toml: settings: a key other than cache, chunk, commit, save, events, header and grace",
+            ),
+            (
+                ConfigFault::Settings(SettingsFault::Cache),
+                "plan.toml: settings: cache must be 1 to 1024",
+            ),
+            (
+                ConfigFault::Settings(SettingsFault::Chunk),
+                "plan.toml: settings: chunk must be 1 to 4096",
+            ),
+            (
+                ConfigFault::Settings(SettingsFault::Commit),
+                "plan.toml: settings: commit must be 1 to 1000000",
+            ),
+            (
+                ConfigFault::Settings(SettingsFault::Save),
+                "plan.toml: settings: save must be 1 to 1000000",
+            ),
+            (
+                ConfigFault::Settings(SettingsFault::Events),
+                "plan.toml: settings: events must be 1 to 1099511627776",
+            ),
+            (
+                ConfigFault::Settings(SettingsFault::Header),
+                "plan.toml: settings: header must be true or false",
+            ),
+            (
+                ConfigFault::Settings(SettingsFault::Grace),
+                "plan.toml: settings: grace must be 0 to 1000000000000000",
+            ),
+            (
+                ConfigFault::Settings(SettingsFault::CachedEvents),
+                "plan.toml: settings: cache times chunk must be at most 65536",
+            ),
+            (
+                ConfigFault::Stream,
+                "plan.toml: stream: name and columns must be there, and describe a time and up to 32 columns NAME:KIND",
+            ),
+        ],
+    )
 }
 
 #[test]
 fn a_default_is_told_its_fault_and_column(rt: HostRuntime) -> Result<(), Fail> {
-    let sentences = [
-        (
-            DefaultsFault::Table,
-            "plan.toml: stream: defaults must be a table",
-        ),
-        (
-            DefaultsFault::Key,
-            "plan.toml: stream: a default of no column past the time",
-        ),
-        (
-            DefaultsFault::Column(4),
-            "plan.toml: stream: the default of column 4, where the time is 0, must be a string that says a value of its kind",
-        ),
-    ];
-    for (fault, sentence) in sentences {
-        let why = Some(refusal(ConfigFault::Defaults(fault)));
-        assert_says(&rt, Status::Plan, why, None, sentence)?;
-    }
-    Ok(())
+    assert_each_says(
+        &rt,
+        &[
+            (
+                ConfigFault::Defaults(DefaultsFault::Table),
+                "plan.toml: stream: defaults must be a table",
+            ),
+            (
+                ConfigFault::Defaults(DefaultsFault::Key),
+                "plan.toml: stream: a default of no column past the time",
+            ),
+            (
+                ConfigFault::Defaults(DefaultsFault::Column(4)),
+                "plan.toml: stream: the default of column 4, where the time is 0, must be a string that says a value of its kind",
+            ),
+        ],
+    )
 }
 
 #[test]
 fn a_query_is_told_its_fault_and_place(rt: HostRuntime) -> Result<(), Fail> {
-    let sentences = [
-        (
-            QueryRefusal::TooMany,
-            "plan.toml: query 2: there are more than 64",
-        ),
-        (
-            QueryRefusal::TooManyAggs,
-            "plan.toml: query 2: more than 16 answers",
-        ),
-        (
-            QueryRefusal::TooManyColumns,
-            "plan.toml: query 2: more than 8 columns in GROUP BY",
-        ),
-        (
-            QueryRefusal::Text(QueryFault::Syntax(17)),
-            "plan.toml: query 2: syntax error at byte 17",
-        ),
-        (
-            QueryRefusal::Text(QueryFault::UnknownName(17)),
-            "plan.toml: query 2: no column or stream of that name at byte 17",
-        ),
-        (
-            QueryRefusal::Text(QueryFault::WrongKind(0)),
-            "plan.toml: query 2: a column or literal of the wrong kind at byte 0",
-        ),
-        (
-            QueryRefusal::Text(QueryFault::BadSpan(4000)),
-            "plan.toml: query 2: a span out of its range at byte 4000",
-        ),
-        (
-            QueryRefusal::Text(QueryFault::TooLarge),
-            "plan.toml: query 2: longer than 4096 bytes, or nested deeper than 32",
-        ),
-    ];
-    for (fault, sentence) in sentences {
-        let why = Some(refusal(ConfigFault::Query(2, fault)));
-        assert_says(&rt, Status::Plan, why, None, sentence)?;
-    }
-    Ok(())
+    assert_each_says(
+        &rt,
+        &[
+            (
+                ConfigFault::Query(2, QueryRefusal::TooMany),
+                "plan.toml: query 2: there are more than 64",
+            ),
+            (
+                ConfigFault::Query(2, QueryRefusal::TooManyAggs),
+                "plan.toml: query 2: more than 16 answers",
+            ),
+            (
+                ConfigFault::Query(2, QueryRefusal::TooManyColumns),
+                "plan.toml: query 2: more than 8 columns in GROUP BY",
+            ),
+            (
+                ConfigFault::Query(2, QueryRefusal::Text(QueryFault::Syntax(17))),
+                "plan.toml: query 2: syntax error at byte 17",
+            ),
+            (
+                ConfigFault::Query(2, QueryRefusal::Text(QueryFault::UnknownName(17))),
+                "plan.toml: query 2: no column or stream of that name at byte 17",
+            ),
+            (
+                ConfigFault::Query(2, QueryRefusal::Text(QueryFault::WrongKind(0))),
+                "plan.toml: query 2: a column or literal of the wrong kind at byte 0",
+            ),
+            (
+                ConfigFault::Query(2, QueryRefusal::Text(QueryFault::BadSpan(4000))),
+                "plan.toml: query 2: a span out of its range at byte 4000",
+            ),
+            (
+                ConfigFault::Query(2, QueryRefusal::Text(QueryFault::TooLarge)),
+                "plan.toml: query 2: longer than 4096 bytes, or nested deeper than 32",
+            ),
+        ],
+    )
 }
 
 #[test]

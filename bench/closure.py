@@ -28,7 +28,7 @@ PARTS = [
     ("the run: what is put, and what each moment leaves", "rg_call rg_replay rg_trial rg_listing rg_recover rg_run rg_task rg_course rg_open rg_report rg_host"),
     ("what a line says", "rg_host/Lines rg_row rg_event rg_bytes"),
     ("what a reply is, from scratch", "rg_metric rg_reply rg_scratch"),
-    ("the log: bytes of frames and chunks", "rg_frame rg_log rg_reservoir rg_dump rg_info rg_chunk rg_column rg_event/Codec rg_event/Tagged rg_event/Words rg_bytes/Reading"),
+    ("the log: bytes of frames and chunks", "rg_frame rg_log rg_growth rg_reservoir rg_dump rg_info rg_chunk rg_column rg_event/Codec rg_event/Tagged rg_event/Words rg_bytes/Reading"),
     ("checkpoints: their bytes, and when they are true", "rg_checkpoint rg_restore rg_state rg_agg rg_plan rg_group rg_window rg_engine rg_query/Printing"),
     ("what the bytes of a plan say", "rg_config rg_query rg_parse rg_grammar rg_token rg_words"),
 ]

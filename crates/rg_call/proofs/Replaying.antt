@@ -5,7 +5,6 @@ use Rattle.std.specs.Prelude.{IfSome}
 use Rattle.std.specs.Option.{ForSome}
 use Rattle.std.proofs.lemmas.List.{append-nil}
 use Rattle.rg_bytes.specs.Counts.{Rose}
-use Rattle.rg_log.specs.Log.{schema_payload}
 use Rattle.rg_plan.specs.Plans.{Tasks, plan_for}
 use Rattle.rg_engine.specs.Feeding.{Serves}
 use Rattle.rg_config.specs.Plans.{Planned}
@@ -16,8 +15,7 @@ use Rattle.rg_host.specs.Puts.{IsPrefix, Puts, StopsWith}
 use Rattle.rg_host.proofs.PutRuns.{puts-then}
 use Rattle.rg_listing.specs.Stops.{StopsAt}
 use Rattle.rg_listing.proofs.Stopped.{nothing_stops}
-use Rattle.rg_reservoir.specs.Attached.{IsOther, IsBadFrame}
-use Rattle.rg_reservoir.specs.Chain.{IsIllegal}
+use Rattle.rg_reservoir.specs.Attached.{IsOther, IsBadFrame, IsIllegalSince}
 use Rattle.rg_open.specs.Unfit.{IsUnfit}
 use Rattle.rg_task.specs.Terms.{terms_of}
 use Rattle.rg_run.specs.Begun.{Begun, course_for, lines_in}
@@ -136,8 +134,8 @@ replayable plan tasks now may made serve ready = record {
 -- The causes of a fault.
 module _ {H : Type 0} (now : H → Option Image) (may : H → Image → Type 0) (disk_faults out_faults : H → ℕ) (plan : Planned) (cause : ReplayFault) (status : Status) (last : List ℕ) (old new : H) (ends : EndsReplay cause status last)
     (expected : IsReadyReplay plan (now old) (may old) → IsExpected cause)
-    (differs : cause ≡ replay.SchemaDiffers → ForSome (now old) (λ v. IsOther (schema_payload plan.shape) (v 2)))
-    (damaged : (p : ℕ) → cause ≡ replay.Damaged p → ForSome (now old) (λ v. IsBadFrame (schema_payload plan.shape) p (v 2)) ⊎ ForSome (now old) (λ v. IsIllegal plan.shape.fields p (v 2)))
+    (differs : cause ≡ replay.SchemaDiffers → ForSome (now old) (λ v. IsOther plan.shape (v 2)))
+    (damaged : (p : ℕ) → cause ≡ replay.Damaged p → ForSome (now old) (λ v. IsBadFrame p (v 2)) ⊎ ForSome (now old) (λ v. IsIllegalSince plan.shape (v 2) p (v 2)))
     (disk : cause ≡ replay.Disk → Rose (disk_faults old) (disk_faults new)) (write : cause ≡ replay.Write → Rose (out_faults old) (out_faults new)) where
   line_of : IsRefusal cause last → IsReplayLine plan (now old) last
   line_of (inl s) = inl (s.1, differs s.0)

@@ -7,7 +7,7 @@ use Rattle.rg_event.specs.declared.event.Event.{Event}
 use Rattle.rg_host.specs.Image.{Image}
 use Rattle.rg_log.specs.Log.{HasEvents}
 use Rattle.rg_config.specs.Plans.{Planned}
-use Rattle.rg_reservoir.specs.Chain.{IsIllegal}
+use Rattle.rg_reservoir.specs.Attached.{IsIllegalSince}
 use Rattle.rg_open.specs.Stores.{Has}
 use Rattle.rg_open.specs.Blame.{IsBlamed}
 use Rattle.rg_open.specs.Unfit.{HasOtherSchema, HasBadFrame}
@@ -20,7 +20,7 @@ HasNoEvents plan v = (events : List Event) → HasEvents plan.shape events (v 2)
 
 -- the image's log isn't legal, and the image, or the one that is left, says that its log is damaged there
 abbrev pub IsDamagedAt : Planned → Option Image → Option Image → ℕ → Type 0
-IsDamagedAt plan old new place = ForSome old (HasNoEvents plan) × (ForSome old (λ v. HasBadFrame plan place v) ⊎ ForSome new (λ v. IsIllegal plan.shape.fields place (v 2)))
+IsDamagedAt plan old new place = ForSome old (HasNoEvents plan) × (ForSome old (λ v. HasBadFrame plan place v) ⊎ ForSome old (λ u. ForSome new (λ v. IsIllegalSince plan.shape (u 2) place (v 2))))
 
 -- where the image's log is legal, and of the plan's schema or without a frame, that node isn't true in the checkpoint that is used
 abbrev pub IsBadState : Planned → Option Image → ℕ → Type 0

@@ -9,7 +9,7 @@ use Rattle.rg_host.specs.Lines.{ended}
 use Rattle.rg_host.specs.Moments.{Moment}
 use Rattle.rg_host.specs.Puts.{IsPrefix, IsPut, Puts, StopsWith}
 use Rattle.rg_listing.specs.Stops.{StopsAt}
-use Rattle.rg_reservoir.specs.Chain.{IsIllegal}
+use Rattle.rg_reservoir.specs.Attached.{IsIllegalSince}
 use Rattle.rg_open.specs.Stores.{Has}
 use Rattle.rg_open.specs.Unfit.{HasOtherSchema, HasBadFrame, IsUnfit}
 use Rattle.rg_replay.specs.Replay.{replay_text}
@@ -54,7 +54,7 @@ EndsReplay replay.Write status last = Fails Write status last
 abbrev pub IsReplayLine : Planned → Option Image → List ℕ → Type 0
 IsReplayLine plan now last =
     ((last ≡ schema_line) × ForSome now (HasOtherSchema plan))
-    ⊎ ((place : ℕ) × (last ≡ damage_line (Some place)) × (ForSome now (HasBadFrame plan place) ⊎ ForSome now (λ v. IsIllegal plan.shape.fields place (v 2))))
+    ⊎ ((place : ℕ) × (last ≡ damage_line (Some place)) × (ForSome now (HasBadFrame plan place) ⊎ ForSome now (λ v. IsIllegalSince plan.shape (v 2) place (v 2))))
     ⊎ ((node : ℕ) × (last ≡ state_line node))
 
 -- A refusal of the store comes only where it isn't ready, with such a line.

@@ -179,8 +179,9 @@ fn end<H: Host>(host: &mut H, done: &Result<(), Ending>) -> Status
 /// and 2^50 bytes of `input` are taken, and one more where there is one. What a run puts out is `open`
 /// with what the store has, the answer of each line from the store's next offset on, in order, each with
 /// the marks that are due, and at last what is stored and saved and `done LINES EVENTS`; what a check
-/// puts out is each query and then the task plan; what a dump puts out is the schema's text and then each
-/// event as a row; what `info` puts out is six lines, once the whole log was read; what a replay puts out is
+/// puts out is each query and then the task plan; what a dump puts out is the text of the schema in force at
+/// the log's end, and then each event as a row, with the values of every later growth behind its own; what
+/// `info` puts out is six lines, once the whole log was read; what a replay puts out is
 /// the line of each event from that offset on, as a run puts it, each answer by the events up to and with its
 /// own, and at last `done NEXT COUNT`, the next offset and how many events there are; what a verify puts out is
 /// a line for each slot, once the whole log was read; what a trial puts out is four lines, and it touches
@@ -267,7 +268,7 @@ pub fn railgun<P: Source, I: Source, H: Host>(
     ensures replay_put { (first : ℕ) → command_of words.now ≡ Some (Command.Replay first) → (told : ToldReplay (P.left plan.old) (H.now host.old) (H.may host.old)) →
         PutsReplay H.said H.clock H.since (text_of_replay told first) (Rose (H.out_faults host.old) (H.out_faults host.new)) result host.old host.new }
 
-    // Over a store of another schema, or with a frame that its heads show to be bad, nothing was put but the last line, which says why.
+    // Over a store with a frame that its heads and growths show to be bad, or else of another schema, nothing was put but the last line, which says why.
     ensures replay_refused { IsReplay (command_of words.now) → (bytes : List ℕ) (asks : Planned) (v : Image) → P.left plan.old ≡ Some bytes → IsPlan bytes asks → H.now host.old ≡ Some v → IsUnfit asks v →
         PutsRefusal H.said H.clock H.since asks (H.now host.old) (Rose (H.out_faults host.old) (H.out_faults host.new)) result host.old host.new }
 
@@ -295,7 +296,7 @@ pub fn railgun<P: Source, I: Source, H: Host>(
         ⊎ (IsReplay (command_of words.now) × ((last : List ℕ) × RefusesReplay (P.left plan.old) (H.now host.old) (H.may host.old) last × (EndsWith (H.said host.new) last ⊎ Rose (H.out_faults host.old) (H.out_faults host.new))))
         ⊎ (IsVerify (command_of words.now) × ((last : List ℕ) × RefusesVerify (P.left plan.old) (H.now host.old) last × (EndsWith (H.said host.new) last ⊎ Rose (H.out_faults host.old) (H.out_faults host.new)))) }
 
-    // Over a store of another schema, or with a bad frame, a run says which, and leaves the input and the files alone.
+    // Over a store with a bad frame, or else of another schema, a run says which, and leaves the input and the files alone.
     ensures store_always { IsRun (command_of words.now) → (bytes : List ℕ) (asks : Planned) (v : Image) → P.left plan.old ≡ Some bytes → IsPlan bytes asks → H.now host.old ≡ Some v → IsUnfit asks v → (input.new ≡ input.old)
         × IsTurnedAway H.now H.may H.clock H.since H.said asks v (Rose (P.faults plan.old) (P.faults plan.new)) (Rose (H.out_faults host.old) (H.out_faults host.new)) result host.old host.new }
 
@@ -353,7 +354,7 @@ pub fn railgun<P: Source, I: Source, H: Host>(
         ¬ (Rose (P.faults plan.old) (P.faults plan.new) ⊎ Rose (I.faults input.old) (I.faults input.new) ⊎ Rose (H.out_faults host.old) (H.out_faults host.new) ⊎ Rose (H.disk_faults host.old) (H.disk_faults host.new)) →
         (result ≡ Status.Ok) ⊎ (result ≡ Status.Memory) }
 
-    // A run over a store of another schema, or with a bad frame, then says so.
+    // A run over a store with a bad frame, or else of another schema, then says so.
     ensures completes_store { IsRun (command_of words.now) → (bytes : List ℕ) (asks : Planned) (v : Image) → P.left plan.old ≡ Some bytes → IsPlan bytes asks → H.now host.old ≡ Some v → IsUnfit asks v →
         ¬ (Rose (P.faults plan.old) (P.faults plan.new) ⊎ Rose (H.disk_faults host.old) (H.disk_faults host.new)) → (result ≡ Status.Store) ⊎ (result ≡ Status.Memory) }
 

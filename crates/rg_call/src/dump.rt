@@ -24,8 +24,8 @@ fn ending_of(alloc: Global, fault: DumpFault) -> Ending
     }
 }
 
-/// Puts the dump of the store's log: its schema's text, and then each event as a row of `csv`. No
-/// file is written. A damaged log is dumped up to its first damaged place.
+/// Puts the dump of the store's log: the text of the schema in force at its end, and then each event as a
+/// row of `csv`. No file is written. A damaged log is dumped up to its first damaged place.
 pub(crate) fn dump<H: Host>(alloc: Global, host: &mut H) -> Result<(), Ending>
     ensures does { (plan : Option (List ℕ)) → Does H.now H.may H.clock H.since H.said (Some Command.Dump) plan None None ⊤ ⊥ (status_after result) (line_after result) host.old host.new }
     ensures causes { (plan : Option (List ℕ)) → Causes (Some Command.Dump) plan None (H.now host.old) (H.now host.new) (H.may host.old) ⊤ ⊥ ⊥ (Rose (H.out_faults host.old) (H.out_faults host.new)) (Rose (H.disk_faults host.old) (H.disk_faults host.new)) (status_after result) (line_after result) (refusal_after result) }

@@ -89,9 +89,9 @@ fn puts_front(alloc: Global, call: u64) -> Result<Option<bool>, Fail> {
 #[test]
 fn a_dump_whose_calls_fail_says_so(rt: HostRuntime) -> Result<(), Fail> {
     assert_fails_first(&rt)?;
-    // and one of the next is the first put
+    // and one of those behind the reading of the log is the first put
     let mut put_failed = false;
-    for call in 1..9 {
+    for call in 1..100 {
         if let Some(is_front) = puts_front(rt.alloc(), call)? {
             put_failed = true;
             assert!(rt; is_front, "at {call}");

@@ -9,7 +9,7 @@ use std::process::Abort;
 use std::test::Fail;
 
 /// An `info` of a store with three payments and the checkpoint of them, which fails where it reads a plan or an input.
-const INFO: Call<'static> = Call {
+pub(super) const INFO: Call<'static> = Call {
     words: &["info", "store"],
     failing_plan_reads: &[0],
     failing_reads: &[0],

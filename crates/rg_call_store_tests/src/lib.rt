@@ -6,6 +6,8 @@ mod cached;
 #[cfg(test)]
 mod dumped;
 #[cfg(test)]
+mod grown;
+#[cfg(test)]
 mod informed;
 #[cfg(test)]
 mod setting;

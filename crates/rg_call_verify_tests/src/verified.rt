@@ -170,8 +170,10 @@ fn an_unfit_log_is_told_before_a_slot(rt: HostRuntime) -> Result<(), Fail> {
         &[],
         &[
             OTHER_SCHEMA,
+            // a damaged log has no schema at its end
             Call {
                 log: &[Change::Front(100)],
+                wanted: "refused store damaged 57\n",
                 ..OTHER_SCHEMA
             },
             Call {

@@ -1,5 +1,7 @@
 pub mod Reading
 pub mod Walking
+pub mod Behind
+pub mod Surveying
 pub mod Dumping
 pub mod Quiet
 pub mod Rows

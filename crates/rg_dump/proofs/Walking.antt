@@ -13,11 +13,15 @@ use Rattle.rg_dump.specs.Stages.{Stages, stages_from, stages_of}
 use Rattle.rg_dump.specs.Dump.{damage_of}
 use Rattle.rg_dump.proofs.Reading.{reads_end, reads_damage, reads_frame}
 
+-- at most so many frames behind where the walk has come to
+abbrev pub rest_at : List ℕ → Walk → ℕ → List Stage
+rest_at bytes walk most = (stages_from most (place_of walk) (so_far_of walk) bytes).stages
+
 -- these frames of a file stand before where the walk has come to
 pub record IsAt (bytes : List ℕ) (walk : Walk) (stages : List Stage) : Type 0 where
   pub most : ℕ
   pub enough : length bytes ≤ place_of walk + most
-  pub are : (stages_of bytes).stages ≡ stages ++ (stages_from most (place_of walk) (so_far_of walk) bytes).stages
+  pub are : (stages_of bytes).stages ≡ stages ++ rest_at bytes walk most
   pub damage : damage_of bytes ≡ (stages_from most (place_of walk) (so_far_of walk) bytes).damage
 
 abbrev said : Option Shape → LogSummary → LogSoFar
@@ -38,6 +42,18 @@ at_next bytes s old new stages at next =
       are = at.are ∙ ap (λ (d : Stages). stages ++ d.stages) b.is ∙ sym (append_assoc stages (s ∷ []) _);
       damage = at.damage ∙ ap (λ (d : Stages). d.damage) b.is;
     }
+
+-- the frame that the walk took was the first one of the rest
+pub rest_next : (bytes : List ℕ) (s : Stage) (old new : Walk) (stages : List Stage) (at : IsAt bytes old stages) (next : IsNext bytes old s new) → rest_at bytes old at.most ≡ s ∷ rest_at bytes new (at_next bytes s old new stages at next).most
+unfolding at_next
+rest_next bytes s old new stages at next = ap (λ (d : Stages). d.stages) (reads_frame at.most s old new bytes at.enough next).is
+
+-- at the end of the log and at a damaged place there is none
+pub rest_end : (bytes : List ℕ) (walk : Walk) (stages : List Stage) (at : IsAt bytes walk stages) → IsClosed (place_of walk) bytes → rest_at bytes walk at.most ≡ []
+rest_end bytes walk stages at closed = ap (λ (d : Stages). d.stages) (reads_end at.most (place_of walk) (so_far_of walk) bytes closed)
+
+pub rest_damage : (bytes : List ℕ) (walk : Walk) (stages : List Stage) (at : IsAt bytes walk stages) → IsRefusedWalk bytes walk → rest_at bytes walk at.most ≡ []
+rest_damage bytes walk stages at refused = ap (λ (d : Stages). d.stages) (reads_damage at.most walk bytes at.enough refused)
 
 -- at the end of the log these frames are all
 pub at_end : (bytes : List ℕ) (walk : Walk) (stages : List Stage) → IsAt bytes walk stages → IsClosed (place_of walk) bytes → ((stages_of bytes).stages ≡ stages) × (damage_of bytes ≡ None)

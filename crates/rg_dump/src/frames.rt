@@ -5,15 +5,19 @@ ghost use Rattle.rg_host.specs.Lines.{ended};
 ghost use Rattle.rg_host.specs.Moments.{LeavesFiles};
 ghost use Rattle.rg_host.specs.Puts.{IsPrefix, Puts, StopsWith};
 ghost use Rattle.rg_event.specs.Shapes.{schema_text};
-ghost use Rattle.rg_dump.specs.Dump.{stage_lines, dump_text, damage_of, IsCutIn};
-ghost use Rattle.rg_dump.specs.Dumped.{HasDumped, IsNotDumped};
+ghost use Rattle.rg_dump.specs.Behind.{values_of, behind_after};
+ghost use Rattle.rg_dump.specs.Dump.{head_lines, stage_rows, rows_of, dump_text, damage_of};
+ghost use Rattle.rg_dump.specs.Dumped.{IsCutIn, HasPutStage, HasDumped, IsNotDumped, HasAll, IsNotAll};
 ghost use Rattle.rg_dump.specs.Faults.{of_walk};
 ghost use Rattle.rg_dump.specs.Leaves.{LeavesPut};
+ghost use Rattle.rg_dump.specs.Stages.{stages_of};
 
 use crate::fault::DumpFault;
-use crate::row::chunk_text;
+use crate::row::extended_text;
+use crate::survey::read_log;
+use crate::values::values_behind;
 use rg_bytes::{Memory, put_bytes};
-use rg_event::Schema;
+use rg_event::{Schema, Values};
 use rg_host::{Failed, Host, put_all};
 use rg_reservoir::{ReservoirFault, Stage, Walk};
 use std::alloc::Global;
@@ -28,25 +32,64 @@ fn schema_line(alloc: Global, schema: &Schema) -> Result<Vec<u8>, Memory>
     Ok(line)
 }
 
-/// The lines of a frame that was read, each ended by LF.
-fn stage_text(alloc: Global, stage: &Stage) -> Result<Vec<u8>, Memory>
-    ensures { IfOk result (λ text. text.items ≡ ended (stage_lines stage.now)) }
+/// The same, if there is a schema.
+fn head_text(alloc: Global, schema: &Option<Schema>) -> Result<Vec<u8>, Memory>
+    ensures { IfOk result (λ text. text.items ≡ ended (head_lines schema.now)) }
 {
-    match stage {
-        Stage::Schema(schema) => schema_line(alloc, schema),
-        Stage::Chunk(chunk) => chunk_text(alloc, chunk),
+    match schema {
+        Some(schema) => schema_line(alloc, schema),
+        None => Ok(Vec::new(alloc)),
     }
 }
 
-/// Puts the lines of a frame that was read.
-fn put_stage<H: Host>(alloc: Global, stage: &Stage, host: &mut H) -> Result<(), DumpFault>
-    ensures all { OnOk result (Puts H.said H.clock H.since host.old host.new (ended (stage_lines stage.now))) }
-    ensures part { IfErr result (λ fault. IsCutIn (ended (stage_lines stage.now)) (Puts H.said H.clock H.since host.old host.new) (fault ≡ DumpFault.Write)) }
+/// Puts that text.
+fn put_head<H: Host>(alloc: Global, schema: &Option<Schema>, host: &mut H) -> Result<(), DumpFault>
+    ensures all { OnOk result (Puts H.said H.clock H.since host.old host.new (ended (head_lines schema.now))) }
+    ensures part { IfErr result (λ fault. IsCutIn (ended (head_lines schema.now)) (Puts H.said H.clock H.since host.old host.new) (fault ≡ DumpFault.Write)) }
     ensures write { IsErrOf result DumpFault.Write → Rose (H.out_faults host.old) (H.out_faults host.new) }
     ensures faults { IfErr result (λ fault. (fault ≡ DumpFault.Write) ⊎ (fault ≡ DumpFault.Memory)) }
     ensures leaves { LeavesPut H.now H.may H.clock H.since H.disk_faults H.out_faults host.old host.new }
 {
-    let text = match stage_text(alloc, stage) {
+    let text = match head_text(alloc, schema) {
+        Ok(text) => text,
+        Err(Memory) => return Err(DumpFault::Memory),
+    };
+    match put_all(host, &text) {
+        Ok(()) => Ok(()),
+        Err(Failed) => Err(DumpFault::Write),
+    }
+}
+
+/// The rows of a frame that was read, each ended by LF. `behind` has the values that come behind those of its events, and then
+/// of the events of the frames behind it.
+fn stage_text(alloc: Global, stage: Stage, behind: &mut Values) -> Result<Vec<u8>, Memory>
+    ensures text { IfOk result (λ text. text.items ≡ ended (stage_rows behind.old stage)) }
+    ensures left { OnOk result (behind.new ≡ behind_after stage behind.old) }
+{
+    match stage {
+        Stage::Schema(_) => Ok(Vec::new(alloc)),
+        Stage::Chunk(chunk) => extended_text(alloc, chunk, behind),
+        Stage::Growth(_, values) => {
+            *behind = values_behind(alloc, behind.as_slice(), values.as_slice().len())?;
+            Ok(Vec::new(alloc))
+        }
+    }
+}
+
+/// Puts the rows of a frame that was read.
+fn put_stage<H: Host>(
+    alloc: Global,
+    stage: Stage,
+    behind: &mut Values,
+    host: &mut H,
+) -> Result<(), DumpFault>
+    ensures all { OnOk result (HasPutStage stage behind.old behind.new (Puts H.said H.clock H.since host.old host.new)) }
+    ensures part { IfErr result (λ fault. IsCutIn (ended (stage_rows behind.old stage)) (Puts H.said H.clock H.since host.old host.new) (fault ≡ DumpFault.Write)) }
+    ensures write { IsErrOf result DumpFault.Write → Rose (H.out_faults host.old) (H.out_faults host.new) }
+    ensures faults { IfErr result (λ fault. (fault ≡ DumpFault.Write) ⊎ (fault ≡ DumpFault.Memory)) }
+    ensures leaves { LeavesPut H.now H.may H.clock H.since H.disk_faults H.out_faults host.old host.new }
+{
+    let text = match stage_text(alloc, stage, behind) {
         Ok(text) => text,
         Err(Memory) => return Err(DumpFault::Memory),
     };
@@ -70,10 +113,15 @@ fn walk_fault(fault: ReservoirFault) -> DumpFault
     }
 }
 
-/// Reads the next frame and puts its lines. Answers whether there was one.
-fn dump_next<H: Host>(alloc: Global, walk: &mut Walk, host: &mut H) -> Result<bool, DumpFault>
-    ensures dumped { IfOk result (HasDumped (H.now host.old) walk.old walk.new (Puts H.said H.clock H.since host.old host.new)) }
-    ensures refused { IfErr result (IsNotDumped (H.now host.old) walk.old walk.new (Puts H.said H.clock H.since host.old host.new)
+/// Reads the next frame and puts its rows. Answers whether there was one.
+fn dump_next<H: Host>(
+    alloc: Global,
+    walk: &mut Walk,
+    behind: &mut Values,
+    host: &mut H,
+) -> Result<bool, DumpFault>
+    ensures dumped { IfOk result (HasDumped (H.now host.old) walk.old walk.new behind.old (Puts H.said H.clock H.since host.old host.new) behind.new) }
+    ensures refused { IfErr result (IsNotDumped (H.now host.old) walk.old walk.new behind.old (Puts H.said H.clock H.since host.old host.new)
         (Rose (H.disk_faults host.old) (H.disk_faults host.new)) (Rose (H.out_faults host.old) (H.out_faults host.new))) }
     ensures leaves { LeavesPut H.now H.may H.clock H.since H.disk_faults H.out_faults host.old host.new }
 {
@@ -82,15 +130,55 @@ fn dump_next<H: Host>(alloc: Global, walk: &mut Walk, host: &mut H) -> Result<bo
         Ok(None) => return Ok(false),
         Err(fault) => return Err(walk_fault(fault)),
     };
-    match put_stage(alloc, &stage, host) {
+    match put_stage(alloc, stage, behind, host) {
         Ok(()) => Ok(true),
         Err(fault) => Err(fault),
     }
 }
 
-/// Puts the dump of the log in file 2: its schema's text, and then each event as a row of `csv`,
-/// each line ended by LF. Nothing is put for a log without frames. A damaged log is dumped up to
-/// its first damaged place, which the answer then says. No file is written.
+/// Puts a row for each event of the log in file 2, up to its end or its damage. `behind` has the values of all its growths.
+fn dump_rows<H: Host>(alloc: Global, behind: &mut Values, host: &mut H) -> Result<(), DumpFault>
+    requires { ForSome (H.now host.old) (λ v. behind.old ≡ values_of (stages_of (v 2)).stages) }
+    ensures all { OnOk result (HasAll (H.now host.old) rows_of (Puts H.said H.clock H.since host.old host.new)) }
+    ensures refused { IfErr result (IsNotAll (H.now host.old) rows_of (Puts H.said H.clock H.since host.old host.new)
+        (Rose (H.disk_faults host.old) (H.disk_faults host.new)) (Rose (H.out_faults host.old) (H.out_faults host.new))) }
+    ensures leaves { LeavesPut H.now H.may H.clock H.since H.disk_faults H.out_faults host.old host.new }
+{
+    let mut walk = Walk::new(alloc);
+    'frames: loop {
+        match dump_next(alloc, &mut walk, behind, host) {
+            Ok(true) => {}
+            Ok(false) => return Ok(()),
+            Err(fault) => return Err(fault),
+        }
+    }
+}
+
+/// Reads the log in file 2, puts the schema's text, and then the rows.
+fn dump_log<H: Host>(alloc: Global, host: &mut H) -> Result<(), DumpFault>
+    ensures all { OnOk result (HasAll (H.now host.old) dump_text (Puts H.said H.clock H.since host.old host.new)) }
+    ensures refused { IfErr result (IsNotAll (H.now host.old) dump_text (Puts H.said H.clock H.since host.old host.new)
+        (Rose (H.disk_faults host.old) (H.disk_faults host.new)) (Rose (H.out_faults host.old) (H.out_faults host.new))) }
+    ensures leaves { LeavesPut H.now H.may H.clock H.since H.disk_faults H.out_faults host.old host.new }
+{
+    let mut survey = match read_log(alloc, host) {
+        Ok(survey) => survey,
+        Err(fault) => return Err(fault),
+    };
+    match put_head(alloc, &survey.schema, host) {
+        Ok(()) => {}
+        Err(fault) => return Err(fault),
+    }
+    match dump_rows(alloc, &mut survey.values, host) {
+        Ok(()) => Ok(()),
+        Err(fault) => Err(fault),
+    }
+}
+
+/// Puts the dump of the log in file 2: the text of the schema in force at its end, and then each event as a row of `csv`, with
+/// the values of every later growth behind its own, each line ended by LF. Nothing is put for a log without frames. A damaged
+/// log is dumped up to its first damaged place, as one that ends there, and the answer then says that place. No file is
+/// written. The log is read once before anything is put.
 pub fn dump<H: Host>(alloc: Global, host: &mut H) -> Result<(), DumpFault>
     // All lines were put, and the log has no damaged place.
     ensures completes { OnOk result (ForSome (H.now host.old) (λ v. Puts H.said H.clock H.since host.old host.new (ended (dump_text (v 2))))) }
@@ -108,12 +196,8 @@ pub fn dump<H: Host>(alloc: Global, host: &mut H) -> Result<(), DumpFault>
     ensures disk_faults { H.disk_faults host.old ≤ H.disk_faults host.new }
     ensures out_faults { H.out_faults host.old ≤ H.out_faults host.new }
 {
-    let mut walk = Walk::new(alloc);
-    'frames: loop {
-        match dump_next(alloc, &mut walk, host) {
-            Ok(true) => {}
-            Ok(false) => return Ok(()),
-            Err(fault) => return Err(fault),
-        }
+    match dump_log(alloc, host) {
+        Ok(()) => Ok(()),
+        Err(fault) => Err(fault),
     }
 }

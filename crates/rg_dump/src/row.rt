@@ -1,12 +1,13 @@
 ghost use Rattle.std.specs.Prelude.{◌≡◌, ◌++◌, ◌∷◌, [], ℕ, List, map, decimal, OnOk, IfOk};
 ghost use Rattle.csv.specs.Records.{fields_of, partial_of};
+ghost use Rattle.rg_chunk.specs.Extended.{all_extended};
 ghost use Rattle.rg_host.specs.Lines.{ended};
 ghost use Rattle.rg_dump.specs.Rows.{value_text, row_fields, row_line, IsBetween};
 
 use csv::{ByteRecord, Writer, WriterBuilder};
 use rg_bytes::{Memory, put_bytes, write_signed, write_whole};
 use rg_chunk::Chunk;
-use rg_event::{Event, Value};
+use rg_event::{Event, Value, Values};
 use std::alloc::Global;
 
 /// Writes a value as it is printed. An error leaves it begun.
@@ -106,7 +107,7 @@ fn text_of(writer: Writer<Vec<u8>>) -> Result<Vec<u8>, Memory>
 }
 
 /// The rows of a chunk's events, one after another, each ended by LF.
-pub fn chunk_text(alloc: Global, chunk: &Chunk) -> Result<Vec<u8>, Memory>
+fn chunk_text(alloc: Global, chunk: &Chunk) -> Result<Vec<u8>, Memory>
     ensures { IfOk result (λ text. text.items ≡ ended (map row_line chunk.now)) }
 {
     let mut writer = rows(alloc);
@@ -116,4 +117,24 @@ pub fn chunk_text(alloc: Global, chunk: &Chunk) -> Result<Vec<u8>, Memory>
         }
     }
     text_of(writer)
+}
+
+/// Puts these values behind those of each event of a chunk.
+#[tactic(auto, using(crate::proofs::Behind::extended_empty))]
+fn extend(chunk: &mut Chunk, values: &Values) -> Result<(), Memory>
+    ensures { OnOk result (chunk.new ≡ all_extended values.now chunk.old) }
+{
+    if values.as_slice().is_empty() {
+        return Ok(());
+    }
+    chunk.extend(values)
+}
+
+/// The rows of a chunk's events, where these values come behind those of each, one after another and each ended by LF.
+pub(crate) fn extended_text(alloc: Global, chunk: Chunk, values: &Values) -> Result<Vec<u8>, Memory>
+    ensures { IfOk result (λ text. text.items ≡ ended (map row_line (all_extended values.now chunk))) }
+{
+    let mut longer = chunk;
+    extend(&mut longer, values)?;
+    chunk_text(alloc, &longer)
 }

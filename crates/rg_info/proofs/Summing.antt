@@ -1,9 +1,11 @@
 -- How far a summary has come.
-use Rattle.std.proofs.Common.{◌≡◌, ◌∙◌, ℕ, ◌+◌, ◌^◌, ◌≤◌, ◌<◌, nat_le, nat_lt, ◌&&◌, Bool, true, false, List, [], ◌∷◌, ◌++◌, length, Some, None, if◌then◌else◌, refl, sym, ap, arith, append_assoc, length-append}
+use Rattle.std.proofs.Common.{◌≡◌, ◌∙◌, ℕ, ◌+◌, ◌^◌, ◌≤◌, ◌<◌, nat_le, nat_lt, ◌&&◌, Bool, true, false, List, [], ◌∷◌, ◌++◌, length, Some, None, if◌then◌else◌, refl, sym, ap, arith, length-append}
 use Rattle.std.proofs.lemmas.List.{append-nil}
 use Rattle.std.proofs.lemmas.Bool.{and_parts, leb-true, ltb-true}
 use Rattle.rg_event.specs.declared.event.Event.{Event}
+use Rattle.rg_event.specs.declared.value.Value.{Value}
 use Rattle.rg_frame.specs.Looks.{IsClosed}
+use Rattle.rg_chunk.specs.Extended.{all_extended}
 use Rattle.rg_chunk.specs.Heads.{head_for, last_stamp}
 use Rattle.rg_chunk.specs.declared.head.ChunkHead.{ChunkHead}
 use Rattle.rg_chunk.proofs.Chunks.{chunk_head}
@@ -16,18 +18,17 @@ use Rattle.rg_reservoir.specs.declared.walk.Walk.{Walk}
 use Rattle.rg_reservoir.specs.declared.fault.ReservoirFault.{ReservoirFault}
 use Rattle.rg_reservoir.specs.declared.fault.ReservoirFault.TheVariants as walk
 use Rattle.rg_log.proofs.ChunkHeads.{chunk_size}
-use Rattle.rg_reservoir.proofs.Walking.{took_schema, took_chunk}
+use Rattle.rg_log.proofs.Extending.{extended-none, length-extended, next-extended, time-extended}
+use Rattle.rg_reservoir.proofs.Walking.{took_none, took_chunk}
+use Rattle.rg_dump.specs.Behind.{stage_values, stage_events, events_in}
 use Rattle.rg_dump.specs.Dump.{damage_of}
+use Rattle.rg_dump.proofs.Behind.{events_push}
 use Rattle.rg_dump.proofs.Walking.{IsAt, at_start, at_next, at_end, at_damage}
 use Rattle.rg_info.specs.Faults.{of_walk}
 use Rattle.rg_info.specs.declared.fault.InfoFault.TheVariants as info
-use Rattle.rg_info.specs.Summary.{stage_events, events_in, summary_with, summary_of, summary_in, with_stage}
+use Rattle.rg_info.specs.Summary.{summary_with, summary_of, summary_in, with_stage}
 use Rattle.rg_info.specs.declared.summary.Summary.{Summary}
 use Rattle.rg_info.proofs.Lasts.{next_more, time_more}
-
-pub events_in-push : (stages : List Stage) (s : Stage) → events_in (stages ++ s ∷ []) ≡ events_in stages ++ stage_events s
-events_in-push [] s = append-nil (stage_events s)
-events_in-push (first ∷ stages) s = ap (λ (l : List Event). stage_events first ++ l) (events_in-push stages s) ∙ sym (append_assoc (stage_events first) (events_in stages) (stage_events s))
 
 -- what is so of a chunk that continues those before it
 record Follows (t m : LogSummary) (h : ChunkHead) : Type 0 where
@@ -74,31 +75,45 @@ chunk_summary : (frames : ℕ) (front c : List Event) → 1 ≤ length c → len
 chunk_summary frames front c some few offset =
     same_summary _ _ refl (omega (arith, few, length-append front c)) (omega (arith, offset, next_more front c some)) (sym (time_more front c some))
 
+-- further values change no summary
+extended_summary : (frames : ℕ) (values : List Value) (events : List Event) → summary_with frames (all_extended values events) ≡ summary_with frames events
+extended_summary frames values events = same_summary _ _ refl (length-extended values events) (next-extended values events) (time-extended values events)
+
 module _ (bytes : List ℕ) (old new : Walk) (summary : Summary) (so_far : IsSummed bytes old summary) where
+  abbrev front : List Event
+  front = events_in so_far.stages
+
   -- it is the summary of one frame more
-  summed_by : (s : Stage) → IsNext bytes old s new → with_stage (summary_of so_far.stages) s ≡ summary_with (length so_far.stages + 1) (events_in so_far.stages ++ stage_events s) → (tally_of new).count ≡ length (events_in so_far.stages ++ stage_events s)
+  summed_by : (s : Stage) → IsNext bytes old s new → with_stage (summary_of so_far.stages) s ≡ summary_with (length so_far.stages + 1) (events_in (so_far.stages ++ s ∷ [])) → (tally_of new).count ≡ length (events_in (so_far.stages ++ s ∷ []))
       → IsSummed bytes new (with_stage summary s)
   summed_by s next more count = record {
     stages = so_far.stages ++ s ∷ [];
     at = at_next bytes s old new so_far.stages so_far.at next;
-    is = ap (λ (a : Summary). with_stage a s) so_far.is ∙ more ∙ ap (λ (l : List Event). summary_with (length so_far.stages + 1) l) (sym (events_in-push so_far.stages s))
-        ∙ ap (λ (n : ℕ). summary_with n (events_in (so_far.stages ++ s ∷ []))) (sym (length-append so_far.stages (s ∷ [])));
-    count = count ∙ ap length (sym (events_in-push so_far.stages s));
+    is = ap (λ (a : Summary). with_stage a s) so_far.is ∙ more ∙ ap (λ (n : ℕ). summary_with n (events_in (so_far.stages ++ s ∷ []))) (sym (length-append so_far.stages (s ∷ [])));
+    count = count;
   }
 
+  -- of one that has no events
+  summed_none : (s : Stage) → IsNext bytes old s new → stage_events s ≡ [] → ((events : List Event) → s ≡ stage.Chunk events → ⊥) → with_stage (summary_of so_far.stages) s ≡ summary_with (length so_far.stages + 1) front → IsSummed bytes new (with_stage summary s)
+  summed_none s next empty none with =
+      summed_by s next (with ∙ sym (extended_summary (length so_far.stages + 1) (stage_values s) front) ∙ ap (summary_with (length so_far.stages + 1)) (sym events))
+      (ap (λ (t : LogSummary). t.count) (took_none next.0 (so_far_of old) (so_far_of new) s none next.2.0) ∙ so_far.count ∙ sym (length-extended (stage_values s) front) ∙ ap length (sym events))
+    where
+      events : events_in (so_far.stages ++ s ∷ []) ≡ all_extended (stage_values s) front
+      events = events_push so_far.stages s ∙ ap (λ (l : List Event). all_extended (stage_values s) front ++ l) empty ∙ append-nil (all_extended (stage_values s) front)
+
   pub summed_next : (s : Stage) → IsNext bytes old s new → IsSummed bytes new (with_stage summary s)
-  summed_next (stage.Schema shape) next =
-      let none = append-nil (events_in so_far.stages) in
-      summed_by (stage.Schema shape) next (ap (λ (l : List Event). summary_with (length so_far.stages + 1) l) (sym none)) (ap (λ (t : LogSummary). t.count) (took_schema next.0 (so_far_of old) (so_far_of new) shape next.2.0) ∙ so_far.count ∙ ap length (sym none))
+  summed_next (stage.Schema shape) next = summed_none (stage.Schema shape) next refl (λ events e. (let f : stage.Schema shape ≡ stage.Chunk events = e in cc)) refl
+  summed_next (stage.Growth shape values) next = summed_none (stage.Growth shape values) next refl (λ events e. (let f : stage.Growth shape values ≡ stage.Chunk events = e in cc)) refl
   summed_next (stage.Chunk events) next =
       let taken = took_chunk next.0 (so_far_of old) (so_far_of new) events next.2.0 in
-      let front = events_in so_far.stages in
       let head = chunk_head taken.shape.fields next.0 events taken.said in
       let f = follows_told (tally_of old) (tally_of new) (head_for events) (sym (ap (told_by (tally_of old)) head) ∙ taken.follows) in
       let some = (chunk_size taken.shape.fields next.0 events taken.said).0 in
       let few : length front + length events ≤ 2 ^ 40 = omega (arith, f.few, so_far.count) in
-      summed_by (stage.Chunk events) next (chunk_summary (length so_far.stages) front events some few f.offset)
-      (ap (λ (t : LogSummary). t.count) f.is ∙ omega (arith, so_far.count, length-append front events))
+      let more : events_in (so_far.stages ++ stage.Chunk events ∷ []) ≡ front ++ events = events_push so_far.stages (stage.Chunk events) ∙ ap (λ (l : List Event). l ++ events) (extended-none front) in
+      summed_by (stage.Chunk events) next (chunk_summary (length so_far.stages) front events some few f.offset ∙ ap (summary_with (length so_far.stages + 1)) (sym more))
+      (ap (λ (t : LogSummary). t.count) f.is ∙ omega (arith, so_far.count, length-append front events) ∙ ap length (sym more))
 
 -- at the end of the log it is that of the file
 pub summed_end : (bytes : List ℕ) (walk : Walk) (summary : Summary) → IsSummed bytes walk summary → IsClosed (place_of walk) bytes → (summary ≡ summary_in bytes) × (damage_of bytes ≡ None)
@@ -114,6 +129,7 @@ summed_damage bytes walk summary so_far refused = (at_damage bytes walk so_far.s
 pub one_frame : (summary : Summary) (s : Stage) → (with_stage summary s).frames ≡ summary.frames + 1
 one_frame summary (stage.Schema shape) = refl
 one_frame summary (stage.Chunk events) = refl
+one_frame summary (stage.Growth shape values) = refl
 
 -- a walk's damaged place
 pub walk_damaged : (fault : ReservoirFault) (place : ℕ) → of_walk fault ≡ info.Damaged place → fault ≡ walk.Damaged place

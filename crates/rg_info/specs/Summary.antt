@@ -1,22 +1,13 @@
 -- What a log comes to.
-use Rattle.std.specs.Prelude.{ℕ, ◌+◌, ◌-◌, ◌^◌, min, List, [], ◌∷◌, ◌++◌, length}
+use Rattle.std.specs.Prelude.{ℕ, ◌+◌, ◌-◌, ◌^◌, min, List, length}
 use Rattle.rg_event.specs.Rising.{next_offset, last_time}
 use Rattle.rg_event.specs.declared.event.Event.{Event}
 use Rattle.rg_chunk.specs.Heads.{last_stamp}
 use Rattle.rg_reservoir.specs.declared.walk.Stage.{Stage}
 use Rattle.rg_reservoir.specs.declared.walk.Stage.TheVariants as stage
+use Rattle.rg_dump.specs.Behind.{events_in}
 use Rattle.rg_dump.specs.Stages.{stages_of}
 use Rattle.rg_info.specs.declared.summary.Summary.{Summary}
-
--- the events of a frame
-abbrev pub stage_events : Stage → List Event
-stage_events (stage.Schema shape) = []
-stage_events (stage.Chunk events) = events
-
--- the events of frames, one after another
-abbrev pub events_in : List Stage → List Event
-events_in [] = []
-events_in (s ∷ stages) = stage_events s ++ events_in stages
 
 -- so many frames with these events
 abbrev pub summary_with : ℕ → List Event → Summary
@@ -36,6 +27,7 @@ up_to_most n = min n (2 ^ 64 - 1)
 -- with one frame more
 abbrev pub with_stage : Summary → Stage → Summary
 with_stage summary (stage.Schema shape) = record { frames = summary.frames + 1; events = summary.events; next = summary.next; time = summary.time }
+with_stage summary (stage.Growth shape values) = record { frames = summary.frames + 1; events = summary.events; next = summary.next; time = summary.time }
 with_stage summary (stage.Chunk events) = record {
   frames = summary.frames + 1;
   events = up_to_most (summary.events + length events);

@@ -16,7 +16,7 @@ use std::alloc::Global;
 /// What a log comes to.
 #[derive(Clone, Copy, Debug, PartialEq, Eq)]
 pub struct Summary {
-    /// How many open frames there are, the schema's among them.
+    /// How many open frames there are: the schema's, the chunks' and the growths'.
     pub frames: u64,
     /// How many events there are.
     pub events: u64,
@@ -59,7 +59,7 @@ impl Summary {
         ensures { result ≡ with_stage self.now stage.now }
     {
         match stage {
-            Stage::Schema(_) => Summary {
+            Stage::Schema(_) | Stage::Growth(_, _) => Summary {
                 frames: self.frames + 1,
                 events: self.events,
                 next: self.next,

@@ -1,28 +1,23 @@
--- What the step that judges each frame makes of a schema's frame, of a chunk's, and of a legal log.
-use Rattle.std.proofs.Common.{◌≡◌, ◌∙◌, ℕ, ◌+◌, ◌^◌, ◌≤◌, Bool, true, false, List, [], ◌∷◌, ◌++◌, length, take, Option, Some, None, option_map, option_and_then, if◌then◌else◌, refl, sym, ap, subst, arith, append_assoc}
-use Rattle.std.proofs.lemmas.List.{append-nil}
-use Rattle.std.specs.Prelude.{All}
-use Rattle.rg_event.specs.Codec.{IsEventOf}
-use Rattle.rg_event.specs.Rising.{IsRising}
+-- What the step that judges each frame makes of a schema's frame, of a chunk and of a growth.
+use Rattle.std.proofs.Common.{◌≡◌, ◌∙◌, ℕ, ◌+◌, Bool, true, false, List, take, Option, Some, None, option_map, option_and_then, if◌then◌else◌, refl, sym, ap, arith}
 use Rattle.rg_event.specs.Shapes.{Shape, IsSchema}
-use Rattle.rg_event.specs.declared.event.Event.{Event}
-use Rattle.rg_chunk.specs.Chunks.{chunk_of}
+use Rattle.rg_growth.specs.Payloads.{IsGrowth, growth_of}
+use Rattle.rg_growth.specs.declared.growth.Growth.{Growth as TheGrowth}
 use Rattle.rg_chunk.specs.Heads.{head_of, head_for}
 use Rattle.rg_chunk.specs.declared.head.ChunkHead.{ChunkHead}
 use Rattle.rg_chunk.proofs.Chunks.{chunk_head}
-use Rattle.rg_log.specs.Entries.{nothing, may_follow, added, told_by, summary_of, unread, behind, count_of, further_entry, with_entry, entry_after, entries_after}
-use Rattle.rg_log.specs.Log.{schema_payload, chunks_of, joined, HasChunks}
-use Rattle.rg_log.specs.Reading.{schema_of}
-use Rattle.rg_log.specs.Spots.{count_in}
-use Rattle.rg_log.specs.declared.entry.Entry.TheVariants.{Schema, Chunk}
-use Rattle.rg_log.specs.declared.entry.LogSoFar.{LogSoFar}
+use Rattle.rg_log.specs.Entries.{nothing, may_follow, added, told_by, unread, behind, count_of, shape_behind, head_or, further_entry, entry_of, with_entry, entry_after}
+use Rattle.rg_log.specs.Payloads.{schema_payload, schema_of}
+use Rattle.rg_log.specs.Stages.{Stage, chunk, growth, shape_after, IsStage}
 use Rattle.rg_log.specs.declared.entry.Entry.{Entry}
+use Rattle.rg_log.specs.declared.entry.Entry.TheVariants.{Schema, Chunk, Growth}
+use Rattle.rg_log.specs.declared.entry.LogSoFar.{LogSoFar}
 use Rattle.rg_log.specs.declared.summary.LogSummary.{LogSummary}
-use Rattle.rg_log.proofs.ChunkHeads.{chunk_size, head_same}
+use Rattle.rg_log.proofs.ChunkHeads.{head_same}
 use Rattle.rg_log.proofs.Exact.{schema_is}
-use Rattle.rg_log.proofs.Growing.{part}
 use Rattle.rg_log.proofs.Reading.{schema_said}
-use Rattle.rg_log.proofs.Summaries.{all_behind, legal_told}
+use Rattle.rg_log.proofs.Shapes.{same_some}
+use Rattle.rg_log.proofs.StageReading.{growth_headless, growth_read}
 
 pub schema_read : (payload : List ℕ) (shape : Shape) → IsSchema shape → payload ≡ schema_payload shape → schema_of payload ≡ Some shape
 schema_read payload shape legal is = ap schema_of is ∙ schema_said shape legal
@@ -34,19 +29,8 @@ no_schema payload none = by (schema_of payload) refl
     by None is = refl
     by (Some shape) is = let s = schema_is payload shape is in absurd (none shape s.0 s.1)
 
--- what a further frame is depends on the first 37 bytes of its payload alone
-pub front : (a b : List ℕ) → take 37 a ≡ take 37 b → further_entry a ≡ further_entry b
-front a b same = ap (option_map (λ (head : ChunkHead). Chunk head)) (head_same a b same)
-
--- and how many events it has
-pub counts : (payload : List ℕ) → count_in payload ≡ option_map count_of (further_entry payload)
-counts payload = by (head_of payload)
-  where
-    by : (o : Option ChunkHead) → option_map (λ (head : ChunkHead). head.count) o ≡ option_map count_of (option_map (λ (head : ChunkHead). Chunk head) o)
-    by None = refl
-    by (Some head) = refl
-
 -- the first frame
+
 abbrev first_step : Option Shape → Option LogSoFar
 first_step said = option_and_then (with_entry unread) (option_map (λ (shape : Shape). Schema shape) said)
 
@@ -61,108 +45,102 @@ only_first payload next is = by (schema_of payload) refl is
   where
     by : (o : Option Shape) → schema_of payload ≡ o → first_step o ≡ Some next → IsFirst payload next
     by None said e = absurd (let f : None ≡ Some next = e in cc)
-    by (Some shape) said e =
-        let s = schema_is payload shape said in
-        let f : Some (behind shape nothing) ≡ Some next = e in
-        (shape, s.0, s.1, (let same : behind shape nothing ≡ next = cc in sym same))
+    by (Some shape) said e = let s = schema_is payload shape said in (shape, s.0, s.1, sym (same_some (Some (behind shape nothing)) (behind shape nothing) next refl e))
 
 -- where it takes no first frame, there is none of a schema
 pub no_first : (payload : List ℕ) → entry_after unread payload ≡ None → (shape : Shape) → IsSchema shape → payload ≡ schema_payload shape → ⊥
 no_first payload none shape legal is = absurd (let f : Some (behind shape nothing) ≡ None = sym (first shape legal) ∙ ap (entry_after unread) (sym is) ∙ none in cc)
 
 -- each further frame
-pub chunk : (shape : Shape) (summary : LogSummary) (payload : List ℕ) → entry_after (behind shape summary) payload ≡ option_map (behind shape) (told_by summary (head_of payload))
-chunk shape summary payload = by (head_of payload)
-  where
-    by : (o : Option ChunkHead) → option_and_then (with_entry (behind shape summary)) (option_map (λ (head : ChunkHead). Chunk head) o) ≡ option_map (behind shape) (told_by summary o)
-    by None = refl
-    by (Some head) = refl
 
+-- what stands behind some frames is known by the schema in force there and by what the chunks come to
+pub behind_is : (so_far : LogSoFar) (shape : Shape) → so_far.schema ≡ Some shape → so_far ≡ behind shape so_far.summary
+behind_is so_far shape is = λ i. record { schema = is i; summary = so_far.summary }
+
+-- a chunk is one by its head
+pub head_entry : (shape : Shape) (payload : List ℕ) (head : ChunkHead) → head_of payload ≡ Some head → further_entry shape payload ≡ Some (Chunk head)
+head_entry shape payload head is = ap (λ (o : Option ChunkHead). head_or o (growth_of shape payload)) is
+
+-- so by the first 37 bytes of its payload
+pub front_entry : (shape : Shape) (front payload : List ℕ) (head : ChunkHead) → head_of front ≡ Some head → take 37 front ≡ take 37 payload → further_entry shape payload ≡ Some (Chunk head)
+front_entry shape front payload head is same = head_entry shape payload head (sym (head_same front payload same) ∙ is)
+
+-- what is no chunk is what is read of it as a growth
+pub growth_entry : (shape : Shape) (payload : List ℕ) (said : Option TheGrowth) → head_of payload ≡ None → growth_of shape payload ≡ said → further_entry shape payload ≡ option_map (λ (g : TheGrowth). Growth g) said
+growth_entry shape payload said headless is = ap (λ (o : Option ChunkHead). head_or o (growth_of shape payload)) headless ∙ ap (option_map (λ (g : TheGrowth). Growth g)) is
+
+-- what the frame of a stage is
+abbrev pub entry_for : Stage → Entry
+entry_for (chunk c) = Chunk (head_for c)
+entry_for (growth g) = Growth g
+
+pub entry_said : (shape : Shape) (payload : List ℕ) (stage : Stage) → IsStage shape payload stage → further_entry shape payload ≡ Some (entry_for stage)
+entry_said shape payload (chunk c) is = head_entry shape payload (head_for c) (chunk_head shape.fields payload c is.said)
+entry_said shape payload (growth g) is = growth_entry shape payload (Some g) (growth_headless shape payload g is) (growth_read shape payload g is)
+
+-- which schema is in force behind it
+pub shape_same : (shape : Shape) (stage : Stage) → shape_behind shape (entry_for stage) ≡ shape_after shape stage
+shape_same shape (chunk c) = refl
+shape_same shape (growth g) = refl
+
+abbrev step_by : LogSoFar → Option Entry → Option LogSoFar
+step_by so_far entry = option_and_then (with_entry so_far) entry
+
+pub chunk_step : (shape : Shape) (summary : LogSummary) (payload : List ℕ) (head : ChunkHead) → head_of payload ≡ Some head → entry_after (behind shape summary) payload ≡ option_map (behind shape) (told_by summary (Some head))
+chunk_step shape summary payload head is = ap (step_by (behind shape summary)) (head_entry shape payload head is)
+
+pub growth_step : (shape : Shape) (summary : LogSummary) (payload : List ℕ) (grown : TheGrowth) → IsGrowth shape payload grown → entry_after (behind shape summary) payload ≡ Some (behind grown.to summary)
+growth_step shape summary payload grown is = ap (step_by (behind shape summary)) (entry_said shape payload (growth grown) is)
+
+pub no_step : (shape : Shape) (summary : LogSummary) (payload : List ℕ) → head_of payload ≡ None → growth_of shape payload ≡ None → entry_after (behind shape summary) payload ≡ None
+no_step shape summary payload headless ungrown = ap (step_by (behind shape summary)) (growth_entry shape payload None headless ungrown)
+
+-- a frame that is a chunk is one by the first 37 bytes of its payload
+pub front : (shape : Shape) (a b : List ℕ) (head : ChunkHead) → take 37 a ≡ take 37 b → further_entry shape a ≡ Some (Chunk head) → further_entry shape b ≡ Some (Chunk head)
+front shape a b head same is = by (head_of a) refl is
+  where
+    not_grown : (o : Option TheGrowth) → option_map (λ (g : TheGrowth). Growth g) o ≡ Some (Chunk head) → further_entry shape b ≡ Some (Chunk head)
+    not_grown None e = absurd cc
+    not_grown (Some g) e = absurd cc
+
+    by : (o : Option ChunkHead) → head_of a ≡ o → head_or o (growth_of shape a) ≡ Some (Chunk head) → further_entry shape b ≡ Some (Chunk head)
+    by None said e = not_grown (growth_of shape a) e
+    by (Some h) said e = ap (λ (o : Option ChunkHead). head_or o (growth_of shape b)) (sym (head_same a b same) ∙ said) ∙ e
+
+-- it counts its events, and says which schema is in force behind it
 abbrev IsCounted : Shape → LogSummary → List ℕ → LogSoFar → Type 0
-IsCounted shape summary payload next = (count : ℕ) × (count_in payload ≡ Some count) × (next.summary.count ≡ summary.count + count) × (next.schema ≡ Some shape)
+IsCounted shape summary payload next =
+    (entry : Entry) × (further_entry shape payload ≡ Some entry) × (next.summary.count ≡ summary.count + count_of entry) × (next.schema ≡ Some (shape_behind shape entry))
 
--- it counts its events
 pub counted : (shape : Shape) (summary : LogSummary) (payload : List ℕ) (next : LogSoFar) → entry_after (behind shape summary) payload ≡ Some next → IsCounted shape summary payload next
-counted shape summary payload next is = by (head_of payload) refl (sym (chunk shape summary payload) ∙ is)
+counted shape summary payload next is = by (further_entry shape payload) refl is
   where
-    may : (head : ChunkHead) (b : Bool) → head_of payload ≡ Some head → option_map (behind shape) (if b then Some (added summary head) else None) ≡ Some next → IsCounted shape summary payload next
-    may head false says e = absurd (let f : None ≡ Some next = e in cc)
-    may head true says e =
-        let f : Some (behind shape (added summary head)) ≡ Some next = e in
-        let same : behind shape (added summary head) ≡ next = cc in
-        (head.count, ap (option_map (λ (h : ChunkHead). h.count)) says, ap (λ (s : LogSoFar). s.summary.count) (sym same), ap (λ (s : LogSoFar). s.schema) (sym same))
+    left : (entry : Entry) (other : Shape) → further_entry shape payload ≡ Some entry → count_of entry ≡ 0 → shape_behind shape entry ≡ other → Some (behind other summary) ≡ Some next → IsCounted shape summary payload next
+    left entry other said none moved e =
+        let same : behind other summary ≡ next = same_some (Some (behind other summary)) (behind other summary) next refl e in
+        let count : summary.count ≡ next.summary.count = ap (λ (s : LogSoFar). s.summary.count) same in
+        (entry, said, omega (arith, count, none), ap (λ (s : LogSoFar). s.schema) (sym same) ∙ ap (λ (s : Shape). Some s) (sym moved))
 
-    by : (o : Option ChunkHead) → head_of payload ≡ o → option_map (behind shape) (told_by summary o) ≡ Some next → IsCounted shape summary payload next
-    by None says e = absurd (let f : None ≡ Some next = e in cc)
-    by (Some head) says e = may head (may_follow summary head) says e
+    may : (head : ChunkHead) (b : Bool) → further_entry shape payload ≡ Some (Chunk head) → option_map (behind shape) (if b then Some (added summary head) else None) ≡ Some next → IsCounted shape summary payload next
+    may head false said e = absurd (let f : None ≡ Some next = e in cc)
+    may head true said e =
+        let same : behind shape (added summary head) ≡ next = same_some (Some (behind shape (added summary head))) (behind shape (added summary head)) next refl e in
+        (Chunk head, said, ap (λ (s : LogSoFar). s.summary.count) (sym same), ap (λ (s : LogSoFar). s.schema) (sym same))
 
--- the chunks of a legal log are taken, one after another
-legal_chunks : (shape : Shape) (front : List Event) (payloads : List (List ℕ)) (chunks : List (List Event)) → chunks_of shape.fields payloads ≡ Some chunks → IsRising (front ++ joined chunks) → length (front ++ joined chunks) ≤ 2 ^ 40
-    → All (IsEventOf shape.fields) (joined chunks) → entries_after (behind shape (summary_of front)) payloads ≡ Some (behind shape (summary_of (front ++ joined chunks)))
-legal_chunks shape front [] chunks said rising few of =
-    let none : [] ≡ chunks = cc in
-    ap (λ (l : List Event). Some (behind shape (summary_of l))) (sym (append-nil front)) ∙ ap (λ (l : List (List Event)). Some (behind shape (summary_of (front ++ joined l)))) none
-legal_chunks shape front (p ∷ payloads) chunks said rising few of =
-    let f = part (chunk_of shape.fields p) (chunks_of shape.fields payloads) chunks said in
-    let all : joined chunks ≡ f.chunk ++ joined f.more = ap joined f.is in
-    let joins : front ++ joined chunks ≡ (front ++ f.chunk) ++ joined f.more = ap (λ (l : List Event). front ++ l) all ∙ sym (append_assoc front f.chunk (joined f.more)) in
-    let parts : All (IsEventOf shape.fields) (f.chunk ++ joined f.more) = subst (All (IsEventOf shape.fields)) all of in
-    let told : told_by (summary_of front) (Some (head_for f.chunk)) ≡ Some (summary_of (front ++ f.chunk)) =
-    legal_told shape.fields front f.chunk (joined f.more) (chunk_size shape.fields p f.chunk f.chunk_is).0 (subst (λ (l : List Event). IsRising (front ++ l)) all rising) (subst (λ (l : List Event). length (front ++ l) ≤ 2 ^ 40) all few) parts in
-    let step : entry_after (behind shape (summary_of front)) p ≡ Some (behind shape (summary_of (front ++ f.chunk))) =
-    chunk shape (summary_of front) p ∙ ap (λ (o : Option ChunkHead). option_map (behind shape) (told_by (summary_of front) o)) (chunk_head shape.fields p f.chunk f.chunk_is) ∙ ap (option_map (behind shape)) told in
-    ap (λ (o : Option LogSoFar). option_and_then (λ (next : LogSoFar). entries_after next payloads) o) step
-    ∙ legal_chunks shape (front ++ f.chunk) payloads f.more f.more_is (subst IsRising joins rising) (subst (λ (l : List Event). length l ≤ 2 ^ 40) joins few) (all_behind (IsEventOf shape.fields) f.chunk (joined f.more) parts)
-    ∙ ap (λ (l : List Event). Some (behind shape (summary_of l))) (sym joins)
+    by : (o : Option Entry) → further_entry shape payload ≡ o → step_by (behind shape summary) o ≡ Some next → IsCounted shape summary payload next
+    by None said e = absurd (let f : None ≡ Some next = e in cc)
+    by (Some (Schema other)) said e = left (Schema other) other said refl refl e
+    by (Some (Chunk head)) said e = may head (may_follow summary head) said e
+    by (Some (Growth g)) said e = left (Growth g) g.to said refl refl e
 
--- and so are all its frames
-pub legal : (shape : Shape) (payloads : List (List ℕ)) (chunks : List (List Event)) → IsSchema shape → HasChunks shape payloads chunks → 1 ≤ length payloads → IsRising (joined chunks) → length (joined chunks) ≤ 2 ^ 40
-    → All (IsEventOf shape.fields) (joined chunks) → entries_after unread payloads ≡ Some (behind shape (summary_of (joined chunks)))
-legal shape [] chunks schema log some rising few of = absurd (omega (arith, some))
-legal shape (p ∷ payloads) chunks schema log some rising few of =
-    ap (λ (q : List ℕ). entries_after unread (q ∷ payloads)) log.0
-    ∙ ap (λ (o : Option LogSoFar). option_and_then (λ (next : LogSoFar). entries_after next payloads) o) (first shape schema)
-    ∙ legal_chunks shape [] payloads chunks log.1 rising few of
-
--- what a further frame makes of the frames before it: the schema stays in force, and the head of its payload tells
-pub record IsFurther (payload : List ℕ) (old new : LogSoFar) : Type 0 where
-  pub told : told_by old.summary (head_of payload) ≡ Some new.summary
-  pub schema : new.schema ≡ old.schema
-
-chunk_more : (old new : LogSoFar) (o : Option LogSummary) → option_map (λ (summary : LogSummary). record { schema = old.schema; summary = summary }) o ≡ Some new → (o ≡ Some new.summary) × (new.schema ≡ old.schema)
-chunk_more old new None e = absurd (let f : None ≡ Some new = e in cc)
-chunk_more old new (Some summary) e =
-    let f : Some (record { schema = old.schema; summary = summary }) ≡ Some new = e in
-    let same : record { schema = old.schema; summary = summary } ≡ new = cc in
-    (ap (λ (s : LogSoFar). Some s.summary) same, ap (λ (s : LogSoFar). s.schema) (sym same))
-
-chunk_none : (old : LogSoFar) (o : Option LogSummary) → option_map {U = LogSoFar} (λ (summary : LogSummary). record { schema = old.schema; summary = summary }) o ≡ None → o ≡ None
-chunk_none old None e = refl
-chunk_none old (Some summary) e = absurd (let f : Some (record { schema = old.schema; summary = summary }) ≡ None = e in cc)
-
-pub is_chunk : (payload : List ℕ) (entry : Entry) → further_entry payload ≡ Some entry → (head : ChunkHead) × (entry ≡ Chunk head) × (head_of payload ≡ Some head)
-is_chunk payload entry is = by (head_of payload) refl is
-  where
-    by : (o : Option ChunkHead) → head_of payload ≡ o → option_map (λ (head : ChunkHead). Chunk head) o ≡ Some entry → (head : ChunkHead) × (entry ≡ Chunk head) × (head_of payload ≡ Some head)
-    by None says e = absurd (let f : None ≡ Some entry = e in cc)
-    by (Some head) says e = let f : Some (Chunk head) ≡ Some entry = e in (head, (let same : Chunk head ≡ entry = cc in sym same), says)
-
-pub further : (payload : List ℕ) (old new : LogSoFar) (entry : Entry) → further_entry payload ≡ Some entry → with_entry old entry ≡ Some new → IsFurther payload old new
-further payload old new entry is with =
-    let c = is_chunk payload entry is in
-    let m = chunk_more old new (told_by old.summary (Some c.0)) (ap (with_entry old) (sym c.1) ∙ with) in
-    record { told = ap (told_by old.summary) c.2 ∙ m.0; schema = m.1 }
+-- what a frame is, and what it makes of the frames before it, is what they say with it
+pub further : (payload : List ℕ) (old new : LogSoFar) (entry : Entry) → entry_of old.schema payload ≡ Some entry → with_entry old entry ≡ Some new → entry_after old payload ≡ Some new
+further payload old new entry is with = ap (option_and_then (with_entry old)) is ∙ with
 
 -- and where it may not follow
-pub not_further : (payload : List ℕ) (old : LogSoFar) (entry : Entry) → further_entry payload ≡ Some entry → with_entry old entry ≡ None → told_by old.summary (head_of payload) ≡ None
-not_further payload old entry is with =
-    let c = is_chunk payload entry is in
-    ap (told_by old.summary) c.2 ∙ chunk_none old (told_by old.summary (Some c.0)) (ap (with_entry old) (sym c.1) ∙ with)
+pub not_further : (payload : List ℕ) (old : LogSoFar) (entry : Entry) → entry_of old.schema payload ≡ Some entry → with_entry old entry ≡ None → entry_after old payload ≡ None
+not_further payload old entry is with = ap (option_and_then (with_entry old)) is ∙ with
 
 -- or is none
-pub no_further : (payload : List ℕ) (summary : LogSummary) → further_entry payload ≡ None → told_by summary (head_of payload) ≡ None
-no_further payload summary is = by (head_of payload) refl is
-  where
-    by : (o : Option ChunkHead) → head_of payload ≡ o → option_map (λ (head : ChunkHead). Chunk head) o ≡ None → told_by summary (head_of payload) ≡ None
-    by None says e = ap (told_by summary) says
-    by (Some head) says e = absurd (let f : Some (Chunk head) ≡ None = e in cc)
+pub no_further : (payload : List ℕ) (old : LogSoFar) → entry_of old.schema payload ≡ None → entry_after old payload ≡ None
+no_further payload old is = ap (option_and_then (with_entry old)) is

@@ -11,7 +11,7 @@ use Rattle.std.specs.Str.{is_utf8}
 use Rattle.rg_bytes.specs.Reading.{and_then, tested, bytes_at, u8_at, u32_at, u64_at, list_bytes}
 use Rattle.rg_event.specs.Codec.{Reading as EventReading, IsValueOf, AreValuesOf, value_bytes, int_at, id_at, text_at, flag_at, value_at}
 use Rattle.rg_event.specs.Reading.{shape_of}
-use Rattle.rg_event.specs.Shapes.{Shape, schema_text}
+use Rattle.rg_event.specs.Shapes.{Shape, IsSchema, schema_text}
 use Rattle.rg_event.specs.Tagged.{value_kind, IsLegal, tag_of, kind_of, tagged_bytes, value_said_at, tagged_at}
 use Rattle.rg_event.specs.declared.codec.EventFault.TheVariants.{Short, BadValue}
 use Rattle.rg_event.specs.declared.schema.Field.{Field}
@@ -29,7 +29,7 @@ use Rattle.rg_growth.proofs.Read.{text_taken}
 use Rattle.rg_frame.specs.Bytes.{IsByte}
 use Rattle.rg_chunk.proofs.Chunks.{whole_is}
 use Rattle.rg_log.proofs.Decoded.{both_read, same_pair, passed, taken, number_small, byte_left, value_within}
-use Rattle.rg_log.proofs.Growing.{same_some}
+use Rattle.rg_log.proofs.Shapes.{same_some}
 
 -- each of them, and 0 behind them
 small_at : (bytes : List ℕ) → All IsByte bytes → (i : ℕ) → get_or bytes i 0 < 256
@@ -255,3 +255,17 @@ growth_is from payload growth small e =
               ∙ ap (λ (l : List ℕ). text_bytes (schema_text to) ++ l) (vs.is ∙ ap (λ (l : List ℕ). list_bytes tagged_bytes b.value ++ l) s.1 ∙ append-nil (list_bytes tagged_bytes b.value));
           of = record { added = further from to; grows = g.grows; of = vs.of };
         })
+
+-- which schema it grows to
+pub growth_legal : (from : Shape) (payload : List ℕ) (growth : Growth) → growth_of from payload ≡ Some growth → IsSchema growth.to
+unfolding growth_at
+growth_legal from payload growth e =
+    let a = both_read (tagged_text_at payload) (λ text left. growth_to_at from (grown_to from text) left) growth [] (whole_is (growth_at from payload) growth e) in
+    by a.value a.left (grown_to from a.value) refl a.more
+  where
+    by : (text left : List ℕ) (o : Option Shape) → grown_to from text ≡ o → growth_to_at from o left ≡ Ok (growth, []) → IsSchema growth.to
+    by text left None to_is f = absurd cc
+    by text left (Some to) to_is f =
+        let b = both_read (values_at (further from to) left) (λ values rest. Ok (record { to = to; values = values }, rest)) growth [] f in
+        let s = same_pair (Ok (record { to = to; values = b.value }, b.left)) (record { to = to; values = b.value }) growth b.left [] refl b.more in
+        subst (λ (x : Growth). IsSchema x.to) s.0 (grown_by from text to to_is).grows.legal

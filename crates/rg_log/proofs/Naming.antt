@@ -1,21 +1,22 @@
--- The heads of the chunks tell which spots of a legal log are spelled.
-use Rattle.std.proofs.Common.{◌≡◌, ◌∙◌, inl, inr, ℕ, ◌+◌, ◌≤◌, ◌==◌, ◌&&◌, ◌||◌, nat_le, true, List, [], ◌∷◌, ◌++◌, length, Option, Some, option_map, refl, sym, ap, subst, arith, append_assoc, length-append}
+-- The heads of the chunks and the growths tell which spots of a legal log are spelled.
+use Rattle.std.proofs.Common.{◌≡◌, ◌∙◌, inl, inr, ℕ, ◌+◌, ◌≤◌, ◌==◌, ◌&&◌, ◌||◌, nat_le, Bool, true, List, [], ◌∷◌, ◌++◌, length, Option, refl, sym, ap, subst, arith, append_assoc}
 use Rattle.std.proofs.lemmas.Bool.{and_parts, or_cases, or_left, or_right, eqb-true, eq-eqb, leb-true, le-leb}
-use Rattle.std.proofs.lemmas.List.{append-nil}
 use Rattle.std.specs.Prelude.{◌↔◌}
-use Rattle.rg_event.specs.Shapes.{Shape}
+use Rattle.rg_event.specs.Shapes.{Shape, IsSchema}
 use Rattle.rg_event.specs.declared.event.Event.{Event}
-use Rattle.rg_event.specs.declared.schema.Field.{Field}
 use Rattle.rg_past.specs.declared.past.Spot.{Spot}
 use Rattle.rg_frame.specs.Frames.{frames, HasPayloads}
 use Rattle.rg_frame.proofs.FrameLaws.{length-frames, length-frames-push}
-use Rattle.rg_chunk.specs.Chunks.{chunk_of}
-use Rattle.rg_chunk.specs.declared.head.ChunkHead.{ChunkHead}
-use Rattle.rg_chunk.proofs.Chunks.{chunk_head}
-use Rattle.rg_log.specs.Log.{schema_payload, chunks_of, joined, HasChunks, HasEvents}
-use Rattle.rg_log.specs.Spots.{SpotAt, SpotIn, count_in, is_in_chunk, is_at_end, named_at, named_from, NamedByHeads}
-use Rattle.rg_log.proofs.Growing.{part, joined-push, chunks-push}
-use Rattle.rg_log.proofs.Spelling.{no_spot, rest_same, spot_within}
+use Rattle.rg_log.specs.Entries.{count_of, shape_behind}
+use Rattle.rg_log.specs.Log.{schema_payload, HasEvents}
+use Rattle.rg_log.specs.Spots.{SpotAt, SpotIn, is_in_chunk, is_at_end, named_at, named_from, named_behind, named_by_heads, NamedByHeads}
+use Rattle.rg_log.specs.Stages.{Stage, chunk, growth, shape_after, in_force, IsStage, AreStages, logged, HasStages}
+use Rattle.rg_log.specs.declared.entry.Entry.{Entry}
+use Rattle.rg_log.proofs.Entries.{entry_said}
+use Rattle.rg_log.proofs.Growing.{log_by}
+use Rattle.rg_log.proofs.Reading.{schema_said}
+use Rattle.rg_log.proofs.Spelling.{no_spot, after_of, spot_within}
+use Rattle.rg_log.proofs.Staging.{in_force-push, are-push, on-push, stage_count, length-first, length-push}
 
 pub in_chunk_is : (place before count : ℕ) (spot : Spot) → is_in_chunk place before count spot ≡ true → (spot.place ≡ place) × (spot.index ≤ count) × (spot.number ≡ before + spot.index)
 in_chunk_is place before count spot e =
@@ -35,113 +36,140 @@ at_end_is place before spot e =
 pub at_end_said : (place before : ℕ) (spot : Spot) → spot.place ≡ place → spot.index ≡ 0 → spot.number ≡ before → is_at_end place before spot ≡ true
 at_end_said place before spot at first many = rw (eq-eqb spot.place place at, eq-eqb spot.index 0 first, eq-eqb spot.number before many) refl
 
--- the head of a chunk's payload says how many events it has
-counted : (columns : List Field) (payload : List ℕ) (chunk : List Event) → chunk_of columns payload ≡ Some chunk → count_in payload ≡ Some (length chunk)
-counted columns payload chunk said = ap (λ (o : Option ChunkHead). option_map (λ (head : ChunkHead). head.count) o) (chunk_head columns payload chunk said)
+-- what a frame and those behind it name
+abbrev named_on : Shape → List ℕ → ℕ → ℕ → List (List ℕ) → Spot → Option Entry → Bool
+named_on shape payload place before payloads spot entry =
+    named_at place before spot entry (λ (e : Entry). named_from (shape_behind shape e) (place + 9 + length payload) (before + count_of e) payloads spot)
 
--- what a chunk and those behind it name
-pub here_or_further : (columns : List Field) (payload : List ℕ) (chunk : List Event) (spot : Spot) (place before : ℕ) (payloads : List (List ℕ)) → chunk_of columns payload ≡ Some chunk
-    → named_from place before (payload ∷ payloads) spot ≡ (is_in_chunk place before (length chunk) spot || named_from (place + 9 + length payload) (before + length chunk) payloads spot)
-here_or_further columns payload chunk spot place before payloads said =
-    ap (λ (o : Option ℕ). named_at place before spot o (λ behind. named_from (place + 9 + length payload) behind payloads spot)) (counted columns payload chunk said)
+here_or_on : (shape : Shape) (payload : List ℕ) (stage : Stage) (spot : Spot) (place before : ℕ) (payloads : List (List ℕ)) → IsStage shape payload stage
+    → named_from shape place before (payload ∷ payloads) spot ≡ (is_in_chunk place before (stage_count stage) spot || named_from (shape_after shape stage) (place + 9 + length payload) (before + stage_count stage) payloads spot)
+here_or_on shape payload (chunk c) spot place before payloads is = ap (named_on shape payload place before payloads spot) (entry_said shape payload (chunk c) is)
+here_or_on shape payload (growth g) spot place before payloads is = ap (named_on shape payload place before payloads spot) (entry_said shape payload (growth g) is)
 
--- what is named by the heads of further chunks is spelled
-named_spelled : (shape : Shape) (done rest : List (List ℕ)) (before chunks : List (List Event)) (spot : Spot) (place count : ℕ) → chunks_of shape.fields done ≡ Some before → chunks_of shape.fields rest ≡ Some chunks
-    → place ≡ length (frames (schema_payload shape ∷ done)) → count ≡ length (joined before) → named_from place count rest spot ≡ true → SpotAt shape (schema_payload shape ∷ (done ++ rest)) spot
-named_spelled shape done [] before chunks spot place count first all at many is =
-    let e = at_end_is place count spot is in
-    inr (record {
-      chunks = before;
-      framed = omega arith;
-      chunks_are = (refl, ap (λ (l : List (List ℕ)). chunks_of shape.fields l) (append-nil done) ∙ first);
-      place_is = e.0 ∙ at ∙ ap (λ (l : List (List ℕ)). length (frames (schema_payload shape ∷ l))) (sym (append-nil done));
-      index_is = e.1;
-      number_is = e.2 ∙ many;
-    })
-named_spelled shape done (p ∷ rest) before chunks spot place count first all at many is =
-    let f = part (chunk_of shape.fields p) (chunks_of shape.fields rest) chunks all in
-    elim (or_cases (is_in_chunk place count (length f.chunk) spot) (named_from (place + 9 + length p) (count + length f.chunk) rest spot) (sym (here_or_further shape.fields p f.chunk spot place count rest f.chunk_is) ∙ is)) [
-      | inl here ↦ let e = in_chunk_is place count (length f.chunk) spot here in
-          inl (record {
-            earlier = done;
-            payload = p;
-            later = rest;
-            before = before;
-            chunk = f.chunk;
-            is = refl;
-            before_is = first;
-            chunk_is = f.chunk_is;
-            place_is = e.0 ∙ at;
-            number_is = omega (arith, e.2, many);
-            most = e.1;
-          })
-      | inr further ↦ subst (λ (l : List (List ℕ)). SpotAt shape (schema_payload shape ∷ l) spot) (append_assoc done (p ∷ []) rest)
-          (named_spelled shape (done ++ p ∷ []) rest (before ++ f.chunk ∷ []) f.more spot (place + 9 + length p) (count + length f.chunk) (chunks-push shape.fields done before p f.chunk first f.chunk_is) f.more_is
-          (omega (arith, at, length-frames-push (schema_payload shape ∷ done) p))
-          (omega (arith, many, ap (λ (l : List Event). length l) (joined-push before f.chunk), length-append (joined before) f.chunk))
-          further)
-    ]
+-- behind the frame of a schema
+begun_named : (begun : Shape) (payloads : List (List ℕ)) (spot : Spot) → IsSchema begun → named_by_heads (schema_payload begun ∷ payloads) spot ≡ named_from begun (9 + length (schema_payload begun)) 0 payloads spot
+begun_named begun payloads spot schema = ap (λ (o : Option Shape). named_behind o (9 + length (schema_payload begun)) payloads spot) (schema_said begun schema)
 
--- a spot in a chunk is named
-in_chunk_named : (columns : List Field) (earlier : List (List ℕ)) (payload : List ℕ) (later : List (List ℕ)) (before : List (List Event)) (chunk : List Event) (spot : Spot) (place count : ℕ) → chunks_of columns earlier ≡ Some before
-    → chunk_of columns payload ≡ Some chunk → spot.place ≡ place + length (frames earlier) → spot.number ≡ count + length (joined before) + spot.index → spot.index ≤ length chunk → named_from place count (earlier ++ payload ∷ later) spot ≡ true
-in_chunk_named columns [] payload later before chunk spot place count first said at many most =
-    let none : before ≡ [] = cc in
-    here_or_further columns payload chunk spot place count later said
-    ∙ or_left (is_in_chunk place count (length chunk) spot) (named_from (place + 9 + length payload) (count + length chunk) later spot)
-    (in_chunk_said place count (length chunk) spot (omega (arith, at)) most (omega (arith, many, ap (λ (l : List (List Event)). length (joined l)) none)))
-in_chunk_named columns (p ∷ earlier) payload later before chunk spot place count first said at many most =
-    let f = part (chunk_of columns p) (chunks_of columns earlier) before first in
-    here_or_further columns p f.chunk spot place count (earlier ++ payload ∷ later) f.chunk_is
-    ∙ or_right (is_in_chunk place count (length f.chunk) spot) (named_from (place + 9 + length p) (count + length f.chunk) (earlier ++ payload ∷ later) spot)
-    (in_chunk_named columns earlier payload later f.more chunk spot (place + 9 + length p) (count + length f.chunk) f.more_is said (omega (arith, at, length-frames p earlier))
-    (omega (arith, many, ap (λ (l : List (List Event)). length (joined l)) f.is, length-append f.chunk (joined f.more))) most)
+-- what is named by further heads and growths is spelled
+module _ (begun : Shape) (schema : IsSchema begun) where
+  here_spelled : (done : List (List ℕ)) (p : List ℕ) (rest : List (List ℕ)) (before : List Stage) (stage : Stage) (spot : Spot) (place count : ℕ) → AreStages begun done before → IsStage (in_force begun before) p stage
+      → place ≡ length (frames (schema_payload begun ∷ done)) → count ≡ length (logged before) → (spot.place ≡ place) × (spot.index ≤ stage_count stage) × (spot.number ≡ count + spot.index) → SpotAt (schema_payload begun ∷ (done ++ p ∷ rest)) spot
+  here_spelled done p rest before (chunk c) spot place count first said at many is = inl (record {
+    begun = begun;
+    schema = schema;
+    earlier = done;
+    payload = p;
+    later = rest;
+    before = before;
+    chunk = c;
+    is = refl;
+    before_are = first;
+    chunk_is = said;
+    place_is = is.0 ∙ at;
+    number_is = omega (arith, is.2, many);
+    most = is.1;
+  })
+  here_spelled done p rest before (growth g) spot place count first said at many is =
+      let none : spot.index ≤ 0 = is.1 in
+      inr (record {
+        begun = begun;
+        schema = schema;
+        earlier = done;
+        later = p ∷ rest;
+        before = before;
+        is = refl;
+        before_are = first;
+        place_is = is.0 ∙ at;
+        index_is = omega (arith, none);
+        number_is = omega (arith, is.2, many, none);
+      })
 
--- and so is the end
-at_end_named : (columns : List Field) (payloads : List (List ℕ)) (chunks : List (List Event)) (spot : Spot) (place count : ℕ) → chunks_of columns payloads ≡ Some chunks → spot.place ≡ place + length (frames payloads) → spot.index ≡ 0
-    → spot.number ≡ count + length (joined chunks) → named_from place count payloads spot ≡ true
-at_end_named columns [] chunks spot place count all at first many =
-    let none : chunks ≡ [] = cc in
-    at_end_said place count spot (omega (arith, at)) first (omega (arith, many, ap (λ (l : List (List Event)). length (joined l)) none))
-at_end_named columns (p ∷ payloads) chunks spot place count all at first many =
-    let f = part (chunk_of columns p) (chunks_of columns payloads) chunks all in
-    here_or_further columns p f.chunk spot place count payloads f.chunk_is
-    ∙ or_right (is_in_chunk place count (length f.chunk) spot) (named_from (place + 9 + length p) (count + length f.chunk) payloads spot)
-    (at_end_named columns payloads f.more spot (place + 9 + length p) (count + length f.chunk) f.more_is (omega (arith, at, length-frames p payloads)) first
-    (omega (arith, many, ap (λ (l : List (List Event)). length (joined l)) f.is, length-append f.chunk (joined f.more))))
+  named_spelled : (done rest : List (List ℕ)) (before stages : List Stage) (spot : Spot) (place count : ℕ) → AreStages begun done before → AreStages (in_force begun before) rest stages → place ≡ length (frames (schema_payload begun ∷ done))
+      → count ≡ length (logged before) → named_from (in_force begun before) place count rest spot ≡ true → SpotAt (schema_payload begun ∷ (done ++ rest)) spot
+  named_spelled done [] before [] spot place count first all at many is =
+      let e = at_end_is place count spot is in
+      inr (record { begun = begun; schema = schema; earlier = done; later = []; before = before; is = refl; before_are = first; place_is = e.0 ∙ at; index_is = e.1; number_is = e.2 ∙ many })
+  named_spelled done [] before (s ∷ stages) spot place count first all at many is = absurd all
+  named_spelled done (p ∷ rest) before [] spot place count first all at many is = absurd all
+  named_spelled done (p ∷ rest) before (s ∷ stages) spot place count first all at many is =
+      let next = place + 9 + length p in
+      elim (or_cases (is_in_chunk place count (stage_count s) spot) (named_from (shape_after (in_force begun before) s) next (count + stage_count s) rest spot) (sym (here_or_on (in_force begun before) p s spot place count rest all.0) ∙ is)) [
+        | inl here ↦ here_spelled done p rest before s spot place count first all.0 at many (in_chunk_is place count (stage_count s) spot here)
+        | inr further ↦ subst (λ (l : List (List ℕ)). SpotAt (schema_payload begun ∷ l) spot) (append_assoc done (p ∷ []) rest)
+            (named_spelled (done ++ p ∷ []) rest (before ++ s ∷ []) stages spot next (count + stage_count s) (are-push begun done before p s first all.0) (on-push begun before s rest stages all.1)
+            (omega (arith, at, length-frames-push (schema_payload begun ∷ done) p))
+            (omega (arith, many, length-push before s))
+            (subst (λ (shape : Shape). named_from shape next (count + stage_count s) rest spot ≡ true) (sym (in_force-push begun before s)) further))
+      ]
 
-spelled_named : (shape : Shape) (first : List ℕ) (payloads : List (List ℕ)) (spot : Spot) → first ≡ schema_payload shape → SpotAt shape (first ∷ payloads) spot → named_from (9 + length first) 0 payloads spot ≡ true
-spelled_named shape first payloads spot same (inl s) =
-    let rest : payloads ≡ s.earlier ++ s.payload ∷ s.later = rest_same first (schema_payload shape) payloads (s.earlier ++ s.payload ∷ s.later) s.is in
-    subst (λ (l : List (List ℕ)). named_from (9 + length first) 0 l spot ≡ true) (sym rest)
-    (in_chunk_named shape.fields s.earlier s.payload s.later s.before s.chunk spot (9 + length first) 0 s.before_is s.chunk_is (omega (arith, s.place_is, length-frames (schema_payload shape) s.earlier, ap (λ (l : List ℕ). length l) same)) (omega (arith, s.number_is)) s.most)
-spelled_named shape first payloads spot same (inr s) =
-    at_end_named shape.fields payloads s.chunks spot (9 + length first) 0 s.chunks_are.1 (omega (arith, s.place_is, length-frames first payloads)) s.index_is (omega (arith, s.number_is))
+-- what is named from a frame on is named from an earlier one on
+named_before : (shape : Shape) (earlier later : List (List ℕ)) (before : List Stage) (spot : Spot) (place count there many : ℕ) → AreStages shape earlier before → there ≡ place + length (frames earlier) → many ≡ count + length (logged before)
+    → named_from (in_force shape before) there many later spot ≡ true → named_from shape place count (earlier ++ later) spot ≡ true
+named_before shape [] later [] spot place count there many are at number is =
+    let same : there ≡ place + 0 = at in
+    let also : many ≡ count + 0 = number in
+    let a : place ≡ there = omega (arith, same) in
+    let b : count ≡ many = omega (arith, also) in
+    ap (λ (n : ℕ). named_from shape n count later spot) a ∙ ap (λ (n : ℕ). named_from shape there n later spot) b ∙ is
+named_before shape [] later (s ∷ before) spot place count there many are at number is = absurd are
+named_before shape (p ∷ earlier) later [] spot place count there many are at number is = absurd are
+named_before shape (p ∷ earlier) later (s ∷ before) spot place count there many are at number is =
+    here_or_on shape p s spot place count (earlier ++ later) are.0
+    ∙ or_right (is_in_chunk place count (stage_count s) spot) (named_from (shape_after shape s) (place + 9 + length p) (count + stage_count s) (earlier ++ later) spot)
+    (named_before (shape_after shape s) earlier later before spot (place + 9 + length p) (count + stage_count s) there many are.1 (omega (arith, at, length-frames p earlier)) (omega (arith, number, length-first s before)) is)
 
--- on a legal log the heads tell exactly the spelled spots
-pub named : (shape : Shape) (payloads : List (List ℕ)) (chunks : List (List Event)) (spot : Spot) → HasChunks shape payloads chunks → NamedByHeads payloads spot ↔ SpotAt shape payloads spot
-named shape [] chunks spot log = (λ is. absurd cc, λ at. absurd (no_spot shape spot at))
-named shape (first ∷ payloads) chunks spot log = (
-  λ is. subst (λ (p : List ℕ). SpotAt shape (p ∷ payloads) spot) (sym log.0)
-      (named_spelled shape [] payloads [] chunks spot (9 + length first) 0 refl log.1 (omega (arith, length-frames (schema_payload shape) [], ap (λ (l : List ℕ). length l) log.0)) refl is),
-  λ at. spelled_named shape first payloads spot log.0 at,
+-- a place where a frame begins or the log ends is named
+named_between : (shape : Shape) (later : List (List ℕ)) (after : List Stage) (spot : Spot) (there many : ℕ) → AreStages shape later after → spot.place ≡ there → spot.index ≡ 0 → spot.number ≡ many → named_from shape there many later spot ≡ true
+named_between shape [] [] spot there many are place index number = at_end_said there many spot place index number
+named_between shape [] (s ∷ after) spot there many are place index number = absurd are
+named_between shape (p ∷ later) [] spot there many are place index number = absurd are
+named_between shape (p ∷ later) (s ∷ after) spot there many are place index number =
+    here_or_on shape p s spot there many later are.0
+    ∙ or_left (is_in_chunk there many (stage_count s) spot) (named_from (shape_after shape s) (there + 9 + length p) (many + stage_count s) later spot)
+    (in_chunk_said there many (stage_count s) spot place (omega (arith, index)) (omega (arith, index, number)))
+
+-- each spelled spot is named
+spelled_named : (shape : Shape) (payloads : List (List ℕ)) (stages : List Stage) (spot : Spot) → HasStages shape payloads stages → SpotAt payloads spot → named_by_heads payloads spot ≡ true
+spelled_named shape payloads stages spot has (inl s) =
+    let first = schema_payload s.begun in
+    let there = length (frames (first ∷ s.earlier)) in
+    let many = length (logged s.before) in
+    let here : named_from (in_force s.begun s.before) there many (s.payload ∷ s.later) spot ≡ true =
+    here_or_on (in_force s.begun s.before) s.payload (chunk s.chunk) spot there many s.later s.chunk_is
+    ∙ or_left (is_in_chunk there many (length s.chunk) spot) (named_from (in_force s.begun s.before) (there + 9 + length s.payload) (many + length s.chunk) s.later spot) (in_chunk_said there many (length s.chunk) spot s.place_is s.most s.number_is) in
+    ap (λ (l : List (List ℕ)). named_by_heads l spot) s.is ∙ begun_named s.begun (s.earlier ++ s.payload ∷ s.later) spot s.schema
+    ∙ named_before s.begun s.earlier (s.payload ∷ s.later) s.before spot (9 + length first) 0 there many s.before_are (length-frames first s.earlier) (omega arith) here
+spelled_named shape payloads stages spot has (inr s) =
+    let first = schema_payload s.begun in
+    let there = length (frames (first ∷ s.earlier)) in
+    let many = length (logged s.before) in
+    let a = after_of shape s.begun payloads s.earlier s.later s.before stages has s.schema s.is s.before_are in
+    ap (λ (l : List (List ℕ)). named_by_heads l spot) s.is ∙ begun_named s.begun (s.earlier ++ s.later) spot s.schema
+    ∙ named_before s.begun s.earlier s.later s.before spot (9 + length first) 0 there many s.before_are (length-frames first s.earlier) (omega arith)
+    (named_between (in_force s.begun s.before) s.later a.after spot there many a.are s.place_is s.index_is s.number_is)
+
+-- on a legal log heads and growths tell exactly the spelled spots
+pub named : (shape : Shape) (payloads : List (List ℕ)) (stages : List Stage) (spot : Spot) → HasStages shape payloads stages → NamedByHeads payloads spot ↔ SpotAt payloads spot
+named shape [] stages spot has = (λ is. absurd cc, λ at. absurd (no_spot spot at))
+named shape (first ∷ payloads) stages spot has = (
+  λ is. subst (λ (p : List ℕ). SpotAt (p ∷ payloads) spot) (sym has.2)
+      (named_spelled has.0 has.1 [] payloads [] stages spot (9 + length (schema_payload has.0)) 0 tt has.3 (omega (arith, length-frames (schema_payload has.0) [])) refl
+      (sym (begun_named has.0 payloads spot has.1) ∙ subst (λ (p : List ℕ). named_by_heads (p ∷ payloads) spot ≡ true) has.2 is)),
+  λ at. spelled_named shape (first ∷ payloads) stages spot has at,
 )
 
 -- the same of a file, which has one frame list
 module _ (unique : (a b : List (List ℕ)) (bytes : List ℕ) → HasPayloads a bytes → HasPayloads b bytes → a ≡ b) where
-  pub none_in : (shape : Shape) (bytes : List ℕ) (spot : Spot) → HasPayloads [] bytes → SpotIn shape bytes spot → ⊥
-  none_in shape bytes spot none at = no_spot shape spot (subst (λ (l : List (List ℕ)). SpotAt shape l spot) (unique at.0 [] bytes at.1 none) at.2)
+  pub none_in : (bytes : List ℕ) (spot : Spot) → HasPayloads [] bytes → SpotIn bytes spot → ⊥
+  none_in bytes spot none at = no_spot spot (subst (λ (l : List (List ℕ)). SpotAt l spot) (unique at.0 [] bytes at.1 none) at.2)
 
-  pub chunks_in : (shape : Shape) (events : List Event) (payloads : List (List ℕ)) (bytes : List ℕ) → (has : HasEvents shape events bytes) → HasPayloads payloads bytes → HasChunks shape payloads has.0
-  chunks_in shape events payloads bytes has here = subst (λ (l : List (List ℕ)). HasChunks shape l has.0) (unique has.1.payloads payloads bytes has.1.has here) has.1.log
+  pub within_in : (shape : Shape) (events : List Event) (bytes : List ℕ) (spot : Spot) → HasEvents shape events bytes → SpotIn bytes spot → spot.number ≤ length events
+  within_in shape events bytes spot x at =
+      subst (λ (l : List Event). spot.number ≤ length l) x.2 (spot_within shape at.0 x.0 spot (log_by unique shape x.0 at.0 bytes at.1 x.1) at.2)
 
-  pub within_in : (shape : Shape) (events : List Event) (bytes : List ℕ) (spot : Spot) → HasEvents shape events bytes → SpotIn shape bytes spot → spot.number ≤ length events
-  within_in shape events bytes spot has at =
-      subst (λ (l : List Event). spot.number ≤ length l) has.2 (spot_within shape at.0 has.0 spot (chunks_in shape events at.0 bytes has at.1) at.2)
-
-  pub named_in : (shape : Shape) (events : List Event) (payloads : List (List ℕ)) (bytes : List ℕ) (spot : Spot) → HasEvents shape events bytes → HasPayloads payloads bytes → NamedByHeads payloads spot ↔ SpotIn shape bytes spot
-  named_in shape events payloads bytes spot has here =
-      let both_ways = named shape payloads has.0 spot (chunks_in shape events payloads bytes has here) in (
+  pub named_in : (shape : Shape) (events : List Event) (payloads : List (List ℕ)) (bytes : List ℕ) (spot : Spot) → HasEvents shape events bytes → HasPayloads payloads bytes → NamedByHeads payloads spot ↔ SpotIn bytes spot
+  named_in shape events payloads bytes spot x here =
+      let both_ways = named shape payloads x.0 spot (log_by unique shape x.0 payloads bytes here x.1) in (
         λ is. (payloads, here, both_ways.0 is),
-        λ at. both_ways.1 (subst (λ (l : List (List ℕ)). SpotAt shape l spot) (unique at.0 payloads bytes at.1 here) at.2),
+        λ at. both_ways.1 (subst (λ (l : List (List ℕ)). SpotAt l spot) (unique at.0 payloads bytes at.1 here) at.2),
       )

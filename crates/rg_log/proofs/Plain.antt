@@ -1,5 +1,5 @@
--- A log without a growth: what it was before growths were known, it is still.
-use Rattle.std.proofs.Common.{◌≡◌, ◌∙◌, ℕ, ◌≤◌, ◌^◌, List, [], ◌∷◌, ◌++◌, length, Option, Some, refl, sym, ap, subst}
+-- A log without a growth is what it was before schemas grew.
+use Rattle.std.proofs.Common.{◌≡◌, ◌∙◌, ℕ, ◌≤◌, ◌^◌, List, [], ◌∷◌, ◌++◌, length, Option, Some, None, refl, sym, ap, subst}
 use Rattle.std.proofs.lemmas.List.Elements.{All-nil, All-cons, All-head, All-tail, All-append}
 use Rattle.std.specs.Prelude.{◌↔◌, All}
 use Rattle.rg_event.specs.Codec.{IsEventOf}
@@ -9,11 +9,24 @@ use Rattle.rg_event.specs.declared.event.Event.{Event}
 use Rattle.rg_event.specs.declared.value.Value.{Value}
 use Rattle.rg_chunk.specs.Chunks.{chunk_of}
 use Rattle.rg_chunk.specs.Extended.{all_extended}
-use Rattle.rg_log.specs.Log.{schema_payload, with_chunk, chunks_of, joined, HasChunks, IsLegalLog, HasEvents}
-use Rattle.rg_log.specs.Stages.{in_force, AreStages, values_of, logged, plain, HasStages, IsGrownLog, HasLogged}
+use Rattle.rg_log.specs.Log.{schema_payload, joined, IsLegalLog, HasEvents}
+use Rattle.rg_log.specs.Plain.{with_chunk, chunks_of, HasChunks, IsPlainLog, HasPlainEvents}
+use Rattle.rg_log.specs.Stages.{in_force, AreStages, values_of, logged, plain, HasStages}
 use Rattle.rg_log.proofs.Extending.{extended-none}
-use Rattle.rg_log.proofs.Growing.{part}
 use Rattle.rg_log.proofs.Summaries.{all_behind}
+
+-- the first chunk of some, and the others
+pub record Parted (o : Option (List Event)) (rest : Option (List (List Event))) (chunks : List (List Event)) : Type 0 where
+  pub chunk : List Event
+  pub more : List (List Event)
+  pub chunk_is : o ≡ Some chunk
+  pub more_is : rest ≡ Some more
+  pub is : chunks ≡ chunk ∷ more
+
+pub part : (o : Option (List Event)) (rest : Option (List (List Event))) (chunks : List (List Event)) → with_chunk o rest ≡ Some chunks → Parted o rest chunks
+part None rest chunks is = absurd cc
+part (Some chunk) None chunks is = absurd cc
+part (Some chunk) (Some more) chunks is = record { chunk = chunk; more = more; chunk_is = refl; more_is = refl; is = cc }
 
 all_before : (P : Event → Type 0) (a b : List Event) → All P (a ++ b) → All P a
 all_before P [] b all = All-nil P
@@ -56,7 +69,7 @@ are_of shape [] (c ∷ chunks) are = absurd are
 are_of shape (p ∷ payloads) [] are = absurd are
 are_of shape (p ∷ payloads) (c ∷ chunks) are = All-append (IsEventOf shape.fields) c (joined chunks) are.0.of (are_of shape payloads chunks are.1)
 
--- the frame list says these chunks as a log of one schema exactly where it says them as stages
+-- the frame list says these chunks exactly where it says them as stages
 pub has_plain : (shape : Shape) (payloads : List (List ℕ)) (chunks : List (List Event)) → IsSchema shape → HasChunks shape payloads chunks → All (IsEventOf shape.fields) (joined chunks) → HasStages shape payloads (plain chunks)
 has_plain shape [] chunks schema none all = ap plain none
 has_plain shape (first ∷ payloads) chunks schema log all = (shape, schema, log.0, plain_are shape payloads chunks log.1 all, plain_shape shape chunks)
@@ -78,10 +91,10 @@ plain_has shape (first ∷ payloads) chunks has =
     let are : AreStages shape payloads (plain chunks) = subst (λ (s : Shape). AreStages s payloads (plain chunks)) is has.3 in
     record { log = (has.2 ∙ ap schema_payload is, are_chunks shape payloads chunks are); of = are_of shape payloads chunks are }
 
-pub as_before : (shape : Shape) (chunks : List (List Event)) (bytes : List ℕ) → IsLegalLog shape chunks bytes ↔ IsGrownLog shape (plain chunks) bytes
+pub as_before : (shape : Shape) (chunks : List (List Event)) (bytes : List ℕ) → IsPlainLog shape chunks bytes ↔ IsLegalLog shape (plain chunks) bytes
 as_before shape chunks bytes = (to, back)
   where
-    to : IsLegalLog shape chunks bytes → IsGrownLog shape (plain chunks) bytes
+    to : IsPlainLog shape chunks bytes → IsLegalLog shape (plain chunks) bytes
     to log =
         record {
           schema = log.schema;
@@ -92,7 +105,7 @@ as_before shape chunks bytes = (to, back)
           few = subst (λ (l : List Event). length l ≤ 2 ^ 40) (sym (plain_logged chunks)) log.few;
         }
 
-    back : IsGrownLog shape (plain chunks) bytes → IsLegalLog shape chunks bytes
+    back : IsLegalLog shape (plain chunks) bytes → IsPlainLog shape chunks bytes
     back log =
         let p = plain_has shape log.payloads chunks log.log in
         record {
@@ -105,5 +118,5 @@ as_before shape chunks bytes = (to, back)
           few = subst (λ (l : List Event). length l ≤ 2 ^ 40) (plain_logged chunks) log.few;
         }
 
-pub events_before : (shape : Shape) (events : List Event) (bytes : List ℕ) → HasEvents shape events bytes → HasLogged shape events bytes
+pub events_before : (shape : Shape) (events : List Event) (bytes : List ℕ) → HasPlainEvents shape events bytes → HasEvents shape events bytes
 events_before shape events bytes x = (plain x.0, (as_before shape x.0 bytes).0 x.1, plain_logged x.0 ∙ x.2)

@@ -16,11 +16,10 @@ use Rattle.rg_chunk.specs.Heads.{layout_said, headed_at, stamp_at, head_at, head
 use Rattle.rg_chunk.specs.declared.head.Layout.{Layout}
 use Rattle.rg_chunk.specs.declared.head.ChunkHead.{ChunkHead}
 use Rattle.rg_chunk.proofs.Chunks.{chunk_head}
-use Rattle.rg_frame.specs.Frames.{HasPayloads}
-use Rattle.rg_log.specs.Log.{IsChunkOf}
-use Rattle.rg_log.specs.Stages.{Stage, chunk, growth, shape_after, in_force, IsStage, AreStages, logged, HasStages, IsGrownLog, HasLogged, HasFrame}
+use Rattle.rg_log.specs.Payloads.{IsChunkOf}
+use Rattle.rg_log.specs.Stages.{Stage, chunk, growth, shape_after, in_force, IsStage, AreStages, HasStages}
 use Rattle.rg_log.proofs.Decoded.{both_read, same_pair}
-use Rattle.rg_log.proofs.Growing.{same_some, one_shape}
+use Rattle.rg_log.proofs.Shapes.{same_some, one_shape}
 
 not_headed : (said : Option Layout) (head : ChunkHead) (left : List ℕ) (out : Layout × ChunkHead) (rest : List ℕ) → said ≡ None → headed_at said head left ≡ Ok (out, rest) → ⊥
 not_headed None head left out rest none e = absurd cc
@@ -38,23 +37,30 @@ no_head_at bytes said left is =
     not_headed (layout_said one.value) head four.left said left (ap layout_said tag) four.more
 
 -- no head of a chunk begins with the byte 47 in hexadecimal
-pub no_head : (bytes : List ℕ) → head_of (71 ∷ bytes) ≡ None
+no_head : (bytes : List ℕ) → head_of (71 ∷ bytes) ≡ None
 no_head bytes = by (head_at (71 ∷ bytes)) refl
   where
     by : (r : Reading (Layout × ChunkHead)) → head_at (71 ∷ bytes) ≡ r → head_of (71 ∷ bytes) ≡ None
     by (Ok (said, left)) is = absurd (no_head_at bytes said left is)
     by (Err fault) is = rw is refl
 
+-- the payload of a growth has no head of a chunk
+pub growth_headless : (shape : Shape) (payload : List ℕ) (grown : Growth) → IsGrowth shape payload grown → head_of payload ≡ None
+growth_headless shape payload grown is =
+    let text = schema_text grown.to in
+    ap head_of is.is ∙ no_head ((to_be_bytes w32 (length text) ++ text) ++ list_bytes tagged_bytes grown.values)
+
+pub growth_read : (shape : Shape) (payload : List ℕ) (grown : Growth) → IsGrowth shape payload grown → growth_of shape payload ≡ Some grown
+growth_read shape payload grown is = ap (growth_of shape) is.is ∙ growth_back shape grown is.of
+
 -- so a growth is no chunk
 not_both : (shape : Shape) (payload : List ℕ) (events : List Event) (grown : Growth) → IsChunkOf shape payload events → IsGrowth shape payload grown → ⊥
 not_both shape payload events grown events_said growth_said =
-    let text = schema_text grown.to in
     let head : head_of payload ≡ Some (head_for events) = chunk_head shape.fields payload events events_said.said in
-    let none : head_of payload ≡ None = ap head_of growth_said.is ∙ no_head ((to_be_bytes w32 (length text) ++ text) ++ list_bytes tagged_bytes grown.values) in
-    absurd (let e : None ≡ Some (head_for events) = sym none ∙ head in cc)
+    absurd (let e : None ≡ Some (head_for events) = sym (growth_headless shape payload grown growth_said) ∙ head in cc)
 
 one_growth : (shape : Shape) (payload : List ℕ) (a b : Growth) → IsGrowth shape payload a → IsGrowth shape payload b → a ≡ b
-one_growth shape payload a b x y = same_some (growth_of shape payload) a b (ap (growth_of shape) x.is ∙ growth_back shape a x.of) (ap (growth_of shape) y.is ∙ growth_back shape b y.of)
+one_growth shape payload a b x y = same_some (growth_of shape payload) a b (growth_read shape payload a x) (growth_read shape payload b y)
 
 pub one_stage : (shape : Shape) (payload : List ℕ) (a b : Stage) → IsStage shape payload a → IsStage shape payload b → a ≡ b
 one_stage shape payload (chunk a) (chunk b) x y = ap (λ (l : List Event). chunk l) (same_some (chunk_of shape.fields payload) a b x.said y.said)
@@ -83,24 +89,6 @@ one_log first payloads shape other a b x y =
     let same : a ≡ b = one_stages y.0 payloads a b (subst (λ (s : Shape). AreStages s payloads a) begun x.3) y.3 in
     record { stages = same; shapes = sym x.4 ∙ ap (λ (s : Shape). in_force s a) begun ∙ ap (in_force y.0) same ∙ y.4 }
 
-stages_by : (payloads : List (List ℕ)) (shape other : Shape) (a b : List Stage) → HasStages shape payloads a → HasStages other payloads b → a ≡ b
+pub stages_by : (payloads : List (List ℕ)) (shape other : Shape) (a b : List Stage) → HasStages shape payloads a → HasStages other payloads b → a ≡ b
 stages_by [] shape other a b x y = x ∙ sym y
 stages_by (first ∷ payloads) shape other a b x y = (one_log first payloads shape other a b x y).stages
-
--- from here on, a file has one frame list
-module _ (unique : (a b : List (List ℕ)) (bytes : List ℕ) → HasPayloads a bytes → HasPayloads b bytes → a ≡ b) where
-  pub log_by : (shape : Shape) (stages : List Stage) (payloads : List (List ℕ)) (bytes : List ℕ) → HasPayloads payloads bytes → IsGrownLog shape stages bytes → HasStages shape payloads stages
-  log_by shape stages payloads bytes has log = subst (λ (l : List (List ℕ)). HasStages shape l stages) (unique log.payloads payloads bytes log.has has) log.log
-
-  -- a file has one list of stages
-  pub file_stages : (shape other : Shape) (stages others : List Stage) (bytes : List ℕ) → IsGrownLog shape stages bytes → IsGrownLog other others bytes → stages ≡ others
-  file_stages shape other stages others bytes x y = stages_by y.payloads shape other stages others (log_by shape stages y.payloads bytes y.has x) y.log
-
-  -- with a frame it has one schema in force at its end
-  pub file_shape : (shape other : Shape) (stages others : List Stage) (bytes : List ℕ) → HasFrame bytes → IsGrownLog shape stages bytes → IsGrownLog other others bytes → shape ≡ other
-  file_shape shape other stages others bytes frame x y =
-      (one_log frame.0 frame.1 shape other stages others (log_by shape stages (frame.0 ∷ frame.1) bytes frame.2 x) (log_by other others (frame.0 ∷ frame.1) bytes frame.2 y)).shapes
-
-  -- and one list of events
-  pub file_events : (shape other : Shape) (events others : List Event) (bytes : List ℕ) → HasLogged shape events bytes → HasLogged other others bytes → events ≡ others
-  file_events shape other events others bytes x y = sym x.2 ∙ ap logged (file_stages shape other x.0 y.0 bytes x.1 y.1) ∙ y.2

@@ -1,5 +1,5 @@
--- Stages with one more behind them, and the schema that their events are of.
-use Rattle.std.proofs.Common.{◌≡◌, ◌∙◌, ℕ, List, [], ◌∷◌, ◌++◌, refl, sym, ap, subst, append_assoc}
+-- Stages and others behind them: the schema in force, the events, and the schema that these are of.
+use Rattle.std.proofs.Common.{◌≡◌, ◌∙◌, ℕ, ◌+◌, List, [], ◌∷◌, ◌++◌, length, refl, sym, ap, subst, arith, append_assoc, length-append}
 use Rattle.std.proofs.lemmas.List.{append-nil}
 use Rattle.std.proofs.lemmas.List.Elements.{All-nil, All-cons, All-head, All-tail, All-append}
 use Rattle.std.specs.Prelude.{All}
@@ -10,20 +10,31 @@ use Rattle.rg_event.specs.declared.schema.Field.{Field}
 use Rattle.rg_event.specs.declared.value.Value.{Value}
 use Rattle.rg_growth.specs.declared.growth.Growth.{Growth}
 use Rattle.rg_chunk.specs.Extended.{extended, all_extended}
-use Rattle.rg_log.specs.Stages.{Stage, chunk, growth, shape_after, in_force, IsStage, AreStages, values_of, logged, HasStages, HasLogged}
-use Rattle.rg_log.proofs.Extending.{extended-none, extended-twice, extended-append, event-extended, values-append}
+use Rattle.rg_log.specs.Log.{HasEvents}
+use Rattle.rg_log.specs.Stages.{Stage, chunk, growth, shape_after, in_force, IsStage, AreStages, values_of, logged, HasStages}
+use Rattle.rg_log.proofs.Extending.{extended-none, extended-twice, extended-append, event-extended, length-extended, values-append}
+
+pub in_force-append : (shape : Shape) (a b : List Stage) → in_force shape (a ++ b) ≡ in_force (in_force shape a) b
+in_force-append shape [] b = refl
+in_force-append shape (s ∷ a) b = in_force-append (shape_after shape s) a b
 
 pub in_force-push : (shape : Shape) (stages : List Stage) (stage : Stage) → in_force shape (stages ++ stage ∷ []) ≡ shape_after (in_force shape stages) stage
-in_force-push shape [] stage = refl
-in_force-push shape (first ∷ stages) stage = in_force-push (shape_after shape first) stages stage
+in_force-push shape stages stage = in_force-append shape stages (stage ∷ [])
+
+pub are-append : (shape : Shape) (p q : List (List ℕ)) (a b : List Stage) → AreStages shape p a → AreStages (in_force shape a) q b → AreStages shape (p ++ q) (a ++ b)
+are-append shape [] q [] b are more = more
+are-append shape [] q (s ∷ a) b are more = absurd are
+are-append shape (payload ∷ p) q [] b are more = absurd are
+are-append shape (payload ∷ p) q (s ∷ a) b are more = (are.0, are-append (shape_after shape s) p q a b are.1 more)
 
 pub are-push : (shape : Shape) (payloads : List (List ℕ)) (stages : List Stage) (payload : List ℕ) (stage : Stage) → AreStages shape payloads stages → IsStage (in_force shape stages) payload stage → AreStages shape (payloads ++ payload ∷ []) (stages ++ stage ∷ [])
-are-push shape [] [] payload stage are is = (is, tt)
-are-push shape [] (first ∷ stages) payload stage are is = absurd are
-are-push shape (p ∷ payloads) [] payload stage are is = absurd are
-are-push shape (p ∷ payloads) (first ∷ stages) payload stage are is = (are.0, are-push (shape_after shape first) payloads stages payload stage are.1 is)
+are-push shape payloads stages payload stage are is = are-append shape payloads (payload ∷ []) stages (stage ∷ []) are (is, tt)
 
--- with a stage more
+-- the stages behind one more
+pub on-push : (begun : Shape) (before : List Stage) (stage : Stage) (later : List (List ℕ)) (stages : List Stage) → AreStages (shape_after (in_force begun before) stage) later stages → AreStages (in_force begun (before ++ stage ∷ [])) later stages
+on-push begun before stage later stages are = subst (λ (s : Shape). AreStages s later stages) (sym (in_force-push begun before stage)) are
+
+-- a frame list with a stage more
 pub has-push : (shape : Shape) (first : List ℕ) (payloads : List (List ℕ)) (stages : List Stage) (payload : List ℕ) (stage : Stage) → HasStages shape (first ∷ payloads) stages → IsStage shape payload stage
     → HasStages (shape_after shape stage) (first ∷ (payloads ++ payload ∷ [])) (stages ++ stage ∷ [])
 has-push shape first payloads stages payload stage has is = (
@@ -34,36 +45,81 @@ has-push shape first payloads stages payload stage has is = (
   in_force-push has.0 stages stage ∙ ap (λ (s : Shape). shape_after s stage) has.4,
 )
 
-values-growth : (stages : List Stage) (grown : Growth) → values_of (stages ++ growth grown ∷ []) ≡ values_of stages ++ grown.values
-values-growth [] grown = append-nil grown.values
-values-growth (chunk events ∷ stages) grown = values-growth stages grown
-values-growth (growth first ∷ stages) grown = ap (λ (l : List Value). first.values ++ l) (values-growth stages grown) ∙ sym (append_assoc first.values (values_of stages) grown.values)
+-- the first of some stages, and the others
+pub record Parted (shape : Shape) (payload : List ℕ) (payloads : List (List ℕ)) (stages : List Stage) : Type 0 where
+  pub stage : Stage
+  pub more : List Stage
+  pub is : stages ≡ stage ∷ more
+  pub said : IsStage shape payload stage
+  pub rest : AreStages (shape_after shape stage) payloads more
 
-values-chunk : (stages : List Stage) (events : List Event) → values_of (stages ++ chunk events ∷ []) ≡ values_of stages
-values-chunk [] events = refl
-values-chunk (chunk first ∷ stages) events = values-chunk stages events
-values-chunk (growth first ∷ stages) events = ap (λ (l : List Value). first.values ++ l) (values-chunk stages events)
+pub part : (shape : Shape) (payload : List ℕ) (payloads : List (List ℕ)) (stages : List Stage) → AreStages shape (payload ∷ payloads) stages → Parted shape payload payloads stages
+part shape payload payloads [] are = absurd are
+part shape payload payloads (stage ∷ more) are = record { stage = stage; more = more; is = refl; said = are.0; rest = are.1 }
+
+-- the stages in front of a place, and those behind it
+pub record Split (shape : Shape) (earlier later : List (List ℕ)) (stages : List Stage) : Type 0 where
+  pub before : List Stage
+  pub after : List Stage
+  pub is : stages ≡ before ++ after
+  pub before_are : AreStages shape earlier before
+  pub after_are : AreStages (in_force shape before) later after
+
+pub split : (shape : Shape) (earlier later : List (List ℕ)) (stages : List Stage) → AreStages shape (earlier ++ later) stages → Split shape earlier later stages
+split shape [] later stages are = record { before = []; after = stages; is = refl; before_are = tt; after_are = are }
+split shape (p ∷ earlier) later [] are = absurd are
+split shape (p ∷ earlier) later (s ∷ stages) are =
+    let r = split (shape_after shape s) earlier later stages are.1 in
+    record { before = s ∷ r.before; after = r.after; is = ap (λ (l : List Stage). s ∷ l) r.is; before_are = (are.0, r.before_are); after_are = r.after_are }
+
+-- events of stages, and of others behind them
+
+values-join : (a b : List Stage) → values_of (a ++ b) ≡ values_of a ++ values_of b
+values-join [] b = refl
+values-join (chunk c ∷ a) b = values-join a b
+values-join (growth g ∷ a) b = ap (λ (l : List Value). g.values ++ l) (values-join a b) ∙ sym (append_assoc g.values (values_of a) (values_of b))
+
+pub logged-join : (a b : List Stage) → logged (a ++ b) ≡ all_extended (values_of b) (logged a) ++ logged b
+logged-join [] b = refl
+logged-join (chunk c ∷ a) b =
+    let own = values_of a in
+    let more = values_of b in
+    ap (λ (v : List Value). all_extended v c ++ logged (a ++ b)) (values-join a b)
+    ∙ ap (λ (l : List Event). all_extended (own ++ more) c ++ l) (logged-join a b)
+    ∙ ap (λ (l : List Event). l ++ (all_extended more (logged a) ++ logged b)) (sym (extended-twice own more c))
+    ∙ sym (append_assoc (all_extended more (all_extended own c)) (all_extended more (logged a)) (logged b))
+    ∙ ap (λ (l : List Event). l ++ logged b) (sym (extended-append more (all_extended own c) (logged a)))
+logged-join (growth g ∷ a) b = logged-join a b
+
+pub length-join : (a b : List Stage) → length (logged (a ++ b)) ≡ length (logged a) + length (logged b)
+length-join a b =
+    let whole : length (logged (a ++ b)) ≡ length (all_extended (values_of b) (logged a) ++ logged b) = ap (λ (l : List Event). length l) (logged-join a b) in
+    omega (arith, whole, length-append (all_extended (values_of b) (logged a)) (logged b), length-extended (values_of b) (logged a))
+
+-- how many events a stage has
+abbrev pub stage_count : Stage → ℕ
+stage_count (chunk c) = length c
+stage_count (growth g) = 0
+
+pub length-first : (stage : Stage) (stages : List Stage) → length (logged (stage ∷ stages)) ≡ stage_count stage + length (logged stages)
+length-first (chunk c) stages = length-append (all_extended (values_of stages) c) (logged stages) ∙ ap (λ (n : ℕ). n + length (logged stages)) (length-extended (values_of stages) c)
+length-first (growth g) stages = omega arith
+
+pub length-push : (stages : List Stage) (stage : Stage) → length (logged (stages ++ stage ∷ [])) ≡ length (logged stages) + stage_count stage
+length-push stages stage =
+    let none : length (logged []) ≡ 0 = refl in
+    omega (arith, length-join stages (stage ∷ []), length-first stage [], none)
 
 -- behind a growth the events are the old ones, each with its values behind its own
 pub logged-growth : (stages : List Stage) (grown : Growth) → logged (stages ++ growth grown ∷ []) ≡ all_extended grown.values (logged stages)
-logged-growth [] grown = refl
-logged-growth (chunk events ∷ stages) grown =
-    let more = values_of stages in
-    ap (λ (v : List Value). all_extended v events ++ logged (stages ++ growth grown ∷ [])) (values-growth stages grown)
-    ∙ ap (λ (l : List Event). all_extended (more ++ grown.values) events ++ l) (logged-growth stages grown)
-    ∙ ap (λ (l : List Event). l ++ all_extended grown.values (logged stages)) (sym (extended-twice more grown.values events))
-    ∙ sym (extended-append grown.values (all_extended more events) (logged stages))
-logged-growth (growth first ∷ stages) grown = logged-growth stages grown
+logged-growth stages grown =
+    logged-join stages (growth grown ∷ []) ∙ append-nil (all_extended (grown.values ++ []) (logged stages)) ∙ ap (λ (v : List Value). all_extended v (logged stages)) (append-nil grown.values)
 
 -- behind a chunk they are the old ones and the chunk's
 pub logged-chunk : (stages : List Stage) (events : List Event) → logged (stages ++ chunk events ∷ []) ≡ logged stages ++ events
-logged-chunk [] events = append-nil (all_extended [] events) ∙ extended-none events
-logged-chunk (chunk first ∷ stages) events =
-    let more = values_of stages in
-    ap (λ (v : List Value). all_extended v first ++ logged (stages ++ chunk events ∷ [])) (values-chunk stages events)
-    ∙ ap (λ (l : List Event). all_extended more first ++ l) (logged-chunk stages events)
-    ∙ sym (append_assoc (all_extended more first) (logged stages) events)
-logged-chunk (growth first ∷ stages) events = logged-chunk stages events
+logged-chunk stages events =
+    logged-join stages (chunk events ∷ []) ∙ ap (λ (l : List Event). l ++ (all_extended [] events ++ [])) (extended-none (logged stages))
+    ∙ ap (λ (l : List Event). logged stages ++ l) (append-nil (all_extended [] events) ∙ extended-none events)
 
 -- What stages put behind earlier events: further columns, and a value for each of them.
 record Further (shape : Shape) (stages : List Stage) : Type 0 where
@@ -108,5 +164,5 @@ has_of : (shape : Shape) (payloads : List (List ℕ)) (stages : List Stage) → 
 has_of shape [] stages has = subst (λ (l : List Stage). All (IsEventOf shape.fields) (logged l)) (sym has) (All-nil (IsEventOf shape.fields))
 has_of shape (p ∷ payloads) stages has = subst (λ (s : Shape). All (IsEventOf s.fields) (logged stages)) has.4 (logged-of has.0 payloads stages has.3)
 
-pub events_of_schema : (shape : Shape) (events : List Event) (bytes : List ℕ) → HasLogged shape events bytes → All (IsEventOf shape.fields) events
+pub events_of_schema : (shape : Shape) (events : List Event) (bytes : List ℕ) → HasEvents shape events bytes → All (IsEventOf shape.fields) events
 events_of_schema shape events bytes x = subst (All (IsEventOf shape.fields)) x.2 (has_of shape x.1.payloads x.0 x.1.log)

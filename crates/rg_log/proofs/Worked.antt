@@ -8,6 +8,7 @@ use Rattle.rg_event.specs.Codec.{number_up_to_at, int_at, text_at, event_at}
 use Rattle.rg_event.specs.Reading.{field_at, fields_at, shape_at, shape_of}
 use Rattle.rg_event.specs.declared.event.Event.{Event}
 use Rattle.rg_past.specs.declared.past.Spot.{Spot}
+use Rattle.rg_growth.specs.Payloads.{growth_at, text_at as growth_text_at}
 use Rattle.rg_frame.specs.FrameList.{payloads_in}
 use Rattle.rg_column.specs.Columns.{columns_at}
 use Rattle.rg_column.specs.Numbers.{numbers_at, packed_at}
@@ -95,9 +96,9 @@ no_schema : events_of (chunk_frame ++ closed) ≡ None
 unfolding shape_of shape_at fields_at field_at chunk_at head_at stamp_at event_from_at event_at number_up_to_at u8_at u32_at u64_at bytes_at text_at int_at is_utf8 chars encode
 no_schema = refl
 
--- the schema's frame stands where a chunk has to
+-- the schema's frame stands where a chunk or a growth has to
 schema_twice : events_of (schema_frame ++ (schema_frame ++ closed)) ≡ None
-unfolding shape_of shape_at fields_at field_at chunk_at head_at stamp_at event_from_at event_at number_up_to_at u8_at u32_at u64_at bytes_at text_at int_at is_utf8 chars encode
+unfolding shape_of shape_at fields_at field_at growth_at growth_text_at chunk_at head_at stamp_at event_from_at event_at number_up_to_at u8_at u32_at u64_at bytes_at text_at int_at is_utf8 chars encode
 schema_twice = refl
 
 abbrev named : List ℕ → List Spot → Option (List Bool)
@@ -108,16 +109,17 @@ spot place index number = record { place = place; index = index; number = number
 
 -- both events, and the end in its two spellings
 spots_named : named file (spot 57 0 0 ∷ spot 57 1 1 ∷ spot 57 2 2 ∷ spot 163 0 2 ∷ []) ≡ Some (true ∷ true ∷ true ∷ true ∷ [])
-unfolding head_at stamp_at u8_at u32_at u64_at bytes_at
+unfolding shape_of shape_at fields_at field_at head_at stamp_at u8_at u32_at u64_at bytes_at is_utf8 chars encode
 spots_named = refl
 
 -- another number, an index behind the chunk's end, a place that is no gate's, the schema's frame, another index at the end
 others_not_named : named file (spot 57 1 0 ∷ spot 57 3 3 ∷ spot 58 0 0 ∷ spot 0 0 0 ∷ spot 163 1 2 ∷ []) ≡ Some (false ∷ false ∷ false ∷ false ∷ false ∷ [])
-unfolding head_at stamp_at u8_at u32_at u64_at bytes_at
+unfolding shape_of shape_at fields_at field_at head_at stamp_at u8_at u32_at u64_at bytes_at is_utf8 chars encode
 others_not_named = refl
 
 -- without a chunk the end stands behind the schema's frame; without a frame nothing is named
 end_without_chunk : named (schema_frame ++ closed) (spot 57 0 0 ∷ spot 0 0 0 ∷ []) ≡ Some (true ∷ false ∷ [])
+unfolding shape_of shape_at fields_at field_at is_utf8 chars encode
 end_without_chunk = refl
 
 nothing_named : named [] (spot 0 0 0 ∷ []) ≡ Some (false ∷ [])

@@ -16,9 +16,8 @@ use Rattle.rg_growth.specs.Payloads.{growth_at, text_at as growth_text_at, value
 use Rattle.rg_frame.specs.FrameList.{payloads_in}
 use Rattle.rg_chunk.specs.Chunks.{event_from_at, chunk_at}
 use Rattle.rg_chunk.specs.Heads.{stamp_at, head_at}
-use Rattle.rg_log.specs.Logged.{logged_of}
 use Rattle.rg_log.specs.Reading.{events_of}
-use Rattle.rg_log.specs.Stops.{stops_by_heads}
+use Rattle.rg_log.specs.Spots.{named_by_heads}
 use Rattle.rg_log.proofs.Worked.{schema_frame, chunk_frame, closed}
 
 abbrev growth_frame : List ℕ
@@ -34,7 +33,7 @@ sizes : length file ≡ 314
 sizes = refl
 
 abbrev times : List ℕ → Option (List ℕ)
-times bytes = option_map {U = List ℕ} (λ (events : List Event). map (λ (event : Event). event.time) events) (logged_of bytes)
+times bytes = option_map {U = List ℕ} (λ (events : List Event). map (λ (event : Event). event.time) events) (events_of bytes)
 
 abbrev last_of : List Value → Option Value
 last_of [] = None
@@ -42,7 +41,7 @@ last_of (value ∷ []) = Some value
 last_of (value ∷ (next ∷ values)) = last_of (next ∷ values)
 
 abbrev paid : List ℕ → Option (List (Option Value))
-paid bytes = option_map {U = List (Option Value)} (λ (events : List Event). map (λ (event : Event). last_of event.values) events) (logged_of bytes)
+paid bytes = option_map {U = List (Option Value)} (λ (events : List Event). map (λ (event : Event). last_of event.values) events) (events_of bytes)
 
 -- three events, of which the first two have the growth's value
 three_events : times file ≡ Some (0 ∷ 299999 ∷ 300000 ∷ [])
@@ -52,11 +51,6 @@ three_events = refl
 two_are_paid : paid file ≡ Some (Some (Flag true) ∷ Some (Flag true) ∷ Some (Flag false) ∷ [])
 unfolding shape_of shape_at fields_at field_at growth_at growth_text_at growth_value_at tagged_at flag_at chunk_at head_at stamp_at event_from_at event_at number_up_to_at u8_at u32_at u64_at bytes_at text_at int_at is_utf8 chars encode
 two_are_paid = refl
-
--- a log of one schema has no growth
-none_before : events_of file ≡ None
-unfolding shape_of shape_at fields_at field_at growth_at growth_text_at growth_value_at tagged_at flag_at chunk_at head_at stamp_at event_from_at event_at number_up_to_at u8_at u32_at u64_at bytes_at text_at int_at is_utf8 chars encode
-none_before = refl
 
 -- the wider chunk is none before the growth
 growth_forgotten : times (schema_frame ++ (chunk_frame ++ (wider_chunk ++ closed))) ≡ None
@@ -69,7 +63,7 @@ unfolding shape_of shape_at fields_at field_at growth_at growth_text_at growth_v
 growth_twice = refl
 
 abbrev named : List ℕ → List Spot → Option (List Bool)
-named bytes spots = option_map {U = List Bool} (λ (payloads : List (List ℕ)). map (λ (spot : Spot). stops_by_heads payloads spot) spots) (payloads_in bytes)
+named bytes spots = option_map {U = List Bool} (λ (payloads : List (List ℕ)). map (λ (spot : Spot). named_by_heads payloads spot) spots) (payloads_in bytes)
 
 abbrev spot : ℕ → ℕ → ℕ → Spot
 spot place index number = record { place = place; index = index; number = number }

@@ -1,8 +1,7 @@
 pub mod Entries
-pub mod GrownEntries
 pub mod Log
-pub mod Logged
+pub mod Payloads
+pub mod Plain
 pub mod Reading
 pub mod Spots
 pub mod Stages
-pub mod Stops

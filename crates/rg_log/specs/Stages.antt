@@ -1,15 +1,13 @@
--- A log whose schema may grow: behind the frame of the first schema, chunks and growths. A chunk is read by the schema that is in
--- force where it stands, and the values of each later growth stand behind those of its events. No log has a growth yet.
-use Rattle.std.specs.Prelude.{◌≡◌, ◌≤◌, ◌^◌, ℕ, List, [], ◌∷◌, ◌++◌, length, map}
-use Rattle.rg_event.specs.Rising.{IsRising}
+-- The stages of a log: behind the frame of the schema that it begins with, chunks and growths. A chunk is read by the schema that is in
+-- force where it stands, and the values of each later growth stand behind those of its events.
+use Rattle.std.specs.Prelude.{◌≡◌, ℕ, List, [], ◌∷◌, ◌++◌, map}
 use Rattle.rg_event.specs.Shapes.{Shape, IsSchema}
 use Rattle.rg_event.specs.declared.event.Event.{Event}
 use Rattle.rg_event.specs.declared.value.Value.{Value}
 use Rattle.rg_growth.specs.Payloads.{IsGrowth}
 use Rattle.rg_growth.specs.declared.growth.Growth.{Growth}
-use Rattle.rg_frame.specs.Frames.{HasPayloads}
 use Rattle.rg_chunk.specs.Extended.{all_extended}
-use Rattle.rg_log.specs.Log.{schema_payload, IsChunkOf}
+use Rattle.rg_log.specs.Payloads.{schema_payload, IsChunkOf}
 
 -- what a frame behind the first one says: events, or how the schema grows
 pub data Stage : Type 0 where
@@ -59,21 +57,3 @@ plain chunks = map (λ (events : List Event). chunk events) chunks
 abbrev pub HasStages : Shape → List (List ℕ) → List Stage → Type 0
 HasStages shape [] stages = stages ≡ []
 HasStages shape (first ∷ payloads) stages = (begun : Shape) × IsSchema begun × (first ≡ schema_payload begun) × AreStages begun payloads stages × (in_force begun stages ≡ shape)
-
--- The file is a legal log with these stages, and this schema is in force at its end: its offsets rise and its times never fall, and
--- there are at most 2^40 events.
-pub record IsGrownLog (shape : Shape) (stages : List Stage) (bytes : List ℕ) : Type 0 where
-  pub schema : IsSchema shape
-  pub payloads : List (List ℕ)
-  pub has : HasPayloads payloads bytes
-  pub log : HasStages shape payloads stages
-  pub rising : IsRising (logged stages)
-  pub few : length (logged stages) ≤ 2 ^ 40
-
--- the file is a legal log, at whose end this schema is in force, with these events
-abbrev pub HasLogged : Shape → List Event → List ℕ → Type 0
-HasLogged shape events bytes = (stages : List Stage) × IsGrownLog shape stages bytes × (logged stages ≡ events)
-
--- the file has a frame
-abbrev pub HasFrame : List ℕ → Type 0
-HasFrame bytes = (first : List ℕ) × (payloads : List (List ℕ)) × HasPayloads (first ∷ payloads) bytes

@@ -1,12 +1,14 @@
-ghost use Rattle.std.specs.Prelude.{◌≡◌, ◌≤◌, ◌^◌, List, Some, None, IfOk, OnOk, OnErr, IsErrOf};
+ghost use Rattle.std.specs.Prelude.{◌≡◌, ◌≤◌, ◌^◌, ℕ, List, Some, None, take, IfOk, IfSome, OnOk, OnErr, IsErrOf};
 ghost use Rattle.rg_event.specs.Shapes.{Shape, IsSchema};
-ghost use Rattle.rg_log.specs.Entries.{unread, count_of, further_entry, entry_of, with_entry, entry_after, events_by};
-ghost use Rattle.rg_log.specs.Log.{schema_payload};
+ghost use Rattle.rg_growth.specs.Payloads.{growth_of};
+ghost use Rattle.rg_log.specs.Entries.{unread, count_of, entry_of, with_entry, entry_after, events_by};
+ghost use Rattle.rg_log.specs.Payloads.{schema_payload};
 
 use crate::summary::LogSummary;
 use rg_bytes::Memory;
 use rg_chunk::{Chunk, ChunkFault, ChunkHead, read_head};
 use rg_event::{Schema, SchemaFault};
+use rg_growth::{Growth, GrowthFault};
 use std::alloc::Global;
 
 /// What a frame of a log is, by the head of its payload.
@@ -14,8 +16,10 @@ use std::alloc::Global;
 pub enum Entry {
     /// The first one: the schema.
     Schema(Schema),
-    /// Each further one: a chunk of events, with this head.
+    /// A further one: a chunk of events, with this head.
     Chunk(ChunkHead),
+    /// A further one: how the schema in force grows.
+    Growth(Growth),
 }
 
 /// Why a frame isn't taken.
@@ -35,6 +39,7 @@ impl Entry {
         match self {
             Entry::Schema(_) => 0,
             Entry::Chunk(head) => head.count,
+            Entry::Growth(_) => 0,
         }
     }
 }
@@ -53,7 +58,7 @@ impl From<Memory> for EntryFault {
 /// What the frames of a log up to a place say.
 #[derive(Debug, Drop)]
 pub struct LogSoFar {
-    /// The schema in force, once its frame was read.
+    /// The schema in force, once the first frame was read.
     pub schema: Option<Schema>,
     /// What the heads of the chunks come to.
     pub summary: LogSummary,
@@ -80,14 +85,15 @@ fn read_schema(alloc: Global, payload: &[u8]) -> Result<Schema, EntryFault>
     }
 }
 
-/// What a frame behind the first one is, by the first bytes of its payload, of which 37 are enough. None comes exactly
-/// where it is no frame of a log. It takes no memory.
-pub fn read_entry(front: &[u8]) -> Option<Entry>
-    ensures { result ≡ further_entry front.now }
+/// Reads how a schema grows by a payload. `Bad` comes exactly where it says no growth of it.
+fn read_growth(alloc: Global, from: &Schema, payload: &[u8]) -> Result<Growth, EntryFault>
+    ensures is { IfOk result (λ growth. growth_of from.now payload.now ≡ Some growth) }
+    ensures bad { IsErrOf result EntryFault.Bad → growth_of from.now payload.now ≡ None }
 {
-    match read_head(front) {
-        Some(head) => Some(Entry::Chunk(head)),
-        None => None,
+    match Growth::decode(alloc, from, payload) {
+        Ok(growth) => Ok(growth),
+        Err(GrowthFault::BadGrowth) => Err(EntryFault::Bad),
+        Err(GrowthFault::Memory) => Err(EntryFault::Memory),
     }
 }
 
@@ -102,22 +108,39 @@ impl LogSoFar {
         }
     }
 
-    /// What the next frame is, by the first bytes of its payload: all of them for the schema's, and 37 for a chunk. `Bad`
-    /// comes exactly where it is no frame that its place asks for.
+    /// The chunk that the next frame is, by the first bytes of its payload: 37 of them, or all. None comes where no schema is
+    /// in force yet, or these bytes are no head of a chunk. It takes no memory.
+    pub fn chunk(&self, front: &[u8]) -> Option<Entry>
+        ensures { IfSome result (λ entry. (payload : List ℕ) → take 37 front.now ≡ take 37 payload → entry_of self.now.schema payload ≡ Some entry) }
+    {
+        match (&self.schema, read_head(front)) {
+            (Some(_), Some(head)) => Some(Entry::Chunk(head)),
+            _ => None,
+        }
+    }
+
+    /// What the next frame is, by all of its payload, or, of a chunk, by the first 37 bytes. `Bad` comes exactly where it is
+    /// no frame that its place asks for.
     #[tactic(auto, using(crate::proofs::Entries::schema_read, crate::proofs::Entries::no_schema))]
     pub fn entry(&self, alloc: Global, payload: &[u8]) -> Result<Entry, EntryFault>
         ensures is { IfOk result (λ entry. entry_of self.now.schema payload.now ≡ Some entry) }
         ensures bad { IsErrOf result EntryFault.Bad → entry_of self.now.schema payload.now ≡ None }
     {
-        match &self.schema {
-            Some(_) => match read_entry(payload) {
-                Some(entry) => Ok(entry),
-                None => Err(EntryFault::Bad),
-            },
-            None => match read_schema(alloc, payload) {
-                Ok(schema) => Ok(Entry::Schema(schema)),
-                Err(fault) => Err(fault),
-            },
+        let schema = match &self.schema {
+            Some(schema) => schema,
+            None => {
+                return match read_schema(alloc, payload) {
+                    Ok(schema) => Ok(Entry::Schema(schema)),
+                    Err(fault) => Err(fault),
+                };
+            }
+        };
+        if let Some(head) = read_head(payload) {
+            return Ok(Entry::Chunk(head));
+        }
+        match read_growth(alloc, schema, payload) {
+            Ok(growth) => Ok(Entry::Growth(growth)),
+            Err(fault) => Err(fault),
         }
     }
 
@@ -144,24 +167,14 @@ impl LogSoFar {
                 }
                 None => Err(EntryFault::Bad),
             },
-        }
-    }
-
-    /// Takes the next frame, by the first bytes of its payload, and says what it is. `Bad` comes exactly where it isn't what
-    /// its place asks for, or doesn't continue those before it. A fault leaves all as it was.
-    pub fn take(&mut self, alloc: Global, payload: &[u8]) -> Result<Entry, EntryFault>
-        ensures is { IfOk result (λ entry. entry_of self.old.schema payload.now ≡ Some entry) }
-        ensures ok { OnOk result (entry_after self.old payload.now ≡ Some self.new) }
-        ensures bad { IsErrOf result EntryFault.Bad → entry_after self.old payload.now ≡ None }
-        ensures err { OnErr result (self.new ≡ self.old) }
-    {
-        let entry = match self.entry(alloc, payload) {
-            Ok(entry) => entry,
-            Err(fault) => return Err(fault),
-        };
-        match self.pass(alloc, &entry) {
-            Ok(()) => Ok(entry),
-            Err(fault) => Err(fault),
+            Entry::Growth(growth) => {
+                let to = match growth.to.copy(alloc) {
+                    Ok(to) => to,
+                    Err(_) => return Err(EntryFault::Memory),
+                };
+                self.schema = Some(to);
+                Ok(())
+            }
         }
     }
 

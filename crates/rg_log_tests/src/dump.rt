@@ -1,4 +1,7 @@
-use crate::payments::{ONE, ONE_BY_COLUMNS, SCHEMA_PAYLOAD, TWO, TWO_BY_COLUMNS, file, host_with};
+use crate::payments::{
+    FEE, ONE, ONE_BY_COLUMNS, ONE_PLACED, PLACE, SCHEMA_PAYLOAD, TWO, TWO_BY_COLUMNS, file,
+    host_with,
+};
 use rg_dump::{DumpFault, dump};
 use rg_host::{Host, MemHost};
 use std::alloc::Global;
@@ -54,6 +57,35 @@ fn rows_and_columns_are_dumped_alike(rt: HostRuntime) -> Result<(), Fail> {
     ];
     for (two, one, length) in table {
         assert_three(&rt, &[SCHEMA_PAYLOAD, two, one], length)?;
+    }
+    Ok(())
+}
+
+/// The two payments where the schema has grown once.
+const TWO_PLACED_ROWS: &[u8] =
+    b"payments(ts,card:text,merchant:text,amount:int,place:text)\n0,0,c1,m1,100,??\n1,299999,c1,m2,200,??\n";
+
+#[test]
+fn a_log_that_grew_is_dumped_by_its_last_schema(rt: HostRuntime) -> Result<(), Fail> {
+    let table: [(&[&[u8]], &[u8]); 4] = [
+        (
+            &[SCHEMA_PAYLOAD, PLACE, &ONE_PLACED],
+            b"payments(ts,card:text,merchant:text,amount:int,place:text)\n2,300000,c1,m1,50,p\n",
+        ),
+        (&[SCHEMA_PAYLOAD, &TWO, PLACE], TWO_PLACED_ROWS),
+        (
+            &[SCHEMA_PAYLOAD, &TWO_BY_COLUMNS, PLACE, FEE],
+            b"payments(ts,card:text,merchant:text,amount:int,place:text,fee:int)\n0,0,c1,m1,100,??,-3\n1,299999,c1,m2,200,??,-3\n",
+        ),
+        (
+            &[SCHEMA_PAYLOAD, &TWO, PLACE, &ONE_PLACED, FEE],
+            b"payments(ts,card:text,merchant:text,amount:int,place:text,fee:int)\n0,0,c1,m1,100,??,-3\n1,299999,c1,m2,200,??,-3\n2,300000,c1,m1,50,p,-3\n",
+        ),
+    ];
+    for (payloads, text) in table {
+        let log = file(rt.alloc(), payloads)?;
+        let is_dumped = dumps(rt.alloc(), &log, Ok(()), text)?;
+        assert!(rt; is_dumped);
     }
     Ok(())
 }
@@ -114,7 +146,7 @@ fn assert_damaged(
 
 #[test]
 fn a_frame_that_is_not_what_it_should_be_is_damage(rt: HostRuntime) -> Result<(), Fail> {
-    let table: [(&[&[u8]], &[u8], u64); 8] = [
+    let table: [(&[&[u8]], &[u8], u64); 10] = [
         // no schema
         (&[b"\xff"], b"", 0),
         (&[&TWO], b"", 0),
@@ -135,6 +167,10 @@ fn a_frame_that_is_not_what_it_should_be_is_damage(rt: HostRuntime) -> Result<()
             b"payments(ts,card:text,merchant:text,amount:int)\n2,300000,c1,m1,50\n",
             133,
         ),
+        // no growth of the schema in force
+        (&[SCHEMA_PAYLOAD, &TWO, FEE], TWO_ROWS, 163),
+        // no chunk of it
+        (&[SCHEMA_PAYLOAD, &TWO, PLACE, &ONE], TWO_PLACED_ROWS, 239),
     ];
     for (payloads, text, place) in table {
         assert_damaged(&rt, payloads, text, place)?;

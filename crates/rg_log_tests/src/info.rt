@@ -1,4 +1,6 @@
-use crate::payments::{ONE, ONE_BY_COLUMNS, SCHEMA_PAYLOAD, TWO, file, store};
+use crate::payments::{
+    FEE, ONE, ONE_BY_COLUMNS, ONE_PLACED, PLACE, SCHEMA_PAYLOAD, TWO, file, store,
+};
 use rg_host::MemHost;
 use rg_info::{InfoFault, info};
 use std::alloc::Global;
@@ -57,6 +59,13 @@ fn three_payments_and_a_checkpoint_are_told(rt: HostRuntime) -> Result<(), Fail>
 #[test]
 fn a_chunk_by_columns_counts_as_one_of_rows(rt: HostRuntime) -> Result<(), Fail> {
     assert_told(&rt, &[SCHEMA_PAYLOAD, &TWO, &ONE_BY_COLUMNS], true, WHOLE)
+}
+
+#[test]
+fn a_growth_counts_as_a_frame(rt: HostRuntime) -> Result<(), Fail> {
+    let payloads: [&[u8]; 5] = [SCHEMA_PAYLOAD, &TWO, PLACE, &ONE_PLACED, FEE];
+    let text = b"events 3\nnext 3\ntime 300000\nframes 5\nslot 0 3 1\nslot 1 none\n";
+    assert_told(&rt, &payloads, true, text)
 }
 
 /// Whether the info of the store of this log and this slot ends with damage at this place, and puts nothing.

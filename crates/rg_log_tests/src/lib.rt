@@ -13,6 +13,8 @@ mod dump;
 #[cfg(test)]
 mod extended;
 #[cfg(test)]
+mod grown;
+#[cfg(test)]
 mod info;
 #[cfg(test)]
 mod payments;

@@ -41,6 +41,21 @@ pub(crate) const ONE_BY_COLUMNS: [u8; 73] = [
     2, b'c', b'1', 2, b'm', b'1', 0, 0, 0, 0, 0, 0, 0, 50, 1, 0,
 ];
 
+/// A growth of that schema: the column `place`, a text, which is `??` in the payments before it.
+pub(crate) const PLACE: &[u8] =
+    b"G\0\0\0\x3apayments(ts,card:text,merchant:text,amount:int,place:text)\x03\x02??";
+
+/// One more: the column `fee`, an int, which is -3 in the payments before it.
+pub(crate) const FEE: &[u8] =
+    b"G\0\0\0\x42payments(ts,card:text,merchant:text,amount:int,place:text,fee:int)\x01\xff\xff\xff\xff\xff\xff\xff\xfd";
+
+/// A chunk of the payment of `ONE` where there are places: its place is `p`.
+pub(crate) const ONE_PLACED: [u8; 69] = [
+    0x43, 0, 0, 0, 1, 0, 0, 0, 0, 0, 0, 0, 2, 0, 0, 0, 0, 0, 4, 0x93, 0xe0, 0, 0, 0, 0, 0, 0, 0, 2,
+    0, 0, 0, 0, 0, 4, 0x93, 0xe0, 0, 0, 0, 0, 0, 0, 0, 2, 0, 0, 0, 0, 0, 4, 0x93, 0xe0, 2, b'c',
+    b'1', 2, b'm', b'1', 0, 0, 0, 0, 0, 0, 0, 50, 1, b'p',
+];
+
 /// A schema's frame, the frame of a chunk of two events as rows, and a closed gate.
 pub(crate) const FILE: [u8; 164] = [
     0x01, 0x00, 0x00, 0x00, 0x00, 0x00, 0x00, 0x00, 0x30, 0x53, 0x70, 0x61, 0x79, 0x6d, 0x65, 0x6e,

@@ -2,7 +2,7 @@ ghost use Rattle.std.specs.Prelude.{◌≡◌, ◌≤◌, ◌<◌, ◌^◌, [], 
 ghost use Rattle.rg_frame.specs.LogState.{ReachesEnd};
 ghost use Rattle.rg_reservoir.specs.Kept.{log_of, opened};
 
-use crate::payments::{FILE, SCHEMA, WRITTEN, host_with};
+use crate::payments::{FILE, PLACE, SCHEMA, SCHEMA_PAYLOAD, TWO, WRITTEN, file, host_with};
 use rg_event::{Event, Room, Schema, Value, Values, Word};
 use rg_host::{FuseHost, Host, MemHost};
 use rg_past::{Past, PastFault, Spot};
@@ -75,7 +75,7 @@ fn put<H: Host>(reservoir: &mut Reservoir, host: &mut H, event: Event) -> Result
 }
 
 /// A reservoir of the log with this schema, with chunks of one event.
-fn attached<H: Host>(
+pub(crate) fn attached<H: Host>(
     alloc: Global,
     host: &mut H,
     text: &[u8],
@@ -382,11 +382,12 @@ fn a_past_over_a_disk_meets_each_event(rt: HostRuntime) -> Result<(), Fail> {
     Ok(())
 }
 
-/// What the next frame of a walk is: 0 for a schema, how many events a chunk has, and none at the end.
+/// What the next frame of a walk is: 0 for a schema, how many events a chunk has or values a growth, and none at the end.
 fn next_count(frames: &mut Walk, host: &mut MemHost) -> Result<Option<u32>, ReservoirFault> {
     match frames.next(host)? {
         Some(Stage::Schema(_)) => Ok(Some(0)),
         Some(Stage::Chunk(chunk)) => Ok(Some(chunk.count())),
+        Some(Stage::Growth(_, values)) => Ok(u32::try_from(values.as_slice().len()).ok()),
         None => Ok(None),
     }
 }
@@ -399,12 +400,19 @@ fn first_counts(alloc: Global, host: &mut MemHost) -> Result<[Option<u32>; 3], R
     Ok([first, second, next_count(&mut frames, host)?])
 }
 
+/// What they are of a log of these bytes.
+fn counts_of(alloc: Global, bytes: &[u8]) -> Result<[Option<u32>; 3], Fail> {
+    let mut host = host_with(alloc, bytes, &[])?;
+    let counts = first_counts(alloc, &mut host);
+    drop(host);
+    Ok(counts?)
+}
+
 #[test]
 fn a_walk_meets_each_frame(rt: HostRuntime) -> Result<(), Fail> {
-    let mut host = host_with(rt.alloc(), &FILE, &[])?;
-    let counts = first_counts(rt.alloc(), &mut host);
-    drop(host);
-    assert_eq!(rt; counts, Ok([Some(0), Some(2), None]));
+    assert_eq!(rt; counts_of(rt.alloc(), &FILE)?, [Some(0), Some(2), None]);
+    let grown = file(rt.alloc(), &[SCHEMA_PAYLOAD, &TWO, PLACE])?;
+    assert_eq!(rt; counts_of(rt.alloc(), &grown)?, [Some(0), Some(2), Some(1)]);
     Ok(())
 }
 
@@ -454,7 +462,7 @@ fn refusal_on(alloc: Global, host: &mut MemHost, text: &[u8]) -> Option<Reservoi
 }
 
 /// Why a log with this byte in place of the one that stood there isn't attached.
-fn refusal(
+pub(crate) fn refusal(
     alloc: Global,
     bytes: &[u8],
     at: usize,
@@ -548,7 +556,7 @@ fn names_over(
 }
 
 /// The same of a log of these bytes.
-fn names_in(
+pub(crate) fn names_in(
     alloc: Global,
     bytes: &[u8],
     text: &[u8],

@@ -25,7 +25,7 @@ use Rattle.rg_open.specs.Settling.{AreSettled}
 -- a truthful image of the plan's schema, or without a frame, has events
 pub events_of : (shape : Shape) (bytes : List ℕ) → IsSchema shape → HasLegalLog bytes → IsOfSchema shape bytes → (events : List Event) × HasEvents shape events bytes
 events_of shape bytes schema log (inl none) = ([], (begins_log shape bytes bytes schema none (λ payloads is. inl is)).1)
-events_of shape bytes schema log (inr framed) = events_in shape bytes schema framed log
+events_of shape bytes schema log (inr framed) = events_in shape bytes framed log
 
 -- what is openable stays so, where the host tells the same and a crash leaves no more
 pub openable_still : (plan : Planned) (now then : Option Image) (may after : Image → Type 0) → then ≡ now → ((u : Image) → after u → may u) → IsOpenable plan now may → IsOpenable plan then after

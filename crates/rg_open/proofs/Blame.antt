@@ -7,9 +7,8 @@ use Rattle.rg_event.specs.Shapes.{Shape}
 use Rattle.rg_event.specs.declared.event.Event.{Event}
 use Rattle.rg_event.specs.declared.schema.Field.{Field}
 use Rattle.rg_past.specs.declared.past.Spot.{Spot}
-use Rattle.rg_frame.specs.Frames.{FitsFrame, HasPayloads, payload_at}
+use Rattle.rg_frame.specs.Frames.{FitsFrame, HasPayloads}
 use Rattle.rg_frame.proofs.FrameLists.{payloads_one}
-use Rattle.rg_frame.proofs.Payloads.{payload_none}
 use Rattle.rg_log.specs.Log.{schema_payload}
 use Rattle.rg_log.specs.Spots.{SpotAt}
 use Rattle.rg_config.specs.Plans.{Planned}
@@ -30,7 +29,6 @@ use Rattle.rg_restore.proofs.Trying.{fit_same}
 use Rattle.rg_reservoir.specs.Attached.{Opens}
 use Rattle.rg_reservoir.specs.Kept.{Base, base, opened, all_events, IsSound, Spells}
 use Rattle.rg_reservoir.specs.declared.reservoir.Reservoir.{Reservoir}
-use Rattle.rg_reservoir.proofs.Chains.{some_none}
 use Rattle.rg_open.specs.Truth.{texts_of}
 use Rattle.rg_open.specs.Opened.{IsOpenedFor}
 use Rattle.rg_open.specs.Blame.{opened_list, IsAmiss, NodeRuns}
@@ -101,20 +99,22 @@ module _ (plan : Planned) (now : Option Image) (may : Image → Type 0) (r : Res
     here = has log.sound.0 log.sound.1
 
     -- it spells what its frame list does
-    at : (spot : Spot) → Spelled spot ↔ SpotAt plan.shape payloads spot
+    at : (spot : Spot) → Spelled spot ↔ SpotAt payloads spot
     at spot = (
-      λ spells. let there = in_log plan now may r log empty spot spells in subst (λ (l : List (List ℕ)). SpotAt plan.shape l spot) (payloads_one there.0 payloads (log.sound.0 2) there.1 here) there.2,
+      λ spells. let there = in_log plan now may r log empty spot spells in subst (λ (l : List (List ℕ)). SpotAt l spot) (payloads_one there.0 payloads (log.sound.0 2) there.1 here) there.2,
       λ there. spelled plan now may r log empty spot (payloads, here, there),
     )
 
-    pub amiss_in : (events : List Event) (saved : Saved) (n : ℕ) → all ≡ events → IsAmiss Spelled plan all saved n → IsAmiss (SpotAt plan.shape payloads) plan events saved n
-    amiss_in events saved n same amiss = subst (λ (l : List Event). IsAmiss (SpotAt plan.shape payloads) plan l saved n) same (amiss_same Spelled (SpotAt plan.shape payloads) plan all saved n at amiss)
+    pub amiss_in : (events : List Event) (saved : Saved) (n : ℕ) → all ≡ events → IsAmiss Spelled plan all saved n → IsAmiss (SpotAt payloads) plan events saved n
+    amiss_in events saved n same amiss = subst (λ (l : List Event). IsAmiss (SpotAt payloads) plan l saved n) same (amiss_same Spelled (SpotAt payloads) plan all saved n at amiss)
 
 -- a log that was opened has its frame list, or the schema's frame where it had none
-pub list_opened : (shape : Shape) (first end : ℕ) (payloads : List (List ℕ)) (old new : List ℕ) → Opens (schema_payload shape) first end old new → payload_at 0 new ≡ Some (schema_payload shape) → HasPayloads payloads old → HasPayloads (opened_list shape payloads) new
-list_opened shape first end [] old new (inl same) here has = absurd (some_none _ _ (subst (λ (l : List ℕ). payload_at 0 l ≡ Some (schema_payload shape)) same here) (payload_none [] old has))
-list_opened shape first end (p ∷ payloads) old new (inl same) here has = subst (λ (l : List ℕ). HasPayloads (p ∷ payloads) l) (sym same) has
-list_opened shape first end [] old new (inr (none, ends, grown)) here has = grown [] has
-list_opened shape first end (p ∷ payloads) old new (inr (none, ends, grown)) here has =
+pub list_opened : (shape : Shape) (first end : ℕ) (payloads : List (List ℕ)) (old new start : List ℕ) (further : List (List ℕ)) → Opens (schema_payload shape) first end old new → HasPayloads (start ∷ further) new → HasPayloads payloads old → HasPayloads (opened_list shape payloads) new
+list_opened shape first end [] old new start further (inl same) here has =
+    let one : ◌≡◌ {A = List (List ℕ)} [] (start ∷ further) = payloads_one [] (start ∷ further) new (subst (λ (l : List ℕ). HasPayloads [] l) (sym same) has) here in
+    absurd cc
+list_opened shape first end (p ∷ payloads) old new start further (inl same) here has = subst (λ (l : List ℕ). HasPayloads (p ∷ payloads) l) (sym same) has
+list_opened shape first end [] old new start further (inr (none, ends, grown)) here has = grown [] has
+list_opened shape first end (p ∷ payloads) old new start further (inr (none, ends, grown)) here has =
     let one : ◌≡◌ {A = List (List ℕ)} [] (p ∷ payloads) = payloads_one [] (p ∷ payloads) old (record { frames = (0, none); fit = All-nil FitsFrame }) has in
     absurd cc

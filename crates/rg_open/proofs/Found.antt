@@ -117,8 +117,8 @@ module _ (plan : Planned) (now : Option Image) (may : Image → Type 0) (r : Res
         let slot = slot_of i checkpoint there image left in
         let is : IsTrueOf (image 2) checkpoint = (found.truthful image left).slots i slot.0 checkpoint slot.1 in
         let here = framed plan image may (base r) [] (next_of r) (time_of r) (cache_of r) right found.reservoir.file found.reservoir.shape in
-        same_past (SpotIn plan.shape (image 2)) (Spells now (base r) (opened r)) tasks (joined right.chunks) all checkpoint (log.spelled plan now may r found.reservoir found.empty) (log.all_is plan now may r found.reservoir found.empty)
-        (subst (λ (t : Tasks). IsTruthful (SpotIn plan.shape (image 2)) t (joined right.chunks) checkpoint) (sym tasks_are) (of_plan plan said (image 2) (joined right.chunks) here (log.has plan now may r found.reservoir found.empty) checkpoint is (same ∙ texts_are)))
+        same_past (SpotIn (image 2)) (Spells now (base r) (opened r)) tasks (joined right.chunks) all checkpoint (log.spelled plan now may r found.reservoir found.empty) (log.all_is plan now may r found.reservoir found.empty)
+        (subst (λ (t : Tasks). IsTruthful (SpotIn (image 2)) t (joined right.chunks) checkpoint) (sym tasks_are) (of_plan plan said (image 2) (joined right.chunks) here (log.has plan now may r found.reservoir found.empty) checkpoint is (same ∙ texts_are)))
 
     module _ (texts : List (List ℕ)) (printed : texts ≡ texts_of plan.shape plan.queries) (reads : (v : Image) → now ≡ Some v → may v) (said : All (IsSaid plan.shape) plan.queries) (legal : All (IsLegalQuery plan.shape) plan.queries) where
       -- each checkpoint of the plan's queries is fit

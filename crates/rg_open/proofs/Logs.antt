@@ -5,11 +5,11 @@ use Rattle.std.proofs.lemmas.List.{append-nil}
 use Rattle.rg_host.specs.Image.{Image}
 use Rattle.rg_event.specs.Codec.{IsEventOf}
 use Rattle.rg_event.specs.Rising.{last_time}
-use Rattle.rg_event.specs.Shapes.{Shape}
 use Rattle.rg_event.specs.declared.event.Event.{Event}
 use Rattle.rg_past.specs.declared.past.Spot.{Spot}
 use Rattle.rg_log.specs.Log.{joined, HasEvents}
 use Rattle.rg_log.specs.Spots.{SpotIn}
+use Rattle.rg_log.proofs.Staging.{events_of_schema}
 use Rattle.rg_config.specs.Plans.{Planned}
 use Rattle.rg_query.specs.Legal.{IsLegalQuery}
 use Rattle.rg_plan.specs.Plans.{Tasks, plan_for}
@@ -48,18 +48,17 @@ module _ (plan : Planned) (now : Option Image) (may : Image → Type 0) (r : Res
       ∙ append-nil (joined right.chunks)
 
   -- what the log spells is spelled
-  pub spelled : (spot : Spot) → SpotIn plan.shape (image 2) spot → Spells now (base r) (opened r) spot
+  pub spelled : (spot : Spot) → SpotIn (image 2) spot → Spells now (base r) (opened r) spot
   spelled spot there =
-      let at : SpotIn plan.shape (image (base r).file) spot = subst (λ (f : ℕ). SpotIn plan.shape (image f) spot) (sym log.file) there in
-      let of : SpotIn (base r).shape (image (base r).file) spot = subst (λ (s : Shape). SpotIn s (image (base r).file) spot) (sym log.shape) at in
-      subst (λ (l : List Event). Spells now (base r) l spot) (sym empty) (spelled_here image may (base r) (next_of r) (time_of r) (cache_of r) right now spot told of)
+      let at : SpotIn (image (base r).file) spot = subst (λ (f : ℕ). SpotIn (image f) spot) (sym log.file) there in
+      subst (λ (l : List Event). Spells now (base r) l spot) (sym empty) (spelled_here image may (base r) (next_of r) (time_of r) (cache_of r) right now spot told at)
 
   -- and the other way round
-  pub in_log : (spot : Spot) → Spells now (base r) (opened r) spot → SpotIn plan.shape (image 2) spot
+  pub in_log : (spot : Spot) → Spells now (base r) (opened r) spot → SpotIn (image 2) spot
   in_log spot spells =
-      let there : SpotIn (base r).shape (image (base r).file) spot =
+      let there : SpotIn (image (base r).file) spot =
       spelled_there image may (base r) (next_of r) (time_of r) (cache_of r) right now spot told (subst (λ (l : List Event). Spells now (base r) l spot) empty spells) in
-      subst (λ (s : Shape). SpotIn s (image 2) spot) log.shape (subst (λ (f : ℕ). SpotIn (base r).shape (image f) spot) log.file there)
+      subst (λ (f : ℕ). SpotIn (image f) spot) log.file there
 
   -- the heads name what is spelled
   pub names : (spot : Spot) → Spells now (base r) (opened r) spot → HeadsName now (base r) spot
@@ -67,7 +66,7 @@ module _ (plan : Planned) (now : Option Image) (may : Image → Type 0) (r : Res
       (subst (λ (l : List Event). NamesIn now (base r) (base r).ended l spot) empty ((sound_names now may r spot log.sound).1 spells))
 
   pub are_events : All (IsEventOf plan.shape.fields) all
-  are_events = subst (All (IsEventOf plan.shape.fields)) (has.2 ∙ sym all_is) has.1.of
+  are_events = subst (All (IsEventOf plan.shape.fields)) (sym all_is) (events_of_schema plan.shape (joined right.chunks) (image 2) has)
 
   -- a time that is the last event's, and 0 without one
   pub last_is : (n : ℕ) → (0 < (base r).committed + length (opened r) → n ≡ time_of r) → ((base r).committed + length (opened r) ≡ 0 → n ≡ 0) → last_time all ≡ n

@@ -4,7 +4,6 @@ use Rattle.std.specs.Prelude.{All}
 use Rattle.std.proofs.lemmas.List.{append-nil}
 use Rattle.std.proofs.lemmas.List.Elements.{All-head, All-tail, All-weaker}
 use Rattle.rg_host.specs.Image.{Image}
-use Rattle.rg_event.specs.Codec.{IsEventOf}
 use Rattle.rg_event.specs.Shapes.{Shape, IsSchema}
 use Rattle.rg_event.specs.declared.event.Event.{Event}
 use Rattle.rg_past.specs.declared.past.Spot.{Spot}
@@ -15,9 +14,10 @@ use Rattle.rg_query.proofs.Again.{differ}
 use Rattle.rg_config.specs.Plans.{Planned}
 use Rattle.rg_config.specs.Read.{IsSaid}
 use Rattle.rg_plan.specs.Plans.{plan_for}
-use Rattle.rg_log.specs.Log.{joined, HasEvents, HasSchemaFrame}
+use Rattle.rg_log.specs.Log.{joined, HasEvents, IsInForce}
 use Rattle.rg_log.specs.Spots.{SpotIn}
 use Rattle.rg_log.proofs.Growing.{one_list}
+use Rattle.rg_log.proofs.Staging.{events_of_schema}
 use Rattle.rg_state.specs.Rows.{Cells, Lists}
 use Rattle.rg_engine.specs.Feeding.{Serves}
 use Rattle.rg_checkpoint.specs.declared.base.Checkpoint.{Checkpoint}
@@ -49,23 +49,23 @@ one_queries shape (q ∷ qs) (r ∷ rs) schema a b same =
     ∙ ap (λ (l : List Asked). r ∷ l) (one_queries shape qs rs schema (All-tail (IsSaid shape) q qs a) (All-tail (IsSaid shape) r rs b) e.1)
 
 -- Of a log of the plan's schema with these events.
-module _ (plan : Planned) (said : All (IsSaid plan.shape) plan.queries) (bytes : List ℕ) (events : List Event) (here : HasSchemaFrame plan.shape bytes) (has : HasEvents plan.shape events bytes) where
+module _ (plan : Planned) (said : All (IsSaid plan.shape) plan.queries) (bytes : List ℕ) (events : List Event) (here : IsInForce plan.shape bytes) (has : HasEvents plan.shape events bytes) where
   -- a checkpoint of the plan's queries that is true of the log is one of the plan
-  pub of_plan : (checkpoint : Checkpoint) → IsTrueOf bytes checkpoint → checkpoint.queries ≡ texts_of plan.shape plan.queries → IsTruthful (SpotIn plan.shape bytes) (plan_for plan.queries) events checkpoint
+  pub of_plan : (checkpoint : Checkpoint) → IsTrueOf bytes checkpoint → checkpoint.queries ≡ texts_of plan.shape plan.queries → IsTruthful (SpotIn bytes) (plan_for plan.queries) events checkpoint
   of_plan checkpoint is texts =
-      let t = true_for plan.shape events bytes checkpoint here has is in
+      let t = true_for plan.shape bytes checkpoint here is in
       let queries : t.queries ≡ plan.queries = one_queries plan.shape t.queries plan.queries has.1.schema t.said said (sym t.texts ∙ texts) in
       let same : t.events ≡ events = one_list payloads_one plan.shape plan.shape t.events events bytes t.has has in
-      subst (λ (l : List Event). IsTruthful (SpotIn plan.shape bytes) (plan_for plan.queries) l checkpoint) same
-      (subst (λ (q : List Asked). IsTruthful (SpotIn plan.shape bytes) (plan_for q) t.events checkpoint) queries t.truthful)
+      subst (λ (l : List Event). IsTruthful (SpotIn bytes) (plan_for plan.queries) l checkpoint) same
+      (subst (λ (q : List Asked). IsTruthful (SpotIn bytes) (plan_for q) t.events checkpoint) queries t.truthful)
 
   -- and it is fit
   pub fit_of : Serves plan.shape.fields (plan_for plan.queries) → (checkpoint : Checkpoint) → IsTrueOf bytes checkpoint → checkpoint.queries ≡ texts_of plan.shape plan.queries
-      → IsFit (SpotIn plan.shape bytes) (texts_of plan.shape plan.queries) plan.shape.fields (plan_for plan.queries) (length events) checkpoint
-  fit_of serves checkpoint is texts = truthful_fits (SpotIn plan.shape bytes) (texts_of plan.shape plan.queries) plan.shape.fields (plan_for plan.queries) events checkpoint serves (subst (All (IsEventOf plan.shape.fields)) has.2 has.1.of) texts (of_plan checkpoint is texts)
+      → IsFit (SpotIn bytes) (texts_of plan.shape plan.queries) plan.shape.fields (plan_for plan.queries) (length events) checkpoint
+  fit_of serves checkpoint is texts = truthful_fits (SpotIn bytes) (texts_of plan.shape plan.queries) plan.shape.fields (plan_for plan.queries) events checkpoint serves (events_of_schema plan.shape events bytes has) texts (of_plan checkpoint is texts)
 
   -- what is saved of an engine that stands for the events is true of the log
-  pub saved_true : (cells : Cells) (checkpoint : Checkpoint) → EngineStands (SpotIn plan.shape bytes) (plan_for plan.queries) events cells checkpoint.spots → Lists cells checkpoint.rows → checkpoint.queries ≡ texts_of plan.shape plan.queries
+  pub saved_true : (cells : Cells) (checkpoint : Checkpoint) → EngineStands (SpotIn bytes) (plan_for plan.queries) events cells checkpoint.spots → Lists cells checkpoint.rows → checkpoint.queries ≡ texts_of plan.shape plan.queries
       → checkpoint.count ≡ length events → IsTrueOf bytes checkpoint
   saved_true cells checkpoint stands lists texts count = (
     plan.shape,
@@ -76,7 +76,7 @@ module _ (plan : Planned) (said : All (IsSaid plan.shape) plan.queries) (bytes :
       queries = plan.queries;
       said = said;
       texts = texts;
-      truthful = saved (SpotIn plan.shape bytes) (plan_for plan.queries) events cells checkpoint stands lists count;
+      truthful = saved (SpotIn bytes) (plan_for plan.queries) events cells checkpoint stands lists count;
     },
   )
 
@@ -94,12 +94,11 @@ saved_left plan now may r cells checkpoint to_save lists count u left =
     let told : now ≡ Some v = o.sound.1 in
     let b = base r in
     let right : IsRight v may b [] (next_of r) (time_of r) (cache_of r) = subst (λ (l : List Event). IsRight v may b l (next_of r) (time_of r) (cache_of r)) to_save.empty (o.sound.2.right o.going) in
-    let Here : Spot → Type 0 = SpotIn plan.shape (v 2) in
+    let Here : Spot → Type 0 = SpotIn (v 2) in
     let events : List Event = joined right.chunks in
     let all : all_events now b (opened r) ≡ events = ap (λ (l : List Event). all_events now b l) to_save.empty ∙ ap (λ (i : Option Image). all_events i b []) told ∙ all_are plan v may b [] (next_of r) (time_of r) (cache_of r) right o.file o.shape ∙ append-nil events in
     let goes : (spot : Spot) → Spells now b (opened r) spot → Here spot = λ spot spells.
-    subst (λ (s : Shape). SpotIn s (v 2) spot) o.shape (subst (λ (f : ℕ). SpotIn b.shape (v f) spot) o.file
-    (spelled_there v may b (next_of r) (time_of r) (cache_of r) right now spot told (subst (λ (l : List Event). Spells now b l spot) to_save.empty spells))) in
+    subst (λ (f : ℕ). SpotIn (v f) spot) o.file (spelled_there v may b (next_of r) (time_of r) (cache_of r) right now spot told (subst (λ (l : List Event). Spells now b l spot) to_save.empty spells)) in
     let stands : EngineStands Here (plan_for plan.queries) events cells checkpoint.spots = subst (λ (l : List Event). EngineStands Here (plan_for plan.queries) l cells checkpoint.spots) all
     (respelled (Spells now b (opened r)) Here plan (all_events now b (opened r)) cells checkpoint.spots goes step.stands) in
     subst (λ (bytes : List ℕ). IsTrueOf bytes checkpoint) (sym (pending plan v may b [] (next_of r) (time_of r) (cache_of r) right o.file o.shape v refl u left))

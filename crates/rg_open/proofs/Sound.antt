@@ -10,7 +10,7 @@ use Rattle.rg_frame.specs.Steps.{Leaves, From, Grows, Grown}
 use Rattle.rg_frame.proofs.FrameLists.{payloads_one}
 use Rattle.rg_chunk.specs.Chunks.{chunk_bytes}
 use Rattle.rg_cache.specs.Cache.{Cache}
-use Rattle.rg_log.specs.Log.{schema_payload, joined, IsChunkOf, HasEvents, HasSchemaFrame}
+use Rattle.rg_log.specs.Log.{schema_payload, joined, IsChunkOf, HasEvents, IsInForce}
 use Rattle.rg_log.proofs.Growing.{one_list}
 use Rattle.rg_reservoir.specs.declared.kept.Kept.{Kept}
 use Rattle.rg_reservoir.specs.Attached.{SchemaAdded}
@@ -35,8 +35,8 @@ module _ (plan : Planned) (v : Image) (may : Image → Type 0) (b : Base) (opene
   pub pending : NothingPending 2 (Some v) may
   pending = for_some v (λ (w : Image). (u : Image) → may u → u 2 ≡ w 2) (λ u left. subst (λ (f : ℕ). u f ≡ v f) file (right.settled u left))
 
-  pub framed : HasSchemaFrame plan.shape (v 2)
-  framed = subst (λ (s : Shape). HasSchemaFrame s (v 2)) shape (subst (λ (f : ℕ). HasSchemaFrame b.shape (v f)) file right.framed)
+  pub framed : IsInForce plan.shape (v 2)
+  framed = subst (λ (s : Shape). IsInForce s (v 2)) shape (subst (λ (f : ℕ). IsInForce b.shape (v f)) file right.framed)
 
   pub has_events : HasEvents plan.shape (joined right.chunks) (v 2)
   has_events = subst (λ (s : Shape). HasEvents s (joined right.chunks) (v 2)) shape (subst (λ (f : ℕ). HasEvents b.shape (joined right.chunks) (v f)) file right.legal)

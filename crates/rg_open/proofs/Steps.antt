@@ -10,8 +10,10 @@ use Rattle.rg_event.specs.declared.event.Event.{Event}
 use Rattle.rg_frame.specs.Frames.{HasPayloads}
 use Rattle.rg_frame.specs.Steps.{Leaves, Grows, Grown}
 use Rattle.rg_frame.proofs.FrameLists.{payloads_one}
-use Rattle.rg_log.specs.Log.{schema_payload, IsChunkOf, HasEvents, HasSchemaFrame, IsOfSchema}
-use Rattle.rg_log.proofs.Growing.{grows_log, grown_log, begins_log, one_list}
+use Rattle.rg_log.specs.Log.{schema_payload, IsChunkOf, HasEvents, IsInForce, IsOfSchema}
+use Rattle.rg_log.specs.Stages.{chunk as chunk_stage}
+use Rattle.rg_log.proofs.Growing.{adds_log, added_log, begins_log, one_list}
+use Rattle.rg_log.proofs.Staging.{has-push}
 use Rattle.rg_config.specs.Plans.{Planned}
 use Rattle.rg_checkpoint.specs.declared.base.Checkpoint.{Checkpoint}
 use Rattle.rg_checkpoint.specs.declared.sizes.SlotSizes.{SlotSizes}
@@ -79,12 +81,19 @@ stays_stepped plan keep chunk may u v none left same = record {
 module _ (plan : Planned) (schema : IsSchema plan.shape) where
   -- A chunk comes behind the log.
   module _ (keep : Option ℕ) (payload : List ℕ) (chunk : List Event) (may : Image → Type 0) (u v : Image) (left : may u) (others : (f : ℕ) → f ≢ 2 → v f ≡ u f) (fits : MayGrow plan.shape chunk (u 2)) (said : IsChunkOf plan.shape payload chunk) where
-    grows_of : (es : List Event) → HasEvents plan.shape es (u 2) → Grows payload (u 2) (v 2) → HasSchemaFrame plan.shape (v 2) × (HasEvents plan.shape es (v 2) ⊎ HasEvents plan.shape (es ++ chunk) (v 2))
-    grows_of es has step = grows_log payloads_one plan.shape es chunk payload (u 2) (v 2) fits.framed has said (fits.rises es has) (fits.fits es has) step
+    grows_of : (es : List Event) → HasEvents plan.shape es (u 2) → Grows payload (u 2) (v 2) → IsInForce plan.shape (v 2) × (HasEvents plan.shape es (v 2) ⊎ HasEvents plan.shape (es ++ chunk) (v 2))
+    grows_of es has step = adds_log payloads_one plan.shape es chunk payload (u 2) (v 2) fits.framed has said (fits.rises es has) (fits.fits es has) step
 
-    framed_by : HasPayloads (schema_payload plan.shape ∷ fits.framed.0) (v 2) ⊎ HasPayloads ((schema_payload plan.shape ∷ fits.framed.0) ++ payload ∷ []) (v 2) → IsOfSchema plan.shape (v 2)
-    framed_by (inl same) = inr (fits.framed.0, same)
-    framed_by (inr more) = inr (fits.framed.0 ++ payload ∷ [], more)
+    abbrev first : List ℕ
+    first = fits.framed.0
+
+    abbrev rest : List (List ℕ)
+    rest = fits.framed.1
+
+    -- the schema stays in force
+    framed_by : HasPayloads (first ∷ rest) (v 2) ⊎ HasPayloads (first ∷ (rest ++ payload ∷ [])) (v 2) → IsOfSchema plan.shape (v 2)
+    framed_by (inl same) = inr (first, rest, fits.framed.2, same, fits.framed.4)
+    framed_by (inr more) = inr (first, rest ++ payload ∷ [], fits.framed.2 ++ chunk_stage chunk ∷ [], more, has-push plan.shape first rest fits.framed.2 payload (chunk_stage chunk) fits.framed.4 said)
 
     -- at a moment of it
     pub commit_mid : Grows payload (u 2) (v 2) → IsMidStep (store_of plan) keep chunk may v
@@ -92,7 +101,7 @@ module _ (plan : Planned) (schema : IsSchema plan.shape) where
       from = u;
       left = left;
       truthful = commits plan.shape payload chunk u v schema fits said step others;
-      schema = λ _. framed_by (step (schema_payload plan.shape ∷ fits.framed.0) fits.framed.1);
+      schema = λ _. framed_by (step (first ∷ rest) fits.framed.3);
       events = λ es has. (grows_of es has step).1;
       slots = λ slot count is has. saved_behind plan slot count u v others has;
     }
@@ -103,8 +112,8 @@ module _ (plan : Planned) (schema : IsSchema plan.shape) where
       from = u;
       left = left;
       truthful = commits plan.shape payload chunk u v schema fits said (grown_grows payload (u 2) (v 2) step) others;
-      schema = λ _. framed_by (grown_grows payload (u 2) (v 2) step (schema_payload plan.shape ∷ fits.framed.0) fits.framed.1);
-      events = λ es has. (grown_log payloads_one plan.shape es chunk payload (u 2) (v 2) fits.framed has said (fits.rises es has) (fits.fits es has) step).1;
+      schema = λ _. framed_by (inr (step (first ∷ rest) fits.framed.3));
+      events = λ es has. (added_log payloads_one plan.shape es chunk payload (u 2) (v 2) fits.framed has said (fits.rises es has) (fits.fits es has) step).1;
       slots = λ slot count is has. saved_behind plan slot count u v others has;
     }
 

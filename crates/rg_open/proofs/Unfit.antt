@@ -1,5 +1,5 @@
 -- A store that no run of a plan goes over is left alone.
-use Rattle.std.proofs.Common.{◌≡◌, ◌∙◌, inl, inr, ⊎_elim, ℕ, List, [], Option, Some, None, refl, sym, ap, subst, slice_index, arith}
+use Rattle.std.proofs.Common.{◌≡◌, ◌∙◌, ⊎_elim, ℕ, List, [], Option, Some, refl, sym, ap, subst}
 use Rattle.std.proofs.lemmas.Bool.{cases_eq}
 use Rattle.std.proofs.Math.Path.{fun_ext}
 use Rattle.std.specs.Option.{ForSome}
@@ -7,35 +7,21 @@ use Rattle.rg_host.specs.Image.{Image, NothingPending}
 use Rattle.rg_host.specs.Moments.{Moment}
 use Rattle.rg_host.proofs.Runs.{moments_then}
 use Rattle.rg_frame.specs.Calls.{Writes}
-use Rattle.rg_frame.specs.Frames.{payload_at, IsLog, HasPayloads}
-use Rattle.rg_frame.specs.Looks.{IsClosed}
+use Rattle.rg_frame.specs.Frames.{HasPayloads}
 use Rattle.rg_frame.specs.Steps.{Leaves}
 use Rattle.rg_log.specs.Log.{schema_payload}
 use Rattle.rg_config.specs.Plans.{Planned}
 use Rattle.rg_reservoir.specs.Attached.{SchemaAdded}
-use Rattle.rg_reservoir.specs.Heads.{IsOpenGate}
-use Rattle.rg_reservoir.proofs.Chains.{some_none}
-use Rattle.rg_reservoir.proofs.Committing.{log_at}
+use Rattle.rg_reservoir.proofs.Legal.{unframed}
 use Rattle.rg_open.specs.Settling.{AreSettled, LeavesFewer}
 use Rattle.rg_open.specs.Unfit.{HasOtherSchema, HasBadFrame, IsUnfit, SaysWhy, IsLeftAlone}
 use Rattle.rg_open.specs.declared.fault.OpenFault.{OpenFault}
 use Rattle.rg_open.specs.declared.fault.OpenFault.TheVariants.{Disk, Damaged, SchemaDiffers, BadState, Memory, Table}
 use Rattle.rg_open.proofs.Within.{as_read}
 
-open_closed : (place : ℕ) (bytes : List ℕ) → IsOpenGate place bytes → IsClosed place bytes → ⊥
-open_closed place bytes gate (inl short) = omega (arith, gate.longer, short)
-open_closed place bytes gate (inr other) = other (ap (λ (l : List ℕ). slice_index l 0) gate.is)
-
 -- it has a frame
 framed : (plan : Planned) (v : Image) → IsUnfit plan v → HasPayloads [] (v 2) → ⊥
-framed plan v unfit none =
-    let none_at = log_at [] 0 (v 2) (subst (λ n. IsLog [] n (v 2)) (sym none.frames.1.ends) none.frames.1) in
-    by none_at.none none_at.closed unfit
-  where
-    by : payload_at 0 (v 2) ≡ None → IsClosed 0 (v 2) → IsUnfit plan v → ⊥
-    by none closed (inl other) = some_none _ _ other.here none
-    by none closed (inr (p, inl bad)) = open_closed 0 (v 2) bad.1.gate closed
-    by none closed (inr (p, inr (first, here, ends, bad))) = some_none _ _ here none
+framed plan v unfit none = unframed plan.shape (v 2) none unfit
 
 -- what a write of a schema's frame then leaves
 module _ (plan : Planned) (now : Option Image) (may : Image → Type 0) (v : Image) (told : now ≡ Some v) (settled : NothingPending 2 now may) (unfit : IsUnfit plan v) (u : Image) (left : Leaves 2 (SchemaAdded (schema_payload plan.shape)) now may u) where

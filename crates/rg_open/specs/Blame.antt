@@ -57,4 +57,4 @@ pub record IsBlamed (plan : Planned) (v : Image) (events : List Event) (n : ℕ)
   pub slots : AreSlots v saved
   pub payloads : List (List ℕ)
   pub has : HasPayloads payloads (v 2)
-  pub amiss : IsAmiss (SpotAt plan.shape (opened_list plan.shape payloads)) plan events saved n
+  pub amiss : IsAmiss (SpotAt (opened_list plan.shape payloads)) plan events saved n

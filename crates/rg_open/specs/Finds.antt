@@ -13,8 +13,8 @@ use Rattle.rg_config.specs.declared.plan.Plan.{Plan}
 use Rattle.rg_checkpoint.specs.Slots.{Attached, ReachesSlots}
 use Rattle.rg_restore.specs.Naming.{IsListed}
 use Rattle.rg_restore.specs.declared.choosing.Saved.{Saved}
-use Rattle.rg_reservoir.specs.Attached.{IsOther, IsBadFrame, SchemaAdded}
-use Rattle.rg_reservoir.specs.Kept.{base, opened, room_of, cache_of, log_of, all_events}
+use Rattle.rg_reservoir.specs.Attached.{IsOther, IsBadFrame, SchemaAdded, HasView}
+use Rattle.rg_reservoir.specs.Kept.{base, view_of, opened, room_of, cache_of, log_of, all_events}
 use Rattle.rg_reservoir.specs.declared.reservoir.Reservoir.{Reservoir}
 use Rattle.rg_open.specs.Blame.{opened_list}
 use Rattle.rg_open.specs.Opened.{IsOpenedFor, AreSized, AreSizesLeft}
@@ -45,6 +45,8 @@ pub record HasFound (plan : Plan) (now then : Option Image) (may after : Image �
   pub slots_go : slots.ended ≡ false
   pub list : (v : Image) (payloads : List (List ℕ)) → now ≡ Some v → HasPayloads payloads (v 2) → ForSome then (λ w. HasPayloads (opened_list plan.schema payloads) (w 2))
   pub listed : (v : Image) → now ≡ Some v → IsListed then
+  pub whole : ForSome then (λ w. (p : ℕ) → IsBadFrame p (w 2) → ⊥)
+  pub view : ForSome now (λ v. HasView plan.schema (view_of (base r)) (v 2))
   pub fit : (v : Image) → now ≡ Some v → IsUnfit (planned plan) v → ⊥
   pub going : ((base r).ended ≡ false) × ((base r).file ≡ 2) × ((base r).shape ≡ plan.schema) × ((base r).limit ≡ plan.room.limit)
   pub empty : (opened r ≡ []) × (room_of r ≡ plan.room.chunk) × ((cache_of r).cap ≡ plan.room.cache)
@@ -54,10 +56,10 @@ pub record HasFound (plan : Plan) (now then : Option Image) (may after : Image �
 -- Why a store wasn't found. A log of events is never refused as damaged, and an openable one not as another's.
 pub record IsNotFound (plan : Plan) (now : Option Image) (may : Image → Type 0) (rose : Type 0) (fault : OpenFault) : Type 0 where
   pub disk : fault ≡ Disk → rose
-  pub damaged : (p : ℕ) → fault ≡ Damaged p → ForSome now (λ v. IsBadFrame (schema_payload plan.schema) p (v 2))
+  pub damaged : (p : ℕ) → fault ≡ Damaged p → ForSome now (λ v. IsBadFrame p (v 2))
   pub undamaged : (v : Image) (events : List Event) (p : ℕ) → now ≡ Some v → HasEvents plan.schema events (v 2) → fault ≡ Damaged p → ⊥
   pub never_damaged : (p : ℕ) → IsOpenable (planned plan) now may → fault ≡ Damaged p → ⊥
-  pub differs : fault ≡ SchemaDiffers → ForSome now (λ v. IsOther (schema_payload plan.schema) (v 2))
+  pub differs : fault ≡ SchemaDiffers → ForSome now (λ v. IsOther plan.schema (v 2))
   pub never_differs : IsOpenable (planned plan) now may → fault ≡ SchemaDiffers → ⊥
   pub no_state : (n : ℕ) → fault ≡ BadState n → ⊥
   pub no_table : fault ≡ Table → ⊥

@@ -7,7 +7,7 @@ use Rattle.rg_event.specs.Rising.{next_offset}
 use Rattle.rg_event.specs.Shapes.{Shape}
 use Rattle.rg_event.specs.declared.event.Event.{Event}
 use Rattle.rg_frame.specs.LogState.{ReachesEnd}
-use Rattle.rg_log.specs.Log.{schema_payload, HasEvents}
+use Rattle.rg_log.specs.Log.{HasEvents}
 use Rattle.rg_config.specs.Plans.{planned}
 use Rattle.rg_config.specs.Read.{IsReadPlan}
 use Rattle.rg_config.specs.declared.plan.Plan.{Plan}
@@ -19,9 +19,8 @@ use Rattle.rg_engine.specs.Passed.{passed_count}
 use Rattle.rg_engine.specs.Seen.{Seen}
 use Rattle.rg_checkpoint.specs.Slots.{Attached, ReachesSlots, sizes_in, IsKeep}
 use Rattle.rg_restore.specs.Opening.{IsEmpty, IsGoing}
-use Rattle.rg_reservoir.specs.Attached.{IsOther, IsBadFrame}
-use Rattle.rg_reservoir.specs.Chain.{IsIllegal}
-use Rattle.rg_reservoir.specs.Kept.{base, opened, room_of, cache_of, log_of, next_of, all_events}
+use Rattle.rg_reservoir.specs.Attached.{IsOther, IsBadFrame, HasView, IsIllegalSince}
+use Rattle.rg_reservoir.specs.Kept.{base, view_of, opened, room_of, cache_of, log_of, next_of, all_events}
 use Rattle.rg_reservoir.specs.declared.reservoir.Reservoir.{Reservoir}
 use Rattle.rg_open.specs.Blame.{IsBlamed, NodeRuns, IsPlaced}
 use Rattle.rg_open.specs.Opened.{IsKeptSince}
@@ -67,6 +66,7 @@ module _ {H T : Type 0} (now : H → Option Image) (may : H → Image → Type 0
     pub settled : (v : Image) → now old ≡ Some v → AreSettled (now new) (may new)
     pub resumed : (v : Image) → now old ≡ Some v → IsResumed v (now new) plan.queries plan.schema.fields plan.task r engine keep from before after
     pub fit : (v : Image) → now old ≡ Some v → IsUnfit (planned plan) v → ⊥
+    pub view : ForSome (now old) (λ v. HasView plan.schema (view_of (base r)) (v 2))
     pub going : ((base r).ended ≡ false) × ((base r).file ≡ 2) × ((base r).shape ≡ plan.schema) × ((base r).limit ≡ plan.room.limit)
     pub empty : (opened r ≡ []) × (room_of r ≡ plan.room.chunk) × ((cache_of r).cap ≡ plan.room.cache)
     pub reaches : ReachesEnd (log_of r) (now new)
@@ -79,9 +79,9 @@ module _ {H T : Type 0} (now : H → Option Image) (may : H → Image → Type 0
   -- Why none was opened, and the table as it then is.
   pub record HasNotOpened (rose : Type 0) (fault : OpenFault) (back : T) : Type 0 where
     pub disk : fault ≡ Disk → rose
-    pub differs : fault ≡ SchemaDiffers → ForSome (now old) (λ v. IsOther (schema_payload plan.schema) (v 2))
+    pub differs : fault ≡ SchemaDiffers → ForSome (now old) (λ v. IsOther plan.schema (v 2))
     pub never_differs : IsOpenable (planned plan) (now old) (may old) → fault ≡ SchemaDiffers → ⊥
-    pub damaged : (p : ℕ) → fault ≡ Damaged p → ForSome (now old) (λ v. IsBadFrame (schema_payload plan.schema) p (v 2)) ⊎ ForSome (now new) (λ v. IsIllegal plan.schema.fields p (v 2))
+    pub damaged : (p : ℕ) → fault ≡ Damaged p → ForSome (now old) (λ v. IsBadFrame p (v 2)) ⊎ ForSome (now old) (λ u. ForSome (now new) (λ v. IsIllegalSince plan.schema (u 2) p (v 2)))
     pub never_damaged : (p : ℕ) → IsOpenable (planned plan) (now old) (may old) → fault ≡ Damaged p → ⊥
     pub undamaged : (v : Image) (events : List Event) (p : ℕ) → now old ≡ Some v → HasEvents plan.schema events (v 2) → fault ≡ Damaged p → ⊥
     pub bad : (v : Image) (events : List Event) (n : ℕ) → now old ≡ Some v → HasEvents plan.schema events (v 2) → Tells table → fault ≡ BadState n → IsBlamed (planned plan) v events n

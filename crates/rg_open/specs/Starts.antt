@@ -1,6 +1,5 @@
 -- What is told of an engine that was started over a store that was found, and why one wasn't.
 use Rattle.std.specs.Prelude.{◌≡◌, ◌+◌, ◌≤◌, ℕ, List, [], take, false, Option}
-use Rattle.std.specs.Option.{ForSome}
 use Rattle.rg_bytes.specs.Counts.{Rose}
 use Rattle.rg_host.specs.Image.{Image}
 use Rattle.rg_host.specs.Moments.{Moment, LeavesAll}
@@ -16,12 +15,11 @@ use Rattle.rg_engine.specs.Passed.{passed_count}
 use Rattle.rg_engine.specs.Seen.{Seen}
 use Rattle.rg_engine.specs.Standing.{come}
 use Rattle.rg_restore.specs.Fit.{IsFit}
-use Rattle.rg_restore.specs.Naming.{IsListed, HeadsName}
+use Rattle.rg_restore.specs.Naming.{IsListed, IsDamagedIn, HeadsName}
 use Rattle.rg_restore.specs.Opening.{IsEmpty, IsGoing}
 use Rattle.rg_restore.specs.Since.{IsSinceSlot}
 use Rattle.rg_restore.specs.Slots.{slot_in, HaveBegun, IsFrom}
 use Rattle.rg_restore.specs.declared.choosing.Saved.{Saved}
-use Rattle.rg_reservoir.specs.Chain.{IsIllegal}
 use Rattle.rg_reservoir.specs.Kept.{base, opened, room_of, cache_of, all_events, IsSound, Spells}
 use Rattle.rg_reservoir.specs.declared.reservoir.Reservoir.{Reservoir}
 use Rattle.rg_open.specs.Blame.{IsAmiss, NodeRuns, IsPlaced}
@@ -57,7 +55,7 @@ module _ {H T : Type 0} (now : H → Option Image) (may : H → Image → Type 0
   -- Why none was started. Over a sound log it is never for damage, and over a store that was found never for a bad state; the table is as it then is.
   pub record HasNotStarted (rose : Type 0) (fault : OpenFault) (back : T) : Type 0 where
     pub disk : fault ≡ Disk → rose
-    pub damaged : (p : ℕ) → fault ≡ Damaged p → ForSome (now new) (λ v. IsIllegal (base s).shape.fields p (v (base s).file))
+    pub damaged : (p : ℕ) → fault ≡ Damaged p → IsDamagedIn (now new) (base s) p
     pub undamaged : (p : ℕ) → IsSound (now old) (may old) r → fault ≡ Damaged p → ⊥
     pub same_schema : fault ≡ SchemaDiffers → ⊥
     pub bad : (n : ℕ) → IsOpenedFor (planned plan) (now old) (may old) r → Tells table → fault ≡ BadState n

@@ -18,7 +18,7 @@ pub record HasSaved (plan : Planned) (slot count : ℕ) (v : Image) : Type 0 whe
   pub texts : checkpoint.queries ≡ texts_of plan.shape plan.queries
   pub most : count ≤ checkpoint.count
 
--- the log is of the plan's schema, or has no frame
+-- the plan's schema is in force at the log's end, or the log has no frame
 abbrev pub IsOfPlan : Planned → Image → Type 0
 IsOfPlan plan v = IsOfSchema plan.shape (v 2)
 

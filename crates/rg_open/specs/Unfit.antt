@@ -3,22 +3,21 @@ use Rattle.std.specs.Prelude.{◌≡◌, ◌⊎◌, ℕ, List, Option, ⊤}
 use Rattle.std.specs.Option.{ForSome}
 use Rattle.rg_host.specs.Image.{Image}
 use Rattle.rg_host.specs.Moments.{Moment, Moments}
-use Rattle.rg_log.specs.Log.{schema_payload}
 use Rattle.rg_config.specs.Plans.{Planned}
 use Rattle.rg_reservoir.specs.Attached.{IsOther, IsBadFrame}
 use Rattle.rg_open.specs.Within.{IsAsRead}
 use Rattle.rg_open.specs.declared.fault.OpenFault.{OpenFault}
 use Rattle.rg_open.specs.declared.fault.OpenFault.TheVariants.{Disk, Damaged, SchemaDiffers, BadState, Memory, Table}
 
--- the log of the image is of another schema than the plan's
+-- the log of the image is whole by heads and growths, and another schema than the plan's is in force at its end
 abbrev pub HasOtherSchema : Planned → Image → Type 0
-HasOtherSchema plan v = IsOther (schema_payload plan.shape) (v 2)
+HasOtherSchema plan v = IsOther plan.shape (v 2)
 
--- the open frame at that place of the log isn't what its place asks for
+-- the open frame at that place of the log isn't whole, isn't what its place asks for, or may not follow those before it
 abbrev pub HasBadFrame : Planned → ℕ → Image → Type 0
-HasBadFrame plan place v = IsBadFrame (schema_payload plan.shape) place (v 2)
+HasBadFrame plan place v = IsBadFrame place (v 2)
 
--- no run of the plan goes over the image
+-- no run of the plan goes over the image; it is just one of the two, since a log with a bad frame isn't whole
 abbrev pub IsUnfit : Planned → Image → Type 0
 IsUnfit plan v = HasOtherSchema plan v ⊎ ((place : ℕ) × HasBadFrame plan place v)
 

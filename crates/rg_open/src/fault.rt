@@ -13,7 +13,7 @@ pub enum OpenFault {
     Disk,
     /// The open frame of the log at that place, in bytes, is damaged.
     Damaged(u64),
-    /// The log's first frame is another schema than the plan's.
+    /// Another schema than the plan's is in force at the log's end.
     SchemaDiffers,
     /// The rows of the node of that number in the checkpoint that is used don't stand for its events.
     BadState(u32),

@@ -5,12 +5,11 @@ ghost use Rattle.rg_host.specs.Image.{Image};
 ghost use Rattle.rg_event.specs.Rising.{next_offset};
 ghost use Rattle.rg_event.specs.declared.event.Event.{Event};
 ghost use Rattle.rg_frame.specs.LogState.{ReachesEnd};
-ghost use Rattle.rg_log.specs.Log.{schema_payload, HasEvents};
+ghost use Rattle.rg_log.specs.Log.{HasEvents};
 ghost use Rattle.rg_config.specs.Plans.{planned};
 ghost use Rattle.rg_config.specs.Read.{IsReadPlan};
-ghost use Rattle.rg_reservoir.specs.Attached.{IsOther, IsBadFrame};
-ghost use Rattle.rg_reservoir.specs.Chain.{IsIllegal};
-ghost use Rattle.rg_reservoir.specs.Kept.{base, opened, room_of, cache_of, log_of, next_of, all_events};
+ghost use Rattle.rg_reservoir.specs.Attached.{IsOther, IsBadFrame, HasView, IsIllegalSince};
+ghost use Rattle.rg_reservoir.specs.Kept.{base, view_of, opened, room_of, cache_of, log_of, next_of, all_events};
 ghost use Rattle.rg_state.specs.Keeping.{TableKept};
 ghost use Rattle.rg_engine.specs.Passed.{passed_count};
 ghost use Rattle.rg_checkpoint.specs.Slots.{IsKeep, ReachesSlots, sizes_in};
@@ -152,8 +151,8 @@ fn open_settled<H: Host, T: Table, L: Ledger>(
 /// Opens the store of a plan over a table without a row. Files 2, 0 and 1 are settled first, so that
 /// nothing that an earlier run wrote is pending; only the schema's frame of a log without a frame is
 /// written. The engine goes on from the fit checkpoint of the greatest count, slot 0 where both have
-/// it, and from the start where none is fit; no more is passed than the events behind that. A refusal
-/// hands the table back as it then is.
+/// it, and from the start where none is fit; no more is passed than the events behind that. A damaged
+/// log is told before another schema. A refusal hands the table back as it then is.
 pub fn open_store<H: Host, T: Table, L: Ledger>(
     alloc: Global,
     host: &mut H,
@@ -178,6 +177,7 @@ pub fn open_store<H: Host, T: Table, L: Ledger>(
     ensures told { (v : Image) → H.now host.old ≡ Some v → OnOk result ((w : Image) × (H.now host.new ≡ Some w)) }
     ensures settled { (v : Image) → H.now host.old ≡ Some v → OnOk result (AreSettled (H.now host.new) (H.may host.new)) }
     ensures events { (v : Image) (events : List Event) → H.now host.old ≡ Some v → HasEvents plan.now.schema events (v 2) → IfOk result (λ r. (all_events (H.now host.new) (base r.0.reservoir) [] ≡ events) × (r.1.next ≡ next_offset events)) }
+    ensures view { IfOk result (λ r. ForSome (H.now host.old) (λ v. HasView plan.now.schema (view_of (base r.0.reservoir)) (v 2))) }
     ensures resumed { (v : Image) → H.now host.old ≡ Some v → IfOk result (λ r.
         IsResumed v (H.now host.new) plan.now.queries plan.now.schema.fields plan.now.task r.0.reservoir r.0.engine r.0.keep r.1.from steps.old steps.new) }
     // What is kept of the slot that was used: its checkpoint is of no more events than there are, its sizes are known, and changes are told
@@ -205,10 +205,10 @@ pub fn open_store<H: Host, T: Table, L: Ledger>(
         IsLeftAlone H.now H.may H.clock H.since H.said v host.old host.new × IfErr result (λ refused. SaysWhy (planned plan.now) v refused.0) }
 
     ensures disk { IfErr result (λ refused. refused.0 ≡ OpenFault.Disk → Rose (H.disk_faults host.old) (H.disk_faults host.new)) }
-    ensures differs { IfErr result (λ refused. refused.0 ≡ OpenFault.SchemaDiffers → ForSome (H.now host.old) (λ v. IsOther (schema_payload plan.now.schema) (v 2))) }
+    ensures differs { IfErr result (λ refused. refused.0 ≡ OpenFault.SchemaDiffers → ForSome (H.now host.old) (λ v. IsOther plan.now.schema (v 2))) }
     ensures damaged { (p : ℕ) → IfErr result (λ refused. refused.0 ≡ OpenFault.Damaged p →
-        ForSome (H.now host.old) (λ v. IsBadFrame (schema_payload plan.now.schema) p (v 2)) ⊎ ForSome (H.now host.new) (λ v. IsIllegal plan.now.schema.fields p (v 2))) }
-    ensures exact { (v : Image) → H.now host.old ≡ Some v → IsOther (schema_payload plan.now.schema) (v 2) ⊎ ((p : ℕ) × IsBadFrame (schema_payload plan.now.schema) p (v 2)) → IfOk result (λ _. ⊥) }
+        ForSome (H.now host.old) (λ v. IsBadFrame p (v 2)) ⊎ ForSome (H.now host.old) (λ u. ForSome (H.now host.new) (λ v. IsIllegalSince plan.now.schema (u 2) p (v 2)))) }
+    ensures exact { (v : Image) → H.now host.old ≡ Some v → IsOther plan.now.schema (v 2) ⊎ ((p : ℕ) × IsBadFrame p (v 2)) → IfOk result (λ _. ⊥) }
     ensures table_disk { IfErr result (λ refused. refused.0 ≡ OpenFault.Table → Rose (T.faults table) (T.faults refused.1)) }
 
     ensures copies { IfOk result (λ r. (r.0.schema ≡ plan.now.schema) × (r.0.texts ≡ plan.now.queries)) }

@@ -4,7 +4,7 @@ ghost use Rattle.rg_event.specs.Shapes.{Shape, IsSchema};
 ghost use Rattle.rg_event.specs.declared.event.Event.{Event};
 ghost use Rattle.rg_frame.specs.Frames.{HasPayloads};
 ghost use Rattle.rg_frame.specs.Steps.{Leaves, From, Grows};
-ghost use Rattle.rg_log.specs.Log.{schema_payload, IsChunkOf, HasEvents, HasSchemaFrame};
+ghost use Rattle.rg_log.specs.Log.{schema_payload, IsChunkOf, HasEvents, IsInForce};
 ghost use Rattle.rg_log.specs.Spots.{SpotIn};
 ghost use Rattle.rg_config.specs.Plans.{Planned};
 ghost use Rattle.rg_config.specs.Read.{IsSaid};
@@ -46,11 +46,11 @@ pub fn law_truthful()
 /// of the plan that is true of the log's events; and it is fit. What is saved of an engine in step with a
 /// reservoir is true of each log that might be left.
 pub fn law_checkpoints<H: Host>()
-    ensures of_plan { (plan : Planned) (v : Image) (events : List Event) (slot : ℕ) (checkpoint : Checkpoint) → All (IsSaid plan.shape) plan.queries → HasSchemaFrame plan.shape (v 2) → HasEvents plan.shape events (v 2) →
-        IsTruthfulImage v → slot < 2 → HasSlot (v slot) checkpoint → checkpoint.queries ≡ texts_of plan.shape plan.queries → IsTruthful (SpotIn plan.shape (v 2)) (plan_for plan.queries) events checkpoint }
+    ensures of_plan { (plan : Planned) (v : Image) (events : List Event) (slot : ℕ) (checkpoint : Checkpoint) → All (IsSaid plan.shape) plan.queries → IsInForce plan.shape (v 2) → HasEvents plan.shape events (v 2) →
+        IsTruthfulImage v → slot < 2 → HasSlot (v slot) checkpoint → checkpoint.queries ≡ texts_of plan.shape plan.queries → IsTruthful (SpotIn (v 2)) (plan_for plan.queries) events checkpoint }
     ensures fit { (plan : Planned) (v : Image) (events : List Event) (slot : ℕ) (checkpoint : Checkpoint) → All (IsSaid plan.shape) plan.queries → Serves plan.shape.fields (plan_for plan.queries) →
-        HasSchemaFrame plan.shape (v 2) → HasEvents plan.shape events (v 2) → IsTruthfulImage v → slot < 2 → HasSlot (v slot) checkpoint → checkpoint.queries ≡ texts_of plan.shape plan.queries →
-        IsFit (SpotIn plan.shape (v 2)) (texts_of plan.shape plan.queries) plan.shape.fields (plan_for plan.queries) (length events) checkpoint }
+        IsInForce plan.shape (v 2) → HasEvents plan.shape events (v 2) → IsTruthfulImage v → slot < 2 → HasSlot (v slot) checkpoint → checkpoint.queries ≡ texts_of plan.shape plan.queries →
+        IsFit (SpotIn (v 2)) (texts_of plan.shape plan.queries) plan.shape.fields (plan_for plan.queries) (length events) checkpoint }
     ensures saved { (plan : Planned) (host : H) (r : Reservoir) (cells : Cells) (checkpoint : Checkpoint) → IsToSave plan (H.now host) (H.may host) r cells checkpoint.spots checkpoint.queries → Lists cells checkpoint.rows →
         checkpoint.count ≡ length (all_events (H.now host) (base r) (opened r)) → (u : Image) → H.may host u → IsTrueOf (u 2) checkpoint }
 {}

@@ -84,6 +84,26 @@ const OTHER: [u8; 30] = [
     0x42, 0, 0, 0, 1, 0, 0, 0, 1, b'q', 0, 0, 0, 0, 0, 0, 0, 2, 0, 0, 0, 0, 0, 0, 0, 0, 0, 0, 0, 0,
 ];
 
+/// The payload of a schema without amounts.
+const NARROW: &[u8] = b"Spayments(ts,card:text,merchant:text)";
+
+/// A chunk of the payments `0,c1,m1` and `299999,c1,m2` of that schema at offsets 0 and 1.
+const NARROW_TWO: [u8; 81] = [
+    0x43, 0x00, 0x00, 0x00, 0x02, 0x00, 0x00, 0x00, 0x00, 0x00, 0x00, 0x00, 0x00, 0x00, 0x00, 0x00,
+    0x00, 0x00, 0x00, 0x00, 0x00, 0x00, 0x00, 0x00, 0x00, 0x00, 0x00, 0x00, 0x01, 0x00, 0x00, 0x00,
+    0x00, 0x00, 0x04, 0x93, 0xdf, 0x00, 0x00, 0x00, 0x00, 0x00, 0x00, 0x00, 0x00, 0x00, 0x00, 0x00,
+    0x00, 0x00, 0x00, 0x00, 0x00, 0x02, 0x63, 0x31, 0x02, 0x6d, 0x31, 0x00, 0x00, 0x00, 0x00, 0x00,
+    0x00, 0x00, 0x01, 0x00, 0x00, 0x00, 0x00, 0x00, 0x04, 0x93, 0xdf, 0x02, 0x63, 0x31, 0x02, 0x6d,
+    0x32,
+];
+
+/// The growth of that schema by the amounts: each payment before it has 100.
+const AMOUNTS: &[u8] =
+    b"G\0\0\0\x2fpayments(ts,card:text,merchant:text,amount:int)\x01\0\0\0\0\0\0\0d";
+
+/// The last bytes of the places of the two spots in the base.
+const PLACES: [usize; 2] = [107, 127];
+
 /// The place of the last byte of the count in a change payload.
 const COUNT: usize = 8;
 
@@ -209,6 +229,11 @@ const OF_TWO: &[&[u8]] = &[SCHEMA, &TWO];
 
 const OF_THREE: &[&[u8]] = &[SCHEMA, &TWO, &THIRD];
 
+/// The log of the first two payments before there were amounts, and then of all three.
+const OF_NARROW: &[&[u8]] = &[NARROW, &NARROW_TWO];
+
+const OF_GROWN: &[&[u8]] = &[NARROW, &NARROW_TWO, AMOUNTS, &THIRD];
+
 fn assert_so(rt: &impl Abort, is_so: Result<bool, Memory>) -> Result<(), Fail> {
     assert!(rt; is_so?);
     Ok(())
@@ -304,4 +329,44 @@ fn goes_on_from(alloc: Global, changes: u32) -> Result<bool, Memory> {
 #[test]
 fn an_opening_goes_on_from_65_changes(rt: HostRuntime) -> Result<(), Fail> {
     assert_so(&rt, goes_on_from(rt.alloc(), 65))
+}
+
+/// The base with its spots at another place.
+fn base_at(place: u8) -> [u8; 206] {
+    let mut bytes = BASE;
+    for at in PLACES {
+        if let Some(old) = bytes.get_mut(at) {
+            *old = place;
+        }
+    }
+    bytes
+}
+
+/// Whether an opening goes over a log whose schema grew, from the start and from the base of the first payment,
+/// whose spots have to be of that log.
+fn goes_over_growths(alloc: Global) -> Result<bool, Memory> {
+    Ok(
+        open(alloc, OF_GROWN, &[], &[])? == Ok(0)
+            && open(alloc, OF_GROWN, &[&base_at(46)], &[])? == Ok(1)
+            && open(alloc, OF_GROWN, &[&BASE], &[])? == Ok(0),
+    )
+}
+
+#[test]
+fn an_opening_goes_over_a_log_whose_schema_grew(rt: HostRuntime) -> Result<(), Fail> {
+    assert_so(&rt, goes_over_growths(rt.alloc()))
+}
+
+/// Whether a log is refused at whose end another schema is in force, and as damaged where it is damaged too.
+fn tells_damage_first(alloc: Global) -> Result<bool, Memory> {
+    let damaged: &[&[u8]] = &[NARROW, &NARROW_TWO, b"x"];
+    Ok(
+        open(alloc, OF_NARROW, &[], &[])? == Err(OpenFault::SchemaDiffers)
+            && open(alloc, damaged, &[], &[])? == Err(OpenFault::Damaged(136)),
+    )
+}
+
+#[test]
+fn damage_is_told_before_another_schema(rt: HostRuntime) -> Result<(), Fail> {
+    assert_so(&rt, tells_damage_first(rt.alloc()))
 }

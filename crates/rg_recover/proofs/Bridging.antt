@@ -3,12 +3,12 @@ use Rattle.std.proofs.Common.{◌≡◌, ◌⊎◌, inl, inr, ⊎_elim, ℕ, ◌
 use Rattle.rg_bytes.specs.Counts.{Rose}
 use Rattle.rg_host.specs.Image.{Image}
 use Rattle.rg_host.specs.Moments.{Moment, Moments}
-use Rattle.rg_event.specs.Shapes.{Shape}
 use Rattle.rg_config.specs.Plans.{Planned}
 use Rattle.rg_state.specs.Changes.{Marks}
 use Rattle.rg_state.specs.Rows.{Cells}
-use Rattle.rg_reservoir.specs.Chain.{IsIllegal}
-use Rattle.rg_reservoir.specs.Kept.{base, next_of}
+use Rattle.rg_reservoir.specs.Chain.{IsIllegalBy}
+use Rattle.rg_reservoir.specs.Kept.{base, view_of, next_of}
+use Rattle.rg_reservoir.specs.Views.{View as LogView}
 use Rattle.rg_course.specs.Stores.{Course, StaysOnCourse}
 use Rattle.rg_open.specs.Stores.{store_of}
 use Rattle.rg_recover.specs.Sessions.{Sitting}
@@ -78,7 +78,7 @@ module _ {P H T : Type 0} (old new : P) (host : P → H) (session : P → Sittin
       bad = e.bad;
       undamaged = e.undamaged;
       damaged = λ p is v told.
-          subst (λ (f : ℕ). IsIllegal (base (session old).reservoir).shape.fields p (v f)) log.1 (subst (λ (shape : Shape). IsIllegal shape.fields p (v (base (session new).reservoir).file)) log.0 (e.damaged p is v told));
+          subst (λ (f : ℕ). IsIllegalBy (view_of (base (session old).reservoir)) p (v f)) log.1 (subst (λ (view : LogView). IsIllegalBy view p (v (base (session new).reservoir).file)) log.0 (e.damaged p is v told));
       at_end = e.at_end;
       within = e.within;
       read = e.read;

@@ -12,8 +12,8 @@ use Rattle.rg_state.specs.Rows.{Cells}
 use Rattle.rg_checkpoint.specs.Slots.{sizes_in}
 use Rattle.rg_engine.specs.Seen.{Seen}
 use Rattle.rg_restore.specs.Truthful.{EngineStands, NodeGoes}
-use Rattle.rg_reservoir.specs.Chain.{IsIllegal}
-use Rattle.rg_reservoir.specs.Kept.{Base, base, opened, stored, all_events, IsSound, Spells, Stays}
+use Rattle.rg_reservoir.specs.Chain.{IsIllegalBy}
+use Rattle.rg_reservoir.specs.Kept.{Base, base, view_of, opened, stored, all_events, IsSound, Spells, Stays}
 use Rattle.rg_reservoir.specs.declared.fault.ReservoirFault.{ReservoirFault}
 use Rattle.rg_reservoir.specs.declared.fault.ReservoirFault.TheVariants as reservoir
 use Rattle.rg_reservoir.specs.declared.reservoir.Reservoir.{Reservoir}
@@ -40,8 +40,8 @@ module _ (now then : Option Image) (old new : Reservoir) (same : then ≡ now) (
   pub stored_still : stored then (base new) ≡ stored now (base old)
   stored_still = ap (λ (o : Option Image). stored o (base new)) same ∙ ap (λ (b : Base). stored now b) stays.base
 
-  pub illegal_still : (p : ℕ) → ForSome now (λ v. IsIllegal (base old).shape.fields p (v (base old).file)) → ForSome then (λ v. IsIllegal (base new).shape.fields p (v (base new).file))
-  illegal_still p = carried (λ o b l. ForSome o (λ (v : Image). IsIllegal b.shape.fields p (v b.file)))
+  pub illegal_still : (p : ℕ) → ForSome now (λ v. IsIllegalBy (view_of (base old)) p (v (base old).file)) → ForSome then (λ v. IsIllegalBy (view_of (base new)) p (v (base new).file))
+  illegal_still p = carried (λ o b l. ForSome o (λ (v : Image). IsIllegalBy (view_of b) p (v b.file)))
 
   module _ (may after : Image → Type 0) (outcomes : SameOutcomes may after) (sound : IsSound now may old → IsSound then after new) (plan : Planned) where
     opened_still : IsOpenedFor plan now may old → IsOpenedFor plan then after new

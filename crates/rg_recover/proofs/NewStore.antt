@@ -1,8 +1,6 @@
 -- A run over a new store in memory.
 use Rattle.std.proofs.Common.{◌≡◌, ◌⊎◌, inl, inr, ℕ, zero, suc, ◌≤◌, ◌^◌, List, [], length, replicate, Option, Some, None, refl, ap, sym, ◌∙◌, subst, arith}
 use Rattle.std.specs.Prelude.{OnOk, Result}
-use Rattle.std.proofs.lemmas.List.Elements.{All-nil}
-use Rattle.rg_event.specs.Codec.{IsEventOf}
 use Rattle.rg_event.specs.Shapes.{Shape, IsSchema}
 use Rattle.rg_event.specs.declared.event.Event.{Event}
 use Rattle.rg_host.specs.Image.{Image}
@@ -52,7 +50,7 @@ bare_truthful = record { log = inl (no_payload 2); slots = λ i below checkpoint
 -- a new store has no event
 pub bare_has : (shape : Shape) → IsSchema shape → HasEvents shape [] (bare 2)
 bare_has shape schema =
-    ([], record { schema = schema; payloads = []; has = no_payload 2; log = refl; of = All-nil (IsEventOf shape.fields); rising = tt; few = omega arith }, refl)
+    ([], record { schema = schema; payloads = []; has = no_payload 2; log = refl; rising = tt; few = omega arith }, refl)
 
 abbrev pub new_host : Ledger
 new_host = begun (replicate 8 []) []

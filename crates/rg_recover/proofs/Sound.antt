@@ -10,7 +10,8 @@ use Rattle.rg_event.specs.Rising.{IsRising, MayFollow, next_offset, last_time}
 use Rattle.rg_event.specs.declared.event.Event.{Event}
 use Rattle.rg_frame.specs.LogState.{Reaches, ReachesEnd}
 use Rattle.rg_event.specs.Shapes.{Shape}
-use Rattle.rg_log.specs.Log.{joined, HasEvents, HasSchemaFrame}
+use Rattle.rg_log.specs.Log.{joined, HasEvents, IsInForce}
+use Rattle.rg_log.proofs.Staging.{events_of_schema}
 use Rattle.rg_reservoir.specs.Kept.{Base, base, opened, log_of, cache_of, next_of, time_of, stored, all_events, IsSound, IsRight}
 use Rattle.rg_reservoir.specs.GoingLaws.{all_long}
 use Rattle.rg_reservoir.specs.declared.reservoir.Reservoir.{Reservoir}
@@ -30,7 +31,7 @@ module _ (now : Option Image) (may : Image → Type 0) (r : Reservoir) (sound : 
   -- all events are of the schema's columns
   pub all_fit : All (IsEventOf (base r).shape.fields) (all_events now (base r) (opened r))
   all_fit =
-      let of : All (IsEventOf (base r).shape.fields) (joined right.chunks) = subst (λ (l : List Event). All (IsEventOf (base r).shape.fields) l) right.legal.2 right.legal.1.of in
+      let of : All (IsEventOf (base r).shape.fields) (joined right.chunks) = events_of_schema (base r).shape (joined right.chunks) (sound.0 (base r).file) right.legal in
       let is : stored now (base r) ≡ joined right.chunks = ap (λ (o : Option Image). stored o (base r)) sound.1 ∙ stored_is sound.0 may (base r) (opened r) (next_of r) (time_of r) (cache_of r) right in
       All-append (IsEventOf (base r).shape.fields) (stored now (base r)) (opened r) (subst (λ (l : List Event). All (IsEventOf (base r).shape.fields) l) (sym is) of) (All-from_recursion (IsEventOf (base r).shape.fields) (opened r) right.fits)
 
@@ -52,8 +53,8 @@ module _ (now : Option Image) (may : Image → Type 0) (r : Reservoir) (sound : 
     log_same : u 2 ≡ sound.0 2
     log_same = subst (λ (f : ℕ). u f ≡ sound.0 f) file (right.settled u left)
 
-    pub log_framed : HasSchemaFrame shape (u 2)
-    log_framed = subst (λ (bytes : List ℕ). HasSchemaFrame shape bytes) (sym log_same) (subst (λ (s : Shape). HasSchemaFrame s (sound.0 2)) shape_is (subst (λ (f : ℕ). HasSchemaFrame (base r).shape (sound.0 f)) file right.framed))
+    pub log_framed : IsInForce shape (u 2)
+    log_framed = subst (λ (bytes : List ℕ). IsInForce shape bytes) (sym log_same) (subst (λ (s : Shape). IsInForce s (sound.0 2)) shape_is (subst (λ (f : ℕ). IsInForce (base r).shape (sound.0 f)) file right.framed))
 
     pub log_stored : HasEvents shape (stored now (base r)) (u 2)
     log_stored =

@@ -7,7 +7,7 @@ use Rattle.rg_host.proofs.Runs.{leaves_all-none}
 use Rattle.rg_event.specs.declared.event.Event.{Event}
 use Rattle.rg_course.specs.Stores.{Store}
 use Rattle.rg_open.specs.Stores.{store_of}
-use Rattle.rg_reservoir.specs.Kept.{Base, base, opened, room_of, cache_of, stored, all_events}
+use Rattle.rg_reservoir.specs.Kept.{Base, base, view_of, opened, room_of, cache_of, stored, all_events}
 use Rattle.rg_reservoir.specs.GoingLaws.{all_long}
 use Rattle.rg_reservoir.specs.declared.reservoir.Reservoir.{Reservoir}
 use Rattle.rg_recover.specs.Stepping.{IsWithinStep, IsStored}
@@ -54,7 +54,7 @@ module _ {H : Type 0} (said : H → Option (List ℕ)) (disk_faults out_faults :
   pub log_then : (r m s : Reservoir) (old mid new : H) → KeepsLog said disk_faults out_faults r m old mid → base s ≡ base m → room_of s ≡ room_of m → (cache_of s).cap ≡ (cache_of m).cap
       → said new ≡ said mid → disk_faults mid ≤ disk_faults new → out_faults new ≡ out_faults mid → KeepsLog said disk_faults out_faults r s old new
   log_then r m s old mid new keeps same room cap told grow stay = record {
-    shape = ap (λ (b : Base). b.shape) same ∙ keeps.shape;
+    view = ap view_of same ∙ keeps.view;
     file = ap (λ (b : Base). b.file) same ∙ keeps.file;
     limit = ap (λ (b : Base). b.limit) same ∙ keeps.limit;
     room = room ∙ keeps.room;

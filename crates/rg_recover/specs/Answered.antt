@@ -7,8 +7,8 @@ use Rattle.rg_host.specs.Image.{Image}
 use Rattle.rg_host.specs.Moments.{Moment, Moments}
 use Rattle.rg_config.specs.Plans.{Planned}
 use Rattle.rg_state.specs.Rows.{Cells}
-use Rattle.rg_reservoir.specs.Chain.{IsIllegal}
-use Rattle.rg_reservoir.specs.Kept.{base}
+use Rattle.rg_reservoir.specs.Chain.{IsIllegalBy}
+use Rattle.rg_reservoir.specs.Kept.{base, view_of}
 use Rattle.rg_course.specs.Stores.{StaysOnCourse}
 use Rattle.rg_open.specs.Stores.{store_of}
 use Rattle.rg_open.specs.Blame.{NodeRuns, IsPlaced}
@@ -42,7 +42,7 @@ module _ {H I : Type 0} (now : H → Option Image) (may : H → Image → Type 0
     pub differs : IsErrOf result SchemaDiffers → ⊥
     pub bad : (n : ℕ) → NodeRuns plan n (now old) (may old) is_told cells s.reservoir s.engine → IsErrOf result (BadState n) → ⊥
     pub undamaged : (p : ℕ) → IsPlaced plan (now old) (may old) s.reservoir s.engine → IsErrOf result (Damaged p) → ⊥
-    pub damaged : (p : ℕ) → IsErrOf result (Damaged p) → ForSome (now new) (λ v. IsIllegal (base s.reservoir).shape.fields p (v (base s.reservoir).file))
+    pub damaged : (p : ℕ) → IsErrOf result (Damaged p) → ForSome (now new) (λ v. IsIllegalBy (view_of (base s.reservoir)) p (v (base s.reservoir).file))
     pub at_end : OnOk result (IsAtEnd (left input_then))
     pub within : OnOk result (IsWithinLimit (2 ^ 50) (left input))
     pub read : IsErrOf result Read → Rose (faults input) (faults input_then)

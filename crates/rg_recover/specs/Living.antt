@@ -4,8 +4,8 @@ use Rattle.std.specs.Option.{ForSome}
 use Rattle.rg_host.specs.Image.{Image}
 use Rattle.rg_checkpoint.specs.Sizes.{end_of}
 use Rattle.rg_checkpoint.specs.declared.sizes.SlotSizes.{SlotSizes}
-use Rattle.rg_reservoir.specs.Chain.{IsIllegal}
-use Rattle.rg_reservoir.specs.Kept.{base, opened, log_of, next_of}
+use Rattle.rg_reservoir.specs.Chain.{IsIllegalBy}
+use Rattle.rg_reservoir.specs.Kept.{base, view_of, opened, log_of, next_of}
 use Rattle.rg_recover.specs.Sessions.{Sitting, events_of, stored_of}
 use Rattle.rg_recover.specs.declared.fault.TaskFault.{TaskFault as SessionFault}
 use Rattle.rg_recover.specs.declared.fault.TaskFault.TheVariants as session
@@ -19,11 +19,11 @@ state_of now s = record { events = events_of now s; stored = stored_of now s; ch
 
 -- what stands at that place of its log is damaged
 abbrev pub IsIllegalIn : {T : Type 0} → Option Image → Sitting T → ℕ → Type 0
-IsIllegalIn now s place = ForSome now (λ v. IsIllegal (base s.reservoir).shape.fields place (v (base s.reservoir).file))
+IsIllegalIn now s place = ForSome now (λ v. IsIllegalBy (view_of (base s.reservoir)) place (v (base s.reservoir).file))
 
--- the schema and the file of its log are those
+-- the view and the file of its log are those
 abbrev pub SameLog : {T : Type 0} → Sitting T → Sitting T → Type 0
-SameLog old new = ((base new.reservoir).shape ≡ (base old.reservoir).shape) × ((base new.reservoir).file ≡ (base old.reservoir).file)
+SameLog old new = (view_of (base new.reservoir) ≡ view_of (base old.reservoir)) × ((base new.reservoir).file ≡ (base old.reservoir).file)
 
 -- the file of a log that has come to that place is longer, or has at most one byte while the place is 0
 abbrev pub IsLong : ℕ → List ℕ → Type 0

@@ -11,8 +11,8 @@ use Rattle.rg_log.specs.Log.{HasEvents}
 use Rattle.rg_config.specs.Plans.{Planned}
 use Rattle.rg_state.specs.Changes.{Marks}
 use Rattle.rg_state.specs.Rows.{Cells}
-use Rattle.rg_reservoir.specs.Chain.{IsIllegal}
-use Rattle.rg_reservoir.specs.Kept.{base, log_of, next_of}
+use Rattle.rg_reservoir.specs.Attached.{HasView, IsIllegalSince}
+use Rattle.rg_reservoir.specs.Kept.{base, view_of, log_of, next_of}
 use Rattle.rg_checkpoint.specs.Slots.{ReachesSlots}
 use Rattle.rg_course.specs.Steps.{IsAtRest}
 use Rattle.rg_open.specs.Stores.{store_of}
@@ -53,6 +53,7 @@ module _ {H : Type 0} (now : H → Option Image) (may : H → Image → Type 0) 
     pub going : s.ended ≡ false
     pub reaches : ReachesEnd (log_of s.reservoir) (now new)
     pub slots_reach : ReachesSlots s.slots (now new)
+    pub view : ForSome (now old) (λ u. HasView plan.shape (view_of (base s.reservoir)) (u 2))
     pub log : ((base s.reservoir).shape ≡ plan.shape) × ((base s.reservoir).file ≡ 2)
     pub numbers : (next ≡ next_of s.reservoir) × (count ≡ count_in s.reservoir)
 
@@ -64,7 +65,7 @@ module _ {H : Type 0} (now : H → Option Image) (may : H → Image → Type 0) 
     pub bad : (v : Image) (events : List Event) (n : ℕ) → now old ≡ Some v → HasEvents plan.shape events (v 2) → fault ≡ BadState n → IsBlamed plan v events n
     pub undamaged : (v : Image) (events : List Event) (p : ℕ) → now old ≡ Some v → HasEvents plan.shape events (v 2) → fault ≡ Damaged p → ⊥
     pub differs : fault ≡ SchemaDiffers → ForSome (now old) (HasOtherSchema plan)
-    pub damaged : (p : ℕ) → fault ≡ Damaged p → ForSome (now old) (HasBadFrame plan p) ⊎ ForSome (now new) (λ v. IsIllegal plan.shape.fields p (v 2))
+    pub damaged : (p : ℕ) → fault ≡ Damaged p → ForSome (now old) (HasBadFrame plan p) ⊎ ForSome (now old) (λ u. ForSome (now new) (λ v. IsIllegalSince plan.shape (u 2) p (v 2)))
     pub disk : fault ≡ Disk → Rose (disk_faults old) (disk_faults new)
     pub others : (fault ≡ Read → ⊥) × (fault ≡ Limit → ⊥) × (fault ≡ Write → ⊥) × ((n : ℕ) → fault ≡ Gap n → ⊥)
 

@@ -9,7 +9,7 @@ use Rattle.rg_event.specs.Rising.{next_offset}
 use Rattle.rg_event.specs.declared.event.Event.{Event}
 use Rattle.rg_log.specs.Log.{HasEvents}
 use Rattle.rg_config.specs.Plans.{Planned}
-use Rattle.rg_reservoir.specs.Chain.{IsIllegal}
+use Rattle.rg_reservoir.specs.Attached.{IsIllegalSince}
 use Rattle.rg_open.specs.Blame.{IsBlamed}
 use Rattle.rg_open.specs.Unfit.{HasOtherSchema, HasBadFrame, IsUnfit, IsLeftAlone}
 use Rattle.rg_open.specs.Within.{IsWithinOpening}
@@ -42,7 +42,7 @@ module _ {H I : Type 0} (now : H → Option Image) (disk_faults out_faults : H �
     pub gap_next : (v : Image) (events : List Event) (n : ℕ) → now old ≡ Some v → HasEvents plan.shape events (v 2) → IsErrOf result (Gap n) → n ≡ next_offset events
     pub no_gap : (v : Image) (events : List Event) → now old ≡ Some v → HasEvents plan.shape events (v 2) → OnOk result (first ≤ next_offset events)
     pub differs : IsErrOf result SchemaDiffers → ForSome (now old) (HasOtherSchema plan)
-    pub damaged : (p : ℕ) → IsErrOf result (Damaged p) → ForSome (now old) (HasBadFrame plan p) ⊎ ForSome (now new) (λ v. IsIllegal plan.shape.fields p (v 2))
+    pub damaged : (p : ℕ) → IsErrOf result (Damaged p) → ForSome (now old) (HasBadFrame plan p) ⊎ ForSome (now old) (λ u. ForSome (now new) (λ v. IsIllegalSince plan.shape (u 2) p (v 2)))
     pub bad : (v : Image) (events : List Event) (n : ℕ) → now old ≡ Some v → HasEvents plan.shape events (v 2) → IsErrOf result (BadState n) → IsBlamed plan v events n
     pub undamaged : (v : Image) (events : List Event) (p : ℕ) → now old ≡ Some v → HasEvents plan.shape events (v 2) → IsErrOf result (Damaged p) → ⊥
     pub at_end : OnOk result (IsAtEnd (left input_then))

@@ -7,7 +7,7 @@ use Rattle.rg_past.specs.declared.past.Spot.{Spot}
 use Rattle.rg_frame.specs.LogState.{ReachesEnd}
 use Rattle.rg_config.specs.Plans.{Planned}
 use Rattle.rg_state.specs.Rows.{Cells}
-use Rattle.rg_reservoir.specs.Kept.{base, opened, room_of, cache_of, log_of, next_of, time_of, stored, all_events, IsSound, Spells}
+use Rattle.rg_reservoir.specs.Kept.{base, view_of, opened, room_of, cache_of, log_of, next_of, time_of, stored, all_events, IsSound, Spells}
 use Rattle.rg_reservoir.specs.declared.reservoir.Reservoir.{Reservoir}
 use Rattle.rg_open.specs.Stores.{store_of}
 use Rattle.rg_open.specs.Opened.{IsOpenedFor, IsInStep}
@@ -56,7 +56,7 @@ module _ {H : Type 0} (now : H → Option Image) (may : H → Image → Type 0) 
 module _ {H : Type 0} (said : H → Option (List ℕ)) (disk_faults out_faults : H → ℕ) where
   -- What stays of a log, of its rooms and of what was put, and no count of faults falls.
   pub record KeepsLog (r s : Reservoir) (old new : H) : Type 0 where
-    pub shape : (base s).shape ≡ (base r).shape
+    pub view : view_of (base s) ≡ view_of (base r)
     pub file : (base s).file ≡ (base r).file
     pub limit : (base s).limit ≡ (base r).limit
     pub room : room_of s ≡ room_of r

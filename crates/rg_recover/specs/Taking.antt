@@ -16,8 +16,8 @@ use Rattle.rg_state.specs.Rows.{Cells}
 use Rattle.rg_window.specs.Placed.{AreWithin}
 use Rattle.rg_engine.specs.Seen.{Seen}
 use Rattle.rg_engine.specs.Since.{KeepsSince}
-use Rattle.rg_reservoir.specs.Chain.{IsIllegal}
-use Rattle.rg_reservoir.specs.Kept.{base, opened, room_of, log_of, next_of, time_of, stored, all_events}
+use Rattle.rg_reservoir.specs.Chain.{IsIllegalBy}
+use Rattle.rg_reservoir.specs.Kept.{base, view_of, opened, room_of, log_of, next_of, time_of, stored, all_events}
 use Rattle.rg_reservoir.specs.declared.reservoir.Reservoir.{Reservoir}
 use Rattle.rg_open.specs.Stores.{store_of}
 use Rattle.rg_open.specs.Blame.{NodeRuns, IsPlaced}
@@ -72,7 +72,7 @@ module _ {H T : Type 0} (now : H → Option Image) (may : H → Image → Type 0
     pub going : OnOk result ((then.ended ≡ false) × ((base s).ended ≡ false))
     pub reaches : OnOk result (ReachesEnd (log_of s) (now new))
     pub slots : OnOk result (SlotsStay (now old) (now new) (may old) (may new))
-    pub damaged : (p : ℕ) → IsErrOf result (Damaged p) → ForSome (now new) (λ v. IsIllegal (base s).shape.fields p (v (base s).file))
+    pub damaged : (p : ℕ) → IsErrOf result (Damaged p) → ForSome (now new) (λ v. IsIllegalBy (view_of (base s)) p (v (base s).file))
     pub disk : IsErrOf result Disk → Rose (disk_faults old) (disk_faults new)
     pub table : IsErrOf result Table → Rose (faults engine.table) (faults then.table)
     pub not_ended : IsErrOf result Ended → ⊥

@@ -7,7 +7,7 @@ ghost use Rattle.rg_frame.specs.LogState.{ReachesEnd};
 ghost use Rattle.rg_checkpoint.specs.Slots.{ReachesSlots};
 ghost use Rattle.rg_config.specs.Plans.{Planned};
 ghost use Rattle.rg_reservoir.specs.Ahead.{all_ahead, SomeTouched};
-ghost use Rattle.rg_reservoir.specs.Chain.{IsIllegal};
+ghost use Rattle.rg_reservoir.specs.Chain.{IsIllegalBy};
 ghost use Rattle.rg_reservoir.specs.Kept.{base, view_of, opened, cache_of, loads_of, log_of, IsCached, Stays, AllTouched};
 ghost use Rattle.rg_open.specs.Stores.{store_of};
 ghost use Rattle.rg_open.specs.Blame.{NodeRuns, IsPlaced};
@@ -53,7 +53,7 @@ impl<T: Table> Session<T> {
         ensures stays { (self.new.engine ≡ self.old.engine) × (self.new.texts ≡ self.old.texts) × (self.new.keep ≡ self.old.keep) × (self.new.saved ≡ self.old.saved) }
         ensures grace { self.new.grace ≡ self.old.grace }
         ensures leaves { LeavesAll H.now H.may H.clock H.since H.said host.old host.new }
-        ensures damaged { (p : ℕ) → IsErrOf result (TaskFault.Damaged p) → ForSome (H.now host.new) (λ v. IsIllegal (base self.new.reservoir).shape.fields p (v (base self.new.reservoir).file)) }
+        ensures damaged { (p : ℕ) → IsErrOf result (TaskFault.Damaged p) → ForSome (H.now host.new) (λ v. IsIllegalBy (view_of (base self.new.reservoir)) p (v (base self.new.reservoir).file)) }
         ensures disk { IsErrOf result TaskFault.Disk → Rose (H.disk_faults host.old) (H.disk_faults host.new) }
         ensures faults { IfErr result (λ fault. (fault ≡ TaskFault.Disk) ⊎ (fault ≡ TaskFault.Memory) ⊎ (fault ≡ TaskFault.Ended) ⊎ ((p : ℕ) × (fault ≡ TaskFault.Damaged p))) }
         ensures ended { IsErrOf result TaskFault.Ended ↔ (self.old.ended ≡ true) }

@@ -3,7 +3,7 @@ ghost use Rattle.rg_bytes.specs.Counts.{Rose};
 ghost use Rattle.rg_frame.specs.LogState.{ReachesEnd};
 ghost use Rattle.rg_checkpoint.specs.Slots.{ReachesSlots};
 ghost use Rattle.rg_config.specs.Plans.{Planned};
-ghost use Rattle.rg_reservoir.specs.Kept.{base, opened, room_of, cache_of, log_of, next_of};
+ghost use Rattle.rg_reservoir.specs.Kept.{base, view_of, opened, room_of, cache_of, log_of, next_of};
 ghost use Rattle.rg_open.specs.Stores.{store_of};
 ghost use Rattle.rg_open.specs.Blame.{NodeRuns, IsPlaced};
 ghost use Rattle.rg_recover.specs.Sessions.{HasKept, IsRunning, count_in, events_of, stored_of};
@@ -62,7 +62,7 @@ impl<T: Table> Session<T> {
         ensures stays { (self.new.engine ≡ self.old.engine) × (self.new.texts ≡ self.old.texts) × (self.new.keep ≡ self.old.keep) × (self.new.saved ≡ self.old.saved) }
         ensures grace { self.new.grace ≡ self.old.grace }
         ensures last { next_of self.new.reservoir ≡ next_of self.old.reservoir }
-        ensures log { ((base self.new.reservoir).shape ≡ (base self.old.reservoir).shape) × ((base self.new.reservoir).file ≡ (base self.old.reservoir).file) }
+        ensures log { (view_of (base self.new.reservoir) ≡ view_of (base self.old.reservoir)) × ((base self.new.reservoir).file ≡ (base self.old.reservoir).file) }
         ensures rooms { (room_of self.new.reservoir ≡ room_of self.old.reservoir) × ((cache_of self.new.reservoir).cap ≡ (cache_of self.old.reservoir).cap) × ((base self.new.reservoir).limit ≡ (base self.old.reservoir).limit) }
         ensures memory { IsErrOf result TaskFault.Memory → (self.new ≡ self.old) × (host.new ≡ host.old) }
         ensures disk { IsErrOf result TaskFault.Disk → Rose (H.disk_faults host.old) (H.disk_faults host.new) }

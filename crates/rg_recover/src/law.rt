@@ -3,7 +3,7 @@ ghost use Rattle.rg_host.specs.Image.{Image};
 ghost use Rattle.rg_event.specs.Codec.{IsEventOf};
 ghost use Rattle.rg_event.specs.Rising.{IsRising, next_offset};
 ghost use Rattle.rg_config.specs.Plans.{Planned};
-ghost use Rattle.rg_log.specs.Log.{HasEvents, HasSchemaFrame};
+ghost use Rattle.rg_log.specs.Log.{HasEvents, IsInForce};
 ghost use Rattle.rg_reservoir.specs.Kept.{opened, next_of};
 ghost use Rattle.rg_recover.specs.Sessions.{Sitting, HasKept, IsRunning, count_in, events_of, stored_of};
 
@@ -20,6 +20,6 @@ pub fn law_running<H: Host, T: Table>()
     ensures keeps { (plan : Planned) (host : H) (s : Sitting T) → IsRunning plan (H.now host) (H.may host) T.tells T.cell T.named T.there s → HasKept (H.now host) (H.may host) T.cell T.named T.there s }
     ensures rising { (plan : Planned) (host : H) (s : Sitting T) → IsRunning plan (H.now host) (H.may host) T.tells T.cell T.named T.there s → IsRising (events_of (H.now host) s) }
     ensures fits { (plan : Planned) (host : H) (s : Sitting T) → IsRunning plan (H.now host) (H.may host) T.tells T.cell T.named T.there s → All (IsEventOf plan.shape.fields) (events_of (H.now host) s) }
-    ensures framed { (plan : Planned) (host : H) (s : Sitting T) (u : Image) → IsRunning plan (H.now host) (H.may host) T.tells T.cell T.named T.there s → H.may host u → HasSchemaFrame plan.shape (u 2) }
+    ensures framed { (plan : Planned) (host : H) (s : Sitting T) (u : Image) → IsRunning plan (H.now host) (H.may host) T.tells T.cell T.named T.there s → H.may host u → IsInForce plan.shape (u 2) }
     ensures stored { (plan : Planned) (host : H) (s : Sitting T) (u : Image) → IsRunning plan (H.now host) (H.may host) T.tells T.cell T.named T.there s → H.may host u → HasEvents plan.shape (stored_of (H.now host) s) (u 2) }
 {}

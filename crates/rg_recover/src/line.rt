@@ -10,8 +10,8 @@ ghost use Rattle.rg_frame.specs.LogState.{ReachesEnd};
 ghost use Rattle.rg_checkpoint.specs.Slots.{ReachesSlots};
 ghost use Rattle.rg_config.specs.Plans.{Planned};
 ghost use Rattle.rg_row.specs.Rows.{row_of};
-ghost use Rattle.rg_reservoir.specs.Chain.{IsIllegal};
-ghost use Rattle.rg_reservoir.specs.Kept.{base, opened, room_of, cache_of, log_of, next_of, time_of};
+ghost use Rattle.rg_reservoir.specs.Chain.{IsIllegalBy};
+ghost use Rattle.rg_reservoir.specs.Kept.{base, view_of, opened, room_of, cache_of, log_of, next_of, time_of};
 ghost use Rattle.rg_state.specs.Keeping.{TableKept};
 ghost use Rattle.rg_course.specs.Verdicts.{accepted_after, fault_reply, or_reply, reply_of, verdict_of};
 ghost use Rattle.rg_open.specs.Stores.{store_of};
@@ -187,7 +187,7 @@ impl<T: Table> Session<T> {
         ensures roomy { length (opened self.old.reservoir) < room_of self.old.reservoir → LeavesAll H.now H.may H.clock H.since H.said host.old host.new × (base self.new.reservoir ≡ base self.old.reservoir) }
 
         ensures refused { IfOk result (λ reply. HasAnswers reply ⊎ ((self.new ≡ self.old) × (host.new ≡ host.old) × (steps.new ≡ steps.old))) }
-        ensures damaged { (p : ℕ) → IsErrOf result (TaskFault.Damaged p) → ForSome (H.now host.new) (λ v. IsIllegal (base self.new.reservoir).shape.fields p (v (base self.new.reservoir).file)) }
+        ensures damaged { (p : ℕ) → IsErrOf result (TaskFault.Damaged p) → ForSome (H.now host.new) (λ v. IsIllegalBy (view_of (base self.new.reservoir)) p (v (base self.new.reservoir).file)) }
         ensures disk { IsErrOf result TaskFault.Disk → Rose (H.disk_faults host.old) (H.disk_faults host.new) }
         ensures table { IsErrOf result TaskFault.Table → Rose (T.faults self.old.engine.table) (T.faults self.new.engine.table) }
         ensures ended { IsErrOf result TaskFault.Ended ↔ (self.old.ended ≡ true) }
@@ -196,7 +196,7 @@ impl<T: Table> Session<T> {
         ensures ends { OnErr result (self.new.ended ≡ true) }
         ensures stays { (self.new.texts ≡ self.old.texts) × (self.new.keep ≡ self.old.keep) × (self.new.saved ≡ self.old.saved) }
         ensures grace { self.new.grace ≡ self.old.grace }
-        ensures log { ((base self.new.reservoir).shape ≡ (base self.old.reservoir).shape) × ((base self.new.reservoir).file ≡ (base self.old.reservoir).file) }
+        ensures log { (view_of (base self.new.reservoir) ≡ view_of (base self.old.reservoir)) × ((base self.new.reservoir).file ≡ (base self.old.reservoir).file) }
         ensures rooms { (room_of self.new.reservoir ≡ room_of self.old.reservoir) × ((cache_of self.new.reservoir).cap ≡ (cache_of self.old.reservoir).cap) × ((base self.new.reservoir).limit ≡ (base self.old.reservoir).limit) }
         ensures rows { TableKept T.tells T.faults self.old.engine.table self.new.engine.table }
         ensures reaches { self.new.ended ≡ false → ReachesEnd (log_of self.new.reservoir) (H.now host.new) }

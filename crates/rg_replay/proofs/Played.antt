@@ -17,9 +17,9 @@ use Rattle.rg_window.specs.Placed.{AreWithin}
 use Rattle.rg_engine.specs.Seen.{Seen}
 use Rattle.rg_engine.specs.declared.fault.EngineFault.{EngineFault}
 use Rattle.rg_engine.specs.declared.fault.EngineFault.TheVariants as engine
-use Rattle.rg_reservoir.specs.Chain.{IsIllegal}
+use Rattle.rg_reservoir.specs.Chain.{IsIllegalBy}
 use Rattle.rg_reservoir.specs.Going.{Goes}
-use Rattle.rg_reservoir.specs.Kept.{Base, base, opened, all_events, IsSound, Spells}
+use Rattle.rg_reservoir.specs.Kept.{Base, base, view_of, opened, all_events, IsSound, Spells}
 use Rattle.rg_reservoir.specs.declared.reservoir.Reservoir.{Reservoir}
 use Rattle.rg_replay.specs.declared.stepping.Told.{Told}
 use Rattle.rg_replay.specs.declared.fault.ReplayFault.{ReplayFault}
@@ -80,7 +80,7 @@ expected fault (inr memory) = inr (inl memory)
 
 -- the causes of a step's fault
 pub step_caused : {H : Type 0} (now : H → Option Image) (disk_faults out_faults : H → ℕ) (b : Base) (fault : EngineFault) (old new : H) → (fault ≡ engine.Past past.Disk → Rose (disk_faults old) (disk_faults new))
-    → ((p : ℕ) → fault ≡ engine.Past (past.Damaged p) → ForSome (now old) (λ v. IsIllegal b.shape.fields p (v b.file))) → IsCaused now disk_faults out_faults b (of_engine fault) old new
+    → ((p : ℕ) → fault ≡ engine.Past (past.Damaged p) → ForSome (now old) (λ v. IsIllegalBy (view_of b) p (v b.file))) → IsCaused now disk_faults out_faults b (of_engine fault) old new
 step_caused now disk_faults out_faults b fault old new disk damaged = record {
   disk = λ is. disk (disk_by fault is);
   damaged = λ p is. damaged p (damaged_by fault p is);

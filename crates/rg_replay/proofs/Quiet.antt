@@ -1,5 +1,6 @@
 -- What calls that write no file leave, one after another.
 use Rattle.std.proofs.Common.{◌≡◌, ◌∙◌, ◌≤◌, inl, inr, ℕ, List, [], Option, Some, None, refl, sym, ap, subst, arith}
+use Rattle.std.specs.Option.{ForSome}
 use Rattle.std.proofs.lemmas.List.{append-nil}
 use Rattle.rg_bytes.specs.Known.{after}
 use Rattle.rg_host.specs.Image.{Image}
@@ -7,8 +8,9 @@ use Rattle.rg_host.specs.Moments.{Moment, LeavesFiles, LeavesAll}
 use Rattle.rg_host.specs.Puts.{Puts}
 use Rattle.rg_host.proofs.Runs.{moments-weaker, leaves_files-none, leaves_files-then}
 use Rattle.rg_event.specs.Shapes.{Shape}
-use Rattle.rg_reservoir.specs.Chain.{IsIllegal}
-use Rattle.rg_reservoir.specs.Kept.{Base}
+use Rattle.rg_reservoir.specs.Attached.{HasView}
+use Rattle.rg_reservoir.specs.Chain.{IsIllegalBy}
+use Rattle.rg_reservoir.specs.Kept.{Base, view_of}
 use Rattle.rg_reservoir.specs.declared.reservoir.Reservoir.{Reservoir}
 use Rattle.rg_replay.specs.declared.fault.ReplayFault.{ReplayFault}
 use Rattle.rg_replay.specs.declared.fault.ReplayFault.TheVariants.{Disk, Damaged, SchemaDiffers, Memory, Write}
@@ -43,7 +45,7 @@ module _ {H : Type 0} (now : H → Option Image) (may : H → Image → Type 0) 
   pub caused_later : (b c : Base) (fault : ReplayFault) (old mid new : H) → c ≡ b → LeavesStore now may clock since disk_faults out_faults old mid → IsCaused now disk_faults out_faults c fault mid new → IsCaused now disk_faults out_faults b fault old new
   caused_later b c fault old mid new same first cause = record {
     disk = λ is. let rose = cause.disk is in omega (arith, first.disk, rose);
-    damaged = λ p is v told. subst (λ (x : Base). IsIllegal x.shape.fields p (v x.file)) same (cause.damaged p is v (first.leaves.now_stays ∙ told));
+    damaged = λ p is v told. subst (λ (x : Base). IsIllegalBy (view_of x) p (v x.file)) same (cause.damaged p is v (first.leaves.now_stays ∙ told));
     write = λ is. let rose = cause.write is in omega (arith, first.out, rose);
     same_schema = cause.same_schema;
   }
@@ -72,10 +74,10 @@ leaves_all now may clock since said disk_faults out_faults old new leaves disk o
 
 module _ {H : Type 0} (now : H → Option Image) (may : H → Image → Type 0) (clock : H → ℕ) (since : H → ℕ → Moment → Type 0) (disk_faults out_faults : H → ℕ) where
   -- a cause within the log that was opened
-  pub caused_opened : (b : Base) (shape : Shape) (fault : ReplayFault) (old mid new : H) → b.file ≡ 2 → b.shape ≡ shape → LeavesStore now may clock since disk_faults out_faults old mid → IsCaused now disk_faults out_faults b fault mid new → IsCausedOver now disk_faults out_faults shape fault old new
-  caused_opened b shape fault old mid new file same first cause = record {
+  pub caused_opened : (b : Base) (shape : Shape) (fault : ReplayFault) (old mid new : H) → b.file ≡ 2 → ForSome (now old) (λ v. HasView shape (view_of b) (v 2)) → LeavesStore now may clock since disk_faults out_faults old mid → IsCaused now disk_faults out_faults b fault mid new → IsCausedOver now disk_faults out_faults shape fault old new
+  caused_opened b shape fault old mid new file seen first cause = record {
     disk = λ is. let rose = cause.disk is in omega (arith, first.disk, rose);
-    damaged = λ p is. inr (λ v told. subst (λ (s : Shape). IsIllegal s.fields p (v 2)) same (subst (λ (f : ℕ). IsIllegal b.shape.fields p (v f)) file (cause.damaged p is v (first.leaves.now_stays ∙ told))));
+    damaged = λ p is. inr (λ v told. (view_of b, seen v told, subst (λ (f : ℕ). IsIllegalBy (view_of b) p (v f)) file (cause.damaged p is v (first.leaves.now_stays ∙ told))));
     write = λ is. let rose = cause.write is in omega (arith, first.out, rose);
     differs = λ is. absurd (cause.same_schema is);
   }

@@ -17,6 +17,7 @@ use Rattle.rg_engine.specs.Feeding.{IsFed}
 use Rattle.rg_engine.specs.Seen.{Seen}
 use Rattle.rg_engine.specs.Standing.{RowIs, NodeStands}
 use Rattle.rg_reservoir.specs.Kept.{base, opened, next_of, time_of, cache_of, stored, all_events, IsSound, IsRight, Spells}
+use Rattle.rg_log.proofs.Staging.{events_of_schema}
 use Rattle.rg_reservoir.specs.GoingLaws.{all_long}
 use Rattle.rg_reservoir.specs.declared.reservoir.Reservoir.{Reservoir}
 use Rattle.rg_reservoir.proofs.Seeking.{stored_is}
@@ -48,7 +49,7 @@ module _ (now : Option Image) (may : Image → Type 0) (r : Reservoir) (sound : 
   -- all events are of the schema's columns
   pub all_fit : All (IsEventOf (base r).shape.fields) (all_events now (base r) (opened r))
   all_fit =
-      let of : All (IsEventOf (base r).shape.fields) (joined right.chunks) = subst (λ (l : List Event). All (IsEventOf (base r).shape.fields) l) right.legal.2 right.legal.1.of in
+      let of : All (IsEventOf (base r).shape.fields) (joined right.chunks) = events_of_schema (base r).shape (joined right.chunks) (sound.0 (base r).file) right.legal in
       let is : stored now (base r) ≡ joined right.chunks = ap (λ (o : Option Image). stored o (base r)) sound.1 ∙ stored_is sound.0 may (base r) (opened r) (next_of r) (time_of r) (cache_of r) right in
       All-append (IsEventOf (base r).shape.fields) (stored now (base r)) (opened r) (subst (λ (l : List Event). All (IsEventOf (base r).shape.fields) l) (sym is) of) (All-from_recursion (IsEventOf (base r).shape.fields) (opened r) right.fits)
 

@@ -15,10 +15,10 @@ use Rattle.rg_host.specs.Image.{Image, NothingPending}
 use Rattle.rg_host.specs.Lines.{ended}
 use Rattle.rg_host.specs.Moments.{Moment, LeavesFiles, LeavesAll}
 use Rattle.rg_host.specs.Puts.{IsPrefix, StopsWith}
-use Rattle.rg_log.specs.Log.{schema_payload, HasEvents}
-use Rattle.rg_reservoir.specs.Attached.{IsOther, IsBadFrame}
-use Rattle.rg_reservoir.specs.Chain.{IsIllegal}
-use Rattle.rg_reservoir.specs.Kept.{Base, base, opened, all_events, IsSound, Spells}
+use Rattle.rg_log.specs.Log.{HasEvents}
+use Rattle.rg_reservoir.specs.Attached.{IsOther, IsBadFrame, IsIllegalSince}
+use Rattle.rg_reservoir.specs.Chain.{IsIllegalBy}
+use Rattle.rg_reservoir.specs.Kept.{Base, base, view_of, opened, all_events, IsSound, Spells}
 use Rattle.rg_reservoir.specs.declared.reservoir.Reservoir.{Reservoir}
 use Rattle.rg_replay.specs.declared.fault.ReplayFault.{ReplayFault}
 use Rattle.rg_replay.specs.declared.fault.ReplayFault.TheVariants.{Disk, Damaged, SchemaDiffers, Memory, Write}
@@ -54,16 +54,16 @@ pub record IsReplayable (queries : List Asked) (events : List Event) (tasks : Ta
 -- what stops a replay of a log whose events are of that base: a failed call on the file, a damaged place, a failed put
 pub record IsCaused {H : Type 0} (now : H → Option Image) (disk_faults out_faults : H → ℕ) (b : Base) (fault : ReplayFault) (old new : H) : Type 0 where
   pub disk : fault ≡ Disk → Rose (disk_faults old) (disk_faults new)
-  pub damaged : (p : ℕ) → fault ≡ Damaged p → ForSome (now old) (λ v. IsIllegal b.shape.fields p (v b.file))
+  pub damaged : (p : ℕ) → fault ≡ Damaged p → ForSome (now old) (λ v. IsIllegalBy (view_of b) p (v b.file))
   pub write : fault ≡ Write → Rose (out_faults old) (out_faults new)
   pub same_schema : fault ≡ SchemaDiffers → ⊥
 
 -- what stops a replay of any log: of another schema than that, or damaged, by its heads or within a chunk; or a failed call
 pub record IsCausedOver {H : Type 0} (now : H → Option Image) (disk_faults out_faults : H → ℕ) (shape : Shape) (fault : ReplayFault) (old new : H) : Type 0 where
   pub disk : fault ≡ Disk → Rose (disk_faults old) (disk_faults new)
-  pub damaged : (p : ℕ) → fault ≡ Damaged p → ForSome (now old) (λ v. IsBadFrame (schema_payload shape) p (v 2)) ⊎ ForSome (now old) (λ v. IsIllegal shape.fields p (v 2))
+  pub damaged : (p : ℕ) → fault ≡ Damaged p → ForSome (now old) (λ v. IsBadFrame p (v 2)) ⊎ ForSome (now old) (λ v. IsIllegalSince shape (v 2) p (v 2))
   pub write : fault ≡ Write → Rose (out_faults old) (out_faults new)
-  pub differs : fault ≡ SchemaDiffers → ForSome (now old) (λ v. IsOther (schema_payload shape) (v 2))
+  pub differs : fault ≡ SchemaDiffers → ForSome (now old) (λ v. IsOther shape (v 2))
 
 -- nothing was written or put, and what only a commit changes stays
 pub record StaysQuiet {H : Type 0} (now : H → Option Image) (may : H → Image → Type 0) (clock : H → ℕ) (since : H → ℕ → Moment → Type 0) (said : H → Option (List ℕ)) (disk_faults out_faults : H → ℕ) (r then : Reservoir) (old new : H) : Type 0 where

@@ -12,7 +12,7 @@ pub enum ReplayFault {
     Disk,
     /// The open frame at that place, in bytes, is damaged.
     Damaged(u64),
-    /// The log's first frame is another schema than the plan's.
+    /// Another schema than the plan's is in force at the log's end.
     SchemaDiffers,
     /// The rows of the node of that number don't stand for the events, which comes over a damaged log alone.
     BadState(u32),

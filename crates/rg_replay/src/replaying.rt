@@ -6,10 +6,8 @@ ghost use Rattle.rg_host.specs.Image.{Image};
 ghost use Rattle.rg_host.specs.Lines.{ended};
 ghost use Rattle.rg_host.specs.Moments.{LeavesFiles};
 ghost use Rattle.rg_host.specs.Puts.{IsPrefix, Puts, StopsWith};
-ghost use Rattle.rg_log.specs.Log.{schema_payload};
 ghost use Rattle.rg_metric.specs.Queries.{Asked};
-ghost use Rattle.rg_reservoir.specs.Attached.{IsOther, IsBadFrame};
-ghost use Rattle.rg_reservoir.specs.Chain.{IsIllegal};
+ghost use Rattle.rg_reservoir.specs.Attached.{IsOther, IsBadFrame, IsIllegalSince};
 ghost use Rattle.rg_reservoir.specs.Kept.{base, opened, all_events, IsSound};
 ghost use Rattle.rg_engine.specs.Feeding.{Serves};
 ghost use Rattle.rg_plan.specs.Plans.{plan_for};
@@ -134,7 +132,8 @@ fn replay_opened<H: Host, L: Ledger>(
 /// Puts the answers to all events of the log in file 2 again, by the queries of a plan: for each event whose
 /// offset is at least `first` the line of its offset and its answers, by the events up to and with it, and
 /// at the end the least offset of the next event and how many there are. Nothing but the log is read, and no
-/// file is written. `schema` is the plan's; a log without a frame has no event.
+/// file is written. `schema` is the plan's; a log without a frame has no event. A log that its heads show to
+/// be damaged is told as such, whatever its schema: only a whole one has a schema in force at its end.
 ///
 /// Events before `first` are answered too, since the answers behind them rest on them, and not put.
 /// Each refusal but `Write` leaves whole lines put.
@@ -159,14 +158,14 @@ pub fn replay<H: Host, L: Ledger>(
     ensures expected { (queries : List Asked) (events : List TheEvent) → IsReplayable queries events plan schema.now (H.now host.old) (H.may host.old) →
         IfErr result IsExpected }
 
-    // A log of another schema, or with a frame that its heads show to be bad, is refused before anything is put.
-    ensures refused { (v : Image) → H.now host.old ≡ Some v → IsOther (schema_payload schema.now) (v 2) ⊎ ((p : ℕ) × IsBadFrame (schema_payload schema.now) p (v 2)) →
+    // A log with a frame that heads and growths show to be bad, or of another schema, is refused before anything is put.
+    ensures refused { (v : Image) → H.now host.old ≡ Some v → IsOther schema.now (v 2) ⊎ ((p : ℕ) × IsBadFrame p (v 2)) →
         OnOk result ⊥ × Puts H.said H.clock H.since host.old host.new [] }
 
     // Each refusal but want of memory has its cause.
-    ensures differs { IsErrOf result ReplayFault.SchemaDiffers → ForSome (H.now host.old) (λ v. IsOther (schema_payload schema.now) (v 2)) }
+    ensures differs { IsErrOf result ReplayFault.SchemaDiffers → ForSome (H.now host.old) (λ v. IsOther schema.now (v 2)) }
     ensures damaged { (p : ℕ) → IsErrOf result (ReplayFault.Damaged p) →
-        ForSome (H.now host.old) (λ v. IsBadFrame (schema_payload schema.now) p (v 2)) ⊎ ForSome (H.now host.old) (λ v. IsIllegal schema.now.fields p (v 2)) }
+        ForSome (H.now host.old) (λ v. IsBadFrame p (v 2)) ⊎ ForSome (H.now host.old) (λ v. IsIllegalSince schema.now (v 2) p (v 2)) }
     ensures disk { IsErrOf result ReplayFault.Disk → Rose (H.disk_faults host.old) (H.disk_faults host.new) }
     ensures write { IsErrOf result ReplayFault.Write → Rose (H.out_faults host.old) (H.out_faults host.new) }
 
@@ -192,7 +191,7 @@ fn replay_log<H: Host, L: Ledger>(
     requires limit { room.limit ≤ 2 ^ 40 }
     ensures answered { (queries : List Asked) (events : List TheEvent) → IsReplayable queries events plan schema.now (H.now host.old) (H.may host.old) →
         Answered (replay_text queries first events) (replay_text queries first events) (Puts H.said H.clock H.since host.old host.new) ⊤ result }
-    ensures refused { (v : Image) → H.now host.old ≡ Some v → IsOther (schema_payload schema.now) (v 2) ⊎ ((p : ℕ) × IsBadFrame (schema_payload schema.now) p (v 2)) →
+    ensures refused { (v : Image) → H.now host.old ≡ Some v → IsOther schema.now (v 2) ⊎ ((p : ℕ) × IsBadFrame p (v 2)) →
         OnOk result ⊥ × Puts H.said H.clock H.since host.old host.new [] }
     ensures ends { EndsOver H.now H.may H.clock H.since H.disk_faults H.out_faults schema.now result host.old host.new }
 {

@@ -14,12 +14,6 @@ from_damaged (frame.Damaged q) p e = cc
 from_damaged frame.Memory p e = cc
 from_damaged frame.Ended p e = cc
 
-pub from_disk : (f : FrameFault) → of_frame f ≡ Disk → f ≡ frame.Disk
-from_disk frame.Disk e = refl
-from_disk (frame.Damaged q) e = cc
-from_disk frame.Memory e = cc
-from_disk frame.Ended e = cc
-
 pub never_differs : (f : FrameFault) → of_frame f ≡ SchemaDiffers → ⊥
 never_differs frame.Disk e = cc
 never_differs (frame.Damaged q) e = cc
@@ -27,11 +21,6 @@ never_differs frame.Memory e = cc
 never_differs frame.Ended e = cc
 
 -- a frame that is damaged stands at the place that was read
-pub torn_at : (f : FrameFault) (p q : ℕ) → f ≡ frame.Damaged p → (f ≡ frame.Disk) ⊎ (f ≡ frame.Damaged q) → p ≡ q
-torn_at f p q is (inl disk) = absurd (let e : frame.Damaged p ≡ frame.Disk = sym is ∙ disk in cc)
-torn_at f p q is (inr at) = let e : frame.Damaged p ≡ frame.Damaged q = sym is ∙ at in cc
-
--- the same of a read, which may want memory
 pub read_at : (f : FrameFault) (p q : ℕ) → f ≡ frame.Damaged p → (f ≡ frame.Disk) ⊎ (f ≡ frame.Memory) ⊎ (f ≡ frame.Damaged q) → p ≡ q
 read_at f p q is (inl disk) = absurd (let e : frame.Damaged p ≡ frame.Disk = sym is ∙ disk in cc)
 read_at f p q is (inr (inl memory)) = absurd (let e : frame.Damaged p ≡ frame.Memory = sym is ∙ memory in cc)
@@ -48,10 +37,6 @@ never_ended f q (inl is) e = let g : Disk ≡ Ended = sym (ap of_frame is) ∙ e
 never_ended f q (inr (inl is)) e = let g : Memory ≡ Ended = sym (ap of_frame is) ∙ e in cc
 never_ended f q (inr (inr is)) e = let g : Damaged q ≡ Ended = sym (ap of_frame is) ∙ e in cc
 
-pub of_step : (f : FrameFault) (q : ℕ) → (f ≡ frame.Disk) ⊎ (f ≡ frame.Damaged q) → (f ≡ frame.Disk) ⊎ (f ≡ frame.Memory) ⊎ (f ≡ frame.Damaged q)
-of_step f q (inl is) = inl is
-of_step f q (inr is) = inr (inr is)
-
 -- a frame that is refused stands at the place that was read
 pub refused_at : (f : ReservoirFault) (q p : ℕ) (A : Type 0) → f ≡ Damaged p → ((f ≡ Damaged q) × A) ⊎ (f ≡ Memory) → (q ≡ p) × A
 refused_at f q p A is (inl (at, why)) = let e : Damaged q ≡ Damaged p = sym at ∙ is in ((let same : q ≡ p = cc in same), why)
@@ -61,6 +46,23 @@ refused_at f q p A is (inr memory) = absurd (let e : Damaged p ≡ Memory = sym 
 pub refused_so : (f : ReservoirFault) (q : ℕ) (A : Type 0) → ((f ≡ Damaged q) × A) ⊎ (f ≡ Memory) → (f ≡ SchemaDiffers → ⊥) × (f ≡ Full → ⊥) × (f ≡ Ended → ⊥) × (f ≡ Disk → ⊥)
 refused_so f q A (inl (is, why)) = (λ e. (let g : Damaged q ≡ SchemaDiffers = sym is ∙ e in cc), λ e. (let g : Damaged q ≡ Full = sym is ∙ e in cc), λ e. (let g : Damaged q ≡ Ended = sym is ∙ e in cc), λ e. (let g : Damaged q ≡ Disk = sym is ∙ e in cc))
 refused_so f q A (inr is) = (λ e. (let g : Memory ≡ SchemaDiffers = sym is ∙ e in cc), λ e. (let g : Memory ≡ Full = sym is ∙ e in cc), λ e. (let g : Memory ≡ Ended = sym is ∙ e in cc), λ e. (let g : Memory ≡ Disk = sym is ∙ e in cc))
+
+-- the same of the next frame, at the place that the log has come to
+pub stopped_at : (f : ReservoirFault) (p q : ℕ) → f ≡ Damaged p → (f ≡ Disk) ⊎ (f ≡ Damaged q) ⊎ (f ≡ Memory) → p ≡ q
+stopped_at f p q is (inl disk) = absurd (let e : Damaged p ≡ Disk = sym is ∙ disk in cc)
+stopped_at f p q is (inr (inl at)) = let e : Damaged p ≡ Damaged q = sym is ∙ at in cc
+stopped_at f p q is (inr (inr memory)) = absurd (let e : Damaged p ≡ Memory = sym is ∙ memory in cc)
+
+-- whatever stops the reading of a log
+
+pub stop_found : (f : ReservoirFault) (q : ℕ) → (f ≡ Disk) ⊎ (f ≡ Damaged q) ⊎ (f ≡ Memory) → (f ≡ Disk) ⊎ ((p : ℕ) × (f ≡ Damaged p)) ⊎ (f ≡ Memory)
+stop_found f q (inl disk) = inl disk
+stop_found f q (inr (inl at)) = inr (inl (q, at))
+stop_found f q (inr (inr memory)) = inr (inr memory)
+
+pub stop_refused : (f : ReservoirFault) (q : ℕ) (A : Type 0) → ((f ≡ Damaged q) × A) ⊎ (f ≡ Memory) → (f ≡ Disk) ⊎ ((p : ℕ) × (f ≡ Damaged p)) ⊎ (f ≡ Memory)
+stop_refused f q A (inl (at, why)) = inr (inl (q, at))
+stop_refused f q A (inr memory) = inr (inr memory)
 
 -- which fault of a reservoir a past's fault comes from
 

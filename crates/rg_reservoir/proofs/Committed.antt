@@ -17,17 +17,21 @@ use Rattle.rg_chunk.specs.declared.head.Layout.TheVariants.{Columns}
 use Rattle.rg_chunk.proofs.Chunks.{chunk_back}
 use Rattle.rg_reservoir.specs.declared.kept.Kept.{Kept}
 use Rattle.std.proofs.lemmas.List.Elements.{All-from_recursion}
-use Rattle.rg_log.specs.Log.{joined, IsChunkOf, HasEvents, HasSchemaFrame}
-use Rattle.rg_log.proofs.Growing.{grows_log, grown_log}
-use Rattle.rg_reservoir.specs.Chain.{chunk_in, chunk_at, Chain, with_chunk, events_from, padded, IsFirst}
-use Rattle.rg_reservoir.specs.Views.{View}
+use Rattle.rg_log.specs.Log.{schema_payload, joined, IsChunkOf, HasEvents, IsInForce}
+use Rattle.rg_log.specs.Stages.{chunk}
+use Rattle.rg_log.proofs.Growing.{adds_log, added_log}
+use Rattle.rg_log.proofs.Shapes.{head_same}
+use Rattle.rg_reservoir.specs.Chain.{chunk_in, chunk_at, Chain, with_chunk, events_from, padded}
+use Rattle.rg_reservoir.specs.GrownViews.{IsViewOf, IsUngrown}
+use Rattle.rg_event.specs.Shapes.{Shape}
+use Rattle.rg_reservoir.specs.Views.{View, shape_at, passed}
 use Rattle.rg_reservoir.proofs.Listing.{log_of, last_small, grown_log as grown_end}
-use Rattle.rg_reservoir.proofs.Legal.{chunk_made}
 use Rattle.rg_reservoir.specs.Kept.{Base, view_of, stored, all_events, CommittedOrAll, IsRight, IsSoundIn, InChunk, InOpen, Spells, Adds}
 use Rattle.rg_reservoir.proofs.Chains.{chunk_at_size, joined-append, chain_push, from_chain, padded_same}
-use Rattle.rg_reservoir.proofs.Committing.{chunk_stays, chunk_behind, chain_behind, chain_stays, first_stays, LogAt, log_at, LogMore, log_more}
+use Rattle.rg_reservoir.proofs.Committing.{chunk_stays, chunk_behind, chain_stays, LogAt, log_at, LogMore, log_more}
+use Rattle.rg_reservoir.proofs.GrownViews.{end as end_of, more}
 use Rattle.rg_reservoir.proofs.Seeking.{stored_is, before_end, one_image}
-use Rattle.rg_reservoir.proofs.Viewing.{plain_is}
+use Rattle.rg_reservoir.proofs.Viewing.{chunk_by}
 
 rising_behind : (xs ys : List Event) → IsRising (xs ++ ys) → IsRising ys
 rising_behind [] ys rising = rising
@@ -42,8 +46,8 @@ stored_by v b chunks chain ends counted =
 abbrev pub grown : Base → ℕ → ℕ → Base
 grown b end count = record { shape = b.shape; growths = b.growths; file = b.file; first = b.first; end = end; ended = b.ended; committed = b.committed + count; limit = b.limit }
 
-joined_push : (chunks : List (List Event)) (chunk : List Event) → joined (chunks ++ chunk ∷ []) ≡ joined chunks ++ chunk
-joined_push chunks chunk = joined-append chunks (chunk ∷ []) ∙ ap (λ (l : List Event). joined chunks ++ l) (append-nil chunk)
+joined_push : (chunks : List (List Event)) (c : List Event) → joined (chunks ++ c ∷ []) ≡ joined chunks ++ c
+joined_push chunks c = joined-append chunks (c ∷ []) ∙ ap (λ (l : List Event). joined chunks ++ l) (append-nil c)
 
 -- what an open chunk says as a payload
 module _ (v : Image) (may : Image → Type 0) (b : Base) (opened : List Event) (next time : ℕ) (cache : Cache Kept) (right : IsRight v may b opened next time cache) (some : 1 ≤ length opened) (few : length opened ≤ 4096) where
@@ -79,8 +83,8 @@ module _ (v w : Image) (may after : Image → Type 0) (b : Base) (opened : List 
   new : LogMore right.payloads (chunk_bytes b.shape.fields opened) b.end end (w b.file)
   new = log_more right.payloads (chunk_bytes b.shape.fields opened) b.end end (w b.file) (last_small right.payloads (chunk_bytes b.shape.fields opened) (w b.file) more_payloads) (sym right.end_is) is
 
-  legal : HasSchemaFrame b.shape (w b.file) × HasEvents b.shape (joined right.chunks ++ opened) (w b.file)
-  legal = grown_log payloads_one b.shape (joined right.chunks) opened (chunk_bytes b.shape.fields opened) (v b.file) (w b.file) right.framed right.legal (is_chunk v may b opened next time cache right some few)
+  legal : IsInForce b.shape (w b.file) × HasEvents b.shape (joined right.chunks ++ opened) (w b.file)
+  legal = added_log payloads_one b.shape (joined right.chunks) opened (chunk_bytes b.shape.fields opened) (v b.file) (w b.file) right.framed right.legal (is_chunk v may b opened next time cache right some few)
       (rises v may b opened next time cache right some few) (fewer v may b opened next time cache right some few) step
 
   all_here : all_events (Some v) b opened ≡ joined right.chunks ++ opened
@@ -89,15 +93,32 @@ module _ (v w : Image) (may after : Image → Type 0) (b : Base) (opened : List 
   front : take b.end (w b.file) ≡ take b.end (v b.file)
   front = new.front ∙ sym old.front
 
+  -- no growth stands where the frames end, or behind it
+  ungrown : (place : ℕ) → b.end ≤ place → IsUngrown (view_of b) place
+  ungrown place on = end_of payloads_one (view_of b) right.stages right.payloads (v b.file) place right.view right.has (omega (arith, right.end_is, on))
+
+  -- so what is written there is seen as it is
   pub here : chunk_at (view_of b) b.end (w b.file) ≡ Some (opened, end)
-  here = subst (λ (view : View). chunk_at view b.end (w b.file) ≡ Some (opened, end)) (sym (plain_is b right.plain))
-      (chunk_made b.shape b.end (w b.file) (chunk_bytes b.shape.fields opened) opened end new.here (said v may b opened next time cache right some few) new.next_is)
+  here =
+      let bytes = chunk_bytes b.shape.fields opened in
+      let last = ungrown b.end (omega arith) in
+      let says : chunk_of (shape_at (view_of b) b.end).fields bytes ≡ Some opened = ap (λ (s : Shape). chunk_of s.fields bytes) last.schema ∙ said v may b opened next time cache right some few in
+      let behind : passed b.growths (b.end + 9 + length bytes) ≡ end = (ungrown (b.end + 9 + length bytes) (omega arith)).stays ∙ sym new.next_is in
+      chunk_by (view_of b) b.end (w b.file) bytes opened new.here says
+      ∙ ap (λ (l : List Event). Some (l, passed b.growths (b.end + 9 + length bytes))) (last.events opened) ∙ ap (λ (n : ℕ). Some (opened, n)) behind
+
+  -- and the view stays
+  pub view : IsViewOf (view_of b) (right.stages ++ chunk opened ∷ []) (w b.file)
+  view = more payloads_one (view_of b) right.stages (chunk opened) right.payloads (chunk_bytes b.shape.fields opened) (v b.file) (w b.file) right.view right.has (is_chunk v may b opened next time cache right some few) step
+
+  first_is : b.first ≡ passed b.growths (9 + length (schema_payload view.begun))
+  first_is =
+      let was = right.view in
+      let lists = payloads_one (schema_payload was.begun ∷ (was.payloads ++ chunk_bytes b.shape.fields opened ∷ [])) (schema_payload view.begun ∷ view.payloads) (w b.file) (step (schema_payload was.begun ∷ was.payloads) was.has) view.has in
+      right.first_is ∙ ap (λ (p : List ℕ). passed b.growths (9 + length p)) (head_same (schema_payload was.begun) (schema_payload view.begun) (was.payloads ++ chunk_bytes b.shape.fields opened ∷ []) view.payloads lists)
 
   pub chain : Chain (view_of b) (w b.file) b.first right.chunks b.end
   chain = chain_stays (view_of b) (v b.file) (w b.file) b.first b.end right.chunks b.end front (λ _. new.more) (omega arith) right.chain
-
-  pub schema : IsFirst b.shape b.first (w b.file)
-  schema = first_stays b.shape b.first b.end (v b.file) (w b.file) front (chain_behind (view_of b) (v b.file) b.first right.chunks b.end right.chain) (λ _. new.more) right.schema
 
   pub longer : Chain (view_of b) (w b.file) b.first (right.chunks ++ opened ∷ []) end
   longer = chain_push (view_of b) (w b.file) b.first right.chunks b.end opened end chain here
@@ -122,14 +143,15 @@ module _ (v w : Image) (may after : Image → Type 0) (b : Base) (opened : List 
     each = λ u left. (
       all_events (Some v) b opened,
       subst (λ (bytes : List ℕ). HasEvents b.shape (all_events (Some v) b opened) bytes) (sym (settled u left)) (subst (λ (l : List Event). HasEvents b.shape l (w b.file)) (sym all_here) legal.1),
-      subst (λ (bytes : List ℕ). HasSchemaFrame b.shape bytes) (sym (settled u left)) legal.0,
+      subst (λ (bytes : List ℕ). IsInForce b.shape bytes) (sym (settled u left)) legal.0,
       ([], sym stored_new ∙ sym (append-nil _)),
       ([], all_new ∙ sym (append-nil _)),
     );
     right = λ going. record {
       settled = settled;
-      plain = right.plain;
-      schema = schema;
+      stages = right.stages ++ chunk opened ∷ [];
+      view = view;
+      first_is = first_is;
       chunks = right.chunks ++ opened ∷ [];
       chain = longer;
       ends = closed;
@@ -154,18 +176,22 @@ module _ (v w : Image) (may after : Image → Type 0) (b : Base) (opened : List 
 
   -- a spelled spot stays spelled
   pub spells_on : (now then : Option Image) (s : Spot) → now ≡ Some v → then ≡ Some w → Spells now b opened s → Spells then (grown b end (length opened)) [] s
-  spells_on now then s told new_told spells = record { image = w; told = new_told; number = omega (arith, spells.number); spelling = inl (omega (arith, spells.number), by spells.spelling) }
+  spells_on now then s told new_told spells = record {
+    there = record { image = w; told = new_told; number = omega (arith, spells.there.number); spelling = inl (omega (arith, spells.there.number), by spells.there.spelling); at = spells.there.at };
+    at = spells.at;
+  }
     where
-      by : ((s.number ≤ b.committed) × InChunk b (spells.image b.file) s.place s.index s.number) ⊎ InOpen b s.place s.index s.number → InChunk (grown b end (length opened)) (w b.file) s.place s.index s.number
+      by : ((s.number ≤ b.committed) × InChunk b (spells.there.image b.file) (passed b.growths s.place) s.index s.number) ⊎ InOpen b (passed b.growths s.place) s.index s.number → InChunk (grown b end (length opened)) (w b.file) (passed b.growths s.place) s.index s.number
       by (inl i0) =
-          let i = subst (λ (u : Image). InChunk b (u b.file) s.place s.index s.number) (one_image now spells.image v spells.told told) i0.1 in
-          let le = before_end v may b opened next time cache right s.place s.index s.number i in
+          let place = passed b.growths s.place in
+          let i = subst (λ (u : Image). InChunk b (u b.file) place s.index s.number) (one_image now spells.there.image v spells.there.told told) i0.1 in
+          let le = before_end v may b opened next time cache right place s.index s.number i in
           record {
             chunks = i.chunks;
             chunk = i.chunk;
             next = i.next;
-            chain = chain_stays (view_of b) (v b.file) (w b.file) b.first b.end i.chunks s.place front (λ _. new.more) (omega (arith, le, chunk_behind (view_of b) s.place (v b.file) i.chunk i.next i.here)) i.chain;
-            here = chunk_stays (view_of b) s.place b.end (v b.file) (w b.file) i.chunk i.next front i.here le new.more;
+            chain = chain_stays (view_of b) (v b.file) (w b.file) b.first b.end i.chunks place front (λ _. new.more) (omega (arith, le, chunk_behind (view_of b) place (v b.file) i.chunk i.next i.here)) i.chain;
+            here = chunk_stays (view_of b) place b.end (v b.file) (w b.file) i.chunk i.next front i.here le new.more;
             number_is = i.number_is;
             most = i.most;
           }
@@ -176,7 +202,7 @@ module _ (v w : Image) (may after : Image → Type 0) (b : Base) (opened : List 
         chain = subst (λ (p : ℕ). Chain (view_of b) (w b.file) b.first right.chunks p) (sym o.place_is) chain;
         here = subst (λ (p : ℕ). chunk_at (view_of b) p (w b.file) ≡ Some (opened, end)) (sym o.place_is) here;
         number_is = omega (arith, o.number_is, right.counted);
-        most = omega (arith, o.number_is, spells.number);
+        most = omega (arith, o.number_is, spells.there.number);
       }
 
 pub grown_is : (b : Base) (file end committed count : ℕ) (ended : Bool) → file ≡ b.file → ended ≡ b.ended → committed ≡ b.committed + count
@@ -195,14 +221,14 @@ module _ (v : Image) (may : Image → Type 0) (b : Base) (opened : List Event) (
   ends_at = (right.payloads, log_of right.payloads b.end (v b.file) right.has right.end_is)
 
   -- the log as it is, in an image that might be left
-  pub same_events : (u : List ℕ) → u ≡ v b.file → HasSchemaFrame b.shape u × HasEvents b.shape (joined right.chunks) u
-  same_events u same = (subst (λ (bytes : List ℕ). HasSchemaFrame b.shape bytes) (sym same) right.framed, subst (λ (bytes : List ℕ). HasEvents b.shape (joined right.chunks) bytes) (sym same) right.legal)
+  pub same_events : (u : List ℕ) → u ≡ v b.file → IsInForce b.shape u × HasEvents b.shape (joined right.chunks) u
+  same_events u same = (subst (λ (bytes : List ℕ). IsInForce b.shape bytes) (sym same) right.framed, subst (λ (bytes : List ℕ). HasEvents b.shape (joined right.chunks) bytes) (sym same) right.legal)
 
   -- within the append, and after it
-  pub adds_events : (u : List ℕ) → length opened ≤ 4096 → Adds b.shape.fields opened (v b.file) u → HasSchemaFrame b.shape u × (HasEvents b.shape (joined right.chunks) u ⊎ HasEvents b.shape (joined right.chunks ++ opened) u)
+  pub adds_events : (u : List ℕ) → length opened ≤ 4096 → Adds b.shape.fields opened (v b.file) u → IsInForce b.shape u × (HasEvents b.shape (joined right.chunks) u ⊎ HasEvents b.shape (joined right.chunks ++ opened) u)
   adds_events u few (inl same) = let e = same_events u same in (e.0, inl e.1)
   adds_events u few (inr (some, grows)) =
-      grows_log payloads_one b.shape (joined right.chunks) opened (chunk_bytes b.shape.fields opened) (v b.file) u right.framed right.legal (is_chunk v may b opened next time cache right some few)
+      adds_log payloads_one b.shape (joined right.chunks) opened (chunk_bytes b.shape.fields opened) (v b.file) u right.framed right.legal (is_chunk v may b opened next time cache right some few)
       (rises v may b opened next time cache right some few) (fewer v may b opened next time cache right some few) grows
 
   pub left_adds : (now : Option Image) → now ≡ Some v → (u : Image) → Leaves b.file (From b.end (Adds b.shape.fields opened)) now may u → Adds b.shape.fields opened (v b.file) (u b.file)

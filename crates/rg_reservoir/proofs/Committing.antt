@@ -10,9 +10,7 @@ use Rattle.rg_frame.specs.Frames.{body, frames, Ends, IsLog, size_in, payload_in
 use Rattle.rg_frame.specs.Looks.{IsClosed}
 use Rattle.rg_frame.proofs.FrameLaws.{frames-push}
 use Rattle.rg_frame.proofs.Payloads.{holds_payload}
-use Rattle.rg_event.specs.Shapes.{Shape}
-use Rattle.rg_log.specs.Log.{schema_payload}
-use Rattle.rg_reservoir.specs.Chain.{chunk_in, chunk_at, Chain, IsFirst}
+use Rattle.rg_reservoir.specs.Chain.{chunk_in, chunk_at, Chain}
 use Rattle.rg_reservoir.specs.Views.{View}
 use Rattle.rg_reservoir.proofs.Chains.{some_none}
 use Rattle.rg_reservoir.proofs.Viewing.{parts, passed_behind}
@@ -132,9 +130,3 @@ log_more payloads p end next bytes small ends log =
       next_is = size;
       more = omega (arith, ap length is, length-append (frames payloads) (1 ∷ (body p ++ log.rest)), ends);
     }
-
-pub first_stays : (shape : Shape) (first end : ℕ) (old new : List ℕ) → take end new ≡ take end old → first ≤ end → (0 < end → end < length new) → IsFirst shape first old → IsFirst shape first new
-first_stays shape first end old new same le more was = record {
-  here = payload_stays 0 end old new (schema_payload shape) same was.here (omega (arith, le, was.ends)) (more (omega (arith, le, was.ends)));
-  ends = was.ends;
-}

@@ -6,11 +6,10 @@ use Rattle.rg_frame.specs.Frames.{body, payload_at}
 use Rattle.rg_frame.specs.Looks.{IsTorn, IsClosed, HoldsFrame}
 use Rattle.rg_frame.proofs.Payloads.{holds_payload, torn_payload, closed_payload}
 use Rattle.rg_chunk.specs.Chunks.{chunk_of}
-use Rattle.rg_reservoir.specs.Chain.{chunk_in, chunk_at, IsIllegal}
-use Rattle.rg_reservoir.specs.Kept.{Base, view_of}
+use Rattle.rg_reservoir.specs.Chain.{chunk_in, chunk_at, IsIllegal, IsIllegalBy}
 use Rattle.rg_reservoir.specs.Views.{View, shape_at, grown_at, passed}
 use Rattle.rg_reservoir.proofs.Chains.{some_none}
-use Rattle.rg_reservoir.proofs.Viewing.{parts, plain_fields}
+use Rattle.rg_reservoir.proofs.Viewing.{parts}
 
 abbrev with_next : ℕ → Option (List Event) → Option (List Event × ℕ)
 with_next next said = option_map (λ (events : List Event). (events, next)) said
@@ -39,7 +38,7 @@ not_grown view place (Some events) none = absurd cc
 
 pub fetch_bad :
     (view : View) (place next : ℕ) (payload bytes : List ℕ) → HoldsFrame place payload bytes → next < 2 ^ 62 → next ≡ place + 9 + length payload → option_map (grown_at view.growths place) (chunk_of (shape_at view place).fields payload) ≡ None
-    → IsIllegal (shape_at view place).fields place bytes
+    → IsIllegalBy view place bytes
 fetch_bad view place next payload bytes holds small is said = record {
   rest = body payload ++ holds.rest;
   is = holds.is;
@@ -49,19 +48,15 @@ fetch_bad view place next payload bytes holds small is said = record {
 
 -- at a place where a chunk stands, and at one without an open gate, nothing is illegal
 
-pub chunk_legal : (view : View) (place next : ℕ) (chunk : List Event) (bytes : List ℕ) → chunk_at view place bytes ≡ Some (chunk, next) → IsIllegal (shape_at view place).fields place bytes → ⊥
+pub chunk_legal : (view : View) (place next : ℕ) (chunk : List Event) (bytes : List ℕ) → chunk_at view place bytes ≡ Some (chunk, next) → IsIllegalBy view place bytes → ⊥
 chunk_legal view place next chunk bytes here bad =
     let k = parts view place (payload_at place bytes) chunk next here in
     some_none (option_and_then (chunk_of (shape_at view place).fields) (payload_at place bytes)) k.events (ap (option_and_then (chunk_of (shape_at view place).fields)) k.here ∙ k.says) bad.none
-
--- so too where there is no growth, by the one schema
-pub plain_legal : (b : Base) (place next : ℕ) (chunk : List Event) (bytes : List ℕ) → b.growths ≡ [] → chunk_at (view_of b) place bytes ≡ Some (chunk, next) → IsIllegal b.shape.fields place bytes → ⊥
-plain_legal b place next chunk bytes none here bad = chunk_legal (view_of b) place next chunk bytes here (subst (λ (fields : List Field). IsIllegal fields place bytes) (sym (plain_fields b place none)) bad)
 
 pub closed_legal : (fields : List Field) (place : ℕ) (bytes : List ℕ) → IsClosed place bytes → IsIllegal fields place bytes → ⊥
 closed_legal fields place bytes (inl short) bad = omega (arith, short, bad.longer)
 closed_legal fields place bytes (inr other) bad = other (ap (λ (l : List ℕ). slice_index l 0) bad.is)
 
 -- a place where a chunk stands isn't damaged
-pub never_illegal : (view : View) (place next p : ℕ) (chunk : List Event) (bytes : List ℕ) → chunk_at view place bytes ≡ Some (chunk, next) → p ≡ place → IsIllegal (shape_at view p).fields p bytes → ⊥
-never_illegal view place next p chunk bytes here at bad = chunk_legal view place next chunk bytes here (subst (λ (q : ℕ). IsIllegal (shape_at view q).fields q bytes) at bad)
+pub never_illegal : (view : View) (place next p : ℕ) (chunk : List Event) (bytes : List ℕ) → chunk_at view place bytes ≡ Some (chunk, next) → p ≡ place → IsIllegalBy view p bytes → ⊥
+never_illegal view place next p chunk bytes here at bad = chunk_legal view place next chunk bytes here (subst (λ (q : ℕ). IsIllegalBy view q bytes) at bad)

@@ -1,62 +1,30 @@
 -- The first frame of a log, and what is left of the log where it is written.
-use Rattle.std.proofs.Common.{◌≡◌, ◌≢◌, ◌∙◌, inl, inr, ℕ, ◌+◌, ◌^◌, ◌≤◌, ◌<◌, List, [], ◌∷◌, length, Option, Some, None, refl, sym, ap, subst, arith}
+use Rattle.std.proofs.Common.{◌≡◌, ◌∙◌, inl, inr, ℕ, ◌^◌, ◌≤◌, List, [], ◌∷◌, Option, Some, None, option_and_then, refl, sym, ap, subst, arith}
 use Rattle.std.specs.Option.{ForSome}
 use Rattle.rg_host.specs.Image.{Image, Becomes}
 use Rattle.rg_host.proofs.Runs.{moments_then, moments-weaker, leaves_all-settled}
 use Rattle.rg_event.specs.Shapes.{Shape, IsSchema}
-use Rattle.rg_frame.specs.Frames.{Begins, IsLog, payload_at}
+use Rattle.rg_frame.specs.Frames.{IsLog, payload_at}
 use Rattle.rg_host.specs.Moments.{Moment, LeavesAll}
-use Rattle.rg_frame.specs.Looks.{HoldsFrame, IsTorn, IsClosed, Next}
 use Rattle.rg_frame.specs.Calls.{Writes}
 use Rattle.rg_frame.specs.Steps.{Leaves, From, Grows}
-use Rattle.rg_frame.proofs.Payloads.{holds_payload, torn_payload, closed_payload}
+use Rattle.rg_frame.proofs.FrameLaws.{length-frames}
+use Rattle.rg_log.specs.declared.entry.LogSoFar.{LogSoFar}
+use Rattle.rg_log.specs.declared.summary.LogSummary.{LogSummary}
+use Rattle.rg_log.specs.Entries.{nothing, unread, behind, entries_after}
 use Rattle.rg_log.specs.Log.{schema_payload}
-use Rattle.rg_reservoir.specs.Heads.{IsOpenGate, nothing, Passed}
-use Rattle.rg_reservoir.specs.Attached.{IsNoSchema, IsOther, SchemaAdded, IsOpened}
+use Rattle.rg_log.proofs.Entries.{behind_is, first as first_step}
+use Rattle.rg_reservoir.specs.Attached.{SchemaAdded, IsOpened, HasView}
+use Rattle.rg_reservoir.specs.HeadsRead.{IsReadLog}
+use Rattle.rg_reservoir.specs.Views.{seen_from, plain}
+use Rattle.rg_reservoir.specs.declared.growing.Growing.{Growing}
+use Rattle.rg_reservoir.specs.declared.heads.ReadLog.{ReadLog}
 use Rattle.rg_reservoir.proofs.Chains.{some_none}
-use Rattle.rg_reservoir.proofs.Heading.{begins_more, passed_start}
-use Rattle.rg_reservoir.proofs.Committing.{log_behind, log_more}
-use Rattle.rg_reservoir.proofs.Listing.{listed, payload_small}
-
-pub begins_none : (bytes : List ℕ) → Begins [] 0 bytes
-begins_none bytes = record { rest = bytes; ends = refl; is = refl; goes = inl refl }
-
--- a first frame stands there
-pub record FirstAt (next : ℕ) (bytes : List ℕ) : Type 0 where
-  pub payload : List ℕ
-  pub here : payload_at 0 bytes ≡ Some payload
-  pub next_is : next ≡ 9 + length payload
-  pub gate : IsOpenGate 0 bytes
-  pub begins : Begins (payload ∷ []) next bytes
-
-pub first_at : (size next : ℕ) (front bytes : List ℕ) → next ≤ 2 ^ 62 → Next [] size front next bytes → FirstAt next bytes
-first_at size next front bytes most found =
-    let m = begins_more [] found.payload 0 next bytes refl most found.begins in
-    record { payload = found.payload; here = m.0; next_is = omega (arith, m.1); gate = m.2; begins = found.begins }
+use Rattle.rg_reservoir.proofs.Gathering.{growths_begun}
+use Rattle.rg_reservoir.proofs.Listing.{listed}
 
 pub one_payload : (place : ℕ) (p q bytes : List ℕ) → payload_at place bytes ≡ Some p → payload_at place bytes ≡ Some q → p ≡ q
 one_payload place p q bytes a b = let g : Some p ≡ Some q = sym a ∙ b in cc
-
-pub torn_first : (bytes : List ℕ) → IsTorn 0 bytes → IsNoSchema bytes
-torn_first bytes torn = record { gate = record { rest = torn.rest; is = torn.is; longer = torn.longer }; none = λ shape legal here. some_none _ _ here (torn_payload 0 bytes torn) }
-
-pub read_first : (next more : ℕ) (out bytes : List ℕ) → HoldsFrame 0 out bytes → more < 2 ^ 62 → more ≡ 0 + 9 + length out → payload_at 0 bytes ≡ Some out
-read_first next more out bytes holds small is = holds_payload 0 out bytes holds (omega (arith, small, is))
-
-pub first_ours : (next : ℕ) (out ours bytes : List ℕ) → FirstAt next bytes → payload_at 0 bytes ≡ Some out → out ≡ ours → (payload_at 0 bytes ≡ Some ours) × (next ≡ 9 + length ours) × ((payloads : List (List ℕ)) × Begins payloads next bytes)
-first_ours next out ours bytes f here same =
-    let e : f.payload ≡ ours = one_payload 0 f.payload out bytes f.here here ∙ same in
-    (f.here ∙ ap (λ (l : List ℕ). Some l) e, f.next_is ∙ ap (λ (l : List ℕ). 9 + length l) e, (f.payload ∷ [], f.begins))
-
-pub first_other : (out ours bytes : List ℕ) (shape : Shape) → payload_at 0 bytes ≡ Some out → out ≢ ours → IsSchema shape → out ≡ schema_payload shape → IsOther ours bytes
-first_other out ours bytes shape here differs legal is = record { shape = shape; legal = legal; here = here ∙ ap (λ (l : List ℕ). Some l) is; other = λ e. differs (is ∙ e) }
-
-pub first_none : (next : ℕ) (out bytes : List ℕ) → FirstAt next bytes → payload_at 0 bytes ≡ Some out → ((shape : Shape) → IsSchema shape → out ≡ schema_payload shape → ⊥) → IsNoSchema bytes
-first_none next out bytes f here none = record { gate = f.gate; none = λ shape legal is. none shape legal (one_payload 0 out (schema_payload shape) bytes here is) }
-
--- a frame that was found doesn't go
-pub closed_first : (next : ℕ) (bytes : List ℕ) → FirstAt next bytes → IsClosed 0 bytes → IsNoSchema bytes
-closed_first next bytes f closed = absurd (some_none _ _ f.here (closed_payload 0 bytes closed))
 
 module _ {H : Type 0} (now : H → Option Image) (may : H → Image → Type 0) (clock : H → ℕ) (since : H → ℕ → Moment → Type 0) (said : H → Option (List ℕ)) (ours : List ℕ) where
   left_same : (old : H) (v : Image) → may old v → Leaves 2 (SchemaAdded ours) (now old) (may old) v
@@ -96,15 +64,33 @@ becomes_back {T} (Some x) b R y p is =
     (x, refl, subst (λ (z : T). R x z) same t.2)
 
 -- a log of the first frame alone
-pub opened_new : (ours : List ℕ) (first end : ℕ) (bytes : List ℕ) → end ≤ 2 ^ 62 → first ≡ end → IsLog (ours ∷ []) end bytes → IsOpened ours first end nothing bytes
-opened_new ours first end bytes most is log =
-    let one = log_more [] ours 0 end bytes (payload_small [] ours end bytes log most) refl log in
-    let begins : Begins (ours ∷ []) end bytes = record { rest = log.rest; ends = log.ends; is = log.is; goes = inr (log_behind (ours ∷ []) log.rest log.stops (omega (arith, log.ends, one.next_is))) } in
-    record {
-      here = one.here;
-      ends = omega (arith, is, one.next_is);
-      passed = subst (λ (n : ℕ). Passed bytes n end nothing) (sym is) (passed_start bytes end (ours ∷ []) begins);
-      payloads = ours ∷ [];
-      log = log;
-      has = listed (ours ∷ []) end bytes log most;
-    }
+pub opened_new : (shape : Shape) (first end : ℕ) (bytes : List ℕ) → IsSchema shape → end ≤ 2 ^ 62 → first ≡ end → IsLog (schema_payload shape ∷ []) end bytes → IsOpened (plain shape) first end nothing bytes
+opened_new shape first end bytes legal most is log = record {
+  start = schema_payload shape;
+  payloads = [];
+  log = log;
+  has = listed (schema_payload shape ∷ []) end bytes log most;
+  say = ap (option_and_then (λ (next : LogSoFar). entries_after next [])) (first_step shape legal);
+  growths = sym (growths_begun shape [] [] legal tt);
+  first_is = omega (arith, is, log.ends, length-frames (schema_payload shape) []);
+}
+
+-- a log that was read, where that schema is in force at its end
+
+ours : (shape : Shape) (so_far : LogSoFar) (payloads : List (List ℕ)) → so_far.schema ≡ Some shape → entries_after unread payloads ≡ Some so_far → entries_after unread payloads ≡ Some (behind shape so_far.summary)
+ours shape so_far payloads known say = say ∙ ap (λ (s : LogSoFar). Some s) (behind_is so_far shape known)
+
+pub read_opened : (shape : Shape) (read : ReadLog) (end : ℕ) (bytes : List ℕ) → read.so_far.schema ≡ Some shape → IsReadLog read end bytes → IsOpened (seen_from shape read.growths) read.first end read.so_far.summary bytes
+read_opened shape read end bytes known r = record {
+  start = r.start;
+  payloads = r.payloads;
+  log = r.log;
+  has = r.has;
+  say = ours shape read.so_far (r.start ∷ r.payloads) known r.say;
+  growths = r.growths;
+  first_is = r.first_is;
+}
+
+-- the view that the frames of a log give that was opened
+pub opened_view : (shape : Shape) (growths : List Growing) (first end : ℕ) (tally : LogSummary) (bytes : List ℕ) → IsOpened (seen_from shape growths) first end tally bytes → HasView shape (seen_from shape growths) bytes
+opened_view shape growths first end tally bytes o = inr (o.start ∷ o.payloads, tally, o.has, o.say, ap (seen_from shape) o.growths)

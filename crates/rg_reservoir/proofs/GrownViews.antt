@@ -11,10 +11,11 @@ use Rattle.rg_frame.proofs.FrameLaws.{length-frames, length-frames-push}
 use Rattle.rg_frame.proofs.Payloads.{payload_between, payload_none}
 use Rattle.rg_chunk.specs.Chunks.{chunk_of}
 use Rattle.rg_chunk.specs.Extended.{all_extended}
-use Rattle.rg_log.specs.Log.{schema_payload, joined, IsLegalLog}
-use Rattle.rg_log.specs.Stages.{Stage, chunk, growth, shape_after, in_force, IsStage, AreStages, values_of, logged, plain as plain_stages, HasStages, IsGrownLog, HasFrame}
+use Rattle.rg_log.specs.Log.{schema_payload, joined, IsLegalLog, HasFrame}
+use Rattle.rg_log.specs.Plain.{IsPlainLog}
+use Rattle.rg_log.specs.Stages.{Stage, chunk, growth, shape_after, in_force, IsStage, AreStages, values_of, logged, plain as plain_stages, HasStages}
 use Rattle.rg_log.proofs.Extending.{extended-none, extended-twice}
-use Rattle.rg_log.proofs.Growing.{one_shape}
+use Rattle.rg_log.proofs.Shapes.{one_shape}
 use Rattle.rg_log.proofs.Plain.{as_before}
 use Rattle.rg_reservoir.specs.Chain.{chunk_in, chunk_at, Chain, events_from}
 use Rattle.rg_reservoir.specs.GrownViews.{growing_at, growths_from, grown_view, IsViewOf, IsReadThrough, IsUngrown, view_after}
@@ -23,15 +24,15 @@ use Rattle.rg_reservoir.specs.declared.growing.Growing.{Growing}
 use Rattle.rg_reservoir.proofs.Chains.{one_chunk, some_none, from_chain}
 
 -- of all growths, these tell what is seen from that place on
-record Tells (growths rest : List Growing) (place : ℕ) : Type 0 where
+pub record Tells (growths rest : List Growing) (place : ℕ) : Type 0 where
   pub before_is : (q : ℕ) → place ≤ q → before growths q ≡ before rest q
   pub grown_is : (q : ℕ) (events : List Event) → place ≤ q → grown_at growths q events ≡ grown_at rest q events
   pub passed_is : (q : ℕ) → place ≤ q → passed growths q ≡ passed rest q
 
-tells_all : (growths : List Growing) (place : ℕ) → Tells growths growths place
+pub tells_all : (growths : List Growing) (place : ℕ) → Tells growths growths place
 tells_all growths place = record { before_is = λ q le. refl; grown_is = λ q events le. refl; passed_is = λ q le. refl }
 
-tells_later : (growths rest : List Growing) (place next : ℕ) → place ≤ next → Tells growths rest place → Tells growths rest next
+pub tells_later : (growths rest : List Growing) (place next : ℕ) → place ≤ next → Tells growths rest place → Tells growths rest next
 tells_later growths rest place next le t = record {
   before_is = λ q on. t.before_is q (omega (arith, le, on));
   grown_is = λ q events on. t.grown_is q events (omega (arith, le, on));
@@ -39,7 +40,7 @@ tells_later growths rest place next le t = record {
 }
 
 -- behind one of them the others do
-tells_behind : (growths : List Growing) (g : Growing) (rest : List Growing) (place next : ℕ) → g.place < next → place ≤ next → Tells growths (g ∷ rest) place → Tells growths rest next
+pub tells_behind : (growths : List Growing) (g : Growing) (rest : List Growing) (place next : ℕ) → g.place < next → place ≤ next → Tells growths (g ∷ rest) place → Tells growths rest next
 tells_behind growths g rest place next lt le t = record {
   before_is = λ q on. t.before_is q (omega (arith, le, on)) ∙ ap (λ (b : Bool). if b then Some g.from else before rest q) (lt-leb q g.place (omega (arith, lt, on)));
   grown_is = λ q events on. t.grown_is q events (omega (arith, le, on)) ∙ ap (λ (b : Bool). grown_at rest q (if b then all_extended g.values events else events)) (lt-leb q g.place (omega (arith, lt, on)));
@@ -48,7 +49,7 @@ tells_behind growths g rest place next lt le t = record {
 
 -- No growth stands in front of the first stage's frame. There the first schema is in force, and the values of all growths come behind those of an event.
 
-passed-front : (place : ℕ) (shape : Shape) (payloads : List (List ℕ)) (stages : List Stage) (q : ℕ) → q < place → passed (growths_from place shape payloads stages) q ≡ q
+pub passed-front : (place : ℕ) (shape : Shape) (payloads : List (List ℕ)) (stages : List Stage) (q : ℕ) → q < place → passed (growths_from place shape payloads stages) q ≡ q
 passed-front place shape [] stages q lt = refl
 passed-front place shape (p ∷ payloads) [] q lt = refl
 passed-front place shape (p ∷ payloads) (chunk events ∷ stages) q lt = passed-front (place + 9 + length p) shape payloads stages q (omega (arith, lt))
@@ -56,7 +57,7 @@ passed-front place shape (p ∷ payloads) (growth grown ∷ stages) q lt =
     ap (λ (b : Bool). passed (growths_from (place + 9 + length p) grown.to payloads stages) (if b then place + 9 + length p else q)) (ne_eqb place q (λ e. omega (arith, e, lt)))
     ∙ passed-front (place + 9 + length p) grown.to payloads stages q (omega (arith, lt))
 
-shape-front : (place : ℕ) (shape : Shape) (payloads : List (List ℕ)) (stages : List Stage) (q : ℕ) → AreStages shape payloads stages → q ≤ place → unwrap_or (before (growths_from place shape payloads stages) q) (in_force shape stages) ≡ shape
+pub shape-front : (place : ℕ) (shape : Shape) (payloads : List (List ℕ)) (stages : List Stage) (q : ℕ) → AreStages shape payloads stages → q ≤ place → unwrap_or (before (growths_from place shape payloads stages) q) (in_force shape stages) ≡ shape
 shape-front place shape [] [] q are le = refl
 shape-front place shape [] (stage ∷ stages) q are le = absurd are
 shape-front place shape (p ∷ payloads) [] q are le = absurd are
@@ -213,7 +214,7 @@ no_growths place shape (p ∷ payloads) (c ∷ chunks) = no_growths (place + 9 +
 -- from here on, a file has one frame list
 module _ (unique : (a b : List (List ℕ)) (bytes : List ℕ) → HasPayloads a bytes → HasPayloads b bytes → a ≡ b) where
   -- a grown log with a frame gives a view, that of its last schema
-  pub gives : (shape : Shape) (stages : List Stage) (bytes : List ℕ) → HasFrame bytes → IsGrownLog shape stages bytes → (view : View) × IsViewOf view stages bytes × (view.shape ≡ shape)
+  pub gives : (shape : Shape) (stages : List Stage) (bytes : List ℕ) → HasFrame bytes → IsLegalLog shape stages bytes → (view : View) × IsViewOf view stages bytes × (view.shape ≡ shape)
   gives shape stages bytes frame log =
       let has : HasStages shape (frame.0 ∷ frame.1) stages = subst (λ (l : List (List ℕ)). HasStages shape l stages) (unique log.payloads (frame.0 ∷ frame.1) bytes log.has frame.2) log.log in (
         grown_view has.0 frame.1 stages,
@@ -290,7 +291,7 @@ module _ (unique : (a b : List (List ℕ)) (bytes : List ℕ) → HasPayloads a 
       }
 
   -- the view of a log without a growth
-  pub ungrown : (shape : Shape) (chunks : List (List Event)) (bytes : List ℕ) → HasFrame bytes → IsLegalLog shape chunks bytes → IsViewOf (plain shape) (plain_stages chunks) bytes
+  pub ungrown : (shape : Shape) (chunks : List (List Event)) (bytes : List ℕ) → HasFrame bytes → IsPlainLog shape chunks bytes → IsViewOf (plain shape) (plain_stages chunks) bytes
   ungrown shape chunks bytes frame log =
       let g = gives shape (plain_stages chunks) bytes frame ((as_before shape chunks bytes).0 log) in
       let v = g.1 in

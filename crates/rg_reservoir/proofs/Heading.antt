@@ -1,20 +1,24 @@
--- The next head of a log.
-use Rattle.std.proofs.Common.{◌≡◌, ◌∙◌, ◌⊎◌, inl, inr, ℕ, ◌+◌, ◌^◌, ◌≤◌, ◌<◌, min, nat_le, Bool, true, false, List, [], ◌∷◌, ◌++◌, length, take, drop, Option, Some, None, refl, sym, ap, subst, arith, append_assoc, length-append}
+-- The frames of a log, found and judged one after another.
+use Rattle.std.proofs.Common.{◌≡◌, ◌∙◌, ◌⊎◌, inl, inr, ℕ, ◌+◌, ◌^◌, ◌≤◌, ◌<◌, min, nat_le, Bool, true, false, List, [], ◌∷◌, ◌++◌, length, take, drop, Option, Some, option_and_then, refl, sym, ap, subst, arith, append_assoc, length-append}
 use Rattle.std.proofs.lemmas.Bool.Decides.{nat_tests}
 use Rattle.std.proofs.lemmas.List.{drop_at, take_all, take-take}
+use Rattle.std.proofs.lemmas.List.Elements.{All-nil}
 use Rattle.std.specs.Int.{to_be_bytes, w64}
-use Rattle.rg_frame.specs.Frames.{frames, body, Begins, IsLog, payload_at}
-use Rattle.rg_frame.specs.Looks.{IsTorn, Next}
+use Rattle.rg_event.specs.Shapes.{Shape}
+use Rattle.rg_frame.specs.Frames.{frames, body, FitsFrame, Begins, IsLog, payload_at}
+use Rattle.rg_frame.specs.Looks.{HoldsFrame, IsTorn, Next}
 use Rattle.rg_frame.proofs.FrameLaws.{frames-push}
+use Rattle.rg_frame.proofs.FrameLists.{fits_push}
 use Rattle.rg_frame.proofs.Payloads.{holds_payload, torn_payload}
-use Rattle.rg_chunk.specs.Heads.{head_of}
-use Rattle.rg_log.proofs.Entries.{front as same_entry, further, not_further, no_further}
 use Rattle.rg_log.specs.declared.entry.Entry.{Entry}
 use Rattle.rg_log.specs.declared.entry.LogSoFar.{LogSoFar}
-use Rattle.rg_log.specs.declared.summary.LogSummary.{LogSummary}
-use Rattle.rg_log.specs.Entries.{nothing, told_by, further_entry}
-use Rattle.rg_reservoir.specs.Heads.{Heads, Passed, IsOpenGate, IsBad, EntryAt, IsPassed, CannotPass}
+use Rattle.rg_log.specs.Entries.{unread, entry_of, with_entry, entry_after}
+use Rattle.rg_log.proofs.Folds.{entries_push}
+use Rattle.rg_reservoir.specs.Heads.{Passed, IsOpenGate, IsBadFrame, EntryAt, IsPassed, CannotPass}
 use Rattle.rg_reservoir.proofs.Chains.{some_none}
+
+pub begins_none : (bytes : List ℕ) → Begins [] 0 bytes
+begins_none bytes = record { rest = bytes; ends = refl; is = refl; goes = inl refl }
 
 -- what stands in front of the last frame's end
 pub begins_more : (payloads : List (List ℕ)) (p : List ℕ) (place next : ℕ) (bytes : List ℕ) → length (frames payloads) ≡ place → next ≤ 2 ^ 62 → Begins (payloads ++ p ∷ []) next bytes
@@ -43,73 +47,79 @@ front_same size n front payload long whole cut same =
     by true t = let le : size ≤ 37 = grind (arith, nat_tests) in ap (λ (l : List ℕ). take 37 l) (take_all n payload (omega (arith, le, cut, long)))
     by false f = let lt : 37 < size = grind (arith, nat_tests) in let n37 : n ≡ 37 = omega (arith, lt, cut) in ap (λ (k : ℕ). take 37 (take k payload)) n37 ∙ take-take 37 37 payload (omega arith)
 
-pub entry_at : (payloads : List (List ℕ)) (place next size n : ℕ) (front bytes : List ℕ) (entry : Option Entry) → Begins payloads place bytes → next ≤ 2 ^ 62 → length front ≡ 37 → n ≡ min 37 size → entry ≡ further_entry (take n front) → Next payloads size front next bytes → EntryAt bytes payloads place next entry
-entry_at payloads place next size n front bytes entry b most whole cut says found =
+-- a chunk that was found by the first bytes of its payload
+pub chunk_found : (payloads : List (List ℕ)) (place next size n : ℕ) (front bytes : List ℕ) (schema : Option Shape) (entry : Entry) → ((payload : List ℕ) → take 37 (take n front) ≡ take 37 payload → entry_of schema payload ≡ Some entry) → length front ≡ 37 → n ≡ min 37 size
+    → Begins payloads place bytes → next ≤ 2 ^ 62 → Next payloads size front next bytes → EntryAt bytes payloads schema place next (Some entry)
+chunk_found payloads place next size n front bytes schema entry tells whole cut b most found =
     let m = begins_more payloads found.payload place next bytes b.ends most found.begins in
     record {
       payload = found.payload;
       here = m.0;
       gate = m.2;
       next_is = m.1;
-      says = says ∙ same_entry (take n front) found.payload (front_same size n front found.payload found.size_is whole cut found.first);
+      says = sym (tells found.payload (front_same size n front found.payload found.size_is whole cut found.first));
       begins = found.begins;
     }
 
-pub heads_push : (bytes : List ℕ) (place : ℕ) (tally : LogSummary) (payloads : List (List ℕ)) (end : ℕ) (last next : LogSummary) (payload : List ℕ)
-    → Heads bytes place tally payloads end last → payload_at end bytes ≡ Some payload → told_by last (head_of payload) ≡ Some next → Heads bytes place tally (payloads ++ payload ∷ []) (end + 9 + length payload) next
-heads_push bytes place tally [] end last next payload heads here told =
-    (subst (λ (p : ℕ). payload_at p bytes ≡ Some payload) (sym heads.0) here, (next, subst (λ (t : LogSummary). told_by t (head_of payload) ≡ Some next) (sym heads.1) told, (ap (λ (p : ℕ). p + 9 + length payload) heads.0, refl)))
-heads_push bytes place tally (p ∷ payloads) end last next payload heads here told =
-    (heads.0, (heads.1.0, heads.1.1, heads_push bytes (place + 9 + length p) heads.1.0 payloads end last next payload heads.1.2 here told))
+-- another frame, whose payload was read whole
+pub whole_found : (payloads : List (List ℕ)) (place next size : ℕ) (front bytes : List ℕ) (schema : Option Shape) (entry : Option Entry) → ((payload : List ℕ) → payload_at place bytes ≡ Some payload → entry ≡ entry_of schema payload)
+    → Begins payloads place bytes → next ≤ 2 ^ 62 → Next payloads size front next bytes → EntryAt bytes payloads schema place next entry
+whole_found payloads place next size front bytes schema entry tells b most found =
+    let m = begins_more payloads found.payload place next bytes b.ends most found.begins in
+    record { payload = found.payload; here = m.0; gate = m.2; next_is = m.1; says = tells found.payload m.0; begins = found.begins }
 
-pub passed_start : (bytes : List ℕ) (first : ℕ) (payloads : List (List ℕ)) → Begins payloads first bytes → Passed bytes first first nothing
-passed_start bytes first payloads begins = record { chunks = []; are = (refl, refl); payloads = payloads; begins = begins }
+-- a payload that was read is the one at its place
+pub read_whole : (place next : ℕ) (out payload bytes : List ℕ) → HoldsFrame place out bytes → next < 2 ^ 62 → next ≡ place + 9 + length out → payload_at place bytes ≡ Some payload → out ≡ payload
+read_whole place next out payload bytes holds small is here =
+    let g : Some out ≡ Some payload = sym (holds_payload place out bytes holds (omega (arith, small, is))) ∙ here in
+    cc
 
-passed_more : (bytes : List ℕ) (first end next : ℕ) (tally more : LogSummary) (entry : Option Entry) (p : Passed bytes first end tally) (h : EntryAt bytes p.payloads end next entry) → told_by tally (head_of h.payload) ≡ Some more → Passed bytes first next more
-passed_more bytes first end next tally more entry p h told = record {
-  chunks = p.chunks ++ h.payload ∷ [];
-  are = subst (λ (n : ℕ). Heads bytes first nothing (p.chunks ++ h.payload ∷ []) n more) (sym h.next_is)
-      (heads_push bytes first nothing p.chunks end tally more h.payload p.are h.here told);
+-- before the first frame
+abbrev pub passed_start : (bytes : List ℕ) → Passed bytes 0 unread
+passed_start bytes = record { payloads = []; begins = begins_none bytes; fit = All-nil FitsFrame; say = refl }
+
+-- the step that a frame makes which was passed
+pub step_passed : (payload : List ℕ) (old new : LogSoFar) (entry : Option Entry) → entry ≡ entry_of old.schema payload → IsPassed entry old new → entry_after old payload ≡ Some new
+step_passed payload old new entry says passed = ap (option_and_then (with_entry old)) (sym says ∙ passed.1) ∙ passed.2
+
+abbrev pub passed_more : (bytes : List ℕ) (end next : ℕ) (old new : LogSoFar) (entry : Option Entry) (p : Passed bytes end old) → next ≤ 2 ^ 62 → (h : EntryAt bytes p.payloads old.schema end next entry) → IsPassed entry old new → Passed bytes next new
+passed_more bytes end next old new entry p small h passed = record {
   payloads = p.payloads ++ h.payload ∷ [];
   begins = h.begins;
+  fit = fits_push p.payloads h.payload p.fit (omega (arith, h.next_is, small));
+  say = entries_push unread old p.payloads h.payload p.say ∙ step_passed h.payload old new entry h.says passed;
 }
 
-bad_entry : (bytes : List ℕ) (first end next : ℕ) (tally : LogSummary) (entry : Option Entry) (p : Passed bytes first end tally) (h : EntryAt bytes p.payloads end next entry) → told_by tally (head_of h.payload) ≡ None → IsBad bytes first end
-bad_entry bytes first end next tally entry p h none = record {
-  chunks = p.chunks;
-  tally = tally;
-  are = p.are;
+bad_entry : (bytes : List ℕ) (end next : ℕ) (so_far : LogSoFar) (entry : Option Entry) (p : Passed bytes end so_far) (h : EntryAt bytes p.payloads so_far.schema end next entry) → CannotPass entry so_far → IsBadFrame end bytes
+bad_entry bytes end next so_far entry p h none = record {
+  so_far = so_far;
+  passed = p;
   gate = h.gate;
-  bad = λ q here. let g : Some h.payload ≡ Some q = sym h.here ∙ here in let same : h.payload ≡ q = cc in ap (λ (l : List ℕ). told_by tally (head_of l)) (sym same) ∙ none;
+  bad = λ q here.
+      let g : Some h.payload ≡ Some q = sym h.here ∙ here in
+      let same : h.payload ≡ q = cc in
+      ap (entry_after so_far) (sym same) ∙ ap (option_and_then (with_entry so_far)) (sym h.says) ∙ none;
 }
 
--- a frame that can't be passed is no chunk that may follow
-cannot_pass : (payload : List ℕ) (so_far : LogSoFar) (found : Option Entry) → found ≡ further_entry payload → CannotPass found so_far → told_by so_far.summary (head_of payload) ≡ None
-cannot_pass payload so_far None says none = no_further payload so_far.summary (sym says)
-cannot_pass payload so_far (Some entry) says none = not_further payload so_far entry (sym says) none
-
-pub torn_head : (bytes : List ℕ) (first end : ℕ) (tally : LogSummary) → Passed bytes first end tally → IsTorn end bytes → IsBad bytes first end
-torn_head bytes first end tally p torn = record {
-  chunks = p.chunks;
-  tally = tally;
-  are = p.are;
+pub torn_frame : (bytes : List ℕ) (end : ℕ) (so_far : LogSoFar) → Passed bytes end so_far → IsTorn end bytes → IsBadFrame end bytes
+torn_frame bytes end so_far p torn = record {
+  so_far = so_far;
+  passed = p;
   gate = record { rest = torn.rest; is = torn.is; longer = torn.longer };
   bad = λ q here. absurd (some_none _ _ here (torn_payload end bytes torn));
 }
 
 -- the same of a file's bytes by another name
-pub passed_on : (bytes same : List ℕ) (first end next : ℕ) (old new : LogSoFar) (entry : Option Entry) → bytes ≡ same → Passed same first end old.summary → ((payloads : List (List ℕ)) → Begins payloads end bytes → EntryAt bytes payloads end next entry) → IsPassed entry old new → Passed same first next new.summary
-passed_on bytes same first end next old new entry is p found passed =
-    let h = subst (λ (l : List ℕ). EntryAt l p.payloads end next entry) is (found p.payloads (subst (λ (l : List ℕ). Begins p.payloads end l) (sym is) p.begins)) in
-    passed_more same first end next old.summary new.summary entry p h (further h.payload old new passed.0 (sym h.says ∙ passed.1) passed.2).told
 
-pub bad_on : (bytes same : List ℕ) (first end next : ℕ) (so_far : LogSoFar) (entry : Option Entry) → bytes ≡ same → Passed same first end so_far.summary → ((payloads : List (List ℕ)) → Begins payloads end bytes → EntryAt bytes payloads end next entry) → CannotPass entry so_far → IsBad same first end
-bad_on bytes same first end next so_far entry is p found none =
-    let h = subst (λ (l : List ℕ). EntryAt l p.payloads end next entry) is (found p.payloads (subst (λ (l : List ℕ). Begins p.payloads end l) (sym is) p.begins)) in
-    bad_entry same first end next so_far.summary entry p h (cannot_pass h.payload so_far entry h.says none)
+pub entry_on : (bytes same : List ℕ) (end next : ℕ) (so_far : LogSoFar) (entry : Option Entry) → bytes ≡ same → (p : Passed same end so_far) → ((payloads : List (List ℕ)) → Begins payloads end bytes → EntryAt bytes payloads so_far.schema end next entry)
+    → EntryAt same p.payloads so_far.schema end next entry
+entry_on bytes same end next so_far entry is p found = subst (λ (l : List ℕ). EntryAt l p.payloads so_far.schema end next entry) is (found p.payloads (subst (λ (l : List ℕ). Begins p.payloads end l) (sym is) p.begins))
 
-pub torn_on : (bytes same : List ℕ) (first end : ℕ) (tally : LogSummary) → bytes ≡ same → Passed same first end tally → ((payloads : List (List ℕ)) → Begins payloads end bytes → IsTorn end bytes) → IsBad same first end
-torn_on bytes same first end tally is p torn = torn_head same first end tally p (subst (λ (l : List ℕ). IsTorn end l) is (torn p.payloads (subst (λ (l : List ℕ). Begins p.payloads end l) (sym is) p.begins)))
+pub bad_on : (bytes same : List ℕ) (end next : ℕ) (so_far : LogSoFar) (entry : Option Entry) → bytes ≡ same → Passed same end so_far → ((payloads : List (List ℕ)) → Begins payloads end bytes → EntryAt bytes payloads so_far.schema end next entry) → CannotPass entry so_far → IsBadFrame end same
+bad_on bytes same end next so_far entry is p found none = bad_entry same end next so_far entry p (entry_on bytes same end next so_far entry is p found) none
 
-pub ends_on : (bytes same : List ℕ) (first end : ℕ) (tally : LogSummary) → bytes ≡ same → Passed same first end tally → ((payloads : List (List ℕ)) → Begins payloads end bytes → IsLog payloads end bytes) → (payloads : List (List ℕ)) × IsLog payloads end same
-ends_on bytes same first end tally is p log = (p.payloads, subst (λ (l : List ℕ). IsLog p.payloads end l) is (log p.payloads (subst (λ (l : List ℕ). Begins p.payloads end l) (sym is) p.begins)))
+pub torn_on : (bytes same : List ℕ) (end : ℕ) (so_far : LogSoFar) → bytes ≡ same → Passed same end so_far → IsTorn end bytes → IsBadFrame end same
+torn_on bytes same end so_far is p torn = torn_frame same end so_far p (subst (λ (l : List ℕ). IsTorn end l) is torn)
+
+pub ends_on : (bytes same : List ℕ) (end : ℕ) (so_far : LogSoFar) → bytes ≡ same → (p : Passed same end so_far) → ((payloads : List (List ℕ)) → Begins payloads end bytes → IsLog payloads end bytes) → IsLog p.payloads end same
+ends_on bytes same end so_far is p log = subst (λ (l : List ℕ). IsLog p.payloads end l) is (log p.payloads (subst (λ (l : List ℕ). Begins p.payloads end l) (sym is) p.begins))

@@ -1,83 +1,104 @@
--- A legal log, as chunks at their places.
-use Rattle.std.proofs.Common.{◌≡◌, ◌∙◌, ◌⊎◌, inl, inr, ℕ, ◌+◌, ◌^◌, ◌≤◌, List, [], ◌∷◌, ◌++◌, length, Some, option_map, refl, sym, ap, subst, arith, append_assoc}
-use Rattle.std.specs.Prelude.{All}
+-- What a log that is whole by heads and growths isn't, and so what a legal one isn't.
+use Rattle.std.proofs.Common.{◌≡◌, ◌∙◌, ◌⊎◌, inl, inr, ℕ, List, [], ◌∷◌, ◌++◌, length, Some, None, option_and_then, refl, sym, ap, subst, arith}
 use Rattle.std.proofs.lemmas.List.{append-nil}
-use Rattle.rg_event.specs.Codec.{IsEventOf}
-use Rattle.rg_event.specs.declared.event.Event.{Event}
+use Rattle.std.specs.Prelude.{slice_index}
 use Rattle.rg_event.specs.Shapes.{Shape}
-use Rattle.rg_event.specs.Rising.{IsRising}
+use Rattle.rg_event.specs.declared.event.Event.{Event}
 use Rattle.rg_frame.specs.Frames.{frames, HasPayloads, payload_at}
 use Rattle.rg_frame.specs.Looks.{IsClosed}
-use Rattle.rg_frame.proofs.FrameLaws.{length-frames, length-frames-push}
-use Rattle.rg_frame.proofs.Payloads.{payload_between, payload_none}
-use Rattle.rg_chunk.specs.Chunks.{chunk_of}
-use Rattle.rg_log.specs.Log.{schema_payload, chunks_of, joined, HasChunks, HasEvents}
-use Rattle.rg_log.proofs.Growing.{part}
-use Rattle.rg_reservoir.specs.Chain.{chunk_in, chunk_at, Chain, IsFirst}
-use Rattle.rg_reservoir.specs.Views.{plain}
+use Rattle.rg_frame.proofs.FrameLists.{payloads_one}
+use Rattle.rg_frame.proofs.Payloads.{payload_between}
+use Rattle.rg_log.specs.declared.entry.LogSoFar.{LogSoFar}
+use Rattle.rg_log.specs.Entries.{unread, behind, summary_of, entries_after}
+use Rattle.rg_log.specs.Log.{HasEvents}
+use Rattle.rg_log.specs.Stages.{logged, HasStages}
+use Rattle.rg_log.proofs.Folds.{entries_append, says as all_say, legal as legal_says}
+use Rattle.rg_reservoir.specs.Attached.{IsOther}
+use Rattle.rg_reservoir.specs.Heads.{IsOpenGate, IsBadFrame}
 use Rattle.rg_reservoir.proofs.Chains.{some_none}
 use Rattle.rg_reservoir.proofs.Committing.{log_at}
-use Rattle.rg_reservoir.proofs.Listing.{log_of}
+use Rattle.rg_reservoir.proofs.Listing.{list_goes_on}
 
--- the chunk of a payload at a place of a log without a growth
-pub chunk_made : (shape : Shape) (place : ℕ) (bytes p : List ℕ) (c : List Event) (n : ℕ) → payload_at place bytes ≡ Some p → chunk_of shape.fields p ≡ Some c → n ≡ place + 9 + length p → chunk_at (plain shape) place bytes ≡ Some (c, n)
-chunk_made shape place bytes p c n here said is =
-    ap (chunk_in (plain shape) place) here ∙ ap (option_map (λ (events : List Event). (events, place + 9 + length p))) said ∙ ap (λ (m : ℕ). Some (c, m)) (sym is)
+open_closed : (place : ℕ) (bytes : List ℕ) → IsOpenGate place bytes → IsClosed place bytes → ⊥
+open_closed place bytes gate (inl short) = omega (arith, gate.longer, short)
+open_closed place bytes gate (inr other) = other (ap (λ (l : List ℕ). slice_index l 0) gate.is)
 
--- the chunks of frames stand at their places
-pub chain_of : (shape : Shape) (bytes : List ℕ) (done rest later : List (List ℕ)) (chunks : List (List Event)) → HasPayloads (done ++ (rest ++ later)) bytes → chunks_of shape.fields rest ≡ Some chunks → Chain (plain shape) bytes (length (frames done)) chunks (length (frames (done ++ rest)))
-chain_of shape bytes done [] later chunks has are =
-    let none : chunks ≡ [] = cc in
-    subst (λ (l : List (List Event)). Chain (plain shape) bytes (length (frames done)) l (length (frames (done ++ [])))) (sym none) (ap (λ (l : List (List ℕ)). length (frames l)) (sym (append-nil done)))
-chain_of shape bytes done (p ∷ rest) later chunks has are =
-    let f = part (chunk_of shape.fields p) (chunks_of shape.fields rest) chunks are in
-    let next = length (frames (done ++ p ∷ [])) in
-    let here : chunk_at (plain shape) (length (frames done)) bytes ≡ Some (f.chunk, next) = chunk_made shape (length (frames done)) bytes p f.chunk next (payload_between done (rest ++ later) p bytes has) f.chunk_is (length-frames-push done p) in
-    let more = chain_of shape bytes (done ++ p ∷ []) rest later f.more (subst (λ (l : List (List ℕ)). HasPayloads l bytes) (sym (append_assoc done (p ∷ []) (rest ++ later))) has) f.more_is in
-    subst (λ (l : List (List Event)). Chain (plain shape) bytes (length (frames done)) l (length (frames (done ++ p ∷ rest)))) (sym f.is)
-    (next, here, subst (λ (l : List (List ℕ)). Chain (plain shape) bytes next f.more (length (frames l))) (append_assoc done (p ∷ []) rest) more)
-
--- a legal log of that schema with frames, by places
-pub record Laid (shape : Shape) (events : List Event) (bytes : List ℕ) : Type 0 where
-  pub first : ℕ
-  pub schema : IsFirst shape first bytes
-  pub chunks : List (List Event)
-  pub end : ℕ
-  pub chain : Chain (plain shape) bytes first chunks end
-  pub ends : IsClosed end bytes
-  pub joined : joined chunks ≡ events
-  pub rising : IsRising events
-  pub few : length events ≤ 2 ^ 40
-  pub of : All (IsEventOf shape.fields) events
-
--- or one without frames, which has no event
-abbrev pub IsLaid : Shape → List Event → List ℕ → Type 0
-IsLaid shape events bytes = (IsClosed 0 bytes × (events ≡ [])) ⊎ Laid shape events bytes
-
-pub laid : (shape : Shape) (events : List Event) (bytes : List ℕ) → HasEvents shape events bytes → IsLaid shape events bytes
-laid shape events bytes x = by x.1.payloads x.1.has x.1.log
+-- a log of which each frame may follow those before it has no bad frame
+pub not_bad : (payloads : List (List ℕ)) (so_far : LogSoFar) (p : ℕ) (bytes : List ℕ) → HasPayloads payloads bytes → entries_after unread payloads ≡ Some so_far → IsBadFrame p bytes → ⊥
+not_bad payloads so_far p bytes has say bad = by at.0 at.1
   where
-    by : (payloads : List (List ℕ)) → HasPayloads payloads bytes → HasChunks shape payloads x.0 → IsLaid shape events bytes
-    by [] has log = inl ((log_at [] 0 bytes (log_of [] 0 bytes has refl)).closed, sym x.2 ∙ ap joined log)
-    by (p ∷ payloads) has log =
-        let ours : HasPayloads (schema_payload shape ∷ payloads) bytes = subst (λ (q : List ℕ). HasPayloads (q ∷ payloads) bytes) log.0 has in
-        inr (record {
-          first = length (frames (schema_payload shape ∷ []));
-          schema = record { here = payload_between [] payloads (schema_payload shape) bytes ours; ends = omega (arith, length-frames (schema_payload shape) []) };
-          chunks = x.0;
-          end = length (frames (schema_payload shape ∷ payloads));
-          chain = chain_of shape bytes (schema_payload shape ∷ []) payloads [] x.0 (subst (λ (l : List (List ℕ)). HasPayloads (schema_payload shape ∷ l) bytes) (sym (append-nil payloads)) ours) log.1;
-          ends = (log_at (schema_payload shape ∷ payloads) (length (frames (schema_payload shape ∷ payloads))) bytes (log_of (schema_payload shape ∷ payloads) (length (frames (schema_payload shape ∷ payloads))) bytes ours refl)).closed;
-          joined = x.2;
-          rising = subst IsRising x.2 x.1.rising;
-          few = subst (λ (l : List Event). length l ≤ 2 ^ 40) x.2 x.1.few;
-          of = subst (All (IsEventOf shape.fields)) x.2 x.1.of;
-        })
+    front : List (List ℕ)
+    front = bad.passed.payloads
 
--- the first payload of a frame list stands at place 0
-pub framed : (ours bytes : List ℕ) (payloads : List (List ℕ)) → HasPayloads payloads bytes → payload_at 0 bytes ≡ Some ours → (rest : List (List ℕ)) × HasPayloads (ours ∷ rest) bytes
-framed ours bytes [] has here = absurd (some_none _ _ here (payload_none [] bytes has))
-framed ours bytes (p ∷ payloads) has here =
-    let e : Some p ≡ Some ours = sym (payload_between [] payloads p bytes has) ∙ here in
-    let same : p ≡ ours = cc in
-    (payloads, subst (λ (q : List ℕ). HasPayloads (q ∷ payloads) bytes) same has)
+    at : (more : List (List ℕ)) × (payloads ≡ front ++ more)
+    at = list_goes_on payloads front p bytes bad.passed.begins bad.passed.fit has
+
+    by : (more : List (List ℕ)) → payloads ≡ front ++ more → ⊥
+    by [] is =
+        let all : payloads ≡ front = is ∙ append-nil front in
+        let ends : has.frames.0 ≡ p = sym has.frames.1.ends ∙ ap (λ (l : List (List ℕ)). length (frames l)) all ∙ bad.passed.begins.ends in
+        open_closed p bytes bad.gate (subst (λ (n : ℕ). IsClosed n bytes) ends (log_at payloads has.frames.0 bytes has.frames.1).closed)
+    by (q ∷ more) is =
+        let here = subst (λ (n : ℕ). payload_at n bytes ≡ Some q) bad.passed.begins.ends (payload_between front more q bytes (subst (λ (l : List (List ℕ)). HasPayloads l bytes) is has)) in
+        let none : entries_after bad.so_far (q ∷ more) ≡ None = ap (option_and_then (λ (next : LogSoFar). entries_after next more)) (bad.bad q here) in
+        some_none _ _ say (ap (entries_after unread) is ∙ entries_append unread front (q ∷ more) ∙ ap (option_and_then (λ (next : LogSoFar). entries_after next (q ∷ more))) bad.passed.say ∙ none)
+
+-- nor is another schema in force at its end than the one that its frames say
+pub not_other : (shape : Shape) (payloads : List (List ℕ)) (so_far : LogSoFar) (bytes : List ℕ) → HasPayloads payloads bytes → entries_after unread payloads ≡ Some so_far → (so_far.schema ≡ None) ⊎ (so_far.schema ≡ Some shape) → IsOther shape bytes → ⊥
+not_other shape payloads so_far bytes has say known other = by known
+  where
+    said : Some other.other ≡ so_far.schema
+    said =
+        let e : Some (behind other.other other.summary) ≡ Some so_far = sym other.say ∙ ap (entries_after unread) (payloads_one other.payloads payloads bytes other.has has) ∙ say in
+        let same : behind other.other other.summary ≡ so_far = cc in
+        ap (λ (s : LogSoFar). s.schema) same
+
+    by : (so_far.schema ≡ None) ⊎ (so_far.schema ≡ Some shape) → ⊥
+    by (inl none) = some_none _ _ (sym said) none
+    by (inr some) = other.differs (let e : Some other.other ≡ Some shape = said ∙ some in cc)
+
+-- a log without a frame is whole
+pub unframed : (shape : Shape) (bytes : List ℕ) → HasPayloads [] bytes → IsOther shape bytes ⊎ ((p : ℕ) × IsBadFrame p bytes) → ⊥
+unframed shape bytes none (inl other) = not_other shape [] unread bytes none refl (inl refl) other
+unframed shape bytes none (inr (p, bad)) = not_bad [] unread p bytes none refl bad
+
+-- what the frames of a legal log say
+pub record Says (shape : Shape) (events : List Event) (bytes : List ℕ) : Type 0 where
+  pub payloads : List (List ℕ)
+  pub has : HasPayloads payloads bytes
+  pub so_far : LogSoFar
+  pub say : entries_after unread payloads ≡ Some so_far
+  pub schema : (so_far.schema ≡ None) ⊎ (so_far.schema ≡ Some shape)
+
+pub says : (shape : Shape) (events : List Event) (bytes : List ℕ) → HasEvents shape events bytes → Says shape events bytes
+says shape events bytes x = by x.1.payloads x.1.has x.1.log
+  where
+    by : (payloads : List (List ℕ)) → HasPayloads payloads bytes → HasStages shape payloads x.0 → Says shape events bytes
+    by [] has log = record { payloads = []; has = has; so_far = unread; say = refl; schema = inl refl }
+    by (p ∷ payloads) has log = record { payloads = p ∷ payloads; has = has; so_far = behind shape (summary_of (logged x.0)); say = legal_says shape (p ∷ payloads) x.0 log (omega arith) x.1.rising x.1.few; schema = inr refl }
+
+-- a legal log has no bad frame
+pub legal_not_bad : (shape : Shape) (events : List Event) (p : ℕ) (bytes : List ℕ) → HasEvents shape events bytes → IsBadFrame p bytes → ⊥
+legal_not_bad shape events p bytes x bad = let s = says shape events bytes x in not_bad s.payloads s.so_far p bytes s.has s.say bad
+
+-- and no other schema is in force at its end
+pub legal_not_other : (shape : Shape) (events : List Event) (bytes : List ℕ) → HasEvents shape events bytes → IsOther shape bytes → ⊥
+legal_not_other shape events bytes x other = let s = says shape events bytes x in not_other shape s.payloads s.so_far bytes s.has s.say s.schema other
+
+-- a log with another schema in force at its end has no bad frame
+pub other_not_bad : (shape : Shape) (p : ℕ) (bytes : List ℕ) → IsOther shape bytes → IsBadFrame p bytes → ⊥
+other_not_bad shape p bytes other bad = not_bad other.payloads (behind other.other other.summary) p bytes other.has other.say bad
+
+-- where another schema is in force behind all frames, the log is another's
+pub is_other : (shape : Shape) (start : List ℕ) (payloads : List (List ℕ)) (last : LogSoFar) (bytes : List ℕ) → HasPayloads (start ∷ payloads) bytes → entries_after unread (start ∷ payloads) ≡ Some last → (last.schema ≡ Some shape → ⊥) → IsOther shape bytes
+is_other shape start payloads last bytes has say differs =
+    let l = all_say start payloads last say in
+    record {
+      other = l.shape;
+      legal = l.legal;
+      payloads = start ∷ payloads;
+      has = has;
+      summary = last.summary;
+      say = say ∙ ap (λ (s : LogSoFar). Some s) l.is;
+      differs = λ same. differs (ap (λ (s : LogSoFar). s.schema) l.is ∙ ap (λ (s : Shape). Some s) same);
+    }

@@ -14,7 +14,7 @@ use Rattle.rg_cache.specs.Cache.{Cache, item_at, holds_place, places, least_rece
 use Rattle.rg_cache.proofs.Recency.{touched_further}
 use Rattle.rg_reservoir.specs.declared.kept.Kept.{Kept}
 use Rattle.rg_reservoir.specs.Chain.{chunk_at, Chain}
-use Rattle.rg_reservoir.specs.Kept.{Base, base, view_of, opened, next_of, time_of, cache_of, IsCached, IsInside, IsRight, IsSoundIn, IsSound, InChunk, Stays, next_in, look_places, held_after, OneTouch, AllTouched}
+use Rattle.rg_reservoir.specs.Kept.{Base, base, view_of, opened, next_of, time_of, cache_of, settled, IsCached, IsInside, IsRight, IsSoundIn, IsSound, InChunk, Stays, next_in, look_places, held_after, OneTouch, AllTouched}
 use Rattle.rg_reservoir.specs.declared.reservoir.Reservoir.{Reservoir}
 use Rattle.rg_reservoir.specs.Ahead.{event_place, closed_behind, ahead_places, all_ahead, closed_next, Picks, OneLoad, AllLoaded, SomeTouched, OnlyLoads}
 use Rattle.rg_reservoir.proofs.Chains.{chain_split}
@@ -170,15 +170,17 @@ follows_on v may b opened next time cache right place index number i before =
 
 -- For spots in order.
 
-pub all_push : (b : Base) (bytes : List ℕ) (spots : List Spot) (spot : Spot) → all_ahead b bytes (spots ++ spot ∷ []) ≡ all_ahead b bytes spots ++ ahead_places b bytes spot
-all_push b bytes [] spot = append-nil (ahead_places b bytes spot)
-all_push b bytes (x ∷ spots) spot = ap (λ (l : List ℕ). ahead_places b bytes x ++ l) (all_push b bytes spots spot) ∙ sym (append_assoc (ahead_places b bytes x) (all_ahead b bytes spots) (ahead_places b bytes spot))
+pub all_push : (b : Base) (bytes : List ℕ) (spots : List Spot) (spot : Spot) → all_ahead b bytes (spots ++ spot ∷ []) ≡ all_ahead b bytes spots ++ ahead_places b bytes (settled b spot)
+all_push b bytes [] spot = append-nil (ahead_places b bytes (settled b spot))
+all_push b bytes (x ∷ spots) spot =
+    ap (λ (l : List ℕ). ahead_places b bytes (settled b x) ++ l) (all_push b bytes spots spot) ∙ sym (append_assoc (ahead_places b bytes (settled b x)) (all_ahead b bytes spots) (ahead_places b bytes (settled b spot)))
 
 pub all_split : (b : Base) (bytes : List ℕ) (front back : List Spot) → all_ahead b bytes (front ++ back) ≡ all_ahead b bytes front ++ all_ahead b bytes back
 all_split b bytes [] back = refl
-all_split b bytes (x ∷ front) back = ap (λ (l : List ℕ). ahead_places b bytes x ++ l) (all_split b bytes front back) ∙ sym (append_assoc (ahead_places b bytes x) (all_ahead b bytes front) (all_ahead b bytes back))
+all_split b bytes (x ∷ front) back =
+    ap (λ (l : List ℕ). ahead_places b bytes (settled b x) ++ l) (all_split b bytes front back) ∙ sym (append_assoc (ahead_places b bytes (settled b x)) (all_ahead b bytes front) (all_ahead b bytes back))
 
-pub take_spot : (b : Base) (bytes : List ℕ) (spots : List Spot) (i : ℕ) (spot : Spot) → i < length spots → spot ≡ get_or spots i spot → all_ahead b bytes (take (i + 1) spots) ≡ all_ahead b bytes (take i spots) ++ ahead_places b bytes spot
+pub take_spot : (b : Base) (bytes : List ℕ) (spots : List Spot) (i : ℕ) (spot : Spot) → i < length spots → spot ≡ get_or spots i spot → all_ahead b bytes (take (i + 1) spots) ≡ all_ahead b bytes (take i spots) ++ ahead_places b bytes (settled b spot)
 take_spot b bytes spots i spot within is =
     ap (all_ahead b bytes) (take_more spots i spot within ∙ ap (λ (x : Spot). take i spots ++ x ∷ []) (sym is)) ∙ all_push b bytes (take i spots) spot
 
@@ -241,25 +243,25 @@ module _ {H : Type 0} {now : H → Option Image} {may : H → Image → Type 0} 
 
 -- one spot more
 module _ (a b : Reservoir) (same : base b ≡ base a) (v : Image) (spots : List Spot) (i : ℕ) (d : Spot) (within : i < length spots) (old mid new : Cache Kept) (loads loads_mid loads_then : ℕ) where
-  one_more : all_ahead (base a) (v (base a).file) (take (i + 1) spots) ≡ all_ahead (base a) (v (base a).file) (take i spots) ++ ahead_places (base a) (v (base a).file) (get_or spots i d)
+  one_more : all_ahead (base a) (v (base a).file) (take (i + 1) spots) ≡ all_ahead (base a) (v (base a).file) (take i spots) ++ ahead_places (base a) (v (base a).file) (settled (base a) (get_or spots i d))
   one_more = ap (all_ahead (base a) (v (base a).file)) (take_more spots i d within) ∙ all_push (base a) (v (base a).file) (take i spots) (get_or spots i d)
 
-  pub some_step : SomeTouched (all_ahead (base a) (v (base a).file) (take i spots)) old mid loads loads_mid → SomeTouched (ahead_places (base b) (v (base b).file) (get_or spots i d)) mid new loads_mid loads_then
+  pub some_step : SomeTouched (all_ahead (base a) (v (base a).file) (take i spots)) old mid loads loads_mid → SomeTouched (ahead_places (base b) (v (base b).file) (settled (base b) (get_or spots i d))) mid new loads_mid loads_then
       → SomeTouched (all_ahead (base a) (v (base a).file) (take (i + 1) spots)) old new loads loads_then
   some_step first second =
-      let here = subst (λ (x : Base). SomeTouched (ahead_places x (v x.file) (get_or spots i d)) mid new loads_mid loads_then) same second in
-      subst (λ (l : List ℕ). SomeTouched l old new loads loads_then) (sym one_more) (some_then (all_ahead (base a) (v (base a).file) (take i spots)) (ahead_places (base a) (v (base a).file) (get_or spots i d)) old mid new loads loads_mid loads_then first here)
+      let here = subst (λ (x : Base). SomeTouched (ahead_places x (v x.file) (settled x (get_or spots i d))) mid new loads_mid loads_then) same second in
+      subst (λ (l : List ℕ). SomeTouched l old new loads loads_then) (sym one_more) (some_then (all_ahead (base a) (v (base a).file) (take i spots)) (ahead_places (base a) (v (base a).file) (settled (base a) (get_or spots i d))) old mid new loads loads_mid loads_then first here)
 
   -- and so of all spots, where there are more
-  pub some_stop : SomeTouched (all_ahead (base a) (v (base a).file) (take i spots)) old mid loads loads_mid → SomeTouched (ahead_places (base b) (v (base b).file) (get_or spots i d)) mid new loads_mid loads_then
+  pub some_stop : SomeTouched (all_ahead (base a) (v (base a).file) (take i spots)) old mid loads loads_mid → SomeTouched (ahead_places (base b) (v (base b).file) (settled (base b) (get_or spots i d))) mid new loads_mid loads_then
       → SomeTouched (all_ahead (base a) (v (base a).file) spots) old new loads loads_then
   some_stop first second =
       subst (λ (l : List ℕ). SomeTouched l old new loads loads_then) (all_of_front (base a) (v (base a).file) spots (i + 1))
       (some_more (all_ahead (base a) (v (base a).file) (take (i + 1) spots)) (all_ahead (base a) (v (base a).file) (drop (i + 1) spots)) old new loads loads_then (some_step first second))
 
-  pub all_step : (reads reads_mid reads_then : ℕ) → AllTouched (all_ahead (base a) (v (base a).file) (take i spots)) old loads reads mid loads_mid reads_mid → AllTouched (ahead_places (base b) (v (base b).file) (get_or spots i d)) mid loads_mid reads_mid new loads_then reads_then
+  pub all_step : (reads reads_mid reads_then : ℕ) → AllTouched (all_ahead (base a) (v (base a).file) (take i spots)) old loads reads mid loads_mid reads_mid → AllTouched (ahead_places (base b) (v (base b).file) (settled (base b) (get_or spots i d))) mid loads_mid reads_mid new loads_then reads_then
       → AllTouched (all_ahead (base a) (v (base a).file) (take (i + 1) spots)) old loads reads new loads_then reads_then
   all_step reads reads_mid reads_then first second =
-      let here = subst (λ (x : Base). AllTouched (ahead_places x (v x.file) (get_or spots i d)) mid loads_mid reads_mid new loads_then reads_then) same second in
+      let here = subst (λ (x : Base). AllTouched (ahead_places x (v x.file) (settled x (get_or spots i d))) mid loads_mid reads_mid new loads_then reads_then) same second in
       subst (λ (l : List ℕ). AllTouched l old loads reads new loads_then reads_then) (sym one_more)
-      (touched_then (all_ahead (base a) (v (base a).file) (take i spots)) (ahead_places (base a) (v (base a).file) (get_or spots i d)) old mid new loads loads_mid loads_then reads reads_mid reads_then first here)
+      (touched_then (all_ahead (base a) (v (base a).file) (take i spots)) (ahead_places (base a) (v (base a).file) (settled (base a) (get_or spots i d))) old mid new loads loads_mid loads_then reads reads_mid reads_then first here)

@@ -16,9 +16,13 @@ use Rattle.rg_cache.specs.Cache.{Cache}
 use Rattle.rg_reservoir.specs.declared.kept.Kept.{Kept}
 use Rattle.rg_reservoir.specs.declared.reservoir.Reservoir.{Reservoir}
 use Rattle.rg_log.specs.Log.{joined}
-use Rattle.rg_reservoir.specs.Chain.{chunk_at, Chain, IsIllegal}
-use Rattle.rg_reservoir.specs.Kept.{Base, base, view_of, room_of, stored, all_events, IsCached, IsInside, IsRight, IsSoundIn, IsSound, InChunk, InFront, InOpen, count_of, Spells, SpellsLater, Stays, seen}
+use Rattle.rg_reservoir.specs.Chain.{chunk_at, Chain, IsIllegalBy}
+use Rattle.rg_reservoir.specs.Kept.{Base, base, view_of, room_of, stored, all_events, IsCached, IsInside, IsRight, IsSoundIn, IsSound, InChunk, InFront, InOpen, count_of, LaterSettled, Spells, SpellsLater, Stays, seen}
+use Rattle.rg_reservoir.specs.Views.{passed}
 use Rattle.rg_reservoir.specs.Going.{Goes}
+use Rattle.rg_reservoir.specs.GoingLaws.{not_false, spells_here}
+use Rattle.rg_reservoir.proofs.Seeking.{one_image}
+use Rattle.rg_reservoir.proofs.Settling.{first_rests, end_rests, chunk_rests}
 
 -- fewer outcomes of a crash, and another cache that is right
 sound_cache : (v : Image) (may after : Image → Type 0) (b : Base) (opened : List Event) (next time : ℕ) (cache new : Cache Kept) → ((u : Image) → after u → may u) → (IsCached (view_of b) (v b.file) cache → IsCached (view_of b) (v b.file) new) → (IsInside b.end cache → IsInside b.end new)
@@ -27,8 +31,9 @@ sound_cache v may after b opened next time cache new fewer kept stay sound = rec
   each = λ u left. sound.each u (fewer u left);
   right = λ going. let r = sound.right going in record {
     settled = λ u left. r.settled u (fewer u left);
-    plain = r.plain;
-    schema = r.schema;
+    stages = r.stages;
+    view = r.view;
+    first_is = r.first_is;
     chunks = r.chunks;
     chain = r.chain;
     ends = r.ends;
@@ -71,8 +76,9 @@ sound_added v may b opened next time cache e follows fits few sound =
       each = λ u left. let s = sound.each u left in (s.0, s.1, s.2, s.3, (s.4.0 ++ e ∷ [], all ∙ ap (λ (l : List Event). l ++ e ∷ []) s.4.1 ∙ append_assoc s.0 s.4.0 (e ∷ [])));
       right = λ going. let r = sound.right going in record {
         settled = r.settled;
-        plain = r.plain;
-        schema = r.schema;
+        stages = r.stages;
+        view = r.view;
+        first_is = r.first_is;
         chunks = r.chunks;
         chain = r.chain;
         ends = r.ends;
@@ -106,17 +112,20 @@ sound_append now may old new e follows fits same cache added next time few sound
 
 -- the next spot
 pub advanced : (now : Option Image) (b : Base) (opened : List Event) (old spot : Spot) → old.number < count_of b opened → spot.place ≡ old.place → spot.index ≡ old.index + 1 → spot.number ≡ old.number + 1 → SpellsLater now b opened old → Spells now b opened spot
-advanced now b opened old spot lt place index number later = record { image = later.image; told = later.told; number = omega (arith, lt, number); spelling = by later.spelling }
+advanced now b opened old spot lt place index number later =
+    let there = later.there in
+    let rests : passed b.growths spot.place ≡ spot.place = subst (λ (p : ℕ). passed b.growths p ≡ p) (sym place) later.at in
+    spells_here now b opened spot (record { image = there.image; told = there.told; number = omega (arith, lt, number); spelling = by there.spelling; at = rests })
   where
-    by : ((old.number < b.committed) × InFront b (later.image b.file) old.place old.index old.number) ⊎ InOpen b old.place old.index old.number → ((spot.number ≤ b.committed) × InChunk b (later.image b.file) spot.place spot.index spot.number) ⊎ InOpen b spot.place spot.index spot.number
+    by : ((old.number < b.committed) × InFront b (later.there.image b.file) old.place old.index old.number) ⊎ InOpen b old.place old.index old.number → ((spot.number ≤ b.committed) × InChunk b (later.there.image b.file) spot.place spot.index spot.number) ⊎ InOpen b spot.place spot.index spot.number
     by (inl f) = let i = f.1.chunk in inl (
       omega (arith, f.0, number),
       record {
         chunks = i.chunks;
         chunk = i.chunk;
         next = i.next;
-        chain = subst (λ (p : ℕ). Chain (view_of b) (later.image b.file) b.first i.chunks p) (sym place) i.chain;
-        here = subst (λ (p : ℕ). chunk_at (view_of b) p (later.image b.file) ≡ Some (i.chunk, i.next)) (sym place) i.here;
+        chain = subst (λ (p : ℕ). Chain (view_of b) (later.there.image b.file) b.first i.chunks p) (sym place) i.chain;
+        here = subst (λ (p : ℕ). chunk_at (view_of b) p (later.there.image b.file) ≡ Some (i.chunk, i.next)) (sym place) i.here;
         number_is = omega (arith, number, index, i.number_is);
         most = omega (arith, f.1.within, index);
       },
@@ -125,7 +134,9 @@ advanced now b opened old spot lt place index number later = record { image = la
 
 -- the first spot
 pub started : (now : Option Image) (v : Image) (may : Image → Type 0) (b : Base) (opened : List Event) (next time : ℕ) (cache : Cache Kept) (spot : Spot) → now ≡ Some v → IsRight v may b opened next time cache → spot.place ≡ b.first → spot.index ≡ 0 → spot.number ≡ 0 → Spells now b opened spot
-started now v may b opened next time cache spot told right place index number = record { image = v; told = told; number = omega (arith, number); spelling = by right.chunks right.chain right.counted }
+started now v may b opened next time cache spot told right place index number =
+    let rests : passed b.growths spot.place ≡ spot.place = subst (λ (p : ℕ). passed b.growths p ≡ p) (sym place) (first_rests v may b opened next time cache right) in
+    spells_here now b opened spot (record { image = v; told = told; number = omega (arith, number); spelling = by right.chunks right.chain right.counted; at = rests })
   where
     by : (chunks : List (List Event)) → Chain (view_of b) (v b.file) b.first chunks b.end → length (joined chunks) ≡ b.committed → ((spot.number ≤ b.committed) × InChunk b (v b.file) spot.place spot.index spot.number) ⊎ InOpen b spot.place spot.index spot.number
     by [] chain counted = inr (record { place_is = place ∙ chain; number_is = omega (arith, number, index, counted) })
@@ -145,6 +156,20 @@ started now v may b opened next time cache spot told right place index number = 
 pub true_false : true ≡ false → ⊥
 true_false e = cc
 
+-- over a sound reservoir no growth stands where a spot is in its later spelling
+later_in : (v : Image) (may : Image → Type 0) (b : Base) (opened : List Event) (next time : ℕ) (cache : Cache Kept) (spot : Spot) → IsRight v may b opened next time cache
+    → ((spot.number < b.committed) × InFront b (v b.file) spot.place spot.index spot.number) ⊎ InOpen b spot.place spot.index spot.number → passed b.growths spot.place ≡ spot.place
+later_in v may b opened next time cache spot right (inl f) = chunk_rests v may b opened next time cache right spot.place spot.index spot.number f.1.chunk
+later_in v may b opened next time cache spot right (inr o) = subst (λ (p : ℕ). passed b.growths p ≡ p) (sym o.place_is) (end_rests v may b opened next time cache right)
+
+pub later_rests : (now : Option Image) (may : Image → Type 0) (r : Reservoir) (spot : Spot) → ((base r).ended ≡ true → ⊥) → IsSound now may r → LaterSettled now (base r) r.open.events spot → SpellsLater now (base r) r.open.events spot
+later_rests now may r spot going sound later =
+    let same = one_image now later.image sound.0 later.told sound.1 in
+    let b = base r in
+    let spelling : ((spot.number < b.committed) × InFront b (sound.0 b.file) spot.place spot.index spot.number) ⊎ InOpen b spot.place spot.index spot.number =
+    subst (λ (u : Image). ((spot.number < b.committed) × InFront b (u b.file) spot.place spot.index spot.number) ⊎ InOpen b spot.place spot.index spot.number) same later.spelling in
+    record { there = later; at = later_in sound.0 may b r.open.events r.next_offset r.last_time r.cache spot (sound.2.right (not_false b.ended going)) spelling }
+
 -- what stays where only the cache changes
 pub events_stay : (now then : Option Image) (old new : Reservoir) → then ≡ now → Stays old new → all_events then (base new) new.open.events ≡ all_events now (base old) old.open.events
 events_stay now then old new same stays =
@@ -162,10 +187,10 @@ later_stays now then old new s same stays spells =
     let s2 = subst (λ (b : Base). SpellsLater then b old.open.events s) (sym stays.base) s1 in
     subst (λ (l : List Event). SpellsLater then (base new) l s) (sym stays.opened) s2
 
-pub illegal_stays : (now then : Option Image) (old new : Reservoir) (p : ℕ) → then ≡ now → Stays old new → ForSome now (λ v. IsIllegal old.schema.fields p (v old.log.file)) → ForSome then (λ v. IsIllegal new.schema.fields p (v new.log.file))
+pub illegal_stays : (now then : Option Image) (old new : Reservoir) (p : ℕ) → then ≡ now → Stays old new → ForSome now (λ v. IsIllegalBy (view_of (base old)) p (v old.log.file)) → ForSome then (λ v. IsIllegalBy (view_of (base new)) p (v new.log.file))
 illegal_stays now then old new p same stays illegal = λ v told.
     let i = illegal v (sym same ∙ told) in
-    subst (λ (b : Base). IsIllegal b.shape.fields p (v b.file)) (sym stays.base) i
+    subst (λ (b : Base). IsIllegalBy (view_of b) p (v b.file)) (sym stays.base) i
 
 pub seen_stays : (old new : Reservoir) (spot : Spot) → Stays old new → seen new.committed new.open.events new.cache spot ≡ seen (base old).committed old.open.events new.cache spot
 seen_stays old new spot stays = ap (λ (b : Base). seen b.committed new.open.events new.cache spot) stays.base ∙ ap (λ (l : List Event). seen (base old).committed l new.cache spot) stays.opened

@@ -5,14 +5,15 @@ use Rattle.std.specs.Prelude.{slice_get}
 use Rattle.rg_host.specs.Image.{Image}
 use Rattle.rg_event.specs.declared.event.Event.{Event}
 use Rattle.rg_event.specs.declared.schema.Field.{Field}
-use Rattle.rg_reservoir.specs.Views.{View}
+use Rattle.rg_reservoir.specs.Views.{View, passed}
 use Rattle.rg_past.specs.declared.past.Spot.{Spot}
 use Rattle.rg_cache.specs.Cache.{Cache, item_at}
 use Rattle.rg_reservoir.specs.declared.kept.Kept.{Kept}
 use Rattle.rg_log.specs.Log.{joined}
 use Rattle.rg_reservoir.specs.Chain.{chunk_at, Chain, padded, IsIllegal}
-use Rattle.rg_reservoir.specs.Kept.{Base, view_of, stored, all_events, IsCached, IsInside, IsAbsent, IsRight, InChunk, InFront, InOpen, count_of, Spells, seen_in, seen, next_in, Found}
+use Rattle.rg_reservoir.specs.Kept.{Base, view_of, stored, all_events, IsCached, IsInside, IsAbsent, IsRight, InChunk, InFront, InOpen, count_of, SpellsSettled, seen_in, seen, next_in, Found}
 use Rattle.rg_reservoir.proofs.Fetching.{fetch_none}
+use Rattle.rg_reservoir.proofs.Settling.{chunk_rests}
 use Rattle.rg_reservoir.proofs.Committing.{chain_behind}
 use Rattle.rg_reservoir.proofs.Chains.{one_chunk, some_none, joined-append, chunk_at_size, chain_push, chain_split, from_chain, padded_same, padded_long, get_right, get_chunk}
 
@@ -76,7 +77,7 @@ module _ (v : Image) (may : Image → Type 0) (b : Base) (opened : List Event) (
           }
 
 -- a spot below what is committed names an event of a chunk
-pub near : (now : Option Image) (v : Image) (b : Base) (opened : List Event) (spot : Spot) → now ≡ Some v → Spells now b opened spot → spot.number < b.committed → InChunk b (v b.file) spot.place spot.index spot.number
+pub near : (now : Option Image) (v : Image) (b : Base) (opened : List Event) (spot : Spot) → now ≡ Some v → SpellsSettled now b opened spot → spot.number < b.committed → InChunk b (v b.file) spot.place spot.index spot.number
 near now v b opened spot told spells lt = by spells.spelling
   where
     by : ((spot.number ≤ b.committed) × InChunk b (spells.image b.file) spot.place spot.index spot.number) ⊎ InOpen b spot.place spot.index spot.number → InChunk b (v b.file) spot.place spot.index spot.number
@@ -102,15 +103,15 @@ eq_true m n h = grind (arith, nat_tests)
 
 -- a spot of the open chunk, or of the end
 pub found_open :
-    (now : Option Image) (b : Base) (opened : List Event) (cache : Cache Kept) (old spot : Spot) → Spells now b opened old → b.committed ≤ old.number → spot.number ≡ old.number → spot.place ≡ b.end → spot.index ≡ old.number - b.committed
-    → Spells now b opened spot × Found now b opened cache spot old.number
-found_open now b opened cache old spot spells ge number place index =
+    (now : Option Image) (b : Base) (opened : List Event) (cache : Cache Kept) (old spot : Spot) → passed b.growths b.end ≡ b.end → SpellsSettled now b opened old → b.committed ≤ old.number → spot.number ≡ old.number → spot.place ≡ b.end → spot.index ≡ old.number - b.committed
+    → SpellsSettled now b opened spot × Found now b opened cache spot old.number
+found_open now b opened cache old spot rests spells ge number place index =
     let o : InOpen b spot.place spot.index spot.number = record { place_is = place; number_is = omega (arith, number, index, ge) } in
     let most : spot.number ≤ count_of b opened = omega (arith, number, spells.number) in
     let shows : seen b.committed opened cache spot ≡ slice_get (all_events now b opened) old.number =
     if_true _ _ (nat_le b.committed spot.number) (le_true _ _ (omega (arith, number, ge)))
     ∙ sym (get_right (stored now b) opened spot.index) ∙ ap (slice_get (all_events now b opened)) (omega (arith, stored_long now b, index, ge)) in (
-      record { image = spells.image; told = spells.told; number = most; spelling = inr o },
+      record { image = spells.image; told = spells.told; number = most; spelling = inr o; at = subst (λ (p : ℕ). passed b.growths p ≡ p) (sym place) rests },
       record { later = record { image = spells.image; told = spells.told; number = most; spelling = inr o }; shows = shows },
     )
 
@@ -130,7 +131,7 @@ found_by now v may b opened next time first cache spot kept told right f lt cach
 -- no turn to the next chunk
 pub found_here :
     (now : Option Image) (v : Image) (may : Image → Type 0) (b : Base) (opened : List Event) (next time : ℕ) (first cache : Cache Kept) (spot : Spot) (kept : Kept) → now ≡ Some v → IsRight v may b opened next time first
-    → Spells now b opened spot → spot.number < b.committed → IsCached (view_of b) (v b.file) cache → item_at spot.place cache ≡ Some kept → next_in (item_at spot.place cache) spot.index ≡ None → Found now b opened cache spot spot.number
+    → SpellsSettled now b opened spot → spot.number < b.committed → IsCached (view_of b) (v b.file) cache → item_at spot.place cache ≡ Some kept → next_in (item_at spot.place cache) spot.index ≡ None → Found now b opened cache spot spot.number
 found_here now v may b opened next time first cache spot kept told right spells lt cached held stays =
     let i = near now v b opened spot told spells lt in
     let same = one_chunk _ kept.chunk i.chunk kept.next i.next (cached spot.place kept held) i.here in
@@ -150,7 +151,7 @@ next_some (Some kept) index n e = by (index == length kept.chunk) refl
 -- the turn to the next chunk
 pub turn :
     (now : Option Image) (v : Image) (may : Image → Type 0) (b : Base) (opened : List Event) (next time : ℕ) (first mid : Cache Kept) (spot : Spot) (n : ℕ) → now ≡ Some v → IsRight v may b opened next time first
-    → Spells now b opened spot → spot.number < b.committed → IsCached (view_of b) (v b.file) mid → next_in (item_at spot.place mid) spot.index ≡ Some n → InFront b (v b.file) n 0 spot.number
+    → SpellsSettled now b opened spot → spot.number < b.committed → IsCached (view_of b) (v b.file) mid → next_in (item_at spot.place mid) spot.index ≡ Some n → InFront b (v b.file) n 0 spot.number
 turn now v may b opened next time first mid spot n told right spells lt cached turns =
     let i = near now v b opened spot told spells lt in
     let k = next_some (item_at spot.place mid) spot.index n turns in
@@ -159,15 +160,21 @@ turn now v may b opened next time first mid spot n told right spells lt cached t
 
 pub found_next :
     (now : Option Image) (v : Image) (may : Image → Type 0) (b : Base) (opened : List Event) (next time : ℕ) (first mid cache : Cache Kept) (old spot : Spot) (kept : Kept) (n : ℕ) → now ≡ Some v → IsRight v may b opened next time first
-    → Spells now b opened old → old.number < b.committed → IsCached (view_of b) (v b.file) mid → next_in (item_at old.place mid) old.index ≡ Some n → spot.number ≡ old.number → spot.place ≡ n → spot.index ≡ 0
-    → IsCached (view_of b) (v b.file) cache → item_at n cache ≡ Some kept → Spells now b opened spot × Found now b opened cache spot old.number
+    → SpellsSettled now b opened old → old.number < b.committed → IsCached (view_of b) (v b.file) mid → next_in (item_at old.place mid) old.index ≡ Some n → spot.number ≡ old.number → spot.place ≡ n → spot.index ≡ 0
+    → IsCached (view_of b) (v b.file) cache → item_at n cache ≡ Some kept → SpellsSettled now b opened spot × Found now b opened cache spot old.number
 found_next now v may b opened next time first mid cache old spot kept n told right spells lt cached_mid turns number place index cached held =
     let f0 = turn now v may b opened next time first mid old n told right spells lt cached_mid turns in
     let f1 = subst (λ (p : ℕ). InFront b (v b.file) p 0 old.number) (sym place) f0 in
     let f2 = subst (λ (i : ℕ). InFront b (v b.file) spot.place i old.number) (sym index) f1 in
     let f = subst (λ (m : ℕ). InFront b (v b.file) spot.place spot.index m) (sym number) f2 in
     let less : spot.number < b.committed = omega (arith, number, lt) in (
-      record { image = v; told = told; number = omega (arith, less); spelling = inl (omega (arith, less), f.chunk) },
+      record {
+        image = v;
+        told = told;
+        number = omega (arith, less);
+        spelling = inl (omega (arith, less), f.chunk);
+        at = chunk_rests v may b opened next time first right spot.place spot.index spot.number f.chunk;
+      },
       subst (λ (m : ℕ). Found now b opened cache spot m) number (found_by now v may b opened next time first cache spot kept told right f less cached (subst (λ (p : ℕ). item_at p cache ≡ Some kept) (sym place) held)),
     )
 

@@ -9,7 +9,8 @@ use Rattle.rg_chunk.specs.declared.fault.ChunkFault.{ChunkFault}
 use Rattle.rg_chunk.specs.declared.fault.ChunkFault.TheVariants.{BadChunk, Memory}
 use Rattle.rg_chunk.specs.Extended.{all_extended}
 use Rattle.rg_log.proofs.Extending.{length-extended}
-use Rattle.rg_reservoir.specs.Chain.{chunk_in}
+use Rattle.rg_frame.specs.Frames.{payload_at}
+use Rattle.rg_reservoir.specs.Chain.{chunk_in, chunk_at}
 use Rattle.rg_reservoir.specs.Kept.{Base, view_of}
 use Rattle.rg_reservoir.specs.Views.{View, seen_from, plain, before, shape_at, grown_at, passed}
 use Rattle.rg_reservoir.specs.declared.growing.Growing.{Growing}
@@ -17,10 +18,6 @@ use Rattle.rg_reservoir.specs.declared.growing.Growing.{Growing}
 -- a log without a growth has the view of one
 pub plain_is : (b : Base) → b.growths ≡ [] → view_of b ≡ plain b.shape
 plain_is b none = ap (seen_from b.shape) none
-
--- and its one schema is in force at each place
-pub plain_fields : (b : Base) (place : ℕ) → b.growths ≡ [] → (shape_at (view_of b) place).fields ≡ b.shape.fields
-plain_fields b place none = ap (λ (view : View). (shape_at view place).fields) (plain_is b none)
 
 -- values that come behind those of events leave their number
 pub length-grown : (growths : List Growing) (place : ℕ) (events : List Event) → length (grown_at growths place events) ≡ length events
@@ -59,6 +56,10 @@ first_of (Some c) = c.0
 abbrev next_of : Option (List Event × ℕ) → ℕ
 next_of None = 0
 next_of (Some c) = c.1
+
+-- the chunk that a payload at a place says
+pub chunk_by : (view : View) (place : ℕ) (bytes p : List ℕ) (events : List Event) → payload_at place bytes ≡ Some p → chunk_of (shape_at view place).fields p ≡ Some events → chunk_at view place bytes ≡ Some (made view place p events)
+chunk_by view place bytes p events here says = ap (chunk_in view place) here ∙ ap (option_map (made view place p)) says
 
 pub parts : (view : View) (place : ℕ) (said : Option (List ℕ)) (c : List Event) (n : ℕ) → chunk_in view place said ≡ Some (c, n) → Parts view place said c n
 parts view place None c n e = absurd cc

@@ -2,18 +2,20 @@
 use Rattle.std.proofs.Common.{◌≡◌, ◌∙◌, ℕ, ◌+◌, ◌^◌, ◌<◌, List, ◌∷◌, ◌++◌, length, drop, Option, Some, None, option_map, option_and_then, refl, sym, ap, subst, arith, length-append, length-drop}
 use Rattle.rg_event.specs.Shapes.{Shape, IsSchema}
 use Rattle.rg_event.specs.declared.event.Event.{Event}
+use Rattle.rg_growth.specs.Payloads.{growth_of}
+use Rattle.rg_growth.specs.declared.growth.Growth.{Growth}
 use Rattle.rg_chunk.specs.Chunks.{chunk_of}
 use Rattle.rg_chunk.specs.Heads.{head_of, head_for}
 use Rattle.rg_chunk.specs.declared.head.ChunkHead.{ChunkHead}
-use Rattle.rg_chunk.proofs.Chunks.{chunk_head}
-use Rattle.rg_log.specs.Entries.{nothing, told_by, unread, behind, entry_of, further_entry, with_entry, events_by}
+use Rattle.rg_log.specs.Entries.{nothing, told_by, unread, behind, head_or, entry_of, further_entry, with_entry, entry_after, events_by}
 use Rattle.rg_log.specs.Log.{schema_payload}
+use Rattle.rg_log.specs.Stages.{Stage as Said, chunk, growth, shape_after, IsStage}
 use Rattle.rg_log.specs.declared.entry.Entry.{Entry}
 use Rattle.rg_log.specs.declared.entry.Entry.TheVariants as entry
 use Rattle.rg_log.specs.declared.entry.LogSoFar.{LogSoFar}
 use Rattle.rg_log.specs.declared.summary.LogSummary.{LogSummary}
-use Rattle.rg_log.proofs.Entries.{further}
 use Rattle.rg_log.proofs.Reading.{schema_said}
+use Rattle.rg_log.proofs.Entries.{entry_for, entry_said}
 use Rattle.rg_frame.specs.Frames.{body}
 use Rattle.rg_frame.specs.Looks.{HoldsFrame, IsTorn}
 use Rattle.rg_frame.proofs.Payloads.{holds_payload, torn_payload}
@@ -52,16 +54,40 @@ walk_bad bytes payload next walk holds small is untaken = record {
 abbrev step_of : LogSoFar → List ℕ → Option Entry → Option (Stage × LogSoFar)
 step_of so_far payload found = option_and_then (λ (e : Entry). with_both (stage_by so_far.schema payload e) (with_entry so_far e)) found
 
--- the frame of a schema, and a chunk that may follow those before it
+-- the frame of a schema
 pub schema_step : (shape : Shape) → IsSchema shape → stage_after unread (schema_payload shape) ≡ Some (stage.Schema shape, behind shape nothing)
 schema_step shape legal = ap (λ (o : Option Shape). step_of unread (schema_payload shape) (option_map (λ (s : Shape). entry.Schema s) o)) (schema_said shape legal)
 
-pub chunk_step : (shape : Shape) (summary next : LogSummary) (payload : List ℕ) (events : List Event) → chunk_of shape.fields payload ≡ Some events → told_by summary (head_of payload) ≡ Some next → stage_after (behind shape summary) payload ≡ Some (stage.Chunk events, behind shape next)
-chunk_step shape summary next payload events said told =
-    let head = chunk_head shape.fields payload events said in
-    ap (λ (o : Option ChunkHead). step_of (behind shape summary) payload (option_map (λ (h : ChunkHead). entry.Chunk h) o)) head
-    ∙ ap (λ (o : Option (List Event)). with_both (option_map (λ (l : List Event). stage.Chunk l) o) (with_entry (behind shape summary) (entry.Chunk (head_for events)))) said
-    ∙ ap (λ (o : Option LogSummary). with_both (Some (stage.Chunk events)) (option_map (behind shape) o)) (sym (ap (told_by summary) head) ∙ told)
+-- what a walk gives of a stage
+abbrev pub walked : Said → Stage
+walked (chunk events) = stage.Chunk events
+walked (growth grown) = stage.Growth grown.to grown.values
+
+-- what the step makes of its frame
+passed_by : (shape : Shape) (summary : LogSummary) (payload : List ℕ) (said : Said) (next : LogSoFar) → IsStage shape payload said → entry_after (behind shape summary) payload ≡ Some next → with_entry (behind shape summary) (entry_for said) ≡ Some next
+passed_by shape summary payload said next is passed = sym (ap (option_and_then (with_entry (behind shape summary))) (entry_said shape payload said is)) ∙ passed
+
+-- the frame of a stage, where it may follow those before it
+pub stage_step : (shape : Shape) (summary : LogSummary) (payload : List ℕ) (said : Said) (next : LogSoFar) → IsStage shape payload said → entry_after (behind shape summary) payload ≡ Some next → stage_after (behind shape summary) payload ≡ Some (walked said, next)
+stage_step shape summary payload said next is passed = ap (step_of (behind shape summary) payload) (entry_said shape payload said is) ∙ by said is (passed_by shape summary payload said next is passed)
+  where
+    by : (one : Said) → IsStage shape payload one → with_entry (behind shape summary) (entry_for one) ≡ Some next → with_both (stage_by (Some shape) payload (entry_for one)) (with_entry (behind shape summary) (entry_for one)) ≡ Some (walked one, next)
+    by (chunk events) here e =
+        ap (λ (o : Option (List Event)). with_both (option_map (λ (l : List Event). stage.Chunk l) o) (with_entry (behind shape summary) (entry.Chunk (head_for events)))) here.said ∙ ap (with_both (Some (stage.Chunk events))) e
+    by (growth grown) here e = ap (with_both (Some (stage.Growth grown.to grown.values))) e
+
+known_next : (shape : Shape) (o : Option LogSummary) (next : LogSoFar) → option_map (behind shape) o ≡ Some next → next ≡ behind shape next.summary
+known_next shape None next e = absurd (let f : None ≡ Some next = e in cc)
+known_next shape (Some summary) next e =
+    let f : Some (behind shape summary) ≡ Some next = e in
+    let same : behind shape summary ≡ next = cc in
+    sym same ∙ ap (λ (l : LogSoFar). behind shape l.summary) same
+
+-- and the schema that is in force behind it
+pub step_known : (shape : Shape) (summary : LogSummary) (payload : List ℕ) (said : Said) (next : LogSoFar) → IsStage shape payload said → entry_after (behind shape summary) payload ≡ Some next → next ≡ behind (shape_after shape said) next.summary
+step_known shape summary payload (chunk events) next is passed =
+    known_next shape (told_by summary (Some (head_for events))) next (passed_by shape summary payload (chunk events) next is passed)
+step_known shape summary payload (growth grown) next is passed = known_next grown.to (Some summary) next (passed_by shape summary payload (growth grown) next is passed)
 
 -- what a step says
 
@@ -95,21 +121,20 @@ chunk_whole : (o : Option (List Event)) (s : Stage) → option_map (λ (events :
 chunk_whole None s e = absurd (let f : None ≡ Some s = e in cc)
 chunk_whole (Some events) s e = let f : Some (stage.Chunk events) ≡ Some s = e in (events, refl, (let same : stage.Chunk events ≡ s = cc in sym same))
 
--- with the schema's frame the chunks come to the same
-pub took_schema : (payload : List ℕ) (old new : LogSoFar) (shape : Shape) → stage_after old payload ≡ Some (stage.Schema shape, new) → new.summary ≡ old.summary
-took_schema payload old new shape step = by read.entry read.whole read.passed
+-- with a frame that is no chunk the chunks come to the same
+pub took_none : (payload : List ℕ) (old new : LogSoFar) (s : Stage) → ((events : List Event) → s ≡ stage.Chunk events → ⊥) → stage_after old payload ≡ Some (s, new) → new.summary ≡ old.summary
+took_none payload old new s none step = by read.entry read.whole read.passed
   where
-    read : IsRead payload old (stage.Schema shape) new
-    read = read_parts payload old (stage.Schema shape) new step
+    read : IsRead payload old s new
+    read = read_parts payload old s new step
 
-    by : (e : Entry) → stage_by old.schema payload e ≡ Some (stage.Schema shape) → with_entry old e ≡ Some new → new.summary ≡ old.summary
-    by (entry.Schema other) whole passed =
-        let f : Some (record { schema = Some other; summary = old.summary }) ≡ Some new = passed in
-        let same : record { schema = Some other; summary = old.summary } ≡ new = cc in
-        ap (λ (l : LogSoFar). l.summary) (sym same)
-    by (entry.Chunk head) whole passed =
-        let w = chunk_whole (events_by old.schema payload) (stage.Schema shape) whole in
-        absurd (let f : stage.Schema shape ≡ stage.Chunk w.0 = w.2 in cc)
+    kept : (shape : Shape) → Some (record { schema = Some shape; summary = old.summary }) ≡ Some new → new.summary ≡ old.summary
+    kept shape e = let same : record { schema = Some shape; summary = old.summary } ≡ new = cc in ap (λ (l : LogSoFar). l.summary) (sym same)
+
+    by : (e : Entry) → stage_by old.schema payload e ≡ Some s → with_entry old e ≡ Some new → new.summary ≡ old.summary
+    by (entry.Schema other) whole passed = kept other passed
+    by (entry.Chunk head) whole passed = let w = chunk_whole (events_by old.schema payload) s whole in absurd (none w.0 w.2)
+    by (entry.Growth grown) whole passed = kept grown.to passed
 
 -- a chunk is one of the schema in force, and may follow those before it
 pub record IsChunkStep (payload : List ℕ) (old new : LogSoFar) (events : List Event) : Type 0 where
@@ -122,6 +147,18 @@ known_events : (schema : Option Shape) (payload : List ℕ) (events : List Event
 known_events None payload events is = absurd (let f : None ≡ Some events = is in cc)
 known_events (Some shape) payload events is = (shape, refl, is)
 
+head_found : (head : ChunkHead) (o : Option ChunkHead) (grown : Option Growth) → head_or o grown ≡ Some (entry.Chunk head) → o ≡ Some head
+head_found head None None e = absurd (let f : None ≡ Some (entry.Chunk head) = e in cc)
+head_found head None (Some g) e = absurd (let f : Some (entry.Growth g) ≡ Some (entry.Chunk head) = e in cc)
+head_found head (Some h) grown e = let f : Some (entry.Chunk h) ≡ Some (entry.Chunk head) = e in cc
+
+told_next : (schema : Option Shape) (o : Option LogSummary) (new : LogSoFar) → option_map (λ (summary : LogSummary). record { schema = schema; summary = summary }) o ≡ Some new → o ≡ Some new.summary
+told_next schema None new e = absurd (let f : None ≡ Some new = e in cc)
+told_next schema (Some summary) new e =
+    let f : Some (record { schema = schema; summary = summary }) ≡ Some new = e in
+    let same : record { schema = schema; summary = summary } ≡ new = cc in
+    ap (λ (l : LogSoFar). Some l.summary) same
+
 pub took_chunk : (payload : List ℕ) (old new : LogSoFar) (events : List Event) → stage_after old payload ≡ Some (stage.Chunk events, new) → IsChunkStep payload old new events
 took_chunk payload old new events step = by read.entry read.is read.whole read.passed
   where
@@ -130,10 +167,12 @@ took_chunk payload old new events step = by read.entry read.is read.whole read.p
 
     by : (e : Entry) → entry_of old.schema payload ≡ Some e → stage_by old.schema payload e ≡ Some (stage.Chunk events) → with_entry old e ≡ Some new → IsChunkStep payload old new events
     by (entry.Schema other) is whole passed = absurd (let f : Some (stage.Schema other) ≡ Some (stage.Chunk events) = whole in cc)
+    by (entry.Growth grown) is whole passed = absurd (let f : Some (stage.Growth grown.to grown.values) ≡ Some (stage.Chunk events) = whole in cc)
     by (entry.Chunk head) is whole passed =
         let w = chunk_whole (events_by old.schema payload) (stage.Chunk events) whole in
         let f : stage.Chunk events ≡ stage.Chunk w.0 = w.2 in
         let same : w.0 ≡ events = cc in
         let k = known_events old.schema payload w.0 w.1 in
-        let front : further_entry payload ≡ Some (entry.Chunk head) = sym (ap (λ (o : Option Shape). entry_of o payload) k.1) ∙ is in
-        record { shape = k.0; known = k.1; said = k.2 ∙ ap (λ (l : List Event). Some l) same; follows = (further payload old new (entry.Chunk head) front passed).told }
+        let front : further_entry k.0 payload ≡ Some (entry.Chunk head) = sym (ap (λ (o : Option Shape). entry_of o payload) k.1) ∙ is in
+        let says : head_of payload ≡ Some head = head_found head (head_of payload) (growth_of k.0 payload) front in
+        record { shape = k.0; known = k.1; said = k.2 ∙ ap (λ (l : List Event). Some l) same; follows = ap (told_by old.summary) says ∙ told_next old.schema (told_by old.summary (Some head)) new passed }

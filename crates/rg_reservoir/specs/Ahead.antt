@@ -7,8 +7,8 @@ use Rattle.rg_host.specs.Moments.{Moment, LeavesAll}
 use Rattle.rg_event.specs.declared.event.Event.{Event}
 use Rattle.rg_past.specs.declared.past.Spot.{Spot}
 use Rattle.rg_cache.specs.Cache.{Cache, holds_place, places, least_recently_used, touches}
-use Rattle.rg_reservoir.specs.Chain.{chunk_at, IsIllegal}
-use Rattle.rg_reservoir.specs.Kept.{Base, base, view_of, cache_of, loads_of, look_places, held_after, IsCached, IsInside, IsSound, Stays, AllTouched}
+use Rattle.rg_reservoir.specs.Chain.{chunk_at, IsIllegalBy}
+use Rattle.rg_reservoir.specs.Kept.{Base, base, view_of, cache_of, loads_of, settled, look_places, held_after, IsCached, IsInside, IsSound, Stays, AllTouched}
 use Rattle.rg_reservoir.specs.declared.fault.ReservoirFault.{ReservoirFault}
 use Rattle.rg_reservoir.specs.declared.fault.ReservoirFault.TheVariants as fault
 use Rattle.rg_reservoir.specs.declared.kept.Kept.{Kept}
@@ -24,7 +24,7 @@ abbrev pub closed_behind : ℕ → Option (List Event × ℕ) → List ℕ
 closed_behind end None = []
 closed_behind end (Some chunk) = if nat_lt chunk.1 end then chunk.1 ∷ [] else []
 
--- the places that a load ahead touches for a spot of a closed chunk: those of a look at it, and then that of the chunk behind the event's
+-- the places that a load ahead touches for a spot of a closed chunk, at whose place no growth stands: those of a look at it, and then that of the chunk behind the event's
 abbrev pub ahead_places : Base → List ℕ → Spot → List ℕ
 ahead_places b bytes spot =
     if nat_le b.committed spot.number then []
@@ -33,7 +33,7 @@ ahead_places b bytes spot =
 -- those for these spots, in order
 abbrev pub all_ahead : Base → List ℕ → List Spot → List ℕ
 all_ahead b bytes [] = []
-all_ahead b bytes (spot ∷ spots) = ahead_places b bytes spot ++ all_ahead b bytes spots
+all_ahead b bytes (spot ∷ spots) = ahead_places b bytes (settled b spot) ++ all_ahead b bytes spots
 
 -- the place behind a chunk that is held, where that is before the end
 abbrev pub closed_next : ℕ → Option Kept → Option ℕ
@@ -82,6 +82,6 @@ pub record Touches {H : Type 0} (now : H → Option Image) (may : H → Image �
 
 -- what stops a load: a failed call on the file, a damaged place, or want of memory
 pub record IsLoadStop {H R : Type 0} (now : H → Option Image) (disk_faults : H → ℕ) (result : Result R ReservoirFault) (old : Reservoir) (host after : H) : Type 0 where
-  pub damaged : (p : ℕ) → IsErrOf result (fault.Damaged p) → ForSome (now host) (λ v. IsIllegal (base old).shape.fields p (v (base old).file))
+  pub damaged : (p : ℕ) → IsErrOf result (fault.Damaged p) → ForSome (now host) (λ v. IsIllegalBy (view_of (base old)) p (v (base old).file))
   pub disk : IsErrOf result fault.Disk → Rose (disk_faults host) (disk_faults after)
   pub faults : IfErr result (λ e. (e ≡ fault.Disk) ⊎ (e ≡ fault.Memory) ⊎ ((p : ℕ) × (e ≡ fault.Damaged p)))

@@ -1,27 +1,24 @@
 -- What a reservoir finds of a log, and what it writes.
-use Rattle.std.specs.Prelude.{◌≡◌, ◌≢◌, ◌⊎◌, ◌+◌, ℕ, List, [], length, Some}
+use Rattle.std.specs.Prelude.{◌≡◌, ◌≢◌, ◌⊎◌, ◌+◌, ℕ, List, [], ◌∷◌, length, Some}
 use Rattle.rg_event.specs.Shapes.{Shape, IsSchema}
-use Rattle.rg_frame.specs.Frames.{payload_at, IsLog, HasPayloads}
+use Rattle.rg_frame.specs.Frames.{IsLog, HasPayloads}
 use Rattle.rg_frame.specs.Steps.{Grows, Grown}
-use Rattle.rg_log.specs.Log.{schema_payload}
+use Rattle.rg_log.specs.Entries.{unread, behind, entries_after}
 use Rattle.rg_log.specs.declared.summary.LogSummary.{LogSummary}
-use Rattle.rg_reservoir.specs.Heads.{IsOpenGate, IsBad, Passed}
+pub use Rattle.rg_reservoir.specs.Heads.{IsBadFrame}
+use Rattle.rg_reservoir.specs.Chain.{IsIllegalBy}
+use Rattle.rg_reservoir.specs.Heads.{growths_in}
+use Rattle.rg_reservoir.specs.Views.{View, seen_from, plain, passed}
 
--- the first frame is no schema's
-pub record IsNoSchema (bytes : List ℕ) : Type 0 where
-  pub gate : IsOpenGate 0 bytes
-  pub none : (shape : Shape) → IsSchema shape → payload_at 0 bytes ≡ Some (schema_payload shape) → ⊥
-
--- the first frame is a schema's, but not that one's
-pub record IsOther (ours bytes : List ℕ) : Type 0 where
-  pub shape : Shape
-  pub legal : IsSchema shape
-  pub here : payload_at 0 bytes ≡ Some (schema_payload shape)
-  pub other : schema_payload shape ≢ ours
-
--- the open frame at that place isn't whole, isn't what its place asks for, or doesn't continue the frames before it, by heads
-abbrev pub IsBadFrame : List ℕ → ℕ → List ℕ → Type 0
-IsBadFrame ours place bytes = ((place ≡ 0) × IsNoSchema bytes) ⊎ ((first : ℕ) × (payload_at 0 bytes ≡ Some ours) × (first ≡ 9 + length ours) × IsBad bytes first place)
+-- the log is whole by heads and growths, and another schema than that one is in force at its end
+pub record IsOther (shape : Shape) (bytes : List ℕ) : Type 0 where
+  pub other : Shape
+  pub legal : IsSchema other
+  pub payloads : List (List ℕ)
+  pub has : HasPayloads payloads bytes
+  pub summary : LogSummary
+  pub say : entries_after unread payloads ≡ Some (behind other summary)
+  pub differs : other ≢ shape
 
 -- the file as it was, or where it had no frame, none or the schema's alone
 abbrev pub SchemaAdded : List ℕ → List ℕ → List ℕ → Type 0
@@ -31,11 +28,22 @@ SchemaAdded ours old new = (new ≡ old) ⊎ (HasPayloads [] old × Grows ours o
 abbrev pub Opens : List ℕ → ℕ → ℕ → List ℕ → List ℕ → Type 0
 Opens ours first end old new = (new ≡ old) ⊎ (IsLog [] 0 old × (end ≡ first) × Grown ours old new)
 
--- the log is read to its end
-pub record IsOpened (ours : List ℕ) (first end : ℕ) (tally : LogSummary) (bytes : List ℕ) : Type 0 where
-  pub here : payload_at 0 bytes ≡ Some ours
-  pub ends : first ≡ 9 + length ours
-  pub passed : Passed bytes first end tally
+-- the log is read to its end: its frames give this view and come to that, and its first chunk would stand at that place
+pub record IsOpened (view : View) (first end : ℕ) (summary : LogSummary) (bytes : List ℕ) : Type 0 where
+  pub start : List ℕ
   pub payloads : List (List ℕ)
-  pub log : IsLog payloads end bytes
-  pub has : HasPayloads payloads bytes
+  pub log : IsLog (start ∷ payloads) end bytes
+  pub has : HasPayloads (start ∷ payloads) bytes
+  pub say : entries_after unread (start ∷ payloads) ≡ Some (behind view.shape summary)
+  pub growths : view.growths ≡ growths_in (start ∷ payloads)
+  pub first_is : first ≡ passed view.growths (9 + length start)
+
+-- the view that the frames of a file give by heads and growths, where that schema is in force at their end; a file without a frame gives one without a growth
+abbrev pub HasView : Shape → View → List ℕ → Type 0
+HasView shape view bytes =
+    (HasPayloads [] bytes × (view ≡ plain shape))
+    ⊎ ((payloads : List (List ℕ)) × (summary : LogSummary) × HasPayloads payloads bytes × (entries_after unread payloads ≡ Some (behind shape summary)) × (view ≡ seen_from shape (growths_in payloads)))
+
+-- an open gate stands at that place of the later file, and behind it no legal chunk of the schema that was in force there in the earlier file, at whose end that one was
+abbrev pub IsIllegalSince : Shape → List ℕ → ℕ → List ℕ → Type 0
+IsIllegalSince shape old place new = (view : View) × HasView shape view old × IsIllegalBy view place new

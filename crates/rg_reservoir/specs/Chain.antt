@@ -2,10 +2,8 @@
 use Rattle.std.specs.Prelude.{◌≡◌, ◌<◌, ◌+◌, ℕ, zero, suc, List, [], ◌∷◌, ◌++◌, length, drop, Option, Some, None, option_map, option_and_then}
 use Rattle.rg_event.specs.declared.event.Event.{Event}
 use Rattle.rg_event.specs.declared.schema.Field.{Field}
-use Rattle.rg_event.specs.Shapes.{Shape}
 use Rattle.rg_frame.specs.Frames.{payload_at}
 use Rattle.rg_chunk.specs.Chunks.{chunk_of}
-use Rattle.rg_log.specs.Log.{schema_payload}
 use Rattle.rg_reservoir.specs.Views.{View, shape_at, grown_at, passed}
 
 -- the events of a payload's chunk at a place, as the log's end sees them, and the place where the next chunk stands
@@ -29,6 +27,10 @@ pub record IsIllegal (fields : List Field) (place : ℕ) (bytes : List ℕ) : Ty
   pub longer : 1 < length bytes
   pub none : option_and_then (chunk_of fields) (payload_at place bytes) ≡ None
 
+-- the same of the schema that the view has in force there
+abbrev pub IsIllegalBy : View → ℕ → List ℕ → Type 0
+IsIllegalBy view place bytes = IsIllegal (shape_at view place).fields place bytes
+
 -- a chunk's events, and then what stands from the next place on
 abbrev pub with_chunk : Option (List Event × ℕ) → (ℕ → List Event) → List Event
 with_chunk None more = []
@@ -48,8 +50,3 @@ abbrev pub padded : ℕ → List Event → List Event
 padded zero events = []
 padded (suc count) [] = blank ∷ padded count []
 padded (suc count) (event ∷ events) = event ∷ padded count events
-
--- the first frame is that of this schema, and ends there
-pub record IsFirst (shape : Shape) (first : ℕ) (bytes : List ℕ) : Type 0 where
-  pub here : payload_at 0 bytes ≡ Some (schema_payload shape)
-  pub ends : first ≡ 9 + length (schema_payload shape)

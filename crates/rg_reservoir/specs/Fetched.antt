@@ -5,8 +5,8 @@ use Rattle.rg_bytes.specs.Counts.{Rose}
 use Rattle.rg_host.specs.Image.{Image}
 use Rattle.rg_event.specs.declared.event.Event.{Event}
 use Rattle.rg_frame.specs.Looks.{IsClosed}
-use Rattle.rg_reservoir.specs.Chain.{chunk_at, IsIllegal}
-use Rattle.rg_reservoir.specs.Views.{View, shape_at}
+use Rattle.rg_reservoir.specs.Chain.{chunk_at, IsIllegalBy}
+use Rattle.rg_reservoir.specs.Views.{View}
 use Rattle.rg_reservoir.specs.declared.fault.ReservoirFault.{ReservoirFault}
 use Rattle.rg_reservoir.specs.declared.fault.ReservoirFault.TheVariants as fault
 use Rattle.rg_reservoir.specs.declared.kept.Kept.{Kept}
@@ -21,6 +21,6 @@ pub record HasFetched {H : Type 0} (now : H → Option Image) (reads : H → ℕ
 
 -- why a chunk wasn't read: the place is damaged, a call on the file failed, or memory was wanted
 pub record IsFetchStop (now : Option Image) (view : View) (file : ℕ) (rose : Type 0) (result : Result (Option Kept) ReservoirFault) : Type 0 where
-  pub damaged : (p : ℕ) → IsErrOf result (fault.Damaged p) → ForSome now (λ v. IsIllegal (shape_at view p).fields p (v file))
+  pub damaged : (p : ℕ) → IsErrOf result (fault.Damaged p) → ForSome now (λ v. IsIllegalBy view p (v file))
   pub disk : IsErrOf result fault.Disk → rose
   pub faults : IfErr result (λ e. (e ≡ fault.Disk) ⊎ (e ≡ fault.Memory) ⊎ ((p : ℕ) × (e ≡ fault.Damaged p)))

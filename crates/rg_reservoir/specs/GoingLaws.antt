@@ -13,7 +13,8 @@ use Rattle.rg_past.specs.Ranges.{IsInRange}
 use Rattle.rg_host.specs.Moments.{Moment}
 use Rattle.rg_host.proofs.Runs.{leaves_all-none, leaves_all-then}
 use Rattle.rg_reservoir.specs.Chain.{padded}
-use Rattle.rg_reservoir.specs.Kept.{Base, base, opened, stored, all_events, IsSound, Spells, SpellsLater, InChunk, InFront, InOpen}
+use Rattle.rg_reservoir.specs.Kept.{Base, base, opened, stored, all_events, IsSound, SpellsSettled, LaterSettled, Spells, SpellsLater, InChunk, InFront, InOpen}
+use Rattle.rg_reservoir.specs.Views.{passed}
 use Rattle.rg_reservoir.specs.Going.{Goes}
 use Rattle.rg_reservoir.specs.declared.reservoir.Reservoir.{Reservoir}
 
@@ -70,10 +71,14 @@ module _ {H : Type 0} (now : H → Option Image) (may : H → Image → Type 0) 
   pub Goes-spells : (pr : MutBor Reservoir) (ph : MutBor H) (qr : MutBor Reservoir) (qh : MutBor H) (s : Spot) → Goes now may clock since said out_faults pr ph qr qh
       → Spells (now ph.now) (base pr.now) (opened pr.now) s → Spells (now qh.now) (base qr.now) (opened qr.now) s
   Goes-spells pr ph qr qh s goes spells = subst (λ (b : Base). Spells (now qh.now) b (opened qr.now) s) (sym goes.base) (record {
-    image = spells.image;
-    told = goes.leaves.now_stays ∙ spells.told;
-    number = omega (arith, spells.number, ap length goes.added.1, length-append (opened pr.now) goes.added.0);
-    spelling = spells.spelling;
+    there = record {
+      image = spells.there.image;
+      told = goes.leaves.now_stays ∙ spells.there.told;
+      number = omega (arith, spells.there.number, ap length goes.added.1, length-append (opened pr.now) goes.added.0);
+      spelling = spells.there.spelling;
+      at = spells.there.at;
+    };
+    at = spells.at;
   })
 
   -- the events of a later state begin with those of an earlier one
@@ -93,12 +98,19 @@ module _ {H : Type 0} (now : H → Option Image) (may : H → Image → Type 0) 
 pub fits_range : (r : Reservoir) (event : Event) → IsEventOf (base r).shape.fields event → IsInRange event
 fits_range r event fits = record { offset = fits.offset; time = fits.time }
 
-pub later_spells : (now : Option Image) (b : Base) (opened : List Event) (s : Spot) → SpellsLater now b opened s → Spells now b opened s
-later_spells now b opened s later = record { image = later.image; told = later.told; number = later.number; spelling = by later.spelling }
+later_there : (now : Option Image) (b : Base) (opened : List Event) (s : Spot) → passed b.growths s.place ≡ s.place → LaterSettled now b opened s → SpellsSettled now b opened s
+later_there now b opened s at later = record { image = later.image; told = later.told; number = later.number; spelling = by later.spelling; at = at }
   where
     by : ((s.number < b.committed) × InFront b (later.image b.file) s.place s.index s.number) ⊎ InOpen b s.place s.index s.number → ((s.number ≤ b.committed) × InChunk b (later.image b.file) s.place s.index s.number) ⊎ InOpen b s.place s.index s.number
     by (inl f) = inl (omega (arith, f.0), f.1.chunk)
     by (inr o) = inr o
+
+-- a spot at whose place no growth stands is where it is
+pub spells_here : (now : Option Image) (b : Base) (opened : List Event) (s : Spot) → SpellsSettled now b opened s → Spells now b opened s
+spells_here now b opened s there = record { there = subst (λ (p : ℕ). SpellsSettled now b opened (record { place = p; index = s.index; number = s.number })) (sym there.at) there; at = inl there.at }
+
+pub later_spells : (now : Option Image) (b : Base) (opened : List Event) (s : Spot) → SpellsLater now b opened s → Spells now b opened s
+later_spells now b opened s later = spells_here now b opened s (later_there now b opened s later.at later.there)
 
 pub not_false : (b : Bool) → (b ≡ true → ⊥) → b ≡ false
 not_false true h = absurd (h refl)
@@ -111,7 +123,7 @@ sound_order now may r sound going = (
 )
 
 pub spells_within : (now : Option Image) (b : Base) (opened : List Event) (s : Spot) → Spells now b opened s → s.number ≤ length (all_events now b opened)
-spells_within now b opened s spells = omega (arith, spells.number, all_long now b opened)
+spells_within now b opened s spells = omega (arith, spells.there.number, all_long now b opened)
 
 pub limit_small : (r : Reservoir) → (base r).limit ≤ 2 ^ 40
 limit_small r = r.small

@@ -15,9 +15,11 @@ use Rattle.rg_frame.specs.Steps.{Grows, Grown}
 use Rattle.rg_bytes.specs.Counts.{Rose}
 use Rattle.rg_cache.specs.Cache.{Cache, item_at, holds_place, places, least_recently_used, touches}
 use Rattle.rg_chunk.specs.Chunks.{chunk_bytes}
-use Rattle.rg_log.specs.Log.{joined, HasEvents, HasSchemaFrame}
-use Rattle.rg_reservoir.specs.Chain.{chunk_at, Chain, events_from, padded, IsFirst, IsIllegal}
-use Rattle.rg_reservoir.specs.Views.{View, seen_from}
+use Rattle.rg_log.specs.Log.{schema_payload, joined, HasEvents, IsInForce}
+use Rattle.rg_log.specs.Stages.{Stage}
+use Rattle.rg_reservoir.specs.Chain.{chunk_at, Chain, events_from, padded, IsIllegalBy}
+use Rattle.rg_reservoir.specs.GrownViews.{IsViewOf}
+use Rattle.rg_reservoir.specs.Views.{View, seen_from, passed}
 use Rattle.rg_reservoir.specs.declared.kept.Kept.{Kept}
 use Rattle.rg_reservoir.specs.declared.reservoir.Reservoir.{Reservoir}
 use Rattle.rg_reservoir.specs.declared.growing.Growing.{Growing}
@@ -90,11 +92,12 @@ IsAbsent view place end bytes = (chunk : List Event) (next : ℕ) → chunk_at v
 abbrev pub IsPrefix : List Event → List Event → Type 0
 IsPrefix front events = (more : List Event) × (events ≡ front ++ more)
 
--- what is kept of the log is that log's, which has no growth, and what is kept of all events is theirs
+-- what is kept of the log is that log's, and what is kept of all events is theirs
 pub record IsRight (v : Image) (may : Image → Type 0) (b : Base) (opened : List Event) (next time : ℕ) (cache : Cache Kept) : Type 0 where
   pub settled : (u : Image) → may u → u b.file ≡ v b.file
-  pub plain : b.growths ≡ []
-  pub schema : IsFirst b.shape b.first (v b.file)
+  pub stages : List Stage
+  pub view : IsViewOf (view_of b) stages (v b.file)
+  pub first_is : b.first ≡ passed b.growths (9 + length (schema_payload view.begun))
   pub chunks : List (List Event)
   pub chain : Chain (view_of b) (v b.file) b.first chunks b.end
   pub ends : IsClosed b.end (v b.file)
@@ -102,7 +105,7 @@ pub record IsRight (v : Image) (may : Image → Type 0) (b : Base) (opened : Lis
   pub has : HasPayloads payloads (v b.file)
   pub end_is : b.end ≡ length (frames payloads)
   pub legal : HasEvents b.shape (joined chunks) (v b.file)
-  pub framed : HasSchemaFrame b.shape (v b.file)
+  pub framed : IsInForce b.shape (v b.file)
   pub counted : length (joined chunks) ≡ b.committed
   pub cached : IsCached (view_of b) (v b.file) cache
   pub inside : IsInside b.end cache
@@ -114,7 +117,7 @@ pub record IsRight (v : Image) (may : Image → Type 0) (b : Base) (opened : Lis
 
 -- each crash leaves a legal log that begins with what was committed and goes no further than all events; and what is kept is right, unless the log has ended
 pub record IsSoundIn (v : Image) (may : Image → Type 0) (b : Base) (opened : List Event) (next time : ℕ) (cache : Cache Kept) : Type 0 where
-  pub each : (u : Image) → may u → (events : List Event) × HasEvents b.shape events (u b.file) × HasSchemaFrame b.shape (u b.file) × IsPrefix (stored (Some v) b) events × IsPrefix events (all_events (Some v) b opened)
+  pub each : (u : Image) → may u → (events : List Event) × HasEvents b.shape events (u b.file) × IsInForce b.shape (u b.file) × IsPrefix (stored (Some v) b) events × IsPrefix events (all_events (Some v) b opened)
   pub right : b.ended ≡ false → IsRight v may b opened next time cache
 
 -- the host tells its image, and that holds there
@@ -145,19 +148,34 @@ pub record InOpen (b : Base) (place index number : ℕ) : Type 0 where
 abbrev pub count_of : Base → List Event → ℕ
 count_of b opened = b.committed + length opened
 
--- place and index spell the number
-pub record Spells (now : Option Image) (b : Base) (opened : List Event) (spot : Spot) : Type 0 where
+-- place and index spell the number, and no growth stands at the place
+pub record SpellsSettled (now : Option Image) (b : Base) (opened : List Event) (spot : Spot) : Type 0 where
   pub image : Image
   pub told : now ≡ Some image
   pub number : spot.number ≤ count_of b opened
   pub spelling : ((spot.number ≤ b.committed) × InChunk b (image b.file) spot.place spot.index spot.number) ⊎ InOpen b spot.place spot.index spot.number
+  pub at : passed b.growths spot.place ≡ spot.place
 
 -- in the later one of two spellings
-pub record SpellsLater (now : Option Image) (b : Base) (opened : List Event) (spot : Spot) : Type 0 where
+pub record LaterSettled (now : Option Image) (b : Base) (opened : List Event) (spot : Spot) : Type 0 where
   pub image : Image
   pub told : now ≡ Some image
   pub number : spot.number ≤ count_of b opened
   pub spelling : ((spot.number < b.committed) × InFront b (image b.file) spot.place spot.index spot.number) ⊎ InOpen b spot.place spot.index spot.number
+
+-- the spot behind the growths that stand at its place
+abbrev pub settled : Base → Spot → Spot
+settled b spot = record { place = passed b.growths spot.place; index = spot.index; number = spot.number }
+
+-- Place and index spell the number. Where growths stand at the place, that is the one behind them, and the index is 0.
+pub record Spells (now : Option Image) (b : Base) (opened : List Event) (spot : Spot) : Type 0 where
+  pub there : SpellsSettled now b opened (settled b spot)
+  pub at : (passed b.growths spot.place ≡ spot.place) ⊎ (spot.index ≡ 0)
+
+-- in the latest one of its spellings
+pub record SpellsLater (now : Option Image) (b : Base) (opened : List Event) (spot : Spot) : Type 0 where
+  pub there : LaterSettled now b opened spot
+  pub at : passed b.growths spot.place ≡ spot.place
 
 -- what stands at a spot, where its chunk is in the cache
 abbrev pub seen_in : Option Kept → ℕ → Option Event
@@ -184,7 +202,7 @@ next_in None index = None
 
 -- the spot is in its later spelling, and shows the event of that number
 pub record Found (now : Option Image) (b : Base) (opened : List Event) (cache : Cache Kept) (spot : Spot) (number : ℕ) : Type 0 where
-  pub later : SpellsLater now b opened spot
+  pub later : LaterSettled now b opened spot
   pub shows : seen b.committed opened cache spot ≡ slice_get (all_events now b opened) number
 
 -- the place of the next chunk, where the index is the count of this one
@@ -192,14 +210,14 @@ abbrev pub next_place : Option (List Event × ℕ) → ℕ → List ℕ
 next_place (Some chunk) index = if index == length chunk.0 then chunk.1 ∷ [] else []
 next_place None index = []
 
--- the places that a look at a spot touches
+-- the places that a look at a spot touches at whose place no growth stands
 abbrev pub look_places : Base → List ℕ → Spot → List ℕ
 look_places b bytes spot = if nat_le b.committed spot.number then [] else spot.place ∷ next_place (chunk_at (view_of b) spot.place bytes) spot.index
 
 -- no illegal chunk stands at the spot's place, nor, where the spot is behind the last event of a chunk that lies within the log, at the next place
 pub record IsLegalLook (b : Base) (bytes : List ℕ) (spot : Spot) : Type 0 where
-  pub here : IsIllegal b.shape.fields spot.place bytes → ⊥
-  pub behind : (chunk : List Event) (next : ℕ) → chunk_at (view_of b) spot.place bytes ≡ Some (chunk, next) → next ≤ b.end → spot.index ≡ length chunk → IsIllegal b.shape.fields next bytes → ⊥
+  pub here : IsIllegalBy (view_of b) spot.place bytes → ⊥
+  pub behind : (chunk : List Event) (next : ℕ) → chunk_at (view_of b) spot.place bytes ≡ Some (chunk, next) → next ≤ b.end → spot.index ≡ length chunk → IsIllegalBy (view_of b) next bytes → ⊥
 
 -- the places that are held after these touches
 abbrev pub held_after : Cache Kept → List ℕ → List ℕ

@@ -26,10 +26,11 @@ schema_of w = w.so_far.schema
 abbrev pub tally_of : Walk → LogSummary
 tally_of w = w.so_far.summary
 
--- what a frame is that is read whole: the schema, or the events of a chunk by the schema in force
+-- what a frame is that is read whole: the schema, the events of a chunk by the schema in force, or a growth
 abbrev pub stage_by : Option Shape → List ℕ → Entry → Option Stage
 stage_by schema payload (entry.Schema shape) = Some (stage.Schema shape)
 stage_by schema payload (entry.Chunk head) = option_map (λ (events : List Event). stage.Chunk events) (events_by schema payload)
+stage_by schema payload (entry.Growth growth) = Some (stage.Growth growth.to growth.values)
 
 -- both, where they are there
 abbrev pub with_both : Option Stage → Option LogSoFar → Option (Stage × LogSoFar)

@@ -5,8 +5,8 @@ ghost use Rattle.rg_host.specs.Image.{Image};
 ghost use Rattle.rg_host.specs.Moments.{LeavesAll};
 ghost use Rattle.rg_cache.specs.Cache.{item_at};
 ghost use Rattle.rg_reservoir.specs.Ahead.{closed_behind, ahead_places, all_ahead, SomeTouched, OnlyLoads, Touches, IsLoadStop};
-ghost use Rattle.rg_reservoir.specs.Chain.{chunk_at, IsIllegal};
-ghost use Rattle.rg_reservoir.specs.Kept.{base, view_of, opened, cache_of, loads_of, IsCached, IsInside, IsSound, Spells, InChunk, Stays, AllTouched};
+ghost use Rattle.rg_reservoir.specs.Chain.{chunk_at, IsIllegalBy};
+ghost use Rattle.rg_reservoir.specs.Kept.{base, view_of, opened, cache_of, loads_of, IsCached, IsInside, IsSound, settled, SpellsSettled, Spells, InChunk, Stays, AllTouched};
 ghost use Rattle.rg_reservoir.specs.declared.kept.Kept.{Kept};
 
 use crate::fault::ReservoirFault;
@@ -34,7 +34,7 @@ impl Reservoir {
 
         ensures ended { IsErrOf result ReservoirFault.Ended ↔ ((base self.old).ended ≡ true) }
         ensures untouched { IsErrOf result ReservoirFault.Ended → (self.new ≡ self.old) × (host.new ≡ host.old) }
-        ensures damaged { (p : ℕ) → IsErrOf result (ReservoirFault.Damaged p) → ForSome (H.now host.old) (λ v. IsIllegal (base self.old).shape.fields p (v (base self.old).file)) }
+        ensures damaged { (p : ℕ) → IsErrOf result (ReservoirFault.Damaged p) → ForSome (H.now host.old) (λ v. IsIllegalBy (view_of (base self.old)) p (v (base self.old).file)) }
         ensures disk { IsErrOf result ReservoirFault.Disk → Rose (H.disk_faults host.old) (H.disk_faults host.new) }
         ensures faults { IfErr result (λ fault. (fault ≡ ReservoirFault.Disk) ⊎ (fault ≡ ReservoirFault.Memory) ⊎ ((p : ℕ) × (fault ≡ ReservoirFault.Damaged p)) ⊎ (fault ≡ ReservoirFault.Ended)) }
         ensures leaves { LeavesAll H.now H.may H.clock H.since H.said host.old host.new }
@@ -58,7 +58,7 @@ impl Reservoir {
         ensures stops { IsLoadStop H.now H.disk_faults result self.old host.old host.new }
     {
         'spots: for spot in spots {
-            match self.load_ahead(host, *spot) {
+            match self.load_ahead(host, self.settled(*spot)) {
                 Ok(()) => {}
                 Err(fault) => return Err(fault),
             }
@@ -66,11 +66,23 @@ impl Reservoir {
         Ok(())
     }
 
-    /// Touches what a look at a spot touches, and then the chunk behind that of its event, where it is closed.
+    /// A spot, behind the growths that stand at its place.
+    fn settled(&self, spot: Spot) -> Spot
+        ensures { result ≡ settled (base self.now) spot }
+    {
+        Spot {
+            place: self.growths.passed(spot.place),
+            index: spot.index,
+            number: spot.number,
+        }
+    }
+
+    /// Touches what a look at a spot touches, and then the chunk behind that of its event, where it is closed. No growth
+    /// stands at the spot's place.
     fn load_ahead<H: Host>(&mut self, host: &mut H, spot: Spot) -> Result<(), ReservoirFault>
         requires going { (base self.old).ended ≡ false }
         ensures only { OnlyLoads H.now H.may H.clock H.since H.said H.disk_faults H.out_faults self.old self.new host.old host.new }
-        ensures touches { Touches H.now H.may H.reads (λ bytes. ahead_places (base self.old) bytes spot) (λ _. Spells (H.now host.old) (base self.old) (opened self.old) spot) result self.old self.new host.old host.new }
+        ensures touches { Touches H.now H.may H.reads (λ bytes. ahead_places (base self.old) bytes spot) (λ _. SpellsSettled (H.now host.old) (base self.old) (opened self.old) spot) result self.old self.new host.old host.new }
         ensures stops { IsLoadStop H.now H.disk_faults result self.old host.old host.new }
     {
         if spot.number >= self.committed {

@@ -12,7 +12,7 @@ pub enum ReservoirFault {
     /// The open frame at that place, in bytes, isn't whole, isn't what its position asks for, or
     /// doesn't continue the frames before it.
     Damaged(u64),
-    /// The log's first frame is another schema.
+    /// Another schema is in force at the log's end.
     SchemaDiffers,
     /// There are as many events as there may be.
     Full,

@@ -5,9 +5,10 @@ ghost use Rattle.rg_frame.specs.Frames.{frames, HasPayloads};
 ghost use Rattle.rg_frame.specs.Steps.{Grown};
 ghost use Rattle.rg_host.specs.Image.{Image};
 ghost use Rattle.rg_past.specs.declared.past.Spot.{Spot};
-ghost use Rattle.rg_log.specs.Log.{IsLegalLog};
+ghost use Rattle.rg_log.specs.Log.{IsLegalLog, HasFrame};
+ghost use Rattle.rg_log.specs.Plain.{IsPlainLog};
 ghost use Rattle.rg_log.specs.Spots.{SpotIn};
-ghost use Rattle.rg_log.specs.Stages.{Stage, IsStage, logged, plain as plain_stages, IsGrownLog, HasFrame};
+ghost use Rattle.rg_log.specs.Stages.{Stage, IsStage, logged, plain as plain_stages};
 ghost use Rattle.rg_reservoir.specs.Chain.{events_from};
 ghost use Rattle.rg_reservoir.specs.GrownViews.{IsViewOf, IsReadThrough, IsUngrown, view_after};
 ghost use Rattle.rg_reservoir.specs.Kept.{base, opened, IsSound, Spells};
@@ -21,14 +22,14 @@ use rg_host::Host;
 /// of its log.
 pub fn law_spells<H: Host>()
     ensures { (host : H) (r : TheReservoir) (v : Image) (spot : Spot) → IsSound (H.now host) (H.may host) r → (base r).ended ≡ false → opened r ≡ [] → H.now host ≡ Some v →
-        (Spells (H.now host) (base r) (opened r) spot ↔ SpotIn (base r).shape (v (base r).file) spot) }
+        (Spells (H.now host) (base r) (opened r) spot ↔ SpotIn (v (base r).file) spot) }
 {}
 
 /// A log whose schema may have grown, with a frame, gives one view, that of the schema in force at its end. Read through it,
 /// chunks stand one after another from behind the first frame to the end of the frames, and have just the events that the
 /// log's stages say, each with the values of every later growth behind its own.
 pub fn law_views()
-    ensures gives { (shape : Shape) (stages : List Stage) (bytes : List ℕ) → HasFrame bytes → IsGrownLog shape stages bytes → (view : View) × IsViewOf view stages bytes × (view.shape ≡ shape) }
+    ensures gives { (shape : Shape) (stages : List Stage) (bytes : List ℕ) → HasFrame bytes → IsLegalLog shape stages bytes → (view : View) × IsViewOf view stages bytes × (view.shape ≡ shape) }
     ensures one { (view other : View) (stages : List Stage) (bytes : List ℕ) → IsViewOf view stages bytes → IsViewOf other stages bytes → view ≡ other }
     ensures reads { (view : View) (stages : List Stage) (bytes : List ℕ) → IsViewOf view stages bytes → IsReadThrough view (logged stages) bytes }
     ensures just { (view : View) (stages : List Stage) (events : List TheEvent) (bytes : List ℕ) → IsViewOf view stages bytes → IsReadThrough view events bytes → events ≡ logged stages }
@@ -41,8 +42,8 @@ pub fn law_views()
     ensures more { (view : View) (stages : List Stage) (stage : Stage) (payloads : List (List ℕ)) (payload old new : List ℕ) → IsViewOf view stages old → HasPayloads payloads old → IsStage view.shape payload stage → Grown payload old new →
         IsViewOf (view_after view (length (frames payloads)) payload stage) (stages ++ stage ∷ []) new }
 
-    // A log without a growth has the view that each log has today.
-    ensures ungrown { (shape : Shape) (chunks : List (List TheEvent)) (bytes : List ℕ) → HasFrame bytes → IsLegalLog shape chunks bytes → IsViewOf (plain shape) (plain_stages chunks) bytes }
+    // A log without a growth has a view without one.
+    ensures ungrown { (shape : Shape) (chunks : List (List TheEvent)) (bytes : List ℕ) → HasFrame bytes → IsPlainLog shape chunks bytes → IsViewOf (plain shape) (plain_stages chunks) bytes }
 {
     law_frames();
 }

@@ -12,8 +12,8 @@ ghost use Rattle.rg_frame.specs.LogState.{ReachesEnd};
 ghost use Rattle.rg_frame.specs.Steps.{From};
 ghost use Rattle.rg_cache.specs.Cache.{item_at, holds_place, places};
 ghost use Rattle.rg_log.specs.Log.{schema_payload, HasEvents};
-ghost use Rattle.rg_reservoir.specs.Attached.{IsOther, IsBadFrame, SchemaAdded, Opens, IsOpened};
-ghost use Rattle.rg_reservoir.specs.Chain.{IsIllegal};
+ghost use Rattle.rg_reservoir.specs.Attached.{IsOther, IsBadFrame, SchemaAdded, Opens, IsOpened, HasView};
+ghost use Rattle.rg_reservoir.specs.Chain.{IsIllegalBy};
 ghost use Rattle.rg_reservoir.specs.Naming.{IsNamed};
 ghost use Rattle.rg_reservoir.specs.Taken.{AreTaken};
 
@@ -38,7 +38,7 @@ use std::alloc::Global;
 pub struct Reservoir {
     alloc: Global,
     schema: Schema,
-    growths: Growths,
+    pub(crate) growths: Growths,
     log: FrameLog,
     first: u64,
     pub(crate) ended: bool,
@@ -49,7 +49,6 @@ pub struct Reservoir {
     last_time: u64,
     loads: u64,
     limit: u64,
-    ghost plain: { growths ≡ [] },
     ghost small: { limit ≤ 2 ^ 40 },
     ghost few: { committed + length open.events ≤ 2 ^ 40 },
     ghost file: { log.file ≡ 2 },
@@ -61,7 +60,6 @@ pub struct Reservoir {
 #[derive(Drop)]
 struct Rooms {
     schema: Schema,
-    growths: Growths,
     ours: Vec<u8>,
     cache: ChunkCache<Kept>,
     open: OpenChunk,
@@ -84,7 +82,6 @@ fn take_rooms(alloc: Global, schema: &Schema, room: Room) -> Result<Rooms, Memor
     let open = OpenChunk::new(alloc, room.chunk)?;
     Ok(Rooms {
         schema,
-        growths: Growths::new(alloc),
         ours,
         cache,
         open,
@@ -102,13 +99,14 @@ impl Reservoir {
     ghost use Rattle.rg_reservoir.specs.Ahead.{closed_next, OnlyLoads, IsLoadStop};
     ghost use Rattle.rg_reservoir.specs.Touched.{HasTouched, HasSought, SeekLoads, SeekHeld, IsSeekStop};
     ghost use Rattle.rg_reservoir.specs.Ends.{ends_looked};
-    ghost use Rattle.rg_reservoir.specs.Kept.{base, view_of, opened, room_of, log_of, cache_of, loads_of, next_of as the_next_of, time_of, all_events, CommittedOrAll, IsCached, IsSound, Spells, SpellsLater, next_in, seen, IsLegalLook, Adds, Added};
+    ghost use Rattle.rg_reservoir.specs.Kept.{base, view_of, settled, opened, room_of, log_of, cache_of, loads_of, next_of as the_next_of, time_of, all_events, CommittedOrAll, IsCached, IsSound, Spells, SpellsLater, next_in, seen, IsLegalLook, Adds, Added};
 
     /// A reservoir over the log of file 2, with room for `room.chunk` events in its open chunk, 1 to
     /// 4,096, for `room.cache` chunks in memory, 1 to 1,024, and for `room.limit` events in all, at
     /// most 2^40; a log that has more events is attached too. Reads the heads of the chunks in
-    /// order, and not what is in them; writes the first frame of a log without a frame, and nothing
-    /// else.
+    /// order, and not what is in them, and the growths; writes the first frame of a log without a
+    /// frame, and nothing else. A damaged log is told before another schema: only a whole one has a
+    /// schema in force at its end.
     pub fn attach<H: Host>(
         alloc: Global,
         host: &mut H,
@@ -126,11 +124,12 @@ impl Reservoir {
         ensures legal_ours { (v : Image) (events : List TheEvent) → H.now host.old ≡ Some v → HasEvents schema.now events (v 2) → IsErrOf result ReservoirFault.SchemaDiffers → ⊥ }
 
         // Of any image.
-        ensures opened { IfOk result (λ r. ForSome (H.now host.new) (λ w. IsOpened (schema_payload schema.now) (base r).first (base r).end (record { count = (base r).committed; next = the_next_of r; time = time_of r }) (w 2))) }
-        ensures exact { (v : Image) → H.now host.old ≡ Some v → IsOther (schema_payload schema.now) (v 2) ⊎ ((p : ℕ) × IsBadFrame (schema_payload schema.now) p (v 2)) → IfOk result (λ _. ⊥) }
-        ensures differs { IsErrOf result ReservoirFault.SchemaDiffers → ForSome (H.now host.old) (λ v. IsOther (schema_payload schema.now) (v 2)) }
-        ensures damaged { (p : ℕ) → IsErrOf result (ReservoirFault.Damaged p) → ForSome (H.now host.old) (λ v. IsBadFrame (schema_payload schema.now) p (v 2)) }
-        ensures other { (v : Image) (p : ℕ) → H.now host.old ≡ Some v → IsOther (schema_payload schema.now) (v 2) → IsErrOf result (ReservoirFault.Damaged p) → ⊥ }
+        ensures opened { IfOk result (λ r. ForSome (H.now host.new) (λ w. IsOpened (view_of (base r)) (base r).first (base r).end (record { count = (base r).committed; next = the_next_of r; time = time_of r }) (w 2))) }
+        ensures view { IfOk result (λ r. ForSome (H.now host.old) (λ v. HasView schema.now (view_of (base r)) (v 2))) }
+        ensures exact { (v : Image) → H.now host.old ≡ Some v → IsOther schema.now (v 2) ⊎ ((p : ℕ) × IsBadFrame p (v 2)) → IfOk result (λ _. ⊥) }
+        ensures differs { IsErrOf result ReservoirFault.SchemaDiffers → ForSome (H.now host.old) (λ v. IsOther schema.now (v 2)) }
+        ensures damaged { (p : ℕ) → IsErrOf result (ReservoirFault.Damaged p) → ForSome (H.now host.old) (λ v. IsBadFrame p (v 2)) }
+        ensures other { (v : Image) (p : ℕ) → H.now host.old ≡ Some v → IsOther schema.now (v 2) → IsErrOf result (ReservoirFault.Damaged p) → ⊥ }
         ensures disk { IsErrOf result ReservoirFault.Disk → Rose (H.disk_faults host.old) (H.disk_faults host.new) }
         ensures neither { (IsErrOf result ReservoirFault.Full → ⊥) × (IsErrOf result ReservoirFault.Ended → ⊥) }
 
@@ -147,11 +146,11 @@ impl Reservoir {
             Ok(taken) => taken,
             Err(_) => return Err(ReservoirFault::Memory),
         };
-        match open_log(alloc, &taken.ours, host) {
+        match open_log(alloc, &taken.schema, &taken.ours, host) {
             Ok(opened) => Ok(Reservoir {
                 alloc,
                 schema: taken.schema,
-                growths: taken.growths,
+                growths: opened.growths,
                 log: opened.log,
                 first: opened.first,
                 ended: false,
@@ -188,9 +187,10 @@ impl Reservoir {
 
         // Of any image.
         ensures none { IfOk result (λ found. IfNone found (ForSome (H.now host.old) (λ v. HasPayloads [] (v 2)))) }
-        ensures exact { (v : Image) → H.now host.old ≡ Some v → IsOther (schema_payload schema.now) (v 2) ⊎ ((p : ℕ) × IsBadFrame (schema_payload schema.now) p (v 2)) → IfOk result (λ _. ⊥) }
-        ensures differs { IsErrOf result ReservoirFault.SchemaDiffers → ForSome (H.now host.old) (λ v. IsOther (schema_payload schema.now) (v 2)) }
-        ensures damaged { (p : ℕ) → IsErrOf result (ReservoirFault.Damaged p) → ForSome (H.now host.old) (λ v. IsBadFrame (schema_payload schema.now) p (v 2)) }
+        ensures view { IfOk result (λ found. IfSome found (λ r. ForSome (H.now host.old) (λ v. HasView schema.now (view_of (base r)) (v 2)))) }
+        ensures exact { (v : Image) → H.now host.old ≡ Some v → IsOther schema.now (v 2) ⊎ ((p : ℕ) × IsBadFrame p (v 2)) → IfOk result (λ _. ⊥) }
+        ensures differs { IsErrOf result ReservoirFault.SchemaDiffers → ForSome (H.now host.old) (λ v. IsOther schema.now (v 2)) }
+        ensures damaged { (p : ℕ) → IsErrOf result (ReservoirFault.Damaged p) → ForSome (H.now host.old) (λ v. IsBadFrame p (v 2)) }
         ensures disk { IsErrOf result ReservoirFault.Disk → Rose (H.disk_faults host.old) (H.disk_faults host.new) }
         ensures neither { (IsErrOf result ReservoirFault.Full → ⊥) × (IsErrOf result ReservoirFault.Ended → ⊥) }
 
@@ -204,11 +204,11 @@ impl Reservoir {
             Ok(taken) => taken,
             Err(_) => return Err(ReservoirFault::Memory),
         };
-        match read_log(alloc, &taken.ours, host) {
+        match read_log(alloc, &taken.schema, host) {
             Ok(Some(opened)) => Ok(Some(Reservoir {
                 alloc,
                 schema: taken.schema,
-                growths: taken.growths,
+                growths: opened.growths,
                 log: opened.log,
                 first: opened.first,
                 ended: false,
@@ -376,12 +376,9 @@ impl Reservoir {
         }
     }
 
-    /// Makes ready for a look at a spot: its chunk is held, and the spot is in its later spelling.
-    pub(crate) fn seek<H: Host>(
-        &mut self,
-        host: &mut H,
-        spot: &mut Spot,
-    ) -> Result<(), ReservoirFault>
+    /// Makes ready for a look at a spot at whose place no growth stands: its chunk is held, and the
+    /// spot is in its later spelling.
+    fn seek_settled<H: Host>(&mut self, host: &mut H, spot: &mut Spot) -> Result<(), ReservoirFault>
         requires { spot.old.number ≤ (base self.old).committed + length (opened self.old) }
         ensures only { OnlyLoads H.now H.may H.clock H.since H.said H.disk_faults H.out_faults self.old self.new host.old host.new }
         ensures sought { HasSought H.now H.may result self.old self.new host.old spot.old spot.new }
@@ -417,8 +414,27 @@ impl Reservoir {
         Ok(())
     }
 
+    /// Makes ready for a look at a spot: the growths at its place are passed, its chunk is held, and
+    /// it is in its latest spelling.
+    pub(crate) fn seek<H: Host>(
+        &mut self,
+        host: &mut H,
+        spot: &mut Spot,
+    ) -> Result<(), ReservoirFault>
+        requires { spot.old.number ≤ (base self.old).committed + length (opened self.old) }
+        ensures only { OnlyLoads H.now H.may H.clock H.since H.said H.disk_faults H.out_faults self.old self.new host.old host.new }
+        ensures sought { HasSought H.now H.may result self.old self.new host.old (settled (base self.old) spot.old) spot.new }
+        ensures loads { SeekLoads H.now H.may H.reads result self.old self.new host.old host.new (settled (base self.old) spot.old) }
+        ensures held { SeekHeld H.reads (OnErr result ⊥) self.old self.new host.old host.new (settled (base self.old) spot.old) }
+        ensures stops { IsSeekStop H.now H.may H.disk_faults result self.old host.old host.new (settled (base self.old) spot.old) }
+    {
+        spot.place = self.growths.passed(spot.place);
+        self.seek_settled(host, spot)
+    }
+
     /// Looks at the event of a spot. An event of the open chunk, and the end, is found by its
-    /// number, without a call on the host. For another one the spot's place is touched, and then
+    /// number, without a call on the host. For another one the spot's place, or that behind the
+    /// growths which stand there, is touched, and then
     /// the next place where the index is the count of the chunk there: a place that is held costs
     /// nothing, and of another one the frame is read and kept. Memory is taken there alone.
     pub fn peek<H: Host>(
@@ -427,7 +443,7 @@ impl Reservoir {
         spot: &mut Spot,
     ) -> Result<Option<&Event>, ReservoirFault>
         requires { spot.old.number ≤ (base self.old).committed + length (opened self.old) }
-        ensures* after { sem 𝓛 (ends_looked self.entry (H.now host.old) spot.old (H.reads host.old) (H.reads host.new)
+        ensures* after { sem 𝓛 (ends_looked self.entry (H.now host.old) (settled (base self.old) spot.old) (H.reads host.old) (H.reads host.new)
             (IsSound (H.now host.old) (H.may host.old) self.old × Spells (H.now host.old) (base self.old) (opened self.old) spot.old × OnErr result ⊥)) }
         ensures number { spot.new.number ≡ spot.old.number }
         ensures event { IsSound (H.now host.old) (H.may host.old) self.old → Spells (H.now host.old) (base self.old) (opened self.old) spot.old → IfOk result (λ look. option_copied look ≡ slice_get (all_events (H.now host.old) (base self.old) (opened self.old)) spot.old.number) }
@@ -435,20 +451,20 @@ impl Reservoir {
         ensures spelled { IsSound (H.now host.old) (H.may host.old) self.old → Spells (H.now host.old) (base self.old) (opened self.old) spot.old → Spells (H.now host.old) (base self.old) (opened self.old) spot.new }
         ensures within { IfOk result (λ look. IfSome look (λ _. (spot.new.number < (base self.old).committed + length (opened self.old)) × (spot.new.index < 4096))) }
         ensures ended { IsErrOf result ReservoirFault.Ended ↔ ((base self.old).ended ≡ true) }
-        ensures damaged { (p : ℕ) → IsErrOf result (ReservoirFault.Damaged p) → ForSome (H.now host.old) (λ v. IsIllegal (base self.old).shape.fields p (v (base self.old).file)) }
+        ensures damaged { (p : ℕ) → IsErrOf result (ReservoirFault.Damaged p) → ForSome (H.now host.old) (λ v. IsIllegalBy (view_of (base self.old)) p (v (base self.old).file)) }
         ensures never_damaged { (p : ℕ) → IsSound (H.now host.old) (H.may host.old) self.old → Spells (H.now host.old) (base self.old) (opened self.old) spot.old → IsErrOf result (ReservoirFault.Damaged p) → ⊥ }
 
         // A chunk whose inside is illegal is refused, over any log: it is never taken for the end of the past.
-        ensures legal { (v : Image) → H.now host.old ≡ Some v → IsCached (view_of (base self.old)) (v (base self.old).file) (cache_of self.old) → spot.old.number < (base self.old).committed → OnOk result (IsLegalLook (base self.old) (v (base self.old).file) spot.old) }
+        ensures legal { (v : Image) → H.now host.old ≡ Some v → IsCached (view_of (base self.old)) (v (base self.old).file) (cache_of self.old) → spot.old.number < (base self.old).committed → OnOk result (IsLegalLook (base self.old) (v (base self.old).file) (settled (base self.old) spot.old)) }
         ensures disk { IsErrOf result ReservoirFault.Disk → Rose (H.disk_faults host.old) (H.disk_faults host.new) }
         ensures faults { IfErr result (λ fault. (fault ≡ ReservoirFault.Disk) ⊎ (fault ≡ ReservoirFault.Memory) ⊎ ((p : ℕ) × (fault ≡ ReservoirFault.Damaged p)) ⊎ (fault ≡ ReservoirFault.Ended)) }
 
         // No memory and no read where the chunk is held, with the next one where the spot stands behind its last event, and
         // no call on the host for the open one.
         ensures untouched { (base self.old).ended ≡ false → (base self.old).committed ≤ spot.old.number → OnErr result ⊥ × (host.new ≡ host.old) }
-        ensures hit { (base self.old).ended ≡ false → spot.old.number < (base self.old).committed → IsTrue (holds_place spot.old.place (cache_of self.old)) → next_in (item_at spot.old.place (cache_of self.old)) spot.old.index ≡ None
+        ensures hit { (base self.old).ended ≡ false → spot.old.number < (base self.old).committed → IsTrue (holds_place (settled (base self.old) spot.old).place (cache_of self.old)) → next_in (item_at (settled (base self.old) spot.old).place (cache_of self.old)) spot.old.index ≡ None
             → OnErr result ⊥ × (H.reads host.new ≡ H.reads host.old) }
-        ensures hit_next { (next : ℕ) → (base self.old).ended ≡ false → spot.old.number < (base self.old).committed → IsTrue (holds_place spot.old.place (cache_of self.old)) → next_in (item_at spot.old.place (cache_of self.old)) spot.old.index ≡ Some next
+        ensures hit_next { (next : ℕ) → (base self.old).ended ≡ false → spot.old.number < (base self.old).committed → IsTrue (holds_place (settled (base self.old) spot.old).place (cache_of self.old)) → next_in (item_at (settled (base self.old) spot.old).place (cache_of self.old)) spot.old.index ≡ Some next
             → IsTrue (holds_place next (cache_of self.old)) → OnErr result ⊥ × (H.reads host.new ≡ H.reads host.old) }
 
         ensures leaves { LeavesAll H.now H.may H.clock H.since H.said host.old host.new }
@@ -481,7 +497,7 @@ impl Reservoir {
         ensures reaches { ReachesEnd (log_of self.new) (H.now host.new) }
 
         ensures empty { OnOk result ((opened self.new ≡ []) × ((base self.new).committed ≡ (base self.old).committed + length (opened self.old))) }
-        ensures stays { ((base self.new).shape ≡ (base self.old).shape) × ((base self.new).file ≡ (base self.old).file) × ((base self.new).first ≡ (base self.old).first) × ((base self.new).limit ≡ (base self.old).limit) × (room_of self.new ≡ room_of self.old) }
+        ensures stays { (view_of (base self.new) ≡ view_of (base self.old)) × ((base self.new).file ≡ (base self.old).file) × ((base self.new).first ≡ (base self.old).first) × ((base self.new).limit ≡ (base self.old).limit) × (room_of self.new ≡ room_of self.old) }
         ensures kept { (cache_of self.new ≡ cache_of self.old) × (loads_of self.new ≡ loads_of self.old) × (the_next_of self.new ≡ the_next_of self.old) × (time_of self.new ≡ time_of self.old) }
         ensures going { OnOk result (((base self.old).ended ≡ false) × ((base self.new).ended ≡ false)) }
         ensures ended { IsErrOf result ReservoirFault.Ended ↔ ((base self.old).ended ≡ true) }
@@ -519,8 +535,9 @@ impl Reservoir {
 
     /// Whether each of these spots names an event or the end, in one of its spellings, and no number
     /// is above the count. The open chunk has to be empty. It is judged by the heads of the chunks in
-    /// the log, which are read once for all spots; the events in them are not looked at. It takes no
-    /// memory, writes nothing, and leaves the reservoir and the chunks that it holds as they were.
+    /// the log and by its growths, which are read once for all spots; the events in the chunks are
+    /// not looked at. Memory is taken for growths alone. It writes nothing, and leaves the reservoir
+    /// and the chunks that it holds as they were.
     pub fn names<H: Host>(&self, host: &mut H, spots: &[Spot]) -> Result<bool, ReservoirFault>
         requires empty { opened self.now ≡ [] }
 
@@ -534,10 +551,10 @@ impl Reservoir {
         ensures sound { IsSound (H.now host.old) (H.may host.old) self.now → IsSound (H.now host.new) (H.may host.new) self.now }
         ensures spells { (spot : Spot) → Spells (H.now host.new) (base self.now) (opened self.now) spot ↔ Spells (H.now host.old) (base self.now) (opened self.now) spot }
         ensures ended { IsErrOf result ReservoirFault.Ended ↔ ((base self.now).ended ≡ true) }
-        ensures damaged { (p : ℕ) → IsErrOf result (ReservoirFault.Damaged p) → ForSome (H.now host.old) (λ v. IsIllegal (base self.now).shape.fields p (v (base self.now).file)) }
+        ensures damaged { (p : ℕ) → IsErrOf result (ReservoirFault.Damaged p) → ForSome (H.now host.old) (λ v. IsBadFrame p (v 2)) }
         ensures legal { IsSound (H.now host.old) (H.may host.old) self.now → (p : ℕ) → IsErrOf result (ReservoirFault.Damaged p) → ⊥ }
         ensures disk { IsErrOf result ReservoirFault.Disk → Rose (H.disk_faults host.old) (H.disk_faults host.new) }
-        ensures faults { IfErr result (λ fault. (fault ≡ ReservoirFault.Disk) ⊎ ((p : ℕ) × (fault ≡ ReservoirFault.Damaged p)) ⊎ (fault ≡ ReservoirFault.Ended)) }
+        ensures faults { IfErr result (λ fault. (fault ≡ ReservoirFault.Disk) ⊎ (fault ≡ ReservoirFault.Memory) ⊎ ((p : ℕ) × (fault ≡ ReservoirFault.Damaged p)) ⊎ (fault ≡ ReservoirFault.Ended)) }
         ensures leaves { LeavesAll H.now H.may H.clock H.since H.said host.old host.new }
         ensures disk_faults { H.disk_faults host.old ≤ H.disk_faults host.new }
         ensures out_faults { H.out_faults host.new ≡ H.out_faults host.old }
@@ -548,7 +565,7 @@ impl Reservoir {
         if !are_within(spots, self.committed) {
             return Ok(false);
         }
-        match count_unnamed(host, spots) {
+        match count_unnamed(self.alloc, host, spots) {
             Ok(left) => Ok(left == 0),
             Err(fault) => Err(fault),
         }

@@ -4,7 +4,7 @@ ghost use Rattle.std.specs.Borrow.{sem};
 ghost use Rattle.std.specs.Io.BufRead.{Rests};
 ghost use Rattle.rg_bytes.specs.Counts.{Rose};
 ghost use Rattle.rg_past.specs.Peek.{IsLookWithin, Shows};
-ghost use Rattle.rg_reservoir.specs.Kept.{Looked};
+ghost use Rattle.rg_reservoir.specs.Kept.{base, settled, Looked};
 ghost use Rattle.rg_reservoir.specs.HeldLooks.{LooksHeld};
 ghost use Rattle.rg_reservoir.specs.contracts.stored.Stored.{the_row};
 
@@ -37,8 +37,8 @@ impl<'a, H: Host> Past for Stored<'a, H> {
     ghost use Rattle.std.specs.Prelude.{◌≡◌, ◌<◌, length, true};
     ghost use Rattle.std.specs.Option.{ForSome};
     ghost use Rattle.rg_event.specs.Codec.{IsEventOf};
-    ghost use Rattle.rg_reservoir.specs.Chain.{IsIllegal};
-    ghost use Rattle.rg_reservoir.specs.Kept.{base, opened, room_of, all_events, IsSound, Spells, SpellsLater};
+    ghost use Rattle.rg_reservoir.specs.Chain.{IsIllegalBy};
+    ghost use Rattle.rg_reservoir.specs.Kept.{base, view_of, opened, room_of, all_events, IsSound, Spells, SpellsLater};
     ghost use Rattle.rg_reservoir.specs.Going.{Goes};
     ghost use Rattle.rg_reservoir.specs.GoingLaws.{Goes-same, Goes-join, Goes-limit, Goes-count, Goes-spells, Goes-begins, Goes-fits, fits_range, later_spells, sound_order, spells_within, limit_small};
 
@@ -56,7 +56,7 @@ impl<'a, H: Host> Past for Stored<'a, H> {
 
     ghost fits = { λ p event. IsEventOf (base p.reservoir.now).shape.fields event };
 
-    ghost illegal = { λ p place. ForSome (H.now p.host.now) (λ v. IsIllegal (base p.reservoir.now).shape.fields place (v (base p.reservoir.now).file)) };
+    ghost illegal = { λ p place. ForSome (H.now p.host.now) (λ v. IsIllegalBy (view_of (base p.reservoir.now)) place (v (base p.reservoir.now).file)) };
 
     ghost spells = { λ p s. Spells (H.now p.host.now) (base p.reservoir.now) (opened p.reservoir.now) s };
 
@@ -85,9 +85,9 @@ impl<'a, H: Host> Past for Stored<'a, H> {
             × (IsErrOf result PastFault.Disk → Rose (⟦<Stored<'a, H> as Past>⟧.faults self.old) (⟦<Stored<'a, H> as Past>⟧.faults new))
             × ((place : ℕ) → IsErrOf result (PastFault.Damaged place) → ⟦<Stored<'a, H> as Past>⟧.illegal new place)
             × (⟦<Stored<'a, H> as Past>⟧.sound self.old → ⟦<Stored<'a, H> as Past>⟧.spells self.old spot.old → ⟦<Stored<'a, H> as Past>⟧.spells new spot.new × OnOk result (⟦<Stored<'a, H> as Past>⟧.spells_later new spot.new))
-            × Looked (H.now self.old.host.now) self.old.reservoir.now spot.old (H.reads self.old.host.now) (H.reads new.host.now)
+            × Looked (H.now self.old.host.now) self.old.reservoir.now (settled (base self.old.reservoir.now) spot.old) (H.reads self.old.host.now) (H.reads new.host.now)
             (⟦<Stored<'a, H> as Past>⟧.sound self.old × ⟦<Stored<'a, H> as Past>⟧.spells self.old spot.old × OnErr result ⊥) new.reservoir.now
-            × LooksHeld H.reads (OnErr result ⊥) spot.old self.old.reservoir.now self.old.host.now new.reservoir.now new.host.now)) }
+            × LooksHeld H.reads (OnErr result ⊥) (settled (base self.old.reservoir.now) spot.old) self.old.reservoir.now self.old.host.now new.reservoir.now new.host.now)) }
         ensures number { spot.new.number ≡ spot.old.number }
         ensures within { IsLookWithin (⟦<Stored<'a, H> as Past>⟧.events self.old) spot.new result }
         ensures event { ⟦<Stored<'a, H> as Past>⟧.sound self.old → ⟦<Stored<'a, H> as Past>⟧.spells self.old spot.old → Shows (⟦<Stored<'a, H> as Past>⟧.events self.old) spot.old.number result }

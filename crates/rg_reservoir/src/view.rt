@@ -1,4 +1,4 @@
-ghost use Rattle.std.specs.Prelude.{◌≡◌, [], OnOk, option_copied};
+ghost use Rattle.std.specs.Prelude.{◌≡◌, ◌++◌, ◌∷◌, [], OnOk, option_copied};
 ghost use Rattle.rg_reservoir.specs.Views.{before, grown_at, passed};
 
 use crate::growing::Growing;
@@ -8,7 +8,7 @@ use rg_event::Schema;
 use std::alloc::Global;
 use std::marker::Model;
 
-/// The growths in a log, by rising place. No log has one yet.
+/// The growths in a log, by rising place.
 #[derive(Drop)]
 pub struct Growths {
     list: Vec<Growing>,
@@ -31,6 +31,14 @@ impl Growths {
         Growths {
             list: Vec::new(alloc),
         }
+    }
+
+    /// Adds one that stands behind the others.
+    pub fn push(&mut self, growing: Growing) -> Result<(), Memory>
+        ensures { OnOk result (self.new ≡ self.old ++ growing ∷ []) }
+    {
+        self.list.push(growing)?;
+        Ok(())
     }
 
     /// The schema that the first growth at or behind a place found in force. None comes where no growth stands there.

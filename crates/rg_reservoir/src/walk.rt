@@ -3,12 +3,12 @@ ghost use Rattle.std.specs.Option.{ForSome};
 ghost use Rattle.rg_bytes.specs.Counts.{Rose};
 ghost use Rattle.rg_host.specs.Moments.{LeavesAll};
 ghost use Rattle.rg_frame.specs.Looks.{IsClosed};
-ghost use Rattle.rg_reservoir.specs.Heads.{nothing};
+ghost use Rattle.rg_log.specs.Entries.{nothing};
 ghost use Rattle.rg_reservoir.specs.Walked.{stage_by, stage_after};
 
 use crate::fault::ReservoirFault;
 use rg_chunk::Chunk;
-use rg_event::Schema;
+use rg_event::{Schema, Values};
 use rg_frame::FrameLog;
 use rg_host::Host;
 use rg_log::{Entry, EntryFault, LogSoFar};
@@ -19,8 +19,11 @@ use std::alloc::Global;
 pub enum Stage {
     /// The first one: the schema.
     Schema(Schema),
-    /// Each further one: a chunk of events.
+    /// A further one: a chunk of events.
     Chunk(Chunk),
+    /// A further one: how the schema grows. This schema is in force from there on, and these values come behind those of
+    /// each event in front.
+    Growth(Schema, Values),
 }
 
 /// A walk over the frames of the log of file 2, in order, each of them decoded.
@@ -31,7 +34,7 @@ pub struct Walk {
     so_far: LogSoFar,
 }
 
-/// What a frame is, read whole. `Bad` comes exactly where it is no chunk of the schema in force.
+/// What a frame is, read whole. `Bad` comes exactly where it is told as a chunk, and is none of the schema in force.
 fn read_stage(
     alloc: Global,
     so_far: &LogSoFar,
@@ -50,6 +53,11 @@ fn read_stage(
             Ok(chunk) => Ok(Stage::Chunk(chunk)),
             Err(fault) => Err(fault),
         },
+        Entry::Growth(growth) => {
+            let to = growth.to.copy(alloc)?;
+            let values = growth.values.copy(alloc)?;
+            Ok(Stage::Growth(to, values))
+        }
     }
 }
 

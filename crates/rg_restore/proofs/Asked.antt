@@ -52,6 +52,14 @@ refused-of IsIllegal is_sound had_ended before after Full cause never = cause
 refused-of IsIllegal is_sound had_ended before after Memory cause never = tt
 refused-of IsIllegal is_sound had_ended before after Ended cause never = cause
 
+-- a refusal for what can't be read is one for damage
+pub cause-damaged : (IsIllegal IsDamaged : ℕ → Type 0) (is_full had_ended : Type 0) (before after : ℕ) (fault : PastFault) → ((place : ℕ) → IsIllegal place → IsDamaged place) → HasCause IsIllegal is_full had_ended before after fault → HasCause IsDamaged is_full had_ended before after fault
+cause-damaged IsIllegal IsDamaged is_full had_ended before after Disk damages cause = cause
+cause-damaged IsIllegal IsDamaged is_full had_ended before after (Damaged place) damages cause = damages place cause
+cause-damaged IsIllegal IsDamaged is_full had_ended before after Full damages cause = cause
+cause-damaged IsIllegal IsDamaged is_full had_ended before after Memory damages cause = tt
+cause-damaged IsIllegal IsDamaged is_full had_ended before after Ended damages cause = cause
+
 module _ (PastRefused : PastFault → Type 0) (IsBad : ℕ → Type 0) (table_failed : Type 0) (fault : EngineFault) (why : IsUnmade PastRefused IsBad table_failed fault) where
   unmade-as : (other : EngineFault) → fault ≡ other → IsUnmade PastRefused IsBad table_failed other
   unmade-as other is = subst (λ f. IsUnmade PastRefused IsBad table_failed f) is why

@@ -1,5 +1,6 @@
--- A sound reservoir names just what it spells.
-use Rattle.std.proofs.Common.{◌≡◌, ◌↔◌, ℕ, Bool, true, false, List, [], ◌∷◌, Option, Some, refl, sym, subst, arith}
+-- A sound reservoir names just what it spells, and what it can't read is damaged.
+use Rattle.std.proofs.Common.{◌≡◌, ◌↔◌, inl, ℕ, Bool, true, false, List, [], ◌∷◌, Option, Some, refl, sym, subst, arith}
+use Rattle.std.specs.Option.{ForSome}
 use Rattle.rg_host.specs.Image.{Image}
 use Rattle.rg_event.specs.declared.event.Event.{Event}
 use Rattle.rg_past.specs.declared.past.Spot.{Spot}
@@ -8,10 +9,14 @@ use Rattle.rg_frame.proofs.FrameLists.{payloads_one}
 use Rattle.rg_log.specs.Log.{joined}
 use Rattle.rg_log.proofs.Naming.{named_in}
 use Rattle.rg_reservoir.specs.declared.reservoir.Reservoir.{Reservoir}
-use Rattle.rg_reservoir.specs.Kept.{base, opened, next_of, time_of, cache_of, IsRight, IsSound, Spells}
+use Rattle.rg_reservoir.specs.Chain.{IsIllegalBy}
+use Rattle.rg_reservoir.specs.Kept.{Base, base, view_of, opened, next_of, time_of, cache_of, IsRight, IsSound, Spells}
 use Rattle.rg_reservoir.proofs.Seeking.{one_image}
 use Rattle.rg_reservoir.proofs.Spelled.{spelled_there, spelled_here}
-use Rattle.rg_restore.specs.Naming.{IsListed, HeadsName, NamesIn}
+use Rattle.rg_restore.specs.Naming.{IsListed, IsDamagedIn, HeadsName, NamesIn}
+
+pub illegal_damages : (now : Option Image) (b : Base) (place : ℕ) → ForSome now (λ v. IsIllegalBy (view_of b) place (v b.file)) → IsDamagedIn now b place
+illegal_damages now b place is = inl is
 
 pub sound_listed : (now : Option Image) (may : Image → Type 0) (r : Reservoir) → ((v : Image) → now ≡ Some v → may v) → IsSound now may r → IsListed now
 sound_listed now may r reads sound =
@@ -37,7 +42,7 @@ module _ (now : Option Image) (may : Image → Type 0) (r : Reservoir) (spot : S
         payloads = right.payloads;
         told = sound.1;
         has = subst (λ (f : ℕ). HasPayloads right.payloads (sound.0 f)) r.file right.has;
-        is = (both.1 (spelled_there sound.0 may (base r) (next_of r) (time_of r) (cache_of r) right now spot sound.1 spells), omega (arith, spells.number));
+        is = (both.1 (spelled_there sound.0 may (base r) (next_of r) (time_of r) (cache_of r) right now spot sound.1 spells), omega (arith, spells.there.number));
       }
 
 pub sound_names : (now : Option Image) (may : Image → Type 0) (r : Reservoir) (spot : Spot) → IsSound now may r → NamesIn now (base r) (base r).ended (opened r) spot ↔ Spells now (base r) (opened r) spot

@@ -77,7 +77,7 @@ fn choose<P: Names>(
         (IsUsable plan.now (length (P.Past.events past.old))) (slot_in saved) chosen) }
     ensures named { StaysNamed P.told P.is_ready P.named P.Past.spells past.old past.new }
     ensures past { KeepsEvents P.Past.events P.Past.has_room P.Past.goes P.Past.sound P.Past.ended P.Past.faults past.old past.new }
-    ensures cause { IfErr result (IsRefused (P.Past.illegal past.new) (P.Past.sound past.old) (P.Past.ended past.old) (P.Past.faults past.old) (P.Past.faults past.new)) }
+    ensures cause { IfErr result (IsRefused (P.damaged past.new) (P.Past.sound past.old) (P.Past.ended past.old) (P.Past.faults past.old) (P.Past.faults past.new)) }
 {
     let (newer, older) = in_order(saved);
     match judge(past, plan, fields, queries, newer) {
@@ -112,7 +112,7 @@ pub(crate) fn begin<P: Names>(
         queries.now plan.now (slot_in saved) begun.slot begun.checkpoint) }
     ensures named { StaysNamed P.told P.is_ready P.named P.Past.spells past.old past.new }
     ensures past { KeepsEvents P.Past.events P.Past.has_room P.Past.goes P.Past.sound P.Past.ended P.Past.faults past.old past.new }
-    ensures cause { IfErr result (IsUnmade (IsRefused (P.Past.illegal past.new) (P.Past.sound past.old) (P.Past.ended past.old) (P.Past.faults past.old) (P.Past.faults past.new)) (λ _. ⊥) ⊥) }
+    ensures cause { IfErr result (IsUnmade (IsRefused (P.damaged past.new) (P.Past.sound past.old) (P.Past.ended past.old) (P.Past.faults past.old) (P.Past.faults past.new)) (λ _. ⊥) ⊥) }
 {
     let chosen = match choose(past, plan, fields, queries, saved) {
         Err(fault) => return Err(EngineFault::Past(fault)),

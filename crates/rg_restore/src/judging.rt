@@ -31,7 +31,7 @@ fn is_fit<P: Names>(
     ensures usable { IfOk result (λ is. IsTrue is → IsUsable plan.now (length (P.Past.events past.old)) checkpoint.now) }
     ensures named { StaysNamed P.told P.is_ready P.named P.Past.spells past.old past.new }
     ensures past { KeepsEvents P.Past.events P.Past.has_room P.Past.goes P.Past.sound P.Past.ended P.Past.faults past.old past.new }
-    ensures cause { IfErr result (IsRefused (P.Past.illegal past.new) (P.Past.sound past.old) (P.Past.ended past.old) (P.Past.faults past.old) (P.Past.faults past.new)) }
+    ensures cause { IfErr result (IsRefused (P.damaged past.new) (P.Past.sound past.old) (P.Past.ended past.old) (P.Past.faults past.old) (P.Past.faults past.new)) }
 {
     if !same_texts(&checkpoint.queries, queries) {
         return Ok(false);
@@ -61,7 +61,7 @@ pub(crate) fn judge<P: Names>(
         (IsUsable plan.now (length (P.Past.events past.old))) candidate taken) }
     ensures named { StaysNamed P.told P.is_ready P.named P.Past.spells past.old past.new }
     ensures past { KeepsEvents P.Past.events P.Past.has_room P.Past.goes P.Past.sound P.Past.ended P.Past.faults past.old past.new }
-    ensures cause { IfErr result (IsRefused (P.Past.illegal past.new) (P.Past.sound past.old) (P.Past.ended past.old) (P.Past.faults past.old) (P.Past.faults past.new)) }
+    ensures cause { IfErr result (IsRefused (P.damaged past.new) (P.Past.sound past.old) (P.Past.ended past.old) (P.Past.faults past.old) (P.Past.faults past.new)) }
 {
     let candidate = match candidate {
         None => return Ok(None),

@@ -17,6 +17,9 @@ pub trait Names: Past {
     /// It can be asked, as once it is opened.
     ghost is_ready: { Self → Type 0 };
 
+    /// What stands at that place is damaged: it can't be read, or can't be told which spots it names.
+    ghost damaged: { Self → ℕ → Type 0 };
+
     /// Whether each spot names an event or the end. Over a past that isn't told a yes says only that no
     /// spot is behind the end. Whatever it answers, it names and spells the same spots as before. Over a
     /// sound past it is never refused as damaged.
@@ -32,8 +35,11 @@ pub trait Names: Past {
         ensures room { Self.Past.has_room self.old → Self.Past.has_room self.new }
         ensures past { Kept Self.Past.goes Self.Past.sound Self.Past.ended Self.Past.faults self.old self.new }
         ensures cause { (fault : PastFault) → IsErrOf result fault →
-            HasCause (Self.Past.illegal self.new) ⊥ (Self.Past.ended self.old) (Self.Past.faults self.old) (Self.Past.faults self.new) fault }
+            HasCause (damaged self.new) ⊥ (Self.Past.ended self.old) (Self.Past.faults self.old) (Self.Past.faults self.new) fault }
         ensures never_damaged { (place : ℕ) → Self.Past.sound self.old → IsErrOf result (PastFault.Damaged place) → ⊥ };
+
+    /// What can't be read is damaged.
+    ghost illegal_damaged: { (p : Self) (place : ℕ) → Self.Past.illegal p place → damaged p place };
 
     /// A sound past is told.
     ghost sound_told: { (p : Self) → Self.Past.sound p → told p };

@@ -86,7 +86,7 @@ pub fn resume<P: Names, T: Table, L: Ledger>(
     ensures spelled { P.Past.sound past.old → (P.Past.ended past.old → ⊥) → IfOk result (λ r. All (P.Past.spells past.new) r.0.spots) }
 
     ensures cause { (fault : PastFault) → IfErr result (λ refused. refused.0 ≡ EngineFault.Past fault →
-        HasCause (P.Past.illegal past.new) ⊥ (P.Past.ended past.old) (P.Past.faults past.old) (P.Past.faults past.new) fault) }
+        HasCause (P.damaged past.new) ⊥ (P.Past.ended past.old) (P.Past.faults past.old) (P.Past.faults past.new) fault) }
     ensures never_damaged { (place : ℕ) → P.Past.sound past.old → (P.Past.ended past.old → ⊥) →
         IfErr result (λ refused. refused.0 ≡ EngineFault.Past (PastFault.Damaged place) → ⊥) }
     ensures disk { IfErr result (λ refused. refused.0 ≡ EngineFault.Table → Rose (T.faults table) (T.faults refused.1)) }

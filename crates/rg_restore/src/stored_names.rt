@@ -4,12 +4,12 @@ use rg_past::{PastFault, Spot};
 use rg_reservoir::Stored;
 
 /// It can be asked while its open chunk is empty and nothing failed; it names by the heads of its
-/// chunks then.
+/// chunks and its growths then.
 impl<'a, H: Host> Names for Stored<'a, H> {
     ghost use Rattle.std.specs.Prelude.{◌≡◌, false, []};
     ghost use Rattle.rg_reservoir.specs.Kept.{base, opened};
-    ghost use Rattle.rg_restore.specs.Naming.{IsListed, NamesIn};
-    ghost use Rattle.rg_restore.specs.NamingLaws.{sound_listed, sound_names};
+    ghost use Rattle.rg_restore.specs.Naming.{IsListed, IsDamagedIn, NamesIn};
+    ghost use Rattle.rg_restore.specs.NamingLaws.{illegal_damages, sound_listed, sound_names};
 
     ghost told = { λ p. IsListed (H.now p.host.now) };
 
@@ -17,12 +17,16 @@ impl<'a, H: Host> Names for Stored<'a, H> {
 
     ghost is_ready = { λ p. (opened p.reservoir.now ≡ []) × ((base p.reservoir.now).ended ≡ false) };
 
+    ghost damaged = { λ p place. IsDamagedIn (H.now p.host.now) (base p.reservoir.now) place };
+
     fn names(&mut self, spots: &[Spot]) -> Result<bool, PastFault> {
         match self.reservoir.names(self.host, spots) {
             Ok(named) => Ok(named),
             Err(fault) => Err(PastFault::from(fault)),
         }
     }
+
+    ghost illegal_damaged = { λ p place is. illegal_damages (H.now p.host.now) (base p.reservoir.now) place is };
 
     ghost sound_told = { λ p sound. sound_listed (H.now p.host.now) (H.may p.host.now) p.reservoir.now (H.now_may p.host.now) sound };
 

@@ -14,9 +14,13 @@ impl Names for VecPast {
 
     ghost is_ready = { λ _. ⊤ };
 
+    ghost damaged = { λ _ _. ⊥ };
+
     fn names(&mut self, spots: &[Spot]) -> Result<bool, PastFault> {
         Ok(are_spelled(self, spots))
     }
+
+    ghost illegal_damaged = { λ _ _ is. is };
 
     ghost sound_told = { λ _ _. tt };
 

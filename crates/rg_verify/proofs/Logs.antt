@@ -1,45 +1,28 @@
 -- A legal log: its events, and that they serve a plan.
-use Rattle.std.proofs.Common.{◌≡◌, ◌∙◌, ℕ, zero, suc, ◌≤◌, ◌^◌, List, [], ◌∷◌, ◌++◌, length, take, None, refl, sym, ap, subst, arith}
+use Rattle.std.proofs.Common.{◌≡◌, ℕ, zero, suc, ◌≤◌, ◌^◌, List, [], ◌∷◌, length, take, None, subst, arith}
 use Rattle.std.specs.Prelude.{All}
 use Rattle.std.proofs.lemmas.List.Elements.{All-nil, All-cons, All-head, All-tail}
 use Rattle.rg_event.specs.Codec.{IsEventOf}
 use Rattle.rg_event.specs.Shapes.{Shape}
 use Rattle.rg_event.specs.declared.event.Event.{Event}
-use Rattle.rg_frame.specs.Frames.{HasPayloads}
 use Rattle.rg_host.specs.Image.{Image}
-use Rattle.rg_log.specs.Log.{joined, schema_payload, HasChunks, HasEvents}
+use Rattle.rg_log.specs.Log.{HasEvents}
+use Rattle.rg_log.proofs.Staging.{events_of_schema}
 use Rattle.rg_plan.specs.Plans.{Tasks}
 use Rattle.rg_dump.specs.Dump.{damage_of}
-use Rattle.rg_dump.specs.Stages.{Stages}
-use Rattle.rg_dump.proofs.Legal.{all_chunks, legal_stages, empty_stages}
+use Rattle.rg_dump.proofs.Legal.{legal_read}
 use Rattle.rg_rows.specs.Rows.{AreServed}
-use Rattle.rg_verify.specs.Payments.{events_in, payments_in}
+use Rattle.rg_verify.specs.Payments.{payments_in}
 use Rattle.rg_verify.specs.Verdicts.{Terms}
 use Rattle.rg_verify.specs.Verify.{IsVerifiable}
 
-chunk_events : (chunks : List (List Event)) → events_in (all_chunks chunks).stages ≡ joined chunks
-chunk_events [] = refl
-chunk_events (chunk ∷ chunks) = ap (λ (l : List Event). chunk ++ l) (chunk_events chunks)
-
 -- its events are those that are read
 pub payments_are : (shape : Shape) (events : List Event) (bytes : List ℕ) → HasEvents shape events bytes → payments_in bytes ≡ events
-payments_are shape events bytes x = by x.1.payloads x.1.has x.1.log
-  where
-    by : (payloads : List (List ℕ)) → HasPayloads payloads bytes → HasChunks shape payloads x.0 → payments_in bytes ≡ events
-    by [] has log = ap (λ (s : Stages). events_in s.stages) (empty_stages bytes has) ∙ sym (ap joined log) ∙ x.2
-    by (p ∷ rest) has log =
-        let framed : HasPayloads (schema_payload shape ∷ rest) bytes = subst (λ (q : List ℕ). HasPayloads (q ∷ rest) bytes) log.0 has in
-        ap (λ (s : Stages). events_in s.stages) (legal_stages shape x.0 bytes (rest, framed) x.1) ∙ chunk_events x.0 ∙ x.2
+payments_are shape events bytes has = (legal_read shape bytes events has).0
 
 -- and nothing of it is damaged
 pub undamaged : (shape : Shape) (events : List Event) (bytes : List ℕ) → HasEvents shape events bytes → damage_of bytes ≡ None
-undamaged shape events bytes x = by x.1.payloads x.1.has x.1.log
-  where
-    by : (payloads : List (List ℕ)) → HasPayloads payloads bytes → HasChunks shape payloads x.0 → damage_of bytes ≡ None
-    by [] has log = ap (λ (s : Stages). s.damage) (empty_stages bytes has)
-    by (p ∷ rest) has log =
-        let framed : HasPayloads (schema_payload shape ∷ rest) bytes = subst (λ (q : List ℕ). HasPayloads (q ∷ rest) bytes) log.0 has in
-        ap (λ (s : Stages). s.damage) (legal_stages shape x.0 bytes (rest, framed) x.1)
+undamaged shape events bytes has = (legal_read shape bytes events has).1
 
 -- they are of its columns, and few
 pub served : (terms : Terms) (v : Image) (events : List Event) → IsVerifiable terms v events → AreServed terms.tasks events
@@ -47,7 +30,7 @@ served terms v events is = record {
   fed = record {
     fields = terms.shape.fields;
     serves = is.serves;
-    are = subst (λ (l : List Event). All (IsEventOf terms.shape.fields) l) is.has.2 is.has.1.of;
+    are = events_of_schema terms.shape events (v 2) is.has;
   };
   few = subst (λ (l : List Event). length l ≤ 2 ^ 40) is.has.2 is.has.1.few;
 }

@@ -1,19 +1,26 @@
 -- How far a walk over a log has come, and the events that it has passed.
-use Rattle.std.proofs.Common.{◌≡◌, ◌∙◌, ℕ, Bool, true, false, List, [], ◌∷◌, ◌++◌, Some, None, refl, sym, ap, append_assoc}
+use Rattle.std.proofs.Common.{◌≡◌, ◌∙◌, ℕ, Bool, true, false, List, [], ◌∷◌, ◌++◌, Some, None, refl, sym, ap}
 use Rattle.std.proofs.lemmas.List.{append-nil}
 use Rattle.rg_event.specs.declared.event.Event.{Event}
+use Rattle.rg_chunk.specs.Extended.{all_extended}
 use Rattle.rg_frame.specs.Looks.{IsClosed}
-use Rattle.rg_reservoir.specs.Heads.{nothing}
+use Rattle.rg_log.specs.Entries.{nothing}
+use Rattle.rg_log.proofs.Extending.{extended-none}
 use Rattle.rg_reservoir.specs.Walked.{place_of, schema_of as known_of, tally_of, IsNext, IsRefusedWalk}
 use Rattle.rg_reservoir.specs.declared.walk.Stage.{Stage}
+use Rattle.rg_reservoir.specs.declared.walk.Stage.TheVariants as stage
 use Rattle.rg_reservoir.specs.declared.walk.Walk.{Walk}
+use Rattle.rg_dump.specs.Behind.{stage_events, stage_values, events_in}
 use Rattle.rg_dump.specs.Dump.{damage_of}
+use Rattle.rg_dump.proofs.Behind.{events_push}
 use Rattle.rg_dump.proofs.Walking.{IsAt, at_start, at_next, at_end, at_damage}
-use Rattle.rg_verify.specs.Payments.{stage_events, events_in, has_frames, payments_in, is_framed, IsReadAll}
+use Rattle.rg_verify.specs.Payments.{events_after, has_frames, payments_in, is_framed, IsReadAll}
 
-events_in-push : (stages : List Stage) (s : Stage) → events_in (stages ++ s ∷ []) ≡ events_in stages ++ stage_events s
-events_in-push [] s = append-nil (stage_events s)
-events_in-push (first ∷ stages) s = ap (λ (l : List Event). stage_events first ++ l) (events_in-push stages s) ∙ sym (append_assoc (stage_events first) (events_in stages) (stage_events s))
+-- a frame more, by cases
+after_is : (events : List Event) (s : Stage) → all_extended (stage_values s) events ++ stage_events s ≡ events_after events s
+after_is events (stage.Schema shape) = append-nil (all_extended [] events) ∙ extended-none events
+after_is events (stage.Chunk chunk) = ap (λ (l : List Event). l ++ chunk) (extended-none events)
+after_is events (stage.Growth shape values) = append-nil (all_extended values events)
 
 has_frames-push : (stages : List Stage) (s : Stage) → has_frames (stages ++ s ∷ []) ≡ true
 has_frames-push [] s = refl
@@ -29,11 +36,11 @@ pub record IsRead (bytes : List ℕ) (walk : Walk) (events : List Event) (framed
 pub read_start : (bytes : List ℕ) (walk : Walk) (events : List Event) → place_of walk ≡ 0 → known_of walk ≡ None → tally_of walk ≡ nothing → events ≡ [] → IsRead bytes walk events false
 read_start bytes walk events place schema tally none = record { stages = []; at = at_start bytes walk place schema tally; events_are = none; framed_is = refl }
 
-pub read_next : (bytes : List ℕ) (old new : Walk) (events more : List Event) (framed : Bool) (s : Stage) → IsRead bytes old events framed → IsNext bytes old s new → more ≡ events ++ stage_events s → IsRead bytes new more true
+pub read_next : (bytes : List ℕ) (old new : Walk) (events more : List Event) (framed : Bool) (s : Stage) → IsRead bytes old events framed → IsNext bytes old s new → more ≡ events_after events s → IsRead bytes new more true
 read_next bytes old new events more framed s so_far next is = record {
   stages = so_far.stages ++ s ∷ [];
   at = at_next bytes s old new so_far.stages so_far.at next;
-  events_are = is ∙ ap (λ (l : List Event). l ++ stage_events s) so_far.events_are ∙ sym (events_in-push so_far.stages s);
+  events_are = is ∙ ap (λ (l : List Event). events_after l s) so_far.events_are ∙ sym (events_push so_far.stages s ∙ after_is (events_in so_far.stages) s);
   framed_is = sym (has_frames-push so_far.stages s);
 }
 

@@ -1,5 +1,5 @@
 -- Why a store wasn't held against its log.
-use Rattle.std.specs.Prelude.{◌≡◌, ◌≤◌, ◌^◌, ℕ, List, Option, Some, ⊤}
+use Rattle.std.specs.Prelude.{◌≡◌, ◌≤◌, ◌^◌, ℕ, List, Option, Some, None, ⊤}
 use Rattle.std.specs.Option.{ForSome}
 use Rattle.rg_bytes.specs.Counts.{Rose}
 use Rattle.rg_dump.specs.Dump.{damage_of}
@@ -7,7 +7,7 @@ use Rattle.rg_event.specs.Shapes.{Shape}
 use Rattle.rg_event.specs.declared.event.Event.{Event}
 use Rattle.rg_event.specs.declared.room.Room.{Room}
 use Rattle.rg_host.specs.Image.{Image}
-use Rattle.rg_log.specs.Log.{HasEvents, schema_payload}
+use Rattle.rg_log.specs.Log.{HasEvents}
 use Rattle.rg_reservoir.specs.Attached.{IsOther}
 use Rattle.rg_verify.specs.declared.fault.VerifyFault.{VerifyFault}
 use Rattle.rg_verify.specs.declared.fault.VerifyFault.TheVariants.{Disk, Damaged, SchemaDiffers, Memory, Write}
@@ -27,8 +27,13 @@ IsFirstDamage now place = ForSome now (λ v. damage_of (v 2) ≡ Some place)
 
 -- the log is of another schema than this, and has no events of it
 pub record IsOfOther (shape : Shape) (now : Option Image) : Type 0 where
-  pub other : ForSome now (λ v. IsOther (schema_payload shape) (v 2))
+  pub other : ForSome now (λ v. IsOther shape (v 2))
   pub no_events : (v : Image) (events : List Event) → now ≡ Some v → HasEvents shape events (v 2) → ⊥
+
+-- so it is, and no frame of it is damaged, chunks included
+pub record IsWholeOther (shape : Shape) (now : Option Image) : Type 0 where
+  pub is : IsOfOther shape now
+  pub whole : ForSome now (λ v. damage_of (v 2) ≡ None)
 
 -- rooms and a limit with which a log can be read
 pub record IsReadable (room : Room) : Type 0 where

@@ -1,26 +1,24 @@
 -- What a log has, up to where it ends or is damaged.
 use Rattle.std.specs.Prelude.{◌≡◌, ℕ, Bool, true, false, List, [], ◌∷◌, ◌++◌, None}
 use Rattle.rg_event.specs.declared.event.Event.{Event}
+use Rattle.rg_chunk.specs.Extended.{all_extended}
 use Rattle.rg_reservoir.specs.declared.walk.Stage.{Stage}
 use Rattle.rg_reservoir.specs.declared.walk.Stage.TheVariants as stage
+use Rattle.rg_dump.specs.Behind.{events_in}
 use Rattle.rg_dump.specs.Dump.{damage_of}
 use Rattle.rg_dump.specs.Stages.{stages_of}
 
--- the events of a frame
-abbrev pub stage_events : Stage → List Event
-stage_events (stage.Schema shape) = []
-stage_events (stage.Chunk events) = events
-
--- the events of frames, one after another
-abbrev pub events_in : List Stage → List Event
-events_in [] = []
-events_in (s ∷ stages) = stage_events s ++ events_in stages
+-- the events up to and with a frame, where these are in front of it: those of a chunk come behind them, and the values of a growth behind those of each
+abbrev pub events_after : List Event → Stage → List Event
+events_after events (stage.Schema shape) = events
+events_after events (stage.Chunk chunk) = events ++ chunk
+events_after events (stage.Growth shape values) = all_extended values events
 
 abbrev pub has_frames : List Stage → Bool
 has_frames [] = false
 has_frames (s ∷ stages) = true
 
--- the events of the log of a file
+-- the events of the log of a file, each with the values of every later growth behind its own
 abbrev pub payments_in : List ℕ → List Event
 payments_in bytes = events_in (stages_of bytes).stages
 

@@ -20,7 +20,7 @@ pub record Terms : Type 0 where
   pub shape : Shape
   pub tasks : Tasks
 
--- the log of a file, by the heads of its chunks, names the spot, which isn't behind so many events
+-- the log of a file, by the heads of its chunks and by its growths, names the spot, which isn't behind so many events
 abbrev pub Named : List ℕ → ℕ → Spot → Type 0
 Named bytes count spot = (payloads : List (List ℕ)) × HasPayloads payloads bytes × IsNamed payloads count spot
 

@@ -12,7 +12,7 @@ pub enum VerifyFault {
     /// The open frame of the log at that place, in bytes, is the first one that isn't whole, isn't what its
     /// position asks for, or doesn't continue the frames before it.
     Damaged(u64),
-    /// The log's first frame is another schema than the plan's.
+    /// Another schema than the plan's is in force at the log's end. No frame of it is damaged.
     SchemaDiffers,
     /// Memory ran out.
     Memory,

@@ -10,6 +10,7 @@ mod fault;
 mod finding;
 mod fitting;
 mod judging;
+mod longer;
 mod payments;
 mod store;
 mod text;

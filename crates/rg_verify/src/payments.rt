@@ -4,9 +4,10 @@ ghost use Rattle.rg_dump.specs.Leaves.{LeavesRead};
 ghost use Rattle.rg_event.specs.declared.event.Event.{Event};
 ghost use Rattle.rg_reservoir.specs.declared.walk.Stage.TheVariants as stage;
 ghost use Rattle.rg_verify.specs.Causes.{IsFirstDamage, IsUnjudged};
-ghost use Rattle.rg_verify.specs.Payments.{stage_events, IsReadAll};
+ghost use Rattle.rg_verify.specs.Payments.{events_after, IsReadAll};
 
 use crate::fault::VerifyFault;
+use crate::longer::extend;
 use rg_bytes::Memory;
 use rg_chunk::Chunk;
 use rg_event::Events;
@@ -17,7 +18,7 @@ use std::alloc::Global;
 /// What a log has.
 #[derive(Debug, Drop)]
 pub(crate) struct Payments {
-    /// All payments, in order.
+    /// All payments, in order, each with the values of every later growth.
     pub(crate) events: Events,
     /// Whether there is a frame.
     pub(crate) framed: bool,
@@ -48,13 +49,14 @@ fn push_chunk(alloc: Global, events: &mut Events, chunk: &Chunk) -> Result<(), M
     Ok(())
 }
 
-/// Adds copies of the events of a frame.
+/// Adds what a frame says behind these events: copies of a chunk's, or a growth's values behind those of each.
 fn push_stage(alloc: Global, events: &mut Events, stage: &Stage) -> Result<(), Memory>
-    ensures { OnOk result (events.new ≡ events.old ++ stage_events stage.now) }
+    ensures { OnOk result (events.new ≡ events_after events.old stage.now) }
 {
     match stage {
         Stage::Schema(_) => Ok(()),
         Stage::Chunk(chunk) => push_chunk(alloc, events, chunk),
+        Stage::Growth(_, values) => extend(alloc, events, values),
     }
 }
 

@@ -10,18 +10,17 @@ ghost use Rattle.rg_host.specs.Image.{Image};
 ghost use Rattle.rg_host.specs.Lines.{ended};
 ghost use Rattle.rg_host.specs.Moments.{LeavesFiles};
 ghost use Rattle.rg_host.specs.Puts.{IsPrefix, Puts};
-ghost use Rattle.rg_log.specs.Log.{schema_payload};
 ghost use Rattle.rg_reservoir.specs.Attached.{IsOther};
 ghost use Rattle.rg_reservoir.specs.Kept.{opened};
 ghost use Rattle.rg_rows.specs.Rows.{AreServed};
-ghost use Rattle.rg_verify.specs.Causes.{IsFirstDamage, IsOfOther, IsReadable, IsUnjudged};
+ghost use Rattle.rg_verify.specs.Causes.{IsFirstDamage, IsOfOther, IsReadable, IsUnjudged, IsWholeOther};
 ghost use Rattle.rg_verify.specs.Faults.{IsFromOutside};
 ghost use Rattle.rg_verify.specs.Fitting.{AreVerdicts, terms_of};
 ghost use Rattle.rg_verify.specs.Payments.{is_framed};
 ghost use Rattle.rg_verify.specs.Verify.{IsVerifiable, IsVerified, IsSaid, IsCut, verify_lines, one_differs};
 
 use crate::fault::VerifyFault;
-use crate::finding::{find, first_damage};
+use crate::finding::find;
 use crate::judging::{Wanted, judge_slot};
 use crate::payments::{Payments, read_log};
 use crate::text::lines_of;
@@ -110,30 +109,31 @@ fn judge_read<H: Host>(
     judge_slots(alloc, host, found, &wanted, log)
 }
 
-/// Reads the whole log, and holds both slots against it.
+/// Finds the log, which was read to its end, by its heads, and holds both slots against it.
 fn judge_log<H: Host>(
     alloc: Global,
     host: &mut H,
     schema: &Schema,
+    room: Room,
     task: &TaskPlan,
     queries: &Texts,
-    found: &Option<Reservoir>,
+    log: &Payments,
 ) -> Result<Verdicts, VerifyFault>
-    requires empty { IfSome found.now (λ r. opened r ≡ []) }
-    ensures verified { (v : Image) (events : List TheEvent) → H.now host.old ≡ Some v → IsVerifiable (terms_of queries.now schema.now task.now) v events →
-        IfOk result (λ verdicts. IsVerified (terms_of queries.now schema.now task.now) v events verdicts.first verdicts.second) }
-    ensures undamaged { OnOk result (ForSome (H.now host.old) (λ v. damage_of (v 2) ≡ None)) }
-    ensures cause { IfErr result (IsUnjudged (IsFirstDamage (H.now host.old)) ⊥ (H.disk_faults host.old) (H.disk_faults host.new)) }
+    requires room { IsReadable room }
+    ensures verified { (v : Image) (payloads : List (List ℕ)) → H.now host.old ≡ Some v → HasPayloads payloads (v 2) → log.now.framed ≡ is_framed (v 2) → AreServed task.now log.now.events →
+        IfOk result (λ verdicts. IsVerified (terms_of queries.now schema.now task.now) v log.now.events verdicts.first verdicts.second) }
+    ensures ours { OnOk result (ForSome (H.now host.old) (λ v. IsOther schema.now (v 2) → ⊥)) }
+    ensures cause { IfErr result (IsUnjudged (λ _. ⊥) (IsOfOther schema.now (H.now host.old)) (H.disk_faults host.old) (H.disk_faults host.new)) }
     ensures leaves { LeavesRead H.now H.may H.clock H.since H.said H.disk_faults H.out_faults host.old host.new }
 {
-    let log = match read_log(alloc, host) {
-        Ok(log) => log,
-        Err(fault) => return Err(fault),
-    };
-    judge_read(alloc, host, schema, task, queries, found, &log)
+    match find(alloc, host, schema, room) {
+        Ok(found) => judge_read(alloc, host, schema, task, queries, &found, log),
+        Err(fault) => Err(fault),
+    }
 }
 
-/// Holds both slots against the log, and puts nothing.
+/// Reads the whole log, holds both slots against it, and puts nothing. The schema in force at the log's end is
+/// compared once the log was read and isn't damaged.
 fn judge_store<H: Host>(
     alloc: Global,
     host: &mut H,
@@ -145,25 +145,25 @@ fn judge_store<H: Host>(
     requires room { IsReadable room }
     ensures verified { (v : Image) (events : List TheEvent) → H.now host.old ≡ Some v → IsVerifiable (terms_of queries.now schema.now task.now) v events →
         IfOk result (λ verdicts. IsVerified (terms_of queries.now schema.now task.now) v events verdicts.first verdicts.second) }
-    ensures ours { OnOk result (ForSome (H.now host.old) (λ v. IsOther (schema_payload schema.now) (v 2) → ⊥)) }
+    ensures ours { OnOk result (ForSome (H.now host.old) (λ v. IsOther schema.now (v 2) → ⊥)) }
     ensures undamaged { OnOk result (ForSome (H.now host.old) (λ v. damage_of (v 2) ≡ None)) }
-    ensures cause { IfErr result (IsUnjudged (IsFirstDamage (H.now host.old)) (IsOfOther schema.now (H.now host.old)) (H.disk_faults host.old) (H.disk_faults host.new)) }
+    ensures cause { IfErr result (IsUnjudged (IsFirstDamage (H.now host.old)) (IsWholeOther schema.now (H.now host.old)) (H.disk_faults host.old) (H.disk_faults host.new)) }
     ensures leaves { LeavesRead H.now H.may H.clock H.since H.said H.disk_faults H.out_faults host.old host.new }
 {
-    match find(alloc, host, schema, room) {
-        Ok(found) => judge_log(alloc, host, schema, task, queries, &found),
-        Err(VerifyFault::Damaged(_)) => Err(first_damage(alloc, host)),
-        Err(VerifyFault::SchemaDiffers) => Err(VerifyFault::SchemaDiffers),
-        Err(VerifyFault::Disk) => Err(VerifyFault::Disk),
-        Err(VerifyFault::Memory | VerifyFault::Write) => Err(VerifyFault::Memory),
-    }
+    let log = match read_log(alloc, host) {
+        Ok(log) => log,
+        Err(fault) => return Err(fault),
+    };
+    judge_log(alloc, host, schema, room, task, queries, &log)
 }
 
 /// Holds each slot's checkpoint against the log, and puts a line for each, ended by LF: that the slot isn't
 /// complete, that it is of other queries than these, that it is unfit, the least node whose rows don't stand
 /// for the first payments, or that all do, and of how many payments the checkpoint is. It answers whether a
 /// checkpoint is unfit or wrong. The whole log is read first, chunks included: a damaged one puts nothing and
-/// is told by its first damaged place, and so is one of other columns. No file is written.
+/// is told by its first damaged place, and one that isn't is refused where another schema is in force at its
+/// end. The payments have the values of every later growth, and so are the rows held against them. No file is
+/// written.
 ///
 /// `task` is the plan of the queries that are printed so. It takes the memory of all payments, and what
 /// `check_rows` takes.
@@ -188,12 +188,13 @@ pub fn verify<H: Host>(
 
     // Over any image: lines are put only where no frame is damaged and the schema is this one, and else nothing.
     ensures undamaged { OnOk result (ForSome (H.now host.old) (λ v. damage_of (v 2) ≡ None)) }
-    ensures other { (v : Image) → H.now host.old ≡ Some v → IsOther (schema_payload schema.now) (v 2) → OnOk result ⊥ }
+    ensures other { (v : Image) → H.now host.old ≡ Some v → IsOther schema.now (v 2) → OnOk result ⊥ }
     ensures silent { IfErr result (λ fault. (fault ≡ VerifyFault.Write) ⊎ Puts H.said H.clock H.since host.old host.new []) }
 
-    // Each refusal but want of memory has its cause.
+    // Each refusal but want of memory has its cause, and a damaged log is told before one of another schema.
     ensures damaged { (p : ℕ) → IsErrOf result (VerifyFault.Damaged p) → ForSome (H.now host.old) (λ v. damage_of (v 2) ≡ Some p) }
-    ensures differs { IsErrOf result VerifyFault.SchemaDiffers → ForSome (H.now host.old) (λ v. IsOther (schema_payload schema.now) (v 2)) }
+    ensures differs { IsErrOf result VerifyFault.SchemaDiffers → ForSome (H.now host.old) (λ v. IsOther schema.now (v 2)) }
+    ensures whole { IsErrOf result VerifyFault.SchemaDiffers → ForSome (H.now host.old) (λ v. damage_of (v 2) ≡ None) }
     ensures disk { IsErrOf result VerifyFault.Disk → Rose (H.disk_faults host.old) (H.disk_faults host.new) }
     ensures write { IsErrOf result VerifyFault.Write → Rose (H.out_faults host.old) (H.out_faults host.new) }
 

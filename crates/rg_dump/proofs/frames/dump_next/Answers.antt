@@ -33,13 +33,20 @@ returns-in-Ok-clause-dumped g c =
     let some = rw c.in-Ok-Some.field-0-is at c.in-Ok-Some.ensures.some in
     let goes = rw c.in-Ok-Some.field-0-is at c.in-Ok-Some.ensures.goes_on in
     record {
-      next = λ _. (c.in-Ok-Some.stage, some, puts-then g.H.Host.said g.H.Host.clock g.H.Host.since _ _ _ [] _ (puts_nothing g.H.Host.now g.H.Host.may g.H.Host.clock g.H.Host.since g.H.Host.said _ _ c.next.ensures.leaves) c.in-Ok.ensures.all);
+      next = λ _. (
+        c.in-Ok-Some.stage,
+        some,
+        record {
+          rows = puts-then g.H.Host.said g.H.Host.clock g.H.Host.since _ _ _ [] _ (puts_nothing g.H.Host.now g.H.Host.may g.H.Host.clock g.H.Host.since g.H.Host.said _ _ c.next.ensures.leaves) c.in-Ok.ensures.all.rows;
+          left_is = c.in-Ok.ensures.all.left_is;
+        },
+      );
       goes_on = λ _. goes;
       last = λ is. absurd (let e : true ≡ false = is in cc);
     }
 
-pub returns-clause-refused : goal.returns-clause-refused
-returns-clause-refused g c =
+pub returns-in-Err-put_stage-clause-refused : goal.returns-in-Err-put_stage-clause-refused
+returns-in-Err-put_stage-clause-refused g c =
     let some = rw c.in-Ok-Some.field-0-is at c.in-Ok-Some.ensures.some in
     let fault = c.in-Err-put_stage.fault in
     let why = c.in-Err-put_stage.ensures.faults in

@@ -41,6 +41,17 @@ frames-preserved-in-Ok-Some g c =
       leaves = read-then g.H.Host.now g.H.Host.may g.H.Host.clock g.H.Host.since g.H.Host.said g.H.Host.disk_faults g.H.Host.out_faults _ _ _ c.frames.invariant.leaves (record { leaves = c.in-Ok-Some.ensures.leaves; disk_faults = c.in-Ok-Some.ensures.disk_faults; out_faults = c.in-Ok-Some.ensures.out_faults });
     }
 
+pub frames-preserved-in-Ok-Some-2 : goal.frames-preserved-in-Ok-Some-2
+frames-preserved-in-Ok-Some-2 g c =
+    let next = rw c.in-Ok-Some.field-0-is at c.in-Ok-Some.ensures.some in
+    let goes = rw c.in-Ok-Some.field-0-is at c.in-Ok-Some.ensures.goes_on in
+    record {
+      summed = λ v told. subst (λ (a : Summary). IsSummed (v 2) c.next.new.self a) (sym c.with-summary.ensures) (summed_next (v 2) c.frames.walk c.next.new.self c.frames.summary (c.frames.invariant.summed v told) c.in-Ok-Some.stage (next v (c.frames.invariant.leaves.leaves.now_stays ∙ told)));
+      few = omega (arith, ap (λ (a : Summary). a.frames) c.with-summary.ensures, one_frame c.frames.summary c.in-Ok-Some.stage, c.frames.invariant.few, goes.0);
+      within = omega (arith, goes.1);
+      leaves = read-then g.H.Host.now g.H.Host.may g.H.Host.clock g.H.Host.since g.H.Host.said g.H.Host.disk_faults g.H.Host.out_faults _ _ _ c.frames.invariant.leaves (record { leaves = c.in-Ok-Some.ensures.leaves; disk_faults = c.in-Ok-Some.ensures.disk_faults; out_faults = c.in-Ok-Some.ensures.out_faults });
+    }
+
 pub frames-preserved : goal.frames-preserved
 frames-preserved g c =
     let next = rw c.in-Ok-Some.field-0-is at c.in-Ok-Some.ensures.some in

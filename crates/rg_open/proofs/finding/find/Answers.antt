@@ -1,11 +1,13 @@
-use Rattle.std.proofs.Common.{◌∙◌, inl, List, ap, sym, subst, arith, Err}
+use Rattle.std.proofs.Common.{◌∙◌, inl, List, ◌∷◌, ap, sym, subst, arith, Err}
 use Rattle.rg_event.specs.declared.event.Event.{Event}
 use Rattle.rg_config.specs.Plans.{planned}
+use Rattle.rg_log.specs.Entries.{behind}
 use Rattle.rg_log.specs.Log.{schema_payload}
 use Rattle.rg_host.specs.Image.{Image}
 use Rattle.rg_reservoir.specs.Attached.{Opens, SchemaAdded}
-use Rattle.rg_reservoir.specs.Kept.{base, all_events}
+use Rattle.rg_reservoir.specs.Kept.{base, next_of, time_of, all_events}
 use Rattle.rg_reservoir.proofs.Firsts.{quiet}
+use Rattle.rg_reservoir.proofs.Legal.{not_bad}
 use Rattle.rg_reservoir.proofs.Seeking.{one_image}
 use Rattle.rg_open.proofs.Blame.{list_opened}
 use Rattle.rg_open.proofs.Attached.{events_of, openable_still, pending_stays, sized_left, held_left, reach_left, found_by}
@@ -59,11 +61,16 @@ returns-in-Ok-attach-clause-found g c =
       list = λ v payloads told has w also.
           let t = c.in-Ok-attach.ensures.opens.told v (leaves.now_stays ∙ told) in
           let opens : Opens ours (base r).first (base r).end (v 2) (w 2) = subst (λ (u : Image). Opens ours (base r).first (base r).end (v 2) (u 2)) (one_image (g.H.Host.now n) t.0 w t.1 also) t.2 in
-          list_opened c.args.plan.now.schema (base r).first (base r).end payloads (v 2) (w 2) opens (c.in-Ok-attach.ensures.opened w also).here has;
+          let o = c.in-Ok-attach.ensures.opened w also in
+          list_opened c.args.plan.now.schema (base r).first (base r).end payloads (v 2) (w 2) o.start o.payloads opens o.has has;
       listed = λ v told.
           let t = c.in-Ok-attach.ensures.opens.told v (leaves.now_stays ∙ told) in
           let o = c.in-Ok-attach.ensures.opened t.0 t.1 in
-          (t.0, o.payloads, t.1, o.has);
+          (t.0, o.start ∷ o.payloads, t.1, o.has);
+      whole = λ w also p bad.
+          let o = c.in-Ok-attach.ensures.opened w also in
+          not_bad (o.start ∷ o.payloads) (behind (base r).shape (record { count = (base r).committed; next = next_of r; time = time_of r })) p (w 2) o.has o.say bad;
+      view = λ v told. c.in-Ok-attach.ensures.view v (leaves.now_stays ∙ told);
       fit = λ v told why. c.in-Ok-attach.ensures.exact v (leaves.now_stays ∙ told) why;
       going = going;
       empty = (empty.0, empty.1, empty.3);

@@ -1,6 +1,6 @@
-use Rattle.std.proofs.Common.{◌≡◌, ◌≤◌, ◌∙◌, ◌+◌, inl, inr, [], ℕ, List, Option, take, ap, sym, subst, arith}
+use Rattle.std.proofs.Common.{◌≡◌, ◌≤◌, ◌∙◌, ◌+◌, inl, inr, ⊎_elim, [], ℕ, List, Option, take, ap, sym, subst, arith}
+use Rattle.std.specs.Option.{ForSome}
 use Rattle.rg_host.specs.Image.{Image}
-use Rattle.rg_event.specs.Shapes.{Shape}
 use Rattle.rg_event.specs.declared.event.Event.{Event}
 use Rattle.rg_config.specs.Plans.{planned}
 use Rattle.rg_plan.specs.Plans.{Tasks}
@@ -9,9 +9,9 @@ use Rattle.rg_checkpoint.specs.Slots.{ReachesSlots}
 use Rattle.rg_engine.specs.Passed.{passed_count}
 use Rattle.rg_engine.specs.Standing.{come}
 use Rattle.rg_window.specs.Placed.{numbers_of}
-use Rattle.rg_reservoir.specs.Attached.{SchemaAdded}
-use Rattle.rg_reservoir.specs.Chain.{IsIllegal}
-use Rattle.rg_reservoir.specs.Kept.{Base, base, all_events}
+use Rattle.rg_reservoir.specs.Attached.{SchemaAdded, HasView}
+use Rattle.rg_reservoir.specs.Chain.{IsIllegalBy}
+use Rattle.rg_reservoir.specs.Kept.{Base, base, view_of, all_events}
 use Rattle.rg_restore.specs.Naming.{HeadsName}
 use Rattle.rg_restore.specs.Opening.{IsGoing}
 use Rattle.rg_restore.specs.Slots.{slot_in, HaveBegun}
@@ -111,6 +111,7 @@ returns-in-Ok-start-clause-opened g c =
         ticks = ticked.2;
       };
       fit = finds.fit;
+      view = subst (λ (b : Base). ForSome (g.H.Host.now c.args.host.now) (λ v. HasView given.schema (view_of b) (v 2))) (sym left.based) finds.view;
       going = (
         ap (λ (b : Base). b.ended) left.based ∙ finds.going.0,
         ap (λ (b : Base). b.file) left.based ∙ finds.going.1,
@@ -147,15 +148,18 @@ returns-in-Err-start-clause-refused g c =
     let finds = c.in-Ok.ensures.found in
     let f = c.in-Err-start.ensures.refused in
     let based = c.start.ensures.leaves.based in
-    let b = base c.start.new.reservoir in
     record {
       disk = λ is. rose_last (g.H.Host.disk_faults c.args.host.now) (g.H.Host.disk_faults m) (g.H.Host.disk_faults n) c.find.ensures.writes.disk_faults (f.disk is);
       differs = λ is. absurd (f.same_schema is);
       never_differs = λ openable is. f.same_schema is;
-      damaged = λ p is. inr (λ w told.
-          let shape : b.shape ≡ given.schema = ap (λ (a : Base). a.shape) based ∙ finds.going.2 in
-          let file : b.file ≡ 2 = ap (λ (a : Base). a.file) based ∙ finds.going.1 in
-          subst (λ (i : ℕ). IsIllegal given.schema.fields p (w i)) file (subst (λ (s : Shape). IsIllegal s.fields p (w b.file)) shape (f.damaged p is w told)));
+      damaged = λ p is. ⊎_elim
+          (λ illegal. inr (λ u told w also. (
+            view_of (base found.reservoir),
+            finds.view u told,
+            subst (λ (i : ℕ). IsIllegalBy (view_of (base found.reservoir)) p (w i)) finds.going.1 (subst (λ (a : Base). IsIllegalBy (view_of a) p (w a.file)) based (illegal w also)),
+          )))
+          (λ bad. inl (λ v told. let list = finds.listed v told in absurd (finds.whole list.0 list.2 p (bad list.0 (c.start.ensures.leaves.leaves.now_stays ∙ list.2)))))
+          (f.damaged p is);
       never_damaged = λ p openable is. f.undamaged p (finds.found openable).reservoir.sound is;
       undamaged = λ v events p told has is. f.undamaged p (finds.log v events told has).sound is;
       bad = λ v events k told has tells is.

@@ -62,6 +62,9 @@ returns-in-Ok-open_settled-clause-told g c = λ v told. c.in-Ok-open_settled.ens
 pub returns-in-Ok-open_settled-clause-settled : goal.returns-in-Ok-open_settled-clause-settled
 returns-in-Ok-open_settled-clause-settled g c = λ v told. c.in-Ok-open_settled.ensures.opened.settled v (c.settle.ensures.leaves.now_stays ∙ told)
 
+pub returns-in-Ok-open_settled-clause-view : goal.returns-in-Ok-open_settled-clause-view
+returns-in-Ok-open_settled-clause-view g c = λ v told. c.in-Ok-open_settled.ensures.opened.view v (c.settle.ensures.leaves.now_stays ∙ told)
+
 pub returns-in-Ok-open_settled-clause-resumed : goal.returns-in-Ok-open_settled-clause-resumed
 returns-in-Ok-open_settled-clause-resumed g c = λ v told. c.in-Ok-open_settled.ensures.opened.resumed v (c.settle.ensures.leaves.now_stays ∙ told)
 
@@ -169,7 +172,7 @@ returns-in-Err-open_settled-clause-differs g c = λ is v told. c.in-Err-open_set
 
 pub returns-in-Err-open_settled-clause-damaged : goal.returns-in-Err-open_settled-clause-damaged
 returns-in-Err-open_settled-clause-damaged g c = λ p is.
-    ⊎_elim (λ bad. inl (λ v told. bad v (c.settle.ensures.leaves.now_stays ∙ told))) (λ illegal. inr illegal) (c.in-Err-open_settled.ensures.refused.damaged p is)
+    ⊎_elim (λ bad. inl (λ v told. bad v (c.settle.ensures.leaves.now_stays ∙ told))) (λ illegal. inr (λ v told. illegal v (c.settle.ensures.leaves.now_stays ∙ told))) (c.in-Err-open_settled.ensures.refused.damaged p is)
 
 pub returns-in-Err-open_settled-clause-table_disk : goal.returns-in-Err-open_settled-clause-table_disk
 returns-in-Err-open_settled-clause-table_disk g c = c.in-Err-open_settled.ensures.refused.table_disk

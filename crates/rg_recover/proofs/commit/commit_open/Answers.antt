@@ -6,6 +6,7 @@ use Rattle.rg_bytes.specs.Counts.{Rose}
 use Rattle.rg_cache.specs.Cache.{Cache}
 use Rattle.rg_reservoir.specs.declared.kept.Kept.{Kept}
 use Rattle.rg_reservoir.specs.Kept.{base, opened, all_events, Adds}
+use Rattle.rg_reservoir.specs.Views.{View}
 use Rattle.rg_course.specs.Steps.{IsStepped}
 use Rattle.rg_open.specs.Opened.{IsOpenedFor}
 use Rattle.rg_open.specs.Stores.{store_of}
@@ -35,10 +36,10 @@ returns-in-Ok-clause-stores g c =
       done = record {
         going = c.in-Ok.ensures.going.1;
         step = λ plan keep log. record { more = opened r; whole = inr refl; grown = all_stored (g.H.Host.now then) (base s) (all_events (g.H.Host.now h) (base r) (opened r)) (opened s) c.in-Ok.ensures.empty.0 (c.in-Ok.ensures.list log.sound); left = stepped plan keep log };
-        log = λ plan log. record { sound = c.in-Ok.ensures.sound log.sound; going = c.in-Ok.ensures.going.1; file = c.commit.ensures.stays.1 ∙ log.file; shape = c.commit.ensures.stays.0 ∙ log.shape };
+        log = λ plan log. record { sound = c.in-Ok.ensures.sound log.sound; going = c.in-Ok.ensures.going.1; file = c.commit.ensures.stays.1 ∙ log.file; shape = ap (λ (view : View). view.shape) c.commit.ensures.stays.0 ∙ log.shape };
         in_step = λ plan cells spots texts is.
             stepped_in_step plan (g.H.Host.now h) (g.H.Host.now then) (g.H.Host.may h) (g.H.Host.may then) r s cells spots texts is None (opened r)
-            (opened_still plan (g.H.Host.now h) (g.H.Host.now then) (g.H.Host.may h) (g.H.Host.may then) r s cells spots texts is (c.in-Ok.ensures.sound is.reservoir.sound) c.in-Ok.ensures.going.1 c.commit.ensures.stays.1 c.commit.ensures.stays.0)
+            (opened_still plan (g.H.Host.now h) (g.H.Host.now then) (g.H.Host.may h) (g.H.Host.may then) r s cells spots texts is (c.in-Ok.ensures.sound is.reservoir.sound) c.in-Ok.ensures.going.1 c.commit.ensures.stays.1 (ap (λ (view : View). view.shape) c.commit.ensures.stays.0))
             (c.in-Ok.ensures.list is.reservoir.sound) (λ spot. c.in-Ok.ensures.spelled is.reservoir.sound spot) (stepped plan None is.reservoir);
         slots = slots_of_log (g.H.Host.now h) (g.H.Host.now then) (g.H.Host.may h) (g.H.Host.may then) _ c.in-Ok.ensures.grown (λ u left. (c.commit.ensures.leaves.left u left).0);
         spelled = λ sound spot. c.in-Ok.ensures.spelled sound spot;
@@ -64,7 +65,7 @@ returns-in-Ok-clause-keeps g c =
     let none = ap length c.in-Ok.ensures.empty.0 in
     record {
       log = record {
-        shape = c.commit.ensures.stays.0;
+        view = c.commit.ensures.stays.0;
         file = c.commit.ensures.stays.1;
         limit = c.commit.ensures.stays.3;
         room = c.commit.ensures.stays.4;
@@ -88,7 +89,7 @@ returns-in-Err-clause-keeps g c =
     let long = ap length same.0 in
     record {
       log = record {
-        shape = c.commit.ensures.stays.0;
+        view = c.commit.ensures.stays.0;
         file = c.commit.ensures.stays.1;
         limit = c.commit.ensures.stays.3;
         room = c.commit.ensures.stays.4;

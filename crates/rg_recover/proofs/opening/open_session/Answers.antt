@@ -16,6 +16,7 @@ returns-in-Ok-clause-opened g c = record {
   going = c.in-Ok.ensures.going;
   reaches = c.in-Ok.ensures.reaches;
   slots_reach = c.in-Ok.ensures.slots_reach;
+  view = c.in-Ok.ensures.view;
   log = c.in-Ok.ensures.log;
   numbers = (c.in-Ok.ensures.numbers.0, c.in-Ok.ensures.numbers.1);
 }

@@ -19,7 +19,7 @@ returns-then-has_room-clause-stores g c =
 
 pub returns-then-has_room-clause-keeps : goal.returns-then-has_room-clause-keeps
 returns-then-has_room-clause-keeps g c = record {
-  log = record { shape = refl; file = refl; limit = refl; room = refl; cap = refl; more = omega arith; said_stays = refl; disk_faults_grow = omega arith; out_faults_stay = refl };
+  log = record { view = refl; file = refl; limit = refl; room = refl; cap = refl; more = omega arith; said_stays = refl; disk_faults_grow = omega arith; out_faults_stay = refl };
   count = refl;
   fewer = omega arith;
   next = refl;

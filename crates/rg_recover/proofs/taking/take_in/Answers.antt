@@ -1,13 +1,13 @@
 use Rattle.std.proofs.Common.{◌≡◌, ◌<◌, ◌∙◌, ⊎_elim, inr, refl, Ok, Err, ℕ, [], List, ◌∷◌, ◌++◌, length, ap, sym, subst, arith, rules}
 use Rattle.std.proofs.lemmas.List.{append-nil}
 use Rattle.rg_event.specs.Codec.{IsEventOf}
-use Rattle.rg_event.specs.Shapes.{Shape}
 use Rattle.rg_event.specs.declared.event.Event.{Event}
 use Rattle.rg_metric.specs.Replies.{answers_to}
 use Rattle.rg_past.specs.declared.past.PastFault.TheVariants as past
 use Rattle.rg_plan.specs.Plans.{Tasks}
 use Rattle.rg_config.specs.Plans.{Planned}
 use Rattle.rg_reservoir.specs.Kept.{Base, base, opened, room_of, stored, all_events}
+use Rattle.rg_reservoir.specs.Views.{View}
 use Rattle.rg_reservoir.specs.declared.reservoir.Reservoir.{Reservoir}
 use Rattle.rg_window.specs.Placed.{AreWithin}
 use Rattle.rg_open.specs.Stores.{store_of}
@@ -44,7 +44,7 @@ take-requires-clause-fits g c =
     let k = c.new-past.result.host.now in
     let m = c.new-past.result.reservoir.now in
     let keeps = moved (λ (x : g.row.H.Denot) (y : Reservoir). KeepsEvents g.H.Host.now g.H.Host.said g.H.Host.disk_faults g.H.Host.out_faults r y h x) c.make_room.new.host k c.make_room.new.reservoir m c.new-past.ensures.host c.new-past.ensures.reservoir c.make_room.ensures.keeps in
-    subst (λ (shape : Shape). IsEventOf shape.fields c.args.event) (sym keeps.log.shape) c.requires.can.fits
+    subst (λ (view : View). IsEventOf view.shape.fields c.args.event) (sym keeps.log.view) c.requires.can.fits
 
 pub take-requires-clause-follows : goal.take-requires-clause-follows
 take-requires-clause-follows g c =
@@ -143,7 +143,7 @@ returns-in-Ok-take-clause-ready g c =
     let again = ready_stepped plan (g.H.Host.now h) (g.H.Host.now k) (g.H.Host.may h) (g.H.Host.may k) (g.T.Table.tells e.table) (g.T.Table.cell e.table) r m e texts ready (done.in_step plan (g.T.Table.cell e.table) e.spots texts ready.in_step) in
     let sound = again.in_step.reservoir.sound in
     let events = all_events (g.H.Host.now k) (base m) (opened m) in
-    let fits = subst (λ (shape : Shape). IsEventOf shape.fields event) (sym keeps.log.shape) c.requires.can.fits in
+    let fits = subst (λ (view : View). IsEventOf view.shape.fields event) (sym keeps.log.view) c.requires.can.fits in
     let told = same_stored (g.H.Host.now k) (g.H.Host.now n) m s goes.leaves.now_stays goes.base in
     record {
       answers = subst (λ (l : List Event). c.in-Ok-take.answers ≡ answers_to plan.queries (l ++ event ∷ []) event) (done.events log.sound)
@@ -178,7 +178,7 @@ returns-in-Ok-take-clause-nodes g c =
     let s = c.take.new.past.reservoir.now in
     let f = c.take.new.self in
     let goes = c.take.ensures.past.goes in
-    let fits = subst (λ (shape : Shape). IsEventOf shape.fields c.args.event) (sym keeps.log.shape) c.requires.can.fits in
+    let fits = subst (λ (view : View). IsEventOf view.shape.fields c.args.event) (sym keeps.log.view) c.requires.can.fits in
     moved (λ (x : g.row.H.Denot) (y : Reservoir). CarriesNodes g.H.Host.now g.H.Host.may g.T.Table.tells g.T.Table.cell {A = Answers} (Ok c.in-Ok-take.answers) r y c.args.engine.now c.take.new.self h x)
     c.take.new.past.host.now _ c.take.new.past.reservoir.now _ (search rules) (search rules)
     (record {
@@ -250,7 +250,7 @@ returns-in-Err-take-clause-ready g c =
     let log = ready.in_step.reservoir in
     let again = ready_stepped plan (g.H.Host.now h) (g.H.Host.now k) (g.H.Host.may h) (g.H.Host.may k) (g.T.Table.tells e.table) (g.T.Table.cell e.table) r m e texts ready (done.in_step plan (g.T.Table.cell e.table) e.spots texts ready.in_step) in
     let events = all_events (g.H.Host.now k) (base m) (opened m) in
-    let fits = subst (λ (shape : Shape). IsEventOf shape.fields event) (sym keeps.log.shape) c.requires.can.fits in
+    let fits = subst (λ (view : View). IsEventOf view.shape.fields event) (sym keeps.log.view) c.requires.can.fits in
     record {
       answers = tt;
       ready = tt;
@@ -275,7 +275,7 @@ returns-in-Err-take-clause-nodes g c =
     let keeps = moved (λ (x : g.row.H.Denot) (y : Reservoir). KeepsEvents g.H.Host.now g.H.Host.said g.H.Host.disk_faults g.H.Host.out_faults r y h x) c.make_room.new.host k c.make_room.new.reservoir m c.new-past.ensures.host c.new-past.ensures.reservoir c.make_room.ensures.keeps in
     let done = moved (λ (x : g.row.H.Denot) (y : Reservoir). HasStored g.H.Host.now g.H.Host.may r y h x) c.make_room.new.host k c.make_room.new.reservoir m c.new-past.ensures.host c.new-past.ensures.reservoir c.in-Ok.ensures.stores.done in
     let e = c.args.engine.now in
-    let fits = subst (λ (shape : Shape). IsEventOf shape.fields c.args.event) (sym keeps.log.shape) c.requires.can.fits in
+    let fits = subst (λ (view : View). IsEventOf view.shape.fields c.args.event) (sym keeps.log.view) c.requires.can.fits in
     moved (λ (x : g.row.H.Denot) (y : Reservoir). CarriesNodes g.H.Host.now g.H.Host.may g.T.Table.tells g.T.Table.cell {A = Answers} (Err c.from.result) r y c.args.engine.now c.take.new.self h x)
     c.take.new.past.host.now _ c.take.new.past.reservoir.now _ (search rules) (search rules)
     (record {

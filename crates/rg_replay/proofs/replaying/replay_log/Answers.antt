@@ -38,8 +38,9 @@ returns-in-Ok-Some-clause-ends g c = record {
       (leaves_all g.H.Host.now g.H.Host.may g.H.Host.clock g.H.Host.since g.H.Host.said g.H.Host.disk_faults g.H.Host.out_faults _ _ c.view.ensures.leaves c.view.ensures.disk_faults c.view.ensures.out_faults) c.replay_opened-replayed.ensures.leaves;
   cause =
       let going = rw c.in-Ok-Some.field-0-is at c.in-Ok-Some.ensures.going in
+      let seen = rw c.in-Ok-Some.field-0-is at c.in-Ok-Some.ensures.view in
       if_err_of c.replay_opened-replayed.result _ _ c.replay_opened-replayed.ensures.cause (λ fault cause.
-      caused_opened g.H.Host.now g.H.Host.may g.H.Host.clock g.H.Host.since g.H.Host.disk_faults g.H.Host.out_faults (base c.in-Ok-Some.viewed) c.args.schema.now fault _ _ _ going.1 going.2
+      caused_opened g.H.Host.now g.H.Host.may g.H.Host.clock g.H.Host.since g.H.Host.disk_faults g.H.Host.out_faults (base c.in-Ok-Some.viewed) c.args.schema.now fault _ _ _ going.1 seen
       (leaves_all g.H.Host.now g.H.Host.may g.H.Host.clock g.H.Host.since g.H.Host.said g.H.Host.disk_faults g.H.Host.out_faults _ _ c.view.ensures.leaves c.view.ensures.disk_faults c.view.ensures.out_faults) cause);
 }
 

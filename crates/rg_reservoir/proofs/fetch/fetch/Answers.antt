@@ -2,7 +2,7 @@ use Rattle.std.proofs.Common.{rules, ◌≡◌, ◌∙◌, ap, sym, subst, refl,
 use Rattle.rg_frame.specs.declared.fault.FrameFault.{FrameFault}
 use Rattle.rg_reservoir.specs.declared.fault.ReservoirFault.TheVariants as reservoir
 use Rattle.rg_reservoir.proofs.Causes.{from_damaged, read_at}
-use Rattle.rg_reservoir.specs.Chain.{IsIllegal}
+use Rattle.rg_reservoir.specs.Chain.{IsIllegalBy}
 use Rattle.rg_reservoir.specs.Views.{seen_from, shape_at}
 use Rattle.rg_reservoir.proofs.Fetching.{fetch_some, fetch_torn, fetch_bad, never_illegal}
 use Rattle.rg_reservoir.proofs.fetch.fetch.Goals as goal
@@ -39,7 +39,7 @@ returns-in-Err-BadChunk-clause-stops g c = record {
       let h = rw c.in-Ok-Some.field-0-is at c.in-Ok-Some.ensures.some in
       let n = rw c.in-Ok-Some.field-0-is at c.in-Ok-Some.ensures.next in
       let f : c.in-Ok-Some.next < 2 ^ 62 = rw c.in-Ok-Some.field-0-is at c.in-Ok-Some.ensures.fits in
-      subst (λ (q : ℕ). IsIllegal (shape_at (seen_from c.args.schema.now c.args.growths.now) q).fields q (v c.args.log.now.file)) same (fetch_bad (seen_from c.args.schema.now c.args.growths.now) c.args.place c.in-Ok-Some.next c.read.new.out.items (v c.args.log.now.file) (h v told) f n (rw (← c.deref.ensures.value) agreed));
+      subst (λ (q : ℕ). IsIllegalBy (seen_from c.args.schema.now c.args.growths.now) q (v c.args.log.now.file)) same (fetch_bad (seen_from c.args.schema.now c.args.growths.now) c.args.place c.in-Ok-Some.next c.read.new.out.items (v c.args.log.now.file) (h v told) f n (rw (← c.deref.ensures.value) agreed));
   disk = search rules;
   faults = search rules;
 }

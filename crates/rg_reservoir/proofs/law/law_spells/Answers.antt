@@ -11,8 +11,8 @@ pub returns : goal.returns
 returns g c = λ host r v spot sound going none told.
     let right = subst (λ (l : List Event). IsRight sound.0 (g.H.Host.may host) (base r) l (next_of r) (time_of r) (cache_of r)) none (sound.2.right going) in
     let same = one_image (g.H.Host.now host) sound.0 v sound.1 told in (
-      λ spells. subst (λ (u : Image). SpotIn (base r).shape (u (base r).file) spot) same (spelled_there sound.0 (g.H.Host.may host) (base r) (next_of r) (time_of r) (cache_of r) right (g.H.Host.now host) spot sound.1
+      λ spells. subst (λ (u : Image). SpotIn (u (base r).file) spot) same (spelled_there sound.0 (g.H.Host.may host) (base r) (next_of r) (time_of r) (cache_of r) right (g.H.Host.now host) spot sound.1
           (subst (λ (l : List Event). Spells (g.H.Host.now host) (base r) l spot) none spells)),
       λ there. subst (λ (l : List Event). Spells (g.H.Host.now host) (base r) l spot) (sym none) (spelled_here sound.0 (g.H.Host.may host) (base r) (next_of r) (time_of r) (cache_of r) right (g.H.Host.now host) spot sound.1
-          (subst (λ (u : Image). SpotIn (base r).shape (u (base r).file) spot) (sym same) there)),
+          (subst (λ (u : Image). SpotIn (u (base r).file) spot) (sym same) there)),
     )

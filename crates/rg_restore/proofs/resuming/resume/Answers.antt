@@ -1,4 +1,4 @@
-use Rattle.std.proofs.Common.{inl, inr, ◌∙◌, ◌+◌, take, length, ap, sym, subst}
+use Rattle.std.proofs.Common.{inl, inr, ◌∙◌, ℕ, ◌+◌, take, length, ap, sym, subst}
 use Rattle.std.specs.Prelude.{All}
 use Rattle.std.proofs.lemmas.List.Elements.{All-weaker}
 use Rattle.rg_event.specs.Rising.{last_time}
@@ -6,7 +6,7 @@ use Rattle.rg_past.proofs.Kept.{kept-then, cause-within}
 use Rattle.rg_window.specs.Placed.{numbers_of}
 use Rattle.rg_engine.specs.Passed.{passed_count}
 use Rattle.rg_restore.specs.Opening.{IsUsable}
-use Rattle.rg_restore.proofs.Asked.{refused-cause, unmade-past, unmade-bad, unmade-ended, unmade-table}
+use Rattle.rg_restore.proofs.Asked.{cause-damaged, refused-cause, unmade-past, unmade-bad, unmade-ended, unmade-table}
 use Rattle.rg_restore.proofs.Joining.{can_later, node_later}
 use Rattle.rg_restore.proofs.Placing.{node_stands, node_told}
 use Rattle.rg_restore.proofs.resuming.resume.Goals as goal
@@ -45,7 +45,8 @@ returns-in-Err-restore-clause-bad g c = λ n can runs is.
 
 pub returns-in-Err-restore-clause-cause : goal.returns-in-Err-restore-clause-cause
 returns-in-Err-restore-clause-cause g c = λ fault is.
-    cause-within _ ⊥ _ ⊥ _ _ _ _ fault c.begin.ensures.past.past.later (λ full. full) c.begin.ensures.past.past.ended.0 (c.in-Err-restore.ensures.cause fault is)
+    let damages = λ (place : ℕ). g.met.P.Names.illegal_damaged c.restore.new.past place in
+    cause-damaged _ _ ⊥ _ _ _ fault damages (cause-within _ ⊥ _ ⊥ _ _ _ _ fault c.begin.ensures.past.past.later (λ full. full) c.begin.ensures.past.past.ended.0 (c.in-Err-restore.ensures.cause fault is))
 
 pub returns-in-Err-restore-clause-past : goal.returns-in-Err-restore-clause-past
 returns-in-Err-restore-clause-past g c = kept-then _ _ _ _ _ _ _ g.met.P.Past.transitive c.begin.ensures.past.past c.restore.ensures.past

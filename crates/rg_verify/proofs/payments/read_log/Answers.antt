@@ -50,6 +50,16 @@ frames-preserved-in-Ok g c =
       leaves = read-then g.H.Host.now g.H.Host.may g.H.Host.clock g.H.Host.since g.H.Host.said g.H.Host.disk_faults g.H.Host.out_faults _ _ _ c.frames.invariant.leaves (record { leaves = c.next.ensures.leaves; disk_faults = c.next.ensures.disk_faults; out_faults = c.next.ensures.out_faults });
     }
 
+pub frames-preserved-in-Ok-2 : goal.frames-preserved-in-Ok-2
+frames-preserved-in-Ok-2 g c =
+    let next = rw c.in-Ok-Some.field-0-is at c.in-Ok-Some.ensures.some in
+    let goes = rw c.in-Ok-Some.field-0-is at c.in-Ok-Some.ensures.goes_on in
+    record {
+      read = λ v told. read_next (v 2) c.frames.walk c.next.new.self c.frames.events c.push_stage.new.events c.frames.framed c.in-Ok-Some.stage (c.frames.invariant.read v told) (next v (c.frames.invariant.leaves.leaves.now_stays ∙ told)) c.in-Ok.ensures;
+      within = omega (arith, goes.1);
+      leaves = read-then g.H.Host.now g.H.Host.may g.H.Host.clock g.H.Host.since g.H.Host.said g.H.Host.disk_faults g.H.Host.out_faults _ _ _ c.frames.invariant.leaves (record { leaves = c.next.ensures.leaves; disk_faults = c.next.ensures.disk_faults; out_faults = c.next.ensures.out_faults });
+    }
+
 pub frames-preserved : goal.frames-preserved
 frames-preserved g c =
     let next = rw c.in-Ok-Some.field-0-is at c.in-Ok-Some.ensures.some in

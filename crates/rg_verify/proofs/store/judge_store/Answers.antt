@@ -1,40 +1,46 @@
-use Rattle.std.proofs.Common.{◌∙◌}
-use Rattle.std.proofs.lemmas.Result.{on_ok_weaker, IfErr-weaker}
+use Rattle.std.proofs.Common.{◌≡◌, ◌∙◌, List, sym, subst, arith}
+use Rattle.std.proofs.lemmas.Result.{IfOk-weaker, on_ok_weaker, IfErr-weaker}
+use Rattle.rg_event.specs.declared.event.Event.{Event}
+use Rattle.rg_rows.specs.Rows.{AreServed}
 use Rattle.rg_dump.proofs.Leaves.{read-then}
-use Rattle.rg_verify.specs.Causes.{IsFirstDamage, IsOfOther}
-use Rattle.rg_verify.proofs.Causes.{on-ok, unjudged-disk, unjudged-differs, unjudged-within}
+use Rattle.rg_verify.specs.Causes.{IsFirstDamage, IsOfOther, IsWholeOther}
+use Rattle.rg_verify.specs.Fitting.{terms_of}
+use Rattle.rg_verify.specs.Verify.{IsVerified}
+use Rattle.rg_verify.proofs.Causes.{on-ok, unjudged-within}
+use Rattle.rg_verify.proofs.Logs.{payments_are, served}
 use Rattle.rg_verify.proofs.store.judge_store.Goals as goal
 
-pub returns-in-Ok-clause-verified : goal.returns-in-Ok-clause-verified
-returns-in-Ok-clause-verified g c = λ v events told is. c.judge_log.ensures.verified v events (c.find.ensures.leaves.leaves.now_stays ∙ told) is
+pub returns-clause-verified : goal.returns-clause-verified
+returns-clause-verified g c = λ v events told is.
+    let terms = terms_of c.args.queries.now c.args.schema.now c.args.task.now in
+    let read = c.in-Ok.ensures.read v told in
+    let same : c.in-Ok.log.events ≡ events = read.events_are ∙ payments_are c.args.schema.now events (v 2) is.has in
+    IfOk-weaker c.judge_log.result (λ verdicts. IsVerified terms v c.in-Ok.log.events verdicts.first verdicts.second) (λ verdicts. IsVerified terms v events verdicts.first verdicts.second)
+    (λ verdicts said. subst (λ (l : List Event). IsVerified terms v l verdicts.first verdicts.second) same said)
+    (c.judge_log.ensures.verified v is.has.1.payloads (c.read_log.ensures.leaves.leaves.now_stays ∙ told) is.has.1.has read.framed_is
+    (subst (λ (l : List Event). AreServed c.args.task.now l) (sym same) (served terms v events is)))
 
-pub returns-in-Ok-clause-ours : goal.returns-in-Ok-clause-ours
-returns-in-Ok-clause-ours g c = on-ok c.judge_log.result c.in-Ok.ensures.ours
+pub returns-clause-ours : goal.returns-clause-ours
+returns-clause-ours g c = on_ok_weaker c.judge_log.result (λ ours v told other. ours v (c.read_log.ensures.leaves.leaves.now_stays ∙ told) other) c.judge_log.ensures.ours
 
-pub returns-in-Ok-clause-undamaged : goal.returns-in-Ok-clause-undamaged
-returns-in-Ok-clause-undamaged g c = on_ok_weaker c.judge_log.result (λ whole v told. whole v (c.find.ensures.leaves.leaves.now_stays ∙ told)) c.judge_log.ensures.undamaged
+pub returns-clause-undamaged : goal.returns-clause-undamaged
+returns-clause-undamaged g c = on-ok c.judge_log.result (λ v told. (c.in-Ok.ensures.read v told).undamaged)
 
-pub returns-in-Ok-clause-leaves : goal.returns-in-Ok-clause-leaves
-returns-in-Ok-clause-leaves g c = read-then g.H.Host.now g.H.Host.may g.H.Host.clock g.H.Host.since g.H.Host.said g.H.Host.disk_faults g.H.Host.out_faults _ _ _ c.find.ensures.leaves c.judge_log.ensures.leaves
+pub returns-clause-leaves : goal.returns-clause-leaves
+returns-clause-leaves g c = read-then g.H.Host.now g.H.Host.may g.H.Host.clock g.H.Host.since g.H.Host.said g.H.Host.disk_faults g.H.Host.out_faults _ _ _ c.read_log.ensures.leaves c.judge_log.ensures.leaves
 
-pub returns-in-Ok-clause-cause : goal.returns-in-Ok-clause-cause
-returns-in-Ok-clause-cause g c =
-    let left = c.find.ensures.leaves in
+pub returns-clause-cause : goal.returns-clause-cause
+returns-clause-cause g c =
+    let left = c.read_log.ensures.leaves in
     IfErr-weaker c.judge_log.result _ _
-    (λ fault why. unjudged-within (IsFirstDamage (g.H.Host.now c.args.host.now)) (IsFirstDamage (g.H.Host.now c.find.new.host)) (IsOfOther c.args.schema.now (g.H.Host.now c.args.host.now)) ⊥ _ _ _ fault left.disk_faults
-    (λ place damage v told. damage v (left.leaves.now_stays ∙ told)) (λ no. absurd no) why) c.judge_log.ensures.cause
+    (λ fault why. unjudged-within (IsFirstDamage (g.H.Host.now c.args.host.now)) (λ _. ⊥) (IsWholeOther c.args.schema.now (g.H.Host.now c.args.host.now)) (IsOfOther c.args.schema.now (g.H.Host.now c.read_log.new.host)) _ _ _ fault left.disk_faults
+    (λ place no. absurd no)
+    (λ other. record {
+      is = record { other = λ v told. other.other v (left.leaves.now_stays ∙ told); no_events = λ v events told has. other.no_events v events (left.leaves.now_stays ∙ told) has };
+      whole = λ v told. (c.in-Ok.ensures.read v told).undamaged;
+    }) why) c.judge_log.ensures.cause
 
-pub returns-in-Err-Damaged-clause-leaves : goal.returns-in-Err-Damaged-clause-leaves
-returns-in-Err-Damaged-clause-leaves g c = read-then g.H.Host.now g.H.Host.may g.H.Host.clock g.H.Host.since g.H.Host.said g.H.Host.disk_faults g.H.Host.out_faults _ _ _ c.find.ensures.leaves c.first_damage.ensures.leaves
-
-pub returns-in-Err-Damaged-clause-cause : goal.returns-in-Err-Damaged-clause-cause
-returns-in-Err-Damaged-clause-cause g c =
-    let left = c.find.ensures.leaves in
-    unjudged-within (IsFirstDamage (g.H.Host.now c.args.host.now)) (IsFirstDamage (g.H.Host.now c.find.new.host)) (IsOfOther c.args.schema.now (g.H.Host.now c.args.host.now)) ⊥ _ _ _ c.first_damage.result left.disk_faults
-    (λ place damage v told. damage v (left.leaves.now_stays ∙ told)) (λ no. absurd no) c.first_damage.ensures.cause
-
-pub returns-in-Err-SchemaDiffers-clause-cause : goal.returns-in-Err-SchemaDiffers-clause-cause
-returns-in-Err-SchemaDiffers-clause-cause g c = unjudged-differs _ _ _ _ _ c.in-Err-SchemaDiffers.ensures.cause c.in-Err-SchemaDiffers.field-0-is
-
-pub returns-in-Err-Disk-clause-cause : goal.returns-in-Err-Disk-clause-cause
-returns-in-Err-Disk-clause-cause g c = unjudged-disk _ _ _ _ _ c.in-Err-Disk.ensures.cause c.in-Err-Disk.field-0-is
+pub returns-in-Err-clause-cause : goal.returns-in-Err-clause-cause
+returns-in-Err-clause-cause g c =
+    let damage = IsFirstDamage (g.H.Host.now c.args.host.now) in
+    unjudged-within damage damage (IsWholeOther c.args.schema.now (g.H.Host.now c.args.host.now)) ⊥ (g.H.Host.disk_faults c.args.host.now) (g.H.Host.disk_faults c.args.host.now) _ c.in-Err.fault (omega arith) (λ place first. first) (λ no. absurd no) c.in-Err.ensures.cause

@@ -59,7 +59,7 @@ pub returns-in-Err-clause-outside : goal.returns-in-Err-clause-outside
 returns-in-Err-clause-outside g c = λ v events told is.
     outside-of _ _ _ _ c.in-Err.fault
     (λ p damage. let wrong : None ≡ Some p = sym (undamaged c.args.schema.now events (v 2) is.has) ∙ damage v told in cc)
-    (λ other. other.no_events v events told is.has) c.in-Err.ensures.cause
+    (λ other. other.is.no_events v events told is.has) c.in-Err.ensures.cause
 
 pub returns-in-Err-clause-damaged : goal.returns-in-Err-clause-damaged
 returns-in-Err-clause-damaged g c = λ p e.
@@ -69,7 +69,12 @@ returns-in-Err-clause-damaged g c = λ p e.
 pub returns-in-Err-clause-differs : goal.returns-in-Err-clause-differs
 returns-in-Err-clause-differs g c = λ e.
     let same : c.in-Err.fault ≡ SchemaDiffers = cc in
-    (unjudged-differs _ _ _ _ c.in-Err.fault c.in-Err.ensures.cause same).other
+    (unjudged-differs _ _ _ _ c.in-Err.fault c.in-Err.ensures.cause same).is.other
+
+pub returns-in-Err-clause-whole : goal.returns-in-Err-clause-whole
+returns-in-Err-clause-whole g c = λ e.
+    let same : c.in-Err.fault ≡ SchemaDiffers = cc in
+    (unjudged-differs _ _ _ _ c.in-Err.fault c.in-Err.ensures.cause same).whole
 
 pub returns-in-Err-clause-disk : goal.returns-in-Err-clause-disk
 returns-in-Err-clause-disk g c = λ e.

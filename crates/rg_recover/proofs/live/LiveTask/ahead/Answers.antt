@@ -1,5 +1,5 @@
 use Rattle.std.proofs.Common.{inl, inr, Err, refl, sym, ◌∙◌, ap, arith}
-use Rattle.rg_reservoir.specs.Kept.{Base}
+use Rattle.rg_reservoir.specs.Kept.{Base, view_of}
 use Rattle.rg_recover.proofs.TaskCauses.{same_fault, damaged_by, disk_by, ended_by, rose_first, ahead_faults, ahead_no_table}
 use Rattle.rg_recover.proofs.live.LiveTask.ahead.Goals as goal
 
@@ -70,10 +70,10 @@ pub returns-in-Err-clause-ends : goal.returns-in-Err-clause-ends
 returns-in-Err-clause-ends g c = c.in-Err.ensures.ends
 
 pub returns-in-Ok-clause-goes : goal.returns-in-Ok-clause-goes
-returns-in-Ok-clause-goes g c = ((refl, refl, refl), (ap (λ (b : Base). b.shape) c.ahead.ensures.reservoir.base, ap (λ (b : Base). b.file) c.ahead.ensures.reservoir.base))
+returns-in-Ok-clause-goes g c = ((refl, refl, refl), (ap view_of c.ahead.ensures.reservoir.base, ap (λ (b : Base). b.file) c.ahead.ensures.reservoir.base))
 
 pub returns-in-Err-clause-goes : goal.returns-in-Err-clause-goes
-returns-in-Err-clause-goes g c = ((refl, refl, refl), (ap (λ (b : Base). b.shape) c.ahead.ensures.reservoir.base, ap (λ (b : Base). b.file) c.ahead.ensures.reservoir.base))
+returns-in-Err-clause-goes g c = ((refl, refl, refl), (ap view_of c.ahead.ensures.reservoir.base, ap (λ (b : Base). b.file) c.ahead.ensures.reservoir.base))
 
 pub returns-in-Ok-clause-disk_faults : goal.returns-in-Ok-clause-disk_faults
 returns-in-Ok-clause-disk_faults g c = omega (arith, c.ahead.ensures.disk_faults, ap (λ x. g.T.Table.faults x.table) c.ahead.ensures.stays.0)

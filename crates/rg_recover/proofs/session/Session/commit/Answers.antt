@@ -67,7 +67,7 @@ pub returns-in-Ok-clause-last : goal.returns-in-Ok-clause-last
 returns-in-Ok-clause-last g c = rw (← c.self.view_is) c.commit_open.ensures.keeps.next
 
 pub returns-in-Ok-clause-log : goal.returns-in-Ok-clause-log
-returns-in-Ok-clause-log g c = rw (← c.self.view_is) (c.commit_open.ensures.keeps.log.shape, c.commit_open.ensures.keeps.log.file)
+returns-in-Ok-clause-log g c = rw (← c.self.view_is) (c.commit_open.ensures.keeps.log.view, c.commit_open.ensures.keeps.log.file)
 
 pub returns-in-Ok-clause-rooms : goal.returns-in-Ok-clause-rooms
 returns-in-Ok-clause-rooms g c = rw (← c.self.view_is) (c.commit_open.ensures.keeps.log.room, c.commit_open.ensures.keeps.log.cap, c.commit_open.ensures.keeps.log.limit)
@@ -94,7 +94,7 @@ pub returns-in-Err-Memory-clause-last : goal.returns-in-Err-Memory-clause-last
 returns-in-Err-Memory-clause-last g c = rw (← c.self.view_is) c.commit_open.ensures.keeps.next
 
 pub returns-in-Err-Memory-clause-log : goal.returns-in-Err-Memory-clause-log
-returns-in-Err-Memory-clause-log g c = rw (← c.self.view_is) (c.commit_open.ensures.keeps.log.shape, c.commit_open.ensures.keeps.log.file)
+returns-in-Err-Memory-clause-log g c = rw (← c.self.view_is) (c.commit_open.ensures.keeps.log.view, c.commit_open.ensures.keeps.log.file)
 
 pub returns-in-Err-Memory-clause-rooms : goal.returns-in-Err-Memory-clause-rooms
 returns-in-Err-Memory-clause-rooms g c = rw (← c.self.view_is) (c.commit_open.ensures.keeps.log.room, c.commit_open.ensures.keeps.log.cap, c.commit_open.ensures.keeps.log.limit)
@@ -121,7 +121,7 @@ pub returns-in-Err-clause-last : goal.returns-in-Err-clause-last
 returns-in-Err-clause-last g c = rw (← c.self.view_is) c.commit_open.ensures.keeps.next
 
 pub returns-in-Err-clause-log : goal.returns-in-Err-clause-log
-returns-in-Err-clause-log g c = rw (← c.self.view_is) (c.commit_open.ensures.keeps.log.shape, c.commit_open.ensures.keeps.log.file)
+returns-in-Err-clause-log g c = rw (← c.self.view_is) (c.commit_open.ensures.keeps.log.view, c.commit_open.ensures.keeps.log.file)
 
 pub returns-in-Err-clause-rooms : goal.returns-in-Err-clause-rooms
 returns-in-Err-clause-rooms g c = rw (← c.self.view_is) (c.commit_open.ensures.keeps.log.room, c.commit_open.ensures.keeps.log.cap, c.commit_open.ensures.keeps.log.limit)

@@ -150,10 +150,10 @@ pub returns-in-Err-take_in-clause-untouched : goal.returns-in-Err-take_in-clause
 returns-in-Err-take_in-clause-untouched g c = λ is. absurd (c.in-Err-take_in.ensures.takes.not_ended (ap (λ v. Err v) (same_fault c.in-Err-take_in.fault _ is)))
 
 pub returns-in-Ok-clause-log : goal.returns-in-Ok-clause-log
-returns-in-Ok-clause-log g c = rw (← c.self.view_is) (c.take_in.ensures.takes.log.shape, c.take_in.ensures.takes.log.file)
+returns-in-Ok-clause-log g c = rw (← c.self.view_is) (c.take_in.ensures.takes.log.view, c.take_in.ensures.takes.log.file)
 
 pub returns-in-Err-take_in-clause-log : goal.returns-in-Err-take_in-clause-log
-returns-in-Err-take_in-clause-log g c = rw (← c.self.view_is) (c.take_in.ensures.takes.log.shape, c.take_in.ensures.takes.log.file)
+returns-in-Err-take_in-clause-log g c = rw (← c.self.view_is) (c.take_in.ensures.takes.log.view, c.take_in.ensures.takes.log.file)
 
 pub returns-in-Ok-clause-rooms : goal.returns-in-Ok-clause-rooms
 returns-in-Ok-clause-rooms g c = rw (← c.self.view_is) (c.take_in.ensures.takes.log.room, c.take_in.ensures.takes.log.cap, c.take_in.ensures.takes.log.limit)

@@ -2,8 +2,8 @@ use Rattle.std.proofs.Common.{◌≡◌, ◌∙◌, sym, subst, refl, rules, Lis
 use Rattle.std.proofs.lemmas.List.{take_all}
 use Rattle.rg_host.proofs.Runs.{leaves_all-none}
 use Rattle.rg_past.specs.declared.past.Spot.{Spot}
-use Rattle.rg_reservoir.specs.Ahead.{all_ahead, SomeTouched}
-use Rattle.rg_reservoir.specs.Kept.{Base, base, view_of, IsCached, IsSound, AllTouched}
+use Rattle.rg_reservoir.specs.Ahead.{ahead_places, all_ahead, SomeTouched}
+use Rattle.rg_reservoir.specs.Kept.{Base, base, view_of, opened, IsCached, IsSound, SpellsSettled, AllTouched}
 use Rattle.rg_reservoir.proofs.Peeking.{spells_stay}
 use Rattle.rg_reservoir.proofs.Loading.{only_then, only_sound, stays_same, some_none, some_step, some_stop, all_step}
 use Rattle.rg_reservoir.proofs.reservoir.Reservoir.load_each.Goals as goal
@@ -35,12 +35,15 @@ spots-preserved g c =
       only = only_then self mid new c.args.host.now c.spots.host c.load_ahead.new.host only c.load_ahead.ensures.only;
       touched = λ v told was.
           let held = subst (λ (b : Base). IsCached (view_of b) (v b.file) mid.cache) (sym same) (only.cached v told was) in
-          some_step self mid same v c.args.spots.now c.spots.spot-index _ c.spots-test.true self.cache mid.cache new.cache self.loads mid.loads new.loads (c.spots.invariant.touched v told was) (c.load_ahead.ensures.touches.touched v (only.leaves.now_stays ∙ told) held);
+          some_step self mid same v c.args.spots.now c.spots.spot-index _ c.spots-test.true self.cache mid.cache new.cache self.loads mid.loads new.loads (c.spots.invariant.touched v told was)
+          (subst (λ (s : Spot). SomeTouched (ahead_places (base mid) (v mid.log.file) s) mid.cache new.cache mid.loads new.loads) c.settled.ensures (c.load_ahead.ensures.touches.touched v (only.leaves.now_stays ∙ told) held));
       loaded = λ sound all.
           let still = only_sound self mid c.args.host.now c.spots.host only sound in
           let sound-now : IsSound (g.H.Host.now c.spots.host) (g.H.Host.may c.spots.host) mid = (sound.0, still.0, still.1) in
+          let spells = spells_stay (g.H.Host.now c.args.host.now) (g.H.Host.now c.spots.host) self mid _ only.leaves.now_stays only.stays (all c.spots.spot-index _ c.spots-test.true) in
+          let there = subst (λ (s : Spot). SpellsSettled (g.H.Host.now c.spots.host) (base mid) (opened mid) s) (sym c.settled.ensures) spells.there in
           all_step self mid same sound.0 c.args.spots.now c.spots.spot-index _ c.spots-test.true self.cache mid.cache new.cache self.loads mid.loads new.loads (g.H.Host.reads c.args.host.now) (g.H.Host.reads c.spots.host) (g.H.Host.reads c.load_ahead.new.host) (c.spots.invariant.loaded sound all)
-          (c.in-Ok.ensures.touches.loaded sound-now (spells_stay (g.H.Host.now c.args.host.now) (g.H.Host.now c.spots.host) self mid _ only.leaves.now_stays only.stays (all c.spots.spot-index _ c.spots-test.true)));
+          (subst (λ (s : Spot). AllTouched (ahead_places (base mid) (sound.0 mid.log.file) s) mid.cache mid.loads (g.H.Host.reads c.spots.host) new.cache new.loads (g.H.Host.reads c.load_ahead.new.host)) c.settled.ensures (c.in-Ok.ensures.touches.loaded sound-now there));
     }
 
 pub returns-in-Err-clause-only : goal.returns-in-Err-clause-only
@@ -57,12 +60,15 @@ returns-in-Err-clause-touches g c =
     record {
       touched = λ v told was.
           let held = subst (λ (b : Base). IsCached (view_of b) (v b.file) mid.cache) (sym same) (only.cached v told was) in
-          some_stop self mid same v c.args.spots.now c.spots.spot-index _ c.spots-test.true self.cache mid.cache new.cache self.loads mid.loads new.loads (c.spots.invariant.touched v told was) (c.load_ahead.ensures.touches.touched v (only.leaves.now_stays ∙ told) held);
+          some_stop self mid same v c.args.spots.now c.spots.spot-index _ c.spots-test.true self.cache mid.cache new.cache self.loads mid.loads new.loads (c.spots.invariant.touched v told was)
+          (subst (λ (s : Spot). SomeTouched (ahead_places (base mid) (v mid.log.file) s) mid.cache new.cache mid.loads new.loads) c.settled.ensures (c.load_ahead.ensures.touches.touched v (only.leaves.now_stays ∙ told) held));
       loaded = λ sound all. search rules;
       never_damaged = λ sound all p e.
           let still = only_sound self mid c.args.host.now c.spots.host only sound in
           let sound-now : IsSound (g.H.Host.now c.spots.host) (g.H.Host.may c.spots.host) mid = (sound.0, still.0, still.1) in
-          c.in-Err.ensures.touches.never_damaged sound-now (spells_stay (g.H.Host.now c.args.host.now) (g.H.Host.now c.spots.host) self mid _ only.leaves.now_stays only.stays (all c.spots.spot-index _ c.spots-test.true)) p (search rules);
+          let spells = spells_stay (g.H.Host.now c.args.host.now) (g.H.Host.now c.spots.host) self mid _ only.leaves.now_stays only.stays (all c.spots.spot-index _ c.spots-test.true) in
+          let there = subst (λ (s : Spot). SpellsSettled (g.H.Host.now c.spots.host) (base mid) (opened mid) s) (sym c.settled.ensures) spells.there in
+          c.in-Err.ensures.touches.never_damaged sound-now there p (search rules);
     }
 
 pub returns-clause-touches : goal.returns-clause-touches

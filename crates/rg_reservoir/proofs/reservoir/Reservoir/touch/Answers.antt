@@ -1,13 +1,10 @@
 use Rattle.rg_reservoir.specs.declared.fault.ReservoirFault.TheVariants.{Damaged}
-use Rattle.std.specs.Prelude.{List}
-use Rattle.std.proofs.Common.{subst, rules}
-use Rattle.rg_event.specs.declared.schema.Field.{Field}
-use Rattle.rg_reservoir.specs.Chain.{IsIllegal}
+use Rattle.std.proofs.Common.{rules}
 use Rattle.rg_reservoir.specs.Kept.{base, view_of}
-use Rattle.rg_reservoir.proofs.Viewing.{plain_fields}
+use Rattle.rg_reservoir.specs.Views.{shape_at}
 use Rattle.rg_reservoir.proofs.Peeking.{err_moves}
 use Rattle.rg_reservoir.proofs.Seeking.{kept_others, cached_moved, absent_none}
-use Rattle.rg_reservoir.proofs.Fetching.{fetch_none, plain_legal, closed_legal}
+use Rattle.rg_reservoir.proofs.Fetching.{fetch_none, chunk_legal, closed_legal}
 use Rattle.rg_reservoir.proofs.reservoir.Reservoir.touch.Goals as goal
 
 pub returns-clause-only : goal.returns-clause-only
@@ -42,7 +39,7 @@ returns-in-Ok-None-clause-touched g c = record {
       absent_none (view_of (base c.args.self.now)) c.args.place c.args.self.now.log.end (v c.args.self.now.log.file) (fetch_none (view_of (base c.args.self.now)) c.args.place (v c.args.self.now.log.file) (h v told));
   legal = λ v told was.
       let h = rw c.in-Ok-None.field-0-is at c.in-Ok-None.ensures.fetched.none in
-      closed_legal c.args.self.now.schema.fields c.args.place (v c.args.self.now.log.file) (h v told);
+      closed_legal (shape_at (view_of (base c.args.self.now)) c.args.place).fields c.args.place (v c.args.self.now.log.file) (h v told);
   places_are = search rules;
   left = search rules;
   refused = search rules;
@@ -84,7 +81,7 @@ returns-clause-touched g c = record {
   absent = search rules;
   legal = λ v told was.
       let h = rw c.in-Ok-Some.field-0-is at c.in-Ok-Some.ensures.fetched.some in
-      plain_legal (base c.args.self.now) c.args.place c.in-Ok-Some.kept.next c.in-Ok-Some.kept.chunk (v c.args.self.now.log.file) c.args.self.now.plain (h v told);
+      chunk_legal (view_of (base c.args.self.now)) c.args.place c.in-Ok-Some.kept.next c.in-Ok-Some.kept.chunk (v c.args.self.now.log.file) (h v told);
   places_are = search rules;
   left = search rules;
   refused = search rules;
@@ -101,7 +98,7 @@ returns-then-kept-end-clause-touched g c = record {
   absent = search rules;
   legal = λ v told was.
       let h = rw c.in-Ok-Some.field-0-is at c.in-Ok-Some.ensures.fetched.some in
-      plain_legal (base c.args.self.now) c.args.place c.in-Ok-Some.kept.next c.in-Ok-Some.kept.chunk (v c.args.self.now.log.file) c.args.self.now.plain (h v told);
+      chunk_legal (view_of (base c.args.self.now)) c.args.place c.in-Ok-Some.kept.next c.in-Ok-Some.kept.chunk (v c.args.self.now.log.file) (h v told);
   places_are = search rules;
   left = search rules;
   refused = search rules;
@@ -124,8 +121,7 @@ returns-in-Ok-None-clause-only g c = record {
 
 pub returns-in-Err-clause-stops : goal.returns-in-Err-clause-stops
 returns-in-Err-clause-stops g c = record {
-  damaged = λ p e v told.
-      subst (λ (fields : List Field). IsIllegal fields p (v c.args.self.now.log.file)) (plain_fields (base c.args.self.now) p c.args.self.now.plain) (c.in-Err.ensures.stops.damaged p (err_moves c.in-Err.fault (Damaged p) e) v told);
+  damaged = λ p e v told. c.in-Err.ensures.stops.damaged p (err_moves c.in-Err.fault (Damaged p) e) v told;
   disk = search rules;
   faults = search rules;
 }

@@ -14,3 +14,6 @@ pub mod Within
 pub mod Unfit
 pub mod Froms
 pub mod Moved
+pub mod GrownTexts
+pub mod GrownRows
+pub mod GrownTruth

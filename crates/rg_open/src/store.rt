@@ -2,6 +2,8 @@ ghost use Rattle.std.specs.Prelude.{◌≡◌, ◌≢◌, ◌⊎◌, ◌≤◌, 
 ghost use Rattle.rg_host.specs.Image.{Image, Becomes, InFile, NothingPending};
 ghost use Rattle.rg_event.specs.Shapes.{Shape, IsSchema};
 ghost use Rattle.rg_event.specs.declared.event.Event.{Event};
+ghost use Rattle.rg_growth.specs.Payloads.{IsGrowth};
+ghost use Rattle.rg_growth.specs.declared.growth.Growth.{Growth};
 ghost use Rattle.rg_frame.specs.Frames.{HasPayloads};
 ghost use Rattle.rg_frame.specs.Steps.{Leaves, From, Grows};
 ghost use Rattle.rg_log.specs.Log.{schema_payload, IsChunkOf, HasEvents, IsInForce};
@@ -29,13 +31,16 @@ ghost use Rattle.rg_open.specs.Opened.{IsOpenedFor, IsToSave, IsToExtend};
 use rg_host::Host;
 
 /// The image without a byte is truthful, and a truthful image stays truthful: within a commit and after it,
-/// with the schema's frame behind a log without one, with a slot that is as it was, is lost or has a
-/// checkpoint that is true of the log, and with a slot that is as it was or is lost.
+/// with the schema's frame behind a log without one, with a growth of the schema behind the log, with a slot
+/// that is as it was, is lost or has a checkpoint that is true of the log, and with a slot that is as it was
+/// or is lost.
 pub fn law_truthful()
     ensures empty { IsTruthfulImage (λ file. []) }
     ensures commits { (shape : Shape) (payload : List ℕ) (chunk : List Event) (old new : Image) → IsSchema shape → MayGrow shape chunk (old 2) → IsChunkOf shape payload chunk →
         Grows payload (old 2) (new 2) → ((file : ℕ) → file ≢ 2 → new file ≡ old file) → IsTruthfulImage old → IsTruthfulImage new }
     ensures begins { (shape : Shape) (old new : Image) → IsSchema shape → HasPayloads [] (old 2) → Grows (schema_payload shape) (old 2) (new 2) →
+        ((file : ℕ) → file ≢ 2 → new file ≡ old file) → IsTruthfulImage old → IsTruthfulImage new }
+    ensures grows { (shape : Shape) (growth : Growth) (payload : List ℕ) (old new : Image) → IsInForce shape (old 2) → IsGrowth shape payload growth → Grows payload (old 2) (new 2) →
         ((file : ℕ) → file ≢ 2 → new file ≡ old file) → IsTruthfulImage old → IsTruthfulImage new }
     ensures writes { (slot : ℕ) (old new : Image) (checkpoint : Checkpoint) → slot < 2 → ((file : ℕ) → file ≢ slot → new file ≡ old file) →
         (new slot ≡ old slot) ⊎ (HasNoSlot (new slot) ⊎ HasSlot (new slot) checkpoint) → IsTrueOf (old 2) checkpoint → IsTruthfulImage old → IsTruthfulImage new }

@@ -30,7 +30,7 @@ use Rattle.rg_report.specs.declared.status.Status.TheVariants.{Ok, Usage, Plan a
 use Rattle.rg_call.specs.Plan.{IsPlan}
 use Rattle.rg_call.specs.Call.{IsRun, IsReplay, IsVerify, ReadsPlan, ShowsStore, IsRefusedPlan, damage_line, schema_line, Fails}
 use Rattle.rg_call.specs.TurnedAway.{EndsFailed}
-use Rattle.rg_call.specs.Verifies.{terms_for, IsReadyVerify, ToldVerify, EndsVerify, IsWhole, IsVerifyLine, IsVerifyLast, RefusesVerify, IsRefusedStore, IsVerifyStatus, IsVerifyEnd, Verified, IsSilent, PutsLine}
+use Rattle.rg_call.specs.Verifies.{terms_for, IsReadyVerify, ToldVerify, EndsVerify, IsWhole, IsOfOther, IsVerifyLine, IsVerifyLast, RefusesVerify, IsRefusedStore, IsVerifyStatus, IsVerifyEnd, Verified, IsSilent, PutsLine}
 use Rattle.rg_call.specs.declared.command.Command.{Command}
 use Rattle.rg_call.specs.declared.command.Command.TheVariants.{Run, Replay, Verify, Check, Dump, Info, Trial}
 use Rattle.rg_call.proofs.Plans.{one_plan}
@@ -139,7 +139,7 @@ verifiable_as plan now is serves ready = subst (λ t. IsVerifiable t ready.image
 -- The causes of a fault.
 module _ {H : Type 0} (now : H → Option Image) (disk_faults out_faults : H → ℕ) (plan : Planned) (cause : VerifyFault) (status : Status) (last : List ℕ) (old new : H) (ends : EndsVerify cause status last)
     (outside : IsReadyVerify plan (now old) → IsFromOutside cause)
-    (differs : cause ≡ verify.SchemaDiffers → ForSome (now old) (HasOtherSchema plan))
+    (differs : cause ≡ verify.SchemaDiffers → ForSome (now old) (IsOfOther plan))
     (damaged : (p : ℕ) → cause ≡ verify.Damaged p → ForSome (now old) (λ v. damage_of (v 2) ≡ Some p))
     (disk : cause ≡ verify.Disk → Rose (disk_faults old) (disk_faults new)) (write : cause ≡ verify.Write → Rose (out_faults old) (out_faults new)) where
   line_of : IsRefusal cause last → IsVerifyLine plan (now old) last

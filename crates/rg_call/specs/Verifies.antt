@@ -1,5 +1,5 @@
 -- What a verify puts, and why it ends.
-use Rattle.std.specs.Prelude.{◌≡◌, ◌⊎◌, ℕ, Bool, true, false, List, [], Option, Some, IfSome}
+use Rattle.std.specs.Prelude.{◌≡◌, ◌⊎◌, ℕ, Bool, true, false, List, [], Option, Some, None, IfSome}
 use Rattle.std.specs.Option.{ForSome}
 use Rattle.rg_bytes.specs.Counts.{Rose}
 use Rattle.rg_event.specs.declared.event.Event.{Event}
@@ -53,10 +53,14 @@ EndsVerify verify.Write status last = Fails Write status last
 abbrev pub IsWhole : Status → Type 0
 IsWhole status = (status ≡ Ok) ⊎ (status ≡ Differs)
 
--- The line that refuses a store says why: another schema, or the first place where its log is damaged.
+-- no frame of the image's log is damaged, and another schema than the plan's is in force at its end
+abbrev pub IsOfOther : Planned → Image → Type 0
+IsOfOther plan v = HasOtherSchema plan v × (damage_of (v 2) ≡ None)
+
+-- The line that refuses a store says why: another schema at the end of a log without damage, or the first place where its log is damaged.
 abbrev pub IsVerifyLine : Planned → Option Image → List ℕ → Type 0
 IsVerifyLine plan now last =
-    ((last ≡ schema_line) × ForSome now (HasOtherSchema plan))
+    ((last ≡ schema_line) × ForSome now (IsOfOther plan))
     ⊎ ((place : ℕ) × (last ≡ damage_line (Some place)) × ForSome now (λ v. damage_of (v 2) ≡ Some place))
 
 -- A refusal of the store comes only where it isn't ready, with such a line.

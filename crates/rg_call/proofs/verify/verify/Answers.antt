@@ -28,7 +28,7 @@ returns-in-Err-clause-cause g c =
     let plan = c.args.plan.now in
     caused g.H.Host.now g.H.Host.disk_faults g.H.Host.out_faults (planned plan) c.in-Err.fault (ending_status c.ending_of.result) (ending_line c.ending_of.result) c.args.host.now c.verify.new.host c.ending_of.ensures
     (λ ready. c.in-Err.ensures.outside ready.image ready.events ready.told (verifiable_as plan (g.H.Host.now c.args.host.now) c.requires.is_read (serves plan.schema (planned plan).queries c.requires.is_read.legal) ready))
-    (λ e. c.in-Err.ensures.differs (ap (λ (f : VerifyFault). Err f) e)) (λ p e. c.in-Err.ensures.damaged p (ap (λ (f : VerifyFault). Err f) e))
+    (λ e v told. (c.in-Err.ensures.differs (ap (λ (f : VerifyFault). Err f) e) v told, c.in-Err.ensures.whole (ap (λ (f : VerifyFault). Err f) e) v told)) (λ p e. c.in-Err.ensures.damaged p (ap (λ (f : VerifyFault). Err f) e))
     (λ e. c.in-Err.ensures.disk (ap (λ (f : VerifyFault). Err f) e)) (λ e. c.in-Err.ensures.write (ap (λ (f : VerifyFault). Err f) e))
 
 -- a checkpoint isn't what the events give

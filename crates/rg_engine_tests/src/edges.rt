@@ -1,12 +1,14 @@
-ghost use Rattle.std.specs.Prelude.{◌≡◌, ℕ, ◌<◌, length, IfOk};
-ghost use Rattle.rg_window.specs.Placed.{AreWithin};
+ghost use Rattle.std.specs.Prelude.{◌<◌};
 
-use crate::common::bare;
+use crate::check::{append_checked, are_within};
+use crate::common::{assert_none, bare};
 use rg_bytes::Memory;
 use rg_event::Event;
-use rg_past::{Past, PastFault, Spot, VecPast};
+use rg_past::{Past, Spot, VecPast};
 use rg_window::{Edges, MoveFault, Visit};
 use std::alloc::Global;
+use std::process::Abort;
+use std::test::Fail;
 
 /// Why the recorder stopped.
 #[derive(Clone, Copy, Debug, PartialEq, Eq)]
@@ -23,10 +25,10 @@ struct Recorder {
 }
 
 impl Recorder {
-    fn new(alloc: Global, refused: Option<u64>) -> Recorder {
+    fn new(alloc: Global) -> Recorder {
         Recorder {
             visits: Vec::new(alloc),
-            refused,
+            refused: None,
         }
     }
 }
@@ -50,15 +52,10 @@ impl Visit for Recorder {
 }
 
 /// Two edges at the start.
-fn two_edges(alloc: Global, low: u64, high: u64, start: Spot) -> Result<Edges, PastFault>
-    requires rising { low < high }
-    requires start { start.number ≡ 0 }
-    ensures within { IfOk result (λ edges. (count : ℕ) → AreWithin edges.spots count) }
+fn two_edges(alloc: Global, low: u64, high: u64, start: Spot) -> Result<Edges, Memory>
+    requires { low < high }
 {
-    match Edges::new(alloc, &[low, high], &[start, start]) {
-        Ok(edges) => Ok(edges),
-        Err(Memory) => Err(PastFault::Memory),
-    }
+    Edges::new(alloc, &[low, high], &[start, start])
 }
 
 /// The numbers of two edges.
@@ -69,120 +66,207 @@ fn numbers(edges: &Edges) -> Option<(u64, u64)> {
     }
 }
 
-/// Whether the edges move to this time, and these are all visits then.
-fn moves<P: Past>(
+/// What is done to two edges over a past, or what they and the recorder say.
+#[derive(Clone, Copy)]
+enum Step {
+    /// The past has one event more, of this offset and time.
+    Event(u64, u64),
+    /// The visit of the event of this offset is refused from now on, or none.
+    Refuse(Option<u64>),
+    /// The edges move to this time, and so many events were visited then.
+    Move(u64, usize),
+    /// The same, but a visit is refused.
+    Halt(u64, usize),
+    /// Of this number, counted from 0, is the visit of this edge and the event of this offset.
+    Visited(usize, u32, u64),
+    /// The numbers of the edges.
+    At(u64, u64),
+    /// The offsets of the edges.
+    Offsets(u64, u64),
+}
+
+/// Whether the edges move to this time, or halt, and so many events were visited then.
+fn moves(
+    past: &mut VecPast,
     edges: &mut Edges,
-    past: &mut P,
-    t: u64,
     seen: &mut Recorder,
-    visits: &[(u32, u64)],
-) -> bool
-    requires { AreWithin edges.old.spots (length (P.events past.old)) }
-    ensures { AreWithin edges.new.spots (length (P.events past.new)) }
-{
+    t: u64,
+    count: usize,
+    want: Result<(), MoveFault<Stop>>,
+) -> bool {
+    if !are_within(edges.spots(), past.events().len()) {
+        return false;
+    }
     let moved = edges.move_to(past, t, seen);
-    moved == Ok(()) && seen.visits.as_slice() == visits
+    moved == want && seen.visits.len() == count
 }
 
-/// Three events, at times 0, 5 and 15.
-fn three_events(alloc: Global) -> Result<VecPast, PastFault> {
+fn has_visited(seen: &Recorder, number: usize, edge: u32, offset: u64) -> bool {
+    match seen.visits.get(number) {
+        Some((one, other)) => *one == edge && *other == offset,
+        None => false,
+    }
+}
+
+/// Whether edges or the recorder say so.
+fn says(edges: &Edges, seen: &Recorder, step: &Step) -> bool {
+    match step {
+        Step::Visited(number, edge, offset) => has_visited(seen, *number, *edge, *offset),
+        Step::At(first, second) => numbers(edges) == Some((*first, *second)),
+        Step::Offsets(low, high) => edges.offsets() == [*low, *high].as_slice(),
+        _ => false,
+    }
+}
+
+/// Whether edges take the step, and do or say so.
+fn goes(
+    alloc: Global,
+    past: &mut VecPast,
+    edges: &mut Edges,
+    seen: &mut Recorder,
+    step: &Step,
+) -> bool {
+    match step {
+        Step::Event(offset, time) => {
+            append_checked(past, bare(alloc, *offset, *time)) == Some(Ok(()))
+        }
+        Step::Refuse(offset) => {
+            seen.refused = *offset;
+            true
+        }
+        Step::Move(t, count) => moves(past, edges, seen, *t, *count, Ok(())),
+        Step::Halt(t, count) => {
+            let refused = Err(MoveFault::Visit(Stop::Refused));
+            moves(past, edges, seen, *t, *count, refused)
+        }
+        _ => says(edges, seen, step),
+    }
+}
+
+/// The number of the first of these steps that goes otherwise, if one does.
+fn first_of(
+    alloc: Global,
+    past: &mut VecPast,
+    edges: &mut Edges,
+    seen: &mut Recorder,
+    steps: &[Step],
+) -> Option<usize> {
+    let mut number = 0usize;
+    for step in steps {
+        if !goes(alloc, past, edges, seen, step) {
+            return Some(number);
+        }
+        number = number.saturating_add(1);
+    }
+    None
+}
+
+/// The same of edges of these offsets at the start of a past.
+fn first_of_two(
+    alloc: Global,
+    past: &mut VecPast,
+    low: u64,
+    high: u64,
+    steps: &[Step],
+) -> Result<Option<usize>, Memory> {
+    if low >= high {
+        return Err(Memory);
+    }
+    let mut edges = two_edges(alloc, low, high, past.start())?;
+    let mut seen = Recorder::new(alloc);
+    let wrong = first_of(alloc, past, &mut edges, &mut seen, steps);
+    drop(seen);
+    drop(edges);
+    Ok(wrong)
+}
+
+/// The same of a past for three events.
+fn first_wrong(
+    alloc: Global,
+    low: u64,
+    high: u64,
+    steps: &[Step],
+) -> Result<Option<usize>, Memory> {
     let mut past = VecPast::new(alloc, 3);
-    past.append(bare(alloc, 0, 0))?;
-    past.append(bare(alloc, 12, 5))?;
-    past.append(bare(alloc, 25, 15))?;
-    Ok(past)
+    let wrong = first_of_two(alloc, &mut past, low, high, steps);
+    drop(past);
+    wrong
 }
 
-/// Whether two edges pass those three events, each at its time and offset.
-fn pass_three<P: Past>(edges: &mut Edges, past: &mut P, seen: &mut Recorder) -> bool
-    requires { AreWithin edges.old.spots (length (P.events past.old)) }
-{
-    let visits = [(0, 0), (0, 12), (0, 25), (1, 0), (1, 12)];
-    let at_0 = moves(edges, past, 0, seen, &visits[..1]);
-    let at_5 = moves(edges, past, 5, seen, &visits[..2]);
-    let at_15 = moves(edges, past, 15, seen, &visits);
-    let is_placed = numbers(edges) == Some((3, 2)) && edges.offsets() == [0, 10].as_slice();
-    at_0 && at_5 && at_15 && is_placed
+/// Two edges of these offsets, at the start of a past without events, take each of these steps so.
+fn assert_goes(
+    rt: &(impl Abort + AllocGlobal),
+    low: u64,
+    high: u64,
+    steps: &[Step],
+) -> Result<(), Fail> {
+    assert_none(rt, first_wrong(rt.alloc(), low, high, steps))
 }
 
 #[test]
-fn each_edge_passes_an_event_at_its_time_and_offset(rt: HostRuntime) -> Result<(), PastFault> {
-    let mut past = three_events(rt.alloc())?;
-    let mut edges = two_edges(rt.alloc(), 0, 10, past.start())?;
-    let mut seen = Recorder::new(rt.alloc(), None);
-    let do_pass = pass_three(&mut edges, &mut past, &mut seen);
-    drop(seen);
-    drop(edges);
-    drop(past);
-    assert!(rt; do_pass);
-    Ok(())
-}
-
-/// One event at time 5.
-fn one_event(alloc: Global) -> Result<VecPast, PastFault> {
-    let mut past = VecPast::new(alloc, 1);
-    past.append(bare(alloc, 0, 5))?;
-    Ok(past)
-}
-
-#[test]
-fn a_move_to_before_the_first_event_visits_nothing(rt: HostRuntime) -> Result<(), PastFault> {
-    let mut past = one_event(rt.alloc())?;
-    let mut edges = two_edges(rt.alloc(), 0, 10, past.start())?;
-    let mut seen = Recorder::new(rt.alloc(), None);
-    let is_moved = moves(&mut edges, &mut past, 4, &mut seen, &[]);
-    drop(seen);
-    drop(past);
-    let stays = numbers(&edges) == Some((0, 0));
-    drop(edges);
-    assert!(rt; is_moved && stays);
-    Ok(())
-}
-
-#[test]
-fn an_offset_near_the_greatest_number_does_not_wrap(rt: HostRuntime) -> Result<(), PastFault> {
-    let mut past = one_event(rt.alloc())?;
-    let mut edges = two_edges(rt.alloc(), u64::MAX - 5, u64::MAX, past.start())?;
-    let mut seen = Recorder::new(rt.alloc(), None);
-    let is_moved = moves(&mut edges, &mut past, u64::MAX, &mut seen, &[(0, 0)]);
-    drop(seen);
-    drop(past);
-    let has_one_passed = numbers(&edges) == Some((1, 0));
-    drop(edges);
-    assert!(rt; is_moved && has_one_passed);
-    Ok(())
-}
-
-/// Two events, at times 0 and 5.
-fn two_events(alloc: Global) -> Result<VecPast, PastFault> {
-    let mut past = VecPast::new(alloc, 2);
-    past.append(bare(alloc, 0, 0))?;
-    past.append(bare(alloc, 12, 5))?;
-    Ok(past)
-}
-
-/// Whether an edge stays at the event whose visit is refused, and goes on from there once it isn't.
-fn stay_and_go_on<P: Past>(edges: &mut Edges, past: &mut P, seen: &mut Recorder) -> bool
-    requires { AreWithin edges.old.spots (length (P.events past.old)) }
-{
-    let moved = edges.move_to(past, 20, seen);
-    let is_refused = moved == Err(MoveFault::Visit(Stop::Refused));
-    let is_one = seen.visits.as_slice() == [(0, 0)].as_slice() && numbers(edges) == Some((1, 0));
-    seen.refused = None;
-    let visits = [(0, 0), (0, 12), (1, 0), (1, 12)];
-    let is_moved = moves(edges, past, 20, seen, &visits);
-    is_refused && is_one && is_moved && numbers(edges) == Some((2, 2))
+fn each_edge_passes_an_event_at_its_time_and_offset(rt: HostRuntime) -> Result<(), Fail> {
+    assert_goes(
+        &rt,
+        0,
+        10,
+        &[
+            Step::Event(0, 0),
+            Step::Event(12, 5),
+            Step::Event(25, 15),
+            Step::Move(0, 1),
+            Step::Move(5, 2),
+            Step::Move(15, 5),
+            Step::Visited(0, 0, 0),
+            Step::Visited(1, 0, 12),
+            Step::Visited(2, 0, 25),
+            Step::Visited(3, 1, 0),
+            Step::Visited(4, 1, 12),
+            Step::At(3, 2),
+            Step::Offsets(0, 10),
+        ],
+    )?;
+    // A move to before the first event visits nothing.
+    assert_goes(
+        &rt,
+        0,
+        10,
+        &[Step::Event(0, 5), Step::Move(4, 0), Step::At(0, 0)],
+    )?;
+    // An offset near the greatest number doesn't wrap.
+    assert_goes(
+        &rt,
+        u64::MAX - 5,
+        u64::MAX,
+        &[
+            Step::Event(0, 5),
+            Step::Move(u64::MAX, 1),
+            Step::Visited(0, 0, 0),
+            Step::At(1, 0),
+        ],
+    )
 }
 
 #[test]
-fn a_refused_visit_leaves_the_edge_at_its_event(rt: HostRuntime) -> Result<(), PastFault> {
-    let mut past = two_events(rt.alloc())?;
-    let mut edges = two_edges(rt.alloc(), 0, 10, past.start())?;
-    let mut seen = Recorder::new(rt.alloc(), Some(12));
-    let is_so = stay_and_go_on(&mut edges, &mut past, &mut seen);
-    drop(seen);
-    drop(edges);
-    drop(past);
-    assert!(rt; is_so);
-    Ok(())
+fn a_refused_visit_leaves_the_edge_at_its_event(rt: HostRuntime) -> Result<(), Fail> {
+    assert_goes(
+        &rt,
+        0,
+        10,
+        &[
+            Step::Event(0, 0),
+            Step::Event(12, 5),
+            Step::Refuse(Some(12)),
+            Step::Halt(20, 1),
+            Step::Visited(0, 0, 0),
+            Step::At(1, 0),
+            // It goes on from there once that isn't refused.
+            Step::Refuse(None),
+            Step::Move(20, 4),
+            Step::Visited(0, 0, 0),
+            Step::Visited(1, 0, 12),
+            Step::Visited(2, 1, 0),
+            Step::Visited(3, 1, 12),
+            Step::At(2, 2),
+        ],
+    )
 }

@@ -1,10 +1,13 @@
 ghost use Rattle.std.specs.Prelude.{◌≡◌, ◌<◌};
 
-use rg_event::{Event, Steps, Value, Values, Word};
+use crate::common::{Item, assert_none, event_of, value_of};
+use rg_bytes::Memory;
+use rg_event::{Event, Steps};
 use rg_filter::Filter;
 use rg_metric::{Condition, Op};
 use std::alloc::Global;
 use std::marker::Brand;
+use std::process::Abort;
 use std::sync::ledger::{Blank, Ledger};
 use std::test::Fail;
 
@@ -22,94 +25,133 @@ fn passes(condition: Option<Condition>, event: &Event) -> bool {
     is_held::<Brand>(Blank::new(1), &Filter::new(condition), event)
 }
 
-/// An event with this value alone.
-fn event_of(alloc: Global, value: Value) -> Result<Event, Fail> {
-    let mut values = Values::new(alloc);
-    values.push(value)?;
-    Ok(Event {
-        offset: 0,
-        time: 0,
-        values,
-    })
+/// What a filter asks.
+#[derive(Clone, Copy)]
+enum Test {
+    Nothing,
+    /// That a column's value stands to a literal as the sign asks.
+    Compare(u32, Op, Item),
+    /// That it doesn't.
+    Not(u32, Op, Item),
 }
 
-/// Whether a value stands to a literal as the sign asks.
-fn compares(alloc: Global, value: Value, op: Op, literal: Value) -> Result<bool, Fail> {
-    let event = event_of(alloc, value)?;
-    Ok(passes(Some(Condition::Compare(1, op, literal)), &event))
+fn compare(alloc: Global, column: u32, op: Op, literal: Item) -> Result<Condition, Memory> {
+    let literal = value_of(alloc, literal)?;
+    Ok(Condition::Compare(column, op, literal))
 }
 
-/// Whether these texts stand to each other as the sign asks.
-fn compares_texts(alloc: Global, text: &[u8], op: Op, literal: &[u8]) -> Result<bool, Fail> {
-    match (Word::new(alloc, text)?, Word::new(alloc, literal)?) {
-        (Some(text), Some(literal)) => {
-            compares(alloc, Value::Text(text), op, Value::Text(literal))
-        }
-        _ => Ok(false),
-    }
+fn negate(alloc: Global, condition: Condition) -> Result<Condition, Memory> {
+    Ok(Condition::Not(Box::new(alloc, condition)?))
 }
 
-#[test]
-fn each_sign_is_tried_around_equality(rt: HostRuntime) -> Result<(), Fail> {
-    let expected = [
-        (Op::Eq, [false, true, false]),
-        (Op::Ne, [true, false, true]),
-        (Op::Lt, [true, false, false]),
-        (Op::Le, [true, true, false]),
-        (Op::Gt, [false, false, true]),
-        (Op::Ge, [false, true, true]),
-    ];
-    for (op, around) in expected {
-        for (number, want) in [(-6, around[0]), (-5, around[1]), (-4, around[2])] {
-            let is = compares(rt.alloc(), Value::Int(number), op, Value::Int(-5))?;
-            assert_eq!(rt; is, want, "{op:?} {number}");
+fn condition_of(alloc: Global, test: Test) -> Result<Option<Condition>, Memory> {
+    match test {
+        Test::Nothing => Ok(None),
+        Test::Compare(column, op, literal) => Ok(Some(compare(alloc, column, op, literal)?)),
+        Test::Not(column, op, literal) => {
+            let inner = compare(alloc, column, op, literal)?;
+            Ok(Some(negate(alloc, inner)?))
         }
     }
-    Ok(())
 }
 
-#[test]
-fn ids_past_the_half_keep_their_order(rt: HostRuntime) -> Result<(), Fail> {
-    let half = 9_223_372_036_854_775_808;
-    for (less, more) in [(half + 1, half + 2), (1, half)] {
-        assert!(rt; compares(rt.alloc(), Value::Id(less), Op::Lt, Value::Id(more))?);
+/// Whether an event passes.
+fn meets(alloc: Global, event: &Event, test: Test) -> Result<bool, Memory> {
+    let condition = condition_of(alloc, test)?;
+    Ok(passes(condition, event))
+}
+
+/// Whether an event of this value alone does.
+fn lets(alloc: Global, item: Item, test: Test) -> Result<bool, Memory> {
+    let event = event_of(alloc, 0, 0, &[item])?;
+    let is_met = meets(alloc, &event, test);
+    drop(event);
+    is_met
+}
+
+/// What a filter does with an event of one value.
+#[derive(Clone, Copy)]
+enum Row {
+    Passes(Item, Test),
+    Stops(Item, Test),
+    /// Whether it passes -6, -5 and -4, which stand so to -5.
+    Around(Op, bool, bool, bool),
+}
+
+/// Whether the ints -6, -5 and -4 pass where they stand to -5 as the sign asks.
+fn around(alloc: Global, op: Op) -> Result<(bool, bool, bool), Memory> {
+    let test = Test::Compare(1, op, Item::Int(-5));
+    let below = lets(alloc, Item::Int(-6), test)?;
+    let same = lets(alloc, Item::Int(-5), test)?;
+    let above = lets(alloc, Item::Int(-4), test)?;
+    Ok((below, same, above))
+}
+
+fn is_so(alloc: Global, row: &Row) -> Result<bool, Memory> {
+    match row {
+        Row::Passes(item, test) => lets(alloc, *item, *test),
+        Row::Stops(item, test) => Ok(!lets(alloc, *item, *test)?),
+        Row::Around(op, below, same, above) => {
+            Ok(around(alloc, *op)? == (*below, *same, *above))
+        }
     }
-    Ok(())
 }
 
-#[test]
-fn texts_compare_by_their_bytes(rt: HostRuntime) -> Result<(), Fail> {
-    let rows: [(&[u8], &[u8]); 3] = [(b"Z", b"a"), (b"aa", b"b"), (b"a", b"aa")];
-    for (less, more) in rows {
-        assert!(rt; compares_texts(rt.alloc(), less, Op::Lt, more)?);
+/// The number of the first row that is otherwise, if one is.
+fn first_other(alloc: Global, rows: &[Row]) -> Result<Option<usize>, Memory> {
+    let mut number = 0usize;
+    for row in rows {
+        if !is_so(alloc, row)? {
+            return Ok(Some(number));
+        }
+        number = number.saturating_add(1);
     }
-    Ok(())
+    Ok(None)
+}
+
+fn assert_rows(rt: &(impl Abort + AllocGlobal), rows: &[Row]) -> Result<(), Fail> {
+    assert_none(rt, first_other(rt.alloc(), rows))
 }
 
 #[test]
-fn a_missing_column_and_another_kind_do_not_hold(rt: HostRuntime) -> Result<(), Fail> {
-    let alloc = rt.alloc();
-    let event = event_of(alloc, Value::Id(1))?;
-    let missing = Condition::Compare(2, Op::Ne, Value::Id(7));
-    assert!(rt; !passes(Some(missing), &event));
-    let other_kind = Condition::Compare(1, Op::Eq, Value::Int(1));
-    let not = Condition::Not(Box::new(alloc, other_kind)?);
-    assert!(rt; passes(Some(not), &event));
-    Ok(())
-}
-
-#[test]
-fn flags_are_equal_and_have_no_order(rt: HostRuntime) -> Result<(), Fail> {
-    for (op, want) in [(Op::Ge, false), (Op::Eq, true)] {
-        let is = compares(rt.alloc(), Value::Flag(true), op, Value::Flag(true))?;
-        assert_eq!(rt; is, want, "{op:?}");
-    }
-    Ok(())
-}
-
-#[test]
-fn no_condition_passes_every_event(rt: HostRuntime) -> Result<(), Fail> {
-    let event = event_of(rt.alloc(), Value::Flag(false))?;
-    assert!(rt; passes(None, &event));
-    Ok(())
+fn a_filter_passes_what_its_condition_holds_of(rt: HostRuntime) -> Result<(), Fail> {
+    assert_rows(
+        &rt,
+        &[
+            // Each sign is tried around equality.
+            Row::Around(Op::Eq, false, true, false),
+            Row::Around(Op::Ne, true, false, true),
+            Row::Around(Op::Lt, true, false, false),
+            Row::Around(Op::Le, true, true, false),
+            Row::Around(Op::Gt, false, false, true),
+            Row::Around(Op::Ge, false, true, true),
+            // Ids past the half keep their order.
+            Row::Passes(
+                Item::Id(9_223_372_036_854_775_809),
+                Test::Compare(1, Op::Lt, Item::Id(9_223_372_036_854_775_810)),
+            ),
+            Row::Passes(
+                Item::Id(1),
+                Test::Compare(1, Op::Lt, Item::Id(9_223_372_036_854_775_808)),
+            ),
+            // Texts compare by their bytes.
+            Row::Passes(Item::Text(b"Z"), Test::Compare(1, Op::Lt, Item::Text(b"a"))),
+            Row::Passes(
+                Item::Text(b"aa"),
+                Test::Compare(1, Op::Lt, Item::Text(b"b")),
+            ),
+            Row::Passes(
+                Item::Text(b"a"),
+                Test::Compare(1, Op::Lt, Item::Text(b"aa")),
+            ),
+            // A comparison with a missing column or another kind doesn't hold.
+            Row::Stops(Item::Id(1), Test::Compare(2, Op::Ne, Item::Id(7))),
+            Row::Passes(Item::Id(1), Test::Not(1, Op::Eq, Item::Int(1))),
+            // Flags are equal and have no order.
+            Row::Stops(Item::Flag(true), Test::Compare(1, Op::Ge, Item::Flag(true))),
+            Row::Passes(Item::Flag(true), Test::Compare(1, Op::Eq, Item::Flag(true))),
+            // No condition passes every event.
+            Row::Passes(Item::Flag(false), Test::Nothing),
+        ],
+    )
 }

@@ -3,6 +3,8 @@
 #![tactic(auto)]
 
 #[cfg(test)]
+mod check;
+#[cfg(test)]
 mod common;
 #[cfg(test)]
 mod edges;
@@ -22,3 +24,5 @@ mod scratch;
 mod state;
 #[cfg(test)]
 mod takes;
+#[cfg(test)]
+mod tried;

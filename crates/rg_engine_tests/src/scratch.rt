@@ -1,133 +1,229 @@
-use crate::common::{plan_of, query, text};
+use crate::common::{Ask, Item, assert_none, assert_so, event_of, plan_of};
 use rg_bytes::Memory;
-use rg_event::{Event, Value, Values};
-use rg_metric::{Answer, Condition, Func, Op, Query, Window};
+use rg_event::Event;
+use rg_metric::{Agg, Answer, Func, Window};
 use rg_plan::TaskPlan;
 use rg_scratch::{answer_from_scratch, make_line};
 use std::alloc::Global;
+use std::process::Abort;
 use std::test::Fail;
+
+/// Whether the first two lines of the seed 0 are made so, one behind the other.
+fn are_made(alloc: Global) -> Result<bool, Memory> {
+    let mut lines = Vec::new(alloc);
+    make_line(0, 0, &mut lines)?;
+    let is_first = lines.as_slice() == b"693,c4,m90,8095".as_slice();
+    make_line(0, 1, &mut lines)?;
+    Ok(is_first && lines.as_slice() == b"693,c4,m90,80951133,c35,m37,1750".as_slice())
+}
 
 #[test]
 fn two_made_lines(rt: HostRuntime) -> Result<(), Fail> {
-    let alloc = rt.alloc();
-    let mut first = Vec::new(alloc);
-    make_line(0, 0, &mut first)?;
-    assert_eq!(rt; first.as_slice(), b"693,c4,m90,8095".as_slice());
-    make_line(0, 1, &mut first)?;
-    assert_eq!(rt;
-        first.as_slice(),
-        b"693,c4,m90,80951133,c35,m37,1750".as_slice()
-    );
+    assert_so(&rt, are_made(rt.alloc()))
+}
+
+fn push(alloc: Global, events: &mut Vec<Event>, time: u64, items: &[Item]) -> Result<(), Memory> {
+    let event = event_of(alloc, time, time, items)?;
+    events.push(event)?;
     Ok(())
 }
 
-fn payment(
-    alloc: Global,
-    time: u64,
-    card: &[u8],
-    merchant: &[u8],
-    amount: i64,
-) -> Result<Event, Fail> {
-    let mut values = Values::new(alloc);
-    values.push(text(alloc, card)?)?;
-    values.push(text(alloc, merchant)?)?;
-    values.push(Value::Int(amount))?;
-    Ok(Event {
-        offset: time,
-        time,
-        values,
-    })
+/// Three payments of one card, the last one exactly five minutes behind the first.
+fn push_three(alloc: Global, events: &mut Vec<Event>) -> Result<(), Memory> {
+    push(
+        alloc,
+        events,
+        0,
+        &[Item::Text(b"c1"), Item::Text(b"m1"), Item::Int(100)],
+    )?;
+    push(
+        alloc,
+        events,
+        299_999,
+        &[Item::Text(b"c1"), Item::Text(b"m2"), Item::Int(200)],
+    )?;
+    push(
+        alloc,
+        events,
+        300_000,
+        &[Item::Text(b"c1"), Item::Text(b"m1"), Item::Int(50)],
+    )
 }
 
-/// The answers to the event of that number, where there are events of it.
-fn answers(
+/// Whether these are the answers to the event of that number, where there are events of it.
+fn is_answered(
     alloc: Global,
     plan: &TaskPlan,
     events: &[Event],
     k: usize,
-) -> Result<Vec<Answer>, Fail> {
+    want: &[Answer],
+) -> Result<bool, Memory> {
     if k >= events.len() || events.len() > 1000 {
-        return Err(Fail::from(Memory));
+        return Ok(false);
     }
     let answers = answer_from_scratch(alloc, plan, events, k as u64)?;
-    Ok(Vec::from_slice(alloc, answers.as_slice())?)
+    let is_so = answers.as_slice() == want;
+    drop(answers);
+    Ok(is_so)
 }
 
-/// Three payments of one card, the last one exactly five minutes behind the first.
-fn payments(alloc: Global) -> Result<Vec<Event>, Fail> {
-    let mut events = Vec::new(alloc);
-    events.push(payment(alloc, 0, b"c1", b"m1", 100)?)?;
-    events.push(payment(alloc, 299_999, b"c1", b"m2", 200)?)?;
-    events.push(payment(alloc, 300_000, b"c1", b"m1", 50)?)?;
-    Ok(events)
-}
-
-/// The counts and sums of the payments of a card in the last five minutes.
-fn five_minutes(alloc: Global) -> Result<TaskPlan, Fail> {
-    let window = Window {
-        delay: 0,
-        length: Some(300_000),
-    };
-    let asked = [(Func::Count, 0), (Func::Sum, 3)];
-    let mut queries = Vec::new(alloc);
-    queries.push(query(alloc, &asked, None, &[1], window)?)?;
-    plan_of(alloc, &queries)
-}
-
-#[test]
-fn the_payment_that_is_exactly_five_minutes_old_has_left(rt: HostRuntime) -> Result<(), Fail> {
-    let plan = five_minutes(rt.alloc())?;
-    let events = payments(rt.alloc())?;
-    let rows = [(0, 1, 100), (1, 2, 300), (2, 2, 250)];
-    for (k, count, sum) in rows {
-        let answers = answers(rt.alloc(), &plan, &events, k)?;
-        let want = [Answer::Number(count), Answer::Number(sum)];
-        assert_eq!(rt; answers.as_slice(), want.as_slice(), "at {k}");
+/// The number of the first event that is answered otherwise, if one is, where these are the answers to the events from
+/// that number on.
+fn first_of(
+    alloc: Global,
+    plan: &TaskPlan,
+    events: &[Event],
+    from: usize,
+    answers: &[&[Answer]],
+) -> Result<Option<usize>, Memory> {
+    let mut k = from;
+    for want in answers {
+        if !is_answered(alloc, plan, events, k, want)? {
+            return Ok(Some(k));
+        }
+        k = k.saturating_add(1);
     }
-    Ok(())
+    Ok(None)
 }
 
-/// Each function over all payments, and two of them over those above 100 of a merchant.
-fn each_function(alloc: Global) -> Result<Vec<Query>, Fail> {
-    let window = Window {
-        delay: 0,
-        length: None,
+/// The same of the three payments.
+fn first_of_three(
+    alloc: Global,
+    plan: &TaskPlan,
+    from: usize,
+    answers: &[&[Answer]],
+) -> Result<Option<usize>, Memory> {
+    let mut events = Vec::new(alloc);
+    let other = match push_three(alloc, &mut events) {
+        Ok(()) => first_of(alloc, plan, &events, from, answers),
+        Err(memory) => Err(memory),
     };
-    let asked = [
-        (Func::Avg, 3),
-        (Func::SumSq, 3),
-        (Func::Min, 3),
-        (Func::Max, 3),
-        (Func::CountDistinct, 2),
-        (Func::First, 3),
-        (Func::Last, 3),
-    ];
-    let mut queries = Vec::new(alloc);
-    queries.push(query(alloc, &asked, None, &[], window)?)?;
-    let large = Condition::Compare(3, Op::Gt, Value::Int(100));
-    let asked = [(Func::Count, 0), (Func::Min, 3)];
-    queries.push(query(alloc, &asked, Some(large), &[2], window)?)?;
-    Ok(queries)
+    drop(events);
+    other
 }
 
+/// The same by the plan of what is asked.
+fn first_other(
+    alloc: Global,
+    asks: &[Ask<'_>],
+    from: usize,
+    answers: &[&[Answer]],
+) -> Result<Option<usize>, Memory> {
+    let plan = plan_of(alloc, asks)?;
+    let other = first_of_three(alloc, &plan, from, answers);
+    drop(plan);
+    other
+}
+
+/// The three payments are answered so from that number on.
+fn assert_answered(
+    rt: &(impl Abort + AllocGlobal),
+    asks: &[Ask<'_>],
+    from: usize,
+    answers: &[&[Answer]],
+) -> Result<(), Fail> {
+    assert_none(rt, first_other(rt.alloc(), asks, from, answers))
+}
+
+/// The last five minutes.
+const FIVE_MINUTES: Window = Window {
+    delay: 0,
+    length: Some(300_000),
+};
+
+/// All payments.
+const FOREVER: Window = Window {
+    delay: 0,
+    length: None,
+};
+
+/// The number and the sum.
+const TOTALS: &[Agg] = &[
+    Agg {
+        func: Func::Count,
+        field: 0,
+    },
+    Agg {
+        func: Func::Sum,
+        field: 3,
+    },
+];
+
+/// The other functions.
+const OTHERS: &[Agg] = &[
+    Agg {
+        func: Func::Avg,
+        field: 3,
+    },
+    Agg {
+        func: Func::SumSq,
+        field: 3,
+    },
+    Agg {
+        func: Func::Min,
+        field: 3,
+    },
+    Agg {
+        func: Func::Max,
+        field: 3,
+    },
+    Agg {
+        func: Func::CountDistinct,
+        field: 2,
+    },
+    Agg {
+        func: Func::First,
+        field: 3,
+    },
+    Agg {
+        func: Func::Last,
+        field: 3,
+    },
+];
+
+/// The number and the least.
+const LEAST: &[Agg] = &[
+    Agg {
+        func: Func::Count,
+        field: 0,
+    },
+    Agg {
+        func: Func::Min,
+        field: 3,
+    },
+];
+
+/// The payment that is exactly five minutes old has left the window of a card's number and sum.
 #[test]
-fn each_function_answers_by_itself(rt: HostRuntime) -> Result<(), Fail> {
-    let alloc = rt.alloc();
-    let queries = each_function(alloc)?;
-    let plan = plan_of(alloc, &queries)?;
-    let events = payments(alloc)?;
-    let third = answers(alloc, &plan, &events, 2)?;
-    let expected = [
-        Answer::Ratio(350, 3),
-        Answer::Number(52_500),
-        Answer::Number(50),
-        Answer::Number(200),
-        Answer::Number(2),
-        Answer::Number(100),
-        Answer::Number(50),
-        Answer::Number(0),
-        Answer::Dash,
-    ];
-    assert_eq!(rt; third.as_slice(), expected.as_slice());
-    Ok(())
+fn each_function_answers_for_its_window(rt: HostRuntime) -> Result<(), Fail> {
+    assert_answered(
+        &rt,
+        &[Ask::All(TOTALS, &[1], FIVE_MINUTES)],
+        0,
+        &[
+            &[Answer::Number(1), Answer::Number(100)],
+            &[Answer::Number(2), Answer::Number(300)],
+            &[Answer::Number(2), Answer::Number(250)],
+        ],
+    )?;
+    // Two of the functions are over the payments above 100 of a merchant.
+    assert_answered(
+        &rt,
+        &[
+            Ask::All(OTHERS, &[], FOREVER),
+            Ask::Above(100, LEAST, &[2], FOREVER),
+        ],
+        2,
+        &[&[
+            Answer::Ratio(350, 3),
+            Answer::Number(52_500),
+            Answer::Number(50),
+            Answer::Number(200),
+            Answer::Number(2),
+            Answer::Number(100),
+            Answer::Number(50),
+            Answer::Number(0),
+            Answer::Dash,
+        ]],
+    )
 }

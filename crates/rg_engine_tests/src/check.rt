@@ -6,12 +6,12 @@ ghost use Rattle.rg_window.specs.Placed.{AreWithin};
 use rg_engine::{Engine, EngineFault};
 use rg_event::{Event, Steps};
 use rg_metric::Answers;
-use rg_past::{Spot, VecPast};
+use rg_past::{Past, PastFault, Spot, VecPast};
 use rg_state::Table;
 use std::sync::ledger::Ledger;
 
 /// Takes an event that the past allows; the answer to any other is none.
-pub(super) fn take_checked<T: Table, L: Ledger>(
+pub(crate) fn take_checked<T: Table, L: Ledger>(
     engine: &mut Engine<T>,
     past: &mut VecPast,
     event: Event,
@@ -22,6 +22,15 @@ pub(super) fn take_checked<T: Table, L: Ledger>(
         && are_within(engine.spots(), past.events().len())
     {
         Some(engine.take(past, event, steps))
+    } else {
+        None
+    }
+}
+
+/// Adds an event that the past allows; the answer to any other is none.
+pub(crate) fn append_checked(past: &mut VecPast, event: Event) -> Option<Result<(), PastFault>> {
+    if is_in_range(&event) && may_follow(past.events(), &event) {
+        Some(past.append(event))
     } else {
         None
     }
@@ -43,7 +52,7 @@ fn may_follow(events: &[Event], event: &Event) -> bool
     last.offset < event.offset && last.time <= event.time
 }
 
-fn are_within(spots: &[Spot], count: usize) -> bool
+pub(crate) fn are_within(spots: &[Spot], count: usize) -> bool
     ensures { IsTrue result → AreWithin spots.now count }
 {
     for spot in spots {

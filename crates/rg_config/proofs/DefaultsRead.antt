@@ -1,5 +1,5 @@
 -- The defaults of a stream's columns.
-use Rattle.std.proofs.Common.{◌≡◌, ◌∙◌, ◌⊎◌, inl, inr, ◌+◌, ◌<◌, ◌≤◌, ◌&&◌, ℕ, zero, suc, Bool, true, false, List, [], ◌∷◌, ◌++◌, length, slice_index_or, take, drop, Option, Some, None, option_map, nat_le, Result, Ok, Err, All, IsTrue, refl, sym, ap, subst, append_assoc, append-nil, arith}
+use Rattle.std.proofs.Common.{◌≡◌, ◌∙◌, ◌⊎◌, inl, inr, ◌+◌, ◌<◌, ◌≤◌, ◌&&◌, ℕ, zero, suc, Bool, true, false, List, [], ◌∷◌, ◌++◌, length, slice_index_or, drop, Option, Some, None, option_map, nat_le, Result, Ok, Err, All, IsTrue, refl, sym, ap, subst, append_assoc, append-nil, arith}
 use Rattle.std.specs.Prelude.{option_and_then, if◌then◌else◌, not}
 use Rattle.std.specs.Option.{ok_or}
 use Rattle.std.specs.List.{list_all}
@@ -16,8 +16,9 @@ use Rattle.rg_event.specs.declared.schema.Field.{Field}
 use Rattle.rg_event.specs.declared.value.Kind.{Kind}
 use Rattle.rg_event.specs.declared.value.Value.{Value}
 use Rattle.rg_event.proofs.Parsed.{value_fits}
-use Rattle.rg_growth.specs.Growing.{IsDefaultOf, AreDefaultsOf}
-use Rattle.rg_config.specs.Documents.{all_keys, and_then, names, no_defaults, default_of, defaults_from, defaults_in, defaults_or}
+use Rattle.rg_growth.specs.Growing.{IsDefaultOf, AreDefaultsOf, no_defaults}
+use Rattle.rg_growth.proofs.Filled.{none_are}
+use Rattle.rg_config.specs.Documents.{all_keys, and_then, names, default_of, defaults_from, defaults_in, defaults_or}
 use Rattle.rg_config.specs.Reading.{ReadsDefaults}
 use Rattle.rg_config.specs.declared.fault.ConfigFault.{ConfigFault}
 use Rattle.rg_config.specs.declared.fault.ConfigFault.TheVariants.{Defaults as BadDefaults, Memory}
@@ -84,12 +85,8 @@ table_fits : (fields : List Field) (table : Option Members) (defaults : List (Op
 table_fits fields None defaults is = absurd (cc)
 table_fits fields (Some table) defaults is = tested_fits fields table (all_keys (names fields) table) defaults is
 
-none_fit : (fields : List Field) → AreDefaultsOf fields (no_defaults fields)
-none_fit [] = tt
-none_fit (field ∷ fields) = (tt, none_fit fields)
-
 pub are_defaults : (fields : List Field) (said : Option Data) (defaults : List (Option Value)) → defaults_or fields said ≡ Ok defaults → AreDefaultsOf fields defaults
-are_defaults fields None defaults is = let same : no_defaults fields ≡ defaults = cc in subst (AreDefaultsOf fields) same (none_fit fields)
+are_defaults fields None defaults is = let none : defaults ≡ no_defaults fields = cc in none_are fields defaults none
 are_defaults fields (Some found) defaults is = table_fits fields (as_table found) defaults is
 
 -- Those of the columns, one after another
@@ -157,28 +154,3 @@ pub default_end :
 default_end fields table i defaults end so_far =
     let step : defaults_from (suc i) (drop i fields) table ≡ Ok [] = rw (drop_all i fields end) refl in
     so_far ∙ (ap (behind defaults) step ∙ ap (λ (all : List (Option Value)). Ok all) (append-nil defaults))
-
--- Where none is said
-
-none_last : (fields : List Field) (n : ℕ) → n < length fields → no_defaults (take (suc n) fields) ≡ no_defaults (take n fields) ++ None ∷ []
-none_last [] n within = absurd (omega arith)
-none_last (field ∷ fields) zero within = refl
-none_last (field ∷ fields) (suc n) within = ap (λ (more : List (Option Value)). None ∷ more) (none_last fields n (omega arith))
-
-pub none_more :
-    (fields : List Field) (n : ℕ) (old new : List (Option Value)) → n < length fields → new ≡ old ++ None ∷ []
-    → old ≡ no_defaults (take n fields) → new ≡ no_defaults (take (n + 1) fields)
-none_more fields n old new within pushed so_far =
-    let next : suc n ≡ n + 1 = omega arith in
-    let last : no_defaults (take (n + 1) fields) ≡ no_defaults (take n fields) ++ None ∷ [] =
-    subst (λ (m : ℕ). no_defaults (take m fields) ≡ no_defaults (take n fields) ++ None ∷ []) next (none_last fields n within) in
-    pushed ∙ (ap (λ (all : List (Option Value)). all ++ None ∷ []) so_far ∙ sym last)
-
-none_whole : (fields : List Field) (n : ℕ) → length fields ≤ n → no_defaults (take n fields) ≡ no_defaults fields
-none_whole [] zero end = refl
-none_whole [] (suc n) end = refl
-none_whole (field ∷ fields) zero end = absurd (omega arith)
-none_whole (field ∷ fields) (suc n) end = ap (λ (more : List (Option Value)). None ∷ more) (none_whole fields n (omega arith))
-
-pub none_end : (fields : List Field) (n : ℕ) (defaults : List (Option Value)) → length fields ≤ n → defaults ≡ no_defaults (take n fields) → defaults ≡ no_defaults fields
-none_end fields n defaults end so_far = so_far ∙ none_whole fields n end

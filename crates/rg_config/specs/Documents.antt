@@ -8,6 +8,7 @@ use Rattle.rg_event.specs.Parsing.{value_of}
 use Rattle.rg_event.specs.declared.schema.Field.{Field}
 use Rattle.rg_event.specs.declared.value.Kind.{Kind}
 use Rattle.rg_event.specs.declared.value.Value.{Value}
+use Rattle.rg_growth.specs.Growing.{no_defaults}
 use Rattle.rg_config.specs.declared.fault.DefaultsFault.{DefaultsFault}
 use Rattle.rg_config.specs.declared.fault.DefaultsFault.TheVariants.{Table as NoTable, Key as NoColumn, Column}
 use Rattle.rg_config.specs.declared.fault.SettingsFault.{SettingsFault}
@@ -93,10 +94,6 @@ defaults_from number (field ∷ fields) table =
 -- those that a table says, whose keys are names of the columns: the time has number 0
 abbrev pub defaults_in : List Field → Members → Result (List (Option Value)) DefaultsFault
 defaults_in fields table = if all_keys (names fields) table then defaults_from 1 fields table else Err NoColumn
-
--- none for any of them
-abbrev pub no_defaults : List Field → List (Option Value)
-no_defaults fields = map (λ (field : Field). None) fields
 
 -- none where nothing is said
 abbrev pub defaults_or : List Field → Option Data → Result (List (Option Value)) DefaultsFault

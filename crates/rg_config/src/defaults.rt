@@ -1,14 +1,13 @@
-ghost use Rattle.std.specs.Prelude.{◌≡◌, ◌≤◌, length, Some, IfOk, option_map};
+ghost use Rattle.std.specs.Prelude.{◌≡◌, ◌≤◌, length, Some, option_map};
 ghost use Rattle.toml.specs.Data.{get_member};
 ghost use Rattle.toml.specs.View.{view, table_view};
-ghost use Rattle.rg_config.specs.Documents.{all_keys, default_of as the_default, defaults_from, defaults_in as the_defaults, defaults_or, is_one_of, names, no_defaults as nothing_said};
+ghost use Rattle.rg_config.specs.Documents.{all_keys, default_of as the_default, defaults_from, defaults_in as the_defaults, defaults_or, is_one_of, names};
 ghost use Rattle.rg_config.specs.Reading.{Reads, ReadsDefaults};
 ghost use Rattle.rg_config.specs.declared.fault.ConfigFault.TheVariants as Fault;
 ghost use Rattle.rg_config.specs.declared.fault.DefaultsFault.TheVariants as Cause;
 
 use crate::fault::{ConfigFault, DefaultsFault};
 use crate::table::value_at;
-use rg_bytes::Memory;
 use rg_event::{Field, Kind, Name, Value as Default, parse_value};
 use rg_growth::Defaults;
 use std::alloc::Global;
@@ -28,23 +27,11 @@ pub(crate) fn read_defaults(
             Some(table) => defaults_in(alloc, fields, table),
             None => Err(ConfigFault::Defaults(DefaultsFault::Table)),
         },
-        None => match no_defaults(alloc, fields) {
+        None => match Defaults::none(alloc, fields) {
             Ok(defaults) => Ok(defaults),
             Err(_) => Err(ConfigFault::Memory),
         },
     }
-}
-
-/// No default for any of these columns.
-#[tactic(auto, using(crate::proofs::DefaultsRead::none_end))]
-fn no_defaults(alloc: Global, fields: &[Field]) -> Result<Defaults, Memory>
-    ensures { IfOk result (λ defaults. defaults ≡ nothing_said fields.now) }
-{
-    let mut defaults = Defaults::new(alloc);
-    'columns: for _ in 0..fields.len() {
-        defaults.push(None)?;
-    }
-    Ok(defaults)
 }
 
 /// The defaults of these columns, in their table.

@@ -1,5 +1,5 @@
 -- Schemas that grow: further columns come behind those that are there.
-use Rattle.std.specs.Prelude.{◌≡◌, ◌≤◌, ◌&&◌, nat_lt, Bool, true, false, bytes_eq, List, [], ◌∷◌, ◌++◌, length, drop, Option, Some, None}
+use Rattle.std.specs.Prelude.{◌≡◌, ◌≤◌, ◌&&◌, nat_lt, Bool, true, false, bytes_eq, List, [], ◌∷◌, ◌++◌, length, drop, map, Option, Some, None}
 use Rattle.std.specs.List.{AllZip}
 use Rattle.rg_event.specs.Codec.{IsValueOf}
 use Rattle.rg_event.specs.Shapes.{Shape, IsSchema}
@@ -55,3 +55,7 @@ IsDefaultOf kind (Some value) = IsValueOf kind value
 -- one for each column, and each that is there is a value of its kind
 abbrev pub AreDefaultsOf : List Field → List (Option Value) → Type 0
 AreDefaultsOf fields defaults = AllZip (λ (field : Field) default. IsDefaultOf field.kind default) fields defaults
+
+-- no default for any of these columns
+abbrev pub no_defaults : List Field → List (Option Value)
+no_defaults fields = map (λ (field : Field). None) fields

@@ -1,7 +1,8 @@
 ghost use Rattle.std.specs.Prelude.{◌≡◌, [], ◌∷◌, ◌++◌, OnOk, OnErr, IfOk};
+ghost use Rattle.rg_growth.specs.Growing.{AreDefaultsOf, no_defaults};
 
 use rg_bytes::Memory;
-use rg_event::Value;
+use rg_event::{Field, Value};
 use std::alloc::Global;
 use std::marker::Model;
 
@@ -39,6 +40,18 @@ impl Defaults {
         Defaults {
             list: Vec::new(alloc),
         }
+    }
+
+    /// None for any of these columns.
+    pub fn none(alloc: Global, fields: &[Field]) -> Result<Defaults, Memory>
+        ensures none { IfOk result (λ defaults. defaults ≡ no_defaults fields.now) }
+        ensures of { IfOk result (AreDefaultsOf fields.now) }
+    {
+        let mut defaults = Defaults::new(alloc);
+        for _field in fields {
+            defaults.push(None)?;
+        }
+        Ok(defaults)
     }
 
     /// Adds that of one more column.

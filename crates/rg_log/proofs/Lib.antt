@@ -12,6 +12,7 @@ pub mod GrowthBytes
 pub mod Exact
 pub mod Plain
 pub mod Growing
+pub mod Filled
 pub mod Entries
 pub mod Folds
 pub mod Spelling

@@ -141,7 +141,7 @@ further shape (p ∷ payloads) (growth grown ∷ stages) are =
       of = values-append g.added a.added grown.values (values_of stages) g.of a.of;
     }
 
-all-extended : (fields added : List Field) (values : List Value) (events : List Event) → AreValuesOf added values → All (IsEventOf fields) events → All (IsEventOf (fields ++ added)) (all_extended values events)
+pub all-extended : (fields added : List Field) (values : List Value) (events : List Event) → AreValuesOf added values → All (IsEventOf fields) events → All (IsEventOf (fields ++ added)) (all_extended values events)
 all-extended fields added values [] of all = All-nil (IsEventOf (fields ++ added))
 all-extended fields added values (e ∷ events) of all =
     All-cons (IsEventOf (fields ++ added)) (extended values e) (all_extended values events) (event-extended fields added values e (All-head (IsEventOf fields) e events all) of)

@@ -1,4 +1,5 @@
 pub mod Entries
+pub mod Filled
 pub mod Log
 pub mod Payloads
 pub mod Plain

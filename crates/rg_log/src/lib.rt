@@ -13,7 +13,8 @@ ghost use Rattle.rg_event.specs.Shapes.{Shape, IsSchema};
 ghost use Rattle.rg_event.specs.declared.event.Event.{Event};
 ghost use Rattle.rg_event.specs.Rising.{IsRising, next_offset, last_time};
 ghost use Rattle.rg_event.specs.declared.value.Value.{Value};
-ghost use Rattle.rg_growth.specs.Payloads.{IsGrowth, growth_of};
+ghost use Rattle.rg_growth.specs.Filling.{Given, IsFilled, growth_to};
+ghost use Rattle.rg_growth.specs.Payloads.{IsGrowth, growth_bytes, growth_of};
 ghost use Rattle.rg_growth.specs.declared.growth.Growth.{Growth};
 ghost use Rattle.rg_past.specs.declared.past.Spot.{Spot};
 ghost use Rattle.rg_frame.specs.Bytes.{IsByte};
@@ -23,6 +24,7 @@ ghost use Rattle.rg_chunk.specs.Extended.{all_extended};
 ghost use Rattle.rg_chunk.specs.Heads.{head_of};
 ghost use Rattle.rg_chunk.specs.declared.head.ChunkHead.{ChunkHead};
 ghost use Rattle.rg_log.specs.Entries.{nothing, told_by, summary_of, unread, behind, count_of, shape_behind, further_entry, entry_after, entries_after};
+ghost use Rattle.rg_log.specs.Filled.{HasEventsFor, IsOfSchemaFor};
 ghost use Rattle.rg_log.specs.Log.{schema_payload, joined, IsChunkOf, IsLegalLog, HasEvents, HasLegalLog, HasFrame, IsInForce};
 ghost use Rattle.rg_log.specs.Plain.{IsPlainLog, HasPlainEvents};
 ghost use Rattle.rg_log.specs.Reading.{stages_in, events_of, next_of};
@@ -100,6 +102,29 @@ pub fn law_log()
         Grows payload old new → (IsInForce shape new × HasEvents shape events new) ⊎ (IsInForce growth.to new × HasEvents growth.to (all_extended growth.values events) new) }
     ensures grown { (shape : Shape) (growth : Growth) (events : List Event) (payload old new : List ℕ) → IsInForce shape old → HasEvents shape events old → IsGrowth shape payload growth →
         Grown payload old new → IsInForce growth.to new × HasEvents growth.to (all_extended growth.values events) new }
+{
+    law_frames();
+}
+
+/// A log has one list of events for a schema and its defaults, all of them of the schema; where the schema is in force they
+/// are the log's own. They stay the same when the growth by the defaults comes behind the log: before it they have the defaults
+/// behind their own values, and then those are their own.
+pub fn law_filled()
+    ensures own { (shape : Shape) (defaults : Given) (events : List Event) (bytes : List ℕ) → IsInForce shape bytes → HasEventsFor shape defaults events bytes → HasEvents shape events bytes }
+    ensures none { (shape : Shape) (defaults : Given) (events : List Event) (bytes : List ℕ) → HasPayloads [] bytes → HasEventsFor shape defaults events bytes → events ≡ [] }
+    ensures one { (shape : Shape) (defaults : Given) (events others : List Event) (bytes : List ℕ) → HasEventsFor shape defaults events bytes → HasEventsFor shape defaults others bytes → events ≡ others }
+    ensures of { (shape : Shape) (defaults : Given) (events : List Event) (bytes : List ℕ) → HasEventsFor shape defaults events bytes → All (IsEventOf shape.fields) events }
+    ensures rising { (shape : Shape) (defaults : Given) (events : List Event) (bytes : List ℕ) → HasEventsFor shape defaults events bytes → IsRising events × (length events ≤ 2 ^ 40) }
+    ensures legal { (shape : Shape) (defaults : Given) (bytes : List ℕ) → IsSchema shape → HasLegalLog bytes → IsOfSchemaFor shape defaults bytes → (events : List Event) × HasEventsFor shape defaults events bytes }
+    ensures next { (shape : Shape) (defaults : Given) (events : List Event) (bytes : List ℕ) → HasEventsFor shape defaults events bytes → next_of bytes ≡ Some (next_offset events) }
+
+    // The growth comes behind the log.
+    ensures grows { (from shape : Shape) (defaults : Given) (values : List Value) (events : List Event) (old new : List ℕ) → IsFilled from shape defaults values → IsInForce from old →
+        HasEventsFor shape defaults events old → Grows (growth_bytes (growth_to shape values)) old new → HasEventsFor shape defaults events new }
+    ensures grown { (from shape : Shape) (defaults : Given) (values : List Value) (events : List Event) (old new : List ℕ) → IsFilled from shape defaults values → IsInForce from old →
+        HasEventsFor shape defaults events old → Grown (growth_bytes (growth_to shape values)) old new → HasEvents shape events new }
+    ensures of_schema { (from shape : Shape) (defaults : Given) (values : List Value) (old new : List ℕ) → IsFilled from shape defaults values → IsInForce from old →
+        Grows (growth_bytes (growth_to shape values)) old new → IsOfSchemaFor shape defaults new }
 {
     law_frames();
 }

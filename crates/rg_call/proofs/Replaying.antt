@@ -16,7 +16,6 @@ use Rattle.rg_host.proofs.PutRuns.{puts-then}
 use Rattle.rg_listing.specs.Stops.{StopsAt}
 use Rattle.rg_listing.proofs.Stopped.{nothing_stops}
 use Rattle.rg_reservoir.specs.Attached.{IsOther, IsBadFrame, IsIllegalSince}
-use Rattle.rg_open.specs.Unfit.{IsUnfit}
 use Rattle.rg_task.specs.Terms.{terms_of}
 use Rattle.rg_run.specs.Begun.{Begun, course_for, lines_in}
 use Rattle.rg_run.specs.Reading.{IsLonger}
@@ -32,7 +31,7 @@ use Rattle.rg_report.specs.declared.status.Status.TheVariants.{Ok, Usage, Plan a
 use Rattle.rg_call.specs.Plan.{IsPlan}
 use Rattle.rg_call.specs.Call.{IsRun, IsReplay, IsVerify, ReadsPlan, ShowsStore, IsRefusedPlan, damage_line, schema_line, state_line, Fails}
 use Rattle.rg_call.specs.TurnedAway.{EndsFailed}
-use Rattle.rg_call.specs.Replays.{IsReadyReplay, ToldReplay, text_of_replay, EndsReplay, IsReplayLine, IsReplayRefusal, RefusesReplay, IsReplayStatus, IsReplayEnd, Replayed, ReplaysNothing, PutsReplay, PutsRefusal}
+use Rattle.rg_call.specs.Replays.{IsReadyReplay, ToldReplay, text_of_replay, EndsReplay, IsUnreplayable, IsReplayLine, IsReplayRefusal, RefusesReplay, IsReplayStatus, IsReplayEnd, Replayed, ReplaysNothing, PutsReplay, PutsRefusal}
 use Rattle.rg_call.specs.declared.command.Command.{Command}
 use Rattle.rg_call.specs.declared.command.Command.TheVariants.{Run, Replay, Verify, Check, Dump, Info, Trial}
 use Rattle.rg_call.proofs.Plans.{one_plan}
@@ -245,9 +244,9 @@ module _ {H : Type 0} (said : H → Option (List ℕ)) (clock : H → ℕ) (sinc
       replayed_for (text_of_replay told first) unread status last old new (subst Goes (bytes_ask plan p legal told.plan_bytes told.asks told.plan_is told.says) goes told.ready)
 
   pub nothing_at : (plan : Option (List ℕ)) (now : Option Image) (status : Status) (last : List ℕ) (old new : H) (p : Planned) → IfSome plan (λ bytes. IsPlan bytes p) → (bytes : List ℕ) (asks : Planned) (v : Image) → plan ≡ Some bytes → IsPlan bytes asks →
-      (IsUnfit p v → ReplaysNothing said clock since p now status last old new) → IsUnfit asks v → ReplaysNothing said clock since asks now status last old new
+      (IsUnreplayable p v → ReplaysNothing said clock since p now status last old new) → IsUnreplayable asks v → ReplaysNothing said clock since asks now status last old new
   nothing_at plan now status last old new p legal bytes asks v is says goes =
-      let Goes : Planned → Type 0 = λ q. IsUnfit q v → ReplaysNothing said clock since q now status last old new in
+      let Goes : Planned → Type 0 = λ q. IsUnreplayable q v → ReplaysNothing said clock since q now status last old new in
       subst Goes (bytes_ask plan p legal bytes asks is says) goes
 
   -- With the last line of the status.

@@ -12,7 +12,7 @@ use Rattle.std.specs.Prelude.{IfSome}
 use Rattle.rg_bytes.specs.Known.{after}
 use Rattle.rg_event.specs.declared.event.Event.{Event}
 use Rattle.rg_event.specs.Rising.{next_offset}
-use Rattle.rg_log.specs.Log.{HasEvents}
+use Rattle.rg_log.specs.Filled.{HasEventsFor}
 use Rattle.rg_checkpoint.specs.Slots.{HasSlot}
 use Rattle.rg_open.specs.Stores.{Has, HasSaved}
 use Rattle.rg_config.specs.Plans.{Planned}
@@ -167,7 +167,7 @@ module _ {H : Type 0} (now : H → Option Image) (may : H → Image → Type 0) 
     keeps_all u (inl left) = inl left
     keeps_all u (inr (mid_step, at_open)) = inr (record {
       truthful = mid_step.truthful (ready.openable.truthful mid_step.from mid_step.left.0);
-      has = ⊎_elim (λ has. has) (λ has. subst (λ (es : List Event). Has plan es u) (append-nil ready.held) has) (mid_step.events ready.held (subst (λ (bytes : List ℕ). HasEvents plan.shape ready.held bytes) (sym mid_step.left.3) ready.has));
+      has = ⊎_elim (λ has. has) (λ has. subst (λ (es : List Event). Has plan es u) (append-nil ready.held) has) (mid_step.events ready.held (subst (λ (bytes : List ℕ). HasEventsFor plan.shape plan.defaults ready.held bytes) (sym mid_step.left.3) ready.has));
       saved = λ count has. mid_step.slots slot count refl (saved_read mid_step.from count mid_step.left has);
       opened = at_open;
     })

@@ -125,7 +125,7 @@ write_is : (cause : VerifyFault) (status : Status) (last : List ℕ) → EndsVer
 write_is cause status last ends is = let e : EndsVerify verify.Write status last = subst (λ c. EndsVerify c status last) is ends in e.0
 
 -- a store that is ready for a verify is one that the plan's terms are held against
-pub verifiable : (plan : Planned) (now : Option Image) → Serves plan.shape.fields (plan_for plan.queries) → (ready : IsReadyVerify plan now) → IsVerifiable (terms_for plan) ready.image ready.events
+pub verifiable : (plan : Planned) (now : Option Image) → Serves plan.shape.fields (plan_for plan.queries) → (ready : IsReadyVerify plan now) → IsVerifiable (terms_for plan) plan.defaults ready.image ready.events
 verifiable plan now serves ready = record { has = ready.has; serves = serves }
 
 -- a plan that was read has these terms
@@ -133,8 +133,8 @@ pub terms_same : (plan : Plan) → IsReadPlan plan → terms_of plan.queries pla
 terms_same plan is =
     ap (λ (queries : List (List ℕ)). terms_of queries plan.schema plan.task) is.printed ∙ ap (λ (tasks : Tasks). terms_of (texts_of plan.schema (planned plan).queries) plan.schema tasks) is.task
 
-pub verifiable_as : (plan : Plan) (now : Option Image) → IsReadPlan plan → Serves plan.schema.fields (plan_for (planned plan).queries) → (ready : IsReadyVerify (planned plan) now) → IsVerifiable (terms_of plan.queries plan.schema plan.task) ready.image ready.events
-verifiable_as plan now is serves ready = subst (λ t. IsVerifiable t ready.image ready.events) (sym (terms_same plan is)) (verifiable (planned plan) now serves ready)
+pub verifiable_as : (plan : Plan) (now : Option Image) → IsReadPlan plan → Serves plan.schema.fields (plan_for (planned plan).queries) → (ready : IsReadyVerify (planned plan) now) → IsVerifiable (terms_of plan.queries plan.schema plan.task) plan.defaults ready.image ready.events
+verifiable_as plan now is serves ready = subst (λ t. IsVerifiable t plan.defaults ready.image ready.events) (sym (terms_same plan is)) (verifiable (planned plan) now serves ready)
 
 -- The causes of a fault.
 module _ {H : Type 0} (now : H → Option Image) (disk_faults out_faults : H → ℕ) (plan : Planned) (cause : VerifyFault) (status : Status) (last : List ℕ) (old new : H) (ends : EndsVerify cause status last)

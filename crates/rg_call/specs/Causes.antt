@@ -5,29 +5,29 @@ use Rattle.rg_bytes.specs.Known.{after}
 use Rattle.rg_event.specs.Rising.{next_offset}
 use Rattle.rg_event.specs.declared.event.Event.{Event}
 use Rattle.rg_host.specs.Image.{Image}
-use Rattle.rg_log.specs.Log.{HasEvents}
 use Rattle.rg_config.specs.Plans.{Planned}
-use Rattle.rg_reservoir.specs.Attached.{IsIllegalSince}
+use Rattle.rg_reservoir.specs.Attached.{IsIllegalOpened}
 use Rattle.rg_open.specs.Stores.{Has}
 use Rattle.rg_open.specs.Blame.{IsBlamed}
 use Rattle.rg_open.specs.Unfit.{HasOtherSchema, HasBadFrame}
 use Rattle.rg_call.specs.Call.{damage_line, schema_line, state_line, gap_line}
 use Rattle.rg_call.specs.Plan.{IsPlan}
 
--- the image's log isn't legal, for the plan's schema or without a frame
+-- the image's log isn't legal, for the plan's schema, for one that grows to it by the plan's defaults, or without a frame
 abbrev pub HasNoEvents : Planned → Image → Type 0
-HasNoEvents plan v = (events : List Event) → HasEvents plan.shape events (v 2) → ⊥
+HasNoEvents plan v = (events : List Event) → Has plan events v → ⊥
 
 -- the image's log isn't legal, and the image, or the one that is left, says that its log is damaged there
 abbrev pub IsDamagedAt : Planned → Option Image → Option Image → ℕ → Type 0
-IsDamagedAt plan old new place = ForSome old (HasNoEvents plan) × (ForSome old (λ v. HasBadFrame plan place v) ⊎ ForSome old (λ u. ForSome new (λ v. IsIllegalSince plan.shape (u 2) place (v 2))))
+IsDamagedAt plan old new place = ForSome old (HasNoEvents plan) × (ForSome old (λ v. HasBadFrame plan place v) ⊎ ForSome old (λ u. ForSome new (λ v. IsIllegalOpened plan.shape plan.defaults (u 2) place (v 2))))
 
--- where the image's log is legal, and of the plan's schema or without a frame, that node isn't true in the checkpoint that is used
+-- where the image's log is legal, and of the plan's schema, of one that grows to it by the plan's defaults, or without a frame, that node
+-- isn't true in the checkpoint that is used
 abbrev pub IsBadState : Planned → Option Image → ℕ → Type 0
-IsBadState plan old node = ForSome old (λ v. (events : List Event) → HasEvents plan.shape events (v 2) → IsBlamed plan v events node)
+IsBadState plan old node = ForSome old (λ v. (events : List Event) → Has plan events v → IsBlamed plan v events node)
 
--- The line that refuses a store says why: another schema, and then the input was left alone; a damaged place; or a node whose rows, with the
--- spots of its edges, don't stand for the events.
+-- The line that refuses a store says why: another schema that doesn't grow to the plan's, and then the input was left alone; a damaged
+-- place; or a node whose rows, with the spots of its edges, don't stand for the events.
 abbrev pub IsStoreLine : Planned → Option Image → Option Image → Type 0 → List ℕ → Type 0
 IsStoreLine plan old new alone last =
     ((last ≡ schema_line) × ForSome old (λ v. HasOtherSchema plan v) × alone)

@@ -27,7 +27,7 @@ use Rattle.rg_call.specs.Call.{IsRun, IsReplay, IsVerify, ReadsPlan, ShowsStore,
 use Rattle.rg_call.specs.Causes.{RefusesStore, RefusesGap}
 use Rattle.rg_call.specs.Stored.{ToldRun, begun_in, Went}
 use Rattle.rg_call.specs.TurnedAway.{EndsUnfit, EndsBehind}
-use Rattle.rg_call.specs.Replays.{ToldReplay, text_of_replay, RefusesReplay, Replayed, ReplaysNothing}
+use Rattle.rg_call.specs.Replays.{ToldReplay, text_of_replay, IsUnreplayable, RefusesReplay, Replayed, ReplaysNothing}
 use Rattle.rg_call.specs.Verifies.{ToldVerify, RefusesVerify, IsWhole, IsRefusedStore, Verified, IsSilent}
 
 -- Why a plan was not taken, with this status, last line and refusal that is told; `failed` says that a read of it failed.
@@ -89,7 +89,7 @@ module _ {H : Type 0} (now : H → Option Image) (may : H → Image → Type 0) 
   -- How a replay went, over a store that is ready and over one that isn't fit.
   pub record ReplaysBy (first : ℕ) (plan : Option (List ℕ)) (unread : Type 0) (status : Status) (last : List ℕ) (old new : H) : Type 0 where
     pub replayed : (told : ToldReplay plan (now old) (may old)) → Replayed said clock since (text_of_replay told first) unread status last old new
-    pub unfit : (bytes : List ℕ) (asks : Planned) (v : Image) → plan ≡ Some bytes → IsPlan bytes asks → now old ≡ Some v → IsUnfit asks v → ReplaysNothing said clock since asks (now old) status last old new
+    pub unfit : (bytes : List ℕ) (asks : Planned) (v : Image) → plan ≡ Some bytes → IsPlan bytes asks → now old ≡ Some v → IsUnreplayable asks v → ReplaysNothing said clock since asks (now old) status last old new
 
   -- How a verify went, and that it refuses a store of another schema or with a damaged frame.
   pub record VerifiesBy (plan : Option (List ℕ)) (unread : Type 0) (status : Status) (last : List ℕ) (old new : H) : Type 0 where

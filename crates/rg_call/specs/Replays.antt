@@ -9,9 +9,9 @@ use Rattle.rg_host.specs.Lines.{ended}
 use Rattle.rg_host.specs.Moments.{Moment}
 use Rattle.rg_host.specs.Puts.{IsPrefix, IsPut, Puts, StopsWith}
 use Rattle.rg_listing.specs.Stops.{StopsAt}
-use Rattle.rg_reservoir.specs.Attached.{IsIllegalSince}
-use Rattle.rg_open.specs.Stores.{Has}
-use Rattle.rg_open.specs.Unfit.{HasOtherSchema, HasBadFrame, IsUnfit}
+use Rattle.rg_log.specs.Log.{HasEvents}
+use Rattle.rg_reservoir.specs.Attached.{IsOther, IsIllegalSince}
+use Rattle.rg_open.specs.Unfit.{HasBadFrame}
 use Rattle.rg_replay.specs.Replay.{replay_text}
 use Rattle.rg_replay.specs.declared.fault.ReplayFault.{ReplayFault}
 use Rattle.rg_replay.specs.declared.fault.ReplayFault.TheVariants as replay
@@ -21,13 +21,14 @@ use Rattle.rg_report.specs.declared.status.Status.TheVariants.{Ok, Store, Read, 
 use Rattle.rg_call.specs.Plan.{IsPlan}
 use Rattle.rg_call.specs.Call.{damage_line, schema_line, state_line, Fails, SaysLine}
 
--- the host tells its image, whose log is legal, of the plan's schema or without a frame, and has these events; nothing of it is pending
+-- The host tells its image, whose log is legal, of the plan's schema or without a frame, and has these events; nothing of it is pending. A replay
+-- writes nothing, so a log whose schema only grows to the plan's isn't ready.
 pub record IsReadyReplay (plan : Planned) (now : Option Image) (may : Image → Type 0) : Type 0 where
   pub image : Image
   pub told : now ≡ Some image
   pub settled : NothingPending 2 now may
   pub events : List Event
-  pub has : Has plan events image
+  pub has : HasEvents plan.shape events (image 2)
 
 -- What a replay is told: its plan, and a store that is ready for it.
 pub record ToldReplay (plan : Option (List ℕ)) (now : Option Image) (may : Image → Type 0) : Type 0 where
@@ -50,10 +51,14 @@ EndsReplay (replay.BadState node) status last = SaysLine Store (state_line node)
 EndsReplay replay.Memory status last = Fails Memory status last
 EndsReplay replay.Write status last = Fails Write status last
 
+-- no replay of the plan goes over the image: another schema than the plan's is in force at the log's end, be it one that grows to it, or a frame is bad
+abbrev pub IsUnreplayable : Planned → Image → Type 0
+IsUnreplayable plan v = IsOther plan.shape (v 2) ⊎ ((place : ℕ) × HasBadFrame plan place v)
+
 -- The line that refuses a store says why: another schema; a damaged place; or a node whose rows don't stand for the events.
 abbrev pub IsReplayLine : Planned → Option Image → List ℕ → Type 0
 IsReplayLine plan now last =
-    ((last ≡ schema_line) × ForSome now (HasOtherSchema plan))
+    ((last ≡ schema_line) × ForSome now (λ v. IsOther plan.shape (v 2)))
     ⊎ ((place : ℕ) × (last ≡ damage_line (Some place)) × (ForSome now (HasBadFrame plan place) ⊎ ForSome now (λ v. IsIllegalSince plan.shape (v 2) place (v 2))))
     ⊎ ((node : ℕ) × (last ≡ state_line node))
 
@@ -118,4 +123,4 @@ module _ {H : Type 0} (now : H → Option Image) (may : H → Image → Type 0) 
   -- How a replay by that plan went up to its last line, over a store that is ready and over one that isn't fit.
   pub record ReplaysStore (first : ℕ) (plan : Planned) (status : Status) (last : List ℕ) (old new : H) : Type 0 where
     pub replayed : (ready : IsReadyReplay plan (now old) (may old)) → Replayed said clock since (replay_text plan.queries first ready.events) ⊥ status last old new
-    pub unfit : (v : Image) → now old ≡ Some v → IsUnfit plan v → ReplaysNothing said clock since plan (now old) status last old new
+    pub unfit : (v : Image) → now old ≡ Some v → IsUnreplayable plan v → ReplaysNothing said clock since plan (now old) status last old new

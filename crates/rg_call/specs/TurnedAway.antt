@@ -46,7 +46,7 @@ pub record IsTurnedAway {H : Type 0} (now : H → Option Image) (may : H → Ima
   pub moments : Moments clock since old new (λ m. may old m.image)
 
 -- the image is truthful and has just these events, the slot has what it has where v is read, and nothing was written but the schema's frame
--- of a log without a frame
+-- of a log without a frame, or the growth to the plan's schema by its defaults
 pub record KeepsAll (plan : Planned) (held : List Event) (v : Image) (may : Image → Type 0) (slot : ℕ) (u : Image) : Type 0 where
   pub truthful : IsTruthfulImage u
   pub has : Has plan held u

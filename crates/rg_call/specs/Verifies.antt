@@ -26,7 +26,7 @@ use Rattle.rg_call.specs.Call.{damage_line, schema_line, Fails, SaysLine}
 abbrev pub terms_for : Planned → Terms
 terms_for plan = record { queries = texts_of plan.shape plan.queries; shape = plan.shape; tasks = plan_for plan.queries }
 
--- the host tells its image, whose log is legal, of the plan's schema or without a frame, and has these events
+-- the host tells its image, whose log is legal, of the plan's schema, of one that grows to it by the plan's defaults, or without a frame, and has these events
 pub record IsReadyVerify (plan : Planned) (now : Option Image) : Type 0 where
   pub image : Image
   pub told : now ≡ Some image
@@ -53,7 +53,7 @@ EndsVerify verify.Write status last = Fails Write status last
 abbrev pub IsWhole : Status → Type 0
 IsWhole status = (status ≡ Ok) ⊎ (status ≡ Differs)
 
--- no frame of the image's log is damaged, and another schema than the plan's is in force at its end
+-- no frame of the image's log is damaged, and another schema than the plan's is in force at its end, which doesn't grow to it by the plan's defaults
 abbrev pub IsOfOther : Planned → Image → Type 0
 IsOfOther plan v = HasOtherSchema plan v × (damage_of (v 2) ≡ None)
 
@@ -78,7 +78,7 @@ pub record RefusesVerify (plan : Option (List ℕ)) (now : Option Image) (last :
 abbrev pub IsVerifyLast : Planned → Option Image → Status → List ℕ → Type 0
 IsVerifyLast plan now status last = ((status ≡ Store) × IsVerifyLine plan now last) ⊎ (last ≡ last_line status)
 
--- the image's log is of another schema than the plan's, or a frame of it is damaged
+-- the image's log is of another schema than the plan's, which doesn't grow to it by the plan's defaults, or a frame of it is damaged
 abbrev pub IsRefusedStore : Planned → Image → Type 0
 IsRefusedStore plan v = HasOtherSchema plan v ⊎ ((place : ℕ) × (damage_of (v 2) ≡ Some place))
 

@@ -28,7 +28,7 @@ ghost use Rattle.rg_call.specs.Done.{Causes, LeavesAlone, Does};
 ghost use Rattle.rg_call.specs.Causes.{RefusesStore, RefusesGap, EndsWith};
 ghost use Rattle.rg_call.specs.Stored.{ToldRun, begun_in, IsLastOf, IsToldFrom, IsComplete, EndsWhole, EndsAnswered, IsAtMostOneAhead, HasLastSaved, Resumes};
 ghost use Rattle.rg_call.specs.TurnedAway.{IsTurnedAway, IsBehind};
-ghost use Rattle.rg_call.specs.Replays.{ToldReplay, text_of_replay, RefusesReplay, PutsReplay, PutsRefusal};
+ghost use Rattle.rg_call.specs.Replays.{ToldReplay, text_of_replay, IsUnreplayable, RefusesReplay, PutsReplay, PutsRefusal};
 ghost use Rattle.rg_call.specs.Verifies.{ToldVerify, terms_for, RefusesVerify, IsRefusedStore, IsVerifyLast, IsWhole, is_differs, PutsLine};
 
 use crate::command::Command;
@@ -268,8 +268,9 @@ pub fn railgun<P: Source, I: Source, H: Host>(
     ensures replay_put { (first : ℕ) → command_of words.now ≡ Some (Command.Replay first) → (told : ToldReplay (P.left plan.old) (H.now host.old) (H.may host.old)) →
         PutsReplay H.said H.clock H.since (text_of_replay told first) (Rose (H.out_faults host.old) (H.out_faults host.new)) result host.old host.new }
 
-    // Over a store with a frame that its heads and growths show to be bad, or else of another schema, nothing was put but the last line, which says why.
-    ensures replay_refused { IsReplay (command_of words.now) → (bytes : List ℕ) (asks : Planned) (v : Image) → P.left plan.old ≡ Some bytes → IsPlan bytes asks → H.now host.old ≡ Some v → IsUnfit asks v →
+    // Over a store with a frame that its heads and growths show to be bad, or else of another schema, be it one that grows to the plan's, nothing was
+    // put but the last line, which says why.
+    ensures replay_refused { IsReplay (command_of words.now) → (bytes : List ℕ) (asks : Planned) (v : Image) → P.left plan.old ≡ Some bytes → IsPlan bytes asks → H.now host.old ≡ Some v → IsUnreplayable asks v →
         PutsRefusal H.said H.clock H.since asks (H.now host.old) (Rose (H.out_faults host.old) (H.out_faults host.new)) result host.old host.new }
 
     // A verify over a legal log: the line of each slot was put, what its checkpoint is to the plan and the events; the status is Differs
@@ -296,7 +297,8 @@ pub fn railgun<P: Source, I: Source, H: Host>(
         ⊎ (IsReplay (command_of words.now) × ((last : List ℕ) × RefusesReplay (P.left plan.old) (H.now host.old) (H.may host.old) last × (EndsWith (H.said host.new) last ⊎ Rose (H.out_faults host.old) (H.out_faults host.new))))
         ⊎ (IsVerify (command_of words.now) × ((last : List ℕ) × RefusesVerify (P.left plan.old) (H.now host.old) last × (EndsWith (H.said host.new) last ⊎ Rose (H.out_faults host.old) (H.out_faults host.new)))) }
 
-    // Over a store with a bad frame, or else of another schema, a run says which, and leaves the input and the files alone.
+    // Over a store with a bad frame, or else of another schema that doesn't grow to the plan's by its defaults, a run says which, and leaves the
+    // input and the files alone.
     ensures store_always { IsRun (command_of words.now) → (bytes : List ℕ) (asks : Planned) (v : Image) → P.left plan.old ≡ Some bytes → IsPlan bytes asks → H.now host.old ≡ Some v → IsUnfit asks v → (input.new ≡ input.old)
         × IsTurnedAway H.now H.may H.clock H.since H.said asks v (Rose (P.faults plan.old) (P.faults plan.new)) (Rose (H.out_faults host.old) (H.out_faults host.new)) result host.old host.new }
 
@@ -354,7 +356,7 @@ pub fn railgun<P: Source, I: Source, H: Host>(
         ¬ (Rose (P.faults plan.old) (P.faults plan.new) ⊎ Rose (I.faults input.old) (I.faults input.new) ⊎ Rose (H.out_faults host.old) (H.out_faults host.new) ⊎ Rose (H.disk_faults host.old) (H.disk_faults host.new)) →
         (result ≡ Status.Ok) ⊎ (result ≡ Status.Memory) }
 
-    // A run over a store with a bad frame, or else of another schema, then says so.
+    // A run over a store with a bad frame, or else of another schema that doesn't grow to the plan's by its defaults, then says so.
     ensures completes_store { IsRun (command_of words.now) → (bytes : List ℕ) (asks : Planned) (v : Image) → P.left plan.old ≡ Some bytes → IsPlan bytes asks → H.now host.old ≡ Some v → IsUnfit asks v →
         ¬ (Rose (P.faults plan.old) (P.faults plan.new) ⊎ Rose (H.disk_faults host.old) (H.disk_faults host.new)) → (result ≡ Status.Store) ⊎ (result ≡ Status.Memory) }
 

@@ -30,9 +30,9 @@ fn ending_of(alloc: Global, fault: VerifyFault) -> Ending
     }
 }
 
-/// Holds both slots against the log, and puts a line for each, once the whole log was read. No file is
-/// written. An error says how the call ends: its last line isn't put yet. Where a checkpoint isn't what the
-/// events give, that is Differs, which has none.
+/// Holds both slots against the log, and puts a line for each, once the whole log was read. The events have the
+/// plan's defaults of the columns that the log lacks. No file is written. An error says how the call ends: its
+/// last line isn't put yet. Where a checkpoint isn't what the events give, that is Differs, which has none.
 pub(crate) fn verify<H: Host>(alloc: Global, plan: &Plan, host: &mut H) -> Result<(), Ending>
     requires is_read { IsReadPlan plan.now }
     ensures goes { VerifiesStore H.now H.said H.clock H.since (planned plan.now) (status_after result) (line_after result) host.old host.new }
@@ -49,6 +49,7 @@ pub(crate) fn verify<H: Host>(alloc: Global, plan: &Plan, host: &mut H) -> Resul
         alloc,
         host,
         &plan.schema,
+        &plan.defaults,
         room,
         &plan.task,
         &plan.queries,

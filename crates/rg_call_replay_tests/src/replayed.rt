@@ -1,6 +1,6 @@
 use super::setting::{
-    Call, Change, MERCHANTS, REPLAY, REPLAY_THREE, ROWS, RUN_THREE, assert_each, changed, host_of,
-    left_by, status_on, text_behind,
+    Call, Change, MERCHANTS, REPLAY, REPLAY_THREE, ROWS, RUN_THREE, assert_behind, assert_each,
+    changed, host_of, left_by, status_on, text_behind,
 };
 use rg_host::MemHost;
 use rg_report::Status;
@@ -143,6 +143,56 @@ fn a_replay_of_an_unfit_store_says_why(rt: HostRuntime) -> Result<(), Fail> {
                 log: &[Change::Front(100)],
                 wanted: "refused store damaged 57\n",
                 ..DAMAGED
+            },
+        ],
+    )
+}
+
+/// A replay by a plan with a column more, of which earlier payments have a default.
+const LONGER: Call<'static> = Call {
+    query: "SELECT count(*), countDistinct(country) FROM payments GROUP BY country OVER INFINITE",
+    columns: "\"ts\", \"card:text\", \"merchant:text\", \"amount:int\", \"country:text\"",
+    settings: "[stream.defaults]\ncountry = \"??\"\n",
+    ..REPLAY
+};
+
+/// A run by that plan over a payment more, by which the store grows.
+const GROWS: Call<'static> = Call {
+    words: &["run", "plan", "store", "3"],
+    input: b"300001,c1,m1,9,NL\n",
+    failing_reads: &[],
+    ..LONGER
+};
+
+#[test]
+fn a_longer_plan_replays_a_store_that_a_run_has_grown(rt: HostRuntime) -> Result<(), Fail> {
+    assert_each(
+        &rt,
+        &ROWS,
+        &[Call {
+            wanted: "refused store schema\n",
+            ends: Status::Store,
+            ..LONGER
+        }],
+    )?;
+    assert_behind(
+        &rt,
+        &[RUN_THREE, GROWS],
+        &[
+            Call {
+                wanted: "0 ok 1 1\n1 ok 2 1\n2 ok 3 1\n3 ok 1 1\ndone 4 4\n",
+                ..LONGER
+            },
+            Call {
+                words: &["replay", "plan", "store", "2"],
+                query: "SELECT count(*), sum(amount) FROM payments GROUP BY card OVER SLIDING 5 minutes",
+                wanted: "2 ok 2 250\n3 ok 3 259\ndone 4 4\n",
+                ..LONGER
+            },
+            Call {
+                wanted: "refused store schema\n",
+                ends: Status::Store,
+                ..REPLAY
             },
         ],
     )

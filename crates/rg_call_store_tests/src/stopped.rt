@@ -152,7 +152,7 @@ fn sum_of(files: &MemHost) -> u64 {
     sum
 }
 
-fn have_same_bytes(one: &MemHost, other: &MemHost) -> bool {
+pub(super) fn have_same_bytes(one: &MemHost, other: &MemHost) -> bool {
     for file in 0..3 {
         if one.file(file) != other.file(file) {
             return false;

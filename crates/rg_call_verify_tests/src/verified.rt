@@ -189,6 +189,99 @@ fn an_unfit_log_is_told_before_a_slot(rt: HostRuntime) -> Result<(), Fail> {
     )
 }
 
+/// A verify by a plan with a column more, of which earlier payments have a default.
+const LONGER: Call<'static> = Call {
+    columns: "\"ts\", \"card:text\", \"merchant:text\", \"amount:int\", \"country:text\"",
+    settings: "[stream.defaults]\ncountry = \"??\"\n",
+    ..SOUND
+};
+
+/// The same of a query by country, whose window a payment enters when it is a millisecond old.
+const BY_COUNTRY: Call<'static> = Call {
+    query: "SELECT count(*) FROM payments GROUP BY country OVER INFINITE DELAYED BY 1 ms",
+    ..LONGER
+};
+
+#[test]
+fn a_store_that_would_grow_is_verified_and_left(rt: HostRuntime) -> Result<(), Fail> {
+    assert_left_behind(
+        &rt,
+        b"",
+        &[RUN_THREE],
+        &[
+            LONGER,
+            Call {
+                wanted: "slot 0 other 3\nslot 1 none\n",
+                ..BY_COUNTRY
+            },
+            Call {
+                slot: &[OTHER_COUNT],
+                wanted: "slot 0 wrong 0\nslot 1 none\n",
+                ends: Status::Differs,
+                ..LONGER
+            },
+            // without the default, and damaged besides
+            Call {
+                settings: "",
+                wanted: "refused store schema\n",
+                ends: Status::Store,
+                ..LONGER
+            },
+            Call {
+                settings: "",
+                log: &[Change::Front(100)],
+                wanted: "refused store damaged 57\n",
+                ends: Status::Store,
+                ..LONGER
+            },
+        ],
+    )
+}
+
+/// A run of that query, by which the store grows. It saves a checkpoint of three payments, two of which are in the window.
+const GROWS: Call<'static> = Call {
+    words: &["run", "plan", "store", "3"],
+    failing_reads: &[],
+    wanted: "open 3 3 0\nstored 3\nsaved 3\ndone 3 3\n",
+    ..BY_COUNTRY
+};
+
+/// The log of the three payments before it grew.
+const BEFORE: [Change<'static>; 2] = [Change::Front(236), Change::More(&[0])];
+
+#[test]
+fn the_values_of_a_growth_and_its_defaults_are_verified_alike(rt: HostRuntime) -> Result<(), Fail> {
+    assert_left_behind(
+        &rt,
+        b"",
+        &[RUN_THREE, GROWS],
+        &[
+            BY_COUNTRY,
+            Call {
+                log: &BEFORE,
+                ..BY_COUNTRY
+            },
+            // another default is used only before the store grew
+            Call {
+                settings: "[stream.defaults]\ncountry = \"NL\"\n",
+                ..BY_COUNTRY
+            },
+            Call {
+                settings: "[stream.defaults]\ncountry = \"NL\"\n",
+                log: &BEFORE,
+                wanted: "slot 0 wrong 0\nslot 1 none\n",
+                ends: Status::Differs,
+                ..BY_COUNTRY
+            },
+            Call {
+                wanted: "refused store schema\n",
+                ends: Status::Store,
+                ..VERIFY
+            },
+        ],
+    )
+}
+
 /// Verifies over these files, on a host whose call of this number fails, put what is wanted, and end so. Gives how many
 /// calls they make.
 fn calls_failing(

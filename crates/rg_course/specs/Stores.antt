@@ -14,9 +14,9 @@ use Rattle.rg_course.specs.Pieces.{whole_pieces}
 pub record Store (Image : Type 0) : Type 1 where
   -- nothing in the image says what isn't so
   pub IsTruthful : Image → Type 0
-  -- the log is of the plan's schema, or has no frame
+  -- the log is of the plan's schema, or of one that grows to it by the plan's defaults, or has no frame
   pub IsOfSchema : Image → Type 0
-  -- the log's events are these
+  -- these are the log's events, for the plan of a run
   pub HasEvents : List Event → Image → Type 0
   -- the slot of that number is complete, has the plan's queries, and counts at least so many events
   pub HasSaved : ℕ → ℕ → Image → Type 0

@@ -4,6 +4,7 @@ ghost use Rattle.rg_reservoir.specs.Kept.{log_of, opened};
 
 use crate::payments::{FILE, PLACE, SCHEMA, SCHEMA_PAYLOAD, TWO, WRITTEN, file, host_with};
 use rg_event::{Event, Room, Schema, Value, Values, Word};
+use rg_growth::Defaults;
 use rg_host::{FuseHost, Host, MemHost};
 use rg_past::{Past, PastFault, Spot};
 use rg_reservoir::{Reservoir, ReservoirFault, Stage, Stored, Walk};
@@ -74,7 +75,25 @@ fn put<H: Host>(reservoir: &mut Reservoir, host: &mut H, event: Event) -> Result
     }
 }
 
-/// A reservoir of the log with this schema, with chunks of one event.
+/// A reservoir of the log with this schema, whose columns have no defaults.
+fn attach<H: Host>(
+    alloc: Global,
+    host: &mut H,
+    text: &[u8],
+    room: Room,
+) -> Result<Reservoir, ReservoirFault>
+    requires chunk { (1 ≤ room.chunk) × (room.chunk ≤ 4096) }
+    requires cache { (1 ≤ room.cache) × (room.cache ≤ 1024) }
+    requires limit { room.limit ≤ 2 ^ 40 }
+    ensures reaches { IfOk result (λ r. ReachesEnd (log_of r) (H.now host.new)) }
+    ensures empty { IfOk result (λ r. opened r ≡ []) }
+{
+    let schema = schema(alloc, text)?;
+    let defaults = Defaults::none(alloc, schema.fields())?;
+    Reservoir::attach(alloc, host, &schema, &defaults, room)
+}
+
+/// The same with chunks of one event.
 pub(crate) fn attached<H: Host>(
     alloc: Global,
     host: &mut H,
@@ -90,8 +109,7 @@ pub(crate) fn attached<H: Host>(
         cache,
         limit: 100,
     };
-    let schema = schema(alloc, text)?;
-    Reservoir::attach(alloc, host, &schema, room)
+    attach(alloc, host, text, room)
 }
 
 /// Puts three events of offset 0, 1 and 2, without columns.
@@ -233,8 +251,7 @@ pub(crate) fn payments<H: Host>(alloc: Global, host: &mut H) -> Result<Reservoir
         cache: 1,
         limit: 100,
     };
-    let schema = schema(alloc, SCHEMA)?;
-    Reservoir::attach(alloc, host, &schema, room)
+    attach(alloc, host, SCHEMA, room)
 }
 
 /// Begins a log and commits two payments. Whether the log was of 58 bytes and without payments before.
@@ -455,10 +472,7 @@ fn refusal_on(alloc: Global, host: &mut MemHost, text: &[u8]) -> Option<Reservoi
         cache: 1,
         limit: 2,
     };
-    match schema(alloc, text) {
-        Ok(schema) => Reservoir::attach(alloc, host, &schema, room).err(),
-        Err(fault) => Some(fault),
-    }
+    attach(alloc, host, text, room).err()
 }
 
 /// Why a log with this byte in place of the one that stood there isn't attached.

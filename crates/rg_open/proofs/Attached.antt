@@ -1,43 +1,38 @@
 -- A log that was attached over a store of the plan.
-use Rattle.std.proofs.Common.{◌≡◌, ◌≢◌, ◌∙◌, inl, inr, ℕ, false, List, [], Option, Some, None, refl, sym, subst, arith}
+use Rattle.std.proofs.Common.{◌≡◌, ◌≢◌, ◌∙◌, ℕ, false, List, [], Option, Some, None, refl, sym, subst, arith}
 use Rattle.std.specs.Option.{ForSome}
 use Rattle.rg_host.specs.Image.{Image, NothingPending}
-use Rattle.rg_event.specs.Shapes.{Shape, IsSchema}
+use Rattle.rg_event.specs.Shapes.{IsSchema}
 use Rattle.rg_event.specs.declared.event.Event.{Event}
 use Rattle.rg_frame.specs.Steps.{Leaves}
-use Rattle.rg_log.specs.Log.{schema_payload, HasEvents, HasLegalLog, IsOfSchema}
-use Rattle.rg_log.proofs.Growing.{begins_log}
+use Rattle.rg_frame.proofs.FrameLists.{payloads_one}
+use Rattle.rg_log.specs.Filled.{HasEventsFor}
+use Rattle.rg_log.proofs.Filled.{for_legal}
 use Rattle.rg_config.specs.Plans.{Planned}
 use Rattle.rg_checkpoint.specs.Sizes.{ReachesSizes}
 use Rattle.rg_checkpoint.specs.Slots.{Attached, IsSlot, AreSizes, ReachesSlots}
 use Rattle.rg_restore.specs.declared.choosing.Saved.{Saved}
-use Rattle.rg_reservoir.specs.Attached.{SchemaAdded}
+use Rattle.rg_reservoir.specs.Attached.{LogOpens}
 use Rattle.rg_reservoir.specs.Kept.{base, opened, all_events, IsSound}
 use Rattle.rg_reservoir.specs.declared.reservoir.Reservoir.{Reservoir}
 use Rattle.rg_course.specs.Steps.{IsMidStep, IsStepped}
 use Rattle.rg_open.specs.Stores.{store_of}
-use Rattle.rg_open.proofs.Images.{events_in}
 use Rattle.rg_open.proofs.Sound.{open_left, opened_left}
 use Rattle.rg_open.specs.Opened.{AreSized, AreSizesLeft}
 use Rattle.rg_open.specs.Opening.{IsOpenable, AreSlots, IsFound}
 use Rattle.rg_open.specs.Settling.{AreSettled}
 
--- a truthful image of the plan's schema, or without a frame, has events
-pub events_of : (shape : Shape) (bytes : List ℕ) → IsSchema shape → HasLegalLog bytes → IsOfSchema shape bytes → (events : List Event) × HasEvents shape events bytes
-events_of shape bytes schema log (inl none) = ([], (begins_log shape bytes bytes schema none (λ payloads is. inl is)).1)
-events_of shape bytes schema log (inr framed) = events_in shape bytes framed log
-
 -- what is openable stays so, where the host tells the same and a crash leaves no more
 pub openable_still : (plan : Planned) (now then : Option Image) (may after : Image → Type 0) → then ≡ now → ((u : Image) → after u → may u) → IsOpenable plan now may → IsOpenable plan then after
 openable_still plan now then may after same fewer is = record { image = is.image; told = same ∙ is.told; truthful = λ u left. is.truthful u (fewer u left); schema = λ u left. is.schema u (fewer u left) }
 
-module _ (plan : Planned) (schema : IsSchema plan.shape) (keep : Option ℕ) (now : Option Image) (may : Image → Type 0) (v : Image) (told : now ≡ Some v) (settled : NothingPending 2 now may) (u : Image) (left : Leaves 2 (SchemaAdded (schema_payload plan.shape)) now may u) where
+module _ (plan : Planned) (schema : IsSchema plan.shape) (keep : Option ℕ) (now : Option Image) (may : Image → Type 0) (v : Image) (told : now ≡ Some v) (settled : NothingPending 2 now may) (u : Image) (left : Leaves 2 (LogOpens plan.shape plan.defaults) now may u) where
   -- within the opening of a log, and after it
   pub mid_step : IsMidStep (store_of plan) keep [] may u
-  mid_step = open_left plan schema keep v may (subst (λ (n : Option Image). NothingPending 2 n may) told settled) u (subst (λ (n : Option Image). Leaves 2 (SchemaAdded (schema_payload plan.shape)) n may u) told left)
+  mid_step = open_left plan schema keep v may (subst (λ (n : Option Image). NothingPending 2 n may) told settled) u (subst (λ (n : Option Image). Leaves 2 (LogOpens plan.shape plan.defaults) n may u) told left)
 
   pub stepped : IsStepped (store_of plan) keep [] may u
-  stepped = opened_left plan schema keep v may (subst (λ (n : Option Image). NothingPending 2 n may) told settled) u (subst (λ (n : Option Image). Leaves 2 (SchemaAdded (schema_payload plan.shape)) n may u) told left)
+  stepped = opened_left plan schema keep v may (subst (λ (n : Option Image). NothingPending 2 n may) told settled) u (subst (λ (n : Option Image). Leaves 2 (LogOpens plan.shape plan.defaults) n may u) told left)
 
 -- a slot isn't written
 slot_same : (i : ℕ) (Step : List ℕ → List ℕ → Type 0) (now : Option Image) (may : Image → Type 0) (v u : Image) → i ≢ 2 → now ≡ Some v → NothingPending i now may → Leaves 2 Step now may u → u i ≡ v i
@@ -74,17 +69,17 @@ reach_left Step (Some v) then may after untold reads settled left slots reach go
       subst (ReachesSizes slots.second_sizes) (sym (slot_same 1 Step (Some v) may v w (λ e. absurd (omega (arith, e))) refl settled.second step)) was.1,
     )
 
-module _ (plan : Planned) (schema : IsSchema plan.shape) (now then : Option Image) (may after : Image → Type 0) (openable : IsOpenable plan now may) (settled : AreSettled now may) (left : (u : Image) → after u → Leaves 2 (SchemaAdded (schema_payload plan.shape)) now may u) where
+module _ (plan : Planned) (schema : IsSchema plan.shape) (now then : Option Image) (may after : Image → Type 0) (openable : IsOpenable plan now may) (settled : AreSettled now may) (left : (u : Image) → after u → Leaves 2 (LogOpens plan.shape plan.defaults) now may u) where
   -- what was found
-  pub found_by : (r : Reservoir) (saved : Saved) → ((v : Image) (events : List Event) → now ≡ Some v → NothingPending 2 now may → HasEvents plan.shape events (v 2) → IsSound then after r × (all_events then (base r) (opened r) ≡ events))
+  pub found_by : (r : Reservoir) (saved : Saved) → ((v : Image) (events : List Event) → now ≡ Some v → NothingPending 2 now may → HasEventsFor plan.shape plan.defaults events (v 2) → IsSound then after r × (all_events then (base r) (opened r) ≡ events))
       → ForSome now (λ v. AreSlots v saved) → ((v : Image) → now ≡ Some v → may v) → (base r).ended ≡ false → (base r).file ≡ 2 → (base r).shape ≡ plan.shape → opened r ≡ [] → IsFound plan then after r saved
   found_by r saved sound slots reads going file shape empty =
       let v = openable.image in
       let at : may v = reads v openable.told in
-      let events = events_of plan.shape (v 2) schema (openable.truthful v at).log (openable.schema v at) in
+      let events = for_legal payloads_one plan.shape plan.defaults (v 2) schema (openable.truthful v at).log (openable.schema v at) in
       record {
         reservoir = record { sound = (sound v events.0 openable.told settled.log events.1).0; going = going; file = file; shape = shape };
         empty = empty;
         truthful = λ u one. let step = stepped plan schema None now may v openable.told settled.log u (left u one) in step.truthful (openable.truthful step.from step.left);
-        slots = held_left (SchemaAdded (schema_payload plan.shape)) now may after v openable.told settled left saved (slots v openable.told);
+        slots = held_left (LogOpens plan.shape plan.defaults) now may after v openable.told settled left saved (slots v openable.told);
       }

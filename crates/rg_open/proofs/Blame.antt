@@ -1,16 +1,22 @@
 -- Which node of the used checkpoint isn't true, from the spots of a reservoir to those of its log.
-use Rattle.std.proofs.Common.{◌≡◌, ◌∙◌, ◌↔◌, inl, inr, ℕ, List, [], ◌∷◌, length, Option, Some, refl, sym, ap, subst}
+use Rattle.std.proofs.Common.{◌≡◌, ◌∙◌, ◌↔◌, inl, inr, ℕ, List, [], ◌∷◌, ◌++◌, length, Option, Some, option_and_then, refl, sym, ap, subst}
 use Rattle.std.specs.Prelude.{All}
+use Rattle.std.proofs.lemmas.List.{append-nil}
 use Rattle.std.proofs.lemmas.List.Elements.{All-nil}
 use Rattle.rg_host.specs.Image.{Image}
 use Rattle.rg_event.specs.Shapes.{Shape}
 use Rattle.rg_event.specs.declared.event.Event.{Event}
 use Rattle.rg_event.specs.declared.schema.Field.{Field}
+use Rattle.rg_event.specs.declared.value.Value.{Value}
+use Rattle.rg_growth.specs.Filling.{IsFilled, filled}
+use Rattle.rg_growth.proofs.Filled.{not_itself}
 use Rattle.rg_past.specs.declared.past.Spot.{Spot}
 use Rattle.rg_frame.specs.Frames.{FitsFrame, HasPayloads}
 use Rattle.rg_frame.proofs.FrameLists.{payloads_one}
-use Rattle.rg_log.specs.Log.{schema_payload}
+use Rattle.rg_log.specs.Entries.{unread, behind, entries_after}
 use Rattle.rg_log.specs.Spots.{SpotAt}
+use Rattle.rg_log.specs.declared.entry.LogSoFar.{LogSoFar}
+use Rattle.rg_log.specs.declared.summary.LogSummary.{LogSummary}
 use Rattle.rg_config.specs.Plans.{Planned}
 use Rattle.rg_plan.specs.Plans.{Tasks, plan_for}
 use Rattle.rg_query.specs.Legal.{IsLegalQuery}
@@ -26,13 +32,15 @@ use Rattle.rg_restore.specs.Slots.{slot_in, IsBest}
 use Rattle.rg_restore.specs.Truthful.{NodeGoes, NodeIsTrue}
 use Rattle.rg_restore.proofs.Joining.{node_later}
 use Rattle.rg_restore.proofs.Trying.{fit_same}
-use Rattle.rg_reservoir.specs.Attached.{Opens}
+use Rattle.rg_reservoir.specs.Attached.{growth_payload, Opens}
 use Rattle.rg_reservoir.specs.Kept.{Base, base, opened, all_events, IsSound, Spells}
 use Rattle.rg_reservoir.specs.declared.reservoir.Reservoir.{Reservoir}
 use Rattle.rg_open.specs.Truth.{texts_of}
 use Rattle.rg_open.specs.Opened.{IsOpenedFor}
-use Rattle.rg_open.specs.Blame.{opened_list, IsAmiss, NodeRuns}
+use Rattle.rg_open.specs.Stores.{Has}
+use Rattle.rg_open.specs.Blame.{payload_of, growth_behind, opened_list, IsAmiss, NodeRuns}
 use Rattle.rg_open.proofs.Logs.{spelled, in_log}
+use Rattle.rg_open.proofs.ToGrow.{has_frame}
 
 -- the best one is the best by another test that each passes where it passes this one
 best_same : (A B : Checkpoint → Type 0) (slots : ℕ → Option Checkpoint) (i : ℕ) (used : Checkpoint) → ((c : Checkpoint) → A c ↔ B c) → IsBest A slots i used → IsBest B slots i used
@@ -108,13 +116,39 @@ module _ (plan : Planned) (now : Option Image) (may : Image → Type 0) (r : Res
     pub amiss_in : (events : List Event) (saved : Saved) (n : ℕ) → all ≡ events → IsAmiss Spelled plan all saved n → IsAmiss (SpotAt payloads) plan events saved n
     amiss_in events saved n same amiss = subst (λ (l : List Event). IsAmiss (SpotAt payloads) plan l saved n) same (amiss_same Spelled (SpotAt payloads) plan all saved n at amiss)
 
--- a log that was opened has its frame list, or the schema's frame where it had none
-pub list_opened : (shape : Shape) (first end : ℕ) (payloads : List (List ℕ)) (old new start : List ℕ) (further : List (List ℕ)) → Opens (schema_payload shape) first end old new → HasPayloads (start ∷ further) new → HasPayloads payloads old → HasPayloads (opened_list shape payloads) new
-list_opened shape first end [] old new start further (inl same) here has =
-    let one : ◌≡◌ {A = List (List ℕ)} [] (start ∷ further) = payloads_one [] (start ∷ further) new (subst (λ (l : List ℕ). HasPayloads [] l) (sym same) has) here in
-    absurd cc
-list_opened shape first end (p ∷ payloads) old new start further (inl same) here has = subst (λ (l : List ℕ). HasPayloads (p ∷ payloads) l) (sym same) has
-list_opened shape first end [] old new start further (inr (none, ends, grown)) here has = grown [] has
-list_opened shape first end (p ∷ payloads) old new start further (inr (none, ends, grown)) here has =
-    let one : ◌≡◌ {A = List (List ℕ)} [] (p ∷ payloads) = payloads_one [] (p ∷ payloads) old (record { frames = (0, none); fit = All-nil FitsFrame }) has in
-    absurd cc
+-- a log has its frame list, whether its own schema is the plan's or grows to it
+pub list_for : (plan : Planned) (events : List Event) (v : Image) → Has plan events v → (payloads : List (List ℕ)) × HasPayloads payloads (v 2)
+list_for plan events v (inl has) = (has.1.payloads, has.1.has)
+list_for plan events v (inr filled) = (filled.has.1.payloads, filled.has.1.has)
+
+-- the frame list of an opened log whose frames say a schema
+list_said : (plan : Planned) (p : List ℕ) (payloads : List (List ℕ)) (shape : Shape) (summary : LogSummary) → entries_after unread (p ∷ payloads) ≡ Some (behind shape summary) → opened_list plan (p ∷ payloads) ≡ (p ∷ payloads) ++ payload_of plan.shape (filled shape plan.shape plan.defaults)
+list_said plan p payloads shape summary say = ap (λ (o : Option LogSoFar). (p ∷ payloads) ++ growth_behind plan (option_and_then (λ (so_far : LogSoFar). so_far.schema) o)) say
+
+-- no schema grows to itself
+list_same : (plan : Planned) (p : List ℕ) (payloads : List (List ℕ)) (summary : LogSummary) → entries_after unread (p ∷ payloads) ≡ Some (behind plan.shape summary) → opened_list plan (p ∷ payloads) ≡ p ∷ payloads
+list_same plan p payloads summary say =
+    list_said plan p payloads plan.shape summary say ∙ ap (λ (values : Option (List Value)). (p ∷ payloads) ++ payload_of plan.shape values) (not_itself plan.shape plan.defaults) ∙ append-nil (p ∷ payloads)
+
+list_grown : (plan : Planned) (p : List ℕ) (payloads : List (List ℕ)) (from : Shape) (values : List Value) (summary : LogSummary) → IsFilled from plan.shape plan.defaults values → entries_after unread (p ∷ payloads) ≡ Some (behind from summary)
+    → opened_list plan (p ∷ payloads) ≡ (p ∷ payloads) ++ growth_payload plan.shape values ∷ []
+list_grown plan p payloads from values summary fills say = list_said plan p payloads from summary say ∙ ap (λ (o : Option (List Value)). (p ∷ payloads) ++ payload_of plan.shape o) fills.filled_is
+
+-- A log that was opened has its frame list, or the schema's frame where it had none, or a growth behind it; then the plan's schema is in force.
+module _ (plan : Planned) (first end : ℕ) (old new start : List ℕ) (further : List (List ℕ)) (here : HasPayloads (start ∷ further) new) (summary : LogSummary) (say : entries_after unread (start ∷ further) ≡ Some (behind plan.shape summary)) where
+  pub list_opened : (payloads : List (List ℕ)) → Opens plan.shape plan.defaults first end old new → HasPayloads payloads old → HasPayloads (opened_list plan payloads) new
+  list_opened [] (inl same) has =
+      let one : ◌≡◌ {A = List (List ℕ)} [] (start ∷ further) = payloads_one [] (start ∷ further) new (subst (λ (l : List ℕ). HasPayloads [] l) (sym same) has) here in
+      absurd cc
+  list_opened (p ∷ payloads) (inl same) has =
+      let still : HasPayloads (p ∷ payloads) new = subst (λ (l : List ℕ). HasPayloads (p ∷ payloads) l) (sym same) has in
+      let says : entries_after unread (p ∷ payloads) ≡ Some (behind plan.shape summary) = ap (entries_after unread) (payloads_one (p ∷ payloads) (start ∷ further) new still here) ∙ say in
+      subst (λ (l : List (List ℕ)). HasPayloads l new) (sym (list_same plan p payloads summary says)) still
+  list_opened [] (inr (inl (none, ends, grown))) has = grown [] has
+  list_opened (p ∷ payloads) (inr (inl (none, ends, grown))) has =
+      let one : ◌≡◌ {A = List (List ℕ)} [] (p ∷ payloads) = payloads_one [] (p ∷ payloads) old (record { frames = (0, none); fit = All-nil FitsFrame }) has in
+      absurd cc
+  list_opened [] (inr (inr (g, grown))) has = absurd (has_frame plan.shape plan.defaults old g has)
+  list_opened (p ∷ payloads) (inr (inr (g, grown))) has =
+      let says : entries_after unread (p ∷ payloads) ≡ Some (behind g.from g.summary) = ap (entries_after unread) (payloads_one (p ∷ payloads) g.payloads old has g.has) ∙ g.say in
+      subst (λ (l : List (List ℕ)). HasPayloads l new) (sym (list_grown plan p payloads g.from g.values g.summary g.fills says)) (grown (p ∷ payloads) has)

@@ -14,6 +14,7 @@ use Rattle.rg_growth.specs.declared.growth.Growth.{Growth}
 use Rattle.rg_chunk.specs.Extended.{all_extended}
 use Rattle.rg_log.specs.Log.{HasEvents, HasLegalLog, IsInForce}
 use Rattle.rg_log.specs.Spots.{SpotIn}
+use Rattle.rg_log.proofs.Filled.{events_in}
 use Rattle.rg_log.proofs.Growing.{grows_log}
 use Rattle.rg_log.proofs.Spelling.{spot_stays_in}
 use Rattle.rg_log.proofs.Staging.{events_of_schema}
@@ -24,7 +25,7 @@ use Rattle.rg_restore.proofs.Saving.{same_past}
 use Rattle.rg_open.specs.Truth.{IsTrueFor, IsTrueOf, IsTruthfulImage}
 use Rattle.rg_open.proofs.GrownRows.{checkpoint_stays}
 use Rattle.rg_open.proofs.GrownTexts.{said_stays, texts_stay}
-use Rattle.rg_open.proofs.Images.{below_apart, events_in}
+use Rattle.rg_open.proofs.Images.{below_apart}
 use Rattle.rg_open.proofs.Truths.{true_for}
 
 module _ (shape : Shape) (growth : Growth) (payload old new : List ℕ) (framed : IsInForce shape old) (said : IsGrowth shape payload growth) (step : Grows payload old new) where
@@ -80,7 +81,7 @@ module _ (shape : Shape) (growth : Growth) (payload old new : List ℕ) (framed 
 -- a growth comes behind the log, and the other files are as they were
 pub grows : (shape : Shape) (growth : Growth) (payload : List ℕ) (u v : Image) → IsInForce shape (u 2) → IsGrowth shape payload growth → Grows payload (u 2) (v 2) → ((f : ℕ) → f ≢ 2 → v f ≡ u f) → IsTruthfulImage u → IsTruthfulImage v
 grows shape growth payload u v framed said step others is =
-    let events = events_in shape (u 2) framed is.log in
+    let events = events_in payloads_one shape (u 2) framed is.log in
     record {
       log = grown_legal shape growth payload (u 2) (v 2) framed said step events.0 events.1;
       slots = λ i below checkpoint slot.

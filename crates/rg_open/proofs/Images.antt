@@ -8,9 +8,9 @@ use Rattle.rg_event.specs.declared.event.Event.{Event}
 use Rattle.rg_frame.specs.Frames.{FitsFrame, HasPayloads}
 use Rattle.rg_frame.specs.Steps.{Grows}
 use Rattle.rg_frame.proofs.FrameLists.{payloads_one}
-use Rattle.rg_log.specs.Log.{schema_payload, IsChunkOf, IsLegalLog, HasEvents, HasLegalLog, IsInForce}
-use Rattle.rg_log.specs.Stages.{logged}
-use Rattle.rg_log.proofs.Growing.{one_schema, in_force_of, begins_log}
+use Rattle.rg_log.specs.Log.{schema_payload, IsChunkOf, HasLegalLog}
+use Rattle.rg_log.proofs.Filled.{events_in}
+use Rattle.rg_log.proofs.Growing.{begins_log}
 use Rattle.rg_checkpoint.specs.declared.base.Checkpoint.{Checkpoint}
 use Rattle.rg_checkpoint.specs.Slots.{HasSlot, HasNoSlot}
 use Rattle.rg_checkpoint.proofs.SlotLaws.{slot_is_one, none_slot}
@@ -20,14 +20,6 @@ use Rattle.rg_open.proofs.Truths.{no_schema, true_for, grows_true, grows_legal}
 pub below_apart : (i : ℕ) → i < 2 → i ≢ 2
 below_apart i below e = absurd (omega (arith, below, e))
 
--- the events of a legal log at whose end that schema is in force
-pub events_in : (shape : Shape) (bytes : List ℕ) → IsInForce shape bytes → HasLegalLog bytes → (events : List Event) × HasEvents shape events bytes
-events_in shape bytes framed (inl none) = absurd (no_schema shape bytes none framed)
-events_in shape bytes framed (inr is) =
-    let here : IsInForce is.0 bytes = in_force_of payloads_one is.0 (logged is.1) bytes (framed.0, framed.1, framed.3) (is.1, is.2, refl) in
-    let same : is.0 ≡ shape = one_schema payloads_one is.0 shape bytes here framed in
-    (logged is.1, (is.1, subst (λ (s : Shape). IsLegalLog s is.1 bytes) same is.2, refl))
-
 -- a slot is as it was, where another file was written
 slot_stays : (i : ℕ) (u v : Image) (checkpoint : Checkpoint) → v i ≡ u i → HasSlot (v i) checkpoint → HasSlot (u i) checkpoint
 slot_stays i u v checkpoint same slot = subst (λ (bytes : List ℕ). HasSlot bytes checkpoint) same slot
@@ -36,7 +28,7 @@ slot_stays i u v checkpoint same slot = subst (λ (bytes : List ℕ). HasSlot by
 pub commits : (shape : Shape) (payload : List ℕ) (chunk : List Event) (u v : Image) → IsSchema shape → MayGrow shape chunk (u 2) → IsChunkOf shape payload chunk → Grows payload (u 2) (v 2) → ((f : ℕ) → f ≢ 2 → v f ≡ u f)
     → IsTruthfulImage u → IsTruthfulImage v
 commits shape payload chunk u v schema may said step others is =
-    let events = events_in shape (u 2) may.framed is.log in
+    let events = events_in payloads_one shape (u 2) may.framed is.log in
     record {
       log = grows_legal shape payload chunk (u 2) (v 2) may said step events.0 events.1;
       slots = λ i below checkpoint slot.

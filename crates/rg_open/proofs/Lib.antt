@@ -1,5 +1,6 @@
 pub mod Truths
 pub mod Images
+pub mod ToGrow
 pub mod Steps
 pub mod Sound
 pub mod Saving

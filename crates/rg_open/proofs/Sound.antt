@@ -5,15 +5,15 @@ use Rattle.rg_host.specs.Image.{Image, NothingPending}
 use Rattle.rg_event.specs.Rising.{IsRising}
 use Rattle.rg_event.specs.Shapes.{Shape, IsSchema}
 use Rattle.rg_event.specs.declared.event.Event.{Event}
-use Rattle.rg_frame.specs.Frames.{HasPayloads, EndsAt}
+use Rattle.rg_frame.specs.Frames.{EndsAt}
 use Rattle.rg_frame.specs.Steps.{Leaves, From, Grows, Grown}
 use Rattle.rg_frame.proofs.FrameLists.{payloads_one}
 use Rattle.rg_chunk.specs.Chunks.{chunk_bytes}
 use Rattle.rg_cache.specs.Cache.{Cache}
-use Rattle.rg_log.specs.Log.{schema_payload, joined, IsChunkOf, HasEvents, IsInForce}
+use Rattle.rg_log.specs.Log.{joined, IsChunkOf, HasEvents, IsInForce}
 use Rattle.rg_log.proofs.Growing.{one_list}
 use Rattle.rg_reservoir.specs.declared.kept.Kept.{Kept}
-use Rattle.rg_reservoir.specs.Attached.{SchemaAdded}
+use Rattle.rg_reservoir.specs.Attached.{LogOpens}
 use Rattle.rg_reservoir.specs.Kept.{Base, all_events, IsRight, Adds, Added}
 use Rattle.rg_reservoir.proofs.Committed.{rises, fewer, is_chunk, ends_at}
 use Rattle.rg_reservoir.proofs.Seeking.{stored_is}
@@ -21,7 +21,7 @@ use Rattle.rg_config.specs.Plans.{Planned}
 use Rattle.rg_course.specs.Steps.{IsMidStep, IsStepped}
 use Rattle.rg_open.specs.Truth.{MayGrow}
 use Rattle.rg_open.specs.Stores.{store_of}
-use Rattle.rg_open.proofs.Steps.{for_some, stays_mid, stays_stepped, commit_mid, commit_stepped, first_mid, first_stepped}
+use Rattle.rg_open.proofs.Steps.{for_some, stays_mid, stays_stepped, commit_mid, commit_stepped, first_mid, first_stepped, growth_mid, growth_stepped}
 
 -- where one file is as it was, and so are the others
 all_same : (file : ℕ) (u v : Image) → ((f : ℕ) → f ≢ file → v f ≡ u f) → v file ≡ u file → (f : ℕ) → v f ≡ u f
@@ -100,10 +100,10 @@ module _ (plan : Planned) (v : Image) (may : Image → Type 0) (b : Base) (opene
         by (inr new) = commit_stepped plan schema keep (chunk_bytes b.shape.fields opened) opened may x u l.0.1 l.0.2 (may_grow new.0 x l.0.1) (chunk_is new.0)
             (subst (λ (bytes : List ℕ). Grown (chunk_bytes b.shape.fields opened) bytes (u 2)) (sym same) (subst (λ (bytes : List ℕ). Grown (chunk_bytes b.shape.fields opened) (v 2) bytes) (sym read) new.1))
 
--- Opening a log: it is as it was, or the schema's frame comes behind a log without a frame.
+-- Opening a log: it is as it was, or the schema's frame comes behind a log without a frame, or a growth behind one that grows to the schema.
 module _ (plan : Planned) (legal : IsSchema plan.shape) (keep : Option ℕ) (v : Image) (may : Image → Type 0) (settled : NothingPending 2 (Some v) may) where
-  pub open_left : (u : Image) → Leaves 2 (SchemaAdded (schema_payload plan.shape)) (Some v) may u → IsMidStep (store_of plan) keep [] may u
-  open_left u left = by (left.1 settled v refl)
+  pub open_left : (u : Image) → Leaves 2 (LogOpens plan.shape plan.defaults) (Some v) may u → IsMidStep (store_of plan) keep [] may u
+  open_left u left = by (subst (λ (bytes : List ℕ). LogOpens plan.shape plan.defaults bytes (u 2)) (sym same) (left.1 settled v refl))
     where
       x : Image
       x = left.0.0
@@ -111,12 +111,13 @@ module _ (plan : Planned) (legal : IsSchema plan.shape) (keep : Option ℕ) (v :
       same : x 2 ≡ v 2
       same = settled v refl x left.0.1
 
-      by : SchemaAdded (schema_payload plan.shape) (v 2) (u 2) → IsMidStep (store_of plan) keep [] may u
-      by (inl old) = stays_mid plan keep [] may x u left.0.1 (all_same 2 x u left.0.2 (old ∙ sym same))
-      by (inr new) = first_mid plan legal keep may x u left.0.1 left.0.2 (subst (HasPayloads []) (sym same) new.0) (subst (λ (bytes : List ℕ). Grows (schema_payload plan.shape) bytes (u 2)) (sym same) new.1)
+      by : LogOpens plan.shape plan.defaults (x 2) (u 2) → IsMidStep (store_of plan) keep [] may u
+      by (inl (inl old)) = stays_mid plan keep [] may x u left.0.1 (all_same 2 x u left.0.2 old)
+      by (inl (inr new)) = first_mid plan legal keep may x u left.0.1 left.0.2 new.0 new.1
+      by (inr new) = growth_mid plan keep may x u left.0.1 left.0.2 new.0 new.1
 
-  pub opened_left : (u : Image) → Leaves 2 (SchemaAdded (schema_payload plan.shape)) (Some v) may u → IsStepped (store_of plan) keep [] may u
-  opened_left u left = by (left.1 settled v refl)
+  pub opened_left : (u : Image) → Leaves 2 (LogOpens plan.shape plan.defaults) (Some v) may u → IsStepped (store_of plan) keep [] may u
+  opened_left u left = by (subst (λ (bytes : List ℕ). LogOpens plan.shape plan.defaults bytes (u 2)) (sym same) (left.1 settled v refl))
     where
       x : Image
       x = left.0.0
@@ -124,6 +125,7 @@ module _ (plan : Planned) (legal : IsSchema plan.shape) (keep : Option ℕ) (v :
       same : x 2 ≡ v 2
       same = settled v refl x left.0.1
 
-      by : SchemaAdded (schema_payload plan.shape) (v 2) (u 2) → IsStepped (store_of plan) keep [] may u
-      by (inl old) = stays_stepped plan keep [] may x u refl left.0.1 (all_same 2 x u left.0.2 (old ∙ sym same))
-      by (inr new) = first_stepped plan legal keep may x u left.0.1 left.0.2 (subst (HasPayloads []) (sym same) new.0) (subst (λ (bytes : List ℕ). Grows (schema_payload plan.shape) bytes (u 2)) (sym same) new.1)
+      by : LogOpens plan.shape plan.defaults (x 2) (u 2) → IsStepped (store_of plan) keep [] may u
+      by (inl (inl old)) = stays_stepped plan keep [] may x u refl left.0.1 (all_same 2 x u left.0.2 old)
+      by (inl (inr new)) = first_stepped plan legal keep may x u left.0.1 left.0.2 new.0 new.1
+      by (inr new) = growth_stepped plan keep may x u left.0.1 left.0.2 new.0 new.1

@@ -7,12 +7,15 @@ use Rattle.std.specs.Option.{ForSome}
 use Rattle.rg_host.specs.Image.{Image}
 use Rattle.rg_event.specs.Shapes.{IsSchema}
 use Rattle.rg_event.specs.declared.event.Event.{Event}
+use Rattle.rg_growth.specs.Filling.{growth_to}
 use Rattle.rg_frame.specs.Frames.{HasPayloads}
 use Rattle.rg_frame.specs.Steps.{Leaves, Grows, Grown}
 use Rattle.rg_frame.proofs.FrameLists.{payloads_one}
-use Rattle.rg_log.specs.Log.{schema_payload, IsChunkOf, HasEvents, IsInForce, IsOfSchema}
+use Rattle.rg_log.specs.Filled.{HasEventsFor, IsOfSchemaFor}
+use Rattle.rg_log.specs.Log.{schema_payload, IsChunkOf, HasEvents, IsInForce}
 use Rattle.rg_log.specs.Stages.{chunk as chunk_stage}
-use Rattle.rg_log.proofs.Growing.{adds_log, added_log, begins_log, one_list}
+use Rattle.rg_log.proofs.Filled.{own_events, unframed_events, grows_for, schema_for}
+use Rattle.rg_log.proofs.Growing.{adds_log, added_log, begins_log}
 use Rattle.rg_log.proofs.Staging.{has-push}
 use Rattle.rg_config.specs.Plans.{Planned}
 use Rattle.rg_checkpoint.specs.declared.base.Checkpoint.{Checkpoint}
@@ -21,12 +24,16 @@ use Rattle.rg_checkpoint.specs.Sizes.{OfSizes}
 use Rattle.rg_checkpoint.specs.Slots.{HasSlot, HasNoSlot, AreSizes, Lengthens, Lengthened, other_of, IsKeep}
 use Rattle.rg_checkpoint.specs.Updates.{Applies}
 use Rattle.rg_checkpoint.proofs.SlotLaws.{kept_apart, slot_is_one}
+use Rattle.rg_reservoir.specs.Attached.{IsToGrow, growth_payload}
+use Rattle.rg_reservoir.proofs.Legal.{to_grow_in_force}
 use Rattle.rg_course.specs.Steps.{IsMidStep, IsStepped, IsSavedTo}
 use Rattle.rg_open.specs.Truth.{texts_of, IsTrueOf, IsTruthfulImage, MayGrow}
 use Rattle.rg_open.specs.Opened.{IsToExtend}
-use Rattle.rg_open.specs.Stores.{HasSaved, store_of}
-use Rattle.rg_open.proofs.Truths.{grown_grows}
+use Rattle.rg_open.specs.Stores.{HasSaved, IsOfPlan, Has, store_of}
+use Rattle.rg_open.proofs.GrownTruth.{grows}
 use Rattle.rg_open.proofs.Images.{below_apart, commits, begins, writes, same_image}
+use Rattle.rg_open.proofs.ToGrow.{framed_in, framed_of}
+use Rattle.rg_open.proofs.Truths.{grown_grows}
 
 some_is : (w x : Image) → Some w ≡ Some x → w ≡ x
 some_is w x e = cc
@@ -63,8 +70,8 @@ stays_mid plan keep chunk may u v left same = record {
   from = u;
   left = left;
   truthful = same_image u v same;
-  schema = λ is. subst (IsOfSchema plan.shape) (sym (same 2)) is;
-  events = λ es has. inl (subst (HasEvents plan.shape es) (sym (same 2)) has);
+  schema = λ is. subst (IsOfSchemaFor plan.shape plan.defaults) (sym (same 2)) is;
+  events = λ es has. inl (subst (HasEventsFor plan.shape plan.defaults es) (sym (same 2)) has);
   slots = λ slot count is has. saved_behind plan slot count u v (λ f apart. same f) has;
 }
 
@@ -73,8 +80,8 @@ stays_stepped plan keep chunk may u v none left same = record {
   from = u;
   left = left;
   truthful = same_image u v same;
-  schema = λ is. subst (IsOfSchema plan.shape) (sym (same 2)) is;
-  events = λ es has. subst (λ (l : List Event). HasEvents plan.shape l (v 2)) (sym (append-nil es) ∙ ap (λ (l : List Event). es ++ l) (sym none)) (subst (HasEvents plan.shape es) (sym (same 2)) has);
+  schema = λ is. subst (IsOfSchemaFor plan.shape plan.defaults) (sym (same 2)) is;
+  events = λ es has. subst (λ (l : List Event). Has plan l v) (sym (append-nil es) ∙ ap (λ (l : List Event). es ++ l) (sym none)) (subst (HasEventsFor plan.shape plan.defaults es) (sym (same 2)) has);
   slots = λ slot count is has. saved_behind plan slot count u v (λ f apart. same f) has;
 }
 
@@ -91,9 +98,17 @@ module _ (plan : Planned) (schema : IsSchema plan.shape) where
     rest = fits.framed.1
 
     -- the schema stays in force
-    framed_by : HasPayloads (first ∷ rest) (v 2) ⊎ HasPayloads (first ∷ (rest ++ payload ∷ [])) (v 2) → IsOfSchema plan.shape (v 2)
-    framed_by (inl same) = inr (first, rest, fits.framed.2, same, fits.framed.4)
-    framed_by (inr more) = inr (first, rest ++ payload ∷ [], fits.framed.2 ++ chunk_stage chunk ∷ [], more, has-push plan.shape first rest fits.framed.2 payload (chunk_stage chunk) fits.framed.4 said)
+    framed_by : HasPayloads (first ∷ rest) (v 2) ⊎ HasPayloads (first ∷ (rest ++ payload ∷ [])) (v 2) → IsOfPlan plan v
+    framed_by (inl same) = inl (inr (first, rest, fits.framed.2, same, fits.framed.4))
+    framed_by (inr more) = inl (inr (first, rest ++ payload ∷ [], fits.framed.2 ++ chunk_stage chunk ∷ [], more, has-push plan.shape first rest fits.framed.2 payload (chunk_stage chunk) fits.framed.4 said))
+
+    -- since it is in force, the events for the plan are the log's own
+    own : (es : List Event) → Has plan es u → HasEvents plan.shape es (u 2)
+    own es has = own_events payloads_one plan.shape plan.defaults es (u 2) fits.framed has
+
+    for_plan : (es : List Event) → HasEvents plan.shape es (v 2) ⊎ HasEvents plan.shape (es ++ chunk) (v 2) → Has plan es v ⊎ Has plan (es ++ chunk) v
+    for_plan es (inl same) = inl (inl same)
+    for_plan es (inr more) = inr (inl more)
 
     -- at a moment of it
     pub commit_mid : Grows payload (u 2) (v 2) → IsMidStep (store_of plan) keep chunk may v
@@ -102,7 +117,7 @@ module _ (plan : Planned) (schema : IsSchema plan.shape) where
       left = left;
       truthful = commits plan.shape payload chunk u v schema fits said step others;
       schema = λ _. framed_by (step (first ∷ rest) fits.framed.3);
-      events = λ es has. (grows_of es has step).1;
+      events = λ es has. for_plan es (grows_of es (own es has) step).1;
       slots = λ slot count is has. saved_behind plan slot count u v others has;
     }
 
@@ -113,25 +128,27 @@ module _ (plan : Planned) (schema : IsSchema plan.shape) where
       left = left;
       truthful = commits plan.shape payload chunk u v schema fits said (grown_grows payload (u 2) (v 2) step) others;
       schema = λ _. framed_by (inr (step (first ∷ rest) fits.framed.3));
-      events = λ es has. (added_log payloads_one plan.shape es chunk payload (u 2) (v 2) fits.framed has said (fits.rises es has) (fits.fits es has) step).1;
+      events = λ es has.
+          let here = own es has in
+          inl (added_log payloads_one plan.shape es chunk payload (u 2) (v 2) fits.framed here said (fits.rises es here) (fits.fits es here) step).1;
       slots = λ slot count is has. saved_behind plan slot count u v others has;
     }
 
   -- The schema's frame comes behind a log without a frame.
   module _ (keep : Option ℕ) (may : Image → Type 0) (u v : Image) (left : may u) (others : (f : ℕ) → f ≢ 2 → v f ≡ u f) (none : HasPayloads [] (u 2)) (step : Grows (schema_payload plan.shape) (u 2) (v 2)) where
-    begun : IsOfSchema plan.shape (v 2) × HasEvents plan.shape [] (v 2)
+    begun : (HasPayloads [] (v 2) ⊎ IsInForce plan.shape (v 2)) × HasEvents plan.shape [] (v 2)
     begun = begins_log plan.shape (u 2) (v 2) schema none step
 
-    no_events : (es : List Event) → HasEvents plan.shape es (u 2) → es ≡ []
-    no_events es has = one_list payloads_one plan.shape plan.shape es [] (u 2) has (begins_log plan.shape (u 2) (u 2) schema none (λ payloads is. inl is)).1
+    no_events : (es : List Event) → Has plan es u → es ≡ []
+    no_events es has = unframed_events payloads_one plan.shape plan.defaults es (u 2) none has
 
     pub first_mid : IsMidStep (store_of plan) keep [] may v
     first_mid = record {
       from = u;
       left = left;
       truthful = begins plan.shape u v schema none step others;
-      schema = λ _. begun.0;
-      events = λ es has. inl (subst (λ (l : List Event). HasEvents plan.shape l (v 2)) (sym (no_events es has)) begun.1);
+      schema = λ _. inl begun.0;
+      events = λ es has. inl (subst (λ (l : List Event). Has plan l v) (sym (no_events es has)) (inl begun.1));
       slots = λ slot count is has. saved_behind plan slot count u v others has;
     }
 
@@ -140,10 +157,41 @@ module _ (plan : Planned) (schema : IsSchema plan.shape) where
       from = u;
       left = left;
       truthful = begins plan.shape u v schema none step others;
-      schema = λ _. begun.0;
-      events = λ es has. subst (λ (l : List Event). HasEvents plan.shape l (v 2)) (sym (append-nil es ∙ no_events es has)) begun.1;
+      schema = λ _. inl begun.0;
+      events = λ es has. subst (λ (l : List Event). Has plan l v) (sym (append-nil es ∙ no_events es has)) (inl begun.1);
       slots = λ slot count is has. saved_behind plan slot count u v others has;
     }
+
+-- One growth to the plan's schema by its defaults comes behind the log.
+module _ (plan : Planned) (keep : Option ℕ) (may : Image → Type 0) (u v : Image) (left : may u) (others : (f : ℕ) → f ≢ 2 → v f ≡ u f) (g : IsToGrow plan.shape plan.defaults (u 2)) (step : Grows (growth_payload plan.shape g.values) (u 2) (v 2)) where
+  still_true : IsTruthfulImage u → IsTruthfulImage v
+  still_true is = grows g.from (growth_to plan.shape g.values) (growth_payload plan.shape g.values) u v (framed_in plan.shape plan.defaults (u 2) g is.log) (record { is = refl; of = g.fills.of }) step others is
+
+  still_of : IsOfPlan plan u → IsOfPlan plan v
+  still_of is = schema_for g.from plan.shape plan.defaults g.values (u 2) (v 2) g.fills (framed_of plan.shape plan.defaults (u 2) g is) step
+
+  still_has : (es : List Event) → Has plan es u → Has plan es v
+  still_has es has = grows_for payloads_one g.from plan.shape plan.defaults g.values es (u 2) (v 2) g.fills (to_grow_in_force plan.shape plan.defaults es (u 2) g has) has step
+
+  pub growth_mid : IsMidStep (store_of plan) keep [] may v
+  growth_mid = record {
+    from = u;
+    left = left;
+    truthful = still_true;
+    schema = still_of;
+    events = λ es has. inl (still_has es has);
+    slots = λ slot count is has. saved_behind plan slot count u v others has;
+  }
+
+  pub growth_stepped : IsStepped (store_of plan) keep [] may v
+  growth_stepped = record {
+    from = u;
+    left = left;
+    truthful = still_true;
+    schema = still_of;
+    events = λ es has. subst (λ (l : List Event). Has plan l v) (sym (append-nil es)) (still_has es has);
+    slots = λ slot count is has. saved_behind plan slot count u v others has;
+  }
 
 -- A checkpoint is written into the slot that isn't kept.
 module _ (plan : Planned) (keep : Option ℕ) (legal : IsKeep keep) (checkpoint : Checkpoint) (may : Image → Type 0) (u v : Image) (left : may u) (others : (f : ℕ) → f ≢ other_of keep → v f ≡ u f) (true_of : IsTrueOf (u 2) checkpoint) where
@@ -162,8 +210,8 @@ module _ (plan : Planned) (keep : Option ℕ) (legal : IsKeep keep) (checkpoint 
     from = u;
     left = left;
     truthful = writes (other_of keep) u v checkpoint (other_below keep legal) others step true_of;
-    schema = λ is. subst (IsOfSchema plan.shape) (sym log_same) is;
-    events = λ es has. inl (subst (HasEvents plan.shape es) (sym log_same) has);
+    schema = λ is. subst (IsOfSchemaFor plan.shape plan.defaults) (sym log_same) is;
+    events = λ es has. inl (subst (HasEventsFor plan.shape plan.defaults es) (sym log_same) has);
     slots = λ slot count is has. saved_stays plan slot count (other_of keep) u v (kept_apart keep slot legal is) others has;
   }
 
@@ -173,8 +221,8 @@ module _ (plan : Planned) (keep : Option ℕ) (legal : IsKeep keep) (checkpoint 
     from = u;
     left = left;
     truthful = writes (other_of keep) u v checkpoint (other_below keep legal) others (inr (inr has)) true_of;
-    schema = λ is. subst (IsOfSchema plan.shape) (sym log_same) is;
-    events = λ es has. subst (HasEvents plan.shape es) (sym log_same) has;
+    schema = λ is. subst (IsOfSchemaFor plan.shape plan.defaults) (sym log_same) is;
+    events = λ es has. subst (HasEventsFor plan.shape plan.defaults es) (sym log_same) has;
     saved = record { below = other_below keep legal; checkpoint = checkpoint; complete = has; texts = texts; most = most };
   }
 
@@ -216,8 +264,8 @@ module _ (plan : Planned) (slot : ℕ) (below : slot < 2) (payload : List ℕ) (
     from = u;
     left = left;
     truthful = truthful_by step;
-    schema = λ is. subst (IsOfSchema plan.shape) (sym same_log) is;
-    events = λ es is. inl (subst (HasEvents plan.shape es) (sym same_log) is);
+    schema = λ is. subst (IsOfSchemaFor plan.shape plan.defaults) (sym same_log) is;
+    events = λ es is. inl (subst (HasEventsFor plan.shape plan.defaults es) (sym same_log) is);
     slots = λ i count kept is. ⊎_elim (λ same. subst (λ (n : ℕ). HasSaved plan n count v) (sym same) (still_saved step count (subst (λ (n : ℕ). HasSaved plan n count u) same is))) (λ apart. saved_stays plan i count slot u v apart others is) (cases_eq i slot);
   }
 
@@ -227,8 +275,8 @@ module _ (plan : Planned) (slot : ℕ) (below : slot < 2) (payload : List ℕ) (
     from = u;
     left = left;
     truthful = truthful_by (inr new);
-    schema = λ is. subst (IsOfSchema plan.shape) (sym same_log) is;
-    events = λ es is. subst (HasEvents plan.shape es) (sym same_log) is;
+    schema = λ is. subst (IsOfSchemaFor plan.shape plan.defaults) (sym same_log) is;
+    events = λ es is. subst (HasEventsFor plan.shape plan.defaults es) (sym same_log) is;
     saved = record { below = below; checkpoint = after; complete = new; texts = texts; most = omega arith };
   }
 

@@ -1,5 +1,5 @@
 -- A store that no run of a plan goes over is left alone.
-use Rattle.std.proofs.Common.{◌≡◌, ◌∙◌, ⊎_elim, ℕ, List, [], Option, Some, refl, sym, ap, subst}
+use Rattle.std.proofs.Common.{◌≡◌, ◌∙◌, inl, inr, ⊎_elim, ℕ, List, [], Option, Some, refl, sym, ap, subst}
 use Rattle.std.proofs.lemmas.Bool.{cases_eq}
 use Rattle.std.proofs.Math.Path.{fun_ext}
 use Rattle.std.specs.Option.{ForSome}
@@ -9,10 +9,9 @@ use Rattle.rg_host.proofs.Runs.{moments_then}
 use Rattle.rg_frame.specs.Calls.{Writes}
 use Rattle.rg_frame.specs.Frames.{HasPayloads}
 use Rattle.rg_frame.specs.Steps.{Leaves}
-use Rattle.rg_log.specs.Log.{schema_payload}
 use Rattle.rg_config.specs.Plans.{Planned}
-use Rattle.rg_reservoir.specs.Attached.{SchemaAdded}
-use Rattle.rg_reservoir.proofs.Legal.{unframed}
+use Rattle.rg_reservoir.specs.Attached.{LogOpens}
+use Rattle.rg_reservoir.proofs.Legal.{unframed_for, not_to_grow}
 use Rattle.rg_open.specs.Settling.{AreSettled, LeavesFewer}
 use Rattle.rg_open.specs.Unfit.{HasOtherSchema, HasBadFrame, IsUnfit, SaysWhy, IsLeftAlone}
 use Rattle.rg_open.specs.declared.fault.OpenFault.{OpenFault}
@@ -21,12 +20,17 @@ use Rattle.rg_open.proofs.Within.{as_read}
 
 -- it has a frame
 framed : (plan : Planned) (v : Image) → IsUnfit plan v → HasPayloads [] (v 2) → ⊥
-framed plan v unfit none = unframed plan.shape (v 2) none unfit
+framed plan v unfit none = unframed_for plan.shape plan.defaults (v 2) none unfit
 
--- what a write of a schema's frame then leaves
-module _ (plan : Planned) (now : Option Image) (may : Image → Type 0) (v : Image) (told : now ≡ Some v) (settled : NothingPending 2 now may) (unfit : IsUnfit plan v) (u : Image) (left : Leaves 2 (SchemaAdded (schema_payload plan.shape)) now may u) where
+-- what a write of a schema's frame or of a growth then leaves
+module _ (plan : Planned) (now : Option Image) (may : Image → Type 0) (v : Image) (told : now ≡ Some v) (settled : NothingPending 2 now may) (unfit : IsUnfit plan v) (u : Image) (left : Leaves 2 (LogOpens plan.shape plan.defaults) now may u) where
+  log_by : LogOpens plan.shape plan.defaults (v 2) (u 2) → u 2 ≡ v 2
+  log_by (inl (inl same)) = same
+  log_by (inl (inr begun)) = absurd (framed plan v unfit begun.0)
+  log_by (inr grown) = absurd (not_to_grow plan.shape plan.defaults (v 2) grown.0 unfit)
+
   same_log : u 2 ≡ v 2
-  same_log = ⊎_elim (λ same. same) (λ grown. absurd (framed plan v unfit grown.0)) (left.1 settled v told)
+  same_log = log_by (left.1 settled v told)
 
   each : (f : ℕ) → u f ≡ left.0.0 f
   each f = ⊎_elim (λ is. ap u is ∙ same_log ∙ sym (settled v told left.0.0 left.0.1) ∙ sym (ap left.0.0 is)) (λ other. left.0.2 f other) (cases_eq f 2)
@@ -60,8 +64,8 @@ module _ {H : Type 0} (now : H → Option Image) (may : H → Image → Type 0) 
       one w is = let both : ◌≡◌ {A = Option Image} (Some w) (Some v) = sym is ∙ told in cc
 
   -- and then by those that open the log
-  module _ (plan : Planned) (unfit : IsUnfit plan v) (new : H) (settled : AreSettled (now mid) (may mid)) (writes : Writes now may clock since said 2 (SchemaAdded (schema_payload plan.shape)) mid new) where
-    was : (u : Image) → Leaves 2 (SchemaAdded (schema_payload plan.shape)) (now mid) (may mid) u → may mid u
+  module _ (plan : Planned) (unfit : IsUnfit plan v) (new : H) (settled : AreSettled (now mid) (may mid)) (writes : Writes now may clock since said 2 (LogOpens plan.shape plan.defaults) mid new) where
+    was : (u : Image) → Leaves 2 (LogOpens plan.shape plan.defaults) (now mid) (may mid) u → may mid u
     was u left = was_left plan (now mid) (may mid) v (fewer.now_stays ∙ told) settled.log unfit u left
 
     pub opened_alone : IsLeftAlone now may clock since said v old new

@@ -7,9 +7,8 @@ use Rattle.rg_host.proofs.Runs.{moments_then, moments-weaker}
 use Rattle.rg_event.specs.Shapes.{IsSchema}
 use Rattle.rg_frame.specs.Calls.{Writes}
 use Rattle.rg_frame.specs.Steps.{Leaves}
-use Rattle.rg_log.specs.Log.{schema_payload}
 use Rattle.rg_config.specs.Plans.{Planned}
-use Rattle.rg_reservoir.specs.Attached.{SchemaAdded}
+use Rattle.rg_reservoir.specs.Attached.{LogOpens}
 use Rattle.rg_course.specs.Stores.{Store}
 use Rattle.rg_course.specs.Steps.{IsMidStep, IsStepped}
 use Rattle.rg_open.specs.Stores.{store_of}
@@ -41,17 +40,17 @@ module _ {H : Type 0} (now : H → Option Image) (may : H → Image → Type 0) 
   }
 
   module _ (plan : Planned) (schema : IsSchema plan.shape) (keep : Option ℕ) (old mid new : H) (v : Image) (told : now old ≡ Some v) (fewer : LeavesFewer now may clock since said old mid) (settled : AreSettled (now mid) (may mid))
-      (writes : Writes now may clock since said 2 (SchemaAdded (schema_payload plan.shape)) mid new) where
+      (writes : Writes now may clock since said 2 (LogOpens plan.shape plan.defaults) mid new) where
     at_mid : now mid ≡ Some v
     at_mid = fewer.now_stays ∙ told
 
     as_read_mid : (u : Image) → may mid u → IsAsRead v (may old) u
     as_read_mid u left = as_read (now old) (now mid) (may old) (may mid) v told fewer.now_stays fewer.fewer settled u left
 
-    opened_image : (m : Image) → Leaves 2 (SchemaAdded (schema_payload plan.shape)) (now mid) (may mid) m → IsOpenedImage plan v (may old) m
+    opened_image : (m : Image) → Leaves 2 (LogOpens plan.shape plan.defaults) (now mid) (may mid) m → IsOpenedImage plan v (may old) m
     opened_image m left = (left.0.0, as_read_mid left.0.0 left.0.1, left.0.2, left.1 settled.log v at_mid)
 
-    in_opening : (m : Image) → Leaves 2 (SchemaAdded (schema_payload plan.shape)) (now mid) (may mid) m → IsInOpening plan keep v (may old) m
+    in_opening : (m : Image) → Leaves 2 (LogOpens plan.shape plan.defaults) (now mid) (may mid) m → IsInOpening plan keep v (may old) m
     in_opening m left = inr (mid_before (store_of plan) keep (IsAsRead v (may old)) (may mid) m as_read_mid (mid_step plan schema keep (now mid) (may mid) v at_mid settled.log m left), opened_image m left)
 
     -- and then those that open the log

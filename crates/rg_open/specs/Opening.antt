@@ -21,7 +21,8 @@ use Rattle.rg_open.specs.Opened.{IsOpenedFor, IsInStep, IsKeptInSlot}
 use Rattle.rg_open.specs.Stores.{IsOfPlan}
 use Rattle.rg_open.specs.Truth.{texts_of, IsTruthfulImage}
 
--- The host tells its image, and each image that might be left is truthful, and its log is of the plan's schema or has no frame.
+-- The host tells its image, and each image that might be left is truthful, and its log is of the plan's schema, or of one that grows to it by
+-- the plan's defaults, or has no frame.
 pub record IsOpenable (plan : Planned) (now : Option Image) (may : Image → Type 0) : Type 0 where
   pub image : Image
   pub told : now ≡ Some image

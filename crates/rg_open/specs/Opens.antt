@@ -7,7 +7,6 @@ use Rattle.rg_event.specs.Rising.{next_offset}
 use Rattle.rg_event.specs.Shapes.{Shape}
 use Rattle.rg_event.specs.declared.event.Event.{Event}
 use Rattle.rg_frame.specs.LogState.{ReachesEnd}
-use Rattle.rg_log.specs.Log.{HasEvents}
 use Rattle.rg_config.specs.Plans.{planned}
 use Rattle.rg_config.specs.Read.{IsReadPlan}
 use Rattle.rg_config.specs.declared.plan.Plan.{Plan}
@@ -19,13 +18,14 @@ use Rattle.rg_engine.specs.Passed.{passed_count}
 use Rattle.rg_engine.specs.Seen.{Seen}
 use Rattle.rg_checkpoint.specs.Slots.{Attached, ReachesSlots, sizes_in, IsKeep}
 use Rattle.rg_restore.specs.Opening.{IsEmpty, IsGoing}
-use Rattle.rg_reservoir.specs.Attached.{IsOther, IsBadFrame, HasView, IsIllegalSince}
+use Rattle.rg_reservoir.specs.Attached.{IsForeign, IsBadFrame, OpensView, IsIllegalOpened}
 use Rattle.rg_reservoir.specs.Kept.{base, view_of, opened, room_of, cache_of, log_of, next_of, all_events}
 use Rattle.rg_reservoir.specs.declared.reservoir.Reservoir.{Reservoir}
 use Rattle.rg_open.specs.Blame.{IsBlamed, NodeRuns, IsPlaced}
 use Rattle.rg_open.specs.Opened.{IsKeptSince}
 use Rattle.rg_open.specs.Opening.{IsOpenable, IsStarted, IsResumed, IsFromIn}
 use Rattle.rg_open.specs.Settling.{AreSettled}
+use Rattle.rg_open.specs.Stores.{Has}
 use Rattle.rg_open.specs.Unfit.{IsUnfit, SaysWhy}
 use Rattle.rg_open.specs.declared.fault.OpenFault.{OpenFault}
 use Rattle.rg_open.specs.declared.fault.OpenFault.TheVariants.{Disk, Damaged, SchemaDiffers, BadState, Table}
@@ -54,11 +54,11 @@ module _ {H T : Type 0} (now : H → Option Image) (may : H → Image → Type 0
     pub passed : IsOpenable (planned plan) (now old) (may old) → after ≡ before + passed_count plan.task (take from (all_events (now new) (base r) [])) (all_events (now new) (base r) [])
     pub is_from : (v : Image) → now old ≡ Some v → IsOpenable (planned plan) (now old) (may old) → IsFromIn (planned plan) v from
     -- over a legal log
-    pub events : (v : Image) (events : List Event) → now old ≡ Some v → HasEvents plan.schema events (v 2) → all_events (now new) (base r) [] ≡ events
-    pub next : (v : Image) (events : List Event) → now old ≡ Some v → HasEvents plan.schema events (v 2) → next_of r ≡ next_offset events
-    pub node : (v : Image) (events : List Event) (n : ℕ) → now old ≡ Some v → HasEvents plan.schema events (v 2) → Tells table
+    pub events : (v : Image) (events : List Event) → now old ≡ Some v → Has (planned plan) events v → all_events (now new) (base r) [] ≡ events
+    pub next : (v : Image) (events : List Event) → now old ≡ Some v → Has (planned plan) events v → next_of r ≡ next_offset events
+    pub node : (v : Image) (events : List Event) (n : ℕ) → now old ≡ Some v → Has (planned plan) events v → Tells table
         → (NodeRuns (planned plan) n (now new) (may new) (Tells engine.table) (cells engine.table) r engine → ⊥) → IsBlamed (planned plan) v events n
-    pub placed : (v : Image) (events : List Event) → now old ≡ Some v → HasEvents plan.schema events (v 2) → IsPlaced (planned plan) (now new) (may new) r engine
+    pub placed : (v : Image) (events : List Event) → now old ≡ Some v → Has (planned plan) events v → IsPlaced (planned plan) (now new) (may new) r engine
     -- over any image
     pub told : (v : Image) → now old ≡ Some v → (w : Image) × (now new ≡ Some w)
     pub since : (v : Image) → now old ≡ Some v → Tells table → (slot : ℕ) → keep ≡ Some slot → IsKeptSince (may new) slot from plan.queries (sizes_in slots slot) (named engine.table) (there engine.table) (cells engine.table)
@@ -66,7 +66,7 @@ module _ {H T : Type 0} (now : H → Option Image) (may : H → Image → Type 0
     pub settled : (v : Image) → now old ≡ Some v → AreSettled (now new) (may new)
     pub resumed : (v : Image) → now old ≡ Some v → IsResumed v (now new) plan.queries plan.schema.fields plan.task r engine keep from before after
     pub fit : (v : Image) → now old ≡ Some v → IsUnfit (planned plan) v → ⊥
-    pub view : ForSome (now old) (λ v. HasView plan.schema (view_of (base r)) (v 2))
+    pub view : ForSome (now old) (λ v. OpensView plan.schema plan.defaults (view_of (base r)) (v 2))
     pub going : ((base r).ended ≡ false) × ((base r).file ≡ 2) × ((base r).shape ≡ plan.schema) × ((base r).limit ≡ plan.room.limit)
     pub empty : (opened r ≡ []) × (room_of r ≡ plan.room.chunk) × ((cache_of r).cap ≡ plan.room.cache)
     pub reaches : ReachesEnd (log_of r) (now new)
@@ -79,12 +79,12 @@ module _ {H T : Type 0} (now : H → Option Image) (may : H → Image → Type 0
   -- Why none was opened, and the table as it then is.
   pub record HasNotOpened (rose : Type 0) (fault : OpenFault) (back : T) : Type 0 where
     pub disk : fault ≡ Disk → rose
-    pub differs : fault ≡ SchemaDiffers → ForSome (now old) (λ v. IsOther plan.schema (v 2))
+    pub differs : fault ≡ SchemaDiffers → ForSome (now old) (λ v. IsForeign plan.schema plan.defaults (v 2))
     pub never_differs : IsOpenable (planned plan) (now old) (may old) → fault ≡ SchemaDiffers → ⊥
-    pub damaged : (p : ℕ) → fault ≡ Damaged p → ForSome (now old) (λ v. IsBadFrame p (v 2)) ⊎ ForSome (now old) (λ u. ForSome (now new) (λ v. IsIllegalSince plan.schema (u 2) p (v 2)))
+    pub damaged : (p : ℕ) → fault ≡ Damaged p → ForSome (now old) (λ v. IsBadFrame p (v 2)) ⊎ ForSome (now old) (λ u. ForSome (now new) (λ v. IsIllegalOpened plan.schema plan.defaults (u 2) p (v 2)))
     pub never_damaged : (p : ℕ) → IsOpenable (planned plan) (now old) (may old) → fault ≡ Damaged p → ⊥
-    pub undamaged : (v : Image) (events : List Event) (p : ℕ) → now old ≡ Some v → HasEvents plan.schema events (v 2) → fault ≡ Damaged p → ⊥
-    pub bad : (v : Image) (events : List Event) (n : ℕ) → now old ≡ Some v → HasEvents plan.schema events (v 2) → Tells table → fault ≡ BadState n → IsBlamed (planned plan) v events n
+    pub undamaged : (v : Image) (events : List Event) (p : ℕ) → now old ≡ Some v → Has (planned plan) events v → fault ≡ Damaged p → ⊥
+    pub bad : (v : Image) (events : List Event) (n : ℕ) → now old ≡ Some v → Has (planned plan) events v → Tells table → fault ≡ BadState n → IsBlamed (planned plan) v events n
     pub never_bad : (n : ℕ) → IsOpenable (planned plan) (now old) (may old) → Tells table → fault ≡ BadState n → ⊥
     pub why : (v : Image) → now old ≡ Some v → IsUnfit (planned plan) v → SaysWhy (planned plan) v fault
     pub table_disk : fault ≡ Table → Rose (faults table) (faults back)

@@ -4,14 +4,14 @@ use Rattle.std.specs.Option.{ForSome}
 use Rattle.rg_host.specs.Image.{Image}
 use Rattle.rg_host.specs.Moments.{Moment, Moments}
 use Rattle.rg_config.specs.Plans.{Planned}
-use Rattle.rg_reservoir.specs.Attached.{IsOther, IsBadFrame}
+use Rattle.rg_reservoir.specs.Attached.{IsForeign, IsBadFrame}
 use Rattle.rg_open.specs.Within.{IsAsRead}
 use Rattle.rg_open.specs.declared.fault.OpenFault.{OpenFault}
 use Rattle.rg_open.specs.declared.fault.OpenFault.TheVariants.{Disk, Damaged, SchemaDiffers, BadState, Memory, Table}
 
--- the log of the image is whole by heads and growths, and another schema than the plan's is in force at its end
+-- the log of the image is whole by heads and growths, and the schema in force at its end is another than the plan's and doesn't grow to it by the plan's defaults
 abbrev pub HasOtherSchema : Planned → Image → Type 0
-HasOtherSchema plan v = IsOther plan.shape (v 2)
+HasOtherSchema plan v = IsForeign plan.shape plan.defaults (v 2)
 
 -- the open frame at that place of the log isn't whole, isn't what its place asks for, or may not follow those before it
 abbrev pub HasBadFrame : Planned → ℕ → Image → Type 0

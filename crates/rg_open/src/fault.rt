@@ -13,7 +13,8 @@ pub enum OpenFault {
     Disk,
     /// The open frame of the log at that place, in bytes, is damaged.
     Damaged(u64),
-    /// Another schema than the plan's is in force at the log's end.
+    /// Another schema than the plan's is in force at the log's end, and it doesn't grow to the plan's by the plan's
+    /// defaults.
     SchemaDiffers,
     /// The rows of the node of that number in the checkpoint that is used don't stand for its events.
     BadState(u32),

@@ -39,7 +39,8 @@ fn read_slots<H: Host>(alloc: Global, host: &mut H) -> Result<(Slots, Saved), Op
     }
 }
 
-/// Reads the slots and attaches the log, which is given the plan's schema where it has no frame.
+/// Reads the slots and attaches the log, which is given the plan's schema where it has no frame, and a growth
+/// where the schema in force at its end grows to the plan's by the plan's defaults.
 pub(crate) fn find<H: Host>(alloc: Global, host: &mut H, plan: &Plan) -> Result<Found, OpenFault>
     requires read { IsReadPlan plan.now }
     requires settled { AreSettled (H.now host.old) (H.may host.old) }
@@ -53,7 +54,7 @@ pub(crate) fn find<H: Host>(alloc: Global, host: &mut H, plan: &Plan) -> Result<
         Ok(read) => read,
         Err(fault) => return Err(fault),
     };
-    match Reservoir::attach(alloc, host, &plan.schema, plan.room) {
+    match Reservoir::attach(alloc, host, &plan.schema, &plan.defaults, plan.room) {
         Ok(reservoir) => Ok(Found {
             reservoir,
             slots,

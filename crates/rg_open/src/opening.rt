@@ -5,10 +5,9 @@ ghost use Rattle.rg_host.specs.Image.{Image};
 ghost use Rattle.rg_event.specs.Rising.{next_offset};
 ghost use Rattle.rg_event.specs.declared.event.Event.{Event};
 ghost use Rattle.rg_frame.specs.LogState.{ReachesEnd};
-ghost use Rattle.rg_log.specs.Log.{HasEvents};
 ghost use Rattle.rg_config.specs.Plans.{planned};
 ghost use Rattle.rg_config.specs.Read.{IsReadPlan};
-ghost use Rattle.rg_reservoir.specs.Attached.{IsOther, IsBadFrame, HasView, IsIllegalSince};
+ghost use Rattle.rg_reservoir.specs.Attached.{IsForeign, IsBadFrame, OpensView, IsIllegalOpened};
 ghost use Rattle.rg_reservoir.specs.Kept.{base, view_of, opened, room_of, cache_of, log_of, next_of, all_events};
 ghost use Rattle.rg_state.specs.Keeping.{TableKept};
 ghost use Rattle.rg_engine.specs.Passed.{passed_count};
@@ -20,6 +19,7 @@ ghost use Rattle.rg_open.specs.Opens.{IsToOpen, HasCome, HasOpened, HasNotOpened
 ghost use Rattle.rg_open.specs.Opening.{IsOpenable, IsStarted, IsResumed, IsFromIn};
 ghost use Rattle.rg_open.specs.Opened.{IsKeptSince};
 ghost use Rattle.rg_open.specs.Settling.{AreSettled};
+ghost use Rattle.rg_open.specs.Stores.{Has};
 ghost use Rattle.rg_open.specs.Unfit.{IsUnfit, SaysWhy, IsLeftAlone};
 ghost use Rattle.rg_open.specs.Within.{IsWithinOpening, IsAfterOpening};
 
@@ -149,10 +149,12 @@ fn open_settled<H: Host, T: Table, L: Ledger>(
 }
 
 /// Opens the store of a plan over a table without a row. Files 2, 0 and 1 are settled first, so that
-/// nothing that an earlier run wrote is pending; only the schema's frame of a log without a frame is
-/// written. The engine goes on from the fit checkpoint of the greatest count, slot 0 where both have
-/// it, and from the start where none is fit; no more is passed than the events behind that. A damaged
-/// log is told before another schema. A refusal hands the table back as it then is.
+/// nothing that an earlier run wrote is pending; only the schema's frame of a log without a frame, or
+/// one growth of a log whose schema grows to the plan's by the plan's defaults, is written. Then each
+/// event has these defaults for the columns that it lacked. The engine goes on from the fit checkpoint
+/// of the greatest count, slot 0 where both have it, and from the start where none is fit; no more is
+/// passed than the events behind that. A damaged log is told before another schema. A refusal hands the
+/// table back as it then is.
 pub fn open_store<H: Host, T: Table, L: Ledger>(
     alloc: Global,
     host: &mut H,
@@ -163,7 +165,7 @@ pub fn open_store<H: Host, T: Table, L: Ledger>(
     requires read { IsReadPlan plan.now }
     requires empty { T.tells table → IsEmpty (T.cell table) }
 
-    // Over a store whose images are truthful and of the plan's schema or without a frame.
+    // Over a store whose images are truthful and of the plan's schema, of one that grows to it by the plan's defaults, or without a frame.
     ensures started { IsOpenable (planned plan.now) (H.now host.old) (H.may host.old) → T.tells table →
         IfOk result (λ r. IsStarted (planned plan.now) (H.now host.new) (H.may host.new) (T.tells r.0.engine.table) (T.cell r.0.engine.table) r.0.reservoir r.0.engine r.0.texts r.0.keep r.0.saved) }
     ensures passed { IsOpenable (planned plan.now) (H.now host.old) (H.may host.old) →
@@ -176,8 +178,8 @@ pub fn open_store<H: Host, T: Table, L: Ledger>(
     // Over any image that is told: its log's events, from where the engine went on, and what was passed.
     ensures told { (v : Image) → H.now host.old ≡ Some v → OnOk result ((w : Image) × (H.now host.new ≡ Some w)) }
     ensures settled { (v : Image) → H.now host.old ≡ Some v → OnOk result (AreSettled (H.now host.new) (H.may host.new)) }
-    ensures events { (v : Image) (events : List Event) → H.now host.old ≡ Some v → HasEvents plan.now.schema events (v 2) → IfOk result (λ r. (all_events (H.now host.new) (base r.0.reservoir) [] ≡ events) × (r.1.next ≡ next_offset events)) }
-    ensures view { IfOk result (λ r. ForSome (H.now host.old) (λ v. HasView plan.now.schema (view_of (base r.0.reservoir)) (v 2))) }
+    ensures events { (v : Image) (events : List Event) → H.now host.old ≡ Some v → Has (planned plan.now) events v → IfOk result (λ r. (all_events (H.now host.new) (base r.0.reservoir) [] ≡ events) × (r.1.next ≡ next_offset events)) }
+    ensures view { IfOk result (λ r. ForSome (H.now host.old) (λ v. OpensView plan.now.schema plan.now.defaults (view_of (base r.0.reservoir)) (v 2))) }
     ensures resumed { (v : Image) → H.now host.old ≡ Some v → IfOk result (λ r.
         IsResumed v (H.now host.new) plan.now.queries plan.now.schema.fields plan.now.task r.0.reservoir r.0.engine r.0.keep r.1.from steps.old steps.new) }
     // What is kept of the slot that was used: its checkpoint is of no more events than there are, its sizes are known, and changes are told
@@ -187,13 +189,13 @@ pub fn open_store<H: Host, T: Table, L: Ledger>(
     ensures stored { (v : Image) → H.now host.old ≡ Some v → IfOk result (λ r. r.0.saved ≤ (base r.0.reservoir).committed) }
 
     // Where a state is bad, and of each node that can't be carried on, the checkpoint that was used is to blame.
-    ensures bad { (v : Image) (events : List Event) (n : ℕ) → H.now host.old ≡ Some v → HasEvents plan.now.schema events (v 2) → T.tells table →
+    ensures bad { (v : Image) (events : List Event) (n : ℕ) → H.now host.old ≡ Some v → Has (planned plan.now) events v → T.tells table →
         IfErr result (λ refused. refused.0 ≡ OpenFault.BadState n → IsBlamed (planned plan.now) v events n) }
-    ensures node { (v : Image) (events : List Event) (n : ℕ) → H.now host.old ≡ Some v → HasEvents plan.now.schema events (v 2) → T.tells table →
+    ensures node { (v : Image) (events : List Event) (n : ℕ) → H.now host.old ≡ Some v → Has (planned plan.now) events v → T.tells table →
         IfOk result (λ r. (NodeRuns (planned plan.now) n (H.now host.new) (H.may host.new) (T.tells r.0.engine.table) (T.cell r.0.engine.table) r.0.reservoir r.0.engine → ⊥) → IsBlamed (planned plan.now) v events n) }
     // A legal log is never refused as damaged, whatever the slots hold, and each edge then stands at a spelled spot.
-    ensures undamaged { (v : Image) (events : List Event) (p : ℕ) → H.now host.old ≡ Some v → HasEvents plan.now.schema events (v 2) → IfErr result (λ refused. refused.0 ≡ OpenFault.Damaged p → ⊥) }
-    ensures placed { (v : Image) (events : List Event) → H.now host.old ≡ Some v → HasEvents plan.now.schema events (v 2) → IfOk result (λ r. IsPlaced (planned plan.now) (H.now host.new) (H.may host.new) r.0.reservoir r.0.engine) }
+    ensures undamaged { (v : Image) (events : List Event) (p : ℕ) → H.now host.old ≡ Some v → Has (planned plan.now) events v → IfErr result (λ refused. refused.0 ≡ OpenFault.Damaged p → ⊥) }
+    ensures placed { (v : Image) (events : List Event) → H.now host.old ≡ Some v → Has (planned plan.now) events v → IfOk result (λ r. IsPlaced (planned plan.now) (H.now host.new) (H.may host.new) r.0.reservoir r.0.engine) }
 
     // At each moment, and at every result.
     ensures within { (v : Image) (keep : Option ℕ) → H.now host.old ≡ Some v → IsWithinOpening H.may H.clock H.since H.said (planned plan.now) keep v host.old host.new }
@@ -205,10 +207,10 @@ pub fn open_store<H: Host, T: Table, L: Ledger>(
         IsLeftAlone H.now H.may H.clock H.since H.said v host.old host.new × IfErr result (λ refused. SaysWhy (planned plan.now) v refused.0) }
 
     ensures disk { IfErr result (λ refused. refused.0 ≡ OpenFault.Disk → Rose (H.disk_faults host.old) (H.disk_faults host.new)) }
-    ensures differs { IfErr result (λ refused. refused.0 ≡ OpenFault.SchemaDiffers → ForSome (H.now host.old) (λ v. IsOther plan.now.schema (v 2))) }
+    ensures differs { IfErr result (λ refused. refused.0 ≡ OpenFault.SchemaDiffers → ForSome (H.now host.old) (λ v. IsForeign plan.now.schema plan.now.defaults (v 2))) }
     ensures damaged { (p : ℕ) → IfErr result (λ refused. refused.0 ≡ OpenFault.Damaged p →
-        ForSome (H.now host.old) (λ v. IsBadFrame p (v 2)) ⊎ ForSome (H.now host.old) (λ u. ForSome (H.now host.new) (λ v. IsIllegalSince plan.now.schema (u 2) p (v 2)))) }
-    ensures exact { (v : Image) → H.now host.old ≡ Some v → IsOther plan.now.schema (v 2) ⊎ ((p : ℕ) × IsBadFrame p (v 2)) → IfOk result (λ _. ⊥) }
+        ForSome (H.now host.old) (λ v. IsBadFrame p (v 2)) ⊎ ForSome (H.now host.old) (λ u. ForSome (H.now host.new) (λ v. IsIllegalOpened plan.now.schema plan.now.defaults (u 2) p (v 2)))) }
+    ensures exact { (v : Image) → H.now host.old ≡ Some v → IsForeign plan.now.schema plan.now.defaults (v 2) ⊎ ((p : ℕ) × IsBadFrame p (v 2)) → IfOk result (λ _. ⊥) }
     ensures table_disk { IfErr result (λ refused. refused.0 ≡ OpenFault.Table → Rose (T.faults table) (T.faults refused.1)) }
 
     ensures copies { IfOk result (λ r. (r.0.schema ≡ plan.now.schema) × (r.0.texts ≡ plan.now.queries)) }

@@ -20,7 +20,7 @@ ghost use Rattle.rg_checkpoint.specs.Slots.{HasSlot, HasNoSlot, Turns, Written, 
 ghost use Rattle.rg_checkpoint.specs.Base.{IsBase};
 ghost use Rattle.rg_restore.specs.Fit.{IsFit};
 ghost use Rattle.rg_restore.specs.Truthful.{IsTruthful};
-ghost use Rattle.rg_reservoir.specs.Attached.{SchemaAdded};
+ghost use Rattle.rg_reservoir.specs.Attached.{LogOpens};
 ghost use Rattle.rg_reservoir.specs.Kept.{base, opened, all_events, Adds, Added};
 ghost use Rattle.rg_reservoir.specs.declared.reservoir.Reservoir.{Reservoir};
 ghost use Rattle.rg_course.specs.Steps.{IsMidStep, IsStepped, IsSavedTo};
@@ -71,7 +71,7 @@ pub fn law_steps<H: Host>()
         ((u : Image) → H.may next u → Leaves 2 (From (base r).end (Adds (base r).shape.fields (opened r))) (H.now host) (H.may host) u) →
         (u : Image) → H.may next u → IsStepped (store_of plan) keep (opened r) (H.may host) u }
     ensures opens { (host : H) (plan : Planned) (keep : Option ℕ) (v u : Image) → IsSchema plan.shape → H.now host ≡ Option.Some v → NothingPending 2 (H.now host) (H.may host) →
-        Leaves 2 (SchemaAdded (schema_payload plan.shape)) (H.now host) (H.may host) u → IsMidStep (store_of plan) keep [] (H.may host) u × IsStepped (store_of plan) keep [] (H.may host) u }
+        Leaves 2 (LogOpens plan.shape plan.defaults) (H.now host) (H.may host) u → IsMidStep (store_of plan) keep [] (H.may host) u × IsStepped (store_of plan) keep [] (H.may host) u }
     ensures saves { (host : H) (plan : Planned) (keep : Option ℕ) (payload : List ℕ) (checkpoint : Checkpoint) (v u : Image) → IsKeep keep → IsBase payload checkpoint → H.now host ≡ Option.Some v → NothingPending (other_of keep) (H.now host) (H.may host) →
         ((w : Image) → H.may host w → IsTrueOf (w 2) checkpoint) → Leaves (other_of keep) (Turns payload) (H.now host) (H.may host) u → IsMidStep (store_of plan) keep [] (H.may host) u }
     ensures saved { (host : H) (plan : Planned) (keep : Option ℕ) (payload : List ℕ) (checkpoint : Checkpoint) (v u : Image) → IsKeep keep → IsBase payload checkpoint → H.now host ≡ Option.Some v → NothingPending (other_of keep) (H.now host) (H.may host) →

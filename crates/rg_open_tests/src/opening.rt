@@ -41,7 +41,7 @@ const THIRD: [u8; 67] = [
 ];
 
 /// The checkpoint of the first payment: the card `c1` has one of 100 in all.
-const BASE: [u8; 206] = [
+pub(crate) const BASE: [u8; 206] = [
     0x42, 0x00, 0x00, 0x00, 0x01, 0x00, 0x00, 0x00, 0x4f, 0x53, 0x45, 0x4c, 0x45, 0x43, 0x54, 0x20,
     0x63, 0x6f, 0x75, 0x6e, 0x74, 0x28, 0x2a, 0x29, 0x2c, 0x20, 0x73, 0x75, 0x6d, 0x28, 0x61, 0x6d,
     0x6f, 0x75, 0x6e, 0x74, 0x29, 0x20, 0x46, 0x52, 0x4f, 0x4d, 0x20, 0x70, 0x61, 0x79, 0x6d, 0x65,
@@ -58,7 +58,7 @@ const BASE: [u8; 206] = [
 ];
 
 /// What the second payment changes of it: the card has two of 300 in all.
-const CHANGE: [u8; 121] = [
+pub(crate) const CHANGE: [u8; 121] = [
     0x44, 0x00, 0x00, 0x00, 0x00, 0x00, 0x00, 0x00, 0x02, 0x00, 0x00, 0x00, 0x02, 0x00, 0x00, 0x00,
     0x00, 0x00, 0x00, 0x00, 0x39, 0x00, 0x00, 0x00, 0x02, 0x00, 0x00, 0x00, 0x00, 0x00, 0x00, 0x00,
     0x02, 0x00, 0x00, 0x00, 0x00, 0x00, 0x00, 0x00, 0x39, 0x00, 0x00, 0x00, 0x00, 0x00, 0x00, 0x00,
@@ -101,6 +101,11 @@ const NARROW_TWO: [u8; 81] = [
 const AMOUNTS: &[u8] =
     b"G\0\0\0\x2fpayments(ts,card:text,merchant:text,amount:int)\x01\0\0\0\0\0\0\0d";
 
+/// The growth of the payments by a country, which is `??` in each payment before it: by hand, the tag, the length of the new
+/// schema's text, the text, and the tag, the length and the bytes of the value.
+const COUNTRY: &[u8] =
+    b"G\0\0\0\x3cpayments(ts,card:text,merchant:text,amount:int,country:text)\x03\x02??";
+
 /// The last bytes of the places of the two spots in the base.
 const PLACES: [usize; 2] = [107, 127];
 
@@ -118,7 +123,7 @@ fn plan_of(alloc: Global, bytes: &[u8]) -> Result<Plan, Memory>
 }
 
 /// The bytes of open frames with these payloads, and a closed gate.
-fn file(alloc: Global, payloads: &[&[u8]]) -> Result<Vec<u8>, Memory> {
+pub(crate) fn file(alloc: Global, payloads: &[&[u8]]) -> Result<Vec<u8>, Memory> {
     let mut bytes = Vec::new(alloc);
     for payload in payloads {
         put_bytes(&mut bytes, &[1])?;
@@ -150,16 +155,18 @@ fn set_all(
     set(alloc, image, 2, log)
 }
 
-/// A host whose log and whose two slots have these payloads.
-fn store(
+/// A host whose log and whose two slots have these payloads, and whose calls of these numbers fail.
+pub(crate) fn store(
     alloc: Global,
     log: &[&[u8]],
     first: &[&[u8]],
     second: &[&[u8]],
+    failing: &[u64],
 ) -> Result<MemHost, Memory> {
+    let failing = failing.to_vec(alloc)?;
     let mut image = Image::new(alloc);
     match set_all(alloc, &mut image, log, first, second) {
-        Ok(()) => MemHost::new(alloc, image, Vec::new(alloc)),
+        Ok(()) => MemHost::new(alloc, image, failing),
         Err(memory) => Err(memory),
     }
 }
@@ -203,29 +210,35 @@ fn open_counted<L: Ledger>(
     from
 }
 
-/// The same with the plan above, and a ledger of its own.
-fn open_on(alloc: Global, host: &mut MemHost) -> Result<Result<u64, OpenFault>, Memory> {
-    let plan = plan_of(alloc, TOTALS)?;
+/// The same with the plan that these bytes say, and a ledger of its own.
+pub(crate) fn open_on(
+    alloc: Global,
+    host: &mut MemHost,
+    plan: &[u8],
+) -> Result<Result<u64, OpenFault>, Memory> {
+    let plan = plan_of(alloc, plan)?;
     let from = open_counted::<Brand>(alloc, host, &plan, Blank::new(1));
     drop(plan);
     Ok(from)
 }
 
-/// The same of the store of this log and these slots.
+/// The same of the store of this log and these slots, with the plan of the totals.
 fn open(
     alloc: Global,
     log: &[&[u8]],
     first: &[&[u8]],
     second: &[&[u8]],
 ) -> Result<Result<u64, OpenFault>, Memory> {
-    let mut host = store(alloc, log, first, second)?;
-    let from = open_on(alloc, &mut host);
+    let mut host = store(alloc, log, first, second, &[])?;
+    let from = open_on(alloc, &mut host, TOTALS);
     drop(host);
     from
 }
 
-/// The logs of the first two payments, and of all three.
-const OF_TWO: &[&[u8]] = &[SCHEMA, &TWO];
+/// The logs of the first two payments, of these once they have a country, and of all three.
+pub(crate) const OF_TWO: &[&[u8]] = &[SCHEMA, &TWO];
+
+pub(crate) const OF_TWO_LONGER: &[&[u8]] = &[SCHEMA, &TWO, COUNTRY];
 
 const OF_THREE: &[&[u8]] = &[SCHEMA, &TWO, &THIRD];
 

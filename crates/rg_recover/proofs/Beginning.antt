@@ -17,7 +17,8 @@ use Rattle.rg_course.specs.Stores.{Course, IsKeptInStore, IsNear, StaysOnCourseS
 use Rattle.rg_course.proofs.Betweens.{at_rest_first}
 use Rattle.rg_course.proofs.Courses.{on_course_mid_step}
 use Rattle.rg_course.proofs.Keeping.{after_step, mid_step_kept}
-use Rattle.rg_log.specs.Log.{HasEvents}
+use Rattle.rg_log.specs.Filled.{HasEventsFor}
+use Rattle.rg_log.proofs.Filled.{rising_for}
 use Rattle.rg_open.specs.Stores.{store_of}
 use Rattle.rg_open.specs.Within.{IsAsRead, IsInOpening, IsAfterOpening, IsWithinOpening}
 use Rattle.rg_reservoir.specs.Kept.{next_of}
@@ -41,14 +42,14 @@ module _ {H : Type 0} (now : H → Option Image) (may : H → Image → Type 0) 
   P = StaysOnCourseSince (store_of plan) course (may old) []
 
   rising : IsRising ready.held
-  rising = subst IsRising ready.has.2 ready.has.1.rising
+  rising = rising_for plan.shape plan.defaults ready.held (v 2) ready.has
 
   -- each image that reads as the host reads has the events
   at_read : (keep : Option ℕ) → IsAtRest (store_of plan) course [] ready.held keep (IsAsRead v (may old))
   at_read keep = at_rest_first Image (store_of plan) (terms_of plan) ready.put ready.held from first (lines_of input) keep (IsAsRead v (may old))
       (λ u h. ready.openable.truthful u h.0)
       (λ u h. ready.openable.schema u h.0)
-      (λ u h. subst (λ (bytes : List ℕ). HasEvents plan.shape ready.held bytes) (sym h.3) ready.has)
+      (λ u h. subst (λ (bytes : List ℕ). HasEventsFor plan.shape plan.defaults ready.held bytes) (sym h.3) ready.has)
       rising
 
   begins : (keep : Option ℕ) → IsPrefixOf (ready.held ++ []) course.accepted

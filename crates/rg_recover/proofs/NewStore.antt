@@ -1,5 +1,5 @@
 -- A run over a new store in memory.
-use Rattle.std.proofs.Common.{◌≡◌, ◌⊎◌, inl, inr, ℕ, zero, suc, ◌≤◌, ◌^◌, List, [], length, replicate, Option, Some, None, refl, ap, sym, ◌∙◌, subst, arith}
+use Rattle.std.proofs.Common.{◌≡◌, ◌⊎◌, inl, inr, ℕ, zero, suc, List, [], replicate, Option, Some, None, refl, ap, sym, ◌∙◌, subst, arith}
 use Rattle.std.specs.Prelude.{OnOk, Result}
 use Rattle.rg_event.specs.Shapes.{Shape, IsSchema}
 use Rattle.rg_event.specs.declared.event.Event.{Event}
@@ -9,13 +9,15 @@ use Rattle.rg_host.specs.MemHost.{Ledger, begun, now_in, may_in, said_in}
 use Rattle.rg_host.specs.Lines.{ended, lines_of}
 use Rattle.rg_frame.specs.Frames.{HasPayloads}
 use Rattle.rg_frame.proofs.Gates.{none-empty}
-use Rattle.rg_log.specs.Log.{HasEvents, IsOfSchema}
+use Rattle.rg_log.specs.Log.{HasEvents}
+use Rattle.rg_log.proofs.Filled.{few_for}
 use Rattle.rg_checkpoint.specs.declared.base.Checkpoint.{Checkpoint}
 use Rattle.rg_checkpoint.specs.Slots.{HasNoSlot, IsSlot}
 use Rattle.rg_checkpoint.proofs.SlotLaws.{none_slot}
 use Rattle.rg_config.specs.Plans.{Planned}
 use Rattle.rg_course.specs.Output.{text_of_run}
 use Rattle.rg_open.specs.Opening.{IsFromIn}
+use Rattle.rg_open.specs.Stores.{Has, IsOfPlan}
 use Rattle.rg_restore.specs.Slots.{slot_in, IsFrom}
 use Rattle.rg_open.specs.Truth.{texts_of, IsTruthfulImage}
 use Rattle.rg_task.specs.Terms.{terms_of}
@@ -57,11 +59,11 @@ new_host = begun (replicate 8 []) []
 
 abbrev pub ready_anew : (plan : Planned) → IsSchema plan.shape → IsReadyRun plan (now_in new_host) (may_in new_host) (said_in new_host)
 ready_anew plan schema = record {
-  openable = record { image = bare; told = refl; truthful = λ u may. subst IsTruthfulImage (sym may) bare_truthful; schema = λ u may. subst (λ (v : Image). IsOfSchema plan.shape (v 2)) (sym may) (inl (no_payload 2)) };
+  openable = record { image = bare; told = refl; truthful = λ u may. subst IsTruthfulImage (sym may) bare_truthful; schema = λ u may. subst (IsOfPlan plan) (sym may) (inl (inl (no_payload 2))) };
   put = [];
   told = refl;
   held = [];
-  has = bare_has plan.shape schema;
+  has = inl (bare_has plan.shape schema);
 }
 
 -- it goes on from no checkpoint
@@ -87,10 +89,11 @@ finished_anew : (plan : Planned) (schema : IsSchema plan.shape) (from : ℕ) (in
 finished_anew plan schema from input h is_from finished =
     let put_is : said_in h ≡ Some (ended (text_of_run (terms_of plan) [] from 0 (lines_of input))) = finished.told ∙ ap (λ (put : List ℕ). Some put) finished.done.said_is in
     let zero_from : from ≡ 0 = by_from is_from put_is in
-    let has : HasEvents plan.shape (events_after (terms_of plan).basis [] 0 (lines_of input)) (now_after (image_of h.first) h.effects 2) = finished.done.has (now_after (image_of h.first) h.effects) (now_may_leave (image_of h.first) h.effects _ refl) in
+    let events : List Event = events_after (terms_of plan).basis [] 0 (lines_of input) in
+    let has : Has plan events (now_after (image_of h.first) h.effects) = finished.done.has (now_after (image_of h.first) h.effects) (now_may_leave (image_of h.first) h.effects _ refl) in
     record {
       put = put_is ∙ ap (λ n. Some (ended (text_of_run (terms_of plan) [] n 0 (lines_of input)))) zero_from;
-      few = subst (λ (events : List Event). length events ≤ 2 ^ 40) has.2 has.1.few;
+      few = few_for plan.shape plan.defaults events (now_after (image_of h.first) h.effects 2) has;
     }
   where
     by_from : IsFromIn plan bare from ⊎ (said_in h ≡ Some []) → said_in h ≡ Some (ended (text_of_run (terms_of plan) [] from 0 (lines_of input))) → from ≡ 0

@@ -10,7 +10,7 @@ use Rattle.rg_event.specs.Rising.{next_offset}
 use Rattle.rg_config.specs.Plans.{Planned}
 use Rattle.rg_state.specs.Changes.{Marks}
 use Rattle.rg_state.specs.Rows.{Cells}
-use Rattle.rg_reservoir.specs.Attached.{IsIllegalSince}
+use Rattle.rg_reservoir.specs.Attached.{IsIllegalOpened}
 use Rattle.rg_reservoir.specs.Chain.{IsIllegalBy}
 use Rattle.rg_reservoir.specs.Kept.{base, view_of}
 use Rattle.rg_course.specs.Stores.{StaysOnCourse, StaysOnCourseSince}
@@ -155,7 +155,7 @@ module _ {H I : Type 0} (now : H → Option Image) (may : H → Image → Type 0
       exact = λ v told unfit. absurd (opened.fit v told unfit);
     }
 
-    damaged_of : (p : ℕ) → IsErrOf r (Damaged p) → ForSome (now old) (λ u. ForSome (now new) (λ v. IsIllegalSince plan.shape (u 2) p (v 2)))
+    damaged_of : (p : ℕ) → IsErrOf r (Damaged p) → ForSome (now old) (λ u. ForSome (now new) (λ v. IsIllegalOpened plan.shape plan.defaults (u 2) p (v 2)))
     damaged_of p is = λ u was v told. (view_of (base s.reservoir), opened.view u was, subst (λ (f : ℕ). IsIllegalBy (view_of (base s.reservoir)) p (v f)) opened.log.1 (why.damaged p is v told))
 
     answered_cause : HasCause now disk_faults out_faults left faults plan first r input input_then old new

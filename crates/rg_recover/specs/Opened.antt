@@ -7,15 +7,14 @@ use Rattle.rg_host.specs.Moments.{Moment}
 use Rattle.rg_event.specs.Rising.{next_offset}
 use Rattle.rg_event.specs.declared.event.Event.{Event}
 use Rattle.rg_frame.specs.LogState.{ReachesEnd}
-use Rattle.rg_log.specs.Log.{HasEvents}
 use Rattle.rg_config.specs.Plans.{Planned}
 use Rattle.rg_state.specs.Changes.{Marks}
 use Rattle.rg_state.specs.Rows.{Cells}
-use Rattle.rg_reservoir.specs.Attached.{HasView, IsIllegalSince}
+use Rattle.rg_reservoir.specs.Attached.{OpensView, IsIllegalOpened}
 use Rattle.rg_reservoir.specs.Kept.{base, view_of, log_of, next_of}
 use Rattle.rg_checkpoint.specs.Slots.{ReachesSlots}
 use Rattle.rg_course.specs.Steps.{IsAtRest}
-use Rattle.rg_open.specs.Stores.{store_of}
+use Rattle.rg_open.specs.Stores.{store_of, Has}
 use Rattle.rg_open.specs.Blame.{IsBlamed, NodeRuns, IsPlaced}
 use Rattle.rg_open.specs.Opening.{IsOpenable, IsFromIn}
 use Rattle.rg_open.specs.Unfit.{HasOtherSchema, HasBadFrame, IsUnfit, IsLeftAlone}
@@ -46,14 +45,14 @@ module _ {H : Type 0} (now : H → Option Image) (may : H → Image → Type 0) 
     pub running : IsOpenable plan (now old) (may old) → IsRunning plan (now new) (may new) Tells cell named there s
     pub is_from : (v : Image) → now old ≡ Some v → IsOpenable plan (now old) (may old) → IsFromIn plan v from
     pub stepped : (v : Image) (keep : Option ℕ) → now old ≡ Some v → (u : Image) → may new u → IsAfterOpening plan keep v (may old) u
-    pub events : (v : Image) (events : List Event) → now old ≡ Some v → HasEvents plan.shape events (v 2) → (events_of (now new) s ≡ events) × (stored_of (now new) s ≡ events) × (next ≡ next_offset events)
-    pub node : (v : Image) (events : List Event) (n : ℕ) → now old ≡ Some v → HasEvents plan.shape events (v 2) → (NodeRuns plan n (now new) (may new) (Tells s.engine.table) (cell s.engine.table) s.reservoir s.engine → ⊥) → IsBlamed plan v events n
-    pub placed : (v : Image) (events : List Event) → now old ≡ Some v → HasEvents plan.shape events (v 2) → IsPlaced plan (now new) (may new) s.reservoir s.engine
+    pub events : (v : Image) (events : List Event) → now old ≡ Some v → Has plan events v → (events_of (now new) s ≡ events) × (stored_of (now new) s ≡ events) × (next ≡ next_offset events)
+    pub node : (v : Image) (events : List Event) (n : ℕ) → now old ≡ Some v → Has plan events v → (NodeRuns plan n (now new) (may new) (Tells s.engine.table) (cell s.engine.table) s.reservoir s.engine → ⊥) → IsBlamed plan v events n
+    pub placed : (v : Image) (events : List Event) → now old ≡ Some v → Has plan events v → IsPlaced plan (now new) (may new) s.reservoir s.engine
     pub fit : (v : Image) → now old ≡ Some v → IsUnfit plan v → ⊥
     pub going : s.ended ≡ false
     pub reaches : ReachesEnd (log_of s.reservoir) (now new)
     pub slots_reach : ReachesSlots s.slots (now new)
-    pub view : ForSome (now old) (λ u. HasView plan.shape (view_of (base s.reservoir)) (u 2))
+    pub view : ForSome (now old) (λ u. OpensView plan.shape plan.defaults (view_of (base s.reservoir)) (u 2))
     pub log : ((base s.reservoir).shape ≡ plan.shape) × ((base s.reservoir).file ≡ 2)
     pub numbers : (next ≡ next_of s.reservoir) × (count ≡ count_in s.reservoir)
 
@@ -62,10 +61,10 @@ module _ {H : Type 0} (now : H → Option Image) (may : H → Image → Type 0) 
   pub record IsTurnedAway (plan : Planned) (fault : RunFault) (old new : H) : Type 0 where
     pub over_ready : IsOpenable plan (now old) (may old) → IsGapOrFailed fault
     pub unfit : (v : Image) → now old ≡ Some v → IsUnfit plan v → IsLeftAlone now may clock since said v old new × SaysWhy plan v fault
-    pub bad : (v : Image) (events : List Event) (n : ℕ) → now old ≡ Some v → HasEvents plan.shape events (v 2) → fault ≡ BadState n → IsBlamed plan v events n
-    pub undamaged : (v : Image) (events : List Event) (p : ℕ) → now old ≡ Some v → HasEvents plan.shape events (v 2) → fault ≡ Damaged p → ⊥
+    pub bad : (v : Image) (events : List Event) (n : ℕ) → now old ≡ Some v → Has plan events v → fault ≡ BadState n → IsBlamed plan v events n
+    pub undamaged : (v : Image) (events : List Event) (p : ℕ) → now old ≡ Some v → Has plan events v → fault ≡ Damaged p → ⊥
     pub differs : fault ≡ SchemaDiffers → ForSome (now old) (HasOtherSchema plan)
-    pub damaged : (p : ℕ) → fault ≡ Damaged p → ForSome (now old) (HasBadFrame plan p) ⊎ ForSome (now old) (λ u. ForSome (now new) (λ v. IsIllegalSince plan.shape (u 2) p (v 2)))
+    pub damaged : (p : ℕ) → fault ≡ Damaged p → ForSome (now old) (HasBadFrame plan p) ⊎ ForSome (now old) (λ u. ForSome (now new) (λ v. IsIllegalOpened plan.shape plan.defaults (u 2) p (v 2)))
     pub disk : fault ≡ Disk → Rose (disk_faults old) (disk_faults new)
     pub others : (fault ≡ Read → ⊥) × (fault ≡ Limit → ⊥) × (fault ≡ Write → ⊥) × ((n : ℕ) → fault ≡ Gap n → ⊥)
 

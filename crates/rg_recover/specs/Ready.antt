@@ -8,7 +8,8 @@ use Rattle.rg_open.specs.Opening.{IsOpenable}
 use Rattle.rg_run.specs.Begun.{Begun}
 
 -- Before a run: the host tells its image and what had been put; each image that might be left is truthful, and its log is of the
--- plan's schema or has no frame; and these are the events of the image's log.
+-- plan's schema, of one that grows to it by the plan's defaults, or has no frame; and these are the events of the image's log for the
+-- plan.
 pub record IsReadyRun (plan : Planned) (now : Option Image) (may : Image → Type 0) (said : Option (List ℕ)) : Type 0 where
   pub openable : IsOpenable plan now may
   pub put : List ℕ

@@ -7,10 +7,10 @@ use Rattle.rg_host.specs.Image.{Image}
 use Rattle.rg_host.specs.Moments.{Moment}
 use Rattle.rg_event.specs.Rising.{next_offset}
 use Rattle.rg_event.specs.declared.event.Event.{Event}
-use Rattle.rg_log.specs.Log.{HasEvents}
 use Rattle.rg_config.specs.Plans.{Planned}
-use Rattle.rg_reservoir.specs.Attached.{IsIllegalSince}
+use Rattle.rg_reservoir.specs.Attached.{IsIllegalOpened}
 use Rattle.rg_open.specs.Blame.{IsBlamed}
+use Rattle.rg_open.specs.Stores.{Has}
 use Rattle.rg_open.specs.Unfit.{HasOtherSchema, HasBadFrame, IsUnfit, IsLeftAlone}
 use Rattle.rg_open.specs.Within.{IsWithinOpening}
 use Rattle.rg_recover.specs.Answered.{CountsGrow}
@@ -39,12 +39,12 @@ module _ {H I : Type 0} (now : H → Option Image) (disk_faults out_faults : H �
   -- Why a run ended, over any store.
   pub record HasCause {A : Type 0} (plan : Planned) (first : ℕ) (result : Result A RunFault) (input input_then : I) (old new : H) : Type 0 where
     pub gap : (n : ℕ) → IsErrOf result (Gap n) → n < first
-    pub gap_next : (v : Image) (events : List Event) (n : ℕ) → now old ≡ Some v → HasEvents plan.shape events (v 2) → IsErrOf result (Gap n) → n ≡ next_offset events
-    pub no_gap : (v : Image) (events : List Event) → now old ≡ Some v → HasEvents plan.shape events (v 2) → OnOk result (first ≤ next_offset events)
+    pub gap_next : (v : Image) (events : List Event) (n : ℕ) → now old ≡ Some v → Has plan events v → IsErrOf result (Gap n) → n ≡ next_offset events
+    pub no_gap : (v : Image) (events : List Event) → now old ≡ Some v → Has plan events v → OnOk result (first ≤ next_offset events)
     pub differs : IsErrOf result SchemaDiffers → ForSome (now old) (HasOtherSchema plan)
-    pub damaged : (p : ℕ) → IsErrOf result (Damaged p) → ForSome (now old) (HasBadFrame plan p) ⊎ ForSome (now old) (λ u. ForSome (now new) (λ v. IsIllegalSince plan.shape (u 2) p (v 2)))
-    pub bad : (v : Image) (events : List Event) (n : ℕ) → now old ≡ Some v → HasEvents plan.shape events (v 2) → IsErrOf result (BadState n) → IsBlamed plan v events n
-    pub undamaged : (v : Image) (events : List Event) (p : ℕ) → now old ≡ Some v → HasEvents plan.shape events (v 2) → IsErrOf result (Damaged p) → ⊥
+    pub damaged : (p : ℕ) → IsErrOf result (Damaged p) → ForSome (now old) (HasBadFrame plan p) ⊎ ForSome (now old) (λ u. ForSome (now new) (λ v. IsIllegalOpened plan.shape plan.defaults (u 2) p (v 2)))
+    pub bad : (v : Image) (events : List Event) (n : ℕ) → now old ≡ Some v → Has plan events v → IsErrOf result (BadState n) → IsBlamed plan v events n
+    pub undamaged : (v : Image) (events : List Event) (p : ℕ) → now old ≡ Some v → Has plan events v → IsErrOf result (Damaged p) → ⊥
     pub at_end : OnOk result (IsAtEnd (left input_then))
     pub within : OnOk result (IsWithinLimit (2 ^ 50) (left input))
     pub read : IsErrOf result Read → Rose (faults input) (faults input_then)

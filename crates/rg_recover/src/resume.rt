@@ -5,10 +5,9 @@ ghost use Rattle.rg_host.specs.Image.{Image};
 ghost use Rattle.rg_event.specs.Rising.{next_offset};
 ghost use Rattle.rg_event.specs.declared.event.Event.{Event};
 ghost use Rattle.rg_frame.specs.LogState.{ReachesEnd};
-ghost use Rattle.rg_log.specs.Log.{HasEvents};
 ghost use Rattle.rg_config.specs.Plans.{planned};
 ghost use Rattle.rg_config.specs.Read.{IsReadPlan};
-ghost use Rattle.rg_reservoir.specs.Attached.{IsOther, IsBadFrame, HasView, IsIllegalSince};
+ghost use Rattle.rg_reservoir.specs.Attached.{IsForeign, IsBadFrame, OpensView, IsIllegalOpened};
 ghost use Rattle.rg_reservoir.specs.Kept.{base, view_of, opened, room_of, cache_of, log_of, next_of};
 ghost use Rattle.rg_state.specs.Keeping.{TableKept};
 ghost use Rattle.rg_engine.specs.Passed.{passed_count};
@@ -16,6 +15,7 @@ ghost use Rattle.rg_checkpoint.specs.Slots.{ReachesSlots};
 ghost use Rattle.rg_restore.specs.Opening.{IsEmpty};
 ghost use Rattle.rg_open.specs.Blame.{IsBlamed, NodeRuns, IsPlaced};
 ghost use Rattle.rg_open.specs.Opening.{IsOpenable, IsResumed, IsFromIn};
+ghost use Rattle.rg_open.specs.Stores.{Has};
 ghost use Rattle.rg_open.specs.Unfit.{IsUnfit, SaysWhy, IsLeftAlone};
 ghost use Rattle.rg_open.specs.Within.{IsWithinOpening, IsAfterOpening};
 ghost use Rattle.rg_recover.specs.Sessions.{HasKept, IsRunning, count_in, events_of, stored_of};
@@ -31,10 +31,11 @@ use std::sync::ledger::Ledger;
 
 impl<T: Table> Session<T> {
     /// A session of a plan over the store in a host's files, with the plan's rooms and a table without a
-    /// row, and how far that store had come. What an earlier run left is settled first; only the schema's
-    /// frame of a log without a frame is written. The engine goes on from the fit checkpoint of the greatest
-    /// count, slot 0 where both have it, and from the start where none is fit; no more is passed than the
-    /// events behind that. A refusal hands the table back as it then is.
+    /// row, and how far that store had come. What an earlier run left is settled first; nothing is written but
+    /// the schema's frame of a log without a frame, or one growth where the log's schema grows to the plan's by
+    /// the plan's defaults. The engine goes on from the fit checkpoint of the greatest count, slot 0 where both
+    /// have it, and from the start where none is fit; no more is passed than the events behind that. A refusal
+    /// hands the table back as it then is.
     #[tactic(auto, using(crate::proofs::Resuming::count_of_none))]
     pub fn resume<H: Host, L: Ledger>(
         alloc: Global,
@@ -46,7 +47,7 @@ impl<T: Table> Session<T> {
         requires read { IsReadPlan plan.now }
         requires empty { T.tells table → IsEmpty (T.cell table) }
 
-        // Over a store whose images are truthful and of the plan's schema or without a frame.
+        // Over a store whose images are truthful, and of the plan's schema, of one that grows to it by the plan's defaults, or without a frame.
         ensures running { IsOpenable (planned plan.now) (H.now host.old) (H.may host.old) → T.tells table →
             IfOk result (λ r. IsRunning (planned plan.now) (H.now host.new) (H.may host.new) T.tells T.cell T.named T.there r.0) }
         ensures passed { IsOpenable (planned plan.now) (H.now host.old) (H.may host.old) →
@@ -57,7 +58,7 @@ impl<T: Table> Session<T> {
         ensures never_damaged { (p : ℕ) → IsOpenable (planned plan.now) (H.now host.old) (H.may host.old) → T.tells table → IfErr result (λ refused. refused.0 ≡ OpenFault.Damaged p → ⊥) }
 
         // Over any image that is told: its log's events, from where the engine went on, and what was passed.
-        ensures events { (v : Image) (events : List Event) → H.now host.old ≡ Some v → HasEvents plan.now.schema events (v 2) →
+        ensures events { (v : Image) (events : List Event) → H.now host.old ≡ Some v → Has (planned plan.now) events v →
             IfOk result (λ r. (events_of (H.now host.new) r.0 ≡ events) × (stored_of (H.now host.new) r.0 ≡ events) × (r.1.next ≡ next_offset events)) }
         ensures resumed { (v : Image) → H.now host.old ≡ Some v → IfOk result (λ r.
             IsResumed v (H.now host.new) plan.now.queries plan.now.schema.fields plan.now.task r.0.reservoir r.0.engine r.0.keep r.1.from steps.old steps.new) }
@@ -66,13 +67,13 @@ impl<T: Table> Session<T> {
         ensures keeps { (v : Image) → H.now host.old ≡ Some v → T.tells table → IfOk result (λ r. HasKept (H.now host.new) (H.may host.new) T.cell T.named T.there r.0) }
 
         // Where a state is bad, and of each node that can't be carried on, the checkpoint that was used is to blame.
-        ensures bad { (v : Image) (events : List Event) (n : ℕ) → H.now host.old ≡ Some v → HasEvents plan.now.schema events (v 2) → T.tells table →
+        ensures bad { (v : Image) (events : List Event) (n : ℕ) → H.now host.old ≡ Some v → Has (planned plan.now) events v → T.tells table →
             IfErr result (λ refused. refused.0 ≡ OpenFault.BadState n → IsBlamed (planned plan.now) v events n) }
-        ensures node { (v : Image) (events : List Event) (n : ℕ) → H.now host.old ≡ Some v → HasEvents plan.now.schema events (v 2) → T.tells table →
+        ensures node { (v : Image) (events : List Event) (n : ℕ) → H.now host.old ≡ Some v → Has (planned plan.now) events v → T.tells table →
             IfOk result (λ r. (NodeRuns (planned plan.now) n (H.now host.new) (H.may host.new) (T.tells r.0.engine.table) (T.cell r.0.engine.table) r.0.reservoir r.0.engine → ⊥) → IsBlamed (planned plan.now) v events n) }
         // A legal log is never refused as damaged, whatever the slots hold, and each edge then stands at a spelled spot.
-        ensures undamaged { (v : Image) (events : List Event) (p : ℕ) → H.now host.old ≡ Some v → HasEvents plan.now.schema events (v 2) → IfErr result (λ refused. refused.0 ≡ OpenFault.Damaged p → ⊥) }
-        ensures placed { (v : Image) (events : List Event) → H.now host.old ≡ Some v → HasEvents plan.now.schema events (v 2) → IfOk result (λ r. IsPlaced (planned plan.now) (H.now host.new) (H.may host.new) r.0.reservoir r.0.engine) }
+        ensures undamaged { (v : Image) (events : List Event) (p : ℕ) → H.now host.old ≡ Some v → Has (planned plan.now) events v → IfErr result (λ refused. refused.0 ≡ OpenFault.Damaged p → ⊥) }
+        ensures placed { (v : Image) (events : List Event) → H.now host.old ≡ Some v → Has (planned plan.now) events v → IfOk result (λ r. IsPlaced (planned plan.now) (H.now host.new) (H.may host.new) r.0.reservoir r.0.engine) }
 
         // At each moment, and at every result.
         ensures within { (v : Image) (keep : Option ℕ) → H.now host.old ≡ Some v → IsWithinOpening H.may H.clock H.since H.said (planned plan.now) keep v host.old host.new }
@@ -84,10 +85,10 @@ impl<T: Table> Session<T> {
             IsLeftAlone H.now H.may H.clock H.since H.said v host.old host.new × IfErr result (λ refused. SaysWhy (planned plan.now) v refused.0) }
 
         ensures disk { IfErr result (λ refused. refused.0 ≡ OpenFault.Disk → Rose (H.disk_faults host.old) (H.disk_faults host.new)) }
-        ensures differs { IfErr result (λ refused. refused.0 ≡ OpenFault.SchemaDiffers → ForSome (H.now host.old) (λ v. IsOther plan.now.schema (v 2))) }
+        ensures differs { IfErr result (λ refused. refused.0 ≡ OpenFault.SchemaDiffers → ForSome (H.now host.old) (λ v. IsForeign plan.now.schema plan.now.defaults (v 2))) }
         ensures damaged { (p : ℕ) → IfErr result (λ refused. refused.0 ≡ OpenFault.Damaged p →
-            ForSome (H.now host.old) (λ v. IsBadFrame p (v 2)) ⊎ ForSome (H.now host.old) (λ u. ForSome (H.now host.new) (λ v. IsIllegalSince plan.now.schema (u 2) p (v 2)))) }
-        ensures exact { (v : Image) → H.now host.old ≡ Some v → IsOther plan.now.schema (v 2) ⊎ ((p : ℕ) × IsBadFrame p (v 2)) → IfOk result (λ _. ⊥) }
+            ForSome (H.now host.old) (λ v. IsBadFrame p (v 2)) ⊎ ForSome (H.now host.old) (λ u. ForSome (H.now host.new) (λ v. IsIllegalOpened plan.now.schema plan.now.defaults (u 2) p (v 2)))) }
+        ensures exact { (v : Image) → H.now host.old ≡ Some v → IsForeign plan.now.schema plan.now.defaults (v 2) ⊎ ((p : ℕ) × IsBadFrame p (v 2)) → IfOk result (λ _. ⊥) }
         ensures table_disk { IfErr result (λ refused. refused.0 ≡ OpenFault.Table → Rose (T.faults table) (T.faults refused.1)) }
 
         ensures empty { IfOk result (λ r. opened r.0.reservoir ≡ []) }
@@ -95,7 +96,7 @@ impl<T: Table> Session<T> {
         ensures rooms { IfOk result (λ r. (room_of r.0.reservoir ≡ plan.now.room.chunk) × ((cache_of r.0.reservoir).cap ≡ plan.now.room.cache) × ((base r.0.reservoir).limit ≡ plan.now.room.limit)) }
         ensures grace { IfOk result (λ r. r.0.grace ≡ plan.now.grace) }
         ensures log { IfOk result (λ r. ((base r.0.reservoir).shape ≡ plan.now.schema) × ((base r.0.reservoir).file ≡ 2)) }
-        ensures view { IfOk result (λ r. ForSome (H.now host.old) (λ v. HasView plan.now.schema (view_of (base r.0.reservoir)) (v 2))) }
+        ensures view { IfOk result (λ r. ForSome (H.now host.old) (λ v. OpensView plan.now.schema plan.now.defaults (view_of (base r.0.reservoir)) (v 2))) }
         ensures numbers { IfOk result (λ r. (r.1.next ≡ next_of r.0.reservoir) × (r.1.count ≡ count_in r.0.reservoir) × (r.1.from ≡ r.0.saved)) }
         ensures reaches { IfOk result (λ r. ReachesEnd (log_of r.0.reservoir) (H.now host.new)) }
         ensures slots_reach { IfOk result (λ r. ReachesSlots r.0.slots (H.now host.new)) }

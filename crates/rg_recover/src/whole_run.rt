@@ -5,11 +5,11 @@ ghost use Rattle.rg_bytes.specs.Known.{IsAtEnd};
 ghost use Rattle.rg_host.specs.Image.{Image};
 ghost use Rattle.rg_event.specs.declared.event.Event.{Event};
 ghost use Rattle.rg_event.specs.Rising.{next_offset};
-ghost use Rattle.rg_log.specs.Log.{HasEvents};
 ghost use Rattle.rg_config.specs.Plans.{planned};
 ghost use Rattle.rg_config.specs.Read.{IsReadPlan};
-ghost use Rattle.rg_reservoir.specs.Attached.{IsOther, IsBadFrame, IsIllegalSince};
+ghost use Rattle.rg_reservoir.specs.Attached.{IsForeign, IsBadFrame, IsIllegalOpened};
 ghost use Rattle.rg_open.specs.Blame.{IsBlamed};
+ghost use Rattle.rg_open.specs.Stores.{Has};
 ghost use Rattle.rg_open.specs.Unfit.{IsUnfit, IsLeftAlone};
 ghost use Rattle.rg_open.specs.Within.{IsWithinOpening};
 ghost use Rattle.rg_recover.specs.Ready.{IsReadyRun, begun_by};
@@ -59,15 +59,15 @@ pub fn run<I: Source, H: Host, L: Ledger>(
     ensures gap { (n : ℕ) → IsErrOf result (RunFault.Gap n) → n < first }
 
     // Over any log that is legal: its first line is at most the next offset, which a gap tells.
-    ensures gap_next { (v : Image) (events : List Event) (n : ℕ) → H.now host.old ≡ Some v → HasEvents plan.now.schema events (v 2) → IsErrOf result (RunFault.Gap n) → n ≡ next_offset events }
-    ensures no_gap { (v : Image) (events : List Event) → H.now host.old ≡ Some v → HasEvents plan.now.schema events (v 2) → OnOk result (first ≤ next_offset events) }
-    ensures differs { IsErrOf result RunFault.SchemaDiffers → ForSome (H.now host.old) (λ v. IsOther plan.now.schema (v 2)) }
+    ensures gap_next { (v : Image) (events : List Event) (n : ℕ) → H.now host.old ≡ Some v → Has (planned plan.now) events v → IsErrOf result (RunFault.Gap n) → n ≡ next_offset events }
+    ensures no_gap { (v : Image) (events : List Event) → H.now host.old ≡ Some v → Has (planned plan.now) events v → OnOk result (first ≤ next_offset events) }
+    ensures differs { IsErrOf result RunFault.SchemaDiffers → ForSome (H.now host.old) (λ v. IsForeign plan.now.schema plan.now.defaults (v 2)) }
     ensures damaged { (p : ℕ) → IsErrOf result (RunFault.Damaged p) →
-        ForSome (H.now host.old) (λ v. IsBadFrame p (v 2)) ⊎ ForSome (H.now host.old) (λ u. ForSome (H.now host.new) (λ v. IsIllegalSince plan.now.schema (u 2) p (v 2))) }
-    ensures exact { (v : Image) → H.now host.old ≡ Some v → IsOther plan.now.schema (v 2) ⊎ ((p : ℕ) × IsBadFrame p (v 2)) → OnOk result ⊥ }
-    ensures bad { (v : Image) (events : List Event) (n : ℕ) → H.now host.old ≡ Some v → HasEvents plan.now.schema events (v 2) →
+        ForSome (H.now host.old) (λ v. IsBadFrame p (v 2)) ⊎ ForSome (H.now host.old) (λ u. ForSome (H.now host.new) (λ v. IsIllegalOpened plan.now.schema plan.now.defaults (u 2) p (v 2))) }
+    ensures exact { (v : Image) → H.now host.old ≡ Some v → IsForeign plan.now.schema plan.now.defaults (v 2) ⊎ ((p : ℕ) × IsBadFrame p (v 2)) → OnOk result ⊥ }
+    ensures bad { (v : Image) (events : List Event) (n : ℕ) → H.now host.old ≡ Some v → Has (planned plan.now) events v →
         IsErrOf result (RunFault.BadState n) → IsBlamed (planned plan.now) v events n }
-    ensures undamaged { (v : Image) (events : List Event) (p : ℕ) → H.now host.old ≡ Some v → HasEvents plan.now.schema events (v 2) → IsErrOf result (RunFault.Damaged p) → ⊥ }
+    ensures undamaged { (v : Image) (events : List Event) (p : ℕ) → H.now host.old ≡ Some v → Has (planned plan.now) events v → IsErrOf result (RunFault.Damaged p) → ⊥ }
     ensures at_end { OnOk result (IsAtEnd (I.left input.new)) }
     ensures within { OnOk result (IsWithinLimit (2 ^ 50) (I.left input.old)) }
     ensures read { IsErrOf result RunFault.Read → Rose (I.faults input.old) (I.faults input.new) }

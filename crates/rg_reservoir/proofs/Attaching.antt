@@ -1,21 +1,25 @@
 -- What a reservoir holds of a legal log that was opened.
-use Rattle.std.proofs.Common.{◌≡◌, ◌∙◌, ◌⊎◌, inl, inr, ℕ, ◌+◌, ◌^◌, ◌≤◌, List, [], ◌∷◌, length, Some, None, refl, sym, ap, subst, arith}
+use Rattle.std.proofs.Common.{◌≡◌, ◌∙◌, ◌⊎◌, inl, inr, ℕ, ◌+◌, List, [], ◌∷◌, length, Some, None, refl, sym, ap, subst, arith}
 use Rattle.std.proofs.lemmas.List.{append-nil}
 use Rattle.rg_host.specs.Image.{Image}
 use Rattle.rg_event.specs.declared.event.Event.{Event}
 use Rattle.rg_event.specs.Rising.{IsRising, next_offset, last_time}
-use Rattle.rg_event.specs.Shapes.{Shape}
+use Rattle.rg_event.specs.Shapes.{Shape, IsSchema}
+use Rattle.rg_growth.specs.Filling.{Given}
+use Rattle.rg_growth.proofs.Filled.{not_itself}
 use Rattle.rg_frame.specs.Frames.{frames, HasPayloads}
 use Rattle.rg_frame.proofs.FrameLists.{payloads_one}
 use Rattle.rg_cache.specs.Cache.{Cache, item_at}
 use Rattle.rg_log.specs.declared.summary.LogSummary.{LogSummary}
 use Rattle.rg_log.specs.declared.entry.LogSoFar.{LogSoFar}
-use Rattle.rg_log.specs.Entries.{unread, behind, summary_of, entries_after}
+use Rattle.rg_log.specs.Entries.{behind, summary_of}
+use Rattle.rg_log.specs.Filled.{HasEventsFor}
 use Rattle.rg_log.specs.Log.{schema_payload, joined, HasEvents, IsInForce}
 use Rattle.rg_log.specs.Stages.{Stage, logged, HasStages}
+use Rattle.rg_log.proofs.Filled.{unframed_events, grown_for}
 use Rattle.rg_log.proofs.Folds.{legal as legal_says}
-use Rattle.rg_log.proofs.Growing.{begun_log}
-use Rattle.rg_reservoir.specs.Attached.{Opens, IsOpened, IsOther, IsBadFrame}
+use Rattle.rg_log.proofs.Growing.{begun_log, in_force_of}
+use Rattle.rg_reservoir.specs.Attached.{Opens, IsOpened, IsOther, IsForeign, IsBadFrame}
 use Rattle.rg_reservoir.specs.Chain.{chunk_in, chunk_at, Chain}
 use Rattle.rg_reservoir.specs.GrownViews.{growths_from, IsViewOf}
 use Rattle.rg_reservoir.specs.Heads.{growths_in}
@@ -28,19 +32,37 @@ use Rattle.rg_reservoir.proofs.Committed.{stored_by}
 use Rattle.rg_reservoir.proofs.Committing.{log_at}
 use Rattle.rg_reservoir.proofs.Gathering.{growths_begun}
 use Rattle.rg_reservoir.proofs.GrownViews.{reads}
-use Rattle.rg_reservoir.proofs.Legal.{not_bad, not_other, unframed}
+use Rattle.rg_reservoir.proofs.Legal.{not_bad, not_other, other_for, unframed_for, said_in_force, grows_not, to_grow_in_force, not_to_grow}
 use Rattle.rg_reservoir.proofs.Listing.{listed}
 
 -- a legal log without a frame has no event
 pub no_events : (shape : Shape) (events : List Event) (bytes : List ℕ) → HasEvents shape events bytes → HasPayloads [] bytes → events ≡ []
 no_events shape events bytes x none = sym x.2 ∙ ap logged (subst (λ (l : List (List ℕ)). HasStages shape l x.0) (payloads_one x.1.payloads [] bytes x.1.has none) x.1.log)
 
--- what was legal is so behind the first frame, with the same events
-pub events_then : (shape : Shape) (events : List Event) (first end : ℕ) (old new : List ℕ) → HasEvents shape events old → Opens (schema_payload shape) first end old new → HasEvents shape events new
-events_then shape events first end old new has (inl same) = subst (λ (l : List ℕ). HasEvents shape events l) (sym same) has
-events_then shape events first end old new has (inr (none, ends, step)) =
+-- a schema that a log has events for is a legal one
+schema_legal : (shape : Shape) (defaults : Given) (events : List Event) (bytes : List ℕ) → HasEventsFor shape defaults events bytes → IsSchema shape
+schema_legal shape defaults events bytes (inl has) = has.1.schema
+schema_legal shape defaults events bytes (inr has) = has.fills.of.grows.legal
+
+-- where the schema is in force at the end of the frames, these are the log's own events: no schema grows to itself
+own_then : (shape : Shape) (defaults : Given) (growths : List Growing) (first end : ℕ) (tally : LogSummary) (events : List Event) (bytes : List ℕ) → IsOpened (seen_from shape growths) first end tally bytes → HasEventsFor shape defaults events bytes → HasEvents shape events bytes
+own_then shape defaults growths first end tally events bytes o (inl has) = has
+own_then shape defaults growths first end tally events bytes o (inr has) =
+    let same : has.from ≡ shape = said_in_force shape has.from (o.start ∷ o.payloads) tally bytes o.has o.say has.framed in
+    absurd (grows_not has.from shape shape defaults has.values same has.fills.filled_is (not_itself shape defaults))
+
+-- what was legal for the schema and its defaults is legal behind the first frame, or a growth, with the same events
+pub events_then : (shape : Shape) (defaults : Given) (growths : List Growing) (first end : ℕ) (tally : LogSummary) (events : List Event) (old new : List ℕ)
+    → HasEventsFor shape defaults events old → Opens shape defaults first end old new → IsOpened (seen_from shape growths) first end tally new → HasEvents shape events new
+events_then shape defaults growths first end tally events old new has (inl same) o = own_then shape defaults growths first end tally events new o (subst (λ (l : List ℕ). HasEventsFor shape defaults events l) (sym same) has)
+events_then shape defaults growths first end tally events old new has (inr (inl (none, ends, step))) o =
     let frameless = listed [] 0 old none (omega arith) in
-    subst (λ (l : List Event). HasEvents shape l new) (sym (no_events shape events old has frameless)) (begun_log shape old new has.1.schema frameless step).1
+    subst (λ (l : List Event). HasEvents shape l new) (sym (unframed_events payloads_one shape defaults events old frameless has)) (begun_log shape old new (schema_legal shape defaults events old has) frameless step).1
+events_then shape defaults growths first end tally events old new has (inr (inr (g, step))) o = grown_for payloads_one g.from shape defaults g.values events old new g.fills (to_grow_in_force shape defaults events old g has) has step
+
+-- the schema of a log that was opened is that of each list of events that it has
+pub opened_schema : (known shape : Shape) (growths : List Growing) (first end : ℕ) (tally : LogSummary) (events : List Event) (bytes : List ℕ) → IsOpened (seen_from known growths) first end tally bytes → HasEvents shape events bytes → known ≡ shape
+opened_schema known shape growths first end tally events bytes o has = sym (said_in_force known shape (o.start ∷ o.payloads) tally bytes o.has o.say (in_force_of payloads_one shape events bytes (o.start, o.payloads, o.has) has))
 
 -- the view that the heads and growths of a legal log give is that of its stages
 abbrev pub view_by_heads : (view : View) (stages : List Stage) (start : List ℕ) (payloads : List (List ℕ)) (bytes : List ℕ) → HasPayloads (start ∷ payloads) bytes → HasStages view.shape (start ∷ payloads) stages → view.growths ≡ growths_in (start ∷ payloads) → IsViewOf view stages bytes
@@ -114,11 +136,13 @@ attached w after b tally cache events o x count empty settled =
       all_is ∙ have,
     )
 
--- a log that was opened isn't refused
-pub refused : (shape : Shape) (growths : List Growing) (first end : ℕ) (tally : LogSummary) (old new : List ℕ) → Opens (schema_payload shape) first end old new → IsOpened (seen_from shape growths) first end tally new → IsOther shape old ⊎ ((p : ℕ) × IsBadFrame p old) → ⊥
-refused shape growths first end tally old new (inl same) o why = by (subst (λ (l : List ℕ). IsOther shape l ⊎ ((p : ℕ) × IsBadFrame p l)) (sym same) why)
-  where
-    by : IsOther shape new ⊎ ((p : ℕ) × IsBadFrame p new) → ⊥
-    by (inl other) = not_other shape (o.start ∷ o.payloads) (behind shape tally) new o.has o.say (inr refl) other
-    by (inr (p, bad)) = not_bad (o.start ∷ o.payloads) (behind shape tally) p new o.has o.say bad
-refused shape growths first end tally old new (inr (none, ends, step)) o why = unframed shape old (listed [] 0 old none (omega arith)) why
+-- a log that was opened is whole, and no other schema is in force at its end
+pub opened_ours : (shape : Shape) (growths : List Growing) (first end : ℕ) (tally : LogSummary) (bytes : List ℕ) → IsOpened (seen_from shape growths) first end tally bytes → IsOther shape bytes ⊎ ((p : ℕ) × IsBadFrame p bytes) → ⊥
+opened_ours shape growths first end tally bytes o (inl other) = not_other shape (o.start ∷ o.payloads) (behind shape tally) bytes o.has o.say (inr refl) other
+opened_ours shape growths first end tally bytes o (inr (p, bad)) = not_bad (o.start ∷ o.payloads) (behind shape tally) p bytes o.has o.say bad
+
+-- so it wasn't foreign, nor bad, before it was written
+pub refused : (shape : Shape) (defaults : Given) (growths : List Growing) (first end : ℕ) (tally : LogSummary) (old new : List ℕ) → Opens shape defaults first end old new → IsOpened (seen_from shape growths) first end tally new → IsForeign shape defaults old ⊎ ((p : ℕ) × IsBadFrame p old) → ⊥
+refused shape defaults growths first end tally old new (inl same) o why = opened_ours shape growths first end tally new o (other_for shape defaults new (subst (λ (l : List ℕ). IsForeign shape defaults l ⊎ ((p : ℕ) × IsBadFrame p l)) (sym same) why))
+refused shape defaults growths first end tally old new (inr (inl (none, ends, step))) o why = unframed_for shape defaults old (listed [] 0 old none (omega arith)) why
+refused shape defaults growths first end tally old new (inr (inr (g, step))) o why = not_to_grow shape defaults old g why

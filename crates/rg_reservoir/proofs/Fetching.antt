@@ -1,5 +1,5 @@
 -- What stands at a place, by what was read there.
-use Rattle.std.proofs.Common.{◌≡◌, ◌∙◌, ℕ, ◌+◌, ◌^◌, ◌<◌, List, [], ◌++◌, length, Option, Some, None, option_map, option_and_then, refl, sym, ap, subst, inl, inr, slice_index, arith, length-append, length-drop}
+use Rattle.std.proofs.Common.{◌≡◌, ◌∙◌, ℕ, ◌+◌, ◌^◌, ◌<◌, List, ◌++◌, length, Option, Some, None, option_map, option_and_then, refl, sym, ap, subst, inl, inr, slice_index, arith, length-append, length-drop}
 use Rattle.rg_event.specs.declared.event.Event.{Event}
 use Rattle.rg_event.specs.declared.schema.Field.{Field}
 use Rattle.rg_frame.specs.Frames.{body, payload_at}

@@ -1,11 +1,11 @@
 -- The growths among the frames of a log, gathered one after another.
-use Rattle.std.proofs.Common.{◌≡◌, ◌∙◌, ℕ, ◌+◌, ◌^◌, ◌≤◌, List, [], ◌∷◌, ◌++◌, length, Option, Some, None, option_map, option_and_then, refl, sym, ap, subst, arith, append_assoc}
+use Rattle.std.proofs.Common.{◌≡◌, ◌∙◌, ℕ, ◌+◌, ◌^◌, ◌≤◌, ◌==◌, List, [], ◌∷◌, ◌++◌, length, Option, Some, None, option_map, option_and_then, refl, sym, ap, subst, arith, append_assoc, if◌then◌else◌}
 use Rattle.std.proofs.Math.Bridge.{le_prop}
 use Rattle.std.proofs.lemmas.List.{append-nil}
 use Rattle.std.proofs.lemmas.List.Elements.{All-nil, All-cons}
 use Rattle.rg_event.specs.Shapes.{Shape, IsSchema}
 use Rattle.rg_event.specs.declared.value.Value.{Value}
-use Rattle.rg_growth.specs.Payloads.{growth_of}
+use Rattle.rg_growth.specs.Payloads.{IsGrowth, growth_of}
 use Rattle.rg_growth.specs.declared.growth.Growth.{Growth as TheGrowth}
 use Rattle.rg_frame.specs.Frames.{frames, FitsFrame, Begins, IsLog, HasPayloads}
 use Rattle.rg_frame.proofs.FrameLaws.{length-frames}
@@ -35,6 +35,10 @@ growing_same : (place next : ℕ) (from : Shape) (payload : List ℕ) (values : 
 growing_same place next from payload values behind is =
     subst (λ (n : ℕ). (b : place ≤ n) → record { place = place; next = n; from = from; values = values; behind = b } ≡ growing_at place from payload values) (sym is)
     (λ b. ap {B = Growing} (λ (c : place ≤ place + 9 + length payload). record { place = place; next = place + 9 + length payload; from = from; values = values; behind = c }) (le_prop b (growing_at place from payload values).behind)) behind
+
+-- the same of a copy of the schema
+pub growing_kept : (place next : ℕ) (from known : Shape) (payload : List ℕ) (values : List Value) (behind : place ≤ next) → known ≡ from → next ≡ place + 9 + length payload → record { place = place; next = next; from = known; values = values; behind = behind } ≡ growing_at place from payload values
+growing_kept place next from known payload values behind same is = growing_same place next known payload values behind is ∙ ap (λ (s : Shape). growing_at place s payload values) same
 
 -- the growth that a frame is, if it is one, and the schema in force behind it
 
@@ -185,3 +189,17 @@ growths_begun begun payloads stages legal are =
     let place : 0 + 9 + length ours ≡ 9 + length ours = omega arith in
     ap (λ (o : Option Shape). with_growing 0 ours None (option_map (λ (shape : Shape). Schema shape) o) further) (schema_said begun legal)
     ∙ ap (λ (n : ℕ). growths_by n (Some begun) payloads) place ∙ growths_staged (9 + length ours) begun payloads stages are
+
+-- the growths of a frame list, and one more behind them
+pub growths_grown : (end : ℕ) (so_far : LogSoFar) (from : Shape) (grown : TheGrowth) (payloads : List (List ℕ)) (p : List ℕ) → entries_after unread payloads ≡ Some so_far → length (frames payloads) ≡ end → so_far.schema ≡ Some from → IsGrowth from p grown
+    → growths_in (payloads ++ p ∷ []) ≡ growths_in payloads ++ growing_at end from p grown.values ∷ []
+growths_grown end so_far from grown payloads p say ends known said =
+    let further : Option Shape → List Growing = λ schema. growths_by (end + 9 + length p) schema [] in
+    let one : growths_by end so_far.schema (p ∷ []) ≡ growing_at end from p grown.values ∷ [] =
+    ap (λ (o : Option Shape). growths_by end o (p ∷ [])) known ∙ growth_said from end p grown further (growth_headless from p grown said) (growth_read from p grown said) in
+    growths-push 0 end unread so_far payloads p say (omega (arith, ends)) ∙ ap (λ (l : List Growing). growths_in payloads ++ l) one
+
+-- the place behind some growths that stand there, and then one more
+pub passed-push : (growths : List Growing) (growing : Growing) (place : ℕ) → passed (growths ++ growing ∷ []) place ≡ passed (growing ∷ []) (passed growths place)
+passed-push [] growing place = refl
+passed-push (g ∷ growths) growing place = passed-push growths growing (if g.place == place then g.next else place)

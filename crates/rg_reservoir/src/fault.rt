@@ -12,7 +12,8 @@ pub enum ReservoirFault {
     /// The open frame at that place, in bytes, isn't whole, isn't what its position asks for, or
     /// doesn't continue the frames before it.
     Damaged(u64),
-    /// Another schema is in force at the log's end.
+    /// Another schema is in force at the log's end; where a growth may be written, one that doesn't
+    /// grow to this one by its defaults.
     SchemaDiffers,
     /// There are as many events as there may be.
     Full,

@@ -1,9 +1,10 @@
-ghost use Rattle.std.specs.Prelude.{◌≡◌, ◌⊎◌, ◌↔◌, ◌≤◌, ◌<◌, ◌+◌, ◌-◌, ◌^◌, ◌++◌, [], ◌∷◌, ℕ, List, Ok, Err, Some, None, true, false, IfOk, IfErr, IfSome, IfNone, OnOk, OnErr, IsErrOf, IsTrue, length, slice_get, option_copied, All};
+ghost use Rattle.std.specs.Prelude.{◌≡◌, ◌≢◌, ◌⊎◌, ◌↔◌, ◌≤◌, ◌<◌, ◌+◌, ◌-◌, ◌^◌, ◌++◌, [], ◌∷◌, ℕ, List, Ok, Err, Some, None, true, false, IfOk, IfErr, IfSome, IfNone, OnOk, OnErr, IsErrOf, IsTrue, length, slice_get, option_copied, All};
 ghost use Rattle.std.specs.Option.{ForSome};
 ghost use Rattle.std.specs.Borrow.{sem};
 ghost use Rattle.rg_bytes.specs.Counts.{Rose};
 ghost use Rattle.rg_host.specs.Image.{Image, Becomes, InFile, NothingPending};
 ghost use Rattle.rg_host.specs.Moments.{Moments, LeavesAll};
+ghost use Rattle.rg_event.specs.Shapes.{Shape};
 ghost use Rattle.rg_event.specs.declared.event.Event.{Event as TheEvent};
 ghost use Rattle.rg_past.specs.declared.past.Spot.{Spot};
 ghost use Rattle.rg_frame.specs.Calls.{Writes};
@@ -11,15 +12,17 @@ ghost use Rattle.rg_frame.specs.Frames.{HasPayloads};
 ghost use Rattle.rg_frame.specs.LogState.{ReachesEnd};
 ghost use Rattle.rg_frame.specs.Steps.{From};
 ghost use Rattle.rg_cache.specs.Cache.{item_at, holds_place, places};
-ghost use Rattle.rg_log.specs.Log.{schema_payload, HasEvents};
-ghost use Rattle.rg_reservoir.specs.Attached.{IsOther, IsBadFrame, SchemaAdded, Opens, IsOpened, HasView};
+ghost use Rattle.rg_growth.specs.Growing.{AreDefaultsOf};
+ghost use Rattle.rg_log.specs.Filled.{HasEventsFor};
+ghost use Rattle.rg_log.specs.Log.{HasEvents};
+ghost use Rattle.rg_reservoir.specs.Attached.{IsForeign, IsOther, IsBadFrame, LogOpens, Opens, IsOpened, HasView, OpensView};
 ghost use Rattle.rg_reservoir.specs.Chain.{IsIllegalBy};
 ghost use Rattle.rg_reservoir.specs.Naming.{IsNamed};
 ghost use Rattle.rg_reservoir.specs.Taken.{AreTaken};
 
 use crate::fault::ReservoirFault;
 use crate::fetch::fetch;
-use crate::first::{open_log, read_log};
+use crate::first::{Found, find_log, is_same, open_log, read_log};
 use crate::kept::Kept;
 use crate::names::count_unnamed;
 use crate::view::Growths;
@@ -28,6 +31,7 @@ use rg_cache::ChunkCache;
 use rg_chunk::OpenChunk;
 use rg_event::{Event, Room, Schema};
 use rg_frame::FrameLog;
+use rg_growth::Defaults;
 use rg_host::Host;
 use rg_past::Spot;
 use std::alloc::Global;
@@ -104,30 +108,35 @@ impl Reservoir {
     /// A reservoir over the log of file 2, with room for `room.chunk` events in its open chunk, 1 to
     /// 4,096, for `room.cache` chunks in memory, 1 to 1,024, and for `room.limit` events in all, at
     /// most 2^40; a log that has more events is attached too. Reads the heads of the chunks in
-    /// order, and not what is in them, and the growths; writes the first frame of a log without a
-    /// frame, and nothing else. A damaged log is told before another schema: only a whole one has a
-    /// schema in force at its end.
+    /// order, and not what is in them, and the growths. Writes the first frame of a log without a frame,
+    /// or one growth where the schema in force at the log's end grows to this one and each column
+    /// that it lacks has a default, and nothing else; then each event has these defaults behind its own
+    /// values. A default of a column that is there isn't used. A damaged log is told before another
+    /// schema: only a whole one has a schema in force at its end. A refusal other than `Disk` has
+    /// written nothing.
     pub fn attach<H: Host>(
         alloc: Global,
         host: &mut H,
         schema: &Schema,
+        defaults: &Defaults,
         room: Room,
     ) -> Result<Reservoir, ReservoirFault>
         requires chunk { (1 ≤ room.chunk) × (room.chunk ≤ 4096) }
         requires cache { (1 ≤ room.cache) × (room.cache ≤ 1024) }
         requires limit { room.limit ≤ 2 ^ 40 }
+        requires defaults { AreDefaultsOf schema.now.fields defaults.now }
 
         // Over a legal log of which nothing is pending.
-        ensures sound { (v : Image) (events : List TheEvent) → H.now host.old ≡ Some v → NothingPending 2 (H.now host.old) (H.may host.old) → HasEvents schema.now events (v 2)
+        ensures sound { (v : Image) (events : List TheEvent) → H.now host.old ≡ Some v → NothingPending 2 (H.now host.old) (H.may host.old) → HasEventsFor schema.now defaults.now events (v 2)
             → IfOk result (λ r. IsSound (H.now host.new) (H.may host.new) r × (all_events (H.now host.new) (base r) (opened r) ≡ events)) }
-        ensures legal { (v : Image) (events : List TheEvent) (p : ℕ) → H.now host.old ≡ Some v → HasEvents schema.now events (v 2) → IsErrOf result (ReservoirFault.Damaged p) → ⊥ }
-        ensures legal_ours { (v : Image) (events : List TheEvent) → H.now host.old ≡ Some v → HasEvents schema.now events (v 2) → IsErrOf result ReservoirFault.SchemaDiffers → ⊥ }
+        ensures legal { (v : Image) (events : List TheEvent) (p : ℕ) → H.now host.old ≡ Some v → HasEventsFor schema.now defaults.now events (v 2) → IsErrOf result (ReservoirFault.Damaged p) → ⊥ }
+        ensures legal_ours { (v : Image) (events : List TheEvent) → H.now host.old ≡ Some v → HasEventsFor schema.now defaults.now events (v 2) → IsErrOf result ReservoirFault.SchemaDiffers → ⊥ }
 
         // Of any image.
         ensures opened { IfOk result (λ r. ForSome (H.now host.new) (λ w. IsOpened (view_of (base r)) (base r).first (base r).end (record { count = (base r).committed; next = the_next_of r; time = time_of r }) (w 2))) }
-        ensures view { IfOk result (λ r. ForSome (H.now host.old) (λ v. HasView schema.now (view_of (base r)) (v 2))) }
-        ensures exact { (v : Image) → H.now host.old ≡ Some v → IsOther schema.now (v 2) ⊎ ((p : ℕ) × IsBadFrame p (v 2)) → IfOk result (λ _. ⊥) }
-        ensures differs { IsErrOf result ReservoirFault.SchemaDiffers → ForSome (H.now host.old) (λ v. IsOther schema.now (v 2)) }
+        ensures view { IfOk result (λ r. ForSome (H.now host.old) (λ v. OpensView schema.now defaults.now (view_of (base r)) (v 2))) }
+        ensures exact { (v : Image) → H.now host.old ≡ Some v → IsForeign schema.now defaults.now (v 2) ⊎ ((p : ℕ) × IsBadFrame p (v 2)) → IfOk result (λ _. ⊥) }
+        ensures differs { IsErrOf result ReservoirFault.SchemaDiffers → ForSome (H.now host.old) (λ v. IsForeign schema.now defaults.now (v 2)) }
         ensures damaged { (p : ℕ) → IsErrOf result (ReservoirFault.Damaged p) → ForSome (H.now host.old) (λ v. IsBadFrame p (v 2)) }
         ensures other { (v : Image) (p : ℕ) → H.now host.old ≡ Some v → IsOther schema.now (v 2) → IsErrOf result (ReservoirFault.Damaged p) → ⊥ }
         ensures disk { IsErrOf result ReservoirFault.Disk → Rose (H.disk_faults host.old) (H.disk_faults host.new) }
@@ -135,8 +144,9 @@ impl Reservoir {
 
         ensures going { IfOk result (λ r. ((base r).ended ≡ false) × ((base r).file ≡ 2) × ((base r).shape ≡ schema.now) × ((base r).limit ≡ room.limit)) }
         ensures empty { IfOk result (λ r. (opened r ≡ []) × (room_of r ≡ room.chunk) × (places (cache_of r) ≡ []) × ((cache_of r).cap ≡ room.cache) × (loads_of r ≡ 0)) }
-        ensures opens { IfOk result (λ r. Becomes (H.now host.old) (H.now host.new) (λ v w. Opens (schema_payload schema.now) (base r).first (base r).end (v 2) (w 2))) }
-        ensures writes { Writes H.now H.may H.clock H.since H.said 2 (SchemaAdded (schema_payload schema.now)) host.old host.new }
+        ensures opens { IfOk result (λ r. Becomes (H.now host.old) (H.now host.new) (λ v w. Opens schema.now defaults.now (base r).first (base r).end (v 2) (w 2))) }
+        ensures writes { Writes H.now H.may H.clock H.since H.said 2 (LogOpens schema.now defaults.now) host.old host.new }
+        ensures untouched { IfErr result (λ fault. (fault ≡ ReservoirFault.Disk) ⊎ LeavesAll H.now H.may H.clock H.since H.said host.old host.new) }
         ensures settled { OnOk result (NothingPending 2 (H.now host.old) (H.may host.old) → NothingPending 2 (H.now host.new) (H.may host.new)) }
         ensures reaches { IfOk result (λ r. ReachesEnd (log_of r) (H.now host.new)) }
         ensures disk_faults { H.disk_faults host.old ≤ H.disk_faults host.new }
@@ -146,7 +156,7 @@ impl Reservoir {
             Ok(taken) => taken,
             Err(_) => return Err(ReservoirFault::Memory),
         };
-        match open_log(alloc, &taken.schema, &taken.ours, host) {
+        match open_log(alloc, &taken.schema, defaults, &taken.ours, host) {
             Ok(opened) => Ok(Reservoir {
                 alloc,
                 schema: taken.schema,
@@ -166,8 +176,8 @@ impl Reservoir {
         }
     }
 
-    /// A reservoir over the log of file 2 to read alone, as `attach` makes one, and none where the log has no
-    /// frame: nothing is written, also no first frame. Its open chunk stays empty.
+    /// A reservoir over the log of file 2 to read alone, as `attach` makes one of a log that has this schema, and none
+    /// where the log has no frame: nothing is written, neither a first frame nor a growth. Its open chunk stays empty.
     pub fn view<H: Host>(
         alloc: Global,
         host: &mut H,
@@ -187,6 +197,7 @@ impl Reservoir {
 
         // Of any image.
         ensures none { IfOk result (λ found. IfNone found (ForSome (H.now host.old) (λ v. HasPayloads [] (v 2)))) }
+        ensures opened { IfOk result (λ found. IfSome found (λ r. ForSome (H.now host.old) (λ v. IsOpened (view_of (base r)) (base r).first (base r).end (record { count = (base r).committed; next = the_next_of r; time = time_of r }) (v 2)))) }
         ensures view { IfOk result (λ found. IfSome found (λ r. ForSome (H.now host.old) (λ v. HasView schema.now (view_of (base r)) (v 2)))) }
         ensures exact { (v : Image) → H.now host.old ≡ Some v → IsOther schema.now (v 2) ⊎ ((p : ℕ) × IsBadFrame p (v 2)) → IfOk result (λ _. ⊥) }
         ensures differs { IsErrOf result ReservoirFault.SchemaDiffers → ForSome (H.now host.old) (λ v. IsOther schema.now (v 2)) }
@@ -223,6 +234,80 @@ impl Reservoir {
             Ok(None) => Ok(None),
             Err(fault) => Err(fault),
         }
+    }
+
+    /// A reservoir over the log of file 2 to read alone, as `view` makes one, of the schema in force at the log's
+    /// end, and none where the log has no frame: nothing is written.
+    pub fn read<H: Host>(
+        alloc: Global,
+        host: &mut H,
+        room: Room,
+    ) -> Result<Option<Reservoir>, ReservoirFault>
+        requires chunk { (1 ≤ room.chunk) × (room.chunk ≤ 4096) }
+        requires cache { (1 ≤ room.cache) × (room.cache ≤ 1024) }
+        requires limit { room.limit ≤ 2 ^ 40 }
+
+        // Over a legal log of which nothing is pending.
+        ensures sound { (v : Image) (shape : Shape) (events : List TheEvent) → H.now host.old ≡ Some v → NothingPending 2 (H.now host.old) (H.may host.old) → HasEvents shape events (v 2)
+            → IfOk result (λ found. IfSome found (λ r. IsSound (H.now host.new) (H.may host.new) r × ((base r).shape ≡ shape) × (all_events (H.now host.new) (base r) (opened r) ≡ events))) }
+        ensures legal { (v : Image) (shape : Shape) (events : List TheEvent) (p : ℕ) → H.now host.old ≡ Some v → HasEvents shape events (v 2) → IsErrOf result (ReservoirFault.Damaged p) → ⊥ }
+
+        // Of any image.
+        ensures none { IfOk result (λ found. IfNone found (ForSome (H.now host.old) (λ v. HasPayloads [] (v 2)))) }
+        ensures opened { IfOk result (λ found. IfSome found (λ r. ForSome (H.now host.old) (λ v. IsOpened (view_of (base r)) (base r).first (base r).end (record { count = (base r).committed; next = the_next_of r; time = time_of r }) (v 2)))) }
+        ensures exact { (v : Image) (p : ℕ) → H.now host.old ≡ Some v → IsBadFrame p (v 2) → IfOk result (λ _. ⊥) }
+        ensures damaged { (p : ℕ) → IsErrOf result (ReservoirFault.Damaged p) → ForSome (H.now host.old) (λ v. IsBadFrame p (v 2)) }
+        ensures disk { IsErrOf result ReservoirFault.Disk → Rose (H.disk_faults host.old) (H.disk_faults host.new) }
+        ensures neither { (IsErrOf result ReservoirFault.Full → ⊥) × (IsErrOf result ReservoirFault.Ended → ⊥) × (IsErrOf result ReservoirFault.SchemaDiffers → ⊥) }
+
+        ensures going { IfOk result (λ found. IfSome found (λ r. ((base r).ended ≡ false) × ((base r).file ≡ 2) × ((base r).limit ≡ room.limit))) }
+        ensures empty { IfOk result (λ found. IfSome found (λ r. (opened r ≡ []) × (room_of r ≡ room.chunk) × (places (cache_of r) ≡ []) × ((cache_of r).cap ≡ room.cache) × (loads_of r ≡ 0))) }
+        ensures leaves { LeavesAll H.now H.may H.clock H.since H.said host.old host.new }
+        ensures disk_faults { H.disk_faults host.old ≤ H.disk_faults host.new }
+        ensures out_faults { H.out_faults host.new ≡ H.out_faults host.old }
+    {
+        let cache = match ChunkCache::new(alloc, room.cache) {
+            Ok(cache) => cache,
+            Err(_) => return Err(ReservoirFault::Memory),
+        };
+        let open = match OpenChunk::new(alloc, room.chunk) {
+            Ok(open) => open,
+            Err(_) => return Err(ReservoirFault::Memory),
+        };
+        match find_log(alloc, host) {
+            Ok(Some(Found { schema, opened })) => Ok(Some(Reservoir {
+                alloc,
+                schema,
+                growths: opened.growths,
+                log: opened.log,
+                first: opened.first,
+                ended: false,
+                cache,
+                open,
+                committed: opened.tally.count,
+                next_offset: opened.tally.next,
+                last_time: opened.tally.time,
+                loads: 0,
+                limit: room.limit,
+            })),
+            Ok(None) => Ok(None),
+            Err(fault) => Err(fault),
+        }
+    }
+
+    /// The schema of its events.
+    pub fn schema(&self) -> &Schema
+        ensures { result.now ≡ (base self.now).shape }
+    {
+        &self.schema
+    }
+
+    /// Whether that is the schema of its events.
+    pub fn is_of(&self, alloc: Global, schema: &Schema) -> Result<bool, Memory>
+        ensures same { IfOk result (λ is. IsTrue is → (base self.now).shape ≡ schema.now) }
+        ensures differs { IfOk result (λ is. is ≡ false → (base self.now).shape ≢ schema.now) }
+    {
+        is_same(alloc, &self.schema, schema)
     }
 
     /// How many events there are.

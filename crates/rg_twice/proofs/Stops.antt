@@ -8,6 +8,7 @@ use Rattle.std.proofs.lemmas.List.Elements.{Contains-append_left, Contains-appen
 use Rattle.rg_bytes.specs.Counts.{Rose}
 use Rattle.rg_bytes.specs.Known.{after}
 use Rattle.rg_event.specs.declared.event.Event.{Event}
+use Rattle.rg_event.specs.declared.value.Value.{Value}
 use Rattle.rg_event.specs.Rising.{next_offset}
 use Rattle.rg_event.specs.Shapes.{Shape, IsSchema}
 use Rattle.rg_reply.specs.Texts.{mark_line}
@@ -23,7 +24,8 @@ use Rattle.rg_host.specs.MemHost.{Ledger, now_in, may_in, clock_in, since_in, sa
 use Rattle.rg_host.specs.Fused.{Fused, of_inner}
 use Rattle.rg_config.specs.Plans.{Planned}
 use Rattle.rg_checkpoint.specs.Slots.{HasSlot}
-use Rattle.rg_log.specs.Log.{HasLegalLog, HasEvents, IsOfSchema}
+use Rattle.rg_log.specs.Log.{HasLegalLog}
+use Rattle.rg_log.specs.Filled.{HasEventsFor, IsOfSchemaFor}
 use Rattle.rg_course.specs.Accepted.{events_after}
 use Rattle.rg_course.specs.Acknowledged.{SaysStored, HoldsStored}
 use Rattle.rg_course.specs.Laws.{IsPrefixOf, MayLeave, below}
@@ -68,10 +70,10 @@ module _ (plan : Planned) (input : List ℕ) (now : Option Image) (may : Image �
   left_as_read u left f small = s.settled f small s.image s.told u left
 
   pub left_of_plan : (u : Image) → may u → IsOfPlan plan u
-  left_of_plan u left = subst (λ (bytes : List ℕ). IsOfSchema plan.shape bytes) (sym (left_as_read u left 2 (omega arith))) s.schema
+  left_of_plan u left = subst (λ (bytes : List ℕ). IsOfSchemaFor plan.shape plan.defaults bytes) (sym (left_as_read u left 2 (omega arith))) s.schema
 
   pub left_has : (u : Image) → may u → Has plan s.held u
-  left_has u left = subst (λ (bytes : List ℕ). HasEvents plan.shape s.held bytes) (sym (left_as_read u left 2 (omega arith))) s.has
+  left_has u left = subst (λ (bytes : List ℕ). HasEventsFor plan.shape plan.defaults s.held bytes) (sym (left_as_read u left 2 (omega arith))) s.has
 
   abbrev pub ready_for : (said : Option (List ℕ)) (put : List ℕ) → said ≡ Some put → IsReadyRun plan now may said
   ready_for said put told = record {
@@ -140,15 +142,19 @@ going_on plan input held lines now may v told settled left = record {
 same_accepted : (one two : Planned) (input : List ℕ) → AcceptsAlike one two → accepted_of one input ≡ accepted_of two input
 same_accepted one two input alike = sym (accepted_alike (terms_of one).basis (terms_of two).basis [] 0 (lines_of input) (record { fields = ap (λ (shape : Shape). shape.fields) alike.shape; most = alike.most; header = alike.header; grace = alike.grace }))
 
+-- what holds of the schema and the defaults of one
+alike_both : (one two : Planned) → AcceptsAlike one two → (P : Shape → List (Option Value) → Type 0) → P one.shape one.defaults → P two.shape two.defaults
+alike_both one two alike P holds = subst (λ (defaults : List (Option Value)). P two.shape defaults) alike.defaults (subst (λ (shape : Shape). P shape one.defaults) alike.shape holds)
+
 pub going_on_alike : (one two : Planned) (input : List ℕ) (now : Option Image) (may : Image → Type 0) → AcceptsAlike one two → IsGoingOn one input now may → IsGoingOn two input now may
 going_on_alike one two input now may alike s = record {
   image = s.image;
   told = s.told;
   settled = s.settled;
   truthful = s.truthful;
-  schema = subst (λ (shape : Shape). IsOfSchema shape (s.image 2)) alike.shape s.schema;
+  schema = alike_both one two alike (λ shape defaults. IsOfSchemaFor shape defaults (s.image 2)) s.schema;
   held = s.held;
-  has = subst (λ (shape : Shape). HasEvents shape s.held (s.image 2)) alike.shape s.has;
+  has = alike_both one two alike (λ shape defaults. HasEventsFor shape defaults s.held (s.image 2)) s.has;
   on_course = s.on_course ∙ ap (λ (es : List Event). below (next_offset s.held) es) (same_accepted one two input alike);
 }
 
@@ -177,9 +183,9 @@ going_anew plan input schema = record {
       let same : bare ≡ v = cc in
       ap (λ (w : Image). w file) (left ∙ same);
   truthful = bare_truthful;
-  schema = inl (no_payload 2);
+  schema = inl (inl (no_payload 2));
   held = [];
-  has = bare_has plan.shape schema;
+  has = inl (bare_has plan.shape schema);
   on_course = left_below (terms_of plan) [] 0 (lines_of input) [] tt (record { keeps = ([], refl); begins = (accepted_of plan input, refl) });
 }
 

@@ -31,7 +31,8 @@ abbrev pub accepted_of : Planned → List ℕ → List Event
 accepted_of plan input = events_after (terms_of plan).basis [] 0 (lines_of input)
 
 -- A store from which a run of that plan and input goes on: nothing of the log or of a slot is pending, the image is truthful, and its log
--- is of the plan's schema or has no frame; its events are those accepted of the input that lie below some offset, its next one.
+-- is of the plan's schema, of one that grows to it by the plan's defaults, or has no frame; its events for the plan are those accepted of
+-- the input that lie below some offset, its next one.
 pub record IsGoingOn (plan : Planned) (input : List ℕ) (now : Option Image) (may : Image → Type 0) : Type 0 where
   pub image : Image
   pub told : now ≡ Some image
@@ -46,9 +47,10 @@ pub record IsGoingOn (plan : Planned) (input : List ℕ) (now : Option Image) (m
 abbrev pub Words : Type 0
 Words = List (String Global)
 
--- two plans accept the same events, whatever they ask: with the same schema, limit, header and grace
+-- two plans accept the same events, whatever they ask: with the same schema, defaults, limit, header and grace
 pub record AcceptsAlike (one two : Planned) : Type 0 where
   pub shape : one.shape ≡ two.shape
+  pub defaults : one.defaults ≡ two.defaults
   pub most : one.settings.events ≡ two.settings.events
   pub header : one.settings.header ≡ two.settings.header
   pub grace : one.settings.grace ≡ two.settings.grace

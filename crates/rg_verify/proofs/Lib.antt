@@ -1,5 +1,6 @@
 pub mod Reading
 pub mod Logs
+pub mod Found
 pub mod Fits
 pub mod Judged
 pub mod Chunks

@@ -1,13 +1,16 @@
 -- A legal log: its events, and that they serve a plan.
-use Rattle.std.proofs.Common.{◌≡◌, ℕ, zero, suc, ◌≤◌, ◌^◌, List, [], ◌∷◌, length, take, None, subst, arith}
+use Rattle.std.proofs.Common.{◌≡◌, inl, inr, ℕ, zero, suc, ◌≤◌, List, [], ◌∷◌, length, take, None, arith}
 use Rattle.std.specs.Prelude.{All}
 use Rattle.std.proofs.lemmas.List.Elements.{All-nil, All-cons, All-head, All-tail}
 use Rattle.rg_event.specs.Codec.{IsEventOf}
 use Rattle.rg_event.specs.Shapes.{Shape}
 use Rattle.rg_event.specs.declared.event.Event.{Event}
+use Rattle.rg_frame.specs.Frames.{HasPayloads}
+use Rattle.rg_growth.specs.Filling.{Given}
 use Rattle.rg_host.specs.Image.{Image}
+use Rattle.rg_log.specs.Filled.{HasEventsFor}
 use Rattle.rg_log.specs.Log.{HasEvents}
-use Rattle.rg_log.proofs.Staging.{events_of_schema}
+use Rattle.rg_log.proofs.Filled.{of_for, few_for}
 use Rattle.rg_plan.specs.Plans.{Tasks}
 use Rattle.rg_dump.specs.Dump.{damage_of}
 use Rattle.rg_dump.proofs.Legal.{legal_read}
@@ -20,19 +23,25 @@ use Rattle.rg_verify.specs.Verify.{IsVerifiable}
 pub payments_are : (shape : Shape) (events : List Event) (bytes : List ℕ) → HasEvents shape events bytes → payments_in bytes ≡ events
 payments_are shape events bytes has = (legal_read shape bytes events has).0
 
--- and nothing of it is damaged
-pub undamaged : (shape : Shape) (events : List Event) (bytes : List ℕ) → HasEvents shape events bytes → damage_of bytes ≡ None
-undamaged shape events bytes has = (legal_read shape bytes events has).1
+-- for a schema and its defaults: nothing of it is damaged, and it has a frame list
+module _ (shape : Shape) (defaults : Given) (events : List Event) (bytes : List ℕ) where
+  pub undamaged : HasEventsFor shape defaults events bytes → damage_of bytes ≡ None
+  undamaged (inl own) = (legal_read shape bytes events own).1
+  undamaged (inr filled) = (legal_read filled.from bytes filled.own filled.has).1
 
--- they are of its columns, and few
-pub served : (terms : Terms) (v : Image) (events : List Event) → IsVerifiable terms v events → AreServed terms.tasks events
-served terms v events is = record {
+  pub frames_of : HasEventsFor shape defaults events bytes → (payloads : List (List ℕ)) × HasPayloads payloads bytes
+  frames_of (inl own) = (own.1.payloads, own.1.has)
+  frames_of (inr filled) = (filled.has.1.payloads, filled.has.1.has)
+
+-- its events are of these columns, and few
+pub served : (terms : Terms) (defaults : Given) (v : Image) (events : List Event) → IsVerifiable terms defaults v events → AreServed terms.tasks events
+served terms defaults v events is = record {
   fed = record {
     fields = terms.shape.fields;
     serves = is.serves;
-    are = events_of_schema terms.shape events (v 2) is.has;
+    are = of_for terms.shape defaults events (v 2) is.has;
   };
-  few = subst (λ (l : List Event). length l ≤ 2 ^ 40) is.has.2 is.has.1.few;
+  few = few_for terms.shape defaults events (v 2) is.has;
 }
 
 All-take : (P : Event → Type 0) (n : ℕ) (events : List Event) → All P events → All P (take n events)

@@ -14,7 +14,7 @@ use Rattle.rg_dump.specs.Behind.{stage_events, stage_values, events_in}
 use Rattle.rg_dump.specs.Dump.{damage_of}
 use Rattle.rg_dump.proofs.Behind.{events_push}
 use Rattle.rg_dump.proofs.Walking.{IsAt, at_start, at_next, at_end, at_damage}
-use Rattle.rg_verify.specs.Payments.{events_after, has_frames, payments_in, is_framed, IsReadAll}
+use Rattle.rg_verify.specs.Payments.{events_after, has_frames, IsReadAll}
 
 -- a frame more, by cases
 after_is : (events : List Event) (s : Stage) → all_extended (stage_values s) events ++ stage_events s ≡ events_after events s

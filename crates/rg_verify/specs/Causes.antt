@@ -7,8 +7,9 @@ use Rattle.rg_event.specs.Shapes.{Shape}
 use Rattle.rg_event.specs.declared.event.Event.{Event}
 use Rattle.rg_event.specs.declared.room.Room.{Room}
 use Rattle.rg_host.specs.Image.{Image}
-use Rattle.rg_log.specs.Log.{HasEvents}
-use Rattle.rg_reservoir.specs.Attached.{IsOther}
+use Rattle.rg_growth.specs.Filling.{Given}
+use Rattle.rg_log.specs.Filled.{HasEventsFor}
+use Rattle.rg_reservoir.specs.Attached.{IsForeign}
 use Rattle.rg_verify.specs.declared.fault.VerifyFault.{VerifyFault}
 use Rattle.rg_verify.specs.declared.fault.VerifyFault.TheVariants.{Disk, Damaged, SchemaDiffers, Memory, Write}
 
@@ -25,14 +26,14 @@ IsUnjudged IsDamaged is_other before after Write = ⊥
 abbrev pub IsFirstDamage : Option Image → ℕ → Type 0
 IsFirstDamage now place = ForSome now (λ v. damage_of (v 2) ≡ Some place)
 
--- the log is of another schema than this, and has no events of it
-pub record IsOfOther (shape : Shape) (now : Option Image) : Type 0 where
-  pub other : ForSome now (λ v. IsOther shape (v 2))
-  pub no_events : (v : Image) (events : List Event) → now ≡ Some v → HasEvents shape events (v 2) → ⊥
+-- the log is of another schema than this, which doesn't grow to it by these defaults, and has no events of it
+pub record IsOfOther (shape : Shape) (defaults : Given) (now : Option Image) : Type 0 where
+  pub other : ForSome now (λ v. IsForeign shape defaults (v 2))
+  pub no_events : (v : Image) (events : List Event) → now ≡ Some v → HasEventsFor shape defaults events (v 2) → ⊥
 
 -- so it is, and no frame of it is damaged, chunks included
-pub record IsWholeOther (shape : Shape) (now : Option Image) : Type 0 where
-  pub is : IsOfOther shape now
+pub record IsWholeOther (shape : Shape) (defaults : Given) (now : Option Image) : Type 0 where
+  pub is : IsOfOther shape defaults now
   pub whole : ForSome now (λ v. damage_of (v 2) ≡ None)
 
 -- rooms and a limit with which a log can be read

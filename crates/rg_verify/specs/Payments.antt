@@ -1,6 +1,7 @@
 -- What a log has, up to where it ends or is damaged.
-use Rattle.std.specs.Prelude.{◌≡◌, ℕ, Bool, true, false, List, [], ◌∷◌, ◌++◌, None}
+use Rattle.std.specs.Prelude.{◌≡◌, ℕ, Bool, true, false, List, [], ◌∷◌, ◌++◌, Option, Some, None}
 use Rattle.rg_event.specs.declared.event.Event.{Event}
+use Rattle.rg_event.specs.declared.value.Value.{Value}
 use Rattle.rg_chunk.specs.Extended.{all_extended}
 use Rattle.rg_reservoir.specs.declared.walk.Stage.{Stage}
 use Rattle.rg_reservoir.specs.declared.walk.Stage.TheVariants as stage
@@ -13,6 +14,11 @@ abbrev pub events_after : List Event → Stage → List Event
 events_after events (stage.Schema shape) = events
 events_after events (stage.Chunk chunk) = events ++ chunk
 events_after events (stage.Growth shape values) = all_extended values events
+
+-- the events with these values behind their own, where there are some
+abbrev pub extended_by : Option (List Value) → List Event → List Event
+extended_by None events = events
+extended_by (Some values) events = all_extended values events
 
 abbrev pub has_frames : List Stage → Bool
 has_frames [] = false

@@ -4,16 +4,17 @@ use Rattle.rg_event.specs.declared.event.Event.{Event}
 use Rattle.rg_host.specs.Image.{Image}
 use Rattle.rg_host.specs.Lines.{ended}
 use Rattle.rg_host.specs.Puts.{IsPrefix}
-use Rattle.rg_log.specs.Log.{HasEvents}
+use Rattle.rg_growth.specs.Filling.{Given}
+use Rattle.rg_log.specs.Filled.{HasEventsFor}
 use Rattle.rg_engine.specs.Feeding.{Serves}
 use Rattle.rg_checkpoint.specs.Slots.{IsSlot}
 use Rattle.rg_checkpoint.specs.declared.base.Checkpoint.{Checkpoint}
 use Rattle.rg_verify.specs.Verdicts.{Terms, IsVerdict, differs, verdict_text}
 use Rattle.rg_verify.specs.declared.verdict.Verdict.{Verdict}
 
--- the image's log, file 2, is legal, of these columns or without a frame, and has these events; and the columns serve the plan
-pub record IsVerifiable (terms : Terms) (v : Image) (events : List Event) : Type 0 where
-  pub has : HasEvents terms.shape events (v 2)
+-- the image's log, file 2, is legal, of these columns, of fewer that grow to them by these defaults, or without a frame, and has these events; and the columns serve the plan
+pub record IsVerifiable (terms : Terms) (defaults : Given) (v : Image) (events : List Event) : Type 0 where
+  pub has : HasEventsFor terms.shape defaults events (v 2)
   pub serves : Serves terms.shape.fields terms.tasks
 
 -- these are said of the image's slots, files 0 and 1, beside a log of these events

@@ -12,7 +12,8 @@ pub enum VerifyFault {
     /// The open frame of the log at that place, in bytes, is the first one that isn't whole, isn't what its
     /// position asks for, or doesn't continue the frames before it.
     Damaged(u64),
-    /// Another schema than the plan's is in force at the log's end. No frame of it is damaged.
+    /// Another schema than the plan's is in force at the log's end, and doesn't grow to it by the plan's
+    /// defaults. No frame of the log is damaged.
     SchemaDiffers,
     /// Memory ran out.
     Memory,

@@ -1,15 +1,53 @@
-ghost use Rattle.std.specs.Prelude.{◌≡◌, [], IfOk, IfErr, IfSome, OnOk};
+ghost use Rattle.std.specs.Prelude.{◌≡◌, [], ℕ, IfOk, IfErr, IfSome};
 ghost use Rattle.std.specs.Option.{ForSome};
 ghost use Rattle.rg_dump.specs.Leaves.{LeavesRead};
-ghost use Rattle.rg_reservoir.specs.Attached.{IsOther};
-ghost use Rattle.rg_reservoir.specs.Kept.{opened};
+ghost use Rattle.rg_growth.specs.Growing.{AreDefaultsOf};
+ghost use Rattle.rg_reservoir.specs.Kept.{base, opened};
 ghost use Rattle.rg_verify.specs.Causes.{IsOfOther, IsReadable, IsUnjudged};
+ghost use Rattle.rg_verify.specs.Finding.{IsApart, IsFoundFor, IsFurther};
 
 use crate::fault::VerifyFault;
-use rg_event::{Room, Schema};
+use rg_bytes::Memory;
+use rg_event::{Room, Schema, Values};
+use rg_growth::{Defaults, Growth};
 use rg_host::Host;
 use rg_reservoir::{Reservoir, ReservoirFault};
 use std::alloc::Global;
+
+/// A log that was found by the heads of its chunks and by its growths.
+#[derive(Drop)]
+pub(crate) struct Found {
+    /// None where it has no frame.
+    pub(crate) log: Option<Reservoir>,
+    /// What comes behind the values of each of its payments, where another schema than the plan's is in force at its
+    /// end.
+    pub(crate) further: Option<Values>,
+}
+
+/// What comes behind the values of each payment of a log to make it one of this schema: nothing where the log's is the
+/// same, and else the defaults of the columns that it lacks. A log whose schema doesn't grow to this one by them is
+/// told as another's.
+fn further(
+    alloc: Global,
+    log: &Reservoir,
+    schema: &Schema,
+    defaults: &Defaults,
+) -> Result<Option<Values>, VerifyFault>
+    requires given { AreDefaultsOf schema.now.fields defaults.now }
+    ensures is { IfOk result (IsFurther (base log.now).shape schema.now defaults.now) }
+    ensures cause { (n : ℕ) → IfErr result (IsUnjudged (λ _. ⊥) (IsApart (base log.now).shape schema.now defaults.now) n n) }
+{
+    match log.is_of(alloc, schema) {
+        Ok(true) => return Ok(None),
+        Ok(false) => {}
+        Err(Memory) => return Err(VerifyFault::Memory),
+    }
+    match Growth::filled(alloc, log.schema(), schema, defaults) {
+        Ok(Some(growth)) => Ok(Some(growth.values)),
+        Ok(None) => Err(VerifyFault::SchemaDiffers),
+        Err(Memory) => Err(VerifyFault::Memory),
+    }
+}
 
 /// The log of file 2 by the heads of its chunks and by its growths; none where it has no frame. One whose
 /// heads are bad is refused as want of memory: of a log that was walked to its end that doesn't come.
@@ -17,18 +55,32 @@ pub(crate) fn find<H: Host>(
     alloc: Global,
     host: &mut H,
     schema: &Schema,
+    defaults: &Defaults,
     room: Room,
-) -> Result<Option<Reservoir>, VerifyFault>
+) -> Result<Found, VerifyFault>
     requires room { IsReadable room }
-    ensures empty { IfOk result (λ found. IfSome found (λ r. opened r ≡ [])) }
-    ensures ours { OnOk result (ForSome (H.now host.old) (λ v. IsOther schema.now (v 2) → ⊥)) }
-    ensures cause { IfErr result (IsUnjudged (λ _. ⊥) (IsOfOther schema.now (H.now host.old)) (H.disk_faults host.old) (H.disk_faults host.new)) }
+    requires given { AreDefaultsOf schema.now.fields defaults.now }
+    ensures empty { IfOk result (λ found. IfSome found.log (λ r. opened r ≡ [])) }
+    ensures found { IfOk result (λ found. ForSome (H.now host.old) (λ v. IsFoundFor schema.now defaults.now found.further (v 2))) }
+    ensures cause { IfErr result (IsUnjudged (λ _. ⊥) (IsOfOther schema.now defaults.now (H.now host.old)) (H.disk_faults host.old) (H.disk_faults host.new)) }
     ensures leaves { LeavesRead H.now H.may H.clock H.since H.said H.disk_faults H.out_faults host.old host.new }
 {
-    match Reservoir::view(alloc, host, schema, room) {
-        Ok(found) => Ok(found),
-        Err(ReservoirFault::SchemaDiffers) => Err(VerifyFault::SchemaDiffers),
-        Err(ReservoirFault::Disk) => Err(VerifyFault::Disk),
-        Err(_) => Err(VerifyFault::Memory),
+    let log = match Reservoir::read(alloc, host, room) {
+        Ok(Some(log)) => log,
+        Ok(None) => {
+            return Ok(Found {
+                log: None,
+                further: None,
+            });
+        }
+        Err(ReservoirFault::Disk) => return Err(VerifyFault::Disk),
+        Err(_) => return Err(VerifyFault::Memory),
+    };
+    match further(alloc, &log, schema, defaults) {
+        Ok(further) => Ok(Found {
+            log: Some(log),
+            further,
+        }),
+        Err(fault) => Err(fault),
     }
 }

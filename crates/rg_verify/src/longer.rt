@@ -1,5 +1,6 @@
 ghost use Rattle.std.specs.Prelude.{◌≡◌, ◌++◌, IfOk, OnOk};
 ghost use Rattle.rg_chunk.specs.Extended.{all_extended as the_events, extended as the_event};
+ghost use Rattle.rg_verify.specs.Payments.{extended_by};
 
 use rg_bytes::Memory;
 use rg_event::{Event, Events, Value, Values};
@@ -12,6 +13,20 @@ pub(crate) fn extend(alloc: Global, events: &mut Events, values: &Values) -> Res
     let longer = all_extended(alloc, events.as_slice(), values)?;
     *events = longer;
     Ok(())
+}
+
+/// Puts these values behind those of each event, where there are some.
+pub(crate) fn fill(
+    alloc: Global,
+    events: &mut Events,
+    further: &Option<Values>,
+) -> Result<(), Memory>
+    ensures { OnOk result (events.new ≡ extended_by further.now events.old) }
+{
+    match further {
+        None => Ok(()),
+        Some(values) => extend(alloc, events, values),
+    }
 }
 
 /// The events, each with these values behind its own.

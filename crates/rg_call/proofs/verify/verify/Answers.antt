@@ -9,6 +9,11 @@ use Rattle.rg_call.specs.Call.{ending_status, ending_line}
 use Rattle.rg_call.proofs.Verifying.{terms_same, verifiable_as, caused, ok_caused, differs_caused, verified_ok, verified_differs, verified_err, silent_ok, silent_differs, silent_err}
 use Rattle.rg_call.proofs.verify.verify.Goals as goal
 
+-- the plan's defaults are of its columns
+
+pub verify-requires-clause-defaults : goal.verify-requires-clause-defaults
+verify-requires-clause-defaults g c = c.requires.is_read.defaults
+
 -- it ended early
 
 pub returns-in-Err-clause-goes : goal.returns-in-Err-clause-goes

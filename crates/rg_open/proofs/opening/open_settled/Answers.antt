@@ -4,19 +4,18 @@ use Rattle.rg_host.specs.Image.{Image}
 use Rattle.rg_event.specs.declared.event.Event.{Event}
 use Rattle.rg_config.specs.Plans.{planned}
 use Rattle.rg_plan.specs.Plans.{Tasks}
-use Rattle.rg_log.specs.Log.{schema_payload}
 use Rattle.rg_checkpoint.specs.Slots.{ReachesSlots}
 use Rattle.rg_engine.specs.Passed.{passed_count}
 use Rattle.rg_engine.specs.Standing.{come}
 use Rattle.rg_window.specs.Placed.{numbers_of}
-use Rattle.rg_reservoir.specs.Attached.{SchemaAdded, HasView}
+use Rattle.rg_reservoir.specs.Attached.{LogOpens, OpensView}
 use Rattle.rg_reservoir.specs.Chain.{IsIllegalBy}
 use Rattle.rg_reservoir.specs.Kept.{Base, base, view_of, all_events}
 use Rattle.rg_restore.specs.Naming.{HeadsName}
 use Rattle.rg_restore.specs.Opening.{IsGoing}
 use Rattle.rg_restore.specs.Slots.{slot_in, HaveBegun}
 use Rattle.rg_open.specs.Blame.{opened_list}
-use Rattle.rg_open.proofs.Blame.{amiss_in}
+use Rattle.rg_open.proofs.Blame.{amiss_in, list_for}
 use Rattle.rg_open.proofs.Causes.{rose_last}
 use Rattle.rg_open.proofs.Found.{begun_keep, from_later, from_texts, next_is, reaches_still}
 use Rattle.rg_open.proofs.Known.{from_stored, kept_since}
@@ -91,12 +90,13 @@ returns-in-Ok-start-clause-opened g c =
           next_is (g.H.Host.now n) (g.H.Host.may n) r events (left.sound (finds.log v events told has).sound) (ap (λ (b : Base). b.ended) left.based ∙ finds.going.0) left.empty (same ∙ finds.events v events told has);
       node = λ v events k told has tells not.
           let log = finds.log v events told has in
+          let list = list_for plan events v has in
           record {
             saved = saved;
             slots = finds.slots_are v told;
-            payloads = has.1.payloads;
-            has = has.1.has;
-            amiss = amiss_in plan (g.H.Host.now m) (g.H.Host.may m) found.reservoir log finds.empty.0 (opened_list given.schema has.1.payloads) (finds.list v has.1.payloads told has.1.has) events saved k
+            payloads = list.0;
+            has = list.1;
+            amiss = amiss_in plan (g.H.Host.now m) (g.H.Host.may m) found.reservoir log finds.empty.0 (opened_list plan list.0) (finds.list v list.0 told list.1) events saved k
                 (ap (λ (l : List Event). all_events (g.H.Host.now m) (base found.reservoir) l) finds.empty.0 ∙ finds.events v events told has) (starts.node k log tells not);
           };
       placed = λ v events told has. starts.placed (finds.log v events told has);
@@ -111,7 +111,7 @@ returns-in-Ok-start-clause-opened g c =
         ticks = ticked.2;
       };
       fit = finds.fit;
-      view = subst (λ (b : Base). ForSome (g.H.Host.now c.args.host.now) (λ v. HasView given.schema (view_of b) (v 2))) (sym left.based) finds.view;
+      view = subst (λ (b : Base). ForSome (g.H.Host.now c.args.host.now) (λ v. OpensView given.schema given.defaults (view_of b) (v 2))) (sym left.based) finds.view;
       going = (
         ap (λ (b : Base). b.ended) left.based ∙ finds.going.0,
         ap (λ (b : Base). b.file) left.based ∙ finds.going.1,
@@ -133,7 +133,7 @@ returns-in-Ok-start-clause-writes g c =
     let left = c.start.ensures.leaves in
     let fewer = all-fewer g.H.Host.now g.H.Host.may g.H.Host.clock g.H.Host.since g.H.Host.said c.find.new.host c.start.new.host left.leaves in
     record {
-      writes = writes-before g.H.Host.now g.H.Host.may g.H.Host.clock g.H.Host.since g.H.Host.said 2 (SchemaAdded (schema_payload c.args.plan.now.schema)) c.args.host.now c.find.new.host c.start.new.host wrote.writes fewer;
+      writes = writes-before g.H.Host.now g.H.Host.may g.H.Host.clock g.H.Host.since g.H.Host.said 2 (LogOpens c.args.plan.now.schema c.args.plan.now.defaults) c.args.host.now c.find.new.host c.start.new.host wrote.writes fewer;
       disk_faults = omega (arith, wrote.disk_faults, left.disk_faults);
       out_faults = left.out_faults ∙ wrote.out_faults;
     }
@@ -164,12 +164,13 @@ returns-in-Err-start-clause-refused g c =
       undamaged = λ v events p told has is. f.undamaged p (finds.log v events told has).sound is;
       bad = λ v events k told has tells is.
           let log = finds.log v events told has in
+          let list = list_for plan events v has in
           record {
             saved = found.saved;
             slots = finds.slots_are v told;
-            payloads = has.1.payloads;
-            has = has.1.has;
-            amiss = amiss_in plan (g.H.Host.now m) (g.H.Host.may m) found.reservoir log finds.empty.0 (opened_list given.schema has.1.payloads) (finds.list v has.1.payloads told has.1.has) events found.saved k
+            payloads = list.0;
+            has = list.1;
+            amiss = amiss_in plan (g.H.Host.now m) (g.H.Host.may m) found.reservoir log finds.empty.0 (opened_list plan list.0) (finds.list v list.0 told list.1) events found.saved k
                 (ap (λ (l : List Event). all_events (g.H.Host.now m) (base found.reservoir) l) finds.empty.0 ∙ finds.events v events told has) (f.bad k log tells is);
           };
       never_bad = λ k openable tells is. f.never_bad k (finds.found openable) tells is;
@@ -184,7 +185,7 @@ returns-in-Err-start-clause-writes g c =
     let left = c.start.ensures.leaves in
     let fewer = all-fewer g.H.Host.now g.H.Host.may g.H.Host.clock g.H.Host.since g.H.Host.said c.find.new.host c.start.new.host left.leaves in
     record {
-      writes = writes-before g.H.Host.now g.H.Host.may g.H.Host.clock g.H.Host.since g.H.Host.said 2 (SchemaAdded (schema_payload c.args.plan.now.schema)) c.args.host.now c.find.new.host c.start.new.host wrote.writes fewer;
+      writes = writes-before g.H.Host.now g.H.Host.may g.H.Host.clock g.H.Host.since g.H.Host.said 2 (LogOpens c.args.plan.now.schema c.args.plan.now.defaults) c.args.host.now c.find.new.host c.start.new.host wrote.writes fewer;
       disk_faults = omega (arith, wrote.disk_faults, left.disk_faults);
       out_faults = left.out_faults ∙ wrote.out_faults;
     }

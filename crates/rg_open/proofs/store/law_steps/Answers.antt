@@ -1,8 +1,7 @@
 use Rattle.std.proofs.Common.{Option, subst, arith}
 use Rattle.rg_host.specs.Image.{Image, NothingPending}
 use Rattle.rg_frame.specs.Steps.{Leaves, From}
-use Rattle.rg_log.specs.Log.{schema_payload}
-use Rattle.rg_reservoir.specs.Attached.{SchemaAdded}
+use Rattle.rg_reservoir.specs.Attached.{LogOpens}
 use Rattle.rg_reservoir.specs.Kept.{base, opened, next_of, time_of, cache_of, Adds}
 use Rattle.rg_open.proofs.Sound.{ends_in, commit_left, committed_left, open_left, opened_left}
 use Rattle.rg_open.proofs.Steps.{step_from, save_mid, save_done, extends, extended}
@@ -25,7 +24,7 @@ returns g c = record {
   opens = λ host plan keep v u schema told settled left.
       let may = g.H.Host.may host in
       let here = subst (λ i. NothingPending 2 i may) told settled in
-      let step = subst (λ i. Leaves 2 (SchemaAdded (schema_payload plan.shape)) i may u) told left in
+      let step = subst (λ i. Leaves 2 (LogOpens plan.shape plan.defaults) i may u) told left in
       (open_left plan schema keep v may here u step, opened_left plan schema keep v may here u step);
   saves = λ host plan keep payload checkpoint v u legal base told settled true_of left.
       let x = left.0.0 in

@@ -1,5 +1,4 @@
-use Rattle.std.proofs.Common.{rules, ◌≡◌, ◌∙◌, ap, sym, subst, ℕ, ◌+◌, List, [], ◌∷◌, length, Err, Option, Some, arith}
-use Rattle.rg_host.specs.Image.{Image}
+use Rattle.std.proofs.Common.{rules, ◌≡◌, ◌∙◌, ap, sym, subst, ℕ, ◌+◌, List, [], length, Err, Some, arith}
 use Rattle.rg_frame.specs.Frames.{Begins, IsLog, HasPayloads}
 use Rattle.rg_frame.specs.LogState.{LogState}
 use Rattle.rg_frame.specs.Looks.{IsTorn}
@@ -12,7 +11,7 @@ use Rattle.rg_reservoir.specs.declared.fault.ReservoirFault.TheVariants.{Disk, D
 use Rattle.rg_reservoir.specs.declared.growing.Growing.{Growing}
 use Rattle.rg_reservoir.proofs.Causes.{stopped_at, stop_found, stop_refused, refused_at, refused_so}
 use Rattle.rg_reservoir.proofs.Gathering.{gathered_start, gathered_more, read_log}
-use Rattle.rg_reservoir.proofs.Heading.{begins_none, passed_start, torn_frame, entry_on, bad_on}
+use Rattle.rg_reservoir.proofs.Heading.{begins_none, passed_start, torn_frame, bad_on}
 use Rattle.rg_reservoir.proofs.heads.read_frames.Goals as goal
 
 pub returns-in-Ok-None-clause-read : goal.returns-in-Ok-None-clause-read

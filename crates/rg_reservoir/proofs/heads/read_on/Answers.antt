@@ -1,5 +1,4 @@
-use Rattle.std.proofs.Common.{rules, ◌≡◌, ◌∙◌, ap, sym, subst, ℕ, Err, Option, arith}
-use Rattle.rg_event.specs.Shapes.{Shape}
+use Rattle.std.proofs.Common.{◌≡◌, ◌∙◌, ap, sym, subst, ℕ, Err, arith}
 use Rattle.rg_frame.specs.Frames.{IsLog, HasPayloads}
 use Rattle.rg_frame.specs.LogState.{LogState}
 use Rattle.rg_frame.specs.Looks.{IsTorn}

@@ -1,24 +1,12 @@
-use Rattle.std.proofs.Common.{◌≡◌, ◌∙◌, List, sym, subst, arith}
-use Rattle.std.proofs.lemmas.Result.{IfOk-weaker, on_ok_weaker, IfErr-weaker}
-use Rattle.rg_event.specs.declared.event.Event.{Event}
-use Rattle.rg_rows.specs.Rows.{AreServed}
+use Rattle.std.proofs.Common.{◌∙◌, arith}
+use Rattle.std.proofs.lemmas.Result.{on_ok_weaker, IfErr-weaker}
 use Rattle.rg_dump.proofs.Leaves.{read-then}
 use Rattle.rg_verify.specs.Causes.{IsFirstDamage, IsOfOther, IsWholeOther}
-use Rattle.rg_verify.specs.Fitting.{terms_of}
-use Rattle.rg_verify.specs.Verify.{IsVerified}
 use Rattle.rg_verify.proofs.Causes.{on-ok, unjudged-within}
-use Rattle.rg_verify.proofs.Logs.{payments_are, served}
 use Rattle.rg_verify.proofs.store.judge_store.Goals as goal
 
 pub returns-clause-verified : goal.returns-clause-verified
-returns-clause-verified g c = λ v events told is.
-    let terms = terms_of c.args.queries.now c.args.schema.now c.args.task.now in
-    let read = c.in-Ok.ensures.read v told in
-    let same : c.in-Ok.log.events ≡ events = read.events_are ∙ payments_are c.args.schema.now events (v 2) is.has in
-    IfOk-weaker c.judge_log.result (λ verdicts. IsVerified terms v c.in-Ok.log.events verdicts.first verdicts.second) (λ verdicts. IsVerified terms v events verdicts.first verdicts.second)
-    (λ verdicts said. subst (λ (l : List Event). IsVerified terms v l verdicts.first verdicts.second) same said)
-    (c.judge_log.ensures.verified v is.has.1.payloads (c.read_log.ensures.leaves.leaves.now_stays ∙ told) is.has.1.has read.framed_is
-    (subst (λ (l : List Event). AreServed c.args.task.now l) (sym same) (served terms v events is)))
+returns-clause-verified g c = λ v events told is. c.judge_log.ensures.verified v events (c.read_log.ensures.leaves.leaves.now_stays ∙ told) (c.in-Ok.ensures.read v told) is
 
 pub returns-clause-ours : goal.returns-clause-ours
 returns-clause-ours g c = on_ok_weaker c.judge_log.result (λ ours v told other. ours v (c.read_log.ensures.leaves.leaves.now_stays ∙ told) other) c.judge_log.ensures.ours
@@ -33,7 +21,7 @@ pub returns-clause-cause : goal.returns-clause-cause
 returns-clause-cause g c =
     let left = c.read_log.ensures.leaves in
     IfErr-weaker c.judge_log.result _ _
-    (λ fault why. unjudged-within (IsFirstDamage (g.H.Host.now c.args.host.now)) (λ _. ⊥) (IsWholeOther c.args.schema.now (g.H.Host.now c.args.host.now)) (IsOfOther c.args.schema.now (g.H.Host.now c.read_log.new.host)) _ _ _ fault left.disk_faults
+    (λ fault why. unjudged-within (IsFirstDamage (g.H.Host.now c.args.host.now)) (λ _. ⊥) (IsWholeOther c.args.schema.now c.args.defaults.now (g.H.Host.now c.args.host.now)) (IsOfOther c.args.schema.now c.args.defaults.now (g.H.Host.now c.read_log.new.host)) _ _ _ fault left.disk_faults
     (λ place no. absurd no)
     (λ other. record {
       is = record { other = λ v told. other.other v (left.leaves.now_stays ∙ told); no_events = λ v events told has. other.no_events v events (left.leaves.now_stays ∙ told) has };
@@ -43,4 +31,4 @@ returns-clause-cause g c =
 pub returns-in-Err-clause-cause : goal.returns-in-Err-clause-cause
 returns-in-Err-clause-cause g c =
     let damage = IsFirstDamage (g.H.Host.now c.args.host.now) in
-    unjudged-within damage damage (IsWholeOther c.args.schema.now (g.H.Host.now c.args.host.now)) ⊥ (g.H.Host.disk_faults c.args.host.now) (g.H.Host.disk_faults c.args.host.now) _ c.in-Err.fault (omega arith) (λ place first. first) (λ no. absurd no) c.in-Err.ensures.cause
+    unjudged-within damage damage (IsWholeOther c.args.schema.now c.args.defaults.now (g.H.Host.now c.args.host.now)) ⊥ (g.H.Host.disk_faults c.args.host.now) (g.H.Host.disk_faults c.args.host.now) _ c.in-Err.fault (omega arith) (λ place first. first) (λ no. absurd no) c.in-Err.ensures.cause

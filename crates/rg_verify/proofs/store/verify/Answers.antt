@@ -58,7 +58,7 @@ returns-clause-other g c = λ v told other. absurd (c.in-Ok.ensures.ours v told 
 pub returns-in-Err-clause-outside : goal.returns-in-Err-clause-outside
 returns-in-Err-clause-outside g c = λ v events told is.
     outside-of _ _ _ _ c.in-Err.fault
-    (λ p damage. let wrong : None ≡ Some p = sym (undamaged c.args.schema.now events (v 2) is.has) ∙ damage v told in cc)
+    (λ p damage. let wrong : None ≡ Some p = sym (undamaged c.args.schema.now c.args.defaults.now events (v 2) is.has) ∙ damage v told in cc)
     (λ other. other.is.no_events v events told is.has) c.in-Err.ensures.cause
 
 pub returns-in-Err-clause-damaged : goal.returns-in-Err-clause-damaged

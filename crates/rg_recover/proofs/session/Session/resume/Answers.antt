@@ -6,7 +6,7 @@ use Rattle.rg_event.specs.declared.event.Event.{Event}
 use Rattle.rg_config.specs.Plans.{planned}
 use Rattle.rg_engine.specs.Passed.{passed_count}
 use Rattle.rg_checkpoint.specs.Slots.{ReachesSlots, sizes_in}
-use Rattle.rg_reservoir.specs.Attached.{HasView}
+use Rattle.rg_reservoir.specs.Attached.{OpensView}
 use Rattle.rg_reservoir.specs.Kept.{base, view_of, room_of}
 use Rattle.rg_open.specs.Blame.{IsBlamed, NodeRuns, IsPlaced}
 use Rattle.rg_open.specs.Opened.{IsKeptSince}
@@ -82,7 +82,7 @@ returns-in-Ok-clause-placed g c = λ v events told has.
 
 pub returns-in-Ok-clause-view : goal.returns-in-Ok-clause-view
 returns-in-Ok-clause-view g c =
-    subst (λ (s : Sitting g.row.T.Denot). ForSome (g.H.Host.now c.args.host.now) (λ (v : Image). HasView c.args.plan.now.schema (view_of (base s.reservoir)) (v 2))) (sym c.new.ensures) c.in-Ok.ensures.view
+    subst (λ (s : Sitting g.row.T.Denot). ForSome (g.H.Host.now c.args.host.now) (λ (v : Image). OpensView c.args.plan.now.schema c.args.plan.now.defaults (view_of (base s.reservoir)) (v 2))) (sym c.new.ensures) c.in-Ok.ensures.view
 
 pub returns-in-Ok-clause-slots_reach : goal.returns-in-Ok-clause-slots_reach
 returns-in-Ok-clause-slots_reach g c = subst (λ (s : Sitting g.row.T.Denot). ReachesSlots s.slots (g.H.Host.now c.open_store.new.host)) (sym c.new.ensures) c.in-Ok.ensures.slots_reach

@@ -1,4 +1,4 @@
-use Rattle.std.proofs.Common.{◌≡◌, ◌∙◌, ◌⊎◌, ap, sym, subst, refl, inl, ℕ, List, [], Err, false, arith}
+use Rattle.std.proofs.Common.{◌≡◌, ◌∙◌, ◌⊎◌, ap, sym, subst, refl, ℕ, List, [], Err, false, arith}
 use Rattle.rg_event.specs.declared.event.Event.{Event}
 use Rattle.rg_event.specs.Shapes.{Shape}
 use Rattle.rg_cache.specs.Cache.{Cache, item_at, places}
@@ -12,7 +12,7 @@ use Rattle.rg_reservoir.specs.Views.{seen_from}
 use Rattle.rg_reservoir.proofs.Firsts.{opened_view}
 use Rattle.rg_reservoir.proofs.Legal.{unframed, legal_not_bad, legal_not_other}
 use Rattle.rg_reservoir.proofs.Listing.{listed}
-use Rattle.rg_reservoir.proofs.Attaching.{no_events, attached, refused}
+use Rattle.rg_reservoir.proofs.Attaching.{no_events, attached, opened_ours}
 use Rattle.rg_reservoir.proofs.reservoir.Reservoir.view.Goals as goal
 
 pub returns-in-Ok-Some-clause-sound : goal.returns-in-Ok-Some-clause-sound
@@ -49,7 +49,7 @@ returns-in-Ok-None-clause-none g c = λ v told. listed [] 0 (v 2) ((rw c.in-Ok-N
 pub returns-in-Ok-Some-clause-exact : goal.returns-in-Ok-Some-clause-exact
 returns-in-Ok-Some-clause-exact g c = λ v told why.
     let opened = c.in-Ok-Some.opened in
-    refused c.in-Ok.taken.schema opened.growths opened.first opened.log.end opened.tally (v 2) (v 2) (inl refl) ((rw c.in-Ok-Some.field-0-is at c.in-Ok-Some.ensures.read.opened) v told)
+    opened_ours c.in-Ok.taken.schema opened.growths opened.first opened.log.end opened.tally (v 2) ((rw c.in-Ok-Some.field-0-is at c.in-Ok-Some.ensures.read.opened) v told)
     (subst (λ (s : Shape). IsOther s (v 2) ⊎ ((p : ℕ) × IsBadFrame p (v 2))) (sym c.in-Ok.ensures.taken.schema) why)
 
 pub returns-in-Err-read_log-clause-differs : goal.returns-in-Err-read_log-clause-differs

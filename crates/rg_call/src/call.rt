@@ -63,9 +63,18 @@ fn check_with_plan<P: Source, H: Host>(
         Err(ending) => return Err(ending),
     };
     match check(alloc, &asked, host) {
-        Ok(()) => Ok(()),
-        Err(CheckFault::Memory) => Err(Ending::Failed(Status::Memory)),
-        Err(CheckFault::Write) => Err(Ending::Failed(Status::Write)),
+        Ok(()) => {
+            drop(asked);
+            Ok(())
+        }
+        Err(CheckFault::Memory) => {
+            drop(asked);
+            Err(Ending::Failed(Status::Memory))
+        }
+        Err(CheckFault::Write) => {
+            drop(asked);
+            Err(Ending::Failed(Status::Write))
+        }
     }
 }
 

@@ -55,7 +55,9 @@ pub(crate) fn run<P: Source, I: Source, H: Host, L: Ledger>(
         Err(ending) => return Err(ending),
     };
     let mut steps = Steps::<L>::new(blank);
-    match rg_recover::run(alloc, &asked, first, input, host, &mut steps) {
+    let done = rg_recover::run(alloc, &asked, first, input, host, &mut steps);
+    drop(asked);
+    match done {
         Ok(()) => Ok(()),
         Err(fault) => Err(ending_of(alloc, first, fault)),
     }

@@ -84,13 +84,22 @@ pub fn run_trial<L: Ledger>(
     };
     let input = match made_input(alloc, lines, seed) {
         Ok(input) => input,
-        Err(_) => return Err(TrialFault::Memory),
+        Err(_) => {
+            drop(plan);
+            return Err(TrialFault::Memory);
+        }
     };
-    match run_anew::<L>(alloc, &plan, input, blank) {
-        Ok(host) => match count(lines, host.output()) {
-            Some(trial) => Ok(trial),
-            None => unreachable!(),
-        },
+    let ran = run_anew::<L>(alloc, &plan, input, blank);
+    drop(plan);
+    match ran {
+        Ok(host) => {
+            let counted = count(lines, host.output());
+            drop(host);
+            match counted {
+                Some(trial) => Ok(trial),
+                None => unreachable!(),
+            }
+        }
         Err(fault) => Err(TrialFault::Run(fault)),
     }
 }

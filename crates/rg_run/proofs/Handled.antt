@@ -8,15 +8,17 @@ use Rattle.rg_config.specs.Plans.{Planned}
 use Rattle.rg_task.specs.declared.fault.TaskFault.TheVariants as task
 use Rattle.rg_task.specs.State.{State}
 use Rattle.rg_task.specs.View.{View, Keeps}
-use Rattle.rg_run.specs.Faults.{of_turn, of_line}
+use Rattle.rg_run.specs.Answered.{CountsGrow}
+use Rattle.rg_run.specs.Faults.{of_turn, of_line, of_end}
 use Rattle.rg_run.specs.Reading.{HasTaken}
 use Rattle.rg_run.specs.Turned.{MoreOr, CarriesOn, IsReadOut, TakesOn, StopsFor}
 use Rattle.rg_run.specs.declared.fault.RunFault.{RunFault}
 use Rattle.rg_run.specs.declared.fault.TurnFault.{TurnFault}
 use Rattle.rg_run.specs.declared.fault.TurnFault.TheVariants as turn
 use Rattle.rg_run.proofs.Called.{told_never}
+use Rattle.rg_run.proofs.Causes.{EndsBy, end_others}
 use Rattle.rg_run.proofs.Taking.{Item, TakesLine}
-use Rattle.rg_run.proofs.Turned.{more, why_none, why_turn}
+use Rattle.rg_run.proofs.Turned.{more, no_more, why_none, why_turn}
 
 module _ {K : Type 0} (view : View K) (disk_faults out_faults : K → ℕ) where
   -- The line was answered, or it wasn't for a cause: the fault of a node or of an edge that was bad before, or one that was counted.
@@ -97,3 +99,36 @@ module _ {K I A : Type 0} (view : View K) (disk_faults out_faults : K → ℕ) (
   -- why it was not answered
   pub line_cause : (taken : ℕ) (result : Result A TurnFault) → Handles view disk_faults out_faults plan offset offset_then result old new → (ran : Result Bool RunFault) → ran ≡ of_line result → StopsFor view disk_faults out_faults faults plan taken ran input input_then old new
   line_cause taken result h ran ran_is = subst (λ (r : Result Bool RunFault). StopsFor view disk_faults out_faults faults plan taken r input input_then old new) (sym ran_is) (cause_by taken result h)
+
+-- The end that was handed out, and answered by a task in any state.
+module _ {K I A : Type 0} (view : View K) (disk_faults out_faults : K → ℕ) (left : I → Option (List ℕ)) (faults : I → ℕ) (On : Type 0) (reading reading_then : Reading) (input input_then : I) (old new : K) where
+  end_takes_by : (result : Result A TurnFault) → IsReadOut reading_then → ((start : Option (List ℕ)) → HasTaken start (left input) reading → HasTaken start (left input_then) reading_then) → CountsGrow view disk_faults out_faults faults input input_then old new
+      → TakesOn view disk_faults out_faults left faults (MoreOr On (IsReadOut reading_then)) reading reading_then (of_end result) input input_then old new
+  end_takes_by (Ok a) out taken counts = record { done = no_more out; taken = taken; counts = counts }
+  end_takes_by (Err fault) out taken counts = record { done = tt; taken = taken; counts = counts }
+
+  -- what was taken of the input
+  pub end_takes : (result : Result A TurnFault) → IsReadOut reading_then → ((start : Option (List ℕ)) → HasTaken start (left input) reading → HasTaken start (left input_then) reading_then) → CountsGrow view disk_faults out_faults faults input input_then old new
+      → (ran : Result Bool RunFault) → ran ≡ of_end result
+      → TakesOn view disk_faults out_faults left faults (MoreOr On (IsReadOut reading_then)) reading reading_then ran input input_then old new
+  end_takes result out taken counts ran ran_is =
+      subst (λ (r : Result Bool RunFault). TakesOn view disk_faults out_faults left faults (MoreOr On (IsReadOut reading_then)) reading reading_then r input input_then old new)
+      (sym ran_is) (end_takes_by result out taken counts)
+
+module _ {K I A : Type 0} (view : View K) (disk_faults out_faults : K → ℕ) (faults : I → ℕ) (plan : Planned) (taken : ℕ) (input input_then : I) (old new : K) where
+  end_cause_by : (result : Result A TurnFault) → IfErr result EndsBy → (IsErrOf result turn.Write → Rose (out_faults old) (out_faults new)) → (IsErrOf result (turn.Task task.Disk) → Rose (disk_faults old) (disk_faults new))
+      → StopsFor view disk_faults out_faults faults plan taken (of_end result) input input_then old new
+  end_cause_by (Ok a) ends write disk = why_none view disk_faults out_faults faults plan taken input input_then old new false
+  end_cause_by (Err fault) ends write disk =
+      let not = end_others fault ends in
+      why_turn view disk_faults out_faults faults plan taken input input_then old new fault (of_turn fault) refl
+      (λ n runs is. not.0 n is)
+      (λ p placed is. not.1 p is)
+      (λ p is. absurd (not.1 p is))
+      (λ is. write (ap (λ f. Err f) is))
+      (λ is. disk (ap (λ f. Err f) is))
+
+  -- why the run did not finish
+  pub end_cause : (result : Result A TurnFault) → IfErr result EndsBy → (IsErrOf result turn.Write → Rose (out_faults old) (out_faults new)) → (IsErrOf result (turn.Task task.Disk) → Rose (disk_faults old) (disk_faults new))
+      → (ran : Result Bool RunFault) → ran ≡ of_end result → StopsFor view disk_faults out_faults faults plan taken ran input input_then old new
+  end_cause result ends write disk ran ran_is = subst (λ (r : Result Bool RunFault). StopsFor view disk_faults out_faults faults plan taken r input input_then old new) (sym ran_is) (end_cause_by result ends write disk)

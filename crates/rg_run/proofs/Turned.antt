@@ -2,11 +2,13 @@
 use Rattle.std.proofs.Common.{◌≡◌, ◌⊎◌, inl, inr, ℕ, ◌<◌, ◌^◌, true, false, Ok, Err, refl, sym, ◌∙◌, subst}
 use Rattle.rg_bytes.specs.Counts.{Rose}
 use Rattle.rg_config.specs.Plans.{Planned}
+use Rattle.rg_host.specs.declared.lines.LineFault.{LineFault}
+use Rattle.rg_host.specs.declared.lines.LineFault.TheVariants as reading
 use Rattle.rg_task.specs.declared.fault.TaskFault.TheVariants as task
 use Rattle.rg_run.specs.declared.fault.TurnFault.{TurnFault}
 use Rattle.rg_run.specs.declared.fault.TurnFault.TheVariants as turn
 use Rattle.rg_task.specs.View.{View}
-use Rattle.rg_run.specs.Faults.{of_turn}
+use Rattle.rg_run.specs.Faults.{of_turn, of_input}
 use Rattle.rg_run.specs.Turned.{MoreOr, StopsFor}
 use Rattle.rg_run.specs.declared.fault.RunFault.{RunFault}
 use Rattle.rg_run.specs.declared.fault.RunFault.TheVariants.{Disk, Damaged, SchemaDiffers, BadState, Gap, Read, Limit, Write}
@@ -52,7 +54,7 @@ module _ {K I : Type 0} (view : View K) (disk_faults out_faults : K → ℕ) (fa
         gap = λ n is. others.3 n (sym ran_is ∙ err_is ran (Gap n) is);
       }
 
-  pub why_read : {A : Type 0} → Rose (faults input) (faults input_then) → StopsFor view disk_faults out_faults faults {A = A} plan taken (Err Read) input input_then old new
+  why_read : {A : Type 0} → Rose (faults input) (faults input_then) → StopsFor view disk_faults out_faults faults {A = A} plan taken (Err Read) input input_then old new
   why_read rose = record {
     bad = λ n runs is. let e : ◌≡◌ {A = RunFault} Read (BadState n) = err_is Read (BadState n) is in cc;
     undamaged = λ p placed is. let e : ◌≡◌ {A = RunFault} Read (Damaged p) = err_is Read (Damaged p) is in cc;
@@ -65,7 +67,7 @@ module _ {K I : Type 0} (view : View K) (disk_faults out_faults : K → ℕ) (fa
     gap = λ n is. let e : ◌≡◌ {A = RunFault} Read (Gap n) = err_is Read (Gap n) is in cc;
   }
 
-  pub why_limit : {A : Type 0} → 2 ^ 50 < taken → StopsFor view disk_faults out_faults faults {A = A} plan taken (Err Limit) input input_then old new
+  why_limit : {A : Type 0} → 2 ^ 50 < taken → StopsFor view disk_faults out_faults faults {A = A} plan taken (Err Limit) input input_then old new
   why_limit past = record {
     bad = λ n runs is. let e : ◌≡◌ {A = RunFault} Limit (BadState n) = err_is Limit (BadState n) is in cc;
     undamaged = λ p placed is. let e : ◌≡◌ {A = RunFault} Limit (Damaged p) = err_is Limit (Damaged p) is in cc;
@@ -78,6 +80,11 @@ module _ {K I : Type 0} (view : View K) (disk_faults out_faults : K → ℕ) (fa
     gap = λ n is. let e : ◌≡◌ {A = RunFault} Limit (Gap n) = err_is Limit (Gap n) is in cc;
   }
 
+  -- the input could not be read on
+  why_input : {A : Type 0} (fault : LineFault) → (fault ≡ reading.Read → Rose (faults input) (faults input_then)) → (fault ≡ reading.Limit → 2 ^ 50 < taken) → StopsFor view disk_faults out_faults faults {A = A} plan taken (Err (of_input fault)) input input_then old new
+  why_input reading.Read rose past = why_read (rose refl)
+  why_input reading.Limit rose past = why_limit (past refl)
+
   -- a put failed
   pub why_write : {A : Type 0} (fault : RunFault) → fault ≡ Write → Rose (out_faults old) (out_faults new) → StopsFor view disk_faults out_faults faults {A = A} plan taken (Err fault) input input_then old new
   why_write fault is rose =
@@ -85,6 +92,11 @@ module _ {K I : Type 0} (view : View K) (disk_faults out_faults : K → ℕ) (fa
       why_turn turn.Write fault is (λ n runs e. not.0 n e) (λ p placed e. not.1 p e) (λ p e. absurd (not.1 p e)) (λ e. rose) (λ e. absurd (not.2 e))
 
   -- what was gathered was put before that fault, or that put failed
-  pub why_stopped : {A : Type 0} (fault result : RunFault) → StopsFor view disk_faults out_faults faults {A = A} plan taken (Err fault) input input_then old new → (result ≡ fault) ⊎ ((result ≡ Write) × Rose (out_faults old) (out_faults new)) → StopsFor view disk_faults out_faults faults {A = A} plan taken (Err result) input input_then old new
-  why_stopped {A} fault result why (inl same) = subst (λ (f : RunFault). StopsFor view disk_faults out_faults faults {A = A} plan taken (Err f) input input_then old new) (sym same) why
-  why_stopped fault result why (inr put) = why_write result put.0 put.1
+  stopped_by : {A : Type 0} (fault result : RunFault) → StopsFor view disk_faults out_faults faults {A = A} plan taken (Err fault) input input_then old new → (result ≡ fault) ⊎ ((result ≡ Write) × Rose (out_faults old) (out_faults new)) → StopsFor view disk_faults out_faults faults {A = A} plan taken (Err result) input input_then old new
+  stopped_by {A} fault result why (inl same) = subst (λ (f : RunFault). StopsFor view disk_faults out_faults faults {A = A} plan taken (Err f) input input_then old new) (sym same) why
+  stopped_by fault result why (inr put) = why_write result put.0 put.1
+
+  pub why_unread : {A : Type 0} (fault : LineFault) (ran result : RunFault) → ran ≡ of_input fault → (fault ≡ reading.Read → Rose (faults input) (faults input_then)) → (fault ≡ reading.Limit → 2 ^ 50 < taken)
+      → (result ≡ ran) ⊎ ((result ≡ Write) × Rose (out_faults old) (out_faults new)) → StopsFor view disk_faults out_faults faults {A = A} plan taken (Err result) input input_then old new
+  why_unread {A} fault ran result ran_is rose past which =
+      stopped_by ran result (subst (λ (f : RunFault). StopsFor view disk_faults out_faults faults {A = A} plan taken (Err f) input input_then old new) (sym ran_is) (why_input fault rose past)) which

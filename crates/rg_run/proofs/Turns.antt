@@ -1,5 +1,5 @@
 -- A run from one line of its input to the next.
-use Rattle.std.proofs.Common.{◌≡◌, Bool, true, ◌⊎◌, inl, inr, ⊎_elim, ℕ, ◌+◌, List, [], ◌∷◌, ◌++◌, length, Option, Some, Result, Ok, Err, refl, ap, sym, ◌∙◌, subst, arith, append_assoc, length-append}
+use Rattle.std.proofs.Common.{◌≡◌, Bool, true, false, ◌⊎◌, inl, inr, ⊎_elim, ℕ, ◌+◌, List, [], ◌∷◌, ◌++◌, length, Option, Some, Result, Ok, Err, refl, ap, sym, ◌∙◌, subst, arith, append_assoc, length-append}
 use Rattle.std.proofs.lemmas.List.{append-nil, append_cancel_right}
 use Rattle.std.specs.Prelude.{OnOk, IfErr}
 use Rattle.rg_host.specs.Image.{Image}
@@ -15,6 +15,7 @@ use Rattle.rg_course.specs.Accepted.{events_after}
 use Rattle.rg_course.specs.Ahead.{after_line, out_from}
 use Rattle.rg_course.specs.Output.{open_line, put_before, out}
 use Rattle.rg_course.specs.Stores.{StaysOnCourse}
+use Rattle.rg_course.specs.Turns.{IsDone}
 use Rattle.rg_course.proofs.Courses.{stopped_at_rest}
 use Rattle.rg_course.proofs.Whole.{accepted_more, out_more}
 use Rattle.rg_task.specs.declared.fault.TaskFault.TheVariants as task
@@ -26,26 +27,26 @@ use Rattle.rg_run.proofs.Replied.{still_on_course}
 use Rattle.rg_task.specs.State.{State}
 use Rattle.rg_task.specs.View.{View, OnlyNow, Sinks}
 use Rattle.rg_run.specs.Begun.{Begun, course_for}
-use Rattle.rg_run.specs.Faults.{of_turn, of_line}
+use Rattle.rg_run.specs.Faults.{of_turn, of_line, of_end, of_input}
 use Rattle.rg_run.specs.Gathered.{PutsOnly, StopsFrom}
 use Rattle.rg_run.specs.Turned.{MoreOr, GoesTrue}
 use Rattle.rg_run.specs.UnderWay.{IsUnderWay, Answers, HasAnswered, HasFinished}
 use Rattle.rg_run.specs.declared.fault.RunFault.{RunFault}
 use Rattle.rg_run.specs.declared.fault.RunFault.TheVariants.{BadState, Damaged, Read, Limit, Write}
-use Rattle.rg_run.proofs.Causes.{err_is, ok_never, put_or_memory, read_others, turn_bad, turn_damaged, turn_others}
-use Rattle.rg_run.proofs.Turned.{more}
+use Rattle.rg_run.proofs.Causes.{EndsBy, end_others, err_is, input_is, input_limit, ok_never, put_or_memory, read_others, turn_bad, turn_damaged, turn_others}
+use Rattle.rg_run.proofs.Turned.{more, no_more}
 use Rattle.rg_run.proofs.Taking.{Item, TakesLine, read_on, item_next, end_next, whole_handed, took_past}
 
 -- whole lines were put, or a put failed
 abbrev pub IsCut : {K : Type 0} → View K → Planned → Begun → K → RunFault → Type 0
 IsCut view plan b new fault = (fault ≡ Write) ⊎ HasStopped view plan (course_for plan b) new
 
-pub stops : {K : Type 0} (view : View K) (plan : Planned) (b : Begun) (new : K) (fault : TurnFault) → (fault ≡ turn.Write) ⊎ HasStopped view plan (course_for plan b) new → IsCut view plan b new (of_turn fault)
+stops : {K : Type 0} (view : View K) (plan : Planned) (b : Begun) (new : K) (fault : TurnFault) → (fault ≡ turn.Write) ⊎ HasStopped view plan (course_for plan b) new → IsCut view plan b new (of_turn fault)
 stops view plan b new fault (inl is) = inl (ap of_turn is)
 stops view plan b new fault (inr stopped) = inr stopped
 
 module _ {K : Type 0} (view : View K) (plan : Planned) (b : Begun) (left : Option (List ℕ)) (old new : K) (moments : Moments view.clock view.since old new (StaysOnCourse (view.store plan) (course_for plan b) [])) where
-  pub true_at_ok : {B : Type 0} {Done : B → Type 0} (value : B) → Done value → GoesTrue view plan b left Done (Ok value) old new
+  true_at_ok : {B : Type 0} {Done : B → Type 0} (value : B) → Done value → GoesTrue view plan b left Done (Ok value) old new
   true_at_ok value done = record {
     moments = moments;
     done = done;
@@ -55,7 +56,7 @@ module _ {K : Type 0} (view : View K) (plan : Planned) (b : Begun) (left : Optio
     never_damaged = λ p is. ok_never value (Damaged p) is;
   }
 
-  pub true_at_err : {B : Type 0} (Done : B → Type 0) (fault : TurnFault) (ran : RunFault) → ran ≡ of_turn fault → ((n : ℕ) → fault ≡ turn.Task (task.BadState n) → ⊥) → ((p : ℕ) → fault ≡ turn.Task (task.Damaged p) → ⊥) → IsCut view plan b new (of_turn fault) → GoesTrue view plan b left Done (Err ran) old new
+  true_at_err : {B : Type 0} (Done : B → Type 0) (fault : TurnFault) (ran : RunFault) → ran ≡ of_turn fault → ((n : ℕ) → fault ≡ turn.Task (task.BadState n) → ⊥) → ((p : ℕ) → fault ≡ turn.Task (task.Damaged p) → ⊥) → IsCut view plan b new (of_turn fault) → GoesTrue view plan b left Done (Err ran) old new
   true_at_err Done fault ran ran_is bad damaged cut = record {
     moments = moments;
     done = tt;
@@ -140,6 +141,24 @@ module _ {K : Type 0} (view : View K) (plan : Planned) (b : Begun) (left : Optio
   pub end_awaits : (then_left : Option (List ℕ)) (new_r : Reading) → Next old_r new_r left then_left (Ok End) → IsAwaiting view plan (course_for plan b) offset [] old gathered
   end_awaits then_left new_r next = subst (λ (l : List Item). IsAwaiting view plan (course_for plan b) offset l old gathered) (end_next b.input left then_left old_r new_r way.handed way.read next way.items way.whole) way.awaiting
 
+-- the end was answered
+module _ {K : Type 0} (view : View K) (plan : Planned) (b : Begun) (left : Option (List ℕ)) (old new : K) (On : Type 0) (moments : Moments view.clock view.since old new (StaysOnCourse (view.store plan) (course_for plan b) [])) where
+  finished_by : {A : Type 0} (result : Result A TurnFault) → OnOk result ((put : List ℕ) × (view.said new ≡ Some put) × IsDone (view.store plan) (course_for plan b) (view.may new) put)
+      → IfErr result (λ f. (f ≡ turn.Write) ⊎ HasStopped view plan (course_for plan b) new) → IfErr result EndsBy
+      → GoesTrue view plan b left (MoreOr On (HasFinished view plan b new)) (of_end result) old new
+  finished_by (Ok done) ended stopped faults = true_at_ok view plan b left old new moments false (no_more (record { put = ended.0; told = ended.1; done = ended.2 }))
+  finished_by (Err fault) ended stopped faults =
+      let not = end_others fault faults in
+      true_at_err view plan b left old new moments (MoreOr On (HasFinished view plan b new)) fault (of_turn fault) refl not.0 not.1 (stops view plan b new fault stopped)
+
+  pub end_goes : {A : Type 0} (result : Result A TurnFault) → OnOk result ((put : List ℕ) × (view.said new ≡ Some put) × IsDone (view.store plan) (course_for plan b) (view.may new) put)
+      → IfErr result (λ f. (f ≡ turn.Write) ⊎ HasStopped view plan (course_for plan b) new) → IfErr result EndsBy
+      → (ran : Result Bool RunFault) → ran ≡ of_end result
+      → GoesTrue view plan b left (MoreOr On (HasFinished view plan b new)) ran old new
+  end_goes result ended stopped faults ran ran_is =
+      subst (λ (r : Result Bool RunFault). GoesTrue view plan b left (MoreOr On (HasFinished view plan b new)) r old new)
+      (sym ran_is) (finished_by result ended stopped faults)
+
 -- no call is on the course
 pub stays : {K : Type 0} (view : View K) (only : OnlyNow view) (sinks : Sinks view) (plan : Planned) (b : Begun) (left : Option (List ℕ)) (reading : Reading) (offset : ℕ) (gathered : List ℕ) (t : K) → IsUnderWay view plan b left reading offset t gathered
     → Moments view.clock view.since t t (StaysOnCourse (view.store plan) (course_for plan b) [])
@@ -221,5 +240,5 @@ module _ {K : Type 0} (view : View K) (disk_faults out_faults : K → ℕ) (plan
       (stops_here view plan b left old_r offset_then new put.1)
       (answered view plan b left old_r offset_then new put.1 then_left new_r fault (result ≡ Limit) next (λ is. put.0 ∙ is_limit is))
 
-  pub unread : {B : Type 0} (Done : B → Type 0) (ran result : RunFault) → (ran ≡ Read) ⊎ (ran ≡ Limit) → (fault ≡ reading.Limit → ran ≡ Limit) → StopsFrom view out_faults ran result offset offset_then gathered old new → GoesTrue view plan b then_left Done (Err result) old new
-  unread Done ran result which is_limit stops = unread_by Done ran result which is_limit (stops.under_way plan b left old_r way)
+  pub unread : {B : Type 0} (Done : B → Type 0) (ran result : RunFault) → ran ≡ of_input fault → StopsFrom view out_faults ran result offset offset_then gathered old new → GoesTrue view plan b then_left Done (Err result) old new
+  unread Done ran result ran_is stops = unread_by Done ran result (input_is fault ran ran_is) (input_limit fault ran ran_is) (stops.under_way plan b left old_r way)

@@ -1,17 +1,19 @@
-ghost use Rattle.std.specs.Prelude.{◌≡◌, ◌==◌, ◌&&◌};
+ghost use Rattle.std.specs.Prelude.{◌≡◌, ◌==◌, ◌&&◌, None};
 ghost use Rattle.rg_config.specs.Plans.{planned};
 ghost use Rattle.rg_config.specs.Read.{IsReadPlan};
+ghost use Rattle.rg_task.specs.Terms.{terms_of};
 ghost use Rattle.rg_run.specs.Begun.{Begun};
 ghost use Rattle.rg_run.specs.Gathered.{IsReady};
+ghost use Rattle.rg_run.specs.Turning.{IsRefused};
 ghost use Rattle.rg_run.specs.Turned.{MoreOr, IsReadOut, GoesTrue, CarriesOn, TakesOn, StopsFor};
 ghost use Rattle.rg_run.specs.UnderWay.{IsUnderWay, HasFinished};
 
 use crate::ahead::stop_reading;
-use crate::fault::{RunFault, turn_fault, turned};
+use crate::fault::{RunFault, ended, input_fault, turned};
 use crate::turning::Turning;
 use rg_config::Plan;
 use rg_course::control_in;
-use rg_host::{Line, LineFault, Lines, Source};
+use rg_host::{Line, Lines, Source};
 use rg_reply::Reply;
 use rg_row::clean;
 use rg_task::Task;
@@ -21,6 +23,16 @@ fn is_header(plan: &Plan, offset: u64) -> bool
     ensures { result ≡ (plan.now.header && (offset == 0)) }
 {
     plan.header && offset == 0
+}
+
+/// What is answered to the line at this offset where it is too long: it may be the header.
+fn reply_to_long(plan: &Plan, offset: u64) -> Reply
+    ensures { IsRefused (terms_of (planned plan.now)).basis offset None result }
+{
+    if is_header(plan, offset) {
+        return Reply::Head;
+    }
+    Reply::Long
 }
 
 /// Takes the next line of the input and answers it, or ends the run where there is none: the input isn't
@@ -54,16 +66,12 @@ pub(crate) fn turn<I: Source, K: Task>(
             }
         }
         Ok(Line::Long) => {
-            if is_header(plan, offset) {
-                return turned(turning.refuse(task, &Reply::Head));
-            }
-            turned(turning.refuse(task, &Reply::Long))
+            let reply = reply_to_long(plan, offset);
+            let refused = turning.refuse(task, &reply);
+            drop(reply);
+            turned(refused)
         }
-        Ok(Line::End) => match turning.finish(task) {
-            Ok(()) => Ok(false),
-            Err(fault) => Err(turn_fault(fault)),
-        },
-        Err(LineFault::Read) => Err(stop_reading(turning, task, RunFault::Read)),
-        Err(LineFault::Limit) => Err(stop_reading(turning, task, RunFault::Limit)),
+        Ok(Line::End) => ended(turning.finish(task)),
+        Err(fault) => Err(stop_reading(turning, task, input_fault(fault))),
     }
 }

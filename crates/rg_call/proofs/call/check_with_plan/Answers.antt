@@ -56,8 +56,8 @@ returns-in-Err-Memory-clause-causes g c = causes_memory (Some Check) _ _ _ _ _ _
 
 -- a put failed
 
-pub returns-clause-does : goal.returns-clause-does
-returns-clause-does g c = does_check g.H.Host.now g.H.Host.may g.H.Host.clock g.H.Host.since g.H.Host.said _ _ _ _ _ _ _ _ _
+pub returns-in-Err-Write-clause-does : goal.returns-in-Err-Write-clause-does
+returns-in-Err-Write-clause-does g c = does_check g.H.Host.now g.H.Host.may g.H.Host.clock g.H.Host.since g.H.Host.said _ _ _ _ _ _ _ _ _
     (let s = c.in-Err-Write.ensures.stops in
     record {
       all = λ ok. absurd (let e : Write ≡ Ok = ok in cc);
@@ -67,6 +67,6 @@ returns-clause-does g c = does_check g.H.Host.now g.H.Host.may g.H.Host.clock g.
       before = λ is shows. absurd shows;
     })
 
-pub returns-clause-causes : goal.returns-clause-causes
-returns-clause-causes g c =
+pub returns-in-Err-Write-clause-causes : goal.returns-in-Err-Write-clause-causes
+returns-in-Err-Write-clause-causes g c =
     causes_write (Some Check) _ _ _ _ _ _ _ _ _ _ (λ none. let e : Some Check ≡ None = none in absurd (cc)) _ _ (λ reads. legal_of _ (planned c.in-Ok.asked) c.in-Ok.ensures.legal) (c.in-Err-Write.ensures.write (ap (λ (f : CheckFault). Err f) c.in-Err-Write.field-0-is))

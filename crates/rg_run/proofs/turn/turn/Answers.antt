@@ -1,21 +1,19 @@
-use Rattle.std.proofs.Common.{◌≡◌, ◌==◌, ◌∷◌, Some, None, inl, inr, refl, sym, ◌∙◌, ap, Err, true, false, arith}
+use Rattle.std.proofs.Common.{◌≡◌, ◌==◌, ◌∷◌, Some, None, sym, ◌∙◌, ap, Err, true, false, arith}
 use Rattle.std.specs.List.{list_any}
 use Rattle.rg_config.specs.Plans.{planned}
-use Rattle.rg_host.specs.declared.lines.LineFault.{LineFault}
 use Rattle.rg_host.specs.declared.lines.LineFault.TheVariants as reading
 use Rattle.rg_task.specs.Terms.{terms_of}
 use Rattle.rg_task.specs.declared.fault.TaskFault.TheVariants as task
 use Rattle.rg_run.specs.Begun.{course_for}
 use Rattle.rg_run.specs.UnderWay.{Answers}
-use Rattle.rg_run.specs.declared.fault.RunFault.TheVariants as run
 use Rattle.rg_run.specs.declared.fault.TurnFault.TheVariants as turn
 use Rattle.rg_run.proofs.Called.{told_never}
-use Rattle.rg_run.proofs.Causes.{never_by, bad_by, undamaged_by, damaged_by, end_others}
-use Rattle.rg_run.proofs.Handled.{Handles, refused_handles, line_takes, line_cause}
+use Rattle.rg_run.proofs.Causes.{never_by, bad_by, undamaged_by, damaged_by}
+use Rattle.rg_run.proofs.Handled.{Handles, refused_handles, line_takes, line_cause, end_takes, end_cause}
 use Rattle.rg_run.proofs.Taking.{text_taken, long_taken, end_taken, none_taken, taken_on, read_out, past_limit}
-use Rattle.rg_run.proofs.Texts.{text_no_lf, no_lf_cleaned, as_header, as_row, as_control, as_long}
-use Rattle.rg_run.proofs.Turned.{no_more, why_none, why_turn, why_read, why_limit, why_stopped}
-use Rattle.rg_run.proofs.Turns.{line_goes, true_at_ok, true_at_err, stops, end_awaits, unread}
+use Rattle.rg_run.proofs.Texts.{text_no_lf, no_lf_cleaned, as_header, as_row, as_control}
+use Rattle.rg_run.proofs.Turned.{why_unread}
+use Rattle.rg_run.proofs.Turns.{line_goes, end_awaits, end_goes, unread}
 use Rattle.rg_run.proofs.turn.turn.Goals as goal
 
 pub answer-requires-clause-one_line : goal.answer-requires-clause-one_line
@@ -152,101 +150,55 @@ returns-in-None-clause-cause g c =
 pub turned-requires-in-None : goal.turned-requires-in-None
 turned-requires-in-None g c = record { ended = λ is. absurd (let ended : (g.K.Task.view.at c.args.task.now).ended ≡ true = c.answer.ensures.ended is in let going : (g.K.Task.view.at c.args.task.now).ended ≡ false = c.requires.ready.going in cc) }
 
-pub returns-then-is_header-2-clause-goes : goal.returns-then-is_header-2-clause-goes
-returns-then-is_header-2-clause-goes g c = λ b way.
+pub returns-in-Ok-Long-clause-goes : goal.returns-in-Ok-Long-clause-goes
+returns-in-Ok-Long-clause-goes g c = λ b way.
     let plan = planned c.args.plan.now in
-    let reads = as_header (terms_of plan).basis c.args.turning.now.offset None (sym c.is_header-in-Ok-Long.ensures ∙ c.if-is_header-2.true) in
-    let answers : Answers g.K.Task.view plan None c.args.turning.now.offset c.refuse-then-is_header-2.new.self.offset c.args.turning.now.gathered.items c.refuse-then-is_header-2.new.self.gathered.items c.args.task.now c.refuse-then-is_header-2.new.task c.refuse-then-is_header-2.result = record {
-      moments = λ course items a. c.refuse-then-is_header-2.ensures.moments plan course (None) items a reads;
-      awaits = λ course items a. c.refuse-then-is_header-2.ensures.awaits plan course (None) items a reads;
-      events = λ course items a. c.refuse-then-is_header-2.ensures.events plan course (None) items a reads;
-      stopped = λ course items a. c.refuse-then-is_header-2.ensures.stopped plan course (None) items a reads;
-      never_damaged = λ course items a. undamaged_by c.refuse-then-is_header-2.result c.refuse-then-is_header-2.ensures.faults;
-      never_bad = λ course items a. never_by c.refuse-then-is_header-2.result c.refuse-then-is_header-2.ensures.faults;
+    let answers : Answers g.K.Task.view plan None c.args.turning.now.offset c.refuse-refused.new.self.offset c.args.turning.now.gathered.items c.refuse-refused.new.self.gathered.items c.args.task.now c.refuse-refused.new.task c.refuse-refused.result = record {
+      moments = λ course items a. c.refuse-refused.ensures.moments plan course None items a c.reply_to_long-reply.ensures;
+      awaits = λ course items a. c.refuse-refused.ensures.awaits plan course None items a c.reply_to_long-reply.ensures;
+      events = λ course items a. c.refuse-refused.ensures.events plan course None items a c.reply_to_long-reply.ensures;
+      stopped = λ course items a. c.refuse-refused.ensures.stopped plan course None items a c.reply_to_long-reply.ensures;
+      never_damaged = λ course items a. undamaged_by c.refuse-refused.result c.refuse-refused.ensures.faults;
+      never_bad = λ course items a. never_by c.refuse-refused.result c.refuse-refused.ensures.faults;
     } in
-    line_goes g.K.Task.view plan b _ _ _ _ _ way _ _ _ (long_taken _ _ _ _ _ c.next.follows.holds-at-none _ c.in-Ok-Long.is c.in-Ok-Long.field-0-is) c.refuse-then-is_header-2.result _ _ _ answers c.refuse-then-is_header-2.ensures.offset c.turned-then-is_header-2.result c.turned-then-is_header-2.ensures
+    line_goes g.K.Task.view plan b _ _ _ _ _ way _ _ _ (long_taken _ _ _ _ _ c.next.follows.holds-at-none _ c.in-Ok-Long.is c.in-Ok-Long.field-0-is) c.refuse-refused.result _ _ _ answers c.refuse-refused.ensures.offset c.turned-in-Ok-Long.result c.turned-in-Ok-Long.ensures
 
-pub returns-then-is_header-2-clause-takes : goal.returns-then-is_header-2-clause-takes
-returns-then-is_header-2-clause-takes g c = line_takes g.K.Task.view g.K.Task.disk_faults g.K.Task.out_faults g.I.Source.left g.I.Source.faults (planned c.args.plan.now) _ _ _ _ _ _ _ _ c.refuse-then-is_header-2.result (refused_handles g.K.Task.view g.K.Task.disk_faults g.K.Task.out_faults (planned c.args.plan.now) _ _ c.refuse-then-is_header-2.result _ _ c.refuse-then-is_header-2.ensures.keeps c.requires.ready.going c.refuse-then-is_header-2.ensures.offset c.refuse-then-is_header-2.ensures.faults c.refuse-then-is_header-2.ensures.write c.refuse-then-is_header-2.ensures.disk_faults c.refuse-then-is_header-2.ensures.out_faults) _ (long_taken _ _ _ _ _ c.next.follows.holds-at-none _ c.in-Ok-Long.is c.in-Ok-Long.field-0-is) c.requires.ready.counted (λ start t. taken_on _ _ _ _ _ _ c.next.follows.holds-at-none t) c.next.ensures.later c.turned-then-is_header-2.result c.turned-then-is_header-2.ensures
+pub returns-in-Ok-Long-clause-takes : goal.returns-in-Ok-Long-clause-takes
+returns-in-Ok-Long-clause-takes g c = line_takes g.K.Task.view g.K.Task.disk_faults g.K.Task.out_faults g.I.Source.left g.I.Source.faults (planned c.args.plan.now) _ _ _ _ _ _ _ _ c.refuse-refused.result (refused_handles g.K.Task.view g.K.Task.disk_faults g.K.Task.out_faults (planned c.args.plan.now) _ _ c.refuse-refused.result _ _ c.refuse-refused.ensures.keeps c.requires.ready.going c.refuse-refused.ensures.offset c.refuse-refused.ensures.faults c.refuse-refused.ensures.write c.refuse-refused.ensures.disk_faults c.refuse-refused.ensures.out_faults) _ (long_taken _ _ _ _ _ c.next.follows.holds-at-none _ c.in-Ok-Long.is c.in-Ok-Long.field-0-is) c.requires.ready.counted (λ start t. taken_on _ _ _ _ _ _ c.next.follows.holds-at-none t) c.next.ensures.later c.turned-in-Ok-Long.result c.turned-in-Ok-Long.ensures
 
-pub returns-then-is_header-2-clause-cause : goal.returns-then-is_header-2-clause-cause
-returns-then-is_header-2-clause-cause g c = line_cause g.K.Task.view g.K.Task.disk_faults g.K.Task.out_faults g.I.Source.faults (planned c.args.plan.now) _ _ _ _ _ _ _ c.refuse-then-is_header-2.result (refused_handles g.K.Task.view g.K.Task.disk_faults g.K.Task.out_faults (planned c.args.plan.now) _ _ c.refuse-then-is_header-2.result _ _ c.refuse-then-is_header-2.ensures.keeps c.requires.ready.going c.refuse-then-is_header-2.ensures.offset c.refuse-then-is_header-2.ensures.faults c.refuse-then-is_header-2.ensures.write c.refuse-then-is_header-2.ensures.disk_faults c.refuse-then-is_header-2.ensures.out_faults) c.turned-then-is_header-2.result c.turned-then-is_header-2.ensures
-
-pub turned-requires-then-is_header-2 : goal.turned-requires-then-is_header-2
-turned-requires-then-is_header-2 g c = record { ended = λ is. told_never c.refuse-then-is_header-2.result c.refuse-then-is_header-2.ensures.faults (turn.Task task.Ended) (λ e. cc) (λ e. cc) is }
-
-pub returns-else-is_header-2-clause-goes : goal.returns-else-is_header-2-clause-goes
-returns-else-is_header-2-clause-goes g c = λ b way.
-    let plan = planned c.args.plan.now in
-    let reads = as_long (terms_of plan).basis c.args.turning.now.offset (sym c.is_header-in-Ok-Long.ensures ∙ c.if-is_header-2.false) in
-    let answers : Answers g.K.Task.view plan None c.args.turning.now.offset c.refuse-in-Ok-Long.new.self.offset c.args.turning.now.gathered.items c.refuse-in-Ok-Long.new.self.gathered.items c.args.task.now c.refuse-in-Ok-Long.new.task c.refuse-in-Ok-Long.result = record {
-      moments = λ course items a. c.refuse-in-Ok-Long.ensures.moments plan course (None) items a reads;
-      awaits = λ course items a. c.refuse-in-Ok-Long.ensures.awaits plan course (None) items a reads;
-      events = λ course items a. c.refuse-in-Ok-Long.ensures.events plan course (None) items a reads;
-      stopped = λ course items a. c.refuse-in-Ok-Long.ensures.stopped plan course (None) items a reads;
-      never_damaged = λ course items a. undamaged_by c.refuse-in-Ok-Long.result c.refuse-in-Ok-Long.ensures.faults;
-      never_bad = λ course items a. never_by c.refuse-in-Ok-Long.result c.refuse-in-Ok-Long.ensures.faults;
-    } in
-    line_goes g.K.Task.view plan b _ _ _ _ _ way _ _ _ (long_taken _ _ _ _ _ c.next.follows.holds-at-none _ c.in-Ok-Long.is c.in-Ok-Long.field-0-is) c.refuse-in-Ok-Long.result _ _ _ answers c.refuse-in-Ok-Long.ensures.offset c.turned-in-Ok-Long.result c.turned-in-Ok-Long.ensures
-
-pub returns-else-is_header-2-clause-takes : goal.returns-else-is_header-2-clause-takes
-returns-else-is_header-2-clause-takes g c = line_takes g.K.Task.view g.K.Task.disk_faults g.K.Task.out_faults g.I.Source.left g.I.Source.faults (planned c.args.plan.now) _ _ _ _ _ _ _ _ c.refuse-in-Ok-Long.result (refused_handles g.K.Task.view g.K.Task.disk_faults g.K.Task.out_faults (planned c.args.plan.now) _ _ c.refuse-in-Ok-Long.result _ _ c.refuse-in-Ok-Long.ensures.keeps c.requires.ready.going c.refuse-in-Ok-Long.ensures.offset c.refuse-in-Ok-Long.ensures.faults c.refuse-in-Ok-Long.ensures.write c.refuse-in-Ok-Long.ensures.disk_faults c.refuse-in-Ok-Long.ensures.out_faults) _ (long_taken _ _ _ _ _ c.next.follows.holds-at-none _ c.in-Ok-Long.is c.in-Ok-Long.field-0-is) c.requires.ready.counted (λ start t. taken_on _ _ _ _ _ _ c.next.follows.holds-at-none t) c.next.ensures.later c.turned-in-Ok-Long.result c.turned-in-Ok-Long.ensures
-
-pub returns-else-is_header-2-clause-cause : goal.returns-else-is_header-2-clause-cause
-returns-else-is_header-2-clause-cause g c = line_cause g.K.Task.view g.K.Task.disk_faults g.K.Task.out_faults g.I.Source.faults (planned c.args.plan.now) _ _ _ _ _ _ _ c.refuse-in-Ok-Long.result (refused_handles g.K.Task.view g.K.Task.disk_faults g.K.Task.out_faults (planned c.args.plan.now) _ _ c.refuse-in-Ok-Long.result _ _ c.refuse-in-Ok-Long.ensures.keeps c.requires.ready.going c.refuse-in-Ok-Long.ensures.offset c.refuse-in-Ok-Long.ensures.faults c.refuse-in-Ok-Long.ensures.write c.refuse-in-Ok-Long.ensures.disk_faults c.refuse-in-Ok-Long.ensures.out_faults) c.turned-in-Ok-Long.result c.turned-in-Ok-Long.ensures
+pub returns-in-Ok-Long-clause-cause : goal.returns-in-Ok-Long-clause-cause
+returns-in-Ok-Long-clause-cause g c = line_cause g.K.Task.view g.K.Task.disk_faults g.K.Task.out_faults g.I.Source.faults (planned c.args.plan.now) _ _ _ _ _ _ _ c.refuse-refused.result (refused_handles g.K.Task.view g.K.Task.disk_faults g.K.Task.out_faults (planned c.args.plan.now) _ _ c.refuse-refused.result _ _ c.refuse-refused.ensures.keeps c.requires.ready.going c.refuse-refused.ensures.offset c.refuse-refused.ensures.faults c.refuse-refused.ensures.write c.refuse-refused.ensures.disk_faults c.refuse-refused.ensures.out_faults) c.turned-in-Ok-Long.result c.turned-in-Ok-Long.ensures
 
 pub turned-requires-in-Ok-Long : goal.turned-requires-in-Ok-Long
-turned-requires-in-Ok-Long g c = record { ended = λ is. told_never c.refuse-in-Ok-Long.result c.refuse-in-Ok-Long.ensures.faults (turn.Task task.Ended) (λ e. cc) (λ e. cc) is }
+turned-requires-in-Ok-Long g c = record { ended = λ is. told_never c.refuse-refused.result c.refuse-refused.ensures.faults (turn.Task task.Ended) (λ e. cc) (λ e. cc) is }
 
-pub returns-in-Ok-clause-goes : goal.returns-in-Ok-clause-goes
-returns-in-Ok-clause-goes g c =
-    λ b way.
-    let done = c.in-Ok.ensures.done (planned c.args.plan.now) (course_for (planned c.args.plan.now) b) (end_awaits g.K.Task.view (planned c.args.plan.now) b _ _ _ _ _ way _ _ (end_taken _ _ _ _ _ c.next.follows.holds-at-none _ c.in-Ok-End.is c.in-Ok-End.field-0-is)) in
-    true_at_ok g.K.Task.view (planned c.args.plan.now) b _ c.args.task.now c.finish.new.task (c.finish.ensures.moments (planned c.args.plan.now) (course_for (planned c.args.plan.now) b) (end_awaits g.K.Task.view (planned c.args.plan.now) b _ _ _ _ _ way _ _ (end_taken _ _ _ _ _ c.next.follows.holds-at-none _ c.in-Ok-End.is c.in-Ok-End.field-0-is))) _ (no_more (record { put = done.0; told = done.1; done = done.2 }))
+pub returns-in-Ok-End-clause-goes : goal.returns-in-Ok-End-clause-goes
+returns-in-Ok-End-clause-goes g c = λ b way.
+    let plan = planned c.args.plan.now in
+    let course = course_for plan b in
+    let a = end_awaits g.K.Task.view plan b _ _ _ _ _ way _ _ (end_taken _ _ _ _ _ c.next.follows.holds-at-none _ c.in-Ok-End.is c.in-Ok-End.field-0-is) in
+    end_goes g.K.Task.view plan b _ c.args.task.now c.finish.new.task _ (c.finish.ensures.moments plan course a) c.finish.result (c.finish.ensures.done plan course a) (c.finish.ensures.stopped plan course a) c.finish.ensures.faults c.ended.result c.ended.ensures
+
+pub returns-in-Ok-End-clause-takes : goal.returns-in-Ok-End-clause-takes
+returns-in-Ok-End-clause-takes g c =
+    end_takes g.K.Task.view g.K.Task.disk_faults g.K.Task.out_faults g.I.Source.left g.I.Source.faults _ _ _ _ _ _ _ c.finish.result
+    (read_out _ _ _ _ (end_taken _ _ _ _ _ c.next.follows.holds-at-none _ c.in-Ok-End.is c.in-Ok-End.field-0-is))
+    (λ start t. taken_on _ _ _ _ _ _ c.next.follows.holds-at-none t)
+    (record { goes = c.finish.ensures.log; later = c.next.ensures.later; disk_faults_grow = c.finish.ensures.disk_faults; out_faults_grow = c.finish.ensures.out_faults })
+    c.ended.result c.ended.ensures
+
+pub returns-in-Ok-End-clause-cause : goal.returns-in-Ok-End-clause-cause
+returns-in-Ok-End-clause-cause g c = end_cause g.K.Task.view g.K.Task.disk_faults g.K.Task.out_faults g.I.Source.faults (planned c.args.plan.now) _ _ _ _ _ c.finish.result c.finish.ensures.faults c.finish.ensures.write c.finish.ensures.disk c.ended.result c.ended.ensures
+
+pub ended-requires : goal.ended-requires
+ended-requires g c = record { ended = λ is. absurd (let ended : (g.K.Task.view.at c.args.task.now).ended ≡ true = c.finish.ensures.ended is in let going : (g.K.Task.view.at c.args.task.now).ended ≡ false = c.requires.ready.going in cc) }
 
 pub returns-in-Err-clause-goes : goal.returns-in-Err-clause-goes
 returns-in-Err-clause-goes g c =
-    λ b way.
-    let not = end_others c.in-Err.fault c.in-Err.ensures.faults in
-    true_at_err g.K.Task.view (planned c.args.plan.now) b _ c.args.task.now c.finish.new.task (c.finish.ensures.moments (planned c.args.plan.now) (course_for (planned c.args.plan.now) b) (end_awaits g.K.Task.view (planned c.args.plan.now) b _ _ _ _ _ way _ _ (end_taken _ _ _ _ _ c.next.follows.holds-at-none _ c.in-Ok-End.is c.in-Ok-End.field-0-is))) _ c.in-Err.fault c.turn_fault.result c.turn_fault.ensures not.0 not.1
-    (stops g.K.Task.view (planned c.args.plan.now) b c.finish.new.task c.in-Err.fault (c.in-Err.ensures.stopped (planned c.args.plan.now) (course_for (planned c.args.plan.now) b) (end_awaits g.K.Task.view (planned c.args.plan.now) b _ _ _ _ _ way _ _ (end_taken _ _ _ _ _ c.next.follows.holds-at-none _ c.in-Ok-End.is c.in-Ok-End.field-0-is))))
-
-pub returns-in-Ok-clause-takes : goal.returns-in-Ok-clause-takes
-returns-in-Ok-clause-takes g c =
-    record {
-      done = no_more (read_out _ _ _ _ (end_taken _ _ _ _ _ c.next.follows.holds-at-none _ c.in-Ok-End.is c.in-Ok-End.field-0-is));
-      taken = λ start t. taken_on _ _ _ _ _ _ c.next.follows.holds-at-none t;
-      counts = record { goes = c.finish.ensures.log; later = c.next.ensures.later; disk_faults_grow = c.finish.ensures.disk_faults; out_faults_grow = c.finish.ensures.out_faults };
-    }
+    λ b way. unread g.K.Task.view g.K.Task.disk_faults g.K.Task.out_faults (planned c.args.plan.now) b _ _ _ _ _ _ _ c.stop_reading.ensures.puts way _ _ c.in-Err.fault (none_taken _ _ _ _ _ c.next.follows.holds-at-none c.in-Err.fault c.in-Err.is) _ c.input_fault.result c.stop_reading.result c.input_fault.ensures c.stop_reading.ensures.stops
 
 pub returns-in-Err-clause-takes : goal.returns-in-Err-clause-takes
 returns-in-Err-clause-takes g c =
-    record {
-      done = tt;
-      taken = λ start t. taken_on _ _ _ _ _ _ c.next.follows.holds-at-none t;
-      counts = record { goes = c.finish.ensures.log; later = c.next.ensures.later; disk_faults_grow = c.finish.ensures.disk_faults; out_faults_grow = c.finish.ensures.out_faults };
-    }
-
-pub returns-in-Ok-clause-cause : goal.returns-in-Ok-clause-cause
-returns-in-Ok-clause-cause g c =
-    why_none g.K.Task.view g.K.Task.disk_faults g.K.Task.out_faults g.I.Source.faults (planned c.args.plan.now) _ _ _ _ _ _
-
-pub returns-in-Err-clause-cause : goal.returns-in-Err-clause-cause
-returns-in-Err-clause-cause g c =
-    let not = end_others c.in-Err.fault c.in-Err.ensures.faults in
-    why_turn g.K.Task.view g.K.Task.disk_faults g.K.Task.out_faults g.I.Source.faults (planned c.args.plan.now) _ _ _ _ _ c.in-Err.fault c.turn_fault.result c.turn_fault.ensures
-    (λ n runs is. not.0 n is)
-    (λ p placed is. not.1 p is)
-    (λ p is. absurd (not.1 p is))
-    (λ is. c.finish.ensures.write (c.in-Err.is ∙ ap (λ v. Err v) is))
-    (λ is. c.finish.ensures.disk (c.in-Err.is ∙ ap (λ v. Err v) is))
-
-pub returns-in-Err-Read-clause-goes : goal.returns-in-Err-Read-clause-goes
-returns-in-Err-Read-clause-goes g c =
-    λ b way. unread g.K.Task.view g.K.Task.disk_faults g.K.Task.out_faults (planned c.args.plan.now) b _ _ _ _ _ _ _ c.stop_reading.ensures.puts way _ _ reading.Read (none_taken _ _ _ _ _ c.next.follows.holds-at-none reading.Read (c.in-Err-Read.is ∙ ap (λ v. Err v) c.in-Err-Read.field-0-is)) _ run.Read c.stop_reading.result (inl refl) (λ is. absurd (let e : ◌≡◌ {A = LineFault} reading.Read reading.Limit = is in cc)) c.stop_reading.ensures.stops
-
-pub returns-in-Err-Read-clause-takes : goal.returns-in-Err-Read-clause-takes
-returns-in-Err-Read-clause-takes g c =
     let puts = c.stop_reading.ensures.puts in
     record {
       done = tt;
@@ -254,27 +206,9 @@ returns-in-Err-Read-clause-takes g c =
       counts = record { goes = puts.keeps.goes; later = c.next.ensures.later; disk_faults_grow = omega (arith, puts.disk_faults_stay); out_faults_grow = puts.out_faults_grow };
     }
 
-pub returns-in-Err-Read-clause-cause : goal.returns-in-Err-Read-clause-cause
-returns-in-Err-Read-clause-cause g c =
-    why_stopped g.K.Task.view g.K.Task.disk_faults g.K.Task.out_faults g.I.Source.faults (planned c.args.plan.now) _ _ _ _ _ run.Read c.stop_reading.result
-    (why_read g.K.Task.view g.K.Task.disk_faults g.K.Task.out_faults g.I.Source.faults (planned c.args.plan.now) _ _ _ _ _ (c.next.ensures.cause (c.in-Err-Read.is ∙ ap (λ v. Err v) c.in-Err-Read.field-0-is)))
+pub returns-in-Err-clause-cause : goal.returns-in-Err-clause-cause
+returns-in-Err-clause-cause g c =
+    why_unread g.K.Task.view g.K.Task.disk_faults g.K.Task.out_faults g.I.Source.faults (planned c.args.plan.now) _ _ _ _ _ c.in-Err.fault c.input_fault.result c.stop_reading.result c.input_fault.ensures
+    (λ is. c.next.ensures.cause (c.in-Err.is ∙ ap (λ v. Err v) is))
+    (λ is. past_limit _ _ _ _ (none_taken _ _ _ _ _ c.next.follows.holds-at-none reading.Limit (c.in-Err.is ∙ ap (λ v. Err v) is)))
     c.stop_reading.ensures.stops.which
-
-pub returns-in-Err-Limit-clause-goes : goal.returns-in-Err-Limit-clause-goes
-returns-in-Err-Limit-clause-goes g c =
-    λ b way. unread g.K.Task.view g.K.Task.disk_faults g.K.Task.out_faults (planned c.args.plan.now) b _ _ _ _ _ _ _ c.stop_reading-in-Err-Limit.ensures.puts way _ _ reading.Limit (none_taken _ _ _ _ _ c.next.follows.holds-at-none reading.Limit (c.in-Err-Limit.is ∙ ap (λ v. Err v) c.in-Err-Limit.field-0-is)) _ run.Limit c.stop_reading-in-Err-Limit.result (inr refl) (λ is. refl) c.stop_reading-in-Err-Limit.ensures.stops
-
-pub returns-in-Err-Limit-clause-takes : goal.returns-in-Err-Limit-clause-takes
-returns-in-Err-Limit-clause-takes g c =
-    let puts = c.stop_reading-in-Err-Limit.ensures.puts in
-    record {
-      done = tt;
-      taken = λ start t. taken_on _ _ _ _ _ _ c.next.follows.holds-at-none t;
-      counts = record { goes = puts.keeps.goes; later = c.next.ensures.later; disk_faults_grow = omega (arith, puts.disk_faults_stay); out_faults_grow = puts.out_faults_grow };
-    }
-
-pub returns-in-Err-Limit-clause-cause : goal.returns-in-Err-Limit-clause-cause
-returns-in-Err-Limit-clause-cause g c =
-    why_stopped g.K.Task.view g.K.Task.disk_faults g.K.Task.out_faults g.I.Source.faults (planned c.args.plan.now) _ _ _ _ _ run.Limit c.stop_reading-in-Err-Limit.result
-    (why_limit g.K.Task.view g.K.Task.disk_faults g.K.Task.out_faults g.I.Source.faults (planned c.args.plan.now) _ _ _ _ _ (past_limit _ _ _ _ (none_taken _ _ _ _ _ c.next.follows.holds-at-none reading.Limit (c.in-Err-Limit.is ∙ ap (λ v. Err v) c.in-Err-Limit.field-0-is))))
-    c.stop_reading-in-Err-Limit.ensures.stops.which

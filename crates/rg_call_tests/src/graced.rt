@@ -1,10 +1,11 @@
-use super::setting::{Call, RUN, SMALL, THREE, THREE_PUT, assert_each, assert_over};
+use super::scenario::{EMPTY, Scenario, assert_all};
+use super::setting::{Call, GRACED, PLAIN, RUN, SMALL, THREE, THREE_PUT};
 use rg_report::Status;
 use std::test::Fail;
 
 /// A run in small chunks, in which a payment may be earlier than the last one by one millisecond.
-const GRACED: Call<'static> = Call {
-    settings: "cache = 1\nchunk = 2\ncommit = 2\nsave = 4\ngrace = 1\n",
+const RUN_GRACED: Call<'static> = Call {
+    settings: GRACED,
     ..RUN
 };
 
@@ -12,18 +13,24 @@ const GRACED: Call<'static> = Call {
 const EARLY: Call<'static> = Call {
     input: b"10,c1,m1,1\n9,c1,m1,1\n10,c1,m1,1\n",
     wanted: "open 0 0 0\n0 ok 1 1\n1 moved 2 2\nstored 2\n2 ok 3 3\nstored 3\nsaved 3\ndone 3 3\n",
-    ..GRACED
+    ..RUN_GRACED
 };
 
 /// What a run puts where the second payment is late.
 const LATE_PUT: &str =
     "open 0 0 0\n0 ok 1 1\n1 late\n2 ok 2 2\nstored 3\nstored 3\nsaved 2\ndone 3 2\n";
 
-#[test]
-fn a_payment_within_the_grace_is_moved(rt: HostRuntime) -> Result<(), Fail> {
-    assert_each(
-        &rt,
-        &[
+/// A run that is refused for its settings.
+const REFUSED: Call<'static> = Call {
+    wanted: "refused plan settings\n",
+    ends: Status::Plan,
+    ..EARLY
+};
+
+const MOVED: &[Scenario<'static>] = &[
+    Scenario {
+        says: "a payment within the grace is moved",
+        calls: &[
             EARLY,
             Call {
                 settings: SMALL,
@@ -33,23 +40,20 @@ fn a_payment_within_the_grace_is_moved(rt: HostRuntime) -> Result<(), Fail> {
             Call {
                 input: b"10,c1,m1,1\n8,c1,m1,1\n10,c1,m1,1\n",
                 wanted: LATE_PUT,
-                ..GRACED
+                ..RUN_GRACED
             },
             Call {
                 settings: "commit = 2\ngrace = 1_000_000_000_000_000\n",
                 input: b"1000000000000000,c1,m1,1\n0,c1,m1,1\n",
                 wanted: "open 0 0 0\n0 ok 1 1\n1 moved 2 2\nstored 2\nstored 2\nsaved 2\ndone 2 2\n",
-                ..RUN
+                ..PLAIN
             },
         ],
-    )
-}
-
-#[test]
-fn a_moved_payment_is_stored_with_the_last_time(rt: HostRuntime) -> Result<(), Fail> {
-    assert_over(
-        &rt,
-        &[
+        ..EMPTY
+    },
+    Scenario {
+        says: "a moved payment is stored with the last time",
+        runs: &[
             EARLY,
             Call {
                 words: &["dump", "store"],
@@ -62,54 +66,38 @@ fn a_moved_payment_is_stored_with_the_last_time(rt: HostRuntime) -> Result<(), F
                 ..EARLY
             },
         ],
-    )
-}
-
-#[test]
-fn a_payment_within_the_grace_of_a_full_store_is_one_too_many(rt: HostRuntime) -> Result<(), Fail> {
-    assert_each(
-        &rt,
-        &[Call {
+        ..EMPTY
+    },
+    Scenario {
+        says: "a payment within the grace of a full store is one too many",
+        calls: &[Call {
             settings: "events = 1\ngrace = 1\n",
             input: b"10,c1,m1,1\n9,c1,m1,1\n8,c1,m1,1\n",
             wanted: "open 0 0 0\n0 ok 1 1\n1 full\n2 late\nstored 1\nsaved 1\ndone 3 1\n",
-            ..RUN
+            ..PLAIN
         }],
-    )
-}
-
-#[test]
-fn the_first_payment_of_a_later_run_may_be_moved(rt: HostRuntime) -> Result<(), Fail> {
-    assert_over(
-        &rt,
-        &[
+        ..EMPTY
+    },
+    Scenario {
+        says: "the first payment of a later run may be moved",
+        runs: &[
             Call {
                 input: THREE,
                 wanted: THREE_PUT,
-                ..GRACED
+                ..RUN_GRACED
             },
             Call {
                 words: &["run", "plan", "store", "3"],
                 input: b"299999,c1,m1,7\n",
                 wanted: "open 3 3 3\n3 moved 3 257\nstored 4\nsaved 4\nstored 4\nsaved 4\ndone 4 4\n",
-                ..GRACED
+                ..RUN_GRACED
             },
         ],
-    )
-}
-
-/// A run that is refused for its settings.
-const REFUSED: Call<'static> = Call {
-    wanted: "refused plan settings\n",
-    ends: Status::Plan,
-    ..EARLY
-};
-
-#[test]
-fn a_grace_out_of_its_range_is_refused(rt: HostRuntime) -> Result<(), Fail> {
-    assert_each(
-        &rt,
-        &[
+        ..EMPTY
+    },
+    Scenario {
+        says: "a grace out of its range is refused",
+        calls: &[
             Call {
                 settings: "grace = -1\n",
                 ..REFUSED
@@ -119,5 +107,11 @@ fn a_grace_out_of_its_range_is_refused(rt: HostRuntime) -> Result<(), Fail> {
                 ..REFUSED
             },
         ],
-    )
+        ..EMPTY
+    },
+];
+
+#[test]
+fn a_payment_within_the_grace_is_moved(rt: HostRuntime) -> Result<(), Fail> {
+    assert_all(&rt, MOVED)
 }

@@ -1,3 +1,4 @@
+use super::setting::{Row, assert_row};
 use rg_bytes::Memory;
 use rg_call::run_trial;
 use rg_host::{Image, MemHost};
@@ -18,28 +19,50 @@ fn put_trial(alloc: Global, lines: u64, seed: u64, host: &mut MemHost) -> Result
     Ok(())
 }
 
-/// The four lines of this trial are these.
-fn assert_lines(
-    rt: &(impl Abort + AllocGlobal),
+/// A trial, and its four lines.
+#[derive(Clone, Copy)]
+struct Trial<'a> {
     lines: u64,
     seed: u64,
-    wanted: &[u8],
-) -> Result<(), Fail> {
+    wanted: &'a [u8],
+}
+
+fn assert_lines(rt: &(impl Abort + AllocGlobal), trial: &Trial<'_>) -> Result<(), Fail> {
     let mut host = MemHost::new(rt.alloc(), Image::new(rt.alloc()), Vec::new(rt.alloc()))?;
-    let done = put_trial(rt.alloc(), lines, seed, &mut host);
-    let is_wanted = host.output() == wanted;
+    let done = put_trial(rt.alloc(), trial.lines, trial.seed, &mut host);
+    let is_wanted = host.output() == trial.wanted;
     drop(host);
     done?;
-    assert!(rt; is_wanted);
+    let row = Row {
+        says: "a trial of so many lines",
+        number: trial.lines as usize,
+    };
+    assert_row(rt, row, "it puts its lines", is_wanted)
+}
+
+fn assert_each(rt: &(impl Abort + AllocGlobal), trials: &[Trial<'_>]) -> Result<(), Fail> {
+    for trial in trials {
+        assert_lines(rt, trial)?;
+    }
     Ok(())
 }
 
-#[test]
-fn no_line_gives_the_marks_alone(rt: HostRuntime) -> Result<(), Fail> {
-    assert_lines(&rt, 0, 0, b"lines 0\nevents 0\nbytes 37\nsum 2644\n")
-}
+const TRIALS: &[Trial<'static>] = &[
+    // no line gives the marks alone
+    Trial {
+        lines: 0,
+        seed: 0,
+        wanted: b"lines 0\nevents 0\nbytes 37\nsum 2644\n",
+    },
+    // two lines give two replies
+    Trial {
+        lines: 2,
+        seed: 0,
+        wanted: b"lines 2\nevents 2\nbytes 83\nsum 4917\n",
+    },
+];
 
 #[test]
-fn two_lines_give_two_replies(rt: HostRuntime) -> Result<(), Fail> {
-    assert_lines(&rt, 2, 0, b"lines 2\nevents 2\nbytes 83\nsum 4917\n")
+fn a_trial_puts_four_lines(rt: HostRuntime) -> Result<(), Fail> {
+    assert_each(&rt, TRIALS)
 }

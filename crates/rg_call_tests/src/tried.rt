@@ -1,6 +1,6 @@
-use super::setting::{Call, RUN, assert_each, left_by};
+use super::scenario::{EMPTY, Left, Scenario, assert_all};
+use super::setting::{Call, RUN};
 use rg_report::Status;
-use std::process::Abort;
 use std::test::Fail;
 
 /// A trial of no line, which fails where it reads a plan or an input.
@@ -26,43 +26,43 @@ const REFUSED: Call<'static> = Call {
     ..TRIAL
 };
 
-/// Each of these trials, on a host of its own whose calls of these numbers fail, puts what is wanted, ends so, and
-/// makes one call: four lines are one put, and no file is asked for.
-fn assert_puts_once(
-    rt: &(impl Abort + AllocGlobal),
-    failing: &[u64],
-    trials: &[Call<'_>],
-) -> Result<(), Fail> {
-    for trial in trials {
-        let host = left_by(rt, failing, &[*trial])?;
-        let calls = host.calls();
-        drop(host);
-        assert_eq!(rt; calls, 1);
-    }
-    Ok(())
-}
-
-#[test]
-fn a_trial_puts_its_numbers(rt: HostRuntime) -> Result<(), Fail> {
-    assert_puts_once(
-        &rt,
-        &[],
-        &[
-            TRIAL,
-            OF_TWO,
-            Call {
-                words: &["self", "000", "18446744073709551615"],
-                ..TRIAL
-            },
-        ],
-    )
-}
-
-#[test]
-fn a_trial_of_other_words_is_refused(rt: HostRuntime) -> Result<(), Fail> {
-    assert_each(
-        &rt,
-        &[
+const TRIED: &[Scenario<'static>] = &[
+    // four lines are one put, and no file is asked for
+    Scenario {
+        says: "a trial of no line puts its numbers",
+        runs: &[TRIAL],
+        left: &[Left::Calls(1)],
+        ..EMPTY
+    },
+    Scenario {
+        says: "a trial of two lines puts its numbers",
+        runs: &[OF_TWO],
+        left: &[Left::Calls(1)],
+        ..EMPTY
+    },
+    Scenario {
+        says: "a trial of another seed puts its numbers",
+        runs: &[Call {
+            words: &["self", "000", "18446744073709551615"],
+            ..TRIAL
+        }],
+        left: &[Left::Calls(1)],
+        ..EMPTY
+    },
+    Scenario {
+        says: "a trial whose put fails says so",
+        failing: &[0],
+        runs: &[Call {
+            wanted: "",
+            ends: Status::Write,
+            ..OF_TWO
+        }],
+        left: &[Left::Calls(1)],
+        ..EMPTY
+    },
+    Scenario {
+        says: "a trial of other words is refused",
+        calls: &[
             Call {
                 words: &["self"],
                 ..REFUSED
@@ -100,18 +100,11 @@ fn a_trial_of_other_words_is_refused(rt: HostRuntime) -> Result<(), Fail> {
                 ..REFUSED
             },
         ],
-    )
-}
+        ..EMPTY
+    },
+];
 
 #[test]
-fn a_trial_whose_put_fails_says_so(rt: HostRuntime) -> Result<(), Fail> {
-    assert_puts_once(
-        &rt,
-        &[0],
-        &[Call {
-            wanted: "",
-            ends: Status::Write,
-            ..OF_TWO
-        }],
-    )
+fn a_trial_puts_its_numbers_by_one_put(rt: HostRuntime) -> Result<(), Fail> {
+    assert_all(&rt, TRIED)
 }

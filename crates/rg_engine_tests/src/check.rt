@@ -3,37 +3,15 @@ ghost use Rattle.rg_past.specs.Ranges.{IsInRange};
 ghost use Rattle.rg_event.specs.Rising.{MayFollow};
 ghost use Rattle.rg_window.specs.Placed.{AreWithin};
 
-use rg_engine::{Engine, EngineFault};
-use rg_event::{Event, Steps};
-use rg_metric::Answers;
-use rg_past::{Past, PastFault, Spot, VecPast};
-use rg_state::Table;
-use std::sync::ledger::Ledger;
+use rg_event::Event;
+use rg_past::Spot;
 
-/// Takes an event that the past allows; the answer to any other is none.
-pub(crate) fn take_checked<T: Table, L: Ledger>(
-    engine: &mut Engine<T>,
-    past: &mut VecPast,
-    event: Event,
-    steps: &mut Steps<L>,
-) -> Option<Result<Answers, EngineFault>> {
-    if is_in_range(&event)
-        && may_follow(past.events(), &event)
-        && are_within(engine.spots(), past.events().len())
-    {
-        Some(engine.take(past, event, steps))
-    } else {
-        None
-    }
-}
-
-/// Adds an event that the past allows; the answer to any other is none.
-pub(crate) fn append_checked(past: &mut VecPast, event: Event) -> Option<Result<(), PastFault>> {
-    if is_in_range(&event) && may_follow(past.events(), &event) {
-        Some(past.append(event))
-    } else {
-        None
-    }
+/// Whether an event may stand behind these.
+pub(crate) fn fits(events: &[Event], event: &Event) -> bool
+    ensures range { IsTrue result → IsInRange event.now }
+    ensures follows { IsTrue result → MayFollow events.now event.now }
+{
+    is_in_range(event) && may_follow(events, event)
 }
 
 fn is_in_range(event: &Event) -> bool

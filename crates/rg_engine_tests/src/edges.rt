@@ -1,36 +1,25 @@
-ghost use Rattle.std.specs.Prelude.{◌<◌};
+ghost use Rattle.std.specs.Prelude.{◌≡◌, ◌<◌};
 
-use crate::check::{append_checked, are_within};
-use crate::common::{assert_none, bare};
-use rg_bytes::Memory;
+use crate::check::{are_within, fits};
+use crate::common::{Subject, assert_goes, bare};
 use rg_event::Event;
-use rg_past::{Past, Spot, VecPast};
+use rg_past::{Past, PastFault, Spot, VecPast};
 use rg_window::{Edges, MoveFault, Visit};
 use std::alloc::Global;
-use std::process::Abort;
 use std::test::Fail;
 
 /// Why the recorder stopped.
-#[derive(Clone, Copy, Debug, PartialEq, Eq)]
+#[derive(Clone, Copy, PartialEq, Eq)]
 enum Stop {
     Refused,
     Memory,
 }
 
 /// Takes down the edge and the offset of each event that it visits, and refuses one.
-#[derive(Debug, Drop)]
+#[derive(Drop)]
 struct Recorder {
     visits: Vec<(u32, u64)>,
     refused: Option<u64>,
-}
-
-impl Recorder {
-    fn new(alloc: Global) -> Recorder {
-        Recorder {
-            visits: Vec::new(alloc),
-            refused: None,
-        }
-    }
 }
 
 impl Visit for Recorder {
@@ -51,26 +40,30 @@ impl Visit for Recorder {
     }
 }
 
-/// Two edges at the start.
-fn two_edges(alloc: Global, low: u64, high: u64, start: Spot) -> Result<Edges, Memory>
-    requires { low < high }
-{
-    Edges::new(alloc, &[low, high], &[start, start])
+/// A past, a walk over it, two edges and a recorder.
+#[derive(Drop)]
+struct Trial {
+    past: VecPast,
+    spot: Spot,
+    edges: Edges,
+    seen: Recorder,
 }
 
-/// The numbers of two edges.
-fn numbers(edges: &Edges) -> Option<(u64, u64)> {
-    match edges.spots() {
-        [first, second] => Some((first.number, second.number)),
-        _ => None,
-    }
-}
-
-/// What is done to two edges over a past, or what they and the recorder say.
+/// What is done to a past or to edges over it, or what they and the recorder say.
 #[derive(Clone, Copy)]
-enum Step {
+pub(crate) enum Step {
+    /// All take the place of those before: a past for so many events, without one, and two edges of these offsets.
+    New(u64, u64, u64),
     /// The past has one event more, of this offset and time.
     Event(u64, u64),
+    /// It takes none of this offset and time, since it is full.
+    Full(u64, u64),
+    /// So many events stand in the past, which holds so many.
+    Counts(u64, u64),
+    /// The event of that number is of this offset and time.
+    Is(usize, u64, u64),
+    /// The walk meets an event of this offset, and goes on, or the end.
+    Meets(Option<u64>),
     /// The visit of the event of this offset is refused from now on, or none.
     Refuse(Option<u64>),
     /// The edges move to this time, and so many events were visited then.
@@ -85,20 +78,46 @@ enum Step {
     Offsets(u64, u64),
 }
 
-/// Whether the edges move to this time, or halt, and so many events were visited then.
-fn moves(
+/// Whether adding an event of this offset and time ends so.
+fn adds(
+    alloc: Global,
     past: &mut VecPast,
-    edges: &mut Edges,
-    seen: &mut Recorder,
-    t: u64,
-    count: usize,
-    want: Result<(), MoveFault<Stop>>,
+    offset: u64,
+    time: u64,
+    want: Result<(), PastFault>,
 ) -> bool {
-    if !are_within(edges.spots(), past.events().len()) {
+    let event = bare(alloc, offset, time);
+    fits(past.events(), &event) && past.append(event) == want
+}
+
+fn is_at(past: &VecPast, number: usize, offset: u64, time: u64) -> bool {
+    match past.events().get(number) {
+        Some(event) => event.offset == offset && event.time == time,
+        None => false,
+    }
+}
+
+/// Whether a walk meets an event of this offset, and goes on, or the end.
+fn meets<P: Past>(past: &mut P, spot: &mut Spot, offset: Option<u64>) -> bool {
+    if past.count() < spot.number {
         return false;
     }
-    let moved = edges.move_to(past, t, seen);
-    moved == want && seen.visits.len() == count
+    match past.peek(spot) {
+        Ok(Some(event)) => {
+            let met = event.offset;
+            past.advance(spot);
+            offset == Some(met)
+        }
+        Ok(None) => offset.is_none(),
+        Err(_) => false,
+    }
+}
+
+/// Whether the edges move to this time, or halt, and so many events were visited then.
+fn moves(trial: &mut Trial, t: u64, count: usize, want: Result<(), MoveFault<Stop>>) -> bool {
+    are_within(trial.edges.spots(), trial.past.events().len())
+        && trial.edges.move_to(&mut trial.past, t, &mut trial.seen) == want
+        && trial.seen.visits.len() == count
 }
 
 fn has_visited(seen: &Recorder, number: usize, edge: u32, offset: u64) -> bool {
@@ -108,107 +127,109 @@ fn has_visited(seen: &Recorder, number: usize, edge: u32, offset: u64) -> bool {
     }
 }
 
-/// Whether edges or the recorder say so.
-fn says(edges: &Edges, seen: &Recorder, step: &Step) -> bool {
-    match step {
-        Step::Visited(number, edge, offset) => has_visited(seen, *number, *edge, *offset),
-        Step::At(first, second) => numbers(edges) == Some((*first, *second)),
-        Step::Offsets(low, high) => edges.offsets() == [*low, *high].as_slice(),
+fn are_at(edges: &Edges, low: u64, high: u64) -> bool {
+    match edges.spots() {
+        [first, second] => first.number == low && second.number == high,
         _ => false,
     }
 }
 
-/// Whether edges take the step, and do or say so.
-fn goes(
-    alloc: Global,
-    past: &mut VecPast,
-    edges: &mut Edges,
-    seen: &mut Recorder,
-    step: &Step,
-) -> bool {
-    match step {
-        Step::Event(offset, time) => {
-            append_checked(past, bare(alloc, *offset, *time)) == Some(Ok(()))
-        }
-        Step::Refuse(offset) => {
-            seen.refused = *offset;
+/// A past for so many events, at most three, and edges of these offsets at its start.
+fn trial_of(alloc: Global, limit: u64, low: u64, high: u64) -> Option<Trial> {
+    if limit > 3 || low >= high {
+        return None;
+    }
+    let past = VecPast::new(alloc, limit);
+    let spot = past.start();
+    Some(Trial {
+        past,
+        spot,
+        edges: Edges::new(alloc, &[low, high], &[spot, spot]).ok()?,
+        seen: Recorder {
+            visits: Vec::new(alloc),
+            refused: None,
+        },
+    })
+}
+
+fn renew(alloc: Global, trial: &mut Trial, limit: u64, low: u64, high: u64) -> bool {
+    match trial_of(alloc, limit, low, high) {
+        Some(other) => {
+            *trial = other;
             true
         }
-        Step::Move(t, count) => moves(past, edges, seen, *t, *count, Ok(())),
-        Step::Halt(t, count) => {
-            let refused = Err(MoveFault::Visit(Stop::Refused));
-            moves(past, edges, seen, *t, *count, refused)
+        None => false,
+    }
+}
+
+/// Whether edges or the recorder do or say so.
+fn goes_on(trial: &mut Trial, step: &Step) -> bool {
+    match step {
+        Step::Refuse(offset) => {
+            trial.seen.refused = *offset;
+            true
         }
-        _ => says(edges, seen, step),
+        Step::Move(t, count) => moves(trial, *t, *count, Ok(())),
+        Step::Halt(t, count) => moves(trial, *t, *count, Err(MoveFault::Visit(Stop::Refused))),
+        Step::Visited(number, edge, offset) => has_visited(&trial.seen, *number, *edge, *offset),
+        Step::At(low, high) => are_at(&trial.edges, *low, *high),
+        Step::Offsets(low, high) => trial.edges.offsets() == [*low, *high].as_slice(),
+        _ => false,
     }
 }
 
-/// The number of the first of these steps that goes otherwise, if one does.
-fn first_of(
-    alloc: Global,
-    past: &mut VecPast,
-    edges: &mut Edges,
-    seen: &mut Recorder,
-    steps: &[Step],
-) -> Option<usize> {
-    let mut number = 0usize;
-    for step in steps {
-        if !goes(alloc, past, edges, seen, step) {
-            return Some(number);
+impl Subject for Trial {
+    type Step = Step;
+
+    fn start(alloc: Global) -> Option<Trial> {
+        trial_of(alloc, 3, 0, 10)
+    }
+
+    fn goes(&mut self, alloc: Global, step: &Step) -> bool {
+        match step {
+            Step::New(limit, low, high) => renew(alloc, self, *limit, *low, *high),
+            Step::Event(offset, time) => adds(alloc, &mut self.past, *offset, *time, Ok(())),
+            Step::Full(offset, time) => {
+                adds(alloc, &mut self.past, *offset, *time, Err(PastFault::Full))
+            }
+            Step::Counts(count, limit) => {
+                self.past.count() == *count && self.past.limit() == *limit
+            }
+            Step::Is(number, offset, time) => is_at(&self.past, *number, *offset, *time),
+            Step::Meets(offset) => meets(&mut self.past, &mut self.spot, *offset),
+            _ => goes_on(self, step),
         }
-        number = number.saturating_add(1);
     }
-    None
 }
 
-/// The same of edges of these offsets at the start of a past.
-fn first_of_two(
-    alloc: Global,
-    past: &mut VecPast,
-    low: u64,
-    high: u64,
-    steps: &[Step],
-) -> Result<Option<usize>, Memory> {
-    if low >= high {
-        return Err(Memory);
-    }
-    let mut edges = two_edges(alloc, low, high, past.start())?;
-    let mut seen = Recorder::new(alloc);
-    let wrong = first_of(alloc, past, &mut edges, &mut seen, steps);
-    drop(seen);
-    drop(edges);
-    Ok(wrong)
-}
-
-/// The same of a past for three events.
-fn first_wrong(
-    alloc: Global,
-    low: u64,
-    high: u64,
-    steps: &[Step],
-) -> Result<Option<usize>, Memory> {
-    let mut past = VecPast::new(alloc, 3);
-    let wrong = first_of_two(alloc, &mut past, low, high, steps);
-    drop(past);
-    wrong
-}
-
-/// Two edges of these offsets, at the start of a past without events, take each of these steps so.
-fn assert_goes(
-    rt: &(impl Abort + AllocGlobal),
-    low: u64,
-    high: u64,
-    steps: &[Step],
+#[test]
+fn a_full_past_stays_and_a_walk_meets_each_event_and_then_the_end(
+    rt: HostRuntime,
 ) -> Result<(), Fail> {
-    assert_none(rt, first_wrong(rt.alloc(), low, high, steps))
+    assert_goes::<Trial>(
+        &rt,
+        &[
+            Step::New(1, 0, 10),
+            Step::Event(5, 700),
+            Step::Full(9, 700),
+            Step::Counts(1, 1),
+            Step::Is(0, 5, 700),
+            Step::New(3, 0, 10),
+            Step::Event(0, 10),
+            Step::Event(12, 10),
+            Step::Event(25, 40),
+            Step::Meets(Some(0)),
+            Step::Meets(Some(12)),
+            Step::Meets(Some(25)),
+            Step::Meets(None),
+        ],
+    )
 }
 
 #[test]
 fn each_edge_passes_an_event_at_its_time_and_offset(rt: HostRuntime) -> Result<(), Fail> {
-    assert_goes(
+    assert_goes::<Trial>(
         &rt,
-        0,
-        10,
         &[
             Step::Event(0, 0),
             Step::Event(12, 5),
@@ -223,36 +244,19 @@ fn each_edge_passes_an_event_at_its_time_and_offset(rt: HostRuntime) -> Result<(
             Step::Visited(4, 1, 12),
             Step::At(3, 2),
             Step::Offsets(0, 10),
-        ],
-    )?;
-    // A move to before the first event visits nothing.
-    assert_goes(
-        &rt,
-        0,
-        10,
-        &[Step::Event(0, 5), Step::Move(4, 0), Step::At(0, 0)],
-    )?;
-    // An offset near the greatest number doesn't wrap.
-    assert_goes(
-        &rt,
-        u64::MAX - 5,
-        u64::MAX,
-        &[
+            // A move to before the first event visits nothing.
+            Step::New(3, 0, 10),
+            Step::Event(0, 5),
+            Step::Move(4, 0),
+            Step::At(0, 0),
+            // An offset near the greatest number doesn't wrap.
+            Step::New(3, u64::MAX - 5, u64::MAX),
             Step::Event(0, 5),
             Step::Move(u64::MAX, 1),
             Step::Visited(0, 0, 0),
             Step::At(1, 0),
-        ],
-    )
-}
-
-#[test]
-fn a_refused_visit_leaves_the_edge_at_its_event(rt: HostRuntime) -> Result<(), Fail> {
-    assert_goes(
-        &rt,
-        0,
-        10,
-        &[
+            // A refused visit leaves the edge at its event.
+            Step::New(3, 0, 10),
             Step::Event(0, 0),
             Step::Event(12, 5),
             Step::Refuse(Some(12)),

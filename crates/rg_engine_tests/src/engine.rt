@@ -1,12 +1,12 @@
-ghost use Rattle.std.specs.Prelude.{◌≡◌, ◌<◌, length, IfOk};
+ghost use Rattle.std.specs.Prelude.{◌≡◌, ◌<◌, length, IfOk, IfSome};
 
-use crate::check::take_checked;
-use crate::common::{Ask, Item, assert_so, event_of, plan_of};
-use crate::takes::rows_in;
-use rg_bytes::Memory;
+use crate::check::{are_within, fits};
+use crate::common::{Item, Subject, assert_goes, event_of};
+use crate::plans::{Ask, plan_of};
+use crate::table::{Written, writes};
 use rg_engine::{Engine, EngineFault};
 use rg_event::{Event, Steps};
-use rg_metric::{Agg, Answer, Func, Window};
+use rg_metric::{Agg, Answer, Answers, Func, Window};
 use rg_past::{Past, PastFault, Spot, VecPast};
 use rg_plan::TaskPlan;
 use rg_state::MemTable;
@@ -68,207 +68,242 @@ const VARIED: &[Agg] = &[
     },
 ];
 
-const TEN: Window = Window {
-    delay: 0,
-    length: Some(10),
+/// Ten milliseconds of all payments.
+const TEN: Ask = Ask {
+    aggs: &[COUNT, SUM],
+    above: None,
+    columns: &[1],
+    window: Window {
+        delay: 0,
+        length: Some(10),
+    },
 };
 
-/// One that begins where those ten end.
-const BEHIND: Window = Window {
-    delay: 10,
-    length: Some(5),
-};
+/// Windows that share an offset, a delay longer than its window, a condition, keys and no key, a window without end, and
+/// each function.
+const ASKS: &[Ask] = &[
+    TEN,
+    // A window that begins where those ten end.
+    Ask {
+        aggs: REST,
+        window: Window {
+            delay: 10,
+            length: Some(5),
+        },
+        ..TEN
+    },
+    Ask {
+        aggs: SQUARES,
+        above: Some(60),
+        columns: &[2, 1],
+        ..TEN
+    },
+    // One whose delay is longer than it.
+    Ask {
+        aggs: &[SUM],
+        above: Some(60),
+        columns: &[],
+        window: Window {
+            delay: 20,
+            length: Some(1),
+        },
+    },
+    Ask {
+        aggs: &[LAST, COUNT],
+        columns: &[],
+        window: Window {
+            delay: 1,
+            length: None,
+        },
+        ..TEN
+    },
+    Ask {
+        aggs: VARIED,
+        columns: &[2],
+        window: Window {
+            delay: 3,
+            length: Some(10),
+        },
+        ..TEN
+    },
+];
 
-/// One whose delay is longer than it.
-const LATE: Window = Window {
-    delay: 20,
-    length: Some(1),
-};
+/// The values of three payments, the first two of one card.
+const FIRST: &[Item] = &[
+    Item::Text(b"c1"),
+    Item::Text(b"m1"),
+    Item::Int(-50),
+    Item::Id(0),
+];
 
-const FOREVER: Window = Window {
-    delay: 1,
-    length: None,
-};
+const SECOND: &[Item] = &[
+    Item::Text(b"c1"),
+    Item::Text(b"m2"),
+    Item::Int(61),
+    Item::Id(3),
+];
 
-const DELAYED: Window = Window {
-    delay: 3,
-    length: Some(10),
-};
+const THIRD: &[Item] = &[
+    Item::Text(b"c2"),
+    Item::Text(b"m1"),
+    Item::Int(98),
+    Item::Id(4),
+];
 
-/// The plan of windows that share an offset, a delay longer than its window, a condition, keys and no key, a window
-/// without end, and each function.
-fn plan(alloc: Global) -> Result<TaskPlan, Memory> {
-    plan_of(
-        alloc,
-        &[
-            Ask::All(&[COUNT, SUM], &[1], TEN),
-            Ask::All(REST, &[1], BEHIND),
-            Ask::Above(60, SQUARES, &[2, 1], TEN),
-            Ask::Above(60, &[SUM], &[], LATE),
-            Ask::All(&[LAST, COUNT], &[], FOREVER),
-            Ask::All(VARIED, &[2], DELAYED),
-        ],
-    )
+/// An engine, until its table is handed back, and its past.
+#[derive(Drop)]
+struct Trial {
+    past: VecPast,
+    engine: Option<Engine<MemTable>>,
+}
+
+/// What is done to an engine, or what it says.
+#[derive(Clone, Copy)]
+pub(crate) enum Step {
+    /// It takes an event of this offset, this time and these values, and this is the first answer.
+    Takes(u64, u64, &'static [Item], Answer),
+    /// It refuses one, since the past is full.
+    Full(u64, u64, &'static [Item]),
+    /// The first edge stands at the event of this number.
+    At(u64),
+    /// It hands its table back, which writes that it has so many rows, in eight bytes.
+    HandsBack(&'static [u8]),
 }
 
 /// The spot of the start, as often as the plan has offsets.
-fn starts(alloc: Global, past: &VecPast, plan: &TaskPlan) -> Result<Vec<Spot>, Memory>
-    ensures { IfOk result (λ spots. length spots.items ≡ length plan.now.offsets) }
+fn starts(alloc: Global, past: &VecPast, plan: &TaskPlan) -> Option<Vec<Spot>>
+    ensures { IfSome result (λ spots. length spots.items ≡ length plan.now.offsets) }
 {
     let mut spots = Vec::new(alloc);
     for _offset in plan.offsets() {
-        spots.push(past.start())?;
+        spots.push(past.start()).ok()?;
     }
-    Ok(spots)
+    Some(spots)
 }
 
 /// An engine of that plan over no rows, at the start of a past.
-fn engine_of(alloc: Global, past: &VecPast) -> Result<Engine<MemTable>, Memory> {
-    let plan = plan(alloc)?;
-    let spots = starts(alloc, past, &plan)?;
-    match Engine::new(alloc, plan, MemTable::new(alloc), &spots) {
-        Ok(engine) => Ok(engine),
-        Err(_) => Err(Memory),
-    }
-}
-
-/// Whether an event is answered, and this is its first answer.
-fn answers<L: Ledger>(
-    engine: &mut Engine<MemTable>,
-    past: &mut VecPast,
-    event: Event,
-    steps: &mut Steps<L>,
-    first: Answer,
-) -> bool {
-    match take_checked(engine, past, event, steps) {
-        Some(Ok(answers)) => answers.as_slice().first() == Some(&first),
-        _ => false,
-    }
-}
-
-fn first_number(spots: &[Spot]) -> Option<u64> {
-    match spots.first() {
+fn engine_of(alloc: Global, past: &VecPast) -> Option<Engine<MemTable>> {
+    let plan = plan_of(alloc, ASKS)?;
+    match starts(alloc, past, &plan) {
+        Some(spots) => {
+            let made = Engine::new(alloc, plan, MemTable::new(alloc), &spots);
+            drop(spots);
+            made.ok()
+        }
         None => None,
-        Some(spot) => Some(spot.number),
     }
 }
 
-/// Whether an event is refused since the past is full, and the first edge stays where it was.
-fn is_refused<L: Ledger>(
+fn is_first(answers: &Answers, first: Option<Answer>) -> bool {
+    match (answers.as_slice().first(), first) {
+        (Some(answer), Some(want)) => *answer == want,
+        _ => false,
+    }
+}
+
+/// Whether there is such a first answer, or without one a refusal since the past is full.
+fn ends_so(taken: Result<Answers, EngineFault>, first: Option<Answer>) -> bool {
+    match taken {
+        Ok(answers) => {
+            let is_so = is_first(&answers, first);
+            drop(answers);
+            is_so
+        }
+        Err(fault) => first.is_none() && fault == EngineFault::Past(PastFault::Full),
+    }
+}
+
+/// Whether an engine takes an event, or refuses it, so.
+fn takes<L: Ledger>(
+    blank: Blank,
     engine: &mut Engine<MemTable>,
     past: &mut VecPast,
     event: Event,
-    steps: &mut Steps<L>,
-) -> bool {
-    let before = first_number(engine.spots());
-    let is_full = match take_checked(engine, past, event, steps) {
-        Some(Err(fault)) => fault == EngineFault::Past(PastFault::Full),
-        _ => false,
-    };
-    is_full && before == Some(2) && first_number(engine.spots()) == before
-}
-
-/// Whether an engine over a past for two events answers the first two of three events, which are of one card, and
-/// refuses the third.
-fn fills<L: Ledger>(
-    alloc: Global,
-    engine: &mut Engine<MemTable>,
-    past: &mut VecPast,
-    steps: &mut Steps<L>,
-) -> Result<bool, Memory> {
-    let first = event_of(
-        alloc,
-        0,
-        0,
-        &[
-            Item::Text(b"c1"),
-            Item::Text(b"m1"),
-            Item::Int(-50),
-            Item::Id(0),
-        ],
-    )?;
-    let is_one = answers(engine, past, first, steps, Answer::Number(1));
-    let second = event_of(
-        alloc,
-        3,
-        1,
-        &[
-            Item::Text(b"c1"),
-            Item::Text(b"m2"),
-            Item::Int(61),
-            Item::Id(3),
-        ],
-    )?;
-    let are_two = answers(engine, past, second, steps, Answer::Number(2));
-    let third = event_of(
-        alloc,
-        4,
-        8,
-        &[
-            Item::Text(b"c2"),
-            Item::Text(b"m1"),
-            Item::Int(98),
-            Item::Id(4),
-        ],
-    )?;
-    let is_refused = is_refused(engine, past, third, steps);
-    Ok(is_one && are_two && is_refused)
-}
-
-/// The same with a blank ledger.
-fn fills_counted<L: Ledger>(
-    alloc: Global,
-    engine: &mut Engine<MemTable>,
-    past: &mut VecPast,
-    blank: Blank,
-) -> Result<bool, Memory>
+    first: Option<Answer>,
+) -> bool
     requires named { blank.name ≡ L.name }
     requires parts { blank.parts ≡ L.parts }
     requires whole { 0 < blank.parts }
 {
+    if !fits(past.events(), &event) || !are_within(engine.spots(), past.events().len()) {
+        return false;
+    }
     let mut steps = Steps::<L>::new(blank);
-    let is_so = fills(alloc, engine, past, &mut steps);
-    drop(steps);
-    is_so
+    let taken = engine.take(past, event, &mut steps);
+    ends_so(taken, first)
 }
 
-/// The same with a ledger of its own.
-fn fills_on(
+/// The same of an event of this offset, this time and these values, with a ledger of its own.
+fn takes_values(
     alloc: Global,
-    engine: &mut Engine<MemTable>,
-    past: &mut VecPast,
-) -> Result<bool, Memory> {
-    fills_counted::<Brand>(alloc, engine, past, Blank::new(1))
+    trial: &mut Trial,
+    offset: u64,
+    time: u64,
+    items: &[Item],
+    first: Option<Answer>,
+) -> Option<bool> {
+    let engine = trial.engine.as_mut()?;
+    let event = event_of(alloc, offset, time, items)?;
+    Some(takes::<Brand>(Blank::new(1), engine, &mut trial.past, event, first))
 }
 
-/// Whether an engine's table has rows, once it is handed back.
-fn has_rows(alloc: Global, engine: Engine<MemTable>) -> bool {
-    let mut table = engine.into_table();
-    let rows = rows_in(alloc, &mut table);
-    drop(table);
-    match rows {
-        Some(rows) => rows > 0,
+fn is_at(trial: &Trial, number: u64) -> bool {
+    match &trial.engine {
+        Some(engine) => match engine.spots().first() {
+            Some(spot) => spot.number == number,
+            None => false,
+        },
         None => false,
     }
 }
 
-/// Whether both are so of an engine over this past.
-fn stays_when_full(alloc: Global, past: &mut VecPast) -> Result<bool, Memory> {
-    let mut engine = engine_of(alloc, past)?;
-    let is_so = fills_on(alloc, &mut engine, past);
-    let has_rows = has_rows(alloc, engine);
-    Ok(is_so? && has_rows)
+fn hands_back(alloc: Global, trial: &mut Trial, count: &[u8]) -> Option<bool> {
+    let engine = trial.engine.take()?;
+    let mut table = engine.into_table();
+    let is_so = writes(alloc, &mut table, Written::Count, count);
+    drop(table);
+    Some(is_so)
 }
 
-/// The same of a past for two events.
-fn stays_at_two(alloc: Global) -> Result<bool, Memory> {
-    let mut past = VecPast::new(alloc, 2);
-    let is_so = stays_when_full(alloc, &mut past);
-    drop(past);
-    is_so
+impl Subject for Trial {
+    type Step = Step;
+
+    fn start(alloc: Global) -> Option<Trial> {
+        let past = VecPast::new(alloc, 2);
+        let engine = Some(engine_of(alloc, &past)?);
+        Some(Trial { past, engine })
+    }
+
+    fn goes(&mut self, alloc: Global, step: &Step) -> bool {
+        let done = match step {
+            Step::Takes(offset, time, items, first) => {
+                takes_values(alloc, self, *offset, *time, items, Some(*first))
+            }
+            Step::Full(offset, time, items) => {
+                takes_values(alloc, self, *offset, *time, items, None)
+            }
+            Step::At(number) => Some(is_at(self, *number)),
+            Step::HandsBack(count) => hands_back(alloc, self, count),
+        };
+        done == Some(true)
+    }
 }
 
+/// A past for two events takes the first two of three, of which two are of one card, and refuses the third.
 #[test]
 fn a_full_past_is_refused_and_the_engine_stays(rt: HostRuntime) -> Result<(), Fail> {
-    assert_so(&rt, stays_at_two(rt.alloc()))
+    assert_goes::<Trial>(
+        &rt,
+        &[
+            Step::Takes(0, 0, FIRST, Answer::Number(1)),
+            Step::Takes(3, 1, SECOND, Answer::Number(2)),
+            Step::At(2),
+            Step::Full(4, 8, THIRD),
+            // The first edge stays where it was.
+            Step::At(2),
+            // The number and the sum of the first card, the number and the sum of squares of its second payment, which
+            // alone is above 60, and the last value and the number of what is a millisecond old.
+            Step::HandsBack(b"\0\0\0\0\0\0\0\x06"),
+        ],
+    )
 }

@@ -1,15 +1,48 @@
 ghost use Rattle.std.specs.Prelude.{◌≡◌, ◌<◌};
 
-use crate::common::{Item, assert_none, event_of, value_of};
-use rg_bytes::Memory;
+use crate::common::{Item, Subject, assert_goes, event_of, value_of};
 use rg_event::{Event, Steps};
 use rg_filter::Filter;
 use rg_metric::{Condition, Op};
 use std::alloc::Global;
 use std::marker::Brand;
-use std::process::Abort;
 use std::sync::ledger::{Blank, Ledger};
 use std::test::Fail;
+
+/// What a filter asks.
+#[derive(Clone, Copy)]
+enum Asks {
+    Nothing,
+    /// That the first column's value stands to a literal as the sign asks.
+    First,
+    /// The same of the second column's.
+    Second,
+    /// That the first column's value doesn't stand so.
+    Not,
+}
+
+/// What a filter asks of an event of this value alone, by a sign and a literal, and whether it passes.
+#[derive(Clone, Copy)]
+pub(crate) struct Row(Asks, &'static Item, Op, &'static Item, bool);
+
+/// A filter that asks that a condition doesn't hold.
+fn not(alloc: Global, condition: Condition) -> Option<Filter> {
+    let inner = Box::new(alloc, condition).ok()?;
+    Some(Filter::new(Some(Condition::Not(inner))))
+}
+
+fn compare(alloc: Global, column: u32, row: &Row) -> Option<Condition> {
+    Some(Condition::Compare(column, row.2, value_of(alloc, row.3)?))
+}
+
+fn filter_of(alloc: Global, row: &Row) -> Option<Filter> {
+    match row.0 {
+        Asks::Nothing => Some(Filter::new(None)),
+        Asks::First => Some(Filter::new(Some(compare(alloc, 1, row)?))),
+        Asks::Second => Some(Filter::new(Some(compare(alloc, 2, row)?))),
+        Asks::Not => not(alloc, compare(alloc, 1, row)?),
+    }
+}
 
 /// Whether a filter passes an event, over a ledger that nobody reads.
 fn is_held<L: Ledger>(blank: Blank, filter: &Filter, event: &Event) -> bool
@@ -21,137 +54,125 @@ fn is_held<L: Ledger>(blank: Blank, filter: &Filter, event: &Event) -> bool
     filter.holds(event, &mut steps)
 }
 
-fn passes(condition: Option<Condition>, event: &Event) -> bool {
-    is_held::<Brand>(Blank::new(1), &Filter::new(condition), event)
-}
-
-/// What a filter asks.
-#[derive(Clone, Copy)]
-enum Test {
-    Nothing,
-    /// That a column's value stands to a literal as the sign asks.
-    Compare(u32, Op, Item),
-    /// That it doesn't.
-    Not(u32, Op, Item),
-}
-
-fn compare(alloc: Global, column: u32, op: Op, literal: Item) -> Result<Condition, Memory> {
-    let literal = value_of(alloc, literal)?;
-    Ok(Condition::Compare(column, op, literal))
-}
-
-fn negate(alloc: Global, condition: Condition) -> Result<Condition, Memory> {
-    Ok(Condition::Not(Box::new(alloc, condition)?))
-}
-
-fn condition_of(alloc: Global, test: Test) -> Result<Option<Condition>, Memory> {
-    match test {
-        Test::Nothing => Ok(None),
-        Test::Compare(column, op, literal) => Ok(Some(compare(alloc, column, op, literal)?)),
-        Test::Not(column, op, literal) => {
-            let inner = compare(alloc, column, op, literal)?;
-            Ok(Some(negate(alloc, inner)?))
-        }
-    }
-}
-
-/// Whether an event passes.
-fn meets(alloc: Global, event: &Event, test: Test) -> Result<bool, Memory> {
-    let condition = condition_of(alloc, test)?;
-    Ok(passes(condition, event))
-}
-
-/// Whether an event of this value alone does.
-fn lets(alloc: Global, item: Item, test: Test) -> Result<bool, Memory> {
-    let event = event_of(alloc, 0, 0, &[item])?;
-    let is_met = meets(alloc, &event, test);
+/// Whether a filter passes an event of this value.
+fn passes(alloc: Global, filter: &Filter, item: &'static Item) -> Option<bool> {
+    let event = event_of(alloc, 0, 0, &[*item])?;
+    let is_passed = is_held::<Brand>(Blank::new(1), filter, &event);
     drop(event);
-    is_met
+    Some(is_passed)
 }
 
-/// What a filter does with an event of one value.
-#[derive(Clone, Copy)]
-enum Row {
-    Passes(Item, Test),
-    Stops(Item, Test),
-    /// Whether it passes -6, -5 and -4, which stand so to -5.
-    Around(Op, bool, bool, bool),
+/// Whether a row's filter passes its event.
+fn row_passes(alloc: Global, row: &Row) -> Option<bool> {
+    let filter = filter_of(alloc, row)?;
+    let is_passed = passes(alloc, &filter, row.1);
+    drop(filter);
+    is_passed
 }
 
-/// Whether the ints -6, -5 and -4 pass where they stand to -5 as the sign asks.
-fn around(alloc: Global, op: Op) -> Result<(bool, bool, bool), Memory> {
-    let test = Test::Compare(1, op, Item::Int(-5));
-    let below = lets(alloc, Item::Int(-6), test)?;
-    let same = lets(alloc, Item::Int(-5), test)?;
-    let above = lets(alloc, Item::Int(-4), test)?;
-    Ok((below, same, above))
-}
+/// Filters, each of one row.
+#[derive(Drop)]
+struct Filters;
 
-fn is_so(alloc: Global, row: &Row) -> Result<bool, Memory> {
-    match row {
-        Row::Passes(item, test) => lets(alloc, *item, *test),
-        Row::Stops(item, test) => Ok(!lets(alloc, *item, *test)?),
-        Row::Around(op, below, same, above) => {
-            Ok(around(alloc, *op)? == (*below, *same, *above))
-        }
+impl Subject for Filters {
+    type Step = Row;
+
+    fn start(_alloc: Global) -> Option<Filters> {
+        Some(Filters)
     }
-}
 
-/// The number of the first row that is otherwise, if one is.
-fn first_other(alloc: Global, rows: &[Row]) -> Result<Option<usize>, Memory> {
-    let mut number = 0usize;
-    for row in rows {
-        if !is_so(alloc, row)? {
-            return Ok(Some(number));
-        }
-        number = number.saturating_add(1);
+    fn goes(&mut self, alloc: Global, row: &Row) -> bool {
+        row_passes(alloc, row) == Some(row.4)
     }
-    Ok(None)
-}
-
-fn assert_rows(rt: &(impl Abort + AllocGlobal), rows: &[Row]) -> Result<(), Fail> {
-    assert_none(rt, first_other(rt.alloc(), rows))
 }
 
 #[test]
 fn a_filter_passes_what_its_condition_holds_of(rt: HostRuntime) -> Result<(), Fail> {
-    assert_rows(
+    assert_goes::<Filters>(
         &rt,
         &[
             // Each sign is tried around equality.
-            Row::Around(Op::Eq, false, true, false),
-            Row::Around(Op::Ne, true, false, true),
-            Row::Around(Op::Lt, true, false, false),
-            Row::Around(Op::Le, true, true, false),
-            Row::Around(Op::Gt, false, false, true),
-            Row::Around(Op::Ge, false, true, true),
+            Row(Asks::First, &Item::Int(-6), Op::Eq, &Item::Int(-5), false),
+            Row(Asks::First, &Item::Int(-5), Op::Eq, &Item::Int(-5), true),
+            Row(Asks::First, &Item::Int(-4), Op::Eq, &Item::Int(-5), false),
+            Row(Asks::First, &Item::Int(-6), Op::Ne, &Item::Int(-5), true),
+            Row(Asks::First, &Item::Int(-5), Op::Ne, &Item::Int(-5), false),
+            Row(Asks::First, &Item::Int(-4), Op::Ne, &Item::Int(-5), true),
+            Row(Asks::First, &Item::Int(-6), Op::Lt, &Item::Int(-5), true),
+            Row(Asks::First, &Item::Int(-5), Op::Lt, &Item::Int(-5), false),
+            Row(Asks::First, &Item::Int(-4), Op::Lt, &Item::Int(-5), false),
+            Row(Asks::First, &Item::Int(-6), Op::Le, &Item::Int(-5), true),
+            Row(Asks::First, &Item::Int(-5), Op::Le, &Item::Int(-5), true),
+            Row(Asks::First, &Item::Int(-4), Op::Le, &Item::Int(-5), false),
+            Row(Asks::First, &Item::Int(-6), Op::Gt, &Item::Int(-5), false),
+            Row(Asks::First, &Item::Int(-5), Op::Gt, &Item::Int(-5), false),
+            Row(Asks::First, &Item::Int(-4), Op::Gt, &Item::Int(-5), true),
+            Row(Asks::First, &Item::Int(-6), Op::Ge, &Item::Int(-5), false),
+            Row(Asks::First, &Item::Int(-5), Op::Ge, &Item::Int(-5), true),
+            Row(Asks::First, &Item::Int(-4), Op::Ge, &Item::Int(-5), true),
             // Ids past the half keep their order.
-            Row::Passes(
-                Item::Id(9_223_372_036_854_775_809),
-                Test::Compare(1, Op::Lt, Item::Id(9_223_372_036_854_775_810)),
+            Row(
+                Asks::First,
+                &Item::Id(9_223_372_036_854_775_809),
+                Op::Lt,
+                &Item::Id(9_223_372_036_854_775_810),
+                true,
             ),
-            Row::Passes(
-                Item::Id(1),
-                Test::Compare(1, Op::Lt, Item::Id(9_223_372_036_854_775_808)),
+            Row(
+                Asks::First,
+                &Item::Id(1),
+                Op::Lt,
+                &Item::Id(9_223_372_036_854_775_808),
+                true,
             ),
             // Texts compare by their bytes.
-            Row::Passes(Item::Text(b"Z"), Test::Compare(1, Op::Lt, Item::Text(b"a"))),
-            Row::Passes(
-                Item::Text(b"aa"),
-                Test::Compare(1, Op::Lt, Item::Text(b"b")),
+            Row(
+                Asks::First,
+                &Item::Text(b"Z"),
+                Op::Lt,
+                &Item::Text(b"a"),
+                true,
             ),
-            Row::Passes(
-                Item::Text(b"a"),
-                Test::Compare(1, Op::Lt, Item::Text(b"aa")),
+            Row(
+                Asks::First,
+                &Item::Text(b"aa"),
+                Op::Lt,
+                &Item::Text(b"b"),
+                true,
+            ),
+            Row(
+                Asks::First,
+                &Item::Text(b"a"),
+                Op::Lt,
+                &Item::Text(b"aa"),
+                true,
             ),
             // A comparison with a missing column or another kind doesn't hold.
-            Row::Stops(Item::Id(1), Test::Compare(2, Op::Ne, Item::Id(7))),
-            Row::Passes(Item::Id(1), Test::Not(1, Op::Eq, Item::Int(1))),
+            Row(Asks::Second, &Item::Id(1), Op::Ne, &Item::Id(7), false),
+            Row(Asks::Not, &Item::Id(1), Op::Eq, &Item::Int(1), true),
             // Flags are equal and have no order.
-            Row::Stops(Item::Flag(true), Test::Compare(1, Op::Ge, Item::Flag(true))),
-            Row::Passes(Item::Flag(true), Test::Compare(1, Op::Eq, Item::Flag(true))),
+            Row(
+                Asks::First,
+                &Item::Flag(true),
+                Op::Ge,
+                &Item::Flag(true),
+                false,
+            ),
+            Row(
+                Asks::First,
+                &Item::Flag(true),
+                Op::Eq,
+                &Item::Flag(true),
+                true,
+            ),
             // No condition passes every event.
-            Row::Passes(Item::Flag(false), Test::Nothing),
+            Row(
+                Asks::Nothing,
+                &Item::Flag(false),
+                Op::Eq,
+                &Item::Flag(true),
+                true,
+            ),
         ],
     )
 }

@@ -1,7 +1,9 @@
-//! Tests of the public calls of the engine's crates, from filters and keys up to the answers to events. They stand in a
-//! crate of their own, so that none of those crates is proved a second time for its tests.
+//! Tests of the public calls of the aggregators and of the engine's crates, from a tally up to the answers to events. They
+//! stand in a crate of their own, so that none of those crates is proved a second time for its tests.
 #![tactic(auto)]
 
+#[cfg(test)]
+mod agg;
 #[cfg(test)]
 mod check;
 #[cfg(test)]
@@ -15,14 +17,18 @@ mod filter;
 #[cfg(test)]
 mod key;
 #[cfg(test)]
-mod marks;
+mod mixed;
 #[cfg(test)]
-mod past;
+mod plans;
 #[cfg(test)]
 mod scratch;
 #[cfg(test)]
 mod state;
 #[cfg(test)]
+mod states;
+#[cfg(test)]
+mod table;
+#[cfg(test)]
 mod takes;
 #[cfg(test)]
-mod tried;
+mod tally;

@@ -1,128 +1,92 @@
-use crate::common::{Ask, Item, assert_none, assert_so, event_of, plan_of};
-use rg_bytes::Memory;
+use crate::common::{Item, Subject, are_same, assert_goes, event_of};
+use crate::plans::{Ask, plan_of};
 use rg_event::Event;
-use rg_metric::{Agg, Answer, Func, Window};
+use rg_metric::{Agg, Answer, Answers, Func, Window};
 use rg_plan::TaskPlan;
 use rg_scratch::{answer_from_scratch, make_line};
 use std::alloc::Global;
-use std::process::Abort;
 use std::test::Fail;
 
-/// Whether the first two lines of the seed 0 are made so, one behind the other.
-fn are_made(alloc: Global) -> Result<bool, Memory> {
-    let mut lines = Vec::new(alloc);
-    make_line(0, 0, &mut lines)?;
-    let is_first = lines.as_slice() == b"693,c4,m90,8095".as_slice();
-    make_line(0, 1, &mut lines)?;
-    Ok(is_first && lines.as_slice() == b"693,c4,m90,80951133,c35,m37,1750".as_slice())
+/// Events, the plan that they are answered by, and made lines.
+#[derive(Drop)]
+struct Trial {
+    events: Vec<Event>,
+    plan: TaskPlan,
+    lines: Vec<u8>,
 }
 
-#[test]
-fn two_made_lines(rt: HostRuntime) -> Result<(), Fail> {
-    assert_so(&rt, are_made(rt.alloc()))
+/// What is done, or what is answered.
+#[derive(Clone, Copy)]
+pub(crate) enum Step {
+    /// The line of that number and of the seed 0 is made behind those before, which are these then.
+    Line(u64, &'static [u8]),
+    /// There is one event more, of this offset, which is its time too, and of these values.
+    Event(u64, &'static [Item]),
+    /// The events are answered by the plan of a card's number and sum of five minutes.
+    ByCard,
+    /// They are answered by the plan of the other functions, and of two over the payments above 100 of a merchant.
+    ByAll,
+    /// The answers to the event of that number are so many, and among them is this one in this place.
+    Answers(u64, usize, usize, Answer),
 }
 
-fn push(alloc: Global, events: &mut Vec<Event>, time: u64, items: &[Item]) -> Result<(), Memory> {
-    let event = event_of(alloc, time, time, items)?;
-    events.push(event)?;
-    Ok(())
+fn push(alloc: Global, events: &mut Vec<Event>, time: u64, items: &[Item]) -> Option<()> {
+    events.push(event_of(alloc, time, time, items)?).ok()
 }
 
-/// Three payments of one card, the last one exactly five minutes behind the first.
-fn push_three(alloc: Global, events: &mut Vec<Event>) -> Result<(), Memory> {
-    push(
-        alloc,
-        events,
-        0,
-        &[Item::Text(b"c1"), Item::Text(b"m1"), Item::Int(100)],
-    )?;
-    push(
-        alloc,
-        events,
-        299_999,
-        &[Item::Text(b"c1"), Item::Text(b"m2"), Item::Int(200)],
-    )?;
-    push(
-        alloc,
-        events,
-        300_000,
-        &[Item::Text(b"c1"), Item::Text(b"m1"), Item::Int(50)],
-    )
+fn has(answers: &Answers, count: usize, place: usize, want: Answer) -> bool {
+    let list = answers.as_slice();
+    list.len() == count && list.get(place) == Some(&want)
 }
 
-/// Whether these are the answers to the event of that number, where there are events of it.
+/// Whether the event of that number, where there is one, is answered so.
 fn is_answered(
     alloc: Global,
-    plan: &TaskPlan,
-    events: &[Event],
-    k: usize,
-    want: &[Answer],
-) -> Result<bool, Memory> {
-    if k >= events.len() || events.len() > 1000 {
-        return Ok(false);
+    trial: &Trial,
+    k: u64,
+    count: usize,
+    place: usize,
+    want: Answer,
+) -> Option<bool> {
+    let events = trial.events.as_slice();
+    if k >= events.len() as u64 || events.len() > 1000 {
+        return None;
     }
-    let answers = answer_from_scratch(alloc, plan, events, k as u64)?;
-    let is_so = answers.as_slice() == want;
-    drop(answers);
-    Ok(is_so)
+    let answers = answer_from_scratch(alloc, &trial.plan, events, k).ok()?;
+    Some(has(&answers, count, place, want))
 }
 
-/// The number of the first event that is answered otherwise, if one is, where these are the answers to the events from
-/// that number on.
-fn first_of(
-    alloc: Global,
-    plan: &TaskPlan,
-    events: &[Event],
-    from: usize,
-    answers: &[&[Answer]],
-) -> Result<Option<usize>, Memory> {
-    let mut k = from;
-    for want in answers {
-        if !is_answered(alloc, plan, events, k, want)? {
-            return Ok(Some(k));
+fn replan(alloc: Global, trial: &mut Trial, asks: &[Ask]) -> Option<()> {
+    trial.plan = plan_of(alloc, asks)?;
+    Some(())
+}
+
+impl Subject for Trial {
+    type Step = Step;
+
+    fn start(alloc: Global) -> Option<Trial> {
+        Some(Trial {
+            events: Vec::new(alloc),
+            plan: plan_of(alloc, &[])?,
+            lines: Vec::new(alloc),
+        })
+    }
+
+    fn goes(&mut self, alloc: Global, step: &Step) -> bool {
+        match step {
+            Step::Line(number, lines) => {
+                *number < 200_000
+                    && make_line(0, *number, &mut self.lines).is_ok()
+                    && are_same(&self.lines, lines)
+            }
+            Step::Event(time, items) => push(alloc, &mut self.events, *time, items).is_some(),
+            Step::ByCard => replan(alloc, self, CARD).is_some(),
+            Step::ByAll => replan(alloc, self, ALL).is_some(),
+            Step::Answers(k, count, place, want) => {
+                is_answered(alloc, self, *k, *count, *place, *want) == Some(true)
+            }
         }
-        k = k.saturating_add(1);
     }
-    Ok(None)
-}
-
-/// The same of the three payments.
-fn first_of_three(
-    alloc: Global,
-    plan: &TaskPlan,
-    from: usize,
-    answers: &[&[Answer]],
-) -> Result<Option<usize>, Memory> {
-    let mut events = Vec::new(alloc);
-    let other = match push_three(alloc, &mut events) {
-        Ok(()) => first_of(alloc, plan, &events, from, answers),
-        Err(memory) => Err(memory),
-    };
-    drop(events);
-    other
-}
-
-/// The same by the plan of what is asked.
-fn first_other(
-    alloc: Global,
-    asks: &[Ask<'_>],
-    from: usize,
-    answers: &[&[Answer]],
-) -> Result<Option<usize>, Memory> {
-    let plan = plan_of(alloc, asks)?;
-    let other = first_of_three(alloc, &plan, from, answers);
-    drop(plan);
-    other
-}
-
-/// The three payments are answered so from that number on.
-fn assert_answered(
-    rt: &(impl Abort + AllocGlobal),
-    asks: &[Ask<'_>],
-    from: usize,
-    answers: &[&[Answer]],
-) -> Result<(), Fail> {
-    assert_none(rt, first_other(rt.alloc(), asks, from, answers))
 }
 
 /// The last five minutes.
@@ -193,37 +157,65 @@ const LEAST: &[Agg] = &[
     },
 ];
 
-/// The payment that is exactly five minutes old has left the window of a card's number and sum.
+const CARD: &[Ask] = &[Ask {
+    aggs: TOTALS,
+    above: None,
+    columns: &[1],
+    window: FIVE_MINUTES,
+}];
+
+const ALL: &[Ask] = &[
+    Ask {
+        aggs: OTHERS,
+        above: None,
+        columns: &[],
+        window: FOREVER,
+    },
+    Ask {
+        aggs: LEAST,
+        above: Some(100),
+        columns: &[2],
+        window: FOREVER,
+    },
+];
+
+/// Three payments of one card are asked of, the last one exactly five minutes behind the first.
 #[test]
 fn each_function_answers_for_its_window(rt: HostRuntime) -> Result<(), Fail> {
-    assert_answered(
-        &rt,
-        &[Ask::All(TOTALS, &[1], FIVE_MINUTES)],
-        0,
-        &[
-            &[Answer::Number(1), Answer::Number(100)],
-            &[Answer::Number(2), Answer::Number(300)],
-            &[Answer::Number(2), Answer::Number(250)],
-        ],
-    )?;
-    // Two of the functions are over the payments above 100 of a merchant.
-    assert_answered(
+    assert_goes::<Trial>(
         &rt,
         &[
-            Ask::All(OTHERS, &[], FOREVER),
-            Ask::Above(100, LEAST, &[2], FOREVER),
+            Step::Event(0, &[Item::Text(b"c1"), Item::Text(b"m1"), Item::Int(100)]),
+            Step::Event(
+                299_999,
+                &[Item::Text(b"c1"), Item::Text(b"m2"), Item::Int(200)],
+            ),
+            Step::Event(
+                300_000,
+                &[Item::Text(b"c1"), Item::Text(b"m1"), Item::Int(50)],
+            ),
+            // The payment that is exactly five minutes old has left the window of a card's number and sum.
+            Step::ByCard,
+            Step::Answers(0, 2, 0, Answer::Number(1)),
+            Step::Answers(0, 2, 1, Answer::Number(100)),
+            Step::Answers(1, 2, 0, Answer::Number(2)),
+            Step::Answers(1, 2, 1, Answer::Number(300)),
+            Step::Answers(2, 2, 0, Answer::Number(2)),
+            Step::Answers(2, 2, 1, Answer::Number(250)),
+            // Two of the functions are over the payments above 100 of a merchant.
+            Step::ByAll,
+            Step::Answers(2, 9, 0, Answer::Ratio(350, 3)),
+            Step::Answers(2, 9, 1, Answer::Number(52_500)),
+            Step::Answers(2, 9, 2, Answer::Number(50)),
+            Step::Answers(2, 9, 3, Answer::Number(200)),
+            Step::Answers(2, 9, 4, Answer::Number(2)),
+            Step::Answers(2, 9, 5, Answer::Number(100)),
+            Step::Answers(2, 9, 6, Answer::Number(50)),
+            Step::Answers(2, 9, 7, Answer::Number(0)),
+            Step::Answers(2, 9, 8, Answer::Dash),
+            // Two lines of events are made.
+            Step::Line(0, b"693,c4,m90,8095"),
+            Step::Line(1, b"693,c4,m90,80951133,c35,m37,1750"),
         ],
-        2,
-        &[&[
-            Answer::Ratio(350, 3),
-            Answer::Number(52_500),
-            Answer::Number(50),
-            Answer::Number(200),
-            Answer::Number(2),
-            Answer::Number(100),
-            Answer::Number(50),
-            Answer::Number(0),
-            Answer::Dash,
-        ]],
     )
 }

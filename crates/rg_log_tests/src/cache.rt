@@ -1,59 +1,117 @@
 ghost use Rattle.std.specs.Prelude.{◌≤◌};
 
+use crate::row::{Does, ROW, Row, assert_rows};
 use rg_bytes::Memory;
 use rg_cache::ChunkCache;
 use std::alloc::Global;
+use std::test::Fail;
 
-/// Puts an item at a place, where that isn't held.
-fn load(cache: &mut ChunkCache<u64>, place: u64, item: u64) -> Result<(), Memory> {
+/// What is done to a cache of numbers by their places, or what it says.
+#[derive(Clone, Copy)]
+pub(crate) enum Touch {
+    /// A number is put at a place, where none is held.
+    Put(u64, u64),
+    /// Whether a place is held.
+    Holds(u64, bool),
+    /// What is held there.
+    Gets(u64, Option<u64>),
+    /// The same, and it was touched.
+    Touches(u64, Option<u64>),
+    /// Whether a place is held, and it was touched then.
+    Promotes(u64, bool),
+    /// How many are held.
+    Held(u32),
+    /// For how many there is room.
+    Cap(u32),
+}
+
+fn puts(cache: &mut ChunkCache<u64>, place: u64, item: u64) -> bool {
     if cache.holds(place) {
-        return Ok(());
+        return false;
     }
-    match cache.put(place, item) {
-        Ok(()) => Ok(()),
-        Err((_, memory)) => Err(memory),
+    cache.put(place, item).is_ok()
+}
+
+/// Whether a step goes so.
+fn goes(cache: &mut ChunkCache<u64>, step: &Touch) -> bool {
+    match step {
+        Touch::Put(place, item) => puts(cache, *place, *item),
+        Touch::Holds(place, is_held) => cache.holds(*place) == *is_held,
+        Touch::Gets(place, item) => cache.get(*place).copied() == *item,
+        Touch::Touches(place, item) => cache.touch(*place).copied() == *item,
+        Touch::Promotes(place, is_held) => cache.promote(*place) == *is_held,
+        Touch::Held(count) => cache.held() == *count,
+        Touch::Cap(count) => cache.cap() == *count,
     }
 }
 
-/// A cache of room for `cap` items that were put at places 13 and 50 in turn.
-fn loaded(alloc: Global, cap: u32) -> Result<ChunkCache<u64>, Memory>
-    requires some { 1 ≤ cap }
-    requires few { cap ≤ 1024 }
-{
+fn first_of(cache: &mut ChunkCache<u64>, steps: &[Touch]) -> Option<usize> {
+    let mut number = 0usize;
+    for step in steps {
+        if !goes(cache, step) {
+            return Some(number);
+        }
+        number = number.saturating_add(1);
+    }
+    None
+}
+
+/// The number of the first step that goes otherwise, if one does, of a cache with room for 1 to 1,024.
+pub(crate) fn wrong_in(alloc: Global, cap: u32, steps: &[Touch]) -> Result<Option<usize>, Memory> {
+    if cap == 0 || cap > 1024 {
+        return Err(Memory);
+    }
     let mut cache = ChunkCache::new(alloc, cap)?;
-    load(&mut cache, 13, 130)?;
-    load(&mut cache, 50, 500)?;
-    Ok(cache)
+    let wrong = first_of(&mut cache, steps);
+    drop(cache);
+    Ok(wrong)
 }
+
+/// A cache of one, and a cache of two.
+const CACHES: &[Row<'_>] = &[
+    // Of one it holds the last place.
+    Row {
+        does: Does::Caches(
+            1,
+            &[
+                Touch::Put(13, 130),
+                Touch::Put(50, 500),
+                Touch::Cap(1),
+                Touch::Held(1),
+                Touch::Gets(50, Some(500)),
+                Touch::Holds(13, false),
+                Touch::Touches(50, Some(500)),
+                Touch::Touches(13, None),
+                Touch::Promotes(13, false),
+                Touch::Held(1),
+            ],
+        ),
+        ..ROW
+    },
+    // Of two it drops one twice.
+    Row {
+        does: Does::Caches(
+            2,
+            &[
+                Touch::Put(13, 130),
+                Touch::Put(50, 500),
+                Touch::Touches(13, Some(130)),
+                Touch::Put(90, 900),
+                Touch::Holds(50, false),
+                Touch::Holds(90, true),
+                Touch::Promotes(13, true),
+                Touch::Put(50, 501),
+                Touch::Gets(13, Some(130)),
+                Touch::Gets(50, Some(501)),
+                Touch::Holds(90, false),
+                Touch::Held(2),
+            ],
+        ),
+        ..ROW
+    },
+];
 
 #[test]
-fn a_cache_of_one_holds_the_last_place(rt: HostRuntime) -> Result<(), Memory> {
-    let mut cache = loaded(rt.alloc(), 1)?;
-    let is_last = cache.cap() == 1 && cache.held() == 1 && cache.get(50) == Some(&500);
-    let is_alone = is_last && !cache.holds(13);
-    let is_touched = cache.touch(50) == Some(&500) && cache.touch(13).is_none();
-    let is_promoted = cache.promote(13);
-    let held = cache.held();
-    drop(cache);
-    assert!(rt; is_alone && is_touched && !is_promoted && held == 1);
-    Ok(())
-}
-
-/// Whether a cache of the places 13 and 50 drops the one that was touched longest ago, twice.
-fn drops_the_oldest(cache: &mut ChunkCache<u64>) -> Result<bool, Memory> {
-    let is_touched = cache.touch(13) == Some(&130);
-    load(cache, 90, 900)?;
-    let is_dropped = !cache.holds(50) && cache.holds(90) && cache.promote(13);
-    load(cache, 50, 501)?;
-    let is_kept = cache.get(13) == Some(&130) && cache.get(50) == Some(&501);
-    Ok(is_touched && is_dropped && is_kept && !cache.holds(90) && cache.held() == 2)
-}
-
-#[test]
-fn a_cache_of_two_drops_the_place_touched_longest_ago(rt: HostRuntime) -> Result<(), Memory> {
-    let mut cache = loaded(rt.alloc(), 2)?;
-    let is_so = drops_the_oldest(&mut cache)?;
-    drop(cache);
-    assert!(rt; is_so);
-    Ok(())
+fn a_cache_drops_the_place_touched_longest_ago(rt: HostRuntime) -> Result<(), Fail> {
+    assert_rows(&rt, CACHES)
 }

@@ -1,9 +1,5 @@
-ghost use Rattle.std.specs.Prelude.{◌<◌};
-
-use rg_bytes::{Memory, put_bytes, put_u64};
-use rg_host::{Image, MemHost};
-use std::alloc::Global;
-use std::test::Fail;
+use crate::events::Item;
+use crate::tried::{CASE, Case, Put};
 
 /// The schema of the payments below.
 pub(crate) const SCHEMA: &[u8] = b"payments(ts,card:text,merchant:text,amount:int)";
@@ -12,34 +8,26 @@ pub(crate) const SCHEMA: &[u8] = b"payments(ts,card:text,merchant:text,amount:in
 pub(crate) const SCHEMA_PAYLOAD: &[u8] = b"Spayments(ts,card:text,merchant:text,amount:int)";
 
 /// A chunk of the payments `0,c1,m1,100` and `299999,c1,m2,200` at offsets 0 and 1.
-pub(crate) const TWO: [u8; 97] = [
-    0x43, 0, 0, 0, 2, 0, 0, 0, 0, 0, 0, 0, 0, 0, 0, 0, 0, 0, 0, 0, 0, 0, 0, 0, 0, 0, 0, 0, 1, 0, 0,
-    0, 0, 0, 4, 0x93, 0xdf, 0, 0, 0, 0, 0, 0, 0, 0, 0, 0, 0, 0, 0, 0, 0, 0, 2, b'c', b'1', 2, b'm',
-    b'1', 0, 0, 0, 0, 0, 0, 0, 100, 0, 0, 0, 0, 0, 0, 0, 1, 0, 0, 0, 0, 0, 4, 0x93, 0xdf, 2, b'c',
-    b'1', 2, b'm', b'2', 0, 0, 0, 0, 0, 0, 0, 200,
-];
+pub(crate) const TWO: &[u8] = b"\
+    C\0\0\0\x02\0\0\0\0\0\0\0\0\0\0\0\0\0\0\0\0\0\0\0\0\0\0\0\x01\0\0\0\0\0\x04\x93\xdf\0\0\0\0\
+    \0\0\0\0\0\0\0\0\0\0\0\0\x02c1\x02m1\0\0\0\0\0\0\0\x64\0\0\0\0\0\0\0\x01\0\0\0\0\0\x04\x93\
+    \xdf\x02c1\x02m2\0\0\0\0\0\0\0\xc8";
 
 /// A chunk of the payment `300000,c1,m1,50` at offset 2.
-pub(crate) const ONE: [u8; 67] = [
-    0x43, 0, 0, 0, 1, 0, 0, 0, 0, 0, 0, 0, 2, 0, 0, 0, 0, 0, 4, 0x93, 0xe0, 0, 0, 0, 0, 0, 0, 0, 2,
-    0, 0, 0, 0, 0, 4, 0x93, 0xe0, 0, 0, 0, 0, 0, 0, 0, 2, 0, 0, 0, 0, 0, 4, 0x93, 0xe0, 2, b'c',
-    b'1', 2, b'm', b'1', 0, 0, 0, 0, 0, 0, 0, 50,
-];
+pub(crate) const ONE: &[u8] = b"\
+    C\0\0\0\x01\0\0\0\0\0\0\0\x02\0\0\0\0\0\x04\x93\xe0\0\0\0\0\0\0\0\x02\0\0\0\0\0\x04\x93\xe0\
+    \0\0\0\0\0\0\0\x02\0\0\0\0\0\x04\x93\xe0\x02c1\x02m1\0\0\0\0\0\0\0\x32";
 
 /// The payments of `TWO` by columns: the offsets, the times, the cards, the merchants and the amounts.
-pub(crate) const TWO_BY_COLUMNS: [u8; 88] = [
-    0x4b, 0, 0, 0, 2, 0, 0, 0, 0, 0, 0, 0, 0, 0, 0, 0, 0, 0, 0, 0, 0, 0, 0, 0, 0, 0, 0, 0, 1, 0, 0,
-    0, 0, 0, 4, 0x93, 0xdf, 0, 0, 0, 0, 0, 0, 0, 0, 1, 0, 1, 0, 0, 0, 0, 0, 0, 0, 0, 4, 0, 0, 0, 0,
-    0, 4, 0x93, 0xdf, 2, 2, b'c', b'1', b'c', b'1', 2, 2, b'm', b'1', b'm', b'2', 0, 0, 0, 0, 0, 0,
-    0, 100, 1, 0, 100,
-];
+pub(crate) const TWO_BY_COLUMNS: &[u8] = b"\
+    K\0\0\0\x02\0\0\0\0\0\0\0\0\0\0\0\0\0\0\0\0\0\0\0\0\0\0\0\x01\0\0\0\0\0\x04\x93\xdf\0\0\0\0\
+    \0\0\0\0\x01\0\x01\0\0\0\0\0\0\0\0\x04\0\0\0\0\0\x04\x93\xdf\x02\x02c1c1\x02\x02m1m2\0\0\0\0\
+    \0\0\0\x64\x01\0\x64";
 
 /// The payment of `ONE` by columns.
-pub(crate) const ONE_BY_COLUMNS: [u8; 73] = [
-    0x4b, 0, 0, 0, 1, 0, 0, 0, 0, 0, 0, 0, 2, 0, 0, 0, 0, 0, 4, 0x93, 0xe0, 0, 0, 0, 0, 0, 0, 0, 2,
-    0, 0, 0, 0, 0, 4, 0x93, 0xe0, 0, 0, 0, 0, 0, 0, 0, 2, 1, 0, 0, 0, 0, 0, 0, 4, 0x93, 0xe0, 1, 0,
-    2, b'c', b'1', 2, b'm', b'1', 0, 0, 0, 0, 0, 0, 0, 50, 1, 0,
-];
+pub(crate) const ONE_BY_COLUMNS: &[u8] = b"\
+    K\0\0\0\x01\0\0\0\0\0\0\0\x02\0\0\0\0\0\x04\x93\xe0\0\0\0\0\0\0\0\x02\0\0\0\0\0\x04\x93\xe0\
+    \0\0\0\0\0\0\0\x02\x01\0\0\0\0\0\0\x04\x93\xe0\x01\0\x02c1\x02m1\0\0\0\0\0\0\0\x32\x01\0";
 
 /// A growth of that schema: the column `place`, a text, which is `??` in the payments before it.
 pub(crate) const PLACE: &[u8] =
@@ -50,79 +38,103 @@ pub(crate) const FEE: &[u8] =
     b"G\0\0\0\x42payments(ts,card:text,merchant:text,amount:int,place:text,fee:int)\x01\xff\xff\xff\xff\xff\xff\xff\xfd";
 
 /// A chunk of the payment of `ONE` where there are places: its place is `p`.
-pub(crate) const ONE_PLACED: [u8; 69] = [
-    0x43, 0, 0, 0, 1, 0, 0, 0, 0, 0, 0, 0, 2, 0, 0, 0, 0, 0, 4, 0x93, 0xe0, 0, 0, 0, 0, 0, 0, 0, 2,
-    0, 0, 0, 0, 0, 4, 0x93, 0xe0, 0, 0, 0, 0, 0, 0, 0, 2, 0, 0, 0, 0, 0, 4, 0x93, 0xe0, 2, b'c',
-    b'1', 2, b'm', b'1', 0, 0, 0, 0, 0, 0, 0, 50, 1, b'p',
+pub(crate) const ONE_PLACED: &[u8] = b"\
+    C\0\0\0\x01\0\0\0\0\0\0\0\x02\0\0\0\0\0\x04\x93\xe0\0\0\0\0\0\0\0\x02\0\0\0\0\0\x04\x93\xe0\
+    \0\0\0\0\0\0\0\x02\0\0\0\0\0\x04\x93\xe0\x02c1\x02m1\0\0\0\0\0\0\0\x32\x01p";
+
+/// The open frame of that schema.
+pub(crate) const SCHEMA_FRAME: &[u8] = b"\
+    \x01\0\0\0\0\0\0\0\x30Spayments(ts,card:text,merchant:text,amount:int)";
+
+/// The open frame of `TWO`.
+pub(crate) const TWO_FRAME: &[u8] = b"\
+    \x01\0\0\0\0\0\0\0\x61C\0\0\0\x02\0\0\0\0\0\0\0\0\0\0\0\0\0\0\0\0\0\0\0\0\0\0\0\x01\0\0\0\0\
+    \0\x04\x93\xdf\0\0\0\0\0\0\0\0\0\0\0\0\0\0\0\0\x02c1\x02m1\0\0\0\0\0\0\0\x64\0\0\0\0\0\0\0\
+    \x01\0\0\0\0\0\x04\x93\xdf\x02c1\x02m2\0\0\0\0\0\0\0\xc8";
+
+/// The open frame of `TWO_BY_COLUMNS`.
+pub(crate) const COLUMNS_FRAME: &[u8] = b"\
+    \x01\0\0\0\0\0\0\0\x58K\0\0\0\x02\0\0\0\0\0\0\0\0\0\0\0\0\0\0\0\0\0\0\0\0\0\0\0\x01\0\0\0\0\
+    \0\x04\x93\xdf\0\0\0\0\0\0\0\0\x01\0\x01\0\0\0\0\0\0\0\0\x04\0\0\0\0\0\x04\x93\xdf\x02\x02\
+    c1c1\x02\x02m1m2\0\0\0\0\0\0\0\x64\x01\0\x64";
+
+/// The open frame of `ONE_BY_COLUMNS`.
+pub(crate) const THIRD_FRAME: &[u8] = b"\
+    \x01\0\0\0\0\0\0\0\x49K\0\0\0\x01\0\0\0\0\0\0\0\x02\0\0\0\0\0\x04\x93\xe0\0\0\0\0\0\0\0\x02\
+    \0\0\0\0\0\x04\x93\xe0\0\0\0\0\0\0\0\x02\x01\0\0\0\0\0\0\x04\x93\xe0\x01\0\x02c1\x02m1\0\0\0\
+    \0\0\0\0\x32\x01\0";
+
+/// The log of two payments as rows.
+pub(crate) const FILE: &[&[u8]] = &[SCHEMA_FRAME, TWO_FRAME, b"\0"];
+
+/// The same as a run writes it, by columns.
+pub(crate) const WRITTEN: &[&[u8]] = &[SCHEMA_FRAME, COLUMNS_FRAME, b"\0"];
+
+/// A log whose frames stand at 0, 22, 88 and 154, and which ends at 220: three events without columns, in a chunk each.
+pub(crate) const BARE: &[&[u8]] = &[
+    b"\x01\0\0\0\0\0\0\0\x0dSpayments(ts)",
+    b"\
+        \x01\0\0\0\0\0\0\0\x39K\0\0\0\x01\0\0\0\0\0\0\0\0\0\0\0\0\0\0\0\x0a\0\0\0\0\0\0\0\0\0\0\0\0\
+        \0\0\0\x0a\0\0\0\0\0\0\0\0\x01\0\0\0\0\0\0\0\0\x0a\x01\0",
+    b"\
+        \x01\0\0\0\0\0\0\0\x39K\0\0\0\x01\0\0\0\0\0\0\0\x01\0\0\0\0\0\0\0\x0a\0\0\0\0\0\0\0\x01\0\0\
+        \0\0\0\0\0\x0a\0\0\0\0\0\0\0\x01\x01\0\0\0\0\0\0\0\0\x0a\x01\0",
+    b"\
+        \x01\0\0\0\0\0\0\0\x39K\0\0\0\x01\0\0\0\0\0\0\0\x02\0\0\0\0\0\0\0\x0a\0\0\0\0\0\0\0\x02\0\0\
+        \0\0\0\0\0\x0a\0\0\0\0\0\0\0\x02\x01\0\0\0\0\0\0\0\0\x0a\x01\0",
+    b"\0",
 ];
 
-/// A schema's frame, the frame of a chunk of two events as rows, and a closed gate.
-pub(crate) const FILE: [u8; 164] = [
-    0x01, 0x00, 0x00, 0x00, 0x00, 0x00, 0x00, 0x00, 0x30, 0x53, 0x70, 0x61, 0x79, 0x6d, 0x65, 0x6e,
-    0x74, 0x73, 0x28, 0x74, 0x73, 0x2c, 0x63, 0x61, 0x72, 0x64, 0x3a, 0x74, 0x65, 0x78, 0x74, 0x2c,
-    0x6d, 0x65, 0x72, 0x63, 0x68, 0x61, 0x6e, 0x74, 0x3a, 0x74, 0x65, 0x78, 0x74, 0x2c, 0x61, 0x6d,
-    0x6f, 0x75, 0x6e, 0x74, 0x3a, 0x69, 0x6e, 0x74, 0x29, 0x01, 0x00, 0x00, 0x00, 0x00, 0x00, 0x00,
-    0x00, 0x61, 0x43, 0x00, 0x00, 0x00, 0x02, 0x00, 0x00, 0x00, 0x00, 0x00, 0x00, 0x00, 0x00, 0x00,
-    0x00, 0x00, 0x00, 0x00, 0x00, 0x00, 0x00, 0x00, 0x00, 0x00, 0x00, 0x00, 0x00, 0x00, 0x01, 0x00,
-    0x00, 0x00, 0x00, 0x00, 0x04, 0x93, 0xdf, 0x00, 0x00, 0x00, 0x00, 0x00, 0x00, 0x00, 0x00, 0x00,
-    0x00, 0x00, 0x00, 0x00, 0x00, 0x00, 0x00, 0x02, 0x63, 0x31, 0x02, 0x6d, 0x31, 0x00, 0x00, 0x00,
-    0x00, 0x00, 0x00, 0x00, 0x64, 0x00, 0x00, 0x00, 0x00, 0x00, 0x00, 0x00, 0x01, 0x00, 0x00, 0x00,
-    0x00, 0x00, 0x04, 0x93, 0xdf, 0x02, 0x63, 0x31, 0x02, 0x6d, 0x32, 0x00, 0x00, 0x00, 0x00, 0x00,
-    0x00, 0x00, 0xc8, 0x00,
+/// The two payments in one chunk.
+pub(crate) const PUT_TWO: &[Put<'_>] = &[
+    Put::Event(
+        0,
+        0,
+        &[Item::Text(b"c1"), Item::Text(b"m1"), Item::Int(100)],
+    ),
+    Put::Event(
+        1,
+        299_999,
+        &[Item::Text(b"c1"), Item::Text(b"m2"), Item::Int(200)],
+    ),
+    Put::Commit,
 ];
 
-/// The same payments as a run writes them, by columns.
-pub(crate) const WRITTEN: [u8; 155] = [
-    0x01, 0x00, 0x00, 0x00, 0x00, 0x00, 0x00, 0x00, 0x30, 0x53, 0x70, 0x61, 0x79, 0x6d, 0x65, 0x6e,
-    0x74, 0x73, 0x28, 0x74, 0x73, 0x2c, 0x63, 0x61, 0x72, 0x64, 0x3a, 0x74, 0x65, 0x78, 0x74, 0x2c,
-    0x6d, 0x65, 0x72, 0x63, 0x68, 0x61, 0x6e, 0x74, 0x3a, 0x74, 0x65, 0x78, 0x74, 0x2c, 0x61, 0x6d,
-    0x6f, 0x75, 0x6e, 0x74, 0x3a, 0x69, 0x6e, 0x74, 0x29, 0x01, 0x00, 0x00, 0x00, 0x00, 0x00, 0x00,
-    0x00, 0x58, 0x4b, 0x00, 0x00, 0x00, 0x02, 0x00, 0x00, 0x00, 0x00, 0x00, 0x00, 0x00, 0x00, 0x00,
-    0x00, 0x00, 0x00, 0x00, 0x00, 0x00, 0x00, 0x00, 0x00, 0x00, 0x00, 0x00, 0x00, 0x00, 0x01, 0x00,
-    0x00, 0x00, 0x00, 0x00, 0x04, 0x93, 0xdf, 0x00, 0x00, 0x00, 0x00, 0x00, 0x00, 0x00, 0x00, 0x01,
-    0x00, 0x01, 0x00, 0x00, 0x00, 0x00, 0x00, 0x00, 0x00, 0x00, 0x04, 0x00, 0x00, 0x00, 0x00, 0x00,
-    0x04, 0x93, 0xdf, 0x02, 0x02, 0x63, 0x31, 0x63, 0x31, 0x02, 0x02, 0x6d, 0x31, 0x6d, 0x32, 0x00,
-    0x00, 0x00, 0x00, 0x00, 0x00, 0x00, 0x64, 0x01, 0x00, 0x64, 0x00,
+/// The payment behind them in a chunk of its own.
+pub(crate) const PUT_THIRD: &[Put<'_>] = &[
+    Put::Event(
+        2,
+        300_000,
+        &[Item::Text(b"c1"), Item::Text(b"m1"), Item::Int(50)],
+    ),
+    Put::Commit,
 ];
 
-/// The bytes of open frames with these payloads, and a closed gate.
-pub(crate) fn file(alloc: Global, payloads: &[&[u8]]) -> Result<Vec<u8>, Memory> {
-    let mut bytes = Vec::new(alloc);
-    for payload in payloads {
-        put_bytes(&mut bytes, &[1])?;
-        put_u64(&mut bytes, payload.len() as u64)?;
-        put_bytes(&mut bytes, payload)?;
-    }
-    put_bytes(&mut bytes, &[0])?;
-    Ok(bytes)
-}
+/// The three events without columns.
+pub(crate) const PUT_BARE: &[Put<'_>] = &[
+    Put::Event(0, 10, &[]),
+    Put::Commit,
+    Put::Event(1, 10, &[]),
+    Put::Commit,
+    Put::Event(2, 10, &[]),
+    Put::Commit,
+];
 
-/// A host whose file 2 has these bytes, and whose calls of these numbers fail.
-pub(crate) fn host_with(alloc: Global, bytes: &[u8], failing: &[u64]) -> Result<MemHost, Fail> {
-    let mut image = Image::new(alloc);
-    image.set(2, bytes.to_vec(alloc)?)?;
-    Ok(MemHost::new(alloc, image, failing.to_vec(alloc)?)?)
-}
+/// A reservoir of payments, with chunks of two events.
+pub(crate) const PAYMENTS: Case<'_> = Case {
+    schema: SCHEMA,
+    chunk: 2,
+    ..CASE
+};
 
-/// Sets a file of an image to a copy of these bytes.
-fn set(alloc: Global, image: &mut Image, file: u32, bytes: &[u8]) -> Result<(), Memory>
-    requires { file < 8 }
-{
-    let bytes = bytes.to_vec(alloc)?;
-    image.set(file, bytes)
-}
+/// One over the log of three events without columns, which is there.
+pub(crate) const THREE: Case<'_> = Case {
+    schema: b"payments(ts)",
+    ..CASE
+};
 
-/// A host with this log and these slots, whose calls of these numbers fail.
-pub(crate) fn store(
-    alloc: Global,
-    log: &[u8],
-    first: &[u8],
-    second: &[u8],
-    failing: &[u64],
-) -> Result<MemHost, Fail> {
-    let mut image = Image::new(alloc);
-    set(alloc, &mut image, 0, first)?;
-    set(alloc, &mut image, 1, second)?;
-    set(alloc, &mut image, 2, log)?;
-    Ok(MemHost::new(alloc, image, failing.to_vec(alloc)?)?)
-}
+/// One that writes them first.
+pub(crate) const PUT_THREE: Case<'_> = Case {
+    puts: PUT_BARE,
+    ..THREE
+};

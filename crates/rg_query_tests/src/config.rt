@@ -1,4 +1,7 @@
-use rg_bytes::Memory;
+use crate::built::{Times, put_parts};
+use crate::rows::{Row, assert_each};
+use crate::written::{Written, is_written};
+use rg_bytes::{Memory, put_bytes};
 use rg_config::{ConfigFault, DefaultsFault, Plan, QueryRefusal, SettingsFault, read_plan};
 use rg_event::{Room, Value};
 use rg_query::QueryFault;
@@ -15,235 +18,62 @@ const PRINTED: &[u8] = b"SELECT count(*) FROM payments GROUP BY card OVER SLIDIN
 const PAYMENTS: &[u8] =
     b"[stream]\nname = \"payments\"\ncolumns = [\"ts\", \"card:text\", \"merchant:text\", \"amount:int\"]\n";
 
-/// These texts, one behind another.
-fn joined(alloc: Global, texts: &[&[u8]]) -> Result<Vec<u8>, Memory> {
-    let mut all = Vec::new(alloc);
-    for text in texts {
-        all.extend_from_slice(text)?;
-    }
-    Ok(all)
+/// The schema of those.
+const SCHEMA: &[u8] = b"payments(ts,card:text,merchant:text,amount:int)";
+
+/// A setting out of its range.
+const BAD: &[u8] = b"[settings]\ncache = 0\n";
+
+/// A query of a list, with the quotes and the comma in front of the next one.
+const NEXT: &[u8] = b"SELECT count(*) FROM payments OVER INFINITE\", \"";
+
+/// The most aggregators and columns that a query may have.
+const COUNTS: &[u8] =
+    b"SELECT count(*), count(*), count(*), count(*), count(*), count(*), count(*), count(*), count(*), count(*), count(*), count(*), count(*), count(*), count(*), count(*)";
+
+const BY_COLUMNS: &[u8] = b" FROM payments GROUP BY card, card, card, card, card, card, card, card";
+
+const WITHOUT_END: &[u8] = b" OVER INFINITE";
+
+/// What is set.
+#[derive(Clone, Copy)]
+struct Settings {
+    chunk: u32,
+    cache: u32,
+    events: u64,
+    commit: u64,
+    save: u64,
+    header: bool,
+    grace: u64,
 }
 
-/// What the plan with these texts is refused for, if it is.
-fn fault_of(alloc: Global, texts: &[&[u8]]) -> Result<Option<ConfigFault>, Memory> {
-    let text = joined(alloc, texts)?;
-    Ok(read_plan(alloc, &text).err())
+/// What stands where nothing is set.
+const UNSET: Settings = Settings {
+    chunk: 1_024,
+    cache: 64,
+    events: 1_099_511_627_776,
+    commit: 1_024,
+    save: 65_536,
+    header: false,
+    grace: 0,
+};
+
+/// What is wanted of the reading of a plan.
+#[derive(Clone, Copy)]
+enum Want {
+    /// It is refused for this.
+    Fault(ConfigFault),
+    /// It is read.
+    Plan,
+    /// It is read, is of the payments, has the one query and is set so.
+    Set(Settings),
+    /// It is read with these defaults: an empty card, no merchant, and -5.
+    Defaults,
+    /// It is read, and no column has a default.
+    NoDefaults,
 }
 
-#[test]
-fn a_stream_is_a_name_and_columns(rt: HostRuntime) -> Result<(), Fail> {
-    let streams: [&[u8]; 8] = [
-        b"",
-        b"stream = 1\n",
-        b"[stream]\nname = \"p\"\n",
-        b"[stream]\nname = \"p\"\ncolumns = [1]\n",
-        b"[stream]\nname = \"p\"\ncolumns = [\"t\"]\nkey = 1\n",
-        b"[stream]\nname = \"p\"\ncolumns = [\"t\", \"a:float\"]\n",
-        b"[stream]\nname = \"p\"\ncolumns = []\n",
-        b"[stream]\nname = \"p\"\ncolumns = [\"t t\"]\ndefaults = 1\n",
-    ];
-    for stream in streams {
-        let texts = [QUERIES, stream, b"[settings]\ncache = 0\n"];
-        assert!(rt; fault_of(rt.alloc(), &texts)? == Some(ConfigFault::Stream));
-    }
-    Ok(())
-}
-
-/// What the defaults of the payments are refused for, before a bad setting.
-fn fault_of_defaults(alloc: Global, defaults: &[u8]) -> Result<Option<ConfigFault>, Memory> {
-    fault_of(
-        alloc,
-        &[QUERIES, PAYMENTS, defaults, b"[settings]\ncache = 0\n"],
-    )
-}
-
-#[test]
-fn a_default_is_a_string_that_says_a_value_of_its_column(rt: HostRuntime) -> Result<(), Fail> {
-    let table: [(&[u8], DefaultsFault); 9] = [
-        (b"defaults = \"0\"\n", DefaultsFault::Table),
-        (b"defaults = []\n", DefaultsFault::Table),
-        // The time, a name that no column has, and one in other letters.
-        (b"[stream.defaults]\nts = \"0\"\n", DefaultsFault::Key),
-        (
-            b"[stream.defaults]\ncity = \"?\"\namount = 1\n",
-            DefaultsFault::Key,
-        ),
-        (b"[stream.defaults]\nCard = \"?\"\n", DefaultsFault::Key),
-        // No string, and no int; the first column that has a bad one is told, whichever the file has first.
-        (b"[stream.defaults]\namount = 1\n", DefaultsFault::Column(3)),
-        (
-            b"[stream.defaults]\namount = \"1.5\"\n",
-            DefaultsFault::Column(3),
-        ),
-        (
-            b"[stream.defaults]\namount = \"\"\ncard = 1\n",
-            DefaultsFault::Column(1),
-        ),
-        (
-            b"[stream.defaults]\ncard = \"?\"\nmerchant = []\n",
-            DefaultsFault::Column(2),
-        ),
-    ];
-    for (defaults, fault) in table {
-        let want = Some(ConfigFault::Defaults(fault));
-        assert!(rt; fault_of_defaults(rt.alloc(), defaults)? == want);
-    }
-    Ok(())
-}
-
-/// What these settings of a plan over the payments are refused for.
-fn fault_of_settings(alloc: Global, settings: &[u8]) -> Result<Option<ConfigFault>, Memory> {
-    fault_of(alloc, &[QUERIES, PAYMENTS, b"[settings]\n", settings])
-}
-
-#[test]
-fn a_cache_and_a_chunk_stand_in_their_ranges(rt: HostRuntime) -> Result<(), Fail> {
-    let settings: [(&[u8], SettingsFault); 9] = [
-        (b"cache = 0\n", SettingsFault::Cache),
-        (b"cache = 1_025\n", SettingsFault::Cache),
-        (b"cache = 1.0\n", SettingsFault::Cache),
-        (b"cache = \"1\"\nchunk = 0\n", SettingsFault::Cache),
-        (b"cache = 2020-01-01\n", SettingsFault::Cache),
-        (b"chunk = -1\n", SettingsFault::Chunk),
-        (b"chunk = 4_097\n", SettingsFault::Chunk),
-        (b"cache = 1_024\nchunk = 65\n", SettingsFault::CachedEvents),
-        (b"cache = 1_024\n", SettingsFault::CachedEvents),
-    ];
-    for (setting, fault) in settings {
-        let want = Some(ConfigFault::Settings(fault));
-        assert!(rt; fault_of_settings(rt.alloc(), setting)? == want);
-    }
-    Ok(())
-}
-
-#[test]
-fn another_setting_stands_in_its_range(rt: HostRuntime) -> Result<(), Fail> {
-    let settings: [(&[u8], SettingsFault); 9] = [
-        (b"commit = 1_000_001\n", SettingsFault::Commit),
-        (b"save = 0\n", SettingsFault::Save),
-        (b"events = 1_099_511_627_777\n", SettingsFault::Events),
-        (b"header = 1\n", SettingsFault::Header),
-        (b"room = 1\ncache = 0\n", SettingsFault::Key),
-        (b"grace = -1\n", SettingsFault::Grace),
-        (b"grace = 1_000_000_000_000_001\n", SettingsFault::Grace),
-        (b"grace = true\nheader = 1\n", SettingsFault::Header),
-        (b"grace = \"1\"\ncache = 1_024\n", SettingsFault::Grace),
-    ];
-    for (setting, fault) in settings {
-        let want = Some(ConfigFault::Settings(fault));
-        assert!(rt; fault_of_settings(rt.alloc(), setting)? == want);
-    }
-    Ok(())
-}
-
-#[test]
-fn the_top_has_queries_and_no_other_key(rt: HostRuntime) -> Result<(), Fail> {
-    let tops: [(&[u8], ConfigFault); 8] = [
-        (b"x", ConfigFault::Toml),
-        (b"x = \"\xff\"\n", ConfigFault::Toml),
-        (b"", ConfigFault::Settings(SettingsFault::Queries)),
-        (
-            b"queries = []\n",
-            ConfigFault::Settings(SettingsFault::Queries),
-        ),
-        (
-            b"queries = [1]\n",
-            ConfigFault::Settings(SettingsFault::Queries),
-        ),
-        (
-            b"queries = \"q\"\n",
-            ConfigFault::Settings(SettingsFault::Queries),
-        ),
-        (
-            b"queries = [\"q\"]\nsettings = 1\n",
-            ConfigFault::Settings(SettingsFault::Table),
-        ),
-        (
-            b"more = 1\nsettings = 1\n",
-            ConfigFault::Settings(SettingsFault::TopKey),
-        ),
-    ];
-    for (top, fault) in tops {
-        assert!(rt; fault_of(rt.alloc(), &[top, PAYMENTS])? == Some(fault));
-    }
-    Ok(())
-}
-
-/// The plan of one query with this end.
-fn plan_of(alloc: Global, end: &[u8]) -> Result<Plan, Fail> {
-    let text = joined(alloc, &[QUERIES, PAYMENTS, end])?;
-    Ok(read_plan(alloc, &text)?)
-}
-
-/// Whether a plan is of the payments and has one query, which is printed so.
-fn is_of_payments(alloc: Global, plan: &Plan) -> Result<bool, Memory> {
-    let mut schema = Vec::new(alloc);
-    plan.schema.write(&mut schema)?;
-    let is_schema = schema.as_slice()
-        == b"payments(ts,card:text,merchant:text,amount:int)".as_slice();
-    drop(schema);
-    match plan.queries.as_slice() {
-        [query] => Ok(is_schema && query.as_slice() == PRINTED && plan.task.queries() == 1),
-        _ => Ok(false),
-    }
-}
-
-/// Whether a plan is read that has what stands where nothing is set, but for this room and these numbers of a commit and a
-/// save, this header and this grace.
-fn is_set(
-    alloc: Global,
-    settings: &[u8],
-    room: Room,
-    numbers: (u64, u64, bool, u64),
-) -> Result<bool, Fail> {
-    let plan = plan_of(alloc, settings)?;
-    let is_room = plan.room == room;
-    let found = (plan.commit, plan.save, plan.header, plan.grace);
-    let is_read = is_of_payments(alloc, &plan)?;
-    drop(plan);
-    Ok(is_read && is_room && found == numbers)
-}
-
-#[test]
-fn what_is_set_is_read_and_all_else_has_its_default(rt: HostRuntime) -> Result<(), Fail> {
-    let limit = 1_099_511_627_776;
-    let most = 1_000_000_000_000_000;
-    let table: [(&[u8], u32, u32, u64, (u64, u64, bool, u64)); 4] = [
-        (b"", 1_024, 64, limit, (1_024, 65_536, false, 0)),
-        (
-            b"[settings]\ncache = 1\nchunk = 2\ncommit = 2\nsave = 4\n",
-            2,
-            1,
-            limit,
-            (2, 4, false, 0),
-        ),
-        (
-            b"[settings]\nevents = 7\nheader = true\ngrace = 0\n",
-            1_024,
-            64,
-            7,
-            (1_024, 65_536, true, 0),
-        ),
-        (
-            b"[settings]\ngrace = 1_000_000_000_000_000\n",
-            1_024,
-            64,
-            limit,
-            (1_024, 65_536, false, most),
-        ),
-    ];
-    for (settings, chunk, cache, limit, numbers) in table {
-        let room = Room {
-            chunk,
-            cache,
-            limit,
-        };
-        assert!(rt; is_set(rt.alloc(), settings, room, numbers)?);
-    }
-    Ok(())
-}
-
-/// Whether these are the defaults of the payments: an empty card, no merchant, and -5.
+/// Whether these are those defaults.
 fn are_two(defaults: &[Option<Value>]) -> bool {
     match defaults {
         [Some(Value::Text(card)), None, Some(Value::Int(-5))] => card.as_bytes().is_empty(),
@@ -251,92 +81,341 @@ fn are_two(defaults: &[Option<Value>]) -> bool {
     }
 }
 
-/// Whether there is no default of the payments.
-fn are_none(defaults: &[Option<Value>]) -> bool {
-    matches!(defaults, [None, None, None])
+/// Whether a plan has these settings.
+fn is_set(plan: &Plan, settings: &Settings) -> bool {
+    let room = Room {
+        chunk: settings.chunk,
+        cache: settings.cache,
+        limit: settings.events,
+    };
+    plan.room == room
+        && plan.commit == settings.commit
+        && plan.save == settings.save
+        && plan.header == settings.header
+        && plan.grace == settings.grace
+}
+
+/// Whether a plan has one query, which is printed so.
+fn has_query(plan: &Plan) -> bool {
+    match plan.queries.as_slice() {
+        [query] => query.as_slice() == PRINTED && plan.task.queries() == 1,
+        _ => false,
+    }
+}
+
+/// Whether a plan is of the payments, has that query and these settings.
+fn is_all_set(alloc: Global, plan: &Plan, settings: &Settings) -> Result<bool, Memory> {
+    if has_query(plan) && is_set(plan, settings) {
+        is_written(alloc, Written::Schema(&plan.schema), SCHEMA)
+    } else {
+        Ok(false)
+    }
+}
+
+/// Whether a plan is as it is wanted.
+fn is_wanted(alloc: Global, plan: &Plan, want: Want) -> Result<bool, Memory> {
+    match want {
+        Want::Fault(_) => Ok(false),
+        Want::Plan => Ok(true),
+        Want::Set(settings) => is_all_set(alloc, plan, &settings),
+        Want::Defaults => Ok(are_two(plan.defaults.as_slice())),
+        Want::NoDefaults => Ok(matches!(plan.defaults.as_slice(), [None, None, None])),
+    }
+}
+
+fn is_refused(fault: ConfigFault, want: Want) -> bool {
+    match want {
+        Want::Fault(wanted) => fault == wanted,
+        _ => false,
+    }
+}
+
+/// Whether a text is read as it is wanted.
+fn is_read(alloc: Global, text: &[u8], want: Want) -> Result<bool, Memory> {
+    match read_plan(alloc, text) {
+        Ok(plan) => {
+            let is_so = is_wanted(alloc, &plan, want);
+            drop(plan);
+            is_so
+        }
+        Err(fault) => Ok(is_refused(fault, want)),
+    }
+}
+
+/// Puts four texts one behind another.
+fn put_texts(
+    out: &mut Vec<u8>,
+    first: &[u8],
+    second: &[u8],
+    third: &[u8],
+    fourth: &[u8],
+) -> Result<(), Memory> {
+    put_bytes(out, first)?;
+    put_bytes(out, second)?;
+    put_bytes(out, third)?;
+    put_bytes(out, fourth)
+}
+
+/// Puts a plan of the payments whose queries are these parts.
+fn put_list(out: &mut Vec<u8>, queries: &[Times]) -> Result<(), Memory> {
+    put_bytes(out, b"queries = [\"")?;
+    put_parts(out, queries)?;
+    put_bytes(out, b"\"]\n")?;
+    put_bytes(out, PAYMENTS)
+}
+
+/// A plan, and what it is read as or refused for.
+#[derive(Clone, Copy)]
+enum Case {
+    /// One with this stream before a bad setting is refused for the stream.
+    Stream(&'static [u8]),
+    /// One of the payments with these defaults before a bad setting is refused for the defaults.
+    Defaults(&'static [u8], DefaultsFault),
+    /// One of the payments with this setting is refused for it.
+    Setting(&'static [u8], SettingsFault),
+    /// One of the payments that begins so is refused for this.
+    Top(&'static [u8], ConfigFault),
+    /// One of the payments with these queries is refused for the query of this number.
+    Query(&'static [Times], u32, QueryRefusal),
+    /// With these it is read.
+    Queries(&'static [Times]),
+    /// One of the payments that ends so is set so.
+    Set(&'static [u8], Settings),
+    /// It has two defaults.
+    Given(&'static [u8]),
+    /// It has none.
+    NotGiven(&'static [u8]),
+}
+
+impl Case {
+    /// Puts the plan's text.
+    fn put(&self, out: &mut Vec<u8>) -> Result<(), Memory> {
+        match self {
+            Case::Stream(stream) => put_texts(out, QUERIES, stream, b"", BAD),
+            Case::Defaults(defaults, _) => put_texts(out, QUERIES, PAYMENTS, defaults, BAD),
+            Case::Setting(setting, _) => {
+                put_texts(out, QUERIES, PAYMENTS, b"[settings]\n", setting)
+            }
+            Case::Top(top, _) => put_texts(out, top, PAYMENTS, b"", b""),
+            Case::Query(queries, _, _) | Case::Queries(queries) => put_list(out, queries),
+            Case::Set(end, _) | Case::Given(end) | Case::NotGiven(end) => {
+                put_texts(out, QUERIES, PAYMENTS, end, b"")
+            }
+        }
+    }
+
+    fn want(&self) -> Want {
+        match self {
+            Case::Stream(_) => Want::Fault(ConfigFault::Stream),
+            Case::Defaults(_, fault) => Want::Fault(ConfigFault::Defaults(*fault)),
+            Case::Setting(_, fault) => Want::Fault(ConfigFault::Settings(*fault)),
+            Case::Top(_, fault) => Want::Fault(*fault),
+            Case::Query(_, number, refusal) => {
+                Want::Fault(ConfigFault::Query(*number, *refusal))
+            }
+            Case::Queries(_) => Want::Plan,
+            Case::Set(_, settings) => Want::Set(*settings),
+            Case::Given(_) => Want::Defaults,
+            Case::NotGiven(_) => Want::NoDefaults,
+        }
+    }
+}
+
+impl Row for Case {
+    fn is_so(&self, alloc: Global) -> Result<bool, Memory> {
+        let mut text = Vec::new(alloc);
+        let is_so = match self.put(&mut text) {
+            Ok(()) => is_read(alloc, &text, self.want()),
+            Err(memory) => Err(memory),
+        };
+        drop(text);
+        is_so
+    }
 }
 
 #[test]
-fn a_column_has_its_default_or_none(rt: HostRuntime) -> Result<(), Fail> {
-    let some = plan_of(
-        rt.alloc(),
-        b"[stream.defaults]\namount = \"-5\"\ncard = \"\"\n",
-    )?;
-    let are_some = are_two(some.defaults.as_slice());
-    drop(some);
-    let empty = plan_of(rt.alloc(), b"defaults = {}\n")?;
-    let are_empty = are_none(empty.defaults.as_slice());
-    drop(empty);
-    let missing = plan_of(rt.alloc(), b"")?;
-    let are_missing = are_none(missing.defaults.as_slice());
-    drop(missing);
-    assert!(rt; are_some && are_empty && are_missing);
-    Ok(())
-}
-
-/// The texts of a query so many times in their list, and of a last one.
-fn listed(alloc: Global, before: u32, last: &[u8]) -> Result<Vec<u8>, Memory> {
-    let mut text = Vec::from_slice(alloc, b"queries = [")?;
-    for _ in 0..before {
-        text.extend_from_slice(b"\"SELECT count(*) FROM payments OVER INFINITE\", ")?;
-    }
-    text.extend_from_slice(b"\"")?;
-    text.extend_from_slice(last)?;
-    text.extend_from_slice(b"\"]\n")?;
-    Ok(text)
-}
-
-/// What a plan is refused for that has this query behind so many others.
-fn fault_of_last(alloc: Global, before: u32, query: &[u8]) -> Result<Option<ConfigFault>, Memory> {
-    let texts = listed(alloc, before, query)?;
-    fault_of(alloc, &[&texts, PAYMENTS])
-}
-
-#[test]
-fn the_first_query_that_is_not_taken_is_named(rt: HostRuntime) -> Result<(), Fail> {
-    let no_kind = QueryRefusal::Text(QueryFault::WrongKind(11));
-    let no_end = QueryRefusal::Text(QueryFault::Syntax(6));
-    let table: [(u32, &[u8], QueryRefusal); 3] = [
-        (0, b"SELECT min(card) FROM payments OVER INFINITE", no_kind),
-        (1, b"SELECT", no_end),
-        (64, b"SELECT", QueryRefusal::TooMany),
-    ];
-    for (before, query, refusal) in table {
-        let want = Some(ConfigFault::Query(before, refusal));
-        assert!(rt; fault_of_last(rt.alloc(), before, query)? == want);
-    }
-    Ok(())
-}
-
-/// 16 counts of the payments by 8 columns, the most that a query may have.
-const WIDE: [&[u8]; 3] = [
-    b"SELECT count(*), count(*), count(*), count(*), count(*), count(*), count(*), count(*), count(*), count(*), count(*), count(*), count(*), count(*), count(*), count(*)",
-    b" FROM payments GROUP BY card, card, card, card, card, card, card, card",
-    b" OVER INFINITE",
-];
-
-/// What a plan is refused for whose last query is that with more behind its counts and its columns.
-fn fault_of_wide(
-    alloc: Global,
-    before: u32,
-    counts: &[u8],
-    columns: &[u8],
-) -> Result<Option<ConfigFault>, Memory> {
-    let query = joined(alloc, &[WIDE[0], counts, WIDE[1], columns, WIDE[2]])?;
-    fault_of_last(alloc, before, &query)
+fn a_stream_has_a_name_and_columns_and_a_default_is_a_value_of_its_column(
+    rt: HostRuntime,
+) -> Result<(), Fail> {
+    assert_each(
+        &rt,
+        &[
+            // A stream is a name and columns.
+            Case::Stream(b""),
+            Case::Stream(b"stream = 1\n"),
+            Case::Stream(b"[stream]\nname = \"p\"\n"),
+            Case::Stream(b"[stream]\nname = \"p\"\ncolumns = [1]\n"),
+            Case::Stream(b"[stream]\nname = \"p\"\ncolumns = [\"t\"]\nkey = 1\n"),
+            Case::Stream(b"[stream]\nname = \"p\"\ncolumns = [\"t\", \"a:float\"]\n"),
+            Case::Stream(b"[stream]\nname = \"p\"\ncolumns = []\n"),
+            Case::Stream(b"[stream]\nname = \"p\"\ncolumns = [\"t t\"]\ndefaults = 1\n"),
+            // A default is a string that says a value of its column.
+            Case::Defaults(b"defaults = \"0\"\n", DefaultsFault::Table),
+            Case::Defaults(b"defaults = []\n", DefaultsFault::Table),
+            // The time, a name that no column has, and one in other letters.
+            Case::Defaults(b"[stream.defaults]\nts = \"0\"\n", DefaultsFault::Key),
+            Case::Defaults(
+                b"[stream.defaults]\ncity = \"?\"\namount = 1\n",
+                DefaultsFault::Key,
+            ),
+            Case::Defaults(b"[stream.defaults]\nCard = \"?\"\n", DefaultsFault::Key),
+            // No string, and no int; the first column that has a bad one is told, whichever the file has first.
+            Case::Defaults(b"[stream.defaults]\namount = 1\n", DefaultsFault::Column(3)),
+            Case::Defaults(
+                b"[stream.defaults]\namount = \"1.5\"\n",
+                DefaultsFault::Column(3),
+            ),
+            Case::Defaults(
+                b"[stream.defaults]\namount = \"\"\ncard = 1\n",
+                DefaultsFault::Column(1),
+            ),
+            Case::Defaults(
+                b"[stream.defaults]\ncard = \"?\"\nmerchant = []\n",
+                DefaultsFault::Column(2),
+            ),
+        ],
+    )
 }
 
 #[test]
-fn a_query_has_at_most_16_aggregators_and_8_columns(rt: HostRuntime) -> Result<(), Fail> {
-    let aggs = Some(ConfigFault::Query(1, QueryRefusal::TooManyAggs));
-    let columns = Some(ConfigFault::Query(2, QueryRefusal::TooManyColumns));
-    let table: [(u32, &[u8], &[u8], Option<ConfigFault>); 3] = [
-        (1, b", count(*)", b", card", aggs),
-        (2, b"", b", card", columns),
-        (63, b"", b"", None),
-    ];
-    for (before, counts, more, want) in table {
-        assert!(rt; fault_of_wide(rt.alloc(), before, counts, more)? == want);
-    }
-    Ok(())
+fn a_setting_stands_in_its_range_and_the_top_has_queries_and_no_other_key(
+    rt: HostRuntime,
+) -> Result<(), Fail> {
+    assert_each(
+        &rt,
+        &[
+            // A cache and a chunk stand in their ranges.
+            Case::Setting(b"cache = 0\n", SettingsFault::Cache),
+            Case::Setting(b"cache = 1_025\n", SettingsFault::Cache),
+            Case::Setting(b"cache = 1.0\n", SettingsFault::Cache),
+            Case::Setting(b"cache = \"1\"\nchunk = 0\n", SettingsFault::Cache),
+            Case::Setting(b"cache = 2020-01-01\n", SettingsFault::Cache),
+            Case::Setting(b"chunk = -1\n", SettingsFault::Chunk),
+            Case::Setting(b"chunk = 4_097\n", SettingsFault::Chunk),
+            Case::Setting(b"cache = 1_024\nchunk = 65\n", SettingsFault::CachedEvents),
+            Case::Setting(b"cache = 1_024\n", SettingsFault::CachedEvents),
+            // Another setting stands in its range.
+            Case::Setting(b"commit = 1_000_001\n", SettingsFault::Commit),
+            Case::Setting(b"save = 0\n", SettingsFault::Save),
+            Case::Setting(b"events = 1_099_511_627_777\n", SettingsFault::Events),
+            Case::Setting(b"header = 1\n", SettingsFault::Header),
+            Case::Setting(b"room = 1\ncache = 0\n", SettingsFault::Key),
+            Case::Setting(b"grace = -1\n", SettingsFault::Grace),
+            Case::Setting(b"grace = 1_000_000_000_000_001\n", SettingsFault::Grace),
+            Case::Setting(b"grace = true\nheader = 1\n", SettingsFault::Header),
+            Case::Setting(b"grace = \"1\"\ncache = 1_024\n", SettingsFault::Grace),
+            // The top has queries and no other key.
+            Case::Top(b"x", ConfigFault::Toml),
+            Case::Top(b"x = \"\xff\"\n", ConfigFault::Toml),
+            Case::Top(b"", ConfigFault::Settings(SettingsFault::Queries)),
+            Case::Top(
+                b"queries = []\n",
+                ConfigFault::Settings(SettingsFault::Queries),
+            ),
+            Case::Top(
+                b"queries = [1]\n",
+                ConfigFault::Settings(SettingsFault::Queries),
+            ),
+            Case::Top(
+                b"queries = \"q\"\n",
+                ConfigFault::Settings(SettingsFault::Queries),
+            ),
+            Case::Top(
+                b"queries = [\"q\"]\nsettings = 1\n",
+                ConfigFault::Settings(SettingsFault::Table),
+            ),
+            Case::Top(
+                b"more = 1\nsettings = 1\n",
+                ConfigFault::Settings(SettingsFault::TopKey),
+            ),
+        ],
+    )
+}
+
+#[test]
+fn a_plan_has_what_is_set_and_its_first_query_that_is_not_taken_is_named(
+    rt: HostRuntime,
+) -> Result<(), Fail> {
+    assert_each(
+        &rt,
+        &[
+            // What is set is read, and all else has its default.
+            Case::Set(b"", UNSET),
+            Case::Set(
+                b"[settings]\ncache = 1\nchunk = 2\ncommit = 2\nsave = 4\n",
+                Settings {
+                    chunk: 2,
+                    cache: 1,
+                    commit: 2,
+                    save: 4,
+                    ..UNSET
+                },
+            ),
+            Case::Set(
+                b"[settings]\nevents = 7\nheader = true\ngrace = 0\n",
+                Settings {
+                    events: 7,
+                    header: true,
+                    ..UNSET
+                },
+            ),
+            Case::Set(
+                b"[settings]\ngrace = 1_000_000_000_000_000\n",
+                Settings {
+                    grace: 1_000_000_000_000_000,
+                    ..UNSET
+                },
+            ),
+            // A column has its default or none.
+            Case::Given(b"[stream.defaults]\namount = \"-5\"\ncard = \"\"\n"),
+            Case::NotGiven(b"defaults = {}\n"),
+            Case::NotGiven(b""),
+            // The first query that isn't taken is named.
+            Case::Query(
+                &[Times(1, b"SELECT min(card) FROM payments OVER INFINITE")],
+                0,
+                QueryRefusal::Text(QueryFault::WrongKind(11)),
+            ),
+            Case::Query(
+                &[Times(1, NEXT), Times(1, b"SELECT")],
+                1,
+                QueryRefusal::Text(QueryFault::Syntax(6)),
+            ),
+            Case::Query(
+                &[Times(64, NEXT), Times(1, b"SELECT")],
+                64,
+                QueryRefusal::TooMany,
+            ),
+            // A query has at most 16 aggregators and 8 columns.
+            Case::Query(
+                &[
+                    Times(1, NEXT),
+                    Times(1, COUNTS),
+                    Times(1, b", count(*)"),
+                    Times(1, BY_COLUMNS),
+                    Times(1, b", card"),
+                    Times(1, WITHOUT_END),
+                ],
+                1,
+                QueryRefusal::TooManyAggs,
+            ),
+            Case::Query(
+                &[
+                    Times(2, NEXT),
+                    Times(1, COUNTS),
+                    Times(1, BY_COLUMNS),
+                    Times(1, b", card"),
+                    Times(1, WITHOUT_END),
+                ],
+                2,
+                QueryRefusal::TooManyColumns,
+            ),
+            Case::Queries(&[
+                Times(63, NEXT),
+                Times(1, COUNTS),
+                Times(1, BY_COLUMNS),
+                Times(1, WITHOUT_END),
+            ]),
+        ],
+    )
 }

@@ -1,299 +1,336 @@
-use rg_event::{Schema, SchemaFault, Value};
+use crate::built::{Times, put_parts};
+use crate::rows::{Row, assert_each};
+use crate::schema::schema_of;
+use rg_bytes::Memory;
+use rg_event::{Schema, Value};
 use rg_metric::{Agg, Condition, Func, Op, Query, Window};
 use rg_query::{QueryFault, parse};
-use std::alloc::{AllocError, Global};
+use std::alloc::Global;
 use std::test::Fail;
 
 /// Payments of a text, a text, an int, an id and a flag.
-fn payments(alloc: Global) -> Result<Schema, SchemaFault> {
-    Schema::parse(
-        alloc,
-        b"payments(ts,card:text,merchant:text,amount:int,terminal:id,online:flag)",
-    )
+const PAYMENTS: &[u8] = b"payments(ts,card:text,merchant:text,amount:int,terminal:id,online:flag)";
+
+/// A query of every clause.
+const EVERY_CLAUSE: &[u8] =
+    b"select COUNT(*), Sum(amount), countdistinct(card) from payments\n\twhere terminal >= -0 AND not (card = 'it''s' or online != false)\n\tGroup BY card, terminal over sliding 2 Minutes delayed by 7 MS";
+
+/// Its aggregators.
+const AGGS: &[Agg] = &[
+    Agg {
+        func: Func::Count,
+        field: 0,
+    },
+    Agg {
+        func: Func::Sum,
+        field: 3,
+    },
+    Agg {
+        func: Func::CountDistinct,
+        field: 1,
+    },
+];
+
+const WINDOW: Window = Window {
+    delay: 7,
+    length: Some(120_000),
+};
+
+/// Whether a condition is `terminal >= 0`.
+fn is_of_terminal(condition: &Condition) -> bool {
+    matches!(condition, Condition::Compare(4, Op::Ge, Value::Id(0)))
 }
 
-/// Why a text is no query over payments.
-fn fault_of(alloc: Global, text: &[u8]) -> Result<Option<QueryFault>, SchemaFault> {
-    let schema = payments(alloc)?;
-    match parse(alloc, &schema, text) {
-        Ok(_) => Ok(None),
-        Err(fault) => Ok(Some(fault)),
-    }
+/// Whether it is `online != FALSE`.
+fn is_of_online(condition: &Condition) -> bool {
+    matches!(condition, Condition::Compare(5, Op::Ne, Value::Flag(false)))
 }
 
-#[test]
-fn syntax_comes_first_then_names_then_kinds_then_spans(rt: HostRuntime) -> Result<(), Fail> {
-    let table: [(&[u8], QueryFault); 7] = [
-        (b"", QueryFault::Syntax(0)),
-        (b"SELECT count(*)", QueryFault::Syntax(15)),
-        (
-            b"SELECT count(amount) FROM payments OVER INFINITE",
-            QueryFault::Syntax(13),
-        ),
-        (
-            b"SELECT sum(x) FROM payments OVER SLIDING 0 weeks",
-            QueryFault::Syntax(43),
-        ),
-        (
-            b"SELECT sum(card) FROM payments WHERE x = 1 OVER SLIDING 0 ms",
-            QueryFault::UnknownName(37),
-        ),
-        (
-            b"SELECT sum(card) FROM payments OVER SLIDING 0 ms",
-            QueryFault::WrongKind(11),
-        ),
-        (
-            b"SELECT count(*) FROM payments OVER SLIDING 0 ms",
-            QueryFault::BadSpan(43),
-        ),
-    ];
-    for (text, want) in table {
-        assert!(rt; fault_of(rt.alloc(), text)? == Some(want));
-    }
-    Ok(())
-}
-
-#[test]
-fn the_first_name_that_nothing_has_or_field_of_a_wrong_kind_is_told(
-    rt: HostRuntime,
-) -> Result<(), Fail> {
-    let table: [(&[u8], QueryFault); 9] = [
-        (
-            b"SELECT sum(Amount) FROM payments OVER INFINITE",
-            QueryFault::UnknownName(11),
-        ),
-        (
-            b"SELECT sum(x) FROM y OVER INFINITE",
-            QueryFault::UnknownName(11),
-        ),
-        (
-            b"SELECT count(*) FROM sales WHERE x = 1 OVER INFINITE",
-            QueryFault::UnknownName(21),
-        ),
-        (
-            b"SELECT count(*) FROM payments WHERE ts > 5 OVER INFINITE",
-            QueryFault::UnknownName(36),
-        ),
-        (
-            b"SELECT count(*) FROM payments GROUP BY card, ts OVER INFINITE",
-            QueryFault::UnknownName(45),
-        ),
-        (
-            b"SELECT sum(card) FROM payments OVER INFINITE",
-            QueryFault::WrongKind(11),
-        ),
-        (
-            b"SELECT sum(terminal) FROM payments OVER INFINITE",
-            QueryFault::WrongKind(11),
-        ),
-        (
-            b"SELECT max(terminal), last(card) FROM payments OVER INFINITE",
-            QueryFault::WrongKind(27),
-        ),
-        (
-            b"SELECT count(*) FROM payments WHERE online < 1 OVER INFINITE",
-            QueryFault::WrongKind(36),
-        ),
-    ];
-    for (text, want) in table {
-        assert!(rt; fault_of(rt.alloc(), text)? == Some(want));
-    }
-    Ok(())
-}
-
-/// Why a count that ends so is no query over payments.
-fn fault_behind(alloc: Global, end: &[u8]) -> Result<Option<QueryFault>, Fail> {
-    let mut text = Vec::from_slice(alloc, b"SELECT count(*) FROM payments ")?;
-    text.extend_from_slice(end)?;
-    Ok(fault_of(alloc, &text)?)
-}
-
-#[test]
-fn a_literal_is_one_of_its_columns_kind(rt: HostRuntime) -> Result<(), Fail> {
-    let table: [(&[u8], Option<usize>); 8] = [
-        (b"WHERE amount > -1000000000000 OVER INFINITE", None),
-        (b"WHERE amount > 1000000000001 OVER INFINITE", Some(45)),
-        (b"WHERE card = 5 OVER INFINITE", Some(43)),
-        (b"WHERE card = '\xff' OVER INFINITE", Some(43)),
-        (b"WHERE terminal = -1 OVER INFINITE", Some(47)),
-        (b"WHERE terminal = 18446744073709551615 OVER INFINITE", None),
-        (
-            b"WHERE terminal = 18446744073709551616 OVER INFINITE",
-            Some(47),
-        ),
-        (b"WHERE online = 1 OVER INFINITE", Some(45)),
-    ];
-    for (end, place) in table {
-        let want = place.map(QueryFault::WrongKind);
-        assert!(rt; fault_behind(rt.alloc(), end)? == want);
-    }
-    Ok(())
-}
-
-#[test]
-fn a_span_has_at_most_ten_to_the_15_milliseconds(rt: HostRuntime) -> Result<(), Fail> {
-    let table: [(&[u8], Option<usize>); 7] = [
-        (b"OVER SLIDING 11574074 days", None),
-        (b"OVER SLIDING 11574075 days", Some(43)),
-        (b"OVER SLIDING 1000000000000000 ms", None),
-        (b"OVER SLIDING 99999999999999999999 ms", Some(43)),
-        (b"OVER INFINITE DELAYED BY 0 ms", None),
-        (b"OVER INFINITE DELAYED BY 1000000000000001 ms", Some(55)),
-        (
-            b"OVER SLIDING 1 ms DELAYED BY 16666666667 minutes",
-            Some(59),
-        ),
-    ];
-    for (end, place) in table {
-        let want = place.map(QueryFault::BadSpan);
-        assert!(rt; fault_behind(rt.alloc(), end)? == want);
-    }
-    Ok(())
-}
-
-/// A query behind so many spaces.
-fn behind_spaces(alloc: Global, spaces: usize) -> Result<Vec<u8>, AllocError> {
-    let mut text = Vec::new(alloc);
-    for _ in 0..spaces {
-        text.push(b' ')?;
-    }
-    text.extend_from_slice(b"SELECT count(*) FROM payments OVER INFINITE")?;
-    Ok(text)
-}
-
-/// How long a query behind so many spaces is, and why it is no query.
-fn spaced(alloc: Global, spaces: usize) -> Result<(usize, Option<QueryFault>), Fail> {
-    let text = behind_spaces(alloc, spaces)?;
-    let length = text.len();
-    let fault = fault_of(alloc, &text)?;
-    drop(text);
-    Ok((length, fault))
-}
-
-#[test]
-fn a_text_has_4096_bytes_at_most(rt: HostRuntime) -> Result<(), Fail> {
-    let (length, fault) = spaced(rt.alloc(), 4_053)?;
-    assert!(rt; length == 4_096 && fault.is_none());
-    let (length, fault) = spaced(rt.alloc(), 4_054)?;
-    assert!(rt; length == 4_097 && fault == Some(QueryFault::TooLarge));
-    Ok(())
-}
-
-/// A query with a condition in so many parentheses.
-fn enclosed(alloc: Global, parentheses: usize) -> Result<Vec<u8>, AllocError> {
-    let mut text = Vec::from_slice(alloc, b"SELECT count(*) FROM payments WHERE ")?;
-    for _ in 0..parentheses {
-        text.push(b'(')?;
-    }
-    text.extend_from_slice(b"amount = 1")?;
-    for _ in 0..parentheses {
-        text.push(b')')?;
-    }
-    text.extend_from_slice(b" OVER INFINITE")?;
-    Ok(text)
-}
-
-/// Why a query with a condition in so many parentheses is no query.
-fn fault_of_enclosed(alloc: Global, parentheses: usize) -> Result<Option<QueryFault>, Fail> {
-    let text = enclosed(alloc, parentheses)?;
-    let fault = fault_of(alloc, &text)?;
-    drop(text);
-    Ok(fault)
-}
-
-#[test]
-fn a_condition_stands_in_32_parentheses_at_most(rt: HostRuntime) -> Result<(), Fail> {
-    let most = fault_of_enclosed(rt.alloc(), 32)?;
-    let more = fault_of_enclosed(rt.alloc(), 33)?;
-    assert!(rt; most.is_none() && more == Some(QueryFault::TooLarge));
-    Ok(())
-}
-
-/// Whether a condition is this comparison.
-fn is_comparison(condition: &Condition, column: u32, op: Op, literal: &Value) -> bool {
-    match condition {
-        Condition::Compare(of, by, with) => *of == column && *by == op && with == literal,
-        _ => false,
-    }
-}
-
-/// Whether a condition is `NOT (card = 'it''s' OR online != FALSE)`.
-fn is_second_part(condition: &Condition) -> bool {
-    match condition {
-        Condition::Not(inner) => is_choice(inner),
-        _ => false,
-    }
-}
-
-fn is_choice(condition: &Condition) -> bool {
-    match condition {
-        Condition::Or(left, right) => {
-            is_card_its(left) && is_comparison(right, 5, Op::Ne, &Value::Flag(false))
-        }
-        _ => false,
-    }
-}
-
-fn is_card_its(condition: &Condition) -> bool {
+/// Whether it is `card = 'it''s'`.
+fn is_of_card(condition: &Condition) -> bool {
     match condition {
         Condition::Compare(1, Op::Eq, Value::Text(word)) => word.as_bytes() == b"it's".as_slice(),
         _ => false,
     }
 }
 
-/// Whether a query is what the text of every clause says.
-fn is_of_every_clause(query: &Query) -> bool {
-    let aggs = [
-        Agg {
-            func: Func::Count,
-            field: 0,
-        },
-        Agg {
-            func: Func::Sum,
-            field: 3,
-        },
-        Agg {
-            func: Func::CountDistinct,
-            field: 1,
-        },
-    ];
-    let window = Window {
-        delay: 7,
-        length: Some(120_000),
-    };
-    query.aggs.as_slice() == aggs.as_slice()
-        && query.group.as_slice() == [1, 4].as_slice()
-        && query.window == window
-        && is_filter(query)
+/// Whether it is `card = 'it''s' OR online != FALSE`.
+fn is_choice(condition: &Condition) -> bool {
+    match condition {
+        Condition::Or(left, right) => is_of_card(left) && is_of_online(right),
+        _ => false,
+    }
 }
 
-/// A copy of the query that a text of every clause says.
-fn of_every_clause(alloc: Global) -> Result<Query, Fail> {
-    let schema = payments(alloc)?;
-    let text =
-        b"select COUNT(*), Sum(amount), countdistinct(card) from payments\n\twhere terminal >= -0 AND not (card = 'it''s' or online != false)\n\tGroup BY card, terminal over sliding 2 Minutes delayed by 7 MS";
-    let query = parse(alloc, &schema, text)?;
-    let copy = query.copy(alloc);
-    drop(query);
-    drop(schema);
-    Ok(copy?)
-}
-
-#[test]
-fn a_query_of_every_clause_is_what_its_text_says(rt: HostRuntime) -> Result<(), Fail> {
-    let query = of_every_clause(rt.alloc())?;
-    let is_said = is_of_every_clause(&query);
-    drop(query);
-    assert!(rt; is_said);
-    Ok(())
+/// Whether it is `NOT (card = 'it''s' OR online != FALSE)`.
+fn is_no_choice(condition: &Condition) -> bool {
+    match condition {
+        Condition::Not(inner) => is_choice(inner),
+        _ => false,
+    }
 }
 
 /// Whether a query's filter is `terminal >= 0 AND NOT (card = 'it''s' OR online != FALSE)`.
 fn is_filter(query: &Query) -> bool {
     match &query.filter {
-        Some(Condition::And(left, right)) => {
-            is_comparison(left, 4, Op::Ge, &Value::Id(0)) && is_second_part(right)
-        }
+        Some(Condition::And(left, right)) => is_of_terminal(left) && is_no_choice(right),
         _ => false,
     }
+}
+
+/// Whether a query is what the text of every clause says.
+fn is_of_every_clause(query: &Query) -> bool {
+    query.aggs.as_slice() == AGGS
+        && query.group.as_slice() == [1, 4].as_slice()
+        && query.window == WINDOW
+        && is_filter(query)
+}
+
+/// Whether a copy of a query is.
+fn is_copied(alloc: Global, query: &Query) -> Result<bool, Memory> {
+    let copy = query.copy(alloc)?;
+    let is_so = is_of_every_clause(&copy);
+    drop(copy);
+    Ok(is_so)
+}
+
+/// Whether the query of every clause is what its text says.
+fn is_said(alloc: Global, schema: &Schema) -> Result<bool, Memory> {
+    match parse(alloc, schema, EVERY_CLAUSE) {
+        Ok(query) => {
+            let is_copied = is_copied(alloc, &query);
+            drop(query);
+            is_copied
+        }
+        Err(_) => Ok(false),
+    }
+}
+
+/// Whether a text is a query, or none for this cause.
+fn ends(alloc: Global, schema: &Schema, text: &[u8], want: Option<QueryFault>) -> bool {
+    match parse(alloc, schema, text) {
+        Ok(query) => {
+            drop(query);
+            want.is_none()
+        }
+        Err(fault) => want == Some(fault),
+    }
+}
+
+/// Whether these parts are a text of this length that is no query for this cause, if for any.
+fn is_built(
+    alloc: Global,
+    schema: &Schema,
+    parts: &[Times],
+    length: usize,
+    fault: Option<QueryFault>,
+) -> Result<bool, Memory> {
+    let mut text = Vec::new(alloc);
+    let put = put_parts(&mut text, parts);
+    let is_so = text.len() == length && ends(alloc, schema, &text, fault);
+    drop(text);
+    put?;
+    Ok(is_so)
+}
+
+/// What a text over payments is.
+#[derive(Clone, Copy)]
+enum Case {
+    /// The query of every clause.
+    EveryClause,
+    Read(&'static [u8]),
+    /// No query, for this cause.
+    Faulty(&'static [u8], QueryFault),
+    /// Of these parts it has this length, and is no query for this cause, if for any.
+    Built(&'static [Times], usize, Option<QueryFault>),
+}
+
+fn is_so_of(alloc: Global, schema: &Schema, case: &Case) -> Result<bool, Memory> {
+    match case {
+        Case::EveryClause => is_said(alloc, schema),
+        Case::Read(text) => Ok(ends(alloc, schema, text, None)),
+        Case::Faulty(text, fault) => Ok(ends(alloc, schema, text, Some(*fault))),
+        Case::Built(parts, length, fault) => is_built(alloc, schema, parts, *length, *fault),
+    }
+}
+
+impl Row for Case {
+    fn is_so(&self, alloc: Global) -> Result<bool, Memory> {
+        let schema = schema_of(alloc, PAYMENTS)?;
+        let is_so = is_so_of(alloc, &schema, self);
+        drop(schema);
+        is_so
+    }
+}
+
+#[test]
+fn syntax_comes_first_then_the_first_wrong_name_then_kinds(rt: HostRuntime) -> Result<(), Fail> {
+    assert_each(
+        &rt,
+        &[
+            Case::EveryClause,
+            // Syntax comes first, then names, then kinds, then spans.
+            Case::Faulty(b"", QueryFault::Syntax(0)),
+            Case::Faulty(b"SELECT count(*)", QueryFault::Syntax(15)),
+            Case::Faulty(
+                b"SELECT count(amount) FROM payments OVER INFINITE",
+                QueryFault::Syntax(13),
+            ),
+            Case::Faulty(
+                b"SELECT sum(x) FROM payments OVER SLIDING 0 weeks",
+                QueryFault::Syntax(43),
+            ),
+            Case::Faulty(
+                b"SELECT sum(card) FROM payments WHERE x = 1 OVER SLIDING 0 ms",
+                QueryFault::UnknownName(37),
+            ),
+            Case::Faulty(
+                b"SELECT sum(card) FROM payments OVER SLIDING 0 ms",
+                QueryFault::WrongKind(11),
+            ),
+            Case::Faulty(
+                b"SELECT count(*) FROM payments OVER SLIDING 0 ms",
+                QueryFault::BadSpan(43),
+            ),
+            // The first name that nothing has, or field of a wrong kind, is told.
+            Case::Faulty(
+                b"SELECT sum(Amount) FROM payments OVER INFINITE",
+                QueryFault::UnknownName(11),
+            ),
+            Case::Faulty(
+                b"SELECT sum(x) FROM y OVER INFINITE",
+                QueryFault::UnknownName(11),
+            ),
+            Case::Faulty(
+                b"SELECT count(*) FROM sales WHERE x = 1 OVER INFINITE",
+                QueryFault::UnknownName(21),
+            ),
+            Case::Faulty(
+                b"SELECT count(*) FROM payments WHERE ts > 5 OVER INFINITE",
+                QueryFault::UnknownName(36),
+            ),
+            Case::Faulty(
+                b"SELECT count(*) FROM payments GROUP BY card, ts OVER INFINITE",
+                QueryFault::UnknownName(45),
+            ),
+            Case::Faulty(
+                b"SELECT sum(card) FROM payments OVER INFINITE",
+                QueryFault::WrongKind(11),
+            ),
+            Case::Faulty(
+                b"SELECT sum(terminal) FROM payments OVER INFINITE",
+                QueryFault::WrongKind(11),
+            ),
+            Case::Faulty(
+                b"SELECT max(terminal), last(card) FROM payments OVER INFINITE",
+                QueryFault::WrongKind(27),
+            ),
+            Case::Faulty(
+                b"SELECT count(*) FROM payments WHERE online < 1 OVER INFINITE",
+                QueryFault::WrongKind(36),
+            ),
+        ],
+    )
+}
+
+#[test]
+fn a_literal_is_of_its_columns_kind_and_spans_texts_and_parentheses_have_a_limit(
+    rt: HostRuntime,
+) -> Result<(), Fail> {
+    assert_each(
+        &rt,
+        &[
+            // A literal is one of its column's kind.
+            Case::Read(
+                b"SELECT count(*) FROM payments WHERE amount > -1000000000000 OVER INFINITE",
+            ),
+            Case::Faulty(
+                b"SELECT count(*) FROM payments WHERE amount > 1000000000001 OVER INFINITE",
+                QueryFault::WrongKind(45),
+            ),
+            Case::Faulty(
+                b"SELECT count(*) FROM payments WHERE card = 5 OVER INFINITE",
+                QueryFault::WrongKind(43),
+            ),
+            Case::Faulty(
+                b"SELECT count(*) FROM payments WHERE card = '\xff' OVER INFINITE",
+                QueryFault::WrongKind(43),
+            ),
+            Case::Faulty(
+                b"SELECT count(*) FROM payments WHERE terminal = -1 OVER INFINITE",
+                QueryFault::WrongKind(47),
+            ),
+            Case::Read(
+                b"SELECT count(*) FROM payments WHERE terminal = 18446744073709551615 OVER INFINITE",
+            ),
+            Case::Faulty(
+                b"SELECT count(*) FROM payments WHERE terminal = 18446744073709551616 OVER INFINITE",
+                QueryFault::WrongKind(47),
+            ),
+            Case::Faulty(
+                b"SELECT count(*) FROM payments WHERE online = 1 OVER INFINITE",
+                QueryFault::WrongKind(45),
+            ),
+            // A span has at most 10^15 milliseconds.
+            Case::Read(b"SELECT count(*) FROM payments OVER SLIDING 11574074 days"),
+            Case::Faulty(
+                b"SELECT count(*) FROM payments OVER SLIDING 11574075 days",
+                QueryFault::BadSpan(43),
+            ),
+            Case::Read(b"SELECT count(*) FROM payments OVER SLIDING 1000000000000000 ms"),
+            Case::Faulty(
+                b"SELECT count(*) FROM payments OVER SLIDING 99999999999999999999 ms",
+                QueryFault::BadSpan(43),
+            ),
+            Case::Read(b"SELECT count(*) FROM payments OVER INFINITE DELAYED BY 0 ms"),
+            Case::Faulty(
+                b"SELECT count(*) FROM payments OVER INFINITE DELAYED BY 1000000000000001 ms",
+                QueryFault::BadSpan(55),
+            ),
+            Case::Faulty(
+                b"SELECT count(*) FROM payments OVER SLIDING 1 ms DELAYED BY 16666666667 minutes",
+                QueryFault::BadSpan(59),
+            ),
+            // A text has 4,096 bytes at most.
+            Case::Built(
+                &[
+                    Times(4_053, b" "),
+                    Times(1, b"SELECT count(*) FROM payments OVER INFINITE"),
+                ],
+                4_096,
+                None,
+            ),
+            Case::Built(
+                &[
+                    Times(4_054, b" "),
+                    Times(1, b"SELECT count(*) FROM payments OVER INFINITE"),
+                ],
+                4_097,
+                Some(QueryFault::TooLarge),
+            ),
+            // A condition stands in 32 parentheses at most.
+            Case::Built(
+                &[
+                    Times(1, b"SELECT count(*) FROM payments WHERE "),
+                    Times(32, b"("),
+                    Times(1, b"amount = 1"),
+                    Times(32, b")"),
+                    Times(1, b" OVER INFINITE"),
+                ],
+                124,
+                None,
+            ),
+            Case::Built(
+                &[
+                    Times(1, b"SELECT count(*) FROM payments WHERE "),
+                    Times(33, b"("),
+                    Times(1, b"amount = 1"),
+                    Times(33, b")"),
+                    Times(1, b" OVER INFINITE"),
+                ],
+                126,
+                Some(QueryFault::TooLarge),
+            ),
+        ],
+    )
 }

@@ -2,6 +2,10 @@ ghost use Rattle.std.specs.Prelude.{◌≡◌, map, false, All, IsTrue};
 ghost use Rattle.rg_metric.specs.Queries.{asked, Asked};
 ghost use Rattle.rg_plan.specs.Offsets.{IsMeasured};
 
+use crate::built::Times;
+use crate::rows::{Row, assert_each};
+use crate::schema::schema_of;
+use rg_bytes::Memory;
 use rg_event::Schema;
 use rg_metric::{Query, Window};
 use rg_plan::{PlanFault, TaskPlan, compile};
@@ -32,33 +36,6 @@ fn is_too_long(window: Window) -> bool
     }
 }
 
-/// The plan of queries whose windows are measured, or why they are refused.
-fn compiled(alloc: Global, queries: &[Query]) -> Result<Result<TaskPlan, PlanFault>, Fail> {
-    if !are_measured(queries) {
-        return Err(Fail::new("a window is too long"));
-    }
-    Ok(compile(alloc, queries))
-}
-
-/// The queries that these texts say.
-fn queries_of(alloc: Global, texts: &[&[u8]]) -> Result<Vec<Query>, Fail> {
-    let schema = Schema::parse(alloc, b"p(ts,card:text,a:int,b:int)")?;
-    let mut queries = Vec::new(alloc);
-    for text in texts {
-        queries.push(parse(alloc, &schema, text)?)?;
-    }
-    Ok(queries)
-}
-
-/// A copy of the plan of the queries that these texts say, or why they are refused.
-fn planned(alloc: Global, texts: &[&[u8]]) -> Result<Result<TaskPlan, PlanFault>, Fail> {
-    let queries = queries_of(alloc, texts)?;
-    match compiled(alloc, &queries)? {
-        Ok(plan) => Ok(Ok(plan.copy(alloc)?)),
-        Err(fault) => Ok(Err(fault)),
-    }
-}
-
 /// How many windows, filters, groups and aggregators a plan has.
 fn sizes(plan: &TaskPlan) -> [usize; 4] {
     [
@@ -69,51 +46,6 @@ fn sizes(plan: &TaskPlan) -> [usize; 4] {
     ]
 }
 
-/// Whether the plan of these queries has so many nodes and these offsets.
-fn has(alloc: Global, texts: &[&[u8]], nodes: [usize; 4], offsets: &[u64]) -> Result<bool, Fail> {
-    match planned(alloc, texts)? {
-        Ok(plan) => Ok(sizes(&plan) == nodes && plan.offsets() == offsets),
-        Err(_) => Ok(false),
-    }
-}
-
-/// A count, and a sum and that count, by the same key over the same window.
-const ALIKE: [&[u8]; 2] = [
-    b"SELECT count(*) FROM p GROUP BY card OVER SLIDING 5 minutes",
-    b"SELECT sum(a), count(*) FROM p GROUP BY card OVER SLIDING 5 minutes",
-];
-
-/// Three queries, of which two have one condition and two one key.
-const PARTED: [&[u8]; 3] = [
-    b"SELECT count(*) FROM p WHERE a > 100 OVER SLIDING 5 ms",
-    b"SELECT count(*) FROM p WHERE a > 200 OVER SLIDING 5 ms",
-    b"SELECT count(*) FROM p WHERE a > 100 GROUP BY card OVER SLIDING 5 ms",
-];
-
-/// Two windows.
-const APART: [&[u8]; 2] = [
-    b"SELECT count(*) FROM p OVER SLIDING 10 ms DELAYED BY 5 ms",
-    b"SELECT count(*) FROM p OVER SLIDING 5 ms",
-];
-
-/// A query with the most aggregators.
-const WIDE: &[u8] =
-    b"SELECT sum(a), sum(b), avg(a), avg(b), sumsq(a), sumsq(b), min(a), min(b), max(a), max(b), first(a), first(b), last(a), last(b), countDistinct(a), countDistinct(b) FROM p OVER SLIDING 5 ms";
-
-#[test]
-fn queries_share_what_they_have_in_common(rt: HostRuntime) -> Result<(), Fail> {
-    let table: [(&[&[u8]], [usize; 4], &[u64]); 4] = [
-        (&ALIKE, [1, 1, 1, 2], &[0, 300000]),
-        (&PARTED, [1, 2, 3, 3], &[0, 5]),
-        (&APART, [2, 2, 2, 2], &[0, 5, 15]),
-        (&[WIDE; 64], [1, 1, 1, 16], &[0, 5]),
-    ];
-    for (texts, nodes, offsets) in table {
-        assert!(rt; has(rt.alloc(), texts, nodes, offsets)?);
-    }
-    Ok(())
-}
-
 /// Whether each path of the plan of those alike leads where it is to.
 fn has_paths(plan: &TaskPlan) -> bool {
     let paths = (plan.path(0, 0), plan.path(1, 0), plan.path(1, 1));
@@ -121,55 +53,208 @@ fn has_paths(plan: &TaskPlan) -> bool {
     is_right && plan.path(1, 2).is_none() && plan.path(2, 0).is_none()
 }
 
-#[test]
-fn a_path_leads_to_an_aggregator_of_a_query(rt: HostRuntime) -> Result<(), Fail> {
-    let are_right = match planned(rt.alloc(), &ALIKE)? {
-        Ok(plan) => has_paths(&plan),
-        Err(_) => false,
-    };
-    assert!(rt; are_right);
-    Ok(())
-}
-
-/// 64 queries with the most aggregators, each over a window of its own.
-fn each_apart(alloc: Global) -> Result<Vec<Query>, Fail> {
-    let mut queries = queries_of(alloc, &[WIDE; 64])?;
-    for (delay, query) in queries.iter_mut().enumerate() {
-        query.window.delay = delay as u64;
-    }
-    Ok(queries)
-}
-
-/// Whether a plan of those shares nothing.
+/// Whether a plan of 64 queries of 16 aggregators shares nothing.
 fn shares_nothing(plan: &TaskPlan) -> bool {
     let paths = (plan.path(0, 15), plan.path(1, 0), plan.path(63, 15));
     let is_apart = plan.queries() == 64 && sizes(plan) == [64, 64, 64, 1024];
     is_apart && paths == (Some(15), Some(16), Some(1023)) && plan.nodes(64).is_none()
 }
 
-#[test]
-fn queries_that_share_nothing(rt: HostRuntime) -> Result<(), Fail> {
-    let queries = each_apart(rt.alloc())?;
-    let are_apart = match compiled(rt.alloc(), &queries)? {
-        Ok(plan) => shares_nothing(&plan),
-        Err(_) => false,
-    };
+/// The plan of some queries.
+#[derive(Clone, Copy)]
+enum Case {
+    /// It has so many windows, filters, groups and aggregators, and these offsets.
+    Has(&'static [Times], &'static [usize], &'static [u64]),
+    /// Each path leads to an aggregator of a query.
+    Paths(&'static [Times]),
+    /// Where each query has a window of its own it shares nothing.
+    Apart(&'static [Times]),
+    /// There is none, for this cause.
+    Faulty(&'static [Times], PlanFault),
+}
+
+impl Case {
+    /// The texts of its queries.
+    fn texts(&self) -> &'static [Times] {
+        match self {
+            Case::Has(texts, _, _)
+            | Case::Paths(texts)
+            | Case::Apart(texts)
+            | Case::Faulty(texts, _) => texts,
+        }
+    }
+
+    fn is_of(&self, plan: &TaskPlan) -> bool {
+        match self {
+            Case::Has(_, nodes, offsets) => sizes(plan).as_slice() == *nodes
+                && plan.offsets() == *offsets,
+            Case::Paths(_) => has_paths(plan),
+            Case::Apart(_) => shares_nothing(plan),
+            Case::Faulty(_, _) => false,
+        }
+    }
+
+    fn has_fault(&self, fault: PlanFault) -> bool {
+        match self {
+            Case::Faulty(_, want) => *want == fault,
+            _ => false,
+        }
+    }
+}
+
+/// Adds the query that a text says so many times; no memory where it says none.
+fn push_times(
+    alloc: Global,
+    schema: &Schema,
+    queries: &mut Vec<Query>,
+    text: Times,
+) -> Result<(), Memory> {
+    for _ in 0..text.0 {
+        match parse(alloc, schema, text.1) {
+            Ok(query) => queries.push(query)?,
+            Err(_) => return Err(Memory),
+        }
+    }
+    Ok(())
+}
+
+fn push_all(
+    alloc: Global,
+    schema: &Schema,
+    queries: &mut Vec<Query>,
+    texts: &[Times],
+) -> Result<(), Memory> {
+    for text in texts {
+        push_times(alloc, schema, queries, *text)?;
+    }
+    Ok(())
+}
+
+/// Gives each query a window of its own.
+fn set_apart(queries: &mut [Query]) {
+    for (delay, query) in queries.iter_mut().enumerate() {
+        query.window.delay = delay as u64;
+    }
+}
+
+/// Whether a copy of a plan is as the case says.
+fn is_copied(alloc: Global, plan: &TaskPlan, case: &Case) -> Result<bool, Memory> {
+    let copy = plan.copy(alloc)?;
+    let is_so = case.is_of(&copy);
+    drop(copy);
+    Ok(is_so)
+}
+
+/// Whether the plan of queries is so, whose windows are measured.
+fn is_planned(alloc: Global, queries: &[Query], case: &Case) -> Result<bool, Memory> {
+    if !are_measured(queries) {
+        return Ok(false);
+    }
+    match compile(alloc, queries) {
+        Ok(plan) => {
+            let is_so = is_copied(alloc, &plan, case);
+            drop(plan);
+            is_so
+        }
+        Err(fault) => Ok(case.has_fault(fault)),
+    }
+}
+
+/// The same of the queries of the case, which are pushed to none.
+fn is_pushed(
+    alloc: Global,
+    schema: &Schema,
+    queries: &mut Vec<Query>,
+    case: &Case,
+) -> Result<bool, Memory> {
+    push_all(alloc, schema, queries, case.texts())?;
+    if let Case::Apart(_) = case {
+        set_apart(queries);
+    }
+    is_planned(alloc, queries, case)
+}
+
+/// The same over a schema.
+fn is_so_of(alloc: Global, schema: &Schema, case: &Case) -> Result<bool, Memory> {
+    let mut queries = Vec::new(alloc);
+    let is_so = is_pushed(alloc, schema, &mut queries, case);
     drop(queries);
-    assert!(rt; are_apart);
-    Ok(())
+    is_so
 }
 
-/// Why the queries that these texts say are refused, if they are.
-fn fault_of(alloc: Global, texts: &[&[u8]]) -> Result<Option<PlanFault>, Fail> {
-    Ok(planned(alloc, texts)?.err())
+impl Row for Case {
+    fn is_so(&self, alloc: Global) -> Result<bool, Memory> {
+        let schema = schema_of(alloc, b"p(ts,card:text,a:int,b:int)")?;
+        let is_so = is_so_of(alloc, &schema, self);
+        drop(schema);
+        is_so
+    }
 }
+
+/// A count by a key over a window.
+const COUNT: &[u8] = b"SELECT count(*) FROM p GROUP BY card OVER SLIDING 5 minutes";
+
+/// That count, and a sum and that count, by the same key over the same window.
+const ALIKE: &[Times] = &[
+    Times(1, COUNT),
+    Times(
+        1,
+        b"SELECT sum(a), count(*) FROM p GROUP BY card OVER SLIDING 5 minutes",
+    ),
+];
+
+/// A query with the most aggregators.
+const WIDE: &[u8] =
+    b"SELECT sum(a), sum(b), avg(a), avg(b), sumsq(a), sumsq(b), min(a), min(b), max(a), max(b), first(a), first(b), last(a), last(b), countDistinct(a), countDistinct(b) FROM p OVER SLIDING 5 ms";
 
 #[test]
-fn too_many_parts_and_the_query_behind_64_are_refused(rt: HostRuntime) -> Result<(), Fail> {
-    let more =
-        b"SELECT count(*), count(*), count(*), count(*), count(*), count(*), count(*), count(*), count(*), count(*), count(*), count(*), count(*), count(*), count(*), count(*), count(*) FROM p OVER INFINITE";
-    let parts = fault_of(rt.alloc(), &[WIDE, more])?;
-    let queries = fault_of(rt.alloc(), &[ALIKE[0]; 65])?;
-    assert!(rt; parts == Some(PlanFault::TooMany(1)) && queries == Some(PlanFault::TooMany(64)));
-    Ok(())
+fn queries_share_what_they_have_in_common_and_too_many_are_refused(
+    rt: HostRuntime,
+) -> Result<(), Fail> {
+    assert_each(
+        &rt,
+        &[
+            Case::Has(ALIKE, &[1, 1, 1, 2], &[0, 300000]),
+            // Three queries, of which two have one condition and two one key.
+            Case::Has(
+                &[
+                    Times(1, b"SELECT count(*) FROM p WHERE a > 100 OVER SLIDING 5 ms"),
+                    Times(1, b"SELECT count(*) FROM p WHERE a > 200 OVER SLIDING 5 ms"),
+                    Times(
+                        1,
+                        b"SELECT count(*) FROM p WHERE a > 100 GROUP BY card OVER SLIDING 5 ms",
+                    ),
+                ],
+                &[1, 2, 3, 3],
+                &[0, 5],
+            ),
+            // Two windows.
+            Case::Has(
+                &[
+                    Times(
+                        1,
+                        b"SELECT count(*) FROM p OVER SLIDING 10 ms DELAYED BY 5 ms",
+                    ),
+                    Times(1, b"SELECT count(*) FROM p OVER SLIDING 5 ms"),
+                ],
+                &[2, 2, 2, 2],
+                &[0, 5, 15],
+            ),
+            Case::Has(&[Times(64, WIDE)], &[1, 1, 1, 16], &[0, 5]),
+            Case::Paths(ALIKE),
+            Case::Apart(&[Times(64, WIDE)]),
+            // Too many parts of a query, and the query behind 64.
+            Case::Faulty(
+                &[
+                    Times(1, WIDE),
+                    Times(
+                        1,
+                        b"SELECT count(*), count(*), count(*), count(*), count(*), count(*), count(*), count(*), count(*), count(*), count(*), count(*), count(*), count(*), count(*), count(*), count(*) FROM p OVER INFINITE",
+                    ),
+                ],
+                PlanFault::TooMany(1),
+            ),
+            Case::Faulty(&[Times(65, COUNT)], PlanFault::TooMany(64)),
+        ],
+    )
 }

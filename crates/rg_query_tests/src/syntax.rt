@@ -1,109 +1,164 @@
+use crate::built::{Times, put_parts};
+use crate::rows::{Row, assert_each};
+use rg_bytes::Memory;
 use rg_parse::{Call, Duration, Expr, Raw, Span, SyntaxFault, read_syntax};
-use rg_words::{Func, Op, TimeUnit};
+use rg_words::{Func, TimeUnit};
 use std::alloc::Global;
 use std::test::Fail;
-
-/// Why a text is no query.
-fn fault_of(alloc: Global, text: &[u8]) -> Option<SyntaxFault> {
-    match read_syntax(alloc, text) {
-        Ok(_) => None,
-        Err(fault) => Some(fault),
-    }
-}
 
 /// A query of every clause.
 const EVERY_CLAUSE: &[u8] =
     b"select COUNT(*), sum(amount) FROM payments where a = 1 AND NOT (b != 'x''y' OR c<=-3) group by card, shop OVER sliding 5 minutes delayed BY 10 ms";
 
-fn span(start: usize, end: usize) -> Span {
-    Span { start, end }
+/// The span of its sum's field.
+const AMOUNT: Span = Span { start: 21, end: 27 };
+
+/// That of its stream.
+const PAYMENTS: Span = Span { start: 34, end: 42 };
+
+/// Those of the columns of its key.
+const CARD: Span = Span { start: 95, end: 99 };
+
+const SHOP: Span = Span {
+    start: 101,
+    end: 105,
+};
+
+/// How long its window is, and how late.
+const LENGTH: Duration = Duration {
+    number: Span {
+        start: 119,
+        end: 120,
+    },
+    unit: TimeUnit::Minute,
+};
+
+const DELAY: Duration = Duration {
+    number: Span {
+        start: 140,
+        end: 142,
+    },
+    unit: TimeUnit::Millisecond,
+};
+
+/// Whether these are a count and a sum of the amount.
+fn are_calls(calls: &[Call]) -> bool {
+    match calls {
+        [Call::CountAll, Call::Field(Func::Sum, field)] => *field == AMOUNT,
+        _ => false,
+    }
 }
 
-/// Whether a query asks for a count and a sum of its stream where two conditions hold.
-fn is_asked(raw: &Raw) -> bool {
-    let calls = [Call::CountAll, Call::Field(Func::Sum, span(21, 27))];
-    raw.calls.as_slice() == calls.as_slice()
-        && raw.stream == span(34, 42)
+/// Whether a key is of those two columns.
+fn are_columns(group: &[Span]) -> bool {
+    match group {
+        [card, shop] => *card == CARD && *shop == SHOP,
+        _ => false,
+    }
+}
+
+/// Whether a query has every clause of that one, where two conditions hold.
+fn is_of_every_clause(raw: &Raw) -> bool {
+    are_calls(raw.calls.as_slice())
+        && raw.stream == PAYMENTS
         && matches!(&raw.filter, Some(Expr::And(_, _)))
+        && are_columns(raw.group.as_slice())
+        && raw.length == Some(LENGTH)
+        && raw.delay == Some(DELAY)
 }
 
-/// Whether a query has a key of two columns, and a window of 5 minutes with a delay of 10 milliseconds.
-fn is_keyed(raw: &Raw) -> bool {
-    let group = [span(95, 99), span(101, 105)];
-    let length = Duration {
-        number: span(119, 120),
-        unit: TimeUnit::Minute,
-    };
-    let delay = Duration {
-        number: span(140, 142),
-        unit: TimeUnit::Millisecond,
-    };
-    raw.group.as_slice() == group.as_slice()
-        && raw.length == Some(length)
-        && raw.delay == Some(delay)
-}
-
-#[test]
-fn a_query_of_every_clause_is_read(rt: HostRuntime) -> Result<(), Fail> {
-    let raw = read_syntax(rt.alloc(), EVERY_CLAUSE)?;
-    let is_read = is_asked(&raw) && is_keyed(&raw);
-    drop(raw);
-    assert!(rt; is_read);
-    Ok(())
-}
-
-#[test]
-fn a_text_goes_wrong_at_its_first_wrong_token(rt: HostRuntime) {
-    let table: [(&[u8], Option<usize>); 9] = [
-        (b"", Some(0)),
-        (b"SELECT count(*)", Some(15)),
-        (b"SELECT sum(*) FROM payments OVER INFINITE", Some(11)),
-        (
-            b"SELECT count(*) FROM p WHERE a = 'x OVER INFINITE",
-            Some(33),
-        ),
-        (
-            b"SELECT count(*) FROM p WHERE a = 1) OVER INFINITE",
-            Some(34),
-        ),
-        (b"SELECT count(*) FROM p OVER SLIDING -5 ms", Some(36)),
-        (
-            b"SELECT count(*) FROM p OVER INFINITE DELAYED 1 day",
-            Some(45),
-        ),
-        (b"SELECT count(*) FROM p OVER INFINITE ~", Some(37)),
-        // A query without a filter or a key.
-        (
-            b"SELECT count(*) FROM p OVER INFINITE DELAYED BY 1 day",
-            None,
-        ),
-    ];
-    for (text, place) in table {
-        assert!(rt; fault_of(rt.alloc(), text) == place.map(SyntaxFault::At));
+/// Whether that query is read.
+fn is_read(alloc: Global) -> bool {
+    match read_syntax(alloc, EVERY_CLAUSE) {
+        Ok(raw) => {
+            let is_so = is_of_every_clause(&raw);
+            drop(raw);
+            is_so
+        }
+        Err(_) => false,
     }
 }
 
-/// Why a text that ends in so many parentheses, so many of them closed, is no query.
-fn fault_of_nested(
-    alloc: Global,
-    opened: usize,
-    closed: usize,
-) -> Result<Option<SyntaxFault>, Fail> {
-    let mut text = Vec::from_slice(alloc, b"SELECT count(*) FROM p WHERE ")?;
-    for _ in 0..opened {
-        text.push(b'(')?;
+/// Whether a text is a query, or none for this cause.
+fn ends(alloc: Global, text: &[u8], want: Option<SyntaxFault>) -> bool {
+    match read_syntax(alloc, text) {
+        Ok(raw) => {
+            drop(raw);
+            want.is_none()
+        }
+        Err(fault) => want == Some(fault),
     }
-    text.extend_from_slice(b"a = 1")?;
-    for _ in 0..closed {
-        text.push(b')')?;
+}
+
+/// Whether the text of these parts is no query for this cause.
+fn ends_of(alloc: Global, parts: &[Times], fault: SyntaxFault) -> Result<bool, Memory> {
+    let mut text = Vec::new(alloc);
+    let put = put_parts(&mut text, parts);
+    let is_so = ends(alloc, &text, Some(fault));
+    drop(text);
+    put?;
+    Ok(is_so)
+}
+
+/// What a text is.
+#[derive(Clone, Copy)]
+enum Case {
+    /// The query of every clause is one.
+    EveryClause,
+    /// It is a query.
+    Read(&'static [u8]),
+    /// It is none, and goes wrong there.
+    Wrong(&'static [u8], usize),
+    /// Of these parts it is no query.
+    Nested(&'static [Times], SyntaxFault),
+}
+
+impl Row for Case {
+    fn is_so(&self, alloc: Global) -> Result<bool, Memory> {
+        match self {
+            Case::EveryClause => Ok(is_read(alloc)),
+            Case::Read(text) => Ok(ends(alloc, text, None)),
+            Case::Wrong(text, place) => Ok(ends(alloc, text, Some(SyntaxFault::At(*place)))),
+            Case::Nested(parts, fault) => ends_of(alloc, parts, *fault),
+        }
     }
-    Ok(fault_of(alloc, &text))
 }
 
 #[test]
-fn a_condition_nests_32_deep_and_no_deeper(rt: HostRuntime) -> Result<(), Fail> {
-    let deeper = fault_of_nested(rt.alloc(), 33, 33)?;
-    let open = fault_of_nested(rt.alloc(), 32, 31)?;
-    assert!(rt; deeper == Some(SyntaxFault::TooDeep) && open == Some(SyntaxFault::At(97)));
-    Ok(())
+fn a_query_is_read_or_goes_wrong_at_its_first_wrong_token(rt: HostRuntime) -> Result<(), Fail> {
+    assert_each(
+        &rt,
+        &[
+            Case::EveryClause,
+            // A query without a filter or a key.
+            Case::Read(b"SELECT count(*) FROM p OVER INFINITE DELAYED BY 1 day"),
+            Case::Wrong(b"", 0),
+            Case::Wrong(b"SELECT count(*)", 15),
+            Case::Wrong(b"SELECT sum(*) FROM payments OVER INFINITE", 11),
+            Case::Wrong(b"SELECT count(*) FROM p WHERE a = 'x OVER INFINITE", 33),
+            Case::Wrong(b"SELECT count(*) FROM p WHERE a = 1) OVER INFINITE", 34),
+            Case::Wrong(b"SELECT count(*) FROM p OVER SLIDING -5 ms", 36),
+            Case::Wrong(b"SELECT count(*) FROM p OVER INFINITE DELAYED 1 day", 45),
+            Case::Wrong(b"SELECT count(*) FROM p OVER INFINITE ~", 37),
+            // A condition nests 32 deep and no deeper.
+            Case::Nested(
+                &[
+                    Times(1, b"SELECT count(*) FROM p WHERE "),
+                    Times(33, b"("),
+                    Times(1, b"a = 1"),
+                    Times(33, b")"),
+                ],
+                SyntaxFault::TooDeep,
+            ),
+            Case::Nested(
+                &[
+                    Times(1, b"SELECT count(*) FROM p WHERE "),
+                    Times(32, b"("),
+                    Times(1, b"a = 1"),
+                    Times(31, b")"),
+                ],
+                SyntaxFault::At(97),
+            ),
+        ],
+    )
 }

@@ -1,29 +1,31 @@
-//! Tests of what a run says and of what it is started with: lines, replies, turns, the opening of a store,
-//! the real outside, listings and reports.
+//! Tests of what a run says and of what it is started with: rows, lines, openings of a store and of one whose log
+//! grows, runs and replays, the real outside, listings and reports.
 //!
 //! They call what these crates offer to all, and stand in a crate of their own, so that none of the crates
 //! below is proved once more for its tests. No program names this crate.
 #![tactic(auto)]
 
 #[cfg(test)]
-mod gathered;
+mod bytes;
 #[cfg(test)]
-mod listing;
+mod case;
 #[cfg(test)]
-mod open;
+mod growing;
+#[cfg(test)]
+mod line;
 #[cfg(test)]
 mod ordered;
 #[cfg(test)]
+mod payload;
+#[cfg(test)]
 mod real;
 #[cfg(test)]
-mod replayed;
-#[cfg(test)]
 mod replies;
-#[cfg(test)]
-mod reply;
 #[cfg(test)]
 mod report;
 #[cfg(test)]
 mod row;
 #[cfg(test)]
-mod turn;
+mod started;
+#[cfg(test)]
+mod store;

@@ -1,3 +1,5 @@
+use crate::case::{Case, assert_all};
+use rg_bytes::Memory;
 use rg_host::Host;
 use rg_real::{Access, FolderHost, Hold};
 use std::alloc::{Allocator, Global};
@@ -167,7 +169,7 @@ fn sync_all(files: &Noting, folder: &str) {
 }
 
 /// A copy of what was noted.
-fn text_of(alloc: Global, notes: &Notes) -> Result<String, Fail> {
+fn text_of(alloc: Global, notes: &Notes) -> Result<String, Memory> {
     match notes.try_borrow() {
         Ok(text) => Ok(String::from_str(alloc, text.as_str())?),
         Err(_) => Ok(String::new(alloc)),
@@ -175,7 +177,7 @@ fn text_of(alloc: Global, notes: &Notes) -> Result<String, Fail> {
 }
 
 /// What is noted then.
-fn notes_of(rt: HostRuntime, folder: &str) -> Result<String, Fail> {
+fn notes_of(rt: HostRuntime, folder: &str) -> Result<String, Memory> {
     let files = Noting {
         rt,
         notes: Rc::new(rt.alloc(), RefCell::new(String::new(rt.alloc())))?,
@@ -195,21 +197,45 @@ const NEW: &str =
 const THERE: &str =
     "make ordered/events\nhold ordered/events\nmake ordered/slot0\nmake ordered/slot1\nsync ordered/events\nsync ordered/.\nwrite ordered/events\nsync data ordered/events\nsync ordered/slot0\nsync ordered/.\n";
 
-/// Whether just this is asked.
-fn is_noted(rt: HostRuntime, wanted: &str) -> Result<bool, Fail> {
-    let notes = notes_of(rt, "ordered")?;
-    let is_noted = notes.as_str() == wanted;
-    drop(notes);
-    Ok(is_noted)
+/// What is asked then, once a file was removed, if one is.
+#[derive(Clone, Copy)]
+struct Asked {
+    removed: Option<&'static str>,
+    notes: &'static str,
 }
+
+fn remove(rt: &HostRuntime, path: Option<&str>) -> bool {
+    match path {
+        None => true,
+        Some(path) => std::fs::remove_file(rt, path).is_ok(),
+    }
+}
+
+impl Case for Asked {
+    fn holds(&self, rt: HostRuntime) -> Result<bool, Memory> {
+        let is_removed = remove(&rt, self.removed);
+        let notes = notes_of(rt, "ordered")?;
+        Ok(is_removed && notes.as_str() == self.notes)
+    }
+}
+
+const ALL_ASKED: &[Asked] = &[
+    Asked {
+        removed: None,
+        notes: NEW,
+    },
+    Asked {
+        removed: None,
+        notes: THERE,
+    },
+    // a folder without a log may be one whose name wasn't stored
+    Asked {
+        removed: Some("ordered/events"),
+        notes: NEW,
+    },
+];
 
 #[test]
 fn a_store_is_made_and_stored_in_order(rt: HostRuntime) -> Result<(), Fail> {
-    let is_made = is_noted(rt, NEW)?;
-    let is_found = is_noted(rt, THERE)?;
-    // a folder without a log may be one whose name wasn't stored
-    std::fs::remove_file(&rt, "ordered/events")?;
-    let is_stored = is_noted(rt, NEW)?;
-    assert!(rt; is_made && is_found && is_stored);
-    Ok(())
+    assert_all(&rt, rt, ALL_ASKED)
 }

@@ -1,9 +1,12 @@
 ghost use Rattle.std.specs.Prelude.{◌<◌};
 
+use crate::case::{Case, assert_all};
+use rg_bytes::Memory;
 use rg_host::{Failed, Host, Source};
 use rg_real::{Access, FileSource, FolderHost, ReaderSource};
 use std::io::{Read, Write};
 use std::os::unix::fs::symlink;
+use std::rt::Files;
 use std::test::Fail;
 use std::{fs, io};
 
@@ -49,236 +52,432 @@ fn number_of(error: Option<io::Error>) -> Option<i32> {
     }
 }
 
-/// Whether three bytes are read two at a time, and then their end.
-fn reads_all(source: &mut ReaderSource<&[u8]>) -> bool {
-    let mut buf = [0; 2];
-    let first = source.read(&mut buf) == Ok(2) && buf == *b"ab";
-    let second = source.read(&mut buf) == Ok(1) && buf[0] == b'c';
-    let end = source.read(&mut buf) == Ok(0) && number_of(source.error()).is_none();
-    first && second && end
+/// A source that tells why a read failed.
+trait Telling: Source {
+    /// The number of the system's error of the last read that failed.
+    fn number(&self) -> Option<i32>;
 }
 
-#[test]
-fn a_reader_gives_its_bytes_and_then_its_end(rt: HostRuntime) {
-    let mut source = ReaderSource::new(b"abc".as_slice());
-    let are_read = reads_all(&mut source);
-    drop(source);
-    assert!(rt; are_read);
-}
-
-/// Whether the second one of three reads fails, and alone, and is told.
-fn fails_to_read_once(source: &mut ReaderSource<FailsOnce>) -> bool {
-    let mut buf = [0; 2];
-    let first = source.read(&mut buf) == Ok(1);
-    let second = source.read(&mut buf) == Err(Failed) && number_of(source.error()) == Some(5);
-    let third = source.read(&mut buf) == Ok(1);
-    first && second && third
-}
-
-#[test]
-fn a_read_that_fails_is_a_failure(rt: HostRuntime) {
-    let mut source = ReaderSource::new(FailsOnce { calls: 0 });
-    let does_fail = fails_to_read_once(&mut source);
-    drop(source);
-    assert!(rt; does_fail);
-}
-
-/// Whether the second one of three puts fails, and alone, and is told.
-fn fails_to_put_once(host: &mut FolderHost<'_, HostRuntime, FailsOnce>) -> bool {
-    let first = host.put(b"ab") == Ok(1);
-    let second = host.put(b"b") == Err(Failed) && number_of(host.error()) == Some(5);
-    let third = host.put(b"b") == Ok(1);
-    first && second && third
-}
-
-#[test]
-fn a_write_that_fails_is_a_failure(rt: HostRuntime) {
-    let mut host = over(&rt, "no such folder", Access::Read);
-    assert!(rt; fails_to_put_once(&mut host));
-}
-
-/// Whether a read fails, since the file is missing.
-fn is_missing(source: &mut FileSource<'_, HostRuntime>) -> bool {
-    let mut buf = [0; 2];
-    source.read(&mut buf) == Err(Failed) && number_of(source.error()) == Some(2)
-}
-
-#[test]
-fn a_file_that_is_missing_fails(rt: HostRuntime) {
-    let mut source = FileSource::new(&rt, "no such file");
-    let does_fail = is_missing(&mut source);
-    drop(source);
-    assert!(rt; does_fail);
-}
-
-/// A host over a folder that is to be written or read, which puts nothing.
-fn over<'a>(
-    rt: &'a HostRuntime,
-    folder: &'a str,
-    access: Access,
-) -> FolderHost<'a, HostRuntime, FailsOnce> {
-    FolderHost::new(rt, rt.alloc(), folder, access, FailsOnce { calls: 0 })
-}
-
-/// Writes these bytes at this place of the events, and syncs them.
-fn write_synced(
-    host: &mut FolderHost<'_, HostRuntime, FailsOnce>,
-    at: u64,
-    bytes: &[u8],
-) -> Result<(), Failed> {
-    host.write_at(2, at, bytes)?;
-    host.sync(2)
-}
-
-/// Whether a new log is written, and read again by its writer.
-fn writes_back(host: &mut FolderHost<'_, HostRuntime, FailsOnce>) -> Result<bool, Failed> {
-    let mut buf = [0; 4];
-    let was_empty = host.len(2) == Ok(0);
-    write_synced(host, 0, b"abc")?;
-    write_synced(host, 1, b"xyz")?;
-    let is_back = host.read_at(2, 1, &mut buf) == Ok(3) && buf == *b"xyz\0";
-    Ok(was_empty && is_back)
-}
-
-/// Whether a reader finds that.
-fn reads_written(rt: &HostRuntime) -> bool {
-    let mut reader = over(rt, "written", Access::Read);
-    let mut buf = [0; 4];
-    let has_all = reader.len(2) == Ok(4) && reader.len(0) == Ok(0);
-    let is_read = reader.read_at(2, 0, &mut buf) == Ok(4) && buf == *b"axyz";
-    has_all && is_read
-}
-
-#[test]
-fn what_is_written_is_read_again(rt: HostRuntime) -> Result<(), Failed> {
-    let mut host = over(&rt, "written", Access::Write);
-    let is_back = writes_back(&mut host);
-    let is_read = reads_written(&rt);
-    assert!(rt; is_back? && is_read);
-    Ok(())
-}
-
-/// Whether a log of three bytes is read as a file, up to its end.
-fn reads_file(rt: &HostRuntime) -> bool {
-    let mut source = FileSource::new(rt, "given/events");
-    let mut buf = [0; 4];
-    let all = source.read(&mut buf) == Ok(3) && buf == *b"abc\0";
-    let end = source.read(&mut buf) == Ok(0) && number_of(source.error()).is_none();
-    drop(source);
-    all && end
-}
-
-#[test]
-fn a_file_gives_its_bytes_and_then_its_end(rt: HostRuntime) -> Result<(), Failed> {
-    let mut host = over(&rt, "given", Access::Write);
-    let done = write_synced(&mut host, 0, b"abc");
-    let is_read = reads_file(&rt);
-    done?;
-    assert!(rt; is_read);
-    Ok(())
-}
-
-/// Whether a folder that is missing reads as empty, and takes nothing, which is told.
-fn takes_nothing(host: &mut FolderHost<'_, HostRuntime, FailsOnce>) -> bool {
-    let mut buf = [0; 2];
-    let is_empty = host.len(2) == Ok(0) && host.read_at(2, 0, &mut buf) == Ok(0);
-    let fails = host.write_at(2, 0, b"a") == Err(Failed) && host.sync(2) == Err(Failed);
-    is_empty && fails && host.disk_error().is_some()
-}
-
-#[test]
-fn a_reader_writes_and_makes_nothing(rt: HostRuntime) {
-    let mut host = over(&rt, "unmade", Access::Read);
-    let takes_nothing = takes_nothing(&mut host);
-    assert!(rt; takes_nothing && fs::exists(&rt, "unmade").ok() == Some(false));
-}
-
-/// What a host that would write this folder gives for its log's length.
-fn length_in(rt: &HostRuntime, folder: &str) -> Result<u64, Failed> {
-    let mut host = over(rt, folder, Access::Write);
-    host.len(2)
-}
-
-/// The same while another host has the folder.
-fn length_beside(rt: &HostRuntime, folder: &str) -> Result<Result<u64, Failed>, Failed> {
-    let mut host = over(rt, folder, Access::Write);
-    let done = host.sync(0);
-    let length = length_in(rt, folder);
-    done?;
-    Ok(length)
-}
-
-#[test]
-fn a_store_is_written_by_one_host_at_a_time(rt: HostRuntime) -> Result<(), Failed> {
-    let beside = length_beside(&rt, "held")?;
-    let behind = length_in(&rt, "held");
-    assert_eq!(rt; (beside, behind), (Err(Failed), Ok(0)));
-    Ok(())
-}
-
-/// Whether a write past the greatest place fails, and leaves the log.
-fn fails_past_all(host: &mut FolderHost<'_, HostRuntime, FailsOnce>) -> bool {
-    host.write_at(2, 1 << 62, b"a") == Err(Failed) && host.len(2) == Ok(0)
-}
-
-#[test]
-fn a_write_past_the_greatest_place_fails(rt: HostRuntime) {
-    let mut host = over(&rt, "long", Access::Write);
-    assert!(rt; fails_past_all(&mut host));
-}
-
-/// Whether each call on this file fails for a reader.
-fn refuses_reads(reader: &mut FolderHost<'_, HostRuntime, FailsOnce>, file: u32) -> bool
-    requires { file < 8 }
-{
-    let mut buf = [0; 2];
-    reader.len(file) == Err(Failed) && reader.read_at(file, 0, &mut buf) == Err(Failed)
-}
-
-/// Whether each call on this file fails for a writer.
-fn refuses_writes(writer: &mut FolderHost<'_, HostRuntime, FailsOnce>, file: u32) -> bool
-    requires { file < 8 }
-{
-    writer.write_at(file, 0, b"a") == Err(Failed) && writer.sync(file) == Err(Failed)
-}
-
-/// Whether each call on this file of this folder fails for a reader and for a writer, and is told.
-fn is_refused(rt: &HostRuntime, folder: &str, file: u32) -> bool
-    requires { file < 8 }
-{
-    let mut reader = over(rt, folder, Access::Read);
-    let mut writer = over(rt, folder, Access::Write);
-    let unread = refuses_reads(&mut reader, file) && reader.disk_error().is_some();
-    let unwritten = refuses_writes(&mut writer, file) && writer.disk_error().is_some();
-    unread && unwritten
-}
-
-/// Makes folders with a link to a file, one to nothing, a file with two names, and a folder in place of a file.
-fn make_odd(rt: &HostRuntime) -> io::Result<()> {
-    for folder in &["linked", "twice", "odd"] {
-        fs::create_dir(rt, folder)?;
+impl<R: Read + Drop> Telling for ReaderSource<R> {
+    fn number(&self) -> Option<i32> {
+        number_of(self.error())
     }
-    fs::write(rt, "linked/other", b"abc".as_slice())?;
-    symlink(rt, "other", "linked/slot0")?;
-    symlink(rt, "nowhere", "linked/slot1")?;
-    fs::write(rt, "twice/events", b"abc".as_slice())?;
-    fs::hard_link(rt, "twice/events", "twice/slot1")?;
-    fs::create_dir(rt, "odd/events")
 }
 
-/// Whether each of those is refused.
-fn are_refused(rt: &HostRuntime) -> bool {
-    let links = is_refused(rt, "linked", 0) && is_refused(rt, "linked", 1);
-    let names = is_refused(rt, "twice", 1) && is_refused(rt, "twice", 2);
-    links && names && is_refused(rt, "odd", 2)
+impl<R: Files> Telling for FileSource<'_, R> {
+    fn number(&self) -> Option<i32> {
+        number_of(self.error())
+    }
 }
+
+/// A read into four bytes of which two or all are lent, what it answers, what they then are, and the number of the error of the last
+/// read that failed.
+#[derive(Clone, Copy)]
+struct Given {
+    is_wide: bool,
+    count: Result<usize, Failed>,
+    bytes: &'static [u8],
+    number: Option<i32>,
+}
+
+/// Four bytes into which none was read.
+const NONE: &[u8] = &[0; 4];
+
+/// The end.
+const END: Given = Given {
+    is_wide: false,
+    count: Ok(0),
+    bytes: NONE,
+    number: None,
+};
+
+fn is_given(source: &mut impl Telling, given: &Given) -> bool {
+    let mut buf = [0; 4];
+    let count = if given.is_wide {
+        source.read(&mut buf)
+    } else {
+        source.read(&mut buf[..2])
+    };
+    count == given.count && buf.as_slice() == given.bytes && source.number() == given.number
+}
+
+fn all_are_given(source: &mut impl Telling, all: &[Given]) -> bool {
+    for given in all {
+        if !is_given(source, given) {
+            return false;
+        }
+    }
+    true
+}
+
+/// Whether a source gives all of these, one after the other.
+fn gives<S: Telling + Drop>(mut source: S, all: &[Given]) -> bool {
+    let are_given = all_are_given(&mut source, all);
+    drop(source);
+    are_given
+}
+
+/// A call on a host over a folder, and what it answers.
+#[derive(Clone, Copy)]
+enum Call {
+    Length(u32, Result<u64, Failed>),
+    /// A read into four bytes of the file, from the place on, and what they then are.
+    Read(u32, u64, Result<usize, Failed>, &'static [u8]),
+    Write(u32, u64, &'static [u8], Result<(), Failed>),
+    Sync(u32, Result<(), Failed>),
+    /// And the number of the error of the last put that failed.
+    Put(&'static [u8], Result<usize, Failed>, Option<i32>),
+    /// A call on a file has failed.
+    HasFailed,
+}
+
+/// A host over a folder, whose output fails once.
+type Folder<'a> = FolderHost<'a, HostRuntime, FailsOnce>;
+
+fn reads(
+    host: &mut Folder<'_>,
+    file: u32,
+    at: u64,
+    count: Result<usize, Failed>,
+    bytes: &[u8],
+) -> bool
+    requires { file < 8 }
+{
+    let mut buf = [0; 4];
+    host.read_at(file, at, &mut buf) == count && buf.as_slice() == bytes
+}
+
+fn answers(host: &mut Folder<'_>, call: &Call) -> bool {
+    match *call {
+        Call::Length(file, wanted) => file < 8 && host.len(file) == wanted,
+        Call::Read(file, at, count, bytes) => file < 8 && reads(host, file, at, count, bytes),
+        Call::Write(file, at, bytes, wanted) => {
+            file < 8 && host.write_at(file, at, bytes) == wanted
+        }
+        Call::Sync(file, wanted) => file < 8 && host.sync(file) == wanted,
+        Call::Put(bytes, wanted, number) => {
+            host.put(bytes) == wanted && number_of(host.error()) == number
+        }
+        Call::HasFailed => host.disk_error().is_some(),
+    }
+}
+
+fn answers_all(host: &mut Folder<'_>, calls: &[Call]) -> bool {
+    for call in calls {
+        if !answers(host, call) {
+            return false;
+        }
+    }
+    true
+}
+
+/// A change to the folder that a test runs in.
+#[derive(Clone, Copy)]
+enum Change {
+    /// A folder is made.
+    Make(&'static str),
+    /// A file is written.
+    Fill(&'static str, &'static [u8]),
+    /// A link to the first is made.
+    Link(&'static str, &'static str),
+    /// The first gets a second name.
+    Name(&'static str, &'static str),
+    /// A name is removed.
+    Remove(&'static str),
+}
+
+fn make(rt: &HostRuntime, change: Change) -> io::Result<()> {
+    match change {
+        Change::Make(path) => fs::create_dir(rt, path),
+        Change::Fill(path, bytes) => fs::write(rt, path, bytes),
+        Change::Link(to, path) => symlink(rt, to, path),
+        Change::Name(first, path) => fs::hard_link(rt, first, path),
+        Change::Remove(path) => fs::remove_file(rt, path),
+    }
+}
+
+/// What is looked at.
+#[derive(Clone, Copy)]
+enum Look {
+    Nothing,
+    /// What a reader of bytes in memory gives.
+    Bytes(&'static [u8], &'static [Given]),
+    /// What a reader that fails once gives.
+    Failing(&'static [Given]),
+    /// What a file gives.
+    File(&'static str, &'static [Given]),
+    /// What a host over a folder answers.
+    Host(&'static str, Access, &'static [Call]),
+    /// That there is no such folder.
+    Missing(&'static str),
+    /// That a change is made.
+    Changed(Change),
+}
+
+/// Whether a host over a folder answers all of these, one after the other.
+fn visits(rt: &HostRuntime, folder: &str, access: Access, calls: &[Call]) -> bool {
+    let mut host = FolderHost::new(rt, rt.alloc(), folder, access, FailsOnce { calls: 0 });
+    answers_all(&mut host, calls)
+}
+
+fn is_seen(rt: &HostRuntime, look: Look) -> bool {
+    match look {
+        Look::Nothing => true,
+        Look::Bytes(bytes, all) => gives(ReaderSource::new(bytes), all),
+        Look::Failing(all) => gives(ReaderSource::new(FailsOnce { calls: 0 }), all),
+        Look::File(path, all) => gives(FileSource::new(rt, path), all),
+        Look::Host(folder, access, calls) => visits(rt, folder, access, calls),
+        Look::Missing(path) => fs::exists(rt, path).ok() == Some(false),
+        Look::Changed(change) => make(rt, change).is_ok(),
+    }
+}
+
+/// Calls on a host over a folder that is to be written, which is not made where there are none, and what is seen while the host is there.
+#[derive(Clone, Copy)]
+struct Step {
+    folder: &'static str,
+    calls: &'static [Call],
+    look: Look,
+}
+
+const STEP: Step = Step {
+    folder: "none",
+    calls: &[],
+    look: Look::Nothing,
+};
+
+impl Case for Step {
+    fn holds(&self, rt: HostRuntime) -> Result<bool, Memory> {
+        let writer = FailsOnce { calls: 0 };
+        let mut host = FolderHost::new(&rt, rt.alloc(), self.folder, Access::Write, writer);
+        let answers = answers_all(&mut host, self.calls);
+        let is_seen = is_seen(&rt, self.look);
+        Ok(answers && is_seen)
+    }
+}
+
+const SOURCES: &[Step] = &[
+    // three bytes, two at a time, and then their end
+    Step {
+        look: Look::Bytes(
+            b"abc",
+            &[
+                Given {
+                    count: Ok(2),
+                    bytes: b"ab\0\0",
+                    ..END
+                },
+                Given {
+                    count: Ok(1),
+                    bytes: b"c\0\0\0",
+                    ..END
+                },
+                END,
+            ],
+        ),
+        ..STEP
+    },
+    // the second one of three reads fails, and alone
+    Step {
+        look: Look::Failing(&[
+            Given {
+                count: Ok(1),
+                ..END
+            },
+            Given {
+                count: Err(Failed),
+                number: Some(5),
+                ..END
+            },
+            Given {
+                count: Ok(1),
+                number: Some(5),
+                ..END
+            },
+        ]),
+        ..STEP
+    },
+    // a file that is missing fails
+    Step {
+        look: Look::File(
+            "no such file",
+            &[Given {
+                count: Err(Failed),
+                number: Some(2),
+                ..END
+            }],
+        ),
+        ..STEP
+    },
+    // a log of three bytes is read as a file, up to its end
+    Step {
+        folder: "given",
+        calls: &[Call::Write(2, 0, b"abc", Ok(())), Call::Sync(2, Ok(()))],
+        look: Look::File(
+            "given/events",
+            &[
+                Given {
+                    is_wide: true,
+                    count: Ok(3),
+                    bytes: b"abc\0",
+                    ..END
+                },
+                Given {
+                    is_wide: true,
+                    ..END
+                },
+            ],
+        ),
+    },
+];
+
+#[test]
+fn a_source_gives_its_bytes_and_then_its_end_or_a_failure(rt: HostRuntime) -> Result<(), Fail> {
+    assert_all(&rt, rt, SOURCES)
+}
+
+const HOSTS: &[Step] = &[
+    // the second one of three puts fails, and alone, and is told
+    Step {
+        look: Look::Host(
+            "no such folder",
+            Access::Read,
+            &[
+                Call::Put(b"ab", Ok(1), None),
+                Call::Put(b"b", Err(Failed), Some(5)),
+                Call::Put(b"b", Ok(1), Some(5)),
+            ],
+        ),
+        ..STEP
+    },
+    // what is written is read again by its writer, and by another
+    Step {
+        folder: "written",
+        calls: &[
+            Call::Length(2, Ok(0)),
+            Call::Write(2, 0, b"abc", Ok(())),
+            Call::Sync(2, Ok(())),
+            Call::Write(2, 1, b"xyz", Ok(())),
+            Call::Sync(2, Ok(())),
+            Call::Read(2, 1, Ok(3), b"xyz\0"),
+        ],
+        look: Look::Host(
+            "written",
+            Access::Read,
+            &[
+                Call::Length(2, Ok(4)),
+                Call::Length(0, Ok(0)),
+                Call::Read(2, 0, Ok(4), b"axyz"),
+            ],
+        ),
+    },
+    // a folder that is missing reads as empty, and takes nothing, which is told, and isn't made by a reader
+    Step {
+        look: Look::Host(
+            "unmade",
+            Access::Read,
+            &[
+                Call::Length(2, Ok(0)),
+                Call::Read(2, 0, Ok(0), NONE),
+                Call::Write(2, 0, b"a", Err(Failed)),
+                Call::Sync(2, Err(Failed)),
+                Call::HasFailed,
+            ],
+        ),
+        ..STEP
+    },
+    Step {
+        look: Look::Missing("unmade"),
+        ..STEP
+    },
+    // a store is written by one host at a time
+    Step {
+        folder: "held",
+        calls: &[Call::Sync(0, Ok(()))],
+        look: Look::Host("held", Access::Write, &[Call::Length(2, Err(Failed))]),
+    },
+    Step {
+        folder: "held",
+        calls: &[Call::Length(2, Ok(0))],
+        ..STEP
+    },
+    // a write past the greatest place fails, and leaves the log
+    Step {
+        folder: "long",
+        calls: &[
+            Call::Write(2, 1 << 62, b"a", Err(Failed)),
+            Call::Length(2, Ok(0)),
+        ],
+        ..STEP
+    },
+];
+
+#[test]
+fn a_host_over_a_folder_answers_and_fails_as_the_system_does(rt: HostRuntime) -> Result<(), Fail> {
+    assert_all(&rt, rt, HOSTS)
+}
+
+/// Each call on this file of this folder fails for a writer and for a reader, and is told.
+macro_rules! refused {
+    ($folder:literal, $file:literal) => {
+        Step {
+            folder: $folder,
+            calls: &[
+                Call::Write($file, 0, b"a", Err(Failed)),
+                Call::Sync($file, Err(Failed)),
+                Call::HasFailed,
+            ],
+            look: Look::Host(
+                $folder,
+                Access::Read,
+                &[
+                    Call::Length($file, Err(Failed)),
+                    Call::Read($file, 0, Err(Failed), NONE),
+                    Call::HasFailed,
+                ],
+            ),
+        }
+    };
+}
+
+/// A change that is made.
+macro_rules! changed {
+    ($change:expr) => {
+        Step {
+            look: Look::Changed($change),
+            ..STEP
+        }
+    };
+}
+
+const ODD_FILES: &[Step] = &[
+    // a link to a file, and one to nothing
+    changed!(Change::Make("linked")),
+    changed!(Change::Fill("linked/other", b"abc")),
+    changed!(Change::Link("other", "linked/slot0")),
+    changed!(Change::Link("nowhere", "linked/slot1")),
+    // a file with two names
+    changed!(Change::Make("twice")),
+    changed!(Change::Fill("twice/events", b"abc")),
+    changed!(Change::Name("twice/events", "twice/slot1")),
+    // a folder in place of a file
+    changed!(Change::Make("odd")),
+    changed!(Change::Make("odd/events")),
+    refused!("linked", 0),
+    refused!("linked", 1),
+    refused!("twice", 1),
+    refused!("twice", 2),
+    refused!("odd", 2),
+    // nothing was written, and with one name the file is taken
+    changed!(Change::Remove("twice/slot1")),
+    Step {
+        folder: "twice",
+        calls: &[Call::Length(2, Ok(3))],
+        ..STEP
+    },
+];
 
 #[test]
 fn what_is_no_plain_file_with_one_name_is_refused(rt: HostRuntime) -> Result<(), Fail> {
-    make_odd(&rt)?;
-    let are_refused = are_refused(&rt);
-    // nothing was written, and with one name the file is taken
-    fs::remove_file(&rt, "twice/slot1")?;
-    assert!(rt; are_refused && length_in(&rt, "twice") == Ok(3));
-    Ok(())
+    assert_all(&rt, rt, ODD_FILES)
 }

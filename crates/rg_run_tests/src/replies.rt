@@ -1,305 +1,362 @@
-ghost use Rattle.std.specs.Prelude.{◌≡◌, ◌==◌, ◌<◌, ◌≤◌, IfOk};
-ghost use Rattle.std.specs.List.{list_any};
-ghost use Rattle.rg_config.specs.Read.{IsReadPlan};
+ghost use Rattle.std.specs.Prelude.{◌<◌, ◌≤◌};
 
+use crate::case::{Case, assert_all};
+use crate::line::add;
+use crate::row::event_of;
+use crate::started::{Call, answers_by, plan_of};
+use crate::store::{EMPTY, host_of};
 use rg_bytes::{Memory, put_bytes};
-use rg_config::{Plan, read_plan};
-use rg_event::{Event, Steps};
-use rg_host::{Image, MemHost, MemSource};
-use rg_recover::run;
-use rg_reply::{Reply, write_reply};
-use rg_row::read_row;
+use rg_config::Plan;
+use rg_event::Event;
+use rg_host::MemHost;
+use rg_reply::Reply;
 use rg_scratch::{answer_from_scratch, make_line};
 use std::alloc::Global;
-use std::marker::Brand;
-use std::process::Abort;
 use std::str;
-use std::sync::ledger::{Blank, Ledger};
 use std::test::Fail;
 
-/// How many lines are made, and of which seed.
-const LINES: u64 = 300;
+/// The plan of queries over the lines that are made, with settings of how much is kept.
+macro_rules! asked {
+    ($queries:literal, $settings:literal) => {
+        concat!(
+            "queries = [",
+            $queries,
+            "]\n[stream]\nname = \"payments\"\ncolumns = [\"ts\", \"card:text\", \"merchant:text\", \"amount:int\", \"shop:id\", \"online:flag\"]\n[settings]\n",
+            $settings
+        )
+    };
+}
 
+/// The same with small settings, by which chunks are read back and checkpoints saved.
+macro_rules! small {
+    ($queries:literal) => {
+        asked!($queries, "cache = 1\nchunk = 2\ncommit = 3\nsave = 5\n")
+    };
+}
+
+// Each function over a short window and a long one, without and with a key, and where nothing counts; conditions with
+// AND, OR and NOT; delays shorter and longer than their windows; windows without end; queries that share windows,
+// conditions and keys. Many lines are just 3758, 9739, 11618, 65727, 76906 or 153812 ms apart.
+
+const EACH: &str = small!(
+    "\"SELECT count(*), sum(amount), avg(amount), sumsq(amount), first(amount), last(amount), min(amount), max(amount), countDistinct(merchant) FROM payments OVER SLIDING 9739 ms\""
+);
+
+const CONDITIONS: &str = small!(
+    "\"SELECT count(*), sum(amount), avg(amount), sumsq(amount), first(amount), last(amount), min(amount), max(amount), countDistinct(merchant) FROM payments WHERE amount >= 2000 AND NOT (merchant < 'm5' OR shop = 2) GROUP BY card OVER SLIDING 76906 ms\", \"SELECT min(amount), max(amount), avg(amount), count(*) FROM payments WHERE amount < 3000 OR amount > 7000 AND online = FALSE OVER SLIDING 7860 ms DELAYED BY 3758 ms\""
+);
+
+const WITHOUT_END: &str = small!(
+    "\"SELECT count(*), sum(amount), last(amount), countDistinct(amount) FROM payments GROUP BY card, shop OVER INFINITE\", \"SELECT min(amount), max(amount), first(amount), last(amount) FROM payments GROUP BY shop, online OVER INFINITE DELAYED BY 3758 ms\""
+);
+
+const WORDS: &str = small!(
+    "\"SELECT min(shop), max(shop), first(shop), last(shop), countDistinct(shop), countDistinct(online), countDistinct(card) FROM payments WHERE NOT (online = TRUE AND amount > 5000) GROUP BY merchant OVER SLIDING 65727 ms\", \"SELECT min(shop), max(shop), countDistinct(merchant) FROM payments WHERE shop != 1 OVER SLIDING 5637 ms DELAYED BY 1 minute\""
+);
+
+const SHARED: &str = asked!(
+    "\"SELECT count(*), sum(amount) FROM payments GROUP BY card OVER SLIDING 76906 ms\", \"SELECT count(*), max(amount) FROM payments WHERE amount > 5000 GROUP BY card OVER SLIDING 76906 ms DELAYED BY 76906 ms\", \"SELECT avg(amount), countDistinct(card) FROM payments WHERE amount > 5000 OVER SLIDING 76906 ms\", \"SELECT sum(amount), first(amount) FROM payments OVER SLIDING 153812 ms\"",
+    "cache = 3\nchunk = 7\ncommit = 10\nsave = 40\n"
+);
+
+const SHORT: &str = asked!(
+    "\"SELECT count(*), sumsq(amount), countDistinct(merchant) FROM payments WHERE card >= 'c2' GROUP BY online, shop OVER SLIDING 1 day\", \"SELECT last(amount), min(amount), count(*) FROM payments WHERE amount <= 5000 OVER SLIDING 1 ms\"",
+    ""
+);
+
+/// The plan of the run that stores what is replayed.
+const STORING: &str = small!("\"SELECT count(*) FROM payments OVER SLIDING 1 ms\"");
+
+/// Of which seed the lines are made, how many, and how many of them the first run has.
 const SEED: u64 = 7;
 
-/// What is asked of the lines, and how much is kept.
-#[derive(Clone, Copy)]
-pub(super) struct Case<'a> {
-    /// The queries, each in quotes.
-    pub(super) queries: &'a str,
-    pub(super) settings: &'a str,
-}
+const LINES: u64 = 300;
 
-/// Small settings, by which chunks are read back and checkpoints saved.
-pub(super) const SMALL: &str = "cache = 1\nchunk = 2\ncommit = 3\nsave = 5\n";
-
-/// Each function over a short window and a long one, without and with a key, and where nothing counts;
-/// conditions with AND, OR and NOT; delays shorter and longer than their windows; windows without end;
-/// queries that share windows, conditions and keys. Many lines are just 3758, 9739, 11618, 65727, 76906
-/// or 153812 ms apart.
-pub(super) const CASES: [Case<'static>; 6] = [
-    Case {
-        queries: "\"SELECT count(*), sum(amount), avg(amount), sumsq(amount), first(amount), last(amount), min(amount), max(amount), countDistinct(merchant) FROM payments OVER SLIDING 9739 ms\"",
-        settings: SMALL,
-    },
-    Case {
-        queries: "\"SELECT count(*), sum(amount), avg(amount), sumsq(amount), first(amount), last(amount), min(amount), max(amount), countDistinct(merchant) FROM payments WHERE amount >= 2000 AND NOT (merchant < 'm5' OR shop = 2) GROUP BY card OVER SLIDING 76906 ms\", \"SELECT min(amount), max(amount), avg(amount), count(*) FROM payments WHERE amount < 3000 OR amount > 7000 AND online = FALSE OVER SLIDING 7860 ms DELAYED BY 3758 ms\"",
-        settings: SMALL,
-    },
-    Case {
-        queries: "\"SELECT count(*), sum(amount), last(amount), countDistinct(amount) FROM payments GROUP BY card, shop OVER INFINITE\", \"SELECT min(amount), max(amount), first(amount), last(amount) FROM payments GROUP BY shop, online OVER INFINITE DELAYED BY 3758 ms\"",
-        settings: SMALL,
-    },
-    Case {
-        queries: "\"SELECT min(shop), max(shop), first(shop), last(shop), countDistinct(shop), countDistinct(online), countDistinct(card) FROM payments WHERE NOT (online = TRUE AND amount > 5000) GROUP BY merchant OVER SLIDING 65727 ms\", \"SELECT min(shop), max(shop), countDistinct(merchant) FROM payments WHERE shop != 1 OVER SLIDING 5637 ms DELAYED BY 1 minute\"",
-        settings: SMALL,
-    },
-    Case {
-        queries: "\"SELECT count(*), sum(amount) FROM payments GROUP BY card OVER SLIDING 76906 ms\", \"SELECT count(*), max(amount) FROM payments WHERE amount > 5000 GROUP BY card OVER SLIDING 76906 ms DELAYED BY 76906 ms\", \"SELECT avg(amount), countDistinct(card) FROM payments WHERE amount > 5000 OVER SLIDING 76906 ms\", \"SELECT sum(amount), first(amount) FROM payments OVER SLIDING 153812 ms\"",
-        settings: "cache = 3\nchunk = 7\ncommit = 10\nsave = 40\n",
-    },
-    Case {
-        queries: "\"SELECT count(*), sumsq(amount), countDistinct(merchant) FROM payments WHERE card >= 'c2' GROUP BY online, shop OVER SLIDING 1 day\", \"SELECT last(amount), min(amount), count(*) FROM payments WHERE amount <= 5000 OVER SLIDING 1 ms\"",
-        settings: "",
-    },
-];
-
-/// The plan of a case.
-pub(super) fn plan_of(alloc: Global, case: Case<'_>) -> Result<Plan, Fail>
-    ensures { IfOk result IsReadPlan }
-{
-    let Case { queries, settings } = case;
-    let text = format!(in alloc;
-        "queries = [{queries}]\n[stream]\nname = \"payments\"\ncolumns = [\"ts\", \"card:text\", \"merchant:text\", \"amount:int\", \"shop:id\", \"online:flag\"]\n[settings]\n{settings}"
-    )?;
-    match read_plan(alloc, text.as_bytes()) {
-        Ok(plan) => Ok(plan),
-        Err(fault) => Err(Fail::from(fault)),
-    }
-}
+const FIRST_LINES: u64 = 150;
 
 /// Adds a made line, with one of three shops and a flag behind it.
-fn add_line(alloc: Global, input: &mut Vec<u8>, i: u64) -> Result<(), Fail>
+fn add_line(input: &mut Vec<u8>, i: u64) -> Result<(), Memory>
     requires { i < 200000 }
 {
     make_line(SEED, i, input)?;
-    let shop = i / 2 % 3;
-    let online = i % 5 < 2;
-    let more = format!(in alloc; ",{shop},{online}\n")?;
-    put_bytes(input, more.as_bytes())?;
+    let shop: &[u8] = match i / 2 % 3 {
+        0 => b",0",
+        1 => b",1",
+        _ => b",2",
+    };
+    put_bytes(input, shop)?;
+    let online: &[u8] = if i % 5 < 2 { b",true\n" } else { b",false\n" };
+    put_bytes(input, online)
+}
+
+/// Adds the lines from one up to another.
+fn add_lines(input: &mut Vec<u8>, from: u64, to: u64) -> Result<(), Memory>
+    requires { to ≤ 200000 }
+{
+    for i in from..to {
+        add_line(input, i)?;
+    }
     Ok(())
 }
 
-/// The first of those lines.
-pub(super) fn first_lines(alloc: Global, lines: u64) -> Result<String, Fail>
-    requires { lines ≤ 200000 }
-{
-    let mut input = Vec::new(alloc);
-    for i in 0..lines {
-        add_line(alloc, &mut input, i)?;
-    }
-    Ok(String::from_utf8(input)?)
-}
-
-fn has_lf(line: &[u8]) -> bool
-    ensures { result ≡ list_any (λ byte. byte == 10) line.now }
-{
-    line.iter().any(|byte| *byte == 10)
-}
-
-/// The event of a line without LF.
-fn event_of(alloc: Global, plan: &Plan, offset: u64, line: &[u8]) -> Result<Event, Fail> {
-    if has_lf(line) {
-        return Err(Fail::from(Memory));
-    }
-    match read_row(alloc, &plan.schema, offset, line) {
-        Ok(event) => Ok(event),
-        Err(fault) => Err(Fail::from(fault)),
-    }
-}
-
-/// The reply to the last of some events, each aggregator by a walk over all of them.
-fn reply_from_scratch(alloc: Global, plan: &Plan, events: &[Event]) -> Result<Reply, Fail> {
-    if events.is_empty() || events.len() > 1000 {
-        return Err(Fail::from(Memory));
-    }
-    let last = events.len() as u64 - 1;
-    Ok(Reply::Answered(answer_from_scratch(alloc, &plan.task, events, last)?))
-}
-
-/// Adds the event of a line to those before it, and the line of the reply to it.
+/// Adds the line of the reply to the last of some events, each aggregator by a walk over all of them.
 fn add_reply(
     alloc: Global,
     plan: &Plan,
-    line: &str,
+    events: &[Event],
+    replies: &mut Vec<u8>,
+) -> Result<(), Memory> {
+    if events.is_empty() || events.len() > 1000 {
+        return Err(Memory);
+    }
+    let last = events.len() as u64 - 1;
+    let answers = answer_from_scratch(alloc, &plan.task, events, last)?;
+    add(replies, last, Reply::Answered(answers))
+}
+
+/// Adds the event of a line to those before it, and the line of the reply to it.
+fn take_line(
+    alloc: Global,
+    plan: &Plan,
+    line: &[u8],
     events: &mut Vec<Event>,
     replies: &mut Vec<u8>,
-) -> Result<(), Fail> {
-    let offset = events.len() as u64;
-    let event = event_of(alloc, plan, offset, line.as_bytes())?;
-    events.push(event)?;
-    let reply = reply_from_scratch(alloc, plan, events)?;
-    let done = write_reply(replies, offset, &reply);
-    drop(reply);
-    done?;
+) -> Result<(), Memory> {
+    match event_of(alloc, &plan.schema, events.len() as u64, line) {
+        Ok(event) => events.push(event)?,
+        Err(_) => return Err(Memory),
+    }
+    add_reply(alloc, plan, events, replies)
+}
+
+fn take_lines(
+    alloc: Global,
+    plan: &Plan,
+    input: &[u8],
+    events: &mut Vec<Event>,
+    replies: &mut Vec<u8>,
+) -> Result<(), Memory> {
+    for line in str::from_utf8(input).unwrap_or("no text").lines() {
+        take_line(alloc, plan, line.as_bytes(), events, replies)?;
+    }
     Ok(())
 }
 
-/// Adds the lines of the replies to an input.
+/// Adds the lines of the replies to an input, all from scratch.
+fn add_from_scratch(
+    alloc: Global,
+    plan: &Plan,
+    input: &[u8],
+    replies: &mut Vec<u8>,
+) -> Result<(), Memory> {
+    let mut events = Vec::new(alloc);
+    let done = take_lines(alloc, plan, input, &mut events, replies);
+    drop(events);
+    done
+}
+
+/// The same by the plan that a text says.
 fn add_replies(
     alloc: Global,
-    plan: &Plan,
-    input: &str,
-    events: &mut Vec<Event>,
+    text: &str,
+    input: &[u8],
     replies: &mut Vec<u8>,
-) -> Result<(), Fail> {
-    for line in input.lines() {
-        add_reply(alloc, plan, line, events, replies)?;
-    }
-    Ok(())
+) -> Result<(), Memory> {
+    let plan = plan_of(alloc, text)?;
+    let done = add_from_scratch(alloc, &plan, input, replies);
+    drop(plan);
+    done
 }
 
-/// The lines of the replies to an input, all from scratch.
-pub(super) fn replies_from_scratch(
-    alloc: Global,
-    plan: &Plan,
-    input: &str,
-) -> Result<String, Fail> {
-    let mut replies = Vec::new(alloc);
-    let mut events = Vec::new(alloc);
-    let done = add_replies(alloc, plan, input, &mut events, &mut replies);
-    drop(events);
-    done?;
-    Ok(String::from_utf8(replies)?)
-}
-
-/// Runs over the store on this host, with an input whose first line has offset 0.
-fn run_counted<L: Ledger>(
-    alloc: Global,
-    plan: &Plan,
-    input: &[u8],
-    host: &mut MemHost,
-    blank: Blank,
-) -> Result<(), Fail>
-    requires named { blank.name ≡ L.name }
-    requires parts { blank.parts ≡ L.parts }
-    requires whole { 0 < blank.parts }
-    requires read { IsReadPlan plan.now }
-{
-    let mut source = MemSource::new(input.to_vec(alloc)?, Vec::new(alloc));
-    let mut steps = Steps::<L>::new(blank);
-    let ran = run(alloc, plan, 0, &mut source, host, &mut steps);
-    drop(steps);
-    drop(source);
-    match ran {
-        Ok(()) => Ok(()),
-        Err(fault) => Err(Fail::from(fault)),
-    }
-}
-
-/// The same, with a ledger of its own.
-pub(super) fn run_on(
-    alloc: Global,
-    plan: &Plan,
-    input: &[u8],
-    host: &mut MemHost,
-) -> Result<(), Fail>
-    requires { IsReadPlan plan.now }
-{
-    run_counted::<Brand>(alloc, plan, input, host, Blank::new(1))
-}
-
-/// Runs twice over the store on this host: the first run has half of the lines, and the second, which goes on from a
-/// checkpoint, all of them.
-fn run_both(
-    alloc: Global,
-    plan: &Plan,
-    half: &str,
-    all: &str,
-    host: &mut MemHost,
-) -> Result<(), Fail>
-    requires { IsReadPlan plan.now }
-{
-    run_on(alloc, plan, half.as_bytes(), host)?;
-    run_on(alloc, plan, all.as_bytes(), host)
-}
-
-/// Adds the lines of this text that begin with a digit, as replies do.
-fn add_digit_lines(text: &str, replies: &mut String) -> Result<(), Fail> {
-    for line in text.lines() {
+/// Whether these are just the lines of an output that begin with a digit, as replies do.
+fn are_replies(output: &str, replies: &[u8]) -> bool {
+    let mut left = replies;
+    for line in output.split_inclusive('\n') {
         if line.as_bytes().first().is_some_and(u8::is_ascii_digit) {
-            replies.push_str(line)?;
-            replies.push_str("\n")?;
+            match left.strip_prefix(line.as_bytes()) {
+                Some(rest) => left = rest,
+                None => return false,
+            }
         }
     }
-    Ok(())
+    left.is_empty()
 }
 
-/// The replies that a host has put.
-fn replies_in(alloc: Global, host: &MemHost) -> Result<String, Fail> {
-    let mut replies = String::new(alloc);
-    let text = str::from_utf8(host.output()).unwrap_or("0 no text");
-    match add_digit_lines(text, &mut replies) {
-        Ok(()) => Ok(replies),
-        Err(fail) => Err(fail),
-    }
+/// The lines of both runs: the first ones, and all of them.
+#[derive(Clone, Copy)]
+struct Lines<'a> {
+    first: &'a [u8],
+    all: &'a [u8],
 }
 
-/// The replies of these two runs on this host.
-fn replies_on(
+/// How replies to the lines come about.
+#[derive(Clone, Copy)]
+enum Way {
+    /// By a run that has the first lines, and a second, which goes on from a checkpoint, that has all of them.
+    TwoRuns,
+    /// By a replay of what a run by another plan stored, which had the first lines.
+    Replay,
+}
+
+/// Queries, whose replies to the lines, whichever way they come about, are those from scratch.
+#[derive(Clone, Copy)]
+struct Asked {
+    plan: &'static str,
+    way: Way,
+}
+
+fn run(alloc: Global, plan: &str, input: &[u8], host: &mut MemHost) -> Result<bool, Memory> {
+    answers_by(alloc, plan, Call::Run(input, 1 << 20), host)
+}
+
+/// Whether two runs of all the lines, and of the first of them, put just these replies.
+fn runs(
     alloc: Global,
-    plan: &Plan,
-    half: &str,
-    all: &str,
+    plan: &str,
+    lines: Lines<'_>,
+    replies: &[u8],
     host: &mut MemHost,
-) -> Result<String, Fail>
-    requires { IsReadPlan plan.now }
-{
-    run_both(alloc, plan, half, all, host)?;
-    replies_in(alloc, host)
+) -> Result<bool, Memory> {
+    let are_run = run(alloc, plan, lines.first, host)? && run(alloc, plan, lines.all, host)?;
+    let output = str::from_utf8(host.output()).unwrap_or("0 no text");
+    Ok(are_run && are_replies(output, replies))
 }
 
-/// The same over a new store.
-fn replies_of_runs(alloc: Global, plan: &Plan, half: &str, all: &str) -> Result<String, Fail>
-    requires { IsReadPlan plan.now }
-{
-    let mut host = MemHost::new(alloc, Image::new(alloc), Vec::new(alloc))?;
-    let replies = replies_on(alloc, plan, half, all, &mut host);
-    drop(host);
-    replies
+/// Whether a replay of the first lines puts just these bytes.
+fn replays(
+    alloc: Global,
+    plan: &str,
+    first: &[u8],
+    wanted: &[u8],
+    host: &mut MemHost,
+) -> Result<bool, Memory> {
+    let is_run = run(alloc, STORING, first, host)?;
+    let stored = host.output().len();
+    let is_replayed = answers_by(alloc, plan, Call::Replay, host)?;
+    Ok(is_run && is_replayed && host.output().get(stored..).unwrap_or(b"") == wanted)
 }
 
-/// Whether the replies of two runs by this plan are those from scratch.
-fn are_by(alloc: Global, plan: &Plan, half: &str, all: &str) -> Result<bool, Fail>
-    requires { IsReadPlan plan.now }
-{
-    let replies = replies_of_runs(alloc, plan, half, all)?;
-    let expected = replies_from_scratch(alloc, plan, all)?;
-    Ok(replies.as_str() == expected.as_str())
-}
-
-/// The same by the plan of a case.
-fn are_from_scratch(alloc: Global, case: Case<'_>, half: &str, all: &str) -> Result<bool, Fail> {
-    let plan = plan_of(alloc, case)?;
-    let are_same = are_by(alloc, &plan, half, all);
-    drop(plan);
-    are_same
-}
-
-/// The same of each case.
-fn assert_from_scratch(rt: &(impl Abort + AllocGlobal), half: &str, all: &str) -> Result<(), Fail> {
-    for case in &CASES {
-        assert!(rt; are_from_scratch(rt.alloc(), *case, half, all)?);
+impl Asked {
+    /// Adds what is to be put.
+    fn add_wanted(
+        &self,
+        alloc: Global,
+        lines: Lines<'_>,
+        wanted: &mut Vec<u8>,
+    ) -> Result<(), Memory> {
+        match self.way {
+            Way::TwoRuns => add_replies(alloc, self.plan, lines.all, wanted),
+            Way::Replay => {
+                add_replies(alloc, self.plan, lines.first, wanted)?;
+                put_bytes(wanted, b"done 150 150\n")
+            }
+        }
     }
-    Ok(())
+
+    fn is_put_on(
+        &self,
+        alloc: Global,
+        lines: Lines<'_>,
+        wanted: &[u8],
+        host: &mut MemHost,
+    ) -> Result<bool, Memory> {
+        match self.way {
+            Way::TwoRuns => runs(alloc, self.plan, lines, wanted, host),
+            Way::Replay => replays(alloc, self.plan, lines.first, wanted, host),
+        }
+    }
+
+    /// Whether that is put over a new store.
+    fn is_put(&self, alloc: Global, lines: Lines<'_>, wanted: &[u8]) -> Result<bool, Memory> {
+        let mut host = host_of(alloc, EMPTY, &[])?;
+        let is_put = self.is_put_on(alloc, lines, wanted, &mut host);
+        drop(host);
+        is_put
+    }
+
+    /// Whether the first lines and all of them give what is from scratch.
+    fn holds_of(&self, alloc: Global, lines: Lines<'_>) -> Result<bool, Memory> {
+        let mut wanted = Vec::new(alloc);
+        let made = self.add_wanted(alloc, lines, &mut wanted);
+        let is_put = self.is_put(alloc, lines, &wanted);
+        drop(wanted);
+        made?;
+        is_put
+    }
 }
+
+impl Case for Asked {
+    fn holds(&self, rt: HostRuntime) -> Result<bool, Memory> {
+        let mut all = Vec::new(rt.alloc());
+        let begun = add_lines(&mut all, 0, FIRST_LINES);
+        let length = all.len();
+        let ended = add_lines(&mut all, FIRST_LINES, LINES);
+        let lines = Lines {
+            first: all.get(..length).unwrap_or(b""),
+            all: &all,
+        };
+        let holds = self.holds_of(rt.alloc(), lines);
+        drop(all);
+        begun?;
+        ended?;
+        holds
+    }
+}
+
+const ALL_ASKED: &[Asked] = &[
+    // by two runs
+    Asked {
+        plan: EACH,
+        way: Way::TwoRuns,
+    },
+    Asked {
+        plan: CONDITIONS,
+        way: Way::TwoRuns,
+    },
+    Asked {
+        plan: WITHOUT_END,
+        way: Way::TwoRuns,
+    },
+    Asked {
+        plan: WORDS,
+        way: Way::TwoRuns,
+    },
+    Asked {
+        plan: SHARED,
+        way: Way::TwoRuns,
+    },
+    Asked {
+        plan: SHORT,
+        way: Way::TwoRuns,
+    },
+    // other queries than those of the run that stored the lines, by a replay
+    Asked {
+        plan: EACH,
+        way: Way::Replay,
+    },
+    Asked {
+        plan: CONDITIONS,
+        way: Way::Replay,
+    },
+    Asked {
+        plan: WITHOUT_END,
+        way: Way::Replay,
+    },
+    Asked {
+        plan: WORDS,
+        way: Way::Replay,
+    },
+    Asked {
+        plan: SHARED,
+        way: Way::Replay,
+    },
+    Asked {
+        plan: SHORT,
+        way: Way::Replay,
+    },
+];
 
 #[test]
 fn the_replies_are_those_from_scratch(rt: HostRuntime) -> Result<(), Fail> {
-    let half = first_lines(rt.alloc(), LINES / 2)?;
-    let all = first_lines(rt.alloc(), LINES)?;
-    let done = assert_from_scratch(&rt, half.as_str(), all.as_str());
-    drop(half);
-    drop(all);
-    done
+    assert_all(&rt, rt, ALL_ASKED)
 }

@@ -1,60 +1,682 @@
-ghost use Rattle.std.specs.Prelude.{◌≡◌, ◌<◌, IfOk, true};
+ghost use Rattle.std.specs.Prelude.{◌≡◌, true};
 ghost use Rattle.rg_checkpoint.specs.Slots.{ReachesSlots};
 
-use rg_bytes::Memory;
-use rg_checkpoint::Slots;
-use rg_host::{Host, Image, MemHost};
+use crate::parts::{BASE, Part, SLOT, are_parts};
+use crate::payloads::texts;
+use crate::rows::{Row, assert_each};
+use crate::store::{Left, leaves_by_each, store};
+use rg_checkpoint::{SlotFault, SlotSizes, Slots, Texts};
+use rg_host::{Host, MemHost, Pick};
 use std::alloc::Global;
-use std::process::Abort;
 use std::test::Fail;
 
-/// Sets a file of an image to a copy of these bytes.
-fn set(alloc: Global, image: &mut Image, file: u32, bytes: &[u8]) -> Result<(), Memory>
-    requires { file < 8 }
+/// What slots tell.
+#[derive(Clone, Copy)]
+struct Told {
+    /// Of how many payments the checkpoints of slots 0 and 1 are, where they are complete.
+    counts: (Option<u64>, Option<u64>),
+    /// How many rows the first one has.
+    rows: usize,
+    /// The sizes of slot 0.
+    sizes: Option<SlotSizes>,
+    /// The newest slot of the query of this text and up to this count.
+    newest: Option<u32>,
+}
+
+/// Of how many payments the checkpoint of a slot is, and how many rows it has.
+fn seen_in(slots: &Slots, i: u32) -> (Option<u64>, usize)
+    requires { slots.now.fresh ≡ true }
 {
-    let bytes = bytes.to_vec(alloc)?;
-    image.set(file, bytes)
-}
-
-/// Sets the slots of an image to copies of these bytes.
-fn set_both(alloc: Global, image: &mut Image, first: &[u8], second: &[u8]) -> Result<(), Memory> {
-    set(alloc, image, 0, first)?;
-    set(alloc, image, 1, second)
-}
-
-/// A host with these slots, whose calls of these numbers fail.
-pub(crate) fn store(
-    alloc: Global,
-    first: &[u8],
-    second: &[u8],
-    failing: &[u64],
-) -> Result<MemHost, Memory> {
-    let failing = failing.to_vec(alloc)?;
-    let mut image = Image::new(alloc);
-    match set_both(alloc, &mut image, first, second) {
-        Ok(()) => MemHost::new(alloc, image, failing),
-        Err(memory) => Err(memory),
+    match slots.slot(i) {
+        Some(checkpoint) => (Some(checkpoint.count), checkpoint.rows.as_slice().len()),
+        None => (None, 0),
     }
 }
 
-/// The slots of a host.
-pub(crate) fn attach(alloc: Global, host: &mut MemHost) -> Result<Slots, Fail>
-    ensures fresh { IfOk result (λ slots. slots.fresh ≡ true) }
-    ensures reaches { IfOk result (λ slots. ReachesSlots slots (⟦<MemHost as Host>⟧.now host.new)) }
+/// The newest slot; 2 where there is a slot 2.
+fn newest_in(slots: &Slots, queries: &Texts, below: u64) -> Option<u32>
+    requires { slots.now.fresh ≡ true }
 {
+    if slots.slot(2).is_some() {
+        return Some(2);
+    }
+    slots.newest(queries, below)
+}
+
+fn told_by(slots: &Slots, queries: &Texts, below: u64) -> Told
+    requires { slots.now.fresh ≡ true }
+{
+    let (first, rows) = seen_in(slots, 0);
+    let (second, _) = seen_in(slots, 1);
+    Told {
+        counts: (first, second),
+        rows,
+        sizes: slots.sizes(0),
+        newest: newest_in(slots, queries, below),
+    }
+}
+
+/// What the slots of a host tell, of these queries; none where they aren't read.
+fn told_of(alloc: Global, host: &mut MemHost, queries: &Texts, below: u64) -> Option<Told> {
     match Slots::attach(alloc, host) {
-        Ok(slots) => Ok(slots),
-        Err(_) => Err(Fail::new("the slots were not read")),
+        Ok(slots) => {
+            let told = told_by(&slots, queries, below);
+            drop(slots);
+            Some(told)
+        }
+        Err(_) => None,
     }
 }
 
-pub(crate) fn assert_so(rt: &impl Abort, is_so: Result<bool, Fail>) -> Result<(), Fail> {
-    assert!(rt; is_so?);
-    Ok(())
+/// The same of the query of this text.
+fn told_at(alloc: Global, host: &mut MemHost, text: &[u8], below: u64) -> Option<Told> {
+    match texts(alloc, text) {
+        Ok(queries) => {
+            let told = told_of(alloc, host, &queries, below);
+            drop(queries);
+            told
+        }
+        Err(_) => None,
+    }
 }
 
-/// There is nothing wrong, of whose place or number a failure tells.
-pub(crate) fn assert_none(rt: &impl Abort, wrong: Result<Option<usize>, Fail>) -> Result<(), Fail> {
-    assert_eq!(rt; wrong?, None);
-    Ok(())
+/// What is written into slots.
+enum Write {
+    /// A checkpoint of so many payments into slot 0, where none is kept.
+    Save(u8),
+    /// Into slot 1, where slot 0 is kept.
+    SaveSecond(u8),
+    /// Into slot 0, where slot 1 is kept.
+    SaveFirst(u8),
+    /// The change payload of the frame that begins there in the slot and ends there, behind slot 0.
+    Extend(usize, usize),
+}
+
+/// The base payload of so many payments.
+fn payload_of(count: u8) -> [u8; 71] {
+    let mut payload = BASE;
+    payload[17] = count;
+    payload
+}
+
+/// Adds the payload of a frame of the slot to slot 0, where that is complete.
+fn extend(slots: &mut Slots, host: &mut MemHost, from: usize, end: usize) -> Result<u32, SlotFault>
+    requires { ReachesSlots slots.old (⟦<MemHost as Host>⟧.now host.old) }
+    ensures { ReachesSlots slots.new (⟦<MemHost as Host>⟧.now host.new) }
+{
+    if slots.sizes(0).is_none() {
+        return Err(SlotFault::Memory);
+    }
+    let payload = SLOT.get(from.saturating_add(9)..end).unwrap_or(b"");
+    match slots.extend(host, 0, payload) {
+        Ok(()) => Ok(0),
+        Err(fault) => Err(fault),
+    }
+}
+
+/// Whether it is written, into its slot.
+fn do_write(slots: &mut Slots, host: &mut MemHost, write: &Write) -> Result<bool, SlotFault>
+    requires { ReachesSlots slots.old (⟦<MemHost as Host>⟧.now host.old) }
+    ensures { ReachesSlots slots.new (⟦<MemHost as Host>⟧.now host.new) }
+{
+    let (slot, done) = match write {
+        Write::Save(count) => (0, slots.save(host, None, &payload_of(*count))),
+        Write::SaveSecond(count) => (1, slots.save(host, Some(0), &payload_of(*count))),
+        Write::SaveFirst(count) => (0, slots.save(host, Some(1), &payload_of(*count))),
+        Write::Extend(from, end) => (0, extend(slots, host, *from, *end)),
+    };
+    match done {
+        Ok(i) => Ok(i == slot),
+        Err(fault) => Err(fault),
+    }
+}
+
+fn write_at(
+    slots: &mut Slots,
+    host: &mut MemHost,
+    writes: &[Write],
+    number: usize,
+) -> Result<bool, SlotFault>
+    requires { ReachesSlots slots.old (⟦<MemHost as Host>⟧.now host.old) }
+    ensures { ReachesSlots slots.new (⟦<MemHost as Host>⟧.now host.new) }
+{
+    match writes.get(number) {
+        Some(one) => do_write(slots, host, one),
+        None => Ok(true),
+    }
+}
+
+/// Whether the first three of these are written.
+fn write_three(slots: &mut Slots, host: &mut MemHost, writes: &[Write]) -> Result<bool, SlotFault>
+    requires { ReachesSlots slots.old (⟦<MemHost as Host>⟧.now host.old) }
+{
+    Ok(
+        write_at(slots, host, writes, 0)?
+            && write_at(slots, host, writes, 1)?
+            && write_at(slots, host, writes, 2)?,
+    )
+}
+
+/// Slots, what is written into them, and what they tell then.
+#[derive(Clone, Copy)]
+struct Case {
+    files: &'static [&'static [Part]],
+    /// The number of the call that fails.
+    failing: &'static [u64],
+    /// At most three.
+    writes: &'static [Write],
+    /// Whether a write fails.
+    fails: bool,
+    /// How many calls there were then, where that is asked.
+    calls: Option<u64>,
+    /// What slot 0 has then, where that is asked.
+    bytes: &'static [Part],
+    /// The count of slot 1, which is taken first, where that is asked.
+    taken: Option<u64>,
+    /// A query's text and a count, for the newest slot.
+    text: &'static [u8],
+    below: u64,
+    newest: Option<u32>,
+    /// The counts of both slots, and the rows of slot 0.
+    first: Option<u64>,
+    second: Option<u64>,
+    rows: usize,
+    /// The sizes of slot 0, where they are asked.
+    sizes: Option<SlotSizes>,
+    /// What a stop leaves of what was written, by each of these picks.
+    picks: &'static [Pick],
+    /// Behind so many calls and more: the counts of slot 0, and of slot 1, 0 where it isn't complete.
+    from: u64,
+    firsts: &'static [u64],
+    seconds: &'static [u64],
+    /// Behind so many calls the second slot stands.
+    settled: u64,
+}
+
+/// Whether slots have ended, and make no call.
+fn have_ended(slots: &mut Slots, host: &mut MemHost) -> bool {
+    let calls = host.calls();
+    slots.save(host, Some(0), &BASE) == Err(SlotFault::Ended) && host.calls() == calls
+}
+
+/// Takes slot 1, and answers its count.
+fn take_second(slots: &mut Slots, host: &MemHost) -> Option<u64>
+    requires fresh { slots.old.fresh ≡ true }
+    requires reaches { ReachesSlots slots.old (⟦<MemHost as Host>⟧.now host.now) }
+    ensures { ReachesSlots slots.new (⟦<MemHost as Host>⟧.now host.now) }
+{
+    match slots.take(1) {
+        Some(taken) => Some(taken.count),
+        None => None,
+    }
+}
+
+impl Case {
+    /// Whether it is written so, or fails and ends the slots.
+    fn is_written(&self, slots: &mut Slots, host: &mut MemHost) -> bool
+        requires { ReachesSlots slots.old (⟦<MemHost as Host>⟧.now host.old) }
+    {
+        match write_three(slots, host, self.writes) {
+            Ok(is_there) => {
+                let has_sizes = self.sizes.is_none() || slots.sizes(0) == self.sizes;
+                let has_second = slots.sizes(1).is_some() == self.second.is_some();
+                is_there && has_sizes && has_second && !self.fails
+            }
+            Err(fault) => self.fails && fault == SlotFault::Disk && have_ended(slots, host),
+        }
+    }
+
+    /// The same, once slot 1 is taken, where it is to be.
+    fn is_done(&self, slots: &mut Slots, host: &mut MemHost) -> bool
+        requires fresh { slots.old.fresh ≡ true }
+        requires reaches { ReachesSlots slots.old (⟦<MemHost as Host>⟧.now host.old) }
+    {
+        if self.taken.is_some() && take_second(slots, host) != self.taken {
+            return false;
+        }
+        self.is_written(slots, host)
+    }
+
+    /// The same of the slots of a host, by so many calls.
+    fn writes(&self, alloc: Global, host: &mut MemHost) -> bool {
+        match Slots::attach(alloc, host) {
+            Ok(mut slots) => {
+                let is_done = self.is_done(&mut slots, host);
+                drop(slots);
+                is_done && self.calls.unwrap_or(host.calls()) == host.calls()
+            }
+            Err(_) => false,
+        }
+    }
+
+    /// Whether a host then tells so.
+    fn tells(&self, alloc: Global, host: &mut MemHost) -> bool {
+        match told_at(alloc, host, self.text, self.below) {
+            Some(told) => {
+                told.counts == (self.first, self.second)
+                    && told.rows == self.rows
+                    && told.newest == self.newest
+                    && (self.sizes.is_none() || told.sizes == self.sizes)
+            }
+            None => false,
+        }
+    }
+
+    /// Whether stops leave what they may.
+    fn leaves(&self, alloc: Global, host: &MemHost) -> bool {
+        let mut stopped = Stopped {
+            case: *self,
+            last: host.calls(),
+            before: 0,
+        };
+        leaves_by_each(alloc, host, self.from, self.picks, &mut stopped)
+    }
+
+    /// Whether all of it is so of this host.
+    fn is_so_of(&self, alloc: Global, host: &mut MemHost) -> bool {
+        self.writes(alloc, host)
+            && are_parts(alloc, host.file(0), self.bytes)
+            && self.leaves(alloc, host)
+            && self.tells(alloc, host)
+    }
+}
+
+/// What stops leave of what is written, one behind another.
+#[derive(Clone, Copy)]
+struct Stopped {
+    case: Case,
+    /// How many calls there were.
+    last: u64,
+    /// The count of the newest slot at the stop before this.
+    before: u64,
+}
+
+impl Stopped {
+    /// Whether the slots are old ones, none or new ones, the newest is the greatest and not older than before, and is of
+    /// count 4 in the end.
+    fn is_legal(&self, told: Told, call: u64) -> bool {
+        let (first, second) = told.counts;
+        let newest = match told.newest {
+            Some(0) => first,
+            Some(1) => second,
+            Some(_) => return false,
+            None => None,
+        };
+        let is_newest = newest == first.max(second) && self.before <= newest.unwrap_or(0);
+        let is_one = self.case.firsts.contains(&first.unwrap_or(0))
+            && self.case.seconds.contains(&second.unwrap_or(0));
+        let is_settled = call < self.case.settled || second == self.case.second;
+        let is_end = call < self.last || newest == Some(4);
+        is_newest && is_one && is_settled && is_end
+    }
+}
+
+impl Left for Stopped {
+    fn may_be(&mut self, alloc: Global, left: &mut MemHost, call: u64) -> bool {
+        if call == self.case.from {
+            self.before = 0;
+        }
+        match told_at(alloc, left, b"q", 9) {
+            Some(told) => {
+                let is_legal = self.is_legal(told, call);
+                let (first, second) = told.counts;
+                self.before = first.max(second).unwrap_or(0);
+                is_legal
+            }
+            None => false,
+        }
+    }
+}
+
+impl Row for Case {
+    fn is_so(&self, alloc: Global) -> bool {
+        match store(alloc, 0, self.files, self.failing) {
+            Ok(mut host) => {
+                let is_so = self.is_so_of(alloc, &mut host);
+                drop(host);
+                is_so
+            }
+            Err(_) => false,
+        }
+    }
+}
+
+/// Empty slots, into which nothing is written.
+const EMPTY: Case = Case {
+    files: &[],
+    failing: &[],
+    writes: &[],
+    fails: false,
+    calls: None,
+    bytes: &[],
+    taken: None,
+    text: b"q",
+    below: 9,
+    newest: None,
+    first: None,
+    second: None,
+    rows: 0,
+    sizes: None,
+    picks: &[],
+    from: 0,
+    firsts: &[],
+    seconds: &[],
+    settled: 0,
+};
+
+/// Slot 0 alone is complete, with one row.
+const FIRST: Case = Case {
+    newest: Some(0),
+    first: Some(2),
+    rows: 1,
+    ..EMPTY
+};
+
+/// Three saves, into slot 0 of count 2, into slot 1 of count 3, and then into slot 0 of count 4.
+const SAVED: Case = Case {
+    writes: &[Write::Save(2), Write::SaveSecond(3), Write::SaveFirst(4)],
+    first: Some(4),
+    second: Some(3),
+    ..FIRST
+};
+
+/// A save and two extensions, behind which the row is gone.
+const EXTENDED: Case = Case {
+    writes: &[
+        Write::Save(2),
+        Write::Extend(80, 152),
+        Write::Extend(152, 215),
+    ],
+    first: Some(4),
+    rows: 0,
+    ..FIRST
+};
+
+/// One of them fails, and leaves the count 2.
+const OF_TWO: Case = Case {
+    fails: true,
+    first: Some(2),
+    rows: 1,
+    ..EXTENDED
+};
+
+/// The count 3.
+const OF_THREE: Case = Case {
+    first: Some(3),
+    ..OF_TWO
+};
+
+/// The count 4.
+const OF_FOUR: Case = Case {
+    first: Some(4),
+    rows: 0,
+    ..OF_TWO
+};
+
+#[test]
+fn slots_are_read_up_to_their_closed_gates_where_their_changes_apply(
+    rt: HostRuntime,
+) -> Result<(), Fail> {
+    assert_each(
+        &rt,
+        &[
+            // A slot is read up to its closed gate.
+            Case {
+                files: &[&[Part::Slot(0, 216)]],
+                first: Some(4),
+                rows: 0,
+                ..FIRST
+            },
+            Case {
+                files: &[&[Part::Slot(0, 152), Part::Bytes(&[0]), Part::Slot(153, 216)]],
+                first: Some(3),
+                ..FIRST
+            },
+            Case {
+                files: &[&[Part::Slot(0, 80), Part::Bytes(&[0]), Part::Slot(81, 216)]],
+                ..FIRST
+            },
+            // A change that doesn't apply leaves no checkpoint: its count falls, it is a base behind the base, the row that is
+            // gone isn't there, it has more rows than there are, and it is cut.
+            Case {
+                files: &[&[Part::Slot(0, 97), Part::Bytes(&[1]), Part::Slot(98, 216)]],
+                ..EMPTY
+            },
+            Case {
+                files: &[&[Part::Slot(0, 89), Part::Bytes(&[0x42]), Part::Slot(90, 216)]],
+                ..EMPTY
+            },
+            Case {
+                files: &[&[
+                    Part::Slot(0, 213),
+                    Part::Bytes(&[0x32]),
+                    Part::Slot(214, 216),
+                ]],
+                ..EMPTY
+            },
+            Case {
+                files: &[&[Part::Slot(0, 129), Part::Bytes(&[2]), Part::Slot(130, 216)]],
+                ..EMPTY
+            },
+            Case {
+                files: &[&[
+                    Part::Slot(0, 160),
+                    Part::Bytes(&[0x37]),
+                    Part::Slot(161, 216),
+                ]],
+                ..EMPTY
+            },
+            // A slot of 65 changes is read.
+            Case {
+                files: &[&[Part::Slot(0, 80), Part::Changed(65), Part::Bytes(&[0])]],
+                first: Some(3),
+                sizes: Some(SlotSizes {
+                    base: 71,
+                    changes: 4095,
+                    frames: 65,
+                }),
+                ..FIRST
+            },
+            // A slot of no frame, of two base frames, or of one without a gate behind it isn't complete.
+            EMPTY,
+            Case {
+                files: &[
+                    &[
+                        Part::Slot(0, 26),
+                        Part::Bytes(&[4]),
+                        Part::Slot(27, 80),
+                        Part::Slot(0, 26),
+                        Part::Bytes(&[4]),
+                        Part::Slot(27, 80),
+                        Part::Bytes(&[0]),
+                    ],
+                    &[Part::Slot(0, 26), Part::Bytes(&[4]), Part::Slot(27, 80)],
+                ],
+                ..EMPTY
+            },
+            // The newest slot is of these queries and of at most this count.
+            Case {
+                bytes: &[
+                    Part::Slot(0, 26),
+                    Part::Bytes(&[4]),
+                    Part::Slot(27, 80),
+                    Part::Bytes(&[0]),
+                ],
+                below: 4,
+                ..SAVED
+            },
+            Case {
+                below: 3,
+                newest: Some(1),
+                ..SAVED
+            },
+            Case {
+                below: 2,
+                newest: None,
+                ..SAVED
+            },
+            Case {
+                text: b"r",
+                newest: None,
+                ..SAVED
+            },
+            // A slot that was taken is saved anew.
+            Case {
+                files: &[
+                    &[
+                        Part::Slot(0, 26),
+                        Part::Bytes(&[4]),
+                        Part::Slot(27, 80),
+                        Part::Bytes(&[0]),
+                    ],
+                    &[
+                        Part::Slot(0, 26),
+                        Part::Bytes(&[3]),
+                        Part::Slot(27, 80),
+                        Part::Bytes(&[0]),
+                    ],
+                ],
+                taken: Some(3),
+                writes: &[Write::SaveSecond(4)],
+                below: 4,
+                second: Some(4),
+                ..SAVED
+            },
+        ],
+    )
+}
+
+#[test]
+fn a_stop_or_a_failure_leaves_the_old_checkpoint_or_the_new_one(
+    rt: HostRuntime,
+) -> Result<(), Fail> {
+    assert_each(
+        &rt,
+        &[
+            // Two saves and a third, which is stopped: it leaves its slot as it was, not complete, or saved.
+            Case {
+                writes: &[Write::Save(2), Write::SaveSecond(3)],
+                calls: Some(22),
+                first: Some(2),
+                second: Some(3),
+                newest: Some(1),
+                ..FIRST
+            },
+            Case {
+                picks: &[
+                    Pick::Old,
+                    Pick::New,
+                    Pick::Torn(0),
+                    Pick::Torn(1),
+                    Pick::Torn(0x37),
+                    Pick::Torn(255),
+                ],
+                firsts: &[0, 2, 4],
+                seconds: &[0, 3],
+                settled: 22,
+                calls: Some(32),
+                ..SAVED
+            },
+            // Changes are added as the format says. A save and two extensions: a stop in these leaves the old checkpoint or the
+            // new one.
+            Case {
+                writes: &[Write::Save(2)],
+                calls: Some(12),
+                ..FIRST
+            },
+            Case {
+                bytes: &[Part::Slot(0, 216)],
+                calls: Some(26),
+                sizes: Some(SlotSizes {
+                    base: 71,
+                    changes: 117,
+                    frames: 2,
+                }),
+                picks: &[Pick::Old, Pick::New, Pick::Torn(0), Pick::Torn(255)],
+                from: 12,
+                firsts: &[2, 3, 4],
+                seconds: &[0],
+                ..EXTENDED
+            },
+            // Each call that fails in the extensions ends the slots, and leaves the old checkpoint or the new one.
+            Case {
+                failing: &[12],
+                calls: Some(13),
+                ..OF_TWO
+            },
+            Case {
+                failing: &[13],
+                calls: Some(14),
+                ..OF_TWO
+            },
+            Case {
+                failing: &[14],
+                calls: Some(15),
+                ..OF_TWO
+            },
+            Case {
+                failing: &[15],
+                calls: Some(16),
+                ..OF_TWO
+            },
+            Case {
+                failing: &[16],
+                calls: Some(17),
+                ..OF_TWO
+            },
+            Case {
+                failing: &[17],
+                calls: Some(18),
+                ..OF_TWO
+            },
+            Case {
+                failing: &[18],
+                calls: Some(19),
+                ..OF_THREE
+            },
+            Case {
+                failing: &[19],
+                calls: Some(20),
+                ..OF_THREE
+            },
+            Case {
+                failing: &[20],
+                calls: Some(21),
+                ..OF_THREE
+            },
+            Case {
+                failing: &[21],
+                calls: Some(22),
+                ..OF_THREE
+            },
+            Case {
+                failing: &[22],
+                calls: Some(23),
+                ..OF_THREE
+            },
+            Case {
+                failing: &[23],
+                calls: Some(24),
+                ..OF_THREE
+            },
+            Case {
+                failing: &[24],
+                calls: Some(25),
+                ..OF_THREE
+            },
+            Case {
+                failing: &[25],
+                calls: Some(26),
+                ..OF_FOUR
+            },
+            // Slots end where a save fails.
+            Case {
+                failing: &[6],
+                writes: &[Write::Save(2)],
+                fails: true,
+                calls: Some(7),
+                ..EMPTY
+            },
+        ],
+    )
 }

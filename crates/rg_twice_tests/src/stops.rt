@@ -1,3 +1,4 @@
+use rg_bytes::Memory;
 use rg_host::{Image, MemHost, Pick};
 use rg_report::Status;
 use rg_twice::{Stopped, run_stopped, run_twice};
@@ -6,83 +7,176 @@ use std::process::Abort;
 use std::str;
 use std::test::Fail;
 
-/// A plan, some lines, and what runs over them put.
+/// A run to its end.
 #[derive(Clone, Copy)]
-struct Case<'a> {
-    plan: &'a [u8],
-    lines: &'a [u8],
-    /// The open lines that a run may begin with, each behind the next offset that it tells.
-    opens: &'a [(u64, &'a str)],
-    /// What a run over a new store puts for each line, its marks behind it, and last what it puts at the
-    /// end. A run that goes on puts those of the lines from the store's next offset on.
-    turns: &'a [&'a str],
+struct Run {
+    /// The next offset that it finds in the store, 0 for a new one.
+    next: u64,
+    /// What it puts.
+    put: &'static str,
 }
 
-/// The open line of a run over a new store.
-const OPEN: &str = "open 0 0 0\n";
+/// A plan, some lines, and what runs over them put.
+#[derive(Clone, Copy)]
+struct Case {
+    plan: &'static [u8],
+    lines: &'static [u8],
+    /// The runs to their end that there may be, first that over a new store. One that goes on puts the same for the lines
+    /// from the store's next offset on.
+    runs: &'static [Run],
+    /// The numbers of calls after which a run is stopped: from this one to that, as far as there are so many calls.
+    from: u64,
+    to: u64,
+}
 
 /// Three payments of one card, of which the third meets a window of five minutes without the first. They
 /// go into chunks of two; a commit follows each two, a checkpoint each four.
-const PAYMENTS: Case<'static> = Case {
+const PAYMENTS: Case = Case {
     plan: b"queries = [\"SELECT count(*), sum(amount) FROM payments GROUP BY card OVER SLIDING 5 minutes\"]\n\n[stream]\nname = \"payments\"\ncolumns = [\"ts\", \"card:text\", \"merchant:text\", \"amount:int\"]\n\n[settings]\ncache = 1\nchunk = 2\ncommit = 2\nsave = 4\n",
     lines: b"0,c1,m1,100\n299999,c1,m2,200\n300000,c1,m1,50\n",
-    opens: &[
-        (0, OPEN),
-        (2, "open 2 2 0\n"),
-        (3, "open 3 3 0\n"),
-        (3, "open 3 3 3\n"),
+    runs: &[
+        Run {
+            next: 0,
+            put: "open 0 0 0\n\
+                0 ok 1 100\n\
+                1 ok 2 300\n\
+                stored 2\n\
+                2 ok 2 250\n\
+                stored 3\n\
+                saved 3\n\
+                done 3 3\n",
+        },
+        Run {
+            next: 2,
+            put: "open 2 2 0\n\
+                2 ok 2 250\n\
+                stored 3\n\
+                saved 3\n\
+                done 3 3\n",
+        },
+        Run {
+            next: 3,
+            put: "open 3 3 0\n\
+                stored 3\n\
+                saved 3\n\
+                done 3 3\n",
+        },
+        Run {
+            next: 3,
+            put: "open 3 3 3\n\
+                stored 3\n\
+                saved 3\n\
+                done 3 3\n",
+        },
     ],
-    turns: &[
-        "0 ok 1 100\n",
-        "1 ok 2 300\nstored 2\n",
-        "2 ok 2 250\n",
-        "stored 3\nsaved 3\ndone 3 3\n",
-    ],
+    from: 0,
+    to: u64::MAX,
 };
 
 /// Such payments between control lines, where one may be late by ten milliseconds, as the last one is.
-const CONTROLLED: Case<'static> = Case {
+const CONTROLLED: Case = Case {
     plan: b"queries = [\"SELECT count(*), sum(amount) FROM payments GROUP BY card OVER SLIDING 5 minutes\"]\n\n[stream]\nname = \"payments\"\ncolumns = [\"ts\", \"card:text\", \"merchant:text\", \"amount:int\"]\n\n[settings]\ncache = 1\nchunk = 2\ncommit = 2\nsave = 4\ngrace = 10\n",
     lines: b"0,c1,m1,100\n!commit\n299999,c1,m2,200\n!save\n!ahead\n300000,c1,m1,50\n299995,c1,m3,7\n",
-    opens: &[
-        (0, OPEN),
-        (1, "open 1 1 0\n"),
-        (3, "open 3 2 0\n"),
-        (3, "open 3 2 2\n"),
-        (7, "open 7 4 2\n"),
-        (7, "open 7 4 4\n"),
+    runs: &[
+        Run {
+            next: 0,
+            put: "open 0 0 0\n\
+                0 ok 1 100\n\
+                1 done\n\
+                stored 1\n\
+                2 ok 2 300\n\
+                stored 3\n\
+                3 done\n\
+                stored 3\n\
+                saved 2\n\
+                4 done\n\
+                5 ok 2 250\n\
+                6 moved 3 257\n\
+                stored 7\n\
+                saved 4\n\
+                stored 7\n\
+                saved 4\n\
+                done 7 4\n",
+        },
+        Run {
+            next: 1,
+            put: "open 1 1 0\n\
+                1 done\n\
+                stored 1\n\
+                2 ok 2 300\n\
+                stored 3\n\
+                3 done\n\
+                stored 3\n\
+                saved 2\n\
+                4 done\n\
+                5 ok 2 250\n\
+                6 moved 3 257\n\
+                stored 7\n\
+                saved 4\n\
+                stored 7\n\
+                saved 4\n\
+                done 7 4\n",
+        },
+        Run {
+            next: 3,
+            put: "open 3 2 0\n\
+                3 done\n\
+                stored 3\n\
+                saved 2\n\
+                4 done\n\
+                5 ok 2 250\n\
+                6 moved 3 257\n\
+                stored 7\n\
+                saved 4\n\
+                stored 7\n\
+                saved 4\n\
+                done 7 4\n",
+        },
+        Run {
+            next: 3,
+            put: "open 3 2 2\n\
+                3 done\n\
+                stored 3\n\
+                saved 2\n\
+                4 done\n\
+                5 ok 2 250\n\
+                6 moved 3 257\n\
+                stored 7\n\
+                saved 4\n\
+                stored 7\n\
+                saved 4\n\
+                done 7 4\n",
+        },
+        Run {
+            next: 7,
+            put: "open 7 4 2\n\
+                stored 7\n\
+                saved 4\n\
+                done 7 4\n",
+        },
+        Run {
+            next: 7,
+            put: "open 7 4 4\n\
+                stored 7\n\
+                saved 4\n\
+                done 7 4\n",
+        },
     ],
-    turns: &[
-        "0 ok 1 100\n",
-        "1 done\nstored 1\n",
-        "2 ok 2 300\nstored 3\n",
-        "3 done\nstored 3\nsaved 2\n",
-        "4 done\n",
-        "5 ok 2 250\n",
-        "6 moved 3 257\nstored 7\nsaved 4\n",
-        "stored 7\nsaved 4\ndone 7 4\n",
-    ],
+    from: 0,
+    to: u64::MAX,
 };
 
 /// After how many calls a run that goes on is stopped again, at most.
 const MOST_AGAIN: u64 = 12;
 
 /// What may be left of the bytes that were pending: the old ones, the new ones, or others.
-const PICKS: [Pick; 5] = [
+const PICKS: &[Pick] = &[
     Pick::Old,
     Pick::New,
     Pick::Torn(0),
     Pick::Torn(1),
     Pick::Torn(255),
 ];
-
-/// A case, and the words of its runs.
-#[derive(Drop)]
-struct Trial<'a> {
-    alloc: Global,
-    words: Vec<String>,
-    case: Case<'a>,
-}
 
 /// What a run did.
 #[derive(Clone, Copy)]
@@ -103,8 +197,8 @@ struct Ran {
     left: MemHost,
 }
 
-/// Files over which each run goes on as it should, and the next offset that is found there. Two runs
-/// over the same files are the same.
+/// Files over which each run goes on as it should, and the next offset that is found there. Two runs over the same files
+/// are the same.
 #[derive(Drop)]
 struct Left {
     files: MemHost,
@@ -130,54 +224,39 @@ fn told(put: &str) -> u64 {
     told
 }
 
-/// Whether these are just the turns from this one on.
-fn are_turns(put: &[u8], turns: &[&str], first: u64) -> bool {
-    let mut rest = put;
-    for turn in turns.iter().skip(first as usize) {
-        let Some(more) = rest.strip_prefix(turn.as_bytes()) else {
-            return false;
-        };
-        rest = more;
-    }
-    rest.is_empty()
-}
-
-/// Whether this is a front of what a run over a new store puts.
-fn is_front(put: &[u8], turns: &[&str]) -> bool {
-    let Some(mut rest) = put.strip_prefix(OPEN.as_bytes()) else {
-        return OPEN.as_bytes().starts_with(put);
-    };
-    for turn in turns {
-        let Some(more) = rest.strip_prefix(turn.as_bytes()) else {
-            return turn.as_bytes().starts_with(rest);
-        };
-        rest = more;
-    }
-    rest.is_empty()
-}
-
 /// The next offset that a run found in the store, where it came to its end and put just what it should.
-fn next_found(case: &Case<'_>, status: Status, put: &str) -> Option<u64> {
+fn next_found(case: &Case, status: Status, put: &[u8]) -> Option<u64> {
     if status != Status::Ok {
         return None;
     }
-    for (next, open) in case.opens {
-        if let Some(rest) = put.strip_prefix(*open) {
-            if are_turns(rest.as_bytes(), case.turns, *next) {
-                return Some(*next);
-            }
+    for run in case.runs {
+        if run.put.as_bytes() == put {
+            return Some(run.next);
         }
     }
     None
 }
 
-fn have_same_bytes(one: &MemHost, other: &MemHost) -> bool {
-    for file in 0..3 {
-        if one.file(file) != other.file(file) {
-            return false;
-        }
+/// Whether this is a front of what a run over a new store puts.
+fn is_front(case: &Case, put: &[u8]) -> bool {
+    match case.runs.first() {
+        Some(run) => run.put.as_bytes().starts_with(put),
+        None => false,
     }
-    true
+}
+
+/// What a run of this case did, which left this host.
+fn done_by(case: &Case, status: Status, host: &MemHost) -> Did {
+    Did {
+        told: told(text(host)),
+        found: next_found(case, status, host.output()),
+        is_cut: status == Status::Write || status == Status::Disk,
+        calls: host.calls(),
+    }
+}
+
+fn have_same_bytes(one: &MemHost, other: &MemHost) -> bool {
+    one.file(0) == other.file(0) && one.file(1) == other.file(1) && one.file(2) == other.file(2)
 }
 
 /// What was found in these files before.
@@ -190,277 +269,269 @@ fn known(seen: &[Left], files: &MemHost) -> Option<u64> {
     None
 }
 
-fn new_host(alloc: Global) -> Result<MemHost, Fail> {
-    Ok(MemHost::new(alloc, Image::new(alloc), Vec::new(alloc))?)
-}
-
-fn words_of(alloc: Global, words: &[&str]) -> Result<Vec<String>, Fail> {
-    let mut owned = Vec::new(alloc);
-    for word in words {
-        owned.push(String::from_str(alloc, word)?)?;
-    }
-    Ok(owned)
-}
-
-/// What a run of this case that put this did, on a host on which so many calls were made.
-fn done_by(case: &Case<'_>, status: Status, put: &str, calls: u64) -> Did {
-    Did {
-        told: told(put),
-        found: next_found(case, status, put),
-        is_cut: status == Status::Write || status == Status::Disk,
-        calls,
+/// A host of these files, or a new one, on which no call was made.
+fn host_of(alloc: Global, files: Option<&MemHost>) -> Result<MemHost, Memory> {
+    match files {
+        Some(files) => files.stop_image(0, Pick::Old),
+        None => MemHost::new(alloc, Image::new(alloc), Vec::new(alloc)),
     }
 }
 
-impl<'a> Trial<'a> {
-    fn new(alloc: Global, case: Case<'a>) -> Result<Trial<'a>, Fail> {
-        Ok(Trial {
-            alloc,
-            words: words_of(alloc, &["run", "plan", "store"])?,
-            case,
-        })
+/// Whether a run found no less than this, and than what was told before.
+fn is_kept(found: Option<u64>, least: u64, told: u64) -> bool {
+    match found {
+        Some(next) => least <= next && told <= next,
+        None => false,
     }
+}
 
-    /// Runs over this host up to so many calls.
-    fn run(&self, host: MemHost, stop: u64, pick: Pick) -> Result<Ran, Fail> {
-        let Stopped { host, left, status } = run_stopped(
-            self.alloc,
-            &self.words,
-            self.case.plan,
-            self.case.lines,
-            host,
-            stop,
-            pick,
-        )?;
-        let did = done_by(&self.case, status, text(&host), host.calls());
+/// A case, and the words of its runs.
+#[derive(Clone, Copy)]
+struct Trial<'a> {
+    alloc: Global,
+    words: &'a [String],
+    case: &'a Case,
+}
+
+impl Trial<'_> {
+    /// What a run did, and what its stop left.
+    fn ran(&self, stopped: Stopped) -> Ran {
+        let Stopped { host, left, status } = stopped;
+        let did = done_by(self.case, status, &host);
         drop(host);
-        Ok(Ran { did, left })
+        Ran { did, left }
     }
 
-    /// Runs over these files up to so many calls.
-    fn run_over(&self, files: &MemHost, stop: u64, pick: Pick) -> Result<Ran, Fail> {
-        self.run(files.stop_image(0, Pick::Old)?, stop, pick)
+    /// Runs over these files, or over a new store, up to so many calls.
+    fn run(&self, files: Option<&MemHost>, stop: u64, pick: Pick) -> Result<Ran, Memory> {
+        let host = host_of(self.alloc, files)?;
+        let Case { plan, lines, .. } = *self.case;
+        match run_stopped(self.alloc, self.words, plan, lines, host, stop, pick) {
+            Ok(stopped) => Ok(self.ran(stopped)),
+            Err(memory) => Err(memory),
+        }
     }
 
-    /// Runs over a new store up to so many calls.
-    fn run_anew(&self, stop: u64, pick: Pick) -> Result<Ran, Fail> {
-        self.run(new_host(self.alloc)?, stop, pick)
+    /// What a run to its end does; none without memory, here and below.
+    fn does(&self, files: Option<&MemHost>) -> Option<Did> {
+        match self.run(files, u64::MAX, Pick::New) {
+            Ok(ran) => {
+                let did = ran.did;
+                drop(ran);
+                Some(did)
+            }
+            Err(_) => None,
+        }
     }
 
     /// The next offset that a run to its end finds in these files, where it puts what it should.
-    fn next_in(&self, files: &MemHost) -> Result<Option<u64>, Fail> {
-        let ran = self.run_over(files, u64::MAX, Pick::New)?;
-        let found = ran.did.found;
-        drop(ran);
-        Ok(found)
+    fn found_in(&self, files: &MemHost) -> Option<u64> {
+        match self.does(Some(files)) {
+            Some(did) => did.found,
+            None => None,
+        }
     }
 
     /// Whether a run over these files, whose next offset is this, is stopped again after so many calls,
     /// and the next one then goes on with all that is said to be stored.
-    fn goes_on_again(&self, files: &MemHost, next: u64, again: u64) -> Result<bool, Fail> {
-        let ran = self.run_over(files, again, Pick::Torn(1))?;
-        let told = ran.did.told;
-        let found = self.next_in(&ran.left);
-        drop(ran);
-        Ok(match found? {
-            Some(found) => next <= found && told <= found,
-            None => false,
-        })
+    fn goes_on_again(&self, files: &MemHost, next: u64, again: u64) -> bool {
+        match self.run(Some(files), again, Pick::Torn(1)) {
+            Ok(ran) => {
+                let is_kept = is_kept(self.found_in(&ran.left), next, ran.did.told);
+                drop(ran);
+                is_kept
+            }
+            Err(_) => false,
+        }
+    }
+
+    /// Whether that is so after each of the first calls.
+    fn goes_on_from(&self, files: &MemHost, next: u64) -> bool {
+        for again in 0..=MOST_AGAIN {
+            if !self.goes_on_again(files, next, again) {
+                return false;
+            }
+        }
+        true
     }
 
     /// The next offset of these files, where each run over them goes on as it should, also one that is
-    /// stopped again.
-    fn next_again(&self, files: &MemHost) -> Result<Option<u64>, Fail> {
-        let Some(next) = self.next_in(files)? else {
-            return Ok(None);
+    /// stopped again. They weren't seen before.
+    fn next_in(&self, seen: &mut Vec<Left>, files: MemHost) -> Option<u64> {
+        let next = match self.found_in(&files) {
+            Some(next) => next,
+            None => u64::MAX,
         };
-        for again in 0..=MOST_AGAIN {
-            if !self.goes_on_again(files, next, again)? {
-                return Ok(None);
-            }
+        if next == u64::MAX || !self.goes_on_from(&files, next) {
+            drop(files);
+            return None;
         }
-        Ok(Some(next))
-    }
-
-    /// The same, of files that weren't seen before.
-    fn next_unseen(&self, seen: &mut Vec<Left>, files: MemHost) -> Result<Option<u64>, Fail> {
-        let Some(next) = self.next_again(&files)? else {
-            return Ok(None);
-        };
-        seen.push(Left { files, next })?;
-        Ok(Some(next))
+        match seen.push(Left { files, next }) {
+            Ok(()) => Some(next),
+            Err(_) => None,
+        }
     }
 
     /// The same, of files of which some were seen before.
-    fn next_left(&self, seen: &mut Vec<Left>, files: MemHost) -> Result<Option<u64>, Fail> {
+    fn next_left(&self, seen: &mut Vec<Left>, files: MemHost) -> Option<u64> {
         match known(seen, &files) {
             Some(next) => {
                 drop(files);
-                Ok(Some(next))
+                Some(next)
             }
-            None => self.next_unseen(seen, files),
+            None => self.next_in(seen, files),
         }
     }
 
     /// Whether a run over a new store is stopped after just so many calls of so many, and the runs over
     /// what that leaves go on with all that is said to be stored.
-    fn goes_on(
-        &self,
-        seen: &mut Vec<Left>,
-        calls: u64,
-        stop: u64,
-        pick: Pick,
-    ) -> Result<bool, Fail> {
-        let Ran { did, left } = self.run_anew(stop, pick)?;
-        let is_whole = did.found == Some(0);
-        let is_there = did.calls == stop && did.is_cut != is_whole && is_whole == (stop == calls);
-        Ok(match self.next_left(seen, left)? {
-            Some(next) => is_there && did.told <= next,
-            None => false,
-        })
+    fn goes_on(&self, seen: &mut Vec<Left>, calls: u64, stop: u64, pick: Pick) -> bool {
+        match self.run(None, stop, pick) {
+            Ok(Ran { did, left }) => {
+                let is_whole = did.found == Some(0);
+                let is_there = did.calls == stop
+                    && did.is_cut != is_whole
+                    && is_whole == (stop == calls);
+                is_kept(self.next_left(seen, left), 0, did.told) && is_there
+            }
+            Err(_) => false,
+        }
     }
 
     /// The same, whatever is left of the bytes that were pending.
-    fn goes_on_always(&self, seen: &mut Vec<Left>, calls: u64, stop: u64) -> Result<bool, Fail> {
-        for pick in &PICKS {
-            if !self.goes_on(seen, calls, stop, *pick)? {
-                return Ok(false);
+    fn goes_on_always(&self, seen: &mut Vec<Left>, calls: u64, stop: u64) -> bool {
+        for pick in PICKS {
+            if !self.goes_on(seen, calls, stop, *pick) {
+                return false;
             }
         }
-        Ok(true)
+        true
     }
 
-    /// The number of calls of a run over a new store.
-    fn calls(&self) -> Result<u64, Fail> {
-        let ran = self.run_anew(u64::MAX, Pick::New)?;
-        let calls = ran.did.calls;
-        drop(ran);
-        Ok(calls)
+    /// Whether two runs, of which the first left this host and the second that one, put what they should.
+    fn are_put(&self, first: &MemHost, status: Status, second: &MemHost, end: Status) -> bool {
+        let did = done_by(self.case, status, first);
+        let found = next_found(self.case, end, second.output());
+        let is_whole = did.found == Some(0);
+        is_kept(found, 0, did.told)
+            && is_front(self.case, first.output())
+            && is_whole == (status == Status::Ok)
     }
 
-    /// A number of calls of this part of the numbers up to that of all calls, each of which has so many, after which
-    /// a run, stopped so, isn't followed by runs that go on as they should.
-    fn lost_in(
-        &self,
-        seen: &mut Vec<Left>,
-        calls: u64,
-        part: u64,
-        size: u64,
-    ) -> Result<Option<u64>, Fail> {
-        for stop in 0..=calls {
-            let is_asked = stop.checked_div(size) == Some(part);
-            if is_asked && !self.goes_on_always(seen, calls, stop)? {
-                return Ok(Some(stop));
+    /// The same, where the first run is stopped so.
+    fn put_both(&self, stop: u64) -> bool {
+        let Case { plan, lines, .. } = *self.case;
+        let pick = Pick::Torn(1);
+        match host_of(self.alloc, None) {
+            Ok(host) => {
+                match run_twice(self.alloc, self.words, plan, lines, host, stop, pick) {
+                    Ok((first, second, status, end)) => {
+                        let are_put = self.are_put(&first, status, &second, end);
+                        drop(first);
+                        drop(second);
+                        are_put
+                    }
+                    Err(_) => false,
+                }
+            }
+            Err(_) => false,
+        }
+    }
+
+    /// A number of calls of those that are asked, of so many, after which a run, stopped so, isn't followed by runs that
+    /// go on as they should, or two runs don't put what they should.
+    fn lost_of(&self, seen: &mut Vec<Left>, calls: u64) -> Option<u64> {
+        for stop in self.case.from..=self.case.to.min(calls) {
+            if !self.goes_on_always(seen, calls, stop) || !self.put_both(stop) {
+                return Some(stop);
             }
         }
-        Ok(None)
+        None
     }
 
-    /// Such a number. Of the numbers from 0 to that of all calls, it looks at one part of so many.
-    fn lost(&self, part: u64, parts: u64) -> Result<Option<u64>, Fail> {
-        let calls = self.calls()?;
-        let size = calls.checked_div(parts).unwrap_or(0).saturating_add(1);
-        let mut seen = Vec::new(self.alloc);
-        let lost = self.lost_in(&mut seen, calls, part, size);
-        drop(seen);
-        lost
-    }
-
-    /// Whether two runs, of which the first is stopped so, put what they should.
-    fn put_both(&self, stop: u64) -> Result<bool, Fail> {
-        let (first, second, status, end) = run_twice(
-            self.alloc,
-            &self.words,
-            self.case.plan,
-            self.case.lines,
-            new_host(self.alloc)?,
-            stop,
-            Pick::Torn(1),
-        )?;
-        let told = told(text(&first));
-        let is_whole = next_found(&self.case, status, text(&first)) == Some(0);
-        let is_front = is_front(first.output(), self.case.turns);
-        let found = next_found(&self.case, end, text(&second));
-        drop(first);
-        drop(second);
-        Ok(match found {
-            Some(next) => told <= next && is_front && is_whole == (status == Status::Ok),
-            None => false,
-        })
-    }
-
-    /// A number of calls after which the first of two runs is stopped, where they don't put what they
-    /// should.
-    fn wrong(&self) -> Result<Option<u64>, Fail> {
-        for stop in 0..=self.calls()? {
-            if !self.put_both(stop)? {
-                return Ok(Some(stop));
+    /// Such a number of all calls.
+    fn lost(&self) -> Option<u64> {
+        match self.does(None) {
+            Some(did) => {
+                let mut seen = Vec::new(self.alloc);
+                let lost = self.lost_of(&mut seen, did.calls);
+                drop(seen);
+                lost
             }
+            None => Some(u64::MAX),
         }
-        Ok(None)
     }
 }
 
-/// Of each of these cases each stop of this part of so many is gone on from, whatever is left of the bytes that were
-/// pending.
-fn assert_goes_on(
-    rt: &(impl Abort + AllocGlobal),
-    cases: &[Case<'_>],
-    part: u64,
-    parts: u64,
-) -> Result<(), Fail> {
-    for case in cases {
-        let trial = Trial::new(rt.alloc(), *case)?;
-        let lost = trial.lost(part, parts);
-        drop(trial);
-        assert_eq!(rt; lost?, None);
-    }
+fn add(alloc: Global, words: &mut Vec<String>, word: &str) -> Result<(), Memory> {
+    let word = String::from_str(alloc, word)?;
+    words.push(word)?;
     Ok(())
 }
 
-/// Of each of these cases two runs put what they should, wherever the first one is stopped.
-fn assert_put_both(rt: &(impl Abort + AllocGlobal), cases: &[Case<'_>]) -> Result<(), Fail> {
+/// Adds the words of a run.
+fn add_words(alloc: Global, words: &mut Vec<String>) -> Result<(), Memory> {
+    add(alloc, words, "run")?;
+    add(alloc, words, "plan")?;
+    add(alloc, words, "store")
+}
+
+/// Such a number of one of these cases.
+fn first_lost(alloc: Global, words: &[String], cases: &[Case]) -> Option<u64> {
     for case in cases {
-        let trial = Trial::new(rt.alloc(), *case)?;
-        let wrong = trial.wrong();
-        drop(trial);
-        assert_eq!(rt; wrong?, None);
+        let lost = Trial { alloc, words, case }.lost();
+        if lost.is_some() {
+            return lost;
+        }
     }
+    None
+}
+
+/// The same, with the words of a run.
+fn lost_in(alloc: Global, cases: &[Case]) -> Option<u64> {
+    let mut words = Vec::new(alloc);
+    let lost = match add_words(alloc, &mut words) {
+        Ok(()) => first_lost(alloc, &words, cases),
+        Err(_) => Some(u64::MAX),
+    };
+    drop(words);
+    lost
+}
+
+fn assert_none(rt: &impl Abort, lost: Option<u64>) -> Result<(), Fail> {
+    assert_eq!(rt; lost, None);
     Ok(())
 }
 
-#[test]
-fn a_run_goes_on_from_each_early_stop(rt: HostRuntime) -> Result<(), Fail> {
-    assert_goes_on(&rt, &[PAYMENTS], 0, 2)
+/// Of each of these cases each stop is gone on from, whatever is left of the bytes that were pending, and two runs put
+/// what they should.
+fn assert_goes_on(rt: &(impl Abort + AllocGlobal), cases: &'static [Case]) -> Result<(), Fail> {
+    assert_none(rt, lost_in(rt.alloc(), cases))
 }
 
 #[test]
-fn a_run_goes_on_from_each_late_stop(rt: HostRuntime) -> Result<(), Fail> {
-    assert_goes_on(&rt, &[PAYMENTS], 1, 2)
+fn a_run_goes_on_from_each_stop(rt: HostRuntime) -> Result<(), Fail> {
+    assert_goes_on(&rt, &[PAYMENTS])
 }
 
 #[test]
-fn a_run_with_control_lines_goes_on_from_each_stop_of_its_first_third(
-    rt: HostRuntime,
-) -> Result<(), Fail> {
-    assert_goes_on(&rt, &[CONTROLLED], 0, 3)
+fn a_run_with_control_lines_goes_on_from_each_early_stop(rt: HostRuntime) -> Result<(), Fail> {
+    assert_goes_on(
+        &rt,
+        &[Case {
+            to: 38,
+            ..CONTROLLED
+        }],
+    )
 }
 
 #[test]
-fn a_run_with_control_lines_goes_on_from_each_stop_of_its_second_third(
-    rt: HostRuntime,
-) -> Result<(), Fail> {
-    assert_goes_on(&rt, &[CONTROLLED], 1, 3)
-}
-
-#[test]
-fn a_run_with_control_lines_goes_on_from_each_stop_of_its_last_third(
-    rt: HostRuntime,
-) -> Result<(), Fail> {
-    assert_goes_on(&rt, &[CONTROLLED], 2, 3)
-}
-
-#[test]
-fn two_runs_put_what_they_should(rt: HostRuntime) -> Result<(), Fail> {
-    assert_put_both(&rt, &[PAYMENTS, CONTROLLED])
+fn a_run_with_control_lines_goes_on_from_each_late_stop(rt: HostRuntime) -> Result<(), Fail> {
+    assert_goes_on(
+        &rt,
+        &[Case {
+            from: 39,
+            ..CONTROLLED
+        }],
+    )
 }

@@ -1,0 +1,60 @@
+use crate::rows::{Row, assert_each};
+use rg_bytes::Memory;
+use rg_event::{Bytes, Texts};
+use std::alloc::Global;
+use std::test::Fail;
+
+fn push(alloc: Global, texts: &mut Texts, text: &[u8]) -> Result<(), Memory> {
+    let text = Bytes::from_slice(alloc, text)?;
+    texts.push(text)
+}
+
+/// Two texts, and an empty one behind them.
+fn push_three(alloc: Global, texts: &mut Texts) -> Result<(), Memory> {
+    push(alloc, texts, b"one")?;
+    push(alloc, texts, b"two")?;
+    texts.push(Bytes::new(alloc))
+}
+
+/// Whether these are those three texts.
+fn are_three(texts: &Texts) -> bool {
+    match texts.as_slice() {
+        [one, two, none] => {
+            one.as_slice() == b"one".as_slice()
+                && two.as_slice() == b"two".as_slice()
+                && none.as_slice().is_empty()
+        }
+        _ => false,
+    }
+}
+
+/// Whether a copy of texts is equal to them and is those three.
+fn are_copied(alloc: Global, texts: &Texts) -> Result<bool, Memory> {
+    let copies = texts.copy(alloc)?;
+    let are_kept = copies == *texts && are_three(&copies);
+    drop(copies);
+    Ok(are_kept)
+}
+
+/// Whether texts to which three are pushed are kept.
+fn are_kept(alloc: Global, texts: &mut Texts) -> Result<bool, Memory> {
+    push_three(alloc, texts)?;
+    are_copied(alloc, texts)
+}
+
+#[derive(Clone, Copy)]
+struct Three;
+
+impl Row for Three {
+    fn is_so(&self, alloc: Global) -> Result<bool, Memory> {
+        let mut texts = Texts::new(alloc);
+        let are_kept = are_kept(alloc, &mut texts);
+        drop(texts);
+        are_kept
+    }
+}
+
+#[test]
+fn texts_keep_what_is_pushed_in_order(rt: HostRuntime) -> Result<(), Fail> {
+    assert_each(&rt, &[Three])
+}

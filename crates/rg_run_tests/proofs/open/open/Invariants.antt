@@ -1,4 +1,0 @@
-use Rattle.rg_run_tests.proofs.open.open.Given as goal
-
-abbrev pub ghosts-open_counted : goal.ghosts-open_counted
-ghosts-open_counted a = record { name = a.blank.name; parts = a.blank.parts }

@@ -1,0 +1,4 @@
+use Rattle.rg_run_tests.proofs.started.answers_by.Given as goal
+
+abbrev pub ghosts-answers_counted : goal.ghosts-answers_counted
+ghosts-answers_counted a = record { name = a.blank.name; parts = a.blank.parts }

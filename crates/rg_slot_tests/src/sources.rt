@@ -1,0 +1,293 @@
+ghost use Rattle.std.specs.Prelude.{None};
+
+use crate::parts::{Part, joined};
+use crate::rows::{Row, assert_each};
+use rg_bytes::Memory;
+use rg_host::{AllFault, Failed, Line, LineFault, Lines, MemSource, Source, read_all};
+use std::alloc::Global;
+use std::test::Fail;
+
+/// A source that gives at most `piece` bytes a read. The read of number `fail` fails.
+#[derive(Drop)]
+struct Pieces<'a> {
+    bytes: &'a [u8],
+    piece: usize,
+    fail: u64,
+    reads: u64,
+    failed: u64,
+}
+
+impl Source for Pieces<'_> {
+    ghost left = { λ _. None };
+
+    ghost faults = { λ source. source.failed };
+
+    fn read(&mut self, buf: &mut [u8]) -> Result<usize, Failed> {
+        let read = self.reads;
+        self.reads = read.saturating_add(1);
+        if read == self.fail {
+            self.failed = self.failed.saturating_add(1);
+            return Err(Failed);
+        }
+        let count = self.piece.min(buf.len()).min(self.bytes.len());
+        buf[..count].copy_from_slice(&self.bytes[..count]);
+        self.bytes = &self.bytes[count..];
+        Ok(count)
+    }
+}
+
+/// What comes of a source, or what is known of it.
+#[derive(Clone, Copy)]
+enum Turn {
+    /// A line of this text comes.
+    Text(&'static [u8]),
+    /// A line of the first so many bytes of the source.
+    First(usize),
+    /// A line that is too long.
+    Long,
+    /// The end.
+    End,
+    /// A failed read.
+    Fault,
+    /// Whether a line is held.
+    Held(bool),
+    /// How many reads there were.
+    Reads(u64),
+    /// How many of them failed.
+    Failed(u64),
+    /// All of the bytes are read up to this limit, of a source in memory.
+    All(usize),
+    /// They are above this limit.
+    Above(usize),
+    /// Up to this limit, a read fails.
+    Unread(usize),
+}
+
+/// Whether this line comes next, or none, for a failed read.
+fn is_next(lines: &mut Lines, source: &mut Pieces<'_>, want: Option<Line<'_>>) -> bool {
+    match lines.next(source) {
+        Ok(line) => want == Some(line),
+        Err(fault) => want.is_none() && fault == LineFault::Read,
+    }
+}
+
+fn source_of(alloc: Global, bytes: &[u8], fail: u64) -> Result<MemSource, Memory> {
+    let fail = [fail].to_vec(alloc)?;
+    match bytes.to_vec(alloc) {
+        Ok(bytes) => Ok(MemSource::new(bytes, fail)),
+        Err(_) => Err(Memory),
+    }
+}
+
+/// Whether all of these bytes are read of a source, or why not.
+fn is_read(
+    alloc: Global,
+    source: &mut MemSource,
+    bytes: &[u8],
+    limit: usize,
+    fault: Option<AllFault>,
+) -> bool {
+    match read_all(alloc, source, limit) {
+        Ok(all) => {
+            let is_all = all.as_slice() == bytes;
+            drop(all);
+            is_all && fault.is_none()
+        }
+        Err(other) => fault == Some(other),
+    }
+}
+
+/// The same of a source in memory, whose read of that number fails.
+fn reads(alloc: Global, bytes: &[u8], fail: u64, limit: usize, fault: Option<AllFault>) -> bool {
+    match source_of(alloc, bytes, fail) {
+        Ok(mut source) => {
+            let is_read = is_read(alloc, &mut source, bytes, limit, fault);
+            drop(source);
+            is_read
+        }
+        Err(_) => false,
+    }
+}
+
+/// Bytes of a source, and what comes of it.
+struct Case {
+    bytes: &'static [Part],
+    /// A read by lines gives at most so many.
+    piece: usize,
+    /// The number of the read that fails, counted from 0.
+    fail: u64,
+    turns: &'static [Turn],
+}
+
+impl Case {
+    /// Whether this comes next of the lines of a source of these bytes, or is so.
+    fn comes(
+        &self,
+        alloc: Global,
+        lines: &mut Lines,
+        source: &mut Pieces<'_>,
+        bytes: &[u8],
+        turn: &Turn,
+    ) -> bool {
+        match turn {
+            Turn::Text(text) => is_next(lines, source, Some(Line::Text(text))),
+            Turn::First(count) => {
+                let text = bytes.get(..*count).unwrap_or(b"");
+                is_next(lines, source, Some(Line::Text(text)))
+            }
+            Turn::Long => is_next(lines, source, Some(Line::Long)),
+            Turn::End => is_next(lines, source, Some(Line::End)),
+            Turn::Fault => is_next(lines, source, None),
+            Turn::Held(held) => lines.has_line() == *held,
+            Turn::Reads(reads) => source.reads == *reads,
+            Turn::Failed(failed) => source.failed == *failed,
+            Turn::All(limit) => reads(alloc, bytes, self.fail, *limit, None),
+            Turn::Above(limit) => reads(alloc, bytes, self.fail, *limit, Some(AllFault::Limit)),
+            Turn::Unread(limit) => reads(alloc, bytes, self.fail, *limit, Some(AllFault::Read)),
+        }
+    }
+
+    /// Whether all comes so.
+    fn come(&self, alloc: Global, lines: &mut Lines, bytes: &[u8]) -> bool {
+        let mut source = Pieces {
+            bytes,
+            piece: self.piece,
+            fail: self.fail,
+            reads: 0,
+            failed: 0,
+        };
+        for turn in self.turns {
+            if !self.comes(alloc, lines, &mut source, bytes, turn) {
+                return false;
+            }
+        }
+        true
+    }
+
+    fn is_so_of(&self, alloc: Global, bytes: &[u8]) -> bool {
+        match Lines::new(alloc) {
+            Ok(mut lines) => {
+                let do_come = self.come(alloc, &mut lines, bytes);
+                drop(lines);
+                do_come
+            }
+            Err(_) => false,
+        }
+    }
+}
+
+impl Row for Case {
+    fn is_so(&self, alloc: Global) -> bool {
+        match joined(alloc, self.bytes) {
+            Ok(bytes) => {
+                let is_so = self.is_so_of(alloc, &bytes);
+                drop(bytes);
+                is_so
+            }
+            Err(_) => false,
+        }
+    }
+}
+
+#[test]
+fn sources_give_their_lines_or_all_bytes(rt: HostRuntime) -> Result<(), Fail> {
+    assert_each(
+        &rt,
+        &[
+            // Lines go over the borders of pieces.
+            Case {
+                bytes: &[Part::Bytes(b"one\n\nthree\nlast")],
+                piece: 2,
+                fail: 99,
+                turns: &[
+                    Turn::Text(b"one"),
+                    Turn::Text(b""),
+                    Turn::Text(b"three"),
+                    Turn::Text(b"last"),
+                    Turn::End,
+                    Turn::End,
+                ],
+            },
+            // The same lines come after a failed read.
+            Case {
+                bytes: &[Part::Bytes(b"one\ntwo\n")],
+                piece: 2,
+                fail: 1,
+                turns: &[
+                    Turn::Fault,
+                    Turn::Text(b"one"),
+                    Turn::Text(b"two"),
+                    Turn::End,
+                ],
+            },
+            // Nothing is read behind a last text.
+            Case {
+                bytes: &[Part::Bytes(b"a")],
+                piece: 2,
+                fail: 2,
+                turns: &[
+                    Turn::Text(b"a"),
+                    Turn::End,
+                    Turn::End,
+                    Turn::Reads(2),
+                    Turn::Failed(0),
+                ],
+            },
+            // A line is held once its line feed has come.
+            Case {
+                bytes: &[Part::Bytes(b"one\ntwo\nla")],
+                piece: 8,
+                fail: 2,
+                turns: &[
+                    Turn::Held(false),
+                    Turn::Text(b"one"),
+                    Turn::Reads(1),
+                    Turn::Held(true),
+                    Turn::Text(b"two"),
+                    Turn::Reads(1),
+                    Turn::Held(false),
+                    Turn::Fault,
+                    Turn::Reads(3),
+                    Turn::Held(false),
+                    Turn::Text(b"la"),
+                    Turn::Reads(4),
+                    Turn::Held(false),
+                    Turn::End,
+                    Turn::Reads(4),
+                ],
+            },
+            // A line of 65,535 bytes comes whole, and one of 65,536 as a long one.
+            Case {
+                bytes: &[
+                    Part::Times(65_535, b"a"),
+                    Part::Bytes(b"\n"),
+                    Part::Times(65_536, b"b"),
+                    Part::Bytes(b"\nc"),
+                ],
+                piece: 40_000,
+                fail: 99,
+                turns: &[Turn::First(65_535), Turn::Long, Turn::Text(b"c"), Turn::End],
+            },
+            // All of 10,000 bytes is read up to the limit, in two pieces and a last call that finds the end; one byte less is
+            // too low a limit, and a failed call is told.
+            Case {
+                bytes: &[Part::Times(10_000, b"\x07")],
+                piece: 1,
+                fail: 3,
+                turns: &[Turn::All(10_000)],
+            },
+            Case {
+                bytes: &[Part::Times(10_000, b"\x07")],
+                piece: 1,
+                fail: u64::MAX,
+                turns: &[Turn::Above(9_999)],
+            },
+            Case {
+                bytes: &[Part::Times(10_000, b"\x07")],
+                piece: 1,
+                fail: 2,
+                turns: &[Turn::Unread(10_000)],
+            },
+        ],
+    )
+}

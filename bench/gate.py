@@ -104,7 +104,9 @@ def look(gate, checks):
 
 def run_gate():
     began, checks = time.monotonic(), {}
-    gate = subprocess.Popen(["rt", "ci", *sys.argv[1:]])
+    # as in .ci/run, a check for each processor
+    jobs = {"RT_JOBS": str(len(os.sched_getaffinity(0)))}
+    gate = subprocess.Popen(["rt", "ci", *sys.argv[1:]], env={**jobs, **os.environ})
     while gate.poll() is None:
         look(gate.pid, checks)
         time.sleep(0.5)

@@ -54,7 +54,7 @@ const BY_TEXTS: Call<'static> = Call {
     ..PLAIN
 };
 
-const GREATEST_ROWS: &[Scenario<'static>] = &[
+const AT_BOUNDS: &[Scenario<'static>] = &[
     Scenario {
         says: "a plan at all its bounds is answered",
         calls: &[Call {
@@ -106,7 +106,7 @@ const GREATEST_ROWS: &[Scenario<'static>] = &[
 
 #[test]
 fn what_is_at_all_its_bounds_is_answered(rt: HostRuntime) -> Result<(), Fail> {
-    assert_all(&rt, GREATEST_ROWS)
+    assert_all(&rt, AT_BOUNDS)
 }
 
 /// A check of that plan.

@@ -30,7 +30,7 @@ const GREATER: &str = "chunk = 1\ncommit = 2\nsave = 4\ncache = 64\n";
 
 const CACHED: &[Scenario<'static>] = &[
     Scenario {
-        says: "a load ahead reads the chunk behind the edges and puts no mark, and a commit of what is stored reads nothing",
+        says: "a load ahead reads a chunk, as a commit of what is stored doesn't, and puts no mark",
         reads: &[Reading {
             more: Call {
                 input: b"0,c1,m1,1\n1,c1,m1,1\n!ahead\n",
@@ -46,7 +46,7 @@ const CACHED: &[Scenario<'static>] = &[
         ..EMPTY
     },
     Scenario {
-        says: "whether chunks are loaded ahead behind each payment changes no answer, whatever the cache holds",
+        says: "with a load ahead behind each payment a smaller cache answers the same and reads more",
         reads: &[Reading {
             more: AHEAD,
             fewer: Call {

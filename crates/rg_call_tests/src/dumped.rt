@@ -75,7 +75,8 @@ const DUMPED: &[Scenario<'static>] = &[
                 ends: Status::Write,
                 ..DUMP
             },
-            only_last: false,
+            puts: 2,
+            puts_last: false,
         }],
         ..EMPTY
     },

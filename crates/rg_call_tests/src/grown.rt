@@ -200,7 +200,7 @@ const GROWN_OTHERS: &[Scenario<'static>] = &[
     },
     // the first schema alone, and the growth behind it
     Scenario {
-        says: "a log without a payment grows and one without a frame begins",
+        says: "a log without a payment grows",
         runs: &[
             NONE,
             FROM_NONE,
@@ -213,7 +213,7 @@ const GROWN_OTHERS: &[Scenario<'static>] = &[
     },
     // the longer schema alone
     Scenario {
-        says: "a log without a payment grows and one without a frame begins",
+        says: "a log without a frame begins with the longer schema",
         runs: &[
             FROM_NONE,
             Call {

@@ -84,7 +84,8 @@ const INFORMED: &[Scenario<'static>] = &[
                 ends: Status::Write,
                 ..INFO
             },
-            only_last: true,
+            puts: 1,
+            puts_last: true,
         }],
         ..EMPTY
     },

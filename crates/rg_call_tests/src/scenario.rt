@@ -25,8 +25,10 @@ pub(super) struct Failing<'a> {
     pub(super) whole: Call<'a>,
     pub(super) disk: Call<'a>,
     pub(super) put: Call<'a>,
-    /// Whether just the last of its calls is a put. Else one is a put, or some are.
-    pub(super) only_last: bool,
+    /// How many of its calls are puts. Some call is none.
+    pub(super) puts: u64,
+    /// Whether the last of its calls has to be one.
+    pub(super) puts_last: bool,
 }
 
 /// Two calls, of which the first reads more often than the second.
@@ -45,7 +47,7 @@ pub(super) struct Scenario<'a> {
     pub(super) log: &'a [u8],
     /// The numbers of the calls on the host that fail in the runs.
     pub(super) failing: &'a [u64],
-    /// Calls over this store, each over what the one before left.
+    /// Calls over this store, each over what the one before left, without changes of its own.
     pub(super) runs: &'a [Call<'a>],
     /// What they leave.
     pub(super) left: &'a [Left<'a>],
@@ -302,9 +304,9 @@ fn assert_failing(
             last = number.saturating_add(1);
         }
     }
-    let is_last = puts == 1 && last == calls;
-    let are_puts = puts > 0 && (is_last || !failing.only_last);
-    assert_row(rt, row, "it puts last", are_puts)
+    let is_last = last == calls || !failing.puts_last;
+    let are_puts = puts == failing.puts && puts < calls && is_last;
+    assert_row(rt, row, "it puts so often", are_puts)
 }
 
 fn assert_reading(

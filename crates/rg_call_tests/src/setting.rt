@@ -8,7 +8,7 @@ use std::process::Abort;
 use std::str;
 use std::test::Fail;
 
-pub(super) const PAYMENTS: &str = "\"ts\", \"card:text\", \"merchant:text\", \"amount:int\"";
+const PAYMENTS: &str = "\"ts\", \"card:text\", \"merchant:text\", \"amount:int\"";
 
 pub(super) const CARDS: &str = "\"ts\", \"card:text\"";
 
@@ -16,7 +16,7 @@ pub(super) const CARDS: &str = "\"ts\", \"card:text\"";
 pub(super) const COUNTRIES: &str =
     "\"ts\", \"card:text\", \"merchant:text\", \"amount:int\", \"country:text\"";
 
-pub(super) const TOTALS: &str =
+const TOTALS: &str =
     "SELECT count(*), sum(amount) FROM payments GROUP BY card OVER SLIDING 5 minutes";
 
 pub(super) const MERCHANTS: &str =
@@ -39,7 +39,7 @@ pub(super) const EIGHT: &[u8] =
     b"0,c1,m1,1\n1,c1,m1,1\n2,c1,m1,1\n3,c1,m1,1\n4,c1,m1,1\n5,c1,m1,1\n6,c1,m1,1\n7,c1,m1,1\n";
 
 /// What a run in small chunks over an empty store puts for them.
-pub(super) const EIGHT_PUT: &str =
+const EIGHT_PUT: &str =
     "open 0 0 0\n0 ok 1 1\n1 ok 2 2\nstored 2\n2 ok 3 3\n3 ok 4 4\nstored 4\nsaved 4\n4 ok 5 5\n5 ok 6 6\nstored 6\n6 ok 7 7\n7 ok 8 8\nstored 8\nsaved 8\nstored 8\nsaved 8\ndone 8 8\n";
 
 /// The frame of the schema `payments(ts,card:text,merchant:text,amount:int)`, that of a chunk of
@@ -47,11 +47,11 @@ pub(super) const EIGHT_PUT: &str =
 pub(super) const LOG: &[u8] =
     b"\x01\0\0\0\0\0\0\0\x30Spayments(ts,card:text,merchant:text,amount:int)\x01\0\0\0\0\0\0\0\x61C\0\0\0\x02\0\0\0\0\0\0\0\0\0\0\0\0\0\0\0\0\0\0\0\0\0\0\0\x01\0\0\0\0\0\x04\x93\xdf\0\0\0\0\0\0\0\0\0\0\0\0\0\0\0\0\x02c1\x02m1\0\0\0\0\0\0\0\x64\0\0\0\0\0\0\0\x01\0\0\0\0\0\x04\x93\xdf\x02c1\x02m2\0\0\0\0\0\0\0\xc8\0";
 
-/// The same frames, that of a chunk of one payment behind them, by rows, and a closed gate.
+/// The same frames and that of a chunk of one payment behind them, all chunks by rows, and a closed gate.
 pub(super) const ROWS: &[u8] =
     b"\x01\0\0\0\0\0\0\0\x30Spayments(ts,card:text,merchant:text,amount:int)\x01\0\0\0\0\0\0\0\x61C\0\0\0\x02\0\0\0\0\0\0\0\0\0\0\0\0\0\0\0\0\0\0\0\0\0\0\0\x01\0\0\0\0\0\x04\x93\xdf\0\0\0\0\0\0\0\0\0\0\0\0\0\0\0\0\x02c1\x02m1\0\0\0\0\0\0\0\x64\0\0\0\0\0\0\0\x01\0\0\0\0\0\x04\x93\xdf\x02c1\x02m2\0\0\0\0\0\0\0\xc8\x01\0\0\0\0\0\0\0\x43C\0\0\0\x01\0\0\0\0\0\0\0\x02\0\0\0\0\0\x04\x93\xe0\0\0\0\0\0\0\0\x02\0\0\0\0\0\x04\x93\xe0\0\0\0\0\0\0\0\x02\0\0\0\0\0\x04\x93\xe0\x02c1\x02m1\0\0\0\0\0\0\0\x32\0";
 
-/// A log whose only frame is none.
+/// A log of an open gate and the length 255, behind which one byte stands.
 pub(super) const DAMAGED_LOG: &[u8] = b"\x01\0\0\0\0\0\0\0\xff\0";
 
 /// What of a text that a call put has to be the wanted one.
@@ -75,7 +75,7 @@ pub(super) struct Call<'a> {
     pub(super) settings: &'a str,
     /// The whole plan, where it isn't made of these.
     pub(super) plan: &'a [Piece<'a>],
-    /// The changes of the first slot before the call.
+    /// The changes of the first slot before the call. Those of a scenario's runs have none, here and below.
     pub(super) slot: &'a [Change<'a>],
     /// The changes of the log before it.
     pub(super) log: &'a [Change<'a>],
@@ -315,7 +315,7 @@ fn shown(alloc: Global, call: &Call<'_>, text: &str) -> Result<String, Fail> {
     }
 }
 
-/// Which call it is, by what its scenario says and its number there, from 0.
+/// Which check it is: what is said of it, and a number by which it is told from others of which the same is said.
 #[derive(Clone, Copy)]
 pub(super) struct Row<'a> {
     pub(super) says: &'a str,
@@ -337,7 +337,7 @@ pub(super) fn assert_row(
     what: &str,
     holds: bool,
 ) -> Result<(), Fail> {
-    assert!(rt; holds, "{}: call {}: {what}", row.says, row.number);
+    assert!(rt; holds, "{}, {}: {what}", row.says, row.number);
     Ok(())
 }
 
@@ -347,7 +347,7 @@ fn assert_same(
     put: (&str, Status),
     wanted: (&str, Status),
 ) -> Result<(), Fail> {
-    assert_eq!(rt; put, wanted, "{}: call {}", row.says, row.number);
+    assert_eq!(rt; put, wanted, "{}, {}", row.says, row.number);
     Ok(())
 }
 

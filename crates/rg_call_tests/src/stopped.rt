@@ -48,10 +48,11 @@ const WHOLE: Scenario<'static> = Scenario {
     ..EMPTY
 };
 
-/// That run, and the store that it leaves.
+/// That run.
 static RUN_MIXED: Call<'static> = MIXED;
 
-static RUN_WHOLE: Scenario<'static> = WHOLE;
+/// The same over an empty store.
+static ALONE: Scenario<'static> = WHOLE;
 
 /// What may be left of the bytes that were pending: the old ones, the new ones, or others.
 const PICKS: &[Pick] = &[
@@ -328,7 +329,7 @@ fn assert_whole_stops_twice(
     rt: &(impl Abort + AllocGlobal),
     seen: &mut Vec<Seen>,
 ) -> Result<(), Fail> {
-    let whole = left_by(rt, &RUN_WHOLE)?;
+    let whole = left_by(rt, &ALONE)?;
     let done = assert_stops_twice(rt, seen, &whole);
     drop(whole);
     done
@@ -381,7 +382,7 @@ fn assert_stopped_at(
 
 /// How many calls a run makes that nothing stops.
 fn calls_of_whole(rt: &(impl Abort + AllocGlobal)) -> Result<u64, Fail> {
-    let whole = left_by(rt, &RUN_WHOLE)?;
+    let whole = left_by(rt, &ALONE)?;
     let calls = whole.calls();
     drop(whole);
     Ok(calls)
@@ -445,10 +446,10 @@ fn assert_somewhere(rt: &(impl Abort + AllocGlobal), again: &Again<'_>) -> Resul
     let is_put = is_put_somewhere(rt.alloc(), again, &whole);
     drop(whole);
     let row = Row {
-        says: again.again.wanted,
+        says: again.run.says,
         number: 0,
     };
-    assert_row(rt, row, again.run.says, is_put?)
+    assert_row(rt, row, again.again.wanted, is_put?)
 }
 
 fn assert_each_somewhere(rt: &(impl Abort + AllocGlobal), rows: &[Again<'_>]) -> Result<(), Fail> {

@@ -186,7 +186,7 @@ fn a_run_puts_its_marks_and_a_later_one_goes_on(rt: HostRuntime) -> Result<(), F
 }
 
 /// A run over three payments.
-static RUN_WHOLE: Call<'static> = RUN_THREE;
+static OVER_THREE: Call<'static> = RUN_THREE;
 
 /// That run alone.
 static WHOLE: Scenario<'static> = Scenario {
@@ -207,7 +207,7 @@ fn behind_open(text: &str) -> &str {
 fn is_read_or_refused(text: &str, status: Status) -> bool {
     match status {
         Status::Store => text.starts_with("refused store damaged "),
-        Status::Ok => THREE_PUT.ends_with(behind_open(text)),
+        Status::Ok => text.ends_with("done 3 3\n") && THREE_PUT.ends_with(behind_open(text)),
         _ => false,
     }
 }
@@ -215,7 +215,7 @@ fn is_read_or_refused(text: &str, status: Status) -> bool {
 /// A run over a store with this log does so.
 fn assert_cut_well(rt: &(impl Abort + AllocGlobal), log: &[u8]) -> Result<(), Fail> {
     let mut host = host_of(rt.alloc(), log, &[])?;
-    let status = status_on(rt.alloc(), &RUN_WHOLE, &mut host);
+    let status = status_on(rt.alloc(), &OVER_THREE, &mut host);
     let text = text_behind(&host, 0);
     let is_well = match &status {
         Ok(status) => is_read_or_refused(text, *status),

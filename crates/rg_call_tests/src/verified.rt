@@ -72,7 +72,7 @@ const VERIFIED: &[Scenario<'static>] = &[
         ..STAYS
     },
     Scenario {
-        says: "a sound store is verified",
+        says: "a sound store of two checkpoints is verified",
         runs: &[RUN_SIXTEEN],
         calls: &[Call {
             wanted: "slot 0 ok 8\nslot 1 ok 16\n",
@@ -194,7 +194,8 @@ const VERIFIED: &[Scenario<'static>] = &[
                 ends: Status::Write,
                 ..VERIFY
             },
-            only_last: true,
+            puts: 1,
+            puts_last: true,
         }],
         ..EMPTY
     },

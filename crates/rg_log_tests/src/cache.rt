@@ -8,7 +8,7 @@ use std::test::Fail;
 
 /// What is done to a cache of numbers by their places, or what it says.
 #[derive(Clone, Copy)]
-pub(crate) enum Touch {
+pub(crate) enum Step {
     /// A number is put at a place, where none is held.
     Put(u64, u64),
     /// Whether a place is held.
@@ -33,19 +33,19 @@ fn puts(cache: &mut ChunkCache<u64>, place: u64, item: u64) -> bool {
 }
 
 /// Whether a step goes so.
-fn goes(cache: &mut ChunkCache<u64>, step: &Touch) -> bool {
+fn goes(cache: &mut ChunkCache<u64>, step: &Step) -> bool {
     match step {
-        Touch::Put(place, item) => puts(cache, *place, *item),
-        Touch::Holds(place, is_held) => cache.holds(*place) == *is_held,
-        Touch::Gets(place, item) => cache.get(*place).copied() == *item,
-        Touch::Touches(place, item) => cache.touch(*place).copied() == *item,
-        Touch::Promotes(place, is_held) => cache.promote(*place) == *is_held,
-        Touch::Held(count) => cache.held() == *count,
-        Touch::Cap(count) => cache.cap() == *count,
+        Step::Put(place, item) => puts(cache, *place, *item),
+        Step::Holds(place, is_held) => cache.holds(*place) == *is_held,
+        Step::Gets(place, item) => cache.get(*place).copied() == *item,
+        Step::Touches(place, item) => cache.touch(*place).copied() == *item,
+        Step::Promotes(place, is_held) => cache.promote(*place) == *is_held,
+        Step::Held(count) => cache.held() == *count,
+        Step::Cap(count) => cache.cap() == *count,
     }
 }
 
-fn first_of(cache: &mut ChunkCache<u64>, steps: &[Touch]) -> Option<usize> {
+fn first_of(cache: &mut ChunkCache<u64>, steps: &[Step]) -> Option<usize> {
     let mut number = 0usize;
     for step in steps {
         if !goes(cache, step) {
@@ -57,7 +57,7 @@ fn first_of(cache: &mut ChunkCache<u64>, steps: &[Touch]) -> Option<usize> {
 }
 
 /// The number of the first step that goes otherwise, if one does, of a cache with room for 1 to 1,024.
-pub(crate) fn wrong_in(alloc: Global, cap: u32, steps: &[Touch]) -> Result<Option<usize>, Memory> {
+pub(crate) fn wrong_in(alloc: Global, cap: u32, steps: &[Step]) -> Result<Option<usize>, Memory> {
     if cap == 0 || cap > 1024 {
         return Err(Memory);
     }
@@ -74,37 +74,37 @@ const CACHES: &[Row<'_>] = &[
         does: Does::Caches(
             1,
             &[
-                Touch::Put(13, 130),
-                Touch::Put(50, 500),
-                Touch::Cap(1),
-                Touch::Held(1),
-                Touch::Gets(50, Some(500)),
-                Touch::Holds(13, false),
-                Touch::Touches(50, Some(500)),
-                Touch::Touches(13, None),
-                Touch::Promotes(13, false),
-                Touch::Held(1),
+                Step::Put(13, 130),
+                Step::Put(50, 500),
+                Step::Cap(1),
+                Step::Held(1),
+                Step::Gets(50, Some(500)),
+                Step::Holds(13, false),
+                Step::Touches(50, Some(500)),
+                Step::Touches(13, None),
+                Step::Promotes(13, false),
+                Step::Held(1),
             ],
         ),
         ..ROW
     },
-    // Of two it drops one twice.
+    // Of two it drops the one that was touched longest ago, twice.
     Row {
         does: Does::Caches(
             2,
             &[
-                Touch::Put(13, 130),
-                Touch::Put(50, 500),
-                Touch::Touches(13, Some(130)),
-                Touch::Put(90, 900),
-                Touch::Holds(50, false),
-                Touch::Holds(90, true),
-                Touch::Promotes(13, true),
-                Touch::Put(50, 501),
-                Touch::Gets(13, Some(130)),
-                Touch::Gets(50, Some(501)),
-                Touch::Holds(90, false),
-                Touch::Held(2),
+                Step::Put(13, 130),
+                Step::Put(50, 500),
+                Step::Touches(13, Some(130)),
+                Step::Put(90, 900),
+                Step::Holds(50, false),
+                Step::Holds(90, true),
+                Step::Promotes(13, true),
+                Step::Put(50, 501),
+                Step::Gets(13, Some(130)),
+                Step::Gets(50, Some(501)),
+                Step::Holds(90, false),
+                Step::Held(2),
             ],
         ),
         ..ROW

@@ -35,6 +35,7 @@ fn push_each(alloc: Global, values: &mut Values, items: &[Item<'_>]) -> Result<(
     Ok(())
 }
 
+/// These values, as an event has them.
 pub(crate) fn values_of(alloc: Global, items: &[Item<'_>]) -> Result<Values, Memory> {
     let mut values = Values::new(alloc);
     match push_each(alloc, &mut values, items) {

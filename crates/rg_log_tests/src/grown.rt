@@ -11,8 +11,8 @@ const PLACED: Case<'_> = Case {
     ..THREE
 };
 
-/// A log whose frames stand at 0, 57, 163 and 239, and which ends at 317: two payments, the growth by their place, and a
-/// payment more.
+/// A log whose frames stand at 0, 57, 163 and 239, and which ends at 317: two payments, the growth by their place, and
+/// a payment more.
 const GROWN: Row<'_> = Row {
     frames: &[SCHEMA_PAYLOAD, TWO, PLACE, ONE_PLACED],
     ..ROW

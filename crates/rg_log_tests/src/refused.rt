@@ -17,7 +17,7 @@ const SOUND: Row<'_> = Row {
 
 /// That log, where it is changed or cut.
 const ROWS: &[Row<'_>] = &[
-    // It is attached where no open frame changes.
+    // It is attached where a gate is closed: the end's, which is so, and that of the first chunk.
     Row {
         changes: &[Changed(220, 0)],
         ..SOUND

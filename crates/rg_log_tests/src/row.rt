@@ -1,4 +1,4 @@
-use crate::cache::{self, Touch};
+use crate::cache::{self, Step};
 use crate::chunk::says;
 use crate::events::Item;
 use crate::open::{self, Fill};
@@ -31,7 +31,7 @@ pub(crate) enum Does<'a> {
     /// So they are printed as a log.
     Prints(Print<'a>),
     /// A cache of room for so many items goes so.
-    Caches(u32, &'a [Touch]),
+    Caches(u32, &'a [Step]),
     /// An open chunk of room for so many events goes so.
     Fills(u32, &'a [Fill<'a>]),
 }
@@ -45,8 +45,8 @@ pub(crate) struct Row<'a> {
     pub rest: &'a [&'a [u8]],
     /// What is changed in those bytes.
     pub changes: &'a [Changed],
-    /// Each front of so many of those bytes is taken, from the least to the most of these numbers; all of them where there
-    /// are fewer.
+    /// Each front of so many of those bytes is taken, from the least to the most of these numbers, which is no less;
+    /// all of them where there are fewer.
     pub least: usize,
     pub most: usize,
     pub does: Does<'a>,
@@ -84,12 +84,16 @@ fn wrong_in(alloc: Global, bytes: &[u8], does: &Does<'_>) -> Result<Option<usize
     }
 }
 
-/// The number of bytes of the first front that goes otherwise, if one does, and the number of what goes so.
+/// The number of bytes of the first front that goes otherwise, if one does, and the number of what goes so; the least
+/// number and 0 where the most is less, so that there is no front.
 fn wrong_front(
     alloc: Global,
     bytes: &[u8],
     row: &Row<'_>,
 ) -> Result<Option<(usize, usize)>, Memory> {
+    if row.least > row.most {
+        return Ok(Some((row.least, 0)));
+    }
     for length in row.least..=row.most {
         let front = bytes.get(..length).unwrap_or(bytes);
         if let Some(number) = wrong_in(alloc, front, &row.does)? {

@@ -7,7 +7,8 @@ use rg_reservoir::{ReservoirFault, Stage, Walk};
 use std::alloc::Global;
 use std::test::Fail;
 
-/// What the next frame of a walk is: 0 for a schema, how many events a chunk has or values a growth, and none at the end.
+/// What the next frame of a walk is: 0 for a schema, how many events a chunk has or values a growth, and none at the
+/// end.
 fn next_count(frames: &mut Walk, host: &mut MemHost) -> Result<Option<u32>, ReservoirFault> {
     match frames.next(host)? {
         Some(Stage::Schema(_)) => Ok(Some(0)),

@@ -7,7 +7,8 @@ use rg_open::{OpenFault, Resumed};
 use std::alloc::Global;
 use std::test::Fail;
 
-/// The number and the sum of a card's payments within five minutes, where the payments have a country, and earlier ones `??`.
+/// The number and the sum of a card's payments within five minutes, where the payments have a country, and earlier ones
+/// `??`.
 const LONGER: &str =
     "queries = [\"SELECT count(*), sum(amount) FROM payments GROUP BY card OVER SLIDING 5 minutes\"]\n\n[stream]\nname = \"payments\"\ncolumns = [\"ts\", \"card:text\", \"merchant:text\", \"amount:int\", \"country:text\"]\n\n[stream.defaults]\ncountry = \"??\"\n";
 
@@ -44,8 +45,8 @@ struct Hosts<'a> {
 }
 
 impl Hosts<'_> {
-    /// Whether a host has these slots and the longer log, or the first one, behind whose frames a closed gate stands, and then
-    /// any bytes.
+    /// Whether a host has these slots and the longer log, or the first one, behind whose frames a closed gate stands,
+    /// and then any bytes.
     fn are_left(&self, host: &MemHost) -> bool {
         let log = self.before.file(2);
         let end = log.len().saturating_sub(1);
@@ -61,7 +62,8 @@ impl Hosts<'_> {
         Ok(goes_on && host.file(2) == self.grown.file(2))
     }
 
-    /// Whether a stop after so many calls on this host leaves these files, by this pick, and an opening over them goes on.
+    /// Whether a stop after so many calls on this host leaves these files, by this pick, and an opening over them goes
+    /// on.
     fn stops_well(
         &self,
         alloc: Global,
@@ -104,7 +106,8 @@ impl Hosts<'_> {
         Ok(answers && is_well)
     }
 
-    /// The same of a host with the first log, where this call fails of the opening, or none where it isn't one of so many.
+    /// The same of a host with the first log, where this call fails of the opening, or none where it isn't one of so
+    /// many.
     fn fails_well(&self, alloc: Global, call: u64, calls: u64) -> Result<bool, Memory> {
         let opening = if call < calls { FAILS } else { GOES_ON };
         let mut host = host_of(alloc, BEFORE, &[call])?;

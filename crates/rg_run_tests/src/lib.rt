@@ -8,8 +8,6 @@
 #[cfg(test)]
 mod bytes;
 #[cfg(test)]
-mod case;
-#[cfg(test)]
 mod growing;
 #[cfg(test)]
 mod line;
@@ -25,6 +23,8 @@ mod replies;
 mod report;
 #[cfg(test)]
 mod row;
+#[cfg(test)]
+mod rows;
 #[cfg(test)]
 mod started;
 #[cfg(test)]

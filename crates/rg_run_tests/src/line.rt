@@ -1,4 +1,4 @@
-use crate::case::{Case, assert_all};
+use crate::rows::{Row, assert_all};
 use rg_bytes::{Memory, put_bytes};
 use rg_metric::{Answer, Answers};
 use rg_reply::{Mark, Reply, write_mark, write_reply};
@@ -89,7 +89,7 @@ fn write(alloc: Global, written: Written, out: &mut Vec<u8>) -> Result<(), Memor
     }
 }
 
-impl Case for Line {
+impl Row for Line {
     fn holds(&self, rt: HostRuntime) -> Result<bool, Memory> {
         let mut out = Vec::new(rt.alloc());
         let begun = put_bytes(&mut out, b">");
@@ -220,7 +220,7 @@ const COUNTED: Counted = Counted {
     due: Due::Nothing,
 };
 
-impl Case for Counted {
+impl Row for Counted {
     fn holds(&self, _rt: HostRuntime) -> Result<bool, Memory> {
         if self.commit == 0 || self.save == 0 {
             return Ok(false);

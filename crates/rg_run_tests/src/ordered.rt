@@ -1,4 +1,4 @@
-use crate::case::{Case, assert_all};
+use crate::rows::{Row, assert_all};
 use rg_bytes::Memory;
 use rg_host::Host;
 use rg_real::{Access, FolderHost, Hold};
@@ -197,9 +197,9 @@ const NEW: &str =
 const THERE: &str =
     "make ordered/events\nhold ordered/events\nmake ordered/slot0\nmake ordered/slot1\nsync ordered/events\nsync ordered/.\nwrite ordered/events\nsync data ordered/events\nsync ordered/slot0\nsync ordered/.\n";
 
-/// What is asked then, once a file was removed, if one is.
+/// What is noted then, once a file was removed, if one is.
 #[derive(Clone, Copy)]
-struct Asked {
+struct Noted {
     removed: Option<&'static str>,
     notes: &'static str,
 }
@@ -211,7 +211,7 @@ fn remove(rt: &HostRuntime, path: Option<&str>) -> bool {
     }
 }
 
-impl Case for Asked {
+impl Row for Noted {
     fn holds(&self, rt: HostRuntime) -> Result<bool, Memory> {
         let is_removed = remove(&rt, self.removed);
         let notes = notes_of(rt, "ordered")?;
@@ -219,17 +219,17 @@ impl Case for Asked {
     }
 }
 
-const ALL_ASKED: &[Asked] = &[
-    Asked {
+const ALL_NOTED: &[Noted] = &[
+    Noted {
         removed: None,
         notes: NEW,
     },
-    Asked {
+    Noted {
         removed: None,
         notes: THERE,
     },
     // a folder without a log may be one whose name wasn't stored
-    Asked {
+    Noted {
         removed: Some("ordered/events"),
         notes: NEW,
     },
@@ -237,5 +237,5 @@ const ALL_ASKED: &[Asked] = &[
 
 #[test]
 fn a_store_is_made_and_stored_in_order(rt: HostRuntime) -> Result<(), Fail> {
-    assert_all(&rt, rt, ALL_ASKED)
+    assert_all(&rt, rt, ALL_NOTED)
 }

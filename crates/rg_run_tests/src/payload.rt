@@ -82,8 +82,8 @@ pub(crate) const AMOUNTS: Pieces = &[
     b"G\0\0\0\x2fpayments(ts,card:text,merchant:text,amount:int)\x01\0\0\0\0\0\0\0d",
 ];
 
-/// The growth of the payments by a country, which is `??` in each payment before it: by hand, the tag, the length of the new
-/// schema's text, the text, and the tag, the length and the bytes of the value.
+/// The growth of the payments by a country, which is `??` in each payment before it: by hand, the tag, the length of
+/// the new schema's text, the text, and the tag, the length and the bytes of the value.
 pub(crate) const COUNTRY: Pieces = &[
     b"G\0\0\0\x3cpayments(ts,card:text,merchant:text,amount:int,country:text)\x03\x02??",
 ];

@@ -1,6 +1,6 @@
 ghost use Rattle.std.specs.Prelude.{◌<◌};
 
-use crate::case::{Case, assert_all};
+use crate::rows::{Row, assert_all};
 use rg_bytes::Memory;
 use rg_host::{Failed, Host, Source};
 use rg_real::{Access, FileSource, FolderHost, ReaderSource};
@@ -70,10 +70,10 @@ impl<R: Files> Telling for FileSource<'_, R> {
     }
 }
 
-/// A read into four bytes of which two or all are lent, what it answers, what they then are, and the number of the error of the last
-/// read that failed.
+/// A read into four bytes of which two or all are lent, what it answers, what they then are, and the number of the
+/// error of the last read that failed.
 #[derive(Clone, Copy)]
-struct Given {
+struct Reading {
     is_wide: bool,
     count: Result<usize, Failed>,
     bytes: &'static [u8],
@@ -84,26 +84,26 @@ struct Given {
 const NONE: &[u8] = &[0; 4];
 
 /// The end.
-const END: Given = Given {
+const END: Reading = Reading {
     is_wide: false,
     count: Ok(0),
     bytes: NONE,
     number: None,
 };
 
-fn is_given(source: &mut impl Telling, given: &Given) -> bool {
+fn is_read(source: &mut impl Telling, reading: &Reading) -> bool {
     let mut buf = [0; 4];
-    let count = if given.is_wide {
+    let count = if reading.is_wide {
         source.read(&mut buf)
     } else {
         source.read(&mut buf[..2])
     };
-    count == given.count && buf.as_slice() == given.bytes && source.number() == given.number
+    count == reading.count && buf.as_slice() == reading.bytes && source.number() == reading.number
 }
 
-fn all_are_given(source: &mut impl Telling, all: &[Given]) -> bool {
-    for given in all {
-        if !is_given(source, given) {
+fn all_are_read(source: &mut impl Telling, all: &[Reading]) -> bool {
+    for reading in all {
+        if !is_read(source, reading) {
             return false;
         }
     }
@@ -111,15 +111,15 @@ fn all_are_given(source: &mut impl Telling, all: &[Given]) -> bool {
 }
 
 /// Whether a source gives all of these, one after the other.
-fn gives<S: Telling + Drop>(mut source: S, all: &[Given]) -> bool {
-    let are_given = all_are_given(&mut source, all);
+fn gives<S: Telling + Drop>(mut source: S, all: &[Reading]) -> bool {
+    let are_read = all_are_read(&mut source, all);
     drop(source);
-    are_given
+    are_read
 }
 
 /// A call on a host over a folder, and what it answers.
 #[derive(Clone, Copy)]
-enum Call {
+enum HostCall {
     Length(u32, Result<u64, Failed>),
     /// A read into four bytes of the file, from the place on, and what they then are.
     Read(u32, u64, Result<usize, Failed>, &'static [u8]),
@@ -147,22 +147,22 @@ fn reads(
     host.read_at(file, at, &mut buf) == count && buf.as_slice() == bytes
 }
 
-fn answers(host: &mut Folder<'_>, call: &Call) -> bool {
+fn answers(host: &mut Folder<'_>, call: &HostCall) -> bool {
     match *call {
-        Call::Length(file, wanted) => file < 8 && host.len(file) == wanted,
-        Call::Read(file, at, count, bytes) => file < 8 && reads(host, file, at, count, bytes),
-        Call::Write(file, at, bytes, wanted) => {
+        HostCall::Length(file, wanted) => file < 8 && host.len(file) == wanted,
+        HostCall::Read(file, at, count, bytes) => file < 8 && reads(host, file, at, count, bytes),
+        HostCall::Write(file, at, bytes, wanted) => {
             file < 8 && host.write_at(file, at, bytes) == wanted
         }
-        Call::Sync(file, wanted) => file < 8 && host.sync(file) == wanted,
-        Call::Put(bytes, wanted, number) => {
+        HostCall::Sync(file, wanted) => file < 8 && host.sync(file) == wanted,
+        HostCall::Put(bytes, wanted, number) => {
             host.put(bytes) == wanted && number_of(host.error()) == number
         }
-        Call::HasFailed => host.disk_error().is_some(),
+        HostCall::HasFailed => host.disk_error().is_some(),
     }
 }
 
-fn answers_all(host: &mut Folder<'_>, calls: &[Call]) -> bool {
+fn answers_all(host: &mut Folder<'_>, calls: &[HostCall]) -> bool {
     for call in calls {
         if !answers(host, call) {
             return false;
@@ -201,13 +201,13 @@ fn make(rt: &HostRuntime, change: Change) -> io::Result<()> {
 enum Look {
     Nothing,
     /// What a reader of bytes in memory gives.
-    Bytes(&'static [u8], &'static [Given]),
+    Bytes(&'static [u8], &'static [Reading]),
     /// What a reader that fails once gives.
-    Failing(&'static [Given]),
+    Failing(&'static [Reading]),
     /// What a file gives.
-    File(&'static str, &'static [Given]),
+    File(&'static str, &'static [Reading]),
     /// What a host over a folder answers.
-    Host(&'static str, Access, &'static [Call]),
+    Host(&'static str, Access, &'static [HostCall]),
     /// That there is no such folder.
     Missing(&'static str),
     /// That a change is made.
@@ -215,7 +215,7 @@ enum Look {
 }
 
 /// Whether a host over a folder answers all of these, one after the other.
-fn visits(rt: &HostRuntime, folder: &str, access: Access, calls: &[Call]) -> bool {
+fn visits(rt: &HostRuntime, folder: &str, access: Access, calls: &[HostCall]) -> bool {
     let mut host = FolderHost::new(rt, rt.alloc(), folder, access, FailsOnce { calls: 0 });
     answers_all(&mut host, calls)
 }
@@ -232,11 +232,12 @@ fn is_seen(rt: &HostRuntime, look: Look) -> bool {
     }
 }
 
-/// Calls on a host over a folder that is to be written, which is not made where there are none, and what is seen while the host is there.
+/// Calls on a host over a folder that is to be written, which isn't made where there are none, and what is seen while
+/// the host is there.
 #[derive(Clone, Copy)]
 struct Step {
     folder: &'static str,
-    calls: &'static [Call],
+    calls: &'static [HostCall],
     look: Look,
 }
 
@@ -246,7 +247,7 @@ const STEP: Step = Step {
     look: Look::Nothing,
 };
 
-impl Case for Step {
+impl Row for Step {
     fn holds(&self, rt: HostRuntime) -> Result<bool, Memory> {
         let writer = FailsOnce { calls: 0 };
         let mut host = FolderHost::new(&rt, rt.alloc(), self.folder, Access::Write, writer);
@@ -262,12 +263,12 @@ const SOURCES: &[Step] = &[
         look: Look::Bytes(
             b"abc",
             &[
-                Given {
+                Reading {
                     count: Ok(2),
                     bytes: b"ab\0\0",
                     ..END
                 },
-                Given {
+                Reading {
                     count: Ok(1),
                     bytes: b"c\0\0\0",
                     ..END
@@ -280,16 +281,16 @@ const SOURCES: &[Step] = &[
     // the second one of three reads fails, and alone
     Step {
         look: Look::Failing(&[
-            Given {
+            Reading {
                 count: Ok(1),
                 ..END
             },
-            Given {
+            Reading {
                 count: Err(Failed),
                 number: Some(5),
                 ..END
             },
-            Given {
+            Reading {
                 count: Ok(1),
                 number: Some(5),
                 ..END
@@ -301,7 +302,7 @@ const SOURCES: &[Step] = &[
     Step {
         look: Look::File(
             "no such file",
-            &[Given {
+            &[Reading {
                 count: Err(Failed),
                 number: Some(2),
                 ..END
@@ -312,17 +313,20 @@ const SOURCES: &[Step] = &[
     // a log of three bytes is read as a file, up to its end
     Step {
         folder: "given",
-        calls: &[Call::Write(2, 0, b"abc", Ok(())), Call::Sync(2, Ok(()))],
+        calls: &[
+            HostCall::Write(2, 0, b"abc", Ok(())),
+            HostCall::Sync(2, Ok(())),
+        ],
         look: Look::File(
             "given/events",
             &[
-                Given {
+                Reading {
                     is_wide: true,
                     count: Ok(3),
                     bytes: b"abc\0",
                     ..END
                 },
-                Given {
+                Reading {
                     is_wide: true,
                     ..END
                 },
@@ -343,9 +347,9 @@ const HOSTS: &[Step] = &[
             "no such folder",
             Access::Read,
             &[
-                Call::Put(b"ab", Ok(1), None),
-                Call::Put(b"b", Err(Failed), Some(5)),
-                Call::Put(b"b", Ok(1), Some(5)),
+                HostCall::Put(b"ab", Ok(1), None),
+                HostCall::Put(b"b", Err(Failed), Some(5)),
+                HostCall::Put(b"b", Ok(1), Some(5)),
             ],
         ),
         ..STEP
@@ -354,20 +358,20 @@ const HOSTS: &[Step] = &[
     Step {
         folder: "written",
         calls: &[
-            Call::Length(2, Ok(0)),
-            Call::Write(2, 0, b"abc", Ok(())),
-            Call::Sync(2, Ok(())),
-            Call::Write(2, 1, b"xyz", Ok(())),
-            Call::Sync(2, Ok(())),
-            Call::Read(2, 1, Ok(3), b"xyz\0"),
+            HostCall::Length(2, Ok(0)),
+            HostCall::Write(2, 0, b"abc", Ok(())),
+            HostCall::Sync(2, Ok(())),
+            HostCall::Write(2, 1, b"xyz", Ok(())),
+            HostCall::Sync(2, Ok(())),
+            HostCall::Read(2, 1, Ok(3), b"xyz\0"),
         ],
         look: Look::Host(
             "written",
             Access::Read,
             &[
-                Call::Length(2, Ok(4)),
-                Call::Length(0, Ok(0)),
-                Call::Read(2, 0, Ok(4), b"axyz"),
+                HostCall::Length(2, Ok(4)),
+                HostCall::Length(0, Ok(0)),
+                HostCall::Read(2, 0, Ok(4), b"axyz"),
             ],
         ),
     },
@@ -377,11 +381,11 @@ const HOSTS: &[Step] = &[
             "unmade",
             Access::Read,
             &[
-                Call::Length(2, Ok(0)),
-                Call::Read(2, 0, Ok(0), NONE),
-                Call::Write(2, 0, b"a", Err(Failed)),
-                Call::Sync(2, Err(Failed)),
-                Call::HasFailed,
+                HostCall::Length(2, Ok(0)),
+                HostCall::Read(2, 0, Ok(0), NONE),
+                HostCall::Write(2, 0, b"a", Err(Failed)),
+                HostCall::Sync(2, Err(Failed)),
+                HostCall::HasFailed,
             ],
         ),
         ..STEP
@@ -393,20 +397,20 @@ const HOSTS: &[Step] = &[
     // a store is written by one host at a time
     Step {
         folder: "held",
-        calls: &[Call::Sync(0, Ok(()))],
-        look: Look::Host("held", Access::Write, &[Call::Length(2, Err(Failed))]),
+        calls: &[HostCall::Sync(0, Ok(()))],
+        look: Look::Host("held", Access::Write, &[HostCall::Length(2, Err(Failed))]),
     },
     Step {
         folder: "held",
-        calls: &[Call::Length(2, Ok(0))],
+        calls: &[HostCall::Length(2, Ok(0))],
         ..STEP
     },
     // a write past the greatest place fails, and leaves the log
     Step {
         folder: "long",
         calls: &[
-            Call::Write(2, 1 << 62, b"a", Err(Failed)),
-            Call::Length(2, Ok(0)),
+            HostCall::Write(2, 1 << 62, b"a", Err(Failed)),
+            HostCall::Length(2, Ok(0)),
         ],
         ..STEP
     },
@@ -423,17 +427,17 @@ macro_rules! refused {
         Step {
             folder: $folder,
             calls: &[
-                Call::Write($file, 0, b"a", Err(Failed)),
-                Call::Sync($file, Err(Failed)),
-                Call::HasFailed,
+                HostCall::Write($file, 0, b"a", Err(Failed)),
+                HostCall::Sync($file, Err(Failed)),
+                HostCall::HasFailed,
             ],
             look: Look::Host(
                 $folder,
                 Access::Read,
                 &[
-                    Call::Length($file, Err(Failed)),
-                    Call::Read($file, 0, Err(Failed), NONE),
-                    Call::HasFailed,
+                    HostCall::Length($file, Err(Failed)),
+                    HostCall::Read($file, 0, Err(Failed), NONE),
+                    HostCall::HasFailed,
                 ],
             ),
         }
@@ -472,7 +476,7 @@ const ODD_FILES: &[Step] = &[
     changed!(Change::Remove("twice/slot1")),
     Step {
         folder: "twice",
-        calls: &[Call::Length(2, Ok(3))],
+        calls: &[HostCall::Length(2, Ok(3))],
         ..STEP
     },
 ];

@@ -1,8 +1,8 @@
 ghost use Rattle.std.specs.Prelude.{◌<◌, ◌≤◌};
 
-use crate::case::{Case, assert_all};
 use crate::line::add;
 use crate::row::event_of;
+use crate::rows::{Row, assert_all};
 use crate::started::{Call, answers_by, plan_of};
 use crate::store::{EMPTY, host_of};
 use rg_bytes::{Memory, put_bytes};
@@ -34,10 +34,10 @@ macro_rules! small {
     };
 }
 
-// Each function over a short window and a long one, without and with a key, and where nothing counts; conditions with
-// AND, OR and NOT; delays shorter and longer than their windows; windows without end; queries that share windows,
-// conditions and keys. Many lines are just 3758, 9739, 11618, 65727, 76906 or 153812 ms apart.
-
+/// This plan and the five below it have each function over a short window and a long one, without and with a key, and
+/// where nothing counts; conditions with AND, OR and NOT; delays shorter and longer than their windows; windows without
+/// end; queries that share windows, conditions and keys. Many lines are just 3758, 9739, 11618, 65727, 76906 or 153812
+/// ms apart.
 const EACH: &str = small!(
     "\"SELECT count(*), sum(amount), avg(amount), sumsq(amount), first(amount), last(amount), min(amount), max(amount), countDistinct(merchant) FROM payments OVER SLIDING 9739 ms\""
 );
@@ -50,7 +50,7 @@ const WITHOUT_END: &str = small!(
     "\"SELECT count(*), sum(amount), last(amount), countDistinct(amount) FROM payments GROUP BY card, shop OVER INFINITE\", \"SELECT min(amount), max(amount), first(amount), last(amount) FROM payments GROUP BY shop, online OVER INFINITE DELAYED BY 3758 ms\""
 );
 
-const WORDS: &str = small!(
+const KINDS: &str = small!(
     "\"SELECT min(shop), max(shop), first(shop), last(shop), countDistinct(shop), countDistinct(online), countDistinct(card) FROM payments WHERE NOT (online = TRUE AND amount > 5000) GROUP BY merchant OVER SLIDING 65727 ms\", \"SELECT min(shop), max(shop), countDistinct(merchant) FROM payments WHERE shop != 1 OVER SLIDING 5637 ms DELAYED BY 1 minute\""
 );
 
@@ -59,7 +59,7 @@ const SHARED: &str = asked!(
     "cache = 3\nchunk = 7\ncommit = 10\nsave = 40\n"
 );
 
-const SHORT: &str = asked!(
+const UNSET: &str = asked!(
     "\"SELECT count(*), sumsq(amount), countDistinct(merchant) FROM payments WHERE card >= 'c2' GROUP BY online, shop OVER SLIDING 1 day\", \"SELECT last(amount), min(amount), count(*) FROM payments WHERE amount <= 5000 OVER SLIDING 1 ms\"",
     ""
 );
@@ -285,7 +285,7 @@ impl Asked {
     }
 }
 
-impl Case for Asked {
+impl Row for Asked {
     fn holds(&self, rt: HostRuntime) -> Result<bool, Memory> {
         let mut all = Vec::new(rt.alloc());
         let begun = add_lines(&mut all, 0, FIRST_LINES);
@@ -318,7 +318,7 @@ const ALL_ASKED: &[Asked] = &[
         way: Way::TwoRuns,
     },
     Asked {
-        plan: WORDS,
+        plan: KINDS,
         way: Way::TwoRuns,
     },
     Asked {
@@ -326,7 +326,7 @@ const ALL_ASKED: &[Asked] = &[
         way: Way::TwoRuns,
     },
     Asked {
-        plan: SHORT,
+        plan: UNSET,
         way: Way::TwoRuns,
     },
     // other queries than those of the run that stored the lines, by a replay
@@ -343,7 +343,7 @@ const ALL_ASKED: &[Asked] = &[
         way: Way::Replay,
     },
     Asked {
-        plan: WORDS,
+        plan: KINDS,
         way: Way::Replay,
     },
     Asked {
@@ -351,7 +351,7 @@ const ALL_ASKED: &[Asked] = &[
         way: Way::Replay,
     },
     Asked {
-        plan: SHORT,
+        plan: UNSET,
         way: Way::Replay,
     },
 ];

@@ -1,4 +1,4 @@
-use crate::case::{Case, assert_all};
+use crate::rows::{Row, assert_all};
 use rg_bytes::Memory;
 use rg_config::{ConfigFault, DefaultsFault, QueryRefusal, SettingsFault};
 use rg_query::QueryFault;
@@ -55,7 +55,7 @@ impl Told {
     }
 }
 
-impl Case for Told {
+impl Row for Told {
     fn holds(&self, rt: HostRuntime) -> Result<bool, Memory> {
         let report = Report {
             status: self.status,

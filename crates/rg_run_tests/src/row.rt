@@ -2,7 +2,7 @@ ghost use Rattle.std.specs.Prelude.{◌≡◌, ◌==◌};
 ghost use Rattle.std.specs.List.{list_any};
 
 use crate::bytes::{Pieces, put_pieces};
-use crate::case::{Case, assert_all};
+use crate::rows::{Row, assert_all};
 use rg_bytes::Memory;
 use rg_event::{Event, Schema, Value};
 use rg_row::{RowFault, clean, read_row};
@@ -39,13 +39,13 @@ enum Given {
 
 /// A line of payments, and what it gives.
 #[derive(Clone, Copy)]
-struct Row {
+struct Parsed {
     offset: u64,
     line: Pieces,
     given: Given,
 }
 
-const ROW: Row = Row {
+const PARSED: Parsed = Parsed {
     offset: 0,
     line: &[],
     given: Given::Event,
@@ -89,7 +89,7 @@ fn gives(alloc: Global, offset: u64, line: &[u8], given: Given) -> bool {
     }
 }
 
-impl Case for Row {
+impl Row for Parsed {
     fn holds(&self, rt: HostRuntime) -> Result<bool, Memory> {
         let mut line = Vec::new(rt.alloc());
         let joined = put_pieces(&mut line, self.line);
@@ -100,134 +100,134 @@ impl Case for Row {
     }
 }
 
-const ROWS: &[Row] = &[
-    Row {
+const ALL_PARSED: &[Parsed] = &[
+    Parsed {
         line: &[b"1,c1,m1,7"],
-        ..ROW
+        ..PARSED
     },
-    Row {
+    Parsed {
         line: &[b"1,\"c,1\",m1,7"],
-        ..ROW
+        ..PARSED
     },
-    Row {
+    Parsed {
         line: &[b"1,\"a\"\"b\",m1,7"],
-        ..ROW
+        ..PARSED
     },
-    Row {
+    Parsed {
         line: &[b"\"1\",\"\",,\"7\""],
-        ..ROW
+        ..PARSED
     },
-    Row {
+    Parsed {
         line: &[b"1000000000000000,c1,m1,-1"],
-        ..ROW
+        ..PARSED
     },
-    Row {
+    Parsed {
         line: &[b""],
         given: Given::Fault(RowFault::Row),
-        ..ROW
+        ..PARSED
     },
-    Row {
+    Parsed {
         line: &[b"1,\"c1,m1,7"],
         given: Given::Fault(RowFault::Row),
-        ..ROW
+        ..PARSED
     },
-    Row {
+    Parsed {
         line: &[b"1,c\"1\",m1,7"],
         given: Given::Fault(RowFault::Row),
-        ..ROW
+        ..PARSED
     },
-    Row {
+    Parsed {
         line: &[b"1,\"c1\"x,m1,7"],
         given: Given::Fault(RowFault::Row),
-        ..ROW
+        ..PARSED
     },
-    Row {
+    Parsed {
         line: &[b"1,c\r1,m1,7"],
         given: Given::Fault(RowFault::Row),
-        ..ROW
+        ..PARSED
     },
-    Row {
+    Parsed {
         line: &[b"1,\"c\r1\",m1,7"],
         given: Given::Fault(RowFault::Row),
-        ..ROW
+        ..PARSED
     },
-    Row {
+    Parsed {
         line: &[b"\xef\xbb\xbf1,c1,m1,7"],
         given: Given::Fault(RowFault::Row),
-        ..ROW
+        ..PARSED
     },
-    Row {
+    Parsed {
         line: &[b"1,c1,m1"],
         given: Given::Fault(RowFault::Fields),
-        ..ROW
+        ..PARSED
     },
-    Row {
+    Parsed {
         line: &[b"1,c1,m1,7,8"],
         given: Given::Fault(RowFault::Fields),
-        ..ROW
+        ..PARSED
     },
-    Row {
+    Parsed {
         line: &[b"x,\"c1\",m1,y,8"],
         given: Given::Fault(RowFault::Fields),
-        ..ROW
+        ..PARSED
     },
-    Row {
+    Parsed {
         line: &[b"1000000000000001,c1,m1,1"],
         given: Given::Fault(RowFault::Time),
-        ..ROW
+        ..PARSED
     },
-    Row {
+    Parsed {
         line: &[b"-1,c1,m1,1"],
         given: Given::Fault(RowFault::Time),
-        ..ROW
+        ..PARSED
     },
-    Row {
+    Parsed {
         line: &[b",c1,m1,x"],
         given: Given::Fault(RowFault::Time),
-        ..ROW
+        ..PARSED
     },
-    Row {
+    Parsed {
         line: &[b"2,c1,m1,1000000000001"],
         given: Given::Fault(RowFault::Value(3)),
-        ..ROW
+        ..PARSED
     },
-    Row {
+    Parsed {
         line: &[b"2,\"c1\",m1,x"],
         given: Given::Fault(RowFault::Value(3)),
-        ..ROW
+        ..PARSED
     },
-    Row {
+    Parsed {
         line: &[b"2,\xff,m1,x"],
         given: Given::Fault(RowFault::Value(1)),
-        ..ROW
+        ..PARSED
     },
-    Row {
+    Parsed {
         line: &[b"2,c1,\xff,x"],
         given: Given::Fault(RowFault::Value(2)),
-        ..ROW
+        ..PARSED
     },
     // a card has at most 255 bytes
-    Row {
+    Parsed {
         line: &[b"2,", &[b'a'; 255], b",m1,7"],
-        ..ROW
+        ..PARSED
     },
-    Row {
+    Parsed {
         line: &[b"2,", &[b'a'; 256], b",m1,7"],
         given: Given::Fault(RowFault::Value(1)),
-        ..ROW
+        ..PARSED
     },
     // an event has the texts of its line
-    Row {
+    Parsed {
         offset: 40,
         line: &[b"12,c1,m1,-7"],
         given: Given::Of(b"c1"),
     },
-    Row {
+    Parsed {
         offset: 40,
         line: &[b"12,\"c,1\",m1,-7"],
         given: Given::Of(b"c,1"),
     },
-    Row {
+    Parsed {
         offset: 40,
         line: &[b"12,\"a\"\"b\",m1,-7"],
         given: Given::Of(b"a\"b"),
@@ -236,7 +236,7 @@ const ROWS: &[Row] = &[
 
 #[test]
 fn a_line_gives_an_event_or_its_first_fault(rt: HostRuntime) -> Result<(), Fail> {
-    assert_all(&rt, rt, ROWS)
+    assert_all(&rt, rt, ALL_PARSED)
 }
 
 /// A line with an offset, and the same cleaned.
@@ -247,7 +247,7 @@ struct Cleaned {
     cleaned: &'static [u8],
 }
 
-impl Case for Cleaned {
+impl Row for Cleaned {
     fn holds(&self, _rt: HostRuntime) -> Result<bool, Memory> {
         Ok(clean(self.offset, self.line) == self.cleaned)
     }

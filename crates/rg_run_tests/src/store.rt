@@ -1,11 +1,11 @@
 ghost use Rattle.std.specs.Prelude.{◌<◌};
 
 use crate::bytes::{Pieces, put_pieces};
-use crate::case::{Case, assert_all};
 use crate::payload::{
     AMOUNTS, BASE, BASE_ELSEWHERE, CARDS, CHANGE, CHANGE_CUT, CHANGE_OF_NONE, COUNTRY, GONE,
     NARROW, NARROW_TWO, OTHER, SCHEMA, THIRD, TWO,
 };
+use crate::rows::{Row, assert_all};
 use crate::started::{Call, answers_by};
 use File::{Missing, Of};
 use rg_bytes::{Memory, put_bytes, put_u64};
@@ -123,7 +123,7 @@ pub(crate) fn host_of(alloc: Global, files: Files, failing: &[u64]) -> Result<Me
     }
 }
 
-/// How many calls of a host with these files it takes until a call answers so.
+/// How many calls a host with these files has had once this one answers so; no memory where it doesn't.
 pub(crate) fn calls_of(
     alloc: Global,
     files: Files,
@@ -140,10 +140,10 @@ pub(crate) fn calls_of(
     }
 }
 
-/// A call on a host with these files, whose calls of these numbers fail, what it puts, and the log that it leaves, where that is
-/// looked at.
+/// A call on a host with these files, whose calls of these numbers fail, what it puts, and the log that it leaves,
+/// where that is looked at.
 #[derive(Clone, Copy)]
-struct Row {
+struct StoreCall {
     plan: &'static str,
     files: Files,
     failing: &'static [u64],
@@ -176,7 +176,7 @@ const AT_THREE: Resumed = Resumed {
 };
 
 /// An opening by the totals.
-const OPENING: Row = Row {
+const OPENING: StoreCall = StoreCall {
     plan: TOTALS,
     files: EMPTY,
     failing: &[],
@@ -186,7 +186,7 @@ const OPENING: Row = Row {
 };
 
 /// Whether the call of a row on this host answers and leaves what it is to.
-fn holds_on(alloc: Global, row: Row, host: &mut MemHost) -> Result<bool, Memory> {
+fn holds_on(alloc: Global, row: StoreCall, host: &mut MemHost) -> Result<bool, Memory> {
     let answers = answers_by(alloc, row.plan, row.call, host)?;
     let is_left = is_left(alloc, host, row.left)?;
     Ok(answers && is_left && host.output() == row.put)
@@ -203,7 +203,7 @@ fn is_left(alloc: Global, host: &MemHost, left: Option<File>) -> Result<bool, Me
     }
 }
 
-impl Case for Row {
+impl Row for StoreCall {
     fn holds(&self, rt: HostRuntime) -> Result<bool, Memory> {
         let mut host = host_of(rt.alloc(), self.files, self.failing)?;
         let holds = holds_on(rt.alloc(), *self, &mut host);
@@ -222,39 +222,39 @@ const OF_THREE: File = Of(&[SCHEMA, TWO, THIRD]);
 /// The log of the three payments, of which the first two came before there were amounts.
 const OF_GROWN: File = Of(&[NARROW, NARROW_TWO, AMOUNTS, THIRD]);
 
-const OF_LOGS: &[Row] = &[
+const OF_LOGS: &[StoreCall] = &[
     // an empty store is given the schema
-    Row {
+    StoreCall {
         left: Some(Of(&[SCHEMA])),
         ..OPENING
     },
-    Row {
+    StoreCall {
         files: &[Missing, Missing, Of(&[SCHEMA])],
         left: Some(Of(&[SCHEMA])),
         ..OPENING
     },
     // a checkpoint of another query is passed over
-    Row {
+    StoreCall {
         files: &[Missing, Missing, OF_TWO],
         call: Call::Open(Ok(AT_TWO)),
         left: Some(OF_TWO),
         ..OPENING
     },
-    Row {
+    StoreCall {
         files: &[Of(&[OTHER]), Missing, OF_TWO],
         call: Call::Open(Ok(AT_TWO)),
         left: Some(OF_TWO),
         ..OPENING
     },
     // a log that is cut is refused
-    Row {
+    StoreCall {
         files: &[Missing, Missing, File::First(100, &[SCHEMA, TWO])],
         call: Call::Open(Err(OpenFault::Damaged(57))),
         left: Some(File::First(100, &[SCHEMA, TWO])),
         ..OPENING
     },
     // and one of another schema
-    Row {
+    StoreCall {
         files: &[Missing, Missing, Of(&[CARDS])],
         call: Call::Open(Err(OpenFault::SchemaDiffers)),
         left: Some(Of(&[CARDS])),
@@ -262,12 +262,12 @@ const OF_LOGS: &[Row] = &[
     },
     // an opening goes over a log whose schema grew, from the start and from the base of the first payment, whose
     // spots have to be of that log
-    Row {
+    StoreCall {
         files: &[Of(&[]), Of(&[]), OF_GROWN],
         call: Call::Open(Ok(AT_THREE)),
         ..OPENING
     },
-    Row {
+    StoreCall {
         files: &[Of(&[BASE_ELSEWHERE]), Of(&[]), OF_GROWN],
         call: Call::Open(Ok(Resumed {
             from: 1,
@@ -275,18 +275,18 @@ const OF_LOGS: &[Row] = &[
         })),
         ..OPENING
     },
-    Row {
+    StoreCall {
         files: &[Of(&[BASE]), Of(&[]), OF_GROWN],
         call: Call::Open(Ok(AT_THREE)),
         ..OPENING
     },
     // damage is told before another schema
-    Row {
+    StoreCall {
         files: &[Of(&[]), Of(&[]), Of(&[NARROW, NARROW_TWO])],
         call: Call::Open(Err(OpenFault::SchemaDiffers)),
         ..OPENING
     },
-    Row {
+    StoreCall {
         files: &[Of(&[]), Of(&[]), Of(&[NARROW, NARROW_TWO, &[b"x"]])],
         call: Call::Open(Err(OpenFault::Damaged(136))),
         ..OPENING
@@ -298,24 +298,24 @@ fn an_opening_takes_the_log_that_is_there_or_refuses_it(rt: HostRuntime) -> Resu
     assert_all(&rt, rt, OF_LOGS)
 }
 
-const OF_CHANGES: &[Row] = &[
+const OF_CHANGES: &[StoreCall] = &[
     // an opening goes on from the changes behind a base, in whichever slot they are
-    Row {
+    StoreCall {
         files: &[Of(&[BASE]), Of(&[]), OF_TWO],
         call: Call::Open(Ok(Resumed { from: 1, ..AT_TWO })),
         ..OPENING
     },
-    Row {
+    StoreCall {
         files: &[Of(&[BASE, CHANGE]), Of(&[BASE]), OF_TWO],
         call: Call::Open(Ok(Resumed { from: 2, ..AT_TWO })),
         ..OPENING
     },
-    Row {
+    StoreCall {
         files: &[Of(&[BASE]), Of(&[BASE, CHANGE]), OF_TWO],
         call: Call::Open(Ok(Resumed { from: 2, ..AT_TWO })),
         ..OPENING
     },
-    Row {
+    StoreCall {
         files: &[Of(&[BASE, CHANGE]), Of(&[]), OF_THREE],
         call: Call::Open(Ok(Resumed {
             from: 2,
@@ -324,45 +324,45 @@ const OF_CHANGES: &[Row] = &[
         ..OPENING
     },
     // and from 65 of them
-    Row {
+    StoreCall {
         files: &[File::Repeated(BASE, 65, CHANGE), Of(&[BASE]), OF_TWO],
         call: Call::Open(Ok(Resumed { from: 2, ..AT_TWO })),
         ..OPENING
     },
     // changes behind a base of another query are passed over
-    Row {
+    StoreCall {
         files: &[Of(&[OTHER, CHANGE]), Of(&[]), OF_TWO],
         call: Call::Open(Ok(AT_TWO)),
         ..OPENING
     },
-    Row {
+    StoreCall {
         files: &[Of(&[OTHER, CHANGE]), Of(&[BASE]), OF_TWO],
         call: Call::Open(Ok(Resumed { from: 1, ..AT_TWO })),
         ..OPENING
     },
     // so is a slot whose change is cut, is of no more payments than the base, or is a base
-    Row {
+    StoreCall {
         files: &[Of(&[BASE, CHANGE_CUT]), Of(&[BASE]), OF_TWO],
         call: Call::Open(Ok(Resumed { from: 1, ..AT_TWO })),
         ..OPENING
     },
-    Row {
+    StoreCall {
         files: &[Of(&[BASE, CHANGE_OF_NONE]), Of(&[BASE]), OF_TWO],
         call: Call::Open(Ok(Resumed { from: 1, ..AT_TWO })),
         ..OPENING
     },
-    Row {
+    StoreCall {
         files: &[Of(&[BASE, BASE]), Of(&[BASE]), OF_TWO],
         call: Call::Open(Ok(Resumed { from: 1, ..AT_TWO })),
         ..OPENING
     },
     // changes that the payments don't bear out are told where the payments behind them are met
-    Row {
+    StoreCall {
         files: &[Of(&[BASE, GONE]), Of(&[]), OF_TWO],
         call: Call::Open(Ok(Resumed { from: 2, ..AT_TWO })),
         ..OPENING
     },
-    Row {
+    StoreCall {
         files: &[Of(&[BASE, GONE]), Of(&[]), OF_THREE],
         call: Call::Open(Err(OpenFault::BadState(0))),
         ..OPENING
@@ -375,7 +375,7 @@ fn an_opening_goes_on_from_changes_or_passes_them_over(rt: HostRuntime) -> Resul
 }
 
 /// The plan of queries over payments.
-macro_rules! asked {
+macro_rules! over_payments {
     ($queries:literal) => {
         concat!(
             "queries = [",
@@ -385,28 +385,28 @@ macro_rules! asked {
     };
 }
 
-const DEAR: &str = asked!(
+const DEAR: &str = over_payments!(
     "\"SELECT count(*) FROM payments WHERE amount > 100 GROUP BY card OVER SLIDING 5 minutes\""
 );
 
-const BY_TWO: &str = asked!(
+const BY_TWO: &str = over_payments!(
     "\"SELECT count(*) FROM payments GROUP BY card, merchant OVER INFINITE DELAYED BY 5 ms\""
 );
 
-const NODES_SHARED: &str = asked!(
+const NODES_SHARED: &str = over_payments!(
     "\"SELECT count(*) FROM payments GROUP BY card OVER SLIDING 5 minutes\", \"SELECT sum(amount), count(*) FROM payments GROUP BY card OVER SLIDING 300 seconds\""
 );
 
-const WINDOW_SHARED: &str = asked!(
+const WINDOW_SHARED: &str = over_payments!(
     "\"SELECT count(*), sum(amount) FROM payments GROUP BY card OVER SLIDING 5 minutes\", \"SELECT count(*) FROM payments GROUP BY merchant OVER SLIDING 5 minutes\""
 );
 
-const OFFSET_SHARED: &str = asked!(
+const OFFSET_SHARED: &str = over_payments!(
     "\"select count(*) from payments over sliding 5 ms\", \"SELECT count(*) FROM payments OVER SLIDING 10 ms DELAYED BY 5 ms\""
 );
 
 /// A check of the plan of one query.
-const CHECKING: Row = Row {
+const CHECKING: StoreCall = StoreCall {
     plan: DEAR,
     files: EMPTY,
     failing: &[],
@@ -415,37 +415,37 @@ const CHECKING: Row = Row {
     left: None,
 };
 
-const CHECKS: &[Row] = &[
+const CHECKS: &[StoreCall] = &[
     // a query and its nodes
-    Row {
+    StoreCall {
         put: b"query 0 SELECT count(*) FROM payments WHERE amount > 100 GROUP BY card OVER SLIDING 300000 ms\noffset 0\noffset 300000\nwindow 0 0 300000\nfilter 0 0 amount > 100\ngroup 0 0 card\nagg 0 0 count(*)\n",
         ..CHECKING
     },
-    Row {
+    StoreCall {
         plan: BY_TWO,
         put: b"query 0 SELECT count(*) FROM payments GROUP BY card, merchant OVER INFINITE DELAYED BY 5 ms\noffset 5\nwindow 0 5 -\nfilter 0 0 all\ngroup 0 0 card,merchant\nagg 0 0 count(*)\n",
         ..CHECKING
     },
     // two that share all nodes but one
-    Row {
+    StoreCall {
         plan: NODES_SHARED,
         put: b"query 0 SELECT count(*) FROM payments GROUP BY card OVER SLIDING 300000 ms\nquery 1 SELECT sum(amount), count(*) FROM payments GROUP BY card OVER SLIDING 300000 ms\noffset 0\noffset 300000\nwindow 0 0 300000\nfilter 0 0 all\ngroup 0 0 card\nagg 0 0 count(*)\nagg 1 0 sum(amount)\n",
         ..CHECKING
     },
     // two that share a window and its filter
-    Row {
+    StoreCall {
         plan: WINDOW_SHARED,
         put: b"query 0 SELECT count(*), sum(amount) FROM payments GROUP BY card OVER SLIDING 300000 ms\nquery 1 SELECT count(*) FROM payments GROUP BY merchant OVER SLIDING 300000 ms\noffset 0\noffset 300000\nwindow 0 0 300000\nfilter 0 0 all\ngroup 0 0 card\ngroup 1 0 merchant\nagg 0 0 count(*)\nagg 1 0 sum(amount)\nagg 2 1 count(*)\n",
         ..CHECKING
     },
     // a window that begins at the offset at which another ends
-    Row {
+    StoreCall {
         plan: OFFSET_SHARED,
         put: b"query 0 SELECT count(*) FROM payments OVER SLIDING 5 ms\nquery 1 SELECT count(*) FROM payments OVER SLIDING 10 ms DELAYED BY 5 ms\noffset 0\noffset 5\noffset 15\nwindow 0 0 5\nwindow 1 5 15\nfilter 0 0 all\nfilter 1 1 all\ngroup 0 0 -\ngroup 1 1 -\nagg 0 0 count(*)\nagg 1 1 count(*)\n",
         ..CHECKING
     },
     // a put that fails is told
-    Row {
+    StoreCall {
         failing: &[0],
         call: Call::Check(Err(CheckFault::Write)),
         ..CHECKING
@@ -465,7 +465,7 @@ const COUNTS: &str =
 const PAYMENTS: &[u8] = b"0,c1\n1,c1\n2,c1\n3,c1\n";
 
 /// A run over an empty store, which reads them at once, and what it puts.
-const RUNNING: Row = Row {
+const RUNNING: StoreCall = StoreCall {
     plan: COUNTS,
     files: EMPTY,
     failing: &[],
@@ -474,25 +474,25 @@ const RUNNING: Row = Row {
     left: None,
 };
 
-const RUNS: &[Row] = &[
+const RUNS: &[StoreCall] = &[
     RUNNING,
-    Row {
+    StoreCall {
         call: Call::Run(PAYMENTS, 5),
         ..RUNNING
     },
-    Row {
+    StoreCall {
         call: Call::Run(PAYMENTS, 10),
         ..RUNNING
     },
-    Row {
+    StoreCall {
         call: Call::Run(PAYMENTS, 7),
         ..RUNNING
     },
-    Row {
+    StoreCall {
         call: Call::Run(PAYMENTS, 1),
         ..RUNNING
     },
-    Row {
+    StoreCall {
         call: Call::Run(PAYMENTS, 100),
         ..RUNNING
     },
@@ -503,8 +503,9 @@ fn a_run_puts_the_same_however_its_lines_are_read(rt: HostRuntime) -> Result<(),
     assert_all(&rt, rt, RUNS)
 }
 
-/// So many bytes a read, and how often more replies are put than where one read has all four lines. The store is opened, written
-/// and closed by the same calls, however the lines come: so the calls that a run makes more than another one are puts.
+/// So many bytes a read, and how often more replies are put than where one read has all four lines. The store is
+/// opened, written and closed by the same calls, however the lines come: so the calls that a run makes more than
+/// another one are puts.
 #[derive(Clone, Copy)]
 struct Gathered {
     most: usize,
@@ -516,7 +517,7 @@ fn calls_of_run(alloc: Global, most: usize) -> Result<u64, Memory> {
     calls_of(alloc, EMPTY, COUNTS, Call::Run(PAYMENTS, most))
 }
 
-impl Case for Gathered {
+impl Row for Gathered {
     fn holds(&self, rt: HostRuntime) -> Result<bool, Memory> {
         let at_once = calls_of_run(rt.alloc(), 20)?;
         let calls = calls_of_run(rt.alloc(), self.most)?;

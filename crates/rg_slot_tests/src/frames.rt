@@ -35,7 +35,7 @@ fn end_at(place: u64, is_none: Result<bool, FrameFault>) -> End {
     }
 }
 
-fn is_none(next: Result<Option<u64>, FrameFault>) -> Result<bool, FrameFault> {
+fn is_none<T: Copy>(next: Result<Option<T>, FrameFault>) -> Result<bool, FrameFault> {
     match next {
         Ok(next) => Ok(next.is_none()),
         Err(fault) => Err(fault),
@@ -109,17 +109,21 @@ fn stepped(host: &mut MemHost, count: usize) -> End {
             return OTHER;
         }
     }
-    let is_none = match log.step(host, &mut head) {
-        Ok(next) => Ok(next.is_none()),
-        Err(fault) => Err(fault),
-    };
+    let is_none = is_none(log.step(host, &mut head));
     end_at(log.end(), is_none)
+}
+
+/// What stands in file 2.
+enum File {
+    /// These, one behind another.
+    Parts(&'static [Part]),
+    /// A front of the two frames: each one that has so many bytes at the least and at the most.
+    Fronts(usize, usize),
 }
 
 /// A log, and how many of the two frames it has.
 struct Found {
-    /// From file 2 on.
-    files: &'static [&'static [Part]],
+    file: File,
     count: usize,
     end: End,
 }
@@ -131,11 +135,10 @@ impl Found {
             && listed(alloc, host, payloads) == self.end
             && has_end(alloc, host)
     }
-}
 
-impl Row for Found {
-    fn is_so(&self, alloc: Global) -> bool {
-        match store(alloc, 2, self.files, &[]) {
+    /// The same where these stand in file 2.
+    fn is_of(&self, alloc: Global, parts: &[Part]) -> bool {
+        match store(alloc, 2, &[parts], &[]) {
             Ok(mut host) => {
                 let is_so = self.is_in(alloc, &mut host);
                 drop(host);
@@ -144,232 +147,157 @@ impl Row for Found {
             Err(_) => false,
         }
     }
+
+    /// The same of each front of the two frames of these lengths.
+    fn is_of_fronts(&self, alloc: Global, least: usize, most: usize) -> bool {
+        for length in least..=most {
+            if !self.is_of(alloc, &[Part::Frames(0, length)]) {
+                return false;
+            }
+        }
+        true
+    }
 }
+
+impl Row for Found {
+    fn is_so(&self, alloc: Global) -> bool {
+        match &self.file {
+            File::Parts(parts) => self.is_of(alloc, parts),
+            File::Fronts(least, most) => self.is_of_fronts(alloc, *least, *most),
+        }
+    }
+}
+
+/// Cut frames, gates of other values, and lengths past the file.
+const LOGS: &[Found] = &[
+    // A cut file is damaged at the cut frame.
+    Found {
+        file: File::Fronts(0, 1),
+        count: 0,
+        end: Ok(0),
+    },
+    Found {
+        file: File::Fronts(2, 11),
+        count: 0,
+        end: Err(0),
+    },
+    Found {
+        file: File::Fronts(12, 21),
+        count: 1,
+        end: Err(11),
+    },
+    Found {
+        file: File::Fronts(22, 22),
+        count: 2,
+        end: Ok(21),
+    },
+    // A gate of another value ends the list.
+    Found {
+        file: File::Parts(&[Part::Frames(0, 11), Part::Bytes(&[0]), Part::Frames(12, 22)]),
+        count: 1,
+        end: Ok(11),
+    },
+    Found {
+        file: File::Parts(&[
+            Part::Bytes(&[0]),
+            Part::Frames(1, 11),
+            Part::Bytes(&[0]),
+            Part::Frames(12, 22),
+        ]),
+        count: 0,
+        end: Ok(0),
+    },
+    Found {
+        file: File::Parts(&[Part::Frames(0, 11), Part::Bytes(&[2]), Part::Frames(12, 22)]),
+        count: 1,
+        end: Ok(11),
+    },
+    Found {
+        file: File::Parts(&[
+            Part::Bytes(&[2]),
+            Part::Frames(1, 11),
+            Part::Bytes(&[2]),
+            Part::Frames(12, 22),
+        ]),
+        count: 0,
+        end: Ok(0),
+    },
+    Found {
+        file: File::Parts(&[
+            Part::Frames(0, 11),
+            Part::Bytes(&[0x37]),
+            Part::Frames(12, 22),
+        ]),
+        count: 1,
+        end: Ok(11),
+    },
+    Found {
+        file: File::Parts(&[
+            Part::Bytes(&[0x37]),
+            Part::Frames(1, 11),
+            Part::Bytes(&[0x37]),
+            Part::Frames(12, 22),
+        ]),
+        count: 0,
+        end: Ok(0),
+    },
+    Found {
+        file: File::Parts(&[
+            Part::Frames(0, 11),
+            Part::Bytes(&[0xff]),
+            Part::Frames(12, 22),
+        ]),
+        count: 1,
+        end: Ok(11),
+    },
+    Found {
+        file: File::Parts(&[
+            Part::Bytes(&[0xff]),
+            Part::Frames(1, 11),
+            Part::Bytes(&[0xff]),
+            Part::Frames(12, 22),
+        ]),
+        count: 0,
+        end: Ok(0),
+    },
+    // A length past the file is damage.
+    Found {
+        file: File::Parts(&[Part::Bytes(&[
+            1, 0xff, 0xff, 0xff, 0xff, 0xff, 0xff, 0xff, 0xff, 5, 0,
+        ])]),
+        count: 0,
+        end: Err(0),
+    },
+    Found {
+        file: File::Parts(&[Part::Bytes(&[
+            1, 0xff, 0xff, 0xff, 0xff, 0xff, 0xff, 0xff, 0xfe, 5, 0,
+        ])]),
+        count: 0,
+        end: Err(0),
+    },
+    Found {
+        file: File::Parts(&[Part::Bytes(&[
+            1, 0xff, 0xff, 0xff, 0xff, 0xff, 0xff, 0xff, 0xf7, 5, 0,
+        ])]),
+        count: 0,
+        end: Err(0),
+    },
+    Found {
+        file: File::Parts(&[Part::Bytes(&[
+            1, 0xff, 0xff, 0xff, 0xff, 0xff, 0xff, 0xff, 0xf6, 5, 0,
+        ])]),
+        count: 0,
+        end: Err(0),
+    },
+];
 
 #[test]
 fn frames_are_read_and_stepped_over_up_to_their_end_or_damage(rt: HostRuntime) -> Result<(), Fail> {
-    assert_each(
-        &rt,
-        &[
-            // A cut file is damaged at the cut frame.
-            Found {
-                files: &[&[Part::Frames(0, 0)]],
-                count: 0,
-                end: Ok(0),
-            },
-            Found {
-                files: &[&[Part::Frames(0, 1)]],
-                count: 0,
-                end: Ok(0),
-            },
-            Found {
-                files: &[&[Part::Frames(0, 2)]],
-                count: 0,
-                end: Err(0),
-            },
-            Found {
-                files: &[&[Part::Frames(0, 3)]],
-                count: 0,
-                end: Err(0),
-            },
-            Found {
-                files: &[&[Part::Frames(0, 4)]],
-                count: 0,
-                end: Err(0),
-            },
-            Found {
-                files: &[&[Part::Frames(0, 5)]],
-                count: 0,
-                end: Err(0),
-            },
-            Found {
-                files: &[&[Part::Frames(0, 6)]],
-                count: 0,
-                end: Err(0),
-            },
-            Found {
-                files: &[&[Part::Frames(0, 7)]],
-                count: 0,
-                end: Err(0),
-            },
-            Found {
-                files: &[&[Part::Frames(0, 8)]],
-                count: 0,
-                end: Err(0),
-            },
-            Found {
-                files: &[&[Part::Frames(0, 9)]],
-                count: 0,
-                end: Err(0),
-            },
-            Found {
-                files: &[&[Part::Frames(0, 10)]],
-                count: 0,
-                end: Err(0),
-            },
-            Found {
-                files: &[&[Part::Frames(0, 11)]],
-                count: 0,
-                end: Err(0),
-            },
-            Found {
-                files: &[&[Part::Frames(0, 12)]],
-                count: 1,
-                end: Err(11),
-            },
-            Found {
-                files: &[&[Part::Frames(0, 13)]],
-                count: 1,
-                end: Err(11),
-            },
-            Found {
-                files: &[&[Part::Frames(0, 14)]],
-                count: 1,
-                end: Err(11),
-            },
-            Found {
-                files: &[&[Part::Frames(0, 15)]],
-                count: 1,
-                end: Err(11),
-            },
-            Found {
-                files: &[&[Part::Frames(0, 16)]],
-                count: 1,
-                end: Err(11),
-            },
-            Found {
-                files: &[&[Part::Frames(0, 17)]],
-                count: 1,
-                end: Err(11),
-            },
-            Found {
-                files: &[&[Part::Frames(0, 18)]],
-                count: 1,
-                end: Err(11),
-            },
-            Found {
-                files: &[&[Part::Frames(0, 19)]],
-                count: 1,
-                end: Err(11),
-            },
-            Found {
-                files: &[&[Part::Frames(0, 20)]],
-                count: 1,
-                end: Err(11),
-            },
-            Found {
-                files: &[&[Part::Frames(0, 21)]],
-                count: 1,
-                end: Err(11),
-            },
-            Found {
-                files: &[&[Part::Frames(0, 22)]],
-                count: 2,
-                end: Ok(21),
-            },
-            // A gate of another value ends the list.
-            Found {
-                files: &[&[Part::Frames(0, 11), Part::Bytes(&[0]), Part::Frames(12, 22)]],
-                count: 1,
-                end: Ok(11),
-            },
-            Found {
-                files: &[&[
-                    Part::Bytes(&[0]),
-                    Part::Frames(1, 11),
-                    Part::Bytes(&[0]),
-                    Part::Frames(12, 22),
-                ]],
-                count: 0,
-                end: Ok(0),
-            },
-            Found {
-                files: &[&[Part::Frames(0, 11), Part::Bytes(&[2]), Part::Frames(12, 22)]],
-                count: 1,
-                end: Ok(11),
-            },
-            Found {
-                files: &[&[
-                    Part::Bytes(&[2]),
-                    Part::Frames(1, 11),
-                    Part::Bytes(&[2]),
-                    Part::Frames(12, 22),
-                ]],
-                count: 0,
-                end: Ok(0),
-            },
-            Found {
-                files: &[&[
-                    Part::Frames(0, 11),
-                    Part::Bytes(&[0x37]),
-                    Part::Frames(12, 22),
-                ]],
-                count: 1,
-                end: Ok(11),
-            },
-            Found {
-                files: &[&[
-                    Part::Bytes(&[0x37]),
-                    Part::Frames(1, 11),
-                    Part::Bytes(&[0x37]),
-                    Part::Frames(12, 22),
-                ]],
-                count: 0,
-                end: Ok(0),
-            },
-            Found {
-                files: &[&[
-                    Part::Frames(0, 11),
-                    Part::Bytes(&[0xff]),
-                    Part::Frames(12, 22),
-                ]],
-                count: 1,
-                end: Ok(11),
-            },
-            Found {
-                files: &[&[
-                    Part::Bytes(&[0xff]),
-                    Part::Frames(1, 11),
-                    Part::Bytes(&[0xff]),
-                    Part::Frames(12, 22),
-                ]],
-                count: 0,
-                end: Ok(0),
-            },
-            // A length past the file is damage.
-            Found {
-                files: &[&[Part::Bytes(&[
-                    1, 0xff, 0xff, 0xff, 0xff, 0xff, 0xff, 0xff, 0xff, 5, 0,
-                ])]],
-                count: 0,
-                end: Err(0),
-            },
-            Found {
-                files: &[&[Part::Bytes(&[
-                    1, 0xff, 0xff, 0xff, 0xff, 0xff, 0xff, 0xff, 0xfe, 5, 0,
-                ])]],
-                count: 0,
-                end: Err(0),
-            },
-            Found {
-                files: &[&[Part::Bytes(&[
-                    1, 0xff, 0xff, 0xff, 0xff, 0xff, 0xff, 0xff, 0xf7, 5, 0,
-                ])]],
-                count: 0,
-                end: Err(0),
-            },
-            Found {
-                files: &[&[Part::Bytes(&[
-                    1, 0xff, 0xff, 0xff, 0xff, 0xff, 0xff, 0xff, 0xf6, 5, 0,
-                ])]],
-                count: 0,
-                end: Err(0),
-            },
-        ],
-    )
+    assert_each(&rt, LOGS)
 }
 
-/// Appends these payloads, at most two. Answers where the first stands, and where the second does or would.
+/// Appends these payloads, at most two; more are refused. Answers where the first stands, and where the second does or
+/// would.
 fn append(
     host: &mut MemHost,
     log: &mut FrameLog,
@@ -380,6 +308,9 @@ fn append(
     ensures ready { log.new.ready ≡ true }
     ensures reaches { ReachesEnd log.new (⟦<MemHost as Host>⟧.now host.new) }
 {
+    if payloads.len() > 2 {
+        return Err(FrameFault::Memory);
+    }
     let Some(one) = payloads.get(0) else {
         return Ok((0, log.end()));
     };
@@ -507,7 +438,7 @@ const ONE_FAILS: Filled = Filled {
     ..FILLED
 };
 
-/// The first one fails.
+/// The clear or the first one fails.
 const BOTH_FAIL: Filled = Filled {
     settled: u64::MAX,
     ..ONE_FAILS
@@ -533,169 +464,170 @@ const CLOSED: Filled = Filled {
     ..CLEARED
 };
 
+/// Appends and clears that are whole, or in which a call fails.
+const FILLS: &[Filled] = &[
+    // A frame is written as the format says, and one behind it: a clear is one read, and the first append has three
+    // syncs.
+    Filled {
+        payloads: &[b"Spayments(ts,card:text,merchant:text,amount:int)"],
+        end: 57,
+        calls: 10,
+        bytes: &[
+            0x01, 0x00, 0x00, 0x00, 0x00, 0x00, 0x00, 0x00, 0x30, 0x53, 0x70, 0x61, 0x79, 0x6d,
+            0x65, 0x6e, 0x74, 0x73, 0x28, 0x74, 0x73, 0x2c, 0x63, 0x61, 0x72, 0x64, 0x3a, 0x74,
+            0x65, 0x78, 0x74, 0x2c, 0x6d, 0x65, 0x72, 0x63, 0x68, 0x61, 0x6e, 0x74, 0x3a, 0x74,
+            0x65, 0x78, 0x74, 0x2c, 0x61, 0x6d, 0x6f, 0x75, 0x6e, 0x74, 0x3a, 0x69, 0x6e, 0x74,
+            0x29, 0x00,
+        ],
+        ..FILLED
+    },
+    Filled {
+        payloads: &[b"Spayments(ts,card:text,merchant:text,amount:int)", b"c"],
+        end: 57,
+        ..FILLED
+    },
+    FILLED,
+    // Each call that fails ends the appends, and, once the log was cleared, the log.
+    Filled {
+        failing: &[0],
+        calls: 1,
+        ..BOTH_FAIL
+    },
+    Filled {
+        failing: &[1],
+        calls: 2,
+        ..BOTH_FAIL
+    },
+    Filled {
+        failing: &[2],
+        calls: 3,
+        ..BOTH_FAIL
+    },
+    Filled {
+        failing: &[3],
+        calls: 4,
+        ..BOTH_FAIL
+    },
+    Filled {
+        failing: &[4],
+        calls: 5,
+        ..BOTH_FAIL
+    },
+    Filled {
+        failing: &[5],
+        calls: 6,
+        ..BOTH_FAIL
+    },
+    Filled {
+        failing: &[6],
+        calls: 7,
+        ..BOTH_FAIL
+    },
+    Filled {
+        failing: &[7],
+        calls: 8,
+        ..BOTH_FAIL
+    },
+    Filled {
+        failing: &[8],
+        calls: 9,
+        ..BOTH_FAIL
+    },
+    Filled {
+        failing: &[9],
+        calls: 10,
+        ..BOTH_FAIL
+    },
+    Filled {
+        failing: &[10],
+        calls: 11,
+        ..ONE_FAILS
+    },
+    Filled {
+        failing: &[11],
+        calls: 12,
+        ..ONE_FAILS
+    },
+    Filled {
+        failing: &[12],
+        calls: 13,
+        ..ONE_FAILS
+    },
+    Filled {
+        failing: &[13],
+        calls: 14,
+        ..ONE_FAILS
+    },
+    Filled {
+        failing: &[14],
+        calls: 15,
+        ..ONE_FAILS
+    },
+    Filled {
+        failing: &[15],
+        calls: 16,
+        ..ONE_FAILS
+    },
+    Filled {
+        failing: &[16],
+        calls: 17,
+        ..ONE_FAILS
+    },
+    // A stop in a clear leaves the old list or none.
+    Filled {
+        failing: &[0],
+        calls: 1,
+        ..UNCLEARED
+    },
+    Filled {
+        failing: &[1],
+        calls: 2,
+        ..UNCLEARED
+    },
+    Filled {
+        failing: &[2],
+        calls: 3,
+        ..UNCLEARED
+    },
+    Filled {
+        failing: &[3],
+        calls: 3,
+        ..CLEARED
+    },
+    // A closed gate is not written by a clear.
+    Filled {
+        files: &[&[Part::Bytes(&[0]), Part::Frames(1, 22)]],
+        bytes: &[
+            0, 0, 0, 0, 0, 0, 0, 0, 2, b'a', b'b', 1, 0, 0, 0, 0, 0, 0, 0, 1, b'c', 0,
+        ],
+        ..CLOSED
+    },
+    Filled {
+        files: &[&[Part::Bytes(&[2]), Part::Frames(1, 22)]],
+        bytes: &[
+            2, 0, 0, 0, 0, 0, 0, 0, 2, b'a', b'b', 1, 0, 0, 0, 0, 0, 0, 0, 1, b'c', 0,
+        ],
+        ..CLOSED
+    },
+    Filled {
+        files: &[&[Part::Bytes(&[0x37]), Part::Frames(1, 22)]],
+        bytes: &[
+            0x37, 0, 0, 0, 0, 0, 0, 0, 2, b'a', b'b', 1, 0, 0, 0, 0, 0, 0, 0, 1, b'c', 0,
+        ],
+        ..CLOSED
+    },
+    Filled {
+        files: &[&[Part::Bytes(&[0xff]), Part::Frames(1, 22)]],
+        bytes: &[
+            0xff, 0, 0, 0, 0, 0, 0, 0, 2, b'a', b'b', 1, 0, 0, 0, 0, 0, 0, 0, 1, b'c', 0,
+        ],
+        ..CLOSED
+    },
+];
+
 #[test]
 fn appends_and_clears_leave_the_old_list_or_the_new_one_at_each_stop(
     rt: HostRuntime,
 ) -> Result<(), Fail> {
-    assert_each(
-        &rt,
-        &[
-            // A frame is written as the format says, and one behind it: an append is one read, and an append of three syncs.
-            Filled {
-                payloads: &[b"Spayments(ts,card:text,merchant:text,amount:int)"],
-                end: 57,
-                calls: 10,
-                bytes: &[
-                    0x01, 0x00, 0x00, 0x00, 0x00, 0x00, 0x00, 0x00, 0x30, 0x53, 0x70, 0x61, 0x79,
-                    0x6d, 0x65, 0x6e, 0x74, 0x73, 0x28, 0x74, 0x73, 0x2c, 0x63, 0x61, 0x72, 0x64,
-                    0x3a, 0x74, 0x65, 0x78, 0x74, 0x2c, 0x6d, 0x65, 0x72, 0x63, 0x68, 0x61, 0x6e,
-                    0x74, 0x3a, 0x74, 0x65, 0x78, 0x74, 0x2c, 0x61, 0x6d, 0x6f, 0x75, 0x6e, 0x74,
-                    0x3a, 0x69, 0x6e, 0x74, 0x29, 0x00,
-                ],
-                ..FILLED
-            },
-            Filled {
-                payloads: &[b"Spayments(ts,card:text,merchant:text,amount:int)", b"c"],
-                end: 57,
-                ..FILLED
-            },
-            FILLED,
-            // Each call that fails ends the log.
-            Filled {
-                failing: &[0],
-                calls: 1,
-                ..BOTH_FAIL
-            },
-            Filled {
-                failing: &[1],
-                calls: 2,
-                ..BOTH_FAIL
-            },
-            Filled {
-                failing: &[2],
-                calls: 3,
-                ..BOTH_FAIL
-            },
-            Filled {
-                failing: &[3],
-                calls: 4,
-                ..BOTH_FAIL
-            },
-            Filled {
-                failing: &[4],
-                calls: 5,
-                ..BOTH_FAIL
-            },
-            Filled {
-                failing: &[5],
-                calls: 6,
-                ..BOTH_FAIL
-            },
-            Filled {
-                failing: &[6],
-                calls: 7,
-                ..BOTH_FAIL
-            },
-            Filled {
-                failing: &[7],
-                calls: 8,
-                ..BOTH_FAIL
-            },
-            Filled {
-                failing: &[8],
-                calls: 9,
-                ..BOTH_FAIL
-            },
-            Filled {
-                failing: &[9],
-                calls: 10,
-                ..BOTH_FAIL
-            },
-            Filled {
-                failing: &[10],
-                calls: 11,
-                ..ONE_FAILS
-            },
-            Filled {
-                failing: &[11],
-                calls: 12,
-                ..ONE_FAILS
-            },
-            Filled {
-                failing: &[12],
-                calls: 13,
-                ..ONE_FAILS
-            },
-            Filled {
-                failing: &[13],
-                calls: 14,
-                ..ONE_FAILS
-            },
-            Filled {
-                failing: &[14],
-                calls: 15,
-                ..ONE_FAILS
-            },
-            Filled {
-                failing: &[15],
-                calls: 16,
-                ..ONE_FAILS
-            },
-            Filled {
-                failing: &[16],
-                calls: 17,
-                ..ONE_FAILS
-            },
-            // A stop in a clear leaves the old list or none.
-            Filled {
-                failing: &[0],
-                calls: 1,
-                ..UNCLEARED
-            },
-            Filled {
-                failing: &[1],
-                calls: 2,
-                ..UNCLEARED
-            },
-            Filled {
-                failing: &[2],
-                calls: 3,
-                ..UNCLEARED
-            },
-            Filled {
-                failing: &[3],
-                calls: 3,
-                ..CLEARED
-            },
-            // A closed gate is not written by a clear.
-            Filled {
-                files: &[&[Part::Bytes(&[0]), Part::Frames(1, 22)]],
-                bytes: &[
-                    0, 0, 0, 0, 0, 0, 0, 0, 2, b'a', b'b', 1, 0, 0, 0, 0, 0, 0, 0, 1, b'c', 0,
-                ],
-                ..CLOSED
-            },
-            Filled {
-                files: &[&[Part::Bytes(&[2]), Part::Frames(1, 22)]],
-                bytes: &[
-                    2, 0, 0, 0, 0, 0, 0, 0, 2, b'a', b'b', 1, 0, 0, 0, 0, 0, 0, 0, 1, b'c', 0,
-                ],
-                ..CLOSED
-            },
-            Filled {
-                files: &[&[Part::Bytes(&[0x37]), Part::Frames(1, 22)]],
-                bytes: &[
-                    0x37, 0, 0, 0, 0, 0, 0, 0, 2, b'a', b'b', 1, 0, 0, 0, 0, 0, 0, 0, 1, b'c', 0,
-                ],
-                ..CLOSED
-            },
-            Filled {
-                files: &[&[Part::Bytes(&[0xff]), Part::Frames(1, 22)]],
-                bytes: &[
-                    0xff, 0, 0, 0, 0, 0, 0, 0, 2, b'a', b'b', 1, 0, 0, 0, 0, 0, 0, 0, 1, b'c', 0,
-                ],
-                ..CLOSED
-            },
-        ],
-    )
+    assert_each(&rt, FILLS)
 }

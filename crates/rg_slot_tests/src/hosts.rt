@@ -112,7 +112,7 @@ impl Left for Clean<'_> {
 
 /// Calls on a host, and what it has then.
 #[derive(Clone, Copy)]
-struct Case {
+struct Called {
     /// How many calls a fuse before the host passes, where there is one.
     fuse: Option<u64>,
     /// From file 2 on.
@@ -127,19 +127,20 @@ struct Case {
     count: u64,
     reads: u64,
     starved: u64,
+    /// None where there is a fuse.
     stops: &'static [Stop],
 }
 
 /// Whether a host has what it should in that file, and nothing in file 7.
-fn is_left(host: &MemHost, file: u32, case: &Case) -> bool
+fn is_left(host: &MemHost, file: u32, called: &Called) -> bool
     requires { file < 8 }
 {
-    host.file(file) == case.bytes
+    host.file(file) == called.bytes
         && host.file(7).is_empty()
-        && host.output() == case.output
-        && host.calls() == case.count
-        && host.count_reads() == case.reads
-        && host.starved() == case.starved
+        && host.output() == called.output
+        && host.calls() == called.count
+        && host.count_reads() == called.reads
+        && host.starved() == called.starved
 }
 
 /// Whether a stop leaves these bytes, and nothing else.
@@ -174,23 +175,23 @@ fn leaves_each(alloc: Global, host: &MemHost, stops: &[Stop]) -> bool {
 }
 
 /// Whether a host in memory does so.
-fn does(alloc: Global, host: &mut MemHost, case: &Case) -> bool {
-    answers_in_memory(host, case.calls)
-        && is_left(host, 2, case)
-        && leaves_each(alloc, host, case.stops)
+fn does(alloc: Global, host: &mut MemHost, called: &Called) -> bool {
+    answers_in_memory(host, called.calls)
+        && is_left(host, 2, called)
+        && leaves_each(alloc, host, called.stops)
 }
 
-/// Whether a fuse of so many calls before a host does so.
-fn does_by_fuse(host: MemHost, calls: u64, case: &Case) -> bool {
+/// Whether a fuse of so many calls before a host does so; no stop is asked of it.
+fn does_by_fuse(host: MemHost, calls: u64, called: &Called) -> bool {
     let mut fuse = FuseHost::new(host, calls);
-    let do_answer = answers_by_fuse(&mut fuse, case.calls);
+    let do_answer = answers_by_fuse(&mut fuse, called.calls);
     let host = fuse.into_inner();
-    let is_left = is_left(&host, 1, case);
+    let is_left = is_left(&host, 1, called);
     drop(host);
-    do_answer && is_left
+    do_answer && is_left && called.stops.is_empty()
 }
 
-impl Row for Case {
+impl Row for Called {
     fn is_so(&self, alloc: Global) -> bool {
         match store(alloc, 2, self.files, self.failing) {
             Ok(mut host) => match self.fuse {
@@ -207,7 +208,7 @@ impl Row for Case {
 }
 
 /// A host with the bytes 1, 2, 3 in file 2.
-const OF_THREE: Case = Case {
+const OF_THREE: Called = Called {
     fuse: None,
     files: &[&[Part::Bytes(&[1, 2, 3])]],
     failing: &[],
@@ -221,124 +222,124 @@ const OF_THREE: Case = Case {
 };
 
 /// A fuse of two calls before an empty host.
-const FUSE: Case = Case {
+const FUSE: Called = Called {
     fuse: Some(2),
     files: &[],
     ..OF_THREE
 };
 
 /// One call on such a fuse.
-const ONE: Case = Case { count: 1, ..FUSE };
+const ONE: Called = Called { count: 1, ..FUSE };
+
+/// Hosts in memory that are called, and stopped, and fuses before them.
+const HOSTS: &[Called] = &[
+    // Each call does its work with ample memory.
+    Called {
+        calls: &[
+            Call::Len(3),
+            Call::WriteBehind(&[7, 8], 0),
+            Call::Read(1, &[2, 7, 8, 0], 3),
+            Call::Sync(0),
+            Call::Put(b"stored 1\n", 9),
+        ],
+        bytes: &[1, 2, 7, 8],
+        output: b"stored 1\n",
+        count: 5,
+        reads: 1,
+        starved: 0,
+        ..OF_THREE
+    },
+    // A listed call fails and does nothing.
+    Called {
+        failing: &[0, 1, 2, 3, 5],
+        calls: &[
+            Call::Len(FAILS),
+            Call::Read(0, &[0, 0, 0, 0], FAILS),
+            Call::Write(&[9], FAILS),
+            Call::Sync(FAILS),
+            Call::PutAll(b"stored 1\n", 0),
+            Call::PutAll(b"stored 2\n", FAILS),
+            Call::PutAll(b"stored 3\n", 0),
+        ],
+        bytes: &[1, 2, 3],
+        output: b"stored 1\nstored 3\n",
+        count: 7,
+        reads: 1,
+        starved: 0,
+        ..OF_THREE
+    },
+    // A stop leaves what was settled, and of the rest what the pick says.
+    Called {
+        calls: &[
+            Call::Write(&[1, 2, 7, 8], 0),
+            Call::Put(b"stored 1\n", 9),
+            Call::Sync(0),
+            Call::Write(&[9], 0),
+        ],
+        bytes: &[9, 2, 7, 8],
+        output: b"stored 1\n",
+        count: 4,
+        reads: 0,
+        starved: 0,
+        stops: &[
+            // Before the first write, after the put, after the sync, and after the last write.
+            Stop::New(0, &[1, 2, 3]),
+            Stop::Old(2, &[1, 2, 3]),
+            Stop::New(2, &[1, 2, 7, 8]),
+            Stop::Torn(5, 2, &[5, 5, 5, 5]),
+            Stop::Old(3, &[1, 2, 7, 8]),
+            Stop::Torn(5, 3, &[1, 2, 7, 8]),
+            Stop::Old(4, &[1, 2, 7, 8]),
+            Stop::Torn(5, 4, &[5, 2, 7, 8]),
+            Stop::New(4, &[9, 2, 7, 8]),
+        ],
+        ..OF_THREE
+    },
+    // A fuse of two calls passes two.
+    Called {
+        calls: &[
+            Call::Write(&[4], 0),
+            Call::Sync(0),
+            Call::Len(FAILS),
+            Call::Write(&[5], FAILS),
+        ],
+        bytes: &[4],
+        count: 2,
+        ..FUSE
+    },
+    // Each of the five calls is one call on the other host.
+    Called {
+        calls: &[Call::Len(0)],
+        ..ONE
+    },
+    Called {
+        calls: &[Call::Read(0, &[0, 0, 0, 0], 0)],
+        reads: 1,
+        ..ONE
+    },
+    Called {
+        calls: &[Call::Write(&[4], 0)],
+        bytes: &[4],
+        ..ONE
+    },
+    Called {
+        calls: &[Call::Sync(0)],
+        ..ONE
+    },
+    Called {
+        calls: &[Call::Put(b"a", 1)],
+        output: b"a",
+        ..ONE
+    },
+    // A fuse of no calls passes no put.
+    Called {
+        fuse: Some(0),
+        calls: &[Call::Put(b"a", FAILS)],
+        ..FUSE
+    },
+];
 
 #[test]
 fn hosts_answer_calls_and_leave_what_a_pick_says(rt: HostRuntime) -> Result<(), Fail> {
-    assert_each(
-        &rt,
-        &[
-            // Each call does its work with ample memory.
-            Case {
-                calls: &[
-                    Call::Len(3),
-                    Call::WriteBehind(&[7, 8], 0),
-                    Call::Read(1, &[2, 7, 8, 0], 3),
-                    Call::Sync(0),
-                    Call::Put(b"stored 1\n", 9),
-                ],
-                bytes: &[1, 2, 7, 8],
-                output: b"stored 1\n",
-                count: 5,
-                reads: 1,
-                starved: 0,
-                ..OF_THREE
-            },
-            // A listed call fails and does nothing.
-            Case {
-                failing: &[0, 1, 2, 3, 5],
-                calls: &[
-                    Call::Len(FAILS),
-                    Call::Read(0, &[0, 0, 0, 0], FAILS),
-                    Call::Write(&[9], FAILS),
-                    Call::Sync(FAILS),
-                    Call::PutAll(b"stored 1\n", 0),
-                    Call::PutAll(b"stored 2\n", FAILS),
-                    Call::PutAll(b"stored 3\n", 0),
-                ],
-                bytes: &[1, 2, 3],
-                output: b"stored 1\nstored 3\n",
-                count: 7,
-                reads: 1,
-                starved: 0,
-                ..OF_THREE
-            },
-            // A stop leaves what was settled, and of the rest what the pick says.
-            Case {
-                calls: &[
-                    Call::Write(&[1, 2, 7, 8], 0),
-                    Call::Put(b"stored 1\n", 9),
-                    Call::Sync(0),
-                    Call::Write(&[9], 0),
-                ],
-                bytes: &[9, 2, 7, 8],
-                output: b"stored 1\n",
-                count: 4,
-                reads: 0,
-                starved: 0,
-                stops: &[
-                    // Before the first write, after the put, after the sync, and after the last write.
-                    Stop::New(0, &[1, 2, 3]),
-                    Stop::Old(2, &[1, 2, 3]),
-                    Stop::New(2, &[1, 2, 7, 8]),
-                    Stop::Torn(5, 2, &[5, 5, 5, 5]),
-                    Stop::Old(3, &[1, 2, 7, 8]),
-                    Stop::Torn(5, 3, &[1, 2, 7, 8]),
-                    Stop::Old(4, &[1, 2, 7, 8]),
-                    Stop::Torn(5, 4, &[5, 2, 7, 8]),
-                    Stop::New(4, &[9, 2, 7, 8]),
-                ],
-                ..OF_THREE
-            },
-            // A fuse of two calls passes two.
-            Case {
-                calls: &[
-                    Call::Write(&[4], 0),
-                    Call::Sync(0),
-                    Call::Len(FAILS),
-                    Call::Write(&[5], FAILS),
-                ],
-                bytes: &[4],
-                count: 2,
-                ..FUSE
-            },
-            // Each of the five calls is one call on the other host.
-            Case {
-                calls: &[Call::Len(0)],
-                ..ONE
-            },
-            Case {
-                calls: &[Call::Read(0, &[0, 0, 0, 0], 0)],
-                reads: 1,
-                ..ONE
-            },
-            Case {
-                calls: &[Call::Write(&[4], 0)],
-                bytes: &[4],
-                ..ONE
-            },
-            Case {
-                calls: &[Call::Sync(0)],
-                ..ONE
-            },
-            Case {
-                calls: &[Call::Put(b"a", 1)],
-                output: b"a",
-                ..ONE
-            },
-            // A fuse of no calls passes no put.
-            Case {
-                fuse: Some(0),
-                calls: &[Call::Put(b"a", FAILS)],
-                ..FUSE
-            },
-        ],
-    )
+    assert_each(&rt, HOSTS)
 }

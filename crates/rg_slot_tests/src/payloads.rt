@@ -19,7 +19,7 @@ pub(crate) fn texts(alloc: Global, text: &[u8]) -> Result<Texts, Memory> {
 }
 
 /// What is done to a table of counts.
-enum Turn {
+enum Step {
     /// An event of the card `c1` is counted.
     First,
     /// One is taken away.
@@ -46,22 +46,22 @@ fn count(alloc: Global, table: &mut MemTable, key: &[u8], change: Change) -> boo
     }
 }
 
-fn takes(alloc: Global, table: &mut MemTable, turn: &Turn) -> bool {
-    match turn {
-        Turn::First => count(alloc, table, b"\x03\x02c1", Change::Add),
-        Turn::FirstGone => count(alloc, table, b"\x03\x02c1", Change::Remove),
-        Turn::Second => count(alloc, table, b"\x03\x02c2", Change::Add),
-        Turn::SecondGone => count(alloc, table, b"\x03\x02c2", Change::Remove),
-        Turn::Mark => {
+fn takes(alloc: Global, table: &mut MemTable, step: &Step) -> bool {
+    match step {
+        Step::First => count(alloc, table, b"\x03\x02c1", Change::Add),
+        Step::FirstGone => count(alloc, table, b"\x03\x02c1", Change::Remove),
+        Step::Second => count(alloc, table, b"\x03\x02c2", Change::Add),
+        Step::SecondGone => count(alloc, table, b"\x03\x02c2", Change::Remove),
+        Step::Mark => {
             table.mark();
             true
         }
     }
 }
 
-fn takes_all(alloc: Global, table: &mut MemTable, turns: &[Turn]) -> bool {
-    for turn in turns {
-        if !takes(alloc, table, turn) {
+fn takes_all(alloc: Global, table: &mut MemTable, steps: &[Step]) -> bool {
+    for step in steps {
+        if !takes(alloc, table, step) {
             return false;
         }
     }
@@ -101,13 +101,13 @@ fn has_row(checkpoint: &Checkpoint, key: &[u8]) -> bool {
 }
 
 /// A payload, and what is read of it.
-struct Case {
+struct Payload {
     /// Whether it has changes of the checkpoint of two payments, or is a base payload.
     changes: bool,
     /// The payload, where it isn't written.
     parts: &'static [Part],
     /// What is done to a table, of which it is written, and its length then.
-    turns: &'static [Turn],
+    steps: &'static [Step],
     length: usize,
     /// Of how many payments the checkpoint is that is read, 0 where it is refused, and how many rows it has.
     count: u64,
@@ -118,10 +118,10 @@ struct Case {
     fronts: bool,
 }
 
-impl Case {
+impl Payload {
     /// Writes the payload of a table.
     fn write(&self, alloc: Global, table: &mut MemTable, out: &mut Vec<u8>) -> bool {
-        if !takes_all(alloc, table, self.turns) {
+        if !takes_all(alloc, table, self.steps) {
             return false;
         }
         if self.changes {
@@ -133,7 +133,7 @@ impl Case {
 
     /// Makes the payload behind what is there.
     fn make(&self, alloc: Global, out: &mut Vec<u8>) -> bool {
-        if self.turns.is_empty() {
+        if self.steps.is_empty() {
             return add_each(out, self.parts).is_ok();
         }
         let mut table = MemTable::new(alloc);
@@ -210,7 +210,7 @@ impl Case {
     /// Whether this was made, behind `x`, and is read so.
     fn is_read(&self, alloc: Global, out: &[u8]) -> bool {
         let payload = out.get(1..).unwrap_or(b"");
-        let is_made = self.turns.is_empty()
+        let is_made = self.steps.is_empty()
             || (payload.len() == self.length && are_parts(alloc, payload, self.parts));
         if !is_made || out.get(..1) != Some(b"x".as_slice()) {
             return false;
@@ -222,7 +222,7 @@ impl Case {
     }
 }
 
-impl Row for Case {
+impl Row for Payload {
     fn is_so(&self, alloc: Global) -> bool {
         match b"x".to_vec(alloc) {
             Ok(mut out) => {
@@ -236,10 +236,10 @@ impl Row for Case {
 }
 
 /// A base payload that is refused.
-const NO_BASE: Case = Case {
+const NO_BASE: Payload = Payload {
     changes: false,
     parts: &[],
-    turns: &[],
+    steps: &[],
     length: 0,
     count: 0,
     rows: 0,
@@ -248,270 +248,270 @@ const NO_BASE: Case = Case {
 };
 
 /// Changes that are refused.
-const NO_CHANGES: Case = Case {
+const NO_CHANGES: Payload = Payload {
     changes: true,
     ..NO_BASE
 };
 
 /// A checkpoint of two payments, and one row.
-const OF_TWO: Case = Case {
+const OF_TWO: Payload = Payload {
     count: 2,
     rows: 1,
     ..NO_BASE
 };
 
 /// One of three payments, with changes.
-const OF_THREE: Case = Case {
+const OF_THREE: Payload = Payload {
     changes: true,
     count: 3,
     ..OF_TWO
 };
 
+/// Payloads that are written of a table, and such as are read or refused.
+const PAYLOADS: &[Payload] = &[
+    // A checkpoint and changes are written as the format says.
+    Payload {
+        steps: &[Step::First, Step::First],
+        parts: &[Part::Base(0, 71)],
+        length: 71,
+        ..OF_TWO
+    },
+    Payload {
+        steps: &[
+            Step::First,
+            Step::First,
+            Step::Mark,
+            Step::FirstGone,
+            Step::FirstGone,
+            Step::Second,
+        ],
+        parts: &[Part::Changes(0, 76)],
+        length: 76,
+        ..OF_THREE
+    },
+    // They are read back.
+    Payload {
+        parts: &[Part::Base(0, 71)],
+        key: b"\x03\x02c1",
+        ..OF_TWO
+    },
+    Payload {
+        parts: &[Part::Changes(0, 76)],
+        key: b"\x03\x02c2",
+        ..OF_THREE
+    },
+    // What is longer or shorter than a payload is refused.
+    Payload {
+        parts: &[Part::Base(0, 71), Part::Bytes(b"\0")],
+        fronts: true,
+        ..OF_TWO
+    },
+    Payload {
+        parts: &[Part::Changes(0, 76), Part::Bytes(b"\0")],
+        fronts: true,
+        ..OF_THREE
+    },
+    // Rows that don't rise are refused: the same row twice, and one that falls; one that rises isn't.
+    Payload {
+        parts: &[
+            Part::Base(0, 49),
+            Part::Bytes(&[2]),
+            Part::Base(50, 71),
+            Part::Base(50, 71),
+        ],
+        ..NO_BASE
+    },
+    Payload {
+        parts: &[
+            Part::Base(0, 49),
+            Part::Bytes(&[2]),
+            Part::Base(50, 53),
+            Part::Bytes(&[1]),
+            Part::Base(54, 71),
+            Part::Base(50, 71),
+        ],
+        ..NO_BASE
+    },
+    Payload {
+        parts: &[
+            Part::Base(0, 49),
+            Part::Bytes(&[2]),
+            Part::Base(50, 71),
+            Part::Base(50, 61),
+            Part::Bytes(b"2"),
+            Part::Base(62, 71),
+        ],
+        rows: 2,
+        ..OF_TWO
+    },
+    // The tag of a change, no values, and another node.
+    Payload {
+        parts: &[Part::Bytes(&[0x44]), Part::Base(1, 71)],
+        ..NO_BASE
+    },
+    Payload {
+        parts: &[Part::Base(0, 70), Part::Bytes(&[0])],
+        ..NO_BASE
+    },
+    Payload {
+        parts: &[Part::Base(0, 53), Part::Bytes(&[9]), Part::Base(54, 71)],
+        ..OF_TWO
+    },
+    // Numbers of queries, of a text's bytes, of spots, of rows and of a key's bytes that the bytes don't bear out.
+    Payload {
+        parts: &[Part::Base(0, 1), Part::Times(4, b"\xff"), Part::Base(5, 71)],
+        ..NO_BASE
+    },
+    Payload {
+        parts: &[Part::Base(0, 5), Part::Times(4, b"\xff"), Part::Base(9, 71)],
+        ..NO_BASE
+    },
+    Payload {
+        parts: &[
+            Part::Base(0, 18),
+            Part::Times(4, b"\xff"),
+            Part::Base(22, 71),
+        ],
+        ..NO_BASE
+    },
+    Payload {
+        parts: &[
+            Part::Base(0, 42),
+            Part::Times(8, b"\xff"),
+            Part::Base(50, 71),
+        ],
+        ..NO_BASE
+    },
+    Payload {
+        parts: &[
+            Part::Base(0, 54),
+            Part::Times(4, b"\xff"),
+            Part::Base(58, 71),
+        ],
+        ..NO_BASE
+    },
+    // Only what changed between two marks is written, as it is: nothing, a row that came and went, one that came,
+    // one that is gone, and one that is gone and back.
+    Payload {
+        steps: &[Step::First, Step::First, Step::Mark],
+        length: 41,
+        ..OF_THREE
+    },
+    Payload {
+        steps: &[
+            Step::First,
+            Step::First,
+            Step::Mark,
+            Step::Second,
+            Step::SecondGone,
+        ],
+        length: 41,
+        ..OF_THREE
+    },
+    Payload {
+        steps: &[Step::First, Step::First, Step::Mark, Step::Second],
+        length: 63,
+        rows: 2,
+        ..OF_THREE
+    },
+    Payload {
+        steps: &[
+            Step::First,
+            Step::First,
+            Step::Mark,
+            Step::FirstGone,
+            Step::FirstGone,
+        ],
+        length: 54,
+        rows: 0,
+        ..OF_THREE
+    },
+    Payload {
+        steps: &[
+            Step::First,
+            Step::First,
+            Step::Mark,
+            Step::FirstGone,
+            Step::FirstGone,
+            Step::First,
+        ],
+        length: 63,
+        ..OF_THREE
+    },
+    // Changes of one payment don't fit the checkpoint, and those of two do.
+    Payload {
+        parts: &[Part::Changes(0, 8), Part::Bytes(&[1]), Part::Changes(9, 76)],
+        ..NO_CHANGES
+    },
+    Payload {
+        parts: &[Part::Changes(0, 8), Part::Bytes(&[2]), Part::Changes(9, 76)],
+        count: 2,
+        ..OF_THREE
+    },
+    // Nor do one row and three.
+    Payload {
+        parts: &[
+            Part::Changes(0, 40),
+            Part::Bytes(&[1]),
+            Part::Changes(41, 76),
+        ],
+        ..NO_CHANGES
+    },
+    Payload {
+        parts: &[
+            Part::Changes(0, 40),
+            Part::Bytes(&[3]),
+            Part::Changes(41, 76),
+        ],
+        ..NO_CHANGES
+    },
+    // Nor does a row that goes and was never there, and rows that fall.
+    Payload {
+        parts: &[
+            Part::Changes(0, 52),
+            Part::Bytes(b"0"),
+            Part::Changes(53, 76),
+        ],
+        ..NO_CHANGES
+    },
+    Payload {
+        parts: &[
+            Part::Changes(0, 52),
+            Part::Bytes(b"3"),
+            Part::Changes(53, 76),
+        ],
+        ..NO_CHANGES
+    },
+    // A base payload is no change payload.
+    Payload {
+        parts: &[Part::Base(0, 71)],
+        ..NO_CHANGES
+    },
+    // A key has at most 2056 bytes.
+    Payload {
+        parts: &[
+            Part::Changes(0, 40),
+            Part::Bytes(&[1, 0, 0, 0, 0, 0, 0, 8, 8]),
+            Part::Times(2056, &[7]),
+            Part::Bytes(&[1, 1, 0, 0, 0, 0, 0, 0, 0, 1]),
+        ],
+        rows: 2,
+        ..OF_THREE
+    },
+    Payload {
+        parts: &[
+            Part::Changes(0, 40),
+            Part::Bytes(&[1, 0, 0, 0, 0, 0, 0, 8, 9]),
+            Part::Times(2057, &[7]),
+            Part::Bytes(&[1, 1, 0, 0, 0, 0, 0, 0, 0, 1]),
+        ],
+        ..NO_CHANGES
+    },
+];
+
 #[test]
 fn payloads_are_written_as_the_format_says_and_others_are_refused(
     rt: HostRuntime,
 ) -> Result<(), Fail> {
-    assert_each(
-        &rt,
-        &[
-            // A checkpoint and changes are written as the format says.
-            Case {
-                turns: &[Turn::First, Turn::First],
-                parts: &[Part::Base(0, 71)],
-                length: 71,
-                ..OF_TWO
-            },
-            Case {
-                turns: &[
-                    Turn::First,
-                    Turn::First,
-                    Turn::Mark,
-                    Turn::FirstGone,
-                    Turn::FirstGone,
-                    Turn::Second,
-                ],
-                parts: &[Part::Changes(0, 76)],
-                length: 76,
-                ..OF_THREE
-            },
-            // They are read back.
-            Case {
-                parts: &[Part::Base(0, 71)],
-                key: b"\x03\x02c1",
-                ..OF_TWO
-            },
-            Case {
-                parts: &[Part::Changes(0, 76)],
-                key: b"\x03\x02c2",
-                ..OF_THREE
-            },
-            // What is longer or shorter than a payload is refused.
-            Case {
-                parts: &[Part::Base(0, 71), Part::Bytes(b"\0")],
-                fronts: true,
-                ..OF_TWO
-            },
-            Case {
-                parts: &[Part::Changes(0, 76), Part::Bytes(b"\0")],
-                fronts: true,
-                ..OF_THREE
-            },
-            // Rows that don't rise are refused: the same row twice, and one that falls; one that rises isn't.
-            Case {
-                parts: &[
-                    Part::Base(0, 49),
-                    Part::Bytes(&[2]),
-                    Part::Base(50, 71),
-                    Part::Base(50, 71),
-                ],
-                ..NO_BASE
-            },
-            Case {
-                parts: &[
-                    Part::Base(0, 49),
-                    Part::Bytes(&[2]),
-                    Part::Base(50, 53),
-                    Part::Bytes(&[1]),
-                    Part::Base(54, 71),
-                    Part::Base(50, 71),
-                ],
-                ..NO_BASE
-            },
-            Case {
-                parts: &[
-                    Part::Base(0, 49),
-                    Part::Bytes(&[2]),
-                    Part::Base(50, 71),
-                    Part::Base(50, 61),
-                    Part::Bytes(b"2"),
-                    Part::Base(62, 71),
-                ],
-                rows: 2,
-                ..OF_TWO
-            },
-            // The tag of a change, no values, and another node.
-            Case {
-                parts: &[Part::Bytes(&[0x44]), Part::Base(1, 71)],
-                ..NO_BASE
-            },
-            Case {
-                parts: &[Part::Base(0, 70), Part::Bytes(&[0])],
-                ..NO_BASE
-            },
-            Case {
-                parts: &[Part::Base(0, 53), Part::Bytes(&[9]), Part::Base(54, 71)],
-                ..OF_TWO
-            },
-            // Numbers of queries, of a text's bytes, of spots, of rows and of a key's bytes that the bytes don't bear out.
-            Case {
-                parts: &[Part::Base(0, 1), Part::Times(4, b"\xff"), Part::Base(5, 71)],
-                ..NO_BASE
-            },
-            Case {
-                parts: &[Part::Base(0, 5), Part::Times(4, b"\xff"), Part::Base(9, 71)],
-                ..NO_BASE
-            },
-            Case {
-                parts: &[
-                    Part::Base(0, 18),
-                    Part::Times(4, b"\xff"),
-                    Part::Base(22, 71),
-                ],
-                ..NO_BASE
-            },
-            Case {
-                parts: &[
-                    Part::Base(0, 42),
-                    Part::Times(8, b"\xff"),
-                    Part::Base(50, 71),
-                ],
-                ..NO_BASE
-            },
-            Case {
-                parts: &[
-                    Part::Base(0, 54),
-                    Part::Times(4, b"\xff"),
-                    Part::Base(58, 71),
-                ],
-                ..NO_BASE
-            },
-            // Only what changed between two marks is written, as it is: nothing, a row that came and went, one that came,
-            // one that is gone, and one that is gone and back.
-            Case {
-                turns: &[Turn::First, Turn::First, Turn::Mark],
-                length: 41,
-                ..OF_THREE
-            },
-            Case {
-                turns: &[
-                    Turn::First,
-                    Turn::First,
-                    Turn::Mark,
-                    Turn::Second,
-                    Turn::SecondGone,
-                ],
-                length: 41,
-                ..OF_THREE
-            },
-            Case {
-                turns: &[Turn::First, Turn::First, Turn::Mark, Turn::Second],
-                length: 63,
-                rows: 2,
-                ..OF_THREE
-            },
-            Case {
-                turns: &[
-                    Turn::First,
-                    Turn::First,
-                    Turn::Mark,
-                    Turn::FirstGone,
-                    Turn::FirstGone,
-                ],
-                length: 54,
-                rows: 0,
-                ..OF_THREE
-            },
-            Case {
-                turns: &[
-                    Turn::First,
-                    Turn::First,
-                    Turn::Mark,
-                    Turn::FirstGone,
-                    Turn::FirstGone,
-                    Turn::First,
-                ],
-                length: 63,
-                ..OF_THREE
-            },
-            // Changes of one payment don't fit the checkpoint, and those of two do.
-            Case {
-                parts: &[Part::Changes(0, 8), Part::Bytes(&[1]), Part::Changes(9, 76)],
-                ..NO_CHANGES
-            },
-            Case {
-                parts: &[Part::Changes(0, 8), Part::Bytes(&[2]), Part::Changes(9, 76)],
-                count: 2,
-                ..OF_THREE
-            },
-            // Nor do one row and three.
-            Case {
-                parts: &[
-                    Part::Changes(0, 40),
-                    Part::Bytes(&[1]),
-                    Part::Changes(41, 76),
-                ],
-                ..NO_CHANGES
-            },
-            Case {
-                parts: &[
-                    Part::Changes(0, 40),
-                    Part::Bytes(&[3]),
-                    Part::Changes(41, 76),
-                ],
-                ..NO_CHANGES
-            },
-            // Nor does a row that goes and was never there, and rows that fall.
-            Case {
-                parts: &[
-                    Part::Changes(0, 52),
-                    Part::Bytes(b"0"),
-                    Part::Changes(53, 76),
-                ],
-                ..NO_CHANGES
-            },
-            Case {
-                parts: &[
-                    Part::Changes(0, 52),
-                    Part::Bytes(b"3"),
-                    Part::Changes(53, 76),
-                ],
-                ..NO_CHANGES
-            },
-            // A base payload is no change payload.
-            Case {
-                parts: &[Part::Base(0, 71)],
-                ..NO_CHANGES
-            },
-            // A key has at most 2056 bytes.
-            Case {
-                parts: &[
-                    Part::Changes(0, 40),
-                    Part::Bytes(&[1, 0, 0, 0, 0, 0, 0, 8, 8]),
-                    Part::Times(2056, &[7]),
-                    Part::Bytes(&[1, 1, 0, 0, 0, 0, 0, 0, 0, 1]),
-                ],
-                rows: 2,
-                ..OF_THREE
-            },
-            Case {
-                parts: &[
-                    Part::Changes(0, 40),
-                    Part::Bytes(&[1, 0, 0, 0, 0, 0, 0, 8, 9]),
-                    Part::Times(2057, &[7]),
-                    Part::Bytes(&[1, 1, 0, 0, 0, 0, 0, 0, 0, 1]),
-                ],
-                ..NO_CHANGES
-            },
-        ],
-    )
+    assert_each(&rt, PAYLOADS)
 }

@@ -146,12 +146,13 @@ fn write_at(
     }
 }
 
-/// Whether the first three of these are written.
+/// Whether these are written, at most three.
 fn write_three(slots: &mut Slots, host: &mut MemHost, writes: &[Write]) -> Result<bool, SlotFault>
     requires { ReachesSlots slots.old (⟦<MemHost as Host>⟧.now host.old) }
 {
     Ok(
-        write_at(slots, host, writes, 0)?
+        writes.len() <= 3
+            && write_at(slots, host, writes, 0)?
             && write_at(slots, host, writes, 1)?
             && write_at(slots, host, writes, 2)?,
     )
@@ -159,9 +160,9 @@ fn write_three(slots: &mut Slots, host: &mut MemHost, writes: &[Write]) -> Resul
 
 /// Slots, what is written into them, and what they tell then.
 #[derive(Clone, Copy)]
-struct Case {
+struct Written {
     files: &'static [&'static [Part]],
-    /// The number of the call that fails.
+    /// The numbers of the calls that fail.
     failing: &'static [u64],
     /// At most three.
     writes: &'static [Write],
@@ -211,7 +212,7 @@ fn take_second(slots: &mut Slots, host: &MemHost) -> Option<u64>
     }
 }
 
-impl Case {
+impl Written {
     /// Whether it is written so, or fails and ends the slots.
     fn is_written(&self, slots: &mut Slots, host: &mut MemHost) -> bool
         requires { ReachesSlots slots.old (⟦<MemHost as Host>⟧.now host.old) }
@@ -265,7 +266,7 @@ impl Case {
     /// Whether stops leave what they may.
     fn leaves(&self, alloc: Global, host: &MemHost) -> bool {
         let mut stopped = Stopped {
-            case: *self,
+            written: *self,
             last: host.calls(),
             before: 0,
         };
@@ -284,7 +285,7 @@ impl Case {
 /// What stops leave of what is written, one behind another.
 #[derive(Clone, Copy)]
 struct Stopped {
-    case: Case,
+    written: Written,
     /// How many calls there were.
     last: u64,
     /// The count of the newest slot at the stop before this.
@@ -303,9 +304,9 @@ impl Stopped {
             None => None,
         };
         let is_newest = newest == first.max(second) && self.before <= newest.unwrap_or(0);
-        let is_one = self.case.firsts.contains(&first.unwrap_or(0))
-            && self.case.seconds.contains(&second.unwrap_or(0));
-        let is_settled = call < self.case.settled || second == self.case.second;
+        let is_one = self.written.firsts.contains(&first.unwrap_or(0))
+            && self.written.seconds.contains(&second.unwrap_or(0));
+        let is_settled = call < self.written.settled || second == self.written.second;
         let is_end = call < self.last || newest == Some(4);
         is_newest && is_one && is_settled && is_end
     }
@@ -313,7 +314,7 @@ impl Stopped {
 
 impl Left for Stopped {
     fn may_be(&mut self, alloc: Global, left: &mut MemHost, call: u64) -> bool {
-        if call == self.case.from {
+        if call == self.written.from {
             self.before = 0;
         }
         match told_at(alloc, left, b"q", 9) {
@@ -328,7 +329,7 @@ impl Left for Stopped {
     }
 }
 
-impl Row for Case {
+impl Row for Written {
     fn is_so(&self, alloc: Global) -> bool {
         match store(alloc, 0, self.files, self.failing) {
             Ok(mut host) => {
@@ -342,7 +343,7 @@ impl Row for Case {
 }
 
 /// Empty slots, into which nothing is written.
-const EMPTY: Case = Case {
+const EMPTY: Written = Written {
     files: &[],
     failing: &[],
     writes: &[],
@@ -365,7 +366,7 @@ const EMPTY: Case = Case {
 };
 
 /// Slot 0 alone is complete, with one row.
-const FIRST: Case = Case {
+const FIRST: Written = Written {
     newest: Some(0),
     first: Some(2),
     rows: 1,
@@ -373,7 +374,7 @@ const FIRST: Case = Case {
 };
 
 /// Three saves, into slot 0 of count 2, into slot 1 of count 3, and then into slot 0 of count 4.
-const SAVED: Case = Case {
+const SAVED: Written = Written {
     writes: &[Write::Save(2), Write::SaveSecond(3), Write::SaveFirst(4)],
     first: Some(4),
     second: Some(3),
@@ -381,7 +382,7 @@ const SAVED: Case = Case {
 };
 
 /// A save and two extensions, behind which the row is gone.
-const EXTENDED: Case = Case {
+const EXTENDED: Written = Written {
     writes: &[
         Write::Save(2),
         Write::Extend(80, 152),
@@ -393,7 +394,7 @@ const EXTENDED: Case = Case {
 };
 
 /// One of them fails, and leaves the count 2.
-const OF_TWO: Case = Case {
+const OF_TWO: Written = Written {
     fails: true,
     first: Some(2),
     rows: 1,
@@ -401,282 +402,282 @@ const OF_TWO: Case = Case {
 };
 
 /// The count 3.
-const OF_THREE: Case = Case {
+const OF_THREE: Written = Written {
     first: Some(3),
     ..OF_TWO
 };
 
 /// The count 4.
-const OF_FOUR: Case = Case {
+const OF_FOUR: Written = Written {
     first: Some(4),
     rows: 0,
     ..OF_TWO
 };
 
+/// Slots as they are read of files or saved: complete or not, the newest, and one that is taken.
+const SLOTS: &[Written] = &[
+    // A slot is read up to its closed gate.
+    Written {
+        files: &[&[Part::Slot(0, 216)]],
+        first: Some(4),
+        rows: 0,
+        ..FIRST
+    },
+    Written {
+        files: &[&[Part::Slot(0, 152), Part::Bytes(&[0]), Part::Slot(153, 216)]],
+        first: Some(3),
+        ..FIRST
+    },
+    Written {
+        files: &[&[Part::Slot(0, 80), Part::Bytes(&[0]), Part::Slot(81, 216)]],
+        ..FIRST
+    },
+    // A change that doesn't apply leaves no checkpoint: its count falls, it is a base behind the base, the row that is
+    // gone isn't there, it has more rows than there are, and it is cut.
+    Written {
+        files: &[&[Part::Slot(0, 97), Part::Bytes(&[1]), Part::Slot(98, 216)]],
+        ..EMPTY
+    },
+    Written {
+        files: &[&[Part::Slot(0, 89), Part::Bytes(&[0x42]), Part::Slot(90, 216)]],
+        ..EMPTY
+    },
+    Written {
+        files: &[&[
+            Part::Slot(0, 213),
+            Part::Bytes(&[0x32]),
+            Part::Slot(214, 216),
+        ]],
+        ..EMPTY
+    },
+    Written {
+        files: &[&[Part::Slot(0, 129), Part::Bytes(&[2]), Part::Slot(130, 216)]],
+        ..EMPTY
+    },
+    Written {
+        files: &[&[
+            Part::Slot(0, 160),
+            Part::Bytes(&[0x37]),
+            Part::Slot(161, 216),
+        ]],
+        ..EMPTY
+    },
+    // A slot of 65 changes is read.
+    Written {
+        files: &[&[Part::Slot(0, 80), Part::Changed(65), Part::Bytes(&[0])]],
+        first: Some(3),
+        sizes: Some(SlotSizes {
+            base: 71,
+            changes: 4095,
+            frames: 65,
+        }),
+        ..FIRST
+    },
+    // A slot of no frame, of two base frames, or of one without a gate behind it isn't complete.
+    EMPTY,
+    Written {
+        files: &[
+            &[
+                Part::Slot(0, 26),
+                Part::Bytes(&[4]),
+                Part::Slot(27, 80),
+                Part::Slot(0, 26),
+                Part::Bytes(&[4]),
+                Part::Slot(27, 80),
+                Part::Bytes(&[0]),
+            ],
+            &[Part::Slot(0, 26), Part::Bytes(&[4]), Part::Slot(27, 80)],
+        ],
+        ..EMPTY
+    },
+    // The newest slot is of these queries and of at most this count.
+    Written {
+        bytes: &[
+            Part::Slot(0, 26),
+            Part::Bytes(&[4]),
+            Part::Slot(27, 80),
+            Part::Bytes(&[0]),
+        ],
+        below: 4,
+        ..SAVED
+    },
+    Written {
+        below: 3,
+        newest: Some(1),
+        ..SAVED
+    },
+    Written {
+        below: 2,
+        newest: None,
+        ..SAVED
+    },
+    Written {
+        text: b"r",
+        newest: None,
+        ..SAVED
+    },
+    // A slot that was taken is saved anew.
+    Written {
+        files: &[
+            &[
+                Part::Slot(0, 26),
+                Part::Bytes(&[4]),
+                Part::Slot(27, 80),
+                Part::Bytes(&[0]),
+            ],
+            &[
+                Part::Slot(0, 26),
+                Part::Bytes(&[3]),
+                Part::Slot(27, 80),
+                Part::Bytes(&[0]),
+            ],
+        ],
+        taken: Some(3),
+        writes: &[Write::SaveSecond(4)],
+        below: 4,
+        second: Some(4),
+        ..SAVED
+    },
+];
+
 #[test]
 fn slots_are_read_up_to_their_closed_gates_where_their_changes_apply(
     rt: HostRuntime,
 ) -> Result<(), Fail> {
-    assert_each(
-        &rt,
-        &[
-            // A slot is read up to its closed gate.
-            Case {
-                files: &[&[Part::Slot(0, 216)]],
-                first: Some(4),
-                rows: 0,
-                ..FIRST
-            },
-            Case {
-                files: &[&[Part::Slot(0, 152), Part::Bytes(&[0]), Part::Slot(153, 216)]],
-                first: Some(3),
-                ..FIRST
-            },
-            Case {
-                files: &[&[Part::Slot(0, 80), Part::Bytes(&[0]), Part::Slot(81, 216)]],
-                ..FIRST
-            },
-            // A change that doesn't apply leaves no checkpoint: its count falls, it is a base behind the base, the row that is
-            // gone isn't there, it has more rows than there are, and it is cut.
-            Case {
-                files: &[&[Part::Slot(0, 97), Part::Bytes(&[1]), Part::Slot(98, 216)]],
-                ..EMPTY
-            },
-            Case {
-                files: &[&[Part::Slot(0, 89), Part::Bytes(&[0x42]), Part::Slot(90, 216)]],
-                ..EMPTY
-            },
-            Case {
-                files: &[&[
-                    Part::Slot(0, 213),
-                    Part::Bytes(&[0x32]),
-                    Part::Slot(214, 216),
-                ]],
-                ..EMPTY
-            },
-            Case {
-                files: &[&[Part::Slot(0, 129), Part::Bytes(&[2]), Part::Slot(130, 216)]],
-                ..EMPTY
-            },
-            Case {
-                files: &[&[
-                    Part::Slot(0, 160),
-                    Part::Bytes(&[0x37]),
-                    Part::Slot(161, 216),
-                ]],
-                ..EMPTY
-            },
-            // A slot of 65 changes is read.
-            Case {
-                files: &[&[Part::Slot(0, 80), Part::Changed(65), Part::Bytes(&[0])]],
-                first: Some(3),
-                sizes: Some(SlotSizes {
-                    base: 71,
-                    changes: 4095,
-                    frames: 65,
-                }),
-                ..FIRST
-            },
-            // A slot of no frame, of two base frames, or of one without a gate behind it isn't complete.
-            EMPTY,
-            Case {
-                files: &[
-                    &[
-                        Part::Slot(0, 26),
-                        Part::Bytes(&[4]),
-                        Part::Slot(27, 80),
-                        Part::Slot(0, 26),
-                        Part::Bytes(&[4]),
-                        Part::Slot(27, 80),
-                        Part::Bytes(&[0]),
-                    ],
-                    &[Part::Slot(0, 26), Part::Bytes(&[4]), Part::Slot(27, 80)],
-                ],
-                ..EMPTY
-            },
-            // The newest slot is of these queries and of at most this count.
-            Case {
-                bytes: &[
-                    Part::Slot(0, 26),
-                    Part::Bytes(&[4]),
-                    Part::Slot(27, 80),
-                    Part::Bytes(&[0]),
-                ],
-                below: 4,
-                ..SAVED
-            },
-            Case {
-                below: 3,
-                newest: Some(1),
-                ..SAVED
-            },
-            Case {
-                below: 2,
-                newest: None,
-                ..SAVED
-            },
-            Case {
-                text: b"r",
-                newest: None,
-                ..SAVED
-            },
-            // A slot that was taken is saved anew.
-            Case {
-                files: &[
-                    &[
-                        Part::Slot(0, 26),
-                        Part::Bytes(&[4]),
-                        Part::Slot(27, 80),
-                        Part::Bytes(&[0]),
-                    ],
-                    &[
-                        Part::Slot(0, 26),
-                        Part::Bytes(&[3]),
-                        Part::Slot(27, 80),
-                        Part::Bytes(&[0]),
-                    ],
-                ],
-                taken: Some(3),
-                writes: &[Write::SaveSecond(4)],
-                below: 4,
-                second: Some(4),
-                ..SAVED
-            },
-        ],
-    )
+    assert_each(&rt, SLOTS)
 }
+
+/// Saves and extensions that are whole, that are stopped, and in which a call fails.
+const WRITES: &[Written] = &[
+    // Two saves and a third, which is stopped: it leaves its slot as it was, not complete, or saved.
+    Written {
+        writes: &[Write::Save(2), Write::SaveSecond(3)],
+        calls: Some(22),
+        first: Some(2),
+        second: Some(3),
+        newest: Some(1),
+        ..FIRST
+    },
+    Written {
+        picks: &[
+            Pick::Old,
+            Pick::New,
+            Pick::Torn(0),
+            Pick::Torn(1),
+            Pick::Torn(0x37),
+            Pick::Torn(255),
+        ],
+        firsts: &[0, 2, 4],
+        seconds: &[0, 3],
+        settled: 22,
+        calls: Some(32),
+        ..SAVED
+    },
+    // Changes are added as the format says. A save and two extensions: a stop in these leaves the old checkpoint or the
+    // new one.
+    Written {
+        writes: &[Write::Save(2)],
+        calls: Some(12),
+        ..FIRST
+    },
+    Written {
+        bytes: &[Part::Slot(0, 216)],
+        calls: Some(26),
+        sizes: Some(SlotSizes {
+            base: 71,
+            changes: 117,
+            frames: 2,
+        }),
+        picks: &[Pick::Old, Pick::New, Pick::Torn(0), Pick::Torn(255)],
+        from: 12,
+        firsts: &[2, 3, 4],
+        seconds: &[0],
+        ..EXTENDED
+    },
+    // Each call that fails in the extensions ends the slots, and leaves the old checkpoint or the new one.
+    Written {
+        failing: &[12],
+        calls: Some(13),
+        ..OF_TWO
+    },
+    Written {
+        failing: &[13],
+        calls: Some(14),
+        ..OF_TWO
+    },
+    Written {
+        failing: &[14],
+        calls: Some(15),
+        ..OF_TWO
+    },
+    Written {
+        failing: &[15],
+        calls: Some(16),
+        ..OF_TWO
+    },
+    Written {
+        failing: &[16],
+        calls: Some(17),
+        ..OF_TWO
+    },
+    Written {
+        failing: &[17],
+        calls: Some(18),
+        ..OF_TWO
+    },
+    Written {
+        failing: &[18],
+        calls: Some(19),
+        ..OF_THREE
+    },
+    Written {
+        failing: &[19],
+        calls: Some(20),
+        ..OF_THREE
+    },
+    Written {
+        failing: &[20],
+        calls: Some(21),
+        ..OF_THREE
+    },
+    Written {
+        failing: &[21],
+        calls: Some(22),
+        ..OF_THREE
+    },
+    Written {
+        failing: &[22],
+        calls: Some(23),
+        ..OF_THREE
+    },
+    Written {
+        failing: &[23],
+        calls: Some(24),
+        ..OF_THREE
+    },
+    Written {
+        failing: &[24],
+        calls: Some(25),
+        ..OF_THREE
+    },
+    Written {
+        failing: &[25],
+        calls: Some(26),
+        ..OF_FOUR
+    },
+    // Slots end where a save fails.
+    Written {
+        failing: &[6],
+        writes: &[Write::Save(2)],
+        fails: true,
+        calls: Some(7),
+        ..EMPTY
+    },
+];
 
 #[test]
 fn a_stop_or_a_failure_leaves_the_old_checkpoint_or_the_new_one(
     rt: HostRuntime,
 ) -> Result<(), Fail> {
-    assert_each(
-        &rt,
-        &[
-            // Two saves and a third, which is stopped: it leaves its slot as it was, not complete, or saved.
-            Case {
-                writes: &[Write::Save(2), Write::SaveSecond(3)],
-                calls: Some(22),
-                first: Some(2),
-                second: Some(3),
-                newest: Some(1),
-                ..FIRST
-            },
-            Case {
-                picks: &[
-                    Pick::Old,
-                    Pick::New,
-                    Pick::Torn(0),
-                    Pick::Torn(1),
-                    Pick::Torn(0x37),
-                    Pick::Torn(255),
-                ],
-                firsts: &[0, 2, 4],
-                seconds: &[0, 3],
-                settled: 22,
-                calls: Some(32),
-                ..SAVED
-            },
-            // Changes are added as the format says. A save and two extensions: a stop in these leaves the old checkpoint or the
-            // new one.
-            Case {
-                writes: &[Write::Save(2)],
-                calls: Some(12),
-                ..FIRST
-            },
-            Case {
-                bytes: &[Part::Slot(0, 216)],
-                calls: Some(26),
-                sizes: Some(SlotSizes {
-                    base: 71,
-                    changes: 117,
-                    frames: 2,
-                }),
-                picks: &[Pick::Old, Pick::New, Pick::Torn(0), Pick::Torn(255)],
-                from: 12,
-                firsts: &[2, 3, 4],
-                seconds: &[0],
-                ..EXTENDED
-            },
-            // Each call that fails in the extensions ends the slots, and leaves the old checkpoint or the new one.
-            Case {
-                failing: &[12],
-                calls: Some(13),
-                ..OF_TWO
-            },
-            Case {
-                failing: &[13],
-                calls: Some(14),
-                ..OF_TWO
-            },
-            Case {
-                failing: &[14],
-                calls: Some(15),
-                ..OF_TWO
-            },
-            Case {
-                failing: &[15],
-                calls: Some(16),
-                ..OF_TWO
-            },
-            Case {
-                failing: &[16],
-                calls: Some(17),
-                ..OF_TWO
-            },
-            Case {
-                failing: &[17],
-                calls: Some(18),
-                ..OF_TWO
-            },
-            Case {
-                failing: &[18],
-                calls: Some(19),
-                ..OF_THREE
-            },
-            Case {
-                failing: &[19],
-                calls: Some(20),
-                ..OF_THREE
-            },
-            Case {
-                failing: &[20],
-                calls: Some(21),
-                ..OF_THREE
-            },
-            Case {
-                failing: &[21],
-                calls: Some(22),
-                ..OF_THREE
-            },
-            Case {
-                failing: &[22],
-                calls: Some(23),
-                ..OF_THREE
-            },
-            Case {
-                failing: &[23],
-                calls: Some(24),
-                ..OF_THREE
-            },
-            Case {
-                failing: &[24],
-                calls: Some(25),
-                ..OF_THREE
-            },
-            Case {
-                failing: &[25],
-                calls: Some(26),
-                ..OF_FOUR
-            },
-            // Slots end where a save fails.
-            Case {
-                failing: &[6],
-                writes: &[Write::Save(2)],
-                fails: true,
-                calls: Some(7),
-                ..EMPTY
-            },
-        ],
-    )
+    assert_each(&rt, WRITES)
 }

@@ -38,7 +38,7 @@ impl Source for Pieces<'_> {
 
 /// What comes of a source, or what is known of it.
 #[derive(Clone, Copy)]
-enum Turn {
+enum Step {
     /// A line of this text comes.
     Text(&'static [u8]),
     /// A line of the first so many bytes of the source.
@@ -110,16 +110,16 @@ fn reads(alloc: Global, bytes: &[u8], fail: u64, limit: usize, fault: Option<All
 }
 
 /// Bytes of a source, and what comes of it.
-struct Case {
+struct Given {
     bytes: &'static [Part],
     /// A read by lines gives at most so many.
     piece: usize,
     /// The number of the read that fails, counted from 0.
     fail: u64,
-    turns: &'static [Turn],
+    steps: &'static [Step],
 }
 
-impl Case {
+impl Given {
     /// Whether this comes next of the lines of a source of these bytes, or is so.
     fn comes(
         &self,
@@ -127,23 +127,23 @@ impl Case {
         lines: &mut Lines,
         source: &mut Pieces<'_>,
         bytes: &[u8],
-        turn: &Turn,
+        step: &Step,
     ) -> bool {
-        match turn {
-            Turn::Text(text) => is_next(lines, source, Some(Line::Text(text))),
-            Turn::First(count) => {
+        match step {
+            Step::Text(text) => is_next(lines, source, Some(Line::Text(text))),
+            Step::First(count) => {
                 let text = bytes.get(..*count).unwrap_or(b"");
                 is_next(lines, source, Some(Line::Text(text)))
             }
-            Turn::Long => is_next(lines, source, Some(Line::Long)),
-            Turn::End => is_next(lines, source, Some(Line::End)),
-            Turn::Fault => is_next(lines, source, None),
-            Turn::Held(held) => lines.has_line() == *held,
-            Turn::Reads(reads) => source.reads == *reads,
-            Turn::Failed(failed) => source.failed == *failed,
-            Turn::All(limit) => reads(alloc, bytes, self.fail, *limit, None),
-            Turn::Above(limit) => reads(alloc, bytes, self.fail, *limit, Some(AllFault::Limit)),
-            Turn::Unread(limit) => reads(alloc, bytes, self.fail, *limit, Some(AllFault::Read)),
+            Step::Long => is_next(lines, source, Some(Line::Long)),
+            Step::End => is_next(lines, source, Some(Line::End)),
+            Step::Fault => is_next(lines, source, None),
+            Step::Held(held) => lines.has_line() == *held,
+            Step::Reads(reads) => source.reads == *reads,
+            Step::Failed(failed) => source.failed == *failed,
+            Step::All(limit) => reads(alloc, bytes, self.fail, *limit, None),
+            Step::Above(limit) => reads(alloc, bytes, self.fail, *limit, Some(AllFault::Limit)),
+            Step::Unread(limit) => reads(alloc, bytes, self.fail, *limit, Some(AllFault::Read)),
         }
     }
 
@@ -156,8 +156,8 @@ impl Case {
             reads: 0,
             failed: 0,
         };
-        for turn in self.turns {
-            if !self.comes(alloc, lines, &mut source, bytes, turn) {
+        for step in self.steps {
+            if !self.comes(alloc, lines, &mut source, bytes, step) {
                 return false;
             }
         }
@@ -176,7 +176,7 @@ impl Case {
     }
 }
 
-impl Row for Case {
+impl Row for Given {
     fn is_so(&self, alloc: Global) -> bool {
         match joined(alloc, self.bytes) {
             Ok(bytes) => {
@@ -189,105 +189,105 @@ impl Row for Case {
     }
 }
 
+/// Sources that are read by lines, and such as are read whole.
+const SOURCES: &[Given] = &[
+    // Lines go over the borders of pieces.
+    Given {
+        bytes: &[Part::Bytes(b"one\n\nthree\nlast")],
+        piece: 2,
+        fail: 99,
+        steps: &[
+            Step::Text(b"one"),
+            Step::Text(b""),
+            Step::Text(b"three"),
+            Step::Text(b"last"),
+            Step::End,
+            Step::End,
+        ],
+    },
+    // The same lines come after a failed read.
+    Given {
+        bytes: &[Part::Bytes(b"one\ntwo\n")],
+        piece: 2,
+        fail: 1,
+        steps: &[
+            Step::Fault,
+            Step::Text(b"one"),
+            Step::Text(b"two"),
+            Step::End,
+        ],
+    },
+    // Nothing is read behind a last text.
+    Given {
+        bytes: &[Part::Bytes(b"a")],
+        piece: 2,
+        fail: 2,
+        steps: &[
+            Step::Text(b"a"),
+            Step::End,
+            Step::End,
+            Step::Reads(2),
+            Step::Failed(0),
+        ],
+    },
+    // A line is held once its line feed has come.
+    Given {
+        bytes: &[Part::Bytes(b"one\ntwo\nla")],
+        piece: 8,
+        fail: 2,
+        steps: &[
+            Step::Held(false),
+            Step::Text(b"one"),
+            Step::Reads(1),
+            Step::Held(true),
+            Step::Text(b"two"),
+            Step::Reads(1),
+            Step::Held(false),
+            Step::Fault,
+            Step::Reads(3),
+            Step::Held(false),
+            Step::Text(b"la"),
+            Step::Reads(4),
+            Step::Held(false),
+            Step::End,
+            Step::Reads(4),
+        ],
+    },
+    // A line of 65,535 bytes comes whole, and one of 65,536 as a long one.
+    Given {
+        bytes: &[
+            Part::Times(65_535, b"a"),
+            Part::Bytes(b"\n"),
+            Part::Times(65_536, b"b"),
+            Part::Bytes(b"\nc"),
+        ],
+        piece: 40_000,
+        fail: 99,
+        steps: &[Step::First(65_535), Step::Long, Step::Text(b"c"), Step::End],
+    },
+    // All of 10,000 bytes is read up to the limit, in two pieces and a last call that finds the end; one byte less is
+    // too low a limit, and a failed call is told.
+    Given {
+        bytes: &[Part::Times(10_000, b"\x07")],
+        piece: 1,
+        fail: 3,
+        steps: &[Step::All(10_000)],
+    },
+    Given {
+        bytes: &[Part::Times(10_000, b"\x07")],
+        piece: 1,
+        fail: u64::MAX,
+        steps: &[Step::Above(9_999)],
+    },
+    Given {
+        bytes: &[Part::Times(10_000, b"\x07")],
+        piece: 1,
+        fail: 2,
+        steps: &[Step::Unread(10_000)],
+    },
+];
+
 #[test]
 fn sources_give_their_lines_or_all_bytes(rt: HostRuntime) -> Result<(), Fail> {
-    assert_each(
-        &rt,
-        &[
-            // Lines go over the borders of pieces.
-            Case {
-                bytes: &[Part::Bytes(b"one\n\nthree\nlast")],
-                piece: 2,
-                fail: 99,
-                turns: &[
-                    Turn::Text(b"one"),
-                    Turn::Text(b""),
-                    Turn::Text(b"three"),
-                    Turn::Text(b"last"),
-                    Turn::End,
-                    Turn::End,
-                ],
-            },
-            // The same lines come after a failed read.
-            Case {
-                bytes: &[Part::Bytes(b"one\ntwo\n")],
-                piece: 2,
-                fail: 1,
-                turns: &[
-                    Turn::Fault,
-                    Turn::Text(b"one"),
-                    Turn::Text(b"two"),
-                    Turn::End,
-                ],
-            },
-            // Nothing is read behind a last text.
-            Case {
-                bytes: &[Part::Bytes(b"a")],
-                piece: 2,
-                fail: 2,
-                turns: &[
-                    Turn::Text(b"a"),
-                    Turn::End,
-                    Turn::End,
-                    Turn::Reads(2),
-                    Turn::Failed(0),
-                ],
-            },
-            // A line is held once its line feed has come.
-            Case {
-                bytes: &[Part::Bytes(b"one\ntwo\nla")],
-                piece: 8,
-                fail: 2,
-                turns: &[
-                    Turn::Held(false),
-                    Turn::Text(b"one"),
-                    Turn::Reads(1),
-                    Turn::Held(true),
-                    Turn::Text(b"two"),
-                    Turn::Reads(1),
-                    Turn::Held(false),
-                    Turn::Fault,
-                    Turn::Reads(3),
-                    Turn::Held(false),
-                    Turn::Text(b"la"),
-                    Turn::Reads(4),
-                    Turn::Held(false),
-                    Turn::End,
-                    Turn::Reads(4),
-                ],
-            },
-            // A line of 65,535 bytes comes whole, and one of 65,536 as a long one.
-            Case {
-                bytes: &[
-                    Part::Times(65_535, b"a"),
-                    Part::Bytes(b"\n"),
-                    Part::Times(65_536, b"b"),
-                    Part::Bytes(b"\nc"),
-                ],
-                piece: 40_000,
-                fail: 99,
-                turns: &[Turn::First(65_535), Turn::Long, Turn::Text(b"c"), Turn::End],
-            },
-            // All of 10,000 bytes is read up to the limit, in two pieces and a last call that finds the end; one byte less is
-            // too low a limit, and a failed call is told.
-            Case {
-                bytes: &[Part::Times(10_000, b"\x07")],
-                piece: 1,
-                fail: 3,
-                turns: &[Turn::All(10_000)],
-            },
-            Case {
-                bytes: &[Part::Times(10_000, b"\x07")],
-                piece: 1,
-                fail: u64::MAX,
-                turns: &[Turn::Above(9_999)],
-            },
-            Case {
-                bytes: &[Part::Times(10_000, b"\x07")],
-                piece: 1,
-                fail: 2,
-                turns: &[Turn::Unread(10_000)],
-            },
-        ],
-    )
+    assert_each(&rt, SOURCES)
 }

@@ -31,7 +31,7 @@ struct Case {
 
 /// Three payments of one card, of which the third meets a window of five minutes without the first. They
 /// go into chunks of two; a commit follows each two, a checkpoint each four.
-const PAYMENTS: Case = Case {
+static PAYMENTS: Case = Case {
     plan: b"queries = [\"SELECT count(*), sum(amount) FROM payments GROUP BY card OVER SLIDING 5 minutes\"]\n\n[stream]\nname = \"payments\"\ncolumns = [\"ts\", \"card:text\", \"merchant:text\", \"amount:int\"]\n\n[settings]\ncache = 1\nchunk = 2\ncommit = 2\nsave = 4\n",
     lines: b"0,c1,m1,100\n299999,c1,m2,200\n300000,c1,m1,50\n",
     runs: &[
@@ -164,6 +164,18 @@ const CONTROLLED: Case = Case {
     ],
     from: 0,
     to: u64::MAX,
+};
+
+/// The early stops of that.
+static EARLY: Case = Case {
+    to: 38,
+    ..CONTROLLED
+};
+
+/// The later ones.
+static LATE: Case = Case {
+    from: 39,
+    ..CONTROLLED
 };
 
 /// After how many calls a run that goes on is stopped again, at most.
@@ -312,7 +324,7 @@ impl Trial<'_> {
         }
     }
 
-    /// What a run to its end does; none without memory, here and below.
+    /// What a run to its end does; none without memory.
     fn does(&self, files: Option<&MemHost>) -> Option<Did> {
         match self.run(files, u64::MAX, Pick::New) {
             Ok(ran) => {
@@ -441,6 +453,9 @@ impl Trial<'_> {
     /// A number of calls of those that are asked, of so many, after which a run, stopped so, isn't followed by runs that
     /// go on as they should, or two runs don't put what they should.
     fn lost_of(&self, seen: &mut Vec<Left>, calls: u64) -> Option<u64> {
+        if calls < self.case.from {
+            return Some(calls);
+        }
         for stop in self.case.from..=self.case.to.min(calls) {
             if !self.goes_on_always(seen, calls, stop) || !self.put_both(stop) {
                 return Some(stop);
@@ -449,7 +464,7 @@ impl Trial<'_> {
         None
     }
 
-    /// Such a number of all calls.
+    /// Such a number.
     fn lost(&self) -> Option<u64> {
         match self.does(None) {
             Some(did) => {
@@ -476,62 +491,41 @@ fn add_words(alloc: Global, words: &mut Vec<String>) -> Result<(), Memory> {
     add(alloc, words, "store")
 }
 
-/// Such a number of one of these cases.
-fn first_lost(alloc: Global, words: &[String], cases: &[Case]) -> Option<u64> {
-    for case in cases {
-        let lost = Trial { alloc, words, case }.lost();
-        if lost.is_some() {
-            return lost;
-        }
-    }
-    None
-}
-
-/// The same, with the words of a run.
-fn lost_in(alloc: Global, cases: &[Case]) -> Option<u64> {
+/// Such a number of this case, with the words of a run.
+fn lost_in(alloc: Global, case: &Case) -> Option<u64> {
     let mut words = Vec::new(alloc);
     let lost = match add_words(alloc, &mut words) {
-        Ok(()) => first_lost(alloc, &words, cases),
+        Ok(()) => (Trial {
+            alloc,
+            words: &words,
+            case,
+        })
+        .lost(),
         Err(_) => Some(u64::MAX),
     };
     drop(words);
     lost
 }
 
-fn assert_none(rt: &impl Abort, lost: Option<u64>) -> Result<(), Fail> {
+/// Each stop of this case that is asked is gone on from, whatever is left of the bytes that were pending, and two runs
+/// put what they should.
+fn assert_goes_on(rt: &(impl Abort + AllocGlobal), case: &'static Case) -> Result<(), Fail> {
+    let lost = lost_in(rt.alloc(), case);
     assert_eq!(rt; lost, None);
     Ok(())
 }
 
-/// Of each of these cases each stop is gone on from, whatever is left of the bytes that were pending, and two runs put
-/// what they should.
-fn assert_goes_on(rt: &(impl Abort + AllocGlobal), cases: &'static [Case]) -> Result<(), Fail> {
-    assert_none(rt, lost_in(rt.alloc(), cases))
-}
-
 #[test]
 fn a_run_goes_on_from_each_stop(rt: HostRuntime) -> Result<(), Fail> {
-    assert_goes_on(&rt, &[PAYMENTS])
+    assert_goes_on(&rt, &PAYMENTS)
 }
 
 #[test]
 fn a_run_with_control_lines_goes_on_from_each_early_stop(rt: HostRuntime) -> Result<(), Fail> {
-    assert_goes_on(
-        &rt,
-        &[Case {
-            to: 38,
-            ..CONTROLLED
-        }],
-    )
+    assert_goes_on(&rt, &EARLY)
 }
 
 #[test]
 fn a_run_with_control_lines_goes_on_from_each_late_stop(rt: HostRuntime) -> Result<(), Fail> {
-    assert_goes_on(
-        &rt,
-        &[Case {
-            from: 39,
-            ..CONTROLLED
-        }],
-    )
+    assert_goes_on(&rt, &LATE)
 }

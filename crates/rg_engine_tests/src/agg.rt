@@ -75,6 +75,7 @@ fn adds(state: &mut AggState, value: &Value) -> bool {
     }
 }
 
+/// The same of a value that is made for it.
 pub(crate) fn adds_item(alloc: Global, state: &mut AggState, item: &Item) -> bool {
     match value_of(alloc, item) {
         Some(value) => {

@@ -30,6 +30,7 @@ fn may_follow(events: &[Event], event: &Event) -> bool
     last.offset < event.offset && last.time <= event.time
 }
 
+/// Whether the number of each of these spots is at most that of the events.
 pub(crate) fn are_within(spots: &[Spot], count: usize) -> bool
     ensures { IsTrue result → AreWithin spots.now count }
 {

@@ -47,7 +47,8 @@ pub(crate) fn assert_goes<S: Subject>(
     Ok(())
 }
 
-/// Whether both are the same bytes.
+/// Whether both are the same bytes: `==` in a call of its own, since the borrow checker doesn't cover one in place between
+/// the bytes of a subject and those of a step.
 pub(crate) fn are_same(bytes: &[u8], others: &[u8]) -> bool {
     bytes == others
 }

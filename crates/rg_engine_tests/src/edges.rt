@@ -42,7 +42,7 @@ impl Visit for Recorder {
 
 /// A past, a walk over it, two edges and a recorder.
 #[derive(Drop)]
-struct Trial {
+struct Tried {
     past: VecPast,
     spot: Spot,
     edges: Edges,
@@ -114,10 +114,10 @@ fn meets<P: Past>(past: &mut P, spot: &mut Spot, offset: Option<u64>) -> bool {
 }
 
 /// Whether the edges move to this time, or halt, and so many events were visited then.
-fn moves(trial: &mut Trial, t: u64, count: usize, want: Result<(), MoveFault<Stop>>) -> bool {
-    are_within(trial.edges.spots(), trial.past.events().len())
-        && trial.edges.move_to(&mut trial.past, t, &mut trial.seen) == want
-        && trial.seen.visits.len() == count
+fn moves(tried: &mut Tried, t: u64, count: usize, want: Result<(), MoveFault<Stop>>) -> bool {
+    are_within(tried.edges.spots(), tried.past.events().len())
+        && tried.edges.move_to(&mut tried.past, t, &mut tried.seen) == want
+        && tried.seen.visits.len() == count
 }
 
 fn has_visited(seen: &Recorder, number: usize, edge: u32, offset: u64) -> bool {
@@ -135,13 +135,13 @@ fn are_at(edges: &Edges, low: u64, high: u64) -> bool {
 }
 
 /// A past for so many events, at most three, and edges of these offsets at its start.
-fn trial_of(alloc: Global, limit: u64, low: u64, high: u64) -> Option<Trial> {
+fn tried_of(alloc: Global, limit: u64, low: u64, high: u64) -> Option<Tried> {
     if limit > 3 || low >= high {
         return None;
     }
     let past = VecPast::new(alloc, limit);
     let spot = past.start();
-    Some(Trial {
+    Some(Tried {
         past,
         spot,
         edges: Edges::new(alloc, &[low, high], &[spot, spot]).ok()?,
@@ -152,10 +152,10 @@ fn trial_of(alloc: Global, limit: u64, low: u64, high: u64) -> Option<Trial> {
     })
 }
 
-fn renew(alloc: Global, trial: &mut Trial, limit: u64, low: u64, high: u64) -> bool {
-    match trial_of(alloc, limit, low, high) {
+fn renew(alloc: Global, tried: &mut Tried, limit: u64, low: u64, high: u64) -> bool {
+    match tried_of(alloc, limit, low, high) {
         Some(other) => {
-            *trial = other;
+            *tried = other;
             true
         }
         None => false,
@@ -163,26 +163,26 @@ fn renew(alloc: Global, trial: &mut Trial, limit: u64, low: u64, high: u64) -> b
 }
 
 /// Whether edges or the recorder do or say so.
-fn goes_on(trial: &mut Trial, step: &Step) -> bool {
+fn goes_on(tried: &mut Tried, step: &Step) -> bool {
     match step {
         Step::Refuse(offset) => {
-            trial.seen.refused = *offset;
+            tried.seen.refused = *offset;
             true
         }
-        Step::Move(t, count) => moves(trial, *t, *count, Ok(())),
-        Step::Halt(t, count) => moves(trial, *t, *count, Err(MoveFault::Visit(Stop::Refused))),
-        Step::Visited(number, edge, offset) => has_visited(&trial.seen, *number, *edge, *offset),
-        Step::At(low, high) => are_at(&trial.edges, *low, *high),
-        Step::Offsets(low, high) => trial.edges.offsets() == [*low, *high].as_slice(),
+        Step::Move(t, count) => moves(tried, *t, *count, Ok(())),
+        Step::Halt(t, count) => moves(tried, *t, *count, Err(MoveFault::Visit(Stop::Refused))),
+        Step::Visited(number, edge, offset) => has_visited(&tried.seen, *number, *edge, *offset),
+        Step::At(low, high) => are_at(&tried.edges, *low, *high),
+        Step::Offsets(low, high) => tried.edges.offsets() == [*low, *high].as_slice(),
         _ => false,
     }
 }
 
-impl Subject for Trial {
+impl Subject for Tried {
     type Step = Step;
 
-    fn start(alloc: Global) -> Option<Trial> {
-        trial_of(alloc, 3, 0, 10)
+    fn start(alloc: Global) -> Option<Tried> {
+        tried_of(alloc, 3, 0, 10)
     }
 
     fn goes(&mut self, alloc: Global, step: &Step) -> bool {
@@ -206,7 +206,7 @@ impl Subject for Trial {
 fn a_full_past_stays_and_a_walk_meets_each_event_and_then_the_end(
     rt: HostRuntime,
 ) -> Result<(), Fail> {
-    assert_goes::<Trial>(
+    assert_goes::<Tried>(
         &rt,
         &[
             Step::New(1, 0, 10),
@@ -226,51 +226,51 @@ fn a_full_past_stays_and_a_walk_meets_each_event_and_then_the_end(
     )
 }
 
+/// Moves of the edges over a few events, what is visited then, and where the edges are.
+const MOVES: &[Step] = &[
+    Step::Event(0, 0),
+    Step::Event(12, 5),
+    Step::Event(25, 15),
+    Step::Move(0, 1),
+    Step::Move(5, 2),
+    Step::Move(15, 5),
+    Step::Visited(0, 0, 0),
+    Step::Visited(1, 0, 12),
+    Step::Visited(2, 0, 25),
+    Step::Visited(3, 1, 0),
+    Step::Visited(4, 1, 12),
+    Step::At(3, 2),
+    Step::Offsets(0, 10),
+    // A move to before the first event visits nothing.
+    Step::New(3, 0, 10),
+    Step::Event(0, 5),
+    Step::Move(4, 0),
+    Step::At(0, 0),
+    // An offset near the greatest number doesn't wrap.
+    Step::New(3, u64::MAX - 5, u64::MAX),
+    Step::Event(0, 5),
+    Step::Move(u64::MAX, 1),
+    Step::Visited(0, 0, 0),
+    Step::At(1, 0),
+    // A refused visit leaves the edge at its event.
+    Step::New(3, 0, 10),
+    Step::Event(0, 0),
+    Step::Event(12, 5),
+    Step::Refuse(Some(12)),
+    Step::Halt(20, 1),
+    Step::Visited(0, 0, 0),
+    Step::At(1, 0),
+    // It goes on from there once that isn't refused.
+    Step::Refuse(None),
+    Step::Move(20, 4),
+    Step::Visited(0, 0, 0),
+    Step::Visited(1, 0, 12),
+    Step::Visited(2, 1, 0),
+    Step::Visited(3, 1, 12),
+    Step::At(2, 2),
+];
+
 #[test]
 fn each_edge_passes_an_event_at_its_time_and_offset(rt: HostRuntime) -> Result<(), Fail> {
-    assert_goes::<Trial>(
-        &rt,
-        &[
-            Step::Event(0, 0),
-            Step::Event(12, 5),
-            Step::Event(25, 15),
-            Step::Move(0, 1),
-            Step::Move(5, 2),
-            Step::Move(15, 5),
-            Step::Visited(0, 0, 0),
-            Step::Visited(1, 0, 12),
-            Step::Visited(2, 0, 25),
-            Step::Visited(3, 1, 0),
-            Step::Visited(4, 1, 12),
-            Step::At(3, 2),
-            Step::Offsets(0, 10),
-            // A move to before the first event visits nothing.
-            Step::New(3, 0, 10),
-            Step::Event(0, 5),
-            Step::Move(4, 0),
-            Step::At(0, 0),
-            // An offset near the greatest number doesn't wrap.
-            Step::New(3, u64::MAX - 5, u64::MAX),
-            Step::Event(0, 5),
-            Step::Move(u64::MAX, 1),
-            Step::Visited(0, 0, 0),
-            Step::At(1, 0),
-            // A refused visit leaves the edge at its event.
-            Step::New(3, 0, 10),
-            Step::Event(0, 0),
-            Step::Event(12, 5),
-            Step::Refuse(Some(12)),
-            Step::Halt(20, 1),
-            Step::Visited(0, 0, 0),
-            Step::At(1, 0),
-            // It goes on from there once that isn't refused.
-            Step::Refuse(None),
-            Step::Move(20, 4),
-            Step::Visited(0, 0, 0),
-            Step::Visited(1, 0, 12),
-            Step::Visited(2, 1, 0),
-            Step::Visited(3, 1, 12),
-            Step::At(2, 2),
-        ],
-    )
+    assert_goes::<Tried>(&rt, MOVES)
 }

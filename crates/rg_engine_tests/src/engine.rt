@@ -152,7 +152,7 @@ const THIRD: &[Item] = &[
 
 /// An engine, until its table is handed back, and its past.
 #[derive(Drop)]
-struct Trial {
+struct Tried {
     past: VecPast,
     engine: Option<Engine<MemTable>>,
 }
@@ -236,19 +236,19 @@ fn takes<L: Ledger>(
 /// The same of an event of this offset, this time and these values, with a ledger of its own.
 fn takes_values(
     alloc: Global,
-    trial: &mut Trial,
+    tried: &mut Tried,
     offset: u64,
     time: u64,
     items: &[Item],
     first: Option<Answer>,
 ) -> Option<bool> {
-    let engine = trial.engine.as_mut()?;
+    let engine = tried.engine.as_mut()?;
     let event = event_of(alloc, offset, time, items)?;
-    Some(takes::<Brand>(Blank::new(1), engine, &mut trial.past, event, first))
+    Some(takes::<Brand>(Blank::new(1), engine, &mut tried.past, event, first))
 }
 
-fn is_at(trial: &Trial, number: u64) -> bool {
-    match &trial.engine {
+fn is_at(tried: &Tried, number: u64) -> bool {
+    match &tried.engine {
         Some(engine) => match engine.spots().first() {
             Some(spot) => spot.number == number,
             None => false,
@@ -257,21 +257,21 @@ fn is_at(trial: &Trial, number: u64) -> bool {
     }
 }
 
-fn hands_back(alloc: Global, trial: &mut Trial, count: &[u8]) -> Option<bool> {
-    let engine = trial.engine.take()?;
+fn hands_back(alloc: Global, tried: &mut Tried, count: &[u8]) -> Option<bool> {
+    let engine = tried.engine.take()?;
     let mut table = engine.into_table();
     let is_so = writes(alloc, &mut table, Written::Count, count);
     drop(table);
     Some(is_so)
 }
 
-impl Subject for Trial {
+impl Subject for Tried {
     type Step = Step;
 
-    fn start(alloc: Global) -> Option<Trial> {
+    fn start(alloc: Global) -> Option<Tried> {
         let past = VecPast::new(alloc, 2);
         let engine = Some(engine_of(alloc, &past)?);
-        Some(Trial { past, engine })
+        Some(Tried { past, engine })
     }
 
     fn goes(&mut self, alloc: Global, step: &Step) -> bool {
@@ -292,7 +292,7 @@ impl Subject for Trial {
 /// A past for two events takes the first two of three, of which two are of one card, and refuses the third.
 #[test]
 fn a_full_past_is_refused_and_the_engine_stays(rt: HostRuntime) -> Result<(), Fail> {
-    assert_goes::<Trial>(
+    assert_goes::<Tried>(
         &rt,
         &[
             Step::Takes(0, 0, FIRST, Answer::Number(1)),

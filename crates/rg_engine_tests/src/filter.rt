@@ -86,93 +86,93 @@ impl Subject for Filters {
     }
 }
 
+/// What is asked of values by each sign and of each kind, and whether it passes.
+const FILTERED: &[Row] = &[
+    // Each sign is tried around equality.
+    Row(Asks::First, &Item::Int(-6), Op::Eq, &Item::Int(-5), false),
+    Row(Asks::First, &Item::Int(-5), Op::Eq, &Item::Int(-5), true),
+    Row(Asks::First, &Item::Int(-4), Op::Eq, &Item::Int(-5), false),
+    Row(Asks::First, &Item::Int(-6), Op::Ne, &Item::Int(-5), true),
+    Row(Asks::First, &Item::Int(-5), Op::Ne, &Item::Int(-5), false),
+    Row(Asks::First, &Item::Int(-4), Op::Ne, &Item::Int(-5), true),
+    Row(Asks::First, &Item::Int(-6), Op::Lt, &Item::Int(-5), true),
+    Row(Asks::First, &Item::Int(-5), Op::Lt, &Item::Int(-5), false),
+    Row(Asks::First, &Item::Int(-4), Op::Lt, &Item::Int(-5), false),
+    Row(Asks::First, &Item::Int(-6), Op::Le, &Item::Int(-5), true),
+    Row(Asks::First, &Item::Int(-5), Op::Le, &Item::Int(-5), true),
+    Row(Asks::First, &Item::Int(-4), Op::Le, &Item::Int(-5), false),
+    Row(Asks::First, &Item::Int(-6), Op::Gt, &Item::Int(-5), false),
+    Row(Asks::First, &Item::Int(-5), Op::Gt, &Item::Int(-5), false),
+    Row(Asks::First, &Item::Int(-4), Op::Gt, &Item::Int(-5), true),
+    Row(Asks::First, &Item::Int(-6), Op::Ge, &Item::Int(-5), false),
+    Row(Asks::First, &Item::Int(-5), Op::Ge, &Item::Int(-5), true),
+    Row(Asks::First, &Item::Int(-4), Op::Ge, &Item::Int(-5), true),
+    // Ids past the half keep their order.
+    Row(
+        Asks::First,
+        &Item::Id(9_223_372_036_854_775_809),
+        Op::Lt,
+        &Item::Id(9_223_372_036_854_775_810),
+        true,
+    ),
+    Row(
+        Asks::First,
+        &Item::Id(1),
+        Op::Lt,
+        &Item::Id(9_223_372_036_854_775_808),
+        true,
+    ),
+    // Texts compare by their bytes.
+    Row(
+        Asks::First,
+        &Item::Text(b"Z"),
+        Op::Lt,
+        &Item::Text(b"a"),
+        true,
+    ),
+    Row(
+        Asks::First,
+        &Item::Text(b"aa"),
+        Op::Lt,
+        &Item::Text(b"b"),
+        true,
+    ),
+    Row(
+        Asks::First,
+        &Item::Text(b"a"),
+        Op::Lt,
+        &Item::Text(b"aa"),
+        true,
+    ),
+    // A comparison with a missing column or another kind doesn't hold.
+    Row(Asks::Second, &Item::Id(1), Op::Ne, &Item::Id(7), false),
+    Row(Asks::Not, &Item::Id(1), Op::Eq, &Item::Int(1), true),
+    // Flags are equal and have no order.
+    Row(
+        Asks::First,
+        &Item::Flag(true),
+        Op::Ge,
+        &Item::Flag(true),
+        false,
+    ),
+    Row(
+        Asks::First,
+        &Item::Flag(true),
+        Op::Eq,
+        &Item::Flag(true),
+        true,
+    ),
+    // No condition passes every event.
+    Row(
+        Asks::Nothing,
+        &Item::Flag(false),
+        Op::Eq,
+        &Item::Flag(true),
+        true,
+    ),
+];
+
 #[test]
 fn a_filter_passes_what_its_condition_holds_of(rt: HostRuntime) -> Result<(), Fail> {
-    assert_goes::<Filters>(
-        &rt,
-        &[
-            // Each sign is tried around equality.
-            Row(Asks::First, &Item::Int(-6), Op::Eq, &Item::Int(-5), false),
-            Row(Asks::First, &Item::Int(-5), Op::Eq, &Item::Int(-5), true),
-            Row(Asks::First, &Item::Int(-4), Op::Eq, &Item::Int(-5), false),
-            Row(Asks::First, &Item::Int(-6), Op::Ne, &Item::Int(-5), true),
-            Row(Asks::First, &Item::Int(-5), Op::Ne, &Item::Int(-5), false),
-            Row(Asks::First, &Item::Int(-4), Op::Ne, &Item::Int(-5), true),
-            Row(Asks::First, &Item::Int(-6), Op::Lt, &Item::Int(-5), true),
-            Row(Asks::First, &Item::Int(-5), Op::Lt, &Item::Int(-5), false),
-            Row(Asks::First, &Item::Int(-4), Op::Lt, &Item::Int(-5), false),
-            Row(Asks::First, &Item::Int(-6), Op::Le, &Item::Int(-5), true),
-            Row(Asks::First, &Item::Int(-5), Op::Le, &Item::Int(-5), true),
-            Row(Asks::First, &Item::Int(-4), Op::Le, &Item::Int(-5), false),
-            Row(Asks::First, &Item::Int(-6), Op::Gt, &Item::Int(-5), false),
-            Row(Asks::First, &Item::Int(-5), Op::Gt, &Item::Int(-5), false),
-            Row(Asks::First, &Item::Int(-4), Op::Gt, &Item::Int(-5), true),
-            Row(Asks::First, &Item::Int(-6), Op::Ge, &Item::Int(-5), false),
-            Row(Asks::First, &Item::Int(-5), Op::Ge, &Item::Int(-5), true),
-            Row(Asks::First, &Item::Int(-4), Op::Ge, &Item::Int(-5), true),
-            // Ids past the half keep their order.
-            Row(
-                Asks::First,
-                &Item::Id(9_223_372_036_854_775_809),
-                Op::Lt,
-                &Item::Id(9_223_372_036_854_775_810),
-                true,
-            ),
-            Row(
-                Asks::First,
-                &Item::Id(1),
-                Op::Lt,
-                &Item::Id(9_223_372_036_854_775_808),
-                true,
-            ),
-            // Texts compare by their bytes.
-            Row(
-                Asks::First,
-                &Item::Text(b"Z"),
-                Op::Lt,
-                &Item::Text(b"a"),
-                true,
-            ),
-            Row(
-                Asks::First,
-                &Item::Text(b"aa"),
-                Op::Lt,
-                &Item::Text(b"b"),
-                true,
-            ),
-            Row(
-                Asks::First,
-                &Item::Text(b"a"),
-                Op::Lt,
-                &Item::Text(b"aa"),
-                true,
-            ),
-            // A comparison with a missing column or another kind doesn't hold.
-            Row(Asks::Second, &Item::Id(1), Op::Ne, &Item::Id(7), false),
-            Row(Asks::Not, &Item::Id(1), Op::Eq, &Item::Int(1), true),
-            // Flags are equal and have no order.
-            Row(
-                Asks::First,
-                &Item::Flag(true),
-                Op::Ge,
-                &Item::Flag(true),
-                false,
-            ),
-            Row(
-                Asks::First,
-                &Item::Flag(true),
-                Op::Eq,
-                &Item::Flag(true),
-                true,
-            ),
-            // No condition passes every event.
-            Row(
-                Asks::Nothing,
-                &Item::Flag(false),
-                Op::Eq,
-                &Item::Flag(true),
-                true,
-            ),
-        ],
-    )
+    assert_goes::<Filters>(&rt, FILTERED)
 }

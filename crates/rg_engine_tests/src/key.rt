@@ -13,12 +13,13 @@ pub(crate) enum Step {
     IsMade(&'static [u8]),
     /// It is equal to its copy.
     IsCopied,
-    /// It and the key of these columns of an event of these values stand so to each other.
-    Of(Stands, &'static [u32], &'static [Item]),
+    /// It goes so with the key of these columns of an event of these values.
+    With(Other, &'static [u32], &'static [Item]),
 }
 
+/// How a key goes with another one, which changes it or is compared with it.
 #[derive(Clone, Copy)]
-pub(crate) enum Stands {
+pub(crate) enum Other {
     /// That key takes its place.
     Replaced,
     /// It becomes that key in place.
@@ -32,56 +33,58 @@ pub(crate) enum Stands {
     IsBelow,
 }
 
-/// Whether the key and another one, made for itself, stand so to each other.
-fn meets(key: &mut Key, other: Key, stands: Stands) -> bool {
-    match stands {
-        Stands::Replaced => {
-            *key = other;
+/// Whether a key goes so with another one that is made for itself; false where that is asked of an event alone.
+fn goes_with(key: &mut Key, made: Key, other: Other) -> bool {
+    match other {
+        Other::Replaced => {
+            *key = made;
             true
         }
-        Stands::IsBelow => *key < other,
-        Stands::Differs => *key != other,
-        _ => *key == other,
+        Other::IsBelow => *key < made,
+        Other::Differs => *key != made,
+        Other::IsOf => *key == made,
+        Other::IsNotOf | Other::Anew => false,
     }
 }
 
-/// The same of the key of these columns of an event.
-fn meets_event(
+/// Whether a key goes so with that of these columns of an event, which is made for itself where it has to be.
+fn goes_with_event(
     alloc: Global,
     key: &mut Key,
-    stands: Stands,
+    other: Other,
     fields: &[u32],
     event: &Event,
 ) -> Option<bool> {
-    match stands {
-        Stands::Anew => Some(key.set_of(fields, event).is_ok()),
-        Stands::IsOf => Some(key.is_of(fields, event)),
-        Stands::IsNotOf => Some(!key.is_of(fields, event)),
-        _ => Some(meets(key, key_of(alloc, fields, event).ok()?, stands)),
+    match other {
+        Other::Anew => Some(key.set_of(fields, event).is_ok()),
+        Other::IsOf => Some(key.is_of(fields, event)),
+        Other::IsNotOf => Some(!key.is_of(fields, event)),
+        _ => Some(goes_with(key, key_of(alloc, fields, event).ok()?, other)),
     }
 }
 
-fn meets_other(
+/// The same of an event of these values.
+fn goes_with_values(
     alloc: Global,
     key: &mut Key,
-    stands: Stands,
+    other: Other,
     fields: &[u32],
     items: &[Item],
 ) -> Option<bool> {
     let event = event_of(alloc, 0, 0, items)?;
-    let meets = meets_event(alloc, key, stands, fields, &event);
+    let goes = goes_with_event(alloc, key, other, fields, &event);
     drop(event);
-    meets
+    goes
 }
 
 fn is_copied(alloc: Global, key: &mut Key) -> Option<bool> {
     let copy = key.copy(alloc).ok()?;
-    Some(meets(key, copy, Stands::IsOf))
+    Some(goes_with(key, copy, Other::IsOf))
 }
 
 fn is_made(alloc: Global, key: &mut Key, bytes: &[u8]) -> Option<bool> {
     let made = Key::from(bytes.to_vec(alloc).ok()?);
-    Some(meets(key, made, Stands::IsOf))
+    Some(goes_with(key, made, Other::IsOf))
 }
 
 impl Subject for Key {
@@ -96,8 +99,8 @@ impl Subject for Key {
             Step::Has(bytes) => are_same(self.as_slice(), bytes),
             Step::IsMade(bytes) => is_made(alloc, self, bytes) == Some(true),
             Step::IsCopied => is_copied(alloc, self) == Some(true),
-            Step::Of(stands, fields, items) => {
-                meets_other(alloc, self, *stands, fields, items) == Some(true)
+            Step::With(other, fields, items) => {
+                goes_with_values(alloc, self, *other, fields, items) == Some(true)
             }
         }
     }
@@ -120,27 +123,27 @@ fn a_key_has_the_tagged_values_of_its_columns(rt: HostRuntime) -> Result<(), Fai
     assert_goes::<Key>(
         &rt,
         &[
-            Step::Of(Stands::Replaced, &[1], CARD),
+            Step::With(Other::Replaced, &[1], CARD),
             Step::Has(b"\x03\x02c1"),
-            Step::Of(Stands::Replaced, &[2, 3, 1], CARD),
+            Step::With(Other::Replaced, &[2, 3, 1], CARD),
             Step::Has(b"\x03\x02m1\x03\x02c1"),
-            Step::Of(Stands::Replaced, &[], CARD),
+            Step::With(Other::Replaced, &[], CARD),
             Step::Has(b""),
             // It is made anew in place.
-            Step::Of(Stands::Replaced, &[1, 2], CARD),
-            Step::Of(Stands::Anew, &[2], CARD),
+            Step::With(Other::Replaced, &[1, 2], CARD),
+            Step::With(Other::Anew, &[2], CARD),
             Step::Has(b"\x03\x02m1"),
             // An int and an id of one number have two keys.
-            Step::Of(Stands::Replaced, &[1], INT),
-            Step::Of(Stands::Differs, &[1], ID),
-            Step::Of(Stands::IsBelow, &[1], ID),
-            Step::Of(Stands::IsOf, &[1], INT),
-            Step::Of(Stands::IsNotOf, &[1], ID),
+            Step::With(Other::Replaced, &[1], INT),
+            Step::With(Other::Differs, &[1], ID),
+            Step::With(Other::IsBelow, &[1], ID),
+            Step::With(Other::IsOf, &[1], INT),
+            Step::With(Other::IsNotOf, &[1], ID),
             // Two texts differ from their letters split elsewhere.
-            Step::Of(Stands::Replaced, &[1, 2], TEXTS),
-            Step::Of(Stands::Differs, &[1, 2], SPLIT),
-            Step::Of(Stands::IsNotOf, &[1, 2], SPLIT),
-            Step::Of(Stands::IsNotOf, &[1], TEXTS),
+            Step::With(Other::Replaced, &[1, 2], TEXTS),
+            Step::With(Other::Differs, &[1, 2], SPLIT),
+            Step::With(Other::IsNotOf, &[1, 2], SPLIT),
+            Step::With(Other::IsNotOf, &[1], TEXTS),
             // It equals its copy and the key of its bytes.
             Step::IsCopied,
             Step::IsMade(b"\x03\x01a\x03\x01b"),

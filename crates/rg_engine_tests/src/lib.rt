@@ -21,9 +21,9 @@ mod mixed;
 #[cfg(test)]
 mod plans;
 #[cfg(test)]
-mod scratch;
+mod rows;
 #[cfg(test)]
-mod state;
+mod scratch;
 #[cfg(test)]
 mod states;
 #[cfg(test)]

@@ -9,7 +9,7 @@ use std::test::Fail;
 
 /// Events, the plan that they are answered by, and made lines.
 #[derive(Drop)]
-struct Trial {
+struct Tried {
     events: Vec<Event>,
     plan: TaskPlan,
     lines: Vec<u8>,
@@ -42,30 +42,30 @@ fn has(answers: &Answers, count: usize, place: usize, want: Answer) -> bool {
 /// Whether the event of that number, where there is one, is answered so.
 fn is_answered(
     alloc: Global,
-    trial: &Trial,
+    tried: &Tried,
     k: u64,
     count: usize,
     place: usize,
     want: Answer,
 ) -> Option<bool> {
-    let events = trial.events.as_slice();
+    let events = tried.events.as_slice();
     if k >= events.len() as u64 || events.len() > 1000 {
         return None;
     }
-    let answers = answer_from_scratch(alloc, &trial.plan, events, k).ok()?;
+    let answers = answer_from_scratch(alloc, &tried.plan, events, k).ok()?;
     Some(has(&answers, count, place, want))
 }
 
-fn replan(alloc: Global, trial: &mut Trial, asks: &[Ask]) -> Option<()> {
-    trial.plan = plan_of(alloc, asks)?;
+fn replan(alloc: Global, tried: &mut Tried, asks: &[Ask]) -> Option<()> {
+    tried.plan = plan_of(alloc, asks)?;
     Some(())
 }
 
-impl Subject for Trial {
+impl Subject for Tried {
     type Step = Step;
 
-    fn start(alloc: Global) -> Option<Trial> {
-        Some(Trial {
+    fn start(alloc: Global) -> Option<Tried> {
+        Some(Tried {
             events: Vec::new(alloc),
             plan: plan_of(alloc, &[])?,
             lines: Vec::new(alloc),
@@ -182,7 +182,7 @@ const ALL: &[Ask] = &[
 /// Three payments of one card are asked of, the last one exactly five minutes behind the first.
 #[test]
 fn each_function_answers_for_its_window(rt: HostRuntime) -> Result<(), Fail> {
-    assert_goes::<Trial>(
+    assert_goes::<Tried>(
         &rt,
         &[
             Step::Event(0, &[Item::Text(b"c1"), Item::Text(b"m1"), Item::Int(100)]),

@@ -12,7 +12,7 @@ use std::alloc::Global;
 
 /// A table, and one beside it.
 #[derive(Drop)]
-pub(crate) struct Trial {
+pub(crate) struct Tried {
     table: MemTable,
     other: MemTable,
 }
@@ -239,12 +239,12 @@ fn begins_by_copy(
 
 /// Puts a table of the row of that state in the place of the one before, and one of its copy beside it. False where one
 /// of them is written otherwise.
-fn begins(alloc: Global, trial: &mut Trial, node: u32, key: &[u8], bytes: &[u8]) -> bool {
+fn begins(alloc: Global, tried: &mut Tried, node: u32, key: &[u8], bytes: &[u8]) -> bool {
     match state_of(alloc, bytes) {
         Ok(state) => {
             let is_so = is_written(alloc, &state, bytes)
-                && begins_by_copy(alloc, &mut trial.other, node, key, bytes, &state);
-            renew(alloc, &mut trial.table, node, key, state) && is_so
+                && begins_by_copy(alloc, &mut tried.other, node, key, bytes, &state);
+            renew(alloc, &mut tried.table, node, key, state) && is_so
         }
         Err(_) => false,
     }
@@ -253,17 +253,17 @@ fn begins(alloc: Global, trial: &mut Trial, node: u32, key: &[u8], bytes: &[u8])
 /// Whether the copy of a state stays where a 5 is taken from the state.
 fn copies(
     alloc: Global,
-    trial: &mut Trial,
+    tried: &mut Tried,
     func: Func,
     bytes: &[u8],
     copied: Answer,
     changed: Answer,
 ) -> bool {
     let five = Item::Int(5);
-    begins(alloc, trial, 0, b"", bytes)
+    begins(alloc, tried, 0, b"", bytes)
         && row_changes(
             alloc,
-            &mut trial.table,
+            &mut tried.table,
             0,
             b"",
             func,
@@ -271,8 +271,8 @@ fn copies(
             &five,
             Ok(()),
         )
-        && answers(alloc, &mut trial.table, 0, b"", func, Ok(changed))
-        && answers(alloc, &mut trial.other, 0, b"", func, Ok(copied))
+        && answers(alloc, &mut tried.table, 0, b"", func, Ok(changed))
+        && answers(alloc, &mut tried.other, 0, b"", func, Ok(copied))
 }
 
 fn fits(alloc: Global, bytes: &[u8], func: Func, kind: Kind) -> Option<bool> {
@@ -283,19 +283,19 @@ fn fits(alloc: Global, bytes: &[u8], func: Func, kind: Kind) -> Option<bool> {
 }
 
 /// Whether the table is replaced or marked, or a state that bytes say is so.
-fn takes_step(alloc: Global, trial: &mut Trial, step: &Step) -> bool {
+fn takes_step(alloc: Global, tried: &mut Tried, step: &Step) -> bool {
     match step {
-        Step::Begin(node, key, bytes) => begins(alloc, trial, *node, key, bytes),
+        Step::Begin(node, key, bytes) => begins(alloc, tried, *node, key, bytes),
         Step::Copies(func, bytes, copied, changed) => {
-            copies(alloc, trial, *func, bytes, *copied, *changed)
+            copies(alloc, tried, *func, bytes, *copied, *changed)
         }
-        Step::Cards(count) => adds_cards(alloc, &mut trial.table, *count),
+        Step::Cards(count) => adds_cards(alloc, &mut tried.table, *count),
         Step::Empty => {
-            trial.table = MemTable::new(alloc);
+            tried.table = MemTable::new(alloc);
             true
         }
         Step::Mark => {
-            trial.table.mark();
+            tried.table.mark();
             true
         }
         Step::Fits(bytes, func, kind, want) => fits(alloc, bytes, *func, *kind) == Some(*want),
@@ -304,11 +304,11 @@ fn takes_step(alloc: Global, trial: &mut Trial, step: &Step) -> bool {
     }
 }
 
-impl Subject for Trial {
+impl Subject for Tried {
     type Step = Step;
 
-    fn start(alloc: Global) -> Option<Trial> {
-        Some(Trial {
+    fn start(alloc: Global) -> Option<Tried> {
+        Some(Tried {
             table: MemTable::new(alloc),
             other: MemTable::new(alloc),
         })

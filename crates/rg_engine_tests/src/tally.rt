@@ -10,7 +10,7 @@ use std::test::Fail;
 
 /// A tally, and its copy where one was made.
 #[derive(Drop)]
-struct Trial {
+struct Tried {
     tally: Tally<Value>,
     copy: Tally<Value>,
 }
@@ -88,16 +88,16 @@ fn reads(alloc: Global, place: &mut Tally<Value>, bytes: &[u8]) -> bool {
     )
 }
 
-fn swap(trial: &mut Trial) -> bool {
-    mem::swap(&mut trial.tally, &mut trial.copy);
+fn swap(tried: &mut Tried) -> bool {
+    mem::swap(&mut tried.tally, &mut tried.copy);
     true
 }
 
-impl Subject for Trial {
+impl Subject for Tried {
     type Step = Step;
 
-    fn start(alloc: Global) -> Option<Trial> {
-        Some(Trial {
+    fn start(alloc: Global) -> Option<Tried> {
+        Some(Tried {
             tally: Tally::new(alloc),
             copy: Tally::new(alloc),
         })
@@ -127,7 +127,7 @@ const LEFT: &[u8] =
 
 #[test]
 fn a_tally_counts_each_value_and_its_copy_stays(rt: HostRuntime) -> Result<(), Fail> {
-    assert_goes::<Trial>(
+    assert_goes::<Tried>(
         &rt,
         &[
             // A tally and its copy, each of two threes and a one, change by themselves.

@@ -147,68 +147,68 @@ impl Row for Case {
     }
 }
 
+/// Columns that are read or bad, and numbers in their least widths.
+const COLUMNS_AND_NUMBERS: &[Case] = &[
+    Case::Payments,
+    // Numbers as far apart as they can be: the events have offsets 0 and 1 and time 0.
+    Case::Kept(
+        b"s(ts,who:id)",
+        b"\0\0\0\0\0\0\0\0\x01\0\x01\0\0\0\0\0\0\0\0\x01\0\0\0\0\0\0\0\0\0\0\x08\0\0\0\0\0\0\0\0\xff\xff\xff\xff\xff\xff\xff\xff",
+        b"\0\0\0\0\0\0\0\0\0\0\0\0\0\0\0\0\0\0\0\0\0\0\0\0\0\0\0\0\0\0\0\x01\0\0\0\0\0\0\0\0\xff\xff\xff\xff\xff\xff\xff\xff",
+    ),
+    Case::Kept(
+        b"s(ts,sum:int)",
+        b"\0\0\0\0\0\0\0\0\x01\0\x01\0\0\0\0\0\0\0\0\x01\0\0\xff\xff\xff\x17\x2b\x5a\xf0\0\x08\0\0\x01\xd1\xa9\x4a\x20\0\0\0\0\0\0\0\0\0",
+        b"\0\0\0\0\0\0\0\0\0\0\0\0\0\0\0\0\0\0\0\xe8\xd4\xa5\x10\0\0\0\0\0\0\0\0\x01\0\0\0\0\0\0\0\0\xff\xff\xff\x17\x2b\x5a\xf0\0",
+    ),
+    Case::Kept(
+        b"s(ts,paid:flag)",
+        b"\0\0\0\0\0\0\0\0\x01\0\x01\0\0\0\0\0\0\0\0\x01\0\0\x01\0",
+        b"\0\0\0\0\0\0\0\0\0\0\0\0\0\0\0\0\x01\0\0\0\0\0\0\0\x01\0\0\0\0\0\0\0\0\0",
+    ),
+    // Numbers past 64 bits and other flags are bad, and the reader stays.
+    Case::Bad(
+        b"s(ts,who:id)",
+        b"\0\0\0\0\0\0\0\0\x01\0\x01\0\0\0\0\0\0\0\0\x01\0\0\0\0\0\0\0\0\0\x01\x08\0\0\0\0\0\0\0\0\xff\xff\xff\xff\xff\xff\xff\xff",
+    ),
+    Case::Bad(
+        b"s(ts,paid:flag)",
+        b"\0\0\0\0\0\0\0\0\x01\0\x01\0\0\0\0\0\0\0\0\x01\0\0\x01\x02",
+    ),
+    // No such width, at the offsets and at the amounts.
+    Case::BadAt(8, b"\x03", 0),
+    Case::BadAt(48, b"\0", 3),
+    // No difference is 0, so the base isn't the least offset, time or amount.
+    Case::BadAt(9, b"\x01\x02", 0),
+    Case::BadAt(23, b"\x01", 0),
+    Case::BadAt(49, b"\x01", 3),
+    // The times need 2 bytes alone, and the amounts 1.
+    Case::BadAt(25, b"\0", 0),
+    Case::BadAt(48, b"\x02\0\0\0\x64", 3),
+    // An offset above 2^62 - 1, a time above 10^15, and amounts above 10^12 and below -10^12.
+    Case::Changed(0, b"", None),
+    Case::BadAt(0, b"\x40", 0),
+    Case::BadAt(12, b"\x7f", 0),
+    Case::BadAt(40, b"\x7f", 3),
+    Case::BadAt(40, b"\x80", 3),
+    // A merchant that is no UTF-8, and a card that is longer than what is left.
+    Case::BadAt(36, b"\xff", 2),
+    Case::Changed(28, b"\xff", Some(ColumnFault::Short)),
+    // A number is written in its least width.
+    Case::Least(0, b"\0"),
+    Case::Least(255, b"\xff"),
+    Case::Least(256, b"\x01\0"),
+    Case::Least(65_535, b"\xff\xff"),
+    Case::Least(65_536, b"\0\x01\0\0"),
+    Case::Least(4_294_967_295, b"\xff\xff\xff\xff"),
+    Case::Least(4_294_967_296, b"\0\0\0\x01\0\0\0\0"),
+];
+
 #[test]
 fn columns_are_read_as_events_and_written_back_and_others_are_bad(
     rt: HostRuntime,
 ) -> Result<(), Fail> {
-    assert_each(
-        &rt,
-        &[
-            Case::Payments,
-            // Numbers as far apart as they can be: the events have offsets 0 and 1 and time 0.
-            Case::Kept(
-                b"s(ts,who:id)",
-                b"\0\0\0\0\0\0\0\0\x01\0\x01\0\0\0\0\0\0\0\0\x01\0\0\0\0\0\0\0\0\0\0\x08\0\0\0\0\0\0\0\0\xff\xff\xff\xff\xff\xff\xff\xff",
-                b"\0\0\0\0\0\0\0\0\0\0\0\0\0\0\0\0\0\0\0\0\0\0\0\0\0\0\0\0\0\0\0\x01\0\0\0\0\0\0\0\0\xff\xff\xff\xff\xff\xff\xff\xff",
-            ),
-            Case::Kept(
-                b"s(ts,sum:int)",
-                b"\0\0\0\0\0\0\0\0\x01\0\x01\0\0\0\0\0\0\0\0\x01\0\0\xff\xff\xff\x17\x2b\x5a\xf0\0\x08\0\0\x01\xd1\xa9\x4a\x20\0\0\0\0\0\0\0\0\0",
-                b"\0\0\0\0\0\0\0\0\0\0\0\0\0\0\0\0\0\0\0\xe8\xd4\xa5\x10\0\0\0\0\0\0\0\0\x01\0\0\0\0\0\0\0\0\xff\xff\xff\x17\x2b\x5a\xf0\0",
-            ),
-            Case::Kept(
-                b"s(ts,paid:flag)",
-                b"\0\0\0\0\0\0\0\0\x01\0\x01\0\0\0\0\0\0\0\0\x01\0\0\x01\0",
-                b"\0\0\0\0\0\0\0\0\0\0\0\0\0\0\0\0\x01\0\0\0\0\0\0\0\x01\0\0\0\0\0\0\0\0\0",
-            ),
-            // Numbers past 64 bits and other flags are bad, and the reader stays.
-            Case::Bad(
-                b"s(ts,who:id)",
-                b"\0\0\0\0\0\0\0\0\x01\0\x01\0\0\0\0\0\0\0\0\x01\0\0\0\0\0\0\0\0\0\x01\x08\0\0\0\0\0\0\0\0\xff\xff\xff\xff\xff\xff\xff\xff",
-            ),
-            Case::Bad(
-                b"s(ts,paid:flag)",
-                b"\0\0\0\0\0\0\0\0\x01\0\x01\0\0\0\0\0\0\0\0\x01\0\0\x01\x02",
-            ),
-            // No such width, at the offsets and at the amounts.
-            Case::BadAt(8, b"\x03", 0),
-            Case::BadAt(48, b"\0", 3),
-            // No difference is 0, so the base isn't the least offset, time or amount.
-            Case::BadAt(9, b"\x01\x02", 0),
-            Case::BadAt(23, b"\x01", 0),
-            Case::BadAt(49, b"\x01", 3),
-            // The times need 2 bytes alone, and the amounts 1.
-            Case::BadAt(25, b"\0", 0),
-            Case::BadAt(48, b"\x02\0\0\0\x64", 3),
-            // An offset above 2^62 - 1, a time above 10^15, and amounts above 10^12 and below -10^12.
-            Case::Changed(0, b"", None),
-            Case::BadAt(0, b"\x40", 0),
-            Case::BadAt(12, b"\x7f", 0),
-            Case::BadAt(40, b"\x7f", 3),
-            Case::BadAt(40, b"\x80", 3),
-            // A merchant that is no UTF-8, and a card that is longer than what is left.
-            Case::BadAt(36, b"\xff", 2),
-            Case::Changed(28, b"\xff", Some(ColumnFault::Short)),
-            // A number is written in its least width.
-            Case::Least(0, b"\0"),
-            Case::Least(255, b"\xff"),
-            Case::Least(256, b"\x01\0"),
-            Case::Least(65_535, b"\xff\xff"),
-            Case::Least(65_536, b"\0\x01\0\0"),
-            Case::Least(4_294_967_295, b"\xff\xff\xff\xff"),
-            Case::Least(4_294_967_296, b"\0\0\0\x01\0\0\0\0"),
-        ],
-    )
+    assert_each(&rt, COLUMNS_AND_NUMBERS)
 }
 
 /// The first place where the columns of the two payments are cut and aren't short, or the reader doesn't stay; none where

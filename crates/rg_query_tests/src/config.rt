@@ -233,189 +233,189 @@ impl Row for Case {
     }
 }
 
+/// Streams and defaults that are refused.
+const STREAMS_AND_DEFAULTS: &[Case] = &[
+    // A stream is a name and columns.
+    Case::Stream(b""),
+    Case::Stream(b"stream = 1\n"),
+    Case::Stream(b"[stream]\nname = \"p\"\n"),
+    Case::Stream(b"[stream]\nname = \"p\"\ncolumns = [1]\n"),
+    Case::Stream(b"[stream]\nname = \"p\"\ncolumns = [\"t\"]\nkey = 1\n"),
+    Case::Stream(b"[stream]\nname = \"p\"\ncolumns = [\"t\", \"a:float\"]\n"),
+    Case::Stream(b"[stream]\nname = \"p\"\ncolumns = []\n"),
+    Case::Stream(b"[stream]\nname = \"p\"\ncolumns = [\"t t\"]\ndefaults = 1\n"),
+    // A default is a string that says a value of its column.
+    Case::Defaults(b"defaults = \"0\"\n", DefaultsFault::Table),
+    Case::Defaults(b"defaults = []\n", DefaultsFault::Table),
+    // The time, a name that no column has, and one in other letters.
+    Case::Defaults(b"[stream.defaults]\nts = \"0\"\n", DefaultsFault::Key),
+    Case::Defaults(
+        b"[stream.defaults]\ncity = \"?\"\namount = 1\n",
+        DefaultsFault::Key,
+    ),
+    Case::Defaults(b"[stream.defaults]\nCard = \"?\"\n", DefaultsFault::Key),
+    // No string, and no int; the first column that has a bad one is told, whichever the file has first.
+    Case::Defaults(b"[stream.defaults]\namount = 1\n", DefaultsFault::Column(3)),
+    Case::Defaults(
+        b"[stream.defaults]\namount = \"1.5\"\n",
+        DefaultsFault::Column(3),
+    ),
+    Case::Defaults(
+        b"[stream.defaults]\namount = \"\"\ncard = 1\n",
+        DefaultsFault::Column(1),
+    ),
+    Case::Defaults(
+        b"[stream.defaults]\ncard = \"?\"\nmerchant = []\n",
+        DefaultsFault::Column(2),
+    ),
+];
+
 #[test]
 fn a_stream_has_a_name_and_columns_and_a_default_is_a_value_of_its_column(
     rt: HostRuntime,
 ) -> Result<(), Fail> {
-    assert_each(
-        &rt,
-        &[
-            // A stream is a name and columns.
-            Case::Stream(b""),
-            Case::Stream(b"stream = 1\n"),
-            Case::Stream(b"[stream]\nname = \"p\"\n"),
-            Case::Stream(b"[stream]\nname = \"p\"\ncolumns = [1]\n"),
-            Case::Stream(b"[stream]\nname = \"p\"\ncolumns = [\"t\"]\nkey = 1\n"),
-            Case::Stream(b"[stream]\nname = \"p\"\ncolumns = [\"t\", \"a:float\"]\n"),
-            Case::Stream(b"[stream]\nname = \"p\"\ncolumns = []\n"),
-            Case::Stream(b"[stream]\nname = \"p\"\ncolumns = [\"t t\"]\ndefaults = 1\n"),
-            // A default is a string that says a value of its column.
-            Case::Defaults(b"defaults = \"0\"\n", DefaultsFault::Table),
-            Case::Defaults(b"defaults = []\n", DefaultsFault::Table),
-            // The time, a name that no column has, and one in other letters.
-            Case::Defaults(b"[stream.defaults]\nts = \"0\"\n", DefaultsFault::Key),
-            Case::Defaults(
-                b"[stream.defaults]\ncity = \"?\"\namount = 1\n",
-                DefaultsFault::Key,
-            ),
-            Case::Defaults(b"[stream.defaults]\nCard = \"?\"\n", DefaultsFault::Key),
-            // No string, and no int; the first column that has a bad one is told, whichever the file has first.
-            Case::Defaults(b"[stream.defaults]\namount = 1\n", DefaultsFault::Column(3)),
-            Case::Defaults(
-                b"[stream.defaults]\namount = \"1.5\"\n",
-                DefaultsFault::Column(3),
-            ),
-            Case::Defaults(
-                b"[stream.defaults]\namount = \"\"\ncard = 1\n",
-                DefaultsFault::Column(1),
-            ),
-            Case::Defaults(
-                b"[stream.defaults]\ncard = \"?\"\nmerchant = []\n",
-                DefaultsFault::Column(2),
-            ),
-        ],
-    )
+    assert_each(&rt, STREAMS_AND_DEFAULTS)
 }
+
+/// Settings and tops of a plan that are refused.
+const SETTINGS_AND_TOPS: &[Case] = &[
+    // A cache and a chunk stand in their ranges.
+    Case::Setting(b"cache = 0\n", SettingsFault::Cache),
+    Case::Setting(b"cache = 1_025\n", SettingsFault::Cache),
+    Case::Setting(b"cache = 1.0\n", SettingsFault::Cache),
+    Case::Setting(b"cache = \"1\"\nchunk = 0\n", SettingsFault::Cache),
+    Case::Setting(b"cache = 2020-01-01\n", SettingsFault::Cache),
+    Case::Setting(b"chunk = -1\n", SettingsFault::Chunk),
+    Case::Setting(b"chunk = 4_097\n", SettingsFault::Chunk),
+    Case::Setting(b"cache = 1_024\nchunk = 65\n", SettingsFault::CachedEvents),
+    Case::Setting(b"cache = 1_024\n", SettingsFault::CachedEvents),
+    // Another setting stands in its range.
+    Case::Setting(b"commit = 1_000_001\n", SettingsFault::Commit),
+    Case::Setting(b"save = 0\n", SettingsFault::Save),
+    Case::Setting(b"events = 1_099_511_627_777\n", SettingsFault::Events),
+    Case::Setting(b"header = 1\n", SettingsFault::Header),
+    Case::Setting(b"room = 1\ncache = 0\n", SettingsFault::Key),
+    Case::Setting(b"grace = -1\n", SettingsFault::Grace),
+    Case::Setting(b"grace = 1_000_000_000_000_001\n", SettingsFault::Grace),
+    Case::Setting(b"grace = true\nheader = 1\n", SettingsFault::Header),
+    Case::Setting(b"grace = \"1\"\ncache = 1_024\n", SettingsFault::Grace),
+    // The top has queries and no other key.
+    Case::Top(b"x", ConfigFault::Toml),
+    Case::Top(b"x = \"\xff\"\n", ConfigFault::Toml),
+    Case::Top(b"", ConfigFault::Settings(SettingsFault::Queries)),
+    Case::Top(
+        b"queries = []\n",
+        ConfigFault::Settings(SettingsFault::Queries),
+    ),
+    Case::Top(
+        b"queries = [1]\n",
+        ConfigFault::Settings(SettingsFault::Queries),
+    ),
+    Case::Top(
+        b"queries = \"q\"\n",
+        ConfigFault::Settings(SettingsFault::Queries),
+    ),
+    Case::Top(
+        b"queries = [\"q\"]\nsettings = 1\n",
+        ConfigFault::Settings(SettingsFault::Table),
+    ),
+    Case::Top(
+        b"more = 1\nsettings = 1\n",
+        ConfigFault::Settings(SettingsFault::TopKey),
+    ),
+];
 
 #[test]
 fn a_setting_stands_in_its_range_and_the_top_has_queries_and_no_other_key(
     rt: HostRuntime,
 ) -> Result<(), Fail> {
-    assert_each(
-        &rt,
-        &[
-            // A cache and a chunk stand in their ranges.
-            Case::Setting(b"cache = 0\n", SettingsFault::Cache),
-            Case::Setting(b"cache = 1_025\n", SettingsFault::Cache),
-            Case::Setting(b"cache = 1.0\n", SettingsFault::Cache),
-            Case::Setting(b"cache = \"1\"\nchunk = 0\n", SettingsFault::Cache),
-            Case::Setting(b"cache = 2020-01-01\n", SettingsFault::Cache),
-            Case::Setting(b"chunk = -1\n", SettingsFault::Chunk),
-            Case::Setting(b"chunk = 4_097\n", SettingsFault::Chunk),
-            Case::Setting(b"cache = 1_024\nchunk = 65\n", SettingsFault::CachedEvents),
-            Case::Setting(b"cache = 1_024\n", SettingsFault::CachedEvents),
-            // Another setting stands in its range.
-            Case::Setting(b"commit = 1_000_001\n", SettingsFault::Commit),
-            Case::Setting(b"save = 0\n", SettingsFault::Save),
-            Case::Setting(b"events = 1_099_511_627_777\n", SettingsFault::Events),
-            Case::Setting(b"header = 1\n", SettingsFault::Header),
-            Case::Setting(b"room = 1\ncache = 0\n", SettingsFault::Key),
-            Case::Setting(b"grace = -1\n", SettingsFault::Grace),
-            Case::Setting(b"grace = 1_000_000_000_000_001\n", SettingsFault::Grace),
-            Case::Setting(b"grace = true\nheader = 1\n", SettingsFault::Header),
-            Case::Setting(b"grace = \"1\"\ncache = 1_024\n", SettingsFault::Grace),
-            // The top has queries and no other key.
-            Case::Top(b"x", ConfigFault::Toml),
-            Case::Top(b"x = \"\xff\"\n", ConfigFault::Toml),
-            Case::Top(b"", ConfigFault::Settings(SettingsFault::Queries)),
-            Case::Top(
-                b"queries = []\n",
-                ConfigFault::Settings(SettingsFault::Queries),
-            ),
-            Case::Top(
-                b"queries = [1]\n",
-                ConfigFault::Settings(SettingsFault::Queries),
-            ),
-            Case::Top(
-                b"queries = \"q\"\n",
-                ConfigFault::Settings(SettingsFault::Queries),
-            ),
-            Case::Top(
-                b"queries = [\"q\"]\nsettings = 1\n",
-                ConfigFault::Settings(SettingsFault::Table),
-            ),
-            Case::Top(
-                b"more = 1\nsettings = 1\n",
-                ConfigFault::Settings(SettingsFault::TopKey),
-            ),
-        ],
-    )
+    assert_each(&rt, SETTINGS_AND_TOPS)
 }
+
+/// What is set, by default or by the plan, and lists of queries that are taken or refused.
+const SET_AND_ASKED: &[Case] = &[
+    // What is set is read, and all else has its default.
+    Case::Set(b"", UNSET),
+    Case::Set(
+        b"[settings]\ncache = 1\nchunk = 2\ncommit = 2\nsave = 4\n",
+        Settings {
+            chunk: 2,
+            cache: 1,
+            commit: 2,
+            save: 4,
+            ..UNSET
+        },
+    ),
+    Case::Set(
+        b"[settings]\nevents = 7\nheader = true\ngrace = 0\n",
+        Settings {
+            events: 7,
+            header: true,
+            ..UNSET
+        },
+    ),
+    Case::Set(
+        b"[settings]\ngrace = 1_000_000_000_000_000\n",
+        Settings {
+            grace: 1_000_000_000_000_000,
+            ..UNSET
+        },
+    ),
+    // A column has its default or none.
+    Case::Given(b"[stream.defaults]\namount = \"-5\"\ncard = \"\"\n"),
+    Case::NotGiven(b"defaults = {}\n"),
+    Case::NotGiven(b""),
+    // The first query that isn't taken is named.
+    Case::Query(
+        &[Times(1, b"SELECT min(card) FROM payments OVER INFINITE")],
+        0,
+        QueryRefusal::Text(QueryFault::WrongKind(11)),
+    ),
+    Case::Query(
+        &[Times(1, NEXT), Times(1, b"SELECT")],
+        1,
+        QueryRefusal::Text(QueryFault::Syntax(6)),
+    ),
+    Case::Query(
+        &[Times(64, NEXT), Times(1, b"SELECT")],
+        64,
+        QueryRefusal::TooMany,
+    ),
+    // A query has at most 16 aggregators and 8 columns.
+    Case::Query(
+        &[
+            Times(1, NEXT),
+            Times(1, COUNTS),
+            Times(1, b", count(*)"),
+            Times(1, BY_COLUMNS),
+            Times(1, b", card"),
+            Times(1, WITHOUT_END),
+        ],
+        1,
+        QueryRefusal::TooManyAggs,
+    ),
+    Case::Query(
+        &[
+            Times(2, NEXT),
+            Times(1, COUNTS),
+            Times(1, BY_COLUMNS),
+            Times(1, b", card"),
+            Times(1, WITHOUT_END),
+        ],
+        2,
+        QueryRefusal::TooManyColumns,
+    ),
+    Case::Queries(&[
+        Times(63, NEXT),
+        Times(1, COUNTS),
+        Times(1, BY_COLUMNS),
+        Times(1, WITHOUT_END),
+    ]),
+];
 
 #[test]
 fn a_plan_has_what_is_set_and_its_first_query_that_is_not_taken_is_named(
     rt: HostRuntime,
 ) -> Result<(), Fail> {
-    assert_each(
-        &rt,
-        &[
-            // What is set is read, and all else has its default.
-            Case::Set(b"", UNSET),
-            Case::Set(
-                b"[settings]\ncache = 1\nchunk = 2\ncommit = 2\nsave = 4\n",
-                Settings {
-                    chunk: 2,
-                    cache: 1,
-                    commit: 2,
-                    save: 4,
-                    ..UNSET
-                },
-            ),
-            Case::Set(
-                b"[settings]\nevents = 7\nheader = true\ngrace = 0\n",
-                Settings {
-                    events: 7,
-                    header: true,
-                    ..UNSET
-                },
-            ),
-            Case::Set(
-                b"[settings]\ngrace = 1_000_000_000_000_000\n",
-                Settings {
-                    grace: 1_000_000_000_000_000,
-                    ..UNSET
-                },
-            ),
-            // A column has its default or none.
-            Case::Given(b"[stream.defaults]\namount = \"-5\"\ncard = \"\"\n"),
-            Case::NotGiven(b"defaults = {}\n"),
-            Case::NotGiven(b""),
-            // The first query that isn't taken is named.
-            Case::Query(
-                &[Times(1, b"SELECT min(card) FROM payments OVER INFINITE")],
-                0,
-                QueryRefusal::Text(QueryFault::WrongKind(11)),
-            ),
-            Case::Query(
-                &[Times(1, NEXT), Times(1, b"SELECT")],
-                1,
-                QueryRefusal::Text(QueryFault::Syntax(6)),
-            ),
-            Case::Query(
-                &[Times(64, NEXT), Times(1, b"SELECT")],
-                64,
-                QueryRefusal::TooMany,
-            ),
-            // A query has at most 16 aggregators and 8 columns.
-            Case::Query(
-                &[
-                    Times(1, NEXT),
-                    Times(1, COUNTS),
-                    Times(1, b", count(*)"),
-                    Times(1, BY_COLUMNS),
-                    Times(1, b", card"),
-                    Times(1, WITHOUT_END),
-                ],
-                1,
-                QueryRefusal::TooManyAggs,
-            ),
-            Case::Query(
-                &[
-                    Times(2, NEXT),
-                    Times(1, COUNTS),
-                    Times(1, BY_COLUMNS),
-                    Times(1, b", card"),
-                    Times(1, WITHOUT_END),
-                ],
-                2,
-                QueryRefusal::TooManyColumns,
-            ),
-            Case::Queries(&[
-                Times(63, NEXT),
-                Times(1, COUNTS),
-                Times(1, BY_COLUMNS),
-                Times(1, WITHOUT_END),
-            ]),
-        ],
-    )
+    assert_each(&rt, SET_AND_ASKED)
 }

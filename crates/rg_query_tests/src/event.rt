@@ -101,61 +101,61 @@ const BAD_HEAD: Option<EventFault> = Some(EventFault::BadValue(0));
 
 const BAD_SECOND: Option<EventFault> = Some(EventFault::BadValue(2));
 
+/// Bytes that begin with an event of a schema, and bytes that don't.
+const EVENTS: &[Case] = &[
+    Case::EachKind,
+    // The offset and the time come first.
+    Case::Begins(
+        b"s(t)",
+        b"\x3f\xff\xff\xff\xff\xff\xff\xff\0\x03\x8d\x7e\xa4\xc6\x80\0x",
+        None,
+    ),
+    Case::Begins(
+        b"s(t)",
+        b"\x3f\xff\xff\xff\xff\xff\xff\xff\0\x03\x8d\x7e\xa4\xc6\x80",
+        SHORT,
+    ),
+    Case::Begins(b"s(t)", b"", SHORT),
+    Case::Begins(b"s(t)", b"\x40\0\0\0\0\0\0\0", BAD_HEAD),
+    Case::Begins(
+        b"s(t)",
+        b"\0\0\0\0\0\0\0\0\0\x03\x8d\x7e\xa4\xc6\x80\x01",
+        BAD_HEAD,
+    ),
+    // A value is one of its kind: the offset, the time and the flag before it are zeros.
+    Case::Begins(
+        INT,
+        b"\0\0\0\0\0\0\0\0\0\0\0\0\0\0\0\0\0\0\0\0\xe8\xd4\xa5\x10\0",
+        None,
+    ),
+    Case::Begins(
+        INT,
+        b"\0\0\0\0\0\0\0\0\0\0\0\0\0\0\0\0\0\0\0\0\xe8\xd4\xa5\x10\x01",
+        BAD_SECOND,
+    ),
+    Case::Begins(
+        INT,
+        b"\0\0\0\0\0\0\0\0\0\0\0\0\0\0\0\0\0\xff\xff\xff\x17\x2b\x5a\xef\xff",
+        BAD_SECOND,
+    ),
+    Case::Begins(
+        ID,
+        b"\0\0\0\0\0\0\0\0\0\0\0\0\0\0\0\0\0\0\0\0\0\0\0\0",
+        SHORT,
+    ),
+    Case::Begins(
+        TEXT,
+        b"\0\0\0\0\0\0\0\0\0\0\0\0\0\0\0\0\0\x01\xff",
+        BAD_SECOND,
+    ),
+    Case::Begins(TEXT, b"\0\0\0\0\0\0\0\0\0\0\0\0\0\0\0\0\0\x03c1", SHORT),
+    Case::Begins(FLAG, b"\0\0\0\0\0\0\0\0\0\0\0\0\0\0\0\0\0\x02", BAD_SECOND),
+    Case::Begins(FLAG, b"\0\0\0\0\0\0\0\0\0\0\0\0\0\0\0\0\0", SHORT),
+];
+
 #[test]
 fn an_event_has_its_offset_its_time_and_a_value_of_each_columns_kind(
     rt: HostRuntime,
 ) -> Result<(), Fail> {
-    assert_each(
-        &rt,
-        &[
-            Case::EachKind,
-            // The offset and the time come first.
-            Case::Begins(
-                b"s(t)",
-                b"\x3f\xff\xff\xff\xff\xff\xff\xff\0\x03\x8d\x7e\xa4\xc6\x80\0x",
-                None,
-            ),
-            Case::Begins(
-                b"s(t)",
-                b"\x3f\xff\xff\xff\xff\xff\xff\xff\0\x03\x8d\x7e\xa4\xc6\x80",
-                SHORT,
-            ),
-            Case::Begins(b"s(t)", b"", SHORT),
-            Case::Begins(b"s(t)", b"\x40\0\0\0\0\0\0\0", BAD_HEAD),
-            Case::Begins(
-                b"s(t)",
-                b"\0\0\0\0\0\0\0\0\0\x03\x8d\x7e\xa4\xc6\x80\x01",
-                BAD_HEAD,
-            ),
-            // A value is one of its kind: the offset, the time and the flag before it are zeros.
-            Case::Begins(
-                INT,
-                b"\0\0\0\0\0\0\0\0\0\0\0\0\0\0\0\0\0\0\0\0\xe8\xd4\xa5\x10\0",
-                None,
-            ),
-            Case::Begins(
-                INT,
-                b"\0\0\0\0\0\0\0\0\0\0\0\0\0\0\0\0\0\0\0\0\xe8\xd4\xa5\x10\x01",
-                BAD_SECOND,
-            ),
-            Case::Begins(
-                INT,
-                b"\0\0\0\0\0\0\0\0\0\0\0\0\0\0\0\0\0\xff\xff\xff\x17\x2b\x5a\xef\xff",
-                BAD_SECOND,
-            ),
-            Case::Begins(
-                ID,
-                b"\0\0\0\0\0\0\0\0\0\0\0\0\0\0\0\0\0\0\0\0\0\0\0\0",
-                SHORT,
-            ),
-            Case::Begins(
-                TEXT,
-                b"\0\0\0\0\0\0\0\0\0\0\0\0\0\0\0\0\0\x01\xff",
-                BAD_SECOND,
-            ),
-            Case::Begins(TEXT, b"\0\0\0\0\0\0\0\0\0\0\0\0\0\0\0\0\0\x03c1", SHORT),
-            Case::Begins(FLAG, b"\0\0\0\0\0\0\0\0\0\0\0\0\0\0\0\0\0\x02", BAD_SECOND),
-            Case::Begins(FLAG, b"\0\0\0\0\0\0\0\0\0\0\0\0\0\0\0\0\0", SHORT),
-        ],
-    )
+    assert_each(&rt, EVENTS)
 }

@@ -221,51 +221,51 @@ impl Row for Case {
     }
 }
 
+/// Schemas that one grows to or doesn't, and what growths are written as by their defaults.
+const GROWTHS: &[Case] = &[
+    // A schema grows by columns behind its own.
+    Case::Grows(b"p(t,a:int,b:text)", true),
+    Case::Grows(b"p(t,a:int,b:text,c:id)", true),
+    Case::Grows(b"p(t,a:int)", false),
+    Case::Grows(b"p(t)", false),
+    Case::Grows(b"p(t,b:text,a:int)", false),
+    Case::Grows(b"p(t,a:id,b:text)", false),
+    Case::Grows(b"p(t,c:int,b:text)", false),
+    Case::Grows(b"q(t,a:int,b:text)", false),
+    Case::Grows(b"p(u,a:int,b:text)", false),
+    Case::Pushed,
+    // Both columns are missing.
+    Case::Fills(FROM, LONGER, Numbers(None, Some(1), Some(7)), TWO),
+    // The flag is there: its default isn't used, nor is one needed.
+    Case::Fills(
+        b"p(t,a:int,b:flag)",
+        LONGER,
+        Numbers(None, Some(1), Some(7)),
+        b"\x47\0\0\0\x16p(t,a:int,b:flag,c:id)\x02\0\0\0\0\0\0\0\x07",
+    ),
+    Case::Fills(
+        b"p(t,a:int,b:flag)",
+        LONGER,
+        Numbers(None, None, Some(8)),
+        b"\x47\0\0\0\x16p(t,a:int,b:flag,c:id)\x02\0\0\0\0\0\0\0\x08",
+    ),
+    // One of the two has no default.
+    Case::Lacks(FROM, LONGER, Numbers(None, None, Some(7))),
+    Case::Lacks(FROM, LONGER, Numbers(None, Some(1), None)),
+    // The schema itself, and one that it doesn't grow to.
+    Case::Lacks(LONGER, LONGER, Numbers(None, Some(1), Some(7))),
+    Case::Lacks(
+        FROM,
+        b"p(t,b:flag,a:id,c:id)",
+        Numbers(Some(1), Some(7), Some(7)),
+    ),
+];
+
 #[test]
 fn a_schema_grows_by_further_columns_and_the_defaults_of_just_these(
     rt: HostRuntime,
 ) -> Result<(), Fail> {
-    assert_each(
-        &rt,
-        &[
-            // A schema grows by columns behind its own.
-            Case::Grows(b"p(t,a:int,b:text)", true),
-            Case::Grows(b"p(t,a:int,b:text,c:id)", true),
-            Case::Grows(b"p(t,a:int)", false),
-            Case::Grows(b"p(t)", false),
-            Case::Grows(b"p(t,b:text,a:int)", false),
-            Case::Grows(b"p(t,a:id,b:text)", false),
-            Case::Grows(b"p(t,c:int,b:text)", false),
-            Case::Grows(b"q(t,a:int,b:text)", false),
-            Case::Grows(b"p(u,a:int,b:text)", false),
-            Case::Pushed,
-            // Both columns are missing.
-            Case::Fills(FROM, LONGER, Numbers(None, Some(1), Some(7)), TWO),
-            // The flag is there: its default isn't used, nor is one needed.
-            Case::Fills(
-                b"p(t,a:int,b:flag)",
-                LONGER,
-                Numbers(None, Some(1), Some(7)),
-                b"\x47\0\0\0\x16p(t,a:int,b:flag,c:id)\x02\0\0\0\0\0\0\0\x07",
-            ),
-            Case::Fills(
-                b"p(t,a:int,b:flag)",
-                LONGER,
-                Numbers(None, None, Some(8)),
-                b"\x47\0\0\0\x16p(t,a:int,b:flag,c:id)\x02\0\0\0\0\0\0\0\x08",
-            ),
-            // One of the two has no default.
-            Case::Lacks(FROM, LONGER, Numbers(None, None, Some(7))),
-            Case::Lacks(FROM, LONGER, Numbers(None, Some(1), None)),
-            // The schema itself, and one that it doesn't grow to.
-            Case::Lacks(LONGER, LONGER, Numbers(None, Some(1), Some(7))),
-            Case::Lacks(
-                FROM,
-                b"p(t,b:flag,a:id,c:id)",
-                Numbers(Some(1), Some(7), Some(7)),
-            ),
-        ],
-    )
+    assert_each(&rt, GROWTHS)
 }
 
 #[test]

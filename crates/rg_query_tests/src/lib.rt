@@ -1,6 +1,6 @@
 //! Tests of the public calls of the base and the query layer: bytes, values, schemas, events, columns and growths, and tokens,
 //! syntax, queries, plans and plan files. They stand in a crate of their own, so that no crate of the two layers is proved a
-//! second time for its tests, and in one, since each crate of tests costs the gate a minute whatever is in it.
+//! second time for its tests, and in one, since a crate of tests has a cost of its own in the gate.
 #![tactic(auto)]
 
 #[cfg(test)]

@@ -42,6 +42,7 @@ fn are_kept(alloc: Global, texts: &mut Texts) -> Result<bool, Memory> {
     are_copied(alloc, texts)
 }
 
+/// The one row: three texts are kept that are pushed.
 #[derive(Clone, Copy)]
 struct Three;
 

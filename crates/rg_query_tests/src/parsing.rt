@@ -107,7 +107,7 @@ fn is_said(alloc: Global, schema: &Schema) -> Result<bool, Memory> {
 }
 
 /// Whether a text is a query, or none for this cause.
-fn ends(alloc: Global, schema: &Schema, text: &[u8], want: Option<QueryFault>) -> bool {
+fn is_read_so(alloc: Global, schema: &Schema, text: &[u8], want: Option<QueryFault>) -> bool {
     match parse(alloc, schema, text) {
         Ok(query) => {
             drop(query);
@@ -127,7 +127,7 @@ fn is_built(
 ) -> Result<bool, Memory> {
     let mut text = Vec::new(alloc);
     let put = put_parts(&mut text, parts);
-    let is_so = text.len() == length && ends(alloc, schema, &text, fault);
+    let is_so = text.len() == length && is_read_so(alloc, schema, &text, fault);
     drop(text);
     put?;
     Ok(is_so)
@@ -148,8 +148,8 @@ enum Case {
 fn is_so_of(alloc: Global, schema: &Schema, case: &Case) -> Result<bool, Memory> {
     match case {
         Case::EveryClause => is_said(alloc, schema),
-        Case::Read(text) => Ok(ends(alloc, schema, text, None)),
-        Case::Faulty(text, fault) => Ok(ends(alloc, schema, text, Some(*fault))),
+        Case::Read(text) => Ok(is_read_so(alloc, schema, text, None)),
+        Case::Faulty(text, fault) => Ok(is_read_so(alloc, schema, text, Some(*fault))),
         Case::Built(parts, length, fault) => is_built(alloc, schema, parts, *length, *fault),
     }
 }
@@ -163,174 +163,172 @@ impl Row for Case {
     }
 }
 
+/// The query of every clause, and texts of one fault or several, with the one that is told.
+const FAULTY: &[Case] = &[
+    Case::EveryClause,
+    // Syntax comes first, then names, then kinds, then spans.
+    Case::Faulty(b"", QueryFault::Syntax(0)),
+    Case::Faulty(b"SELECT count(*)", QueryFault::Syntax(15)),
+    Case::Faulty(
+        b"SELECT count(amount) FROM payments OVER INFINITE",
+        QueryFault::Syntax(13),
+    ),
+    Case::Faulty(
+        b"SELECT sum(x) FROM payments OVER SLIDING 0 weeks",
+        QueryFault::Syntax(43),
+    ),
+    Case::Faulty(
+        b"SELECT sum(card) FROM payments WHERE x = 1 OVER SLIDING 0 ms",
+        QueryFault::UnknownName(37),
+    ),
+    Case::Faulty(
+        b"SELECT sum(card) FROM payments OVER SLIDING 0 ms",
+        QueryFault::WrongKind(11),
+    ),
+    Case::Faulty(
+        b"SELECT count(*) FROM payments OVER SLIDING 0 ms",
+        QueryFault::BadSpan(43),
+    ),
+    // The first name that nothing has, or field of a wrong kind, is told.
+    Case::Faulty(
+        b"SELECT sum(Amount) FROM payments OVER INFINITE",
+        QueryFault::UnknownName(11),
+    ),
+    Case::Faulty(
+        b"SELECT sum(x) FROM y OVER INFINITE",
+        QueryFault::UnknownName(11),
+    ),
+    Case::Faulty(
+        b"SELECT count(*) FROM sales WHERE x = 1 OVER INFINITE",
+        QueryFault::UnknownName(21),
+    ),
+    Case::Faulty(
+        b"SELECT count(*) FROM payments WHERE ts > 5 OVER INFINITE",
+        QueryFault::UnknownName(36),
+    ),
+    Case::Faulty(
+        b"SELECT count(*) FROM payments GROUP BY card, ts OVER INFINITE",
+        QueryFault::UnknownName(45),
+    ),
+    Case::Faulty(
+        b"SELECT sum(card) FROM payments OVER INFINITE",
+        QueryFault::WrongKind(11),
+    ),
+    Case::Faulty(
+        b"SELECT sum(terminal) FROM payments OVER INFINITE",
+        QueryFault::WrongKind(11),
+    ),
+    Case::Faulty(
+        b"SELECT max(terminal), last(card) FROM payments OVER INFINITE",
+        QueryFault::WrongKind(27),
+    ),
+    Case::Faulty(
+        b"SELECT count(*) FROM payments WHERE online < 1 OVER INFINITE",
+        QueryFault::WrongKind(36),
+    ),
+];
+
 #[test]
 fn syntax_comes_first_then_the_first_wrong_name_then_kinds(rt: HostRuntime) -> Result<(), Fail> {
-    assert_each(
-        &rt,
-        &[
-            Case::EveryClause,
-            // Syntax comes first, then names, then kinds, then spans.
-            Case::Faulty(b"", QueryFault::Syntax(0)),
-            Case::Faulty(b"SELECT count(*)", QueryFault::Syntax(15)),
-            Case::Faulty(
-                b"SELECT count(amount) FROM payments OVER INFINITE",
-                QueryFault::Syntax(13),
-            ),
-            Case::Faulty(
-                b"SELECT sum(x) FROM payments OVER SLIDING 0 weeks",
-                QueryFault::Syntax(43),
-            ),
-            Case::Faulty(
-                b"SELECT sum(card) FROM payments WHERE x = 1 OVER SLIDING 0 ms",
-                QueryFault::UnknownName(37),
-            ),
-            Case::Faulty(
-                b"SELECT sum(card) FROM payments OVER SLIDING 0 ms",
-                QueryFault::WrongKind(11),
-            ),
-            Case::Faulty(
-                b"SELECT count(*) FROM payments OVER SLIDING 0 ms",
-                QueryFault::BadSpan(43),
-            ),
-            // The first name that nothing has, or field of a wrong kind, is told.
-            Case::Faulty(
-                b"SELECT sum(Amount) FROM payments OVER INFINITE",
-                QueryFault::UnknownName(11),
-            ),
-            Case::Faulty(
-                b"SELECT sum(x) FROM y OVER INFINITE",
-                QueryFault::UnknownName(11),
-            ),
-            Case::Faulty(
-                b"SELECT count(*) FROM sales WHERE x = 1 OVER INFINITE",
-                QueryFault::UnknownName(21),
-            ),
-            Case::Faulty(
-                b"SELECT count(*) FROM payments WHERE ts > 5 OVER INFINITE",
-                QueryFault::UnknownName(36),
-            ),
-            Case::Faulty(
-                b"SELECT count(*) FROM payments GROUP BY card, ts OVER INFINITE",
-                QueryFault::UnknownName(45),
-            ),
-            Case::Faulty(
-                b"SELECT sum(card) FROM payments OVER INFINITE",
-                QueryFault::WrongKind(11),
-            ),
-            Case::Faulty(
-                b"SELECT sum(terminal) FROM payments OVER INFINITE",
-                QueryFault::WrongKind(11),
-            ),
-            Case::Faulty(
-                b"SELECT max(terminal), last(card) FROM payments OVER INFINITE",
-                QueryFault::WrongKind(27),
-            ),
-            Case::Faulty(
-                b"SELECT count(*) FROM payments WHERE online < 1 OVER INFINITE",
-                QueryFault::WrongKind(36),
-            ),
-        ],
-    )
+    assert_each(&rt, FAULTY)
 }
+
+/// Literals of a column's kind or another one, and spans, texts and parentheses up to their limits and past them.
+const LITERALS_AND_LIMITS: &[Case] = &[
+    // A literal is one of its column's kind.
+    Case::Read(b"SELECT count(*) FROM payments WHERE amount > -1000000000000 OVER INFINITE"),
+    Case::Faulty(
+        b"SELECT count(*) FROM payments WHERE amount > 1000000000001 OVER INFINITE",
+        QueryFault::WrongKind(45),
+    ),
+    Case::Faulty(
+        b"SELECT count(*) FROM payments WHERE card = 5 OVER INFINITE",
+        QueryFault::WrongKind(43),
+    ),
+    Case::Faulty(
+        b"SELECT count(*) FROM payments WHERE card = '\xff' OVER INFINITE",
+        QueryFault::WrongKind(43),
+    ),
+    Case::Faulty(
+        b"SELECT count(*) FROM payments WHERE terminal = -1 OVER INFINITE",
+        QueryFault::WrongKind(47),
+    ),
+    Case::Read(
+        b"SELECT count(*) FROM payments WHERE terminal = 18446744073709551615 OVER INFINITE",
+    ),
+    Case::Faulty(
+        b"SELECT count(*) FROM payments WHERE terminal = 18446744073709551616 OVER INFINITE",
+        QueryFault::WrongKind(47),
+    ),
+    Case::Faulty(
+        b"SELECT count(*) FROM payments WHERE online = 1 OVER INFINITE",
+        QueryFault::WrongKind(45),
+    ),
+    // A span has at most 10^15 milliseconds.
+    Case::Read(b"SELECT count(*) FROM payments OVER SLIDING 11574074 days"),
+    Case::Faulty(
+        b"SELECT count(*) FROM payments OVER SLIDING 11574075 days",
+        QueryFault::BadSpan(43),
+    ),
+    Case::Read(b"SELECT count(*) FROM payments OVER SLIDING 1000000000000000 ms"),
+    Case::Faulty(
+        b"SELECT count(*) FROM payments OVER SLIDING 99999999999999999999 ms",
+        QueryFault::BadSpan(43),
+    ),
+    Case::Read(b"SELECT count(*) FROM payments OVER INFINITE DELAYED BY 0 ms"),
+    Case::Faulty(
+        b"SELECT count(*) FROM payments OVER INFINITE DELAYED BY 1000000000000001 ms",
+        QueryFault::BadSpan(55),
+    ),
+    Case::Faulty(
+        b"SELECT count(*) FROM payments OVER SLIDING 1 ms DELAYED BY 16666666667 minutes",
+        QueryFault::BadSpan(59),
+    ),
+    // A text has 4,096 bytes at most.
+    Case::Built(
+        &[
+            Times(4_053, b" "),
+            Times(1, b"SELECT count(*) FROM payments OVER INFINITE"),
+        ],
+        4_096,
+        None,
+    ),
+    Case::Built(
+        &[
+            Times(4_054, b" "),
+            Times(1, b"SELECT count(*) FROM payments OVER INFINITE"),
+        ],
+        4_097,
+        Some(QueryFault::TooLarge),
+    ),
+    // A condition stands in 32 parentheses at most.
+    Case::Built(
+        &[
+            Times(1, b"SELECT count(*) FROM payments WHERE "),
+            Times(32, b"("),
+            Times(1, b"amount = 1"),
+            Times(32, b")"),
+            Times(1, b" OVER INFINITE"),
+        ],
+        124,
+        None,
+    ),
+    Case::Built(
+        &[
+            Times(1, b"SELECT count(*) FROM payments WHERE "),
+            Times(33, b"("),
+            Times(1, b"amount = 1"),
+            Times(33, b")"),
+            Times(1, b" OVER INFINITE"),
+        ],
+        126,
+        Some(QueryFault::TooLarge),
+    ),
+];
 
 #[test]
 fn a_literal_is_of_its_columns_kind_and_spans_texts_and_parentheses_have_a_limit(
     rt: HostRuntime,
 ) -> Result<(), Fail> {
-    assert_each(
-        &rt,
-        &[
-            // A literal is one of its column's kind.
-            Case::Read(
-                b"SELECT count(*) FROM payments WHERE amount > -1000000000000 OVER INFINITE",
-            ),
-            Case::Faulty(
-                b"SELECT count(*) FROM payments WHERE amount > 1000000000001 OVER INFINITE",
-                QueryFault::WrongKind(45),
-            ),
-            Case::Faulty(
-                b"SELECT count(*) FROM payments WHERE card = 5 OVER INFINITE",
-                QueryFault::WrongKind(43),
-            ),
-            Case::Faulty(
-                b"SELECT count(*) FROM payments WHERE card = '\xff' OVER INFINITE",
-                QueryFault::WrongKind(43),
-            ),
-            Case::Faulty(
-                b"SELECT count(*) FROM payments WHERE terminal = -1 OVER INFINITE",
-                QueryFault::WrongKind(47),
-            ),
-            Case::Read(
-                b"SELECT count(*) FROM payments WHERE terminal = 18446744073709551615 OVER INFINITE",
-            ),
-            Case::Faulty(
-                b"SELECT count(*) FROM payments WHERE terminal = 18446744073709551616 OVER INFINITE",
-                QueryFault::WrongKind(47),
-            ),
-            Case::Faulty(
-                b"SELECT count(*) FROM payments WHERE online = 1 OVER INFINITE",
-                QueryFault::WrongKind(45),
-            ),
-            // A span has at most 10^15 milliseconds.
-            Case::Read(b"SELECT count(*) FROM payments OVER SLIDING 11574074 days"),
-            Case::Faulty(
-                b"SELECT count(*) FROM payments OVER SLIDING 11574075 days",
-                QueryFault::BadSpan(43),
-            ),
-            Case::Read(b"SELECT count(*) FROM payments OVER SLIDING 1000000000000000 ms"),
-            Case::Faulty(
-                b"SELECT count(*) FROM payments OVER SLIDING 99999999999999999999 ms",
-                QueryFault::BadSpan(43),
-            ),
-            Case::Read(b"SELECT count(*) FROM payments OVER INFINITE DELAYED BY 0 ms"),
-            Case::Faulty(
-                b"SELECT count(*) FROM payments OVER INFINITE DELAYED BY 1000000000000001 ms",
-                QueryFault::BadSpan(55),
-            ),
-            Case::Faulty(
-                b"SELECT count(*) FROM payments OVER SLIDING 1 ms DELAYED BY 16666666667 minutes",
-                QueryFault::BadSpan(59),
-            ),
-            // A text has 4,096 bytes at most.
-            Case::Built(
-                &[
-                    Times(4_053, b" "),
-                    Times(1, b"SELECT count(*) FROM payments OVER INFINITE"),
-                ],
-                4_096,
-                None,
-            ),
-            Case::Built(
-                &[
-                    Times(4_054, b" "),
-                    Times(1, b"SELECT count(*) FROM payments OVER INFINITE"),
-                ],
-                4_097,
-                Some(QueryFault::TooLarge),
-            ),
-            // A condition stands in 32 parentheses at most.
-            Case::Built(
-                &[
-                    Times(1, b"SELECT count(*) FROM payments WHERE "),
-                    Times(32, b"("),
-                    Times(1, b"amount = 1"),
-                    Times(32, b")"),
-                    Times(1, b" OVER INFINITE"),
-                ],
-                124,
-                None,
-            ),
-            Case::Built(
-                &[
-                    Times(1, b"SELECT count(*) FROM payments WHERE "),
-                    Times(33, b"("),
-                    Times(1, b"amount = 1"),
-                    Times(33, b")"),
-                    Times(1, b" OVER INFINITE"),
-                ],
-                126,
-                Some(QueryFault::TooLarge),
-            ),
-        ],
-    )
+    assert_each(&rt, LITERALS_AND_LIMITS)
 }

@@ -207,54 +207,54 @@ const ALIKE: &[Times] = &[
 const WIDE: &[u8] =
     b"SELECT sum(a), sum(b), avg(a), avg(b), sumsq(a), sumsq(b), min(a), min(b), max(a), max(b), first(a), first(b), last(a), last(b), countDistinct(a), countDistinct(b) FROM p OVER SLIDING 5 ms";
 
+/// Lists of queries, and what their plan has, or why there is none.
+const PLANS: &[Case] = &[
+    Case::Has(ALIKE, &[1, 1, 1, 2], &[0, 300000]),
+    // Three queries, of which two have one condition and two one key.
+    Case::Has(
+        &[
+            Times(1, b"SELECT count(*) FROM p WHERE a > 100 OVER SLIDING 5 ms"),
+            Times(1, b"SELECT count(*) FROM p WHERE a > 200 OVER SLIDING 5 ms"),
+            Times(
+                1,
+                b"SELECT count(*) FROM p WHERE a > 100 GROUP BY card OVER SLIDING 5 ms",
+            ),
+        ],
+        &[1, 2, 3, 3],
+        &[0, 5],
+    ),
+    // Two windows.
+    Case::Has(
+        &[
+            Times(
+                1,
+                b"SELECT count(*) FROM p OVER SLIDING 10 ms DELAYED BY 5 ms",
+            ),
+            Times(1, b"SELECT count(*) FROM p OVER SLIDING 5 ms"),
+        ],
+        &[2, 2, 2, 2],
+        &[0, 5, 15],
+    ),
+    Case::Has(&[Times(64, WIDE)], &[1, 1, 1, 16], &[0, 5]),
+    Case::Paths(ALIKE),
+    Case::Apart(&[Times(64, WIDE)]),
+    // Too many parts of a query, and the query behind 64.
+    Case::Faulty(
+        &[
+            Times(1, WIDE),
+            Times(
+                1,
+                b"SELECT count(*), count(*), count(*), count(*), count(*), count(*), count(*), count(*), count(*), count(*), count(*), count(*), count(*), count(*), count(*), count(*), count(*) FROM p OVER INFINITE",
+            ),
+        ],
+        PlanFault::TooMany(1),
+    ),
+    Case::Faulty(&[Times(65, COUNT)], PlanFault::TooMany(64)),
+];
+
 #[test]
 fn queries_share_what_they_have_in_common_and_too_many_are_refused(
     rt: HostRuntime,
 ) -> Result<(), Fail> {
-    assert_each(
-        &rt,
-        &[
-            Case::Has(ALIKE, &[1, 1, 1, 2], &[0, 300000]),
-            // Three queries, of which two have one condition and two one key.
-            Case::Has(
-                &[
-                    Times(1, b"SELECT count(*) FROM p WHERE a > 100 OVER SLIDING 5 ms"),
-                    Times(1, b"SELECT count(*) FROM p WHERE a > 200 OVER SLIDING 5 ms"),
-                    Times(
-                        1,
-                        b"SELECT count(*) FROM p WHERE a > 100 GROUP BY card OVER SLIDING 5 ms",
-                    ),
-                ],
-                &[1, 2, 3, 3],
-                &[0, 5],
-            ),
-            // Two windows.
-            Case::Has(
-                &[
-                    Times(
-                        1,
-                        b"SELECT count(*) FROM p OVER SLIDING 10 ms DELAYED BY 5 ms",
-                    ),
-                    Times(1, b"SELECT count(*) FROM p OVER SLIDING 5 ms"),
-                ],
-                &[2, 2, 2, 2],
-                &[0, 5, 15],
-            ),
-            Case::Has(&[Times(64, WIDE)], &[1, 1, 1, 16], &[0, 5]),
-            Case::Paths(ALIKE),
-            Case::Apart(&[Times(64, WIDE)]),
-            // Too many parts of a query, and the query behind 64.
-            Case::Faulty(
-                &[
-                    Times(1, WIDE),
-                    Times(
-                        1,
-                        b"SELECT count(*), count(*), count(*), count(*), count(*), count(*), count(*), count(*), count(*), count(*), count(*), count(*), count(*), count(*), count(*), count(*), count(*) FROM p OVER INFINITE",
-                    ),
-                ],
-                PlanFault::TooMany(1),
-            ),
-            Case::Faulty(&[Times(65, COUNT)], PlanFault::TooMany(64)),
-        ],
-    )
+    assert_each(&rt, PLANS)
 }

@@ -58,69 +58,69 @@ impl Row for Case {
     }
 }
 
+/// Queries, conditions and an aggregator, and what each is printed as.
+const PRINTED: &[Case] = &[
+    // A delay of 0 isn't printed.
+    Case::Query(
+        b"select count(*),Sum(b) from p group by card over sliding 5 minutes delayed by 0 days",
+        b"SELECT count(*), sum(b) FROM p GROUP BY card OVER SLIDING 300000 ms",
+    ),
+    Case::Query(
+        b"SELECT count(*), COUNTDISTINCT(card) FROM p WHERE b=7 GROUP BY card, a OVER infinite DELAYED BY 5 ms",
+        b"SELECT count(*), countDistinct(card) FROM p WHERE b = 7 GROUP BY card, a OVER INFINITE DELAYED BY 5 ms",
+    ),
+    // Parentheses stand where they are needed.
+    Case::Condition(
+        b"SELECT count(*) FROM p WHERE (a = 1 OR b = 2) AND NOT (c = 3 AND d = 4) AND (e = 5 AND f = 6) OVER INFINITE",
+        b"(a = 1 OR b = 2) AND NOT (c = 3 AND d = 4) AND (e = 5 AND f = 6)",
+    ),
+    // An OR on the right of an OR, and on its left.
+    Case::Condition(
+        b"SELECT count(*) FROM p WHERE a = 1 OR (b = 2 OR c = 3) OVER INFINITE",
+        b"a = 1 OR (b = 2 OR c = 3)",
+    ),
+    Case::Condition(
+        b"SELECT count(*) FROM p WHERE (a = 1 OR b = 2) OR c = 3 OVER INFINITE",
+        b"a = 1 OR b = 2 OR c = 3",
+    ),
+    Case::Condition(
+        b"SELECT count(*) FROM p WHERE (a = 1 AND b = 2) OR (c = 3 AND d = 4) OVER INFINITE",
+        b"a = 1 AND b = 2 OR c = 3 AND d = 4",
+    ),
+    Case::Condition(
+        b"SELECT count(*) FROM p WHERE not (not (a = 1)) or (a=2) OVER INFINITE",
+        b"NOT NOT a = 1 OR a = 2",
+    ),
+    // Texts, numbers and flags are literals.
+    Case::Condition(
+        b"SELECT count(*) FROM p WHERE card!='it''s ''so''' OVER INFINITE",
+        b"card != 'it''s ''so'''",
+    ),
+    Case::Condition(
+        b"SELECT count(*) FROM p WHERE a>=-05 OVER INFINITE",
+        b"a >= -5",
+    ),
+    Case::Condition(
+        b"SELECT count(*) FROM p WHERE safe = true OVER INFINITE",
+        b"safe = TRUE",
+    ),
+    Case::Condition(
+        b"SELECT count(*) FROM p WHERE not(safe != False) OVER INFINITE",
+        b"NOT safe != FALSE",
+    ),
+    // An aggregator is printed alone.
+    Case::Agg(
+        Agg {
+            func: Func::SumSq,
+            field: 6,
+        },
+        b"sumsq(f)",
+    ),
+];
+
 #[test]
 fn a_query_a_condition_and_an_aggregator_are_printed_in_their_one_form(
     rt: HostRuntime,
 ) -> Result<(), Fail> {
-    assert_each(
-        &rt,
-        &[
-            // A delay of 0 isn't printed.
-            Case::Query(
-                b"select count(*),Sum(b) from p group by card over sliding 5 minutes delayed by 0 days",
-                b"SELECT count(*), sum(b) FROM p GROUP BY card OVER SLIDING 300000 ms",
-            ),
-            Case::Query(
-                b"SELECT count(*), COUNTDISTINCT(card) FROM p WHERE b=7 GROUP BY card, a OVER infinite DELAYED BY 5 ms",
-                b"SELECT count(*), countDistinct(card) FROM p WHERE b = 7 GROUP BY card, a OVER INFINITE DELAYED BY 5 ms",
-            ),
-            // Parentheses stand where they are needed.
-            Case::Condition(
-                b"SELECT count(*) FROM p WHERE (a = 1 OR b = 2) AND NOT (c = 3 AND d = 4) AND (e = 5 AND f = 6) OVER INFINITE",
-                b"(a = 1 OR b = 2) AND NOT (c = 3 AND d = 4) AND (e = 5 AND f = 6)",
-            ),
-            // An OR on the right of an OR, and on its left.
-            Case::Condition(
-                b"SELECT count(*) FROM p WHERE a = 1 OR (b = 2 OR c = 3) OVER INFINITE",
-                b"a = 1 OR (b = 2 OR c = 3)",
-            ),
-            Case::Condition(
-                b"SELECT count(*) FROM p WHERE (a = 1 OR b = 2) OR c = 3 OVER INFINITE",
-                b"a = 1 OR b = 2 OR c = 3",
-            ),
-            Case::Condition(
-                b"SELECT count(*) FROM p WHERE (a = 1 AND b = 2) OR (c = 3 AND d = 4) OVER INFINITE",
-                b"a = 1 AND b = 2 OR c = 3 AND d = 4",
-            ),
-            Case::Condition(
-                b"SELECT count(*) FROM p WHERE not (not (a = 1)) or (a=2) OVER INFINITE",
-                b"NOT NOT a = 1 OR a = 2",
-            ),
-            // Texts, numbers and flags are literals.
-            Case::Condition(
-                b"SELECT count(*) FROM p WHERE card!='it''s ''so''' OVER INFINITE",
-                b"card != 'it''s ''so'''",
-            ),
-            Case::Condition(
-                b"SELECT count(*) FROM p WHERE a>=-05 OVER INFINITE",
-                b"a >= -5",
-            ),
-            Case::Condition(
-                b"SELECT count(*) FROM p WHERE safe = true OVER INFINITE",
-                b"safe = TRUE",
-            ),
-            Case::Condition(
-                b"SELECT count(*) FROM p WHERE not(safe != False) OVER INFINITE",
-                b"NOT safe != FALSE",
-            ),
-            // An aggregator is printed alone.
-            Case::Agg(
-                Agg {
-                    func: Func::SumSq,
-                    field: 6,
-                },
-                b"sumsq(f)",
-            ),
-        ],
-    )
+    assert_each(&rt, PRINTED)
 }

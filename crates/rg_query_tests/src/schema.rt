@@ -45,7 +45,7 @@ fn is_as_said(alloc: Global, text: &[u8], is_one: bool) -> Result<bool, Memory> 
     }
 }
 
-/// The comma and the longest name of a column.
+/// The comma, and more letters than any name below has.
 const NAME: &[u8; 41] = b",aaaaaaaaaaaaaaaaaaaaaaaaaaaaaaaaaaaaaaaa";
 
 /// Puts `p(t,a:id,aa:id,..)` with so many columns.

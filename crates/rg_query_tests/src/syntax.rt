@@ -80,7 +80,7 @@ fn is_read(alloc: Global) -> bool {
 }
 
 /// Whether a text is a query, or none for this cause.
-fn ends(alloc: Global, text: &[u8], want: Option<SyntaxFault>) -> bool {
+fn is_read_so(alloc: Global, text: &[u8], want: Option<SyntaxFault>) -> bool {
     match read_syntax(alloc, text) {
         Ok(raw) => {
             drop(raw);
@@ -91,10 +91,10 @@ fn ends(alloc: Global, text: &[u8], want: Option<SyntaxFault>) -> bool {
 }
 
 /// Whether the text of these parts is no query for this cause.
-fn ends_of(alloc: Global, parts: &[Times], fault: SyntaxFault) -> Result<bool, Memory> {
+fn is_built_so(alloc: Global, parts: &[Times], fault: SyntaxFault) -> Result<bool, Memory> {
     let mut text = Vec::new(alloc);
     let put = put_parts(&mut text, parts);
-    let is_so = ends(alloc, &text, Some(fault));
+    let is_so = is_read_so(alloc, &text, Some(fault));
     drop(text);
     put?;
     Ok(is_so)
@@ -117,9 +117,9 @@ impl Row for Case {
     fn is_so(&self, alloc: Global) -> Result<bool, Memory> {
         match self {
             Case::EveryClause => Ok(is_read(alloc)),
-            Case::Read(text) => Ok(ends(alloc, text, None)),
-            Case::Wrong(text, place) => Ok(ends(alloc, text, Some(SyntaxFault::At(*place)))),
-            Case::Nested(parts, fault) => ends_of(alloc, parts, *fault),
+            Case::Read(text) => Ok(is_read_so(alloc, text, None)),
+            Case::Wrong(text, place) => Ok(is_read_so(alloc, text, Some(SyntaxFault::At(*place)))),
+            Case::Nested(parts, fault) => is_built_so(alloc, parts, *fault),
         }
     }
 }

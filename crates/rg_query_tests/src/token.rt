@@ -29,15 +29,12 @@ fn are(pieces: &[Piece], tokens: &[Token]) -> bool {
 
 /// A text has these tokens, and they end there.
 #[derive(Clone, Copy)]
-enum Case {
-    Has(&'static [u8], &'static [Token], usize),
-}
+struct Case(&'static [u8], &'static [Token], usize);
 
 impl Row for Case {
     fn is_so(&self, alloc: Global) -> Result<bool, Memory> {
-        let Case::Has(text, tokens, end) = self;
-        let lexed = pieces(alloc, text)?;
-        let is_so = are(lexed.pieces.as_slice(), tokens) && lexed.end == *end;
+        let lexed = pieces(alloc, self.0)?;
+        let is_so = are(lexed.pieces.as_slice(), self.1) && lexed.end == self.2;
         drop(lexed);
         Ok(is_so)
     }
@@ -50,7 +47,7 @@ fn a_text_has_its_longest_tokens_and_they_end_where_none_begins(
     assert_each(
         &rt,
         &[
-            Case::Has(
+            Case(
                 b"SELECT count(*) FROM p WHERE a<=-3 AND b!='x''y'",
                 &[
                     Token(0, 6, Shape::Word),
@@ -72,15 +69,15 @@ fn a_text_has_its_longest_tokens_and_they_end_where_none_begins(
                 48,
             ),
             // A text ends at its last quote that closes.
-            Case::Has(b"'abc''d", &[Token(0, 5, Shape::Text)], 5),
-            Case::Has(
+            Case(b"'abc''d", &[Token(0, 5, Shape::Text)], 5),
+            Case(
                 b"123456789012345678901",
                 &[Token(0, 20, Shape::Number), Token(20, 21, Shape::Number)],
                 21,
             ),
-            Case::Has(b"-", &[], 0),
-            Case::Has(b"", &[], 0),
-            Case::Has(b"a ! b", &[Token(0, 1, Shape::Word)], 2),
+            Case(b"-", &[], 0),
+            Case(b"", &[], 0),
+            Case(b"a ! b", &[Token(0, 1, Shape::Word)], 2),
         ],
     )
 }

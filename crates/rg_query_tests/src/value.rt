@@ -6,7 +6,7 @@ use std::alloc::Global;
 use std::cmp::Ordering;
 use std::test::Fail;
 
-/// Whether a text is a value of this kind that has these bytes behind its tag; where there are none, that it is no
+/// Whether a text is a value of this kind that has these bytes, tag and all; where there are none, that it is no
 /// value.
 fn is_value(alloc: Global, kind: Kind, text: &[u8], want: &[u8]) -> Result<bool, Memory> {
     match parse_value(alloc, kind, text)? {
@@ -72,7 +72,7 @@ fn is_faulty(alloc: Global, bytes: &[u8], want: EventFault) -> bool {
 /// What a text or bytes are.
 #[derive(Clone, Copy)]
 enum Case {
-    /// A text is a value of this kind that has these bytes behind its tag, or none where there are no bytes.
+    /// A text is a value of this kind that has these bytes, tag and all, or none where there are no bytes.
     Says(Kind, &'static [u8], &'static [u8]),
     /// A text of so many letters is a value, or isn't.
     Long(usize, bool),

@@ -1,4 +1,4 @@
-ghost use Rattle.std.specs.Prelude.{◌≡◌, ◌↔◌, ◌≤◌, ◌*◌, [], List, length, IsTrue, IfOk, OnOk, ◌++◌, slice_index_or};
+ghost use Rattle.std.specs.Prelude.{◌≡◌, ◌↔◌, ◌≤◌, ◌*◌, [], List, length, IsTrue, IfOk, OnOk, ◌++◌, slice_index_or, bytes_eq};
 ghost use Rattle.rg_event.specs.declared.event.Event.{Event};
 ghost use Rattle.rg_event.specs.declared.value.Value.{Value};
 ghost use Rattle.rg_metric.specs.Conditions.{value_in};
@@ -16,6 +16,9 @@ use rg_metric::column_value;
 use std::alloc::Global;
 use std::cmp::Ordering;
 use std::marker::Model;
+
+/// What a number is spread by: 2^64 divided by the golden ratio.
+const SPREAD: u64 = 0x9E37_79B9_7F4A_7C15;
 
 /// The key of an event: its values in some columns, each tagged by its kind, one after another.
 #[derive(Debug, Drop)]
@@ -46,7 +49,9 @@ impl PartialEq for Key {
     ghost laws = { partial_equiv_from_equiv nat_list_eq_equiv };
 
     fn eq(&self, other: &Key) -> bool {
-        self.bytes == other.bytes
+        let mine = self.bytes.as_slice();
+        let others = other.bytes.as_slice();
+        is_same(self.head, mine, other.head, others)
     }
 }
 
@@ -141,6 +146,12 @@ impl Key {
         &self.bytes
     }
 
+    /// A number by which to guess where something of the key stands. It is the same for the same key, and
+    /// no clause says more of it: a guess is to be compared.
+    pub fn mix(&self) -> u64 {
+        mix_of(self.head, &self.bytes)
+    }
+
     /// Makes it the key of this event by these columns, as `key_of` does, in the room that it has where
     /// that is enough. Where memory runs out its bytes mean nothing.
     pub fn set_of(&mut self, fields: &[u32], event: &Event) -> Result<(), Memory>
@@ -182,6 +193,42 @@ pub fn key_of(alloc: Global, fields: &[u32], event: &Event) -> Result<Key, Memor
     put_parts(fields, event, &mut bytes)?;
     let head = head_of(&bytes);
     Ok(Key { bytes, head })
+}
+
+/// Whether two keys with these heads are the same. Up to eight bytes are in the head, so that only more of
+/// them are read.
+fn is_same(head: u64, bytes: &[u8], other_head: u64, other: &[u8]) -> bool
+    requires mine { head ≡ packed 8 0 bytes.now }
+    requires others { other_head ≡ packed 8 0 other.now }
+    requires my_bytes { AreBytes bytes.now }
+    requires other_bytes { AreBytes other.now }
+    ensures { result ≡ bytes_eq bytes.now other.now }
+{
+    if head != other_head {
+        return false;
+    }
+    if bytes.len() != other.len() {
+        return false;
+    }
+    if bytes.len() <= 8 {
+        return true;
+    }
+    bytes == other
+}
+
+/// The head, the bytes behind it and their number, each spread over all bits.
+fn mix_of(head: u64, bytes: &[u8]) -> u64 {
+    let mut mix = head;
+    for byte in bytes.iter().skip(8) {
+        mix = spread(mix ^ u64::from(*byte));
+    }
+    spread(spread(mix ^ bytes.len() as u64))
+}
+
+/// A product whose upper half is put over the lower one.
+fn spread(number: u64) -> u64 {
+    let product = number.wrapping_mul(SPREAD);
+    product ^ (product >> 32)
 }
 
 /// The order of two keys with these heads. Only where those are the same are the bytes themselves read.

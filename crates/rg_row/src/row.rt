@@ -107,7 +107,7 @@ fn read_values(alloc: Global, fields: &[Field], texts: Texts<'_>) -> Result<Valu
     ensures ok { IfOk result (λ values. values_of 1 fields.now (left texts.entry) ≡ Ok values) }
     ensures err { IfErr result (λ fault. (values_of 1 fields.now (left texts.entry) ≡ Err fault) ⊎ (fault ≡ OutOfMemory)) }
 {
-    let mut values = Values::new(alloc);
+    let mut values = Values::with_capacity(alloc, fields.len())?;
     let mut texts = texts;
     let mut column: u32 = 0;
     for field in fields {

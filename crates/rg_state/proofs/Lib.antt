@@ -15,3 +15,4 @@ pub mod ReadBack
 mod Sizes
 pub mod Fitting
 pub mod Settled
+pub mod Spared

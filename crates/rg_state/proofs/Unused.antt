@@ -108,6 +108,17 @@ free_written free room rows slot r are within was some =
       few = omega (arith, are.few, long);
     }
 
+-- none is kept in a slot, before and after
+pub free_spared : (free : List ℕ) (room : ℕ) (rows : List KeyRows) (slot : ℕ) (r : KeyRows) → AreFree free room rows → slot < length rows → count_at rows slot ≡ 0 → length r.kept.items ≡ 0 → AreFree free room (set rows slot r)
+free_spared free room rows slot r are within none empty =
+    let same : unused_at rows slot ≡ one_at (length r.kept.items) 0 = unused_empty rows slot within none ∙ sym (one_none (length r.kept.items) empty) in
+    record {
+      each = λ other. are.each other ∙ sym (written_at rows slot other r within same (slot == other) refl);
+      count = omega (arith, are.count, count_set rows slot r within, same);
+      roomy = omega (arith, are.roomy, length-set rows slot r);
+      few = omega (arith, are.few, length-set rows slot r);
+    }
+
 -- a slot is emptied, and noted
 
 emptied_at : (free : List ℕ) (room : ℕ) (rows : List KeyRows) (slot other : ℕ) (r : KeyRows) → AreFree free room rows → slot < length rows → 0 < count_at rows slot → length r.kept.items ≡ 0 → (b : Bool) → (slot == other) ≡ b → times (free ++ slot ∷ []) other ≡ unused_at (set rows slot r) other

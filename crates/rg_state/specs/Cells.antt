@@ -71,10 +71,6 @@ pub record AreNamed (map : BTreeMap (List ℕ) ℕ) (keys : List (List ℕ)) (ro
   pub back : (slot : ℕ) → 0 < count_at rows slot → slot_in map (key_at keys slot) ≡ Some slot
   pub roomy : length rows ≤ length keys
 
--- the remembered slot is the key's
-abbrev pub IsRemembered : BTreeMap (List ℕ) ℕ → List ℕ → Option ℕ → Type 0
-IsRemembered map key found = (slot : ℕ) → found ≡ Some slot → slot_in map key ≡ Some slot
-
 -- no row of a node from this number on was seen since the mark
 abbrev pub AreBelow : ℕ → BTreeMap (List ℕ) ℕ → List KeyRows → Type 0
 AreBelow nodes map rows = (node : ℕ) (key : List ℕ) → nodes ≤ node → seen_in map rows node key ≡ unseen

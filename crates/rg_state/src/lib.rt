@@ -3,6 +3,7 @@
 
 mod ahead;
 mod decode;
+mod guesses;
 mod key_rows;
 mod law;
 mod mem_table;

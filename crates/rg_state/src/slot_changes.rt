@@ -9,7 +9,6 @@ ghost use Rattle.rg_state.specs.States.{held_of};
 ghost use Rattle.rg_state.specs.SlotSteps.{SlotsGet, SlotsStep};
 ghost use Rattle.rg_state.specs.Takes.{Takes};
 
-use crate::key_rows::KeyRows;
 use crate::one::Refusal;
 use crate::own::{blank_answer, first_state, own_answer};
 use crate::slots::{Slots, push_within};
@@ -80,7 +79,6 @@ impl Slots {
             return Ok(());
         }
         self.map.remove(key);
-        self.recent.slot = None;
         push_within(&mut self.free, slot);
         Ok(())
     }
@@ -116,7 +114,7 @@ impl Slots {
         ensures others { OthersSeen node key (seen_in self.old.map self.old.rows.items) (seen_in self.new.map self.new.rows.items) }
         ensures err { OnErr result (SameSeen (seen_in self.old.map self.old.rows.items) (seen_in self.new.map self.new.rows.items)) }
     {
-        let mut rows = KeyRows::new(alloc);
+        let mut rows = self.spare_rows(alloc);
         rows.push(node, state)?;
         self.open(alloc, key, rows)
     }

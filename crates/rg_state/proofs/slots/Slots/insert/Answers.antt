@@ -41,7 +41,6 @@ invariant_of-self c =
     record {
       bound = bound_written self.map self.rows.items slot c.insert.new.self self.bound within some;
       few = self.few;
-      remembered = self.remembered;
       unused = free_written _ _ self.rows.items slot c.insert.new.self self.unused within filled some;
       named = named_written self.map self.keys.items self.rows.items slot c.insert.new.self self.named filled;
       flagged = flagged_written self.touched.flags.items c.touch.new.self.flags.items self.rows.items slot true c.insert.new.self self.flagged c.touch.ensures;

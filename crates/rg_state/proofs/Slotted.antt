@@ -217,8 +217,8 @@ bound_opened old new rows key slot r bound ordered updates within free some shor
   short = λ k other found. short_opened old rows key slot bound short k other (origin old new key slot updates k other found);
 }
 
-pub remembered_opened : (old new : Map) (key k : List ℕ) (slot other : ℕ) → Updates (slice_cmp nat_cmp) old new key (Some slot) → slot_in old key ≡ None → slot_in old k ≡ Some other → slot_in new k ≡ Some other
-remembered_opened old new key k slot other updates none there =
+pub stays_opened : (old new : Map) (key k : List ℕ) (slot other : ℕ) → Updates (slice_cmp nat_cmp) old new key (Some slot) → slot_in old key ≡ None → slot_in old k ≡ Some other → slot_in new k ≡ Some other
+stays_opened old new key k slot other updates none there =
     stays_for old new key slot updates k (λ e. (let no : None ≡ Some other = sym none ∙ ap (slot_in old) (sym e) ∙ there in cc)) ∙ there
 
 same_rows : (rows new : List KeyRows) (n : ℕ) → ((slot node : ℕ) → row_at new slot node ≡ row_at rows slot node) → (at : Option ℕ) → row_by new at n ≡ row_by rows at n

@@ -1,6 +1,8 @@
 use crate::key_rows::KeyRows;
+use crate::sheets::Wanted;
 use crate::slots::Slots;
 use crate::state::AggState;
+use crate::writing::is_passed_over;
 use rg_agg::Aggregate;
 use rg_group::Key;
 use std::alloc::Global;
@@ -14,6 +16,7 @@ const TOGETHER: usize = 64;
 /// the time of one.
 #[derive(Drop)]
 pub(crate) struct Ahead<'a> {
+    wanted: Wanted,
     slots: &'a Slots,
     keys: Iter<'a, Key, u32>,
     /// The slots of the keys that are looked at together.
@@ -26,8 +29,9 @@ pub(crate) struct Ahead<'a> {
 
 impl<'a> Ahead<'a> {
     /// Before the turn of the first key.
-    pub(crate) fn new(alloc: Global, slots: &'a Slots) -> Ahead<'a> {
+    pub(crate) fn new(alloc: Global, wanted: Wanted, slots: &'a Slots) -> Ahead<'a> {
         Ahead {
+            wanted,
             slots,
             keys: slots.map.iter(),
             near: Vec::new(alloc),
@@ -46,21 +50,27 @@ impl<'a> Ahead<'a> {
         self.left = self.left.saturating_sub(1);
     }
 
-    /// Takes the slots of the next keys. Where memory runs out they are fewer.
+    /// Takes the slots of the next keys.
     fn look_at_keys(&mut self) {
         self.near.clear();
         for _ in 0..TOGETHER {
             match self.keys.next() {
                 None => return,
-                Some((key, slot)) => {
-                    let front = key.as_slice().first().copied().unwrap_or(0);
-                    let count = count_in(self.slots, *slot);
-                    self.seen = self.seen.wrapping_add(front as u64);
-                    self.seen = self.seen.wrapping_add(count as u64);
-                    let _ = self.near.push(*slot);
-                }
+                Some((key, slot)) => self.look_at_key(key, *slot),
             }
         }
+    }
+
+    /// Takes the slot of a key, where a row in it may be wanted. Where memory runs out it isn't taken.
+    fn look_at_key(&mut self, key: &Key, slot: u32) {
+        if is_passed_over(self.wanted, slot, self.slots) {
+            return;
+        }
+        let front = key.as_slice().first().copied().unwrap_or(0);
+        let count = count_in(self.slots, slot);
+        self.seen = self.seen.wrapping_add(front as u64);
+        self.seen = self.seen.wrapping_add(count as u64);
+        let _ = self.near.push(slot);
     }
 
     /// Looks at the rows in these slots.

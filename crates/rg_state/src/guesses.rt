@@ -3,10 +3,13 @@ use std::alloc::Global;
 use std::mem;
 
 /// How many guesses stand in a bucket.
-const BUCKET: usize = 8;
+pub(crate) const BUCKET: usize = 8;
 
 /// How many guesses there are at first. It is a power of two.
 const FIRST: usize = 1024;
+
+/// The slots below this number are guessed. Those above it are found in the map alone.
+const SLOTS: u32 = 1 << 24;
 
 /// Guesses at the slots of keys, so that most keys are found without a walk through the map, which waits
 /// for memory at each of its levels. A guess may be wrong: who takes it compares the slot's key.
@@ -14,9 +17,9 @@ const FIRST: usize = 1024;
 pub(crate) struct Guesses {
     /// The slot that was found last.
     pub(crate) last: u32,
-    /// Guesses in buckets, the newest first in each: the upper half of a key's mix, and its slot. There are
-    /// a power of two of them, or none.
-    buckets: Vec<u64>,
+    /// Guesses in buckets, the newest first in each: the upper eight bits of a key's mix, and its slot in
+    /// 24 bits. There are a power of two of them, or none.
+    buckets: Vec<u32>,
 }
 
 impl Guesses {
@@ -28,13 +31,11 @@ impl Guesses {
         }
     }
 
-    /// A slot that may be that of the key with this mix.
-    pub(crate) fn guess(&self, mix: u64) -> Option<u32> {
-        let bucket = self.buckets.get(self.start(mix)..)?;
-        for guess in bucket.iter().take(BUCKET) {
-            if *guess >> 32 == mix >> 32 {
-                return Some((*guess & 0xFFFF_FFFF) as u32);
-            }
+    /// The slot in this place of the bucket of a mix, where it may be that of the key with this mix.
+    pub(crate) fn guess(&self, mix: u64, place: usize) -> Option<u32> {
+        let guess = *self.buckets.get(self.start(mix).saturating_add(place))?;
+        if guess / SLOTS == mark(mix) {
+            return Some(guess % SLOTS);
         }
         None
     }
@@ -42,7 +43,10 @@ impl Guesses {
     /// Guesses this slot for the key with this mix from now on. The oldest guess of a full bucket goes.
     pub(crate) fn note(&mut self, mix: u64, slot: u32) {
         self.last = slot;
-        let mut guess = mix & !0xFFFF_FFFF | u64::from(slot);
+        if slot >= SLOTS {
+            return;
+        }
+        let mut guess = mark(mix).wrapping_mul(SLOTS) | slot;
         let start = self.start(mix);
         for place in 0..BUCKET {
             match self.buckets.get_mut(start.saturating_add(place)) {
@@ -58,7 +62,7 @@ impl Guesses {
             return Ok(());
         }
         let count = self.buckets.len().saturating_mul(2).max(FIRST);
-        self.buckets = vec![in alloc; 0u64; count]?;
+        self.buckets = vec![in alloc; 0u32; count]?;
         Ok(())
     }
 
@@ -67,4 +71,9 @@ impl Guesses {
         let last = self.buckets.len().saturating_sub(1);
         mix as usize & last & !(BUCKET - 1)
     }
+}
+
+/// What a guess keeps of a mix: the upper eight bits, which don't choose its bucket.
+fn mark(mix: u64) -> u32 {
+    (mix >> 56) as u32
 }

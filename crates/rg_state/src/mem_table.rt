@@ -8,7 +8,7 @@ ghost use Rattle.rg_state.specs.Rows.{RowStands, Changed, Counts, Suits, Unfit, 
 ghost use Rattle.rg_state.specs.Takes.{Takes};
 
 use crate::one::Refusal;
-use crate::sheets::Wanted;
+use crate::sheets::{Sheet, Wanted};
 use crate::slots::Slots;
 use crate::state::AggState;
 use crate::table::{Change, Table, TableFault};
@@ -27,6 +27,8 @@ pub struct MemTable {
     slots: Slots,
     /// One above the greatest node that was named in a change or put in.
     nodes: u64,
+    /// The sheets that rows were written on last, for their room.
+    used: Vec<Sheet>,
     /// What was made of the looks at the rows that were written last. Nothing asks for it.
     seen: u64,
     ghost few: { nodes ≤ 2 ^ 32 },
@@ -46,6 +48,7 @@ impl MemTable {
             alloc,
             slots: Slots::new(alloc),
             nodes: 0,
+            used: Vec::new(alloc),
             seen: 0,
         }
     }
@@ -154,7 +157,14 @@ impl Table for MemTable {
 
     fn write_rows(&mut self, out: &mut Vec<u8>) -> Result<(), TableFault> {
         let start = out.len();
-        match write_counted(self.alloc, Wanted::Rows, self.nodes, &self.slots, out) {
+        match write_counted(
+            self.alloc,
+            Wanted::Rows,
+            self.nodes,
+            &self.slots,
+            &mut self.used,
+            out,
+        ) {
             Ok(seen) => {
                 self.seen = seen;
                 Ok(())
@@ -172,7 +182,14 @@ impl Table for MemTable {
 
     fn write_changes(&mut self, out: &mut Vec<u8>) -> Result<(), TableFault> {
         let start = out.len();
-        match write_counted(self.alloc, Wanted::Changes, self.nodes, &self.slots, out) {
+        match write_counted(
+            self.alloc,
+            Wanted::Changes,
+            self.nodes,
+            &self.slots,
+            &mut self.used,
+            out,
+        ) {
             Ok(seen) => {
                 self.seen = seen;
                 Ok(())

@@ -18,16 +18,34 @@ pub(crate) struct Sheet {
     pub(crate) rows: u64,
 }
 
-/// So many sheets with nothing on them.
-pub(crate) fn blank_sheets(alloc: Global, nodes: u64) -> Result<Vec<Sheet>, Memory>
+/// So many sheets with nothing on them, in the room of used ones where there are some.
+pub(crate) fn blank_sheets(
+    alloc: Global,
+    nodes: u64,
+    used: &mut Vec<Sheet>,
+) -> Result<Vec<Sheet>, Memory>
     ensures { IfOk result (λ sheets. AreBlank nodes sheets.items) }
 {
     let mut sheets = Vec::new(alloc);
     for _ in 0..nodes {
-        let bytes = Vec::new(alloc);
+        let bytes = room_of_last(alloc, used);
         sheets.push(Sheet { bytes, rows: 0 })?;
     }
     Ok(sheets)
+}
+
+/// The room of the last used sheet, with no bytes in it.
+fn room_of_last(alloc: Global, used: &mut Vec<Sheet>) -> Vec<u8>
+    ensures { result.items ≡ [] }
+{
+    match used.pop() {
+        None => Vec::new(alloc),
+        Some(sheet) => {
+            let Sheet { mut bytes, .. } = sheet;
+            bytes.clear();
+            bytes
+        }
+    }
 }
 
 /// Which rows are written.

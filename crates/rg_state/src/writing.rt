@@ -15,13 +15,14 @@ use std::alloc::Global;
 const MANY: usize = 8;
 
 /// Writes the number of the rows that are wanted in 8 bytes at the end, and those of the nodes below this
-/// number, which are all. Where memory runs out a prefix of them may stand there. Answers what was made of
-/// the looks at them.
+/// number, which are all. Where memory runs out a prefix of them may stand there. The sheets are `used`
+/// then, whose room the next ones take. Answers what was made of the looks at the rows.
 pub(crate) fn write_counted(
     alloc: Global,
     wanted: Wanted,
     nodes: u64,
     slots: &Slots,
+    used: &mut Vec<Sheet>,
     out: &mut Vec<u8>,
 ) -> Result<u64, Memory>
     requires few { nodes ≤ 2 ^ 32 }
@@ -29,11 +30,13 @@ pub(crate) fn write_counted(
     ensures ok { OnOk result (WritesSpans wanted nodes slots.now.map slots.now.rows.items out.old.items out.new.items) }
     ensures err { OnErr result (Keeps out.old.items out.new.items) }
 {
-    let filled = fill(alloc, wanted, nodes, slots)?;
+    let filled = fill(alloc, wanted, nodes, slots, used)?;
     out.reserve(count_bytes(&filled.sheets).saturating_add(8))?;
     put_u64(out, count_rows(&filled.sheets))?;
     put_sheets(&filled.sheets, out)?;
-    Ok(filled.seen)
+    let Filled { sheets, seen } = filled;
+    *used = sheets;
+    Ok(seen)
 }
 
 /// The rows that are wanted on their nodes' sheets, and what was made of the looks at them.
@@ -44,26 +47,37 @@ struct Filled {
 }
 
 /// A sheet for each node below this number, with all its rows that are wanted.
-fn fill(alloc: Global, wanted: Wanted, nodes: u64, slots: &Slots) -> Result<Filled, Memory>
+fn fill(
+    alloc: Global,
+    wanted: Wanted,
+    nodes: u64,
+    slots: &Slots,
+    used: &mut Vec<Sheet>,
+) -> Result<Filled, Memory>
     requires { AreBelow nodes slots.now.map slots.now.rows.items }
     ensures { IfOk result (λ filled. AreWritten wanted nodes slots.now.map slots.now.rows.items filled.sheets.items) }
 {
     match wanted {
-        Wanted::Rows => fill_sheets(alloc, Wanted::Rows, nodes, slots),
-        Wanted::Changes => fill_changes(alloc, nodes, slots),
+        Wanted::Rows => fill_sheets(alloc, Wanted::Rows, nodes, slots, used),
+        Wanted::Changes => fill_changes(alloc, nodes, slots, used),
     }
 }
 
 /// The same of the rows that changed. Where few slots were touched it goes through these alone.
-fn fill_changes(alloc: Global, nodes: u64, slots: &Slots) -> Result<Filled, Memory>
+fn fill_changes(
+    alloc: Global,
+    nodes: u64,
+    slots: &Slots,
+    used: &mut Vec<Sheet>,
+) -> Result<Filled, Memory>
     requires { AreBelow nodes slots.now.map slots.now.rows.items }
     ensures { IfOk result (λ filled. AreWritten Wanted.Changes nodes slots.now.map slots.now.rows.items filled.sheets.items) }
 {
     if !are_few(slots.touched.slots.len(), slots.map.len()) {
-        return fill_sheets(alloc, Wanted::Changes, nodes, slots);
+        return fill_sheets(alloc, Wanted::Changes, nodes, slots, used);
     }
     let changed = slots.changed(alloc)?;
-    fill_listed(alloc, nodes, slots, &changed)
+    fill_listed(alloc, nodes, slots, &changed, used)
 }
 
 /// Whether few slots were touched, by the number of keys.
@@ -77,13 +91,19 @@ fn are_few(touched: usize, keys: usize) -> bool
 }
 
 /// The same, where the rows that changed are in these slots, their keys rising.
-fn fill_listed(alloc: Global, nodes: u64, slots: &Slots, changed: &[u32]) -> Result<Filled, Memory>
+fn fill_listed(
+    alloc: Global,
+    nodes: u64,
+    slots: &Slots,
+    changed: &[u32],
+    used: &mut Vec<Sheet>,
+) -> Result<Filled, Memory>
     requires below { AreBelow nodes slots.now.map slots.now.rows.items }
     requires order { AreInOrder Wanted.Changes slots.now.map slots.now.rows.items (pairs_of slots.now.keys.items changed.now) }
     requires few { length changed.now < 2 ^ 32 }
     ensures { IfOk result (λ filled. AreWritten Wanted.Changes nodes slots.now.map slots.now.rows.items filled.sheets.items) }
 {
-    let mut sheets = blank_sheets(alloc, nodes)?;
+    let mut sheets = blank_sheets(alloc, nodes, used)?;
     for slot in changed {
         let key = &slots.keys[*slot as usize];
         put_slot(Wanted::Changes, key, *slot, slots, &mut sheets)?;
@@ -92,16 +112,20 @@ fn fill_listed(alloc: Global, nodes: u64, slots: &Slots, changed: &[u32]) -> Res
 }
 
 /// The same by a walk over all keys.
-fn fill_sheets(alloc: Global, wanted: Wanted, nodes: u64, slots: &Slots) -> Result<Filled, Memory>
+fn fill_sheets(
+    alloc: Global,
+    wanted: Wanted,
+    nodes: u64,
+    slots: &Slots,
+    used: &mut Vec<Sheet>,
+) -> Result<Filled, Memory>
     requires { AreBelow nodes slots.now.map slots.now.rows.items }
     ensures { IfOk result (λ filled. AreWritten wanted nodes slots.now.map slots.now.rows.items filled.sheets.items) }
 {
-    let mut sheets = blank_sheets(alloc, nodes)?;
-    let mut ahead = Ahead::new(alloc, slots);
+    let mut sheets = blank_sheets(alloc, nodes, used)?;
+    let mut ahead = Ahead::new(alloc, wanted, slots);
     for (key, slot) in &slots.map {
-        if wanted == Wanted::Rows {
-            ahead.turn();
-        }
+        ahead.turn();
         put_slot(wanted, key, *slot, slots, &mut sheets)?;
     }
     Ok(Filled {
@@ -131,7 +155,7 @@ fn put_slot(
 }
 
 /// Whether no row in a slot is wanted, by what is known without a look at them.
-fn is_passed_over(wanted: Wanted, slot: u32, slots: &Slots) -> bool
+pub(crate) fn is_passed_over(wanted: Wanted, slot: u32, slots: &Slots) -> bool
     ensures { IsTrue result → (node : ℕ) → is_wanted wanted (row_at slots.now.rows.items slot node) ≡ false }
 {
     match wanted {

@@ -23,6 +23,8 @@ pub(crate) struct Ahead<'a> {
     near: Vec<u32>,
     /// How many keys were looked at whose turn is still to come.
     left: usize,
+    /// How many slots of a list were looked at.
+    passed: usize,
     /// Made of all that was looked at, so that no look is left out of the program.
     pub(crate) seen: u64,
 }
@@ -36,6 +38,7 @@ impl<'a> Ahead<'a> {
             keys: slots.map.iter(),
             near: Vec::new(alloc),
             left: 0,
+            passed: 0,
             seen: 0,
         }
     }
@@ -48,6 +51,28 @@ impl<'a> Ahead<'a> {
             self.left = TOGETHER;
         }
         self.left = self.left.saturating_sub(1);
+    }
+
+    /// The turn of a slot of this list comes, which is the same list each time.
+    pub(crate) fn turn_in(&mut self, list: &[u32]) {
+        if self.left == 0 {
+            self.look_at_slots(list);
+            self.look_at_rows();
+            self.left = TOGETHER;
+        }
+        self.left = self.left.saturating_sub(1);
+    }
+
+    /// Takes the next slots of a list.
+    fn look_at_slots(&mut self, list: &[u32]) {
+        self.near.clear();
+        for slot in list.iter().skip(self.passed).take(TOGETHER) {
+            match self.slots.keys.get(*slot as usize) {
+                None => {}
+                Some(key) => self.look_at_key(key, *slot),
+            }
+        }
+        self.passed = self.passed.saturating_add(TOGETHER);
     }
 
     /// Takes the slots of the next keys.

@@ -104,11 +104,16 @@ fn fill_listed(
     ensures { IfOk result (λ filled. AreWritten Wanted.Changes nodes slots.now.map slots.now.rows.items filled.sheets.items) }
 {
     let mut sheets = blank_sheets(alloc, nodes, used)?;
+    let mut ahead = Ahead::new(alloc, Wanted::Changes, slots);
     for slot in changed {
+        ahead.turn_in(changed);
         let key = &slots.keys[*slot as usize];
         put_slot(Wanted::Changes, key, *slot, slots, &mut sheets)?;
     }
-    Ok(Filled { sheets, seen: 0 })
+    Ok(Filled {
+        sheets,
+        seen: ahead.seen,
+    })
 }
 
 /// The same by a walk over all keys.

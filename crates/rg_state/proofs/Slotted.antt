@@ -304,9 +304,9 @@ pub few_opened : (old new : Map) (was : Option ℕ) → length new.entries ≡ l
 few_opened old new None count few = omega (arith, count, few)
 few_opened old new (Some slot) count few = omega (arith, count, few)
 
-pub few_lost : (old new : Map) (was : Option ℕ) → length new.entries + (if is_some was then 1 else 0) ≡ length old.entries → length old.entries < 2 ^ 32 → length new.entries < 2 ^ 32
+pub few_lost : (old new : Map) (was : Option (List ℕ × ℕ)) → length new.entries + (if is_some was then 1 else 0) ≡ length old.entries → length old.entries < 2 ^ 32 → length new.entries < 2 ^ 32
 few_lost old new None count few = omega (arith, count, few)
-few_lost old new (Some slot) count few = omega (arith, count, few)
+few_lost old new (Some gone) count few = omega (arith, count, few)
 
 pub count_past : (rows : List KeyRows) (slot : ℕ) → length rows ≤ slot → count_at rows slot ≡ 0
 count_past [] slot past = refl

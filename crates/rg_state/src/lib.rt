@@ -12,6 +12,7 @@ mod own;
 mod sheets;
 mod slot_changes;
 mod slots;
+mod spare_key;
 mod state;
 mod table;
 mod touched;

@@ -45,7 +45,7 @@ impl Slots {
             Ok(state) => state,
             Err(_) => return Err(Refusal::Memory),
         };
-        let copy = match key.copy(alloc) {
+        let copy = match self.spare.copy(alloc, key) {
             Ok(copy) => copy,
             Err(_) => return Err(Refusal::Memory),
         };
@@ -78,7 +78,8 @@ impl Slots {
         if !rows.is_empty() {
             return Ok(());
         }
-        self.map.remove(key);
+        let gone = self.map.remove_entry(key);
+        self.spare.keep(gone);
         push_within(&mut self.free, slot);
         Ok(())
     }

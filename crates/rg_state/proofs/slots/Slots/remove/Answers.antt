@@ -87,10 +87,10 @@ invariant_of-self-2 c =
     let within : slot < length self.rows.items = within_of self.rows.items slot filled in
     let none : length c.take.new.self.kept.items ≡ 0 = grind (arith, nat_tests) in
     record {
-      bound = bound_lost self.map c.remove.new.self self.rows.items c.args.key.now slot c.take.new.self self.bound found c.remove.ensures.ordered c.remove.ensures.updates;
-      few = few_lost self.map c.remove.new.self c.remove.result c.remove.ensures.len self.few;
+      bound = bound_lost self.map c.remove_entry-gone.new.self self.rows.items c.args.key.now slot c.take.new.self self.bound found c.remove_entry-gone.ensures.ordered c.remove_entry-gone.ensures.updates;
+      few = few_lost self.map c.remove_entry-gone.new.self c.remove_entry-gone.result c.remove_entry-gone.ensures.len self.few;
       unused = free_put self.free.items c.push_within.new.list.items (vec_capacity self.free) (vec_capacity c.push_within.new.list) self.rows.items slot c.take.new.self self.unused within filled none c.push_within.ensures.items c.push_within.ensures.capacity;
-      named = named_lost self.map c.remove.new.self self.keys.items self.rows.items c.args.key.now slot c.take.new.self self.named found c.remove.ensures.updates within none;
+      named = named_lost self.map c.remove_entry-gone.new.self self.keys.items self.rows.items c.args.key.now slot c.take.new.self self.named found c.remove_entry-gone.ensures.updates within none;
       flagged = flagged_written self.touched.flags.items c.touch.new.self.flags.items self.rows.items slot true c.take.new.self self.flagged c.touch.ensures;
       quiet = quiet_written self.touched.flags.items c.touch.new.self.flags.items self.rows.items slot c.take.new.self self.quiet (omega (arith, within, self.flagged)) c.touch.ensures;
     }
@@ -103,4 +103,4 @@ returns c =
     let same = ap (λ rows. rows.items) c.in-Some.ensures.rows in
     let none : length c.take.new.self.kept.items ≡ 0 = grind (arith, nat_tests) in
     step_lost self.map c.args.self.now.map self.rows.items c.args.self.now.rows.items c.args.key.now slot c.args.node c.index_mut-rows.result.now c.take.new.self c.in-Some.ensures.map same self.bound found c.index_mut-rows.ensures.value
-    c.args.func Remove c.args.value.now c.remove.new.self c.remove.ensures.updates none c.in-Ok.ensures
+    c.args.func Remove c.args.value.now c.remove_entry-gone.new.self c.remove_entry-gone.ensures.updates none c.in-Ok.ensures

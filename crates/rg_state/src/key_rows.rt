@@ -203,6 +203,7 @@ impl KeyRows {
     }
 
     /// Begins the row of a node of which nothing is kept, with one value.
+    #[inline(always)]
     fn begin(&mut self, alloc: Global, node: u32, func: Func, value: &Value) -> Result<(), Refusal>
         requires takes { Takes func value.now }
         requires free { stands_in self.old.kept.items node ≡ false }
@@ -258,6 +259,7 @@ impl KeyRows {
     }
 
     /// Puts a row of a node of which nothing is kept.
+    #[inline(always)]
     pub(crate) fn push(&mut self, node: u32, state: AggState) -> Result<(), Memory>
         requires free { stands_in self.old.kept.items node ≡ false }
         requires some { 0 < size_in (held_of state) }

@@ -14,6 +14,7 @@ use rg_metric::{Answer, Func};
 use std::alloc::Global;
 
 /// The state of one value. It is the first one of a new row.
+#[inline(always)]
 pub(crate) fn first_state(alloc: Global, func: Func, value: &Value) -> Result<AggState, Memory>
     requires { Takes func value.now }
     ensures changed { IfOk result (λ state. Changed func Change.Add value.now None (Some (held_of state))) }

@@ -1,5 +1,5 @@
 -- What the cache's steps do to the list of its places.
-use Rattle.std.proofs.Common.{◌≡◌, ◌⊎◌, ◌≤◌, ◌<◌, ◌-◌, ◌+◌, ℕ, zero, suc, true, false, not, cond, List, [], ◌∷◌, ◌++◌, length, take, reverse, filter, Option, None, Some, Result, Ok, Err, OnOk, OnErr, nat_eq, is_some, refl, sym, ap, subst, append_assoc, ◌∙◌, inl, inr, arith}
+use Rattle.std.proofs.Common.{◌≡◌, ◌⊎◌, ◌≤◌, ◌<◌, ◌-◌, ◌+◌, ℕ, zero, suc, true, false, not, cond, List, [], ◌∷◌, ◌++◌, length, take, reverse, filter, slice_get, Option, None, Some, Result, Ok, Err, OnOk, OnErr, nat_eq, is_some, refl, sym, ap, subst, append_assoc, ◌∙◌, inl, inr, arith}
 use Rattle.std.proofs.lemmas.Bool.{cases_Bool, eqb-true, eq-eqb}
 use Rattle.std.proofs.lemmas.Cmp.{nat_eq_equiv}
 use Rattle.std.proofs.lemmas.List.{reverse-append, reverse-reverse, take_all, append-nil, length-take}
@@ -249,3 +249,19 @@ touched_further cap first (n ∷ more) =
 -- the places of a valid cache stay without a touch
 pub untouched : {T : Type 0} (c : LruCache ℕ T) → IsValid nat_eq c → least_recently_used c.cap (reverse (keys_of c.entries) ++ []) ≡ keys_of c.entries
 untouched c v = none_touched c.cap (keys_of c.entries) v.0 (omega (arith, length-keys_of c.entries, v.1))
+
+-- the place in the first position is held, and a touch of it moves nothing
+first_by : {T : Type 0} (p : ℕ) (es : List (ℕ × T)) → slice_get (keys_of es) 0 ≡ Some p → (true ≡ is_some (lookup (nat_eq p) es)) × (promoted (nat_eq p) es ≡ es)
+first_by p [] h = absurd cc
+first_by p (e ∷ es) h = let same : p ≡ e.0 = cc in rw (eq-eqb p e.0 same) (refl, refl)
+
+pub first_held : {T : Type 0} (c : LruCache ℕ T) (p : ℕ) → slice_get (keys_of c.entries) 0 ≡ Some p → true ≡ is_some (lookup (nat_eq p) c.entries)
+first_held c p h = (first_by p c.entries h).0
+
+pub first_touched : {T : Type 0} (c : LruCache ℕ T) (p : ℕ) → IsValid nat_eq c → slice_get (keys_of c.entries) 0 ≡ Some p → keys_of c.entries ≡ least_recently_used c.cap (reverse (keys_of c.entries) ++ cond (is_some (lookup (nat_eq p) c.entries)) (p ∷ []) [])
+first_touched c p v h = ap keys_of (sym (first_by p c.entries h).1) ∙ (touch_step c p v).places_are
+
+-- its item is the one in the first position
+pub first_item : {T : Type 0} (es : List (ℕ × T)) (e : ℕ × T) (p : ℕ) → Some e ≡ slice_get es 0 → e.0 ≡ p → Some e.1 ≡ lookup (nat_eq p) es
+first_item [] e p h key = absurd cc
+first_item (f ∷ es) e p h key = let same : e ≡ f = cc in let found : p ≡ f.0 = sym key ∙ ap (λ g. g.0) same in rw (eq-eqb p f.0 found) (ap (λ g. Some g.1) same)

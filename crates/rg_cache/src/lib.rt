@@ -5,7 +5,7 @@
 //! still what stands there, is the caller's to know.
 #![tactic(auto)]
 
-ghost use Rattle.std.specs.Prelude.{◌≡◌, ◌⊎◌, ◌≤◌, ◌++◌, [], ◌∷◌, reverse, length, option_copied, IfOk, IfErr, OnOk, OnErr, Some, None, ℕ, List, false};
+ghost use Rattle.std.specs.Prelude.{◌≡◌, ◌⊎◌, ◌≤◌, ◌++◌, ◌↔◌, [], ◌∷◌, reverse, length, slice_get, option_copied, IsTrue, IfOk, IfErr, OnOk, OnErr, Some, None, ℕ, List, false};
 ghost use Rattle.std.specs.Borrow.{sem};
 ghost use Rattle.rg_cache.specs.Cache.{least_recently_used, cache, places, item_at, holds_place, touches, touched};
 
@@ -61,7 +61,8 @@ impl<T> ChunkCache<T> {
         self.get(place)
     }
 
-    /// Touches a place without a look at its item, and says whether it was held. Takes no memory.
+    /// Touches a place without a look at its item, and says whether it was held. Takes no memory, and no hash where the
+    /// place is in the first position already.
     pub fn promote(&mut self, place: u64) -> bool
         ensures held { result ≡ holds_place place self.old }
         ensures places { places self.new ≡ least_recently_used self.old.cap (touches self.old (touched place self.old)) }
@@ -69,6 +70,9 @@ impl<T> ChunkCache<T> {
         ensures cap { self.new.cap ≡ self.old.cap }
         ensures missed { result ≡ false → self.new ≡ self.old }
     {
+        if self.is_first(place) {
+            return true;
+        }
         self.chunks.promote(&place)
     }
 
@@ -98,11 +102,15 @@ impl<T> ChunkCache<T> {
         }
     }
 
-    /// The item at a place, where it is held. It moves nothing.
+    /// The item at a place, where it is held. It moves nothing, and takes no hash where the place is in the first
+    /// position.
     pub fn get(&self, place: u64) -> Option<&T>
         ensures { option_copied result ≡ item_at place self.now }
     {
-        self.chunks.peek(&place)
+        match self.chunks.peek_mru() {
+            Some((first, item)) if *first == place => Some(item),
+            _ => self.chunks.peek(&place),
+        }
     }
 
     /// Whether a place is held. It moves nothing.
@@ -130,6 +138,16 @@ impl<T> ChunkCache<T> {
         ensures few { result ≤ 1024 }
     {
         self.chunks.cap().get() as u32
+    }
+
+    /// Whether a place is in the first position. It takes no hash.
+    fn is_first(&self, place: u64) -> bool
+        ensures { IsTrue result ↔ (slice_get (places self.now) 0 ≡ Some place) }
+    {
+        match self.chunks.peek_mru() {
+            Some((first, _)) => *first == place,
+            None => false,
+        }
     }
 }
 

@@ -44,7 +44,10 @@ pub fn read_row(alloc: Global, schema: &Schema, offset: u64, line: &[u8]) -> Res
     }
 }
 
-// Reads a line that may hold a quote or a CR.
+// Reads a line that may hold a quote or a CR. The reader of `csv` takes kilobytes of the stack, which no other line is
+// to go through.
+#[cold]
+#[inline(never)]
 fn read_quoted(alloc: Global, fields: &[Field], offset: u64, line: &[u8]) -> Result<Event, RowFault>
     requires few { length fields.now ≤ 32 }
     requires one_line { list_any (λ byte. byte == 10) line.now ≡ false }

@@ -3,7 +3,7 @@ use std::alloc::Global;
 use std::mem;
 
 /// How many guesses stand in a bucket.
-pub(crate) const BUCKET: usize = 8;
+const BUCKET: usize = 8;
 
 /// How many guesses there are at first. It is a power of two.
 const FIRST: usize = 1024;
@@ -31,13 +31,13 @@ impl Guesses {
         }
     }
 
-    /// The slot in this place of the bucket of a mix, where it may be that of the key with this mix.
-    pub(crate) fn guess(&self, mix: u64, place: usize) -> Option<u32> {
-        let guess = *self.buckets.get(self.start(mix).saturating_add(place))?;
-        if guess / SLOTS == mark(mix) {
-            return Some(guess % SLOTS);
+    /// The guesses in the bucket of a mix.
+    pub(crate) fn bucket(&self, mix: u64) -> &[u32] {
+        let start = self.start(mix);
+        match self.buckets.get(start..start.saturating_add(BUCKET)) {
+            None => &[],
+            Some(bucket) => bucket,
         }
-        None
     }
 
     /// Guesses this slot for the key with this mix from now on. The oldest guess of a full bucket goes.
@@ -46,7 +46,7 @@ impl Guesses {
         if slot >= SLOTS {
             return;
         }
-        let mut guess = mark(mix).wrapping_mul(SLOTS) | slot;
+        let mut guess = upper_bits(mix).wrapping_mul(SLOTS) | slot;
         let start = self.start(mix);
         for place in 0..BUCKET {
             match self.buckets.get_mut(start.saturating_add(place)) {
@@ -73,7 +73,15 @@ impl Guesses {
     }
 }
 
+/// The slot of a guess, where it may be that of the key with this mix.
+pub(crate) fn slot_of(guess: u32, mix: u64) -> Option<u32> {
+    if guess / SLOTS == upper_bits(mix) {
+        return Some(guess % SLOTS);
+    }
+    None
+}
+
 /// What a guess keeps of a mix: the upper eight bits, which don't choose its bucket.
-fn mark(mix: u64) -> u32 {
+fn upper_bits(mix: u64) -> u32 {
     (mix >> 56) as u32
 }

@@ -62,8 +62,13 @@ bare_from fields field (byte ∷ rest) none =
     ]
 
 -- a line that holds no quote and no CR, is not empty and has no mark, has the texts between its commas
+pub fields_between : (line : List ℕ) → (length line == 0) ≡ false → is_marked line ≡ false → NoQuote line → list_any (λ byte. byte == 13) line ≡ false → fields_of line ≡ Some (between_commas line)
+fields_between line some unmarked quotes returns =
+    rw (some, returns, unmarked) (same_start [] [] line quotes ∙ bare_from [] [] line quotes ∙ ap (λ texts. Some texts) (join_none line))
+
+-- the same, where the test for either fails at each place
 pub bare_fields : (line : List ℕ) → (length line == 0) ≡ false → is_marked line ≡ false → FailsBelow (is_byte2 34 13) line (length line) → fields_of line ≡ Some (between_commas line)
 bare_fields line some unmarked fails =
-    let quotes : NoQuote line = none_passes (λ byte. byte == 34) line (λ k below quote. fails k below (or_left _ _ quote)) in
-    let returns : list_any (λ byte. byte == 13) line ≡ false = none_passes (λ byte. byte == 13) line (λ k below cr. fails k below (or_right _ _ cr)) in
-    rw (some, returns, unmarked) (same_start [] [] line quotes ∙ bare_from [] [] line quotes ∙ ap (λ texts. Some texts) (join_none line))
+    fields_between line some unmarked
+    (none_passes (λ byte. byte == 34) line (λ k below quote. fails k below (or_left _ _ quote)))
+    (none_passes (λ byte. byte == 13) line (λ k below cr. fails k below (or_right _ _ cr)))

@@ -5,5 +5,7 @@ pub mod Quoted
 pub mod Records
 pub mod Scans
 pub mod Values
+pub mod OnePass
+pub mod Together
 pub mod Fits
 pub mod Recorded

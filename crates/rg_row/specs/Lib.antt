@@ -3,3 +3,4 @@ pub mod Rows
 pub mod Modes
 pub mod Texts
 pub mod Records
+pub mod Plain

@@ -1,24 +1,21 @@
 ghost use Rattle.std.specs.Prelude.{◌≡◌, ◌⊎◌, ◌∷◌, ◌≤◌, ◌<◌, ◌^◌, ◌==◌, ℕ, List, [], length, Ok, Err, Some, false, IfOk, IfErr};
 ghost use Rattle.std.specs.List.{list_any};
-ghost use Rattle.rg_bytes.specs.Numbers.{whole_of};
 ghost use Rattle.rg_event.specs.Codec.{IsEventOf};
 ghost use Rattle.rg_row.specs.Fields.{IsRow, fields_of, is_marked};
 ghost use Rattle.rg_row.specs.Records.{csv_record};
-ghost use Rattle.rg_row.specs.Rows.{Agrees, row_of, event_of_fields, values_of, time_most};
+ghost use Rattle.rg_row.specs.Rows.{Agrees, row_of, event_of_fields, values_of};
 ghost use Rattle.rg_row.specs.Texts.{left};
 ghost use Rattle.rg_row.specs.declared.fault.RowFault.TheVariants.{Memory as OutOfMemory};
 
 use crate::fault::RowFault;
 use crate::line::starts_marked;
+use crate::plain::read_plain;
 use crate::quotes::{first_record, is_split};
 use crate::texts::Texts;
+use crate::time::read_time;
 use memchr::memchr2;
-use rg_bytes::read_whole;
 use rg_event::{Event, Field, Schema, Values, parse_value};
 use std::alloc::Global;
-
-/// The latest time of an event, in milliseconds.
-const LATEST_TIME: u64 = 1_000_000_000_000_000;
 
 /// Reads a cleaned line, which holds no LF, as the event of a row with this offset.
 ///
@@ -35,12 +32,26 @@ pub fn read_row(alloc: Global, schema: &Schema, offset: u64, line: &[u8]) -> Res
     ensures legal { IfOk result (λ event. offset < 2 ^ 62 → IsEventOf schema.now.fields event) }
     ensures placed { IfOk result (λ event. event.offset ≡ offset) }
 {
+    match read_plain(alloc, schema.fields(), offset, line) {
+        Some(event) => Ok(event),
+        None => read_any(alloc, schema.fields(), offset, line),
+    }
+}
+
+// Reads a line of any kind. Most lines are read by `read_plain`, which gives up where it meets a quote or a fault.
+#[cold]
+#[inline(never)]
+fn read_any(alloc: Global, fields: &[Field], offset: u64, line: &[u8]) -> Result<Event, RowFault>
+    requires few { length fields.now ≤ 32 }
+    requires one_line { list_any (λ byte. byte == 10) line.now ≡ false }
+    ensures { Agrees (row_of fields.now offset line.now) result }
+{
     if line.is_empty() || starts_marked(line) {
         return Err(RowFault::Row);
     }
     match memchr2(b'"', b'\r', line) {
-        None => read_event(alloc, schema.fields(), offset, Texts::Bare(line)),
-        Some(_) => read_quoted(alloc, schema.fields(), offset, line),
+        None => read_event(alloc, fields, offset, Texts::Bare(line)),
+        Some(_) => read_quoted(alloc, fields, offset, line),
     }
 }
 
@@ -92,15 +103,6 @@ fn read_event(
             values,
         }),
         Err(fault) => Err(fault),
-    }
-}
-
-fn read_time(text: &[u8]) -> Option<u64>
-    ensures { result ≡ time_most (whole_of text.now) }
-{
-    match read_whole(text) {
-        Some(time) if time <= LATEST_TIME => Some(time),
-        _ => None,
     }
 }
 

@@ -16,3 +16,4 @@ mod Sizes
 pub mod Fitting
 pub mod Settled
 pub mod Spared
+pub mod Opened

@@ -164,7 +164,7 @@ is_false false not = refl
 apart_false : (key other : List ℕ) → (other ≡ key → ⊥) → is_eq (slice_cmp nat_cmp key other) ≡ false
 apart_false key other apart = is_eq-slice_cmp key other ∙ is_false (bytes_eq key other) (λ e. apart (sym ((bytes_decides key other).0 e)))
 
-stays_for : (old new : Map) (key : List ℕ) (slot : ℕ) → Updates (slice_cmp nat_cmp) old new key (Some slot) → (k : List ℕ) → (k ≡ key → ⊥) → slot_in new k ≡ slot_in old k
+pub stays_for : (old new : Map) (key : List ℕ) (slot : ℕ) → Updates (slice_cmp nat_cmp) old new key (Some slot) → (k : List ℕ) → (k ≡ key → ⊥) → slot_in new k ≡ slot_in old k
 stays_for old new key slot updates k apart = updates.2 k (apart_false key k apart)
 
 pub not_equal : (key k : List ℕ) → bytes_eq key k ≡ false → k ≡ key → ⊥
@@ -314,18 +314,12 @@ count_past (r ∷ rows) zero past = absurd (omega arith)
 count_past (r ∷ rows) (suc slot) past = count_past rows slot (omega arith)
 
 -- a key that is put in with the row of one node
-others_put_by : (old new : Map) (rows more : List KeyRows) (kept : List Kept) (key : List ℕ) (node : ℕ) → slot_in old key ≡ None → ((n : ℕ) → seen_in new more n key ≡ seen_at kept n) → ((n : ℕ) → (n ≡ node → ⊥) → seen_at kept n ≡ unseen) →
+pub others_put_by : (old new : Map) (rows more : List KeyRows) (kept : List Kept) (key : List ℕ) (node : ℕ) → slot_in old key ≡ None → ((n : ℕ) → seen_in new more n key ≡ seen_at kept n) → ((n : ℕ) → (n ≡ node → ⊥) → seen_at kept n ≡ unseen) →
     ((n : ℕ) (k : List ℕ) → (k ≡ key → ⊥) → seen_in new more n k ≡ seen_in old rows n k) → (n : ℕ) (k : List ℕ) → ((n ≡ node) × (k ≡ key) → ⊥) → (b : Bool) → bytes_eq key k ≡ b → seen_in new more n k ≡ seen_in old rows n k
 others_put_by old new rows more kept key node none here beside others n k apart true d =
     let same : k ≡ key = sym ((bytes_decides key k).0 d) in
     ap (λ t. seen_in new more n t) same ∙ here n ∙ beside n (λ e. apart (e, same)) ∙ sym (ap (λ at. row_by rows at n) none) ∙ ap (λ t. seen_in old rows n t) (sym same)
 others_put_by old new rows more kept key node none here beside others n k apart false d = others n k (not_equal key k d)
-
-pub others_put : {A E : Type 0} (result : Result A E) (old new : Map) (rows more : List KeyRows) (none kept : List Kept) (key : List ℕ) (node : ℕ) → slot_in old key ≡ None → length none ≡ 0 → OthersKept node none kept → OnOk result ((n : ℕ) → seen_in new more n key ≡ seen_at kept n) →
-    OnErr result (SameSeen (seen_in old rows) (seen_in new more)) → ((n : ℕ) (k : List ℕ) → (k ≡ key → ⊥) → seen_in new more n k ≡ seen_in old rows n k) → OthersSeen node key (seen_in old rows) (seen_in new more)
-others_put (Ok done) old new rows more none kept key node lost empty beside here err others n k apart =
-    others_put_by old new rows more kept key node lost here (λ m far. beside m far ∙ empty_row none m empty) others n k apart (bytes_eq key k) refl
-others_put (Err refused) old new rows more none kept key node lost empty beside here err others n k apart = err n k
 
 -- a slot that was found in a map that is the same
 pub found_in : (map was_map : Map) (key : List ℕ) (slot : ℕ) → map ≡ was_map → Some slot ≡ slot_in was_map key → slot_in map key ≡ Some slot

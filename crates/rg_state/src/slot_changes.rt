@@ -1,12 +1,11 @@
-ghost use Rattle.std.specs.Prelude.{◌≡◌, ◌<◌, None, Some, List, IsSome, IsNone, OnOk, OnErr};
+ghost use Rattle.std.specs.Prelude.{◌≡◌, ◌<◌, ℕ, None, Some, List, IsSome, IsNone};
 ghost use Rattle.rg_agg.specs.Standing.{size_in};
 ghost use Rattle.rg_event.specs.declared.value.Value.{Value};
 ghost use Rattle.rg_metric.specs.Answers.{answer_of};
-ghost use Rattle.rg_state.specs.Cells.{slot_in, seen_in, cell_in, OthersSeen, SameSeen};
-ghost use Rattle.rg_state.specs.Kepts.{fresh};
+ghost use Rattle.rg_state.specs.Cells.{slot_in, seen_in, cell_in, count_at, SameSeen};
 ghost use Rattle.rg_state.specs.Rows.{RowStands, IsOf};
 ghost use Rattle.rg_state.specs.States.{held_of};
-ghost use Rattle.rg_state.specs.SlotSteps.{SlotsGet, SlotsStep};
+ghost use Rattle.rg_state.specs.SlotSteps.{Puts, SlotsGet, SlotsStep};
 ghost use Rattle.rg_state.specs.Takes.{Takes};
 
 use crate::one::Refusal;
@@ -33,12 +32,8 @@ impl Slots {
         requires { Takes func value.now }
         ensures { SlotsStep func Change.Add value.now node key.now (seen_in self.old.map self.old.rows.items) (seen_in self.new.map self.new.rows.items) result }
     {
-        match self.find(key) {
-            Some(slot) => {
-                self.touched.touch(slot);
-                let rows = &mut self.rows[slot as usize];
-                return rows.add(alloc, node, func, value);
-            }
+        match self.guess(key) {
+            Some(slot) => return self.add_at(alloc, slot, node, func, value),
             None => {}
         }
         let state = match first_state(alloc, func, value) {
@@ -50,9 +45,28 @@ impl Slots {
             Err(_) => return Err(Refusal::Memory),
         };
         match self.put(alloc, node, copy, state) {
-            Ok(()) => Ok(()),
+            Ok(None) => Ok(()),
+            Ok(Some(slot)) => self.add_at(alloc, slot, node, func, value),
             Err(_) => Err(Refusal::Memory),
         }
+    }
+
+    /// Adds a value to the row of a node in a slot in which something is kept.
+    fn add_at(
+        &mut self,
+        alloc: Global,
+        slot: u32,
+        node: u32,
+        func: Func,
+        value: &Value,
+    ) -> Result<(), Refusal>
+        requires takes { Takes func value.now }
+        requires used { 0 < count_at self.old.rows.items slot }
+        ensures { (key : List ℕ) → slot_in self.old.map key ≡ Some slot → SlotsStep func Change.Add value.now node key (seen_in self.old.map self.old.rows.items) (seen_in self.new.map self.new.rows.items) result }
+    {
+        self.touched.touch(slot);
+        let rows = &mut self.rows[slot as usize];
+        rows.add(alloc, node, func, value)
     }
 
     /// Takes the first value of the row of a node and a key away. A key that has no row then loses its slot.
@@ -104,20 +118,29 @@ impl Slots {
             }
             None => {}
         }
-        self.put(alloc, node, key, state)
+        match self.put(alloc, node, key, state) {
+            Ok(_) => Ok(()),
+            Err(memory) => Err(memory),
+        }
     }
 
-    /// Puts a row of a key that has none.
-    fn put(&mut self, alloc: Global, node: u32, key: Key, state: AggState) -> Result<(), Memory>
-        requires none { slot_in self.old.map key ≡ None }
-        requires some { 0 < size_in (held_of state) }
-        ensures row { OnOk result (seen_in self.new.map self.new.rows.items node key ≡ fresh (held_of state)) }
-        ensures others { OthersSeen node key (seen_in self.old.map self.old.rows.items) (seen_in self.new.map self.new.rows.items) }
-        ensures err { OnErr result (SameSeen (seen_in self.old.map self.old.rows.items) (seen_in self.new.map self.new.rows.items)) }
+    /// Puts a row of a key, where the key has none. Where it has rows it answers their slot, and nothing
+    /// changes.
+    fn put(
+        &mut self,
+        alloc: Global,
+        node: u32,
+        key: Key,
+        state: AggState,
+    ) -> Result<Option<u32>, Memory>
+        requires { 0 < size_in (held_of state) }
+        ensures { Puts (held_of state) node key self.old.map (seen_in self.old.map self.old.rows.items) self.new.map (seen_in self.new.map self.new.rows.items) result }
     {
         let mut rows = self.spare_rows(alloc);
-        rows.push(node, state)?;
-        self.open(alloc, key, rows)
+        match rows.push(node, state) {
+            Ok(()) => self.open(alloc, key, rows),
+            Err(_) => Err(Memory),
+        }
     }
 
     /// The answer of the row of a node and a key, without one that of no values; none for another function's row.

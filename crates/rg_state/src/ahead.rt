@@ -13,7 +13,7 @@ const TOGETHER: usize = 64;
 
 /// Looks at the rows of keys ahead of their turn to be written, at those of 64 keys at a time. Rows lie
 /// far apart, and a look waits for none before it, as writing does: so the processor fetches many rows in
-/// the time of one.
+/// the time of one. Each kind of look is a short loop of its own, so that more of them are under way at once.
 #[derive(Drop)]
 pub(crate) struct Ahead<'a> {
     wanted: Wanted,
@@ -21,6 +21,8 @@ pub(crate) struct Ahead<'a> {
     keys: Iter<'a, Key, u32>,
     /// The slots of the keys that are looked at together.
     near: Vec<u32>,
+    /// The keys themselves.
+    near_keys: Vec<&'a Key>,
     /// How many keys were looked at whose turn is still to come.
     left: usize,
     /// How many slots of a list were looked at.
@@ -37,6 +39,7 @@ impl<'a> Ahead<'a> {
             slots,
             keys: slots.map.iter(),
             near: Vec::new(alloc),
+            near_keys: Vec::new(alloc),
             left: 0,
             passed: 0,
             seen: 0,
@@ -47,6 +50,8 @@ impl<'a> Ahead<'a> {
     pub(crate) fn turn(&mut self) {
         if self.left == 0 {
             self.look_at_keys();
+            self.look_at_bytes();
+            self.look_at_counts();
             self.look_at_rows();
             self.left = TOGETHER;
         }
@@ -57,6 +62,8 @@ impl<'a> Ahead<'a> {
     pub(crate) fn turn_in(&mut self, list: &[u32]) {
         if self.left == 0 {
             self.look_at_slots(list);
+            self.look_at_bytes();
+            self.look_at_counts();
             self.look_at_rows();
             self.left = TOGETHER;
         }
@@ -66,10 +73,11 @@ impl<'a> Ahead<'a> {
     /// Takes the next slots of a list.
     fn look_at_slots(&mut self, list: &[u32]) {
         self.near.clear();
+        self.near_keys.clear();
         for slot in list.iter().skip(self.passed).take(TOGETHER) {
             match self.slots.keys.get(*slot as usize) {
                 None => {}
-                Some(key) => self.look_at_key(key, *slot),
+                Some(key) => self.take(key, *slot),
             }
         }
         self.passed = self.passed.saturating_add(TOGETHER);
@@ -78,24 +86,40 @@ impl<'a> Ahead<'a> {
     /// Takes the slots of the next keys.
     fn look_at_keys(&mut self) {
         self.near.clear();
+        self.near_keys.clear();
         for _ in 0..TOGETHER {
             match self.keys.next() {
                 None => return,
-                Some((key, slot)) => self.look_at_key(key, *slot),
+                Some((key, slot)) => self.take(key, *slot),
             }
         }
     }
 
     /// Takes the slot of a key, where a row in it may be wanted. Where memory runs out it isn't taken.
-    fn look_at_key(&mut self, key: &Key, slot: u32) {
+    fn take(&mut self, key: &'a Key, slot: u32) {
         if is_passed_over(self.wanted, slot, self.slots) {
             return;
         }
-        let front = key.as_slice().first().copied().unwrap_or(0);
-        let count = count_in(self.slots, slot);
-        self.seen = self.seen.wrapping_add(front as u64);
-        self.seen = self.seen.wrapping_add(count as u64);
         let _ = self.near.push(slot);
+        let _ = self.near_keys.push(key);
+    }
+
+    /// Looks at the bytes of the keys that were taken.
+    fn look_at_bytes(&mut self) {
+        let mut seen = self.seen;
+        for key in &self.near_keys {
+            seen = seen.wrapping_add(front_of(key));
+        }
+        self.seen = seen;
+    }
+
+    /// Looks at how many rows the slots have that were taken.
+    fn look_at_counts(&mut self) {
+        let mut seen = self.seen;
+        for slot in &self.near {
+            seen = seen.wrapping_add(count_in(self.slots, *slot));
+        }
+        self.seen = seen;
     }
 
     /// Looks at the rows in these slots.
@@ -108,11 +132,19 @@ impl<'a> Ahead<'a> {
     }
 }
 
+/// The first byte of a key.
+fn front_of(key: &Key) -> u64 {
+    match key.as_slice().first() {
+        None => 0,
+        Some(byte) => *byte as u64,
+    }
+}
+
 /// How many rows a slot has.
-fn count_in(slots: &Slots, slot: u32) -> usize {
+fn count_in(slots: &Slots, slot: u32) -> u64 {
     match slots.rows.get(slot as usize) {
         None => 0,
-        Some(rows) => rows.kept.len(),
+        Some(rows) => rows.kept.len() as u64,
     }
 }
 

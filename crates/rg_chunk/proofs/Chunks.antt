@@ -4,7 +4,7 @@ use Rattle.std.proofs.lemmas.Bool.Decides.{nat_tests}
 use Rattle.std.proofs.lemmas.List.{drop_all}
 use Rattle.std.specs.List.{All}
 use Rattle.std.proofs.lemmas.List.Elements.{All-cons, All-nil, All-head, All-tail}
-use Rattle.rg_bytes.specs.Reading.{Reading as ReadingWith, and_then, tested, more_at, list_bytes, whole, u8_at, u32_at}
+use Rattle.rg_bytes.specs.Reading.{Reading as ReadingWith, and_then, tested, more_at, whole}
 use Rattle.rg_bytes.proofs.Lists.{StepsBack, more_back, step_stops}
 use Rattle.rg_event.specs.Codec.{Reading, IsEventOf, event_at, event_bytes}
 use Rattle.rg_event.specs.Rising.{IsRising, next_offset, last_time}

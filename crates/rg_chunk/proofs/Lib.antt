@@ -1,3 +1,4 @@
 pub mod Lasts
 pub mod Heads
 pub mod Chunks
+pub mod Judging

@@ -2,3 +2,4 @@ pub mod Chunks
 pub mod Extended
 pub mod Faults
 pub mod Heads
+pub mod Written

@@ -56,6 +56,15 @@ impl Chunk {
         }
     }
 
+    /// A chunk of these events.
+    pub(crate) fn of_events(events: Vec<Event>) -> Chunk
+        requires some { 1 ≤ length events.items }
+        requires few { length events.items ≤ 4096 }
+        ensures { result ≡ events.items }
+    {
+        Chunk { events }
+    }
+
     /// How many events there are, from 1 to 4,096.
     pub fn count(&self) -> u32
         ensures count { result ≡ length self.now }
@@ -156,7 +165,7 @@ fn take_columns(
 }
 
 /// Whether the offsets rise strictly and the times never fall.
-fn is_rising(events: &[Event]) -> bool
+pub(crate) fn is_rising(events: &[Event]) -> bool
     requires { All HasOffset events.now }
     ensures { result ≡ rises_from 0 0 events.now }
 {

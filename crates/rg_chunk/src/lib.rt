@@ -7,10 +7,13 @@
 mod chunk;
 mod fault;
 mod head;
+mod legal;
 mod longer;
 mod open;
+mod written;
 
 pub use chunk::Chunk;
 pub use fault::ChunkFault;
 pub use head::{ChunkHead, Layout, MAX_EVENTS, read_head};
 pub use open::OpenChunk;
+pub use written::Written;

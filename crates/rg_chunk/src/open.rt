@@ -42,6 +42,14 @@ impl OpenChunk {
         Ok(OpenChunk { events, cap })
     }
 
+    /// An empty chunk with as much room.
+    pub fn emptied(&self, alloc: Global) -> Result<OpenChunk, Memory>
+        ensures empty { IfOk result (λ c. c.events ≡ []) }
+        ensures cap { IfOk result (λ c. c.cap ≡ self.now.cap) }
+    {
+        OpenChunk::new(alloc, self.cap)
+    }
+
     /// Adds an event at the end, where the chunk isn't full. It takes no memory.
     pub fn push(&mut self, event: Event)
         requires { length self.old.events < self.old.cap }
@@ -94,6 +102,13 @@ impl OpenChunk {
                 Err(memory)
             }
         }
+    }
+
+    /// The events alone. It takes no memory.
+    pub(crate) fn into_events(self) -> Vec<Event>
+        ensures { result.items ≡ self.events }
+    {
+        self.events
     }
 
     /// Drops all events, and keeps the room.

@@ -12,11 +12,13 @@ ghost use Rattle.rg_frame.specs.Frames.{HasPayloads};
 ghost use Rattle.rg_frame.specs.LogState.{ReachesEnd};
 ghost use Rattle.rg_frame.specs.Steps.{From};
 ghost use Rattle.rg_cache.specs.Cache.{item_at, holds_place, places};
+ghost use Rattle.rg_chunk.specs.Chunks.{chunk_bytes};
 ghost use Rattle.rg_growth.specs.Growing.{AreDefaultsOf};
 ghost use Rattle.rg_log.specs.Filled.{HasEventsFor};
 ghost use Rattle.rg_log.specs.Log.{HasEvents};
 ghost use Rattle.rg_reservoir.specs.Attached.{IsForeign, IsOther, IsBadFrame, LogOpens, Opens, IsOpened, HasView, OpensView};
 ghost use Rattle.rg_reservoir.specs.Chain.{IsIllegalBy};
+ghost use Rattle.rg_reservoir.specs.Known.{IsKnown};
 ghost use Rattle.rg_reservoir.specs.Naming.{IsNamed};
 ghost use Rattle.rg_reservoir.specs.Taken.{AreTaken};
 
@@ -28,16 +30,18 @@ use crate::names::count_unnamed;
 use crate::view::Growths;
 use rg_bytes::Memory;
 use rg_cache::ChunkCache;
-use rg_chunk::OpenChunk;
+use rg_chunk::{OpenChunk, Written};
 use rg_event::{Event, Room, Schema};
 use rg_frame::FrameLog;
 use rg_growth::Defaults;
 use rg_host::Host;
 use rg_past::Spot;
 use std::alloc::Global;
+use std::mem;
 
 /// The events of a run: those of the closed chunks in the log of file 2, and those of one open chunk
-/// in memory.
+/// in memory. Those of the chunk that was closed last are kept beside their payload until a chunk is read, so
+/// that this one needn't be decoded.
 #[derive(Drop)]
 pub struct Reservoir {
     alloc: Global,
@@ -48,6 +52,7 @@ pub struct Reservoir {
     pub(crate) ended: bool,
     cache: ChunkCache<Kept>,
     open: OpenChunk,
+    written: Option<Written>,
     pub(crate) committed: u64,
     next_offset: u64,
     last_time: u64,
@@ -58,6 +63,7 @@ pub struct Reservoir {
     ghost file: { log.file ≡ 2 },
     ghost ready: { log.ready ≡ true },
     ghost same: { log.ended ≡ ended },
+    ghost known: { IsKnown schema.fields written },
 }
 
 /// What a reservoir takes memory for before it reads its log.
@@ -166,6 +172,7 @@ impl Reservoir {
                 ended: false,
                 cache: taken.cache,
                 open: taken.open,
+                written: None,
                 committed: opened.tally.count,
                 next_offset: opened.tally.next,
                 last_time: opened.tally.time,
@@ -225,6 +232,7 @@ impl Reservoir {
                 ended: false,
                 cache: taken.cache,
                 open: taken.open,
+                written: None,
                 committed: opened.tally.count,
                 next_offset: opened.tally.next,
                 last_time: opened.tally.time,
@@ -284,6 +292,7 @@ impl Reservoir {
                 ended: false,
                 cache,
                 open,
+                written: None,
                 committed: opened.tally.count,
                 next_offset: opened.tally.next,
                 last_time: opened.tally.time,
@@ -413,6 +422,7 @@ impl Reservoir {
             &self.schema,
             &self.growths,
             &self.log,
+            self.written.take(),
             host,
             place,
         ) {
@@ -564,8 +574,8 @@ impl Reservoir {
     }
 
     /// Writes the open chunk as one frame behind the log, where it isn't empty, and empties it. The
-    /// chunk is encoded before the first call on the host: want of memory leaves the disk and the
-    /// reservoir as they were. After `Disk` the reservoir has ended.
+    /// chunk is encoded, and room for the next one is taken, before the first call on the host: want of
+    /// memory leaves the disk and the reservoir as they were. After `Disk` the reservoir has ended.
     pub fn commit<H: Host>(&mut self, host: &mut H) -> Result<(), ReservoirFault>
         requires reaches { ReachesEnd (log_of self.old) (H.now host.old) }
         ensures sound { IsSound (H.now host.old) (H.may host.old) self.old → OnOk result (IsSound (H.now host.new) (H.may host.new) self.new) }
@@ -601,11 +611,10 @@ impl Reservoir {
         if count == 0 {
             return Ok(());
         }
-        let mut payload = Vec::new(self.alloc);
-        match self.open.encode(&self.schema, &mut payload) {
-            Ok(()) => {}
+        let (payload, room) = match self.encoded() {
+            Ok(made) => made,
             Err(_) => return Err(ReservoirFault::Memory),
-        }
+        };
         match self.log.append(host, &payload) {
             Ok(_) => {}
             Err(_) => {
@@ -614,8 +623,21 @@ impl Reservoir {
             }
         }
         self.committed += u64::from(count);
-        self.open.clear();
+        let closed = mem::replace(&mut self.open, room);
+        self.written = Some(Written::new(closed, payload));
         Ok(())
+    }
+
+    /// The payload of the open chunk, and an empty chunk with as much room.
+    fn encoded(&self) -> Result<(Vec<u8>, OpenChunk), Memory>
+        requires { 1 ≤ length (opened self.now) }
+        ensures payload { IfOk result (λ made. made.0.items ≡ chunk_bytes (base self.now).shape.fields (opened self.now)) }
+        ensures room { IfOk result (λ made. (made.1.events ≡ []) × (made.1.cap ≡ room_of self.now)) }
+    {
+        let mut payload = Vec::new(self.alloc);
+        self.open.encode(&self.schema, &mut payload)?;
+        let room = self.open.emptied(self.alloc)?;
+        Ok((payload, room))
     }
 
     /// Whether each of these spots names an event or the end, in one of its spellings, and no number

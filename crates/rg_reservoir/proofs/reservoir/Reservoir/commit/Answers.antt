@@ -15,6 +15,7 @@ returns-clause-sound g c = λ sound.
     let v = sound.0 in
     let told : g.H.Host.now c.args.host.now ≡ Some v = sound.1 in
     let opened = self.open.events in
+    let none : c.replace-closed.new.dest.events ≡ [] = search rules in
     let right = sound.2.right c.if-self.false in
     let written : c.deref.result.now ≡ chunk_bytes self.schema.fields opened = search rules in
     let became = c.in-Ok-append.ensures.appended.told v told in
@@ -28,7 +29,7 @@ returns-clause-sound g c = λ sound.
     let same = grown_is (base self) c.append.new.self.file c.append.new.self.end (self.committed + c.from.result) (length opened) self.ended (ap (λ (l : LogState). l.file) c.in-Ok-append.ensures.ok) refl count in
     let s0 = committed v w (g.H.Host.may c.args.host.now) (g.H.Host.may c.append.new.host) (base self) opened self.next_offset self.last_time self.cache right c.append.new.self.end some few step end_is (λ u left. c.in-Ok-append.ensures.pending w became.1 u left) in
     let s1 = subst (λ (b : Base). IsSoundIn w (g.H.Host.may c.append.new.host) b [] self.next_offset self.last_time self.cache) (sym same) s0 in
-    (w, became.1, subst (λ (l : List Event). IsSoundIn w (g.H.Host.may c.append.new.host) (record { shape = self.schema; growths = self.growths; file = c.append.new.self.file; first = self.first; end = c.append.new.self.end; ended = self.ended; committed = self.committed + c.from.result; limit = self.limit }) l self.next_offset self.last_time self.cache) (sym c.clear.ensures.events) s1)
+    (w, became.1, subst (λ (l : List Event). IsSoundIn w (g.H.Host.may c.append.new.host) (record { shape = self.schema; growths = self.growths; file = c.append.new.self.file; first = self.first; end = c.append.new.self.end; ended = self.ended; committed = self.committed + c.from.result; limit = self.limit }) l self.next_offset self.last_time self.cache) (sym none) s1)
 
 pub returns-clause-list : goal.returns-clause-list
 returns-clause-list g c = λ sound.
@@ -36,6 +37,7 @@ returns-clause-list g c = λ sound.
     let v = sound.0 in
     let told : g.H.Host.now c.args.host.now ≡ Some v = sound.1 in
     let opened = self.open.events in
+    let none : c.replace-closed.new.dest.events ≡ [] = search rules in
     let right = sound.2.right c.if-self.false in
     let written : c.deref.result.now ≡ chunk_bytes self.schema.fields opened = search rules in
     let became = c.in-Ok-append.ensures.appended.told v told in
@@ -47,7 +49,7 @@ returns-clause-list g c = λ sound.
     let few : length opened ≤ 4096 = omega (arith, c.count-count.ensures.count, c.count-count.ensures.few) in
     let count : self.committed + c.from.result ≡ self.committed + length opened = search rules in
     let same = grown_is (base self) c.append.new.self.file c.append.new.self.end (self.committed + c.from.result) (length opened) self.ended (ap (λ (l : LogState). l.file) c.in-Ok-append.ensures.ok) refl count in
-    ap (λ (l : List Event). all_events (g.H.Host.now c.append.new.host) (record { shape = self.schema; growths = self.growths; file = c.append.new.self.file; first = self.first; end = c.append.new.self.end; ended = self.ended; committed = self.committed + c.from.result; limit = self.limit }) l) c.clear.ensures.events
+    ap (λ (l : List Event). all_events (g.H.Host.now c.append.new.host) (record { shape = self.schema; growths = self.growths; file = c.append.new.self.file; first = self.first; end = c.append.new.self.end; ended = self.ended; committed = self.committed + c.from.result; limit = self.limit }) l) none
     ∙ ap (λ (b : Base). all_events (g.H.Host.now c.append.new.host) b []) same ∙ ap (λ o. all_events o (grown (base self) c.append.new.self.end (length opened)) []) became.1
     ∙ all_new v w (g.H.Host.may c.args.host.now) (g.H.Host.may c.append.new.host) (base self) opened self.next_offset self.last_time self.cache right c.append.new.self.end some few step end_is ∙ ap (λ o. all_events o (base self) opened) (sym told)
 
@@ -57,6 +59,7 @@ returns-clause-spelled g c = λ sound spot spells.
     let v = sound.0 in
     let told : g.H.Host.now c.args.host.now ≡ Some v = sound.1 in
     let opened = self.open.events in
+    let none : c.replace-closed.new.dest.events ≡ [] = search rules in
     let right = sound.2.right c.if-self.false in
     let written : c.deref.result.now ≡ chunk_bytes self.schema.fields opened = search rules in
     let became = c.in-Ok-append.ensures.appended.told v told in
@@ -70,7 +73,7 @@ returns-clause-spelled g c = λ sound spot spells.
     let same = grown_is (base self) c.append.new.self.file c.append.new.self.end (self.committed + c.from.result) (length opened) self.ended (ap (λ (l : LogState). l.file) c.in-Ok-append.ensures.ok) refl count in
     let s0 = spells_on v w (g.H.Host.may c.args.host.now) (g.H.Host.may c.append.new.host) (base self) opened self.next_offset self.last_time self.cache right c.append.new.self.end some few step end_is (g.H.Host.now c.args.host.now) (g.H.Host.now c.append.new.host) spot told became.1 spells in
     let s1 = subst (λ (b : Base). Spells (g.H.Host.now c.append.new.host) b [] spot) (sym same) s0 in
-    subst (λ (l : List Event). Spells (g.H.Host.now c.append.new.host) (record { shape = self.schema; growths = self.growths; file = c.append.new.self.file; first = self.first; end = c.append.new.self.end; ended = self.ended; committed = self.committed + c.from.result; limit = self.limit }) l spot) (sym c.clear.ensures.events) s1
+    subst (λ (l : List Event). Spells (g.H.Host.now c.append.new.host) (record { shape = self.schema; growths = self.growths; file = c.append.new.self.file; first = self.first; end = c.append.new.self.end; ended = self.ended; committed = self.committed + c.from.result; limit = self.limit }) l spot) (sym none) s1
 
 -- nothing is written
 

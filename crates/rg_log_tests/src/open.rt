@@ -5,8 +5,10 @@ use crate::events::{Item, event_of, schema_of};
 use crate::payments::{SCHEMA, TWO_BY_COLUMNS};
 use crate::row::{Does, ROW, Row, assert_rows};
 use rg_bytes::Memory;
-use rg_chunk::OpenChunk;
+use rg_chunk::{OpenChunk, Written};
+use rg_event::Schema;
 use std::alloc::Global;
+use std::mem;
 use std::test::Fail;
 
 /// What is done to an open chunk of payments, or what it says.
@@ -28,6 +30,8 @@ pub(crate) enum Fill<'a> {
     Writes(&'a [u8]),
     /// It is written as so many bytes, which are read as a chunk whose last index and offset are this.
     Reads(usize, u32),
+    /// It is written, emptied, and so many events are handed back without decoding; none where a chunk has no such.
+    HandsBack(u32),
 }
 
 /// Whether there is room for the event.
@@ -86,6 +90,33 @@ fn reads(alloc: Global, open: &OpenChunk, length: usize, last: u32) -> Result<bo
     Ok(is_so)
 }
 
+/// Empties it, and says how many events are handed back of what was written of it; 0 where none are.
+fn handed_back(alloc: Global, open: &mut OpenChunk) -> Result<u32, Memory> {
+    if open.count() == 0 {
+        return Ok(0);
+    }
+    let schema = schema_of(alloc, SCHEMA)?;
+    let count = match handed_of(alloc, open, &schema) {
+        Ok(count) => Ok(count),
+        Err(_) => Err(Memory),
+    };
+    drop(schema);
+    count
+}
+
+fn handed_of(alloc: Global, open: &mut OpenChunk, schema: &Schema) -> Result<u32, Memory>
+    requires { 1 ≤ length open.old.events }
+{
+    let mut payload = Vec::new(alloc);
+    open.encode(schema, &mut payload)?;
+    let room = open.emptied(alloc)?;
+    let closed = mem::replace(open, room);
+    match Written::new(closed, payload).into_chunk(schema) {
+        Some(chunk) => Ok(chunk.count()),
+        None => Ok(0),
+    }
+}
+
 fn offset_at(open: &OpenChunk, index: u32) -> Option<u64> {
     match open.get(index) {
         Some(event) => Some(event.offset),
@@ -107,6 +138,7 @@ fn goes(alloc: Global, open: &mut OpenChunk, step: &Fill<'_>) -> Result<bool, Me
         }
         Fill::Writes(bytes) => writes(alloc, open, bytes),
         Fill::Reads(length, last) => reads(alloc, open, *length, *last),
+        Fill::HandsBack(count) => Ok(handed_back(alloc, open)? == *count),
     }
 }
 
@@ -194,9 +226,64 @@ const CHUNKS: &[Row<'_>] = &[
     },
 ];
 
+/// What was written is handed back where a chunk of the schema may have it: not an int past 10^12, a text in the
+/// place of an int, a value too few, nor an offset that stands still.
+const HANDED_BACK: &[Row<'_>] = &[Row {
+    does: Does::Fills(
+        2,
+        &[
+            Fill::Push(
+                0,
+                0,
+                &[Item::Text(b"c1"), Item::Text(b"m1"), Item::Int(100)],
+            ),
+            Fill::Push(
+                1,
+                0,
+                &[
+                    Item::Text(b"c1"),
+                    Item::Text(b""),
+                    Item::Int(-1_000_000_000_000),
+                ],
+            ),
+            Fill::HandsBack(2),
+            Fill::Count(0),
+            Fill::Push(
+                2,
+                0,
+                &[
+                    Item::Text(b"c1"),
+                    Item::Text(b"m1"),
+                    Item::Int(1_000_000_000_001),
+                ],
+            ),
+            Fill::HandsBack(0),
+            Fill::Push(
+                2,
+                0,
+                &[Item::Text(b"c1"), Item::Text(b"m1"), Item::Text(b"1")],
+            ),
+            Fill::HandsBack(0),
+            Fill::Push(2, 0, &[Item::Text(b"c1"), Item::Text(b"m1")]),
+            Fill::HandsBack(0),
+            Fill::Push(2, 0, &[Item::Text(b"c1"), Item::Text(b"m1"), Item::Int(1)]),
+            Fill::Push(2, 0, &[Item::Text(b"c1"), Item::Text(b"m1"), Item::Int(1)]),
+            Fill::HandsBack(0),
+            Fill::Push(3, 0, &[Item::Text(b"c1"), Item::Text(b"m1"), Item::Int(1)]),
+            Fill::HandsBack(1),
+        ],
+    ),
+    ..ROW
+}];
+
 #[test]
 fn an_open_chunk_is_written_as_its_payload_and_has_its_events_until_it_is_cleared(
     rt: HostRuntime,
 ) -> Result<(), Fail> {
     assert_rows(&rt, CHUNKS)
+}
+
+#[test]
+fn what_was_written_is_handed_back_where_a_chunk_may_have_it(rt: HostRuntime) -> Result<(), Fail> {
+    assert_rows(&rt, HANDED_BACK)
 }

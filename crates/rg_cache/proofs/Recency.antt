@@ -250,18 +250,23 @@ touched_further cap first (n ∷ more) =
 pub untouched : {T : Type 0} (c : LruCache ℕ T) → IsValid nat_eq c → least_recently_used c.cap (reverse (keys_of c.entries) ++ []) ≡ keys_of c.entries
 untouched c v = none_touched c.cap (keys_of c.entries) v.0 (omega (arith, length-keys_of c.entries, v.1))
 
--- the place in the first position is held, and a touch of it moves nothing
+-- the place in the first position is held, and is promoted already
 first_by : {T : Type 0} (p : ℕ) (es : List (ℕ × T)) → slice_get (keys_of es) 0 ≡ Some p → (true ≡ is_some (lookup (nat_eq p) es)) × (promoted (nat_eq p) es ≡ es)
 first_by p [] h = absurd cc
 first_by p (e ∷ es) h = let same : p ≡ e.0 = cc in rw (eq-eqb p e.0 same) (refl, refl)
 
-pub first_held : {T : Type 0} (c : LruCache ℕ T) (p : ℕ) → slice_get (keys_of c.entries) 0 ≡ Some p → true ≡ is_some (lookup (nat_eq p) c.entries)
-first_held c p h = (first_by p c.entries h).0
-
-pub first_touched : {T : Type 0} (c : LruCache ℕ T) (p : ℕ) → IsValid nat_eq c → slice_get (keys_of c.entries) 0 ≡ Some p → keys_of c.entries ≡ least_recently_used c.cap (reverse (keys_of c.entries) ++ cond (is_some (lookup (nat_eq p) c.entries)) (p ∷ []) [])
-first_touched c p v h = ap keys_of (sym (first_by p c.entries h).1) ∙ (touch_step c p v).places_are
+-- the first position has its place
+pub first_key : {T : Type 0} (es : List (ℕ × T)) (e : ℕ × T) (p : ℕ) → Some e ≡ slice_get es 0 → e.0 ≡ p → slice_get (keys_of es) 0 ≡ Some p
+first_key [] e p h key = absurd cc
+first_key (f ∷ es) e p h key = let same : e ≡ f = cc in sym (ap (λ g. Some g.0) same) ∙ ap (λ k. Some k) key
 
 -- its item is the one in the first position
 pub first_item : {T : Type 0} (es : List (ℕ × T)) (e : ℕ × T) (p : ℕ) → Some e ≡ slice_get es 0 → e.0 ≡ p → Some e.1 ≡ lookup (nat_eq p) es
 first_item [] e p h key = absurd cc
 first_item (f ∷ es) e p h key = let same : e ≡ f = cc in let found : p ≡ f.0 = sym key ∙ ap (λ g. g.0) same in rw (eq-eqb p f.0 found) (ap (λ g. Some g.1) same)
+
+-- a touch of the place in the first position moves nothing
+pub first_stays : {T : Type 0} (c : LruCache ℕ T) (e : ℕ × T) (p : ℕ) → IsValid nat_eq c → Some e ≡ slice_get c.entries 0 → e.0 ≡ p → keys_of c.entries ≡ least_recently_used c.cap (reverse (keys_of c.entries) ++ p ∷ [])
+first_stays c e p v h key =
+    let first = first_by p c.entries (first_key c.entries e p h key) in
+    ap keys_of (sym first.1) ∙ (touch_step c p v).places_are ∙ ap (λ b. least_recently_used c.cap (reverse (keys_of c.entries) ++ cond b (p ∷ []) [])) (sym first.0)

@@ -5,7 +5,7 @@
 //! still what stands there, is the caller's to know.
 #![tactic(auto)]
 
-ghost use Rattle.std.specs.Prelude.{◌≡◌, ◌⊎◌, ◌≤◌, ◌++◌, ◌↔◌, [], ◌∷◌, reverse, length, slice_get, option_copied, IsTrue, IfOk, IfErr, OnOk, OnErr, Some, None, ℕ, List, false};
+ghost use Rattle.std.specs.Prelude.{◌≡◌, ◌≢◌, ◌⊎◌, ◌≤◌, ◌++◌, [], ◌∷◌, reverse, length, slice_get, option_copied, IfOk, IfErr, IfSome, IfNone, OnOk, OnErr, Some, None, ℕ, List, false};
 ghost use Rattle.std.specs.Borrow.{sem};
 ghost use Rattle.rg_cache.specs.Cache.{least_recently_used, cache, places, item_at, holds_place, touches, touched};
 
@@ -70,7 +70,7 @@ impl<T> ChunkCache<T> {
         ensures cap { self.new.cap ≡ self.old.cap }
         ensures missed { result ≡ false → self.new ≡ self.old }
     {
-        if self.is_first(place) {
+        if self.first(place).is_some() {
             return true;
         }
         self.chunks.promote(&place)
@@ -107,9 +107,23 @@ impl<T> ChunkCache<T> {
     pub fn get(&self, place: u64) -> Option<&T>
         ensures { option_copied result ≡ item_at place self.now }
     {
+        match self.first(place) {
+            Some(item) => Some(item),
+            None => self.chunks.peek(&place),
+        }
+    }
+
+    /// The item at a place, where that is in the first position: a touch of the place then moves nothing. It takes no
+    /// hash.
+    pub fn first(&self, place: u64) -> Option<&T>
+        ensures place { IfSome result (λ _. slice_get (places self.now) 0 ≡ Some place) }
+        ensures item { IfSome result (λ item. item_at place self.now ≡ Some item.now) }
+        ensures none { IfNone result (slice_get (places self.now) 0 ≢ Some place) }
+        ensures stays { IfSome result (λ _. places self.now ≡ least_recently_used self.now.cap (touches self.now (place ∷ []))) }
+    {
         match self.chunks.peek_mru() {
             Some((first, item)) if *first == place => Some(item),
-            _ => self.chunks.peek(&place),
+            _ => None,
         }
     }
 
@@ -138,16 +152,6 @@ impl<T> ChunkCache<T> {
         ensures few { result ≤ 1024 }
     {
         self.chunks.cap().get() as u32
-    }
-
-    /// Whether a place is in the first position. It takes no hash.
-    fn is_first(&self, place: u64) -> bool
-        ensures { IsTrue result ↔ (slice_get (places self.now) 0 ≡ Some place) }
-    {
-        match self.chunks.peek_mru() {
-            Some((first, _)) => *first == place,
-            None => false,
-        }
     }
 }
 

@@ -14,6 +14,7 @@ mod first;
 mod growing;
 mod heads;
 mod kept;
+mod last;
 mod law;
 mod names;
 mod reservoir;

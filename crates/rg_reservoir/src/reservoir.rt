@@ -19,6 +19,7 @@ ghost use Rattle.rg_log.specs.Log.{HasEvents};
 ghost use Rattle.rg_reservoir.specs.Attached.{IsForeign, IsOther, IsBadFrame, LogOpens, Opens, IsOpened, HasView, OpensView};
 ghost use Rattle.rg_reservoir.specs.Chain.{IsIllegalBy};
 ghost use Rattle.rg_reservoir.specs.Known.{IsKnown};
+ghost use Rattle.rg_reservoir.specs.Last.{IsLast};
 ghost use Rattle.rg_reservoir.specs.Naming.{IsNamed};
 ghost use Rattle.rg_reservoir.specs.Taken.{AreTaken};
 
@@ -26,6 +27,7 @@ use crate::fault::ReservoirFault;
 use crate::fetch::fetch;
 use crate::first::{Found, find_log, is_same, open_log, read_log};
 use crate::kept::Kept;
+use crate::last::Last;
 use crate::names::count_unnamed;
 use crate::view::Growths;
 use rg_bytes::Memory;
@@ -41,7 +43,8 @@ use std::mem;
 
 /// The events of a run: those of the closed chunks in the log of file 2, and those of one open chunk
 /// in memory. Those of the chunk that was closed last are kept beside their payload until a chunk is read, so
-/// that this one needn't be decoded.
+/// that this one needn't be decoded. Of the chunk that was touched last the count of events is known, so that a look
+/// at one of them asks the cache once.
 #[derive(Drop)]
 pub struct Reservoir {
     alloc: Global,
@@ -51,6 +54,7 @@ pub struct Reservoir {
     first: u64,
     pub(crate) ended: bool,
     cache: ChunkCache<Kept>,
+    last: Option<Last>,
     open: OpenChunk,
     written: Option<Written>,
     pub(crate) committed: u64,
@@ -64,6 +68,7 @@ pub struct Reservoir {
     ghost ready: { log.ready ≡ true },
     ghost same: { log.ended ≡ ended },
     ghost known: { IsKnown schema.fields written },
+    ghost touched: { IsLast cache last },
 }
 
 /// What a reservoir takes memory for before it reads its log.
@@ -109,6 +114,7 @@ impl Reservoir {
     ghost use Rattle.rg_reservoir.specs.Ahead.{closed_next, OnlyLoads, IsLoadStop};
     ghost use Rattle.rg_reservoir.specs.Touched.{HasTouched, HasSought, SeekLoads, SeekHeld, IsSeekStop};
     ghost use Rattle.rg_reservoir.specs.Ends.{ends_looked};
+    ghost use Rattle.rg_reservoir.specs.Ready.{IsReady};
     ghost use Rattle.rg_reservoir.specs.Kept.{base, view_of, settled, opened, room_of, log_of, cache_of, loads_of, next_of as the_next_of, time_of, all_events, CommittedOrAll, IsCached, IsSound, Spells, SpellsLater, next_in, seen, IsLegalLook, Adds, Added};
 
     /// A reservoir over the log of file 2, with room for `room.chunk` events in its open chunk, 1 to
@@ -171,6 +177,7 @@ impl Reservoir {
                 first: opened.first,
                 ended: false,
                 cache: taken.cache,
+                last: None,
                 open: taken.open,
                 written: None,
                 committed: opened.tally.count,
@@ -231,6 +238,7 @@ impl Reservoir {
                 first: opened.first,
                 ended: false,
                 cache: taken.cache,
+                last: None,
                 open: taken.open,
                 written: None,
                 committed: opened.tally.count,
@@ -291,6 +299,7 @@ impl Reservoir {
                 first: opened.first,
                 ended: false,
                 cache,
+                last: None,
                 open,
                 written: None,
                 committed: opened.tally.count,
@@ -415,8 +424,10 @@ impl Reservoir {
         ensures stops { IsLoadStop H.now H.disk_faults result self.old host.old host.new }
     {
         if self.cache.promote(place) {
+            self.last = Last::of(&self.cache, place);
             return Ok(true);
         }
+        self.last = None;
         let kept = match fetch(
             self.alloc,
             &self.schema,
@@ -437,6 +448,7 @@ impl Reservoir {
             Ok(()) => {}
             Err(_) => return Err(ReservoirFault::Memory),
         }
+        self.last = Last::of(&self.cache, place);
         self.loads = self.loads.saturating_add(1);
         Ok(true)
     }
@@ -510,7 +522,7 @@ impl Reservoir {
     }
 
     /// Makes ready for a look at a spot: the growths at its place are passed, its chunk is held, and
-    /// it is in its latest spelling.
+    /// it is in its latest spelling. One of the chunk that was touched last asks the cache nothing.
     pub(crate) fn seek<H: Host>(
         &mut self,
         host: &mut H,
@@ -524,7 +536,27 @@ impl Reservoir {
         ensures stops { IsSeekStop H.now H.may H.disk_faults result self.old host.old host.new (settled (base self.old) spot.old) }
     {
         spot.place = self.growths.passed(spot.place);
+        if self.is_ready(spot) {
+            return Ok(());
+        }
         self.seek_settled(host, spot)
+    }
+
+    /// Whether a spot's event is one of the chunk that was touched last, and the reservoir hasn't ended: a look at it
+    /// touches nothing. The cache isn't asked.
+    fn is_ready(&self, spot: &Spot) -> bool
+        ensures { IsTrue result → IsReady self.now spot.now }
+    {
+        if self.ended {
+            return false;
+        }
+        if spot.number >= self.committed {
+            return false;
+        }
+        match &self.last {
+            Some(last) => last.has(spot),
+            None => false,
+        }
     }
 
     /// Looks at the event of a spot. An event of the open chunk, and the end, is found by its

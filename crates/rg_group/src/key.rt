@@ -1,18 +1,20 @@
-ghost use Rattle.std.specs.Prelude.{◌≡◌, ◌↔◌, ◌≤◌, ◌*◌, [], List, length, IsTrue, IfOk, OnOk, ◌++◌, slice_index_or, bytes_eq};
+ghost use Rattle.std.specs.Prelude.{◌≡◌, ◌↔◌, ◌≤◌, ◌*◌, List, length, drop, IsTrue, IfOk, OnOk, slice_index_or, bytes_eq};
+ghost use Rattle.std.specs.List.{fold};
 ghost use Rattle.rg_event.specs.declared.event.Event.{Event};
 ghost use Rattle.rg_event.specs.declared.value.Value.{Value};
-ghost use Rattle.rg_metric.specs.Conditions.{value_in};
 ghost use Rattle.rg_metric.specs.Replies.{key_of as key_values};
 ghost use Rattle.rg_metric.specs.Same.{same_values};
 ghost use Rattle.std.specs.Cmp.Lexicographic.{slice_cmp};
 ghost use Rattle.std.specs.Ordering.{nat_cmp};
 ghost use Rattle.rg_group.specs.Heads.{packed, AreBytes};
-ghost use Rattle.rg_group.specs.Keys.{key_bytes, part_bytes, AreStorable, IsStorablePart};
+ghost use Rattle.rg_group.specs.Mixes.{mix, with_byte, spread as spread_number};
+ghost use Rattle.rg_group.specs.Keys.{key_bytes, AreStorable};
 
+use crate::bytes::KeyBytes;
 use crate::front::after_part;
+use crate::parts::put_parts;
 use rg_bytes::Memory;
-use rg_event::{Event, put_tagged};
-use rg_metric::column_value;
+use rg_event::Event;
 use std::alloc::Global;
 use std::cmp::Ordering;
 use std::marker::Model;
@@ -20,14 +22,15 @@ use std::marker::Model;
 /// What a number is spread by: 2^64 divided by the golden ratio.
 const SPREAD: u64 = 0x9E37_79B9_7F4A_7C15;
 
-/// The key of an event: its values in some columns, each tagged by its kind, one after another.
+/// The key of an event: its values in some columns, each tagged by its kind, one after another. A copy of
+/// one of up to 16 bytes takes no memory of its own.
 #[derive(Debug, Drop)]
 pub struct Key {
-    bytes: Vec<u8>,
+    bytes: KeyBytes,
     /// The first eight bytes as a number: keys that differ in them are compared without a look at the
-    /// bytes behind the pointer.
+    /// bytes.
     head: u64,
-    ghost headed: { head ≡ packed 8 0 bytes.items },
+    ghost headed: { head ≡ packed 8 0 bytes },
 }
 
 impl Model for Key {
@@ -35,7 +38,7 @@ impl Model for Key {
 
     ghost Value = { List ℕ };
 
-    ghost view = { λ k. k.bytes.items };
+    ghost view = { λ k. k.bytes };
 }
 
 /// Two keys are equal where their bytes are.
@@ -106,7 +109,10 @@ impl From<Vec<u8>> for Key {
 
     fn from(bytes: Vec<u8>) -> Key {
         let head = head_of(&bytes);
-        Key { bytes, head }
+        Key {
+            bytes: KeyBytes::from_vec(bytes),
+            head,
+        }
     }
 }
 
@@ -115,7 +121,7 @@ impl Key {
     pub fn copy(&self, alloc: Global) -> Result<Key, Memory>
         ensures { IfOk result (λ key. key ≡ self.now) }
     {
-        let bytes = Vec::from_slice(alloc, &self.bytes)?;
+        let bytes = KeyBytes::from_slice(alloc, self.as_slice())?;
         Ok(Key {
             bytes,
             head: self.head,
@@ -123,33 +129,39 @@ impl Key {
     }
 
     /// Gives it the bytes of another key, in the room that it has where that is enough. Where memory runs
-    /// out it has none.
+    /// out its bytes mean nothing.
     pub fn set_to(&mut self, other: &Key) -> Result<(), Memory>
         ensures bytes { OnOk result (self.new ≡ other.now) }
     {
-        self.bytes.clear();
-        match self.bytes.extend_from_slice(&other.bytes) {
-            Ok(()) => {
-                self.head = other.head;
-                Ok(())
-            }
-            Err(_) => {
-                self.head = 0;
-                Err(Memory)
-            }
-        }
+        let set = self.bytes.set_to(other.as_slice());
+        self.head = match &set {
+            Ok(()) => other.head,
+            Err(_) => head_of(self.bytes.as_slice()),
+        };
+        set
     }
 
     pub fn as_slice(&self) -> &[u8]
         ensures { result.now ≡ self.now }
     {
-        &self.bytes
+        self.bytes.as_slice()
     }
 
-    /// A number by which to guess where something of the key stands. It is the same for the same key, and
-    /// no clause says more of it: a guess is to be compared.
-    pub fn mix(&self) -> u64 {
-        mix_of(self.head, &self.bytes)
+    /// Its first eight bytes as a number, the first of them the highest: keys that differ in them have the
+    /// order of these numbers. Missing bytes count as 0.
+    #[inline]
+    pub fn head(&self) -> u64
+        ensures { result ≡ packed 8 0 self.now }
+    {
+        self.head
+    }
+
+    /// A number by which to guess where something of the key stands: a function of its bytes, and the same
+    /// for some other keys too, so that a guess is to be compared.
+    pub fn mix(&self) -> u64
+        ensures { result ≡ mix self.now }
+    {
+        mix_of(self.head, self.as_slice())
     }
 
     /// Makes it the key of this event by these columns, as `key_of` does, in the room that it has where
@@ -160,9 +172,8 @@ impl Key {
         ensures exact { (vs ws : List Value) → AreStorable vs → AreStorable ws → key_bytes vs ≡ key_bytes ws → vs ≡ ws }
         ensures short { OnOk result (length self.new ≤ 257 * length fields.now) }
     {
-        self.bytes.clear();
-        let put = put_parts(fields, event, &mut self.bytes);
-        self.head = head_of(&self.bytes);
+        let put = self.bytes.put(fields, event);
+        self.head = head_of(self.bytes.as_slice());
         put
     }
 
@@ -191,8 +202,7 @@ pub fn key_of(alloc: Global, fields: &[u32], event: &Event) -> Result<Key, Memor
 {
     let mut bytes = Vec::new(alloc);
     put_parts(fields, event, &mut bytes)?;
-    let head = head_of(&bytes);
-    Ok(Key { bytes, head })
+    Ok(Key::from(bytes))
 }
 
 /// Whether two keys with these heads are the same. Up to eight bytes are in the head, so that only more of
@@ -217,16 +227,36 @@ fn is_same(head: u64, bytes: &[u8], other_head: u64, other: &[u8]) -> bool
 }
 
 /// The head, the bytes behind it and their number, each spread over all bits.
-fn mix_of(head: u64, bytes: &[u8]) -> u64 {
-    let mut mix = head;
-    for byte in bytes.iter().skip(8) {
-        mix = spread(mix ^ u64::from(*byte));
+fn mix_of(head: u64, bytes: &[u8]) -> u64
+    requires { head ≡ packed 8 0 bytes.now }
+    ensures { result ≡ mix bytes.now }
+{
+    let mixed = with_bytes(head, behind_head(bytes));
+    spread(spread(mixed ^ bytes.len() as u64))
+}
+
+/// The bytes that don't stand in the head.
+fn behind_head(bytes: &[u8]) -> &[u8]
+    ensures { result.now ≡ drop 8 bytes.now }
+{
+    bytes.get(8..).unwrap_or(&[])
+}
+
+/// A number with these bytes behind it, spread over all bits one after another.
+fn with_bytes(number: u64, bytes: &[u8]) -> u64
+    ensures { result ≡ fold with_byte number bytes.now }
+{
+    let mut mixed = number;
+    for byte in bytes {
+        mixed = spread(mixed ^ u64::from(*byte));
     }
-    spread(spread(mix ^ bytes.len() as u64))
+    mixed
 }
 
 /// A product whose upper half is put over the lower one.
-fn spread(number: u64) -> u64 {
+fn spread(number: u64) -> u64
+    ensures { result ≡ spread_number number }
+{
     let product = number.wrapping_mul(SPREAD);
     product ^ (product >> 32)
 }
@@ -266,29 +296,5 @@ fn byte_at(bytes: &[u8], place: usize) -> u8
     match bytes.get(place) {
         None => 0,
         Some(byte) => *byte,
-    }
-}
-
-/// Writes a key into bytes that are empty. Where memory runs out any prefix of it is there.
-fn put_parts(fields: &[u32], event: &Event, bytes: &mut Vec<u8>) -> Result<(), Memory>
-    requires { bytes.old.items ≡ [] }
-    ensures written { OnOk result (bytes.new.items ≡ key_bytes (key_values fields.now event.now)) }
-    ensures storable { OnOk result (AreStorable (key_values fields.now event.now)) }
-    ensures short { OnOk result (length bytes.new.items ≤ 257 * length fields.now) }
-{
-    for field in fields {
-        put_part(*field, event, bytes)?;
-    }
-    Ok(())
-}
-
-/// Writes the event's part of its key in a column at the end.
-fn put_part(column: u32, event: &Event, out: &mut Vec<u8>) -> Result<(), Memory>
-    ensures written { OnOk result (out.new.items ≡ out.old.items ++ part_bytes (value_in column event.now.values)) }
-    ensures storable { OnOk result (IsStorablePart (value_in column event.now.values)) }
-{
-    match column_value(event, column) {
-        None => Ok(()),
-        Some(value) => put_tagged(value, out),
     }
 }

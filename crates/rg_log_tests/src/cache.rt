@@ -19,6 +19,8 @@ pub(crate) enum Step {
     Touches(u64, Option<u64>),
     /// Whether a place is held, and it was touched then.
     Promotes(u64, bool),
+    /// What is held at a place where that was touched last.
+    First(u64, Option<u64>),
     /// How many are held.
     Held(u32),
     /// For how many there is room.
@@ -40,6 +42,7 @@ fn goes(cache: &mut ChunkCache<u64>, step: &Step) -> bool {
         Step::Gets(place, item) => cache.get(*place).copied() == *item,
         Step::Touches(place, item) => cache.touch(*place).copied() == *item,
         Step::Promotes(place, is_held) => cache.promote(*place) == *is_held,
+        Step::First(place, item) => cache.first(*place).copied() == *item,
         Step::Held(count) => cache.held() == *count,
         Step::Cap(count) => cache.cap() == *count,
     }
@@ -83,6 +86,8 @@ const CACHES: &[Row<'_>] = &[
                 Step::Touches(50, Some(500)),
                 Step::Touches(13, None),
                 Step::Promotes(13, false),
+                Step::First(50, Some(500)),
+                Step::First(13, None),
                 Step::Held(1),
             ],
         ),
@@ -95,7 +100,10 @@ const CACHES: &[Row<'_>] = &[
             &[
                 Step::Put(13, 130),
                 Step::Put(50, 500),
+                Step::First(50, Some(500)),
                 Step::Touches(13, Some(130)),
+                Step::First(50, None),
+                Step::First(13, Some(130)),
                 Step::Put(90, 900),
                 Step::Holds(50, false),
                 Step::Holds(90, true),

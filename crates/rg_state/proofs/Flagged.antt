@@ -1,5 +1,5 @@
 -- Slots that are touched, the list of them, and what isn't named in the others.
-use Rattle.std.proofs.Common.{◌≡◌, ◌∙◌, ℕ, zero, suc, ◌+◌, ◌<◌, ◌≤◌, ◌==◌, ◌&&◌, ◌||◌, not, cond, Bool, true, false, List, [], ◌∷◌, ◌++◌, length, get_or, set, Option, None, Some, refl, ap, sym, subst, arith, true≢false, length-append, length-set}
+use Rattle.std.proofs.Common.{◌≡◌, ◌∙◌, ℕ, zero, suc, ◌+◌, ◌<◌, ◌≤◌, ◌==◌, ◌&&◌, ◌||◌, cond, Bool, true, false, List, [], ◌∷◌, ◌++◌, length, get_or, set, Option, None, Some, refl, ap, sym, subst, arith, true≢false, length-append, length-set}
 use Rattle.std.specs.Prelude.{Result, Ok, Err, is_ok, is_some, if◌then◌else◌}
 use Rattle.std.proofs.lemmas.Bool.Decides.{Decides-eqb}
 use Rattle.rg_state.specs.CellLaws.{there_row}
@@ -10,7 +10,7 @@ use Rattle.rg_state.specs.Touched.{flag_at, flagged, AreListed, IsQuiet, AreQuie
 use Rattle.rg_state.specs.Unused.{times}
 use Rattle.rg_state.specs.declared.key_rows.KeyRows.{KeyRows}
 use Rattle.rg_state.specs.declared.sheets.Wanted.TheVariants.{Changes}
-use Rattle.rg_state.proofs.Slotted.{Map, row_set, row_beside}
+use Rattle.rg_state.proofs.Slotted.{row_set, row_beside}
 use Rattle.rg_state.proofs.Marking.{none_kept}
 use Rattle.rg_state.proofs.Unused.{one_same, one_apart, times_pushed}
 
@@ -18,21 +18,12 @@ is_false : (b : Bool) → (b ≡ true → ⊥) → b ≡ false
 is_false true never = absurd (never refl)
 is_false false never = refl
 
-pub is_off : (b : Bool) → not b ≡ true → b ≡ false
-is_off true is = cc
-is_off false is = refl
-
 -- flags
 
 pub flag_there : (flags : List Bool) (slot : ℕ) (here : Bool) → slot < length flags → here ≡ get_or flags slot here → flag_at flags slot ≡ here
 flag_there [] slot here within is = absurd (omega (arith, within))
 flag_there (f ∷ flags) zero here within is = sym is
 flag_there (f ∷ flags) (suc slot) here within is = flag_there flags slot here (omega (arith, within)) is
-
-pub flag_past : (flags : List Bool) (slot : ℕ) → length flags ≤ slot → flag_at flags slot ≡ false
-flag_past [] slot past = refl
-flag_past (f ∷ flags) zero past = absurd (omega (arith, past))
-flag_past (f ∷ flags) (suc slot) past = flag_past flags slot (omega (arith, past))
 
 flag_within : (flags : List Bool) (slot : ℕ) → flag_at flags slot ≡ true → slot < length flags
 flag_within [] slot is = cc
@@ -86,7 +77,7 @@ count_set (f ∷ flags) (suc slot) b within =
     let rest : flagged (set flags slot b) + one_of (flag_at flags slot) ≡ flagged flags + one_of b = count_set flags slot b (omega (arith, within)) in
     omega (arith, rest)
 
-count_few : (flags : List Bool) → flagged flags ≤ length flags
+pub count_few : (flags : List Bool) → flagged flags ≤ length flags
 count_few [] = omega arith
 count_few (f ∷ flags) = omega (arith, count_few flags, one_few f)
 
@@ -172,10 +163,10 @@ none_on flags slots room are none slot = none_is (flag_at flags slot) (omega (ar
 
 -- each slot is remembered
 
-pub flagged_written : (flags now : List Bool) (rows : List KeyRows) (slot : ℕ) (b : Bool) (r : KeyRows) → length rows ≤ length flags → now ≡ set flags slot b → length (set rows slot r) ≤ length now
+pub flagged_written : (flags now : List Bool) (rows : List KeyRows) (slot : ℕ) (b : Bool) (r : KeyRows) → length flags ≡ length rows → now ≡ set flags slot b → length now ≡ length (set rows slot r)
 flagged_written flags now rows slot b r few is = omega (arith, few, length-set rows slot r, ap length is, length-set flags slot b)
 
-pub flagged_left : (flags now : List Bool) (rows : List KeyRows) (slot : ℕ) (b : Bool) → length rows ≤ length flags → now ≡ set flags slot b → length rows ≤ length now
+pub flagged_left : (flags now : List Bool) (rows : List KeyRows) (slot : ℕ) (b : Bool) → length flags ≡ length rows → now ≡ set flags slot b → length now ≡ length rows
 flagged_left flags now rows slot b few is = omega (arith, few, ap length is, length-set flags slot b)
 
 -- what isn't named
@@ -226,8 +217,8 @@ settled_by : (rows : List KeyRows) (at : Option ℕ) (node : ℕ) → ((slot : �
 settled_by rows None node quiet = refl
 settled_by rows (Some slot) node quiet = settled_slot rows slot node (quiet slot)
 
-pub all_settled : (map : Map) (flags : List Bool) (slots : List ℕ) (rows : List KeyRows) (room n : ℕ) (k : List ℕ) → AreQuiet flags rows → AreListed flags slots room → length slots ≡ 0 → seen_in map rows n k ≡ settled (seen_in map rows n k)
-all_settled map flags slots rows room n k are listed none = settled_by rows (slot_in map k) n (λ slot. are slot (none_on flags slots room listed none slot))
+pub all_settled : (flags : List Bool) (slots : List ℕ) (rows : List KeyRows) (room n : ℕ) (k : List ℕ) → AreQuiet flags rows → AreListed flags slots room → length slots ≡ 0 → seen_in rows n k ≡ settled (seen_in rows n k)
+all_settled flags slots rows room n k are listed none = settled_by rows (slot_in rows k) n (λ slot. are slot (none_on flags slots room listed none slot))
 
 -- what isn't named isn't written as changed
 pub told_quiet : (row : Seen) → row.named ≡ false → is_wanted Changes row ≡ false

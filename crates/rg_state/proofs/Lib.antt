@@ -8,12 +8,10 @@ pub mod Stepping
 pub mod RowSteps
 pub mod Unused
 pub mod Flagged
-pub mod Named
 pub mod Ordered
 pub mod OneKind
 pub mod ReadBack
 mod Sizes
 pub mod Fitting
 pub mod Settled
-pub mod Spared
-pub mod Opened
+pub mod Held

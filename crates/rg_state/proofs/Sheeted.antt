@@ -1,13 +1,13 @@
 -- Rows on sheets: a row more, a key more, and all sheets one after another.
 use Rattle.std.proofs.Common.{◌≡◌, ◌∙◌, ℕ, zero, suc, ◌+◌, ◌*◌, ◌<◌, ◌≤◌, ◌^◌, ◌==◌, ◌&&◌, ◌||◌, cond, Bool, true, false, List, [], ◌∷◌, ◌++◌, length, map, get_or, set, drop, Option, None, Some, refl, ap, sym, subst, arith, true≢false, append_assoc, append-nil, length-append, length-set, drop-cons, drop_of_length-le}
 use Rattle.std.specs.Prelude.{is_some}
-use Rattle.std.specs.BTreeMap.{BTreeMap}
 use Rattle.std.specs.Option.{option_map}
 use Rattle.std.specs.Int.{w64, to_be_bytes}
 use Rattle.std.proofs.lemmas.Bool.Decides.{Decides-eqb}
 use Rattle.std.proofs.lemmas.List.{length-map}
 use Rattle.rg_agg.specs.Standing.{size_in}
 use Rattle.rg_state.specs.CellLaws.{sound_rest, seen_below}
+use Rattle.rg_state.specs.Slots.{slot_filled, short_key}
 use Rattle.rg_state.specs.Cells.{row_at, row_by as slot_row, slot_in, seen_in, and_row, node_entries, entries_from, held_row, told_row, IsBound, AreBelow}
 use Rattle.rg_state.specs.Changes.{RowChange, change_bytes, changes_bytes}
 use Rattle.rg_state.specs.Counted.{counted_bytes}
@@ -22,9 +22,6 @@ use Rattle.rg_state.specs.declared.sheets.Wanted.{Wanted}
 use Rattle.rg_state.specs.declared.sheets.Wanted.TheVariants.{Rows, Changes}
 use Rattle.rg_state.proofs.Placed.{stands, at_place, none_seen, alone}
 use Rattle.rg_state.proofs.Slotted.{row_there, within_of}
-
-abbrev Map : Type 0
-Map = BTreeMap (List ℕ) ℕ
 
 abbrev Sound : List Kept → Type 0
 Sound kepts = are_sound kepts ≡ true
@@ -267,13 +264,13 @@ spans_few : (wanted : Wanted) (node : ℕ) (rows : List KeyRows) (pairs : List (
 spans_few wanted node rows [] = omega arith
 spans_few wanted node rows (pair ∷ pairs) = omega (arith, spans_few wanted node rows pairs, and_few (span_of wanted node pair.0 (row_at rows pair.1 node)) (node_spans wanted node rows pairs))
 
-pub ready_at : (wanted : Wanted) (map : Map) (rows : List KeyRows) (pair : List ℕ × ℕ) (left all : List (List ℕ × ℕ)) (now : List Sheet) → IsBound map rows → length all < 2 ^ 32 → AreBelow (length now) map rows → slot_in map pair.0 ≡ Some pair.1 →
+pub ready_at : (wanted : Wanted) (rows : List KeyRows) (pair : List ℕ × ℕ) (left all : List (List ℕ × ℕ)) (now : List Sheet) → IsBound rows → length all < 2 ^ 32 → AreBelow (length now) rows → slot_in rows pair.0 ≡ Some pair.1 →
     ((node : ℕ) → and_spans (page_at now node) (node_spans wanted node rows left) ≡ and_spans blank (node_spans wanted node rows all)) → IsReadyAt wanted pair.0 rows pair.1 now
-ready_at wanted map rows pair left all now bound few below found so_far = record {
-  within = within_of rows pair.1 (bound.filled pair.0 pair.1 found);
-  short = bound.short pair.0 pair.1 found;
+ready_at wanted rows pair left all now bound few below found so_far = record {
+  within = within_of rows pair.1 (slot_filled rows pair.0 pair.1 found);
+  short = short_key rows pair.0 pair.1 bound found;
   room = λ node span is. record {
-    there = seen_below map rows (length now) node pair.0 below (span_seen wanted node pair.0 span (seen_in map rows node pair.0) (ap (λ at. span_of wanted node pair.0 (slot_row rows at node)) found ∙ is));
+    there = seen_below rows (length now) node pair.0 below (span_seen wanted node pair.0 span (seen_in rows node pair.0) (ap (λ at. span_of wanted node pair.0 (slot_row rows at node)) found ∙ is));
     few = omega (arith, few, spans_few wanted node rows all, rows_same (and_spans (page_at now node) (node_spans wanted node rows left)) (and_spans blank (node_spans wanted node rows all)) (so_far node));
   };
 }
@@ -290,12 +287,6 @@ pub gets_slot : (wanted : Wanted) (key : List ℕ) (rows : List KeyRows) (slot :
 gets_slot wanted key rows slot r old new within got gets = record {
   pages = λ node. gets.pages node ∙ ap (λ row. and_spans (page_at old node) (spans wanted node key row)) (sym (row_there rows slot node r within got));
   count = gets.count;
-}
-
-pub leave_slot : (wanted : Wanted) (key : List ℕ) (rows : List KeyRows) (slot : ℕ) (sheets : List Sheet) → ((node : ℕ) → is_wanted wanted (row_at rows slot node) ≡ false) → GetsAt wanted key rows slot sheets sheets
-leave_slot wanted key rows slot sheets none = record {
-  pages = λ node. sym (and_none (page_at sheets node)) ∙ ap (λ at. and_spans (page_at sheets node) (and_span at [])) (sym (span_none wanted node key (row_at rows slot node) (none node)));
-  count = refl;
 }
 
 -- all sheets

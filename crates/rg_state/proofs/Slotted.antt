@@ -1,13 +1,12 @@
--- The rows of keys by slot: one more slot, a write in a slot, and a key that is given a slot.
-use Rattle.std.proofs.Common.{◌≡◌, ◌∙◌, ℕ, zero, suc, ◌+◌, ◌<◌, ◌≤◌, ◌^◌, ◌==◌, Bool, true, false, List, [], ◌∷◌, ◌++◌, length, get_or, set, Option, None, Some, refl, ap, sym, subst, arith, true≢false, length-append, inl, inr, ◌⊎◌}
-use Rattle.std.specs.Prelude.{Result, Ok, Err, OnOk, OnErr, bytes_eq, is_ok, is_some, if◌then◌else◌}
-use Rattle.std.specs.BTreeMap.{BTreeMap, IsOrdered, UpdatesBy, Updates}
-use Rattle.std.specs.Cmp.Lexicographic.{slice_cmp, bytes_decides}
-use Rattle.std.specs.Ordering.{nat_cmp, is_eq}
+-- The rows of keys by slot: one more slot, a write in a slot, a key that is given a slot and one that loses it.
+use Rattle.std.proofs.Common.{◌≡◌, ◌∙◌, ℕ, zero, suc, ◌<◌, ◌≤◌, ◌==◌, ◌&&◌, not, cond, Bool, true, false, List, [], ◌∷◌, ◌++◌, length, get_or, set, Option, None, Some, refl, ap, sym, subst, arith, true≢false}
+use Rattle.std.specs.Prelude.{Result, Ok, Err, OnErr, bytes_eq}
+use Rattle.std.specs.Option.{option_map}
+use Rattle.std.specs.Cmp.Lexicographic.{bytes_decides}
 use Rattle.std.proofs.lemmas.Bool.Decides.{Decides-eqb}
-use Rattle.std.proofs.lemmas.Map.Text.{is_eq-slice_cmp}
-use Rattle.rg_state.specs.Cells.{row_at, count_at, row_by, slot_in, seen_in, IsBound, OthersSeen, SameSeen}
-use Rattle.rg_state.specs.Kepts.{unseen, seen_at, OthersKept, IsKeptSame}
+use Rattle.rg_state.specs.Cells.{row_at, count_at, key_at, is_of, row_by, slot_in, seen_in, IsBound, OthersSeen, SameSeen, SameSlots}
+use Rattle.rg_state.specs.Slots.{slot_filled, slot_key, slot_of, no_slot, kept_of}
+use Rattle.rg_state.specs.Kepts.{unseen, settled, fresh, seen_at, IsFirst, IsKeptSame}
 use Rattle.rg_agg.specs.Held.{Held}
 use Rattle.rg_bytes.specs.declared.memory.Memory.{Memory}
 use Rattle.rg_event.specs.declared.value.Value.{Value}
@@ -18,9 +17,6 @@ use Rattle.rg_state.specs.declared.key_rows.Kept.{Kept}
 use Rattle.rg_state.specs.declared.key_rows.KeyRows.{KeyRows}
 use Rattle.rg_state.specs.declared.one.Refusal.{Refusal}
 use Rattle.rg_state.specs.declared.table.Change.{Change}
-
-abbrev pub Map : Type 0
-Map = BTreeMap (List ℕ) ℕ
 
 pub row_there : (rows : List KeyRows) (slot node : ℕ) (r : KeyRows) → slot < length rows → r ≡ get_or rows slot r → row_at rows slot node ≡ seen_at r.kept.items node
 row_there [] slot node r within is = absurd (omega arith)
@@ -82,154 +78,370 @@ count_pushed [] r (suc slot) none = refl
 count_pushed (x ∷ rows) r zero none = refl
 count_pushed (x ∷ rows) r (suc slot) none = count_pushed rows r slot none
 
-last_count : (rows : List KeyRows) (r : KeyRows) → length r.kept.items ≡ 0 → count_at (rows ++ r ∷ []) (length rows) ≡ 0
-last_count [] r none = none
-last_count (x ∷ rows) r none = last_count rows r none
+-- the key of a slot
 
-pub free_pushed : (rows new : List KeyRows) (r : KeyRows) → length r.kept.items ≡ 0 → new ≡ rows ++ r ∷ [] → (length rows < length new) × (count_at new (length rows) ≡ 0)
-free_pushed rows new r none pushed = (omega (arith, ap length pushed, length-append rows (r ∷ [])), ap (λ rs. count_at rs (length rows)) pushed ∙ last_count rows r none)
+pub key_there : (rows : List KeyRows) (slot : ℕ) (r : KeyRows) → slot < length rows → r ≡ get_or rows slot r → key_at rows slot ≡ r.key
+key_there [] slot r within is = absurd (omega (arith, within))
+key_there (x ∷ rows) zero r within is = ap (λ r. r.key) (sym is)
+key_there (x ∷ rows) (suc slot) r within is = key_there rows slot r (omega (arith, within)) is
 
-pub bound_more : (map : Map) (rows : List KeyRows) (r : KeyRows) → length r.kept.items ≡ 0 → IsBound map rows → IsBound map (rows ++ r ∷ [])
-bound_more map rows r none bound = record {
-  ordered = bound.ordered;
-  filled = λ key slot found. (let was : 0 < count_at rows slot = bound.filled key slot found in omega (arith, count_pushed rows r slot none, was));
-  apart = bound.apart;
-  short = bound.short;
-}
+pub key_past : (rows : List KeyRows) (slot : ℕ) → length rows ≤ slot → key_at rows slot ≡ []
+key_past [] slot past = refl
+key_past (x ∷ rows) zero past = absurd (omega (arith, past))
+key_past (x ∷ rows) (suc slot) past = key_past rows slot (omega (arith, past))
 
-pub bound_after : {A E : Type 0} (result : Result A E) (map : Map) (rows new : List KeyRows) (r : KeyRows) → length r.kept.items ≡ 0 → new ≡ (if is_ok result then rows ++ r ∷ [] else rows) → IsBound map rows → IsBound map new
-bound_after (Ok done) map rows new r none pushed bound = subst (IsBound map) (sym pushed) (bound_more map rows r none bound)
-bound_after (Err refused) map rows new r none pushed bound = subst (IsBound map) (sym pushed) bound
+pub key_set : (rows : List KeyRows) (slot : ℕ) (r : KeyRows) → slot < length rows → key_at (set rows slot r) slot ≡ r.key
+key_set [] slot r within = absurd (omega (arith, within))
+key_set (x ∷ rows) zero r within = refl
+key_set (x ∷ rows) (suc slot) r within = key_set rows slot r (omega (arith, within))
 
--- a write in the slot of a key
+pub key_beside : (rows : List KeyRows) (slot other : ℕ) (r : KeyRows) → (other ≡ slot → ⊥) → key_at (set rows slot r) other ≡ key_at rows other
+key_beside [] slot other r apart = refl
+key_beside (x ∷ rows) zero zero r apart = absurd (apart refl)
+key_beside (x ∷ rows) zero (suc other) r apart = refl
+key_beside (x ∷ rows) (suc slot) zero r apart = refl
+key_beside (x ∷ rows) (suc slot) (suc other) r apart = key_beside rows slot other r (λ e. apart (ap suc e))
 
-filled_by : (rows : List KeyRows) (slot other : ℕ) (r : KeyRows) → slot < length rows → 0 < length r.kept.items → 0 < count_at rows other → (b : Bool) → (other == slot) ≡ b → 0 < count_at (set rows slot r) other
-filled_by rows slot other r within some was true d =
-    let e : other ≡ slot = (Decides-eqb other slot).0 d in
-    subst (λ s. 0 < count_at (set rows slot r) s) (sym e) (omega (arith, count_set rows slot r within, some))
-filled_by rows slot other r within some was false d = omega (arith, count_beside rows slot other r (is_apart other slot d), was)
+key_pushed : (rows : List KeyRows) (r : KeyRows) (slot : ℕ) → length r.kept.items ≡ 0 → 0 < count_at rows slot → key_at (rows ++ r ∷ []) slot ≡ key_at rows slot
+key_pushed [] r slot none some = absurd (omega (arith, some))
+key_pushed (x ∷ rows) r zero none some = refl
+key_pushed (x ∷ rows) r (suc slot) none some = key_pushed rows r slot none some
 
-pub bound_written : (map : Map) (rows : List KeyRows) (slot : ℕ) (r : KeyRows) → IsBound map rows → slot < length rows → 0 < length r.kept.items → IsBound map (set rows slot r)
-bound_written map rows slot r bound within some = record {
-  ordered = bound.ordered;
-  filled = λ key other found. filled_by rows slot other r within some (bound.filled key other found) (other == slot) refl;
-  apart = bound.apart;
-  short = bound.short;
-}
-
-pub cell_of : (map : Map) (rows : List KeyRows) (key : List ℕ) (slot node : ℕ) → slot_in map key ≡ Some slot → seen_in map rows node key ≡ row_at rows slot node
-cell_of map rows key slot node found = ap (λ s. row_by rows s node) found
-
-pub cell_read : (map : Map) (rows : List KeyRows) (key : List ℕ) (slot node : ℕ) (r : KeyRows) → slot_in map key ≡ Some slot → slot < length rows → r ≡ get_or rows slot r → seen_in map rows node key ≡ seen_at r.kept.items node
-cell_read map rows key slot node r found within is = cell_of map rows key slot node found ∙ row_there rows slot node r within is
-
-pub cell_written : (map : Map) (rows : List KeyRows) (key : List ℕ) (slot node : ℕ) (r : KeyRows) → slot_in map key ≡ Some slot → slot < length rows → seen_in map (set rows slot r) node key ≡ seen_at r.kept.items node
-cell_written map rows key slot node r found within = cell_of map (set rows slot r) key slot node found ∙ row_set rows slot node r within
-
--- the rows of another key, or of the same key where its rows but for some node's stay
-others_in : (map : Map) (rows : List KeyRows) (key : List ℕ) (slot : ℕ) (old new : KeyRows) (n : ℕ) (k : List ℕ) → IsBound map rows → slot_in map key ≡ Some slot → slot < length rows → old ≡ get_or rows slot old →
-    (k ≡ key → seen_at new.kept.items n ≡ seen_at old.kept.items n) → (other : ℕ) → slot_in map k ≡ Some other → (b : Bool) → (other == slot) ≡ b → row_at (set rows slot new) other n ≡ row_at rows other n
-others_in map rows key slot old new n k bound found within is stays other there true d =
-    let e : other ≡ slot = (Decides-eqb other slot).0 d in
-    let same : k ≡ key = bound.apart k key slot (there ∙ ap Some e) found in
-    ap (λ s. row_at (set rows slot new) s n) e ∙ row_set rows slot n new within ∙ stays same ∙ sym (row_there rows slot n old within is) ∙ ap (λ s. row_at rows s n) (sym e)
-others_in map rows key slot old new n k bound found within is stays other there false d = row_beside rows slot other n new (is_apart other slot d)
-
-others_by : (map : Map) (rows : List KeyRows) (key : List ℕ) (slot : ℕ) (old new : KeyRows) (n : ℕ) (k : List ℕ) → IsBound map rows → slot_in map key ≡ Some slot → slot < length rows → old ≡ get_or rows slot old →
-    (k ≡ key → seen_at new.kept.items n ≡ seen_at old.kept.items n) → (at : Option ℕ) → slot_in map k ≡ at → row_by (set rows slot new) at n ≡ row_by rows at n
-others_by map rows key slot old new n k bound found within is stays None there = refl
-others_by map rows key slot old new n k bound found within is stays (Some other) there = others_in map rows key slot old new n k bound found within is stays other there (other == slot) refl
-
-pub others_written : (map : Map) (rows : List KeyRows) (key : List ℕ) (slot node : ℕ) (old new : KeyRows) → IsBound map rows → slot_in map key ≡ Some slot → slot < length rows → old ≡ get_or rows slot old →
-    OthersKept node old.kept.items new.kept.items → OthersSeen node key (seen_in map rows) (seen_in map (set rows slot new))
-others_written map rows key slot node old new bound found within is others n k apart =
-    others_by map rows key slot old new n k bound found within is (λ same. others n (λ e. apart (e, same))) (slot_in map k) refl
-
-pub same_written : (map : Map) (rows : List KeyRows) (key : List ℕ) (slot : ℕ) (old new : KeyRows) → IsBound map rows → slot_in map key ≡ Some slot → slot < length rows → old ≡ get_or rows slot old →
-    IsKeptSame old.kept.items new.kept.items → SameSeen (seen_in map rows) (seen_in map (set rows slot new))
-same_written map rows key slot old new bound found within is same n k =
-    others_by map rows key slot old new n k bound found within is (λ e. same.same n) (slot_in map k) refl
-
-pub err_written : {A E : Type 0} (result : Result A E) (map : Map) (rows : List KeyRows) (key : List ℕ) (slot : ℕ) (old new : KeyRows) → IsBound map rows → slot_in map key ≡ Some slot → slot < length rows → old ≡ get_or rows slot old →
-    OnErr result (IsKeptSame old.kept.items new.kept.items) → OnErr result (SameSeen (seen_in map rows) (seen_in map (set rows slot new)))
-err_written (Ok done) map rows key slot old new bound found within is same = same
-err_written (Err refused) map rows key slot old new bound found within is same = same_written map rows key slot old new bound found within is same
-
--- a key that is given a slot
+-- whether something is kept of a key
 
 is_false : (b : Bool) → (b ≡ true → ⊥) → b ≡ false
 is_false true not = absurd (not refl)
 is_false false not = refl
 
-apart_false : (key other : List ℕ) → (other ≡ key → ⊥) → is_eq (slice_cmp nat_cmp key other) ≡ false
-apart_false key other apart = is_eq-slice_cmp key other ∙ is_false (bytes_eq key other) (λ e. apart (sym ((bytes_decides key other).0 e)))
+pub not_of : (r : KeyRows) (key : List ℕ) → length r.kept.items ≡ 0 → is_of r key ≡ false
+not_of r key none = is_false (is_of r key) (λ is. absurd (omega (arith, kept_of r key is, none)))
 
-pub stays_for : (old new : Map) (key : List ℕ) (slot : ℕ) → Updates (slice_cmp nat_cmp) old new key (Some slot) → (k : List ℕ) → (k ≡ key → ⊥) → slot_in new k ≡ slot_in old k
-stays_for old new key slot updates k apart = updates.2 k (apart_false key k apart)
+other_false : (b c : Bool) → c ≡ false → (b && c) ≡ false
+other_false true c is = is
+other_false false c is = refl
 
-pub not_equal : (key k : List ℕ) → bytes_eq key k ≡ false → k ≡ key → ⊥
-not_equal key k d e = true≢false (sym ((bytes_decides key k).1 (sym e)) ∙ d)
+pub not_key : (r : KeyRows) (key k : List ℕ) → r.key ≡ key → (k ≡ key → ⊥) → is_of r k ≡ false
+not_key r key k same apart = other_false (not (length r.kept.items == 0)) (bytes_eq r.key k) (is_false (bytes_eq r.key k) (λ e. apart (sym ((bytes_decides r.key k).0 e) ∙ same)))
 
-pub others_opened : (old new : Map) (rows : List KeyRows) (key : List ℕ) (slot : ℕ) (r : KeyRows) → IsBound old rows → count_at rows slot ≡ 0 → Updates (slice_cmp nat_cmp) old new key (Some slot) →
-    (n : ℕ) (k : List ℕ) → (k ≡ key → ⊥) → seen_in new (set rows slot r) n k ≡ seen_in old rows n k
-others_opened old new rows key slot r bound free updates n k apart =
-    ap (λ s. row_by (set rows slot r) s n) (stays_for old new key slot updates k apart) ∙ by_slot (slot_in old k) refl
+pub some_true : (n : ℕ) → 0 < n → not (n == 0) ≡ true
+some_true n some = by (n == 0) refl
   where
-    by_slot : (at : Option ℕ) → slot_in old k ≡ at → row_by (set rows slot r) at n ≡ row_by rows at n
-    by_slot None there = refl
-    by_slot (Some other) there = row_beside rows slot other n r (λ e. absurd (omega (arith, bound.filled k other there, ap (count_at rows) e, free)))
+    by : (b : Bool) → (n == 0) ≡ b → not b ≡ true
+    by true is = absurd (omega (arith, some, (Decides-eqb n 0).0 is))
+    by false is = refl
 
--- a key of the new map is the one that was put in, or was there before
-origin_by : (old new : Map) (key : List ℕ) (slot : ℕ) → Updates (slice_cmp nat_cmp) old new key (Some slot) → (k : List ℕ) (other : ℕ) → slot_in new k ≡ Some other → (b : Bool) → bytes_eq key k ≡ b → ((k ≡ key) × (other ≡ slot)) ⊎ (slot_in old k ≡ Some other)
-origin_by old new key slot updates k other found true d =
-    let e : key ≡ k = (bytes_decides key k).0 d in
-    let both : Some other ≡ Some slot = sym found ∙ ap (slot_in new) (sym e) ∙ updates.1 in
-    inl (sym e, cc)
-origin_by old new key slot updates k other found false d = inr (sym (stays_for old new key slot updates k (not_equal key k d)) ∙ found)
+same_of : (r x : KeyRows) (k : List ℕ) → r.key ≡ x.key → 0 < length r.kept.items → 0 < length x.kept.items → is_of r k ≡ is_of x k
+same_of r x k same some was =
+    ap (λ b. b && bytes_eq r.key k) (some_true (length r.kept.items) some ∙ sym (some_true (length x.kept.items) was)) ∙ ap (λ (key : List ℕ). not (length x.kept.items == 0) && bytes_eq key k) same
 
-abbrev Origin : Map → List ℕ → ℕ → List ℕ → ℕ → Type 0
-Origin old key slot k other = ((k ≡ key) × (other ≡ slot)) ⊎ (slot_in old k ≡ Some other)
+-- a write leaves the slots of the keys of which nothing is kept there, before and after, or something both times
 
-origin : (old new : Map) (key : List ℕ) (slot : ℕ) → Updates (slice_cmp nat_cmp) old new key (Some slot) → (k : List ℕ) (other : ℕ) → slot_in new k ≡ Some other → Origin old key slot k other
-origin old new key slot updates k other found = origin_by old new key slot updates k other found (bytes_eq key k) refl
+slots_set : (rows : List KeyRows) (slot : ℕ) (old r : KeyRows) (k : List ℕ) → slot < length rows → old ≡ get_or rows slot old → is_of r k ≡ is_of old k → slot_in (set rows slot r) k ≡ slot_in rows k
+slots_set [] slot old r k within is same = absurd (omega (arith, within))
+slots_set (x ∷ rows) zero old r k within is same = ap (λ b. cond b (Some 0) (option_map (λ s. suc s) (slot_in rows k))) (same ∙ ap (λ r. is_of r k) is)
+slots_set (x ∷ rows) (suc slot) old r k within is same = ap (λ at. cond (is_of x k) (Some 0) (option_map (λ s. suc s) at)) (slots_set rows slot old r k (omega (arith, within)) is same)
 
-filled_opened : (old : Map) (rows : List KeyRows) (key : List ℕ) (slot : ℕ) (r : KeyRows) → IsBound old rows → slot < length rows → count_at rows slot ≡ 0 → 0 < length r.kept.items → (k : List ℕ) (other : ℕ) → Origin old key slot k other → 0 < count_at (set rows slot r) other
-filled_opened old rows key slot r bound within free some k other (inl is) = subst (λ s. 0 < count_at (set rows slot r) s) (sym is.1) (omega (arith, count_set rows slot r within, some))
-filled_opened old rows key slot r bound within free some k other (inr there) =
-    let was : 0 < count_at rows other = bound.filled k other there in
-    omega (arith, count_beside rows slot other r (λ e. absurd (omega (arith, was, ap (count_at rows) e, free))), was)
+pub slots_pushed : (rows : List KeyRows) (r : KeyRows) (k : List ℕ) → length r.kept.items ≡ 0 → slot_in (rows ++ r ∷ []) k ≡ slot_in rows k
+slots_pushed [] r k none = ap (λ b. cond b (Some 0) None) (not_of r k none)
+slots_pushed (x ∷ rows) r k none = ap (λ at. cond (is_of x k) (Some 0) (option_map (λ s. suc s) at)) (slots_pushed rows r k none)
 
-apart_opened : (old : Map) (rows : List KeyRows) (key : List ℕ) (slot : ℕ) → IsBound old rows → count_at rows slot ≡ 0 → (k l : List ℕ) (other : ℕ) → Origin old key slot k other → Origin old key slot l other → k ≡ l
-apart_opened old rows key slot bound free k l other (inl one) (inl two) = one.0 ∙ sym two.0
-apart_opened old rows key slot bound free k l other (inl one) (inr two) = absurd (omega (arith, bound.filled l other two, ap (count_at rows) one.1, free))
-apart_opened old rows key slot bound free k l other (inr one) (inl two) = absurd (omega (arith, bound.filled k other one, ap (count_at rows) two.1, free))
-apart_opened old rows key slot bound free k l other (inr one) (inr two) = bound.apart k l other one two
+-- the keys are apart and short after a write
 
-short_opened : (old : Map) (rows : List KeyRows) (key : List ℕ) (slot : ℕ) → IsBound old rows → length key ≤ 2056 → (k : List ℕ) (other : ℕ) → Origin old key slot k other → length k ≤ 2056
-short_opened old rows key slot bound short k other (inl is) = subst (λ k. length k ≤ 2056) (sym is.0) short
-short_opened old rows key slot bound short k other (inr there) = bound.short k other there
+bound_by : (rows : List KeyRows) (slot : ℕ) (r : KeyRows) → IsBound rows → slot < length rows → (0 < length r.kept.items → length r.key ≤ 2056) → (0 < length r.kept.items → (other : ℕ) → (other ≡ slot → ⊥) → 0 < count_at rows other → key_at rows other ≡ r.key → ⊥) → IsBound (set rows slot r)
+bound_by rows slot r bound within short apart = record {
+  apart = λ one two some more same. one_by one two some more same (one == slot) (two == slot) refl refl;
+  short = λ one some. short_by one some (one == slot) refl;
+}
+  where
+    now : List KeyRows
+    now = set rows slot r
 
-pub bound_opened : (old new : Map) (rows : List KeyRows) (key : List ℕ) (slot : ℕ) (r : KeyRows) → IsBound old rows → IsOrdered (slice_cmp nat_cmp) new → Updates (slice_cmp nat_cmp) old new key (Some slot) → slot < length rows → count_at rows slot ≡ 0 → 0 < length r.kept.items → length key ≤ 2056 → IsBound new (set rows slot r)
-bound_opened old new rows key slot r bound ordered updates within free some short = record {
-  ordered = ordered;
-  filled = λ k other found. filled_opened old rows key slot r bound within free some k other (origin old new key slot updates k other found);
-  apart = λ k l other one two. apart_opened old rows key slot bound free k l other (origin old new key slot updates k other one) (origin old new key slot updates l other two);
-  short = λ k other found. short_opened old rows key slot bound short k other (origin old new key slot updates k other found);
+    was : (other : ℕ) → (other == slot) ≡ false → 0 < count_at now other → 0 < count_at rows other
+    was other d some = omega (arith, some, count_beside rows slot other r (is_apart other slot d))
+
+    key_was : (other : ℕ) → (other == slot) ≡ false → key_at now other ≡ key_at rows other
+    key_was other d = key_beside rows slot other r (is_apart other slot d)
+
+    kept : (other : ℕ) → other ≡ slot → 0 < count_at now other → 0 < length r.kept.items
+    kept other e some = omega (arith, some, ap (count_at now) e, count_set rows slot r within)
+
+    key_now : (other : ℕ) → other ≡ slot → key_at now other ≡ r.key
+    key_now other e = ap (key_at now) e ∙ key_set rows slot r within
+
+    one_by : (one two : ℕ) → 0 < count_at now one → 0 < count_at now two → key_at now one ≡ key_at now two → (b c : Bool) → (one == slot) ≡ b → (two == slot) ≡ c → one ≡ two
+    one_by one two some more same true true d e = (Decides-eqb one slot).0 d ∙ sym ((Decides-eqb two slot).0 e)
+    one_by one two some more same true false d e =
+        let at : one ≡ slot = (Decides-eqb one slot).0 d in
+        absurd (apart (kept one at some) two (is_apart two slot e) (was two e more) (sym (key_was two e) ∙ sym same ∙ key_now one at))
+    one_by one two some more same false true d e =
+        let at : two ≡ slot = (Decides-eqb two slot).0 e in
+        absurd (apart (kept two at more) one (is_apart one slot d) (was one d some) (sym (key_was one d) ∙ same ∙ key_now two at))
+    one_by one two some more same false false d e = bound.apart one two (was one d some) (was two e more) (sym (key_was one d) ∙ same ∙ key_was two e)
+
+    short_by : (one : ℕ) → 0 < count_at now one → (b : Bool) → (one == slot) ≡ b → length (key_at now one) ≤ 2056
+    short_by one some true d =
+        let at : one ≡ slot = (Decides-eqb one slot).0 d in
+        subst (λ (k : List ℕ). length k ≤ 2056) (sym (key_now one at)) (short (kept one at some))
+    short_by one some false d = subst (λ (k : List ℕ). length k ≤ 2056) (sym (key_was one d)) (bound.short one (was one d some))
+
+pub bound_none : (rows : List KeyRows) → rows ≡ [] → IsBound rows
+bound_none rows none = subst IsBound (sym none) (record {
+  apart = λ one two some more same. absurd (omega (arith, some));
+  short = λ one some. absurd (omega (arith, some));
+})
+
+-- a slot more, without rows
+
+pub bound_more : (rows : List KeyRows) (r : KeyRows) → length r.kept.items ≡ 0 → IsBound rows → IsBound (rows ++ r ∷ [])
+bound_more rows r none bound = record {
+  apart = λ one two some more same. bound.apart one two (was one some) (was two more) (sym (key_pushed rows r one none (was one some)) ∙ same ∙ key_pushed rows r two none (was two more));
+  short = λ one some. subst (λ (k : List ℕ). length k ≤ 2056) (sym (key_pushed rows r one none (was one some))) (bound.short one (was one some));
+}
+  where
+    was : (other : ℕ) → 0 < count_at (rows ++ r ∷ []) other → 0 < count_at rows other
+    was other some = omega (arith, some, count_pushed rows r other none)
+
+pub same_more : (rows : List KeyRows) (r : KeyRows) → length r.kept.items ≡ 0 → SameSlots rows (rows ++ r ∷ [])
+same_more rows r none = record {
+  slots = λ key. slots_pushed rows r key none;
+  rows = λ slot node. row_pushed rows r slot node none;
 }
 
-pub stays_opened : (old new : Map) (key k : List ℕ) (slot other : ℕ) → Updates (slice_cmp nat_cmp) old new key (Some slot) → slot_in old key ≡ None → slot_in old k ≡ Some other → slot_in new k ≡ Some other
-stays_opened old new key k slot other updates none there =
-    stays_for old new key slot updates k (λ e. (let no : None ≡ Some other = sym none ∙ ap (slot_in old) (sym e) ∙ there in cc)) ∙ there
+pub key_more : (rows : List KeyRows) (r : KeyRows) (slot : ℕ) → length r.kept.items ≡ 0 → 0 < count_at (rows ++ r ∷ []) slot → (0 < count_at rows slot) × (key_at (rows ++ r ∷ []) slot ≡ key_at rows slot)
+key_more rows r slot none some =
+    let was : 0 < count_at rows slot = omega (arith, some, count_pushed rows r slot none) in
+    (was, key_pushed rows r slot none was)
+
+-- rows in which nothing changed
 
 same_rows : (rows new : List KeyRows) (n : ℕ) → ((slot node : ℕ) → row_at new slot node ≡ row_at rows slot node) → (at : Option ℕ) → row_by new at n ≡ row_by rows at n
 same_rows rows new n same None = refl
 same_rows rows new n same (Some slot) = same slot n
 
-pub cells_same : (map other : Map) (rows new : List KeyRows) (n : ℕ) (k : List ℕ) → other ≡ map → ((slot node : ℕ) → row_at new slot node ≡ row_at rows slot node) → seen_in other new n k ≡ seen_in map rows n k
-cells_same map other rows new n k is same = ap (λ m. row_by new (slot_in m k) n) is ∙ same_rows rows new n same (slot_in map k)
+pub seen_same : (old new : List KeyRows) → SameSlots old new → SameSeen (seen_in old) (seen_in new)
+seen_same old new same n k = same_rows old new n same.rows (slot_in new k) ∙ ap (λ at. row_by old at n) (same.slots k)
 
-pub all_same : (map other : Map) (rows new : List KeyRows) → other ≡ map → new ≡ rows → SameSeen (seen_in map rows) (seen_in other new)
-all_same map other rows new maps is n k = ap (λ m. seen_in m new n k) maps ∙ ap (λ rs. seen_in map rs n k) is
+pub same_slots : (old new : List KeyRows) → new ≡ old → SameSlots old new
+same_slots old new is = record { slots = λ key. ap (λ rs. slot_in rs key) is; rows = λ slot node. ap (λ rs. row_at rs slot node) is }
+
+-- a write in a slot in which nothing is kept, before and after
+
+pub bound_spared : (rows : List KeyRows) (slot : ℕ) (r : KeyRows) → IsBound rows → slot < length rows → length r.kept.items ≡ 0 → IsBound (set rows slot r)
+bound_spared rows slot r bound within none = bound_by rows slot r bound within (λ some. absurd (omega (arith, some, none))) (λ some. absurd (omega (arith, some, none)))
+
+pub same_spared : (rows : List KeyRows) (slot : ℕ) (old r : KeyRows) → slot < length rows → old ≡ get_or rows slot old → count_at rows slot ≡ 0 → length r.kept.items ≡ 0 → SameSlots rows (set rows slot r)
+same_spared rows slot old r within is none empty = record {
+  slots = λ key. slots_set rows slot old r key within is (not_of r key empty ∙ sym (not_of old key (sym (count_there rows slot old within is) ∙ none)));
+  rows = λ other node. by other node (other == slot) refl;
+}
+  where
+    by : (other node : ℕ) (b : Bool) → (other == slot) ≡ b → row_at (set rows slot r) other node ≡ row_at rows other node
+    by other node true d =
+        let e : other ≡ slot = (Decides-eqb other slot).0 d in
+        ap (λ s. row_at (set rows slot r) s node) e ∙ row_set rows slot node r within ∙ empty_row r.kept.items node empty
+        ∙ sym (row_there rows slot node old within is ∙ empty_row old.kept.items node (sym (count_there rows slot old within is) ∙ none)) ∙ ap (λ s. row_at rows s node) (sym e)
+    by other node false d = row_beside rows slot other node r (is_apart other slot d)
+
+-- a slot after a write, where it isn't the one that was written
+pub used_beside : (rows : List KeyRows) (slot other : ℕ) (r : KeyRows) → slot < length rows → length r.kept.items ≡ 0 → 0 < count_at (set rows slot r) other → (other ≡ slot → ⊥)
+used_beside rows slot other r within none some e = absurd (omega (arith, some, ap (count_at (set rows slot r)) e, count_set rows slot r within, none))
+
+-- a write in the slot of a key
+
+module _ (rows : List KeyRows) (slot : ℕ) (old r : KeyRows) (within : slot < length rows) (is : old ≡ get_or rows slot old) where
+  was_count : count_at rows slot ≡ length old.kept.items
+  was_count = count_there rows slot old within is
+
+  was_key : key_at rows slot ≡ old.key
+  was_key = key_there rows slot old within is
+
+  pub bound_written : IsBound rows → r.key ≡ old.key → 0 < count_at rows slot → IsBound (set rows slot r)
+  bound_written bound same was =
+      bound_by rows slot r bound within (λ some. subst (λ (k : List ℕ). length k ≤ 2056) (was_key ∙ sym same) (bound.short slot was))
+      (λ some other apart used key. apart (bound.apart other slot used was (key ∙ same ∙ sym was_key)))
+
+  pub slots_written : r.key ≡ old.key → 0 < count_at rows slot → 0 < length r.kept.items → (k : List ℕ) → slot_in (set rows slot r) k ≡ slot_in rows k
+  slots_written same was some k = slots_set rows slot old r k within is (same_of r old k same some (omega (arith, was, was_count)))
+
+  pub slots_lost : (key : List ℕ) → old.key ≡ key → length r.kept.items ≡ 0 → (k : List ℕ) → (k ≡ key → ⊥) → slot_in (set rows slot r) k ≡ slot_in rows k
+  slots_lost key same none k apart = slots_set rows slot old r k within is (not_of r k none ∙ sym (not_key old key k same apart))
+
+  pub slots_opened : (key : List ℕ) → r.key ≡ key → count_at rows slot ≡ 0 → (k : List ℕ) → (k ≡ key → ⊥) → slot_in (set rows slot r) k ≡ slot_in rows k
+  slots_opened key same free k apart = slots_set rows slot old r k within is (not_key r key k same apart ∙ sym (not_of old k (sym was_count ∙ free)))
+
+pub bound_opened : (rows : List KeyRows) (key : List ℕ) (slot : ℕ) (r : KeyRows) → IsBound rows → slot < length rows → r.key ≡ key → slot_in rows key ≡ None → length key ≤ 2056 → IsBound (set rows slot r)
+bound_opened rows key slot r bound within same none short =
+    bound_by rows slot r bound within (λ some. subst (λ (k : List ℕ). length k ≤ 2056) (sym same) short) (λ some other apart used is. no_slot rows key other none used (is ∙ same))
+
+-- the slot that a key has then
+pub slot_opened : (rows : List KeyRows) (key : List ℕ) (slot : ℕ) (r : KeyRows) → IsBound (set rows slot r) → slot < length rows → r.key ≡ key → 0 < length r.kept.items → slot_in (set rows slot r) key ≡ Some slot
+slot_opened rows key slot r bound within same some = slot_of (set rows slot r) key slot bound (omega (arith, count_set rows slot r within, some)) (key_set rows slot r within ∙ same)
+
+pub none_by : (rows : List KeyRows) (key : List ℕ) (at : Option ℕ) → slot_in rows key ≡ at → ((slot : ℕ) → slot_in rows key ≡ Some slot → ⊥) → slot_in rows key ≡ None
+none_by rows key None is never = is
+none_by rows key (Some slot) is never = absurd (never slot is)
+
+-- and none, where its slot was emptied
+pub slot_lost : (rows : List KeyRows) (key : List ℕ) (slot : ℕ) (r : KeyRows) → IsBound rows → slot_in rows key ≡ Some slot → slot < length rows → length r.kept.items ≡ 0 → slot_in (set rows slot r) key ≡ None
+slot_lost rows key slot r bound found within none = none_by (set rows slot r) key (slot_in (set rows slot r) key) refl never
+  where
+    never : (other : ℕ) → slot_in (set rows slot r) key ≡ Some other → ⊥
+    never other there =
+        let some : 0 < count_at (set rows slot r) other = slot_filled (set rows slot r) key other there in
+        let apart : other ≡ slot → ⊥ = used_beside rows slot other r within none some in
+        apart (bound.apart other slot (omega (arith, some, count_beside rows slot other r apart)) (slot_filled rows key slot found)
+        (sym (key_beside rows slot other r apart) ∙ slot_key (set rows slot r) key other there ∙ sym (slot_key rows key slot found)))
+
+-- what is seen then
+
+pub cell_of : (rows : List KeyRows) (key : List ℕ) (slot node : ℕ) → slot_in rows key ≡ Some slot → seen_in rows node key ≡ row_at rows slot node
+cell_of rows key slot node found = ap (λ s. row_by rows s node) found
+
+pub cell_read : (rows : List KeyRows) (key : List ℕ) (slot node : ℕ) (r : KeyRows) → slot_in rows key ≡ Some slot → slot < length rows → r ≡ get_or rows slot r → seen_in rows node key ≡ seen_at r.kept.items node
+cell_read rows key slot node r found within is = cell_of rows key slot node found ∙ row_there rows slot node r within is
+
+-- the rows of a key in a slot, before a write there and after it, as the slots were before
+beside_by : (rows : List KeyRows) (key : List ℕ) (slot : ℕ) (old new : KeyRows) (n : ℕ) (k : List ℕ) → slot_in rows key ≡ Some slot → slot < length rows → old ≡ get_or rows slot old →
+    (k ≡ key → seen_at new.kept.items n ≡ seen_at old.kept.items n) → (at : Option ℕ) → slot_in rows k ≡ at → row_by (set rows slot new) at n ≡ row_by rows at n
+beside_by rows key slot old new n k found within is stays None there = refl
+beside_by rows key slot old new n k found within is stays (Some other) there = by (other == slot) refl
+  where
+    by : (b : Bool) → (other == slot) ≡ b → row_at (set rows slot new) other n ≡ row_at rows other n
+    by true d =
+        let e : other ≡ slot = (Decides-eqb other slot).0 d in
+        let same : k ≡ key = sym (slot_key rows k other there) ∙ ap (key_at rows) e ∙ slot_key rows key slot found in
+        ap (λ s. row_at (set rows slot new) s n) e ∙ row_set rows slot n new within ∙ stays same ∙ sym (row_there rows slot n old within is) ∙ ap (λ s. row_at rows s n) (sym e)
+    by false d = row_beside rows slot other n new (is_apart other slot d)
+
+pub not_equal : (key k : List ℕ) → bytes_eq key k ≡ false → k ≡ key → ⊥
+not_equal key k d e = true≢false (sym ((bytes_decides key k).1 (sym e)) ∙ d)
+
+-- a slot that was found in rows that are the same
+pub found_in : (rows was : List KeyRows) (key : List ℕ) (slot : ℕ) → rows ≡ was → Some slot ≡ slot_in was key → slot_in rows key ≡ Some slot
+found_in rows was key slot same is = ap (λ rs. slot_in rs key) same ∙ sym is
+
+-- what is done to the rows in the slot of a key
+
+module _ (rows was : List KeyRows) (key : List ℕ) (slot node : ℕ) (old new : KeyRows) (same : rows ≡ was) (bound : IsBound rows) (found : slot_in rows key ≡ Some slot) (is : old ≡ get_or rows slot old) (kept : new.key ≡ old.key) where
+  filled : 0 < count_at rows slot
+  filled = slot_filled rows key slot found
+
+  within_it : slot < length rows
+  within_it = within_of rows slot filled
+
+  read : seen_in rows node key ≡ seen_at old.kept.items node
+  read = cell_read rows key slot node old found within_it is
+
+  module _ (some : 0 < length new.kept.items) where
+    stays : (n : ℕ) (k : List ℕ) → (k ≡ key → seen_at new.kept.items n ≡ seen_at old.kept.items n) → seen_in (set rows slot new) n k ≡ seen_in rows n k
+    stays n k one = ap (λ at. row_by (set rows slot new) at n) (slots_written rows slot old new within_it is kept filled some k) ∙ beside_by rows key slot old new n k found within_it is one (slot_in rows k) refl
+
+    written : seen_in (set rows slot new) node key ≡ seen_at new.kept.items node
+    written = cell_of (set rows slot new) key slot node (slots_written rows slot old new within_it is kept filled some key ∙ found) ∙ row_set rows slot node new within_it
+
+    refused : {A E : Type 0} (result : Result A E) → OnErr result (IsKeptSame old.kept.items new.kept.items) → OnErr result (SameSeen (seen_in rows) (seen_in (set rows slot new)))
+    refused (Ok done) err = err
+    refused (Err why) err = λ n k. stays n k (λ e. err.same n)
+
+    pub step_written : (func : Func) (change : Change) (value : Value) (result : Result Unit Refusal) → RowsStep func change value node old.kept.items new.kept.items result → SlotsStep func change value node key (seen_in was) (seen_in (set rows slot new)) result
+    step_written func change value result step = rw (sym same) (record {
+      stepped = rw (read, written) step.stepped;
+      others = λ n k apart. stays n k (λ e. step.others n (λ at. apart (at, e)));
+      err = refused result step.err;
+      refuses = rw read step.refuses;
+    })
+
+    pub got_written : (held : Held) (result : Result Unit Memory) → RowsGet held node old.kept.items new.kept.items result → SlotsGet held node key (seen_in was) (seen_in (set rows slot new)) result
+    got_written held result got = rw (sym same) (record {
+      row = rw written got.row;
+      marks = rw (read, written) got.marks;
+      others = λ n k apart. stays n k (λ e. got.others n (λ at. apart (at, e)));
+      err = refused result got.err;
+    })
+
+  module _ (none : length new.kept.items ≡ 0) where
+    gone : (n : ℕ) → seen_in (set rows slot new) n key ≡ seen_at new.kept.items n
+    gone n = ap (λ at. row_by (set rows slot new) at n) (slot_lost rows key slot new bound found within_it none) ∙ sym (empty_row new.kept.items n none)
+
+    pub lost_by : (n : ℕ) (k : List ℕ) → (k ≡ key → seen_at new.kept.items n ≡ seen_at old.kept.items n) → (b : Bool) → bytes_eq key k ≡ b → seen_in (set rows slot new) n k ≡ seen_in rows n k
+    lost_by n k one true d =
+        let e : key ≡ k = (bytes_decides key k).0 d in
+        subst (λ (k : List ℕ). seen_in (set rows slot new) n k ≡ seen_in rows n k) e (gone n ∙ one (sym e) ∙ sym (cell_read rows key slot n old found within_it is))
+    lost_by n k one false d =
+        ap (λ at. row_by (set rows slot new) at n) (slots_lost rows slot old new within_it is key (sym (key_there rows slot old within_it is) ∙ slot_key rows key slot found) none k (not_equal key k d))
+        ∙ beside_by rows key slot old new n k found within_it is (λ e. absurd (not_equal key k d e)) (slot_in rows k) refl
+
+    pub step_lost : (func : Func) (change : Change) (value : Value) → RowsStep func change value node old.kept.items new.kept.items (Ok tt) → SlotsStep func change value node key (seen_in was) (seen_in (set rows slot new)) (Ok tt)
+    step_lost func change value step = rw (sym same) (record {
+      stepped = rw (read, gone node) step.stepped;
+      others = λ n k apart. lost_by n k (λ e. step.others n (λ at. apart (at, e))) (bytes_eq key k) refl;
+      err = tt;
+      refuses = tt;
+    })
+
+-- the rows of a slot, settled
+
+settled_at : (rows : List KeyRows) (slot : ℕ) (old new : KeyRows) (n : ℕ) (at : Option ℕ) → slot < length rows → old ≡ get_or rows slot old → ((node : ℕ) → seen_at new.kept.items node ≡ settled (seen_at old.kept.items node)) → settled (row_by (set rows slot new) at n) ≡ settled (row_by rows at n)
+settled_at rows slot old new n None within is all = refl
+settled_at rows slot old new n (Some other) within is all = by (other == slot) refl
+  where
+    by : (b : Bool) → (other == slot) ≡ b → settled (row_at (set rows slot new) other n) ≡ settled (row_at rows other n)
+    by true d =
+        let e : other ≡ slot = (Decides-eqb other slot).0 d in
+        ap (λ s. settled (row_at (set rows slot new) s n)) e ∙ ap settled (row_set rows slot n new within ∙ all n ∙ ap settled (sym (row_there rows slot n old within is))) ∙ ap (λ s. settled (row_at rows s n)) (sym e)
+    by false d = ap settled (row_beside rows slot other n new (is_apart other slot d))
+
+module _ (rows : List KeyRows) (slot : ℕ) (old new : KeyRows) (was : 0 < count_at rows slot) (is : old ≡ get_or rows slot old) (kept : new.key ≡ old.key) (all : (node : ℕ) → seen_at new.kept.items node ≡ settled (seen_at old.kept.items node)) where
+  here : slot < length rows
+  here = within_of rows slot was
+
+  pub rows_settled : 0 < length new.kept.items → (n : ℕ) (k : List ℕ) → settled (seen_in (set rows slot new) n k) ≡ settled (seen_in rows n k)
+  rows_settled some n k = ap (λ at. settled (row_by (set rows slot new) at n)) (slots_written rows slot old new here is kept was some k) ∙ settled_at rows slot old new n (slot_in rows k) here is all
+
+  -- and where none of them is left
+  pub rows_lost : IsBound rows → length new.kept.items ≡ 0 → (n : ℕ) (k : List ℕ) → settled (seen_in (set rows slot new) n k) ≡ settled (seen_in rows n k)
+  rows_lost bound none n k = by (bytes_eq key k) refl
+    where
+      key : List ℕ
+      key = key_at rows slot
+
+      found : slot_in rows key ≡ Some slot
+      found = slot_of rows key slot bound was refl
+
+      by : (b : Bool) → bytes_eq key k ≡ b → settled (seen_in (set rows slot new) n k) ≡ settled (seen_in rows n k)
+      by true d =
+          let e : key ≡ k = (bytes_decides key k).0 d in
+          let gone : seen_in (set rows slot new) n key ≡ unseen = ap (λ at. row_by (set rows slot new) at n) (slot_lost rows key slot new bound found here none) in
+          let before : settled (seen_in rows n key) ≡ unseen = ap settled (cell_read rows key slot n old found here is) ∙ sym (all n) ∙ empty_row new.kept.items n none in
+          subst (λ (k : List ℕ). settled (seen_in (set rows slot new) n k) ≡ settled (seen_in rows n k)) e (ap settled gone ∙ sym before)
+      by false d =
+          ap settled (ap (λ at. row_by (set rows slot new) at n) (slots_lost rows slot old new here is key (sym (key_there rows slot old here is)) none k (not_equal key k d)))
+          ∙ settled_at rows slot old new n (slot_in rows k) here is all
+
+-- a key that is given the row of one node
+
+module _ (rows : List KeyRows) (key : List ℕ) (slot node : ℕ) (held : Held) (old new : KeyRows) (bound : IsBound rows) (within : slot < length rows) (is : old ≡ get_or rows slot old) (free : count_at rows slot ≡ 0) (none : slot_in rows key ≡ None) (same : new.key ≡ key) (first : IsFirst node held new.kept.items) (short : length key ≤ 2056) where
+  at_key : (n : ℕ) → seen_in (set rows slot new) n key ≡ seen_at new.kept.items n
+  at_key n =
+      let now : IsBound (set rows slot new) = bound_opened rows key slot new bound within same none short in
+      let some : 0 < length new.kept.items = omega (arith, first.count) in
+      cell_of (set rows slot new) key slot n (slot_opened rows key slot new now within same some) ∙ row_set rows slot n new within
+
+  pub row_put : seen_in (set rows slot new) node key ≡ fresh held
+  row_put = at_key node ∙ first.row
+
+  pub others_put : OthersSeen node key (seen_in rows) (seen_in (set rows slot new))
+  others_put n k apart = by (bytes_eq key k) refl
+    where
+      beside : (at : Option ℕ) → slot_in rows k ≡ at → row_by (set rows slot new) at n ≡ row_by rows at n
+      beside None there = refl
+      beside (Some other) there = row_beside rows slot other n new (λ e. absurd (omega (arith, slot_filled rows k other there, ap (count_at rows) e, free)))
+
+      by : (b : Bool) → bytes_eq key k ≡ b → seen_in (set rows slot new) n k ≡ seen_in rows n k
+      by true d =
+          let e : k ≡ key = sym ((bytes_decides key k).0 d) in
+          ap (λ k. seen_in (set rows slot new) n k) e ∙ at_key n ∙ first.others n (λ at. apart (at, e)) ∙ sym (ap (λ at. row_by rows at n) none) ∙ ap (λ k. seen_in rows n k) (sym e)
+      by false d = ap (λ at. row_by (set rows slot new) at n) (slots_opened rows slot old new within is key same free k (not_equal key k d)) ∙ beside (slot_in rows k) refl
 
 -- a slot past the last one
 pub none_past : (rows : List KeyRows) (slot node : ℕ) → length rows ≤ slot → row_at rows slot node ≡ unseen
@@ -237,124 +449,7 @@ none_past [] slot node past = refl
 none_past (r ∷ rows) zero node past = absurd (omega arith)
 none_past (r ∷ rows) (suc slot) node past = none_past rows slot node (omega arith)
 
--- a key that loses its slot
-
-lost : (old new : Map) (key : List ℕ) → UpdatesBy (slice_cmp nat_cmp) (slice_cmp nat_cmp key) old new None → slot_in new key ≡ None
-lost old new key updates = updates.1
-
-pub stays_lost : (old new : Map) (key : List ℕ) → UpdatesBy (slice_cmp nat_cmp) (slice_cmp nat_cmp key) old new None → (k : List ℕ) → (k ≡ key → ⊥) → slot_in new k ≡ slot_in old k
-stays_lost old new key updates k apart = updates.2 k (apart_false key k apart)
-
--- a key that has a slot then had it before, and is another one
-kept_by : (old new : Map) (key : List ℕ) → UpdatesBy (slice_cmp nat_cmp) (slice_cmp nat_cmp key) old new None → (k : List ℕ) (other : ℕ) → slot_in new k ≡ Some other → (b : Bool) → bytes_eq key k ≡ b → (k ≡ key → ⊥) × (slot_in old k ≡ Some other)
-kept_by old new key updates k other found true d =
-    let e : key ≡ k = (bytes_decides key k).0 d in
-    let no : None ≡ Some other = sym (lost old new key updates) ∙ ap (slot_in new) e ∙ found in cc
-kept_by old new key updates k other found false d = (not_equal key k d, sym (stays_lost old new key updates k (not_equal key k d)) ∙ found)
-
-kept_then : (old new : Map) (key : List ℕ) → UpdatesBy (slice_cmp nat_cmp) (slice_cmp nat_cmp key) old new None → (k : List ℕ) (other : ℕ) → slot_in new k ≡ Some other → (k ≡ key → ⊥) × (slot_in old k ≡ Some other)
-kept_then old new key updates k other found = kept_by old new key updates k other found (bytes_eq key k) refl
-
-pub bound_lost : (old new : Map) (rows : List KeyRows) (key : List ℕ) (slot : ℕ) (r : KeyRows) → IsBound old rows → slot_in old key ≡ Some slot → IsOrdered (slice_cmp nat_cmp) new → UpdatesBy (slice_cmp nat_cmp) (slice_cmp nat_cmp key) old new None → IsBound new (set rows slot r)
-bound_lost old new rows key slot r bound found ordered updates = record {
-  ordered = ordered;
-  filled = λ k other there. (
-      let was = kept_then old new key updates k other there in
-      let some : 0 < count_at rows other = bound.filled k other was.1 in
-      omega (arith, count_beside rows slot other r (λ e. was.0 (bound.apart k key slot (was.1 ∙ ap Some e) found)), some));
-  apart = λ k l other one two. bound.apart k l other (kept_then old new key updates k other one).1 (kept_then old new key updates l other two).1;
-  short = λ k other there. bound.short k other (kept_then old new key updates k other there).1;
-}
-
-pub cell_lost : (old new : Map) (rows : List KeyRows) (key : List ℕ) (n : ℕ) → UpdatesBy (slice_cmp nat_cmp) (slice_cmp nat_cmp key) old new None → seen_in new rows n key ≡ unseen
-cell_lost old new rows key n updates = ap (λ at. row_by rows at n) (lost old new key updates)
-
-pub beside_lost : (old : Map) (rows : List KeyRows) (key : List ℕ) (slot : ℕ) (r : KeyRows) (n : ℕ) (k : List ℕ) (at : Option ℕ) → IsBound old rows → slot_in old key ≡ Some slot → (k ≡ key → ⊥) → slot_in old k ≡ at → row_by (set rows slot r) at n ≡ row_by rows at n
-beside_lost old rows key slot r n k None bound found apart is = refl
-beside_lost old rows key slot r n k (Some other) bound found apart is = row_beside rows slot other n r (λ e. apart (bound.apart k key slot (is ∙ ap Some e) found))
-
-others_lost_by : (old new : Map) (rows : List KeyRows) (key : List ℕ) (slot node : ℕ) (was r : KeyRows) → IsBound old rows → slot_in old key ≡ Some slot → UpdatesBy (slice_cmp nat_cmp) (slice_cmp nat_cmp key) old new None →
-    slot < length rows → was ≡ get_or rows slot was → OthersKept node was.kept.items r.kept.items → length r.kept.items ≡ 0 →
-    (n : ℕ) (k : List ℕ) → ((n ≡ node) × (k ≡ key) → ⊥) → (b : Bool) → bytes_eq key k ≡ b → seen_in new (set rows slot r) n k ≡ seen_in old rows n k
-others_lost_by old new rows key slot node was r bound found updates within is others none n k apart true d =
-    let e : key ≡ k = (bytes_decides key k).0 d in
-    let gone : seen_in new (set rows slot r) n key ≡ unseen = cell_lost old new (set rows slot r) key n updates in
-    let before : seen_in old rows n key ≡ unseen = cell_read old rows key slot n was found within is ∙ sym (others n (λ same. apart (same, sym e))) ∙ empty_row r.kept.items n none in
-    subst (λ k. seen_in new (set rows slot r) n k ≡ seen_in old rows n k) e (gone ∙ sym before)
-others_lost_by old new rows key slot node was r bound found updates within is others none n k apart false d =
-    ap (λ at. row_by (set rows slot r) at n) (stays_lost old new key updates k (not_equal key k d)) ∙ beside_lost old rows key slot r n k (slot_in old k) bound found (not_equal key k d) refl
-
--- the rows of other keys and nodes, where the last row of a key went
-pub others_lost : (old new : Map) (rows : List KeyRows) (key : List ℕ) (slot node : ℕ) (was r : KeyRows) → IsBound old rows → slot_in old key ≡ Some slot → UpdatesBy (slice_cmp nat_cmp) (slice_cmp nat_cmp key) old new None →
-    slot < length rows → was ≡ get_or rows slot was → OthersKept node was.kept.items r.kept.items → length r.kept.items ≡ 0 → OthersSeen node key (seen_in old rows) (seen_in new (set rows slot r))
-others_lost old new rows key slot node was r bound found updates within is others none n k apart =
-    others_lost_by old new rows key slot node was r bound found updates within is others none n k apart (bytes_eq key k) refl
-
--- the node that lost its row, by what is in its slot and by what the key finds
-pub gone_row : (old new : Map) (rows : List KeyRows) (key : List ℕ) (n : ℕ) (r : KeyRows) → UpdatesBy (slice_cmp nat_cmp) (slice_cmp nat_cmp key) old new None → length r.kept.items ≡ 0 → seen_in new rows n key ≡ seen_at r.kept.items n
-gone_row old new rows key n r updates none = cell_lost old new rows key n updates ∙ sym (empty_row r.kept.items n none)
-
-pub some_put : {A E : Type 0} (result : Result A E) (old new : List Kept) → OnOk result (length new ≡ length old + 1) → OnErr result (IsKeptSame old new) → 0 < length old → 0 < length new
-some_put (Ok done) old new count same was = omega (arith, count)
-some_put (Err refused) old new count same was = omega (arith, same.count)
-
--- how many keys there are
-
-pub few_opened : (old new : Map) (was : Option ℕ) → length new.entries ≡ length old.entries + (if is_some was then 0 else 1) → length old.entries < 4294967295 → length new.entries < 2 ^ 32
-few_opened old new None count few = omega (arith, count, few)
-few_opened old new (Some slot) count few = omega (arith, count, few)
-
-pub few_lost : (old new : Map) (was : Option (List ℕ × ℕ)) → length new.entries + (if is_some was then 1 else 0) ≡ length old.entries → length old.entries < 2 ^ 32 → length new.entries < 2 ^ 32
-few_lost old new None count few = omega (arith, count, few)
-few_lost old new (Some gone) count few = omega (arith, count, few)
-
 pub count_past : (rows : List KeyRows) (slot : ℕ) → length rows ≤ slot → count_at rows slot ≡ 0
 count_past [] slot past = refl
 count_past (r ∷ rows) zero past = absurd (omega arith)
 count_past (r ∷ rows) (suc slot) past = count_past rows slot (omega arith)
-
--- a key that is put in with the row of one node
-pub others_put_by : (old new : Map) (rows more : List KeyRows) (kept : List Kept) (key : List ℕ) (node : ℕ) → slot_in old key ≡ None → ((n : ℕ) → seen_in new more n key ≡ seen_at kept n) → ((n : ℕ) → (n ≡ node → ⊥) → seen_at kept n ≡ unseen) →
-    ((n : ℕ) (k : List ℕ) → (k ≡ key → ⊥) → seen_in new more n k ≡ seen_in old rows n k) → (n : ℕ) (k : List ℕ) → ((n ≡ node) × (k ≡ key) → ⊥) → (b : Bool) → bytes_eq key k ≡ b → seen_in new more n k ≡ seen_in old rows n k
-others_put_by old new rows more kept key node none here beside others n k apart true d =
-    let same : k ≡ key = sym ((bytes_decides key k).0 d) in
-    ap (λ t. seen_in new more n t) same ∙ here n ∙ beside n (λ e. apart (e, same)) ∙ sym (ap (λ at. row_by rows at n) none) ∙ ap (λ t. seen_in old rows n t) (sym same)
-others_put_by old new rows more kept key node none here beside others n k apart false d = others n k (not_equal key k d)
-
--- a slot that was found in a map that is the same
-pub found_in : (map was_map : Map) (key : List ℕ) (slot : ℕ) → map ≡ was_map → Some slot ≡ slot_in was_map key → slot_in map key ≡ Some slot
-found_in map was_map key slot maps is = ap (λ m. slot_in m key) maps ∙ sym is
-
--- what is done to the rows in the slot of a key, as seen from a map and rows that are the same
-
-module _ (map was_map : Map) (rows was : List KeyRows) (key : List ℕ) (slot node : ℕ) (old new : KeyRows) (maps : map ≡ was_map) (same : rows ≡ was) (bound : IsBound map rows) (found : slot_in map key ≡ Some slot) (is : old ≡ get_or rows slot old) where
-  within_it : slot < length rows
-  within_it = within_of rows slot (bound.filled key slot found)
-
-  read : seen_in map rows node key ≡ seen_at old.kept.items node
-  read = cell_read map rows key slot node old found within_it is
-
-  pub step_written : (func : Func) (change : Change) (value : Value) (result : Result Unit Refusal) → RowsStep func change value node old.kept.items new.kept.items result → SlotsStep func change value node key (seen_in was_map was) (seen_in map (set rows slot new)) result
-  step_written func change value result step = rw (sym maps, sym same) (record {
-    stepped = rw (read, cell_written map rows key slot node new found within_it) step.stepped;
-    others = others_written map rows key slot node old new bound found within_it is step.others;
-    err = err_written result map rows key slot old new bound found within_it is step.err;
-    refuses = rw read step.refuses;
-  })
-
-  pub step_lost : (func : Func) (change : Change) (value : Value) (lost : Map) → UpdatesBy (slice_cmp nat_cmp) (slice_cmp nat_cmp key) map lost None → length new.kept.items ≡ 0 → RowsStep func change value node old.kept.items new.kept.items (Ok tt)
-      → SlotsStep func change value node key (seen_in was_map was) (seen_in lost (set rows slot new)) (Ok tt)
-  step_lost func change value lost updates none step = rw (sym maps, sym same) (record {
-    stepped = rw (read, gone_row map lost (set rows slot new) key node new updates none) step.stepped;
-    others = others_lost map lost rows key slot node old new bound found updates within_it is step.others none;
-    err = tt;
-    refuses = tt;
-  })
-
-  pub got_written : (held : Held) (result : Result Unit Memory) → RowsGet held node old.kept.items new.kept.items result → SlotsGet held node key (seen_in was_map was) (seen_in map (set rows slot new)) result
-  got_written held result got = rw (sym maps, sym same) (record {
-    row = rw (cell_written map rows key slot node new found within_it) got.row;
-    marks = rw (read, cell_written map rows key slot node new found within_it) got.marks;
-    others = others_written map rows key slot node old new bound found within_it is got.others;
-    err = err_written result map rows key slot old new bound found within_it is got.err;
-  })

@@ -267,3 +267,8 @@ free_popped free now len room left rows slot r last are long rest same some =
 pub free_put : (free now : List ℕ) (room more : ℕ) (rows : List KeyRows) (slot : ℕ) (r : KeyRows) → AreFree free room rows → slot < length rows → 0 < count_at rows slot → length r.kept.items ≡ 0 → now ≡ free ++ slot ∷ [] → room ≤ more → AreFree now more (set rows slot r)
 free_put free now room more rows slot r are within was none put more_room =
     subst (λ (slots : List ℕ). AreFree slots more (set rows slot r)) (sym put) (free_roomy (free ++ slot ∷ []) room more (set rows slot r) (free_emptied free room rows slot r are within was none) more_room)
+
+-- more room, and nothing else changed
+pub free_reserved : (free now : List ℕ) (room more : ℕ) (rows new : List KeyRows) → AreFree free room rows → now ≡ free → room ≤ more → new ≡ rows → AreFree now more new
+free_reserved free now room more rows new are same more_room is =
+    subst (λ (slots : List ℕ). AreFree slots more new) (sym same) (subst (λ (rs : List KeyRows). AreFree free more rs) (sym is) (free_roomy free room more rows are more_room))

@@ -6,17 +6,16 @@ use Rattle.std.specs.Cmp.{first_so, second_so}
 use Rattle.std.specs.List.{All, Contains}
 use Rattle.std.specs.List.Sorted.{IsStrictlySortedBy}
 use Rattle.std.specs.Map.{keys_of}
-use Rattle.std.specs.BTreeMap.{BTreeMap}
-use Rattle.std.specs.Cmp.Lexicographic.{slice_cmp, bytes_decides, nat_list_cmp_total}
-use Rattle.std.specs.Ordering.{nat_cmp, is_eq, is_lt}
+use Rattle.std.specs.Cmp.Lexicographic.{slice_cmp}
+use Rattle.std.specs.Ordering.{nat_cmp, is_lt}
 use Rattle.std.specs.declared.cmp.Ordering.TheVariants.{Less}
 use Rattle.std.proofs.lemmas.List.Elements.{All-nil, All-cons, All-append, All-contains, All-weaker, All-head, All-tail, Contains-append_left, Contains-append_right}
 use Rattle.std.proofs.lemmas.Map.Keys.{sorted_tail}
-use Rattle.std.proofs.lemmas.Map.Text.{is_eq-slice_cmp}
-use Rattle.std.proofs.lemmas.Map.Views.{All-found, All-after_first, Contains-from_lookup}
+use Rattle.std.proofs.lemmas.Map.Views.{All-after_first}
 use Rattle.rg_agg.specs.Held.{Held}
 use Rattle.rg_agg.specs.Standing.{size_in}
-use Rattle.rg_state.specs.Cells.{row_at, row_by, slot_in, seen_in, cell_in, named_in, there_in, held_row, told_row, and_row, node_entries, entries_from, at_slot, IsBound, AreBelow}
+use Rattle.rg_state.specs.Slots.{short_key, pairs_order}
+use Rattle.rg_state.specs.Cells.{pairs_from, row_at, row_by, slot_in, seen_in, cell_in, named_in, there_in, held_row, told_row, and_row, node_entries, entries_from, at_slot, IsBound, AreBelow}
 use Rattle.rg_state.specs.Changes.{changes_in}
 use Rattle.rg_state.specs.Kepts.{Seen, unseen, seen, seen_at, shown, told, stands_in, is_fair, is_idle, is_marked, are_sound}
 use Rattle.rg_state.specs.Rows.{At, IsBelow, AreRising, ListsOf, Lists}
@@ -26,9 +25,6 @@ use Rattle.rg_state.specs.declared.key_rows.Kept.{Kept}
 use Rattle.rg_state.specs.declared.key_rows.KeyRows.{KeyRows}
 use Rattle.rg_state.specs.declared.sheets.Wanted.{Wanted}
 use Rattle.rg_state.specs.declared.sheets.Wanted.TheVariants.{Rows, Changes}
-
-abbrev Map : Type 0
-Map = BTreeMap (List ℕ) ℕ
 
 -- no row is empty
 
@@ -68,8 +64,8 @@ filled_at : (rows : List KeyRows) (at : Option ℕ) (node : ℕ) (held : Held) �
 filled_at rows None node held found = cc
 filled_at rows (Some slot) node held found = filled_row rows slot node held found
 
-pub filled_cell : (map : Map) (rows : List KeyRows) (node : ℕ) (key : List ℕ) (held : Held) → cell_in map rows node key ≡ Some held → 0 < size_in held
-filled_cell map rows node key held found = filled_at rows (slot_in map key) node held found
+pub filled_cell : (rows : List KeyRows) (node : ℕ) (key : List ℕ) (held : Held) → cell_in rows node key ≡ Some held → 0 < size_in held
+filled_cell rows node key held found = filled_at rows (slot_in rows key) node held found
 
 -- what a row keeps is what a state keeps
 
@@ -94,8 +90,8 @@ state_at : (rows : List KeyRows) (at : Option ℕ) (node : ℕ) (held : Held) �
 state_at rows None node held found = cc
 state_at rows (Some slot) node held found = state_row rows slot node held found
 
-pub state_cell : (map : Map) (rows : List KeyRows) (node : ℕ) (key : List ℕ) (held : Held) → cell_in map rows node key ≡ Some held → IsHeld held
-state_cell map rows node key held found = state_at rows (slot_in map key) node held found
+pub state_cell : (rows : List KeyRows) (node : ℕ) (key : List ℕ) (held : Held) → cell_in rows node key ≡ Some held → IsHeld held
+state_cell rows node key held found = state_at rows (slot_in rows key) node held found
 
 -- a row that was there was named
 
@@ -121,73 +117,73 @@ there_at : (rows : List KeyRows) (at : Option ℕ) (node : ℕ) → (row_by rows
 there_at rows None node is = cc
 there_at rows (Some slot) node is = there_row rows slot node is
 
-pub there_cell : (map : Map) (rows : List KeyRows) (node : ℕ) (key : List ℕ) → there_in map rows node key ≡ true → named_in map rows node key ≡ true
-there_cell map rows node key is = there_at rows (slot_in map key) node is
+pub there_cell : (rows : List KeyRows) (node : ℕ) (key : List ℕ) → there_in rows node key ≡ true → named_in rows node key ≡ true
+there_cell rows node key is = there_at rows (slot_in rows key) node is
 
 -- the key of what is in a slot is short, and so is the number of its node where there are few nodes
 
-module _ {X : Type 0} (map : Map) (rows : List KeyRows) (bound : IsBound map rows) (row : ℕ → ℕ → Option X) where
-  short_at : (key : List ℕ) (node : ℕ) (held : X) (at : Option ℕ) → slot_in map key ≡ at → at_slot row at node ≡ Some held → length key ≤ 2056
+module _ {X : Type 0} (rows : List KeyRows) (bound : IsBound rows) (row : ℕ → ℕ → Option X) where
+  short_at : (key : List ℕ) (node : ℕ) (held : X) (at : Option ℕ) → slot_in rows key ≡ at → at_slot row at node ≡ Some held → length key ≤ 2056
   short_at key node held None is found = cc
-  short_at key node held (Some slot) is found = bound.short key slot is
+  short_at key node held (Some slot) is found = short_key rows key slot bound is
 
-  pub short_of : (key : List ℕ) (node : ℕ) (held : X) → at_slot row (slot_in map key) node ≡ Some held → length key ≤ 2056
-  short_of key node held found = short_at key node held (slot_in map key) refl found
+  pub short_of : (key : List ℕ) (node : ℕ) (held : X) → at_slot row (slot_in rows key) node ≡ Some held → length key ≤ 2056
+  short_of key node held found = short_at key node held (slot_in rows key) refl found
 
 cell_by : (rows : List KeyRows) (at : Option ℕ) (node : ℕ) → (row_by rows at node).held ≡ at_slot (held_row rows) at node
 cell_by rows None node = refl
 cell_by rows (Some slot) node = refl
 
-pub cell_slot : (map : Map) (rows : List KeyRows) (node : ℕ) (key : List ℕ) → cell_in map rows node key ≡ at_slot (held_row rows) (slot_in map key) node
-cell_slot map rows node key = cell_by rows (slot_in map key) node
+pub cell_slot : (rows : List KeyRows) (node : ℕ) (key : List ℕ) → cell_in rows node key ≡ at_slot (held_row rows) (slot_in rows key) node
+cell_slot rows node key = cell_by rows (slot_in rows key) node
 
 told_by : (rows : List KeyRows) (at : Option ℕ) (node : ℕ) → told (row_by rows at node) ≡ at_slot (told_row rows) at node
 told_by rows None node = refl
 told_by rows (Some slot) node = refl
 
-pub told_slot : (map : Map) (rows : List KeyRows) (node : ℕ) (key : List ℕ) → changes_in (named_in map rows) (there_in map rows) (cell_in map rows) node key ≡ at_slot (told_row rows) (slot_in map key) node
-told_slot map rows node key = told_by rows (slot_in map key) node
+pub told_slot : (rows : List KeyRows) (node : ℕ) (key : List ℕ) → changes_in (named_in rows) (there_in rows) (cell_in rows) node key ≡ at_slot (told_row rows) (slot_in rows key) node
+told_slot rows node key = told_by rows (slot_in rows key) node
 
 below_by : (nodes node : ℕ) (b : Bool) → nat_lt node nodes ≡ b → (nodes ≤ node → ⊥) → node < nodes
 below_by nodes node true is not_past = ltb-true node nodes is
 below_by nodes node false is not_past = absurd (not_past (omega (arith, ltb-false node nodes is)))
 
 -- a row of which something is seen is of a node below the number
-pub seen_below : (map : Map) (rows : List KeyRows) (nodes node : ℕ) (key : List ℕ) → AreBelow nodes map rows → (seen_in map rows node key ≡ unseen → ⊥) → node < nodes
-seen_below map rows nodes node key below some = below_by nodes node (nat_lt node nodes) refl (λ past. some (below node key past))
+pub seen_below : (rows : List KeyRows) (nodes node : ℕ) (key : List ℕ) → AreBelow nodes rows → (seen_in rows node key ≡ unseen → ⊥) → node < nodes
+seen_below rows nodes node key below some = below_by nodes node (nat_lt node nodes) refl (λ past. some (below node key past))
 
 some_seen : (row : Seen) (held : Held) → row.held ≡ Some held → row ≡ unseen → ⊥
 some_seen row held is none =
     let never : None ≡ Some held = sym (ap (λ (r : Seen). r.held) none) ∙ is in cc
 
-pub cell_below : (map : Map) (rows : List KeyRows) (nodes node : ℕ) (key : List ℕ) (held : Held) → AreBelow nodes map rows → cell_in map rows node key ≡ Some held → node < nodes
-cell_below map rows nodes node key held below found = seen_below map rows nodes node key below (some_seen (seen_in map rows node key) held found)
+pub cell_below : (rows : List KeyRows) (nodes node : ℕ) (key : List ℕ) (held : Held) → AreBelow nodes rows → cell_in rows node key ≡ Some held → node < nodes
+cell_below rows nodes node key held below found = seen_below rows nodes node key below (some_seen (seen_in rows node key) held found)
 
 there_seen : (row : Seen) → row.there ≡ true → row ≡ unseen → ⊥
 there_seen row is none =
     let never : false ≡ true = sym (ap (λ (r : Seen). r.there) none) ∙ is in cc
 
-pub there_below : (map : Map) (rows : List KeyRows) (nodes node : ℕ) (key : List ℕ) → AreBelow nodes map rows → there_in map rows node key ≡ true → node < nodes
-there_below map rows nodes node key below is = seen_below map rows nodes node key below (there_seen (seen_in map rows node key) is)
+pub there_below : (rows : List KeyRows) (nodes node : ℕ) (key : List ℕ) → AreBelow nodes rows → there_in rows node key ≡ true → node < nodes
+there_below rows nodes node key below is = seen_below rows nodes node key below (there_seen (seen_in rows node key) is)
 
 told_seen : (row : Seen) (now : Option Held) → told row ≡ Some now → row ≡ unseen → ⊥
 told_seen row now is none =
     let never : None ≡ Some now = sym (ap told none) ∙ is in cc
 
-pub told_below : (map : Map) (rows : List KeyRows) (nodes node : ℕ) (key : List ℕ) (now : Option Held) → AreBelow nodes map rows → told (seen_in map rows node key) ≡ Some now → node < nodes
-told_below map rows nodes node key now below is = seen_below map rows nodes node key below (told_seen (seen_in map rows node key) now is)
+pub told_below : (rows : List KeyRows) (nodes node : ℕ) (key : List ℕ) (now : Option Held) → AreBelow nodes rows → told (seen_in rows node key) ≡ Some now → node < nodes
+told_below rows nodes node key now below is = seen_below rows nodes node key below (told_seen (seen_in rows node key) now is)
 
-pub bounded_cell : (map : Map) (rows : List KeyRows) (nodes node : ℕ) (key : List ℕ) (held : Held) → nodes ≤ 2 ^ 32 → IsBound map rows → AreBelow nodes map rows → cell_in map rows node key ≡ Some held → (node < 2 ^ 32) × (length key ≤ 2056)
-bounded_cell map rows nodes node key held few bound below found =
-    (omega (arith, few, cell_below map rows nodes node key held below found), short_of map rows bound (held_row rows) key node held (sym (cell_slot map rows node key) ∙ found))
+pub bounded_cell : (rows : List KeyRows) (nodes node : ℕ) (key : List ℕ) (held : Held) → nodes ≤ 2 ^ 32 → IsBound rows → AreBelow nodes rows → cell_in rows node key ≡ Some held → (node < 2 ^ 32) × (length key ≤ 2056)
+bounded_cell rows nodes node key held few bound below found =
+    (omega (arith, few, cell_below rows nodes node key held below found), short_of rows bound (held_row rows) key node held (sym (cell_slot rows node key) ∙ found))
 
-there_slot : (map : Map) (rows : List KeyRows) (key : List ℕ) (node : ℕ) (at : Option ℕ) → IsBound map rows → slot_in map key ≡ at → (row_by rows at node).there ≡ true → length key ≤ 2056
-there_slot map rows key node None bound is found = cc
-there_slot map rows key node (Some slot) bound is found = bound.short key slot is
+there_slot : (rows : List KeyRows) (key : List ℕ) (node : ℕ) (at : Option ℕ) → IsBound rows → slot_in rows key ≡ at → (row_by rows at node).there ≡ true → length key ≤ 2056
+there_slot rows key node None bound is found = cc
+there_slot rows key node (Some slot) bound is found = short_key rows key slot bound is
 
-pub bounded_there : (map : Map) (rows : List KeyRows) (nodes node : ℕ) (key : List ℕ) → nodes ≤ 2 ^ 32 → IsBound map rows → AreBelow nodes map rows → there_in map rows node key ≡ true → (node < 2 ^ 32) × (length key ≤ 2056)
-bounded_there map rows nodes node key few bound below found =
-    (omega (arith, few, there_below map rows nodes node key below found), there_slot map rows key node (slot_in map key) bound refl found)
+pub bounded_there : (rows : List KeyRows) (nodes node : ℕ) (key : List ℕ) → nodes ≤ 2 ^ 32 → IsBound rows → AreBelow nodes rows → there_in rows node key ≡ true → (node < 2 ^ 32) × (length key ≤ 2056)
+bounded_there rows nodes node key few bound below found =
+    (omega (arith, few, there_below rows nodes node key below found), there_slot rows key node (slot_in rows key) bound refl found)
 
 -- what stands at the nodes in order, in the slots of the keys in order
 
@@ -242,32 +238,32 @@ module _ {X : Type 0} (row : ℕ → ℕ → Option X) where
 
   -- each entry of the list stands there
 
-  abbrev IsOf : Map → ℕ → At X → Type 0
-  IsOf map node entry = (entry.node ≡ node) × (at_slot row (slot_in map entry.key) node ≡ Some entry.held)
+  abbrev IsOf : List KeyRows → ℕ → At X → Type 0
+  IsOf rows node entry = (entry.node ≡ node) × (at_slot row (slot_in rows entry.key) node ≡ Some entry.held)
 
-  abbrev IsThere : Map → At X → Type 0
-  IsThere map entry = at_slot row (slot_in map entry.key) entry.node ≡ Some entry.held
+  abbrev IsThere : List KeyRows → At X → Type 0
+  IsThere rows entry = at_slot row (slot_in rows entry.key) entry.node ≡ Some entry.held
 
-  abbrev IsFound : Map → List ℕ × ℕ → Type 0
-  IsFound map pair = slot_in map pair.0 ≡ Some pair.1
+  abbrev IsFound : List KeyRows → List ℕ × ℕ → Type 0
+  IsFound rows pair = slot_in rows pair.0 ≡ Some pair.1
 
   all_with : (P : At X → Type 0) (node : ℕ) (key : List ℕ) (x : Option X) (entries : List (At X)) → ((held : X) → x ≡ Some held → P (entry_of node key held)) → All P entries → All P (and_row node key x entries)
   all_with P node key None entries first rest = rest
   all_with P node key (Some held) entries first rest = All-cons P (entry_of node key held) entries (first held refl) rest
 
-  back_in : (map : Map) (node : ℕ) (pairs : List (List ℕ × ℕ)) → All (IsFound map) pairs → All (IsOf map node) (node_entries row node pairs)
-  back_in map node [] found = All-nil (IsOf map node)
-  back_in map node (pair ∷ pairs) found =
-      all_with (IsOf map node) node pair.0 (row pair.1 node) (node_entries row node pairs)
-      (λ held is. (refl, ap (λ slot. at_slot row slot node) (All-head (IsFound map) pair pairs found) ∙ is))
-      (back_in map node pairs (All-tail (IsFound map) pair pairs found))
+  back_in : (rows : List KeyRows) (node : ℕ) (pairs : List (List ℕ × ℕ)) → All (IsFound rows) pairs → All (IsOf rows node) (node_entries row node pairs)
+  back_in rows node [] found = All-nil (IsOf rows node)
+  back_in rows node (pair ∷ pairs) found =
+      all_with (IsOf rows node) node pair.0 (row pair.1 node) (node_entries row node pairs)
+      (λ held is. (refl, ap (λ slot. at_slot row slot node) (All-head (IsFound rows) pair pairs found) ∙ is))
+      (back_in rows node pairs (All-tail (IsFound rows) pair pairs found))
 
-  back_from : (map : Map) (first count : ℕ) (pairs : List (List ℕ × ℕ)) → All (IsFound map) pairs → All (IsThere map) (entries_from row first count pairs)
-  back_from map first zero pairs found = All-nil (IsThere map)
-  back_from map first (suc count) pairs found =
-      All-append (IsThere map) (node_entries row first pairs) (entries_from row (suc first) count pairs)
-      (All-weaker (IsOf map first) (IsThere map) (λ entry is. ap (λ n. at_slot row (slot_in map entry.key) n) is.0 ∙ is.1) (node_entries row first pairs) (back_in map first pairs found))
-      (back_from map (suc first) count pairs found)
+  back_from : (rows : List KeyRows) (first count : ℕ) (pairs : List (List ℕ × ℕ)) → All (IsFound rows) pairs → All (IsThere rows) (entries_from row first count pairs)
+  back_from rows first zero pairs found = All-nil (IsThere rows)
+  back_from rows first (suc count) pairs found =
+      All-append (IsThere rows) (node_entries row first pairs) (entries_from row (suc first) count pairs)
+      (All-weaker (IsOf rows first) (IsThere rows) (λ entry is. ap (λ n. at_slot row (slot_in rows entry.key) n) is.0 ∙ is.1) (node_entries row first pairs) (back_in rows first pairs found))
+      (back_from rows (suc first) count pairs found)
 
   -- they rise
 
@@ -320,31 +316,22 @@ module _ {X : Type 0} (row : ℕ → ℕ → Option X) where
   rising_from first (suc count) pairs sorted =
       rising_in first pairs (entries_from row (suc first) count pairs) sorted (above first (suc first) count pairs (omega arith)) (rising_from (suc first) count pairs sorted)
 
-  there_by : (map : Map) (rows : List KeyRows) (wanted : Wanted) (nodes : ℕ) (pairs : List (List ℕ × ℕ)) (node : ℕ) (key : List ℕ) (held : X) (at : Option ℕ) → AreInOrder wanted map rows pairs →
-      ((slot node : ℕ) (held : X) → row slot node ≡ Some held → is_wanted wanted (row_at rows slot node) ≡ true) → node < nodes → slot_in map key ≡ at → at_slot row at node ≡ Some held → Contains (entries_from row 0 nodes pairs) (entry_of node key held)
-  there_by map rows wanted nodes pairs node key held None order wants below is found = cc
-  there_by map rows wanted nodes pairs node key held (Some slot) order wants below is found =
+  there_by : (rows : List KeyRows) (wanted : Wanted) (nodes : ℕ) (pairs : List (List ℕ × ℕ)) (node : ℕ) (key : List ℕ) (held : X) (at : Option ℕ) → AreInOrder wanted rows pairs →
+      ((slot node : ℕ) (held : X) → row slot node ≡ Some held → is_wanted wanted (row_at rows slot node) ≡ true) → node < nodes → slot_in rows key ≡ at → at_slot row at node ≡ Some held → Contains (entries_from row 0 nodes pairs) (entry_of node key held)
+  there_by rows wanted nodes pairs node key held None order wants below is found = cc
+  there_by rows wanted nodes pairs node key held (Some slot) order wants below is found =
       row_there 0 nodes pairs node key slot held (omega arith) (omega (arith, below)) (order.all key slot node is (wants slot node held found)) found
 
-  lists_by : (map : Map) (rows : List KeyRows) (wanted : Wanted) (nodes : ℕ) (at : ℕ → List ℕ → Option X) (pairs : List (List ℕ × ℕ)) → AreInOrder wanted map rows pairs →
-      ((slot node : ℕ) (held : X) → row slot node ≡ Some held → is_wanted wanted (row_at rows slot node) ≡ true) → ((node : ℕ) (key : List ℕ) → at node key ≡ at_slot row (slot_in map key) node)
+  lists_by : (rows : List KeyRows) (wanted : Wanted) (nodes : ℕ) (at : ℕ → List ℕ → Option X) (pairs : List (List ℕ × ℕ)) → AreInOrder wanted rows pairs →
+      ((slot node : ℕ) (held : X) → row slot node ≡ Some held → is_wanted wanted (row_at rows slot node) ≡ true) → ((node : ℕ) (key : List ℕ) → at node key ≡ at_slot row (slot_in rows key) node)
       → ((node : ℕ) (key : List ℕ) (held : X) → at node key ≡ Some held → node < nodes) → ListsOf at (entries_from row 0 nodes pairs)
-  lists_by map rows wanted nodes at pairs order wants is below = record {
+  lists_by rows wanted nodes at pairs order wants is below = record {
     rising = rising_from 0 nodes pairs order.rising;
     rows = λ node key held. (
-      (λ found. there_by map rows wanted nodes pairs node key held (slot_in map key) order wants (below node key held found) refl (sym (is node key) ∙ found)),
-      (λ among. is node key ∙ All-contains (IsThere map) (entries_from row 0 nodes pairs) (entry_of node key held) (back_from map 0 nodes pairs order.found) among),
+      (λ found. there_by rows wanted nodes pairs node key held (slot_in rows key) order wants (below node key held found) refl (sym (is node key) ∙ found)),
+      (λ among. is node key ∙ All-contains (IsThere rows) (entries_from row 0 nodes pairs) (entry_of node key held) (back_from rows 0 nodes pairs order.found) among),
     );
   }
-
--- all keys are in order
-
-pub map_order : (wanted : Wanted) (map : Map) (rows : List KeyRows) → IsBound map rows → AreInOrder wanted map rows map.entries
-map_order wanted map rows bound = record {
-  rising = bound.ordered;
-  found = All-found nat_list_cmp_total map bound.ordered;
-  all = λ key slot node found is. Contains-from_lookup {eq = λ q k. is_eq (slice_cmp nat_cmp q k)} (λ q k t. (bytes_decides q k).0 (sym (is_eq-slice_cmp q k) ∙ t)) key slot map.entries found;
-}
 
 some_held : (row : Seen) (held : Held) → row.held ≡ Some held → is_some row.held ≡ true
 some_held row held is = ap is_some is
@@ -352,14 +339,14 @@ some_held row held is = ap is_some is
 some_told : (row : Seen) (now : Option Held) → told row ≡ Some now → is_some (told row) ≡ true
 some_told row now is = ap is_some is
 
-pub lists_rows : (map : Map) (rows : List KeyRows) (nodes : ℕ) (pairs : List (List ℕ × ℕ)) → AreInOrder Rows map rows pairs → AreBelow nodes map rows → Lists (cell_in map rows) (entries_from (held_row rows) 0 nodes pairs)
-lists_rows map rows nodes pairs order below =
-    lists_by (held_row rows) map rows Rows nodes (cell_in map rows) pairs order (λ slot node held is. some_held (row_at rows slot node) held is) (cell_slot map rows) (λ node key held found. cell_below map rows nodes node key held below found)
+pub lists_rows : (rows : List KeyRows) (nodes : ℕ) (pairs : List (List ℕ × ℕ)) → AreInOrder Rows rows pairs → AreBelow nodes rows → Lists (cell_in rows) (entries_from (held_row rows) 0 nodes pairs)
+lists_rows rows nodes pairs order below =
+    lists_by (held_row rows) rows Rows nodes (cell_in rows) pairs order (λ slot node held is. some_held (row_at rows slot node) held is) (cell_slot rows) (λ node key held found. cell_below rows nodes node key held below found)
 
-pub lists_all : (map : Map) (rows : List KeyRows) (nodes : ℕ) → IsBound map rows → AreBelow nodes map rows → Lists (cell_in map rows) (entries_from (held_row rows) 0 nodes map.entries)
-lists_all map rows nodes bound below = lists_rows map rows nodes map.entries (map_order Rows map rows bound) below
+pub lists_all : (rows : List KeyRows) (nodes : ℕ) → IsBound rows → AreBelow nodes rows → Lists (cell_in rows) (entries_from (held_row rows) 0 nodes (pairs_from 0 rows))
+lists_all rows nodes bound below = lists_rows rows nodes (pairs_from 0 rows) (pairs_order Rows rows bound) below
 
-pub lists_changes : (map : Map) (rows : List KeyRows) (nodes : ℕ) (pairs : List (List ℕ × ℕ)) → AreInOrder Changes map rows pairs → AreBelow nodes map rows
-    → ListsOf (changes_in (named_in map rows) (there_in map rows) (cell_in map rows)) (entries_from (told_row rows) 0 nodes pairs)
-lists_changes map rows nodes pairs order below =
-    lists_by (told_row rows) map rows Changes nodes (changes_in (named_in map rows) (there_in map rows) (cell_in map rows)) pairs order (λ slot node now is. some_told (row_at rows slot node) now is) (told_slot map rows) (λ node key now found. told_below map rows nodes node key now below found)
+pub lists_changes : (rows : List KeyRows) (nodes : ℕ) (pairs : List (List ℕ × ℕ)) → AreInOrder Changes rows pairs → AreBelow nodes rows
+    → ListsOf (changes_in (named_in rows) (there_in rows) (cell_in rows)) (entries_from (told_row rows) 0 nodes pairs)
+lists_changes rows nodes pairs order below =
+    lists_by (told_row rows) rows Changes nodes (changes_in (named_in rows) (there_in rows) (cell_in rows)) pairs order (λ slot node now is. some_told (row_at rows slot node) now is) (told_slot rows) (λ node key now found. told_below rows nodes node key now below found)

@@ -70,6 +70,12 @@ are_sound (kept ∷ rest) = not (stands_in rest kept.node) && (is_fair kept && a
 abbrev pub OthersKept : ℕ → List Kept → List Kept → Type 0
 OthersKept node old new = (n : ℕ) → (n ≡ node → ⊥) → seen_at new n ≡ seen_at old n
 
+-- the row of this node is the only one, and was named since the mark for the first time
+pub record IsFirst (node : ℕ) (held : Held) (kepts : List Kept) : Type 0 where
+  pub row : seen_at kepts node ≡ fresh held
+  pub others : (n : ℕ) → (n ≡ node → ⊥) → seen_at kepts n ≡ unseen
+  pub count : length kepts ≡ 1
+
 -- all rows stay, and so does their number
 pub record IsKeptSame (old new : List Kept) : Type 0 where
   pub same : (node : ℕ) → seen_at new node ≡ seen_at old node

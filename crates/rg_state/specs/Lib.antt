@@ -14,3 +14,4 @@ pub mod Touched
 pub mod Kinds
 pub mod Stepping
 pub mod SlotSteps
+pub mod Slots

@@ -1,6 +1,5 @@
 -- The sheets that rows are written on, one a node.
 use Rattle.std.specs.Prelude.{◌≡◌, ℕ, zero, suc, ◌+◌, ◌<◌, ◌≤◌, ◌^◌, Bool, true, List, [], ◌∷◌, ◌++◌, length, map, Option, None, Some, is_some}
-use Rattle.std.specs.BTreeMap.{BTreeMap}
 use Rattle.std.specs.Cmp.Lexicographic.{slice_cmp}
 use Rattle.std.specs.List.{All, Contains}
 use Rattle.std.specs.List.Sorted.{IsStrictlySortedBy}
@@ -15,6 +14,7 @@ use Rattle.rg_state.specs.Changes.{change_bytes, now_bytes}
 use Rattle.rg_state.specs.Kepts.{Seen, seen_at, shown, told}
 use Rattle.rg_state.specs.Rows.{entry_bytes}
 use Rattle.rg_state.specs.States.{held_of}
+use Rattle.rg_state.specs.Unused.{times}
 use Rattle.rg_state.specs.declared.state.AggState.{AggState}
 use Rattle.rg_state.specs.declared.key_rows.Kept.{Kept}
 use Rattle.rg_state.specs.declared.key_rows.KeyRows.{KeyRows}
@@ -67,18 +67,24 @@ counted_spans spans = to_be_bytes w64 (length spans) ++ joined spans
 -- Keys in order
 
 -- the order of two slots, by their keys
-abbrev pub slot_cmp : List (List ℕ) → ℕ → ℕ → Ordering
-slot_cmp keys slot other = slice_cmp nat_cmp (key_at keys slot) (key_at keys other)
+abbrev pub slot_cmp : List KeyRows → ℕ → ℕ → Ordering
+slot_cmp rows slot other = slice_cmp nat_cmp (key_at rows slot) (key_at rows other)
 
 -- slots behind their keys
-abbrev pub pairs_of : List (List ℕ) → List ℕ → List (List ℕ × ℕ)
-pairs_of keys slots = map (λ slot. (key_at keys slot, slot)) slots
+abbrev pub pairs_of : List KeyRows → List ℕ → List (List ℕ × ℕ)
+pairs_of rows slots = map (λ slot. (key_at rows slot, slot)) slots
 
 -- these are keys with their slots, the keys rising, and among them is each in whose slot a row is wanted
-pub record AreInOrder (wanted : Wanted) (map : BTreeMap (List ℕ) ℕ) (rows : List KeyRows) (pairs : List (List ℕ × ℕ)) : Type 0 where
+pub record AreInOrder (wanted : Wanted) (rows : List KeyRows) (pairs : List (List ℕ × ℕ)) : Type 0 where
   pub rising : IsStrictlySortedBy (slice_cmp nat_cmp) (keys_of pairs)
-  pub found : All (λ pair. slot_in map pair.0 ≡ Some pair.1) pairs
-  pub all : (key : List ℕ) (slot node : ℕ) → slot_in map key ≡ Some slot → is_wanted wanted (row_at rows slot node) ≡ true → Contains pairs (key, slot)
+  pub found : All (λ pair. slot_in rows pair.0 ≡ Some pair.1) pairs
+  pub all : (key : List ℕ) (slot node : ℕ) → slot_in rows key ≡ Some slot → is_wanted wanted (row_at rows slot node) ≡ true → Contains pairs (key, slot)
+
+-- these slots are there, none stands among them twice, and each in which a row is wanted does
+pub record AreEach (wanted : Wanted) (rows : List KeyRows) (slots : List ℕ) : Type 0 where
+  pub once : (slot : ℕ) → times slots slot ≤ 1
+  pub all : (slot node : ℕ) → is_wanted wanted (row_at rows slot node) ≡ true → times slots slot ≡ 1
+  pub few : length slots < 2 ^ 32
 
 -- Sheets
 
@@ -150,15 +156,15 @@ pub record AreFilled (wanted : Wanted) (nodes : ℕ) (rows : List KeyRows) (pair
   pub count : length sheets ≡ nodes
 
 -- there are so many sheets, and they have all rows that are wanted, each node's by its keys in order
-pub record AreWritten (wanted : Wanted) (nodes : ℕ) (map : BTreeMap (List ℕ) ℕ) (rows : List KeyRows) (sheets : List Sheet) : Type 0 where
+pub record AreWritten (wanted : Wanted) (nodes : ℕ) (rows : List KeyRows) (sheets : List Sheet) : Type 0 where
   pub pairs : List (List ℕ × ℕ)
-  pub order : AreInOrder wanted map rows pairs
+  pub order : AreInOrder wanted rows pairs
   pub few : length pairs < 2 ^ 32
   pub filled : AreFilled wanted nodes rows pairs sheets
 
 -- all rows that are wanted are written at the end, behind their number: node by node, each node's by its keys in order
-pub record WritesSpans (wanted : Wanted) (nodes : ℕ) (map : BTreeMap (List ℕ) ℕ) (rows : List KeyRows) (old new : List ℕ) : Type 0 where
+pub record WritesSpans (wanted : Wanted) (nodes : ℕ) (rows : List KeyRows) (old new : List ℕ) : Type 0 where
   pub pairs : List (List ℕ × ℕ)
-  pub order : AreInOrder wanted map rows pairs
+  pub order : AreInOrder wanted rows pairs
   pub few : length (spans_from wanted 0 nodes rows pairs) < 2 ^ 64
   pub is : new ≡ old ++ counted_spans (spans_from wanted 0 nodes rows pairs)

@@ -8,6 +8,11 @@ abbrev pub times : List ℕ → ℕ → ℕ
 times [] slot = 0
 times (first ∷ slots) slot = cond (first == slot) 1 0 + times slots slot
 
+-- the numbers below a number
+abbrev pub below : ℕ → List ℕ
+below zero = []
+below (suc n) = below n ++ n ∷ []
+
 -- once, where there is the slot and nothing is kept in it
 abbrev pub unused_at : List KeyRows → ℕ → ℕ
 unused_at [] slot = 0

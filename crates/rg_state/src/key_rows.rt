@@ -1,7 +1,7 @@
 ghost use Rattle.std.specs.Prelude.{◌≡◌, ◌+◌, ◌<◌, ◌≤◌, ℕ, true, false, ◌==◌, cond, None, length, is_some, IfSome, IsNone, OnOk, OnErr, slice_index_or};
 ghost use Rattle.std.specs.Option.{option_map};
 ghost use Rattle.rg_agg.specs.Standing.{size_in};
-ghost use Rattle.rg_state.specs.Kepts.{fresh, settled, told, seen, seen_at, stands_in, is_marked, is_idle, is_fair, are_sound, OthersKept, IsKeptSame};
+ghost use Rattle.rg_state.specs.Kepts.{fresh, settled, told, seen, seen_at, stands_in, is_marked, is_idle, is_fair, are_sound, OthersKept, IsFirst, IsKeptSame};
 ghost use Rattle.rg_state.specs.States.{held_of};
 ghost use Rattle.rg_state.specs.Stepping.{KeptStep, RowsStep, RowsGet, SettlesAt};
 ghost use Rattle.rg_state.specs.Takes.{Takes};
@@ -12,6 +12,7 @@ use crate::state::AggState;
 use crate::table::Change;
 use rg_bytes::Memory;
 use rg_event::Value;
+use rg_group::Key;
 use rg_metric::Func;
 use std::alloc::Global;
 
@@ -116,9 +117,10 @@ impl Kept {
     }
 }
 
-/// The rows of one key, each node once.
+/// A key and its rows, each node once. Without rows the key means nothing.
 #[derive(Debug, Drop)]
 pub(crate) struct KeyRows {
+    pub(crate) key: Key,
     pub(crate) kept: Vec<Kept>,
     ghost sound: { are_sound kept.items ≡ true },
 }
@@ -129,8 +131,22 @@ impl KeyRows {
         ensures { length result.kept.items ≡ 0 }
     {
         KeyRows {
+            key: Key::from(Vec::new(alloc)),
             kept: Vec::new(alloc),
         }
+    }
+
+    /// Gives what is without rows a key with one row, in the room that it has where that is enough. Where
+    /// memory runs out it is still without rows.
+    pub(crate) fn open(&mut self, key: &Key, node: u32, state: AggState) -> Result<(), Memory>
+        requires none { length self.old.kept.items ≡ 0 }
+        requires some { 0 < size_in (held_of state) }
+        ensures key { OnOk result (self.new.key ≡ key.now) }
+        ensures row { OnOk result (IsFirst node (held_of state) self.new.kept.items) }
+        ensures err { OnErr result (length self.new.kept.items ≡ 0) }
+    {
+        self.key.set_to(key)?;
+        self.push(node, state)
     }
 
     /// Whether nothing is kept of any node.
@@ -179,6 +195,7 @@ impl KeyRows {
         value: &Value,
     ) -> Result<(), Refusal>
         requires { Takes func value.now }
+        ensures key { self.new.key ≡ self.old.key }
         ensures count { length self.old.kept.items ≤ length self.new.kept.items }
         ensures step { RowsStep func Change.Add value.now node self.old.kept.items self.new.kept.items result }
     {
@@ -207,6 +224,7 @@ impl KeyRows {
     fn begin(&mut self, alloc: Global, node: u32, func: Func, value: &Value) -> Result<(), Refusal>
         requires takes { Takes func value.now }
         requires free { stands_in self.old.kept.items node ≡ false }
+        ensures key { self.new.key ≡ self.old.key }
         ensures count { length self.old.kept.items ≤ length self.new.kept.items }
         ensures step { RowsStep func Change.Add value.now node self.old.kept.items self.new.kept.items result }
     {
@@ -222,7 +240,8 @@ impl KeyRows {
 
     /// Takes the first value of the row of a node away.
     pub(crate) fn take(&mut self, node: u32, func: Func, value: &Value) -> Result<(), Refusal>
-        ensures { RowsStep func Change.Remove value.now node self.old.kept.items self.new.kept.items result }
+        ensures key { self.new.key ≡ self.old.key }
+        ensures step { RowsStep func Change.Remove value.now node self.old.kept.items self.new.kept.items result }
     {
         let place = match self.place(node) {
             None => return Err(Refusal::Unfit),
@@ -244,6 +263,7 @@ impl KeyRows {
     pub(crate) fn insert(&mut self, node: u32, state: AggState) -> Result<(), Memory>
         requires free { (seen_at self.old.kept.items node).held ≡ None }
         requires some { 0 < size_in (held_of state) }
+        ensures key { self.new.key ≡ self.old.key }
         ensures count { length self.old.kept.items ≤ length self.new.kept.items }
         ensures got { RowsGet (held_of state) node self.old.kept.items self.new.kept.items result }
     {
@@ -263,6 +283,7 @@ impl KeyRows {
     pub(crate) fn push(&mut self, node: u32, state: AggState) -> Result<(), Memory>
         requires free { stands_in self.old.kept.items node ≡ false }
         requires some { 0 < size_in (held_of state) }
+        ensures key { self.new.key ≡ self.old.key }
         ensures row { OnOk result (seen_at self.new.kept.items node ≡ fresh (held_of state)) }
         ensures others { OthersKept node self.old.kept.items self.new.kept.items }
         ensures count { OnOk result (length self.new.kept.items ≡ length self.old.kept.items + 1) }
@@ -280,7 +301,8 @@ impl KeyRows {
 
     /// Forgets what is remembered of each row, and drops those that are gone.
     pub(crate) fn settle(&mut self)
-        ensures { (node : ℕ) → seen_at self.new.kept.items node ≡ settled (seen_at self.old.kept.items node) }
+        ensures key { self.new.key ≡ self.old.key }
+        ensures rows { (node : ℕ) → seen_at self.new.kept.items node ≡ settled (seen_at self.old.kept.items node) }
     {
         settle_all(&mut self.kept);
     }

@@ -3,7 +3,6 @@
 
 mod ahead;
 mod decode;
-mod guesses;
 mod key_rows;
 mod law;
 mod mem_table;
@@ -12,7 +11,6 @@ mod own;
 mod sheets;
 mod slot_changes;
 mod slots;
-mod spare_key;
 mod state;
 mod table;
 mod touched;

@@ -18,7 +18,7 @@ use rg_group::Key;
 use rg_metric::{Answer, Func};
 use std::alloc::Global;
 
-/// A table whose rows stand in memory: one ordered map gives each key a slot, and a slot has the states
+/// A table whose rows stand in memory: an index leads from each key to its slot, and a slot has the states
 /// of its key by node, each with what is remembered of its row since the mark. It takes at most 2^32 - 1
 /// keys at a time, and none of more than 2,056 bytes: more of them is refused as memory.
 #[derive(Drop)]
@@ -32,7 +32,7 @@ pub struct MemTable {
     /// What was made of the looks at the rows that were written last. Nothing asks for it.
     seen: u64,
     ghost few: { nodes ≤ 2 ^ 32 },
-    ghost below: { AreBelow nodes slots.map slots.rows.items },
+    ghost below: { AreBelow nodes slots.rows.items },
 }
 
 impl MemTable {
@@ -67,14 +67,14 @@ fn reach(nodes: u64, node: u32) -> u64
 
 impl Table for MemTable {
     ghost use Rattle.std.specs.Prelude.{⊤};
-    ghost use Rattle.rg_state.specs.Cells.{cell_in, named_in, there_in, held_row, entries_from};
+    ghost use Rattle.rg_state.specs.Cells.{cell_in, named_in, there_in, held_row, entries_from, pairs_from};
     ghost use Rattle.rg_state.specs.CellLaws.{filled_cell, state_cell, bounded_cell, there_cell, bounded_there, lists_all};
 
-    ghost cell = { λ table. cell_in table.slots.map table.slots.rows.items };
+    ghost cell = { λ table. cell_in table.slots.rows.items };
 
-    ghost named = { λ table. named_in table.slots.map table.slots.rows.items };
+    ghost named = { λ table. named_in table.slots.rows.items };
 
-    ghost there = { λ table. there_in table.slots.map table.slots.rows.items };
+    ghost there = { λ table. there_in table.slots.rows.items };
 
     ghost tells = { λ _. ⊤ };
 
@@ -201,15 +201,15 @@ impl Table for MemTable {
         }
     }
 
-    ghost filled = { λ table node key held _ found. filled_cell table.slots.map table.slots.rows.items node key held found };
+    ghost filled = { λ table node key held _ found. filled_cell table.slots.rows.items node key held found };
 
-    ghost states = { λ table node key held _ found. state_cell table.slots.map table.slots.rows.items node key held found };
+    ghost states = { λ table node key held _ found. state_cell table.slots.rows.items node key held found };
 
-    ghost bounded = { λ table node key held _ found. bounded_cell table.slots.map table.slots.rows.items table.nodes node key held table.few table.slots.bound table.below found };
+    ghost bounded = { λ table node key held _ found. bounded_cell table.slots.rows.items table.nodes node key held table.few table.slots.bound table.below found };
 
-    ghost there_named = { λ table node key _ is. there_cell table.slots.map table.slots.rows.items node key is };
+    ghost there_named = { λ table node key _ is. there_cell table.slots.rows.items node key is };
 
-    ghost there_bounded = { λ table node key _ is. bounded_there table.slots.map table.slots.rows.items table.nodes node key table.few table.slots.bound table.below is };
+    ghost there_bounded = { λ table node key _ is. bounded_there table.slots.rows.items table.nodes node key table.few table.slots.bound table.below is };
 
-    ghost finite = { λ table _. (entries_from (held_row table.slots.rows.items) 0 table.nodes table.slots.map.entries, lists_all table.slots.map table.slots.rows.items table.nodes table.slots.bound table.below) };
+    ghost finite = { λ table _. (entries_from (held_row table.slots.rows.items) 0 table.nodes (pairs_from 0 table.slots.rows.items), lists_all table.slots.rows.items table.nodes table.slots.bound table.below) };
 }

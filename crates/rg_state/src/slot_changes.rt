@@ -30,9 +30,9 @@ impl Slots {
         value: &Value,
     ) -> Result<(), Refusal>
         requires { Takes func value.now }
-        ensures { SlotsStep func Change.Add value.now node key.now (seen_in self.old.map self.old.rows.items) (seen_in self.new.map self.new.rows.items) result }
+        ensures { SlotsStep func Change.Add value.now node key.now (seen_in self.old.rows.items) (seen_in self.new.rows.items) result }
     {
-        match self.guess(key) {
+        match self.find(key) {
             Some(slot) => return self.add_at(alloc, slot, node, func, value),
             None => {}
         }
@@ -40,13 +40,8 @@ impl Slots {
             Ok(state) => state,
             Err(_) => return Err(Refusal::Memory),
         };
-        let copy = match self.spare.copy(alloc, key) {
-            Ok(copy) => copy,
-            Err(_) => return Err(Refusal::Memory),
-        };
-        match self.put(alloc, node, copy, state) {
-            Ok(None) => Ok(()),
-            Ok(Some(slot)) => self.add_at(alloc, slot, node, func, value),
+        match self.put(alloc, node, key, state) {
+            Ok(()) => Ok(()),
             Err(_) => Err(Refusal::Memory),
         }
     }
@@ -62,7 +57,7 @@ impl Slots {
     ) -> Result<(), Refusal>
         requires takes { Takes func value.now }
         requires used { 0 < count_at self.old.rows.items slot }
-        ensures { (key : List ℕ) → slot_in self.old.map key ≡ Some slot → SlotsStep func Change.Add value.now node key (seen_in self.old.map self.old.rows.items) (seen_in self.new.map self.new.rows.items) result }
+        ensures { (key : List ℕ) → slot_in self.old.rows.items key ≡ Some slot → SlotsStep func Change.Add value.now node key (seen_in self.old.rows.items) (seen_in self.new.rows.items) result }
     {
         self.touched.touch(slot);
         let rows = &mut self.rows[slot as usize];
@@ -77,7 +72,7 @@ impl Slots {
         func: Func,
         value: &Value,
     ) -> Result<(), Refusal>
-        ensures { SlotsStep func Change.Remove value.now node key.now (seen_in self.old.map self.old.rows.items) (seen_in self.new.map self.new.rows.items) result }
+        ensures { SlotsStep func Change.Remove value.now node key.now (seen_in self.old.rows.items) (seen_in self.new.rows.items) result }
     {
         let slot = match self.find(key) {
             None => return Err(Refusal::Unfit),
@@ -92,8 +87,7 @@ impl Slots {
         if !rows.is_empty() {
             return Ok(());
         }
-        let gone = self.map.remove_entry(key);
-        self.spare.keep(gone);
+        self.index.remove(key.mix(), key, slot);
         push_within(&mut self.free, slot);
         Ok(())
     }
@@ -106,9 +100,9 @@ impl Slots {
         key: Key,
         state: AggState,
     ) -> Result<(), Memory>
-        requires free { cell_in self.old.map self.old.rows.items node key ≡ None }
+        requires free { cell_in self.old.rows.items node key ≡ None }
         requires some { 0 < size_in (held_of state) }
-        ensures { SlotsGet (held_of state) node key (seen_in self.old.map self.old.rows.items) (seen_in self.new.map self.new.rows.items) result }
+        ensures { SlotsGet (held_of state) node key (seen_in self.old.rows.items) (seen_in self.new.rows.items) result }
     {
         match self.find(&key) {
             Some(slot) => {
@@ -118,37 +112,15 @@ impl Slots {
             }
             None => {}
         }
-        match self.put(alloc, node, key, state) {
-            Ok(_) => Ok(()),
-            Err(memory) => Err(memory),
-        }
-    }
-
-    /// Puts a row of a key, where the key has none. Where it has rows it answers their slot, and nothing
-    /// changes.
-    fn put(
-        &mut self,
-        alloc: Global,
-        node: u32,
-        key: Key,
-        state: AggState,
-    ) -> Result<Option<u32>, Memory>
-        requires { 0 < size_in (held_of state) }
-        ensures { Puts (held_of state) node key self.old.map (seen_in self.old.map self.old.rows.items) self.new.map (seen_in self.new.map self.new.rows.items) result }
-    {
-        let mut rows = self.spare_rows(alloc);
-        match rows.push(node, state) {
-            Ok(()) => self.open(alloc, key, rows),
-            Err(_) => Err(Memory),
-        }
+        self.put(alloc, node, &key, state)
     }
 
     /// The answer of the row of a node and a key, without one that of no values; none for another function's row.
     pub(crate) fn answer(&mut self, node: u32, key: &Key, func: Func) -> Option<Answer>
-        ensures answer { (values : List Value) → RowStands func (cell_in self.old.map self.old.rows.items node key.now) values → result ≡ Some (answer_of func values) }
-        ensures own { IsSome result → IsOf func (cell_in self.old.map self.old.rows.items node key.now) }
-        ensures causes { IsNone result → IsOf func (cell_in self.old.map self.old.rows.items node key.now) → ⊥ }
-        ensures same { SameSeen (seen_in self.old.map self.old.rows.items) (seen_in self.new.map self.new.rows.items) }
+        ensures answer { (values : List Value) → RowStands func (cell_in self.old.rows.items node key.now) values → result ≡ Some (answer_of func values) }
+        ensures own { IsSome result → IsOf func (cell_in self.old.rows.items node key.now) }
+        ensures causes { IsNone result → IsOf func (cell_in self.old.rows.items node key.now) → ⊥ }
+        ensures same { SameSeen (seen_in self.old.rows.items) (seen_in self.new.rows.items) }
     {
         match self.find(key) {
             None => Some(blank_answer(func)),

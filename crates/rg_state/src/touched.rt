@@ -19,7 +19,8 @@ pub(crate) struct Touched {
 impl Touched {
     /// No slots.
     pub(crate) fn new(alloc: Global) -> Touched
-        ensures { length result.slots.items ≡ 0 }
+        ensures flags { length result.flags.items ≡ 0 }
+        ensures slots { length result.slots.items ≡ 0 }
     {
         Touched {
             flags: Vec::new(alloc),
@@ -63,16 +64,6 @@ impl Touched {
                 self.flags[slot as usize] = false;
                 Some(slot)
             }
-        }
-    }
-
-    /// Whether a slot is known not to be one of them.
-    pub(crate) fn is_quiet(&self, slot: u32) -> bool
-        ensures { IsTrue result → flag_at self.now.flags.items slot ≡ false }
-    {
-        match self.flags.get(slot as usize) {
-            None => true,
-            Some(flag) => !*flag,
         }
     }
 }

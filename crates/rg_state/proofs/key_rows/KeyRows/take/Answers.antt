@@ -10,28 +10,28 @@ use Rattle.rg_state.proofs.key_rows.KeyRows.take.Goals as goal
 pub take-requires : goal.take-requires
 take-requires c = fair_at c.args.self.now.kept.items c.in-Some.place c.index_mut-kept.result.now c.args.self.now.sound c.in-Some.ensures.found.0 c.index_mut-kept.ensures.value
 
-pub returns-in-None : goal.returns-in-None
-returns-in-None c = none_taken c.args.func c.args.value.now c.args.self.now.kept.items c.args.node (c.in-None.ensures.none refl)
+pub returns-in-None-clause-step : goal.returns-in-None-clause-step
+returns-in-None-clause-step c = none_taken c.args.func c.args.value.now c.args.self.now.kept.items c.args.node (c.in-None.ensures.none refl)
 
 pub invariant_of-self : goal.invariant_of-self
 invariant_of-self c =
     record { sound = sound_set c.args.self.now.kept.items c.in-Some.place c.index_mut-kept.result.now c.take.new.self c.args.self.now.sound c.index_mut-kept.ensures.value c.take.ensures.step.node c.in-Err.ensures.fair }
 
-pub returns-in-Err : goal.returns-in-Err
-returns-in-Err c =
+pub returns-in-Err-clause-step : goal.returns-in-Err-clause-step
+returns-in-Err-clause-step c =
     rows_stepped c.args.func Remove c.args.value.now c.args.self.now.kept.items c.in-Some.place c.args.node c.index_mut-kept.result.now c.take.new.self c.args.self.now.sound c.in-Some.ensures.found c.index_mut-kept.ensures.value (Err c.in-Err.refusal) c.in-Err.ensures.step
 
 pub invariant_of-self-then-not-is_idle : goal.invariant_of-self-then-not-is_idle
 invariant_of-self-then-not-is_idle c =
     record { sound = sound_set c.args.self.now.kept.items c.in-Some.place c.index_mut-kept.result.now c.take.new.self c.args.self.now.sound c.index_mut-kept.ensures.value c.take.ensures.step.node (fair_by c.take.new.self (sym c.is_idle.ensures ∙ c.if-not-is_idle.true) c.take.ensures.marked) }
 
-pub returns-then-not-is_idle : goal.returns-then-not-is_idle
-returns-then-not-is_idle c =
+pub returns-then-not-is_idle-clause-step : goal.returns-then-not-is_idle-clause-step
+returns-then-not-is_idle-clause-step c =
     rows_stepped c.args.func Remove c.args.value.now c.args.self.now.kept.items c.in-Some.place c.args.node c.index_mut-kept.result.now c.take.new.self c.args.self.now.sound c.in-Some.ensures.found c.index_mut-kept.ensures.value (Ok tt) c.in-Ok.ensures.step
 
 pub invariant_of-self-2 : goal.invariant_of-self-2
 invariant_of-self-2 c = record { sound = sound_gone c.args.self.now.kept.items c.remove.new.self.items c.in-Some.place c.take.new.self c.args.self.now.sound c.remove.ensures.items }
 
-pub returns : goal.returns
-returns c =
+pub returns-clause-step : goal.returns-clause-step
+returns-clause-step c =
     rows_gone c.args.func Remove c.args.value.now c.args.self.now.kept.items c.in-Some.place c.args.node c.index_mut-kept.result.now c.take.new.self c.args.self.now.sound c.in-Some.ensures.found c.index_mut-kept.ensures.value c.remove.new.self.items c.remove.ensures.items (sym c.is_idle.ensures ∙ c.if-not-is_idle.false) c.in-Ok.ensures.step

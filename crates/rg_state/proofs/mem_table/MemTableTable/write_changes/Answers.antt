@@ -15,7 +15,7 @@ returns-in-Ok-clause-written c told =
       to_be_bytes w64 (length entries) ++ changes_bytes entries,
       record {
         changes = entries;
-        lists = lists_changes slots.map slots.rows.items nodes made.pairs made.order c.args.self.now.below;
+        lists = lists_changes slots.rows.items nodes made.pairs made.order c.args.self.now.below;
         few = subst (λ n. n < 2 ^ 64) (changes_counted slots.rows.items nodes made.pairs) made.few;
         is = refl;
       },

@@ -13,7 +13,7 @@ returns-in-Ok-clause-written c told =
     let entries = entries_from (held_row slots.rows.items) 0 nodes written.pairs in
     record {
       written = entries_bytes entries;
-      rows = (entries, lists_rows slots.map slots.rows.items nodes written.pairs written.order c.args.self.now.below, refl);
+      rows = (entries, lists_rows slots.rows.items nodes written.pairs written.order c.args.self.now.below, refl);
       few = subst (λ n. n < 2 ^ 64) (rows_counted slots.rows.items nodes written.pairs) written.few;
       added = written.is ∙ ap (λ bytes. c.args.out.now.items ++ bytes) (rows_put slots.rows.items nodes written.pairs);
     }

@@ -2,6 +2,7 @@ use crate::aggregate::Aggregate;
 use crate::amount::amount;
 use crate::fault::{StateFault, Unfit};
 use crate::total::Total;
+use crate::wide::Wide;
 use rg_bytes::{ByteReader, Memory};
 use rg_event::{Kind, Value};
 use rg_metric::Answer;
@@ -60,7 +61,7 @@ impl Aggregate for Avg {
         if self.total.count == 0 {
             return Answer::Dash;
         }
-        Answer::Ratio(self.total.sum, self.total.count)
+        Answer::Ratio(self.total.sum.get(), self.total.count)
     }
 
     fn add(&mut self, value: &Value) -> Result<(), Memory> {
@@ -68,7 +69,7 @@ impl Aggregate for Avg {
             Some(number) => {
                 self.total = Total {
                     count: self.total.count + 1,
-                    sum: self.total.sum + number,
+                    sum: Wide::new(self.total.sum.get() + number),
                 };
                 Ok(())
             }

@@ -14,6 +14,7 @@ mod reading;
 mod sum;
 mod sum_sq;
 mod total;
+mod wide;
 
 pub use aggregate::Aggregate;
 pub use amount::GREATEST_INT;

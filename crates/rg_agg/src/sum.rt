@@ -2,6 +2,7 @@ use crate::aggregate::Aggregate;
 use crate::amount::amount;
 use crate::fault::{StateFault, Unfit};
 use crate::total::Total;
+use crate::wide::Wide;
 use rg_bytes::{ByteReader, Memory};
 use rg_event::{Kind, Value};
 use rg_metric::Answer;
@@ -57,7 +58,7 @@ impl Aggregate for Sum {
     }
 
     fn answer(&self) -> Answer {
-        Answer::Number(self.total.sum)
+        Answer::Number(self.total.sum.get())
     }
 
     fn add(&mut self, value: &Value) -> Result<(), Memory> {
@@ -65,7 +66,7 @@ impl Aggregate for Sum {
             Some(number) => {
                 self.total = Total {
                     count: self.total.count + 1,
-                    sum: self.total.sum + number,
+                    sum: Wide::new(self.total.sum.get() + number),
                 };
                 Ok(())
             }

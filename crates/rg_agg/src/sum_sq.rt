@@ -9,6 +9,7 @@ use crate::amount::amount;
 use crate::fault::{StateFault, Unfit};
 use crate::reading::read_size;
 use crate::total::put_total;
+use crate::wide::Wide;
 use rg_bytes::{ByteReader, Memory};
 use rg_event::{Kind, Value};
 use rg_metric::Answer;
@@ -24,7 +25,7 @@ const GREATEST_SQUARE: u128 = 1_000_000_000_000_000_000_000_000;
 #[derive(Debug, Drop)]
 pub struct SumSq {
     count: u64,
-    sum: i128,
+    sum: Wide,
     ghost few: { count ≤ 2 ^ 40 },
     ghost bound: { IsTrue (is_square_sum count sum) },
 }
@@ -46,13 +47,16 @@ impl Aggregate for SumSq {
     ghost held_at = { squared_at };
 
     fn empty(_alloc: Global) -> SumSq {
-        SumSq { count: 0, sum: 0 }
+        SumSq {
+            count: 0,
+            sum: Wide::new(0),
+        }
     }
 
     fn copy(&self, _alloc: Global) -> Result<SumSq, Memory> {
         Ok(SumSq {
             count: self.count,
-            sum: self.sum,
+            sum: Wide::new(self.sum.get()),
         })
     }
 
@@ -69,7 +73,7 @@ impl Aggregate for SumSq {
     }
 
     fn answer(&self) -> Answer {
-        Answer::Number(self.sum)
+        Answer::Number(self.sum.get())
     }
 
     fn add(&mut self, value: &Value) -> Result<(), Memory> {
@@ -77,7 +81,7 @@ impl Aggregate for SumSq {
             Some(square) => {
                 *self = SumSq {
                     count: self.count + 1,
-                    sum: self.sum + square,
+                    sum: Wide::new(self.sum.get() + square),
                 };
                 Ok(())
             }
@@ -94,17 +98,20 @@ impl Aggregate for SumSq {
             return Err(Unfit);
         }
         let count = self.count - 1;
-        let sum = self.sum - square;
+        let sum = self.sum.get() - square;
         if !is_within(count, sum) {
             return Err(Unfit);
         }
-        *self = SumSq { count, sum };
+        *self = SumSq {
+            count,
+            sum: Wide::new(sum),
+        };
         Ok(())
     }
 
     fn encode(&self, out: &mut Vec<u8>) -> Result<(), Memory> {
         let start = out.len();
-        match put_total(TAG, self.count, self.sum, out) {
+        match put_total(TAG, self.count, self.sum.get(), out) {
             Ok(()) => Ok(()),
             Err(memory) => {
                 out.truncate(start);
@@ -161,7 +168,10 @@ fn read_squares(from: &mut ByteReader<'_>) -> Result<SumSq, StateFault>
     let count = read_size(TAG, from)?;
     let sum = from.i128()?;
     if is_within(count, sum) {
-        Ok(SumSq { count, sum })
+        Ok(SumSq {
+            count,
+            sum: Wide::new(sum),
+        })
     } else {
         Err(StateFault::Unfit)
     }

@@ -8,6 +8,7 @@ ghost use Rattle.rg_event.specs.declared.value.Value.{Value};
 use crate::amount::{GREATEST_INT, amount};
 use crate::fault::{StateFault, Unfit};
 use crate::reading::{put_size, read_size};
+use crate::wide::Wide;
 use rg_bytes::{ByteReader, Memory, put_i128};
 use rg_event::Value;
 
@@ -15,7 +16,7 @@ use rg_event::Value;
 #[derive(Debug, Drop)]
 pub(crate) struct Total {
     pub(crate) count: u64,
-    pub(crate) sum: i128,
+    pub(crate) sum: Wide,
     ghost few: { count ≤ 2 ^ 40 },
     ghost bound: { IsTrue (is_sum count sum) },
 }
@@ -26,7 +27,10 @@ impl Total {
         ensures count { result.count ≡ 0 }
         ensures sum { result.sum ≡ pos 0 }
     {
-        Total { count: 0, sum: 0 }
+        Total {
+            count: 0,
+            sum: Wide::new(0),
+        }
     }
 
     /// As many ints, of the same sum.
@@ -36,7 +40,7 @@ impl Total {
     {
         Total {
             count: self.count,
-            sum: self.sum,
+            sum: Wide::new(self.sum.get()),
         }
     }
 
@@ -56,11 +60,14 @@ impl Total {
             return Err(Unfit);
         }
         let count = self.count - 1;
-        let sum = self.sum - number;
+        let sum = self.sum.get() - number;
         if !is_within(count, sum) {
             return Err(Unfit);
         }
-        *self = Total { count, sum };
+        *self = Total {
+            count,
+            sum: Wide::new(sum),
+        };
         Ok(())
     }
 
@@ -70,7 +77,7 @@ impl Total {
         ensures err { OnErr result (out.new.items ≡ out.old.items) }
     {
         let start = out.len();
-        match put_total(tag, self.count, self.sum, out) {
+        match put_total(tag, self.count, self.sum.get(), out) {
             Ok(()) => Ok(()),
             Err(memory) => {
                 out.truncate(start);
@@ -88,7 +95,10 @@ impl Total {
         let count = read_size(tag, from)?;
         let sum = from.i128()?;
         if is_within(count, sum) {
-            Ok(Total { count, sum })
+            Ok(Total {
+                count,
+                sum: Wide::new(sum),
+            })
         } else {
             Err(StateFault::Unfit)
         }

@@ -39,17 +39,20 @@ pub(crate) enum Step<'a> {
 }
 
 /// A state of no values.
-fn empty_of(alloc: Global, func: Func) -> AggState {
+fn empty_of(alloc: Global, func: Func) -> Option<AggState> {
     match func {
-        Func::Count => AggState::Count(Count::empty(alloc)),
-        Func::Sum => AggState::Sum(Sum::empty(alloc)),
-        Func::Avg => AggState::Avg(Avg::empty(alloc)),
-        Func::SumSq => AggState::SumSq(SumSq::empty(alloc)),
-        Func::Min => AggState::Min(Min::empty(alloc)),
-        Func::Max => AggState::Max(Max::empty(alloc)),
-        Func::CountDistinct => AggState::Distinct(Distinct::empty(alloc)),
-        Func::First => AggState::First(First::empty(alloc)),
-        Func::Last => AggState::Last(Last::empty(alloc)),
+        Func::Count => Some(AggState::Count(Count::empty(alloc))),
+        Func::Sum => Some(AggState::Sum(Sum::empty(alloc))),
+        Func::Avg => Some(AggState::Avg(Avg::empty(alloc))),
+        Func::SumSq => Some(AggState::SumSq(SumSq::empty(alloc))),
+        Func::Min => Some(AggState::Min(Box::new(alloc, Min::empty(alloc)).ok()?)),
+        Func::Max => Some(AggState::Max(Box::new(alloc, Max::empty(alloc)).ok()?)),
+        Func::CountDistinct => Some(AggState::Distinct(Box::new(
+            alloc,
+            Distinct::empty(alloc),
+        ).ok()?)),
+        Func::First => Some(AggState::First(Box::new(alloc, First::empty(alloc)).ok()?)),
+        Func::Last => Some(AggState::Last(Box::new(alloc, Last::empty(alloc)).ok()?)),
     }
 }
 
@@ -67,11 +70,11 @@ fn adds(state: &mut AggState, value: &Value) -> bool {
         AggState::Sum(state) => is_int(value) && add(state, value),
         AggState::Avg(state) => is_int(value) && add(state, value),
         AggState::SumSq(state) => is_int(value) && add(state, value),
-        AggState::Min(state) => is_number(value) && add(state, value),
-        AggState::Max(state) => is_number(value) && add(state, value),
-        AggState::Distinct(state) => is_legal(value) && add(state, value),
-        AggState::First(state) => is_number(value) && add(state, value),
-        AggState::Last(state) => is_number(value) && add(state, value),
+        AggState::Min(state) => is_number(value) && add(&mut **state, value),
+        AggState::Max(state) => is_number(value) && add(&mut **state, value),
+        AggState::Distinct(state) => is_legal(value) && add(&mut **state, value),
+        AggState::First(state) => is_number(value) && add(&mut **state, value),
+        AggState::Last(state) => is_number(value) && add(&mut **state, value),
     }
 }
 
@@ -170,11 +173,11 @@ pub(crate) fn state_does(alloc: Global, state: &mut AggState, step: &Step<'_>) -
         AggState::Sum(state) => does(alloc, state, step),
         AggState::Avg(state) => does(alloc, state, step),
         AggState::SumSq(state) => does(alloc, state, step),
-        AggState::Min(state) => does(alloc, state, step),
-        AggState::Max(state) => does(alloc, state, step),
-        AggState::Distinct(state) => does(alloc, state, step),
-        AggState::First(state) => does(alloc, state, step),
-        AggState::Last(state) => does(alloc, state, step),
+        AggState::Min(state) => does(alloc, &mut **state, step),
+        AggState::Max(state) => does(alloc, &mut **state, step),
+        AggState::Distinct(state) => does(alloc, &mut **state, step),
+        AggState::First(state) => does(alloc, &mut **state, step),
+        AggState::Last(state) => does(alloc, &mut **state, step),
     }
 }
 
@@ -191,15 +194,18 @@ impl Subject for AggState {
     type Step = Step<'static>;
 
     fn start(alloc: Global) -> Option<AggState> {
-        Some(empty_of(alloc, Func::Count))
+        empty_of(alloc, Func::Count)
     }
 
     fn goes(&mut self, alloc: Global, step: &Step<'static>) -> bool {
         match step {
-            Step::New(func) => {
-                *self = empty_of(alloc, *func);
-                true
-            }
+            Step::New(func) => match empty_of(alloc, *func) {
+                Some(state) => {
+                    *self = state;
+                    true
+                }
+                None => false,
+            },
             Step::Add(item) => adds_item(alloc, self, item),
             Step::Keeps(pairs) => keeps(self, *pairs),
             Step::Mixed(greatest) => mixes(alloc, self, *greatest),

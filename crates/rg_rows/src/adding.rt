@@ -1,4 +1,4 @@
-ghost use Rattle.std.specs.Prelude.{◌≡◌, ◌<◌, ◌^◌, ◌==◌, None, List, [], ◌∷◌, ◌++◌, length, OnOk, IsErrOf};
+ghost use Rattle.std.specs.Prelude.{◌≡◌, ◌<◌, ◌^◌, ◌==◌, None, List, [], ◌∷◌, ◌++◌, length, IfOk, OnOk, IsErrOf};
 ghost use Rattle.rg_agg.specs.Standing.{Stands, func_of, size_in};
 ghost use Rattle.rg_event.specs.declared.value.Value.{Value};
 ghost use Rattle.rg_state.specs.Rows.{AreLike};
@@ -6,6 +6,7 @@ ghost use Rattle.rg_state.specs.States.{held_of};
 ghost use Rattle.rg_state.specs.Takes.{Takes};
 
 use rg_agg::{GREATEST_SIZE, is_like};
+use rg_bytes::Memory;
 use rg_event::Value;
 use rg_metric::Func;
 use rg_state::{AggState, Aggregate, Avg, Count, Distinct, First, Last, Max, Min, Sum, SumSq};
@@ -20,38 +21,42 @@ pub(crate) enum Refusal {
     Memory,
 }
 
-/// What is done with the state of each aggregator.
+/// What is done with the state of each aggregator. A call of a method goes through a box by itself; any other
+/// call is written a second time, for the states in a box.
 macro_rules! each {
-    ($of:expr, $state:ident => $done:expr) => {
+    ($of:expr, $state:ident => $done:expr, $boxed:expr) => {
         match $of {
             AggState::Count($state) => $done,
             AggState::Sum($state) => $done,
             AggState::Avg($state) => $done,
             AggState::SumSq($state) => $done,
-            AggState::Min($state) => $done,
-            AggState::Max($state) => $done,
-            AggState::Distinct($state) => $done,
-            AggState::First($state) => $done,
-            AggState::Last($state) => $done,
+            AggState::Min($state) => $boxed,
+            AggState::Max($state) => $boxed,
+            AggState::Distinct($state) => $boxed,
+            AggState::First($state) => $boxed,
+            AggState::Last($state) => $boxed,
         }
+    };
+    ($of:expr, $state:ident => $done:expr) => {
+        each!($of, $state => $done, $done)
     };
 }
 
 /// The state of no values.
-pub(crate) fn blank_state(alloc: Global, func: Func) -> AggState
-    ensures stands { Stands (held_of result) [] }
-    ensures func { func_of (held_of result) ≡ func }
+pub(crate) fn blank_state(alloc: Global, func: Func) -> Result<AggState, Memory>
+    ensures stands { IfOk result (λ state. Stands (held_of state) []) }
+    ensures func { IfOk result (λ state. func_of (held_of state) ≡ func) }
 {
     match func {
-        Func::Count => AggState::Count(Count::empty(alloc)),
-        Func::Sum => AggState::Sum(Sum::empty(alloc)),
-        Func::Avg => AggState::Avg(Avg::empty(alloc)),
-        Func::SumSq => AggState::SumSq(SumSq::empty(alloc)),
-        Func::Min => AggState::Min(Min::empty(alloc)),
-        Func::Max => AggState::Max(Max::empty(alloc)),
-        Func::CountDistinct => AggState::Distinct(Distinct::empty(alloc)),
-        Func::First => AggState::First(First::empty(alloc)),
-        Func::Last => AggState::Last(Last::empty(alloc)),
+        Func::Count => Ok(AggState::Count(Count::empty(alloc))),
+        Func::Sum => Ok(AggState::Sum(Sum::empty(alloc))),
+        Func::Avg => Ok(AggState::Avg(Avg::empty(alloc))),
+        Func::SumSq => Ok(AggState::SumSq(SumSq::empty(alloc))),
+        Func::Min => Ok(AggState::Min(Box::new(alloc, Min::empty(alloc))?)),
+        Func::Max => Ok(AggState::Max(Box::new(alloc, Max::empty(alloc))?)),
+        Func::CountDistinct => Ok(AggState::Distinct(Box::new(alloc, Distinct::empty(alloc))?)),
+        Func::First => Ok(AggState::First(Box::new(alloc, First::empty(alloc))?)),
+        Func::Last => Ok(AggState::Last(Box::new(alloc, Last::empty(alloc))?)),
     }
 }
 
@@ -86,7 +91,7 @@ pub(crate) fn add_to(state: &mut AggState, value: &Value) -> Result<(), Refusal>
     ensures func { func_of (held_of state.new) ≡ func_of (held_of state.old) }
     ensures unfit { IsErrOf result Refusal.Unfit → (values : List Value) → Stands (held_of state.old) values → length values < 2 ^ 40 → AreLike value.now values → ⊥ }
 {
-    each!(state, state => add_one(state, value))
+    each!(state, state => add_one(state, value), add_one(&mut **state, value))
 }
 
 /// The same of one aggregator's state.

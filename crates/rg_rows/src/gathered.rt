@@ -37,13 +37,13 @@ fn have_same_bytes(alloc: Global, ours: &AggState, theirs: &AggState) -> Result<
 
 impl Gathered {
     /// No values.
-    pub(crate) fn new(alloc: Global, func: Func) -> Gathered
-        ensures { Holds func result [] }
+    pub(crate) fn new(alloc: Global, func: Func) -> Result<Gathered, Memory>
+        ensures { IfOk result (λ gathered. Holds func gathered []) }
     {
-        Gathered {
-            state: blank_state(alloc, func),
+        Ok(Gathered {
+            state: blank_state(alloc, func)?,
             spoilt: false,
-        }
+        })
     }
 
     /// Puts a value behind the others. Where memory runs out it says nothing more.

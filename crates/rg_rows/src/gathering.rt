@@ -67,19 +67,24 @@ fn put_value(
     ensures at { OnOk result ((values : List TheValue) → IsGathered func (get (slice_cmp nat_cmp) map.old key) values → IsGathered func (get (slice_cmp nat_cmp) map.new key) (values ++ value.now ∷ [])) }
     ensures others { OnOk result ((other : List ℕ) → other ≢ key → get (slice_cmp nat_cmp) map.new other ≡ get (slice_cmp nat_cmp) map.old other) }
 {
-    let mut gathered = take_key(alloc, map, func, &key);
+    let mut gathered = take_key(alloc, map, func, &key)?;
     gathered.add(value)?;
     map.insert(key, gathered)?;
     Ok(())
 }
 
 /// What was gathered for a key, which then has nothing.
-fn take_key(alloc: Global, map: &mut BTreeMap<Key, Gathered>, func: Func, key: &Key) -> Gathered
-    ensures held { (values : List TheValue) → IsGathered func (get (slice_cmp nat_cmp) map.old key.now) values → Holds func result values }
+fn take_key(
+    alloc: Global,
+    map: &mut BTreeMap<Key, Gathered>,
+    func: Func,
+    key: &Key,
+) -> Result<Gathered, Memory>
+    ensures held { (values : List TheValue) → IsGathered func (get (slice_cmp nat_cmp) map.old key.now) values → IfOk result (λ gathered. Holds func gathered values) }
     ensures others { (other : List ℕ) → other ≢ key.now → get (slice_cmp nat_cmp) map.new other ≡ get (slice_cmp nat_cmp) map.old other }
 {
     match map.remove(key) {
-        Some(gathered) => gathered,
+        Some(gathered) => Ok(gathered),
         None => Gathered::new(alloc, func),
     }
 }

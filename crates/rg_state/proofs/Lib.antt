@@ -1,4 +1,5 @@
 pub mod Placed
+pub mod Lent
 pub mod Slotted
 pub mod Sheeted
 pub mod Listed

@@ -1,6 +1,5 @@
 -- The rows of one key after a write, a new one and a removal.
 use Rattle.std.proofs.Common.{◌≡◌, ◌∙◌, ℕ, zero, suc, ◌<◌, ◌==◌, ◌&&◌, not, cond, Bool, true, false, List, [], ◌∷◌, ◌++◌, length, get_or, set, drop, remove, refl, ap, sym, subst, arith, true≢false, length-set, drop-cons, drop_of_length-le, ◌+◌, ◌≤◌}
-use Rattle.std.specs.Prelude.{Result, Ok, Err, is_ok, if◌then◌else◌}
 use Rattle.std.specs.Cmp.{first_so}
 use Rattle.std.proofs.lemmas.Bool.Decides.{Decides-eqb}
 use Rattle.rg_state.specs.CellLaws.{sound_rest, fair_first}
@@ -203,10 +202,6 @@ kept_set ks p old new sound within is node same = record {
   same = λ n. same_by ks p old new n sound within is node same (n == new.node) refl;
   count = length-set ks p new;
 }
-
-pub sound_after : {A E : Type 0} (result : Result A E) (old mid new : List Kept) (k : Kept) → mid ≡ old → new ≡ (if is_ok result then mid ++ k ∷ [] else mid) → Sound old → stands_in old k.node ≡ false → is_fair k ≡ true → Sound new
-sound_after (Ok done) old mid new k same pushed sound none fair = subst Sound (sym (pushed ∙ ap (λ ks. ks ++ k ∷ []) same)) (sound_pushed old k sound none fair)
-sound_after (Err refused) old mid new k same pushed sound none fair = subst Sound (sym (pushed ∙ same)) sound
 
 -- what is read in the place that was found, and what stands there after a write or a removal
 

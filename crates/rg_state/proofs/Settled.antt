@@ -142,7 +142,7 @@ both_varied xs ys values rises rises' stands stands' = ap varied (one_list xs ys
 
 -- two states of one function that stand for one list keep the same
 pub keep_same : (a b : AggState) (values : List Value) → func_of (held_of a) ≡ func_of (held_of b) → Stands (held_of a) values → Stands (held_of b) values → held_of a ≡ held_of b
-keep_same (Distinct state) (Distinct other) values same stands stands' = both_varied state.tally other.tally values state.sound.rising other.sound.rising stands stands'
+keep_same (Distinct state) (Distinct other) values same stands stands' = both_varied state.value.tally other.value.tally values state.value.sound.rising other.value.sound.rising stands stands'
 keep_same (Distinct state) b values same stands stands' = absurd (cc)
 keep_same (Count state) b values same stands stands' = by_func (held_of (Count state)) (held_of b) values same (λ is. absurd (cc)) stands stands'
 keep_same (Sum state) b values same stands stands' = by_func (held_of (Sum state)) (held_of b) values same (λ is. absurd (cc)) stands stands'

@@ -30,11 +30,11 @@ held_of (Count state) = count_ghosts.held state
 held_of (Sum state) = sum_ghosts.held state
 held_of (Avg state) = avg_ghosts.held state
 held_of (SumSq state) = sum_sq_ghosts.held state
-held_of (Min state) = min_ghosts.held state
-held_of (Max state) = max_ghosts.held state
-held_of (Distinct state) = distinct_ghosts.held state
-held_of (First state) = first_ghosts.held state
-held_of (Last state) = last_ghosts.held state
+held_of (Min state) = min_ghosts.held state.value
+held_of (Max state) = max_ghosts.held state.value
+held_of (Distinct state) = distinct_ghosts.held state.value
+held_of (First state) = first_ghosts.held state.value
+held_of (Last state) = last_ghosts.held state.value
 
 -- a state of one of the aggregators keeps this
 abbrev pub IsHeld : Held → Type 0

@@ -12,8 +12,8 @@ use std::alloc::Global;
 
 /// The state of one of the aggregators, as its own reading answers.
 macro_rules! decoded {
-    ($aggregate:ident, $alloc:expr, $from:expr) => {
-        match $aggregate::decode($alloc, $from) {
+    ($aggregate:ident, $read:expr) => {
+        match $read {
             Ok(state) => Ok(AggState::$aggregate(state)),
             Err(fault) => Err(fault),
         }
@@ -39,10 +39,10 @@ fn read_state(alloc: Global, from: &mut ByteReader<'_>) -> Result<AggState, Stat
 {
     match first_byte(from) {
         None => Err(StateFault::Short),
-        Some(1) => decoded!(Count, alloc, from),
-        Some(2) => decoded!(Sum, alloc, from),
-        Some(3) => decoded!(Avg, alloc, from),
-        Some(4) => decoded!(SumSq, alloc, from),
+        Some(1) => decoded!(Count, Count::decode(alloc, from)),
+        Some(2) => decoded!(Sum, Sum::decode(alloc, from)),
+        Some(3) => decoded!(Avg, Avg::decode(alloc, from)),
+        Some(4) => decoded!(SumSq, SumSq::decode(alloc, from)),
         Some(tag) => read_values(tag, alloc, from),
     }
 }
@@ -52,12 +52,35 @@ fn read_values(tag: u8, alloc: Global, from: &mut ByteReader<'_>) -> Result<AggS
     ensures { IsRead (values_tagged_at tag from.old) from.old result from.new }
 {
     match tag {
-        7 => decoded!(Distinct, alloc, from),
-        8 => decoded!(First, alloc, from),
-        9 => decoded!(Last, alloc, from),
-        0x15 => decoded!(Min, alloc, from),
-        0x16 => decoded!(Max, alloc, from),
+        7 => decoded!(Distinct, read_apart(alloc, from)),
+        8 => decoded!(First, read_apart(alloc, from)),
+        9 => decoded!(Last, read_apart(alloc, from)),
+        0x15 => decoded!(Min, read_apart(alloc, from)),
+        0x16 => decoded!(Max, read_apart(alloc, from)),
         _ => Err(StateFault::Unfit),
+    }
+}
+
+/// Takes a state of one aggregator, and puts it into memory of its own. A refusal leaves the reader as it was.
+fn read_apart<A: Aggregate + Drop>(
+    alloc: Global,
+    from: &mut ByteReader<'_>,
+) -> Result<Box<A>, StateFault>
+    ensures agrees { Agrees (λ state. A.held state.value) (A.held_at from.old) result from.new }
+    ensures ok { IfOk result (λ state. from.old ≡ held_bytes (A.held state.value) ++ from.new) }
+    ensures some { IfOk result (λ state. 0 < size_in (A.held state.value)) }
+    ensures err { OnErr result (from.new ≡ from.old) }
+{
+    // All that is left, so that a refusal can put it back.
+    let bytes = from.bytes(from.left())?;
+    *from = ByteReader::new(bytes);
+    let state = A::decode(alloc, from)?;
+    match Box::new(alloc, state) {
+        Ok(state) => Ok(state),
+        Err(_) => {
+            *from = ByteReader::new(bytes);
+            Err(StateFault::Memory)
+        }
     }
 }
 

@@ -10,11 +10,21 @@ use crate::one::Refusal;
 use crate::own::first_state;
 use crate::state::AggState;
 use crate::table::Change;
+use rg_agg::{Aggregate, Count};
 use rg_bytes::Memory;
 use rg_event::Value;
 use rg_group::Key;
 use rg_metric::Func;
+use smallvec::SmallVec;
 use std::alloc::Global;
+use std::default::MadeWith;
+
+/// How many rows of a key stand in its slot itself, since most queries ask for one or two. Where there are
+/// more, all of them stand apart, in room that the slot keeps from then on.
+const IN_PLACE: usize = 2;
+
+/// The rows of a key, in its slot where they are few.
+pub(crate) type Rows = SmallVec<Kept, IN_PLACE>;
 
 /// The state of a node's row, and what is remembered of the row since the mark. A row that is gone and
 /// was there at the mark keeps an empty state until the table is marked once more.
@@ -27,6 +37,9 @@ pub(crate) struct Kept {
     pub(crate) there: bool,
     pub(crate) state: AggState,
 }
+
+// 4 bytes of the node, 2 of what is remembered of the row, and 32 of the state, aligned to 8.
+const _: () = prove!(size_of::<Kept>() == 40);
 
 impl Kept {
     /// Whether the row is gone, and wasn't there at the mark.
@@ -117,11 +130,23 @@ impl Kept {
     }
 }
 
+/// What stands in a place without a row: an empty count, which takes no memory.
+impl MadeWith<Global> for Kept {
+    fn made_with(alloc: Global) -> Kept {
+        Kept {
+            node: 0,
+            named: false,
+            there: false,
+            state: AggState::Count(Count::empty(alloc)),
+        }
+    }
+}
+
 /// A key and its rows, each node once. Without rows the key means nothing.
 #[derive(Debug, Drop)]
 pub(crate) struct KeyRows {
     pub(crate) key: Key,
-    pub(crate) kept: Vec<Kept>,
+    pub(crate) kept: Rows,
     ghost sound: { are_sound kept.items ≡ true },
 }
 
@@ -132,7 +157,7 @@ impl KeyRows {
     {
         KeyRows {
             key: Key::from(Vec::new(alloc)),
-            kept: Vec::new(alloc),
+            kept: Rows::new(alloc),
         }
     }
 
@@ -161,8 +186,9 @@ impl KeyRows {
         ensures found { IfSome result (λ place. (place < length self.now.kept.items) × ((other : Kept) → (slice_index_or self.now.kept.items place other).node ≡ node)) }
         ensures none { IsNone result → stands_in self.now.kept.items node ≡ false }
     {
-        for place in 0..self.kept.len() {
-            let kept = &self.kept[place];
+        let rows = self.kept.as_slice();
+        for place in 0..rows.len() {
+            let kept = &rows[place];
             if kept.node == node {
                 return Some(place);
             }
@@ -290,12 +316,12 @@ impl KeyRows {
         ensures err { OnErr result (IsKeptSame self.old.kept.items self.new.kept.items) }
     {
         self.kept.reserve_exact(1)?;
-        self.kept.push(Kept {
+        self.kept.push_reserved(Kept {
             node,
             named: true,
             there: false,
             state,
-        })?;
+        });
         Ok(())
     }
 
@@ -309,7 +335,7 @@ impl KeyRows {
 }
 
 /// The same, of a list of them.
-fn settle_all(kept: &mut Vec<Kept>)
+fn settle_all(kept: &mut Rows)
     requires { are_sound kept.old.items ≡ true }
     ensures sound { are_sound kept.new.items ≡ true }
     ensures rows { (node : ℕ) → seen_at kept.new.items node ≡ settled (seen_at kept.old.items node) }
@@ -321,7 +347,7 @@ fn settle_all(kept: &mut Vec<Kept>)
 }
 
 /// The same, of the one in a place. Answers the place of the next one.
-fn settle_at(kept: &mut Vec<Kept>, place: usize) -> usize
+fn settle_at(kept: &mut Rows, place: usize) -> usize
     requires sound { are_sound kept.old.items ≡ true }
     requires within { place < length kept.old.items }
     ensures { SettlesAt place result kept.old.items kept.new.items }

@@ -21,7 +21,7 @@ pub(crate) fn first_state(alloc: Global, func: Func, value: &Value) -> Result<Ag
     ensures own { IfOk result (λ state. func_of (held_of state) ≡ func) }
     ensures size { IfOk result (λ state. size_in (held_of state) ≡ 1) }
 {
-    let mut state = AggState::empty(alloc, func);
+    let mut state = AggState::empty(alloc, func)?;
     match state.add(value) {
         Ok(()) => Ok(state),
         Err(memory) => Err(memory),

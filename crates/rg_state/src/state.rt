@@ -16,7 +16,8 @@ use rg_extreme::{Max, Min};
 use rg_metric::{Answer, Func};
 use std::alloc::Global;
 
-/// The state of one of the aggregators.
+/// The state of one of the aggregators. A state that keeps values stands in memory of its own, so that a row
+/// of the others is small.
 #[derive(Debug, Drop)]
 pub enum AggState {
     /// How many values there are.
@@ -28,62 +29,56 @@ pub enum AggState {
     /// The sum of the squares of ints.
     SumSq(SumSq),
     /// The least int or id.
-    Min(Min),
+    Min(Box<Min>),
     /// The greatest int or id.
-    Max(Max),
+    Max(Box<Max>),
     /// How many distinct values there are.
-    Distinct(Distinct),
+    Distinct(Box<Distinct>),
     /// The first int or id.
-    First(First),
+    First(Box<First>),
     /// The last int or id.
-    Last(Last),
+    Last(Box<Last>),
 }
 
-/// What is done with the state of each aggregator.
+/// What is done with the state of each aggregator. A call of a method goes through a box by itself; any other
+/// call is written a second time, for the states in a box.
 macro_rules! each {
-    ($of:expr, $state:ident => $done:expr) => {
+    ($of:expr, $state:ident => $done:expr, $boxed:expr) => {
         match $of {
             AggState::Count($state) => $done,
             AggState::Sum($state) => $done,
             AggState::Avg($state) => $done,
             AggState::SumSq($state) => $done,
-            AggState::Min($state) => $done,
-            AggState::Max($state) => $done,
-            AggState::Distinct($state) => $done,
-            AggState::First($state) => $done,
-            AggState::Last($state) => $done,
+            AggState::Min($state) => $boxed,
+            AggState::Max($state) => $boxed,
+            AggState::Distinct($state) => $boxed,
+            AggState::First($state) => $boxed,
+            AggState::Last($state) => $boxed,
         }
     };
-}
-
-/// A copy of the state of one of the aggregators.
-macro_rules! copied {
-    ($aggregate:ident, $state:expr, $alloc:expr) => {
-        match $state.copy($alloc) {
-            Ok(copy) => Ok(AggState::$aggregate(copy)),
-            Err(memory) => Err(memory),
-        }
+    ($of:expr, $state:ident => $done:expr) => {
+        each!($of, $state => $done, $done)
     };
 }
 
 impl AggState {
     /// The state of no values.
-    pub(crate) fn empty(alloc: Global, func: Func) -> AggState
-        ensures stands { Stands (held_of result) [] }
-        ensures func { func_of (held_of result) ≡ func }
-        ensures size { size_in (held_of result) ≡ 0 }
-        ensures kind { kind_in (held_of result) ≡ None }
+    pub(crate) fn empty(alloc: Global, func: Func) -> Result<AggState, Memory>
+        ensures stands { IfOk result (λ state. Stands (held_of state) []) }
+        ensures func { IfOk result (λ state. func_of (held_of state) ≡ func) }
+        ensures size { IfOk result (λ state. size_in (held_of state) ≡ 0) }
+        ensures kind { IfOk result (λ state. kind_in (held_of state) ≡ None) }
     {
         match func {
-            Func::Count => AggState::Count(Count::empty(alloc)),
-            Func::Sum => AggState::Sum(Sum::empty(alloc)),
-            Func::Avg => AggState::Avg(Avg::empty(alloc)),
-            Func::SumSq => AggState::SumSq(SumSq::empty(alloc)),
-            Func::Min => AggState::Min(Min::empty(alloc)),
-            Func::Max => AggState::Max(Max::empty(alloc)),
-            Func::CountDistinct => AggState::Distinct(Distinct::empty(alloc)),
-            Func::First => AggState::First(First::empty(alloc)),
-            Func::Last => AggState::Last(Last::empty(alloc)),
+            Func::Count => Ok(AggState::Count(Count::empty(alloc))),
+            Func::Sum => Ok(AggState::Sum(Sum::empty(alloc))),
+            Func::Avg => Ok(AggState::Avg(Avg::empty(alloc))),
+            Func::SumSq => Ok(AggState::SumSq(SumSq::empty(alloc))),
+            Func::Min => Ok(AggState::Min(Box::new(alloc, Min::empty(alloc))?)),
+            Func::Max => Ok(AggState::Max(Box::new(alloc, Max::empty(alloc))?)),
+            Func::CountDistinct => Ok(AggState::Distinct(Box::new(alloc, Distinct::empty(alloc))?)),
+            Func::First => Ok(AggState::First(Box::new(alloc, First::empty(alloc))?)),
+            Func::Last => Ok(AggState::Last(Box::new(alloc, Last::empty(alloc))?)),
         }
     }
 
@@ -109,15 +104,18 @@ impl AggState {
         ensures { IfOk result (λ copy. held_of copy ≡ held_of self.now) }
     {
         match self {
-            AggState::Count(state) => copied!(Count, state, alloc),
-            AggState::Sum(state) => copied!(Sum, state, alloc),
-            AggState::Avg(state) => copied!(Avg, state, alloc),
-            AggState::SumSq(state) => copied!(SumSq, state, alloc),
-            AggState::Min(state) => copied!(Min, state, alloc),
-            AggState::Max(state) => copied!(Max, state, alloc),
-            AggState::Distinct(state) => copied!(Distinct, state, alloc),
-            AggState::First(state) => copied!(First, state, alloc),
-            AggState::Last(state) => copied!(Last, state, alloc),
+            AggState::Count(state) => Ok(AggState::Count(state.copy(alloc)?)),
+            AggState::Sum(state) => Ok(AggState::Sum(state.copy(alloc)?)),
+            AggState::Avg(state) => Ok(AggState::Avg(state.copy(alloc)?)),
+            AggState::SumSq(state) => Ok(AggState::SumSq(state.copy(alloc)?)),
+            AggState::Min(state) => Ok(AggState::Min(Box::new(alloc, state.copy(alloc)?)?)),
+            AggState::Max(state) => Ok(AggState::Max(Box::new(alloc, state.copy(alloc)?)?)),
+            AggState::Distinct(state) => Ok(AggState::Distinct(Box::new(
+                alloc,
+                state.copy(alloc)?,
+            )?)),
+            AggState::First(state) => Ok(AggState::First(Box::new(alloc, state.copy(alloc)?)?)),
+            AggState::Last(state) => Ok(AggState::Last(Box::new(alloc, state.copy(alloc)?)?)),
         }
     }
 
@@ -150,11 +148,11 @@ impl AggState {
         match self {
             AggState::Count(_) => true,
             AggState::Sum(_) | AggState::Avg(_) | AggState::SumSq(_) => kind == Some(Kind::Int),
-            AggState::Min(state) => keeps_kind(state, kind),
-            AggState::Max(state) => keeps_kind(state, kind),
-            AggState::Distinct(state) => keeps_kind(state, kind),
-            AggState::First(state) => keeps_kind(state, kind),
-            AggState::Last(state) => keeps_kind(state, kind),
+            AggState::Min(state) => keeps_kind(&**state, kind),
+            AggState::Max(state) => keeps_kind(&**state, kind),
+            AggState::Distinct(state) => keeps_kind(&**state, kind),
+            AggState::First(state) => keeps_kind(&**state, kind),
+            AggState::Last(state) => keeps_kind(&**state, kind),
         }
     }
 
@@ -172,7 +170,7 @@ impl AggState {
     fn has_room(&self, value: &Value) -> bool
         ensures { HasRoom value.now (held_of self.now) result }
     {
-        each!(self, state => has_room(state, value))
+        each!(self, state => has_room(state, value), has_room(&**state, value))
     }
 
     /// Adds a value at the back. Where memory runs out it keeps what it kept.
@@ -192,7 +190,7 @@ impl AggState {
         ensures func { func_of (held_of self.new) ≡ func_of (held_of self.old) }
         ensures drops { Drops value.now (held_of self.old) (held_of self.new) result }
     {
-        each!(self, state => take_from(state, value))
+        each!(self, state => take_from(state, value), take_from(&mut **state, value))
     }
 
     /// Writes the state at the end. Where memory runs out `out` holds what it held.

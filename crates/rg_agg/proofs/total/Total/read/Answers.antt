@@ -18,7 +18,7 @@ returns-in_err-sum-clause-agrees c =
 pub returns-then-is_within-clause-agrees : goal.returns-then-is_within-clause-agrees
 returns-then-is_within-clause-agrees c =
     let fits : FitsSigned w128 c.in_ok-sum.sum = search rules in
-    rw (to_z-of_z w128 c.in_ok-sum.sum fits) (total_read is_sum _ _ _ _ c.in_ok-sum.sum _ c.in_ok-count.ensures.agrees c.in_ok-sum.ensures.ok fits (search (rules, to_z-of_z w128 c.in_ok-sum.sum fits)))
+    rw (c.new.ensures, to_z-of_z w128 c.in_ok-sum.sum fits) (total_read is_sum _ _ _ _ c.in_ok-sum.sum _ c.in_ok-count.ensures.agrees c.in_ok-sum.ensures.ok fits (search (rules, to_z-of_z w128 c.in_ok-sum.sum fits)))
 
 pub returns-else-is_within-clause-agrees : goal.returns-else-is_within-clause-agrees
 returns-else-is_within-clause-agrees c =

@@ -1,6 +1,6 @@
 -- The rows of one key, lent as a slice: what is read there stands in the rows, and a write to it is one to the rows.
-use Rattle.std.proofs.Common.{◌≡◌, ◌∙◌, ℕ, ◌<◌, true, List, length, get_or, set, remove, ap, subst, length-set}
-use Rattle.std.specs.List.{refill}
+use Rattle.std.proofs.Common.{◌≡◌, ◌∙◌, ℕ, ◌<◌, true, List, length, get_or, set, ap, subst, length-set}
+use Rattle.std.specs.List.{refill, swap_remove}
 use Rattle.std.specs.Prelude.{Result}
 use Rattle.smallvec.proofs.SmallVecLemmas.{items-with_items}
 use Rattle.rg_event.specs.declared.value.Value.{Value}
@@ -10,7 +10,7 @@ use Rattle.rg_state.specs.Stepping.{KeptStep, RowsStep}
 use Rattle.rg_state.specs.declared.key_rows.Kept.{Kept}
 use Rattle.rg_state.specs.declared.one.Refusal.{Refusal}
 use Rattle.rg_state.specs.declared.table.Change.{Change}
-use Rattle.rg_state.proofs.Placed.{IsPlaced, sound_set, fair_at}
+use Rattle.rg_state.proofs.Placed.{IsPlaced, remove_set, sound_set, fair_at}
 use Rattle.rg_state.proofs.RowSteps.{rows_stepped}
 
 module _ (ks lent : List Kept) (p : ℕ) (same : lent ≡ ks) where
@@ -22,8 +22,8 @@ module _ (ks lent : List Kept) (p : ℕ) (same : lent ≡ ks) where
   pub lent_count : (new : Kept) → length (refill (length ks) ks (set lent p new)) ≡ length ks
   lent_count new = ap length (lent_set new) ∙ length-set ks p new
 
-  pub lent_gone : (gone : List Kept) (new : Kept) → gone ≡ remove (refill (length ks) ks (set lent p new)) p → gone ≡ remove (set ks p new) p
-  lent_gone gone new dropped = dropped ∙ ap (λ l. remove l p) (lent_set new)
+  pub lent_gone : (gone : List Kept) (new d : Kept) → gone ≡ swap_remove (refill (length ks) ks (set lent p new)) p d → gone ≡ swap_remove ks p d
+  lent_gone gone new d dropped = dropped ∙ ap (λ l. swap_remove l p d) (lent_set new) ∙ remove_set ks p new d
 
   -- k is what was read there
   module _ (k : Kept) (is : k ≡ get_or lent p k) where

@@ -10,6 +10,7 @@ pub mod RowSteps
 pub mod Unused
 pub mod Flagged
 pub mod Ordered
+pub mod Headed
 pub mod OneKind
 pub mod ReadBack
 mod Sizes

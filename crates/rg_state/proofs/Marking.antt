@@ -1,6 +1,6 @@
 -- What is left of the rows of a key once it is marked.
-use Rattle.std.proofs.Common.{◌≡◌, ◌∙◌, ℕ, zero, suc, ◌+◌, ◌<◌, ◌==◌, not, cond, Bool, true, false, List, [], ◌∷◌, length, take, get_or, set, remove, refl, ap, sym, subst, arith, true≢false}
-use Rattle.std.specs.List.{All}
+use Rattle.std.proofs.Common.{◌≡◌, ◌∙◌, ℕ, zero, suc, ◌+◌, ◌<◌, ◌==◌, not, cond, Bool, true, false, List, [], ◌∷◌, length, take, get_or, set, refl, ap, sym, subst, arith, true≢false}
+use Rattle.std.specs.List.{All, swap_remove}
 use Rattle.std.proofs.lemmas.Bool.Decides.{Decides-eqb}
 use Rattle.std.proofs.lemmas.List.Elements.{All-nil, All-cons, All-head, All-tail}
 use Rattle.rg_agg.specs.Standing.{size_in}
@@ -10,7 +10,7 @@ use Rattle.rg_state.specs.Kepts.{unseen, settled, shown, seen, seen_at, are_soun
 use Rattle.rg_state.specs.Clean.{IsClean}
 use Rattle.rg_state.specs.declared.key_rows.Kept.{Kept}
 use Rattle.rg_state.specs.declared.key_rows.KeyRows.{KeyRows}
-use Rattle.rg_state.proofs.Placed.{at_place, here_set, beside_set, here_removed, beside_removed, remove_set}
+use Rattle.rg_state.proofs.Placed.{at_place, here_set, beside_set, here_removed, beside_removed, front_removed}
 use Rattle.rg_state.proofs.Stepping.{shown_none}
 
 -- one key
@@ -57,12 +57,6 @@ clean_set (x ∷ ks) (suc p) k within clean all =
     let more : suc (p + 1) ≡ suc p + 1 = omega arith in
     subst (λ n. All IsClean (take n (x ∷ set ks p k))) more (All-cons IsClean x (take (p + 1) (set ks p k)) (All-head IsClean x (take p ks) all) (clean_set ks p k (omega arith) clean (All-tail IsClean x (take p ks) all)))
 
-pub clean_removed : (ks : List Kept) (p : ℕ) → All IsClean (take p ks) → All IsClean (take p (remove ks p))
-clean_removed [] zero all = All-nil IsClean
-clean_removed [] (suc p) all = All-nil IsClean
-clean_removed (x ∷ ks) zero all = All-nil IsClean
-clean_removed (x ∷ ks) (suc p) all = All-cons IsClean x (take p (remove ks p)) (All-head IsClean x (take p ks) all) (clean_removed ks p (All-tail IsClean x (take p ks) all))
-
 held_same : (old new : Kept) → new.state ≡ old.state → settled (seen new) ≡ settled (seen old)
 held_same old new state = ap (λ st. record { held = shown (held_of st); named = false; there = false }) state
 
@@ -77,15 +71,15 @@ rows_forgotten ks p old new node sound within is same state = by (node == new.no
     by false e = ap settled (beside_set ks p old new node is same (λ at. true≢false (sym ((Decides-eqb node new.node).1 at) ∙ e)))
 
 -- and where one that is gone is dropped
-pub rows_dropped : (ks gone : List Kept) (p : ℕ) (old other : Kept) (node : ℕ) → are_sound ks ≡ true → p < length ks → old ≡ get_or ks p old → (size_in (held_of old.state) == 0) ≡ true → gone ≡ remove (set ks p other) p → settled (seen_at gone node) ≡ settled (seen_at ks node)
-rows_dropped ks gone p old other node sound within is none left = ap (λ l. settled (seen_at l node)) (left ∙ remove_set ks p other) ∙ by (node == old.node) refl
+pub rows_dropped : (ks gone : List Kept) (p : ℕ) (d old : Kept) (node : ℕ) → are_sound ks ≡ true → p < length ks → old ≡ get_or ks p old → (size_in (held_of old.state) == 0) ≡ true → gone ≡ swap_remove ks p d → settled (seen_at gone node) ≡ settled (seen_at ks node)
+rows_dropped ks gone p d old node sound within is none left = ap (λ l. settled (seen_at l node)) left ∙ by (node == old.node) refl
   where
-    by : (b : Bool) → (node == old.node) ≡ b → settled (seen_at (remove ks p) node) ≡ settled (seen_at ks node)
+    by : (b : Bool) → (node == old.node) ≡ b → settled (seen_at (swap_remove ks p d) node) ≡ settled (seen_at ks node)
     by true e =
         let at : node ≡ old.node = (Decides-eqb node old.node).0 e in
-        ap (λ n. settled (seen_at (remove ks p) n)) at ∙ ap settled (here_removed ks p old sound within is)
+        ap (λ n. settled (seen_at (swap_remove ks p d) n)) at ∙ ap settled (here_removed ks p d old sound within is)
         ∙ sym (ap (λ h. record { held = h; named = false; there = false }) (shown_none (held_of old.state) none)) ∙ sym (ap settled (at_place ks p old sound within is)) ∙ ap (λ n. settled (seen_at ks n)) (sym at)
-    by false e = ap settled (beside_removed ks p old node within is (λ at. true≢false (sym ((Decides-eqb node old.node).1 at) ∙ e)))
+    by false e = ap settled (beside_removed ks p d old node sound within is (λ at. true≢false (sym ((Decides-eqb node old.node).1 at) ∙ e)))
 
-pub clean_dropped : (ks gone : List Kept) (p : ℕ) (other : Kept) → gone ≡ remove (set ks p other) p → All IsClean (take p ks) → All IsClean (take p gone)
-clean_dropped ks gone p other left all = subst (λ l. All IsClean (take p l)) (sym (left ∙ remove_set ks p other)) (clean_removed ks p all)
+pub clean_dropped : (ks gone : List Kept) (p : ℕ) (d : Kept) → p < length ks → gone ≡ swap_remove ks p d → All IsClean (take p ks) → All IsClean (take p gone)
+clean_dropped ks gone p d within left = subst (All IsClean) (sym (ap (take p) left ∙ front_removed ks p d within))

@@ -1,5 +1,6 @@
 -- The rows of one key after a write, a new one and a removal.
-use Rattle.std.proofs.Common.{◌≡◌, ◌∙◌, ℕ, zero, suc, ◌<◌, ◌==◌, ◌&&◌, not, cond, Bool, true, false, List, [], ◌∷◌, ◌++◌, length, get_or, set, drop, remove, refl, ap, sym, subst, arith, true≢false, length-set, drop-cons, drop_of_length-le, ◌+◌, ◌≤◌}
+use Rattle.std.proofs.Common.{◌≡◌, ◌∙◌, ℕ, zero, suc, ◌<◌, ◌==◌, ◌&&◌, not, cond, Bool, true, false, List, [], ◌∷◌, ◌++◌, length, get_or, set, take, drop, refl, ap, sym, subst, arith, true≢false, length-set, drop-cons, drop_of_length-le, ◌+◌, ◌-◌, ◌≤◌}
+use Rattle.std.specs.List.{swap_remove}
 use Rattle.std.specs.Cmp.{first_so}
 use Rattle.std.proofs.lemmas.Bool.Decides.{Decides-eqb}
 use Rattle.rg_state.specs.CellLaws.{sound_rest, fair_first}
@@ -136,37 +137,127 @@ sound_pushed (k ∷ ks) new sound none fair =
     sound_with k (ks ++ new ∷ []) (stands_pushed ks new k.node apart ∙ alone k ks sound) (fair_first k ks sound)
     (sound_pushed ks new (sound_rest k ks sound) (sym (stands_skipped k ks new.node apart) ∙ none) fair)
 
--- one fewer
+-- one fewer: the last one comes to its place
 
-pub remove_set : (ks : List Kept) (p : ℕ) (new : Kept) → remove (set ks p new) p ≡ remove ks p
-remove_set [] p new = refl
-remove_set (k ∷ ks) zero new = refl
-remove_set (k ∷ ks) (suc p) new = ap (λ rest. k ∷ rest) (remove_set ks p new)
+-- one row in front of another, the other way around
+module _ (a b : Kept) (ks : List Kept) where
+  turned_stands : (n : ℕ) → stands_in (a ∷ b ∷ ks) n ≡ stands_in (b ∷ a ∷ ks) n
+  turned_stands n = by (a.node == n) (b.node == n)
+    where
+      by : (at_a at_b : Bool) → cond at_a true (cond at_b true (stands_in ks n)) ≡ cond at_b true (cond at_a true (stands_in ks n))
+      by true true = refl
+      by true false = refl
+      by false at_b = refl
 
-pub beside_removed : (ks : List Kept) (p : ℕ) (old : Kept) (n : ℕ) → p < length ks → old ≡ get_or ks p old → (n ≡ old.node → ⊥) → seen_at (remove ks p) n ≡ seen_at ks n
-beside_removed [] p old n within is apart = absurd (omega arith)
-beside_removed (k ∷ ks) zero old n within is apart = sym (skipped k ks n (λ e. apart (sym e ∙ sym (ap (λ k. k.node) is))))
-beside_removed (k ∷ ks) (suc p) old n within is apart = ap (cond (k.node == n) (seen k)) (beside_removed ks p old n (omega arith) is apart)
+  turned_seen : (n : ℕ) → (a.node ≡ b.node → ⊥) → seen_at (a ∷ b ∷ ks) n ≡ seen_at (b ∷ a ∷ ks) n
+  turned_seen n apart = by (a.node == n) (b.node == n) refl refl
+    where
+      by : (at_a at_b : Bool) → (a.node == n) ≡ at_a → (b.node == n) ≡ at_b → cond at_a (seen a) (cond at_b (seen b) (seen_at ks n)) ≡ cond at_b (seen b) (cond at_a (seen a) (seen_at ks n))
+      by true true one two = absurd (apart ((Decides-eqb a.node n).0 one ∙ sym ((Decides-eqb b.node n).0 two)))
+      by true false one two = refl
+      by false at_b one two = refl
 
-stands_removed : (ks : List Kept) (p n : ℕ) → stands_in ks n ≡ false → stands_in (remove ks p) n ≡ false
-stands_removed [] zero n none = refl
-stands_removed [] (suc p) n none = refl
-stands_removed (k ∷ ks) zero n none = sym (stands_skipped k ks n (unlike k ks n none)) ∙ none
-stands_removed (k ∷ ks) (suc p) n none =
-    let apart = unlike k ks n none in
-    stands_skipped k (remove ks p) n apart ∙ stands_removed ks p n (sym (stands_skipped k ks n apart) ∙ none)
+  turned_apart : Sound (a ∷ b ∷ ks) → a.node ≡ b.node → ⊥
+  turned_apart sound same = unlike b ks a.node (alone a (b ∷ ks) sound) (sym same)
 
-pub here_removed : (ks : List Kept) (p : ℕ) (old : Kept) → Sound ks → p < length ks → old ≡ get_or ks p old → seen_at (remove ks p) old.node ≡ unseen
-here_removed [] p old sound within is = absurd (omega arith)
-here_removed (k ∷ ks) zero old sound within is = ap (seen_at ks) (ap (λ k. k.node) is) ∙ none_seen ks k.node (alone k ks sound)
-here_removed (k ∷ ks) (suc p) old sound within is =
-    skipped k (remove ks p) old.node (apart_from k ks p old sound (omega arith) is) ∙ here_removed ks p old (sound_rest k ks sound) (omega arith) is
+  turned_sound : Sound (a ∷ b ∷ ks) → Sound (b ∷ a ∷ ks)
+  turned_sound sound =
+      let rest = sound_rest a (b ∷ ks) sound in
+      let apart = turned_apart sound in
+      let free : stands_in ks a.node ≡ false = sym (stands_skipped b ks a.node (λ e. apart (sym e))) ∙ alone a (b ∷ ks) sound in
+      sound_with b (a ∷ ks) (stands_skipped a ks b.node apart ∙ alone b ks rest) (fair_first b ks rest) (sound_with a ks free (fair_first a (b ∷ ks) sound) (sound_rest b ks rest))
 
-pub sound_removed : (ks : List Kept) (p : ℕ) → Sound ks → Sound (remove ks p)
-sound_removed [] zero sound = refl
-sound_removed [] (suc p) sound = refl
-sound_removed (k ∷ ks) zero sound = sound_rest k ks sound
-sound_removed (k ∷ ks) (suc p) sound = sound_with k (remove ks p) (stands_removed ks p k.node (alone k ks sound)) (fair_first k ks sound) (sound_removed ks p (sound_rest k ks sound))
+-- The rows that are left are, with the one that goes in front of them, of the same nodes as before, and show the same of each.
+record Without (k : Kept) (ks gone : List Kept) : Type 0 where
+  nodes : (n : ℕ) → stands_in ks n ≡ stands_in (k ∷ gone) n
+  rows : (n : ℕ) → seen_at ks n ≡ seen_at (k ∷ gone) n
+  sound : Sound (k ∷ gone)
+
+-- behind one more row
+without_later : (x k : Kept) (ks gone : List Kept) → Sound (x ∷ ks) → Without k ks gone → Without k (x ∷ ks) (x ∷ gone)
+without_later x k ks gone sound without =
+    let first : Sound (x ∷ k ∷ gone) = sound_with x (k ∷ gone) (sym (without.nodes x.node) ∙ alone x ks sound) (fair_first x ks sound) without.sound in
+    record {
+      nodes = λ n. ap (cond (x.node == n) true) (without.nodes n) ∙ turned_stands x k gone n;
+      rows = λ n. ap (cond (x.node == n) (seen x)) (without.rows n) ∙ turned_seen x k gone n (turned_apart x k gone first);
+      sound = turned_sound x k gone first;
+    }
+
+-- the last one goes
+without_last : (ks : List Kept) (k : Kept) → Sound (ks ++ k ∷ []) → Without k (ks ++ k ∷ []) ks
+without_last [] k sound = record { nodes = λ n. refl; rows = λ n. refl; sound = sound }
+without_last (x ∷ ks) k sound = without_later x k (ks ++ k ∷ []) ks sound (without_last ks k (sound_rest x (ks ++ k ∷ []) sound))
+
+-- the first one goes, and the last one comes to its place
+without_first : (x k : Kept) (ks gone : List Kept) → Sound (x ∷ ks) → Without k ks gone → Without x (x ∷ ks) (k ∷ gone)
+without_first x k ks gone sound without = record {
+  nodes = λ n. ap (cond (x.node == n) true) (without.nodes n);
+  rows = λ n. ap (cond (x.node == n) (seen x)) (without.rows n);
+  sound = sound_with x (k ∷ gone) (sym (without.nodes x.node) ∙ alone x ks sound) (fair_first x ks sound) without.sound;
+}
+
+-- a list is all but its last one, and then that
+split_last : (y : Kept) (ks : List Kept) (d : Kept) → y ∷ ks ≡ take (length ks) (y ∷ ks) ++ get_or (y ∷ ks) (length ks) d ∷ []
+split_last y [] d = refl
+split_last y (z ∷ ks) d = ap (λ rest. y ∷ rest) (split_last z ks d)
+
+-- what is left, by the number of rows behind the first one
+abbrev moved : Kept → List Kept → ℕ → Kept → List Kept
+moved x ks p d = take (length ks) (set (x ∷ ks) p (get_or (x ∷ ks) (length ks) d))
+
+is_moved : (x : Kept) (ks : List Kept) (p : ℕ) (d : Kept) → swap_remove (x ∷ ks) p d ≡ moved x ks p d
+is_moved x ks p d =
+    let fewer : length (x ∷ ks) - 1 ≡ length ks = omega arith in
+    ap (λ n. take n (set (x ∷ ks) p (get_or (x ∷ ks) n d))) fewer
+
+without_moved : (x : Kept) (ks : List Kept) (p : ℕ) (d k : Kept) → Sound (x ∷ ks) → p < length (x ∷ ks) → k ≡ get_or (x ∷ ks) p k → Without k (x ∷ ks) (moved x ks p d)
+without_moved x [] zero d k sound within is = subst (λ k. Without k (x ∷ []) []) (sym is) (without_last [] x sound)
+without_moved x [] (suc p) d k sound within is = absurd (omega arith)
+without_moved x (y ∷ ks) zero d k sound within is =
+    let front = take (length ks) (y ∷ ks) in
+    let last = get_or (y ∷ ks) (length ks) d in
+    let split = split_last y ks d in
+    let rest : Without last (y ∷ ks) front = subst (λ l. Without last l front) (sym split) (without_last front last (subst Sound split (sound_rest x (y ∷ ks) sound))) in
+    subst (λ k. Without k (x ∷ y ∷ ks) (last ∷ front)) (sym is) (without_first x last (y ∷ ks) front sound rest)
+without_moved x (y ∷ ks) (suc p) d k sound within is =
+    without_later x k (y ∷ ks) (moved y ks p d) sound (without_moved y ks p d k (sound_rest x (y ∷ ks) sound) (omega arith) is)
+
+without_removed : (ks : List Kept) (p : ℕ) (d k : Kept) → Sound ks → p < length ks → k ≡ get_or ks p k → Without k ks (swap_remove ks p d)
+without_removed [] p d k sound within is = absurd (omega arith)
+without_removed (x ∷ ks) p d k sound within is = subst (Without k (x ∷ ks)) (sym (is_moved x ks p d)) (without_moved x ks p d k sound within is)
+
+-- what is in front of the place stays
+front_moved : (x : Kept) (ks : List Kept) (p : ℕ) (d : Kept) → p < length (x ∷ ks) → take p (moved x ks p d) ≡ take p (x ∷ ks)
+front_moved x ks zero d within = refl
+front_moved x [] (suc p) d within = absurd (omega arith)
+front_moved x (y ∷ ks) (suc p) d within = ap (λ rest. x ∷ rest) (front_moved y ks p d (omega arith))
+
+pub front_removed : (ks : List Kept) (p : ℕ) (d : Kept) → p < length ks → take p (swap_remove ks p d) ≡ take p ks
+front_removed [] p d within = absurd (omega arith)
+front_removed (x ∷ ks) p d within = ap (take p) (is_moved x ks p d) ∙ front_moved x ks p d within
+
+-- what stood in its place doesn't matter
+set_last : (ks : List Kept) (p n : ℕ) (new d : Kept) → take n (set (set ks p new) p (get_or (set ks p new) n d)) ≡ take n (set ks p (get_or ks n d))
+set_last [] zero n new d = refl
+set_last [] (suc p) n new d = refl
+set_last (x ∷ ks) zero zero new d = refl
+set_last (x ∷ ks) zero (suc n) new d = refl
+set_last (x ∷ ks) (suc p) zero new d = refl
+set_last (x ∷ ks) (suc p) (suc n) new d = ap (λ rest. x ∷ rest) (set_last ks p n new d)
+
+pub remove_set : (ks : List Kept) (p : ℕ) (new d : Kept) → swap_remove (set ks p new) p d ≡ swap_remove ks p d
+remove_set ks p new d = ap (λ n. take (n - 1) (set (set ks p new) p (get_or (set ks p new) (n - 1) d))) (length-set ks p new) ∙ set_last ks p (length ks - 1) new d
+
+pub beside_removed : (ks : List Kept) (p : ℕ) (d old : Kept) (n : ℕ) → Sound ks → p < length ks → old ≡ get_or ks p old → (n ≡ old.node → ⊥) → seen_at (swap_remove ks p d) n ≡ seen_at ks n
+beside_removed ks p d old n sound within is apart =
+    sym ((without_removed ks p d old sound within is).rows n ∙ skipped old (swap_remove ks p d) n (λ e. apart (sym e)))
+
+pub here_removed : (ks : List Kept) (p : ℕ) (d old : Kept) → Sound ks → p < length ks → old ≡ get_or ks p old → seen_at (swap_remove ks p d) old.node ≡ unseen
+here_removed ks p d old sound within is =
+    none_seen (swap_remove ks p d) old.node (alone old (swap_remove ks p d) (without_removed ks p d old sound within is).sound)
+
+pub sound_removed : (ks : List Kept) (p : ℕ) (d old : Kept) → Sound ks → p < length ks → old ≡ get_or ks p old → Sound (swap_remove ks p d)
+sound_removed ks p d old sound within is = sound_rest old (swap_remove ks p d) (without_removed ks p d old sound within is).sound
 
 -- the search for a node's place
 
@@ -221,13 +312,13 @@ written_at ks p node old new sound placed is same =
 pub others_at : (ks : List Kept) (p node : ℕ) (old new : Kept) → IsPlaced ks p node → old ≡ get_or ks p old → new.node ≡ old.node → OthersKept node ks (set ks p new)
 others_at ks p node old new placed is same n apart = beside_set ks p old new n is same (λ e. apart (e ∙ same ∙ node_of ks p node old placed is))
 
-pub gone_at : (ks gone : List Kept) (p node : ℕ) (old new : Kept) → Sound ks → IsPlaced ks p node → old ≡ get_or ks p old → gone ≡ remove (set ks p new) p → seen_at gone node ≡ unseen
-gone_at ks gone p node old new sound placed is left =
-    ap (λ ks. seen_at ks node) (left ∙ remove_set ks p new) ∙ ap (seen_at (remove ks p)) (sym (node_of ks p node old placed is)) ∙ here_removed ks p old sound placed.0 is
+pub gone_at : (ks gone : List Kept) (p node : ℕ) (d old : Kept) → Sound ks → IsPlaced ks p node → old ≡ get_or ks p old → gone ≡ swap_remove ks p d → seen_at gone node ≡ unseen
+gone_at ks gone p node d old sound placed is left =
+    ap (λ ks. seen_at ks node) left ∙ ap (seen_at (swap_remove ks p d)) (sym (node_of ks p node old placed is)) ∙ here_removed ks p d old sound placed.0 is
 
-pub others_gone : (ks gone : List Kept) (p node : ℕ) (old new : Kept) → IsPlaced ks p node → old ≡ get_or ks p old → gone ≡ remove (set ks p new) p → OthersKept node ks gone
-others_gone ks gone p node old new placed is left n apart =
-    ap (λ ks. seen_at ks n) (left ∙ remove_set ks p new) ∙ beside_removed ks p old n placed.0 is (λ e. apart (e ∙ node_of ks p node old placed is))
+pub others_gone : (ks gone : List Kept) (p node : ℕ) (d old : Kept) → Sound ks → IsPlaced ks p node → old ≡ get_or ks p old → gone ≡ swap_remove ks p d → OthersKept node ks gone
+others_gone ks gone p node d old sound placed is left n apart =
+    ap (λ ks. seen_at ks n) left ∙ beside_removed ks p d old n sound placed.0 is (λ e. apart (e ∙ node_of ks p node old placed is))
 
-pub sound_gone : (ks gone : List Kept) (p : ℕ) (new : Kept) → Sound ks → gone ≡ remove (set ks p new) p → Sound gone
-sound_gone ks gone p new sound left = subst Sound (sym (left ∙ remove_set ks p new)) (sound_removed ks p sound)
+pub sound_gone : (ks gone : List Kept) (p : ℕ) (d old : Kept) → Sound ks → p < length ks → old ≡ get_or ks p old → gone ≡ swap_remove ks p d → Sound gone
+sound_gone ks gone p d old sound within is left = subst Sound (sym left) (sound_removed ks p d old sound within is)

@@ -1,6 +1,7 @@
 -- What a step of one row does to the rows of its key.
-use Rattle.std.proofs.Common.{◌≡◌, ℕ, true, false, refl, List, length, get_or, set, remove, ◌+◌, ◌≤◌, arith}
+use Rattle.std.proofs.Common.{◌≡◌, ℕ, true, false, refl, List, length, get_or, set, ◌+◌, ◌≤◌, arith}
 use Rattle.std.specs.Prelude.{Result, Ok, Err, OnOk, OnErr}
+use Rattle.std.specs.List.{swap_remove}
 use Rattle.std.proofs.lemmas.Result.{on_err_weaker}
 use Rattle.rg_agg.specs.Held.{Held}
 use Rattle.rg_event.specs.declared.value.Value.{Value}
@@ -25,10 +26,10 @@ module _ (func : Func) (change : Change) (value : Value) (ks : List Kept) (p nod
   }
 
   -- a row that isn't worth keeping is dropped
-  pub rows_gone : (gone : List Kept) → gone ≡ remove (set ks p new) p → is_idle new ≡ true → KeptStep func change value old new (Ok tt) → RowsStep func change value node ks gone (Ok tt)
-  rows_gone gone dropped idle step = record {
-    stepped = rw (read_at ks p node old sound placed is, gone_at ks gone p node old new sound placed is dropped) (stepped_forgotten func change value (seen old) (seen new) (idle_gone new idle) (idle_new new idle) step.stepped);
-    others = others_gone ks gone p node old new placed is dropped;
+  pub rows_gone : (gone : List Kept) (d : Kept) → gone ≡ swap_remove ks p d → is_idle new ≡ true → KeptStep func change value old new (Ok tt) → RowsStep func change value node ks gone (Ok tt)
+  rows_gone gone d dropped idle step = record {
+    stepped = rw (read_at ks p node old sound placed is, gone_at ks gone p node d old sound placed is dropped) (stepped_forgotten func change value (seen old) (seen new) (idle_gone new idle) (idle_new new idle) step.stepped);
+    others = others_gone ks gone p node d old sound placed is dropped;
     err = tt;
     refuses = tt;
   }

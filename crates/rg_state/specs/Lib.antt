@@ -10,6 +10,7 @@ pub mod CellLaws
 pub mod Keeping
 pub mod Counted
 pub mod Sheets
+pub mod Headed
 pub mod Touched
 pub mod Kinds
 pub mod Stepping

@@ -142,7 +142,8 @@ impl MadeWith<Global> for Kept {
     }
 }
 
-/// A key and its rows, each node once. Without rows the key means nothing.
+/// A key and its rows, each node once, in no order: where one goes, the last one comes to its place.
+/// Without rows the key means nothing.
 #[derive(Debug, Drop)]
 pub(crate) struct KeyRows {
     pub(crate) key: Key,
@@ -281,7 +282,7 @@ impl KeyRows {
         if !kept.is_idle() {
             return Ok(());
         }
-        self.kept.remove(place);
+        self.kept.swap_remove(place);
         Ok(())
     }
 
@@ -357,6 +358,6 @@ fn settle_at(kept: &mut Rows, place: usize) -> usize
         one.forget();
         return place + 1;
     }
-    kept.remove(place);
+    kept.swap_remove(place);
     place
 }

@@ -1,12 +1,11 @@
-use Rattle.std.proofs.Common.{◌≡◌, ◌<◌, ◌==◌, false, sym, ◌∙◌, subst, ap, arith, length, get_or}
+use Rattle.std.proofs.Common.{◌≡◌, ◌<◌, ◌==◌, false, sym, ◌∙◌, subst, arith, get_or}
 use Rattle.std.proofs.lemmas.List.{length-set}
-use Rattle.std.proofs.lemmas.List.Edits.{length-remove}
 use Rattle.rg_agg.specs.Standing.{size_in}
 use Rattle.rg_state.specs.States.{held_of}
 use Rattle.rg_state.specs.declared.key_rows.Kept.{Kept}
 use Rattle.rg_state.proofs.Marking.{clean_set, clean_dropped, rows_forgotten, rows_dropped}
-use Rattle.rg_state.proofs.Lent.{lent_at, lent_gone, lent_set}
-use Rattle.rg_state.proofs.Placed.{remove_set, sound_set, sound_gone}
+use Rattle.rg_state.proofs.Lent.{lent_at, lent_count, lent_gone, lent_set}
+use Rattle.rg_state.proofs.Placed.{sound_set, sound_gone}
 use Rattle.rg_state.proofs.Stepping.{fair_some, marked_clear, some_of}
 use Rattle.rg_state.proofs.key_rows.settle_at.Goals as goal
 
@@ -37,13 +36,14 @@ returns c =
     let same = c.deref_mut.ensures.value in
     let old : Kept = get_or lent place c.index-deref_mut-place.result in
     let is = lent_at ks lent place same c.index-deref_mut-place.result c.index-deref_mut-place.is in
-    let gone = lent_gone ks lent place same c.remove.new.self.items old c.remove.ensures.items in
-    let shorter = ap length (gone ∙ remove_set ks place old) in
-    let fewer = length-remove ks place c.requires.within in
+    let d : Kept = c.swap_remove.result in
+    let left = lent_gone ks lent place same c.swap_remove.new.self.items old d c.swap_remove.ensures.items in
+    let fewer = c.swap_remove.ensures.len in
+    let count = lent_count ks lent place same old in
     record {
-      sound = sound_gone ks c.remove.new.self.items place old c.requires.sound gone;
-      rows = λ node. rows_dropped ks c.remove.new.self.items place old old node c.requires.sound c.requires.within is (sym c.is_empty.ensures ∙ c.if-not-is_empty.false) gone;
-      clean = λ all. clean_dropped ks c.remove.new.self.items place old gone all;
-      left = omega (arith, shorter, fewer);
-      within = omega (arith, shorter, fewer, c.requires.within);
+      sound = sound_gone ks c.swap_remove.new.self.items place d old c.requires.sound c.requires.within is left;
+      rows = λ node. rows_dropped ks c.swap_remove.new.self.items place d old node c.requires.sound c.requires.within is (sym c.is_empty.ensures ∙ c.if-not-is_empty.false) left;
+      clean = clean_dropped ks c.swap_remove.new.self.items place d c.requires.within left;
+      left = omega (arith, count, fewer);
+      within = omega (arith, count, fewer, c.requires.within);
     }

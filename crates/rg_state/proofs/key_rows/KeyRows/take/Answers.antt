@@ -27,9 +27,25 @@ pub returns-then-not-is_idle-clause-step : goal.returns-then-not-is_idle-clause-
 returns-then-not-is_idle-clause-step c = lent_stepped c.args.self.now.kept.items c.deref_mut.result.now c.in-Some.place c.deref_mut.ensures.value c.index-deref_mut-place.result c.index-deref_mut-place.is c.args.func Remove c.args.value.now c.args.node c.take.new.self c.args.self.now.sound c.in-Some.ensures.found (Ok tt) c.in-Ok.ensures.step
 
 pub invariant_of-self-2 : goal.invariant_of-self-2
-invariant_of-self-2 c = record { sound = sound_gone c.args.self.now.kept.items c.remove.new.self.items c.in-Some.place c.take.new.self c.args.self.now.sound (lent_gone c.args.self.now.kept.items c.deref_mut.result.now c.in-Some.place c.deref_mut.ensures.value c.remove.new.self.items c.take.new.self c.remove.ensures.items) }
+invariant_of-self-2 c =
+    let ks = c.args.self.now.kept.items in
+    let place = c.in-Some.place in
+    let lent = c.deref_mut.result.now in
+    let same = c.deref_mut.ensures.value in
+    let one : Kept = c.index-deref_mut-place.result in
+    let old : Kept = get_or lent place one in
+    let is = lent_at ks lent place same one c.index-deref_mut-place.is in
+    let left = lent_gone ks lent place same c.swap_remove.new.self.items c.take.new.self c.swap_remove.result c.swap_remove.ensures.items in
+    record { sound = sound_gone ks c.swap_remove.new.self.items place c.swap_remove.result old c.args.self.now.sound c.in-Some.ensures.found.0 is left }
 
 pub returns-clause-step : goal.returns-clause-step
 returns-clause-step c =
-    let old : Kept = get_or c.deref_mut.result.now c.in-Some.place c.index-deref_mut-place.result in
-    rows_gone c.args.func Remove c.args.value.now c.args.self.now.kept.items c.in-Some.place c.args.node old c.take.new.self c.args.self.now.sound c.in-Some.ensures.found (lent_at c.args.self.now.kept.items c.deref_mut.result.now c.in-Some.place c.deref_mut.ensures.value c.index-deref_mut-place.result c.index-deref_mut-place.is) c.remove.new.self.items (lent_gone c.args.self.now.kept.items c.deref_mut.result.now c.in-Some.place c.deref_mut.ensures.value c.remove.new.self.items c.take.new.self c.remove.ensures.items) (sym c.is_idle.ensures ∙ c.if-not-is_idle.false) c.in-Ok.ensures.step
+    let ks = c.args.self.now.kept.items in
+    let place = c.in-Some.place in
+    let lent = c.deref_mut.result.now in
+    let same = c.deref_mut.ensures.value in
+    let one : Kept = c.index-deref_mut-place.result in
+    let old : Kept = get_or lent place one in
+    let is = lent_at ks lent place same one c.index-deref_mut-place.is in
+    let left = lent_gone ks lent place same c.swap_remove.new.self.items c.take.new.self c.swap_remove.result c.swap_remove.ensures.items in
+    rows_gone c.args.func Remove c.args.value.now ks place c.args.node old c.take.new.self c.args.self.now.sound c.in-Some.ensures.found is c.swap_remove.new.self.items c.swap_remove.result left (sym c.is_idle.ensures ∙ c.if-not-is_idle.false) c.in-Ok.ensures.step

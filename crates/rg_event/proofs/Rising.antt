@@ -1,5 +1,5 @@
 -- Events that rise, and one event more.
-use Rattle.std.proofs.Common.{◌≡◌, ℕ, ◌+◌, ◌<◌, List, [], ◌∷◌, ◌++◌, refl, arith}
+use Rattle.std.proofs.Common.{◌≡◌, ◌+◌, List, [], ◌∷◌, ◌++◌, refl, arith}
 use Rattle.rg_event.specs.Rising.{next_offset, last_time, IsRising, MayFollow}
 use Rattle.rg_event.specs.declared.event.Event.{Event}
 

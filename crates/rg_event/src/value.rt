@@ -165,6 +165,20 @@ impl Values {
         ensures ok { OnOk result (self.new ≡ self.old ++ value ∷ []) }
         ensures err { OnErr result (self.new ≡ self.old) }
     {
+        if self.list.len() < self.list.capacity() {
+            self.list.push_reserved(value);
+            return Ok(());
+        }
+        self.push_growing(value)
+    }
+
+    /// Adds a value at the end of a list that may be full.
+    #[cold]
+    #[inline(never)]
+    fn push_growing(&mut self, value: Value) -> Result<(), Memory>
+        ensures ok { OnOk result (self.new ≡ self.old ++ value ∷ []) }
+        ensures err { OnErr result (self.new ≡ self.old) }
+    {
         self.list.push(value)?;
         Ok(())
     }

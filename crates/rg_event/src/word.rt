@@ -1,4 +1,6 @@
-ghost use Rattle.std.specs.Prelude.{◌≡◌, ◌≤◌, length, IfOk, IfSome, IfNone, IsTrue, false};
+ghost use Rattle.std.specs.Prelude.{◌≡◌, ◌≤◌, nat_lt, length, IfOk, IfSome, IfNone, IsTrue, false};
+ghost use Rattle.std.specs.List.{list_all};
+ghost use Rattle.std.specs.Str.{is_utf8 as utf8_test};
 ghost use Rattle.rg_event.specs.Words.{is_word as word_test};
 
 use rg_bytes::Memory;
@@ -118,9 +120,22 @@ impl Word {
     }
 }
 
-#[tactic(auto, using(crate::proofs::Utf8::true_where_valid, crate::proofs::Utf8::false_where_invalid))]
 fn is_word(text: &[u8]) -> bool
     ensures { result ≡ word_test text.now }
 {
-    text.len() <= LONGEST_TEXT && str::from_utf8(text).is_ok()
+    text.len() <= LONGEST_TEXT && is_utf8(text)
+}
+
+/// Whether bytes are UTF-8. Most texts are a few bytes of ASCII, for which a walk is less than a call.
+#[tactic(auto, using(crate::proofs::Utf8::true_where_valid, crate::proofs::Utf8::false_where_invalid, crate::proofs::Utf8::true_where_ascii))]
+fn is_utf8(text: &[u8]) -> bool
+    ensures { result ≡ utf8_test text.now }
+{
+    are_ascii(text) || str::from_utf8(text).is_ok()
+}
+
+fn are_ascii(bytes: &[u8]) -> bool
+    ensures { result ≡ list_all (λ byte. nat_lt byte 128) bytes.now }
+{
+    bytes.iter().all(|byte| *byte < 128)
 }

@@ -52,9 +52,12 @@ impl PartialEq for Key {
     ghost laws = { partial_equiv_from_equiv nat_list_eq_equiv };
 
     fn eq(&self, other: &Key) -> bool {
+        if self.head != other.head {
+            return false;
+        }
         let mine = self.bytes.as_slice();
         let others = other.bytes.as_slice();
-        is_same(self.head, mine, other.head, others)
+        is_same(mine, others)
     }
 }
 
@@ -205,18 +208,14 @@ pub fn key_of(alloc: Global, fields: &[u32], event: &Event) -> Result<Key, Memor
     Ok(Key::from(bytes))
 }
 
-/// Whether two keys with these heads are the same. Up to eight bytes are in the head, so that only more of
-/// them are read.
-fn is_same(head: u64, bytes: &[u8], other_head: u64, other: &[u8]) -> bool
-    requires mine { head ≡ packed 8 0 bytes.now }
-    requires others { other_head ≡ packed 8 0 other.now }
+/// Whether bytes with the same head are the same. Up to eight of them are in the head, so that only more
+/// are read.
+fn is_same(bytes: &[u8], other: &[u8]) -> bool
+    requires heads { packed 8 0 bytes.now ≡ packed 8 0 other.now }
     requires my_bytes { AreBytes bytes.now }
     requires other_bytes { AreBytes other.now }
     ensures { result ≡ bytes_eq bytes.now other.now }
 {
-    if head != other_head {
-        return false;
-    }
     if bytes.len() != other.len() {
         return false;
     }
@@ -279,7 +278,18 @@ fn order(head: u64, bytes: &[u8], other_head: u64, other: &[u8]) -> Ordering
 }
 
 /// The first eight bytes as a number, the first of them the highest. Missing ones count as 0.
+#[tactic(auto, using(crate::proofs::Heads::of_first))]
 fn head_of(bytes: &[u8]) -> u64
+    ensures { result ≡ packed 8 0 bytes.now }
+{
+    match bytes.first_chunk::<8>() {
+        Some(first) => u64::from_be_bytes(*first),
+        None => short_head(bytes),
+    }
+}
+
+/// The same, one byte at a time.
+fn short_head(bytes: &[u8]) -> u64
     ensures { result ≡ packed 8 0 bytes.now }
 {
     let mut head = 0;

@@ -485,6 +485,7 @@ impl Reservoir {
 
     /// Makes ready for a look at a spot at whose place no growth stands: its chunk is held, and the
     /// spot is in its later spelling.
+    #[inline(never)]
     fn seek_settled<H: Host>(&mut self, host: &mut H, spot: &mut Spot) -> Result<(), ReservoirFault>
         requires { spot.old.number ≤ (base self.old).committed + length (opened self.old) }
         ensures only { OnlyLoads H.now H.may H.clock H.since H.said H.disk_faults H.out_faults self.old self.new host.old host.new }
@@ -523,6 +524,7 @@ impl Reservoir {
 
     /// Makes ready for a look at a spot: the growths at its place are passed, its chunk is held, and
     /// it is in its latest spelling. One of the chunk that was touched last asks the cache nothing.
+    #[inline(always)]
     pub(crate) fn seek<H: Host>(
         &mut self,
         host: &mut H,
@@ -544,6 +546,7 @@ impl Reservoir {
 
     /// Whether a spot's event is one of the chunk that was touched last, and the reservoir hasn't ended: a look at it
     /// touches nothing. The cache isn't asked.
+    #[inline(always)]
     fn is_ready(&self, spot: &Spot) -> bool
         ensures { IsTrue result → IsReady self.now spot.now }
     {
@@ -733,6 +736,7 @@ impl Reservoir {
     }
 
     /// The event of a spot, where its chunk is held.
+    #[inline(always)]
     pub(crate) fn at(&self, spot: &Spot) -> Option<&Event>
         requires number { spot.now.number ≤ (base self.now).committed + length (opened self.now) }
         requires placed { (base self.now).committed ≤ spot.now.number → spot.now.number ≡ (base self.now).committed + spot.now.index }

@@ -71,6 +71,7 @@ impl<'a, H: Host> Past for Stored<'a, H> {
         }
     }
 
+    #[inline(always)]
     fn peek(&mut self, spot: &mut Spot) -> Result<Option<&Event>, PastFault>
         requires { spot.old.number ≤ length (⟦<Stored<'a, H> as Past>⟧.events self.old) }
 

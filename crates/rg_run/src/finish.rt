@@ -50,6 +50,6 @@ impl Turning {
         }
         let next = task.next();
         let count = task.count();
-        tell_end(task, &mut self.text, self.offset, next, count)
+        tell_end(task, &mut self.gathered, self.offset, next, count)
     }
 }

@@ -87,14 +87,7 @@ impl Turning {
             Ok(()) => {}
             Err(fault) => return Err(fault),
         }
-        match tell(
-            task,
-            &mut self.text,
-            &mut self.gathered,
-            self.offset,
-            &Reply::Done,
-            due,
-        ) {
+        match tell(task, &mut self.gathered, self.offset, &Reply::Done, due) {
             Ok(()) => {
                 self.offset += 1;
                 Ok(())

@@ -11,10 +11,9 @@ use crate::text::{write_end, write_turn};
 use rg_reply::Reply;
 use rg_task::{Task, TaskFault};
 
-/// Gathers the lines of a turn, which are written into `text`. Want of memory gathers nothing.
+/// Gathers the lines of a turn. Want of memory gathers nothing.
 pub(crate) fn tell<K: Task>(
     task: &K,
-    text: &mut Vec<u8>,
     gathered: &mut Vec<u8>,
     offset: u64,
     reply: &Reply,
@@ -24,11 +23,7 @@ pub(crate) fn tell<K: Task>(
     ensures none { OnErr result (gathered.new.items ≡ gathered.old.items) }
     ensures faults { IfErr result (λ fault. fault ≡ TurnFault.Task TaskFault.Memory) }
 {
-    match write_turn(text, offset, reply, due, task.next(), task.count()) {
-        Ok(()) => {}
-        Err(_) => return Err(TurnFault::Task(TaskFault::Memory)),
-    }
-    match gathered.extend_from_slice(text) {
+    match write_turn(gathered, offset, reply, due, task.next(), task.count()) {
         Ok(()) => Ok(()),
         Err(_) => Err(TurnFault::Task(TaskFault::Memory)),
     }

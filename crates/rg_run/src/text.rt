@@ -1,4 +1,5 @@
-ghost use Rattle.std.specs.Prelude.{◌≡◌, ◌++◌, ◌∷◌, OnOk};
+ghost use Rattle.std.specs.Prelude.{◌≡◌, ◌++◌, ◌∷◌, OnOk, OnErr};
+ghost use Rattle.rg_bytes.specs.Keeps.{Keeps};
 ghost use Rattle.rg_host.specs.Lines.{ended};
 ghost use Rattle.rg_reply.specs.Texts.{reply_line};
 ghost use Rattle.rg_run.specs.Due.{marks_for, last_lines};
@@ -10,7 +11,8 @@ use rg_reply::{Mark, Reply, write_mark, write_reply};
 /// Writes the marks of what was due, each ended by LF, behind what is in `out`. Want of memory leaves
 /// some of them there.
 fn write_marks(out: &mut Vec<u8>, due: Due, next: u64, count: u64) -> Result<(), Memory>
-    ensures { OnOk result (out.new.items ≡ out.old.items ++ ended (marks_for due next count)) }
+    ensures ok { OnOk result (out.new.items ≡ out.old.items ++ ended (marks_for due next count)) }
+    ensures err { OnErr result (Keeps out.old.items out.new.items) }
 {
     match due {
         Due::Nothing => Ok(()),
@@ -22,9 +24,9 @@ fn write_marks(out: &mut Vec<u8>, due: Due, next: u64, count: u64) -> Result<(),
     }
 }
 
-/// Writes the lines of a turn, each ended by LF, in place of what is in `out`: the reply to the line with
-/// this offset, and the marks of what was due, where the next offset and the number of events are these.
-/// Want of memory leaves some of them there.
+/// Writes the lines of a turn at the end, each ended by LF: the reply to the line with this offset, and the
+/// marks of what was due, where the next offset and the number of events are these. Where memory runs out
+/// `out` holds what it held.
 pub fn write_turn(
     out: &mut Vec<u8>,
     offset: u64,
@@ -33,9 +35,31 @@ pub fn write_turn(
     next: u64,
     count: u64,
 ) -> Result<(), Memory>
-    ensures lines { OnOk result (out.new.items ≡ ended (reply_line offset reply.now ∷ marks_for due next count)) }
+    ensures ok { OnOk result (out.new.items ≡ out.old.items ++ ended (reply_line offset reply.now ∷ marks_for due next count)) }
+    ensures err { OnErr result (out.new.items ≡ out.old.items) }
 {
-    out.clear();
+    let start = out.len();
+    match put_turn(out, offset, reply, due, next, count) {
+        Ok(()) => Ok(()),
+        Err(memory) => {
+            out.truncate(start);
+            Err(memory)
+        }
+    }
+}
+
+/// The same. Where memory runs out a front of the lines may stand there.
+fn put_turn(
+    out: &mut Vec<u8>,
+    offset: u64,
+    reply: &Reply,
+    due: Due,
+    next: u64,
+    count: u64,
+) -> Result<(), Memory>
+    ensures ok { OnOk result (out.new.items ≡ out.old.items ++ ended (reply_line offset reply.now ∷ marks_for due next count)) }
+    ensures err { OnErr result (Keeps out.old.items out.new.items) }
+{
     write_reply(out, offset, reply)?;
     write_marks(out, due, next, count)
 }

@@ -24,8 +24,6 @@ use std::alloc::Global;
 /// A durable run between two lines of its input.
 #[derive(Drop)]
 pub struct Turning {
-    /// The lines of one turn. It is kept, so that no turn takes a buffer of its own.
-    pub text: Vec<u8>,
     /// The lines of turns that are not put yet, each ended by LF. They are put together.
     pub gathered: Vec<u8>,
     /// The offset of the next line.
@@ -42,7 +40,6 @@ impl Turning {
         ensures gathered { result.gathered.items ≡ [] }
     {
         Turning {
-            text: Vec::new(alloc),
             gathered: Vec::new(alloc),
             offset,
         }
@@ -155,14 +152,7 @@ impl Turning {
                 return Err(fault);
             }
         }
-        match tell(
-            task,
-            &mut self.text,
-            &mut self.gathered,
-            self.offset,
-            &reply,
-            due,
-        ) {
+        match tell(task, &mut self.gathered, self.offset, &reply, due) {
             Ok(()) => {
                 task.reuse(reply);
                 self.offset += 1;
@@ -208,14 +198,7 @@ impl Turning {
             self.offset += 1;
             return Ok(());
         }
-        match tell(
-            task,
-            &mut self.text,
-            &mut self.gathered,
-            self.offset,
-            reply,
-            Due::Nothing,
-        ) {
+        match tell(task, &mut self.gathered, self.offset, reply, Due::Nothing) {
             Ok(()) => {
                 self.offset += 1;
                 Ok(())

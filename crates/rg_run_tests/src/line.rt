@@ -181,15 +181,15 @@ const LINES: &[Line] = &[
     // the lines of a turn and of the end
     Line {
         written: Written::Turn(7, Said::Late, Due::Nothing, 7, 3),
-        text: b"7 late\n",
+        text: b">7 late\n",
     },
     Line {
         written: Written::Turn(8, Said::Full, Due::Commit, 9, 4),
-        text: b"8 full\nstored 9\n",
+        text: b">8 full\nstored 9\n",
     },
     Line {
         written: Written::Turn(9, Said::Done, Due::Save, 10, 5),
-        text: b"9 done\nstored 10\nsaved 5\n",
+        text: b">9 done\nstored 10\nsaved 5\n",
     },
     Line {
         written: Written::End(12, 10, 5),

@@ -40,6 +40,7 @@ impl Touched {
     }
 
     /// A slot is touched.
+    #[inline(always)]
     pub(crate) fn touch(&mut self, slot: u32)
         requires { slot < length self.old.flags.items }
         ensures { self.new.flags.items ≡ set self.old.flags.items slot true }

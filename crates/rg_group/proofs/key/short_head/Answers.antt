@@ -1,6 +1,6 @@
 use Rattle.std.proofs.Common.{◌≡◌, ◌+◌, ◌*◌, suc, ap₂, arith}
 use Rattle.rg_group.proofs.Heads.{fits, small_more, one_more}
-use Rattle.rg_group.proofs.key.head_of.Goals as goal
+use Rattle.rg_group.proofs.key.short_head.Goals as goal
 
 pub overflow_mul-head : goal.overflow_mul-head
 overflow_mul-head c = omega (arith, fits c.loop-place.place c.loop-place.head 0 c.loop-place.invariant.small (omega arith) (omega arith))

@@ -11,44 +11,43 @@ use rg_bytes::{ByteReader, Memory, put_u8, put_u64};
 use rg_event::Event;
 use std::alloc::Global;
 
+/// The least and the greatest number of some events in a column.
+struct Range {
+    /// The least of them, and the greatest of all numbers where there is none.
+    least: u64,
+    /// The greatest of them, and 0 where there is none.
+    greatest: u64,
+}
+
 /// Writes a column of numbers of these events at the end. An error leaves it begun.
 pub(crate) fn put_numbers(series: Series, events: &[Event], out: &mut Vec<u8>) -> Result<(), Memory>
     ensures ok { OnOk result (out.new.items ≡ out.old.items ++ numbers_bytes series (map (number_of series) events.now)) }
     ensures err { OnErr result (Keeps out.old.items out.new.items) }
 {
-    let least = least_of(series, events);
-    let width = Width::least(greatest_of(series, events).saturating_sub(least));
+    let Range { least, greatest } = range_of(series, events);
+    let width = Width::least(greatest.saturating_sub(least));
     put_u64(out, series.base_bits(least))?;
     put_u8(out, width.byte())?;
     put_differences(series, width, least, events, out)
 }
 
-/// The least number of these events in a column, and the greatest of all where there is none.
-fn least_of(series: Series, events: &[Event]) -> u64
-    ensures { result ≡ least (map (number_of series) events.now) }
+/// The range of the numbers of these events in a column.
+fn range_of(series: Series, events: &[Event]) -> Range
+    ensures least { result.least ≡ least (map (number_of series) events.now) }
+    ensures greatest { result.greatest ≡ greatest (map (number_of series) events.now) }
 {
     let mut least = u64::MAX;
+    let mut greatest = 0;
     for event in events {
         let number = series.number(event);
         if number < least {
             least = number;
         }
-    }
-    least
-}
-
-/// The greatest number of these events in a column, and 0 where there is none.
-fn greatest_of(series: Series, events: &[Event]) -> u64
-    ensures { result ≡ greatest (map (number_of series) events.now) }
-{
-    let mut greatest = 0;
-    for event in events {
-        let number = series.number(event);
         if number > greatest {
             greatest = number;
         }
     }
-    greatest
+    Range { least, greatest }
 }
 
 /// Writes how far the number of each event is above the least of them. An error leaves some of them.

@@ -1,7 +1,7 @@
 ghost use Rattle.std.specs.Prelude.{◌≡◌, ◌↔◌, ◌<◌, ◌++◌, ℕ, List, length, Ok, IfOk, IsErr, OnOk, OnErr};
 ghost use Rattle.rg_column.specs.Widths.{least_width, width_said, width_byte, limit, difference_bytes};
 
-use rg_bytes::{ByteReader, Memory, Short, put_bytes};
+use rg_bytes::{ByteReader, Memory, Short, put_bytes, put_u8, put_u32, put_u64};
 
 /// How many bytes each number of a column takes: 1, 2, 4 or 8.
 #[derive(Clone, Copy, Debug, PartialEq, Eq)]
@@ -57,10 +57,10 @@ impl Width {
         ensures err { OnErr result (out.new.items ≡ out.old.items) }
     {
         match self {
-            Width::One => put_bytes(out, &(number as u8).to_be_bytes()),
+            Width::One => put_u8(out, number as u8),
             Width::Two => put_bytes(out, &(number as u16).to_be_bytes()),
-            Width::Four => put_bytes(out, &(number as u32).to_be_bytes()),
-            Width::Eight => put_bytes(out, &number.to_be_bytes()),
+            Width::Four => put_u32(out, number as u32),
+            Width::Eight => put_u64(out, number),
         }
     }
 

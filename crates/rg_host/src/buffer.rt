@@ -1,6 +1,6 @@
 ghost use Rattle.std.specs.Prelude.{◌≡◌, ◌<◌, ◌≤◌, ◌∷◌, ◌++◌, [], length, true, false, IfOk, OnErr, OnSome, IfSome, IfNone};
 ghost use Rattle.rg_bytes.specs.Counts.{Rose};
-ghost use Rattle.rg_host.specs.Buffered.{FillsUpTo, IsPart, KeepsFirst, ReadsPart};
+ghost use Rattle.rg_host.specs.Buffered.{FillsUpTo, IsPart, IsRange, IsSearched, KeepsFirst, ReadsPart};
 ghost use Rattle.rg_host.specs.Lines.{HasNoLf};
 
 use crate::source::{Failed, Source};
@@ -19,7 +19,8 @@ const SIZE: usize = 131_072;
 const PIECE: usize = 16_384;
 
 /// Bytes that were read from a source and not yet handed out: those from `start` to `end`. Up to
-/// `searched` none of them is LF, so that no byte is looked at twice.
+/// `searched` none of them is LF. Where `has_lf` holds, the byte at `searched` is LF; where it
+/// doesn't, `searched` is `end`. So no byte is looked at twice.
 #[derive(Drop)]
 pub(crate) struct Buffer {
     bytes: Vec<u8>,
@@ -28,6 +29,7 @@ pub(crate) struct Buffer {
     start: usize,
     searched: usize,
     end: usize,
+    has_lf: bool,
 }
 
 impl Model for Buffer {
@@ -42,7 +44,7 @@ impl Model for Buffer {
       room = 131072 - b.end;
     } };
 
-    ghost invariant = { λ b. IsLaidOut b.bytes.items b.line_start b.line_end b.start b.searched b.end };
+    ghost invariant = { λ b. IsLaidOut b.bytes.items b.line_start b.line_end b.start b.searched b.end b.has_lf };
 }
 
 impl Buffer {
@@ -58,6 +60,7 @@ impl Buffer {
             start: 0,
             searched: 0,
             end: 0,
+            has_lf: false,
         })
     }
 
@@ -80,10 +83,7 @@ impl Buffer {
         ensures none { result ≡ false → HasNoLf self.now.pending }
         ensures some { result ≡ true → ¬ HasNoLf self.now.pending }
     {
-        match memchr(b'\n', &self.bytes[self.searched..self.end]) {
-            None => false,
-            Some(_) => true,
-        }
+        self.has_lf
     }
 
     /// Cuts off the first line that LF ends, and answers its length in bytes.
@@ -93,20 +93,17 @@ impl Buffer {
         ensures none { IfNone result (HasNoLf self.old.pending) }
         ensures same { IfNone result (self.new ≡ self.old) }
     {
-        match memchr(b'\n', &self.bytes[self.searched..self.end]) {
-            None => {
-                self.searched = self.end;
-                None
-            }
-            Some(place) => {
-                let line_end = self.searched + place;
-                self.line_start = self.start;
-                self.line_end = line_end;
-                self.start = line_end + 1;
-                self.searched = line_end + 1;
-                Some(line_end - self.line_start)
-            }
+        if !self.has_lf {
+            return None;
         }
+        let line_end = self.searched;
+        let (searched, has_lf) = first_lf(&self.bytes, line_end + 1, self.end);
+        self.line_start = self.start;
+        self.line_end = line_end;
+        self.start = line_end + 1;
+        self.searched = searched;
+        self.has_lf = has_lf;
+        Some(line_end - self.line_start)
     }
 
     /// Cuts off all that is pending as a line, and answers its length in bytes.
@@ -119,6 +116,7 @@ impl Buffer {
         self.line_end = self.end;
         self.start = self.end;
         self.searched = self.end;
+        self.has_lf = false;
         self.line_end - self.line_start
     }
 
@@ -131,6 +129,7 @@ impl Buffer {
         self.start = 0;
         self.searched = 0;
         self.end = 0;
+        self.has_lf = false;
     }
 
     /// Moves what is pending to the beginning where there is little room behind it.
@@ -162,10 +161,28 @@ impl Buffer {
         match read_part(src, &mut self.bytes, self.end, self.end + room) {
             Err(failed) => Err(failed),
             Ok(count) => {
-                self.end += count;
+                let end = self.end + count;
+                if !self.has_lf {
+                    let (searched, has_lf) = first_lf(&self.bytes, self.end, end);
+                    self.searched = searched;
+                    self.has_lf = has_lf;
+                }
+                self.end = end;
                 Ok(count)
             }
         }
+    }
+}
+
+/// Looks for the first LF in the part of `bytes` that begins at `from` and ends at `to`. Answers
+/// the place up to which no byte of that part is LF, and whether an LF stands there.
+fn first_lf(bytes: &[u8], from: usize, to: usize) -> (usize, bool)
+    requires range { IsRange bytes.now from to }
+    ensures searched { IsSearched bytes.now from result.0 to result.1 }
+{
+    match memchr(b'\n', &bytes[from..to]) {
+        None => (to, false),
+        Some(place) => (from + place, true),
     }
 }
 

@@ -11,7 +11,7 @@ use Rattle.rg_words.specs.declared.func.Func.{Func}
 use Rattle.rg_state.specs.Kepts.{Seen, unseen, fresh, seen, shown, is_fair, is_idle, is_marked, IsMarked, Stepped}
 use Rattle.rg_state.specs.Rows.{Changed, Suits, Counts, Unfit}
 use Rattle.rg_state.specs.States.{held_of}
-use Rattle.rg_state.specs.Stepping.{Adds, Drops, HasRoom, Refuses, MayCome, KeptStep}
+use Rattle.rg_state.specs.Stepping.{Comes, Drops, Refuses, KeptStep}
 use Rattle.rg_state.specs.declared.key_rows.Kept.{Kept}
 use Rattle.rg_state.specs.declared.one.Refusal.{Refusal}
 use Rattle.rg_state.specs.declared.one.Refusal.TheVariants as refusal
@@ -185,6 +185,14 @@ idle_new kept idle = false_of kept.there (and_second (size_in (held_of kept.stat
 pub unfit_none : (func : Func) (value : Value) → Unfit func Remove value None
 unfit_none func value = λ values is. cc
 
+-- nor from an empty state
+unfit_shown : (func : Func) (value : Value) (held : Held) → Unfit func Remove value (Some held) → Unfit func Remove value (shown held)
+unfit_shown func value held is = by (size_in held == 0)
+  where
+    by : (b : Bool) → Unfit func Remove value (cond b None (Some held))
+    by true = unfit_none func value
+    by false = is
+
 -- a state that keeps the same
 pub fair_same : (a b : Kept) → held_of b.state ≡ held_of a.state → b.named ≡ a.named → b.there ≡ a.there → is_fair a ≡ true → is_fair b ≡ true
 fair_same a b held named there fair = fair_by b (idle_same ∙ false_of (is_idle a) (first_so _ _ fair)) (marked_same ∙ fair_marked a fair)
@@ -203,10 +211,10 @@ marked_clear kept is = ap (λ (t : Bool). not t || kept.named) is
 
 -- a state of the function's own, and what becomes of its row
 
-module _ (func : Func) (value : Value) (a b : Held) (own : func_of a ≡ func) where
-  added_row : func_of b ≡ func_of a → ((values : List Value) → Stands a values → Stands b (values ++ value ∷ [])) → Changed func Add value (Some a) (Some b)
-  added_row same ok = λ values is. (same ∙ own, ok values is.1, omega (arith, length-append values (value ∷ [])))
+added_row : (func : Func) (value : Value) (a b : Held) → func_of b ≡ func → ((values : List Value) → Stands a values → Stands b (values ++ value ∷ [])) → Changed func Add value (Some a) (Some b)
+added_row func value a b own ok = λ values is. (own, ok values is.1, omega (arith, length-append values (value ∷ [])))
 
+module _ (func : Func) (value : Value) (a b : Held) (own : func_of a ≡ func) where
   taken_row : func_of b ≡ func_of a → ((values : List Value) → Stands a (value ∷ values) → Stands b values) → 0 < size_in b → Changed func Remove value (Some a) (Some b)
   taken_row same ok some = λ values is. (same ∙ own, ok values is.1, subst (λ n. 0 < n) (size_is b values (ok values is.1)) some)
 
@@ -217,35 +225,27 @@ module _ (func : Func) (value : Value) (a b : Held) (own : func_of a ≡ func) w
 drop_refused : (func : Func) (value : Value) (a b : Held) (cause : Refusal) → Drops value a b (Err cause) → Refuses func Remove value (Some a) cause
 drop_refused func value a b cause is = λ values stands. is.unfit values stands.1
 
-contrary : (b : Bool) → b ≡ true → b ≡ false → ⊥
-contrary b holds fails = cc
-
--- a value may come to a state of the function that has room, and to none of another function
-pub may_come : (func : Func) (value : Value) (a : Held) (room : Bool) → func_of a ≡ func → HasRoom value a room → MayCome func value (Some a) room
-may_come func value a room own is = record {
-  suits = λ holds. (own, is.few holds, is.like holds);
-  refuses = λ fails. (λ values stands. is.unfit fails values stands.1, λ suits. is.causes fails suits.1 suits.2);
-}
-
-pub may_not_come : (func : Func) (value : Value) (a : Held) → (func_of a ≡ func → ⊥) → MayCome func value (Some a) false
-may_not_come func value a other = record {
-  suits = λ holds. absurd (contrary false holds refl);
-  refuses = λ fails. (λ values stands few like. other stands.0, λ suits. other suits.0);
+-- no value comes to a state of another function
+pub other_refused : (func : Func) (value : Value) (a : Held) → (func_of a ≡ func → ⊥) → Comes func value a a (Err refusal.Unfit)
+other_refused func value a other = record {
+  suits = tt;
+  own = tt;
+  ok = tt;
+  size = tt;
+  refuses = (λ values stands few like. other stands.0, λ suits. other suits.0);
+  err = refl;
 }
 
 -- a row that stays
-pub kept_refused : (func : Func) (value : Value) (old : Kept) → (size_in (held_of old.state) == 0) ≡ false → Refuses func Add value (Some (held_of old.state)) refusal.Unfit → KeptStep func Add value old old (Err refusal.Unfit)
-kept_refused func value old full refuses = record { node = refl; stepped = tt; err = refl; refuses = rw (shown_full (held_of old.state) full) refuses }
-
 abbrev pub with_state : Kept → AggState → Kept
 with_state old st = record { node = old.node; named = old.named; there = old.there; state = st }
 
 stays : (old : Kept) (st : AggState) → held_of st ≡ held_of old.state → seen (with_state old st) ≡ seen old
 stays old st same = ap (λ held. record { held = shown held; named = old.named; there = old.there }) same
 
--- a row to which no value came, for want of memory
-pub add_stays : (func : Func) (value : Value) (old : Kept) (st : AggState) → held_of st ≡ held_of old.state → KeptStep func Add value old (with_state old st) (Err refusal.Memory)
-add_stays func value old st same = record { node = refl; stepped = tt; err = stays old st same; refuses = tt }
+-- a row to which no value came
+pub add_stays : (func : Func) (value : Value) (old : Kept) (st : AggState) (cause : Refusal) → (size_in (held_of old.state) == 0) ≡ false → Comes func value (held_of old.state) (held_of st) (Err cause) → KeptStep func Add value old (with_state old st) (Err cause)
+add_stays func value old st cause full is = record { node = refl; stepped = tt; err = stays old st is.err; refuses = rw (shown_full (held_of old.state) full) is.refuses }
 
 -- a row that is gone begins anew
 pub kept_begun : (func : Func) (value : Value) (old : Kept) (st : AggState) → is_fair old ≡ true → (size_in (held_of old.state) == 0) ≡ true → Changed func Add value None (Some (held_of st)) → func_of (held_of st) ≡ func → size_in (held_of st) ≡ 1
@@ -259,28 +259,32 @@ kept_begun func value old st fair none changed own size =
       refuses = tt;
     }
 
+-- nothing is taken from a row of another function
+pub take_refused : (func : Func) (value : Value) (old : Kept) → (func_of (held_of old.state) ≡ func → ⊥) → KeptStep func Remove value old old (Err refusal.Unfit)
+take_refused func value old other = record { node = refl; stepped = tt; err = refl; refuses = unfit_shown func value (held_of old.state) (λ values stands. other stands.0) }
+
 -- what a call on a row's own state does to the row, which is named then
-module _ (func : Func) (value : Value) (old : Kept) (full : (size_in (held_of old.state) == 0) ≡ false) (own : func_of (held_of old.state) ≡ func) where
-  module _ (st : AggState) (new : Kept) (same : new.state ≡ st) (node : new.node ≡ old.node) (named : new.named ≡ true) (there : new.there ≡ cond old.named old.there true) (keeps : func_of (held_of st) ≡ func_of (held_of old.state)) where
-    pub kept_added : Suits func Add value (Some (held_of old.state)) → Adds value (held_of old.state) (held_of st) (Ok tt) → KeptStep func Add value old new (Ok tt)
-    kept_added suits is =
+module _ (func : Func) (value : Value) (old : Kept) where
+  module _ (st : AggState) (new : Kept) (same : new.state ≡ st) (node : new.node ≡ old.node) (named : new.named ≡ true) (there : new.there ≡ cond old.named old.there true) where
+    pub kept_added : (size_in (held_of old.state) == 0) ≡ false → Comes func value (held_of old.state) (held_of st) (Ok tt) → KeptStep func Add value old new (Ok tt)
+    kept_added full is =
         let some : 0 < size_in (held_of st) = omega (arith, is.size) in
         record {
           node = node;
           stepped = stepped_added func value (seen old) (seen new) (held_of old.state) (held_of st) (shown_full (held_of old.state) full) (ap (λ s. shown (held_of s)) same ∙ shown_some (held_of st) some) named there
-              (added_row func value (held_of old.state) (held_of st) own keeps is.ok) suits (keeps ∙ own) is.size;
+              (added_row func value (held_of old.state) (held_of st) is.own is.ok) is.suits is.own is.size;
           err = tt;
           refuses = tt;
         }
 
-    pub kept_taken : Drops value (held_of old.state) (held_of st) (Ok tt) → KeptStep func Remove value old new (Ok tt)
-    kept_taken is = record {
+    pub kept_taken : func_of (held_of old.state) ≡ func → func_of (held_of st) ≡ func_of (held_of old.state) → Drops value (held_of old.state) (held_of st) (Ok tt) → KeptStep func Remove value old new (Ok tt)
+    kept_taken own keeps is = record {
       node = node;
-      stepped = stepped_taken func value (seen old) (seen new) (held_of old.state) (held_of st) (shown_full (held_of old.state) full) (ap (λ s. shown (held_of s)) same) named there
+      stepped = stepped_taken func value (seen old) (seen new) (held_of old.state) (held_of st) (shown_some (held_of old.state) (omega (arith, is.size))) (ap (λ s. shown (held_of s)) same) named there
           (own, is.begins) (taken_row func value (held_of old.state) (held_of st) own keeps is.ok) (emptied_row func value (held_of old.state) (held_of st) own is.ok) (keeps ∙ own) is.size;
       err = tt;
       refuses = tt;
     }
 
   pub take_stays : (st : AggState) (cause : Refusal) → Drops value (held_of old.state) (held_of st) (Err cause) → KeptStep func Remove value old (with_state old st) (Err cause)
-  take_stays st cause is = record { node = refl; stepped = tt; err = stays old st is.err; refuses = rw (shown_full (held_of old.state) full) (drop_refused func value (held_of old.state) (held_of st) cause is) }
+  take_stays st cause is = record { node = refl; stepped = tt; err = stays old st is.err; refuses = unfit_shown func value (held_of old.state) (drop_refused func value (held_of old.state) (held_of st) cause is) }

@@ -2,7 +2,7 @@
 use Rattle.std.specs.Prelude.{◌≡◌, ℕ, ◌+◌, ◌<◌, ◌≤◌, ◌^◌, Bool, true, false, List, ◌∷◌, ◌++◌, [], length, take, Option, Some, Result, IfErr, OnOk, OnErr, ⊤}
 use Rattle.std.specs.List.{All}
 use Rattle.rg_agg.specs.Held.{Held}
-use Rattle.rg_agg.specs.Standing.{Stands, MayBeginWith, size_in, kind_in, IsLike}
+use Rattle.rg_agg.specs.Standing.{Stands, MayBeginWith, func_of, size_in, kind_in, IsLike}
 use Rattle.rg_bytes.specs.declared.memory.Memory.{Memory as NoMemory}
 use Rattle.rg_event.specs.declared.value.Value.{Value}
 use Rattle.rg_words.specs.declared.func.Func.{Func}
@@ -47,10 +47,14 @@ Refuses func Add value old Memory = ⊤
 Refuses func Add value old Unfit = IsUnfit func Add value old × IsRefused func Add value old
 Refuses func Remove value old refusal = IsUnfit func Remove value old
 
--- Whether a value may come to a row: it suits the row, or it is refused.
-pub record MayCome (func : Func) (value : Value) (row : Option Held) (may : Bool) : Type 0 where
-  pub suits : may ≡ true → Suits func Add value row
-  pub refuses : may ≡ false → Refuses func Add value row Unfit
+-- A value comes to the back of what a state of the function keeps that it suits, or it is refused for its cause, and the state keeps the same.
+pub record Comes (func : Func) (value : Value) (old new : Held) (result : Result Unit Refusal) : Type 0 where
+  pub suits : OnOk result (Suits func Add value (Some old))
+  pub own : OnOk result (func_of new ≡ func)
+  pub ok : OnOk result ((values : List Value) → Stands old values → Stands new (values ++ value ∷ []))
+  pub size : OnOk result (size_in new ≡ size_in old + 1)
+  pub refuses : IfErr result (Refuses func Add value (Some old))
+  pub err : OnErr result (new ≡ old)
 
 -- What a change of a row does: it is a step, or it is refused for its cause, and the row stays.
 pub record KeptStep (func : Func) (change : Change) (value : Value) (old new : Kept) (result : Result Unit Refusal) : Type 0 where

@@ -46,7 +46,7 @@ impl Kept {
     fn is_idle(&self) -> bool
         ensures { result ≡ is_idle self.now }
     {
-        self.state.is_empty() && !self.there
+        !self.there && self.state.is_empty()
     }
 
     /// Whether there is a row.
@@ -107,6 +107,23 @@ impl Kept {
         }
     }
 
+    /// Adds a value to a row that is there, where its state is the function's and has room for it.
+    fn add(&mut self, func: Func, value: &Value) -> Result<(), Refusal>
+        requires takes { Takes func value.now }
+        requires fair { is_fair self.old ≡ true }
+        requires there { (size_in (held_of self.old.state) == 0) ≡ false }
+        ensures fair { is_fair self.new ≡ true }
+        ensures step { KeptStep func Change.Add value.now self.old self.new result }
+    {
+        match self.state.add_fit(func, value) {
+            Ok(()) => {
+                self.name();
+                Ok(())
+            }
+            Err(refusal) => Err(refusal),
+        }
+    }
+
     /// Takes the first value of the row away, where its state is the function's. The row may be gone then.
     fn take(&mut self, func: Func, value: &Value) -> Result<(), Refusal>
         requires { is_fair self.old ≡ true }
@@ -114,9 +131,6 @@ impl Kept {
         ensures fair { OnErr result (is_fair self.new ≡ true) }
         ensures step { KeptStep func Change.Remove value.now self.old self.new result }
     {
-        if self.state.is_empty() {
-            return Err(Refusal::Unfit);
-        }
         if self.state.func() != func {
             return Err(Refusal::Unfit);
         }
@@ -234,16 +248,7 @@ impl KeyRows {
         if kept.state.is_empty() {
             return kept.renew(alloc, func, value);
         }
-        if !kept.state.suits(func, value) {
-            return Err(Refusal::Unfit);
-        }
-        match kept.state.add(value) {
-            Ok(()) => {
-                kept.name();
-                Ok(())
-            }
-            Err(_) => Err(Refusal::Memory),
-        }
+        kept.add(func, value)
     }
 
     /// Begins the row of a node of which nothing is kept, with one value.

@@ -1,7 +1,7 @@
 ghost use Rattle.std.specs.Prelude.{◌↔◌, IsTrue};
 ghost use Rattle.rg_agg.specs.Standing.{kind_in};
 ghost use Rattle.rg_state.specs.Kinds.{IsSame};
-ghost use Rattle.rg_state.specs.Stepping.{Drops, HasRoom};
+ghost use Rattle.rg_state.specs.Stepping.{Comes, Drops, HasRoom};
 
 use rg_agg::{Aggregate, GREATEST_SIZE, is_like};
 use rg_event::{Kind, Value};
@@ -16,13 +16,28 @@ pub(crate) enum Refusal {
 }
 
 /// Whether one aggregator's state has room for a value more: it stands for fewer than 2^40, of its kind.
-pub(crate) fn has_room<A: Aggregate>(state: &A, value: &Value) -> bool
+fn has_room<A: Aggregate>(state: &A, value: &Value) -> bool
     ensures { HasRoom value.now (A.held state.now) result }
 {
     if state.size() >= GREATEST_SIZE {
         return false;
     }
     is_like(state.kind(), value)
+}
+
+/// Adds a value at the back of one aggregator's state, where there is room for it. A refusal leaves what it
+/// keeps.
+pub(crate) fn add_to<A: Aggregate>(state: &mut A, value: &Value) -> Result<(), Refusal>
+    requires { A.takes value.now }
+    ensures { Comes A.func value.now (A.held state.old) (A.held state.new) result }
+{
+    if !has_room(state, value) {
+        return Err(Refusal::Unfit);
+    }
+    match state.add(value) {
+        Ok(()) => Ok(()),
+        Err(_) => Err(Refusal::Memory),
+    }
 }
 
 /// Takes the first value of one aggregator's state away. A refusal leaves what it keeps.

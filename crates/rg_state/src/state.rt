@@ -1,13 +1,13 @@
-ghost use Rattle.std.specs.Prelude.{◌≡◌, ◌↔◌, IsTrue, ◌<◌, ◌^◌, ◌==◌, None, Some, List, [], ◌++◌, IfOk, OnOk, OnErr};
+ghost use Rattle.std.specs.Prelude.{◌≡◌, ◌↔◌, IsTrue, ◌<◌, ◌^◌, ◌==◌, None, List, [], ◌++◌, IfOk, OnOk, OnErr};
 ghost use Rattle.rg_agg.specs.Held.{held_bytes};
 ghost use Rattle.rg_agg.specs.Standing.{Stands, IsLike, func_of, size_in, kind_in};
 ghost use Rattle.rg_event.specs.declared.value.Value.{Value};
 ghost use Rattle.rg_metric.specs.Answers.{answer_of};
 ghost use Rattle.rg_state.specs.States.{held_of, IsFor, IsOfKind};
-ghost use Rattle.rg_state.specs.Stepping.{Adds, Drops, HasRoom, MayCome};
+ghost use Rattle.rg_state.specs.Stepping.{Adds, Comes, Drops};
 ghost use Rattle.rg_state.specs.Takes.{Takes};
 
-use crate::one::{Refusal, has_room, keeps_kind, take_from};
+use crate::one::{Refusal, add_to, keeps_kind, take_from};
 use rg_agg::{Aggregate, Avg, Count, First, Last, Sum, SumSq};
 use rg_bytes::Memory;
 use rg_distinct::Distinct;
@@ -156,21 +156,24 @@ impl AggState {
         }
     }
 
-    /// Whether a value may be added: it is a state of this function that has room for it.
-    pub(crate) fn suits(&self, func: Func, value: &Value) -> bool
-        ensures { MayCome func value.now (Some (held_of self.now)) result }
+    /// Adds a value at the back, where it is a state of this function that has room for it. A refusal leaves
+    /// what it keeps.
+    pub(crate) fn add_fit(&mut self, func: Func, value: &Value) -> Result<(), Refusal>
+        requires { Takes func value.now }
+        ensures { Comes func value.now (held_of self.old) (held_of self.new) result }
     {
         if self.func() != func {
-            return false;
+            return Err(Refusal::Unfit);
         }
-        self.has_room(value)
+        self.add_with_room(value)
     }
 
-    /// Whether it has room for a value more: it stands for fewer than 2^40, of its kind.
-    fn has_room(&self, value: &Value) -> bool
-        ensures { HasRoom value.now (held_of self.now) result }
+    /// Adds a value at the back, where there is room for it. A refusal leaves what it keeps.
+    fn add_with_room(&mut self, value: &Value) -> Result<(), Refusal>
+        requires { Takes (func_of (held_of self.old)) value.now }
+        ensures { Comes (func_of (held_of self.old)) value.now (held_of self.old) (held_of self.new) result }
     {
-        each!(self, state => has_room(state, value), has_room(&**state, value))
+        each!(self, state => add_to(state, value), add_to(&mut **state, value))
     }
 
     /// Adds a value at the back. Where memory runs out it keeps what it kept.

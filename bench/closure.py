@@ -25,12 +25,12 @@ CRATES = [it.split(":")[0].split()[0] for it in open("crates.txt", encoding="utf
 
 # The definitions of a run in the order in which they read best. A file beside its crate stands where the file is named.
 PARTS = [
-    ("the run: what is put, and what each moment leaves", "rg_call rg_replay rg_trial rg_listing rg_recover rg_run rg_task rg_course rg_open rg_report rg_host"),
+    ("the run: what is put, and what each moment leaves", "rg_commands rg_replay rg_selftest rg_explain rg_recover rg_run rg_task rg_run_spec rg_open rg_messages rg_host"),
     ("what a line says", "rg_host/Lines rg_row rg_event rg_bytes"),
     ("what a reply is, from scratch", "rg_metric rg_reply rg_scratch"),
     ("the log: bytes of frames and chunks", "rg_frame rg_log rg_growth rg_reservoir rg_dump rg_info rg_chunk rg_column rg_event/Codec rg_event/Tagged rg_event/Words rg_bytes/Reading"),
     ("checkpoints: their bytes, and when they are true", "rg_checkpoint rg_restore rg_state rg_agg rg_plan rg_group rg_window rg_engine rg_query/Printing"),
-    ("what the bytes of a plan say", "rg_config rg_query rg_parse rg_grammar rg_token rg_words"),
+    ("what the bytes of a plan say", "rg_config rg_query rg_parse rg_grammar rg_token rg_keywords"),
 ]
 
 Part = collections.namedtuple("Part", "crate file line name text lines comments")
@@ -220,10 +220,10 @@ def clause(call, label):
 
 def main():
     wanted = [it for it in sys.argv[1:] if not it.startswith("--")] or ["complete_run", "every_moment", "resumes"]
-    with open("crates/rg_call/src/call.rt", encoding="utf-8") as it:
+    with open("crates/rg_commands/src/call.rt", encoding="utf-8") as it:
         call = it.read()
     closure = Closure()
-    top = type("Top", (), {"uses": uses(call.replace("use crate::", "use rg_call::")), "parts": {}, "makers": {}})()
+    top = type("Top", (), {"uses": uses(call.replace("use crate::", "use rg_commands::")), "parts": {}, "makers": {}})()
     for label in wanted:
         closure.follow(top, "clause", [clause(call, label)])
     found = sorted(closure.reached.values(), key=lambda it: (CRATES.index(it.crate), it.file, it.line))

@@ -2,11 +2,11 @@
 #![tactic(auto)]
 
 ghost use Rattle.std.specs.Prelude.{◌≡◌, ◌↔◌, ℕ, Some};
-ghost use Rattle.rg_call.specs.Call.{command_of};
+ghost use Rattle.rg_commands.specs.Call.{command_of};
 
-use rg_call::{Command, railgun};
-use rg_real::{Access, FileSource, FolderHost, ReaderSource};
-use rg_report::{Report, Status};
+use rg_commands::{Command, railgun};
+use rg_messages::{Report, Status};
+use rg_os::{Access, FileSource, FolderHost, ReaderSource};
 use std::process::ExitCode;
 use std::{env, io};
 

@@ -8,7 +8,7 @@ use Rattle.rg_event.specs.declared.value.Value.{Value}
 use Rattle.rg_event.specs.declared.value.Value.TheVariants.{Int, Id}
 use Rattle.rg_metric.specs.Answers.{number_of, numbers, last_of, answer_of}
 use Rattle.rg_metric.specs.declared.answer.Answer.TheVariants.{Number}
-use Rattle.rg_words.specs.declared.func.Func.TheVariants.{Last}
+use Rattle.rg_keywords.specs.declared.func.Func.TheVariants.{Last}
 use Rattle.rg_agg.specs.Held.{is_like, is_like_first}
 use Rattle.rg_agg.specs.Standing.{IsLike, seen_kind}
 use Rattle.rg_agg.specs.Stands.{IsNumber, is_int_or_id, all_like, are_alike, last_behind, last_value, IsEnd}

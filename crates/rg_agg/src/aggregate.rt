@@ -5,7 +5,7 @@ ghost use Rattle.rg_agg.specs.Standing.{Stands, MayBeginWith, IsLike, func_of, k
 ghost use Rattle.rg_event.specs.Tagged.{value_kind};
 ghost use Rattle.rg_event.specs.declared.value.Value.{Value};
 ghost use Rattle.rg_metric.specs.Answers.{answer_of};
-ghost use Rattle.rg_words.specs.declared.func.Func.{Func};
+ghost use Rattle.rg_keywords.specs.declared.func.Func.{Func};
 
 use crate::fault::{StateFault, Unfit};
 use rg_bytes::{ByteReader, Memory};

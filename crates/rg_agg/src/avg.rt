@@ -21,7 +21,7 @@ impl Aggregate for Avg {
     ghost use Rattle.std.specs.Prelude.{refl};
     ghost use Rattle.rg_agg.specs.Held.{averaged, averaged_at};
     ghost use Rattle.rg_agg.specs.Stands.{IsInt};
-    ghost use Rattle.rg_words.specs.declared.func.Func.TheVariants.{Avg as AvgFunc};
+    ghost use Rattle.rg_keywords.specs.declared.func.Func.TheVariants.{Avg as AvgFunc};
 
     ghost func = { AvgFunc };
 

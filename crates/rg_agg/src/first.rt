@@ -32,7 +32,7 @@ impl Aggregate for First {
     ghost use Rattle.rg_agg.specs.Held.{queued, queued_at};
     ghost use Rattle.rg_agg.specs.Numbers.{value_of};
     ghost use Rattle.rg_agg.specs.Stands.{IsNumber};
-    ghost use Rattle.rg_words.specs.declared.func.Func.TheVariants.{First as FirstFunc};
+    ghost use Rattle.rg_keywords.specs.declared.func.Func.TheVariants.{First as FirstFunc};
 
     ghost func = { FirstFunc };
 

@@ -30,7 +30,7 @@ impl Aggregate for Last {
     ghost use Rattle.rg_agg.specs.Held.{ended, ended_at};
     ghost use Rattle.rg_agg.specs.Numbers.{seen};
     ghost use Rattle.rg_agg.specs.Stands.{IsNumber};
-    ghost use Rattle.rg_words.specs.declared.func.Func.TheVariants.{Last as LastFunc};
+    ghost use Rattle.rg_keywords.specs.declared.func.Func.TheVariants.{Last as LastFunc};
 
     ghost func = { LastFunc };
 

@@ -21,7 +21,7 @@ impl Aggregate for Sum {
     ghost use Rattle.std.specs.Prelude.{refl};
     ghost use Rattle.rg_agg.specs.Held.{summed, summed_at};
     ghost use Rattle.rg_agg.specs.Stands.{IsInt};
-    ghost use Rattle.rg_words.specs.declared.func.Func.TheVariants.{Sum as SumFunc};
+    ghost use Rattle.rg_keywords.specs.declared.func.Func.TheVariants.{Sum as SumFunc};
 
     ghost func = { SumFunc };
 

@@ -34,7 +34,7 @@ impl Aggregate for SumSq {
     ghost use Rattle.std.specs.Prelude.{refl};
     ghost use Rattle.rg_agg.specs.Held.{squared, squared_at};
     ghost use Rattle.rg_agg.specs.Stands.{IsInt};
-    ghost use Rattle.rg_words.specs.declared.func.Func.TheVariants.{SumSq as SumSqFunc};
+    ghost use Rattle.rg_keywords.specs.declared.func.Func.TheVariants.{SumSq as SumSqFunc};
 
     ghost func = { SumSqFunc };
 

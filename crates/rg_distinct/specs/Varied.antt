@@ -7,9 +7,9 @@ use Rattle.rg_bytes.specs.Reading.{and_then}
 use Rattle.rg_event.specs.Tagged.{IsLegal}
 use Rattle.rg_event.specs.declared.value.Value.{Value}
 use Rattle.rg_event.specs.declared.value.Value.TheVariants.{Int, Id, Text, Flag}
-use Rattle.rg_tally.specs.Pairs.{IsTally}
-use Rattle.rg_tally.specs.Props.{IsTally-prop}
-use Rattle.rg_tally.specs.Reading.{any_value_at, is_before, pairs_at}
+use Rattle.rg_multiset.specs.Pairs.{IsTally}
+use Rattle.rg_multiset.specs.Props.{IsTally-prop}
+use Rattle.rg_multiset.specs.Reading.{any_value_at, is_before, pairs_at}
 
 -- 07, and values of one kind that rise by their tagged bytes, with their counts
 abbrev pub varied_at : List ℕ → Begins Held

@@ -1,13 +1,13 @@
 ghost use Rattle.rg_distinct.specs.Varied.{IsTally-values};
 ghost use Rattle.rg_event.specs.Tagged.{IsLegal};
-ghost use Rattle.rg_tally.specs.Pairs.{IsTally};
-ghost use Rattle.rg_tally.specs.Reading.{is_before};
+ghost use Rattle.rg_multiset.specs.Pairs.{IsTally};
+ghost use Rattle.rg_multiset.specs.Reading.{is_before};
 
 use rg_agg::{Aggregate, StateFault, Unfit};
 use rg_bytes::{ByteReader, Memory};
 use rg_event::{Kind, Value};
 use rg_metric::Answer;
-use rg_tally::Tally;
+use rg_multiset::Tally;
 use std::alloc::Global;
 
 /// The byte in front of a distinct count.
@@ -25,7 +25,7 @@ impl Aggregate for Distinct {
     ghost use Rattle.rg_agg.specs.Standing.{count_in};
     ghost use Rattle.rg_agg.specs.Held.{varied};
     ghost use Rattle.rg_distinct.specs.Varied.{varied_at};
-    ghost use Rattle.rg_words.specs.declared.func.Func.TheVariants.{CountDistinct};
+    ghost use Rattle.rg_keywords.specs.declared.func.Func.TheVariants.{CountDistinct};
 
     ghost func = { CountDistinct };
 

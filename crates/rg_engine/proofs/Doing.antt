@@ -12,7 +12,7 @@ use Rattle.rg_metric.specs.declared.query.Window.{Window}
 use Rattle.rg_metric.specs.Conditions.{Test, passes, value_in}
 use Rattle.rg_metric.specs.Replies.{key_of}
 use Rattle.rg_group.specs.Keys.{key_bytes}
-use Rattle.rg_words.specs.declared.func.Func.{Func}
+use Rattle.rg_keywords.specs.declared.func.Func.{Func}
 use Rattle.rg_agg.specs.Held.{Held}
 use Rattle.rg_plan.specs.Named.{Node}
 use Rattle.rg_state.specs.declared.table.Change.{Change}

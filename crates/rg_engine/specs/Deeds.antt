@@ -5,7 +5,7 @@ use Rattle.rg_event.specs.declared.value.Value.{Value}
 use Rattle.rg_event.specs.declared.value.Value.TheVariants.{Flag}
 use Rattle.rg_metric.specs.Conditions.{value_in}
 use Rattle.rg_metric.specs.declared.query.Window.{Window}
-use Rattle.rg_words.specs.declared.func.Func.{Func}
+use Rattle.rg_keywords.specs.declared.func.Func.{Func}
 use Rattle.rg_agg.specs.Held.{Held}
 use Rattle.rg_plan.specs.Named.{Node}
 use Rattle.rg_state.specs.declared.table.Change.{Change}

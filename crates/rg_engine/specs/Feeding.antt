@@ -5,7 +5,7 @@ use Rattle.rg_event.specs.Codec.{IsValueOf, IsEventOf}
 use Rattle.rg_event.specs.declared.event.Event.{Event}
 use Rattle.rg_event.specs.declared.schema.Field.{Field}
 use Rattle.rg_event.specs.declared.value.Value.{Value}
-use Rattle.rg_words.specs.declared.func.Func.TheVariants.{Count}
+use Rattle.rg_keywords.specs.declared.func.Func.TheVariants.{Count}
 use Rattle.rg_metric.specs.declared.query.Agg.{Agg}
 use Rattle.rg_metric.specs.declared.query.Window.{Window}
 use Rattle.rg_plan.specs.Named.{Node, node_at}

@@ -3,7 +3,7 @@ use crate::takes::is_legal;
 use rg_agg::{Unfit, is_like};
 use rg_bytes::ByteReader;
 use rg_event::{Kind, Value};
-use rg_tally::Tally;
+use rg_multiset::Tally;
 use std::alloc::Global;
 use std::mem;
 use std::test::Fail;

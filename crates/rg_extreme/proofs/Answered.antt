@@ -9,7 +9,7 @@ use Rattle.rg_agg.specs.Unbeaten.{unbeaten, is_less, is_greater}
 use Rattle.rg_event.specs.declared.value.Value.{Value}
 use Rattle.rg_metric.specs.Answers.{answer_of, number_of, numbers, least, greatest}
 use Rattle.rg_metric.specs.declared.answer.Answer.TheVariants.{Number}
-use Rattle.rg_words.specs.declared.func.Func.TheVariants.{Min, Max}
+use Rattle.rg_keywords.specs.declared.func.Func.TheVariants.{Min, Max}
 use Rattle.rg_extreme.specs.Sides.{weakest}
 use Rattle.rg_extreme.specs.declared.side.Side.TheVariants.{Least, Greatest}
 use Rattle.rg_extreme.proofs.Ranks.{ranks}

@@ -6,7 +6,7 @@ use Rattle.rg_agg.specs.Numbers.{value_of}
 use Rattle.rg_agg.specs.Standing.{counts_sum}
 use Rattle.rg_agg.specs.declared.number.Number.{Number}
 use Rattle.rg_event.specs.declared.value.Value.{Value}
-use Rattle.rg_tally.specs.Reading.{last_kept}
+use Rattle.rg_multiset.specs.Reading.{last_kept}
 use Rattle.rg_extreme.specs.Deques.{raised}
 use Rattle.rg_extreme.specs.States.{as_pairs}
 

@@ -10,7 +10,7 @@ use Rattle.rg_event.specs.Tagged.{value_kind}
 use Rattle.rg_event.specs.declared.value.Kind.{Kind}
 use Rattle.rg_event.specs.declared.value.Value.{Value}
 use Rattle.rg_metric.specs.Same.{same_value}
-use Rattle.rg_tally.specs.Pairs.{AreOf}
+use Rattle.rg_multiset.specs.Pairs.{AreOf}
 use Rattle.rg_extreme.specs.Deques.{first_value, with_value, without_first}
 use Rattle.rg_extreme.specs.Sides.{beats, weakest, some_can_beat}
 use Rattle.rg_extreme.specs.declared.side.Side.{Side}

@@ -16,8 +16,8 @@ use Rattle.rg_event.specs.declared.value.Value.{Value}
 use Rattle.rg_event.specs.declared.value.Value.TheVariants.{Int, Id, Text, Flag}
 use Rattle.rg_metric.specs.Same.{same_value}
 use Rattle.rg_metric.proofs.Same.{same_value-true, same_value-same}
-use Rattle.rg_tally.specs.Pairs.{AreOf, AreRising}
-use Rattle.rg_tally.proofs.Listed.{listed, listed_length}
+use Rattle.rg_multiset.specs.Pairs.{AreOf, AreRising}
+use Rattle.rg_multiset.proofs.Listed.{listed, listed_length}
 use Rattle.rg_extreme.specs.Deques.{IsDeque, first_value, without_first}
 use Rattle.rg_extreme.specs.Sides.{beats, weakest, some_can_beat}
 use Rattle.rg_extreme.specs.declared.side.Side.{Side}

@@ -8,8 +8,8 @@ use Rattle.rg_agg.specs.declared.number.Number.{Number}
 use Rattle.rg_bytes.specs.declared.memory.Memory.{Memory}
 use Rattle.rg_event.specs.declared.value.Kind.{Kind}
 use Rattle.rg_event.specs.declared.value.Value.{Value}
-use Rattle.rg_tally.specs.Pairs.{AreOf, IsTally}
-use Rattle.rg_tally.specs.Reading.{comes_behind, last_kept}
+use Rattle.rg_multiset.specs.Pairs.{AreOf, IsTally}
+use Rattle.rg_multiset.specs.Reading.{comes_behind, last_kept}
 use Rattle.rg_extreme.specs.Deques.{begun, first_value, is_beaten, with_value, without_first}
 use Rattle.rg_extreme.specs.Sides.{beats, some_can_beat}
 use Rattle.rg_extreme.specs.States.{IsSound, StandsIn, as_pairs, pairs_in}

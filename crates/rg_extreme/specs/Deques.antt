@@ -6,9 +6,9 @@ use Rattle.rg_agg.specs.Standing.{counts_sum}
 use Rattle.rg_agg.specs.Stands.{IsNumber}
 use Rattle.rg_event.specs.declared.value.Value.{Value}
 use Rattle.rg_metric.specs.Same.{same_value}
-use Rattle.rg_tally.specs.Pairs.{IsTally}
-use Rattle.rg_tally.specs.Reading.{last_kept}
-use Rattle.rg_tally.specs.Props.{IsTally-prop}
+use Rattle.rg_multiset.specs.Pairs.{IsTally}
+use Rattle.rg_multiset.specs.Reading.{last_kept}
+use Rattle.rg_multiset.specs.Props.{IsTally-prop}
 
 -- the pairs with a value more at the back: those that it beats are gone, and it is joined with the last one left or comes behind it
 abbrev pub with_value : (Value → Value → Bool) → Value → List (Value × ℕ) → List (Value × ℕ)

@@ -4,7 +4,7 @@ use Rattle.rg_agg.specs.Held.{Begins, Held, lowest, highest, number_value_at, si
 use Rattle.rg_bytes.specs.Reading.{and_then}
 use Rattle.rg_agg.specs.Unbeaten.{is_less, is_greater}
 use Rattle.rg_event.specs.declared.value.Value.{Value}
-use Rattle.rg_tally.specs.Reading.{length_at, more_pairs_at}
+use Rattle.rg_multiset.specs.Reading.{length_at, more_pairs_at}
 
 -- a tag, the number of values and that of pairs, and the pairs: ints or ids, each of which beats the next one,
 -- with their numbers, in sum at most that of the values

@@ -4,7 +4,7 @@ use Rattle.rg_agg.specs.Numbers.{value_of}
 use Rattle.rg_agg.specs.Unbeaten.{IsExtreme}
 use Rattle.rg_agg.specs.declared.number.Number.{Number}
 use Rattle.rg_event.specs.declared.value.Value.{Value}
-use Rattle.rg_tally.specs.Pairs.{pairs_by}
+use Rattle.rg_multiset.specs.Pairs.{pairs_by}
 use Rattle.rg_extreme.specs.Deques.{IsDeque}
 use Rattle.rg_extreme.specs.Sides.{beats}
 use Rattle.rg_extreme.specs.declared.side.Side.{Side}

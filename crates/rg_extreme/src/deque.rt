@@ -13,7 +13,7 @@ ghost use Rattle.rg_extreme.specs.States.{IsSound, StandsIn, pairs_in};
 ghost use Rattle.rg_extreme.specs.declared.side.Side.{Side as SideValue};
 ghost use Rattle.rg_extreme.specs.declared.side.Side.TheVariants.{Least, Greatest};
 ghost use Rattle.rg_metric.specs.Answers.{answer_of};
-ghost use Rattle.rg_words.specs.declared.func.Func.TheVariants.{Min, Max};
+ghost use Rattle.rg_keywords.specs.declared.func.Func.TheVariants.{Min, Max};
 
 use crate::pairs::{copy_pairs, drop_beaten, first_of, join, lower_first, next_of, put_each};
 use crate::side::Side;

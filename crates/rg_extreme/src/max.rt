@@ -65,7 +65,7 @@ impl Aggregate for Max {
     ghost use Rattle.rg_agg.specs.Stands.{IsNumber};
     ghost use Rattle.rg_extreme.specs.Extremes.{highest_at};
     ghost use Rattle.rg_extreme.specs.States.{pairs_in};
-    ghost use Rattle.rg_words.specs.declared.func.Func.TheVariants.{Max as MaxFunc};
+    ghost use Rattle.rg_keywords.specs.declared.func.Func.TheVariants.{Max as MaxFunc};
 
     ghost func = { MaxFunc };
 

@@ -65,7 +65,7 @@ impl Aggregate for Min {
     ghost use Rattle.rg_agg.specs.Stands.{IsNumber};
     ghost use Rattle.rg_extreme.specs.Extremes.{lowest_at};
     ghost use Rattle.rg_extreme.specs.States.{pairs_in};
-    ghost use Rattle.rg_words.specs.declared.func.Func.TheVariants.{Min as MinFunc};
+    ghost use Rattle.rg_keywords.specs.declared.func.Func.TheVariants.{Min as MinFunc};
 
     ghost func = { MinFunc };
 

@@ -9,8 +9,8 @@ ghost use Rattle.rg_extreme.specs.Changes.{DropsBeaten};
 ghost use Rattle.rg_extreme.specs.Deques.{first_value, is_beaten, is_same, pushed, raised, without_first};
 ghost use Rattle.rg_extreme.specs.Sides.{beats};
 ghost use Rattle.rg_extreme.specs.States.{as_pairs};
-ghost use Rattle.rg_tally.specs.Pairs.{IsTally};
-ghost use Rattle.rg_tally.specs.Reading.{last_kept};
+ghost use Rattle.rg_multiset.specs.Pairs.{IsTally};
+ghost use Rattle.rg_multiset.specs.Reading.{last_kept};
 
 use crate::side::Side;
 use rg_agg::Number;

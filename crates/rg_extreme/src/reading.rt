@@ -11,7 +11,7 @@ ghost use Rattle.rg_extreme.specs.Deques.{IsDeque};
 ghost use Rattle.rg_extreme.specs.Extremes.{extreme_at};
 ghost use Rattle.rg_extreme.specs.Sides.{beats};
 ghost use Rattle.rg_extreme.specs.States.{IsSound, as_pairs, kept_by, pairs_in};
-ghost use Rattle.rg_tally.specs.Reading.{behind_at, comes_behind, count_at, last_kept, length_at, more_pairs_at, pair_at, same_kind};
+ghost use Rattle.rg_multiset.specs.Reading.{behind_at, comes_behind, count_at, last_kept, length_at, more_pairs_at, pair_at, same_kind};
 
 use crate::deque::Deque;
 use crate::side::Side;

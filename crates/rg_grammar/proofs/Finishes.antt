@@ -1,14 +1,14 @@
 -- Every state can go on to a query.
 use Rattle.std.proofs.Common.{◌≡◌, ℕ, List, [], ◌∷◌, ◌++◌, Option, Some, None, Bool, true, false, refl, ap, ◌∙◌}
 use Rattle.std.specs.Prelude.{codes}
-use Rattle.rg_words.specs.declared.keyword.Keyword.TheVariants.{Select, From, By, Over, Infinite}
-use Rattle.rg_words.specs.declared.op.Symbol.TheVariants.{Open, Close, Star, Compare}
-use Rattle.rg_words.specs.declared.op.Op.{Op}
-use Rattle.rg_words.specs.declared.op.Op.TheVariants.{Eq}
-use Rattle.rg_words.specs.declared.func.Func.{Func}
-use Rattle.rg_words.specs.declared.func.Func.TheVariants.{Count}
-use Rattle.rg_words.specs.declared.time_unit.TimeUnit.TheVariants.{Millisecond}
-use Rattle.rg_words.specs.Words.{func_of, unit_of}
+use Rattle.rg_keywords.specs.declared.keyword.Keyword.TheVariants.{Select, From, By, Over, Infinite}
+use Rattle.rg_keywords.specs.declared.op.Symbol.TheVariants.{Open, Close, Star, Compare}
+use Rattle.rg_keywords.specs.declared.op.Op.{Op}
+use Rattle.rg_keywords.specs.declared.op.Op.TheVariants.{Eq}
+use Rattle.rg_keywords.specs.declared.func.Func.{Func}
+use Rattle.rg_keywords.specs.declared.func.Func.TheVariants.{Count}
+use Rattle.rg_keywords.specs.declared.time_unit.TimeUnit.TheVariants.{Millisecond}
+use Rattle.rg_keywords.specs.Words.{func_of, unit_of}
 use Rattle.rg_grammar.specs.Grammar.{Name, named, Literal, digits, Token, reserved, symbol, word, literal, Tree, compared, Agg, count_all, agg_of, Span, span, Query, func_named, unit_named, is_count}
 use Rattle.rg_grammar.specs.Machine.{Level, level, Head, Left, left, Filtered, Grouped, grouped, State, at_start, at_func, at_open, at_field, at_close, after_agg, at_stream, after_stream, at_operand, after_field, after_op, after_operand, at_by, at_group, after_group, at_window, at_length, at_unit, after_window, at_delay_by, at_delay, at_delay_unit, at_end, goes, or_with, and_with, nots, with_operand, step, without_filter, with_filter, with_group, with_window, read, after_step, run}
 

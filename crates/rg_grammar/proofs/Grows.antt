@@ -2,12 +2,12 @@
 use Rattle.std.proofs.Common.{◌≡◌, ℕ, suc, ◌+◌, ◌≤◌, ◌<◌, List, [], ◌∷◌, ◌++◌, Option, Some, None, Bool, true, false, nat_lt, refl, ap, sym, ◌∙◌, arith}
 use Rattle.std.specs.Prelude.{if◌then◌else◌}
 use Rattle.std.proofs.lemmas.Bool.{ltb-true}
-use Rattle.rg_words.specs.declared.keyword.Keyword.TheVariants.{Select, From, Where, Group, By, Over, Sliding, Infinite, Delayed, And, Or, Not}
-use Rattle.rg_words.specs.declared.op.Symbol.TheVariants.{Open, Close, Comma, Star, Compare}
-use Rattle.rg_words.specs.declared.op.Op.{Op}
-use Rattle.rg_words.specs.declared.func.Func.{Func}
-use Rattle.rg_words.specs.declared.func.Func.TheVariants.{Count}
-use Rattle.rg_words.specs.declared.time_unit.TimeUnit.{TimeUnit}
+use Rattle.rg_keywords.specs.declared.keyword.Keyword.TheVariants.{Select, From, Where, Group, By, Over, Sliding, Infinite, Delayed, And, Or, Not}
+use Rattle.rg_keywords.specs.declared.op.Symbol.TheVariants.{Open, Close, Comma, Star, Compare}
+use Rattle.rg_keywords.specs.declared.op.Op.{Op}
+use Rattle.rg_keywords.specs.declared.func.Func.{Func}
+use Rattle.rg_keywords.specs.declared.func.Func.TheVariants.{Count}
+use Rattle.rg_keywords.specs.declared.time_unit.TimeUnit.{TimeUnit}
 use Rattle.rg_grammar.specs.Grammar.{Name, digits, Token, reserved, symbol, word, literal, OrTree, AndTree, group, comparison, or_depth, and_tree, AggTree, counted, of_field, agg_then, agg, AggsTree, one_agg, more_aggs, aggs, aggs_then, FieldsTree, one_field, more_fields, fields, fields_then, SpanTree, spanned, span, maybe_span, group_of, func_named, unit_named, is_count, is_signed, IsAgg, IsAggs, IsMaybeSpan}
 use Rattle.rg_grammar.specs.Machine.{head, left, filtered, grouped, State, after_agg, at_operand, at_by, after_group, at_window, at_unit, after_window, at_delay_unit, at_end, goes, too_deep, open_levels, or_with, with_operand, deeper, func_step, step, field_step, star_step, start_step, at_func_step, at_open_step, at_field_step, at_close_step, close_step, after_agg_step, at_stream_step, with_group, with_window, after_stream_step, operand_step, after_field_step, after_op_step, group_step, over_step, after_operand_step, at_by_step, at_group_step, after_group_step, at_window_step, digits_step, unit_step, at_length_step, at_unit_step, after_window_step, at_delay_by_step, at_delay_step, at_delay_unit_step}
 use Rattle.rg_grammar.proofs.Stages.{Grown, Outer, outer, Before, before, Chosen, chosen, Keyed, keyed, Stage, s_start, s_func, s_open, s_field, s_close, s_after_agg, s_stream, s_after_stream, s_operand, s_after_field, s_after_op, s_after_operand, s_by, s_group, s_after_group, s_window, s_length, s_unit, s_after_window, s_delay_by, s_delay, s_delay_unit, s_end, maybe_or, maybe_aggs, levels, left_of, filtered_of, grouped_of, state, levels_then, aggs_part, fields_part, stream_then, before_then, chosen_then, so_far, MaybeAggs, Nested, Legal_before, Legal_chosen, Legal_keyed, Legal}

@@ -1,6 +1,6 @@
 -- What a condition's last parts are joined to.
 use Rattle.std.proofs.Common.{◌≡◌, ℕ, zero, suc, ◌+◌, ◌≤◌, List, ◌∷◌, Option, Some, None, refl, ap, ◌∙◌, arith}
-use Rattle.rg_words.specs.declared.keyword.Keyword.TheVariants.{Where}
+use Rattle.rg_keywords.specs.declared.keyword.Keyword.TheVariants.{Where}
 use Rattle.rg_grammar.specs.Grammar.{Name, Token, reserved, OrTree, one_and, either, AndTree, one_not, both, NotTree, negated, or_then, and_then, not_then, or_depth, and_depth, not_depth, or_tree, and_tree, not_tree, AggsTree, aggs}
 use Rattle.rg_grammar.specs.Machine.{head, after_operand, open_levels, or_with, and_with, nots, with_operand}
 use Rattle.rg_grammar.proofs.Stages.{Outer, Before, before, Stage, s_after_operand, maybe_or, maybe_and, levels, left_of, state, or_part, and_part, nots_part, levels_then, stream_then, before_then, so_far, within_or, within_and, Legal_before, Legal}

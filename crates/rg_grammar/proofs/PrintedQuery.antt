@@ -4,10 +4,10 @@ use Rattle.std.proofs.lemmas.List.{append-nil}
 use Rattle.std.specs.List.{All}
 use Rattle.std.proofs.lemmas.List.Elements.{All-nil, All-cons, All-head, All-tail, All-append}
 use Rattle.std.specs.Prelude.{codes}
-use Rattle.rg_words.specs.declared.func.Func.{Func}
-use Rattle.rg_words.specs.declared.func.Func.TheVariants.{Count, Sum, Avg, SumSq, Min, Max, CountDistinct, First, Last}
-use Rattle.rg_words.specs.declared.time_unit.TimeUnit.TheVariants.{Millisecond}
-use Rattle.rg_words.specs.Words.{func_of, unit_of, func_name}
+use Rattle.rg_keywords.specs.declared.func.Func.{Func}
+use Rattle.rg_keywords.specs.declared.func.Func.TheVariants.{Count, Sum, Avg, SumSq, Min, Max, CountDistinct, First, Last}
+use Rattle.rg_keywords.specs.declared.time_unit.TimeUnit.TheVariants.{Millisecond}
+use Rattle.rg_keywords.specs.Words.{func_of, unit_of, func_name}
 use Rattle.rg_grammar.specs.Grammar.{Found, Name, Token, OrTree, Tree, or_depth, and_depth, not_depth, compared, not_of, and_of, or_of, or_tree, AggTree, counted, of_field, Agg, count_all, agg_of, agg, AggsTree, one_agg, more_aggs, aggs, FieldsTree, one_field, more_fields, fields, SpanTree, Window, windowed, maybe_span, QueryTree, query, Query, asked, tokens_of, filter_of, group_of, query_of, filter_depth, query_depth, is_signed, IsAgg, IsAggs, IsSpan, IsMaybeSpan, IsQuery}
 use Rattle.rg_grammar.specs.Printed.{written, written_agg, aggs_and, written_aggs, fields_and, written_group, written_filter, written_span, written_query, over_window, IsWritable, AreWritable, CanWrite, shape, maybe_shape, filter_shape}
 use Rattle.rg_grammar.proofs.Printed.{means, no_deeper}

@@ -1,9 +1,9 @@
 -- How far a query has come, with the trees of what came.
 use Rattle.std.proofs.Common.{◌≡◌, ℕ, zero, suc, ◌+◌, ◌≤◌, List, [], ◌∷◌, Option, Some, None, false}
-use Rattle.rg_words.specs.declared.keyword.Keyword.TheVariants.{Select, From, Where, Group, By, Over, Sliding, Delayed, And, Or, Not}
-use Rattle.rg_words.specs.declared.op.Symbol.TheVariants.{Open, Comma, Star, Compare}
-use Rattle.rg_words.specs.declared.op.Op.{Op}
-use Rattle.rg_words.specs.declared.func.Func.{Func}
+use Rattle.rg_keywords.specs.declared.keyword.Keyword.TheVariants.{Select, From, Where, Group, By, Over, Sliding, Delayed, And, Or, Not}
+use Rattle.rg_keywords.specs.declared.op.Symbol.TheVariants.{Open, Comma, Star, Compare}
+use Rattle.rg_keywords.specs.declared.op.Op.{Op}
+use Rattle.rg_keywords.specs.declared.func.Func.{Func}
 use Rattle.rg_grammar.specs.Grammar.{Name, digits, Token, reserved, symbol, word, literal, OrTree, Tree, AndTree, or_then, and_then, or_depth, and_depth, or_tree, and_tree, AggTree, counted, of_field, Agg, agg, AggsTree, aggs, aggs_then, FieldsTree, fields, fields_then, SpanTree, span_then, span_of, length_then, maybe_span, where_then, group_then, filter_of, group_of, filter_depth, func_named, is_signed, IsAgg, IsAggs, IsSpan, IsMaybeSpan}
 use Rattle.rg_grammar.specs.Machine.{Level, level, head, Left, left, Filtered, filtered, Grouped, grouped, State, at_start, at_func, at_open, at_field, at_close, after_agg, at_stream, after_stream, at_operand, after_field, after_op, after_operand, at_by, at_group, after_group, at_window, at_length, at_unit, after_window, at_delay_by, at_delay, at_delay_unit, at_end, open_levels, with_window}
 

@@ -1,14 +1,14 @@
 -- The grammar of query texts: trees of its rules, and the tokens that each tree spells.
 use Rattle.std.specs.Prelude.{◌≡◌, ℕ, ◌+◌, ◌≤◌, max, List, [], ◌∷◌, ◌++◌, Option, Some, None, Bool, true, false, ◌==◌}
-use Rattle.rg_words.specs.declared.keyword.Keyword.{Keyword}
-use Rattle.rg_words.specs.declared.keyword.Keyword.TheVariants.{Select, From, Where, Group, By, Over, Sliding, Infinite, Delayed, And, Or, Not}
-use Rattle.rg_words.specs.declared.op.Op.{Op}
-use Rattle.rg_words.specs.declared.op.Symbol.{Symbol}
-use Rattle.rg_words.specs.declared.op.Symbol.TheVariants.{Open, Close, Comma, Star, Compare}
-use Rattle.rg_words.specs.declared.func.Func.{Func}
-use Rattle.rg_words.specs.declared.func.Func.TheVariants.{Count}
-use Rattle.rg_words.specs.declared.time_unit.TimeUnit.{TimeUnit}
-use Rattle.rg_words.specs.Words.{func_of, unit_of}
+use Rattle.rg_keywords.specs.declared.keyword.Keyword.{Keyword}
+use Rattle.rg_keywords.specs.declared.keyword.Keyword.TheVariants.{Select, From, Where, Group, By, Over, Sliding, Infinite, Delayed, And, Or, Not}
+use Rattle.rg_keywords.specs.declared.op.Op.{Op}
+use Rattle.rg_keywords.specs.declared.op.Symbol.{Symbol}
+use Rattle.rg_keywords.specs.declared.op.Symbol.TheVariants.{Open, Close, Comma, Star, Compare}
+use Rattle.rg_keywords.specs.declared.func.Func.{Func}
+use Rattle.rg_keywords.specs.declared.func.Func.TheVariants.{Count}
+use Rattle.rg_keywords.specs.declared.time_unit.TimeUnit.{TimeUnit}
+use Rattle.rg_keywords.specs.Words.{func_of, unit_of}
 
 -- a word, with its place
 pub data Name : Type 0 where

@@ -1,10 +1,10 @@
 -- Reading a query token by token.
 use Rattle.std.specs.Prelude.{ℕ, zero, suc, ◌+◌, List, [], ◌∷◌, ◌++◌, Option, Some, None, Bool, true, false, nat_lt, if◌then◌else◌}
-use Rattle.rg_words.specs.declared.keyword.Keyword.TheVariants.{Select, From, Where, Group, By, Over, Sliding, Infinite, Delayed, And, Or, Not}
-use Rattle.rg_words.specs.declared.op.Op.{Op}
-use Rattle.rg_words.specs.declared.op.Symbol.TheVariants.{Open, Close, Comma, Star, Compare}
-use Rattle.rg_words.specs.declared.func.Func.{Func}
-use Rattle.rg_words.specs.declared.time_unit.TimeUnit.{TimeUnit}
+use Rattle.rg_keywords.specs.declared.keyword.Keyword.TheVariants.{Select, From, Where, Group, By, Over, Sliding, Infinite, Delayed, And, Or, Not}
+use Rattle.rg_keywords.specs.declared.op.Op.{Op}
+use Rattle.rg_keywords.specs.declared.op.Symbol.TheVariants.{Open, Close, Comma, Star, Compare}
+use Rattle.rg_keywords.specs.declared.func.Func.{Func}
+use Rattle.rg_keywords.specs.declared.time_unit.TimeUnit.{TimeUnit}
 use Rattle.rg_grammar.specs.Grammar.{Name, digits, Token, reserved, symbol, word, literal, Tree, compared, not_of, and_of, or_of, Agg, count_all, agg_of, Span, span, windowed, Query, asked, func_named, unit_named, is_count, is_signed}
 
 -- what stands before an open parenthesis: the left side of an OR, of an AND, and how many NOT

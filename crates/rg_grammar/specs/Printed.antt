@@ -1,10 +1,10 @@
 -- How a query is written, its condition with the parentheses that it needs and no others.
 use Rattle.std.specs.Prelude.{◌≡◌, ℕ, List, [], ◌∷◌, Option, Some, None, false, codes}
 use Rattle.std.specs.List.{All}
-use Rattle.rg_words.specs.declared.func.Func.TheVariants.{Count}
-use Rattle.rg_words.specs.declared.op.Op.TheVariants.{Eq}
-use Rattle.rg_words.specs.declared.time_unit.TimeUnit.TheVariants.{Millisecond}
-use Rattle.rg_words.specs.Words.{func_name}
+use Rattle.rg_keywords.specs.declared.func.Func.TheVariants.{Count}
+use Rattle.rg_keywords.specs.declared.op.Op.TheVariants.{Eq}
+use Rattle.rg_keywords.specs.declared.time_unit.TimeUnit.TheVariants.{Millisecond}
+use Rattle.rg_keywords.specs.Words.{func_name}
 use Rattle.rg_grammar.specs.Grammar.{Name, named, digits, OrTree, one_and, either, AndTree, one_not, both, NotTree, negated, group, comparison, Tree, compared, not_of, and_of, or_of, or_tree, and_tree, not_tree, AggTree, counted, of_field, Agg, count_all, agg_of, AggsTree, one_agg, more_aggs, FieldsTree, one_field, more_fields, SpanTree, spanned, window, Window, QueryTree, query, Query, asked, is_count}
 
 -- the three ways to write it: alone or left in an OR; in an OR on the right or left in an AND; behind NOT or right in an AND

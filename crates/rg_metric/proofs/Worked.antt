@@ -3,8 +3,8 @@ use Rattle.std.proofs.Common.{◌≡◌, ℕ, pos, negsuc, List, [], ◌∷◌, 
 use Rattle.std.specs.Prelude.{codes}
 use Rattle.rg_event.specs.declared.event.Event.{Event}
 use Rattle.rg_event.specs.declared.value.Value.TheVariants.{Int, Id, Text}
-use Rattle.rg_words.specs.declared.func.Func.TheVariants.{Count, Avg, SumSq, Min, Max, CountDistinct}
-use Rattle.rg_words.specs.declared.op.Op.TheVariants.{Ge}
+use Rattle.rg_keywords.specs.declared.func.Func.TheVariants.{Count, Avg, SumSq, Min, Max, CountDistinct}
+use Rattle.rg_keywords.specs.declared.op.Op.TheVariants.{Ge}
 use Rattle.rg_metric.specs.declared.answer.Answer.{Answer}
 use Rattle.rg_metric.specs.declared.answer.Answer.TheVariants.{Number, Ratio, Dash}
 use Rattle.rg_metric.specs.declared.query.Window.{Window}

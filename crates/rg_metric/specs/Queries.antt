@@ -1,6 +1,6 @@
 -- Queries as plain data.
 use Rattle.std.specs.Prelude.{ℕ, ◌≡◌, List, Option, Some, None, All}
-use Rattle.rg_words.specs.declared.func.Func.TheVariants.{Count}
+use Rattle.rg_keywords.specs.declared.func.Func.TheVariants.{Count}
 use Rattle.rg_metric.specs.declared.condition.Condition.{Condition}
 use Rattle.rg_metric.specs.declared.query.Agg.{Agg}
 use Rattle.rg_metric.specs.declared.query.Window.{Window}

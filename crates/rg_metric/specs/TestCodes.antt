@@ -2,9 +2,9 @@
 use Rattle.std.specs.Prelude.{◌≡◌, ℕ, zero, suc, false, List, [], ◌∷◌, ◌⊎◌, refl}
 use Rattle.std.proofs.Common.{◌∙◌, inl, inr}
 use Rattle.std.specs.Coded.{Coded, code_by, coded×, coded⊎, coded_ℕ, coded_list}
-use Rattle.rg_words.specs.declared.op.Op.{Op}
-use Rattle.rg_words.specs.declared.op.Op.TheVariants.{Eq}
-use Rattle.rg_words.specs.contracts.op.Op.{the_row as op_row}
+use Rattle.rg_keywords.specs.declared.op.Op.{Op}
+use Rattle.rg_keywords.specs.declared.op.Op.TheVariants.{Eq}
+use Rattle.rg_keywords.specs.contracts.op.Op.{the_row as op_row}
 use Rattle.rg_event.specs.declared.value.Value.{Value}
 use Rattle.rg_event.specs.declared.value.Value.TheVariants.{Flag}
 use Rattle.rg_event.specs.contracts.value.Value.{the_row as value_row}

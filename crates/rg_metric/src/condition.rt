@@ -3,7 +3,7 @@ ghost use Rattle.rg_metric.specs.Conditions.{test_of};
 
 use rg_bytes::Memory;
 use rg_event::Value;
-use rg_words::Op;
+use rg_keywords::Op;
 use std::alloc::Global;
 
 /// A condition on an event.

@@ -13,4 +13,4 @@ pub use answer::{Answer, Answers};
 pub use column::column_value;
 pub use condition::Condition;
 pub use query::{Agg, Aggs, Columns, Query, Window};
-pub use rg_words::{Func, Op};
+pub use rg_keywords::{Func, Op};

@@ -3,7 +3,7 @@ ghost use Rattle.rg_metric.specs.Queries.{asked};
 
 use crate::condition::Condition;
 use rg_bytes::Memory;
-use rg_words::Func;
+use rg_keywords::Func;
 use std::alloc::Global;
 use std::marker::Model;
 

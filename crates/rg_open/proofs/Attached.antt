@@ -15,7 +15,7 @@ use Rattle.rg_restore.specs.declared.choosing.Saved.{Saved}
 use Rattle.rg_reservoir.specs.Attached.{LogOpens}
 use Rattle.rg_reservoir.specs.Kept.{base, opened, all_events, IsSound}
 use Rattle.rg_reservoir.specs.declared.reservoir.Reservoir.{Reservoir}
-use Rattle.rg_course.specs.Steps.{IsMidStep, IsStepped}
+use Rattle.rg_run_spec.specs.Steps.{IsMidStep, IsStepped}
 use Rattle.rg_open.specs.Stores.{store_of}
 use Rattle.rg_open.proofs.Sound.{open_left, opened_left}
 use Rattle.rg_open.specs.Opened.{AreSized, AreSizesLeft}

@@ -6,8 +6,8 @@ use Rattle.rg_event.specs.Shapes.{Shape}
 use Rattle.rg_event.specs.declared.schema.Field.{Field}
 use Rattle.rg_event.specs.declared.value.Kind.{Kind}
 use Rattle.rg_growth.specs.Growing.{GrowsBy}
-use Rattle.rg_words.specs.Words.{func_name, op_text}
-use Rattle.rg_words.specs.declared.func.Func.{Func}
+use Rattle.rg_keywords.specs.Words.{func_name, op_text}
+use Rattle.rg_keywords.specs.declared.func.Func.{Func}
 use Rattle.rg_grammar.specs.Grammar as syntax
 use Rattle.rg_grammar.specs.Grammar.{Name, named, Tree, compared, not_of, and_of, or_of, count_all, agg_of, windowed}
 use Rattle.rg_metric.specs.Conditions as test

@@ -18,7 +18,7 @@ use Rattle.rg_reservoir.specs.Kept.{Base, all_events, IsRight, Adds, Added}
 use Rattle.rg_reservoir.proofs.Committed.{rises, fewer, is_chunk, ends_at}
 use Rattle.rg_reservoir.proofs.Seeking.{stored_is}
 use Rattle.rg_config.specs.Plans.{Planned}
-use Rattle.rg_course.specs.Steps.{IsMidStep, IsStepped}
+use Rattle.rg_run_spec.specs.Steps.{IsMidStep, IsStepped}
 use Rattle.rg_open.specs.Truth.{MayGrow}
 use Rattle.rg_open.specs.Stores.{store_of}
 use Rattle.rg_open.proofs.Steps.{for_some, stays_mid, stays_stepped, commit_mid, commit_stepped, first_mid, first_stepped, growth_mid, growth_stepped}

@@ -26,7 +26,7 @@ use Rattle.rg_checkpoint.specs.Updates.{Applies}
 use Rattle.rg_checkpoint.proofs.SlotLaws.{kept_apart, slot_is_one}
 use Rattle.rg_reservoir.specs.Attached.{IsToGrow, growth_payload}
 use Rattle.rg_reservoir.proofs.Legal.{to_grow_in_force}
-use Rattle.rg_course.specs.Steps.{IsMidStep, IsStepped, IsSavedTo}
+use Rattle.rg_run_spec.specs.Steps.{IsMidStep, IsStepped, IsSavedTo}
 use Rattle.rg_open.specs.Truth.{texts_of, IsTrueOf, IsTruthfulImage, MayGrow}
 use Rattle.rg_open.specs.Opened.{IsToExtend}
 use Rattle.rg_open.specs.Stores.{HasSaved, IsOfPlan, Has, store_of}

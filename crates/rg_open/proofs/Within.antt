@@ -9,8 +9,8 @@ use Rattle.rg_frame.specs.Calls.{Writes}
 use Rattle.rg_frame.specs.Steps.{Leaves}
 use Rattle.rg_config.specs.Plans.{Planned}
 use Rattle.rg_reservoir.specs.Attached.{LogOpens}
-use Rattle.rg_course.specs.Stores.{Store}
-use Rattle.rg_course.specs.Steps.{IsMidStep, IsStepped}
+use Rattle.rg_run_spec.specs.Stores.{Store}
+use Rattle.rg_run_spec.specs.Steps.{IsMidStep, IsStepped}
 use Rattle.rg_open.specs.Stores.{store_of}
 use Rattle.rg_open.specs.Settling.{AreSettled, LeavesFewer}
 use Rattle.rg_open.specs.Within.{IsAsRead, IsOpenedImage, IsInOpening, IsAfterOpening, IsWithinOpening}

@@ -6,7 +6,7 @@ use Rattle.rg_event.specs.declared.event.Event.{Event}
 use Rattle.rg_config.specs.Plans.{Planned}
 use Rattle.rg_checkpoint.specs.declared.base.Checkpoint.{Checkpoint}
 use Rattle.rg_checkpoint.specs.Slots.{HasSlot}
-use Rattle.rg_course.specs.Stores.{Store}
+use Rattle.rg_run_spec.specs.Stores.{Store}
 use Rattle.rg_log.specs.Filled.{HasEventsFor, IsOfSchemaFor}
 use Rattle.rg_open.specs.Truth.{texts_of, IsTruthfulImage}
 

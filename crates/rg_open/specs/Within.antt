@@ -5,7 +5,7 @@ use Rattle.rg_host.specs.Image.{Image}
 use Rattle.rg_host.specs.Moments.{Moment, Moments}
 use Rattle.rg_config.specs.Plans.{Planned}
 use Rattle.rg_reservoir.specs.Attached.{LogOpens}
-use Rattle.rg_course.specs.Steps.{IsMidStep, IsStepped}
+use Rattle.rg_run_spec.specs.Steps.{IsMidStep, IsStepped}
 use Rattle.rg_open.specs.Stores.{store_of}
 
 -- an image that might have been left, of which the log and the slots are as reads give them

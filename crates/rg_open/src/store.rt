@@ -23,7 +23,7 @@ ghost use Rattle.rg_restore.specs.Truthful.{IsTruthful};
 ghost use Rattle.rg_reservoir.specs.Attached.{LogOpens};
 ghost use Rattle.rg_reservoir.specs.Kept.{base, opened, all_events, Adds, Added};
 ghost use Rattle.rg_reservoir.specs.declared.reservoir.Reservoir.{Reservoir};
-ghost use Rattle.rg_course.specs.Steps.{IsMidStep, IsStepped, IsSavedTo};
+ghost use Rattle.rg_run_spec.specs.Steps.{IsMidStep, IsStepped, IsSavedTo};
 ghost use Rattle.rg_open.specs.Truth.{texts_of, IsTrueOf, IsTruthfulImage, MayGrow};
 ghost use Rattle.rg_open.specs.Stores.{store_of};
 ghost use Rattle.rg_open.specs.Opened.{IsOpenedFor, IsToSave, IsToExtend};

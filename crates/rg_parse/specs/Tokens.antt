@@ -1,7 +1,7 @@
 -- The token that a piece of a text is.
 use Rattle.std.specs.Prelude.{ℕ, List, Option, Some, None, Bool, map, slice_range}
-use Rattle.rg_words.specs.declared.keyword.Keyword.{Keyword}
-use Rattle.rg_words.specs.Words.{keyword_of, truth_of}
+use Rattle.rg_keywords.specs.declared.keyword.Keyword.{Keyword}
+use Rattle.rg_keywords.specs.Words.{keyword_of, truth_of}
 use Rattle.rg_grammar.specs.Grammar.{named, digits, quoted, truth, Token, reserved, symbol, word, literal}
 use Rattle.rg_token.specs.declared.piece.Shape.{Shape}
 use Rattle.rg_token.specs.declared.piece.Shape.TheVariants.{Word, Number, Text, Sign}

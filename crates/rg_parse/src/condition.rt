@@ -14,7 +14,7 @@ use crate::state::{After, Before, Filtered, Grouped, State};
 use crate::syntax::{Expr, Span};
 use crate::token::Token;
 use rg_bytes::Memory;
-use rg_words::{Keyword, Op, Symbol};
+use rg_keywords::{Keyword, Op, Symbol};
 use std::alloc::Global;
 
 /// How deep NOT and parentheses may enclose each other.

@@ -11,7 +11,7 @@ use crate::refusal::Refusal;
 use crate::state::{Before, Filtered, Grouped, Head, State};
 use crate::syntax::Call;
 use crate::token::Token;
-use rg_words::{Func, Keyword, Symbol};
+use rg_keywords::{Func, Keyword, Symbol};
 use std::alloc::Global;
 
 /// The text begins with SELECT.

@@ -3,7 +3,7 @@ ghost use Rattle.rg_parse.specs.Levels.{open_count};
 
 use crate::level::Level;
 use crate::syntax::{Call, Duration, Expr, Raw, Span};
-use rg_words::{Func, Op};
+use rg_keywords::{Func, Op};
 
 /// What comes before the condition.
 #[derive(Drop)]

@@ -1,4 +1,4 @@
-use rg_words::{Func, Op, TimeUnit};
+use rg_keywords::{Func, Op, TimeUnit};
 
 /// A part of the text.
 #[derive(Clone, Copy, Debug, PartialEq, Eq)]

@@ -5,8 +5,8 @@ ghost use Rattle.rg_parse.specs.Steps.{IsToken};
 ghost use Rattle.rg_parse.specs.Tokens.{word_token, token_of as piece_token};
 
 use crate::syntax::{Literal, Span};
+use rg_keywords::{Keyword, Symbol, truth};
 use rg_token::{Piece, Shape};
-use rg_words::{Keyword, Symbol, truth};
 
 /// A token, told from its keyword or its shape.
 #[derive(Clone, Copy, Debug, PartialEq, Eq)]

@@ -10,7 +10,7 @@ use crate::refusal::Refusal;
 use crate::state::{Filtered, Grouped, Head, State, Windowed};
 use crate::syntax::{Duration, Literal, Raw, Span};
 use crate::token::Token;
-use rg_words::{Keyword, Symbol, TimeUnit};
+use rg_keywords::{Keyword, Symbol, TimeUnit};
 use std::alloc::Global;
 
 /// BY behind GROUP.

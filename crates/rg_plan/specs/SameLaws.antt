@@ -7,8 +7,8 @@ use Rattle.std.proofs.lemmas.Bool.Decides.{Decides-eqb}
 use Rattle.std.proofs.lemmas.Slice.Eq.{bytes_eq-Decides}
 use Rattle.std.specs.Cmp.{IsEquivalence, decided, and_equiv, on_equiv, nat_eq_equiv}
 use Rattle.std.specs.Cmp.Lexicographic.{nat_list_eq_equiv}
-use Rattle.rg_words.specs.declared.op.Op.{Op}
-use Rattle.rg_words.specs.declared.op.Op.TheVariants.{Eq, Ne, Lt, Le, Gt, Ge}
+use Rattle.rg_keywords.specs.declared.op.Op.{Op}
+use Rattle.rg_keywords.specs.declared.op.Op.TheVariants.{Eq, Ne, Lt, Le, Gt, Ge}
 use Rattle.rg_event.specs.declared.value.Value.{Value}
 use Rattle.rg_metric.specs.Conditions.{Test, compared, not_of, and_of, or_of}
 use Rattle.rg_metric.proofs.Same.{same_value-true, same_value-same}

@@ -20,9 +20,9 @@ use Rattle.rg_event.specs.declared.value.Kind.{Kind}
 use Rattle.rg_event.specs.declared.value.Kind.TheVariants as kind
 use Rattle.rg_event.specs.declared.value.Value.{Value}
 use Rattle.rg_event.specs.declared.value.Value.TheVariants.{Int as IntValue, Id as IdValue, Text as TextValue, Flag as FlagValue}
-use Rattle.rg_words.specs.declared.func.Func.{Func}
-use Rattle.rg_words.specs.declared.func.Func.TheVariants.{Count, Sum, Avg, SumSq, Min, Max, CountDistinct, First, Last}
-use Rattle.rg_words.specs.declared.time_unit.TimeUnit.TheVariants.{Millisecond}
+use Rattle.rg_keywords.specs.declared.func.Func.{Func}
+use Rattle.rg_keywords.specs.declared.func.Func.TheVariants.{Count, Sum, Avg, SumSq, Min, Max, CountDistinct, First, Last}
+use Rattle.rg_keywords.specs.declared.time_unit.TimeUnit.TheVariants.{Millisecond}
 use Rattle.rg_grammar.specs.Grammar.{span, maybe_span, is_count, is_signed, IsMaybeSpan}
 use Rattle.rg_grammar.specs.Printed.{IsWritable, AreWritable, CanWrite}
 use Rattle.rg_grammar.proofs.PrintedQuery.{span_is}

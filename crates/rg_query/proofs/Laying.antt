@@ -1,10 +1,10 @@
 -- What the tokens of a written query look like where they are printed.
 use Rattle.std.proofs.Common.{◌≡◌, ℕ, zero, suc, List, [], ◌∷◌, ◌++◌, map, Option, Some, None, Bool, true, false, refl, ap, sym, ◌∙◌, append_assoc, codes, decimal, option_map}
-use Rattle.rg_words.specs.Words.{func_name, op_text}
-use Rattle.rg_words.specs.declared.func.Func.{Func}
-use Rattle.rg_words.specs.declared.func.Func.TheVariants.{Count}
-use Rattle.rg_words.specs.declared.keyword.Keyword.TheVariants.{From, Group, By, Over, And, Or, Not}
-use Rattle.rg_words.specs.declared.op.Symbol.TheVariants.{Close, Comma, Compare}
+use Rattle.rg_keywords.specs.Words.{func_name, op_text}
+use Rattle.rg_keywords.specs.declared.func.Func.{Func}
+use Rattle.rg_keywords.specs.declared.func.Func.TheVariants.{Count}
+use Rattle.rg_keywords.specs.declared.keyword.Keyword.TheVariants.{From, Group, By, Over, And, Or, Not}
+use Rattle.rg_keywords.specs.declared.op.Symbol.TheVariants.{Close, Comma, Compare}
 use Rattle.rg_event.specs.Shapes.{Shape}
 use Rattle.rg_event.specs.declared.value.Value.{Value}
 use Rattle.rg_event.specs.declared.value.Value.TheVariants.{Int, Id, Text, Flag}

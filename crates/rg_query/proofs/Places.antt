@@ -4,7 +4,7 @@ use Rattle.std.specs.Prelude.{bytes_eq, if◌then◌else◌}
 use Rattle.rg_event.specs.Shapes.{Shape}
 use Rattle.rg_event.specs.declared.value.Kind.{Kind}
 use Rattle.rg_event.specs.declared.value.Kind.TheVariants as kind
-use Rattle.rg_words.specs.declared.op.Op.{Op}
+use Rattle.rg_keywords.specs.declared.op.Op.{Op}
 use Rattle.rg_grammar.specs.Grammar as syntax
 use Rattle.rg_grammar.specs.Grammar.{Name, named, Literal, digits, quoted, truth, Tree, compared, not_of, and_of, or_of, count_all, agg_of, Span, span, windowed}
 use Rattle.rg_grammar.specs.Erase.{erase_name, erase_literal, erase_tree, erase_maybe, erase_agg, erase_maybe_span, erase_query}

@@ -13,12 +13,12 @@ use Rattle.rg_event.specs.declared.value.Kind.{Kind}
 use Rattle.rg_event.specs.declared.value.Kind.TheVariants as kind
 use Rattle.rg_event.specs.declared.value.Value.{Value}
 use Rattle.rg_event.specs.declared.value.Value.TheVariants.{Int, Id, Text, Flag}
-use Rattle.rg_words.specs.Words.{meaning_in, keyword_of, truth_of, func_name}
-use Rattle.rg_words.specs.declared.func.Func.{Func}
-use Rattle.rg_words.specs.declared.func.Func.TheVariants.{Count, Sum, Avg, SumSq, Min, Max, CountDistinct, First, Last}
-use Rattle.rg_words.specs.declared.keyword.Keyword.{Keyword}
-use Rattle.rg_words.specs.declared.keyword.Keyword.TheVariants.{Select, From, Where, Group, By, Over, Sliding, Infinite, Delayed, And, Or, Not}
-use Rattle.rg_words.specs.declared.op.Symbol.{Symbol}
+use Rattle.rg_keywords.specs.Words.{meaning_in, keyword_of, truth_of, func_name}
+use Rattle.rg_keywords.specs.declared.func.Func.{Func}
+use Rattle.rg_keywords.specs.declared.func.Func.TheVariants.{Count, Sum, Avg, SumSq, Min, Max, CountDistinct, First, Last}
+use Rattle.rg_keywords.specs.declared.keyword.Keyword.{Keyword}
+use Rattle.rg_keywords.specs.declared.keyword.Keyword.TheVariants.{Select, From, Where, Group, By, Over, Sliding, Infinite, Delayed, And, Or, Not}
+use Rattle.rg_keywords.specs.declared.op.Symbol.{Symbol}
 use Rattle.rg_grammar.specs.Grammar.{named, digits, truth, reserved, symbol, word, literal}
 use Rattle.rg_token.specs.Token.{IsNumber, is_digit}
 use Rattle.rg_token.specs.Token as token

@@ -7,10 +7,10 @@ use Rattle.rg_event.specs.Names.{is_name}
 use Rattle.rg_event.specs.Shapes.{Shape, IsSchema}
 use Rattle.rg_event.specs.declared.schema.Field.{Field}
 use Rattle.rg_event.specs.declared.value.Kind.{Kind}
-use Rattle.rg_words.specs.declared.func.Func.{Func}
-use Rattle.rg_words.specs.declared.func.Func.TheVariants.{Count}
-use Rattle.rg_words.specs.declared.keyword.Keyword.TheVariants.{Select, From, Where, Group, By, Over, Sliding, Infinite, Delayed, And, Or, Not}
-use Rattle.rg_words.specs.declared.op.Symbol.TheVariants.{Open, Close, Comma, Star, Compare}
+use Rattle.rg_keywords.specs.declared.func.Func.{Func}
+use Rattle.rg_keywords.specs.declared.func.Func.TheVariants.{Count}
+use Rattle.rg_keywords.specs.declared.keyword.Keyword.TheVariants.{Select, From, Where, Group, By, Over, Sliding, Infinite, Delayed, And, Or, Not}
+use Rattle.rg_keywords.specs.declared.op.Symbol.TheVariants.{Open, Close, Comma, Star, Compare}
 use Rattle.rg_grammar.specs.Grammar.{named, Token, reserved, symbol, word, literal, or_then, and_then, not_then, aggs_then, agg_then, one_agg, one_field, where_then, group_then, length_then, delay_then, tokens_of}
 use Rattle.rg_grammar.specs.Printed.{written_agg, written_aggs, written_group, written_filter}
 use Rattle.rg_grammar.specs.Printed as grammar

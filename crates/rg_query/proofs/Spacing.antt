@@ -3,10 +3,10 @@ use Rattle.std.proofs.Common.{◌≡◌, ℕ, ◌+◌, ◌-◌, List, [], ◌∷
 use Rattle.std.specs.List.{list_all, slice_range}
 use Rattle.std.specs.Prelude.{IsTrue, IsFalse}
 use Rattle.std.proofs.Math.Seq.{drop-append_seam}
-use Rattle.rg_words.specs.declared.keyword.Keyword.{Keyword}
-use Rattle.rg_words.specs.declared.op.Op.TheVariants.{Eq, Ne, Lt, Le, Gt, Ge}
-use Rattle.rg_words.specs.declared.op.Symbol.TheVariants.{Open, Close, Comma, Star, Compare}
-use Rattle.rg_words.specs.Words.{keyword_of, truth_of}
+use Rattle.rg_keywords.specs.declared.keyword.Keyword.{Keyword}
+use Rattle.rg_keywords.specs.declared.op.Op.TheVariants.{Eq, Ne, Lt, Le, Gt, Ge}
+use Rattle.rg_keywords.specs.declared.op.Symbol.TheVariants.{Open, Close, Comma, Star, Compare}
+use Rattle.rg_keywords.specs.Words.{keyword_of, truth_of}
 use Rattle.rg_grammar.specs.Grammar.{digits, quoted, truth, Token, reserved, symbol, word, literal}
 use Rattle.rg_grammar.specs.Erase.{erase_token}
 use Rattle.rg_token.specs.Layout.{Item, layout, goes_on, Breaks, IsLaid, placed}

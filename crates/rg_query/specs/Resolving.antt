@@ -9,11 +9,11 @@ use Rattle.rg_event.specs.declared.value.Kind.{Kind}
 use Rattle.rg_event.specs.declared.value.Kind.TheVariants.{Int, Id, Text, Flag}
 use Rattle.rg_event.specs.declared.value.Value.{Value}
 use Rattle.rg_event.specs.declared.value.Value.TheVariants.{Int as IntValue, Id as IdValue, Text as TextValue, Flag as FlagValue}
-use Rattle.rg_words.specs.declared.func.Func.{Func}
-use Rattle.rg_words.specs.declared.func.Func.TheVariants.{Count, Sum, Avg, SumSq, Min, Max, CountDistinct, First, Last}
-use Rattle.rg_words.specs.declared.op.Op.{Op}
-use Rattle.rg_words.specs.declared.op.Op.TheVariants.{Eq, Ne}
-use Rattle.rg_words.specs.Words.{unit_millis}
+use Rattle.rg_keywords.specs.declared.func.Func.{Func}
+use Rattle.rg_keywords.specs.declared.func.Func.TheVariants.{Count, Sum, Avg, SumSq, Min, Max, CountDistinct, First, Last}
+use Rattle.rg_keywords.specs.declared.op.Op.{Op}
+use Rattle.rg_keywords.specs.declared.op.Op.TheVariants.{Eq, Ne}
+use Rattle.rg_keywords.specs.Words.{unit_millis}
 use Rattle.rg_grammar.specs.Grammar as syntax
 use Rattle.rg_grammar.specs.Grammar.{Name, named, Literal, digits, quoted, truth, Tree, compared, not_of, and_of, or_of, count_all, agg_of, Span, span, windowed, is_signed}
 use Rattle.rg_metric.specs.Conditions as test

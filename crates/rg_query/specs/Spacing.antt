@@ -1,9 +1,9 @@
 -- How tokens are printed: each as it is spelled, and the blanks between them.
 use Rattle.std.specs.Prelude.{◌≡◌, ℕ, List, [], ◌∷◌, codes, true, false}
-use Rattle.rg_words.specs.declared.keyword.Keyword.{Keyword}
-use Rattle.rg_words.specs.declared.keyword.Keyword.TheVariants.{Select, From, Where, Group, By, Over, Sliding, Infinite, Delayed, And, Or, Not}
-use Rattle.rg_words.specs.declared.op.Symbol.TheVariants.{Open, Close, Comma}
-use Rattle.rg_words.specs.Words.{symbol_text}
+use Rattle.rg_keywords.specs.declared.keyword.Keyword.{Keyword}
+use Rattle.rg_keywords.specs.declared.keyword.Keyword.TheVariants.{Select, From, Where, Group, By, Over, Sliding, Infinite, Delayed, And, Or, Not}
+use Rattle.rg_keywords.specs.declared.op.Symbol.TheVariants.{Open, Close, Comma}
+use Rattle.rg_keywords.specs.Words.{symbol_text}
 use Rattle.rg_grammar.specs.Grammar.{named, digits, quoted, truth, Token, reserved, symbol, word, literal}
 use Rattle.rg_grammar.specs.Erase.{erase_token}
 use Rattle.rg_token.specs.Layout.{Item}

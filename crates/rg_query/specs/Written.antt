@@ -4,7 +4,7 @@ use Rattle.std.specs.Fmt.{signed_decimal}
 use Rattle.rg_event.specs.Shapes.{Shape}
 use Rattle.rg_event.specs.declared.value.Value.{Value}
 use Rattle.rg_event.specs.declared.value.Value.TheVariants.{Int, Id, Text, Flag}
-use Rattle.rg_words.specs.declared.func.Func.{Func}
+use Rattle.rg_keywords.specs.declared.func.Func.{Func}
 use Rattle.rg_grammar.specs.Grammar as syntax
 use Rattle.rg_grammar.specs.Grammar.{Name, named, Literal, digits, quoted, truth, Tree, compared, not_of, and_of, or_of, count_all, agg_of, SpanTree, maybe_span, windowed, QueryTree}
 use Rattle.rg_grammar.specs.Printed.{written_span, written_query}

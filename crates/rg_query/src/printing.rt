@@ -2,14 +2,14 @@ ghost use Rattle.std.specs.Prelude.{◌≡◌, ◌++◌, ◌∷◌, [], List, �
 ghost use Rattle.rg_event.specs.Shapes.{Shape};
 ghost use Rattle.rg_metric.specs.Conditions.{test_of};
 ghost use Rattle.rg_metric.specs.Queries.{Asked, asked, filter_test};
-ghost use Rattle.rg_words.specs.Words.{op_text};
+ghost use Rattle.rg_keywords.specs.Words.{op_text};
 ghost use Rattle.rg_query.specs.Saying.{IsShort, Says};
 ghost use Rattle.rg_query.specs.Printing.{name_at, doubled, literal_text, and_is_enclosed as and_test, or_is_enclosed as or_test, opening, closing, test_text, condition_text, operand_text, agg_text, more_text, list_text, where_text, group_text, length_text, delay_text, query_text};
 
 use rg_bytes::{Memory, put_bytes, put_u8, write_signed, write_whole};
 use rg_event::{Field, Schema, Value};
+use rg_keywords::Op;
 use rg_metric::{Agg, Condition, Query, Window};
-use rg_words::Op;
 
 /// Where a condition stands in another.
 #[derive(Clone, Copy, Debug, PartialEq, Eq)]

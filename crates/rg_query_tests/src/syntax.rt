@@ -1,8 +1,8 @@
 use crate::built::{Times, put_parts};
 use crate::rows::{Row, assert_each};
 use rg_bytes::Memory;
+use rg_keywords::{Func, TimeUnit};
 use rg_parse::{Call, Duration, Expr, Raw, Span, SyntaxFault, read_syntax};
-use rg_words::{Func, TimeUnit};
 use std::alloc::Global;
 use std::test::Fail;
 

@@ -1,7 +1,7 @@
 use crate::rows::{Row, assert_each};
 use rg_bytes::Memory;
+use rg_keywords::{Op, Symbol};
 use rg_token::{Piece, Shape, pieces};
-use rg_words::{Op, Symbol};
 use std::alloc::Global;
 use std::test::Fail;
 

@@ -11,12 +11,12 @@ use Rattle.rg_event.specs.Rising.{IsRising, next_offset}
 use Rattle.rg_config.specs.Plans.{Planned}
 use Rattle.rg_state.specs.Changes.{Marks}
 use Rattle.rg_state.specs.Rows.{Cells}
-use Rattle.rg_course.specs.Laws.{IsPrefixOf}
-use Rattle.rg_course.specs.Steps.{IsAtRest}
-use Rattle.rg_course.specs.Stores.{Course, IsKeptInStore, IsNear, StaysOnCourseSince}
-use Rattle.rg_course.proofs.Betweens.{at_rest_first}
-use Rattle.rg_course.proofs.Courses.{on_course_mid_step}
-use Rattle.rg_course.proofs.Keeping.{after_step, mid_step_kept}
+use Rattle.rg_run_spec.specs.Laws.{IsPrefixOf}
+use Rattle.rg_run_spec.specs.Steps.{IsAtRest}
+use Rattle.rg_run_spec.specs.Stores.{Course, IsKeptInStore, IsNear, StaysOnCourseSince}
+use Rattle.rg_run_spec.proofs.Betweens.{at_rest_first}
+use Rattle.rg_run_spec.proofs.Courses.{on_course_mid_step}
+use Rattle.rg_run_spec.proofs.Keeping.{after_step, mid_step_kept}
 use Rattle.rg_log.specs.Filled.{HasEventsFor}
 use Rattle.rg_log.proofs.Filled.{rising_for}
 use Rattle.rg_open.specs.Stores.{store_of}

@@ -9,7 +9,7 @@ use Rattle.rg_state.specs.Rows.{Cells}
 use Rattle.rg_reservoir.specs.Chain.{IsIllegalBy}
 use Rattle.rg_reservoir.specs.Kept.{base, view_of, next_of}
 use Rattle.rg_reservoir.specs.Views.{View as LogView}
-use Rattle.rg_course.specs.Stores.{Course, StaysOnCourse}
+use Rattle.rg_run_spec.specs.Stores.{Course, StaysOnCourse}
 use Rattle.rg_open.specs.Stores.{store_of}
 use Rattle.rg_recover.specs.Sessions.{Sitting}
 use Rattle.rg_task.specs.View.{View}

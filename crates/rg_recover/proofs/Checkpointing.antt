@@ -13,7 +13,7 @@ use Rattle.rg_checkpoint.specs.Slots.{Attached, IsKeep, Lengthened, Lengthens, T
 use Rattle.rg_checkpoint.specs.declared.base.Checkpoint.{Checkpoint}
 use Rattle.rg_checkpoint.specs.declared.sizes.SlotSizes.{SlotSizes}
 use Rattle.rg_reservoir.specs.Kept.{base, opened, all_events}
-use Rattle.rg_course.specs.Steps.{IsMidStep, IsSavedTo}
+use Rattle.rg_run_spec.specs.Steps.{IsMidStep, IsSavedTo}
 use Rattle.rg_open.specs.Opened.{IsToExtend, IsToSave}
 use Rattle.rg_open.specs.Stores.{store_of}
 use Rattle.rg_open.specs.Truth.{IsTrueOf, texts_of}

@@ -15,7 +15,7 @@ use Rattle.rg_checkpoint.specs.declared.base.Checkpoint.{Checkpoint}
 use Rattle.rg_checkpoint.specs.Slots.{HasNoSlot, IsSlot}
 use Rattle.rg_checkpoint.proofs.SlotLaws.{none_slot}
 use Rattle.rg_config.specs.Plans.{Planned}
-use Rattle.rg_course.specs.Output.{text_of_run}
+use Rattle.rg_run_spec.specs.Output.{text_of_run}
 use Rattle.rg_open.specs.Opening.{IsFromIn}
 use Rattle.rg_open.specs.Stores.{Has, IsOfPlan}
 use Rattle.rg_restore.specs.Slots.{slot_in, IsFrom}
@@ -25,7 +25,7 @@ use Rattle.rg_recover.specs.Ready.{IsReadyRun, begun_by}
 use Rattle.rg_recover.specs.Ran.{HasFinished}
 use Rattle.rg_run.specs.declared.fault.RunFault.{RunFault}
 use Rattle.rg_run.specs.declared.fault.RunFault.TheVariants as run
-use Rattle.rg_course.specs.Accepted.{events_after}
+use Rattle.rg_run_spec.specs.Accepted.{events_after}
 use Rattle.rg_host.specs.EffectLaws.{now_may_leave}
 use Rattle.rg_host.specs.Effects.{now_after}
 use Rattle.std.proofs.lemmas.Result.{on_ok_weaker}

@@ -13,7 +13,7 @@ use Rattle.rg_state.specs.Rows.{Cells}
 use Rattle.rg_reservoir.specs.Attached.{IsIllegalOpened}
 use Rattle.rg_reservoir.specs.Chain.{IsIllegalBy}
 use Rattle.rg_reservoir.specs.Kept.{base, view_of}
-use Rattle.rg_course.specs.Stores.{StaysOnCourse, StaysOnCourseSince}
+use Rattle.rg_run_spec.specs.Stores.{StaysOnCourse, StaysOnCourseSince}
 use Rattle.rg_open.specs.Stores.{store_of}
 use Rattle.rg_open.specs.Within.{IsWithinOpening}
 use Rattle.rg_recover.specs.Sessions.{Sitting, events_of, stored_of}

@@ -7,7 +7,7 @@ use Rattle.rg_state.specs.Changes.{Marks, IsSince}
 use Rattle.rg_state.specs.Rows.{Cells}
 use Rattle.rg_reservoir.specs.Kept.{base, opened}
 use Rattle.rg_reservoir.specs.declared.reservoir.Reservoir.{Reservoir}
-use Rattle.rg_course.specs.Steps.{IsStepped}
+use Rattle.rg_run_spec.specs.Steps.{IsStepped}
 use Rattle.rg_open.specs.Stores.{store_of}
 use Rattle.rg_open.specs.Opened.{IsKeptInSlot}
 use Rattle.rg_recover.specs.Sessions.{Sitting, HasKept, IsReady, IsRunning, count_in}

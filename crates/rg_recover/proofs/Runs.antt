@@ -6,7 +6,7 @@ use Rattle.rg_host.specs.Image.{Image}
 use Rattle.rg_host.specs.Moments.{Moment, Moments}
 use Rattle.rg_host.proofs.Runs.{moments-none}
 use Rattle.rg_config.specs.Plans.{Planned}
-use Rattle.rg_course.specs.Stores.{StaysOnCourseSince}
+use Rattle.rg_run_spec.specs.Stores.{StaysOnCourseSince}
 use Rattle.rg_open.specs.Stores.{store_of}
 use Rattle.rg_run.specs.Begun.{Begun, course_for}
 use Rattle.rg_recover.specs.Ready.{IsReadyRun, begun_by}

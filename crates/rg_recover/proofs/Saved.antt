@@ -22,8 +22,8 @@ use Rattle.rg_checkpoint.specs.declared.base.Checkpoint.{Checkpoint}
 use Rattle.rg_checkpoint.specs.declared.sizes.SlotSizes.{SlotSizes}
 use Rattle.rg_reservoir.specs.Kept.{base, opened, all_events, Spells}
 use Rattle.rg_restore.specs.Truthful.{StandsFor, EngineStands}
-use Rattle.rg_course.specs.Stores.{Store}
-use Rattle.rg_course.specs.Steps.{IsMidStep, IsStepped, IsSavedTo}
+use Rattle.rg_run_spec.specs.Stores.{Store}
+use Rattle.rg_run_spec.specs.Steps.{IsMidStep, IsStepped, IsSavedTo}
 use Rattle.rg_open.specs.Stores.{store_of, HasSaved}
 use Rattle.rg_open.specs.Opened.{IsKeptSince, IsToExtend, IsToSave}
 use Rattle.rg_open.specs.Truth.{IsTrueOf, texts_of}

@@ -5,7 +5,7 @@ use Rattle.rg_host.specs.Image.{Image}
 use Rattle.rg_host.specs.Moments.{Moment, LeavesAll}
 use Rattle.rg_host.proofs.Runs.{leaves_all-none}
 use Rattle.rg_event.specs.declared.event.Event.{Event}
-use Rattle.rg_course.specs.Stores.{Store}
+use Rattle.rg_run_spec.specs.Stores.{Store}
 use Rattle.rg_open.specs.Stores.{store_of}
 use Rattle.rg_reservoir.specs.Kept.{Base, base, view_of, opened, room_of, cache_of, stored, all_events}
 use Rattle.rg_reservoir.specs.GoingLaws.{all_long}

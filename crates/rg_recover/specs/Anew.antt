@@ -2,8 +2,8 @@
 use Rattle.std.specs.Prelude.{◌≡◌, ◌≤◌, ◌^◌, ℕ, List, [], length, Option, Some, ⊤}
 use Rattle.rg_host.specs.Lines.{ended, lines_of}
 use Rattle.rg_config.specs.Plans.{Planned}
-use Rattle.rg_course.specs.Accepted.{events_after}
-use Rattle.rg_course.specs.Output.{text_of_run}
+use Rattle.rg_run_spec.specs.Accepted.{events_after}
+use Rattle.rg_run_spec.specs.Output.{text_of_run}
 use Rattle.rg_task.specs.Terms.{terms_of}
 use Rattle.rg_run.specs.declared.fault.RunFault.{RunFault}
 use Rattle.rg_run.specs.declared.fault.RunFault.TheVariants as run

@@ -10,7 +10,7 @@ use Rattle.rg_config.specs.Plans.{Planned}
 use Rattle.rg_reservoir.specs.Kept.{base, time_of}
 use Rattle.rg_reservoir.specs.declared.reservoir.Reservoir.{Reservoir}
 use Rattle.rg_row.specs.Rows.{row_of}
-use Rattle.rg_course.specs.Verdicts.{Verdict, refused, accepted, moved, verdict_of, or_reply}
+use Rattle.rg_run_spec.specs.Verdicts.{Verdict, refused, accepted, moved, verdict_of, or_reply}
 use Rattle.rg_recover.specs.Sessions.{count_in}
 use Rattle.rg_recover.specs.declared.line.Decision.{Decision}
 use Rattle.rg_recover.specs.declared.line.Decision.TheVariants.{Refused, Accepted}

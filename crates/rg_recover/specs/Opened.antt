@@ -13,7 +13,7 @@ use Rattle.rg_state.specs.Rows.{Cells}
 use Rattle.rg_reservoir.specs.Attached.{OpensView, IsIllegalOpened}
 use Rattle.rg_reservoir.specs.Kept.{base, view_of, log_of, next_of}
 use Rattle.rg_checkpoint.specs.Slots.{ReachesSlots}
-use Rattle.rg_course.specs.Steps.{IsAtRest}
+use Rattle.rg_run_spec.specs.Steps.{IsAtRest}
 use Rattle.rg_open.specs.Stores.{store_of, Has}
 use Rattle.rg_open.specs.Blame.{IsBlamed, NodeRuns, IsPlaced}
 use Rattle.rg_open.specs.Opening.{IsOpenable, IsFromIn}

@@ -3,8 +3,8 @@ use Rattle.std.specs.Prelude.{◌≡◌, ◌⊎◌, ℕ, List, [], Option, Some,
 use Rattle.rg_host.specs.Image.{Image}
 use Rattle.rg_host.specs.Moments.{Moment, Moments}
 use Rattle.rg_config.specs.Plans.{Planned}
-use Rattle.rg_course.specs.Stores.{Course, IsKeptInStore, StaysOnCourseSince}
-use Rattle.rg_course.specs.Turns.{IsDone, IsStopped}
+use Rattle.rg_run_spec.specs.Stores.{Course, IsKeptInStore, StaysOnCourseSince}
+use Rattle.rg_run_spec.specs.Turns.{IsDone, IsStopped}
 use Rattle.rg_open.specs.Stores.{store_of}
 use Rattle.rg_open.specs.Opening.{IsFromIn}
 use Rattle.rg_run.specs.Begun.{Begun, course_for}

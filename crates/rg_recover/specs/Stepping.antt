@@ -4,8 +4,8 @@ use Rattle.std.specs.Option.{ForSome}
 use Rattle.rg_host.specs.Image.{Image}
 use Rattle.rg_host.specs.Moments.{Moment, Moments}
 use Rattle.rg_event.specs.declared.event.Event.{Event}
-use Rattle.rg_course.specs.Stores.{Store}
-use Rattle.rg_course.specs.Steps.{IsMidStep, IsStepped}
+use Rattle.rg_run_spec.specs.Stores.{Store}
+use Rattle.rg_run_spec.specs.Steps.{IsMidStep, IsStepped}
 
 module _ {H : Type 0} (may : H → Image → Type 0) (clock : H → ℕ) (since : H → ℕ → Moment → Type 0) (said : H → Option (List ℕ)) where
   -- From old to new nothing was put, and each image of a moment, and each that is left, is one within a step that stores this chunk.

@@ -13,7 +13,7 @@ ghost use Rattle.rg_row.specs.Rows.{row_of};
 ghost use Rattle.rg_reservoir.specs.Chain.{IsIllegalBy};
 ghost use Rattle.rg_reservoir.specs.Kept.{base, view_of, opened, room_of, cache_of, log_of, next_of, time_of};
 ghost use Rattle.rg_state.specs.Keeping.{TableKept};
-ghost use Rattle.rg_course.specs.Verdicts.{accepted_after, fault_reply, or_reply, reply_of, verdict_of};
+ghost use Rattle.rg_run_spec.specs.Verdicts.{accepted_after, fault_reply, or_reply, reply_of, verdict_of};
 ghost use Rattle.rg_open.specs.Stores.{store_of};
 ghost use Rattle.rg_open.specs.Blame.{NodeRuns, IsPlaced};
 ghost use Rattle.rg_recover.specs.Deciding.{verdict_on, as_verdict, answered_as, AreBefore, Follows, IfAccepted, HasAnswers};

@@ -16,7 +16,7 @@ use Rattle.rg_engine.specs.Carrying.{CarriesOn, EdgesMove}
 use Rattle.rg_engine.specs.Feeding.{IsFed}
 use Rattle.rg_engine.specs.Standing.{NodeStands}
 use Rattle.rg_engine.proofs.Taken.{all_told}
-use Rattle.rg_shown.specs.Shows.{IsSoundFront, SpellsFront}
+use Rattle.rg_past_prefix.specs.Shows.{IsSoundFront, SpellsFront}
 use Rattle.rg_replay.specs.Going.{Replays, IsOutside}
 
 pub within_more : (spots : List Spot) (fewer more : ℕ) → fewer ≤ more → AreWithin spots fewer → AreWithin spots more

@@ -10,12 +10,12 @@ use Rattle.rg_metric.specs.declared.answer.Answer.{Answer}
 use Rattle.rg_reply.specs.declared.reply.Reply.{Reply}
 use Rattle.rg_reply.specs.declared.reply.Reply.TheVariants.{Late, Full, Answered, Moved}
 use Rattle.rg_reply.specs.Texts.{answers_text, reply_line}
-use Rattle.rg_course.specs.declared.control.Control.{Control}
-use Rattle.rg_course.specs.Verdicts.{Basis, Verdict, control_at, verdict_of, obeyed_or, line_verdict, read_as}
-use Rattle.rg_course.specs.Verdicts.Verdict.{refused, obeyed, accepted, moved}
-use Rattle.rg_course.specs.Accepted.{verdict_from, after_turn, events_before, events_after}
-use Rattle.rg_course.specs.Output.{Terms, turn_lines}
-use Rattle.rg_course.proofs.Events.{read_fits}
+use Rattle.rg_run_spec.specs.declared.control.Control.{Control}
+use Rattle.rg_run_spec.specs.Verdicts.{Basis, Verdict, control_at, verdict_of, obeyed_or, line_verdict, read_as}
+use Rattle.rg_run_spec.specs.Verdicts.Verdict.{refused, obeyed, accepted, moved}
+use Rattle.rg_run_spec.specs.Accepted.{verdict_from, after_turn, events_before, events_after}
+use Rattle.rg_run_spec.specs.Output.{Terms, turn_lines}
+use Rattle.rg_run_spec.proofs.Events.{read_fits}
 use Rattle.rg_replay.specs.Replay.{replay_lines, line_from}
 use Rattle.rg_replay.specs.Runs.{with_ok, reply_if, answered_at, answered_before, where_from, answered_from}
 use Rattle.rg_replay.proofs.Lines.{lines_push, line_kept, none_before, below_next}

@@ -2,8 +2,8 @@
 use Rattle.std.proofs.Common.{◌≡◌, ◌∙◌, ℕ, List, [], ◌∷◌, ◌++◌, Option, ap, append_assoc}
 use Rattle.rg_event.specs.declared.event.Event.{Event}
 use Rattle.rg_event.specs.Rising.{next_offset, IsRising}
-use Rattle.rg_course.specs.Accepted.{events_before}
-use Rattle.rg_course.specs.Output.{Terms}
+use Rattle.rg_run_spec.specs.Accepted.{events_before}
+use Rattle.rg_run_spec.specs.Output.{Terms}
 use Rattle.rg_replay.specs.Replay.{replay_lines, end_line, replay_text}
 use Rattle.rg_replay.specs.Runs.{answered_before, answered_from, text_of_left}
 use Rattle.rg_replay.proofs.Runs.{same_as_run, same_from}

@@ -2,10 +2,10 @@
 use Rattle.std.specs.Prelude.{ℕ, zero, suc, ◌+◌, nat_le, List, [], ◌∷◌, ◌++◌, length, drop, codes, decimal, get_or, Option, Some, None, if◌then◌else◌}
 use Rattle.rg_event.specs.declared.event.Event.{Event}
 use Rattle.rg_event.specs.Rising.{next_offset}
-use Rattle.rg_course.specs.Verdicts.{Verdict}
-use Rattle.rg_course.specs.Verdicts.Verdict.{accepted, moved}
-use Rattle.rg_course.specs.Accepted.{verdict_from, events_before}
-use Rattle.rg_course.specs.Output.{Terms, put_at}
+use Rattle.rg_run_spec.specs.Verdicts.{Verdict}
+use Rattle.rg_run_spec.specs.Verdicts.Verdict.{accepted, moved}
+use Rattle.rg_run_spec.specs.Accepted.{verdict_from, events_before}
+use Rattle.rg_run_spec.specs.Output.{Terms, put_at}
 use Rattle.rg_replay.specs.Replay.{replay_lines, end_line}
 
 -- the line of a reply that begins with the word `moved`, with `ok` in place of it

@@ -1,8 +1,8 @@
 ghost use Rattle.std.specs.Prelude.{◌≡◌, ℕ, List, [], Option, length};
 ghost use Rattle.rg_event.specs.declared.event.Event.{Event};
 ghost use Rattle.rg_event.specs.Rising.{next_offset, IsRising};
-ghost use Rattle.rg_course.specs.Accepted.{events_before, events_after};
-ghost use Rattle.rg_course.specs.Output.{Terms};
+ghost use Rattle.rg_run_spec.specs.Accepted.{events_before, events_after};
+ghost use Rattle.rg_run_spec.specs.Output.{Terms};
 ghost use Rattle.rg_replay.specs.Replay.{replay_lines};
 ghost use Rattle.rg_replay.specs.Runs.{answered_before};
 

@@ -12,7 +12,7 @@ use rg_engine::{Engine, EngineFault};
 use rg_event::{Event, Steps};
 use rg_metric::Answers;
 use rg_past::{Past, Spot};
-use rg_shown::Shown;
+use rg_past_prefix::Shown;
 use rg_state::Table;
 use std::alloc::Global;
 use std::sync::ledger::Ledger;

@@ -1,8 +1,8 @@
 ghost use Rattle.std.specs.Prelude.{◌≡◌, ℕ, List, [], ◌∷◌, ◌++◌, Option};
 ghost use Rattle.rg_event.specs.declared.event.Event.{Event};
 ghost use Rattle.rg_event.specs.Rising.{next_offset, IsRising};
-ghost use Rattle.rg_course.specs.Accepted.{events_before};
-ghost use Rattle.rg_course.specs.Output.{Terms};
+ghost use Rattle.rg_run_spec.specs.Accepted.{events_before};
+ghost use Rattle.rg_run_spec.specs.Output.{Terms};
 ghost use Rattle.rg_replay.specs.Replay.{end_line, replay_text};
 ghost use Rattle.rg_replay.specs.Runs.{answered_before, text_of_left};
 

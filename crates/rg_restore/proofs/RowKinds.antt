@@ -13,7 +13,7 @@ use Rattle.rg_event.specs.declared.value.Kind.{Kind}
 use Rattle.rg_event.specs.declared.value.Kind.TheVariants.{Int as IntKind, Id as IdKind, Text as TextKind, Flag as FlagKind}
 use Rattle.rg_event.specs.declared.value.Value.{Value}
 use Rattle.rg_event.specs.declared.value.Value.TheVariants.{Int, Id, Text, Flag}
-use Rattle.rg_words.specs.declared.func.Func.TheVariants.{Count}
+use Rattle.rg_keywords.specs.declared.func.Func.TheVariants.{Count}
 use Rattle.rg_metric.specs.Same.{same_value}
 use Rattle.rg_metric.specs.declared.query.Agg.{Agg}
 use Rattle.rg_metric.proofs.Same.{same_value-same}

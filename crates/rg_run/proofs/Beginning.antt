@@ -12,14 +12,14 @@ use Rattle.rg_event.specs.Rising.{next_offset}
 use Rattle.rg_config.specs.Plans.{Planned}
 use Rattle.rg_reply.specs.Texts.{mark_line}
 use Rattle.rg_reply.specs.declared.mark.Mark.TheVariants.{Opened}
-use Rattle.rg_course.specs.Output.{open_line, out}
-use Rattle.rg_course.specs.Stores.{StaysOnCourse}
-use Rattle.rg_course.specs.Turns.{IsBetween}
-use Rattle.rg_course.proofs.Betweens.{between_first}
-use Rattle.rg_course.proofs.Courses.{on_course_put}
-use Rattle.rg_course.proofs.Hosts.{part_way_more, put as putting}
-use Rattle.rg_course.proofs.Marking.{open_marks}
-use Rattle.rg_course.proofs.Texts.{mark_no_lf}
+use Rattle.rg_run_spec.specs.Output.{open_line, out}
+use Rattle.rg_run_spec.specs.Stores.{StaysOnCourse}
+use Rattle.rg_run_spec.specs.Turns.{IsBetween}
+use Rattle.rg_run_spec.proofs.Betweens.{between_first}
+use Rattle.rg_run_spec.proofs.Courses.{on_course_put}
+use Rattle.rg_run_spec.proofs.Hosts.{part_way_more, put as putting}
+use Rattle.rg_run_spec.proofs.Marking.{open_marks}
+use Rattle.rg_run_spec.proofs.Texts.{mark_no_lf}
 use Rattle.rg_task.specs.Terms.{terms_of}
 use Rattle.rg_run.specs.Turning.{IsAwaiting}
 use Rattle.rg_run.proofs.Gathering.{between_at, put_apart}

@@ -9,20 +9,20 @@ use Rattle.rg_host.proofs.Runs.{moments_then}
 use Rattle.rg_event.specs.declared.event.Event.{Event}
 use Rattle.rg_event.specs.Rising.{next_offset}
 use Rattle.rg_config.specs.Plans.{Planned}
-use Rattle.rg_course.specs.Output.{end_lines}
-use Rattle.rg_course.specs.Laws.{IsPrefixOf}
-use Rattle.rg_course.specs.Stores.{Course, StaysOnCourse}
-use Rattle.rg_course.specs.Steps.{IsAtRest, IsMidStep, MarksHold}
-use Rattle.rg_course.specs.Turns.{IsBetween, IsDone}
-use Rattle.rg_course.proofs.Betweens.{between_done, events_begin, near_end}
-use Rattle.rg_course.proofs.Courses.{on_course_put}
-use Rattle.rg_course.proofs.Hosts.{told_moments, part_way_more, put as putting}
-use Rattle.rg_course.proofs.Keeping.{after_step}
-use Rattle.rg_course.proofs.Marking.{end_marks}
-use Rattle.rg_course.proofs.Prefixes.{prefix_then}
-use Rattle.rg_course.proofs.Runs.{end_stopped}
-use Rattle.rg_course.proofs.Texts.{end_are_lines}
-use Rattle.rg_course.proofs.Turns.{Stopped}
+use Rattle.rg_run_spec.specs.Output.{end_lines}
+use Rattle.rg_run_spec.specs.Laws.{IsPrefixOf}
+use Rattle.rg_run_spec.specs.Stores.{Course, StaysOnCourse}
+use Rattle.rg_run_spec.specs.Steps.{IsAtRest, IsMidStep, MarksHold}
+use Rattle.rg_run_spec.specs.Turns.{IsBetween, IsDone}
+use Rattle.rg_run_spec.proofs.Betweens.{between_done, events_begin, near_end}
+use Rattle.rg_run_spec.proofs.Courses.{on_course_put}
+use Rattle.rg_run_spec.proofs.Hosts.{told_moments, part_way_more, put as putting}
+use Rattle.rg_run_spec.proofs.Keeping.{after_step}
+use Rattle.rg_run_spec.proofs.Marking.{end_marks}
+use Rattle.rg_run_spec.proofs.Prefixes.{prefix_then}
+use Rattle.rg_run_spec.proofs.Runs.{end_stopped}
+use Rattle.rg_run_spec.proofs.Texts.{end_are_lines}
+use Rattle.rg_run_spec.proofs.Turns.{Stopped}
 use Rattle.rg_run.specs.Due.{last_lines}
 use Rattle.rg_task.specs.Stepping.{IsWithinStep, IsStored, IsAllSaved}
 use Rattle.rg_task.specs.Terms.{terms_of}

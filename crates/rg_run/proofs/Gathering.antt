@@ -13,17 +13,17 @@ use Rattle.rg_event.specs.declared.event.Event.{Event}
 use Rattle.rg_reply.specs.Texts.{mark_line}
 use Rattle.rg_reply.specs.declared.mark.Mark.TheVariants.{Stored, Saved}
 use Rattle.rg_config.specs.Plans.{Planned}
-use Rattle.rg_course.specs.Output.{Terms}
-use Rattle.rg_course.specs.Ahead.{out_from}
-use Rattle.rg_course.specs.Laws.{IsPrefixOf}
-use Rattle.rg_course.specs.Pieces.{whole_pieces, AreLines}
-use Rattle.rg_course.specs.Stores.{Store, Course, IsNear, IsKeptInStore, StaysOnCourse}
-use Rattle.rg_course.specs.Steps.{IsAtRest, MarksHold}
-use Rattle.rg_course.specs.Turns.{IsBetween}
-use Rattle.rg_course.proofs.Hosts.{put as putting}
-use Rattle.rg_course.proofs.Keeping.{rest_fewer, rest_kept, rest_more, marks_prefix}
-use Rattle.rg_course.proofs.Steps.{Item}
-use Rattle.rg_course.proofs.Texts.{are-append, pieces_then, pieces_prefix}
+use Rattle.rg_run_spec.specs.Output.{Terms}
+use Rattle.rg_run_spec.specs.Ahead.{out_from}
+use Rattle.rg_run_spec.specs.Laws.{IsPrefixOf}
+use Rattle.rg_run_spec.specs.Pieces.{whole_pieces, AreLines}
+use Rattle.rg_run_spec.specs.Stores.{Store, Course, IsNear, IsKeptInStore, StaysOnCourse}
+use Rattle.rg_run_spec.specs.Steps.{IsAtRest, MarksHold}
+use Rattle.rg_run_spec.specs.Turns.{IsBetween}
+use Rattle.rg_run_spec.proofs.Hosts.{put as putting}
+use Rattle.rg_run_spec.proofs.Keeping.{rest_fewer, rest_kept, rest_more, marks_prefix}
+use Rattle.rg_run_spec.proofs.Steps.{Item}
+use Rattle.rg_run_spec.proofs.Texts.{are-append, pieces_then, pieces_prefix}
 use Rattle.rg_task.specs.State.{State}
 use Rattle.rg_task.specs.Terms.{terms_of}
 use Rattle.rg_task.specs.View.{View, Keeps}

@@ -3,9 +3,9 @@ use Rattle.std.proofs.Common.{◌≡◌, ℕ, List, [], ◌++◌, Option, sym, �
 use Rattle.rg_host.specs.Moments.{Moments, LeavesAll}
 use Rattle.rg_event.specs.declared.event.Event.{Event}
 use Rattle.rg_config.specs.Plans.{Planned}
-use Rattle.rg_course.specs.Stores.{Course, StaysOnCourse}
-use Rattle.rg_course.specs.Turns.{IsBetween}
-use Rattle.rg_course.proofs.Steps.{Item}
+use Rattle.rg_run_spec.specs.Stores.{Course, StaysOnCourse}
+use Rattle.rg_run_spec.specs.Turns.{IsBetween}
+use Rattle.rg_run_spec.proofs.Steps.{Item}
 use Rattle.rg_task.specs.Terms.{terms_of}
 use Rattle.rg_task.specs.View.{View}
 use Rattle.rg_run.specs.Turning.{IsGathered, IsAwaiting, IsHeld}

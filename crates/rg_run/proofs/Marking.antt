@@ -7,10 +7,10 @@ use Rattle.rg_reply.specs.declared.reply.Reply.{Reply}
 use Rattle.rg_reply.specs.declared.reply.Reply.TheVariants.{Late, Full}
 use Rattle.rg_reply.specs.Texts.{mark_line}
 use Rattle.rg_reply.specs.declared.mark.Mark.TheVariants.{Stored, Saved}
-use Rattle.rg_course.specs.declared.control.Control.TheVariants as control
-use Rattle.rg_course.specs.Verdicts.{Verdict, accepted_after, verdict_of}
-use Rattle.rg_course.specs.Verdicts.Verdict.{refused, obeyed, accepted, moved}
-use Rattle.rg_course.specs.Output.{Terms, is_every, is_saved, is_stored, stores, saves, line_where, marks_of}
+use Rattle.rg_run_spec.specs.declared.control.Control.TheVariants as control
+use Rattle.rg_run_spec.specs.Verdicts.{Verdict, accepted_after, verdict_of}
+use Rattle.rg_run_spec.specs.Verdicts.Verdict.{refused, obeyed, accepted, moved}
+use Rattle.rg_run_spec.specs.Output.{Terms, is_every, is_saved, is_stored, stores, saves, line_where, marks_of}
 use Rattle.rg_run.specs.declared.due.Due.{Due}
 use Rattle.rg_run.specs.declared.due.Due.TheVariants.{Nothing, Commit, Save}
 use Rattle.rg_run.specs.Due.{is_due, due_for, marks_for}

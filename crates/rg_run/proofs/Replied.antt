@@ -11,16 +11,16 @@ use Rattle.rg_reply.specs.declared.reply.Reply.TheVariants.{Done}
 use Rattle.rg_config.specs.Plans.{Planned}
 use Rattle.rg_row.specs.Rows.{row_of}
 use Rattle.rg_reply.specs.Texts.{reply_line}
-use Rattle.rg_course.specs.declared.control.Control.{Control}
-use Rattle.rg_course.specs.Verdicts.{Verdict, accepted_after, control_at, read_as, or_reply, obeyed_or, reply_of, verdict_of, line_verdict}
-use Rattle.rg_course.specs.Verdicts.Verdict.{refused, obeyed}
-use Rattle.rg_course.specs.Accepted.{after_turn}
-use Rattle.rg_course.specs.Ahead.{after_line, lines_for}
-use Rattle.rg_course.specs.Stores.{Course, StaysOnCourse}
-use Rattle.rg_course.specs.Steps.{MarksHold}
-use Rattle.rg_course.proofs.Betweens.{between_passed}
-use Rattle.rg_course.proofs.Lines.{looked_at}
-use Rattle.rg_course.proofs.Steps.{Item, passed_over}
+use Rattle.rg_run_spec.specs.declared.control.Control.{Control}
+use Rattle.rg_run_spec.specs.Verdicts.{Verdict, accepted_after, control_at, read_as, or_reply, obeyed_or, reply_of, verdict_of, line_verdict}
+use Rattle.rg_run_spec.specs.Verdicts.Verdict.{refused, obeyed}
+use Rattle.rg_run_spec.specs.Accepted.{after_turn}
+use Rattle.rg_run_spec.specs.Ahead.{after_line, lines_for}
+use Rattle.rg_run_spec.specs.Stores.{Course, StaysOnCourse}
+use Rattle.rg_run_spec.specs.Steps.{MarksHold}
+use Rattle.rg_run_spec.proofs.Betweens.{between_passed}
+use Rattle.rg_run_spec.proofs.Lines.{looked_at}
+use Rattle.rg_run_spec.proofs.Steps.{Item, passed_over}
 use Rattle.rg_run.specs.declared.due.Due.{Due}
 use Rattle.rg_run.specs.declared.due.Due.TheVariants.{Nothing}
 use Rattle.rg_run.specs.Due.{is_due, due_for, marks_for}

@@ -9,23 +9,23 @@ use Rattle.rg_event.specs.declared.event.Event.{Event}
 use Rattle.rg_event.specs.Rising.{next_offset}
 use Rattle.rg_reply.specs.declared.reply.Reply.{Reply}
 use Rattle.rg_config.specs.Plans.{Planned}
-use Rattle.rg_course.specs.declared.control.Control.{Control}
-use Rattle.rg_course.specs.Verdicts.{Verdict, accepted_after, read_as, verdict_of, obeyed_or, line_verdict}
-use Rattle.rg_course.specs.Accepted.{after_turn, verdict_from}
-use Rattle.rg_course.specs.Ahead.{after_line, lines_for}
-use Rattle.rg_course.specs.Laws.{IsPrefixOf}
-use Rattle.rg_course.specs.Stores.{Course}
-use Rattle.rg_course.specs.Steps.{IsAtRest, IsMidStep, MarksHold}
-use Rattle.rg_course.specs.Turns.{IsBetween}
-use Rattle.rg_course.proofs.Betweens.{between_next, events_begin, near_next}
-use Rattle.rg_course.proofs.Folds.{grown}
-use Rattle.rg_course.proofs.Hosts.{told_moments}
-use Rattle.rg_course.proofs.Keeping.{after_step}
-use Rattle.rg_course.proofs.Lines.{looked_at}
-use Rattle.rg_course.proofs.Prefixes.{prefix_then}
-use Rattle.rg_course.proofs.Steps.{Item}
-use Rattle.rg_course.proofs.Texts.{are-append, turn_are_lines}
-use Rattle.rg_course.proofs.Turns.{Stopped, step_stopped}
+use Rattle.rg_run_spec.specs.declared.control.Control.{Control}
+use Rattle.rg_run_spec.specs.Verdicts.{Verdict, accepted_after, read_as, verdict_of, obeyed_or, line_verdict}
+use Rattle.rg_run_spec.specs.Accepted.{after_turn, verdict_from}
+use Rattle.rg_run_spec.specs.Ahead.{after_line, lines_for}
+use Rattle.rg_run_spec.specs.Laws.{IsPrefixOf}
+use Rattle.rg_run_spec.specs.Stores.{Course}
+use Rattle.rg_run_spec.specs.Steps.{IsAtRest, IsMidStep, MarksHold}
+use Rattle.rg_run_spec.specs.Turns.{IsBetween}
+use Rattle.rg_run_spec.proofs.Betweens.{between_next, events_begin, near_next}
+use Rattle.rg_run_spec.proofs.Folds.{grown}
+use Rattle.rg_run_spec.proofs.Hosts.{told_moments}
+use Rattle.rg_run_spec.proofs.Keeping.{after_step}
+use Rattle.rg_run_spec.proofs.Lines.{looked_at}
+use Rattle.rg_run_spec.proofs.Prefixes.{prefix_then}
+use Rattle.rg_run_spec.proofs.Steps.{Item}
+use Rattle.rg_run_spec.proofs.Texts.{are-append, turn_are_lines}
+use Rattle.rg_run_spec.proofs.Turns.{Stopped, step_stopped}
 use Rattle.rg_task.specs.Stepping.{IsWithinStep, IsStored}
 use Rattle.rg_task.specs.Terms.{terms_of, verdict_on}
 use Rattle.rg_task.specs.View.{View}

@@ -11,13 +11,13 @@ use Rattle.rg_host.specs.declared.lines.LineFault.{LineFault}
 use Rattle.rg_host.specs.declared.lines.LineFault.TheVariants as reading
 use Rattle.rg_event.specs.declared.event.Event.{Event}
 use Rattle.rg_config.specs.Plans.{Planned}
-use Rattle.rg_course.specs.Accepted.{events_after}
-use Rattle.rg_course.specs.Ahead.{after_line, out_from}
-use Rattle.rg_course.specs.Output.{open_line, put_before, out}
-use Rattle.rg_course.specs.Stores.{StaysOnCourse}
-use Rattle.rg_course.specs.Turns.{IsDone}
-use Rattle.rg_course.proofs.Courses.{stopped_at_rest}
-use Rattle.rg_course.proofs.Whole.{accepted_more, out_more}
+use Rattle.rg_run_spec.specs.Accepted.{events_after}
+use Rattle.rg_run_spec.specs.Ahead.{after_line, out_from}
+use Rattle.rg_run_spec.specs.Output.{open_line, put_before, out}
+use Rattle.rg_run_spec.specs.Stores.{StaysOnCourse}
+use Rattle.rg_run_spec.specs.Turns.{IsDone}
+use Rattle.rg_run_spec.proofs.Courses.{stopped_at_rest}
+use Rattle.rg_run_spec.proofs.Whole.{accepted_more, out_more}
 use Rattle.rg_task.specs.declared.fault.TaskFault.TheVariants as task
 use Rattle.rg_run.specs.declared.fault.TurnFault.{TurnFault}
 use Rattle.rg_run.specs.declared.fault.TurnFault.TheVariants as turn

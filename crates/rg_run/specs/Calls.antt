@@ -4,7 +4,7 @@ use Rattle.rg_bytes.specs.Counts.{Rose}
 use Rattle.rg_host.specs.Moments.{Moments, LeavesFiles}
 use Rattle.rg_host.specs.Puts.{IsPrefix, Puts}
 use Rattle.rg_config.specs.Plans.{Planned}
-use Rattle.rg_course.specs.Stores.{Course, StaysOnCourse}
+use Rattle.rg_run_spec.specs.Stores.{Course, StaysOnCourse}
 use Rattle.rg_task.specs.View.{View, Keeps}
 use Rattle.rg_task.specs.declared.fault.TaskFault.TheVariants as task
 use Rattle.rg_run.specs.Turning.{IsAwaiting, IsMidTurn, IsHeld, HasStopped, HasWay, IsDueDone}

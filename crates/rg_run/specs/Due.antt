@@ -2,9 +2,9 @@
 use Rattle.std.specs.Prelude.{ℕ, nat_le, List, [], ◌∷◌, if◌then◌else◌}
 use Rattle.rg_reply.specs.Texts.{mark_line}
 use Rattle.rg_reply.specs.declared.mark.Mark.TheVariants.{Stored, Saved, Finished}
-use Rattle.rg_course.specs.Output.{is_every}
-use Rattle.rg_course.specs.declared.control.Control.{Control}
-use Rattle.rg_course.specs.declared.control.Control.TheVariants as control
+use Rattle.rg_run_spec.specs.Output.{is_every}
+use Rattle.rg_run_spec.specs.declared.control.Control.{Control}
+use Rattle.rg_run_spec.specs.declared.control.Control.TheVariants as control
 use Rattle.rg_run.specs.declared.due.Due.{Due}
 use Rattle.rg_run.specs.declared.due.Due.TheVariants.{Nothing, Commit, Save}
 

@@ -5,7 +5,7 @@ use Rattle.rg_host.specs.Lines.{HasNoLf}
 use Rattle.rg_host.specs.Moments.{Moments}
 use Rattle.rg_host.specs.Reading.{Reading}
 use Rattle.rg_config.specs.Plans.{Planned}
-use Rattle.rg_course.specs.Stores.{StaysOnCourse}
+use Rattle.rg_run_spec.specs.Stores.{StaysOnCourse}
 use Rattle.rg_task.specs.View.{View, Keeps}
 use Rattle.rg_run.specs.Begun.{Begun, course_for}
 use Rattle.rg_run.specs.UnderWay.{IsUnderWay}

@@ -4,7 +4,7 @@ use Rattle.rg_bytes.specs.Counts.{Rose}
 use Rattle.rg_host.specs.Moments.{Moments}
 use Rattle.rg_host.specs.Reading.{Reading}
 use Rattle.rg_config.specs.Plans.{Planned}
-use Rattle.rg_course.specs.Stores.{StaysOnCourse}
+use Rattle.rg_run_spec.specs.Stores.{StaysOnCourse}
 use Rattle.rg_task.specs.View.{View}
 use Rattle.rg_run.specs.Turning.{HasStopped}
 use Rattle.rg_run.specs.Answered.{CountsGrow}

@@ -6,13 +6,13 @@ use Rattle.rg_event.specs.declared.event.Event.{Event}
 use Rattle.rg_config.specs.Plans.{Planned}
 use Rattle.rg_reply.specs.declared.reply.Reply.{Reply}
 use Rattle.rg_row.specs.Rows.{row_of}
-use Rattle.rg_course.specs.Verdicts.{Basis, control_at, read_as, or_reply}
-use Rattle.rg_course.specs.Ahead.{after_line}
-use Rattle.rg_course.specs.Laws.{IsPrefixOf}
-use Rattle.rg_course.specs.Pieces.{AreLines}
-use Rattle.rg_course.specs.Stores.{Course, IsNear, IsKeptInStore}
-use Rattle.rg_course.specs.Steps.{IsAtRest}
-use Rattle.rg_course.specs.Turns.{IsBetween, IsStopped}
+use Rattle.rg_run_spec.specs.Verdicts.{Basis, control_at, read_as, or_reply}
+use Rattle.rg_run_spec.specs.Ahead.{after_line}
+use Rattle.rg_run_spec.specs.Laws.{IsPrefixOf}
+use Rattle.rg_run_spec.specs.Pieces.{AreLines}
+use Rattle.rg_run_spec.specs.Stores.{Course, IsNear, IsKeptInStore}
+use Rattle.rg_run_spec.specs.Steps.{IsAtRest}
+use Rattle.rg_run_spec.specs.Turns.{IsBetween, IsStopped}
 use Rattle.rg_task.specs.Stepping.{IsAllSaved}
 use Rattle.rg_task.specs.Terms.{terms_of}
 use Rattle.rg_task.specs.View.{View}

@@ -5,11 +5,11 @@ use Rattle.rg_host.specs.Lines.{ended, whole_lines}
 use Rattle.rg_host.specs.Moments.{Moments}
 use Rattle.rg_host.specs.Reading.{Reading}
 use Rattle.rg_config.specs.Plans.{Planned}
-use Rattle.rg_course.specs.Accepted.{events_after}
-use Rattle.rg_course.specs.Ahead.{after_line}
-use Rattle.rg_course.specs.Output.{open_line, put_before}
-use Rattle.rg_course.specs.Stores.{Course, StaysOnCourse}
-use Rattle.rg_course.specs.Turns.{IsDone}
+use Rattle.rg_run_spec.specs.Accepted.{events_after}
+use Rattle.rg_run_spec.specs.Ahead.{after_line}
+use Rattle.rg_run_spec.specs.Output.{open_line, put_before}
+use Rattle.rg_run_spec.specs.Stores.{Course, StaysOnCourse}
+use Rattle.rg_run_spec.specs.Turns.{IsDone}
 use Rattle.rg_task.specs.Terms.{terms_of}
 use Rattle.rg_task.specs.View.{View}
 use Rattle.rg_task.specs.declared.fault.TaskFault.TheVariants as task

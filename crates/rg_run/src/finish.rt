@@ -3,8 +3,8 @@ ghost use Rattle.rg_bytes.specs.Counts.{Rose};
 ghost use Rattle.rg_host.specs.Image.{Image};
 ghost use Rattle.rg_host.specs.Moments.{Moments};
 ghost use Rattle.rg_config.specs.Plans.{Planned};
-ghost use Rattle.rg_course.specs.Stores.{Course, StaysOnCourse};
-ghost use Rattle.rg_course.specs.Turns.{IsDone};
+ghost use Rattle.rg_run_spec.specs.Stores.{Course, StaysOnCourse};
+ghost use Rattle.rg_run_spec.specs.Turns.{IsDone};
 ghost use Rattle.rg_run.specs.Turning.{IsAwaiting, HasStopped};
 
 use crate::fault::TurnFault;

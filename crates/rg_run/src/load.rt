@@ -3,7 +3,7 @@ ghost use Rattle.rg_run.specs.Calls.{Loads, Sustains, HasCause, FindsDamage};
 
 use crate::fault::TurnFault;
 use crate::gather::stop;
-use rg_course::Control;
+use rg_run_spec::Control;
 use rg_task::{Task, TaskFault};
 
 /// Loads ahead, where that is asked for. Each refusal but `Write` leaves whole lines put, and nothing gathered.

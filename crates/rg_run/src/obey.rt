@@ -3,9 +3,9 @@ ghost use Rattle.std.specs.Option.{ForSome};
 ghost use Rattle.rg_bytes.specs.Counts.{Rose};
 ghost use Rattle.rg_host.specs.Moments.{Moments};
 ghost use Rattle.rg_config.specs.Plans.{Planned};
-ghost use Rattle.rg_course.specs.Verdicts.{control_at};
-ghost use Rattle.rg_course.specs.Ahead.{after_line};
-ghost use Rattle.rg_course.specs.Stores.{Course, StaysOnCourse};
+ghost use Rattle.rg_run_spec.specs.Verdicts.{control_at};
+ghost use Rattle.rg_run_spec.specs.Ahead.{after_line};
+ghost use Rattle.rg_run_spec.specs.Stores.{Course, StaysOnCourse};
 ghost use Rattle.rg_run.specs.Due.{due_for};
 ghost use Rattle.rg_task.specs.Terms.{terms_of};
 ghost use Rattle.rg_run.specs.Turning.{IsAwaiting, HasStopped};
@@ -17,8 +17,8 @@ use crate::load::load;
 use crate::settle::settle;
 use crate::tell::tell;
 use crate::turning::Turning;
-use rg_course::Control;
 use rg_reply::Reply;
+use rg_run_spec::Control;
 use rg_task::{Task, TaskFault};
 
 /// What is done on the disk for a line that asks for this.

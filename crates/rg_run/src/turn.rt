@@ -12,10 +12,10 @@ use crate::ahead::stop_reading;
 use crate::fault::{RunFault, ended, input_fault, turned};
 use crate::turning::Turning;
 use rg_config::Plan;
-use rg_course::control_in;
 use rg_host::{Line, Lines, Source};
 use rg_reply::Reply;
 use rg_row::clean;
+use rg_run_spec::control_in;
 use rg_task::Task;
 
 /// Whether the line at this offset is the plan's header.

@@ -6,8 +6,8 @@ ghost use Rattle.rg_host.specs.Moments.{Moments};
 ghost use Rattle.rg_task.specs.View.{Keeps};
 ghost use Rattle.rg_config.specs.Plans.{Planned, planned};
 ghost use Rattle.rg_config.specs.Read.{IsReadPlan};
-ghost use Rattle.rg_course.specs.Ahead.{after_line};
-ghost use Rattle.rg_course.specs.Stores.{Course, StaysOnCourse};
+ghost use Rattle.rg_run_spec.specs.Ahead.{after_line};
+ghost use Rattle.rg_run_spec.specs.Stores.{Course, StaysOnCourse};
 ghost use Rattle.rg_task.specs.Terms.{terms_of};
 ghost use Rattle.rg_run.specs.Turning.{IsRow, IsRefused, IsAwaiting, HasStopped};
 

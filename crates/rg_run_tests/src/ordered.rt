@@ -1,7 +1,7 @@
 use crate::rows::{Row, assert_all};
 use rg_bytes::Memory;
 use rg_host::Host;
-use rg_real::{Access, FolderHost, Hold};
+use rg_os::{Access, FolderHost, Hold};
 use std::alloc::{Allocator, Global};
 use std::cell::RefCell;
 use std::fs::{File, Metadata, OpenFile, OpenOptions, TryLockError};

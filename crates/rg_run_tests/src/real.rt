@@ -3,7 +3,7 @@ ghost use Rattle.std.specs.Prelude.{◌<◌};
 use crate::rows::{Row, assert_all};
 use rg_bytes::Memory;
 use rg_host::{Failed, Host, Source};
-use rg_real::{Access, FileSource, FolderHost, ReaderSource};
+use rg_os::{Access, FileSource, FolderHost, ReaderSource};
 use std::io::{Read, Write};
 use std::os::unix::fs::symlink;
 use std::rt::Files;

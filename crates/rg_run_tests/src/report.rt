@@ -1,8 +1,8 @@
 use crate::rows::{Row, assert_all};
 use rg_bytes::Memory;
 use rg_config::{ConfigFault, DefaultsFault, QueryRefusal, SettingsFault};
+use rg_messages::{Refusal, Report, Status, TomlFault};
 use rg_query::QueryFault;
-use rg_report::{Refusal, Report, Status, TomlFault};
 use std::alloc::Global;
 use std::io;
 use std::test::Fail;

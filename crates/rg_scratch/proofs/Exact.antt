@@ -14,7 +14,7 @@ use Rattle.rg_event.specs.declared.value.Kind.{Kind}
 use Rattle.rg_event.specs.declared.value.Kind.TheVariants as kind
 use Rattle.rg_event.specs.declared.value.Value.{Value}
 use Rattle.rg_event.specs.declared.value.Value.TheVariants.{Int, Id, Text, Flag}
-use Rattle.rg_words.specs.declared.func.Func.TheVariants.{SumSq}
+use Rattle.rg_keywords.specs.declared.func.Func.TheVariants.{SumSq}
 use Rattle.rg_metric.specs.Answers.{number_of, numbers, total_of_squares}
 use Rattle.rg_metric.specs.Conditions.{value_in}
 use Rattle.rg_metric.specs.Queries.{Asked}

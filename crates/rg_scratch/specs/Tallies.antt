@@ -2,8 +2,8 @@
 use Rattle.std.specs.Prelude.{◌≡◌, ℕ, ℤ, List, [], ◌∷◌, length, Option, Some, None, ⊤, int_lt, if◌then◌else◌}
 use Rattle.std.specs.Int.{w128, int_wrap}
 use Rattle.rg_event.specs.declared.value.Value.{Value}
-use Rattle.rg_words.specs.declared.func.Func.{Func}
-use Rattle.rg_words.specs.declared.func.Func.TheVariants.{SumSq}
+use Rattle.rg_keywords.specs.declared.func.Func.{Func}
+use Rattle.rg_keywords.specs.declared.func.Func.TheVariants.{SumSq}
 use Rattle.rg_metric.specs.Answers.{numbers, total, total_of_squares, least, greatest, last_of}
 use Rattle.rg_scratch.specs.declared.tally.Ends.{Ends}
 

@@ -6,16 +6,16 @@ use Rattle.rg_event.specs.declared.value.Kind.{Kind}
 use Rattle.rg_event.specs.declared.value.Kind.TheVariants as kinds
 use Rattle.rg_event.specs.declared.value.Value.{Value}
 use Rattle.rg_event.specs.declared.value.Value.TheVariants.{Int, Id, Text, Flag}
-use Rattle.rg_words.specs.declared.func.Func.{Func}
-use Rattle.rg_words.specs.declared.func.Func.TheVariants.{Count}
+use Rattle.rg_keywords.specs.declared.func.Func.{Func}
+use Rattle.rg_keywords.specs.declared.func.Func.TheVariants.{Count}
 use Rattle.rg_agg.specs.Held.{Held, counted, summed, averaged, squared, queued, ended, lowest, highest, varied}
 use Rattle.rg_agg.specs.Standing.{func_of, AreThere, count_in, places}
 use Rattle.rg_agg.specs.Stands.{AreInts, last_behind, last_value}
 use Rattle.rg_agg.specs.Unbeaten.{is_less, is_greater, joined_to, unbeaten}
 use Rattle.rg_metric.specs.Same.{same_value}
 use Rattle.rg_metric.proofs.Same.{same_value-true, same_value-same}
-use Rattle.rg_tally.specs.Pairs.{once}
-use Rattle.rg_tally.proofs.Places.{places_first}
+use Rattle.rg_multiset.specs.Pairs.{once}
+use Rattle.rg_multiset.proofs.Places.{places_first}
 use Rattle.rg_state.specs.Rows.{RowStands}
 use Rattle.rg_state.specs.States.{HasKind, IsOfKind, IsFor}
 

@@ -4,7 +4,7 @@ use Rattle.std.specs.List.{refill, swap_remove}
 use Rattle.std.specs.Prelude.{Result}
 use Rattle.smallvec.proofs.SmallVecLemmas.{items-with_items}
 use Rattle.rg_event.specs.declared.value.Value.{Value}
-use Rattle.rg_words.specs.declared.func.Func.{Func}
+use Rattle.rg_keywords.specs.declared.func.Func.{Func}
 use Rattle.rg_state.specs.Kepts.{is_fair, are_sound}
 use Rattle.rg_state.specs.Stepping.{KeptStep, RowsStep}
 use Rattle.rg_state.specs.declared.key_rows.Kept.{Kept}

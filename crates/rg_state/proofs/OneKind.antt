@@ -10,7 +10,7 @@ use Rattle.rg_event.specs.declared.value.Value.TheVariants.{Int, Id}
 use Rattle.rg_agg.specs.Held.{is_like}
 use Rattle.rg_agg.specs.Standing.{first_kind, pairs_kind}
 use Rattle.rg_agg.specs.Stands.{is_int_or_id, all_like, are_alike}
-use Rattle.rg_tally.specs.Pairs.{AreAlike, AreOf}
+use Rattle.rg_multiset.specs.Pairs.{AreAlike, AreOf}
 use Rattle.rg_state.specs.Kinds.{IsSame}
 use Rattle.rg_state.specs.States.{HasKind}
 

@@ -9,9 +9,9 @@ use Rattle.rg_agg.proofs.Queues.{queued_reads_back}
 use Rattle.rg_agg.specs.Held.{varied}
 use Rattle.rg_bytes.specs.Reading.{and_then}
 use Rattle.rg_event.specs.Tagged.{IsLegal}
-use Rattle.rg_tally.specs.Reading.{any_value_at, is_before}
-use Rattle.rg_tally.specs.ValueLaws.{value_reads_back}
-use Rattle.rg_tally.proofs.ReadPairs.{tally_back}
+use Rattle.rg_multiset.specs.Reading.{any_value_at, is_before}
+use Rattle.rg_multiset.specs.ValueLaws.{value_reads_back}
+use Rattle.rg_multiset.proofs.ReadPairs.{tally_back}
 use Rattle.rg_extreme.specs.States.{pairs_in}
 use Rattle.rg_extreme.proofs.ReadExtremes.{highest_back, lowest_back}
 use Rattle.rg_state.specs.States.{held_of, state_at}

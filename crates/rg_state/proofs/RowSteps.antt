@@ -5,7 +5,7 @@ use Rattle.std.specs.List.{swap_remove}
 use Rattle.std.proofs.lemmas.Result.{on_err_weaker}
 use Rattle.rg_agg.specs.Held.{Held}
 use Rattle.rg_event.specs.declared.value.Value.{Value}
-use Rattle.rg_words.specs.declared.func.Func.{Func}
+use Rattle.rg_keywords.specs.declared.func.Func.{Func}
 use Rattle.rg_state.specs.Kepts.{Seen, unseen, fresh, IsMarked, seen, stands_in, is_idle, are_sound, IsKeptSame}
 use Rattle.rg_state.specs.Stepping.{KeptStep, RowsStep}
 use Rattle.rg_state.specs.declared.key_rows.Kept.{Kept}

@@ -10,7 +10,7 @@ use Rattle.rg_state.specs.Kepts.{unseen, settled, fresh, seen_at, IsFirst, IsKep
 use Rattle.rg_agg.specs.Held.{Held}
 use Rattle.rg_bytes.specs.declared.memory.Memory.{Memory}
 use Rattle.rg_event.specs.declared.value.Value.{Value}
-use Rattle.rg_words.specs.declared.func.Func.{Func}
+use Rattle.rg_keywords.specs.declared.func.Func.{Func}
 use Rattle.rg_state.specs.SlotSteps.{SlotsGet, SlotsStep}
 use Rattle.rg_state.specs.Stepping.{RowsStep, RowsGet}
 use Rattle.rg_state.specs.declared.key_rows.Kept.{Kept}

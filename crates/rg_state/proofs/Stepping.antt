@@ -7,7 +7,7 @@ use Rattle.std.proofs.lemmas.Bool.Decides.{Decides-eqb}
 use Rattle.rg_agg.specs.Held.{Held}
 use Rattle.rg_agg.specs.Standing.{size_in, func_of, Stands}
 use Rattle.rg_event.specs.declared.value.Value.{Value}
-use Rattle.rg_words.specs.declared.func.Func.{Func}
+use Rattle.rg_keywords.specs.declared.func.Func.{Func}
 use Rattle.rg_state.specs.Kepts.{Seen, unseen, fresh, seen, shown, is_fair, is_idle, is_marked, IsMarked, Stepped}
 use Rattle.rg_state.specs.Rows.{Changed, Suits, Counts, Unfit}
 use Rattle.rg_state.specs.States.{held_of}

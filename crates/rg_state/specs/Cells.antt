@@ -6,7 +6,7 @@ use Rattle.std.specs.Option.{option_map}
 use Rattle.std.specs.Ordering.{nat_cmp, is_lt}
 use Rattle.rg_agg.specs.Held.{Held}
 use Rattle.rg_group.specs.Mixes.{mix}
-use Rattle.rg_index.specs.Index.{bucket_in, slot_in_guess, Holds}
+use Rattle.rg_key_index.specs.Index.{bucket_in, slot_in_guess, Holds}
 use Rattle.rg_state.specs.Kepts.{Seen, unseen, seen_at, told}
 use Rattle.rg_state.specs.Rows.{At, Cells}
 use Rattle.rg_state.specs.Changes.{Marks}

@@ -3,7 +3,7 @@ use Rattle.std.specs.Prelude.{◌≡◌, ℕ, ◌==◌, ◌&&◌, ◌||◌, not,
 use Rattle.rg_agg.specs.Held.{Held}
 use Rattle.rg_agg.specs.Standing.{size_in}
 use Rattle.rg_event.specs.declared.value.Value.{Value}
-use Rattle.rg_words.specs.declared.func.Func.{Func}
+use Rattle.rg_keywords.specs.declared.func.Func.{Func}
 use Rattle.rg_state.specs.Changes.{IsNamed, was_there, change_of}
 use Rattle.rg_state.specs.Rows.{Changed, Suits, IsOf, Counts}
 use Rattle.rg_state.specs.States.{held_of}

@@ -3,7 +3,7 @@ use Rattle.std.specs.Prelude.{◌≡◌, ℕ, List, Some, Result, IfErr, OnOk, O
 use Rattle.rg_agg.specs.Held.{Held}
 use Rattle.rg_bytes.specs.declared.memory.Memory.{Memory}
 use Rattle.rg_event.specs.declared.value.Value.{Value}
-use Rattle.rg_words.specs.declared.func.Func.{Func}
+use Rattle.rg_keywords.specs.declared.func.Func.{Func}
 use Rattle.rg_state.specs.Cells.{OthersSeen, SameSeen}
 use Rattle.rg_state.specs.Kepts.{Seen, fresh, IsMarked, Stepped}
 use Rattle.rg_state.specs.Stepping.{Refuses}

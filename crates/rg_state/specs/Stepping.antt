@@ -5,7 +5,7 @@ use Rattle.rg_agg.specs.Held.{Held}
 use Rattle.rg_agg.specs.Standing.{Stands, MayBeginWith, func_of, size_in, kind_in, IsLike}
 use Rattle.rg_bytes.specs.declared.memory.Memory.{Memory as NoMemory}
 use Rattle.rg_event.specs.declared.value.Value.{Value}
-use Rattle.rg_words.specs.declared.func.Func.{Func}
+use Rattle.rg_keywords.specs.declared.func.Func.{Func}
 use Rattle.rg_state.specs.Clean.{IsClean}
 use Rattle.rg_state.specs.Kepts.{seen, seen_at, settled, are_sound, OthersKept, IsKeptSame, IsMarked, Stepped}
 use Rattle.rg_state.specs.Rows.{AreLike, Suits, IsRefused, Unfit as IsUnfit}

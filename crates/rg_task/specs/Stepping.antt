@@ -4,8 +4,8 @@ use Rattle.std.specs.Option.{ForSome}
 use Rattle.rg_host.specs.Image.{Image}
 use Rattle.rg_host.specs.Moments.{Moment, Moments}
 use Rattle.rg_event.specs.declared.event.Event.{Event}
-use Rattle.rg_course.specs.Stores.{Store}
-use Rattle.rg_course.specs.Steps.{IsMidStep, IsStepped}
+use Rattle.rg_run_spec.specs.Stores.{Store}
+use Rattle.rg_run_spec.specs.Steps.{IsMidStep, IsStepped}
 use Rattle.rg_task.specs.State.{State}
 
 module _ {K : Type 0} (may : K → Image → Type 0) (clock : K → ℕ) (since : K → ℕ → Moment → Type 0) (said : K → Option (List ℕ)) where

@@ -3,8 +3,8 @@ use Rattle.std.specs.Prelude.{ℕ, List}
 use Rattle.rg_event.specs.declared.event.Event.{Event}
 use Rattle.rg_config.specs.Plans.{Planned}
 use Rattle.rg_row.specs.Rows.{row_of}
-use Rattle.rg_course.specs.Verdicts.{Verdict, verdict_of, or_reply}
-use Rattle.rg_course.specs.Output.{Terms}
+use Rattle.rg_run_spec.specs.Verdicts.{Verdict, verdict_of, or_reply}
+use Rattle.rg_run_spec.specs.Output.{Terms}
 
 abbrev pub terms_of : Planned → Terms
 terms_of plan = record {

@@ -5,7 +5,7 @@ use Rattle.rg_host.specs.Image.{Image}
 use Rattle.rg_host.specs.Moments.{Moment}
 use Rattle.rg_event.specs.Rising.{next_offset}
 use Rattle.rg_config.specs.Plans.{Planned}
-use Rattle.rg_course.specs.Stores.{Store}
+use Rattle.rg_run_spec.specs.Stores.{Store}
 use Rattle.rg_task.specs.State.{State}
 
 -- What is asked of tasks of one type, and what holds of each.

@@ -4,7 +4,7 @@ ghost use Rattle.rg_bytes.specs.Counts.{Rose};
 ghost use Rattle.rg_host.specs.Moments.{LeavesFiles, LeavesAll};
 ghost use Rattle.rg_host.specs.Puts.{IsPrefix, Puts};
 ghost use Rattle.rg_config.specs.Plans.{Planned};
-ghost use Rattle.rg_course.specs.Verdicts.{accepted_after, reply_of};
+ghost use Rattle.rg_run_spec.specs.Verdicts.{accepted_after, reply_of};
 ghost use Rattle.rg_task.specs.Terms.{verdict_on};
 ghost use Rattle.rg_task.specs.Stepping.{IsWithinStep, IsStored, IsAllSaved};
 ghost use Rattle.rg_task.specs.View.{View, Keeps, NowMay, OnlyNow, Sinks};

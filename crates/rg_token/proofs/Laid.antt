@@ -3,8 +3,8 @@ use Rattle.std.proofs.Common.{◌≡◌, ℕ, ◌+◌, ◌≤◌, ◌<◌, nat_e
 use Rattle.std.specs.Prelude.{if◌then◌else◌}
 use Rattle.std.specs.List.{list_all, prefix_len}
 use Rattle.std.proofs.lemmas.Bool.{eqb-true}
-use Rattle.rg_words.specs.declared.op.Symbol.TheVariants.{Compare}
-use Rattle.rg_words.specs.declared.op.Op.TheVariants.{Lt, Gt}
+use Rattle.rg_keywords.specs.declared.op.Symbol.TheVariants.{Compare}
+use Rattle.rg_keywords.specs.declared.op.Op.TheVariants.{Lt, Gt}
 use Rattle.rg_token.specs.declared.piece.Shape.{Shape}
 use Rattle.rg_token.specs.declared.piece.Shape.TheVariants.{Word, Number, Text, Sign}
 use Rattle.rg_token.specs.declared.automaton.Mode.{Mode}

@@ -1,7 +1,7 @@
 -- Tokens read byte by byte.
 use Rattle.std.specs.Prelude.{◌≡◌, ℕ, ◌+◌, nat_eq, nat_lt, List, [], ◌∷◌, Option, Some, None, Bool, if◌then◌else◌}
-use Rattle.rg_words.specs.declared.op.Op.TheVariants.{Eq, Ne, Le, Ge, Lt, Gt}
-use Rattle.rg_words.specs.declared.op.Symbol.TheVariants.{Open, Close, Comma, Star, Compare}
+use Rattle.rg_keywords.specs.declared.op.Op.TheVariants.{Eq, Ne, Le, Ge, Lt, Gt}
+use Rattle.rg_keywords.specs.declared.op.Symbol.TheVariants.{Open, Close, Comma, Star, Compare}
 use Rattle.rg_token.specs.Token.{is_letter, is_digit, is_word_byte}
 use Rattle.rg_token.specs.declared.piece.Shape.{Shape}
 use Rattle.rg_token.specs.declared.piece.Shape.TheVariants.{Word, Number, Text, Sign}

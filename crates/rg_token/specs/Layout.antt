@@ -1,8 +1,8 @@
 -- A text laid out as tokens with blanks before them.
 use Rattle.std.specs.Prelude.{ℕ, ◌+◌, nat_eq, List, [], ◌∷◌, ◌++◌, length, Bool, false, IsTrue, IsFalse, ⊤}
 use Rattle.std.specs.List.{list_all}
-use Rattle.rg_words.specs.declared.op.Op.TheVariants.{Lt, Gt}
-use Rattle.rg_words.specs.declared.op.Symbol.TheVariants.{Compare}
+use Rattle.rg_keywords.specs.declared.op.Op.TheVariants.{Lt, Gt}
+use Rattle.rg_keywords.specs.declared.op.Symbol.TheVariants.{Compare}
 use Rattle.rg_token.specs.Token.{is_word_byte, is_digit, quote, Spelled}
 use Rattle.rg_token.specs.Lexing.{is_blank}
 use Rattle.rg_token.specs.declared.piece.Shape.{Shape}

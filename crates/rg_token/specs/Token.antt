@@ -1,7 +1,7 @@
 -- What a token is.
 use Rattle.std.specs.Prelude.{◌≡◌, ℕ, ◌≤◌, nat_eq, nat_le, ◌&&◌, ◌||◌, List, [], ◌∷◌, ◌++◌, length, Bool, true, false, if◌then◌else◌, IsTrue}
 use Rattle.std.specs.List.{list_all}
-use Rattle.rg_words.specs.Words.{symbol_text}
+use Rattle.rg_keywords.specs.Words.{symbol_text}
 use Rattle.rg_token.specs.declared.piece.Shape.{Shape}
 use Rattle.rg_token.specs.declared.piece.Shape.TheVariants.{Word, Number, Text, Sign}
 

@@ -5,7 +5,7 @@ ghost use Rattle.rg_token.specs.Automaton.{mode_if as mode_when, first as first_
 ghost use Rattle.rg_token.specs.declared.piece.Shape.{Shape as TheShape};
 
 use crate::piece::Shape;
-use rg_words::{Op, Symbol};
+use rg_keywords::{Op, Symbol};
 
 /// The greatest number of digits in a number.
 const MOST_DIGITS: u8 = 20;

@@ -1,7 +1,7 @@
 ghost use Rattle.std.specs.Prelude.{◌≡◌, [], ◌∷◌, ◌++◌, OnOk, OnErr};
 
 use rg_bytes::Memory;
-use rg_words::Symbol;
+use rg_keywords::Symbol;
 use std::alloc::Global;
 use std::marker::Model;
 

@@ -8,7 +8,7 @@ use Rattle.rg_checkpoint.specs.declared.base.Checkpoint.{Checkpoint}
 use Rattle.rg_reservoir.specs.Naming.{IsNamed}
 use Rattle.rg_restore.specs.Fit.{AreRowsOf}
 use Rattle.rg_restore.specs.Truthful.{AreRowsFor}
-use Rattle.rg_rows.specs.Rows.{IsLeastWrong}
+use Rattle.rg_row_audit.specs.Rows.{IsLeastWrong}
 use Rattle.rg_verify.specs.Verdicts.{Terms, IsVerdict, first_of}
 use Rattle.rg_verify.specs.declared.verdict.Verdict.{Verdict}
 use Rattle.rg_verify.specs.declared.verdict.Verdict.TheVariants.{Missing, Other, Unfit, Right, Wrong}

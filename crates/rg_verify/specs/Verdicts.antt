@@ -9,7 +9,7 @@ use Rattle.rg_reservoir.specs.Naming.{IsNamed}
 use Rattle.rg_checkpoint.specs.declared.base.Checkpoint.{Checkpoint}
 use Rattle.rg_restore.specs.Fit.{IsFit}
 use Rattle.rg_restore.specs.Truthful.{AreRowsFor}
-use Rattle.rg_rows.specs.Rows.{IsLeastWrong}
+use Rattle.rg_row_audit.specs.Rows.{IsLeastWrong}
 use Rattle.rg_verify.specs.Payments.{is_framed}
 use Rattle.rg_verify.specs.declared.verdict.Verdict.{Verdict}
 use Rattle.rg_verify.specs.declared.verdict.Verdict.TheVariants.{Missing, Other, Unfit, Right, Wrong}

@@ -6,7 +6,7 @@ ghost use Rattle.rg_event.specs.Shapes.{Shape};
 ghost use Rattle.rg_frame.specs.Frames.{HasPayloads};
 ghost use Rattle.rg_host.specs.Image.{Image};
 ghost use Rattle.rg_reservoir.specs.Kept.{opened};
-ghost use Rattle.rg_rows.specs.Rows.{AreServed};
+ghost use Rattle.rg_row_audit.specs.Rows.{AreServed};
 ghost use Rattle.rg_verify.specs.Causes.{IsUnjudged};
 ghost use Rattle.rg_verify.specs.Fitting.{terms_of, IsRowVerdict};
 ghost use Rattle.rg_verify.specs.Payments.{is_framed};
@@ -21,7 +21,7 @@ use rg_event::{Event, Field, Texts};
 use rg_host::Host;
 use rg_plan::TaskPlan;
 use rg_reservoir::Reservoir;
-use rg_rows::check_rows;
+use rg_row_audit::check_rows;
 use std::alloc::Global;
 
 /// What a checkpoint is held against.

@@ -13,7 +13,7 @@ ghost use Rattle.rg_host.specs.Moments.{LeavesFiles};
 ghost use Rattle.rg_host.specs.Puts.{IsPrefix, Puts};
 ghost use Rattle.rg_reservoir.specs.Attached.{IsForeign};
 ghost use Rattle.rg_reservoir.specs.Kept.{opened};
-ghost use Rattle.rg_rows.specs.Rows.{AreServed};
+ghost use Rattle.rg_row_audit.specs.Rows.{AreServed};
 ghost use Rattle.rg_verify.specs.Causes.{IsFirstDamage, IsOfOther, IsReadable, IsUnjudged, IsWholeOther};
 ghost use Rattle.rg_verify.specs.Faults.{IsFromOutside};
 ghost use Rattle.rg_verify.specs.Fitting.{AreVerdicts, terms_of};

@@ -2,7 +2,7 @@ use Rattle.std.proofs.Common.{◌≡◌, get_or, refl, subst, arith, rules}
 use Rattle.std.specs.Prelude.{◌==◌}
 use Rattle.rg_metric.specs.Replies.{key_of}
 use Rattle.rg_group.specs.Keys.{key_bytes}
-use Rattle.rg_words.specs.declared.func.Func.TheVariants.{Count}
+use Rattle.rg_keywords.specs.declared.func.Func.TheVariants.{Count}
 use Rattle.rg_engine.specs.Parts.{agg_nodes, node_under, node_if}
 use Rattle.rg_engine.specs.Stepping.{Done, Stuck}
 use Rattle.rg_engine.specs.declared.part.AggPart.{AggPart}

@@ -4,7 +4,7 @@ use Rattle.rg_agg.specs.Numbers.{value_of}
 use Rattle.rg_agg.specs.Standing.{counts_sum}
 use Rattle.rg_agg.specs.Stands.{IsNumber}
 use Rattle.rg_event.specs.declared.value.Kind.{Kind}
-use Rattle.rg_tally.specs.Pairs.{AreOf, IsTally}
+use Rattle.rg_multiset.specs.Pairs.{AreOf, IsTally}
 use Rattle.rg_extreme.specs.Deques.{with_value}
 use Rattle.rg_extreme.specs.Sides.{beats}
 use Rattle.rg_extreme.specs.States.{as_pairs}

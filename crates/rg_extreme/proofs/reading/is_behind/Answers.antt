@@ -1,6 +1,6 @@
 use Rattle.std.proofs.Common.{◌-◌, ap, sym, ◌∙◌, refl, arith}
 use Rattle.rg_agg.specs.Numbers.{value_of}
-use Rattle.rg_tally.specs.Reading.{comes_behind}
+use Rattle.rg_multiset.specs.Reading.{comes_behind}
 use Rattle.rg_extreme.specs.Sides.{beats}
 use Rattle.rg_extreme.proofs.Ends.{last_kept_at}
 use Rattle.rg_extreme.proofs.reading.is_behind.Goals as goal

@@ -2,8 +2,8 @@ use Rattle.std.proofs.Common.{◌≡◌, ◌-◌, ◌≤◌, ◌++◌, [], lengt
 use Rattle.rg_agg.specs.Held.{number_value_at, pairs_bytes}
 use Rattle.rg_agg.specs.Standing.{counts_sum}
 use Rattle.rg_agg.specs.Stands.{IsNumber}
-use Rattle.rg_tally.specs.Pairs.{IsTally}
-use Rattle.rg_tally.specs.Reading.{more_pairs_at}
+use Rattle.rg_multiset.specs.Pairs.{IsTally}
+use Rattle.rg_multiset.specs.Reading.{more_pairs_at}
 use Rattle.rg_extreme.specs.Sides.{beats}
 use Rattle.rg_extreme.specs.States.{pairs_in}
 use Rattle.rg_extreme.proofs.reading.read_pairs.Given as goal

@@ -7,7 +7,7 @@ use Rattle.rg_cache.specs.Cache.{Cache}
 use Rattle.rg_reservoir.specs.declared.kept.Kept.{Kept}
 use Rattle.rg_reservoir.specs.Kept.{base, opened, all_events, Adds}
 use Rattle.rg_reservoir.specs.Views.{View}
-use Rattle.rg_course.specs.Steps.{IsStepped}
+use Rattle.rg_run_spec.specs.Steps.{IsStepped}
 use Rattle.rg_open.specs.Opened.{IsOpenedFor}
 use Rattle.rg_open.specs.Stores.{store_of}
 use Rattle.rg_recover.proofs.Causes.{storing_cause, same_at_fault}

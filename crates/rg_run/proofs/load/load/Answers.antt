@@ -2,7 +2,7 @@ use Rattle.std.proofs.Common.{ℕ, [], Err, refl, sym, ◌∙◌, ap, subst, ari
 use Rattle.rg_bytes.specs.Counts.{Rose}
 use Rattle.rg_host.proofs.Runs.{moments_then}
 use Rattle.rg_task.specs.State.{State}
-use Rattle.rg_course.specs.Stores.{StaysOnCourse}
+use Rattle.rg_run_spec.specs.Stores.{StaysOnCourse}
 use Rattle.rg_task.specs.declared.fault.TaskFault.TheVariants as task
 use Rattle.rg_run.proofs.Called.{sustains_none, cause_none, damage_none}
 use Rattle.rg_run.proofs.Replied.{still_on_course}

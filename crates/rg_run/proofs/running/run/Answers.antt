@@ -1,7 +1,7 @@
 use Rattle.std.proofs.Common.{Err, ℕ, List, [], ◌≤◌, inl, refl, sym, ◌∙◌, ap, subst, arith}
 use Rattle.rg_host.proofs.Runs.{moments_then}
 use Rattle.rg_config.specs.Plans.{planned}
-use Rattle.rg_course.specs.Stores.{StaysOnCourse}
+use Rattle.rg_run_spec.specs.Stores.{StaysOnCourse}
 use Rattle.rg_task.specs.State.{State}
 use Rattle.rg_run.specs.Answered.{CountsGrow}
 use Rattle.rg_run.specs.Begun.{course_for}

@@ -1,7 +1,7 @@
 use Rattle.std.proofs.Common.{◌≡◌, ◌-◌, ◌≤◌, ◌^◌, ◌+◌, false, ℕ, []}
 use Rattle.rg_host.specs.Moments.{Moments}
 use Rattle.rg_config.specs.Plans.{planned}
-use Rattle.rg_course.specs.Stores.{StaysOnCourse}
+use Rattle.rg_run_spec.specs.Stores.{StaysOnCourse}
 use Rattle.rg_run.specs.Answered.{IsToBegin, CountsGrow}
 use Rattle.rg_run.specs.Begun.{Begun, course_for}
 use Rattle.rg_run.specs.Reading.{HasTaken}

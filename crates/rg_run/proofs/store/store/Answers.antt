@@ -1,7 +1,7 @@
 use Rattle.std.proofs.Common.{List, [], ℕ, Err, inl, inr, sym, ◌∙◌, subst, ap, arith}
 use Rattle.rg_host.proofs.Runs.{moments_then}
 use Rattle.rg_task.specs.State.{State}
-use Rattle.rg_course.specs.Stores.{StaysOnCourse}
+use Rattle.rg_run_spec.specs.Stores.{StaysOnCourse}
 use Rattle.rg_run.specs.Turning.{IsMidTurn}
 use Rattle.rg_run.proofs.Called.{cause_none, cause_unput, cause_task, sustains_unput}
 use Rattle.rg_run.proofs.Gathering.{mid_held, mid_put, held_moments}

@@ -5,7 +5,7 @@ use Rattle.std.specs.Int.RustNames.{FitsSigned}
 use Rattle.rg_agg.specs.Numbers.{value_of}
 use Rattle.rg_agg.specs.Unbeaten.{is_less, is_greater}
 use Rattle.rg_metric.specs.Answers.{answer_of}
-use Rattle.rg_words.specs.declared.func.Func.TheVariants.{Min, Max}
+use Rattle.rg_keywords.specs.declared.func.Func.TheVariants.{Min, Max}
 use Rattle.rg_extreme.specs.States.{pairs_in}
 use Rattle.rg_extreme.proofs.Removals.{least_of, greatest_of, none_of}
 use Rattle.rg_extreme.proofs.deque.Deque.answer.Goals as goal

@@ -1,7 +1,7 @@
 use Rattle.std.proofs.Common.{◌≡◌, ◌∙◌, ℕ, Ok, ap, subst}
 use Rattle.rg_event.specs.Shapes.{Shape}
 use Rattle.rg_row.specs.Rows.{row_of}
-use Rattle.rg_course.specs.Verdicts.{verdict_of}
+use Rattle.rg_run_spec.specs.Verdicts.{verdict_of}
 use Rattle.rg_reservoir.specs.Kept.{base}
 use Rattle.rg_recover.specs.Deciding.{as_verdict}
 use Rattle.rg_recover.proofs.Lines.{says_row}

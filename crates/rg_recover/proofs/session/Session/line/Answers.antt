@@ -1,7 +1,7 @@
 use Rattle.std.proofs.Common.{false, List, Err, inl, ap, sym, refl, ◌∙◌, arith}
 use Rattle.rg_metric.specs.declared.answer.Answer.{Answer}
 use Rattle.rg_reservoir.specs.Kept.{opened}
-use Rattle.rg_course.specs.Verdicts.{Verdict, accepted_after, reply_of}
+use Rattle.rg_run_spec.specs.Verdicts.{Verdict, accepted_after, reply_of}
 use Rattle.rg_open.specs.Stores.{store_of}
 use Rattle.rg_recover.specs.Deciding.{as_verdict, answered_as}
 use Rattle.rg_recover.specs.Sessions.{Sitting, events_of, stored_of}

@@ -4,8 +4,8 @@ use Rattle.std.proofs.lemmas.Result.{on_ok_weaker, IfErr-weaker}
 use Rattle.rg_event.specs.declared.event.Event.{Event}
 use Rattle.rg_reservoir.specs.Kept.{base, opened, stored}
 use Rattle.rg_reservoir.specs.declared.reservoir.Reservoir.{Reservoir}
-use Rattle.rg_course.specs.Steps.{IsStepped}
-use Rattle.rg_course.proofs.Hosts.{stepped_then}
+use Rattle.rg_run_spec.specs.Steps.{IsStepped}
+use Rattle.rg_run_spec.proofs.Hosts.{stepped_then}
 use Rattle.rg_engine.specs.Seen.{Seen}
 use Rattle.rg_state.specs.Changes.{SameMarks}
 use Rattle.rg_host.specs.Image.{Image}

@@ -3,8 +3,8 @@ use Rattle.std.proofs.lemmas.Bool.{ltb-true, ltb-false}
 use Rattle.rg_host.specs.Moments.{Moments}
 use Rattle.rg_host.proofs.Runs.{moments_then}
 use Rattle.rg_config.specs.Plans.{planned}
-use Rattle.rg_course.specs.Ahead.{after_line}
-use Rattle.rg_course.specs.Stores.{StaysOnCourse}
+use Rattle.rg_run_spec.specs.Ahead.{after_line}
+use Rattle.rg_run_spec.specs.Stores.{StaysOnCourse}
 use Rattle.rg_task.specs.State.{State}
 use Rattle.rg_task.specs.Terms.{terms_of}
 use Rattle.rg_task.specs.declared.fault.TaskFault.{TaskFault}

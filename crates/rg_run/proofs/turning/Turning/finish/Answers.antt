@@ -4,7 +4,7 @@ use Rattle.rg_host.specs.Lines.{ended}
 use Rattle.rg_host.specs.Puts.{Puts}
 use Rattle.rg_host.proofs.Runs.{moments_then}
 use Rattle.rg_task.specs.State.{State}
-use Rattle.rg_course.specs.Stores.{StaysOnCourse}
+use Rattle.rg_run_spec.specs.Stores.{StaysOnCourse}
 use Rattle.rg_task.specs.declared.fault.TaskFault.TheVariants as task
 use Rattle.rg_run.specs.Due.{last_lines}
 use Rattle.rg_run.specs.Turning.{HasStopped}

@@ -1,8 +1,8 @@
 use Rattle.std.proofs.Common.{◌≡◌, ◌∷◌, [], ◌≤◌, ℕ, List, arith, sym, ◌∙◌, ap, subst}
 use Rattle.std.proofs.lemmas.Bool.{ltb-true, ltb-false}
 use Rattle.rg_host.proofs.Runs.{moments_then}
-use Rattle.rg_course.specs.Ahead.{after_line}
-use Rattle.rg_course.specs.Stores.{StaysOnCourse}
+use Rattle.rg_run_spec.specs.Ahead.{after_line}
+use Rattle.rg_run_spec.specs.Stores.{StaysOnCourse}
 use Rattle.rg_event.specs.declared.event.Event.{Event}
 use Rattle.rg_task.specs.Terms.{terms_of}
 use Rattle.rg_task.specs.declared.fault.TaskFault.{TaskFault}

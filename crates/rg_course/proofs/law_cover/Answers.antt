@@ -1,5 +1,0 @@
-use Rattle.rg_course.proofs.Leaving.{near_covers}
-use Rattle.rg_course.proofs.law_cover.Goals as goal
-
-pub returns-clause-near : goal.returns-clause-near
-returns-clause-near c = near_covers

@@ -1,0 +1,72 @@
+ghost use Rattle.std.specs.Prelude.{◌≡◌};
+ghost use Rattle.rg_keywords.specs.Words.{func_of, func_name};
+
+/// What an aggregator makes of its values.
+#[derive(Clone, Copy, Debug, PartialEq, Eq, Hash)]
+pub enum Func {
+    /// How many there are.
+    Count,
+    /// Their sum.
+    Sum,
+    /// Their sum and how many there are.
+    Avg,
+    /// The sum of their squares.
+    SumSq,
+    /// The least of them.
+    Min,
+    /// The greatest of them.
+    Max,
+    /// How many different ones there are.
+    CountDistinct,
+    /// The one that came first.
+    First,
+    /// The one that came last.
+    Last,
+}
+
+impl Func {
+    /// The function that a word names, in any ASCII case.
+    #[tactic(auto, unfolding(crate::specs::Words::func_of))]
+    pub fn named(word: &[u8]) -> Option<Func>
+        ensures { result ≡ func_of word.now }
+    {
+        if word.eq_ignore_ascii_case(b"count") {
+            Some(Func::Count)
+        } else if word.eq_ignore_ascii_case(b"sum") {
+            Some(Func::Sum)
+        } else if word.eq_ignore_ascii_case(b"avg") {
+            Some(Func::Avg)
+        } else if word.eq_ignore_ascii_case(b"sumsq") {
+            Some(Func::SumSq)
+        } else if word.eq_ignore_ascii_case(b"min") {
+            Some(Func::Min)
+        } else if word.eq_ignore_ascii_case(b"max") {
+            Some(Func::Max)
+        } else if word.eq_ignore_ascii_case(b"countdistinct") {
+            Some(Func::CountDistinct)
+        } else if word.eq_ignore_ascii_case(b"first") {
+            Some(Func::First)
+        } else if word.eq_ignore_ascii_case(b"last") {
+            Some(Func::Last)
+        } else {
+            None
+        }
+    }
+
+    /// Its name as it is printed.
+    pub fn name(self) -> &'static [u8]
+        ensures { result.now ≡ func_name self }
+    {
+        match self {
+            Func::Count => b"count",
+            Func::Sum => b"sum",
+            Func::Avg => b"avg",
+            Func::SumSq => b"sumsq",
+            Func::Min => b"min",
+            Func::Max => b"max",
+            Func::CountDistinct => b"countDistinct",
+            Func::First => b"first",
+            Func::Last => b"last",
+        }
+    }
+}

@@ -1,5 +1,0 @@
-use Rattle.rg_rows.proofs.Maps.{not_at}
-use Rattle.rg_rows.proofs.keeping.is_kept.Goals as goal
-
-pub returns-in-Some-clause-others : goal.returns-in-Some-clause-others
-returns-in-Some-clause-others c = λ other isnt. c.remove.ensures.updates.2 other (not_at c.args.row.now.key other isnt)

@@ -1,4 +1,0 @@
-use Rattle.rg_tally.proofs.map.add_in.Goals as goal
-
-pub returns-then-raise-clause-kept : goal.returns-then-raise-clause-kept
-returns-then-raise-clause-kept g c = λ legal. c.raise.ensures.kept _

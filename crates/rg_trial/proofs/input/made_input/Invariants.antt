@@ -1,7 +1,0 @@
-use Rattle.std.proofs.Common.{◌≡◌}
-use Rattle.rg_host.specs.Lines.{ended}
-use Rattle.rg_trial.specs.Trials.{made_lines}
-use Rattle.rg_trial.proofs.input.made_input.Given as goal
-
-abbrev pub invariant-lines : goal.invariant-lines
-invariant-lines l = l.input.items ≡ ended (made_lines l.seed l.i)

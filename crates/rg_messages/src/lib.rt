@@ -10,5 +10,5 @@ mod report;
 mod status;
 
 pub use refusal::{Refusal, TomlFault};
-pub use report::Report;
+pub use report::{FailedFile, Report};
 pub use status::Status;

@@ -6,6 +6,24 @@ use std::{fmt, io};
 const USAGE: &str =
     "usage: railgun run PLAN STORE [FIRST]\n       railgun replay PLAN STORE [FIRST]\n       railgun verify PLAN STORE\n       railgun check PLAN\n       railgun dump STORE\n       railgun info STORE\n       railgun self N SEED\nrailgun 0.1.0";
 
+/// A file or stream that failed, and the system's reason.
+#[derive(Clone, Copy)]
+pub struct FailedFile<'a> {
+    /// The path of the file's folder. It is empty where the name says all.
+    pub folder: &'a str,
+    pub name: &'a str,
+    pub error: io::Error,
+}
+
+impl fmt::Display for FailedFile<'_> {
+    fn fmt<W: fmt::Write>(&self, f: &mut fmt::Formatter<W>) -> fmt::Result {
+        if !self.folder.is_empty() {
+            write!(f, "{}/", self.folder)?;
+        }
+        write!(f, "{}: {}", self.name, self.error)
+    }
+}
+
 /// What is said of a call that ended early: what went wrong, and where.
 #[derive(Drop)]
 pub struct Report<'a> {
@@ -13,8 +31,7 @@ pub struct Report<'a> {
     /// The name of the plan's file.
     pub plan: &'a str,
     pub refusal: Option<Refusal>,
-    /// The file or stream that failed, and the system's reason.
-    pub failure: Option<(&'a str, io::Error)>,
+    pub failure: Option<FailedFile<'a>>,
 }
 
 impl fmt::Display for Report<'_> {
@@ -26,7 +43,7 @@ impl fmt::Display for Report<'_> {
                 None => write!(f, "{}: the plan is refused", self.plan),
             },
             Status::Read | Status::Write | Status::Disk => match &self.failure {
-                Some((name, error)) => write!(f, "{name}: {error}"),
+                Some(failed) => write!(f, "{failed}"),
                 None => f.write_str("a file or stream failed"),
             },
             Status::Limit => f.write_str(

@@ -39,6 +39,14 @@ pub struct Folder<'a, R: Files> {
     files: OpenFiles<R::File>,
 }
 
+/// The name of a file in the folder, or what stands in its place in a message.
+pub(crate) fn told_name(file: u32) -> &'static str {
+    match name_of(file) {
+        Ok(name) => name,
+        Err(_) => "a file of no name",
+    }
+}
+
 /// The name of a file in the folder. A number above 2 names none.
 fn name_of(file: u32) -> io::Result<&'static str>
     ensures named { OnOk result (file < 3) }

@@ -1,7 +1,8 @@
 ghost use Rattle.std.specs.Prelude.{◌≡◌, Ok, IfOk, IsErr};
 
-use crate::failures::Failures;
-use crate::files::{Access, Folder, Hold};
+use crate::failures::{Failure, Failures};
+use crate::files::{Access, Folder, Hold, told_name};
+use crate::progress::Progress;
 use rg_host::{Failed, Host};
 use std::alloc::Global;
 use std::io;
@@ -12,11 +13,12 @@ use std::rt::Files;
 /// The files of a folder, `slot0`, `slot1` and `events`, and a writer. It tells nothing of them.
 /// Where they are only read, a write or a sync fails, and a missing file has length 0.
 #[derive(Drop)]
-pub struct FolderHost<'a, R: Files, W: Write + Drop> {
+pub struct FolderHost<'a, R: Files + Eprint, W: Write + Drop> {
+    progress: Progress<'a, R>,
     folder: Folder<'a, R>,
     writer: W,
-    puts: Failures,
-    disk: Failures,
+    puts: Failures<'a>,
+    disk: Failures<'a>,
     reads: u64,
 }
 
@@ -32,7 +34,7 @@ fn written(given: io::Result<usize>, length: usize) -> io::Result<usize>
     }
 }
 
-impl<'a, R: Files, W: Write + Drop> FolderHost<'a, R, W>
+impl<'a, R: Files + Eprint, W: Write + Drop> FolderHost<'a, R, W>
 where
     R::File: FileExt + Hold,
 {
@@ -46,6 +48,7 @@ where
         writer: W,
     ) -> FolderHost<'a, R, W> {
         FolderHost {
+            progress: Progress::off(rt),
             folder: Folder::new(rt, alloc, path, access),
             writer,
             puts: Failures::none(),
@@ -55,17 +58,32 @@ where
     }
 
     /// Why the last put that failed did.
-    pub fn error(&self) -> Option<io::Error> {
+    pub fn failure(&self) -> Option<Failure<'a>> {
         self.puts.last
     }
 
-    /// Why the last call on a file that failed did.
-    pub fn disk_error(&self) -> Option<io::Error> {
+    /// Why the last call on a file that failed did, and on which file.
+    pub fn disk_failure(&self) -> Option<Failure<'a>> {
         self.disk.last
+    }
+
+    /// Has standard error told how far a read of the log has come, until the first line is put.
+    pub fn watch(&mut self) {
+        self.progress.turn_on();
+    }
+
+    /// Where the output goes.
+    pub fn writer(&self) -> &W {
+        &self.writer
+    }
+
+    /// The writer, back.
+    pub fn into_writer(self) -> W {
+        self.writer
     }
 }
 
-impl<'a, R: Files, W: Write + Drop> Host for FolderHost<'a, R, W>
+impl<'a, R: Files + Eprint, W: Write + Drop> Host for FolderHost<'a, R, W>
 where
     R::File: FileExt + Hold,
 {
@@ -97,27 +115,29 @@ where
 
     fn len(&mut self, file: u32) -> Result<u64, Failed> {
         let given = self.folder.len(file);
-        self.disk.answer(given)
+        self.disk.answer(told_name(file), given)
     }
 
     fn read_at(&mut self, file: u32, at: u64, buf: &mut [u8]) -> Result<usize, Failed> {
         self.reads = self.reads.saturating_add(1);
+        self.progress.tell(file, at, self.reads);
         let given = self.folder.read_at(file, at, buf);
-        self.disk.answer(given)
+        self.disk.answer(told_name(file), given)
     }
 
     fn write_at(&mut self, file: u32, at: u64, bytes: &[u8]) -> Result<(), Failed> {
         let given = self.folder.write_at(file, at, bytes);
-        self.disk.answer(given)
+        self.disk.answer(told_name(file), given)
     }
 
     fn sync(&mut self, file: u32) -> Result<(), Failed> {
         let given = self.folder.sync(file);
-        self.disk.answer(given)
+        self.disk.answer(told_name(file), given)
     }
 
     fn put(&mut self, bytes: &[u8]) -> Result<usize, Failed> {
+        self.progress.end();
         let given = written(self.writer.write(bytes), bytes.len());
-        self.puts.answer(given)
+        self.puts.answer("standard output", given)
     }
 }

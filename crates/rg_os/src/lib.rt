@@ -7,13 +7,19 @@
 //! do what `Source` and `Host` say is believed.
 #![tactic(auto)]
 
+mod counted;
 mod failures;
 mod files;
+mod first_line;
 mod folder;
 mod open_files;
 mod place;
+mod progress;
 mod source;
 
+pub use counted::Counted;
+pub use failures::Failure;
 pub use files::{Access, Hold};
+pub use first_line::FirstLine;
 pub use folder::FolderHost;
 pub use source::{FileSource, ReaderSource};

@@ -1,6 +1,6 @@
 ghost use Rattle.std.specs.Prelude.{◌≡◌, ◌≤◌, IfOk, length};
 
-use crate::failures::Failures;
+use crate::failures::{Failure, Failures};
 use rg_host::{Failed, Source};
 use std::io;
 use std::io::Read;
@@ -12,7 +12,7 @@ pub struct FileSource<'a, R: Files> {
     rt: &'a R,
     path: &'a str,
     file: Option<R::File>,
-    failures: Failures,
+    failures: Failures<'a>,
 }
 
 impl<'a, R: Files> FileSource<'a, R> {
@@ -27,7 +27,7 @@ impl<'a, R: Files> FileSource<'a, R> {
     }
 
     /// Why the last call that failed did.
-    pub fn error(&self) -> Option<io::Error> {
+    pub fn failure(&self) -> Option<Failure<'a>> {
         self.failures.last
     }
 
@@ -58,7 +58,7 @@ impl<'a, R: Files> Source for FileSource<'a, R> {
 
     fn read(&mut self, buf: &mut [u8]) -> Result<usize, Failed> {
         let given = self.given(buf);
-        self.failures.answer(given)
+        self.failures.answer(self.path, given)
     }
 }
 
@@ -66,7 +66,7 @@ impl<'a, R: Files> Source for FileSource<'a, R> {
 #[derive(Drop)]
 pub struct ReaderSource<R: Read + Drop> {
     reader: R,
-    failures: Failures,
+    failures: Failures<'static>,
 }
 
 impl<R: Read + Drop> ReaderSource<R> {
@@ -79,7 +79,7 @@ impl<R: Read + Drop> ReaderSource<R> {
     }
 
     /// Why the last call that failed did.
-    pub fn error(&self) -> Option<io::Error> {
+    pub fn failure(&self) -> Option<Failure<'static>> {
         self.failures.last
     }
 }
@@ -93,6 +93,6 @@ impl<R: Read + Drop> Source for ReaderSource<R> {
 
     fn read(&mut self, buf: &mut [u8]) -> Result<usize, Failed> {
         let given = self.reader.read(buf);
-        self.failures.answer(given)
+        self.failures.answer("standard input", given)
     }
 }

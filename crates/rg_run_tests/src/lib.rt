@@ -10,6 +10,8 @@ mod bytes;
 #[cfg(test)]
 mod growing;
 #[cfg(test)]
+mod hints;
+#[cfg(test)]
 mod line;
 #[cfg(test)]
 mod ordered;

@@ -4,6 +4,7 @@ use rg_host::Host;
 use rg_os::{Access, FolderHost, Hold};
 use std::alloc::{Allocator, Global};
 use std::cell::RefCell;
+use std::fmt::Display;
 use std::fs::{File, Metadata, OpenFile, OpenOptions, TryLockError};
 use std::io;
 use std::io::{Read, Seek, SeekFrom, Write};
@@ -29,6 +30,16 @@ fn note(notes: &Notes, what: &str, path: &str) {
 struct Noting {
     rt: HostRuntime,
     notes: Notes,
+}
+
+impl Eprint for Noting {
+    fn eprint<D: Display + Drop>(&self, value: D) -> io::Result<()> {
+        self.rt.eprint(value)
+    }
+
+    fn eprintln<D: Display + Drop>(&self, value: D) -> io::Result<()> {
+        self.rt.eprintln(value)
+    }
 }
 
 /// A real file, with notes of what is asked of it.

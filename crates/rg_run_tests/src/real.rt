@@ -3,7 +3,7 @@ ghost use Rattle.std.specs.Prelude.{◌<◌};
 use crate::rows::{Row, assert_all};
 use rg_bytes::Memory;
 use rg_host::{Failed, Host, Source};
-use rg_os::{Access, FileSource, FolderHost, ReaderSource};
+use rg_os::{Access, Failure, FileSource, FolderHost, ReaderSource};
 use std::io::{Read, Write};
 use std::os::unix::fs::symlink;
 use std::rt::Files;
@@ -45,9 +45,9 @@ impl Write for FailsOnce {
 }
 
 /// The number of the system's error.
-fn number_of(error: Option<io::Error>) -> Option<i32> {
-    match error {
-        Some(error) => error.raw_os_error(),
+fn number_of(failure: Option<Failure<'_>>) -> Option<i32> {
+    match failure {
+        Some(failure) => failure.error.raw_os_error(),
         None => None,
     }
 }
@@ -60,13 +60,13 @@ trait Telling: Source {
 
 impl<R: Read + Drop> Telling for ReaderSource<R> {
     fn number(&self) -> Option<i32> {
-        number_of(self.error())
+        number_of(self.failure())
     }
 }
 
 impl<R: Files> Telling for FileSource<'_, R> {
     fn number(&self) -> Option<i32> {
-        number_of(self.error())
+        number_of(self.failure())
     }
 }
 
@@ -127,8 +127,8 @@ enum HostCall {
     Sync(u32, Result<(), Failed>),
     /// And the number of the error of the last put that failed.
     Put(&'static [u8], Result<usize, Failed>, Option<i32>),
-    /// A call on a file has failed.
-    HasFailed,
+    /// The last call on a file that failed was on this one.
+    HasFailed(&'static str),
 }
 
 /// A host over a folder, whose output fails once.
@@ -156,9 +156,12 @@ fn answers(host: &mut Folder<'_>, call: &HostCall) -> bool {
         }
         HostCall::Sync(file, wanted) => file < 8 && host.sync(file) == wanted,
         HostCall::Put(bytes, wanted, number) => {
-            host.put(bytes) == wanted && number_of(host.error()) == number
+            host.put(bytes) == wanted && number_of(host.failure()) == number
         }
-        HostCall::HasFailed => host.disk_error().is_some(),
+        HostCall::HasFailed(name) => match host.disk_failure() {
+            Some(failure) => failure.name == name,
+            None => false,
+        },
     }
 }
 
@@ -385,7 +388,7 @@ const HOSTS: &[Step] = &[
                 HostCall::Read(2, 0, Ok(0), NONE),
                 HostCall::Write(2, 0, b"a", Err(Failed)),
                 HostCall::Sync(2, Err(Failed)),
-                HostCall::HasFailed,
+                HostCall::HasFailed("events"),
             ],
         ),
         ..STEP
@@ -423,13 +426,13 @@ fn a_host_over_a_folder_answers_and_fails_as_the_system_does(rt: HostRuntime) ->
 
 /// Each call on this file of this folder fails for a writer and for a reader, and is told.
 macro_rules! refused {
-    ($folder:literal, $file:literal) => {
+    ($folder:literal, $file:literal, $name:literal) => {
         Step {
             folder: $folder,
             calls: &[
                 HostCall::Write($file, 0, b"a", Err(Failed)),
                 HostCall::Sync($file, Err(Failed)),
-                HostCall::HasFailed,
+                HostCall::HasFailed($name),
             ],
             look: Look::Host(
                 $folder,
@@ -437,7 +440,7 @@ macro_rules! refused {
                 &[
                     HostCall::Length($file, Err(Failed)),
                     HostCall::Read($file, 0, Err(Failed), NONE),
-                    HostCall::HasFailed,
+                    HostCall::HasFailed($name),
                 ],
             ),
         }
@@ -467,11 +470,11 @@ const ODD_FILES: &[Step] = &[
     // a folder in place of a file
     changed!(Change::Make("odd")),
     changed!(Change::Make("odd/events")),
-    refused!("linked", 0),
-    refused!("linked", 1),
-    refused!("twice", 1),
-    refused!("twice", 2),
-    refused!("odd", 2),
+    refused!("linked", 0, "slot0"),
+    refused!("linked", 1, "slot1"),
+    refused!("twice", 1, "slot1"),
+    refused!("twice", 2, "events"),
+    refused!("odd", 2, "events"),
     // nothing was written, and with one name the file is taken
     changed!(Change::Remove("twice/slot1")),
     Step {

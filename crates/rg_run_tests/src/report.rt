@@ -1,7 +1,7 @@
 use crate::rows::{Row, assert_all};
 use rg_bytes::Memory;
 use rg_config::{ConfigFault, DefaultsFault, QueryRefusal, SettingsFault};
-use rg_messages::{Refusal, Report, Status, TomlFault};
+use rg_messages::{FailedFile, Refusal, Report, Status, TomlFault};
 use rg_query::QueryFault;
 use std::alloc::Global;
 use std::io;
@@ -15,6 +15,8 @@ struct Told {
     refused: Option<ConfigFault>,
     /// The plan's bytes.
     document: &'static [u8],
+    /// The folder of the file that failed, if it has one.
+    folder: &'static str,
     /// The file or stream that failed, if one did, and the number of the system's error.
     failed: Option<(&'static str, i32)>,
     sentence: &'static str,
@@ -24,6 +26,7 @@ const TOLD: Told = Told {
     status: Status::Plan,
     refused: None,
     document: b"",
+    folder: "",
     failed: None,
     sentence: "",
 };
@@ -47,10 +50,14 @@ impl Told {
         }
     }
 
-    fn failure(&self) -> Option<(&'static str, io::Error)> {
+    fn failure(&self) -> Option<FailedFile<'static>> {
         match self.failed {
             None => None,
-            Some((name, number)) => Some((name, io::Error::from_raw_os_error(number))),
+            Some((name, number)) => Some(FailedFile {
+                folder: self.folder,
+                name,
+                error: io::Error::from_raw_os_error(number),
+            }),
         }
     }
 }

@@ -1,4 +1,4 @@
-ghost use Rattle.std.specs.Prelude.{◌≡◌, ◌↔◌, ℕ, ◌+◌, ◌<◌, ◌≤◌, ◌^◌, List, [], ◌∷◌, ◌++◌, length, OnOk, OnErr, IsErrOf};
+ghost use Rattle.std.specs.Prelude.{◌≡◌, ◌↔◌, ℕ, ◌+◌, ◌<◌, ◌≤◌, ◌^◌, List, [], ◌∷◌, ◌++◌, length, OnOk, OnErr, IfOk, IfSome, IfNone, IsErrOf};
 ghost use Rattle.std.specs.Borrow.{sem};
 ghost use Rattle.std.specs.Io.BufRead.{Rests};
 ghost use Rattle.rg_bytes.specs.Counts.{Rose};
@@ -68,6 +68,18 @@ pub trait Past {
     /// The same, in the later one of two spellings.
     ghost spells_later: { Self → Spot → Type 0 };
 
+    /// A look at the spot asks for what stands at an illegal place.
+    ghost asks_illegal: { Self → Spot → Type 0 };
+
+    /// What stands in front of the spot's place is legal, and the spot's index goes on from there to its number.
+    ghost reached: { Self → Spot → Type 0 };
+
+    /// What stands at the spot's place is legal too, and an event of it is at the spot's index.
+    ghost reached_event: { Self → Spot → Type 0 };
+
+    /// No place of a stored event is illegal.
+    ghost whole: { Self → Type 0 };
+
     /// From an earlier state of one past to a later one.
     ghost goes: { Self → Self → Type 0 };
 
@@ -93,7 +105,8 @@ pub trait Past {
         ensures later { faults self.old ≤ faults self.new };
 
     /// Looks at the event of a spot. Over a sound past an answer leaves the spot in its later spelling,
-    /// and a look at a spelled spot is never refused as damaged.
+    /// and a look at a spelled spot is never refused as damaged. Over any past what stands at an illegal
+    /// place is never taken for an event, nor for the end.
     fn peek(&mut self, spot: &mut Spot) -> Result<Option<&Event>, PastFault>
         requires { spot.old.number ≤ length (events self.old) }
         ensures* after { sem 𝓛 (Rests Self.row self.entry (λ new.
@@ -111,14 +124,20 @@ pub trait Past {
         ensures event { sound self.old → spells self.old spot.old → Shows (events self.old) spot.old.number result }
         ensures never_damaged { (place : ℕ) → sound self.old → spells self.old spot.old → IsErrOf result (PastFault.Damaged place) → ⊥ }
         ensures ended { IsErrOf result PastFault.Ended ↔ ended self.old }
-        ensures no_full { IsErrOf result PastFault.Full → ⊥ };
+        ensures no_full { IsErrOf result PastFault.Full → ⊥ }
+
+        // Of any past, a sound one or not.
+        ensures legal { asks_illegal self.old spot.old → OnOk result ⊥ }
+        ensures reached { reached self.old spot.old → IfOk result (λ look. IfSome look (λ _. reached_event self.old spot.new)) }
+        ensures whole { reached self.old spot.old → IfOk result (λ look. IfNone look (whole self.old)) };
 
     /// Moves a spot on to the next event.
     fn advance(&self, spot: &mut Spot)
         requires number { spot.old.number < length (events self.now) }
         requires index { spot.old.index < 4096 }
         ensures next { spot.new.number ≡ spot.old.number + 1 }
-        ensures spells { sound self.now → spells_later self.now spot.old → spells self.now spot.new };
+        ensures spells { sound self.now → spells_later self.now spot.old → spells self.now spot.new }
+        ensures reached { reached_event self.now spot.old → reached self.now spot.new };
 
     /// How many events there are.
     fn count(&self) -> u64
@@ -151,6 +170,12 @@ pub trait Past {
     ghost spelled_within: { (p : Self) (s : Spot) → spells p s → s.number ≤ length (events p) };
 
     ghost stays_spelled: { (p q : Self) (s : Spot) → goes p q → sound p → spells p s → spells q s };
+
+    ghost stays_asking: { (p q : Self) (s : Spot) → goes p q → asks_illegal p s → asks_illegal q s };
+
+    ghost stays_reached: { (p q : Self) (s : Spot) → goes p q → reached p s → reached q s };
+
+    ghost stays_at_event: { (p q : Self) (s : Spot) → goes p q → reached_event p s → reached_event q s };
 
     ghost later_is_spelled: { (p : Self) (s : Spot) → spells_later p s → spells p s };
 

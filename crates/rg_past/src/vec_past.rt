@@ -1,4 +1,4 @@
-ghost use Rattle.std.specs.Prelude.{◌≡◌, ◌↔◌, ℕ, ◌≤◌, ◌<◌, ◌^◌, [], IfSome, IsErr, IsErrOf, OnOk, length, slice_get};
+ghost use Rattle.std.specs.Prelude.{◌≡◌, ◌↔◌, ℕ, ◌≤◌, ◌<◌, ◌^◌, [], IfOk, IfSome, IfNone, IsErr, IsErrOf, OnOk, length, slice_get};
 ghost use Rattle.std.specs.Borrow.{sem};
 ghost use Rattle.std.specs.Io.BufRead.{Rests};
 ghost use Rattle.std.specs.Option.{option_copied};
@@ -81,6 +81,14 @@ impl Past for VecPast {
 
     ghost spells_later = { Spells };
 
+    ghost asks_illegal = { λ _ _. ⊥ };
+
+    ghost reached = { λ _ _. ⊤ };
+
+    ghost reached_event = { λ _ _. ⊤ };
+
+    ghost whole = { λ _. ⊤ };
+
     ghost goes = { Goes };
 
     #[tactic(auto, using(crate::proofs::Rising::stays_sound))]
@@ -112,6 +120,9 @@ impl Past for VecPast {
         ensures never_damaged { (place : ℕ) → ⟦<VecPast as Past>⟧.sound self.old → ⟦<VecPast as Past>⟧.spells self.old spot.old → IsErrOf result (PastFault.Damaged place) → ⊥ }
         ensures ended { IsErrOf result PastFault.Ended ↔ ⟦<VecPast as Past>⟧.ended self.old }
         ensures no_full { IsErrOf result PastFault.Full → ⊥ }
+        ensures legal { ⟦<VecPast as Past>⟧.asks_illegal self.old spot.old → OnOk result ⊥ }
+        ensures reached { ⟦<VecPast as Past>⟧.reached self.old spot.old → IfOk result (λ look. IfSome look (λ _. ⟦<VecPast as Past>⟧.reached_event self.old spot.new)) }
+        ensures whole { ⟦<VecPast as Past>⟧.reached self.old spot.old → IfOk result (λ look. IfNone look (⟦<VecPast as Past>⟧.whole self.old)) }
 
         // No look is refused, and the spot stays as it is.
         ensures no_refusal { IsErr result → ⊥ }
@@ -159,6 +170,12 @@ impl Past for VecPast {
     ghost spelled_within = { λ p s spells. spells.number };
 
     ghost stays_spelled = { λ p q s goes _ spells. Goes-spells p q s goes spells };
+
+    ghost stays_asking = { λ _ _ _ _ none. none };
+
+    ghost stays_reached = { λ _ _ _ _ all. all };
+
+    ghost stays_at_event = { λ _ _ _ _ all. all };
 
     ghost later_is_spelled = { λ p s spells. spells };
 

@@ -49,6 +49,11 @@ impl<P: Past> Shown<P> {
         ensures never_damaged { (place : ℕ) → P.sound self.old.past → P.spells self.old.past spot.old →
             IsErrOf result (PastFault.Damaged place) → ⊥ }
 
+        // Over any past: what stands at an illegal place is neither an event nor the end.
+        ensures legal { P.asks_illegal self.old.past spot.old → OnOk result ⊥ }
+        ensures reached { P.reached self.old.past spot.old → IfOk result (λ found. IfSome found (λ _. P.reached self.new.past spot.new)) }
+        ensures whole { P.reached self.old.past spot.old → IfOk result (λ found. IfNone found (P.whole self.old.past)) }
+
         ensures none { IfOk result (λ found. IfNone found (self.new.shown ≡ self.old.shown)) }
         ensures err { OnErr result (self.new.shown ≡ self.old.shown) }
         ensures number { spot.new.number ≡ self.new.shown }
@@ -78,7 +83,7 @@ impl<P: Past> Shown<P> {
 impl<P: Past> Past for Shown<P> {
     ghost use Rattle.std.specs.Prelude.{◌≡◌, length, take, [], refl};
     ghost use Rattle.rg_past.specs.Ranges.{IsInRange};
-    ghost use Rattle.rg_past_prefix.specs.Shows.{IsSoundFront, SpellsFront, GoesFront};
+    ghost use Rattle.rg_past_prefix.specs.Shows.{IsSoundFront, SpellsFront, IsWholeFront, GoesFront};
     ghost use Rattle.rg_past_prefix.specs.ShowsLaws.{front_same, front_join, front_limit, front_small, front_begins, front_grows, front_spells, front_order, front_later};
 
     ghost events = { λ s. take s.shown (P.events s.past) };
@@ -100,6 +105,14 @@ impl<P: Past> Past for Shown<P> {
     ghost spells = { λ s spot. SpellsFront (P.spells s.past spot) spot.number s.shown (P.events s.past) };
 
     ghost spells_later = { λ s spot. SpellsFront (P.spells_later s.past spot) spot.number s.shown (P.events s.past) };
+
+    ghost asks_illegal = { λ s spot. P.asks_illegal s.past spot };
+
+    ghost reached = { λ s spot. P.reached s.past spot };
+
+    ghost reached_event = { λ s spot. P.reached_event s.past spot };
+
+    ghost whole = { λ s. IsWholeFront (P.whole s.past) s.shown (P.events s.past) };
 
     ghost goes = { λ p q. GoesFront (P.goes p.past q.past) (P.events p.past) (P.events q.past) p.shown q.shown };
 
@@ -152,6 +165,12 @@ impl<P: Past> Past for Shown<P> {
     ghost spelled_within = { λ p s spells. spells.within };
 
     ghost stays_spelled = { λ p q s goes sound spells. front_spells goes (P.stays_spelled p.past q.past s goes.goes sound.sound) spells };
+
+    ghost stays_asking = { λ p q s goes. P.stays_asking p.past q.past s goes.goes };
+
+    ghost stays_reached = { λ p q s goes. P.stays_reached p.past q.past s goes.goes };
+
+    ghost stays_at_event = { λ p q s goes. P.stays_at_event p.past q.past s goes.goes };
 
     ghost later_is_spelled = { λ p s spells. front_later (P.later_is_spelled p.past s) spells };
 

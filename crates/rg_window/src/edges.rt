@@ -1,4 +1,5 @@
-ghost use Rattle.std.specs.Prelude.{◌≡◌, ℕ, ◌≤◌, ◌<◌, ◌^◌, length, All, IfOk, IfErr, OnOk, IsErrOf, slice_index_or};
+ghost use Rattle.std.specs.Prelude.{◌≡◌, ℕ, ◌≤◌, ◌<◌, ◌^◌, length, All, IfOk, IfErr, OnOk, IsErrOf, Some, slice_get, slice_index_or};
+ghost use Rattle.rg_past.specs.declared.past.Spot.{Spot};
 ghost use Rattle.rg_past.specs.Keeping.{Kept, HasCause};
 ghost use Rattle.rg_window.specs.Chain.{Moved};
 ghost use Rattle.rg_window.specs.Halting.{Goes, HaltsAt};
@@ -75,7 +76,8 @@ impl Edges {
     /// the edge has a time of at most `t` less the offset, the event is visited and the edge goes on.
     /// Over a sound past an edge whose spot the past spells moves just so, whatever the spots of the
     /// others are, and where it spells them all, none stops at a damaged place. No edge ever goes
-    /// back. Over a past that has ended the first look is refused, and nothing is visited.
+    /// back. Over a past that has ended the first look is refused, and nothing is visited. Over any past the
+    /// move is refused where an edge stands at a spot whose look asks for an illegal place.
     ///
     /// After a refusal each edge stands where it had come to, those behind the one that stopped where
     /// they stood before, and the next move goes on from there.
@@ -104,6 +106,8 @@ impl Edges {
         ensures stops { P.ended past.old → 0 < length self.old.offsets →
             IsErrOf result (MoveFault.Past PastFault.Ended) }
         ensures unvisited { P.ended past.old → visit.new ≡ visit.old }
+        ensures legal { (edge : ℕ) (spot : Spot) → slice_get self.old.spots edge ≡ Some spot →
+            P.asks_illegal past.old spot → OnOk result ⊥ }
         ensures cause { (fault : PastFault) → IsErrOf result (MoveFault.Past fault) →
             HasCause (P.illegal past.new) ⊥ (P.ended past.old) (P.faults past.old) (P.faults past.new) fault }
         ensures never_damaged { (place : ℕ) → P.sound past.old → All (P.spells past.old) self.old.spots →
@@ -147,7 +151,7 @@ fn move_edge<P: Past, V: Visit>(
     ensures goes { Goes V.step edge visit.old visit.new spot.old.number spot.new.number
         (P.sound past.old × P.spells past.old spot.old)
         (passed (P.events past.old) t offset spot.old.number) result }
-    ensures refuses { MayRefuse (P.illegal past.new) (P.ended past.old) (P.sound past.old × P.spells past.old spot.old)
+    ensures refuses { MayRefuse (P.illegal past.new) (P.asks_illegal past.old spot.old) (P.ended past.old) (P.sound past.old × P.spells past.old spot.old)
         (P.faults past.old) (P.faults past.new) visit.old visit.new result }
     ensures keeps { Keeps P.goes P.sound P.ended P.has_room P.events P.faults P.spells past.old past.new spot.old spot.new }
 {

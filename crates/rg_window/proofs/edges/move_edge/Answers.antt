@@ -44,6 +44,7 @@ edge-preserved g c =
           (sym c.if-not-has_come_to.ensures) ∙ ap (λ v. c.in-Ok-Some.event.now ∷ passed events c.args.t c.args.offset v) (sym n));
       within = omega (arith, n, w.0, ap length i.events, c.peek.ensures.number);
       spells = λ s p. c.advance.ensures.spells (k.3 (i.past.sound s)) (rw c.in-Ok-Some.is at (k.8 (i.past.sound s) (i.spells s p)).1);
+      asks = λ a. absurd (c.in-Ok-Some.ensures.legal (i.asks a));
       events = k.0 ∙ i.events;
       room = λ r. k.4 (i.room r);
       past = kept-then _ _ _ _ _ _ _ g.met.P.Past.transitive i.past (record { goes = k.1; sound = k.3; ended = k.2; later = k.5 });
@@ -56,6 +57,7 @@ returns-in-Err-clause-refuses g c =
     record {
       ended = search rules;
       unvisited = i.unvisited;
+      legal = λ _. tt;
       cause = search rules;
       never_damaged = λ place told is. c.in-Err.ensures.never_damaged place (i.past.sound told.0) (i.spells told.0 told.1) (past_err c.in-Err.fault (Damaged place) is);
     }

@@ -1,4 +1,4 @@
-use Rattle.std.proofs.Common.{◌≤◌, ◌<◌, ◌∙◌, ap, arith, length, get_or}
+use Rattle.std.proofs.Common.{◌≢◌, ◌≤◌, ◌<◌, ◌∙◌, ap, arith, length, get_or}
 use Rattle.std.proofs.lemmas.List.{length-set}
 use Rattle.std.proofs.lemmas.List.Elements.{All-set}
 use Rattle.rg_past.specs.declared.past.Spot.{Spot}
@@ -32,6 +32,10 @@ edges-preserved g c =
           (λ spot spelled. g.met.P.Past.stays_spelled _ _ spot w.keeps.past.goes (i.past.sound s) spelled)
           (λ here. w.keeps.spells (i.past.sound s) (spelled_of _ spots edge spot c.index.ensures (rw here at (i.spells s k e))))
           (i.spells s k e);
+      asks = λ k e.
+          let s = i.asks k e in
+          let other : k ≢ edge = λ same. w.refuses.legal (spelled_of (g.P.Past.asks_illegal c.edges.past) spots edge spot c.index.ensures (rw same at s.1)) in
+          (omega (arith, s.0, other), spelled_set (g.P.Past.asks_illegal c.edges.past) (g.P.Past.asks_illegal c.move_edge-moved.new.past) spots edge k new below (λ spot asks. g.met.P.Past.stays_asking _ _ spot w.keeps.past.goes asks) (λ same. absurd (other same)) s.1);
       events = w.keeps.same ∙ i.events;
       room = λ r. w.keeps.room (i.room r);
       past = kept-then _ _ _ _ _ _ _ g.met.P.Past.transitive i.past w.keeps.past;
@@ -43,6 +47,11 @@ pub returns-clause-reached : goal.returns-clause-reached
 returns-clause-reached g c = rw (← c.self.view_is) (λ s k e.
     let within : k < c.edges.edge = omega (arith, c.edges-test.false, c.len-edge-end.ensures, spelled_within _ c.self.inside.spots.items k e) in
     Reaches-from_Moved _ _ _ _ _ _ _ _ _ _ k c.edges.invariant.moved within (s, e))
+
+pub returns-clause-legal : goal.returns-clause-legal
+returns-clause-legal g c = rw (← c.self.view_is) (λ k spot is asks.
+    let s = c.edges.invariant.asks k (spot, is, asks) in
+    absurd (omega (arith, c.edges-test.false, c.len-edge-end.ensures, c.edges.invariant.same, s.0, spelled_within _ c.edges.self-inside.spots.items k s.1)))
 
 pub returns-clause-rises : goal.returns-clause-rises
 returns-clause-rises g c = rw (← c.self.view_is) (λ k. rises_moved _ _ _ _ _ _ _ _ _ _ k c.edges.invariant.moved)

@@ -13,6 +13,7 @@ invariant-edges g l = record {
   same : length l.self-inside.spots.items ≡ length l.initial.self-inside.spots.items;
   within : AreWithin l.self-inside.spots.items (length (g.P.Past.events l.fn.past));
   spells : g.P.Past.sound l.fn.past → (edge : ℕ) → IsSpelledAt (g.P.Past.spells l.fn.past) l.initial.self-inside.spots.items edge → IsSpelledAt (g.P.Past.spells l.past) l.self-inside.spots.items edge;
+  asks : (edge : ℕ) → IsSpelledAt (g.P.Past.asks_illegal l.fn.past) l.initial.self-inside.spots.items edge → (l.edge ≤ edge) × IsSpelledAt (g.P.Past.asks_illegal l.past) l.self-inside.spots.items edge;
   events : g.P.Past.events l.past ≡ g.P.Past.events l.fn.past;
   room : g.P.Past.has_room l.fn.past → g.P.Past.has_room l.past;
   past : Kept g.P.Past.goes g.P.Past.sound g.P.Past.ended g.P.Past.faults l.fn.past l.past;

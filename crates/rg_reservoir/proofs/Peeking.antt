@@ -226,21 +226,23 @@ module _ {H : Type 0} (now : H → Option Image) (may : H → Image → Type 0) 
     leaves = leaves;
     outs_stay = outs;
     added = ([], stays.opened ∙ sym (append-nil pr.now.open.events));
+    cached = kept;
     sound = sound_stays (now ph.now) (now qh.now) (may ph.now) (may qh.now) pr.now qr.now leaves.now_stays leaves.may_stays stays kept stay;
   }
 
   pub goes_append :
       ((h : H) (m : Moment) → since h (clock h) m → may h m.image × ForSome (said h) (λ s. m.said ≡ s)) → ((h : H) (t u : ℕ) (m : Moment) → t ≤ u → since h u m → since h t m)
-      → (pr : MutBor Reservoir) (ph : MutBor H) (qr : MutBor Reservoir) (qh : MutBor H) → qr.ghost_name ≡ pr.ghost_name → qh.ghost_name ≡ ph.ghost_name → qh.now ≡ ph.now → base qr.now ≡ base pr.now → room_of qr.now ≡ room_of pr.now → qr.now.cache.cap ≡ pr.now.cache.cap
+      → (pr : MutBor Reservoir) (ph : MutBor H) (qr : MutBor Reservoir) (qh : MutBor H) → qr.ghost_name ≡ pr.ghost_name → qh.ghost_name ≡ ph.ghost_name → qh.now ≡ ph.now → base qr.now ≡ base pr.now → room_of qr.now ≡ room_of pr.now → qr.now.cache ≡ pr.now.cache
       → (events : List Event) → qr.now.open.events ≡ pr.now.open.events ++ events → (IsSound (now ph.now) (may ph.now) pr.now → IsSound (now ph.now) (may ph.now) qr.now) → Goes now may clock since said out_faults pr ph qr qh
-  goes_append only sinks pr ph qr qh r h same base_is room cap events added sound = record {
+  goes_append only sinks pr ph qr qh r h same base_is room cache events added sound = record {
     same_reservoir = r;
     same_host = h;
     base = base_is;
     room = room;
-    cap = cap;
+    cap = ap (λ (c : Cache Kept). c.cap) cache;
     leaves = subst (λ (w : H). LeavesAll now may clock since said ph.now w) (sym same) (leaves_all-none now may clock since said ph.now (λ t u m le left. sinks ph.now t u m le left) (λ m left. only ph.now m left));
     outs_stay = ap out_faults same;
     added = (events, added);
+    cached = λ v told was. subst (λ (c : Cache Kept). IsCached (view_of (base pr.now)) (v (base pr.now).file) c) (sym cache) was;
     sound = λ was. subst (λ (w : H). IsSound (now w) (may w) qr.now) (sym same) (sound was);
   }

@@ -11,6 +11,7 @@ use Rattle.rg_reservoir.specs.Kept.{base, view_of, opened, cache_of, loads_of, n
 use Rattle.rg_reservoir.specs.Ready.{IsReady}
 use Rattle.rg_reservoir.specs.Touched.{HasSought, SeekLoads}
 use Rattle.rg_reservoir.proofs.Fetching.{chunk_legal}
+use Rattle.rg_reservoir.proofs.Reaching.{or_holds_here}
 use Rattle.rg_reservoir.proofs.Seeking.{if_false, one_image, found_here}
 use Rattle.rg_reservoir.proofs.Touching.{one_touched, look_one, no_next, none_behind}
 
@@ -40,6 +41,7 @@ module _ {H : Type 0} (now : H → Option Image) (may : H → Image → Type 0) 
       here = chunk_legal (view_of (base r)) spot.place ready.item.0.next ready.item.0.chunk (v (base r).file) (was spot.place ready.item.0 ready.item.1);
       behind = λ chunk next at within is. absurd (none_behind (view_of (base r)) (v (base r).file) spot.place spot.index chunk next (no_next (view_of (base r)) (v (base r).file) (cache_of r) spot.place spot.index ready.item.0 was ready.item.1 turns_not) at is);
     };
+    reached = λ v told was so_far. or_holds_here (base r) (v (base r).file) (cache_of r) spot ready.item.0 ready.near was ready.item.1 turns_not so_far;
     number = refl;
     placed = λ far. absurd (omega (arith, far, ready.near));
     spelled = λ sound spells. spells;

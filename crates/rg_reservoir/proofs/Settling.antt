@@ -1,5 +1,5 @@
 -- Where no growth stands: at the places that a spot is settled to, at those of chunks, and at the end.
-use Rattle.std.proofs.Common.{◌≡◌, ◌∙◌, inl, inr, ℕ, ◌+◌, ◌≤◌, ◌<◌, ◌==◌, Bool, true, false, List, [], ◌∷◌, length, refl, sym, ap, subst, arith, if◌then◌else◌}
+use Rattle.std.proofs.Common.{◌≡◌, ◌∙◌, inl, inr, ℕ, ◌+◌, ◌≤◌, ◌<◌, ◌==◌, Bool, true, false, List, [], ◌∷◌, length, Option, Some, None, refl, sym, ap, subst, arith, if◌then◌else◌}
 use Rattle.std.proofs.lemmas.Bool.{cases_lt, eqb-false, ne_eqb}
 use Rattle.rg_host.specs.Image.{Image}
 use Rattle.rg_event.specs.Shapes.{Shape}
@@ -9,7 +9,11 @@ use Rattle.rg_cache.specs.Cache.{Cache}
 use Rattle.rg_log.specs.Log.{schema_payload}
 use Rattle.rg_log.specs.Stages.{Stage, chunk, growth}
 use Rattle.rg_reservoir.specs.Chain.{Chain}
+use Rattle.rg_log.specs.Entries.{entry_of}
+use Rattle.rg_log.specs.declared.entry.Entry.{Entry}
+use Rattle.rg_log.specs.declared.entry.Entry.TheVariants.{Schema, Chunk, Growth}
 use Rattle.rg_reservoir.specs.GrownViews.{growths_from, IsViewOf}
+use Rattle.rg_reservoir.specs.Heads.{with_growing, growths_by, growths_in}
 use Rattle.rg_reservoir.specs.Kept.{Base, view_of, IsRight, InChunk}
 use Rattle.rg_reservoir.specs.Views.{View, passed}
 use Rattle.rg_reservoir.specs.declared.growing.Growing.{Growing}
@@ -32,6 +36,21 @@ listed_rise place shape (p ∷ payloads) [] = tt
 listed_rise place shape (p ∷ payloads) (chunk events ∷ stages) =
     rise_sooner (growths_from (place + 9 + length p) shape payloads stages) place (place + 9 + length p) (omega arith) (listed_rise (place + 9 + length p) shape payloads stages)
 listed_rise place shape (p ∷ payloads) (growth grown ∷ stages) = (omega arith, omega arith, listed_rise (place + 9 + length p) grown.to payloads stages)
+
+-- and those among any frames, by what these say
+said_rise : (place : ℕ) (schema : Option Shape) (payloads : List (List ℕ)) → Rise place (growths_by place schema payloads)
+said_rise place schema [] = tt
+said_rise place schema (p ∷ payloads) = by (λ shape. said_rise (place + 9 + length p) shape payloads) schema (entry_of schema p)
+  where
+    further : ((shape : Option Shape) → Rise (place + 9 + length p) (growths_by (place + 9 + length p) shape payloads)) → (shape : Option Shape) → Rise place (growths_by (place + 9 + length p) shape payloads)
+    further rest shape = rise_sooner (growths_by (place + 9 + length p) shape payloads) place (place + 9 + length p) (omega arith) (rest shape)
+
+    by : ((shape : Option Shape) → Rise (place + 9 + length p) (growths_by (place + 9 + length p) shape payloads)) → (known : Option Shape) (said : Option Entry) → Rise place (with_growing place p known said (λ shape. growths_by (place + 9 + length p) shape payloads))
+    by rest known None = tt
+    by rest known (Some (Schema shape)) = further rest (Some shape)
+    by rest known (Some (Chunk head)) = further rest known
+    by rest None (Some (Growth grown)) = further rest (Some grown.to)
+    by rest (Some from) (Some (Growth grown)) = (omega arith, omega arith, rest (Some grown.to))
 
 -- none stands in front of the first one
 passed_in_front : (growths : List Growing) (place q : ℕ) → Rise place growths → q < place → passed growths q ≡ q
@@ -56,6 +75,10 @@ passed_twice (g ∷ growths) place q rise = by (g.place == q) refl (λ (at : ℕ
     by : (b : Bool) → (g.place == q) ≡ b → ((at : ℕ) → passed growths (passed growths at) ≡ passed growths at) → passed (g ∷ growths) (passed growths (if b then g.next else q)) ≡ passed growths (if b then g.next else q)
     by true is again = past g.next (λ same. omega (arith, same, rise.1, passed_behind growths g.next)) (again g.next)
     by false is again = past q (apart (eqb-false g.place q is)) (again q)
+
+-- behind the growths among any frames that stand at a place there stands no other one
+pub said_twice : (growths : List Growing) (payloads : List (List ℕ)) → growths ≡ growths_in payloads → (q : ℕ) → passed growths (passed growths q) ≡ passed growths q
+said_twice growths payloads are q = subst (λ (l : List Growing). passed l (passed l q) ≡ passed l q) (sym are) (passed_twice (growths_in payloads) 0 q (said_rise 0 None payloads))
 
 -- behind the growths that stand at a place there stands no other one
 pub view_settles : (view : View) (stages : List Stage) (bytes : List ℕ) → IsViewOf view stages bytes → (q : ℕ) → passed view.growths (passed view.growths q) ≡ passed view.growths q

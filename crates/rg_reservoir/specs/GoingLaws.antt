@@ -13,9 +13,10 @@ use Rattle.rg_past.specs.Ranges.{IsInRange}
 use Rattle.rg_host.specs.Moments.{Moment}
 use Rattle.rg_host.proofs.Runs.{leaves_all-none, leaves_all-then}
 use Rattle.rg_reservoir.specs.Chain.{padded}
-use Rattle.rg_reservoir.specs.Kept.{Base, base, opened, stored, all_events, IsSound, SpellsSettled, LaterSettled, Spells, SpellsLater, InChunk, InFront, InOpen}
+use Rattle.rg_reservoir.specs.Kept.{Base, base, view_of, opened, cache_of, stored, all_events, IsCached, IsSound, SpellsSettled, LaterSettled, Spells, SpellsLater, InChunk, InFront, InOpen}
 use Rattle.rg_reservoir.specs.Views.{passed}
 use Rattle.rg_reservoir.specs.Going.{Goes}
+use Rattle.rg_reservoir.specs.Reached.{AsksIllegal, IsReached, IsReachedEvent}
 use Rattle.rg_reservoir.specs.declared.reservoir.Reservoir.{Reservoir}
 
 padded_long : (count : ℕ) (events : List Event) → length (padded count events) ≡ count
@@ -43,6 +44,7 @@ module _ {H : Type 0} (now : H → Option Image) (may : H → Image → Type 0) 
     leaves = leaves_all-none now may clock since said h.now (λ t u m le left. sinks h.now t u m le left) (λ m left. only h.now m left);
     outs_stay = refl;
     added = ([], sym (append-nil (opened r.now)));
+    cached = λ v told was. was;
     sound = λ sound. sound;
   }
 
@@ -57,6 +59,8 @@ module _ {H : Type 0} (now : H → Option Image) (may : H → Image → Type 0) 
     leaves = leaves_all-then now may clock since said ph.now qh.now rh.now first.leaves second.leaves;
     outs_stay = second.outs_stay ∙ first.outs_stay;
     added = (first.added.0 ++ second.added.0, second.added.1 ∙ ap (λ (l : List Event). l ++ second.added.0) first.added.1 ∙ append_assoc (opened pr.now) first.added.0 second.added.0);
+    cached = λ v told was. subst (λ (b : Base). IsCached (view_of b) (v b.file) (cache_of rr.now)) first.base
+        (second.cached v (first.leaves.now_stays ∙ told) (subst (λ (b : Base). IsCached (view_of b) (v b.file) (cache_of qr.now)) (sym first.base) (first.cached v told was)));
     sound = λ sound. second.sound (first.sound sound);
   }
 
@@ -80,6 +84,35 @@ module _ {H : Type 0} (now : H → Option Image) (may : H → Image → Type 0) 
     };
     at = spells.at;
   })
+
+  -- what is known of a spot over any log
+  module _ (pr : MutBor Reservoir) (ph : MutBor H) (qr : MutBor Reservoir) (qh : MutBor H) (s : Spot) (goes : Goes now may clock since said out_faults pr ph qr qh) where
+    pub Goes-asking : AsksIllegal (now ph.now) (base pr.now) (cache_of pr.now) s → AsksIllegal (now qh.now) (base qr.now) (cache_of qr.now) s
+    Goes-asking asks = subst (λ (b : Base). AsksIllegal (now qh.now) b (cache_of qr.now) s) (sym goes.base) (record {
+      image = asks.image;
+      told = goes.leaves.now_stays ∙ asks.told;
+      cached = goes.cached asks.image asks.told asks.cached;
+      near = asks.near;
+      illegal = asks.illegal;
+    })
+
+    pub Goes-reached : IsReached (now ph.now) (base pr.now) (cache_of pr.now) s → IsReached (now qh.now) (base qr.now) (cache_of qr.now) s
+    Goes-reached reached = subst (λ (b : Base). IsReached (now qh.now) b (cache_of qr.now) s) (sym goes.base) (record {
+      image = reached.image;
+      told = goes.leaves.now_stays ∙ reached.told;
+      cached = goes.cached reached.image reached.told reached.cached;
+      apart = reached.apart;
+      so_far = reached.so_far;
+    })
+
+    pub Goes-at_event : IsReachedEvent (now ph.now) (base pr.now) (cache_of pr.now) s → IsReachedEvent (now qh.now) (base qr.now) (cache_of qr.now) s
+    Goes-at_event reached = subst (λ (b : Base). IsReachedEvent (now qh.now) b (cache_of qr.now) s) (sym goes.base) (record {
+      image = reached.image;
+      told = goes.leaves.now_stays ∙ reached.told;
+      cached = goes.cached reached.image reached.told reached.cached;
+      apart = reached.apart;
+      so_far = reached.so_far;
+    })
 
   -- the events of a later state begin with those of an earlier one
   pub Goes-begins : (pr : MutBor Reservoir) (ph : MutBor H) (qr : MutBor Reservoir) (qh : MutBor H) → Goes now may clock since said out_faults pr ph qr qh

@@ -8,6 +8,7 @@ use Rattle.rg_past.specs.declared.past.Spot.{Spot}
 use Rattle.rg_cache.specs.Cache.{item_at, holds_place, places, least_recently_used, touches}
 use Rattle.rg_reservoir.specs.Chain.{chunk_at, IsIllegalBy}
 use Rattle.rg_reservoir.specs.Kept.{base, view_of, opened, cache_of, loads_of, look_places, held_after, next_in, IsAbsent, IsCached, IsLegalLook, IsSound, IsTouched, AllTouched, SpellsSettled, Found}
+use Rattle.rg_reservoir.specs.Reached.{IsWhole, IsBehind, HoldsEvent}
 use Rattle.rg_reservoir.specs.declared.fault.ReservoirFault.{ReservoirFault}
 use Rattle.rg_reservoir.specs.declared.fault.ReservoirFault.TheVariants as fault
 use Rattle.rg_reservoir.specs.declared.kept.Kept.{Kept}
@@ -30,6 +31,7 @@ pub record HasTouched {H : Type 0} (now : H → Option Image) (reads : H → ℕ
 -- A spot at whose place no growth stands was made ready for a look: it has its number still, and over a sound reservoir it is in its later spelling.
 pub record HasSought {H : Type 0} (now : H → Option Image) (may : H → Image → Type 0) (result : Result Unit ReservoirFault) (old new : Reservoir) (host : H) (spot then : Spot) : Type 0 where
   pub legal : (v : Image) → now host ≡ Some v → IsCached (view_of (base old)) (v (base old).file) (cache_of old) → spot.number < (base old).committed → OnOk result (IsLegalLook (base old) (v (base old).file) spot)
+  pub reached : (v : Image) → now host ≡ Some v → IsCached (view_of (base old)) (v (base old).file) (cache_of old) → IsWhole (base old) (v (base old).file) ⊎ IsBehind (base old) (v (base old).file) spot → OnOk result (IsWhole (base old) (v (base old).file) ⊎ HoldsEvent (base old) (v (base old).file) (cache_of new) then)
   pub number : then.number ≡ spot.number
   pub placed : OnOk result ((base old).committed ≤ then.number → then.number ≡ (base old).committed + then.index)
   pub spelled : IsSound (now host) (may host) old → SpellsSettled (now host) (base old) (opened old) spot → SpellsSettled (now host) (base old) (opened old) then

@@ -114,6 +114,7 @@ impl Reservoir {
     ghost use Rattle.rg_reservoir.specs.Ahead.{closed_next, OnlyLoads, IsLoadStop};
     ghost use Rattle.rg_reservoir.specs.Touched.{HasTouched, HasSought, SeekLoads, SeekHeld, IsSeekStop};
     ghost use Rattle.rg_reservoir.specs.Ends.{ends_looked};
+    ghost use Rattle.rg_reservoir.specs.Reached.{IsReached};
     ghost use Rattle.rg_reservoir.specs.Ready.{IsReady};
     ghost use Rattle.rg_reservoir.specs.Kept.{base, view_of, settled, opened, room_of, log_of, cache_of, loads_of, next_of as the_next_of, time_of, all_events, CommittedOrAll, IsCached, IsSound, Spells, SpellsLater, next_in, seen, IsLegalLook, Adds, Added};
 
@@ -220,6 +221,7 @@ impl Reservoir {
         ensures neither { (IsErrOf result ReservoirFault.Full → ⊥) × (IsErrOf result ReservoirFault.Ended → ⊥) }
 
         ensures going { IfOk result (λ found. IfSome found (λ r. ((base r).ended ≡ false) × ((base r).file ≡ 2) × ((base r).shape ≡ schema.now) × ((base r).limit ≡ room.limit))) }
+        ensures reached { IfOk result (λ found. IfSome found (λ r. ForSome (H.now host.old) (λ _. IsReached (H.now host.new) (base r) (cache_of r) (record { place = (base r).first; index = 0; number = 0 })))) }
         ensures empty { IfOk result (λ found. IfSome found (λ r. (opened r ≡ []) × (room_of r ≡ room.chunk) × (places (cache_of r) ≡ []) × ((cache_of r).cap ≡ room.cache) × (loads_of r ≡ 0))) }
         ensures leaves { LeavesAll H.now H.may H.clock H.since H.said host.old host.new }
         ensures disk_faults { H.disk_faults host.old ≤ H.disk_faults host.new }

@@ -1,4 +1,4 @@
-ghost use Rattle.std.specs.Prelude.{◌≡◌, ◌↔◌, ◌≤◌, ℕ, IsErrOf, OnOk, OnErr, length, []};
+ghost use Rattle.std.specs.Prelude.{◌≡◌, ◌↔◌, ◌≤◌, ℕ, IfOk, IfSome, IfNone, IsErrOf, OnOk, OnErr, length, []};
 ghost use mir.Syntax.{named};
 ghost use Rattle.std.specs.Borrow.{sem};
 ghost use Rattle.std.specs.Io.BufRead.{Rests};
@@ -38,9 +38,10 @@ impl<'a, H: Host> Past for Stored<'a, H> {
     ghost use Rattle.std.specs.Option.{ForSome};
     ghost use Rattle.rg_event.specs.Codec.{IsEventOf};
     ghost use Rattle.rg_reservoir.specs.Chain.{IsIllegalBy};
-    ghost use Rattle.rg_reservoir.specs.Kept.{base, view_of, opened, room_of, all_events, IsSound, Spells, SpellsLater};
+    ghost use Rattle.rg_reservoir.specs.Kept.{base, view_of, opened, room_of, cache_of, all_events, IsSound, Spells, SpellsLater};
+    ghost use Rattle.rg_reservoir.specs.Reached.{AsksIllegal, IsReached, IsReachedEvent, IsWhole};
     ghost use Rattle.rg_reservoir.specs.Going.{Goes};
-    ghost use Rattle.rg_reservoir.specs.GoingLaws.{Goes-same, Goes-join, Goes-limit, Goes-count, Goes-spells, Goes-begins, Goes-fits, fits_range, later_spells, sound_order, spells_within, limit_small};
+    ghost use Rattle.rg_reservoir.specs.GoingLaws.{Goes-same, Goes-join, Goes-limit, Goes-count, Goes-spells, Goes-asking, Goes-reached, Goes-at_event, Goes-begins, Goes-fits, fits_range, later_spells, sound_order, spells_within, limit_small};
 
     ghost events = { λ p. all_events (H.now p.host.now) (base p.reservoir.now) (opened p.reservoir.now) };
 
@@ -61,6 +62,14 @@ impl<'a, H: Host> Past for Stored<'a, H> {
     ghost spells = { λ p s. Spells (H.now p.host.now) (base p.reservoir.now) (opened p.reservoir.now) s };
 
     ghost spells_later = { λ p s. SpellsLater (H.now p.host.now) (base p.reservoir.now) (opened p.reservoir.now) s };
+
+    ghost asks_illegal = { λ p s. AsksIllegal (H.now p.host.now) (base p.reservoir.now) (cache_of p.reservoir.now) s };
+
+    ghost reached = { λ p s. IsReached (H.now p.host.now) (base p.reservoir.now) (cache_of p.reservoir.now) s };
+
+    ghost reached_event = { λ p s. IsReachedEvent (H.now p.host.now) (base p.reservoir.now) (cache_of p.reservoir.now) s };
+
+    ghost whole = { λ p. ForSome (H.now p.host.now) (λ v. IsWhole (base p.reservoir.now) (v (base p.reservoir.now).file)) };
 
     ghost goes = { λ p q. Goes H.now H.may H.clock H.since H.said H.out_faults p.reservoir p.host q.reservoir q.host };
 
@@ -95,6 +104,9 @@ impl<'a, H: Host> Past for Stored<'a, H> {
         ensures never_damaged { (place : ℕ) → ⟦<Stored<'a, H> as Past>⟧.sound self.old → ⟦<Stored<'a, H> as Past>⟧.spells self.old spot.old → IsErrOf result (PastFault.Damaged place) → ⊥ }
         ensures ended { IsErrOf result PastFault.Ended ↔ ⟦<Stored<'a, H> as Past>⟧.ended self.old }
         ensures no_full { IsErrOf result PastFault.Full → ⊥ }
+        ensures legal { ⟦<Stored<'a, H> as Past>⟧.asks_illegal self.old spot.old → OnOk result ⊥ }
+        ensures reached { ⟦<Stored<'a, H> as Past>⟧.reached self.old spot.old → IfOk result (λ look. IfSome look (λ _. ⟦<Stored<'a, H> as Past>⟧.reached_event self.old spot.new)) }
+        ensures whole { ⟦<Stored<'a, H> as Past>⟧.reached self.old spot.old → IfOk result (λ look. IfNone look (⟦<Stored<'a, H> as Past>⟧.whole self.old)) }
     {
         match self.reservoir.seek(self.host, spot) {
             Ok(()) => {}
@@ -134,6 +146,12 @@ impl<'a, H: Host> Past for Stored<'a, H> {
     ghost spelled_within = { λ p s spells. spells_within (H.now p.host.now) (base p.reservoir.now) (opened p.reservoir.now) s spells };
 
     ghost stays_spelled = { λ p q s goes sound spells. Goes-spells H.now H.may H.clock H.since H.said H.out_faults p.reservoir p.host q.reservoir q.host s goes spells };
+
+    ghost stays_asking = { λ p q s goes. Goes-asking H.now H.may H.clock H.since H.said H.out_faults p.reservoir p.host q.reservoir q.host s goes };
+
+    ghost stays_reached = { λ p q s goes. Goes-reached H.now H.may H.clock H.since H.said H.out_faults p.reservoir p.host q.reservoir q.host s goes };
+
+    ghost stays_at_event = { λ p q s goes. Goes-at_event H.now H.may H.clock H.since H.said H.out_faults p.reservoir p.host q.reservoir q.host s goes };
 
     ghost later_is_spelled = { λ p s later. later_spells (H.now p.host.now) (base p.reservoir.now) (opened p.reservoir.now) s later };
 

@@ -1,5 +1,5 @@
 use Rattle.rg_bytes.specs.Counts.{Rose}
-use Rattle.std.proofs.Common.{◌≡◌, ◌∙◌, ◌≤◌, ◌<◌, ◌-◌, ap, sym, subst, refl, rules, Some, None, ◌∷◌, [], arith, ◌+◌, ◌^◌, min, ℕ, List}
+use Rattle.std.proofs.Common.{◌≡◌, inl, ◌∙◌, ◌≤◌, ◌<◌, ◌-◌, ap, sym, subst, refl, rules, Some, None, ◌∷◌, [], arith, ◌+◌, ◌^◌, min, ℕ, List}
 use Rattle.rg_host.specs.Image.{Image}
 use Rattle.rg_cache.specs.Cache.{item_at, places, least_recently_used, touches}
 use Rattle.rg_reservoir.specs.declared.kept.Kept.{Kept}
@@ -10,6 +10,7 @@ use Rattle.rg_reservoir.specs.Views.{shape_at}
 use Rattle.rg_reservoir.proofs.Fetching.{chunk_legal}
 use Rattle.rg_reservoir.proofs.Seeking.{cached_same, illegal_same, next_some, absent_same, one_image, before_end, found_open, found_here, found_next, turn, near}
 use Rattle.rg_reservoir.proofs.Peeking.{err_moves}
+use Rattle.rg_reservoir.proofs.Reaching.{whole_far, whole_here, whole_next, or_holds_here, or_holds_next}
 use Rattle.rg_reservoir.proofs.Settling.{end_rests}
 use Rattle.rg_reservoir.proofs.Touching.{none_touched, one_touched, two_touched, two_places, asks_one, asks_next, look_one, look_two, look_far, no_next, one_next, is_behind, none_behind}
 use Rattle.rg_reservoir.proofs.reservoir.Reservoir.seek_settled.Goals as goal
@@ -17,6 +18,9 @@ use Rattle.rg_reservoir.proofs.reservoir.Reservoir.seek_settled.Goals as goal
 pub returns-then-spot-self-clause-sought : goal.returns-then-spot-self-clause-sought
 returns-then-spot-self-clause-sought g c = record {
   legal = λ v told was lt. absurd (omega (arith, c.if-spot-self.true, lt));
+  reached = λ v told was so_far.
+      let self = c.args.self.now in
+      inl (whole_far (base self) (v self.log.file) c.args.spot.now (omega (arith, c.if-spot-self.true)) so_far);
   number = search rules;
   placed = search rules;
   spelled = λ sound spells.
@@ -44,6 +48,13 @@ returns-in-None-clause-sought g c = record {
         here = chunk_legal view place h.0.next h.0.chunk bytes (mid place h.0 h.1);
         behind = λ chunk next at within is. absurd (none_behind view bytes place index chunk next (no_next view bytes c.touch.new.self.cache place index h.0 mid h.1 stays) at is);
       };
+  reached = λ v told was so_far.
+      let self = c.args.self.now in
+      let place = c.args.spot.now.place in
+      let mid : IsCached (view_of (base self)) (v self.log.file) c.touch.new.self.cache = c.touch.ensures.only.cached v told was in
+      let h : (kept : Kept) × (item_at place c.touch.new.self.cache ≡ Some kept) = search rules in
+      let stays : next_in (item_at place c.touch.new.self.cache) c.args.spot.now.index ≡ None = search rules in
+      or_holds_here (base self) (v self.log.file) c.touch.new.self.cache c.args.spot.now h.0 (omega (arith, c.if-spot-self.false)) mid h.1 stays so_far;
   number = search rules;
   placed = search rules;
   spelled = search rules;
@@ -116,6 +127,22 @@ returns-in-Ok-false-touch-clause-sought g c = record {
         here = chunk_legal view place k.0.next k.0.chunk bytes (mid place k.0 k.1);
         behind = λ chunk next at within is bad. moved (subst (λ (q : ℕ). IsIllegalBy view q bytes) (is_behind view bytes place index c.in-Some.next chunk next (one_next view bytes c.touch.new.self.cache place index c.in-Some.next mid turns) at is) bad);
       };
+  reached = λ v told was so_far.
+      let self = c.args.self.now in
+      let view = view_of (base self) in
+      let bytes = v self.log.file in
+      let place = c.args.spot.now.place in
+      let index = c.args.spot.now.index in
+      let mid : IsCached view bytes c.touch.new.self.cache = c.touch.ensures.only.cached v told was in
+      let eqF = ap (λ (b : Base). view_of b) c.touch.ensures.only.stays.base in
+      let eqf = ap (λ (b : Base). b.file) c.touch.ensures.only.stays.base in
+      let eqe = ap (λ (b : Base). b.end) c.touch.ensures.only.stays.base in
+      let turns : next_in (item_at place c.touch.new.self.cache) index ≡ Some c.in-Some.next = search rules in
+      let k = next_some (item_at place c.touch.new.self.cache) index c.in-Some.next turns in
+      let second = c.in-Ok-false-touch.ensures.touched.legal v (c.touch.ensures.only.leaves.now_stays ∙ told) (cached_same _ _ _ _ v c.touch.new.self.cache (sym eqF) (sym eqf) mid) in
+      let moved : IsIllegalBy view c.in-Some.next bytes → ⊥ = λ bad. second (illegal_same _ _ _ _ v c.in-Some.next (sym (ap (λ (b : Base). (shape_at (view_of b) c.in-Some.next).fields) c.touch.ensures.only.stays.base)) (sym eqf) bad) in
+      let absent : IsAbsent (view_of (base c.touch.new.self)) c.in-Some.next c.touch.new.self.log.end (v c.touch.new.self.log.file) = c.in-Ok-false-touch.ensures.touched.absent c.in-Ok-false-touch.field-0-test v (c.touch.ensures.only.leaves.now_stays ∙ told) in
+      inl (whole_next (base self) bytes c.args.spot.now k.0.chunk c.in-Some.next (mid place k.0 k.1 ∙ ap (λ (n : ℕ). Some (k.0.chunk, n)) k.3) k.2 moved (absent_same _ _ _ _ _ _ v c.in-Some.next eqF eqf eqe absent) so_far);
   number = search rules;
   placed = search rules;
   spelled = search rules;
@@ -193,6 +220,10 @@ returns-in-Ok-false-clause-sought g c = record {
         here = c.in-Ok-false.ensures.touched.legal v told was;
         behind = λ chunk next at within is. absurd (omega (arith, within, absent chunk next at));
       };
+  reached = λ v told was so_far.
+      let self = c.args.self.now in
+      let absent : IsAbsent (view_of (base self)) c.args.spot.now.place self.log.end (v self.log.file) = c.in-Ok-false.ensures.touched.absent c.in-Ok-false.field-0-test v told in
+      inl (whole_here (base self) (v self.log.file) c.args.spot.now (c.in-Ok-false.ensures.touched.legal v told was) absent so_far);
   number = search rules;
   placed = search rules;
   spelled = search rules;
@@ -396,6 +427,20 @@ returns-clause-sought g c = record {
         here = chunk_legal view place k.0.next k.0.chunk bytes (mid place k.0 k.1);
         behind = λ chunk next at within is bad. chunk_legal view c.in-Some.next h.0.next h.0.chunk bytes (last c.in-Some.next h.0 h.1) (subst (λ (q : ℕ). IsIllegalBy view q bytes) (is_behind view bytes place index c.in-Some.next chunk next (one_next view bytes c.touch.new.self.cache place index c.in-Some.next mid turns) at is) bad);
       };
+  reached = λ v told was so_far.
+      let self = c.args.self.now in
+      let view = view_of (base self) in
+      let bytes = v self.log.file in
+      let place = c.args.spot.now.place in
+      let index = c.args.spot.now.index in
+      let mid : IsCached view bytes c.touch.new.self.cache = c.touch.ensures.only.cached v told was in
+      let eqF = ap (λ (b : Base). view_of b) c.touch.ensures.only.stays.base in
+      let eqf = ap (λ (b : Base). b.file) c.touch.ensures.only.stays.base in
+      let turns : next_in (item_at place c.touch.new.self.cache) index ≡ Some c.in-Some.next = search rules in
+      let k = next_some (item_at place c.touch.new.self.cache) index c.in-Some.next turns in
+      let h : (kept : Kept) × (item_at c.in-Some.next c.touch-2.new.self.cache ≡ Some kept) = search rules in
+      let last : IsCached view bytes c.touch-2.new.self.cache = cached_same _ _ _ _ v c.touch-2.new.self.cache eqF eqf (c.touch-2.ensures.only.cached v (c.touch.ensures.only.leaves.now_stays ∙ told) (cached_same _ _ _ _ v c.touch.new.self.cache (sym eqF) (sym eqf) mid)) in
+      or_holds_next (base self) bytes c.touch-2.new.self.cache c.args.spot.now (record { place = c.in-Some.next; index = 0; number = c.args.spot.now.number }) k.0.chunk h.0 (omega (arith, c.if-spot-self.false)) (mid place k.0 k.1 ∙ ap (λ (n : ℕ). Some (k.0.chunk, n)) k.3) k.2 refl refl last h.1 so_far;
   number = search rules;
   placed = search rules;
   spelled = λ sound spells.

@@ -13,6 +13,7 @@ use Rattle.rg_reservoir.proofs.Firsts.{opened_view}
 use Rattle.rg_reservoir.proofs.Legal.{unframed, legal_not_bad, legal_not_other}
 use Rattle.rg_reservoir.proofs.Listing.{listed}
 use Rattle.rg_reservoir.proofs.Attaching.{no_events, attached, opened_ours}
+use Rattle.rg_reservoir.proofs.Reaching.{first_reached}
 use Rattle.rg_reservoir.proofs.reservoir.Reservoir.view.Goals as goal
 
 pub returns-in-Ok-Some-clause-sound : goal.returns-in-Ok-Some-clause-sound
@@ -74,3 +75,14 @@ returns-in-Ok-Some-clause-empty g c =
 
 pub returns-in-Ok-None-clause-exact : goal.returns-in-Ok-None-clause-exact
 returns-in-Ok-None-clause-exact g c = λ v told why. unframed c.args.schema.now (v 2) (listed [] 0 (v 2) ((rw c.in-Ok-None.field-0-is at c.in-Ok-None.ensures.read.none) v told) (omega arith)) why
+
+pub returns-in-Ok-Some-clause-reached : goal.returns-in-Ok-Some-clause-reached
+returns-in-Ok-Some-clause-reached g c = λ v told.
+    let leaves = c.read_log.ensures.leaves.leaves in
+    let opened = c.in-Ok-Some.opened in
+    let shape = c.in-Ok.taken.schema in
+    let o : IsOpened (seen_from shape opened.growths) opened.first opened.log.end opened.tally (v 2) = (rw c.in-Ok-Some.field-0-is at c.in-Ok-Some.ensures.read.opened) v told in
+    let file = (rw c.in-Ok-Some.field-0-is at c.in-Ok-Some.ensures.read.log).0 in
+    let b : Base = record { shape = shape; growths = opened.growths; file = opened.log.file; first = opened.first; end = opened.log.end; ended = false; committed = opened.tally.count; limit = c.args.room.limit } in
+    first_reached (g.H.Host.now c.read_log.new.host) v b c.in-Ok.taken.cache opened.tally (leaves.now_stays ∙ told) (subst (λ (f : ℕ). IsOpened (seen_from shape opened.growths) opened.first opened.log.end opened.tally (v f)) (sym file) o)
+    (λ q. ap (λ (k : Cache Kept). item_at q k) c.in-Ok.ensures.taken.cache)

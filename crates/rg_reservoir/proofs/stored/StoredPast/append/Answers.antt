@@ -51,5 +51,5 @@ returns-in-Ok-clause-sound g c = λ sound.
 pub returns-in-Ok-clause-goes : goal.returns-in-Ok-clause-goes
 returns-in-Ok-clause-goes g c =
     goes_append g.H.Host.now g.H.Host.may g.H.Host.clock g.H.Host.since g.H.Host.said g.H.Host.out_faults g.met.H.Host.only_now g.met.H.Host.sinks c.args.self.now.reservoir c.args.self.now.host _ c.args.self.now.host refl refl refl c.append.ensures.base c.append.ensures.room
-    (ap (λ (k : Cache Kept). k.cap) c.append.ensures.cache.0)
+    c.append.ensures.cache.0
     (c.args.event ∷ []) c.in-Ok.ensures.ok.0 (returns-in-Ok-clause-sound g c)

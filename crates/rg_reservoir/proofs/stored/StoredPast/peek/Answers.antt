@@ -1,4 +1,4 @@
-use Rattle.std.proofs.Common.{◌∙◌, refl, arith, length, ap, sym, Err}
+use Rattle.std.proofs.Common.{◌∙◌, refl, arith, length, ap, sym, subst, Err}
 use Rattle.rg_past.specs.declared.past.PastFault.TheVariants as past
 use Rattle.rg_reservoir.specs.Kept.{Base, base, IsSound, Spells, SpellsLater}
 use Rattle.rg_reservoir.specs.GoingLaws.{all_long, spells_here}
@@ -7,6 +7,10 @@ use Rattle.rg_past.specs.declared.past.PastFault.{PastFault}
 use Rattle.rg_reservoir.specs.declared.fault.ReservoirFault.{ReservoirFault}
 use Rattle.rg_reservoir.specs.declared.fault.ReservoirFault.TheVariants.{Ended}
 use Rattle.rg_reservoir.specs.Faults.{to_past}
+use Rattle.rg_host.specs.Image.{Image}
+use Rattle.rg_reservoir.specs.Reached.{IsWhole}
+use Rattle.rg_reservoir.proofs.Reaching.{at_event, whole_seen, if_none, if_some}
+use Rattle.rg_reservoir.proofs.Seeking.{one_image}
 use Rattle.rg_reservoir.proofs.Causes.{past_disk, past_damaged, past_ended, past_full, look_fault}
 use Rattle.rg_reservoir.proofs.stored.StoredPast.peek.Goals as goal
 
@@ -55,6 +59,9 @@ returns-in-Err g c =
           λ e. ap (λ (f : PastFault). Err f) (c.from.ensures ∙ ap to_past (err_is c.in-Err.fault Ended (c.in-Err.ensures.stops.ended.1 e))),
         );
         never_damaged = λ p sound spells e. c.in-Err.ensures.stops.never_damaged p sound spells.there (ap (λ (f : ReservoirFault). Err f) (past_damaged c.in-Err.fault c.from.result p c.from.ensures (look_fault c.in-Err.fault c.in-Err.ensures.stops.faults).0 (err_is c.from.result (past.Damaged p) e)));
+        legal = λ _. tt;
+        reached = λ _. tt;
+        whole = λ _. tt;
         no_full = λ e. (look_fault c.in-Err.fault c.in-Err.ensures.stops.faults).1 (past_full c.in-Err.fault c.from.result c.from.ensures (err_is c.from.result past.Full e));
       },
     )
@@ -99,5 +106,13 @@ returns g c =
         ended = (λ e. absurd (ok_not_err c.at.result past.Ended e), λ e. absurd (ok_not_err tt Ended (c.in-Ok.ensures.stops.ended.1 e)));
         never_damaged = λ p sound spells e. ok_not_err c.at.result (past.Damaged p) e;
         no_full = λ e. ok_not_err c.at.result past.Full e;
+        legal = λ asks. asks.illegal (c.in-Ok.ensures.sought.legal asks.image asks.told asks.cached asks.near);
+        reached = λ r. if_some c.at.result _ (record { image = r.image; told = r.told; cached = r.cached; apart = r.apart; so_far = at_event (base c.args.self.now.reservoir.now) _ _ c.seek.new.spot (c.in-Ok.ensures.sought.reached r.image r.told r.cached r.so_far) });
+        whole = λ r. if_none c.at.result _ (λ none v told.
+            let self = c.args.self.now.reservoir.now in
+            let b = base self in
+            let seen_none = sym (c.at.ensures.event ∙ seen_stays self c.seek.new.self c.seek.new.spot stays) ∙ none in
+            let found = whole_seen b (r.image b.file) self.open.events c.seek.new.self.cache c.seek.new.spot (c.seek.ensures.only.cached r.image r.told r.cached) seen_none (c.in-Ok.ensures.sought.reached r.image r.told r.cached r.so_far) in
+            subst (λ (u : Image). IsWhole b (u b.file)) (one_image (g.H.Host.now c.args.self.now.host.now) r.image v r.told told) found);
       },
     )

@@ -42,6 +42,7 @@ returns-in-Ok-clause-past g c = record {
   goes = record {
     same_reservoir = refl;
     same_host = refl;
+    cached = λ v told cached. cached;
     base = refl;
     room = refl;
     cap = refl;

@@ -38,10 +38,11 @@ pub record RowsMove (plan : Tasks) (t : ℕ) (is_sound : Type 0) (Spells : Spot 
       IsAtPosition front (numbers_of spots) edge offset → OnOk result (IsAtPosition events (numbers_of spots') edge offset)
   pub ticks : OnOk result (steps' + come plan (numbers_of spots) ≡ steps + come plan (numbers_of spots'))
 
--- A past that had ended refuses the first look. A fault of the past has its cause, and is no damage where the past spells all spots; one of the table is
--- counted.
-pub record MoveRefuses (plan : Tasks) (is_sound : Type 0) (Spells : Spot → Type 0) (IsIllegal : ℕ → Type 0) (had_ended : Type 0) (before after table_before table_after : ℕ) (spots : List Spot) (result : Result Unit EngineFault) : Type 0 where
+-- A past that had ended refuses the first look. So is a move refused where an edge stands at a spot whose look asks for an illegal place. A fault of the
+-- past has its cause, and is no damage where the past spells all spots; one of the table is counted.
+pub record MoveRefuses (plan : Tasks) (is_sound : Type 0) (Spells AsksIllegal : Spot → Type 0) (IsIllegal : ℕ → Type 0) (had_ended : Type 0) (before after table_before table_after : ℕ) (spots : List Spot) (result : Result Unit EngineFault) : Type 0 where
   pub stops : had_ended → 0 < length plan.offsets → IsErrOf result (fault.Past past.Ended)
+  pub legal : (edge : ℕ) (spot : Spot) → slice_get spots edge ≡ Some spot → AsksIllegal spot → OnOk result ⊥
   pub cause : (cause : PastFault) → IsErrOf result (fault.Past cause) → HasCause IsIllegal ⊥ had_ended before after cause
   pub never_damaged : (place : ℕ) → is_sound → All Spells spots → IsErrOf result (fault.Past (past.Damaged place)) → ⊥
   pub table : IsErrOf result fault.Table → Rose table_before table_after

@@ -6,6 +6,7 @@ ghost use Rattle.rg_event.specs.declared.event.Event.{Event};
 ghost use Rattle.rg_metric.specs.Queries.{Asked};
 ghost use Rattle.rg_metric.specs.Replies.{answers_to};
 ghost use Rattle.rg_past.specs.Keeping.{Kept, HasCause};
+ghost use Rattle.rg_past.specs.declared.past.Spot.{Spot};
 ghost use Rattle.rg_event.specs.Rising.{MayFollow, last_time};
 ghost use Rattle.rg_plan.specs.Plans.{plan_for};
 ghost use Rattle.rg_state.specs.Keeping.{TableKept};
@@ -108,6 +109,8 @@ impl<T: Table> Engine<T> {
     /// time, meet the condition and have its key. One step is counted for each filter node and each event
     /// that an edge of its window crossed.
     ///
+    /// Where an edge stands at a spot whose look asks for an illegal place, the event is refused.
+    ///
     /// A past that is full leaves all as it was. Any other refusal ends the engine: each later call is
     /// refused with `Ended`, and touches nothing.
     pub fn take<P: Past, L: Ledger>(
@@ -147,6 +150,9 @@ impl<T: Table> Engine<T> {
         ensures passed { (front more : List Event) → P.sound past.old → All (P.spells past.old) self.old.spots →
             P.events past.old ≡ front ++ more → AreAtPositions self.old.plan front (numbers_of self.old.spots) →
             OnOk result (steps.new ≡ steps.old + passed_count self.old.plan front (P.events past.new)) }
+
+        // Over any past: what stands at an illegal place is neither an event nor the end.
+        ensures legal { (edge : ℕ) (spot : Spot) → slice_get self.old.spots edge ≡ Some spot → P.asks_illegal past.old spot → OnOk result ⊥ }
 
         ensures appends { Appends (P.events past.old) event (P.events past.new) result }
         ensures below { OnOk result (length (P.events past.old) < P.limit past.old) }
@@ -245,6 +251,10 @@ impl<T: Table> Engine<T> {
 
         ensures ticks { OnOk result (steps.new + come self.old.plan (numbers_of self.old.spots)
             ≡ steps.old + come self.old.plan (numbers_of self.new.spots)) }
+
+        // Over any past: what stands at an illegal place is neither an event nor the end.
+        ensures legal { (edge : ℕ) (spot : Spot) → slice_get self.old.spots edge ≡ Some spot → P.asks_illegal past.old spot → OnOk result ⊥ }
+
         ensures events { P.events past.new ≡ P.events past.old }
         ensures room { P.has_room past.old → P.has_room past.new }
         ensures cause { (fault : PastFault) → IsErrOf result (EngineFault.Past fault) →
@@ -336,6 +346,9 @@ impl<T: Table> Engine<T> {
             P.events past.old ≡ front ++ more → last_time (P.events past.old) ≡ t →
             AreAtPositions self.old.plan front (numbers_of self.old.spots) →
             OnOk result (steps.new ≡ steps.old + passed_count self.old.plan front (P.events past.new)) }
+
+        // Over any past: what stands at an illegal place is neither an event nor the end.
+        ensures legal { (edge : ℕ) (spot : Spot) → slice_get self.old.spots edge ≡ Some spot → P.asks_illegal past.old spot → OnOk result ⊥ }
 
         ensures events { P.events past.new ≡ P.events past.old }
         ensures room { P.has_room past.old → P.has_room past.new }

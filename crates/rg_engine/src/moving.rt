@@ -22,8 +22,8 @@ pub(crate) fn move_rows<P: Past, T: Table, L: Ledger>(
     requires { IsMovable plan.now edges.old rows.old.parts.items (P.events past.old) }
     ensures moves { RowsMove plan.now t (P.sound past.old) (P.spells past.old) (T.tells rows.old.table) (P.events past.old)
         (T.cell rows.old.table) (T.cell rows.new.table) edges.old.spots edges.new.spots steps.old steps.new result }
-    ensures refuses { MoveRefuses plan.now (P.sound past.old) (P.spells past.old) (P.illegal past.new) (P.ended past.old)
-        (P.faults past.old) (P.faults past.new) (T.faults rows.old.table) (T.faults rows.new.table) edges.old.spots result }
+    ensures refuses { MoveRefuses plan.now (P.sound past.old) (P.spells past.old) (P.asks_illegal past.old) (P.illegal past.new)
+        (P.ended past.old) (P.faults past.old) (P.faults past.new) (T.faults rows.old.table) (T.faults rows.new.table) edges.old.spots result }
     ensures past { PastStays P.goes P.sound P.ended P.has_room P.events P.faults past.old past.new }
     ensures rows { RowsStay T.tells T.named T.there T.cell T.faults rows.old.table rows.new.table }
     ensures edges { EdgesStay (P.sound past.old) (P.spells past.old) (P.spells past.new) (P.events past.new)

@@ -41,8 +41,9 @@ returns-in-Ok-clause-refuses g c =
     let kept = (chain_keeps c.move_to.new.visit (λ u. u.plan) (λ p. p.now.offsets) (λ u. u.rows.ghost_name) (λ u. u.steps.ghost_name) (λ u. u.rows.now.parts) (λ p. p.items) (λ u. g.T.Table.tells u.rows.now.table) (λ u. g.T.Table.named u.rows.now.table) (λ u. g.T.Table.there u.rows.now.table) (λ u. g.T.Table.cell u.rows.now.table) (λ u. g.T.Table.faults u.rows.now.table) (λ u. u.steps.now) _ _ c.move_to.new.visit c.in-Ok.ensures.moved.chain) in
     let rows_lent = kept.rows in
     let steps_lent = kept.steps in
-    moved c.move_to.new.visit.rows.now.table (λ table. MoveRefuses c.args.plan.now (g.P.Past.sound c.args.past.now) (g.P.Past.spells c.args.past.now) (g.P.Past.illegal c.move_to.new.past) (g.P.Past.ended c.args.past.now) (g.P.Past.faults c.args.past.now) (g.P.Past.faults c.move_to.new.past) (g.T.Table.faults c.args.rows.now.table) (g.T.Table.faults table) c.args.edges.now.spots (Ok tt)) _ (search rules) (record {
+    moved c.move_to.new.visit.rows.now.table (λ table. MoveRefuses c.args.plan.now (g.P.Past.sound c.args.past.now) (g.P.Past.spells c.args.past.now) (g.P.Past.asks_illegal c.args.past.now) (g.P.Past.illegal c.move_to.new.past) (g.P.Past.ended c.args.past.now) (g.P.Past.faults c.args.past.now) (g.P.Past.faults c.move_to.new.past) (g.T.Table.faults c.args.rows.now.table) (g.T.Table.faults table) c.args.edges.now.spots (Ok tt)) _ (search rules) (record {
       stops = λ ended some. absurd (not_err (c.in-Ok.ensures.stops ended (subst (λ os. 0 < length os) (sym c.requires.offsets) some)));
+      legal = c.in-Ok.ensures.legal;
       cause = λ cause is. cc;
       never_damaged = λ place sound all is. cc;
       table = λ is. cc;
@@ -85,8 +86,9 @@ returns-in-Err-clause-refuses g c =
     let kept = (halt_keeps c.move_to.new.visit (λ u. u.plan) (λ p. p.now.offsets) (λ u. u.rows.ghost_name) (λ u. u.steps.ghost_name) (λ u. u.rows.now.parts) (λ p. p.items) (λ u. g.T.Table.tells u.rows.now.table) (λ u. g.T.Table.named u.rows.now.table) (λ u. g.T.Table.there u.rows.now.table) (λ u. g.T.Table.cell u.rows.now.table) (λ u. g.T.Table.faults u.rows.now.table) (λ u. u.steps.now) _ c.move_to.new.visit _ c.args.t _ _ _ _ c.in-Err.fault c.in-Err.ensures.halted) in
     let rows_lent = kept.rows in
     let steps_lent = kept.steps in
-    moved c.move_to.new.visit.rows.now.table (λ table. MoveRefuses c.args.plan.now (g.P.Past.sound c.args.past.now) (g.P.Past.spells c.args.past.now) (g.P.Past.illegal c.move_to.new.past) (g.P.Past.ended c.args.past.now) (g.P.Past.faults c.args.past.now) (g.P.Past.faults c.move_to.new.past) (g.T.Table.faults c.args.rows.now.table) (g.T.Table.faults table) c.args.edges.now.spots (Err c.move_fault.result)) _ (search rules) (record {
+    moved c.move_to.new.visit.rows.now.table (λ table. MoveRefuses c.args.plan.now (g.P.Past.sound c.args.past.now) (g.P.Past.spells c.args.past.now) (g.P.Past.asks_illegal c.args.past.now) (g.P.Past.illegal c.move_to.new.past) (g.P.Past.ended c.args.past.now) (g.P.Past.faults c.args.past.now) (g.P.Past.faults c.move_to.new.past) (g.T.Table.faults c.args.rows.now.table) (g.T.Table.faults table) c.args.edges.now.spots (Err c.move_fault.result)) _ (search rules) (record {
       stops = λ ended some. ended_called (same_fault (c.in-Err.ensures.stops ended (subst (λ os. 0 < length os) (sym c.requires.offsets) some))) c.move_fault.ensures.called;
+      legal = λ edge spot at asks. tt;
       cause = λ cause is. c.in-Err.ensures.cause cause (ap Err (c.move_fault.ensures.past cause (same_fault is)));
       never_damaged = λ place sound all is. c.in-Err.ensures.never_damaged place sound all (ap Err (c.move_fault.ensures.past (Damaged place) (same_fault is)));
       table = λ is. halt_rose c.move_to.new.visit (λ u. u.plan) (λ p. p.now.offsets) (λ u. u.rows.ghost_name) (λ u. u.steps.ghost_name) (λ u. u.rows.now.parts) (λ p. p.items) (λ u. g.T.Table.tells u.rows.now.table) (λ u. g.T.Table.named u.rows.now.table) (λ u. g.T.Table.there u.rows.now.table) (λ u. g.T.Table.cell u.rows.now.table) (λ u. g.T.Table.faults u.rows.now.table) (λ u. u.steps.now) _ c.move_to.new.visit _ c.args.t _ _ _ _ c.in-Err.fault c.in-Err.ensures.halted (c.move_fault.ensures.disk (same_fault is));

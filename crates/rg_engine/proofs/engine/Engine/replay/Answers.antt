@@ -32,3 +32,6 @@ returns-clause-passed g c = rw (← c.self.view_is) (λ front more sound all is 
     (numbers_same plan edges edges.spots _ _ _ built refl) (numbers_same plan edges c.move_rows.new.edges.spots _ _ _ built moved.edges.same) moved.edges.moved.rises placed
     (λ edge offset is_offset. subst (λ events. IsAtPosition events (numbers_of c.move_rows.new.edges.spots) edge offset) (sym moved.past.events)
     (moved.moves.places edge offset front more sound (spelled_at _ edges.spots plan.offsets edge offset (built.same ∙ ap length built.offsets) all is_offset) is last is_offset (placed edge offset is_offset))) _ _ moved.moves.ticks)
+
+pub returns-clause-legal : goal.returns-clause-legal
+returns-clause-legal g c = rw (← c.self.view_is) (λ edge spot at asks. c.in-Ok.ensures.refuses.legal edge spot at asks)

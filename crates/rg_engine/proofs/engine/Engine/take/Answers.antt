@@ -166,3 +166,6 @@ returns-clause-since g c = rw (← c.self.view_is) (keeps_then _ _ _ _ _ _ _ c.i
 
 pub returns-in-Err-answer_each-clause-since : goal.returns-in-Err-answer_each-clause-since
 returns-in-Err-answer_each-clause-since g c = rw (← c.self.view_is) (keeps_then _ _ _ _ _ _ _ c.in-Ok-move_rows.ensures.rows.since c.in-Err-answer_each.ensures.goes.since)
+
+pub returns-clause-legal : goal.returns-clause-legal
+returns-clause-legal g c = rw (← c.self.view_is) (λ edge spot at asks. c.in-Ok-move_rows.ensures.refuses.legal edge spot at (g.met.P.Past.stays_asking _ _ spot c.in-Ok.ensures.past.goes asks))

@@ -4,6 +4,7 @@ pub mod Lines
 pub mod Played
 pub mod Progress
 pub mod Quiet
+pub mod Reading
 pub mod Runs
 pub mod Starting
 pub mod Wholes

@@ -1,5 +1,5 @@
 -- A replay over a reservoir and its host.
-use Rattle.std.specs.Prelude.{◌≡◌, ◌⊎◌, ℕ, ◌+◌, ◌≤◌, ◌<◌, Bool, false, List, [], ◌++◌, length, replicate, Option, Some, None, Result, Ok, Err, IfOk, IfErr, IsTrue}
+use Rattle.std.specs.Prelude.{◌≡◌, ◌⊎◌, ℕ, ◌+◌, ◌≤◌, ◌<◌, Bool, false, List, [], ◌++◌, length, replicate, Option, Some, None, Result, Ok, Err, IfOk, IfErr, IsTrue, ⊤}
 use Rattle.std.specs.Option.{ForSome}
 use Rattle.rg_bytes.specs.Counts.{Rose}
 use Rattle.rg_event.specs.Shapes.{Shape}
@@ -15,13 +15,16 @@ use Rattle.rg_host.specs.Image.{Image, NothingPending}
 use Rattle.rg_host.specs.Lines.{ended}
 use Rattle.rg_host.specs.Moments.{Moment, LeavesFiles, LeavesAll}
 use Rattle.rg_host.specs.Puts.{IsPrefix, StopsWith}
-use Rattle.rg_log.specs.Log.{HasEvents}
-use Rattle.rg_reservoir.specs.Attached.{IsOther, IsBadFrame, IsIllegalSince}
-use Rattle.rg_reservoir.specs.Chain.{IsIllegalBy}
-use Rattle.rg_reservoir.specs.Kept.{Base, base, view_of, opened, all_events, IsSound, Spells}
+use Rattle.rg_log.specs.Log.{HasEvents, joined}
+use Rattle.rg_log.specs.declared.summary.LogSummary.{LogSummary}
+use Rattle.rg_reservoir.specs.Attached.{IsOther, IsBadFrame, IsIllegalSince, IsOpened}
+use Rattle.rg_reservoir.specs.Chain.{Chain, IsIllegalBy}
+use Rattle.rg_reservoir.specs.Kept.{Base, base, view_of, opened, cache_of, all_events, IsSound, Spells}
+use Rattle.rg_reservoir.specs.Reached.{IsReached, IsWhole}
+use Rattle.rg_reservoir.specs.Views.{View}
 use Rattle.rg_reservoir.specs.declared.reservoir.Reservoir.{Reservoir}
 use Rattle.rg_replay.specs.declared.fault.ReplayFault.{ReplayFault}
-use Rattle.rg_replay.specs.declared.fault.ReplayFault.TheVariants.{Disk, Damaged, SchemaDiffers, Memory, Write}
+use Rattle.rg_replay.specs.declared.fault.ReplayFault.TheVariants.{Disk, Damaged, SchemaDiffers, BadState, Memory, Write}
 use Rattle.rg_replay.specs.Faults.{IsFromOutside}
 use Rattle.rg_replay.specs.Going.{Replays}
 use Rattle.rg_replay.specs.Replay.{line_at}
@@ -57,6 +60,33 @@ pub record IsCaused {H : Type 0} (now : H → Option Image) (disk_faults out_fau
   pub damaged : (p : ℕ) → fault ≡ Damaged p → ForSome (now old) (λ v. IsIllegalBy (view_of b) p (v b.file))
   pub write : fault ≡ Write → Rose (out_faults old) (out_faults new)
   pub same_schema : fault ≡ SchemaDiffers → ⊥
+
+-- the spot of the next event was reached in the log, or the log is whole
+pub record IsReachedAt {H : Type 0} (now : H → Option Image) (r : Reservoir) (host : H) (spot : Spot) : Type 0 where
+  pub is : IsReached (now host) (base r) (cache_of r) spot
+
+-- no chunk of the log of that base is illegal
+abbrev pub IsWholeIn : {H : Type 0} → (H → Option Image) → Base → H → Type 0
+IsWholeIn now b host = ForSome (now host) (λ v. IsWhole b (v b.file))
+
+-- The heads and growths of the log are whole, and that schema is in force at its end. Behind legal chunks no illegal one stands in front of the end
+-- whose first event would be one of those that the heads count.
+pub record IsLegalThrough (shape : Shape) (bytes : List ℕ) : Type 0 where
+  pub view : View
+  pub first : ℕ
+  pub end : ℕ
+  pub summary : LogSummary
+  pub opened : IsOpened view first end summary bytes
+  pub shape_is : view.shape ≡ shape
+  pub legal : (chunks : List (List Event)) (place : ℕ) → Chain view bytes first chunks place → length (joined chunks) < summary.count → place < end → IsIllegalBy view place bytes → ⊥
+
+-- Why a replay that ended at this fault refused the store: another schema is in force at the log's end; a frame is bad by heads and growths, or an illegal
+-- chunk stands at the place; or the rows of a node don't stand for the events, which no log has that is ready. Other faults refuse no store.
+abbrev pub IsRefusedOf : Tasks → Shape → Option Image → (Image → Type 0) → ReplayFault → Type 0
+IsRefusedOf tasks shape now may (Damaged p) = ForSome now (λ v. IsBadFrame p (v 2)) ⊎ ForSome now (λ v. IsIllegalSince shape (v 2) p (v 2))
+IsRefusedOf tasks shape now may SchemaDiffers = ForSome now (λ v. IsOther shape (v 2))
+IsRefusedOf tasks shape now may (BadState node) = (queries : List Asked) (events : List Event) → IsReplayable queries events tasks shape now may → ⊥
+IsRefusedOf tasks shape now may fault = ⊤
 
 -- what stops a replay of any log: of another schema than that, or damaged, by its heads or within a chunk; or a failed call
 pub record IsCausedOver {H : Type 0} (now : H → Option Image) (disk_faults out_faults : H → ℕ) (shape : Shape) (fault : ReplayFault) (old new : H) : Type 0 where

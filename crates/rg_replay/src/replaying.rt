@@ -2,6 +2,7 @@ ghost use Rattle.std.specs.Prelude.{⊤, ◌≡◌, ◌⊎◌, ◌≤◌, ◌^�
 ghost use Rattle.std.specs.Option.{ForSome};
 ghost use Rattle.rg_bytes.specs.Counts.{Rose};
 ghost use Rattle.rg_event.specs.declared.event.Event.{Event as TheEvent};
+ghost use Rattle.rg_frame.specs.Frames.{HasPayloads};
 ghost use Rattle.rg_host.specs.Image.{Image};
 ghost use Rattle.rg_host.specs.Lines.{ended};
 ghost use Rattle.rg_host.specs.Moments.{LeavesFiles};
@@ -11,7 +12,7 @@ ghost use Rattle.rg_reservoir.specs.Attached.{IsOther, IsBadFrame, IsIllegalSinc
 ghost use Rattle.rg_reservoir.specs.Kept.{base, opened, all_events, IsSound};
 ghost use Rattle.rg_engine.specs.Feeding.{Serves};
 ghost use Rattle.rg_plan.specs.Plans.{plan_for};
-ghost use Rattle.rg_replay.specs.Playing.{IsPlaced, IsPlaying, IsReplayable, IsCaused, EndsOver, LeavesStore, StopsIn, IsExpected, Answered, Answering, HasBegun, HasRead, IsReadFor, start_of};
+ghost use Rattle.rg_replay.specs.Playing.{IsPlaced, IsPlaying, IsReplayable, IsCaused, IsReachedAt, IsWholeIn, IsLegalThrough, IsRefusedOf, EndsOver, LeavesStore, StopsIn, IsExpected, Answered, Answering, HasBegun, HasRead, IsReadFor, start_of};
 ghost use Rattle.rg_replay.specs.Replay.{replay_lines, replay_text};
 
 use crate::fault::ReplayFault;
@@ -65,6 +66,7 @@ pub(crate) fn answer_all<H: Host, L: Ledger>(
         IsPlaying queries events (H.now host.old) (H.may host.old) (⟦<MemTable as Table>⟧.tells engine.old.table) (⟦<MemTable as Table>⟧.cell engine.old.table) reservoir.old engine.old (start_of (base reservoir.old)) →
         Answering (replay_lines queries first events) (replay_text queries first events) (Puts H.said H.clock H.since host.old host.new) text.new.items (HasRead events (H.now host.new) (H.may host.new) reservoir.new) result }
     ensures cause { IfErr result (λ fault. IsCaused H.now H.disk_faults H.out_faults (base reservoir.old) fault host.old host.new) }
+    ensures whole { IsReachedAt H.now reservoir.old host.old (start_of (base reservoir.old)) → OnOk result (IsWholeIn H.now (base reservoir.old) host.old) }
     ensures leaves { LeavesStore H.now H.may H.clock H.since H.disk_faults H.out_faults host.old host.new }
 {
     let mut spot = reservoir.start();
@@ -95,6 +97,7 @@ fn answer_by<H: Host, L: Ledger>(
     ensures answered { (queries : List Asked) (events : List TheEvent) → IsReadFor queries events plan (H.now host.old) (H.may host.old) reservoir.old →
         Answering (replay_lines queries first events) (replay_text queries first events) (Puts H.said H.clock H.since host.old host.new) text.new.items (HasRead events (H.now host.new) (H.may host.new) reservoir.new) result }
     ensures cause { IfErr result (λ fault. IsCaused H.now H.disk_faults H.out_faults (base reservoir.old) fault host.old host.new) }
+    ensures whole { IsReachedAt H.now reservoir.old host.old (start_of (base reservoir.old)) → OnOk result (IsWholeIn H.now (base reservoir.old) host.old) }
     ensures leaves { LeavesStore H.now H.may H.clock H.since H.disk_faults H.out_faults host.old host.new }
 {
     let mut engine = match begin(alloc, plan, reservoir.start()) {
@@ -119,6 +122,7 @@ fn replay_opened<H: Host, L: Ledger>(
     ensures answered { (queries : List Asked) (events : List TheEvent) → IsReadFor queries events plan (H.now host.old) (H.may host.old) reservoir.old →
         Answered (replay_text queries first events) (replay_text queries first events) (Puts H.said H.clock H.since host.old host.new) ⊤ result }
     ensures cause { IfErr result (λ fault. IsCaused H.now H.disk_faults H.out_faults (base reservoir.old) fault host.old host.new) }
+    ensures whole { IsReachedAt H.now reservoir.old host.old (start_of (base reservoir.old)) → OnOk result (IsWholeIn H.now (base reservoir.old) host.old) }
     ensures leaves { LeavesStore H.now H.may H.clock H.since H.disk_faults H.out_faults host.old host.new }
 {
     let mut text = Vec::new(alloc);
@@ -133,7 +137,8 @@ fn replay_opened<H: Host, L: Ledger>(
 /// offset is at least `first` the line of its offset and its answers, by the events up to and with it, and
 /// at the end the least offset of the next event and how many there are. Nothing but the log is read, and no
 /// file is written. `schema` is the plan's; a log without a frame has no event. A log that its heads show to
-/// be damaged is told as such, whatever its schema: only a whole one has a schema in force at its end.
+/// be damaged is told as such, whatever its schema: only a whole one has a schema in force at its end. An illegal
+/// chunk is told as damaged where the replay comes to it, behind the lines of the events in front of it.
 ///
 /// Events before `first` are answered too, since the answers behind them rest on them, and not put.
 /// Each refusal but `Write` leaves whole lines put.
@@ -162,7 +167,11 @@ pub fn replay<H: Host, L: Ledger>(
     ensures refused { (v : Image) → H.now host.old ≡ Some v → IsOther schema.now (v 2) ⊎ ((p : ℕ) × IsBadFrame p (v 2)) →
         OnOk result ⊥ × Puts H.said H.clock H.since host.old host.new [] }
 
+    // A log with an illegal chunk is refused too: where the replay ends well, there is none among those that the heads count.
+    ensures whole { OnOk result (ForSome (H.now host.old) (λ v. HasPayloads [] (v 2) ⊎ IsLegalThrough schema.now (v 2))) }
+
     // Each refusal but want of memory has its cause.
+    ensures refused_of { IfErr result (IsRefusedOf plan schema.now (H.now host.old) (H.may host.old)) }
     ensures differs { IsErrOf result ReplayFault.SchemaDiffers → ForSome (H.now host.old) (λ v. IsOther schema.now (v 2)) }
     ensures damaged { (p : ℕ) → IsErrOf result (ReplayFault.Damaged p) →
         ForSome (H.now host.old) (λ v. IsBadFrame p (v 2)) ⊎ ForSome (H.now host.old) (λ v. IsIllegalSince schema.now (v 2) p (v 2)) }
@@ -193,6 +202,7 @@ fn replay_log<H: Host, L: Ledger>(
         Answered (replay_text queries first events) (replay_text queries first events) (Puts H.said H.clock H.since host.old host.new) ⊤ result }
     ensures refused { (v : Image) → H.now host.old ≡ Some v → IsOther schema.now (v 2) ⊎ ((p : ℕ) × IsBadFrame p (v 2)) →
         OnOk result ⊥ × Puts H.said H.clock H.since host.old host.new [] }
+    ensures whole { OnOk result (ForSome (H.now host.old) (λ v. HasPayloads [] (v 2) ⊎ IsLegalThrough schema.now (v 2))) }
     ensures ends { EndsOver H.now H.may H.clock H.since H.disk_faults H.out_faults schema.now result host.old host.new }
 {
     match Reservoir::view(alloc, host, schema, room) {

@@ -1,9 +1,10 @@
-ghost use Rattle.std.specs.Prelude.{◌≡◌, ◌≤◌, ◌+◌, ℕ, List, length, take, true, false, IfOk, IfErr, IfSome, OnOk, IsErrOf};
+ghost use Rattle.std.specs.Prelude.{◌≡◌, ◌≤◌, ◌+◌, ℕ, List, length, take, true, false, Some, slice_get, IfOk, IfErr, IfSome, IfNone, OnOk, IsErrOf};
 ghost use Rattle.rg_bytes.specs.Counts.{Rose};
 ghost use Rattle.rg_event.specs.declared.event.Event.{Event as TheEvent};
 ghost use Rattle.rg_metric.specs.Queries.{Asked};
 ghost use Rattle.rg_past.specs.Keeping.{HasCause};
 ghost use Rattle.rg_past.specs.declared.past.PastFault.{PastFault};
+ghost use Rattle.rg_past.specs.declared.past.Spot.{Spot as TheSpot};
 ghost use Rattle.rg_state.specs.Keeping.{TableKept};
 ghost use Rattle.rg_window.specs.Placed.{AreWithin};
 ghost use Rattle.rg_replay.specs.Going.{Replays, Came, IsOutside};
@@ -48,6 +49,13 @@ pub fn step<P: Past, T: Table, L: Ledger>(
         Replays queries (P.sound past.old.past) (P.spells past.old.past spot.old) (T.tells engine.old.table) (P.spells past.old.past)
         (P.events past.old.past) past.old.shown (T.cell engine.old.table) engine.old.plan engine.old.spots →
         IfErr result IsOutside }
+
+    // Over any past: what stands at an illegal place is neither an event nor the end.
+    ensures legal { P.asks_illegal past.old.past spot.old → OnOk result ⊥ }
+    ensures legal_edges { (edge : ℕ) (at : TheSpot) → slice_get engine.old.spots edge ≡ Some at → P.asks_illegal past.old.past at →
+        IfOk result (λ found. IfSome found (λ _. ⊥)) }
+    ensures reached { P.reached past.old.past spot.old → IfOk result (λ found. IfSome found (λ _. P.reached past.new.past spot.new)) }
+    ensures whole { P.reached past.old.past spot.old → IfOk result (λ found. IfNone found (P.whole past.old.past)) }
 
     ensures one { IfOk result (λ found. IfSome found (λ _. past.new.shown ≡ past.old.shown + 1)) }
     ensures number { spot.new.number ≡ past.new.shown }

@@ -1,11 +1,11 @@
-ghost use Rattle.std.specs.Prelude.{◌≡◌, ◌+◌, ℕ, List, IfOk, IfErr, IfSome, OnOk};
+ghost use Rattle.std.specs.Prelude.{◌≡◌, ◌+◌, ℕ, List, IfOk, IfErr, IfSome, OnOk, MatchOption};
 ghost use Rattle.std.specs.Result.{MatchResult};
 ghost use Rattle.rg_event.specs.declared.event.Event.{Event as TheEvent};
 ghost use Rattle.rg_metric.specs.Queries.{Asked};
 ghost use Rattle.rg_reservoir.specs.Kept.{base};
 ghost use Rattle.rg_replay.specs.Faults.{IsFromOutside};
 ghost use Rattle.rg_replay.specs.Going.{Came};
-ghost use Rattle.rg_replay.specs.Playing.{IsPlaced, IsPlaying, IsCaused, StaysQuiet};
+ghost use Rattle.rg_replay.specs.Playing.{IsPlaced, IsPlaying, IsCaused, IsReachedAt, IsWholeIn, StaysQuiet};
 
 use crate::fault::ReplayFault;
 use crate::stepping::{Told, step};
@@ -38,6 +38,8 @@ pub(crate) fn step_stored<H: Host, L: Ledger>(
     ensures placed { OnOk result (IsPlaced reservoir.new engine.new spot.new) }
     ensures one { IfOk result (λ found. IfSome found (λ _. spot.new.number ≡ spot.old.number + 1)) }
     ensures cause { IfErr result (λ fault. IsCaused H.now H.disk_faults H.out_faults (base reservoir.old) fault host.old host.new) }
+    ensures reads { IsReachedAt H.now reservoir.old host.old spot.old →
+        IfOk result (λ found. MatchOption found (IsWholeIn H.now (base reservoir.old) host.old) (λ _. IsReachedAt H.now reservoir.new host.new spot.new)) }
     ensures quiet { StaysQuiet H.now H.may H.clock H.since H.said H.disk_faults H.out_faults reservoir.old reservoir.new host.old host.new }
 {
     let mut past = Shown::new(Stored::new(reservoir, host), spot.number);

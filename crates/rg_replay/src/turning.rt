@@ -1,10 +1,10 @@
-ghost use Rattle.std.specs.Prelude.{◌≡◌, ◌+◌, ◌≤◌, ◌^◌, ℕ, List, true, IfOk, IfErr, OnOk, IsTrue};
+ghost use Rattle.std.specs.Prelude.{◌≡◌, ◌+◌, ◌≤◌, ◌^◌, ℕ, List, true, false, IfOk, IfErr, OnOk, IsTrue};
 ghost use Rattle.rg_event.specs.declared.event.Event.{Event as TheEvent};
 ghost use Rattle.rg_host.specs.Lines.{ended};
 ghost use Rattle.rg_host.specs.Puts.{Puts};
 ghost use Rattle.rg_metric.specs.Queries.{Asked};
 ghost use Rattle.rg_reservoir.specs.Kept.{base};
-ghost use Rattle.rg_replay.specs.Playing.{IsPlaced, IsPlaying, IsCaused, LeavesLog, Turned};
+ghost use Rattle.rg_replay.specs.Playing.{IsPlaced, IsPlaying, IsCaused, IsReachedAt, IsWholeIn, LeavesLog, Turned};
 
 use crate::fault::ReplayFault;
 use crate::stepping::Told;
@@ -40,6 +40,8 @@ pub(crate) fn turn<H: Host, L: Ledger>(
     ensures placed { OnOk result (IsPlaced reservoir.new engine.new spot.new) }
     ensures one { IfOk result (λ more. IsTrue more → (spot.new.number ≡ spot.old.number + 1) × (spot.new.number ≤ 2 ^ 40)) }
     ensures cause { IfErr result (λ fault. IsCaused H.now H.disk_faults H.out_faults (base reservoir.old) fault host.old host.new) }
+    ensures reads { IsReachedAt H.now reservoir.old host.old spot.old →
+        IfOk result (λ more. (more ≡ false → IsWholeIn H.now (base reservoir.old) host.old) × (IsTrue more → IsReachedAt H.now reservoir.new host.new spot.new)) }
     ensures log { LeavesLog H.now H.may H.clock H.since H.disk_faults H.out_faults reservoir.old reservoir.new host.old host.new }
 {
     let Told { event, answers } = match step_stored(alloc, host, reservoir, engine, spot, steps) {

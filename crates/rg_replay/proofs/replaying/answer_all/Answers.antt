@@ -4,9 +4,10 @@ use Rattle.rg_host.proofs.PutRuns.{puts-nothing, puts-then}
 use Rattle.rg_past.specs.declared.past.Spot.{Spot}
 use Rattle.rg_reservoir.specs.Kept.{base}
 use Rattle.rg_state.specs.contracts.mem_table.MemTableTable.TheImpl.{ghosts as rows}
-use Rattle.rg_replay.specs.Playing.{IsPlaced, IsPlaying, start_of}
+use Rattle.rg_replay.specs.Playing.{IsPlaced, IsPlaying, IsReachedAt, start_of}
 use Rattle.rg_replay.proofs.Progress.{Progress, next, finish, stop, cut}
 use Rattle.rg_replay.proofs.Quiet.{leaves_store-none, leaves_store-then, caused_later}
+use Rattle.rg_replay.proofs.Reading.{whole_since}
 use Rattle.rg_replay.proofs.Starting.{long}
 use Rattle.rg_replay.proofs.Played.{expected}
 use Rattle.rg_replay.proofs.replaying.answer_all.Goals as goal
@@ -20,6 +21,7 @@ payments-init g c =
       placed = subst (λ (s : Spot). IsPlaced r e s) at c.requires.placed;
       same = refl;
       store = leaves_store-none g.H.Host.now g.H.Host.may g.H.Host.clock g.H.Host.since g.H.Host.disk_faults g.H.Host.out_faults _ (λ t u m. g.met.H.Host.sinks _ t u m) (λ m now. (g.met.H.Host.only_now _ m now).0);
+      reached = λ begun. subst (λ (s : Spot). IsReachedAt g.H.Host.now r c.args.host.now s) at begun;
       goes = λ queries events is. subst (λ (s : Spot). Progress queries c.args.first events s.number (Puts g.H.Host.said g.H.Host.clock g.H.Host.since c.args.host.now c.args.host.now) c.args.text.now.items (IsPlaying queries events (g.H.Host.now c.args.host.now) (g.H.Host.may c.args.host.now) (rows.tells e.table) (rows.cell e.table) r e s)) at
           (record { within = omega arith; lines = record { out = []; held = []; both = refl; puts = puts-nothing g.H.Host.said g.H.Host.clock g.H.Host.since _ (λ t u m. g.met.H.Host.sinks _ t u m) (λ m. g.met.H.Host.only_now _ m); text_is = c.requires.none }; goes = is });
     }
@@ -32,6 +34,7 @@ payments-preserved g c =
       placed = turn.placed;
       same = c.turn.ensures.log.base ∙ inv.same;
       store = leaves_store-then g.H.Host.now g.H.Host.may g.H.Host.clock g.H.Host.since g.H.Host.disk_faults g.H.Host.out_faults _ _ _ inv.store c.turn.ensures.log.store;
+      reached = λ begun. (turn.reads (inv.reached begun)).1 c.in-Ok-true.field-0-test;
       goes = λ queries events is.
           let at = inv.goes queries events is in
           let more = (turn.turned queries events at.lines.held at.lines.text_is at.goes).more c.in-Ok-true.field-0-test in
@@ -71,3 +74,8 @@ returns-in-Ok-false-clause-leaves g c = leaves_store-then g.H.Host.now g.H.Host.
 
 pub returns-in-Err-clause-leaves : goal.returns-in-Err-clause-leaves
 returns-in-Err-clause-leaves g c = leaves_store-then g.H.Host.now g.H.Host.may g.H.Host.clock g.H.Host.since g.H.Host.disk_faults g.H.Host.out_faults _ _ _ c.payments.invariant.store c.turn.ensures.log.store
+
+pub returns-in-Ok-false-clause-whole : goal.returns-in-Ok-false-clause-whole
+returns-in-Ok-false-clause-whole g c = λ begun.
+    let inv = c.payments.invariant in
+    whole_since (g.H.Host.now c.args.host.now) (g.H.Host.now c.payments.host) (base c.args.reservoir.now) (base c.payments.reservoir) inv.store.leaves.now_stays inv.same ((c.in-Ok-false.ensures.reads (inv.reached begun)).0 c.in-Ok-false.field-0-test)

@@ -1,5 +1,8 @@
-use Rattle.std.proofs.Common.{refl}
-use Rattle.std.specs.Prelude.{⊤}
+use Rattle.std.proofs.Common.{Result, refl, subst}
+use Rattle.rg_replay.specs.declared.fault.ReplayFault.{ReplayFault}
+use Rattle.rg_replay.specs.Playing.{IsCausedOver, IsExpected, IsRefusedOf}
+use Rattle.rg_replay.proofs.Reading.{if_err_then, refused_of, not_expected}
+use Rattle.std.specs.Prelude.{⊤, IfErr}
 use Rattle.rg_host.specs.Puts.{Puts}
 use Rattle.rg_replay.specs.Replay.{replay_text}
 use Rattle.rg_replay.specs.declared.fault.ReplayFault.TheVariants.{Disk, Damaged, SchemaDiffers, Write}
@@ -42,3 +45,11 @@ returns-clause-disk_faults g c = c.replay_log.ensures.ends.leaves.disk
 
 pub returns-clause-out_faults : goal.returns-clause-out_faults
 returns-clause-out_faults g c = c.replay_log.ensures.ends.leaves.out
+
+pub returns-clause-refused_of : goal.returns-clause-refused_of
+returns-clause-refused_of g c =
+    let shape = c.args.schema.now in
+    let host = c.args.host.now in
+    if_err_then c.replay_log.result (λ fault. IsCausedOver g.H.Host.now g.H.Host.disk_faults g.H.Host.out_faults shape fault host c.replay_log.new.host) (IsRefusedOf c.args.plan shape (g.H.Host.now host) (g.H.Host.may host)) (λ fault came cause.
+    refused_of g.H.Host.now (g.H.Host.may host) g.H.Host.disk_faults g.H.Host.out_faults c.args.plan shape fault host c.replay_log.new.host cause (λ node is queries events ready.
+    not_expected fault node is (subst (λ (r : Result Unit ReplayFault). IfErr r IsExpected) came (returns-clause-expected g c queries events ready)))) c.replay_log.ensures.ends.cause

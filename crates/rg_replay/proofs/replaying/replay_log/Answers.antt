@@ -1,17 +1,21 @@
-use Rattle.std.proofs.Common.{◌≡◌, ◌∙◌, inl, List, [], Err, refl, ap, sym, subst}
+use Rattle.std.proofs.Common.{◌≡◌, ◌∙◌, ◌⊎◌, inl, inr, List, [], Err, refl, ap, sym, subst}
 use Rattle.std.specs.Prelude.{⊤}
 use Rattle.rg_engine.specs.Feeding.{Serves}
 use Rattle.rg_event.specs.Shapes.{Shape}
 use Rattle.rg_event.specs.declared.event.Event.{Event}
 use Rattle.rg_host.specs.Puts.{Puts}
 use Rattle.rg_host.proofs.PutRuns.{puts-then}
-use Rattle.rg_reservoir.specs.Kept.{base}
-use Rattle.rg_replay.specs.Playing.{Answered}
+use Rattle.std.specs.Option.{ForSome}
+use Rattle.rg_frame.specs.Frames.{HasPayloads}
+use Rattle.rg_host.specs.Image.{Image}
+use Rattle.rg_reservoir.specs.Kept.{base, next_of, time_of}
+use Rattle.rg_replay.specs.Playing.{Answered, IsWholeIn, IsLegalThrough}
 use Rattle.rg_replay.specs.Replay.{replay_text}
 use Rattle.rg_replay.proofs.Causes.{log_expected, log_disk, log_damaged, log_differs, log_not_write}
 use Rattle.rg_replay.proofs.Played.{if_err_of}
 use Rattle.rg_replay.proofs.Progress.{last_put, none_put, answered_behind}
 use Rattle.rg_replay.proofs.Quiet.{puts_nothing, leaves_all, leaves_store-then, caused_opened, caused_end}
+use Rattle.rg_replay.proofs.Reading.{on_ok, on_ok_some, on_ok_then, legal_through}
 use Rattle.rg_replay.proofs.replaying.replay_log.Goals as goal
 
 -- where the log has a frame
@@ -91,3 +95,25 @@ returns-in-Err-clause-ends g c = record {
         differs = λ is. refused.differs (ap Err (log_differs f (sym c.from.ensures ∙ is)));
       };
 }
+
+-- what an end that is well says of the log
+
+pub returns-in-Ok-Some-clause-whole : goal.returns-in-Ok-Some-clause-whole
+returns-in-Ok-Some-clause-whole g c =
+    let shape = c.args.schema.now in
+    let now = g.H.Host.now c.args.host.now in
+    let r = c.in-Ok-Some.viewed in
+    let going = rw c.in-Ok-Some.field-0-is at c.in-Ok-Some.ensures.going in
+    let mid = c.view.ensures.leaves.now_stays in
+    on_ok_some c.replay_opened-replayed.result now (λ (v : Image). HasPayloads [] (v 2) ⊎ IsLegalThrough shape (v 2)) (λ v told.
+    let opened = (rw c.in-Ok-Some.field-0-is at c.in-Ok-Some.ensures.opened) v told in
+    let reached = (rw c.in-Ok-Some.field-0-is at c.in-Ok-Some.ensures.reached) v told in
+    on_ok_then c.replay_opened-replayed.result (IsWholeIn g.H.Host.now (base r) c.view.new.host) (HasPayloads [] (v 2) ⊎ IsLegalThrough shape (v 2))
+    (λ whole. inr (legal_through shape (base r) (record { count = (base r).committed; next = next_of r; time = time_of r }) now (g.H.Host.now c.view.new.host) v mid told going.1 going.2 refl opened whole))
+    (c.replay_opened-replayed.ensures.whole (record { is = reached })))
+
+pub returns-in-Ok-None-clause-whole : goal.returns-in-Ok-None-clause-whole
+returns-in-Ok-None-clause-whole g c =
+    let shape = c.args.schema.now in
+    let now = g.H.Host.now c.args.host.now in
+    on_ok c.put_end.result (ForSome now (λ (v : Image). HasPayloads [] (v 2) ⊎ IsLegalThrough shape (v 2))) (λ v told. inl ((rw c.in-Ok-None.field-0-is at c.in-Ok-None.ensures.none) v told))

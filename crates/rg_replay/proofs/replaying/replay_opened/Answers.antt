@@ -2,10 +2,12 @@ use Rattle.std.proofs.Common.{◌∙◌, [], ◌∷◌, ◌++◌, length, refl, 
 use Rattle.rg_event.specs.Rising.{next_offset}
 use Rattle.rg_host.specs.Puts.{Puts}
 use Rattle.rg_host.proofs.PutRuns.{puts-then}
-use Rattle.rg_replay.specs.Playing.{PutsLines}
+use Rattle.rg_reservoir.specs.Kept.{base}
+use Rattle.rg_replay.specs.Playing.{IsWholeIn, PutsLines}
 use Rattle.rg_replay.proofs.Played.{if_err_of}
 use Rattle.rg_replay.proofs.Progress.{last_put, end_is}
 use Rattle.rg_replay.proofs.Quiet.{leaves_store-then, caused_later, caused_put}
+use Rattle.rg_replay.proofs.Reading.{on_ok}
 use Rattle.rg_replay.proofs.Starting.{long, next_is}
 use Rattle.rg_replay.proofs.replaying.replay_opened.Goals as goal
 
@@ -28,3 +30,6 @@ returns-clause-cause g c = if_err_of c.put_end.result _ _ c.put_end.ensures.writ
 
 pub returns-clause-leaves : goal.returns-clause-leaves
 returns-clause-leaves g c = leaves_store-then g.H.Host.now g.H.Host.may g.H.Host.clock g.H.Host.since g.H.Host.disk_faults g.H.Host.out_faults _ _ _ c.answer_by.ensures.leaves c.put_end.ensures.leaves
+
+pub returns-clause-whole : goal.returns-clause-whole
+returns-clause-whole g c = λ begun. on_ok c.put_end.result (IsWholeIn g.H.Host.now (base c.args.reservoir.now) c.args.host.now) (c.in-Ok.ensures.whole begun)

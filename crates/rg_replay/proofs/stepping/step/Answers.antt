@@ -82,3 +82,20 @@ returns-in-Ok-clause-goes g c = g.met.P.Past.transitive _ _ _ c.in-Ok-Some.ensur
 
 pub returns-in-Err-answer-clause-goes : goal.returns-in-Err-answer-clause-goes
 returns-in-Err-answer-clause-goes g c = g.met.P.Past.transitive _ _ _ c.in-Ok-Some.ensures.kept.goes c.in-Err-answer.ensures.past.goes.goes
+
+pub returns-in-Ok-clause-legal : goal.returns-in-Ok-clause-legal
+returns-in-Ok-clause-legal g c = λ asks. c.in-Ok-Some.ensures.legal asks
+
+pub returns-in-Ok-None-clause-legal : goal.returns-in-Ok-None-clause-legal
+returns-in-Ok-None-clause-legal g c = λ asks. c.in-Ok-None.ensures.legal asks
+
+pub returns-in-Ok-clause-legal_edges : goal.returns-in-Ok-clause-legal_edges
+returns-in-Ok-clause-legal_edges g c = λ edge at there asks. c.in-Ok.ensures.legal edge at there (g.met.P.Past.stays_asking _ _ at c.in-Ok-Some.ensures.kept.goes asks)
+
+pub returns-in-Ok-clause-reached : goal.returns-in-Ok-clause-reached
+returns-in-Ok-clause-reached g c = λ reached.
+    let next = subst (λ (found : Option Event). IfSome found (λ _. g.P.Past.reached c.next.new.self.past c.next.new.spot)) c.in-Ok-Some.field-0-is (c.in-Ok-Some.ensures.reached reached) in
+    g.met.P.Past.stays_reached _ _ c.next.new.spot c.in-Ok.ensures.past.goes.goes next
+
+pub returns-in-Ok-None-clause-whole : goal.returns-in-Ok-None-clause-whole
+returns-in-Ok-None-clause-whole g c = λ reached. subst (λ (found : Option Event). IfNone found (g.P.Past.whole c.args.past.now.past)) c.in-Ok-None.field-0-is (c.in-Ok-None.ensures.whole reached)

@@ -1,13 +1,14 @@
-use Rattle.std.proofs.Common.{⊎_elim, inl, inr, ℕ, List, [], ◌++◌, ap, sym, subst}
+use Rattle.std.proofs.Common.{⊎_elim, inl, inr, ℕ, List, [], ◌++◌, MatchOption, ap, sym, subst}
 use Rattle.rg_host.specs.Lines.{ended}
 use Rattle.rg_host.specs.Puts.{IsPrefix, Puts}
 use Rattle.rg_host.proofs.PutRuns.{puts-then}
 use Rattle.rg_reservoir.specs.Kept.{base}
 use Rattle.rg_state.specs.contracts.mem_table.MemTableTable.TheImpl.{ghosts as rows}
 use Rattle.rg_replay.specs.Going.{Came}
-use Rattle.rg_replay.specs.Playing.{IsPlaying, AreAdded}
+use Rattle.rg_replay.specs.Playing.{IsPlaying, IsReachedAt, IsWholeIn, AreAdded}
 use Rattle.rg_replay.specs.Replay.{line_at}
 use Rattle.rg_replay.proofs.Quiet.{puts_nothing, leaves_of, leaves_store-then, caused_later, caused_put}
+use Rattle.rg_replay.proofs.Reading.{reached_still}
 use Rattle.rg_replay.proofs.Starting.{playing_still}
 use Rattle.rg_replay.proofs.Played.{line_told, small_count, below_count}
 use Rattle.rg_replay.proofs.Progress.{added_behind}
@@ -102,3 +103,17 @@ returns-in-Err-clause-log g c = record {
   base = c.step_stored.ensures.quiet.base;
   store = leaves_of g.H.Host.now g.H.Host.may g.H.Host.clock g.H.Host.since g.H.Host.said g.H.Host.disk_faults g.H.Host.out_faults _ _ _ _ c.step_stored.ensures.quiet;
 }
+
+pub returns-clause-reads : goal.returns-clause-reads
+returns-clause-reads g c = λ at. (
+  λ no. absurd cc,
+  λ yes.
+      let read = subst (λ found. MatchOption found (IsWholeIn g.H.Host.now (base c.args.reservoir.now) c.args.host.now) (λ _. IsReachedAt g.H.Host.now c.step_stored.new.reservoir c.step_stored.new.host c.step_stored.new.spot)) c.in-Ok-Some.field-0-is (c.in-Ok-Some.ensures.reads at) in
+      record { is = reached_still (g.H.Host.now c.step_stored.new.host) (g.H.Host.now c.put_reply.new.host) c.step_stored.new.reservoir c.step_stored.new.spot c.put_reply.ensures.leaves.leaves.now_stays read.is },
+)
+
+pub returns-in-Ok-None-clause-reads : goal.returns-in-Ok-None-clause-reads
+returns-in-Ok-None-clause-reads g c = λ at. (
+  λ no. subst (λ found. MatchOption found (IsWholeIn g.H.Host.now (base c.args.reservoir.now) c.args.host.now) (λ _. IsReachedAt g.H.Host.now c.step_stored.new.reservoir c.step_stored.new.host c.step_stored.new.spot)) c.in-Ok-None.field-0-is (c.in-Ok-None.ensures.reads at),
+  λ yes. absurd cc,
+)

@@ -24,7 +24,7 @@ use Rattle.rg_open.specs.Settling.{AreSettled}
 
 -- what is openable stays so, where the host tells the same and a crash leaves no more
 pub openable_still : (plan : Planned) (now then : Option Image) (may after : Image → Type 0) → then ≡ now → ((u : Image) → after u → may u) → IsOpenable plan now may → IsOpenable plan then after
-openable_still plan now then may after same fewer is = record { image = is.image; told = same ∙ is.told; truthful = λ u left. is.truthful u (fewer u left); schema = λ u left. is.schema u (fewer u left) }
+openable_still plan now then may after same fewer is = record { image = is.image; told = same ∙ is.told; truthful = λ u left. is.truthful u (fewer u left); schema = is.schema }
 
 module _ (plan : Planned) (schema : IsSchema plan.shape) (keep : Option ℕ) (now : Option Image) (may : Image → Type 0) (v : Image) (told : now ≡ Some v) (settled : NothingPending 2 now may) (u : Image) (left : Leaves 2 (LogOpens plan.shape plan.defaults) now may u) where
   -- within the opening of a log, and after it
@@ -76,7 +76,7 @@ module _ (plan : Planned) (schema : IsSchema plan.shape) (now then : Option Imag
   found_by r saved sound slots reads going file shape empty =
       let v = openable.image in
       let at : may v = reads v openable.told in
-      let events = for_legal payloads_one plan.shape plan.defaults (v 2) schema (openable.truthful v at).log (openable.schema v at) in
+      let events = for_legal payloads_one plan.shape plan.defaults (v 2) schema (openable.truthful v at).log openable.schema in
       record {
         reservoir = record { sound = (sound v events.0 openable.told settled.log events.1).0; going = going; file = file; shape = shape };
         empty = empty;

@@ -5,7 +5,7 @@ use Rattle.std.proofs.lemmas.List.{append-nil}
 use Rattle.std.specs.Prelude.{is_some}
 use Rattle.std.specs.Option.{ForSome}
 use Rattle.rg_host.specs.Image.{Image}
-use Rattle.rg_event.specs.Shapes.{IsSchema}
+use Rattle.rg_event.specs.Shapes.{Shape, IsSchema}
 use Rattle.rg_event.specs.declared.event.Event.{Event}
 use Rattle.rg_growth.specs.Filling.{growth_to}
 use Rattle.rg_frame.specs.Frames.{HasPayloads}
@@ -13,8 +13,8 @@ use Rattle.rg_frame.specs.Steps.{Leaves, Grows, Grown}
 use Rattle.rg_frame.proofs.FrameLists.{payloads_one}
 use Rattle.rg_log.specs.Filled.{HasEventsFor, IsOfSchemaFor}
 use Rattle.rg_log.specs.Log.{schema_payload, IsChunkOf, HasEvents, IsInForce}
-use Rattle.rg_log.specs.Stages.{chunk as chunk_stage}
-use Rattle.rg_log.proofs.Filled.{own_events, unframed_events, grows_for, schema_for}
+use Rattle.rg_log.specs.Stages.{chunk as chunk_stage, growth as growth_stage}
+use Rattle.rg_log.proofs.Filled.{own_events, unframed_events, growth_said, grows_for, schema_for}
 use Rattle.rg_log.proofs.Growing.{adds_log, added_log, begins_log}
 use Rattle.rg_log.proofs.Staging.{has-push}
 use Rattle.rg_config.specs.Plans.{Planned}
@@ -25,7 +25,7 @@ use Rattle.rg_checkpoint.specs.Slots.{HasSlot, HasNoSlot, AreSizes, Lengthens, L
 use Rattle.rg_checkpoint.specs.Updates.{Applies}
 use Rattle.rg_checkpoint.proofs.SlotLaws.{kept_apart, slot_is_one}
 use Rattle.rg_reservoir.specs.Attached.{IsToGrow, growth_payload}
-use Rattle.rg_reservoir.proofs.Legal.{to_grow_in_force}
+use Rattle.rg_reservoir.proofs.Legal.{in_force_by, to_grow_in_force}
 use Rattle.rg_run_spec.specs.Steps.{IsMidStep, IsStepped, IsSavedTo}
 use Rattle.rg_open.specs.Truth.{texts_of, IsTrueOf, IsTruthfulImage, MayGrow}
 use Rattle.rg_open.specs.Opened.{IsToExtend}
@@ -33,7 +33,7 @@ use Rattle.rg_open.specs.Stores.{HasSaved, IsOfPlan, Has, store_of}
 use Rattle.rg_open.proofs.GrownTruth.{grows}
 use Rattle.rg_open.proofs.Images.{below_apart, commits, begins, writes, same_image}
 use Rattle.rg_open.proofs.ToGrow.{framed_in, framed_of}
-use Rattle.rg_open.proofs.Truths.{grown_grows}
+use Rattle.rg_open.proofs.Truths.{grown_grows, no_schema}
 
 some_is : (w x : Image) → Some w ≡ Some x → w ≡ x
 some_is w x e = cc
@@ -71,6 +71,7 @@ stays_mid plan keep chunk may u v left same = record {
   left = left;
   truthful = same_image u v same;
   schema = λ is. subst (IsOfSchemaFor plan.shape plan.defaults) (sym (same 2)) is;
+  grown = λ is. subst (IsInForce plan.shape) (sym (same 2)) is;
   events = λ es has. inl (subst (HasEventsFor plan.shape plan.defaults es) (sym (same 2)) has);
   slots = λ slot count is has. saved_behind plan slot count u v (λ f apart. same f) has;
 }
@@ -81,6 +82,7 @@ stays_stepped plan keep chunk may u v none left same = record {
   left = left;
   truthful = same_image u v same;
   schema = λ is. subst (IsOfSchemaFor plan.shape plan.defaults) (sym (same 2)) is;
+  grown = λ is. subst (IsInForce plan.shape) (sym (same 2)) is;
   events = λ es has. subst (λ (l : List Event). Has plan l v) (sym (append-nil es) ∙ ap (λ (l : List Event). es ++ l) (sym none)) (subst (HasEventsFor plan.shape plan.defaults es) (sym (same 2)) has);
   slots = λ slot count is has. saved_behind plan slot count u v (λ f apart. same f) has;
 }
@@ -98,9 +100,9 @@ module _ (plan : Planned) (schema : IsSchema plan.shape) where
     rest = fits.framed.1
 
     -- the schema stays in force
-    framed_by : HasPayloads (first ∷ rest) (v 2) ⊎ HasPayloads (first ∷ (rest ++ payload ∷ [])) (v 2) → IsOfPlan plan v
-    framed_by (inl same) = inl (inr (first, rest, fits.framed.2, same, fits.framed.4))
-    framed_by (inr more) = inl (inr (first, rest ++ payload ∷ [], fits.framed.2 ++ chunk_stage chunk ∷ [], more, has-push plan.shape first rest fits.framed.2 payload (chunk_stage chunk) fits.framed.4 said))
+    framed_by : HasPayloads (first ∷ rest) (v 2) ⊎ HasPayloads (first ∷ (rest ++ payload ∷ [])) (v 2) → IsInForce plan.shape (v 2)
+    framed_by (inl same) = (first, rest, fits.framed.2, same, fits.framed.4)
+    framed_by (inr more) = (first, rest ++ payload ∷ [], fits.framed.2 ++ chunk_stage chunk ∷ [], more, has-push plan.shape first rest fits.framed.2 payload (chunk_stage chunk) fits.framed.4 said)
 
     -- since it is in force, the events for the plan are the log's own
     own : (es : List Event) → Has plan es u → HasEvents plan.shape es (u 2)
@@ -116,7 +118,8 @@ module _ (plan : Planned) (schema : IsSchema plan.shape) where
       from = u;
       left = left;
       truthful = commits plan.shape payload chunk u v schema fits said step others;
-      schema = λ _. framed_by (step (first ∷ rest) fits.framed.3);
+      schema = λ _. inl (inr (framed_by (step (first ∷ rest) fits.framed.3)));
+      grown = λ _. framed_by (step (first ∷ rest) fits.framed.3);
       events = λ es has. for_plan es (grows_of es (own es has) step).1;
       slots = λ slot count is has. saved_behind plan slot count u v others has;
     }
@@ -127,7 +130,8 @@ module _ (plan : Planned) (schema : IsSchema plan.shape) where
       from = u;
       left = left;
       truthful = commits plan.shape payload chunk u v schema fits said (grown_grows payload (u 2) (v 2) step) others;
-      schema = λ _. framed_by (inr (step (first ∷ rest) fits.framed.3));
+      schema = λ _. inl (inr (framed_by (inr (step (first ∷ rest) fits.framed.3))));
+      grown = λ _. framed_by (inr (step (first ∷ rest) fits.framed.3));
       events = λ es has.
           let here = own es has in
           inl (added_log payloads_one plan.shape es chunk payload (u 2) (v 2) fits.framed here said (fits.rises es here) (fits.fits es here) step).1;
@@ -148,6 +152,7 @@ module _ (plan : Planned) (schema : IsSchema plan.shape) where
       left = left;
       truthful = begins plan.shape u v schema none step others;
       schema = λ _. inl begun.0;
+      grown = λ is. absurd (no_schema plan.shape (u 2) none is);
       events = λ es has. inl (subst (λ (l : List Event). Has plan l v) (sym (no_events es has)) (inl begun.1));
       slots = λ slot count is has. saved_behind plan slot count u v others has;
     }
@@ -158,6 +163,7 @@ module _ (plan : Planned) (schema : IsSchema plan.shape) where
       left = left;
       truthful = begins plan.shape u v schema none step others;
       schema = λ _. inl begun.0;
+      grown = λ is. absurd (no_schema plan.shape (u 2) none is);
       events = λ es has. subst (λ (l : List Event). Has plan l v) (sym (append-nil es ∙ no_events es has)) (inl begun.1);
       slots = λ slot count is has. saved_behind plan slot count u v others has;
     }
@@ -173,12 +179,27 @@ module _ (plan : Planned) (keep : Option ℕ) (may : Image → Type 0) (u v : Im
   still_has : (es : List Event) → Has plan es u → Has plan es v
   still_has es has = grows_for payloads_one g.from plan.shape plan.defaults g.values es (u 2) (v 2) g.fills (to_grow_in_force plan.shape plan.defaults es (u 2) g has) has step
 
+  -- where it was in force already
+  still_grown : IsInForce plan.shape (u 2) → IsInForce plan.shape (v 2)
+  still_grown is = by (step (here.0 ∷ here.1) here.3)
+    where
+      here : IsInForce g.from (u 2)
+      here = framed_of plan.shape plan.defaults (u 2) g (inl (inr is))
+
+      payload : List ℕ
+      payload = growth_payload plan.shape g.values
+
+      by : HasPayloads (here.0 ∷ here.1) (v 2) ⊎ HasPayloads (here.0 ∷ (here.1 ++ payload ∷ [])) (v 2) → IsInForce plan.shape (v 2)
+      by (inl same) = subst (λ (s : Shape). IsInForce s (v 2)) (sym (in_force_by plan.shape plan.defaults plan.shape (u 2) g is)) (here.0, here.1, here.2, same, here.4)
+      by (inr more) = (here.0, here.1 ++ payload ∷ [], here.2 ++ growth_stage (growth_to plan.shape g.values) ∷ [], more, has-push g.from here.0 here.1 here.2 payload (growth_stage (growth_to plan.shape g.values)) here.4 (growth_said g.from plan.shape plan.defaults g.values g.fills))
+
   pub growth_mid : IsMidStep (store_of plan) keep [] may v
   growth_mid = record {
     from = u;
     left = left;
     truthful = still_true;
     schema = still_of;
+    grown = still_grown;
     events = λ es has. inl (still_has es has);
     slots = λ slot count is has. saved_behind plan slot count u v others has;
   }
@@ -189,6 +210,7 @@ module _ (plan : Planned) (keep : Option ℕ) (may : Image → Type 0) (u v : Im
     left = left;
     truthful = still_true;
     schema = still_of;
+    grown = still_grown;
     events = λ es has. subst (λ (l : List Event). Has plan l v) (sym (append-nil es)) (still_has es has);
     slots = λ slot count is has. saved_behind plan slot count u v others has;
   }
@@ -211,6 +233,7 @@ module _ (plan : Planned) (keep : Option ℕ) (legal : IsKeep keep) (checkpoint 
     left = left;
     truthful = writes (other_of keep) u v checkpoint (other_below keep legal) others step true_of;
     schema = λ is. subst (IsOfSchemaFor plan.shape plan.defaults) (sym log_same) is;
+    grown = λ is. subst (IsInForce plan.shape) (sym log_same) is;
     events = λ es has. inl (subst (HasEventsFor plan.shape plan.defaults es) (sym log_same) has);
     slots = λ slot count is has. saved_stays plan slot count (other_of keep) u v (kept_apart keep slot legal is) others has;
   }
@@ -222,6 +245,7 @@ module _ (plan : Planned) (keep : Option ℕ) (legal : IsKeep keep) (checkpoint 
     left = left;
     truthful = writes (other_of keep) u v checkpoint (other_below keep legal) others (inr (inr has)) true_of;
     schema = λ is. subst (IsOfSchemaFor plan.shape plan.defaults) (sym log_same) is;
+    grown = λ is. subst (IsInForce plan.shape) (sym log_same) is;
     events = λ es has. subst (HasEventsFor plan.shape plan.defaults es) (sym log_same) has;
     saved = record { below = other_below keep legal; checkpoint = checkpoint; complete = has; texts = texts; most = most };
   }
@@ -265,6 +289,7 @@ module _ (plan : Planned) (slot : ℕ) (below : slot < 2) (payload : List ℕ) (
     left = left;
     truthful = truthful_by step;
     schema = λ is. subst (IsOfSchemaFor plan.shape plan.defaults) (sym same_log) is;
+    grown = λ is. subst (IsInForce plan.shape) (sym same_log) is;
     events = λ es is. inl (subst (HasEventsFor plan.shape plan.defaults es) (sym same_log) is);
     slots = λ i count kept is. ⊎_elim (λ same. subst (λ (n : ℕ). HasSaved plan n count v) (sym same) (still_saved step count (subst (λ (n : ℕ). HasSaved plan n count u) same is))) (λ apart. saved_stays plan i count slot u v apart others is) (cases_eq i slot);
   }
@@ -276,6 +301,7 @@ module _ (plan : Planned) (slot : ℕ) (below : slot < 2) (payload : List ℕ) (
     left = left;
     truthful = truthful_by (inr new);
     schema = λ is. subst (IsOfSchemaFor plan.shape plan.defaults) (sym same_log) is;
+    grown = λ is. subst (IsInForce plan.shape) (sym same_log) is;
     events = λ es is. subst (HasEventsFor plan.shape plan.defaults es) (sym same_log) is;
     saved = record { below = below; checkpoint = after; complete = new; texts = texts; most = omega arith };
   }

@@ -24,10 +24,10 @@ as_read now then may after v told same fewer settled u left =
 
 -- from images of which there are more
 mid_before : (store : Store Image) (keep : Option ℕ) (may after : Image → Type 0) (u : Image) → ((v : Image) → after v → may v) → IsMidStep store keep [] after u → IsMidStep store keep [] may u
-mid_before store keep may after u fewer is = record { from = is.from; left = fewer is.from is.left; truthful = is.truthful; schema = is.schema; events = is.events; slots = is.slots }
+mid_before store keep may after u fewer is = record { from = is.from; left = fewer is.from is.left; truthful = is.truthful; schema = is.schema; grown = is.grown; events = is.events; slots = is.slots }
 
 stepped_before : (store : Store Image) (keep : Option ℕ) (may after : Image → Type 0) (u : Image) → ((v : Image) → after v → may v) → IsStepped store keep [] after u → IsStepped store keep [] may u
-stepped_before store keep may after u fewer is = record { from = is.from; left = fewer is.from is.left; truthful = is.truthful; schema = is.schema; events = is.events; slots = is.slots }
+stepped_before store keep may after u fewer is = record { from = is.from; left = fewer is.from is.left; truthful = is.truthful; schema = is.schema; grown = is.grown; events = is.events; slots = is.slots }
 
 module _ {H : Type 0} (now : H → Option Image) (may : H → Image → Type 0) (clock : H → ℕ) (since : H → ℕ → Moment → Type 0) (said : H → Option (List ℕ)) where
   -- calls that wrote nothing

@@ -21,13 +21,13 @@ use Rattle.rg_open.specs.Opened.{IsOpenedFor, IsInStep, IsKeptInSlot}
 use Rattle.rg_open.specs.Stores.{IsOfPlan}
 use Rattle.rg_open.specs.Truth.{texts_of, IsTruthfulImage}
 
--- The host tells its image, and each image that might be left is truthful, and its log is of the plan's schema, or of one that grows to it by
--- the plan's defaults, or has no frame.
+-- The host tells its image, whose log is of the plan's schema, or of one that grows to it by the plan's defaults, or has no frame; and each
+-- image that might be left is truthful.
 pub record IsOpenable (plan : Planned) (now : Option Image) (may : Image → Type 0) : Type 0 where
   pub image : Image
   pub told : now ≡ Some image
   pub truthful : (u : Image) → may u → IsTruthfulImage u
-  pub schema : (u : Image) → may u → IsOfPlan plan u
+  pub schema : IsOfPlan plan image
 
 -- these are the checkpoints of the image's slots
 pub record AreSlots (v : Image) (saved : Saved) : Type 0 where

@@ -8,6 +8,7 @@ use Rattle.rg_checkpoint.specs.declared.base.Checkpoint.{Checkpoint}
 use Rattle.rg_checkpoint.specs.Slots.{HasSlot}
 use Rattle.rg_run_spec.specs.Stores.{Store}
 use Rattle.rg_log.specs.Filled.{HasEventsFor, IsOfSchemaFor}
+use Rattle.rg_log.specs.Log.{IsInForce}
 use Rattle.rg_open.specs.Truth.{texts_of, IsTruthfulImage}
 
 -- the slot is complete, has the plan's queries, and counts at least so many events
@@ -22,6 +23,10 @@ pub record HasSaved (plan : Planned) (slot count : ℕ) (v : Image) : Type 0 whe
 abbrev pub IsOfPlan : Planned → Image → Type 0
 IsOfPlan plan v = IsOfSchemaFor plan.shape plan.defaults (v 2)
 
+-- the plan's schema is in force at the log's end
+abbrev pub IsGrownTo : Planned → Image → Type 0
+IsGrownTo plan v = IsInForce plan.shape (v 2)
+
 -- the log's events are these, each with the plan's defaults of the columns that it lacks
 abbrev pub Has : Planned → List Event → Image → Type 0
 Has plan events v = HasEventsFor plan.shape plan.defaults events (v 2)
@@ -34,6 +39,7 @@ abbrev pub store_of : Planned → Store Image
 store_of plan = record {
   IsTruthful = IsTruthfulImage;
   IsOfSchema = IsOfPlan plan;
+  IsGrown = IsGrownTo plan;
   HasEvents = Has plan;
   HasSaved = HasSaved plan;
   has_fewer = has_fewer plan;

@@ -3,23 +3,25 @@ use Rattle.std.proofs.Common.{◌≡◌, ◌⊎◌, inl, inr, ⊎_elim, ℕ, ◌
 use Rattle.rg_bytes.specs.Counts.{Rose}
 use Rattle.rg_host.specs.Image.{Image}
 use Rattle.rg_host.specs.Moments.{Moment, Moments}
+use Rattle.rg_event.specs.declared.event.Event.{Event}
 use Rattle.rg_config.specs.Plans.{Planned}
 use Rattle.rg_state.specs.Changes.{Marks}
 use Rattle.rg_state.specs.Rows.{Cells}
 use Rattle.rg_reservoir.specs.Chain.{IsIllegalBy}
 use Rattle.rg_reservoir.specs.Kept.{base, view_of, next_of}
 use Rattle.rg_reservoir.specs.Views.{View as LogView}
-use Rattle.rg_run_spec.specs.Stores.{Course, StaysOnCourse}
+use Rattle.rg_run_spec.specs.Stores.{Course, HasAtLeast, StaysOnCourse}
 use Rattle.rg_open.specs.Stores.{store_of}
 use Rattle.rg_recover.specs.Sessions.{Sitting}
 use Rattle.rg_task.specs.View.{View}
 use Rattle.rg_run.specs.Answered as run
 use Rattle.rg_run.specs.Begun.{Begun, course_for}
+use Rattle.rg_run.specs.Logs as logs
 use Rattle.rg_run.specs.Turning as turning
 use Rattle.rg_run.specs.UnderWay as way
 use Rattle.rg_run.specs.declared.fault.RunFault.{RunFault}
 use Rattle.rg_run.specs.declared.fault.RunFault.TheVariants.{Write}
-use Rattle.rg_recover.specs.Answered.{StaysTrue, Explains, CountsGrow}
+use Rattle.rg_recover.specs.Answered.{StaysTrue, StaysHeld, Explains, CountsGrow}
 use Rattle.rg_recover.specs.Living.{SameLog}
 use Rattle.rg_recover.specs.LiveView.{live_view}
 use Rattle.rg_recover.specs.Opened.{IsToBegin}
@@ -64,6 +66,9 @@ module _ {P H T : Type 0} (old new : P) (host : P → H) (session : P → Sittin
     never_bad = t.never_bad;
     never_damaged = t.never_damaged;
   }
+
+  pub held_of : (plan : Planned) (held : List Event) → logs.StaysHeld V plan held old new → StaysHeld may clock since plan held (host old) (host new)
+  held_of plan held s = record { moments = moments_of (λ m. HasAtLeast (store_of plan) held m.image) s.moments; left = s.left }
 
   -- a table without a disk adds no failed call
   module _ {I : Type 0} (all_faults : P → ℕ) (disk_faults out_faults : H → ℕ) (none : (p : P) → all_faults p ≡ disk_faults (host p)) (left : I → Option (List ℕ)) (faults : I → ℕ) where

@@ -2,21 +2,26 @@
 use Rattle.std.proofs.Common.{◌≡◌, ℕ, List, Option, Result, refl, sym, subst}
 use Rattle.rg_host.specs.Image.{Image}
 use Rattle.rg_host.specs.Moments.{Moment}
+use Rattle.rg_event.specs.declared.event.Event.{Event}
 use Rattle.rg_config.specs.Plans.{Planned}
 use Rattle.rg_state.specs.Changes.{Marks}
 use Rattle.rg_state.specs.Rows.{Cells}
 use Rattle.rg_reservoir.specs.Kept.{next_of}
+use Rattle.rg_run_spec.specs.Stores.{HasAtLeast}
+use Rattle.rg_open.specs.Blame.{IsPlaced}
+use Rattle.rg_open.specs.Stores.{store_of}
 use Rattle.rg_task.specs.View.{View}
 use Rattle.rg_run.specs.Answered as run
 use Rattle.rg_run.specs.Begun.{Begun}
+use Rattle.rg_run.specs.Logs as logs
 use Rattle.rg_run.specs.declared.fault.RunFault.{RunFault}
-use Rattle.rg_recover.specs.Answered.{StaysTrue, Explains, CountsGrow}
+use Rattle.rg_recover.specs.Answered.{StaysTrue, StaysHeld, Explains, CountsGrow}
 use Rattle.rg_recover.specs.LiveView.{live_view}
 use Rattle.rg_recover.specs.Opened.{IsToBegin, IsOpened, OpensOnly}
 use Rattle.rg_recover.specs.Living.{SameLog}
 use Rattle.rg_recover.specs.Runs.{IsWholeRun}
 use Rattle.rg_recover.specs.Sessions.{Sitting}
-use Rattle.rg_recover.proofs.Bridging.{to_begin, true_of, explained_of, counts_of}
+use Rattle.rg_recover.proofs.Bridging.{to_begin, true_of, held_of, explained_of, counts_of}
 use Rattle.rg_recover.proofs.Exits.{back}
 use Rattle.rg_recover.proofs.Opened.{answered_whole}
 use Rattle.rg_recover.proofs.Sound.{moved}
@@ -49,7 +54,14 @@ module _ {P H T : Type 0} (lent after : P) (host : P → H) (session : P → Sit
         (true_of lent after host session names same join now may clock since said tells cell named there plan b (left input_then) r
         (goes b (to_begin lent after host session names same join now may clock since said tells cell named there plan b (left input) next count from first begins)))
 
+    held : logs.KeepsLog V plan lent after → (es : List Event) → IsPlaced plan (now mid) (may mid) s.reservoir s.engine → ((u : Image) → may mid u → HasAtLeast (store_of plan) es u) → StaysHeld may clock since plan es mid (host after)
+    held keeps es placed holds =
+        let at = moved (λ (h : H) (t : Sitting T). IsPlaced plan (now h) (may h) t.reservoir t.engine) mid (host lent) s (session lent) host_is session_is placed in
+        let has = back (λ (h : H). (u : Image) → may h u → HasAtLeast (store_of plan) es u) mid (host lent) host_is holds in
+        back (λ (h : H). StaysHeld may clock since plan es h (host after)) (host lent) mid (sym host_is)
+        (held_of lent after host session names same join now may clock since said tells cell named there plan es (keeps es at has))
+
     pub lent_whole : ((b : Begun) → run.IsToBegin V plan b (left input) from first lent → run.StaysTrue V plan b (left input_then) r lent after) → run.Explains V all_faults (λ p. out_faults (host p)) left faults plan first r input input_then lent after
-        → run.CountsGrow V all_faults (λ p. out_faults (host p)) faults input input_then lent after → IsWholeRun now may clock since said disk_faults out_faults left faults plan first r input input_then old (host after)
-    lent_whole goes e g =
-        answered_whole now may clock since said disk_faults out_faults left faults plan first input old mid only next count from first tells cell named there s opened refl r input_then (host after) (why g.goes.1 e) (stays goes) (grow g)
+        → run.CountsGrow V all_faults (λ p. out_faults (host p)) faults input input_then lent after → logs.KeepsLog V plan lent after → IsWholeRun now may clock since said disk_faults out_faults left faults plan first r input input_then old (host after)
+    lent_whole goes e g keeps =
+        answered_whole now may clock since said disk_faults out_faults left faults plan first input old mid only next count from first tells cell named there s opened refl r input_then (host after) (why g.goes.1 e) (held keeps) (stays goes) (grow g)

@@ -32,3 +32,5 @@ pub mod Bridging
 pub mod Lent
 pub mod Exits
 pub mod NewStore
+pub mod LogHeld
+pub mod OpeningLog

@@ -59,7 +59,7 @@ new_host = begun (replicate 8 []) []
 
 abbrev pub ready_anew : (plan : Planned) → IsSchema plan.shape → IsReadyRun plan (now_in new_host) (may_in new_host) (said_in new_host)
 ready_anew plan schema = record {
-  openable = record { image = bare; told = refl; truthful = λ u may. subst IsTruthfulImage (sym may) bare_truthful; schema = λ u may. subst (IsOfPlan plan) (sym may) (inl (inl (no_payload 2))) };
+  openable = record { image = bare; told = refl; truthful = λ u may. subst IsTruthfulImage (sym may) bare_truthful; schema = inl (inl (no_payload 2)) };
   put = [];
   told = refl;
   held = [];

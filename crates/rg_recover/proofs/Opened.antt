@@ -7,18 +7,20 @@ use Rattle.rg_host.specs.Image.{Image}
 use Rattle.rg_host.specs.Moments.{Moment}
 use Rattle.rg_host.proofs.Runs.{moments_then}
 use Rattle.rg_event.specs.Rising.{next_offset}
+use Rattle.rg_event.specs.declared.event.Event.{Event}
 use Rattle.rg_config.specs.Plans.{Planned}
 use Rattle.rg_state.specs.Changes.{Marks}
 use Rattle.rg_state.specs.Rows.{Cells}
 use Rattle.rg_reservoir.specs.Attached.{IsIllegalOpened}
 use Rattle.rg_reservoir.specs.Chain.{IsIllegalBy}
 use Rattle.rg_reservoir.specs.Kept.{base, view_of}
-use Rattle.rg_run_spec.specs.Stores.{StaysOnCourse, StaysOnCourseSince}
+use Rattle.rg_run_spec.specs.Stores.{HasAtLeast, StaysOnCourse, StaysOnCourseSince}
+use Rattle.rg_open.specs.Blame.{IsPlaced}
 use Rattle.rg_open.specs.Stores.{store_of}
 use Rattle.rg_open.specs.Within.{IsWithinOpening}
 use Rattle.rg_recover.specs.Sessions.{Sitting, events_of, stored_of}
 use Rattle.rg_recover.specs.Ran.{HasStopped}
-use Rattle.rg_recover.specs.Answered.{StaysTrue, Explains, CountsGrow}
+use Rattle.rg_recover.specs.Answered.{StaysTrue, StaysHeld, Explains, CountsGrow}
 use Rattle.rg_run.specs.Begun.{Begun, course_for}
 use Rattle.rg_recover.specs.Ready.{IsReadyRun, begun_by}
 use Rattle.rg_recover.specs.RunFaults.{IsGapOrFailed}
@@ -28,6 +30,7 @@ use Rattle.rg_recover.specs.Ran.{IsUnopened, IsLeft, Ran}
 use Rattle.rg_run.specs.declared.fault.RunFault.{RunFault}
 use Rattle.rg_run.specs.declared.fault.RunFault.TheVariants.{Damaged, SchemaDiffers, BadState, Gap, Read, Limit, Write, Disk}
 use Rattle.rg_recover.proofs.Beginning.{opening_moments, unopened, to_begin, numbers}
+use Rattle.rg_recover.proofs.OpeningLog.{opening_log, opened_log}
 use Rattle.rg_recover.proofs.Openings.{err_is, on_ok_by, if_err_by}
 
 -- a store that is ready is opened but for a gap, a disk or memory
@@ -92,12 +95,14 @@ module _ {H I : Type 0} (now : H → Option Image) (may : H → Image → Type 0
       ready = away_ready;
       unfit = away_unfit;
       cause = away_cause;
+      log = λ v events told has. opening_log may clock since said plan None v events old mid has (only.within v None told);
       counts = record { later = omega arith; disk_faults_grow = only.disk_faults_grow; out_faults_grow = omega (arith, only.out_faults_stay) };
     }
 
   -- The store was opened, and its lines were answered.
   module _ {A T : Type 0} (next count from offset : ℕ) (Tells : T → Type 0) (cell : T → Cells) (named there : T → Marks) (s : Sitting T) (opened : IsOpened now may plan next count from Tells cell named there s old mid) (at : offset ≡ first) (r : Result A RunFault) (input_then : I) (new : H)
-      (why : Explains now may disk_faults out_faults left faults plan next offset (Tells s.engine.table) (cell s.engine.table) s r input input_then mid new) where
+      (why : Explains now may disk_faults out_faults left faults plan next offset (Tells s.engine.table) (cell s.engine.table) s r input input_then mid new)
+      (held : (es : List Event) → IsPlaced plan (now mid) (may mid) s.reservoir s.engine → ((u : Image) → may mid u → HasAtLeast (store_of plan) es u) → StaysHeld may clock since plan es mid new) where
     left_by : (b : Begun) → IsUnopened may said plan b old mid → (f : RunFault) → (f ≡ Write) ⊎ (HasStopped plan (course_for plan b) (may new) (said new) ⊎ (new ≡ mid)) → IsLeft may said plan b f old new
     left_by b none f (inl write) = inl write
     left_by b none f (inr (inl stopped)) = inr (inl stopped)
@@ -183,5 +188,6 @@ module _ {H I : Type 0} (now : H → Option Image) (may : H → Image → Type 0
       ready = answered_ready stays;
       unfit = answered_unfit;
       cause = answered_cause;
+      log = λ v events told has. opened_log may clock since said plan None v events old mid new has (only.within v None told) (opened.stepped v None told) (held events (opened.placed v events told has));
       counts = record { later = grow.later; disk_faults_grow = omega (arith, only.disk_faults_grow, grow.disk_faults_grow); out_faults_grow = omega (arith, only.out_faults_stay, grow.out_faults_grow) };
     }

@@ -45,6 +45,7 @@ mid_is_stepped store keep may u step = record {
   left = step.left;
   truthful = step.truthful;
   schema = step.schema;
+  grown = step.grown;
   events = λ es has. by es (step.events es has);
   slots = step.slots;
 }

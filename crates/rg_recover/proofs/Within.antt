@@ -20,6 +20,7 @@ mid_of store keep chunk may u step = record {
   left = step.left;
   truthful = step.truthful;
   schema = step.schema;
+  grown = step.grown;
   events = λ es has. inr (step.events es has);
   slots = step.slots;
 }
@@ -31,6 +32,7 @@ still_stepped store keep chunk may next u fewer step = record {
   left = fewer step.from step.left;
   truthful = step.truthful;
   schema = step.schema;
+  grown = step.grown;
   events = step.events;
   slots = step.slots;
 }
@@ -53,6 +55,7 @@ widen_mid store keep chunk may u step = record {
   left = step.left;
   truthful = step.truthful;
   schema = step.schema;
+  grown = step.grown;
   events = λ es has. by es (step.events es has);
   slots = step.slots;
 }

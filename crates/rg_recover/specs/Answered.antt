@@ -5,11 +5,12 @@ use Rattle.rg_bytes.specs.Counts.{Rose}
 use Rattle.rg_bytes.specs.Known.{IsAtEnd}
 use Rattle.rg_host.specs.Image.{Image}
 use Rattle.rg_host.specs.Moments.{Moment, Moments}
+use Rattle.rg_event.specs.declared.event.Event.{Event}
 use Rattle.rg_config.specs.Plans.{Planned}
 use Rattle.rg_state.specs.Rows.{Cells}
 use Rattle.rg_reservoir.specs.Chain.{IsIllegalBy}
 use Rattle.rg_reservoir.specs.Kept.{base, view_of}
-use Rattle.rg_run_spec.specs.Stores.{StaysOnCourse}
+use Rattle.rg_run_spec.specs.Stores.{HasAtLeast, StaysOnCourse}
 use Rattle.rg_open.specs.Stores.{store_of}
 use Rattle.rg_open.specs.Blame.{NodeRuns, IsPlaced}
 use Rattle.rg_recover.specs.Sessions.{Sitting}
@@ -31,6 +32,17 @@ module _ {H : Type 0} (may : H → Image → Type 0) (clock : H → ℕ) (since 
     pub answered : IfErr result (λ fault. (fault ≡ Read) ⊎ (fault ≡ Limit) → HasAnswered plan b left (said new) (fault ≡ Limit))
     pub never_bad : (n : ℕ) → IsErrOf result (BadState n) → ⊥
     pub never_damaged : (p : ℕ) → IsErrOf result (Damaged p) → ⊥
+
+module _ {H : Type 0} (may : H → Image → Type 0) (clock : H → ℕ) (since : H → ℕ → Moment → Type 0) where
+  -- From old to new each image of a moment, and each that is left, has at least these events.
+  pub record StaysHeld (plan : Planned) (held : List Event) (old new : H) : Type 0 where
+    pub moments : Moments clock since old new (λ m. HasAtLeast (store_of plan) held m.image)
+    pub left : (u : Image) → may new u → HasAtLeast (store_of plan) held u
+
+  -- The same, but for an image that might have been left at old.
+  pub record HoldsLog (plan : Planned) (held : List Event) (old new : H) : Type 0 where
+    pub moments : Moments clock since old new (λ m. may old m.image ⊎ HasAtLeast (store_of plan) held m.image)
+    pub left : (u : Image) → may new u → may old u ⊎ HasAtLeast (store_of plan) held u
 
 module _ {H I : Type 0} (now : H → Option Image) (may : H → Image → Type 0) (disk_faults out_faults : H → ℕ) (left : I → Option (List ℕ)) (faults : I → ℕ) where
   -- Over any opened store, whose next offset is `next`: an input whose first line is behind that offset is refused before anything is

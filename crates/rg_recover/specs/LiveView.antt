@@ -33,6 +33,7 @@ live_view host session names same join now may clock since said tells cell named
   whole = λ p. refl;
   next_is = λ plan p runs. running_next plan (now (host p)) (may (host p)) tells cell named there (session p) runs;
   few = λ plan p runs. running_few plan (now (host p)) (may (host p)) tells cell named there (session p) runs;
+  runs_going = λ plan p runs. runs.going;
   run_placed = λ plan p runs. running_placed plan (now (host p)) (may (host p)) tells cell named there (session p) runs;
   goes_same = λ p. (same p, (refl, refl));
   goes_join = λ p q r first second. (join p q r first.0 second.0, log-then (session p) (session q) (session r) first.1 second.1);

@@ -13,7 +13,7 @@ use Rattle.rg_open.specs.Blame.{IsBlamed}
 use Rattle.rg_open.specs.Stores.{Has}
 use Rattle.rg_open.specs.Unfit.{HasOtherSchema, HasBadFrame, IsUnfit, IsLeftAlone}
 use Rattle.rg_open.specs.Within.{IsWithinOpening}
-use Rattle.rg_recover.specs.Answered.{CountsGrow}
+use Rattle.rg_recover.specs.Answered.{CountsGrow, HoldsLog}
 use Rattle.rg_recover.specs.Ready.{IsReadyRun, begun_by}
 use Rattle.rg_recover.specs.RunFaults.{SaysWhy, IsGapOrFailed}
 use Rattle.rg_run.specs.Reading.{IsLonger, IsWithinLimit}
@@ -60,4 +60,6 @@ module _ {H I : Type 0} (now : H → Option Image) (may : H → Image → Type 0
     pub ready : RunsReady now may clock since said left plan first result input input_then old new
     pub unfit : RefusesUnfit now may clock since said left plan result input input_then old new
     pub cause : HasCause now disk_faults out_faults left faults plan first result input input_then old new
+    -- over a legal log, whatever the slots hold
+    pub log : (v : Image) (events : List Event) → now old ≡ Some v → Has plan events v → HoldsLog may clock since plan events old new
     pub counts : CountsGrow disk_faults out_faults faults input input_then old new

@@ -21,6 +21,7 @@ use Rattle.rg_reservoir.specs.Kept.{base, view_of, opened, room_of, log_of, next
 use Rattle.rg_reservoir.specs.declared.reservoir.Reservoir.{Reservoir}
 use Rattle.rg_open.specs.Stores.{store_of}
 use Rattle.rg_open.specs.Blame.{NodeRuns, IsPlaced}
+use Rattle.rg_open.specs.Opened.{IsOpenedFor}
 use Rattle.rg_recover.specs.Sessions.{IsReady, count_in}
 use Rattle.rg_recover.specs.Stepping.{IsWithinStep, IsStored, SlotsStay}
 use Rattle.rg_recover.specs.Storing.{CanStore, KeepsLog}
@@ -60,9 +61,10 @@ module _ {H T : Type 0} (now : H → Option Image) (may : H → Image → Type 0
     pub undamaged : (plan : Planned) (p : ℕ) → IsPlaced plan (now old) (may old) r engine → IsErrOf result (Damaged p) → ⊥
 
 module _ {H T : Type 0} (now : H → Option Image) (may : H → Image → Type 0) (clock : H → ℕ) (since : H → ℕ → Moment → Type 0) (said : H → Option (List ℕ)) (disk_faults out_faults : H → ℕ) (tells : T → Type 0) (named there : T → Marks) (cells : T → Cells) (faults : T → ℕ) where
-  -- Of any engine and any log: what stays, why an event was refused, and that no file is written where there is room.
+  -- Of any engine and any log: what stays, what is written of a log of a plan, why an event was refused, and that no file is written where there is room.
   pub record TakesEvent {A : Type 0} (result : Result A TaskFault) (r s : Reservoir) (engine then : Seen T) (old new : H) : Type 0 where
     pub log : KeepsLog said disk_faults out_faults r s old new
+    pub within_step : (plan : Planned) (keep : Option ℕ) → IsOpenedFor plan (now old) (may old) r → IsWithinStep may clock since said (store_of plan) keep (opened r) old new
     pub roomy : length (opened r) < room_of r → LeavesAll now may clock since said old new × (base s ≡ base r)
     pub fits : length (opened s) ≤ room_of s
     pub within : AreWithin then.spots (count_in s)

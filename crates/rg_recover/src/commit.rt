@@ -6,6 +6,8 @@ ghost use Rattle.rg_config.specs.Plans.{Planned};
 ghost use Rattle.rg_reservoir.specs.Kept.{base, view_of, opened, room_of, cache_of, log_of, next_of};
 ghost use Rattle.rg_open.specs.Stores.{store_of};
 ghost use Rattle.rg_open.specs.Blame.{NodeRuns, IsPlaced};
+ghost use Rattle.rg_open.specs.Opened.{IsOpenedFor};
+ghost use Rattle.rg_task.specs.Stepping.{IsWithinLog};
 ghost use Rattle.rg_recover.specs.Sessions.{HasKept, IsRunning, count_in, events_of, stored_of};
 ghost use Rattle.rg_recover.specs.Sparing.{IsSpared};
 ghost use Rattle.rg_recover.specs.Stepping.{IsWithinStep, IsStored, SlotsStay};
@@ -51,6 +53,10 @@ impl<T: Table> Session<T> {
         ensures node { (plan : Planned) (n : ℕ) → NodeRuns plan n (H.now host.old) (H.may host.old) (T.tells self.old.engine.table) (T.cell self.old.engine.table) self.old.reservoir self.old.engine →
             OnOk result (NodeRuns plan n (H.now host.new) (H.may host.new) (T.tells self.new.engine.table) (T.cell self.new.engine.table) self.new.reservoir self.new.engine) }
         ensures placed { (plan : Planned) → IsPlaced plan (H.now host.old) (H.may host.old) self.old.reservoir self.old.engine → OnOk result (IsPlaced plan (H.now host.new) (H.may host.new) self.new.reservoir self.new.engine) }
+
+        // Over a legal log, whatever the slots hold: each image of a moment, and each that is left, has its events.
+        ensures log_stays { (plan : Planned) → IsOpenedFor plan (H.now host.old) (H.may host.old) self.old.reservoir →
+            IsWithinLog H.may H.clock H.since (store_of plan) (opened self.old.reservoir) host.old host.new }
 
         // The slots are as they were: what is kept of one is kept, and none is written, at any moment.
         ensures keeps { HasKept (H.now host.old) (H.may host.old) T.cell T.named T.there self.old → OnOk result (HasKept (H.now host.new) (H.may host.new) T.cell T.named T.there self.new) }

@@ -16,6 +16,8 @@ ghost use Rattle.rg_state.specs.Keeping.{TableKept};
 ghost use Rattle.rg_run_spec.specs.Verdicts.{accepted_after, fault_reply, or_reply, reply_of, verdict_of};
 ghost use Rattle.rg_open.specs.Stores.{store_of};
 ghost use Rattle.rg_open.specs.Blame.{NodeRuns, IsPlaced};
+ghost use Rattle.rg_open.specs.Opened.{IsOpenedFor};
+ghost use Rattle.rg_task.specs.Stepping.{IsWithinLog};
 ghost use Rattle.rg_recover.specs.Deciding.{verdict_on, as_verdict, answered_as, AreBefore, Follows, IfAccepted, HasAnswers};
 ghost use Rattle.rg_recover.specs.Sessions.{HasKept, IsRunning, count_in, events_of, stored_of};
 ghost use Rattle.rg_recover.specs.Stepping.{IsWithinStep, IsStored};
@@ -30,6 +32,7 @@ use rg_metric::Answers;
 use rg_reply::Reply;
 use rg_reservoir::Reservoir;
 use rg_row::{RowFault, read_row};
+use rg_run_spec::row_reply;
 use rg_state::Table;
 use std::sync::ledger::Ledger;
 
@@ -53,20 +56,6 @@ fn reply_with(answers: Answers, is_moved: bool) -> Reply
         return Reply::Moved(answers);
     }
     Reply::Answered(answers)
-}
-
-/// The reply to a fault of a row; want of memory has none.
-fn row_reply(fault: RowFault) -> Reply
-    requires { fault ≡ RowFault.Memory → ⊥ }
-    ensures { result ≡ fault_reply fault }
-{
-    match fault {
-        RowFault::Row => Reply::Row,
-        RowFault::Fields => Reply::Fields,
-        RowFault::Time => Reply::Time,
-        RowFault::Value(column) => Reply::Value(column),
-        RowFault::Memory => unreachable!(),
-    }
 }
 
 /// The time of the last event, and 0 where there is none.
@@ -182,6 +171,10 @@ impl<T: Table> Session<T> {
         // Where each edge stands at a spelled spot it does so still, and nothing is refused as damaged.
         ensures placed { (plan : Planned) → IsPlaced plan (H.now host.old) (H.may host.old) self.old.reservoir self.old.engine → OnOk result (IsPlaced plan (H.now host.new) (H.may host.new) self.new.reservoir self.new.engine) }
         ensures undamaged { (plan : Planned) (p : ℕ) → IsPlaced plan (H.now host.old) (H.may host.old) self.old.reservoir self.old.engine → IsErrOf result (TaskFault.Damaged p) → ⊥ }
+
+        // Over a legal log, whatever the slots hold: each image of a moment, and each that is left, has its events.
+        ensures log_stays { (plan : Planned) → IsOpenedFor plan (H.now host.old) (H.may host.old) self.old.reservoir →
+            IsWithinLog H.may H.clock H.since (store_of plan) (opened self.old.reservoir) host.old host.new }
 
         // Where there is room, no file is written.
         ensures roomy { length (opened self.old.reservoir) < room_of self.old.reservoir → LeavesAll H.now H.may H.clock H.since H.said host.old host.new × (base self.new.reservoir ≡ base self.old.reservoir) }

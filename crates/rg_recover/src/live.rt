@@ -73,6 +73,7 @@ impl<'a, H: Host, T: Table, L: Ledger> Task for Live<'a, H, T, L> {
       whole = λ p. refl;
       next_is = λ plan p runs. running_next plan (H.now p.host.now) (H.may p.host.now) T.tells T.cell T.named T.there p.session.now runs;
       few = λ plan p runs. running_few plan (H.now p.host.now) (H.may p.host.now) T.tells T.cell T.named T.there p.session.now runs;
+      runs_going = λ plan p runs. runs.going;
       run_placed = λ plan p runs. running_placed plan (H.now p.host.now) (H.may p.host.now) T.tells T.cell T.named T.there p.session.now runs;
       goes_same = λ p. ((refl, refl, refl), (refl, refl));
       goes_join = λ p q r first second. ((second.0.0 ∙ first.0.0, second.0.1 ∙ first.0.1, second.0.2 ∙ first.0.2), log-then p.session.now q.session.now r.session.now first.1 second.1);

@@ -9,6 +9,8 @@ ghost use Rattle.rg_state.specs.Keeping.{TableKept};
 ghost use Rattle.rg_checkpoint.specs.Slots.{ReachesSlots, other_of};
 ghost use Rattle.rg_open.specs.Stores.{store_of};
 ghost use Rattle.rg_open.specs.Blame.{NodeRuns, IsPlaced};
+ghost use Rattle.rg_open.specs.Opened.{IsOpenedFor};
+ghost use Rattle.rg_task.specs.Stepping.{IsWithinLog};
 ghost use Rattle.rg_recover.specs.Saving.{IsSaved, SavesByRule, SavesExactly, IsExtended, RunsOn, IsBeside, IsSavedAs, IsSavedNow, IsLeft, IsToSave};
 ghost use Rattle.rg_recover.specs.Sessions.{HasKept, IsRunning, count_in, events_of, stored_of};
 ghost use Rattle.rg_recover.specs.Sparing.{IsSpared, SparesOne};
@@ -44,6 +46,10 @@ impl<T: Table> Session<T> {
         ensures node { (plan : Planned) (n : ℕ) → NodeRuns plan n (H.now host.old) (H.may host.old) (T.tells self.old.engine.table) (T.cell self.old.engine.table) self.old.reservoir self.old.engine →
             OnOk result (NodeRuns plan n (H.now host.new) (H.may host.new) (T.tells self.new.engine.table) (T.cell self.new.engine.table) self.new.reservoir self.new.engine) }
         ensures placed { (plan : Planned) → IsPlaced plan (H.now host.old) (H.may host.old) self.old.reservoir self.old.engine → OnOk result (IsPlaced plan (H.now host.new) (H.may host.new) self.new.reservoir self.new.engine) }
+
+        // Over a legal log, whatever the slots hold: each image of a moment, and each that is left, has its events.
+        ensures log_stays { (plan : Planned) → IsOpenedFor plan (H.now host.old) (H.may host.old) self.old.reservoir →
+            IsWithinLog H.may H.clock H.since (store_of plan) (opened self.old.reservoir) host.old host.new }
 
         ensures count { IfOk result (λ count. count ≡ count_in self.new.reservoir) }
         ensures saved { OnOk result ((self.new.saved ≡ count_in self.new.reservoir) × (opened self.new.reservoir ≡ [])) }
@@ -125,6 +131,7 @@ impl<T: Table> Session<T> {
             RunsOn H.now H.may H.clock H.since H.said T.tells T.cell T.named T.there plan result self.old self.new host.old host.new }
         ensures told { T.tells self.old.engine.table → OnOk result (IsSavedAs H.now H.may T.cell T.named T.there self.old self.new host.old host.new) }
         ensures beside { IsBeside H.now H.may H.said H.disk_faults H.out_faults T.tells T.faults T.cell self.old self.new host.old host.new }
+        ensures log_stays { (plan : Planned) → IsWithinLog H.may H.clock H.since (store_of plan) [] host.old host.new }
         ensures done { IfOk result (IsSavedNow (λ slot. IsSpared H.now H.may H.clock H.since slot host.old host.new) self.old self.new) }
         ensures fault { IfErr result (IsLeft T.tells T.faults T.named T.there (λ slot. IsSpared H.now H.may H.clock H.since slot host.old host.new) (Rose (H.disk_faults host.old) (H.disk_faults host.new)) self.old self.new) }
     {

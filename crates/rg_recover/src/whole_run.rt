@@ -12,6 +12,7 @@ ghost use Rattle.rg_open.specs.Blame.{IsBlamed};
 ghost use Rattle.rg_open.specs.Stores.{Has};
 ghost use Rattle.rg_open.specs.Unfit.{IsUnfit, IsLeftAlone};
 ghost use Rattle.rg_open.specs.Within.{IsWithinOpening};
+ghost use Rattle.rg_recover.specs.Answered.{HoldsLog};
 ghost use Rattle.rg_recover.specs.Ready.{IsReadyRun, begun_by};
 ghost use Rattle.rg_recover.specs.RunFaults.{SaysWhy, IsGapOrFailed};
 ghost use Rattle.rg_run.specs.Answered.{IsFresh};
@@ -50,6 +51,11 @@ pub fn run<I: Source, H: Host, L: Ledger>(
     ensures never_bad { (ready : IsReadyRun (planned plan.now) (H.now host.old) (H.may host.old) (H.said host.old)) (all : List ℕ) (n : ℕ) → I.left input.old ≡ Some all → IsErrOf result (RunFault.BadState n) → ⊥ }
     ensures never_damaged { (ready : IsReadyRun (planned plan.now) (H.now host.old) (H.may host.old) (H.said host.old)) (all : List ℕ) (p : ℕ) → I.left input.old ≡ Some all → IsErrOf result (RunFault.Damaged p) → ⊥ }
     ensures never_differs { IsReadyRun (planned plan.now) (H.now host.old) (H.may host.old) (H.said host.old) → IsErrOf result RunFault.SchemaDiffers → ⊥ }
+
+    // Over a legal log, whatever the slots hold: each image of a moment, and each that is left, might have been left at the start or has
+    // the log's events, and maybe more behind them.
+    ensures log_stays { (v : Image) (events : List Event) → H.now host.old ≡ Some v → Has (planned plan.now) events v →
+        HoldsLog H.may H.clock H.since (planned plan.now) events host.old host.new }
 
     // Over an image that isn't fit for the plan it is refused for that, and the input, the files and the output are left alone.
     ensures unfit { (v : Image) → H.now host.old ≡ Some v → IsUnfit (planned plan.now) v →

@@ -6,13 +6,14 @@ use Rattle.rg_host.specs.Moments.{Moments}
 use Rattle.rg_config.specs.Plans.{Planned}
 use Rattle.rg_run_spec.specs.Stores.{Course, StaysOnCourse}
 use Rattle.rg_run_spec.proofs.Steps.{Item}
-use Rattle.rg_task.specs.View.{View}
+use Rattle.rg_task.specs.View.{View, OnlyNow, Sinks}
 use Rattle.rg_task.specs.declared.fault.TaskFault.{TaskFault}
 use Rattle.rg_task.specs.declared.fault.TaskFault.TheVariants as task
 use Rattle.rg_run.specs.Calls.{PutsAll, OnlyPuts, Sustains, HasCause, FindsDamage}
 use Rattle.rg_run.specs.Turning.{IsAwaiting}
 use Rattle.rg_run.specs.declared.fault.TurnFault.{TurnFault}
 use Rattle.rg_run.specs.declared.fault.TurnFault.TheVariants as turn
+use Rattle.rg_run.proofs.Logged.{no_files, files_held}
 use Rattle.rg_run.proofs.Gathering.{awaiting_held, awaiting_put, held_moments, keeps_none}
 
 -- a result that is answered is no fault, and a refusal is of one
@@ -35,15 +36,16 @@ ended_before false new going ended = absurd (let e : true ≡ false = sym ended 
 
 module _ {K : Type 0} (view : View K) (disk_faults out_faults : K → ℕ) where
   -- nothing was done
-  pub only_none : (t : K) → OnlyPuts view disk_faults out_faults t t
-  only_none t = record { keeps = keeps_none view t; disk_faults_stay = refl; out_faults_grow = omega arith }
+  pub only_none : OnlyNow view → Sinks view → (t : K) → OnlyPuts view disk_faults out_faults t t
+  only_none only sinks t = record { keeps = keeps_none view t; files = no_files view only sinks t; disk_faults_stay = refl; out_faults_grow = omega arith }
 
-  pub sustains_none : {A : Type 0} (a : A) (t : K) → Sustains view disk_faults out_faults (Ok a) t t
-  sustains_none a t = record {
+  pub sustains_none : {A : Type 0} (a : A) → OnlyNow view → Sinks view → (t : K) → Sustains view disk_faults out_faults (Ok a) t t
+  sustains_none a only sinks t = record {
     node = λ plan n runs. runs;
     placed = λ plan placed. placed;
     going = λ going. going;
     goes = view.goes_same t;
+    log = λ plan held placed holds. files_held view plan held t t (no_files view only sinks t) holds;
     disk_faults_grow = omega arith;
     out_faults_grow = omega arith;
   }
@@ -62,6 +64,7 @@ module _ {K : Type 0} (view : View K) (disk_faults out_faults : K → ℕ) where
     placed = λ plan placed. tt;
     going = λ going. tt;
     goes = only.keeps.goes;
+    log = λ plan held placed holds. files_held view plan held old new only.files holds;
     disk_faults_grow = omega (arith, only.disk_faults_stay);
     out_faults_grow = only.out_faults_grow;
   }

@@ -1,5 +1,5 @@
 -- Lines that are gathered, and put together.
-use Rattle.std.proofs.Common.{◌≡◌, inl, ℕ, List, [], ◌∷◌, ◌++◌, Option, refl, sym, ◌∙◌, ap, subst, append_assoc}
+use Rattle.std.proofs.Common.{◌≡◌, inl, inr, ⊎_elim, ℕ, List, [], ◌∷◌, ◌++◌, Option, refl, sym, ◌∙◌, ap, subst, append_assoc}
 use Rattle.std.proofs.lemmas.List.{append-nil, append_cancel_left}
 use Rattle.std.proofs.lemmas.List.Elements.{Contains-append_left, Contains-append_right}
 use Rattle.std.specs.List.{Contains}
@@ -44,6 +44,14 @@ no_lines (line ∷ lines) is = absurd (no_bytes line (ended lines) is)
 pub nothing_before : {A : Type 0} (front rest : List A) → front ++ rest ≡ [] → front ≡ []
 nothing_before [] rest is = refl
 nothing_before (x ∷ front) rest is = absurd (cc)
+
+-- where there are no lines nothing was put of them
+none_put : (first rest : List (List ℕ)) (part more : List ℕ) → part ++ more ≡ ended rest → first ++ rest ≡ [] → IsPrefix (ended first ++ part) []
+none_put first rest part more of none =
+    let front : first ≡ [] = nothing_before first rest none in
+    let back : rest ≡ [] = ap (λ (l : List (List ℕ)). l ++ rest) (sym front) ∙ none in
+    let nil : part ≡ [] = nothing_before part more (of ∙ ap ended back) in
+    ([], append-nil (ended first ++ part) ∙ ap (λ (l : List (List ℕ)). ended l ++ part) front ∙ nil)
 
 -- the same moment, where what was said is written so
 abbrev pub between_at : {Image : Type 0} {store : Store Image} {terms : Terms} {course : Course} {events : List Event} {offset : ℕ} {items : List (Option (List ℕ))} {stored : List Event} {keep : Option ℕ} {may : Image → Type 0} {said now : List ℕ} →
@@ -107,6 +115,7 @@ module _ (store : Store Image) (course : Course) (lines : List (List ℕ)) (stor
   front_at_rest = record {
     truthful = at_rest.truthful;
     schema = at_rest.schema;
+    grown = at_rest.grown;
     has = at_rest.has;
     rising = at_rest.rising;
     begins = at_rest.begins;
@@ -147,6 +156,7 @@ module _ {K : Type 0} (view : View K) (plan : Planned) (course : Course) (offset
         are_rest = g.are_rest;
         of_text = sym (append_assoc g.first g.rest more) ∙ ap (λ (l : List (List ℕ)). l ++ more) whole ∙ b.text;
         kept = λ v left some begins. kept_with (view.store plan) course b.lines (view.at t).stored (view.at t).keep (view.may t) a.put gathered b.at_rest g whole v left some begins;
+        grown = inl b.at_rest.grown;
       }
 
   pub mid_held : (item : Item) (items : List Item) (start : K) → IsMidTurn view plan course offset item items start t gathered → IsHeld view plan course t gathered
@@ -167,6 +177,7 @@ module _ {K : Type 0} (view : View K) (plan : Planned) (course : Course) (offset
         are_rest = g.are_rest;
         of_text = sym (append_assoc g.first g.rest more) ∙ ap (λ (l : List (List ℕ)). l ++ more) whole ∙ b.text;
         kept = λ v left some begins. kept_with (view.store plan) course b.lines (view.at t).stored (view.at t).keep (view.may t) m.put gathered m.at_rest g whole v left some begins;
+        grown = inl m.at_rest.grown;
       }
 
 -- a run that stopped with nothing gathered
@@ -186,6 +197,7 @@ stopped_held view plan course t stop =
       of_text = stop.stopped.of_text;
       kept = λ v left some begins.
           subst (λ (l : List (List ℕ)). IsKeptInStore (view.store plan) course l v) (sym (ap (λ (l : List (List ℕ)). lines ++ l) (nothing_before some begins.0 begins.1) ∙ append-nil lines)) (stop.stopped.kept v left);
+      grown = ⊎_elim (λ all. inl all) (λ none. inr (append-nil lines ∙ none)) stop.stopped.grown;
     }
 
 module _ {K : Type 0} (view : View K) (plan : Planned) (course : Course) where
@@ -203,6 +215,7 @@ module _ {K : Type 0} (view : View K) (plan : Planned) (course : Course) where
     are_rest = h.are_rest;
     of_text = h.of_text;
     kept = λ v left some begins. h.kept v (leaves.may_stays.no_more v left) some begins;
+    grown = ⊎_elim (λ all. inl (λ v left. all v (leaves.may_stays.no_more v left))) (λ none. inr none) h.grown;
   }
 
   module _ (old new : K) (gathered : List ℕ) (h : IsHeld view plan course old gathered) where
@@ -222,6 +235,7 @@ module _ {K : Type 0} (view : View K) (plan : Planned) (course : Course) where
                 ∙ sym (ended-append h.first (h.rest ++ h.more)) ∙ ap ended h.of_text,
           );
           kept = subst (λ (l : List (List ℕ)). IsKeptInStore (view.store plan) course l w.image) (sym (pieces_then h.first part h.are_first)) (h.kept w.image left (whole_pieces part) (pieces_prefix h.rest part h.are_rest (rest, of_rest)));
+          grown = ⊎_elim (λ all. inl (all w.image left)) (λ none. inr (none_put h.first h.rest part rest of_rest none)) h.grown;
         }
 
     -- no call, or one that leaves all as it was
@@ -251,6 +265,7 @@ module _ {K : Type 0} (view : View K) (plan : Planned) (course : Course) where
               are_lines = are-append h.first h.rest h.are_first h.are_rest;
               of_text = append_assoc h.first h.rest h.more ∙ h.of_text;
               kept = λ v left. h.kept v (puts.fewer v left) h.rest ([], append-nil h.rest);
+              grown = ⊎_elim (λ all. inl (λ v left. all v (puts.fewer v left))) (λ none. inr none) h.grown;
             };
           }
 
@@ -291,4 +306,4 @@ module _ {K : Type 0} (view : View K) (plan : Planned) (course : Course) where
 
 -- nothing changed at all, or twice in turn
 pub keeps_none : {K : Type 0} (view : View K) (t : K) → Keeps view t t
-keeps_none view t = record { at_stays = refl; running = λ plan is. is; node = λ plan n is. is; placed = λ plan is. is; illegal = λ place is. is; goes = view.goes_same t }
+keeps_none view t = record { at_stays = refl; roomy = λ is. is; running = λ plan is. is; node = λ plan n is. is; placed = λ plan is. is; illegal = λ place is. is; goes = view.goes_same t }

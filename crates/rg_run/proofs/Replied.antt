@@ -12,7 +12,7 @@ use Rattle.rg_config.specs.Plans.{Planned}
 use Rattle.rg_row.specs.Rows.{row_of}
 use Rattle.rg_reply.specs.Texts.{reply_line}
 use Rattle.rg_run_spec.specs.declared.control.Control.{Control}
-use Rattle.rg_run_spec.specs.Verdicts.{Verdict, accepted_after, control_at, read_as, or_reply, obeyed_or, reply_of, verdict_of, line_verdict}
+use Rattle.rg_run_spec.specs.Verdicts.{IsRow, Verdict, accepted_after, control_at, read_as, or_reply, obeyed_or, reply_of, verdict_of, line_verdict}
 use Rattle.rg_run_spec.specs.Verdicts.Verdict.{refused, obeyed}
 use Rattle.rg_run_spec.specs.Accepted.{after_turn}
 use Rattle.rg_run_spec.specs.Ahead.{after_line, lines_for}
@@ -27,7 +27,7 @@ use Rattle.rg_run.specs.Due.{is_due, due_for, marks_for}
 use Rattle.rg_task.specs.Stepping.{IsWithinStep, IsStored}
 use Rattle.rg_task.specs.Terms.{terms_of, verdict_on}
 use Rattle.rg_task.specs.View.{View, OnlyNow, Sinks}
-use Rattle.rg_run.specs.Turning.{IsRow, IsRefused, IsAwaiting, IsMidTurn, IsDueDone, IsHeld, HasWay}
+use Rattle.rg_run.specs.Turning.{IsRefused, IsAwaiting, IsMidTurn, IsDueDone, IsHeld, HasWay}
 use Rattle.rg_run.proofs.Gathering.{awaiting_held, held_still, quiet_moments, stopped_held}
 use Rattle.rg_run.proofs.Marking.{due_on, row_due, none_due}
 use Rattle.rg_run.proofs.TurnLines.{lines_told, marks_hold}

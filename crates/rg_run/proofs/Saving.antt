@@ -22,7 +22,7 @@ module _ {K : Type 0} (view : View K) (plan : Planned) (t : K) (saved : IsAllSav
   pub rest_saved : (course : Course) (lines : List (List ℕ)) (keep : Option ℕ) → IsAtRest (view.store plan) course lines (view.at t).stored keep (view.may t) → IsAtRest (view.store plan) course lines (view.at t).stored (view.at t).keep (view.may t)
   rest_saved course lines keep at_rest =
       subst (λ (k : Option ℕ). IsAtRest (view.store plan) course lines (view.at t).stored k (view.may t)) (sym saved.kept)
-      (after_save Image (view.store plan) course lines (view.at t).stored keep saved.slot (view.may t) (view.may t) at_rest (λ v left. record { from = v; left = left; truthful = λ is. is; schema = λ is. is; events = λ es has. has; saved = stored_in_slot v left }))
+      (after_save Image (view.store plan) course lines (view.at t).stored keep saved.slot (view.may t) (view.may t) at_rest (λ v left. record { from = v; left = left; truthful = λ is. is; schema = λ is. is; grown = λ is. is; events = λ es has. has; saved = stored_in_slot v left }))
 
 -- what was due is saved
 module _ {K : Type 0} (view : View K) (plan : Planned) (course : Course) (offset : ℕ) (item : Item) (items : List Item) where

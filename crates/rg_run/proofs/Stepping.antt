@@ -10,7 +10,7 @@ use Rattle.rg_event.specs.Rising.{next_offset}
 use Rattle.rg_reply.specs.declared.reply.Reply.{Reply}
 use Rattle.rg_config.specs.Plans.{Planned}
 use Rattle.rg_run_spec.specs.declared.control.Control.{Control}
-use Rattle.rg_run_spec.specs.Verdicts.{Verdict, accepted_after, read_as, verdict_of, obeyed_or, line_verdict}
+use Rattle.rg_run_spec.specs.Verdicts.{IsRow, Verdict, accepted_after, read_as, verdict_of, obeyed_or, line_verdict}
 use Rattle.rg_run_spec.specs.Accepted.{after_turn, verdict_from}
 use Rattle.rg_run_spec.specs.Ahead.{after_line, lines_for}
 use Rattle.rg_run_spec.specs.Laws.{IsPrefixOf}
@@ -29,7 +29,7 @@ use Rattle.rg_run_spec.proofs.Turns.{Stopped, step_stopped}
 use Rattle.rg_task.specs.Stepping.{IsWithinStep, IsStored}
 use Rattle.rg_task.specs.Terms.{terms_of, verdict_on}
 use Rattle.rg_task.specs.View.{View}
-use Rattle.rg_run.specs.Turning.{IsRow, IsGathered, IsAwaiting, IsMidTurn, HasStopped}
+use Rattle.rg_run.specs.Turning.{IsGathered, IsAwaiting, IsMidTurn, HasStopped}
 use Rattle.rg_run.proofs.Gathering.{between_at, put_apart}
 
 -- a row is decided as its session decides it

@@ -8,7 +8,9 @@ use Rattle.rg_run_spec.specs.Stores.{Course, StaysOnCourse}
 use Rattle.rg_task.specs.View.{View, Keeps}
 use Rattle.rg_task.specs.declared.fault.TaskFault.TheVariants as task
 use Rattle.rg_run.specs.Turning.{IsAwaiting, IsMidTurn, IsHeld, HasStopped, HasWay, IsDueDone}
+use Rattle.rg_run.specs.Logs.{KeepsLog}
 use Rattle.rg_run.specs.declared.due.Due.{Due}
+use Rattle.rg_run.specs.declared.due.Due.TheVariants.{Nothing}
 use Rattle.rg_run.specs.declared.fault.TurnFault.{TurnFault}
 use Rattle.rg_run.specs.declared.fault.TurnFault.TheVariants as turn
 
@@ -25,16 +27,18 @@ module _ {K : Type 0} (view : View K) (disk_faults out_faults : K → ℕ) where
   -- Nothing of the task changes but what is put, and how often that failed.
   pub record OnlyPuts (old new : K) : Type 0 where
     pub keeps : Keeps view old new
+    pub files : LeavesFiles view.now view.may view.clock view.since old new
     pub disk_faults_stay : disk_faults new ≡ disk_faults old
     pub out_faults_grow : out_faults old ≤ out_faults new
 
   -- The task goes on: a node that can be carried on is carried on, edges stay at spelled spots, one that has not ended has not ended
-  -- then, and no count of failed calls falls.
+  -- then, a legal log keeps what it has, and no count of failed calls falls.
   pub record Sustains {A : Type 0} (result : Result A TurnFault) (old new : K) : Type 0 where
     pub node : (plan : Planned) (n : ℕ) → view.node plan n old → OnOk result (view.node plan n new)
     pub placed : (plan : Planned) → view.placed plan old → OnOk result (view.placed plan new)
     pub going : (view.at old).ended ≡ false → OnOk result ((view.at new).ended ≡ false)
     pub goes : view.goes old new
+    pub log : (plan : Planned) → KeepsLog view plan old new
     pub disk_faults_grow : disk_faults old ≤ disk_faults new
     pub out_faults_grow : out_faults old ≤ out_faults new
 
@@ -80,7 +84,7 @@ module _ {K : Type 0} (view : View K) where
     pub next_stays : (view.at new).next ≡ (view.at old).next
 
   -- Within a turn that began at any state: what is due is done, and no line of the turn is gathered yet; or the run stopped with whole
-  -- lines put, unless a put failed.
+  -- lines put, unless a put failed. Where nothing is due, nothing is done.
   pub record Settles {A : Type 0} (due : Due) (gathered gathered_then : List ℕ) (result : Result A TurnFault) (old new : K) : Type 0 where
     pub moments : (plan : Planned) (course : Course) (offset : ℕ) (item : Option (List ℕ)) (items : List (Option (List ℕ))) (start : K) →
         IsMidTurn view plan course offset item items start old gathered → Moments view.clock view.since old new (StaysOnCourse (view.store plan) course [])
@@ -89,3 +93,4 @@ module _ {K : Type 0} (view : View K) where
     pub mid_turn : (plan : Planned) (course : Course) (offset : ℕ) (item : Option (List ℕ)) (items : List (Option (List ℕ))) (start : K) →
         IsMidTurn view plan course offset item items start old gathered → OnOk result (IsMidTurn view plan course offset item items start new gathered_then)
     pub done : (plan : Planned) → view.runs plan old → OnOk result (IsDueDone view due plan new)
+    pub idle : due ≡ Nothing → (new ≡ old) × (gathered_then ≡ gathered) × IfErr result (λ _. ⊥)

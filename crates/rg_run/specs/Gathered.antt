@@ -2,7 +2,7 @@
 use Rattle.std.specs.Prelude.{◌≡◌, ◌⊎◌, ◌≤◌, ◌+◌, ◌^◌, ℕ, List, [], false, Option, OnOk, IfErr, IsErrOf, Result}
 use Rattle.rg_bytes.specs.Counts.{Rose}
 use Rattle.rg_host.specs.Lines.{HasNoLf}
-use Rattle.rg_host.specs.Moments.{Moments}
+use Rattle.rg_host.specs.Moments.{Moments, LeavesFiles}
 use Rattle.rg_host.specs.Reading.{Reading}
 use Rattle.rg_config.specs.Plans.{Planned}
 use Rattle.rg_run_spec.specs.Stores.{StaysOnCourse}
@@ -29,6 +29,7 @@ module _ {K : Type 0} (view : View K) (disk_faults out_faults : K → ℕ) where
   pub record PutsOnly (offset offset_then : ℕ) (gathered : List ℕ) (old new : K) : Type 0 where
     pub moments : (plan : Planned) (b : Begun) (left : Option (List ℕ)) (reading : Reading) → IsUnderWay view plan b left reading offset old gathered → Moments view.clock view.since old new (StaysOnCourse (view.store plan) (course_for plan b) [])
     pub keeps : Keeps view old new
+    pub files : LeavesFiles view.now view.may view.clock view.since old new
     pub offset_stays : offset_then ≡ offset
     pub disk_faults_stay : disk_faults new ≡ disk_faults old
     pub out_faults_grow : out_faults old ≤ out_faults new

@@ -5,8 +5,7 @@ use Rattle.rg_host.specs.Lines.{ended}
 use Rattle.rg_event.specs.declared.event.Event.{Event}
 use Rattle.rg_config.specs.Plans.{Planned}
 use Rattle.rg_reply.specs.declared.reply.Reply.{Reply}
-use Rattle.rg_row.specs.Rows.{row_of}
-use Rattle.rg_run_spec.specs.Verdicts.{Basis, control_at, read_as, or_reply}
+use Rattle.rg_run_spec.specs.Verdicts.{Basis, control_at, read_as}
 use Rattle.rg_run_spec.specs.Ahead.{after_line}
 use Rattle.rg_run_spec.specs.Laws.{IsPrefixOf}
 use Rattle.rg_run_spec.specs.Pieces.{AreLines}
@@ -18,11 +17,6 @@ use Rattle.rg_task.specs.Terms.{terms_of}
 use Rattle.rg_task.specs.View.{View}
 use Rattle.rg_run.specs.declared.due.Due.{Due}
 use Rattle.rg_run.specs.declared.due.Due.TheVariants.{Nothing, Commit, Save}
-
--- The line at this offset asks for nothing, and is read as the row of this cleaned text.
-pub record IsRow (basis : Basis) (offset : ℕ) (item : Option (List ℕ)) (line : List ℕ) : Type 0 where
-  pub asks_nothing : control_at basis offset item ≡ None
-  pub reads : read_as basis offset item ≡ or_reply (row_of basis.fields offset line)
 
 -- It asks for nothing, and is refused with this reply before there is a row.
 pub record IsRefused (basis : Basis) (offset : ℕ) (item : Option (List ℕ)) (reply : Reply) : Type 0 where
@@ -88,3 +82,5 @@ module _ {K : Type 0} (view : View K) where
     pub are_rest : AreLines rest
     pub of_text : first ++ (rest ++ more) ≡ course.text
     pub kept : (v : Image) → view.may t v → (some : List (List ℕ)) → IsPrefixOf some rest → IsKeptInStore (view.store plan) course (first ++ some) v
+    -- once there is a line
+    pub grown : ((v : Image) → view.may t v → (view.store plan).IsGrown v) ⊎ (first ++ rest ≡ [])

@@ -5,6 +5,7 @@ ghost use Rattle.rg_host.specs.Moments.{Moments};
 ghost use Rattle.rg_config.specs.Plans.{Planned};
 ghost use Rattle.rg_run_spec.specs.Stores.{Course, StaysOnCourse};
 ghost use Rattle.rg_run_spec.specs.Turns.{IsDone};
+ghost use Rattle.rg_run.specs.Logs.{KeepsLog};
 ghost use Rattle.rg_run.specs.Turning.{IsAwaiting, HasStopped};
 
 use crate::fault::TurnFault;
@@ -31,6 +32,9 @@ impl Turning {
         ensures stopped { (plan : Planned) (course : Course) →
             IsAwaiting K.view plan course self.old.offset [] task.old self.old.gathered.items →
             IfErr result (λ fault. (fault ≡ TurnFault.Write) ⊎ HasStopped K.view plan course task.new) }
+
+        // Over a legal log each payment stays.
+        ensures log_stays { (plan : Planned) → KeepsLog K.view plan task.old task.new }
 
         ensures write { IsErrOf result TurnFault.Write → Rose (K.out_faults task.old) (K.out_faults task.new) }
         ensures disk { IsErrOf result (TurnFault.Task TaskFault.Disk) → Rose (K.disk_faults task.old) (K.disk_faults task.new) }

@@ -24,6 +24,8 @@ mod turning;
 
 pub use due::{Due, due_at};
 pub use fault::{RunFault, TurnFault};
+pub use obey::due_asked;
 pub use running::run;
 pub use text::{write_end, write_turn};
+pub use turn::{is_header, reply_to_long};
 pub use turning::Turning;

@@ -8,6 +8,7 @@ ghost use Rattle.rg_run_spec.specs.Ahead.{after_line};
 ghost use Rattle.rg_run_spec.specs.Stores.{Course, StaysOnCourse};
 ghost use Rattle.rg_run.specs.Due.{due_for};
 ghost use Rattle.rg_task.specs.Terms.{terms_of};
+ghost use Rattle.rg_run.specs.Logs.{KeepsLog};
 ghost use Rattle.rg_run.specs.Turning.{IsAwaiting, HasStopped};
 
 use crate::due::Due;
@@ -22,7 +23,7 @@ use rg_run_spec::Control;
 use rg_task::{Task, TaskFault};
 
 /// What is done on the disk for a line that asks for this.
-fn due_asked(control: Control) -> Due
+pub fn due_asked(control: Control) -> Due
     ensures { result ≡ due_for control }
 {
     match control {
@@ -64,6 +65,9 @@ impl Turning {
         ensures placed { (plan : Planned) → K.view.placed plan task.old → OnOk result (K.view.placed plan task.new) }
         ensures undamaged { (plan : Planned) (p : ℕ) → K.view.placed plan task.old → IsErrOf result (TurnFault.Task (TaskFault.Damaged p)) → ⊥ }
         ensures offset { OnOk result (self.new.offset ≡ self.old.offset + 1) }
+
+        // Over a legal log each payment stays.
+        ensures log_stays { (plan : Planned) → KeepsLog K.view plan task.old task.new }
 
         ensures damaged { (p : ℕ) → IsErrOf result (TurnFault.Task (TaskFault.Damaged p)) → K.view.illegal p task.new }
         ensures write { IsErrOf result TurnFault.Write → Rose (K.out_faults task.old) (K.out_faults task.new) }

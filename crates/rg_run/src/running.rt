@@ -3,6 +3,7 @@ ghost use Rattle.rg_config.specs.Plans.{planned};
 ghost use Rattle.rg_config.specs.Read.{IsReadPlan};
 ghost use Rattle.rg_run.specs.Answered.{IsFresh, IsToBegin, StaysTrue, Explains, CountsGrow};
 ghost use Rattle.rg_run.specs.Begun.{Begun};
+ghost use Rattle.rg_run.specs.Logs.{KeepsLog};
 
 use crate::ahead::put_ahead;
 use crate::fault::RunFault;
@@ -34,6 +35,7 @@ pub fn run<I: Source, K: Task>(
     ensures begun { (b : Begun) → IsToBegin K.view (planned plan.now) b (I.left input.old) from first task.old →
         StaysTrue K.view (planned plan.now) b (I.left input.new) result task.old task.new }
     ensures cause { Explains K.view K.disk_faults K.out_faults I.left I.faults (planned plan.now) first result input.old input.new task.old task.new }
+    ensures log_stays { KeepsLog K.view (planned plan.now) task.old task.new }
     ensures goes { K.view.goes task.old task.new }
     ensures counts { CountsGrow K.view K.disk_faults K.out_faults I.faults input.old input.new task.old task.new }
 {

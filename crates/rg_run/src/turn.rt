@@ -4,6 +4,7 @@ ghost use Rattle.rg_config.specs.Read.{IsReadPlan};
 ghost use Rattle.rg_task.specs.Terms.{terms_of};
 ghost use Rattle.rg_run.specs.Begun.{Begun};
 ghost use Rattle.rg_run.specs.Gathered.{IsReady};
+ghost use Rattle.rg_run.specs.Logs.{KeepsLog};
 ghost use Rattle.rg_run.specs.Turning.{IsRefused};
 ghost use Rattle.rg_run.specs.Turned.{MoreOr, IsReadOut, GoesTrue, CarriesOn, TakesOn, StopsFor};
 ghost use Rattle.rg_run.specs.UnderWay.{IsUnderWay, HasFinished};
@@ -19,14 +20,14 @@ use rg_run_spec::control_in;
 use rg_task::Task;
 
 /// Whether the line at this offset is the plan's header.
-fn is_header(plan: &Plan, offset: u64) -> bool
+pub fn is_header(plan: &Plan, offset: u64) -> bool
     ensures { result ≡ (plan.now.header && (offset == 0)) }
 {
     plan.header && offset == 0
 }
 
 /// What is answered to the line at this offset where it is too long: it may be the header.
-fn reply_to_long(plan: &Plan, offset: u64) -> Reply
+pub fn reply_to_long(plan: &Plan, offset: u64) -> Reply
     ensures { IsRefused (terms_of (planned plan.now)).basis offset None result }
 {
     if is_header(plan, offset) {
@@ -51,6 +52,7 @@ pub(crate) fn turn<I: Source, K: Task>(
     ensures goes { (b : Begun) → IsUnderWay K.view (planned plan.now) b (I.left input.old) lines.old turning.old.offset task.old turning.old.gathered.items →
         GoesTrue K.view (planned plan.now) b (I.left input.new) (MoreOr (IsUnderWay K.view (planned plan.now) b (I.left input.new) lines.new turning.new.offset task.new turning.new.gathered.items) (HasFinished K.view (planned plan.now) b task.new)) result task.old task.new }
     ensures takes { TakesOn K.view K.disk_faults K.out_faults I.left I.faults (MoreOr (CarriesOn K.view (planned plan.now) turning.new.offset lines.old.spent lines.new.spent task.old task.new) (IsReadOut lines.new)) lines.old lines.new result input.old input.new task.old task.new }
+    ensures log_stays { KeepsLog K.view (planned plan.now) task.old task.new }
     ensures cause { StopsFor K.view K.disk_faults K.out_faults I.faults (planned plan.now) lines.new.taken result input.old input.new task.old task.new }
 {
     let offset = turning.offset;

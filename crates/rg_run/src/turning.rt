@@ -2,14 +2,17 @@ ghost use Rattle.std.specs.Prelude.{◌≡◌, ◌⊎◌, ◌≤◌, ◌<◌, �
 ghost use Rattle.std.specs.List.{list_any};
 ghost use Rattle.std.specs.Option.{ForSome};
 ghost use Rattle.rg_bytes.specs.Counts.{Rose};
-ghost use Rattle.rg_host.specs.Moments.{Moments};
+ghost use Rattle.rg_host.specs.Moments.{Moments, LeavesFiles};
 ghost use Rattle.rg_task.specs.View.{Keeps};
 ghost use Rattle.rg_config.specs.Plans.{Planned, planned};
 ghost use Rattle.rg_config.specs.Read.{IsReadPlan};
 ghost use Rattle.rg_run_spec.specs.Ahead.{after_line};
 ghost use Rattle.rg_run_spec.specs.Stores.{Course, StaysOnCourse};
 ghost use Rattle.rg_task.specs.Terms.{terms_of};
-ghost use Rattle.rg_run.specs.Turning.{IsRow, IsRefused, IsAwaiting, HasStopped};
+ghost use Rattle.rg_run.specs.Idle.{IsIdle};
+ghost use Rattle.rg_run.specs.Logs.{KeepsLog};
+ghost use Rattle.rg_run_spec.specs.Verdicts.{IsRow};
+ghost use Rattle.rg_run.specs.Turning.{IsRefused, IsAwaiting, HasStopped};
 
 use crate::due::{Due, due_at};
 use crate::fault::TurnFault;
@@ -62,6 +65,7 @@ impl Turning {
             OnOk result (IsAwaiting K.view plan course self.new.offset items task.new self.new.gathered.items) }
         ensures empty { self.new.gathered.items ≡ [] }
         ensures keeps { Keeps K.view task.old task.new }
+        ensures files { LeavesFiles K.view.now K.view.may K.view.clock K.view.since task.old task.new }
         ensures offset { self.new.offset ≡ self.old.offset }
         ensures write { IsErrOf result TurnFault.Write → Rose (K.out_faults task.old) (K.out_faults task.new) }
         ensures faults { IfErr result (λ fault. fault ≡ TurnFault.Write) }
@@ -121,6 +125,10 @@ impl Turning {
         ensures placed { K.view.placed (planned plan.now) task.old → OnOk result (K.view.placed (planned plan.now) task.new) }
         ensures undamaged { (p : ℕ) → K.view.placed (planned plan.now) task.old → IsErrOf result (TurnFault.Task (TaskFault.Damaged p)) → ⊥ }
         ensures offset { OnOk result (self.new.offset ≡ self.old.offset + 1) }
+
+        // Where nothing is due and there is room, no file changes; and over a legal log each payment stays.
+        ensures idle { IsIdle K.view (planned plan.now) self.old.offset line.now task.old → LeavesFiles K.view.now K.view.may K.view.clock K.view.since task.old task.new }
+        ensures log_stays { KeepsLog K.view (planned plan.now) task.old task.new }
 
         ensures damaged { (p : ℕ) → IsErrOf result (TurnFault.Task (TaskFault.Damaged p)) → K.view.illegal p task.new }
         ensures write { IsErrOf result TurnFault.Write → Rose (K.out_faults task.old) (K.out_faults task.new) }
@@ -187,6 +195,7 @@ impl Turning {
             IsRefused (terms_of plan).basis self.old.offset item reply.now →
             IfErr result (λ fault. (fault ≡ TurnFault.Write) ⊎ HasStopped K.view plan course task.new) }
         ensures keeps { Keeps K.view task.old task.new }
+        ensures files { LeavesFiles K.view.now K.view.may K.view.clock K.view.since task.old task.new }
         ensures offset { OnOk result (self.new.offset ≡ self.old.offset + 1) }
 
         ensures write { IsErrOf result TurnFault.Write → Rose (K.out_faults task.old) (K.out_faults task.new) }

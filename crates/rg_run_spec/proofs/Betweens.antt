@@ -99,17 +99,19 @@ module _ (Image : Type 0) (store : Store Image) (course : Course) where
         said_is = is ∙ ap (λ (l : List ℕ). l ++ ended (end_lines offset events)) b.said_is ∙ append_assoc course.said (ended b.lines) (ended (end_lines offset events))
             ∙ ap (λ (l : List ℕ). course.said ++ l) (sym (ended-append b.lines (end_lines offset events)) ∙ ap (λ k. ended (b.lines ++ end_lines k events)) n ∙ ap ended b.text);
         truthful = λ v left. at_rest.truthful v (fewer v left);
+        grown = λ v left. at_rest.grown v (fewer v left);
         has = λ v left. subst (λ (es : List Event). store.HasEvents es v) b.accepted (at_rest.has v (fewer v left));
       }
 
 -- before the open line is put, over a store whose images have these events
 pub at_rest_first : (Image : Type 0) (store : Store Image) (terms : Terms) (said : List ℕ) (held : List Event) (from first : ℕ) (lines : List Item) (keep : Option ℕ) (may : Image → Type 0) →
-    ((v : Image) → may v → store.IsTruthful v) → ((v : Image) → may v → store.IsOfSchema v) → ((v : Image) → may v → store.HasEvents held v) → IsRising held → IsAtRest store (course_of terms said held from first lines) [] held keep may
-at_rest_first Image store terms said held from first lines keep may truthful schema has rising =
+    ((v : Image) → may v → store.IsTruthful v) → ((v : Image) → may v → store.IsOfSchema v) → ((v : Image) → may v → store.IsGrown v) → ((v : Image) → may v → store.HasEvents held v) → IsRising held → IsAtRest store (course_of terms said held from first lines) [] held keep may
+at_rest_first Image store terms said held from first lines keep may truthful schema grown has rising =
     let none = no_marks Image store held keep may in
     record {
       truthful = truthful;
       schema = schema;
+      grown = grown;
       has = has;
       rising = accepted_rises terms held first lines rising;
       begins = held_begins terms held first lines;

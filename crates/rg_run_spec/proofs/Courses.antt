@@ -1,5 +1,5 @@
 -- Each moment of a run is on its course: within a step and between steps, while lines are put, and at its stop.
-use Rattle.std.proofs.Common.{◌≡◌, inl, inr, ℕ, ◌^◌, ◌<◌, List, [], ◌++◌, Option, refl, sym, ◌∙◌, ap, subst, append_assoc}
+use Rattle.std.proofs.Common.{◌≡◌, inl, inr, ⊎_elim, ℕ, ◌^◌, ◌<◌, List, [], ◌++◌, Option, refl, sym, ◌∙◌, ap, subst, append_assoc}
 use Rattle.std.proofs.lemmas.List.{append-nil}
 use Rattle.std.proofs.lemmas.List.Elements.{Contains-append_cases, Contains-append_left}
 use Rattle.std.specs.List.{Contains}
@@ -7,7 +7,7 @@ use Rattle.rg_event.specs.declared.event.Event.{Event}
 use Rattle.rg_reply.specs.Texts.{mark_line}
 use Rattle.rg_reply.specs.declared.mark.Mark.TheVariants.{Stored, Saved}
 use Rattle.rg_host.specs.Lines.{ended}
-use Rattle.rg_host.specs.Puts.{IsPartWay, IsPut}
+use Rattle.rg_host.specs.Puts.{IsPrefix, IsPartWay, IsPut}
 use Rattle.rg_run_spec.specs.Laws.{IsPrefixOf}
 use Rattle.rg_run_spec.specs.Acknowledged.{SavesLast, SayNothing}
 use Rattle.rg_run_spec.specs.Pieces.{whole_pieces, AreLines}
@@ -31,6 +31,7 @@ module _ (Image : Type 0) (store : Store Image) (course : Course) where
     since = is;
     text = inl (ended after, sym (ended-append lines after) ∙ ap ended text);
     kept = subst (λ (l : List (List ℕ)). IsKeptInStore store course l v) (sym (lines_whole lines are)) (mid_step_kept Image store course lines stored chunk keep may v at_rest begins near w);
+    grown = inl (w.grown (at_rest.grown w.from w.left));
   }
 
   -- between steps
@@ -41,6 +42,7 @@ module _ (Image : Type 0) (store : Store Image) (course : Course) where
     since = is;
     text = inl (ended after, sym (ended-append lines after) ∙ ap ended text);
     kept = subst (λ (l : List (List ℕ)). IsKeptInStore store course l v) (sym (lines_whole lines are)) (rest_kept Image store course lines stored keep may v at_rest left);
+    grown = inl (at_rest.grown v left);
   }
 
   -- while lines of the text are put
@@ -59,6 +61,7 @@ module _ (Image : Type 0) (store : Store Image) (course : Course) where
               ∙ sym (ended-append lines (more ++ after)) ∙ ap ended text,
         );
         kept = put_kept Image store course lines more part stored keep may v at_rest are are_more marks way.1 left;
+        grown = inl (at_rest.grown v left);
       }
 
   -- a run that stopped
@@ -71,6 +74,7 @@ module _ (Image : Type 0) (store : Store Image) (course : Course) where
     are_lines = are;
     of_text = text;
     kept = λ v left. rest_kept Image store course lines stored keep may v at_rest left;
+    grown = inl at_rest.grown;
   }
 
   -- in a step on the disk
@@ -83,6 +87,7 @@ module _ (Image : Type 0) (store : Store Image) (course : Course) where
     are_lines = are;
     of_text = text;
     kept = λ v left. mid_step_kept Image store course lines stored chunk keep may v at_rest begins near (within v left);
+    grown = inl (λ v left. let w = within v left in w.grown (at_rest.grown w.from w.left));
   }
 
   -- lines that say nothing are put behind
@@ -121,6 +126,7 @@ module _ (Image : Type 0) (store : Store Image) (course : Course) where
         text = inr (part, way.1, record { lines = stop.lines; more = stop.more; of_text = stop.of_text; is = refl });
         kept = subst (λ (l : List (List ℕ)). IsKeptInStore store course l v) (sym (pieces_then stop.lines part stop.are_lines))
             (kept_more stop.lines (whole_pieces part) v (stop.kept v left) (nothing_prefix (whole_pieces part) ends (pieces_prefix ends part are_ends way.1) nothing));
+        grown = ⊎_elim (λ all. inl (all v left)) (λ none. inr (subst (λ (l : List (List ℕ)). IsPrefix (ended l ++ part) (ended ends)) (sym none) way.1)) stop.grown;
       }
 
   -- the last checkpoint that a line says is saved is in a slot
@@ -133,7 +139,13 @@ module _ (Image : Type 0) (store : Store Image) (course : Course) where
 
   -- whatever the last line
   pub on_course_wider : (last : List ℕ) (v : Image) (said : List ℕ) → IsOnCourse store course [] v said → IsOnCourse store course last v said
-  on_course_wider last v said h = record { put = h.put; since = h.since; text = wider course.text last h.put h.text; kept = h.kept }
+  on_course_wider last v said h = record {
+    put = h.put;
+    since = h.since;
+    text = wider course.text last h.put h.text;
+    kept = h.kept;
+    grown = ⊎_elim (λ is. inl is) (λ none. inr (subst (λ (p : List ℕ). IsPrefix p last) (sym (nil_prefix h.put none.0 none.1)) (last, refl))) h.grown;
+  }
 
   pub on_course_since_wider : (start : Image → Type 0) (last : List ℕ) (v : Image) (said : List ℕ) → IsOnCourseSince store course start [] v said → IsOnCourseSince store course start last v said
   on_course_since_wider start last v said (inl (begun, way)) =
@@ -147,7 +159,8 @@ module _ (Image : Type 0) (store : Store Image) (course : Course) where
     since = way.2;
     text = inr (way.0, way.1, record { lines = []; more = course.text; of_text = refl; is = refl });
     truthful = all v begun;
-    schema = λ of. of v begun;
+    schema = inl begun;
+    grown = inr way.1;
     image = inl (begun, way.1);
   }
   promised start last v said all (inr h) = record {
@@ -155,6 +168,7 @@ module _ (Image : Type 0) (store : Store Image) (course : Course) where
     since = h.since;
     text = h.text;
     truthful = h.kept.truthful;
-    schema = λ of. h.kept.schema;
+    schema = inr h.kept.schema;
+    grown = h.grown;
     image = inr h.kept;
   }

@@ -14,7 +14,7 @@ use Rattle.rg_run_spec.specs.Steps.{IsMidStep, IsStepped}
 module _ (Image : Type 0) (store : Store Image) where
   -- an image that might be left already
   pub same_mid_step : (keep : Option ℕ) (chunk : List Event) (may : Image → Type 0) (v : Image) → may v → IsMidStep store keep chunk may v
-  same_mid_step keep chunk may v left = record { from = v; left = left; truthful = λ is. is; schema = λ is. is; events = λ es has. inl has; slots = λ slot count is has. has }
+  same_mid_step keep chunk may v left = record { from = v; left = left; truthful = λ is. is; schema = λ is. is; grown = λ is. is; events = λ es has. inl has; slots = λ slot count is has. has }
 
   pub same_stepped : (keep : Option ℕ) (may : Image → Type 0) (v : Image) → may v → IsStepped store keep [] may v
   same_stepped keep may v left = record {
@@ -22,6 +22,7 @@ module _ (Image : Type 0) (store : Store Image) where
     left = left;
     truthful = λ is. is;
     schema = λ is. is;
+    grown = λ is. is;
     events = λ es has. subst (λ (l : List Event). store.HasEvents l v) (sym (append-nil es)) has;
     slots = λ slot count is has. has;
   }
@@ -39,6 +40,7 @@ module _ (Image : Type 0) (store : Store Image) where
         left = a.left;
         truthful = λ is. w.truthful (a.truthful is);
         schema = λ is. w.schema (a.schema is);
+        grown = λ is. w.grown (a.grown is);
         events = λ es has. grown_by es chunk v (w.events (es ++ chunk) (a.events es has));
         slots = λ slot count is has. w.slots slot count is (a.slots slot count is has);
       }
@@ -52,6 +54,7 @@ module _ (Image : Type 0) (store : Store Image) where
         left = a.left;
         truthful = λ is. w.truthful (a.truthful is);
         schema = λ is. w.schema (a.schema is);
+        grown = λ is. w.grown (a.grown is);
         events = λ es has. subst (λ (l : List Event). store.HasEvents l v) (append_assoc es chunk more) (w.events (es ++ chunk) (a.events es has));
         slots = λ slot count is has. w.slots slot count is (a.slots slot count is has);
       }

@@ -68,6 +68,7 @@ module _ (Image : Type 0) (store : Store Image) (course : Course) where
   after_step lines stored chunk keep may next at_rest begins near after = record {
     truthful = λ v left. let a = after v left in a.truthful (at_rest.truthful a.from a.left);
     schema = λ v left. let a = after v left in a.schema (at_rest.schema a.from a.left);
+    grown = λ v left. let a = after v left in a.grown (at_rest.grown a.from a.left);
     has = λ v left. let a = after v left in a.events stored (at_rest.has a.from a.left);
     rising = at_rest.rising;
     begins = begins;
@@ -83,6 +84,7 @@ module _ (Image : Type 0) (store : Store Image) (course : Course) where
   after_save lines stored keep slot may next at_rest saved = record {
     truthful = λ v left. let a = saved v left in a.truthful (at_rest.truthful a.from a.left);
     schema = λ v left. let a = saved v left in a.schema (at_rest.schema a.from a.left);
+    grown = λ v left. let a = saved v left in a.grown (at_rest.grown a.from a.left);
     has = λ v left. let a = saved v left in a.events stored (at_rest.has a.from a.left);
     rising = at_rest.rising;
     begins = at_rest.begins;
@@ -98,6 +100,7 @@ module _ (Image : Type 0) (store : Store Image) (course : Course) where
   rest_fewer lines stored keep may next at_rest fewer = record {
     truthful = λ v left. at_rest.truthful v (fewer v left);
     schema = λ v left. at_rest.schema v (fewer v left);
+    grown = λ v left. at_rest.grown v (fewer v left);
     has = λ v left. at_rest.has v (fewer v left);
     rising = at_rest.rising;
     begins = at_rest.begins;
@@ -112,6 +115,7 @@ module _ (Image : Type 0) (store : Store Image) (course : Course) where
   rest_more lines more stored keep may at_rest marks = record {
     truthful = at_rest.truthful;
     schema = at_rest.schema;
+    grown = at_rest.grown;
     has = at_rest.has;
     rising = at_rest.rising;
     begins = at_rest.begins;

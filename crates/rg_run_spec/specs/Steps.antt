@@ -20,6 +20,7 @@ pub record MarksHold {Image : Type 0} (store : Store Image) (stored : List Event
 pub record IsAtRest {Image : Type 0} (store : Store Image) (course : Course) (lines : List (List ℕ)) (stored : List Event) (keep : Option ℕ) (may : Image → Type 0) : Type 0 where
   pub truthful : (v : Image) → may v → store.IsTruthful v
   pub schema : (v : Image) → may v → store.IsOfSchema v
+  pub grown : (v : Image) → may v → store.IsGrown v
   pub has : (v : Image) → may v → store.HasEvents stored v
   pub rising : IsRising course.accepted
   pub begins : IsPrefixOf stored course.accepted
@@ -34,8 +35,15 @@ pub record IsMidStep {Image : Type 0} (store : Store Image) (keep : Option ℕ) 
   pub left : may from
   pub truthful : store.IsTruthful from → store.IsTruthful v
   pub schema : store.IsOfSchema from → store.IsOfSchema v
+  pub grown : store.IsGrown from → store.IsGrown v
   pub events : (es : List Event) → store.HasEvents es from → store.HasEvents es v ⊎ store.HasEvents (es ++ chunk) v
   pub slots : (slot count : ℕ) → keep ≡ Some slot → store.HasSaved slot count from → store.HasSaved slot count v
+
+-- Of the log alone: behind the events of an image that might be left there may be those of a chunk, whole.
+pub record IsMidLog {Image : Type 0} (store : Store Image) (chunk : List Event) (may : Image → Type 0) (v : Image) : Type 0 where
+  pub from : Image
+  pub left : may from
+  pub events : (es : List Event) → store.HasEvents es from → store.HasEvents es v ⊎ store.HasEvents (es ++ chunk) v
 
 -- An image after a step that is done: the chunk stands behind the events.
 pub record IsStepped {Image : Type 0} (store : Store Image) (keep : Option ℕ) (chunk : List Event) (may : Image → Type 0) (v : Image) : Type 0 where
@@ -43,6 +51,7 @@ pub record IsStepped {Image : Type 0} (store : Store Image) (keep : Option ℕ) 
   pub left : may from
   pub truthful : store.IsTruthful from → store.IsTruthful v
   pub schema : store.IsOfSchema from → store.IsOfSchema v
+  pub grown : store.IsGrown from → store.IsGrown v
   pub events : (es : List Event) → store.HasEvents es from → store.HasEvents (es ++ chunk) v
   pub slots : (slot count : ℕ) → keep ≡ Some slot → store.HasSaved slot count from → store.HasSaved slot count v
 
@@ -52,5 +61,6 @@ pub record IsSavedTo {Image : Type 0} (store : Store Image) (slot count : ℕ) (
   pub left : may from
   pub truthful : store.IsTruthful from → store.IsTruthful v
   pub schema : store.IsOfSchema from → store.IsOfSchema v
+  pub grown : store.IsGrown from → store.IsGrown v
   pub events : (es : List Event) → store.HasEvents es from → store.HasEvents es v
   pub saved : store.HasSaved slot count v

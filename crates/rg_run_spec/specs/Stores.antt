@@ -16,11 +16,17 @@ pub record Store (Image : Type 0) : Type 1 where
   pub IsTruthful : Image → Type 0
   -- the log is of the plan's schema, or of one that grows to it by the plan's defaults, or has no frame
   pub IsOfSchema : Image → Type 0
+  -- the plan's schema is in force at the log's end
+  pub IsGrown : Image → Type 0
   -- these are the log's events, for the plan of a run
   pub HasEvents : List Event → Image → Type 0
   -- the slot of that number is complete, has the plan's queries, and counts at least so many events
   pub HasSaved : ℕ → ℕ → Image → Type 0
   pub has_fewer : (slot n count : ℕ) (v : Image) → n ≤ count → HasSaved slot count v → HasSaved slot n v
+
+-- the image's log has these events, and maybe more behind them
+abbrev pub HasAtLeast : {Image : Type 0} → Store Image → List Event → Image → Type 0
+HasAtLeast store held v = (events : List Event) × IsPrefixOf held events × store.HasEvents events v
 
 -- What a run begins with, and what it is to accept and to put.
 pub record Course : Type 0 where
@@ -74,6 +80,8 @@ pub record IsOnCourse {Image : Type 0} (store : Store Image) (course : Course) (
   pub since : said ≡ course.said ++ put
   pub text : IsPut course.text last put
   pub kept : IsKeptInStore store course (whole_pieces put) v
+  -- unless nothing but of the last line was put
+  pub grown : store.IsGrown v ⊎ IsPrefix put last
 
 -- a moment since the start: nothing but of the last line was put, and the image is one that might be left at the start; or the store is opened
 abbrev pub IsOnCourseSince : {Image : Type 0} → Store Image → Course → (Image → Type 0) → List ℕ → Image → List ℕ → Type 0
@@ -92,5 +100,7 @@ pub record Promised {Image : Type 0} (store : Store Image) (course : Course) (st
   pub since : said ≡ course.said ++ put
   pub text : IsPut course.text last put
   pub truthful : store.IsTruthful v
-  pub schema : ((u : Image) → start u → store.IsOfSchema u) → store.IsOfSchema v
+  pub schema : start v ⊎ store.IsOfSchema v
+  -- from the first byte of the open line on the plan's schema is in force
+  pub grown : store.IsGrown v ⊎ IsPrefix put last
   pub image : (start v × IsPrefix put last) ⊎ IsKeptInStore store course (whole_pieces put) v

@@ -1,5 +1,5 @@
 -- A run from turn to turn, its end and its stop.
-use Rattle.std.specs.Prelude.{◌≡◌, ℕ, ◌+◌, ◌≤◌, List, ◌∷◌, ◌++◌, length, take, Option}
+use Rattle.std.specs.Prelude.{◌≡◌, ◌⊎◌, ℕ, ◌+◌, ◌≤◌, List, [], ◌∷◌, ◌++◌, length, take, Option}
 use Rattle.rg_event.specs.declared.event.Event.{Event}
 use Rattle.rg_event.specs.Rising.{next_offset}
 use Rattle.rg_host.specs.Lines.{ended}
@@ -25,7 +25,8 @@ pub record IsBetween {Image : Type 0} (store : Store Image) (terms : Terms) (cou
   pub events_ahead : (i : ℕ) → i ≤ length items → course.events (count + i) ≡ events_from terms.basis events offset (take i items)
   pub at_rest : IsAtRest store course lines stored keep may
 
--- The run stopped between two lines, as far as what was put goes: whatever image is left, it is kept.
+-- The run stopped between two lines, as far as what was put goes: whatever image is left, it is kept; the plan's schema is in force in
+-- it, or no line was put.
 pub record IsStopped {Image : Type 0} (store : Store Image) (course : Course) (may : Image → Type 0) (said : List ℕ) : Type 0 where
   pub lines : List (List ℕ)
   pub more : List (List ℕ)
@@ -33,11 +34,13 @@ pub record IsStopped {Image : Type 0} (store : Store Image) (course : Course) (m
   pub are_lines : AreLines lines
   pub of_text : lines ++ more ≡ course.text
   pub kept : (v : Image) → may v → IsKeptInStore store course lines v
+  pub grown : ((v : Image) → may v → store.IsGrown v) ⊎ (lines ≡ [])
 
--- All was put, and the store has all accepted events.
+-- All was put, and the store has all accepted events under the plan's schema.
 pub record IsDone {Image : Type 0} (store : Store Image) (course : Course) (may : Image → Type 0) (said : List ℕ) : Type 0 where
   pub said_is : said ≡ course.said ++ ended course.text
   pub truthful : (v : Image) → may v → store.IsTruthful v
+  pub grown : (v : Image) → may v → store.IsGrown v
   pub has : (v : Image) → may v → store.HasEvents course.accepted v
 
 -- A run put these lines whole and left these events, more than it held. What it put and what a run over them puts of the same input make

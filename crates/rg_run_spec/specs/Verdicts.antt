@@ -1,6 +1,6 @@
 -- What a line is read as, what is decided on it, and so the events accepted among some lines and the reply to each: a
 -- line is answered from those before it alone.
-use Rattle.std.specs.Prelude.{ℕ, zero, suc, ◌+◌, ◌==◌, ◌&&◌, nat_lt, nat_le, bytes_eq, codes, Bool, List, [], ◌∷◌, ◌++◌, length, get_or, Option, Some, None, Result, Ok, Err, if◌then◌else◌}
+use Rattle.std.specs.Prelude.{◌≡◌, ℕ, zero, suc, ◌+◌, ◌==◌, ◌&&◌, nat_lt, nat_le, bytes_eq, codes, Bool, List, [], ◌∷◌, ◌++◌, length, get_or, Option, Some, None, Result, Ok, Err, if◌then◌else◌}
 use Rattle.rg_event.specs.Rising.{last_time}
 use Rattle.rg_event.specs.declared.event.Event.{Event}
 use Rattle.rg_event.specs.declared.schema.Field.{Field}
@@ -61,6 +61,11 @@ control_of line =
 abbrev pub control_at : Basis → ℕ → Option (List ℕ) → Option Control
 control_at basis offset None = None
 control_at basis offset (Some text) = if basis.header && (offset == 0) then None else control_of (cleaned offset text)
+
+-- The line at this offset asks for nothing, and is read as the row of this cleaned text.
+pub record IsRow (basis : Basis) (offset : ℕ) (item : Option (List ℕ)) (line : List ℕ) : Type 0 where
+  pub asks_nothing : control_at basis offset item ≡ None
+  pub reads : read_as basis offset item ≡ or_reply (row_of basis.fields offset line)
 
 -- what is decided on a line: it is refused, does what it asks for, or its event is accepted, with its own time or with the last one's
 pub data Verdict : Type 0 where

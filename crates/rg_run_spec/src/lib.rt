@@ -28,7 +28,7 @@ ghost use Rattle.rg_run_spec.specs.Stores.{IsNear, course_of};
 ghost use Rattle.rg_run_spec.specs.Turns.{Covers};
 
 pub use control::{Control, control_in};
-pub use verdict::{law_before, law_grace, law_next, law_read};
+pub use verdict::{law_before, law_grace, law_next, law_read, row_reply};
 
 /// A line below the next offset of the store is passed over, and any other gets its verdict. Over an
 /// empty store the events and the replies are those of the whole input, each with its marks behind it.

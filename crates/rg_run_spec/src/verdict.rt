@@ -2,8 +2,11 @@ ghost use Rattle.std.specs.Prelude.{◌≡◌, ◌≤◌, ◌<◌, ◌^◌, ◌+
 ghost use Rattle.rg_event.specs.declared.event.Event.{Event as TheEvent};
 ghost use Rattle.rg_event.specs.Codec.{IsEventOf};
 ghost use Rattle.rg_event.specs.Rising.{next_offset, IsRising};
-ghost use Rattle.rg_run_spec.specs.Verdicts.{Basis, control_at, read_as, obeyed_or, accepted_after, line_verdict, accepted_before, reply_to};
+ghost use Rattle.rg_run_spec.specs.Verdicts.{Basis, control_at, fault_reply, read_as, obeyed_or, accepted_after, line_verdict, accepted_before, reply_to};
 ghost use Rattle.rg_run_spec.specs.Laws.{strict_verdict};
+
+use rg_reply::Reply;
+use rg_row::RowFault;
 
 /// What was accepted among the first lines, and the reply to each of them, doesn't depend on what
 /// comes behind them.
@@ -18,6 +21,20 @@ pub fn law_before()
 pub fn law_read()
     ensures { (basis : Basis) (offset : ℕ) (line : Option (List ℕ)) (e : TheEvent) → read_as basis offset line ≡ Ok e → offset < 2 ^ 62 → IsEventOf basis.fields e }
 {}
+
+/// The reply to a fault of a row; want of memory has none.
+pub fn row_reply(fault: RowFault) -> Reply
+    requires { fault ≡ RowFault.Memory → ⊥ }
+    ensures { result ≡ fault_reply fault }
+{
+    match fault {
+        RowFault::Row => Reply::Row,
+        RowFault::Fields => Reply::Fields,
+        RowFault::Time => Reply::Time,
+        RowFault::Value(column) => Reply::Value(column),
+        RowFault::Memory => unreachable!(),
+    }
+}
 
 /// The offsets of the accepted events are below that of the next line.
 #[tactic(auto, using(crate::proofs::Laws::next_after_line))]

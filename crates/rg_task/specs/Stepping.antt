@@ -5,7 +5,7 @@ use Rattle.rg_host.specs.Image.{Image}
 use Rattle.rg_host.specs.Moments.{Moment, Moments}
 use Rattle.rg_event.specs.declared.event.Event.{Event}
 use Rattle.rg_run_spec.specs.Stores.{Store}
-use Rattle.rg_run_spec.specs.Steps.{IsMidStep, IsStepped}
+use Rattle.rg_run_spec.specs.Steps.{IsMidStep, IsMidLog, IsStepped}
 use Rattle.rg_task.specs.State.{State}
 
 module _ {K : Type 0} (may : K → Image → Type 0) (clock : K → ℕ) (since : K → ℕ → Moment → Type 0) (said : K → Option (List ℕ)) where
@@ -14,6 +14,12 @@ module _ {K : Type 0} (may : K → Image → Type 0) (clock : K → ℕ) (since 
     pub moments : Moments clock since old new (λ m. IsMidStep store keep chunk (may old) m.image × ForSome (said old) (λ s. m.said ≡ s))
     pub left : (u : Image) → may new u → IsMidStep store keep chunk (may old) u
     pub said_stays : said new ≡ said old
+
+module _ {K : Type 0} (may : K → Image → Type 0) (clock : K → ℕ) (since : K → ℕ → Moment → Type 0) where
+  -- From old to new the log stays in each image of a moment, and in each that is left: there is at most this chunk behind its events.
+  pub record IsWithinLog (store : Store Image) (chunk : List Event) (old new : K) : Type 0 where
+    pub moments : Moments clock since old new (λ m. IsMidLog store chunk (may old) m.image)
+    pub left : (u : Image) → may new u → IsMidLog store chunk (may old) u
 
 -- The step is done: behind the stored events come none or the whole chunk, in each image that might be left.
 pub record IsStored (store : Store Image) (keep : Option ℕ) (chunk before after : List Event) (old_may new_may : Image → Type 0) : Type 0 where

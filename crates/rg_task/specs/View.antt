@@ -1,12 +1,14 @@
 -- How a contract sees a task.
-use Rattle.std.specs.Prelude.{◌≡◌, ◌≤◌, ◌^◌, ℕ, List, ◌++◌, length, Option, Some}
+use Rattle.std.specs.Prelude.{◌≡◌, ◌≤◌, ◌^◌, ℕ, false, List, ◌++◌, length, Option, Some, Result, IsErrOf}
 use Rattle.std.specs.Option.{ForSome}
 use Rattle.rg_host.specs.Image.{Image}
-use Rattle.rg_host.specs.Moments.{Moment}
+use Rattle.rg_host.specs.Moments.{Moment, LeavesAll}
 use Rattle.rg_event.specs.Rising.{next_offset}
 use Rattle.rg_config.specs.Plans.{Planned}
 use Rattle.rg_run_spec.specs.Stores.{Store}
 use Rattle.rg_task.specs.State.{State}
+use Rattle.rg_task.specs.declared.fault.TaskFault.{TaskFault}
+use Rattle.rg_task.specs.declared.fault.TaskFault.TheVariants.{Ended}
 
 -- What is asked of tasks of one type, and what holds of each.
 pub record View (K : Type 0) : Type 1 where
@@ -37,6 +39,7 @@ pub record View (K : Type 0) : Type 1 where
   pub whole : (t : K) → (at t).stored ++ (at t).chunk ≡ (at t).events
   pub next_is : (plan : Planned) (t : K) → runs plan t → (at t).next ≡ next_offset (at t).events
   pub few : (plan : Planned) (t : K) → runs plan t → length (at t).events ≤ 2 ^ 40
+  pub runs_going : (plan : Planned) (t : K) → runs plan t → (at t).ended ≡ false
   pub run_placed : (plan : Planned) (t : K) → runs plan t → placed plan t
   pub goes_same : (t : K) → goes t t
   pub goes_join : (p q r : K) → goes p q → goes q r → goes p r
@@ -53,9 +56,16 @@ OnlyNow {K} view = (t : K) (m : Moment) → view.since t (view.clock t) m → vi
 abbrev pub Sinks : {K : Type 0} → View K → Type 0
 Sinks {K} view = (t : K) (earlier later : ℕ) (m : Moment) → earlier ≤ later → view.since t later m → view.since t earlier m
 
+-- A call on a task that has ended is refused for that, and nothing changes.
+pub record StaysEnded {K A : Type 0} (view : View K) (result : Result A TaskFault) (old new : K) : Type 0 where
+  pub refused : IsErrOf result Ended
+  pub at_stays : view.at new ≡ view.at old
+  pub leaves : LeavesAll view.now view.may view.clock view.since view.said old new
+
 -- From old to new nothing of a task changed but what is put, and what failed.
 pub record Keeps {K : Type 0} (view : View K) (old new : K) : Type 0 where
   pub at_stays : view.at new ≡ view.at old
+  pub roomy : view.roomy old → view.roomy new
   pub running : (plan : Planned) → view.runs plan old → view.runs plan new
   pub node : (plan : Planned) (n : ℕ) → view.node plan n old → view.node plan n new
   pub placed : (plan : Planned) → view.placed plan old → view.placed plan new

@@ -6,8 +6,8 @@ ghost use Rattle.rg_host.specs.Puts.{IsPrefix, Puts};
 ghost use Rattle.rg_config.specs.Plans.{Planned};
 ghost use Rattle.rg_run_spec.specs.Verdicts.{accepted_after, reply_of};
 ghost use Rattle.rg_task.specs.Terms.{verdict_on};
-ghost use Rattle.rg_task.specs.Stepping.{IsWithinStep, IsStored, IsAllSaved};
-ghost use Rattle.rg_task.specs.View.{View, Keeps, NowMay, OnlyNow, Sinks};
+ghost use Rattle.rg_task.specs.Stepping.{IsWithinStep, IsWithinLog, IsStored, IsAllSaved};
+ghost use Rattle.rg_task.specs.View.{View, Keeps, StaysEnded, NowMay, OnlyNow, Sinks};
 
 use crate::fault::TaskFault;
 use rg_host::Failed;
@@ -52,6 +52,10 @@ pub trait Task {
         ensures placed { (plan : Planned) → view.placed plan self.old → OnOk result (view.placed plan self.new) }
         ensures undamaged { (plan : Planned) (p : ℕ) → view.placed plan self.old → IsErrOf result (TaskFault.Damaged p) → ⊥ }
 
+        // Over a legal log, whatever the slots hold.
+        ensures log_stays { (plan : Planned) → view.placed plan self.old →
+            IsWithinLog view.may view.clock view.since (view.store plan) (view.at self.old).chunk self.old self.new }
+
         // Where there is room, no file is written.
         ensures roomy { view.roomy self.old → LeavesAll view.now view.may view.clock view.since view.said self.old self.new × ((view.at self.new).stored ≡ (view.at self.old).stored) }
 
@@ -59,6 +63,7 @@ pub trait Task {
         ensures damaged { (p : ℕ) → IsErrOf result (TaskFault.Damaged p) → view.illegal p self.new }
         ensures disk { IsErrOf result TaskFault.Disk → Rose (disk_faults self.old) (disk_faults self.new) }
         ensures ended { IsErrOf result TaskFault.Ended → (view.at self.old).ended ≡ true }
+        ensures over { (view.at self.old).ended ≡ true → StaysEnded view result self.old self.new }
         ensures going { OnOk result ((view.at self.new).ended ≡ false) }
         ensures ends { OnErr result ((view.at self.new).ended ≡ true) }
         ensures goes { view.goes self.old self.new }
@@ -78,6 +83,10 @@ pub trait Task {
         ensures node { (plan : Planned) (n : ℕ) → view.node plan n self.old → OnOk result (view.node plan n self.new) }
         ensures placed { (plan : Planned) → view.placed plan self.old → OnOk result (view.placed plan self.new) }
 
+        // Over a legal log, whatever the slots hold.
+        ensures log_stays { (plan : Planned) → view.placed plan self.old →
+            IsWithinLog view.may view.clock view.since (view.store plan) (view.at self.old).chunk self.old self.new }
+
         ensures next { IfOk result (λ next. next ≡ (view.at self.new).next) }
         ensures all { OnOk result ((view.at self.new).stored ≡ (view.at self.new).events) }
         ensures keep { (view.at self.new).keep ≡ (view.at self.old).keep }
@@ -85,6 +94,8 @@ pub trait Task {
         ensures disk { IsErrOf result TaskFault.Disk → Rose (disk_faults self.old) (disk_faults self.new) }
         ensures faults { IfErr result (λ fault. (fault ≡ TaskFault.Disk) ⊎ (fault ≡ TaskFault.Memory) ⊎ (fault ≡ TaskFault.Ended)) }
         ensures ended { IsErrOf result TaskFault.Ended → (view.at self.old).ended ≡ true }
+        ensures over { (view.at self.old).ended ≡ true → StaysEnded view result self.old self.new }
+        ensures memory { IsErrOf result TaskFault.Memory → Keeps view self.old self.new × LeavesAll view.now view.may view.clock view.since view.said self.old self.new }
         ensures going { OnOk result ((view.at self.new).ended ≡ false) }
         ensures ends { IfErr result (λ fault. (fault ≡ TaskFault.Memory) ⊎ ((view.at self.new).ended ≡ true)) }
         ensures goes { view.goes self.old self.new }
@@ -106,11 +117,16 @@ pub trait Task {
         ensures node { (plan : Planned) (n : ℕ) → view.node plan n self.old → OnOk result (view.node plan n self.new) }
         ensures placed { (plan : Planned) → view.placed plan self.old → OnOk result (view.placed plan self.new) }
 
+        // Over a legal log, whatever the slots hold.
+        ensures log_stays { (plan : Planned) → view.placed plan self.old →
+            IsWithinLog view.may view.clock view.since (view.store plan) (view.at self.old).chunk self.old self.new }
+
         ensures count { IfOk result (λ count. count ≡ length (view.at self.new).events) }
         ensures all { OnOk result ((view.at self.new).stored ≡ (view.at self.new).events) }
         ensures disk { IsErrOf result TaskFault.Disk → Rose (disk_faults self.old) (disk_faults self.new) }
         ensures faults { IfErr result (λ fault. (fault ≡ TaskFault.Disk) ⊎ (fault ≡ TaskFault.Memory) ⊎ (fault ≡ TaskFault.Ended)) }
         ensures ended { IsErrOf result TaskFault.Ended → (view.at self.old).ended ≡ true }
+        ensures over { (view.at self.old).ended ≡ true → StaysEnded view result self.old self.new }
         ensures going { OnOk result ((view.at self.new).ended ≡ false) }
         ensures ends { OnErr result ((view.at self.new).ended ≡ true) }
         ensures goes { view.goes self.old self.new }
@@ -136,6 +152,7 @@ pub trait Task {
         ensures disk { IsErrOf result TaskFault.Disk → Rose (disk_faults self.old) (disk_faults self.new) }
         ensures faults { IfErr result (λ fault. (fault ≡ TaskFault.Disk) ⊎ (fault ≡ TaskFault.Memory) ⊎ (fault ≡ TaskFault.Ended) ⊎ ((p : ℕ) × (fault ≡ TaskFault.Damaged p))) }
         ensures ended { IsErrOf result TaskFault.Ended → (view.at self.old).ended ≡ true }
+        ensures over { (view.at self.old).ended ≡ true → StaysEnded view result self.old self.new }
         ensures going { OnOk result ((view.at self.new).ended ≡ false) }
         ensures ends { OnErr result ((view.at self.new).ended ≡ true) }
         ensures goes { view.goes self.old self.new }

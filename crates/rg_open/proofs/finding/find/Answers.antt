@@ -106,12 +106,12 @@ returns-in-Err-attach-clause-refused g c =
       undamaged = λ v events p told has is. c.in-Err-attach.ensures.legal v events p (same ∙ told) has (ap (λ f. Err f) (log_damaged fault p (sym c.from.ensures ∙ is)));
       never_damaged = λ p openable is.
           let v = openable.image in
-          let has = for_legal payloads_one shape defaults (v 2) legal (openable.truthful v (reads v openable.told)).log (openable.schema v (reads v openable.told)) in
+          let has = for_legal payloads_one shape defaults (v 2) legal (openable.truthful v (reads v openable.told)).log openable.schema in
           c.in-Err-attach.ensures.legal v has.0 p (same ∙ openable.told) has.1 (ap (λ f. Err f) (log_damaged fault p (sym c.from.ensures ∙ is)));
       differs = λ is v told. c.in-Err-attach.ensures.differs (ap (λ f. Err f) (log_differs fault (sym c.from.ensures ∙ is))) v (same ∙ told);
       never_differs = λ openable is.
           let v = openable.image in
-          let has = for_legal payloads_one shape defaults (v 2) legal (openable.truthful v (reads v openable.told)).log (openable.schema v (reads v openable.told)) in
+          let has = for_legal payloads_one shape defaults (v 2) legal (openable.truthful v (reads v openable.told)).log openable.schema in
           c.in-Err-attach.ensures.legal_ours v has.0 (same ∙ openable.told) has.1 (ap (λ f. Err f) (log_differs fault (sym c.from.ensures ∙ is)));
       no_state = λ n is. (log_neither fault).1 n (sym c.from.ensures ∙ is);
       no_table = λ is. (log_neither fault).0 (sym c.from.ensures ∙ is);

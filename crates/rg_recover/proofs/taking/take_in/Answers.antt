@@ -102,6 +102,7 @@ returns-in-Err-clause-takes g c =
     let e = c.args.engine.now in
     record {
       log = keeps.log;
+      within_step = c.make_room.ensures.stores.within;
       roomy = λ room.
           let same = c.make_room.ensures.room.untouched room in
           (leaves_same g.H.Host.now g.H.Host.may g.H.Host.clock g.H.Host.since g.H.Host.said g.met.H.Host.only_now g.met.H.Host.sinks h k same.1, ap (λ (x : Reservoir). base x) same.0);
@@ -205,6 +206,7 @@ returns-in-Ok-take-clause-takes g c =
     let m = c.new-past.result.reservoir.now in
     let keeps = moved (λ (x : g.row.H.Denot) (y : Reservoir). KeepsEvents g.H.Host.now g.H.Host.said g.H.Host.disk_faults g.H.Host.out_faults r y h x) c.make_room.new.host k c.make_room.new.reservoir m c.new-past.ensures.host c.new-past.ensures.reservoir c.make_room.ensures.keeps in
     let done = moved (λ (x : g.row.H.Denot) (y : Reservoir). HasStored g.H.Host.now g.H.Host.may r y h x) c.make_room.new.host k c.make_room.new.reservoir m c.new-past.ensures.host c.new-past.ensures.reservoir c.in-Ok.ensures.stores.done in
+    let stores = moved (λ (x : g.row.H.Denot) (y : Reservoir). StoresChunk g.H.Host.now g.H.Host.may g.H.Host.clock g.H.Host.since g.H.Host.said c.make_room.result r y h x) c.make_room.new.host k c.make_room.new.reservoir m c.new-past.ensures.host c.new-past.ensures.reservoir c.make_room.ensures.stores in
     let room_made = moved (λ (x : g.row.H.Denot) (y : Reservoir). MakesRoom g.H.Host.disk_faults c.make_room.result r y h x) c.make_room.new.host k c.make_room.new.reservoir m c.new-past.ensures.host c.new-past.ensures.reservoir c.make_room.ensures.room in
     let has_room = subst (λ (y : Reservoir). length (opened y) < room_of y) (sym c.new-past.ensures.reservoir) c.in-Ok.ensures.room.room in
     let n = c.take.new.past.host.now in
@@ -214,6 +216,9 @@ returns-in-Ok-take-clause-takes g c =
     c.take.new.past.host.now _ c.take.new.past.reservoir.now _ (search rules) (search rules)
     (record {
       log = log_then g.H.Host.said g.H.Host.disk_faults g.H.Host.out_faults r m s h k n keeps.log goes.base goes.room goes.cap goes.leaves.said_stays c.take.ensures.past.later goes.outs_stay;
+      within_step = λ plan keep log.
+          within_left g.H.Host.now g.H.Host.may g.H.Host.clock g.H.Host.since g.H.Host.said (store_of plan) keep (opened r) (stored (g.H.Host.now h) (base r)) (stored (g.H.Host.now k) (base m)) h k n (done.step plan keep log) goes.leaves
+          (stores.within plan keep log);
       roomy = λ room. roomy_then g.H.Host.now g.H.Host.may g.H.Host.clock g.H.Host.since g.H.Host.said r m s h k n (room_made.untouched room) goes.leaves goes.base;
       fits = fits_after (g.H.Host.now k) (g.H.Host.now n) m s c.args.event goes.base goes.room has_room (inr c.in-Ok-take.ensures.appends);
       within = within_count (g.H.Host.now n) s c.take.new.self.spots c.take.ensures.edges.within;
@@ -298,6 +303,7 @@ returns-in-Err-take-clause-takes g c =
     let m = c.new-past.result.reservoir.now in
     let keeps = moved (λ (x : g.row.H.Denot) (y : Reservoir). KeepsEvents g.H.Host.now g.H.Host.said g.H.Host.disk_faults g.H.Host.out_faults r y h x) c.make_room.new.host k c.make_room.new.reservoir m c.new-past.ensures.host c.new-past.ensures.reservoir c.make_room.ensures.keeps in
     let done = moved (λ (x : g.row.H.Denot) (y : Reservoir). HasStored g.H.Host.now g.H.Host.may r y h x) c.make_room.new.host k c.make_room.new.reservoir m c.new-past.ensures.host c.new-past.ensures.reservoir c.in-Ok.ensures.stores.done in
+    let stores = moved (λ (x : g.row.H.Denot) (y : Reservoir). StoresChunk g.H.Host.now g.H.Host.may g.H.Host.clock g.H.Host.since g.H.Host.said c.make_room.result r y h x) c.make_room.new.host k c.make_room.new.reservoir m c.new-past.ensures.host c.new-past.ensures.reservoir c.make_room.ensures.stores in
     let room_made = moved (λ (x : g.row.H.Denot) (y : Reservoir). MakesRoom g.H.Host.disk_faults c.make_room.result r y h x) c.make_room.new.host k c.make_room.new.reservoir m c.new-past.ensures.host c.new-past.ensures.reservoir c.make_room.ensures.room in
     let has_room = subst (λ (y : Reservoir). length (opened y) < room_of y) (sym c.new-past.ensures.reservoir) c.in-Ok.ensures.room.room in
     let n = c.take.new.past.host.now in
@@ -308,6 +314,9 @@ returns-in-Err-take-clause-takes g c =
     c.take.new.past.host.now _ c.take.new.past.reservoir.now _ (search rules) (search rules)
     (record {
       log = log_then g.H.Host.said g.H.Host.disk_faults g.H.Host.out_faults r m s h k n keeps.log goes.base goes.room goes.cap goes.leaves.said_stays c.take.ensures.past.later goes.outs_stay;
+      within_step = λ plan keep log.
+          within_left g.H.Host.now g.H.Host.may g.H.Host.clock g.H.Host.since g.H.Host.said (store_of plan) keep (opened r) (stored (g.H.Host.now h) (base r)) (stored (g.H.Host.now k) (base m)) h k n (done.step plan keep log) goes.leaves
+          (stores.within plan keep log);
       roomy = λ room. roomy_then g.H.Host.now g.H.Host.may g.H.Host.clock g.H.Host.since g.H.Host.said r m s h k n (room_made.untouched room) goes.leaves goes.base;
       fits = fits_after (g.H.Host.now k) (g.H.Host.now n) m s c.args.event goes.base goes.room has_room c.in-Err-take.ensures.appends;
       within = within_count (g.H.Host.now n) s c.take.new.self.spots c.take.ensures.edges.within;

@@ -1,8 +1,9 @@
-use Rattle.std.proofs.Common.{inr, refl, ◌≡◌, ⊎_elim}
+use Rattle.std.proofs.Common.{inr, None, refl, ◌≡◌, ⊎_elim}
 use Rattle.rg_config.specs.Plans.{planned}
 use Rattle.rg_recover.specs.Ready.{begun_by}
 use Rattle.rg_run.specs.declared.fault.RunFault.{RunFault}
 use Rattle.rg_run.specs.declared.fault.RunFault.TheVariants as run
+use Rattle.rg_recover.proofs.OpeningLog.{opening_log}
 use Rattle.rg_recover.proofs.Runs.{none_moments, none_unopened}
 use Rattle.rg_recover.proofs.TurnedAway.{none_alone, none_within}
 use Rattle.rg_recover.proofs.whole_run.run.Goals as goal
@@ -104,3 +105,11 @@ returns-clause-disk_faults g c = c.run_lines-ran.ensures.whole.counts.disk_fault
 
 pub returns-clause-out_faults : goal.returns-clause-out_faults
 returns-clause-out_faults g c = c.run_lines-ran.ensures.whole.counts.out_faults_grow
+
+pub returns-in-Err-clause-log_stays : goal.returns-in-Err-clause-log_stays
+returns-in-Err-clause-log_stays g c = λ v events told has.
+    opening_log g.H.Host.may g.H.Host.clock g.H.Host.since g.H.Host.said (planned c.args.plan.now) None v events c.args.host.now c.args.host.now has
+    (none_within g.H.Host.may g.H.Host.clock g.H.Host.since g.H.Host.said g.met.H.Host.only_now g.met.H.Host.sinks (planned c.args.plan.now) None v c.args.host.now)
+
+pub returns-clause-log_stays : goal.returns-clause-log_stays
+returns-clause-log_stays g c = c.run_lines-ran.ensures.whole.log

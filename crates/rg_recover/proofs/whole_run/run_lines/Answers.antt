@@ -33,5 +33,5 @@ returns g c =
           (lent_whole c.new-live.result after (λ p. p.host.now) (λ p. p.session.now) (λ p q. (q.session.ghost_name ≡ p.session.ghost_name) × (q.host.ghost_name ≡ p.host.ghost_name) × (q.steps.ghost_name ≡ p.steps.ghost_name)) (λ p. (refl, refl, refl)) (λ p q r one two. (two.0 ∙ one.0, two.1 ∙ one.1, two.2 ∙ one.2))
           g.H.Host.now g.H.Host.may g.H.Host.clock g.H.Host.since g.H.Host.said rows.tells rows.cell rows.named rows.there (λ p. g.H.Host.disk_faults p.host.now + 0) g.H.Host.disk_faults g.H.Host.out_faults (λ p. omega arith) g.I.Source.left g.I.Source.faults
           plan o.1.next o.1.count o.1.from c.args.first c.args.input.now c.run-ran.new.input c.args.host.now c.open_session.new.host o.0 c.open_session.ensures.only c.in-Ok.ensures.opened c.new-live.ensures.host c.new-live.ensures.session c.run-ran.result
-          c.run-ran.ensures.begun c.run-ran.ensures.cause c.run-ran.ensures.counts);
+          c.run-ran.ensures.begun c.run-ran.ensures.cause c.run-ran.ensures.counts c.run-ran.ensures.log_stays);
     }

@@ -3,6 +3,7 @@ use Rattle.rg_run.specs.Begun.{course_for}
 use Rattle.rg_run.specs.declared.fault.RunFault.TheVariants as run
 use Rattle.rg_run.proofs.Causes.{ok_never}
 use Rattle.rg_run.proofs.Gathering.{keeps_none}
+use Rattle.rg_run.proofs.Logged.{no_files}
 use Rattle.rg_run.proofs.Turns.{stays, way_on}
 use Rattle.rg_run.proofs.ahead.put_ahead.Goals as goal
 
@@ -10,6 +11,7 @@ pub returns-then-may_wait-clause-puts : goal.returns-then-may_wait-clause-puts
 returns-then-may_wait-clause-puts g c = record {
   moments = λ plan b left reading way. stays g.K.Task.view g.met.K.Task.only_now g.met.K.Task.sinks plan b left reading _ _ c.args.task.now way;
   keeps = keeps_none g.K.Task.view c.args.task.now;
+  files = no_files g.K.Task.view g.met.K.Task.only_now g.met.K.Task.sinks c.args.task.now;
   offset_stays = refl;
   disk_faults_stay = refl;
   out_faults_grow = omega arith;
@@ -27,6 +29,7 @@ pub returns-in-Ok-clause-puts : goal.returns-in-Ok-clause-puts
 returns-in-Ok-clause-puts g c = record {
   moments = λ plan b left reading way. c.flush.ensures.moments plan (course_for plan b) way.items way.awaiting;
   keeps = c.flush.ensures.keeps;
+  files = c.flush.ensures.files;
   offset_stays = c.flush.ensures.offset;
   disk_faults_stay = c.flush.ensures.disk_faults;
   out_faults_grow = c.flush.ensures.out_faults;
@@ -48,6 +51,7 @@ pub returns-in-Err-clause-puts : goal.returns-in-Err-clause-puts
 returns-in-Err-clause-puts g c = record {
   moments = λ plan b left reading way. c.flush.ensures.moments plan (course_for plan b) way.items way.awaiting;
   keeps = c.flush.ensures.keeps;
+  files = c.flush.ensures.files;
   offset_stays = c.flush.ensures.offset;
   disk_faults_stay = c.flush.ensures.disk_faults;
   out_faults_grow = c.flush.ensures.out_faults;

@@ -7,6 +7,7 @@ pub returns-in-Ok-clause-puts : goal.returns-in-Ok-clause-puts
 returns-in-Ok-clause-puts g c = record {
   moments = λ plan b left reading way. c.flush.ensures.moments plan (course_for plan b) way.items way.awaiting;
   keeps = c.flush.ensures.keeps;
+  files = c.flush.ensures.files;
   offset_stays = c.flush.ensures.offset;
   disk_faults_stay = c.flush.ensures.disk_faults;
   out_faults_grow = c.flush.ensures.out_faults;
@@ -29,6 +30,7 @@ pub returns-in-Err-clause-puts : goal.returns-in-Err-clause-puts
 returns-in-Err-clause-puts g c = record {
   moments = λ plan b left reading way. c.flush.ensures.moments plan (course_for plan b) way.items way.awaiting;
   keeps = c.flush.ensures.keeps;
+  files = c.flush.ensures.files;
   offset_stays = c.flush.ensures.offset;
   disk_faults_stay = c.flush.ensures.disk_faults;
   out_faults_grow = c.flush.ensures.out_faults;

@@ -12,7 +12,7 @@ returns-then-has_room-clause-makes g c = record {
 }
 
 pub returns-then-has_room-clause-only : goal.returns-then-has_room-clause-only
-returns-then-has_room-clause-only g c = only_none g.K.Task.view g.K.Task.disk_faults g.K.Task.out_faults c.args.task.now
+returns-then-has_room-clause-only g c = only_none g.K.Task.view g.K.Task.disk_faults g.K.Task.out_faults g.met.K.Task.only_now g.met.K.Task.sinks c.args.task.now
 
 pub returns-clause-makes : goal.returns-clause-makes
 returns-clause-makes g c =

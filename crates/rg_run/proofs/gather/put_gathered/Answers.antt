@@ -12,7 +12,7 @@ returns-in-Ok-clause-puts g c =
     }
 
 pub returns-in-Ok-clause-only : goal.returns-in-Ok-clause-only
-returns-in-Ok-clause-only g c = record { keeps = c.put.ensures.keeps; disk_faults_stay = c.put.ensures.disk_faults; out_faults_grow = c.put.ensures.out_faults }
+returns-in-Ok-clause-only g c = record { keeps = c.put.ensures.keeps; files = c.put.ensures.leaves; disk_faults_stay = c.put.ensures.disk_faults; out_faults_grow = c.put.ensures.out_faults }
 
 pub returns-in-Err-clause-puts : goal.returns-in-Err-clause-puts
 returns-in-Err-clause-puts g c =
@@ -24,4 +24,4 @@ returns-in-Err-clause-puts g c =
     }
 
 pub returns-in-Err-clause-only : goal.returns-in-Err-clause-only
-returns-in-Err-clause-only g c = record { keeps = c.put.ensures.keeps; disk_faults_stay = c.put.ensures.disk_faults; out_faults_grow = c.put.ensures.out_faults }
+returns-in-Err-clause-only g c = record { keeps = c.put.ensures.keeps; files = c.put.ensures.leaves; disk_faults_stay = c.put.ensures.disk_faults; out_faults_grow = c.put.ensures.out_faults }

@@ -8,6 +8,7 @@ use Rattle.rg_run.proofs.Called.{sustains_none, cause_none, damage_none}
 use Rattle.rg_run.proofs.Replied.{still_on_course}
 use Rattle.rg_run.proofs.Faulting.{task_of, write_of, load_others}
 use Rattle.rg_run.proofs.Loaded.{load_moments, load_held, load_awaits}
+use Rattle.rg_run.proofs.Logged.{files_of, files_held, held_then}
 use Rattle.rg_run.proofs.load.load.Goals as goal
 
 pub returns-then-ne-clause-loads : goal.returns-then-ne-clause-loads
@@ -20,7 +21,7 @@ returns-then-ne-clause-loads g c = record {
 }
 
 pub returns-then-ne-clause-sustains : goal.returns-then-ne-clause-sustains
-returns-then-ne-clause-sustains g c = sustains_none g.K.Task.view g.K.Task.disk_faults g.K.Task.out_faults _ c.args.task.now
+returns-then-ne-clause-sustains g c = sustains_none g.K.Task.view g.K.Task.disk_faults g.K.Task.out_faults _ g.met.K.Task.only_now g.met.K.Task.sinks c.args.task.now
 
 pub returns-then-ne-clause-cause : goal.returns-then-ne-clause-cause
 returns-then-ne-clause-cause g c = cause_none g.K.Task.view g.K.Task.disk_faults g.K.Task.out_faults _ c.args.task.now c.args.task.now
@@ -44,6 +45,7 @@ returns-in-Ok-clause-sustains g c = record {
   placed = λ plan placed. c.in-Ok.ensures.placed plan placed;
   going = λ going. c.in-Ok.ensures.going;
   goes = c.ahead.ensures.goes;
+  log = λ plan held placed holds. files_held g.K.Task.view plan held c.args.task.now c.ahead.new.self (files_of g.K.Task.view c.args.task.now c.ahead.new.self c.ahead.ensures.leaves) holds;
   disk_faults_grow = c.ahead.ensures.disk_faults;
   out_faults_grow = omega (arith, c.ahead.ensures.out_faults);
 }
@@ -77,6 +79,9 @@ returns-in-Err-clause-sustains g c =
       placed = λ plan placed. tt;
       going = λ going. tt;
       goes = g.K.Task.view.goes_join c.args.task.now c.ahead.new.self c.stop.new.task c.ahead.ensures.goes only.keeps.goes;
+      log = λ plan held placed holds. held_then g.K.Task.view plan held c.args.task.now c.ahead.new.self c.stop.new.task
+          (files_held g.K.Task.view plan held c.args.task.now c.ahead.new.self (files_of g.K.Task.view c.args.task.now c.ahead.new.self c.ahead.ensures.leaves) holds)
+          (files_held g.K.Task.view plan held c.ahead.new.self c.stop.new.task only.files);
       disk_faults_grow = omega (arith, c.ahead.ensures.disk_faults, only.disk_faults_stay);
       out_faults_grow = omega (arith, c.ahead.ensures.out_faults, only.out_faults_grow);
     }

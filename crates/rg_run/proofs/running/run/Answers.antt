@@ -11,6 +11,7 @@ use Rattle.rg_run.proofs.Beginning.{quiet, part_moments, first_way}
 use Rattle.rg_run.proofs.Gathered.{counts_join, why_then}
 use Rattle.rg_run.proofs.Taking.{taken_none}
 use Rattle.rg_run.proofs.Turned.{why_none, why_write}
+use Rattle.rg_run.proofs.Logged.{no_files, files_held, held_then}
 use Rattle.rg_run.proofs.running.run.Goals as goal
 
 pub returns-then-first-next-clause-begun : goal.returns-then-first-next-clause-begun
@@ -61,6 +62,7 @@ lines-init g c =
           part_moments g.K.Task.view plan b left _ _ _ _ c.args.task.now start c.next-next.ensures c.count.ensures mid c.put_mark.ensures.puts.leaves c.put_mark.ensures.only.keeps part.0 part.1 part.2;
       node = λ n runs. c.put_mark.ensures.only.keeps.node plan n runs;
       placed = λ placed. c.put_mark.ensures.only.keeps.placed plan placed;
+      log = λ held placed holds. files_held g.K.Task.view plan held c.args.task.now mid c.put_mark.ensures.only.files holds;
       taken = taken_none left c.args.lines.now c.requires.fresh.taken c.requires.fresh.still_open;
       counts = record { goes = c.put_mark.ensures.only.keeps.goes; later = omega arith; disk_faults_grow = omega (arith, c.put_mark.ensures.only.disk_faults_stay); out_faults_grow = c.put_mark.ensures.only.out_faults_grow };
     }
@@ -91,6 +93,8 @@ lines-preserved g c =
       moments = λ b start. moments_then g.K.Task.view.clock g.K.Task.view.since old put new (StaysOnCourse (g.K.Task.view.store plan) (course_for plan b) []) (StaysOnCourse (g.K.Task.view.store plan) (course_for plan b) []) (StaysOnCourse (g.K.Task.view.store plan) (course_for plan b) []) (moments_then g.K.Task.view.clock g.K.Task.view.since old c.lines.task put (StaysOnCourse (g.K.Task.view.store plan) (course_for plan b) []) (StaysOnCourse (g.K.Task.view.store plan) (course_for plan b) []) (StaysOnCourse (g.K.Task.view.store plan) (course_for plan b) []) (c.lines.invariant.moments b start) (puts.moments plan b _ _ (c.lines.invariant.way b start)) (λ m h. h) (λ m h. h)) (c.turn.ensures.goes b (c.in-Ok-put_ahead.ensures.goes.under_way plan b _ _ (c.lines.invariant.way b start))).moments (λ m h. h) (λ m h. h);
       node = λ n runs. on.node n (puts.keeps.node plan n (c.lines.invariant.node n runs));
       placed = λ placed. on.placed (puts.keeps.placed plan (c.lines.invariant.placed placed));
+      log = λ held placed holds. held_then g.K.Task.view plan held old put new (held_then g.K.Task.view plan held old c.lines.task put (c.lines.invariant.log held placed holds) (files_held g.K.Task.view plan held c.lines.task put puts.files))
+          (c.turn.ensures.log_stays held (puts.keeps.placed plan (c.lines.invariant.placed placed)));
       taken = c.turn.ensures.takes.taken _ c.lines.invariant.taken;
       counts = counts_join g.K.Task.view g.K.Task.disk_faults g.K.Task.out_faults g.I.Source.faults c.args.input.now c.lines.input c.turn.new.input old put new before c.turn.ensures.takes.counts;
     }
@@ -205,3 +209,26 @@ returns-in-Err-turn-clause-counts g c =
 
 pub returns-in-Err-turn-clause-goes : goal.returns-in-Err-turn-clause-goes
 returns-in-Err-turn-clause-goes g c = g.K.Task.view.goes_join c.args.task.now c.put_ahead.new.task c.turn.new.task (g.K.Task.view.goes_join c.args.task.now c.lines.task c.put_ahead.new.task c.lines.invariant.counts.goes c.put_ahead.ensures.puts.keeps.goes) c.turn.ensures.takes.counts.goes
+
+-- over a legal log
+
+pub returns-then-first-next-clause-log_stays : goal.returns-then-first-next-clause-log_stays
+returns-then-first-next-clause-log_stays g c = λ held placed holds. files_held g.K.Task.view (planned c.args.plan.now) held c.args.task.now c.args.task.now (no_files g.K.Task.view g.met.K.Task.only_now g.met.K.Task.sinks c.args.task.now) holds
+
+pub returns-in-Err-clause-log_stays : goal.returns-in-Err-clause-log_stays
+returns-in-Err-clause-log_stays g c = λ held placed holds. files_held g.K.Task.view (planned c.args.plan.now) held c.args.task.now c.put_mark.new.task c.put_mark.ensures.only.files holds
+
+pub returns-in-Err-put_ahead-clause-log_stays : goal.returns-in-Err-put_ahead-clause-log_stays
+returns-in-Err-put_ahead-clause-log_stays g c = λ held placed holds. held_then g.K.Task.view (planned c.args.plan.now) held c.args.task.now c.lines.task c.put_ahead.new.task (c.lines.invariant.log held placed holds) (files_held g.K.Task.view (planned c.args.plan.now) held c.lines.task c.put_ahead.new.task c.put_ahead.ensures.puts.files)
+
+pub returns-in-Ok-false-clause-log_stays : goal.returns-in-Ok-false-clause-log_stays
+returns-in-Ok-false-clause-log_stays g c = λ held placed holds.
+    held_then g.K.Task.view (planned c.args.plan.now) held c.args.task.now c.put_ahead.new.task c.turn.new.task
+    (held_then g.K.Task.view (planned c.args.plan.now) held c.args.task.now c.lines.task c.put_ahead.new.task (c.lines.invariant.log held placed holds) (files_held g.K.Task.view (planned c.args.plan.now) held c.lines.task c.put_ahead.new.task c.put_ahead.ensures.puts.files))
+    (c.turn.ensures.log_stays held (c.put_ahead.ensures.puts.keeps.placed (planned c.args.plan.now) (c.lines.invariant.placed placed)))
+
+pub returns-in-Err-turn-clause-log_stays : goal.returns-in-Err-turn-clause-log_stays
+returns-in-Err-turn-clause-log_stays g c = λ held placed holds.
+    held_then g.K.Task.view (planned c.args.plan.now) held c.args.task.now c.put_ahead.new.task c.turn.new.task
+    (held_then g.K.Task.view (planned c.args.plan.now) held c.args.task.now c.lines.task c.put_ahead.new.task (c.lines.invariant.log held placed holds) (files_held g.K.Task.view (planned c.args.plan.now) held c.lines.task c.put_ahead.new.task c.put_ahead.ensures.puts.files))
+    (c.turn.ensures.log_stays held (c.put_ahead.ensures.puts.keeps.placed (planned c.args.plan.now) (c.lines.invariant.placed placed)))

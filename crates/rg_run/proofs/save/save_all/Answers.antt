@@ -1,13 +1,19 @@
-use Rattle.std.proofs.Common.{List, [], ℕ, Err, inl, inr, sym, ◌∙◌, subst, ap, arith}
+use Rattle.std.proofs.Common.{◌≡◌, List, [], ℕ, Err, inl, inr, sym, ◌∙◌, subst, ap, arith}
 use Rattle.rg_host.proofs.Runs.{moments_then}
 use Rattle.rg_task.specs.State.{State}
 use Rattle.rg_run_spec.specs.Stores.{StaysOnCourse}
 use Rattle.rg_run.specs.Turning.{IsMidTurn}
+use Rattle.rg_run.specs.declared.due.Due.{Due}
+use Rattle.rg_run.specs.declared.due.Due.TheVariants.{Save, Nothing}
 use Rattle.rg_run.proofs.Called.{cause_none, cause_unput, cause_task, sustains_unput}
 use Rattle.rg_run.proofs.Gathering.{mid_held, mid_put, held_moments}
+use Rattle.rg_run.proofs.Logged.{files_held, log_held, held_then}
 use Rattle.rg_run.proofs.Saving.{due_saved}
 use Rattle.rg_run.proofs.Stepping.{due_steps, has_stopped}
 use Rattle.rg_run.proofs.save.save_all.Goals as goal
+
+due_not : ◌≡◌ {A = Due} Save Nothing → ⊥
+due_not is = cc
 
 pub returns-in-Err-clause-settles : goal.returns-in-Err-clause-settles
 returns-in-Err-clause-settles g c =
@@ -18,6 +24,7 @@ returns-in-Err-clause-settles g c =
       stopped = λ plan course offset item items start m. inl c.in-Err.ensures.faults;
       mid_turn = λ plan course offset item items start m. tt;
       done = λ plan runs. tt;
+      idle = λ is. absurd (due_not is);
     }
 
 pub returns-in-Err-clause-sustains : goal.returns-in-Err-clause-sustains
@@ -44,6 +51,7 @@ returns-in-Ok-save-clause-settles g c =
           subst (λ (l : List ℕ). IsMidTurn g.K.Task.view plan course offset item items start last l) (sym c.put_gathered.ensures.empty)
           (due_saved g.K.Task.view plan course offset item items start put last m2 (c.in-Ok-save.ensures.running plan m2.running) c.save.ensures.said (c.in-Ok-save.ensures.stored plan m2.running) (c.in-Ok-save.ensures.events plan m2.running) (c.in-Ok-save.ensures.saved plan m2.running));
       done = λ plan runs. c.in-Ok-save.ensures.saved plan (c.put_gathered.ensures.only.keeps.running plan runs);
+      idle = λ is. absurd (due_not is);
     }
 
 pub returns-in-Ok-save-clause-sustains : goal.returns-in-Ok-save-clause-sustains
@@ -52,6 +60,9 @@ returns-in-Ok-save-clause-sustains g c = record {
   placed = λ plan placed. c.in-Ok-save.ensures.placed plan (c.put_gathered.ensures.only.keeps.placed plan placed);
   going = λ going. c.in-Ok-save.ensures.going;
   goes = g.K.Task.view.goes_join c.args.task.now c.put_gathered.new.task c.save.new.self c.put_gathered.ensures.only.keeps.goes c.save.ensures.goes;
+  log = λ plan held placed holds. held_then g.K.Task.view plan held c.args.task.now c.put_gathered.new.task c.save.new.self
+      (files_held g.K.Task.view plan held c.args.task.now c.put_gathered.new.task c.put_gathered.ensures.only.files holds)
+      (log_held g.K.Task.view plan held (g.K.Task.view.at c.put_gathered.new.task).chunk c.put_gathered.new.task c.save.new.self (c.save.ensures.log_stays plan (c.put_gathered.ensures.only.keeps.placed plan placed)));
   disk_faults_grow = omega (arith, c.put_gathered.ensures.only.disk_faults_stay, c.save.ensures.disk_faults);
   out_faults_grow = omega (arith, c.put_gathered.ensures.only.out_faults_grow, c.save.ensures.out_faults);
 }
@@ -76,6 +87,7 @@ returns-in-Err-save-clause-settles g c =
           inr (has_stopped g.K.Task.view plan course put last m2.put (c.save.ensures.said ∙ m2.told) (due_steps g.K.Task.view plan course offset item items start put last m2 (c.save.ensures.within_step plan m2.running)));
       mid_turn = λ plan course offset item items start m. tt;
       done = λ plan runs. tt;
+      idle = λ is. absurd (due_not is);
     }
 
 pub returns-in-Err-save-clause-sustains : goal.returns-in-Err-save-clause-sustains
@@ -84,6 +96,9 @@ returns-in-Err-save-clause-sustains g c = record {
   placed = λ plan placed. tt;
   going = λ going. tt;
   goes = g.K.Task.view.goes_join c.args.task.now c.put_gathered.new.task c.save.new.self c.put_gathered.ensures.only.keeps.goes c.save.ensures.goes;
+  log = λ plan held placed holds. held_then g.K.Task.view plan held c.args.task.now c.put_gathered.new.task c.save.new.self
+      (files_held g.K.Task.view plan held c.args.task.now c.put_gathered.new.task c.put_gathered.ensures.only.files holds)
+      (log_held g.K.Task.view plan held (g.K.Task.view.at c.put_gathered.new.task).chunk c.put_gathered.new.task c.save.new.self (c.save.ensures.log_stays plan (c.put_gathered.ensures.only.keeps.placed plan placed)));
   disk_faults_grow = omega (arith, c.put_gathered.ensures.only.disk_faults_stay, c.save.ensures.disk_faults);
   out_faults_grow = omega (arith, c.put_gathered.ensures.only.out_faults_grow, c.save.ensures.out_faults);
 }

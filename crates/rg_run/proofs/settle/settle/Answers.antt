@@ -1,4 +1,4 @@
-use Rattle.std.proofs.Common.{sym, subst}
+use Rattle.std.proofs.Common.{refl, sym, subst}
 use Rattle.rg_host.proofs.Runs.{leaves_all-none}
 use Rattle.rg_run.specs.Calls.{Settles}
 use Rattle.rg_run.specs.declared.due.Due.{Due}
@@ -16,10 +16,11 @@ returns-in-Nothing-clause-settles g c =
       stopped = λ plan course offset item items start m. tt;
       mid_turn = λ plan course offset item items start m. m;
       done = λ plan runs. rw c.in-Nothing.is tt;
+      idle = λ is. (refl, refl, tt);
     }
 
 pub returns-in-Nothing-clause-sustains : goal.returns-in-Nothing-clause-sustains
-returns-in-Nothing-clause-sustains g c = sustains_none g.K.Task.view g.K.Task.disk_faults g.K.Task.out_faults _ c.args.task.now
+returns-in-Nothing-clause-sustains g c = sustains_none g.K.Task.view g.K.Task.disk_faults g.K.Task.out_faults _ g.met.K.Task.only_now g.met.K.Task.sinks c.args.task.now
 
 pub returns-in-Nothing-clause-cause : goal.returns-in-Nothing-clause-cause
 returns-in-Nothing-clause-cause g c = cause_none g.K.Task.view g.K.Task.disk_faults g.K.Task.out_faults _ c.args.task.now c.args.task.now

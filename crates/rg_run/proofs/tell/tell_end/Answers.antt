@@ -13,7 +13,7 @@ returns-in-Err-clause-puts g c = record {
 }
 
 pub returns-in-Err-clause-only : goal.returns-in-Err-clause-only
-returns-in-Err-clause-only g c = only_none g.K.Task.view g.K.Task.disk_faults g.K.Task.out_faults c.args.task.now
+returns-in-Err-clause-only g c = only_none g.K.Task.view g.K.Task.disk_faults g.K.Task.out_faults g.met.K.Task.only_now g.met.K.Task.sinks c.args.task.now
 
 pub returns-in-Ok-put-clause-puts : goal.returns-in-Ok-put-clause-puts
 returns-in-Ok-put-clause-puts g c =
@@ -26,7 +26,7 @@ returns-in-Ok-put-clause-puts g c =
     }
 
 pub returns-in-Ok-put-clause-only : goal.returns-in-Ok-put-clause-only
-returns-in-Ok-put-clause-only g c = record { keeps = c.put.ensures.keeps; disk_faults_stay = c.put.ensures.disk_faults; out_faults_grow = c.put.ensures.out_faults }
+returns-in-Ok-put-clause-only g c = record { keeps = c.put.ensures.keeps; files = c.put.ensures.leaves; disk_faults_stay = c.put.ensures.disk_faults; out_faults_grow = c.put.ensures.out_faults }
 
 pub returns-in-Err-put-clause-puts : goal.returns-in-Err-put-clause-puts
 returns-in-Err-put-clause-puts g c =
@@ -35,4 +35,4 @@ returns-in-Err-put-clause-puts g c =
     record { all = tt; part = (p.0, subst (λ (l : List ℕ). IsPrefix p.0 l) is p.1, p.2); leaves = c.put.ensures.leaves }
 
 pub returns-in-Err-put-clause-only : goal.returns-in-Err-put-clause-only
-returns-in-Err-put-clause-only g c = record { keeps = c.put.ensures.keeps; disk_faults_stay = c.put.ensures.disk_faults; out_faults_grow = c.put.ensures.out_faults }
+returns-in-Err-put-clause-only g c = record { keeps = c.put.ensures.keeps; files = c.put.ensures.leaves; disk_faults_stay = c.put.ensures.disk_faults; out_faults_grow = c.put.ensures.out_faults }

@@ -14,7 +14,7 @@ returns-in-Err-clause-puts g c = record {
 }
 
 pub returns-in-Err-clause-only : goal.returns-in-Err-clause-only
-returns-in-Err-clause-only g c = only_none g.K.Task.view g.K.Task.disk_faults g.K.Task.out_faults c.args.task.now
+returns-in-Err-clause-only g c = only_none g.K.Task.view g.K.Task.disk_faults g.K.Task.out_faults g.met.K.Task.only_now g.met.K.Task.sinks c.args.task.now
 
 pub returns-in-Ok-put-clause-puts : goal.returns-in-Ok-put-clause-puts
 returns-in-Ok-put-clause-puts g c =
@@ -28,4 +28,4 @@ returns-in-Ok-put-clause-puts g c =
     }
 
 pub returns-in-Ok-put-clause-only : goal.returns-in-Ok-put-clause-only
-returns-in-Ok-put-clause-only g c = record { keeps = c.put.ensures.keeps; disk_faults_stay = c.put.ensures.disk_faults; out_faults_grow = c.put.ensures.out_faults }
+returns-in-Ok-put-clause-only g c = record { keeps = c.put.ensures.keeps; files = c.put.ensures.leaves; disk_faults_stay = c.put.ensures.disk_faults; out_faults_grow = c.put.ensures.out_faults }

@@ -14,6 +14,7 @@ use Rattle.rg_run.proofs.Taking.{text_taken, long_taken, end_taken, none_taken, 
 use Rattle.rg_run.proofs.Texts.{text_no_lf, no_lf_cleaned, as_header, as_row, as_control}
 use Rattle.rg_run.proofs.Turned.{why_unread}
 use Rattle.rg_run.proofs.Turns.{line_goes, end_awaits, end_goes, unread}
+use Rattle.rg_run.proofs.Logged.{files_held}
 use Rattle.rg_run.proofs.turn.turn.Goals as goal
 
 pub answer-requires-clause-one_line : goal.answer-requires-clause-one_line
@@ -212,3 +213,23 @@ returns-in-Err-clause-cause g c =
     (λ is. c.next.ensures.cause (c.in-Err.is ∙ ap (λ v. Err v) is))
     (λ is. past_limit _ _ _ _ (none_taken _ _ _ _ _ c.next.follows.holds-at-none reading.Limit (c.in-Err.is ∙ ap (λ v. Err v) is)))
     c.stop_reading.ensures.stops.which
+
+-- over a legal log
+
+pub returns-then-is_header-clause-log_stays : goal.returns-then-is_header-clause-log_stays
+returns-then-is_header-clause-log_stays g c = λ held placed holds. files_held g.K.Task.view (planned c.args.plan.now) held c.args.task.now c.refuse.new.task c.refuse.ensures.files holds
+
+pub returns-in-Some-clause-log_stays : goal.returns-in-Some-clause-log_stays
+returns-in-Some-clause-log_stays g c = c.obey.ensures.log_stays (planned c.args.plan.now)
+
+pub returns-in-None-clause-log_stays : goal.returns-in-None-clause-log_stays
+returns-in-None-clause-log_stays g c = c.answer.ensures.log_stays
+
+pub returns-in-Ok-Long-clause-log_stays : goal.returns-in-Ok-Long-clause-log_stays
+returns-in-Ok-Long-clause-log_stays g c = λ held placed holds. files_held g.K.Task.view (planned c.args.plan.now) held c.args.task.now c.refuse-refused.new.task c.refuse-refused.ensures.files holds
+
+pub returns-in-Ok-End-clause-log_stays : goal.returns-in-Ok-End-clause-log_stays
+returns-in-Ok-End-clause-log_stays g c = c.finish.ensures.log_stays (planned c.args.plan.now)
+
+pub returns-in-Err-clause-log_stays : goal.returns-in-Err-clause-log_stays
+returns-in-Err-clause-log_stays g c = λ held placed holds. files_held g.K.Task.view (planned c.args.plan.now) held c.args.task.now c.stop_reading.new.task c.stop_reading.ensures.puts.files holds

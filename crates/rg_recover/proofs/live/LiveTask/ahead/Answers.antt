@@ -1,6 +1,12 @@
-use Rattle.std.proofs.Common.{inl, inr, Err, refl, sym, ◌∙◌, ap, arith}
+use Rattle.std.proofs.Common.{inl, inr, Err, refl, sym, ◌∙◌, ap, subst, arith}
 use Rattle.rg_reservoir.specs.Kept.{Base, view_of}
 use Rattle.rg_recover.proofs.TaskCauses.{same_fault, damaged_by, disk_by, ended_by, rose_first, ahead_faults, ahead_no_table}
+use Rattle.rg_reservoir.proofs.Peeking.{ok_not_err, err_is}
+use Rattle.rg_host.proofs.Runs.{leaves_all-none}
+use Rattle.rg_host.specs.Moments.{LeavesAll}
+use Rattle.rg_recover.specs.Living.{of_session, state_of}
+use Rattle.rg_recover.specs.declared.fault.TaskFault.TheVariants as session
+use Rattle.rg_task.specs.declared.fault.TaskFault.TheVariants as told
 use Rattle.rg_recover.proofs.live.LiveTask.ahead.Goals as goal
 
 pub returns-in-Ok-clause-running : goal.returns-in-Ok-clause-running
@@ -86,3 +92,24 @@ returns-in-Ok-clause-out_faults g c = c.ahead.ensures.out_faults
 
 pub returns-in-Err-clause-out_faults : goal.returns-in-Err-clause-out_faults
 returns-in-Err-clause-out_faults g c = c.ahead.ensures.out_faults
+
+pub returns-in-Ok-clause-over : goal.returns-in-Ok-clause-over
+returns-in-Ok-clause-over g c = λ over. absurd (ok_not_err _ session.Ended (c.in-Ok.ensures.ended.1 over))
+
+pub returns-in-Err-clause-over : goal.returns-in-Err-clause-over
+returns-in-Err-clause-over g c = λ over.
+    let stays = c.ahead.ensures.untouched (c.ahead.ensures.ended.1 over) in
+    let old = c.args.self.now.host.now in
+    record {
+      refused = ap (λ f. Err f) (c.task_fault.ensures ∙ ap of_session (err_is c.in-Err.fault session.Ended (c.in-Err.ensures.ended.1 over)));
+      at_stays = ap (λ h. state_of (g.H.Host.now h) c.ahead.new.self) stays.1 ∙ ap (λ s. state_of (g.H.Host.now old) s) stays.0;
+      leaves =
+          let q = subst (λ h. LeavesAll g.H.Host.now g.H.Host.may g.H.Host.clock g.H.Host.since g.H.Host.said old h) (sym stays.1)
+          (leaves_all-none g.H.Host.now g.H.Host.may g.H.Host.clock g.H.Host.since g.H.Host.said old (λ t u m le at. g.met.H.Host.sinks _ t u m le at) (λ m at. g.met.H.Host.only_now _ m at)) in
+          record {
+            now_stays = q.now_stays;
+            may_stays = q.may_stays;
+            said_stays = q.said_stays;
+            moments = record { later = q.moments.later; each = q.moments.each; nothing_else = q.moments.nothing_else; keeps = q.moments.keeps; adds = q.moments.adds };
+          };
+    }

@@ -1,9 +1,15 @@
-use Rattle.std.proofs.Common.{inl, inr, Option, Err, refl, sym, ◌∙◌, ap, arith}
+use Rattle.std.proofs.Common.{inl, inr, Option, Err, refl, sym, ◌∙◌, ap, subst, arith}
 use Rattle.rg_host.specs.Image.{Image}
 use Rattle.rg_reservoir.specs.Kept.{Base, base, stored}
 use Rattle.rg_recover.specs.Sessions.{Sitting}
 use Rattle.rg_recover.proofs.TaskCauses.{same_fault, bad_by, damaged_by, disk_by, ended_by, rose_first, rose_second}
 use Rattle.rg_recover.proofs.Reaching.{reaching, slots_on}
+use Rattle.rg_reservoir.proofs.Peeking.{ok_not_err, err_is}
+use Rattle.rg_host.proofs.Runs.{leaves_all-none}
+use Rattle.rg_host.specs.Moments.{LeavesAll}
+use Rattle.rg_recover.specs.Living.{of_session, state_of}
+use Rattle.rg_recover.specs.declared.fault.TaskFault.TheVariants as session
+use Rattle.rg_task.specs.declared.fault.TaskFault.TheVariants as told
 use Rattle.rg_recover.proofs.live.LiveTask.line.Goals as goal
 
 pub returns-in-Ok-clause-reply : goal.returns-in-Ok-clause-reply
@@ -109,3 +115,34 @@ invariant_of-self g c =
       reaches = reaching s (g.H.Host.now host) c.line.ensures.reaches
           (slots_on p.session.now s (g.H.Host.now p.host.now) (g.H.Host.now host) p.reaches (λ ended. ap (λ (x : Sitting g.row.T.Denot). x.ended) (c.line.ensures.untouched (c.line.ensures.ended.1 ended)).0) c.line.ensures.slots_reach);
     }
+
+pub returns-in-Ok-clause-over : goal.returns-in-Ok-clause-over
+returns-in-Ok-clause-over g c = λ over. absurd (ok_not_err _ session.Ended (c.in-Ok.ensures.ended.1 over))
+
+pub returns-in-Err-clause-over : goal.returns-in-Err-clause-over
+returns-in-Err-clause-over g c = λ over.
+    let stays = c.line.ensures.untouched (c.line.ensures.ended.1 over) in
+    let old = c.args.self.now.host.now in
+    record {
+      refused = ap (λ f. Err f) (c.task_fault.ensures ∙ ap of_session (err_is c.in-Err.fault session.Ended (c.in-Err.ensures.ended.1 over)));
+      at_stays = ap (λ h. state_of (g.H.Host.now h) c.line.new.self) stays.1 ∙ ap (λ s. state_of (g.H.Host.now old) s) stays.0;
+      leaves =
+          let q = subst (λ h. LeavesAll g.H.Host.now g.H.Host.may g.H.Host.clock g.H.Host.since g.H.Host.said old h) (sym stays.1)
+          (leaves_all-none g.H.Host.now g.H.Host.may g.H.Host.clock g.H.Host.since g.H.Host.said old (λ t u m le at. g.met.H.Host.sinks _ t u m le at) (λ m at. g.met.H.Host.only_now _ m at)) in
+          record {
+            now_stays = q.now_stays;
+            may_stays = q.may_stays;
+            said_stays = q.said_stays;
+            moments = record { later = q.moments.later; each = q.moments.each; nothing_else = q.moments.nothing_else; keeps = q.moments.keeps; adds = q.moments.adds };
+          };
+    }
+
+pub returns-in-Ok-clause-log_stays : goal.returns-in-Ok-clause-log_stays
+returns-in-Ok-clause-log_stays g c = λ plan placed.
+    let w = c.line.ensures.log_stays plan placed.reservoir in
+    record { moments = record { later = w.moments.later; each = w.moments.each; nothing_else = w.moments.nothing_else; keeps = w.moments.keeps; adds = w.moments.adds }; left = w.left }
+
+pub returns-in-Err-clause-log_stays : goal.returns-in-Err-clause-log_stays
+returns-in-Err-clause-log_stays g c = λ plan placed.
+    let w = c.line.ensures.log_stays plan placed.reservoir in
+    record { moments = record { later = w.moments.later; each = w.moments.each; nothing_else = w.moments.nothing_else; keeps = w.moments.keeps; adds = w.moments.adds }; left = w.left }

@@ -27,6 +27,7 @@ returns-clause-keeps g c =
     let l = c.put_all.ensures.leaves in
     record {
       at_stays = ap (λ (o : Option Image). state_of o s) l.now_stays;
+      roomy = λ is. is;
       running = λ plan is. running_still g.H.Host.now g.H.Host.may g.H.Host.clock g.H.Host.since plan g.T.Table.tells g.T.Table.cell g.T.Table.named g.T.Table.there old new s l is;
       node = λ plan n is. node_still g.H.Host.now g.H.Host.may g.H.Host.clock g.H.Host.since plan n (g.T.Table.tells s.engine.table) (g.T.Table.cell s.engine.table) s.reservoir s.engine old new l is;
       placed = λ plan is. placed_still g.H.Host.now g.H.Host.may g.H.Host.clock g.H.Host.since plan s.reservoir s.engine old new l is;

@@ -1,4 +1,4 @@
-use Rattle.std.proofs.Common.{◌≡◌, ⊎_elim, inl, inr, refl, ap, rules}
+use Rattle.std.proofs.Common.{◌≡◌, None, ⊎_elim, inl, inr, refl, ap, rules}
 use Rattle.rg_bytes.specs.Counts.{Rose}
 use Rattle.rg_reservoir.specs.declared.reservoir.Reservoir.{Reservoir}
 use Rattle.rg_recover.specs.Sessions.{Sitting}
@@ -11,6 +11,9 @@ use Rattle.rg_recover.proofs.Running.{runs_still}
 use Rattle.rg_recover.proofs.Keeping.{keeps_still}
 use Rattle.rg_recover.proofs.Sparing.{spared_still}
 use Rattle.rg_recover.proofs.Stays.{slots_reach}
+use Rattle.rg_reservoir.specs.Kept.{opened}
+use Rattle.rg_open.specs.Stores.{store_of}
+use Rattle.rg_recover.proofs.LogHeld.{step_log, still_log}
 use Rattle.rg_recover.proofs.session.Session.commit.Goals as goal
 
 pub commit_open-requires : goal.commit_open-requires
@@ -193,3 +196,17 @@ returns-in-Err-Memory-clause-spared g c = c.commit_open.ensures.stores.spared
 
 pub returns-in-Err-clause-spared : goal.returns-in-Err-clause-spared
 returns-in-Err-clause-spared g c = c.commit_open.ensures.stores.spared
+
+-- over a legal log
+
+pub returns-then-self-clause-log_stays : goal.returns-then-self-clause-log_stays
+returns-then-self-clause-log_stays g c = λ plan log. still_log g.H.Host.now g.H.Host.may g.H.Host.clock g.H.Host.since g.H.Host.said g.met.H.Host.only_now g.met.H.Host.sinks (store_of plan) (opened c.args.self.now.reservoir) c.args.host.now
+
+pub returns-in-Ok-clause-log_stays : goal.returns-in-Ok-clause-log_stays
+returns-in-Ok-clause-log_stays g c = rw (← c.self.view_is) (λ plan log. step_log g.H.Host.now g.H.Host.may g.H.Host.clock g.H.Host.since g.H.Host.said (store_of plan) None (opened c.self.inside.reservoir) c.args.host.now c.commit_open.new.host (c.commit_open.ensures.stores.within plan None log))
+
+pub returns-in-Err-Memory-clause-log_stays : goal.returns-in-Err-Memory-clause-log_stays
+returns-in-Err-Memory-clause-log_stays g c = rw (← c.self.view_is) (λ plan log. step_log g.H.Host.now g.H.Host.may g.H.Host.clock g.H.Host.since g.H.Host.said (store_of plan) None (opened c.self.inside.reservoir) c.args.host.now c.commit_open.new.host (c.commit_open.ensures.stores.within plan None log))
+
+pub returns-in-Err-clause-log_stays : goal.returns-in-Err-clause-log_stays
+returns-in-Err-clause-log_stays g c = rw (← c.self.view_is) (λ plan log. step_log g.H.Host.now g.H.Host.may g.H.Host.clock g.H.Host.since g.H.Host.said (store_of plan) None (opened c.self.inside.reservoir) c.args.host.now c.commit_open.new.host (c.commit_open.ensures.stores.within plan None log))

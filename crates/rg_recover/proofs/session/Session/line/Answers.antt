@@ -1,4 +1,4 @@
-use Rattle.std.proofs.Common.{false, List, Err, inl, ap, sym, refl, ◌∙◌, arith}
+use Rattle.std.proofs.Common.{false, None, List, Err, inl, ap, sym, refl, ◌∙◌, arith}
 use Rattle.rg_metric.specs.declared.answer.Answer.{Answer}
 use Rattle.rg_reservoir.specs.Kept.{opened}
 use Rattle.rg_run_spec.specs.Verdicts.{Verdict, accepted_after, reply_of}
@@ -11,6 +11,7 @@ use Rattle.rg_recover.proofs.Running.{runs_still}
 use Rattle.rg_recover.proofs.Keeping.{keeps_still}
 use Rattle.rg_recover.proofs.Stays.{slots_reach}
 use Rattle.rg_recover.proofs.Within.{still_within, still_stored}
+use Rattle.rg_recover.proofs.LogHeld.{step_log, still_log}
 use Rattle.rg_recover.proofs.session.Session.line.Goals as goal
 
 pub returns-in-Ok-Refused-clause-reply : goal.returns-in-Ok-Refused-clause-reply
@@ -201,3 +202,20 @@ returns-in-Ok-clause-keeps g c = rw (← c.self.view_is) (λ told keeps.
     let new : Sitting g.row.T.Denot = record { reservoir = c.take_in.new.reservoir; engine = c.take_in.new.engine; texts = c.self.inside.texts; grace = c.self.inside.grace; slots = c.self.inside.slots; keep = c.self.inside.keep; saved = c.self.inside.saved; ended = false } in
     keeps_still (g.H.Host.now h) (g.H.Host.now then) (g.H.Host.may h) (g.H.Host.may then) g.T.Table.cell g.T.Table.named g.T.Table.there s new keeps
     c.in-Ok.ensures.takes.slots (c.take_in.ensures.takes.changed.since told) refl refl refl refl c.take_in.ensures.takes.log.more)
+
+-- over a legal log
+
+pub returns-then-self-clause-log_stays : goal.returns-then-self-clause-log_stays
+returns-then-self-clause-log_stays g c = λ plan log. still_log g.H.Host.now g.H.Host.may g.H.Host.clock g.H.Host.since g.H.Host.said g.met.H.Host.only_now g.met.H.Host.sinks (store_of plan) (opened c.args.self.now.reservoir) c.args.host.now
+
+pub returns-in-Ok-Refused-clause-log_stays : goal.returns-in-Ok-Refused-clause-log_stays
+returns-in-Ok-Refused-clause-log_stays g c = λ plan log. still_log g.H.Host.now g.H.Host.may g.H.Host.clock g.H.Host.since g.H.Host.said g.met.H.Host.only_now g.met.H.Host.sinks (store_of plan) (opened c.args.self.now.reservoir) c.args.host.now
+
+pub returns-in-Err-clause-log_stays : goal.returns-in-Err-clause-log_stays
+returns-in-Err-clause-log_stays g c = λ plan log. still_log g.H.Host.now g.H.Host.may g.H.Host.clock g.H.Host.since g.H.Host.said g.met.H.Host.only_now g.met.H.Host.sinks (store_of plan) (opened c.args.self.now.reservoir) c.args.host.now
+
+pub returns-in-Ok-clause-log_stays : goal.returns-in-Ok-clause-log_stays
+returns-in-Ok-clause-log_stays g c = rw (← c.self.view_is) (λ plan log. step_log g.H.Host.now g.H.Host.may g.H.Host.clock g.H.Host.since g.H.Host.said (store_of plan) None (opened c.self.inside.reservoir) c.args.host.now c.take_in.new.host (c.take_in.ensures.takes.within_step plan None log))
+
+pub returns-in-Err-take_in-clause-log_stays : goal.returns-in-Err-take_in-clause-log_stays
+returns-in-Err-take_in-clause-log_stays g c = rw (← c.self.view_is) (λ plan log. step_log g.H.Host.now g.H.Host.may g.H.Host.clock g.H.Host.since g.H.Host.said (store_of plan) None (opened c.self.inside.reservoir) c.args.host.now c.take_in.new.host (c.take_in.ensures.takes.within_step plan None log))

@@ -23,6 +23,7 @@ use Rattle.rg_recover.proofs.Placed.{placed_beside}
 use Rattle.rg_recover.proofs.Saved.{mid_is_stepped}
 use Rattle.rg_recover.proofs.Sparing.{spared_still, spared_then, spares_both, spares_then}
 use Rattle.rg_recover.proofs.Within.{still_within, still_stored, within_more}
+use Rattle.rg_recover.proofs.LogHeld.{still_log, log_then}
 use Rattle.rg_recover.proofs.session.Session.save.Goals as goal
 
 pub returns-in-Err-clause-within_step : goal.returns-in-Err-clause-within_step
@@ -164,3 +165,17 @@ returns-in-Ok-clause-refused g c =
     IfErr-weaker c.write_checkpoint.result _ _ (λ fault left.
     spares_then (λ slot. IsSpared g.H.Host.now g.H.Host.may g.H.Host.clock g.H.Host.since slot mid new) (λ slot. IsSpared g.H.Host.now g.H.Host.may g.H.Host.clock g.H.Host.since slot h new) c.commit.new.self.keep c.args.self.now.keep fault c.commit.ensures.stays.2
     (λ slot below second. spared_then g.H.Host.now g.H.Host.may g.H.Host.clock g.H.Host.since slot h mid new below c.in-Ok.ensures.slots_stay (c.commit.ensures.spared slot below) second) left.spares) c.write_checkpoint.ensures.fault
+
+-- over a legal log
+
+pub returns-then-self-clause-log_stays : goal.returns-then-self-clause-log_stays
+returns-then-self-clause-log_stays g c = λ plan log. still_log g.H.Host.now g.H.Host.may g.H.Host.clock g.H.Host.since g.H.Host.said g.met.H.Host.only_now g.met.H.Host.sinks (store_of plan) (opened c.args.self.now.reservoir) c.args.host.now
+
+pub returns-then-is_saved-clause-log_stays : goal.returns-then-is_saved-clause-log_stays
+returns-then-is_saved-clause-log_stays g c = λ plan log. still_log g.H.Host.now g.H.Host.may g.H.Host.clock g.H.Host.since g.H.Host.said g.met.H.Host.only_now g.met.H.Host.sinks (store_of plan) (opened c.args.self.now.reservoir) c.args.host.now
+
+pub returns-in-Err-clause-log_stays : goal.returns-in-Err-clause-log_stays
+returns-in-Err-clause-log_stays g c = c.commit.ensures.log_stays
+
+pub returns-in-Ok-clause-log_stays : goal.returns-in-Ok-clause-log_stays
+returns-in-Ok-clause-log_stays g c = λ plan log. log_then g.H.Host.now g.H.Host.may g.H.Host.clock g.H.Host.since g.H.Host.said (store_of plan) (opened c.args.self.now.reservoir) c.args.host.now c.commit.new.host c.write_checkpoint.new.host (c.commit.ensures.log_stays plan log) (c.write_checkpoint.ensures.log_stays plan)

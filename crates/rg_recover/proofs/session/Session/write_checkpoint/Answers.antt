@@ -3,14 +3,15 @@ use Rattle.rg_bytes.specs.Counts.{Rose}
 use Rattle.rg_checkpoint.specs.declared.base.Checkpoint.{Checkpoint}
 use Rattle.rg_host.specs.Image.{Becomes}
 use Rattle.rg_open.specs.Stores.{store_of}
-use Rattle.rg_recover.specs.Saving.{IsByRule}
+use Rattle.rg_recover.specs.Saving.{IsByRule, Turning, slot_for}
 use Rattle.rg_recover.specs.Sessions.{Sitting}
 use Rattle.rg_recover.specs.Sparing.{IsSpared}
 use Rattle.rg_recover.proofs.Checkpointing.{chosen_within, chosen_running}
-use Rattle.rg_recover.proofs.Choosing.{marks_rows, written_as, written_rule}
+use Rattle.rg_recover.proofs.Choosing.{marks_rows, slot_below, written_as, written_rule}
 use Rattle.rg_recover.proofs.Sparing.{spared_still}
 use Rattle.rg_recover.proofs.Within.{still_within}
 use Rattle.rg_recover.proofs.Written.{left_unchosen, left_unput, written_keeps, written_spares}
+use Rattle.rg_recover.proofs.LogHeld.{still_log, slot_log}
 use Rattle.rg_recover.proofs.session.Session.write_checkpoint.Goals as goal
 
 pub returns-in-Err-clause-runs : goal.returns-in-Err-clause-runs
@@ -113,3 +114,18 @@ returns-clause-fault g c = rw (← c.self.view_is) (
     let unput = c.in-Err-put_payload.ensures.fault in
     left_unput g.T.Table.tells g.T.Table.faults g.T.Table.cell g.T.Table.named g.T.Table.there (λ slot. IsSpared g.H.Host.now g.H.Host.may g.H.Host.clock g.H.Host.since slot h n) (Rose (g.H.Host.disk_faults h) (g.H.Host.disk_faults n)) s t c.in-Err-put_payload.fault refl c.choose_payload.ensures.engine c.in-Ok.payload
     c.in-Ok.ensures.kept unput.0 unput.1 (λ slot apart. written_spares g.H.Host.now g.H.Host.may g.H.Host.clock g.H.Host.since g.H.Host.said g.H.Host.disk_faults g.H.Host.out_faults i.keep i.slots c.in-Ok.payload h n c.put_payload.ensures.writes slot apart))
+
+-- whatever the slots hold
+
+pub returns-in-Err-clause-log_stays : goal.returns-in-Err-clause-log_stays
+returns-in-Err-clause-log_stays g c = λ plan. still_log g.H.Host.now g.H.Host.may g.H.Host.clock g.H.Host.since g.H.Host.said g.met.H.Host.only_now g.met.H.Host.sinks (store_of plan) [] c.args.host.now
+
+pub returns-clause-log_stays : goal.returns-clause-log_stays
+returns-clause-log_stays g c =
+    let i = c.self.inside in
+    λ plan. slot_log g.H.Host.now g.H.Host.may g.H.Host.clock g.H.Host.since g.H.Host.said plan (slot_for i.keep c.in-Ok.payload) (Turning i.slots c.in-Ok.payload) c.args.host.now c.put_payload.new.host (slot_below i.slots i.keep c.in-Ok.payload c.self.invariant.keep c.in-Ok.ensures.kept) c.put_payload.ensures.writes.writes
+
+pub returns-in-Ok-put_payload-clause-log_stays : goal.returns-in-Ok-put_payload-clause-log_stays
+returns-in-Ok-put_payload-clause-log_stays g c =
+    let i = c.self.inside in
+    λ plan. slot_log g.H.Host.now g.H.Host.may g.H.Host.clock g.H.Host.since g.H.Host.said plan (slot_for i.keep c.in-Ok.payload) (Turning i.slots c.in-Ok.payload) c.args.host.now c.put_payload.new.host (slot_below i.slots i.keep c.in-Ok.payload c.self.invariant.keep c.in-Ok.ensures.kept) c.put_payload.ensures.writes.writes

@@ -1,6 +1,6 @@
 use Rattle.std.proofs.Common.{◌≡◌, ◌∷◌, [], ◌≤◌, ◌+◌, ℕ, List, Err, true, false, arith, sym, ◌∙◌, ap, subst}
 use Rattle.std.proofs.lemmas.Bool.{ltb-true, ltb-false}
-use Rattle.rg_host.specs.Moments.{Moments}
+use Rattle.rg_host.specs.Moments.{Moments, LeavesFiles}
 use Rattle.rg_host.proofs.Runs.{moments_then}
 use Rattle.rg_config.specs.Plans.{planned}
 use Rattle.rg_run_spec.specs.Ahead.{after_line}
@@ -15,6 +15,9 @@ use Rattle.rg_run.proofs.Called.{turn_is}
 use Rattle.rg_run.proofs.Faulting.{task_of, write_of, memory_of, memory_write, obey_others}
 use Rattle.rg_run.proofs.Gathering.{mid_held}
 use Rattle.rg_run.proofs.Replied.{still_on_course, passed, passed_events, taken_moments, taken_held, mid_taken, then_awaits}
+use Rattle.rg_run.specs.Logs.{StaysHeld}
+use Rattle.rg_run.proofs.Idle.{idle_still, idle_due}
+use Rattle.rg_run.proofs.Logged.{no_files, files_of, files_join, files_held, log_held, held_then}
 use Rattle.rg_run.proofs.turning.Turning.answer.Goals as goal
 
 pub returns-then-is_passed-clause-moments : goal.returns-then-is_passed-clause-moments
@@ -331,3 +334,109 @@ returns-in-Err-tell-clause-disk_faults g c = omega (arith, c.make_way.ensures.on
 
 pub returns-in-Err-tell-clause-out_faults : goal.returns-in-Err-tell-clause-out_faults
 returns-in-Err-tell-clause-out_faults g c = omega (arith, c.make_way.ensures.only.out_faults_grow, c.line.ensures.out_faults, c.settle.ensures.sustains.out_faults_grow, c.stop-in-Err-tell.ensures.only.out_faults_grow)
+
+-- over a legal log
+
+pub returns-then-is_passed-clause-log_stays : goal.returns-then-is_passed-clause-log_stays
+returns-then-is_passed-clause-log_stays g c = λ held placed holds. files_held g.K.Task.view (planned c.args.plan.now) held c.args.task.now c.args.task.now (no_files g.K.Task.view g.met.K.Task.only_now g.met.K.Task.sinks c.args.task.now) holds
+
+pub returns-in-Err-clause-log_stays : goal.returns-in-Err-clause-log_stays
+returns-in-Err-clause-log_stays g c = λ held placed holds. files_held g.K.Task.view (planned c.args.plan.now) held c.args.task.now c.make_way.new.task c.make_way.ensures.only.files holds
+
+pub returns-in-Err-line-clause-log_stays : goal.returns-in-Err-line-clause-log_stays
+returns-in-Err-line-clause-log_stays g c = λ held placed holds.
+    let plan = planned c.args.plan.now in
+    let old = c.args.task.now in
+    let mid = c.make_way.new.task in
+    let taken = c.line.new.self in
+    held_then g.K.Task.view plan held old taken c.stop.new.task
+    (held_then g.K.Task.view plan held old mid taken (files_held g.K.Task.view plan held old mid c.make_way.ensures.only.files holds)
+    (log_held g.K.Task.view plan held (g.K.Task.view.at mid).chunk mid taken (c.line.ensures.log_stays plan (c.make_way.ensures.only.keeps.placed plan placed))))
+    (files_held g.K.Task.view plan held taken c.stop.new.task c.stop.ensures.only.files)
+
+pub returns-in-Err-settle-clause-log_stays : goal.returns-in-Err-settle-clause-log_stays
+returns-in-Err-settle-clause-log_stays g c = λ held placed holds.
+    let plan = planned c.args.plan.now in
+    let old = c.args.task.now in
+    let mid = c.make_way.new.task in
+    let taken = c.line.new.self in
+    held_then g.K.Task.view plan held old taken c.settle.new.task
+    (held_then g.K.Task.view plan held old mid taken (files_held g.K.Task.view plan held old mid c.make_way.ensures.only.files holds)
+    (log_held g.K.Task.view plan held (g.K.Task.view.at mid).chunk mid taken (c.line.ensures.log_stays plan (c.make_way.ensures.only.keeps.placed plan placed))))
+    (c.settle.ensures.sustains.log plan held (c.in-Ok-line.ensures.placed plan (c.make_way.ensures.only.keeps.placed plan placed)))
+
+pub returns-in-Ok-tell-clause-log_stays : goal.returns-in-Ok-tell-clause-log_stays
+returns-in-Ok-tell-clause-log_stays g c = λ held placed holds.
+    let plan = planned c.args.plan.now in
+    let old = c.args.task.now in
+    let mid = c.make_way.new.task in
+    let taken = c.line.new.self in
+    subst (λ (x : g.row.K.Denot). StaysHeld g.K.Task.view plan held old x) (sym c.reuse.ensures)
+    (held_then g.K.Task.view plan held old taken c.settle.new.task
+    (held_then g.K.Task.view plan held old mid taken (files_held g.K.Task.view plan held old mid c.make_way.ensures.only.files holds)
+    (log_held g.K.Task.view plan held (g.K.Task.view.at mid).chunk mid taken (c.line.ensures.log_stays plan (c.make_way.ensures.only.keeps.placed plan placed))))
+    (c.settle.ensures.sustains.log plan held (c.in-Ok-line.ensures.placed plan (c.make_way.ensures.only.keeps.placed plan placed))))
+
+pub returns-in-Err-tell-clause-log_stays : goal.returns-in-Err-tell-clause-log_stays
+returns-in-Err-tell-clause-log_stays g c = λ held placed holds.
+    let plan = planned c.args.plan.now in
+    let old = c.args.task.now in
+    let mid = c.make_way.new.task in
+    let taken = c.line.new.self in
+    held_then g.K.Task.view plan held old c.settle.new.task c.stop-in-Err-tell.new.task
+    (held_then g.K.Task.view plan held old taken c.settle.new.task
+    (held_then g.K.Task.view plan held old mid taken (files_held g.K.Task.view plan held old mid c.make_way.ensures.only.files holds)
+    (log_held g.K.Task.view plan held (g.K.Task.view.at mid).chunk mid taken (c.line.ensures.log_stays plan (c.make_way.ensures.only.keeps.placed plan placed))))
+    (c.settle.ensures.sustains.log plan held (c.in-Ok-line.ensures.placed plan (c.make_way.ensures.only.keeps.placed plan placed))))
+    (files_held g.K.Task.view plan held c.settle.new.task c.stop-in-Err-tell.new.task c.stop-in-Err-tell.ensures.only.files)
+
+-- where nothing is due and there is room
+
+pub returns-then-is_passed-clause-idle : goal.returns-then-is_passed-clause-idle
+returns-then-is_passed-clause-idle g c = λ idle. no_files g.K.Task.view g.met.K.Task.only_now g.met.K.Task.sinks c.args.task.now
+
+pub returns-in-Err-clause-idle : goal.returns-in-Err-clause-idle
+returns-in-Err-clause-idle g c = λ idle. c.make_way.ensures.only.files
+
+pub returns-in-Err-line-clause-idle : goal.returns-in-Err-line-clause-idle
+returns-in-Err-line-clause-idle g c = λ idle.
+    let plan = planned c.args.plan.now in
+    let old = c.args.task.now in
+    let mid = c.make_way.new.task in
+    let taken = c.line.new.self in
+    let here = idle_still g.K.Task.view plan c.args.self.now.offset c.args.line.now old mid c.make_way.ensures.only.keeps idle in
+    files_join g.K.Task.view old taken c.stop.new.task (files_join g.K.Task.view old mid taken c.make_way.ensures.only.files (files_of g.K.Task.view mid taken (c.line.ensures.roomy here.room).0)) c.stop.ensures.only.files
+
+pub returns-in-Err-settle-clause-idle : goal.returns-in-Err-settle-clause-idle
+returns-in-Err-settle-clause-idle g c = λ idle.
+    let plan = planned c.args.plan.now in
+    let old = c.args.task.now in
+    let mid = c.make_way.new.task in
+    let taken = c.line.new.self in
+    let here = idle_still g.K.Task.view plan c.args.self.now.offset c.args.line.now old mid c.make_way.ensures.only.keeps idle in
+    let none = idle_due g.K.Task.view plan c.args.self.now.offset c.args.line.now mid taken c.due_at-due.result c.count-before.result c.count.result c.due_at-due.ensures c.count-before.ensures c.count.ensures (c.in-Ok-line.ensures.events plan here.running) here in
+    absurd ((c.in-Err-settle.ensures.settles.idle none).2)
+
+pub returns-in-Ok-tell-clause-idle : goal.returns-in-Ok-tell-clause-idle
+returns-in-Ok-tell-clause-idle g c = λ idle.
+    let plan = planned c.args.plan.now in
+    let old = c.args.task.now in
+    let mid = c.make_way.new.task in
+    let taken = c.line.new.self in
+    let here = idle_still g.K.Task.view plan c.args.self.now.offset c.args.line.now old mid c.make_way.ensures.only.keeps idle in
+    let none = idle_due g.K.Task.view plan c.args.self.now.offset c.args.line.now mid taken c.due_at-due.result c.count-before.result c.count.result c.due_at-due.ensures c.count-before.ensures c.count.ensures (c.in-Ok-line.ensures.events plan here.running) here in
+    subst (λ (x : g.row.K.Denot). LeavesFiles g.K.Task.view.now g.K.Task.view.may g.K.Task.view.clock g.K.Task.view.since old x) (sym (c.reuse.ensures ∙ (c.settle.ensures.settles.idle none).0))
+    (files_join g.K.Task.view old mid taken c.make_way.ensures.only.files (files_of g.K.Task.view mid taken (c.line.ensures.roomy here.room).0))
+
+pub returns-in-Err-tell-clause-idle : goal.returns-in-Err-tell-clause-idle
+returns-in-Err-tell-clause-idle g c = λ idle.
+    let plan = planned c.args.plan.now in
+    let old = c.args.task.now in
+    let mid = c.make_way.new.task in
+    let taken = c.line.new.self in
+    let here = idle_still g.K.Task.view plan c.args.self.now.offset c.args.line.now old mid c.make_way.ensures.only.keeps idle in
+    let none = idle_due g.K.Task.view plan c.args.self.now.offset c.args.line.now mid taken c.due_at-due.result c.count-before.result c.count.result c.due_at-due.ensures c.count-before.ensures c.count.ensures (c.in-Ok-line.ensures.events plan here.running) here in
+    let before = files_join g.K.Task.view old mid taken c.make_way.ensures.only.files (files_of g.K.Task.view mid taken (c.line.ensures.roomy here.room).0) in
+    files_join g.K.Task.view old c.settle.new.task c.stop-in-Err-tell.new.task
+    (subst (λ (x : g.row.K.Denot). LeavesFiles g.K.Task.view.now g.K.Task.view.may g.K.Task.view.clock g.K.Task.view.since old x) (sym (c.settle.ensures.settles.idle none).0) before)
+    c.stop-in-Err-tell.ensures.only.files

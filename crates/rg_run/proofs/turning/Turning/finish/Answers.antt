@@ -14,6 +14,7 @@ use Rattle.rg_run.proofs.Causes.{if_err_by}
 use Rattle.rg_run.proofs.Ending.{save_moments, save_stopped, end_moments, end_done}
 use Rattle.rg_run.proofs.Faulting.{same_task}
 use Rattle.rg_run.proofs.Gathering.{awaiting_held, awaiting_put, held_moments}
+use Rattle.rg_run.proofs.Logged.{files_held, log_held, held_then}
 use Rattle.rg_run.proofs.turning.Turning.finish.Goals as goal
 
 pub returns-in-Err-clause-moments : goal.returns-in-Err-clause-moments
@@ -123,3 +124,20 @@ pub returns-clause-log : goal.returns-clause-log
 returns-clause-log g c =
     g.K.Task.view.goes_join c.args.task.now c.put_gathered.new.task c.tell_end.new.task c.put_gathered.ensures.only.keeps.goes
     (g.K.Task.view.goes_join c.put_gathered.new.task c.save.new.self c.tell_end.new.task c.save.ensures.goes c.tell_end.ensures.only.keeps.goes)
+
+-- over a legal log
+
+pub returns-in-Err-clause-log_stays : goal.returns-in-Err-clause-log_stays
+returns-in-Err-clause-log_stays g c = λ plan held placed holds. files_held g.K.Task.view plan held c.args.task.now c.put_gathered.new.task c.put_gathered.ensures.only.files holds
+
+pub returns-in-Err-save-clause-log_stays : goal.returns-in-Err-save-clause-log_stays
+returns-in-Err-save-clause-log_stays g c = λ plan held placed holds.
+    held_then g.K.Task.view plan held c.args.task.now c.put_gathered.new.task c.save.new.self (files_held g.K.Task.view plan held c.args.task.now c.put_gathered.new.task c.put_gathered.ensures.only.files holds)
+    (log_held g.K.Task.view plan held (g.K.Task.view.at c.put_gathered.new.task).chunk c.put_gathered.new.task c.save.new.self (c.save.ensures.log_stays plan (c.put_gathered.ensures.only.keeps.placed plan placed)))
+
+pub returns-clause-log_stays : goal.returns-clause-log_stays
+returns-clause-log_stays g c = λ plan held placed holds.
+    held_then g.K.Task.view plan held c.args.task.now c.save.new.self c.tell_end.new.task
+    (held_then g.K.Task.view plan held c.args.task.now c.put_gathered.new.task c.save.new.self (files_held g.K.Task.view plan held c.args.task.now c.put_gathered.new.task c.put_gathered.ensures.only.files holds)
+    (log_held g.K.Task.view plan held (g.K.Task.view.at c.put_gathered.new.task).chunk c.put_gathered.new.task c.save.new.self (c.save.ensures.log_stays plan (c.put_gathered.ensures.only.keeps.placed plan placed))))
+    (files_held g.K.Task.view plan held c.save.new.self c.tell_end.new.task c.tell_end.ensures.only.files)

@@ -15,3 +15,6 @@ returns-clause-awaits g c = λ plan course items a.
 
 pub returns-clause-keeps : goal.returns-clause-keeps
 returns-clause-keeps g c = c.put_gathered.ensures.only.keeps
+
+pub returns-clause-files : goal.returns-clause-files
+returns-clause-files g c = c.put_gathered.ensures.only.files

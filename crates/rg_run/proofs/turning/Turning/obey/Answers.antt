@@ -13,6 +13,7 @@ use Rattle.rg_run.proofs.Called.{turn_is, ended_before}
 use Rattle.rg_run.proofs.Faulting.{memory_of, memory_write, obey_others}
 use Rattle.rg_run.proofs.Gathering.{mid_held}
 use Rattle.rg_run.proofs.Replied.{still_on_course, passed, passed_events, obeyed_mid, obeyed_awaits}
+use Rattle.rg_run.proofs.Logged.{no_files, files_held, held_then}
 use Rattle.rg_run.proofs.turning.Turning.obey.Goals as goal
 
 pub returns-then-is_passed-clause-moments : goal.returns-then-is_passed-clause-moments
@@ -238,3 +239,25 @@ returns-in-Err-clause-disk_faults g c = c.load.ensures.sustains.disk_faults_grow
 
 pub returns-in-Err-clause-out_faults : goal.returns-in-Err-clause-out_faults
 returns-in-Err-clause-out_faults g c = c.load.ensures.sustains.out_faults_grow
+
+-- over a legal log
+
+pub returns-then-is_passed-clause-log_stays : goal.returns-then-is_passed-clause-log_stays
+returns-then-is_passed-clause-log_stays g c = λ plan held placed holds. files_held g.K.Task.view plan held c.args.task.now c.args.task.now (no_files g.K.Task.view g.met.K.Task.only_now g.met.K.Task.sinks c.args.task.now) holds
+
+pub returns-in-Err-clause-log_stays : goal.returns-in-Err-clause-log_stays
+returns-in-Err-clause-log_stays g c = c.load.ensures.sustains.log
+
+pub returns-in-Err-settle-clause-log_stays : goal.returns-in-Err-settle-clause-log_stays
+returns-in-Err-settle-clause-log_stays g c = λ plan held placed holds.
+    held_then g.K.Task.view plan held c.args.task.now c.load.new.task c.settle.new.task (c.load.ensures.sustains.log plan held placed holds) (c.settle.ensures.sustains.log plan held (c.in-Ok.ensures.sustains.placed plan placed))
+
+pub returns-in-Ok-tell-clause-log_stays : goal.returns-in-Ok-tell-clause-log_stays
+returns-in-Ok-tell-clause-log_stays g c = λ plan held placed holds.
+    held_then g.K.Task.view plan held c.args.task.now c.load.new.task c.settle.new.task (c.load.ensures.sustains.log plan held placed holds) (c.settle.ensures.sustains.log plan held (c.in-Ok.ensures.sustains.placed plan placed))
+
+pub returns-in-Err-tell-clause-log_stays : goal.returns-in-Err-tell-clause-log_stays
+returns-in-Err-tell-clause-log_stays g c = λ plan held placed holds.
+    held_then g.K.Task.view plan held c.args.task.now c.settle.new.task c.stop.new.task
+    (held_then g.K.Task.view plan held c.args.task.now c.load.new.task c.settle.new.task (c.load.ensures.sustains.log plan held placed holds) (c.settle.ensures.sustains.log plan held (c.in-Ok.ensures.sustains.placed plan placed)))
+    (files_held g.K.Task.view plan held c.settle.new.task c.stop.new.task c.stop.ensures.only.files)

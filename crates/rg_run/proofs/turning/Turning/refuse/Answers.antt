@@ -3,6 +3,7 @@ use Rattle.std.proofs.lemmas.Bool.{ltb-true, ltb-false}
 use Rattle.rg_run.specs.Turning.{IsHeld}
 use Rattle.rg_run.proofs.Replied.{still_on_course, passed, passed_events, refused_awaits, refused_events}
 use Rattle.rg_run.proofs.Gathering.{awaiting_held, keeps_none}
+use Rattle.rg_run.proofs.Logged.{no_files}
 use Rattle.rg_run.proofs.turning.Turning.refuse.Goals as goal
 
 pub returns-then-is_passed-clause-moments : goal.returns-then-is_passed-clause-moments
@@ -72,3 +73,12 @@ returns-in-Err-clause-write g c = λ is. elim c.stop.ensures.which [
   | inl same ↦ absurd (let e = sym (same ∙ c.in-Err.ensures.faults) in cc)
   | inr write ↦ write.1
 ]
+
+pub returns-then-is_passed-clause-files : goal.returns-then-is_passed-clause-files
+returns-then-is_passed-clause-files g c = no_files g.K.Task.view g.met.K.Task.only_now g.met.K.Task.sinks c.args.task.now
+
+pub returns-in-Ok-clause-files : goal.returns-in-Ok-clause-files
+returns-in-Ok-clause-files g c = no_files g.K.Task.view g.met.K.Task.only_now g.met.K.Task.sinks c.args.task.now
+
+pub returns-in-Err-clause-files : goal.returns-in-Err-clause-files
+returns-in-Err-clause-files g c = c.stop.ensures.only.files

@@ -1,13 +1,15 @@
 -- What any calls on a pipe hand out of a stream.
-use Rattle.std.proofs.Common.{◌≡◌, ◌⊎◌, inl, inr, ℕ, ◌+◌, List, [], ◌∷◌, ◌++◌, length, take, drop, Some, None, Ok, Err, refl, ap, sym, subst, ◌∙◌, arith, append_assoc, append-nil, length-append}
-use Rattle.std.proofs.lemmas.List.{take_at, drop_at}
+use Rattle.std.proofs.Common.{◌≡◌, ◌⊎◌, inl, inr, ℕ, ◌+◌, ◌-◌, ◌<◌, List, [], ◌∷◌, ◌++◌, length, take, drop, Some, None, Ok, Err, refl, ap, sym, subst, ◌∙◌, arith, append_assoc, append-nil, length-append}
+use Rattle.std.proofs.Math.Seq.{take-append-add}
+use Rattle.std.proofs.lemmas.Bool.{cases_lt}
+use Rattle.std.proofs.lemmas.List.{take_at, drop_at, take-append-le, take-append-drop}
 use Rattle.rg_bytes.specs.Reading.{list_bytes}
 use Rattle.rg_pipe.specs.Sent.{Sent, body_of, bytes_of, IsLegal}
 use Rattle.rg_pipe.specs.Sent.Sent.{line, commit, save}
 use Rattle.rg_pipe.specs.Hand.{IsPart, BeginsNone}
 use Rattle.rg_pipe.specs.State.{PipeState}
-use Rattle.rg_pipe.specs.Handing.{given_for, given_of, expected_after, Hands}
-use Rattle.rg_pipe.specs.Streams.{AreLegal, IsStream, given_all, expected_all, Call, Runs, bytes_in, given_in, fresh, HandsOut, HandsAll}
+use Rattle.rg_pipe.specs.Handing.{Given, given_for, given_of, expected_after, Feeds, Hands}
+use Rattle.rg_pipe.specs.Streams.{AreLegal, IsStream, given_all, expected_all, Call, Runs, bytes_in, given_in, fresh, HandsOut, HandsAll, HandsNext}
 use Rattle.rg_pipe.specs.Streams.Call.{fed, asked, passed}
 use Rattle.rg_pipe.specs.declared.request.Request.{Request}
 use Rattle.rg_pipe.specs.declared.fault.PipeFault.TheVariants.{Frame}
@@ -175,3 +177,58 @@ one_stream requests others rest other bytes stream again =
     let legal : AreLegal front.ahead = legal_back requests front.ahead (subst AreLegal front.all again.legal) in
     let nothing = none_ahead front.ahead rest other legal stream.no_more front.to_come in
     (sym (front.all ∙ ap (λ a. requests ++ a) nothing ∙ append-nil requests), front.to_come ∙ ap (λ a. list_bytes bytes_of a ++ other) nothing)
+
+-- what is in hand begins no request, nor does it with more behind it
+none_more : (pending more : List ℕ) → BeginsNone pending → NoMore (pending ++ more)
+none_more pending more none request behind legal is =
+    let n = length pending in
+    let m = length (bytes_of request) in
+    elim (cases_lt n m) [
+      | inl less ↦
+          let front : bytes_of request ≡ pending ++ take (m - n) more =
+          sym (take_at (bytes_of request) behind m refl) ∙ ap (take m) (sym is) ∙ ap (λ k. take k (pending ++ more)) (split_at n m less) ∙ take-append-add pending more (m - n) in
+          none.no_part request (take (m - n) more) legal front
+      | inr whole ↦
+          let front : pending ≡ bytes_of request ++ drop m pending =
+          sym (take-append-drop m pending) ∙ ap (λ l. l ++ drop m pending) (sym (take-append-le m pending more whole) ∙ ap (take m) is ∙ take_at (bytes_of request) behind m refl) in
+          none.no_whole request (drop m pending) legal front
+    ]
+  where
+    split_at : (n m : ℕ) → n < m → m ≡ n + (m - n)
+    split_at n m less = omega (arith, less)
+
+pub stream_refused : (requests : List Sent) (rest pending more : List ℕ) → BeginsNone pending → IsStream requests rest (pending ++ more) → (requests ≡ []) × (rest ≡ pending ++ more)
+stream_refused requests rest pending more none stream =
+    let nothing = none_ahead requests (pending ++ more) rest stream.legal (none_more pending more none) stream.parts in
+    (nothing, sym (stream.parts ∙ ap (λ a. list_bytes bytes_of a ++ rest) nothing))
+
+pub stream_ended : (requests : List Sent) (rest pending : List ℕ) → IsPart pending → IsStream requests rest pending → (requests ≡ []) × (rest ≡ pending)
+stream_ended requests rest pending part stream =
+    let nothing = none_ahead requests pending rest stream.legal (part_no_more pending part) stream.parts in
+    (nothing, sym (stream.parts ∙ ap (λ a. list_bytes bytes_of a ++ rest) nothing))
+
+pub stream_fed : (old new : PipeState) (piece more : List ℕ) (n : ℕ) → Feeds old new piece n → new.pending ++ (drop n piece ++ more) ≡ old.pending ++ (piece ++ more)
+stream_fed old new piece more n feeds =
+    ap (λ (p : PipeState). p.pending ++ (drop n piece ++ more)) feeds.taken ∙ append_assoc old.pending (take n piece) (drop n piece ++ more)
+    ∙ ap (λ l. old.pending ++ l) (sym (append_assoc (take n piece) (drop n piece) more) ∙ ap (λ l. l ++ more) (take-append-drop n piece))
+
+pub stream_handed : (old new : PipeState) (given : Given) (requests : List Sent) (rest more : List ℕ) → Hands old new given → IsStream requests rest (old.pending ++ more) → HandsNext requests rest more old new given
+stream_handed old new given [] rest more hands stream =
+    absurd (stream.no_more hands.sent more hands.request.legal (sym stream.parts ∙ ap (λ l. l ++ more) hands.request.is))
+stream_handed old new given (a ∷ ahead) rest more hands stream =
+    let whole = hands.request in
+    let both = same_request hands.sent a more (list_bytes bytes_of ahead ++ rest) whole.legal stream.legal.0
+    (ap (λ l. l ++ more) (sym whole.is) ∙ stream.parts ∙ append_assoc (bytes_of a) (list_bytes bytes_of ahead) rest) in
+    record {
+      sent = hands.sent;
+      ahead = ahead;
+      all = ap (λ r. r ∷ ahead) (sym both.0);
+      given_is = hands.given_is;
+      expected_is = ap (λ (p : PipeState). p.expected) hands.passed;
+      place_is = ap (λ (p : PipeState). p.place) hands.passed ∙ ap (λ (b : List ℕ). old.place + length b) whole.is;
+      to_come = record {
+        legal = stream.legal.1;
+        parts = ap (λ (p : PipeState). p.pending ++ more) hands.passed ∙ both.1;
+        no_more = stream.no_more;
+      };
+    }

@@ -1,12 +1,15 @@
 -- A whole request is handed out as the expected offset says.
 use Rattle.std.proofs.Common.{◌≡◌, ℕ, ◌+◌, ◌<◌, ◌≤◌, ◌==◌, nat_lt, Bool, true, false, List, [], ◌++◌, length, take, drop, refl, ap, sym, subst, ◌∙◌, arith, append-nil, if◌then◌else◌}
 use Rattle.std.proofs.lemmas.List.{length-drop, take-append-drop, take-take}
-use Rattle.rg_pipe.specs.Sent.{bytes_of}
+use Rattle.std.proofs.lemmas.Bool.{eqb-true}
+use Rattle.rg_pipe.specs.Sent.{Sent, bytes_of, IsLegal}
+use Rattle.rg_pipe.specs.Sent.Sent.{line, commit, save}
 use Rattle.rg_pipe.specs.Hand.{IsRequest, IsShort, size_of}
 use Rattle.rg_pipe.specs.State.{PipeState}
+use Rattle.rg_pipe.specs.Streams.{IsNextLine}
 use Rattle.rg_pipe.specs.Judging.{sent_of}
 use Rattle.rg_pipe.specs.Assembling.{found_for}
-use Rattle.rg_pipe.specs.Handing.Given.{row, again, gap}
+use Rattle.rg_pipe.specs.Handing.Given.{row, again, gap, commits, saves}
 use Rattle.rg_pipe.specs.Handing.{given_for, given_by, expected_after, FeedsAndHands, Hands}
 use Rattle.rg_pipe.specs.declared.judge.Kind.{Kind}
 use Rattle.rg_pipe.specs.declared.judge.Kind.TheVariants as kind
@@ -79,3 +82,23 @@ module _ (old : PipeState) (piece bytes : List ℕ) (what : Kind) (idle : old.pe
     };
     hands = rw (new_is, found_is) (hands bytes old.place old.expected old.refused what whole);
   }
+
+-- a row is handed out for a line of the expected offset
+row_choice : (offset o expected : ℕ) (text t : List ℕ) (same below : Bool) → (o == expected) ≡ same → row offset text ≡ (if same then row o t else if below then again o else gap o expected) → (line o t ≡ line offset text) × (offset ≡ expected)
+row_choice offset o expected text t true below is given =
+    let offsets : offset ≡ o = cc in
+    let texts : text ≡ t = cc in
+    (ap (λ n. line n t) (sym offsets) ∙ ap (line offset) (sym texts), offsets ∙ eqb-true o expected is)
+row_choice offset o expected text t false true is given = absurd (let e : row offset text ≡ again o = given in cc)
+row_choice offset o expected text t false false is given = absurd (let e : row offset text ≡ gap o expected = given in cc)
+
+row_sent : (offset expected : ℕ) (text : List ℕ) (sent : Sent) → row offset text ≡ given_for expected sent → (sent ≡ line offset text) × (offset ≡ expected)
+row_sent offset expected text (line o t) given = row_choice offset o expected text t (o == expected) (nat_lt o expected) refl given
+row_sent offset expected text commit given = absurd (let e : row offset text ≡ commits = given in cc)
+row_sent offset expected text save given = absurd (let e : row offset text ≡ saves = given in cc)
+
+pub next_line : (old new : PipeState) (offset : ℕ) (text : List ℕ) → Hands old new (row offset text) → IsNextLine old.expected offset text
+next_line old new offset text hands =
+    let is = row_sent offset old.expected text hands.sent hands.given_is in
+    let legal : IsLegal (line offset text) = subst IsLegal is.0 hands.request.legal in
+    record { offset_is = is.1; small = legal.0; short = legal.1; no_lf = legal.2 }

@@ -1,7 +1,7 @@
 -- The requests of a whole stream, and what any calls on a pipe hand out of them.
-use Rattle.std.specs.Prelude.{◌≡◌, ℕ, false, List, [], ◌∷◌, ◌++◌, length, take, Option, Some, None, Result, Ok, Err, ⊤}
+use Rattle.std.specs.Prelude.{◌+◌, ◌<◌, ◌^◌, ◌≡◌, ℕ, false, List, [], ◌∷◌, ◌++◌, length, take, Option, Some, None, Result, Ok, Err, ⊤}
 use Rattle.rg_bytes.specs.Reading.{list_bytes}
-use Rattle.rg_pipe.specs.Sent.{Sent, bytes_of, IsLegal}
+use Rattle.rg_pipe.specs.Sent.{Sent, bytes_of, has_lf, IsLegal}
 use Rattle.rg_pipe.specs.State.{PipeState}
 use Rattle.rg_pipe.specs.Handing.{Given, given_for, given_of, expected_after, Next, Feeds, FeedsAndHands}
 use Rattle.rg_pipe.specs.declared.request.Request.{Request}
@@ -81,3 +81,20 @@ pub record HandsAll (expected : ℕ) (requests : List Sent) (rest : List ℕ) (c
   pub left : now.pending ≡ rest
   pub place : now.place ≡ length (list_bytes bytes_of requests)
   pub expected_is : now.expected ≡ expected_all expected requests
+
+-- Of a stream that goes on behind the bytes in hand with `more`: its next request was handed out, and the others are still to come.
+pub record HandsNext (requests : List Sent) (rest more : List ℕ) (old new : PipeState) (given : Given) : Type 0 where
+  pub sent : Sent
+  pub ahead : List Sent
+  pub all : requests ≡ sent ∷ ahead
+  pub given_is : given ≡ given_for old.expected sent
+  pub expected_is : new.expected ≡ expected_after old.expected sent
+  pub place_is : new.place ≡ old.place + length (bytes_of sent)
+  pub to_come : IsStream ahead rest (new.pending ++ more)
+
+-- A line has this expected offset, below 2^62, and a text of at most 65,535 bytes and no LF.
+pub record IsNextLine (expected offset : ℕ) (text : List ℕ) : Type 0 where
+  pub offset_is : offset ≡ expected
+  pub small : offset < 2 ^ 62
+  pub short : length text < 65536
+  pub no_lf : has_lf text ≡ false

@@ -13,6 +13,6 @@ mod progress;
 mod request;
 
 pub use fault::PipeFault;
-pub use law::{law_pieces, law_stream};
+pub use law::{law_next, law_pieces, law_stream};
 pub use pipe::Pipe;
 pub use request::{Request, Whole};

@@ -259,7 +259,7 @@ def table(found):
 
 
 def show(closure, found, rows, listed):
-    print("| What | Lines | Definitions | Files of `specs`, with their lines |")
+    print("| What | Lines | Definitions | Files of `specs` |")
     print("|---|---|---|---|")
     print("\n".join(rows))
     types = closure.types.values()
@@ -269,12 +269,12 @@ def show(closure, found, rows, listed):
 
 
 def names_of(files):
-    """The names of some files with their lines, by their crates, those with the most lines first."""
+    """The names of some files by their crates, those with the most lines first."""
     crates = collections.defaultdict(list)
     for file, lines in files.most_common():
         crates[file.split("/")[1]].append((lines, os.path.basename(file)[:-5]))
     order = sorted(crates, key=lambda it: -sum(lines for lines, _ in crates[it]))
-    return "; ".join(f"`{it}`: " + ", ".join(f"{name} {lines}" for lines, name in crates[it]) for it in order)
+    return "; ".join(f"`{it}`: " + ", ".join(name for _, name in crates[it]) for it in order)
 
 
 def list_all(closure, found):

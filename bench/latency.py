@@ -4,7 +4,8 @@ median, the 99th and the 99.9th percentile and the greatest, in milliseconds, an
 
 Usage: latency.py RATE LINES COMMAND [WORD..]. A line is due RATE times a second from the start on; its answer, a line of
 the command that begins with its number from 0, counts from then, so that waiting in the pipe counts too. It fails where
-the command does, or where a line has no answer."""
+the command does, or where a line has no answer. Where WAITS names a file, that gets the longest wait of each tenth of a
+second: its end, in seconds, and the wait."""
 
 import os
 import subprocess
@@ -54,6 +55,13 @@ def main():
                 took[int(number)] = 1000 * (at - start - (int(number) + 1) / rate)
     if len(took) != len(lines):
         sys.exit(f"{len(lines)} lines have {len(took)} answers")
+    if file := os.environ.get("WAITS"):
+        longest = {}
+        for number, wait in took.items():
+            tenth = 10 * number // rate + 1
+            longest[tenth] = max(longest.get(tenth, 0), wait)
+        with open(file, "w") as it:
+            it.writelines(f"{tenth / 10:.1f} {longest[tenth]:.2f}\n" for tenth in sorted(longest))
     took = sorted(took.values())
     rank = lambda part: took[min(len(took) - 1, int(part * len(took)))]
     print(f"{rank(0.5):.2f} {rank(0.99):.1f} {rank(0.999):.1f} {took[-1]:.1f} {len(took)}")

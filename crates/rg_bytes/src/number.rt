@@ -16,6 +16,7 @@ const SIGNED_MOST: u64 = i64::MAX as u64;
 
 /// Reads a number below 2^64 of 1 to 20 ASCII digits, with leading zeros or without.
 pub fn read_whole(text: &[u8]) -> Option<u64>
+    // A text is a number exactly where it is 1 to 20 digits in range.
     ensures { result ≡ whole_of text.now }
 {
     read_number(text, u64::MAX)
@@ -23,6 +24,7 @@ pub fn read_whole(text: &[u8]) -> Option<u64>
 
 /// Reads a number from -(2^63 - 1) to 2^63 - 1: `+`, `-` or no sign, and 1 to 20 ASCII digits.
 pub fn read_signed(text: &[u8]) -> Option<i64>
+    // A text is a signed number exactly where a sign or none and then digits in range stand there.
     ensures { result ≡ signed_of text.now }
 {
     match text.split_first()? {
@@ -34,9 +36,14 @@ pub fn read_signed(text: &[u8]) -> Option<i64>
 
 /// Writes the digits of a number at the end.
 pub fn write_whole(out: &mut Vec<u8>, v: u64) -> Result<(), Memory>
+    // The digits are put behind what stands.
     ensures ok { OnOk result (out.new.items ≡ out.old.items ++ decimal v) }
+
+    // A refused put leaves the text as it was.
     ensures err { OnErr result (out.new.items ≡ out.old.items) }
     ensures full { OnErr result (vec_capacity out.old < vec_len out.old + length (decimal v)) }
+
+    // What was written is read back.
     ensures reads_back { whole_of (decimal v) ≡ Some v }
 {
     put_bytes(out, Buffer::new().format(v).as_bytes())
@@ -44,9 +51,14 @@ pub fn write_whole(out: &mut Vec<u8>, v: u64) -> Result<(), Memory>
 
 /// Writes a number at the end: `-` where it is below 0, and its digits.
 pub fn write_signed(out: &mut Vec<u8>, v: i128) -> Result<(), Memory>
+    // The sign and the digits are put behind what stands.
     ensures ok { OnOk result (out.new.items ≡ out.old.items ++ signed_decimal v) }
+
+    // A refused put leaves the text as it was.
     ensures err { OnErr result (out.new.items ≡ out.old.items) }
     ensures full { OnErr result (vec_capacity out.old < vec_len out.old + length (signed_decimal v)) }
+
+    // What was written is read back.
     ensures reads_back { unsigned_abs v < 2 ^ 63 → signed_of (signed_decimal v) ≡ Some v }
 {
     put_bytes(out, Buffer::new().format(v).as_bytes())

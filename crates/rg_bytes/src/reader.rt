@@ -49,9 +49,12 @@ impl<'a> ByteReader<'a> {
 
     /// Takes 1 byte.
     pub fn u8(&mut self) -> Result<u8, Short>
+        // A byte is read exactly where one is left; else the reader stays.
         ensures ok { IfOk result (λ n. self.old ≡ n ∷ self.new) }
         ensures short { IsErr result ↔ (length self.old < 1) }
         ensures err { OnErr result (self.new ≡ self.old) }
+
+        // A byte that was put is read back.
         ensures reads_back { (n : ℕ) (rest : List ℕ) → self.old ≡ n ∷ rest → (result ≡ Ok n) × (self.new ≡ rest) }
     {
         Ok(u8::from_be_bytes(self.array()?))
@@ -59,9 +62,12 @@ impl<'a> ByteReader<'a> {
 
     /// Takes 4 bytes as a number.
     pub fn u32(&mut self) -> Result<u32, Short>
+        // A number is read exactly where it stands whole; else the reader stays.
         ensures ok { IfOk result (λ n. self.old ≡ to_be_bytes w32 n ++ self.new) }
         ensures short { IsErr result ↔ (length self.old < 4) }
         ensures err { OnErr result (self.new ≡ self.old) }
+
+        // A number that was put is read back.
         ensures reads_back { (n : ℕ) (rest : List ℕ) → n < 2 ^ 32 → self.old ≡ to_be_bytes w32 n ++ rest → (result ≡ Ok n) × (self.new ≡ rest) }
     {
         Ok(u32::from_be_bytes(self.array()?))
@@ -69,9 +75,12 @@ impl<'a> ByteReader<'a> {
 
     /// Takes 8 bytes as a number.
     pub fn u64(&mut self) -> Result<u64, Short>
+        // A number is read exactly where it stands whole; else the reader stays.
         ensures ok { IfOk result (λ n. self.old ≡ to_be_bytes w64 n ++ self.new) }
         ensures short { IsErr result ↔ (length self.old < 8) }
         ensures err { OnErr result (self.new ≡ self.old) }
+
+        // A number that was put is read back.
         ensures reads_back { (n : ℕ) (rest : List ℕ) → n < 2 ^ 64 → self.old ≡ to_be_bytes w64 n ++ rest → (result ≡ Ok n) × (self.new ≡ rest) }
     {
         Ok(u64::from_be_bytes(self.array()?))
@@ -79,9 +88,12 @@ impl<'a> ByteReader<'a> {
 
     /// Takes 8 bytes as a number in two's complement.
     pub fn i64(&mut self) -> Result<i64, Short>
+        // A number is read exactly where it stands whole; else the reader stays.
         ensures ok { IfOk result (λ z. self.old ≡ to_be_bytes w64 (cast_unsigned w64 z) ++ self.new) }
         ensures short { IsErr result ↔ (length self.old < 8) }
         ensures err { OnErr result (self.new ≡ self.old) }
+
+        // A number that was put is read back.
         ensures reads_back { (z : ℤ) (rest : List ℕ) → FitsSigned w64 z → self.old ≡ to_be_bytes w64 (cast_unsigned w64 z) ++ rest → (result ≡ Ok z) × (self.new ≡ rest) }
     {
         Ok(self.u64()?.cast_signed())
@@ -89,9 +101,12 @@ impl<'a> ByteReader<'a> {
 
     /// Takes 16 bytes as a number in two's complement.
     pub fn i128(&mut self) -> Result<i128, Short>
+        // A number is read exactly where it stands whole; else the reader stays.
         ensures ok { IfOk result (λ z. self.old ≡ to_be_bytes w128 (cast_unsigned w128 z) ++ self.new) }
         ensures short { IsErr result ↔ (length self.old < 16) }
         ensures err { OnErr result (self.new ≡ self.old) }
+
+        // A number that was put is read back.
         ensures reads_back { (z : ℤ) (rest : List ℕ) → FitsSigned w128 z → self.old ≡ to_be_bytes w128 (cast_unsigned w128 z) ++ rest → (result ≡ Ok z) × (self.new ≡ rest) }
     {
         Ok(self.u128()?.cast_signed())
@@ -99,10 +114,13 @@ impl<'a> ByteReader<'a> {
 
     /// Takes `n` bytes, which live as long as the bytes that the reader was made of.
     pub fn bytes(&mut self, n: usize) -> Result<&'a [u8], Short>
+        // So many bytes are read exactly where they are left; else the reader stays.
         ensures ok { IfOk result (λ bytes. self.old ≡ bytes.now ++ self.new) }
         ensures count { IfOk result (λ bytes. length bytes.now ≡ n) }
         ensures short { IsErr result ↔ (length self.old < n) }
         ensures err { OnErr result (self.new ≡ self.old) }
+
+        // Bytes that were put are read back.
         ensures reads_back { (front rest : List ℕ) → length front ≡ n → self.old ≡ front ++ rest → IsOkAnd result (λ bytes. bytes.now ≡ front) × (self.new ≡ rest) }
     {
         let (front, rest) = self.left.split_at_checked(n).ok_or(Short)?;

@@ -54,6 +54,7 @@ impl<T> ChunkCache<T> {
     /// The item at a place, which is moved to the first position. `None` exactly where the place is not held; the
     /// cache stays. Takes no memory.
     pub fn touch(&mut self, place: u64) -> Option<&T>
+        // The place is first afterwards, where it is held, and its item is lent.
         ensures* touches { sem 𝓛 (ends_touched T.row self.entry place) }
         ensures item { option_copied result ≡ item_at place self.old }
     {
@@ -65,7 +66,11 @@ impl<T> ChunkCache<T> {
     /// place is in the first position already.
     pub fn promote(&mut self, place: u64) -> bool
         ensures held { result ≡ holds_place place self.old }
+
+        // The places held are those touched, the most recent first, at most so many.
         ensures places { places self.new ≡ least_recently_used self.old.cap (touches self.old (touched place self.old)) }
+
+        // Each item stays with its place, and a miss changes nothing.
         ensures items { (other : ℕ) → item_at other self.new ≡ item_at other self.old }
         ensures cap { self.new.cap ≡ self.old.cap }
         ensures missed { result ≡ false → self.new ≡ self.old }
@@ -82,6 +87,7 @@ impl<T> ChunkCache<T> {
     where
         T: Drop,
         requires absent { item_at place self.old ≡ None }
+        // The place is first; a full cache drops the one whose last touch is the longest ago.
         ensures places { OnOk result (places self.new ≡ least_recently_used self.old.cap (touches self.old (place ∷ []))) }
         ensures item { OnOk result (item_at place self.new ≡ Some item) }
 
@@ -116,6 +122,7 @@ impl<T> ChunkCache<T> {
     /// The item at a place, where that is in the first position: a touch of the place then moves nothing. It takes no
     /// hash.
     pub fn first(&self, place: u64) -> Option<&T>
+        // An item is lent exactly where its place is the first one.
         ensures place { IfSome result (λ _. slice_get (places self.now) 0 ≡ Some place) }
         ensures item { IfSome result (λ item. item_at place self.now ≡ Some item.now) }
         ensures none { IfNone result (slice_get (places self.now) 0 ≢ Some place) }

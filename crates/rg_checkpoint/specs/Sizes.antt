@@ -33,7 +33,7 @@ sizes_of base = record { base = base; changes = 0; frames = 0 }
 abbrev pub more_sizes : SlotSizes → ℕ → SlotSizes
 more_sizes sizes change = record { base = sizes.base; changes = sizes.changes + change; frames = sizes.frames + 1 }
 
--- the same of a slot that may have none
+-- the sizes of a slot, if it has any, with one change payload of that length more
 abbrev pub longer : Option SlotSizes → ℕ → Option SlotSizes
 longer None change = None
 longer (Some sizes) change = Some (more_sizes sizes change)

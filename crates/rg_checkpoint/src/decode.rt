@@ -28,9 +28,12 @@ pub(crate) const BASE_TAG: u8 = 0x42;
 /// The checkpoint of a base payload. `BadCheckpoint` comes exactly where the payload is none. Memory
 /// is taken only for what stands in the payload, whatever its numbers say.
 pub fn decode_checkpoint(alloc: Global, payload: &[u8]) -> Result<Checkpoint, CheckpointFault>
+    // A payload is read exactly where it is a base payload.
     ensures ok { IfOk result (IsBase payload.now) }
     ensures bad { IsErrOf result CheckpointFault.BadCheckpoint → (checkpoint : TheCheckpoint) → IsBase payload.now checkpoint → ⊥ }
     ensures reads_back { (checkpoint : TheCheckpoint) → IsBase payload.now checkpoint → IfOk result (λ read. read ≡ checkpoint) }
+
+    // A payload says one checkpoint.
     ensures one { (a b : TheCheckpoint) → IsBase payload.now a → IsBase payload.now b → a ≡ b }
 {
     let mut from = ByteReader::new(payload);

@@ -24,12 +24,17 @@ pub fn encode_checkpoint<T: Table>(
     table: &mut T,
     out: &mut Vec<u8>,
 ) -> Result<(), TableFault>
+    // Over a table that tells its rows, the base payload with all of them is written.
     ensures written { T.tells table.old → OnOk result (Encodes (T.cell table.old) queries.now count spots.now out.old.items out.new.items) }
+
+    // The table keeps its rows and marks, also at a refusal.
     ensures same { T.tells table.old → Same (T.cell table.old) (T.cell table.new) }
     ensures same_named { T.tells table.old → SameMarks (T.named table.old) (T.named table.new) }
     ensures same_there { T.tells table.old → SameMarks (T.there table.old) (T.there table.new) }
     ensures err { OnErr result (out.new.items ≡ out.old.items) }
     ensures no_bad { (n : ℕ) → IsErrOf result (TableFault.BadState n) → ⊥ }
+
+    // Disk comes only where the table's count of failed calls rose.
     ensures disk { IsErrOf result TableFault.Disk → Rose (T.faults table.old) (T.faults table.new) }
     ensures tells { T.tells table.new ↔ T.tells table.old }
     ensures later { T.faults table.old ≤ T.faults table.new }
@@ -59,12 +64,17 @@ pub fn encode_changes<T: Table>(
     table: &mut T,
     out: &mut Vec<u8>,
 ) -> Result<(), TableFault>
+    // Over a table that tells its rows, what changed since its mark is written.
     ensures written { T.tells table.old → OnOk result (EncodesChanges (T.named table.old) (T.there table.old) (T.cell table.old) count spots.now out.old.items out.new.items) }
+
+    // The table keeps its rows and marks, also at a refusal.
     ensures same { T.tells table.old → Same (T.cell table.old) (T.cell table.new) }
     ensures same_named { T.tells table.old → SameMarks (T.named table.old) (T.named table.new) }
     ensures same_there { T.tells table.old → SameMarks (T.there table.old) (T.there table.new) }
     ensures err { OnErr result (out.new.items ≡ out.old.items) }
     ensures no_bad { (n : ℕ) → IsErrOf result (TableFault.BadState n) → ⊥ }
+
+    // Disk comes only where the table's count of failed calls rose.
     ensures disk { IsErrOf result TableFault.Disk → Rose (T.faults table.old) (T.faults table.new) }
     ensures tells { T.tells table.new ↔ T.tells table.old }
     ensures later { T.faults table.old ≤ T.faults table.new }

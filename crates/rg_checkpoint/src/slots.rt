@@ -49,12 +49,15 @@ impl Model for Slots {
 impl Slots {
     /// Reads both slots. It writes nothing. A slot that isn't complete is no fault.
     pub fn attach<H: Host>(alloc: Global, host: &mut H) -> Result<Slots, SlotFault>
+        // A slot is complete exactly where its frames are a base payload and changes that apply in order.
         ensures first { IfOk result (λ slots. ForSome (H.now host.old) (λ v. IsSlot (v 0) slots.first)) }
         ensures second { IfOk result (λ slots. ForSome (H.now host.old) (λ v. IsSlot (v 1) slots.second)) }
         ensures first_sizes { IfOk result (λ slots. ForSome (H.now host.old) (λ v. AreSizes (v 0) slots.first_sizes)) }
         ensures second_sizes { IfOk result (λ slots. ForSome (H.now host.old) (λ v. AreSizes (v 1) slots.second_sizes)) }
         ensures fresh { IfOk result (λ slots. (slots.fresh ≡ true) × (slots.ended ≡ false)) }
         ensures reaches { IfOk result (λ slots. ReachesSlots slots (H.now host.new)) }
+
+        // Disk comes only where the host's count of failed calls rose.
         ensures disk { IsErrOf result SlotFault.Disk → Rose (H.disk_faults host.old) (H.disk_faults host.new) }
         ensures no_ended { IsErrOf result SlotFault.Ended → ⊥ }
         ensures leaves { LeavesAll H.now H.may H.clock H.since H.said host.old host.new }
@@ -83,6 +86,7 @@ impl Slots {
     /// The checkpoint of slot `i`, where that is complete.
     pub fn slot(&self, i: u32) -> Option<&Checkpoint>
         requires fresh { self.now.fresh ≡ true }
+        // The slot's checkpoint, and none exactly where it isn't complete.
         ensures slot { option_copied result ≡ slot_in self.now i }
     {
         match i {
@@ -107,6 +111,7 @@ impl Slots {
     /// 0 where both have that count.
     pub fn newest(&self, queries: &Texts, below: u64) -> Option<u32>
         requires fresh { self.now.fresh ≡ true }
+        // The complete slot of exactly these queries, of at most so many payments, and of the most of them.
         ensures newest { IsNewestOf queries.now below (slot_in self.now) result }
     {
         let first = count_of(&self.first, queries, below);
@@ -156,18 +161,25 @@ impl Slots {
     ) -> Result<u32, SlotFault>
         requires keep { IsKeep keep }
         ensures number { IfOk result (λ i. i ≡ other_of keep) }
+
+        // After Ok the other slot has the payload alone, and nothing of it is pending.
         ensures written { OnOk result (Becomes (H.now host.old) (H.now host.new) (InFile (other_of keep) (Written payload.now))) }
         ensures only { OnOk result (Becomes (H.now host.old) (H.now host.new) (InFile (other_of keep) (λ _ bytes. IsOnly payload.now bytes))) }
         ensures pending { OnOk result (NothingPending (other_of keep) (H.now host.new) (H.may host.new)) }
         ensures others_pending { (f : ℕ) → f ≢ other_of keep → NothingPending f (H.now host.old) (H.may host.old) → NothingPending f (H.now host.new) (H.may host.new) }
+
+        // The other files stay.
         ensures others { Becomes (H.now host.old) (H.now host.new) (InFile (other_of keep) (λ _ _. ⊤)) }
 
         // In each image since the start the written slot is as it was, not complete, or the new one, and the other files
         // are, together, as they could be left at the start. The kept slot, where nothing of it was pending, is as it was.
         ensures leaves { Writes H.now H.may H.clock H.since H.said (other_of keep) (Turns payload.now) host.old host.new }
+
+        // At each moment the kept slot is as it was.
         ensures kept { (i : ℕ) → keep ≡ Some i → NothingPending i (H.now host.old) (H.may host.old) →
             Moments H.clock H.since host.old host.new (λ m. ForSome (H.now host.old) (λ w. m.image i ≡ w i)) }
 
+        // A call that failed on the disk ends the slots, and each later one answers Ended and touches nothing.
         ensures ended { (result ≡ Err SlotFault.Ended) ↔ (self.old.ended ≡ true) }
         ensures untouched { self.old.ended ≡ true → host.new ≡ host.old }
         ensures disk { self.old.ended ≡ false → OnErr result ((result ≡ Err SlotFault.Disk) × Rose (H.disk_faults host.old) (H.disk_faults host.new)) }
@@ -202,9 +214,13 @@ impl Slots {
 
         // Where the file is of the sizes that are known of it.
         ensures written { OnOk result (Becomes (H.now host.old) (H.now host.new) (InFile i (OfSizes (sizes_in self.old i) (Lengthened payload.now)))) }
+
+        // After Ok the payload stands behind the slot's frames, and nothing of the slot is pending.
         ensures grown { OnOk result (Becomes (H.now host.old) (H.now host.new) (InFile i (OfSizes (sizes_in self.old i) (Grown payload.now)))) }
         ensures pending { OnOk result (NothingPending i (H.now host.new) (H.may host.new)) }
         ensures others_pending { (f : ℕ) → f ≢ i → NothingPending f (H.now host.old) (H.may host.old) → NothingPending f (H.now host.new) (H.may host.new) }
+
+        // The other files stay.
         ensures others { Becomes (H.now host.old) (H.now host.new) (InFile i (λ _ _. ⊤)) }
 
         // In each image since the start the slot has its old checkpoint or the new one, and the other files are, together,
@@ -213,6 +229,7 @@ impl Slots {
         ensures stay { (f : ℕ) → f ≢ i → NothingPending f (H.now host.old) (H.may host.old) →
             Moments H.clock H.since host.old host.new (λ m. ForSome (H.now host.old) (λ w. m.image f ≡ w f)) }
 
+        // A call that failed on the disk ends the slots, and each later one answers Ended and touches nothing.
         ensures ended { (result ≡ Err SlotFault.Ended) ↔ (self.old.ended ≡ true) }
         ensures untouched { self.old.ended ≡ true → host.new ≡ host.old }
         ensures disk { self.old.ended ≡ false → OnErr result ((result ≡ Err SlotFault.Disk) × Rose (H.disk_faults host.old) (H.disk_faults host.new)) }

@@ -37,9 +37,14 @@ impl Model for Chunk {
 impl Chunk {
     /// The chunk that a payload says, of events of this schema. `BadChunk` comes exactly where it is no chunk payload.
     pub fn decode(alloc: Global, schema: &Schema, payload: &[u8]) -> Result<Chunk, ChunkFault>
+        // A payload is read exactly where it is a chunk's, as rows or by columns.
         ensures agrees { Agrees (chunk_of schema.now.fields payload.now) result }
+
+        // The payload is what these events are written as in one of the two layouts.
         ensures bytes { IfOk result (λ chunk. (layout : TheLayout) × (payload.now ≡ payload_bytes layout schema.now.fields chunk)) }
         ensures legal { IfOk result (IsChunk schema.now.fields) }
+
+        // What was written of legal events is read back.
         ensures reads_back { (layout : TheLayout) (events : List TheEvent) → IsChunk schema.now.fields events → payload.now ≡ payload_bytes layout schema.now.fields events → (result ≡ Ok events) ⊎ (result ≡ Err ChunkFault.Memory) }
     {
         let mut from = ByteReader::new(payload);
@@ -76,6 +81,7 @@ impl Chunk {
 
     /// The event of that index, which begins at 0.
     pub fn get(&self, index: u32) -> Option<&Event>
+        // The event at an index, and none exactly from the count on.
         ensures event { option_copied result ≡ slice_get self.now index }
         ensures few { IfSome result (λ _. index < 4096) }
     {
@@ -84,6 +90,7 @@ impl Chunk {
 
     /// Puts these values behind those of each event. Where memory runs out all events are as they were.
     pub fn extend(&mut self, values: &Values) -> Result<(), Memory>
+        // The values stand behind those of each event, or all events are as they were.
         ensures ok { OnOk result (self.new ≡ the_extended values.now self.old) }
         ensures err { OnErr result (self.new ≡ self.old) }
     {

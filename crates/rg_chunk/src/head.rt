@@ -60,7 +60,10 @@ pub struct ChunkHead {
 /// Reads the head that a payload begins with. It answers `None` exactly where the payload has fewer than 37 bytes,
 /// the tag is unknown or the count isn't 1 to 4,096. The inside of the chunk is not looked at.
 pub fn read_head(payload: &[u8]) -> Option<ChunkHead>
+    // The head is told exactly where the payload has one.
     ensures head { result ≡ head_of payload.now }
+
+    // The head of a chunk is that of its events.
     ensures of_chunk { (fields : List Field) (events : List TheEvent) → chunk_of fields payload.now ≡ Some events → result ≡ Some (head_for events) }
 {
     match take_head(&mut ByteReader::new(payload)) {

@@ -80,6 +80,7 @@ impl OpenChunk {
 
     /// The event of that index, which begins at 0.
     pub fn get(&self, index: u32) -> Option<&Event>
+        // The event at an index, and none exactly from the count on.
         ensures event { option_copied result ≡ slice_get self.now.events index }
         ensures few { IfSome result (λ _. index < 4096) }
     {
@@ -90,8 +91,11 @@ impl OpenChunk {
     /// runs out `out` holds what it held.
     pub fn encode(&self, schema: &Schema, out: &mut Vec<u8>) -> Result<(), Memory>
         requires { 1 ≤ length self.now.events }
+        // The chunk is written by columns, or nothing is.
         ensures ok { OnOk result (out.new.items ≡ out.old.items ++ chunk_bytes schema.now.fields self.now.events) }
         ensures err { OnErr result (out.new.items ≡ out.old.items) }
+
+        // What is written of legal events is read back.
         ensures reads_back { (fields : List Field) (events : List TheEvent) → IsChunk fields events → chunk_of fields (chunk_bytes fields events) ≡ Some events }
     {
         let start = out.len();

@@ -45,6 +45,7 @@ impl Written {
     /// The chunk that the payload says, where a chunk of this schema may have the events. It takes no memory.
     pub fn into_chunk(self, schema: &Schema) -> Option<Chunk>
         requires { self.payload ≡ chunk_bytes schema.now.fields self.events }
+        // What is handed back without decoding is the chunk that its payload says.
         ensures { IfSome result (λ chunk. chunk_of schema.now.fields self.payload ≡ Some chunk) }
     {
         if !is_chunk(schema.fields(), &self.events) {

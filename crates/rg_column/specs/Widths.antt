@@ -16,7 +16,7 @@ Reading A = ReadingWith ColumnFault A
 abbrev pub Agrees : {A : Type 0} → Reading A → Result A ColumnFault → List ℕ → Type 0
 Agrees reading result left = AgreesWith Memory (λ value. value) reading result left
 
--- the same of a list that is built
+-- a list that is built, and what is left, are those of the reading; or memory ran out
 abbrev pub AgreesList : {A : Type 0} → Reading (List A) → Result (Vec A) ColumnFault → List ℕ → Type 0
 AgreesList {A} reading result left = AgreesWith Memory (λ (list : Vec A). list.items) reading result left
 

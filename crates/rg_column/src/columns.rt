@@ -16,6 +16,7 @@ use std::alloc::Global;
 
 /// Writes the columns of these events at the end. Where memory runs out `out` holds what it held.
 pub fn encode_columns(schema: &Schema, events: &[Event], out: &mut Vec<u8>) -> Result<(), Memory>
+    // The columns are written to the byte, and a refused write leaves the bytes as they were.
     ensures ok { OnOk result (out.new.items ≡ out.old.items ++ columns_bytes schema.now.fields events.now) }
     ensures err { OnErr result (out.new.items ≡ out.old.items) }
 {
@@ -62,11 +63,19 @@ pub fn decode_columns(
     count: u32,
     from: &mut ByteReader<'_>,
 ) -> Result<Events, ColumnFault>
+    // Columns are read exactly where they are those of so many events; else the first bad column is told, or that the
+    // bytes end.
     ensures agrees { Agrees (columns_at schema.now.fields count from.old) result from.new }
+
+    // What is read was written so.
     ensures ok { IfOk result (λ events. from.old ≡ columns_bytes schema.now.fields events ++ from.new) }
     ensures legal { IfOk result (All (IsEventOf schema.now.fields)) }
     ensures count { IfOk result (λ events. length events ≡ count) }
+
+    // What is written of legal events is read back, whatever follows.
     ensures reads_back { (events : List TheEvent) (rest : List ℕ) → AreColumnsOf schema.now.fields count events → from.old ≡ columns_bytes schema.now.fields events ++ rest → ((result ≡ Ok events) × (from.new ≡ rest)) ⊎ (result ≡ Err ColumnFault.Memory) }
+
+    // A refusal leaves the reader as it was.
     ensures err { OnErr result (from.new ≡ from.old) }
 {
     // All that is left, so that a refusal can put it back.

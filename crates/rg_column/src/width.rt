@@ -70,6 +70,8 @@ impl Width {
         ensures fits { IfOk result (λ number. number < limit self) }
         ensures short { IsErr result ↔ (length from.old < width_byte self) }
         ensures err { OnErr result (from.new ≡ from.old) }
+
+        // A number of this width that was put is read back.
         ensures reads_back { (number : ℕ) (rest : List ℕ) → number < limit self → from.old ≡ difference_bytes self number ++ rest → (result ≡ Ok number) × (from.new ≡ rest) }
     {
         match self {

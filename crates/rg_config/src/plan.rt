@@ -55,25 +55,34 @@ pub struct Plan {
 /// Reads the bytes of a plan file.
 #[tactic(auto, using(crate::proofs::One::one_plan, crate::proofs::One::agrees))]
 pub fn read_plan(alloc: Global, bytes: &[u8]) -> Result<Plan, ConfigFault>
-    // what is answered is what the bytes say
+    // What is answered is what the bytes say: a plan, or the first fault in its order.
     ensures sound { Tells bytes.now result }
-    // whatever the bytes say is answered
+
+    // Whatever the bytes say is answered.
     ensures complete { (said : Result Planned Fault) → Says bytes.now said → Agrees said result }
-    // the bytes say one thing
+
+    // The bytes say one thing.
     ensures unambiguous { (said other : Result Planned Fault) → Says bytes.now said → Says bytes.now other → said ≡ other }
-    // all bytes say something
+
+    // All bytes say something.
     ensures says { (any : List ℕ) → (said : Result Planned Fault) × Says any said }
-    // the queries stand beside as they are printed
+
+    // The queries stand beside as they are printed.
     ensures printed { IfOk result (λ plan. plan.queries ≡ map (query_text plan.schema) (planned plan).queries) }
-    // the task is the plan of the queries
+
+    // The task plan is that of the queries.
     ensures task { IfOk result (λ plan. plan.task ≡ plan_for (planned plan).queries) }
-    // each query is legal over the schema
+
+    // Each query is legal over the schema.
     ensures legal { IfOk result (λ plan. All (IsLegalQuery plan.schema) (planned plan).queries) }
-    // and some text says it
+
+    // Each query is said by some text.
     ensures said { IfOk result (λ plan. All (IsSaid plan.schema) (planned plan).queries) }
-    // each setting lies in its range
+
+    // Each setting lies in its range.
     ensures ranges { IfOk result (λ plan. AreInRange (planned plan).settings) }
-    // each column has a default of its kind, or none
+
+    // Each column has a default of its kind, or none.
     ensures defaults { IfOk result (λ plan. AreDefaultsOf plan.schema.fields plan.defaults) }
 {
     plan_of(alloc, bytes)

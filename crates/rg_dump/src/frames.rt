@@ -32,7 +32,7 @@ fn schema_line(alloc: Global, schema: &Schema) -> Result<Vec<u8>, Memory>
     Ok(line)
 }
 
-/// The same, if there is a schema.
+/// The line of the schema, or nothing where there is none.
 fn head_text(alloc: Global, schema: &Option<Schema>) -> Result<Vec<u8>, Memory>
     ensures { IfOk result (λ text. text.items ≡ ended (head_lines schema.now)) }
 {
@@ -190,6 +190,7 @@ pub fn dump<H: Host>(alloc: Global, host: &mut H) -> Result<(), DumpFault>
     // Whole lines of the text were put, or, where a put failed, a prefix of it.
     ensures stops { IfErr result (λ fault. ForSome (H.now host.old) (λ v. (put : List ℕ) × Puts H.said H.clock H.since host.old host.new put × (StopsWith (dump_text (v 2)) [] put ⊎ ((fault ≡ DumpFault.Write) × IsPrefix put (ended (dump_text (v 2))))))) }
 
+    // Each fault has its cause, and no file is written.
     ensures write { IsErrOf result DumpFault.Write → Rose (H.out_faults host.old) (H.out_faults host.new) }
     ensures disk { IsErrOf result DumpFault.Disk → Rose (H.disk_faults host.old) (H.disk_faults host.new) }
     ensures leaves { LeavesFiles H.now H.may H.clock H.since host.old host.new }

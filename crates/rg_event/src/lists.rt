@@ -153,7 +153,7 @@ impl Texts {
         Ok(())
     }
 
-    /// The same texts, in order.
+    /// An equal list.
     pub fn copy(&self, alloc: Global) -> Result<Texts, Memory>
         ensures { IfOk result (λ texts. texts ≡ self.now) }
     {

@@ -49,6 +49,7 @@ impl Model for Name {
 impl Name {
     /// The name with these bytes. It answers `None` where they are no name.
     pub fn new(alloc: Global, text: &[u8]) -> Result<Option<Name>, Memory>
+        // A name is made exactly from the bytes of one.
         ensures same { IfOk result (λ name. IfSome name (λ it. it ≡ text.now)) }
         ensures named { IfOk result (λ name. IfSome name (λ _. IsTrue (name_test text.now))) }
         ensures no_name { IfOk result (λ name. IfNone name (name_test text.now ≡ false)) }

@@ -10,6 +10,7 @@ use std::alloc::Global;
 
 /// Reads a text as a value of this kind. It answers `None` where the text is not one.
 pub fn parse_value(alloc: Global, kind: Kind, text: &[u8]) -> Result<Option<Value>, Memory>
+    // A text is a value of its kind exactly where it says one.
     ensures { IfOk result (λ value. value ≡ value_of kind text.now) }
 {
     match kind {

@@ -106,6 +106,7 @@ impl Schema {
     /// the text is none.
     #[tactic(auto, using(crate::proofs::Readable::joined_of, crate::proofs::Readable::legal_of, crate::proofs::Readable::read_back))]
     pub fn parse(alloc: Global, text: &[u8]) -> Result<Schema, SchemaFault>
+        // A schema is made exactly from the text of a legal one.
         ensures ok { IfOk result (λ schema. text.now ≡ schema_text schema) }
         ensures legal { IfOk result IsSchemaShape }
         ensures reads_back { (shape : Shape) → IsSchemaShape shape → text.now ≡ schema_text shape → (result ≡ Ok shape) ⊎ (result ≡ Err SchemaFault.Memory) }
@@ -113,7 +114,7 @@ impl Schema {
         read_schema(alloc, text)
     }
 
-    /// The same declaration.
+    /// An equal schema.
     pub fn copy(&self, alloc: Global) -> Result<Schema, Memory>
         ensures { IfOk result (λ schema. schema ≡ self.now) }
     {
@@ -126,6 +127,7 @@ impl Schema {
 
     /// Appends the schema's text, as `payments(ts,card:text,amount:int)`.
     pub fn write(&self, out: &mut Vec<u8>) -> Result<(), Memory>
+        // A schema is written as its text, which `parse` gives back.
         ensures ok { OnOk result (out.new.items ≡ out.old.items ++ schema_text self.now) }
         ensures err { OnErr result (out.new.items ≡ out.old.items) }
         ensures legal { IsSchemaShape self.now }

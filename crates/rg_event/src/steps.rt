@@ -36,6 +36,7 @@ impl<L: Ledger> Steps<L> {
 
     /// Counts one step.
     pub fn tick(&mut self)
+        // A tick counts one step.
         ensures { self.new ≡ self.old + 1 }
     {
         self.book.add(&mut self.share, 1);

@@ -24,10 +24,13 @@ pub const FLAG_TAG: u8 = 4;
 /// Writes a value at the end with the tag of its kind in front. Where memory runs out `out` holds
 /// what it held.
 pub fn put_tagged(value: &Value, out: &mut Vec<u8>) -> Result<(), Memory>
+    // A value by itself is put with its tag, or nothing is.
     ensures ok { OnOk result (out.new.items ≡ out.old.items ++ tagged_bytes value.now) }
     ensures err { OnErr result (out.new.items ≡ out.old.items) }
     ensures storable { IsStorable value.now }
     ensures reads_back { (value : Value) (rest : List ℕ) → IsLegal value → tagged_at (tagged_bytes value ++ rest) ≡ Ok (value, rest) }
+
+    // No tagged value begins another.
     ensures prefix_free { (first second : Value) (behind rest : List ℕ) → IsStorable first → IsStorable second → tagged_bytes first ++ behind ≡ tagged_bytes second ++ rest → (first ≡ second) × (behind ≡ rest) }
 {
     let start = out.len();
@@ -52,10 +55,15 @@ fn put_tag_and_value(value: &Value, out: &mut Vec<u8>) -> Result<(), Memory>
 /// Takes a tagged value, as `put_tagged` writes it: `BadValue(0)` comes where the tag is unknown or the
 /// value is out of its kind's range. A refusal leaves the reader as it was.
 pub fn get_tagged(alloc: Global, from: &mut ByteReader<'_>) -> Result<Value, EventFault>
+    // Short bytes, an unknown tag and a value out of its kind's range are told exactly.
     ensures agrees { Agrees (tagged_at from.old) result from.new }
     ensures ok { IfOk result (λ value. from.old ≡ tagged_bytes value ++ from.new) }
     ensures legal { IfOk result IsLegal }
+
+    // A tagged value is read back, whatever follows.
     ensures reads_back { (value : Value) (rest : List ℕ) → IsLegal value → from.old ≡ tagged_bytes value ++ rest → ((result ≡ Ok value) × (from.new ≡ rest)) ⊎ (result ≡ Err EventFault.Memory) }
+
+    // A refusal leaves the reader as it was.
     ensures err { OnErr result (from.new ≡ from.old) }
 {
     // All that is left, so that a refusal can put it back.

@@ -183,7 +183,7 @@ impl Values {
         Ok(())
     }
 
-    /// The same values, in order.
+    /// An equal list.
     pub fn copy(&self, alloc: Global) -> Result<Values, Memory>
         ensures { IfOk result (λ values. values ≡ self.now) }
     {

@@ -91,6 +91,7 @@ impl Ord for Word {
 impl Word {
     /// The text with these bytes. It answers `None` where they aren't UTF-8, or are more than 255.
     pub fn new(alloc: Global, text: &[u8]) -> Result<Option<Word>, Memory>
+        // A text of a value is made exactly from UTF-8 of at most 255 bytes.
         ensures same { IfOk result (λ word. IfSome word (λ it. it ≡ text.now)) }
         ensures legal { IfOk result (λ word. IfSome word (λ _. IsTrue (word_test text.now))) }
         ensures no_word { IfOk result (λ word. IfNone word (word_test text.now ≡ false)) }

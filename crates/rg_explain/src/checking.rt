@@ -19,8 +19,13 @@ use std::alloc::Global;
 /// lines are written before the first is put.
 pub fn check<H: Host>(alloc: Global, plan: &Plan, host: &mut H) -> Result<(), CheckFault>
     requires read { IsReadPlan plan.now }
+    // What is put is each query as it is printed, and the task plan.
     ensures completes { OnOk result (Puts H.said H.clock H.since host.old host.new (ended (check_text (planned plan.now)))) }
+
+    // Where a put failed a prefix of the text was put, and else nothing.
     ensures stops { IfErr result (λ fault. (put : List ℕ) × Puts H.said H.clock H.since host.old host.new put × StopsAt (fault ≡ CheckFault.Write) (check_text (planned plan.now)) put) }
+
+    // Write comes only where the count of failed puts rose, and no file is written.
     ensures write { IsErrOf result CheckFault.Write → Rose (H.out_faults host.old) (H.out_faults host.new) }
     ensures leaves { LeavesFiles H.now H.may H.clock H.since host.old host.new }
     ensures later_out { H.out_faults host.old ≤ H.out_faults host.new }

@@ -47,7 +47,10 @@ impl Filter {
     /// Whether the event passes, in one step and without memory. A comparison with a column that the
     /// event lacks, with a literal of another kind, or of order between flags doesn't hold.
     pub fn holds<L: Ledger>(&self, event: &Event, steps: &mut Steps<L>) -> bool
+        // An event passes exactly where the condition holds of it.
         ensures value { result ≡ passes self.now event.now }
+
+        // It counts one step.
         ensures tick { steps.new ≡ steps.old + 1 }
     {
         steps.tick();

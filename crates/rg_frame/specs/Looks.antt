@@ -18,7 +18,7 @@ pub record HoldsFrame (place : ℕ) (payload bytes : List ℕ) : Type 0 where
   pub is : drop place bytes ≡ 1 ∷ (body payload ++ rest)
   pub more : 0 < length rest
 
--- the same, of a payload that has so many bytes
+-- a whole frame stands at the place, whose payload has so many bytes
 abbrev pub HoldsSize : ℕ → ℕ → List ℕ → Type 0
 HoldsSize place size bytes = (payload : List ℕ) × HoldsFrame place payload bytes × (length payload ≡ size)
 

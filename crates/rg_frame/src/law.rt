@@ -7,6 +7,7 @@ ghost use Rattle.rg_frame.specs.Looks.{HoldsFrame, IsClosed, IsTorn};
 /// A file has one frame list, which is what `frame_list` reads, or that list is undefined at one
 /// place, which it tells.
 pub fn law_frames()
+    // A file has one frame list, or is damaged at one place.
     ensures listed { (payloads : List (List ℕ)) (bytes : List ℕ) → HasPayloads payloads bytes → frame_list bytes ≡ Ok payloads }
     ensures defined { (payloads : List (List ℕ)) (bytes : List ℕ) → HasPayloads payloads bytes → payloads_in bytes ≡ Some payloads }
     ensures unique { (a b : List (List ℕ)) (bytes : List ℕ) → HasPayloads a bytes → HasPayloads b bytes → a ≡ b }
@@ -20,6 +21,7 @@ pub fn law_frames()
 /// At each place of a file at most one of three things stands: a whole frame, of one payload, no
 /// open gate, or an open gate without a whole frame. So the answers of a reading exclude each other.
 pub fn law_places()
+    // At a place stands a whole frame, no open gate, or an open gate without a whole frame, and no two of these.
     ensures whole { (place : ℕ) (payload bytes : List ℕ) → HoldsFrame place payload bytes → length payload < 2 ^ 64 → payload_at place bytes ≡ Some payload }
     ensures closed { (place : ℕ) (bytes : List ℕ) → IsClosed place bytes → payload_at place bytes ≡ None }
     ensures torn { (place : ℕ) (bytes : List ℕ) → IsTorn place bytes → payload_at place bytes ≡ None }

@@ -82,16 +82,23 @@ impl FrameLog {
         host: &mut H,
         head: &mut [u8],
     ) -> Result<Option<Head>, FrameFault>
+        // A frame is found where one stands, and no byte of its payload is read.
         ensures some { IfOk result (λ r. IfSome r (λ found. ForSome (H.now host.old) (λ v. HoldsHead self.old.end found.length head.new (v self.old.file)
             × ((payloads : List (List ℕ)) → Begins payloads self.old.end (v self.old.file) → Next payloads found.length head.new found.next (v self.old.file))))) }
         ensures moved { IfOk result (λ r. IfSome r (λ found. (found.place ≡ self.old.end) × (found.next ≡ self.old.end + 9 + found.length)
             × (self.new ≡ record self.old { end = found.next; ready = false }))) }
         ensures next { IfOk result (λ r. IfSome r (λ found. found.next < 2 ^ 62)) }
+
+        // The list's end is told exactly at a closed gate.
         ensures none { IfOk result (λ r. IfNone r (ForSome (H.now host.old) (λ v. IsClosed self.old.end (v self.old.file)
             × ((payloads : List (List ℕ)) → Begins payloads self.old.end (v self.old.file) → IsLog payloads self.old.end (v self.old.file))))) }
         ensures ready { IfOk result (λ r. IfNone r (self.new ≡ record self.old { ready = true })) }
+
+        // Damage is told exactly where an open gate has no whole frame and one byte more behind it.
         ensures damaged { (p : ℕ) → IsErrOf result (FrameFault.Damaged p) → ForSome (H.now host.old) (λ v. IsTorn p (v self.old.file)
             × ((payloads : List (List ℕ)) → Begins payloads self.old.end (v self.old.file) → IsDamaged p (v self.old.file))) }
+
+        // Disk comes only where the host's count of failed calls rose.
         ensures disk { IsErrOf result FrameFault.Disk → Rose (H.disk_faults host.old) (H.disk_faults host.new) }
         ensures faults { IfErr result (λ fault. (fault ≡ FrameFault.Disk) ⊎ (fault ≡ FrameFault.Damaged self.old.end)) }
         ensures err { OnErr result (self.new ≡ self.old) }
@@ -135,11 +142,16 @@ impl FrameLog {
         place: u64,
         out: &mut Vec<u8>,
     ) -> Result<Option<u64>, FrameFault>
+        // A frame is read where one stands.
         ensures some { IfOk result (λ r. IfSome r (λ next. ForSome (H.now host.old) (λ v. HoldsFrame place out.new.items (v self.now.file)))) }
         ensures next { IfOk result (λ r. IfSome r (λ next. next ≡ place + 9 + length out.new.items)) }
         ensures fits { IfOk result (λ r. IfSome r (λ next. next < 2 ^ 62)) }
+
+        // The list's end is told exactly at a closed gate.
         ensures none { IfOk result (λ r. IfNone r (ForSome (H.now host.old) (λ v. IsClosed place (v self.now.file)))) }
         ensures kept { IfOk result (λ r. IfNone r (out.new.items ≡ out.old.items)) }
+
+        // Damage is told exactly where an open gate has no whole frame and one byte more behind it.
         ensures damaged { (p : ℕ) → IsErrOf result (FrameFault.Damaged p) → ForSome (H.now host.old) (λ v. IsTorn p (v self.now.file)) }
         ensures disk { IsErrOf result FrameFault.Disk → Rose (H.disk_faults host.old) (H.disk_faults host.new) }
         ensures faults { IfErr result (λ fault. (fault ≡ FrameFault.Disk) ⊎ (fault ≡ FrameFault.Memory) ⊎ (fault ≡ FrameFault.Damaged place)) }
@@ -178,16 +190,25 @@ impl FrameLog {
         ensures place { IfOk result (λ place. place ≡ self.old.end) }
         ensures ok { OnOk result (self.new ≡ record self.old { end = self.old.end + 9 + length payload.now }) }
         ensures err { OnErr result (self.new ≡ record self.old { ended = true }) }
+
+        // An append or a clear that failed on the disk ends the log, and each later call answers Ended and touches
+        // nothing.
         ensures ended { (result ≡ Err FrameFault.Ended) ↔ (self.old.ended ≡ true) }
         ensures untouched { self.old.ended ≡ true → host.new ≡ host.old }
         ensures disk { self.old.ended ≡ false → OnErr result
             ((result ≡ Err FrameFault.Disk) × Rose (H.disk_faults host.old) (H.disk_faults host.new)) }
 
+        // After Ok the payload stands at the list's end, and nothing of the file is pending. The bytes in front of its
+        // gate and behind the next one are as they were.
         ensures appended { OnOk result (Becomes (H.now host.old) (H.now host.new)
             (InFile self.old.file (Appended self.old.end payload.now self.new.end))) }
         ensures added { OnOk result (Becomes (H.now host.old) (H.now host.new) (InFile self.old.file (Added self.old.end payload.now))) }
         ensures pending { OnOk result (NothingPending self.old.file (H.now host.new) (H.may host.new)) }
+
+        // At each moment the frame list is the one before, or that and the payload.
         ensures leaves { Writes H.now H.may H.clock H.since H.said self.old.file (From self.old.end (Grows payload.now)) host.old host.new }
+
+        // The other files are as in one image that a crash could leave at the start.
         ensures others { Becomes (H.now host.old) (H.now host.new) (InFile self.old.file (λ _ _. ⊤)) }
         ensures reaches { ReachesEnd self.new (H.now host.new) }
         ensures disk_faults { H.disk_faults host.old ≤ H.disk_faults host.new }
@@ -224,18 +245,26 @@ impl FrameLog {
     pub fn clear<H: Host>(&mut self, host: &mut H) -> Result<(), FrameFault>
         ensures ok { OnOk result (self.new ≡ record self.old { end = 0; ready = true }) }
         ensures err { OnErr result (self.new ≡ record self.old { ended = true }) }
+
+        // A clear or an append that failed on the disk ends the log, and each later call answers Ended and touches
+        // nothing.
         ensures ended { (result ≡ Err FrameFault.Ended) ↔ (self.old.ended ≡ true) }
         ensures untouched { self.old.ended ≡ true → host.new ≡ host.old }
         ensures disk { self.old.ended ≡ false → OnErr result
             ((result ≡ Err FrameFault.Disk) × Rose (H.disk_faults host.old) (H.disk_faults host.new)) }
 
+        // After Ok the list is empty, and every byte but an open gate is as it was.
         ensures none { OnOk result (Becomes (H.now host.old) (H.now host.new)
             (InFile self.old.file (λ _ bytes. HasPayloads [] bytes))) }
         ensures shut { OnOk result (Becomes (H.now host.old) (H.now host.new) (InFile self.old.file Shut)) }
+
+        // A closed gate is never written.
         ensures closed { ForSome (H.now host.old) (λ v. slice_index (v self.old.file) 0 ≢ 1
             → LeavesAll H.now H.may H.clock H.since H.said host.old host.new) }
         ensures pending { OnOk result (NothingPending self.old.file (H.now host.old) (H.may host.old)
             → NothingPending self.old.file (H.now host.new) (H.may host.new)) }
+
+        // At each moment the list is the one before, or empty.
         ensures leaves { Writes H.now H.may H.clock H.since H.said self.old.file OldOrNone host.old host.new }
         ensures others { Becomes (H.now host.old) (H.now host.new) (InFile self.old.file (λ _ _. ⊤)) }
         ensures reaches { ReachesEnd self.new (H.now host.new) }

@@ -265,7 +265,7 @@ pub record CanBegin (deep : ℕ) (tokens : List Token) : Type 0 where
   pub query : Query
   pub found : Found deep (tokens ++ rest) query
 
--- the same at any depth
+-- with more tokens behind them they are a query of some depth
 abbrev pub Begins : List Token → Type 0
 Begins tokens = (deep : ℕ) × CanBegin deep tokens
 

@@ -69,7 +69,7 @@ written_span millis = spanned 0 millis (named 0 (codes "ms")) Millisecond
 abbrev pub written_query : Query → Option SpanTree → Option SpanTree → QueryTree
 written_query (asked xs n t ns w) length delay = query (written_aggs xs) n (written_filter t) (written_group ns) (window length delay)
 
--- the same query over another window
+-- a query, over another window
 abbrev pub over_window : Query → Window → Query
 over_window (asked xs n t ns w) other = asked xs n t ns other
 

@@ -14,50 +14,59 @@ ghost use Rattle.rg_grammar.specs.Erase.{erase_token, erase_query};
 /// What the grammar has is read.
 #[tactic(auto, using(crate::proofs::Complete::complete))]
 pub fn law_complete()
+    // The machine reads every query of the grammar.
     ensures { (deep : ℕ) (t : QueryTree) → IsQuery t → query_depth t ≤ deep → run deep at_start (tokens_of t) ≡ read (query_of t) }
 {}
 
 /// Tokens that are found to ask a query are read as that query.
 pub fn law_found()
+    // A query that some tokens are, and no deeper, is read by the machine.
     ensures { (deep : ℕ) (ts : List Token) (q : Query) → Found deep ts q → run deep at_start ts ≡ read q }
 {}
 
 /// What is read is in the grammar.
 #[tactic(auto, using(crate::proofs::Sound::sound))]
 pub fn law_sound()
+    // What the machine reads is a query of the grammar.
     ensures { (deep : ℕ) (ts : List Token) (q : Query) → run deep at_start ts ≡ read q → Found deep ts q }
 {}
 
-/// The same tokens ask one query, whatever trees they are taken for, and however deep these may nest.
+/// Some tokens ask one query, whatever trees they are taken for, and however deep these may nest.
 pub fn law_one_query()
+    // Some tokens ask one query.
     ensures { (deep more : ℕ) (ts : List Token) (q other : Query) → Found deep ts q → Found more ts other → q ≡ other }
 {}
 
 /// Where a reading stops, the tokens so far begin a query, and with the next token they begin none; where no token is
 /// left, they are none.
 pub fn law_stops()
+    // The machine stops where no query of that depth goes on.
     ensures { (deep : ℕ) (ts rest : List Token) → run deep at_start ts ≡ stops rest → StopsAt deep ts rest }
 {}
 
 /// Only there does a reading stop.
 pub fn law_stops_only()
+    // It stops only there.
     ensures { (deep : ℕ) (ts rest : List Token) → StopsAt deep ts rest → run deep at_start ts ≡ stops rest }
 {}
 
 /// Where a reading nests too deep, the tokens so far begin a query within the depth, and with the next token they begin
 /// one, but none within it.
 pub fn law_nests()
+    // It is refused for depth where the tokens nest too deep.
     ensures at_token { (deep : ℕ) (ts : List Token) (t : Token) (more : List Token) → run deep at_start ts ≡ nests (t ∷ more) → NestsAt deep ts t more }
     ensures in_tokens { (deep : ℕ) (ts rest : List Token) → run deep at_start ts ≡ nests rest → NestsIn deep ts rest }
 {}
 
 /// Only there does a reading nest too deep.
 pub fn law_nests_only()
+    // It is refused for depth only there.
     ensures { (deep : ℕ) (ts : List Token) (t : Token) (more : List Token) → NestsAt deep ts t more → run deep at_start ts ≡ nests (t ∷ more) }
 {}
 
 /// A condition that is written with the parentheses that it needs means the same again, and nests no deeper than it did.
 pub fn law_written()
+    // A condition that is written again means the same and nests no deeper.
     ensures means { (t : Tree) → Means t }
     ensures shallow { (o : OrTree) → or_depth (written (or_tree o)).or ≤ or_depth o }
 {}
@@ -66,6 +75,8 @@ pub fn law_written()
 /// deeper than a query whose condition is joined alike.
 pub fn law_written_query()
     ensures legal { (q : Query) (length delay : Option SpanTree) → CanWrite q → IsMaybeSpan length → IsMaybeSpan delay → IsQuery (written_query q length delay) }
+
+    // A query that is written again asks the same and nests no deeper.
     ensures means { (q : Query) (length delay : Option SpanTree) → CanWrite q → query_of (written_query q length delay) ≡ over_window q (windowed (maybe_span length) (maybe_span delay)) }
     ensures shallow { (q : Query) (tree : QueryTree) (length delay : Option SpanTree) → filter_shape q ≡ filter_shape (query_of tree) → query_depth (written_query q length delay) ≤ query_depth tree }
     ensures can_write { (deep : ℕ) (ts : List Token) (q : Query) → Found deep ts q → CanWrite q }
@@ -75,6 +86,7 @@ pub fn law_written_query()
 
 /// Tokens that differ in their places alone are read as queries that do, or refused at the same token.
 pub fn law_places()
+    // Tokens that differ in their places alone are read alike.
     ensures reads { (deep : ℕ) (ts us : List Token) (q : Query) → map erase_token ts ≡ map erase_token us → run deep at_start ts ≡ read q → (again : Query) × (run deep at_start us ≡ read again) × (erase_query again ≡ erase_query q) }
     ensures stops_too { (deep : ℕ) (ts us rest : List Token) → map erase_token ts ≡ map erase_token us → run deep at_start ts ≡ stops rest → (again : List Token) × (run deep at_start us ≡ stops again) × (map erase_token again ≡ map erase_token rest) }
     ensures nests_too { (deep : ℕ) (ts us rest : List Token) → map erase_token ts ≡ map erase_token us → run deep at_start ts ≡ nests rest → (again : List Token) × (run deep at_start us ≡ nests again) × (map erase_token again ≡ map erase_token rest) }

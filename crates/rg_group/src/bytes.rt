@@ -38,7 +38,7 @@ impl Model for KeyBytes {
 }
 
 impl KeyBytes {
-    /// The same bytes, in the key itself where they are few.
+    /// These bytes, in the key itself where they are few.
     pub(crate) fn from_slice(alloc: Global, bytes: &[u8]) -> Result<KeyBytes, Memory>
         ensures { IfOk result (λ kept. kept ≡ bytes.now) }
     {

@@ -170,8 +170,11 @@ impl Key {
     /// Makes it the key of this event by these columns, as `key_of` does, in the room that it has where
     /// that is enough. Where memory runs out its bytes mean nothing.
     pub fn set_of(&mut self, fields: &[u32], event: &Event) -> Result<(), Memory>
+        // The key is the tagged bytes of the event's values in these columns.
         ensures bytes { OnOk result (self.new ≡ key_bytes (key_values fields.now event.now)) }
         ensures storable { OnOk result (AreStorable (key_values fields.now event.now)) }
+
+        // The bytes of two keys are equal exactly where the values are.
         ensures exact { (vs ws : List Value) → AreStorable vs → AreStorable ws → key_bytes vs ≡ key_bytes ws → vs ≡ ws }
         ensures short { OnOk result (length self.new ≤ 257 * length fields.now) }
     {
@@ -182,6 +185,7 @@ impl Key {
 
     /// Whether it is the key of this event by these columns, counted from 1. It takes no memory.
     pub fn is_of(&self, fields: &[u32], event: &Event) -> bool
+        // It tells whether this is the event's key without making the event's.
         ensures value { IsTrue result ↔ (self.now ≡ key_bytes (key_values fields.now event.now)) }
         ensures same { (other : Event) → AreStorable (key_values fields.now other) → self.now ≡ key_bytes (key_values fields.now other) → result ≡ same_values (key_values fields.now event.now) (key_values fields.now other) }
     {
@@ -198,8 +202,11 @@ impl Key {
 
 /// The key of an event by these columns, counted from 1. A column that the event lacks adds nothing.
 pub fn key_of(alloc: Global, fields: &[u32], event: &Event) -> Result<Key, Memory>
+    // The key is the tagged bytes of the event's values in these columns.
     ensures bytes { IfOk result (λ key. key ≡ key_bytes (key_values fields.now event.now)) }
     ensures storable { IfOk result (λ _. AreStorable (key_values fields.now event.now)) }
+
+    // The bytes of two keys are equal exactly where the values are.
     ensures exact { (vs ws : List Value) → AreStorable vs → AreStorable ws → key_bytes vs ≡ key_bytes ws → vs ≡ ws }
     ensures short { IfOk result (λ key. length key ≤ 257 * length fields.now) }
 {
@@ -288,7 +295,7 @@ fn head_of(bytes: &[u8]) -> u64
     }
 }
 
-/// The same, one byte at a time.
+/// The first eight bytes as a number, missing ones as 0, one byte at a time.
 fn short_head(bytes: &[u8]) -> u64
     ensures { result ≡ packed 8 0 bytes.now }
 {

@@ -86,7 +86,7 @@ only_now first (effect ∷ past) m (inl (le, may, said)) = (may, said)
 only_now first (effect ∷ past) m (inr (inl (le, within))) = absurd (omega (arith, le))
 only_now first (effect ∷ past) m (inr (inr earlier)) = absurd (omega (arith, since_past first past (length (effect ∷ past)) m earlier))
 
--- the same of what is told
+-- at the present moment what is told is what was put
 pub only_told : (first : Image) (effects : List Effect) (m : Moment) → IsSince first effects (length effects) m → may_after first effects m.image × ForSome (Some (said_after effects)) (λ said. m.said ≡ said)
 only_told first effects m now = let only = only_now first effects m now in (only.0, λ told is. only.1 ∙ some-same _ _ is)
 

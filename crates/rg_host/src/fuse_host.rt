@@ -103,6 +103,8 @@ impl<H: Host> Host for FuseHost<H> {
         ensures disk_faults { disk_count H.disk_faults self.old ≤ disk_count H.disk_faults self.new }
         ensures out_faults { out_count H.out_faults self.new ≡ out_count H.out_faults self.old }
         ensures reads { read_count H.reads self.new ≡ read_count H.reads self.old }
+
+        // While calls are left the host below answers. Then each call fails and is counted.
         ensures passes { 0 < self.old.left → HasPassed self.old self.new }
         ensures inner_cause { 0 < self.old.left → OnErr result (Rose (H.disk_faults self.old.inner) (H.disk_faults self.new.inner)) }
         ensures fails { self.old.left ≡ 0 → IsErr result × (self.new ≡ with_disk_fault self.old) }
@@ -128,6 +130,8 @@ impl<H: Host> Host for FuseHost<H> {
         ensures out_faults { out_count H.out_faults self.new ≡ out_count H.out_faults self.old }
         ensures reads { Rose (read_count H.reads self.old) (read_count H.reads self.new) }
         ensures reads_kept { read_count H.reads self.old ≤ read_count H.reads self.new }
+
+        // While calls are left the host below answers. Then each call fails and is counted.
         ensures passes { 0 < self.old.left → HasPassed self.old self.new }
         ensures inner_cause { 0 < self.old.left → OnErr result (Rose (H.disk_faults self.old.inner) (H.disk_faults self.new.inner)) }
         ensures fails { self.old.left ≡ 0 → IsErr result × (self.new ≡ with_disk_fault (with_read self.old)) }
@@ -155,6 +159,8 @@ impl<H: Host> Host for FuseHost<H> {
         ensures disk_faults { disk_count H.disk_faults self.old ≤ disk_count H.disk_faults self.new }
         ensures out_faults { out_count H.out_faults self.new ≡ out_count H.out_faults self.old }
         ensures reads { read_count H.reads self.new ≡ read_count H.reads self.old }
+
+        // While calls are left the host below answers. Then each call fails and is counted.
         ensures passes { 0 < self.old.left → HasPassed self.old self.new }
         ensures inner_cause { 0 < self.old.left → OnErr result (Rose (H.disk_faults self.old.inner) (H.disk_faults self.new.inner)) }
         ensures fails { self.old.left ≡ 0 → IsErr result × (self.new ≡ with_disk_fault self.old) }
@@ -179,6 +185,8 @@ impl<H: Host> Host for FuseHost<H> {
         ensures disk_faults { disk_count H.disk_faults self.old ≤ disk_count H.disk_faults self.new }
         ensures out_faults { out_count H.out_faults self.new ≡ out_count H.out_faults self.old }
         ensures reads { read_count H.reads self.new ≡ read_count H.reads self.old }
+
+        // While calls are left the host below answers. Then each call fails and is counted.
         ensures passes { 0 < self.old.left → HasPassed self.old self.new }
         ensures inner_cause { 0 < self.old.left → OnErr result (Rose (H.disk_faults self.old.inner) (H.disk_faults self.new.inner)) }
         ensures fails { self.old.left ≡ 0 → IsErr result × (self.new ≡ with_disk_fault self.old) }
@@ -200,6 +208,8 @@ impl<H: Host> Host for FuseHost<H> {
         ensures disk_faults { disk_count H.disk_faults self.new ≡ disk_count H.disk_faults self.old }
         ensures out_faults { out_count H.out_faults self.old ≤ out_count H.out_faults self.new }
         ensures reads { read_count H.reads self.new ≡ read_count H.reads self.old }
+
+        // While calls are left the host below answers. Then each call fails and is counted.
         ensures passes { 0 < self.old.left → HasPassed self.old self.new }
         ensures inner_cause { 0 < self.old.left → OnErr result (Rose (H.out_faults self.old.inner) (H.out_faults self.new.inner)) }
         ensures fails { self.old.left ≡ 0 → IsErr result × (self.new ≡ with_out_fault self.old) }

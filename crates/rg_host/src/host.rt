@@ -56,6 +56,8 @@ pub trait Host {
         requires { file < 8 }
         ensures count { IfOk result (λ n. n ≤ length buf.old) }
         ensures size { length buf.new ≡ length buf.old }
+
+        // A read gives the bytes that stand there, and leaves files and output.
         ensures bytes { IfOk result (λ n. ForSome (now self.old) (λ v. take n buf.new ≡ take n (drop at (v file)))) }
         ensures within { IfOk result (λ n. ForSome (now self.old) (λ v. n ≤ length (drop at (v file)))) }
         ensures end { IfOk result (λ n. ForSome (now self.old) (λ v. n ≡ 0 → 0 < length buf.old → length (v file) ≤ at)) }
@@ -72,11 +74,14 @@ pub trait Host {
     fn write_at(&mut self, file: u32, at: u64, bytes: &[u8]) -> Result<(), Failed>
         requires file { file < 8 }
         requires within { ForSome (now self.old) (λ v. at ≤ length (v file)) }
+        // The bytes stand there afterwards; a write that fails leaves the bytes outside its range.
         ensures written { OnOk result (Becomes (now self.old) (now self.new) (InFile file (Holds at bytes.now))) }
         ensures torn { OnErr result (Becomes (now self.old) (now self.new) (InFile file (Torn at (length bytes.now)))) }
         ensures limit { OnOk result (at + length bytes.now ≤ 2 ^ 62) }
         ensures may { Follows (InFile file (Torn at (length bytes.now))) (may self.old) (may self.new) }
         ensures said { said self.new ≡ said self.old }
+
+        // At each moment a crash may leave any bytes in that range, and nothing else changes.
         ensures moments { Moments clock since self.old self.new
             (λ m. IsAfter (InFile file (Torn at (length bytes.now))) (may self.old) m.image × ForSome (said self.old) (λ s. m.said ≡ s)) }
         ensures cause { OnErr result (Rose (disk_faults self.old) (disk_faults self.new)) }
@@ -87,6 +92,7 @@ pub trait Host {
     /// Settles a file: a crash then leaves of it what reads give. `Failed` settles nothing.
     fn sync(&mut self, file: u32) -> Result<(), Failed>
         requires { file < 8 }
+        // After a sync that succeeds nothing of its file is pending.
         ensures settled { OnOk result (NothingPending file (now self.new) (may self.new)) }
         ensures now { now self.new ≡ now self.old }
         ensures may { (v : Image) → may self.new v → may self.old v }
@@ -103,6 +109,8 @@ pub trait Host {
     fn put(&mut self, bytes: &[u8]) -> Result<usize, Failed>
         ensures count { IfOk result (λ n. n ≤ length bytes.now) }
         ensures at_least_one { IfOk result (λ n. 0 < length bytes.now → 0 < n) }
+
+        // A put appends a prefix of what it is given, and at each moment a prefix of it is out.
         ensures puts { Puts said clock since self.old self.new (put_of result bytes.now) }
         ensures leaves { LeavesFiles now may clock since self.old self.new }
         ensures cause { OnErr result (Rose (out_faults self.old) (out_faults self.new)) }
@@ -125,9 +133,12 @@ pub trait Host {
 
 /// Puts all of these bytes. After `Failed` a prefix of them was put.
 pub fn put_all<H: Host>(host: &mut H, bytes: &[u8]) -> Result<(), Failed>
+    // All bytes were put, or a prefix of them where a put failed.
     ensures all { OnOk result (Puts H.said H.clock H.since host.old host.new bytes.now) }
     ensures part { (part : List ℕ) × IsPrefix part bytes.now × Puts H.said H.clock H.since host.old host.new part }
     ensures leaves { LeavesFiles H.now H.may H.clock H.since host.old host.new }
+
+    // It fails only where the count of failed puts rose.
     ensures cause { OnErr result (Rose (H.out_faults host.old) (H.out_faults host.new)) }
     ensures disk_faults { H.disk_faults host.new ≡ H.disk_faults host.old }
     ensures out_faults { H.out_faults host.old ≤ H.out_faults host.new }

@@ -62,6 +62,7 @@ impl Lines {
     /// Whether a line that LF ends has come whole: then `next` hands it out and asks the source for
     /// nothing.
     pub fn has_line(&self) -> bool
+        // It tells whether a line is held whole.
         ensures none { result ≡ false → HasNoLf self.now.pending }
         ensures some { result ≡ true → ¬ HasNoLf self.now.pending }
     {
@@ -73,11 +74,19 @@ impl Lines {
     /// lines are to come. Once the source was at its end, or gave a byte past the limit, it is
     /// asked for nothing more.
     pub fn next<S: Source>(&mut self, src: &mut S) -> Result<Line<'_>, LineFault>
+        // What is handed out is the first of the lines to come, whatever comes behind it; a last text without LF is one
+        // only at the end.
         ensures* after { sem 𝓛 (Rests the_row self.entry (λ new. Next self.old new (S.left src.old) (S.left src.new) result)) }
+
+        // Each refusal has its cause, and the count of faults doesn't fall.
         ensures cause { IsErrOf result LineFault.Read → Rose (S.faults src.old) (S.faults src.new) }
         ensures later { S.faults src.old ≤ S.faults src.new }
+
+        // The end and the limit stay.
         ensures after_end { self.old.ended ≡ true → src.new ≡ src.old }
         ensures after_limit { 2 ^ 50 < self.old.taken → src.new ≡ src.old }
+
+        // A line that is held whole is handed out without a read of the source.
         ensures held { ¬ HasNoLf self.old.pending → src.new ≡ src.old }
     {
         match self.scanner.load(src) {

@@ -85,6 +85,7 @@ impl MemHost {
     /// pending. Its output is empty, no call was made on it, and none is to fail.
     pub fn stop_image(&self, call: u64, pick: Pick) -> Result<MemHost, Memory>
         requires { call ≤ ⟦<MemHost as Host>⟧.clock self.now }
+        // The image is one that a crash may leave after so many calls.
         ensures image { IfOk result (λ host. now_in host
             ≡ Some (left_after pick (image_of self.now.first) (first_effects call self.now.effects))) }
 
@@ -214,6 +215,8 @@ impl Host for MemHost {
         ensures disk_faults { self.old.disk_faults ≤ self.new.disk_faults }
         ensures out_faults { self.new.out_faults ≡ self.old.out_faults }
         ensures reads { self.new.reads ≡ self.old.reads }
+
+        // A listed call fails. Any other call fails only where memory runs out.
         ensures listed { IsListed self.old → IsErr result }
         ensures unlisted { IsErr result → IsListed self.old ⊎ (self.new ≡ unnoted (with_disk_fault self.old)) }
         ensures ok { OnOk result (self.new ≡ noted nothing self.old) }
@@ -244,6 +247,8 @@ impl Host for MemHost {
         ensures out_faults { self.new.out_faults ≡ self.old.out_faults }
         ensures reads { Rose self.old.reads self.new.reads }
         ensures reads_kept { self.old.reads ≤ self.new.reads }
+
+        // A listed call fails. Any other call fails only where memory runs out.
         ensures listed { IsListed self.old → IsErr result }
         ensures unlisted { IsErr result → IsListed self.old ⊎ (self.new ≡ unnoted (with_disk_fault (with_read self.old))) }
         ensures ok { OnOk result (self.new ≡ noted nothing (with_read self.old)) }
@@ -276,6 +281,8 @@ impl Host for MemHost {
         ensures disk_faults { self.old.disk_faults ≤ self.new.disk_faults }
         ensures out_faults { self.new.out_faults ≡ self.old.out_faults }
         ensures reads { self.new.reads ≡ self.old.reads }
+
+        // A listed call fails. Any other call fails only where memory runs out, or where the write would end past 2^62.
         ensures listed { IsListed self.old → IsErr result }
         ensures unlisted { IsErr result → IsListed self.old ⊎ (2 ^ 62 < at + length bytes.now) ⊎ (self.new ≡ unnoted (with_disk_fault self.old)) }
         ensures ok { OnOk result (self.new ≡ noted (wrote file at bytes.now) self.old) }
@@ -312,6 +319,8 @@ impl Host for MemHost {
         ensures disk_faults { self.old.disk_faults ≤ self.new.disk_faults }
         ensures out_faults { self.new.out_faults ≡ self.old.out_faults }
         ensures reads { self.new.reads ≡ self.old.reads }
+
+        // A listed call fails. Any other call fails only where memory runs out.
         ensures listed { IsListed self.old → IsErr result }
         ensures unlisted { IsErr result → IsListed self.old ⊎ (self.new ≡ unnoted (with_disk_fault self.old)) }
         ensures ok { OnOk result (self.new ≡ noted (synced file) self.old) }
@@ -341,6 +350,8 @@ impl Host for MemHost {
         ensures disk_faults { self.new.disk_faults ≡ self.old.disk_faults }
         ensures out_faults { self.old.out_faults ≤ self.new.out_faults }
         ensures reads { self.new.reads ≡ self.old.reads }
+
+        // A listed call fails. Any other call fails only where memory runs out.
         ensures listed { IsListed self.old → IsErr result }
         ensures unlisted { IsErr result → IsListed self.old ⊎ (self.new ≡ unnoted (with_out_fault self.old)) }
         ensures ok { OnOk result (self.new ≡ noted (put bytes.now) self.old) }

@@ -31,8 +31,12 @@ pub trait Source {
     /// comes only at the end of the input.
     fn read(&mut self, buf: &mut [u8]) -> Result<usize, Failed>
         ensures count { IfOk result (λ n. n ≤ length buf.old) }
+
+        // A read gives the next bytes that the source has.
         ensures bytes { IfOk result (λ n. left self.old ≡ before (take n buf.new) (left self.new)) }
         ensures end { IfOk result (λ n. n ≡ 0 → 0 < length buf.old → IsAtEnd (left self.new)) }
+
+        // A failed read takes none, and the count of faults rose.
         ensures kept { OnErr result (left self.new ≡ left self.old) }
         ensures cause { OnErr result (Rose (faults self.old) (faults self.new)) }
         ensures later { faults self.old ≤ faults self.new };
@@ -65,6 +69,7 @@ const PIECE: usize = 8192;
 /// Reads all there is, at most `max` bytes. What was taken before a refusal is lost: at `Limit`,
 /// one byte more than the limit.
 pub fn read_all<S: Source>(alloc: Global, src: &mut S, max: usize) -> Result<Vec<u8>, AllFault>
+    // All bytes are given, at most so many, and the source is at its end.
     ensures all { IfOk result (λ all. S.left src.old ≡ before all.items (S.left src.new)) }
     ensures end { OnOk result (IsAtEnd (S.left src.new)) }
     ensures within { IfOk result (λ all. length all.items ≤ max) }
@@ -73,8 +78,12 @@ pub fn read_all<S: Source>(alloc: Global, src: &mut S, max: usize) -> Result<Vec
     ensures taken { (got : List ℕ) × (S.left src.old ≡ before got (S.left src.new)) × (length got ≤ max + 1) }
     ensures taken_within { ¬ IsErrOf result AllFault.Limit
         → (got : List ℕ) × (S.left src.old ≡ before got (S.left src.new)) × (length got ≤ max) }
+
+    // A longer source was read to the limit and one byte beyond.
     ensures limit { IsErrOf result AllFault.Limit
         → (got : List ℕ) × (S.left src.old ≡ before got (S.left src.new)) × (length got ≡ max + 1) }
+
+    // Read comes only where the source's count of faults rose.
     ensures read { IsErrOf result AllFault.Read → Rose (S.faults src.old) (S.faults src.new) }
     ensures later { S.faults src.old ≤ S.faults src.new }
 {

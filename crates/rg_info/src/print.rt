@@ -54,8 +54,11 @@ pub fn info<H: Host>(alloc: Global, host: &mut H) -> Result<(), InfoFault>
 
     // Nothing was put, or, where a put failed, a prefix of the text.
     ensures stops { IfErr result (λ fault. (fault ≡ InfoFault.Write) ⊎ Puts H.said H.clock H.since host.old host.new []) }
+
+    // Where a put failed, a prefix of the text was put.
     ensures cut { IsErrOf result InfoFault.Write → ForSome (H.now host.old) (λ v. (lines : List (List ℕ)) × (put : List ℕ) × IsInfo v lines × IsPrefix put (ended lines) × Puts H.said H.clock H.since host.old host.new put) }
 
+    // Each fault has its cause, and no file is written.
     ensures write { IsErrOf result InfoFault.Write → Rose (H.out_faults host.old) (H.out_faults host.new) }
     ensures disk { IsErrOf result InfoFault.Disk → Rose (H.disk_faults host.old) (H.disk_faults host.new) }
     ensures leaves { LeavesFiles H.now H.may H.clock H.since host.old host.new }

@@ -92,8 +92,11 @@ impl SlotIndex {
     /// Holds this slot for a key from now on. What it holds for other keys stays, also where memory runs
     /// out.
     pub fn put(&mut self, alloc: Global, mix: u64, key: &Key, slot: u32) -> Result<(), Memory>
+        // The slot is among the key's candidates.
         ensures held { OnOk result (Holds self.new.buckets.items self.new.overflow mix key.now slot) }
         ensures roomy { HasRoom self.old.buckets.items mix slot → IsOk result × (self.new.overflow ≡ self.old.overflow) }
+
+        // The slots of other keys stay among theirs, also where memory runs out.
         ensures others { (m : ℕ) (k : List ℕ) (s : ℕ) → (k ≡ key.now → ⊥) → Holds self.old.buckets.items self.old.overflow m k s → Holds self.new.buckets.items self.new.overflow m k s }
     {
         if self.put_guess(mix, slot) {
@@ -107,6 +110,8 @@ impl SlotIndex {
     pub fn remove(&mut self, mix: u64, key: &Key, slot: u32)
         ensures emptied { IsGuessed self.old.buckets.items mix slot → HasRoom self.new.buckets.items mix slot }
         ensures gone { (IsGuessed self.old.buckets.items mix slot → ⊥) → get (slice_cmp nat_cmp) self.new.overflow key.now ≡ None }
+
+        // The other slots of other keys stay among theirs.
         ensures others { (m : ℕ) (k : List ℕ) (s : ℕ) → (k ≡ key.now → ⊥) → (s ≡ slot → ⊥) → Holds self.old.buckets.items self.old.overflow m k s → Holds self.new.buckets.items self.new.overflow m k s }
     {
         if self.remove_guess(mix, slot) {

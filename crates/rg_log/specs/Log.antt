@@ -33,6 +33,6 @@ HasFrame bytes = (first : List ℕ) × (payloads : List (List ℕ)) × HasPayloa
 abbrev pub IsInForce : Shape → List ℕ → Type 0
 IsInForce shape bytes = (first : List ℕ) × (payloads : List (List ℕ)) × (stages : List Stage) × HasPayloads (first ∷ payloads) bytes × HasStages shape (first ∷ payloads) stages
 
--- the same, or the file has no frame
+-- the file has no frame, or at its end this schema is in force
 abbrev pub IsOfSchema : Shape → List ℕ → Type 0
 IsOfSchema shape bytes = HasPayloads [] bytes ⊎ IsInForce shape bytes

@@ -123,6 +123,7 @@ impl LogSoFar {
     /// no frame that its place asks for.
     #[tactic(auto, using(crate::proofs::Entries::schema_read, crate::proofs::Entries::no_schema))]
     pub fn entry(&self, alloc: Global, payload: &[u8]) -> Result<Entry, EntryFault>
+        // It tells what a frame is by its payload and the schema in force.
         ensures is { IfOk result (λ entry. entry_of self.now.schema payload.now ≡ Some entry) }
         ensures bad { IsErrOf result EntryFault.Bad → entry_of self.now.schema payload.now ≡ None }
     {
@@ -146,6 +147,7 @@ impl LogSoFar {
 
     /// Goes on behind a frame. `Bad` comes exactly where it doesn't continue those before it. A fault leaves all as it was.
     pub fn pass(&mut self, alloc: Global, entry: &Entry) -> Result<(), EntryFault>
+        // A frame is passed exactly where it may follow those before it.
         ensures ok { OnOk result (with_entry self.old entry.now ≡ Some self.new) }
         ensures bad { IsErrOf result EntryFault.Bad → with_entry self.old entry.now ≡ None }
         ensures few { self.old.summary.count ≤ 2 ^ 40 → self.new.summary.count ≤ 2 ^ 40 }
@@ -180,6 +182,7 @@ impl LogSoFar {
 
     /// The events of the next frame, read whole. `Bad` comes exactly where it is no chunk of the schema in force.
     pub fn events(&self, alloc: Global, payload: &[u8]) -> Result<Chunk, EntryFault>
+        // The events of a chunk, and none exactly where the payload is no chunk of the schema in force.
         ensures is { IfOk result (λ chunk. events_by self.now.schema payload.now ≡ Some chunk) }
         ensures bad { IsErrOf result EntryFault.Bad → events_by self.now.schema payload.now ≡ None }
     {

@@ -44,10 +44,15 @@ pub use summary::LogSummary;
 /// A file has one list of stages, so one list of events, all of them of the schema in force at its end, and with a frame one
 /// such schema. A log without a growth is what it was before schemas grew, with the same events.
 pub fn law_stages()
+    // A file has one list of stages: chunks and growths.
     ensures one { (shape other : Shape) (stages others : List Stage) (bytes : List ℕ) → IsLegalLog shape stages bytes → IsLegalLog other others bytes → stages ≡ others }
     ensures one_schema { (shape other : Shape) (stages others : List Stage) (bytes : List ℕ) → HasFrame bytes → IsLegalLog shape stages bytes → IsLegalLog other others bytes → shape ≡ other }
     ensures one_list { (shape other : Shape) (events others : List Event) (bytes : List ℕ) → HasEvents shape events bytes → HasEvents other others bytes → events ≡ others }
+
+    // All events are of the schema in force at the log's end.
     ensures of { (shape : Shape) (events : List Event) (bytes : List ℕ) → HasEvents shape events bytes → All (IsEventOf shape.fields) events }
+
+    // A log without a growth has the same events as before schemas grew.
     ensures as_before { (shape : Shape) (chunks : List (List Event)) (bytes : List ℕ) → IsPlainLog shape chunks bytes ↔ IsLegalLog shape (plain chunks) bytes }
     ensures same_events { (chunks : List (List Event)) → logged (plain chunks) ≡ joined chunks }
     ensures events_before { (shape : Shape) (events : List Event) (bytes : List ℕ) → HasPlainEvents shape events bytes → HasEvents shape events bytes }
@@ -59,6 +64,8 @@ pub fn law_stages()
 /// there are no events to read.
 pub fn law_events()
     ensures stages { (shape : Shape) (stages : List Stage) (bytes : List ℕ) → IsLegalLog shape stages bytes → stages_in bytes ≡ Some stages }
+
+    // The events are a function of the file's bytes.
     ensures reads { (shape : Shape) (events : List Event) (bytes : List ℕ) → HasEvents shape events bytes → events_of bytes ≡ Some events }
     ensures none { (bytes : List ℕ) → HasPayloads [] bytes → events_of bytes ≡ Some [] }
     ensures damaged { (place : ℕ) (bytes : List ℕ) → IsDamaged place bytes → events_of bytes ≡ None }
@@ -74,6 +81,7 @@ pub fn law_events()
 
 /// Further values change neither the number of events nor their order.
 pub fn law_extended()
+    // Further values change neither the number of events nor their order.
     ensures count { (values : List Value) (events : List Event) → length (all_extended values events) ≡ length events }
     ensures rising { (values : List Value) (events : List Event) → IsRising events → IsRising (all_extended values events) }
     ensures next { (values : List Value) (events : List Event) → next_offset (all_extended values events) ≡ next_offset events }
@@ -83,23 +91,30 @@ pub fn law_extended()
 /// A log with a frame has one schema in force at its end: the one that it begins with, until a growth comes. A chunk leaves
 /// it in force, and its events come behind the old ones; a growth puts its values behind those of each event.
 pub fn law_log()
+    // A log with a frame has one schema in force at its end.
     ensures one { (shape other : Shape) (bytes : List ℕ) → IsInForce shape bytes → IsInForce other bytes → shape ≡ other }
     ensures of_log { (shape : Shape) (events : List Event) (bytes : List ℕ) → HasFrame bytes → HasEvents shape events bytes → IsInForce shape bytes }
 
     // The schema's frame comes behind a log without a frame.
     ensures begins { (shape : Shape) (old new : List ℕ) → IsSchema shape → HasPayloads [] old → Grows (schema_payload shape) old new →
         (HasPayloads [] new ⊎ IsInForce shape new) × HasEvents shape [] new }
+
+    // The schema's frame behind a log without one gives a log without events.
     ensures begun { (shape : Shape) (old new : List ℕ) → IsSchema shape → HasPayloads [] old → Grown (schema_payload shape) old new → IsInForce shape new × HasEvents shape [] new }
 
     // A chunk comes behind a log that its events continue.
     ensures adds { (shape : Shape) (events chunk : List Event) (payload old new : List ℕ) → IsInForce shape old → HasEvents shape events old → IsChunkOf shape payload chunk →
         IsRising (events ++ chunk) → length (events ++ chunk) ≤ 2 ^ 40 → Grows payload old new → IsInForce shape new × (HasEvents shape events new ⊎ HasEvents shape (events ++ chunk) new) }
+
+    // A chunk leaves the schema in force, and its events come behind the others.
     ensures added { (shape : Shape) (events chunk : List Event) (payload old new : List ℕ) → IsInForce shape old → HasEvents shape events old → IsChunkOf shape payload chunk →
         IsRising (events ++ chunk) → length (events ++ chunk) ≤ 2 ^ 40 → Grown payload old new → IsInForce shape new × HasEvents shape (events ++ chunk) new }
 
     // A growth comes.
     ensures grows { (shape : Shape) (growth : Growth) (events : List Event) (payload old new : List ℕ) → IsInForce shape old → HasEvents shape events old → IsGrowth shape payload growth →
         Grows payload old new → (IsInForce shape new × HasEvents shape events new) ⊎ (IsInForce growth.to new × HasEvents growth.to (all_extended growth.values events) new) }
+
+    // A growth gives its own schema, and puts its values behind those of each event.
     ensures grown { (shape : Shape) (growth : Growth) (events : List Event) (payload old new : List ℕ) → IsInForce shape old → HasEvents shape events old → IsGrowth shape payload growth →
         Grown payload old new → IsInForce growth.to new × HasEvents growth.to (all_extended growth.values events) new }
 {
@@ -110,8 +125,11 @@ pub fn law_log()
 /// are the log's own. They stay the same when the growth by the defaults comes behind the log: before it they have the defaults
 /// behind their own values, and then those are their own.
 pub fn law_filled()
+    // Where the schema is in force, a log's events for it are its own.
     ensures own { (shape : Shape) (defaults : Given) (events : List Event) (bytes : List ℕ) → IsInForce shape bytes → HasEventsFor shape defaults events bytes → HasEvents shape events bytes }
     ensures none { (shape : Shape) (defaults : Given) (events : List Event) (bytes : List ℕ) → HasPayloads [] bytes → HasEventsFor shape defaults events bytes → events ≡ [] }
+
+    // A log has one list of events for a schema and its defaults, all of that schema.
     ensures one { (shape : Shape) (defaults : Given) (events others : List Event) (bytes : List ℕ) → HasEventsFor shape defaults events bytes → HasEventsFor shape defaults others bytes → events ≡ others }
     ensures of { (shape : Shape) (defaults : Given) (events : List Event) (bytes : List ℕ) → HasEventsFor shape defaults events bytes → All (IsEventOf shape.fields) events }
     ensures rising { (shape : Shape) (defaults : Given) (events : List Event) (bytes : List ℕ) → HasEventsFor shape defaults events bytes → IsRising events × (length events ≤ 2 ^ 40) }
@@ -121,6 +139,8 @@ pub fn law_filled()
     // The growth comes behind the log.
     ensures grows { (from shape : Shape) (defaults : Given) (values : List Value) (events : List Event) (old new : List ℕ) → IsFilled from shape defaults values → IsInForce from old →
         HasEventsFor shape defaults events old → Grows (growth_bytes (growth_to shape values)) old new → HasEventsFor shape defaults events new }
+
+    // The growth by these defaults changes none of these events.
     ensures grown { (from shape : Shape) (defaults : Given) (values : List Value) (events : List Event) (old new : List ℕ) → IsFilled from shape defaults values → IsInForce from old →
         HasEventsFor shape defaults events old → Grown (growth_bytes (growth_to shape values)) old new → HasEvents shape events new }
     ensures of_schema { (from shape : Shape) (defaults : Given) (values : List Value) (old new : List ℕ) → IsFilled from shape defaults values → IsInForce from old →
@@ -134,15 +154,22 @@ pub fn law_filled()
 /// the schema in force, which is the other schema from there on. So it takes each frame of a legal log, and then says the
 /// schema in force and what the events come to.
 pub fn law_entries()
+    // The first frame is that of a schema, and no other frame is.
     ensures first { (shape : Shape) → IsSchema shape → entry_after unread (schema_payload shape) ≡ Some (behind shape nothing) }
     ensures only_first { (payload : List ℕ) (next : TheLogSoFar) → entry_after unread payload ≡ Some next → (shape : Shape) × IsSchema shape × (payload ≡ schema_payload shape) × (next ≡ behind shape nothing) }
+
+    // A chunk is taken exactly where its head may follow the chunks before it.
     ensures chunk { (shape : Shape) (summary : TheLogSummary) (payload : List ℕ) (head : ChunkHead) → head_of payload ≡ Some head →
         entry_after (behind shape summary) payload ≡ option_map (behind shape) (told_by summary (Some head)) }
+
+    // A growth of the schema in force is taken, and moves that schema.
     ensures growth { (shape : Shape) (summary : TheLogSummary) (payload : List ℕ) (growth : Growth) → IsGrowth shape payload growth → entry_after (behind shape summary) payload ≡ Some (behind growth.to summary) }
     ensures neither { (shape : Shape) (summary : TheLogSummary) (payload : List ℕ) → head_of payload ≡ None → growth_of shape payload ≡ None → entry_after (behind shape summary) payload ≡ None }
     ensures front { (shape : Shape) (a b : List ℕ) (head : ChunkHead) → take 37 a ≡ take 37 b → further_entry shape a ≡ Some (Entry.Chunk head) → further_entry shape b ≡ Some (Entry.Chunk head) }
     ensures counted { (shape : Shape) (summary : TheLogSummary) (payload : List ℕ) (next : TheLogSoFar) → entry_after (behind shape summary) payload ≡ Some next →
         (entry : TheEntry) × (further_entry shape payload ≡ Some entry) × (next.summary.count ≡ summary.count + count_of entry) × (next.schema ≡ Some (shape_behind shape entry)) }
+
+    // Each frame of a legal log is taken, and the schema and the events come out.
     ensures legal { (shape : Shape) (payloads : List (List ℕ)) (stages : List Stage) → HasStages shape payloads stages → 1 ≤ length payloads → IsRising (logged stages) →
         length (logged stages) ≤ 2 ^ 40 → entries_after unread payloads ≡ Some (behind shape (summary_of (logged stages))) }
 {}
@@ -150,6 +177,7 @@ pub fn law_entries()
 /// A spot stays what it is when any frame comes behind a log, and the heads of the chunks and the growths alone tell which
 /// spots of a legal log are spelled.
 pub fn law_spots()
+    // A spot that is spelled stays so behind any frame.
     ensures stays { (payloads : List (List ℕ)) (payload : List ℕ) (spot : Spot) → SpotAt payloads spot → SpotAt (payloads ++ payload ∷ []) spot }
     ensures stays_in { (payload old new : List ℕ) (spot : Spot) → Grows payload old new → SpotIn old spot → SpotIn new spot }
 
@@ -177,6 +205,8 @@ pub fn law_spots()
 
     // By the heads and the growths alone.
     ensures named { (shape : Shape) (payloads : List (List ℕ)) (stages : List Stage) (spot : Spot) → HasStages shape payloads stages → NamedByHeads payloads spot ↔ SpotAt payloads spot }
+
+    // A spot of a legal log is named by heads and growths exactly where it is spelled.
     ensures named_in { (shape : Shape) (events : List Event) (payloads : List (List ℕ)) (bytes : List ℕ) (spot : Spot) → HasEvents shape events bytes →
         HasPayloads payloads bytes → NamedByHeads payloads spot ↔ SpotIn bytes spot }
 {

@@ -27,8 +27,8 @@ impl LogSummary {
         }
     }
 
-    /// The same with one chunk more, by its head. None comes exactly where it may not follow those before it: its offsets
-    /// aren't behind theirs or aren't below 2^62, its times fall, or there would be more than 2^40 events.
+    /// The summary with one chunk more, by its head. None comes exactly where it may not follow those before it: its
+    /// offsets aren't behind theirs or aren't below 2^62, its times fall, or there would be more than 2^40 events.
     pub fn with(&self, head: ChunkHead) -> Option<LogSummary>
         ensures told { result ≡ told_by self.now (Some head) }
         ensures few { IfSome result (λ summary. (summary.count ≤ 2 ^ 40) × (summary.next ≤ 2 ^ 62)) }

@@ -44,6 +44,7 @@ impl From<Memory> for Status {
 impl Status {
     /// The number that the process ends with.
     pub fn number(self) -> u8
+        // Each status has its number, which never changes.
         ensures { result ≡ number_of self }
     {
         match self {
@@ -64,6 +65,7 @@ impl Status {
     /// The last line that is put out at this status, but for a refused plan or store and a gap, whose
     /// lines say why.
     pub fn last_line(self) -> &'static str
+        // Each status has its last line, without LF.
         ensures { result.now ≡ last_line self }
     {
         match self {

@@ -48,13 +48,16 @@ fn read(alloc: Global, text: &[u8], pieces: &[Piece], end: usize) -> Result<Raw,
 
 /// The query that a text is. The text is read from the left, once, and never recursed on.
 pub fn read_syntax(alloc: Global, text: &[u8]) -> Result<Raw, SyntaxFault>
-    // the text is what is answered
+    // What is answered is what the text is: a query, a place where it goes wrong, or too deep.
     ensures sound { ReadsAs text.now result }
-    // and no text is two things
+
+    // No text is two of these.
     ensures unambiguous { (syntax other : Syntax) → Reads text.now syntax → Reads text.now other → syntax ≡ other }
-    // and every text is something
+
+    // Every text is one of these.
     ensures says { (any : List ℕ) → (syntax : Syntax) × Reads any syntax }
-    // each part of the query lies in the text, and is a word, a number or a string there
+
+    // Each part of the query lies in the text, and is a word, a number or a string there.
     ensures spelled { IfOk result (λ raw. IsMadeOf text.now raw) }
 {
     let lexed = match pieces(alloc, text) {

@@ -41,7 +41,7 @@ nodes_of q = map (λ agg. Some (node_of q agg)) q.aggs
 abbrev pub asked_agg : List Asked → ℕ → ℕ → Option Agg
 asked_agg queries query agg = option_and_then (λ (q : Asked). slice_get q.aggs agg) (slice_get queries query)
 
--- the same, with all that is above it
+-- the node of that aggregator, with the window, condition and columns above it
 abbrev pub asked_node : List Asked → ℕ → ℕ → Option (Option Node)
 asked_node queries query agg = option_and_then (λ (q : Asked). slice_get (nodes_of q) agg) (slice_get queries query)
 

@@ -36,7 +36,7 @@ impl Path {
         Ok(())
     }
 
-    /// The same numbers, in order.
+    /// An equal path.
     pub(crate) fn copy(&self, alloc: Global) -> Result<Path, Memory>
         ensures { IfOk result (λ path. path ≡ self.now) }
     {

@@ -54,6 +54,7 @@ impl Model for TaskPlan {
 #[tactic(auto, using(crate::proofs::Compiled::is_named, crate::proofs::Compiled::is_asked))]
 pub fn compile(alloc: Global, queries: &[Query]) -> Result<TaskPlan, PlanFault>
     requires { All (λ (q : Asked). IsMeasured q.window) (map asked queries.now) }
+    // The plan is the one that the definitions give for these queries.
     ensures plan { IfOk result (λ plan. plan ≡ plan_for (map asked queries.now)) }
 
     // Each node is there once, the offsets rise and are those of the windows, and each number is that of a node.
@@ -66,6 +67,7 @@ pub fn compile(alloc: Global, queries: &[Query]) -> Result<TaskPlan, PlanFault>
     // Queries that each have an aggregator are read back from their plan.
     ensures read_back { All HasAgg (map asked queries.now) → IfOk result (λ plan. asked_by plan ≡ map asked queries.now) }
 
+    // The first query past its bounds is told, and no other refusal comes.
     ensures within { OnOk result (excess (map asked queries.now) ≡ None) }
     ensures fault { IfErr result (λ fault. fault ≡ fault_of (excess (map asked queries.now))) }
 {
@@ -165,6 +167,8 @@ impl TaskPlan {
     /// an event is then. They rise.
     pub fn offsets(&self) -> &[u64]
         ensures offsets { result.now ≡ self.now.offsets }
+
+        // The offsets rise.
         ensures rising { AreRising result.now }
         ensures whole { IsWhole self.now }
     {
@@ -203,6 +207,7 @@ impl TaskPlan {
     /// The number of the node of an aggregator of a query, both counted from 0. There is none
     /// exactly where there is no such aggregator.
     pub fn path(&self, query: u32, agg: u32) -> Option<u32>
+        // The number of that node, and none exactly where there is no such aggregator.
         ensures number { result ≡ path_at self.now.paths query agg }
         ensures none { (queries : List Asked) → self.now ≡ plan_for queries → (result ≡ None) ↔ (asked_agg queries query agg ≡ None) }
         ensures node { (queries : List Asked) → self.now ≡ plan_for queries → option_map (node_at self.now) result ≡ asked_node queries query agg }

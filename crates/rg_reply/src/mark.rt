@@ -20,6 +20,7 @@ pub enum Mark {
 
 /// Writes the line of a mark, and LF.
 pub fn write_mark(out: &mut Vec<u8>, mark: Mark) -> Result<(), Memory>
+    // The mark's line is written to the byte, and a refused write leaves the text as it was.
     ensures ok { OnOk result (out.new.items ≡ out.old.items ++ (mark_line mark ++ 10 ∷ [])) }
     ensures err { OnErr result (out.new.items ≡ out.old.items) }
 {

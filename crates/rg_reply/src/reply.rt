@@ -36,6 +36,7 @@ pub enum Reply {
 
 /// Writes what is answered to the line with this offset, and LF.
 pub fn write_reply(out: &mut Vec<u8>, offset: u64, reply: &Reply) -> Result<(), Memory>
+    // The reply's line is written to the byte, and a refused write leaves the text as it was.
     ensures ok { OnOk result (out.new.items ≡ out.old.items ++ (reply_line offset reply.now ++ 10 ∷ [])) }
     ensures err { OnErr result (out.new.items ≡ out.old.items) }
 {

@@ -25,7 +25,7 @@ pub fn plain_len(bytes: &[u8]) -> usize
     at + short_len(rest)
 }
 
-// The same, one byte at a time.
+// How many bytes stand before the first comma, quote or CR, one byte at a time.
 #[inline(always)]
 fn short_len(bytes: &[u8]) -> usize
     ensures len { result ≡ length_of_plain bytes.now }

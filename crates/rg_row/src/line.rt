@@ -3,6 +3,7 @@ ghost use Rattle.rg_row.specs.Fields.{cleaned, without_cr as stripped, is_marked
 
 /// The line without one last CR, and at offset 0 without one leading byte order mark. It copies nothing.
 pub fn clean(offset: u64, line: &[u8]) -> &[u8]
+    // One CR at the end goes, and at offset 0 one byte order mark at the front.
     ensures { result.now ≡ cleaned offset line.now }
 {
     let line = without_cr(line);

@@ -23,12 +23,17 @@ use std::alloc::Global;
 #[tactic(auto, using(crate::proofs::Grammar::of_row, crate::proofs::Grammar::to_row, crate::proofs::Recorded::recorded))]
 pub fn read_row(alloc: Global, schema: &Schema, offset: u64, line: &[u8]) -> Result<Event, RowFault>
     requires one_line { list_any (λ byte. byte == 10) line.now ≡ false }
+    // The line's event is answered, or its first fault: Row, Fields, Time, then a value by its column.
     ensures agrees { Agrees (row_of schema.now.fields offset line.now) result }
+
+    // The grammar of rows and the splitting of a line say the same, both ways.
     ensures grammar { (fields : List (List ℕ)) → IsRow line.now fields → fields_of line.now ≡ Some fields }
     ensures fields { (fields : List (List ℕ)) → fields_of line.now ≡ Some fields → IsRow line.now fields }
-    // the fields are those of the record that `csv` defines for the line
+
+    // The fields are those of the record that `csv` defines for the line.
     ensures record_of { (fields : List (List ℕ)) → fields_of line.now ≡ Some fields → csv_record line.now ≡ Some fields }
-    // the event is one of the schema's columns, with the offset that was given
+
+    // The event is one of the schema's columns, with the offset that was given.
     ensures legal { IfOk result (λ event. offset < 2 ^ 62 → IsEventOf schema.now.fields event) }
     ensures placed { IfOk result (λ event. event.offset ≡ offset) }
 {

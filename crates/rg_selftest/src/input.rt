@@ -9,6 +9,7 @@ use std::alloc::Global;
 
 /// The plan of a trial, as TOML.
 pub fn plan_bytes() -> &'static [u8]
+    // The plan of a trial is the one of the definitions.
     ensures { result.now ≡ plan_text }
 {
     b"queries = ['SELECT count(*), sum(amount) FROM payments GROUP BY card OVER SLIDING 5 minutes', 'SELECT countDistinct(merchant), max(amount) FROM payments WHERE amount >= 5000 GROUP BY card OVER SLIDING 1 hour DELAYED BY 1 minute', 'SELECT avg(amount) FROM payments OVER INFINITE']\n[stream]\nname = 'payments'\ncolumns = ['ts', 'card:text', 'merchant:text', 'amount:int']\n[settings]\ncache = 4\nchunk = 256\ncommit = 1024\nsave = 4096\n"
@@ -17,6 +18,7 @@ pub fn plan_bytes() -> &'static [u8]
 /// So many made lines of a seed, each ended by LF.
 pub fn made_input(alloc: Global, lines: u64, seed: u64) -> Result<Vec<u8>, Memory>
     requires { lines ≤ 200000 }
+    // The lines of a trial are those of the definitions.
     ensures { IfOk result (λ input. input.items ≡ ended (made_lines seed lines)) }
 {
     let mut input = Vec::new(alloc);

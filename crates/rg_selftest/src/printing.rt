@@ -14,12 +14,16 @@ use std::alloc::Global;
 
 /// Puts the four lines of a trial: `lines N`, `events K`, `bytes B` and `sum S`, each ended by LF.
 pub fn print<H: Host>(alloc: Global, trial: &Trial, host: &mut H) -> Result<(), PrintFault>
+    // Just the four lines were put.
     ensures completes { OnOk result (Puts H.said H.clock H.since host.old host.new (ended (trial_lines trial.now))) }
 
     // Nothing was put, or, where a put failed, a prefix of the text.
     ensures stops { IfErr result (λ fault. (fault ≡ PrintFault.Write) ⊎ (host.new ≡ host.old)) }
+
+    // Where a put failed, a prefix of them was put.
     ensures cut { IsErrOf result PrintFault.Write → (put : List ℕ) × IsPrefix put (ended (trial_lines trial.now)) × Puts H.said H.clock H.since host.old host.new put }
 
+    // Write comes only where the count of failed puts rose, and no file is written.
     ensures write { IsErrOf result PrintFault.Write → Rose (H.out_faults host.old) (H.out_faults host.new) }
     ensures leaves { LeavesFiles H.now H.may H.clock H.since host.old host.new }
     ensures disk_faults { H.disk_faults host.new ≡ H.disk_faults host.old }

@@ -21,6 +21,7 @@ pub struct Trial {
 /// What is counted of the text of a run on so many lines. The number of events is the one that the text
 /// ends with: none is counted of a text without such a number, and a run's has one.
 pub fn count(lines: u64, text: &[u8]) -> Option<Trial>
+    // The counts are those of the text: the accepted payments, the bytes and their sum.
     ensures found { (asks : Planned) (input : List ℕ) → text.now ≡ text_for asks input → count_for asks input ≤ 2 ^ 40 → result ≡ None → ⊥ }
     ensures lines { IfSome result (λ trial. trial.lines ≡ lines) }
     ensures events { (asks : Planned) (input : List ℕ) → text.now ≡ text_for asks input → count_for asks input ≤ 2 ^ 40 → IfSome result (λ trial. trial.events ≡ count_for asks input) }

@@ -39,12 +39,15 @@ fn skip(text: &[u8], from: usize) -> usize
 /// The tokens of the text. Space, tab, CR and LF stand between tokens and mean nothing, and at each
 /// place the longest token is taken, until none begins. The only error is for want of memory.
 pub fn pieces(alloc: Global, text: &[u8]) -> Result<Lexed, Memory>
+    // The tokens are the longest at each place, up to where none begins.
     ensures lexes { IfOk result (λ lexed. Lexes text.now 0 lexed.pieces lexed.end) }
+
+    // Each piece lies in the text and is a token of its shape.
     ensures inside { IfOk result (λ lexed. All (IsInside text.now) lexed.pieces) }
     ensures spelled { IfOk result (λ lexed. All (IsToken text.now) lexed.pieces) }
     ensures end { IfOk result (λ lexed. lexed.end ≤ length text.now) }
 
-    // no text has two lists of tokens, nor two ends of them
+    // No text has two lists of tokens, nor two ends of them.
     ensures one { (pieces more : List ThePiece) (end also : ℕ)
         → Lexes text.now 0 pieces end → Lexes text.now 0 more also → (pieces ≡ more) × (end ≡ also) }
 {

@@ -198,14 +198,20 @@ pub fn verify<H: Host>(
     // Over a legal log: the lines of both slots were put, or a prefix of them where a put failed, and the store isn't refused.
     ensures completes { (v : Image) (events : List TheEvent) → H.now host.old ≡ Some v → IsVerifiable (terms_of queries.now schema.now task.now) defaults.now v events →
         IfOk result (IsSaid (terms_of queries.now schema.now task.now) v events (Puts H.said H.clock H.since host.old host.new)) }
+
+    // Where a put failed, a prefix of the two lines was put.
     ensures cut { IsErrOf result VerifyFault.Write → (v : Image) (events : List TheEvent) → H.now host.old ≡ Some v → IsVerifiable (terms_of queries.now schema.now task.now) defaults.now v events →
         IsCut (terms_of queries.now schema.now task.now) v events (Puts H.said H.clock H.since host.old host.new) }
+
+    // Over a legal log a refusal comes only of a failed call, of want of memory or of a failed put.
     ensures outside { (v : Image) (events : List TheEvent) → H.now host.old ≡ Some v → IsVerifiable (terms_of queries.now schema.now task.now) defaults.now v events → IfErr result IsFromOutside }
 
     // Over any image: lines are put only where no frame is damaged and the schema is this one or grows to it by the defaults, and else
     // nothing.
     ensures undamaged { OnOk result (ForSome (H.now host.old) (λ v. damage_of (v 2) ≡ None)) }
     ensures other { (v : Image) → H.now host.old ≡ Some v → IsForeign schema.now defaults.now (v 2) → OnOk result ⊥ }
+
+    // At every refusal but that of a put nothing was put.
     ensures silent { IfErr result (λ fault. (fault ≡ VerifyFault.Write) ⊎ Puts H.said H.clock H.since host.old host.new []) }
 
     // Each refusal but want of memory has its cause, and a damaged log is told before one of another schema.
@@ -215,6 +221,7 @@ pub fn verify<H: Host>(
     ensures disk { IsErrOf result VerifyFault.Disk → Rose (H.disk_faults host.old) (H.disk_faults host.new) }
     ensures write { IsErrOf result VerifyFault.Write → Rose (H.out_faults host.old) (H.out_faults host.new) }
 
+    // No file is written.
     ensures leaves { LeavesFiles H.now H.may H.clock H.since host.old host.new }
     ensures disk_faults { H.disk_faults host.old ≤ H.disk_faults host.new }
     ensures out_faults { H.out_faults host.old ≤ H.out_faults host.new }

@@ -17,7 +17,7 @@ fn push_said(text: &mut Vec<u8>, i: u32, word: &[u8], number: u64) -> Result<(),
     write_whole(text, number)
 }
 
-/// The same of a slot that isn't complete.
+/// Puts the line of a slot that isn't complete.
 fn push_none(text: &mut Vec<u8>, i: u32) -> Result<(), Memory>
     ensures { OnOk result (text.new.items ≡ text.old.items ++ verdict_text i Verdict.Missing) }
 {

@@ -19,10 +19,15 @@ pub fn decode(
     schema: &Schema,
     from: &mut ByteReader<'_>,
 ) -> Result<Event, EventFault>
+    // The event is the one whose bytes stand there; short bytes and the first bad field are told exactly.
     ensures agrees { Agrees (event_at schema.now.fields from.old) result from.new }
     ensures ok { IfOk result (λ event. from.old ≡ event_bytes event ++ from.new) }
     ensures legal { IfOk result (IsEventOf schema.now.fields) }
+
+    // What was encoded is read back, whatever follows.
     ensures reads_back { (event : Event) (rest : List ℕ) → IsEventOf schema.now.fields event → from.old ≡ event_bytes event ++ rest → ((result ≡ Ok event) × (from.new ≡ rest)) ⊎ (result ≡ Err EventFault.Memory) }
+
+    // A refusal leaves the reader as it was.
     ensures err { OnErr result (from.new ≡ from.old) }
 {
     // All that is left, so that a refusal can put it back.

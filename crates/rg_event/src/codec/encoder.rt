@@ -8,6 +8,7 @@ use rg_bytes::{Memory, put_bytes, put_i64, put_u8, put_u64};
 
 /// Writes the bytes of an event at the end. Where memory runs out `out` holds what it held.
 pub fn encode(event: &Event, out: &mut Vec<u8>) -> Result<(), Memory>
+    // The bytes of an event are put behind what stands, or nothing is.
     ensures ok { OnOk result (out.new.items ≡ out.old.items ++ event_bytes event.now) }
     ensures err { OnErr result (out.new.items ≡ out.old.items) }
 {

@@ -4,8 +4,9 @@
 `CLAUSE` of `CALL` asks for the clause on that call or type, and on each of several, in the crates that the first cell of
 the row names, or the one above; in a column 'Clause of `CALL`' each word is one on it. In a column 'Clauses' another
 word is of these crates, and in a column 'Refused' one behind a crate is an edit of it. Words elsewhere are of the code,
-specs or strings of any crate, comments left out. Paths, links, commits, forms of railgun's words and commands of rt are
-looked up, and a file of `CRATE` in that crate. Blocks of code, and what else has a space or a sign, are data and left out."""
+specs or strings of any crate, comments left out. Paths, links and their anchors, commits, forms of railgun's words and
+commands of rt are looked up, and a file of `CRATE` in that crate. Blocks of code, and what else has a space or a sign, are
+data and left out."""
 import collections, glob, os, pathlib, re, subprocess, sys
 
 os.chdir(os.path.join(os.path.dirname(os.path.abspath(__file__)), ".."))
@@ -37,7 +38,7 @@ def has(crates, word, call=""):
 
 def is_there(word, crates):
     """Whether what stands between backticks is there, or is data."""
-    if it := re.match(r"(?:railgun )?((?:run|replay|check|dump|info|self) [A-Z].*)", word):
+    if it := re.match(r"(?:railgun )?((?:run|serve|replay|verify|check|dump|info|self) [A-Z].*)", word):
         return f"    railgun {it[1]}\n" in pathlib.Path("docs/FORMATS.md").read_text()
     if word.startswith("rt "):
         return re.search(rf"\brt {word[3:]}\b|[ |]{word[3:]}\|", commands)
@@ -47,6 +48,11 @@ def is_there(word, crates):
     if re.fullmatch(r"(bench|crates|docs|rg_\w+|proofs)/.*|[\w/]+\.(antt|rt|py|sh|md)", path):
         return any(glob.glob(top + path, recursive=True) for top in ("", "crates/", "crates/*/", "crates/*/*/", "crates/*/proofs/**/", "examples/*/"))
     return word in words if re.fullmatch(r"rg_\w+", word) else not re.fullmatch(r"[A-Za-z_]\w*(::\w+)*", word) or has(crates, word)
+
+def anchors(page):
+    """The anchors of a page, one for each heading."""
+    heads = re.findall(r"^#+ (.*)", re.sub(r"^ *```.*?^ *```", "", pathlib.Path(page).read_text(), flags=re.S | re.M), flags=re.M)
+    return {re.sub(r"[^\w\- ]", "", it).lower().replace(" ", "-") for it in heads}
 
 def look(page, text, column="", crates=()):
     """Adds what a line or a cell names and isn't there."""
@@ -75,5 +81,8 @@ for page in ["README.md", *sorted(glob.glob("docs/*.md") + glob.glob("examples/*
         for number, cell in enumerate(cells):
             look(page, cell, *([header[number], crates] if header else []))
         header = (header or cells) if line.startswith("|") else []
-    missing.update({f"{page}: {it}": 1 for it in re.findall(r"\]\(([^)#]+)", text) if not os.path.exists(os.path.join(os.path.dirname(page), it))})
+    for path, anchor in re.findall(r"\]\(([^)#]*)#?([^)]*)\)", text):
+        file = os.path.join(os.path.dirname(page), path) if path else page
+        if not os.path.exists(file) or anchor and anchor not in anchors(file):
+            missing[f"{page}: {path}{anchor and '#' + anchor}"] = 1
 sys.exit("\n".join(missing) or 0)

@@ -259,6 +259,7 @@ call_and_kill() {
 }
 
 try_socket() {
+    "$program" run plan.toml served < /dev/null > made
     RAILGUN=$program systemd-socket-activate --accept --inetd -E RAILGUN -l "$work/socket" "$examples/serve.sh" plan.toml served 2> log &
     listener=$!
     await [ -S socket ]

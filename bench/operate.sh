@@ -8,7 +8,7 @@
 # It needs Debian's python3-prometheus-client and chromium for `watch`, and root for `disk`, which mounts 24 MB of memory.
 # `rt run` in crates/railgun builds the program first; PROGRAM names another one, LINES how many payments there are.
 . "$(dirname "$0")/common.sh"
-parts=(guards client watch filter warm trial backup disk lost)
+parts=(pages guards client watch filter warm trial backup disk lost)
 export PROGRAM DATA WORK PYTHONDONTWRITEBYTECODE=1
 PROGRAM=$(realpath "$program")
 DATA=$work/data

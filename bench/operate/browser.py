@@ -10,7 +10,7 @@ import tempfile
 class Browser:
     """Opens a page of this size, and asks it for things."""
 
-    def __init__(self, address, width=1120, height=860):
+    def __init__(self, address, width=1120, height=770):
         self.folder = tempfile.TemporaryDirectory(dir=os.environ["WORK"], ignore_cleanup_errors=True)
         theirs, self.write = os.pipe()
         self.read, out = os.pipe()

@@ -4,6 +4,8 @@ operate.sh gives each part by the environment: PROGRAM, the program; DATA, a fol
 the output of one run over all of it; WORK, a folder of the part's own. A part prints a line for each thing that it saw, and
 ends by fail where something isn't so."""
 
+import contextlib
+import fcntl
 import os
 import random
 import re
@@ -25,6 +27,8 @@ sys.path.insert(0, f"{EXAMPLES}/client")
 
 def fail(why):
     print(f"{PART}: {why}", file=sys.stderr, flush=True)
+    if threading.current_thread() is threading.main_thread():
+        sys.exit(1)
     os._exit(1)
 
 
@@ -137,7 +141,8 @@ class Service:
         self.listener.bind(path)
         self.listener.listen(1)
         self.log = open(f"{path}.log", "ab")
-        threading.Thread(target=self.accept, daemon=True).start()
+        self.thread = threading.Thread(target=self.accept, daemon=True)
+        self.thread.start()
 
     def accept(self):
         while True:
@@ -161,10 +166,13 @@ class Service:
                     pass
 
     def close(self):
-        self.listener.close()
-        if self.process and self.process.poll() is None:
+        """Ends it, and its thread before the listener's number is given to another socket. A process has a while to end."""
+        self.listener.shutdown(socket.SHUT_RDWR)
+        self.thread.join(10)
+        if self.thread.is_alive():
             self.kill()
-            self.process.wait()
+        self.thread.join()
+        self.listener.close()
 
 
 class Killer(threading.Thread):
@@ -185,6 +193,14 @@ class Killer(threading.Thread):
     def stop(self):
         self.over.set()
         self.join()
+
+
+@contextlib.contextmanager
+def held(path):
+    """Holds the lock of this file, as another process would."""
+    with open(path, "ab") as it:
+        fcntl.flock(it, fcntl.LOCK_EX)
+        yield
 
 
 def make_store(store, plan=PLAN):

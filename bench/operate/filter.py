@@ -140,6 +140,21 @@ def try_service():
     return len(found), killer.count
 
 
+def try_failures(plan):
+    """Wrong rules are refused at the start, and a filter that fails later kills the run, whose input would seem whole."""
+    store, bad = f"{WORK}/bad", f"{WORK}/bad.toml"
+    common.make_store(store, plan)
+    with open(bad, "w", encoding="utf-8") as it:
+        it.write("colums = 1\n")
+    environment = {**os.environ, "RAILGUN": PROGRAM, "WATCH": common.WATCH, "FILTER": f"{FILTER} {bad}"}
+    see(common.run(common.SERVE, plan, store, status=74, env=environment) == "refused start filter\n", "wrong rules")
+    del environment["WATCH"]
+    common.run(common.SERVE, plan, store, status=64, env=environment)
+    fails = "sh -c 'head -n 2; sleep 1; exit 3'"
+    said = common.run(common.WATCH, "--front", fails, "--", PROGRAM, "run", plan, store, given=b"1,c,5,true\n" * 2, status=3)
+    see(said.startswith("open ") and "1 ok 2" in said and "done" not in said, f"behind a filter that fails the run puts {said}")
+
+
 def main():
     plan = f"{WORK}/small.toml"
     with open(plan, "w", encoding="utf-8") as it:
@@ -151,6 +166,7 @@ def main():
     print(f"{by_hand} lines by hand, times ahead, headers in the midst and at a start; {chance} lines of chance: one out for each; {wrong} wrong rules: status 64")
     piece = common.run(FILTER, f"{WORK}/rules", plan, given=b"1,c,5,true\n2,c,6,tr")
     see(piece.count("\n") == 1, f"a piece of a row comes out: {piece!r}")
+    try_failures(plan)
     lines, kills = try_service()
     see(kills >= 3, f"{kills} kills")
     print(f"{lines} raw lines through filter, run and watch with {kills} kills: each answer as of the plain lines")

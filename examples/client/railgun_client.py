@@ -4,7 +4,8 @@
 It connects, reads `open NEXT COUNT FROM`, and sends lines from NEXT on. It keeps each line until it is told as stored, so
 after a cut it connects again, compares NEXT with what it was told, and sends what the store hasn't. Each reply comes once,
 in the order of the lines; one that comes again must be the one that came before. Answers have names: names_of asks
-`railgun check` for them. Errors are those of the classes below; a line that has an LF in it is a ValueError.
+`railgun check` for them. Errors are those of the classes below; a line that has an LF in it is a ValueError. After an error
+that ended the connection the next call connects again.
 
     client = Client("/run/railgun.socket", names_of("plan.toml"))
     reply = client.ask("1764547200000,c1,m1,1299")        # waits for the answer of this one
@@ -115,7 +116,7 @@ class Client:
 
     names      names of the answers, as names_of gives them
     replay     called with an offset, gives the lines of `railgun replay` from there on, for replies that were lost
-    patience   seconds for which a service that is away, or that fails, is called again
+    patience   seconds for which a service that is away, fails or still opens its store is waited for
     under_way  how many lines without a reply there may be at most"""
 
     def __init__(self, path, names=(), replay=None, patience=60.0, under_way=4096):
@@ -125,7 +126,7 @@ class Client:
         self.sent = self.answered = 0  # offsets
         self.replies = collections.deque()
         self.connections = 0
-        self.ended = False
+        self.ended = self.ending = False
         self.connect()
 
     # What a caller calls.
@@ -175,6 +176,7 @@ class Client:
     # How it is done.
 
     def end_input(self):
+        self.ending = True
         try:
             self.socket.shutdown(socket.SHUT_WR)
         except OSError:
@@ -194,12 +196,17 @@ class Client:
             time.sleep(pause)
             pause = min(2 * pause, 1.0)
         self.connections += 1
-        self.input, self.out = rest, b""
-        self.go_on(int(said.split()[1]))
+        self.input, self.out, self.ending = rest, b"", False
+        try:
+            self.go_on(int(said.split()[1]))
+        except Exception:
+            self.socket.close()
+            raise
 
     def call(self):
         """A connection's first line, and what came behind it."""
         self.socket = socket.socket(socket.AF_UNIX)
+        self.socket.settimeout(self.patience)
         data = b""
         try:
             self.socket.connect(self.path)
@@ -210,6 +217,8 @@ class Client:
         line, ended, rest = data.partition(b"\n")
         if not (ended and line.startswith(b"open ")):
             self.socket.close()
+        else:
+            self.socket.settimeout(None)
         return (line.decode(errors="replace") if ended else ""), rest
 
     def go_on(self, opened):
@@ -236,6 +245,8 @@ class Client:
 
     def pump(self, patience):
         """Writes and reads what there is, and waits so many seconds at most for any of it."""
+        if self.socket.fileno() < 0:  # an error has ended the connection
+            self.connect()
         if not self.out and self.sent < self.next:
             last = min(self.next, self.sent + 512)
             self.out = b"".join(it.text + b"\n" for it in self.kept[self.sent - self.base : last - self.base])
@@ -273,7 +284,7 @@ class Client:
             elif word == "stored":
                 self.store(int(more))
             elif word == "done":
-                self.ended = True
+                self.ended = self.ending  # one that wasn't asked for is a cut
 
     def take(self, offset, reply):
         """A reply has come, for the first time or again."""

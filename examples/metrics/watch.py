@@ -8,7 +8,8 @@ Usage: watch.py [OPTION..] [--] COMMAND.., in the place of COMMAND, as `railgun 
     --first N       the offset of the first line of the input, as FIRST of the run; 0 unless it is said
     --plan FILE     the plan, whose names of columns stand at bad values; else their numbers do
     --memory FILE   the last `stored` is kept in this file. A run that opens below it is ended: status 74
-    --front TEXT    a command, as the shell writes it, through which the input goes first: one line for each
+    --front TEXT    a command, as the shell writes it, through which the input goes first, one line for each. Where it fails,
+                    the run is killed, and the status is that of this command
 
 The wait of an answer is from the moment in which its line was read here to that in which its answer was. Counts are of this
 run, and begin at 0 with each. A port that is taken is told on standard error, and the run goes on without.
@@ -133,12 +134,18 @@ class Memory:
                 self.known = int(it.read() or 0)
 
     def keep(self, stored, at_once=False):
+        """Writes it, where it is time; on a full disk the older number stays, and says less."""
         now = time.monotonic()
-        if self.path and stored != self.written and (at_once or now - self.then >= 0.2):
+        if not self.path or stored == self.written or (now - self.then < 0.2 and not at_once):
+            return
+        self.then = now
+        try:
             with open(f"{self.path}.new", "w", encoding="ascii") as it:
                 it.write(f"{stored}\n")
             os.replace(f"{self.path}.new", self.path)
-            self.written, self.then = stored, now
+            self.written = stored
+        except OSError as why:
+            print(f"watch.py: {why}", file=sys.stderr)
 
 
 class Page(http.server.BaseHTTPRequestHandler):
@@ -224,6 +231,45 @@ def follow(run, figures, memory):
     return True
 
 
+class Processes:
+    """The run, and the command in front of it, if there is one."""
+
+    def __init__(self, command, front):
+        # What was inherited goes on to both, as the lock of serve.sh, so that it is held as long as one of them lives.
+        inherits = {"close_fds": False}
+        self.front = self.front_status = None
+        if not front:
+            self.run = subprocess.Popen(command, stdin=subprocess.PIPE, stdout=subprocess.PIPE, **inherits)
+            self.input = self.run.stdin
+            return
+        read, self.between = os.pipe()
+        self.front = subprocess.Popen(shlex.split(front), stdin=subprocess.PIPE, stdout=self.between, **inherits)
+        self.run = subprocess.Popen(command, stdin=read, stdout=subprocess.PIPE, **inherits)
+        os.close(read)
+        self.input = self.front.stdin
+        threading.Thread(target=self.follow_front, daemon=True).start()
+
+    def follow_front(self):
+        """Ends the run's input once the one in front has ended well; else the run is killed: its input would seem whole."""
+        self.front_status = self.front.wait()
+        if self.front_status:
+            self.run.kill()
+        os.close(self.between)
+
+    def status(self):
+        """Waits for the end of the run, and gives the status to end with."""
+        status = self.run.wait()
+        if self.front_status:
+            print(f"watch.py: the command in front ended with status {self.front_status}", file=sys.stderr)
+            return self.front_status if self.front_status > 0 else 128 - self.front_status
+        return status if status >= 0 else 128 - status
+
+    def kill(self):
+        for it in (self.run, self.front):
+            if it:
+                it.kill()
+
+
 def words():
     it = argparse.ArgumentParser(usage="watch.py [OPTION..] [--] COMMAND..")
     it.add_argument("--port", type=int)
@@ -254,27 +300,20 @@ def main():
     figures, memory = Figures(columns_of(said.plan)), Memory(said.memory)
     if said.port is not None:
         serve(figures, said.address, said.port)
-    # What was inherited goes on to the run, as the lock of serve.sh, so that it is held as long as one of them lives.
-    pipes = {"stdin": subprocess.PIPE, "stdout": subprocess.PIPE, "close_fds": False}
-    front = subprocess.Popen(shlex.split(said.front), **pipes) if said.front else None
-    run = subprocess.Popen(said.command, **{**pipes, "stdin": front.stdout if front else subprocess.PIPE})
-    if front:
-        front.stdout.close()
-    target = front.stdin if front else run.stdin
-    threading.Thread(target=feed, args=(target, figures, said.first), daemon=True).start()
+    both = Processes(said.command, said.front)
+    threading.Thread(target=feed, args=(both.input, figures, said.first), daemon=True).start()
+    sound = True
     try:
-        sound = follow(run, figures, memory)
+        sound = follow(both.run, figures, memory)
     except BrokenPipeError:
-        run.stdout.close()  # the reader has gone: the run ends at its next put
-        sound = True
+        both.run.stdout.close()  # the reader has gone: the run ends at its next put
     if not sound:
-        run.kill()
         print(f"watch.py: the store opens below {memory.known}, which was told as stored", file=sys.stderr)
-    status = run.wait()
-    if front:
-        front.kill()
-    sys.stdout.flush()
-    os._exit((128 - status if status < 0 else status) if sound else 74)
+        both.kill()
+    status = both.status() if sound else 74
+    both.kill()
+    sys.stderr.flush()
+    os._exit(status)  # the thread that reads may wait for input
 
 
 main()

@@ -11,7 +11,9 @@
 #   behind    the store's next offset is below one that was told as stored (the file STORE.stored remembers it)
 #   ahead     the last payment is more than AHEAD milliseconds ahead of the clock (a day), so all others would be `late`.
 #             AHEAD=none is for times that are no Unix time
-# A second one over the same store ends with status 75. Every other status is that of the program.
+#   filter    the filter doesn't start, as by wrong rules
+# A second one over the same store ends with status 75. Where STORE.stored can't be written it is 7, with `failed disk`. Every
+# other status is that of the program.
 #
 # RAILGUN names the program. WATCH, if set, is the command of examples/metrics/watch.py with its options, and the run stands
 # within it. FILTER, if set, is the command of examples/filter/filter.py with its rules, and stands in front; it
@@ -71,16 +73,22 @@ exec 9> "$store.lock"
 flock --nonblock 9 || exit 75
 info=$("$railgun" info "$store") || { status=$?; printf '%s\n' "$info"; exit "$status"; }
 next=$(told next)
-look_at_log
 look_at_checkpoints
+look_at_log
 look_at_memory
 look_at_clock
-printf '%s\n' "$next" > "$store.stored.new"
-mv "$store.stored.new" "$store.stored"
+if ! { printf '%s\n' "$next" > "$store.stored.new" && mv "$store.stored.new" "$store.stored"; }; then
+    echo "failed disk" # as the run would say
+    exit 7
+fi
 
+if [ -n "${FILTER:-}" ]; then
+    [ -n "${WATCH:-}" ] || { echo "serve.sh: FILTER needs WATCH" >&2; exit 64; }
+    # shellcheck disable=SC2086 # FILTER has several words.
+    $FILTER "$plan" "$next" < /dev/null || refuse filter "the filter ends with status $?"
+fi
 set -- "$railgun" run "$plan" "$store" "$next"
 [ -z "${WATCH:-}" ] || set -- --first "$next" --memory "$store.stored" --plan "$plan" -- "$@"
-[ -z "${FILTER:-}" ] || [ -n "${WATCH:-}" ] || { echo "serve.sh: FILTER needs WATCH" >&2; exit 64; }
 [ -z "${FILTER:-}" ] || set -- --front "$FILTER '$plan' $next" "$@"
 # shellcheck disable=SC2086 # WATCH has several words.
 exec ${WATCH:-} "$@"

@@ -5,10 +5,11 @@
 #
 # Usage: operate.sh [PART..]. A part is a program bench/operate/PART.py or PART.sh; without words all of them are run, in the
 # order below. A further part is a file there and its name below; bench/operate/common.py says what it is given.
-# It needs Debian's python3-prometheus-client and chromium for `watch`, and root for `disk`, which mounts 24 MB of memory.
+# It needs Debian's python3-prometheus-client and chromium for `watch`, and root for `disk`, which mounts 24 MB of memory, and
+# for `package`, which wants Debian's lintian too.
 # `rt run` in crates/railgun builds the program first; PROGRAM names another one, LINES how many payments there are.
 . "$(dirname "$0")/common.sh"
-parts=(pages guards client watch filter warm trial backup disk lost)
+parts=(pages guards client watch filter warm trial backup disk lost package)
 export PROGRAM DATA WORK PYTHONDONTWRITEBYTECODE=1
 PROGRAM=$(realpath "$program")
 DATA=$work/data

@@ -2,12 +2,12 @@
 # Makes a Debian package: packaging/deb.sh PROGRAM FOLDER. PROGRAM is the built program, and the package is written
 # into FOLDER as railgun_VERSION_amd64.deb, its name on standard output.
 #
-# It has the program, its page of the manual, completion for bash, and from examples/service the units and scripts. It makes
-# the user railgun, and enables no unit; the user and the store stay when it is removed. MAINTAINER, as `Name <mail>`, is
+# It has the program, its page of the manual, completion for bash, the units of examples/service, and the scripts of
+# examples/service, client, filter, metrics and kafka in /usr/lib/railgun. It makes the user railgun, and enables no unit; the user and the store stay when it is removed. MAINTAINER, as `Name <mail>`, is
 # who made it. dpkg-deb and gzip are needed.
 set -eu
 here=$(cd "$(dirname "$0")" && pwd)
-service=$here/../examples/service
+examples=$here/../examples
 program=$1
 folder=$2
 maintainer=${MAINTAINER:-Railgun <railgun@example.net>}
@@ -42,11 +42,17 @@ printf 'railgun (%s) unstable; urgency=medium\n\n  * The program as it is built 
     "$version" "$maintainer" "$(date -R)" > "$tree/changelog"
 packed "$tree/changelog" | put 644 /usr/share/doc/railgun/changelog.gz
 rm "$tree/changelog"
-for script in serve.sh warm.sh backup.sh restore.sh send.py frames.py trial.py; do
-    [ ! -f "$service/$script" ] || placed "$service/$script" | put 755 "/usr/lib/railgun/$script"
+for script in "$examples"/service/*.sh "$examples"/service/*.py "$examples"/*/filter.py "$examples"/*/watch.py; do
+    placed "$script" | put 755 "/usr/lib/railgun/$(basename "$script")"
 done
-for unit in "$service"/*.service "$service"/*.socket "$service"/*.timer; do
-    [ ! -f "$unit" ] || placed "$unit" | put 644 "/usr/lib/systemd/system/$(basename "$unit")"
+for script in "$examples"/kafka/*.sh "$examples"/kafka/*.py; do
+    placed "$script" | put 755 "/usr/lib/railgun/kafka/$(basename "$script")"
+done
+for part in "$examples"/client/railgun_client.py "$examples"/metrics/page.html; do
+    put 644 "/usr/lib/railgun/$(basename "$part")" "$part"
+done
+for unit in "$examples"/service/*.service "$examples"/service/*.socket "$examples"/service/*.timer; do
+    placed "$unit" | put 644 "/usr/lib/systemd/system/$(basename "$unit")"
 done
 
 put 755 /DEBIAN/postinst "$here/postinst"
@@ -58,7 +64,7 @@ Maintainer: $maintainer
 Section: utils
 Priority: optional
 Depends: libc6, adduser
-Suggests: python3, systemd
+Suggests: python3, python3-prometheus-client, kcat, systemd
 Installed-Size: $(du -sk "$tree" | cut -f1)
 Description: exact metrics over sliding windows of payments
  Railgun answers each payment of a stream with counts, sums, extremes and

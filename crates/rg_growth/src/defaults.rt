@@ -63,7 +63,7 @@ impl Defaults {
         Ok(())
     }
 
-    /// The same defaults, in order.
+    /// An equal list.
     pub fn copy(&self, alloc: Global) -> Result<Defaults, Memory>
         ensures { IfOk result (λ defaults. defaults ≡ self.now) }
     {

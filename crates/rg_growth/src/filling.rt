@@ -21,7 +21,10 @@ impl Growth {
         defaults: &Defaults,
     ) -> Result<Option<Growth>, Memory>
         requires { AreDefaultsOf to.now.fields defaults.now }
+        // A growth is made exactly where the schema grows to the other and each column that it lacks has a default.
         ensures values { IfOk result (λ found. option_map (λ (growth : TheGrowth). growth.values) found ≡ filled from.now to.now defaults.now) }
+
+        // It has just these values, whatever the defaults of its own columns are.
         ensures growth { IfOk result (λ found. IfSome found (λ growth. (growth ≡ growth_to to.now growth.values) × IsFilled from.now to.now defaults.now growth.values)) }
     {
         if !grows_to(from, to) {

@@ -7,6 +7,9 @@ use rg_event::{Field, Schema};
 /// of the other, and the other has at least one more.
 pub fn grows_to(from: &Schema, to: &Schema) -> bool
     ensures test { result ≡ the_test from.now to.now }
+
+    // A schema grows to another exactly where stream and time are named alike, its columns come first there, and there
+    // are more.
     ensures exact { IsTrue result ↔ Grows from.now to.now }
 {
     let own = from.fields();

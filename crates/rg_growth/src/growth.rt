@@ -28,6 +28,7 @@ pub struct Growth {
 impl Growth {
     /// The growth of this schema that a payload says. `BadGrowth` comes exactly where it says none.
     pub fn decode(alloc: Global, from: &Schema, payload: &[u8]) -> Result<Growth, GrowthFault>
+        // A payload is read exactly where it says a growth of the schema, and it says one alone.
         ensures agrees { Agrees (growth_of from.now payload.now) result }
         ensures is { IfOk result (IsGrowth from.now payload.now) }
         ensures reads_back { (growth : TheGrowth) → IsGrowth from.now payload.now growth → (result ≡ Ok growth) ⊎ (result ≡ Err GrowthFault.Memory) }
@@ -46,8 +47,11 @@ impl Growth {
 
     /// Writes the payload at the end. Where memory runs out `out` holds what it held.
     pub fn encode(&self, alloc: Global, out: &mut Vec<u8>) -> Result<(), Memory>
+        // The growth is written to the byte, or nothing is.
         ensures ok { OnOk result (out.new.items ≡ out.old.items ++ growth_bytes self.now) }
         ensures err { OnErr result (out.new.items ≡ out.old.items) }
+
+        // What is written of a growth is read back.
         ensures reads_back { (from : Shape) (growth : TheGrowth) → IsGrowthOf from growth → growth_of from (growth_bytes growth) ≡ Some growth }
     {
         let start = out.len();

@@ -65,7 +65,8 @@ pub trait Past {
     /// The spot's number is at most the count, and its place and index are a spelling of that event or of the end.
     ghost spells: { Self → Spot → Type 0 };
 
-    /// The same, in the later one of two spellings.
+    /// The spot's number is at most the count, and its place and index are the later one of two spellings of that event
+    /// or of the end.
     ghost spells_later: { Self → Spot → Type 0 };
 
     /// A look at the spot asks for what stands at an illegal place.
@@ -88,17 +89,23 @@ pub trait Past {
         requires room { has_room self.old }
         requires fits { fits self.old event }
         requires follows { sound self.old → (ended self.old → ⊥) → MayFollow (events self.old) event }
+        // The event comes behind the others, or the list stays.
         ensures ok { OnOk result (events self.new ≡ events self.old ++ event ∷ []) }
         ensures err { OnErr result (events self.new ≡ events self.old) }
+
+        // A refused append keeps its room.
         ensures keeps_room { OnErr result (has_room self.old → has_room self.new) }
 
         // Ended is looked at first, and then Full.
         ensures ended { IsErrOf result PastFault.Ended ↔ ended self.old }
         ensures full { IsErrOf result PastFault.Full → limit self.old ≤ length (events self.old) }
         ensures below { OnOk result (length (events self.old) < limit self.old) }
+
+        // An append calls no disk, so it tells neither Disk nor damage.
         ensures no_disk { IsErrOf result PastFault.Disk → ⊥ }
         ensures no_damage { (place : ℕ) → IsErrOf result (PastFault.Damaged place) → ⊥ }
 
+        // The past goes on, a sound one stays sound, and no fault is lost.
         ensures goes { goes self.old self.new }
         ensures keeps_ended { ended self.new ↔ ended self.old }
         ensures sound { sound self.old → sound self.new }
@@ -109,6 +116,7 @@ pub trait Past {
     /// place is never taken for an event, nor for the end.
     fn peek(&mut self, spot: &mut Spot) -> Result<Option<&Event>, PastFault>
         requires { spot.old.number ≤ length (events self.old) }
+        // A look changes no event; each fault has its cause; and over a sound past a spelled spot stays spelled.
         ensures* after { sem 𝓛 (Rests Self.row self.entry (λ new.
             (events new ≡ events self.old)
             × goes self.old new
@@ -121,7 +129,11 @@ pub trait Past {
             × (sound self.old → spells self.old spot.old → spells new spot.new × OnOk result (spells_later new spot.new)))) }
         ensures number { spot.new.number ≡ spot.old.number }
         ensures within { IsLookWithin (events self.old) spot.new result }
+
+        // Over a sound past a spelled spot shows its event, and nothing only at the end.
         ensures event { sound self.old → spells self.old spot.old → Shows (events self.old) spot.old.number result }
+
+        // A look at a spelled spot of a sound past is never refused as damaged.
         ensures never_damaged { (place : ℕ) → sound self.old → spells self.old spot.old → IsErrOf result (PastFault.Damaged place) → ⊥ }
         ensures ended { IsErrOf result PastFault.Ended ↔ ended self.old }
         ensures no_full { IsErrOf result PastFault.Full → ⊥ }
@@ -136,6 +148,8 @@ pub trait Past {
         requires number { spot.old.number < length (events self.now) }
         requires index { spot.old.index < 4096 }
         ensures next { spot.new.number ≡ spot.old.number + 1 }
+
+        // Over a sound past the next spot is spelled.
         ensures spells { sound self.now → spells_later self.now spot.old → spells self.now spot.new }
         ensures reached { reached_event self.now spot.old → reached self.now spot.new };
 

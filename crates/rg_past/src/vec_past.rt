@@ -30,6 +30,7 @@ impl VecPast {
     /// An empty past of at most `limit` events.
     pub fn new(alloc: Global, limit: u64) -> VecPast
         requires { limit ≤ 2 ^ 40 }
+        // It is a sound past without events.
         ensures empty { result.events ≡ [] }
         ensures limit { result.limit ≡ limit }
         ensures sound { ⟦<VecPast as Past>⟧.sound result }

@@ -23,6 +23,7 @@ pub struct Shown<P> {
 impl<P: Past> Shown<P> {
     /// A past of the first so many events of this one.
     pub fn new(past: P, shown: u64) -> Shown<P>
+        // It shows the first events of that past, and is full with them.
         ensures past { result.past ≡ past }
         ensures shown { result.shown ≡ shown }
     {
@@ -39,10 +40,14 @@ impl<P: Past> Shown<P> {
         // Over a sound past it is the event of that number, and stands behind those that were shown.
         ensures event { P.sound self.old.past → P.spells self.old.past spot.old →
             IfOk result (λ found. found ≡ slice_get (P.events self.old.past) self.old.shown) }
+
+        // Its own call shows the event behind those that it shows.
         ensures one { IfOk result (λ found. IfSome found (λ _. self.new.shown ≡ self.old.shown + 1)) }
         ensures more { P.sound self.old.past → P.spells self.old.past spot.old →
             IfOk result (λ found. IfSome found (λ event.
             take self.new.shown (P.events self.new.past) ≡ take self.old.shown (P.events self.old.past) ++ event ∷ [])) }
+
+        // It shows none exactly where all are shown.
         ensures all { P.sound self.old.past → P.spells self.old.past spot.old →
             IfOk result (λ found. IfNone found (self.old.shown ≡ length (P.events self.old.past))) }
         ensures spells { P.sound self.old.past → P.spells self.old.past spot.old → P.spells self.new.past spot.new }

@@ -83,6 +83,6 @@ OpensView shape defaults view bytes =
     HasView shape view bytes
     ⊎ ((g : IsToGrow shape defaults bytes) × (view ≡ seen_from shape (growths_in g.payloads ++ growing_at (length (frames g.payloads)) g.from (growth_payload shape g.values) g.values ∷ [])))
 
--- the same, of the view that an opening had of the earlier file
+-- the place is illegal by the view that an opening had of the earlier file
 abbrev pub IsIllegalOpened : Shape → Given → List ℕ → ℕ → List ℕ → Type 0
 IsIllegalOpened shape defaults old place new = (view : View) × OpensView shape defaults view old × IsIllegalBy view place new

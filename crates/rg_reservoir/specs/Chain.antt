@@ -27,7 +27,7 @@ pub record IsIllegal (fields : List Field) (place : ℕ) (bytes : List ℕ) : Ty
   pub longer : 1 < length bytes
   pub none : option_and_then (chunk_of fields) (payload_at place bytes) ≡ None
 
--- the same of the schema that the view has in force there
+-- the place is illegal by the schema that the view has in force there
 abbrev pub IsIllegalBy : View → ℕ → List ℕ → Type 0
 IsIllegalBy view place bytes = IsIllegal (shape_at view place).fields place bytes
 

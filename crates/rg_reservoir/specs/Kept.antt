@@ -134,7 +134,7 @@ pub record InChunk (b : Base) (bytes : List ℕ) (place index number : ℕ) : Ty
   pub number_is : number ≡ length (joined chunks) + index
   pub most : index ≤ length chunk
 
--- the same of an event in it
+-- the place, index and number are those of an event in a chunk
 pub record InFront (b : Base) (bytes : List ℕ) (place index number : ℕ) : Type 0 where
   pub chunk : InChunk b bytes place index number
   pub within : index < length chunk.chunk

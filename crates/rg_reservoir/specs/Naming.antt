@@ -26,7 +26,7 @@ pub record LeftOf (spots : List Spot) (shape : Shape) (place before left : ℕ) 
   pub at : Reached payloads place
   pub count : left + count_by (named_by_heads payloads) spots ≡ length spots + count_by (named_from shape place before at.rest) spots
 
--- the same for the frame list of a file, if it has one, behind frames that say that
+-- the look has come to that place of the frame list of a file, if it has one, behind frames that say so much
 pub record Left (spots : List Spot) (place left : ℕ) (so_far : LogSoFar) (bytes : List ℕ) : Type 0 where
   pub shape : Shape
   pub summary : LogSummary

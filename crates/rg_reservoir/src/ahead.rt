@@ -20,20 +20,29 @@ impl Reservoir {
     /// costs nothing, and of another one the frame is read and kept. The spots stay as they are, and
     /// nothing is written. A refusal leaves what was loaded before it.
     pub fn ahead<H: Host>(&mut self, host: &mut H, spots: &[Spot]) -> Result<(), ReservoirFault>
+        // No event changes.
         ensures stays { Stays self.old self.new }
 
         // Over any image that is told, some of the touches and no other; over a sound reservoir and spelled spots all of them.
         ensures touched { (v : Image) → H.now host.old ≡ Some v → IsCached (view_of (base self.old)) (v (base self.old).file) (cache_of self.old) →
             SomeTouched (all_ahead (base self.old) (v (base self.old).file) spots.now) (cache_of self.old) (cache_of self.new) (loads_of self.old) (loads_of self.new) }
+
+        // What is loaded, held and read is exact.
         ensures loaded { (sound : IsSound (H.now host.old) (H.may host.old) self.old) → All (Spells (H.now host.old) (base self.old) (opened self.old)) spots.now →
             OnOk result (AllTouched (all_ahead (base self.old) (sound.0 (base self.old).file) spots.now) (cache_of self.old) (loads_of self.old) (H.reads host.old) (cache_of self.new) (loads_of self.new) (H.reads host.new)) }
+
+        // What is cached stays right and inside the log.
         ensures cached { (v : Image) → H.now host.old ≡ Some v → IsCached (view_of (base self.old)) (v (base self.old).file) (cache_of self.old) → IsCached (view_of (base self.old)) (v (base self.old).file) (cache_of self.new) }
         ensures inside { IsInside (base self.old).end (cache_of self.old) → IsInside (base self.old).end (cache_of self.new) }
         ensures sound { IsSound (H.now host.old) (H.may host.old) self.old → IsSound (H.now host.new) (H.may host.new) self.new }
+
+        // At spelled spots of a sound log a load is never refused as damaged.
         ensures never_damaged { (p : ℕ) → IsSound (H.now host.old) (H.may host.old) self.old → All (Spells (H.now host.old) (base self.old) (opened self.old)) spots.now → IsErrOf result (ReservoirFault.Damaged p) → ⊥ }
 
         ensures ended { IsErrOf result ReservoirFault.Ended ↔ ((base self.old).ended ≡ true) }
         ensures untouched { IsErrOf result ReservoirFault.Ended → (self.new ≡ self.old) × (host.new ≡ host.old) }
+
+        // Each refusal has its cause, and no file is written.
         ensures damaged { (p : ℕ) → IsErrOf result (ReservoirFault.Damaged p) → ForSome (H.now host.old) (λ v. IsIllegalBy (view_of (base self.old)) p (v (base self.old).file)) }
         ensures disk { IsErrOf result ReservoirFault.Disk → Rose (H.disk_faults host.old) (H.disk_faults host.new) }
         ensures faults { IfErr result (λ fault. (fault ≡ ReservoirFault.Disk) ⊎ (fault ≡ ReservoirFault.Memory) ⊎ ((p : ℕ) × (fault ≡ ReservoirFault.Damaged p)) ⊎ (fault ≡ ReservoirFault.Ended)) }

@@ -68,7 +68,7 @@ fn decode(
     }
 }
 
-/// The same, with the values of the growths behind it.
+/// Decodes a chunk, and puts the values of the growths behind it to its events.
 #[tactic(auto, using(crate::proofs::Viewing::grown_said, crate::proofs::Viewing::grown_refused))]
 fn decode_grown(
     alloc: Global,

@@ -142,14 +142,24 @@ impl Reservoir {
         // Over a legal log of which nothing is pending.
         ensures sound { (v : Image) (events : List TheEvent) → H.now host.old ≡ Some v → NothingPending 2 (H.now host.old) (H.may host.old) → HasEventsFor schema.now defaults.now events (v 2)
             → IfOk result (λ r. IsSound (H.now host.new) (H.may host.new) r × (all_events (H.now host.new) (base r) (opened r) ≡ events)) }
+
+        // A legal log is never refused as damaged.
         ensures legal { (v : Image) (events : List TheEvent) (p : ℕ) → H.now host.old ≡ Some v → HasEventsFor schema.now defaults.now events (v 2) → IsErrOf result (ReservoirFault.Damaged p) → ⊥ }
+
+        // A legal log of the schema, or of one that grows to it by the defaults, is never refused as another's.
         ensures legal_ours { (v : Image) (events : List TheEvent) → H.now host.old ≡ Some v → HasEventsFor schema.now defaults.now events (v 2) → IsErrOf result ReservoirFault.SchemaDiffers → ⊥ }
 
         // Of any image.
         ensures opened { IfOk result (λ r. ForSome (H.now host.new) (λ w. IsOpened (view_of (base r)) (base r).first (base r).end (record { count = (base r).committed; next = the_next_of r; time = time_of r }) (w 2))) }
+
+        // It reads the log by the view that its frames give, with the growth that was written behind them.
         ensures view { IfOk result (λ r. ForSome (H.now host.old) (λ v. OpensView schema.now defaults.now (view_of (base r)) (v 2))) }
+
+        // Another schema is told exactly where the log is whole by heads and growths and can't grow to this one.
         ensures exact { (v : Image) → H.now host.old ≡ Some v → IsForeign schema.now defaults.now (v 2) ⊎ ((p : ℕ) × IsBadFrame p (v 2)) → IfOk result (λ _. ⊥) }
         ensures differs { IsErrOf result ReservoirFault.SchemaDiffers → ForSome (H.now host.old) (λ v. IsForeign schema.now defaults.now (v 2)) }
+
+        // Damage is told only where heads and growths show it.
         ensures damaged { (p : ℕ) → IsErrOf result (ReservoirFault.Damaged p) → ForSome (H.now host.old) (λ v. IsBadFrame p (v 2)) }
         ensures other { (v : Image) (p : ℕ) → H.now host.old ≡ Some v → IsOther schema.now (v 2) → IsErrOf result (ReservoirFault.Damaged p) → ⊥ }
         ensures disk { IsErrOf result ReservoirFault.Disk → Rose (H.disk_faults host.old) (H.disk_faults host.new) }
@@ -157,8 +167,12 @@ impl Reservoir {
 
         ensures going { IfOk result (λ r. ((base r).ended ≡ false) × ((base r).file ≡ 2) × ((base r).shape ≡ schema.now) × ((base r).limit ≡ room.limit)) }
         ensures empty { IfOk result (λ r. (opened r ≡ []) × (room_of r ≡ room.chunk) × (places (cache_of r) ≡ []) × ((cache_of r).cap ≡ room.cache) × (loads_of r ≡ 0)) }
+
+        // Only the schema's frame of a log without frames, or one growth, is written.
         ensures opens { IfOk result (λ r. Becomes (H.now host.old) (H.now host.new) (λ v w. Opens schema.now defaults.now (base r).first (base r).end (v 2) (w 2))) }
         ensures writes { Writes H.now H.may H.clock H.since H.said 2 (LogOpens schema.now defaults.now) host.old host.new }
+
+        // A refusal other than of the disk has written nothing.
         ensures untouched { IfErr result (λ fault. (fault ≡ ReservoirFault.Disk) ⊎ LeavesAll H.now H.may H.clock H.since H.said host.old host.new) }
         ensures settled { OnOk result (NothingPending 2 (H.now host.old) (H.may host.old) → NothingPending 2 (H.now host.new) (H.may host.new)) }
         ensures reaches { IfOk result (λ r. ReachesEnd (log_of r) (H.now host.new)) }
@@ -207,15 +221,23 @@ impl Reservoir {
         ensures sound { (v : Image) (events : List TheEvent) → H.now host.old ≡ Some v → NothingPending 2 (H.now host.old) (H.may host.old) → HasEvents schema.now events (v 2)
             → IfOk result (λ found. IfSome found (λ r. IsSound (H.now host.new) (H.may host.new) r × (all_events (H.now host.new) (base r) (opened r) ≡ events))) }
         ensures empty_log { (v : Image) (events : List TheEvent) → H.now host.old ≡ Some v → HasEvents schema.now events (v 2) → IfOk result (λ found. IfNone found (events ≡ [])) }
+
+        // A legal log is never refused as damaged.
         ensures legal { (v : Image) (events : List TheEvent) (p : ℕ) → H.now host.old ≡ Some v → HasEvents schema.now events (v 2) → IsErrOf result (ReservoirFault.Damaged p) → ⊥ }
         ensures legal_ours { (v : Image) (events : List TheEvent) → H.now host.old ≡ Some v → HasEvents schema.now events (v 2) → IsErrOf result ReservoirFault.SchemaDiffers → ⊥ }
 
         // Of any image.
         ensures none { IfOk result (λ found. IfNone found (ForSome (H.now host.old) (λ v. HasPayloads [] (v 2)))) }
+
+        // The log is read from where its frames begin to where they end.
         ensures opened { IfOk result (λ found. IfSome found (λ r. ForSome (H.now host.old) (λ v. IsOpened (view_of (base r)) (base r).first (base r).end (record { count = (base r).committed; next = the_next_of r; time = time_of r }) (v 2)))) }
         ensures view { IfOk result (λ found. IfSome found (λ r. ForSome (H.now host.old) (λ v. HasView schema.now (view_of (base r)) (v 2)))) }
+
+        // Another schema is told exactly where the log is whole by heads and growths.
         ensures exact { (v : Image) → H.now host.old ≡ Some v → IsOther schema.now (v 2) ⊎ ((p : ℕ) × IsBadFrame p (v 2)) → IfOk result (λ _. ⊥) }
         ensures differs { IsErrOf result ReservoirFault.SchemaDiffers → ForSome (H.now host.old) (λ v. IsOther schema.now (v 2)) }
+
+        // Damage is told only where heads and growths show it.
         ensures damaged { (p : ℕ) → IsErrOf result (ReservoirFault.Damaged p) → ForSome (H.now host.old) (λ v. IsBadFrame p (v 2)) }
         ensures disk { IsErrOf result ReservoirFault.Disk → Rose (H.disk_faults host.old) (H.disk_faults host.new) }
         ensures neither { (IsErrOf result ReservoirFault.Full → ⊥) × (IsErrOf result ReservoirFault.Ended → ⊥) }
@@ -274,6 +296,8 @@ impl Reservoir {
         ensures none { IfOk result (λ found. IfNone found (ForSome (H.now host.old) (λ v. HasPayloads [] (v 2)))) }
         ensures opened { IfOk result (λ found. IfSome found (λ r. ForSome (H.now host.old) (λ v. IsOpened (view_of (base r)) (base r).first (base r).end (record { count = (base r).committed; next = the_next_of r; time = time_of r }) (v 2)))) }
         ensures exact { (v : Image) (p : ℕ) → H.now host.old ≡ Some v → IsBadFrame p (v 2) → IfOk result (λ _. ⊥) }
+
+        // Damage is told only where heads and growths show it, and never of a legal log.
         ensures damaged { (p : ℕ) → IsErrOf result (ReservoirFault.Damaged p) → ForSome (H.now host.old) (λ v. IsBadFrame p (v 2)) }
         ensures disk { IsErrOf result ReservoirFault.Disk → Rose (H.disk_faults host.old) (H.disk_faults host.new) }
         ensures neither { (IsErrOf result ReservoirFault.Full → ⊥) × (IsErrOf result ReservoirFault.Ended → ⊥) × (IsErrOf result ReservoirFault.SchemaDiffers → ⊥) }
@@ -578,6 +602,8 @@ impl Reservoir {
         ensures* after { sem 𝓛 (ends_looked self.entry (H.now host.old) (settled (base self.old) spot.old) (H.reads host.old) (H.reads host.new)
             (IsSound (H.now host.old) (H.may host.old) self.old × Spells (H.now host.old) (base self.old) (opened self.old) spot.old × OnErr result ⊥)) }
         ensures number { spot.new.number ≡ spot.old.number }
+
+        // Over a sound reservoir a look shows the list's event at each spelled spot.
         ensures event { IsSound (H.now host.old) (H.may host.old) self.old → Spells (H.now host.old) (base self.old) (opened self.old) spot.old → IfOk result (λ look. option_copied look ≡ slice_get (all_events (H.now host.old) (base self.old) (opened self.old)) spot.old.number) }
         ensures later { IsSound (H.now host.old) (H.may host.old) self.old → Spells (H.now host.old) (base self.old) (opened self.old) spot.old → OnOk result (SpellsLater (H.now host.old) (base self.old) (opened self.old) spot.new) }
         ensures spelled { IsSound (H.now host.old) (H.may host.old) self.old → Spells (H.now host.old) (base self.old) (opened self.old) spot.old → Spells (H.now host.old) (base self.old) (opened self.old) spot.new }
@@ -594,6 +620,8 @@ impl Reservoir {
         // No memory and no read where the chunk is held, with the next one where the spot stands behind its last event, and
         // no call on the host for the open one.
         ensures untouched { (base self.old).ended ≡ false → (base self.old).committed ≤ spot.old.number → OnErr result ⊥ × (host.new ≡ host.old) }
+
+        // A chunk that is held is looked at without a read and without a refusal.
         ensures hit { (base self.old).ended ≡ false → spot.old.number < (base self.old).committed → IsTrue (holds_place (settled (base self.old) spot.old).place (cache_of self.old)) → next_in (item_at (settled (base self.old) spot.old).place (cache_of self.old)) spot.old.index ≡ None
             → OnErr result ⊥ × (H.reads host.new ≡ H.reads host.old) }
         ensures hit_next { (next : ℕ) → (base self.old).ended ≡ false → spot.old.number < (base self.old).committed → IsTrue (holds_place (settled (base self.old) spot.old).place (cache_of self.old)) → next_in (item_at (settled (base self.old) spot.old).place (cache_of self.old)) spot.old.index ≡ Some next
@@ -615,6 +643,7 @@ impl Reservoir {
     /// memory leaves the disk and the reservoir as they were. After `Disk` the reservoir has ended.
     pub fn commit<H: Host>(&mut self, host: &mut H) -> Result<(), ReservoirFault>
         requires reaches { ReachesEnd (log_of self.old) (H.now host.old) }
+        // A sound reservoir stays sound, its list stays, and spelled spots stay spelled.
         ensures sound { IsSound (H.now host.old) (H.may host.old) self.old → OnOk result (IsSound (H.now host.new) (H.may host.new) self.new) }
         ensures list { IsSound (H.now host.old) (H.may host.old) self.old → OnOk result (all_events (H.now host.new) (base self.new) (opened self.new) ≡ all_events (H.now host.old) (base self.old) (opened self.old)) }
         ensures spelled { IsSound (H.now host.old) (H.may host.old) self.old → (spot : Spot) → Spells (H.now host.old) (base self.old) (opened self.old) spot → OnOk result (Spells (H.now host.new) (base self.new) (opened self.new) spot) }
@@ -623,6 +652,8 @@ impl Reservoir {
         // At every moment, and so wherever the run stops.
         ensures events { IsSound (H.now host.old) (H.may host.old) self.old → (base self.old).ended ≡ false → Moments H.clock H.since host.old host.new
             (λ m. CommittedOrAll (H.now host.old) (base self.old) (opened self.old) m.image) }
+
+        // At each moment the log has the events committed before, or these and the whole open chunk.
         ensures leaves { Writes H.now H.may H.clock H.since H.said 2 (From (base self.old).end (Adds (base self.old).shape.fields (opened self.old))) host.old host.new }
         ensures grown { OnOk result (Becomes (H.now host.old) (H.now host.new) (InFile 2 (From (base self.old).end (Added (base self.old).shape.fields (opened self.old) (base self.new).end)))) }
         ensures pending { OnOk result (NothingPending 2 (H.now host.old) (H.may host.old) → NothingPending 2 (H.now host.new) (H.may host.new)) }
@@ -633,6 +664,8 @@ impl Reservoir {
         ensures kept { (cache_of self.new ≡ cache_of self.old) × (loads_of self.new ≡ loads_of self.old) × (the_next_of self.new ≡ the_next_of self.old) × (time_of self.new ≡ time_of self.old) }
         ensures going { OnOk result (((base self.old).ended ≡ false) × ((base self.new).ended ≡ false)) }
         ensures ended { IsErrOf result ReservoirFault.Ended ↔ ((base self.old).ended ≡ true) }
+
+        // Want of memory comes before the first call on the host, and leaves disk and reservoir.
         ensures memory { IsErrOf result ReservoirFault.Memory → (self.new ≡ self.old) × (host.new ≡ host.old) }
         ensures untouched { IsErrOf result ReservoirFault.Ended → (self.new ≡ self.old) × (host.new ≡ host.old) }
         ensures disk { IsErrOf result ReservoirFault.Disk → ((base self.new).ended ≡ true) × (opened self.new ≡ opened self.old) × ((base self.new).committed ≡ (base self.old).committed) × Rose (H.disk_faults host.old) (H.disk_faults host.new) }
@@ -689,12 +722,16 @@ impl Reservoir {
         ensures named { (v : Image) (payloads : List (List ℕ)) → H.now host.old ≡ Some v → HasPayloads payloads (v 2)
             → IfOk result (λ named. IsTrue named ↔ All (IsNamed payloads (base self.now).committed) spots.now) }
         ensures listed { (v : Image) → H.now host.old ≡ Some v → IfOk result (λ named. IsTrue named → (payloads : List (List ℕ)) × HasPayloads payloads (v 2)) }
+
+        // Over a sound reservoir that is whether each is a spelling of an event or of the end.
         ensures spelled { IsSound (H.now host.old) (H.may host.old) self.now → IfOk result (λ named. IsTrue named ↔ All (Spells (H.now host.old) (base self.now) (opened self.now)) spots.now) }
         ensures within { IfOk result (λ named. IsTrue named → All (λ spot. spot.number ≤ (base self.now).committed) spots.now) }
 
         ensures sound { IsSound (H.now host.old) (H.may host.old) self.now → IsSound (H.now host.new) (H.may host.new) self.now }
         ensures spells { (spot : Spot) → Spells (H.now host.new) (base self.now) (opened self.now) spot ↔ Spells (H.now host.old) (base self.now) (opened self.now) spot }
         ensures ended { IsErrOf result ReservoirFault.Ended ↔ ((base self.now).ended ≡ true) }
+
+        // A bad frame on the way is told, and a legal log has none.
         ensures damaged { (p : ℕ) → IsErrOf result (ReservoirFault.Damaged p) → ForSome (H.now host.old) (λ v. IsBadFrame p (v 2)) }
         ensures legal { IsSound (H.now host.old) (H.may host.old) self.now → (p : ℕ) → IsErrOf result (ReservoirFault.Damaged p) → ⊥ }
         ensures disk { IsErrOf result ReservoirFault.Disk → Rose (H.disk_faults host.old) (H.disk_faults host.new) }

@@ -122,6 +122,8 @@ impl Walk {
         ensures some { IfOk result (λ r. IfSome r (λ stage. ForSome (H.now host.old) (λ v. IsNext (v 2) self.old stage self.new))) }
         ensures goes_on { IfOk result (λ r. IfSome r (λ _. (place_of self.old + 9 ≤ place_of self.new) × (place_of self.new < 2 ^ 62))) }
         ensures none { IfOk result (λ r. IfNone r ((self.new ≡ self.old) × ForSome (H.now host.old) (λ v. IsClosed (place_of self.old) (v 2)))) }
+
+        // Damage is told only at the walk's place, where the frame isn't legal behind those before it.
         ensures damaged { (p : ℕ) → IsErrOf result (ReservoirFault.Damaged p) → (p ≡ place_of self.old) × ForSome (H.now host.old) (λ v. IsRefusedWalk (v 2) self.old) }
         ensures neither { (IsErrOf result ReservoirFault.SchemaDiffers → ⊥) × (IsErrOf result ReservoirFault.Full → ⊥) × (IsErrOf result ReservoirFault.Ended → ⊥) }
         ensures err { OnErr result (self.new ≡ self.old) }

@@ -23,7 +23,7 @@ pub record Went {V F : Type 0} (step : V → ℕ → Event → Result Unit F →
   pub number : new ≡ old + length events
   pub known : told → all ≡ events ++ rest
 
--- the same, and then the visit to one event more was refused, and the edge stands there
+-- an edge passed these events in order, then the visit to one event more was refused, and the edge stands there
 pub record Refused {V F : Type 0} (step : V → ℕ → Event → Result Unit F → V → Type 0) (edge : ℕ) (before after : V) (old new : ℕ) (told : Type 0) (all : List Event) (fault : F) : Type 0 where
   pub events : List Event
   pub last : Event
@@ -43,7 +43,8 @@ pub record Moved {V F : Type 0} (step : V → ℕ → Event → Result Unit F �
   pub counts : (edge : ℕ) → slice_index_or new edge 0 ≡ slice_index_or old edge 0 + length (visited_at passes edge)
   pub known : (edge : ℕ) → edge < end → told edge → visited_at passes edge ≡ passed_at events t offsets old edge
 
--- The same, and then the edge `end` visited some events and stopped, and those behind it didn't move; where what `end` passes is told, the events
+-- The edges before `end` passed what they should, `end` visited some events and stopped, and those behind it didn't
+-- move; where what `end` passes is told, the events
 -- visited are the front of that, and the rest is still to come.
 pub record Halfway {V F : Type 0} (step : V → ℕ → Event → Result Unit F → V → Type 0) (before after : V) (offsets : List ℕ) (t : ℕ) (old new : List ℕ) (told : ℕ → Type 0) (events : List Event) (end : ℕ) : Type 0 where
   pub passes : List (List Event)
@@ -54,7 +55,8 @@ pub record Halfway {V F : Type 0} (step : V → ℕ → Event → Result Unit F 
   pub known : (edge : ℕ) → edge < end → told edge → visited_at passes edge ≡ passed_at events t offsets old edge
   pub front : told end → (rest : List Event) × (passed_at events t offsets old end ≡ some ++ rest)
 
--- The same, and then the visit of the edge `end` to one event more was refused, and it stands there, and those behind it didn't move.
+-- The edges before `end` passed what they should, the visit of the edge `end` to one event more was refused, it stands
+-- there, and those behind it didn't move.
 pub record Halted {V F : Type 0} (step : V → ℕ → Event → Result Unit F → V → Type 0) (before after : V) (offsets : List ℕ) (t : ℕ) (old new : List ℕ) (told : ℕ → Type 0) (events : List Event) (end : ℕ) (fault : F) : Type 0 where
   pub passes : List (List Event)
   pub same : length passes ≡ end

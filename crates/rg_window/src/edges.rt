@@ -88,21 +88,29 @@ impl Edges {
         visit: &mut V,
     ) -> Result<(), MoveFault<V::Fault>>
         requires { AreWithin self.old.spots (length (P.events past.old)) }
+        // The edges move as far as the time says, and visit what they cross in order.
         ensures moved { OnOk result (Moved V.step visit.old visit.new self.old.offsets t
             (numbers_of self.old.spots) (numbers_of self.new.spots)
             (λ edge. P.sound past.old × IsSpelledAt (P.spells past.old) self.old.spots edge)
             (P.events past.old) (length self.old.offsets)) }
+
+        // Each edge does so by itself, whatever the spots of the others are.
         ensures reached { P.sound past.old → (edge : ℕ) →
             IsSpelledAt (P.spells past.old) self.old.spots edge →
             OnOk result (Reaches (P.events past.old) t self.old.offsets
             (numbers_of self.old.spots) (numbers_of self.new.spots) edge) }
+
+        // At a refusal it is told how far they came and whose fault it was.
         ensures halted { IfErr result (λ fault. HaltsAt V.step visit.old visit.new self.old.offsets t
             (numbers_of self.old.spots) (numbers_of self.new.spots)
             (λ edge. P.sound past.old × IsSpelledAt (P.spells past.old) self.old.spots edge)
             (P.events past.old) fault) }
+
+        // No edge goes back.
         ensures rises { (edge : ℕ) → slice_index_or (numbers_of self.old.spots) edge 0
             ≤ slice_index_or (numbers_of self.new.spots) edge 0 }
 
+        // A past that has ended is told, and nothing is visited.
         ensures stops { P.ended past.old → 0 < length self.old.offsets →
             IsErrOf result (MoveFault.Past PastFault.Ended) }
         ensures unvisited { P.ended past.old → visit.new ≡ visit.old }
@@ -120,6 +128,7 @@ impl Edges {
             IsSpelledAt (P.spells past.old) self.old.spots edge →
             IsSpelledAt (P.spells past.new) self.new.spots edge }
 
+        // The past's list stays.
         ensures events { P.events past.new ≡ P.events past.old }
         ensures room { P.has_room past.old → P.has_room past.new }
         ensures past { Kept P.goes P.sound P.ended P.faults past.old past.new }

@@ -1,5 +1,7 @@
+pub mod Admitted
 pub mod Fields
 pub mod Sums
 pub mod Ends
 pub mod Queues
 pub mod Firsts
+pub mod Served

@@ -12,6 +12,7 @@ use Rattle.rg_event.specs.declared.value.Value.TheVariants.{Int, Id, Text, Flag}
 
 -- what a state keeps of its values: how many, how many and their sum (for a mean, or of squares), all of them, how many and the last one,
 -- how many and those that may still become the least or the greatest, each with its number, or each value once with how often it is there
+-- (in the order of their bytes, or of their numbers)
 pub data Held : Type 0 where
   counted : ℕ → Held
   summed : ℕ → ℤ → Held
@@ -22,6 +23,7 @@ pub data Held : Type 0 where
   lowest : ℕ → List (Value × ℕ) → Held
   highest : ℕ → List (Value × ℕ) → Held
   varied : List (Value × ℕ) → Held
+  ranked : List (Value × ℕ) → Held
 
 -- 16 bytes of two's complement
 abbrev pub sum_bytes : ℤ → List ℕ
@@ -48,7 +50,7 @@ counts_bytes tag pairs = tag ∷ (to_be_bytes w64 (length pairs) ++ pairs_bytes 
 abbrev pub extreme_bytes : ℕ → ℕ → List (Value × ℕ) → List ℕ
 extreme_bytes tag n pairs = tag ∷ (to_be_bytes w64 n ++ (to_be_bytes w64 (length pairs) ++ pairs_bytes pairs))
 
--- a tag, the number of values in 8 bytes, and what else is kept; the tags of a least and of a greatest value are 15 and 16 in hexadecimal
+-- a tag, the number of values in 8 bytes, and what else is kept; the tags of a least and of a greatest value and of a rank are 15 to 17 in hexadecimal
 abbrev pub held_bytes : Held → List ℕ
 held_bytes (counted n) = 1 ∷ to_be_bytes w64 n
 held_bytes (summed n sum) = 2 ∷ (to_be_bytes w64 n ++ sum_bytes sum)
@@ -59,6 +61,7 @@ held_bytes (ended n last) = 9 ∷ (to_be_bytes w64 n ++ last_bytes last)
 held_bytes (lowest n pairs) = extreme_bytes 21 n pairs
 held_bytes (highest n pairs) = extreme_bytes 22 n pairs
 held_bytes (varied pairs) = counts_bytes 7 pairs
+held_bytes (ranked pairs) = counts_bytes 23 pairs
 
 -- what some bytes begin with, and the bytes behind it; or why they begin with none
 abbrev pub Begins : Type 0 → Type 0

@@ -3,3 +3,4 @@ pub mod Stands
 pub mod Numbers
 pub mod Standing
 pub mod Unbeaten
+pub mod Sharing

@@ -4,10 +4,10 @@ use Rattle.rg_event.specs.Tagged.{value_kind}
 use Rattle.rg_event.specs.declared.value.Kind.{Kind}
 use Rattle.rg_event.specs.declared.value.Value.{Value}
 use Rattle.rg_keywords.specs.declared.func.Func.{Func}
-use Rattle.rg_keywords.specs.declared.func.Func.TheVariants.{Count, Sum, Avg, SumSq, Min, Max, CountDistinct, First, Last}
+use Rattle.rg_keywords.specs.declared.func.Func.TheVariants.{Count, Sum, Avg, SumSq, Min, Max, CountDistinct, First, Last, Median}
 use Rattle.rg_metric.specs.Answers.{number_of}
 use Rattle.rg_metric.specs.Same.{same_value}
-use Rattle.rg_agg.specs.Held.{Held, counted, summed, averaged, squared, queued, ended, lowest, highest, varied, is_square_sum}
+use Rattle.rg_agg.specs.Held.{Held, counted, summed, averaged, squared, queued, ended, lowest, highest, varied, ranked, is_square_sum}
 use Rattle.rg_agg.specs.Stands.{IsInt, IsTotal, IsSquareTotal, IsEnd}
 use Rattle.rg_agg.specs.Unbeaten.{IsExtreme, is_less, is_greater}
 
@@ -22,6 +22,7 @@ func_of (ended n last) = Last
 func_of (lowest n pairs) = Min
 func_of (highest n pairs) = Max
 func_of (varied pairs) = CountDistinct
+func_of (ranked pairs) = Median
 
 -- how often all values of some pairs are there
 abbrev pub counts_sum : List (Value × ℕ) → ℕ
@@ -39,6 +40,7 @@ size_in (ended n last) = n
 size_in (lowest n pairs) = n
 size_in (highest n pairs) = n
 size_in (varied pairs) = counts_sum pairs
+size_in (ranked pairs) = counts_sum pairs
 
 abbrev pub first_kind : List Value → Option Kind
 first_kind [] = None
@@ -63,6 +65,7 @@ kind_in (ended n last) = seen_kind last
 kind_in (lowest n pairs) = pairs_kind pairs
 kind_in (highest n pairs) = pairs_kind pairs
 kind_in (varied pairs) = pairs_kind pairs
+kind_in (ranked pairs) = pairs_kind pairs
 
 -- the value is of that kind, if there is one
 abbrev pub IsLike : Option Kind → Value → Type 0
@@ -98,6 +101,7 @@ Stands (ended n last) values = IsEnd n last values
 Stands (lowest n pairs) values = IsExtreme is_less n pairs values
 Stands (highest n pairs) values = IsExtreme is_greater n pairs values
 Stands (varied pairs) values = AreCounts pairs values
+Stands (ranked pairs) values = AreCounts pairs values
 
 -- a state that keeps this stands for values with this one first. Of a sum of squares only so much is said: the value is an int, and what
 -- is left without its square lies within what one square fewer can sum to

@@ -4,6 +4,7 @@ ghost use Rattle.rg_agg.specs.Held.{Held, Begins, held_bytes, Agrees, Returns};
 ghost use Rattle.rg_agg.specs.Standing.{Stands, MayBeginWith, IsLike, func_of, kind_in, size_in};
 ghost use Rattle.rg_event.specs.Tagged.{value_kind};
 ghost use Rattle.rg_event.specs.declared.value.Value.{Value};
+ghost use Rattle.rg_metric.specs.Admitted.{IsAdmitted};
 ghost use Rattle.rg_metric.specs.Answers.{answer_of};
 ghost use Rattle.rg_keywords.specs.declared.func.Func.{Func};
 
@@ -17,9 +18,6 @@ use std::alloc::Global;
 pub trait Aggregate {
     /// The function that it answers.
     ghost func: { Func };
-
-    /// The values that it takes.
-    ghost takes: { Value → Type 0 };
 
     /// Where adding a value to a state may take memory.
     ghost grows: { Self → Value → Type 0 };
@@ -63,7 +61,7 @@ pub trait Aggregate {
     /// Adds a value at the back. Where memory runs out the state is as before.
     fn add(&mut self, value: &Value) -> Result<(), Memory>
         requires room { size_in (held self.old) < 2 ^ 40 }
-        requires takes { takes value.now }
+        requires admitted { IsAdmitted func value.now }
         requires like { IsLike (kind_in (held self.old)) value.now }
         ensures ok { OnOk result ((values : List Value) → Stands (held self.old) values → Stands (held self.new) (values ++ value.now ∷ [])) }
         ensures size { OnOk result (size_in (held self.new) ≡ size_in (held self.old) + 1) }

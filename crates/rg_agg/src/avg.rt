@@ -20,12 +20,9 @@ pub struct Avg {
 impl Aggregate for Avg {
     ghost use Rattle.std.specs.Prelude.{refl};
     ghost use Rattle.rg_agg.specs.Held.{averaged, averaged_at};
-    ghost use Rattle.rg_agg.specs.Stands.{IsInt};
     ghost use Rattle.rg_keywords.specs.declared.func.Func.TheVariants.{Avg as AvgFunc};
 
     ghost func = { AvgFunc };
-
-    ghost takes = { IsInt };
 
     ghost grows = { λ _ _. ⊥ };
 
@@ -64,6 +61,7 @@ impl Aggregate for Avg {
         Answer::Ratio(self.total.sum.get(), self.total.count)
     }
 
+    #[tactic(auto, using(crate::proofs::Admitted::int_admitted))]
     fn add(&mut self, value: &Value) -> Result<(), Memory> {
         match amount(value) {
             Some(number) => {

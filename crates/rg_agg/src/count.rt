@@ -19,13 +19,11 @@ pub struct Count {
 }
 
 impl Aggregate for Count {
-    ghost use Rattle.std.specs.Prelude.{⊤, refl};
+    ghost use Rattle.std.specs.Prelude.{refl};
     ghost use Rattle.rg_agg.specs.Held.{counted, counted_at};
     ghost use Rattle.rg_keywords.specs.declared.func.Func.TheVariants.{Count as CountFunc};
 
     ghost func = { CountFunc };
-
-    ghost takes = { λ _. ⊤ };
 
     ghost grows = { λ _ _. ⊥ };
 

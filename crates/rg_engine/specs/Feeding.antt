@@ -10,7 +10,7 @@ use Rattle.rg_metric.specs.declared.query.Agg.{Agg}
 use Rattle.rg_metric.specs.declared.query.Window.{Window}
 use Rattle.rg_plan.specs.Named.{Node, node_at}
 use Rattle.rg_plan.specs.Plans.{Tasks}
-use Rattle.rg_state.specs.Takes.{Takes}
+use Rattle.rg_metric.specs.Admitted.{IsAdmitted}
 
 -- the aggregator's column, counted from 1, is one of these, and each value of its kind is one that the function takes
 pub record ColumnServes (fields : List Field) (agg : Agg) : Type 0 where
@@ -18,7 +18,7 @@ pub record ColumnServes (fields : List Field) (agg : Agg) : Type 0 where
   pub is : agg.field ≡ suc column
   pub field : Field
   pub found : slice_get fields column ≡ Some field
-  pub takes : (value : Value) → IsValueOf field.kind value → Takes agg.func value
+  pub takes : (value : Value) → IsValueOf field.kind value → IsAdmitted agg.func value
 
 -- it counts events, or a column serves it
 abbrev pub IsServed : List Field → Agg → Type 0

@@ -13,7 +13,7 @@ use Rattle.rg_state.specs.declared.table.TableFault.{TableFault}
 use Rattle.rg_state.specs.declared.table.TableFault.TheVariants.{BadState, Disk}
 use Rattle.rg_state.specs.Changes.{Marks, IsSince}
 use Rattle.rg_state.specs.Rows.{Cells, Unfit}
-use Rattle.rg_state.specs.Takes.{Takes}
+use Rattle.rg_metric.specs.Admitted.{IsAdmitted}
 use Rattle.rg_engine.specs.Windows.{passes_at}
 use Rattle.rg_engine.specs.Deeds.{side_of, handed, node_deed, Does}
 
@@ -29,12 +29,12 @@ Done key offset x (node ∷ nodes) old new = (between : Option Held) × Does nod
 
 -- the value that an event hands an aggregator, where the aggregator takes it
 abbrev pub IsTaken : Agg → Event → Option Value → Type 0
-IsTaken agg x None = (value : Value) → handed agg.field x ≡ Some value → Takes agg.func value → ⊥
-IsTaken agg x (Some value) = (handed agg.field x ≡ Some value) × Takes agg.func value
+IsTaken agg x None = (value : Value) → handed agg.field x ≡ Some value → IsAdmitted agg.func value → ⊥
+IsTaken agg x (Some value) = (handed agg.field x ≡ Some value) × IsAdmitted agg.func value
 
 -- the row can't be changed with a value of the column that the function takes
 abbrev pub Refuses : Node → Change → Event → Option Held → Type 0
-Refuses node change x row = (value : Value) → handed node.agg.field x ≡ Some value → Takes node.agg.func value → Unfit node.agg.func change value row
+Refuses node change x row = (value : Value) → handed node.agg.field x ≡ Some value → IsAdmitted node.agg.func value → Unfit node.agg.func change value row
 
 -- the event enters the node's window there, or leaves it, and the row of its key refuses it
 pub record Balks (node : Node) (key : List ℕ) (offset : ℕ) (x : Event) (row : Option Held) : Type 0 where

@@ -9,10 +9,9 @@ ghost use Rattle.rg_engine.specs.Parts.{agg_nodes, group_nodes};
 ghost use Rattle.rg_engine.specs.Stepping.{IsPassed, IsTaken, ChangesRows};
 
 use crate::part::{FilterPart, GroupPart, side};
-use crate::takes::takes;
 use rg_event::{Event, Steps, Value};
 use rg_group::Key;
-use rg_metric::{Agg, column_value};
+use rg_metric::{Agg, column_value, is_admitted};
 use rg_plan::TaskPlan;
 use rg_state::{Change, Table, TableFault};
 use rg_window::Visit;
@@ -153,7 +152,7 @@ fn taken_value<'v>(event: &'v Event, agg: Agg, flag: &'v Value) -> Option<&'v Va
         None => return None,
         Some(value) => value,
     };
-    if !takes(agg.func, value) {
+    if !is_admitted(agg.func, value) {
         return None;
     }
     Some(value)

@@ -9,7 +9,6 @@ mod fault;
 mod law;
 mod moving;
 mod part;
-mod takes;
 mod tree;
 
 pub use engine::Engine;

@@ -62,14 +62,11 @@ impl Min {
 impl Aggregate for Min {
     ghost use Rattle.std.specs.Prelude.{⊤, refl};
     ghost use Rattle.rg_agg.specs.Held.{lowest};
-    ghost use Rattle.rg_agg.specs.Stands.{IsNumber};
     ghost use Rattle.rg_extreme.specs.Extremes.{lowest_at};
     ghost use Rattle.rg_extreme.specs.States.{pairs_in};
     ghost use Rattle.rg_keywords.specs.declared.func.Func.TheVariants.{Min as MinFunc};
 
     ghost func = { MinFunc };
-
-    ghost takes = { IsNumber };
 
     ghost grows = { λ _ _. ⊤ };
 
@@ -104,6 +101,7 @@ impl Aggregate for Min {
         self.deque.answer()
     }
 
+    #[tactic(auto, using(rg_agg::proofs::Admitted::number_admitted))]
     fn add(&mut self, value: &Value) -> Result<(), Memory> {
         add_uncounted::<Brand>(self, value, Blank::new(1))
     }

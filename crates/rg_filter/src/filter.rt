@@ -1,6 +1,6 @@
 ghost use Rattle.std.specs.Prelude.{◌≡◌, ◌+◌};
 ghost use Rattle.std.specs.Option.{option_copied};
-ghost use Rattle.rg_metric.specs.Conditions.{test_of, holds, passes};
+ghost use Rattle.rg_metric.specs.Conditions.{test_of, holds, passes as passes_test};
 ghost use Rattle.rg_metric.specs.Queries.{filter_test};
 
 use crate::compare::compare;
@@ -48,16 +48,24 @@ impl Filter {
     /// event lacks, with a literal of another kind, or of order between flags doesn't hold.
     pub fn holds<L: Ledger>(&self, event: &Event, steps: &mut Steps<L>) -> bool
         // An event passes exactly where the condition holds of it.
-        ensures value { result ≡ passes self.now event.now }
+        ensures value { result ≡ passes_test self.now event.now }
 
         // It counts one step.
         ensures tick { steps.new ≡ steps.old + 1 }
     {
         steps.tick();
-        match &self.condition {
-            None => true,
-            Some(condition) => condition_holds(condition, event),
-        }
+        passes(&self.condition, event)
+    }
+}
+
+/// Whether an event passes a condition; each one does where there is none. A comparison with a column that
+/// the event lacks, with a literal of another kind, or of order between flags doesn't hold.
+pub fn passes(condition: &Option<Condition>, event: &Event) -> bool
+    ensures { result ≡ passes_test (filter_test condition.now) event.now }
+{
+    match condition {
+        None => true,
+        Some(condition) => condition_holds(condition, event),
     }
 }
 

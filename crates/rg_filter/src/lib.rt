@@ -4,5 +4,5 @@
 mod compare;
 mod filter;
 
-pub use filter::Filter;
+pub use filter::{Filter, passes};
 pub use rg_metric::{Condition, Op};

@@ -3,7 +3,7 @@ use Rattle.std.proofs.Common.{◌≡◌, ℕ, suc, ◌+◌, ◌≤◌, ◌<◌, 
 use Rattle.std.proofs.lemmas.Bool.{lt-ltb}
 use Rattle.rg_keywords.specs.declared.keyword.Keyword.TheVariants.{From, By, Over, And, Or, Not}
 use Rattle.rg_keywords.specs.declared.op.Symbol.TheVariants.{Open, Close, Comma}
-use Rattle.rg_grammar.specs.Grammar.{Found, Name, Token, reserved, symbol, word, OrTree, Tree, one_and, either, AndTree, one_not, both, NotTree, negated, group, comparison, or_then, and_then, not_then, or_depth, and_depth, not_depth, or_tree, and_tree, not_tree, AggTree, counted, of_field, Agg, agg_then, agg, AggsTree, one_agg, more_aggs, aggs, aggs_then, FieldsTree, one_field, more_fields, fields, fields_then, SpanTree, spanned, Span, WindowTree, window, length_then, delay_then, window_then, maybe_span, QueryTree, query, Query, where_then, group_then, tokens_of, filter_of, group_of, query_of, filter_depth, query_depth, IsAgg, IsAggs, IsMaybeSpan, IsWindow, IsQuery}
+use Rattle.rg_grammar.specs.Grammar.{Found, Name, Token, reserved, symbol, word, OrTree, Tree, one_and, either, AndTree, one_not, both, NotTree, negated, group, comparison, or_then, and_then, not_then, or_depth, and_depth, not_depth, or_tree, and_tree, not_tree, AggTree, counted, of_field, of_percent, Agg, agg_then, agg, AggsTree, one_agg, more_aggs, aggs, aggs_then, FieldsTree, one_field, more_fields, fields, fields_then, SpanTree, spanned, Span, WindowTree, window, length_then, delay_then, window_then, maybe_span, QueryTree, query, Query, where_then, group_then, tokens_of, filter_of, group_of, query_of, filter_depth, query_depth, IsAgg, IsAggs, IsMaybeSpan, IsWindow, IsQuery}
 use Rattle.rg_grammar.specs.Machine.{Level, level, Head, head, left, Filtered, Grouped, grouped, State, at_start, at_func, after_agg, after_stream, at_operand, after_operand, at_by, at_group, after_group, at_window, after_window, goes, open_levels, or_with, and_with, nots, deeper, without_filter, with_filter, with_group, with_window, read, after_step, run}
 
 -- the left side of a condition's last OR, and its right side
@@ -52,6 +52,7 @@ mutual
 run_agg : (deep : ℕ) (a : AggTree) (xs : List Agg) (rest : List Token) → IsAgg a → run deep (at_func xs) (agg_then a rest) ≡ run deep (after_agg (xs ++ agg a ∷ [])) rest
 run_agg deep (counted w) xs rest e = rw e refl
 run_agg deep (of_field w f n) xs rest e = rw (e.0, e.1) refl
+run_agg deep (of_percent w p text n) xs rest e = rw (e.0, e.1) refl
 
 run_aggs : (deep : ℕ) (a : AggsTree) (rest : List Token) → IsAggs a → run deep (at_func []) (aggs_then a rest) ≡ run deep (after_agg (aggs a)) rest
 run_aggs deep (one_agg a) rest e = run_agg deep a [] rest e

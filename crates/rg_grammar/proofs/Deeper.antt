@@ -5,10 +5,12 @@ use Rattle.std.proofs.lemmas.Bool.{lt-ltb, ltb-true}
 use Rattle.rg_keywords.specs.declared.keyword.Keyword.TheVariants.{Select, From, Where, Group, By, Over, Sliding, Infinite, Delayed, And, Or, Not}
 use Rattle.rg_keywords.specs.declared.op.Symbol.TheVariants.{Open, Close, Comma, Star, Compare}
 use Rattle.rg_keywords.specs.declared.op.Op.{Op}
+use Rattle.rg_keywords.specs.declared.callee.Callee.{Callee}
+use Rattle.rg_keywords.specs.declared.callee.Callee.TheVariants as callee
 use Rattle.rg_keywords.specs.declared.func.Func.{Func}
 use Rattle.rg_keywords.specs.declared.time_unit.TimeUnit.{TimeUnit}
-use Rattle.rg_grammar.specs.Grammar.{Name, digits, Token, reserved, symbol, word, literal, Tree, Agg, Span, span, func_named, unit_named, is_count, is_signed}
-use Rattle.rg_grammar.specs.Machine.{Level, level, Head, Left, Filtered, Grouped, State, at_start, at_func, at_open, at_field, at_close, after_agg, at_stream, after_stream, at_operand, after_field, after_op, after_operand, at_by, at_group, after_group, at_window, at_length, at_unit, after_window, at_delay_by, at_delay, at_delay_unit, at_end, goes, no_query, too_deep, open_here, or_with, one_not_more, one_level_more, deeper, func_step, step, field_step, star_step, start_step, at_func_step, at_open_step, at_field_step, at_close_step, close_step, after_agg_step, at_stream_step, with_window, after_stream_step, operand_step, after_field_step, after_op_step, group_step, over_step, after_operand_step, at_by_step, at_group_step, after_group_step, at_window_step, digits_step, unit_step, at_length_step, at_unit_step, after_window_step, at_delay_by_step, at_delay_step, at_delay_unit_step}
+use Rattle.rg_grammar.specs.Grammar.{Name, digits, Token, reserved, symbol, word, literal, Tree, Agg, Span, span, callee_named, unit_named, is_count, is_signed}
+use Rattle.rg_grammar.specs.Machine.{Level, level, Head, Left, Filtered, Grouped, State, at_start, at_func, at_open, at_field, at_pct, at_percent, at_comma, at_pct_field, at_close, after_agg, at_stream, after_stream, at_operand, after_field, after_op, after_operand, at_by, at_group, after_group, at_window, at_length, at_unit, after_window, at_delay_by, at_delay, at_delay_unit, at_end, goes, no_query, too_deep, open_here, or_with, one_not_more, one_level_more, deeper, callee_step, step, field_step, star_step, start_step, at_func_step, at_open_step, at_field_step, at_pct_step, at_percent_step, at_comma_step, at_pct_field_step, at_close_step, close_step, after_agg_step, at_stream_step, with_window, after_stream_step, operand_step, after_field_step, after_op_step, group_step, over_step, after_operand_step, at_by_step, at_group_step, after_group_step, at_window_step, digits_step, unit_step, at_length_step, at_unit_step, after_window_step, at_delay_by_step, at_delay_step, at_delay_unit_step}
 
 more_deep : (b : Bool) (deep more n : ℕ) (s s' : State) → deep ≤ more → nat_lt n deep ≡ b → (if b then goes s else too_deep) ≡ goes s' → deeper more n s ≡ goes s'
 more_deep true deep more n s s' d q e = let h : n < deep = ltb-true n deep q in rw (lt-ltb n more (omega arith)) e
@@ -57,12 +59,13 @@ flat_start : (t : Token) → start_step t ≡ too_deep → ⊥
 flat_start (reserved Select) e = cc
 flat_start _ e = cc
 
-flat_func_named : (xs : List Agg) (o : Option Func) → func_step xs o ≡ too_deep → ⊥
-flat_func_named xs None e = cc
-flat_func_named xs (Some f) e = cc
+flat_callee : (xs : List Agg) (o : Option Callee) → callee_step xs o ≡ too_deep → ⊥
+flat_callee xs None e = cc
+flat_callee xs (Some (callee.Func f)) e = cc
+flat_callee xs (Some callee.Pct) e = cc
 
 flat_func : (xs : List Agg) (t : Token) → at_func_step xs t ≡ too_deep → ⊥
-flat_func xs (word w) e = flat_func_named xs (func_named w) e
+flat_func xs (word w) e = flat_callee xs (callee_named w) e
 flat_func xs _ e = cc
 
 flat_open : (xs : List Agg) (f : Func) (t : Token) → at_open_step xs f t ≡ too_deep → ⊥
@@ -81,6 +84,26 @@ flat_field : (xs : List Agg) (f : Func) (t : Token) → at_field_step xs f t ≡
 flat_field xs f (symbol Star) e = flat_star xs (is_count f) e
 flat_field xs f (word n) e = flat_word xs f (is_count f) n e
 flat_field xs f _ e = cc
+
+flat_digits : (b : Bool) (s : State) → digits_step b s ≡ too_deep → ⊥
+flat_digits true s e = cc
+flat_digits false s e = cc
+
+flat_pct : (xs : List Agg) (t : Token) → at_pct_step xs t ≡ too_deep → ⊥
+flat_pct xs (symbol Open) e = cc
+flat_pct xs _ e = cc
+
+flat_percent : (xs : List Agg) (t : Token) → at_percent_step xs t ≡ too_deep → ⊥
+flat_percent xs (literal (digits p w)) e = flat_digits (is_signed w) (at_comma xs p w) e
+flat_percent xs _ e = cc
+
+flat_comma : (xs : List Agg) (p : ℕ) (w : List ℕ) (t : Token) → at_comma_step xs p w t ≡ too_deep → ⊥
+flat_comma xs p w (symbol Comma) e = cc
+flat_comma xs p w _ e = cc
+
+flat_pct_field : (xs : List Agg) (p : ℕ) (w : List ℕ) (t : Token) → at_pct_field_step xs p w t ≡ too_deep → ⊥
+flat_pct_field xs p w (word n) e = cc
+flat_pct_field xs p w _ e = cc
 
 flat_close : (xs : List Agg) (a : Agg) (t : Token) → at_close_step xs a t ≡ too_deep → ⊥
 flat_close xs a (symbol Close) e = cc
@@ -147,10 +170,6 @@ flat_window g (reserved Sliding) e = cc
 flat_window g (reserved Infinite) e = cc
 flat_window g _ e = cc
 
-flat_digits : (b : Bool) (s : State) → digits_step b s ≡ too_deep → ⊥
-flat_digits true s e = cc
-flat_digits false s e = cc
-
 flat_unit_named : (o : Option TimeUnit) (next : TimeUnit → State) → unit_step o next ≡ too_deep → ⊥
 flat_unit_named None next e = cc
 flat_unit_named (Some unit) next e = cc
@@ -185,6 +204,10 @@ deeper_step deep at_start t e = absurd (flat_start t e)
 deeper_step deep (at_func xs) t e = absurd (flat_func xs t e)
 deeper_step deep (at_open xs f) t e = absurd (flat_open xs f t e)
 deeper_step deep (at_field xs f) t e = absurd (flat_field xs f t e)
+deeper_step deep (at_pct xs) t e = absurd (flat_pct xs t e)
+deeper_step deep (at_percent xs) t e = absurd (flat_percent xs t e)
+deeper_step deep (at_comma xs p w) t e = absurd (flat_comma xs p w t e)
+deeper_step deep (at_pct_field xs p w) t e = absurd (flat_pct_field xs p w t e)
 deeper_step deep (at_close xs a) t e = absurd (flat_close xs a t e)
 deeper_step deep (after_agg xs) t e = absurd (flat_after_agg xs t e)
 deeper_step deep (at_stream xs) t e = absurd (flat_stream xs t e)

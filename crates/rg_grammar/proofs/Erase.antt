@@ -5,10 +5,12 @@ use Rattle.std.specs.Prelude.{if◌then◌else◌}
 use Rattle.rg_keywords.specs.declared.keyword.Keyword.TheVariants.{Select, From, Where, Group, By, Over, Sliding, Infinite, Delayed, And, Or, Not}
 use Rattle.rg_keywords.specs.declared.op.Symbol.TheVariants.{Open, Close, Comma, Star, Compare}
 use Rattle.rg_keywords.specs.declared.op.Op.{Op}
+use Rattle.rg_keywords.specs.declared.callee.Callee.{Callee}
+use Rattle.rg_keywords.specs.declared.callee.Callee.TheVariants as callee
 use Rattle.rg_keywords.specs.declared.func.Func.{Func}
 use Rattle.rg_keywords.specs.declared.time_unit.TimeUnit.{TimeUnit}
-use Rattle.rg_grammar.specs.Grammar.{Found, Name, named, digits, quoted, truth, Token, reserved, symbol, word, literal, Tree, compared, not_of, Agg, Span, span, Query, func_named, unit_named, is_count, is_signed}
-use Rattle.rg_grammar.specs.Machine.{Level, level, Head, head, Left, left, Filtered, filtered, Grouped, grouped, State, at_start, at_func, at_open, at_field, at_close, after_agg, at_stream, after_stream, at_operand, after_field, after_op, after_operand, at_by, at_group, after_group, at_window, at_length, at_unit, after_window, at_delay_by, at_delay, at_delay_unit, at_end, Step, goes, no_query, too_deep, open_levels, or_with, and_with, nots, with_operand, deeper, func_step, step, field_step, star_step, start_step, at_func_step, at_open_step, at_field_step, at_close_step, close_step, after_agg_step, at_stream_step, with_window, after_stream_step, operand_step, after_field_step, after_op_step, group_step, over_step, after_operand_step, at_by_step, at_group_step, after_group_step, at_window_step, digits_step, unit_step, at_length_step, at_unit_step, after_window_step, at_delay_by_step, at_delay_step, at_delay_unit_step, Outcome, read, stops, nests, finish, after_step, run}
+use Rattle.rg_grammar.specs.Grammar.{Found, Name, named, digits, quoted, truth, Token, reserved, symbol, word, literal, Tree, compared, not_of, Agg, pct_of, Span, span, Query, callee_named, unit_named, is_count, is_signed}
+use Rattle.rg_grammar.specs.Machine.{Level, level, Head, head, Left, left, Filtered, filtered, Grouped, grouped, State, at_start, at_func, at_open, at_field, at_pct, at_percent, at_comma, at_pct_field, at_close, after_agg, at_stream, after_stream, at_operand, after_field, after_op, after_operand, at_by, at_group, after_group, at_window, at_length, at_unit, after_window, at_delay_by, at_delay, at_delay_unit, at_end, Step, goes, no_query, too_deep, open_levels, or_with, and_with, nots, with_operand, deeper, callee_step, step, field_step, star_step, start_step, at_func_step, at_open_step, at_field_step, at_pct_step, at_percent_step, at_comma_step, at_pct_field_step, at_close_step, close_step, after_agg_step, at_stream_step, with_window, after_stream_step, operand_step, after_field_step, after_op_step, group_step, over_step, after_operand_step, at_by_step, at_group_step, after_group_step, at_window_step, digits_step, unit_step, at_length_step, at_unit_step, after_window_step, at_delay_by_step, at_delay_step, at_delay_unit_step, Outcome, read, stops, nests, finish, after_step, run}
 use Rattle.rg_grammar.specs.Erase.{erase_name, erase_token, erase_tree, erase_maybe, erase_agg, erase_maybe_span, erase_query}
 use Rattle.rg_grammar.proofs.Complete.{found_reads}
 use Rattle.rg_grammar.proofs.Sound.{sound}
@@ -33,6 +35,10 @@ erase_state at_start = at_start
 erase_state (at_func xs) = at_func (map erase_agg xs)
 erase_state (at_open xs f) = at_open (map erase_agg xs) f
 erase_state (at_field xs f) = at_field (map erase_agg xs) f
+erase_state (at_pct xs) = at_pct (map erase_agg xs)
+erase_state (at_percent xs) = at_percent (map erase_agg xs)
+erase_state (at_comma xs p w) = at_comma (map erase_agg xs) 0 w
+erase_state (at_pct_field xs p w) = at_pct_field (map erase_agg xs) 0 w
 erase_state (at_close xs a) = at_close (map erase_agg xs) (erase_agg a)
 erase_state (after_agg xs) = after_agg (map erase_agg xs)
 erase_state (at_stream xs) = at_stream (map erase_agg xs)
@@ -89,9 +95,10 @@ deeper_same deep n n' s e = ap (λ k. deeper deep k (erase_state s)) e ∙ by_te
     by_test true = refl
     by_test false = refl
 
-func_same : (xs : List Agg) (o : Option Func) → func_step (map erase_agg xs) o ≡ erase_step (func_step xs o)
-func_same xs None = refl
-func_same xs (Some f) = refl
+callee_same : (xs : List Agg) (o : Option Callee) → callee_step (map erase_agg xs) o ≡ erase_step (callee_step xs o)
+callee_same xs None = refl
+callee_same xs (Some (callee.Func f)) = refl
+callee_same xs (Some callee.Pct) = refl
 
 star_same : (xs : List Agg) (b : Bool) → star_step (map erase_agg xs) b ≡ erase_step (star_step xs b)
 star_same xs true = refl
@@ -106,7 +113,7 @@ start_same (reserved Select) = refl
 start_same _ = refl
 
 at_func_same : (xs : List Agg) (t : Token) → at_func_step (map erase_agg xs) (erase_token t) ≡ erase_step (at_func_step xs t)
-at_func_same xs (word (named p text)) = func_same xs (func_named (named p text))
+at_func_same xs (word (named p text)) = callee_same xs (callee_named (named p text))
 at_func_same xs _ = refl
 
 at_open_same : (xs : List Agg) (f : Func) (t : Token) → at_open_step (map erase_agg xs) f (erase_token t) ≡ erase_step (at_open_step xs f t)
@@ -117,6 +124,26 @@ at_field_same : (xs : List Agg) (f : Func) (t : Token) → at_field_step (map er
 at_field_same xs f (symbol Star) = star_same xs (is_count f)
 at_field_same xs f (word n) = word_same xs f (is_count f) n
 at_field_same xs f _ = refl
+
+digits_same : (b : Bool) (s : State) → digits_step b (erase_state s) ≡ erase_step (digits_step b s)
+digits_same true s = refl
+digits_same false s = refl
+
+at_pct_same : (xs : List Agg) (t : Token) → at_pct_step (map erase_agg xs) (erase_token t) ≡ erase_step (at_pct_step xs t)
+at_pct_same xs (symbol Open) = refl
+at_pct_same xs _ = refl
+
+at_percent_same : (xs : List Agg) (t : Token) → at_percent_step (map erase_agg xs) (erase_token t) ≡ erase_step (at_percent_step xs t)
+at_percent_same xs (literal (digits p w)) = digits_same (is_signed w) (at_comma xs p w)
+at_percent_same xs _ = refl
+
+at_comma_same : (xs : List Agg) (p : ℕ) (w : List ℕ) (t : Token) → at_comma_step (map erase_agg xs) 0 w (erase_token t) ≡ erase_step (at_comma_step xs p w t)
+at_comma_same xs p w (symbol Comma) = refl
+at_comma_same xs p w _ = refl
+
+at_pct_field_same : (xs : List Agg) (p : ℕ) (w : List ℕ) (t : Token) → at_pct_field_step (map erase_agg xs) 0 w (erase_token t) ≡ erase_step (at_pct_field_step xs p w t)
+at_pct_field_same xs p w (word n) = refl
+at_pct_field_same xs p w _ = refl
 
 at_close_same : (xs : List Agg) (a : Agg) (t : Token) → at_close_step (map erase_agg xs) (erase_agg a) (erase_token t) ≡ erase_step (at_close_step xs a t)
 at_close_same xs a (symbol Close) = ap (λ ys. goes (after_agg ys)) (sym (map-append erase_agg xs (a ∷ [])))
@@ -189,10 +216,6 @@ at_window_same g (reserved Sliding) = refl
 at_window_same g (reserved Infinite) = refl
 at_window_same g _ = refl
 
-digits_same : (b : Bool) (s : State) → digits_step b (erase_state s) ≡ erase_step (digits_step b s)
-digits_same true s = refl
-digits_same false s = refl
-
 unit_same : (o : Option TimeUnit) (next again : TimeUnit → State) → ((unit : TimeUnit) → again unit ≡ erase_state (next unit)) → unit_step o again ≡ erase_step (unit_step o next)
 unit_same None next again e = refl
 unit_same (Some unit) next again e = ap goes (e unit)
@@ -236,6 +259,10 @@ step_same deep at_start t = start_same t
 step_same deep (at_func xs) t = at_func_same xs t
 step_same deep (at_open xs f) t = at_open_same xs f t
 step_same deep (at_field xs f) t = at_field_same xs f t
+step_same deep (at_pct xs) t = at_pct_same xs t
+step_same deep (at_percent xs) t = at_percent_same xs t
+step_same deep (at_comma xs p w) t = at_comma_same xs p w t
+step_same deep (at_pct_field xs p w) t = at_pct_field_same xs p w t
 step_same deep (at_close xs a) t = at_close_same xs a t
 step_same deep (after_agg xs) t = after_agg_same xs t
 step_same deep (at_stream xs) t = at_stream_same xs t

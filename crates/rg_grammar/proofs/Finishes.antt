@@ -2,15 +2,16 @@
 use Rattle.std.proofs.Common.{◌≡◌, ℕ, List, [], ◌∷◌, ◌++◌, Option, Some, None, Bool, true, false, refl, ap, ◌∙◌}
 use Rattle.std.specs.Prelude.{codes}
 use Rattle.rg_keywords.specs.declared.keyword.Keyword.TheVariants.{Select, From, By, Over, Infinite}
-use Rattle.rg_keywords.specs.declared.op.Symbol.TheVariants.{Open, Close, Star, Compare}
+use Rattle.rg_keywords.specs.declared.op.Symbol.TheVariants.{Open, Close, Comma, Star, Compare}
 use Rattle.rg_keywords.specs.declared.op.Op.{Op}
 use Rattle.rg_keywords.specs.declared.op.Op.TheVariants.{Eq}
+use Rattle.rg_keywords.specs.declared.callee.Callee.TheVariants as callee
 use Rattle.rg_keywords.specs.declared.func.Func.{Func}
 use Rattle.rg_keywords.specs.declared.func.Func.TheVariants.{Count}
 use Rattle.rg_keywords.specs.declared.time_unit.TimeUnit.TheVariants.{Millisecond}
-use Rattle.rg_keywords.specs.Words.{func_of, unit_of}
-use Rattle.rg_grammar.specs.Grammar.{Name, named, Literal, digits, Token, reserved, symbol, word, literal, Tree, compared, Agg, count_all, agg_of, Span, span, Query, func_named, unit_named, is_count}
-use Rattle.rg_grammar.specs.Machine.{Level, level, Head, Left, left, Filtered, Grouped, grouped, State, at_start, at_func, at_open, at_field, at_close, after_agg, at_stream, after_stream, at_operand, after_field, after_op, after_operand, at_by, at_group, after_group, at_window, at_length, at_unit, after_window, at_delay_by, at_delay, at_delay_unit, at_end, goes, or_with, and_with, nots, with_operand, step, without_filter, with_filter, with_group, with_window, read, after_step, run}
+use Rattle.rg_keywords.specs.Words.{callee_of, func_of, unit_of}
+use Rattle.rg_grammar.specs.Grammar.{Name, named, Literal, digits, Token, reserved, symbol, word, literal, Tree, compared, Agg, count_all, agg_of, pct_of, Span, span, Query, callee_named, unit_named, is_count}
+use Rattle.rg_grammar.specs.Machine.{Level, level, Head, Left, left, Filtered, Grouped, grouped, State, at_start, at_func, at_open, at_field, at_pct, at_percent, at_comma, at_pct_field, at_close, after_agg, at_stream, after_stream, at_operand, after_field, after_op, after_operand, at_by, at_group, after_group, at_window, at_length, at_unit, after_window, at_delay_by, at_delay, at_delay_unit, at_end, goes, or_with, and_with, nots, with_operand, step, without_filter, with_filter, with_group, with_window, read, after_step, run}
 
 -- some tokens with which a query is read from the state
 pub record Finishes (deep : ℕ) (s : State) : Type 0 where
@@ -30,8 +31,8 @@ count_word = named 0 (codes "count")
 abbrev ms_word : Name
 ms_word = named 0 (codes "ms")
 
-is_count_word : func_named count_word ≡ Some Count
-unfolding func_of
+is_count_word : callee_named count_word ≡ Some (callee.Func Count)
+unfolding callee_of func_of
 is_count_word = refl
 
 is_ms_word : unit_named ms_word ≡ Some Millisecond
@@ -76,6 +77,15 @@ open_finishes deep xs f = push deep (at_open xs f) (at_field xs f) (symbol Open)
 func_finishes : (deep : ℕ) (xs : List Agg) → Finishes deep (at_func xs)
 func_finishes deep xs = push deep (at_func xs) (at_open xs Count) (word count_word) (rw is_count_word refl) (open_finishes deep xs Count)
 
+pct_field_finishes : (deep : ℕ) (xs : List Agg) (p : ℕ) (w : List ℕ) → Finishes deep (at_pct_field xs p w)
+pct_field_finishes deep xs p w = push deep (at_pct_field xs p w) (at_close xs (pct_of p w some_name)) (word some_name) refl (close_finishes deep xs (pct_of p w some_name))
+
+comma_finishes : (deep : ℕ) (xs : List Agg) (p : ℕ) (w : List ℕ) → Finishes deep (at_comma xs p w)
+comma_finishes deep xs p w = push deep (at_comma xs p w) (at_pct_field xs p w) (symbol Comma) refl (pct_field_finishes deep xs p w)
+
+percent_finishes : (deep : ℕ) (xs : List Agg) → Finishes deep (at_percent xs)
+percent_finishes deep xs = push deep (at_percent xs) (at_comma xs 0 (codes "0")) (literal some_digits) refl (comma_finishes deep xs 0 (codes "0"))
+
 op_finishes : (deep : ℕ) (l : Left) (f : Name) (op : Op) → Finishes deep (after_op l f op)
 op_finishes deep l f op = push deep (after_op l f op) (with_operand l (compared f op some_digits)) (literal some_digits) refl (operand_finishes deep l (compared f op some_digits))
 
@@ -113,6 +123,10 @@ finishes deep at_start = push deep at_start (at_func []) (reserved Select) refl 
 finishes deep (at_func xs) = func_finishes deep xs
 finishes deep (at_open xs f) = open_finishes deep xs f
 finishes deep (at_field xs f) = field_finishes deep xs f (is_count f) refl
+finishes deep (at_pct xs) = push deep (at_pct xs) (at_percent xs) (symbol Open) refl (percent_finishes deep xs)
+finishes deep (at_percent xs) = percent_finishes deep xs
+finishes deep (at_comma xs p w) = comma_finishes deep xs p w
+finishes deep (at_pct_field xs p w) = pct_field_finishes deep xs p w
 finishes deep (at_close xs a) = close_finishes deep xs a
 finishes deep (after_agg xs) = after_agg_finishes deep xs
 finishes deep (at_stream xs) = record { more = word some_name ∷ over_more; query = with_window (grouped xs some_name None []) None None; reads = refl }

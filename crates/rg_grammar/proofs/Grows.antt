@@ -5,27 +5,30 @@ use Rattle.std.proofs.lemmas.Bool.{ltb-true}
 use Rattle.rg_keywords.specs.declared.keyword.Keyword.TheVariants.{Select, From, Where, Group, By, Over, Sliding, Infinite, Delayed, And, Or, Not}
 use Rattle.rg_keywords.specs.declared.op.Symbol.TheVariants.{Open, Close, Comma, Star, Compare}
 use Rattle.rg_keywords.specs.declared.op.Op.{Op}
+use Rattle.rg_keywords.specs.declared.callee.Callee.{Callee}
+use Rattle.rg_keywords.specs.declared.callee.Callee.TheVariants as callee
 use Rattle.rg_keywords.specs.declared.func.Func.{Func}
 use Rattle.rg_keywords.specs.declared.func.Func.TheVariants.{Count}
 use Rattle.rg_keywords.specs.declared.time_unit.TimeUnit.{TimeUnit}
-use Rattle.rg_grammar.specs.Grammar.{Name, digits, Token, reserved, symbol, word, literal, OrTree, AndTree, group, comparison, or_depth, and_tree, AggTree, counted, of_field, agg_then, agg, AggsTree, one_agg, more_aggs, aggs, aggs_then, FieldsTree, one_field, more_fields, fields, fields_then, SpanTree, spanned, span, maybe_span, group_of, func_named, unit_named, is_count, is_signed, IsAgg, IsAggs, IsMaybeSpan}
-use Rattle.rg_grammar.specs.Machine.{head, left, filtered, grouped, State, after_agg, at_operand, at_by, after_group, at_window, at_unit, after_window, at_delay_unit, at_end, goes, too_deep, open_levels, or_with, with_operand, deeper, func_step, step, field_step, star_step, start_step, at_func_step, at_open_step, at_field_step, at_close_step, close_step, after_agg_step, at_stream_step, with_group, with_window, after_stream_step, operand_step, after_field_step, after_op_step, group_step, over_step, after_operand_step, at_by_step, at_group_step, after_group_step, at_window_step, digits_step, unit_step, at_length_step, at_unit_step, after_window_step, at_delay_by_step, at_delay_step, at_delay_unit_step}
-use Rattle.rg_grammar.proofs.Stages.{Grown, Outer, outer, Before, before, Chosen, chosen, Keyed, keyed, Stage, s_start, s_func, s_open, s_field, s_close, s_after_agg, s_stream, s_after_stream, s_operand, s_after_field, s_after_op, s_after_operand, s_by, s_group, s_after_group, s_window, s_length, s_unit, s_after_window, s_delay_by, s_delay, s_delay_unit, s_end, maybe_or, maybe_aggs, levels, left_of, filtered_of, grouped_of, state, levels_then, aggs_part, fields_part, stream_then, before_then, chosen_then, so_far, MaybeAggs, Nested, Legal_before, Legal_chosen, Legal_keyed, Legal}
+use Rattle.rg_grammar.specs.Grammar.{Name, digits, Token, reserved, symbol, word, literal, OrTree, AndTree, group, comparison, or_depth, and_tree, AggTree, counted, of_field, of_percent, agg_then, agg, AggsTree, one_agg, more_aggs, aggs, aggs_then, FieldsTree, one_field, more_fields, fields, fields_then, SpanTree, spanned, span, maybe_span, group_of, callee_named, unit_named, is_count, is_signed, IsAgg, IsAggs, IsMaybeSpan}
+use Rattle.rg_grammar.specs.Machine.{head, left, filtered, grouped, State, at_comma, after_agg, at_operand, at_by, after_group, at_window, at_unit, after_window, at_delay_unit, at_end, goes, too_deep, open_levels, or_with, with_operand, deeper, callee_step, step, field_step, star_step, start_step, at_func_step, at_open_step, at_field_step, at_pct_step, at_percent_step, at_comma_step, at_pct_field_step, at_close_step, close_step, after_agg_step, at_stream_step, with_group, with_window, after_stream_step, operand_step, after_field_step, after_op_step, group_step, over_step, after_operand_step, at_by_step, at_group_step, after_group_step, at_window_step, digits_step, unit_step, at_length_step, at_unit_step, after_window_step, at_delay_by_step, at_delay_step, at_delay_unit_step}
+use Rattle.rg_grammar.proofs.Stages.{Grown, Outer, outer, Before, before, Chosen, chosen, Keyed, keyed, Stage, s_start, s_func, s_open, s_field, s_pct, s_percent, s_comma, s_pct_field, s_close, s_after_agg, s_stream, s_after_stream, s_operand, s_after_field, s_after_op, s_after_operand, s_by, s_group, s_after_group, s_window, s_length, s_unit, s_after_window, s_delay_by, s_delay, s_delay_unit, s_end, maybe_or, maybe_aggs, levels, left_of, filtered_of, grouped_of, state, levels_then, aggs_part, fields_part, stream_then, before_then, chosen_then, so_far, MaybeAggs, Nested, Legal_before, Legal_chosen, Legal_keyed, Legal}
 use Rattle.rg_grammar.proofs.Operands.{Joined, join_or, join_or_tree, join_or_then, join_or_depth, operand}
 
 grow_start : (deep : ℕ) (t : Token) (s : State) → start_step t ≡ goes s → Grown deep s_start t s
 grow_start deep (reserved Select) s e = record { stage = s_func None; is = cc; legal = tt; then_rest = λ rest. refl }
 grow_start deep _ s e = absurd (cc)
 
-grow_func_word : (deep : ℕ) (xs : Option AggsTree) (w : Name) (o : Option Func) (s : State) → MaybeAggs xs → func_named w ≡ o → func_step (maybe_aggs xs) o ≡ goes s → Grown deep (s_func xs) (word w) s
-grow_func_word deep xs w None s l q e = absurd (cc)
-grow_func_word deep xs w (Some f) s l q e = record { stage = s_open xs w f; is = cc; legal = (l, q); then_rest = λ rest. refl }
+grow_callee : (deep : ℕ) (xs : Option AggsTree) (w : Name) (o : Option Callee) (s : State) → MaybeAggs xs → callee_named w ≡ o → callee_step (maybe_aggs xs) o ≡ goes s → Grown deep (s_func xs) (word w) s
+grow_callee deep xs w None s l q e = absurd (cc)
+grow_callee deep xs w (Some (callee.Func f)) s l q e = record { stage = s_open xs w f; is = cc; legal = (l, q); then_rest = λ rest. refl }
+grow_callee deep xs w (Some callee.Pct) s l q e = record { stage = s_pct xs w; is = cc; legal = (l, q); then_rest = λ rest. refl }
 
 grow_func : (deep : ℕ) (xs : Option AggsTree) (t : Token) (s : State) → MaybeAggs xs → at_func_step (maybe_aggs xs) t ≡ goes s → Grown deep (s_func xs) t s
-grow_func deep xs (word w) s l e = grow_func_word deep xs w (func_named w) s l refl e
+grow_func deep xs (word w) s l e = grow_callee deep xs w (callee_named w) s l refl e
 grow_func deep xs _ s l e = absurd (cc)
 
-grow_open : (deep : ℕ) (xs : Option AggsTree) (w : Name) (f : Func) (t : Token) (s : State) → MaybeAggs xs → func_named w ≡ Some f → at_open_step (maybe_aggs xs) f t ≡ goes s → Grown deep (s_open xs w f) t s
+grow_open : (deep : ℕ) (xs : Option AggsTree) (w : Name) (f : Func) (t : Token) (s : State) → MaybeAggs xs → callee_named w ≡ Some (callee.Func f) → at_open_step (maybe_aggs xs) f t ≡ goes s → Grown deep (s_open xs w f) t s
 grow_open deep xs w f (symbol Open) s l q e = record { stage = s_field xs w f; is = cc; legal = (l, q); then_rest = λ rest. refl }
 grow_open deep xs w f _ s l q e = absurd (cc)
 
@@ -33,18 +36,40 @@ only_count : (f : Func) → is_count f ≡ true → f ≡ Count
 only_count Count e = refl
 only_count _ e = cc
 
-grow_star : (deep : ℕ) (xs : Option AggsTree) (w : Name) (f : Func) (b : Bool) (s : State) → MaybeAggs xs → func_named w ≡ Some f → is_count f ≡ b → star_step (maybe_aggs xs) b ≡ goes s → Grown deep (s_field xs w f) (symbol Star) s
-grow_star deep xs w f true s l q i e = record { stage = s_close xs (counted w); is = cc; legal = (l, q ∙ ap Some (only_count f i)); then_rest = λ rest. refl }
+grow_star : (deep : ℕ) (xs : Option AggsTree) (w : Name) (f : Func) (b : Bool) (s : State) → MaybeAggs xs → callee_named w ≡ Some (callee.Func f) → is_count f ≡ b → star_step (maybe_aggs xs) b ≡ goes s → Grown deep (s_field xs w f) (symbol Star) s
+grow_star deep xs w f true s l q i e = record { stage = s_close xs (counted w); is = cc; legal = (l, q ∙ ap (λ g. Some (callee.Func g)) (only_count f i)); then_rest = λ rest. refl }
 grow_star deep xs w f false s l q i e = absurd (cc)
 
-grow_word : (deep : ℕ) (xs : Option AggsTree) (w : Name) (f : Func) (n : Name) (b : Bool) (s : State) → MaybeAggs xs → func_named w ≡ Some f → is_count f ≡ b → field_step (maybe_aggs xs) f b n ≡ goes s → Grown deep (s_field xs w f) (word n) s
+grow_word : (deep : ℕ) (xs : Option AggsTree) (w : Name) (f : Func) (n : Name) (b : Bool) (s : State) → MaybeAggs xs → callee_named w ≡ Some (callee.Func f) → is_count f ≡ b → field_step (maybe_aggs xs) f b n ≡ goes s → Grown deep (s_field xs w f) (word n) s
 grow_word deep xs w f n true s l q i e = absurd (cc)
 grow_word deep xs w f n false s l q i e = record { stage = s_close xs (of_field w f n); is = cc; legal = (l, (q, i)); then_rest = λ rest. refl }
 
-grow_field : (deep : ℕ) (xs : Option AggsTree) (w : Name) (f : Func) (t : Token) (s : State) → MaybeAggs xs → func_named w ≡ Some f → at_field_step (maybe_aggs xs) f t ≡ goes s → Grown deep (s_field xs w f) t s
+grow_field : (deep : ℕ) (xs : Option AggsTree) (w : Name) (f : Func) (t : Token) (s : State) → MaybeAggs xs → callee_named w ≡ Some (callee.Func f) → at_field_step (maybe_aggs xs) f t ≡ goes s → Grown deep (s_field xs w f) t s
 grow_field deep xs w f (symbol Star) s l q e = grow_star deep xs w f (is_count f) s l q refl e
 grow_field deep xs w f (word n) s l q e = grow_word deep xs w f n (is_count f) s l q refl e
 grow_field deep xs w f _ s l q e = absurd (cc)
+
+unsigned : (b : Bool) (s s' : State) → digits_step b s ≡ goes s' → (b ≡ false) × (s ≡ s')
+unsigned true s s' e = absurd (cc)
+unsigned false s s' e = (refl, cc)
+
+grow_pct : (deep : ℕ) (xs : Option AggsTree) (w : Name) (t : Token) (s : State) → MaybeAggs xs → callee_named w ≡ Some callee.Pct → at_pct_step (maybe_aggs xs) t ≡ goes s → Grown deep (s_pct xs w) t s
+grow_pct deep xs w (symbol Open) s l q e = record { stage = s_percent xs w; is = cc; legal = (l, q); then_rest = λ rest. refl }
+grow_pct deep xs w _ s l q e = absurd (cc)
+
+grow_percent : (deep : ℕ) (xs : Option AggsTree) (w : Name) (t : Token) (s : State) → MaybeAggs xs → callee_named w ≡ Some callee.Pct → at_percent_step (maybe_aggs xs) t ≡ goes s → Grown deep (s_percent xs w) t s
+grow_percent deep xs w (literal (digits p text)) s l q e =
+    let u : (is_signed text ≡ false) × (at_comma (maybe_aggs xs) p text ≡ s) = unsigned (is_signed text) (at_comma (maybe_aggs xs) p text) s e in
+    record { stage = s_comma xs w p text; is = u.1; legal = (l, (q, u.0)); then_rest = λ rest. refl }
+grow_percent deep xs w _ s l q e = absurd (cc)
+
+grow_comma : (deep : ℕ) (xs : Option AggsTree) (w : Name) (p : ℕ) (text : List ℕ) (t : Token) (s : State) → MaybeAggs xs → (callee_named w ≡ Some callee.Pct) × (is_signed text ≡ false) → at_comma_step (maybe_aggs xs) p text t ≡ goes s → Grown deep (s_comma xs w p text) t s
+grow_comma deep xs w p text (symbol Comma) s l q e = record { stage = s_pct_field xs w p text; is = cc; legal = (l, q); then_rest = λ rest. refl }
+grow_comma deep xs w p text _ s l q e = absurd (cc)
+
+grow_pct_field : (deep : ℕ) (xs : Option AggsTree) (w : Name) (p : ℕ) (text : List ℕ) (t : Token) (s : State) → MaybeAggs xs → (callee_named w ≡ Some callee.Pct) × (is_signed text ≡ false) → at_pct_field_step (maybe_aggs xs) p text t ≡ goes s → Grown deep (s_pct_field xs w p text) t s
+grow_pct_field deep xs w p text (word n) s l q e = record { stage = s_close xs (of_percent w p text n); is = cc; legal = (l, q); then_rest = λ rest. refl }
+grow_pct_field deep xs w p text _ s l q e = absurd (cc)
 
 abbrev with_agg : Option AggsTree → AggTree → AggsTree
 with_agg None a = one_agg a
@@ -65,6 +90,7 @@ with_agg_then (Some xs) a rest = refl
 close_then : (xs : Option AggsTree) (a : AggTree) (rest : List Token) → so_far (s_close xs a) (symbol Close ∷ rest) ≡ reserved Select ∷ aggs_part xs (agg_then a rest)
 close_then xs (counted w) rest = refl
 close_then xs (of_field w f n) rest = refl
+close_then xs (of_percent w p text n) rest = refl
 
 grow_close : (deep : ℕ) (xs : Option AggsTree) (a : AggTree) (t : Token) (s : State) → MaybeAggs xs → IsAgg a → at_close_step (maybe_aggs xs) (agg a) t ≡ goes s → Grown deep (s_close xs a) t s
 grow_close deep xs a (symbol Close) s l q e = record {
@@ -221,10 +247,6 @@ grow_window deep k (reserved Sliding) s l e = record { stage = s_length k; is = 
 grow_window deep k (reserved Infinite) s l e = record { stage = s_after_window k None; is = cc; legal = (l, tt); then_rest = λ rest. refl }
 grow_window deep k _ s l e = absurd (cc)
 
-unsigned : (b : Bool) (s s' : State) → digits_step b s ≡ goes s' → (b ≡ false) × (s ≡ s')
-unsigned true s s' e = absurd (cc)
-unsigned false s s' e = (refl, cc)
-
 grow_length : (deep : ℕ) (k : Keyed) (t : Token) (s : State) → Legal_keyed deep k → at_length_step (grouped_of k) t ≡ goes s → Grown deep (s_length k) t s
 grow_length deep k (literal (digits p w)) s l e =
     let u : (is_signed w ≡ false) × (at_unit (grouped_of k) p w ≡ s) = unsigned (is_signed w) (at_unit (grouped_of k) p w) s e in
@@ -266,6 +288,10 @@ grow deep s_start t s l e = grow_start deep t s e
 grow deep (s_func xs) t s l e = grow_func deep xs t s l e
 grow deep (s_open xs w f) t s l e = grow_open deep xs w f t s l.0 l.1 e
 grow deep (s_field xs w f) t s l e = grow_field deep xs w f t s l.0 l.1 e
+grow deep (s_pct xs w) t s l e = grow_pct deep xs w t s l.0 l.1 e
+grow deep (s_percent xs w) t s l e = grow_percent deep xs w t s l.0 l.1 e
+grow deep (s_comma xs w p text) t s l e = grow_comma deep xs w p text t s l.0 l.1 e
+grow deep (s_pct_field xs w p text) t s l e = grow_pct_field deep xs w p text t s l.0 l.1 e
 grow deep (s_close xs a) t s l e = grow_close deep xs a t s l.0 l.1 e
 grow deep (s_after_agg xs) t s l e = grow_after_agg deep xs t s l e
 grow deep (s_stream xs) t s l e = grow_stream deep xs t s l e

@@ -1,28 +1,45 @@
 -- A query that is written is one of the grammar, and asks the same.
-use Rattle.std.proofs.Common.{◌≡◌, ℕ, ◌≤◌, List, [], ◌∷◌, ◌++◌, Option, Some, None, false, refl, ap, sym, ◌∙◌, subst, arith, append_assoc}
+use Rattle.std.proofs.Common.{◌≡◌, ℕ, ◌≤◌, List, [], ◌∷◌, ◌++◌, Option, Some, None, Bool, true, false, refl, ap, sym, ◌∙◌, subst, arith, append_assoc}
 use Rattle.std.proofs.lemmas.List.{append-nil}
 use Rattle.std.specs.List.{All}
 use Rattle.std.proofs.lemmas.List.Elements.{All-nil, All-cons, All-head, All-tail, All-append}
 use Rattle.std.specs.Prelude.{codes}
+use Rattle.std.specs.Str.{str_eq_ignore_ascii_case}
+use Rattle.rg_keywords.specs.declared.callee.Callee.{Callee}
+use Rattle.rg_keywords.specs.declared.callee.Callee.TheVariants as callee
 use Rattle.rg_keywords.specs.declared.func.Func.{Func}
-use Rattle.rg_keywords.specs.declared.func.Func.TheVariants.{Count, Sum, Avg, SumSq, Min, Max, CountDistinct, First, Last}
+use Rattle.rg_keywords.specs.declared.func.Func.TheVariants.{Count, Sum, Avg, SumSq, Min, Max, CountDistinct, First, Last, Median, Pct}
 use Rattle.rg_keywords.specs.declared.time_unit.TimeUnit.TheVariants.{Millisecond}
-use Rattle.rg_keywords.specs.Words.{func_of, unit_of, func_name}
-use Rattle.rg_grammar.specs.Grammar.{Found, Name, Token, OrTree, Tree, or_depth, and_depth, not_depth, compared, not_of, and_of, or_of, or_tree, AggTree, counted, of_field, Agg, count_all, agg_of, agg, AggsTree, one_agg, more_aggs, aggs, FieldsTree, one_field, more_fields, fields, SpanTree, Window, windowed, maybe_span, QueryTree, query, Query, asked, tokens_of, filter_of, group_of, query_of, filter_depth, query_depth, is_signed, IsAgg, IsAggs, IsSpan, IsMaybeSpan, IsQuery}
-use Rattle.rg_grammar.specs.Printed.{written, written_agg, aggs_and, written_aggs, fields_and, written_group, written_filter, written_span, written_query, over_window, IsWritable, AreWritable, CanWrite, shape, maybe_shape, filter_shape}
+use Rattle.rg_keywords.specs.Words.{as_callee, callee_of, func_of, func_words, meaning_in, unit_of, func_name}
+use Rattle.rg_grammar.specs.Grammar.{Found, Name, named, Token, OrTree, Tree, or_depth, and_depth, not_depth, compared, not_of, and_of, or_of, or_tree, AggTree, counted, of_field, of_percent, Agg, count_all, agg_of, pct_of, agg, AggsTree, one_agg, more_aggs, aggs, FieldsTree, one_field, more_fields, fields, SpanTree, Window, windowed, maybe_span, QueryTree, query, Query, asked, tokens_of, filter_of, group_of, query_of, filter_depth, query_depth, is_count, is_signed, IsAgg, IsAggs, IsSpan, IsMaybeSpan, IsQuery}
+use Rattle.rg_grammar.specs.Printed.{is_plain, written, written_agg, aggs_and, written_aggs, fields_and, written_group, written_filter, written_span, written_query, over_window, IsWritable, AreWritable, CanWrite, shape, maybe_shape, filter_shape}
 use Rattle.rg_grammar.proofs.Printed.{means, no_deeper}
 
-pub func_name_means : (f : Func) → func_of (func_name f) ≡ Some f
-unfolding func_of
-func_name_means Count = refl
-func_name_means Sum = refl
-func_name_means Avg = refl
-func_name_means SumSq = refl
-func_name_means Min = refl
-func_name_means Max = refl
-func_name_means CountDistinct = refl
-func_name_means First = refl
-func_name_means Last = refl
+count_means : callee_of (func_name Count) ≡ Some (callee.Func Count)
+unfolding callee_of func_of
+count_means = refl
+
+pct_means : callee_of (codes "pct") ≡ Some callee.Pct
+unfolding callee_of
+pct_means = refl
+
+plain_means : (f : Func) → is_plain f ≡ true → callee_of (func_name f) ≡ Some (callee.Func f)
+unfolding callee_of func_of
+plain_means Count h = cc
+plain_means Sum h = refl
+plain_means Avg h = refl
+plain_means SumSq h = refl
+plain_means Min h = refl
+plain_means Max h = refl
+plain_means CountDistinct h = refl
+plain_means First h = refl
+plain_means Last h = refl
+plain_means Median h = refl
+plain_means (Pct percent) h = cc
+
+plain_counts : (f : Func) → is_plain f ≡ true → is_count f ≡ false
+plain_counts Count h = cc
+plain_counts _ h = refl
 
 ms_means : unit_of (codes "ms") ≡ Some Millisecond
 unfolding unit_of
@@ -32,12 +49,14 @@ pub span_is : (millis : List ℕ) → is_signed millis ≡ false → IsSpan (wri
 span_is millis e = (e, ms_means)
 
 agg_is : (a : Agg) → IsWritable a → IsAgg (written_agg a)
-agg_is count_all h = func_name_means Count
-agg_is (agg_of f n) h = (func_name_means f, h)
+agg_is count_all h = count_means
+agg_is (agg_of f n) h = (plain_means f h, plain_counts f h)
+agg_is (pct_of p text n) h = (pct_means, h)
 
 agg_again : (a : Agg) → agg (written_agg a) ≡ a
 agg_again count_all = refl
 agg_again (agg_of f n) = refl
+agg_again (pct_of p text n) = refl
 
 aggs_are : (front : AggsTree) (more : List Agg) → IsAggs front → All IsWritable more → IsAggs (aggs_and front more)
 aggs_are front [] h w = h
@@ -80,9 +99,52 @@ query_again (asked xs n t ns w) length delay c =
     ∙ ap (λ u. asked xs n u (group_of (written_group ns)) v) (filter_again t)
     ∙ ap (λ ms. asked xs n t ms v) (group_again ns)
 
+-- no word names a percentile: its percent stands behind PCT
+
+abbrev is_named : Func → Bool
+is_named (Pct percent) = false
+is_named _ = true
+
+abbrev AreNamed : List (List ℕ × Func) → Type 0
+AreNamed [] = Unit {0}
+AreNamed ((name, f) ∷ entries) = (is_named f ≡ true) × AreNamed entries
+
+some_same : (f g : Func) → Some f ≡ Some g → f ≡ g
+some_same f g e = cc
+
+meant_named : (entries : List (List ℕ × Func)) (word : List ℕ) (f : Func) → AreNamed entries → meaning_in entries word ≡ Some f → is_named f ≡ true
+meant_named [] word f are e = absurd (cc)
+meant_named ((name, g) ∷ entries) word f are e = by (str_eq_ignore_ascii_case word name) refl (λ rest. meant_named entries word f are.1 rest)
+  where
+    by : (b : Bool) → str_eq_ignore_ascii_case word name ≡ b → (meaning_in entries word ≡ Some f → is_named f ≡ true) → is_named f ≡ true
+    by true at rest = let same : g ≡ f = some_same g f (rw at at e) in subst (λ h. is_named h ≡ true) same are.0
+    by false at rest = rest (rw at at e)
+
+func_named : (word : List ℕ) (f : Func) → func_of word ≡ Some f → is_named f ≡ true
+unfolding func_of
+func_named word f e = meant_named func_words word f (refl, (refl, (refl, (refl, (refl, (refl, (refl, (refl, (refl, (refl, tt)))))))))) e
+
+as_func : (o : Option Func) (f : Func) → as_callee o ≡ Some (callee.Func f) → o ≡ Some f
+as_func None f e = absurd (cc)
+as_func (Some g) f e = cc
+
+callee_func : (word : List ℕ) (f : Func) → callee_of word ≡ Some (callee.Func f) → is_named f ≡ true
+unfolding callee_of
+callee_func word f e = by (str_eq_ignore_ascii_case word (codes "pct")) refl
+  where
+    by : (b : Bool) → str_eq_ignore_ascii_case word (codes "pct") ≡ b → is_named f ≡ true
+    by true at = let none : Some callee.Pct ≡ Some (callee.Func f) = rw at at e in absurd (cc)
+    by false at = func_named word f (as_func (func_of word) f (rw at at e))
+
+plain_named : (f : Func) → is_named f ≡ true → is_count f ≡ false → is_plain f ≡ true
+plain_named Count h c = cc
+plain_named (Pct percent) h c = cc
+plain_named _ h c = refl
+
 agg_writable : (a : AggTree) → IsAgg a → IsWritable (agg a)
 agg_writable (counted w) h = tt
-agg_writable (of_field w f n) h = h.1
+agg_writable (of_field (named p text) f n) h = plain_named f (callee_func text f h.0) h.1
+agg_writable (of_percent w p text n) h = h.1
 
 all_writable : (a : AggsTree) → IsAggs a → All IsWritable (aggs a)
 all_writable (one_agg a) h = All-cons IsWritable (agg a) [] (agg_writable a h) (All-nil IsWritable)

@@ -3,9 +3,10 @@ use Rattle.std.proofs.Common.{◌≡◌, ℕ, zero, suc, ◌+◌, ◌≤◌, Lis
 use Rattle.rg_keywords.specs.declared.keyword.Keyword.TheVariants.{Select, From, Where, Group, By, Over, Sliding, Delayed, And, Or, Not}
 use Rattle.rg_keywords.specs.declared.op.Symbol.TheVariants.{Open, Comma, Star, Compare}
 use Rattle.rg_keywords.specs.declared.op.Op.{Op}
+use Rattle.rg_keywords.specs.declared.callee.Callee.TheVariants as callee
 use Rattle.rg_keywords.specs.declared.func.Func.{Func}
-use Rattle.rg_grammar.specs.Grammar.{Name, digits, Token, reserved, symbol, word, literal, OrTree, Tree, AndTree, or_then, and_then, or_depth, and_depth, or_tree, and_tree, AggTree, counted, of_field, Agg, agg, AggsTree, aggs, aggs_then, FieldsTree, fields, fields_then, SpanTree, span_then, span_of, length_then, maybe_span, where_then, group_then, filter_of, group_of, filter_depth, func_named, is_signed, IsAgg, IsAggs, IsSpan, IsMaybeSpan}
-use Rattle.rg_grammar.specs.Machine.{Level, level, head, Left, left, Filtered, filtered, Grouped, grouped, State, at_start, at_func, at_open, at_field, at_close, after_agg, at_stream, after_stream, at_operand, after_field, after_op, after_operand, at_by, at_group, after_group, at_window, at_length, at_unit, after_window, at_delay_by, at_delay, at_delay_unit, at_end, open_levels, with_window}
+use Rattle.rg_grammar.specs.Grammar.{Name, digits, Token, reserved, symbol, word, literal, OrTree, Tree, AndTree, or_then, and_then, or_depth, and_depth, or_tree, and_tree, AggTree, counted, of_field, of_percent, Agg, agg, AggsTree, aggs, aggs_then, FieldsTree, fields, fields_then, SpanTree, span_then, span_of, length_then, maybe_span, where_then, group_then, filter_of, group_of, filter_depth, callee_named, is_signed, IsAgg, IsAggs, IsSpan, IsMaybeSpan}
+use Rattle.rg_grammar.specs.Machine.{Level, level, head, Left, left, Filtered, filtered, Grouped, grouped, State, at_start, at_func, at_open, at_field, at_pct, at_percent, at_comma, at_pct_field, at_close, after_agg, at_stream, after_stream, at_operand, after_field, after_op, after_operand, at_by, at_group, after_group, at_window, at_length, at_unit, after_window, at_delay_by, at_delay, at_delay_unit, at_end, open_levels, with_window}
 
 -- a level: the left side of an OR, of an AND, and how many NOT
 pub data Outer : Type 0 where
@@ -28,6 +29,10 @@ pub data Stage : Type 0 where
   s_func : Option AggsTree → Stage
   s_open : Option AggsTree → Name → Func → Stage
   s_field : Option AggsTree → Name → Func → Stage
+  s_pct : Option AggsTree → Name → Stage
+  s_percent : Option AggsTree → Name → Stage
+  s_comma : Option AggsTree → Name → ℕ → List ℕ → Stage
+  s_pct_field : Option AggsTree → Name → ℕ → List ℕ → Stage
   s_close : Option AggsTree → AggTree → Stage
   s_after_agg : AggsTree → Stage
   s_stream : AggsTree → Stage
@@ -79,6 +84,10 @@ state s_start = at_start
 state (s_func xs) = at_func (maybe_aggs xs)
 state (s_open xs w f) = at_open (maybe_aggs xs) f
 state (s_field xs w f) = at_field (maybe_aggs xs) f
+state (s_pct xs w) = at_pct (maybe_aggs xs)
+state (s_percent xs w) = at_percent (maybe_aggs xs)
+state (s_comma xs w p text) = at_comma (maybe_aggs xs) p text
+state (s_pct_field xs w p text) = at_pct_field (maybe_aggs xs) p text
 state (s_close xs a) = at_close (maybe_aggs xs) (agg a)
 state (s_after_agg xs) = after_agg (aggs xs)
 state (s_stream xs) = at_stream (aggs xs)
@@ -141,8 +150,13 @@ so_far s_start rest = rest
 so_far (s_func xs) rest = reserved Select ∷ aggs_part xs rest
 so_far (s_open xs w f) rest = reserved Select ∷ aggs_part xs (word w ∷ rest)
 so_far (s_field xs w f) rest = reserved Select ∷ aggs_part xs (word w ∷ symbol Open ∷ rest)
+so_far (s_pct xs w) rest = reserved Select ∷ aggs_part xs (word w ∷ rest)
+so_far (s_percent xs w) rest = reserved Select ∷ aggs_part xs (word w ∷ symbol Open ∷ rest)
+so_far (s_comma xs w p text) rest = reserved Select ∷ aggs_part xs (word w ∷ symbol Open ∷ literal (digits p text) ∷ rest)
+so_far (s_pct_field xs w p text) rest = reserved Select ∷ aggs_part xs (word w ∷ symbol Open ∷ literal (digits p text) ∷ symbol Comma ∷ rest)
 so_far (s_close xs (counted w)) rest = reserved Select ∷ aggs_part xs (word w ∷ symbol Open ∷ symbol Star ∷ rest)
 so_far (s_close xs (of_field w f n)) rest = reserved Select ∷ aggs_part xs (word w ∷ symbol Open ∷ word n ∷ rest)
+so_far (s_close xs (of_percent w p text n)) rest = reserved Select ∷ aggs_part xs (word w ∷ symbol Open ∷ literal (digits p text) ∷ symbol Comma ∷ word n ∷ rest)
 so_far (s_after_agg xs) rest = reserved Select ∷ aggs_then xs rest
 so_far (s_stream xs) rest = reserved Select ∷ aggs_then xs (reserved From ∷ rest)
 so_far (s_after_stream xs n) rest = stream_then xs n rest
@@ -191,8 +205,12 @@ Legal_keyed deep (keyed xs n o ns) = IsAggs xs × (filter_depth o ≤ deep)
 abbrev pub Legal : ℕ → Stage → Type 0
 Legal deep s_start = Unit {0}
 Legal deep (s_func xs) = MaybeAggs xs
-Legal deep (s_open xs w f) = MaybeAggs xs × (func_named w ≡ Some f)
-Legal deep (s_field xs w f) = MaybeAggs xs × (func_named w ≡ Some f)
+Legal deep (s_open xs w f) = MaybeAggs xs × (callee_named w ≡ Some (callee.Func f))
+Legal deep (s_field xs w f) = MaybeAggs xs × (callee_named w ≡ Some (callee.Func f))
+Legal deep (s_pct xs w) = MaybeAggs xs × (callee_named w ≡ Some callee.Pct)
+Legal deep (s_percent xs w) = MaybeAggs xs × (callee_named w ≡ Some callee.Pct)
+Legal deep (s_comma xs w p text) = MaybeAggs xs × ((callee_named w ≡ Some callee.Pct) × (is_signed text ≡ false))
+Legal deep (s_pct_field xs w p text) = MaybeAggs xs × ((callee_named w ≡ Some callee.Pct) × (is_signed text ≡ false))
 Legal deep (s_close xs a) = MaybeAggs xs × IsAgg a
 Legal deep (s_after_agg xs) = IsAggs xs
 Legal deep (s_stream xs) = IsAggs xs

@@ -1,6 +1,6 @@
 -- Tokens, trees and queries without their places.
 use Rattle.std.specs.Prelude.{Option, Some, None, map}
-use Rattle.rg_grammar.specs.Grammar.{Name, named, Literal, digits, quoted, truth, Token, reserved, symbol, word, literal, Tree, compared, not_of, and_of, or_of, Agg, count_all, agg_of, Span, span, Window, windowed, Query, asked}
+use Rattle.rg_grammar.specs.Grammar.{Name, named, Literal, digits, quoted, truth, Token, reserved, symbol, word, literal, Tree, compared, not_of, and_of, or_of, Agg, count_all, agg_of, pct_of, Span, span, Window, windowed, Query, asked}
 
 abbrev pub erase_name : Name → Name
 erase_name (named p text) = named 0 text
@@ -29,6 +29,7 @@ erase_maybe (Some t) = Some (erase_tree t)
 abbrev pub erase_agg : Agg → Agg
 erase_agg count_all = count_all
 erase_agg (agg_of f n) = agg_of f (erase_name n)
+erase_agg (pct_of p text n) = pct_of 0 text (erase_name n)
 
 abbrev pub erase_span : Span → Span
 erase_span (span p w unit) = span 0 w unit

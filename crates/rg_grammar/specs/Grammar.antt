@@ -5,10 +5,12 @@ use Rattle.rg_keywords.specs.declared.keyword.Keyword.TheVariants.{Select, From,
 use Rattle.rg_keywords.specs.declared.op.Op.{Op}
 use Rattle.rg_keywords.specs.declared.op.Symbol.{Symbol}
 use Rattle.rg_keywords.specs.declared.op.Symbol.TheVariants.{Open, Close, Comma, Star, Compare}
+use Rattle.rg_keywords.specs.declared.callee.Callee.{Callee}
+use Rattle.rg_keywords.specs.declared.callee.Callee.TheVariants as callee
 use Rattle.rg_keywords.specs.declared.func.Func.{Func}
 use Rattle.rg_keywords.specs.declared.func.Func.TheVariants.{Count}
 use Rattle.rg_keywords.specs.declared.time_unit.TimeUnit.{TimeUnit}
-use Rattle.rg_keywords.specs.Words.{func_of, unit_of}
+use Rattle.rg_keywords.specs.Words.{callee_of, unit_of}
 
 -- a word, with its place
 pub data Name : Type 0 where
@@ -93,22 +95,28 @@ abbrev mutual
   not_tree (group o) = or_tree o
   not_tree (comparison f op l) = compared f op l
 
--- agg = COUNT "(" "*" ")" | func "(" field ")"; the word is as it was written
+-- agg = COUNT "(" "*" ")" | func "(" field ")" | PCT "(" number without "-" "," field ")"; the word is as it was written, and a number
+-- stands with its place
 pub data AggTree : Type 0 where
   counted : Name → AggTree
   of_field : Name → Func → Name → AggTree
+  of_percent : Name → ℕ → List ℕ → Name → AggTree
 
+-- a count, a function of a field, or a percent's place and digits with a field
 pub data Agg : Type 0 where
   count_all : Agg
   agg_of : Func → Name → Agg
+  pct_of : ℕ → List ℕ → Name → Agg
 
 abbrev pub agg_then : AggTree → List Token → List Token
 agg_then (counted w) rest = word w ∷ symbol Open ∷ symbol Star ∷ symbol Close ∷ rest
 agg_then (of_field w f n) rest = word w ∷ symbol Open ∷ word n ∷ symbol Close ∷ rest
+agg_then (of_percent w p text n) rest = word w ∷ symbol Open ∷ literal (digits p text) ∷ symbol Comma ∷ word n ∷ symbol Close ∷ rest
 
 abbrev pub agg : AggTree → Agg
 agg (counted w) = count_all
 agg (of_field w f n) = agg_of f n
+agg (of_percent w p text n) = pct_of p text n
 
 -- agg { "," agg }
 pub data AggsTree : Type 0 where
@@ -213,9 +221,9 @@ filter_depth (Some o) = or_depth o
 abbrev pub query_depth : QueryTree → ℕ
 query_depth (query xs n o ns w) = filter_depth o
 
--- the function, or the unit, that a name is
-abbrev pub func_named : Name → Option Func
-func_named (named p text) = func_of text
+-- what a call begins with, or the unit, that a name is
+abbrev pub callee_named : Name → Option Callee
+callee_named (named p text) = callee_of text
 
 abbrev pub unit_named : Name → Option TimeUnit
 unit_named (named p text) = unit_of text
@@ -230,8 +238,9 @@ is_signed [] = false
 is_signed (b ∷ text) = b == 45
 
 abbrev pub IsAgg : AggTree → Type 0
-IsAgg (counted w) = func_named w ≡ Some Count
-IsAgg (of_field w f n) = (func_named w ≡ Some f) × (is_count f ≡ false)
+IsAgg (counted w) = callee_named w ≡ Some (callee.Func Count)
+IsAgg (of_field w f n) = (callee_named w ≡ Some (callee.Func f)) × (is_count f ≡ false)
+IsAgg (of_percent w p text n) = (callee_named w ≡ Some callee.Pct) × (is_signed text ≡ false)
 
 abbrev pub IsAggs : AggsTree → Type 0
 IsAggs (one_agg a) = IsAgg a
@@ -247,7 +256,7 @@ IsMaybeSpan (Some s) = IsSpan s
 abbrev pub IsWindow : WindowTree → Type 0
 IsWindow (window length delay) = IsMaybeSpan length × IsMaybeSpan delay
 
--- its functions and units are those that its words name
+-- its calls and units are those that its words name
 abbrev pub IsQuery : QueryTree → Type 0
 IsQuery (query xs n o ns w) = IsAggs xs × IsWindow w
 

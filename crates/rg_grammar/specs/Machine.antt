@@ -3,9 +3,11 @@ use Rattle.std.specs.Prelude.{ℕ, zero, suc, ◌+◌, List, [], ◌∷◌, ◌+
 use Rattle.rg_keywords.specs.declared.keyword.Keyword.TheVariants.{Select, From, Where, Group, By, Over, Sliding, Infinite, Delayed, And, Or, Not}
 use Rattle.rg_keywords.specs.declared.op.Op.{Op}
 use Rattle.rg_keywords.specs.declared.op.Symbol.TheVariants.{Open, Close, Comma, Star, Compare}
+use Rattle.rg_keywords.specs.declared.callee.Callee.{Callee}
+use Rattle.rg_keywords.specs.declared.callee.Callee.TheVariants as callee
 use Rattle.rg_keywords.specs.declared.func.Func.{Func}
 use Rattle.rg_keywords.specs.declared.time_unit.TimeUnit.{TimeUnit}
-use Rattle.rg_grammar.specs.Grammar.{Name, digits, Token, reserved, symbol, word, literal, Tree, compared, not_of, and_of, or_of, Agg, count_all, agg_of, Span, span, windowed, Query, asked, func_named, unit_named, is_count, is_signed}
+use Rattle.rg_grammar.specs.Grammar.{Name, digits, Token, reserved, symbol, word, literal, Tree, compared, not_of, and_of, or_of, Agg, count_all, agg_of, pct_of, Span, span, windowed, Query, asked, callee_named, unit_named, is_count, is_signed}
 
 -- what stands before an open parenthesis: the left side of an OR, of an AND, and how many NOT
 pub data Level : Type 0 where
@@ -33,6 +35,10 @@ pub data State : Type 0 where
   at_func : List Agg → State
   at_open : List Agg → Func → State
   at_field : List Agg → Func → State
+  at_pct : List Agg → State
+  at_percent : List Agg → State
+  at_comma : List Agg → ℕ → List ℕ → State
+  at_pct_field : List Agg → ℕ → List ℕ → State
   at_close : List Agg → Agg → State
   after_agg : List Agg → State
   at_stream : List Agg → State
@@ -92,9 +98,10 @@ one_level_more (left h ls o a n) = left h (level o a n ∷ ls) None None 0
 abbrev pub deeper : ℕ → ℕ → State → Step
 deeper deep n s = if nat_lt n deep then goes s else too_deep
 
-abbrev pub func_step : List Agg → Option Func → Step
-func_step xs None = no_query
-func_step xs (Some f) = goes (at_open xs f)
+abbrev pub callee_step : List Agg → Option Callee → Step
+callee_step xs None = no_query
+callee_step xs (Some (callee.Func f)) = goes (at_open xs f)
+callee_step xs (Some callee.Pct) = goes (at_pct xs)
 
 abbrev pub field_step : List Agg → Func → Bool → Name → Step
 field_step xs f true n = no_query
@@ -109,7 +116,7 @@ start_step (reserved Select) = goes (at_func [])
 start_step _ = no_query
 
 abbrev pub at_func_step : List Agg → Token → Step
-at_func_step xs (word w) = func_step xs (func_named w)
+at_func_step xs (word w) = callee_step xs (callee_named w)
 at_func_step xs _ = no_query
 
 abbrev pub at_open_step : List Agg → Func → Token → Step
@@ -120,6 +127,27 @@ abbrev pub at_field_step : List Agg → Func → Token → Step
 at_field_step xs f (symbol Star) = star_step xs (is_count f)
 at_field_step xs f (word n) = field_step xs f (is_count f) n
 at_field_step xs f _ = no_query
+
+abbrev pub at_pct_step : List Agg → Token → Step
+at_pct_step xs (symbol Open) = goes (at_percent xs)
+at_pct_step xs _ = no_query
+
+-- a percent, or a span's number, has no sign
+abbrev pub digits_step : Bool → State → Step
+digits_step true s = no_query
+digits_step false s = goes s
+
+abbrev pub at_percent_step : List Agg → Token → Step
+at_percent_step xs (literal (digits p w)) = digits_step (is_signed w) (at_comma xs p w)
+at_percent_step xs _ = no_query
+
+abbrev pub at_comma_step : List Agg → ℕ → List ℕ → Token → Step
+at_comma_step xs p w (symbol Comma) = goes (at_pct_field xs p w)
+at_comma_step xs p w _ = no_query
+
+abbrev pub at_pct_field_step : List Agg → ℕ → List ℕ → Token → Step
+at_pct_field_step xs p w (word n) = goes (at_close xs (pct_of p w n))
+at_pct_field_step xs p w _ = no_query
 
 abbrev pub at_close_step : List Agg → Agg → Token → Step
 at_close_step xs a (symbol Close) = goes (after_agg (xs ++ a ∷ []))
@@ -206,11 +234,6 @@ at_window_step g (reserved Sliding) = goes (at_length g)
 at_window_step g (reserved Infinite) = goes (after_window g None)
 at_window_step g _ = no_query
 
--- a span's number has no sign
-abbrev pub digits_step : Bool → State → Step
-digits_step true s = no_query
-digits_step false s = goes s
-
 abbrev pub unit_step : Option TimeUnit → (TimeUnit → State) → Step
 unit_step None next = no_query
 unit_step (Some unit) next = goes (next unit)
@@ -245,6 +268,10 @@ step deep at_start t = start_step t
 step deep (at_func xs) t = at_func_step xs t
 step deep (at_open xs f) t = at_open_step xs f t
 step deep (at_field xs f) t = at_field_step xs f t
+step deep (at_pct xs) t = at_pct_step xs t
+step deep (at_percent xs) t = at_percent_step xs t
+step deep (at_comma xs p w) t = at_comma_step xs p w t
+step deep (at_pct_field xs p w) t = at_pct_field_step xs p w t
 step deep (at_close xs a) t = at_close_step xs a t
 step deep (after_agg xs) t = after_agg_step xs t
 step deep (at_stream xs) t = at_stream_step xs t

@@ -1,11 +1,12 @@
 -- How a query is written, its condition with the parentheses that it needs and no others.
-use Rattle.std.specs.Prelude.{◌≡◌, ℕ, List, [], ◌∷◌, Option, Some, None, false, codes}
+use Rattle.std.specs.Prelude.{◌≡◌, ℕ, List, [], ◌∷◌, Option, Some, None, Bool, true, false, codes}
 use Rattle.std.specs.List.{All}
-use Rattle.rg_keywords.specs.declared.func.Func.TheVariants.{Count}
+use Rattle.rg_keywords.specs.declared.func.Func.{Func}
+use Rattle.rg_keywords.specs.declared.func.Func.TheVariants.{Count, Pct}
 use Rattle.rg_keywords.specs.declared.op.Op.TheVariants.{Eq}
 use Rattle.rg_keywords.specs.declared.time_unit.TimeUnit.TheVariants.{Millisecond}
 use Rattle.rg_keywords.specs.Words.{func_name}
-use Rattle.rg_grammar.specs.Grammar.{Name, named, digits, OrTree, one_and, either, AndTree, one_not, both, NotTree, negated, group, comparison, Tree, compared, not_of, and_of, or_of, or_tree, and_tree, not_tree, AggTree, counted, of_field, Agg, count_all, agg_of, AggsTree, one_agg, more_aggs, FieldsTree, one_field, more_fields, SpanTree, spanned, window, Window, QueryTree, query, Query, asked, is_count}
+use Rattle.rg_grammar.specs.Grammar.{Name, named, digits, OrTree, one_and, either, AndTree, one_not, both, NotTree, negated, group, comparison, Tree, compared, not_of, and_of, or_of, or_tree, and_tree, not_tree, AggTree, counted, of_field, of_percent, Agg, count_all, agg_of, pct_of, AggsTree, one_agg, more_aggs, FieldsTree, one_field, more_fields, SpanTree, spanned, window, Window, QueryTree, query, Query, asked, is_signed}
 
 -- the three ways to write it: alone or left in an OR; in an OR on the right or left in an AND; behind NOT or right in an AND
 pub record Ways : Type 0 where
@@ -38,6 +39,7 @@ pub record Means (t : Tree) : Type 0 where
 abbrev pub written_agg : Agg → AggTree
 written_agg count_all = counted (named 0 (func_name Count))
 written_agg (agg_of f n) = of_field (named 0 (func_name f)) f n
+written_agg (pct_of p text n) = of_percent (named 0 (codes "pct")) p text n
 
 -- these aggregators, and then more
 abbrev pub aggs_and : AggsTree → List Agg → AggsTree
@@ -73,10 +75,16 @@ written_query (asked xs n t ns w) length delay = query (written_aggs xs) n (writ
 abbrev pub over_window : Query → Window → Query
 over_window (asked xs n t ns w) other = asked xs n t ns other
 
--- COUNT is of all rows, and each other function of a field
+-- COUNT is of all rows, PCT of a percent and a field, and each other function of a field
+abbrev pub is_plain : Func → Bool
+is_plain Count = false
+is_plain (Pct percent) = false
+is_plain _ = true
+
 abbrev pub IsWritable : Agg → Type 0
 IsWritable count_all = Unit {0}
-IsWritable (agg_of f n) = is_count f ≡ false
+IsWritable (agg_of f n) = is_plain f ≡ true
+IsWritable (pct_of p text n) = is_signed text ≡ false
 
 -- it has an aggregator, and each is one of the grammar
 abbrev pub AreWritable : List Agg → Type 0

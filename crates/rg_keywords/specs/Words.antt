@@ -3,8 +3,10 @@ use Rattle.std.specs.Prelude.{ℕ, List, [], ◌∷◌, Option, Some, None, Bool
 use Rattle.std.specs.Str.{str_eq_ignore_ascii_case}
 use Rattle.rg_keywords.specs.declared.keyword.Keyword.{Keyword}
 use Rattle.rg_keywords.specs.declared.keyword.Keyword.TheVariants.{Select, From, Where, Group, By, Over, Sliding, Infinite, Delayed, And, Or, Not}
+use Rattle.rg_keywords.specs.declared.callee.Callee.{Callee}
+use Rattle.rg_keywords.specs.declared.callee.Callee.TheVariants as callee
 use Rattle.rg_keywords.specs.declared.func.Func.{Func}
-use Rattle.rg_keywords.specs.declared.func.Func.TheVariants.{Count, Sum, Avg, SumSq, Min, Max, CountDistinct, First, Last}
+use Rattle.rg_keywords.specs.declared.func.Func.TheVariants.{Count, Sum, Avg, SumSq, Min, Max, CountDistinct, First, Last, Median, Pct}
 use Rattle.rg_keywords.specs.declared.op.Op.{Op}
 use Rattle.rg_keywords.specs.declared.op.Op.TheVariants.{Eq, Ne, Lt, Le, Gt, Ge}
 use Rattle.rg_keywords.specs.declared.op.Symbol.{Symbol}
@@ -23,8 +25,21 @@ keyword_of word = meaning_in ((codes "select", Select) ∷ (codes "from", From) 
 unfoldable pub truth_of : List ℕ → Option Bool
 truth_of word = meaning_in ((codes "true", true) ∷ (codes "false", false) ∷ []) word
 
+-- the words of functions of `*` or of a field alone
+abbrev pub func_words : List (List ℕ × Func)
+func_words = (codes "count", Count) ∷ (codes "sum", Sum) ∷ (codes "avg", Avg) ∷ (codes "sumsq", SumSq) ∷ (codes "min", Min) ∷ (codes "max", Max) ∷ (codes "countdistinct", CountDistinct) ∷ (codes "first", First) ∷ (codes "last", Last) ∷ (codes "median", Median) ∷ []
+
 unfoldable pub func_of : List ℕ → Option Func
-func_of word = meaning_in ((codes "count", Count) ∷ (codes "sum", Sum) ∷ (codes "avg", Avg) ∷ (codes "sumsq", SumSq) ∷ (codes "min", Min) ∷ (codes "max", Max) ∷ (codes "countdistinct", CountDistinct) ∷ (codes "first", First) ∷ (codes "last", Last) ∷ []) word
+func_of word = meaning_in func_words word
+
+-- a function of a field alone, as a callee
+abbrev pub as_callee : Option Func → Option Callee
+as_callee None = None
+as_callee (Some func) = Some (callee.Func func)
+
+-- what a call begins with: PCT, or the word of a function of a field alone
+unfoldable pub callee_of : List ℕ → Option Callee
+callee_of word = if str_eq_ignore_ascii_case word (codes "pct") then Some callee.Pct else as_callee (func_of word)
 
 unfoldable pub unit_of : List ℕ → Option TimeUnit
 unit_of word = meaning_in ((codes "ms", Millisecond) ∷ (codes "second", Second) ∷ (codes "seconds", Second) ∷ (codes "minute", Minute) ∷ (codes "minutes", Minute) ∷ (codes "hour", Hour) ∷ (codes "hours", Hour) ∷ (codes "day", Day) ∷ (codes "days", Day) ∷ []) word
@@ -40,6 +55,8 @@ func_name Max = codes "max"
 func_name CountDistinct = codes "countDistinct"
 func_name First = codes "first"
 func_name Last = codes "last"
+func_name Median = codes "median"
+func_name (Pct percent) = codes "pct"
 
 -- the signs
 abbrev pub op_text : Op → List ℕ

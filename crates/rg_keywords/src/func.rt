@@ -22,10 +22,14 @@ pub enum Func {
     First,
     /// The one that came last.
     Last,
+    /// The one in the middle of their rising order.
+    Median,
+    /// The one at so many hundredths of their rising order: from 1 to 100.
+    Pct(u32),
 }
 
 impl Func {
-    /// The function that a word names, in any ASCII case.
+    /// The function of a field alone that a word names, in any ASCII case. PCT names none: see `Callee`.
     #[tactic(auto, unfolding(crate::specs::Words::func_of))]
     pub fn named(word: &[u8]) -> Option<Func>
         ensures { result ≡ func_of word.now }
@@ -48,6 +52,8 @@ impl Func {
             Some(Func::First)
         } else if word.eq_ignore_ascii_case(b"last") {
             Some(Func::Last)
+        } else if word.eq_ignore_ascii_case(b"median") {
+            Some(Func::Median)
         } else {
             None
         }
@@ -67,6 +73,8 @@ impl Func {
             Func::CountDistinct => b"countDistinct",
             Func::First => b"first",
             Func::Last => b"last",
+            Func::Median => b"median",
+            Func::Pct(_) => b"pct",
         }
     }
 }

@@ -1,10 +1,10 @@
 -- What an aggregator answers over a list of values.
-use Rattle.std.specs.Prelude.{ℕ, ◌+◌, ℤ, pos, ◌+ℤ◌, ◌*ℤ◌, int_lt, List, [], ◌∷◌, length, map, if◌then◌else◌}
+use Rattle.std.specs.Prelude.{ℕ, ◌+◌, ◌-◌, ◌*◌, ◌/◌, nat_le, ◌&&◌, ℤ, pos, ◌+ℤ◌, ◌*ℤ◌, int_lt, List, [], ◌∷◌, length, map, if◌then◌else◌}
 use Rattle.std.specs.List.{list_any}
 use Rattle.rg_event.specs.declared.value.Value.{Value}
 use Rattle.rg_event.specs.declared.value.Value.TheVariants.{Int, Id, Text, Flag}
 use Rattle.rg_keywords.specs.declared.func.Func.{Func}
-use Rattle.rg_keywords.specs.declared.func.Func.TheVariants.{Count, Sum, Avg, SumSq, Min, Max, CountDistinct, First, Last}
+use Rattle.rg_keywords.specs.declared.func.Func.TheVariants.{Count, Sum, Avg, SumSq, Min, Max, CountDistinct, First, Last, Median, Pct}
 use Rattle.rg_metric.specs.declared.answer.Answer.{Answer}
 use Rattle.rg_metric.specs.declared.answer.Answer.TheVariants.{Number, Ratio, Dash}
 use Rattle.rg_metric.specs.Same.{same_value}
@@ -45,6 +45,25 @@ abbrev pub last_of : ℤ → List ℤ → ℤ
 last_of n [] = n
 last_of n (m ∷ ms) = last_of m ms
 
+-- a number in front of the first one that is not less
+abbrev pub put_in : ℤ → List ℤ → List ℤ
+put_in n [] = n ∷ []
+put_in n (m ∷ ms) = if int_lt m n then m ∷ put_in n ms else n ∷ (m ∷ ms)
+
+-- the numbers in rising order
+abbrev pub in_order : List ℤ → List ℤ
+in_order [] = []
+in_order (n ∷ ns) = put_in n (in_order ns)
+
+-- the number at a place, counted from 1; none without one
+abbrev pub number_at : ℕ → List ℤ → Answer
+number_at place [] = Dash
+number_at place (n ∷ ns) = if nat_le place 1 then Number n else number_at (place - 1) ns
+
+-- the number at so many hundredths of their rising order, from 1 to 100: at that part of their number, rounded up
+abbrev pub percentile : ℕ → List ℤ → Answer
+percentile percent ns = if nat_le 1 percent && nat_le percent 100 then number_at ((percent * length ns + 99) / 100) (in_order ns) else Dash
+
 -- the answer of the aggregators that have one over values alone
 abbrev pub answer_over : Func → ℤ → List ℤ → Answer
 answer_over Avg n ns = Ratio (total (n ∷ ns)) (length (n ∷ ns))
@@ -64,4 +83,6 @@ answer_of Count values = Number (pos (length values))
 answer_of Sum values = Number (total (numbers values))
 answer_of SumSq values = Number (total_of_squares (numbers values))
 answer_of CountDistinct values = Number (pos (distinct_after [] values))
+answer_of Median values = percentile 50 (numbers values)
+answer_of (Pct percent) values = percentile percent (numbers values)
 answer_of func values = answer_over_any func (numbers values)

@@ -4,3 +4,4 @@ pub mod Queries
 pub mod Same
 pub mod Answers
 pub mod Replies
+pub mod Admitted

@@ -4,11 +4,13 @@
 //! an event are defined here by a walk over all events (`answers_to`).
 #![tactic(auto)]
 
+mod admitted;
 mod answer;
 mod column;
 mod condition;
 mod query;
 
+pub use admitted::{is_admitted, takes};
 pub use answer::{Answer, Answers};
 pub use column::column_value;
 pub use condition::Condition;

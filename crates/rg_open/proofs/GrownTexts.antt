@@ -9,14 +9,14 @@ use Rattle.rg_growth.specs.Growing.{GrowsBy}
 use Rattle.rg_keywords.specs.Words.{func_name, op_text}
 use Rattle.rg_keywords.specs.declared.func.Func.{Func}
 use Rattle.rg_grammar.specs.Grammar as syntax
-use Rattle.rg_grammar.specs.Grammar.{Name, named, Tree, compared, not_of, and_of, or_of, count_all, agg_of, windowed}
+use Rattle.rg_grammar.specs.Grammar.{Name, named, Tree, compared, not_of, and_of, or_of, count_all, agg_of, pct_of, windowed}
 use Rattle.rg_metric.specs.Conditions as test
 use Rattle.rg_metric.specs.Conditions.{Test}
 use Rattle.rg_metric.specs.Queries.{Asked}
 use Rattle.rg_metric.specs.declared.query.Agg.{Agg}
 use Rattle.rg_query.specs.Legal.{IsColumn, IsOperand, IsLegalAgg, AreLegalAggs, IsLegalTest, IsLegalFilter, IsLegalQuery}
-use Rattle.rg_query.specs.Printing.{name_at, literal_text, and_is_enclosed, or_is_enclosed, opening, closing, test_text, operand_text, agg_text, more_text, list_text, where_text, group_text, length_text, delay_text, query_text}
-use Rattle.rg_query.specs.Resolving.{column_from, column_named, or_else, first_in, unless_known, unknown_column, unknown_stream, unknown_in_agg, unknown_in_tree, in_filter, first_unknown, wrong_comparison, wrong_in_tree, wrong_field, wrong_agg, first_bad, or_zero, column_of, agg_asked, value_asked, test_asked, length_asked, delay_asked, refused_at, resolved}
+use Rattle.rg_query.specs.Printing.{name_at, literal_text, and_is_enclosed, or_is_enclosed, opening, closing, test_text, operand_text, percent_text, agg_text, more_text, list_text, where_text, group_text, length_text, delay_text, query_text}
+use Rattle.rg_query.specs.Resolving.{column_from, column_named, or_else, first_in, unless_known, unknown_column, unknown_stream, unknown_in_agg, unknown_in_tree, in_filter, first_unknown, wrong_comparison, wrong_in_tree, wrong_field, wrong_agg, percent_of, pct_asked, first_bad, or_zero, column_of, agg_asked, value_asked, test_asked, length_asked, delay_asked, refused_at, resolved}
 use Rattle.rg_query.specs.declared.fault.QueryFault.{QueryFault}
 use Rattle.rg_query.specs.declared.fault.QueryFault.TheVariants as fault
 use Rattle.rg_query.proofs.Asking.{is_asked, no_place}
@@ -144,7 +144,7 @@ module _ (from : Shape) (added : List Field) where
 
   operand_legal : (func : Func) (n : ℕ) → IsOperand from func n → IsOperand wide func n
   operand_legal func zero is = is
-  operand_legal func (suc n) is = record { kind = is.kind; found = own_name (suc n) is.kind is.found; taken = is.taken }
+  operand_legal func (suc n) is = record { kind = is.kind; found = own_name (suc n) is.kind is.found; taken = is.taken; percent = is.percent }
 
   aggs_legal : (aggs : List Agg) → AreLegalAggs from aggs → AreLegalAggs wide aggs
   aggs_legal [] is = absurd is
@@ -186,7 +186,7 @@ module _ (from : Shape) (added : List Field) where
   operand_same func (suc n) is = name_same (suc n) is.kind is.found
 
   agg_same : (agg : Agg) → IsLegalAgg from agg → agg_text wide agg ≡ agg_text from agg
-  agg_same agg is = ap (λ (l : List ℕ). func_name agg.func ++ (codes "(" ++ (l ++ codes ")"))) (operand_same agg.func agg.field is)
+  agg_same agg is = ap (λ (l : List ℕ). func_name agg.func ++ (codes "(" ++ (percent_text agg.func ++ (l ++ codes ")")))) (operand_same agg.func agg.field is)
 
   aggs_same : (aggs : List Agg) → AreLegalAggs from aggs → list_text (agg_text wide) aggs ≡ list_text (agg_text from) aggs
   aggs_same [] is = absurd is
@@ -218,6 +218,13 @@ module _ (from : Shape) (added : List Field) where
   agg_is (agg_of func (named p name)) is =
       let same = named_same p name is in
       record { unknown = ap (λ (o : Option (ℕ × Kind)). unless_known p o) same; wrong = ap (λ (o : Option (ℕ × Kind)). wrong_field func p o) same; asks = ap (λ (o : Option (ℕ × Kind)). agg_made func (or_zero o)) same }
+  agg_is (pct_of place percent (named p name)) is =
+      let same = named_same p name is in
+      record {
+        unknown = ap (λ (o : Option (ℕ × Kind)). unless_known p o) same;
+        wrong = ap (λ (o : Option (ℕ × Kind)). or_else (unless_known place (percent_of percent)) (wrong_field (pct_asked percent) p o)) same;
+        asks = ap (λ (o : Option (ℕ × Kind)). agg_made (pct_asked percent) (or_zero o)) same;
+      }
 
   aggs_are : (aggs : List syntax.Agg) → first_in (unknown_in_agg from) aggs ≡ None → AggsAre from wide aggs
   aggs_are [] is = record { unknown = refl; wrong = refl; asks = refl }

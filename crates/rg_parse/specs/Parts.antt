@@ -11,7 +11,7 @@ use Rattle.rg_parse.specs.declared.syntax.Literal.TheVariants.{Number, Text, Tru
 use Rattle.rg_parse.specs.declared.syntax.Expr.{Expr}
 use Rattle.rg_parse.specs.declared.syntax.Expr.TheVariants.{Compare, Not', And', Or'}
 use Rattle.rg_parse.specs.declared.syntax.Call.{Call}
-use Rattle.rg_parse.specs.declared.syntax.Call.TheVariants.{CountAll, Field}
+use Rattle.rg_parse.specs.declared.syntax.Call.TheVariants.{CountAll, Field, Pct}
 use Rattle.rg_parse.specs.declared.syntax.Duration.{Duration}
 use Rattle.rg_parse.specs.declared.syntax.Raw.{Raw}
 use Rattle.rg_parse.specs.Views.{text_at}
@@ -44,14 +44,15 @@ abbrev pub IsMaybeCondition : List ℕ → Option Expr → Type 0
 IsMaybeCondition text None = ⊤
 IsMaybeCondition text (Some expr) = IsCondition text expr
 
-abbrev pub IsCall : List ℕ → Call → Type 0
-IsCall text CountAll = ⊤
-IsCall text (Field func field) = IsName text field
-
 -- a number without a sign
 pub record IsCount (text : List ℕ) (number : Span) : Type 0 where
   pub part : IsPart text NumberShape number.start number.end
   pub unsigned : is_signed (text_at text number) ≡ false
+
+abbrev pub IsCall : List ℕ → Call → Type 0
+IsCall text CountAll = ⊤
+IsCall text (Field func field) = IsName text field
+IsCall text (Pct percent field) = IsCount text percent × IsName text field
 
 abbrev pub IsMaybeDuration : List ℕ → Option Duration → Type 0
 IsMaybeDuration text None = ⊤

@@ -6,7 +6,7 @@ use Rattle.rg_parse.specs.declared.state.After.{After}
 use Rattle.rg_parse.specs.declared.state.Filtered.{Filtered}
 use Rattle.rg_parse.specs.declared.state.Grouped.{Grouped}
 use Rattle.rg_parse.specs.declared.state.State.{State}
-use Rattle.rg_parse.specs.declared.state.State.TheVariants.{Start, Func, Open, Field, Close, AfterCall, Stream, AfterStream, Operand, AfterField, AfterOp, AfterOperand, By, Group, AfterGroup, Window, Length, LengthUnit, AfterWindow, DelayBy, Delay, DelayUnit, End}
+use Rattle.rg_parse.specs.declared.state.State.TheVariants.{Start, Func, Open, Field, Pct, Percent, Comma, PctField, Close, AfterCall, Stream, AfterStream, Operand, AfterField, AfterOp, AfterOperand, By, Group, AfterGroup, Window, Length, LengthUnit, AfterWindow, DelayBy, Delay, DelayUnit, End}
 use Rattle.rg_grammar.specs.Machine as m
 use Rattle.rg_parse.specs.Views.{text_at, name, names, maybe_tree, tree, call, calls, maybe_duration, raw}
 use Rattle.rg_parse.specs.Levels.{levels}
@@ -31,6 +31,10 @@ state text Start = m.at_start
 state text (Func xs) = m.at_func (calls text xs.items)
 state text (Open xs f) = m.at_open (calls text xs.items) f
 state text (Field xs f) = m.at_field (calls text xs.items) f
+state text (Pct xs) = m.at_pct (calls text xs.items)
+state text (Percent xs) = m.at_percent (calls text xs.items)
+state text (Comma xs percent) = m.at_comma (calls text xs.items) percent.start (text_at text percent)
+state text (PctField xs percent) = m.at_pct_field (calls text xs.items) percent.start (text_at text percent)
 state text (Close xs c) = m.at_close (calls text xs.items) (call text c)
 state text (AfterCall xs) = m.after_agg (calls text xs.items)
 state text (Stream xs) = m.at_stream (calls text xs.items)

@@ -14,7 +14,7 @@ use Rattle.rg_parse.specs.declared.state.Filtered.{Filtered}
 use Rattle.rg_parse.specs.declared.state.Grouped.{Grouped}
 use Rattle.rg_parse.specs.declared.state.Windowed.{Windowed}
 use Rattle.rg_parse.specs.declared.state.State.{State}
-use Rattle.rg_parse.specs.declared.state.State.TheVariants.{Start, Func, Open, Field, Close, AfterCall, Stream, AfterStream, Operand, AfterField, AfterOp, AfterOperand, By, Group, AfterGroup, Window, Length, LengthUnit, AfterWindow, DelayBy, Delay, DelayUnit, End}
+use Rattle.rg_parse.specs.declared.state.State.TheVariants.{Start, Func, Open, Field, Pct, Percent, Comma, PctField, Close, AfterCall, Stream, AfterStream, Operand, AfterField, AfterOp, AfterOperand, By, Group, AfterGroup, Window, Length, LengthUnit, AfterWindow, DelayBy, Delay, DelayUnit, End}
 use Rattle.rg_parse.specs.declared.token.Token.{Token}
 use Rattle.rg_parse.specs.declared.token.Token.TheVariants.{Reserved, Sign, Word, Literal}
 use Rattle.rg_parse.specs.Views.{raw}
@@ -86,6 +86,10 @@ IsState text Start = ⊤
 IsState text (Func xs) = AreCalls text xs.items
 IsState text (Open xs f) = AreCalls text xs.items
 IsState text (Field xs f) = AreCalls text xs.items
+IsState text (Pct xs) = AreCalls text xs.items
+IsState text (Percent xs) = AreCalls text xs.items
+IsState text (Comma xs percent) = AreCalls text xs.items × IsCount text percent
+IsState text (PctField xs percent) = AreCalls text xs.items × IsCount text percent
 IsState text (Close xs c) = AreCalls text xs.items × IsCall text c
 IsState text (AfterCall xs) = AreCalls text xs.items
 IsState text (Stream xs) = AreCalls text xs.items

@@ -6,7 +6,7 @@ use Rattle.rg_parse.specs.declared.syntax.Literal.TheVariants.{Number, Text, Tru
 use Rattle.rg_parse.specs.declared.syntax.Expr.{Expr}
 use Rattle.rg_parse.specs.declared.syntax.Expr.TheVariants.{Compare, Not', And', Or'}
 use Rattle.rg_parse.specs.declared.syntax.Call.{Call}
-use Rattle.rg_parse.specs.declared.syntax.Call.TheVariants.{CountAll, Field}
+use Rattle.rg_parse.specs.declared.syntax.Call.TheVariants.{CountAll, Field, Pct}
 use Rattle.rg_parse.specs.declared.syntax.Duration.{Duration}
 use Rattle.rg_parse.specs.declared.syntax.Raw.{Raw}
 use Rattle.rg_parse.specs.declared.token.Token.{Token}
@@ -42,6 +42,7 @@ maybe_tree text (Some expr) = Some (tree text expr)
 abbrev pub call : List ℕ → Call → g.Agg
 call text CountAll = g.count_all
 call text (Field func field) = g.agg_of func (name text field)
+call text (Pct percent field) = g.pct_of percent.start (text_at text percent) (name text field)
 
 abbrev pub calls : List ℕ → List Call → List g.Agg
 calls text list = map (call text) list

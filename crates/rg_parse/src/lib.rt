@@ -5,6 +5,7 @@ mod condition;
 mod join;
 mod level;
 mod parse;
+mod percent;
 mod refusal;
 mod select;
 mod state;

@@ -11,7 +11,7 @@ use crate::refusal::Refusal;
 use crate::state::{Before, Filtered, Grouped, Head, State};
 use crate::syntax::Call;
 use crate::token::Token;
-use rg_keywords::{Func, Keyword, Symbol};
+use rg_keywords::{Callee, Func, Keyword, Symbol};
 use std::alloc::Global;
 
 /// The text begins with SELECT.
@@ -25,15 +25,16 @@ pub fn step_start(alloc: Global, token: Token) -> Result<State, Refusal>
     }
 }
 
-/// A call begins with its function.
+/// A call begins with its function, or with PCT.
 pub fn step_func(text: &[u8], calls: Vec<Call>, token: Token) -> Result<State, Refusal>
     requires { IsToken text.now token }
     ensures gives { Gives text.now result (at_func_step (calls_view text.now calls.items) (token_view text.now token)) }
     ensures made { AreCalls text.now calls.items → IfOk result (λ state. IsState text.now state) }
 {
     match token {
-        Token::Word(word) => match Func::named(&text[word.start..word.end]) {
-            Some(func) => Ok(State::Open(calls, func)),
+        Token::Word(word) => match Callee::named(&text[word.start..word.end]) {
+            Some(Callee::Func(func)) => Ok(State::Open(calls, func)),
+            Some(Callee::Pct) => Ok(State::Pct(calls)),
             None => Err(Refusal::Syntax),
         },
         _ => Err(Refusal::Syntax),
@@ -51,7 +52,7 @@ pub fn step_open(calls: Vec<Call>, func: Func, token: Token) -> Result<State, Re
     }
 }
 
-/// COUNT takes `*`, each other function a field.
+/// COUNT takes `*`, each other function but PCT a field.
 pub fn step_field(calls: Vec<Call>, func: Func, token: Token) -> Result<State, Refusal>
     ensures gives { (text : List ℕ) → Gives text result (at_field_step (calls_view text calls.items) func (token_view text token)) }
     ensures made { (text : List ℕ) → IsToken text token → AreCalls text calls.items → IfOk result (λ state. IsState text state) }

@@ -6,6 +6,7 @@ ghost use Rattle.rg_parse.specs.Parts.{IsMadeOf};
 ghost use Rattle.rg_parse.specs.Steps.{Gives, Finishes, IsToken, IsState};
 
 use crate::condition::{step_after_field, step_after_op, step_after_operand, step_operand};
+use crate::percent::{step_comma, step_pct, step_pct_field, step_percent};
 use crate::refusal::Refusal;
 use crate::select::{
     step_after_call, step_after_stream, step_close, step_field, step_func, step_open, step_start,
@@ -32,6 +33,10 @@ pub fn step(alloc: Global, text: &[u8], state: State, token: Token) -> Result<St
         State::Func(calls) => step_func(text, calls, token),
         State::Open(calls, func) => step_open(calls, func, token),
         State::Field(calls, func) => step_field(calls, func, token),
+        State::Pct(calls) => step_pct(calls, token),
+        State::Percent(calls) => step_percent(text, calls, token),
+        State::Comma(calls, percent) => step_comma(calls, percent, token),
+        State::PctField(calls, percent) => step_pct_field(calls, percent, token),
         State::Close(calls, call) => step_close(calls, call, token),
         State::AfterCall(calls) => step_after_call(calls, token),
         State::Stream(calls) => step_stream(calls, token),

@@ -38,6 +38,8 @@ pub enum Call {
     CountAll,
     /// Any function but `COUNT`, and its field.
     Field(Func, Span),
+    /// The percent of `PCT`, 1 to 20 digits, and its field.
+    Pct(Span, Span),
 }
 
 /// A span of time.

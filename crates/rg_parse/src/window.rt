@@ -72,7 +72,8 @@ pub fn step_window(grouped: Grouped, token: Token) -> Result<State, Refusal>
     }
 }
 
-fn is_signed(number: &[u8]) -> bool
+/// Whether a number begins with a minus.
+pub(crate) fn is_signed(number: &[u8]) -> bool
     ensures { result ≡ sign_test number.now }
 {
     match number {

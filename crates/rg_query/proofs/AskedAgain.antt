@@ -1,6 +1,6 @@
 -- The syntax that is written for a legal query asks that query.
-use Rattle.std.proofs.Common.{◌≡◌, ℕ, zero, suc, ◌*◌, ◌≤◌, ◌<◌, ◌^◌, List, [], ◌∷◌, ◌++◌, map, length, Option, Some, None, Bool, true, false, ℤ, refl, ap, sym, ◌∙◌, arith, option_map, nat_le, ◌==◌, decimal}
-use Rattle.std.proofs.lemmas.Bool.{eqb-true}
+use Rattle.std.proofs.Common.{◌≡◌, ℕ, zero, suc, ◌*◌, ◌≤◌, ◌<◌, ◌^◌, List, [], ◌∷◌, ◌++◌, map, length, Option, Some, None, Bool, true, false, ℤ, refl, ap, sym, ◌∙◌, arith, option_map, nat_le, ◌&&◌, ◌==◌, decimal}
+use Rattle.std.proofs.lemmas.Bool.{and_from, eqb-true, le-leb}
 use Rattle.std.proofs.lemmas.Fmt.{digits_decimal}
 use Rattle.std.proofs.lemmas.Grind.{common_steps}
 use Rattle.std.proofs.lemmas.List.Elements.{All-head, All-tail, All-cons, All-nil}
@@ -21,17 +21,18 @@ use Rattle.rg_event.specs.declared.value.Kind.TheVariants as kind
 use Rattle.rg_event.specs.declared.value.Value.{Value}
 use Rattle.rg_event.specs.declared.value.Value.TheVariants.{Int as IntValue, Id as IdValue, Text as TextValue, Flag as FlagValue}
 use Rattle.rg_keywords.specs.declared.func.Func.{Func}
-use Rattle.rg_keywords.specs.declared.func.Func.TheVariants.{Count, Sum, Avg, SumSq, Min, Max, CountDistinct, First, Last}
+use Rattle.rg_keywords.specs.declared.func.Func.TheVariants.{Count, Pct}
 use Rattle.rg_keywords.specs.declared.time_unit.TimeUnit.TheVariants.{Millisecond}
-use Rattle.rg_grammar.specs.Grammar.{span, maybe_span, is_count, is_signed, IsMaybeSpan}
-use Rattle.rg_grammar.specs.Printed.{IsWritable, AreWritable, CanWrite}
+use Rattle.rg_grammar.specs.Grammar.{span, maybe_span, is_signed, IsMaybeSpan}
+use Rattle.rg_grammar.specs.Printed.{is_plain, IsWritable, AreWritable, CanWrite}
 use Rattle.rg_grammar.proofs.PrintedQuery.{span_is}
 use Rattle.rg_metric.specs.Conditions.{Test, compared, not_of, and_of, or_of}
 use Rattle.rg_metric.specs.Queries.{Asked}
 use Rattle.rg_metric.specs.declared.query.Agg.{Agg}
 use Rattle.rg_query.specs.Legal.{IsColumn, IsOperand, IsLegalAgg, AreLegalAggs, IsLegalTest, IsLegalFilter, IsLegalLength, IsLegalQuery}
 use Rattle.rg_query.specs.Printing.{doubled}
-use Rattle.rg_query.specs.Resolving.{or_else, first_in, unless_known, unknown_column, unknown_in_agg, unknown_in_tree, in_filter, takes, id_of, inside, literal_value, literal_place, wrong_comparison, wrong_in_tree, wrong_field, wrong_agg, between, millis_of, bad_span, or_zero, column_of, agg_asked, or_false, value_asked, test_asked, or_no_time, length_asked, delay_asked}
+use Rattle.rg_metric.specs.Admitted.{takes}
+use Rattle.rg_query.specs.Resolving.{in_hundred, or_no_percent, percent_of, pct_asked, or_else, first_in, unless_known, unknown_column, unknown_in_agg, unknown_in_tree, in_filter, id_of, inside, literal_value, literal_place, wrong_comparison, wrong_in_tree, wrong_field, wrong_agg, between, millis_of, bad_span, or_zero, column_of, agg_asked, or_false, value_asked, test_asked, or_no_time, length_asked, delay_asked}
 use Rattle.rg_query.specs.Written.{column_name, literal_of, tree_of, call_of, call_of_agg, length_of, delay_of, syntax_of}
 use Rattle.rg_query.proofs.Asking.{IsAsked}
 
@@ -109,6 +110,10 @@ filter_again : (shape : Shape) (filter : Option Test) → IsLegalFilter shape fi
 filter_again shape None h = record { known = refl; right = refl; asks = refl }
 filter_again shape (Some t) h = let r : TestAgain shape t = test_again shape t h in record { known = r.known; right = r.right; asks = ap (λ x. Some x) r.asks }
 
+unsigned : (text : List ℕ) → all_ascii_digits text ≡ true → is_signed text ≡ false
+unsigned [] h = refl
+unsigned (byte ∷ text) h = grind (arith, common_steps)
+
 -- aggregators
 
 record CallAgain (shape : Shape) (func : Func) (column : ℕ) : Type 0 where
@@ -117,27 +122,39 @@ record CallAgain (shape : Shape) (func : Func) (column : ℕ) : Type 0 where
   asks : agg_asked shape (call_of shape func column) ≡ record { func = func; field = column }
   writable : IsWritable (call_of shape func column)
 
-not_count : (func : Func) (k : Kind) → takes func k ≡ true → is_count func ≡ false
-not_count Count k h = absurd (cc)
-not_count Sum k h = refl
-not_count Avg k h = refl
-not_count SumSq k h = refl
-not_count Min k h = refl
-not_count Max k h = refl
-not_count CountDistinct k h = refl
-not_count First k h = refl
-not_count Last k h = refl
+abbrev is_percentile : Func → Bool
+is_percentile (Pct percent) = true
+is_percentile _ = false
+
+plain_taken : (func : Func) (k : Kind) → takes func k ≡ true → is_percentile func ≡ false → is_plain func ≡ true
+plain_taken Count k h p = absurd (cc)
+plain_taken (Pct percent) k h p = absurd (cc)
+plain_taken _ k h p = refl
+
+percent_again : (n : ℕ) → 1 ≤ n → n ≤ 100 → percent_of (decimal n) ≡ Some n
+percent_again n low high =
+    let test : (nat_le 1 n && nat_le n 100) ≡ true = and_from _ _ (le-leb 1 n low) (le-leb n 100 high) in
+    ap in_hundred (whole_of-decimal n (omega (arith, high))) ∙ ap (λ (b : Bool). if b then Some n else None) test
 
 abbrev agg_made : Func → ℕ → Agg
 agg_made func column = record { func = func; field = column }
 
 call_again : (shape : Shape) (func : Func) (column : ℕ) → IsOperand shape func column → CallAgain shape func column
 call_again shape func zero h = record { known = refl; right = refl; asks = ap (λ f. agg_made f 0) (sym h); writable = tt }
+call_again shape (Pct percent) (suc n) h =
+    let e : percent_of (decimal percent) ≡ Some percent = percent_again percent h.percent.0 h.percent.1 in
+    let few : percent < 2 ^ 64 = omega (arith, h.percent.1) in
+    record {
+      known = ap (unless_known 0) h.found;
+      right = both_none _ _ (ap (unless_known 0) e) (ap (wrong_field (pct_asked (decimal percent)) 0) h.found ∙ ap (λ (b : Bool). if b then None else Some 0) h.taken);
+      asks = ap (λ o. agg_made (Pct (or_no_percent o)) (column_of shape (column_name shape (suc n)))) e ∙ ap (λ o. agg_made (Pct percent) (or_zero o)) h.found;
+      writable = unsigned (decimal percent) (decimals percent few);
+    }
 call_again shape func (suc n) h = record {
   known = ap (unless_known 0) h.found;
   right = ap (wrong_field func 0) h.found ∙ ap (λ (b : Bool). if b then None else Some 0) h.taken;
   asks = ap (λ o. agg_made func (or_zero o)) h.found;
-  writable = not_count func h.kind h.taken;
+  writable = plain_taken func h.kind h.taken refl;
 }
 
 record CallsAgain (shape : Shape) (aggs : List Agg) : Type 0 where
@@ -198,10 +215,6 @@ millis_again low n h k =
     ap (λ o. between low (option_map (λ m. m * 1) o)) (whole_of-decimal n (omega arith))
     ∙ ap (λ m. between low (Some m)) (let e : n * 1 ≡ n = omega arith in e)
     ∙ in_between low n h k
-
-unsigned : (text : List ℕ) → all_ascii_digits text ≡ true → is_signed text ≡ false
-unsigned [] h = refl
-unsigned (byte ∷ text) h = grind (arith, common_steps)
 
 pub record LengthAgain (length : Option ℕ) : Type 0 where
   pub right : bad_span 1 (maybe_span (length_of length)) ≡ None

@@ -1,6 +1,6 @@
 -- A query that a syntax asks of a schema is legal, and so joined as the syntax is.
 use Rattle.std.proofs.Common.{◌≡◌, ℕ, zero, suc, ◌+◌, ◌*◌, ◌≤◌, ◌<◌, ◌^◌, ◌&&◌, List, [], ◌∷◌, map, length, Option, Some, None, Bool, true, false, ℤ, Result, Ok, refl, ap, sym, ◌∙◌, subst, arith, option_map, nat_le, ◌==◌}
-use Rattle.std.proofs.lemmas.List.Elements.{All-cons, All-nil}
+use Rattle.std.proofs.lemmas.List.Elements.{All-cons, All-head, All-nil, All-tail}
 use Rattle.std.proofs.lemmas.Slice.Eq.{bytes_eq-Decides}
 use Rattle.std.specs.List.{All}
 use Rattle.std.specs.Prelude.{bytes_eq, if◌then◌else◌, unsigned_abs}
@@ -16,18 +16,20 @@ use Rattle.rg_event.specs.declared.value.Kind.TheVariants as kind
 use Rattle.rg_event.specs.declared.value.Value.{Value}
 use Rattle.rg_event.specs.declared.value.Value.TheVariants.{Int as IntValue, Id as IdValue, Text as TextValue, Flag as FlagValue}
 use Rattle.rg_keywords.specs.declared.func.Func.{Func}
+use Rattle.rg_keywords.specs.declared.func.Func.TheVariants.{Pct}
 use Rattle.rg_keywords.specs.declared.op.Op.{Op}
 use Rattle.rg_keywords.specs.Words.{unit_millis}
 use Rattle.rg_grammar.specs.Grammar as syntax
-use Rattle.rg_grammar.specs.Grammar.{Name, named, Literal, digits, quoted, truth, Tree, compared, not_of, and_of, or_of, count_all, agg_of, Span, span, windowed}
-use Rattle.rg_grammar.specs.Printed.{CanWrite, AreWritable, shape, filter_shape}
+use Rattle.rg_grammar.specs.Grammar.{Name, named, Literal, digits, quoted, truth, Tree, compared, not_of, and_of, or_of, count_all, agg_of, pct_of, Span, span, windowed}
+use Rattle.rg_grammar.specs.Printed.{CanWrite, AreWritable, IsWritable, is_plain, shape, filter_shape}
 use Rattle.rg_query.specs.Written.{tree_of, syntax_of}
 use Rattle.rg_metric.specs.Queries.{Asked}
 use Rattle.rg_query.specs.declared.fault.QueryFault.{QueryFault}
 use Rattle.rg_query.specs.declared.fault.QueryFault.TheVariants as fault
-use Rattle.rg_query.specs.Legal.{IsColumn, IsField, IsOperand, IsLegalAgg, AreLegalAggs, IsComparison, IsLegalTest, IsLegalFilter, IsLegalLength, IsLegalQuery}
+use Rattle.rg_query.specs.Legal.{IsColumn, IsField, IsPercent, IsOperand, IsLegalAgg, AreLegalAggs, IsComparison, IsLegalTest, IsLegalFilter, IsLegalLength, IsLegalQuery}
 use Rattle.rg_query.specs.Printing.{name_at}
-use Rattle.rg_query.specs.Resolving.{column_from, column_named, or_else, first_in, unless_known, unknown_column, unknown_stream, unknown_in_agg, unknown_in_tree, in_filter, first_unknown, takes, zero_only, id_of, unquoted, literal_value, literal_place, is_ordered, wrong_comparison, wrong_in_tree, wrong_field, wrong_agg, first_wrong, between, bad_span, first_bad, or_zero, column_of, agg_asked, or_false, value_asked, test_asked, or_no_time, length_asked, delay_asked, query_asked, refused_at, resolved}
+use Rattle.rg_metric.specs.Admitted.{takes}
+use Rattle.rg_query.specs.Resolving.{in_hundred, or_no_percent, percent_of, pct_asked, column_from, column_named, or_else, first_in, unless_known, unknown_column, unknown_stream, unknown_in_agg, unknown_in_tree, in_filter, first_unknown, zero_only, id_of, unquoted, literal_value, literal_place, is_ordered, wrong_comparison, wrong_in_tree, wrong_field, wrong_agg, first_wrong, between, bad_span, first_bad, or_zero, column_of, agg_asked, or_false, value_asked, test_asked, or_no_time, length_asked, delay_asked, query_asked, refused_at, resolved}
 
 -- nothing is refused where a query is asked
 
@@ -151,30 +153,46 @@ operand_is : (shape : Shape) (func : Func) (n : ℕ) → 1 ≤ n → IsField sha
 operand_is shape func zero low h = absurd (omega arith)
 operand_is shape func (suc n) low h = h
 
-field_is : (shape : Shape) (p : ℕ) (name : List ℕ) (func : Func) (o : Option (ℕ × Kind)) → column_named shape name ≡ o → unless_known p o ≡ None → wrong_field func p o ≡ None → IsOperand shape func (or_zero o)
-field_is shape p name func None e g h = absurd (cc)
-field_is shape p name func (Some (n, k)) e g h = by_test (takes func k) refl h
+field_is : (shape : Shape) (p : ℕ) (name : List ℕ) (func : Func) (o : Option (ℕ × Kind)) → IsPercent func → column_named shape name ≡ o → unless_known p o ≡ None → wrong_field func p o ≡ None → IsOperand shape func (or_zero o)
+field_is shape p name func None percent e g h = absurd (cc)
+field_is shape p name func (Some (n, k)) percent e g h = by_test (takes func k) refl h
   where
     by_test : (b : Bool) → takes func k ≡ b → (if b then None else Some p) ≡ None → IsOperand shape func n
     by_test false t i = absurd (cc)
     by_test true t i =
         let r : IsFound 1 shape.fields name n = found_name 1 shape.fields name n k e in
-        operand_is shape func n (omega (arith, r.counted)) (record { kind = k; found = column_is shape name n k e; taken = t })
+        operand_is shape func n (omega (arith, r.counted)) (record { kind = k; found = column_is shape name n k e; taken = t; percent = percent })
 
-agg_is : (shape : Shape) (a : syntax.Agg) → unknown_in_agg shape a ≡ None → wrong_agg shape a ≡ None → IsLegalAgg shape (agg_asked shape a)
-agg_is shape count_all u w = refl
-agg_is shape (agg_of func (named p name)) u w = field_is shape p name func (column_named shape name) refl u w
+plain_percent : (func : Func) → is_plain func ≡ true → IsPercent func
+plain_percent (Pct percent) h = absurd (cc)
+plain_percent _ h = tt
 
-aggs_are : (shape : Shape) (aggs : List syntax.Agg) → first_in (unknown_in_agg shape) aggs ≡ None → first_in (wrong_agg shape) aggs ≡ None → All (IsLegalAgg shape) (map (agg_asked shape) aggs)
-aggs_are shape [] u w = All-nil (IsLegalAgg shape)
-aggs_are shape (a ∷ aggs) u w =
+percent_is : (p : ℕ) (o : Option ℕ) → unless_known p (in_hundred o) ≡ None → (1 ≤ or_no_percent (in_hundred o)) × (or_no_percent (in_hundred o) ≤ 100)
+percent_is p None h = absurd (cc)
+percent_is p (Some n) h = by_test (nat_le 1 n) (nat_le n 100) refl refl
+  where
+    by_test : (a b : Bool) → nat_le 1 n ≡ a → nat_le n 100 ≡ b → (1 ≤ or_no_percent (in_hundred (Some n))) × (or_no_percent (in_hundred (Some n)) ≤ 100)
+    by_test true true e f = rw (e, f) (grind (arith, e), grind (arith, f))
+    by_test true false e f = absurd (let u : unless_known p (in_hundred (Some n)) ≡ Some p = rw (e, f) refl in let w : Some p ≡ None = sym u ∙ h in cc)
+    by_test false b e f = absurd (let u : unless_known p (in_hundred (Some n)) ≡ Some p = rw e refl in let w : Some p ≡ None = sym u ∙ h in cc)
+
+agg_is : (shape : Shape) (a : syntax.Agg) → IsWritable a → unknown_in_agg shape a ≡ None → wrong_agg shape a ≡ None → IsLegalAgg shape (agg_asked shape a)
+agg_is shape count_all c u w = refl
+agg_is shape (agg_of func (named p name)) c u w = field_is shape p name func (column_named shape name) (plain_percent func c) refl u w
+agg_is shape (pct_of p text (named q name)) c u w =
+    let v : (unless_known p (percent_of text) ≡ None) × (wrong_field (pct_asked text) q (column_named shape name) ≡ None) = no_place (unless_known p (percent_of text)) (wrong_field (pct_asked text) q (column_named shape name)) w in
+    field_is shape q name (pct_asked text) (column_named shape name) (percent_is p (whole_of text) v.0) refl u v.1
+
+aggs_are : (shape : Shape) (aggs : List syntax.Agg) → All IsWritable aggs → first_in (unknown_in_agg shape) aggs ≡ None → first_in (wrong_agg shape) aggs ≡ None → All (IsLegalAgg shape) (map (agg_asked shape) aggs)
+aggs_are shape [] c u w = All-nil (IsLegalAgg shape)
+aggs_are shape (a ∷ aggs) c u w =
     let v : (unknown_in_agg shape a ≡ None) × (first_in (unknown_in_agg shape) aggs ≡ None) = no_place (unknown_in_agg shape a) (first_in (unknown_in_agg shape) aggs) u in
     let x : (wrong_agg shape a ≡ None) × (first_in (wrong_agg shape) aggs ≡ None) = no_place (wrong_agg shape a) (first_in (wrong_agg shape) aggs) w in
-    All-cons (IsLegalAgg shape) (agg_asked shape a) (map (agg_asked shape) aggs) (agg_is shape a v.0 x.0) (aggs_are shape aggs v.1 x.1)
+    All-cons (IsLegalAgg shape) (agg_asked shape a) (map (agg_asked shape) aggs) (agg_is shape a (All-head IsWritable a aggs c) v.0 x.0) (aggs_are shape aggs (All-tail IsWritable a aggs c) v.1 x.1)
 
 some_aggs : (shape : Shape) (aggs : List syntax.Agg) → AreWritable aggs → first_in (unknown_in_agg shape) aggs ≡ None → first_in (wrong_agg shape) aggs ≡ None → AreLegalAggs shape (map (agg_asked shape) aggs)
 some_aggs shape [] c u w = absurd c
-some_aggs shape (a ∷ aggs) c u w = aggs_are shape (a ∷ aggs) u w
+some_aggs shape (a ∷ aggs) c u w = aggs_are shape (a ∷ aggs) c u w
 
 -- the key
 

@@ -2,7 +2,7 @@
 use Rattle.std.proofs.Common.{◌≡◌, ℕ, zero, suc, List, [], ◌∷◌, ◌++◌, map, Option, Some, None, Bool, true, false, refl, ap, sym, ◌∙◌, append_assoc, codes, decimal, option_map}
 use Rattle.rg_keywords.specs.Words.{func_name, op_text}
 use Rattle.rg_keywords.specs.declared.func.Func.{Func}
-use Rattle.rg_keywords.specs.declared.func.Func.TheVariants.{Count}
+use Rattle.rg_keywords.specs.declared.func.Func.TheVariants.{Count, Pct}
 use Rattle.rg_keywords.specs.declared.keyword.Keyword.TheVariants.{From, Group, By, Over, And, Or, Not}
 use Rattle.rg_keywords.specs.declared.op.Symbol.TheVariants.{Close, Comma, Compare}
 use Rattle.rg_event.specs.Shapes.{Shape}
@@ -16,7 +16,7 @@ use Rattle.rg_token.specs.Layout.{layout}
 use Rattle.rg_metric.specs.Conditions.{Test, compared, not_of, and_of, or_of}
 use Rattle.rg_metric.specs.Queries.{Asked}
 use Rattle.rg_metric.specs.declared.query.Agg.{Agg}
-use Rattle.rg_query.specs.Printing.{name_at, literal_text, test_text, operand_text, agg_text, more_text, list_text, where_text, group_text, length_text, delay_text, query_text}
+use Rattle.rg_query.specs.Printing.{name_at, literal_text, test_text, operand_text, percent_text, agg_text, more_text, list_text, where_text, group_text, length_text, delay_text, query_text}
 use Rattle.rg_query.specs.declared.printing.Side.TheVariants.{BesideOr, BesideAnd, BehindNot}
 use Rattle.rg_query.specs.Spacing.{token_text, Before, opened, a_name, a_token, blank, blank_to_open, spaced}
 use Rattle.rg_query.specs.Written.{column_name, literal_of, tree_of, call_of, call_of_agg, length_of, delay_of, written}
@@ -123,9 +123,13 @@ abbrev pub AreCalls : List Agg → Type 0
 AreCalls [] = Unit {0}
 AreCalls (agg ∷ aggs) = IsCall agg.func agg.field × AreCalls aggs
 
+percent_shown : (name percent field rest : List ℕ) → name ++ (40 ∷ (percent ++ (44 ∷ (32 ∷ (field ++ (41 ∷ rest)))))) ≡ (name ++ (40 ∷ ((percent ++ (44 ∷ (32 ∷ []))) ++ (field ++ (41 ∷ []))))) ++ rest
+percent_shown name percent field rest = simp append_assoc
+
 call_shown : (shape : Shape) (func : Func) (column : ℕ) (rest : List Token) → IsCall func column →
-    text a_token (agg_then (written_agg (call_of shape func column)) rest) ≡ codes " " ++ ((func_name func ++ (codes "(" ++ (operand_text shape column ++ codes ")"))) ++ text a_token rest)
-call_shown shape func zero rest h = ap (λ (f : Func). codes " " ++ ((func_name f ++ codes "(*)") ++ text a_token rest)) (sym h)
+    text a_token (agg_then (written_agg (call_of shape func column)) rest) ≡ codes " " ++ ((func_name func ++ (codes "(" ++ (percent_text func ++ (operand_text shape column ++ codes ")")))) ++ text a_token rest)
+call_shown shape func zero rest h = ap (λ (f : Func). codes " " ++ ((func_name f ++ (codes "(" ++ (percent_text f ++ codes "*)"))) ++ text a_token rest)) (sym h)
+call_shown shape (Pct percent) (suc n) rest h = ap (λ xs. 32 ∷ xs) (percent_shown (codes "pct") (decimal percent) (name_at (suc n) shape.fields) (text a_token rest))
 call_shown shape func (suc n) rest h = ap (λ xs. 32 ∷ xs) (sym (joined (func_name func) (codes "(") (name_at (suc n) shape.fields) (codes ")") (text a_token rest)))
 
 calls_shown : (shape : Shape) (aggs : List Agg) (rest : List Token) → AreCalls aggs → text a_token (calls_then (map (call_of_agg shape) aggs) rest) ≡ more_text (agg_text shape) aggs ++ text a_token rest

@@ -6,13 +6,15 @@ use Rattle.rg_event.specs.declared.value.Kind.{Kind}
 use Rattle.rg_event.specs.declared.value.Kind.TheVariants as kind
 use Rattle.rg_keywords.specs.declared.op.Op.{Op}
 use Rattle.rg_grammar.specs.Grammar as syntax
-use Rattle.rg_grammar.specs.Grammar.{Name, named, Literal, digits, quoted, truth, Tree, compared, not_of, and_of, or_of, count_all, agg_of, Span, span, windowed}
+use Rattle.rg_grammar.specs.Grammar.{Name, named, Literal, digits, quoted, truth, Tree, compared, not_of, and_of, or_of, count_all, agg_of, pct_of, Span, span, windowed}
 use Rattle.rg_grammar.specs.Erase.{erase_name, erase_literal, erase_tree, erase_maybe, erase_agg, erase_maybe_span, erase_query}
 use Rattle.rg_metric.specs.Conditions.{Test}
 use Rattle.rg_metric.specs.Conditions as test
 use Rattle.rg_metric.specs.Queries.{Asked}
 use Rattle.rg_metric.specs.declared.query.Agg.{Agg}
-use Rattle.rg_query.specs.Resolving.{column_named, or_else, first_in, unless_known, unknown_column, unknown_stream, unknown_in_agg, unknown_in_tree, in_filter, first_unknown, takes, literal_value, literal_place, is_ordered, wrong_comparison, wrong_in_tree, wrong_field, wrong_agg, first_wrong, millis_of, bad_span, first_bad, column_of, agg_asked, or_false, value_asked, test_asked, length_asked, delay_asked, query_asked}
+use Rattle.rg_keywords.specs.declared.func.Func.{Func}
+use Rattle.rg_metric.specs.Admitted.{takes}
+use Rattle.rg_query.specs.Resolving.{in_hundred, percent_of, pct_asked, column_named, or_else, first_in, unless_known, unknown_column, unknown_stream, unknown_in_agg, unknown_in_tree, in_filter, first_unknown, literal_value, literal_place, is_ordered, wrong_comparison, wrong_in_tree, wrong_field, wrong_agg, first_wrong, millis_of, bad_span, first_bad, column_of, agg_asked, or_false, value_asked, test_asked, length_asked, delay_asked, query_asked}
 use Rattle.rg_query.proofs.Asking.{IsAsked}
 
 abbrev none : Option ℕ → Bool
@@ -53,6 +55,7 @@ stream_same shape (named p name) = by_test (bytes_eq shape.stream name)
 agg_known : (shape : Shape) (a : syntax.Agg) → none (unknown_in_agg shape (erase_agg a)) ≡ none (unknown_in_agg shape a)
 agg_known shape count_all = refl
 agg_known shape (agg_of func n) = column_same shape n
+agg_known shape (pct_of p text n) = column_same shape n
 
 tree_known : (shape : Shape) (t : Tree) → none (unknown_in_tree shape (erase_tree t)) ≡ none (unknown_in_tree shape t)
 tree_known shape (compared n op l) = column_same shape n
@@ -98,17 +101,20 @@ filter_right : (shape : Shape) (filter : Option Tree) → none (in_filter (wrong
 filter_right shape None = refl
 filter_right shape (Some t) = tree_right shape t
 
-agg_right : (shape : Shape) (a : syntax.Agg) → none (wrong_agg shape (erase_agg a)) ≡ none (wrong_agg shape a)
-agg_right shape count_all = refl
-agg_right shape (agg_of func (named p name)) = by_case (column_named shape name)
+field_right : (func : Func) (p : ℕ) (o : Option (ℕ × Kind)) → none (wrong_field func 0 o) ≡ none (wrong_field func p o)
+field_right func p None = refl
+field_right func p (Some (n, k)) = by_test (takes func k)
   where
     by_test : (b : Bool) → none (if b then None else Some 0) ≡ none (if b then None else Some p)
     by_test true = refl
     by_test false = refl
 
-    by_case : (o : Option (ℕ × Kind)) → none (wrong_field func 0 o) ≡ none (wrong_field func p o)
-    by_case None = refl
-    by_case (Some (n, k)) = by_test (takes func k)
+agg_right : (shape : Shape) (a : syntax.Agg) → none (wrong_agg shape (erase_agg a)) ≡ none (wrong_agg shape a)
+agg_right shape count_all = refl
+agg_right shape (agg_of func (named p name)) = field_right func p (column_named shape name)
+agg_right shape (pct_of p text (named q name)) =
+    same_else (unless_known 0 (percent_of text)) (wrong_field (pct_asked text) 0 (column_named shape name)) (unless_known p (percent_of text)) (wrong_field (pct_asked text) q (column_named shape name))
+    (same_known 0 p (percent_of text)) (field_right (pct_asked text) q (column_named shape name))
 
 -- spans
 
@@ -139,6 +145,7 @@ name_asks shape (named p name) = refl
 agg_asks : (shape : Shape) (a : syntax.Agg) → agg_asked shape (erase_agg a) ≡ agg_asked shape a
 agg_asks shape count_all = refl
 agg_asks shape (agg_of func (named p name)) = refl
+agg_asks shape (pct_of p text (named q name)) = refl
 
 value_asks : (o : Option (ℕ × Kind)) (l : Literal) → value_asked o (erase_literal l) ≡ value_asked o l
 value_asks None l = refl

@@ -15,7 +15,7 @@ use Rattle.rg_event.specs.declared.value.Value.{Value}
 use Rattle.rg_event.specs.declared.value.Value.TheVariants.{Int, Id, Text, Flag}
 use Rattle.rg_keywords.specs.Words.{meaning_in, keyword_of, truth_of, func_name}
 use Rattle.rg_keywords.specs.declared.func.Func.{Func}
-use Rattle.rg_keywords.specs.declared.func.Func.TheVariants.{Count, Sum, Avg, SumSq, Min, Max, CountDistinct, First, Last}
+use Rattle.rg_keywords.specs.declared.func.Func.TheVariants.{Count, Sum, Avg, SumSq, Min, Max, CountDistinct, First, Last, Median, Pct}
 use Rattle.rg_keywords.specs.declared.keyword.Keyword.{Keyword}
 use Rattle.rg_keywords.specs.declared.keyword.Keyword.TheVariants.{Select, From, Where, Group, By, Over, Sliding, Infinite, Delayed, And, Or, Not}
 use Rattle.rg_keywords.specs.declared.op.Symbol.{Symbol}
@@ -122,6 +122,8 @@ plain_func Max = record { spelled = refl; read = refl }
 plain_func CountDistinct = record { spelled = refl; read = refl }
 plain_func First = record { spelled = refl; read = refl }
 plain_func Last = record { spelled = refl; read = refl }
+plain_func Median = record { spelled = refl; read = refl }
+plain_func (Pct percent) = record { spelled = refl; read = refl }
 
 pub plain_ms : IsPlain (word (named 0 (codes "ms")))
 unfolding keyword_of truth_of

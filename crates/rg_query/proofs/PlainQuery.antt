@@ -8,7 +8,7 @@ use Rattle.rg_event.specs.Shapes.{Shape, IsSchema}
 use Rattle.rg_event.specs.declared.schema.Field.{Field}
 use Rattle.rg_event.specs.declared.value.Kind.{Kind}
 use Rattle.rg_keywords.specs.declared.func.Func.{Func}
-use Rattle.rg_keywords.specs.declared.func.Func.TheVariants.{Count}
+use Rattle.rg_keywords.specs.declared.func.Func.TheVariants.{Count, Pct}
 use Rattle.rg_keywords.specs.declared.keyword.Keyword.TheVariants.{Select, From, Where, Group, By, Over, Sliding, Infinite, Delayed, And, Or, Not}
 use Rattle.rg_keywords.specs.declared.op.Symbol.TheVariants.{Open, Close, Comma, Star, Compare}
 use Rattle.rg_grammar.specs.Grammar.{named, Token, reserved, symbol, word, literal, or_then, and_then, not_then, aggs_then, agg_then, one_agg, one_field, where_then, group_then, length_then, delay_then, tokens_of}
@@ -86,6 +86,8 @@ plain_test shape (or_of s t) schema h =
 
 plain_call : (shape : Shape) (func : Func) (column : ℕ) (rest : List Token) → IsSchema shape → IsOperand shape func column → ArePlain rest → ArePlain (agg_then (written_agg (call_of shape func column)) rest)
 plain_call shape func zero rest schema h plain = (plain_func Count, (plain_symbol Open, (plain_symbol Star, (plain_symbol Close, plain))))
+plain_call shape (Pct percent) (suc n) rest schema h plain =
+    (plain_func (Pct percent), (plain_symbol Open, (plain_whole percent (omega (arith, h.percent.1)), (plain_symbol Comma, (plain_column shape (suc n) h.kind schema h.found, (plain_symbol Close, plain))))))
 plain_call shape func (suc n) rest schema h plain = (plain_func func, (plain_symbol Open, (plain_column shape (suc n) h.kind schema h.found, (plain_symbol Close, plain))))
 
 plain_calls : (shape : Shape) (aggs : List Agg) (rest : List Token) → IsSchema shape → All (IsLegalAgg shape) aggs → ArePlain rest → ArePlain (calls_then (map (call_of_agg shape) aggs) rest)

@@ -2,11 +2,12 @@
 use Rattle.std.specs.Prelude.{◌≡◌, ◌⊎◌, ℕ, List, Option, Some, map, option_map, Result, Ok, Err}
 use Rattle.rg_event.specs.Shapes.{Shape}
 use Rattle.rg_grammar.specs.Grammar as syntax
-use Rattle.rg_grammar.specs.Grammar.{Name, Tree, Span, windowed}
+use Rattle.rg_keywords.specs.declared.func.Func.{Func}
+use Rattle.rg_grammar.specs.Grammar.{Name, named, Tree, Span, windowed}
 use Rattle.rg_metric.specs.Conditions.{Test}
 use Rattle.rg_metric.specs.declared.query.Agg.{Agg}
 use Rattle.rg_metric.specs.declared.query.Window.{Window}
-use Rattle.rg_query.specs.Resolving.{refused_at, first_in, in_filter, wrong_agg, wrong_in_tree, agg_asked, test_asked, column_of, bad_span, or_else, delay_asked, length_asked, or_no_time, millis_of}
+use Rattle.rg_query.specs.Resolving.{refused_at, column_named, wrong_field, first_in, in_filter, wrong_agg, wrong_in_tree, agg_asked, test_asked, column_of, bad_span, or_else, delay_asked, length_asked, or_no_time, millis_of}
 use Rattle.rg_query.specs.declared.fault.QueryFault.{QueryFault}
 use Rattle.rg_query.specs.declared.fault.QueryFault.TheVariants as fault
 
@@ -22,6 +23,10 @@ same a = a
 -- an aggregator, or where its field is of a kind that it doesn't take; then a list of them
 abbrev pub agg_meant : Shape → syntax.Agg → Result Agg QueryFault
 agg_meant shape agg = refused_at fault.WrongKind (wrong_agg shape agg) (Ok (agg_asked shape agg))
+
+-- a function of a column, or where that stands if the function doesn't take its kind
+abbrev pub field_meant : Shape → Func → Name → Result Agg QueryFault
+field_meant shape func (named place text) = refused_at fault.WrongKind (wrong_field func place (column_named shape text)) (Ok (record { func = func; field = column_of shape (named place text) }))
 
 abbrev pub aggs_meant : Shape → List syntax.Agg → Result (List Agg) QueryFault
 aggs_meant shape aggs = refused_at fault.WrongKind (first_in (wrong_agg shape) aggs) (Ok (map (agg_asked shape) aggs))

@@ -6,24 +6,31 @@ use Rattle.rg_event.specs.Shapes.{Shape}
 use Rattle.rg_event.specs.declared.value.Kind.{Kind}
 use Rattle.rg_event.specs.declared.value.Value.{Value}
 use Rattle.rg_keywords.specs.declared.func.Func.{Func}
-use Rattle.rg_keywords.specs.declared.func.Func.TheVariants.{Count}
+use Rattle.rg_keywords.specs.declared.func.Func.TheVariants.{Count, Pct}
 use Rattle.rg_keywords.specs.declared.op.Op.{Op}
+use Rattle.rg_metric.specs.Admitted.{takes}
 use Rattle.rg_metric.specs.Conditions.{Test, compared, not_of, and_of, or_of}
 use Rattle.rg_metric.specs.Queries.{Asked}
 use Rattle.rg_metric.specs.declared.query.Agg.{Agg}
 use Rattle.rg_query.specs.Printing.{name_at}
-use Rattle.rg_query.specs.Resolving.{column_named, takes, is_ordered}
+use Rattle.rg_query.specs.Resolving.{column_named, is_ordered}
 
 -- the column's name is found, and is this column's
 pub record IsColumn (shape : Shape) (column : ℕ) : Type 0 where
   pub kind : Kind
   pub found : column_named shape (name_at column shape.fields) ≡ Some (column, kind)
 
--- a column of a kind that the function takes
+-- a percent is from 1 to 100
+abbrev pub IsPercent : Func → Type 0
+IsPercent (Pct percent) = (1 ≤ percent) × (percent ≤ 100)
+IsPercent func = ⊤
+
+-- a column of a kind that the function takes, and a percent that there is
 pub record IsField (shape : Shape) (func : Func) (column : ℕ) : Type 0 where
   pub kind : Kind
   pub found : column_named shape (name_at column shape.fields) ≡ Some (column, kind)
   pub taken : takes func kind ≡ true
+  pub percent : IsPercent func
 
 -- only events are counted without a column
 abbrev pub IsOperand : Shape → Func → ℕ → Type 0

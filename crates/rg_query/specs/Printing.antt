@@ -6,6 +6,8 @@ use Rattle.rg_event.specs.declared.schema.Field.{Field}
 use Rattle.rg_event.specs.declared.value.Value.{Value}
 use Rattle.rg_event.specs.declared.value.Value.TheVariants.{Int, Id, Text, Flag}
 use Rattle.rg_keywords.specs.Words.{func_name, op_text}
+use Rattle.rg_keywords.specs.declared.func.Func.{Func}
+use Rattle.rg_keywords.specs.declared.func.Func.TheVariants.{Pct}
 use Rattle.rg_metric.specs.Conditions.{Test, compared, not_of, and_of, or_of}
 use Rattle.rg_metric.specs.Queries.{Asked}
 use Rattle.rg_metric.specs.declared.query.Agg.{Agg}
@@ -67,8 +69,13 @@ abbrev pub operand_text : Shape → ℕ → List ℕ
 operand_text shape zero = codes "*"
 operand_text shape (suc n) = name_at (suc n) shape.fields
 
+-- the percent in front of a column
+abbrev pub percent_text : Func → List ℕ
+percent_text (Pct percent) = decimal percent ++ codes ", "
+percent_text func = []
+
 abbrev pub agg_text : Shape → Agg → List ℕ
-agg_text shape agg = func_name agg.func ++ (codes "(" ++ (operand_text shape agg.field ++ codes ")"))
+agg_text shape agg = func_name agg.func ++ (codes "(" ++ (percent_text agg.func ++ (operand_text shape agg.field ++ codes ")")))
 
 -- list members, parted by a comma and a space
 abbrev pub more_text : {A : Type 0} → (A → List ℕ) → List A → List ℕ

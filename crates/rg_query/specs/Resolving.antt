@@ -10,12 +10,13 @@ use Rattle.rg_event.specs.declared.value.Kind.TheVariants.{Int, Id, Text, Flag}
 use Rattle.rg_event.specs.declared.value.Value.{Value}
 use Rattle.rg_event.specs.declared.value.Value.TheVariants.{Int as IntValue, Id as IdValue, Text as TextValue, Flag as FlagValue}
 use Rattle.rg_keywords.specs.declared.func.Func.{Func}
-use Rattle.rg_keywords.specs.declared.func.Func.TheVariants.{Count, Sum, Avg, SumSq, Min, Max, CountDistinct, First, Last}
+use Rattle.rg_keywords.specs.declared.func.Func.TheVariants.{Count, Pct}
 use Rattle.rg_keywords.specs.declared.op.Op.{Op}
 use Rattle.rg_keywords.specs.declared.op.Op.TheVariants.{Eq, Ne}
 use Rattle.rg_keywords.specs.Words.{unit_millis}
 use Rattle.rg_grammar.specs.Grammar as syntax
-use Rattle.rg_grammar.specs.Grammar.{Name, named, Literal, digits, quoted, truth, Tree, compared, not_of, and_of, or_of, count_all, agg_of, Span, span, windowed, is_signed}
+use Rattle.rg_grammar.specs.Grammar.{Name, named, Literal, digits, quoted, truth, Tree, compared, not_of, and_of, or_of, count_all, agg_of, pct_of, Span, span, windowed, is_signed}
+use Rattle.rg_metric.specs.Admitted.{takes}
 use Rattle.rg_metric.specs.Conditions as test
 use Rattle.rg_metric.specs.Conditions.{Test}
 use Rattle.rg_metric.specs.Queries.{Asked}
@@ -57,6 +58,7 @@ unknown_stream shape (named place text) = if bytes_eq shape.stream text then Non
 abbrev pub unknown_in_agg : Shape → syntax.Agg → Option ℕ
 unknown_in_agg shape count_all = None
 unknown_in_agg shape (agg_of func name) = unknown_column shape name
+unknown_in_agg shape (pct_of place text name) = unknown_column shape name
 
 abbrev pub unknown_in_tree : Shape → Tree → Option ℕ
 unknown_in_tree shape (compared name op literal) = unknown_column shape name
@@ -74,22 +76,6 @@ first_unknown shape (syntax.asked aggs stream filter group window) =
     or_else (first_in (unknown_in_agg shape) aggs) (or_else (unknown_stream shape stream) (or_else (in_filter (unknown_in_tree shape) filter) (first_in (unknown_column shape) group)))
 
 -- Fields and literals of a wrong kind
-
--- sums take ints, extremes and ends take ints and ids, and a distinct count takes any
-abbrev pub takes : Func → Kind → Bool
-takes Sum Int = true
-takes Avg Int = true
-takes SumSq Int = true
-takes Min Int = true
-takes Min Id = true
-takes Max Int = true
-takes Max Id = true
-takes First Int = true
-takes First Id = true
-takes Last Int = true
-takes Last Id = true
-takes CountDistinct kind = true
-takes func kind = false
 
 -- the number of an id, in digits or as a minus and zeros
 abbrev pub zero_only : Option ℕ → Option ℕ
@@ -149,11 +135,28 @@ abbrev pub wrong_field : Func → ℕ → Option (ℕ × Kind) → Option ℕ
 wrong_field func place None = None
 wrong_field func place (Some (column, kind)) = if takes func kind then None else Some place
 
+-- a percent from 1 to 100
+abbrev pub in_hundred : Option ℕ → Option ℕ
+in_hundred None = None
+in_hundred (Some n) = if nat_le 1 n && nat_le n 100 then Some n else None
+
+abbrev pub percent_of : List ℕ → Option ℕ
+percent_of text = in_hundred (whole_of text)
+
+abbrev pub or_no_percent : Option ℕ → ℕ
+or_no_percent None = 0
+or_no_percent (Some n) = n
+
+-- the percentile that a number asks
+abbrev pub pct_asked : List ℕ → Func
+pct_asked text = Pct (or_no_percent (percent_of text))
+
 abbrev pub wrong_agg : Shape → syntax.Agg → Option ℕ
 wrong_agg shape count_all = None
 wrong_agg shape (agg_of func (named place text)) = wrong_field func place (column_named shape text)
+wrong_agg shape (pct_of place percent (named at text)) = or_else (unless_known place (percent_of percent)) (wrong_field (pct_asked percent) at (column_named shape text))
 
--- where the first field or literal stands that is wrong
+-- where the first percent, field or literal stands that is wrong
 abbrev pub first_wrong : Shape → syntax.Query → Option ℕ
 first_wrong shape (syntax.asked aggs stream filter group window) = or_else (first_in (wrong_agg shape) aggs) (in_filter (wrong_in_tree shape) filter)
 
@@ -187,6 +190,7 @@ column_of shape (named place text) = or_zero (column_named shape text)
 abbrev pub agg_asked : Shape → syntax.Agg → Agg
 agg_asked shape count_all = record { func = Count; field = 0 }
 agg_asked shape (agg_of func name) = record { func = func; field = column_of shape name }
+agg_asked shape (pct_of place percent name) = record { func = pct_asked percent; field = column_of shape name }
 
 abbrev pub or_false : Option Value → Value
 or_false None = FlagValue false
@@ -226,7 +230,7 @@ abbrev pub refused_at : {A : Type 0} → (ℕ → QueryFault) → Option ℕ →
 refused_at refusal None next = next
 refused_at refusal (Some place) next = Err (refusal place)
 
--- what the query asks, or why it asks nothing: first a name that nothing has, then a field or a literal of a wrong kind, then a bad span
+-- what the query asks, or why it asks nothing: first a name that nothing has, then a percent, a field or a literal that is wrong, then a bad span
 abbrev pub resolved : Shape → syntax.Query → Result Asked QueryFault
 resolved shape query =
     refused_at fault.UnknownName (first_unknown shape query)

@@ -5,8 +5,9 @@ use Rattle.rg_event.specs.Shapes.{Shape}
 use Rattle.rg_event.specs.declared.value.Value.{Value}
 use Rattle.rg_event.specs.declared.value.Value.TheVariants.{Int, Id, Text, Flag}
 use Rattle.rg_keywords.specs.declared.func.Func.{Func}
+use Rattle.rg_keywords.specs.declared.func.Func.TheVariants.{Pct}
 use Rattle.rg_grammar.specs.Grammar as syntax
-use Rattle.rg_grammar.specs.Grammar.{Name, named, Literal, digits, quoted, truth, Tree, compared, not_of, and_of, or_of, count_all, agg_of, SpanTree, maybe_span, windowed, QueryTree}
+use Rattle.rg_grammar.specs.Grammar.{Name, named, Literal, digits, quoted, truth, Tree, compared, not_of, and_of, or_of, count_all, agg_of, pct_of, SpanTree, maybe_span, windowed, QueryTree}
 use Rattle.rg_grammar.specs.Printed.{written_span, written_query}
 use Rattle.rg_metric.specs.Conditions as test
 use Rattle.rg_metric.specs.Conditions.{Test}
@@ -29,9 +30,13 @@ tree_of shape (test.not_of t) = not_of (tree_of shape t)
 tree_of shape (test.and_of s t) = and_of (tree_of shape s) (tree_of shape t)
 tree_of shape (test.or_of s t) = or_of (tree_of shape s) (tree_of shape t)
 
+abbrev pub field_call : Func → Name → syntax.Agg
+field_call (Pct percent) name = pct_of 0 (decimal percent) name
+field_call func name = agg_of func name
+
 abbrev pub call_of : Shape → Func → ℕ → syntax.Agg
 call_of shape func zero = count_all
-call_of shape func (suc n) = agg_of func (column_name shape (suc n))
+call_of shape func (suc n) = field_call func (column_name shape (suc n))
 
 abbrev pub call_of_agg : Shape → Agg → syntax.Agg
 call_of_agg shape agg = call_of shape agg.func agg.field

@@ -4,14 +4,15 @@ ghost use Rattle.rg_metric.specs.Queries.{filter_test};
 ghost use Rattle.rg_parse.specs.Parts.{IsName, IsCall, IsLiteral, IsCondition, IsMaybeCondition};
 ghost use Rattle.rg_parse.specs.Views.{name as name_of, names as names_of, literal as literal_of, call as call_of, calls as calls_of, tree, maybe_tree};
 ghost use Rattle.rg_grammar.specs.Grammar.{compared};
-ghost use Rattle.rg_query.specs.Resolving.{first_in, in_filter, unknown_column, unknown_in_agg, unknown_in_tree};
-ghost use Rattle.rg_query.specs.Building.{Gives, same, agg_meant, aggs_meant, test_meant, filter_meant, group_meant};
+ghost use Rattle.rg_query.specs.Resolving.{first_in, in_filter, percent_of, unknown_column, unknown_in_agg, unknown_in_tree};
+ghost use Rattle.rg_query.specs.Building.{Gives, same, agg_meant, field_meant, aggs_meant, test_meant, filter_meant, group_meant};
 
 use crate::fault::QueryFault;
-use crate::kinds::{compares, literal_value, place_of, takes};
+use crate::kinds::{compares, literal_value, place_of};
 use crate::names::{bytes_at, column_named};
+use rg_bytes::read_whole;
 use rg_event::Schema;
-use rg_metric::{Agg, Aggs, Columns, Condition, Func, Op};
+use rg_metric::{Agg, Aggs, Columns, Condition, Func, Op, takes};
 use rg_parse::{Call, Expr, Literal, Span};
 use std::alloc::Global;
 
@@ -43,16 +44,45 @@ fn agg(schema: &Schema, text: &[u8], call: Call) -> Result<Agg, QueryFault>
             func: Func::Count,
             field: 0,
         }),
-        Call::Field(func, name) => match column_named(schema, bytes_at(text, name)) {
-            Some((field, kind)) => {
-                if takes(func, kind) {
-                    Ok(Agg { func, field })
-                } else {
-                    Err(QueryFault::WrongKind(name.start))
-                }
-            }
-            None => Err(QueryFault::UnknownName(name.start)),
+        Call::Field(func, name) => agg_of(schema, text, func, name),
+        Call::Pct(number, name) => match percent(bytes_at(text, number)) {
+            Some(percent) => agg_of(schema, text, Func::Pct(percent), name),
+            None => Err(QueryFault::WrongKind(number.start)),
         },
+    }
+}
+
+/// A function of a column whose name is known.
+fn agg_of(schema: &Schema, text: &[u8], func: Func, name: Span) -> Result<Agg, QueryFault>
+    requires { IsName text.now name }
+    ensures { unknown_column schema.now (name_of text.now name) ≡ None →
+        Gives same (field_meant schema.now func (name_of text.now name)) result }
+{
+    match column_named(schema, bytes_at(text, name)) {
+        Some((field, kind)) => {
+            if takes(func, kind) {
+                Ok(Agg { func, field })
+            } else {
+                Err(QueryFault::WrongKind(name.start))
+            }
+        }
+        None => Err(QueryFault::UnknownName(name.start)),
+    }
+}
+
+/// The percent from 1 to 100 that a number says.
+fn percent(number: &[u8]) -> Option<u32>
+    ensures { result ≡ percent_of number.now }
+{
+    match read_whole(number) {
+        Some(percent) => {
+            if 1 <= percent && percent <= 100 {
+                Some(percent as u32)
+            } else {
+                None
+            }
+        }
+        None => None,
     }
 }
 

@@ -1,28 +1,14 @@
 ghost use Rattle.std.specs.Prelude.{◌≡◌, ℕ, List, IfOk};
 ghost use Rattle.rg_parse.specs.Parts.{IsLiteral};
 ghost use Rattle.rg_parse.specs.Views.{literal as literal_of};
-ghost use Rattle.rg_query.specs.Resolving.{takes as takes_test, is_ordered, literal_value as value_of, id_of, literal_place, inside, unquoted as unquoted_of};
+ghost use Rattle.rg_query.specs.Resolving.{is_ordered, literal_value as value_of, id_of, literal_place, inside, unquoted as unquoted_of};
 
 use crate::names::bytes_at;
 use rg_bytes::{Memory, read_whole};
 use rg_event::{Kind, Value, parse_value};
-use rg_metric::{Func, Op};
+use rg_metric::Op;
 use rg_parse::Literal;
 use std::alloc::Global;
-
-/// Whether a function takes columns of this kind.
-pub(crate) fn takes(func: Func, kind: Kind) -> bool
-    ensures { result ≡ takes_test func kind }
-{
-    match func {
-        Func::Count => false,
-        Func::CountDistinct => true,
-        Func::Sum | Func::Avg | Func::SumSq => kind == Kind::Int,
-        Func::Min | Func::Max | Func::First | Func::Last => {
-            kind == Kind::Int || kind == Kind::Id
-        }
-    }
-}
 
 /// Whether values of this kind are compared so: flags have no order.
 pub(crate) fn compares(kind: Kind, op: Op) -> bool

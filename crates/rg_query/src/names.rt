@@ -70,7 +70,7 @@ fn unknown_in_call(schema: &Schema, text: &[u8], call: Call) -> Option<usize>
 {
     match call {
         Call::CountAll => None,
-        Call::Field(_, name) => unknown_column(schema, text, name),
+        Call::Field(_, name) | Call::Pct(_, name) => unknown_column(schema, text, name),
     }
 }
 

@@ -4,12 +4,12 @@ ghost use Rattle.rg_metric.specs.Conditions.{test_of};
 ghost use Rattle.rg_metric.specs.Queries.{Asked, asked, filter_test};
 ghost use Rattle.rg_keywords.specs.Words.{op_text};
 ghost use Rattle.rg_query.specs.Saying.{IsShort, Says};
-ghost use Rattle.rg_query.specs.Printing.{name_at, doubled, literal_text, and_is_enclosed as and_test, or_is_enclosed as or_test, opening, closing, test_text, condition_text, operand_text, agg_text, more_text, list_text, where_text, group_text, length_text, delay_text, query_text};
+ghost use Rattle.rg_query.specs.Printing.{name_at, doubled, literal_text, and_is_enclosed as and_test, or_is_enclosed as or_test, opening, closing, test_text, condition_text, operand_text, percent_text, agg_text, more_text, list_text, where_text, group_text, length_text, delay_text, query_text};
 
 use rg_bytes::{Memory, put_bytes, put_u8, write_signed, write_whole};
 use rg_event::{Field, Schema, Value};
 use rg_keywords::Op;
-use rg_metric::{Agg, Condition, Query, Window};
+use rg_metric::{Agg, Condition, Func, Query, Window};
 
 /// Where a condition stands in another.
 #[derive(Clone, Copy, Debug, PartialEq, Eq)]
@@ -161,8 +161,24 @@ fn put_agg(schema: &Schema, agg: &Agg, out: &mut Vec<u8>) -> Result<(), Memory>
 {
     put_bytes(out, agg.func.name())?;
     put_bytes(out, b"(")?;
+    put_percent(agg.func, out)?;
     put_bytes(out, operand(schema.fields(), agg.field))?;
     put_bytes(out, b")")
+}
+
+/// Appends the percent of a percentile with a comma, and nothing of another function. An error leaves it begun.
+#[tactic(auto, using(crate::proofs::Fronts::front_of_more))]
+fn put_percent(func: Func, out: &mut Vec<u8>) -> Result<(), Memory>
+    ensures ok { OnOk result (out.new.items ≡ out.old.items ++ percent_text func) }
+    ensures begun { take (length out.old.items) out.new.items ≡ out.old.items }
+{
+    match func {
+        Func::Pct(percent) => {
+            write_whole(out, u64::from(percent))?;
+            put_bytes(out, b", ")
+        }
+        _ => Ok(()),
+    }
 }
 
 /// What an aggregator is of: a column by its number from 1, or each event where that is 0.

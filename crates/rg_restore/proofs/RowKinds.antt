@@ -17,8 +17,9 @@ use Rattle.rg_keywords.specs.declared.func.Func.TheVariants.{Count}
 use Rattle.rg_metric.specs.Same.{same_value}
 use Rattle.rg_metric.specs.declared.query.Agg.{Agg}
 use Rattle.rg_metric.proofs.Same.{same_value-same}
-use Rattle.rg_agg.specs.Held.{Held, counted, summed, averaged, squared, queued, ended, lowest, highest, varied}
+use Rattle.rg_agg.specs.Held.{Held, counted, summed, averaged, squared, queued, ended, lowest, highest, varied, ranked}
 use Rattle.rg_agg.specs.Stands.{AreInts, last_behind, last_value}
+use Rattle.rg_agg.specs.Sharing.{kept_as}
 use Rattle.rg_agg.specs.Standing.{Stands, func_of, count_in, places, AreThere, AreCounts}
 use Rattle.rg_agg.specs.Unbeaten.{unbeaten, joined_to, is_less, is_greater}
 use Rattle.rg_event.specs.Rising.{last_time}
@@ -177,6 +178,7 @@ module _ (kind : Kind) where
   kept_kind (lowest n pairs) values stands some are = subst (All (λ (pair : Value × ℕ). HasKind (Some kind) pair.0)) (sym stands.kept) (unbeaten_kind is_less values are)
   kept_kind (highest n pairs) values stands some are = subst (All (λ (pair : Value × ℕ). HasKind (Some kind) pair.0)) (sym stands.kept) (unbeaten_kind is_greater values are)
   kept_kind (varied pairs) values stands some are = pairs_kind pairs values stands are
+  kept_kind (ranked pairs) values stands some are = pairs_kind pairs values stands are
 
 -- a count keeps no value
 count_kind : (kind : Option Kind) (held : Held) → func_of held ≡ Count → IsOfKind kind held
@@ -189,14 +191,15 @@ count_kind kind (ended n last) e = cc
 count_kind kind (lowest n pairs) e = cc
 count_kind kind (highest n pairs) e = cc
 count_kind kind (varied pairs) e = cc
+count_kind kind (ranked pairs) e = cc
 
 column_kind : (fields : List Field) (agg : Agg) (serves : ColumnServes fields agg) → kind_at fields agg.field ≡ Some serves.field.kind
 column_kind fields agg serves = ap (kind_at fields) serves.is ∙ ap (option_map (λ (field : Field). field.kind)) serves.found
 
 module _ (fields : List Field) (events : List Event) (are : All (IsEventOf fields) events) where
-  row_kind : (node : Node) (key : List ℕ) (t : ℕ) (held : Held) → IsServed fields node.agg → func_of held ≡ node.agg.func → Stands held (node_values node key t events) → 0 < length (node_values node key t events) →
+  row_kind : (node : Node) (key : List ℕ) (t : ℕ) (held : Held) → IsServed fields node.agg → func_of held ≡ kept_as node.agg.func → Stands held (node_values node key t events) → 0 < length (node_values node key t events) →
       IsOfKind (kind_at fields node.agg.field) held
-  row_kind node key t held (inl counts) func stands some = count_kind (kind_at fields node.agg.field) held (func ∙ counts.1)
+  row_kind node key t held (inl counts) func stands some = count_kind (kind_at fields node.agg.field) held (func ∙ ap kept_as counts.1)
   row_kind node key t held (inr serves) func stands some =
       let kind = serves.field.kind in
       let hands : All (HandsOf kind node.agg.field) events = subst (λ n. All (HandsOf kind n) events) (sym serves.is)

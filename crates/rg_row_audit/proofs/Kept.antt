@@ -6,10 +6,12 @@ use Rattle.rg_event.specs.Tagged.{value_kind}
 use Rattle.rg_event.specs.declared.value.Value.{Value}
 use Rattle.rg_keywords.specs.declared.func.Func.{Func}
 use Rattle.rg_agg.specs.Held.{Held, Begins, held_bytes}
+use Rattle.rg_agg.proofs.Served.{admitted_kept}
+use Rattle.rg_agg.specs.Sharing.{kept_as}
 use Rattle.rg_agg.specs.Standing.{Stands, func_of, size_in}
 use Rattle.rg_state.specs.Rows.{AreLike, RowStands}
 use Rattle.rg_state.specs.States.{held_of, state_at}
-use Rattle.rg_state.specs.Takes.{Takes}
+use Rattle.rg_metric.specs.Admitted.{IsAdmitted}
 use Rattle.rg_state.specs.declared.state.AggState.{AggState}
 use Rattle.rg_state.proofs.ReadBack.{state_read_back}
 use Rattle.rg_state.proofs.Settled.{keep_same}
@@ -26,14 +28,14 @@ front_all P (w ∷ values) v all =
 -- values that one state can stand for, but for the last one of them
 record Less (func : Func) (values : List Value) (v : Value) : Type 0 where
   suits : Suits func values
-  takes : Takes func v
+  takes : IsAdmitted func v
   like : AreLike v values
   room : length values < 2 ^ 40
 
 less : (func : Func) (values : List Value) (v : Value) → Suits func (values ++ v ∷ []) → Less func values v
 less func values v s =
     let kinds = front_all (λ w. value_kind w ≡ s.kind) values v s.alike in
-    let takes = front_all (Takes func) values v s.taken in
+    let takes = front_all (IsAdmitted func) values v s.taken in
     let few : length values + 1 ≤ 2 ^ 40 = omega (arith, s.few, length-append values (v ∷ [])) in
     record {
       suits = record { kind = s.kind; alike = kinds.0; taken = takes.0; few = omega (arith, few) };
@@ -43,7 +45,7 @@ less func values v s =
     }
 
 -- a state of no values
-pub holds_none : (func : Func) (g : Gathered) → func_of (held_of g.state) ≡ func → g.spoilt ≡ false → Stands (held_of g.state) [] → Holds func g []
+pub holds_none : (func : Func) (g : Gathered) → func_of (held_of g.state) ≡ kept_as func → g.spoilt ≡ false → Stands (held_of g.state) [] → Holds func g []
 holds_none func g own good stands = record { own = own; stands = λ s. (good, stands) }
 
 module _ (func : Func) (old new : Gathered) (values : List Value) (v : Value) (own : func_of (held_of new.state) ≡ func_of (held_of old.state)) (holds : Holds func old values) where
@@ -55,10 +57,10 @@ module _ (func : Func) (old new : Gathered) (values : List Value) (v : Value) (o
   }
 
   -- the value isn't taken
-  pub not_taken : (Takes (func_of (held_of old.state)) v → ⊥) → Holds func new (values ++ v ∷ [])
+  pub not_taken : (IsAdmitted (func_of (held_of old.state)) v → ⊥) → Holds func new (values ++ v ∷ [])
   not_taken isnt = record {
     own = own ∙ holds.own;
-    stands = λ s. absurd (isnt (subst (λ f. Takes f v) (sym holds.own) (less func values v s).takes));
+    stands = λ s. absurd (isnt (subst (λ f. IsAdmitted f v) (sym holds.own) (admitted_kept func v (less func values v s).takes)));
   }
 
   -- the state has no room for it, or is of another kind

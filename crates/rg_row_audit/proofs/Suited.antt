@@ -11,7 +11,7 @@ use Rattle.rg_metric.specs.Conditions.{value_in}
 use Rattle.rg_metric.specs.Replies.{and_value, values_in}
 use Rattle.rg_plan.specs.Named.{Node, node_at}
 use Rattle.rg_plan.specs.Plans.{Tasks}
-use Rattle.rg_state.specs.Takes.{Takes}
+use Rattle.rg_metric.specs.Admitted.{IsAdmitted}
 use Rattle.rg_engine.specs.Deeds.{handed}
 use Rattle.rg_engine.specs.Windows.{counts_at}
 use Rattle.rg_engine.proofs.Fed.{served_kind, hands_of}
@@ -42,8 +42,8 @@ suited plan events n node t served there key =
       alike = all_in (λ v. value_kind v ≡ k.0) node.agg.field (filter (counts_at node key t) events)
           (All-filter (counts_at node key t) (Gives (λ v. value_kind v ≡ k.0) node.agg.field) events
           (All-weaker (IsEventOf served.fed.fields) (Gives (λ v. value_kind v ≡ k.0) node.agg.field) (λ x is. hands_of k.0 node.agg x (k.1 x is)) events served.fed.are));
-      taken = all_in (Takes node.agg.func) node.agg.field (filter (counts_at node key t) events)
-          (All-filter (counts_at node key t) (Gives (Takes node.agg.func) node.agg.field) events
-          (All-weaker (IsEventOf served.fed.fields) (Gives (Takes node.agg.func) node.agg.field) (λ x is value handed. subst (Takes node.agg.func) (same_some (sym (k.1 x is).is ∙ handed)) (k.1 x is).takes) events served.fed.are));
+      taken = all_in (IsAdmitted node.agg.func) node.agg.field (filter (counts_at node key t) events)
+          (All-filter (counts_at node key t) (Gives (IsAdmitted node.agg.func) node.agg.field) events
+          (All-weaker (IsEventOf served.fed.fields) (Gives (IsAdmitted node.agg.func) node.agg.field) (λ x is value handed. subst (IsAdmitted node.agg.func) (same_some (sym (k.1 x is).is ∙ handed)) (k.1 x is).takes) events served.fed.are));
       few = omega (arith, vals-few node.agg.field (counts_at node key t) events, served.few);
     }

@@ -11,10 +11,11 @@ use Rattle.rg_keywords.specs.declared.func.Func.{Func}
 use Rattle.rg_metric.specs.Conditions.{passes}
 use Rattle.rg_metric.specs.Queries.{filter_test}
 use Rattle.rg_metric.specs.Replies.{in_window}
+use Rattle.rg_agg.specs.Sharing.{kept_as}
 use Rattle.rg_agg.specs.Standing.{Stands, func_of}
 use Rattle.rg_plan.specs.Named.{Node}
 use Rattle.rg_state.specs.States.{held_of}
-use Rattle.rg_state.specs.Takes.{Takes}
+use Rattle.rg_metric.specs.Admitted.{IsAdmitted}
 use Rattle.rg_engine.specs.Windows.{node_values}
 use Rattle.rg_row_audit.specs.declared.asking.Asking.{Asking}
 use Rattle.rg_row_audit.specs.declared.gathered.Gathered.{Gathered}
@@ -26,16 +27,16 @@ node_of a = record { window = a.window; condition = filter_test a.condition.now;
 abbrev pub is_counted : Node → ℕ → Event → Bool
 is_counted node t x = in_window node.window x t && passes node.condition x
 
--- values that one state of the function can stand for: of one kind, each of them one that it takes, and at most 2^40
+-- values that one state can stand for: of one kind, each of them one that the function is given, and at most 2^40
 pub record Suits (func : Func) (values : List Value) : Type 0 where
   pub kind : Kind
   pub alike : All (λ v. value_kind v ≡ kind) values
-  pub taken : All (Takes func) values
+  pub taken : All (IsAdmitted func) values
   pub few : length values ≤ 2 ^ 40
 
--- the state is of the function, and stands for these values where one of the function can
+-- the state serves the function, and stands for these values where one that does can
 pub record Holds (func : Func) (g : Gathered) (values : List Value) : Type 0 where
-  pub own : func_of (held_of g.state) ≡ func
+  pub own : func_of (held_of g.state) ≡ kept_as func
   pub stands : Suits func values → (g.spoilt ≡ false) × Stands (held_of g.state) values
 
 -- the same of what was gathered for a key: nothing exactly where there are no values

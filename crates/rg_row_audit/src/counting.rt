@@ -8,9 +8,9 @@ ghost use Rattle.rg_engine.specs.Deeds.{handed};
 ghost use Rattle.rg_row_audit.specs.Gathering.{node_of, is_counted};
 
 use crate::asking::Asking;
-use crate::comparing::is_met;
 use rg_bytes::Memory;
 use rg_event::{Event, Value, put_tagged};
+use rg_filter::passes;
 use rg_group::Key;
 use rg_metric::{Window, column_value};
 use std::alloc::Global;
@@ -19,7 +19,7 @@ use std::alloc::Global;
 pub(crate) fn counts(asking: &Asking<'_>, time: u64, event: &Event) -> bool
     ensures { result ≡ is_counted (node_of asking.now) time event.now }
 {
-    is_in(asking.window, event, time) && is_met(asking.condition, event)
+    is_in(asking.window, event, time) && passes(asking.condition, event)
 }
 
 /// Whether the event is in the window at this time: it has entered, and hasn't left.

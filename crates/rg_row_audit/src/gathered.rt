@@ -6,15 +6,13 @@ ghost use Rattle.rg_state.specs.Rows.{RowStands};
 ghost use Rattle.rg_state.specs.States.{held_of};
 ghost use Rattle.rg_row_audit.specs.Gathering.{Suits, Holds};
 
-use crate::adding::{Refusal, add_to, blank_state, func_in, is_blank};
-use crate::takes::takes;
 use rg_bytes::Memory;
 use rg_event::Value;
-use rg_metric::Func;
-use rg_state::AggState;
+use rg_metric::{Func, is_admitted};
+use rg_state::{AggState, Refusal};
 use std::alloc::Global;
 
-/// A state of a function, into which the values for a key are put, one behind another.
+/// A state that serves a function, into which the values for a key are put, one behind another.
 #[derive(Debug, Drop)]
 pub(crate) struct Gathered {
     pub(crate) state: AggState,
@@ -41,7 +39,7 @@ impl Gathered {
         ensures { IfOk result (λ gathered. Holds func gathered []) }
     {
         Ok(Gathered {
-            state: blank_state(alloc, func)?,
+            state: AggState::empty(alloc, func)?,
             spoilt: false,
         })
     }
@@ -53,11 +51,12 @@ impl Gathered {
         if self.spoilt {
             return Ok(());
         }
-        if !takes(func_in(&self.state), value) {
+        let func = self.state.func();
+        if !is_admitted(func, value) {
             self.spoilt = true;
             return Ok(());
         }
-        match add_to(&mut self.state, value) {
+        match self.state.add_fit(func, value) {
             Ok(()) => Ok(()),
             Err(Refusal::Memory) => Err(Memory),
             Err(Refusal::Unfit) => {
@@ -72,7 +71,7 @@ impl Gathered {
         requires { 0 < size_in (held_of state.now) }
         ensures { IfOk result (λ is. (func : Func) (values : List TheValue) → Holds func self.now values → Suits func values → 0 < length values → IsTrue is ↔ RowStands func (Some (held_of state.now)) values) }
     {
-        if self.spoilt || is_blank(&self.state) {
+        if self.spoilt || self.state.is_empty() {
             return Ok(false);
         }
         have_same_bytes(alloc, &self.state, state)

@@ -7,16 +7,13 @@
 //! the aggregators alone, which are made here by adding the values in order.
 #![tactic(auto)]
 
-mod adding;
 mod asking;
 mod check;
-mod comparing;
 mod counting;
 mod gathered;
 mod gathering;
 mod keeping;
 mod law;
-mod takes;
 
 pub use check::check_rows;
 pub use law::law_rows;

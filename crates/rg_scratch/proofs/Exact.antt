@@ -29,7 +29,8 @@ use Rattle.rg_plan.specs.Plans.{Tasks, plan_for, windows_of, filters_of, groups_
 use Rattle.rg_plan.proofs.Members.{All-distinct}
 use Rattle.rg_query.specs.Legal.{IsOperand, IsLegalAgg, AreLegalAggs, IsLegalQuery}
 use Rattle.rg_query.specs.Printing.{name_at}
-use Rattle.rg_query.specs.Resolving.{column_from, takes}
+use Rattle.rg_metric.specs.Admitted.{takes}
+use Rattle.rg_query.specs.Resolving.{column_from}
 use Rattle.rg_scratch.specs.Nodes.{AreExact, IsExactAt, query_at}
 
 -- ints of at most 10^12, and the sum of the squares of so many

@@ -3,3 +3,4 @@ pub mod Sums
 pub mod Counted
 pub mod Exact
 pub mod Answered
+pub mod Ordered

@@ -3,7 +3,7 @@ use Rattle.std.specs.Prelude.{◌≡◌, ℕ, ℤ, List, [], ◌∷◌, length, 
 use Rattle.std.specs.Int.{w128, int_wrap}
 use Rattle.rg_event.specs.declared.value.Value.{Value}
 use Rattle.rg_keywords.specs.declared.func.Func.{Func}
-use Rattle.rg_keywords.specs.declared.func.Func.TheVariants.{SumSq}
+use Rattle.rg_keywords.specs.declared.func.Func.TheVariants.{CountDistinct, SumSq, Median, Pct}
 use Rattle.rg_metric.specs.Answers.{numbers, total, total_of_squares, least, greatest, last_of}
 use Rattle.rg_scratch.specs.declared.tally.Ends.{Ends}
 
@@ -36,3 +36,10 @@ pub record IsTally (count : ℕ) (sum squares : ℤ) (ends : Option Ends) (value
 -- a sum of squares that is asked of these values is below 2^127
 abbrev pub IsExact : Func → List Value → Type 0
 IsExact func values = func ≡ SumSq → int_wrap w128 (total_of_squares (numbers values)) ≡ total_of_squares (numbers values)
+
+-- a function of sums or of ends
+abbrev pub IsTallied : Func → Type 0
+IsTallied CountDistinct = ⊥
+IsTallied Median = ⊥
+IsTallied (Pct percent) = ⊥
+IsTallied func = ⊤

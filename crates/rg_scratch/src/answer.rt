@@ -53,7 +53,7 @@ fn answer_queries(
     'queries: for query in 0..plan.queries() {
         match plan.nodes(query) {
             None => return Ok(answers),
-            Some(nodes) => push_answers(plan, nodes, seen, answered, &mut answers)?,
+            Some(nodes) => push_answers(alloc, plan, nodes, seen, answered, &mut answers)?,
         }
     }
     Ok(answers)
@@ -61,6 +61,7 @@ fn answer_queries(
 
 /// Adds the answers of the nodes of these numbers, in order.
 fn push_answers(
+    alloc: Global,
     plan: &TaskPlan,
     nodes: &[u32],
     seen: &[Event],
@@ -72,20 +73,26 @@ fn push_answers(
         OnOk result (answers.new ≡ answers.old ++ answers_of plan.now seen.now answered.now nodes.now) }
 {
     'nodes: for node in nodes {
-        answers.push(answer_of(plan, *node, seen, answered))?;
+        answers.push(answer_of(alloc, plan, *node, seen, answered)?)?;
     }
     Ok(())
 }
 
 /// What the node of this number answers to an event over these events; a dash where there is none.
-fn answer_of(plan: &TaskPlan, node: u32, seen: &[Event], answered: &Event) -> Answer
+fn answer_of(
+    alloc: Global,
+    plan: &TaskPlan,
+    node: u32,
+    seen: &[Event],
+    answered: &Event,
+) -> Result<Answer, Memory>
     requires { length seen.now ≤ 2 ^ 40 }
     ensures { IsExactAt seen.now answered.now (node_at plan.now node) →
-        result ≡ node_answer seen.now answered.now (node_at plan.now node) }
+        IfOk result (λ answer. answer ≡ node_answer seen.now answered.now (node_at plan.now node)) }
 {
     match asking(plan, node) {
-        None => Answer::Dash,
-        Some(asking) => answer(&asking, answered, seen),
+        None => Ok(Answer::Dash),
+        Some(asking) => answer(alloc, &asking, answered, seen),
     }
 }
 

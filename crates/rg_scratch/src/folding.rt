@@ -1,7 +1,7 @@
-ghost use Rattle.std.specs.Prelude.{◌≡◌, ◌+◌, ◌<◌, ◌≤◌, ◌^◌, length, List, [], ◌∷◌, ◌++◌, if◌then◌else◌};
+ghost use Rattle.std.specs.Prelude.{◌≡◌, ◌+◌, ◌<◌, ◌≤◌, ◌^◌, length, List, [], ◌∷◌, ◌++◌, IfOk, if◌then◌else◌};
 ghost use Rattle.std.specs.List.{filter, list_any};
 ghost use Rattle.rg_event.specs.declared.event.Event.{Event};
-ghost use Rattle.rg_metric.specs.Answers.{distinct_after};
+ghost use Rattle.rg_metric.specs.Answers.{distinct_after, numbers, percentile};
 ghost use Rattle.rg_metric.specs.Replies.{agg_answer, counts_for};
 ghost use Rattle.rg_metric.specs.Same.{same_value};
 ghost use Rattle.rg_scratch.specs.Asking.{counted, listed, query_of, value_counted};
@@ -10,20 +10,44 @@ ghost use Rattle.rg_scratch.specs.Tallies.{IsExact, IsTally};
 use crate::asking::Asking;
 use crate::comparing::are_same;
 use crate::counting::value_counted;
+use crate::sorting::{at_percent, sorted};
 use crate::tally::Tally;
+use rg_bytes::Memory;
 use rg_event::{Event, Value};
 use rg_metric::{Answer, Func};
+use std::alloc::Global;
 
 /// What an aggregator answers to an event over these events. A sum of squares is exact below 2^127.
-pub(crate) fn answer(asking: &Asking<'_>, answered: &Event, events: &[Event]) -> Answer
+pub(crate) fn answer(
+    alloc: Global,
+    asking: &Asking<'_>,
+    answered: &Event,
+    events: &[Event],
+) -> Result<Answer, Memory>
     requires { length events.now ≤ 2 ^ 40 }
     ensures { IsExact asking.now.agg.func (counted asking.now answered.now events.now) →
-        result ≡ agg_answer asking.now.agg (filter (counts_for (query_of asking.now) answered.now) events.now) }
+        IfOk result (λ answer. answer ≡ agg_answer asking.now.agg (filter (counts_for (query_of asking.now) answered.now) events.now)) }
 {
     match asking.agg.func {
-        Func::CountDistinct => Answer::Number(i128::from(different(asking, answered, events))),
-        func => tally(asking, answered, events).answer(func),
+        Func::CountDistinct => Ok(Answer::Number(i128::from(different(asking, answered, events)))),
+        Func::Median => rank(alloc, asking, answered, events, 50),
+        Func::Pct(percent) => rank(alloc, asking, answered, events, percent),
+        func => Ok(tally(asking, answered, events).answer(func)),
     }
+}
+
+/// The number at so many hundredths of those of the events that count.
+fn rank(
+    alloc: Global,
+    asking: &Asking<'_>,
+    answered: &Event,
+    events: &[Event],
+    percent: u32,
+) -> Result<Answer, Memory>
+    ensures { IfOk result (λ answer. answer ≡ percentile percent (numbers (counted asking.now answered.now events.now))) }
+{
+    let sorted = sorted(alloc, asking, answered, events)?;
+    Ok(at_percent(&sorted, percent))
 }
 
 /// The tally of the values of the events that count.

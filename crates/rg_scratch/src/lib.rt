@@ -11,6 +11,7 @@ mod comparing;
 mod counting;
 mod folding;
 mod line;
+mod sorting;
 mod tally;
 
 pub use answer::answer_from_scratch;

@@ -1,13 +1,13 @@
-ghost use Rattle.std.specs.Prelude.{◌≡◌, ◌≢◌, ◌+◌, ◌*◌, ◌+ℤ◌, ◌*ℤ◌, ◌<◌, ◌≤◌, ◌^◌, int_lt, unsigned_abs, if◌then◌else◌, [], ◌∷◌, ◌++◌, List};
+ghost use Rattle.std.specs.Prelude.{◌≡◌, ◌+◌, ◌*◌, ◌+ℤ◌, ◌*ℤ◌, ◌<◌, ◌≤◌, ◌^◌, int_lt, unsigned_abs, if◌then◌else◌, [], ◌∷◌, ◌++◌, List};
 ghost use Rattle.std.specs.Int.{w128, int_wrap};
 ghost use Rattle.rg_event.specs.declared.value.Value.{Value};
 ghost use Rattle.rg_metric.specs.Answers.{answer_of, number_of};
-ghost use Rattle.rg_scratch.specs.Tallies.{IsExact, IsTally, ends_with};
+ghost use Rattle.rg_scratch.specs.Tallies.{IsExact, IsTallied, IsTally, ends_with};
 
 use rg_event::Value;
 use rg_metric::{Answer, Func};
 
-/// What each function but the count of different values answers from, over a list of values.
+/// What the functions of sums and of ends answer from, over a list of values.
 #[derive(Drop)]
 pub(crate) struct Tally {
     /// How many values there are, at most 2^40.
@@ -60,14 +60,14 @@ impl Tally {
 
     /// What a function answers over the values. A sum of squares is exact where it is below 2^127.
     pub(crate) fn answer(&self, func: Func) -> Answer
-        requires { func ≢ Func.CountDistinct }
+        requires { IsTallied func }
         ensures { (values : List Value) → IsTally self.now.count self.now.sum self.now.squares self.now.ends values → IsExact func values → result ≡ answer_of func values }
     {
         match func {
             Func::Count => Answer::Number(i128::from(self.count)),
             Func::Sum => Answer::Number(self.sum),
             Func::SumSq => Answer::Number(self.squares),
-            Func::CountDistinct => unreachable!(),
+            Func::CountDistinct | Func::Median | Func::Pct(_) => unreachable!(),
             Func::Avg => match self.ends {
                 None => Answer::Dash,
                 Some(_) => Answer::Ratio(self.sum, self.count),
@@ -135,7 +135,7 @@ fn greater(one: i128, other: i128) -> i128
 }
 
 /// The number that a value is; 0 for a text or a flag.
-fn number(value: &Value) -> i128
+pub(crate) fn number(value: &Value) -> i128
     ensures number { result ≡ number_of value.now }
     ensures small { unsigned_abs result < 18446744073709551616 }
 {

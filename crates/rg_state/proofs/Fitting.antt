@@ -1,5 +1,5 @@
 -- A state of values that are all of one kind is one of that kind.
-use Rattle.std.proofs.Common.{◌≡◌, ◌⊎◌, inl, inr, ℕ, ◌+◌, ◌<◌, Bool, true, false, List, [], ◌∷◌, length, if◌then◌else◌, Option, Some, None, refl, sym, ◌∙◌, subst, arith}
+use Rattle.std.proofs.Common.{◌≡◌, ◌⊎◌, inl, inr, ℕ, ◌+◌, ◌<◌, Bool, true, false, List, [], ◌∷◌, length, if◌then◌else◌, Option, Some, None, refl, ap, sym, ◌∙◌, subst, arith}
 use Rattle.std.specs.List.{All, list_any}
 use Rattle.std.proofs.lemmas.List.Elements.{All-nil, All-cons, All-head, All-tail, All-weaker}
 use Rattle.rg_event.specs.declared.value.Kind.{Kind}
@@ -8,8 +8,9 @@ use Rattle.rg_event.specs.declared.value.Value.{Value}
 use Rattle.rg_event.specs.declared.value.Value.TheVariants.{Int, Id, Text, Flag}
 use Rattle.rg_keywords.specs.declared.func.Func.{Func}
 use Rattle.rg_keywords.specs.declared.func.Func.TheVariants.{Count}
-use Rattle.rg_agg.specs.Held.{Held, counted, summed, averaged, squared, queued, ended, lowest, highest, varied}
-use Rattle.rg_agg.specs.Standing.{func_of, AreThere, count_in, places}
+use Rattle.rg_agg.specs.Held.{Held, counted, summed, averaged, squared, queued, ended, lowest, highest, varied, ranked}
+use Rattle.rg_agg.specs.Sharing.{kept_as}
+use Rattle.rg_agg.specs.Standing.{func_of, AreThere, Stands, count_in, places}
 use Rattle.rg_agg.specs.Stands.{AreInts, last_behind, last_value}
 use Rattle.rg_agg.specs.Unbeaten.{is_less, is_greater, joined_to, unbeaten}
 use Rattle.rg_metric.specs.Same.{same_value}
@@ -91,7 +92,7 @@ varied_kind kind pairs values counts there all =
     All-weaker (IsCounted pairs) (λ (pair : Value × ℕ). HasKind kind pair.0)
     (λ pair is. placed_kind kind pair.0 values all (subst (λ n. 0 < n) (counts pair.0) is)) pairs (all_counted pairs there)
 
-of_kind : (kind : Option Kind) (held : Held) (values : List Value) → RowStands (func_of held) (Some held) values → All (HasKind kind) values → IsOfKind kind held
+of_kind : (kind : Option Kind) (held : Held) (values : List Value) → (func_of held ≡ func_of held) × Stands held values × (0 < length values) → All (HasKind kind) values → IsOfKind kind held
 of_kind kind (counted n) values stands all = tt
 of_kind kind (summed n sum) values stands all = ints_kind kind values stands.1.ints stands.2 all
 of_kind kind (averaged n sum) values stands all = ints_kind kind values stands.1.ints stands.2 all
@@ -101,11 +102,12 @@ of_kind kind (ended n last) values stands all = end_kind kind n last values stan
 of_kind kind (lowest n pairs) values stands all = subst (All (λ (pair : Value × ℕ). HasKind kind pair.0)) (sym stands.1.kept) (unbeaten_kind kind is_less values all)
 of_kind kind (highest n pairs) values stands all = subst (All (λ (pair : Value × ℕ). HasKind kind pair.0)) (sym stands.1.kept) (unbeaten_kind kind is_greater values all)
 of_kind kind (varied pairs) values stands all = varied_kind kind pairs values stands.1.1 stands.1.2 all
+of_kind kind (ranked pairs) values stands all = varied_kind kind pairs values stands.1.1 stands.1.2 all
 
 count_of_any : (kind : Option Kind) (held : Held) → func_of held ≡ Count → IsOfKind kind held
 count_of_any kind (counted n) is = tt
 count_of_any kind held is = absurd (cc)
 
 pub fits_kind : (func : Func) (kind : Option Kind) (held : Held) (values : List Value) → RowStands func (Some held) values → (func ≡ Count) ⊎ All (HasKind kind) values → IsFor func kind held
-fits_kind func kind held values stands (inl counts) = (stands.0, count_of_any kind held (stands.0 ∙ counts))
+fits_kind func kind held values stands (inl counts) = (stands.0, count_of_any kind held (stands.0 ∙ ap kept_as counts))
 fits_kind func kind held values stands (inr all) = (stands.0, of_kind kind held values (refl, stands.1, stands.2) all)

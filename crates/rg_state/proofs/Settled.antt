@@ -1,5 +1,6 @@
 -- What a state keeps is settled by its function and the values that it stands for.
 use Rattle.std.proofs.Common.{◌≡◌, ℕ, zero, suc, ◌<◌, Bool, true, false, List, [], ◌∷◌, length, refl, ap, sym, ◌∙◌, subst, arith}
+use Rattle.std.specs.Prelude.{⊤}
 use Rattle.std.specs.Cmp.Lexicographic.{slice_cmp}
 use Rattle.std.specs.Ordering.{nat_cmp, is_lt, ordering_reverse}
 use Rattle.std.specs.declared.cmp.Ordering.{Ordering}
@@ -12,16 +13,17 @@ use Rattle.rg_keywords.specs.declared.func.Func.TheVariants as func
 use Rattle.rg_metric.specs.Answers.{numbers, total, total_of_squares}
 use Rattle.rg_metric.specs.Same.{same_value}
 use Rattle.rg_metric.proofs.Same.{same_value-true, same_value-same}
-use Rattle.rg_agg.specs.Held.{Held, counted, summed, averaged, squared, queued, ended, lowest, highest, varied}
+use Rattle.rg_agg.specs.Held.{Held, counted, summed, averaged, squared, queued, ended, lowest, highest, varied, ranked}
 use Rattle.rg_agg.specs.Standing.{func_of, AreThere, count_in, Stands}
 use Rattle.rg_agg.specs.Stands.{last_value}
 use Rattle.rg_agg.specs.Unbeaten.{is_less, is_greater, unbeaten}
 use Rattle.rg_multiset.specs.Pairs.{AreRising}
 use Rattle.rg_multiset.specs.Reading.{is_before}
 use Rattle.rg_multiset.proofs.Places.{other_way}
+use Rattle.rg_rank.proofs.Settled.{same_ranks}
 use Rattle.rg_state.specs.States.{held_of}
 use Rattle.rg_state.specs.declared.state.AggState.{AggState}
-use Rattle.rg_state.specs.declared.state.AggState.TheVariants.{Count, Sum, Avg, SumSq, Min, Max, Distinct, First, Last}
+use Rattle.rg_state.specs.declared.state.AggState.TheVariants.{Count, Sum, Avg, SumSq, Min, Max, Distinct, Rank, First, Last}
 
 -- the order of values by their bytes
 
@@ -110,7 +112,7 @@ one_list (a ∷ xs) (b ∷ ys) rises rises' there there' counts =
     let rest = one_list xs ys (rise_behind a xs rises) (rise_behind b ys rises') there.1 there'.1 (same_behind a b xs ys rises rises' first counts) in
     λ i. (first i, count i) ∷ rest i
 
--- what a state of a function keeps of some values, but for a distinct count
+-- what a state of a function keeps of some values, but for a distinct count and a rank
 abbrev kept_of : Func → List Value → Held
 kept_of func.Count values = counted (length values)
 kept_of func.Sum values = summed (length values) (total (numbers values))
@@ -121,21 +123,29 @@ kept_of func.Max values = highest (length values) (unbeaten is_greater values)
 kept_of func.First values = queued values
 kept_of func.Last values = ended (length values) (last_value values)
 kept_of func.CountDistinct values = varied []
+kept_of func.Median values = ranked []
+kept_of (func.Pct percent) values = ranked []
 
-is_kept : (held : Held) (values : List Value) → (func_of held ≡ func.CountDistinct → ⊥) → Stands held values → held ≡ kept_of (func_of held) values
-is_kept (counted n) values not stands = ap counted stands
-is_kept (summed n sum) values not stands = λ i. summed (stands.count i) (stands.adds_up i)
-is_kept (averaged n sum) values not stands = λ i. averaged (stands.count i) (stands.adds_up i)
-is_kept (squared n sum) values not stands = λ i. squared (stands.count i) (stands.adds_up i)
-is_kept (queued kept) values not stands = ap queued stands
-is_kept (ended n last) values not stands = λ i. ended (stands.count i) (stands.ends i)
-is_kept (lowest n pairs) values not stands = λ i. lowest (stands.count i) (stands.kept i)
-is_kept (highest n pairs) values not stands = λ i. highest (stands.count i) (stands.kept i)
-is_kept (varied pairs) values not stands = absurd (not refl)
+abbrev IsSettled : Func → Type 0
+IsSettled func.CountDistinct = ⊥
+IsSettled func.Median = ⊥
+IsSettled other = ⊤
 
-by_func : (a b : Held) (values : List Value) → func_of a ≡ func_of b → (func_of a ≡ func.CountDistinct → ⊥) → Stands a values → Stands b values → a ≡ b
-by_func a b values same not stands stands' =
-    is_kept a values not stands ∙ ap (λ f. kept_of f values) same ∙ sym (is_kept b values (λ is. not (same ∙ is)) stands')
+is_kept : (held : Held) (values : List Value) → IsSettled (func_of held) → Stands held values → held ≡ kept_of (func_of held) values
+is_kept (counted n) values settled stands = ap counted stands
+is_kept (summed n sum) values settled stands = λ i. summed (stands.count i) (stands.adds_up i)
+is_kept (averaged n sum) values settled stands = λ i. averaged (stands.count i) (stands.adds_up i)
+is_kept (squared n sum) values settled stands = λ i. squared (stands.count i) (stands.adds_up i)
+is_kept (queued kept) values settled stands = ap queued stands
+is_kept (ended n last) values settled stands = λ i. ended (stands.count i) (stands.ends i)
+is_kept (lowest n pairs) values settled stands = λ i. lowest (stands.count i) (stands.kept i)
+is_kept (highest n pairs) values settled stands = λ i. highest (stands.count i) (stands.kept i)
+is_kept (varied pairs) values settled stands = absurd settled
+is_kept (ranked pairs) values settled stands = absurd settled
+
+by_func : (a b : Held) (values : List Value) → func_of a ≡ func_of b → IsSettled (func_of a) → Stands a values → Stands b values → a ≡ b
+by_func a b values same settled stands stands' =
+    is_kept a values settled stands ∙ ap (λ f. kept_of f values) same ∙ sym (is_kept b values (subst IsSettled same settled) stands')
 
 both_varied : (xs ys : List (Value × ℕ)) (values : List Value) → AreRising is_before xs → AreRising is_before ys → Stands (varied xs) values → Stands (varied ys) values → varied xs ≡ varied ys
 both_varied xs ys values rises rises' stands stands' = ap varied (one_list xs ys rises rises' stands.2 stands'.2 (λ x. stands.1 x ∙ sym (stands'.1 x)))
@@ -144,11 +154,13 @@ both_varied xs ys values rises rises' stands stands' = ap varied (one_list xs ys
 pub keep_same : (a b : AggState) (values : List Value) → func_of (held_of a) ≡ func_of (held_of b) → Stands (held_of a) values → Stands (held_of b) values → held_of a ≡ held_of b
 keep_same (Distinct state) (Distinct other) values same stands stands' = both_varied state.value.tally other.value.tally values state.value.sound.rising other.value.sound.rising stands stands'
 keep_same (Distinct state) b values same stands stands' = absurd (cc)
-keep_same (Count state) b values same stands stands' = by_func (held_of (Count state)) (held_of b) values same (λ is. absurd (cc)) stands stands'
-keep_same (Sum state) b values same stands stands' = by_func (held_of (Sum state)) (held_of b) values same (λ is. absurd (cc)) stands stands'
-keep_same (Avg state) b values same stands stands' = by_func (held_of (Avg state)) (held_of b) values same (λ is. absurd (cc)) stands stands'
-keep_same (SumSq state) b values same stands stands' = by_func (held_of (SumSq state)) (held_of b) values same (λ is. absurd (cc)) stands stands'
-keep_same (Min state) b values same stands stands' = by_func (held_of (Min state)) (held_of b) values same (λ is. absurd (cc)) stands stands'
-keep_same (Max state) b values same stands stands' = by_func (held_of (Max state)) (held_of b) values same (λ is. absurd (cc)) stands stands'
-keep_same (First state) b values same stands stands' = by_func (held_of (First state)) (held_of b) values same (λ is. absurd (cc)) stands stands'
-keep_same (Last state) b values same stands stands' = by_func (held_of (Last state)) (held_of b) values same (λ is. absurd (cc)) stands stands'
+keep_same (Rank state) (Rank other) values same stands stands' = same_ranks state.value.tree other.value.tree values state.value.sound other.value.sound stands stands'
+keep_same (Rank state) b values same stands stands' = absurd (cc)
+keep_same (Count state) b values same stands stands' = by_func (held_of (Count state)) (held_of b) values same tt stands stands'
+keep_same (Sum state) b values same stands stands' = by_func (held_of (Sum state)) (held_of b) values same tt stands stands'
+keep_same (Avg state) b values same stands stands' = by_func (held_of (Avg state)) (held_of b) values same tt stands stands'
+keep_same (SumSq state) b values same stands stands' = by_func (held_of (SumSq state)) (held_of b) values same tt stands stands'
+keep_same (Min state) b values same stands stands' = by_func (held_of (Min state)) (held_of b) values same tt stands stands'
+keep_same (Max state) b values same stands stands' = by_func (held_of (Max state)) (held_of b) values same tt stands stands'
+keep_same (First state) b values same stands stands' = by_func (held_of (First state)) (held_of b) values same tt stands stands'
+keep_same (Last state) b values same stands stands' = by_func (held_of (Last state)) (held_of b) values same tt stands stands'

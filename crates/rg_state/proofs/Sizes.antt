@@ -1,7 +1,7 @@
 -- How many values a state stands for.
 use Rattle.std.proofs.Common.{◌≡◌, List, [], length, ap, sym, ◌∙◌}
 use Rattle.std.proofs.lemmas.List.{nil_from_length}
-use Rattle.rg_agg.specs.Held.{Held, counted, summed, averaged, squared, queued, ended, lowest, highest, varied}
+use Rattle.rg_agg.specs.Held.{Held, counted, summed, averaged, squared, queued, ended, lowest, highest, varied, ranked}
 use Rattle.rg_agg.specs.Standing.{Stands, size_in}
 use Rattle.rg_event.specs.declared.value.Value.{Value}
 
@@ -15,6 +15,7 @@ size_is (ended n last) values stands = stands.count
 size_is (lowest n pairs) values stands = stands.count
 size_is (highest n pairs) values stands = stands.count
 size_is (varied pairs) values stands = stands.0
+size_is (ranked pairs) values stands = stands.0
 
 pub none_left : (held : Held) (values : List Value) → Stands held values → 0 ≡ size_in held → values ≡ []
 none_left held values stands none = nil_from_length values (sym (none ∙ size_is held values stands))

@@ -1,17 +1,19 @@
 -- What a change of one state does to its row, and to what is remembered of it.
 use Rattle.std.proofs.Common.{◌≡◌, inl, inr, ℕ, zero, suc, ◌+◌, ◌<◌, ◌==◌, ◌&&◌, ◌||◌, not, cond, Bool, true, false, Option, Some, None, refl, ap, sym, ◌∙◌, subst, arith}
 use Rattle.std.proofs.Common.{List, ◌∷◌, [], ◌++◌, length-append}
-use Rattle.std.specs.Prelude.{is_some, Ok, Err}
+use Rattle.std.specs.Prelude.{is_some, IfErr, Result, Ok, Err}
+use Rattle.std.proofs.lemmas.Result.{on_ok_weaker}
 use Rattle.std.specs.Cmp.{first_so, second_so}
 use Rattle.std.proofs.lemmas.Bool.Decides.{Decides-eqb}
 use Rattle.rg_agg.specs.Held.{Held}
+use Rattle.rg_agg.specs.Sharing.{kept_as}
 use Rattle.rg_agg.specs.Standing.{size_in, func_of, Stands}
 use Rattle.rg_event.specs.declared.value.Value.{Value}
 use Rattle.rg_keywords.specs.declared.func.Func.{Func}
 use Rattle.rg_state.specs.Kepts.{Seen, unseen, fresh, seen, shown, is_fair, is_idle, is_marked, IsMarked, Stepped}
 use Rattle.rg_state.specs.Rows.{Changed, Suits, Counts, Unfit}
 use Rattle.rg_state.specs.States.{held_of}
-use Rattle.rg_state.specs.Stepping.{Comes, Drops, Refuses, KeptStep}
+use Rattle.rg_state.specs.Stepping.{Comes, Drops, LacksRoom, Refuses, KeptStep}
 use Rattle.rg_state.specs.declared.key_rows.Kept.{Kept}
 use Rattle.rg_state.specs.declared.one.Refusal.{Refusal}
 use Rattle.rg_state.specs.declared.one.Refusal.TheVariants as refusal
@@ -103,7 +105,7 @@ named_gone kept fair none = named_by kept.there kept.named (fair_marked kept fai
 -- steps
 
 module _ (func : Func) (value : Value) (old new : Seen) where
-  pub stepped_begun : (held : Held) → old.held ≡ None → old.named ≡ true → new.held ≡ Some held → new.named ≡ old.named → new.there ≡ old.there → Changed func Add value None (Some held) → func_of held ≡ func → size_in held ≡ 1 → Stepped func Add value old new
+  pub stepped_begun : (held : Held) → old.held ≡ None → old.named ≡ true → new.held ≡ Some held → new.named ≡ old.named → new.there ≡ old.there → Changed func Add value None (Some held) → func_of held ≡ kept_as func → size_in held ≡ 1 → Stepped func Add value old new
   stepped_begun held none named is same_named same_there changed own size = record {
     changed = rw (none, is) changed;
     suits = rw none tt;
@@ -115,7 +117,7 @@ module _ (func : Func) (value : Value) (old new : Seen) where
   there_is : (held : Held) → old.held ≡ Some held → new.there ≡ cond old.named old.there true → new.there ≡ cond old.named old.there (is_some old.held)
   there_is held was is = is ∙ ap (λ (o : Option Held). cond old.named old.there (is_some o)) (sym was)
 
-  pub stepped_added : (a b : Held) → old.held ≡ Some a → new.held ≡ Some b → new.named ≡ true → new.there ≡ cond old.named old.there true → Changed func Add value (Some a) (Some b) → Suits func Add value (Some a) → func_of b ≡ func → size_in b ≡ size_in a + 1 → Stepped func Add value old new
+  pub stepped_added : (a b : Held) → old.held ≡ Some a → new.held ≡ Some b → new.named ≡ true → new.there ≡ cond old.named old.there true → Changed func Add value (Some a) (Some b) → Suits func Add value (Some a) → func_of b ≡ kept_as func → size_in b ≡ size_in a + 1 → Stepped func Add value old new
   stepped_added a b was is named there changed suits own size = record {
     changed = rw (was, is) changed;
     suits = rw was suits;
@@ -125,7 +127,7 @@ module _ (func : Func) (value : Value) (old new : Seen) where
   }
 
   taken_by : (a b : Held) (none : Bool) → (size_in b == 0) ≡ none → old.held ≡ Some a → new.held ≡ cond none None (Some b) → new.named ≡ true → new.there ≡ cond old.named old.there true → Suits func Remove value (Some a)
-      → (0 < size_in b → Changed func Remove value (Some a) (Some b)) → (size_in b ≡ 0 → Changed func Remove value (Some a) None) → func_of b ≡ func → size_in a ≡ size_in b + 1 → Stepped func Remove value old new
+      → (0 < size_in b → Changed func Remove value (Some a) (Some b)) → (size_in b ≡ 0 → Changed func Remove value (Some a) None) → func_of b ≡ kept_as func → size_in a ≡ size_in b + 1 → Stepped func Remove value old new
   taken_by a b true empty was is named there suits changed emptied own size = record {
     changed = rw (was, is) (emptied (equal (size_in b) empty));
     suits = rw was suits;
@@ -142,7 +144,7 @@ module _ (func : Func) (value : Value) (old new : Seen) where
   }
 
   pub stepped_taken : (a b : Held) → old.held ≡ Some a → new.held ≡ shown b → new.named ≡ true → new.there ≡ cond old.named old.there true → Suits func Remove value (Some a)
-      → (0 < size_in b → Changed func Remove value (Some a) (Some b)) → (size_in b ≡ 0 → Changed func Remove value (Some a) None) → func_of b ≡ func → size_in a ≡ size_in b + 1 → Stepped func Remove value old new
+      → (0 < size_in b → Changed func Remove value (Some a) (Some b)) → (size_in b ≡ 0 → Changed func Remove value (Some a) None) → func_of b ≡ kept_as func → size_in a ≡ size_in b + 1 → Stepped func Remove value old new
   stepped_taken a b was is named there suits changed emptied own size = taken_by a b (size_in b == 0) refl was is named there suits changed emptied own size
 
 -- a row that is gone, and wasn't there, needn't be remembered
@@ -156,7 +158,7 @@ stepped_forgotten func change value old new none not_there is = record {
 }
 
 -- a row where there was none
-pub stepped_fresh : (func : Func) (value : Value) (held : Held) → Changed func Add value None (Some held) → func_of held ≡ func → size_in held ≡ 1 → Stepped func Add value unseen (fresh held)
+pub stepped_fresh : (func : Func) (value : Value) (held : Held) → Changed func Add value None (Some held) → func_of held ≡ kept_as func → size_in held ≡ 1 → Stepped func Add value unseen (fresh held)
 stepped_fresh func value held changed own size = record { changed = changed; suits = tt; own = own; size = omega (arith, size); marks = record { named = inl refl; there = refl } }
 
 pub marked_fresh : (held : Held) → IsMarked unseen (fresh held)
@@ -211,10 +213,10 @@ marked_clear kept is = ap (λ (t : Bool). not t || kept.named) is
 
 -- a state of the function's own, and what becomes of its row
 
-added_row : (func : Func) (value : Value) (a b : Held) → func_of b ≡ func → ((values : List Value) → Stands a values → Stands b (values ++ value ∷ [])) → Changed func Add value (Some a) (Some b)
+added_row : (func : Func) (value : Value) (a b : Held) → func_of b ≡ kept_as func → ((values : List Value) → Stands a values → Stands b (values ++ value ∷ [])) → Changed func Add value (Some a) (Some b)
 added_row func value a b own ok = λ values is. (own, ok values is.1, omega (arith, length-append values (value ∷ [])))
 
-module _ (func : Func) (value : Value) (a b : Held) (own : func_of a ≡ func) where
+module _ (func : Func) (value : Value) (a b : Held) (own : func_of a ≡ kept_as func) where
   taken_row : func_of b ≡ func_of a → ((values : List Value) → Stands a (value ∷ values) → Stands b values) → 0 < size_in b → Changed func Remove value (Some a) (Some b)
   taken_row same ok some = λ values is. (same ∙ own, ok values is.1, subst (λ n. 0 < n) (size_is b values (ok values is.1)) some)
 
@@ -226,15 +228,39 @@ drop_refused : (func : Func) (value : Value) (a b : Held) (cause : Refusal) → 
 drop_refused func value a b cause is = λ values stands. is.unfit values stands.1
 
 -- no value comes to a state of another function
-pub other_refused : (func : Func) (value : Value) (a : Held) → (func_of a ≡ func → ⊥) → Comes func value a a (Err refusal.Unfit)
+pub other_refused : (func : Func) (value : Value) (a : Held) → (func_of a ≡ kept_as func → ⊥) → Comes func value a a (Err refusal.Unfit)
 other_refused func value a other = record {
   suits = tt;
   own = tt;
   ok = tt;
   size = tt;
   refuses = (λ values stands few like. other stands.0, λ suits. other suits.0);
+  room = λ own. absurd (other own);
   err = refl;
 }
+
+-- what comes to a state comes to it by each function that it serves
+pub comes_as : (f g : Func) (value : Value) (old new : Held) (result : Result Unit Refusal) → kept_as f ≡ kept_as g → Comes f value old new result → Comes g value old new result
+comes_as f g value old new result same is = record {
+  suits = on_ok_weaker result (λ suits. (suits.0 ∙ same, suits.1, suits.2)) is.suits;
+  own = on_ok_weaker result (λ own. own ∙ same) is.own;
+  ok = is.ok;
+  size = is.size;
+  refuses = refused_as result is.refuses;
+  room = room_as result is.room;
+  err = is.err;
+}
+  where
+    room_as : (result : Result Unit Refusal) → IfErr result (LacksRoom f value old) → IfErr result (LacksRoom g value old)
+    room_as (Ok done) room = tt
+    room_as (Err refusal.Memory) room = tt
+    room_as (Err refusal.Unfit) room = λ own. room (own ∙ sym same)
+
+    refused_as : (result : Result Unit Refusal) → IfErr result (Refuses f Add value (Some old)) → IfErr result (Refuses g Add value (Some old))
+    refused_as (Ok done) refuses = tt
+    refused_as (Err refusal.Memory) refuses = tt
+    refused_as (Err refusal.Unfit) refuses =
+        (λ values stands few like. refuses.0 values (stands.0 ∙ sym same, stands.1, stands.2) few like, λ suits. refuses.1 (suits.0 ∙ sym same, suits.1, suits.2))
 
 -- a row that stays
 abbrev pub with_state : Kept → AggState → Kept
@@ -248,7 +274,7 @@ pub add_stays : (func : Func) (value : Value) (old : Kept) (st : AggState) (caus
 add_stays func value old st cause full is = record { node = refl; stepped = tt; err = stays old st is.err; refuses = rw (shown_full (held_of old.state) full) is.refuses }
 
 -- a row that is gone begins anew
-pub kept_begun : (func : Func) (value : Value) (old : Kept) (st : AggState) → is_fair old ≡ true → (size_in (held_of old.state) == 0) ≡ true → Changed func Add value None (Some (held_of st)) → func_of (held_of st) ≡ func → size_in (held_of st) ≡ 1
+pub kept_begun : (func : Func) (value : Value) (old : Kept) (st : AggState) → is_fair old ≡ true → (size_in (held_of old.state) == 0) ≡ true → Changed func Add value None (Some (held_of st)) → func_of (held_of st) ≡ kept_as func → size_in (held_of st) ≡ 1
     → KeptStep func Add value old (with_state old st) (Ok tt)
 kept_begun func value old st fair none changed own size =
     let some : 0 < size_in (held_of st) = omega (arith, size) in
@@ -260,7 +286,7 @@ kept_begun func value old st fair none changed own size =
     }
 
 -- nothing is taken from a row of another function
-pub take_refused : (func : Func) (value : Value) (old : Kept) → (func_of (held_of old.state) ≡ func → ⊥) → KeptStep func Remove value old old (Err refusal.Unfit)
+pub take_refused : (func : Func) (value : Value) (old : Kept) → (func_of (held_of old.state) ≡ kept_as func → ⊥) → KeptStep func Remove value old old (Err refusal.Unfit)
 take_refused func value old other = record { node = refl; stepped = tt; err = refl; refuses = unfit_shown func value (held_of old.state) (λ values stands. other stands.0) }
 
 -- what a call on a row's own state does to the row, which is named then
@@ -277,7 +303,7 @@ module _ (func : Func) (value : Value) (old : Kept) where
           refuses = tt;
         }
 
-    pub kept_taken : func_of (held_of old.state) ≡ func → func_of (held_of st) ≡ func_of (held_of old.state) → Drops value (held_of old.state) (held_of st) (Ok tt) → KeptStep func Remove value old new (Ok tt)
+    pub kept_taken : func_of (held_of old.state) ≡ kept_as func → func_of (held_of st) ≡ func_of (held_of old.state) → Drops value (held_of old.state) (held_of st) (Ok tt) → KeptStep func Remove value old new (Ok tt)
     kept_taken own keeps is = record {
       node = node;
       stepped = stepped_taken func value (seen old) (seen new) (held_of old.state) (held_of st) (shown_some (held_of old.state) (omega (arith, is.size))) (ap (λ s. shown (held_of s)) same) named there

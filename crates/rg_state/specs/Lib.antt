@@ -1,4 +1,3 @@
-pub mod Takes
 pub mod Rows
 pub mod States
 pub mod Changes

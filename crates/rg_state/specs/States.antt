@@ -8,9 +8,11 @@ use Rattle.rg_event.specs.declared.value.Value.{Value}
 use Rattle.rg_keywords.specs.declared.func.Func.{Func}
 use Rattle.rg_agg.specs.declared.fault.StateFault.{StateFault}
 use Rattle.rg_agg.specs.declared.fault.StateFault.TheVariants.{Short, Unfit}
-use Rattle.rg_agg.specs.Held.{Held, counted, summed, averaged, squared, queued, ended, lowest, highest, varied, Begins, Agrees, held_bytes, counted_at, summed_at, averaged_at, squared_at, queued_at, ended_at}
+use Rattle.rg_agg.specs.Held.{Held, counted, summed, averaged, squared, queued, ended, lowest, highest, varied, ranked, Begins, Agrees, held_bytes, counted_at, summed_at, averaged_at, squared_at, queued_at, ended_at}
 use Rattle.rg_extreme.specs.Extremes.{lowest_at, highest_at}
 use Rattle.rg_distinct.specs.Varied.{varied_at}
+use Rattle.rg_rank.specs.Ranks.{ranked_at}
+use Rattle.rg_agg.specs.Sharing.{kept_as}
 use Rattle.rg_agg.specs.Standing.{func_of, size_in}
 use Rattle.rg_agg.specs.contracts.count.CountAggregate.TheImpl.{ghosts as count_ghosts}
 use Rattle.rg_agg.specs.contracts.sum.SumAggregate.TheImpl.{ghosts as sum_ghosts}
@@ -19,10 +21,11 @@ use Rattle.rg_agg.specs.contracts.sum_sq.SumSqAggregate.TheImpl.{ghosts as sum_s
 use Rattle.rg_extreme.specs.contracts.min.MinAggregate.TheImpl.{ghosts as min_ghosts}
 use Rattle.rg_extreme.specs.contracts.max.MaxAggregate.TheImpl.{ghosts as max_ghosts}
 use Rattle.rg_distinct.specs.contracts.distinct.DistinctAggregate.TheImpl.{ghosts as distinct_ghosts}
+use Rattle.rg_rank.specs.contracts.rank.RankAggregate.TheImpl.{ghosts as rank_ghosts}
 use Rattle.rg_agg.specs.contracts.first.FirstAggregate.TheImpl.{ghosts as first_ghosts}
 use Rattle.rg_agg.specs.contracts.last.LastAggregate.TheImpl.{ghosts as last_ghosts}
 use Rattle.rg_state.specs.declared.state.AggState.{AggState}
-use Rattle.rg_state.specs.declared.state.AggState.TheVariants.{Count, Sum, Avg, SumSq, Min, Max, Distinct, First, Last}
+use Rattle.rg_state.specs.declared.state.AggState.TheVariants.{Count, Sum, Avg, SumSq, Min, Max, Distinct, Rank, First, Last}
 
 -- what its aggregator says that it keeps
 abbrev pub held_of : AggState → Held
@@ -33,6 +36,7 @@ held_of (SumSq state) = sum_sq_ghosts.held state
 held_of (Min state) = min_ghosts.held state.value
 held_of (Max state) = max_ghosts.held state.value
 held_of (Distinct state) = distinct_ghosts.held state.value
+held_of (Rank state) = rank_ghosts.held state.value
 held_of (First state) = first_ghosts.held state.value
 held_of (Last state) = last_ghosts.held state.value
 
@@ -48,6 +52,7 @@ values_tagged_at tag bytes =
     else if tag == 9 then ended_at bytes
     else if tag == 21 then lowest_at bytes
     else if tag == 22 then highest_at bytes
+    else if tag == 23 then ranked_at bytes
     else Err Unfit
 
 -- the same, of all: the others keep a number of values, and a sum
@@ -87,7 +92,8 @@ IsOfKind kind (ended n (Some value)) = HasKind kind value
 IsOfKind kind (lowest n pairs) = All (λ pair. HasKind kind pair.0) pairs
 IsOfKind kind (highest n pairs) = All (λ pair. HasKind kind pair.0) pairs
 IsOfKind kind (varied pairs) = All (λ pair. HasKind kind pair.0) pairs
+IsOfKind kind (ranked pairs) = All (λ pair. HasKind kind pair.0) pairs
 
--- a state of the function, and of values of this kind
+-- a state that serves the function, of values of this kind
 abbrev pub IsFor : Func → Option Kind → Held → Type 0
-IsFor func kind held = (func_of held ≡ func) × IsOfKind kind held
+IsFor func kind held = (func_of held ≡ kept_as func) × IsOfKind kind held

@@ -2,6 +2,7 @@
 use Rattle.std.specs.Prelude.{◌≡◌, ℕ, ◌+◌, ◌<◌, ◌≤◌, ◌^◌, Bool, true, false, List, ◌∷◌, ◌++◌, [], length, take, Option, Some, Result, IfErr, OnOk, OnErr, ⊤}
 use Rattle.std.specs.List.{All}
 use Rattle.rg_agg.specs.Held.{Held}
+use Rattle.rg_agg.specs.Sharing.{kept_as}
 use Rattle.rg_agg.specs.Standing.{Stands, MayBeginWith, func_of, size_in, kind_in, IsLike}
 use Rattle.rg_bytes.specs.declared.memory.Memory.{Memory as NoMemory}
 use Rattle.rg_event.specs.declared.value.Value.{Value}
@@ -47,13 +48,19 @@ Refuses func Add value old Memory = ⊤
 Refuses func Add value old Unfit = IsUnfit func Add value old × IsRefused func Add value old
 Refuses func Remove value old refusal = IsUnfit func Remove value old
 
+-- why no value comes to a state that serves the function: for want of memory, or since it stands for no list that has room for the value
+abbrev pub LacksRoom : Func → Value → Held → Refusal → Type 0
+LacksRoom func value old Memory = ⊤
+LacksRoom func value old Unfit = func_of old ≡ kept_as func → (values : List Value) → Stands old values → length values < 2 ^ 40 → AreLike value values → ⊥
+
 -- A value comes to the back of what a state of the function keeps that it suits, or it is refused for its cause, and the state keeps the same.
 pub record Comes (func : Func) (value : Value) (old new : Held) (result : Result Unit Refusal) : Type 0 where
   pub suits : OnOk result (Suits func Add value (Some old))
-  pub own : OnOk result (func_of new ≡ func)
+  pub own : OnOk result (func_of new ≡ kept_as func)
   pub ok : OnOk result ((values : List Value) → Stands old values → Stands new (values ++ value ∷ []))
   pub size : OnOk result (size_in new ≡ size_in old + 1)
   pub refuses : IfErr result (Refuses func Add value (Some old))
+  pub room : IfErr result (LacksRoom func value old)
   pub err : OnErr result (new ≡ old)
 
 -- What a change of a row does: it is a step, or it is refused for its cause, and the row stays.

@@ -1,7 +1,5 @@
 use crate::key_rows::KeyRows;
 use crate::slots::Slots;
-use crate::state::AggState;
-use rg_agg::Aggregate;
 use rg_group::Key;
 
 /// How many slots are looked at together.
@@ -104,22 +102,7 @@ fn seen_of(rows: &KeyRows) -> u64 {
     let mut seen: u64 = 0;
     for kept in &rows.kept {
         seen = seen.wrapping_add(kept.node as u64);
-        seen = seen.wrapping_add(size_of_state(&kept.state));
+        seen = seen.wrapping_add(kept.state.size());
     }
     seen
-}
-
-/// How many values a state stands for.
-fn size_of_state(state: &AggState) -> u64 {
-    match state {
-        AggState::Count(state) => state.size(),
-        AggState::Sum(state) => state.size(),
-        AggState::Avg(state) => state.size(),
-        AggState::SumSq(state) => state.size(),
-        AggState::Min(state) => state.size(),
-        AggState::Max(state) => state.size(),
-        AggState::Distinct(state) => state.size(),
-        AggState::First(state) => state.size(),
-        AggState::Last(state) => state.size(),
-    }
 }

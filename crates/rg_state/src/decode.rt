@@ -8,6 +8,7 @@ use rg_agg::{Aggregate, Avg, Count, First, Last, StateFault, Sum, SumSq};
 use rg_bytes::ByteReader;
 use rg_distinct::Distinct;
 use rg_extreme::{Max, Min};
+use rg_rank::Rank;
 use std::alloc::Global;
 
 /// The state of one of the aggregators, as its own reading answers.
@@ -57,6 +58,7 @@ fn read_values(tag: u8, alloc: Global, from: &mut ByteReader<'_>) -> Result<AggS
         9 => decoded!(Last, read_apart(alloc, from)),
         0x15 => decoded!(Min, read_apart(alloc, from)),
         0x16 => decoded!(Max, read_apart(alloc, from)),
+        0x17 => decoded!(Rank, read_apart(alloc, from)),
         _ => Err(StateFault::Unfit),
     }
 }

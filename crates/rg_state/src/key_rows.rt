@@ -4,13 +4,13 @@ ghost use Rattle.rg_agg.specs.Standing.{size_in};
 ghost use Rattle.rg_state.specs.Kepts.{fresh, settled, told, seen, seen_at, stands_in, is_marked, is_idle, is_fair, are_sound, OthersKept, IsFirst, IsKeptSame};
 ghost use Rattle.rg_state.specs.States.{held_of};
 ghost use Rattle.rg_state.specs.Stepping.{KeptStep, RowsStep, RowsGet, SettlesAt};
-ghost use Rattle.rg_state.specs.Takes.{Takes};
+ghost use Rattle.rg_metric.specs.Admitted.{IsAdmitted};
 
 use crate::one::Refusal;
 use crate::own::first_state;
 use crate::state::AggState;
 use crate::table::Change;
-use rg_agg::{Aggregate, Count};
+use rg_agg::{Aggregate, Count, kept_as};
 use rg_bytes::Memory;
 use rg_event::Value;
 use rg_group::Key;
@@ -92,7 +92,7 @@ impl Kept {
 
     /// Begins a row that is gone anew, with one value.
     fn renew(&mut self, alloc: Global, func: Func, value: &Value) -> Result<(), Refusal>
-        requires takes { Takes func value.now }
+        requires takes { IsAdmitted func value.now }
         requires fair { is_fair self.old ≡ true }
         requires gone { (size_in (held_of self.old.state) == 0) ≡ true }
         ensures fair { is_fair self.new ≡ true }
@@ -109,7 +109,7 @@ impl Kept {
 
     /// Adds a value to a row that is there, where its state is the function's and has room for it.
     fn add(&mut self, func: Func, value: &Value) -> Result<(), Refusal>
-        requires takes { Takes func value.now }
+        requires takes { IsAdmitted func value.now }
         requires fair { is_fair self.old ≡ true }
         requires there { (size_in (held_of self.old.state) == 0) ≡ false }
         ensures fair { is_fair self.new ≡ true }
@@ -131,7 +131,7 @@ impl Kept {
         ensures fair { OnErr result (is_fair self.new ≡ true) }
         ensures step { KeptStep func Change.Remove value.now self.old self.new result }
     {
-        if self.state.func() != func {
+        if self.state.func() != kept_as(func) {
             return Err(Refusal::Unfit);
         }
         match self.state.remove(value) {
@@ -235,7 +235,7 @@ impl KeyRows {
         func: Func,
         value: &Value,
     ) -> Result<(), Refusal>
-        requires { Takes func value.now }
+        requires { IsAdmitted func value.now }
         ensures key { self.new.key ≡ self.old.key }
         ensures count { length self.old.kept.items ≤ length self.new.kept.items }
         ensures step { RowsStep func Change.Add value.now node self.old.kept.items self.new.kept.items result }
@@ -254,7 +254,7 @@ impl KeyRows {
     /// Begins the row of a node of which nothing is kept, with one value.
     #[inline(always)]
     fn begin(&mut self, alloc: Global, node: u32, func: Func, value: &Value) -> Result<(), Refusal>
-        requires takes { Takes func value.now }
+        requires takes { IsAdmitted func value.now }
         requires free { stands_in self.old.kept.items node ≡ false }
         ensures key { self.new.key ≡ self.old.key }
         ensures count { length self.old.kept.items ≤ length self.new.kept.items }

@@ -5,7 +5,7 @@ ghost use Rattle.rg_metric.specs.Answers.{answer_of};
 ghost use Rattle.rg_state.specs.Cells.{cell_in, named_in, there_in, AreBelow};
 ghost use Rattle.rg_state.specs.Changes.{SameMarks, OtherMarks, NoMarks, IsNamed, was_there};
 ghost use Rattle.rg_state.specs.Rows.{RowStands, Changed, Counts, Suits, Unfit, IsRefused, IsOf, Same, Others};
-ghost use Rattle.rg_state.specs.Takes.{Takes};
+ghost use Rattle.rg_metric.specs.Admitted.{IsAdmitted};
 
 use crate::one::Refusal;
 use crate::sheets::{Sheet, Wanted};
@@ -88,7 +88,7 @@ impl Table for MemTable {
         change: Change,
         value: &Value,
     ) -> Result<(), TableFault>
-        requires { Takes func value.now }
+        requires { IsAdmitted func value.now }
         ensures changed { ⟦<MemTable as Table>⟧.tells self.old → OnOk result (Changed func change value.now (⟦<MemTable as Table>⟧.cell self.old node key.now) (⟦<MemTable as Table>⟧.cell self.new node key.now)) }
         ensures suits { ⟦<MemTable as Table>⟧.tells self.old → OnOk result (Suits func change value.now (⟦<MemTable as Table>⟧.cell self.old node key.now)) }
         ensures own { ⟦<MemTable as Table>⟧.tells self.old → OnOk result (IsOf func (⟦<MemTable as Table>⟧.cell self.new node key.now)) }

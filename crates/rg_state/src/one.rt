@@ -1,5 +1,6 @@
 ghost use Rattle.std.specs.Prelude.{◌↔◌, IsTrue};
-ghost use Rattle.rg_agg.specs.Standing.{kind_in};
+ghost use Rattle.rg_agg.specs.Standing.{func_of, kind_in};
+ghost use Rattle.rg_metric.specs.Admitted.{IsAdmitted};
 ghost use Rattle.rg_state.specs.Kinds.{IsSame};
 ghost use Rattle.rg_state.specs.Stepping.{Comes, Drops, HasRoom};
 
@@ -8,7 +9,7 @@ use rg_event::{Kind, Value};
 
 /// Why a state stays as it is.
 #[derive(Clone, Copy, Debug, PartialEq, Eq, Hash)]
-pub(crate) enum Refusal {
+pub enum Refusal {
     /// It stands for no list of values that could be changed so.
     Unfit,
     /// Memory ran out.
@@ -28,8 +29,8 @@ fn has_room<A: Aggregate>(state: &A, value: &Value) -> bool
 /// Adds a value at the back of one aggregator's state, where there is room for it. A refusal leaves what it
 /// keeps.
 pub(crate) fn add_to<A: Aggregate>(state: &mut A, value: &Value) -> Result<(), Refusal>
-    requires { A.takes value.now }
-    ensures { Comes A.func value.now (A.held state.old) (A.held state.new) result }
+    requires { IsAdmitted A.func value.now }
+    ensures { Comes (func_of (A.held state.old)) value.now (A.held state.old) (A.held state.new) result }
 {
     if !has_room(state, value) {
         return Err(Refusal::Unfit);

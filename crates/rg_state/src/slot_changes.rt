@@ -6,7 +6,7 @@ ghost use Rattle.rg_state.specs.Cells.{slot_in, seen_in, cell_in, count_at, Same
 ghost use Rattle.rg_state.specs.Rows.{RowStands, IsOf};
 ghost use Rattle.rg_state.specs.States.{held_of};
 ghost use Rattle.rg_state.specs.SlotSteps.{Puts, SlotsGet, SlotsStep};
-ghost use Rattle.rg_state.specs.Takes.{Takes};
+ghost use Rattle.rg_metric.specs.Admitted.{IsAdmitted};
 
 use crate::one::Refusal;
 use crate::own::{blank_answer, first_state, own_answer};
@@ -29,7 +29,7 @@ impl Slots {
         func: Func,
         value: &Value,
     ) -> Result<(), Refusal>
-        requires { Takes func value.now }
+        requires { IsAdmitted func value.now }
         ensures { SlotsStep func Change.Add value.now node key.now (seen_in self.old.rows.items) (seen_in self.new.rows.items) result }
     {
         match self.find(key) {
@@ -55,7 +55,7 @@ impl Slots {
         func: Func,
         value: &Value,
     ) -> Result<(), Refusal>
-        requires takes { Takes func value.now }
+        requires takes { IsAdmitted func value.now }
         requires used { 0 < count_at self.old.rows.items slot }
         ensures { (key : List ℕ) → slot_in self.old.rows.items key ≡ Some slot → SlotsStep func Change.Add value.now node key (seen_in self.old.rows.items) (seen_in self.new.rows.items) result }
     {

@@ -1,19 +1,21 @@
 ghost use Rattle.std.specs.Prelude.{◌≡◌, ◌↔◌, IsTrue, ◌<◌, ◌^◌, ◌==◌, None, List, [], ◌++◌, IfOk, OnOk, OnErr};
 ghost use Rattle.rg_agg.specs.Held.{held_bytes};
+ghost use Rattle.rg_agg.specs.Sharing.{kept_as as kept_func};
 ghost use Rattle.rg_agg.specs.Standing.{Stands, IsLike, func_of, size_in, kind_in};
 ghost use Rattle.rg_event.specs.declared.value.Value.{Value};
 ghost use Rattle.rg_metric.specs.Answers.{answer_of};
 ghost use Rattle.rg_state.specs.States.{held_of, IsFor, IsOfKind};
 ghost use Rattle.rg_state.specs.Stepping.{Adds, Comes, Drops};
-ghost use Rattle.rg_state.specs.Takes.{Takes};
+ghost use Rattle.rg_metric.specs.Admitted.{IsAdmitted};
 
 use crate::one::{Refusal, add_to, keeps_kind, take_from};
-use rg_agg::{Aggregate, Avg, Count, First, Last, Sum, SumSq};
+use rg_agg::{Aggregate, Avg, Count, First, Last, Sum, SumSq, kept_as};
 use rg_bytes::Memory;
 use rg_distinct::Distinct;
 use rg_event::{Kind, Value};
 use rg_extreme::{Max, Min};
 use rg_metric::{Answer, Func};
+use rg_rank::Rank;
 use std::alloc::Global;
 
 /// The state of one of the aggregators. A state that keeps values stands in memory of its own, so that a row
@@ -34,6 +36,8 @@ pub enum AggState {
     Max(Box<Max>),
     /// How many distinct values there are.
     Distinct(Box<Distinct>),
+    /// The ints or ids in rising order: a median, and each percentile.
+    Rank(Box<Rank>),
     /// The first int or id.
     First(Box<First>),
     /// The last int or id.
@@ -52,6 +56,7 @@ macro_rules! each {
             AggState::Min($state) => $boxed,
             AggState::Max($state) => $boxed,
             AggState::Distinct($state) => $boxed,
+            AggState::Rank($state) => $boxed,
             AggState::First($state) => $boxed,
             AggState::Last($state) => $boxed,
         }
@@ -62,10 +67,10 @@ macro_rules! each {
 }
 
 impl AggState {
-    /// The state of no values.
-    pub(crate) fn empty(alloc: Global, func: Func) -> Result<AggState, Memory>
+    /// The state of no values that serves a function.
+    pub fn empty(alloc: Global, func: Func) -> Result<AggState, Memory>
         ensures stands { IfOk result (λ state. Stands (held_of state) []) }
-        ensures func { IfOk result (λ state. func_of (held_of state) ≡ func) }
+        ensures func { IfOk result (λ state. func_of (held_of state) ≡ kept_func func) }
         ensures size { IfOk result (λ state. size_in (held_of state) ≡ 0) }
         ensures kind { IfOk result (λ state. kind_in (held_of state) ≡ None) }
     {
@@ -77,13 +82,14 @@ impl AggState {
             Func::Min => Ok(AggState::Min(Box::new(alloc, Min::empty(alloc))?)),
             Func::Max => Ok(AggState::Max(Box::new(alloc, Max::empty(alloc))?)),
             Func::CountDistinct => Ok(AggState::Distinct(Box::new(alloc, Distinct::empty(alloc))?)),
+            Func::Median | Func::Pct(_) => Ok(AggState::Rank(Box::new(alloc, Rank::empty(alloc))?)),
             Func::First => Ok(AggState::First(Box::new(alloc, First::empty(alloc))?)),
             Func::Last => Ok(AggState::Last(Box::new(alloc, Last::empty(alloc))?)),
         }
     }
 
-    /// The function that it answers.
-    pub(crate) fn func(&self) -> Func
+    /// The function whose state it is: the median's serves each percentile.
+    pub fn func(&self) -> Func
         ensures { result ≡ func_of (held_of self.now) }
     {
         match self {
@@ -94,6 +100,7 @@ impl AggState {
             AggState::Min(_) => Func::Min,
             AggState::Max(_) => Func::Max,
             AggState::Distinct(_) => Func::CountDistinct,
+            AggState::Rank(_) => Func::Median,
             AggState::First(_) => Func::First,
             AggState::Last(_) => Func::Last,
         }
@@ -114,31 +121,50 @@ impl AggState {
                 alloc,
                 state.copy(alloc)?,
             )?)),
+            AggState::Rank(state) => Ok(AggState::Rank(Box::new(alloc, state.copy(alloc)?)?)),
             AggState::First(state) => Ok(AggState::First(Box::new(alloc, state.copy(alloc)?)?)),
             AggState::Last(state) => Ok(AggState::Last(Box::new(alloc, state.copy(alloc)?)?)),
         }
     }
 
     /// Whether it stands for no values.
-    pub(crate) fn is_empty(&self) -> bool
+    pub fn is_empty(&self) -> bool
         ensures { result ≡ (size_in (held_of self.now) == 0) }
     {
         each!(self, state => state.is_empty())
     }
 
-    /// Its function's answer over the values that it stands for.
-    pub(crate) fn answer(&self) -> Answer
+    /// How many values it stands for, at most 2^40.
+    pub fn size(&self) -> u64
+        ensures { result ≡ size_in (held_of self.now) }
+    {
+        each!(self, state => state.size())
+    }
+
+    /// The answer of a function that it serves, over the values that it stands for.
+    pub fn answer(&self, func: Func) -> Answer
+        requires { func_of (held_of self.now) ≡ kept_func func }
+        ensures { (values : List Value) → Stands (held_of self.now) values → result ≡ answer_of func values }
+    {
+        match (self, func) {
+            (AggState::Rank(state), Func::Pct(percent)) => state.percentile(percent),
+            _ => self.own_answer(),
+        }
+    }
+
+    /// The answer of the function whose state it is.
+    fn own_answer(&self) -> Answer
         ensures { (values : List Value) → Stands (held_of self.now) values → result ≡ answer_of (func_of (held_of self.now)) values }
     {
         each!(self, state => state.answer())
     }
 
-    /// Whether it is a state of this function and each value that it holds is of this kind. A count holds
-    /// none, and a sum is of ints.
+    /// Whether it is a state that serves this function and each value that it holds is of this kind. A count
+    /// holds none, and a sum is of ints.
     pub fn fits(&self, func: Func, kind: Option<Kind>) -> bool
         ensures { IsTrue result ↔ IsFor func kind (held_of self.now) }
     {
-        self.func() == func && self.is_of(kind)
+        self.func() == kept_as(func) && self.is_of(kind)
     }
 
     /// Whether each value that it holds is of this kind.
@@ -151,18 +177,19 @@ impl AggState {
             AggState::Min(state) => keeps_kind(&**state, kind),
             AggState::Max(state) => keeps_kind(&**state, kind),
             AggState::Distinct(state) => keeps_kind(&**state, kind),
+            AggState::Rank(state) => keeps_kind(&**state, kind),
             AggState::First(state) => keeps_kind(&**state, kind),
             AggState::Last(state) => keeps_kind(&**state, kind),
         }
     }
 
-    /// Adds a value at the back, where it is a state of this function that has room for it. A refusal leaves
-    /// what it keeps.
-    pub(crate) fn add_fit(&mut self, func: Func, value: &Value) -> Result<(), Refusal>
-        requires { Takes func value.now }
+    /// Adds a value at the back, where it is a state that serves this function and has room for it. A refusal
+    /// leaves what it keeps.
+    pub fn add_fit(&mut self, func: Func, value: &Value) -> Result<(), Refusal>
+        requires { IsAdmitted func value.now }
         ensures { Comes func value.now (held_of self.old) (held_of self.new) result }
     {
-        if self.func() != func {
+        if self.func() != kept_as(func) {
             return Err(Refusal::Unfit);
         }
         self.add_with_room(value)
@@ -170,16 +197,16 @@ impl AggState {
 
     /// Adds a value at the back, where there is room for it. A refusal leaves what it keeps.
     fn add_with_room(&mut self, value: &Value) -> Result<(), Refusal>
-        requires { Takes (func_of (held_of self.old)) value.now }
+        requires { IsAdmitted (func_of (held_of self.old)) value.now }
         ensures { Comes (func_of (held_of self.old)) value.now (held_of self.old) (held_of self.new) result }
     {
         each!(self, state => add_to(state, value), add_to(&mut **state, value))
     }
 
     /// Adds a value at the back. Where memory runs out it keeps what it kept.
-    pub(crate) fn add(&mut self, value: &Value) -> Result<(), Memory>
+    pub fn add(&mut self, value: &Value) -> Result<(), Memory>
         requires room { size_in (held_of self.old) < 2 ^ 40 }
-        requires takes { Takes (func_of (held_of self.old)) value.now }
+        requires takes { IsAdmitted (func_of (held_of self.old)) value.now }
         requires like { IsLike (kind_in (held_of self.old)) value.now }
         ensures func { func_of (held_of self.new) ≡ func_of (held_of self.old) }
         ensures adds { Adds value.now (held_of self.old) (held_of self.new) result }
@@ -189,7 +216,7 @@ impl AggState {
 
     /// Takes the first value away. A refusal leaves what it keeps, and comes of a state that stands for
     /// no list that begins with the value.
-    pub(crate) fn remove(&mut self, value: &Value) -> Result<(), Refusal>
+    pub fn remove(&mut self, value: &Value) -> Result<(), Refusal>
         ensures func { func_of (held_of self.new) ≡ func_of (held_of self.old) }
         ensures drops { Drops value.now (held_of self.old) (held_of self.new) result }
     {

@@ -8,7 +8,7 @@ ghost use Rattle.rg_state.specs.Changes.{SameMarks, OtherMarks, NoMarks, IsNamed
 ghost use Rattle.rg_state.specs.Counted.{WritesCounted};
 ghost use Rattle.rg_state.specs.Rows.{RowStands, Changed, Counts, Suits, Unfit, IsRefused, IsOf, Same, Others, Entry, Lists};
 ghost use Rattle.rg_state.specs.States.{held_of, IsHeld};
-ghost use Rattle.rg_state.specs.Takes.{Takes};
+ghost use Rattle.rg_metric.specs.Admitted.{IsAdmitted};
 
 use crate::state::AggState;
 use rg_event::Value;
@@ -63,7 +63,7 @@ pub trait Table {
         change: Change,
         value: &Value,
     ) -> Result<(), TableFault>
-        requires { Takes func value.now }
+        requires { IsAdmitted func value.now }
         ensures changed { tells self.old → OnOk result (Changed func change value.now (cell self.old node key.now) (cell self.new node key.now)) }
         ensures suits { tells self.old → OnOk result (Suits func change value.now (cell self.old node key.now)) }
         ensures own { tells self.old → OnOk result (IsOf func (cell self.new node key.now)) }

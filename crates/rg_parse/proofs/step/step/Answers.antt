@@ -12,6 +12,15 @@ returns-in-Field-clause-made c = c.step_field.ensures.made c.args.text.now c.req
 pub returns-in-Close-clause-made : goal.returns-in-Close-clause-made
 returns-in-Close-clause-made c = let h = rw c.in-Close.is at c.requires.state in c.step_close.ensures.made c.args.text.now h.0 h.1
 
+pub returns-in-Pct-clause-made : goal.returns-in-Pct-clause-made
+returns-in-Pct-clause-made c = c.step_pct.ensures.made c.args.text.now (rw c.in-Pct.is at c.requires.state)
+
+pub returns-in-Comma-clause-made : goal.returns-in-Comma-clause-made
+returns-in-Comma-clause-made c = let h = rw c.in-Comma.is at c.requires.state in c.step_comma.ensures.made c.args.text.now h.0 h.1
+
+pub returns-in-PctField-clause-made : goal.returns-in-PctField-clause-made
+returns-in-PctField-clause-made c = let h = rw c.in-PctField.is at c.requires.state in c.step_pct_field.ensures.made c.args.text.now c.requires.token h.0 h.1
+
 pub returns-in-AfterCall-clause-made : goal.returns-in-AfterCall-clause-made
 returns-in-AfterCall-clause-made c = c.step_after_call.ensures.made c.args.text.now (rw c.in-AfterCall.is at c.requires.state)
 

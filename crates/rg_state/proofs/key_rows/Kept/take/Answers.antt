@@ -1,4 +1,5 @@
 use Rattle.std.proofs.Common.{◌≡◌, refl, rules}
+use Rattle.rg_agg.specs.Sharing.{kept_as}
 use Rattle.rg_agg.specs.Standing.{func_of}
 use Rattle.rg_state.specs.States.{held_of}
 use Rattle.rg_state.specs.declared.key_rows.Kept.{Kept}
@@ -8,7 +9,7 @@ use Rattle.rg_state.proofs.key_rows.Kept.take.Goals as goal
 pub returns-then-ne-clause-step : goal.returns-then-ne-clause-step
 returns-then-ne-clause-step c =
     let old : Kept = c.args.self.now in
-    let other : func_of (held_of old.state) ≡ c.args.func → ⊥ = search rules in
+    let other : func_of (held_of old.state) ≡ kept_as c.args.func → ⊥ = search rules in
     take_refused c.args.func c.args.value.now old other
 
 pub returns-in-Ok-clause-marked : goal.returns-in-Ok-clause-marked
@@ -17,7 +18,7 @@ returns-in-Ok-clause-marked c = marked_named c.name.new.self c.name.ensures.name
 pub returns-in-Ok-clause-step : goal.returns-in-Ok-clause-step
 returns-in-Ok-clause-step c =
     let old : Kept = c.args.self.now in
-    let own : func_of (held_of old.state) ≡ c.args.func = search rules in
+    let own : func_of (held_of old.state) ≡ kept_as c.args.func = search rules in
     kept_taken c.args.func c.args.value.now old c.remove.new.self c.name.new.self c.name.ensures.state c.name.ensures.node c.name.ensures.named c.name.ensures.there own c.in-Ok.ensures.func c.in-Ok.ensures.drops
 
 pub returns-in-Err-clause-marked : goal.returns-in-Err-clause-marked

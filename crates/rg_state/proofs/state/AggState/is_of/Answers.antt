@@ -25,3 +25,8 @@ pub returns-in-Distinct : goal.returns-in-Distinct
 returns-in-Distinct c =
     let pairs = c.deref-in-Distinct.result.now.tally in
     rw (c.in-Distinct.is, ← c.deref-in-Distinct.ensures) (λ yes. pairs_same IsLegal c.args.kind pairs c.deref-in-Distinct.result.now.sound.alike (c.keeps_kind-in-Distinct.ensures.0 yes), λ all. c.keeps_kind-in-Distinct.ensures.1 (pairs_first c.args.kind pairs all))
+
+pub returns-in-Rank : goal.returns-in-Rank
+returns-in-Rank c =
+    let pairs = c.deref-in-Rank.result.now.tree in
+    rw (c.in-Rank.is, ← c.deref-in-Rank.ensures) (λ yes. pairs_same IsNumber c.args.kind pairs c.deref-in-Rank.result.now.sound.alike (c.keeps_kind-in-Rank.ensures.0 yes), λ all. c.keeps_kind-in-Rank.ensures.1 (pairs_first c.args.kind pairs all))

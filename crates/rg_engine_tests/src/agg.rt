@@ -1,13 +1,9 @@
-ghost use Rattle.std.specs.Prelude.{◌<◌};
-
 use crate::common::{Item, Subject, are_same, value_of};
 use crate::mixed::mixes;
-use crate::takes::{is_int, is_legal, is_number};
-use rg_agg::{Aggregate, Answer, Avg, Count, First, Last, StateFault, Sum, SumSq, Unfit, is_like};
+use rg_agg::{Aggregate, Answer, StateFault, Unfit};
 use rg_bytes::ByteReader;
-use rg_distinct::Distinct;
 use rg_event::{Kind, Value};
-use rg_extreme::{Max, Min};
+use rg_metric::is_admitted;
 use rg_state::{AggState, Func};
 use std::alloc::Global;
 
@@ -38,44 +34,10 @@ pub(crate) enum Step<'a> {
     Fails(StateFault, &'static [u8], &'static [u8]),
 }
 
-/// A state of no values.
-fn empty_of(alloc: Global, func: Func) -> Option<AggState> {
-    match func {
-        Func::Count => Some(AggState::Count(Count::empty(alloc))),
-        Func::Sum => Some(AggState::Sum(Sum::empty(alloc))),
-        Func::Avg => Some(AggState::Avg(Avg::empty(alloc))),
-        Func::SumSq => Some(AggState::SumSq(SumSq::empty(alloc))),
-        Func::Min => Some(AggState::Min(Box::new(alloc, Min::empty(alloc)).ok()?)),
-        Func::Max => Some(AggState::Max(Box::new(alloc, Max::empty(alloc)).ok()?)),
-        Func::CountDistinct => Some(AggState::Distinct(Box::new(
-            alloc,
-            Distinct::empty(alloc),
-        ).ok()?)),
-        Func::First => Some(AggState::First(Box::new(alloc, First::empty(alloc)).ok()?)),
-        Func::Last => Some(AggState::Last(Box::new(alloc, Last::empty(alloc)).ok()?)),
-    }
-}
-
-/// Whether a value that the aggregator takes is added.
-fn add<A: Aggregate>(state: &mut A, value: &Value) -> bool
-    requires { A.takes value.now }
-{
-    state.size() < 1_000 && is_like(state.kind(), value) && state.add(value).is_ok()
-}
-
-/// Whether a value is added.
+/// Whether a value is added, where the state's function takes it.
 fn adds(state: &mut AggState, value: &Value) -> bool {
-    match state {
-        AggState::Count(state) => add(state, value),
-        AggState::Sum(state) => is_int(value) && add(state, value),
-        AggState::Avg(state) => is_int(value) && add(state, value),
-        AggState::SumSq(state) => is_int(value) && add(state, value),
-        AggState::Min(state) => is_number(value) && add(&mut **state, value),
-        AggState::Max(state) => is_number(value) && add(&mut **state, value),
-        AggState::Distinct(state) => is_legal(value) && add(&mut **state, value),
-        AggState::First(state) => is_number(value) && add(&mut **state, value),
-        AggState::Last(state) => is_number(value) && add(&mut **state, value),
-    }
+    let func = state.func();
+    is_admitted(func, value) && state.add_fit(func, value).is_ok()
 }
 
 /// The same of a value that is made for it.
@@ -176,6 +138,7 @@ pub(crate) fn state_does(alloc: Global, state: &mut AggState, step: &Step<'_>) -
         AggState::Min(state) => does(alloc, &mut **state, step),
         AggState::Max(state) => does(alloc, &mut **state, step),
         AggState::Distinct(state) => does(alloc, &mut **state, step),
+        AggState::Rank(state) => does(alloc, &mut **state, step),
         AggState::First(state) => does(alloc, &mut **state, step),
         AggState::Last(state) => does(alloc, &mut **state, step),
     }
@@ -194,12 +157,12 @@ impl Subject for AggState {
     type Step = Step<'static>;
 
     fn start(alloc: Global) -> Option<AggState> {
-        empty_of(alloc, Func::Count)
+        AggState::empty(alloc, Func::Count).ok()
     }
 
     fn goes(&mut self, alloc: Global, step: &Step<'static>) -> bool {
         match step {
-            Step::New(func) => match empty_of(alloc, *func) {
+            Step::New(func) => match AggState::empty(alloc, *func).ok() {
                 Some(state) => {
                     *self = state;
                     true

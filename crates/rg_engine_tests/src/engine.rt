@@ -66,6 +66,14 @@ const VARIED: &[Agg] = &[
         func: Func::CountDistinct,
         field: 4,
     },
+    Agg {
+        func: Func::Median,
+        field: 3,
+    },
+    Agg {
+        func: Func::Pct(90),
+        field: 4,
+    },
 ];
 
 /// Ten milliseconds of all payments.

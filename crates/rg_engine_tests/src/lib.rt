@@ -21,6 +21,8 @@ mod mixed;
 #[cfg(test)]
 mod plans;
 #[cfg(test)]
+mod ranks;
+#[cfg(test)]
 mod rows;
 #[cfg(test)]
 mod scratch;
@@ -28,7 +30,5 @@ mod scratch;
 mod states;
 #[cfg(test)]
 mod table;
-#[cfg(test)]
-mod takes;
 #[cfg(test)]
 mod tally;

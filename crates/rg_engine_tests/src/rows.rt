@@ -149,6 +149,19 @@ const STATES: &[Step] = &[
         Answer::Number(2),
         Answer::Number(1),
     ),
+    // A state of a rank answers the median and each percentile.
+    Step::Copies(
+        Func::Median,
+        b"\x17\0\0\0\0\0\0\0\x02\x01\0\0\0\0\0\0\0\x05\0\0\0\0\0\0\0\x01\x01\0\0\0\0\0\0\0\x08\0\0\0\0\0\0\0\x01",
+        Answer::Number(5),
+        Answer::Number(8),
+    ),
+    Step::Copies(
+        Func::Pct(90),
+        b"\x17\0\0\0\0\0\0\0\x02\x01\0\0\0\0\0\0\0\x05\0\0\0\0\0\0\0\x01\x01\0\0\0\0\0\0\0\x08\0\0\0\0\0\0\0\x01",
+        Answer::Number(8),
+        Answer::Number(8),
+    ),
     Step::Copies(
         Func::First,
         b"\x08\0\0\0\0\0\0\0\x02\x01\0\0\0\0\0\0\0\x05\x01\0\0\0\0\0\0\0\x08",

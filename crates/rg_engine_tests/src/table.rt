@@ -3,10 +3,10 @@ ghost use Rattle.rg_agg.specs.Standing.{size_in};
 ghost use Rattle.rg_state.specs.States.{held_of};
 
 use crate::common::{Item, Subject, are_same, value_of};
-use crate::takes::takes;
 use rg_agg::StateFault;
 use rg_bytes::ByteReader;
 use rg_event::{Kind, Value};
+use rg_metric::is_admitted;
 use rg_state::{AggState, Answer, Change, Func, Key, MemTable, Table, TableFault};
 use std::alloc::Global;
 
@@ -71,7 +71,7 @@ fn changes(
     value: &Value,
     want: Result<(), TableFault>,
 ) -> bool {
-    takes(func, value) && table.change(node, key, func, change, value) == want
+    is_admitted(func, value) && table.change(node, key, func, change, value) == want
 }
 
 /// The same of a value that is made for it.

@@ -1,8 +1,8 @@
 use crate::common::{Item, Subject, are_same, assert_goes, value_of};
-use crate::takes::is_legal;
 use rg_agg::{Unfit, is_like};
 use rg_bytes::ByteReader;
 use rg_event::{Kind, Value};
+use rg_metric::{Func, is_admitted};
 use rg_multiset::Tally;
 use std::alloc::Global;
 use std::mem;
@@ -44,7 +44,7 @@ fn changes(tally: &mut Tally<Value>, value: &Value, step: &Step) -> bool {
         Step::Add(_) => {
             tally.size() < 1_000
                 && is_like(tally.kind(), value)
-                && is_legal(value)
+                && is_admitted(Func::CountDistinct, value)
                 && tally.add(value).is_ok()
         }
         Step::Remove(_) => tally.remove(value) == Ok(()),

@@ -228,6 +228,68 @@ const FAULTY: &[Case] = &[
     ),
 ];
 
+/// Ranks, and the percents and fields of them that are refused.
+const RANKS: &[Case] = &[
+    Case::Read(
+        b"SELECT median(amount), PCT(1, terminal), pct(100, amount) FROM payments OVER INFINITE",
+    ),
+    Case::Read(b"SELECT pct(00000000000000000050, amount) FROM payments OVER INFINITE"),
+    // A percent is from 1 to 100, whatever its field is.
+    Case::Faulty(
+        b"SELECT pct(0, amount) FROM payments OVER INFINITE",
+        QueryFault::WrongKind(11),
+    ),
+    Case::Faulty(
+        b"SELECT pct(101, card) FROM payments OVER INFINITE",
+        QueryFault::WrongKind(11),
+    ),
+    Case::Faulty(
+        b"SELECT pct(99999999999999999999, amount) FROM payments OVER INFINITE",
+        QueryFault::WrongKind(11),
+    ),
+    Case::Faulty(
+        b"SELECT pct(0, x) FROM payments OVER INFINITE",
+        QueryFault::UnknownName(14),
+    ),
+    // The field is an int or an id.
+    Case::Faulty(
+        b"SELECT pct(1, card) FROM payments OVER INFINITE",
+        QueryFault::WrongKind(14),
+    ),
+    Case::Faulty(
+        b"SELECT median(card) FROM payments OVER INFINITE",
+        QueryFault::WrongKind(14),
+    ),
+    // A percent has no minus, and stands in front of a comma and a field.
+    Case::Faulty(
+        b"SELECT pct(-1, amount) FROM payments OVER INFINITE",
+        QueryFault::Syntax(11),
+    ),
+    Case::Faulty(
+        b"SELECT pct(amount) FROM payments OVER INFINITE",
+        QueryFault::Syntax(11),
+    ),
+    Case::Faulty(
+        b"SELECT pct(50 amount) FROM payments OVER INFINITE",
+        QueryFault::Syntax(14),
+    ),
+    Case::Faulty(
+        b"SELECT pct(50) FROM payments OVER INFINITE",
+        QueryFault::Syntax(13),
+    ),
+    Case::Faulty(
+        b"SELECT median(50, amount) FROM payments OVER INFINITE",
+        QueryFault::Syntax(14),
+    ),
+];
+
+#[test]
+fn a_rank_has_a_percent_from_1_to_100_and_a_number_as_its_field(
+    rt: HostRuntime,
+) -> Result<(), Fail> {
+    assert_each(&rt, RANKS)
+}
+
 #[test]
 fn syntax_comes_first_then_the_first_wrong_name_then_kinds(rt: HostRuntime) -> Result<(), Fail> {
     assert_each(&rt, FAULTY)

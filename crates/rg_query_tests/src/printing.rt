@@ -69,6 +69,10 @@ const PRINTED: &[Case] = &[
         b"SELECT count(*), COUNTDISTINCT(card) FROM p WHERE b=7 GROUP BY card, a OVER infinite DELAYED BY 5 ms",
         b"SELECT count(*), countDistinct(card) FROM p WHERE b = 7 GROUP BY card, a OVER INFINITE DELAYED BY 5 ms",
     ),
+    Case::Query(
+        b"select MEDIAN(b),Pct( 05 ,b ) from p over infinite",
+        b"SELECT median(b), pct(5, b) FROM p OVER INFINITE",
+    ),
     // Parentheses stand where they are needed.
     Case::Condition(
         b"SELECT count(*) FROM p WHERE (a = 1 OR b = 2) AND NOT (c = 3 AND d = 4) AND (e = 5 AND f = 6) OVER INFINITE",

@@ -39,19 +39,19 @@ macro_rules! small {
 /// end; queries that share windows, conditions and keys. Many lines are just 3758, 9739, 11618, 65727, 76906 or 153812
 /// ms apart.
 const EACH: &str = small!(
-    "\"SELECT count(*), sum(amount), avg(amount), sumsq(amount), first(amount), last(amount), min(amount), max(amount), countDistinct(merchant) FROM payments OVER SLIDING 9739 ms\""
+    "\"SELECT count(*), sum(amount), avg(amount), sumsq(amount), first(amount), last(amount), min(amount), max(amount), countDistinct(merchant), median(amount), pct(90, amount) FROM payments OVER SLIDING 9739 ms\""
 );
 
 const CONDITIONS: &str = small!(
-    "\"SELECT count(*), sum(amount), avg(amount), sumsq(amount), first(amount), last(amount), min(amount), max(amount), countDistinct(merchant) FROM payments WHERE amount >= 2000 AND NOT (merchant < 'm5' OR shop = 2) GROUP BY card OVER SLIDING 76906 ms\", \"SELECT min(amount), max(amount), avg(amount), count(*) FROM payments WHERE amount < 3000 OR amount > 7000 AND online = FALSE OVER SLIDING 7860 ms DELAYED BY 3758 ms\""
+    "\"SELECT count(*), sum(amount), avg(amount), sumsq(amount), first(amount), last(amount), min(amount), max(amount), countDistinct(merchant), median(amount), pct(90, amount) FROM payments WHERE amount >= 2000 AND NOT (merchant < 'm5' OR shop = 2) GROUP BY card OVER SLIDING 76906 ms\", \"SELECT min(amount), max(amount), avg(amount), count(*) FROM payments WHERE amount < 3000 OR amount > 7000 AND online = FALSE OVER SLIDING 7860 ms DELAYED BY 3758 ms\""
 );
 
 const WITHOUT_END: &str = small!(
-    "\"SELECT count(*), sum(amount), last(amount), countDistinct(amount) FROM payments GROUP BY card, shop OVER INFINITE\", \"SELECT min(amount), max(amount), first(amount), last(amount) FROM payments GROUP BY shop, online OVER INFINITE DELAYED BY 3758 ms\""
+    "\"SELECT count(*), sum(amount), last(amount), countDistinct(amount), median(amount), pct(100, amount) FROM payments GROUP BY card, shop OVER INFINITE\", \"SELECT min(amount), max(amount), first(amount), last(amount) FROM payments GROUP BY shop, online OVER INFINITE DELAYED BY 3758 ms\""
 );
 
 const KINDS: &str = small!(
-    "\"SELECT min(shop), max(shop), first(shop), last(shop), countDistinct(shop), countDistinct(online), countDistinct(card) FROM payments WHERE NOT (online = TRUE AND amount > 5000) GROUP BY merchant OVER SLIDING 65727 ms\", \"SELECT min(shop), max(shop), countDistinct(merchant) FROM payments WHERE shop != 1 OVER SLIDING 5637 ms DELAYED BY 1 minute\""
+    "\"SELECT min(shop), max(shop), first(shop), last(shop), countDistinct(shop), countDistinct(online), countDistinct(card), pct(1, shop) FROM payments WHERE NOT (online = TRUE AND amount > 5000) GROUP BY merchant OVER SLIDING 65727 ms\", \"SELECT min(shop), max(shop), countDistinct(merchant) FROM payments WHERE shop != 1 OVER SLIDING 5637 ms DELAYED BY 1 minute\""
 );
 
 const SHARED: &str = asked!(

@@ -1,3 +1,6 @@
+ghost use Rattle.std.specs.Prelude.{◌≡◌};
+ghost use Rattle.rg_open.specs.Faults.{of_slots, of_reservoir};
+
 use rg_bytes::Memory;
 use rg_checkpoint::SlotFault;
 use rg_engine::EngineFault;
@@ -53,38 +56,31 @@ impl From<Memory> for OpenFault {
     }
 }
 
-/// The faults of reading the slots; `Ended` isn't among them.
-impl From<SlotFault> for OpenFault {
-    ghost use Rattle.std.specs.Prelude.{◌≡◌};
-    ghost use Rattle.rg_open.specs.Faults.{of_slots};
-
-    ghost from_gives = { λ slots fault. fault ≡ of_slots slots };
-
-    fn from(slots: SlotFault) -> OpenFault {
-        match slots {
-            SlotFault::Disk => OpenFault::Disk,
-            SlotFault::Memory => OpenFault::Memory,
-            SlotFault::Ended => OpenFault::Memory,
-        }
+/// What a fault of reading the slots is to an opening: slots that were just attached haven't ended.
+pub(crate) fn slots_fault(fault: SlotFault) -> OpenFault
+    requires { fault ≡ SlotFault.Ended → ⊥ }
+    ensures { result ≡ of_slots fault }
+{
+    match fault {
+        SlotFault::Disk => OpenFault::Disk,
+        SlotFault::Memory => OpenFault::Memory,
+        SlotFault::Ended => unreachable!(),
     }
 }
 
-/// The faults of attaching a log; `Full` and `Ended` aren't among them.
-impl From<ReservoirFault> for OpenFault {
-    ghost use Rattle.std.specs.Prelude.{◌≡◌};
-    ghost use Rattle.rg_open.specs.Faults.{of_reservoir};
-
-    ghost from_gives = { λ reservoir fault. fault ≡ of_reservoir reservoir };
-
-    fn from(reservoir: ReservoirFault) -> OpenFault {
-        match reservoir {
-            ReservoirFault::Disk => OpenFault::Disk,
-            ReservoirFault::Damaged(place) => OpenFault::Damaged(place),
-            ReservoirFault::SchemaDiffers => OpenFault::SchemaDiffers,
-            ReservoirFault::Full => OpenFault::Memory,
-            ReservoirFault::Memory => OpenFault::Memory,
-            ReservoirFault::Ended => OpenFault::Memory,
-        }
+/// What a fault of attaching a log is to an opening: nothing is appended, and the log hasn't ended.
+pub(crate) fn reservoir_fault(fault: ReservoirFault) -> OpenFault
+    requires full { fault ≡ ReservoirFault.Full → ⊥ }
+    requires ended { fault ≡ ReservoirFault.Ended → ⊥ }
+    ensures { result ≡ of_reservoir fault }
+{
+    match fault {
+        ReservoirFault::Disk => OpenFault::Disk,
+        ReservoirFault::Damaged(place) => OpenFault::Damaged(place),
+        ReservoirFault::SchemaDiffers => OpenFault::SchemaDiffers,
+        ReservoirFault::Full => unreachable!(),
+        ReservoirFault::Memory => OpenFault::Memory,
+        ReservoirFault::Ended => unreachable!(),
     }
 }
 

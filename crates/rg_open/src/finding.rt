@@ -4,7 +4,7 @@ ghost use Rattle.rg_config.specs.Read.{IsReadPlan};
 ghost use Rattle.rg_open.specs.Finds.{HasRead, HasFound, IsNotFound, LeavesStore, WritesSchema};
 ghost use Rattle.rg_open.specs.Settling.{AreSettled};
 
-use crate::fault::OpenFault;
+use crate::fault::{OpenFault, reservoir_fault, slots_fault};
 use rg_checkpoint::Slots;
 use rg_config::Plan;
 use rg_host::Host;
@@ -35,7 +35,7 @@ fn read_slots<H: Host>(alloc: Global, host: &mut H) -> Result<(Slots, Saved), Op
             let (first, second) = slots.take_both();
             Ok((slots, Saved { first, second }))
         }
-        Err(fault) => Err(OpenFault::from(fault)),
+        Err(fault) => Err(slots_fault(fault)),
     }
 }
 
@@ -63,7 +63,7 @@ pub(crate) fn find<H: Host>(alloc: Global, host: &mut H, plan: &Plan) -> Result<
         Err(fault) => {
             drop(slots);
             drop(saved);
-            Err(OpenFault::from(fault))
+            Err(reservoir_fault(fault))
         }
     }
 }

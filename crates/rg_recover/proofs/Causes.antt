@@ -1,5 +1,5 @@
 -- Which fault of the layers below a fault of a session is.
-use Rattle.std.proofs.Common.{◌≡◌, ◌⊎◌, inl, inr, ℕ, Result, Err, refl, sym, ap, subst}
+use Rattle.std.proofs.Common.{◌≡◌, ◌⊎◌, inl, inr, ℕ, Result, Err, refl, sym, ◌∙◌, ap, subst}
 use Rattle.rg_past.specs.declared.past.PastFault.TheVariants as past
 use Rattle.rg_engine.specs.declared.fault.EngineFault.{EngineFault}
 use Rattle.rg_engine.specs.declared.fault.EngineFault.TheVariants as engine
@@ -76,6 +76,12 @@ pub storing_cause : (Risen Untouched : Type 0) (fault : ReservoirFault) → (fau
 storing_cause Risen Untouched fault (inl is) disk memory ended = subst (λ (f : ReservoirFault). HasStoringCause Risen Untouched (of_reservoir f)) (sym is) (disk is)
 storing_cause Risen Untouched fault (inr (inl is)) disk memory ended = subst (λ (f : ReservoirFault). HasStoringCause Risen Untouched (of_reservoir f)) (sym is) (memory is)
 storing_cause Risen Untouched fault (inr (inr is)) disk memory ended = absurd (ended is)
+
+-- what a commit is never refused for
+pub never_stored : (fault : ReservoirFault) → (fault ≡ reservoir.Disk) ⊎ ((fault ≡ reservoir.Memory) ⊎ (fault ≡ reservoir.Ended)) → (fault ≡ reservoir.SchemaDiffers → ⊥) × (fault ≡ reservoir.Full → ⊥)
+never_stored fault (inl is) = (λ e. absurd (let t : ◌≡◌ {A = ReservoirFault} reservoir.Disk reservoir.SchemaDiffers = sym is ∙ e in cc), λ e. absurd (let t : ◌≡◌ {A = ReservoirFault} reservoir.Disk reservoir.Full = sym is ∙ e in cc))
+never_stored fault (inr (inl is)) = (λ e. absurd (let t : ◌≡◌ {A = ReservoirFault} reservoir.Memory reservoir.SchemaDiffers = sym is ∙ e in cc), λ e. absurd (let t : ◌≡◌ {A = ReservoirFault} reservoir.Memory reservoir.Full = sym is ∙ e in cc))
+never_stored fault (inr (inr is)) = (λ e. absurd (let t : ◌≡◌ {A = ReservoirFault} reservoir.Ended reservoir.SchemaDiffers = sym is ∙ e in cc), λ e. absurd (let t : ◌≡◌ {A = ReservoirFault} reservoir.Ended reservoir.Full = sym is ∙ e in cc))
 
 -- and at one fault
 pub cause_at : (Risen Untouched : Type 0) (fault other : TaskFault) → fault ≡ other → HasStoringCause Risen Untouched fault → HasStoringCause Risen Untouched other

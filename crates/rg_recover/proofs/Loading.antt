@@ -138,3 +138,10 @@ load_faults fault (inl is) = inl (ap of_reservoir is)
 load_faults fault (inr (inl is)) = inr (inl (ap of_reservoir is))
 load_faults fault (inr (inr (inl is))) = inr (inr (inr (is.0, ap of_reservoir is.1)))
 load_faults fault (inr (inr (inr is))) = inr (inr (inl (ap of_reservoir is)))
+
+-- what a load is never refused for
+pub never_load : (fault : ReservoirFault) → IsOfLoad fault → (fault ≡ reservoir.SchemaDiffers → ⊥) × (fault ≡ reservoir.Full → ⊥)
+never_load fault (inl is) = (λ e. absurd (let t : ◌≡◌ {A = ReservoirFault} reservoir.Disk reservoir.SchemaDiffers = sym is ∙ e in cc), λ e. absurd (let t : ◌≡◌ {A = ReservoirFault} reservoir.Disk reservoir.Full = sym is ∙ e in cc))
+never_load fault (inr (inl is)) = (λ e. absurd (let t : ◌≡◌ {A = ReservoirFault} reservoir.Memory reservoir.SchemaDiffers = sym is ∙ e in cc), λ e. absurd (let t : ◌≡◌ {A = ReservoirFault} reservoir.Memory reservoir.Full = sym is ∙ e in cc))
+never_load fault (inr (inr (inl is))) = (λ e. absurd (let t : ◌≡◌ {A = ReservoirFault} (reservoir.Damaged is.0) reservoir.SchemaDiffers = sym is.1 ∙ e in cc), λ e. absurd (let t : ◌≡◌ {A = ReservoirFault} (reservoir.Damaged is.0) reservoir.Full = sym is.1 ∙ e in cc))
+never_load fault (inr (inr (inr is))) = (λ e. absurd (let t : ◌≡◌ {A = ReservoirFault} reservoir.Ended reservoir.SchemaDiffers = sym is ∙ e in cc), λ e. absurd (let t : ◌≡◌ {A = ReservoirFault} reservoir.Ended reservoir.Full = sym is ∙ e in cc))

@@ -14,7 +14,7 @@ ghost use Rattle.rg_open.specs.Blame.{NodeRuns, IsPlaced};
 ghost use Rattle.rg_recover.specs.Sessions.{HasKept, IsRunning, events_of, stored_of};
 ghost use Rattle.rg_recover.specs.Stepping.{IsWithinStep, IsStored};
 
-use crate::fault::TaskFault;
+use crate::fault::{TaskFault, reservoir_fault};
 use crate::session::Session;
 use rg_host::Host;
 use rg_state::Table;
@@ -73,7 +73,7 @@ impl<T: Table> Session<T> {
             Ok(()) => Ok(()),
             Err(fault) => {
                 self.ended = true;
-                Err(TaskFault::from(fault))
+                Err(reservoir_fault(fault))
             }
         }
     }

@@ -13,7 +13,7 @@ ghost use Rattle.rg_recover.specs.Sparing.{IsSpared};
 ghost use Rattle.rg_recover.specs.Stepping.{IsWithinStep, IsStored, SlotsStay};
 ghost use Rattle.rg_recover.specs.Storing.{CanStore, StoresChunk, KeepsEvents, HasStoringCause};
 
-use crate::fault::TaskFault;
+use crate::fault::{TaskFault, reservoir_fault};
 use crate::session::Session;
 use rg_host::Host;
 use rg_open::law_steps;
@@ -31,7 +31,7 @@ pub(crate) fn commit_open<H: Host>(reservoir: &mut Reservoir, host: &mut H) -> R
     law_steps::<H>();
     match reservoir.commit(host) {
         Ok(()) => Ok(()),
-        Err(fault) => Err(TaskFault::from(fault)),
+        Err(fault) => Err(reservoir_fault(fault)),
     }
 }
 

@@ -1,3 +1,6 @@
+ghost use Rattle.std.specs.Prelude.{◌≡◌};
+ghost use Rattle.rg_recover.specs.Faults.{of_engine, of_reservoir};
+
 use rg_bytes::Memory;
 use rg_engine::EngineFault;
 use rg_past::PastFault;
@@ -51,43 +54,41 @@ impl From<Memory> for TaskFault {
     }
 }
 
-/// A session looks at its limit before it lets its engine take an event, so `Full` never comes.
-impl From<EngineFault> for TaskFault {
-    ghost use Rattle.std.specs.Prelude.{◌≡◌};
-    ghost use Rattle.rg_recover.specs.Faults.{of_engine};
-
-    ghost from_gives = { λ engine fault. fault ≡ of_engine engine };
-
-    fn from(engine: EngineFault) -> TaskFault {
-        match engine {
-            EngineFault::Past(PastFault::Disk) => TaskFault::Disk,
-            EngineFault::Past(PastFault::Damaged(place)) => TaskFault::Damaged(place),
-            EngineFault::Past(PastFault::Full) => TaskFault::Ended,
-            EngineFault::Past(PastFault::Memory) => TaskFault::Memory,
-            EngineFault::Past(PastFault::Ended) => TaskFault::Ended,
-            EngineFault::BadState(node) => TaskFault::BadState(node),
-            EngineFault::Memory => TaskFault::Memory,
-            EngineFault::Ended => TaskFault::Ended,
-            EngineFault::Table => TaskFault::Table,
-        }
+/// What a fault of the engine is to a session, which looks at its limit before it lets its engine take an
+/// event, and at whether it has ended.
+pub(crate) fn engine_fault(fault: EngineFault) -> TaskFault
+    requires full { fault ≡ EngineFault.Past PastFault.Full → ⊥ }
+    requires over { fault ≡ EngineFault.Past PastFault.Ended → ⊥ }
+    requires ended { fault ≡ EngineFault.Ended → ⊥ }
+    ensures { result ≡ of_engine fault }
+{
+    match fault {
+        EngineFault::Past(PastFault::Disk) => TaskFault::Disk,
+        EngineFault::Past(PastFault::Damaged(place)) => TaskFault::Damaged(place),
+        EngineFault::Past(PastFault::Full) => unreachable!(),
+        EngineFault::Past(PastFault::Memory) => TaskFault::Memory,
+        EngineFault::Past(PastFault::Ended) => unreachable!(),
+        EngineFault::BadState(node) => TaskFault::BadState(node),
+        EngineFault::Memory => TaskFault::Memory,
+        EngineFault::Ended => unreachable!(),
+        EngineFault::Table => TaskFault::Table,
     }
 }
 
-/// The faults of a commit; `SchemaDiffers` and `Full` aren't among them.
-impl From<ReservoirFault> for TaskFault {
-    ghost use Rattle.std.specs.Prelude.{◌≡◌};
-    ghost use Rattle.rg_recover.specs.Faults.{of_reservoir};
-
-    ghost from_gives = { λ reservoir fault. fault ≡ of_reservoir reservoir };
-
-    fn from(reservoir: ReservoirFault) -> TaskFault {
-        match reservoir {
-            ReservoirFault::Disk => TaskFault::Disk,
-            ReservoirFault::Damaged(place) => TaskFault::Damaged(place),
-            ReservoirFault::SchemaDiffers => TaskFault::Damaged(0),
-            ReservoirFault::Full => TaskFault::Ended,
-            ReservoirFault::Memory => TaskFault::Memory,
-            ReservoirFault::Ended => TaskFault::Ended,
-        }
+/// What a fault of a commit or a load is to a session: no schema is compared, nothing is appended, and the log
+/// hasn't ended.
+pub(crate) fn reservoir_fault(fault: ReservoirFault) -> TaskFault
+    requires differs { fault ≡ ReservoirFault.SchemaDiffers → ⊥ }
+    requires full { fault ≡ ReservoirFault.Full → ⊥ }
+    requires ended { fault ≡ ReservoirFault.Ended → ⊥ }
+    ensures { result ≡ of_reservoir fault }
+{
+    match fault {
+        ReservoirFault::Disk => TaskFault::Disk,
+        ReservoirFault::Damaged(place) => TaskFault::Damaged(place),
+        ReservoirFault::SchemaDiffers => unreachable!(),
+        ReservoirFault::Full => unreachable!(),
+        ReservoirFault::Memory => TaskFault::Memory,
+        ReservoirFault::Ended => unreachable!(),
     }
 }

@@ -5,7 +5,7 @@ ghost use Rattle.rg_recover.specs.Storing.{CanStore, StoresChunk, KeepsEvents, M
 ghost use Rattle.rg_recover.specs.Taking.{CanTake, AnswersReady, CarriesNodes, TakesEvent};
 
 use crate::commit::commit_open;
-use crate::fault::TaskFault;
+use crate::fault::{TaskFault, engine_fault};
 use rg_engine::Engine;
 use rg_event::{Event, Steps};
 use rg_host::Host;
@@ -40,7 +40,7 @@ pub(crate) fn take_in<H: Host, T: Table, L: Ledger>(
             let _spots = engine.spots();
             Ok(answers)
         }
-        Err(fault) => Err(TaskFault::from(fault)),
+        Err(fault) => Err(engine_fault(fault)),
     }
 }
 

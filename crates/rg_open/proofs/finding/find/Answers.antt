@@ -91,6 +91,12 @@ returns-in-Ok-attach-clause-writes g c =
       out_faults = c.attach.ensures.out_faults ∙ left.out_faults;
     }
 
+pub reservoir_fault-requires : goal.reservoir_fault-requires
+reservoir_fault-requires g c = record {
+  full = λ is. c.in-Err-attach.ensures.neither.0 (ap (λ f. Err f) is);
+  ended = λ is. c.in-Err-attach.ensures.neither.1 (ap (λ f. Err f) is);
+}
+
 pub returns-in-Err-attach-clause-refused : goal.returns-in-Err-attach-clause-refused
 returns-in-Err-attach-clause-refused g c =
     let left = c.read_slots.ensures.leaves in
@@ -101,20 +107,20 @@ returns-in-Err-attach-clause-refused g c =
     let legal = c.fields-columns.ensures.legal in
     let reads = g.met.H.Host.now_may c.args.host.now in
     record {
-      disk = λ is. rose_last (g.H.Host.disk_faults c.args.host.now) (g.H.Host.disk_faults c.read_slots.new.host) (g.H.Host.disk_faults c.attach.new.host) left.disk_faults (c.in-Err-attach.ensures.disk (ap (λ f. Err f) (log_disk fault (sym c.from.ensures ∙ is))));
-      damaged = λ p is v told. c.in-Err-attach.ensures.damaged p (ap (λ f. Err f) (log_damaged fault p (sym c.from.ensures ∙ is))) v (same ∙ told);
-      undamaged = λ v events p told has is. c.in-Err-attach.ensures.legal v events p (same ∙ told) has (ap (λ f. Err f) (log_damaged fault p (sym c.from.ensures ∙ is)));
+      disk = λ is. rose_last (g.H.Host.disk_faults c.args.host.now) (g.H.Host.disk_faults c.read_slots.new.host) (g.H.Host.disk_faults c.attach.new.host) left.disk_faults (c.in-Err-attach.ensures.disk (ap (λ f. Err f) (log_disk fault (sym c.reservoir_fault.ensures ∙ is))));
+      damaged = λ p is v told. c.in-Err-attach.ensures.damaged p (ap (λ f. Err f) (log_damaged fault p (sym c.reservoir_fault.ensures ∙ is))) v (same ∙ told);
+      undamaged = λ v events p told has is. c.in-Err-attach.ensures.legal v events p (same ∙ told) has (ap (λ f. Err f) (log_damaged fault p (sym c.reservoir_fault.ensures ∙ is)));
       never_damaged = λ p openable is.
           let v = openable.image in
           let has = for_legal payloads_one shape defaults (v 2) legal (openable.truthful v (reads v openable.told)).log openable.schema in
-          c.in-Err-attach.ensures.legal v has.0 p (same ∙ openable.told) has.1 (ap (λ f. Err f) (log_damaged fault p (sym c.from.ensures ∙ is)));
-      differs = λ is v told. c.in-Err-attach.ensures.differs (ap (λ f. Err f) (log_differs fault (sym c.from.ensures ∙ is))) v (same ∙ told);
+          c.in-Err-attach.ensures.legal v has.0 p (same ∙ openable.told) has.1 (ap (λ f. Err f) (log_damaged fault p (sym c.reservoir_fault.ensures ∙ is)));
+      differs = λ is v told. c.in-Err-attach.ensures.differs (ap (λ f. Err f) (log_differs fault (sym c.reservoir_fault.ensures ∙ is))) v (same ∙ told);
       never_differs = λ openable is.
           let v = openable.image in
           let has = for_legal payloads_one shape defaults (v 2) legal (openable.truthful v (reads v openable.told)).log openable.schema in
-          c.in-Err-attach.ensures.legal_ours v has.0 (same ∙ openable.told) has.1 (ap (λ f. Err f) (log_differs fault (sym c.from.ensures ∙ is)));
-      no_state = λ n is. (log_neither fault).1 n (sym c.from.ensures ∙ is);
-      no_table = λ is. (log_neither fault).0 (sym c.from.ensures ∙ is);
+          c.in-Err-attach.ensures.legal_ours v has.0 (same ∙ openable.told) has.1 (ap (λ f. Err f) (log_differs fault (sym c.reservoir_fault.ensures ∙ is)));
+      no_state = λ n is. (log_neither fault).1 n (sym c.reservoir_fault.ensures ∙ is);
+      no_table = λ is. (log_neither fault).0 (sym c.reservoir_fault.ensures ∙ is);
     }
 
 pub returns-in-Err-attach-clause-writes : goal.returns-in-Err-attach-clause-writes

@@ -10,7 +10,7 @@ use Rattle.rg_reservoir.specs.Views.{View}
 use Rattle.rg_run_spec.specs.Steps.{IsStepped}
 use Rattle.rg_open.specs.Opened.{IsOpenedFor}
 use Rattle.rg_open.specs.Stores.{store_of}
-use Rattle.rg_recover.proofs.Causes.{storing_cause, same_at_fault}
+use Rattle.rg_recover.proofs.Causes.{storing_cause, same_at_fault, never_stored}
 use Rattle.rg_recover.proofs.Ready.{opened_still, stepped_in_step}
 use Rattle.rg_recover.proofs.Sound.{all_stored, log_settled}
 use Rattle.rg_recover.proofs.Sparing.{spared_beside}
@@ -106,10 +106,19 @@ returns-in-Err-clause-keeps g c =
       reaches = c.commit.ensures.reaches;
     }
 
+pub reservoir_fault-requires : goal.reservoir_fault-requires
+reservoir_fault-requires g c =
+    let not = never_stored c.in-Err.fault c.in-Err.ensures.faults in
+    record {
+      differs = not.0;
+      full = not.1;
+      ended = λ is. let ended = c.in-Err.ensures.ended.0 (ap (λ v. Err v) is) in let going = c.requires.can.going in absurd cc;
+    }
+
 pub returns-in-Err-clause-cause : goal.returns-in-Err-clause-cause
 returns-in-Err-clause-cause g c =
     let h = c.args.host.now in
     let then = c.commit.new.host in
-    rw c.from.ensures (storing_cause (Rose (g.H.Host.disk_faults h) (g.H.Host.disk_faults then)) ((c.commit.new.self ≡ c.args.reservoir.now) × (then ≡ h)) c.in-Err.fault c.in-Err.ensures.faults
+    rw c.reservoir_fault.ensures (storing_cause (Rose (g.H.Host.disk_faults h) (g.H.Host.disk_faults then)) ((c.commit.new.self ≡ c.args.reservoir.now) × (then ≡ h)) c.in-Err.fault c.in-Err.ensures.faults
     (λ is. (c.in-Err.ensures.disk (ap (λ v. Err v) is)).3) (λ is. c.in-Err.ensures.memory (ap (λ v. Err v) is))
     (λ is. let ended = c.in-Err.ensures.ended.0 (ap (λ v. Err v) is) in let going = c.requires.can.going in absurd cc))

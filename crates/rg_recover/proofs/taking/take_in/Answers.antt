@@ -235,6 +235,20 @@ returns-in-Ok-take-clause-takes g c =
     })
 
 -- where the engine refused it
+pub engine_fault-requires : goal.engine_fault-requires
+engine_fault-requires g c =
+    let h = c.args.host.now in
+    let r = c.args.reservoir.now in
+    let k = c.new-past.result.host.now in
+    let m = c.new-past.result.reservoir.now in
+    let keeps = moved (λ (x : g.row.H.Denot) (y : Reservoir). KeepsEvents g.H.Host.now g.H.Host.said g.H.Host.disk_faults g.H.Host.out_faults r y h x) c.make_room.new.host k c.make_room.new.reservoir m c.new-past.ensures.host c.new-past.ensures.reservoir c.make_room.ensures.keeps in
+    let done = moved (λ (x : g.row.H.Denot) (y : Reservoir). HasStored g.H.Host.now g.H.Host.may r y h x) c.make_room.new.host k c.make_room.new.reservoir m c.new-past.ensures.host c.new-past.ensures.reservoir c.in-Ok.ensures.stores.done in
+    record {
+      full = λ is. let cause = c.take.ensures.cause past.Full (c.in-Err-take.is ∙ ap (λ v. Err v) is) in omega (arith, cause, c.requires.can.below, keeps.count, keeps.log.limit, long (g.H.Host.now k) m);
+      over = λ is. let cause = c.take.ensures.cause past.Ended (c.in-Err-take.is ∙ ap (λ v. Err v) is) in let e = sym cause ∙ done.going in cc;
+      ended = λ is. let ended = c.take.ensures.ended.0 (c.in-Err-take.is ∙ ap (λ v. Err v) is) in let e = sym ended ∙ c.requires.can.going in cc;
+    }
+
 pub returns-in-Err-take-clause-ready : goal.returns-in-Err-take-clause-ready
 returns-in-Err-take-clause-ready g c =
     let h = c.args.host.now in
@@ -245,7 +259,7 @@ returns-in-Err-take-clause-ready g c =
     let done = moved (λ (x : g.row.H.Denot) (y : Reservoir). HasStored g.H.Host.now g.H.Host.may r y h x) c.make_room.new.host k c.make_room.new.reservoir m c.new-past.ensures.host c.new-past.ensures.reservoir c.in-Ok.ensures.stores.done in
     let stores = moved (λ (x : g.row.H.Denot) (y : Reservoir). StoresChunk g.H.Host.now g.H.Host.may g.H.Host.clock g.H.Host.since g.H.Host.said c.make_room.result r y h x) c.make_room.new.host k c.make_room.new.reservoir m c.new-past.ensures.host c.new-past.ensures.reservoir c.make_room.ensures.stores in
     moved (λ (x : g.row.H.Denot) (y : Reservoir). (plan : Planned) (texts : List (List ℕ)) → IsReady plan (g.H.Host.now h) (g.H.Host.may h) (g.T.Table.tells c.args.engine.now.table) (g.T.Table.cell c.args.engine.now.table) r c.args.engine.now texts
-    → AnswersReady g.H.Host.now g.H.Host.may g.H.Host.clock g.H.Host.since g.H.Host.said g.T.Table.tells g.T.Table.cell plan texts c.args.event (Err c.from.result) r y c.args.engine.now c.take.new.self h x)
+    → AnswersReady g.H.Host.now g.H.Host.may g.H.Host.clock g.H.Host.since g.H.Host.said g.T.Table.tells g.T.Table.cell plan texts c.args.event (Err c.engine_fault.result) r y c.args.engine.now c.take.new.self h x)
     c.take.new.past.host.now _ c.take.new.past.reservoir.now _ (search rules) (search rules)
     (λ plan texts ready.
     let e = c.args.engine.now in
@@ -261,10 +275,10 @@ returns-in-Err-take-clause-ready g c =
       ready = tt;
       events = tt;
       never_bad = λ x is.
-          c.take.ensures.bad x events (c.in-Err-take.is ∙ ap (λ v. Err v) (bad_by c.in-Err-take.fault x (sym c.from.ensures ∙ same_fault _ _ is)))
+          c.take.ensures.bad x events (c.in-Err-take.is ∙ ap (λ v. Err v) (bad_by c.in-Err-take.fault x (sym c.engine_fault.ensures ∙ same_fault _ _ is)))
           (carries_on plan (g.H.Host.now k) (g.H.Host.may k) (g.T.Table.tells e.table) (g.T.Table.cell e.table) m e texts event again fits x);
       never_damaged = λ p is.
-          c.take.ensures.never_damaged p again.in_step.reservoir.sound again.in_step.stands.spots.spelled (c.in-Err-take.is ∙ ap (λ v. Err v) (damaged_by c.in-Err-take.fault p (sym c.from.ensures ∙ same_fault _ _ is)));
+          c.take.ensures.never_damaged p again.in_step.reservoir.sound again.in_step.stands.spots.spelled (c.in-Err-take.is ∙ ap (λ v. Err v) (damaged_by c.in-Err-take.fault p (sym c.engine_fault.ensures ∙ same_fault _ _ is)));
       within_step = λ keep.
           within_left g.H.Host.now g.H.Host.may g.H.Host.clock g.H.Host.since g.H.Host.said (store_of plan) keep (opened r) (stored (g.H.Host.now h) (base r)) (stored (g.H.Host.now k) (base m)) h k n (done.step plan keep log) goes.leaves
           (stores.within plan keep log);
@@ -281,18 +295,18 @@ returns-in-Err-take-clause-nodes g c =
     let done = moved (λ (x : g.row.H.Denot) (y : Reservoir). HasStored g.H.Host.now g.H.Host.may r y h x) c.make_room.new.host k c.make_room.new.reservoir m c.new-past.ensures.host c.new-past.ensures.reservoir c.in-Ok.ensures.stores.done in
     let e = c.args.engine.now in
     let fits = subst (λ (view : View). IsEventOf view.shape.fields c.args.event) (sym keeps.log.view) c.requires.can.fits in
-    moved (λ (x : g.row.H.Denot) (y : Reservoir). CarriesNodes g.H.Host.now g.H.Host.may g.T.Table.tells g.T.Table.cell {A = Answers} (Err c.from.result) r y c.args.engine.now c.take.new.self h x)
+    moved (λ (x : g.row.H.Denot) (y : Reservoir). CarriesNodes g.H.Host.now g.H.Host.may g.T.Table.tells g.T.Table.cell {A = Answers} (Err c.engine_fault.result) r y c.args.engine.now c.take.new.self h x)
     c.take.new.past.host.now _ c.take.new.past.reservoir.now _ (search rules) (search rules)
     (record {
       node = λ plan x runs. tt;
       never_bad = λ plan x runs is.
           let again = node_stored plan x (g.H.Host.now h) (g.H.Host.may h) (g.T.Table.tells e.table) (g.T.Table.cell e.table) r e runs (g.H.Host.now k) (g.H.Host.may k) m (done.log plan runs.reservoir) (done.events runs.reservoir.sound) (done.spelled runs.reservoir.sound) in
-          c.take.ensures.bad x (all_events (g.H.Host.now k) (base m) (opened m)) (c.in-Err-take.is ∙ ap (λ v. Err v) (bad_by c.in-Err-take.fault x (sym c.from.ensures ∙ same_fault _ _ is)))
+          c.take.ensures.bad x (all_events (g.H.Host.now k) (base m) (opened m)) (c.in-Err-take.is ∙ ap (λ v. Err v) (bad_by c.in-Err-take.fault x (sym c.engine_fault.ensures ∙ same_fault _ _ is)))
           (node_carries plan x (g.H.Host.now k) (g.H.Host.may k) (g.T.Table.tells e.table) (g.T.Table.cell e.table) m e again c.args.event fits);
       placed = λ plan placed. tt;
       undamaged = λ plan p placed is.
           let again = placed_stored plan (g.H.Host.now h) (g.H.Host.may h) r e placed (g.H.Host.now k) (g.H.Host.may k) m (done.log plan placed.reservoir) (done.spelled placed.reservoir.sound) in
-          c.take.ensures.never_damaged p again.reservoir.sound again.spots (c.in-Err-take.is ∙ ap (λ v. Err v) (damaged_by c.in-Err-take.fault p (sym c.from.ensures ∙ same_fault _ _ is)));
+          c.take.ensures.never_damaged p again.reservoir.sound again.spots (c.in-Err-take.is ∙ ap (λ v. Err v) (damaged_by c.in-Err-take.fault p (sym c.engine_fault.ensures ∙ same_fault _ _ is)));
     })
 
 pub returns-in-Err-take-clause-takes : goal.returns-in-Err-take-clause-takes
@@ -310,7 +324,7 @@ returns-in-Err-take-clause-takes g c =
     let s = c.take.new.past.reservoir.now in
     let goes = c.take.ensures.past.goes in
     let fault = c.in-Err-take.fault in
-    moved (λ (x : g.row.H.Denot) (y : Reservoir). TakesEvent g.H.Host.now g.H.Host.may g.H.Host.clock g.H.Host.since g.H.Host.said g.H.Host.disk_faults g.H.Host.out_faults g.T.Table.tells g.T.Table.named g.T.Table.there g.T.Table.cell g.T.Table.faults {A = Answers} (Err c.from.result) r y c.args.engine.now c.take.new.self h x)
+    moved (λ (x : g.row.H.Denot) (y : Reservoir). TakesEvent g.H.Host.now g.H.Host.may g.H.Host.clock g.H.Host.since g.H.Host.said g.H.Host.disk_faults g.H.Host.out_faults g.T.Table.tells g.T.Table.named g.T.Table.there g.T.Table.cell g.T.Table.faults {A = Answers} (Err c.engine_fault.result) r y c.args.engine.now c.take.new.self h x)
     c.take.new.past.host.now _ c.take.new.past.reservoir.now _ (search rules) (search rules)
     (record {
       log = log_then g.H.Host.said g.H.Host.disk_faults g.H.Host.out_faults r m s h k n keeps.log goes.base goes.room goes.cap goes.leaves.said_stays c.take.ensures.past.later goes.outs_stay;
@@ -326,14 +340,14 @@ returns-in-Err-take-clause-takes g c =
       going = tt;
       reaches = tt;
       slots = tt;
-      damaged = λ p is. c.take.ensures.cause (past.Damaged p) (c.in-Err-take.is ∙ ap (λ v. Err v) (damaged_by fault p (sym c.from.ensures ∙ same_fault _ _ is)));
-      disk = λ is. let cause = c.take.ensures.cause past.Disk (c.in-Err-take.is ∙ ap (λ v. Err v) (disk_by fault (sym c.from.ensures ∙ same_fault _ _ is))) in omega (arith, cause, keeps.log.disk_faults_grow);
-      table = λ is. c.take.ensures.table (c.in-Err-take.is ∙ ap (λ v. Err v) (table_by fault (sym c.from.ensures ∙ same_fault _ _ is)));
+      damaged = λ p is. c.take.ensures.cause (past.Damaged p) (c.in-Err-take.is ∙ ap (λ v. Err v) (damaged_by fault p (sym c.engine_fault.ensures ∙ same_fault _ _ is)));
+      disk = λ is. let cause = c.take.ensures.cause past.Disk (c.in-Err-take.is ∙ ap (λ v. Err v) (disk_by fault (sym c.engine_fault.ensures ∙ same_fault _ _ is))) in omega (arith, cause, keeps.log.disk_faults_grow);
+      table = λ is. c.take.ensures.table (c.in-Err-take.is ∙ ap (λ v. Err v) (table_by fault (sym c.engine_fault.ensures ∙ same_fault _ _ is)));
       not_ended = λ is.
           ⊎_elim
           (λ full. let cause = c.take.ensures.cause past.Full (c.in-Err-take.is ∙ ap (λ v. Err v) full) in omega (arith, cause, c.requires.can.below, keeps.count, keeps.log.limit, long (g.H.Host.now k) m))
           (⊎_elim
           (λ over. let cause = c.take.ensures.cause past.Ended (c.in-Err-take.is ∙ ap (λ v. Err v) over) in let e = sym cause ∙ done.going in cc)
           (λ over. let ended = c.take.ensures.ended.0 (c.in-Err-take.is ∙ ap (λ v. Err v) over) in let e = sym ended ∙ c.requires.can.going in cc))
-          (ended_by fault (sym c.from.ensures ∙ same_fault _ _ is));
+          (ended_by fault (sym c.engine_fault.ensures ∙ same_fault _ _ is));
     })

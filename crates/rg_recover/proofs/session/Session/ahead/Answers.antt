@@ -8,7 +8,7 @@ use Rattle.rg_open.specs.Stores.{store_of}
 use Rattle.rg_recover.specs.Sessions.{Sitting}
 use Rattle.rg_recover.proofs.Causes.{same_fault}
 use Rattle.rg_recover.proofs.Keeping.{keeps_still}
-use Rattle.rg_recover.proofs.Loading.{events_still, stored_still, running_ahead, node_ahead, placed_ahead, illegal_still, damaged_load, disk_load, ended_load, load_faults}
+use Rattle.rg_recover.proofs.Loading.{events_still, stored_still, running_ahead, node_ahead, placed_ahead, illegal_still, damaged_load, disk_load, ended_load, load_faults, never_load}
 use Rattle.rg_recover.proofs.Stays.{slots_quiet}
 use Rattle.rg_recover.proofs.Within.{quiet_within, quiet_stored}
 use Rattle.rg_recover.proofs.session.Session.ahead.Goals as goal
@@ -82,6 +82,18 @@ pub returns-in-Err-clause-within_step : goal.returns-in-Err-clause-within_step
 returns-in-Err-clause-within_step g c = rw (← c.self.view_is) (λ plan keep runs.
     quiet_within g.H.Host.now g.H.Host.may g.H.Host.clock g.H.Host.since g.H.Host.said (store_of plan) keep (opened c.self.inside.reservoir) c.args.host.now c.ahead.new.host c.ahead.ensures.leaves)
 
+pub reservoir_fault-requires : goal.reservoir_fault-requires
+reservoir_fault-requires g c =
+    let not = never_load c.in-Err.fault c.in-Err.ensures.faults in
+    record {
+      differs = not.0;
+      full = not.1;
+      ended = λ is.
+          let ended = c.in-Err.ensures.ended.0 (ap (λ v. Err v) is) in
+          let goes = c.self.invariant.reservoir_goes c.if-self.false in
+          absurd cc;
+    }
+
 pub returns-in-Err-clause-events : goal.returns-in-Err-clause-events
 returns-in-Err-clause-events g c = rw (← c.self.view_is)
     (let h = g.H.Host.now c.args.host.now in
@@ -94,30 +106,30 @@ returns-in-Err-clause-never_damaged g c = rw (← c.self.view_is) (λ plan p run
     let h = c.args.host.now in
     let r = c.self.inside.reservoir in
     let spelled = subst (λ (l : List Spot). All (Spells (g.H.Host.now h) (base r) (opened r)) l) (sym c.spots.ensures.spots) runs.ready.in_step.stands.spots.spelled in
-    c.in-Err.ensures.never_damaged p runs.ready.in_step.reservoir.sound spelled (ap (λ v. Err v) (damaged_load c.in-Err.fault p c.in-Err.ensures.faults (sym c.from.ensures ∙ same_fault c.from.result _ is))))
+    c.in-Err.ensures.never_damaged p runs.ready.in_step.reservoir.sound spelled (ap (λ v. Err v) (damaged_load c.in-Err.fault p c.in-Err.ensures.faults (sym c.reservoir_fault.ensures ∙ same_fault c.reservoir_fault.result _ is))))
 
 pub returns-in-Err-clause-undamaged : goal.returns-in-Err-clause-undamaged
 returns-in-Err-clause-undamaged g c = rw (← c.self.view_is) (λ plan p placed is.
     let h = c.args.host.now in
     let r = c.self.inside.reservoir in
     let spelled = subst (λ (l : List Spot). All (Spells (g.H.Host.now h) (base r) (opened r)) l) (sym c.spots.ensures.spots) placed.spots in
-    c.in-Err.ensures.never_damaged p placed.reservoir.sound spelled (ap (λ v. Err v) (damaged_load c.in-Err.fault p c.in-Err.ensures.faults (sym c.from.ensures ∙ same_fault c.from.result _ is))))
+    c.in-Err.ensures.never_damaged p placed.reservoir.sound spelled (ap (λ v. Err v) (damaged_load c.in-Err.fault p c.in-Err.ensures.faults (sym c.reservoir_fault.ensures ∙ same_fault c.reservoir_fault.result _ is))))
 
 pub returns-in-Err-clause-damaged : goal.returns-in-Err-clause-damaged
 returns-in-Err-clause-damaged g c = λ p is.
     illegal_still (g.H.Host.now c.args.host.now) (g.H.Host.now c.ahead.new.host) c.self.inside.reservoir c.ahead.new.self c.ahead.ensures.leaves.now_stays c.ahead.ensures.stays p
-    (c.in-Err.ensures.damaged p (ap (λ v. Err v) (damaged_load c.in-Err.fault p c.in-Err.ensures.faults (sym c.from.ensures ∙ same_fault c.from.result _ is))))
+    (c.in-Err.ensures.damaged p (ap (λ v. Err v) (damaged_load c.in-Err.fault p c.in-Err.ensures.faults (sym c.reservoir_fault.ensures ∙ same_fault c.reservoir_fault.result _ is))))
 
 pub returns-in-Err-clause-disk : goal.returns-in-Err-clause-disk
-returns-in-Err-clause-disk g c = λ is. c.in-Err.ensures.disk (ap (λ v. Err v) (disk_load c.in-Err.fault (sym c.from.ensures ∙ same_fault c.from.result _ is)))
+returns-in-Err-clause-disk g c = λ is. c.in-Err.ensures.disk (ap (λ v. Err v) (disk_load c.in-Err.fault (sym c.reservoir_fault.ensures ∙ same_fault c.reservoir_fault.result _ is)))
 
 pub returns-in-Err-clause-faults : goal.returns-in-Err-clause-faults
-returns-in-Err-clause-faults g c = rw c.from.ensures (load_faults c.in-Err.fault c.in-Err.ensures.faults)
+returns-in-Err-clause-faults g c = rw c.reservoir_fault.ensures (load_faults c.in-Err.fault c.in-Err.ensures.faults)
 
 pub returns-in-Err-clause-ended : goal.returns-in-Err-clause-ended
 returns-in-Err-clause-ended g c = rw (← c.self.view_is) (
   λ is.
-      let fault = ended_load c.in-Err.fault c.in-Err.ensures.faults (sym c.from.ensures ∙ same_fault c.from.result _ is) in
+      let fault = ended_load c.in-Err.fault c.in-Err.ensures.faults (sym c.reservoir_fault.ensures ∙ same_fault c.reservoir_fault.result _ is) in
       let ended = c.in-Err.ensures.ended.0 (ap (λ v. Err v) fault) in
       let goes = c.self.invariant.reservoir_goes c.if-self.false in
       absurd cc,
@@ -126,7 +138,7 @@ returns-in-Err-clause-ended g c = rw (← c.self.view_is) (
 
 pub returns-in-Err-clause-untouched : goal.returns-in-Err-clause-untouched
 returns-in-Err-clause-untouched g c = λ is.
-    let fault = ended_load c.in-Err.fault c.in-Err.ensures.faults (sym c.from.ensures ∙ same_fault c.from.result _ is) in
+    let fault = ended_load c.in-Err.fault c.in-Err.ensures.faults (sym c.reservoir_fault.ensures ∙ same_fault c.reservoir_fault.result _ is) in
     let ended = c.in-Err.ensures.ended.0 (ap (λ v. Err v) fault) in
     let goes = c.self.invariant.reservoir_goes c.if-self.false in
     absurd cc

@@ -18,7 +18,7 @@ const NAME: Candidate = Candidate {
 const WORDS: [Candidate; 2] = [
     Candidate {
         tried: "sum",
-        told: "a function (count, sum, avg, sumsq, min, max, countDistinct, first, last)",
+        told: "a function (count, sum, avg, sumsq, min, max, countDistinct, first, last, median, pct)",
     },
     Candidate {
         tried: "ms",
@@ -107,7 +107,7 @@ const TOKENS: [Candidate; 19] = [
 ];
 
 /// Whether some query goes on behind this front with this token.
-fn goes_on(alloc: Global, front: &str, token: &str) -> Result<bool, AllocError> {
+pub(crate) fn goes_on(alloc: Global, front: &str, token: &str) -> Result<bool, AllocError> {
     let text = format!(in alloc; "{front} {token}")?;
     match read_syntax(alloc, text.as_bytes()) {
         Ok(_) => Ok(true),

@@ -99,6 +99,19 @@ pub(crate) fn top_hints(plan: Refused<'_>, out: &mut String) -> Result<(), Alloc
     write_queries_fault(plan, out)
 }
 
+/// What a setting is to be.
+fn wanted_of(key: &str) -> &'static str {
+    match key {
+        "header" => "is true or false, without quotes",
+        "grace" => "is a whole number of milliseconds, without quotes",
+        "cache" =>
+            "is a whole number of chunks, 64 where it isn't set; times chunk it is at most 65536",
+        "chunk" =>
+            "is a whole number of payments, 1024 where it isn't set; times cache it is at most 65536",
+        _ => "is a whole number of payments, without quotes",
+    }
+}
+
 /// Writes where the settings stand, and which of them isn't known.
 pub(crate) fn settings_hints(plan: Refused<'_>, out: &mut String) -> Result<(), AllocError> {
     let Some(settings) = plan.top.get("settings").and_then(Value::as_table) else {
@@ -109,7 +122,8 @@ pub(crate) fn settings_hints(plan: Refused<'_>, out: &mut String) -> Result<(), 
         write_line(plan.text, key, out)?;
         if is_one_of(&SETTINGS, key) {
             let kind = value.type_str();
-            write!(out, "{key} is set, to a value of the kind {kind}\n")?;
+            let wanted = wanted_of(key);
+            write!(out, "{key} is of the type {kind}, and {wanted}\n")?;
         } else if key == "queries" {
             out.push_str("queries stands below [settings]: move it above the first table\n")?;
         } else {

@@ -11,6 +11,7 @@ mod keys;
 mod query;
 mod refused;
 mod schema;
+mod shapes;
 mod slips;
 mod stream;
 

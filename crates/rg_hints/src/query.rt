@@ -2,6 +2,7 @@ use crate::columns::{column_named, write_columns};
 use crate::excerpt::write_excerpt;
 use crate::expected::write_expected;
 use crate::refused::Refused;
+use crate::shapes::write_shape;
 use crate::slips::{first_word, write_slip};
 use rg_query::QueryFault;
 use std::alloc::{AllocError, Global};
@@ -15,7 +16,7 @@ fn query_text(plan: Refused<'_>, number: u32) -> Option<&'_ str> {
 
 /// The kinds that functions take.
 const CALL_KINDS: &str =
-    "  sum, avg and sumsq take an int; min, max, first and last an int or an id; countDistinct takes each kind\n";
+    "  sum, avg and sumsq take an int; min, max, first, last, median and pct an int or an id; countDistinct takes each kind; pct takes a number from 1 to 100 first\n";
 
 /// The kinds of literals, and what they are compared by.
 const LITERAL_KINDS: &str =
@@ -33,6 +34,13 @@ fn is_before_stream(front: &str) -> bool {
         Some(word) => word.eq_ignore_ascii_case("FROM"),
         None => false,
     }
+}
+
+/// Whether the stream has been named before the end of this front.
+fn is_behind_from(front: &str) -> bool {
+    front
+        .split_ascii_whitespace()
+        .any(|word| word.eq_ignore_ascii_case("FROM"))
 }
 
 /// Writes what a name may be at the end of this front.
@@ -71,10 +79,10 @@ fn write_kinds(
             write!(out, "  {name} is of the kind {kind}\n")?;
         }
     }
-    if front.trim_end().ends_with('(') {
-        return out.push_str(CALL_KINDS);
+    if is_behind_from(front) {
+        return out.push_str(LITERAL_KINDS);
     }
-    out.push_str(LITERAL_KINDS)
+    out.push_str(CALL_KINDS)
 }
 
 /// Writes what helps with a query of this text that goes wrong for this reason.
@@ -90,7 +98,9 @@ fn write_reason(
     let behind = text.get(place..).unwrap_or("");
     match fault {
         QueryFault::Syntax(_) => {
-            write_slip(text, place, out)?;
+            if !write_slip(text, place, out)? {
+                write_shape(alloc, front, behind, out)?;
+            }
             write_expected(alloc, front, out)
         }
         QueryFault::UnknownName(_) => write_names(plan, front, behind, out),

@@ -24,6 +24,9 @@ fn write_hints(
         ConfigFault::Query(number, QueryRefusal::Text(fault)) => {
             query_hints(alloc, plan, number, fault, out)
         }
+        ConfigFault::Query(_, QueryRefusal::TooManyAggs) => {
+            out.push_str("  an answer is a function behind SELECT: make two queries of this one\n")
+        }
         ConfigFault::Stream => stream_hints(alloc, plan, out),
         ConfigFault::Defaults(_) => default_hints(plan, out),
         ConfigFault::Settings(SettingsFault::TopKey | SettingsFault::Queries) => {
@@ -38,10 +41,12 @@ fn write_hints(
 /// that helps.
 pub fn hints(alloc: Global, bytes: &[u8], fault: ConfigFault) -> Result<String, AllocError> {
     let mut out = String::new(alloc);
+    let Ok(text) = str::from_utf8(bytes) else {
+        out.push_str("  a plan is a text in UTF-8\n")?;
+        return Ok(out);
+    };
     if let Ok(top) = toml::table_from_slice(alloc, bytes) {
-        if let Ok(text) = str::from_utf8(bytes) {
-            write_hints(alloc, Refused { text, top: &top }, fault, &mut out)?;
-        }
+        write_hints(alloc, Refused { text, top: &top }, fault, &mut out)?;
     }
     Ok(out)
 }

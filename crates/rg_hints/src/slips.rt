@@ -28,7 +28,7 @@ const DISTINCT: &str = "different values are counted by countDistinct(column)";
 const QUOTES: &str = "a text stands in single quotes";
 
 /// Words, in any case.
-const WORDS: [Slip; 38] = [
+const WORDS: [Slip; 39] = [
     Slip {
         written: "s",
         told: SECOND,
@@ -170,6 +170,10 @@ const WORDS: [Slip; 38] = [
         told: "there is no stddev: count, sum and sumsq give it",
     },
     Slip {
+        written: "percentile",
+        told: "a percentile is written pct(95, column), with a number from 1 to 100",
+    },
+    Slip {
         written: "variance",
         told: "there is no variance: count, sum and sumsq give it",
     },
@@ -184,7 +188,7 @@ const WORDS: [Slip; 38] = [
 ];
 
 /// Signs.
-const SIGNS: [Slip; 14] = [
+const SIGNS: [Slip; 16] = [
     Slip {
         written: "==",
         told: "values are compared by one =",
@@ -223,7 +227,7 @@ const SIGNS: [Slip; 14] = [
     },
     Slip {
         written: ".",
-        told: "numbers are whole: 12.99 is written 1299, in cents",
+        told: "numbers are whole: 12.99 is written 1299, in cents, and 1.5 hours 90 minutes",
     },
     Slip {
         written: "--",
@@ -232,6 +236,14 @@ const SIGNS: [Slip; 14] = [
     Slip {
         written: "'",
         told: "a text ends with a single quote; within it a quote is written twice",
+    },
+    Slip {
+        written: "/",
+        told: "there is no arithmetic",
+    },
+    Slip {
+        written: "(PARTITION",
+        told: "the key stands before the window: GROUP BY column OVER ..",
     },
     Slip {
         written: "+",
@@ -260,6 +272,14 @@ pub(crate) fn first_word(text: &str) -> &str {
     text.get(..word_length(text)).unwrap_or("")
 }
 
+/// Whether a word is what stands behind the digits of a number like 1e6.
+fn is_exponent(word: &str) -> bool {
+    match word.strip_prefix(['e', 'E']) {
+        Some(digits) => !digits.is_empty() && digits.bytes().all(|byte| byte.is_ascii_digit()),
+        None => false,
+    }
+}
+
 /// What the language has in place of what stands at this place of a text. A sign of two bytes may begin a byte before.
 fn slip_at(text: &str, place: usize) -> Option<&'static str> {
     let behind = text.get(place..)?;
@@ -271,6 +291,9 @@ fn slip_at(text: &str, place: usize) -> Option<&'static str> {
     }
     if word.starts_with('_') {
         return Some("a number has no _");
+    }
+    if is_exponent(word) {
+        return Some("a number has digits alone: 1e6 is written 1000000");
     }
     if !word.is_empty() {
         return None;
@@ -299,10 +322,13 @@ fn sign_before(text: &str, place: usize) -> Option<&'static str> {
     None
 }
 
-/// Writes how to mend a common slip, where one stands at this place of a text.
-pub(crate) fn write_slip(text: &str, place: usize, out: &mut String) -> Result<(), AllocError> {
+/// Writes how to mend a common slip, where one stands at this place of a text, and answers whether one does.
+pub(crate) fn write_slip(text: &str, place: usize, out: &mut String) -> Result<bool, AllocError> {
     match slip_at(text, place) {
-        Some(told) => write!(out, "  {told}\n"),
-        None => Ok(()),
+        Some(told) => {
+            write!(out, "  {told}\n")?;
+            Ok(true)
+        }
+        None => Ok(false),
     }
 }

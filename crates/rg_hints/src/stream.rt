@@ -23,6 +23,11 @@ fn write_unknown_key(
                 out,
                 "{key} stands below [stream]: move it above the first table\n"
             )?;
+        } else if key == "time" || key == "ts" {
+            write!(
+                out,
+                "{key} is no key of [stream]: the time is the first of columns\n"
+            )?;
         } else {
             write!(
                 out,
@@ -45,10 +50,12 @@ fn write_table_fault(
         return Ok(());
     }
     if stream.get("name").and_then(Value::as_str).is_none() {
-        return out.push_str("  [stream] needs a name, as in name = \"payments\"\n");
+        return out.push_str("  [stream] needs a name, a text, as in name = \"payments\"\n");
     }
     if stream.get("columns").and_then(Value::as_array).is_none() {
-        return out.push_str("  [stream] needs columns, as in columns = [\"ts\", \"card:text\"]\n");
+        return out.push_str(
+            "  [stream] needs columns, a list of texts, as in columns = [\"ts\", \"card:text\"]: the first is the time, without a kind, the others are NAME:KIND, with the kind int, id, text or flag\n",
+        );
     }
     if write_column_fault(alloc, stream, out)? {
         return Ok(());
@@ -79,8 +86,24 @@ pub(crate) fn stream_hints(
         },
         None => match other_case(plan.top) {
             Some(key) => write!(out, "  {key} is written stream, in small letters\n"),
-            None => out.push_str("  there is no table [stream] with name and columns\n"),
+            None => out.push_str(
+                "  there is no table [stream]: write below the queries\n  [stream]\n  name = \"payments\"\n  columns = [\"ts\", \"card:text\", \"amount:int\"]\n",
+            ),
         },
+    }
+}
+
+/// Writes a default, and the kind of its column.
+fn write_default(key: &str, kind: &str, value: &Value, out: &mut String) -> Result<(), AllocError> {
+    match value.as_str() {
+        Some(said) => write!(
+            out,
+            "  {key} has the default {said:?} and the kind {kind}\n"
+        ),
+        None => write!(
+            out,
+            "  {key} has a default that is no string: put it in quotes\n"
+        ),
     }
 }
 
@@ -89,14 +112,11 @@ fn write_defaults(stream: &Table, defaults: &Table, out: &mut String) -> Result<
     for (key, value) in defaults {
         let key = key.as_str();
         match column_named(stream, key) {
-            Some((_, kind)) => {
-                let said = value.as_str().unwrap_or("no string");
-                write!(
-                    out,
-                    "  {key} has the default {said:?} and the kind {kind}\n"
-                )?;
-            }
-            None => write!(out, "  {key} is no column past the time\n")?,
+            Some((_, kind)) => write_default(key, kind, value, out)?,
+            None => write!(
+                out,
+                "  {key} is no column with a kind, so it has no default\n"
+            )?,
         }
     }
     out.push_str(

@@ -13,7 +13,7 @@ use Rattle.rg_run_spec.proofs.Texts.{mark_no_lf}
 use Rattle.rg_run.specs.Begun.{Begun}
 use Rattle.rg_messages.specs.Statuses.{last_line}
 use Rattle.rg_commands.specs.Call.{damage_line, gap_line}
-use Rattle.rg_commands.specs.Stored.{IsLastOf}
+use Rattle.rg_commands.specs.Runs.{IsLastOf}
 use Rattle.rg_messages.specs.declared.status.Status.{Status}
 use Rattle.rg_messages.specs.declared.status.Status.TheVariants.{Ok, Usage, Plan as BadPlan, Store, Read, Write, Disk, Limit, Memory, Gap, Differs}
 

@@ -1,9 +1,10 @@
 -- How a run goes with its last line.
-use Rattle.std.proofs.Common.{◌≡◌, ◌⊎◌, inl, inr, ⊎_elim, ℕ, ◌<◌, ◌^◌, ◌-◌, List, [], ◌∷◌, ◌++◌, length, Option, Some, refl, ap, sym, ◌∙◌, subst, arith, append_assoc, length-append}
+use Rattle.std.proofs.Common.{◌≡◌, ◌⊎◌, inl, inr, ⊎_elim, ℕ, ◌<◌, ◌≤◌, ◌^◌, ◌-◌, List, [], ◌∷◌, ◌++◌, length, Option, Some, refl, ap, sym, ◌∙◌, subst, arith, append_assoc, length-append}
 use Rattle.std.specs.Option.{ForSome}
 use Rattle.std.specs.List.{Contains}
 use Rattle.std.proofs.lemmas.List.{append-nil}
 use Rattle.std.proofs.lemmas.List.Elements.{Contains-append_left}
+use Rattle.rg_bytes.specs.Counts.{Rose}
 use Rattle.rg_bytes.specs.Known.{after}
 use Rattle.rg_event.specs.Rising.{next_offset}
 use Rattle.rg_event.specs.declared.event.Event.{Event}
@@ -13,6 +14,7 @@ use Rattle.rg_host.specs.Image.{Image}
 use Rattle.rg_host.specs.Lines.{ended}
 use Rattle.rg_host.specs.Moments.{Moment, Moments, LeavesFiles}
 use Rattle.rg_host.specs.Puts.{IsPrefix, IsPartWay, Puts}
+use Rattle.rg_host.specs.declared.host.Host.{Ghosts as HostMembers}
 use Rattle.rg_host.proofs.Runs.{moments-weaker, moments-both, moments_then}
 use Rattle.rg_config.specs.Plans.{Planned}
 use Rattle.rg_run_spec.specs.Accepted.{events_after}
@@ -36,9 +38,12 @@ use Rattle.rg_task.specs.Terms.{terms_of}
 use Rattle.rg_run.specs.Begun.{Begun, course_for, lines_in}
 use Rattle.rg_recover.specs.Ran.{IsUnopened}
 use Rattle.rg_messages.specs.Statuses.{last_line}
-use Rattle.rg_commands.specs.Stored.{Went, IsLastOf, IsToldFrom, IsComplete, EndsWhole, EndsAnswered, IsAtMostOneAhead, HasLastSaved, Resumes}
+use Rattle.rg_commands.specs.Outcome.{host_outcome}
+use Rattle.rg_commands.specs.Runs.{Went, IsLastOf, IsToldFrom, IsComplete, EndsWhole, EndsAnswered, IsAtMostOneAhead, HasLastSaved, Resumes, RunsOn}
+use Rattle.rg_commands.specs.Texts.{PutsLast}
 use Rattle.rg_messages.specs.declared.status.Status.{Status}
 use Rattle.rg_messages.specs.declared.status.Status.TheVariants.{Ok, Usage, Plan as BadPlan, Store, Read, Write, Disk, Limit, Memory, Gap, Differs}
+use Rattle.rg_commands.proofs.Ends.{put_rose, whole}
 use Rattle.rg_commands.proofs.LastLines.{line_of_status}
 
 -- a status is Ok, Write or another one
@@ -67,8 +72,20 @@ rest_of terms lines held is =
     let n : next_offset held ≡ next_offset held - 0 = omega arith in
     ap (λ k. put_before terms [] 0 lines k ++ out terms held 0 lines) n ∙ sym (out_again terms [] 0 lines held (may_leave terms [] 0 lines held tt (held, refl) is))
 
-module _ {H : Type 0} (now : H → Option Image) (may : H → Image → Type 0) (clock : H → ℕ) (since : H → ℕ → Moment → Type 0) (said : H → Option (List ℕ)) (plan : Planned) (b : Begun) (v : Image) (left : Option (List ℕ)) (unread : Type 0) (status : Status) (last : List ℕ) (old mid new : H)
-    (went : Went may clock since said plan b v left unread status last old mid) (told : said old ≡ Some b.said) where
+module _ {H : Type 0} (g : HostMembers H) (plan : Planned) (b : Begun) (v : Image) (left : Option (List ℕ)) (unread : Type 0) (status : Status) (last : List ℕ) (old mid new : H)
+    (went : Went g plan b v left unread status last old mid) (told : g.said old ≡ Some b.said) where
+  abbrev may : H → Image → Type 0
+  may = g.may
+
+  abbrev clock : H → ℕ
+  clock = g.clock
+
+  abbrev since : H → ℕ → Moment → Type 0
+  since = g.since
+
+  abbrev said : H → Option (List ℕ)
+  said = g.said
+
   abbrev course : Course
   course = course_for plan b
 
@@ -89,7 +106,7 @@ module _ {H : Type 0} (now : H → Option Image) (may : H → Image → Type 0) 
   opened_from lines put = ⊎_elim (λ is. is) (λ same. absurd (open_nonempty (open_line b.held b.from) lines b.said (sym put ∙ same ∙ told))) went.is_from
 
   -- The last line was put, or a prefix of it.
-  module _ (silent : last ≡ [] → new ≡ mid) (part : List ℕ) (front : IsPrefix part last) (puts : Puts said clock since mid new part) (leaves : LeavesFiles now may clock since mid new) where
+  module _ (silent : last ≡ [] → new ≡ mid) (part : List ℕ) (front : IsPrefix part last) (puts : Puts said clock since mid new part) (leaves : LeavesFiles g.now may clock since mid new) where
     stays : last ≡ [] → Moments clock since old new (P last)
     stays none = subst (λ (h : H). Moments clock since old h (P last)) (sym (silent none)) (wider last)
 
@@ -205,11 +222,12 @@ module _ {H : Type 0} (now : H → Option Image) (may : H → Image → Type 0) 
     ends_at (inl is) = quiet_at b status Read last is went.last_is ∙ ap last_line (sym is)
     ends_at (inr is) = quiet_at b status Limit last is went.last_is ∙ ap last_line (sym is)
 
-    pub ends_answered : (rose : Type 0) → (status ≡ Read) ⊎ (status ≡ Limit) → Puts said clock since mid new last ⊎ rose → (IsFromIn plan v b.from × EndsAnswered plan b left (last_line status) (said new) (status ≡ Limit)) ⊎ unread ⊎ rose
+    pub ends_answered : (rose : Type 0) → (status ≡ Read) ⊎ (status ≡ Limit) → Puts said clock since mid new last ⊎ rose →
+        (IsFromIn plan v b.from × EndsAnswered plan b left (last_line status) (said new) (status ≡ Limit)) ⊎ (unread × (said new ≡ after (said old) (last_line status))) ⊎ rose
     ends_answered rose is (inr failed) = inr (inr failed)
     ends_answered rose is (inl whole) = ⊎_elim
         (λ answered. inl (opened_from _ answered.put, record { before = said mid; answered = answered; put = λ s told_mid. grown whole s told_mid ∙ ap (λ (l : List ℕ). Some (s ++ l)) (ends_at is) }))
-        (λ failed. inr (inl failed))
+        (λ failed. inr (inl (failed.0, whole.grows ∙ ap (λ t. after t last) failed.1 ∙ ap (λ (l : List ℕ). after (said old) l) (ends_at is))))
         (went.answered is)
 
   -- The run came to its end.
@@ -232,4 +250,23 @@ module _ {H : Type 0} (now : H → Option Image) (may : H → Image → Type 0) 
         lines = out (terms_of plan) b.held b.first (lines_in b);
         put = f.told ∙ ap (λ (l : List ℕ). Some l) f.done.said_is;
         rest = subst (λ n. put_before (terms_of plan) [] 0 (lines_in b) (next_offset b.held) ++ out (terms_of plan) b.held n (lines_in b) ≡ unstopped (terms_of plan) (lines_in b)) (sym zero) (rest_of (terms_of plan) (lines_in b) b.held held);
+      }
+
+  -- All that a run promises, with its last line.
+  pub runs_on : (e : PutsLast g last mid new) → g.out_faults old ≤ g.out_faults mid → ((u : Image) → may old u → IsTruthfulImage u) → (status ≡ Write → Rose (g.out_faults old) (g.out_faults mid)) → RunsOn plan b v left unread (host_outcome g old new) status last
+  runs_on e later truthful failed =
+      let all = whole g old mid new last e later in
+      let at_end : status ≡ Ok → new ≡ mid = λ ok. e.silent (quiet_at b status Ok last ok went.last_is) in
+      record {
+        is_last = went.last_is;
+        complete_run = λ ok. subst (λ h. IsComplete plan b v (may h) (said h)) (sym (at_end ok)) (completed ok);
+        told_from = told_from e.silent e.line.part e.line.front e.line.puts e.leaves;
+        every_moment = all_promised e.silent e.line.part e.line.front e.line.puts e.leaves truthful;
+        last_line_run = ends_whole e.silent e.line.part e.line.front e.line.puts e.leaves (Rose (g.out_faults old) (g.out_faults new)) (λ is. put_rose g old mid new last e later (failed is)) all;
+        no_reply_lost = one_ahead e.silent e.line.part e.line.front e.line.puts e.leaves truthful;
+        saved_kept = slots_saved e.silent e.line.part e.line.front e.line.puts e.leaves truthful;
+        replies_put = λ is. ends_answered e.silent e.line.part e.line.front e.line.puts e.leaves (Rose (g.out_faults old) (g.out_faults new)) is all;
+        resumes = λ ok zero held. subst (λ h. Resumes plan b (said h)) (sym (at_end ok)) (resumed ok zero held);
+        gap_always = went.no_gap;
+        gap_never = went.gap;
       }

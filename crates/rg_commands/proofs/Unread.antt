@@ -1,20 +1,19 @@
 -- A plan that was not taken.
-use Rattle.std.proofs.Common.{◌≡◌, ◌⊎◌, inl, inr, ⊎_elim, ℕ, ◌+◌, ◌≤◌, List, [], length, Option, Some, None, Result, refl, sym, subst, arith}
+use Rattle.std.proofs.Common.{◌≡◌, ◌⊎◌, inl, inr, ⊎_elim, ℕ, ◌+◌, ◌≤◌, ◌<◌, List, [], length, Option, Some, None, Result, refl, ap, sym, ◌∙◌, subst, arith}
 use Rattle.std.specs.Prelude as r
-use Rattle.std.specs.Prelude.{⊤}
+use Rattle.std.specs.Prelude.{IfSome}
 use Rattle.std.specs.Option.{ForSome}
 use Rattle.std.proofs.lemmas.List.{length-append}
-use Rattle.rg_bytes.specs.Known.{before, IsAtEnd}
+use Rattle.rg_bytes.specs.Known.{after, before, IsAtEnd}
 use Rattle.rg_config.specs.Plans.{Planned, Tells, Says}
 use Rattle.rg_config.specs.declared.fault.ConfigFault.{ConfigFault}
 use Rattle.rg_config.specs.declared.fault.ConfigFault.TheVariants as config
-use Rattle.rg_host.specs.Image.{Image}
 use Rattle.rg_host.specs.Moments.{Moment, LeavesFiles}
 use Rattle.rg_host.specs.Puts.{Puts}
+use Rattle.rg_host.specs.declared.host.Host.{Ghosts as HostMembers}
 use Rattle.rg_host.proofs.PutRuns.{puts-nothing}
 use Rattle.rg_host.proofs.Runs.{leaves_files-none}
-use Rattle.rg_explain.proofs.Stopped.{nothing_stops}
-use Rattle.rg_recover.proofs.TurnedAway.{none_alone, none_within}
+use Rattle.rg_explain.proofs.Stopped.{nothing_whole}
 use Rattle.rg_run.specs.Reading.{IsLonger}
 use Rattle.rg_messages.specs.Statuses.{last_line}
 use Rattle.rg_messages.specs.declared.refusal.Refusal.{Refusal}
@@ -24,66 +23,28 @@ use Rattle.rg_commands.specs.declared.command.Command.{Command}
 use Rattle.rg_commands.specs.declared.ending.Ending.{Ending}
 use Rattle.rg_commands.specs.declared.ending.Ending.TheVariants as ends
 use Rattle.rg_commands.specs.Plan.{IsPlan, IsRefusal}
-use Rattle.rg_commands.specs.Call.{ReadsPlan, ShowsStore, IsTextOf, IsRefusedPlan, EndsBy, ending_status, ending_line, ending_refusal}
-use Rattle.rg_commands.specs.Stored.{begun_in}
-use Rattle.rg_commands.specs.Replays.{text_of_replay}
+use Rattle.rg_commands.specs.Call.{ReadsPlan, IsCarried, TellsFault, EndsBy, line_for, plan_status, refusal_of, refusal_line, status_by, ending_status, ending_line, ending_refusal}
+use Rattle.rg_commands.specs.Causes.{cause, causes, EndsFor, EveryCall}
+use Rattle.rg_commands.specs.Outcome.{SourceOutcome, HostOutcome, host_outcome, not_given, outcome}
+use Rattle.rg_commands.specs.Texts.{PutsUpTo, PutsByPlan, PutsLast, IsOwnLine, RefusesPlan}
 use Rattle.rg_commands.specs.TurnedAway.{EndsFailed}
-use Rattle.rg_commands.specs.Done.{IsUnread, Causes, Shows, Runs, ReplaysBy, VerifiesBy}
+use Rattle.rg_commands.specs.Unread.{UnreadFor, GoesBy}
 use Rattle.rg_commands.proofs.Inputs.{told_all}
-use Rattle.rg_commands.proofs.Ends.{RefusedBy, refused_of, refused_line, told_line}
-use Rattle.rg_commands.proofs.Carrying.{went_unread}
-use Rattle.rg_commands.proofs.TurnedAway.{unread_ends}
-use Rattle.rg_commands.proofs.Replaying.{replayed_unread, nothing_unread}
-use Rattle.rg_commands.proofs.Verifying.{verified_unread}
+use Rattle.rg_commands.proofs.Plans.{carried, told_refusal, not_refused, status_within, status_longer}
+use Rattle.rg_commands.proofs.Ends.{alone_by, puts_text}
 
 -- Why it was not.
-module _ (plan : Option (List ℕ)) (failed : Type 0) where
-  pub unread_read : failed → IsUnread plan failed Read (last_line Read) None
-  unread_read is = record {
-    status_is = inr (inl refl);
-    refused = λ e. absurd (cc e);
-    fault_told = λ e. absurd (cc e);
-    line = inr refl;
-    read = λ e. is;
-    limit = λ e. absurd (cc e);
-  }
 
-  pub unread_limit : IsLonger 65536 plan → IsUnread plan failed Limit (last_line Limit) None
-  unread_limit longer = record {
-    status_is = inr (inr (inl refl));
-    refused = λ e. absurd (cc e);
-    fault_told = λ e. absurd (cc e);
-    line = inr refl;
-    read = λ e. absurd (cc e);
-    limit = λ e. longer;
-  }
-
-  pub unread_memory : IsUnread plan failed Memory (last_line Memory) None
-  unread_memory = record {
-    status_is = inr (inr (inr refl));
-    refused = λ e. absurd (cc e);
-    fault_told = λ e. absurd (cc e);
-    line = inr refl;
-    read = λ e. absurd (cc e);
-    limit = λ e. absurd (cc e);
-  }
-
-  -- all bytes were taken, and say no plan
-  module _ (now : Option (List ℕ)) (bytes : List ℕ) (took : plan ≡ before bytes now) (end : IsAtEnd now) (within : length bytes ≤ 65536) (cause : ConfigFault) where
-    pub unread_refused : (ending : Ending) → EndsBy cause ending → ((cause ≡ config.Memory → ⊥) → Says bytes (r.Err cause)) → IsUnread plan failed (ending_status ending) (ending_line ending) (ending_refusal ending)
-    unread_refused (ends.Refused line refusal) by says =
-        let is : IsRefusal bytes cause = record { within = within; says = says by.1 } in
-        record {
-          status_is = inl refl;
-          refused = λ e. told_all (RefusedBy line.items) plan now bytes took end (cause, is, by.0);
-          fault_told = λ e. told_all (λ b. (refused : Refusal) × (Some refusal ≡ Some refused) × IsRefusal b refused.fault) plan now bytes took end (refusal, refl, subst (λ f. IsRefusal bytes f) (sym by.2) is);
-          line = inl refl;
-          read = λ e. absurd (cc e);
-          limit = λ e. absurd (cc e);
-        }
-    unread_refused (ends.Store line) by says = absurd by
-    unread_refused (ends.Gap line) by says = absurd by
-    unread_refused (ends.Failed status) by says = subst (λ s. IsUnread plan failed s (last_line s) None) (sym by) unread_memory
+-- all bytes were taken, and say no plan
+pub unread_refused : (plan : SourceOutcome) (now : Option (List ℕ)) (bytes : List ℕ) → plan.told ≡ before bytes now → IsAtEnd now → length bytes ≤ 65536 → (cause : ConfigFault) (ending : Ending) → EndsBy cause ending → ((cause ≡ config.Memory → ⊥) → Says bytes (r.Err cause)) →
+    UnreadFor plan (ending_line ending) (ending_refusal ending) (ending_status ending)
+unread_refused plan now bytes took end within cause (ends.Refused line refusal) by says =
+    let is : IsRefusal bytes cause = record { within = within; says = says by.1 } in
+    told_all (λ b. (refused : Refusal) × (Some refusal ≡ Some refused) × IsRefusal b refused.fault × (line.items ≡ refusal_line refused.fault)) plan.told now bytes took end
+    (refusal, refl, subst (λ f. IsRefusal bytes f) (sym by.2) is, by.0 ∙ ap refusal_line (sym by.2))
+unread_refused plan now bytes took end within cause (ends.Store line) by says = absurd by
+unread_refused plan now bytes took end within cause (ends.Gap line) by says = absurd by
+unread_refused plan now bytes took end within cause (ends.Failed status) by says = subst (λ s. UnreadFor plan (last_line s) None s) (sym by) refl
 
 -- more bytes were taken than a plan may have
 pub long_taken : (plan now : Option (List ℕ)) (got : List ℕ) → plan ≡ before got now → length got ≡ 65536 + 1 → IsLonger 65536 plan
@@ -99,91 +60,127 @@ told_fault bytes (config.Settings why) tells not = tells
 told_fault bytes (config.Query number why) tells not = tells
 told_fault bytes config.Memory tells not = absurd (not refl)
 
--- The status is one of those of a plan that was not taken.
-abbrev pub AtLoad : Status → Type 0
-AtLoad BadPlan = ⊤
-AtLoad Read = ⊤
-AtLoad Limit = ⊤
-AtLoad Memory = ⊤
-AtLoad other = ⊥
+-- What follows for each status.
+module _ (plan : SourceOutcome) (last : List ℕ) (told : Option Refusal) where
+  by_row : (P : Status → Type 0) → (TellsFault plan.told last told → P BadPlan) → (plan.failed × (last ≡ last_line Read) → P Read) → (IsLonger 65536 plan.told × (last ≡ last_line Limit) → P Limit) → (last ≡ last_line Memory → P Memory) →
+      (status : Status) → UnreadFor plan last told status → P status
+  by_row P bad read limit memory Ok u = absurd u
+  by_row P bad read limit memory Usage u = absurd u
+  by_row P bad read limit memory BadPlan u = bad u
+  by_row P bad read limit memory Store u = absurd u
+  by_row P bad read limit memory Read u = read u
+  by_row P bad read limit memory Write u = absurd u
+  by_row P bad read limit memory Disk u = absurd u
+  by_row P bad read limit memory Limit u = limit u
+  by_row P bad read limit memory Memory u = memory u
+  by_row P bad read limit memory Gap u = absurd u
+  by_row P bad read limit memory Differs u = absurd u
 
-unread_is : (status : Status) → (status ≡ BadPlan) ⊎ (status ≡ Read) ⊎ (status ≡ Limit) ⊎ (status ≡ Memory) → AtLoad status
-unread_is status (inl is) = subst AtLoad (sym is) tt
-unread_is status (inr (inl is)) = subst AtLoad (sym is) tt
-unread_is status (inr (inr (inl is))) = subst AtLoad (sym is) tt
-unread_is status (inr (inr (inr is))) = subst AtLoad (sym is) tt
+  module _ (status : Status) (u : UnreadFor plan last told status) where
+    -- so it is no other status
+    pub never_unread : (other : Status) → status ≡ other → UnreadFor plan last told other
+    never_unread other is = subst (λ s. UnreadFor plan last told s) is u
 
-module _ (plan : Option (List ℕ)) (failed : Type 0) (status : Status) (last : List ℕ) (told : Option Refusal) (u : IsUnread plan failed status last told) where
-  -- so it is no other
-  pub never_unread : (other : Status) → status ≡ other → AtLoad other
-  never_unread other is = subst AtLoad is (unread_is status u.status_is)
+    pub unread_cause : (command : Option Command) (input : SourceOutcome) (h : HostOutcome) → ReadsPlan command → cause (causes command (outcome plan input h) last told) status
+    unread_cause command input h reads = by_row (λ s. cause (causes command (outcome plan input h) last told) s) (λ bad. (reads, bad)) (λ read. inl read.0) (λ long. inl (reads, long.0)) (λ m. tt) status u
 
-  -- the causes of a call that reads its plan
-  pub causes_unread : (command : Option Command) → ReadsPlan command → (command ≡ None → ⊥) → (input : Option (List ℕ)) (old new : Option Image) (may : Image → Type 0) (alone misread unput undone : Type 0) → Causes command plan input old new may alone failed misread unput undone status last told
-  causes_unread command reads named input old new may alone misread unput undone = record {
-    usage_only = λ is. absurd (never_unread Usage is);
-    usage_always = λ none. absurd (named none);
-    ok_only = λ is. absurd (never_unread Ok is);
-    plan_only = λ is. (reads, refused_of plan last (u.refused is));
-    fault_told = u.fault_told;
-    store_only = λ is. absurd (never_unread Store is);
-    gap_only = λ is. absurd (never_unread Gap is);
-    disk_only = λ is. absurd (never_unread Disk is);
-    read_only = λ is. inl (u.read is);
-    write_only = λ is. absurd (never_unread Write is);
-    limit_only = λ is. inl (reads, u.limit is);
-    differs_only = λ is. absurd (never_unread Differs is);
-  }
+    module _ (bytes : List ℕ) (is : plan.told ≡ Some bytes) where
+      too_long : IsLonger 65536 plan.told → 65536 < length bytes
+      too_long long = subst (λ v. IsLonger 65536 v) is long
 
-  refused : status ≡ BadPlan → IsRefusedPlan plan
-  refused bad = refused_of plan last (u.refused bad)
+      -- where legal bytes are told, a read failed or memory ran out
+      pub unread_fails : (asks : Planned) → IsPlan bytes asks → EndsFailed plan.failed status last
+      unread_fails asks says = by_row (λ s. EndsFailed plan.failed s last)
+          (λ bad. absurd (not_refused plan.told last told bytes asks is says bad))
+          (λ read. inr (inr ((refl, read.1), read.0)))
+          (λ long. absurd (let more = too_long long.0 in omega (arith, more, says.within)))
+          (λ m. inl (refl, m))
+          status u
 
-  -- where legal bytes are told, a read failed or memory ran out
-  ends_unread : (bytes : List ℕ) (asks : Planned) → plan ≡ Some bytes → IsPlan bytes asks → EndsFailed failed status last
-  ends_unread bytes asks is says = unread_ends plan bytes asks is says failed status last refused u.line u.read u.limit u.status_is
+      unread_line : (asks : Result Planned ConfigFault) → Says bytes asks → last ≡ line_for asks status
+      unread_line asks says = by_row (λ s. last ≡ line_for asks s)
+          (λ bad. let at = told_refusal plan.told last told bytes asks is says bad in at.2 ∙ ap refusal_of (sym at.1))
+          (λ read. read.1)
+          (λ long. long.1)
+          (λ m. m)
+          status u
 
-  module _ {H : Type 0} (now : H → Option Image) (may : H → Image → Type 0) (clock : H → ℕ) (since : H → ℕ → Moment → Type 0) (said : H → Option (List ℕ))
-      (now_may : (h : H) (w : Image) → now h ≡ Some w → may h w) (only : (h : H) (m : Moment) → since h (clock h) m → may h m.image × ForSome (said h) (λ t. m.said ≡ t)) (sinks : (h : H) (t u : ℕ) (m : Moment) → t ≤ u → since h u m → since h t m) (old : H) where
-    silent : Puts said clock since old old []
-    silent = puts-nothing said clock since old (λ t v m. sinks old t v m) (λ m. only old m)
-
-    -- of a call that has some text, whatever the plan
-    pub shows_unread : (command : Option Command) → ReadsPlan command → (ShowsStore command → ⊥) → ((asks : Result Planned ConfigFault) (image : Image) → (text : List (List ℕ)) × IsTextOf command status asks image text) → Shows now may clock since said command plan status last old old
-    shows_unread command reads shows text = record {
-      all = λ ok. absurd (never_unread Ok ok);
-      part = λ told. let t = text told.asks told.image in record { text = t.0; is = t.1; holds = ([], silent, nothing_stops (status ≡ Write) t.0) };
-      line = λ told. refused_line told.asks told.image status last u.status_is (λ bad. told_line command reads plan (now old) last told (u.refused bad)) u.line;
-      before = λ is shown. absurd (shows shown);
-    }
-
-    pub runs_unread : (first : ℕ) (input left : Option (List ℕ)) (alone : Type 0) → alone → Runs now may clock since said first plan input left alone failed status last old old
-    runs_unread first input left alone same = record {
-      went = λ told. (0, went_unread now may clock since said old (λ t v m. sinks old t v m) (λ m. only old m) plan input told left (alone × (said old ≡ said old) × failed) status last u.status_is refused u.line (λ is. (same, refl, u.read is)) u.limit (begun_in told 0 first) refl);
-      never_damaged = λ told is. never_unread Store is;
-      behind = λ told keep late. (same, none_within may clock since said only sinks told.asks keep told.ready.openable.image old, inr (ends_unread told.plan_bytes told.asks told.plan_is told.says));
-      unfit = λ bytes asks v told says is not. (same, none_alone now may clock since said now_may only sinks v old is, inr (ends_unread bytes asks told says));
-      no_gap = λ ok. absurd (never_unread Ok ok);
-      at_end = λ ok. absurd (never_unread Ok ok);
-    }
-
-    pub replays_unread : (first : ℕ) → ReplaysBy now may clock since said first plan failed status last old old
-    replays_unread first = record {
-      replayed = λ told. replayed_unread said clock since failed status last old silent (text_of_replay told first) (ends_unread told.plan_bytes told.asks told.plan_is told.says);
-      unfit = λ bytes asks v told says is not. nothing_unread said clock since failed status last old silent asks (now old) (ends_unread bytes asks told says);
-    }
-
-    pub verifies_unread : VerifiesBy now may clock since said plan failed status last old old
-    verifies_unread = record {
-      verified = λ told. verified_unread said clock since told.asks told.ready.image told.ready.events failed status last old (ends_unread told.plan_bytes told.asks told.plan_is told.says);
-      silent = λ not_whole not_write. silent;
-      fit = λ whole. absurd (⊎_elim (λ ok. never_unread Ok ok) (λ differs. never_unread Differs differs) whole);
-    }
+      unread_status : (asks : Result Planned ConfigFault) → Says bytes asks → (plan.failed → ⊥) → (status ≡ plan_status bytes asks) ⊎ (status ≡ Memory)
+      unread_status asks says none = by_row (λ s. (s ≡ plan_status bytes asks) ⊎ (s ≡ Memory))
+          (λ bad. let at = told_refusal plan.told last told bytes asks is says bad in inl (sym (status_within bytes asks at.3 ∙ ap status_by at.1)))
+          (λ read. absurd (none read.0))
+          (λ long. inl (sym (status_longer bytes asks (too_long long.0))))
+          (λ m. inr refl)
+          status u
 
 -- Nothing was done.
-module _ {H : Type 0} (now : H → Option Image) (may : H → Image → Type 0) (clock : H → ℕ) (since : H → ℕ → Moment → Type 0) (said : H → Option (List ℕ))
-    (only : (h : H) (m : Moment) → since h (clock h) m → may h m.image × ForSome (said h) (λ t. m.said ≡ t)) (sinks : (h : H) (t u : ℕ) (m : Moment) → t ≤ u → since h u m → since h t m) (old : H) where
-  pub nothing_put : Puts said clock since old old []
-  nothing_put = puts-nothing said clock since old (λ t v m. sinks old t v m) (λ m. only old m)
+module _ {H : Type 0} (g : HostMembers H) (only : (h : H) (m : Moment) → g.since h (g.clock h) m → g.may h m.image × ForSome (g.said h) (λ t. m.said ≡ t)) (sinks : (h : H) (t u : ℕ) (m : Moment) → t ≤ u → g.since h u m → g.since h t m) (old : H) where
+  pub nothing_put : Puts g.said g.clock g.since old old []
+  nothing_put = puts-nothing g.said g.clock g.since old (λ t v m. sinks old t v m) (λ m. only old m)
 
-  pub files_left : LeavesFiles now may clock since old old
-  files_left = leaves_files-none now may clock since old (λ t v m. sinks old t v m) (λ m at. (only old m at).0)
+  pub files_left : LeavesFiles g.now g.may g.clock g.since old old
+  files_left = leaves_files-none g.now g.may g.clock g.since old (λ t v m. sinks old t v m) (λ m at. (only old m at).0)
+
+  pub none_up_to : (text : List (List ℕ)) (status : Status) → (status ≡ Ok → ⊥) → PutsUpTo text (host_outcome g old old) status
+  none_up_to text status not_ok = record { put = []; puts = nothing_put; all = λ ok. absurd (not_ok ok); stops = inl (nothing_whole text) }
+
+  -- and so far up to a state that is the same
+  module _ (mid : H) (same : mid ≡ old) where
+    pub idle_put : Puts g.said g.clock g.since old mid []
+    idle_put = subst (λ h. Puts g.said g.clock g.since old h []) (sym same) nothing_put
+
+    pub idle_files : LeavesFiles g.now g.may g.clock g.since old mid
+    idle_files = subst (λ h. LeavesFiles g.now g.may g.clock g.since old h) (sym same) files_left
+
+    pub idle_later : g.out_faults old ≤ g.out_faults mid
+    idle_later = subst (λ h. g.out_faults old ≤ g.out_faults h) (sym same) (omega arith)
+
+    pub idle_up_to : (text : List (List ℕ)) (status : Status) → (status ≡ Ok → ⊥) → PutsUpTo text (host_outcome g old mid) status
+    idle_up_to text status not_ok = subst (λ h. PutsUpTo text (host_outcome g old h) status) (sym same) (none_up_to text status not_ok)
+
+    -- A plan that was not taken, with the last line.
+    module _ (new : H) (plan : SourceOutcome) (last : List ℕ) (told : Option Refusal) (status : Status) (u : UnreadFor plan last told status) (e : PutsLast g last mid new) (own : IsOwnLine status last) where
+      -- the text of a plan that isn't legal
+      pub unread_puts : (text : List (List ℕ)) (bytes : List ℕ) (asks : Result Planned ConfigFault) → plan.told ≡ Some bytes → Says bytes asks → PutsByPlan text bytes asks plan (host_outcome g old new) status
+      unread_puts text bytes asks is says = record {
+        put = puts_text g old mid new last e idle_later text status own (λ write. absurd (never_unread plan last told status u Write write)) (idle_up_to text status (λ ok. never_unread plan last told status u Ok ok)) (line_for asks status)
+            (unread_line plan last told status u bytes is asks says);
+        completes = λ none. unread_status plan last told status u bytes is asks says (λ failed. none (inl failed));
+      }
+
+-- A plan that is refused, whatever the command.
+module _ {H : Type 0} (g : HostMembers H) (only : (h : H) (m : Moment) → g.since h (g.clock h) m → g.may h m.image × ForSome (g.said h) (λ t. m.said ≡ t)) (sinks : (h : H) (t u : ℕ) (m : Moment) → t ≤ u → g.since h u m → g.since h t m) (old mid new : H)
+    (plan : SourceOutcome) (last : List ℕ) (told : Option Refusal) (status : Status) (e : PutsLast g last mid new) (own : IsOwnLine status last) where
+  pub refuses_plan : (Nothing : Type 0) (Goes : Planned → Type 0) → (Nothing → mid ≡ old) → GoesBy plan last told status Nothing Goes → RefusesPlan plan (host_outcome g old new) status
+  refuses_plan Nothing Goes idle (inl u) bytes asks is says none = unread_puts g only sinks old mid (idle u.1) new plan last told status u.0 e own [] bytes asks is says
+  refuses_plan Nothing Goes idle (inr by) bytes asks is says none = absurd (carried plan.told by.0 by.1 bytes asks is says none)
+
+  -- why it ended up to its last line, of a command that reads no input and writes no file
+  pub ends_by : (command : Option Command) (Goes : Planned → Type 0) → ReadsPlan command → GoesBy plan last told status (mid ≡ old) Goes →
+      ((asks : Planned) → IfSome plan.told (λ bytes. IsPlan bytes asks) → Goes asks → cause (causes command (outcome plan not_given (host_outcome g old mid)) last told) status × LeavesFiles g.now g.may g.clock g.since old mid × (g.out_faults old ≤ g.out_faults mid)) →
+      EndsFor command (outcome plan not_given (host_outcome g old mid)) status last told
+  ends_by command Goes reads (inl u) so = record {
+    why = unread_cause plan last told status u.0 command not_given (host_outcome g old mid) reads;
+    alone = alone_by command plan (host_outcome g old mid) status (λ unread. absurd (unread reads)) (idle_files g only sinks old mid u.1);
+    later = idle_later g only sinks old mid u.1;
+  }
+  ends_by command Goes reads (inr by) so =
+      let at = so by.0 by.1 by.2 in
+      record {
+        why = at.0;
+        alone = alone_by command plan (host_outcome g old mid) status (λ unread. absurd (unread reads)) at.1;
+        later = at.2;
+      }
+
+-- Words that are no form of a command.
+pub usage_every : {H : Type 0} (g : HostMembers H) (old new : H) → PutsLast g (last_line Usage) old new → (plan input : SourceOutcome) → plan.stays → input.stays → (told : Option Refusal) → EveryCall None (outcome plan input (host_outcome g old new)) Usage told
+usage_every g old new e plan input same also told = record {
+  ended = record { last = last_line Usage; ends = ⊎_elim (λ is. inl (g.said old, e.line.puts.grows ∙ ap (λ v. after (g.said old) v) is)) (λ rose. inr rose) e.line.whole; line = inr (inr (inr refl)); why = refl };
+  alone = record {
+    plan_unread = λ unread. same;
+    input_unread = λ unread. also;
+    plan_first = λ why. also;
+    read_first = λ is. inl (also, e.leaves);
+    files_stay = λ why. e.leaves;
+  };
+}

@@ -1,9 +1,7 @@
 -- How a verify goes and ends.
-use Rattle.std.proofs.Common.{◌≡◌, ◌⊎◌, inl, inr, ℕ, ◌<◌, ◌≤◌, ◌^◌, true, false, List, [], length, Option, Some, None, refl, ap, sym, ◌∙◌, subst, arith}
-use Rattle.std.specs.Prelude as r
-use Rattle.std.specs.Prelude.{IfSome}
+use Rattle.std.proofs.Common.{◌≡◌, ◌⊎◌, inl, inr, ⊎_elim, ℕ, ◌≤◌, true, false, List, [], Option, Some, None, refl, ap, sym, ◌∙◌, subst}
+use Rattle.std.specs.Prelude.{IfSome, ⊤}
 use Rattle.std.specs.Option.{ForSome}
-use Rattle.std.proofs.lemmas.List.{append-nil}
 use Rattle.rg_bytes.specs.Counts.{Rose}
 use Rattle.rg_event.specs.declared.event.Event.{Event}
 use Rattle.rg_plan.specs.Plans.{Tasks, plan_for}
@@ -13,119 +11,49 @@ use Rattle.rg_config.specs.Read.{IsReadPlan}
 use Rattle.rg_config.specs.declared.plan.Plan.{Plan}
 use Rattle.rg_host.specs.Image.{Image}
 use Rattle.rg_host.specs.Moments.{Moment}
-use Rattle.rg_host.specs.Puts.{IsPrefix, Puts}
-use Rattle.rg_host.proofs.PutRuns.{puts-then}
+use Rattle.rg_host.specs.Puts.{Puts}
+use Rattle.rg_host.specs.declared.host.Host.{Ghosts as HostMembers}
 use Rattle.rg_dump.specs.Dump.{damage_of}
 use Rattle.rg_open.specs.Truth.{texts_of}
 use Rattle.rg_open.specs.Unfit.{HasOtherSchema}
-use Rattle.rg_run.specs.Reading.{IsLonger}
 use Rattle.rg_verify.specs.Faults.{IsFromOutside}
 use Rattle.rg_verify.specs.Fitting.{terms_of}
 use Rattle.rg_verify.specs.Verify.{IsVerifiable, IsSaid, IsCut}
 use Rattle.rg_verify.specs.declared.fault.VerifyFault.{VerifyFault}
 use Rattle.rg_verify.specs.declared.fault.VerifyFault.TheVariants as verify
 use Rattle.rg_messages.specs.Statuses.{last_line}
+use Rattle.rg_messages.specs.declared.refusal.Refusal.{Refusal}
 use Rattle.rg_messages.specs.declared.status.Status.{Status}
 use Rattle.rg_messages.specs.declared.status.Status.TheVariants.{Ok, Usage, Plan as BadPlan, Store, Read, Write, Disk, Limit, Memory, Gap, Differs}
+use Rattle.rg_commands.specs.declared.command.Command.TheVariants.{Verify}
 use Rattle.rg_commands.specs.Plan.{IsPlan}
-use Rattle.rg_commands.specs.Call.{IsRun, IsReplay, IsVerify, ReadsPlan, ShowsStore, IsRefusedPlan, damage_line, schema_line, Fails}
-use Rattle.rg_commands.specs.TurnedAway.{EndsFailed}
-use Rattle.rg_commands.specs.Verifies.{terms_for, IsReadyVerify, ToldVerify, EndsVerify, IsWhole, IsOfOther, IsVerifyLine, IsVerifyLast, RefusesVerify, IsRefusedStore, IsVerifyStatus, IsVerifyEnd, Verified, IsSilent, PutsLine}
-use Rattle.rg_commands.specs.declared.command.Command.{Command}
-use Rattle.rg_commands.specs.declared.command.Command.TheVariants.{Run, Replay, Verify, Check, Dump, Info, Trial}
-use Rattle.rg_commands.proofs.Plans.{one_plan}
-use Rattle.rg_commands.proofs.Carrying.{bytes_ask}
-
--- A status is that one and no other.
-module _ (status known other : Status) (is : status ≡ known) (differ : known ≡ other → ⊥) where
-  other_than : status ≡ other → ⊥
-  other_than also = differ (sym is ∙ also)
-
-whole_not : (status other : Status) → IsWhole status → (Ok ≡ other → ⊥) → (Differs ≡ other → ⊥) → status ≡ other → ⊥
-whole_not status other (inl is) no_ok no_differs = other_than status Ok other is no_ok
-whole_not status other (inr is) no_ok no_differs = other_than status Differs other is no_differs
-
-never_whole : (status known : Status) → status ≡ known → (known ≡ Ok → ⊥) → (known ≡ Differs → ⊥) → IsWhole status → ⊥
-never_whole status known is no_ok no_differs (inl ok) = no_ok (sym is ∙ ok)
-never_whole status known is no_ok no_differs (inr differs) = no_differs (sym is ∙ differs)
-
--- and has no last line
-pub whole_line : (status : Status) → IsWhole status → last_line status ≡ []
-whole_line status (inl is) = ap last_line is
-whole_line status (inr is) = ap last_line is
+use Rattle.rg_commands.specs.Call.{damage_line, schema_line}
+use Rattle.rg_commands.specs.Causes.{cause, causes, EndsFor}
+use Rattle.rg_commands.specs.Outcome.{SourceOutcome, HostOutcome, host_outcome, not_given, outcome}
+use Rattle.rg_commands.specs.Texts.{PutsLine, PutsLast, IsOwnLine}
+use Rattle.rg_commands.specs.Unread.{UnreadFor, GoesBy}
+use Rattle.rg_commands.specs.Verifies.{terms_for, IsReadyVerify, ToldVerify, EndsVerify, IsWhole, IsOfOther, IsVerifyLast, IsRefusedStore, SaysSlots, is_differs, VerifyEnds, VerifiesStore, VerifyPromises}
+use Rattle.rg_commands.proofs.Plans.{legal_of, bytes_ask}
+use Rattle.rg_commands.proofs.Ends.{put_rose, disk_rose, puts_line}
+use Rattle.rg_commands.proofs.Unread.{never_unread, unread_fails, idle_put, idle_later, refuses_plan, ends_by}
+use Rattle.rg_commands.proofs.Replaying.{fails_line}
 
 -- The fault, and what it is told by.
 
--- the fault refuses the store, with this line
-abbrev IsRefusal : VerifyFault → List ℕ → Type 0
-IsRefusal cause last =
-    ((cause ≡ verify.SchemaDiffers) × (last ≡ schema_line))
-    ⊎ ((p : ℕ) × (cause ≡ verify.Damaged p) × (last ≡ damage_line (Some p)))
+-- it is one that a verify of a legal log may have
+abbrev Outside : VerifyFault → Type 0
+Outside verify.Disk = ⊤
+Outside verify.Memory = ⊤
+Outside verify.Write = ⊤
+Outside other = ⊥
 
--- the store is refused, or a call failed, or memory ran out
-abbrev IsEnd : VerifyFault → Status → List ℕ → Type 0
-IsEnd cause status last =
-    ((status ≡ Store) × IsRefusal cause last) ⊎ Fails Memory status last ⊎ (Fails Disk status last × (cause ≡ verify.Disk)) ⊎ (Fails Write status last × (cause ≡ verify.Write))
-
-end_is : (cause : VerifyFault) (status : Status) (last : List ℕ) → EndsVerify cause status last → IsEnd cause status last
-end_is verify.Disk status last ends = inr (inr (inl (ends, refl)))
-end_is (verify.Damaged p) status last (inl says) = inl (says.0, inr (p, refl, says.1))
-end_is (verify.Damaged p) status last (inr fails) = inr (inl fails)
-end_is verify.SchemaDiffers status last (inl says) = inl (says.0, inl (refl, says.1))
-end_is verify.SchemaDiffers status last (inr fails) = inr (inl fails)
-end_is verify.Memory status last ends = inr (inl ends)
-end_is verify.Write status last ends = inr (inr (inr (ends, refl)))
-
--- it is none that a verify of a legal log may have
-not_outside : (cause : VerifyFault) (last : List ℕ) → IsRefusal cause last → IsFromOutside cause → ⊥
-not_outside cause last (inl s) (inl e) = absurd (let x : verify.SchemaDiffers ≡ verify.Disk = sym s.0 ∙ e in cc)
-not_outside cause last (inl s) (inr (inl e)) = absurd (let x : verify.SchemaDiffers ≡ verify.Memory = sym s.0 ∙ e in cc)
-not_outside cause last (inl s) (inr (inr e)) = absurd (let x : verify.SchemaDiffers ≡ verify.Write = sym s.0 ∙ e in cc)
-not_outside cause last (inr d) (inl e) = absurd (let x : verify.Damaged d.0 ≡ verify.Disk = sym d.1 ∙ e in cc)
-not_outside cause last (inr d) (inr (inl e)) = absurd (let x : verify.Damaged d.0 ≡ verify.Memory = sym d.1 ∙ e in cc)
-not_outside cause last (inr d) (inr (inr e)) = absurd (let x : verify.Damaged d.0 ≡ verify.Write = sym d.1 ∙ e in cc)
-
-end_status : (cause : VerifyFault) (status : Status) (last : List ℕ) → IsEnd cause status last → IsVerifyStatus status
-end_status cause status last (inl s) = inr (inr (inl s.0))
-end_status cause status last (inr (inl m)) = inr (inr (inr (inr (inl m.0))))
-end_status cause status last (inr (inr (inl d))) = inr (inr (inr (inl d.0.0)))
-end_status cause status last (inr (inr (inr w))) = inr (inr (inr (inr (inr w.0.0))))
-
-end_whole : (cause : VerifyFault) (status : Status) (last : List ℕ) → IsEnd cause status last → IsWhole status → ⊥
-end_whole cause status last (inl s) = never_whole status Store s.0 (λ e. absurd (cc e)) (λ e. absurd (cc e))
-end_whole cause status last (inr (inl m)) = never_whole status Memory m.0 (λ e. absurd (cc e)) (λ e. absurd (cc e))
-end_whole cause status last (inr (inr (inl d))) = never_whole status Disk d.0.0 (λ e. absurd (cc e)) (λ e. absurd (cc e))
-end_whole cause status last (inr (inr (inr w))) = never_whole status Write w.0.0 (λ e. absurd (cc e)) (λ e. absurd (cc e))
-
-end_line : (cause : VerifyFault) (status : Status) (last : List ℕ) → IsEnd cause status last → (status ≡ Store) ⊎ (last ≡ last_line status)
-end_line cause status last (inl s) = inl s.0
-end_line cause status last (inr (inl m)) = inr (m.1 ∙ ap last_line (sym m.0))
-end_line cause status last (inr (inr (inl d))) = inr (d.0.1 ∙ ap last_line (sym d.0.0))
-end_line cause status last (inr (inr (inr w))) = inr (w.0.1 ∙ ap last_line (sym w.0.0))
-
-end_disk : (cause : VerifyFault) (status : Status) (last : List ℕ) → IsEnd cause status last → status ≡ Disk → cause ≡ verify.Disk
-end_disk cause status last (inl s) is = absurd (other_than status Store Disk s.0 (λ e. absurd (cc e)) is)
-end_disk cause status last (inr (inl m)) is = absurd (other_than status Memory Disk m.0 (λ e. absurd (cc e)) is)
-end_disk cause status last (inr (inr (inl d))) is = d.1
-end_disk cause status last (inr (inr (inr w))) is = absurd (other_than status Write Disk w.0.0 (λ e. absurd (cc e)) is)
-
-end_write : (cause : VerifyFault) (status : Status) (last : List ℕ) → IsEnd cause status last → status ≡ Write → cause ≡ verify.Write
-end_write cause status last (inl s) is = absurd (other_than status Store Write s.0 (λ e. absurd (cc e)) is)
-end_write cause status last (inr (inl m)) is = absurd (other_than status Memory Write m.0 (λ e. absurd (cc e)) is)
-end_write cause status last (inr (inr (inl d))) is = absurd (other_than status Disk Write d.0.0 (λ e. absurd (cc e)) is)
-end_write cause status last (inr (inr (inr w))) is = w.1
-
-end_store : (cause : VerifyFault) (status : Status) (last : List ℕ) → IsEnd cause status last → status ≡ Store → IsRefusal cause last
-end_store cause status last (inl s) is = s.1
-end_store cause status last (inr (inl m)) is = absurd (other_than status Memory Store m.0 (λ e. absurd (cc e)) is)
-end_store cause status last (inr (inr (inl d))) is = absurd (other_than status Disk Store d.0.0 (λ e. absurd (cc e)) is)
-end_store cause status last (inr (inr (inr w))) is = absurd (other_than status Write Store w.0.0 (λ e. absurd (cc e)) is)
-
-write_is : (cause : VerifyFault) (status : Status) (last : List ℕ) → EndsVerify cause status last → cause ≡ verify.Write → status ≡ Write
-write_is cause status last ends is = let e : EndsVerify verify.Write status last = subst (λ c. EndsVerify c status last) is ends in e.0
+outside : (cause : VerifyFault) → IsFromOutside cause → Outside cause
+outside cause (inl e) = subst Outside (sym e) tt
+outside cause (inr (inl e)) = subst Outside (sym e) tt
+outside cause (inr (inr e)) = subst Outside (sym e) tt
 
 -- a store that is ready for a verify is one that the plan's terms are held against
-pub verifiable : (plan : Planned) (now : Option Image) → Serves plan.shape.fields (plan_for plan.queries) → (ready : IsReadyVerify plan now) → IsVerifiable (terms_for plan) plan.defaults ready.image ready.events
+verifiable : (plan : Planned) (now : Option Image) → Serves plan.shape.fields (plan_for plan.queries) → (ready : IsReadyVerify plan now) → IsVerifiable (terms_for plan) plan.defaults ready.image ready.events
 verifiable plan now serves ready = record { has = ready.has; serves = serves }
 
 -- a plan that was read has these terms
@@ -136,244 +64,147 @@ terms_same plan is =
 pub verifiable_as : (plan : Plan) (now : Option Image) → IsReadPlan plan → Serves plan.schema.fields (plan_for (planned plan).queries) → (ready : IsReadyVerify (planned plan) now) → IsVerifiable (terms_of plan.queries plan.schema plan.task) plan.defaults ready.image ready.events
 verifiable_as plan now is serves ready = subst (λ t. IsVerifiable t plan.defaults ready.image ready.events) (sym (terms_same plan is)) (verifiable (planned plan) now serves ready)
 
--- The causes of a fault.
-module _ {H : Type 0} (now : H → Option Image) (disk_faults out_faults : H → ℕ) (plan : Planned) (cause : VerifyFault) (status : Status) (last : List ℕ) (old new : H) (ends : EndsVerify cause status last)
-    (outside : IsReadyVerify plan (now old) → IsFromOutside cause)
-    (differs : cause ≡ verify.SchemaDiffers → ForSome (now old) (IsOfOther plan))
-    (damaged : (p : ℕ) → cause ≡ verify.Damaged p → ForSome (now old) (λ v. damage_of (v 2) ≡ Some p))
-    (disk : cause ≡ verify.Disk → Rose (disk_faults old) (disk_faults new)) (write : cause ≡ verify.Write → Rose (out_faults old) (out_faults new)) where
-  line_of : IsRefusal cause last → IsVerifyLine plan (now old) last
-  line_of (inl s) = inl (s.1, differs s.0)
-  line_of (inr d) = inr (d.0, d.2, damaged d.0 d.1)
+-- The causes of a fault, and what was put.
+module _ (plan : Planned) (h : HostOutcome) (last : List ℕ) (status : Status) where
+  silent_at : (cause : VerifyFault) → (cause ≡ verify.Write → ⊥) → (cause ≡ verify.Write) ⊎ h.puts [] → h.puts []
+  silent_at cause not (inl write) = absurd (not write)
+  silent_at cause not (inr none) = none
 
-  pub caused : IsVerifyEnd now disk_faults out_faults plan status last old new
-  caused =
-      let end = end_is cause status last ends in
-      record {
-        status_is = end_status cause status last end;
-        line = end_line cause status last end;
-        store = λ is. let refusal = end_store cause status last end is in record { unready = λ ready. not_outside cause last refusal (outside ready); line = line_of refusal };
-        disk = λ is. disk (end_disk cause status last end is);
-        write = λ is. write (end_write cause status last end is);
-        fit = λ whole. absurd (end_whole cause status last end whole);
-      }
+  pub row_of : (cause : VerifyFault) → EndsVerify cause status last → (IsReadyVerify plan h.image → IsFromOutside cause) → (cause ≡ verify.SchemaDiffers → ForSome h.image (IsOfOther plan)) → ((p : ℕ) → cause ≡ verify.Damaged p → ForSome h.image (λ v. damage_of (v 2) ≡ Some p)) →
+      (cause ≡ verify.Disk → h.disk_failed) → (cause ≡ verify.Write → h.put_failed) → (cause ≡ verify.Write) ⊎ h.puts [] → (cause ≡ verify.Write → (ready : IsReadyVerify plan h.image) → IsCut (terms_for plan) ready.image ready.events h.puts) → VerifyEnds plan h last status
+  row_of verify.Disk ends legal differs damaged disk write silent cut = subst (VerifyEnds plan h last) (sym ends.0) (silent_at verify.Disk (λ e. absurd (cc e)) silent, disk refl, ends.1)
+  row_of (verify.Damaged p) (inl says) legal differs damaged disk write silent cut =
+      subst (VerifyEnds plan h last) (sym says.0) (silent_at (verify.Damaged p) (λ e. absurd (cc e)) silent, record { unready = λ ready. outside (verify.Damaged p) (legal ready); line = inr (p, says.1, damaged p refl) })
+  row_of (verify.Damaged p) (inr fails) legal differs damaged disk write silent cut = subst (VerifyEnds plan h last) (sym fails.0) (silent_at (verify.Damaged p) (λ e. absurd (cc e)) silent, fails.1)
+  row_of verify.SchemaDiffers (inl says) legal differs damaged disk write silent cut =
+      subst (VerifyEnds plan h last) (sym says.0) (silent_at verify.SchemaDiffers (λ e. absurd (cc e)) silent, record { unready = λ ready. outside verify.SchemaDiffers (legal ready); line = inl (says.1, differs refl) })
+  row_of verify.SchemaDiffers (inr fails) legal differs damaged disk write silent cut = subst (VerifyEnds plan h last) (sym fails.0) (silent_at verify.SchemaDiffers (λ e. absurd (cc e)) silent, fails.1)
+  row_of verify.Memory ends legal differs damaged disk write silent cut = subst (VerifyEnds plan h last) (sym ends.0) (silent_at verify.Memory (λ e. absurd (cc e)) silent, ends.1)
+  row_of verify.Write ends legal differs damaged disk write silent cut = subst (VerifyEnds plan h last) (sym ends.0) (cut refl, write refl, ends.1)
 
--- all lines were put
-module _ {H : Type 0} (now : H → Option Image) (disk_faults out_faults : H → ℕ) (plan : Planned) (old new : H)
-    (undamaged : ForSome (now old) (λ v. damage_of (v 2) ≡ None)) (ours : (v : Image) → now old ≡ Some v → HasOtherSchema plan v → ⊥) where
-  fits : (v : Image) → now old ≡ Some v → IsRefusedStore plan v → ⊥
-  fits v told (inl other) = ours v told other
-  fits v told (inr damaged) = let e : None ≡ Some damaged.0 = sym (undamaged v told) ∙ damaged.1 in absurd (cc)
+-- all lines were put: the log is none that is refused
+pub fits : (plan : Planned) (now : Option Image) → ForSome now (λ v. damage_of (v 2) ≡ None) → ((v : Image) → now ≡ Some v → HasOtherSchema plan v → ⊥) → (v : Image) → now ≡ Some v → IsRefusedStore plan v → ⊥
+fits plan now undamaged ours v told (inl other) = ours v told other
+fits plan now undamaged ours v told (inr damaged) = let e : None ≡ Some damaged.0 = sym (undamaged v told) ∙ damaged.1 in absurd (cc)
 
-  pub ok_caused : IsVerifyEnd now disk_faults out_faults plan Ok [] old new
-  ok_caused = record {
-    status_is = inl refl;
-    line = inr refl;
-    store = λ e. absurd (cc e);
-    disk = λ e. absurd (cc e);
-    write = λ e. absurd (cc e);
-    fit = λ whole. fits;
+-- the causes of a verify by a legal plan
+row_cause : (plan : SourceOutcome) (asks : Planned) → IfSome plan.told (λ bytes. IsPlan bytes asks) → (h : HostOutcome) (last : List ℕ) (told : Option Refusal) (status : Status) → VerifyEnds asks h last status → cause (causes (Some Verify) (outcome plan not_given h) last told) status
+row_cause plan asks legal h last told Ok row = ((λ reads. legal_of plan.told asks legal), (λ run. absurd run), (λ shows. absurd shows))
+row_cause plan asks legal h last told Usage row = absurd row
+row_cause plan asks legal h last told BadPlan row = absurd row
+row_cause plan asks legal h last told Store row = inr (inr (inr (tt, record { asks = asks; legal = legal; refusal = row.1 })))
+row_cause plan asks legal h last told Read row = absurd row
+row_cause plan asks legal h last told Write row = ((λ reads. legal_of plan.told asks legal), row.1)
+row_cause plan asks legal h last told Disk row = (inr (inr (inr (tt, legal_of plan.told asks legal))), row.1)
+row_cause plan asks legal h last told Limit row = absurd row
+row_cause plan asks legal h last told Memory row = tt
+row_cause plan asks legal h last told Gap row = absurd row
+row_cause plan asks legal h last told Differs row = (tt, legal_of plan.told asks legal)
+
+-- nothing was put but where all lines were, or a put failed, and the last line says why the store is refused, or is the status's
+row_silent : (asks : Planned) (h : HostOutcome) (last : List ℕ) (status : Status) → VerifyEnds asks h last status → (IsWhole status → ⊥) → (status ≡ Write → ⊥) → h.puts [] × IsVerifyLast asks h.image status last
+row_silent asks h last Ok row whole write = absurd (whole (inl refl))
+row_silent asks h last Usage row whole write = absurd row
+row_silent asks h last BadPlan row whole write = absurd row
+row_silent asks h last Store row whole write = (row.0, inl (refl, row.1.line))
+row_silent asks h last Read row whole write = absurd row
+row_silent asks h last Write row whole write = absurd (write refl)
+row_silent asks h last Disk row whole write = (row.0, inr row.2)
+row_silent asks h last Limit row whole write = absurd row
+row_silent asks h last Memory row whole write = (row.0, inr row.1)
+row_silent asks h last Gap row whole write = absurd row
+row_silent asks h last Differs row whole write = absurd (whole (inr refl))
+
+-- where no put and no call on a file failed
+row_completes : (asks : Planned) (h : HostOutcome) (last : List ℕ) → (h.put_failed ⊎ h.disk_failed → ⊥) → (status : Status) → VerifyEnds asks h last status → IsWhole status ⊎ (status ≡ Memory) ⊎ (status ≡ Store)
+row_completes asks h last none Ok row = inl (inl refl)
+row_completes asks h last none Usage row = absurd row
+row_completes asks h last none BadPlan row = absurd row
+row_completes asks h last none Store row = inr (inr refl)
+row_completes asks h last none Read row = absurd row
+row_completes asks h last none Write row = absurd (none (inl row.1))
+row_completes asks h last none Disk row = absurd (none (inr row.1))
+row_completes asks h last none Limit row = absurd row
+row_completes asks h last none Memory row = inr (inl refl)
+row_completes asks h last none Gap row = absurd row
+row_completes asks h last none Differs row = inl (inr refl)
+
+-- all lines were put: at the two statuses
+module _ (asks : Planned) (h : HostOutcome) (last : List ℕ) (status : Status) (row : VerifyEnds asks h last status) where
+  at_row : (known : Status) → status ≡ known → VerifyEnds asks h last known
+  at_row known is = subst (VerifyEnds asks h last) is row
+
+  whole_line : IsWhole status → last ≡ []
+  whole_line (inl is) = (at_row Ok is).0
+  whole_line (inr is) = (at_row Differs is).0
+
+  whole_said : IsWhole status → (ready : IsReadyVerify asks h.image) → SaysSlots ready h (is_differs status)
+  whole_said (inl is) ready = subst (λ d. SaysSlots ready h d) (sym (ap is_differs is)) ((at_row Ok is).1 ready)
+  whole_said (inr is) ready = subst (λ d. SaysSlots ready h d) (sym (ap is_differs is)) ((at_row Differs is).1 ready)
+
+  whole_fit : IsWhole status → (v : Image) → h.image ≡ Some v → IsRefusedStore asks v → ⊥
+  whole_fit (inl is) = (at_row Ok is).2
+  whole_fit (inr is) = (at_row Differs is).2
+
+-- With the last line.
+module _ {H : Type 0} (g : HostMembers H) (only : (h : H) (m : Moment) → g.since h (g.clock h) m → g.may h m.image × ForSome (g.said h) (λ t. m.said ≡ t)) (sinks : (h : H) (t u : ℕ) (m : Moment) → t ≤ u → g.since h u m → g.since h t m) (old mid new : H)
+    (plan : SourceOutcome) (last : List ℕ) (told : Option Refusal) (status : Status) (e : PutsLast g last mid new) (own : IsOwnLine status last) where
+  abbrev Goes : Planned → Type 0
+  Goes asks = VerifiesStore asks (host_outcome g old mid) status last
+
+  abbrev By : Type 0
+  By = GoesBy plan last told status (mid ≡ old) Goes
+
+  pub verify_ends : By → EndsFor (Some Verify) (outcome plan not_given (host_outcome g old mid)) status last told
+  verify_ends by = ends_by g only sinks old mid new plan last told status e own (Some Verify) Goes tt by
+      (λ asks legal goes. (row_cause plan asks legal (host_outcome g old mid) last told status goes.ends, goes.files, goes.later))
+
+  unread_whole : UnreadFor plan last told status → IsWhole status → ⊥
+  unread_whole u (inl ok) = never_unread plan last told status u Ok ok
+  unread_whole u (inr differs) = never_unread plan last told status u Differs differs
+
+  -- by the plan that is told
+  module _ (bytes : List ℕ) (asks : Planned) (is : plan.told ≡ Some bytes) (says : IsPlan bytes asks) where
+    row_at : (p : Planned) → IfSome plan.told (λ b. IsPlan b p) → Goes p → VerifyEnds asks (host_outcome g old mid) last status
+    row_at p legal goes = subst (λ q. VerifyEnds q (host_outcome g old mid) last status) (bytes_ask plan.told p legal bytes asks is says) goes.ends
+
+    said_by : By → IsWhole status → (ready : IsReadyVerify asks (g.now old)) → SaysSlots ready (host_outcome g old new) (is_differs status)
+    said_by (inl u) whole ready = absurd (unread_whole u.0 whole)
+    said_by (inr by) whole ready =
+        let row = row_at by.0 by.1 by.2 in
+        subst (λ h. SaysSlots ready (host_outcome g old h) (is_differs status)) (sym (e.silent (whole_line asks (host_outcome g old mid) last status row whole))) (whole_said asks (host_outcome g old mid) last status row whole ready)
+
+    cut_by : By → status ≡ Write → (ready : IsReadyVerify asks (g.now old)) → IsCut (terms_for asks) ready.image ready.events (Puts g.said g.clock g.since old new)
+    cut_by (inl u) write ready = absurd (never_unread plan last told status u.0 Write write)
+    cut_by (inr by) write ready =
+        let row = at_row asks (host_outcome g old mid) last status (row_at by.0 by.1 by.2) Write write in
+        subst (λ h. IsCut (terms_for asks) ready.image ready.events (Puts g.said g.clock g.since old h)) (sym (e.silent row.2)) (row.0 ready)
+
+    silent_by : By → (IsWhole status → ⊥) → (status ≡ Write → ⊥) → (line : List ℕ) × IsVerifyLast asks (g.now old) status line × PutsLine line (host_outcome g old new)
+    silent_by (inl u) whole write = (last, inr (fails_line plan.failed status last (unread_fails plan last told status u.0 bytes is asks says)).0, puts_line g old mid new last e (idle_later g only sinks old mid u.1) (idle_put g only sinks old mid u.1))
+    silent_by (inr by) whole write =
+        let none = row_silent asks (host_outcome g old mid) last status (row_at by.0 by.1 by.2) whole write in
+        (last, none.1, puts_line g old mid new last e by.2.later none.0)
+
+    fit_by : By → IsWhole status → (v : Image) → g.now old ≡ Some v → IsRefusedStore asks v → ⊥
+    fit_by (inl u) whole v = absurd (unread_whole u.0 whole)
+    fit_by (inr by) whole v = whole_fit asks (host_outcome g old mid) last status (row_at by.0 by.1 by.2) whole v
+
+    never_by : By → IsReadyVerify asks (g.now old) → status ≡ Store → ⊥
+    never_by (inl u) ready store = never_unread plan last told status u.0 Store store
+    never_by (inr by) ready store = (at_row asks (host_outcome g old mid) last status (row_at by.0 by.1 by.2) Store store).1.unready ready
+
+    completes_by : By → (plan.failed ⊎ Rose (g.out_faults old) (g.out_faults new) ⊎ Rose (g.disk_faults old) (g.disk_faults new) → ⊥) → IsWhole status ⊎ (status ≡ Memory) ⊎ (status ≡ Store)
+    completes_by (inl u) none = ⊎_elim (λ m. inr (inl m.0)) (λ more. ⊎_elim (λ d. absurd (never_unread plan last told status u.0 Disk d.0)) (λ read. absurd (none (inl read.1))) more) (unread_fails plan last told status u.0 bytes is asks says)
+    completes_by (inr by) none = row_completes asks (host_outcome g old mid) last (λ rose. none (inr (⊎_elim (λ put. inl (put_rose g old mid new last e by.2.later put)) (λ disk. inr (disk_rose g old mid new last e by.2.later disk)) rose))) status (row_at by.0 by.1 by.2)
+
+  pub verify_promises : By → VerifyPromises plan (host_outcome g old new) status
+  verify_promises by = record {
+    verified = λ whole told. said_by told.plan_bytes told.asks told.plan_is told.says by whole told.ready;
+    verify_cut = λ write told. cut_by told.plan_bytes told.asks told.plan_is told.says by write told.ready;
+    verify_silent = λ bytes asks is says whole write. silent_by bytes asks is says by whole write;
+    verify_fit = λ whole bytes asks v is says now. fit_by bytes asks is says by whole v now;
+    verify_never = λ told store. never_by told.plan_bytes told.asks told.plan_is told.says by told.ready store;
+    completes_verify = λ bytes asks is says none. completes_by bytes asks is says by none;
+    refused_plan = refuses_plan g only sinks old mid new plan last told status e own (mid ≡ old) Goes (λ same. same) by;
   }
-
-  pub differs_caused : IsVerifyEnd now disk_faults out_faults plan Differs [] old new
-  differs_caused = record {
-    status_is = inr (inl refl);
-    line = inr refl;
-    store = λ e. absurd (cc e);
-    disk = λ e. absurd (cc e);
-    write = λ e. absurd (cc e);
-    fit = λ whole. fits;
-  }
-
-module _ {H : Type 0} (said : H → Option (List ℕ)) (clock : H → ℕ) (since : H → ℕ → Moment → Type 0) where
-  module _ (plan : Planned) (image : Image) (events : List Event) (old new : H) where
-    pub verified_ok : IsSaid (terms_for plan) image events (Puts said clock since old new) false → Verified said clock since plan image events ⊥ Ok [] old new
-    verified_ok is = record { all = λ whole. is; cut = λ e. absurd (cc e); line = refl; status_is = ((λ e. absurd (cc e)), (λ e. absurd (cc e))) }
-
-    pub verified_differs : IsSaid (terms_for plan) image events (Puts said clock since old new) true → Verified said clock since plan image events ⊥ Differs [] old new
-    verified_differs is = record { all = λ whole. is; cut = λ e. absurd (cc e); line = refl; status_is = ((λ e. absurd (cc e)), (λ e. absurd (cc e))) }
-
-    module _ (cause : VerifyFault) (status : Status) (last : List ℕ) (ends : EndsVerify cause status last) (outside : IsFromOutside cause) where
-      own : IsEnd cause status last → (last ≡ last_line status) × (status ≡ Read → ⊥) × (status ≡ Store → ⊥)
-      own (inl s) = absurd (not_outside cause last s.1 outside)
-      own (inr (inl m)) = (m.1 ∙ ap last_line (sym m.0), other_than status Memory Read m.0 (λ e. absurd (cc e)), other_than status Memory Store m.0 (λ e. absurd (cc e)))
-      own (inr (inr (inl d))) = (d.0.1 ∙ ap last_line (sym d.0.0), other_than status Disk Read d.0.0 (λ e. absurd (cc e)), other_than status Disk Store d.0.0 (λ e. absurd (cc e)))
-      own (inr (inr (inr w))) = (w.0.1 ∙ ap last_line (sym w.0.0), other_than status Write Read w.0.0 (λ e. absurd (cc e)), other_than status Write Store w.0.0 (λ e. absurd (cc e)))
-
-      pub verified_err : (cause ≡ verify.Write → IsCut (terms_for plan) image events (Puts said clock since old new)) → Verified said clock since plan image events ⊥ status last old new
-      verified_err cut =
-          let end = end_is cause status last ends in
-          let is = own end in
-          record { all = λ whole. absurd (end_whole cause status last end whole); cut = λ w. cut (end_write cause status last end w); line = is.0; status_is = ((λ read. is.1 read), is.2) }
-
-  pub silent_ok : (old new : H) → IsSilent said clock since Ok old new
-  silent_ok old new not_whole not_write = absurd (not_whole (inl refl))
-
-  pub silent_differs : (old new : H) → IsSilent said clock since Differs old new
-  silent_differs old new not_whole not_write = absurd (not_whole (inr refl))
-
-  pub silent_err : (cause : VerifyFault) (status : Status) (last : List ℕ) (old new : H) → EndsVerify cause status last → (cause ≡ verify.Write) ⊎ Puts said clock since old new [] → IsSilent said clock since status old new
-  silent_err cause status last old new ends (inl write) not_whole not_write = absurd (not_write (write_is cause status last ends write))
-  silent_err cause status last old new ends (inr puts) not_whole not_write = puts
-
-  -- The plan was not read, though legal bytes are told: nothing was put.
-  module _ (plan : Planned) (image : Image) (events : List Event) (unread : Type 0) (status : Status) (last : List ℕ) (old : H) where
-    failed_own : EndsFailed unread status last → (IsWhole status → ⊥) × (status ≡ Write → ⊥) × (last ≡ last_line status) × (status ≡ Read → unread) × (status ≡ Store → ⊥)
-    failed_own (inl m) = (never_whole status Memory m.0 (λ e. absurd (cc e)) (λ e. absurd (cc e)), other_than status Memory Write m.0 (λ e. absurd (cc e)), m.1 ∙ ap last_line (sym m.0), (λ is. absurd (other_than status Memory Read m.0 (λ e. absurd (cc e)) is)), other_than status Memory Store m.0 (λ e. absurd (cc e)))
-    failed_own (inr (inl d)) = (never_whole status Disk d.0 (λ e. absurd (cc e)) (λ e. absurd (cc e)), other_than status Disk Write d.0 (λ e. absurd (cc e)), d.1 ∙ ap last_line (sym d.0), (λ is. absurd (other_than status Disk Read d.0 (λ e. absurd (cc e)) is)), other_than status Disk Store d.0 (λ e. absurd (cc e)))
-    failed_own (inr (inr read)) = (never_whole status Read read.0.0 (λ e. absurd (cc e)) (λ e. absurd (cc e)), other_than status Read Write read.0.0 (λ e. absurd (cc e)), read.0.1 ∙ ap last_line (sym read.0.0), (λ is. read.1), other_than status Read Store read.0.0 (λ e. absurd (cc e)))
-
-    pub verified_unread : EndsFailed unread status last → Verified said clock since plan image events unread status last old old
-    verified_unread ends =
-        let is = failed_own ends in
-        record { all = λ whole. absurd (is.0 whole); cut = λ write. absurd (is.1 write); line = is.2; status_is = (is.3, is.4) }
-
-  -- a cause of a read that failed
-  pub verified_for : (plan : Planned) (image : Image) (events : List Event) (unread : Type 0) (status : Status) (last : List ℕ) (old new : H) → Verified said clock since plan image events ⊥ status last old new → Verified said clock since plan image events unread status last old new
-  verified_for plan image events unread status last old new h = record { all = h.all; cut = h.cut; line = h.line; status_is = ((λ read. absurd (h.status_is.0 read)), h.status_is.1) }
-
-  -- a verify by the plan that was read, as one by the plan that is asked for
-  pub verified_at : (plan : Option (List ℕ)) (now : Option Image) (told : ToldVerify plan now) (unread : Type 0) (status : Status) (last : List ℕ) (old new : H) (p : Planned) → IfSome plan (λ bytes. IsPlan bytes p) →
-      ((ready : IsReadyVerify p now) → Verified said clock since p ready.image ready.events ⊥ status last old new) → Verified said clock since told.asks told.ready.image told.ready.events unread status last old new
-  verified_at plan now told unread status last old new p legal goes =
-      let Goes : Planned → Type 0 = λ q. (ready : IsReadyVerify q now) → Verified said clock since q ready.image ready.events ⊥ status last old new in
-      verified_for told.asks told.ready.image told.ready.events unread status last old new (subst Goes (bytes_ask plan p legal told.plan_bytes told.asks told.plan_is told.says) goes told.ready)
-
-  -- With the last line of the status.
-  module _ (last : List ℕ) (failed : Type 0) (old mid new : H) (none : Puts said clock since old mid []) where
-    puts_part : (part : List ℕ) → IsPrefix part last → (part ≡ last) ⊎ failed → Puts said clock since mid new part → PutsLine said clock since last failed old new
-    puts_part part front whole puts = record { part = part; front = front; whole = whole; puts = puts-then said clock since old mid new [] part none puts }
-
-    pub puts_line : (part : List ℕ) × IsPrefix part last × Puts said clock since mid new part → Puts said clock since mid new last ⊎ failed → PutsLine said clock since last failed old new
-    puts_line some (inl all) = puts_part last ([], append-nil last) (inl refl) all
-    puts_line some (inr rose) = puts_part some.0 some.1 (inr rose) some.2
-
--- what a store that is refused says, by the plan that is asked for
-pub fit_at : (plan : Option (List ℕ)) (now : Option Image) (p : Planned) → IfSome plan (λ bytes. IsPlan bytes p) → (bytes : List ℕ) (asks : Planned) (v : Image) → plan ≡ Some bytes → IsPlan bytes asks → (IsRefusedStore p v → ⊥) → IsRefusedStore asks v → ⊥
-fit_at plan now p legal bytes asks v is says goes =
-    let Goes : Planned → Type 0 = λ q. IsRefusedStore q v → ⊥ in
-    subst Goes (bytes_ask plan p legal bytes asks is says) goes
-
--- The statuses of a verify whose plan was read.
-module _ (other : Status) (not_ok : Ok ≡ other → ⊥) (not_differs : Differs ≡ other → ⊥) (not_store : Store ≡ other → ⊥) (not_disk : Disk ≡ other → ⊥) (not_memory : Memory ≡ other → ⊥) (not_write : Write ≡ other → ⊥) where
-  never : (status : Status) → IsVerifyStatus status → status ≡ other → ⊥
-  never status (inl is) = other_than status Ok other is not_ok
-  never status (inr (inl is)) = other_than status Differs other is not_differs
-  never status (inr (inr (inl is))) = other_than status Store other is not_store
-  never status (inr (inr (inr (inl is)))) = other_than status Disk other is not_disk
-  never status (inr (inr (inr (inr (inl is))))) = other_than status Memory other is not_memory
-  never status (inr (inr (inr (inr (inr is))))) = other_than status Write other is not_write
-
-pub never_plan : (status : Status) → IsVerifyStatus status → status ≡ BadPlan → ⊥
-never_plan = never BadPlan (λ e. absurd (cc e)) (λ e. absurd (cc e)) (λ e. absurd (cc e)) (λ e. absurd (cc e)) (λ e. absurd (cc e)) (λ e. absurd (cc e))
-
-pub never_read : (status : Status) → IsVerifyStatus status → status ≡ Read → ⊥
-never_read = never Read (λ e. absurd (cc e)) (λ e. absurd (cc e)) (λ e. absurd (cc e)) (λ e. absurd (cc e)) (λ e. absurd (cc e)) (λ e. absurd (cc e))
-
-pub never_limit : (status : Status) → IsVerifyStatus status → status ≡ Limit → ⊥
-never_limit = never Limit (λ e. absurd (cc e)) (λ e. absurd (cc e)) (λ e. absurd (cc e)) (λ e. absurd (cc e)) (λ e. absurd (cc e)) (λ e. absurd (cc e))
-
-pub never_gap : (status : Status) → IsVerifyStatus status → status ≡ Gap → ⊥
-never_gap = never Gap (λ e. absurd (cc e)) (λ e. absurd (cc e)) (λ e. absurd (cc e)) (λ e. absurd (cc e)) (λ e. absurd (cc e)) (λ e. absurd (cc e))
-
-pub never_usage : (status : Status) → IsVerifyStatus status → status ≡ Usage → ⊥
-never_usage = never Usage (λ e. absurd (cc e)) (λ e. absurd (cc e)) (λ e. absurd (cc e)) (λ e. absurd (cc e)) (λ e. absurd (cc e)) (λ e. absurd (cc e))
-
--- The words name a verify: no other command.
-
-pub no_shows : (command : Option Command) → IsVerify command → ShowsStore command → ⊥
-no_shows (Some (Run first)) is shows = is
-no_shows (Some (Replay first)) is shows = is
-no_shows (Some Verify) is shows = shows
-no_shows (Some Check) is shows = is
-no_shows (Some Dump) is shows = is
-no_shows (Some Info) is shows = is
-no_shows (Some (Trial lines seed)) is shows = is
-no_shows None is shows = is
-
-pub no_run : (command : Option Command) → IsVerify command → IsRun command → ⊥
-no_run (Some (Run first)) is run = is
-no_run (Some (Replay first)) is run = is
-no_run (Some Verify) is run = run
-no_run (Some Check) is run = is
-no_run (Some Dump) is run = is
-no_run (Some Info) is run = is
-no_run (Some (Trial lines seed)) is run = is
-no_run None is run = is
-
-pub no_replay : (command : Option Command) → IsVerify command → IsReplay command → ⊥
-no_replay (Some (Run first)) is replay = is
-no_replay (Some (Replay first)) is replay = is
-no_replay (Some Verify) is replay = replay
-no_replay (Some Check) is replay = is
-no_replay (Some Dump) is replay = is
-no_replay (Some Info) is replay = is
-no_replay (Some (Trial lines seed)) is replay = is
-no_replay None is replay = is
-
-named : (command : Option Command) → IsVerify command → command ≡ None → ⊥
-named command is none = subst IsVerify none is
-
-pub no_gap : (command : Option Command) → IsVerify command → (first : ℕ) → command ≡ Some (Run first) → ⊥
-no_gap command verifies first is = subst IsVerify is verifies
-
--- where it was too long, the plan was
-pub plan_long : (command : Option Command) → IsVerify command → (plan input : Option (List ℕ)) (bytes : List ℕ) → plan ≡ Some bytes → (Legal : Type 0) → length bytes ≤ 65536 →
-    (ReadsPlan command × IsLonger 65536 plan) ⊎ (Legal × IsRun command × IsLonger (2 ^ 50) input) → ⊥
-plan_long command verifies plan input bytes is Legal within (inl longer) =
-    let P : Option (List ℕ) → Type 0 = λ v. IsLonger 65536 v in
-    let long : 65536 < length bytes = subst P is longer.1 in
-    omega (arith, long, within)
-plan_long command verifies plan input bytes is Legal within (inr longer) = no_run command verifies longer.1
-
--- the store's refusal is that of a verify
-pub refusal_of : (command : Option Command) (Shows Runs Replays Verifies : Type 0) → IsVerify command → (ShowsStore command × Shows) ⊎ (IsRun command × Runs) ⊎ (IsReplay command × Replays) ⊎ (IsVerify command × Verifies) → Verifies
-refusal_of command Shows Runs Replays Verifies is (inl shows) = absurd (no_shows command is shows.0)
-refusal_of command Shows Runs Replays Verifies is (inr (inl runs)) = absurd (no_run command is runs.0)
-refusal_of command Shows Runs Replays Verifies is (inr (inr (inl replays))) = absurd (no_replay command is replays.0)
-refusal_of command Shows Runs Replays Verifies is (inr (inr (inr verifies))) = verifies.1
-
--- a store that is ready isn't refused
-pub ready_never : (plan : Option (List ℕ)) (now : Option Image) (last : List ℕ) → ToldVerify plan now → RefusesVerify plan now last → ⊥
-ready_never plan now last told refuses =
-    let same = bytes_ask plan refuses.asks refuses.legal told.plan_bytes told.asks told.plan_is told.says in
-    refuses.refusal.unready (subst (λ (p : Planned). IsReadyVerify p now) (sym same) told.ready)
-
--- the line of a refusal, by the plan that is asked for
-pub line_at : (plan : Option (List ℕ)) (now : Option Image) (last : List ℕ) → RefusesVerify plan now last → (bytes : List ℕ) (asks : Planned) → plan ≡ Some bytes → IsPlan bytes asks → IsVerifyLine asks now last
-line_at plan now last refuses bytes asks is says = subst (λ (p : Planned). IsVerifyLine p now last) (bytes_ask plan refuses.asks refuses.legal bytes asks is says) refuses.refusal.line
-
-pub not_refused : (plan : Option (List ℕ)) (bytes : List ℕ) (asks : Planned) → plan ≡ Some bytes → IsPlan bytes asks → IsRefusedPlan plan → ⊥
-not_refused plan bytes asks is says refused =
-    let P : Option (List ℕ) → Type 0 = λ v. IsRefusedPlan v in
-    let bad : IsRefusedPlan (Some bytes) = subst P is refused in
-    let e : r.Ok asks ≡ r.Err bad.0 = one_plan bytes (r.Ok asks) (r.Err bad.0) says.says bad.1.says in absurd (cc)
-
--- the last line of a verify by a legal plan
-pub last_at : (plan : Option (List ℕ)) (now : Option Image) (status : Status) (last : List ℕ) (bytes : List ℕ) (asks : Planned) → plan ≡ Some bytes → IsPlan bytes asks → (status ≡ BadPlan → IsRefusedPlan plan) → (status ≡ Store → RefusesVerify plan now last) → (status ≡ Gap → ⊥) →
-    (status ≡ BadPlan) ⊎ (status ≡ Store) ⊎ (status ≡ Gap) ⊎ (last ≡ last_line status) → IsVerifyLast asks now status last
-last_at plan now status last bytes asks is says refused store gap (inl bad) = absurd (not_refused plan bytes asks is says (refused bad))
-last_at plan now status last bytes asks is says refused store gap (inr (inl is_store)) = inl (is_store, line_at plan now last (store is_store) bytes asks is says)
-last_at plan now status last bytes asks is says refused store gap (inr (inr (inl is_gap))) = absurd (gap is_gap)
-last_at plan now status last bytes asks is says refused store gap (inr (inr (inr own))) = inr own
-
--- Where no count rose, a verify by a legal plan puts its lines, or ends for want of memory or with the store's refusal. A, C and D say that the
--- counts of plan, output and disk rose.
-module _ (command : Option Command) (verifies : IsVerify command) (bytes : List ℕ) (asks : Planned) (says : IsPlan bytes asks) (A C D : Type 0) (none : A ⊎ C ⊎ D → ⊥) where
-  verify_ends : (status : Status) → (status ≡ Usage → command ≡ None) → (status ≡ BadPlan → ⊥) → (status ≡ Read → A) → (status ≡ Write → C) → (status ≡ Disk → D) → (status ≡ Limit → length bytes ≤ 65536 → ⊥) → (status ≡ Gap → ⊥) → IsWhole status ⊎ (status ≡ Memory) ⊎ (status ≡ Store)
-  verify_ends Ok usage plan read write disk limit gap = inl (inl refl)
-  verify_ends Usage usage plan read write disk limit gap = absurd (named command verifies (usage refl))
-  verify_ends BadPlan usage plan read write disk limit gap = absurd (plan refl)
-  verify_ends Store usage plan read write disk limit gap = inr (inr refl)
-  verify_ends Read usage plan read write disk limit gap = absurd (none (inl (read refl)))
-  verify_ends Write usage plan read write disk limit gap = absurd (none (inr (inl (write refl))))
-  verify_ends Disk usage plan read write disk limit gap = absurd (none (inr (inr (disk refl))))
-  verify_ends Limit usage plan read write disk limit gap = absurd (limit refl says.within)
-  verify_ends Memory usage plan read write disk limit gap = inr (inl refl)
-  verify_ends Gap usage plan read write disk limit gap = absurd (gap refl)
-  verify_ends Differs usage plan read write disk limit gap = inl (inr refl)
-
-pub verify_completes : (command : Option Command) → IsVerify command → (plan : Option (List ℕ)) (bytes : List ℕ) (asks : Planned) → plan ≡ Some bytes → IsPlan bytes asks → (A C D : Type 0) → (A ⊎ C ⊎ D → ⊥) → (status : Status) → (status ≡ Usage → command ≡ None) → (status ≡ BadPlan → IsRefusedPlan plan) → (status ≡ Read → A) → (status ≡ Write → C) →
-    (status ≡ Disk → D) → (status ≡ Limit → (length bytes ≤ 65536 → ⊥)) → (status ≡ Gap → ⊥) → IsWhole status ⊎ (status ≡ Memory) ⊎ (status ≡ Store)
-verify_completes command verifies plan bytes asks is says A C D none status usage refused read write disk limit gap =
-    verify_ends command verifies bytes asks says A C D none status usage (λ bad. not_refused plan bytes asks is says (refused bad)) read write disk limit gap

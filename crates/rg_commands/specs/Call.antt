@@ -144,59 +144,34 @@ abbrev pub store_status : Option ℕ → Status
 store_status None = Ok
 store_status (Some place) = Store
 
--- What the words ask for. `text` and `status` are of a call which carries out no run, replay or verify; `before_damage` are the lines that are
--- put of a damaged log, before the line that says the place.
+-- What the words ask for: whether it runs, replays, verifies, reads its plan and shows the store.
 pub record Form : Type 1 where
   pub runs : Type 0
   pub replays : Type 0
   pub verifies : Type 0
   pub reads_plan : Type 0
   pub shows_store : Type 0
-  pub carries : List ℕ → Result Planned ConfigFault → Type 0
-  pub text : Status → Result Planned ConfigFault → Image → List (List ℕ) → Type 0
-  pub before_damage : Image → List (List ℕ)
-  pub status : List ℕ → Result Planned ConfigFault → Image → Status
 
 -- a form by its fields, in their order
-abbrev pub form : Type 0 → Type 0 → Type 0 → Type 0 → Type 0 → (List ℕ → Result Planned ConfigFault → Type 0) → (Status → Result Planned ConfigFault → Image → List (List ℕ) → Type 0) → (Image → List (List ℕ)) → (List ℕ → Result Planned ConfigFault → Image → Status) → Form
-form runs replays verifies reads_plan shows_store carries text before_damage status = record {
+abbrev pub form : Type 0 → Type 0 → Type 0 → Type 0 → Type 0 → Form
+form runs replays verifies reads_plan shows_store = record {
   runs = runs;
   replays = replays;
   verifies = verifies;
   reads_plan = reads_plan;
   shows_store = shows_store;
-  carries = carries;
-  text = text;
-  before_damage = before_damage;
-  status = status;
 }
 
-abbrev pub never_carried : List ℕ → Result Planned ConfigFault → Type 0
-never_carried bytes asks = ⊥
-
-abbrev pub no_text : Status → Result Planned ConfigFault → Image → List (List ℕ) → Type 0
-no_text status asks image text = text ≡ []
-
-abbrev pub no_lines : Image → List (List ℕ)
-no_lines image = []
-
-abbrev pub by_plan : List ℕ → Result Planned ConfigFault → Image → Status
-by_plan plan asks image = plan_status plan asks
-
-abbrev pub by_store : List ℕ → Result Planned ConfigFault → Image → Status
-by_store plan asks image = store_status (damage_of (image 2))
-
--- what each command does, a row each: whether it runs, replays, verifies, reads its plan and shows the store; and then whether its plan is
--- carried out over the store, its text, the lines before a damage, and its status
+-- what each command does, a row each: whether it runs, replays, verifies, reads its plan and shows the store
 abbrev pub form_of : Option Command → Form
-form_of (Some (Run first)) = form ⊤ ⊥ ⊥ ⊤ ⊥ IsCarried no_text no_lines by_plan
-form_of (Some (Replay first)) = form ⊥ ⊤ ⊥ ⊤ ⊥ IsCarried no_text no_lines by_plan
-form_of (Some Verify) = form ⊥ ⊥ ⊤ ⊤ ⊥ IsCarried no_text no_lines by_plan
-form_of (Some Check) = form ⊥ ⊥ ⊥ ⊤ ⊥ never_carried (λ status asks image text. text ≡ plan_text asks) no_lines by_plan
-form_of (Some Dump) = form ⊥ ⊥ ⊥ ⊥ ⊤ never_carried (λ status asks image text. text ≡ dump_text (image 2)) (λ image. dump_text (image 2)) by_store
-form_of (Some Info) = form ⊥ ⊥ ⊥ ⊥ ⊤ never_carried (λ status asks image text. IsInfoAt status image text) no_lines by_store
-form_of (Some (Trial lines seed)) = form ⊥ ⊥ ⊥ ⊥ ⊥ never_carried (λ status asks image text. IsTrialAt status lines seed text) no_lines (λ plan asks image. Ok)
-form_of None = form ⊥ ⊥ ⊥ ⊥ ⊥ never_carried no_text no_lines (λ plan asks image. Usage)
+form_of (Some (Run first)) = form ⊤ ⊥ ⊥ ⊤ ⊥
+form_of (Some (Replay first)) = form ⊥ ⊤ ⊥ ⊤ ⊥
+form_of (Some Verify) = form ⊥ ⊥ ⊤ ⊤ ⊥
+form_of (Some Check) = form ⊥ ⊥ ⊥ ⊤ ⊥
+form_of (Some Dump) = form ⊥ ⊥ ⊥ ⊥ ⊤
+form_of (Some Info) = form ⊥ ⊥ ⊥ ⊥ ⊤
+form_of (Some (Trial lines seed)) = form ⊥ ⊥ ⊥ ⊥ ⊥
+form_of None = form ⊥ ⊥ ⊥ ⊥ ⊥
 
 -- the words name a run
 abbrev pub IsRun : Option Command → Type 0
@@ -210,10 +185,6 @@ IsReplay command = (form_of command).replays
 abbrev pub IsVerify : Option Command → Type 0
 IsVerify command = (form_of command).verifies
 
--- the call is a run, a replay or a verify, and its plan, of these bytes, is no longer than it may be and legal, so that it is carried out
-abbrev pub CarriesRun : Option Command → List ℕ → Result Planned ConfigFault → Type 0
-CarriesRun command = (form_of command).carries
-
 -- the words name a command that reads its plan
 abbrev pub ReadsPlan : Option Command → Type 0
 ReadsPlan command = (form_of command).reads_plan
@@ -221,44 +192,6 @@ ReadsPlan command = (form_of command).reads_plan
 -- the words name a command that puts what the store has, whatever the plan
 abbrev pub ShowsStore : Option Command → Type 0
 ShowsStore command = (form_of command).shows_store
-
--- Where the call reads the plan, that tells its bytes, which are these. Where it puts what the store has, the host tells its image.
-pub record Told (command : Option Command) (plan : Option (List ℕ)) (store : Option Image) : Type 0 where
-  pub plan_bytes : List ℕ
-  pub image : Image
-  pub image_is : ShowsStore command → store ≡ Some image
-  pub plan_is : ReadsPlan command → plan ≡ Some plan_bytes
-
--- the bytes of a plan say this, of which P holds; all bytes say one thing, and no two
-pub record SaysSo (bytes : List ℕ) (P : Result Planned ConfigFault → Type 0) : Type 0 where
-  pub asks : Result Planned ConfigFault
-  pub says : Says bytes asks
-  pub holds : P asks
-
--- the same as `Told`, and what the plan's bytes say; and no run, replay or verify is carried out
-pub record ToldPlan (command : Option Command) (plan : Option (List ℕ)) (store : Option Image) : Type 0 where
-  pub plan_bytes : List ℕ
-  pub image : Image
-  pub image_is : ShowsStore command → store ≡ Some image
-  pub plan_is : ReadsPlan command → plan ≡ Some plan_bytes
-  pub asks : Result Planned ConfigFault
-  pub says : Says plan_bytes asks
-  pub no_run : CarriesRun command plan_bytes asks → ⊥
-
--- The text of a call which carries out no run, replay or verify, for what its words and its plan ask, and for the image of the store; file 2 is the log.
--- At status Ok all of it is put, and at any other a front of it.
-abbrev pub IsTextOf : Option Command → Status → Result Planned ConfigFault → Image → List (List ℕ) → Type 0
-IsTextOf command = (form_of command).text
-
--- P holds of that text
-pub record ForText (command : Option Command) (status : Status) (asks : Result Planned ConfigFault) (image : Image) (P : List (List ℕ) → Type 0) : Type 0 where
-  pub text : List (List ℕ)
-  pub is : IsTextOf command status asks image text
-  pub holds : P text
-
--- the lines that a command which puts what the store has puts of a damaged log, before the line that says the place
-abbrev pub before_damage : Option Command → Image → List (List ℕ)
-before_damage command = (form_of command).before_damage
 
 -- the line that refuses a plan, with its LF
 abbrev pub refusal_line : ConfigFault → List ℕ
@@ -289,11 +222,15 @@ abbrev pub refusal_of : Result Planned ConfigFault → List ℕ
 refusal_of (r.Ok plan) = []
 refusal_of (r.Err refusal) = refusal_line refusal
 
--- the last line that a status puts where no run, replay or verify is carried out, for what the plan's bytes say and for the image of the store
-abbrev pub line_for : Result Planned ConfigFault → Image → Status → List ℕ
-line_for asks image BadPlan = refusal_of asks
-line_for asks image Store = damage_line (damage_of (image 2))
-line_for asks image other = last_line other
+-- the last line that a status puts of a call whose plan's bytes say this, and which isn't carried out over a store
+abbrev pub line_for : Result Planned ConfigFault → Status → List ℕ
+line_for asks BadPlan = refusal_of asks
+line_for asks other = last_line other
+
+-- the last line that a status puts of a command that shows what the image has
+abbrev pub store_line : Image → Status → List ℕ
+store_line image Store = damage_line (damage_of (image 2))
+store_line image other = last_line other
 
 -- the status and the last line of a call that ends early
 abbrev pub ending_status : Ending → Status
@@ -327,9 +264,9 @@ abbrev pub refusal_after : {A : Type 0} → Result A Ending → Option Refusal
 refusal_after (r.Ok done) = None
 refusal_after (r.Err cause) = ending_refusal cause
 
--- where the plan tells its bytes, this is the fault that refuses them
-abbrev pub TellsFault : Option (List ℕ) → Option Refusal → Type 0
-TellsFault plan told = IfSome plan (λ bytes. (refusal : Refusal) × (told ≡ Some refusal) × IsRefusal bytes refusal.fault)
+-- where the plan tells its bytes, this is told of them, a fault that refuses them, and the last line says so
+abbrev pub TellsFault : Option (List ℕ) → List ℕ → Option Refusal → Type 0
+TellsFault plan last told = IfSome plan (λ bytes. (refusal : Refusal) × (told ≡ Some refusal) × IsRefusal bytes refusal.fault × (last ≡ refusal_line refusal.fault))
 
 -- the ending says the fault that refuses a plan, or that memory ran out
 abbrev pub EndsBy : ConfigFault → Ending → Type 0
@@ -381,19 +318,10 @@ IsLegalPlan None = ⊤
 abbrev pub TellsNoPlan : Option (List ℕ) → Type 0
 TellsNoPlan plan = (bytes : List ℕ) × (plan ≡ Some bytes) × ((asks : Planned) → IsPlan bytes asks → ⊥)
 
--- where the plan tells its bytes, they are within their limit and are refused
-abbrev pub IsRefusedPlan : Option (List ℕ) → Type 0
-IsRefusedPlan (Some bytes) = (refusal : ConfigFault) × IsRefusal bytes refusal
-IsRefusedPlan None = ⊤
-
 -- where the host tells its image, no frame of the log is damaged
 abbrev pub IsUndamaged : Option Image → Type 0
 IsUndamaged store = ForSome store (λ image. damage_of (image 2) ≡ None)
 
--- where the host tells its image, a frame of the log is damaged
-abbrev pub IsDamaged : Option Image → Type 0
-IsDamaged store = ForSome store (λ image. (place : ℕ) × (damage_of (image 2) ≡ Some place))
-
--- the status that words, plan and store call for, where no run, replay or verify is carried out
-abbrev pub status_for : Option Command → List ℕ → Result Planned ConfigFault → Image → Status
-status_for command = (form_of command).status
+-- where the host tells its image, a frame of the log is damaged, and the last line says where the first one is
+abbrev pub IsDamagedBy : Option Image → List ℕ → Type 0
+IsDamagedBy store last = ForSome store (λ image. (place : ℕ) × (damage_of (image 2) ≡ Some place) × (last ≡ damage_line (Some place)))

@@ -1,25 +1,27 @@
--- What a replay puts, and why it ends.
-use Rattle.std.specs.Prelude.{◌≡◌, ◌⊎◌, ℕ, List, [], Option, Some, IfSome}
+-- What a replay promises: what it puts, and why it ends.
+use Rattle.std.specs.Prelude.{◌≡◌, ◌≢◌, ◌⊎◌, ℕ, List, [], Option, Some, IfSome}
 use Rattle.std.specs.Option.{ForSome}
-use Rattle.rg_bytes.specs.Counts.{Rose}
 use Rattle.rg_event.specs.declared.event.Event.{Event}
 use Rattle.rg_config.specs.Plans.{Planned}
 use Rattle.rg_host.specs.Image.{Image, NothingPending}
 use Rattle.rg_host.specs.Lines.{ended}
-use Rattle.rg_host.specs.Moments.{Moment}
-use Rattle.rg_host.specs.Puts.{IsPrefix, IsPut, Puts, StopsWith}
 use Rattle.rg_explain.specs.Stops.{StopsAt}
 use Rattle.rg_log.specs.Log.{HasEvents}
 use Rattle.rg_reservoir.specs.Attached.{IsOther, IsIllegalSince}
 use Rattle.rg_open.specs.Unfit.{HasBadFrame}
 use Rattle.rg_replay.specs.Replay.{replay_text}
+use Rattle.rg_replay.specs.Runs.{text_of_left}
 use Rattle.rg_replay.specs.declared.fault.ReplayFault.{ReplayFault}
 use Rattle.rg_replay.specs.declared.fault.ReplayFault.TheVariants as replay
+use Rattle.rg_run.specs.Begun.{Begun, course_for, lines_in}
+use Rattle.rg_task.specs.Terms.{terms_of}
 use Rattle.rg_messages.specs.Statuses.{last_line}
 use Rattle.rg_messages.specs.declared.status.Status.{Status}
-use Rattle.rg_messages.specs.declared.status.Status.TheVariants.{Ok, Store, Read, Write, Disk, Memory}
+use Rattle.rg_messages.specs.declared.status.Status.TheVariants.{Ok, Store, Write, Disk, Memory}
 use Rattle.rg_commands.specs.Plan.{IsPlan}
 use Rattle.rg_commands.specs.Call.{damage_line, schema_line, state_line, Fails, SaysLine}
+use Rattle.rg_commands.specs.Outcome.{SourceOutcome, HostOutcome}
+use Rattle.rg_commands.specs.Texts.{PutsUpTo, PutsText, PutsLine, RefusesPlan}
 
 -- The host tells its image, whose log is legal, of the plan's schema or without a frame, and has these events; nothing of it is pending. A replay
 -- writes nothing, so a log whose schema only grows to the plan's isn't ready.
@@ -31,15 +33,15 @@ pub record IsReadyReplay (plan : Planned) (now : Option Image) (may : Image → 
   pub has : HasEvents plan.shape events (image 2)
 
 -- What a replay is told: its plan, and a store that is ready for it.
-pub record ToldReplay (plan : Option (List ℕ)) (now : Option Image) (may : Image → Type 0) : Type 0 where
+pub record ToldReplay (plan : SourceOutcome) (h : HostOutcome) : Type 0 where
   pub plan_bytes : List ℕ
-  pub plan_is : plan ≡ Some plan_bytes
+  pub plan_is : plan.told ≡ Some plan_bytes
   pub asks : Planned
   pub says : IsPlan plan_bytes asks
-  pub ready : IsReadyReplay asks now may
+  pub ready : IsReadyReplay asks h.image h.may
 
 -- the lines of a replay from that offset on, with the last one, which says the next offset and how many events there are
-abbrev pub text_of_replay : {plan : Option (List ℕ)} → {now : Option Image} → {may : Image → Type 0} → ToldReplay plan now may → ℕ → List (List ℕ)
+abbrev pub text_of_replay : {plan : SourceOutcome} → {h : HostOutcome} → ToldReplay plan h → ℕ → List (List ℕ)
 text_of_replay told first = replay_text told.asks.queries first told.ready.events
 
 -- the status and the last line of a replay that ended at this fault
@@ -73,54 +75,48 @@ pub record RefusesReplay (plan : Option (List ℕ)) (now : Option Image) (may : 
   pub legal : IfSome plan (λ bytes. IsPlan bytes asks)
   pub refusal : IsReplayRefusal asks now may last
 
--- the statuses of a replay whose plan was read
-abbrev pub IsReplayStatus : Status → Type 0
-IsReplayStatus status = (status ≡ Ok) ⊎ (status ≡ Store) ⊎ (status ≡ Disk) ⊎ (status ≡ Memory) ⊎ (status ≡ Write)
+-- Why a replay of that plan ended, a row a status; want of memory alone has no cause, and `ok` is what has to hold where it came to its end.
+abbrev pub ReplayEnds : Type 0 → Planned → HostOutcome → List ℕ → Status → Type 0
+ReplayEnds ok plan h last Ok = ok
+ReplayEnds ok plan h last Store = IsReplayRefusal plan h.image h.may last
+ReplayEnds ok plan h last Disk = h.disk_failed × (last ≡ last_line Disk)
+ReplayEnds ok plan h last Memory = last ≡ last_line Memory
+ReplayEnds ok plan h last Write = h.put_failed × (last ≡ last_line Write)
+ReplayEnds ok plan h last other = ⊥
 
--- Why a replay of that plan, with this status and last line, ended: each status but want of memory has its cause.
-pub record IsReplayEnd {H : Type 0} (now : H → Option Image) (may : H → Image → Type 0) (disk_faults out_faults : H → ℕ) (plan : Planned) (status : Status) (last : List ℕ) (old new : H) : Type 0 where
-  pub status_is : IsReplayStatus status
-  pub line : (status ≡ Store) ⊎ (last ≡ last_line status)
-  pub store : status ≡ Store → IsReplayRefusal plan (now old) (may old) last
-  pub disk : status ≡ Disk → Rose (disk_faults old) (disk_faults new)
-  pub write : status ≡ Write → Rose (out_faults old) (out_faults new)
+-- How a replay by that plan went up to its last line: over a store that is ready, and over one that isn't fit; and why it ended.
+pub record ReplaysStore (first : ℕ) (plan : Planned) (h : HostOutcome) (status : Status) (last : List ℕ) : Type 0 where
+  pub put : (ready : IsReadyReplay plan h.image h.may) → PutsUpTo (replay_text plan.queries first ready.events) h status
+  pub unfit : (v : Image) → h.image ≡ Some v → IsUnreplayable plan v → (status ≡ Ok → ⊥) × h.puts []
+  pub why : ReplayEnds (last ≡ []) plan h last status
+  pub files : h.files_stay
+  pub later : h.later
 
-module _ {H : Type 0} (said : H → Option (List ℕ)) (clock : H → ℕ) (since : H → ℕ → Moment → Type 0) where
-  -- How a replay of that text went up to its last line, which is this, as is its status; `unread` says that a read of the plan failed.
-  pub record Replayed (text : List (List ℕ)) (unread : Type 0) (status : Status) (last : List ℕ) (old new : H) : Type 0 where
-    pub put : List ℕ
-    pub puts : Puts said clock since old new put
-    pub all : status ≡ Ok → put ≡ ended text
-    pub stops : StopsAt (status ≡ Write) text put
-    pub line : last ≡ last_line status
-    pub status_is : (status ≡ Read → unread) × (status ≡ Store → ⊥)
+-- Nothing was put but the last line, whole unless a put failed: that of the status, or at a refusal of the store one that says why.
+pub record PutsRefusal (plan : Planned) (h : HostOutcome) (status : Status) : Type 0 where
+  pub not_ok : status ≡ Ok → ⊥
+  pub last : List ℕ
+  pub says : ((status ≡ Store) × IsReplayLine plan h.image last) ⊎ (last ≡ last_line status)
+  pub line : PutsLine last h
 
-  -- Nothing was put before the last line, which this is: that of the status, or at a refusal of the store one that says why.
-  pub record ReplaysNothing (plan : Planned) (now : Option Image) (status : Status) (last : List ℕ) (old new : H) : Type 0 where
-    pub not_ok : status ≡ Ok → ⊥
-    pub puts : Puts said clock since old new []
-    pub line : ((status ≡ Store) × IsReplayLine plan now last) ⊎ (last ≡ last_line status)
-
-  -- What was put, with the last line of the status: a prefix of the text, or whole lines of it and then a prefix of that line, which is
-  -- whole unless a put `failed`.
-  pub record PutsReplay (text : List (List ℕ)) (failed : Type 0) (status : Status) (old new : H) : Type 0 where
-    pub put : List ℕ
-    pub puts : Puts said clock since old new put
-    pub front : IsPut text (last_line status) put
-    pub whole : StopsWith text (last_line status) put ⊎ failed
-
-  -- Nothing was put but the last line, whole unless a put `failed`: that of the status, or at a refusal of the store one that says why.
-  pub record PutsRefusal (plan : Planned) (now : Option Image) (failed : Type 0) (status : Status) (old new : H) : Type 0 where
-    pub not_ok : status ≡ Ok → ⊥
-    pub last : List ℕ
-    pub line : ((status ≡ Store) × IsReplayLine plan now last) ⊎ (last ≡ last_line status)
-    pub part : List ℕ
-    pub front : IsPrefix part last
-    pub whole : (part ≡ last) ⊎ failed
-    pub puts : Puts said clock since old new part
-
-module _ {H : Type 0} (now : H → Option Image) (may : H → Image → Type 0) (clock : H → ℕ) (since : H → ℕ → Moment → Type 0) (said : H → Option (List ℕ)) where
-  -- How a replay by that plan went up to its last line, over a store that is ready and over one that isn't fit.
-  pub record ReplaysStore (first : ℕ) (plan : Planned) (status : Status) (last : List ℕ) (old new : H) : Type 0 where
-    pub replayed : (ready : IsReadyReplay plan (now old) (may old)) → Replayed said clock since (replay_text plan.queries first ready.events) ⊥ status last old new
-    pub unfit : (v : Image) → now old ≡ Some v → IsUnreplayable plan v → ReplaysNothing said clock since plan (now old) status last old new
+-- What a replay promises whose least offset is this, of its plan and its host.
+pub record ReplayPromises (first : ℕ) (plan : SourceOutcome) (h : HostOutcome) (status : Status) : Type 0 where
+  -- Over a store that is ready: at status Ok just its text was put out, each answer by the events up to and with its own.
+  pub replayed : status ≡ Ok → (told : ToldReplay plan h) → h.puts (ended (text_of_replay told first))
+  -- Of what a run of the same plan left after the first lines of its input, which are all of them where it came to its end: at status Ok the
+  -- lines of what its store held before, then the line that the run puts for each payment that it accepts, byte by byte but with `ok` for a
+  -- moved one, and the last line.
+  pub same_as_run : status ≡ Ok → (told : ToldReplay plan h) (ran : Begun) (count : ℕ) → told.ready.events ≡ (course_for told.asks ran).events count →
+      h.puts (ended (text_of_left first (terms_of told.asks) ran.held ran.first (lines_in ran) count))
+  -- At each status a prefix of that text was put out, or whole lines of it and then a prefix of the status's last line; unless a put failed,
+  -- that line is whole.
+  pub replay_put : (told : ToldReplay plan h) → PutsText (text_of_replay told first) (last_line status) h status
+  -- Over a store with a frame that its heads and growths show to be bad, or else of another schema, be it one that grows to the plan's, nothing
+  -- was put but the last line, which says why.
+  pub replay_refused : (bytes : List ℕ) (asks : Planned) (v : Image) → plan.told ≡ Some bytes → IsPlan bytes asks → h.image ≡ Some v → IsUnreplayable asks v → PutsRefusal asks h status
+  -- A store that is ready is never refused.
+  pub replay_never : ToldReplay plan h → status ≢ Store
+  -- By a legal plan, and where no read of it, no put and no call on a file failed, it ends well, for want of memory, or with the store's refusal.
+  pub completes_replay : (bytes : List ℕ) (asks : Planned) → plan.told ≡ Some bytes → IsPlan bytes asks → (plan.failed ⊎ h.put_failed ⊎ h.disk_failed → ⊥) → (status ≡ Ok) ⊎ (status ≡ Memory) ⊎ (status ≡ Store)
+  -- Where the plan is refused, nothing is put but the last line, which says the fault.
+  pub refused_plan : RefusesPlan plan h status

@@ -2,8 +2,6 @@
 use Rattle.std.specs.Prelude.{◌≡◌, ◌⊎◌, ℕ, List, Option, Some}
 use Rattle.std.specs.Option.{ForSome}
 use Rattle.rg_host.specs.Image.{Image}
-use Rattle.rg_host.specs.Moments.{Moment, Moments}
-use Rattle.rg_host.specs.Puts.{IsPrefix, Puts}
 use Rattle.rg_event.specs.declared.event.Event.{Event}
 use Rattle.rg_event.specs.Rising.{next_offset}
 use Rattle.rg_config.specs.Plans.{Planned}
@@ -12,6 +10,8 @@ use Rattle.rg_open.specs.Truth.{IsTruthfulImage}
 use Rattle.rg_open.specs.Unfit.{HasOtherSchema, HasBadFrame}
 use Rattle.rg_open.specs.Within.{IsAsRead, IsOpenedImage}
 use Rattle.rg_commands.specs.Call.{damage_line, schema_line, gap_line, Fails}
+use Rattle.rg_commands.specs.Outcome.{HostOutcome}
+use Rattle.rg_commands.specs.Texts.{PutsLine}
 use Rattle.rg_messages.specs.declared.status.Status.{Status}
 use Rattle.rg_messages.specs.declared.status.Status.TheVariants.{Store, Read, Disk, Memory, Gap}
 
@@ -31,19 +31,15 @@ EndsUnfit plan v unread status last = ((status ≡ Store) × IsUnfitLine plan v 
 abbrev pub EndsBehind : ℕ → ℕ → Type 0 → Status → List ℕ → Type 0
 EndsBehind first next unread status last = ((status ≡ Gap) × (last ≡ gap_line first next)) ⊎ EndsFailed unread status last
 
--- From old, where reads give the image v, to new nothing was put but the last line of the status, whole unless `failed`, which is a put that
--- failed; `unread` says that a read of the plan failed. The log and the slots stay as reads give them; what a crash may leave, at each
--- moment and then, it could leave at old.
-pub record IsTurnedAway {H : Type 0} (now : H → Option Image) (may : H → Image → Type 0) (clock : H → ℕ) (since : H → ℕ → Moment → Type 0) (said : H → Option (List ℕ)) (plan : Planned) (v : Image) (unread failed : Type 0) (status : Status) (old new : H) : Type 0 where
+-- Where reads gave the image v, nothing was put but the last line of the status, whole unless a put failed; `unread` says that a read of the plan
+-- failed. The log and the slots stay as reads give them; what a crash may leave, at each moment and then, it could leave at the start.
+pub record IsTurnedAway (plan : Planned) (v : Image) (unread : Type 0) (h : HostOutcome) (status : Status) : Type 0 where
   pub last : List ℕ
   pub ends : EndsUnfit plan v unread status last
-  pub part : List ℕ
-  pub front : IsPrefix part last
-  pub whole : (part ≡ last) ⊎ failed
-  pub puts : Puts said clock since old new part
-  pub still : ForSome (now new) (IsAsRead v (may old))
-  pub fewer : (u : Image) → may new u → may old u
-  pub moments : Moments clock since old new (λ m. may old m.image)
+  pub line : PutsLine last h
+  pub still : ForSome h.image_after (IsAsRead v h.may)
+  pub fewer : (u : Image) → h.may_after u → h.may u
+  pub moments : h.moments (λ m. h.may m.image)
 
 -- the image is truthful and has just these events, the slot has what it has where v is read, and nothing was written but the schema's frame
 -- of a log without a frame, or the growth to the plan's schema by its defaults
@@ -53,15 +49,11 @@ pub record KeepsAll (plan : Planned) (held : List Event) (v : Image) (may : Imag
   pub saved : (count : ℕ) → HasSaved plan slot count v → HasSaved plan slot count u
   pub opened : IsOpenedImage plan v may u
 
--- From old, where reads give the image v with the events held, to new nothing was put but the last line of the status, whole unless
--- `failed`; the first line's offset lies behind the next one. What a crash may leave, at each moment and then, it could leave at old, or
--- it keeps all.
-pub record IsBehind {H : Type 0} (may : H → Image → Type 0) (clock : H → ℕ) (since : H → ℕ → Moment → Type 0) (said : H → Option (List ℕ)) (plan : Planned) (held : List Event) (v : Image) (first slot : ℕ) (unread failed : Type 0) (status : Status) (old new : H) : Type 0 where
+-- Where reads gave the image v with the events held, nothing was put but the last line of the status, whole unless a put failed; the first line's
+-- offset lies behind the next one. What a crash may leave, at each moment and then, it could leave at the start, or it keeps all.
+pub record IsBehind (plan : Planned) (held : List Event) (v : Image) (first slot : ℕ) (unread : Type 0) (h : HostOutcome) (status : Status) : Type 0 where
   pub last : List ℕ
   pub ends : EndsBehind first (next_offset held) unread status last
-  pub part : List ℕ
-  pub front : IsPrefix part last
-  pub whole : (part ≡ last) ⊎ failed
-  pub puts : Puts said clock since old new part
-  pub left : (u : Image) → may new u → may old u ⊎ KeepsAll plan held v (may old) slot u
-  pub moments : Moments clock since old new (λ m. may old m.image ⊎ KeepsAll plan held v (may old) slot m.image)
+  pub line : PutsLine last h
+  pub left : (u : Image) → h.may_after u → h.may u ⊎ KeepsAll plan held v h.may slot u
+  pub moments : h.moments (λ m. h.may m.image ⊎ KeepsAll plan held v h.may slot m.image)

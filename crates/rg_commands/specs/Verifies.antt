@@ -1,13 +1,10 @@
--- What a verify puts, and why it ends.
-use Rattle.std.specs.Prelude.{◌≡◌, ◌⊎◌, ℕ, Bool, true, false, List, [], Option, Some, None, IfSome}
+-- What a verify promises: what it puts, and why it ends.
+use Rattle.std.specs.Prelude.{◌≡◌, ◌≢◌, ◌⊎◌, ℕ, Bool, true, false, List, [], Option, Some, None, IfSome}
 use Rattle.std.specs.Option.{ForSome}
-use Rattle.rg_bytes.specs.Counts.{Rose}
 use Rattle.rg_event.specs.declared.event.Event.{Event}
 use Rattle.rg_plan.specs.Plans.{plan_for}
 use Rattle.rg_config.specs.Plans.{Planned}
 use Rattle.rg_host.specs.Image.{Image}
-use Rattle.rg_host.specs.Moments.{Moment}
-use Rattle.rg_host.specs.Puts.{IsPrefix, Puts}
 use Rattle.rg_dump.specs.Dump.{damage_of}
 use Rattle.rg_open.specs.Stores.{Has}
 use Rattle.rg_open.specs.Truth.{texts_of}
@@ -18,9 +15,11 @@ use Rattle.rg_verify.specs.declared.fault.VerifyFault.{VerifyFault}
 use Rattle.rg_verify.specs.declared.fault.VerifyFault.TheVariants as verify
 use Rattle.rg_messages.specs.Statuses.{last_line}
 use Rattle.rg_messages.specs.declared.status.Status.{Status}
-use Rattle.rg_messages.specs.declared.status.Status.TheVariants.{Ok, Store, Read, Write, Disk, Memory, Differs}
+use Rattle.rg_messages.specs.declared.status.Status.TheVariants.{Ok, Store, Write, Disk, Memory, Differs}
 use Rattle.rg_commands.specs.Plan.{IsPlan}
 use Rattle.rg_commands.specs.Call.{damage_line, schema_line, Fails, SaysLine}
+use Rattle.rg_commands.specs.Outcome.{SourceOutcome, HostOutcome}
+use Rattle.rg_commands.specs.Texts.{PutsLine, RefusesPlan}
 
 -- what a checkpoint is held against: the printed texts of a plan's queries, its columns and its task plan
 abbrev pub terms_for : Planned → Terms
@@ -34,12 +33,12 @@ pub record IsReadyVerify (plan : Planned) (now : Option Image) : Type 0 where
   pub has : Has plan events image
 
 -- What a verify is told: its plan, and a store that is ready for it.
-pub record ToldVerify (plan : Option (List ℕ)) (now : Option Image) : Type 0 where
+pub record ToldVerify (plan : SourceOutcome) (h : HostOutcome) : Type 0 where
   pub plan_bytes : List ℕ
-  pub plan_is : plan ≡ Some plan_bytes
+  pub plan_is : plan.told ≡ Some plan_bytes
   pub asks : Planned
   pub says : IsPlan plan_bytes asks
-  pub ready : IsReadyVerify asks now
+  pub ready : IsReadyVerify asks h.image
 
 -- the status and the last line of a verify that ended at this fault
 abbrev pub EndsVerify : VerifyFault → Status → List ℕ → Type 0
@@ -82,45 +81,48 @@ IsVerifyLast plan now status last = ((status ≡ Store) × IsVerifyLine plan now
 abbrev pub IsRefusedStore : Planned → Image → Type 0
 IsRefusedStore plan v = HasOtherSchema plan v ⊎ ((place : ℕ) × (damage_of (v 2) ≡ Some place))
 
--- the statuses of a verify whose plan was read
-abbrev pub IsVerifyStatus : Status → Type 0
-IsVerifyStatus status = (status ≡ Ok) ⊎ (status ≡ Differs) ⊎ (status ≡ Store) ⊎ (status ≡ Disk) ⊎ (status ≡ Memory) ⊎ (status ≡ Write)
-
--- Why a verify of that plan, with this status and last line, ended: each status but want of memory has its cause.
-pub record IsVerifyEnd {H : Type 0} (now : H → Option Image) (disk_faults out_faults : H → ℕ) (plan : Planned) (status : Status) (last : List ℕ) (old new : H) : Type 0 where
-  pub status_is : IsVerifyStatus status
-  pub line : (status ≡ Store) ⊎ (last ≡ last_line status)
-  pub store : status ≡ Store → IsVerifyRefusal plan (now old) last
-  pub disk : status ≡ Disk → Rose (disk_faults old) (disk_faults new)
-  pub write : status ≡ Write → Rose (out_faults old) (out_faults new)
-  pub fit : IsWhole status → (v : Image) → now old ≡ Some v → IsRefusedStore plan v → ⊥
-
 -- the status says that a checkpoint isn't what the events give
 abbrev pub is_differs : Status → Bool
 is_differs Differs = true
 is_differs other = false
 
-module _ {H : Type 0} (said : H → Option (List ℕ)) (clock : H → ℕ) (since : H → ℕ → Moment → Type 0) where
-  -- How a verify over a store of that image, whose log has these events, went up to its last line; `unread` says that a read of the plan failed.
-  pub record Verified (plan : Planned) (image : Image) (events : List Event) (unread : Type 0) (status : Status) (last : List ℕ) (old new : H) : Type 0 where
-    pub all : IsWhole status → IsSaid (terms_for plan) image events (Puts said clock since old new) (is_differs status)
-    pub cut : status ≡ Write → IsCut (terms_for plan) image events (Puts said clock since old new)
-    pub line : last ≡ last_line status
-    pub status_is : (status ≡ Read → unread) × (status ≡ Store → ⊥)
+-- the line of each slot was put, what its checkpoint is to the plan and the events; one of them is unfit or wrong exactly where this is true
+abbrev pub SaysSlots : {plan : Planned} → {now : Option Image} → IsReadyVerify plan now → HostOutcome → Bool → Type 0
+SaysSlots {plan} ready h differs = IsSaid (terms_for plan) ready.image ready.events h.puts differs
 
-  -- Where not all lines were put and no put failed, nothing was put.
-  abbrev pub IsSilent : Status → H → H → Type 0
-  IsSilent status old new = (IsWhole status → ⊥) → (status ≡ Write → ⊥) → Puts said clock since old new []
+-- How a verify by that plan ended, a row a status: what was put over a store that is ready, and why it ended; want of memory alone has no cause.
+-- All lines were put at Ok and at Differs, and then the store is none that is refused; a prefix of them where a put failed; and else none.
+abbrev pub VerifyEnds : Planned → HostOutcome → List ℕ → Status → Type 0
+VerifyEnds plan h last Ok = (last ≡ []) × ((ready : IsReadyVerify plan h.image) → SaysSlots ready h false) × ((v : Image) → h.image ≡ Some v → IsRefusedStore plan v → ⊥)
+VerifyEnds plan h last Differs = (last ≡ []) × ((ready : IsReadyVerify plan h.image) → SaysSlots ready h true) × ((v : Image) → h.image ≡ Some v → IsRefusedStore plan v → ⊥)
+VerifyEnds plan h last Store = h.puts [] × IsVerifyRefusal plan h.image last
+VerifyEnds plan h last Disk = h.puts [] × h.disk_failed × (last ≡ last_line Disk)
+VerifyEnds plan h last Memory = h.puts [] × (last ≡ last_line Memory)
+VerifyEnds plan h last Write = ((ready : IsReadyVerify plan h.image) → IsCut (terms_for plan) ready.image ready.events h.puts) × h.put_failed × (last ≡ last_line Write)
+VerifyEnds plan h last other = ⊥
 
-  -- Nothing was put but a last line of a status, whole unless a put `failed`.
-  pub record PutsLine (last : List ℕ) (failed : Type 0) (old new : H) : Type 0 where
-    pub part : List ℕ
-    pub front : IsPrefix part last
-    pub whole : (part ≡ last) ⊎ failed
-    pub puts : Puts said clock since old new part
+-- How a verify by that plan went up to its last line.
+pub record VerifiesStore (plan : Planned) (h : HostOutcome) (status : Status) (last : List ℕ) : Type 0 where
+  pub ends : VerifyEnds plan h last status
+  pub files : h.files_stay
+  pub later : h.later
 
-module _ {H : Type 0} (now : H → Option Image) (said : H → Option (List ℕ)) (clock : H → ℕ) (since : H → ℕ → Moment → Type 0) where
-  -- How a verify by that plan went up to its last line: over a store that is ready, and that else nothing was put.
-  pub record VerifiesStore (plan : Planned) (status : Status) (last : List ℕ) (old new : H) : Type 0 where
-    pub verified : (ready : IsReadyVerify plan (now old)) → Verified said clock since plan ready.image ready.events ⊥ status last old new
-    pub silent : IsSilent said clock since status old new
+-- What a verify promises, of its plan and its host.
+pub record VerifyPromises (plan : SourceOutcome) (h : HostOutcome) (status : Status) : Type 0 where
+  -- Over a legal log: the line of each slot was put, what its checkpoint is to the plan and the events; the status is Differs exactly where one
+  -- of them is unfit or wrong.
+  pub verified : IsWhole status → (told : ToldVerify plan h) → SaysSlots told.ready h (is_differs status)
+  -- Where a put failed, a prefix of these lines was put.
+  pub verify_cut : status ≡ Write → (told : ToldVerify plan h) → IsCut (terms_for told.asks) told.ready.image told.ready.events h.puts
+  -- At each other status nothing was put but the last line; so of a damaged log, or one of another schema, no line of a slot is put.
+  pub verify_silent : (bytes : List ℕ) (asks : Planned) → plan.told ≡ Some bytes → IsPlan bytes asks → (IsWhole status → ⊥) → status ≢ Write →
+      (last : List ℕ) × IsVerifyLast asks h.image status last × PutsLine last h
+  -- Such a log is never one whose slots were held against it.
+  pub verify_fit : IsWhole status → (bytes : List ℕ) (asks : Planned) (v : Image) → plan.told ≡ Some bytes → IsPlan bytes asks → h.image ≡ Some v → IsRefusedStore asks v → ⊥
+  -- A store whose log is legal is never refused.
+  pub verify_never : ToldVerify plan h → status ≢ Store
+  -- By a legal plan, and where no read of it, no put and no call on a file failed, it puts its lines, or ends for want of memory, or with the
+  -- store's refusal.
+  pub completes_verify : (bytes : List ℕ) (asks : Planned) → plan.told ≡ Some bytes → IsPlan bytes asks → (plan.failed ⊎ h.put_failed ⊎ h.disk_failed → ⊥) → IsWhole status ⊎ (status ≡ Memory) ⊎ (status ≡ Store)
+  -- Where the plan is refused, nothing is put but the last line, which says the fault.
+  pub refused_plan : RefusesPlan plan h status

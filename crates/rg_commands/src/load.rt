@@ -1,10 +1,10 @@
 ghost use Rattle.std.specs.Prelude.{codes, decimal, ◌≡◌, ◌++◌, ◌≤◌, IfOk, IfErr, IfSome, OnOk};
-ghost use Rattle.rg_bytes.specs.Counts.{Rose};
 ghost use Rattle.rg_config.specs.Plans.{planned};
 ghost use Rattle.rg_config.specs.Read.{IsReadPlan};
 ghost use Rattle.rg_commands.specs.Plan.{IsPlan};
 ghost use Rattle.rg_commands.specs.Call.{refusal_line, ending_status, ending_line, ending_refusal, EndsBy};
-ghost use Rattle.rg_commands.specs.Done.{IsUnread};
+ghost use Rattle.rg_commands.specs.Outcome.{source_outcome};
+ghost use Rattle.rg_commands.specs.Unread.{UnreadFor};
 
 use crate::ending::Ending;
 use rg_bytes::{Memory, put_bytes, write_whole};
@@ -66,7 +66,7 @@ fn refuse_plan(alloc: Global, bytes: &[u8], fault: ConfigFault) -> Ending
 pub(crate) fn load_plan<P: Source>(alloc: Global, plan: &mut P) -> Result<Plan, Ending>
     ensures legal { IfOk result (λ asked. IfSome (P.left plan.old) (λ bytes. IsPlan bytes (planned asked))) }
     ensures is_read { IfOk result IsReadPlan }
-    ensures unread { IfErr result (λ ending. IsUnread (P.left plan.old) (Rose (P.faults plan.old) (P.faults plan.new)) (ending_status ending) (ending_line ending) (ending_refusal ending)) }
+    ensures unread { IfErr result (λ ending. UnreadFor (source_outcome P.Source plan.old plan.new) (ending_line ending) (ending_refusal ending) (ending_status ending)) }
 {
     let bytes = match read_all(alloc, plan, PLAN_BYTES) {
         Ok(bytes) => bytes,

@@ -1,4 +1,0 @@
-use Rattle.rg_commands.proofs.trial.trial.Given as goal
-
-abbrev pub ghosts-run_trial : goal.ghosts-run_trial
-ghosts-run_trial g a = record { name = a.blank.name; parts = a.blank.parts }

@@ -43,9 +43,12 @@ use Rattle.rg_run.specs.Begun.{Begun, course_for}
 use Rattle.rg_recover.specs.Ready.{IsReadyRun, begun_by}
 use Rattle.rg_run.specs.Reading.{IsLonger}
 use Rattle.rg_recover.proofs.NewStore.{bare, no_payload, bare_truthful, bare_has, new_host}
+use Rattle.rg_host.specs.Picks.{left_after}
+use Rattle.rg_host.specs.declared.pick.Pick.{Pick}
 use Rattle.rg_commands.specs.Call.{command_of}
 use Rattle.rg_commands.specs.declared.command.Command.TheVariants.{Run}
-use Rattle.rg_commands.specs.Stored.{ToldRun, IsLastOf, Resumes}
+use Rattle.rg_commands.specs.Outcome.{Outcome}
+use Rattle.rg_commands.specs.Runs.{ToldRun, IsLastOf, Resumes}
 use Rattle.rg_commands.specs.Plan.{IsPlan}
 use Rattle.rg_restarts.specs.Twice.{accepted_of, Words, IsGoingOn, IsStartable, AcceptsAlike, IsLeft, IsLastLeft, PutsRest, EndsWell, MayEnd, Runs}
 use Rattle.rg_messages.specs.declared.status.Status.{Status}
@@ -210,6 +213,11 @@ last_left host count all result picked =
     let at_end = subst (λ (es : List Effect). IfOk result (λ left. ForSome (now_in left) (λ v. since_in host count (record { image = v; said = said_after es })))) (all_effects host.effects count all) picked in
     subst (λ (n : ℕ). IfOk result (λ left. ForSome (now_in left) (λ v. since_in host n (record { image = v; said = said_after host.effects })))) all at_end
 
+-- it is the image that is picked after all calls
+pub picked_last : {E : Type 0} (pick : Pick) (host : Ledger) (count : ℕ) → count ≡ clock_in host → (result : Result Ledger E) → IfOk result (λ left. now_in left ≡ Some (left_after pick (image_of host.first) (first_effects count host.effects))) →
+    IfOk result (λ left. now_in left ≡ Some (left_after pick (image_of host.first) host.effects))
+picked_last pick host count all result picked = subst (λ (es : List Effect). IfOk result (λ left. now_in left ≡ Some (left_after pick (image_of host.first) es))) (all_effects host.effects count all) picked
+
 -- an image that a crash may leave now is of a moment since an earlier one
 pub moment_now : (host : Ledger) (u : Image) (start : ℕ) → start ≤ clock_in host → may_in host u → since_in host start (record { image = u; said = said_after host.effects })
 moment_now host u start before left = now_counts (image_of host.first) host.effects start (record { image = u; said = said_after host.effects }) before left refl
@@ -239,14 +247,14 @@ ends_well b Gap last A B is store read limit gap write disk = absurd (gap refl)
 ends_well b Differs last A B is store read limit gap write disk = absurd is
 
 -- What a run is told by sources of these bytes.
-abbrev pub told_by : (plan input told_plan told_input : List ℕ) → told_plan ≡ plan → told_input ≡ input → (asks : Planned) → IsPlan plan asks → (now : Option Image) (may : Image → Type 0) (said : Option (List ℕ)) → IsReadyRun asks now may said → ToldRun (Some told_plan) (Some told_input) now may said
-told_by plan input told_plan told_input plan_is input_is asks says now may said ready = record {
+abbrev pub told_by : (o : Outcome) (plan input : List ℕ) → o.plan.told ≡ Some plan → o.input.told ≡ Some input → (asks : Planned) → IsPlan plan asks → IsReadyRun asks o.host.image o.host.may o.host.said → ToldRun o
+told_by o plan input plan_is input_is asks says ready = record {
   plan_bytes = plan;
-  plan_is = ap (λ (bytes : List ℕ). Some bytes) plan_is;
+  plan_is = plan_is;
   asks = asks;
   says = says;
   input_bytes = input;
-  input_is = ap (λ (bytes : List ℕ). Some bytes) input_is;
+  input_is = input_is;
   ready = ready;
 }
 

@@ -21,7 +21,7 @@ use Rattle.rg_recover.specs.Ready.{IsReadyRun, begun_by}
 use Rattle.rg_run.specs.Begun.{course_for}
 use Rattle.rg_commands.specs.Plan.{IsPlan}
 use Rattle.rg_commands.specs.Call.{command_of}
-use Rattle.rg_commands.specs.Stored.{IsLastOf, Resumes}
+use Rattle.rg_commands.specs.Runs.{IsLastOf, Resumes}
 use Rattle.rg_commands.specs.declared.command.Command.TheVariants.{Run}
 use Rattle.rg_messages.specs.declared.status.Status.{Status}
 use Rattle.rg_messages.specs.declared.status.Status.TheVariants.{Ok, Write, Disk, Memory}

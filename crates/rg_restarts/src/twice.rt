@@ -4,6 +4,8 @@ ghost use Rattle.rg_bytes.specs.Counts.{Rose};
 ghost use Rattle.rg_bytes.specs.Known.{after};
 ghost use Rattle.rg_config.specs.Plans.{Planned};
 ghost use Rattle.rg_host.specs.Image.{Image, NothingPending};
+ghost use Rattle.rg_host.specs.Files.{image_of};
+ghost use Rattle.rg_host.specs.Picks.{left_after};
 ghost use Rattle.rg_host.specs.MemHost.{now_in, may_in, clock_in, since_in, said_in, begun};
 ghost use Rattle.rg_run_spec.specs.Acknowledged.{HoldsStored};
 ghost use Rattle.rg_run_spec.specs.Laws.{IsPrefixOf};
@@ -63,6 +65,7 @@ fn left_by(host: &MemHost, pick: Pick) -> Result<MemHost, Memory>
     ensures last { IfOk result (λ left. ForSome (now_in left) (λ v. IsLastLeft host.now v)) }
     ensures begun { IfOk result (λ left. left ≡ begun left.first []) }
     ensures settled { IfOk result (λ left. (file : ℕ) → NothingPending file (now_in left) (may_in left)) }
+    ensures picked { IfOk result (λ left. now_in left ≡ Some (left_after pick (image_of host.now.first) host.now.effects)) }
 {
     host.stop_image(host.calls(), pick)
 }
@@ -86,6 +89,9 @@ pub fn run_stopped(
     ensures begun { IfOk result (λ run. run.left ≡ begun run.left.first []) }
     ensures settled { IfOk result (λ run. (file : ℕ) → NothingPending file (now_in run.left) (may_in run.left)) }
     ensures status { IsStartable words.now plan.now input.now host → IfOk result (λ run. MayEnd run.status) }
+
+    // What is left is the image that `pick` names, of those that a crash might leave after the host's last call.
+    ensures picked { IfOk result (λ run. now_in run.left ≡ Some (left_after pick (image_of run.host.first) run.host.effects)) }
 {
     let mut fuse = FuseHost::new(host, stop);
     let status = run_bytes(alloc, words, plan, input, &mut fuse);

@@ -44,3 +44,6 @@ returns-clause-begun c = c.in_ok-left.ensures.begun
 
 pub returns-clause-settled : goal.returns-clause-settled
 returns-clause-settled c = c.in_ok-left.ensures.settled
+
+pub returns-clause-picked : goal.returns-clause-picked
+returns-clause-picked c = c.in_ok-left.ensures.picked

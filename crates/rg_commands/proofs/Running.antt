@@ -9,7 +9,10 @@ use Rattle.rg_host.specs.Image.{Image}
 use Rattle.rg_host.specs.Moments.{Moment}
 use Rattle.rg_host.specs.declared.host.Host.{Ghosts as HostMembers}
 use Rattle.rg_config.specs.Plans.{Planned}
-use Rattle.rg_open.specs.Stores.{Has}
+use Rattle.rg_host.proofs.Runs.{moments-none, moments_then}
+use Rattle.rg_run_spec.specs.Stores.{HasAtLeast}
+use Rattle.rg_recover.specs.Answered.{HoldsLog}
+use Rattle.rg_open.specs.Stores.{Has, store_of}
 use Rattle.rg_open.specs.Unfit.{IsUnfit, IsLeftAlone}
 use Rattle.rg_open.specs.Within.{IsWithinOpening}
 use Rattle.rg_recover.proofs.TurnedAway.{none_alone, none_within}
@@ -21,7 +24,7 @@ use Rattle.rg_commands.specs.declared.command.Command.TheVariants.{Run}
 use Rattle.rg_commands.specs.Plan.{IsPlan}
 use Rattle.rg_commands.specs.Causes.{cause, causes, LimitCause, EndsFor}
 use Rattle.rg_commands.specs.Outcome.{SourceOutcome, host_outcome, Outcome, outcome}
-use Rattle.rg_commands.specs.Runs.{ToldRun, begun_in, Went, IsIdle, RunsStore, RunsBy, RunPromises}
+use Rattle.rg_commands.specs.Runs.{ToldRun, begun_in, Went, IsIdle, RunsStore, RunsBy, KeepsLog, RunPromises}
 use Rattle.rg_commands.specs.Texts.{PutsLast, IsOwnLine}
 use Rattle.rg_commands.specs.TurnedAway.{EndsUnfit, EndsBehind}
 use Rattle.rg_commands.proofs.Plans.{not_refused}
@@ -84,6 +87,19 @@ module _ {H : Type 0} (g : HostMembers H) (now_may : (h : H) (w : Image) → g.n
       let at = (goes_at g first plan input status last old mid new by.0 by.1 by.2 bytes asks is says).unfit v now unfit in
       (at.0, at.1, ⊎_elim (λ says. inl says) (λ failed. inr (failed_for plan.failed status last failed)) at.2)
 
+  log_by : By → (bytes : List ℕ) (asks : Planned) (v : Image) (events : List Event) → plan.told ≡ Some bytes → IsPlan bytes asks → g.now old ≡ Some v → Has asks events v → HoldsLog g.may g.clock g.since asks events old mid
+  log_by (inl u) bytes asks v events is says now has = subst (λ h. HoldsLog g.may g.clock g.since asks events old h) (sym u.1.host) (record {
+    moments = moments-none g.clock g.since old (λ m. g.may old m.image ⊎ HasAtLeast (store_of asks) events m.image) (λ t v m. sinks old t v m) (λ m at. inl (only old m at).0);
+    left = λ w left. inl left;
+  })
+  log_by (inr by) bytes asks v events is says now has = (goes_at g first plan input status last old mid new by.0 by.1 by.2 bytes asks is says).log v events now has
+
+  log_kept : (asks : Planned) (events : List Event) → HoldsLog g.may g.clock g.since asks events old mid → KeepsLog asks events (host_outcome g old new)
+  log_kept asks events log = record {
+    moments = moments_then g.clock g.since old mid new _ _ (λ m. g.may old m.image ⊎ HasAtLeast (store_of asks) events m.image) log.moments e.leaves.moments (λ m h. h) (λ m h. log.left m.image h);
+    left = λ u left. log.left u (e.leaves.may_stays.no_more u left);
+  }
+
   end_by : By → status ≡ Ok → IsAtEnd input.left
   end_by (inl u) ok = absurd (never_unread plan last told status u.0 Ok ok)
   end_by (inr by) ok = by.2.at_end ok
@@ -111,6 +127,7 @@ module _ {H : Type 0} (g : HostMembers H) (now_may : (h : H) (w : Image) → g.n
       ran = λ t.
           let w = went_by by t in
           (w.0, last, runs_on g t.asks (begun_in t w.0 first) t.ready.openable.image input.left (input.stays × plan.failed) status last old mid new w.1 t.ready.told e ends.later t.ready.openable.truthful put);
+      log_stays = λ bytes asks v events is says now has. log_kept asks events (log_by by bytes asks v events is says now has);
       input_read = λ ok. end_by by ok;
       no_gap = λ ok bytes asks v events is says now has. gap_by by ok bytes asks v events is says now has;
       behind = λ t slot late. let at = behind_by by t (Some slot) late in (at.0, lies_behind g old mid new last e ends.later t.asks plan.failed status t.ready first slot at.1 at.2);

@@ -124,7 +124,7 @@ module _ {H : Type 0} (g : HostMembers H) (plan : Planned) (b : Begun) (v : Imag
         (subst (λ (l : List ℕ). Moments clock since mid new (λ m. may mid m.image × IsPartWay stop.put l m.said)) (sym line.is) (while stop.put stop.told)))
 
     unopened_stop : IsStopped (store_of plan) course (λ u. IsKeptInStore (store_of plan) course [] u) b.said
-    unopened_stop = record { lines = []; more = course.text; said_is = sym (append-nil b.said); are_lines = tt; of_text = refl; kept = λ u kept. kept }
+    unopened_stop = record { lines = []; more = course.text; said_is = sym (append-nil b.said); are_lines = tt; of_text = refl; kept = λ u kept. kept; grown = inr refl }
 
     after_none : IsUnopened may said plan b old mid → Moments clock since old new (P last)
     after_none un =
@@ -241,6 +241,7 @@ module _ {H : Type 0} (g : HostMembers H) (plan : Planned) (b : Begun) (v : Imag
         put = put;
         truthful = f.done.truthful;
         has = f.done.has;
+        grown = f.done.grown;
       }
 
   pub resumed : status ≡ Ok → b.first ≡ 0 → b.held ≡ below (next_offset b.held) (events_after (terms_of plan).basis [] 0 (lines_in b)) → Resumes plan b (said mid)

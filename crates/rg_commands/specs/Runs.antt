@@ -15,14 +15,15 @@ use Rattle.rg_run_spec.specs.Accepted.{events_after}
 use Rattle.rg_run_spec.specs.Laws.{below}
 use Rattle.rg_run_spec.specs.Output.{text_of_run, open_line, put_before, unstopped}
 use Rattle.rg_run_spec.specs.Pieces.{whole_pieces}
-use Rattle.rg_run_spec.specs.Stores.{IsNear, Promised, StaysOnCourseSince}
-use Rattle.rg_open.specs.Stores.{store_of, Has, HasSaved}
+use Rattle.rg_run_spec.specs.Stores.{HasAtLeast, IsNear, Promised, StaysOnCourseSince}
+use Rattle.rg_open.specs.Stores.{store_of, Has, HasSaved, IsGrownTo}
 use Rattle.rg_open.specs.Truth.{IsTruthfulImage}
 use Rattle.rg_open.specs.Opening.{IsFromIn}
 use Rattle.rg_open.specs.Unfit.{IsUnfit, IsLeftAlone}
 use Rattle.rg_open.specs.Within.{IsWithinOpening}
 use Rattle.rg_task.specs.Terms.{terms_of}
 use Rattle.rg_recover.specs.Ready.{IsReadyRun, begun_by}
+use Rattle.rg_recover.specs.Answered.{HoldsLog}
 use Rattle.rg_recover.specs.Ran.{HasFinished, HasStopped, IsUnopened}
 use Rattle.rg_run.specs.Begun.{Begun, lines_in, course_for}
 use Rattle.rg_run.specs.UnderWay.{HasAnswered}
@@ -88,6 +89,7 @@ pub record RunsStore {H : Type 0} (g : HostMembers H) (first : ℕ) (plan : Plan
       input.stays × IsWithinOpening g.may g.clock g.since g.said plan keep ready.openable.image old new × EndsBehind first (next_offset ready.held) ⊥ status last
   pub unfit : (v : Image) → g.now old ≡ Some v → IsUnfit plan v → input.stays × IsLeftAlone g.now g.may g.clock g.since g.said v old new × EndsUnfit plan v ⊥ status last
   pub no_gap : status ≡ Ok → (v : Image) (events : List Event) → g.now old ≡ Some v → Has plan events v → first ≤ next_offset events
+  pub log : (v : Image) (events : List Event) → g.now old ≡ Some v → Has plan events v → HoldsLog g.may g.clock g.since plan events old new
   pub at_end : status ≡ Ok → IsAtEnd input.left
 
 -- nothing was done to the host, nor to the input
@@ -99,12 +101,14 @@ pub record IsIdle (host_stays input_stays : Type 0) : Type 0 where
 abbrev pub RunsBy : {H : Type 0} → HostMembers H → ℕ → SourceOutcome → SourceOutcome → Status → List ℕ → Option Refusal → H → H → Type 0
 RunsBy g first plan input status last told old new = GoesBy plan last told status (IsIdle (new ≡ old) input.stays) (λ asks. RunsStore g first asks input status last old new)
 
--- A run came to its end: all of its text was put, and each image that might be left is truthful and has just the events accepted.
+-- A run came to its end: all of its text was put, and each image that might be left is truthful and has just the events accepted, under the
+-- plan's schema, which is in force at the log's end.
 pub record IsComplete (plan : Planned) (b : Begun) (v : Image) (may : Image → Type 0) (said : Option (List ℕ)) : Type 0 where
   pub is_from : IsFromIn plan v b.from
   pub put : said ≡ Some (b.said ++ ended (text_of_run (terms_of plan) b.held b.from b.first (lines_in b)))
   pub truthful : (u : Image) → may u → IsTruthfulImage u
   pub has : (u : Image) → may u → Has plan (events_after (terms_of plan).basis b.held b.first (lines_in b)) u
+  pub grown : (u : Image) → may u → IsGrownTo plan u
 
 -- whole lines of the run's text were put, and then this last line
 pub record EndsWhole (plan : Planned) (b : Begun) (last : List ℕ) (said : Option (List ℕ)) : Type 0 where
@@ -167,10 +171,21 @@ pub record RunsOn (plan : Planned) (b : Begun) (v : Image) (left : Option (List 
   pub gap_always : status ≡ Ok → b.first ≤ next_offset b.held
   pub gap_never : status ≡ Gap → next_offset b.held < b.first
 
+-- Each image of a moment, and each that is left, might have been left at the start, or has these events, and maybe more behind them.
+pub record KeepsLog (plan : Planned) (held : List Event) (h : HostOutcome) : Type 0 where
+  pub moments : h.moments (λ m. h.may m.image ⊎ HasAtLeast (store_of plan) held m.image)
+  pub left : (u : Image) → h.may_after u → h.may u ⊎ HasAtLeast (store_of plan) held u
+
+-- over any log that is legal, whatever the slots hold and whatever the input and the output tell, the log's payments stay at each moment
+abbrev pub LogStays : Outcome → Type 0
+LogStays o = (bytes : List ℕ) (asks : Planned) (v : Image) (events : List Event) → o.plan.told ≡ Some bytes → IsPlan bytes asks → o.host.image ≡ Some v → Has asks events v → KeepsLog asks events o.host
+
 -- What a run promises whose first line has that offset.
 pub record RunPromises (first : ℕ) (o : Outcome) (status : Status) : Type 0 where
   -- Over a store that is ready it has a course, and keeps to it.
   pub ran : (told : ToldRun o) → (from : ℕ) × (last : List ℕ) × RunsOn told.asks (begun_in told from first) told.ready.openable.image o.input.left (o.input.stays × o.plan.failed) o.host status last
+  -- Over any log that is legal, whatever the slots hold, the log's payments stay at each moment.
+  pub log_stays : LogStays o
   -- At status Ok the input was read to its end.
   pub input_read : status ≡ Ok → IsAtEnd o.input.left
   -- Its first line is then at most the store's next one, over any legal log, whatever the slots have and whatever the input and the output tell.

@@ -10,7 +10,7 @@ ghost use Rattle.rg_commands.specs.Infos.{InfoPromises};
 ghost use Rattle.rg_commands.specs.Outcome.{source_outcome, host_outcome, outcome_of};
 ghost use Rattle.rg_commands.specs.Replays.{ReplayPromises};
 ghost use Rattle.rg_commands.specs.Runs.{RunPromises, OfRun, CompleteRun, EveryMoment, LastLineRun, NoReplyLost, SavedKept, RepliesPut};
-ghost use Rattle.rg_commands.specs.Runs.{ResumesRun, GapAlways, CompletesRun};
+ghost use Rattle.rg_commands.specs.Runs.{ResumesRun, GapAlways, LogStays, CompletesRun};
 ghost use Rattle.rg_commands.specs.SelfTests.{SelfPromises};
 ghost use Rattle.rg_commands.specs.Texts.{EndsWith, PutsLast};
 ghost use Rattle.rg_commands.specs.Verifies.{VerifyPromises};
@@ -116,6 +116,10 @@ pub fn railgun<P: Source, I: Source, H: Host>(
     // A run goes on only where its first line is at most the store's next one.
     ensures gap_always { result ≡ Status.Ok →
         OfRun (command_of words.now) (outcome_of P.Source I.Source H.Host plan.old plan.new input.old input.new host.old host.new) GapAlways }
+
+    // Over any log that is legal, whatever the slots hold, the log's payments stay at each moment of a run.
+    ensures log_stays { (first : ℕ) → command_of words.now ≡ Some (Command.Run first) →
+        LogStays (outcome_of P.Source I.Source H.Host plan.old plan.new input.old input.new host.old host.new) }
 
     // Where no count of faults rose, a run ends well, or for want of memory, where its input isn't too long and begins early enough.
     ensures completes_run { OfRun (command_of words.now)

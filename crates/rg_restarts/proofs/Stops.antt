@@ -80,7 +80,7 @@ module _ (plan : Planned) (input : List ℕ) (now : Option Image) (may : Image �
 
   abbrev pub ready_for : (said : Option (List ℕ)) (put : List ℕ) → said ≡ Some put → IsReadyRun plan now may said
   ready_for said put told = record {
-    openable = record { image = s.image; told = s.told; truthful = λ u left. read_alike s.image u (left_as_read u left) s.truthful; schema = left_of_plan };
+    openable = record { image = s.image; told = s.told; truthful = λ u left. read_alike s.image u (left_as_read u left) s.truthful; schema = s.schema };
     put = put;
     told = told;
     held = s.held;

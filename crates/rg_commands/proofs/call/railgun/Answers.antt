@@ -32,6 +32,9 @@ returns-clause-resumes g c = λ ok first is told zero held. let r = (ran_by _ fi
 pub returns-clause-gap_always : goal.returns-clause-gap_always
 returns-clause-gap_always g c = λ ok first is told. let r = (ran_by _ first _ _ is c.carry_out.ensures.promises).ran told in r.2.gap_always ok
 
+pub returns-clause-log_stays : goal.returns-clause-log_stays
+returns-clause-log_stays g c = λ first is. (ran_by _ first _ _ is c.carry_out.ensures.promises).log_stays
+
 pub returns-clause-completes_run : goal.returns-clause-completes_run
 returns-clause-completes_run g c = λ first is told. (ran_by _ first _ _ is c.carry_out.ensures.promises).completes_run told
 

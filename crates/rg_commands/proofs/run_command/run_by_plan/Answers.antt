@@ -47,6 +47,7 @@ returns-in-Ok-done-clause-goes g c = inr (
     behind = λ ready keep late. absurd (omega (arith, late, c.in-Ok-done.ensures.no_gap ready.openable.image ready.held ready.openable.told ready.has));
     unfit = λ v now unfit. absurd (c.in-Ok-done.ensures.exact v now unfit);
     no_gap = λ ok v events now has. c.in-Ok-done.ensures.no_gap v events now has;
+    log = c.in-Ok-done.ensures.log_stays;
     at_end = λ ok. c.in-Ok-done.ensures.at_end;
   },
 )
@@ -90,6 +91,7 @@ returns-clause-goes g c =
             let at = c.in-Err-done.ensures.unfit v now unfit in
             (at.0, at.1, ends_unfit (planned c.in-Ok.asked) v _ fault status last ends at.2);
         no_gap = λ ok. absurd (run_at _ fault status last ends Ok ok);
+        log = c.in-Err-done.ensures.log_stays;
         at_end = λ ok. absurd (run_at _ fault status last ends Ok ok);
       },
     )

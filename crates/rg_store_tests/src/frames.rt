@@ -2,8 +2,9 @@ ghost use Rattle.std.specs.Prelude.{◌≡◌, true};
 ghost use Rattle.rg_frame.specs.LogState.{ReachesEnd};
 
 use crate::parts::Part;
-use crate::rows::{Row, assert_each};
+use crate::rows::{Checks, Row, assert_each};
 use crate::store::{Left, leaves_by_each, store};
+use rg_bytes::Memory;
 use rg_frame::{FrameFault, FrameLog, Head};
 use rg_host::{Host, MemHost, Pick};
 use std::alloc::Global;
@@ -66,12 +67,12 @@ fn listed(alloc: Global, host: &mut MemHost, payloads: &[&[u8]]) -> End {
 }
 
 /// Whether no frame is read at the end of the file.
-fn has_end(alloc: Global, host: &mut MemHost) -> bool {
+fn has_end(alloc: Global, host: &mut MemHost, checks: &mut Checks) -> bool {
     let length = host.file(2).len() as u64;
     let mut read = Vec::new(alloc);
     let next = FrameLog::new(2).read(host, length, &mut read);
     drop(read);
-    next == Ok(None)
+    checks.same("read at the end of the file", next, Ok(None))
 }
 
 /// A frame that is stepped over, and what stands in two bytes then.
@@ -129,41 +130,44 @@ struct Found {
 }
 
 impl Found {
-    fn is_in(&self, alloc: Global, host: &mut MemHost) -> bool {
+    fn is_in(&self, alloc: Global, host: &mut MemHost, checks: &mut Checks) -> bool {
         let payloads = TWO.get(..self.count).unwrap_or(TWO);
-        stepped(host, self.count) == self.end
-            && listed(alloc, host, payloads) == self.end
-            && has_end(alloc, host)
+        checks.same("end of the steps", stepped(host, self.count), self.end)
+            && checks.same("end of the frames", listed(alloc, host, payloads), self.end)
+            && has_end(alloc, host, checks)
     }
 
-    /// The same where these stand in file 2.
-    fn is_of(&self, alloc: Global, parts: &[Part]) -> bool {
-        match store(alloc, 2, &[parts], &[]) {
-            Ok(mut host) => {
-                let is_so = self.is_in(alloc, &mut host);
-                drop(host);
-                is_so
-            }
-            Err(_) => false,
-        }
+    /// Whether it is found where these stand in file 2.
+    fn is_of(&self, alloc: Global, parts: &[Part], checks: &mut Checks) -> Result<bool, Memory> {
+        let mut host = store(alloc, 2, &[parts], &[])?;
+        let is_so = self.is_in(alloc, &mut host, checks);
+        drop(host);
+        Ok(is_so)
     }
 
-    /// The same of each front of the two frames of these lengths.
-    fn is_of_fronts(&self, alloc: Global, least: usize, most: usize) -> bool {
+    /// Whether it is in each front of the two frames of these lengths.
+    fn is_of_fronts(
+        &self,
+        alloc: Global,
+        least: usize,
+        most: usize,
+        checks: &mut Checks,
+    ) -> Result<bool, Memory> {
         for length in least..=most {
-            if !self.is_of(alloc, &[Part::Frames(0, length)]) {
-                return false;
+            let is_so = self.is_of(alloc, &[Part::Frames(0, length)], checks)?;
+            if !checks.at(is_so, "length", length) {
+                return Ok(false);
             }
         }
-        true
+        Ok(true)
     }
 }
 
 impl Row for Found {
-    fn is_so(&self, alloc: Global) -> bool {
+    fn is_so(&self, alloc: Global, checks: &mut Checks) -> Result<bool, Memory> {
         match &self.file {
-            File::Parts(parts) => self.is_of(alloc, parts),
-            File::Fronts(least, most) => self.is_of_fronts(alloc, *least, *most),
+            File::Parts(parts) => self.is_of(alloc, parts, checks),
+            File::Fronts(least, most) => self.is_of_fronts(alloc, *least, *most, checks),
         }
     }
 }
@@ -361,8 +365,8 @@ struct Filled {
 }
 
 /// Whether the file has these bytes, where some are given.
-fn has_bytes(host: &MemHost, bytes: &[u8]) -> bool {
-    bytes.is_empty() || host.file(2) == bytes
+fn has_bytes(host: &MemHost, bytes: &[u8], checks: &mut Checks) -> bool {
+    bytes.is_empty() || checks.same_bytes("file 2", host.file(2), bytes)
 }
 
 impl Filled {
@@ -380,42 +384,55 @@ impl Filled {
     }
 
     /// Whether a host is filled so, by so many calls, and has these bytes then.
-    fn fills(&self, host: &mut MemHost) -> bool {
-        let is_done = match fill(host, self.payloads) {
-            Ok(places) => !self.fails && places == (self.place, self.end),
-            Err(fault) => self.fails && fault == FrameFault::Disk,
+    fn fills(&self, host: &mut MemHost, checks: &mut Checks) -> bool {
+        let wanted = if self.fails {
+            Err(FrameFault::Disk)
+        } else {
+            Ok((self.place, self.end))
         };
-        is_done && has_bytes(host, self.bytes) && host.calls() == self.calls
+        checks.same("places of the frames", fill(host, self.payloads), wanted)
+            && has_bytes(host, self.bytes, checks)
+            && checks.same("calls", host.calls(), self.calls)
     }
 
-    /// The same; each stop then leaves one of its lists, and what was appended stands where no call fails.
-    fn is_so_of(&self, alloc: Global, host: &mut MemHost) -> bool {
+    /// Whether what was appended stands, where no call fails.
+    fn stands(&self, alloc: Global, host: &mut MemHost, checks: &mut Checks) -> bool {
+        if self.fails || self.payloads.is_empty() {
+            return true;
+        }
+        let end = listed(alloc, host, self.payloads);
+        checks.same("frames with these payloads", end.is_ok(), true)
+    }
+
+    /// Whether a host is filled, each stop then leaves one of its lists, and what was appended stands.
+    fn is_so_of(&self, alloc: Global, host: &mut MemHost, checks: &mut Checks) -> bool {
         let mut want = *self;
-        self.fills(host)
-            && leaves_by_each(alloc, host, 0, PICKS, &mut want)
-            && (self.fails
-                || self.payloads.is_empty()
-                || listed(alloc, host, self.payloads).is_ok())
+        self.fills(host, checks)
+            && leaves_by_each(alloc, host, 0, PICKS, &mut want, checks)
+            && self.stands(alloc, host, checks)
     }
 }
 
 impl Left for Filled {
-    fn may_be(&mut self, alloc: Global, left: &mut MemHost, call: u64) -> bool {
+    fn may_be(
+        &mut self,
+        alloc: Global,
+        left: &mut MemHost,
+        call: u64,
+        checks: &mut Checks,
+    ) -> bool {
         let (old, new) = self.lists_at(call);
-        listed(alloc, left, old).is_ok() || listed(alloc, left, new).is_ok()
+        let is_one = listed(alloc, left, old).is_ok() || listed(alloc, left, new).is_ok();
+        is_one || checks.fails("lists", left.file(2), (old, new))
     }
 }
 
 impl Row for Filled {
-    fn is_so(&self, alloc: Global) -> bool {
-        match store(alloc, 2, self.files, self.failing) {
-            Ok(mut host) => {
-                let is_so = self.is_so_of(alloc, &mut host);
-                drop(host);
-                is_so
-            }
-            Err(_) => false,
-        }
+    fn is_so(&self, alloc: Global, checks: &mut Checks) -> Result<bool, Memory> {
+        let mut host = store(alloc, 2, self.files, self.failing)?;
+        let is_so = self.is_so_of(alloc, &mut host, checks);
+        drop(host);
+        Ok(is_so)
     }
 }
 

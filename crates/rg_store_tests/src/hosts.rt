@@ -1,8 +1,9 @@
 ghost use Rattle.std.specs.Prelude.{◌<◌};
 
 use crate::parts::Part;
-use crate::rows::{Row, assert_each};
+use crate::rows::{Checks, Row, assert_each};
 use crate::store::{Left, leaves, store};
+use rg_bytes::Memory;
 use rg_host::{Failed, FuseHost, Host, MemHost, Pick, put_all};
 use std::alloc::Global;
 use std::test::Fail;
@@ -39,33 +40,44 @@ fn counted(count: Result<usize, Failed>) -> u64 {
 }
 
 /// Whether so many of four bytes are read, and these stand there then.
-fn reads<H: Host>(host: &mut H, file: u32, at: u64, bytes: &[u8], want: u64) -> bool
+fn reads<H: Host>(
+    host: &mut H,
+    file: u32,
+    at: u64,
+    bytes: &[u8],
+    want: u64,
+    checks: &mut Checks,
+) -> bool
     requires { file < 8 }
 {
     let mut buf = [0; 4];
     let count = counted(host.read_at(file, at, &mut buf));
-    count == want && (count == FAILS || buf.as_slice() == bytes)
+    checks.same("count of a read", count, want)
+        && (count == FAILS || checks.same_bytes("bytes of a read", &buf, bytes))
 }
 
 /// Whether a host answers so; a write behind two bytes is none of its calls.
-fn answers<H: Host>(host: &mut H, file: u32, call: &Call) -> bool
+fn answers<H: Host>(host: &mut H, file: u32, call: &Call, checks: &mut Checks) -> bool
     requires { file < 8 }
 {
     match call {
-        Call::Len(want) => host.len(file).unwrap_or(FAILS) == *want,
-        Call::Read(at, bytes, want) => reads(host, file, *at, bytes, *want),
-        Call::Write(bytes, want) => done(host.write_at(file, 0, bytes)) == *want,
-        Call::WriteBehind(..) => false,
-        Call::Sync(want) => done(host.sync(file)) == *want,
-        Call::Put(bytes, want) => counted(host.put(bytes)) == *want,
-        Call::PutAll(bytes, want) => done(put_all(host, bytes)) == *want,
+        Call::Len(want) => checks.same("len", host.len(file).unwrap_or(FAILS), *want),
+        Call::Read(at, bytes, want) => reads(host, file, *at, bytes, *want, checks),
+        Call::Write(bytes, want) => {
+            checks.same("write_at", done(host.write_at(file, 0, bytes)), *want)
+        }
+        Call::WriteBehind(..) => checks.fails("call", "write behind two bytes", "another"),
+        Call::Sync(want) => checks.same("sync", done(host.sync(file)), *want),
+        Call::Put(bytes, want) => checks.same("put", counted(host.put(bytes)), *want),
+        Call::PutAll(bytes, want) => checks.same("put_all", done(put_all(host, bytes)), *want),
     }
 }
 
 /// Whether a fuse before a host answers so of file 1.
-fn answers_by_fuse(fuse: &mut FuseHost<MemHost>, calls: &[Call]) -> bool {
-    for call in calls {
-        if !answers(fuse, 1, call) {
+fn answers_by_fuse(fuse: &mut FuseHost<MemHost>, calls: &[Call], checks: &mut Checks) -> bool {
+    for (number, call) in calls.iter().enumerate() {
+        let do_answer = answers(fuse, 1, call, checks);
+        if !checks.at(do_answer, "call", number) {
             return false;
         }
     }
@@ -73,18 +85,25 @@ fn answers_by_fuse(fuse: &mut FuseHost<MemHost>, calls: &[Call]) -> bool {
 }
 
 /// Whether two bytes of file 2 are there to write behind, and the write answers so.
-fn answers_behind(host: &mut MemHost, bytes: &[u8], want: u64) -> bool {
-    host.file(2).len() >= 2 && done(host.write_at(2, 2, bytes)) == want
+fn answers_behind(host: &mut MemHost, bytes: &[u8], want: u64, checks: &mut Checks) -> bool {
+    if host.file(2).len() < 2 {
+        return checks.fails("bytes of file 2", host.file(2).len(), 2);
+    }
+    checks.same(
+        "write_at behind two bytes",
+        done(host.write_at(2, 2, bytes)),
+        want,
+    )
 }
 
 /// Whether a host in memory answers so of file 2.
-fn answers_in_memory(host: &mut MemHost, calls: &[Call]) -> bool {
-    for call in calls {
+fn answers_in_memory(host: &mut MemHost, calls: &[Call], checks: &mut Checks) -> bool {
+    for (number, call) in calls.iter().enumerate() {
         let do_answer = match call {
-            Call::WriteBehind(bytes, want) => answers_behind(host, bytes, *want),
-            _ => answers(host, 2, call),
+            Call::WriteBehind(bytes, want) => answers_behind(host, bytes, *want, checks),
+            _ => answers(host, 2, call, checks),
         };
-        if !do_answer {
+        if !checks.at(do_answer, "call", number) {
             return false;
         }
     }
@@ -105,8 +124,16 @@ struct Clean<'a> {
 }
 
 impl Left for Clean<'_> {
-    fn may_be(&mut self, _alloc: Global, left: &mut MemHost, _call: u64) -> bool {
-        left.file(2) == self.bytes && left.output().is_empty() && left.calls() == 0
+    fn may_be(
+        &mut self,
+        _alloc: Global,
+        left: &mut MemHost,
+        _call: u64,
+        checks: &mut Checks,
+    ) -> bool {
+        checks.same_bytes("file 2", left.file(2), self.bytes)
+            && checks.same_bytes("output", left.output(), b"")
+            && checks.same("calls", left.calls(), 0)
     }
 }
 
@@ -132,15 +159,15 @@ struct Called {
 }
 
 /// Whether a host has what it should in that file, and nothing in file 7.
-fn is_left(host: &MemHost, file: u32, called: &Called) -> bool
+fn is_left(host: &MemHost, file: u32, called: &Called, checks: &mut Checks) -> bool
     requires { file < 8 }
 {
-    host.file(file) == called.bytes
-        && host.file(7).is_empty()
-        && host.output() == called.output
-        && host.calls() == called.count
-        && host.count_reads() == called.reads
-        && host.starved() == called.starved
+    checks.same_bytes("the file", host.file(file), called.bytes)
+        && checks.same_bytes("file 7", host.file(7), b"")
+        && checks.same_bytes("output", host.output(), called.output)
+        && checks.same("calls", host.calls(), called.count)
+        && checks.same("reads", host.count_reads(), called.reads)
+        && checks.same("starved calls", host.starved(), called.starved)
 }
 
 /// Whether a stop leaves these bytes, and nothing else.
@@ -150,24 +177,25 @@ fn leaves_bytes(
     call: u64,
     pick: Pick,
     bytes: &'static [u8],
+    checks: &mut Checks,
 ) -> bool {
     let mut clean = Clean { bytes };
-    leaves(alloc, host, call, pick, &mut clean)
+    leaves(alloc, host, call, pick, &mut clean, checks)
 }
 
-fn leaves_so(alloc: Global, host: &MemHost, stop: &Stop) -> bool {
+fn leaves_so(alloc: Global, host: &MemHost, stop: &Stop, checks: &mut Checks) -> bool {
     match stop {
-        Stop::Old(call, bytes) => leaves_bytes(alloc, host, *call, Pick::Old, bytes),
-        Stop::New(call, bytes) => leaves_bytes(alloc, host, *call, Pick::New, bytes),
+        Stop::Old(call, bytes) => leaves_bytes(alloc, host, *call, Pick::Old, bytes, checks),
+        Stop::New(call, bytes) => leaves_bytes(alloc, host, *call, Pick::New, bytes, checks),
         Stop::Torn(byte, call, bytes) => {
-            leaves_bytes(alloc, host, *call, Pick::Torn(*byte), bytes)
+            leaves_bytes(alloc, host, *call, Pick::Torn(*byte), bytes, checks)
         }
     }
 }
 
-fn leaves_each(alloc: Global, host: &MemHost, stops: &[Stop]) -> bool {
+fn leaves_each(alloc: Global, host: &MemHost, stops: &[Stop], checks: &mut Checks) -> bool {
     for stop in stops {
-        if !leaves_so(alloc, host, stop) {
+        if !leaves_so(alloc, host, stop, checks) {
             return false;
         }
     }
@@ -175,34 +203,32 @@ fn leaves_each(alloc: Global, host: &MemHost, stops: &[Stop]) -> bool {
 }
 
 /// Whether a host in memory does so.
-fn does(alloc: Global, host: &mut MemHost, called: &Called) -> bool {
-    answers_in_memory(host, called.calls)
-        && is_left(host, 2, called)
-        && leaves_each(alloc, host, called.stops)
+fn does(alloc: Global, host: &mut MemHost, called: &Called, checks: &mut Checks) -> bool {
+    answers_in_memory(host, called.calls, checks)
+        && is_left(host, 2, called, checks)
+        && leaves_each(alloc, host, called.stops, checks)
 }
 
 /// Whether a fuse of so many calls before a host does so; no stop is asked of it.
-fn does_by_fuse(host: MemHost, calls: u64, called: &Called) -> bool {
+fn does_by_fuse(host: MemHost, calls: u64, called: &Called, checks: &mut Checks) -> bool {
     let mut fuse = FuseHost::new(host, calls);
-    let do_answer = answers_by_fuse(&mut fuse, called.calls);
+    let do_answer = answers_by_fuse(&mut fuse, called.calls, checks);
     let host = fuse.into_inner();
-    let is_left = is_left(&host, 1, called);
+    let is_left = is_left(&host, 1, called, checks);
     drop(host);
-    do_answer && is_left && called.stops.is_empty()
+    do_answer && is_left && checks.same("stops of a fuse", called.stops.len(), 0)
 }
 
 impl Row for Called {
-    fn is_so(&self, alloc: Global) -> bool {
-        match store(alloc, 2, self.files, self.failing) {
-            Ok(mut host) => match self.fuse {
-                Some(calls) => does_by_fuse(host, calls, self),
-                None => {
-                    let does = does(alloc, &mut host, self);
-                    drop(host);
-                    does
-                }
-            },
-            Err(_) => false,
+    fn is_so(&self, alloc: Global, checks: &mut Checks) -> Result<bool, Memory> {
+        let mut host = store(alloc, 2, self.files, self.failing)?;
+        match self.fuse {
+            Some(calls) => Ok(does_by_fuse(host, calls, self, checks)),
+            None => {
+                let does = does(alloc, &mut host, self, checks);
+                drop(host);
+                Ok(does)
+            }
         }
     }
 }

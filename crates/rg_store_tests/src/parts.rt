@@ -1,3 +1,4 @@
+use crate::rows::Checks;
 use rg_bytes::Memory;
 use std::alloc::Global;
 
@@ -100,10 +101,16 @@ pub(crate) fn joined(alloc: Global, parts: &[Part]) -> Result<Vec<u8>, Memory> {
 }
 
 /// Whether some bytes are those of these parts, where there are any.
-pub(crate) fn are_parts(alloc: Global, bytes: &[u8], parts: &[Part]) -> bool {
+pub(crate) fn are_parts(
+    alloc: Global,
+    what: &str,
+    bytes: &[u8],
+    parts: &[Part],
+    checks: &mut Checks,
+) -> bool {
     match joined(alloc, parts) {
         Ok(want) => {
-            let are_same = parts.is_empty() || want.as_slice() == bytes;
+            let are_same = parts.is_empty() || checks.same_bytes(what, bytes, &want);
             drop(want);
             are_same
         }

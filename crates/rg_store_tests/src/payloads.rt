@@ -1,5 +1,5 @@
 use crate::parts::{BASE, Part, add_each, are_parts};
-use crate::rows::{Row, assert_each};
+use crate::rows::{Checks, Row, assert_each};
 use rg_bytes::Memory;
 use rg_checkpoint::{
     Checkpoint, CheckpointFault, Key, Spot, Texts, apply_changes, decode_checkpoint,
@@ -87,17 +87,29 @@ fn write_base(alloc: Global, table: &mut MemTable, out: &mut Vec<u8>) -> bool {
     }
 }
 
+/// Whether a checkpoint has the query `q` alone.
+fn has_query(checkpoint: &Checkpoint, checks: &mut Checks) -> bool {
+    match checkpoint.queries.as_slice() {
+        [query] => checks.same_bytes("query", query.as_slice(), b"q"),
+        queries => checks.fails("queries", queries.len(), 1),
+    }
+}
+
+/// Whether it has the row of node 0 and this key alone.
+fn has_key(checkpoint: &Checkpoint, key: &[u8], checks: &mut Checks) -> bool {
+    match checkpoint.rows.as_slice() {
+        [row] => {
+            checks.same("node", row.node, 0) && checks.same_bytes("key", row.key.as_slice(), key)
+        }
+        rows => checks.fails("rows", rows.len(), 1),
+    }
+}
+
 /// Whether a checkpoint has the query `q`, the spot, and the row of node 0 and this key.
-fn has_row(checkpoint: &Checkpoint, key: &[u8]) -> bool {
-    let has_query = match checkpoint.queries.as_slice() {
-        [query] => query.as_slice() == b"q".as_slice(),
-        _ => false,
-    };
-    let has_row = match checkpoint.rows.as_slice() {
-        [row] => row.node == 0 && row.key.as_slice() == key,
-        _ => false,
-    };
-    has_query && has_row && checkpoint.spots.as_slice() == [SPOT].as_slice()
+fn has_row(checkpoint: &Checkpoint, key: &[u8], checks: &mut Checks) -> bool {
+    has_query(checkpoint, checks)
+        && has_key(checkpoint, key, checks)
+        && checks.same("spots", checkpoint.spots.as_slice(), [SPOT].as_slice())
 }
 
 /// A payload, and what is read of it.
@@ -143,10 +155,10 @@ impl Payload {
     }
 
     /// Whether a checkpoint is so.
-    fn is_seen(&self, checkpoint: &Checkpoint) -> bool {
-        checkpoint.count == self.count
-            && checkpoint.rows.as_slice().len() == self.rows
-            && (self.key.is_empty() || has_row(checkpoint, self.key))
+    fn is_seen(&self, checkpoint: &Checkpoint, checks: &mut Checks) -> bool {
+        checks.same("count", checkpoint.count, self.count)
+            && checks.same("rows", checkpoint.rows.as_slice().len(), self.rows)
+            && (self.key.is_empty() || has_row(checkpoint, self.key, checks))
     }
 
     /// Whether the checkpoint is so with these changes; none where they are refused, and it is as before.
@@ -155,12 +167,14 @@ impl Payload {
         checkpoint: &mut Checkpoint,
         changes: &[u8],
         alloc: Global,
+        checks: &mut Checks,
     ) -> Option<bool> {
         match apply_changes(alloc, changes, checkpoint) {
-            Ok(()) => Some(self.is_seen(checkpoint)),
+            Ok(()) => Some(self.is_seen(checkpoint, checks)),
             Err(CheckpointFault::Memory) => Some(false),
             Err(CheckpointFault::BadCheckpoint) => {
-                if checkpoint.count == 2 && checkpoint.rows.as_slice().len() == 1 {
+                let seen = (checkpoint.count, checkpoint.rows.as_slice().len());
+                if checks.same("count and rows behind a refusal", seen, (2, 1)) {
                     None
                 } else {
                     Some(false)
@@ -170,7 +184,7 @@ impl Payload {
     }
 
     /// Whether the checkpoint is so that is read of a payload; none where that is refused.
-    fn seen(&self, alloc: Global, payload: &[u8]) -> Option<bool> {
+    fn seen(&self, alloc: Global, payload: &[u8], checks: &mut Checks) -> Option<bool> {
         let base = if self.changes {
             BASE.as_slice()
         } else {
@@ -179,9 +193,9 @@ impl Payload {
         match decode_checkpoint(alloc, base) {
             Ok(mut checkpoint) => {
                 let seen = if self.changes {
-                    self.seen_with(&mut checkpoint, payload, alloc)
+                    self.seen_with(&mut checkpoint, payload, alloc, checks)
                 } else {
-                    Some(self.is_seen(&checkpoint))
+                    Some(self.is_seen(&checkpoint, checks))
                 };
                 drop(checkpoint);
                 seen
@@ -191,47 +205,64 @@ impl Payload {
         }
     }
 
-    /// Whether the front of this length is refused, or seen.
-    fn is_front(&self, alloc: Global, payload: &[u8], length: usize) -> bool {
-        let front = payload.get(..length).unwrap_or(b"");
-        let is_whole = self.count > 0 && length.saturating_add(1) == payload.len();
-        self.seen(alloc, front) == if is_whole { Some(true) } else { None }
+    /// Whether a payload is seen, or refused where it isn't to be.
+    fn is_seen_of(
+        &self,
+        alloc: Global,
+        payload: &[u8],
+        is_whole: bool,
+        checks: &mut Checks,
+    ) -> bool {
+        let wanted = if is_whole { Some(true) } else { None };
+        let seen = self.seen(alloc, payload, checks);
+        checks.same("checkpoint of these bytes", seen, wanted)
     }
 
-    fn are_fronts(&self, alloc: Global, payload: &[u8]) -> bool {
+    /// Whether the front of this length is refused, or seen.
+    fn is_front(&self, alloc: Global, payload: &[u8], length: usize, checks: &mut Checks) -> bool {
+        let front = payload.get(..length).unwrap_or(b"");
+        let is_whole = self.count > 0 && length.saturating_add(1) == payload.len();
+        self.is_seen_of(alloc, front, is_whole, checks)
+    }
+
+    fn are_fronts(&self, alloc: Global, payload: &[u8], checks: &mut Checks) -> bool {
         for length in 0..=payload.len() {
-            if !self.is_front(alloc, payload, length) {
+            let is_front = self.is_front(alloc, payload, length, checks);
+            if !checks.at(is_front, "length", length) {
                 return false;
             }
         }
         true
     }
 
+    /// Whether this was made of the steps, where there are any.
+    fn is_made(&self, alloc: Global, payload: &[u8], checks: &mut Checks) -> bool {
+        self.steps.is_empty()
+            || (checks.same("length", payload.len(), self.length)
+                && are_parts(alloc, "payload", payload, self.parts, checks))
+    }
+
     /// Whether this was made, behind `x`, and is read so.
-    fn is_read(&self, alloc: Global, out: &[u8]) -> bool {
-        let payload = out.get(1..).unwrap_or(b"");
-        let is_made = self.steps.is_empty()
-            || (payload.len() == self.length && are_parts(alloc, payload, self.parts));
-        if !is_made || out.get(..1) != Some(b"x".as_slice()) {
+    fn is_read(&self, alloc: Global, out: &[u8], checks: &mut Checks) -> bool {
+        let (before, payload) = out.split_at(1.min(out.len()));
+        if !checks.same_bytes("bytes before the payload", before, b"x")
+            || !self.is_made(alloc, payload, checks)
+        {
             return false;
         }
         if self.fronts {
-            return self.are_fronts(alloc, payload);
+            return self.are_fronts(alloc, payload, checks);
         }
-        self.seen(alloc, payload) == if self.count > 0 { Some(true) } else { None }
+        self.is_seen_of(alloc, payload, self.count > 0, checks)
     }
 }
 
 impl Row for Payload {
-    fn is_so(&self, alloc: Global) -> bool {
-        match b"x".to_vec(alloc) {
-            Ok(mut out) => {
-                let is_so = self.make(alloc, &mut out) && self.is_read(alloc, &out);
-                drop(out);
-                is_so
-            }
-            Err(_) => false,
-        }
+    fn is_so(&self, alloc: Global, checks: &mut Checks) -> Result<bool, Memory> {
+        let mut out = b"x".to_vec(alloc)?;
+        let is_so = self.make(alloc, &mut out) && self.is_read(alloc, &out, checks);
+        drop(out);
+        Ok(is_so)
     }
 }
 

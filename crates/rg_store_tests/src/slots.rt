@@ -3,15 +3,16 @@ ghost use Rattle.rg_checkpoint.specs.Slots.{ReachesSlots};
 
 use crate::parts::{BASE, Part, SLOT, are_parts};
 use crate::payloads::texts;
-use crate::rows::{Row, assert_each};
+use crate::rows::{Checks, Row, assert_each};
 use crate::store::{Left, leaves_by_each, store};
+use rg_bytes::Memory;
 use rg_checkpoint::{SlotFault, SlotSizes, Slots, Texts};
 use rg_host::{Host, MemHost, Pick};
 use std::alloc::Global;
 use std::test::Fail;
 
 /// What slots tell.
-#[derive(Clone, Copy)]
+#[derive(Clone, Copy, Debug, PartialEq)]
 struct Told {
     /// Of how many payments the checkpoints of slots 0 and 1 are, where they are complete.
     counts: (Option<u64>, Option<u64>),
@@ -195,9 +196,11 @@ struct Written {
 }
 
 /// Whether slots have ended, and make no call.
-fn have_ended(slots: &mut Slots, host: &mut MemHost) -> bool {
+fn have_ended(slots: &mut Slots, host: &mut MemHost, checks: &mut Checks) -> bool {
     let calls = host.calls();
-    slots.save(host, Some(0), &BASE) == Err(SlotFault::Ended) && host.calls() == calls
+    let saved = slots.save(host, Some(0), &BASE);
+    checks.same("save of ended slots", saved, Err(SlotFault::Ended))
+        && checks.same("calls of ended slots", host.calls(), calls)
 }
 
 /// Takes slot 1, and answers its count.
@@ -213,72 +216,91 @@ fn take_second(slots: &mut Slots, host: &MemHost) -> Option<u64>
 }
 
 impl Written {
-    /// Whether it is written so, or fails and ends the slots.
-    fn is_written(&self, slots: &mut Slots, host: &mut MemHost) -> bool
-        requires { ReachesSlots slots.old (⟦<MemHost as Host>⟧.now host.old) }
-    {
-        match write_three(slots, host, self.writes) {
-            Ok(is_there) => {
-                let has_sizes = self.sizes.is_none() || slots.sizes(0) == self.sizes;
-                let has_second = slots.sizes(1).is_some() == self.second.is_some();
-                is_there && has_sizes && has_second && !self.fails
-            }
-            Err(fault) => self.fails && fault == SlotFault::Disk && have_ended(slots, host),
-        }
+    /// Whether the slots have sizes as wanted: slot 0 these, where they are asked, and slot 1 where it is complete.
+    fn have_sizes(&self, slots: &Slots, checks: &mut Checks) -> bool {
+        let has_sizes = self.sizes.is_none()
+            || checks.same("sizes of slot 0", slots.sizes(0), self.sizes);
+        let is_second = self.second.is_some();
+        has_sizes && checks.same("slot 1 is complete", slots.sizes(1).is_some(), is_second)
     }
 
-    /// The same, once slot 1 is taken, where it is to be.
-    fn is_done(&self, slots: &mut Slots, host: &mut MemHost) -> bool
+    /// Whether it is written so, or fails and ends the slots.
+    fn is_written(&self, slots: &mut Slots, host: &mut MemHost, checks: &mut Checks) -> bool
+        requires { ReachesSlots slots.old (⟦<MemHost as Host>⟧.now host.old) }
+    {
+        let wanted = if self.fails {
+            Err(SlotFault::Disk)
+        } else {
+            Ok(true)
+        };
+        let written = write_three(slots, host, self.writes);
+        if !checks.same("written", written, wanted) {
+            return false;
+        }
+        if self.fails {
+            return have_ended(slots, host, checks);
+        }
+        self.have_sizes(slots, checks)
+    }
+
+    /// Whether slot 1 is taken, where it is to be, and then all is written.
+    fn is_done(&self, slots: &mut Slots, host: &mut MemHost, checks: &mut Checks) -> bool
         requires fresh { slots.old.fresh ≡ true }
         requires reaches { ReachesSlots slots.old (⟦<MemHost as Host>⟧.now host.old) }
     {
-        if self.taken.is_some() && take_second(slots, host) != self.taken {
+        if self.taken.is_some() && !checks.same("taken", take_second(slots, host), self.taken) {
             return false;
         }
-        self.is_written(slots, host)
+        self.is_written(slots, host, checks)
     }
 
-    /// The same of the slots of a host, by so many calls.
-    fn writes(&self, alloc: Global, host: &mut MemHost) -> bool {
+    /// Whether it is done to the slots of a host, by so many calls.
+    fn writes(&self, alloc: Global, host: &mut MemHost, checks: &mut Checks) -> bool {
         match Slots::attach(alloc, host) {
             Ok(mut slots) => {
-                let is_done = self.is_done(&mut slots, host);
+                let is_done = self.is_done(&mut slots, host, checks);
                 drop(slots);
-                is_done && self.calls.unwrap_or(host.calls()) == host.calls()
+                let calls = self.calls.unwrap_or(host.calls());
+                is_done && checks.same("calls", host.calls(), calls)
             }
-            Err(_) => false,
+            Err(fault) => checks.fails("attach", fault, "slots"),
+        }
+    }
+
+    /// What a host is to tell then. Its sizes are those that are told where none are asked.
+    fn told(&self, told: Told) -> Told {
+        Told {
+            counts: (self.first, self.second),
+            rows: self.rows,
+            sizes: self.sizes.or(told.sizes),
+            newest: self.newest,
         }
     }
 
     /// Whether a host then tells so.
-    fn tells(&self, alloc: Global, host: &mut MemHost) -> bool {
+    fn tells(&self, alloc: Global, host: &mut MemHost, checks: &mut Checks) -> bool {
         match told_at(alloc, host, self.text, self.below) {
-            Some(told) => {
-                told.counts == (self.first, self.second)
-                    && told.rows == self.rows
-                    && told.newest == self.newest
-                    && (self.sizes.is_none() || told.sizes == self.sizes)
-            }
-            None => false,
+            Some(told) => checks.same("slots", told, self.told(told)),
+            None => checks.fails("slots", "none", "some"),
         }
     }
 
     /// Whether stops leave what they may.
-    fn leaves(&self, alloc: Global, host: &MemHost) -> bool {
+    fn leaves(&self, alloc: Global, host: &MemHost, checks: &mut Checks) -> bool {
         let mut stopped = Stopped {
             written: *self,
             last: host.calls(),
             before: 0,
         };
-        leaves_by_each(alloc, host, self.from, self.picks, &mut stopped)
+        leaves_by_each(alloc, host, self.from, self.picks, &mut stopped, checks)
     }
 
     /// Whether all of it is so of this host.
-    fn is_so_of(&self, alloc: Global, host: &mut MemHost) -> bool {
-        self.writes(alloc, host)
-            && are_parts(alloc, host.file(0), self.bytes)
-            && self.leaves(alloc, host)
-            && self.tells(alloc, host)
+    fn is_so_of(&self, alloc: Global, host: &mut MemHost, checks: &mut Checks) -> bool {
+        self.writes(alloc, host, checks)
+            && are_parts(alloc, "file 0", host.file(0), self.bytes, checks)
+            && self.leaves(alloc, host, checks)
+            && self.tells(alloc, host, checks)
     }
 }
 
@@ -293,52 +315,76 @@ struct Stopped {
 }
 
 impl Stopped {
-    /// Whether the slots are old ones, none or new ones, the newest is the greatest and not older than before, and is of
-    /// count 4 in the end.
-    fn is_legal(&self, told: Told, call: u64) -> bool {
+    /// Whether the counts are old ones, none or new ones, and slot 1 stands behind its last call.
+    fn are_counts(
+        &self,
+        counts: (Option<u64>, Option<u64>),
+        call: u64,
+        checks: &mut Checks,
+    ) -> bool {
+        let (first, second) = counts;
+        let Written {
+            firsts,
+            seconds,
+            ..
+        } = self.written;
+        let is_one = firsts.contains(&first.unwrap_or(0)) && seconds.contains(&second.unwrap_or(0));
+        let is_settled = call < self.written.settled || second == self.written.second;
+        is_one && is_settled || checks.fails("counts", counts, (firsts, seconds))
+    }
+
+    /// Whether the newest slot is the greatest and not older than before, and is of count 4 in the end.
+    fn is_newest(&self, newest: Option<u64>, told: Told, call: u64, checks: &mut Checks) -> bool {
+        let (first, second) = told.counts;
+        let least = if call < self.last { self.before } else { 4 };
+        let is_end = call < self.last || newest == Some(4);
+        checks.same("count of the newest slot", newest, first.max(second))
+            && (self.before <= newest.unwrap_or(0) && is_end
+                || checks.fails("count of the newest slot", newest, least))
+    }
+
+    /// Whether what a stop leaves is legal.
+    fn is_legal(&self, told: Told, call: u64, checks: &mut Checks) -> bool {
         let (first, second) = told.counts;
         let newest = match told.newest {
             Some(0) => first,
             Some(1) => second,
-            Some(_) => return false,
+            Some(slot) => return checks.fails("newest slot", slot, "0 or 1"),
             None => None,
         };
-        let is_newest = newest == first.max(second) && self.before <= newest.unwrap_or(0);
-        let is_one = self.written.firsts.contains(&first.unwrap_or(0))
-            && self.written.seconds.contains(&second.unwrap_or(0));
-        let is_settled = call < self.written.settled || second == self.written.second;
-        let is_end = call < self.last || newest == Some(4);
-        is_newest && is_one && is_settled && is_end
+        self.is_newest(newest, told, call, checks) && self.are_counts(told.counts, call, checks)
     }
 }
 
 impl Left for Stopped {
-    fn may_be(&mut self, alloc: Global, left: &mut MemHost, call: u64) -> bool {
+    fn may_be(
+        &mut self,
+        alloc: Global,
+        left: &mut MemHost,
+        call: u64,
+        checks: &mut Checks,
+    ) -> bool {
         if call == self.written.from {
             self.before = 0;
         }
         match told_at(alloc, left, b"q", 9) {
             Some(told) => {
-                let is_legal = self.is_legal(told, call);
+                let is_legal = self.is_legal(told, call, checks);
                 let (first, second) = told.counts;
                 self.before = first.max(second).unwrap_or(0);
                 is_legal
             }
-            None => false,
+            None => checks.fails("slots", "none", "some"),
         }
     }
 }
 
 impl Row for Written {
-    fn is_so(&self, alloc: Global) -> bool {
-        match store(alloc, 0, self.files, self.failing) {
-            Ok(mut host) => {
-                let is_so = self.is_so_of(alloc, &mut host);
-                drop(host);
-                is_so
-            }
-            Err(_) => false,
-        }
+    fn is_so(&self, alloc: Global, checks: &mut Checks) -> Result<bool, Memory> {
+        let mut host = store(alloc, 0, self.files, self.failing)?;
+        let is_so = self.is_so_of(alloc, &mut host, checks);
+        drop(host);
+        Ok(is_so)
     }
 }
 

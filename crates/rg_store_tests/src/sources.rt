@@ -1,7 +1,7 @@
 ghost use Rattle.std.specs.Prelude.{None};
 
 use crate::parts::{Part, joined};
-use crate::rows::{Row, assert_each};
+use crate::rows::{Checks, Row, assert_each};
 use rg_bytes::Memory;
 use rg_host::{AllFault, Failed, Line, LineFault, Lines, MemSource, Source, read_all};
 use std::alloc::Global;
@@ -64,10 +64,15 @@ enum Step {
 }
 
 /// Whether this line comes next, or none, for a failed read.
-fn is_next(lines: &mut Lines, source: &mut Pieces<'_>, want: Option<Line<'_>>) -> bool {
-    match lines.next(source) {
-        Ok(line) => want == Some(line),
-        Err(fault) => want.is_none() && fault == LineFault::Read,
+fn is_next(
+    lines: &mut Lines,
+    source: &mut Pieces<'_>,
+    want: Option<Line<'_>>,
+    checks: &mut Checks,
+) -> bool {
+    match (lines.next(source), want) {
+        (Ok(Line::Text(text)), Some(Line::Text(want))) => checks.same_bytes("line", text, want),
+        (line, want) => checks.same("line", line, want.ok_or(LineFault::Read)),
     }
 }
 
@@ -86,22 +91,30 @@ fn is_read(
     bytes: &[u8],
     limit: usize,
     fault: Option<AllFault>,
+    checks: &mut Checks,
 ) -> bool {
     match read_all(alloc, source, limit) {
         Ok(all) => {
-            let is_all = all.as_slice() == bytes;
+            let is_all = checks.same_bytes("all bytes", &all, bytes);
             drop(all);
-            is_all && fault.is_none()
+            is_all && checks.same("fault of read_all", None, fault)
         }
-        Err(other) => fault == Some(other),
+        Err(other) => checks.same("fault of read_all", Some(other), fault),
     }
 }
 
-/// The same of a source in memory, whose read of that number fails.
-fn reads(alloc: Global, bytes: &[u8], fail: u64, limit: usize, fault: Option<AllFault>) -> bool {
+/// Whether they are of a source in memory, whose read of that number fails.
+fn reads(
+    alloc: Global,
+    bytes: &[u8],
+    fail: u64,
+    limit: usize,
+    fault: Option<AllFault>,
+    checks: &mut Checks,
+) -> bool {
     match source_of(alloc, bytes, fail) {
         Ok(mut source) => {
-            let is_read = is_read(alloc, &mut source, bytes, limit, fault);
+            let is_read = is_read(alloc, &mut source, bytes, limit, fault, checks);
             drop(source);
             is_read
         }
@@ -128,27 +141,42 @@ impl Given {
         source: &mut Pieces<'_>,
         bytes: &[u8],
         step: &Step,
+        checks: &mut Checks,
     ) -> bool {
         match step {
-            Step::Text(text) => is_next(lines, source, Some(Line::Text(text))),
+            Step::Text(text) => is_next(lines, source, Some(Line::Text(text)), checks),
             Step::First(count) => {
                 let text = bytes.get(..*count).unwrap_or(b"");
-                is_next(lines, source, Some(Line::Text(text)))
+                is_next(lines, source, Some(Line::Text(text)), checks)
             }
-            Step::Long => is_next(lines, source, Some(Line::Long)),
-            Step::End => is_next(lines, source, Some(Line::End)),
-            Step::Fault => is_next(lines, source, None),
-            Step::Held(held) => lines.has_line() == *held,
-            Step::Reads(reads) => source.reads == *reads,
-            Step::Failed(failed) => source.failed == *failed,
-            Step::All(limit) => reads(alloc, bytes, self.fail, *limit, None),
-            Step::Above(limit) => reads(alloc, bytes, self.fail, *limit, Some(AllFault::Limit)),
-            Step::Unread(limit) => reads(alloc, bytes, self.fail, *limit, Some(AllFault::Read)),
+            Step::Long => is_next(lines, source, Some(Line::Long), checks),
+            Step::End => is_next(lines, source, Some(Line::End), checks),
+            Step::Fault => is_next(lines, source, None, checks),
+            Step::Held(held) => checks.same("has_line", lines.has_line(), *held),
+            Step::Reads(reads) => checks.same("reads", source.reads, *reads),
+            Step::Failed(failed) => checks.same("failed reads", source.failed, *failed),
+            Step::All(limit) => reads(alloc, bytes, self.fail, *limit, None, checks),
+            Step::Above(limit) => reads(
+                alloc,
+                bytes,
+                self.fail,
+                *limit,
+                Some(AllFault::Limit),
+                checks,
+            ),
+            Step::Unread(limit) => reads(
+                alloc,
+                bytes,
+                self.fail,
+                *limit,
+                Some(AllFault::Read),
+                checks,
+            ),
         }
     }
 
     /// Whether all comes so.
-    fn come(&self, alloc: Global, lines: &mut Lines, bytes: &[u8]) -> bool {
+    fn come(&self, alloc: Global, lines: &mut Lines, bytes: &[u8], checks: &mut Checks) -> bool {
         let mut source = Pieces {
             bytes,
             piece: self.piece,
@@ -156,36 +184,29 @@ impl Given {
             reads: 0,
             failed: 0,
         };
-        for step in self.steps {
-            if !self.comes(alloc, lines, &mut source, bytes, step) {
+        for (number, step) in self.steps.iter().enumerate() {
+            let comes = self.comes(alloc, lines, &mut source, bytes, step, checks);
+            if !checks.at(comes, "step", number) {
                 return false;
             }
         }
         true
     }
 
-    fn is_so_of(&self, alloc: Global, bytes: &[u8]) -> bool {
-        match Lines::new(alloc) {
-            Ok(mut lines) => {
-                let do_come = self.come(alloc, &mut lines, bytes);
-                drop(lines);
-                do_come
-            }
-            Err(_) => false,
-        }
+    fn is_so_of(&self, alloc: Global, bytes: &[u8], checks: &mut Checks) -> Result<bool, Memory> {
+        let mut lines = Lines::new(alloc)?;
+        let do_come = self.come(alloc, &mut lines, bytes, checks);
+        drop(lines);
+        Ok(do_come)
     }
 }
 
 impl Row for Given {
-    fn is_so(&self, alloc: Global) -> bool {
-        match joined(alloc, self.bytes) {
-            Ok(bytes) => {
-                let is_so = self.is_so_of(alloc, &bytes);
-                drop(bytes);
-                is_so
-            }
-            Err(_) => false,
-        }
+    fn is_so(&self, alloc: Global, checks: &mut Checks) -> Result<bool, Memory> {
+        let bytes = joined(alloc, self.bytes)?;
+        let is_so = self.is_so_of(alloc, &bytes, checks);
+        drop(bytes);
+        is_so
     }
 }
 

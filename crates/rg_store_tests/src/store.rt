@@ -1,4 +1,5 @@
 use crate::parts::{Part, joined};
+use crate::rows::Checks;
 use rg_bytes::Memory;
 use rg_host::{Host, Image, MemHost, Pick};
 use std::alloc::Global;
@@ -33,7 +34,7 @@ pub(crate) fn store(
 /// What is wanted of the hosts that stops leave.
 pub(crate) trait Left {
     /// Whether a stop behind so many calls may leave this host.
-    fn may_be(&mut self, alloc: Global, left: &mut MemHost, call: u64) -> bool;
+    fn may_be(&mut self, alloc: Global, left: &mut MemHost, call: u64, checks: &mut Checks) -> bool;
 }
 
 /// Whether a stop behind so many calls of a host leaves what it may, by this pick.
@@ -43,46 +44,49 @@ pub(crate) fn leaves<L: Left>(
     call: u64,
     pick: Pick,
     want: &mut L,
+    checks: &mut Checks,
 ) -> bool {
     if call > host.calls() {
-        return false;
+        return checks.fails("calls", host.calls(), call);
     }
     match host.stop_image(call, pick) {
         Ok(mut left) => {
-            let may_be = want.may_be(alloc, &mut left, call);
+            let may_be = want.may_be(alloc, &mut left, call, checks);
             drop(left);
-            may_be
+            checks.at(may_be, "stop", (call, pick))
         }
         Err(_) => false,
     }
 }
 
-/// The same of each stop behind so many calls or more.
+/// Whether each stop behind so many calls or more leaves what it may.
 fn leaves_from<L: Left>(
     alloc: Global,
     host: &MemHost,
     from: u64,
     pick: Pick,
     want: &mut L,
+    checks: &mut Checks,
 ) -> bool {
     for call in from..=host.calls() {
-        if !leaves(alloc, host, call, pick, want) {
+        if !leaves(alloc, host, call, pick, want, checks) {
             return false;
         }
     }
     true
 }
 
-/// The same by each of these picks.
+/// Whether it does so by each of these picks.
 pub(crate) fn leaves_by_each<L: Left>(
     alloc: Global,
     host: &MemHost,
     from: u64,
     picks: &[Pick],
     want: &mut L,
+    checks: &mut Checks,
 ) -> bool {
     for pick in picks {
-        if !leaves_from(alloc, host, from, *pick, want) {
+        if !leaves_from(alloc, host, from, *pick, want, checks) {
             return false;
         }
     }

@@ -1,7 +1,8 @@
+use crate::rows::{Checks, Row, assert_each};
+use rg_bytes::Memory;
 use rg_config::read_plan;
 use rg_hints::{hints, schema_hints};
 use std::alloc::{AllocError, Global};
-use std::process::Abort;
 use std::test::Fail;
 
 /// A refused plan, and what is said to mend it.
@@ -22,14 +23,12 @@ fn said_of(alloc: Global, plan: &str) -> Result<String, AllocError> {
     }
 }
 
-/// Each of these plans is mended by what is said. A failure tells the plan and what was said.
-fn assert_each(abort: &impl Abort, alloc: Global, rows: &[Mended]) -> Result<(), Fail> {
-    for row in rows {
-        let said = said_of(alloc, row.plan)?;
-        let plan = row.plan;
-        assert!(abort; said.as_str() == row.said, "{plan}\n{said}");
+impl Row for Mended {
+    fn is_so(&self, rt: HostRuntime, checks: &mut Checks) -> Result<bool, Memory> {
+        let said = said_of(rt.alloc(), self.plan)?;
+        let is_so = checks.same("hints", said.as_str(), self.said);
+        Ok(checks.at(is_so, "plan", self.plan))
     }
-    Ok(())
 }
 
 const QUERIES: &[Mended] = &[
@@ -117,56 +116,63 @@ const KEYS: &[Mended] = &[
 
 #[test]
 fn a_query_is_shown_with_a_mark_and_what_may_stand_there(rt: HostRuntime) -> Result<(), Fail> {
-    assert_each(&rt, rt.alloc(), QUERIES)
+    assert_each(&rt, rt, QUERIES)
 }
 
 #[test]
 fn a_stream_is_told_its_first_column_that_is_wrong(rt: HostRuntime) -> Result<(), Fail> {
-    assert_each(&rt, rt.alloc(), STREAMS)
+    assert_each(&rt, rt, STREAMS)
 }
 
 #[test]
 fn a_key_is_told_where_it_stands(rt: HostRuntime) -> Result<(), Fail> {
-    assert_each(&rt, rt.alloc(), KEYS)
+    assert_each(&rt, rt, KEYS)
 }
 
 /// The text of a store's schema, the columns of a plan, and what is said of the two.
-const SCHEMAS: &[(&str, &str, &str)] = &[
-    (
+#[derive(Clone, Copy)]
+struct Stored(&'static str, &'static str, &'static str);
+
+impl Row for Stored {
+    fn is_so(&self, rt: HostRuntime, checks: &mut Checks) -> Result<bool, Memory> {
+        let Stored(store, columns, wanted) = *self;
+        let plan = format!(in rt.alloc();
+            "queries = [\"SELECT count(*) FROM p OVER INFINITE\"]\n[stream]\nname = \"p\"\ncolumns = [{columns}]\n"
+        )?;
+        let said = schema_hints(rt.alloc(), store, plan.as_bytes())?;
+        let is_so = checks.same("hints", said.as_str(), wanted);
+        Ok(checks.at(is_so, "schema", store))
+    }
+}
+
+const SCHEMAS: &[Stored] = &[
+    Stored(
         "p(ts,a:int)",
         "\"ts\", \"a:id\"",
         "  column 1 is a:int in the store and a:id in the plan\n",
     ),
-    (
+    Stored(
         "p(ts,a:int)",
         "\"ts\"",
         "  column 1, a:int, is missing in the plan\n",
     ),
-    (
+    Stored(
         "p(ts)",
         "\"ts\", \"a:id\"",
         "  the plan has a further column, a:id: give it a default in [stream.defaults]\n",
     ),
-    (
+    Stored(
         "q(ts,a:id)",
         "\"ts\", \"a:id\"",
         "  the store is of the stream q, the plan of p\n",
     ),
-    ("p(ts,a:id)", "\"ts\", \"a:id\"", ""),
-    ("", "\"ts\", \"a:id\"", ""),
+    Stored("p(ts,a:id)", "\"ts\", \"a:id\"", ""),
+    Stored("", "\"ts\", \"a:id\"", ""),
 ];
 
 #[test]
 fn a_store_of_another_schema_is_told_the_first_column_that_differs(
     rt: HostRuntime,
 ) -> Result<(), Fail> {
-    let alloc = rt.alloc();
-    for (store, columns, wanted) in SCHEMAS {
-        let plan = format!(in alloc;
-            "queries = [\"SELECT count(*) FROM p OVER INFINITE\"]\n[stream]\nname = \"p\"\ncolumns = [{columns}]\n"
-        )?;
-        let said = schema_hints(alloc, store, plan.as_bytes())?;
-        assert!(&rt; said.as_str() == *wanted, "{store}\n{said}");
-    }
-    Ok(())
+    assert_each(&rt, rt, SCHEMAS)
 }

@@ -1,4 +1,4 @@
-use crate::rows::{Row, assert_all};
+use crate::rows::{Checks, Row, assert_each};
 use rg_bytes::{Memory, put_bytes};
 use rg_metric::{Answer, Answers};
 use rg_reply::{Mark, Reply, write_mark, write_reply};
@@ -90,15 +90,15 @@ fn write(alloc: Global, written: Written, out: &mut Vec<u8>) -> Result<(), Memor
 }
 
 impl Row for Line {
-    fn holds(&self, rt: HostRuntime) -> Result<bool, Memory> {
+    fn is_so(&self, rt: HostRuntime, checks: &mut Checks) -> Result<bool, Memory> {
         let mut out = Vec::new(rt.alloc());
         let begun = put_bytes(&mut out, b">");
         let written = write(rt.alloc(), self.written, &mut out);
-        let holds = out.as_slice() == self.text;
+        let is_so = checks.same_bytes("text", &out, self.text);
         drop(out);
         begun?;
         written?;
-        Ok(holds)
+        Ok(is_so)
     }
 }
 
@@ -199,7 +199,7 @@ const LINES: &[Line] = &[
 
 #[test]
 fn writes_replies_and_marks(rt: HostRuntime) -> Result<(), Fail> {
-    assert_all(&rt, rt, LINES)
+    assert_each(&rt, rt, LINES)
 }
 
 /// What is due where a line changed the number of events, and they are stored and saved after so many.
@@ -221,11 +221,12 @@ const COUNTED: Counted = Counted {
 };
 
 impl Row for Counted {
-    fn holds(&self, _rt: HostRuntime) -> Result<bool, Memory> {
+    fn is_so(&self, _rt: HostRuntime, checks: &mut Checks) -> Result<bool, Memory> {
         if self.commit == 0 || self.save == 0 {
-            return Ok(false);
+            return Ok(checks.fails("commit and save", (self.commit, self.save), "at least 1"));
         }
-        Ok(due_at(self.commit, self.save, self.before, self.after) == self.due)
+        let due = due_at(self.commit, self.save, self.before, self.after);
+        Ok(checks.same("due", due, self.due))
     }
 }
 
@@ -259,5 +260,5 @@ const DUE: &[Counted] = &[
 
 #[test]
 fn says_what_is_due(rt: HostRuntime) -> Result<(), Fail> {
-    assert_all(&rt, rt, DUE)
+    assert_each(&rt, rt, DUE)
 }

@@ -1,4 +1,4 @@
-use crate::rows::{Row, assert_all};
+use crate::rows::{Checks, Row, assert_each};
 use rg_bytes::Memory;
 use rg_host::Host;
 use rg_os::{Access, FolderHost, Hold};
@@ -223,10 +223,10 @@ fn remove(rt: &HostRuntime, path: Option<&str>) -> bool {
 }
 
 impl Row for Noted {
-    fn holds(&self, rt: HostRuntime) -> Result<bool, Memory> {
-        let is_removed = remove(&rt, self.removed);
+    fn is_so(&self, rt: HostRuntime, checks: &mut Checks) -> Result<bool, Memory> {
+        let is_removed = checks.same("the file is removed", remove(&rt, self.removed), true);
         let notes = notes_of(rt, "ordered")?;
-        Ok(is_removed && notes.as_str() == self.notes)
+        Ok(is_removed && checks.same("notes", notes.as_str(), self.notes))
     }
 }
 
@@ -248,5 +248,5 @@ const ALL_NOTED: &[Noted] = &[
 
 #[test]
 fn a_store_is_made_and_stored_in_order(rt: HostRuntime) -> Result<(), Fail> {
-    assert_all(&rt, rt, ALL_NOTED)
+    assert_each(&rt, rt, ALL_NOTED)
 }

@@ -1,6 +1,6 @@
 ghost use Rattle.std.specs.Prelude.{◌<◌};
 
-use crate::rows::{Row, assert_all};
+use crate::rows::{Checks, Row, assert_each};
 use rg_bytes::Memory;
 use rg_host::{Failed, Host, Source};
 use rg_os::{Access, Failure, FileSource, FolderHost, ReaderSource};
@@ -91,19 +91,22 @@ const END: Reading = Reading {
     number: None,
 };
 
-fn is_read(source: &mut impl Telling, reading: &Reading) -> bool {
+fn is_read(source: &mut impl Telling, reading: &Reading, checks: &mut Checks) -> bool {
     let mut buf = [0; 4];
     let count = if reading.is_wide {
         source.read(&mut buf)
     } else {
         source.read(&mut buf[..2])
     };
-    count == reading.count && buf.as_slice() == reading.bytes && source.number() == reading.number
+    checks.same("count of a read", count, reading.count)
+        && checks.same_bytes("bytes of a read", &buf, reading.bytes)
+        && checks.same("error of a read", source.number(), reading.number)
 }
 
-fn all_are_read(source: &mut impl Telling, all: &[Reading]) -> bool {
-    for reading in all {
-        if !is_read(source, reading) {
+fn all_are_read(source: &mut impl Telling, all: &[Reading], checks: &mut Checks) -> bool {
+    for (number, reading) in all.iter().enumerate() {
+        let is_read = is_read(source, reading, checks);
+        if !checks.at(is_read, "read", number) {
             return false;
         }
     }
@@ -111,8 +114,8 @@ fn all_are_read(source: &mut impl Telling, all: &[Reading]) -> bool {
 }
 
 /// Whether a source gives all of these, one after the other.
-fn gives<S: Telling + Drop>(mut source: S, all: &[Reading]) -> bool {
-    let are_read = all_are_read(&mut source, all);
+fn gives<S: Telling + Drop>(mut source: S, all: &[Reading], checks: &mut Checks) -> bool {
+    let are_read = all_are_read(&mut source, all, checks);
     drop(source);
     are_read
 }
@@ -140,34 +143,45 @@ fn reads(
     at: u64,
     count: Result<usize, Failed>,
     bytes: &[u8],
+    checks: &mut Checks,
 ) -> bool
     requires { file < 8 }
 {
     let mut buf = [0; 4];
-    host.read_at(file, at, &mut buf) == count && buf.as_slice() == bytes
+    checks.same("count of a read", host.read_at(file, at, &mut buf), count)
+        && checks.same_bytes("bytes of a read", &buf, bytes)
 }
 
-fn answers(host: &mut Folder<'_>, call: &HostCall) -> bool {
-    match *call {
-        HostCall::Length(file, wanted) => file < 8 && host.len(file) == wanted,
-        HostCall::Read(file, at, count, bytes) => file < 8 && reads(host, file, at, count, bytes),
-        HostCall::Write(file, at, bytes, wanted) => {
-            file < 8 && host.write_at(file, at, bytes) == wanted
-        }
-        HostCall::Sync(file, wanted) => file < 8 && host.sync(file) == wanted,
-        HostCall::Put(bytes, wanted, number) => {
-            host.put(bytes) == wanted && number_of(host.failure()) == number
-        }
-        HostCall::HasFailed(name) => match host.disk_failure() {
-            Some(failure) => failure.name == name,
-            None => false,
-        },
+/// Whether the last call on a file that failed was on this one.
+fn has_failed(host: &Folder<'_>, name: &str, checks: &mut Checks) -> bool {
+    match host.disk_failure() {
+        Some(failure) => checks.same("file of the failure", failure.name, name),
+        None => checks.fails("file of the failure", "none", name),
     }
 }
 
-fn answers_all(host: &mut Folder<'_>, calls: &[HostCall]) -> bool {
-    for call in calls {
-        if !answers(host, call) {
+fn answers(host: &mut Folder<'_>, call: &HostCall, checks: &mut Checks) -> bool {
+    match *call {
+        HostCall::Length(file, wanted) => file < 8 && checks.same("len", host.len(file), wanted),
+        HostCall::Read(file, at, count, bytes) => {
+            file < 8 && reads(host, file, at, count, bytes, checks)
+        }
+        HostCall::Write(file, at, bytes, wanted) => {
+            file < 8 && checks.same("write_at", host.write_at(file, at, bytes), wanted)
+        }
+        HostCall::Sync(file, wanted) => file < 8 && checks.same("sync", host.sync(file), wanted),
+        HostCall::Put(bytes, wanted, number) => {
+            checks.same("put", host.put(bytes), wanted)
+                && checks.same("error of a put", number_of(host.failure()), number)
+        }
+        HostCall::HasFailed(name) => has_failed(host, name, checks),
+    }
+}
+
+fn answers_all(host: &mut Folder<'_>, calls: &[HostCall], checks: &mut Checks) -> bool {
+    for (number, call) in calls.iter().enumerate() {
+        let do_answer = answers(host, call, checks);
+        if !checks.at(do_answer, "call", number) {
             return false;
         }
     }
@@ -218,20 +232,26 @@ enum Look {
 }
 
 /// Whether a host over a folder answers all of these, one after the other.
-fn visits(rt: &HostRuntime, folder: &str, access: Access, calls: &[HostCall]) -> bool {
+fn visits(
+    rt: &HostRuntime,
+    folder: &str,
+    access: Access,
+    calls: &[HostCall],
+    checks: &mut Checks,
+) -> bool {
     let mut host = FolderHost::new(rt, rt.alloc(), folder, access, FailsOnce { calls: 0 });
-    answers_all(&mut host, calls)
+    answers_all(&mut host, calls, checks)
 }
 
-fn is_seen(rt: &HostRuntime, look: Look) -> bool {
+fn is_seen(rt: &HostRuntime, look: Look, checks: &mut Checks) -> bool {
     match look {
         Look::Nothing => true,
-        Look::Bytes(bytes, all) => gives(ReaderSource::new(bytes), all),
-        Look::Failing(all) => gives(ReaderSource::new(FailsOnce { calls: 0 }), all),
-        Look::File(path, all) => gives(FileSource::new(rt, path), all),
-        Look::Host(folder, access, calls) => visits(rt, folder, access, calls),
-        Look::Missing(path) => fs::exists(rt, path).ok() == Some(false),
-        Look::Changed(change) => make(rt, change).is_ok(),
+        Look::Bytes(bytes, all) => gives(ReaderSource::new(bytes), all, checks),
+        Look::Failing(all) => gives(ReaderSource::new(FailsOnce { calls: 0 }), all, checks),
+        Look::File(path, all) => gives(FileSource::new(rt, path), all, checks),
+        Look::Host(folder, access, calls) => visits(rt, folder, access, calls, checks),
+        Look::Missing(path) => checks.same("exists", fs::exists(rt, path).ok(), Some(false)),
+        Look::Changed(change) => checks.same("a change is made", make(rt, change).is_ok(), true),
     }
 }
 
@@ -251,11 +271,11 @@ const STEP: Step = Step {
 };
 
 impl Row for Step {
-    fn holds(&self, rt: HostRuntime) -> Result<bool, Memory> {
+    fn is_so(&self, rt: HostRuntime, checks: &mut Checks) -> Result<bool, Memory> {
         let writer = FailsOnce { calls: 0 };
         let mut host = FolderHost::new(&rt, rt.alloc(), self.folder, Access::Write, writer);
-        let answers = answers_all(&mut host, self.calls);
-        let is_seen = is_seen(&rt, self.look);
+        let answers = answers_all(&mut host, self.calls, checks);
+        let is_seen = is_seen(&rt, self.look, checks);
         Ok(answers && is_seen)
     }
 }
@@ -340,7 +360,7 @@ const SOURCES: &[Step] = &[
 
 #[test]
 fn a_source_gives_its_bytes_and_then_its_end_or_a_failure(rt: HostRuntime) -> Result<(), Fail> {
-    assert_all(&rt, rt, SOURCES)
+    assert_each(&rt, rt, SOURCES)
 }
 
 const HOSTS: &[Step] = &[
@@ -421,7 +441,7 @@ const HOSTS: &[Step] = &[
 
 #[test]
 fn a_host_over_a_folder_answers_and_fails_as_the_system_does(rt: HostRuntime) -> Result<(), Fail> {
-    assert_all(&rt, rt, HOSTS)
+    assert_each(&rt, rt, HOSTS)
 }
 
 /// Each call on this file of this folder fails for a writer and for a reader, and is told.
@@ -486,5 +506,5 @@ const ODD_FILES: &[Step] = &[
 
 #[test]
 fn what_is_no_plain_file_with_one_name_is_refused(rt: HostRuntime) -> Result<(), Fail> {
-    assert_all(&rt, rt, ODD_FILES)
+    assert_each(&rt, rt, ODD_FILES)
 }

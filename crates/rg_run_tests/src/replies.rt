@@ -2,7 +2,7 @@ ghost use Rattle.std.specs.Prelude.{◌<◌, ◌≤◌};
 
 use crate::line::add;
 use crate::row::event_of;
-use crate::rows::{Row, assert_all};
+use crate::rows::{Checks, Row, assert_each};
 use crate::started::{Call, answers_by, plan_of};
 use crate::store::{EMPTY, host_of};
 use rg_bytes::{Memory, put_bytes};
@@ -168,18 +168,24 @@ fn add_replies(
     done
 }
 
+/// Whether a line is the first of these replies.
+fn is_reply(line: &[u8], replies: &[u8], checks: &mut Checks) -> bool {
+    let wanted = replies.get(..line.len()).unwrap_or(replies);
+    checks.same_bytes("reply", line, wanted)
+}
+
 /// Whether these are just the lines of an output that begin with a digit, as replies do.
-fn are_replies(output: &str, replies: &[u8]) -> bool {
+fn are_replies(output: &str, replies: &[u8], checks: &mut Checks) -> bool {
     let mut left = replies;
     for line in output.split_inclusive('\n') {
         if line.as_bytes().first().is_some_and(u8::is_ascii_digit) {
             match left.strip_prefix(line.as_bytes()) {
                 Some(rest) => left = rest,
-                None => return false,
+                None => return is_reply(line.as_bytes(), left, checks),
             }
         }
     }
-    left.is_empty()
+    checks.same_bytes("replies behind the last one", b"", left)
 }
 
 /// The lines of both runs: the first ones, and all of them.
@@ -205,8 +211,14 @@ struct Asked {
     way: Way,
 }
 
-fn run(alloc: Global, plan: &str, input: &[u8], host: &mut MemHost) -> Result<bool, Memory> {
-    answers_by(alloc, plan, Call::Run(input, 1 << 20), host)
+fn run(
+    alloc: Global,
+    plan: &str,
+    input: &[u8],
+    host: &mut MemHost,
+    checks: &mut Checks,
+) -> Result<bool, Memory> {
+    answers_by(alloc, plan, Call::Run(input, 1 << 20), host, checks)
 }
 
 /// Whether two runs of all the lines, and of the first of them, put just these replies.
@@ -216,10 +228,12 @@ fn runs(
     lines: Lines<'_>,
     replies: &[u8],
     host: &mut MemHost,
+    checks: &mut Checks,
 ) -> Result<bool, Memory> {
-    let are_run = run(alloc, plan, lines.first, host)? && run(alloc, plan, lines.all, host)?;
+    let are_run = run(alloc, plan, lines.first, host, checks)?
+        && run(alloc, plan, lines.all, host, checks)?;
     let output = str::from_utf8(host.output()).unwrap_or("0 no text");
-    Ok(are_run && are_replies(output, replies))
+    Ok(are_run && are_replies(output, replies, checks))
 }
 
 /// Whether a replay of the first lines puts just these bytes.
@@ -229,11 +243,13 @@ fn replays(
     first: &[u8],
     wanted: &[u8],
     host: &mut MemHost,
+    checks: &mut Checks,
 ) -> Result<bool, Memory> {
-    let is_run = run(alloc, STORING, first, host)?;
+    let is_run = run(alloc, STORING, first, host, checks)?;
     let stored = host.output().len();
-    let is_replayed = answers_by(alloc, plan, Call::Replay, host)?;
-    Ok(is_run && is_replayed && host.output().get(stored..).unwrap_or(b"") == wanted)
+    let is_replayed = answers_by(alloc, plan, Call::Replay, host, checks)?;
+    let output = host.output().get(stored..).unwrap_or(b"");
+    Ok(is_run && is_replayed && checks.same_bytes("output", output, wanted))
 }
 
 impl Asked {
@@ -259,26 +275,38 @@ impl Asked {
         lines: Lines<'_>,
         wanted: &[u8],
         host: &mut MemHost,
+        checks: &mut Checks,
     ) -> Result<bool, Memory> {
         match self.way {
-            Way::TwoRuns => runs(alloc, self.plan, lines, wanted, host),
-            Way::Replay => replays(alloc, self.plan, lines.first, wanted, host),
+            Way::TwoRuns => runs(alloc, self.plan, lines, wanted, host, checks),
+            Way::Replay => replays(alloc, self.plan, lines.first, wanted, host, checks),
         }
     }
 
     /// Whether that is put over a new store.
-    fn is_put(&self, alloc: Global, lines: Lines<'_>, wanted: &[u8]) -> Result<bool, Memory> {
+    fn is_put(
+        &self,
+        alloc: Global,
+        lines: Lines<'_>,
+        wanted: &[u8],
+        checks: &mut Checks,
+    ) -> Result<bool, Memory> {
         let mut host = host_of(alloc, EMPTY, &[])?;
-        let is_put = self.is_put_on(alloc, lines, wanted, &mut host);
+        let is_put = self.is_put_on(alloc, lines, wanted, &mut host, checks);
         drop(host);
         is_put
     }
 
     /// Whether the first lines and all of them give what is from scratch.
-    fn holds_of(&self, alloc: Global, lines: Lines<'_>) -> Result<bool, Memory> {
+    fn is_so_of(
+        &self,
+        alloc: Global,
+        lines: Lines<'_>,
+        checks: &mut Checks,
+    ) -> Result<bool, Memory> {
         let mut wanted = Vec::new(alloc);
         let made = self.add_wanted(alloc, lines, &mut wanted);
-        let is_put = self.is_put(alloc, lines, &wanted);
+        let is_put = self.is_put(alloc, lines, &wanted, checks);
         drop(wanted);
         made?;
         is_put
@@ -286,7 +314,7 @@ impl Asked {
 }
 
 impl Row for Asked {
-    fn holds(&self, rt: HostRuntime) -> Result<bool, Memory> {
+    fn is_so(&self, rt: HostRuntime, checks: &mut Checks) -> Result<bool, Memory> {
         let mut all = Vec::new(rt.alloc());
         let begun = add_lines(&mut all, 0, FIRST_LINES);
         let length = all.len();
@@ -295,11 +323,11 @@ impl Row for Asked {
             first: all.get(..length).unwrap_or(b""),
             all: &all,
         };
-        let holds = self.holds_of(rt.alloc(), lines);
+        let is_so = self.is_so_of(rt.alloc(), lines, checks);
         drop(all);
         begun?;
         ended?;
-        holds
+        is_so
     }
 }
 
@@ -358,5 +386,5 @@ const ALL_ASKED: &[Asked] = &[
 
 #[test]
 fn the_replies_are_those_from_scratch(rt: HostRuntime) -> Result<(), Fail> {
-    assert_all(&rt, rt, ALL_ASKED)
+    assert_each(&rt, rt, ALL_ASKED)
 }

@@ -1,4 +1,4 @@
-use crate::rows::{Row, assert_all};
+use crate::rows::{Checks, Row, assert_each};
 use rg_bytes::Memory;
 use rg_config::{ConfigFault, DefaultsFault, QueryRefusal, SettingsFault};
 use rg_messages::{FailedFile, Refusal, Report, Status, TomlFault};
@@ -63,7 +63,7 @@ impl Told {
 }
 
 impl Row for Told {
-    fn holds(&self, rt: HostRuntime) -> Result<bool, Memory> {
+    fn is_so(&self, rt: HostRuntime, checks: &mut Checks) -> Result<bool, Memory> {
         let report = Report {
             status: self.status,
             plan: "plan.toml",
@@ -73,7 +73,7 @@ impl Row for Told {
         let said = format!(in rt.alloc(); "{report}");
         drop(report);
         match said {
-            Ok(said) => Ok(said.as_str() == self.sentence),
+            Ok(said) => Ok(checks.same("sentence", said.as_str(), self.sentence)),
             Err(_) => Err(Memory),
         }
     }
@@ -243,5 +243,5 @@ const ALL_TOLD: &[Told] = &[
 
 #[test]
 fn a_call_that_ends_early_is_told_why(rt: HostRuntime) -> Result<(), Fail> {
-    assert_all(&rt, rt, ALL_TOLD)
+    assert_each(&rt, rt, ALL_TOLD)
 }

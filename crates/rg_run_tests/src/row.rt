@@ -2,7 +2,7 @@ ghost use Rattle.std.specs.Prelude.{◌≡◌, ◌==◌};
 ghost use Rattle.std.specs.List.{list_any};
 
 use crate::bytes::{Pieces, put_pieces};
-use crate::rows::{Row, assert_all};
+use crate::rows::{Checks, Row, assert_each};
 use rg_bytes::Memory;
 use rg_event::{Event, Schema, Value};
 use rg_row::{RowFault, clean, read_row};
@@ -29,7 +29,7 @@ pub(crate) fn event_of(
 }
 
 /// What a line gives.
-#[derive(Clone, Copy)]
+#[derive(Clone, Copy, Debug)]
 enum Given {
     Event,
     /// The event of offset 40, time 12, this card, the merchant m1 and the amount -7.
@@ -52,24 +52,28 @@ const PARSED: Parsed = Parsed {
 };
 
 /// Whether an event has this card and what else the lines have.
-fn is_of(event: &Event, card: &[u8]) -> bool {
+fn is_of(event: &Event, card: &[u8], checks: &mut Checks) -> bool {
     let are_read = match event.values.as_slice() {
         [Value::Text(text), Value::Text(merchant), Value::Int(-7)] => {
-            text.as_bytes() == card && merchant.as_bytes() == b"m1".as_slice()
+            checks.same_bytes("card", text.as_bytes(), card)
+                && checks.same_bytes("merchant", merchant.as_bytes(), b"m1")
         }
-        _ => false,
+        values => checks.fails("values", values, "two texts and -7"),
     };
-    event.offset == 40 && event.time == 12 && are_read
+    checks.same("offset", event.offset, 40) && checks.same("time", event.time, 12) && are_read
 }
 
-fn is_given(read: Result<Event, RowFault>, given: Given) -> bool {
+fn is_given(read: Result<Event, RowFault>, given: Given, checks: &mut Checks) -> bool {
     match read {
-        Err(fault) => matches!(given, Given::Fault(wanted) if wanted == fault),
+        Err(fault) => {
+            matches!(given, Given::Fault(wanted) if wanted == fault)
+                || checks.fails("line", fault, given)
+        }
         Ok(event) => {
             let is_given = match given {
                 Given::Event => true,
-                Given::Of(card) => is_of(&event, card),
-                Given::Fault(_) => false,
+                Given::Of(card) => is_of(&event, card, checks),
+                Given::Fault(fault) => checks.fails("line", &event, fault),
             };
             drop(event);
             is_given
@@ -78,22 +82,22 @@ fn is_given(read: Result<Event, RowFault>, given: Given) -> bool {
 }
 
 /// Whether a line of payments gives this.
-fn gives(alloc: Global, offset: u64, line: &[u8], given: Given) -> bool {
+fn gives(alloc: Global, offset: u64, line: &[u8], given: Given, checks: &mut Checks) -> bool {
     match Schema::parse(alloc, b"payments(ts,card:text,merchant:text,amount:int)") {
         Ok(schema) => {
             let read = event_of(alloc, &schema, offset, line);
             drop(schema);
-            is_given(read, given)
+            is_given(read, given, checks)
         }
         Err(_) => false,
     }
 }
 
 impl Row for Parsed {
-    fn holds(&self, rt: HostRuntime) -> Result<bool, Memory> {
+    fn is_so(&self, rt: HostRuntime, checks: &mut Checks) -> Result<bool, Memory> {
         let mut line = Vec::new(rt.alloc());
         let joined = put_pieces(&mut line, self.line);
-        let gives = gives(rt.alloc(), self.offset, &line, self.given);
+        let gives = gives(rt.alloc(), self.offset, &line, self.given, checks);
         drop(line);
         joined?;
         Ok(gives)
@@ -236,7 +240,7 @@ const ALL_PARSED: &[Parsed] = &[
 
 #[test]
 fn a_line_gives_an_event_or_its_first_fault(rt: HostRuntime) -> Result<(), Fail> {
-    assert_all(&rt, rt, ALL_PARSED)
+    assert_each(&rt, rt, ALL_PARSED)
 }
 
 /// A line with an offset, and the same cleaned.
@@ -248,8 +252,8 @@ struct Cleaned {
 }
 
 impl Row for Cleaned {
-    fn holds(&self, _rt: HostRuntime) -> Result<bool, Memory> {
-        Ok(clean(self.offset, self.line) == self.cleaned)
+    fn is_so(&self, _rt: HostRuntime, checks: &mut Checks) -> Result<bool, Memory> {
+        Ok(checks.same_bytes("line", clean(self.offset, self.line), self.cleaned))
     }
 }
 
@@ -298,5 +302,5 @@ const ALL_CLEANED: &[Cleaned] = &[
 
 #[test]
 fn a_line_is_cleaned_of_one_cr_and_of_the_first_mark(rt: HostRuntime) -> Result<(), Fail> {
-    assert_all(&rt, rt, ALL_CLEANED)
+    assert_each(&rt, rt, ALL_CLEANED)
 }

@@ -1,6 +1,7 @@
 ghost use Rattle.std.specs.Prelude.{◌≡◌, ◌<◌, None, IfOk};
 ghost use Rattle.rg_config.specs.Read.{IsReadPlan};
 
+use crate::rows::Checks;
 use rg_bytes::Memory;
 use rg_config::{Plan, read_plan};
 use rg_event::{Room, Steps};
@@ -84,6 +85,7 @@ fn replays<L: Ledger>(
     plan: &Plan,
     host: &mut MemHost,
     steps: &mut Steps<L>,
+    checks: &mut Checks,
 ) -> Result<bool, Memory>
     requires { IsReadPlan plan.now }
 {
@@ -93,7 +95,8 @@ fn replays<L: Ledger>(
         limit: 1_000,
     };
     let task = plan.task.copy(alloc)?;
-    Ok(replay(alloc, host, &plan.schema, room, task, 0, steps) == Ok(()))
+    let replayed = replay(alloc, host, &plan.schema, room, task, 0, steps);
+    Ok(checks.same("replay", replayed, Ok(())))
 }
 
 /// Whether a call answers so.
@@ -103,17 +106,19 @@ fn answers<L: Ledger>(
     call: Call<'_>,
     host: &mut MemHost,
     steps: &mut Steps<L>,
+    checks: &mut Checks,
 ) -> Result<bool, Memory>
     requires { IsReadPlan plan.now }
 {
     match call {
-        Call::Check(wanted) => Ok(check(alloc, plan, host) == wanted),
-        Call::Open(wanted) => Ok(open(alloc, plan, host, steps) == wanted),
+        Call::Check(wanted) => Ok(checks.same("check", check(alloc, plan, host), wanted)),
+        Call::Open(wanted) => Ok(checks.same("opening", open(alloc, plan, host, steps), wanted)),
         Call::Run(bytes, most) => {
             let mut input = Input { bytes, most };
-            Ok(run(alloc, plan, 0, &mut input, host, steps) == Ok(()))
+            let done = run(alloc, plan, 0, &mut input, host, steps);
+            Ok(checks.same("run", done, Ok(())))
         }
-        Call::Replay => replays(alloc, plan, host, steps),
+        Call::Replay => replays(alloc, plan, host, steps, checks),
     }
 }
 
@@ -124,6 +129,7 @@ fn answers_counted<L: Ledger>(
     call: Call<'_>,
     host: &mut MemHost,
     blank: Blank,
+    checks: &mut Checks,
 ) -> Result<bool, Memory>
     requires named { blank.name ≡ L.name }
     requires parts { blank.parts ≡ L.parts }
@@ -131,7 +137,7 @@ fn answers_counted<L: Ledger>(
     requires read { IsReadPlan plan.now }
 {
     let mut steps = Steps::<L>::new(blank);
-    let answers = answers(alloc, plan, call, host, &mut steps);
+    let answers = answers(alloc, plan, call, host, &mut steps, checks);
     drop(steps);
     answers
 }
@@ -142,9 +148,10 @@ pub(crate) fn answers_by(
     text: &str,
     call: Call<'_>,
     host: &mut MemHost,
+    checks: &mut Checks,
 ) -> Result<bool, Memory> {
     let plan = plan_of(alloc, text)?;
-    let answers = answers_counted::<Brand>(alloc, &plan, call, host, Blank::new(1));
+    let answers = answers_counted::<Brand>(alloc, &plan, call, host, Blank::new(1), checks);
     drop(plan);
     answers
 }

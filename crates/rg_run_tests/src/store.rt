@@ -5,7 +5,7 @@ use crate::payload::{
     AMOUNTS, BASE, BASE_ELSEWHERE, CARDS, CHANGE, CHANGE_CUT, CHANGE_OF_NONE, COUNTRY, GONE,
     NARROW, NARROW_TWO, OTHER, SCHEMA, THIRD, TWO,
 };
-use crate::rows::{Row, assert_all};
+use crate::rows::{Checks, Row, assert_each};
 use crate::started::{Call, answers_by};
 use File::{Missing, Of};
 use rg_bytes::{Memory, put_bytes, put_u64};
@@ -123,20 +123,22 @@ pub(crate) fn host_of(alloc: Global, files: Files, failing: &[u64]) -> Result<Me
     }
 }
 
-/// How many calls a host with these files has had once this one answers so; no memory where it doesn't.
+/// How many calls a host with these files has had once this one answers so; none where it doesn't.
 pub(crate) fn calls_of(
     alloc: Global,
     files: Files,
     plan: &str,
     call: Call<'_>,
-) -> Result<u64, Memory> {
+    checks: &mut Checks,
+) -> Result<Option<u64>, Memory> {
     let mut host = host_of(alloc, files, &[])?;
-    let answers = answers_by(alloc, plan, call, &mut host);
+    let answers = answers_by(alloc, plan, call, &mut host, checks);
     let calls = host.calls();
     drop(host);
     match answers {
-        Ok(true) => Ok(calls),
-        _ => Err(Memory),
+        Ok(true) => Ok(Some(calls)),
+        Ok(false) => Ok(None),
+        Err(memory) => Err(memory),
     }
 }
 
@@ -186,29 +188,39 @@ const OPENING: StoreCall = StoreCall {
 };
 
 /// Whether the call of a row on this host answers and leaves what it is to.
-fn holds_on(alloc: Global, row: StoreCall, host: &mut MemHost) -> Result<bool, Memory> {
-    let answers = answers_by(alloc, row.plan, row.call, host)?;
-    let is_left = is_left(alloc, host, row.left)?;
-    Ok(answers && is_left && host.output() == row.put)
+fn is_so_on(
+    alloc: Global,
+    row: StoreCall,
+    host: &mut MemHost,
+    checks: &mut Checks,
+) -> Result<bool, Memory> {
+    let answers = answers_by(alloc, row.plan, row.call, host, checks)?;
+    let is_left = is_left(alloc, host, row.left, checks)?;
+    Ok(answers && is_left && checks.same_bytes("output", host.output(), row.put))
 }
 
 /// Whether a host has that log.
-fn is_left(alloc: Global, host: &MemHost, left: Option<File>) -> Result<bool, Memory> {
+fn is_left(
+    alloc: Global,
+    host: &MemHost,
+    left: Option<File>,
+    checks: &mut Checks,
+) -> Result<bool, Memory> {
     match left {
         None => Ok(true),
         Some(file) => {
             let log = bytes_of(alloc, file)?;
-            Ok(host.file(2) == log.as_slice())
+            Ok(checks.same_bytes("log", host.file(2), &log))
         }
     }
 }
 
 impl Row for StoreCall {
-    fn holds(&self, rt: HostRuntime) -> Result<bool, Memory> {
+    fn is_so(&self, rt: HostRuntime, checks: &mut Checks) -> Result<bool, Memory> {
         let mut host = host_of(rt.alloc(), self.files, self.failing)?;
-        let holds = holds_on(rt.alloc(), *self, &mut host);
+        let is_so = is_so_on(rt.alloc(), *self, &mut host, checks);
         drop(host);
-        holds
+        is_so
     }
 }
 
@@ -295,7 +307,7 @@ const OF_LOGS: &[StoreCall] = &[
 
 #[test]
 fn an_opening_takes_the_log_that_is_there_or_refuses_it(rt: HostRuntime) -> Result<(), Fail> {
-    assert_all(&rt, rt, OF_LOGS)
+    assert_each(&rt, rt, OF_LOGS)
 }
 
 const OF_CHANGES: &[StoreCall] = &[
@@ -371,7 +383,7 @@ const OF_CHANGES: &[StoreCall] = &[
 
 #[test]
 fn an_opening_goes_on_from_changes_or_passes_them_over(rt: HostRuntime) -> Result<(), Fail> {
-    assert_all(&rt, rt, OF_CHANGES)
+    assert_each(&rt, rt, OF_CHANGES)
 }
 
 /// The plan of queries over payments.
@@ -454,7 +466,7 @@ const CHECKS: &[StoreCall] = &[
 
 #[test]
 fn a_check_lists_queries_and_their_nodes_once(rt: HostRuntime) -> Result<(), Fail> {
-    assert_all(&rt, rt, CHECKS)
+    assert_each(&rt, rt, CHECKS)
 }
 
 /// The number of a card's payments within five minutes.
@@ -500,7 +512,7 @@ const RUNS: &[StoreCall] = &[
 
 #[test]
 fn a_run_puts_the_same_however_its_lines_are_read(rt: HostRuntime) -> Result<(), Fail> {
-    assert_all(&rt, rt, RUNS)
+    assert_each(&rt, rt, RUNS)
 }
 
 /// So many bytes a read, and how often more replies are put than where one read has all four lines. The store is
@@ -513,15 +525,20 @@ struct Gathered {
 }
 
 /// How many calls of the host such a run makes.
-fn calls_of_run(alloc: Global, most: usize) -> Result<u64, Memory> {
-    calls_of(alloc, EMPTY, COUNTS, Call::Run(PAYMENTS, most))
+fn calls_of_run(alloc: Global, most: usize, checks: &mut Checks) -> Result<Option<u64>, Memory> {
+    calls_of(alloc, EMPTY, COUNTS, Call::Run(PAYMENTS, most), checks)
 }
 
 impl Row for Gathered {
-    fn holds(&self, rt: HostRuntime) -> Result<bool, Memory> {
-        let at_once = calls_of_run(rt.alloc(), 20)?;
-        let calls = calls_of_run(rt.alloc(), self.most)?;
-        Ok(calls == at_once.saturating_add(self.more))
+    fn is_so(&self, rt: HostRuntime, checks: &mut Checks) -> Result<bool, Memory> {
+        let at_once = calls_of_run(rt.alloc(), 20, checks)?;
+        let calls = calls_of_run(rt.alloc(), self.most, checks)?;
+        match (at_once, calls) {
+            (Some(at_once), Some(calls)) => {
+                Ok(checks.same("calls", calls, at_once.saturating_add(self.more)))
+            }
+            _ => Ok(false),
+        }
     }
 }
 
@@ -536,5 +553,5 @@ const ALL_GATHERED: &[Gathered] = &[
 
 #[test]
 fn lines_that_are_read_at_once_are_put_at_once(rt: HostRuntime) -> Result<(), Fail> {
-    assert_all(&rt, rt, ALL_GATHERED)
+    assert_each(&rt, rt, ALL_GATHERED)
 }

@@ -1,4 +1,4 @@
-use crate::rows::{Row, assert_each};
+use crate::rows::{Checks, Row, assert_each};
 use crate::written::{Written, is_written};
 use rg_bytes::{ByteReader, Memory, read_signed, read_whole};
 use std::alloc::Global;
@@ -10,13 +10,13 @@ const NUMBERS: &[u8] =
     \x80\0\0\0\0\0\0\0\0\0\0\0\0\0\0\x03end";
 
 /// Whether those numbers are read, and then the three bytes.
-fn are_next(mut reader: ByteReader<'_>) -> bool {
-    reader.u8() == Ok(200)
-        && reader.u32() == Ok(0x01020304)
-        && reader.u64() == Ok(u64::MAX - 1)
-        && reader.i64() == Ok(-2)
-        && reader.i128() == Ok(i128::MIN + 3)
-        && reader.bytes(3) == Ok(b"end".as_slice())
+fn are_next(mut reader: ByteReader<'_>, checks: &mut Checks) -> bool {
+    checks.same("u8", reader.u8(), Ok(200))
+        && checks.same("u32", reader.u32(), Ok(0x01020304))
+        && checks.same("u64", reader.u64(), Ok(u64::MAX - 1))
+        && checks.same("i64", reader.i64(), Ok(-2))
+        && checks.same("i128", reader.i128(), Ok(i128::MIN + 3))
+        && checks.same("bytes", reader.bytes(3), Ok(b"end".as_slice()))
 }
 
 /// Numbers as text or bytes.
@@ -34,29 +34,30 @@ enum Case {
     AsBytes,
 }
 
-fn is_read(text: &[u8], whole: Option<u64>, signed: Option<i64>) -> bool {
-    read_whole(text) == whole && read_signed(text) == signed
+fn is_read(text: &[u8], whole: Option<u64>, signed: Option<i64>, checks: &mut Checks) -> bool {
+    checks.same("read_whole", read_whole(text), whole)
+        && checks.same("read_signed", read_signed(text), signed)
 }
 
 /// Whether the numbers of each width are written as those bytes, and read of them.
-fn are_bytes(alloc: Global) -> Result<bool, Memory> {
-    if are_next(ByteReader::new(NUMBERS)) {
-        is_written(alloc, Written::Numbers, NUMBERS)
+fn are_bytes(alloc: Global, checks: &mut Checks) -> Result<bool, Memory> {
+    if are_next(ByteReader::new(NUMBERS), checks) {
+        is_written(alloc, Written::Numbers, NUMBERS, checks)
     } else {
         Ok(false)
     }
 }
 
 impl Row for Case {
-    fn is_so(&self, alloc: Global) -> Result<bool, Memory> {
+    fn is_so(&self, alloc: Global, checks: &mut Checks) -> Result<bool, Memory> {
         match self {
             Case::Both(text, number) => {
-                Ok(is_read(text, Some(number.unsigned_abs()), Some(*number)))
+                Ok(is_read(text, Some(number.unsigned_abs()), Some(*number), checks))
             }
-            Case::Apart(text, whole, signed) => Ok(is_read(text, *whole, *signed)),
-            Case::Neither(text) => Ok(is_read(text, None, None)),
-            Case::AsText(text) => is_written(alloc, Written::Texts, text),
-            Case::AsBytes => are_bytes(alloc),
+            Case::Apart(text, whole, signed) => Ok(is_read(text, *whole, *signed, checks)),
+            Case::Neither(text) => Ok(is_read(text, None, None, checks)),
+            Case::AsText(text) => is_written(alloc, Written::Texts, text, checks),
+            Case::AsBytes => are_bytes(alloc, checks),
         }
     }
 }

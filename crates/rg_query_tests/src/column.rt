@@ -1,4 +1,4 @@
-use crate::rows::{Row, assert_each, assert_none};
+use crate::rows::{Checks, Row, assert_each};
 use crate::schema::schema_of;
 use crate::written::{Written, is_written};
 use rg_bytes::{ByteReader, Memory, put_bytes};
@@ -29,28 +29,41 @@ fn are_written(
     events: &Events,
     columns: &[u8],
     rows: &[u8],
+    checks: &mut Checks,
 ) -> Result<bool, Memory> {
     let events = events.as_slice();
-    let are_columns = is_written(alloc, Written::Columns(schema, events), columns)?;
-    Ok(is_written(alloc, Written::Events(events), rows)? && are_columns)
+    let are_columns = is_written(alloc, Written::Columns(schema, events), columns, checks)?;
+    Ok(is_written(alloc, Written::Events(events), rows, checks)? && are_columns)
 }
 
 /// Whether two events are read of these columns that are written as these rows, and as the columns again.
-fn are_read(alloc: Global, schema: &Schema, columns: &[u8], rows: &[u8]) -> Result<bool, Memory> {
+fn are_read(
+    alloc: Global,
+    schema: &Schema,
+    columns: &[u8],
+    rows: &[u8],
+    checks: &mut Checks,
+) -> Result<bool, Memory> {
     match decode_columns(alloc, schema, 2, &mut ByteReader::new(columns)) {
         Ok(events) => {
-            let are_written = are_written(alloc, schema, &events, columns, rows);
+            let are_written = are_written(alloc, schema, &events, columns, rows, checks);
             drop(events);
             are_written
         }
-        Err(_) => Ok(false),
+        Err(fault) => Ok(checks.fails("columns", fault, "two events")),
     }
 }
 
-/// The same of columns of this schema.
-fn are_kept(alloc: Global, schema: &[u8], columns: &[u8], rows: &[u8]) -> Result<bool, Memory> {
+/// Whether they are of columns of this schema.
+fn are_kept(
+    alloc: Global,
+    schema: &[u8],
+    columns: &[u8],
+    rows: &[u8],
+    checks: &mut Checks,
+) -> Result<bool, Memory> {
     let schema = schema_of(alloc, schema)?;
-    let are_read = are_read(alloc, &schema, columns, rows);
+    let are_read = are_read(alloc, &schema, columns, rows, checks);
     drop(schema);
     are_read
 }
@@ -74,8 +87,10 @@ fn are_faulty(
     schema: &[u8],
     bytes: &[u8],
     fault: ColumnFault,
+    checks: &mut Checks,
 ) -> Result<bool, Memory> {
-    Ok(read_two(alloc, schema, bytes)? == (Some(fault), bytes.len()))
+    let read = read_two(alloc, schema, bytes)?;
+    Ok(checks.same("fault and bytes left", read, (Some(fault), bytes.len())))
 }
 
 /// Puts the columns of the two payments with other bytes from a place on.
@@ -92,6 +107,7 @@ fn is_changed(
     at: usize,
     bytes: &[u8],
     fault: Option<ColumnFault>,
+    checks: &mut Checks,
 ) -> Result<bool, Memory> {
     let mut columns = Vec::new(alloc);
     let read = match put_changed(&mut columns, at, bytes) {
@@ -99,17 +115,29 @@ fn is_changed(
         Err(memory) => Err(memory),
     };
     drop(columns);
-    Ok(read?.0 == fault)
+    Ok(checks.same("fault", read?.0, fault))
 }
 
 /// Whether a number is written in its least width as these bytes, and the width is told by the byte that says it.
-fn is_least(alloc: Global, number: u64, bytes: &[u8]) -> Result<bool, Memory> {
+fn is_least(alloc: Global, number: u64, bytes: &[u8], checks: &mut Checks) -> Result<bool, Memory> {
     let width = Width::least(number);
-    if Width::from_byte(width.byte()) == Some(width) {
-        is_written(alloc, Written::Least(number), bytes)
+    if checks.same("width", Width::from_byte(width.byte()), Some(width)) {
+        is_written(alloc, Written::Least(number), bytes, checks)
     } else {
         Ok(false)
     }
+}
+
+/// Whether each front of the columns of the two payments is short, and the reader stays.
+fn are_cut(alloc: Global, checks: &mut Checks) -> Result<bool, Memory> {
+    for end in 0..COLUMNS.len() {
+        let front = COLUMNS.get(..end).unwrap_or(b"");
+        let is_short = are_faulty(alloc, PAYMENTS, front, ColumnFault::Short, checks)?;
+        if !checks.at(is_short, "length", end) {
+            return Ok(false);
+        }
+    }
+    Ok(true)
 }
 
 /// What columns are, or a number.
@@ -127,22 +155,25 @@ enum Case {
     Changed(usize, &'static [u8], Option<ColumnFault>),
     /// A number is written in its least width as these bytes, and the width is told by the byte that says it.
     Least(u64, &'static [u8]),
+    /// Each front of the two payments' columns is short, and the reader stays.
+    Cut,
 }
 
 impl Row for Case {
-    fn is_so(&self, alloc: Global) -> Result<bool, Memory> {
+    fn is_so(&self, alloc: Global, checks: &mut Checks) -> Result<bool, Memory> {
         match self {
-            Case::Payments => are_kept(alloc, PAYMENTS, COLUMNS, ROWS),
-            Case::Kept(schema, columns, rows) => are_kept(alloc, schema, columns, rows),
+            Case::Payments => are_kept(alloc, PAYMENTS, COLUMNS, ROWS, checks),
+            Case::Kept(schema, columns, rows) => are_kept(alloc, schema, columns, rows, checks),
             Case::Bad(schema, columns) => {
-                are_faulty(alloc, schema, columns, ColumnFault::BadColumn(1))
+                are_faulty(alloc, schema, columns, ColumnFault::BadColumn(1), checks)
             }
             Case::BadAt(at, bytes, column) => {
                 let fault = ColumnFault::BadColumn(*column);
-                is_changed(alloc, *at, bytes, Some(fault))
+                is_changed(alloc, *at, bytes, Some(fault), checks)
             }
-            Case::Changed(at, bytes, fault) => is_changed(alloc, *at, bytes, *fault),
-            Case::Least(number, bytes) => is_least(alloc, *number, bytes),
+            Case::Changed(at, bytes, fault) => is_changed(alloc, *at, bytes, *fault, checks),
+            Case::Least(number, bytes) => is_least(alloc, *number, bytes, checks),
+            Case::Cut => are_cut(alloc, checks),
         }
     }
 }
@@ -211,19 +242,7 @@ fn columns_are_read_as_events_and_written_back_and_others_are_bad(
     assert_each(&rt, COLUMNS_AND_NUMBERS)
 }
 
-/// The first place where the columns of the two payments are cut and aren't short, or the reader doesn't stay; none where
-/// there is no such place.
-fn first_cut_that_is_not_short(alloc: Global) -> Result<Option<usize>, Memory> {
-    for end in 0..COLUMNS.len() {
-        let front = COLUMNS.get(..end).unwrap_or(b"");
-        if !are_faulty(alloc, PAYMENTS, front, ColumnFault::Short)? {
-            return Ok(Some(end));
-        }
-    }
-    Ok(None)
-}
-
 #[test]
 fn columns_that_are_cut_are_short_and_the_reader_stays(rt: HostRuntime) -> Result<(), Fail> {
-    assert_none(&rt, first_cut_that_is_not_short(rt.alloc()))
+    assert_each(&rt, &[Case::Cut])
 }

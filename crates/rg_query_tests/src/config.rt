@@ -1,9 +1,9 @@
 use crate::built::{Times, put_parts};
-use crate::rows::{Row, assert_each};
+use crate::rows::{Checks, Row, assert_each};
 use crate::written::{Written, is_written};
 use rg_bytes::{Memory, put_bytes};
 use rg_config::{ConfigFault, DefaultsFault, Plan, QueryRefusal, SettingsFault, read_plan};
-use rg_event::{Room, Value};
+use rg_event::Value;
 use rg_query::QueryFault;
 use std::alloc::Global;
 use std::test::Fail;
@@ -36,7 +36,7 @@ const BY_COLUMNS: &[u8] = b" FROM payments GROUP BY card, card, card, card, card
 const WITHOUT_END: &[u8] = b" OVER INFINITE";
 
 /// What is set.
-#[derive(Clone, Copy)]
+#[derive(Clone, Copy, Debug, PartialEq)]
 struct Settings {
     chunk: u32,
     cache: u32,
@@ -59,7 +59,7 @@ const UNSET: Settings = Settings {
 };
 
 /// What is wanted of the reading of a plan.
-#[derive(Clone, Copy)]
+#[derive(Clone, Copy, Debug)]
 enum Want {
     /// It is refused for this.
     Fault(ConfigFault),
@@ -74,71 +74,85 @@ enum Want {
 }
 
 /// Whether these are those defaults.
-fn are_two(defaults: &[Option<Value>]) -> bool {
+fn are_two(defaults: &[Option<Value>], checks: &mut Checks) -> bool {
     match defaults {
-        [Some(Value::Text(card)), None, Some(Value::Int(-5))] => card.as_bytes().is_empty(),
-        _ => false,
+        [Some(Value::Text(card)), None, Some(Value::Int(-5))] => {
+            checks.same_bytes("card", card.as_bytes(), b"")
+        }
+        _ => checks.fails("defaults", defaults, "a text, none and -5"),
     }
 }
 
-/// Whether a plan has these settings.
-fn is_set(plan: &Plan, settings: &Settings) -> bool {
-    let room = Room {
-        chunk: settings.chunk,
-        cache: settings.cache,
-        limit: settings.events,
-    };
-    plan.room == room
-        && plan.commit == settings.commit
-        && plan.save == settings.save
-        && plan.header == settings.header
-        && plan.grace == settings.grace
+/// Whether no column has a default.
+fn are_none(defaults: &[Option<Value>], checks: &mut Checks) -> bool {
+    matches!(defaults, [None, None, None]) || checks.fails("defaults", defaults, "three times none")
+}
+
+/// What a plan sets.
+fn set_by(plan: &Plan) -> Settings {
+    Settings {
+        chunk: plan.room.chunk,
+        cache: plan.room.cache,
+        events: plan.room.limit,
+        commit: plan.commit,
+        save: plan.save,
+        header: plan.header,
+        grace: plan.grace,
+    }
 }
 
 /// Whether a plan has one query, which is printed so.
-fn has_query(plan: &Plan) -> bool {
+fn has_query(plan: &Plan, checks: &mut Checks) -> bool {
     match plan.queries.as_slice() {
-        [query] => query.as_slice() == PRINTED && plan.task.queries() == 1,
-        _ => false,
+        [query] => {
+            checks.same_bytes("query", query.as_slice(), PRINTED)
+                && checks.same("queries of the task", plan.task.queries(), 1)
+        }
+        queries => checks.fails("queries", queries.len(), 1),
     }
 }
 
 /// Whether a plan is of the payments, has that query and these settings.
-fn is_all_set(alloc: Global, plan: &Plan, settings: &Settings) -> Result<bool, Memory> {
-    if has_query(plan) && is_set(plan, settings) {
-        is_written(alloc, Written::Schema(&plan.schema), SCHEMA)
+fn is_all_set(
+    alloc: Global,
+    plan: &Plan,
+    settings: Settings,
+    checks: &mut Checks,
+) -> Result<bool, Memory> {
+    if has_query(plan, checks) && checks.same("settings", set_by(plan), settings) {
+        is_written(alloc, Written::Schema(&plan.schema), SCHEMA, checks)
     } else {
         Ok(false)
     }
 }
 
 /// Whether a plan is as it is wanted.
-fn is_wanted(alloc: Global, plan: &Plan, want: Want) -> Result<bool, Memory> {
+fn is_wanted(alloc: Global, plan: &Plan, want: Want, checks: &mut Checks) -> Result<bool, Memory> {
     match want {
-        Want::Fault(_) => Ok(false),
+        Want::Fault(fault) => Ok(checks.fails("plan", "read", fault)),
         Want::Plan => Ok(true),
-        Want::Set(settings) => is_all_set(alloc, plan, &settings),
-        Want::Defaults => Ok(are_two(plan.defaults.as_slice())),
-        Want::NoDefaults => Ok(matches!(plan.defaults.as_slice(), [None, None, None])),
+        Want::Set(settings) => is_all_set(alloc, plan, settings, checks),
+        Want::Defaults => Ok(are_two(plan.defaults.as_slice(), checks)),
+        Want::NoDefaults => Ok(are_none(plan.defaults.as_slice(), checks)),
     }
 }
 
-fn is_refused(fault: ConfigFault, want: Want) -> bool {
+fn is_refused(fault: ConfigFault, want: Want, checks: &mut Checks) -> bool {
     match want {
-        Want::Fault(wanted) => fault == wanted,
-        _ => false,
+        Want::Fault(wanted) => checks.same("fault", fault, wanted),
+        _ => checks.fails("plan", fault, want),
     }
 }
 
 /// Whether a text is read as it is wanted.
-fn is_read(alloc: Global, text: &[u8], want: Want) -> Result<bool, Memory> {
+fn is_read(alloc: Global, text: &[u8], want: Want, checks: &mut Checks) -> Result<bool, Memory> {
     match read_plan(alloc, text) {
         Ok(plan) => {
-            let is_so = is_wanted(alloc, &plan, want);
+            let is_so = is_wanted(alloc, &plan, want, checks);
             drop(plan);
             is_so
         }
-        Err(fault) => Ok(is_refused(fault, want)),
+        Err(fault) => Ok(is_refused(fault, want, checks)),
     }
 }
 
@@ -222,10 +236,10 @@ impl Case {
 }
 
 impl Row for Case {
-    fn is_so(&self, alloc: Global) -> Result<bool, Memory> {
+    fn is_so(&self, alloc: Global, checks: &mut Checks) -> Result<bool, Memory> {
         let mut text = Vec::new(alloc);
         let is_so = match self.put(&mut text) {
-            Ok(()) => is_read(alloc, &text, self.want()),
+            Ok(()) => is_read(alloc, &text, self.want(), checks),
             Err(memory) => Err(memory),
         };
         drop(text);

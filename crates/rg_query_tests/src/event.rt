@@ -1,4 +1,4 @@
-use crate::rows::{Row, assert_each};
+use crate::rows::{Checks, Row, assert_each};
 use crate::schema::schema_of;
 use crate::written::{Written, is_written};
 use rg_bytes::{ByteReader, Memory};
@@ -14,42 +14,58 @@ const EVENT: &[u8] =
     b"\0\0\0\0\0\0\0\x28\0\0\0\0\0\0\0\x07\xff\xff\xff\xff\xff\xff\xff\xfd\xff\xff\xff\xff\xff\xff\xff\xff\x04card\x01";
 
 /// Whether an event is the one of those bytes.
-fn is_of_each_kind(event: &Event) -> bool {
-    match event.values.as_slice() {
+fn is_of_each_kind(event: &Event, checks: &mut Checks) -> bool {
+    let are_values = match event.values.as_slice() {
         [
             Value::Int(-3),
             Value::Id(u64::MAX),
             Value::Text(word),
             Value::Flag(true),
-        ] => event.offset == 40 && event.time == 7 && word.as_bytes() == b"card".as_slice(),
-        _ => false,
-    }
+        ] => checks.same_bytes("text", word.as_bytes(), b"card"),
+        values => checks.fails("values", values, "-3, 2^64 - 1, card and true"),
+    };
+    are_values && checks.same("offset", event.offset, 40) && checks.same("time", event.time, 7)
 }
 
 /// Whether an event is that one, and a copy of it is written as these bytes.
-fn is_kept(alloc: Global, event: &Event, bytes: &[u8]) -> Result<bool, Memory> {
+fn is_kept(
+    alloc: Global,
+    event: &Event,
+    bytes: &[u8],
+    checks: &mut Checks,
+) -> Result<bool, Memory> {
     let copy = event.copy(alloc)?;
-    let is_so = is_written(alloc, Written::Event(&copy), bytes);
+    let is_so = is_written(alloc, Written::Event(&copy), bytes, checks);
     drop(copy);
-    Ok(is_so? && is_of_each_kind(event))
+    Ok(is_so? && is_of_each_kind(event, checks))
 }
 
 /// Whether bytes begin with that event, a copy of which is written as they are.
-fn is_read(alloc: Global, schema: &Schema, bytes: &[u8]) -> Result<bool, Memory> {
+fn is_read(
+    alloc: Global,
+    schema: &Schema,
+    bytes: &[u8],
+    checks: &mut Checks,
+) -> Result<bool, Memory> {
     match decode(alloc, schema, &mut ByteReader::new(bytes)) {
         Ok(event) => {
-            let is_kept = is_kept(alloc, &event, bytes);
+            let is_kept = is_kept(alloc, &event, bytes, checks);
             drop(event);
             is_kept
         }
-        Err(_) => Ok(false),
+        Err(fault) => Ok(checks.fails("event", fault, "one of each kind")),
     }
 }
 
-/// The same of bytes of this schema.
-fn is_read_of(alloc: Global, schema: &[u8], bytes: &[u8]) -> Result<bool, Memory> {
+/// Whether bytes of this schema do so.
+fn is_read_of(
+    alloc: Global,
+    schema: &[u8],
+    bytes: &[u8],
+    checks: &mut Checks,
+) -> Result<bool, Memory> {
     let schema = schema_of(alloc, schema)?;
-    let is_read = is_read(alloc, &schema, bytes);
+    let is_read = is_read(alloc, &schema, bytes, checks);
     drop(schema);
     is_read
 }
@@ -60,11 +76,12 @@ fn begin(
     schema: &[u8],
     bytes: &[u8],
     want: Option<EventFault>,
+    checks: &mut Checks,
 ) -> Result<bool, Memory> {
     let schema = schema_of(alloc, schema)?;
     let fault = decode(alloc, &schema, &mut ByteReader::new(bytes)).err();
     drop(schema);
-    Ok(fault == want)
+    Ok(checks.same("fault", fault, want))
 }
 
 /// What bytes are of a schema.
@@ -77,10 +94,10 @@ enum Case {
 }
 
 impl Row for Case {
-    fn is_so(&self, alloc: Global) -> Result<bool, Memory> {
+    fn is_so(&self, alloc: Global, checks: &mut Checks) -> Result<bool, Memory> {
         match self {
-            Case::EachKind => is_read_of(alloc, EACH_KIND, EVENT),
-            Case::Begins(schema, bytes, fault) => begin(alloc, schema, bytes, *fault),
+            Case::EachKind => is_read_of(alloc, EACH_KIND, EVENT, checks),
+            Case::Begins(schema, bytes, fault) => begin(alloc, schema, bytes, *fault, checks),
         }
     }
 }

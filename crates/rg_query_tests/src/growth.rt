@@ -1,7 +1,7 @@
 ghost use Rattle.std.specs.Prelude.{◌≡◌, [], IfOk, IsTrue};
 ghost use Rattle.rg_growth.specs.Growing.{AreDefaultsOf, IsDefaultOf};
 
-use crate::rows::{Row, assert_each, assert_none};
+use crate::rows::{Checks, Row, assert_each};
 use crate::schema::schema_of;
 use crate::written::{Written, is_written};
 use rg_bytes::Memory;
@@ -24,21 +24,35 @@ const LONGER: &[u8] = b"p(t,a:int,b:flag,c:id)";
 
 /// Whether a payload says a growth of a schema, which is written as it was read; where it is to say none, whether it is a bad
 /// one.
-fn is_read(alloc: Global, from: &Schema, payload: &[u8], is_one: bool) -> Result<bool, Memory> {
+fn is_read(
+    alloc: Global,
+    from: &Schema,
+    payload: &[u8],
+    is_one: bool,
+    checks: &mut Checks,
+) -> Result<bool, Memory> {
     match Growth::decode(alloc, from, payload) {
         Ok(growth) => {
-            let is_kept = is_written(alloc, Written::Growth(&growth), payload);
+            let is_kept = is_written(alloc, Written::Growth(&growth), payload, checks);
             drop(growth);
-            Ok(is_kept? && is_one)
+            Ok(is_kept? && checks.same("it is a growth", true, is_one))
         }
-        Err(fault) => Ok(fault == GrowthFault::BadGrowth && !is_one),
+        Err(fault) => Ok(
+            checks.same("fault", fault, GrowthFault::BadGrowth)
+                && checks.same("it is a growth", false, is_one),
+        ),
     }
 }
 
-/// The same of the schema that grows.
-fn is_as_said(alloc: Global, payload: &[u8], is_one: bool) -> Result<bool, Memory> {
+/// Whether a payload says a growth of the schema that grows, or none.
+fn is_as_said(
+    alloc: Global,
+    payload: &[u8],
+    is_one: bool,
+    checks: &mut Checks,
+) -> Result<bool, Memory> {
     let from = schema_of(alloc, FROM)?;
-    let is_read = is_read(alloc, &from, payload, is_one);
+    let is_read = is_read(alloc, &from, payload, is_one, checks);
     drop(from);
     is_read
 }
@@ -51,35 +65,36 @@ fn push_two(alloc: Global, defaults: &mut Defaults) -> Result<(), Memory> {
 }
 
 /// Whether these are those defaults.
-fn are_two(defaults: &[Option<Value>]) -> bool {
+fn are_two(defaults: &[Option<Value>], checks: &mut Checks) -> bool {
     match defaults {
-        [Some(Value::Int(-5)), None, Some(Value::Text(word))] => word.as_bytes()
-            == b"??".as_slice(),
-        _ => false,
+        [Some(Value::Int(-5)), None, Some(Value::Text(word))] => {
+            checks.same_bytes("text", word.as_bytes(), b"??")
+        }
+        _ => checks.fails("defaults", defaults, "-5, none and a text"),
     }
 }
 
 /// Whether defaults that are made of a list and given again are those.
-fn are_given(defaults: Defaults) -> bool {
+fn are_given(defaults: Defaults, checks: &mut Checks) -> bool {
     let list = Defaults::from(defaults.into_vec()).into_vec();
-    let are_two = are_two(&list);
+    let are_two = are_two(&list, checks);
     drop(list);
     are_two
 }
 
 /// Whether those defaults are kept as they are pushed, and by a copy.
-fn are_kept(alloc: Global, defaults: &mut Defaults) -> Result<bool, Memory> {
+fn are_kept(alloc: Global, defaults: &mut Defaults, checks: &mut Checks) -> Result<bool, Memory> {
     push_two(alloc, defaults)?;
     let copy = defaults.copy(alloc)?;
-    let are_copied = are_two(copy.as_slice());
-    let are_given = are_given(copy);
-    Ok(are_copied && are_given && are_two(defaults.as_slice()))
+    let are_copied = are_two(copy.as_slice(), checks);
+    let are_given = are_given(copy, checks);
+    Ok(are_copied && are_given && are_two(defaults.as_slice(), checks))
 }
 
-/// The same of defaults of no column, to which they are pushed.
-fn are_pushed(alloc: Global) -> Result<bool, Memory> {
+/// Whether they are where they are pushed to defaults of no column.
+fn are_pushed(alloc: Global, checks: &mut Checks) -> Result<bool, Memory> {
     let mut defaults = Defaults::new(alloc);
-    let are_kept = are_kept(alloc, &mut defaults);
+    let are_kept = are_kept(alloc, &mut defaults, checks);
     drop(defaults);
     are_kept
 }
@@ -133,58 +148,90 @@ fn is_filled(
     to: &Schema,
     defaults: &Defaults,
     payload: &[u8],
+    checks: &mut Checks,
 ) -> Result<bool, Memory>
     requires { AreDefaultsOf to.now.fields defaults.now }
 {
     match Growth::filled(alloc, from, to, defaults)? {
         Some(growth) => {
-            let is_so = is_written(alloc, Written::Growth(&growth), payload);
+            let is_so = is_written(alloc, Written::Growth(&growth), payload, checks);
             drop(growth);
             is_so
         }
-        None => Ok(payload.is_empty()),
+        None => Ok(payload.is_empty() || checks.fails("growth", "none", payload)),
     }
 }
 
-/// The same by the defaults that these numbers are, and no others.
+/// Whether it is by the defaults that these numbers are, and no others.
 fn fills(
     alloc: Global,
     from: &Schema,
     to: &Schema,
     numbers: Numbers,
     payload: &[u8],
+    checks: &mut Checks,
 ) -> Result<bool, Memory> {
     let mut defaults = Defaults::new(alloc);
     let is_so = match push_three(to.fields(), numbers, &mut defaults) {
-        Ok(true) => is_filled(alloc, from, to, &defaults, payload),
-        Ok(false) => Ok(false),
+        Ok(true) => is_filled(alloc, from, to, &defaults, payload, checks),
+        Ok(false) => Ok(checks.fails("columns", to.fields().len(), 3)),
         Err(memory) => Err(memory),
     };
     drop(defaults);
     is_so
 }
 
-fn answers(alloc: Global, from: &Schema, to: &Schema, ask: Ask) -> Result<bool, Memory> {
+fn answers(
+    alloc: Global,
+    from: &Schema,
+    to: &Schema,
+    ask: Ask,
+    checks: &mut Checks,
+) -> Result<bool, Memory> {
     match ask {
-        Ask::Grows(want) => Ok(grows_to(from, to) == want),
-        Ask::Fills(numbers, payload) => fills(alloc, from, to, numbers, payload),
+        Ask::Grows(want) => Ok(checks.same("grows_to", grows_to(from, to), want)),
+        Ask::Fills(numbers, payload) => fills(alloc, from, to, numbers, payload, checks),
     }
 }
 
 /// Whether it is so of a schema and the one that a text says.
-fn answers_to(alloc: Global, from: &Schema, to: &[u8], ask: Ask) -> Result<bool, Memory> {
+fn answers_to(
+    alloc: Global,
+    from: &Schema,
+    to: &[u8],
+    ask: Ask,
+    checks: &mut Checks,
+) -> Result<bool, Memory> {
     let to = schema_of(alloc, to)?;
-    let is_so = answers(alloc, from, &to, ask);
+    let is_so = answers(alloc, from, &to, ask, checks);
     drop(to);
     is_so
 }
 
 /// Whether it is so of the schemas that two texts say.
-fn answers_from(alloc: Global, from: &[u8], to: &[u8], ask: Ask) -> Result<bool, Memory> {
+fn answers_from(
+    alloc: Global,
+    from: &[u8],
+    to: &[u8],
+    ask: Ask,
+    checks: &mut Checks,
+) -> Result<bool, Memory> {
     let from = schema_of(alloc, from)?;
-    let is_so = answers_to(alloc, &from, to, ask);
+    let is_so = answers_to(alloc, &from, to, ask, checks);
     drop(from);
     is_so
+}
+
+/// Whether each front of the growth is bad.
+fn are_cut(alloc: Global, checks: &mut Checks) -> Result<bool, Memory> {
+    for end in 0..GROWTH.len() {
+        let front = GROWTH.get(..end).unwrap_or(b"");
+        let is_bad = is_as_said(alloc, front, false, checks)?;
+        if !checks.at(is_bad, "length", end) {
+            return Ok(false);
+        }
+    }
+    Ok(true)
 }
 
 /// What there is of growths.
@@ -202,21 +249,24 @@ enum Case {
     Fills(&'static [u8], &'static [u8], Numbers, &'static [u8]),
     /// There is no such growth.
     Lacks(&'static [u8], &'static [u8], Numbers),
+    /// Each front of the growth is bad.
+    Cut,
 }
 
 impl Row for Case {
-    fn is_so(&self, alloc: Global) -> Result<bool, Memory> {
+    fn is_so(&self, alloc: Global, checks: &mut Checks) -> Result<bool, Memory> {
         match self {
-            Case::Grows(to, want) => answers_from(alloc, FROM, to, Ask::Grows(*want)),
-            Case::Kept(payload) => is_as_said(alloc, payload, true),
-            Case::Bad(payload) => is_as_said(alloc, payload, false),
-            Case::Pushed => are_pushed(alloc),
+            Case::Grows(to, want) => answers_from(alloc, FROM, to, Ask::Grows(*want), checks),
+            Case::Kept(payload) => is_as_said(alloc, payload, true, checks),
+            Case::Bad(payload) => is_as_said(alloc, payload, false, checks),
+            Case::Pushed => are_pushed(alloc, checks),
             Case::Fills(from, to, numbers, payload) => {
-                answers_from(alloc, from, to, Ask::Fills(*numbers, payload))
+                answers_from(alloc, from, to, Ask::Fills(*numbers, payload), checks)
             }
             Case::Lacks(from, to, numbers) => {
-                answers_from(alloc, from, to, Ask::Fills(*numbers, b""))
+                answers_from(alloc, from, to, Ask::Fills(*numbers, b""), checks)
             }
+            Case::Cut => are_cut(alloc, checks),
         }
     }
 }
@@ -290,17 +340,7 @@ fn a_growth_is_read_and_written_back_and_what_is_none_is_bad(rt: HostRuntime) ->
     )
 }
 
-/// The first place where the growth is cut and isn't bad; none where there is no such place.
-fn first_cut_that_is_not_bad(alloc: Global) -> Result<Option<usize>, Memory> {
-    for end in 0..GROWTH.len() {
-        if !is_as_said(alloc, GROWTH.get(..end).unwrap_or(b""), false)? {
-            return Ok(Some(end));
-        }
-    }
-    Ok(None)
-}
-
 #[test]
 fn a_growth_that_is_cut_is_bad(rt: HostRuntime) -> Result<(), Fail> {
-    assert_none(&rt, first_cut_that_is_not_bad(rt.alloc()))
+    assert_each(&rt, &[Case::Cut])
 }

@@ -1,4 +1,4 @@
-use crate::rows::{Row, assert_each};
+use crate::rows::{Checks, Row, assert_each};
 use rg_bytes::Memory;
 use rg_event::{Bytes, Texts};
 use std::alloc::Global;
@@ -17,29 +17,30 @@ fn push_three(alloc: Global, texts: &mut Texts) -> Result<(), Memory> {
 }
 
 /// Whether these are those three texts.
-fn are_three(texts: &Texts) -> bool {
+fn are_three(texts: &Texts, checks: &mut Checks) -> bool {
     match texts.as_slice() {
         [one, two, none] => {
-            one.as_slice() == b"one".as_slice()
-                && two.as_slice() == b"two".as_slice()
-                && none.as_slice().is_empty()
+            checks.same_bytes("first text", one.as_slice(), b"one")
+                && checks.same_bytes("second text", two.as_slice(), b"two")
+                && checks.same_bytes("third text", none.as_slice(), b"")
         }
-        _ => false,
+        texts => checks.fails("texts", texts.len(), 3),
     }
 }
 
 /// Whether a copy of texts is equal to them and is those three.
-fn are_copied(alloc: Global, texts: &Texts) -> Result<bool, Memory> {
+fn are_copied(alloc: Global, texts: &Texts, checks: &mut Checks) -> Result<bool, Memory> {
     let copies = texts.copy(alloc)?;
-    let are_kept = copies == *texts && are_three(&copies);
+    let are_kept = checks.same("a copy is equal", copies == *texts, true)
+        && are_three(&copies, checks);
     drop(copies);
     Ok(are_kept)
 }
 
 /// Whether texts to which three are pushed are kept.
-fn are_kept(alloc: Global, texts: &mut Texts) -> Result<bool, Memory> {
+fn are_kept(alloc: Global, texts: &mut Texts, checks: &mut Checks) -> Result<bool, Memory> {
     push_three(alloc, texts)?;
-    are_copied(alloc, texts)
+    are_copied(alloc, texts, checks)
 }
 
 /// The one row: three texts are kept that are pushed.
@@ -47,9 +48,9 @@ fn are_kept(alloc: Global, texts: &mut Texts) -> Result<bool, Memory> {
 struct Three;
 
 impl Row for Three {
-    fn is_so(&self, alloc: Global) -> Result<bool, Memory> {
+    fn is_so(&self, alloc: Global, checks: &mut Checks) -> Result<bool, Memory> {
         let mut texts = Texts::new(alloc);
-        let are_kept = are_kept(alloc, &mut texts);
+        let are_kept = are_kept(alloc, &mut texts, checks);
         drop(texts);
         are_kept
     }

@@ -1,5 +1,5 @@
 use crate::built::{Times, put_parts};
-use crate::rows::{Row, assert_each};
+use crate::rows::{Checks, Row, assert_each};
 use crate::schema::schema_of;
 use rg_bytes::Memory;
 use rg_event::{Schema, Value};
@@ -70,6 +70,9 @@ fn is_no_choice(condition: &Condition) -> bool {
     }
 }
 
+/// The query's filter.
+const FILTER: &str = "terminal >= 0 AND NOT (card = 'it''s' OR online != FALSE)";
+
 /// Whether a query's filter is `terminal >= 0 AND NOT (card = 'it''s' OR online != FALSE)`.
 fn is_filter(query: &Query) -> bool {
     match &query.filter {
@@ -79,42 +82,42 @@ fn is_filter(query: &Query) -> bool {
 }
 
 /// Whether a query is what the text of every clause says.
-fn is_of_every_clause(query: &Query) -> bool {
-    query.aggs.as_slice() == AGGS
-        && query.group.as_slice() == [1, 4].as_slice()
-        && query.window == WINDOW
-        && is_filter(query)
+fn is_of_every_clause(query: &Query, checks: &mut Checks) -> bool {
+    checks.same("aggregators", query.aggs.as_slice(), AGGS)
+        && checks.same("key", query.group.as_slice(), [1, 4].as_slice())
+        && checks.same("window", query.window, WINDOW)
+        && (is_filter(query) || checks.fails("filter", &query.filter, FILTER))
 }
 
 /// Whether a copy of a query is.
-fn is_copied(alloc: Global, query: &Query) -> Result<bool, Memory> {
+fn is_copied(alloc: Global, query: &Query, checks: &mut Checks) -> Result<bool, Memory> {
     let copy = query.copy(alloc)?;
-    let is_so = is_of_every_clause(&copy);
+    let is_so = is_of_every_clause(&copy, checks);
     drop(copy);
     Ok(is_so)
 }
 
 /// Whether the query of every clause is what its text says.
-fn is_said(alloc: Global, schema: &Schema) -> Result<bool, Memory> {
+fn is_said(alloc: Global, schema: &Schema, checks: &mut Checks) -> Result<bool, Memory> {
     match parse(alloc, schema, EVERY_CLAUSE) {
         Ok(query) => {
-            let is_copied = is_copied(alloc, &query);
+            let is_copied = is_copied(alloc, &query, checks);
             drop(query);
             is_copied
         }
-        Err(_) => Ok(false),
+        Err(fault) => Ok(checks.fails("query", fault, "one of every clause")),
     }
 }
 
 /// Whether a text is a query, or none for this cause.
-fn is_read_so(alloc: Global, schema: &Schema, text: &[u8], want: Option<QueryFault>) -> bool {
-    match parse(alloc, schema, text) {
-        Ok(query) => {
-            drop(query);
-            want.is_none()
-        }
-        Err(fault) => want == Some(fault),
-    }
+fn is_read_so(
+    alloc: Global,
+    schema: &Schema,
+    text: &[u8],
+    want: Option<QueryFault>,
+    checks: &mut Checks,
+) -> bool {
+    checks.same("fault", parse(alloc, schema, text).err(), want)
 }
 
 /// Whether these parts are a text of this length that is no query for this cause, if for any.
@@ -124,10 +127,12 @@ fn is_built(
     parts: &[Times],
     length: usize,
     fault: Option<QueryFault>,
+    checks: &mut Checks,
 ) -> Result<bool, Memory> {
     let mut text = Vec::new(alloc);
     let put = put_parts(&mut text, parts);
-    let is_so = text.len() == length && is_read_so(alloc, schema, &text, fault);
+    let is_so = checks.same("length", text.len(), length)
+        && is_read_so(alloc, schema, &text, fault, checks);
     drop(text);
     put?;
     Ok(is_so)
@@ -145,19 +150,26 @@ enum Case {
     Built(&'static [Times], usize, Option<QueryFault>),
 }
 
-fn is_so_of(alloc: Global, schema: &Schema, case: &Case) -> Result<bool, Memory> {
+fn is_so_of(
+    alloc: Global,
+    schema: &Schema,
+    case: &Case,
+    checks: &mut Checks,
+) -> Result<bool, Memory> {
     match case {
-        Case::EveryClause => is_said(alloc, schema),
-        Case::Read(text) => Ok(is_read_so(alloc, schema, text, None)),
-        Case::Faulty(text, fault) => Ok(is_read_so(alloc, schema, text, Some(*fault))),
-        Case::Built(parts, length, fault) => is_built(alloc, schema, parts, *length, *fault),
+        Case::EveryClause => is_said(alloc, schema, checks),
+        Case::Read(text) => Ok(is_read_so(alloc, schema, text, None, checks)),
+        Case::Faulty(text, fault) => { Ok(is_read_so(alloc, schema, text, Some(*fault), checks)) }
+        Case::Built(parts, length, fault) => {
+            is_built(alloc, schema, parts, *length, *fault, checks)
+        }
     }
 }
 
 impl Row for Case {
-    fn is_so(&self, alloc: Global) -> Result<bool, Memory> {
+    fn is_so(&self, alloc: Global, checks: &mut Checks) -> Result<bool, Memory> {
         let schema = schema_of(alloc, PAYMENTS)?;
-        let is_so = is_so_of(alloc, &schema, self);
+        let is_so = is_so_of(alloc, &schema, self, checks);
         drop(schema);
         is_so
     }

@@ -3,7 +3,7 @@ ghost use Rattle.rg_metric.specs.Queries.{asked, Asked};
 ghost use Rattle.rg_plan.specs.Offsets.{IsMeasured};
 
 use crate::built::Times;
-use crate::rows::{Row, assert_each};
+use crate::rows::{Checks, Row, assert_each};
 use crate::schema::schema_of;
 use rg_bytes::Memory;
 use rg_event::Schema;
@@ -47,17 +47,20 @@ fn sizes(plan: &TaskPlan) -> [usize; 4] {
 }
 
 /// Whether each path of the plan of those alike leads where it is to.
-fn has_paths(plan: &TaskPlan) -> bool {
+fn has_paths(plan: &TaskPlan, checks: &mut Checks) -> bool {
     let paths = (plan.path(0, 0), plan.path(1, 0), plan.path(1, 1));
-    let is_right = paths == (Some(0), Some(1), Some(0));
-    is_right && plan.path(1, 2).is_none() && plan.path(2, 0).is_none()
+    let others = (plan.path(1, 2), plan.path(2, 0));
+    checks.same("paths", paths, (Some(0), Some(1), Some(0)))
+        && checks.same("paths of no aggregator", others, (None, None))
 }
 
 /// Whether a plan of 64 queries of 16 aggregators shares nothing.
-fn shares_nothing(plan: &TaskPlan) -> bool {
+fn shares_nothing(plan: &TaskPlan, checks: &mut Checks) -> bool {
     let paths = (plan.path(0, 15), plan.path(1, 0), plan.path(63, 15));
-    let is_apart = plan.queries() == 64 && sizes(plan) == [64, 64, 64, 1024];
-    is_apart && paths == (Some(15), Some(16), Some(1023)) && plan.nodes(64).is_none()
+    checks.same("queries", plan.queries(), 64)
+        && checks.same("sizes", sizes(plan), [64, 64, 64, 1024])
+        && checks.same("paths", paths, (Some(15), Some(16), Some(1023)))
+        && checks.same("there are nodes 64", plan.nodes(64).is_some(), false)
 }
 
 /// The plan of some queries.
@@ -84,20 +87,22 @@ impl Case {
         }
     }
 
-    fn is_of(&self, plan: &TaskPlan) -> bool {
+    fn is_of(&self, plan: &TaskPlan, checks: &mut Checks) -> bool {
         match self {
-            Case::Has(_, nodes, offsets) => sizes(plan).as_slice() == *nodes
-                && plan.offsets() == *offsets,
-            Case::Paths(_) => has_paths(plan),
-            Case::Apart(_) => shares_nothing(plan),
-            Case::Faulty(_, _) => false,
+            Case::Has(_, nodes, offsets) => {
+                checks.same("sizes", sizes(plan).as_slice(), *nodes)
+                    && checks.same("offsets", plan.offsets(), *offsets)
+            }
+            Case::Paths(_) => has_paths(plan, checks),
+            Case::Apart(_) => shares_nothing(plan, checks),
+            Case::Faulty(_, fault) => checks.fails("plan", plan, *fault),
         }
     }
 
-    fn has_fault(&self, fault: PlanFault) -> bool {
+    fn has_fault(&self, fault: PlanFault, checks: &mut Checks) -> bool {
         match self {
-            Case::Faulty(_, want) => *want == fault,
-            _ => false,
+            Case::Faulty(_, want) => checks.same("fault", fault, *want),
+            _ => checks.fails("fault", fault, "a plan"),
         }
     }
 }
@@ -138,54 +143,70 @@ fn set_apart(queries: &mut [Query]) {
 }
 
 /// Whether a copy of a plan is as the case says.
-fn is_copied(alloc: Global, plan: &TaskPlan, case: &Case) -> Result<bool, Memory> {
+fn is_copied(
+    alloc: Global,
+    plan: &TaskPlan,
+    case: &Case,
+    checks: &mut Checks,
+) -> Result<bool, Memory> {
     let copy = plan.copy(alloc)?;
-    let is_so = case.is_of(&copy);
+    let is_so = case.is_of(&copy, checks);
     drop(copy);
     Ok(is_so)
 }
 
 /// Whether the plan of queries is so, whose windows are measured.
-fn is_planned(alloc: Global, queries: &[Query], case: &Case) -> Result<bool, Memory> {
+fn is_planned(
+    alloc: Global,
+    queries: &[Query],
+    case: &Case,
+    checks: &mut Checks,
+) -> Result<bool, Memory> {
     if !are_measured(queries) {
-        return Ok(false);
+        return Ok(checks.fails("windows", queries, "measured ones"));
     }
     match compile(alloc, queries) {
         Ok(plan) => {
-            let is_so = is_copied(alloc, &plan, case);
+            let is_so = is_copied(alloc, &plan, case, checks);
             drop(plan);
             is_so
         }
-        Err(fault) => Ok(case.has_fault(fault)),
+        Err(fault) => Ok(case.has_fault(fault, checks)),
     }
 }
 
-/// The same of the queries of the case, which are pushed to none.
+/// Whether the plan of the queries of the case is so, which are pushed to none.
 fn is_pushed(
     alloc: Global,
     schema: &Schema,
     queries: &mut Vec<Query>,
     case: &Case,
+    checks: &mut Checks,
 ) -> Result<bool, Memory> {
     push_all(alloc, schema, queries, case.texts())?;
     if let Case::Apart(_) = case {
         set_apart(queries);
     }
-    is_planned(alloc, queries, case)
+    is_planned(alloc, queries, case, checks)
 }
 
-/// The same over a schema.
-fn is_so_of(alloc: Global, schema: &Schema, case: &Case) -> Result<bool, Memory> {
+/// Whether the case is so over a schema.
+fn is_so_of(
+    alloc: Global,
+    schema: &Schema,
+    case: &Case,
+    checks: &mut Checks,
+) -> Result<bool, Memory> {
     let mut queries = Vec::new(alloc);
-    let is_so = is_pushed(alloc, schema, &mut queries, case);
+    let is_so = is_pushed(alloc, schema, &mut queries, case, checks);
     drop(queries);
     is_so
 }
 
 impl Row for Case {
-    fn is_so(&self, alloc: Global) -> Result<bool, Memory> {
+    fn is_so(&self, alloc: Global, checks: &mut Checks) -> Result<bool, Memory> {
         let schema = schema_of(alloc, b"p(ts,card:text,a:int,b:int)")?;
-        let is_so = is_so_of(alloc, &schema, self);
+        let is_so = is_so_of(alloc, &schema, self, checks);
         drop(schema);
         is_so
     }

@@ -1,4 +1,4 @@
-use crate::rows::{Row, assert_each};
+use crate::rows::{Checks, Row, assert_each};
 use crate::schema::schema_of;
 use crate::written::{Written, is_written};
 use rg_bytes::Memory;
@@ -22,37 +22,58 @@ enum Case {
 }
 
 /// Whether a query, or its condition, is printed as the case says.
-fn is_said(alloc: Global, schema: &Schema, query: &Query, case: &Case) -> Result<bool, Memory> {
+fn is_said(
+    alloc: Global,
+    schema: &Schema,
+    query: &Query,
+    case: &Case,
+    checks: &mut Checks,
+) -> Result<bool, Memory> {
     match case {
-        Case::Query(_, want) => is_written(alloc, Written::Query(schema, query), want),
-        Case::Condition(_, want) => is_written(alloc, Written::Condition(schema, query), want),
-        Case::Agg(_, _) => Ok(false),
+        Case::Query(_, want) => is_written(alloc, Written::Query(schema, query), want, checks),
+        Case::Condition(_, want) => {
+            is_written(alloc, Written::Condition(schema, query), want, checks)
+        }
+        Case::Agg(agg, _) => Ok(checks.fails("printed", query, *agg)),
     }
 }
 
-/// The same of the query that a text says.
-fn is_read(alloc: Global, schema: &Schema, text: &[u8], case: &Case) -> Result<bool, Memory> {
+/// Whether the query that a text says is printed so.
+fn is_read(
+    alloc: Global,
+    schema: &Schema,
+    text: &[u8],
+    case: &Case,
+    checks: &mut Checks,
+) -> Result<bool, Memory> {
     match parse(alloc, schema, text) {
         Ok(query) => {
-            let is_so = is_said(alloc, schema, &query, case);
+            let is_so = is_said(alloc, schema, &query, case, checks);
             drop(query);
             is_so
         }
-        Err(_) => Ok(false),
+        Err(fault) => Ok(checks.fails("query", fault, "one that is read")),
     }
 }
 
-fn is_so_of(alloc: Global, schema: &Schema, case: &Case) -> Result<bool, Memory> {
+fn is_so_of(
+    alloc: Global,
+    schema: &Schema,
+    case: &Case,
+    checks: &mut Checks,
+) -> Result<bool, Memory> {
     match case {
-        Case::Query(text, _) | Case::Condition(text, _) => is_read(alloc, schema, text, case),
-        Case::Agg(agg, want) => is_written(alloc, Written::Agg(schema, agg), want),
+        Case::Query(text, _) | Case::Condition(text, _) => {
+            is_read(alloc, schema, text, case, checks)
+        }
+        Case::Agg(agg, want) => is_written(alloc, Written::Agg(schema, agg), want, checks),
     }
 }
 
 impl Row for Case {
-    fn is_so(&self, alloc: Global) -> Result<bool, Memory> {
+    fn is_so(&self, alloc: Global, checks: &mut Checks) -> Result<bool, Memory> {
         let schema = schema_of(alloc, STREAM)?;
-        let is_so = is_so_of(alloc, &schema, self);
+        let is_so = is_so_of(alloc, &schema, self, checks);
         drop(schema);
         is_so
     }

@@ -1,4 +1,4 @@
-use crate::rows::{Row, assert_each};
+use crate::rows::{Checks, Row, assert_each};
 use crate::written::{Written, is_written};
 use rg_bytes::{Memory, put_bytes};
 use rg_event::{Schema, SchemaFault};
@@ -25,22 +25,32 @@ enum Case {
 }
 
 /// Whether a copy of a schema is written as this text.
-fn is_copied(alloc: Global, schema: &Schema, text: &[u8]) -> Result<bool, Memory> {
+fn is_copied(
+    alloc: Global,
+    schema: &Schema,
+    text: &[u8],
+    checks: &mut Checks,
+) -> Result<bool, Memory> {
     let copy = schema.copy(alloc)?;
-    let is_so = is_written(alloc, Written::Schema(&copy), text);
+    let is_so = is_written(alloc, Written::Schema(&copy), text, checks);
     drop(copy);
     is_so
 }
 
 /// Whether a text is a schema's, and the same is written of a copy of it; where it is to be none's, whether it is none's.
-fn is_as_said(alloc: Global, text: &[u8], is_one: bool) -> Result<bool, Memory> {
+fn is_as_said(
+    alloc: Global,
+    text: &[u8],
+    is_one: bool,
+    checks: &mut Checks,
+) -> Result<bool, Memory> {
     match Schema::parse(alloc, text) {
         Ok(schema) => {
-            let is_kept = is_copied(alloc, &schema, text);
+            let is_kept = is_copied(alloc, &schema, text, checks);
             drop(schema);
-            Ok(is_kept? && is_one)
+            Ok(is_kept? && checks.same("it is a schema", true, is_one))
         }
-        Err(SchemaFault::Bad) => Ok(!is_one),
+        Err(SchemaFault::Bad) => Ok(checks.same("it is a schema", false, is_one)),
         Err(SchemaFault::Memory) => Err(Memory),
     }
 }
@@ -58,11 +68,16 @@ fn put_wide(out: &mut Vec<u8>, columns: usize) -> Result<(), Memory> {
     put_bytes(out, b")")
 }
 
-/// The same of the text with so many columns.
-fn is_wide_as_said(alloc: Global, columns: usize, is_one: bool) -> Result<bool, Memory> {
+/// Whether the text with so many columns is a schema's, or isn't.
+fn is_wide_as_said(
+    alloc: Global,
+    columns: usize,
+    is_one: bool,
+    checks: &mut Checks,
+) -> Result<bool, Memory> {
     let mut text = Vec::new(alloc);
     let is_so = match put_wide(&mut text, columns) {
-        Ok(()) => is_as_said(alloc, &text, is_one),
+        Ok(()) => is_as_said(alloc, &text, is_one, checks),
         Err(memory) => Err(memory),
     };
     drop(text);
@@ -70,11 +85,11 @@ fn is_wide_as_said(alloc: Global, columns: usize, is_one: bool) -> Result<bool, 
 }
 
 impl Row for Case {
-    fn is_so(&self, alloc: Global) -> Result<bool, Memory> {
+    fn is_so(&self, alloc: Global, checks: &mut Checks) -> Result<bool, Memory> {
         match self {
-            Case::Kept(text) => is_as_said(alloc, text, true),
-            Case::Bad(text) => is_as_said(alloc, text, false),
-            Case::Wide(columns, is_one) => is_wide_as_said(alloc, *columns, *is_one),
+            Case::Kept(text) => is_as_said(alloc, text, true, checks),
+            Case::Bad(text) => is_as_said(alloc, text, false, checks),
+            Case::Wide(columns, is_one) => is_wide_as_said(alloc, *columns, *is_one, checks),
         }
     }
 }

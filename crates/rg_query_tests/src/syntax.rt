@@ -1,5 +1,5 @@
 use crate::built::{Times, put_parts};
-use crate::rows::{Row, assert_each};
+use crate::rows::{Checks, Row, assert_each};
 use rg_bytes::Memory;
 use rg_keywords::{Func, TimeUnit};
 use rg_parse::{Call, Duration, Expr, Raw, Span, SyntaxFault, read_syntax};
@@ -41,60 +41,56 @@ const DELAY: Duration = Duration {
     unit: TimeUnit::Millisecond,
 };
 
-/// Whether these are a count and a sum of the amount.
-fn are_calls(calls: &[Call]) -> bool {
+/// Whether its calls are a count and a sum of the amount.
+fn are_calls(calls: &[Call], checks: &mut Checks) -> bool {
     match calls {
-        [Call::CountAll, Call::Field(Func::Sum, field)] => *field == AMOUNT,
-        _ => false,
+        [Call::CountAll, Call::Field(Func::Sum, field)] => checks.same("field", *field, AMOUNT),
+        _ => checks.fails("calls", calls, "a count and a sum"),
     }
 }
 
-/// Whether a key is of those two columns.
-fn are_columns(group: &[Span]) -> bool {
-    match group {
-        [card, shop] => *card == CARD && *shop == SHOP,
-        _ => false,
-    }
+/// Whether a filter is of two conditions that hold.
+fn is_filter(filter: &Option<Expr>, checks: &mut Checks) -> bool {
+    matches!(filter, Some(Expr::And(_, _))) || checks.fails("filter", filter, "an AND")
 }
 
 /// Whether a query has every clause of that one, where two conditions hold.
-fn is_of_every_clause(raw: &Raw) -> bool {
-    are_calls(raw.calls.as_slice())
-        && raw.stream == PAYMENTS
-        && matches!(&raw.filter, Some(Expr::And(_, _)))
-        && are_columns(raw.group.as_slice())
-        && raw.length == Some(LENGTH)
-        && raw.delay == Some(DELAY)
+fn is_of_every_clause(raw: &Raw, checks: &mut Checks) -> bool {
+    are_calls(raw.calls.as_slice(), checks)
+        && checks.same("stream", raw.stream, PAYMENTS)
+        && is_filter(&raw.filter, checks)
+        && checks.same("key", raw.group.as_slice(), [CARD, SHOP].as_slice())
+        && checks.same("length", raw.length, Some(LENGTH))
+        && checks.same("delay", raw.delay, Some(DELAY))
 }
 
 /// Whether that query is read.
-fn is_read(alloc: Global) -> bool {
+fn is_read(alloc: Global, checks: &mut Checks) -> bool {
     match read_syntax(alloc, EVERY_CLAUSE) {
         Ok(raw) => {
-            let is_so = is_of_every_clause(&raw);
+            let is_so = is_of_every_clause(&raw, checks);
             drop(raw);
             is_so
         }
-        Err(_) => false,
+        Err(fault) => checks.fails("query", fault, "one of every clause"),
     }
 }
 
 /// Whether a text is a query, or none for this cause.
-fn is_read_so(alloc: Global, text: &[u8], want: Option<SyntaxFault>) -> bool {
-    match read_syntax(alloc, text) {
-        Ok(raw) => {
-            drop(raw);
-            want.is_none()
-        }
-        Err(fault) => want == Some(fault),
-    }
+fn is_read_so(alloc: Global, text: &[u8], want: Option<SyntaxFault>, checks: &mut Checks) -> bool {
+    checks.same("fault", read_syntax(alloc, text).err(), want)
 }
 
 /// Whether the text of these parts is no query for this cause.
-fn is_built_so(alloc: Global, parts: &[Times], fault: SyntaxFault) -> Result<bool, Memory> {
+fn is_built_so(
+    alloc: Global,
+    parts: &[Times],
+    fault: SyntaxFault,
+    checks: &mut Checks,
+) -> Result<bool, Memory> {
     let mut text = Vec::new(alloc);
     let put = put_parts(&mut text, parts);
-    let is_so = is_read_so(alloc, &text, Some(fault));
+    let is_so = is_read_so(alloc, &text, Some(fault), checks);
     drop(text);
     put?;
     Ok(is_so)
@@ -114,12 +110,14 @@ enum Case {
 }
 
 impl Row for Case {
-    fn is_so(&self, alloc: Global) -> Result<bool, Memory> {
+    fn is_so(&self, alloc: Global, checks: &mut Checks) -> Result<bool, Memory> {
         match self {
-            Case::EveryClause => Ok(is_read(alloc)),
-            Case::Read(text) => Ok(is_read_so(alloc, text, None)),
-            Case::Wrong(text, place) => Ok(is_read_so(alloc, text, Some(SyntaxFault::At(*place)))),
-            Case::Nested(parts, fault) => is_built_so(alloc, parts, *fault),
+            Case::EveryClause => Ok(is_read(alloc, checks)),
+            Case::Read(text) => Ok(is_read_so(alloc, text, None, checks)),
+            Case::Wrong(text, place) => {
+                Ok(is_read_so(alloc, text, Some(SyntaxFault::At(*place)), checks))
+            }
+            Case::Nested(parts, fault) => is_built_so(alloc, parts, *fault, checks),
         }
     }
 }

@@ -1,4 +1,4 @@
-use crate::rows::{Row, assert_each};
+use crate::rows::{Checks, Row, assert_each};
 use rg_bytes::Memory;
 use rg_keywords::{Op, Symbol};
 use rg_token::{Piece, Shape, pieces};
@@ -13,18 +13,19 @@ const NOT_EQUAL: Shape = Shape::Sign(Symbol::Compare(Op::Ne));
 #[derive(Clone, Copy)]
 struct Token(usize, usize, Shape);
 
-fn is(piece: &Piece, token: Token) -> bool {
-    piece.start == token.0 && piece.end == token.1 && piece.shape == token.2
+fn is(piece: &Piece, token: Token, checks: &mut Checks) -> bool {
+    let came = (piece.start, piece.end, piece.shape);
+    checks.same("token", came, (token.0, token.1, token.2))
 }
 
 /// Whether the pieces are these tokens.
-fn are(pieces: &[Piece], tokens: &[Token]) -> bool {
+fn are(pieces: &[Piece], tokens: &[Token], checks: &mut Checks) -> bool {
     for (piece, token) in pieces.iter().zip(tokens) {
-        if !is(piece, *token) {
+        if !is(piece, *token, checks) {
             return false;
         }
     }
-    pieces.len() == tokens.len()
+    checks.same("tokens", pieces.len(), tokens.len())
 }
 
 /// A text has these tokens, and they end there.
@@ -32,9 +33,10 @@ fn are(pieces: &[Piece], tokens: &[Token]) -> bool {
 struct Case(&'static [u8], &'static [Token], usize);
 
 impl Row for Case {
-    fn is_so(&self, alloc: Global) -> Result<bool, Memory> {
+    fn is_so(&self, alloc: Global, checks: &mut Checks) -> Result<bool, Memory> {
         let lexed = pieces(alloc, self.0)?;
-        let is_so = are(lexed.pieces.as_slice(), self.1) && lexed.end == self.2;
+        let is_so = are(lexed.pieces.as_slice(), self.1, checks)
+            && checks.same("end", lexed.end, self.2);
         drop(lexed);
         Ok(is_so)
     }

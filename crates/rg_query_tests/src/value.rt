@@ -1,4 +1,4 @@
-use crate::rows::{Row, assert_each};
+use crate::rows::{Checks, Row, assert_each};
 use crate::written::{Written, is_written};
 use rg_bytes::{ByteReader, Memory};
 use rg_event::{EventFault, Kind, Value, get_tagged, parse_value};
@@ -8,25 +8,42 @@ use std::test::Fail;
 
 /// Whether a text is a value of this kind that has these bytes, tag and all; where there are none, that it is no
 /// value.
-fn is_value(alloc: Global, kind: Kind, text: &[u8], want: &[u8]) -> Result<bool, Memory> {
+fn is_value(
+    alloc: Global,
+    kind: Kind,
+    text: &[u8],
+    want: &[u8],
+    checks: &mut Checks,
+) -> Result<bool, Memory> {
     match parse_value(alloc, kind, text)? {
         Some(value) => {
-            let is_so = is_written(alloc, Written::Value(&value), want);
+            let is_so = is_written(alloc, Written::Value(&value), want, checks);
             drop(value);
             is_so
         }
-        None => Ok(want.is_empty()),
+        None => Ok(want.is_empty() || checks.fails("value", "none", want)),
     }
 }
 
 /// Whether a text of so many letters is a value, or isn't.
-fn is_long(alloc: Global, letters: usize, is_one: bool) -> Result<bool, Memory> {
+fn is_long(
+    alloc: Global,
+    letters: usize,
+    is_one: bool,
+    checks: &mut Checks,
+) -> Result<bool, Memory> {
     let text = [b'a'; 256];
     let mut tagged = [b'a'; 257];
     tagged[0] = 3;
     tagged[1] = 255;
     let want = if is_one { tagged.as_slice() } else { b"" };
-    is_value(alloc, Kind::Text, text.get(..letters).unwrap_or(b""), want)
+    is_value(
+        alloc,
+        Kind::Text,
+        text.get(..letters).unwrap_or(b""),
+        want,
+        checks,
+    )
 }
 
 /// The value that these bytes are, tag and all, or why they are none.
@@ -51,21 +68,25 @@ fn order_of_both(alloc: Global, first: &[u8], second: &[u8]) -> Result<Ordering,
 }
 
 /// Whether they compare so.
-fn compare(alloc: Global, first: &[u8], second: &[u8], want: Ordering) -> bool {
-    match order_of_both(alloc, first, second) {
-        Ok(order) => order == want,
-        Err(_) => false,
-    }
+fn compare(
+    alloc: Global,
+    first: &[u8],
+    second: &[u8],
+    want: Ordering,
+    checks: &mut Checks,
+) -> bool {
+    checks.same("order", order_of_both(alloc, first, second), Ok(want))
 }
 
 /// Whether these bytes are no value for this cause.
-fn is_faulty(alloc: Global, bytes: &[u8], want: EventFault) -> bool {
+fn is_faulty(alloc: Global, bytes: &[u8], want: EventFault, checks: &mut Checks) -> bool {
     match value_of(alloc, bytes) {
         Ok(value) => {
+            checks.fails("tagged value", &value, want);
             drop(value);
             false
         }
-        Err(fault) => fault == want,
+        Err(fault) => checks.same("fault", fault, want),
     }
 }
 
@@ -83,12 +104,14 @@ enum Case {
 }
 
 impl Row for Case {
-    fn is_so(&self, alloc: Global) -> Result<bool, Memory> {
+    fn is_so(&self, alloc: Global, checks: &mut Checks) -> Result<bool, Memory> {
         match self {
-            Case::Says(kind, text, want) => is_value(alloc, *kind, text, want),
-            Case::Long(letters, is_one) => is_long(alloc, *letters, *is_one),
-            Case::Compares(first, second, want) => Ok(compare(alloc, first, second, *want)),
-            Case::Faulty(bytes, fault) => Ok(is_faulty(alloc, bytes, *fault)),
+            Case::Says(kind, text, want) => is_value(alloc, *kind, text, want, checks),
+            Case::Long(letters, is_one) => is_long(alloc, *letters, *is_one, checks),
+            Case::Compares(first, second, want) => {
+                Ok(compare(alloc, first, second, *want, checks))
+            }
+            Case::Faulty(bytes, fault) => Ok(is_faulty(alloc, bytes, *fault, checks)),
         }
     }
 }

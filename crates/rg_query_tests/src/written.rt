@@ -1,3 +1,4 @@
+use crate::rows::Checks;
 use rg_bytes::{
     Memory, put_bytes, put_i64, put_i128, put_u8, put_u32, put_u64, write_signed, write_whole,
 };
@@ -88,18 +89,21 @@ fn put_behind(alloc: Global, written: Written<'_>, out: &mut Vec<u8>) -> Result<
 }
 
 /// Whether these bytes stand behind what stood.
-fn are_behind(out: &[u8], want: &[u8]) -> bool {
-    match out.split_first() {
-        Some((first, behind)) => *first == b'x' && behind == want,
-        None => false,
-    }
+fn are_behind(out: &[u8], want: &[u8], checks: &mut Checks) -> bool {
+    let (before, behind) = out.split_at(1.min(out.len()));
+    checks.same_bytes("bytes before", before, b"x") && checks.same_bytes("written", behind, want)
 }
 
 /// Whether it is written as these bytes, behind what stands.
-pub(crate) fn is_written(alloc: Global, written: Written<'_>, want: &[u8]) -> Result<bool, Memory> {
+pub(crate) fn is_written(
+    alloc: Global,
+    written: Written<'_>,
+    want: &[u8],
+    checks: &mut Checks,
+) -> Result<bool, Memory> {
     let mut out = Vec::new(alloc);
     let put = put_behind(alloc, written, &mut out);
-    let is_so = are_behind(&out, want);
+    let is_so = are_behind(&out, want, checks);
     drop(out);
     put?;
     Ok(is_so)

@@ -1,4 +1,4 @@
-use crate::common::{Item, Subject, are_same, value_of};
+use crate::common::{Checks, Item, Subject, value_of};
 use crate::mixed::mixes;
 use rg_agg::{Aggregate, Answer, StateFault, Unfit};
 use rg_bytes::ByteReader;
@@ -35,16 +35,24 @@ pub(crate) enum Step<'a> {
 }
 
 /// Whether a value is added, where the state's function takes it.
-fn adds(state: &mut AggState, value: &Value) -> bool {
+fn adds(state: &mut AggState, value: &Value, checks: &mut Checks) -> bool {
     let func = state.func();
-    is_admitted(func, value) && state.add_fit(func, value).is_ok()
+    if !is_admitted(func, value) {
+        return checks.fails("value", value, func);
+    }
+    checks.same("addition", state.add_fit(func, value), Ok(()))
 }
 
-/// The same of a value that is made for it.
-pub(crate) fn adds_item(alloc: Global, state: &mut AggState, item: &Item) -> bool {
+/// Whether a value that is made for it is added.
+pub(crate) fn adds_item(
+    alloc: Global,
+    state: &mut AggState,
+    item: &Item,
+    checks: &mut Checks,
+) -> bool {
     match value_of(alloc, item) {
         Some(value) => {
-            let is_so = adds(state, &value);
+            let is_so = adds(state, &value, checks);
             drop(value);
             is_so
         }
@@ -58,10 +66,11 @@ fn removes<A: Aggregate>(
     state: &mut A,
     item: &Item,
     want: Result<(), Unfit>,
+    checks: &mut Checks,
 ) -> bool {
     match value_of(alloc, item) {
         Some(value) => {
-            let is_so = state.remove(&value) == want;
+            let is_so = checks.same("removal", state.remove(&value), want);
             drop(value);
             is_so
         }
@@ -70,12 +79,12 @@ fn removes<A: Aggregate>(
 }
 
 /// Whether a state of some values is written as these bytes.
-fn is_written<A: Aggregate>(alloc: Global, state: &A, want: &[u8]) -> bool {
+fn is_written<A: Aggregate>(alloc: Global, state: &A, want: &[u8], checks: &mut Checks) -> bool {
     if state.is_empty() {
-        return false;
+        return checks.fails("state", "of no values", want);
     }
     let mut out = Vec::new(alloc);
-    let is_so = state.encode(&mut out).is_ok() && are_same(&out, want);
+    let is_so = state.encode(&mut out).is_ok() && checks.same_bytes("written", &out, want);
     drop(out);
     is_so
 }
@@ -86,70 +95,84 @@ fn reads<A: Aggregate + Drop>(
     bytes: &[u8],
     state: &mut A,
     want: Option<StateFault>,
+    checks: &mut Checks,
 ) -> bool {
     match A::decode(alloc, &mut ByteReader::new(bytes)) {
         Ok(read) => {
             *state = read;
-            want.is_none()
+            checks.same("fault", None, want)
         }
-        Err(fault) => want == Some(fault),
+        Err(fault) => checks.same("fault", Some(fault), want),
     }
 }
 
-/// The same of these bytes and others behind them.
+/// Whether reading one of these bytes and others behind them does.
 fn reads_behind<A: Aggregate + Drop>(
     alloc: Global,
     front: &[u8],
     bytes: &[u8],
     state: &mut A,
     want: Option<StateFault>,
+    checks: &mut Checks,
 ) -> bool {
     let mut all = Vec::new(alloc);
     let is_so = all.extend_from_slice(front).is_ok()
         && all.extend_from_slice(bytes).is_ok()
-        && reads(alloc, &all, state, want);
+        && reads(alloc, &all, state, want, checks);
     drop(all);
     is_so
 }
 
 /// Whether a state does or says so.
-fn does<A: Aggregate + Drop>(alloc: Global, state: &mut A, step: &Step<'_>) -> bool {
+fn does<A: Aggregate + Drop>(
+    alloc: Global,
+    state: &mut A,
+    step: &Step<'_>,
+    checks: &mut Checks,
+) -> bool {
     match step {
-        Step::Remove(item) => removes(alloc, state, item, Ok(())),
-        Step::Refuse(item) => removes(alloc, state, item, Err(Unfit)),
-        Step::Writes(bytes) => is_written(alloc, state, bytes),
-        Step::Answers(answer) => state.answer() == *answer,
-        Step::Counts(size) => state.size() == *size,
-        Step::Is(kind) => state.kind() == *kind,
-        Step::IsEmpty => state.is_empty(),
-        Step::Reads(front, bytes) => reads_behind(alloc, front, bytes, state, None),
-        Step::Fails(fault, front, bytes) => reads_behind(alloc, front, bytes, state, Some(*fault)),
+        Step::Remove(item) => removes(alloc, state, item, Ok(()), checks),
+        Step::Refuse(item) => removes(alloc, state, item, Err(Unfit), checks),
+        Step::Writes(bytes) => is_written(alloc, state, bytes, checks),
+        Step::Answers(answer) => checks.same("answer", state.answer(), *answer),
+        Step::Counts(size) => checks.same("size", state.size(), *size),
+        Step::Is(kind) => checks.same("kind", state.kind(), *kind),
+        Step::IsEmpty => checks.same("is_empty", state.is_empty(), true),
+        Step::Reads(front, bytes) => reads_behind(alloc, front, bytes, state, None, checks),
+        Step::Fails(fault, front, bytes) => {
+            reads_behind(alloc, front, bytes, state, Some(*fault), checks)
+        }
         _ => false,
     }
 }
 
-/// The same of the state of one of the aggregators.
-pub(crate) fn state_does(alloc: Global, state: &mut AggState, step: &Step<'_>) -> bool {
+/// Whether the state of one of the aggregators does or says so.
+pub(crate) fn state_does(
+    alloc: Global,
+    state: &mut AggState,
+    step: &Step<'_>,
+    checks: &mut Checks,
+) -> bool {
     match state {
-        AggState::Count(state) => does(alloc, state, step),
-        AggState::Sum(state) => does(alloc, state, step),
-        AggState::Avg(state) => does(alloc, state, step),
-        AggState::SumSq(state) => does(alloc, state, step),
-        AggState::Min(state) => does(alloc, &mut **state, step),
-        AggState::Max(state) => does(alloc, &mut **state, step),
-        AggState::Distinct(state) => does(alloc, &mut **state, step),
-        AggState::Rank(state) => does(alloc, &mut **state, step),
-        AggState::First(state) => does(alloc, &mut **state, step),
-        AggState::Last(state) => does(alloc, &mut **state, step),
+        AggState::Count(state) => does(alloc, state, step, checks),
+        AggState::Sum(state) => does(alloc, state, step, checks),
+        AggState::Avg(state) => does(alloc, state, step, checks),
+        AggState::SumSq(state) => does(alloc, state, step, checks),
+        AggState::Min(state) => does(alloc, &mut **state, step, checks),
+        AggState::Max(state) => does(alloc, &mut **state, step, checks),
+        AggState::Distinct(state) => does(alloc, &mut **state, step, checks),
+        AggState::Rank(state) => does(alloc, &mut **state, step, checks),
+        AggState::First(state) => does(alloc, &mut **state, step, checks),
+        AggState::Last(state) => does(alloc, &mut **state, step, checks),
     }
 }
 
 /// Whether an extreme keeps so many pairs.
-pub(crate) fn keeps(state: &AggState, pairs: u64) -> bool {
+pub(crate) fn keeps(state: &AggState, pairs: u64, checks: &mut Checks) -> bool {
     match state {
-        AggState::Min(state) => state.pairs() == pairs,
-        AggState::Max(state) => state.pairs() == pairs,
-        _ => false,
+        AggState::Min(state) => checks.same("pairs", state.pairs(), pairs),
+        AggState::Max(state) => checks.same("pairs", state.pairs(), pairs),
+        _ => checks.fails("pairs", "none", pairs),
     }
 }
 
@@ -160,7 +183,7 @@ impl Subject for AggState {
         AggState::empty(alloc, Func::Count).ok()
     }
 
-    fn goes(&mut self, alloc: Global, step: &Step<'static>) -> bool {
+    fn goes(&mut self, alloc: Global, step: &Step<'static>, checks: &mut Checks) -> bool {
         match step {
             Step::New(func) => match AggState::empty(alloc, *func).ok() {
                 Some(state) => {
@@ -169,10 +192,10 @@ impl Subject for AggState {
                 }
                 None => false,
             },
-            Step::Add(item) => adds_item(alloc, self, item),
-            Step::Keeps(pairs) => keeps(self, *pairs),
-            Step::Mixed(greatest) => mixes(alloc, self, *greatest),
-            _ => state_does(alloc, self, step),
+            Step::Add(item) => adds_item(alloc, self, item, checks),
+            Step::Keeps(pairs) => keeps(self, *pairs, checks),
+            Step::Mixed(greatest) => mixes(alloc, self, *greatest, checks),
+            _ => state_does(alloc, self, step, checks),
         }
     }
 }

@@ -1,7 +1,7 @@
 ghost use Rattle.std.specs.Prelude.{◌≡◌, ◌<◌};
 
 use crate::check::{are_within, fits};
-use crate::common::{Subject, assert_goes, bare};
+use crate::common::{Checks, Subject, assert_goes, bare};
 use rg_event::Event;
 use rg_past::{Past, PastFault, Spot, VecPast};
 use rg_window::{Edges, MoveFault, Visit};
@@ -9,7 +9,7 @@ use std::alloc::Global;
 use std::test::Fail;
 
 /// Why the recorder stopped.
-#[derive(Clone, Copy, PartialEq, Eq)]
+#[derive(Clone, Copy, Debug, PartialEq, Eq)]
 enum Stop {
     Refused,
     Memory,
@@ -85,52 +85,67 @@ fn adds(
     offset: u64,
     time: u64,
     want: Result<(), PastFault>,
+    checks: &mut Checks,
 ) -> bool {
     let event = bare(alloc, offset, time);
-    fits(past.events(), &event) && past.append(event) == want
+    fits(past.events(), &event) && checks.same("append", past.append(event), want)
 }
 
-fn is_at(past: &VecPast, number: usize, offset: u64, time: u64) -> bool {
+fn is_at(past: &VecPast, number: usize, offset: u64, time: u64, checks: &mut Checks) -> bool {
     match past.events().get(number) {
-        Some(event) => event.offset == offset && event.time == time,
-        None => false,
+        Some(event) => checks.same("event", (event.offset, event.time), (offset, time)),
+        None => checks.fails("event", "none", (offset, time)),
     }
 }
 
 /// Whether a walk meets an event of this offset, and goes on, or the end.
-fn meets<P: Past>(past: &mut P, spot: &mut Spot, offset: Option<u64>) -> bool {
+fn meets<P: Past>(past: &mut P, spot: &mut Spot, offset: Option<u64>, checks: &mut Checks) -> bool {
     if past.count() < spot.number {
-        return false;
+        return checks.fails("events", past.count(), spot.number);
     }
     match past.peek(spot) {
         Ok(Some(event)) => {
             let met = event.offset;
             past.advance(spot);
-            offset == Some(met)
+            checks.same("offset", Some(met), offset)
         }
-        Ok(None) => offset.is_none(),
-        Err(_) => false,
+        Ok(None) => checks.same("offset", None, offset),
+        Err(fault) => checks.fails("offset", fault, offset),
     }
 }
 
 /// Whether the edges move to this time, or halt, and so many events were visited then.
-fn moves(tried: &mut Tried, t: u64, count: usize, want: Result<(), MoveFault<Stop>>) -> bool {
-    are_within(tried.edges.spots(), tried.past.events().len())
-        && tried.edges.move_to(&mut tried.past, t, &mut tried.seen) == want
-        && tried.seen.visits.len() == count
+fn moves(
+    tried: &mut Tried,
+    t: u64,
+    count: usize,
+    want: Result<(), MoveFault<Stop>>,
+    checks: &mut Checks,
+) -> bool {
+    if !are_within(tried.edges.spots(), tried.past.events().len()) {
+        return false;
+    }
+    let moved = tried.edges.move_to(&mut tried.past, t, &mut tried.seen);
+    checks.same("move", moved, want) && checks.same("visits", tried.seen.visits.len(), count)
 }
 
-fn has_visited(seen: &Recorder, number: usize, edge: u32, offset: u64) -> bool {
+fn has_visited(
+    seen: &Recorder,
+    number: usize,
+    edge: u32,
+    offset: u64,
+    checks: &mut Checks,
+) -> bool {
     match seen.visits.get(number) {
-        Some((one, other)) => *one == edge && *other == offset,
-        None => false,
+        Some(visit) => checks.same("visit", *visit, (edge, offset)),
+        None => checks.fails("visit", "none", (edge, offset)),
     }
 }
 
-fn are_at(edges: &Edges, low: u64, high: u64) -> bool {
+fn are_at(edges: &Edges, low: u64, high: u64, checks: &mut Checks) -> bool {
     match edges.spots() {
-        [first, second] => first.number == low && second.number == high,
-        _ => false,
+        [first, second] => checks.same("numbers", (first.number, second.number), (low, high)),
+        spots => checks.fails("edges", spots.len(), 2),
     }
 }
 
@@ -163,17 +178,24 @@ fn renew(alloc: Global, tried: &mut Tried, limit: u64, low: u64, high: u64) -> b
 }
 
 /// Whether edges or the recorder do or say so.
-fn goes_on(tried: &mut Tried, step: &Step) -> bool {
+fn goes_on(tried: &mut Tried, step: &Step, checks: &mut Checks) -> bool {
     match step {
         Step::Refuse(offset) => {
             tried.seen.refused = *offset;
             true
         }
-        Step::Move(t, count) => moves(tried, *t, *count, Ok(())),
-        Step::Halt(t, count) => moves(tried, *t, *count, Err(MoveFault::Visit(Stop::Refused))),
-        Step::Visited(number, edge, offset) => has_visited(&tried.seen, *number, *edge, *offset),
-        Step::At(low, high) => are_at(&tried.edges, *low, *high),
-        Step::Offsets(low, high) => tried.edges.offsets() == [*low, *high].as_slice(),
+        Step::Move(t, count) => moves(tried, *t, *count, Ok(()), checks),
+        Step::Halt(t, count) => {
+            let refused = Err(MoveFault::Visit(Stop::Refused));
+            moves(tried, *t, *count, refused, checks)
+        }
+        Step::Visited(number, edge, offset) => {
+            has_visited(&tried.seen, *number, *edge, *offset, checks)
+        }
+        Step::At(low, high) => are_at(&tried.edges, *low, *high, checks),
+        Step::Offsets(low, high) => {
+            checks.same("offsets", tried.edges.offsets(), [*low, *high].as_slice())
+        }
         _ => false,
     }
 }
@@ -185,19 +207,23 @@ impl Subject for Tried {
         tried_of(alloc, 3, 0, 10)
     }
 
-    fn goes(&mut self, alloc: Global, step: &Step) -> bool {
+    fn goes(&mut self, alloc: Global, step: &Step, checks: &mut Checks) -> bool {
         match step {
             Step::New(limit, low, high) => renew(alloc, self, *limit, *low, *high),
-            Step::Event(offset, time) => adds(alloc, &mut self.past, *offset, *time, Ok(())),
+            Step::Event(offset, time) => {
+                adds(alloc, &mut self.past, *offset, *time, Ok(()), checks)
+            }
             Step::Full(offset, time) => {
-                adds(alloc, &mut self.past, *offset, *time, Err(PastFault::Full))
+                let full = Err(PastFault::Full);
+                adds(alloc, &mut self.past, *offset, *time, full, checks)
             }
             Step::Counts(count, limit) => {
-                self.past.count() == *count && self.past.limit() == *limit
+                let counts = (self.past.count(), self.past.limit());
+                checks.same("count and limit", counts, (*count, *limit))
             }
-            Step::Is(number, offset, time) => is_at(&self.past, *number, *offset, *time),
-            Step::Meets(offset) => meets(&mut self.past, &mut self.spot, *offset),
-            _ => goes_on(self, step),
+            Step::Is(number, offset, time) => { is_at(&self.past, *number, *offset, *time, checks) }
+            Step::Meets(offset) => meets(&mut self.past, &mut self.spot, *offset, checks),
+            _ => goes_on(self, step, checks),
         }
     }
 }

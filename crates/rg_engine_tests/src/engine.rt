@@ -1,7 +1,7 @@
 ghost use Rattle.std.specs.Prelude.{◌≡◌, ◌<◌, length, IfOk, IfSome};
 
 use crate::check::{are_within, fits};
-use crate::common::{Item, Subject, assert_goes, event_of};
+use crate::common::{Checks, Item, Subject, assert_goes, event_of};
 use crate::plans::{Ask, plan_of};
 use crate::table::{Written, writes};
 use rg_engine::{Engine, EngineFault};
@@ -202,22 +202,27 @@ fn engine_of(alloc: Global, past: &VecPast) -> Option<Engine<MemTable>> {
     }
 }
 
-fn is_first(answers: &Answers, first: Option<Answer>) -> bool {
+fn is_first(answers: &Answers, first: Option<Answer>, checks: &mut Checks) -> bool {
     match (answers.as_slice().first(), first) {
-        (Some(answer), Some(want)) => *answer == want,
-        _ => false,
+        (Some(answer), Some(want)) => checks.same("first answer", *answer, want),
+        (answer, want) => checks.fails("first answer", answer, want),
     }
 }
 
 /// Whether there is such a first answer, or without one a refusal since the past is full.
-fn ends_so(taken: Result<Answers, EngineFault>, first: Option<Answer>) -> bool {
-    match taken {
-        Ok(answers) => {
-            let is_so = is_first(&answers, first);
+fn ends_so(
+    taken: Result<Answers, EngineFault>,
+    first: Option<Answer>,
+    checks: &mut Checks,
+) -> bool {
+    match (taken, first) {
+        (Ok(answers), first) => {
+            let is_so = is_first(&answers, first, checks);
             drop(answers);
             is_so
         }
-        Err(fault) => first.is_none() && fault == EngineFault::Past(PastFault::Full),
+        (Err(fault), None) => checks.same("fault", fault, EngineFault::Past(PastFault::Full)),
+        (Err(fault), Some(want)) => checks.fails("first answer", fault, want),
     }
 }
 
@@ -228,6 +233,7 @@ fn takes<L: Ledger>(
     past: &mut VecPast,
     event: Event,
     first: Option<Answer>,
+    checks: &mut Checks,
 ) -> bool
     requires named { blank.name ≡ L.name }
     requires parts { blank.parts ≡ L.parts }
@@ -238,7 +244,7 @@ fn takes<L: Ledger>(
     }
     let mut steps = Steps::<L>::new(blank);
     let taken = engine.take(past, event, &mut steps);
-    ends_so(taken, first)
+    ends_so(taken, first, checks)
 }
 
 /// The same of an event of this offset, this time and these values, with a ledger of its own.
@@ -249,26 +255,28 @@ fn takes_values(
     time: u64,
     items: &[Item],
     first: Option<Answer>,
+    checks: &mut Checks,
 ) -> Option<bool> {
     let engine = tried.engine.as_mut()?;
     let event = event_of(alloc, offset, time, items)?;
-    Some(takes::<Brand>(Blank::new(1), engine, &mut tried.past, event, first))
+    let blank = Blank::new(1);
+    Some(takes::<Brand>(blank, engine, &mut tried.past, event, first, checks))
 }
 
-fn is_at(tried: &Tried, number: u64) -> bool {
+fn is_at(tried: &Tried, number: u64, checks: &mut Checks) -> bool {
     match &tried.engine {
         Some(engine) => match engine.spots().first() {
-            Some(spot) => spot.number == number,
-            None => false,
+            Some(spot) => checks.same("number", spot.number, number),
+            None => checks.fails("number", "no edge", number),
         },
-        None => false,
+        None => checks.fails("number", "no engine", number),
     }
 }
 
-fn hands_back(alloc: Global, tried: &mut Tried, count: &[u8]) -> Option<bool> {
+fn hands_back(alloc: Global, tried: &mut Tried, count: &[u8], checks: &mut Checks) -> Option<bool> {
     let engine = tried.engine.take()?;
     let mut table = engine.into_table();
-    let is_so = writes(alloc, &mut table, Written::Count, count);
+    let is_so = writes(alloc, &mut table, Written::Count, count, checks);
     drop(table);
     Some(is_so)
 }
@@ -282,16 +290,16 @@ impl Subject for Tried {
         Some(Tried { past, engine })
     }
 
-    fn goes(&mut self, alloc: Global, step: &Step) -> bool {
+    fn goes(&mut self, alloc: Global, step: &Step, checks: &mut Checks) -> bool {
         let done = match step {
             Step::Takes(offset, time, items, first) => {
-                takes_values(alloc, self, *offset, *time, items, Some(*first))
+                takes_values(alloc, self, *offset, *time, items, Some(*first), checks)
             }
             Step::Full(offset, time, items) => {
-                takes_values(alloc, self, *offset, *time, items, None)
+                takes_values(alloc, self, *offset, *time, items, None, checks)
             }
-            Step::At(number) => Some(is_at(self, *number)),
-            Step::HandsBack(count) => hands_back(alloc, self, count),
+            Step::At(number) => Some(is_at(self, *number, checks)),
+            Step::HandsBack(count) => hands_back(alloc, self, count, checks),
         };
         done == Some(true)
     }

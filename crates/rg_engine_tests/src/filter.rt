@@ -1,6 +1,6 @@
 ghost use Rattle.std.specs.Prelude.{◌≡◌, ◌<◌};
 
-use crate::common::{Item, Subject, assert_goes, event_of, value_of};
+use crate::common::{Checks, Item, Subject, assert_goes, event_of, value_of};
 use rg_event::{Event, Steps};
 use rg_filter::Filter;
 use rg_metric::{Condition, Op};
@@ -81,8 +81,8 @@ impl Subject for Filters {
         Some(Filters)
     }
 
-    fn goes(&mut self, alloc: Global, row: &Row) -> bool {
-        row_passes(alloc, row) == Some(row.4)
+    fn goes(&mut self, alloc: Global, row: &Row, checks: &mut Checks) -> bool {
+        checks.same("passes", row_passes(alloc, row), Some(row.4))
     }
 }
 

@@ -1,4 +1,4 @@
-use crate::common::{Item, Subject, are_same, assert_goes, event_of};
+use crate::common::{Checks, Item, Subject, assert_goes, event_of};
 use rg_event::Event;
 use rg_group::{Key, key_of};
 use std::alloc::Global;
@@ -34,17 +34,25 @@ pub(crate) enum Other {
 }
 
 /// Whether a key goes so with another one that is made for itself; false where that is asked of an event alone.
-fn goes_with(key: &mut Key, made: Key, other: Other) -> bool {
-    match other {
+fn goes_with(key: &mut Key, made: Key, other: Other, checks: &mut Checks) -> bool {
+    let (what, goes) = match other {
         Other::Replaced => {
             *key = made;
-            true
+            return true;
         }
-        Other::IsBelow => *key < made,
-        Other::Differs => *key != made,
-        Other::IsOf => *key == made,
-        Other::IsNotOf | Other::Anew => false,
-    }
+        Other::IsBelow => ("a key below", *key < made),
+        Other::Differs => ("a key that differs", *key != made),
+        Other::IsOf => ("key", *key == made),
+        Other::IsNotOf | Other::Anew => ("key of no event", false),
+    };
+    goes || checks.fails(what, key.as_slice(), made.as_slice())
+}
+
+/// Whether a key is that of these columns of an event, or isn't.
+fn is_of(key: &Key, want: bool, fields: &[u32], event: &Event, checks: &mut Checks) -> bool {
+    let what = if want { "key" } else { "another key" };
+    key.is_of(fields, event) == want
+        || checks.fails(what, key.as_slice(), (fields, event.values.as_slice()))
 }
 
 /// Whether a key goes so with that of these columns of an event, which is made for itself where it has to be.
@@ -54,37 +62,39 @@ fn goes_with_event(
     other: Other,
     fields: &[u32],
     event: &Event,
+    checks: &mut Checks,
 ) -> Option<bool> {
     match other {
         Other::Anew => Some(key.set_of(fields, event).is_ok()),
-        Other::IsOf => Some(key.is_of(fields, event)),
-        Other::IsNotOf => Some(!key.is_of(fields, event)),
-        _ => Some(goes_with(key, key_of(alloc, fields, event).ok()?, other)),
+        Other::IsOf => Some(is_of(key, true, fields, event, checks)),
+        Other::IsNotOf => Some(is_of(key, false, fields, event, checks)),
+        _ => Some(goes_with(key, key_of(alloc, fields, event).ok()?, other, checks)),
     }
 }
 
-/// The same of an event of these values.
+/// Whether it does with that of an event of these values.
 fn goes_with_values(
     alloc: Global,
     key: &mut Key,
     other: Other,
     fields: &[u32],
     items: &[Item],
+    checks: &mut Checks,
 ) -> Option<bool> {
     let event = event_of(alloc, 0, 0, items)?;
-    let goes = goes_with_event(alloc, key, other, fields, &event);
+    let goes = goes_with_event(alloc, key, other, fields, &event, checks);
     drop(event);
     goes
 }
 
-fn is_copied(alloc: Global, key: &mut Key) -> Option<bool> {
+fn is_copied(alloc: Global, key: &mut Key, checks: &mut Checks) -> Option<bool> {
     let copy = key.copy(alloc).ok()?;
-    Some(goes_with(key, copy, Other::IsOf))
+    Some(goes_with(key, copy, Other::IsOf, checks))
 }
 
-fn is_made(alloc: Global, key: &mut Key, bytes: &[u8]) -> Option<bool> {
+fn is_made(alloc: Global, key: &mut Key, bytes: &[u8], checks: &mut Checks) -> Option<bool> {
     let made = Key::from(bytes.to_vec(alloc).ok()?);
-    Some(goes_with(key, made, Other::IsOf))
+    Some(goes_with(key, made, Other::IsOf, checks))
 }
 
 impl Subject for Key {
@@ -94,13 +104,13 @@ impl Subject for Key {
         Some(Key::from(Vec::new(alloc)))
     }
 
-    fn goes(&mut self, alloc: Global, step: &Step) -> bool {
+    fn goes(&mut self, alloc: Global, step: &Step, checks: &mut Checks) -> bool {
         match step {
-            Step::Has(bytes) => are_same(self.as_slice(), bytes),
-            Step::IsMade(bytes) => is_made(alloc, self, bytes) == Some(true),
-            Step::IsCopied => is_copied(alloc, self) == Some(true),
+            Step::Has(bytes) => checks.same_bytes("key", self.as_slice(), bytes),
+            Step::IsMade(bytes) => is_made(alloc, self, bytes, checks) == Some(true),
+            Step::IsCopied => is_copied(alloc, self, checks) == Some(true),
             Step::With(other, fields, items) => {
-                goes_with_values(alloc, self, *other, fields, items) == Some(true)
+                goes_with_values(alloc, self, *other, fields, items, checks) == Some(true)
             }
         }
     }

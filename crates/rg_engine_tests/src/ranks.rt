@@ -1,17 +1,19 @@
 ghost use Rattle.std.specs.Prelude.{◌≡◌, ◌<◌};
 
-use rg_agg::{Aggregate, StateFault, is_like};
+use crate::common::{Checks, Subject, assert_goes};
+use rg_agg::{Aggregate, StateFault, Unfit, is_like};
 use rg_bytes::ByteReader;
 use rg_event::{Steps, Value};
 use rg_metric::{Answer, Func, is_admitted};
 use rg_rank::Rank;
+use std::alloc::Global;
 use std::marker::Brand;
 use std::sync::ledger::{Blank, Ledger};
 use std::test::Fail;
 
 /// What is done to a rank, or what it says.
 #[derive(Clone, Copy)]
-enum Step {
+pub(crate) enum Step {
     Add(i64),
     Remove(i64),
     /// A removal that is refused.
@@ -35,47 +37,81 @@ fn adds(state: &mut Rank, value: &Value) -> bool {
 }
 
 /// Whether it is this number at so many hundredths, also where steps are counted.
-fn is_at<L: Ledger>(state: &Rank, percent: u32, answer: Answer, blank: Blank) -> bool
+fn is_at<L: Ledger>(
+    state: &Rank,
+    percent: u32,
+    answer: Answer,
+    blank: Blank,
+    checks: &mut Checks,
+) -> bool
     requires named { blank.name ≡ L.name }
     requires parts { blank.parts ≡ L.parts }
     requires whole { 0 < blank.parts }
 {
-    if percent == 0 || 100 < percent {
-        return state.percentile(percent) == answer;
-    }
-    state.percentile(percent) == answer && state.at(percent, &mut Steps::<L>::new(blank)) == answer
-}
-
-fn is_written(rt: &HostRuntime, state: &Rank, want: &[u8]) -> bool {
-    if state.is_empty() {
+    if !checks.same("percentile", state.percentile(percent), answer) {
         return false;
     }
-    let mut out = Vec::new(rt.alloc());
-    let is_so = state.encode(&mut out).is_ok() && out.as_slice() == want;
+    if percent == 0 || 100 < percent {
+        return true;
+    }
+    let counted = state.at(percent, &mut Steps::<L>::new(blank));
+    checks.same("percentile with steps", counted, answer)
+}
+
+fn is_written(alloc: Global, state: &Rank, want: &[u8], checks: &mut Checks) -> bool {
+    if state.is_empty() {
+        return checks.fails("state", "of no values", want);
+    }
+    let mut out = Vec::new(alloc);
+    let is_so = state.encode(&mut out).is_ok() && checks.same_bytes("written", &out, want);
     drop(out);
     is_so
 }
 
-fn goes(rt: &HostRuntime, state: &mut Rank, step: Step) -> bool {
-    match step {
-        Step::Add(number) => adds(state, &Value::Int(number)),
-        Step::Remove(number) => state.remove(&Value::Int(number)).is_ok(),
-        Step::Refuse(number) => state.remove(&Value::Int(number)).is_err(),
-        Step::Answers(answer) => state.answer() == answer,
-        Step::Percent(part, answer) => is_at::<Brand>(state, part, answer, Blank::new(1)),
-        Step::Counts(size, pairs) => state.size() == size && state.pairs() == pairs,
-        Step::Writes(bytes) => is_written(rt, state, bytes),
-        Step::Reads(bytes) => match Rank::decode(rt.alloc(), &mut ByteReader::new(bytes)) {
-            Ok(read) => {
-                *state = read;
-                true
+/// Whether reading a state of these bytes ends so. One that is read takes the place of the one before.
+fn reads(
+    alloc: Global,
+    bytes: &[u8],
+    state: &mut Rank,
+    want: Option<StateFault>,
+    checks: &mut Checks,
+) -> bool {
+    match Rank::decode(alloc, &mut ByteReader::new(bytes)) {
+        Ok(read) => {
+            *state = read;
+            checks.same("fault", None, want)
+        }
+        Err(fault) => checks.same("fault", Some(fault), want),
+    }
+}
+
+impl Subject for Rank {
+    type Step = Step;
+
+    fn start(alloc: Global) -> Option<Rank> {
+        Some(Rank::empty(alloc))
+    }
+
+    fn goes(&mut self, alloc: Global, step: &Step, checks: &mut Checks) -> bool {
+        match *step {
+            Step::Add(number) => adds(self, &Value::Int(number)),
+            Step::Remove(number) => {
+                checks.same("removal", self.remove(&Value::Int(number)), Ok(()))
             }
-            Err(_) => false,
-        },
-        Step::Fails(want, bytes) => match Rank::decode(rt.alloc(), &mut ByteReader::new(bytes)) {
-            Ok(_) => false,
-            Err(fault) => fault == want,
-        },
+            Step::Refuse(number) => {
+                checks.same("removal", self.remove(&Value::Int(number)), Err(Unfit))
+            }
+            Step::Answers(answer) => checks.same("answer", self.answer(), answer),
+            Step::Percent(part, answer) => {
+                is_at::<Brand>(self, part, answer, Blank::new(1), checks)
+            }
+            Step::Counts(size, pairs) => {
+                checks.same("size and pairs", (self.size(), self.pairs()), (size, pairs))
+            }
+            Step::Writes(bytes) => is_written(alloc, self, bytes, checks),
+            Step::Reads(bytes) => reads(alloc, bytes, self, None, checks),
+            Step::Fails(want, bytes) => reads(alloc, bytes, self, Some(want), checks),
+        }
     }
 }
 
@@ -148,11 +184,7 @@ const WORKED_ROWS: &[Step] = &[
 
 #[test]
 fn ranks_of_the_worked_rows(rt: HostRuntime) -> Result<(), Fail> {
-    let mut state = Rank::empty(rt.alloc());
-    for (place, step) in WORKED_ROWS.iter().enumerate() {
-        assert!(rt; goes(&rt, &mut state, *step), "step {place}");
-    }
-    Ok(())
+    assert_goes::<Rank>(&rt, WORKED_ROWS)
 }
 
 /// Each number once, rising, and then taken out from both ends: the middle stays, and a path is short.
@@ -165,7 +197,7 @@ fn ranks_of_rising_numbers(rt: HostRuntime) -> Result<(), Fail> {
             "adds {number}"
         );
     }
-    assert!(rt; state.answer() == Answer::Number(500));
+    assert_eq!(rt; state.answer(), Answer::Number(500));
     for number in 0..500u16 {
         assert!(rt;
             state.remove(&Value::Int(i64::from(number))).is_ok(),
@@ -175,11 +207,8 @@ fn ranks_of_rising_numbers(rt: HostRuntime) -> Result<(), Fail> {
             state.remove(&Value::Int(1_000 - i64::from(number))).is_ok(),
             "takes the other of {number}"
         );
-        assert!(rt;
-            state.answer() == Answer::Number(500),
-            "the middle without {number}"
-        );
+        assert_eq!(rt; state.answer(), Answer::Number(500), "without {number}");
     }
-    assert!(rt; state.pairs() == 1);
+    assert_eq!(rt; state.pairs(), 1);
     Ok(())
 }

@@ -1,4 +1,4 @@
-use crate::common::{Item, Subject, are_same, assert_goes, event_of};
+use crate::common::{Checks, Item, Subject, assert_goes, event_of};
 use crate::plans::{Ask, plan_of};
 use rg_event::Event;
 use rg_metric::{Agg, Answer, Answers, Func, Window};
@@ -34,9 +34,13 @@ fn push(alloc: Global, events: &mut Vec<Event>, time: u64, items: &[Item]) -> Op
     events.push(event_of(alloc, time, time, items)?).ok()
 }
 
-fn has(answers: &Answers, count: usize, place: usize, want: Answer) -> bool {
+fn has(answers: &Answers, count: usize, place: usize, want: Answer, checks: &mut Checks) -> bool {
     let list = answers.as_slice();
-    list.len() == count && list.get(place) == Some(&want)
+    let is_there = match list.get(place) {
+        Some(answer) => checks.same("answer", *answer, want),
+        None => checks.fails("answer", "none", want),
+    };
+    is_there && checks.same("answers", list.len(), count)
 }
 
 /// Whether the event of that number, where there is one, is answered so.
@@ -47,13 +51,15 @@ fn is_answered(
     count: usize,
     place: usize,
     want: Answer,
+    checks: &mut Checks,
 ) -> Option<bool> {
     let events = tried.events.as_slice();
     if k >= events.len() as u64 || events.len() > 1000 {
+        checks.fails("events", events.len(), k);
         return None;
     }
     let answers = answer_from_scratch(alloc, &tried.plan, events, k).ok()?;
-    Some(has(&answers, count, place, want))
+    Some(has(&answers, count, place, want, checks))
 }
 
 fn replan(alloc: Global, tried: &mut Tried, asks: &[Ask]) -> Option<()> {
@@ -72,18 +78,18 @@ impl Subject for Tried {
         })
     }
 
-    fn goes(&mut self, alloc: Global, step: &Step) -> bool {
+    fn goes(&mut self, alloc: Global, step: &Step, checks: &mut Checks) -> bool {
         match step {
             Step::Line(number, lines) => {
                 *number < 200_000
                     && make_line(0, *number, &mut self.lines).is_ok()
-                    && are_same(&self.lines, lines)
+                    && checks.same_bytes("lines", &self.lines, lines)
             }
             Step::Event(time, items) => push(alloc, &mut self.events, *time, items).is_some(),
             Step::ByCard => replan(alloc, self, CARD).is_some(),
             Step::ByAll => replan(alloc, self, ALL).is_some(),
             Step::Answers(k, count, place, want) => {
-                is_answered(alloc, self, *k, *count, *place, *want) == Some(true)
+                is_answered(alloc, self, *k, *count, *place, *want, checks) == Some(true)
             }
         }
     }

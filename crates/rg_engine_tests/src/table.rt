@@ -2,7 +2,7 @@ ghost use Rattle.std.specs.Prelude.{◌<◌, IfOk};
 ghost use Rattle.rg_agg.specs.Standing.{size_in};
 ghost use Rattle.rg_state.specs.States.{held_of};
 
-use crate::common::{Item, Subject, are_same, value_of};
+use crate::common::{Checks, Item, Subject, value_of};
 use rg_agg::StateFault;
 use rg_bytes::ByteReader;
 use rg_event::{Kind, Value};
@@ -70,8 +70,12 @@ fn changes(
     change: Change,
     value: &Value,
     want: Result<(), TableFault>,
+    checks: &mut Checks,
 ) -> bool {
-    is_admitted(func, value) && table.change(node, key, func, change, value) == want
+    if !is_admitted(func, value) {
+        return checks.fails("value", value, func);
+    }
+    checks.same("change", table.change(node, key, func, change, value), want)
 }
 
 /// The same of a value that is made for it.
@@ -84,10 +88,11 @@ fn changes_by(
     change: Change,
     item: &Item,
     want: Result<(), TableFault>,
+    checks: &mut Checks,
 ) -> bool {
     match value_of(alloc, item) {
         Some(value) => {
-            let is_so = changes(table, node, key, func, change, &value, want);
+            let is_so = changes(table, node, key, func, change, &value, want, checks);
             drop(value);
             is_so
         }
@@ -105,11 +110,12 @@ fn row_changes(
     change: Change,
     item: &Item,
     want: Result<(), TableFault>,
+    checks: &mut Checks,
 ) -> bool {
     match key.to_vec(alloc) {
         Ok(bytes) => {
             let key = Key::from(bytes);
-            let is_so = changes_by(alloc, table, node, &key, func, change, item, want);
+            let is_so = changes_by(alloc, table, node, &key, func, change, item, want, checks);
             drop(key);
             is_so
         }
@@ -125,20 +131,21 @@ fn answers(
     key: &[u8],
     func: Func,
     want: Result<Answer, TableFault>,
+    checks: &mut Checks,
 ) -> bool {
     match key.to_vec(alloc) {
         Ok(bytes) => {
             let key = Key::from(bytes);
             let answer = table.answer(node, &key, func);
             drop(key);
-            answer == want
+            checks.same("answer", answer, want)
         }
         Err(_) => false,
     }
 }
 
 /// Whether so many cards of two digits each count an event.
-fn adds_cards(alloc: Global, table: &mut MemTable, count: u8) -> bool {
+fn adds_cards(alloc: Global, table: &mut MemTable, count: u8, checks: &mut Checks) -> bool {
     for number in 0..count {
         let tens = (number / 10).wrapping_add(48);
         let ones = (number % 10).wrapping_add(48);
@@ -153,6 +160,7 @@ fn adds_cards(alloc: Global, table: &mut MemTable, count: u8) -> bool {
             Change::Add,
             &flag,
             Ok(()),
+            checks,
         ) {
             return false;
         }
@@ -161,12 +169,13 @@ fn adds_cards(alloc: Global, table: &mut MemTable, count: u8) -> bool {
 }
 
 /// Whether that stands behind an x.
-fn stands(out: &[u8], what: Written, want: &[u8]) -> bool {
+fn stands(out: &[u8], what: Written, want: &[u8], checks: &mut Checks) -> bool {
+    let (before, behind) = out.split_at(1.min(out.len()));
     let written = match what {
-        Written::Count => out.get(1..9),
-        _ => out.get(1..),
+        Written::Count => behind.get(..8).unwrap_or(b""),
+        _ => behind,
     };
-    out.first() == Some(&b'x') && written == Some(want)
+    checks.same_bytes("bytes before", before, b"x") && checks.same_bytes("written", written, want)
 }
 
 /// Writes that.
@@ -178,19 +187,27 @@ fn write(table: &mut MemTable, what: Written, out: &mut Vec<u8>) -> bool {
 }
 
 /// Whether a table writes that behind an x.
-pub(crate) fn writes(alloc: Global, table: &mut MemTable, what: Written, want: &[u8]) -> bool {
+pub(crate) fn writes(
+    alloc: Global,
+    table: &mut MemTable,
+    what: Written,
+    want: &[u8],
+    checks: &mut Checks,
+) -> bool {
     let mut out = Vec::new(alloc);
-    let is_so = out.push(b'x').is_ok() && write(table, what, &mut out) && stands(&out, what, want);
+    let is_so = out.push(b'x').is_ok()
+        && write(table, what, &mut out)
+        && stands(&out, what, want, checks);
     drop(out);
     is_so
 }
 
 /// Whether a state is written as these bytes.
-fn is_written(alloc: Global, state: &AggState, want: &[u8]) -> bool
+fn is_written(alloc: Global, state: &AggState, want: &[u8], checks: &mut Checks) -> bool
     requires { 0 < size_in (held_of state.now) }
 {
     let mut out = Vec::new(alloc);
-    let is_so = state.encode(&mut out).is_ok() && are_same(&out, want);
+    let is_so = state.encode(&mut out).is_ok() && checks.same_bytes("state", &out, want);
     drop(out);
     is_so
 }
@@ -225,12 +242,13 @@ fn begins_by_copy(
     key: &[u8],
     bytes: &[u8],
     state: &AggState,
+    checks: &mut Checks,
 ) -> bool
     requires { 0 < size_in (held_of state.now) }
 {
     match state.copy(alloc) {
         Ok(copy) => {
-            let is_so = is_written(alloc, &copy, bytes);
+            let is_so = is_written(alloc, &copy, bytes, checks);
             renew(alloc, table, node, key, copy) && is_so
         }
         Err(_) => false,
@@ -239,14 +257,21 @@ fn begins_by_copy(
 
 /// Puts a table of the row of that state in the place of the one before, and one of its copy beside it. False where one
 /// of them is written otherwise.
-fn begins(alloc: Global, tried: &mut Tried, node: u32, key: &[u8], bytes: &[u8]) -> bool {
+fn begins(
+    alloc: Global,
+    tried: &mut Tried,
+    node: u32,
+    key: &[u8],
+    bytes: &[u8],
+    checks: &mut Checks,
+) -> bool {
     match state_of(alloc, bytes) {
         Ok(state) => {
-            let is_so = is_written(alloc, &state, bytes)
-                && begins_by_copy(alloc, &mut tried.other, node, key, bytes, &state);
+            let is_so = is_written(alloc, &state, bytes, checks)
+                && begins_by_copy(alloc, &mut tried.other, node, key, bytes, &state, checks);
             renew(alloc, &mut tried.table, node, key, state) && is_so
         }
-        Err(_) => false,
+        Err(fault) => checks.fails("fault", fault, "none"),
     }
 }
 
@@ -258,9 +283,10 @@ fn copies(
     bytes: &[u8],
     copied: Answer,
     changed: Answer,
+    checks: &mut Checks,
 ) -> bool {
     let five = Item::Int(5);
-    begins(alloc, tried, 0, b"", bytes)
+    begins(alloc, tried, 0, b"", bytes, checks)
         && row_changes(
             alloc,
             &mut tried.table,
@@ -270,9 +296,10 @@ fn copies(
             Change::Remove,
             &five,
             Ok(()),
+            checks,
         )
-        && answers(alloc, &mut tried.table, 0, b"", func, Ok(changed))
-        && answers(alloc, &mut tried.other, 0, b"", func, Ok(copied))
+        && answers(alloc, &mut tried.table, 0, b"", func, Ok(changed), checks)
+        && answers(alloc, &mut tried.other, 0, b"", func, Ok(copied), checks)
 }
 
 fn fits(alloc: Global, bytes: &[u8], func: Func, kind: Kind) -> Option<bool> {
@@ -283,13 +310,13 @@ fn fits(alloc: Global, bytes: &[u8], func: Func, kind: Kind) -> Option<bool> {
 }
 
 /// Whether the table is replaced or marked, or a state that bytes say is so.
-fn takes_step(alloc: Global, tried: &mut Tried, step: &Step) -> bool {
+fn takes_step(alloc: Global, tried: &mut Tried, step: &Step, checks: &mut Checks) -> bool {
     match step {
-        Step::Begin(node, key, bytes) => begins(alloc, tried, *node, key, bytes),
+        Step::Begin(node, key, bytes) => begins(alloc, tried, *node, key, bytes, checks),
         Step::Copies(func, bytes, copied, changed) => {
-            copies(alloc, tried, *func, bytes, *copied, *changed)
+            copies(alloc, tried, *func, bytes, *copied, *changed, checks)
         }
-        Step::Cards(count) => adds_cards(alloc, &mut tried.table, *count),
+        Step::Cards(count) => adds_cards(alloc, &mut tried.table, *count, checks),
         Step::Empty => {
             tried.table = MemTable::new(alloc);
             true
@@ -298,8 +325,12 @@ fn takes_step(alloc: Global, tried: &mut Tried, step: &Step) -> bool {
             tried.table.mark();
             true
         }
-        Step::Fits(bytes, func, kind, want) => fits(alloc, bytes, *func, *kind) == Some(*want),
-        Step::Fails(fault, bytes) => state_of(alloc, bytes).err() == Some(*fault),
+        Step::Fits(bytes, func, kind, want) => {
+            checks.same("fits", fits(alloc, bytes, *func, *kind), Some(*want))
+        }
+        Step::Fails(fault, bytes) => {
+            checks.same("fault", state_of(alloc, bytes).err(), Some(*fault))
+        }
         _ => false,
     }
 }
@@ -314,7 +345,7 @@ impl Subject for Tried {
         })
     }
 
-    fn goes(&mut self, alloc: Global, step: &Step) -> bool {
+    fn goes(&mut self, alloc: Global, step: &Step, checks: &mut Checks) -> bool {
         match step {
             Step::Change(change, node, key, func, item) => {
                 row_changes(
@@ -326,6 +357,7 @@ impl Subject for Tried {
                     *change,
                     item,
                     Ok(()),
+                    checks,
                 )
             }
             Step::Refuse(change, node, key, func, item) => {
@@ -339,17 +371,26 @@ impl Subject for Tried {
                     *change,
                     item,
                     bad,
+                    checks,
                 )
             }
             Step::Answers(node, key, func, answer) => {
-                answers(alloc, &mut self.table, *node, key, *func, Ok(*answer))
+                answers(
+                    alloc,
+                    &mut self.table,
+                    *node,
+                    key,
+                    *func,
+                    Ok(*answer),
+                    checks,
+                )
             }
             Step::RefuseAnswer(node, key, func) => {
                 let bad = Err(TableFault::BadState(*node));
-                answers(alloc, &mut self.table, *node, key, *func, bad)
+                answers(alloc, &mut self.table, *node, key, *func, bad, checks)
             }
-            Step::Writes(what, bytes) => writes(alloc, &mut self.table, *what, bytes),
-            _ => takes_step(alloc, self, step),
+            Step::Writes(what, bytes) => writes(alloc, &mut self.table, *what, bytes, checks),
+            _ => takes_step(alloc, self, step, checks),
         }
     }
 }

@@ -1,4 +1,4 @@
-use crate::common::{Item, Subject, are_same, assert_goes, value_of};
+use crate::common::{Checks, Item, Subject, assert_goes, value_of};
 use rg_agg::{Unfit, is_like};
 use rg_bytes::ByteReader;
 use rg_event::{Kind, Value};
@@ -39,7 +39,7 @@ pub(crate) enum Step {
 }
 
 /// Whether a value is counted once more, removed, or refused.
-fn changes(tally: &mut Tally<Value>, value: &Value, step: &Step) -> bool {
+fn changes(tally: &mut Tally<Value>, value: &Value, step: &Step, checks: &mut Checks) -> bool {
     match step {
         Step::Add(_) => {
             tally.size() < 1_000
@@ -47,15 +47,21 @@ fn changes(tally: &mut Tally<Value>, value: &Value, step: &Step) -> bool {
                 && is_admitted(Func::CountDistinct, value)
                 && tally.add(value).is_ok()
         }
-        Step::Remove(_) => tally.remove(value) == Ok(()),
-        _ => tally.remove(value) == Err(Unfit),
+        Step::Remove(_) => checks.same("removal", tally.remove(value), Ok(())),
+        _ => checks.same("removal", tally.remove(value), Err(Unfit)),
     }
 }
 
-fn changes_by(alloc: Global, tally: &mut Tally<Value>, item: &Item, step: &Step) -> bool {
+fn changes_by(
+    alloc: Global,
+    tally: &mut Tally<Value>,
+    item: &Item,
+    step: &Step,
+    checks: &mut Checks,
+) -> bool {
     match value_of(alloc, item) {
         Some(value) => {
-            let is_so = changes(tally, &value, step);
+            let is_so = changes(tally, &value, step, checks);
             drop(value);
             is_so
         }
@@ -63,9 +69,9 @@ fn changes_by(alloc: Global, tally: &mut Tally<Value>, item: &Item, step: &Step)
     }
 }
 
-fn is_written(alloc: Global, tally: &Tally<Value>, want: &[u8]) -> bool {
+fn is_written(alloc: Global, tally: &Tally<Value>, want: &[u8], checks: &mut Checks) -> bool {
     let mut out = Vec::new(alloc);
-    let is_so = tally.put(7, &mut out).is_ok() && are_same(&out, want);
+    let is_so = tally.put(7, &mut out).is_ok() && checks.same_bytes("written", &out, want);
     drop(out);
     is_so
 }
@@ -81,11 +87,11 @@ fn put(place: &mut Tally<Value>, tally: Option<Tally<Value>>) -> bool {
     }
 }
 
-fn reads(alloc: Global, place: &mut Tally<Value>, bytes: &[u8]) -> bool {
-    put(
-        place,
-        Tally::read(alloc, 7, &mut ByteReader::new(bytes)).ok(),
-    )
+fn reads(alloc: Global, place: &mut Tally<Value>, bytes: &[u8], checks: &mut Checks) -> bool {
+    match Tally::read(alloc, 7, &mut ByteReader::new(bytes)) {
+        Ok(tally) => put(place, Some(tally)),
+        Err(fault) => checks.fails("fault", fault, "none"),
+    }
 }
 
 fn swap(tried: &mut Tried) -> bool {
@@ -103,20 +109,21 @@ impl Subject for Tried {
         })
     }
 
-    fn goes(&mut self, alloc: Global, step: &Step) -> bool {
+    fn goes(&mut self, alloc: Global, step: &Step, checks: &mut Checks) -> bool {
         match step {
             Step::New => put(&mut self.tally, Some(Tally::new(alloc))),
             Step::Add(item) | Step::Remove(item) | Step::Refuse(item) => {
-                changes_by(alloc, &mut self.tally, item, step)
+                changes_by(alloc, &mut self.tally, item, step, checks)
             }
             Step::Copy => put(&mut self.copy, self.tally.copy(alloc).ok()),
             Step::Swap => swap(self),
             Step::Has(size, distinct) => {
-                self.tally.size() == *size && self.tally.distinct() == *distinct
+                let counts = (self.tally.size(), self.tally.distinct());
+                checks.same("size and distinct", counts, (*size, *distinct))
             }
-            Step::Is(kind) => self.tally.kind() == Some(*kind),
-            Step::Writes(bytes) => is_written(alloc, &self.tally, bytes),
-            Step::Reads(bytes) => reads(alloc, &mut self.tally, bytes),
+            Step::Is(kind) => checks.same("kind", self.tally.kind(), Some(*kind)),
+            Step::Writes(bytes) => is_written(alloc, &self.tally, bytes, checks),
+            Step::Reads(bytes) => reads(alloc, &mut self.tally, bytes, checks),
         }
     }
 }

@@ -50,7 +50,7 @@ const QUERIES: &[Mended] = &[
     // a query that isn't finished
     Mended {
         plan: "queries = [\"SELECT count(*) FROM p\"]\n[stream]\nname = \"p\"\ncolumns = [\"ts\"]\n",
-        said: "  SELECT count(*) FROM p\n                        ^\n  here may stand: WHERE, GROUP BY, OVER\n",
+        said: "  SELECT count(*) FROM p\n                        ^\n  a query ends with its window: OVER INFINITE, or OVER SLIDING 5 minutes\n  here may stand: WHERE, GROUP BY, OVER\n",
     },
     // names and kinds
     Mended {
@@ -59,7 +59,7 @@ const QUERIES: &[Mended] = &[
     },
     Mended {
         plan: "queries = [\"SELECT sum(m) FROM p OVER INFINITE\"]\n[stream]\nname = \"p\"\ncolumns = [\"ts\", \"m:text\"]\n",
-        said: "  SELECT sum(m) FROM p OVER INFINITE\n             ^\n  m is of the kind text\n  sum, avg and sumsq take an int; min, max, first and last an int or an id; countDistinct takes each kind\n",
+        said: "  SELECT sum(m) FROM p OVER INFINITE\n             ^\n  m is of the kind text\n  sum, avg and sumsq take an int; min, max, first, last, median and pct an int or an id; countDistinct takes each kind; pct takes a number from 1 to 100 first\n",
     },
     Mended {
         plan: "queries = [\"SELECT count(*) FROM q OVER INFINITE\"]\n[stream]\nname = \"p\"\ncolumns = [\"ts\"]\n",

@@ -1,15 +1,22 @@
 #!/usr/bin/python3
 """Tries examples/kafka over a broker in memory, and fails where an answer is missing or differs from one run over the whole.
 
-Four partitions with a run each answer payments of 40 cards, some of them no rows, while more are sent. Programs of them are
-killed at moments of chance, and once all of a partition whose answers were held up behind its store: `replay` brings them.
-Then a partition with marks of transactions, and one that has lost its first messages. It prints a line for each.
+It tries both ways, partition.py and partition.sh. Four partitions with a run each answer payments of 40 cards, some of them no
+rows, while more are sent. Programs of them are killed at moments of chance, and once all of a partition whose answers were held
+up behind its store: `replay` brings them. Then come a partition with marks of transactions, one that has lost its first
+messages, and of partition.py alone its guards, its statuses, and a kill while it waits to hand on a line. It prints a line for
+each.
 
-Usage: kafka.py, or kafka.py --broker, which prints such a broker's address and keeps it until standard input ends.
+Usage: kafka.py, or one of these:
+
+    kafka.py --waits     tells how long payments wait for their answers by partition.py, from the send to the receipt: ten
+                         times 3,000 payments, one each millisecond
+    kafka.py --broker    prints the address of a broker in memory, and keeps it until standard input ends
 
 Outside the gate. It needs Debian's kcat and python3-confluent-kafka, which /usr/bin/python3 sees; the broker is
 librdkafka's own. `rt run` in crates/railgun builds the program first; PROGRAM names another one."""
 
+import fcntl
 import os
 import random
 import shutil
@@ -19,6 +26,7 @@ import struct
 import subprocess
 import sys
 import tempfile
+import termios
 import threading
 import time
 
@@ -28,7 +36,7 @@ TOP = os.path.realpath(os.path.join(os.path.dirname(os.path.abspath(__file__)), 
 PROGRAM = os.path.abspath(os.environ.get("PROGRAM", f"{TOP}/crates/railgun/out/railgun"))
 EXAMPLE = f"{TOP}/examples/kafka"
 PLAN = f"{EXAMPLE}/plan.toml"
-COUNT, KILLS = 6000, 12
+COUNT, KILLS, ROUNDS = 6000, 12, 10
 
 
 def fail(why):
@@ -111,17 +119,21 @@ class Broker:
 
 
 class Run:
-    """partition.sh over a partition of a broker, in a session of its own."""
+    """A way to answer a partition of a broker, in a session of its own. `fill` says which offsets are filled: gaps or start.
+
+    Of each way `options` are the further words of its script, `is_ready` says whether it has begun, `source` is the process that a
+    signal stops, and `sink` the one that reads the run's output."""
 
     begun = []
 
-    def __init__(self, broker, partition, store, *words, fill="0"):
-        self.store, self.name = store, f"partition {partition}"
+    def __init__(self, broker, partition, store, *words, fill="", new=None, plan=PLAN, program=PROGRAM):
+        self.broker, self.partition, self.store, self.name = broker, partition, store, f"partition {partition}"
         self.begun.append(self)
-        more = {"RAILGUN": PROGRAM, "FILL": fill}
-        command = [f"{EXAMPLE}/partition.sh", broker.address, str(partition), PLAN, store, *words]
+        new = new or str(int(not os.path.exists(f"{store}/events")))
+        settings = {"RAILGUN": program, "NEW": new, "FILL": str(int(fill == "start"))}
+        command = [f"{EXAMPLE}/{self.script}", broker.address, str(partition), plan, store, *self.options(fill), *words]
         with open(f"{os.path.dirname(store)}/log", "ab") as log:
-            self.top = subprocess.Popen(command, env={**os.environ, **more}, start_new_session=True, stderr=log)
+            self.top = subprocess.Popen(command, env={**os.environ, **settings}, start_new_session=True, stderr=log)
 
     def processes(self):
         """The processes of its session by their numbers: their words."""
@@ -143,7 +155,7 @@ class Run:
         return next((pid for pid, words in self.processes().items() if set(wanted) <= set(words)), None)
 
     def await_run(self):
-        await_that(lambda: self.find("run", self.store) and self.find("kcat", "answers"), f"{self.name} runs")
+        await_that(lambda: self.find("run", self.store) and self.is_ready(), f"{self.name} runs")
 
     def kill(self, *wanted):
         """Kills one of its processes, and waits until all have ended."""
@@ -152,19 +164,83 @@ class Run:
         if self.ended() == 0 and "payments" not in wanted:
             fail(f"{self.name} ended with status 0 after a kill of {wanted}")
 
+    def stop(self):
+        """Lets it answer what it has, and end: no answer is missing then."""
+        self.await_run()
+        os.kill(self.source(), signal.SIGTERM)
+        self.wait()
+        if answered(self.broker, self.partition) < told(railgun("info", self.store), "next"):
+            fail(f"{self.name} was stopped, and its last answers are missing")
+
     def kill_all(self):
         for pid in self.processes():
             os.kill(pid, signal.SIGKILL)
         self.top.wait()
 
     def ended(self):
-        """Its status, once it has ended."""
-        await_that(lambda: self.top.poll() is not None, f"{self.name} ends")
+        """Its status, once all of it has ended."""
+        await_that(lambda: self.top.poll() is not None and not self.processes(), f"{self.name} ends")
         return self.top.returncode
 
     def wait(self, status=0):
         if self.ended() != status:
-            fail(f"{self.name} ended with status {self.top.returncode}")
+            fail(f"{self.name} ended with status {self.top.returncode} in place of {status}")
+
+
+class Shell(Run):
+    """partition.sh, with kcat in front and behind."""
+
+    script = "partition.sh"
+
+    def options(self, _):
+        return ()
+
+    def is_ready(self):
+        return self.find("kcat", "answers")
+
+    def source(self):
+        return self.find("kcat", "payments")
+
+    def sink(self):
+        return self.find("--replies")
+
+    def kill_one(self):
+        self.kill(*random.choice([("run", self.store)] * 3 + [("kcat", "payments"), ("kcat", "answers"), ("--replies",)]))
+
+    def hold_up(self):
+        """Holds its answers up from now on."""
+        self.await_run()
+        os.kill(self.find("kcat", "answers"), signal.SIGSTOP)
+        return self
+
+
+class Python(Run):
+    """partition.py. The broker in memory waits as long as it may where there is no message, also when one comes: so it may not."""
+
+    script = "partition.py"
+
+    def options(self, fill):
+        return ("-X", "fetch.wait.max.ms=5", *([f"--fill-{fill}"] if fill else ()))
+
+    def is_ready(self):
+        """It is when it catches SIGTERM."""
+        with open(f"/proc/{self.top.pid}/status", encoding="utf-8") as it:
+            caught = next(int(line.split()[1], 16) for line in it if line.startswith("SigCgt"))
+        return caught >> (signal.SIGTERM - 1) & 1
+
+    def source(self):
+        return self.top.pid
+
+    def sink(self):
+        return self.top.pid
+
+    def kill_one(self):
+        random.choice([self.stop, lambda: self.kill("run", self.store), lambda: self.kill(f"{EXAMPLE}/{self.script}")])()
+
+    def hold_up(self):
+        """Begins it again so that its producer keeps answers for ten minutes."""
+        self.stop()
+        return Python(self.broker, self.partition, self.store, "-X", "linger.ms=600000")
 
 
 def made_payments():
@@ -201,13 +277,13 @@ def compare(broker, partition, store, folder):
     return len(wanted), len(answers), sum(value == b"none" for _, _, value in answers)
 
 
-def try_kills(work):
+def try_kills(way, work):
     broker, payments = Broker(), list(made_payments())
     send_by_kcat(broker, payments[: COUNT // 4], f"{work}/first")
     stores = [f"{work}/{it}" for it in range(4)]
-    lost = kill_while_sending(broker, payments[COUNT // 4 :], stores)
+    lost = kill_while_sending(way, broker, payments[COUNT // 4 :], stores)
     for it, store in enumerate(stores):
-        Run(broker, it, store, "-e").wait()
+        way(broker, it, store, "-e").wait()
     sums = [compare(broker, it, store, f"{store}.whole") for it, store in enumerate(stores)]
     cards = [{key for _, key, _ in broker.read("payments", it)} for it in range(4)]
     if sum(map(len, cards)) != 40 or len(set.union(*cards)) != 40:
@@ -226,25 +302,23 @@ def send_by_kcat(broker, payments, file):
         subprocess.run(["kcat", "-P", "-b", broker.address, "-t", "payments", "-K", "|"], stdin=it, check=True)
 
 
-def kill_while_sending(broker, payments, stores):
+def kill_while_sending(way, broker, payments, stores):
     """Runs the partitions while payments are sent, kills, and ends the runs when all are sent: how many answers were held up and lost."""
-    runs = [Run(broker, it, store) for it, store in enumerate(stores)]
+    runs = [way(broker, it, store) for it, store in enumerate(stores)]
     hurry = threading.Event()
     sender = threading.Thread(target=send_slowly, args=(broker, payments, hurry), daemon=True)
     sender.start()
     for _ in range(KILLS):
         time.sleep(random.uniform(0, 1))
         at = random.randrange(4)
-        runs[at].kill(*random.choice([("run", stores[at])] * 3 + [("kcat", "payments"), ("kcat", "answers"), ("grep",)]))
-        runs[at] = Run(broker, at, stores[at])
-    lost = hold_up_and_kill(broker, runs[2], 2)
-    runs[2] = Run(broker, 2, stores[2])
+        runs[at].kill_one()
+        runs[at] = way(broker, at, stores[at])
+    lost = hold_up_and_kill(broker, runs[2].hold_up())
+    runs[2] = way(broker, 2, stores[2])
     hurry.set()
     sender.join()
     for run in runs:
-        run.await_run()
-        os.kill(run.find("kcat", "payments"), signal.SIGTERM)
-        run.wait()
+        run.stop()
     return lost
 
 
@@ -255,15 +329,18 @@ def send_slowly(broker, payments, hurry):
         hurry.wait(0.1)
 
 
-def hold_up_and_kill(broker, run, partition):
-    """Stops the kcat behind, waits until the store is ahead of the answers, and kills all: how many answers are lost."""
-    run.await_run()
-    os.kill(run.find("kcat", "answers"), signal.SIGSTOP)
-    answered = max([int(key) + 1 for _, key, _ in broker.read("answers", partition)], default=0)
-    await_that(lambda: told(railgun("info", run.store), "next") > answered + 200, "the store is ahead of the answers")
+def answered(broker, partition):
+    """The offset behind the last answer of a partition."""
+    return max([int(key) + 1 for _, key, _ in broker.read("answers", partition)], default=0)
+
+
+def hold_up_and_kill(broker, run):
+    """Waits until the store of a run whose answers are held up is ahead of them, and kills all: how many answers are lost."""
+    seen = answered(broker, run.partition)
+    await_that(lambda: told(railgun("info", run.store), "next") > seen + 200, "the store is ahead of the answers")
     run.kill_all()
-    answered = max([int(key) + 1 for _, key, _ in broker.read("answers", partition)], default=0)
-    lost = told(railgun("info", run.store), "next") - answered
+    run.ended()
+    lost = told(railgun("info", run.store), "next") - answered(broker, run.partition)
     if lost <= 0:
         fail("no answer was lost")
     return lost
@@ -277,14 +354,16 @@ def try_lines():
         fail(f"lines.py makes {made}")
 
 
-def try_marks(work):
+def try_marks(way, work):
     broker = Broker()
     rows = [("c1", f"{1000 * it},c1,m1,{it + 1}") for it in range(9)]
     store = f"{work}/marks"
     for at in (0, 3, 6):
         broker.send(rows[at : at + 3], partition=0)
         broker.send_mark(0)
-        Run(broker, 0, store, "-e").wait()
+        if way is Python and at:
+            way(broker, 0, store, "-e").wait(10)
+        way(broker, 0, store, "-e", fill="gaps").wait()
     offsets = [offset for offset, _, _ in broker.read("payments", 0)]
     if offsets != [0, 1, 2, 4, 5, 6, 8, 9, 10]:
         fail(f"the messages with marks between them have the offsets {offsets}")
@@ -297,26 +376,176 @@ def try_marks(work):
     print(f"marks of transactions: each payment has its message's offset, and the next one is {offsets[-1] + 1}; by values alone it is {plain}")
 
 
-def try_lost_messages(work):
+def try_lost_messages(way, work):
     broker, store = Broker(), f"{work}/lost"
     broker.send([("c1", "0,c1,m1,1"), ("c1", "1000,c1,m1,2")], partition=1)
-    Run(broker, 1, store, "-e").wait()
+    way(broker, 1, store, "-e").wait()
     for _ in range(12):
         broker.send([("c1", "x" * 500000)], partition=1)
     broker.send([("c1", "2000,c1,m1,4")], partition=1)
     low, high = broker.ends(1)
     if low <= 2:
         fail("the broker has all messages")
-    Run(broker, 1, store, "-e").wait(10)
+    way(broker, 1, store, "-e").wait(10)
     if told(railgun("info", store), "next") != 2:
         fail("a refused run changed the store")
-    Run(broker, 1, store, "-e", fill="1").wait()
+    way(broker, 1, store, "-e", fill="start").wait()
     answers = {int(key): value.decode() for _, key, value in broker.read("answers", 1)}
     long = [offset for offset, reply in answers.items() if reply == "long"]
     gone = [offset for offset, reply in answers.items() if reply == "row"]
     if gone != list(range(2, low)) or long != list(range(low, high - 1)) or answers[high - 1] != "ok 3 7 0 -":
         fail(f"behind the messages that are gone: {answers}")
-    print(f"messages 2 to {low - 1} were dropped before the store had them: status 10; with FILL=1 `row` each, and then '{answers[high - 1]}'")
+    print(f"messages 2 to {low - 1} were dropped before the store had them: status 10; filled with `row` each, and then '{answers[high - 1]}'")
+
+
+def try_cut_reply(way, work):
+    """A kill of a run whose output's pipe is full, so that its last line is cut: the cut line is no answer."""
+    broker, store, plan = Broker(), f"{work}/cut", f"{work}/commit.toml"
+    with open(PLAN, encoding="utf-8") as old, open(plan, "w", encoding="utf-8") as new:
+        new.write(old.read().replace("commit = 64", "commit = 5000"))  # so many answers are put at once
+    run = way(broker, 0, store, plan=plan)
+    run.await_run()
+    process, sink = run.find("run", store), run.sink()
+    os.kill(process, signal.SIGSTOP)
+    broker.send([("c1", f"{it},c1,m1,123456789012") for it in range(5000)], partition=0)
+    await_that(lambda: unread(f"{process}/fd/0") > 60000, "the run's input is full")
+    os.kill(sink, signal.SIGSTOP)
+    os.kill(process, signal.SIGCONT)
+    await_that(lambda: unread(f"{process}/fd/1") > 61440, "the run's output is full")
+    os.kill(process, signal.SIGKILL)
+    os.kill(sink, signal.SIGCONT)
+    run.ended()
+    way(broker, 0, store, "-e").wait()
+    messages, _, _ = compare(broker, 0, store, f"{store}.whole")
+    print(f"a run killed in a put: each answer of {messages} is whole")
+
+
+def try_guards(work):
+    """A store that another one has, an answer that is too long to be put, another store in its place, and none."""
+    broker, store, long = Broker(), f"{work}/guards", f"{work}/long.toml"
+    broker.send([("c1", f"{1000 * it},c1,m1,1000000000000") for it in range(200)], partition=0)
+    first = Python(broker, 0, store)
+    await_that(lambda: answered(broker, 0) == 200, "200 payments are answered")
+    Python(broker, 0, store).wait(75)
+    first.stop()
+    with open(f"{store}.stored", encoding="ascii") as it:
+        if it.read() != "200\n":
+            fail("STORE.stored isn't 200")
+    with open(PLAN, encoding="utf-8") as old, open(long, "w", encoding="utf-8") as new:
+        query = "SELECT min(amount), max(amount), sum(amount), sumsq(amount), first(amount), last(amount) FROM payments OVER INFINITE"
+        new.write(f"queries = {[query] * 12}\n" + old.read().partition("]\n\n")[2])
+    broker.send([("c1", "200000,c1,m1,1000000000000")], partition=0)
+    Python(broker, 0, store, "-e", "-X", "message.max.bytes=1000", plan=long).wait(6)
+    os.rename(store, f"{store}.moved")
+    Python(broker, 0, store, "-e", new="0").wait(74)
+    railgun("run", PLAN, store, lines=b"0,c1,m1,1\n")
+    Python(broker, 0, store, "-e").wait(74)
+    if answered(broker, 0) != 200:
+        fail("an answer of more than 1,000 bytes was put, or one of another store")
+    print("a second one, an answer that can't be put, no store, and another one in its place: status 75, 6, 74, 74")
+
+
+FAKE = """#!/bin/sh
+case $1 in
+info) printf '%s\\n' 'events 0' 'next 0' 'time -' 'frames 1' 'slot 0 none' 'slot 1 none' ;;
+run)
+    echo open 0 0 0
+    until [ -e "$3/go" ]; do sleep 0.1; done
+    cat > "$3/given"
+    ;;
+esac
+"""
+
+
+def try_whole_lines(work):
+    """A kill while a line is handed on that has no room in the run's pipe: the run is given no piece of it, which could be a payment.
+
+    640 lines of 100 bytes leave 96 bytes free of the last of 16 pages. Of a line of 4,116 bytes a pipe takes the first 20 there."""
+    broker, store, fake = Broker(), f"{work}/lines", f"{work}/fake"
+    with open(fake, "w", encoding="ascii") as it:
+        it.write(FAKE)
+    os.chmod(fake, 0o755)
+    os.mkdir(store)
+    open(f"{store}/events", "wb").close()
+    broker.send([("c1", f"{1000 * it},c1,m,".ljust(99, "5")) for it in range(640)], partition=0)
+    broker.send([("c1", "640000,c1,m,12345678" + "9" * 4095)], partition=0)
+    run = Python(broker, 0, store, program=fake)
+    await_that(lambda: run.find(fake, "run"), "the run has begun")
+    await_that(lambda: unread(f"{run.find(fake, 'run')}/fd/0") >= 64000, "the pipe is full")
+    time.sleep(0.5)
+    os.kill(run.source(), signal.SIGKILL)
+    open(f"{store}/go", "wb").close()
+    run.wait(-signal.SIGKILL)
+    with open(f"{store}/given", "rb") as it:
+        lines = it.read().split(b"\n")
+    if len(lines) != 641 or lines[640]:
+        fail(f"{len(lines) - 1} lines were given to a run, and behind them {lines[-1]}")
+    print("a kill while a line of 4,116 bytes waits for room: the run is given 640 whole lines")
+
+
+def unread(place):
+    """How many bytes stand in the pipe that is this file of a process."""
+    with open(f"/proc/{place}", "rb", opener=lambda path, flags: os.open(path, flags | os.O_NONBLOCK)) as it:
+        return int.from_bytes(fcntl.ioctl(it, termios.FIONREAD, bytes(4)), sys.byteorder)
+
+
+def measure_waits(work):
+    """Tells how long it is until a consumer has the answers to payments. The broker looks through all its messages for one, so it has few."""
+    waits = sorted(wait for it in range(ROUNDS) for wait in waits_of(f"{work}/{it}"))
+    median, slow, most = waits[len(waits) // 2], waits[len(waits) * 999 // 1000], waits[-1]
+    print(f"{len(waits)} payments: the median of the waits is {median:.1f} ms, the 999th of 1,000 {slow:.1f} ms, the longest {most:.1f} ms")
+    print(f"the load of the machine's {os.cpu_count()} processors was {os.getloadavg()[0]:.1f}")
+
+
+def waits_of(store, count=3000):
+    """Sends a payment each millisecond to a new broker, behind one that opens all connections: the milliseconds until their answers came."""
+    broker, sent, came = Broker(), [0.0] * (count + 1), [0.0] * (count + 1)
+    producer = Producer({"bootstrap.servers": broker.address, "linger.ms": 0})
+    run = Python(broker, 0, store, "-X", "fetch.wait.max.ms=1")
+    reader = threading.Thread(target=note_answers, args=(broker, came), daemon=True)
+    reader.start()
+    for it in range(count + 1):
+        sent[it] = time.monotonic()
+        producer.produce("payments", f"{it},c{it % 40},m{it % 97},100", partition=0)
+        if it == 0:
+            await_that(lambda: producer.flush(0.1) == 0 and came[0], "the first payment is answered")
+            begun = time.monotonic()
+        producer.poll(0)
+        time.sleep(max(0.0, begun + (it + 1) / 1000 - time.monotonic()))
+    producer.flush()
+    reader.join(60)
+    run.stop()
+    if 0.0 in came:
+        fail(f"no answer to payment {came.index(0.0)}")
+    return [1000 * (end - start) for start, end in zip(sent[1:], came[1:])]
+
+
+def note_answers(broker, came):
+    """Notes when the first answer to each payment comes."""
+    it = Consumer({"bootstrap.servers": broker.address, "group.id": "look", "fetch.wait.max.ms": 1})
+    it.assign([TopicPartition("answers", 0, 0)])
+    left = len(came)
+    while left:
+        message = it.poll(1)
+        if message is not None and not message.error() and not came[int(message.key())]:
+            came[int(message.key())] = time.monotonic()
+            left -= 1
+    it.close()
+
+
+def try_all(work):
+    """Tries everything: first what is of one way alone."""
+    try_lines()
+    try_whole_lines(work)
+    try_guards(work)
+    for way in (Python, Shell):
+        print(f"{way.script}:")
+        folder = f"{work}/{way.script}"
+        os.mkdir(folder)
+        try_kills(way, folder)
+        try_marks(way, folder)
+        try_lost_messages(way, folder)
+        try_cut_reply(way, folder)
 
 
 def main():
@@ -329,10 +558,7 @@ def main():
         fail(f"no program at {PROGRAM}")
     work = tempfile.mkdtemp(prefix="railgun.", dir=os.environ.get("TMPDIR", "/var/tmp"))
     try:
-        try_lines()
-        try_kills(work)
-        try_marks(work)
-        try_lost_messages(work)
+        (measure_waits if sys.argv[1:] == ["--waits"] else try_all)(work)
     finally:
         for run in Run.begun:
             run.kill_all()

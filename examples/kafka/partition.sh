@@ -63,5 +63,5 @@ to_the_end() {
 
 "$here/lines.py" "$begin" <&3 |
     to_the_end "$railgun" run "$plan" "$store" "$begin" |
-    { grep --line-buffered '^[0-9]' || true; } |
+    "$here/lines.py" --replies |
     to_the_end put

@@ -51,7 +51,7 @@ done
 for part in "$examples"/client/railgun_client.py "$examples"/metrics/page.html; do
     put 644 "/usr/lib/railgun/$(basename "$part")" "$part"
 done
-for unit in "$examples"/service/*.service "$examples"/service/*.socket "$examples"/service/*.timer; do
+for unit in "$examples"/kafka/*.service "$examples"/service/*.service "$examples"/service/*.socket "$examples"/service/*.timer; do
     placed "$unit" | put 644 "/usr/lib/systemd/system/$(basename "$unit")"
 done
 
@@ -64,7 +64,7 @@ Maintainer: $maintainer
 Section: utils
 Priority: optional
 Depends: libc6, adduser
-Suggests: python3, python3-prometheus-client, kcat, systemd
+Suggests: python3, python3-prometheus-client, python3-confluent-kafka, kcat, systemd
 Installed-Size: $(du -sk "$tree" | cut -f1)
 Description: exact metrics over sliding windows of payments
  Railgun answers each payment of a stream with counts, sums, extremes and

@@ -1,0 +1,13 @@
+pub mod Within
+pub mod Listing
+pub mod Replied
+pub mod Marked
+pub mod Marking
+pub mod Rows
+pub mod Ended
+pub mod Opened
+pub mod Ranging
+pub mod Coming
+pub mod Going
+pub mod Handed
+pub mod Beginning

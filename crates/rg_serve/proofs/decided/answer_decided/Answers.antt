@@ -1,0 +1,54 @@
+use Rattle.std.proofs.Common.{List, [], ℕ, sym, subst}
+use Rattle.rg_host.proofs.Runs.{moments_then}
+use Rattle.rg_pipe.specs.Handing.Given.{row}
+use Rattle.rg_serve_spec.specs.Errands.{StaysOnErrand}
+use Rattle.rg_serve.specs.Serving.{IsHeld}
+use Rattle.rg_serve.proofs.Replied.{replies}
+use Rattle.rg_serve.proofs.Rows.{decided_answered}
+use Rattle.rg_serve.proofs.Within.{held_within}
+use Rattle.rg_serve.proofs.decided.answer_decided.Goals as goal
+
+pub returns-in-Err-clause-answers : goal.returns-in-Err-clause-answers
+returns-in-Err-clause-answers g c plan item decided =
+    let old = c.args.task.now in
+    let left = c.args.gathered.now.items in
+    let given = row c.args.offset item in
+    record {
+      moments = λ e ahead a. c.settle.ensures.settles.moments plan e (replies g.K.Task.view plan e given ahead old left a) a.within;
+      awaits = λ e ahead a. tt;
+      halted = λ e ahead a. c.in-Err.ensures.settles.halted plan e (replies g.K.Task.view plan e given ahead old left a) a.within;
+    }
+
+pub returns-in-Ok-tell_line-clause-answers : goal.returns-in-Ok-tell_line-clause-answers
+returns-in-Ok-tell_line-clause-answers g c plan item decided =
+    let old = c.args.task.now in
+    let left = c.args.gathered.now.items in
+    let given = row c.args.offset item in
+    record {
+      moments = λ e ahead a. c.settle.ensures.settles.moments plan e (replies g.K.Task.view plan e given ahead old left a) a.within;
+      awaits = λ e ahead a.
+          decided_answered g.K.Task.view plan e c.args.offset item ahead old left a c.requires.small c.requires.next c.settle.new.task c.settle.new.gathered.items c.tell_line.new.gathered.items
+          (c.in-Ok.ensures.settles.within plan e (replies g.K.Task.view plan e given ahead old left a) a.within) c.args.reply.now c.args.due (c.in-Ok.ensures.settles.done plan a.within.running)
+          c.in-Ok-tell_line.ensures.gathers.all c.in-Ok-tell_line.ensures.gathers.small (c.in-Ok.ensures.settles.events plan a.within.running) decided;
+      halted = λ e ahead a. tt;
+    }
+
+pub returns-in-Err-tell_line-clause-answers : goal.returns-in-Err-tell_line-clause-answers
+returns-in-Err-tell_line-clause-answers g c plan item decided =
+    let old = c.args.task.now in
+    let left = c.args.gathered.now.items in
+    let mid = c.settle.new.task in
+    let given = row c.args.offset item in
+    record {
+      moments = λ e ahead a.
+          let rs = replies g.K.Task.view plan e given ahead old left a in
+          let P = StaysOnErrand (g.K.Task.view.store plan) e [] in
+          let held = held_within g.K.Task.view plan e rs mid c.settle.new.gathered.items (c.in-Ok.ensures.settles.within plan e rs a.within) in
+          moments_then g.K.Task.view.clock g.K.Task.view.since old mid c.stop.new.task P P P (c.settle.ensures.settles.moments plan e rs a.within)
+          (c.stop.ensures.stops.moments plan e (subst (λ (l : List ℕ). IsHeld g.K.Task.view plan e mid l) (sym c.in-Err-tell_line.ensures.gathers.none) held)) (λ m p. p) (λ m p. p);
+      awaits = λ e ahead a. tt;
+      halted = λ e ahead a.
+          let rs = replies g.K.Task.view plan e given ahead old left a in
+          let held = held_within g.K.Task.view plan e rs mid c.settle.new.gathered.items (c.in-Ok.ensures.settles.within plan e rs a.within) in
+          c.stop.ensures.stops.halted plan e (subst (λ (l : List ℕ). IsHeld g.K.Task.view plan e mid l) (sym c.in-Err-tell_line.ensures.gathers.none) held);
+    }

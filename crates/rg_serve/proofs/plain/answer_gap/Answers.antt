@@ -1,0 +1,33 @@
+use Rattle.std.proofs.Common.{List, [], ◌∷◌, ◌++◌, ℕ, rules, refl, sym, subst}
+use Rattle.std.specs.Prelude.{codes, decimal}
+use Rattle.rg_pipe.specs.Handing.Given.{gap}
+use Rattle.rg_serve_spec.specs.Replies.{gap_line}
+use Rattle.rg_serve.specs.Serving.{IsHeld}
+use Rattle.rg_serve.proofs.Marked.{nothing_holds, digit_nothing}
+use Rattle.rg_serve.proofs.Replied.{replies, answered}
+use Rattle.rg_serve.proofs.Within.{still_moments, held_within}
+use Rattle.rg_serve.proofs.plain.answer_gap.Goals as goal
+
+pub returns-in-Ok-clause-answers : goal.returns-in-Ok-clause-answers
+returns-in-Ok-clause-answers g c plan =
+    let t = c.args.task.now in
+    let left = c.args.gathered.now.items in
+    let given = (gap c.args.offset c.args.expected) in
+    record {
+      moments = λ e ahead a. still_moments g.K.Task.view plan e g.met.K.Task.only_now g.met.K.Task.sinks (replies g.K.Task.view plan e given ahead t left a) t left a.within;
+      awaits = λ e ahead a. answered g.K.Task.view plan e given ahead t left a t left c.tell_gap.new.gathered.items (gap_line c.args.offset c.args.expected ∷ []) a.within refl refl
+          (nothing_holds (g.K.Task.view.store plan) (g.K.Task.view.at t).stored (g.K.Task.view.at t).keep (g.K.Task.view.may t) (gap_line c.args.offset c.args.expected ∷ []) (digit_nothing c.args.offset (codes " gap " ++ decimal c.args.expected) (search rules)))
+          c.in-Ok.ensures.gathers.all c.in-Ok.ensures.gathers.small;
+      halted = λ e ahead a. tt;
+    }
+
+pub returns-in-Err-clause-answers : goal.returns-in-Err-clause-answers
+returns-in-Err-clause-answers g c plan =
+    let t = c.args.task.now in
+    let left = c.args.gathered.now.items in
+    let given = (gap c.args.offset c.args.expected) in
+    record {
+      moments = λ e ahead a. c.stop.ensures.stops.moments plan e (subst (λ (l : List ℕ). IsHeld g.K.Task.view plan e t l) (sym c.in-Err.ensures.gathers.none) (held_within g.K.Task.view plan e (replies g.K.Task.view plan e given ahead t left a) t left a.within));
+      awaits = λ e ahead a. tt;
+      halted = λ e ahead a. c.stop.ensures.stops.halted plan e (subst (λ (l : List ℕ). IsHeld g.K.Task.view plan e t l) (sym c.in-Err.ensures.gathers.none) (held_within g.K.Task.view plan e (replies g.K.Task.view plan e given ahead t left a) t left a.within));
+    }

@@ -1,0 +1,52 @@
+use Rattle.std.proofs.Common.{List, [], ℕ, inr, sym, ◌∙◌, ap, subst}
+use Rattle.rg_host.proofs.Runs.{moments_then}
+use Rattle.rg_event.specs.declared.event.Event.{Event}
+use Rattle.rg_run_spec.specs.Laws.{IsPrefixOf}
+use Rattle.rg_run_spec.specs.Stores.{IsNear}
+use Rattle.rg_task.specs.State.{State}
+use Rattle.rg_serve_spec.specs.Frames.{lines_in}
+use Rattle.rg_serve_spec.specs.Errands.{course_of, StaysOnErrand}
+use Rattle.rg_serve.specs.Serving.{IsWithin}
+use Rattle.rg_serve.proofs.Within.{step_moments, step_halted, save_within}
+use Rattle.rg_serve.proofs.settle.save_all.Goals as goal
+
+pub returns-in-Ok-save-clause-settles : goal.returns-in-Ok-save-clause-settles
+returns-in-Ok-save-clause-settles g c =
+    let h = c.args.task.now in
+    let put = c.flush.new.task in
+    let last = c.save.new.self in
+    record {
+      moments = λ plan e replies w.
+          let w2 = subst (λ (l : List ℕ). IsWithin g.K.Task.view plan e replies put l) c.flush.ensures.empty (c.in-Ok.ensures.flushes.within plan e replies w) in
+          let P = StaysOnErrand (g.K.Task.view.store plan) e [] in
+          moments_then g.K.Task.view.clock g.K.Task.view.since h put last P P P (c.flush.ensures.flushes.moments plan e replies w)
+          (step_moments g.K.Task.view plan e replies put last w2 (c.save.ensures.within_step plan w2.running)) (λ m p. p) (λ m p. p);
+      within = λ plan e replies w.
+          let w2 = subst (λ (l : List ℕ). IsWithin g.K.Task.view plan e replies put l) c.flush.ensures.empty (c.in-Ok.ensures.flushes.within plan e replies w) in
+          let same = c.in-Ok-save.ensures.events plan w2.running in
+          subst (λ (l : List ℕ). IsWithin g.K.Task.view plan e replies last l) (sym c.flush.ensures.empty)
+          (save_within g.K.Task.view plan e replies put last w2 (c.save.ensures.within_step plan w2.running) (c.in-Ok-save.ensures.stored plan w2.running) (c.in-Ok-save.ensures.saved plan w2.running) (c.in-Ok-save.ensures.running plan w2.running)
+          (subst (λ (l : List Event). IsPrefixOf l (course_of e).accepted) (sym same) w2.begins) (subst (λ (l : List Event). IsNear (course_of e) (lines_in replies) l) (sym same) w2.near_events));
+      halted = λ plan e replies w. tt;
+      events = λ plan runs. c.in-Ok-save.ensures.events plan (c.flush.ensures.only.keeps.running plan runs) ∙ ap (λ (x : State). x.events) c.flush.ensures.only.keeps.at_stays;
+      done = λ plan runs. c.in-Ok-save.ensures.saved plan (c.flush.ensures.only.keeps.running plan runs);
+    }
+
+pub returns-in-Err-save-clause-settles : goal.returns-in-Err-save-clause-settles
+returns-in-Err-save-clause-settles g c =
+    let h = c.args.task.now in
+    let put = c.flush.new.task in
+    let last = c.save.new.self in
+    record {
+      moments = λ plan e replies w.
+          let w2 = subst (λ (l : List ℕ). IsWithin g.K.Task.view plan e replies put l) c.flush.ensures.empty (c.in-Ok.ensures.flushes.within plan e replies w) in
+          let P = StaysOnErrand (g.K.Task.view.store plan) e [] in
+          moments_then g.K.Task.view.clock g.K.Task.view.since h put last P P P (c.flush.ensures.flushes.moments plan e replies w)
+          (step_moments g.K.Task.view plan e replies put last w2 (c.save.ensures.within_step plan w2.running)) (λ m p. p) (λ m p. p);
+      within = λ plan e replies w. tt;
+      halted = λ plan e replies w.
+          let w2 = subst (λ (l : List ℕ). IsWithin g.K.Task.view plan e replies put l) c.flush.ensures.empty (c.in-Ok.ensures.flushes.within plan e replies w) in
+          inr (step_halted g.K.Task.view plan e replies put last w2 (c.save.ensures.within_step plan w2.running));
+      events = λ plan runs. tt;
+      done = λ plan runs. tt;
+    }

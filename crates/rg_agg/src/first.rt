@@ -128,7 +128,7 @@ impl Aggregate for First {
     ghost of_func = { λ _. refl };
 }
 
-/// The same values in the same order.
+/// A copy of the queue, in its order.
 fn copy_numbers(alloc: Global, numbers: &VecDeque<Number>) -> Result<VecDeque<Number>, Memory>
     ensures { IfOk result (λ copies. copies.items ≡ numbers.now.items) }
 {

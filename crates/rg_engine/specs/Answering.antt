@@ -26,7 +26,7 @@ abbrev pub node_answer : List Event → Event → Option Node → Answer
 node_answer events e None = Dash
 node_answer events e (Some node) = answer_of node.agg.func (node_values node (key_bytes (key_of node.columns e)) e.time events)
 
--- the same, of each of the nodes of these numbers
+-- the answers of the nodes of these numbers to e, the last one of these events, from scratch
 abbrev pub node_answers : Tasks → List Event → Event → List ℕ → List Answer
 node_answers plan events e nodes = map (λ n. node_answer events e (node_at plan n)) nodes
 

@@ -40,7 +40,7 @@ deed_by (Some change) true value = deed_with change value
 abbrev pub node_deed : Node → List ℕ → ℕ → Event → Option Deed
 node_deed node key offset x = deed_by (side_of node.window offset) (passes_at node key x) (handed node.agg.field x)
 
--- the same, by the edge's index among these offsets
+-- of a node and a key, for an event that passed the edge of this index among these offsets
 abbrev pub edge_deed : Node → List ℕ → List ℕ → ℕ → Event → Option Deed
 edge_deed node key offsets edge x = node_deed node key (slice_index_or offsets edge 0) x
 

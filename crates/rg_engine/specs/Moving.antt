@@ -54,12 +54,12 @@ pub record PastStays {P : Type 0} (Goes : P → P → Type 0) (IsSound HasEnded 
   pub room : HasRoom old → HasRoom new
   pub past : Kept Goes IsSound HasEnded faults old new
 
--- The same of a table: whether it tells its rows, and what is known of them since its mark.
+-- What stays of a table whatever the answer: whether it tells its rows, and what is known of them since its mark.
 pub record RowsStay {T : Type 0} (Tells : T → Type 0) (named there : T → Marks) (cells : T → Cells) (faults : T → ℕ) (old new : T) : Type 0 where
   pub rows : TableKept Tells faults old new
   pub since : KeepsSince Tells named there cells old new
 
--- The same of the edges, none of which goes back, and of the tree.
+-- What stays of the edges, none of which goes back, and of the tree.
 pub record EdgesStay (is_sound : Type 0) (Spells Later : Spot → Type 0) (events : List Event) (old new : Placed) (tree tree' : List FilterPart) : Type 0 where
   pub offsets : new.offsets ≡ old.offsets
   pub same : length new.spots ≡ length old.spots

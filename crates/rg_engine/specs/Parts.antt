@@ -24,11 +24,11 @@ node_if false node = []
 abbrev pub agg_nodes : Window → Option Test → List ℕ → ℕ → List AggPart → List Node
 agg_nodes window condition columns n aggs = flat_map (λ (part : AggPart). node_if (part.node == n) (node_under window condition columns part)) aggs
 
--- the same, among those of some columns each
+-- the nodes of this number among the aggregators of some lists of columns
 abbrev pub group_nodes : Window → Option Test → ℕ → List GroupPart → List Node
 group_nodes window condition n groups = flat_map (λ (part : GroupPart). agg_nodes window condition part.columns n part.aggs.items) groups
 
--- the same, in a tree
+-- the nodes of this number in a tree
 abbrev pub nodes_numbered : ℕ → List FilterPart → List Node
 nodes_numbered n filters = flat_map (λ (part : FilterPart). group_nodes part.window part.filter n part.groups.items) filters
 

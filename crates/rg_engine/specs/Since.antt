@@ -12,7 +12,8 @@ pub record KeepsSince {T : Type 0} (Tells : T → Type 0) (named there : T → M
   pub tells : Tells new ↔ Tells old
   pub since : Tells old → (base : Cells) → IsSince base (named old) (there old) (cells old) → IsSince base (named new) (there new) (cells new)
 
--- The same, and of its count of faults: it doesn't fall, and where the table's disk failed it rose.
+-- A table before a call and after it: what its marks tell stays told, its count of faults doesn't fall, and where its
+-- disk failed the count rose.
 pub record GoesOn {T : Type 0} (Tells : T → Type 0) (named there : T → Marks) (cells : T → Cells) (faults : T → ℕ) (old new : T) (result : Result Unit TableFault) : Type 0 where
   pub since : KeepsSince Tells named there cells old new
   pub later : faults old ≤ faults new

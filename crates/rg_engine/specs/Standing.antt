@@ -26,7 +26,7 @@ leaves_at window (Some length) offset = window.delay + length == offset
 abbrev pub has_edge : Window → ℕ → Bool
 has_edge window offset = (window.delay == offset) || leaves_at window window.length offset
 
--- the same, of a node's window
+-- events enter or leave the node's window at this offset
 abbrev pub HasEdge : Option Node → ℕ → Type 0
 HasEdge None offset = ⊥
 HasEdge (Some node) offset = has_edge node.window offset ≡ true

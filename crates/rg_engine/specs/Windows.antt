@@ -13,7 +13,7 @@ use Rattle.rg_window.specs.Passing.{has_come}
 abbrev pub passes_at : Node → List ℕ → Event → Bool
 passes_at node key x = passes node.condition x && bytes_eq (key_bytes (key_of node.columns x)) key
 
--- the same, and x is in the node's window at time t
+-- x meets the node's condition, has this key, and is in the node's window at time t
 abbrev pub counts_at : Node → List ℕ → ℕ → Event → Bool
 counts_at node key t x = in_window node.window x t && passes_at node key x
 

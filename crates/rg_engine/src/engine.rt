@@ -129,9 +129,14 @@ impl<T: Table> Engine<T> {
             CarriesOn self.old.plan n (P.sound past.old) (P.spells past.old) (T.tells self.old.table)
             (P.events past.old) (P.events past.old ++ event ∷ []) first (T.cell self.old.table) self.old.spots →
             OnOk result (NodeStands self.old.plan n (P.events past.new) (T.cell self.new.table) (numbers_of self.new.spots)) }
+
+        // A node that can be carried on is never told to be a bad state.
         ensures bad { (n : ℕ) (first : List Event) → IsErrOf result (EngineFault.BadState n) →
             CarriesOn self.old.plan n (P.sound past.old) (P.spells past.old) (T.tells self.old.table)
             (P.events past.old) (P.events past.old ++ event ∷ []) first (T.cell self.old.table) self.old.spots → ⊥ }
+
+        // An edge that stood at its position in a prefix of the past stands at its position afterwards, whatever the
+        // nodes are.
         ensures places { (edge offset : ℕ) (front more : List Event) → P.sound past.old →
             IsSpelledAt (P.spells past.old) self.old.spots edge → P.events past.old ≡ front ++ more →
             slice_get self.old.plan.offsets edge ≡ Some offset →
@@ -147,6 +152,8 @@ impl<T: Table> Engine<T> {
         // The steps are how far the edges of each filter node's window came.
         ensures ticks { OnOk result (steps.new + come self.old.plan (numbers_of self.old.spots)
             ≡ steps.old + come self.old.plan (numbers_of self.new.spots)) }
+
+        // Where the edges stood at their positions, the steps are how far these moved.
         ensures passed { (front more : List Event) → P.sound past.old → All (P.spells past.old) self.old.spots →
             P.events past.old ≡ front ++ more → AreAtPositions self.old.plan front (numbers_of self.old.spots) →
             OnOk result (steps.new ≡ steps.old + passed_count self.old.plan front (P.events past.new)) }
@@ -156,9 +163,13 @@ impl<T: Table> Engine<T> {
 
         ensures appends { Appends (P.events past.old) event (P.events past.new) result }
         ensures below { OnOk result (length (P.events past.old) < P.limit past.old) }
+
+        // A full past is told with nothing changed and no step counted.
         ensures full { IsErrOf result (EngineFault.Past PastFault.Full) →
             (self.new ≡ self.old) × (steps.new ≡ steps.old) × (P.events past.new ≡ P.events past.old) × P.has_room past.new }
         ensures always { self.old.ended ≡ false → RefusesAlways (P.ended past.old) (P.limit past.old ≤ length (P.events past.old)) result }
+
+        // Each fault has its cause.
         ensures cause { (fault : PastFault) → IsErrOf result (EngineFault.Past fault) →
             HasCause (P.illegal past.new) (P.limit past.old ≤ length (P.events past.old)) (P.ended past.old)
             (P.faults past.old) (P.faults past.new) fault }
@@ -166,14 +177,21 @@ impl<T: Table> Engine<T> {
             IsErrOf result (EngineFault.Past (PastFault.Damaged place)) → ⊥ }
         ensures table { IsErrOf result EngineFault.Table → Rose (T.faults self.old.table) (T.faults self.new.table) }
 
+        // Exactly the refusals but that of a full past end an engine, which then answers Ended and touches nothing.
         ensures ended { IsErrOf result EngineFault.Ended ↔ (self.old.ended ≡ true) }
         ensures untouched { IsErrOf result EngineFault.Ended → (self.new ≡ self.old) × (past.new ≡ past.old) × (steps.new ≡ steps.old) }
         ensures ends { self.new.ended ≡ ends_by result }
 
         ensures plan { self.new.plan ≡ self.old.plan }
+
+        // No edge goes back, and none comes behind the end.
         ensures edges { EdgesMove (P.sound past.old) (P.spells past.old) (P.spells past.new) (length (P.events past.new)) self.old.spots self.new.spots }
+
+        // The past goes on, a sound one stays sound, and no fault of past or table is lost.
         ensures past { Kept P.goes P.sound P.ended P.faults past.old past.new }
         ensures rows { TableKept T.tells T.faults self.old.table self.new.table }
+
+        // What the table's marks tell of changes, they tell afterwards too.
         ensures since { KeepsSince T.tells T.named T.there T.cell self.old.table self.new.table }
     {
         if self.ended {
@@ -233,10 +251,13 @@ impl<T: Table> Engine<T> {
         steps: &mut Steps<L>,
     ) -> Result<Answers, EngineFault>
         requires within { AreWithin self.old.spots (length (P.events past.old)) }
+        // A node that can be carried on stands for all events afterwards.
         ensures stands { (n : ℕ) (first front : List Event) → P.events past.old ≡ front ++ event.now ∷ [] →
             CarriesOn self.old.plan n (P.sound past.old) (P.spells past.old) (T.tells self.old.table)
             (P.events past.old) (P.events past.old) first (T.cell self.old.table) self.old.spots →
             OnOk result (NodeStands self.old.plan n (P.events past.new) (T.cell self.new.table) (numbers_of self.new.spots)) }
+
+        // Such a node is never told to be a bad state.
         ensures bad { (n : ℕ) (first front : List Event) → P.events past.old ≡ front ++ event.now ∷ [] →
             IsErrOf result (EngineFault.BadState n) →
             CarriesOn self.old.plan n (P.sound past.old) (P.spells past.old) (T.tells self.old.table)
@@ -255,8 +276,11 @@ impl<T: Table> Engine<T> {
         // Over any past: what stands at an illegal place is neither an event nor the end.
         ensures legal { (edge : ℕ) (spot : Spot) → slice_get self.old.spots edge ≡ Some spot → P.asks_illegal past.old spot → OnOk result ⊥ }
 
+        // Nothing is appended.
         ensures events { P.events past.new ≡ P.events past.old }
         ensures room { P.has_room past.old → P.has_room past.new }
+
+        // Each fault has its cause.
         ensures cause { (fault : PastFault) → IsErrOf result (EngineFault.Past fault) →
             HasCause (P.illegal past.new) ⊥ (P.ended past.old) (P.faults past.old) (P.faults past.new) fault }
         ensures never_damaged { (place : ℕ) → P.sound past.old → All (P.spells past.old) self.old.spots →
@@ -268,6 +292,8 @@ impl<T: Table> Engine<T> {
         ensures edges { EdgesMove (P.sound past.old) (P.spells past.old) (P.spells past.new) (length (P.events past.new)) self.old.spots self.new.spots }
         ensures past { Kept P.goes P.sound P.ended P.faults past.old past.new }
         ensures rows { TableKept T.tells T.faults self.old.table self.new.table }
+
+        // What the table's marks tell of changes, they tell afterwards too.
         ensures since { KeepsSince T.tells T.named T.there T.cell self.old.table self.new.table }
     {
         if self.ended {
@@ -314,6 +340,7 @@ impl<T: Table> Engine<T> {
     /// Takes a list of answers back, so that the answers to the next event are put into its room and
     /// take no memory.
     pub fn reuse(&mut self, answers: Answers)
+        // It takes a list of answers back for its room, and is as it was.
         ensures { self.new ≡ self.old }
     {
         self.spare = answers.into_vec();
@@ -328,13 +355,18 @@ impl<T: Table> Engine<T> {
         steps: &mut Steps<L>,
     ) -> Result<(), EngineFault>
         requires within { AreWithin self.old.spots (length (P.events past.old)) }
+        // Each node that stood for a prefix of the past stands for all of it.
         ensures stands { (n : ℕ) (first : List Event) → last_time (P.events past.old) ≡ t →
             CarriesOn self.old.plan n (P.sound past.old) (P.spells past.old) (T.tells self.old.table)
             (P.events past.old) (P.events past.old) first (T.cell self.old.table) self.old.spots →
             OnOk result (NodeStands self.old.plan n (P.events past.new) (T.cell self.new.table) (numbers_of self.new.spots)) }
+
+        // Such a node is never told to be a bad state.
         ensures bad { (n : ℕ) (first : List Event) → IsErrOf result (EngineFault.BadState n) →
             CarriesOn self.old.plan n (P.sound past.old) (P.spells past.old) (T.tells self.old.table)
             (P.events past.old) (P.events past.old) first (T.cell self.old.table) self.old.spots → ⊥ }
+
+        // Each edge that stood at its position in a prefix stands at its position in all of it.
         ensures places { (edge offset : ℕ) (front more : List Event) → P.sound past.old →
             IsSpelledAt (P.spells past.old) self.old.spots edge → P.events past.old ≡ front ++ more →
             last_time (P.events past.old) ≡ t → slice_get self.old.plan.offsets edge ≡ Some offset →
@@ -350,10 +382,13 @@ impl<T: Table> Engine<T> {
         // Over any past: what stands at an illegal place is neither an event nor the end.
         ensures legal { (edge : ℕ) (spot : Spot) → slice_get self.old.spots edge ≡ Some spot → P.asks_illegal past.old spot → OnOk result ⊥ }
 
+        // Nothing is appended.
         ensures events { P.events past.new ≡ P.events past.old }
         ensures room { P.has_room past.old → P.has_room past.new }
         ensures ended_always { self.old.ended ≡ false → P.ended past.old → 0 < length self.old.plan.offsets →
             IsErrOf result (EngineFault.Past PastFault.Ended) }
+
+        // Each fault has its cause.
         ensures cause { (fault : PastFault) → IsErrOf result (EngineFault.Past fault) →
             HasCause (P.illegal past.new) ⊥ (P.ended past.old) (P.faults past.old) (P.faults past.new) fault }
         ensures never_damaged { (place : ℕ) → P.sound past.old → All (P.spells past.old) self.old.spots →
@@ -368,6 +403,8 @@ impl<T: Table> Engine<T> {
         ensures edges { EdgesMove (P.sound past.old) (P.spells past.old) (P.spells past.new) (length (P.events past.new)) self.old.spots self.new.spots }
         ensures past { Kept P.goes P.sound P.ended P.faults past.old past.new }
         ensures rows { TableKept T.tells T.faults self.old.table self.new.table }
+
+        // What the table's marks tell of changes, they tell afterwards too.
         ensures since { KeepsSince T.tells T.named T.there T.cell self.old.table self.new.table }
     {
         if self.ended {
@@ -392,6 +429,7 @@ impl<T: Table> Engine<T> {
 
     /// Where its edges stand, one spot for each offset of the plan.
     pub fn spots(&self) -> &[Spot]
+        // A checkpoint is written from these spots and the table.
         ensures spots { result.now ≡ self.now.spots }
         ensures same { length self.now.spots ≡ length self.now.plan.offsets }
     {
@@ -400,6 +438,7 @@ impl<T: Table> Engine<T> {
 
     /// Its table. Plan, spots and whether it has ended stay, whatever the caller does to the table.
     pub fn table(&mut self) -> &mut T
+        // The table that is lent can change alone.
         ensures* writes_back { sem 𝓛 (Lends (the_row T.row T.Table) T.row self.entry result (λ table. record self.old { table = table })) }
         ensures value { result.now ≡ self.old.table }
     {

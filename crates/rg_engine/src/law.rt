@@ -16,6 +16,8 @@ pub fn law_serves()
     // Columns serve a plan where they serve each of its aggregators, and each of its windows that ends lasts.
     ensures parts { (fields : List Field) (plan : Tasks) → All (λ (node : AggNode). IsServed fields node.agg) plan.aggs →
         All IsLasting plan.windows → Serves fields plan }
+
+    // Queries that are legal over a schema are served by its events.
     ensures legal { (shape : Shape) (queries : List Asked) → All (IsLegalQuery shape) queries → Serves shape.fields (plan_for queries) }
     ensures fed { (shape : Shape) (queries : List Asked) (events : List Event) → All (IsLegalQuery shape) queries →
         All (IsEventOf shape.fields) events → IsFed (plan_for queries) events }

@@ -14,7 +14,7 @@ pub(crate) struct FilterPart {
     pub(crate) groups: Vec<GroupPart>,
 }
 
-/// The same, by their values in some columns.
+/// The aggregators of a filter node whose rows go by the values in some columns.
 #[derive(Debug, Drop)]
 pub(crate) struct GroupPart {
     pub(crate) columns: Columns,

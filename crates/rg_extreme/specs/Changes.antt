@@ -43,7 +43,8 @@ pub record Loses (side : Side) (value : Value) (old new : Deque) (result : Resul
   pub unfit : OnErr result ((values : List Value) → StandsIn side old (value ∷ values) → ⊥)
   pub err : OnErr result (new ≡ old)
 
--- the same, of a value that is the first pair's: it is refused where there are more values than in the pairs, and none of those left can beat them
+-- A removal of the first pair's value takes the first value away. It is refused where there are more values than in the
+-- pairs, and none of those left can beat them.
 pub record LosesFirst (side : Side) (old new : Deque) (result : Result Unit Unfit) : Type 0 where
   pub sound : IsSound side new
   pub pairs : OnOk result (pairs_in new ≡ without_first (pairs_in old))
@@ -53,7 +54,8 @@ pub record LosesFirst (side : Side) (old new : Deque) (result : Result Unit Unfi
   pub none : OnErr result (some_can_beat side (first_value (without_first (pairs_in old))) ≡ false)
   pub err : OnErr result (new ≡ old)
 
--- the same, of one that isn't: it is refused where all values are in the pairs, or the first pair's doesn't beat it
+-- A removal of another value takes the first value away. It is refused where all values are in the pairs, or the first
+-- pair's doesn't beat it.
 pub record LosesBeaten (side : Side) (first value : Value) (old new : Deque) (result : Result Unit Unfit) : Type 0 where
   pub sound : IsSound side new
   pub pairs : OnOk result (pairs_in new ≡ pairs_in old)

@@ -33,6 +33,7 @@ pub struct Max {
 impl Max {
     /// How many pairs it keeps.
     pub fn pairs(&self) -> u64
+        // It keeps, in order, the values that no later one beats, equal neighbours joined with their number.
         ensures { result ≡ length (pairs_of (⟦<Max as Aggregate>⟧.held self.now)) }
     {
         self.deque.pairs.len() as u64
@@ -50,8 +51,12 @@ impl Max {
         requires like { IsLike (kind_in (⟦<Max as Aggregate>⟧.held self.old)) value.now }
         ensures ok { OnOk result ((values : List TheValue) → Stands (⟦<Max as Aggregate>⟧.held self.old) values → Stands (⟦<Max as Aggregate>⟧.held self.new) (values ++ value.now ∷ [])) }
         ensures size { OnOk result (size_in (⟦<Max as Aggregate>⟧.held self.new) ≡ size_in (⟦<Max as Aggregate>⟧.held self.old) + 1) }
+
+        // Exactly those pairs go off the back that the value beats, with a tick each.
         ensures ticks { OnOk result (steps.new + length (pairs_of (⟦<Max as Aggregate>⟧.held self.new)) ≡ steps.old + length (pairs_of (⟦<Max as Aggregate>⟧.held self.old)) + begun (pairs_of (⟦<Max as Aggregate>⟧.held self.new))) }
         ensures err { OnErr result (⟦<Max as Aggregate>⟧.held self.new ≡ ⟦<Max as Aggregate>⟧.held self.old) }
+
+        // Over any additions and removals from a state of no values on there are at most as many ticks as additions.
         ensures few { OnOk result (FewTicks (⟦<Max as Aggregate>⟧.held self.old) steps.old steps.new) }
         ensures no_tick { OnErr result (steps.new ≡ steps.old) }
     {
@@ -113,6 +118,8 @@ impl Aggregate for Max {
         ensures begins { OnOk result (MayBeginWith (highest self.old.deque.size (pairs_in self.old.deque)) value.now) }
         ensures unfit { OnErr result ((values : List TheValue) → Stands (highest self.old.deque.size (pairs_in self.old.deque)) (value.now ∷ values) → ⊥) }
         ensures err { OnErr result (self.new ≡ self.old) }
+
+        // A removal leaves no more pairs.
         ensures pairs { length (pairs_in self.new.deque) ≤ length (pairs_in self.old.deque) }
     {
         self.deque.remove(Side::Greatest, value)

@@ -20,7 +20,7 @@ use std::alloc::Global;
 use std::collections::VecDeque;
 use std::sync::ledger::Ledger;
 
-/// The same pairs in the same order.
+/// A copy of the pairs, in their order.
 pub(crate) fn copy_pairs(
     alloc: Global,
     pairs: &VecDeque<(Number, u64)>,

@@ -32,6 +32,7 @@ impl Func {
     /// The function of a field alone that a word names, in any ASCII case. PCT names none: see `Callee`.
     #[tactic(auto, unfolding(crate::specs::Words::func_of))]
     pub fn named(word: &[u8]) -> Option<Func>
+        // A word names a function exactly where the language says so, in any case of its letters.
         ensures { result ≡ func_of word.now }
     {
         if word.eq_ignore_ascii_case(b"count") {
@@ -61,6 +62,7 @@ impl Func {
 
     /// Its name as it is printed.
     pub fn name(self) -> &'static [u8]
+        // The name of the function, which names it again.
         ensures { result.now ≡ func_name self }
     {
         match self {

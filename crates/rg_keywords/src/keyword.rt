@@ -22,6 +22,7 @@ impl Keyword {
     /// The keyword that a word is.
     #[tactic(auto, unfolding(crate::specs::Words::keyword_of))]
     pub fn named(word: &[u8]) -> Option<Keyword>
+        // A word is a keyword exactly where the language says so, in any case of its letters.
         ensures { result ≡ keyword_of word.now }
     {
         if word.eq_ignore_ascii_case(b"select") {
@@ -57,6 +58,7 @@ impl Keyword {
 /// The flag that a word is: `TRUE` or `FALSE` in any ASCII case.
 #[tactic(auto, unfolding(crate::specs::Words::truth_of))]
 pub fn truth(word: &[u8]) -> Option<bool>
+    // A word is a flag exactly where the language says so, in any case of its letters.
     ensures { result ≡ truth_of word.now }
 {
     if word.eq_ignore_ascii_case(b"true") {

@@ -15,6 +15,7 @@ pub enum Op {
 impl Op {
     /// Its sign.
     pub fn text(self) -> &'static [u8]
+        // The text of the sign.
         ensures { result.now ≡ op_text self }
     {
         match self {

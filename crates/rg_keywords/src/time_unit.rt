@@ -16,6 +16,7 @@ impl TimeUnit {
     /// unit the singular and the plural.
     #[tactic(auto, unfolding(crate::specs::Words::unit_of))]
     pub fn named(word: &[u8]) -> Option<TimeUnit>
+        // A word is a unit exactly where the language says so, in any case of its letters.
         ensures { result ≡ unit_of word.now }
     {
         if word.eq_ignore_ascii_case(b"ms") {
@@ -43,6 +44,7 @@ impl TimeUnit {
 
     /// How many milliseconds it has.
     pub fn millis(self) -> u64
+        // The unit's milliseconds.
         ensures { result ≡ unit_millis self }
     {
         match self {

@@ -19,6 +19,7 @@ pub enum Condition {
 impl Condition {
     /// An equal condition.
     pub fn copy(&self, alloc: Global) -> Result<Condition, Memory>
+        // A copy asks the same.
         ensures { IfOk result (λ copy. test_of copy ≡ test_of self.now) }
     {
         match self {

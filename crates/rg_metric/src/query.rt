@@ -58,8 +58,9 @@ impl Aggs {
         Ok(())
     }
 
-    /// The same aggregators, in order.
+    /// An equal list.
     pub fn copy(&self, alloc: Global) -> Result<Aggs, Memory>
+        // A copy asks the same.
         ensures { IfOk result (λ aggs. aggs ≡ self.now) }
     {
         Ok(Aggs {
@@ -107,8 +108,9 @@ impl Columns {
         Ok(())
     }
 
-    /// The same columns, in order.
+    /// An equal list.
     pub fn copy(&self, alloc: Global) -> Result<Columns, Memory>
+        // A copy asks the same.
         ensures { IfOk result (λ columns. columns ≡ self.now) }
     {
         Ok(Columns {
@@ -136,6 +138,7 @@ pub struct Query {
 impl Query {
     /// An equal query.
     pub fn copy(&self, alloc: Global) -> Result<Query, Memory>
+        // A copy asks the same.
         ensures { IfOk result (λ copy. asked copy ≡ asked self.now) }
     {
         let filter = match &self.filter {

@@ -130,7 +130,7 @@ pub(crate) fn push_in<K: Ranked>(
     Ok(())
 }
 
-/// The same keys with their counts.
+/// A copy of the map: each key with its count.
 pub(crate) fn copy_in<K: Ranked>(
     alloc: Global,
     map: &BTreeMap<K, u64>,

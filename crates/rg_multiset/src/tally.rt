@@ -53,6 +53,7 @@ impl<K: Ranked> Tally<K> {
 
     /// A tally of the same values, each as often as here.
     pub fn copy(&self, alloc: Global) -> Result<Tally<K>, Memory>
+        // A copy has each value as often.
         ensures { IfOk result (λ copy. copy ≡ self.now) }
     {
         let map = copy_in(alloc, &self.map)?;
@@ -65,6 +66,7 @@ impl<K: Ranked> Tally<K> {
 
     /// How many values there are, each as often as it is there: at most 2^40.
     pub fn size(&self) -> u64
+        // It tells how many values it counts.
         ensures size { result ≡ counts_sum self.now }
         ensures few { result ≤ 2 ^ 40 }
     {
@@ -78,6 +80,7 @@ impl<K: Ranked> Tally<K> {
 
     /// How many values there are that differ.
     pub fn distinct(&self) -> u64
+        // It tells how many different values it counts.
         ensures { (values : List Value) → AreCounts self.now values → result ≡ distinct_after [] values }
     {
         self.map.len() as u64
@@ -99,6 +102,7 @@ impl<K: Ranked> Tally<K> {
         requires room { counts_sum self.old < 2 ^ 40 }
         requires legal { K.legal (K.value_of key.now) }
         requires like { IsLike (pairs_kind self.old) (K.value_of key.now) }
+        // The value is counted once more, and each other one as often as before.
         ensures ok { OnOk result (OneMore (K.value_of key.now) self.old self.new) }
         ensures err { OnErr result (self.new ≡ self.old) }
         ensures memory { IsErr result → count_in (K.value_of key.now) self.old ≡ 0 }
@@ -115,7 +119,10 @@ impl<K: Ranked> Tally<K> {
 
     /// Counts a value once less, and drops it where it was there once. A refusal leaves the tally as it was.
     pub fn remove(&mut self, key: &K) -> Result<(), Unfit>
+        // The value is counted once less, and each other one as often as before.
         ensures ok { OnOk result (OneMore (K.value_of key.now) self.new self.old) }
+
+        // A removal is refused only where the value isn't counted.
         ensures unfit { OnErr result (count_in (K.value_of key.now) self.old ≡ 0) }
         ensures err { OnErr result (self.new ≡ self.old) }
         ensures sound { IsTally K.legal K.below self.new }
@@ -155,6 +162,7 @@ impl<K: Ranked> Tally<K> {
 
     /// Writes a tag and the values with their counts at the end. Where memory runs out `out` holds what it held.
     pub fn put(&self, tag: u8, out: &mut Vec<u8>) -> Result<(), Memory>
+        // The pairs are written by their grammar, in rising order, or nothing is.
         ensures ok { OnOk result (out.new.items ≡ out.old.items ++ counts_bytes tag self.now) }
         ensures err { OnErr result (out.new.items ≡ out.old.items) }
     {
@@ -180,10 +188,13 @@ impl<K: Ranked> Tally<K> {
     /// Takes a tag and values with their counts, as `put` writes them: values of one kind that rise, each count
     /// above 0, and the counts at most 2^40 in sum. A refusal leaves the reader as it was.
     pub fn read(alloc: Global, tag: u8, from: &mut ByteReader<'_>) -> Result<Tally<K>, StateFault>
+        // Pairs are read exactly where they rise and each count is at least 1.
         ensures agrees { Agrees (λ tally. tally) (pairs_at K.value_at K.below tag from.old) result from.new }
         ensures ok { IfOk result (λ tally. from.old ≡ counts_bytes tag tally ++ from.new) }
         ensures some { IfOk result (λ tally. 0 < counts_sum tally) }
         ensures sound { IfOk result (IsTally K.legal K.below) }
+
+        // What was written is read back, whatever follows.
         ensures reads_back { (pairs : List (Value × ℕ)) (rest : List ℕ) → IsTally K.legal K.below pairs → 0 < counts_sum pairs → from.old ≡ counts_bytes tag pairs ++ rest → Returns (λ tally. tally) pairs rest result from.new }
         ensures err { OnErr result (from.new ≡ from.old) }
     {

@@ -33,7 +33,7 @@ pub record IsInStep (plan : Planned) (now : Option Image) (may : Image → Type 
   pub stands : EngineStands (Spells now (base r) (opened r)) (plan_for plan.queries) (all_events now (base r) (opened r)) cells spots
   pub texts_are : texts ≡ texts_of plan.shape plan.queries
 
--- The same, and no event is in the open chunk: a checkpoint of the stored events can be saved.
+-- An engine in step with a store whose open chunk is empty: a checkpoint of the stored events can be saved.
 pub record IsToSave (plan : Planned) (now : Option Image) (may : Image → Type 0) (r : Reservoir) (cells : Cells) (spots : List Spot) (texts : List (List ℕ)) : Type 0 where
   pub in_step : IsInStep plan now may r cells spots texts
   pub empty : opened r ≡ []

@@ -168,16 +168,26 @@ pub fn open_store<H: Host, T: Table, L: Ledger>(
     // Over a store whose images are truthful and of the plan's schema, of one that grows to it by the plan's defaults, or without a frame.
     ensures started { IsOpenable (planned plan.now) (H.now host.old) (H.may host.old) → T.tells table →
         IfOk result (λ r. IsStarted (planned plan.now) (H.now host.new) (H.may host.new) (T.tells r.0.engine.table) (T.cell r.0.engine.table) r.0.reservoir r.0.engine r.0.texts r.0.keep r.0.saved) }
+
+    // No more is crossed than what lies behind that checkpoint.
     ensures passed { IsOpenable (planned plan.now) (H.now host.old) (H.may host.old) →
         IfOk result (λ r. steps.new ≡ steps.old + passed_count plan.now.task (take r.1.from (all_events (H.now host.new) (base r.0.reservoir) [])) (all_events (H.now host.new) (base r.0.reservoir) [])) }
     ensures never_differs { IsOpenable (planned plan.now) (H.now host.old) (H.may host.old) → IfErr result (λ refused. refused.0 ≡ OpenFault.SchemaDiffers → ⊥) }
+
+    // Over such a store it answers neither a bad state nor damage nor another schema.
     ensures never_bad { (n : ℕ) → IsOpenable (planned plan.now) (H.now host.old) (H.may host.old) → T.tells table → IfErr result (λ refused. refused.0 ≡ OpenFault.BadState n → ⊥) }
+
+    // It goes on from the fit checkpoint of the greatest count.
     ensures is_from { (v : Image) → H.now host.old ≡ Some v → IsOpenable (planned plan.now) (H.now host.old) (H.may host.old) → IfOk result (λ r. IsFromIn (planned plan.now) v r.1.from) }
     ensures never_damaged { (p : ℕ) → IsOpenable (planned plan.now) (H.now host.old) (H.may host.old) → T.tells table → IfErr result (λ refused. refused.0 ≡ OpenFault.Damaged p → ⊥) }
 
     // Over any image that is told: its log's events, from where the engine went on, and what was passed.
     ensures told { (v : Image) → H.now host.old ≡ Some v → OnOk result ((w : Image) × (H.now host.new ≡ Some w)) }
+
+    // Nothing of the three files is pending afterwards.
     ensures settled { (v : Image) → H.now host.old ≡ Some v → OnOk result (AreSettled (H.now host.new) (H.may host.new)) }
+
+    // Over any image that the host tells, the events are the log's for the plan.
     ensures events { (v : Image) (events : List Event) → H.now host.old ≡ Some v → Has (planned plan.now) events v → IfOk result (λ r. (all_events (H.now host.new) (base r.0.reservoir) [] ≡ events) × (r.1.next ≡ next_offset events)) }
     ensures view { IfOk result (λ r. ForSome (H.now host.old) (λ v. OpensView plan.now.schema plan.now.defaults (view_of (base r.0.reservoir)) (v 2))) }
     ensures resumed { (v : Image) → H.now host.old ≡ Some v → IfOk result (λ r.
@@ -206,6 +216,7 @@ pub fn open_store<H: Host, T: Table, L: Ledger>(
     ensures unfit { (v : Image) → H.now host.old ≡ Some v → IsUnfit (planned plan.now) v →
         IsLeftAlone H.now H.may H.clock H.since H.said v host.old host.new × IfErr result (λ refused. SaysWhy (planned plan.now) v refused.0) }
 
+    // Each fault has its cause.
     ensures disk { IfErr result (λ refused. refused.0 ≡ OpenFault.Disk → Rose (H.disk_faults host.old) (H.disk_faults host.new)) }
     ensures differs { IfErr result (λ refused. refused.0 ≡ OpenFault.SchemaDiffers → ForSome (H.now host.old) (λ v. IsForeign plan.now.schema plan.now.defaults (v 2))) }
     ensures damaged { (p : ℕ) → IfErr result (λ refused. refused.0 ≡ OpenFault.Damaged p →

@@ -35,6 +35,7 @@ use rg_host::Host;
 /// that is as it was, is lost or has a checkpoint that is true of the log, and with a slot that is as it was
 /// or is lost.
 pub fn law_truthful()
+    // The empty image is truthful, and a truthful one stays so within and after each step on the disk.
     ensures empty { IsTruthfulImage (λ file. []) }
     ensures commits { (shape : Shape) (payload : List ℕ) (chunk : List Event) (old new : Image) → IsSchema shape → MayGrow shape chunk (old 2) → IsChunkOf shape payload chunk →
         Grows payload (old 2) (new 2) → ((file : ℕ) → file ≢ 2 → new file ≡ old file) → IsTruthfulImage old → IsTruthfulImage new }

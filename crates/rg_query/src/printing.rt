@@ -24,6 +24,7 @@ pub(crate) enum Side {
 
 /// Writes a query at the end. Where memory runs out `out` holds what it held.
 pub fn print(schema: &Schema, query: &Query, out: &mut Vec<u8>) -> Result<(), Memory>
+    // The query is printed to the byte, or nothing is.
     ensures ok { OnOk result (out.new.items ≡ out.old.items ++ query_text schema.now (asked query.now)) }
     ensures err { OnErr result (out.new.items ≡ out.old.items) }
     // what is printed of a query that was read is read as that query again, within the limit
@@ -54,6 +55,7 @@ pub fn print_condition(
     condition: &Condition,
     out: &mut Vec<u8>,
 ) -> Result<(), Memory>
+    // The condition is printed as it is in its query.
     ensures ok { OnOk result (out.new.items ≡ out.old.items ++ condition_text schema.now (test_of condition.now)) }
     ensures err { OnErr result (out.new.items ≡ out.old.items) }
 {
@@ -70,6 +72,7 @@ pub fn print_condition(
 /// Writes an aggregator at the end, as it is printed in its query.
 /// Where memory runs out `out` holds what it held.
 pub fn print_agg(schema: &Schema, agg: &Agg, out: &mut Vec<u8>) -> Result<(), Memory>
+    // The aggregator is printed as it is in its query.
     ensures ok { OnOk result (out.new.items ≡ out.old.items ++ agg_text schema.now agg.now) }
     ensures err { OnErr result (out.new.items ≡ out.old.items) }
 {

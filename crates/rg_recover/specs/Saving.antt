@@ -89,7 +89,8 @@ module _ (named there : Marks) (cells : Cells) (texts : List (List ℕ)) (count 
 abbrev pub SavesByRule : {T : Type 0} → (T → Marks) → (T → Marks) → (T → Cells) → Sitting T → Sitting T → Image → Image → Type 0
 SavesByRule named there cell s t old new = IsByRule (named s.engine.table) (there s.engine.table) (cell s.engine.table) s.texts (count_in t.reservoir) s.engine.spots s.slots t.slots s.keep t.keep old new
 
--- The same, and the sizes of the kept slot are known, which are those of its file: so what changed stands behind its frames exactly where
+-- A save by the rule where the sizes of the kept slot are known, which are those of its file: so what changed stands
+-- behind its frames exactly where
 -- it may come there.
 pub record SavesExactly {T : Type 0} (named there : T → Marks) (cell : T → Cells) (s t : Sitting T) (old new : Image) : Type 0 where
   pub by_rule : SavesByRule named there cell s t old new
@@ -166,7 +167,7 @@ pub record KeepsRows {T : Type 0} (Tells : T → Type 0) (faults : T → ℕ) (c
   pub rows : TableKept Tells faults old.table new.table
   pub same : Tells old.table → Same (cell old.table) (cell new.table)
 
--- The same, and its marks stay.
+-- Of an engine nothing but its table may have changed, and that keeps its rows and its marks.
 pub record KeepsMarks {T : Type 0} (Tells : T → Type 0) (faults : T → ℕ) (cell : T → Cells) (named there : T → Marks) (old new : Seen T) : Type 0 where
   pub engine : new ≡ record old { table = new.table }
   pub rows : TableKept Tells faults old.table new.table

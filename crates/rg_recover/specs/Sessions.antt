@@ -30,7 +30,7 @@ pub record Sitting (T : Type 0) : Type 0 where
   pub saved : ℕ
   pub ended : Bool
 
--- the same as a tuple of its parts
+-- a session as a tuple of its parts
 abbrev pub sitting_code : {T : Type 0} → Coded T → Coded (Sitting T)
 sitting_code {T} code =
     code_by (Reservoir × (Seen T × (List (List ℕ) × (ℕ × (Attached × (Option ℕ × (ℕ × Bool)))))))

@@ -67,7 +67,8 @@ module _ {H : Type 0} (said : H → Option (List ℕ)) (disk_faults out_faults :
     pub out_faults_stay : out_faults new ≡ out_faults old
 
 module _ {H : Type 0} (now : H → Option Image) (said : H → Option (List ℕ)) (disk_faults out_faults : H → ℕ) where
-  -- The same, and no event is added: their number, the next offset and the last time stay, and the log reaches its end.
+  -- The log is kept and no event is added: their number, the next offset and the last time stay, and the log reaches
+  -- its end.
   pub record KeepsEvents (r s : Reservoir) (old new : H) : Type 0 where
     pub log : KeepsLog said disk_faults out_faults r s old new
     pub count : count_in s ≡ count_in r

@@ -32,6 +32,8 @@ impl<T: Table> Session<T> {
         ensures events { (events_of (H.now host.new) self.new ≡ events_of (H.now host.old) self.old) × (stored_of (H.now host.new) self.new ≡ stored_of (H.now host.old) self.old) }
         ensures running { (plan : Planned) → IsRunning plan (H.now host.old) (H.may host.old) T.tells T.cell T.named T.there self.old →
             OnOk result (IsRunning plan (H.now host.new) (H.may host.new) T.tells T.cell T.named T.there self.new) }
+
+        // Just the chunks are touched that the next move of the edges asks for.
         ensures loaded { (plan : Planned) → (placed : IsPlaced plan (H.now host.old) (H.may host.old) self.old.reservoir self.old.engine) →
             OnOk result (AllTouched (all_ahead (base self.old.reservoir) (placed.reservoir.sound.0 (base self.old.reservoir).file) self.old.engine.spots) (cache_of self.old.reservoir) (loads_of self.old.reservoir) (H.reads host.old) (cache_of self.new.reservoir) (loads_of self.new.reservoir) (H.reads host.new)) }
         ensures never_damaged { (plan : Planned) (p : ℕ) → IsRunning plan (H.now host.old) (H.may host.old) T.tells T.cell T.named T.there self.old →
@@ -52,6 +54,8 @@ impl<T: Table> Session<T> {
         ensures reservoir { Stays self.old.reservoir self.new.reservoir }
         ensures stays { (self.new.engine ≡ self.old.engine) × (self.new.texts ≡ self.old.texts) × (self.new.keep ≡ self.old.keep) × (self.new.saved ≡ self.old.saved) }
         ensures grace { self.new.grace ≡ self.old.grace }
+
+        // No file is written, and no event changes.
         ensures leaves { LeavesAll H.now H.may H.clock H.since H.said host.old host.new }
         ensures damaged { (p : ℕ) → IsErrOf result (TaskFault.Damaged p) → ForSome (H.now host.new) (λ v. IsIllegalBy (view_of (base self.new.reservoir)) p (v (base self.new.reservoir).file)) }
         ensures disk { IsErrOf result TaskFault.Disk → Rose (H.disk_faults host.old) (H.disk_faults host.new) }

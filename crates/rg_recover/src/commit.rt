@@ -60,6 +60,8 @@ impl<T: Table> Session<T> {
 
         // The slots are as they were: what is kept of one is kept, and none is written, at any moment.
         ensures keeps { HasKept (H.now host.old) (H.may host.old) T.cell T.named T.there self.old → OnOk result (HasKept (H.now host.new) (H.may host.new) T.cell T.named T.there self.new) }
+
+        // No slot is written.
         ensures spared { (slot : ℕ) → slot < 2 → IsSpared H.now H.may H.clock H.since slot host.old host.new }
 
         ensures next { IfOk result (λ next. next ≡ next_of self.new.reservoir) }

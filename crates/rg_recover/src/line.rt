@@ -146,14 +146,22 @@ impl<T: Table> Session<T> {
         // Of a session that runs: what is answered and accepted, and at each moment, and after the call.
         ensures reply { (plan : Planned) → IsRunning plan (H.now host.old) (H.may host.old) T.tells T.cell T.named T.there self.old →
             IfOk result (λ reply. reply ≡ reply_of plan.queries (events_of (H.now host.old) self.old) (verdict_on plan (events_of (H.now host.old) self.old) offset line.now)) }
+
+        // The events go on by the verdict on the line; a moved one is stored with the last time.
         ensures events { (plan : Planned) → IsRunning plan (H.now host.old) (H.may host.old) T.tells T.cell T.named T.there self.old →
             OnOk result (events_of (H.now host.new) self.new ≡ accepted_after (events_of (H.now host.old) self.old) (verdict_on plan (events_of (H.now host.old) self.old) offset line.now)) }
+
+        // It goes on running.
         ensures running { (plan : Planned) → IsRunning plan (H.now host.old) (H.may host.old) T.tells T.cell T.named T.there self.old →
             OnOk result (IsRunning plan (H.now host.new) (H.may host.new) T.tells T.cell T.named T.there self.new) }
+
+        // At each moment each image that a crash might leave is within a step of the plan's store.
         ensures within_step { (plan : Planned) (keep : Option ℕ) → IsRunning plan (H.now host.old) (H.may host.old) T.tells T.cell T.named T.there self.old →
             IsWithinStep H.may H.clock H.since H.said (store_of plan) keep (opened self.old.reservoir) host.old host.new }
         ensures stored { (plan : Planned) (keep : Option ℕ) → IsRunning plan (H.now host.old) (H.may host.old) T.tells T.cell T.named T.there self.old →
             OnOk result (IsStored (store_of plan) keep (opened self.old.reservoir) (stored_of (H.now host.old) self.old) (stored_of (H.now host.new) self.new) (H.may host.old) (H.may host.new)) }
+
+        // A running session's line is neither a bad state nor refused as damaged.
         ensures never_bad { (plan : Planned) (n : ℕ) → IsRunning plan (H.now host.old) (H.may host.old) T.tells T.cell T.named T.there self.old →
             IsErrOf result (TaskFault.BadState n) → ⊥ }
         ensures never_damaged { (plan : Planned) (p : ℕ) → IsRunning plan (H.now host.old) (H.may host.old) T.tells T.cell T.named T.there self.old →
@@ -180,12 +188,16 @@ impl<T: Table> Session<T> {
         ensures roomy { length (opened self.old.reservoir) < room_of self.old.reservoir → LeavesAll H.now H.may H.clock H.since H.said host.old host.new × (base self.new.reservoir ≡ base self.old.reservoir) }
 
         ensures refused { IfOk result (λ reply. HasAnswers reply ⊎ ((self.new ≡ self.old) × (host.new ≡ host.old) × (steps.new ≡ steps.old))) }
+
+        // Each fault has its cause.
         ensures damaged { (p : ℕ) → IsErrOf result (TaskFault.Damaged p) → ForSome (H.now host.new) (λ v. IsIllegalBy (view_of (base self.new.reservoir)) p (v (base self.new.reservoir).file)) }
         ensures disk { IsErrOf result TaskFault.Disk → Rose (H.disk_faults host.old) (H.disk_faults host.new) }
         ensures table { IsErrOf result TaskFault.Table → Rose (T.faults self.old.engine.table) (T.faults self.new.engine.table) }
         ensures ended { IsErrOf result TaskFault.Ended ↔ (self.old.ended ≡ true) }
         ensures untouched { IsErrOf result TaskFault.Ended → (self.new ≡ self.old) × (host.new ≡ host.old) × (steps.new ≡ steps.old) }
         ensures goes { OnOk result (self.new.ended ≡ false) }
+
+        // Exactly the refusals that say so end the session, which then answers Ended and touches nothing.
         ensures ends { OnErr result (self.new.ended ≡ true) }
         ensures stays { (self.new.texts ≡ self.old.texts) × (self.new.keep ≡ self.old.keep) × (self.new.saved ≡ self.old.saved) }
         ensures grace { self.new.grace ≡ self.old.grace }
@@ -223,6 +235,7 @@ impl<T: Table> Session<T> {
     /// Takes a reply back, so that the answers to the next line are put into the room of its own and take
     /// no memory.
     pub fn reuse(&mut self, reply: Reply)
+        // It takes a reply back for the room of its answers, and is as it was.
         ensures { self.new ≡ self.old }
     {
         match reply {

@@ -93,6 +93,8 @@ impl<T: Table> Session<T> {
 
         ensures empty { IfOk result (λ r. opened r.0.reservoir ≡ []) }
         ensures going { IfOk result (λ r. r.0.ended ≡ false) }
+
+        // It has the plan's rooms: `chunk` events in its open chunk, `cache` chunks in memory, `events` in all.
         ensures rooms { IfOk result (λ r. (room_of r.0.reservoir ≡ plan.now.room.chunk) × ((cache_of r.0.reservoir).cap ≡ plan.now.room.cache) × ((base r.0.reservoir).limit ≡ plan.now.room.limit)) }
         ensures grace { IfOk result (λ r. r.0.grace ≡ plan.now.grace) }
         ensures log { IfOk result (λ r. ((base r.0.reservoir).shape ≡ plan.now.schema) × ((base r.0.reservoir).file ≡ 2)) }

@@ -52,6 +52,8 @@ impl<T: Table> Session<T> {
             IsWithinLog H.may H.clock H.since (store_of plan) (opened self.old.reservoir) host.old host.new }
 
         ensures count { IfOk result (λ count. count ≡ count_in self.new.reservoir) }
+
+        // After Ok a slot has the checkpoint of all events.
         ensures saved { OnOk result ((self.new.saved ≡ count_in self.new.reservoir) × (opened self.new.reservoir ≡ [])) }
         ensures kept { OnOk result ((slot : ℕ) × (self.new.keep ≡ Some slot)) }
         ensures written { OnOk result ((self.new.keep ≡ Some (other_of self.old.keep)) ⊎ (IsExtended self.old self.new ⊎ IsSaved self.old)) }

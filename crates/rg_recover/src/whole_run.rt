@@ -48,6 +48,8 @@ pub fn run<I: Source, H: Host, L: Ledger>(
         (from : ℕ) × Ran H.may H.clock H.since H.said (planned plan.now) (begun_by ready from first all) ready.openable.image (I.left input.new) result host.old host.new }
     ensures behind { (ready : IsReadyRun (planned plan.now) (H.now host.old) (H.may host.old) (H.said host.old)) (keep : Option ℕ) → next_offset ready.held < first →
         (input.new ≡ input.old) × IsWithinOpening H.may H.clock H.since H.said (planned plan.now) keep ready.openable.image host.old host.new × IfErr result IsGapOrFailed }
+
+    // Over a ready store it is never refused for a bad state, for damage or for another schema.
     ensures never_bad { (ready : IsReadyRun (planned plan.now) (H.now host.old) (H.may host.old) (H.said host.old)) (all : List ℕ) (n : ℕ) → I.left input.old ≡ Some all → IsErrOf result (RunFault.BadState n) → ⊥ }
     ensures never_damaged { (ready : IsReadyRun (planned plan.now) (H.now host.old) (H.may host.old) (H.said host.old)) (all : List ℕ) (p : ℕ) → I.left input.old ≡ Some all → IsErrOf result (RunFault.Damaged p) → ⊥ }
     ensures never_differs { IsReadyRun (planned plan.now) (H.now host.old) (H.may host.old) (H.said host.old) → IsErrOf result RunFault.SchemaDiffers → ⊥ }
@@ -74,8 +76,12 @@ pub fn run<I: Source, H: Host, L: Ledger>(
     ensures bad { (v : Image) (events : List Event) (n : ℕ) → H.now host.old ≡ Some v → Has (planned plan.now) events v →
         IsErrOf result (RunFault.BadState n) → IsBlamed (planned plan.now) v events n }
     ensures undamaged { (v : Image) (events : List Event) (p : ℕ) → H.now host.old ≡ Some v → Has (planned plan.now) events v → IsErrOf result (RunFault.Damaged p) → ⊥ }
+
+    // At Ok the input was read to its end, and is within its limit.
     ensures at_end { OnOk result (IsAtEnd (I.left input.new)) }
     ensures within { OnOk result (IsWithinLimit (2 ^ 50) (I.left input.old)) }
+
+    // Each fault has its cause.
     ensures read { IsErrOf result RunFault.Read → Rose (I.faults input.old) (I.faults input.new) }
     ensures limit { IsErrOf result RunFault.Limit → IsLonger (2 ^ 50) (I.left input.old) }
     ensures write { IsErrOf result RunFault.Write → Rose (H.out_faults host.old) (H.out_faults host.new) }

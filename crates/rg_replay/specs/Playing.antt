@@ -108,7 +108,7 @@ pub record LeavesStore {H : Type 0} (now : H → Option Image) (may : H → Imag
   pub disk : disk_faults old ≤ disk_faults new
   pub out : out_faults old ≤ out_faults new
 
--- the same, and what only a commit changes stays
+-- no file was written, no count of faults fell, and what only a commit changes stays
 pub record LeavesLog {H : Type 0} (now : H → Option Image) (may : H → Image → Type 0) (clock : H → ℕ) (since : H → ℕ → Moment → Type 0) (disk_faults out_faults : H → ℕ) (r then : Reservoir) (old new : H) : Type 0 where
   pub base : base then ≡ base r
   pub store : LeavesStore now may clock since disk_faults out_faults old new
@@ -131,7 +131,7 @@ PutsLines lines Put (Err fault) = ((fault ≡ Memory) × Put []) ⊎ ((fault ≡
 abbrev pub AreAdded : List (List ℕ) → (List ℕ → Type 0) → List ℕ → Type 0
 AreAdded lines Put gathered = (Put [] × (gathered ≡ ended lines)) ⊎ (Put (ended lines) × (gathered ≡ []))
 
--- the same; or a put failed and a prefix of them was put; or memory ran out and nothing was
+-- these lines are gathered or were put; or a put failed and a prefix of them was put; or memory ran out and nothing was
 abbrev pub AddsLines : List (List ℕ) → (List ℕ → Type 0) → List ℕ → Result Unit ReplayFault → Type 0
 AddsLines lines Put gathered (Ok x) = AreAdded lines Put gathered
 AddsLines lines Put gathered (Err fault) = ((fault ≡ Memory) × Put []) ⊎ ((fault ≡ Write) × ((put : List ℕ) × IsPrefix put (ended lines) × Put put))
@@ -187,7 +187,7 @@ pub record HasRead (events : List Event) (now : Option Image) (may : Image → T
   pub sound : IsSound now may r
   pub runs : (base r).ended ≡ false
 
--- the same, and they serve the plan of these queries
+-- a sound reservoir that hasn't ended has these events, and they serve the plan of these queries
 pub record IsReadFor (queries : List Asked) (events : List Event) (plan : Tasks) (now : Option Image) (may : Image → Type 0) (r : Reservoir) : Type 0 where
   pub read : HasRead events now may r
   pub made : plan ≡ plan_for queries

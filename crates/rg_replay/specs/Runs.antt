@@ -23,7 +23,7 @@ abbrev pub answered_at : Terms → List Event → ℕ → List (Option (List ℕ
 answered_at terms held first lines i =
     reply_if (first + i) (verdict_from terms.basis (next_offset held) (events_before terms.basis held first lines i) (first + i) (get_or lines i None)) (put_at terms held first lines i)
 
--- the same of the first i lines
+-- the replies to the first i lines of an input, where their events are accepted
 abbrev pub answered_before : Terms → List Event → ℕ → List (Option (List ℕ)) → ℕ → List (List ℕ)
 answered_before terms held first lines zero = []
 answered_before terms held first lines (suc i) = answered_before terms held first lines i ++ answered_at terms held first lines i

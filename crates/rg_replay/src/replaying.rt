@@ -158,8 +158,12 @@ pub fn replay<H: Host, L: Ledger>(
     // Over a legal log of which nothing is pending, whose columns serve the plan.
     ensures completes { (queries : List Asked) (events : List TheEvent) → IsReplayable queries events plan schema.now (H.now host.old) (H.may host.old) →
         OnOk result (Puts H.said H.clock H.since host.old host.new (ended (replay_text queries first events))) }
+
+    // At a refusal whole lines of the text were put, or a prefix at a failed put.
     ensures stops { (queries : List Asked) (events : List TheEvent) → IsReplayable queries events plan schema.now (H.now host.old) (H.may host.old) →
         IfErr result (StopsIn (replay_text queries first events) (Puts H.said H.clock H.since host.old host.new)) }
+
+    // Over a legal log a refusal is a failed call or want of memory.
     ensures expected { (queries : List Asked) (events : List TheEvent) → IsReplayable queries events plan schema.now (H.now host.old) (H.may host.old) →
         IfErr result IsExpected }
 
@@ -173,11 +177,14 @@ pub fn replay<H: Host, L: Ledger>(
     // Each refusal but want of memory has its cause.
     ensures refused_of { IfErr result (IsRefusedOf plan schema.now (H.now host.old) (H.may host.old)) }
     ensures differs { IsErrOf result ReplayFault.SchemaDiffers → ForSome (H.now host.old) (λ v. IsOther schema.now (v 2)) }
+
+    // Each refusal has its cause.
     ensures damaged { (p : ℕ) → IsErrOf result (ReplayFault.Damaged p) →
         ForSome (H.now host.old) (λ v. IsBadFrame p (v 2)) ⊎ ForSome (H.now host.old) (λ v. IsIllegalSince schema.now (v 2) p (v 2)) }
     ensures disk { IsErrOf result ReplayFault.Disk → Rose (H.disk_faults host.old) (H.disk_faults host.new) }
     ensures write { IsErrOf result ReplayFault.Write → Rose (H.out_faults host.old) (H.out_faults host.new) }
 
+    // No file is written.
     ensures leaves { LeavesFiles H.now H.may H.clock H.since host.old host.new }
     ensures disk_faults { H.disk_faults host.old ≤ H.disk_faults host.new }
     ensures out_faults { H.out_faults host.old ≤ H.out_faults host.new }
@@ -185,7 +192,7 @@ pub fn replay<H: Host, L: Ledger>(
     replay_log(alloc, host, schema, room, plan, first, steps)
 }
 
-/// The same as `replay`, with what it promises in three clauses.
+/// Answers the stored events again, with what `replay` promises in three clauses.
 fn replay_log<H: Host, L: Ledger>(
     alloc: Global,
     host: &mut H,

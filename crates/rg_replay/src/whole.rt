@@ -11,6 +11,7 @@ ghost use Rattle.rg_replay.specs.Runs.{answered_before, text_of_left};
 /// any offset on, the lines of what the store held stand before these.
 #[tactic(auto, using(crate::proofs::Wholes::same_text, crate::proofs::Wholes::same_text_from))]
 pub fn law_whole_text()
+    // The text of a replay is the lines of all payments, then the last line.
     ensures whole { (terms : Terms) (held : List Event) (first : ℕ) (lines : List (Option (List ℕ))) (i : ℕ) (events : List Event) → IsRising held → events ≡ events_before terms.basis held first lines i →
         replay_text terms.basis.queries (next_offset held) events ≡ answered_before terms held first lines i ++ end_line events ∷ [] }
     ensures whole_from { (from : ℕ) (terms : Terms) (held : List Event) (first : ℕ) (lines : List (Option (List ℕ))) (i : ℕ) (events : List Event) → events ≡ events_before terms.basis held first lines i →

@@ -82,8 +82,11 @@ pub fn run_stopped(
     stop: u64,
     pick: Pick,
 ) -> Result<Stopped, Memory>
+    // What was put, what is left and the status are those of the stopped run.
     ensures left { (start : IsStartable words.now plan.now input.now host) → IfOk result (λ run. (bytes : List ℕ) × (said_in run.host ≡ after (said_in host) bytes)
         × ForSome (now_in run.left) (λ v. IsLeft start.asks start.store.held (accepted_of start.asks input.now) (whole_pieces bytes) v)) }
+
+    // After one stop the store is one from which a run goes on, by this plan or one that accepts alike.
     ensures again { (start : IsStartable words.now plan.now input.now host) → (others : Words) (other : List ℕ) (asked : Planned) → command_of others ≡ Some (Command.Run 0) → IsPlan other asked → AcceptsAlike start.asks asked →
         IfOk result (λ run. IsStartable others other input.now run.left) }
     ensures begun { IfOk result (λ run. run.left ≡ begun run.left.first []) }
@@ -147,9 +150,14 @@ pub fn run_twice(
     // Where the second run came to its end, it has all that is accepted, and what that run put behind its open line is the last lines of
     // what a run puts that is never stopped.
     ensures complete { (start : IsStartable words.now plan.now input.now host) → IfOk result (λ both. both.3 ≡ Status.Ok → (u : Image) → may_in both.1 u → Has start.asks (accepted_of start.asks input.now) u) }
+
+    // What the second run put behind its open line is the last lines of a run that is never stopped.
     ensures resumes { (start : IsStartable words.now plan.now input.now host) → IfOk result (λ both. both.3 ≡ Status.Ok → PutsRest start.asks input.now (said_in both.1)) }
 
+    // The first status is Ok, Write, Disk or Memory.
     ensures first_status { IsStartable words.now plan.now input.now host → IfOk result (λ both. MayEnd both.2) }
+
+    // The second status is Ok or Memory, unless a call of its host failed.
     ensures second_status { IsStartable words.now plan.now input.now host → IfOk result (λ both. (both.3 ≡ Status.Ok) ⊎ (both.3 ≡ Status.Memory) ⊎ (0 < both.1.disk_faults) ⊎ (0 < both.1.out_faults)) }
 {
     let stopped = run_stopped(alloc, words, plan, input, host, stop, pick)?;

@@ -25,7 +25,7 @@ pub record IsRowOf (fields : List Field) (plan : Tasks) (row : Entry) : Type 0 w
 abbrev pub AreRowsOf : List Field → Tasks → List Entry → Type 0
 AreRowsOf fields plan rows = All (IsRowOf fields plan) rows
 
--- the same, of an aggregator that was looked up
+-- the row is of an aggregator that was looked up
 abbrev pub IsRowUnder : List Field → Option AggNode → Entry → Type 0
 IsRowUnder fields None row = ⊥
 IsRowUnder fields (Some node) row = IsFor node.agg.func (kind_at fields node.agg.field) row.held

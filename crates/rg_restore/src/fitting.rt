@@ -20,7 +20,7 @@ pub fn fits_plan(plan: &TaskPlan, fields: &[Field], rows: &[Row]) -> bool
     true
 }
 
-/// The same, of one row.
+/// Whether one row is of the function and kind of its node.
 fn fits_node(aggs: &[AggNode], fields: &[Field], row: &Row) -> bool
     ensures { IsTrue result ↔ IsRowUnder fields.now (slice_get aggs.now row.now.node) (entry_of row.now) }
 {

@@ -54,6 +54,7 @@ pub fn law_saved<P: Past>()
 /// A checkpoint of a plan's queries that is true of the events of a sound past is fit, where they are of
 /// columns that serve the plan.
 pub fn law_fit<P: Names>()
+    // A true checkpoint of the plan's queries is fit.
     ensures { (past : P) (queries : List (List ℕ)) (fields : List Field) (plan : Tasks) (checkpoint : Checkpoint) → P.Past.sound past →
         Serves fields plan → All (IsEventOf fields) (P.Past.events past) → checkpoint.queries ≡ queries →
         IsTruthful (P.Past.spells past) plan (P.Past.events past) checkpoint →

@@ -61,6 +61,8 @@ pub fn resume<P: Names, T: Table, L: Ledger>(
     ensures never_bad { (n : ℕ) → CanStand (P.Past.sound past.old) (T.tells table) plan (P.Past.events past.old) → (P.Past.ended past.old → ⊥) →
         AreTruthful (P.Past.spells past.old) queries.now plan (P.Past.events past.old) (slot_in saved) →
         IfErr result (λ refused. refused.0 ≡ EngineFault.BadState n → ⊥) }
+
+    // Exactly what lies behind the checkpoint used is crossed again.
     ensures passed { P.Past.sound past.old → (P.Past.ended past.old → ⊥) → last_time (P.Past.events past.old) ≡ last →
         AreTruthful (P.Past.spells past.old) queries.now plan (P.Past.events past.old) (slot_in saved) →
         IfOk result (λ r. steps.new ≡ steps.old + passed_count plan (take r.1.from (P.Past.events past.old)) (P.Past.events past.new)) }
@@ -70,6 +72,8 @@ pub fn resume<P: Names, T: Table, L: Ledger>(
         IsFrom (IsFit (P.named past.old) queries.now fields.now plan (length (P.Past.events past.old))) (slot_in saved) r.1.slot r.1.from) }
     ensures ticks { IfOk result (λ r. (before : List ℕ) × HaveBegun plan.offsets (slot_in saved) r.1.slot before
         × (steps.new + come plan before ≡ steps.old + come plan (numbers_of r.0.spots))) }
+
+    // A bad state is told only of a node whose rows and spots in the used checkpoint are true of no prefix.
     ensures bad { (n : ℕ) → CanStand (P.Past.sound past.old) (T.tells table) plan (P.Past.events past.old) → (P.Past.ended past.old → ⊥) →
         IfErr result (λ refused. refused.0 ≡ EngineFault.BadState n → (i : ℕ) × (used : Checkpoint)
         × IsBest (IsFit (P.named past.old) queries.now fields.now plan (length (P.Past.events past.old))) (slot_in saved) i used

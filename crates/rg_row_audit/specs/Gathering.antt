@@ -39,7 +39,7 @@ pub record Holds (func : Func) (g : Gathered) (values : List Value) : Type 0 whe
   pub own : func_of (held_of g.state) ≡ kept_as func
   pub stands : Suits func values → (g.spoilt ≡ false) × Stands (held_of g.state) values
 
--- the same of what was gathered for a key: nothing exactly where there are no values
+-- what was gathered for a key holds its values: nothing exactly where there are none
 abbrev pub IsGathered : Func → Option Gathered → List Value → Type 0
 IsGathered func None values = values ≡ []
 IsGathered func (Some g) values = (0 < length values) × Holds func g values

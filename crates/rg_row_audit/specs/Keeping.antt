@@ -27,6 +27,7 @@ abbrev pub IsLeft : Func → Option Held → Option Gathered → List Value → 
 IsLeft func None found values = IsGathered func found values
 IsLeft func (Some held) found values = (found ≡ None) × RowStands func (Some held) values
 
--- the same of all keys, behind these rows
+-- behind these rows each key that came with a row stands for its values and is taken out, and each other one is there
+-- as it was gathered
 abbrev pub AreLeft : List Entry → ℕ → Node → ℕ → List Event → BTreeMap (List ℕ) Gathered → Type 0
 AreLeft front n node t events left = (key : List ℕ) → IsLeft node.agg.func (row_in front n key) (get (slice_cmp nat_cmp) left key) (node_values node key t events)

@@ -29,8 +29,11 @@ pub fn check_rows(
     checkpoint: &Checkpoint,
 ) -> Result<Option<u32>, Memory>
     requires within { checkpoint.now.count ≤ length events.now }
+    // None is answered where the rows of each node stand for the first events, as many as the checkpoint is of.
     ensures right { AreServed plan.now (take checkpoint.now.count events.now) →
         IfOk result (λ found. IfNone found (AreRowsFor checkpoint.now.rows plan.now (take checkpoint.now.count events.now))) }
+
+    // Else the least node is told whose rows don't: by a wrong row, a missing or an extra one.
     ensures wrong { AreServed plan.now (take checkpoint.now.count events.now) →
         IfOk result (λ found. IfSome found (IsLeastWrong checkpoint.now.rows plan.now (take checkpoint.now.count events.now))) }
 {

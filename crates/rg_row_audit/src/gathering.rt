@@ -33,7 +33,7 @@ pub(crate) fn gather(
     Ok(map)
 }
 
-/// The same with one event more.
+/// Gathers one event more.
 fn gather_event(
     alloc: Global,
     map: &mut BTreeMap<Key, Gathered>,

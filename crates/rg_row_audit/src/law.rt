@@ -9,5 +9,6 @@ ghost use Rattle.rg_row_audit.specs.Rows.{AreAllRight};
 /// exactly where the rows of each node do.
 #[tactic(auto, using(crate::proofs::Listed::all_right))]
 pub fn law_rows()
+    // Rows that rise stand for events, as an engine's do, exactly where the rows of each node do.
     ensures { (rows : List Entry) (plan : Tasks) (events : List Event) → AreRising rows → AreAllRight rows plan events ↔ AreRowsFor rows plan events }
 {}

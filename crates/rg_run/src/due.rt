@@ -17,6 +17,7 @@ pub enum Due {
 pub fn due_at(commit: u64, save: u64, before: u64, after: u64) -> Due
     requires some_to_commit { 0 < commit }
     requires some_to_save { 0 < save }
+    // It tells what is due behind an event.
     ensures { result ≡ is_due commit save before after }
 {
     if after <= before {

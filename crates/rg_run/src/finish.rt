@@ -20,12 +20,15 @@ impl Turning {
     pub fn finish<K: Task>(&mut self, task: &mut K) -> Result<(), TurnFault>
         requires small { self.old.offset < 2 ^ 62 }
 
+        // At the end all is saved, and the whole text is put.
         ensures moments { (plan : Planned) (course : Course) →
             IsAwaiting K.view plan course self.old.offset [] task.old self.old.gathered.items →
             Moments K.view.clock K.view.since task.old task.new (StaysOnCourse (K.view.store plan) course []) }
         ensures done { (plan : Planned) (course : Course) →
             IsAwaiting K.view plan course self.old.offset [] task.old self.old.gathered.items →
             OnOk result ((put : List ℕ) × (K.view.said task.new ≡ Some put) × IsDone (K.view.store plan) course (K.view.may task.new) put) }
+
+        // What reads then give is truthful and has all accepted events.
         ensures read { (plan : Planned) (course : Course) (v : Image) →
             IsAwaiting K.view plan course self.old.offset [] task.old self.old.gathered.items →
             K.view.now task.new ≡ Some v → OnOk result ((K.view.store plan).IsTruthful v × (K.view.store plan).HasEvents course.accepted v) }

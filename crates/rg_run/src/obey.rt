@@ -40,10 +40,13 @@ impl Turning {
     pub fn obey<K: Task>(&mut self, task: &mut K, control: Control) -> Result<(), TurnFault>
         requires small { self.old.offset < 2 ^ 62 }
 
+        // What a line asks for is done before its lines say so.
         ensures moments { (plan : Planned) (course : Course) (item : Option (List ℕ)) (items : List (Option (List ℕ))) →
             IsAwaiting K.view plan course self.old.offset (item ∷ items) task.old self.old.gathered.items →
             control_at (terms_of plan).basis self.old.offset item ≡ Some control →
             Moments K.view.clock K.view.since task.old task.new (StaysOnCourse (K.view.store plan) course []) }
+
+        // It leads to the next moment between two lines, without a new event.
         ensures awaits { (plan : Planned) (course : Course) (item : Option (List ℕ)) (items : List (Option (List ℕ))) →
             IsAwaiting K.view plan course self.old.offset (item ∷ items) task.old self.old.gathered.items →
             control_at (terms_of plan).basis self.old.offset item ≡ Some control →
@@ -58,6 +61,8 @@ impl Turning {
             IfErr result (λ fault. (fault ≡ TurnFault.Write) ⊎ HasStopped K.view plan course task.new) }
         ensures node { (plan : Planned) (n : ℕ) → K.view.node plan n task.old →
             OnOk result (K.view.node plan n task.new) }
+
+        // A run that awaits such a line is told neither a bad state nor damage.
         ensures never_damaged { (plan : Planned) (course : Course) (items : List (Option (List ℕ))) (p : ℕ) →
             IsAwaiting K.view plan course self.old.offset items task.old self.old.gathered.items →
             IsErrOf result (TurnFault.Task (TaskFault.Damaged p)) → ⊥ }
@@ -69,6 +74,7 @@ impl Turning {
         // Over a legal log each payment stays.
         ensures log_stays { (plan : Planned) → KeepsLog K.view plan task.old task.new }
 
+        // Each refusal has its cause.
         ensures damaged { (p : ℕ) → IsErrOf result (TurnFault.Task (TaskFault.Damaged p)) → K.view.illegal p task.new }
         ensures write { IsErrOf result TurnFault.Write → Rose (K.out_faults task.old) (K.out_faults task.new) }
         ensures disk { IsErrOf result (TurnFault.Task TaskFault.Disk) → Rose (K.disk_faults task.old) (K.disk_faults task.new) }

@@ -32,8 +32,11 @@ pub fn run<I: Source, K: Task>(
     requires fresh { IsFresh lines.old }
     requires first { first ≤ 2 ^ 61 }
     requires going { (K.view.at task.old).ended ≡ false }
+    // At each moment the run is on its course; at Ok all was put and stored.
     ensures begun { (b : Begun) → IsToBegin K.view (planned plan.now) b (I.left input.old) from first task.old →
         StaysTrue K.view (planned plan.now) b (I.left input.new) result task.old task.new }
+
+    // Each refusal has its cause.
     ensures cause { Explains K.view K.disk_faults K.out_faults I.left I.faults (planned plan.now) first result input.old input.new task.old task.new }
     ensures log_stays { KeepsLog K.view (planned plan.now) task.old task.new }
     ensures goes { K.view.goes task.old task.new }

@@ -35,6 +35,7 @@ pub fn write_turn(
     next: u64,
     count: u64,
 ) -> Result<(), Memory>
+    // The lines of a turn are written to the byte, or nothing is.
     ensures ok { OnOk result (out.new.items ≡ out.old.items ++ ended (reply_line offset reply.now ∷ marks_for due next count)) }
     ensures err { OnErr result (out.new.items ≡ out.old.items) }
 {
@@ -48,7 +49,7 @@ pub fn write_turn(
     }
 }
 
-/// The same. Where memory runs out a front of the lines may stand there.
+/// Writes the lines of a turn. Where memory runs out a front of them may stand there.
 fn put_turn(
     out: &mut Vec<u8>,
     offset: u64,
@@ -68,6 +69,7 @@ fn put_turn(
 /// stored, what is saved, and the last line, where the next line would have this offset, and the next
 /// offset of the events and their number are these. Want of memory leaves some of them there.
 pub fn write_end(out: &mut Vec<u8>, offset: u64, next: u64, count: u64) -> Result<(), Memory>
+    // The lines of the end are written to the byte.
     ensures lines { OnOk result (out.new.items ≡ ended (last_lines offset next count)) }
 {
     out.clear();

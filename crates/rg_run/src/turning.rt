@@ -50,6 +50,7 @@ impl Turning {
 
     /// Whether so much is gathered that it is put before the next line is taken.
     pub fn is_long(&self) -> bool
+        // It tells whether 64 KiB are gathered.
         ensures { result ≡ nat_le 65536 (length self.now.gathered.items) }
     {
         self.gathered.len() >= LONG
@@ -60,9 +61,13 @@ impl Turning {
         ensures moments { (plan : Planned) (course : Course) (items : List (Option (List ℕ))) →
             IsAwaiting K.view plan course self.old.offset items task.old self.old.gathered.items →
             Moments K.view.clock K.view.since task.old task.new (StaysOnCourse (K.view.store plan) course []) }
+
+        // What was put and then what is gathered are the whole lines of the text up to there.
         ensures awaits { (plan : Planned) (course : Course) (items : List (Option (List ℕ))) →
             IsAwaiting K.view plan course self.old.offset items task.old self.old.gathered.items →
             OnOk result (IsAwaiting K.view plan course self.new.offset items task.new self.new.gathered.items) }
+
+        // All gathered lines were put.
         ensures empty { self.new.gathered.items ≡ [] }
         ensures keeps { Keeps K.view task.old task.new }
         ensures files { LeavesFiles K.view.now K.view.may K.view.clock K.view.since task.old task.new }
@@ -96,32 +101,45 @@ impl Turning {
         requires one_line { list_any (λ byte. byte == 10) line.now ≡ false }
         requires small { self.old.offset < 2 ^ 62 }
 
+        // At each moment of the turn, what a crash might leave and what was put are on the course of the run.
         ensures moments { (course : Course) (item : Option (List ℕ)) (items : List (Option (List ℕ))) →
             IsAwaiting K.view (planned plan.now) course self.old.offset (item ∷ items) task.old self.old.gathered.items →
             IsRow (terms_of (planned plan.now)).basis self.old.offset item line.now →
             Moments K.view.clock K.view.since task.old task.new (StaysOnCourse (K.view.store (planned plan.now)) course []) }
+
+        // One turn leads from a moment between two lines to the next.
         ensures awaits { (course : Course) (item : Option (List ℕ)) (items : List (Option (List ℕ))) →
             IsAwaiting K.view (planned plan.now) course self.old.offset (item ∷ items) task.old self.old.gathered.items →
             IsRow (terms_of (planned plan.now)).basis self.old.offset item line.now →
             OnOk result (IsAwaiting K.view (planned plan.now) course self.new.offset items task.new self.new.gathered.items) }
+
+        // The events are those that the definitions give.
         ensures events { (course : Course) (item : Option (List ℕ)) (items : List (Option (List ℕ))) →
             IsAwaiting K.view (planned plan.now) course self.old.offset (item ∷ items) task.old self.old.gathered.items →
             IsRow (terms_of (planned plan.now)).basis self.old.offset item line.now →
             OnOk result ((K.view.at task.new).events ≡ after_line (terms_of (planned plan.now)).basis (K.view.at task.old).events self.old.offset item) }
+
+        // After a refusal other than of the put a last line may follow.
         ensures stopped { (course : Course) (item : Option (List ℕ)) (items : List (Option (List ℕ))) →
             IsAwaiting K.view (planned plan.now) course self.old.offset (item ∷ items) task.old self.old.gathered.items →
             IsRow (terms_of (planned plan.now)).basis self.old.offset item line.now →
             IfErr result (λ fault. (fault ≡ TurnFault.Write) ⊎ HasStopped K.view (planned plan.now) course task.new) }
+
+        // A run that awaits a line is told neither a bad state nor damage.
         ensures never_bad { (course : Course) (items : List (Option (List ℕ))) (n : ℕ) →
             IsAwaiting K.view (planned plan.now) course self.old.offset items task.old self.old.gathered.items →
             IsErrOf result (TurnFault.Task (TaskFault.BadState n)) → ⊥ }
         ensures never_damaged { (course : Course) (items : List (Option (List ℕ))) (p : ℕ) →
             IsAwaiting K.view (planned plan.now) course self.old.offset items task.old self.old.gathered.items →
             IsErrOf result (TurnFault.Task (TaskFault.Damaged p)) → ⊥ }
+
+        // A node that can be carried on stays so, and no bad state of it is told.
         ensures node { (n : ℕ) → K.view.node (planned plan.now) n task.old →
             OnOk result (K.view.node (planned plan.now) n task.new) }
         ensures never_bad_node { (n : ℕ) → K.view.node (planned plan.now) n task.old →
             IsErrOf result (TurnFault.Task (TaskFault.BadState n)) → ⊥ }
+
+        // Where each edge stands at a place that the log spells, it does so after the turn.
         ensures placed { K.view.placed (planned plan.now) task.old → OnOk result (K.view.placed (planned plan.now) task.new) }
         ensures undamaged { (p : ℕ) → K.view.placed (planned plan.now) task.old → IsErrOf result (TurnFault.Task (TaskFault.Damaged p)) → ⊥ }
         ensures offset { OnOk result (self.new.offset ≡ self.old.offset + 1) }
@@ -130,6 +148,7 @@ impl Turning {
         ensures idle { IsIdle K.view (planned plan.now) self.old.offset line.now task.old → LeavesFiles K.view.now K.view.may K.view.clock K.view.since task.old task.new }
         ensures log_stays { KeepsLog K.view (planned plan.now) task.old task.new }
 
+        // Each refusal has its cause.
         ensures damaged { (p : ℕ) → IsErrOf result (TurnFault.Task (TaskFault.Damaged p)) → K.view.illegal p task.new }
         ensures write { IsErrOf result TurnFault.Write → Rose (K.out_faults task.old) (K.out_faults task.new) }
         ensures disk { IsErrOf result (TurnFault.Task TaskFault.Disk) → Rose (K.disk_faults task.old) (K.disk_faults task.new) }
@@ -178,6 +197,7 @@ impl Turning {
     pub fn refuse<K: Task>(&mut self, task: &mut K, reply: &Reply) -> Result<(), TurnFault>
         requires small { self.old.offset < 2 ^ 62 }
 
+        // A line that is refused before a task sees it is answered, and changes nothing else.
         ensures moments { (plan : Planned) (course : Course) (item : Option (List ℕ)) (items : List (Option (List ℕ))) →
             IsAwaiting K.view plan course self.old.offset (item ∷ items) task.old self.old.gathered.items →
             IsRefused (terms_of plan).basis self.old.offset item reply.now →

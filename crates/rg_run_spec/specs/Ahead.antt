@@ -24,6 +24,6 @@ abbrev pub put_from : Terms → List Event → ℕ → List (Option (List ℕ)) 
 put_from terms events offset [] = []
 put_from terms events offset (line ∷ lines) = lines_for terms events offset line ++ put_from terms (after_line terms.basis events offset line) (offset + 1) lines
 
--- the same, and then the end
+-- the lines that are put for them, and then those of the end
 abbrev pub out_from : Terms → List Event → ℕ → List (Option (List ℕ)) → List (List ℕ)
 out_from terms events offset lines = put_from terms events offset lines ++ end_lines (offset + length lines) (events_from terms.basis events offset lines)

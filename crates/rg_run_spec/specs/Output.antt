@@ -68,7 +68,7 @@ marks_of terms events verdict =
 abbrev pub verdict_lines : Terms → List Event → ℕ → Verdict → List (List ℕ)
 verdict_lines terms events offset verdict = reply_line offset (reply_of terms.basis.queries events verdict) ∷ marks_of terms events verdict
 
--- the same, where the line may be passed over
+-- the lines that are put for the line at this offset, none where it is passed over
 abbrev pub turn_lines : Terms → List Event → ℕ → Option Verdict → List (List ℕ)
 turn_lines terms events offset None = []
 turn_lines terms events offset (Some verdict) = verdict_lines terms events offset verdict

@@ -87,7 +87,7 @@ pub record IsOnCourse {Image : Type 0} (store : Store Image) (course : Course) (
 abbrev pub IsOnCourseSince : {Image : Type 0} → Store Image → Course → (Image → Type 0) → List ℕ → Image → List ℕ → Type 0
 IsOnCourseSince store course start last v said = (start v × IsPartWay course.said last said) ⊎ IsOnCourse store course last v said
 
--- the same of a moment on a host
+-- a moment on a host is on course
 abbrev pub StaysOnCourse : Store host.Image → Course → List ℕ → Moment → Type 0
 StaysOnCourse store course last m = IsOnCourse store course last m.image m.said
 

@@ -45,7 +45,7 @@ abbrev pub event_at : List Field → ℕ → Option (List ℕ) → Result Event 
 event_at fields offset None = Err Long
 event_at fields offset (Some text) = or_reply (row_of fields offset (cleaned offset text))
 
--- the same, where the first line may be a header
+-- the event of a line of any length, or the reply that refuses it; the first line may be a header
 abbrev pub read_as : Basis → ℕ → Option (List ℕ) → Result Event Reply
 read_as basis offset line = if basis.header && (offset == 0) then Err Head else event_at basis.fields offset line
 

@@ -16,6 +16,7 @@ pub enum Control {
 ///
 /// A line whose first byte isn't `!` is not looked at any further.
 pub fn control_in(line: &[u8]) -> Option<Control>
+    // It tells what a cleaned line asks for, where it is a control line.
     ensures { result ≡ control_of line.now }
 {
     match line.first() {

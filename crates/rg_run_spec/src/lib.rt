@@ -34,8 +34,11 @@ pub use verdict::{law_before, law_grace, law_next, law_read, row_reply};
 /// empty store the events and the replies are those of the whole input, each with its marks behind it.
 #[tactic(auto, using(crate::proofs::Lines::looked_at, crate::proofs::Lines::passed_over, crate::proofs::Lines::events_first, crate::proofs::Lines::put_first))]
 pub fn law_line()
+    // A line from the store's next offset on gets its verdict.
     ensures looked_at { (basis : Basis) (next : ℕ) (events : List Event) (offset : ℕ) (line : Option (List ℕ)) →
         next ≤ offset → verdict_from basis next events offset line ≡ Some (line_verdict basis events offset line) }
+
+    // A line below the store's next offset is passed over.
     ensures passed_over { (basis : Basis) (next : ℕ) (events : List Event) (offset : ℕ) (line : Option (List ℕ)) →
         offset < next → verdict_from basis next events offset line ≡ None }
     ensures over_nothing { (basis : Basis) (lines : List (Option (List ℕ))) (i : ℕ) → events_before basis [] 0 lines i ≡ accepted_before basis lines i }
@@ -48,6 +51,7 @@ pub fn law_line()
 /// A mark that says what is saved stands behind one that says the same events are stored.
 #[tactic(auto, using(crate::proofs::Lines::saved_marks))]
 pub fn law_marks()
+    // A mark that says what is saved stands behind one that says the same events are stored.
     ensures saved { (terms : Terms) (events : List Event) (verdict : Verdict) → saves terms events verdict ≡ true →
         marks_of terms events verdict ≡ stored_line (accepted_after events verdict) ∷ (saved_line (accepted_after events verdict) ∷ []) }
 {}
@@ -56,6 +60,7 @@ pub fn law_marks()
 /// lines behind them.
 #[tactic(auto, using(crate::proofs::Whole::accepted_ahead, crate::proofs::Whole::out_ahead))]
 pub fn law_ahead()
+    // What is accepted in all is what the first lines give, and then what is still to come.
     ensures accepted { (terms : Terms) (held : List Event) (first : ℕ) (lines : List (Option (List ℕ))) (i : ℕ) → i ≤ length lines →
         events_after terms.basis held first lines ≡ events_from terms.basis (events_before terms.basis held first lines i) (first + i) (drop i lines) }
     ensures text { (terms : Terms) (held : List Event) (first : ℕ) (lines : List (Option (List ℕ))) (i : ℕ) → i ≤ length lines →
@@ -66,6 +71,7 @@ pub fn law_ahead()
 /// More lines behind some others change nothing of what these give.
 #[tactic(auto, using(crate::proofs::Whole::accepted_begins, crate::proofs::Whole::out_begins))]
 pub fn law_prefix()
+    // More lines behind some others change nothing of what these give.
     ensures accepted { (terms : Terms) (held : List Event) (first : ℕ) (front back : List (Option (List ℕ))) →
         IsPrefixOf (events_after terms.basis held first front) (events_after terms.basis held first (front ++ back)) }
     ensures text { (terms : Terms) (held : List Event) (first : ℕ) (front back : List (Option (List ℕ))) →
@@ -76,8 +82,11 @@ pub fn law_prefix()
 /// puts what that one would have put behind the lines below the next offset.
 #[tactic(auto, using(crate::proofs::Whole::accepted_again, crate::proofs::Whole::out_again, crate::proofs::Whole::accepted_splits))]
 pub fn law_go_on()
+    // A run over what an earlier run of the same lines left accepts the same events in the end.
     ensures accepted { (terms : Terms) (held : List Event) (first : ℕ) (lines : List (Option (List ℕ))) (left : List Event) →
         MayLeave terms.basis held first lines left → events_after terms.basis left first lines ≡ events_after terms.basis held first lines }
+
+    // It puts what that one would have put behind the lines below the next offset.
     ensures text { (terms : Terms) (held : List Event) (first : ℕ) (lines : List (Option (List ℕ))) (left : List Event) →
         MayLeave terms.basis held first lines left →
         out terms held first lines ≡ put_before terms held first lines (next_offset left - first) ++ out terms left first lines }
@@ -89,12 +98,17 @@ pub fn law_go_on()
 /// as after one; what is put over them is the last lines of what a run puts that never stopped.
 #[tactic(auto, using(crate::proofs::Whole::may_leave, crate::proofs::Whole::left_below, crate::proofs::Whole::leaves_again, crate::proofs::Whole::resumes))]
 pub fn law_resume()
+    // What a run may leave is just the events of the whole run below some next offset.
     ensures may_leave { (terms : Terms) (held : List Event) (first : ℕ) (lines : List (Option (List ℕ))) (left : List Event) →
         IsRising held → IsPrefixOf held left → left ≡ below (next_offset left) (events_after terms.basis held first lines) → MayLeave terms.basis held first lines left }
     ensures leaves_those_below { (terms : Terms) (held : List Event) (first : ℕ) (lines : List (Option (List ℕ))) (left : List Event) →
         IsRising held → MayLeave terms.basis held first lines left → left ≡ below (next_offset left) (events_after terms.basis held first lines) }
+
+    // So it is after two stops.
     ensures leaves_twice { (terms : Terms) (held : List Event) (first : ℕ) (lines : List (Option (List ℕ))) (left more : List Event) →
         MayLeave terms.basis held first lines left → MayLeave terms.basis left first lines more → MayLeave terms.basis held first lines more }
+
+    // What is put over these events is the last lines of what a run puts that never stopped.
     ensures resumes { (terms : Terms) (lines : List (Option (List ℕ))) (held : List Event) →
         held ≡ below (next_offset held) (events_after terms.basis [] 0 lines) → IsSuffixOf (out terms held 0 lines) (unstopped terms lines) }
 {}
@@ -103,6 +117,7 @@ pub fn law_resume()
 /// runs of other queries over the same store accept alike.
 #[tactic(auto, using(crate::proofs::Alike::accepted_alike))]
 pub fn law_alike()
+    // What is accepted depends on columns, header, limit and grace, and not on what is asked.
     ensures accepted { (one two : Basis) (held : List Event) (first : ℕ) (lines : List (Option (List ℕ))) →
         AcceptAlike one two → events_after two held first lines ≡ events_after one held first lines }
 {}
@@ -110,13 +125,17 @@ pub fn law_alike()
 /// Offsets rise, times never fall, and there are no more events than the terms allow or the store held.
 #[tactic(auto, using(crate::proofs::Whole::accepted_rises, crate::proofs::Whole::accepted_count))]
 pub fn law_order()
+    // Offsets rise, and times never fall.
     ensures rises { (terms : Terms) (held : List Event) (first : ℕ) (lines : List (Option (List ℕ))) → IsRising held → IsRising (events_after terms.basis held first lines) }
+
+    // There are no more events than the terms allow or the store held.
     ensures count { (terms : Terms) (held : List Event) (first : ℕ) (lines : List (Option (List ℕ))) → length (events_after terms.basis held first lines) ≤ max (length held) terms.basis.most }
 {}
 
 /// Whichever checkpoint a run goes on from, a newer one, an older one or none, it puts the same text
 /// behind its first line, which alone says how many events that checkpoint is of.
 pub fn law_whichever()
+    // Whichever checkpoint a run goes on from, it puts the same text behind its first line.
     ensures text { (terms : Terms) (held : List Event) (one other first : ℕ) (lines : List (Option (List ℕ))) →
         drop 1 (text_of_run terms held one first lines) ≡ drop 1 (text_of_run terms held other first lines) }
     ensures first_line { (terms : Terms) (held : List Event) (from first : ℕ) (lines : List (Option (List ℕ))) →
@@ -126,6 +145,7 @@ pub fn law_whichever()
 /// Lines below the next offset of the store may be left out of the input.
 #[tactic(auto, using(crate::proofs::Whole::accepted_without, crate::proofs::Whole::out_without))]
 pub fn law_first()
+    // Lines below the store's next offset may be left out of the input.
     ensures accepted { (terms : Terms) (held : List Event) (first : ℕ) (front back : List (Option (List ℕ))) → first + length front ≤ next_offset held →
         events_after terms.basis held (first + length front) back ≡ events_after terms.basis held first (front ++ back) }
     ensures text { (terms : Terms) (held : List Event) (first : ℕ) (front back : List (Option (List ℕ))) → first + length front ≤ next_offset held →
@@ -135,7 +155,10 @@ pub fn law_first()
 /// No line of a text holds an LF, and what LF ends in a prefix of its bytes is a prefix of its lines.
 #[tactic(auto, using(crate::proofs::Texts::run_are_lines, crate::proofs::Texts::pieces_prefix))]
 pub fn law_text()
+    // No line of a text holds an LF.
     ensures lines { (terms : Terms) (held : List Event) (from first : ℕ) (lines : List (Option (List ℕ))) → AreLines (text_of_run terms held from first lines) }
+
+    // What LF ends in a prefix of a text's bytes is a prefix of its lines.
     ensures whole { (text : List (List ℕ)) (put : List ℕ) → AreLines text → IsPrefix put (ended text) → IsPrefixOf (whole_pieces put) text }
 {}
 
@@ -150,6 +173,8 @@ pub fn law_acknowledged()
     ensures saved { (terms : Terms) (held : List Event) (first : ℕ) (lines : List (Option (List ℕ))) → first + length lines < 2 ^ 63 → next_offset held < 2 ^ 63 →
         max (length held) terms.basis.most < 2 ^ 64 → (n : ℕ) → n < 2 ^ 64 → SaysSaved (out terms held first lines) n →
         (j : ℕ) × (j ≤ length lines) × (n ≡ length (events_before terms.basis held first lines j)) }
+
+    // What a whole `stored` line says is held by each image that is on course.
     ensures held { (events accepted : List Event) (n : ℕ) → IsRising accepted → IsPrefixOf events accepted → n ≤ next_offset events → HoldsBelow n accepted events }
     ensures last { (start : ℕ) (lines : List (List ℕ)) (accepted events : List Event) (n : ℕ) → n < 2 ^ 64 →
         HoldsStored lines accepted events → HoldsBelow start accepted events → IsAcknowledged start lines n → HoldsBelow n accepted events }
@@ -161,6 +186,7 @@ pub fn law_acknowledged()
 /// What a stopped run and the next one put make up the whole text, but for the lines of at most one turn.
 #[tactic(auto, using(crate::proofs::Covering::overlaps, crate::proofs::Covering::one_ahead, crate::proofs::Covering::accepted_alike))]
 pub fn law_cover()
+    // What a stopped run and the next one put make up the whole text, but for the lines of at most one turn.
     ensures overlaps { (terms : Terms) (held : List Event) (first : ℕ) (lines : List (Option (List ℕ))) (left : List Event) →
         MayLeave terms.basis held first lines left → (count : ℕ) → count ≤ length lines → next_offset left ≤ first + count →
         Overlaps (put_before terms held first lines (next_offset left - first)) (put_before terms held first lines count) (out terms left first lines) (out terms held first lines) }

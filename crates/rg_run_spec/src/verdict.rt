@@ -46,6 +46,7 @@ pub fn law_next()
 /// moved: what is decided on a line that asks for nothing is what it was before there was any grace.
 #[tactic(auto, using(crate::proofs::Grace::no_grace))]
 pub fn law_grace()
+    // Without grace no event is moved, and late is what it was before there was any grace.
     ensures { (basis : Basis) (events : List TheEvent) (offset : ℕ) (line : Option (List ℕ)) → basis.grace ≡ 0 → IsRising events →
         line_verdict basis events offset line ≡ obeyed_or (control_at basis offset line) (strict_verdict basis.most events (read_as basis offset line)) }
 {}

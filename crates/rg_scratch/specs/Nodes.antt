@@ -28,7 +28,7 @@ abbrev pub IsExactAt : List Event → Event → Option Node → Type 0
 IsExactAt events e None = ⊤
 IsExactAt events e (Some node) = IsExact node.agg.func (values_in node.agg.field (filter (counts_for (query_at node) e) events))
 
--- the same of all nodes of a plan
+-- each sum of squares that a node of the plan asks for is below 2^127
 abbrev pub AreExact : Tasks → List Event → Event → Type 0
 AreExact plan events e = (n : ℕ) → IsExactAt events e (node_at plan n)
 

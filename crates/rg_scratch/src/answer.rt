@@ -30,6 +30,7 @@ pub fn answer_from_scratch(
 ) -> Result<Answers, Memory>
     requires there { k < length events.now }
     requires few { length events.now ≤ 2 ^ 40 }
+    // The answers of a walk over all events are those of all queries from scratch.
     ensures { (shape : Shape) (queries : List Asked) (e : Event) → plan.now ≡ plan_for queries → All (IsLegalQuery shape) queries →
         All (IsEventOf shape.fields) events.now → slice_get events.now k ≡ Some e →
         IfOk result (λ answers. answers ≡ answers_to queries (take (k + 1) events.now) e) }

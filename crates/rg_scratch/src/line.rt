@@ -16,6 +16,7 @@ const LINE_FACTOR: u64 = 1_442_695_040_888_963_407;
 /// Where memory runs out `out` holds what it held.
 pub fn make_line(seed: u64, i: u64, out: &mut Vec<u8>) -> Result<(), Memory>
     requires { i < 200000 }
+    // A made line is its formula's, and a refusal leaves the text as it was.
     ensures ok { OnOk result (out.new.items ≡ out.old.items ++ made_line seed i) }
     ensures err { OnErr result (out.new.items ≡ out.old.items) }
 {

@@ -82,7 +82,7 @@ pub record SameSlots (old new : List KeyRows) : Type 0 where
 abbrev pub AreHeld : List ℕ → BTreeMap (List ℕ) ℕ → List KeyRows → Type 0
 AreHeld buckets overflow rows = (slot : ℕ) → 0 < count_at rows slot → Holds buckets overflow (mix (key_at rows slot)) (key_at rows slot) slot
 
--- the same of those below a number
+-- each slot below a number in which something is kept is among the candidates of its key
 abbrev pub AreHeldBelow : List ℕ → BTreeMap (List ℕ) ℕ → List KeyRows → ℕ → Type 0
 AreHeldBelow buckets overflow rows n = (slot : ℕ) → slot < n → 0 < count_at rows slot → Holds buckets overflow (mix (key_at rows slot)) (key_at rows slot) slot
 

@@ -135,7 +135,7 @@ pub record Gets (wanted : Wanted) (key : List ℕ) (kepts : List Kept) (old new 
   pub pages : (node : ℕ) → page_at new node ≡ and_spans (page_at old node) (and_span (span_of wanted node key (seen_at kepts node)) [])
   pub count : length new ≡ length old
 
--- the same, of the rows in a slot
+-- the sheets can get the rows in a slot
 pub record IsReadyAt (wanted : Wanted) (key : List ℕ) (rows : List KeyRows) (slot : ℕ) (sheets : List Sheet) : Type 0 where
   pub within : slot < length rows
   pub short : length key ≤ 2056

@@ -55,7 +55,7 @@ values_tagged_at tag bytes =
     else if tag == 23 then ranked_at bytes
     else Err Unfit
 
--- the same, of all: the others keep a number of values, and a sum
+-- the state that stands behind a tag, of all aggregators: those not named above keep a number of values, and a sum
 abbrev pub state_tagged_at : ℕ → List ℕ → Begins Held
 state_tagged_at tag bytes =
     if tag == 1 then counted_at bytes

@@ -70,7 +70,7 @@ pub record KeptStep (func : Func) (change : Change) (value : Value) (old new : K
   pub err : OnErr result (seen new ≡ seen old)
   pub refuses : IfErr result (Refuses func change value (seen old).held)
 
--- The same, of the row of a node among those of a key: the others stay.
+-- What a change does to the row of a node among those of a key: the others stay.
 pub record RowsStep (func : Func) (change : Change) (value : Value) (node : ℕ) (old new : List Kept) (result : Result Unit Refusal) : Type 0 where
   pub stepped : OnOk result (Stepped func change value (seen_at old node) (seen_at new node))
   pub others : OthersKept node old new

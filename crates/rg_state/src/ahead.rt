@@ -97,7 +97,7 @@ fn rows_in(slots: &Slots, slot: u32) -> u64 {
     }
 }
 
-/// The same of the rows of a key.
+/// Looks at the rows of a key, so that their memory is near.
 fn seen_of(rows: &KeyRows) -> u64 {
     let mut seen: u64 = 0;
     for kept in &rows.kept {

@@ -24,9 +24,12 @@ macro_rules! decoded {
 impl AggState {
     /// Takes a state, as `encode` writes it. A refusal leaves the reader as it was.
     pub fn decode(alloc: Global, from: &mut ByteReader<'_>) -> Result<AggState, StateFault>
+        // A state is read exactly where its bytes stand, of the function that its tag says.
         ensures agrees { Agrees held_of (state_at from.old) result from.new }
         ensures ok { IfOk result (λ state. from.old ≡ held_bytes (held_of state) ++ from.new) }
         ensures some { IfOk result (λ state. 0 < size_in (held_of state)) }
+
+        // What was written is read back, whatever follows.
         ensures reads_back { (state : AggState) (rest : List ℕ) → 0 < size_in (held_of state) → from.old ≡ held_bytes (held_of state) ++ rest → Returns held_of (held_of state) rest result from.new }
         ensures err { OnErr result (from.new ≡ from.old) }
     {
@@ -48,7 +51,7 @@ fn read_state(alloc: Global, from: &mut ByteReader<'_>) -> Result<AggState, Stat
     }
 }
 
-/// The same by the aggregator's tag, of those that keep values.
+/// Reads a state by the tag of an aggregator that keeps values.
 fn read_values(tag: u8, alloc: Global, from: &mut ByteReader<'_>) -> Result<AggState, StateFault>
     ensures { IsRead (values_tagged_at tag from.old) from.old result from.new }
 {

@@ -340,7 +340,7 @@ impl KeyRows {
     }
 }
 
-/// The same, of a list of them.
+/// Forgets the marks of all rows of a list, and drops those that are gone.
 fn settle_all(kept: &mut Rows)
     requires { are_sound kept.old.items ≡ true }
     ensures sound { are_sound kept.new.items ≡ true }
@@ -352,7 +352,7 @@ fn settle_all(kept: &mut Rows)
     }
 }
 
-/// The same, of the one in a place. Answers the place of the next one.
+/// Forgets the marks of the row in a place, or drops it where it is gone. Answers the place of the next one.
 fn settle_at(kept: &mut Rows, place: usize) -> usize
     requires sound { are_sound kept.old.items ≡ true }
     requires within { place < length kept.old.items }

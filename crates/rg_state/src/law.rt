@@ -14,8 +14,11 @@ ghost use Rattle.rg_state.specs.declared.state.AggState.{AggState};
 /// are the same.
 #[tactic(auto, using(crate::proofs::Settled::keep_same))]
 pub fn law_states()
+    // A row of values of one kind is of that kind.
     ensures fits { (func : Func) (kind : Option Kind) (held : Held) (values : List Value) → RowStands func (Some held) values →
         (func ≡ Count) ⊎ All (HasKind kind) values → IsFor func kind held }
+
+    // States of one function that stand for one list have the same bytes.
     ensures same { (state other : AggState) (values : List Value) → func_of (held_of state) ≡ func_of (held_of other) →
         Stands (held_of state) values → Stands (held_of other) values → held_of state ≡ held_of other }
 {}

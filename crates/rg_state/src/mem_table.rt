@@ -38,6 +38,7 @@ pub struct MemTable {
 impl MemTable {
     /// A table without a row.
     pub fn new(alloc: Global) -> MemTable
+        // A new table in memory has no rows and no marks, tells its rows, and has no disk.
         ensures none { (node : ℕ) (key : List ℕ) → ⟦<MemTable as Table>⟧.cell result node key ≡ None }
         ensures none_named { NoMarks (⟦<MemTable as Table>⟧.named result) }
         ensures none_there { NoMarks (⟦<MemTable as Table>⟧.there result) }

@@ -108,6 +108,7 @@ impl AggState {
 
     /// A state that keeps the same.
     pub fn copy(&self, alloc: Global) -> Result<AggState, Memory>
+        // A copy keeps the same.
         ensures { IfOk result (λ copy. held_of copy ≡ held_of self.now) }
     {
         match self {
@@ -162,6 +163,7 @@ impl AggState {
     /// Whether it is a state that serves this function and each value that it holds is of this kind. A count
     /// holds none, and a sum is of ints.
     pub fn fits(&self, func: Func, kind: Option<Kind>) -> bool
+        // It tells whether the state is of this function and kind.
         ensures { IsTrue result ↔ IsFor func kind (held_of self.now) }
     {
         self.func() == kept_as(func) && self.is_of(kind)
@@ -226,6 +228,7 @@ impl AggState {
     /// Writes the state at the end. Where memory runs out `out` holds what it held.
     pub fn encode(&self, out: &mut Vec<u8>) -> Result<(), Memory>
         requires { 0 < size_in (held_of self.now) }
+        // The bytes of the state are written by their grammar, or nothing is.
         ensures ok { OnOk result (out.new.items ≡ out.old.items ++ held_bytes (held_of self.now)) }
         ensures err { OnErr result (out.new.items ≡ out.old.items) }
     {

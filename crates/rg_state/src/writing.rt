@@ -56,7 +56,7 @@ fn fill(
     fill_listed(alloc, wanted, nodes, slots, &list, used)
 }
 
-/// The same, where the rows that are wanted are in these slots, their keys rising.
+/// Fills the sheets from these slots, in which the rows that are wanted are, their keys rising.
 fn fill_listed(
     alloc: Global,
     wanted: Wanted,

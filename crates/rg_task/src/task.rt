@@ -39,15 +39,21 @@ pub trait Task {
         ensures events { (plan : Planned) → view.runs plan self.old →
             OnOk result ((view.at self.new).events ≡ accepted_after (view.at self.old).events (verdict_on plan (view.at self.old).events offset line.now)) }
         ensures running { (plan : Planned) → view.runs plan self.old → OnOk result (view.runs plan self.new) }
+
+        // At each moment each image that a crash might leave is within a step of the plan's store.
         ensures within_step { (plan : Planned) (keep : Option ℕ) → view.runs plan self.old →
             IsWithinStep view.may view.clock view.since view.said (view.store plan) keep (view.at self.old).chunk self.old self.new }
         ensures stored { (plan : Planned) (keep : Option ℕ) → view.runs plan self.old →
             OnOk result (IsStored (view.store plan) keep (view.at self.old).chunk (view.at self.old).stored (view.at self.new).stored (view.may self.old) (view.may self.new)) }
+
+        // Of a task that runs neither a bad state nor damage is told.
         ensures never_bad { (plan : Planned) (n : ℕ) → view.runs plan self.old → IsErrOf result (TaskFault.BadState n) → ⊥ }
         ensures never_damaged { (plan : Planned) (p : ℕ) → view.runs plan self.old → IsErrOf result (TaskFault.Damaged p) → ⊥ }
 
         // Each node and each edge by itself.
         ensures node { (plan : Planned) (n : ℕ) → view.node plan n self.old → OnOk result (view.node plan n self.new) }
+
+        // Of any other task no node that can be carried on is told to be bad.
         ensures never_bad_node { (plan : Planned) (n : ℕ) → view.node plan n self.old → IsErrOf result (TaskFault.BadState n) → ⊥ }
         ensures placed { (plan : Planned) → view.placed plan self.old → OnOk result (view.placed plan self.new) }
         ensures undamaged { (plan : Planned) (p : ℕ) → view.placed plan self.old → IsErrOf result (TaskFault.Damaged p) → ⊥ }
@@ -61,6 +67,8 @@ pub trait Task {
 
         ensures keep { (view.at self.new).keep ≡ (view.at self.old).keep }
         ensures damaged { (p : ℕ) → IsErrOf result (TaskFault.Damaged p) → view.illegal p self.new }
+
+        // Each fault has its cause.
         ensures disk { IsErrOf result TaskFault.Disk → Rose (disk_faults self.old) (disk_faults self.new) }
         ensures ended { IsErrOf result TaskFault.Ended → (view.at self.old).ended ≡ true }
         ensures over { (view.at self.old).ended ≡ true → StaysEnded view result self.old self.new }
@@ -147,6 +155,8 @@ pub trait Task {
         ensures stored { (view.at self.new).stored ≡ (view.at self.old).stored }
         ensures keep { (view.at self.new).keep ≡ (view.at self.old).keep }
         ensures next_stays { (view.at self.new).next ≡ (view.at self.old).next }
+
+        // No file, no event and no row changes.
         ensures leaves { LeavesAll view.now view.may view.clock view.since view.said self.old self.new }
         ensures damaged { (p : ℕ) → IsErrOf result (TaskFault.Damaged p) → view.illegal p self.new }
         ensures disk { IsErrOf result TaskFault.Disk → Rose (disk_faults self.old) (disk_faults self.new) }
@@ -161,6 +171,7 @@ pub trait Task {
 
     /// Puts all of these bytes. After `Failed` a prefix of them was put. Nothing else changes.
     fn put(&mut self, bytes: &[u8]) -> Result<(), Failed>
+        // Just these bytes are put, or a prefix of them, and nothing else changes.
         ensures all { OnOk result (Puts view.said view.clock view.since self.old self.new bytes.now) }
         ensures part { (part : List ℕ) × IsPrefix part bytes.now × Puts view.said view.clock view.since self.old self.new part }
         ensures leaves { LeavesFiles view.now view.may view.clock view.since self.old self.new }

@@ -8,7 +8,7 @@ use Rattle.rg_agg.specs.Held.{counted, summed, averaged, squared, ended, summed_
 use Rattle.rg_agg.specs.declared.fault.StateFault.{StateFault}
 use Rattle.rg_agg.specs.declared.fault.StateFault.TheVariants.{Short, Unfit, Memory}
 use Rattle.rg_bytes.specs.Reading.{and_then, tested}
-use Rattle.rg_bytes.proofs.Reading.{u8_read, u8_short, u64_read, u64_short, i128_read, i128_short}
+use Rattle.rg_bytes.proofs.Laws.{u8_read, u8_short, u64_read, u64_short, i128_read, i128_short}
 use Rattle.rg_agg.specs.Numbers.{value_of, seen, is_kept}
 use Rattle.rg_agg.specs.Stands.{IsNumber, is_int_or_id}
 use Rattle.rg_agg.specs.declared.number.Number.{Number}
@@ -18,7 +18,7 @@ use Rattle.rg_event.specs.declared.codec.EventFault.{EventFault}
 use Rattle.rg_event.specs.declared.codec.EventFault.TheVariants.{Memory as EventMemory}
 use Rattle.rg_event.specs.declared.value.Value.{Value}
 use Rattle.rg_event.specs.declared.value.Value.TheVariants.{Int as IntValue, Id as IdValue, Text as TextValue, Flag as FlagValue}
-use Rattle.rg_event.proofs.TaggedValues.{tagged_reads_back}
+use Rattle.rg_event.proofs.Laws.{tagged_reads_back}
 
 -- the number of values
 

@@ -9,7 +9,7 @@ use Rattle.rg_event.specs.declared.value.Value.{Value}
 use Rattle.rg_event.specs.declared.value.Value.TheVariants.{Int, Id}
 use Rattle.rg_metric.specs.Answers.{number_of}
 use Rattle.rg_metric.specs.Same.{same_value}
-use Rattle.rg_metric.proofs.Same.{same_value-true, same_value-same}
+use Rattle.rg_metric.proofs.Laws.{same_value-true, same_value-same}
 use Rattle.rg_agg.specs.Held.{is_like, is_sum}
 use Rattle.rg_agg.specs.Stands.{IsInt, IsNumber, IsTotal, IsEnd, is_int_or_id, all_like, are_alike, last_behind, last_value, begins_with}
 use Rattle.rg_agg.proofs.Ends.{likes_of, likes_last, like_turned, number_like}

@@ -1,5 +1,6 @@
 pub mod Admitted
 pub mod Fields
+pub mod Laws
 pub mod Sums
 pub mod Ends
 pub mod Queues

@@ -14,7 +14,7 @@ use Rattle.rg_event.specs.Tagged.{tagged_bytes, value_kind}
 use Rattle.rg_event.specs.declared.value.Value.{Value}
 use Rattle.rg_event.specs.declared.value.Value.TheVariants.{Int as IntValue, Id as IdValue}
 use Rattle.rg_bytes.specs.Reading.{more_at}
-use Rattle.rg_bytes.proofs.Lists.{StepsBack, more_back}
+use Rattle.rg_bytes.proofs.Laws.{StepsBack, more_back}
 use Rattle.rg_agg.proofs.Fields.{number_value_reads_back, size_behind_read}
 
 pub values_more : (numbers : List Number) (number : Number) → map value_of (numbers ++ number ∷ []) ≡ map value_of numbers ++ value_of number ∷ []

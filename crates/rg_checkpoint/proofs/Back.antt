@@ -5,14 +5,13 @@ use Rattle.std.proofs.lemmas.Grind.{common_steps}
 use Rattle.std.proofs.lemmas.List.Elements.{All-head, All-tail}
 use Rattle.std.specs.Int.{w32, w64, to_be_bytes}
 use Rattle.rg_bytes.specs.Reading.{list_bytes, whole}
-use Rattle.rg_bytes.proofs.Reading.{bytes_read, u8_read, u32_read, u64_read}
-use Rattle.rg_bytes.proofs.Lists.{StepsBack, more_back}
+use Rattle.rg_bytes.proofs.Laws.{bytes_read, u8_read, u32_read, u64_read, StepsBack, more_back}
 use Rattle.rg_agg.specs.Held.{Held, held_bytes}
 use Rattle.rg_agg.specs.Standing.{size_in}
 use Rattle.rg_past.specs.declared.past.Spot.{Spot}
 use Rattle.rg_state.specs.Rows.{Entry, entry_bytes}
 use Rattle.rg_state.specs.States.{IsHeld, state_at}
-use Rattle.rg_state.proofs.ReadBack.{state_read_back}
+use Rattle.rg_state.proofs.Laws.{state_read_back}
 use Rattle.rg_checkpoint.specs.declared.base.Checkpoint.{Checkpoint}
 use Rattle.rg_checkpoint.specs.declared.fault.CheckpointFault.{CheckpointFault}
 use Rattle.rg_checkpoint.specs.declared.fault.CheckpointFault.TheVariants.{BadCheckpoint, Memory}

@@ -2,8 +2,7 @@
 use Rattle.std.proofs.Common.{◌≡◌, ◌≤◌, ℕ, List, refl, ap, sym, ◌∙◌}
 use Rattle.rg_state.specs.Changes.{Marks, RowChange, changes_in, applied, IsSince}
 use Rattle.rg_state.specs.Rows.{Cells, Entry, Lists, ListsOf, at_in}
-use Rattle.rg_state.proofs.Listed.{at_lists}
-use Rattle.rg_state.proofs.Since.{applied_since, gone_since}
+use Rattle.rg_state.proofs.Laws.{at_lists, applied_since, gone_since}
 use Rattle.rg_checkpoint.specs.Updates.{AreApplied, Applies, IsUpdate}
 use Rattle.rg_checkpoint.specs.declared.base.Checkpoint.{Checkpoint}
 

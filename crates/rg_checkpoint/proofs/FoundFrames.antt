@@ -7,7 +7,7 @@ use Rattle.rg_frame.specs.Looks.{HoldsFrame, HoldsHead, IsClosed, IsTorn}
 use Rattle.rg_frame.specs.Frames.{payload_at}
 use Rattle.rg_frame.specs.declared.fault.FrameFault.{FrameFault}
 use Rattle.rg_frame.specs.declared.fault.FrameFault.TheVariants.{Disk, Damaged, Memory}
-use Rattle.rg_frame.proofs.Payloads.{holds_payload, closed_payload}
+use Rattle.rg_frame.proofs.Laws.{holds_payload, closed_payload}
 use Rattle.rg_checkpoint.specs.declared.base.Checkpoint.{Checkpoint}
 use Rattle.rg_checkpoint.specs.declared.slot.Read.{Read}
 use Rattle.rg_checkpoint.specs.Base.{IsBase}

@@ -4,12 +4,12 @@ use Rattle.std.specs.Prelude.{⊤}
 use Rattle.std.specs.Option.{ForSome}
 use Rattle.rg_host.specs.Image.{Image, Becomes, InFile, NothingPending}
 use Rattle.rg_host.specs.Moments.{Moment, Moments}
-use Rattle.rg_host.proofs.Runs.{becomes-weaker, moments-weaker}
+use Rattle.rg_host.proofs.Laws.{becomes-weaker, moments-weaker}
 use Rattle.rg_frame.specs.Calls.{Writes}
 use Rattle.rg_frame.specs.Frames.{IsLog, HasPayloads, EndsAt}
 use Rattle.rg_frame.specs.LogState.{LogState, Reaches, ReachesEnd}
 use Rattle.rg_frame.specs.Steps.{Grows, Grown, From, Appended}
-use Rattle.rg_frame.proofs.Runs.{Same, for_some-after, writes-none, writes-weaker}
+use Rattle.rg_frame.proofs.Laws.{Same, for_some-after, writes-none, writes-weaker}
 use Rattle.rg_checkpoint.specs.declared.base.Checkpoint.{Checkpoint}
 use Rattle.rg_checkpoint.specs.declared.sizes.SlotSizes.{SlotSizes}
 use Rattle.rg_checkpoint.specs.Updates.{Applies}

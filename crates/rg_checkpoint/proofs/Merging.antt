@@ -15,7 +15,7 @@ use Rattle.rg_agg.specs.Held.{Held}
 use Rattle.rg_state.specs.Cells.{and_row}
 use Rattle.rg_state.specs.Changes.{RowChange, applied}
 use Rattle.rg_state.specs.Rows.{At, Entry, IsBelow, AreRising, is_at, at_in}
-use Rattle.rg_state.proofs.Listed.{joined, not_same, tail_rising, rises_above, place_is, is_place, passed_over, stands_first, lists_one, lists_at}
+use Rattle.rg_state.proofs.Laws.{joined, not_same, tail_rising, rises_above, place_is, is_place, passed_over, stands_first, lists_one, lists_at}
 use Rattle.rg_checkpoint.specs.Merging.{is_same, before, behind, begins_with, without, now_of, merged, all_found}
 use Rattle.rg_checkpoint.specs.Reading.{is_below}
 use Rattle.rg_checkpoint.specs.Updates.{AreApplied}

@@ -4,12 +4,12 @@ use Rattle.std.specs.Prelude.{⊤}
 use Rattle.std.specs.Option.{ForSome}
 use Rattle.rg_host.specs.Image.{Image, Becomes, InFile, NothingPending}
 use Rattle.rg_host.specs.Moments.{Moment, Moments}
-use Rattle.rg_host.proofs.Runs.{moments-weaker}
+use Rattle.rg_host.proofs.Laws.{moments-weaker}
 use Rattle.rg_frame.specs.Calls.{Writes}
 use Rattle.rg_frame.specs.Frames.{HasPayloads}
 use Rattle.rg_frame.specs.LogState.{LogState, ReachesEnd}
 use Rattle.rg_frame.specs.Steps.{OldOrNone, Grows, From, Appended}
-use Rattle.rg_frame.proofs.Runs.{writes-weaker, writes-then, in_file-then, others-then}
+use Rattle.rg_frame.proofs.Laws.{writes-weaker, writes-then, in_file-then, others-then}
 use Rattle.rg_checkpoint.specs.declared.slot.SlotEnd.{SlotEnd}
 use Rattle.rg_checkpoint.specs.Rewritten.{IsRewritten, IsRewriting}
 use Rattle.rg_checkpoint.specs.Sizes.{end_of, sizes_of}

@@ -5,10 +5,7 @@ use Rattle.std.proofs.lemmas.List.{drop_at}
 use Rattle.std.proofs.lemmas.List.Elements.{All-head, All-tail}
 use Rattle.rg_frame.specs.Frames.{body, frames, FitsFrame, Ends, HasPayloads, Begins, payload_in}
 use Rattle.rg_frame.specs.Looks.{HoldsFrame, IsClosed, IsTorn}
-use Rattle.rg_frame.proofs.FrameLaws.{length-body, length-frames, length-frames-push, frames-between}
-use Rattle.rg_frame.proofs.FrameLists.{frame_list-has, frame_list-damaged, fits_below, has_payloads}
-use Rattle.rg_frame.proofs.Looked.{begins-none, log-closed, damaged-torn}
-use Rattle.rg_frame.proofs.Payloads.{payload_in-frame}
+use Rattle.rg_frame.proofs.Laws.{length-body, length-frames, length-frames-push, frames-between, frame_list-has, frame_list-damaged, fits_below, has_payloads, begins-none, log-closed, damaged-torn, payload_in-frame}
 use Rattle.rg_checkpoint.specs.declared.base.Checkpoint.{Checkpoint}
 use Rattle.rg_checkpoint.specs.declared.sizes.SlotSizes.{SlotSizes}
 use Rattle.rg_checkpoint.specs.Base.{IsBase}

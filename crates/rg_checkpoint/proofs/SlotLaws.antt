@@ -4,7 +4,7 @@ use Rattle.std.specs.Option.{ForSome}
 use Rattle.rg_host.specs.Image.{Image, NothingPending}
 use Rattle.rg_frame.specs.Frames.{IsLog, HasPayloads, EndsAt}
 use Rattle.rg_frame.specs.Steps.{OldOrNone, Grows, From, Appended, Leaves}
-use Rattle.rg_frame.proofs.FrameLists.{payloads_one}
+use Rattle.rg_frame.proofs.Laws.{payloads_one}
 use Rattle.rg_checkpoint.specs.declared.base.Checkpoint.{Checkpoint}
 use Rattle.rg_checkpoint.specs.Base.{IsBase}
 use Rattle.rg_checkpoint.specs.Slots.{IsOnly, Says, HasSlot, HasNoSlot, IsSlot, Turns, Written, other_of, IsKeep}

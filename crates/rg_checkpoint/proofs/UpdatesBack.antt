@@ -4,8 +4,7 @@ use Rattle.std.specs.List.{All}
 use Rattle.std.proofs.lemmas.List.Elements.{All-head, All-tail}
 use Rattle.std.specs.Int.{w32, w64, to_be_bytes}
 use Rattle.rg_bytes.specs.Reading.{list_bytes, whole}
-use Rattle.rg_bytes.proofs.Reading.{u8_read, u32_read, u64_read}
-use Rattle.rg_bytes.proofs.Lists.{StepsBack, more_back}
+use Rattle.rg_bytes.proofs.Laws.{u8_read, u32_read, u64_read, StepsBack, more_back}
 use Rattle.rg_agg.specs.Held.{Held, held_bytes}
 use Rattle.rg_state.specs.Changes.{RowChange, now_bytes, change_bytes}
 use Rattle.rg_checkpoint.specs.declared.fault.CheckpointFault.{CheckpointFault}

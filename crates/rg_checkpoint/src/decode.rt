@@ -368,7 +368,7 @@ pub(crate) fn take_state(
 }
 
 /// Takes so many bytes.
-#[tactic(auto, using(rg_bytes::proofs::Reading::bytes_read, rg_bytes::proofs::Reading::bytes_short))]
+#[tactic(auto, using(rg_bytes::proofs::Laws::bytes_read, rg_bytes::proofs::Laws::bytes_short))]
 fn take_bytes(
     alloc: Global,
     count: u32,
@@ -389,7 +389,7 @@ fn take_bytes(
 }
 
 /// Takes 1 byte.
-#[tactic(auto, using(rg_bytes::proofs::Reading::u8_read, rg_bytes::proofs::Reading::u8_short))]
+#[tactic(auto, using(rg_bytes::proofs::Laws::u8_read, rg_bytes::proofs::Laws::u8_short))]
 pub(crate) fn take_u8(from: &mut ByteReader<'_>) -> Result<u8, CheckpointFault>
     ensures agrees { Agrees (λ n. n) (u8_at from.old) result from.new }
     ensures ok { IfOk result (λ n. from.old ≡ n ∷ from.new) }
@@ -401,7 +401,7 @@ pub(crate) fn take_u8(from: &mut ByteReader<'_>) -> Result<u8, CheckpointFault>
 }
 
 /// Takes a number of 4 bytes.
-#[tactic(auto, using(rg_bytes::proofs::Reading::u32_read, rg_bytes::proofs::Reading::u32_short))]
+#[tactic(auto, using(rg_bytes::proofs::Laws::u32_read, rg_bytes::proofs::Laws::u32_short))]
 pub(crate) fn take_u32(from: &mut ByteReader<'_>) -> Result<u32, CheckpointFault>
     ensures agrees { Agrees (λ n. n) (u32_at from.old) result from.new }
     ensures ok { IfOk result (λ n. from.old ≡ to_be_bytes w32 n ++ from.new) }
@@ -413,7 +413,7 @@ pub(crate) fn take_u32(from: &mut ByteReader<'_>) -> Result<u32, CheckpointFault
 }
 
 /// Takes a number of 8 bytes.
-#[tactic(auto, using(rg_bytes::proofs::Reading::u64_read, rg_bytes::proofs::Reading::u64_short))]
+#[tactic(auto, using(rg_bytes::proofs::Laws::u64_read, rg_bytes::proofs::Laws::u64_short))]
 pub(crate) fn take_u64(from: &mut ByteReader<'_>) -> Result<u64, CheckpointFault>
     ensures agrees { Agrees (λ n. n) (u64_at from.old) result from.new }
     ensures ok { IfOk result (λ n. from.old ≡ to_be_bytes w64 n ++ from.new) }

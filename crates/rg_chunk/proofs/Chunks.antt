@@ -5,19 +5,18 @@ use Rattle.std.proofs.lemmas.List.{drop_all}
 use Rattle.std.specs.List.{All}
 use Rattle.std.proofs.lemmas.List.Elements.{All-cons, All-nil, All-head, All-tail}
 use Rattle.rg_bytes.specs.Reading.{Reading as ReadingWith, and_then, tested, more_at, whole}
-use Rattle.rg_bytes.proofs.Lists.{StepsBack, more_back, step_stops}
+use Rattle.rg_bytes.proofs.Laws.{StepsBack, more_back, step_stops}
 use Rattle.rg_event.specs.Codec.{Reading, IsEventOf, event_at, event_bytes}
 use Rattle.rg_event.specs.Rising.{IsRising, next_offset, last_time}
 use Rattle.rg_event.specs.declared.codec.EventFault.{EventFault}
 use Rattle.rg_event.specs.declared.codec.EventFault.TheVariants.{Short, BadValue, Memory}
 use Rattle.rg_event.specs.declared.event.Event.{Event}
 use Rattle.rg_event.specs.declared.schema.Field.{Field}
-use Rattle.rg_event.proofs.RoundTrip.{event_reads_back}
-use Rattle.rg_event.proofs.Rising.{next_offset-push, last_time-push, IsRising-push}
+use Rattle.rg_event.proofs.Laws.{event_reads_back, next_offset-push, last_time-push, IsRising-push}
 use Rattle.rg_column.specs.Columns.{AreColumnsOf, columns_at, columns_bytes}
 use Rattle.rg_column.specs.declared.fault.ColumnFault.{ColumnFault}
 use Rattle.rg_column.specs.declared.fault.ColumnFault.TheVariants.{Memory as RanOut}
-use Rattle.rg_column.proofs.Transposed.{columns_back}
+use Rattle.rg_column.proofs.Laws.{columns_back}
 use Rattle.rg_chunk.specs.declared.head.ChunkHead.{ChunkHead}
 use Rattle.rg_chunk.specs.declared.head.Layout.{Layout}
 use Rattle.rg_chunk.specs.declared.head.Layout.TheVariants.{Rows, Columns}

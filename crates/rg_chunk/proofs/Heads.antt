@@ -4,7 +4,7 @@ use Rattle.std.proofs.lemmas.Bool.Decides.{nat_tests}
 use Rattle.std.proofs.lemmas.Grind.{common_steps}
 use Rattle.std.specs.Int.{w32, w64, to_be_bytes}
 use Rattle.rg_bytes.specs.Reading.{tested}
-use Rattle.rg_bytes.proofs.Reading.{u8_read, u8_short, u32_read, u32_short, u64_read, u64_short}
+use Rattle.rg_bytes.proofs.Laws.{u8_read, u8_short, u32_read, u32_short, u64_read, u64_short}
 use Rattle.rg_event.specs.declared.codec.EventFault.{EventFault}
 use Rattle.rg_event.specs.declared.codec.EventFault.TheVariants.{Short, BadValue}
 use Rattle.rg_event.specs.declared.event.Event.{Event}

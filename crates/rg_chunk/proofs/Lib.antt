@@ -2,3 +2,4 @@ pub mod Lasts
 pub mod Heads
 pub mod Chunks
 pub mod Judging
+pub mod Laws

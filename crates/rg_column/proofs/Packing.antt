@@ -6,8 +6,7 @@ use Rattle.std.proofs.lemmas.List.Elements.{All-append, All-cons, All-nil, All-h
 use Rattle.std.specs.Int.{w64, to_be_bytes}
 use Rattle.std.specs.List.{All}
 use Rattle.rg_bytes.specs.Reading.{tested, more_at, list_bytes}
-use Rattle.rg_bytes.proofs.Lists.{StepsBack, more_back}
-use Rattle.rg_bytes.proofs.Reading.{u8_read, u8_short, u64_read, u64_short}
+use Rattle.rg_bytes.proofs.Laws.{StepsBack, more_back, u8_read, u8_short, u64_read, u64_short}
 use Rattle.rg_event.specs.declared.event.Event.{Event}
 use Rattle.rg_column.specs.Widths.{Reading, limit, least_width, width_byte, width_said, difference_bytes, difference_at}
 use Rattle.rg_column.specs.Numbers.{turned, base_bits, lowest, highest, field_of, least, greatest, width_of, differences_bytes, numbers_bytes, raised, is_packed, differences_at, packed_at, numbers_at, AreOf}

@@ -8,11 +8,9 @@ use Rattle.std.specs.Global.{Vec}
 use Rattle.std.specs.List.{All}
 use Rattle.std.specs.Result.{IfOk}
 use Rattle.rg_bytes.specs.Reading.{and_then, more_at, list_bytes}
-use Rattle.rg_bytes.proofs.Lists.{StepsBack, more_back}
-use Rattle.rg_bytes.proofs.Reading.{both_answers, memory_only}
+use Rattle.rg_bytes.proofs.Laws.{StepsBack, more_back, both_answers, memory_only}
 use Rattle.rg_event.specs.Codec.{IsValueOf, AreValuesOf, IsEventOf}
-use Rattle.rg_event.proofs.ColumnValues.{one_value_more}
-use Rattle.rg_event.proofs.Words.{text_of_word}
+use Rattle.rg_event.proofs.Laws.{one_value_more, text_of_word}
 use Rattle.rg_event.specs.declared.event.Event.{Event}
 use Rattle.rg_event.specs.declared.schema.Field.{Field}
 use Rattle.rg_event.specs.declared.value.Kind.{Kind}

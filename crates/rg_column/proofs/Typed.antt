@@ -11,11 +11,10 @@ use Rattle.std.specs.Int.RustNames.{FitsSigned, unsigned_abs}
 use Rattle.std.specs.List.{All}
 use Rattle.std.specs.Str.{is_utf8}
 use Rattle.rg_bytes.specs.Reading.{tested, more_at, list_bytes}
-use Rattle.rg_bytes.proofs.Lists.{StepsBack, more_back}
-use Rattle.rg_bytes.proofs.Reading.{bytes_read, bytes_short, u8_read, u8_short}
+use Rattle.rg_bytes.proofs.Laws.{StepsBack, more_back, bytes_read, bytes_short, u8_read, u8_short}
 use Rattle.rg_event.specs.Codec.{IsValueOf}
 use Rattle.rg_event.specs.Words.{is_word}
-use Rattle.rg_event.proofs.Words.{text_of_word}
+use Rattle.rg_event.proofs.Laws.{text_of_word}
 use Rattle.rg_event.specs.declared.value.Kind.{Kind}
 use Rattle.rg_event.specs.declared.value.Kind.TheVariants.{Int, Id, Text, Flag}
 use Rattle.rg_event.specs.declared.value.Value.{Value}

@@ -4,7 +4,7 @@ use Rattle.std.proofs.lemmas.Grind.{common_steps}
 use Rattle.std.proofs.lemmas.Bool.Decides.{nat_tests}
 use Rattle.std.proofs.lemmas.Nat.{from_be_bytes-to_be_bytes_2, from_be_bytes-to_be_bytes_4, from_be_bytes-to_be_bytes_8}
 use Rattle.std.specs.Int.{byte_len, to_be_bytes, from_be_bytes}
-use Rattle.rg_bytes.proofs.Reading.{bytes_read, bytes_short, both_answers}
+use Rattle.rg_bytes.proofs.Laws.{bytes_read, bytes_short, both_answers}
 use Rattle.rg_column.specs.Widths.{bits, limit, least_width, width_byte, width_said, difference_bytes, difference_at}
 use Rattle.rg_column.specs.declared.fault.ColumnFault.TheVariants.{Short}
 use Rattle.rg_column.specs.declared.width.Width.{Width}

@@ -8,7 +8,7 @@ use Rattle.rg_event.specs.Rising.{next_offset}
 use Rattle.rg_host.specs.Image.{Image}
 use Rattle.rg_host.specs.Moments.{Moment, Moments}
 use Rattle.rg_host.specs.declared.host.Host.{Ghosts as HostMembers}
-use Rattle.rg_host.proofs.Runs.{moments-none}
+use Rattle.rg_host.proofs.Laws.{moments-none}
 use Rattle.rg_run_spec.specs.Stores.{StaysOnCourseSince}
 use Rattle.rg_open.specs.Stores.{store_of}
 use Rattle.rg_open.specs.Opening.{IsFromIn}

@@ -8,8 +8,7 @@ use Rattle.rg_host.specs.Lines.{ended}
 use Rattle.rg_host.specs.Moments.{LeavesFiles}
 use Rattle.rg_host.specs.Puts.{IsPrefix, IsPut, Puts, StopsWith}
 use Rattle.rg_host.specs.declared.host.Host.{Ghosts as HostMembers}
-use Rattle.rg_host.proofs.PutRuns.{puts-then}
-use Rattle.rg_host.proofs.Runs.{leaves_files-then}
+use Rattle.rg_host.proofs.Laws.{puts-then, leaves_files-then}
 use Rattle.rg_explain.specs.Stops.{StopsAt}
 use Rattle.rg_messages.specs.Statuses.{last_line}
 use Rattle.rg_messages.specs.declared.refusal.Refusal.{Refusal}

@@ -8,8 +8,7 @@ use Rattle.rg_reply.specs.Texts.{mark_line}
 use Rattle.rg_reply.specs.declared.mark.Mark.TheVariants.{Stored, Saved}
 use Rattle.rg_run_spec.specs.Acknowledged.{SayNothing}
 use Rattle.rg_run_spec.specs.Pieces.{AreLines}
-use Rattle.rg_run_spec.proofs.Marks.{contains_none, no_mark}
-use Rattle.rg_run_spec.proofs.Texts.{mark_no_lf}
+use Rattle.rg_run_spec.proofs.Laws.{contains_none, no_mark, mark_no_lf}
 use Rattle.rg_run.specs.Begun.{Begun}
 use Rattle.rg_messages.specs.Statuses.{last_line}
 use Rattle.rg_commands.specs.Call.{damage_line, gap_line}

@@ -1,4 +1,5 @@
 pub mod Inputs
+pub mod Laws
 pub mod Plans
 pub mod Ends
 pub mod Unread

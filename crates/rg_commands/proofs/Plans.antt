@@ -5,7 +5,7 @@ use Rattle.std.specs.Prelude.{IfSome}
 use Rattle.std.proofs.lemmas.Bool.{lt-ltb, le-ltb}
 use Rattle.rg_config.specs.Plans.{Planned, Says}
 use Rattle.rg_config.specs.declared.fault.ConfigFault.{ConfigFault}
-use Rattle.rg_config.proofs.One as config
+use Rattle.rg_config.proofs.Laws as config
 use Rattle.rg_messages.specs.declared.refusal.Refusal.{Refusal}
 use Rattle.rg_messages.specs.declared.status.Status.TheVariants.{Ok, Plan as BadPlan, Limit}
 use Rattle.rg_commands.specs.Plan.{IsPlan, IsRefusal}

@@ -18,7 +18,7 @@ use Rattle.rg_task.specs.Terms.{terms_of}
 use Rattle.rg_run.specs.Begun.{Begun, course_for, lines_in}
 use Rattle.rg_replay.specs.Replay.{replay_text}
 use Rattle.rg_replay.specs.Runs.{text_of_left}
-use Rattle.rg_replay.proofs.Wholes.{same_text_from}
+use Rattle.rg_replay.proofs.Laws.{same_text_from}
 use Rattle.rg_replay.specs.Playing.{IsReplayable, IsExpected, StopsIn}
 use Rattle.rg_replay.specs.declared.fault.ReplayFault.{ReplayFault}
 use Rattle.rg_replay.specs.declared.fault.ReplayFault.TheVariants as replay

@@ -9,13 +9,13 @@ use Rattle.rg_host.specs.Image.{Image}
 use Rattle.rg_host.specs.Moments.{Moment}
 use Rattle.rg_host.specs.declared.host.Host.{Ghosts as HostMembers}
 use Rattle.rg_config.specs.Plans.{Planned}
-use Rattle.rg_host.proofs.Runs.{moments-none, moments_then}
+use Rattle.rg_host.proofs.Laws.{moments-none, moments_then}
 use Rattle.rg_run_spec.specs.Stores.{HasAtLeast}
 use Rattle.rg_recover.specs.Answered.{HoldsLog}
 use Rattle.rg_open.specs.Stores.{Has, store_of}
 use Rattle.rg_open.specs.Unfit.{IsUnfit, IsLeftAlone}
 use Rattle.rg_open.specs.Within.{IsWithinOpening}
-use Rattle.rg_recover.proofs.TurnedAway.{none_alone, none_within}
+use Rattle.rg_recover.proofs.Laws.{none_alone, none_within}
 use Rattle.rg_run.specs.Reading.{IsLonger}
 use Rattle.rg_messages.specs.declared.refusal.Refusal.{Refusal}
 use Rattle.rg_messages.specs.declared.status.Status.{Status}

@@ -11,7 +11,7 @@ use Rattle.rg_host.specs.Lines.{ended}
 use Rattle.rg_host.specs.Moments.{Moment}
 use Rattle.rg_host.specs.Puts.{IsPrefix, Puts, StopsWith}
 use Rattle.rg_host.specs.declared.host.Host.{Ghosts as HostMembers}
-use Rattle.rg_host.proofs.PutRuns.{puts-then}
+use Rattle.rg_host.proofs.Laws.{puts-then}
 use Rattle.rg_dump.specs.Dump.{damage_of}
 use Rattle.rg_dump.specs.declared.fault.DumpFault.{DumpFault}
 use Rattle.rg_dump.specs.declared.fault.DumpFault.TheVariants as dump
@@ -19,7 +19,7 @@ use Rattle.rg_info.specs.Info.{IsInfo}
 use Rattle.rg_info.specs.declared.fault.InfoFault.{InfoFault}
 use Rattle.rg_info.specs.declared.fault.InfoFault.TheVariants as info
 use Rattle.rg_explain.specs.Stops.{StopsAt}
-use Rattle.rg_explain.proofs.Stopped.{nothing_stops}
+use Rattle.rg_explain.proofs.Laws.{nothing_stops}
 use Rattle.rg_messages.specs.Statuses.{last_line}
 use Rattle.rg_messages.specs.declared.refusal.Refusal.{Refusal}
 use Rattle.rg_messages.specs.declared.status.Status.{Status}

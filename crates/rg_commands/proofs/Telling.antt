@@ -15,7 +15,7 @@ use Rattle.rg_host.specs.Lines.{ended}
 use Rattle.rg_host.specs.Moments.{Moment, Moments, LeavesFiles}
 use Rattle.rg_host.specs.Puts.{IsPrefix, IsPartWay, Puts}
 use Rattle.rg_host.specs.declared.host.Host.{Ghosts as HostMembers}
-use Rattle.rg_host.proofs.Runs.{moments-weaker, moments-both, moments_then}
+use Rattle.rg_host.proofs.Laws.{moments-weaker, moments-both, moments_then}
 use Rattle.rg_config.specs.Plans.{Planned}
 use Rattle.rg_run_spec.specs.Accepted.{events_after}
 use Rattle.rg_run_spec.specs.Acknowledged.{SavesLast}
@@ -24,12 +24,7 @@ use Rattle.rg_run_spec.specs.Output.{Terms, open_line, out, put_before, unstoppe
 use Rattle.rg_run_spec.specs.Pieces.{whole_pieces}
 use Rattle.rg_run_spec.specs.Stores.{Course, Promised, IsKeptInStore, IsOnCourse, StaysOnCourseSince}
 use Rattle.rg_run_spec.specs.Turns.{IsStopped}
-use Rattle.rg_run_spec.proofs.Acknowledging.{line_among}
-use Rattle.rg_run_spec.proofs.Courses.{on_course_last, on_course_since_wider, promised, last_saved}
-use Rattle.rg_run_spec.proofs.Hosts.{part_way_more}
-use Rattle.rg_run_spec.proofs.Runs.{told_since}
-use Rattle.rg_run_spec.proofs.Texts.{pieces_prefix}
-use Rattle.rg_run_spec.proofs.Whole.{may_leave, out_again}
+use Rattle.rg_run_spec.proofs.Laws.{line_among, on_course_last, on_course_since_wider, promised, last_saved, part_way_more, told_since, pieces_prefix, may_leave, out_again}
 use Rattle.rg_open.specs.Stores.{store_of}
 use Rattle.rg_open.specs.Truth.{IsTruthfulImage}
 use Rattle.rg_open.specs.Opening.{IsFromIn}

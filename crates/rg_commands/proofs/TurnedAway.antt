@@ -9,7 +9,7 @@ use Rattle.rg_host.specs.Image.{Image}
 use Rattle.rg_host.specs.Moments.{Moment, Moments}
 use Rattle.rg_host.specs.Puts.{IsPartWay, Puts}
 use Rattle.rg_host.specs.declared.host.Host.{Ghosts as HostMembers}
-use Rattle.rg_host.proofs.Runs.{moments-weaker, moments_then}
+use Rattle.rg_host.proofs.Laws.{moments-weaker, moments_then}
 use Rattle.rg_log.specs.Filled.{HasEventsFor}
 use Rattle.rg_checkpoint.specs.Slots.{HasSlot}
 use Rattle.rg_config.specs.Plans.{Planned}

@@ -11,9 +11,8 @@ use Rattle.rg_config.specs.declared.fault.ConfigFault.TheVariants as config
 use Rattle.rg_host.specs.Moments.{Moment, LeavesFiles}
 use Rattle.rg_host.specs.Puts.{Puts}
 use Rattle.rg_host.specs.declared.host.Host.{Ghosts as HostMembers}
-use Rattle.rg_host.proofs.PutRuns.{puts-nothing}
-use Rattle.rg_host.proofs.Runs.{leaves_files-none}
-use Rattle.rg_explain.proofs.Stopped.{nothing_whole}
+use Rattle.rg_host.proofs.Laws.{puts-nothing, leaves_files-none}
+use Rattle.rg_explain.proofs.Laws.{nothing_whole}
 use Rattle.rg_run.specs.Reading.{IsLonger}
 use Rattle.rg_messages.specs.Statuses.{last_line}
 use Rattle.rg_messages.specs.declared.refusal.Refusal.{Refusal}

@@ -15,9 +15,9 @@ use Rattle.rg_event.specs.Parsing.{value_of}
 use Rattle.rg_event.specs.declared.schema.Field.{Field}
 use Rattle.rg_event.specs.declared.value.Kind.{Kind}
 use Rattle.rg_event.specs.declared.value.Value.{Value}
-use Rattle.rg_event.proofs.Parsed.{value_fits}
+use Rattle.rg_event.proofs.Laws.{value_fits}
 use Rattle.rg_growth.specs.Growing.{IsDefaultOf, AreDefaultsOf, no_defaults}
-use Rattle.rg_growth.proofs.Filled.{none_are}
+use Rattle.rg_growth.proofs.Laws.{none_are}
 use Rattle.rg_config.specs.Documents.{all_keys, and_then, names, default_of, defaults_from, defaults_in, defaults_or}
 use Rattle.rg_config.specs.Reading.{ReadsDefaults}
 use Rattle.rg_config.specs.declared.fault.ConfigFault.{ConfigFault}

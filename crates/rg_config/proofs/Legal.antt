@@ -9,7 +9,7 @@ use Rattle.rg_metric.specs.declared.query.Query.{Query as Read}
 use Rattle.rg_plan.specs.Named.{HasAgg, asked_by}
 use Rattle.rg_plan.specs.Offsets.{IsMeasured}
 use Rattle.rg_plan.specs.Plans.{Tasks as TaskPlanned, is_too_many, excess_from, excess, plan_for}
-use Rattle.rg_plan.proofs.Naming.{asked_back}
+use Rattle.rg_plan.proofs.Laws.{asked_back}
 use Rattle.rg_query.specs.Legal.{IsLegalQuery, IsLegalLength, AreLegalAggs}
 use Rattle.rg_query.specs.declared.fault.QueryFault.{QueryFault}
 use Rattle.rg_config.specs.Plans.{AllTaken, judged, excess_in, unless}

@@ -1,4 +1,5 @@
 pub mod DefaultsRead
+pub mod Laws
 pub mod Legal
 pub mod One
 pub mod Taken

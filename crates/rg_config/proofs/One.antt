@@ -3,10 +3,10 @@ use Rattle.std.proofs.Common.{◌≡◌, ◌∙◌, ◌⊎◌, refl, sym, ap, su
 use Rattle.toml.specs.Data.{Members}
 use Rattle.rg_event.specs.Shapes.{Shape, IsSchema, schema_text}
 use Rattle.rg_event.specs.Reading.{shape_of}
-use Rattle.rg_event.proofs.Readable.{read_back}
+use Rattle.rg_event.proofs.Laws.{read_back}
 use Rattle.rg_event.specs.declared.value.Value.{Value}
 use Rattle.rg_metric.specs.Queries.{Asked}
-use Rattle.rg_query.proofs.One.{one_query}
+use Rattle.rg_query.proofs.Laws.{one_query}
 use Rattle.rg_config.specs.Documents.{document, stream_of, stream_defaults, rest_of, Settings}
 use Rattle.rg_config.specs.Plans.{Planned, HasStream, NoStream, IsJudged, IsTaken, IsRefusedQuery, AllTaken, FirstRefused, Says, Tells, Agrees, planned, judged}
 use Rattle.rg_config.specs.declared.plan.Plan.{Plan}

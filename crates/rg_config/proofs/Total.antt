@@ -5,9 +5,9 @@ use Rattle.toml.specs.Data.{Members}
 use Rattle.rg_event.specs.Shapes.{Shape}
 use Rattle.rg_event.specs.declared.value.Value.{Value}
 use Rattle.rg_event.specs.Reading.{shape_of}
-use Rattle.rg_event.proofs.Readable.{joined_of, legal_of, read_back}
+use Rattle.rg_event.proofs.Laws.{joined_of, legal_of, read_back}
 use Rattle.rg_metric.specs.Queries.{Asked}
-use Rattle.rg_query.proofs.Total.{says_something as query_says}
+use Rattle.rg_query.proofs.Laws.{says_something as query_says}
 use Rattle.rg_config.specs.Documents.{document, stream_of, stream_defaults, rest_of, Settings}
 use Rattle.rg_config.specs.Plans.{Planned, HasStream, NoStream, IsJudged, IsTaken, IsRefusedQuery, AllTaken, FirstRefused, Says, judged}
 use Rattle.rg_config.specs.declared.fault.ConfigFault.{ConfigFault}

@@ -6,7 +6,7 @@ use Rattle.rg_event.specs.Shapes.{Shape}
 use Rattle.rg_event.specs.declared.event.Event.{Event}
 use Rattle.rg_event.specs.declared.value.Value.{Value}
 use Rattle.rg_chunk.specs.Extended.{all_extended}
-use Rattle.rg_log.proofs.Extending.{extended-none, extended-twice, extended-append}
+use Rattle.rg_log.proofs.Laws.{extended-none, extended-twice, extended-append}
 use Rattle.rg_reservoir.specs.declared.walk.Stage.{Stage}
 use Rattle.rg_reservoir.specs.declared.walk.Stage.TheVariants as stage
 use Rattle.rg_dump.specs.Behind.{known_after, known_behind, stage_values, values_of, behind_after, stage_events, events_in}

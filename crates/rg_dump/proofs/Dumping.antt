@@ -6,7 +6,7 @@ use Rattle.rg_event.specs.declared.value.Value.{Value}
 use Rattle.rg_host.specs.Image.{Image}
 use Rattle.rg_host.specs.Lines.{ended}
 use Rattle.rg_host.specs.Puts.{IsPrefix, StopsWith}
-use Rattle.rg_host.proofs.Endings.{ended-append}
+use Rattle.rg_host.proofs.Laws.{ended-append}
 use Rattle.rg_frame.specs.Looks.{IsClosed}
 use Rattle.rg_log.specs.Entries.{nothing}
 use Rattle.rg_reservoir.specs.Walked.{place_of, schema_of as known_of, tally_of, IsNext, IsRefusedWalk}

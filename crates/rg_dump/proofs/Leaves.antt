@@ -4,7 +4,7 @@ use Rattle.std.specs.Option.{ForSome}
 use Rattle.std.specs.Prelude.{◌≡◌}
 use Rattle.rg_host.specs.Image.{Image}
 use Rattle.rg_host.specs.Moments.{Moment}
-use Rattle.rg_host.proofs.Runs.{leaves_all-none, leaves_all-then, leaves_files-none, leaves_files-then}
+use Rattle.rg_host.proofs.Laws.{leaves_all-none, leaves_all-then, leaves_files-none, leaves_files-then}
 use Rattle.rg_dump.proofs.Quiet.{leaves_files}
 use Rattle.rg_dump.specs.Leaves.{LeavesRead, LeavesPut}
 

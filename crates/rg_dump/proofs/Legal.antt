@@ -7,22 +7,18 @@ use Rattle.rg_event.specs.declared.event.Event.{Event}
 use Rattle.rg_event.specs.declared.value.Value.{Value}
 use Rattle.rg_frame.specs.Frames.{frames, HasPayloads, payload_at}
 use Rattle.rg_frame.specs.Looks.{IsClosed}
-use Rattle.rg_frame.proofs.FrameLaws.{length-frames, length-frames-push}
-use Rattle.rg_frame.proofs.Payloads.{payload_between, payload_none}
+use Rattle.rg_frame.proofs.Laws.{length-frames, length-frames-push, payload_between, payload_none}
 use Rattle.rg_chunk.specs.Extended.{all_extended}
 use Rattle.rg_log.specs.Entries.{nothing, unread, behind, entry_after, entries_after}
 use Rattle.rg_log.specs.Log.{schema_payload, HasEvents, IsInForce, IsLegalLog}
 use Rattle.rg_log.specs.Stages.{Stage as Said, chunk, growth, shape_after, in_force, AreStages, values_of as said_values, logged, HasStages}
 use Rattle.rg_log.specs.declared.entry.LogSoFar.{LogSoFar}
 use Rattle.rg_log.specs.declared.summary.LogSummary.{LogSummary}
-use Rattle.rg_log.proofs.Entries.{first}
-use Rattle.rg_log.proofs.Folds.{two_steps, legal}
+use Rattle.rg_log.proofs.Laws.{first, two_steps, legal}
 use Rattle.rg_reservoir.specs.Walked.{stage_after}
 use Rattle.rg_reservoir.specs.declared.walk.Stage.{Stage}
 use Rattle.rg_reservoir.specs.declared.walk.Stage.TheVariants as stage
-use Rattle.rg_reservoir.proofs.Committing.{log_at}
-use Rattle.rg_reservoir.proofs.Walking.{schema_step, walked, stage_step, step_known}
-use Rattle.rg_reservoir.proofs.Listing.{log_of}
+use Rattle.rg_reservoir.proofs.Laws.{log_at, schema_step, walked, stage_step, step_known, log_of}
 use Rattle.rg_dump.specs.Behind.{known_behind, values_of, events_in}
 use Rattle.rg_dump.specs.Rows.{row_line}
 use Rattle.rg_dump.specs.Stages.{Stages, before, with_frame, stages_from, stages_of}

@@ -5,7 +5,7 @@ use Rattle.rg_bytes.specs.Known.{after}
 use Rattle.rg_host.specs.Image.{Image}
 use Rattle.rg_host.specs.Moments.{Moment, LeavesFiles, LeavesAll}
 use Rattle.rg_host.specs.Puts.{Puts}
-use Rattle.rg_host.proofs.Runs.{moments-weaker}
+use Rattle.rg_host.proofs.Laws.{moments-weaker}
 
 nothing_after : (said : Option (List ℕ)) → said ≡ after said []
 nothing_after (Some told) = ap (λ v. Some v) (sym (append-nil told))

@@ -13,7 +13,7 @@ use Rattle.rg_event.specs.declared.value.Kind.{Kind}
 use Rattle.rg_event.specs.declared.value.Kind.TheVariants.{Int, Id, Text, Flag}
 use Rattle.rg_event.specs.declared.value.Value.{Value}
 use Rattle.rg_event.specs.declared.value.Value.TheVariants.{Int as IntValue, Id as IdValue, Text as TextValue, Flag as FlagValue}
-use Rattle.rg_event.proofs.Words.{short_text}
+use Rattle.rg_event.proofs.Laws.{short_text}
 use Rattle.std.specs.Prelude.{ℤ, pos, negsuc, unsigned_abs}
 use Rattle.std.specs.Int.{w64}
 use Rattle.std.specs.Int.RustNames.{FitsSigned}
@@ -24,16 +24,16 @@ use Rattle.rg_metric.specs.Conditions.{value_in, passes}
 use Rattle.rg_metric.specs.Queries.{Asked}
 use Rattle.rg_metric.specs.Replies.{and_value, key_of, counts_for, in_window, values_in, agg_answer, answers_to}
 use Rattle.rg_metric.specs.Same.{same_values}
-use Rattle.rg_metric.proofs.Same.{same_values_decides}
+use Rattle.rg_metric.proofs.Laws.{same_values_decides}
 use Rattle.rg_group.specs.Keys.{key_bytes, AreStorable, IsStorablePart}
-use Rattle.rg_group.proofs.KeyValues.{exact}
+use Rattle.rg_group.proofs.Laws.{exact}
 use Rattle.rg_plan.specs.declared.node.GroupNode.{GroupNode}
 use Rattle.rg_plan.specs.declared.node.AggNode.{AggNode}
 use Rattle.rg_plan.specs.Named.{Node, node_at, node_of, nodes_of, under_agg, under_group, under_filter}
 use Rattle.rg_plan.specs.Nodes.{Filtered}
 use Rattle.rg_plan.specs.Plans.{Tasks, plan_for, paths_of}
 use Rattle.rg_plan.specs.Whole.{IsWhole}
-use Rattle.rg_plan.proofs.Naming.{all_named}
+use Rattle.rg_plan.proofs.Laws.{all_named}
 use Rattle.rg_agg.specs.Held.{Held}
 use Rattle.rg_state.specs.Rows.{RowStands}
 use Rattle.rg_engine.specs.Windows.{counts_at, node_values}

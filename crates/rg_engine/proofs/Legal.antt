@@ -19,7 +19,7 @@ use Rattle.rg_metric.specs.declared.query.Agg.{Agg}
 use Rattle.rg_plan.specs.declared.node.AggNode.{AggNode}
 use Rattle.rg_plan.specs.Nodes.{same_window, same_agg}
 use Rattle.rg_plan.specs.Plans.{plan_for, windows_of, filters_of, groups_of, aggs_of, aggs_in, agg_under, group_number}
-use Rattle.rg_plan.proofs.Members.{All-distinct}
+use Rattle.rg_plan.proofs.Laws.{All-distinct}
 use Rattle.rg_query.specs.Legal.{IsOperand, IsLegalAgg, AreLegalAggs, IsLegalLength, IsLegalQuery}
 use Rattle.rg_query.specs.Printing.{name_at}
 use Rattle.rg_query.specs.Resolving.{column_from}

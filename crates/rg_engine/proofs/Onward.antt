@@ -10,8 +10,7 @@ use Rattle.rg_event.specs.Rising.{last_time}
 use Rattle.rg_plan.specs.Named.{Node}
 use Rattle.rg_window.specs.Passing.{passing, passed, at_edge, edge_by_edge}
 use Rattle.rg_window.specs.Chain.{visited_at, passed_at}
-use Rattle.rg_window.proofs.Chains.{at_edge-append}
-use Rattle.rg_window.proofs.Passes.{edge_by_edge-join}
+use Rattle.rg_window.proofs.Laws.{at_edge-append, edge_by_edge-join}
 use Rattle.rg_engine.specs.Windows.{passes_at, node_values}
 use Rattle.rg_engine.specs.Standing.{has_edge}
 use Rattle.rg_engine.specs.Deeds.{Deed, node_deed, edge_deed, Leads}

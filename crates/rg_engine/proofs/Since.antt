@@ -3,7 +3,7 @@ use Rattle.std.proofs.Common.{◌≡◌, ◌↔◌, ℕ, List}
 use Rattle.std.specs.Prelude.{Result, Ok, Err, OnOk, OnErr}
 use Rattle.rg_state.specs.Changes.{Marks, SameMarks, OtherMarks, IsNamed, was_there, IsSince}
 use Rattle.rg_state.specs.Rows.{Cells, Same, Others}
-use Rattle.rg_state.proofs.Since.{since_named, since_same}
+use Rattle.rg_state.proofs.Laws.{since_named, since_same}
 use Rattle.rg_engine.specs.Since.{KeepsSince}
 
 pub keeps_same : {T : Type 0} (Tells : T → Type 0) (named there : T → Marks) (cells : T → Cells) (table : T) → KeepsSince Tells named there cells table table

@@ -7,7 +7,7 @@ use Rattle.std.specs.Int.RustNames.{FitsSigned, unsigned_abs}
 use Rattle.std.specs.Result.{IsErrAnd}
 use Rattle.std.specs.Str.{is_utf8}
 use Rattle.rg_bytes.specs.Reading.{tested}
-use Rattle.rg_bytes.proofs.Reading.{bytes_read as bytes_read_or, bytes_short as bytes_short_or, u64_read, u64_short, agrees_stopped}
+use Rattle.rg_bytes.proofs.Laws.{bytes_read as bytes_read_or, bytes_short as bytes_short_or, u64_read, u64_short, agrees_stopped}
 use Rattle.rg_event.specs.Codec.{Agrees, Reading, bytes_at, number_at, number_up_to_at, int_at, id_at, text_at, flag_at, values_at, event_at}
 use Rattle.rg_event.specs.declared.codec.EventFault.{EventFault}
 use Rattle.rg_event.specs.declared.codec.EventFault.TheVariants.{Short, BadValue, Memory}

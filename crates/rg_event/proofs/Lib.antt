@@ -1,5 +1,6 @@
 pub mod Columns
 pub mod Fronts
+pub mod Laws
 pub mod Names
 pub mod Readable
 pub mod Utf8

@@ -4,7 +4,7 @@ use Rattle.std.proofs.lemmas.Int.{to_z-of_z}
 use Rattle.std.proofs.lemmas.List.{take_at, drop_at}
 use Rattle.std.specs.Int.{w64, to_be_bytes, cast_signed, cast_unsigned}
 use Rattle.std.specs.Int.RustNames.{FitsSigned}
-use Rattle.rg_bytes.proofs.Reading.{both_answers}
+use Rattle.rg_bytes.proofs.Laws.{both_answers}
 use Rattle.rg_event.specs.Codec.{Agrees, value_bytes, number_at, value_at}
 use Rattle.rg_event.specs.Tagged.{value_kind, IsLegal, IsStorable, tag_of, kind_of, tagged_bytes, tagged_at}
 use Rattle.rg_event.specs.declared.codec.EventFault.{EventFault}

@@ -5,14 +5,14 @@ use Rattle.rg_event.specs.Shapes.{Shape}
 use Rattle.rg_host.specs.Lines.{ended}
 use Rattle.rg_plan.specs.Offsets.{IsMeasured}
 use Rattle.rg_plan.specs.Plans.{Tasks as TaskPlanned}
-use Rattle.rg_plan.proofs.Sizes.{windows_measured}
+use Rattle.rg_plan.proofs.Laws.{windows_measured}
 use Rattle.rg_query.specs.Printing.{query_text}
 use Rattle.rg_config.specs.Plans.{planned}
 use Rattle.rg_config.specs.declared.plan.Plan.{Plan}
-use Rattle.rg_config.proofs.Legal.{measured}
+use Rattle.rg_config.proofs.Laws.{measured}
 use Rattle.rg_explain.specs.Listing.{numbered, query_line, offset_line, window_line, filter_line, group_line, agg_line, task_text, check_text}
 use Rattle.rg_config.specs.Read.{IsReadPlan}
-use Rattle.rg_host.proofs.Endings.{ended-append}
+use Rattle.rg_host.proofs.Laws.{ended-append}
 
 -- the line of one member, and those of the others
 next_line : {A : Type 0} (line : ℕ → A → List ℕ) (n i : ℕ) (xs : List A) (x : A) → i < length xs → get_or xs i x ≡ x → ended (numbered line n (drop i xs)) ≡ (line n x ++ 10 ∷ []) ++ ended (numbered line (suc n) (drop (suc i) xs))

@@ -9,7 +9,7 @@ use Rattle.rg_event.specs.declared.value.Kind.{Kind}
 use Rattle.rg_event.specs.declared.value.Value.{Value}
 use Rattle.rg_multiset.specs.Pairs.{AreAlike, AreOf, IsTally}
 use Rattle.rg_multiset.specs.Reading.{last_kept}
-use Rattle.rg_multiset.proofs.Kept.{alike_of, alike_with, pairs_append, sum_append}
+use Rattle.rg_multiset.proofs.Laws.{alike_of, alike_with, pairs_append, sum_append}
 use Rattle.rg_extreme.specs.Deques.{IsDeque, begun, is_beaten, pushed, with_value}
 use Rattle.rg_extreme.specs.Sides.{beats, weakest}
 use Rattle.rg_extreme.specs.States.{as_pairs}

@@ -9,15 +9,15 @@ use Rattle.rg_agg.specs.Held.{is_like}
 use Rattle.rg_agg.specs.Standing.{counts_sum}
 use Rattle.rg_agg.specs.Stands.{IsNumber}
 use Rattle.rg_agg.specs.Unbeaten.{IsExtreme, joined_to, unbeaten}
-use Rattle.rg_agg.proofs.Firsts.{or_second}
+use Rattle.rg_agg.proofs.Laws.{or_second}
 use Rattle.rg_event.specs.Tagged.{value_kind}
 use Rattle.rg_event.specs.declared.value.Kind.{Kind}
 use Rattle.rg_event.specs.declared.value.Value.{Value}
 use Rattle.rg_event.specs.declared.value.Value.TheVariants.{Int, Id, Text, Flag}
 use Rattle.rg_metric.specs.Same.{same_value}
-use Rattle.rg_metric.proofs.Same.{same_value-true, same_value-same}
+use Rattle.rg_metric.proofs.Laws.{same_value-true, same_value-same}
 use Rattle.rg_multiset.specs.Pairs.{AreOf, AreRising}
-use Rattle.rg_multiset.proofs.Listed.{listed, listed_length}
+use Rattle.rg_multiset.proofs.Laws.{listed, listed_length}
 use Rattle.rg_extreme.specs.Deques.{IsDeque, first_value, without_first}
 use Rattle.rg_extreme.specs.Sides.{beats, weakest, some_can_beat}
 use Rattle.rg_extreme.specs.declared.side.Side.{Side}

@@ -12,13 +12,12 @@ use Rattle.rg_agg.specs.declared.fault.StateFault.{StateFault}
 use Rattle.rg_agg.specs.declared.fault.StateFault.TheVariants.{Memory}
 use Rattle.rg_agg.specs.declared.number.Number.{Number}
 use Rattle.rg_agg.specs.declared.number.Number.TheVariants.{Int, Id}
-use Rattle.rg_agg.proofs.Fields.{number_value_reads_back, size_behind_read}
+use Rattle.rg_agg.proofs.Laws.{number_value_reads_back, size_behind_read}
 use Rattle.rg_event.specs.Tagged.{value_kind}
 use Rattle.rg_event.specs.declared.value.Value.{Value}
 use Rattle.rg_multiset.specs.Pairs.{IsTally}
 use Rattle.rg_multiset.specs.Reading.{comes_behind, is_count, last_kept, length_at, more_pairs_at, same_kind}
-use Rattle.rg_multiset.proofs.Kept.{alike_pushed, sum_append}
-use Rattle.rg_multiset.proofs.ReadPairs.{length_most, length_read, more_back}
+use Rattle.rg_multiset.proofs.Laws.{alike_pushed, sum_append, length_most, length_read, more_back}
 use Rattle.rg_extreme.specs.Deques.{IsDeque}
 use Rattle.rg_extreme.specs.Extremes.{extreme_at, highest_at, lowest_at}
 use Rattle.rg_extreme.specs.Sides.{beats}

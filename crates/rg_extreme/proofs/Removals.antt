@@ -15,7 +15,7 @@ use Rattle.rg_metric.specs.Same.{same_value}
 use Rattle.rg_metric.specs.declared.answer.Answer.TheVariants.{Number}
 use Rattle.rg_keywords.specs.declared.func.Func.TheVariants.{Min, Max}
 use Rattle.rg_multiset.specs.Pairs.{AreAlike}
-use Rattle.rg_multiset.proofs.Kept.{alike_of}
+use Rattle.rg_multiset.proofs.Laws.{alike_of}
 use Rattle.rg_extreme.specs.Deques.{IsDeque, first_value, with_value, without_first}
 use Rattle.rg_extreme.specs.Sides.{beats, some_can_beat}
 use Rattle.rg_extreme.specs.declared.side.Side.{Side}

@@ -7,11 +7,10 @@ use Rattle.rg_event.specs.Tagged.{value_kind}
 use Rattle.rg_event.specs.declared.value.Kind.{Kind}
 use Rattle.rg_event.specs.declared.value.Value.{Value}
 use Rattle.rg_metric.specs.Same.{same_value}
-use Rattle.rg_metric.proofs.Same.{same_value-true, same_value-same}
+use Rattle.rg_metric.proofs.Laws.{same_value-true, same_value-same}
 use Rattle.rg_multiset.specs.Pairs.{AreOf, AreRising}
 use Rattle.rg_multiset.specs.Reading.{last_kept, comes_behind, same_kind}
-use Rattle.rg_multiset.proofs.Places.{other_way}
-use Rattle.rg_multiset.proofs.Kept.{sum_append}
+use Rattle.rg_multiset.proofs.Laws.{other_way, sum_append}
 use Rattle.rg_extreme.specs.Deques.{with_value, without_first, is_beaten, is_same, raised, pushed, begun}
 use Rattle.rg_extreme.proofs.Ranks.{AreRanked}
 

@@ -15,9 +15,9 @@ use Rattle.rg_event.specs.declared.value.Kind.TheVariants.{Int as IntKind}
 use Rattle.rg_event.specs.declared.value.Value.{Value}
 use Rattle.rg_event.specs.declared.value.Value.TheVariants.{Int, Id, Text, Flag}
 use Rattle.rg_metric.specs.Same.{same_value}
-use Rattle.rg_metric.proofs.Same.{same_value-true, same_value-same}
+use Rattle.rg_metric.proofs.Laws.{same_value-true, same_value-same}
 use Rattle.rg_multiset.specs.Pairs.{AreOf}
-use Rattle.rg_multiset.proofs.Places.{other_way}
+use Rattle.rg_multiset.proofs.Laws.{other_way}
 use Rattle.rg_extreme.specs.Deques.{with_value, without_first}
 use Rattle.rg_extreme.proofs.Ranks.{AreRanked}
 

@@ -106,7 +106,7 @@ impl Aggregate for Min {
         self.deque.answer()
     }
 
-    #[tactic(auto, using(rg_agg::proofs::Admitted::number_admitted))]
+    #[tactic(auto, using(rg_agg::proofs::Laws::number_admitted))]
     fn add(&mut self, value: &Value) -> Result<(), Memory> {
         add_uncounted::<Brand>(self, value, Blank::new(1))
     }

@@ -4,7 +4,7 @@ use Rattle.std.specs.Option.{ForSome}
 use Rattle.std.specs.Prelude.{⊤}
 use Rattle.rg_host.specs.Image.{Image, Becomes, InFile, Torn, IsAfter, Follows, NothingPending}
 use Rattle.rg_host.specs.Moments.{Moment, Moments, LeavesAll}
-use Rattle.rg_host.proofs.Runs.{moments_then, moments-weaker, leaves_all-none, leaves_all-then}
+use Rattle.rg_host.proofs.Laws.{moments_then, moments-weaker, leaves_all-none, leaves_all-then}
 use Rattle.rg_frame.specs.Calls.{Writes, ReadsOnly}
 use Rattle.rg_frame.specs.Frames.{HasPayloads, EndsAt}
 use Rattle.rg_frame.specs.Steps.{Leaves, From}

@@ -1,4 +1,5 @@
 pub mod Complete
+pub mod Laws
 pub mod Stages
 pub mod Operands
 pub mod Grows

@@ -1,5 +1,6 @@
 pub mod Filled
 pub mod Grown
+pub mod Laws
 pub mod Lengths
 pub mod Read
 pub mod Whole

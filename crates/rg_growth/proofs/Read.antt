@@ -4,7 +4,7 @@ use Rattle.std.proofs.lemmas.List.{drop_all}
 use Rattle.std.specs.Int.{w32, to_be_bytes}
 use Rattle.std.specs.Result.{IsErrAnd}
 use Rattle.rg_bytes.specs.Reading.{and_then, tested, list_bytes, Agrees as AgreesWith}
-use Rattle.rg_bytes.proofs.Reading.{u8_read, u8_short, u32_read, u32_short, bytes_read, bytes_short, agrees_stopped}
+use Rattle.rg_bytes.proofs.Laws.{u8_read, u8_short, u32_read, u32_short, bytes_read, bytes_short, agrees_stopped}
 use Rattle.rg_event.specs.Codec.{AreValuesOf, IsValueOf}
 use Rattle.rg_event.specs.Tagged.{tagged_at, tagged_bytes, value_kind}
 use Rattle.rg_event.specs.declared.codec.EventFault.{EventFault}
@@ -12,7 +12,7 @@ use Rattle.rg_event.specs.declared.codec.EventFault.TheVariants.{Memory}
 use Rattle.rg_event.specs.declared.schema.Field.{Field}
 use Rattle.rg_event.specs.declared.value.Kind.{Kind}
 use Rattle.rg_event.specs.declared.value.Value.{Value}
-use Rattle.rg_event.proofs.TaggedValues.{tagged_reads_back}
+use Rattle.rg_event.proofs.Laws.{tagged_reads_back}
 use Rattle.rg_growth.specs.Growing.{is_kind}
 use Rattle.rg_growth.specs.Payloads.{Reading, growth_fault, text_at, text_bytes, value_at, values_at}
 use Rattle.rg_growth.specs.declared.fault.GrowthFault.{GrowthFault}

@@ -9,7 +9,7 @@ use Rattle.rg_event.specs.declared.schema.SchemaFault.{SchemaFault}
 use Rattle.rg_event.specs.declared.schema.SchemaFault.TheVariants as schema_fault
 use Rattle.rg_event.specs.declared.schema.Field.{Field}
 use Rattle.rg_event.specs.declared.value.Value.{Value}
-use Rattle.rg_event.proofs.Readable.{joined_of, legal_of, read_back}
+use Rattle.rg_event.proofs.Laws.{joined_of, legal_of, read_back}
 use Rattle.rg_growth.specs.Growing.{grows, further}
 use Rattle.rg_growth.specs.Payloads.{Reading, Agrees, IsGrowth, IsGrowthOf, growth_at, growth_bytes, growth_of, grown_to, text_at, values_at}
 use Rattle.rg_growth.specs.declared.fault.GrowthFault.{GrowthFault}

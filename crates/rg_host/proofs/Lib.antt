@@ -4,6 +4,7 @@ pub mod FileLists
 pub mod Filling
 pub mod Finds
 pub mod Kept
+pub mod Laws
 pub mod LedgerMoments
 pub mod LineLaws
 pub mod Nexts

@@ -1,4 +1,4 @@
 pub mod Lasts
 pub mod Summing
-pub mod Laws
+pub mod InfoLaws
 pub mod Worked

@@ -8,7 +8,7 @@ use Rattle.rg_frame.specs.Looks.{IsClosed}
 use Rattle.rg_chunk.specs.Extended.{all_extended}
 use Rattle.rg_chunk.specs.Heads.{head_for, last_stamp}
 use Rattle.rg_chunk.specs.declared.head.ChunkHead.{ChunkHead}
-use Rattle.rg_chunk.proofs.Chunks.{chunk_head}
+use Rattle.rg_chunk.proofs.Laws.{chunk_head}
 use Rattle.rg_log.specs.Entries.{nothing, may_follow, added, told_by}
 use Rattle.rg_reservoir.specs.Walked.{place_of, so_far_of, schema_of as known_of, tally_of, IsNext, IsRefusedWalk}
 use Rattle.rg_log.specs.declared.summary.LogSummary.{LogSummary}
@@ -17,13 +17,11 @@ use Rattle.rg_reservoir.specs.declared.walk.Stage.TheVariants as stage
 use Rattle.rg_reservoir.specs.declared.walk.Walk.{Walk}
 use Rattle.rg_reservoir.specs.declared.fault.ReservoirFault.{ReservoirFault}
 use Rattle.rg_reservoir.specs.declared.fault.ReservoirFault.TheVariants as walk
-use Rattle.rg_log.proofs.ChunkHeads.{chunk_size}
-use Rattle.rg_log.proofs.Extending.{extended-none, length-extended, next-extended, time-extended}
-use Rattle.rg_reservoir.proofs.Walking.{took_none, took_chunk}
+use Rattle.rg_log.proofs.Laws.{chunk_size, extended-none, length-extended, next-extended, time-extended}
+use Rattle.rg_reservoir.proofs.Laws.{took_none, took_chunk}
 use Rattle.rg_dump.specs.Behind.{stage_values, stage_events, events_in}
 use Rattle.rg_dump.specs.Dump.{damage_of}
-use Rattle.rg_dump.proofs.Behind.{events_push}
-use Rattle.rg_dump.proofs.Walking.{IsAt, at_start, at_next, at_end, at_damage}
+use Rattle.rg_dump.proofs.Laws.{events_push, IsAt, at_start, at_next, at_end, at_damage}
 use Rattle.rg_info.specs.Faults.{of_walk}
 use Rattle.rg_info.specs.declared.fault.InfoFault.TheVariants as info
 use Rattle.rg_info.specs.Summary.{summary_with, summary_of, summary_in, with_stage}

@@ -4,7 +4,7 @@ use Rattle.std.proofs.lemmas.Bool.Decides.{nat_tests}
 use Rattle.std.proofs.lemmas.List.{take_all, length-take-le}
 use Rattle.std.specs.Int.{w32, w64, from_be_bytes}
 use Rattle.rg_bytes.specs.Reading.{tested, u8_at, u32_at, u64_at}
-use Rattle.rg_bytes.proofs.Reading.{bytes_read, u8_read}
+use Rattle.rg_bytes.proofs.Laws.{bytes_read, u8_read}
 use Rattle.rg_event.specs.Codec.{Reading}
 use Rattle.rg_event.specs.declared.codec.EventFault.TheVariants.{Short, BadValue}
 use Rattle.rg_event.specs.declared.event.Event.{Event}
@@ -13,8 +13,7 @@ use Rattle.rg_chunk.specs.Chunks.{chunk_of}
 use Rattle.rg_chunk.specs.Heads.{layout_said, is_count, headed_at, stamp_at, head_at, head_of, head_for, begun, first_stamp, last_stamp}
 use Rattle.rg_chunk.specs.declared.head.Layout.{Layout}
 use Rattle.rg_chunk.specs.declared.head.ChunkHead.{ChunkHead}
-use Rattle.rg_chunk.proofs.Chunks.{chunk_head}
-use Rattle.rg_chunk.proofs.Heads.{count_parts}
+use Rattle.rg_chunk.proofs.Laws.{chunk_head, count_parts}
 use Rattle.rg_log.proofs.Decoded.{both_read, passed}
 
 -- the first and the last of some events

@@ -16,7 +16,7 @@ use Rattle.rg_chunk.specs.Heads.{layout_said, is_count, headed_at, stamp_at, hea
 use Rattle.rg_chunk.specs.declared.head.Layout.{Layout}
 use Rattle.rg_chunk.specs.declared.head.Layout.TheVariants.{Rows, Columns}
 use Rattle.rg_chunk.specs.declared.head.ChunkHead.{ChunkHead}
-use Rattle.rg_chunk.proofs.Chunks.{whole_is}
+use Rattle.rg_chunk.proofs.Laws.{whole_is}
 use Rattle.rg_log.proofs.Decoded.{both_read, same_pair, passed, event_within, byte_left, count_left, stamp_left}
 use Rattle.rg_log.proofs.Columned.{columns_within}
 

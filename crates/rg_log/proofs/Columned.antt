@@ -23,9 +23,7 @@ use Rattle.rg_column.specs.declared.fault.ColumnFault.TheVariants.{Short, BadCol
 use Rattle.rg_column.specs.declared.series.Series.{Series}
 use Rattle.rg_column.specs.declared.series.Series.TheVariants.{Offset, Time, Int as Ints, Id as Ids}
 use Rattle.rg_column.specs.declared.width.Width.{Width}
-use Rattle.rg_column.proofs.Packing.{raised_are, length_map}
-use Rattle.rg_column.proofs.Typed.{ints_legal, ids_legal}
-use Rattle.rg_column.proofs.Transposed.{started_many, started_legal, widened_many, column_legal}
+use Rattle.rg_column.proofs.Laws.{raised_are, length_map, ints_legal, ids_legal, started_many, started_legal, widened_many, column_legal}
 use Rattle.rg_log.proofs.Decoded.{both_read, same_pair, passed, taken, number_small, number_left, byte_left}
 
 -- so many items of what each reading gives

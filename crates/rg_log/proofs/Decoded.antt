@@ -17,7 +17,7 @@ use Rattle.rg_event.specs.declared.value.Kind.TheVariants.{Int, Id, Text, Flag}
 use Rattle.rg_event.specs.declared.value.Value.{Value}
 use Rattle.rg_event.specs.declared.value.Value.TheVariants.{Int as IntValue, Id as IdValue, Text as TextValue, Flag as FlagValue}
 use Rattle.rg_frame.specs.Bytes.{IsByte}
-use Rattle.rg_frame.proofs.Listing.{eight_small}
+use Rattle.rg_frame.proofs.Laws.{eight_small}
 use Rattle.rg_chunk.specs.Heads.{stamp_at}
 
 -- two readings, one behind the other

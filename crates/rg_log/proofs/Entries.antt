@@ -5,7 +5,7 @@ use Rattle.rg_growth.specs.Payloads.{IsGrowth, growth_of}
 use Rattle.rg_growth.specs.declared.growth.Growth.{Growth as TheGrowth}
 use Rattle.rg_chunk.specs.Heads.{head_of, head_for}
 use Rattle.rg_chunk.specs.declared.head.ChunkHead.{ChunkHead}
-use Rattle.rg_chunk.proofs.Chunks.{chunk_head}
+use Rattle.rg_chunk.proofs.Laws.{chunk_head}
 use Rattle.rg_log.specs.Entries.{nothing, may_follow, added, told_by, unread, behind, count_of, shape_behind, head_or, further_entry, entry_of, with_entry, entry_after}
 use Rattle.rg_log.specs.Payloads.{schema_payload, schema_of}
 use Rattle.rg_log.specs.Stages.{Stage, chunk, growth, shape_after, IsStage}

@@ -8,13 +8,13 @@ use Rattle.rg_event.specs.Reading.{shape_of}
 use Rattle.rg_event.specs.Rising.{IsRising}
 use Rattle.rg_event.specs.Shapes.{Shape, IsSchema}
 use Rattle.rg_event.specs.declared.event.Event.{Event}
-use Rattle.rg_event.proofs.Readable.{joined_of, legal_of}
+use Rattle.rg_event.proofs.Laws.{joined_of, legal_of}
 use Rattle.rg_growth.specs.Payloads.{growth_of}
 use Rattle.rg_growth.specs.declared.growth.Growth.{Growth}
 use Rattle.rg_frame.specs.Bytes.{IsByte}
 use Rattle.rg_frame.specs.FrameList.{payloads_in}
 use Rattle.rg_frame.specs.Frames.{body, frames, HasPayloads}
-use Rattle.rg_frame.proofs.Listing.{has_listed}
+use Rattle.rg_frame.proofs.Laws.{has_listed}
 use Rattle.rg_chunk.specs.Chunks.{chunk_of}
 use Rattle.rg_log.specs.Log.{schema_payload, HasEvents, HasLegalLog, IsInForce}
 use Rattle.rg_log.specs.Reading.{schema_of, is_rising, legal_events, chunk_or, stage_of, stages_from, listed_stages, events_of}

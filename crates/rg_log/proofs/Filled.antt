@@ -9,7 +9,7 @@ use Rattle.rg_event.specs.declared.schema.Field.{Field}
 use Rattle.rg_event.specs.declared.value.Value.{Value}
 use Rattle.rg_growth.specs.Filling.{Given, IsFilled, filled, growth_to}
 use Rattle.rg_growth.specs.Payloads.{IsGrowth, growth_bytes}
-use Rattle.rg_growth.proofs.Filled.{not_itself}
+use Rattle.rg_growth.proofs.Laws.{not_itself}
 use Rattle.rg_frame.specs.FrameList.{payloads_in}
 use Rattle.rg_frame.specs.Frames.{HasPayloads}
 use Rattle.rg_frame.specs.Steps.{Grows, Grown}

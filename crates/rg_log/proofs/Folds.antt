@@ -10,7 +10,7 @@ use Rattle.rg_growth.specs.declared.growth.Growth.{Growth as TheGrowth}
 use Rattle.rg_chunk.specs.Extended.{all_extended}
 use Rattle.rg_chunk.specs.Heads.{head_of, head_for, first_stamp, last_stamp}
 use Rattle.rg_chunk.specs.declared.head.ChunkHead.{ChunkHead}
-use Rattle.rg_chunk.proofs.Chunks.{chunk_head}
+use Rattle.rg_chunk.proofs.Laws.{chunk_head}
 use Rattle.rg_log.specs.Entries.{nothing, told_by, summary_of, unread, behind, shape_behind, head_or, further_entry, entry_after, entries_after}
 use Rattle.rg_log.specs.Payloads.{schema_payload}
 use Rattle.rg_log.specs.Stages.{Stage, chunk, growth, shape_after, in_force, AreStages, values_of, logged, HasStages}

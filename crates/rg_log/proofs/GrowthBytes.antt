@@ -19,15 +19,14 @@ use Rattle.rg_event.specs.declared.value.Kind.{Kind}
 use Rattle.rg_event.specs.declared.value.Kind.TheVariants.{Int, Id, Text, Flag}
 use Rattle.rg_event.specs.declared.value.Value.{Value}
 use Rattle.rg_event.specs.declared.value.Value.TheVariants.{Int as IntValue, Id as IdValue, Text as TextValue, Flag as FlagValue}
-use Rattle.rg_event.proofs.Readable.{joined_of, legal_of}
+use Rattle.rg_event.proofs.Laws.{joined_of, legal_of}
 use Rattle.rg_growth.specs.Growing.{grows, further, is_kind, GrowsBy}
 use Rattle.rg_growth.specs.Payloads.{IsGrowth, in_growth, text_bytes, growth_at, growth_of, growth_to_at, grown_to, if_grows, values_at, text_at as tagged_text_at, value_at as kept_value_at}
 use Rattle.rg_growth.specs.declared.fault.GrowthFault.TheVariants.{BadGrowth}
 use Rattle.rg_growth.specs.declared.growth.Growth.{Growth}
-use Rattle.rg_growth.proofs.Grown.{grows_by, legal_value, value_of_kind}
-use Rattle.rg_growth.proofs.Read.{text_taken}
+use Rattle.rg_growth.proofs.Laws.{grows_by, legal_value, value_of_kind, text_taken}
 use Rattle.rg_frame.specs.Bytes.{IsByte}
-use Rattle.rg_chunk.proofs.Chunks.{whole_is}
+use Rattle.rg_chunk.proofs.Laws.{whole_is}
 use Rattle.rg_log.proofs.Decoded.{both_read, same_pair, passed, taken, number_small, byte_left, value_within}
 use Rattle.rg_log.proofs.Shapes.{same_some}
 

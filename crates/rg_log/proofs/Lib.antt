@@ -1,3 +1,4 @@
+pub mod Laws
 pub mod Shapes
 pub mod Decoded
 pub mod Columned

@@ -6,7 +6,7 @@ use Rattle.rg_event.specs.Shapes.{Shape, IsSchema}
 use Rattle.rg_event.specs.declared.event.Event.{Event}
 use Rattle.rg_past.specs.declared.past.Spot.{Spot}
 use Rattle.rg_frame.specs.Frames.{frames, HasPayloads}
-use Rattle.rg_frame.proofs.FrameLaws.{length-frames, length-frames-push}
+use Rattle.rg_frame.proofs.Laws.{length-frames, length-frames-push}
 use Rattle.rg_log.specs.Entries.{count_of, shape_behind}
 use Rattle.rg_log.specs.Log.{schema_payload, HasEvents}
 use Rattle.rg_log.specs.Spots.{SpotAt, SpotIn, is_in_chunk, is_at_end, named_at, named_from, named_behind, named_by_heads, NamedByHeads}

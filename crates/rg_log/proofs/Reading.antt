@@ -5,14 +5,14 @@ use Rattle.rg_event.specs.Rising.{IsRising, next_offset}
 use Rattle.rg_event.specs.Shapes.{Shape, IsSchema, schema_text}
 use Rattle.rg_event.specs.declared.event.Event.{Event}
 use Rattle.rg_event.specs.declared.schema.Field.{Field}
-use Rattle.rg_event.proofs.Readable.{read_back}
+use Rattle.rg_event.proofs.Laws.{read_back}
 use Rattle.rg_growth.specs.Payloads.{growth_of}
 use Rattle.rg_growth.specs.declared.growth.Growth.{Growth}
 use Rattle.rg_frame.specs.FrameList.{frame_list, payloads_in, defined}
 use Rattle.rg_frame.specs.Frames.{HasPayloads, IsDamaged}
 use Rattle.rg_chunk.specs.Chunks.{chunk_of}
 use Rattle.rg_chunk.specs.Heads.{head_of, head_for}
-use Rattle.rg_chunk.proofs.Chunks.{chunk_head}
+use Rattle.rg_chunk.proofs.Laws.{chunk_head}
 use Rattle.rg_log.specs.Log.{schema_payload, IsLegalLog, HasEvents}
 use Rattle.rg_log.specs.Reading.{schema_of, is_rising, legal_events, chunk_or, stage_of, stages_from, listed_stages, stages_in, events_of, next_of}
 use Rattle.rg_log.specs.Stages.{Stage, chunk, growth, shape_after, IsStage, AreStages, logged, HasStages}

@@ -2,7 +2,7 @@
 use Rattle.std.proofs.Common.{◌≡◌, ℕ, List, ◌∷◌, Option, Some, refl}
 use Rattle.rg_event.specs.Reading.{shape_of}
 use Rattle.rg_event.specs.Shapes.{Shape, IsSchema, schema_text}
-use Rattle.rg_event.proofs.Readable.{read_back}
+use Rattle.rg_event.proofs.Laws.{read_back}
 use Rattle.rg_log.specs.Payloads.{schema_payload}
 
 pub same_some : {A : Type 0} → (o : Option A) (a b : A) → o ≡ Some a → o ≡ Some b → a ≡ b

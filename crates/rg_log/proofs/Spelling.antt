@@ -9,7 +9,7 @@ use Rattle.rg_event.specs.declared.event.Event.{Event}
 use Rattle.rg_past.specs.declared.past.Spot.{Spot}
 use Rattle.rg_frame.specs.Frames.{frames, HasPayloads}
 use Rattle.rg_frame.specs.Steps.{Grows}
-use Rattle.rg_frame.proofs.FrameLaws.{length-frames}
+use Rattle.rg_frame.proofs.Laws.{length-frames}
 use Rattle.rg_chunk.specs.Extended.{all_extended}
 use Rattle.rg_log.specs.Payloads.{schema_payload, IsChunkOf}
 use Rattle.rg_log.specs.Spots.{IsInChunk, SpotAt, SpotIn, NamesEvent}

@@ -2,7 +2,7 @@
 use Rattle.std.proofs.Common.{◌≡◌, ◌∙◌, ℕ, List, [], ◌∷◌, ◌++◌, length, Option, Some, None, Ok, Err, refl, sym, ap, subst}
 use Rattle.std.specs.Int.{w32, to_be_bytes}
 use Rattle.rg_bytes.specs.Reading.{list_bytes, u8_at, u32_at}
-use Rattle.rg_bytes.proofs.Reading.{u8_read}
+use Rattle.rg_bytes.proofs.Laws.{u8_read}
 use Rattle.rg_event.specs.Codec.{Reading}
 use Rattle.rg_event.specs.Shapes.{Shape, schema_text}
 use Rattle.rg_event.specs.Tagged.{tagged_bytes}
@@ -10,12 +10,12 @@ use Rattle.rg_event.specs.declared.codec.EventFault.TheVariants.{Short}
 use Rattle.rg_event.specs.declared.event.Event.{Event}
 use Rattle.rg_growth.specs.Payloads.{IsGrowth, growth_of}
 use Rattle.rg_growth.specs.declared.growth.Growth.{Growth}
-use Rattle.rg_growth.proofs.Whole.{growth_back}
+use Rattle.rg_growth.proofs.Laws.{growth_back}
 use Rattle.rg_chunk.specs.Chunks.{chunk_of}
 use Rattle.rg_chunk.specs.Heads.{layout_said, headed_at, stamp_at, head_at, head_of, head_for}
 use Rattle.rg_chunk.specs.declared.head.Layout.{Layout}
 use Rattle.rg_chunk.specs.declared.head.ChunkHead.{ChunkHead}
-use Rattle.rg_chunk.proofs.Chunks.{chunk_head}
+use Rattle.rg_chunk.proofs.Laws.{chunk_head}
 use Rattle.rg_log.specs.Payloads.{IsChunkOf}
 use Rattle.rg_log.specs.Stages.{Stage, chunk, growth, shape_after, in_force, IsStage, AreStages, HasStages}
 use Rattle.rg_log.proofs.Decoded.{both_read, same_pair}

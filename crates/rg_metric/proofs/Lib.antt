@@ -1,3 +1,4 @@
 pub mod ColumnValues
+pub mod Laws
 pub mod Worked
 pub mod Same

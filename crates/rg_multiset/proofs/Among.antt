@@ -12,7 +12,7 @@ use Rattle.rg_event.specs.declared.value.Kind.{Kind}
 use Rattle.rg_event.specs.declared.value.Kind.TheVariants.{Int}
 use Rattle.rg_event.specs.declared.value.Value.{Value}
 use Rattle.rg_metric.specs.Same.{same_value}
-use Rattle.rg_metric.proofs.Same.{same_value-true, same_value-same}
+use Rattle.rg_metric.proofs.Laws.{same_value-true, same_value-same}
 use Rattle.rg_multiset.specs.Pairs.{pairs_by, once, AreOf, AreAlike, IsTally}
 use Rattle.rg_multiset.proofs.Counting.{some_same}
 use Rattle.rg_multiset.proofs.Kept.{some_kind, alike_with, alike_of}

@@ -8,7 +8,7 @@ use Rattle.std.specs.Map.{lookup, remove_entry, set_value}
 use Rattle.rg_agg.specs.Standing.{counts_sum, count_in}
 use Rattle.rg_event.specs.declared.value.Value.{Value}
 use Rattle.rg_metric.specs.Same.{same_value}
-use Rattle.rg_metric.proofs.Same.{same_value-true}
+use Rattle.rg_metric.proofs.Laws.{same_value-true}
 use Rattle.rg_event.specs.declared.value.Kind.{Kind}
 use Rattle.rg_multiset.specs.Pairs.{pairs_by, once, OneMore, AreOf}
 use Rattle.rg_multiset.proofs.Places.{other_way}

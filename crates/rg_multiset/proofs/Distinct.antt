@@ -11,7 +11,7 @@ use Rattle.rg_event.specs.declared.value.Kind.{Kind}
 use Rattle.rg_event.specs.declared.value.Value.{Value}
 use Rattle.rg_metric.specs.Answers.{distinct_after}
 use Rattle.rg_metric.specs.Same.{same_value}
-use Rattle.rg_metric.proofs.Same.{same_value-true, same_value-same}
+use Rattle.rg_metric.proofs.Laws.{same_value-true, same_value-same}
 use Rattle.rg_multiset.specs.Pairs.{pairs_by, once, AreOf}
 use Rattle.rg_multiset.proofs.Counting.{Tells}
 use Rattle.rg_multiset.proofs.Places.{places_first, first_place}

@@ -1,4 +1,5 @@
 mod Counting
+pub mod Laws
 pub mod Places
 pub mod Kept
 mod Order

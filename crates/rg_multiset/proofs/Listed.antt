@@ -12,7 +12,7 @@ use Rattle.rg_agg.specs.Standing.{AreCounts, count_in, counts_sum, places}
 use Rattle.rg_event.specs.Tagged.{tagged_bytes}
 use Rattle.rg_event.specs.declared.value.Value.{Value}
 use Rattle.rg_metric.specs.Same.{same_value}
-use Rattle.rg_metric.proofs.Same.{same_value-true}
+use Rattle.rg_metric.proofs.Laws.{same_value-true}
 use Rattle.rg_multiset.specs.Pairs.{AreRising, IsTally, OneMore, once}
 use Rattle.rg_multiset.specs.Reading.{is_before}
 use Rattle.rg_multiset.proofs.Places.{all_there, places_first}

@@ -5,10 +5,9 @@ use Rattle.std.proofs.lemmas.Grind.{common_steps}
 use Rattle.std.specs.Prelude.{Result, IfOk, OnOk, OnErr}
 use Rattle.std.specs.Int.{w64, to_be_bytes}
 use Rattle.rg_agg.specs.Held.{Begins, counts_bytes, pairs_bytes}
-use Rattle.rg_agg.proofs.Fields.{behind_short, behind_other, behind_read as tag_behind_read}
+use Rattle.rg_agg.proofs.Laws.{behind_short, behind_other, behind_read as tag_behind_read}
 use Rattle.rg_bytes.specs.Reading.{tested}
-use Rattle.rg_bytes.proofs.Reading.{u64_read, u64_short}
-use Rattle.rg_bytes.proofs.Lists.{step_to_come as one_to_come}
+use Rattle.rg_bytes.proofs.Laws.{u64_read, u64_short, step_to_come as one_to_come}
 use Rattle.rg_agg.specs.Standing.{counts_sum}
 use Rattle.rg_agg.specs.declared.fault.StateFault.{StateFault}
 use Rattle.rg_agg.specs.declared.fault.StateFault.TheVariants.{Short, Unfit, Memory}

@@ -4,7 +4,7 @@ use Rattle.std.proofs.Common.{ap}
 use Rattle.std.specs.Ordering.{is_eq, is_lt}
 use mathlib.Core.Bool.{beq}
 use Rattle.rg_agg.specs.Held.{as_part}
-use Rattle.rg_event.proofs.TaggedValues.{tagged_reads_back}
+use Rattle.rg_event.proofs.Laws.{tagged_reads_back}
 use Rattle.rg_event.specs.Order.{value_cmp}
 use Rattle.rg_event.specs.OrderLaws.{ties_of, by_bytes}
 use Rattle.rg_event.specs.Tagged.{value_kind, IsLegal, tagged_bytes}

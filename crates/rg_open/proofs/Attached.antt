@@ -5,9 +5,9 @@ use Rattle.rg_host.specs.Image.{Image, NothingPending}
 use Rattle.rg_event.specs.Shapes.{IsSchema}
 use Rattle.rg_event.specs.declared.event.Event.{Event}
 use Rattle.rg_frame.specs.Steps.{Leaves}
-use Rattle.rg_frame.proofs.FrameLists.{payloads_one}
+use Rattle.rg_frame.proofs.Laws.{payloads_one}
 use Rattle.rg_log.specs.Filled.{HasEventsFor}
-use Rattle.rg_log.proofs.Filled.{for_legal}
+use Rattle.rg_log.proofs.Laws.{for_legal}
 use Rattle.rg_config.specs.Plans.{Planned}
 use Rattle.rg_checkpoint.specs.Sizes.{ReachesSizes}
 use Rattle.rg_checkpoint.specs.Slots.{Attached, IsSlot, AreSizes, ReachesSlots}

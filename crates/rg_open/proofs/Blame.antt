@@ -9,10 +9,10 @@ use Rattle.rg_event.specs.declared.event.Event.{Event}
 use Rattle.rg_event.specs.declared.schema.Field.{Field}
 use Rattle.rg_event.specs.declared.value.Value.{Value}
 use Rattle.rg_growth.specs.Filling.{IsFilled, filled}
-use Rattle.rg_growth.proofs.Filled.{not_itself}
+use Rattle.rg_growth.proofs.Laws.{not_itself}
 use Rattle.rg_past.specs.declared.past.Spot.{Spot}
 use Rattle.rg_frame.specs.Frames.{FitsFrame, HasPayloads}
-use Rattle.rg_frame.proofs.FrameLists.{payloads_one}
+use Rattle.rg_frame.proofs.Laws.{payloads_one}
 use Rattle.rg_log.specs.Entries.{unread, behind, entries_after}
 use Rattle.rg_log.specs.Spots.{SpotAt}
 use Rattle.rg_log.specs.declared.entry.LogSoFar.{LogSoFar}
@@ -22,7 +22,7 @@ use Rattle.rg_plan.specs.Plans.{Tasks, plan_for}
 use Rattle.rg_query.specs.Legal.{IsLegalQuery}
 use Rattle.rg_state.specs.Rows.{Cells}
 use Rattle.rg_engine.specs.Seen.{Seen}
-use Rattle.rg_engine.proofs.Legal.{serves}
+use Rattle.rg_engine.proofs.Laws.{serves}
 use Rattle.rg_checkpoint.specs.declared.base.Checkpoint.{Checkpoint}
 use Rattle.rg_restore.specs.declared.choosing.Saved.{Saved}
 use Rattle.rg_restore.specs.Fit.{IsFit}
@@ -30,8 +30,7 @@ use Rattle.rg_restore.specs.Naming.{NamesIn}
 use Rattle.rg_restore.specs.NamingLaws.{sound_names}
 use Rattle.rg_restore.specs.Slots.{slot_in, IsBest}
 use Rattle.rg_restore.specs.Truthful.{NodeGoes, NodeIsTrue}
-use Rattle.rg_restore.proofs.Joining.{node_later}
-use Rattle.rg_restore.proofs.Trying.{fit_same}
+use Rattle.rg_restore.proofs.Laws.{node_later, fit_same}
 use Rattle.rg_reservoir.specs.Attached.{growth_payload, Opens}
 use Rattle.rg_reservoir.specs.Kept.{Base, base, opened, all_events, IsSound, Spells}
 use Rattle.rg_reservoir.specs.declared.reservoir.Reservoir.{Reservoir}

@@ -16,7 +16,7 @@ use Rattle.rg_plan.specs.Plans.{Tasks, plan_for}
 use Rattle.rg_state.specs.Rows.{Cells}
 use Rattle.rg_engine.specs.Feeding.{Serves}
 use Rattle.rg_engine.specs.Seen.{Seen}
-use Rattle.rg_engine.proofs.Legal.{serves}
+use Rattle.rg_engine.proofs.Laws.{serves}
 use Rattle.rg_checkpoint.specs.declared.base.Checkpoint.{Checkpoint}
 use Rattle.rg_checkpoint.specs.Slots.{HasSlot, IsSlot, IsKeep}
 use Rattle.rg_restore.specs.declared.choosing.Saved.{Saved}
@@ -24,9 +24,7 @@ use Rattle.rg_restore.specs.Fit.{IsFit}
 use Rattle.rg_restore.specs.Naming.{HeadsName, NamesIn}
 use Rattle.rg_restore.specs.Slots.{slot_in, AreTruthful, IsFrom, HaveBegun}
 use Rattle.rg_restore.specs.Truthful.{IsTruthful, EngineStands}
-use Rattle.rg_restore.proofs.RowKinds.{truthful_fits}
-use Rattle.rg_restore.proofs.Saving.{same_past}
-use Rattle.rg_restore.proofs.Trying.{fit_same}
+use Rattle.rg_restore.proofs.Laws.{truthful_fits, same_past, fit_same}
 use Rattle.rg_reservoir.specs.Kept.{Base, base, opened, next_of, time_of, cache_of, log_of, all_events, IsSound, IsRight, Spells}
 use Rattle.rg_reservoir.specs.GoingLaws.{all_long}
 use Rattle.rg_reservoir.specs.declared.reservoir.Reservoir.{Reservoir}

@@ -4,7 +4,7 @@ use Rattle.rg_host.specs.Image.{Image}
 use Rattle.rg_config.specs.Plans.{Planned}
 use Rattle.rg_checkpoint.specs.Slots.{IsSlot}
 use Rattle.rg_checkpoint.specs.declared.base.Checkpoint.{Checkpoint}
-use Rattle.rg_checkpoint.proofs.SlotLaws.{slot_told}
+use Rattle.rg_checkpoint.proofs.Laws.{slot_told}
 use Rattle.rg_restore.specs.Slots.{slot_in, IsBehind, IsFrom}
 use Rattle.rg_restore.specs.declared.choosing.Saved.{Saved}
 use Rattle.rg_open.specs.Truth.{texts_of}

@@ -25,19 +25,18 @@ use Rattle.rg_plan.specs.Nodes.{Filtered, same_filter, same_group}
 use Rattle.rg_plan.specs.Plans.{Tasks, plan_for, windows_of, filters_of, filter_under, group_under}
 use Rattle.rg_plan.specs.declared.node.AggNode.{AggNode}
 use Rattle.rg_plan.specs.declared.node.GroupNode.{GroupNode}
-use Rattle.rg_plan.proofs.Members.{All-distinct}
+use Rattle.rg_plan.proofs.Laws.{All-distinct}
 use Rattle.rg_state.specs.Rows.{Cells, RowStands}
 use Rattle.rg_window.specs.Passing.{has_come}
 use Rattle.rg_chunk.specs.Extended.{extended, all_extended}
 use Rattle.rg_engine.specs.Feeding.{IsServed}
 use Rattle.rg_engine.specs.Standing.{RowIs}
 use Rattle.rg_engine.specs.Windows.{counts_at, node_values, position}
-use Rattle.rg_engine.proofs.Legal.{serves}
-use Rattle.rg_engine.proofs.Plain.{none_some, same_some}
-use Rattle.rg_log.proofs.Extending.{length-extended, time-extended}
+use Rattle.rg_engine.proofs.Laws.{serves, none_some, same_some}
+use Rattle.rg_log.proofs.Laws.{length-extended, time-extended}
 use Rattle.rg_checkpoint.specs.declared.base.Checkpoint.{Checkpoint}
 use Rattle.rg_restore.specs.Truthful.{StandsFor, AreRowsFor, position_in, SpotsAt, IsTruthful}
-use Rattle.rg_restore.proofs.Saving.{same_past}
+use Rattle.rg_restore.proofs.Laws.{same_past}
 use Rattle.rg_open.proofs.GrownTexts.{column_within}
 
 -- what is asked of the first n columns alone

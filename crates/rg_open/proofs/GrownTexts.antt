@@ -19,7 +19,7 @@ use Rattle.rg_query.specs.Printing.{name_at, literal_text, and_is_enclosed, or_i
 use Rattle.rg_query.specs.Resolving.{column_from, column_named, or_else, first_in, unless_known, unknown_column, unknown_stream, unknown_in_agg, unknown_in_tree, in_filter, first_unknown, wrong_comparison, wrong_in_tree, wrong_field, wrong_agg, percent_of, pct_asked, first_bad, or_zero, column_of, agg_asked, value_asked, test_asked, length_asked, delay_asked, refused_at, resolved}
 use Rattle.rg_query.specs.declared.fault.QueryFault.{QueryFault}
 use Rattle.rg_query.specs.declared.fault.QueryFault.TheVariants as fault
-use Rattle.rg_query.proofs.Asking.{is_asked, no_place}
+use Rattle.rg_query.proofs.Laws.{is_asked, no_place}
 use Rattle.rg_config.specs.Read.{IsSaid}
 use Rattle.rg_open.specs.Truth.{texts_of}
 

@@ -8,20 +8,17 @@ use Rattle.rg_past.specs.declared.past.Spot.{Spot}
 use Rattle.rg_query.specs.Legal.{IsLegalQuery}
 use Rattle.rg_config.specs.Read.{IsSaid}
 use Rattle.rg_frame.specs.Steps.{Grows}
-use Rattle.rg_frame.proofs.FrameLists.{payloads_one}
+use Rattle.rg_frame.proofs.Laws.{payloads_one}
 use Rattle.rg_growth.specs.Payloads.{IsGrowth}
 use Rattle.rg_growth.specs.declared.growth.Growth.{Growth}
 use Rattle.rg_chunk.specs.Extended.{all_extended}
 use Rattle.rg_log.specs.Log.{HasEvents, HasLegalLog, IsInForce}
 use Rattle.rg_log.specs.Spots.{SpotIn}
-use Rattle.rg_log.proofs.Filled.{events_in}
-use Rattle.rg_log.proofs.Growing.{grows_log}
-use Rattle.rg_log.proofs.Spelling.{spot_stays_in}
-use Rattle.rg_log.proofs.Staging.{events_of_schema}
+use Rattle.rg_log.proofs.Laws.{events_in, grows_log, spot_stays_in, events_of_schema}
 use Rattle.rg_plan.specs.Plans.{plan_for}
 use Rattle.rg_checkpoint.specs.declared.base.Checkpoint.{Checkpoint}
 use Rattle.rg_checkpoint.specs.Slots.{HasSlot}
-use Rattle.rg_restore.proofs.Saving.{same_past}
+use Rattle.rg_restore.proofs.Laws.{same_past}
 use Rattle.rg_open.specs.Truth.{IsTrueFor, IsTrueOf, IsTruthfulImage}
 use Rattle.rg_open.proofs.GrownRows.{checkpoint_stays}
 use Rattle.rg_open.proofs.GrownTexts.{said_stays, texts_stay}

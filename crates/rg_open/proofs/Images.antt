@@ -7,13 +7,12 @@ use Rattle.rg_event.specs.Shapes.{Shape, IsSchema}
 use Rattle.rg_event.specs.declared.event.Event.{Event}
 use Rattle.rg_frame.specs.Frames.{FitsFrame, HasPayloads}
 use Rattle.rg_frame.specs.Steps.{Grows}
-use Rattle.rg_frame.proofs.FrameLists.{payloads_one}
+use Rattle.rg_frame.proofs.Laws.{payloads_one}
 use Rattle.rg_log.specs.Log.{schema_payload, IsChunkOf, HasLegalLog}
-use Rattle.rg_log.proofs.Filled.{events_in}
-use Rattle.rg_log.proofs.Growing.{begins_log}
+use Rattle.rg_log.proofs.Laws.{events_in, begins_log}
 use Rattle.rg_checkpoint.specs.declared.base.Checkpoint.{Checkpoint}
 use Rattle.rg_checkpoint.specs.Slots.{HasSlot, HasNoSlot}
-use Rattle.rg_checkpoint.proofs.SlotLaws.{slot_is_one, none_slot}
+use Rattle.rg_checkpoint.proofs.Laws.{slot_is_one, none_slot}
 use Rattle.rg_open.specs.Truth.{IsTrueOf, IsTruthfulImage, MayGrow}
 use Rattle.rg_open.proofs.Truths.{no_schema, true_for, grows_true, grows_legal}
 

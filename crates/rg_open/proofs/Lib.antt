@@ -1,3 +1,4 @@
+pub mod Laws
 pub mod Truths
 pub mod Images
 pub mod ToGrow

@@ -9,19 +9,19 @@ use Rattle.rg_event.specs.declared.event.Event.{Event}
 use Rattle.rg_past.specs.declared.past.Spot.{Spot}
 use Rattle.rg_log.specs.Log.{joined, HasEvents}
 use Rattle.rg_log.specs.Spots.{SpotIn}
-use Rattle.rg_log.proofs.Staging.{events_of_schema}
+use Rattle.rg_log.proofs.Laws.{events_of_schema}
 use Rattle.rg_config.specs.Plans.{Planned}
 use Rattle.rg_query.specs.Legal.{IsLegalQuery}
 use Rattle.rg_plan.specs.Plans.{Tasks, plan_for}
 use Rattle.rg_engine.specs.Feeding.{Serves}
-use Rattle.rg_engine.proofs.Legal.{serves}
+use Rattle.rg_engine.proofs.Laws.{serves}
 use Rattle.rg_restore.specs.Naming.{HeadsName, NamesIn}
 use Rattle.rg_restore.specs.NamingLaws.{sound_names}
 use Rattle.rg_restore.specs.Opening.{CanStand}
 use Rattle.rg_reservoir.specs.Kept.{base, opened, next_of, time_of, cache_of, all_events, IsSound, IsRight, Spells}
 use Rattle.rg_reservoir.specs.GoingLaws.{all_long}
 use Rattle.rg_reservoir.specs.declared.reservoir.Reservoir.{Reservoir}
-use Rattle.rg_reservoir.proofs.Spelled.{spelled_here, spelled_there}
+use Rattle.rg_reservoir.proofs.Laws.{spelled_here, spelled_there}
 use Rattle.rg_open.specs.Opened.{IsOpenedFor}
 use Rattle.rg_open.proofs.Sound.{has_events, all_are}
 

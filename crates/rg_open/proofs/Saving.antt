@@ -7,27 +7,25 @@ use Rattle.rg_host.specs.Image.{Image}
 use Rattle.rg_event.specs.Shapes.{Shape, IsSchema}
 use Rattle.rg_event.specs.declared.event.Event.{Event}
 use Rattle.rg_past.specs.declared.past.Spot.{Spot}
-use Rattle.rg_frame.proofs.FrameLists.{payloads_one}
+use Rattle.rg_frame.proofs.Laws.{payloads_one}
 use Rattle.rg_metric.specs.Queries.{Asked}
 use Rattle.rg_query.specs.Printing.{query_text}
-use Rattle.rg_query.proofs.Again.{differ}
+use Rattle.rg_query.proofs.Laws.{differ}
 use Rattle.rg_config.specs.Plans.{Planned}
 use Rattle.rg_config.specs.Read.{IsSaid}
 use Rattle.rg_plan.specs.Plans.{plan_for}
 use Rattle.rg_log.specs.Log.{joined, HasEvents, IsInForce}
 use Rattle.rg_log.specs.Spots.{SpotIn}
-use Rattle.rg_log.proofs.Growing.{one_list}
-use Rattle.rg_log.proofs.Staging.{events_of_schema}
+use Rattle.rg_log.proofs.Laws.{one_list, events_of_schema}
 use Rattle.rg_state.specs.Rows.{Cells, Lists}
 use Rattle.rg_engine.specs.Feeding.{Serves}
 use Rattle.rg_checkpoint.specs.declared.base.Checkpoint.{Checkpoint}
 use Rattle.rg_restore.specs.Fit.{IsFit}
 use Rattle.rg_restore.specs.Truthful.{IsTruthful, EngineStands}
-use Rattle.rg_restore.proofs.Saving.{saved}
-use Rattle.rg_restore.proofs.RowKinds.{truthful_fits}
+use Rattle.rg_restore.proofs.Laws.{saved, truthful_fits}
 use Rattle.rg_reservoir.specs.declared.reservoir.Reservoir.{Reservoir}
 use Rattle.rg_reservoir.specs.Kept.{base, opened, all_events, next_of, time_of, cache_of, IsRight, Spells}
-use Rattle.rg_reservoir.proofs.Spelled.{spelled_there}
+use Rattle.rg_reservoir.proofs.Laws.{spelled_there}
 use Rattle.rg_open.specs.Truth.{texts_of, IsTrueOf}
 use Rattle.rg_open.specs.Opened.{IsToSave}
 use Rattle.rg_open.proofs.Truths.{true_for}

@@ -2,7 +2,7 @@
 use Rattle.std.proofs.Common.{◌≡◌, ◌∙◌, ℕ, List, Option, refl}
 use Rattle.rg_host.specs.Image.{Image, NothingPending}
 use Rattle.rg_host.specs.Moments.{Moment, LeavesAll}
-use Rattle.rg_host.proofs.Runs.{nothing_pending-kept, moments_then, moments-silent}
+use Rattle.rg_host.proofs.Laws.{nothing_pending-kept, moments_then, moments-silent}
 use Rattle.rg_frame.specs.Calls.{Writes}
 use Rattle.rg_frame.specs.Steps.{Leaves}
 use Rattle.rg_open.specs.Settling.{AreSettled, LeavesFewer}

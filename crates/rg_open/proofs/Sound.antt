@@ -7,16 +7,15 @@ use Rattle.rg_event.specs.Shapes.{Shape, IsSchema}
 use Rattle.rg_event.specs.declared.event.Event.{Event}
 use Rattle.rg_frame.specs.Frames.{EndsAt}
 use Rattle.rg_frame.specs.Steps.{Leaves, From, Grows, Grown}
-use Rattle.rg_frame.proofs.FrameLists.{payloads_one}
+use Rattle.rg_frame.proofs.Laws.{payloads_one}
 use Rattle.rg_chunk.specs.Chunks.{chunk_bytes}
 use Rattle.rg_cache.specs.Cache.{Cache}
 use Rattle.rg_log.specs.Log.{joined, IsChunkOf, HasEvents, IsInForce}
-use Rattle.rg_log.proofs.Growing.{one_list}
+use Rattle.rg_log.proofs.Laws.{one_list}
 use Rattle.rg_reservoir.specs.declared.kept.Kept.{Kept}
 use Rattle.rg_reservoir.specs.Attached.{LogOpens}
 use Rattle.rg_reservoir.specs.Kept.{Base, all_events, IsRight, Adds, Added}
-use Rattle.rg_reservoir.proofs.Committed.{rises, fewer, is_chunk, ends_at}
-use Rattle.rg_reservoir.proofs.Seeking.{stored_is}
+use Rattle.rg_reservoir.proofs.Laws.{rises, fewer, is_chunk, ends_at, stored_is}
 use Rattle.rg_config.specs.Plans.{Planned}
 use Rattle.rg_run_spec.specs.Steps.{IsMidStep, IsStepped}
 use Rattle.rg_open.specs.Truth.{MayGrow}

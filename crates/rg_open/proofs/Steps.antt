@@ -10,22 +10,20 @@ use Rattle.rg_event.specs.declared.event.Event.{Event}
 use Rattle.rg_growth.specs.Filling.{growth_to}
 use Rattle.rg_frame.specs.Frames.{HasPayloads}
 use Rattle.rg_frame.specs.Steps.{Leaves, Grows, Grown}
-use Rattle.rg_frame.proofs.FrameLists.{payloads_one}
+use Rattle.rg_frame.proofs.Laws.{payloads_one}
 use Rattle.rg_log.specs.Filled.{HasEventsFor, IsOfSchemaFor}
 use Rattle.rg_log.specs.Log.{schema_payload, IsChunkOf, HasEvents, IsInForce}
 use Rattle.rg_log.specs.Stages.{chunk as chunk_stage, growth as growth_stage}
-use Rattle.rg_log.proofs.Filled.{own_events, unframed_events, growth_said, grows_for, schema_for}
-use Rattle.rg_log.proofs.Growing.{adds_log, added_log, begins_log}
-use Rattle.rg_log.proofs.Staging.{has-push}
+use Rattle.rg_log.proofs.Laws.{own_events, unframed_events, growth_said, grows_for, schema_for, adds_log, added_log, begins_log, has-push}
 use Rattle.rg_config.specs.Plans.{Planned}
 use Rattle.rg_checkpoint.specs.declared.base.Checkpoint.{Checkpoint}
 use Rattle.rg_checkpoint.specs.declared.sizes.SlotSizes.{SlotSizes}
 use Rattle.rg_checkpoint.specs.Sizes.{OfSizes}
 use Rattle.rg_checkpoint.specs.Slots.{HasSlot, HasNoSlot, AreSizes, Lengthens, Lengthened, other_of, IsKeep}
 use Rattle.rg_checkpoint.specs.Updates.{Applies}
-use Rattle.rg_checkpoint.proofs.SlotLaws.{kept_apart, slot_is_one}
+use Rattle.rg_checkpoint.proofs.Laws.{kept_apart, slot_is_one}
 use Rattle.rg_reservoir.specs.Attached.{IsToGrow, growth_payload}
-use Rattle.rg_reservoir.proofs.Legal.{in_force_by, to_grow_in_force}
+use Rattle.rg_reservoir.proofs.Laws.{in_force_by, to_grow_in_force}
 use Rattle.rg_run_spec.specs.Steps.{IsMidStep, IsStepped, IsSavedTo}
 use Rattle.rg_open.specs.Truth.{texts_of, IsTrueOf, IsTruthfulImage, MayGrow}
 use Rattle.rg_open.specs.Opened.{IsToExtend}

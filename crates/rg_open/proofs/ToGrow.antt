@@ -3,13 +3,13 @@ use Rattle.std.proofs.Common.{◌≡◌, inl, inr, ℕ, List, [], ◌∷◌, ref
 use Rattle.rg_event.specs.Shapes.{Shape}
 use Rattle.rg_growth.specs.Filling.{Given}
 use Rattle.rg_frame.specs.Frames.{HasPayloads}
-use Rattle.rg_frame.proofs.FrameLists.{payloads_one}
+use Rattle.rg_frame.proofs.Laws.{payloads_one}
 use Rattle.rg_log.specs.Filled.{IsOfSchemaFor}
 use Rattle.rg_log.specs.Log.{HasLegalLog, IsInForce}
 use Rattle.rg_log.specs.Stages.{logged}
-use Rattle.rg_log.proofs.Growing.{in_force_of}
+use Rattle.rg_log.proofs.Laws.{in_force_of}
 use Rattle.rg_reservoir.specs.Attached.{IsToGrow}
-use Rattle.rg_reservoir.proofs.Legal.{in_force_by, to_grow_framed}
+use Rattle.rg_reservoir.proofs.Laws.{in_force_by, to_grow_framed}
 
 module _ (shape : Shape) (defaults : Given) (bytes : List ℕ) (g : IsToGrow shape defaults bytes) where
   -- it has a frame

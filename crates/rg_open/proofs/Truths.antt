@@ -6,13 +6,12 @@ use Rattle.rg_past.specs.declared.past.Spot.{Spot}
 use Rattle.rg_plan.specs.Plans.{plan_for}
 use Rattle.rg_frame.specs.Frames.{HasPayloads}
 use Rattle.rg_frame.specs.Steps.{Grows, Grown}
-use Rattle.rg_frame.proofs.FrameLists.{payloads_one}
+use Rattle.rg_frame.proofs.Laws.{payloads_one}
 use Rattle.rg_log.specs.Log.{IsChunkOf, HasEvents, HasLegalLog, IsInForce}
 use Rattle.rg_log.specs.Spots.{SpotIn}
-use Rattle.rg_log.proofs.Growing.{one_schema, adds_log}
-use Rattle.rg_log.proofs.Spelling.{spot_stays_in}
+use Rattle.rg_log.proofs.Laws.{one_schema, adds_log, spot_stays_in}
 use Rattle.rg_checkpoint.specs.declared.base.Checkpoint.{Checkpoint}
-use Rattle.rg_restore.proofs.Saving.{later, same_past}
+use Rattle.rg_restore.proofs.Laws.{later, same_past}
 use Rattle.rg_open.specs.Truth.{IsTrueFor, IsTrueOf, MayGrow}
 
 -- in a log without a frame no schema is in force

@@ -5,13 +5,13 @@ use Rattle.std.proofs.Math.Path.{fun_ext}
 use Rattle.std.specs.Option.{ForSome}
 use Rattle.rg_host.specs.Image.{Image, NothingPending}
 use Rattle.rg_host.specs.Moments.{Moment}
-use Rattle.rg_host.proofs.Runs.{moments_then}
+use Rattle.rg_host.proofs.Laws.{moments_then}
 use Rattle.rg_frame.specs.Calls.{Writes}
 use Rattle.rg_frame.specs.Frames.{HasPayloads}
 use Rattle.rg_frame.specs.Steps.{Leaves}
 use Rattle.rg_config.specs.Plans.{Planned}
 use Rattle.rg_reservoir.specs.Attached.{LogOpens}
-use Rattle.rg_reservoir.proofs.Legal.{unframed_for, not_to_grow}
+use Rattle.rg_reservoir.proofs.Laws.{unframed_for, not_to_grow}
 use Rattle.rg_open.specs.Settling.{AreSettled, LeavesFewer}
 use Rattle.rg_open.specs.Unfit.{HasOtherSchema, HasBadFrame, IsUnfit, SaysWhy, IsLeftAlone}
 use Rattle.rg_open.specs.declared.fault.OpenFault.{OpenFault}

@@ -1,3 +1,4 @@
+pub mod Laws
 pub mod Nots
 pub mod Levels
 pub mod Reading

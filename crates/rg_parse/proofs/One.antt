@@ -5,8 +5,7 @@ use Rattle.std.proofs.lemmas.List.{length-map, length-append}
 use Rattle.std.proofs.Math.Seq.{drop-append_seam}
 use Rattle.rg_grammar.specs.Grammar.{Query}
 use Rattle.rg_grammar.specs.Machine.{Outcome, run, read, stops, nests, at_start}
-use Rattle.rg_grammar.proofs.Complete.{found_reads}
-use Rattle.rg_grammar.proofs.Exact.{exact_only, exact_depth_only}
+use Rattle.rg_grammar.proofs.Laws.{found_reads, exact_only, exact_depth_only}
 use Rattle.rg_token.specs.declared.piece.Piece.{Piece}
 use Rattle.rg_token.specs.Lexing.{Lexes}
 use Rattle.rg_parse.specs.Tokens.{tokens_of, token_of}

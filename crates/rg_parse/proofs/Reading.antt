@@ -3,8 +3,7 @@ use Rattle.std.proofs.Common.{◌≡◌, ℕ, ◌<◌, List, length, take, drop,
 use Rattle.std.proofs.lemmas.List.{take-append-drop}
 use Rattle.rg_grammar.specs.Grammar.{Query, NestsIn}
 use Rattle.rg_grammar.specs.Machine.{run, read, at_start}
-use Rattle.rg_grammar.proofs.Sound.{sound}
-use Rattle.rg_grammar.proofs.Exact.{exact, exact_depth_in}
+use Rattle.rg_grammar.proofs.Laws.{sound, exact, exact_depth_in}
 use Rattle.rg_token.specs.declared.piece.Piece.{Piece}
 use Rattle.rg_token.specs.Lexing.{Lexes, IsInside, IsToken}
 use Rattle.rg_parse.specs.Tokens.{tokens_of}

@@ -6,7 +6,7 @@ use Rattle.rg_grammar.specs.Grammar.{Query, Token}
 use Rattle.rg_grammar.specs.Machine.{State, Step, goes, no_query, too_deep as deep_step, after_window, at_end, Outcome, run, read, stops, nests, at_start, step, finish, after_step}
 use Rattle.rg_token.specs.declared.piece.Piece.{Piece}
 use Rattle.rg_token.specs.Lexing.{Lexes}
-use Rattle.rg_token.proofs.Total.{LexesFrom, lexes_whole}
+use Rattle.rg_token.proofs.Laws.{LexesFrom, lexes_whole}
 use Rattle.rg_parse.specs.Tokens.{tokens_of, token_of}
 use Rattle.rg_parse.specs.Texts.{place_of, Syntax, parsed, stops_at, too_deep, Reads}
 use Rattle.rg_parse.proofs.Reading.{stopped_at, nested_so, goes_on_at, query_text}

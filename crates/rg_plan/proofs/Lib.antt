@@ -1,3 +1,4 @@
+pub mod Laws
 pub mod Steps
 pub mod Members
 pub mod Numbered

@@ -11,7 +11,7 @@ use Rattle.rg_keywords.specs.declared.op.Op.{Op}
 use Rattle.rg_keywords.specs.declared.op.Op.TheVariants.{Eq, Ne, Lt, Le, Gt, Ge}
 use Rattle.rg_event.specs.declared.value.Value.{Value}
 use Rattle.rg_metric.specs.Conditions.{Test, compared, not_of, and_of, or_of}
-use Rattle.rg_metric.proofs.Same.{same_value-true, same_value-same}
+use Rattle.rg_metric.proofs.Laws.{same_value-true, same_value-same}
 use Rattle.rg_metric.specs.Queries.{filter_test}
 use Rattle.rg_plan.specs.Same.{same_op, same_test, same_condition}
 use Rattle.rg_plan.specs.declared.node.FilterNode.{FilterNode}

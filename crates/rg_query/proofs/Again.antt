@@ -7,9 +7,7 @@ use Rattle.rg_keywords.specs.declared.func.Func.{Func}
 use Rattle.rg_grammar.specs.Grammar as syntax
 use Rattle.rg_grammar.specs.Grammar.{Token, Found, tokens_of}
 use Rattle.rg_grammar.specs.Erase.{erase_query}
-use Rattle.rg_grammar.proofs.Complete.{one_query}
-use Rattle.rg_grammar.proofs.Erase.{found_again}
-use Rattle.rg_grammar.proofs.PrintedQuery.{found_writable, written_found}
+use Rattle.rg_grammar.proofs.Laws.{one_query, found_again, found_writable, written_found}
 use Rattle.rg_metric.specs.Queries.{Asked, asked}
 use Rattle.rg_metric.specs.declared.query.Query.{Query}
 use Rattle.rg_metric.specs.declared.query.Agg.{Agg}
@@ -17,8 +15,7 @@ use Rattle.rg_parse.specs.Tokens as parse
 use Rattle.rg_token.specs.declared.piece.Piece.{Piece}
 use Rattle.rg_token.specs.Layout.{placed}
 use Rattle.rg_token.specs.Lexing.{Lexes}
-use Rattle.rg_token.proofs.Laid.{laid}
-use Rattle.rg_token.proofs.Unique.{one_lexing}
+use Rattle.rg_token.proofs.Laws.{laid, one_lexing}
 use Rattle.rg_query.specs.declared.fault.QueryFault.{QueryFault}
 use Rattle.rg_query.specs.Legal.{IsOperand, IsLegalAgg, AreLegalAggs, IsLegalQuery}
 use Rattle.rg_query.specs.Printing.{query_text}

@@ -9,8 +9,7 @@ use Rattle.std.specs.Fmt.{signed_decimal}
 use Rattle.std.specs.List.{All}
 use Rattle.std.specs.Prelude.{bytes_eq, if◌then◌else◌, unsigned_abs}
 use Rattle.std.specs.Str.{all_ascii_digits}
-use Rattle.rg_bytes.proofs.Decimals.{whole_of-decimal, signed_of-signed_decimal}
-use Rattle.rg_bytes.proofs.Digits.{decimal_digits}
+use Rattle.rg_bytes.proofs.Laws.{whole_of-decimal, signed_of-signed_decimal, decimal_digits}
 use Rattle.rg_bytes.specs.Numbers.{whole_of, signed_of}
 use Rattle.rg_event.specs.Codec.{IsValueOf}
 use Rattle.rg_event.specs.Parsing.{in_range}
@@ -25,7 +24,7 @@ use Rattle.rg_keywords.specs.declared.func.Func.TheVariants.{Count, Pct}
 use Rattle.rg_keywords.specs.declared.time_unit.TimeUnit.TheVariants.{Millisecond}
 use Rattle.rg_grammar.specs.Grammar.{span, maybe_span, is_signed, IsMaybeSpan}
 use Rattle.rg_grammar.specs.Printed.{is_plain, IsWritable, AreWritable, CanWrite}
-use Rattle.rg_grammar.proofs.PrintedQuery.{span_is}
+use Rattle.rg_grammar.proofs.Laws.{span_is}
 use Rattle.rg_metric.specs.Conditions.{Test, compared, not_of, and_of, or_of}
 use Rattle.rg_metric.specs.Queries.{Asked}
 use Rattle.rg_metric.specs.declared.query.Agg.{Agg}

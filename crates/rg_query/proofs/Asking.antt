@@ -8,7 +8,7 @@ use Rattle.rg_bytes.specs.Numbers.{whole_of, signed_of, number_of, value_of, is_
 use Rattle.rg_event.specs.Codec.{IsValueOf}
 use Rattle.rg_event.specs.Parsing.{in_range}
 use Rattle.rg_event.specs.Words.{is_word}
-use Rattle.rg_event.proofs.Parsed.{in_bounds, number_below, text_fits}
+use Rattle.rg_event.proofs.Laws.{in_bounds, number_below, text_fits}
 use Rattle.rg_event.specs.Shapes.{Shape}
 use Rattle.rg_event.specs.declared.schema.Field.{Field}
 use Rattle.rg_event.specs.declared.value.Kind.{Kind}

@@ -1,3 +1,4 @@
+pub mod Laws
 pub mod Strings
 pub mod Lists
 pub mod Says

@@ -3,8 +3,8 @@ use Rattle.std.proofs.Common.{◌≡◌, ℕ, nat_lt, Bool, true, false, List, l
 use Rattle.std.proofs.lemmas.Bool.{ltb-true, ltb-false}
 use Rattle.rg_event.specs.Shapes.{Shape}
 use Rattle.rg_metric.specs.Queries.{Asked}
-use Rattle.rg_token.proofs.Unique.{one_lexing}
-use Rattle.rg_parse.proofs.One.{one_syntax}
+use Rattle.rg_token.proofs.Laws.{one_lexing}
+use Rattle.rg_parse.proofs.Laws.{one_syntax}
 use Rattle.rg_query.specs.Saying.{Says}
 use Rattle.rg_query.specs.declared.fault.QueryFault.{QueryFault}
 use Rattle.rg_query.proofs.Says.{IsOne, one_long, one_short}

@@ -6,7 +6,7 @@ use Rattle.std.specs.List.{list_all, list_any}
 use Rattle.std.specs.Prelude.{IsTrue, unsigned_abs}
 use Rattle.std.specs.Char.{is_ascii_digit}
 use Rattle.std.specs.Str.{all_ascii_digits, str_eq_ignore_ascii_case}
-use Rattle.rg_bytes.proofs.Digits.{decimal_digits}
+use Rattle.rg_bytes.proofs.Laws.{decimal_digits}
 use Rattle.rg_event.specs.Codec.{IsValueOf}
 use Rattle.rg_event.specs.Names.{is_name, is_word, is_reserved, is_letter, is_word_byte}
 use Rattle.rg_event.specs.declared.value.Kind.{Kind}

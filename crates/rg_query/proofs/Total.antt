@@ -5,7 +5,7 @@ use Rattle.rg_event.specs.Shapes.{Shape}
 use Rattle.rg_grammar.specs.Grammar as syntax
 use Rattle.rg_metric.specs.Queries.{Asked}
 use Rattle.rg_parse.specs.Texts.{IsQueryText, Syntax, parsed, stops_at, too_deep, Reads}
-use Rattle.rg_parse.proofs.Total.{some_syntax}
+use Rattle.rg_parse.proofs.Laws.{some_syntax}
 use Rattle.rg_query.specs.Resolving.{resolved, refused_at, first_unknown, first_wrong, first_bad, query_asked}
 use Rattle.rg_query.specs.Saying.{Says}
 use Rattle.rg_query.specs.declared.fault.QueryFault.{QueryFault}

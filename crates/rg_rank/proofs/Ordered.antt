@@ -15,8 +15,8 @@ use Rattle.rg_metric.specs.declared.answer.Answer.{Answer}
 use Rattle.rg_metric.specs.declared.answer.Answer.TheVariants.{Number, Dash}
 use Rattle.rg_multiset.specs.Pairs.{AreOf, IsTally}
 use Rattle.rg_metric.specs.Same.{same_value}
-use Rattle.rg_metric.proofs.Same.{same_value-true}
-use Rattle.rg_multiset.proofs.Places.{counts_less, first_place, legal_first, none_first}
+use Rattle.rg_metric.proofs.Laws.{same_value-true}
+use Rattle.rg_multiset.proofs.Laws.{counts_less, first_place, legal_first, none_first}
 use Rattle.rg_rank.specs.Ranking.{AreAbove, IsRanking, Rise, is_there, lowered, put_first, value_at, without_one}
 use Rattle.rg_rank.proofs.Order.{same_number}
 use Rattle.rg_rank.proofs.Tallies.{absent_counts, one_less, ranking_of, tally_less}

@@ -11,8 +11,7 @@ use Rattle.rg_agg.specs.declared.number.Number.TheVariants.{Int, Id}
 use Rattle.rg_event.specs.declared.value.Value.{Value}
 use Rattle.rg_multiset.specs.Pairs.{AreRising, IsTally}
 use Rattle.rg_multiset.specs.Reading.{comes_behind, is_count, last_kept, same_kind}
-use Rattle.rg_multiset.proofs.Kept.{alike_pushed, sum_append}
-use Rattle.rg_multiset.proofs.ReadPairs.{count_facts}
+use Rattle.rg_multiset.proofs.Laws.{alike_pushed, sum_append, count_facts}
 
 pub like_tags : (a b : Number) → is_like (value_of a) (value_of b) ≡ same_kind (value_of a) (value_of b)
 like_tags (Int a) (Int b) = refl

@@ -7,9 +7,9 @@ use Rattle.rg_agg.specs.Stands.{IsNumber}
 use Rattle.rg_agg.specs.Unbeaten.{is_less}
 use Rattle.rg_event.specs.declared.value.Value.{Value}
 use Rattle.rg_metric.specs.Same.{same_value}
-use Rattle.rg_metric.proofs.Same.{same_value-same, same_value-true}
+use Rattle.rg_metric.proofs.Laws.{same_value-same, same_value-true}
 use Rattle.rg_multiset.specs.Pairs.{IsTally}
-use Rattle.rg_multiset.proofs.Places.{other_way}
+use Rattle.rg_multiset.proofs.Laws.{other_way}
 use Rattle.rg_rank.specs.Ranking.{AreAbove, Rise}
 use Rattle.rg_rank.proofs.Order.{less_not_back}
 use Rattle.rg_rank.proofs.Tallies.{none_above, ranking_of}

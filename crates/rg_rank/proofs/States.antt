@@ -16,9 +16,9 @@ use Rattle.rg_event.specs.Tagged.{value_kind}
 use Rattle.rg_event.specs.declared.value.Kind.{Kind}
 use Rattle.rg_event.specs.declared.value.Value.{Value}
 use Rattle.rg_metric.specs.Same.{same_value}
-use Rattle.rg_metric.proofs.Same.{same_value-same, same_value-true}
+use Rattle.rg_metric.proofs.Laws.{same_value-same, same_value-true}
 use Rattle.rg_multiset.specs.Pairs.{AreAlike, AreOf, IsTally, OneMore, once}
-use Rattle.rg_multiset.proofs.Places.{counts_more, none_first, places_first}
+use Rattle.rg_multiset.proofs.Laws.{counts_more, none_first, places_first}
 use Rattle.rg_rank.specs.Ranking.{is_there, with_one, without_one}
 use Rattle.rg_rank.specs.Trees.{IsAmong}
 use Rattle.rg_rank.proofs.Tallies.{absent_counts, one_less, one_more, ranking_of, tally_less, tally_more}

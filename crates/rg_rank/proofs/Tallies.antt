@@ -13,11 +13,9 @@ use Rattle.rg_event.specs.declared.value.Value.{Value}
 use Rattle.rg_event.specs.declared.value.Value.TheVariants.{Int, Id, Text, Flag}
 use Rattle.rg_metric.specs.Answers.{number_of}
 use Rattle.rg_metric.specs.Same.{same_value}
-use Rattle.rg_metric.proofs.Same.{same_value-same, same_value-true}
+use Rattle.rg_metric.proofs.Laws.{same_value-same, same_value-true}
 use Rattle.rg_multiset.specs.Pairs.{AreAlike, AreOf, AreRising, IsTally, OneMore, once}
-use Rattle.rg_multiset.proofs.Kept.{alike_of, alike_with}
-use Rattle.rg_multiset.proofs.Listed.{listed, listed_length}
-use Rattle.rg_multiset.proofs.Places.{all_there, places_first}
+use Rattle.rg_multiset.proofs.Laws.{alike_of, alike_with, listed, listed_length, all_there, places_first}
 use Rattle.rg_rank.specs.Ranking.{AreAbove, IsRanking, Rise, changed, is_there, lowered, put_first, raised, with_one, without_one}
 use Rattle.rg_rank.proofs.Changes.{above_through, less, less_sum, more, more_sum}
 use Rattle.rg_rank.proofs.Order.{less_not_back, same_number}

@@ -126,7 +126,7 @@ impl Aggregate for Rank {
         self.percentile(50)
     }
 
-    #[tactic(auto, using(rg_agg::proofs::Admitted::number_admitted))]
+    #[tactic(auto, using(rg_agg::proofs::Laws::number_admitted))]
     fn add(&mut self, value: &Value) -> Result<(), Memory> {
         match Number::of(value) {
             Some(number) => self.tree.add(self.alloc, number),

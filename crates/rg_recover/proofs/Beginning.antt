@@ -6,7 +6,7 @@ use Rattle.std.specs.Option.{ForSome}
 use Rattle.rg_host.specs.Image.{Image}
 use Rattle.rg_host.specs.Lines.{ended, lines_of}
 use Rattle.rg_host.specs.Moments.{Moment, Moments}
-use Rattle.rg_host.proofs.Runs.{moments-weaker}
+use Rattle.rg_host.proofs.Laws.{moments-weaker}
 use Rattle.rg_event.specs.declared.event.Event.{Event}
 use Rattle.rg_event.specs.Rising.{IsRising, next_offset}
 use Rattle.rg_config.specs.Plans.{Planned}
@@ -15,10 +15,9 @@ use Rattle.rg_state.specs.Rows.{Cells}
 use Rattle.rg_run_spec.specs.Laws.{IsPrefixOf}
 use Rattle.rg_run_spec.specs.Steps.{IsAtRest, IsMidStep, IsStepped}
 use Rattle.rg_run_spec.specs.Stores.{Store, Course, IsKeptInStore, IsNear, StaysOnCourseSince}
-use Rattle.rg_run_spec.proofs.Betweens.{at_rest_first}
-use Rattle.rg_run_spec.proofs.Keeping.{after_step, mid_step_kept}
+use Rattle.rg_run_spec.proofs.Laws.{at_rest_first, after_step, mid_step_kept}
 use Rattle.rg_log.specs.Filled.{HasEventsFor, IsOfSchemaFor}
-use Rattle.rg_log.proofs.Filled.{rising_for}
+use Rattle.rg_log.proofs.Laws.{rising_for}
 use Rattle.rg_open.specs.Stores.{HasSaved, IsOfPlan, IsGrownTo, Has, has_fewer, store_of}
 use Rattle.rg_open.specs.Truth.{IsTruthfulImage}
 use Rattle.rg_open.specs.Within.{IsAsRead, IsInOpening, IsAfterOpening, IsWithinOpening}

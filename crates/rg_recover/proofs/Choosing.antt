@@ -3,7 +3,7 @@ use Rattle.std.proofs.Common.{◌≡◌, ◌⊎◌, inl, inr, ◌+◌, ◌-◌, 
 use Rattle.std.specs.Prelude.{◌==◌, if◌then◌else◌, IfErr, IfOk, OnErr, OnOk, Result, is_some}
 use Rattle.std.proofs.lemmas.Bool.{ltb-true, ltb-false, leb-true, leb-false, le-leb, lt-leb}
 use Rattle.rg_host.specs.Image.{Image, Becomes, InFile}
-use Rattle.rg_host.proofs.Runs.{becomes-weaker}
+use Rattle.rg_host.proofs.Laws.{becomes-weaker}
 use Rattle.rg_past.specs.declared.past.Spot.{Spot}
 use Rattle.rg_state.specs.Changes.{Marks}
 use Rattle.rg_state.specs.Rows.{Cells, Same}
@@ -13,8 +13,8 @@ use Rattle.rg_frame.specs.Steps.{Grown}
 use Rattle.rg_checkpoint.specs.Slots.{AreSizes, Attached, IsKeep, IsOnly, other_of, sizes_in, with_sizes}
 use Rattle.rg_checkpoint.specs.Writing.{Encodes, EncodesChanges}
 use Rattle.rg_checkpoint.specs.declared.sizes.SlotSizes.{SlotSizes}
-use Rattle.rg_checkpoint.proofs.Lengthening.{below_two}
-use Rattle.rg_open.proofs.Steps.{other_below}
+use Rattle.rg_checkpoint.proofs.Laws.{below_two}
+use Rattle.rg_open.proofs.Laws.{other_below}
 use Rattle.rg_recover.specs.Saving.{may_extend, InSlot, IsByRule, IsChosen, IsChosenOver, IsExtended, IsOfKept, IsOfSlot, IsWant, KeepsMarks, KeepsRows, Framed, IsSaved, SavesByRule, SavesExactly, sizes_then, slot_for}
 use Rattle.rg_recover.specs.Sessions.{Sitting, HasKept, count_in}
 use Rattle.rg_recover.specs.Stepping.{SlotsStay}

@@ -7,7 +7,7 @@ use Rattle.rg_past.specs.declared.past.Spot.{Spot}
 use Rattle.rg_config.specs.Plans.{Planned}
 use Rattle.rg_state.specs.Changes.{Marks, NoMarks, IsSince}
 use Rattle.rg_state.specs.Rows.{Cells, Entry, Lists, Same, at_in}
-use Rattle.rg_state.proofs.Listed.{at_lists}
+use Rattle.rg_state.proofs.Laws.{at_lists}
 use Rattle.rg_checkpoint.specs.Base.{IsBase}
 use Rattle.rg_checkpoint.specs.Sizes.{HasSizes, OfSizes, longer, more_sizes, sizes_of}
 use Rattle.rg_checkpoint.specs.Slots.{AreSizes, Attached, HasSlot, IsOnly, Lengthened, Written, other_of, sizes_in}
@@ -15,8 +15,7 @@ use Rattle.rg_checkpoint.specs.Updates.{Applies, IsUpdate}
 use Rattle.rg_checkpoint.specs.Writing.{Encodes, EncodesChanges}
 use Rattle.rg_checkpoint.specs.declared.base.Checkpoint.{Checkpoint}
 use Rattle.rg_checkpoint.specs.declared.sizes.SlotSizes.{SlotSizes}
-use Rattle.rg_checkpoint.proofs.Extending.{payload_applies}
-use Rattle.rg_checkpoint.proofs.Lengthening.{grown_sizes, only_sizes}
+use Rattle.rg_checkpoint.proofs.Laws.{payload_applies, grown_sizes, only_sizes}
 use Rattle.rg_reservoir.specs.Kept.{base, opened}
 use Rattle.rg_open.specs.Opened.{IsKeptSince}
 use Rattle.rg_recover.specs.Saving.{Framed, IsChosen, Turned, sizes_then, slot_for}

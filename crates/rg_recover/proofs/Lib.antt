@@ -1,3 +1,4 @@
+pub mod Laws
 pub mod Within
 pub mod Sound
 pub mod Ready

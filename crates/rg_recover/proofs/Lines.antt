@@ -20,7 +20,7 @@ use Rattle.rg_row.specs.declared.fault.RowFault.{RowFault}
 use Rattle.rg_state.specs.Changes.{Marks}
 use Rattle.rg_state.specs.Rows.{Cells}
 use Rattle.rg_run_spec.specs.Verdicts.{Verdict, refused, accepted, moved, verdict_of, or_reply, fault_reply, accepted_after, reply_of}
-use Rattle.rg_run_spec.proofs.Verdicts.{is_late, is_full, is_moved, is_accepted}
+use Rattle.rg_run_spec.proofs.Laws.{is_late, is_full, is_moved, is_accepted}
 use Rattle.rg_reservoir.specs.Kept.{base}
 use Rattle.rg_recover.specs.Deciding.{verdict_on, as_verdict, answered_as, AreBefore, HasAnswers}
 use Rattle.rg_recover.specs.Sessions.{Sitting, IsRunning, events_of}

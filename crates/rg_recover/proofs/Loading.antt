@@ -3,7 +3,7 @@ use Rattle.std.proofs.Common.{◌≡◌, ◌⊎◌, inl, inr, ◌≤◌, ℕ, Li
 use Rattle.std.specs.Option.{ForSome}
 use Rattle.std.specs.Prelude.{All}
 use Rattle.rg_host.specs.Image.{Image, SameOutcomes}
-use Rattle.rg_host.proofs.Runs.{nothing_pending-kept}
+use Rattle.rg_host.proofs.Laws.{nothing_pending-kept}
 use Rattle.rg_event.specs.declared.event.Event.{Event}
 use Rattle.rg_config.specs.Plans.{Planned}
 use Rattle.rg_plan.specs.Plans.{plan_for}

@@ -4,7 +4,7 @@ use Rattle.std.proofs.lemmas.List.{append-nil}
 use Rattle.std.specs.Option.{ForSome}
 use Rattle.rg_host.specs.Image.{Image}
 use Rattle.rg_host.specs.Moments.{Moment}
-use Rattle.rg_host.proofs.Runs.{moments_then, moments-weaker}
+use Rattle.rg_host.proofs.Laws.{moments_then, moments-weaker}
 use Rattle.rg_event.specs.declared.event.Event.{Event}
 use Rattle.rg_frame.specs.Calls.{Writes}
 use Rattle.rg_frame.specs.Steps.{Leaves}

@@ -8,12 +8,12 @@ use Rattle.rg_host.specs.Files.{image_of}
 use Rattle.rg_host.specs.MemHost.{Ledger, begun, now_in, may_in, said_in}
 use Rattle.rg_host.specs.Lines.{ended, lines_of}
 use Rattle.rg_frame.specs.Frames.{HasPayloads}
-use Rattle.rg_frame.proofs.Gates.{none-empty}
+use Rattle.rg_frame.proofs.Laws.{none-empty}
 use Rattle.rg_log.specs.Log.{HasEvents}
-use Rattle.rg_log.proofs.Filled.{few_for}
+use Rattle.rg_log.proofs.Laws.{few_for}
 use Rattle.rg_checkpoint.specs.declared.base.Checkpoint.{Checkpoint}
 use Rattle.rg_checkpoint.specs.Slots.{HasNoSlot, IsSlot}
-use Rattle.rg_checkpoint.proofs.SlotLaws.{none_slot}
+use Rattle.rg_checkpoint.proofs.Laws.{none_slot}
 use Rattle.rg_config.specs.Plans.{Planned}
 use Rattle.rg_run_spec.specs.Output.{text_of_run}
 use Rattle.rg_open.specs.Opening.{IsFromIn}

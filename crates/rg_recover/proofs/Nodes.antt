@@ -15,7 +15,7 @@ use Rattle.rg_window.specs.Placed.{IsSpelledAt, numbers_of}
 use Rattle.rg_engine.specs.Carrying.{CarriesOn}
 use Rattle.rg_engine.specs.Seen.{Seen}
 use Rattle.rg_engine.specs.Standing.{NodeStands, RowIs}
-use Rattle.rg_engine.proofs.Taken.{told_later}
+use Rattle.rg_engine.proofs.Laws.{told_later}
 use Rattle.rg_reservoir.specs.Kept.{Base, base, opened, all_events, IsSound, Spells}
 use Rattle.rg_reservoir.specs.declared.reservoir.Reservoir.{Reservoir}
 use Rattle.rg_restore.specs.Truthful.{NodeGoes}

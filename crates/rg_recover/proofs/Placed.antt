@@ -9,7 +9,7 @@ use Rattle.rg_window.specs.Placed.{IsSpelledAt}
 use Rattle.rg_engine.specs.Seen.{Seen}
 use Rattle.rg_reservoir.specs.Kept.{Base, base, opened, IsSound, Spells}
 use Rattle.rg_reservoir.specs.declared.reservoir.Reservoir.{Reservoir}
-use Rattle.rg_restore.proofs.Placing.{all_later}
+use Rattle.rg_restore.proofs.Laws.{all_later}
 use Rattle.rg_open.specs.Opened.{IsOpenedFor}
 use Rattle.rg_open.specs.Blame.{IsPlaced}
 use Rattle.rg_recover.specs.Stepping.{LogStays}

@@ -19,8 +19,7 @@ use Rattle.rg_window.specs.Placed.{IsSpelledAt, numbers_of}
 use Rattle.rg_reservoir.specs.Kept.{Base, base, opened, all_events, IsSound, Spells}
 use Rattle.rg_reservoir.specs.declared.reservoir.Reservoir.{Reservoir}
 use Rattle.rg_restore.specs.Truthful.{EngineStands}
-use Rattle.rg_restore.proofs.Placing.{are_at, spelled_in}
-use Rattle.rg_restore.proofs.Standing.{carries, stands}
+use Rattle.rg_restore.proofs.Laws.{are_at, spelled_in, carries, stands}
 use Rattle.rg_run_spec.specs.Steps.{IsStepped}
 use Rattle.rg_open.specs.Stores.{store_of}
 use Rattle.rg_open.specs.Opened.{IsOpenedFor, IsInStep}

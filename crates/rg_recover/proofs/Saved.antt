@@ -27,7 +27,7 @@ use Rattle.rg_run_spec.specs.Steps.{IsMidStep, IsStepped, IsSavedTo}
 use Rattle.rg_open.specs.Stores.{store_of, HasSaved}
 use Rattle.rg_open.specs.Opened.{IsKeptSince, IsToExtend, IsToSave}
 use Rattle.rg_open.specs.Truth.{IsTrueOf, texts_of}
-use Rattle.rg_open.proofs.Steps.{other_below}
+use Rattle.rg_open.proofs.Laws.{other_below}
 use Rattle.rg_recover.specs.Saving.{IsChosen, IsToWrite, Turned, Turning, slot_for}
 use Rattle.rg_recover.specs.Sessions.{Sitting, IsRunning, count_in}
 use Rattle.rg_recover.specs.Stepping.{LogStays}

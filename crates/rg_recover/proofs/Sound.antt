@@ -11,11 +11,11 @@ use Rattle.rg_event.specs.declared.event.Event.{Event}
 use Rattle.rg_frame.specs.LogState.{Reaches, ReachesEnd}
 use Rattle.rg_event.specs.Shapes.{Shape}
 use Rattle.rg_log.specs.Log.{joined, HasEvents, IsInForce}
-use Rattle.rg_log.proofs.Staging.{events_of_schema}
+use Rattle.rg_log.proofs.Laws.{events_of_schema}
 use Rattle.rg_reservoir.specs.Kept.{Base, base, opened, log_of, cache_of, next_of, time_of, stored, all_events, IsSound, IsRight}
 use Rattle.rg_reservoir.specs.GoingLaws.{all_long}
 use Rattle.rg_reservoir.specs.declared.reservoir.Reservoir.{Reservoir}
-use Rattle.rg_reservoir.proofs.Seeking.{stored_is}
+use Rattle.rg_reservoir.proofs.Laws.{stored_is}
 use Rattle.rg_past.specs.declared.past.Spot.{Spot}
 use Rattle.rg_window.specs.Placed.{AreWithin}
 use Rattle.rg_recover.specs.Sessions.{count_in}

@@ -3,7 +3,7 @@ use Rattle.std.proofs.Common.{◌≡◌, ◌≢◌, ◌<◌, ◌≤◌, inl, ref
 use Rattle.std.specs.Option.{ForSome}
 use Rattle.rg_host.specs.Image.{Image, NothingPending}
 use Rattle.rg_host.specs.Moments.{Moment, LeavesAll}
-use Rattle.rg_host.proofs.Runs.{moments-weaker, moments_then, leaves_all-none}
+use Rattle.rg_host.proofs.Laws.{moments-weaker, moments_then, leaves_all-none}
 use Rattle.rg_frame.specs.Calls.{Writes}
 use Rattle.rg_frame.specs.Steps.{Leaves}
 use Rattle.rg_checkpoint.specs.Slots.{other_of}

@@ -2,7 +2,7 @@
 use Rattle.std.proofs.Common.{ℕ, Option, refl, sym, subst}
 use Rattle.rg_host.specs.Image.{Image}
 use Rattle.rg_host.specs.Moments.{Moment, LeavesFiles}
-use Rattle.rg_host.proofs.Runs.{nothing_pending-kept}
+use Rattle.rg_host.proofs.Laws.{nothing_pending-kept}
 use Rattle.rg_config.specs.Plans.{Planned}
 use Rattle.rg_state.specs.Changes.{Marks}
 use Rattle.rg_state.specs.Rows.{Cells}
@@ -10,7 +10,7 @@ use Rattle.rg_checkpoint.specs.Slots.{sizes_in}
 use Rattle.rg_plan.specs.Plans.{plan_for}
 use Rattle.rg_restore.specs.Truthful.{EngineStands}
 use Rattle.rg_reservoir.specs.Kept.{base, opened, all_events, Spells}
-use Rattle.rg_reservoir.proofs.Peeking.{sound_stays}
+use Rattle.rg_reservoir.proofs.Laws.{sound_stays}
 use Rattle.rg_recover.specs.Sessions.{Sitting, IsRunning}
 use Rattle.rg_recover.proofs.Stays.{kept_on, slots_quiet}
 

@@ -3,7 +3,7 @@ use Rattle.std.proofs.Common.{◌≡◌, inl, ℕ, ◌≤◌, List, Option, Some
 use Rattle.std.specs.Option.{ForSome}
 use Rattle.rg_host.specs.Image.{Image}
 use Rattle.rg_host.specs.Moments.{Moment}
-use Rattle.rg_host.proofs.Runs.{moments-none}
+use Rattle.rg_host.proofs.Laws.{moments-none}
 use Rattle.rg_config.specs.Plans.{Planned}
 use Rattle.rg_open.specs.Unfit as opened
 use Rattle.rg_open.specs.Unfit.{IsLeftAlone}

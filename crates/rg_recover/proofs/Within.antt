@@ -4,13 +4,13 @@ use Rattle.std.proofs.lemmas.List.{append-nil}
 use Rattle.std.specs.Option.{ForSome}
 use Rattle.rg_host.specs.Image.{Image, Becomes, InFile, NothingPending}
 use Rattle.rg_host.specs.Moments.{Moment, LeavesAll}
-use Rattle.rg_host.proofs.Runs.{moments-weaker, moments_then, leaves_all-none}
+use Rattle.rg_host.proofs.Laws.{moments-weaker, moments_then, leaves_all-none}
 use Rattle.rg_event.specs.declared.event.Event.{Event}
 use Rattle.rg_frame.specs.Calls.{Writes}
 use Rattle.rg_frame.specs.Steps.{Leaves, OthersStay}
 use Rattle.rg_run_spec.specs.Stores.{Store}
 use Rattle.rg_run_spec.specs.Steps.{IsMidStep, IsStepped}
-use Rattle.rg_run_spec.proofs.Hosts.{same_mid_step, same_stepped, stepped_then_mid_step}
+use Rattle.rg_run_spec.proofs.Laws.{same_mid_step, same_stepped, stepped_then_mid_step}
 use Rattle.rg_recover.specs.Stepping.{IsWithinStep, IsStored}
 
 -- an image after a step is one within it

@@ -15,7 +15,7 @@ use Rattle.rg_engine.specs.declared.fault.EngineFault.TheVariants as fault
 use Rattle.rg_engine.specs.Carrying.{CarriesOn, EdgesMove}
 use Rattle.rg_engine.specs.Feeding.{IsFed}
 use Rattle.rg_engine.specs.Standing.{NodeStands}
-use Rattle.rg_engine.proofs.Taken.{all_told}
+use Rattle.rg_engine.proofs.Laws.{all_told}
 use Rattle.rg_past_prefix.specs.Shows.{IsSoundFront, SpellsFront}
 use Rattle.rg_replay.specs.Going.{Replays, IsOutside}
 

@@ -1,5 +1,6 @@
 pub mod Causes
 pub mod Going
+pub mod Laws
 pub mod Lines
 pub mod Played
 pub mod Progress

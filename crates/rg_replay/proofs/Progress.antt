@@ -9,7 +9,7 @@ use Rattle.rg_reply.specs.Texts.{mark_line}
 use Rattle.rg_reply.specs.declared.mark.Mark.TheVariants.{Finished}
 use Rattle.rg_host.specs.Lines.{ended}
 use Rattle.rg_host.specs.Puts.{IsPrefix}
-use Rattle.rg_host.proofs.Endings.{ended-append}
+use Rattle.rg_host.proofs.Laws.{ended-append}
 use Rattle.rg_replay.specs.declared.fault.ReplayFault.{ReplayFault}
 use Rattle.rg_replay.specs.declared.fault.ReplayFault.TheVariants.{Write}
 use Rattle.rg_replay.specs.Playing.{StopsIn, IsExpected, PutsLines, AreAdded, Gathered, Answered}

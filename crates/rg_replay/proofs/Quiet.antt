@@ -6,7 +6,7 @@ use Rattle.rg_bytes.specs.Known.{after}
 use Rattle.rg_host.specs.Image.{Image}
 use Rattle.rg_host.specs.Moments.{Moment, LeavesFiles, LeavesAll}
 use Rattle.rg_host.specs.Puts.{Puts}
-use Rattle.rg_host.proofs.Runs.{moments-weaker, leaves_files-none, leaves_files-then}
+use Rattle.rg_host.proofs.Laws.{moments-weaker, leaves_files-none, leaves_files-then}
 use Rattle.rg_event.specs.Shapes.{Shape}
 use Rattle.rg_reservoir.specs.Attached.{HasView}
 use Rattle.rg_reservoir.specs.Chain.{IsIllegalBy}

@@ -15,7 +15,7 @@ use Rattle.rg_run_spec.specs.Verdicts.{Basis, Verdict, control_at, verdict_of, o
 use Rattle.rg_run_spec.specs.Verdicts.Verdict.{refused, obeyed, accepted, moved}
 use Rattle.rg_run_spec.specs.Accepted.{verdict_from, after_turn, events_before, events_after}
 use Rattle.rg_run_spec.specs.Output.{Terms, turn_lines}
-use Rattle.rg_run_spec.proofs.Events.{read_fits}
+use Rattle.rg_run_spec.proofs.Laws.{read_fits}
 use Rattle.rg_replay.specs.Replay.{replay_lines, line_from}
 use Rattle.rg_replay.specs.Runs.{with_ok, reply_if, answered_at, answered_before, where_from, answered_from}
 use Rattle.rg_replay.proofs.Lines.{lines_push, line_kept, none_before, below_next}

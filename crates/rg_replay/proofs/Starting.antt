@@ -17,11 +17,10 @@ use Rattle.rg_engine.specs.Feeding.{IsFed}
 use Rattle.rg_engine.specs.Seen.{Seen}
 use Rattle.rg_engine.specs.Standing.{RowIs, NodeStands}
 use Rattle.rg_reservoir.specs.Kept.{base, opened, next_of, time_of, cache_of, stored, all_events, IsSound, IsRight, Spells}
-use Rattle.rg_log.proofs.Staging.{events_of_schema}
+use Rattle.rg_log.proofs.Laws.{events_of_schema}
 use Rattle.rg_reservoir.specs.GoingLaws.{all_long}
 use Rattle.rg_reservoir.specs.declared.reservoir.Reservoir.{Reservoir}
-use Rattle.rg_reservoir.proofs.Seeking.{stored_is}
-use Rattle.rg_reservoir.proofs.Peeking.{sound_stays}
+use Rattle.rg_reservoir.proofs.Laws.{stored_is, sound_stays}
 use Rattle.rg_replay.specs.Playing.{count_in, IsPlaced, IsPlaying, HasBegun, IsReadFor, start_of}
 
 -- of no events there is no row

@@ -3,7 +3,7 @@ use Rattle.std.proofs.Common.{◌≡◌, inl, inr, ℕ, ◌≤◌, List, [], ◌
 use Rattle.std.specs.Option.{ForSome}
 use Rattle.rg_host.specs.Image.{Image, Becomes, InFile}
 use Rattle.rg_host.specs.Moments.{Moment}
-use Rattle.rg_host.proofs.Runs.{moments-none, moments-weaker, becomes-weaker}
+use Rattle.rg_host.proofs.Laws.{moments-none, moments-weaker, becomes-weaker}
 use Rattle.rg_event.specs.declared.event.Event.{Event}
 use Rattle.rg_event.specs.declared.schema.Field.{Field}
 use Rattle.rg_frame.specs.Calls.{Writes}

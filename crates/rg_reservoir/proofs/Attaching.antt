@@ -6,9 +6,9 @@ use Rattle.rg_event.specs.declared.event.Event.{Event}
 use Rattle.rg_event.specs.Rising.{IsRising, next_offset, last_time}
 use Rattle.rg_event.specs.Shapes.{Shape, IsSchema}
 use Rattle.rg_growth.specs.Filling.{Given}
-use Rattle.rg_growth.proofs.Filled.{not_itself}
+use Rattle.rg_growth.proofs.Laws.{not_itself}
 use Rattle.rg_frame.specs.Frames.{frames, HasPayloads}
-use Rattle.rg_frame.proofs.FrameLists.{payloads_one}
+use Rattle.rg_frame.proofs.Laws.{payloads_one}
 use Rattle.rg_cache.specs.Cache.{Cache, item_at}
 use Rattle.rg_log.specs.declared.summary.LogSummary.{LogSummary}
 use Rattle.rg_log.specs.declared.entry.LogSoFar.{LogSoFar}
@@ -16,9 +16,7 @@ use Rattle.rg_log.specs.Entries.{behind, summary_of}
 use Rattle.rg_log.specs.Filled.{HasEventsFor}
 use Rattle.rg_log.specs.Log.{schema_payload, joined, HasEvents, IsInForce}
 use Rattle.rg_log.specs.Stages.{Stage, logged, HasStages}
-use Rattle.rg_log.proofs.Filled.{unframed_events, grown_for}
-use Rattle.rg_log.proofs.Folds.{legal as legal_says}
-use Rattle.rg_log.proofs.Growing.{begun_log, in_force_of}
+use Rattle.rg_log.proofs.Laws.{unframed_events, grown_for, legal as legal_says, begun_log, in_force_of}
 use Rattle.rg_reservoir.specs.Attached.{Opens, IsOpened, IsOther, IsForeign, IsBadFrame}
 use Rattle.rg_reservoir.specs.Chain.{chunk_in, chunk_at, Chain}
 use Rattle.rg_reservoir.specs.GrownViews.{growths_from, IsViewOf}

@@ -3,7 +3,7 @@ use Rattle.std.proofs.Common.{◌≡◌, ◌∙◌, ℕ, zero, suc, ◌+◌, ◌
 use Rattle.std.specs.Prelude.{slice_get}
 use Rattle.rg_event.specs.declared.event.Event.{Event}
 use Rattle.rg_frame.specs.Frames.{payload_at}
-use Rattle.rg_log.proofs.ChunkHeads.{chunk_size}
+use Rattle.rg_log.proofs.Laws.{chunk_size}
 use Rattle.rg_log.specs.Log.{joined}
 use Rattle.rg_reservoir.specs.Chain.{chunk_at, Chain, with_chunk, events_from, padded}
 use Rattle.rg_reservoir.specs.Views.{View, shape_at}

@@ -6,7 +6,7 @@ use Rattle.rg_event.specs.Codec.{IsEventOf}
 use Rattle.rg_event.specs.declared.event.Event.{Event}
 use Rattle.rg_event.specs.Rising.{IsRising, next_offset, last_time}
 use Rattle.rg_past.specs.declared.past.Spot.{Spot}
-use Rattle.rg_frame.proofs.FrameLists.{payloads_one}
+use Rattle.rg_frame.proofs.Laws.{payloads_one}
 use Rattle.rg_frame.specs.Frames.{frames, IsLog, HasPayloads, EndsAt}
 use Rattle.rg_frame.specs.Looks.{IsClosed}
 use Rattle.rg_frame.specs.Steps.{Leaves, From, Grown}
@@ -14,13 +14,12 @@ use Rattle.rg_host.specs.Image.{NothingPending}
 use Rattle.rg_cache.specs.Cache.{Cache}
 use Rattle.rg_chunk.specs.Chunks.{chunk_bytes, chunk_of}
 use Rattle.rg_chunk.specs.declared.head.Layout.TheVariants.{Columns}
-use Rattle.rg_chunk.proofs.Chunks.{chunk_back}
+use Rattle.rg_chunk.proofs.Laws.{chunk_back}
 use Rattle.rg_reservoir.specs.declared.kept.Kept.{Kept}
 use Rattle.std.proofs.lemmas.List.Elements.{All-from_recursion}
 use Rattle.rg_log.specs.Log.{schema_payload, joined, IsChunkOf, HasEvents, IsInForce}
 use Rattle.rg_log.specs.Stages.{chunk}
-use Rattle.rg_log.proofs.Growing.{adds_log, added_log}
-use Rattle.rg_log.proofs.Shapes.{head_same}
+use Rattle.rg_log.proofs.Laws.{adds_log, added_log, head_same}
 use Rattle.rg_reservoir.specs.Chain.{chunk_in, chunk_at, Chain, with_chunk, events_from, padded}
 use Rattle.rg_reservoir.specs.GrownViews.{IsViewOf, IsUngrown}
 use Rattle.rg_event.specs.Shapes.{Shape}

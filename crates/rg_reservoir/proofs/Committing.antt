@@ -8,8 +8,7 @@ use Rattle.std.specs.Int.{to_be_bytes, from_be_bytes, w64}
 use Rattle.rg_event.specs.declared.event.Event.{Event}
 use Rattle.rg_frame.specs.Frames.{body, frames, Ends, IsLog, size_in, payload_in, payload_at}
 use Rattle.rg_frame.specs.Looks.{IsClosed}
-use Rattle.rg_frame.proofs.FrameLaws.{frames-push}
-use Rattle.rg_frame.proofs.Payloads.{holds_payload}
+use Rattle.rg_frame.proofs.Laws.{frames-push, holds_payload}
 use Rattle.rg_reservoir.specs.Chain.{chunk_in, chunk_at, Chain}
 use Rattle.rg_reservoir.specs.Views.{View}
 use Rattle.rg_reservoir.proofs.Chains.{some_none}

@@ -4,7 +4,7 @@ use Rattle.rg_event.specs.declared.event.Event.{Event}
 use Rattle.rg_event.specs.declared.schema.Field.{Field}
 use Rattle.rg_frame.specs.Frames.{body, payload_at}
 use Rattle.rg_frame.specs.Looks.{IsTorn, IsClosed, HoldsFrame}
-use Rattle.rg_frame.proofs.Payloads.{holds_payload, torn_payload, closed_payload}
+use Rattle.rg_frame.proofs.Laws.{holds_payload, torn_payload, closed_payload}
 use Rattle.rg_chunk.specs.Chunks.{chunk_of}
 use Rattle.rg_reservoir.specs.Chain.{chunk_in, chunk_at, IsIllegal, IsIllegalBy}
 use Rattle.rg_reservoir.specs.Views.{View, shape_at, grown_at, passed}

@@ -4,7 +4,7 @@ use Rattle.std.specs.Prelude.{IsErrOf}
 use Rattle.std.specs.Option.{ForSome}
 use Rattle.rg_host.specs.Image.{Image, Becomes, InFile, NothingPending}
 use Rattle.rg_host.specs.Moments.{Moment, LeavesAll}
-use Rattle.rg_host.proofs.Runs.{moments_then, leaves_all-none, leaves_all-then, leaves_all-settled}
+use Rattle.rg_host.proofs.Laws.{moments_then, leaves_all-none, leaves_all-then, leaves_all-settled}
 use Rattle.rg_event.specs.Shapes.{Shape, IsSchema}
 use Rattle.rg_event.specs.declared.value.Value.{Value}
 use Rattle.rg_growth.specs.Filling.{Given, IsFilled, growth_to}
@@ -13,14 +13,12 @@ use Rattle.rg_frame.specs.Calls.{Writes}
 use Rattle.rg_frame.specs.Frames.{frames, IsLog, payload_at}
 use Rattle.rg_frame.specs.LogState.{LogState, ReachesEnd}
 use Rattle.rg_frame.specs.Steps.{Leaves, From, Grows, Grown, Appended}
-use Rattle.rg_frame.proofs.FrameLaws.{length-frames}
-use Rattle.rg_frame.proofs.Runs.{Same, writes-quiet, writes-weaker}
+use Rattle.rg_frame.proofs.Laws.{length-frames, Same, writes-quiet, writes-weaker}
 use Rattle.rg_log.specs.declared.entry.LogSoFar.{LogSoFar}
 use Rattle.rg_log.specs.declared.summary.LogSummary.{LogSummary}
 use Rattle.rg_log.specs.Entries.{nothing, unread, behind, entries_after}
 use Rattle.rg_log.specs.Log.{schema_payload}
-use Rattle.rg_log.proofs.Entries.{behind_is, first as first_step, growth_step}
-use Rattle.rg_log.proofs.Folds.{entries_push, says as all_say}
+use Rattle.rg_log.proofs.Laws.{behind_is, first as first_step, growth_step, entries_push, says as all_say}
 use Rattle.rg_reservoir.specs.Attached.{IsToGrow, growth_payload, LogOpens, IsOpened, HasView}
 use Rattle.rg_reservoir.specs.GrownViews.{growing_at}
 use Rattle.rg_reservoir.specs.Heads.{growths_in}

@@ -8,10 +8,10 @@ use Rattle.rg_event.specs.declared.value.Value.{Value}
 use Rattle.rg_growth.specs.Payloads.{IsGrowth, growth_of}
 use Rattle.rg_growth.specs.declared.growth.Growth.{Growth as TheGrowth}
 use Rattle.rg_frame.specs.Frames.{frames, FitsFrame, Begins, IsLog, HasPayloads}
-use Rattle.rg_frame.proofs.FrameLaws.{length-frames}
+use Rattle.rg_frame.proofs.Laws.{length-frames}
 use Rattle.rg_chunk.specs.Heads.{head_of, head_for}
 use Rattle.rg_chunk.specs.declared.head.ChunkHead.{ChunkHead}
-use Rattle.rg_chunk.proofs.Chunks.{chunk_head}
+use Rattle.rg_chunk.proofs.Laws.{chunk_head}
 use Rattle.rg_log.specs.declared.entry.Entry.{Entry}
 use Rattle.rg_log.specs.declared.entry.Entry.TheVariants.{Schema, Chunk, Growth}
 use Rattle.rg_log.specs.declared.entry.LogSoFar.{LogSoFar}
@@ -19,9 +19,7 @@ use Rattle.rg_log.specs.declared.summary.LogSummary.{LogSummary}
 use Rattle.rg_log.specs.Entries.{unread, told_by, head_or, entry_of, with_entry, entry_after, entries_after}
 use Rattle.rg_log.specs.Log.{schema_payload}
 use Rattle.rg_log.specs.Stages.{Stage, chunk, growth, AreStages}
-use Rattle.rg_log.proofs.Folds.{two_steps}
-use Rattle.rg_log.proofs.Reading.{schema_said}
-use Rattle.rg_log.proofs.StageReading.{growth_headless, growth_read}
+use Rattle.rg_log.proofs.Laws.{two_steps, schema_said, growth_headless, growth_read}
 use Rattle.rg_reservoir.specs.Heads.{EntryAt, IsPassed, with_growing, growths_by, growths_in, Gathered, GrowsWith}
 use Rattle.rg_reservoir.specs.HeadsRead.{IsReadLog}
 use Rattle.rg_reservoir.specs.GrownViews.{growing_at, growths_from}

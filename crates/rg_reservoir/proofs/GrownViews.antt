@@ -7,16 +7,13 @@ use Rattle.rg_event.specs.Shapes.{Shape}
 use Rattle.rg_event.specs.declared.event.Event.{Event}
 use Rattle.rg_frame.specs.Frames.{frames, HasPayloads, payload_at}
 use Rattle.rg_frame.specs.Steps.{Grown}
-use Rattle.rg_frame.proofs.FrameLaws.{length-frames, length-frames-push}
-use Rattle.rg_frame.proofs.Payloads.{payload_between, payload_none}
+use Rattle.rg_frame.proofs.Laws.{length-frames, length-frames-push, payload_between, payload_none}
 use Rattle.rg_chunk.specs.Chunks.{chunk_of}
 use Rattle.rg_chunk.specs.Extended.{all_extended}
 use Rattle.rg_log.specs.Log.{schema_payload, joined, IsLegalLog, HasFrame}
 use Rattle.rg_log.specs.Plain.{IsPlainLog}
 use Rattle.rg_log.specs.Stages.{Stage, chunk, growth, shape_after, in_force, IsStage, AreStages, values_of, logged, plain as plain_stages, HasStages}
-use Rattle.rg_log.proofs.Extending.{extended-none, extended-twice}
-use Rattle.rg_log.proofs.Shapes.{one_shape}
-use Rattle.rg_log.proofs.Plain.{as_before}
+use Rattle.rg_log.proofs.Laws.{extended-none, extended-twice, one_shape, as_before}
 use Rattle.rg_reservoir.specs.Chain.{chunk_in, chunk_at, Chain, events_from}
 use Rattle.rg_reservoir.specs.GrownViews.{growing_at, growths_from, grown_view, IsViewOf, IsReadThrough, IsUngrown, view_after}
 use Rattle.rg_reservoir.specs.Views.{View, seen_from, plain, before, shape_at, grown_at, passed}

@@ -7,13 +7,11 @@ use Rattle.std.specs.Int.{to_be_bytes, w64}
 use Rattle.rg_event.specs.Shapes.{Shape}
 use Rattle.rg_frame.specs.Frames.{frames, body, FitsFrame, Begins, IsLog, payload_at}
 use Rattle.rg_frame.specs.Looks.{HoldsFrame, IsTorn, Next}
-use Rattle.rg_frame.proofs.FrameLaws.{frames-push}
-use Rattle.rg_frame.proofs.FrameLists.{fits_push}
-use Rattle.rg_frame.proofs.Payloads.{holds_payload, torn_payload}
+use Rattle.rg_frame.proofs.Laws.{frames-push, fits_push, holds_payload, torn_payload}
 use Rattle.rg_log.specs.declared.entry.Entry.{Entry}
 use Rattle.rg_log.specs.declared.entry.LogSoFar.{LogSoFar}
 use Rattle.rg_log.specs.Entries.{unread, entry_of, with_entry, entry_after}
-use Rattle.rg_log.proofs.Folds.{entries_push}
+use Rattle.rg_log.proofs.Laws.{entries_push}
 use Rattle.rg_reservoir.specs.Heads.{Passed, IsOpenGate, IsBadFrame, EntryAt, IsPassed, CannotPass}
 use Rattle.rg_reservoir.proofs.Chains.{some_none}
 

@@ -8,16 +8,14 @@ use Rattle.rg_event.specs.declared.value.Value.{Value}
 use Rattle.rg_growth.specs.Filling.{Given, filled}
 use Rattle.rg_frame.specs.Frames.{frames, HasPayloads, payload_at}
 use Rattle.rg_frame.specs.Looks.{IsClosed}
-use Rattle.rg_frame.proofs.FrameLists.{payloads_one}
-use Rattle.rg_frame.proofs.Payloads.{payload_between}
+use Rattle.rg_frame.proofs.Laws.{payloads_one, payload_between}
 use Rattle.rg_log.specs.declared.entry.LogSoFar.{LogSoFar}
 use Rattle.rg_log.specs.declared.summary.LogSummary.{LogSummary}
 use Rattle.rg_log.specs.Entries.{unread, behind, summary_of, entries_after}
 use Rattle.rg_log.specs.Filled.{HasEventsFor}
 use Rattle.rg_log.specs.Log.{HasEvents, HasFrame, IsInForce}
 use Rattle.rg_log.specs.Stages.{logged, HasStages}
-use Rattle.rg_log.proofs.Folds.{entries_append, says as all_say, legal as legal_says, says_in_force}
-use Rattle.rg_log.proofs.Growing.{in_force_of}
+use Rattle.rg_log.proofs.Laws.{entries_append, says as all_say, legal as legal_says, says_in_force, in_force_of}
 use Rattle.rg_reservoir.specs.Attached.{IsOther, IsForeign, IsToGrow}
 use Rattle.rg_reservoir.specs.Heads.{IsOpenGate, IsBadFrame}
 use Rattle.rg_reservoir.proofs.Chains.{some_none}

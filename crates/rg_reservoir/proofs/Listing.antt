@@ -4,9 +4,7 @@ use Rattle.std.proofs.lemmas.List.{append-nil, drop_at}
 use Rattle.std.proofs.lemmas.List.Elements.{All-head, All-tail}
 use Rattle.rg_frame.specs.Frames.{frames, body, Begins, IsLog, FitsFrame, HasPayloads, payload_at}
 use Rattle.rg_frame.specs.Steps.{Grown}
-use Rattle.rg_frame.proofs.FrameLaws.{length-frames-push, frames-between}
-use Rattle.rg_frame.proofs.FrameLists.{has_payloads}
-use Rattle.rg_frame.proofs.Payloads.{holds_payload, payload_between, payload_none}
+use Rattle.rg_frame.proofs.Laws.{length-frames-push, frames-between, has_payloads, holds_payload, payload_between, payload_none}
 use Rattle.rg_reservoir.specs.Naming.{Reached}
 use Rattle.rg_reservoir.proofs.Chains.{some_none}
 

@@ -5,13 +5,13 @@ use Rattle.std.proofs.lemmas.List.{append-nil, take_more, take-append-drop}
 use Rattle.std.proofs.lemmas.Bool.{ltb-true}
 use Rattle.rg_host.specs.Image.{Image, SameOutcomes}
 use Rattle.rg_host.specs.Moments.{Moment}
-use Rattle.rg_host.proofs.Runs.{leaves_all-then}
+use Rattle.rg_host.proofs.Laws.{leaves_all-then}
 use Rattle.rg_event.specs.declared.event.Event.{Event}
 use Rattle.rg_reservoir.specs.Views.{View}
 use Rattle.rg_past.specs.declared.past.Spot.{Spot}
 use Rattle.rg_bytes.specs.Counts.{Rose}
 use Rattle.rg_cache.specs.Cache.{Cache, item_at, holds_place, places, least_recently_used, touches}
-use Rattle.rg_cache.proofs.Recency.{touched_further}
+use Rattle.rg_cache.proofs.Laws.{touched_further}
 use Rattle.rg_reservoir.specs.declared.kept.Kept.{Kept}
 use Rattle.rg_reservoir.specs.Chain.{chunk_at, Chain}
 use Rattle.rg_reservoir.specs.Kept.{Base, base, view_of, opened, next_of, time_of, cache_of, settled, IsCached, IsInside, IsRight, IsSoundIn, IsSound, InChunk, Stays, next_in, look_places, held_after, OneTouch, AllTouched}

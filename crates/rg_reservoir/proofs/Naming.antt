@@ -8,18 +8,14 @@ use Rattle.rg_event.specs.declared.event.Event.{Event}
 use Rattle.rg_event.specs.Shapes.{Shape}
 use Rattle.rg_host.specs.Image.{Image}
 use Rattle.rg_frame.specs.Frames.{payload_at, HasPayloads, Begins, IsLog}
-use Rattle.rg_frame.proofs.FrameLaws.{length-frames, length-frames-push}
-use Rattle.rg_frame.proofs.FrameLists.{payloads_one}
-use Rattle.rg_frame.proofs.Payloads.{payload_between, payload_none}
+use Rattle.rg_frame.proofs.Laws.{length-frames, length-frames-push, payloads_one, payload_between, payload_none}
 use Rattle.rg_log.specs.Entries.{nothing, unread, behind, count_of, shape_behind, further_entry, entry_of, entry_after}
 use Rattle.rg_log.specs.Log.{joined}
 use Rattle.rg_log.specs.Payloads.{schema_of}
 use Rattle.rg_log.specs.Spots.{is_in_chunk, is_at_end, named_at, named_from, named_behind, named_by_heads, NamedByHeads}
 use Rattle.rg_log.specs.declared.entry.Entry.{Entry}
 use Rattle.rg_log.specs.declared.entry.LogSoFar.{LogSoFar}
-use Rattle.rg_log.proofs.Entries.{only_first, behind_is, counted}
-use Rattle.rg_log.proofs.Naming.{in_chunk_is, at_end_is, named_in}
-use Rattle.rg_log.proofs.Reading.{schema_said}
+use Rattle.rg_log.proofs.Laws.{only_first, behind_is, counted, in_chunk_is, at_end_is, named_in, schema_said}
 use Rattle.rg_reservoir.specs.Heads.{EntryAt, IsPassed, IsBadFrame}
 use Rattle.rg_reservoir.specs.Kept.{base, opened, next_of, time_of, cache_of, IsRight, IsSound, Spells}
 use Rattle.rg_reservoir.specs.Naming.{Reached, LeftOf, Left, IsNamed, count_found}

@@ -9,9 +9,9 @@ use Rattle.rg_event.specs.Codec.{IsEventOf}
 use Rattle.rg_event.specs.declared.event.Event.{Event}
 use Rattle.rg_event.specs.Rising.{IsRising, MayFollow, next_offset, last_time}
 use Rattle.rg_past.specs.declared.past.Spot.{Spot}
-use Rattle.rg_event.proofs.Rising.{IsRising-push, next_offset-push, last_time-push}
+use Rattle.rg_event.proofs.Laws.{IsRising-push, next_offset-push, last_time-push}
 use Rattle.rg_host.specs.Moments.{Moment, LeavesAll}
-use Rattle.rg_host.proofs.Runs.{leaves_all-none}
+use Rattle.rg_host.proofs.Laws.{leaves_all-none}
 use Rattle.rg_cache.specs.Cache.{Cache}
 use Rattle.rg_reservoir.specs.declared.kept.Kept.{Kept}
 use Rattle.rg_reservoir.specs.declared.reservoir.Reservoir.{Reservoir}

@@ -8,9 +8,7 @@ use Rattle.rg_event.specs.Shapes.{Shape}
 use Rattle.rg_event.specs.declared.event.Event.{Event}
 use Rattle.rg_past.specs.declared.past.Spot.{Spot}
 use Rattle.rg_frame.specs.Frames.{frames, HasPayloads, payload_at}
-use Rattle.rg_frame.proofs.FrameLaws.{length-frames, length-frames-push}
-use Rattle.rg_frame.proofs.FrameLists.{payloads_one}
-use Rattle.rg_frame.proofs.Payloads.{payload_between, payload_none}
+use Rattle.rg_frame.proofs.Laws.{length-frames, length-frames-push, payloads_one, payload_between, payload_none}
 use Rattle.rg_cache.specs.Cache.{Cache}
 use Rattle.rg_chunk.specs.Chunks.{chunk_of}
 use Rattle.rg_chunk.specs.Extended.{all_extended}
@@ -18,11 +16,7 @@ use Rattle.rg_growth.specs.declared.growth.Growth.{Growth}
 use Rattle.rg_log.specs.Log.{schema_payload, joined, IsChunkOf}
 use Rattle.rg_log.specs.Spots.{IsInChunk, IsBetween, SpotAt, SpotIn}
 use Rattle.rg_log.specs.Stages.{Stage, chunk, growth, shape_after, in_force, IsStage, AreStages, values_of, logged}
-use Rattle.rg_log.proofs.Extending.{length-extended}
-use Rattle.rg_log.proofs.Shapes.{one_shape, head_same, rest_same}
-use Rattle.rg_log.proofs.Spelling.{after_of}
-use Rattle.rg_log.proofs.StageReading.{one_stage}
-use Rattle.rg_log.proofs.Staging.{part}
+use Rattle.rg_log.proofs.Laws.{length-extended, one_shape, head_same, rest_same, after_of, one_stage, part}
 use Rattle.rg_reservoir.specs.declared.growing.Growing.{Growing}
 use Rattle.rg_reservoir.specs.declared.kept.Kept.{Kept}
 use Rattle.rg_reservoir.specs.Chain.{chunk_in, chunk_at, Chain}

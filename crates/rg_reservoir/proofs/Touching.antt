@@ -4,7 +4,7 @@ use Rattle.rg_event.specs.declared.event.Event.{Event}
 use Rattle.rg_reservoir.specs.Views.{View}
 use Rattle.rg_past.specs.declared.past.Spot.{Spot}
 use Rattle.rg_cache.specs.Cache.{Cache, item_at, places, least_recently_used, touches}
-use Rattle.rg_cache.proofs.Recency.{touched_further}
+use Rattle.rg_cache.proofs.Laws.{touched_further}
 use Rattle.rg_reservoir.specs.declared.kept.Kept.{Kept}
 use Rattle.rg_reservoir.specs.Chain.{chunk_at}
 use Rattle.rg_reservoir.specs.Kept.{Base, view_of, IsCached, next_in, next_place, look_places, OneTouch, IsTouched}

@@ -8,7 +8,7 @@ use Rattle.rg_chunk.specs.Chunks.{Agrees, chunk_of}
 use Rattle.rg_chunk.specs.declared.fault.ChunkFault.{ChunkFault}
 use Rattle.rg_chunk.specs.declared.fault.ChunkFault.TheVariants.{BadChunk, Memory}
 use Rattle.rg_chunk.specs.Extended.{all_extended}
-use Rattle.rg_log.proofs.Extending.{length-extended}
+use Rattle.rg_log.proofs.Laws.{length-extended}
 use Rattle.rg_frame.specs.Frames.{payload_at}
 use Rattle.rg_reservoir.specs.Chain.{chunk_in, chunk_at}
 use Rattle.rg_reservoir.specs.Kept.{Base, view_of}

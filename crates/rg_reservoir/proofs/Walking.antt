@@ -14,11 +14,10 @@ use Rattle.rg_log.specs.declared.entry.Entry.{Entry}
 use Rattle.rg_log.specs.declared.entry.Entry.TheVariants as entry
 use Rattle.rg_log.specs.declared.entry.LogSoFar.{LogSoFar}
 use Rattle.rg_log.specs.declared.summary.LogSummary.{LogSummary}
-use Rattle.rg_log.proofs.Reading.{schema_said}
-use Rattle.rg_log.proofs.Entries.{entry_for, entry_said}
+use Rattle.rg_log.proofs.Laws.{schema_said, entry_for, entry_said}
 use Rattle.rg_frame.specs.Frames.{body}
 use Rattle.rg_frame.specs.Looks.{HoldsFrame, IsTorn}
-use Rattle.rg_frame.proofs.Payloads.{holds_payload, torn_payload}
+use Rattle.rg_frame.proofs.Laws.{holds_payload, torn_payload}
 use Rattle.rg_reservoir.specs.Heads.{IsOpenGate}
 use Rattle.rg_reservoir.specs.Walked.{place_of, stage_by, with_both, stage_after, IsTaken, IsNext, IsUntaken, IsRefusedWalk}
 use Rattle.rg_reservoir.specs.declared.walk.Stage.{Stage}

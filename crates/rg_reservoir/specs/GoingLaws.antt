@@ -11,7 +11,7 @@ use Rattle.rg_event.specs.Codec.{IsEventOf}
 use Rattle.rg_event.specs.Rising.{IsRising}
 use Rattle.rg_past.specs.Ranges.{IsInRange}
 use Rattle.rg_host.specs.Moments.{Moment}
-use Rattle.rg_host.proofs.Runs.{leaves_all-none, leaves_all-then}
+use Rattle.rg_host.proofs.Laws.{leaves_all-none, leaves_all-then}
 use Rattle.rg_reservoir.specs.Chain.{padded}
 use Rattle.rg_reservoir.specs.Kept.{Base, base, view_of, opened, cache_of, stored, all_events, IsCached, IsSound, SpellsSettled, LaterSettled, Spells, SpellsLater, InChunk, InFront, InOpen}
 use Rattle.rg_reservoir.specs.Views.{passed}

@@ -32,17 +32,14 @@ use Rattle.rg_run_spec.specs.Laws.{IsPrefixOf, MayLeave, below}
 use Rattle.rg_run_spec.specs.Output.{put_before}
 use Rattle.rg_run_spec.specs.Pieces.{whole_pieces}
 use Rattle.rg_run_spec.specs.Stores.{Promised, IsKeptInStore}
-use Rattle.rg_run_spec.proofs.Alike.{accepted_alike}
-use Rattle.rg_run_spec.proofs.Prefixes.{prefix_then}
-use Rattle.rg_run_spec.proofs.Texts.{pieces_prefix}
-use Rattle.rg_run_spec.proofs.Whole.{may_leave, accepted_again, left_below}
+use Rattle.rg_run_spec.proofs.Laws.{accepted_alike, prefix_then, pieces_prefix, may_leave, accepted_again, left_below}
 use Rattle.rg_open.specs.Stores.{store_of, Has, IsOfPlan}
 use Rattle.rg_open.specs.Truth.{IsTrueOf, IsTruthfulImage}
 use Rattle.rg_task.specs.Terms.{terms_of}
 use Rattle.rg_run.specs.Begun.{Begun, course_for}
 use Rattle.rg_recover.specs.Ready.{IsReadyRun, begun_by}
 use Rattle.rg_run.specs.Reading.{IsLonger}
-use Rattle.rg_recover.proofs.NewStore.{bare, no_payload, bare_truthful, bare_has, new_host}
+use Rattle.rg_recover.proofs.Laws.{bare, no_payload, bare_truthful, bare_has, new_host}
 use Rattle.rg_host.specs.Picks.{left_after}
 use Rattle.rg_host.specs.declared.pick.Pick.{Pick}
 use Rattle.rg_commands.specs.Call.{command_of}
@@ -53,7 +50,7 @@ use Rattle.rg_commands.specs.Plan.{IsPlan}
 use Rattle.rg_restarts.specs.Twice.{accepted_of, Words, IsGoingOn, IsStartable, AcceptsAlike, IsLeft, IsLastLeft, PutsRest, EndsWell, MayEnd, Runs}
 use Rattle.rg_messages.specs.declared.status.Status.{Status}
 use Rattle.rg_messages.specs.declared.status.Status.TheVariants.{Ok, Usage, Plan as BadPlan, Store, Read, Write, Disk, Limit, Memory, Gap, Differs}
-use Rattle.rg_commands.proofs.LastLines.{line_of_status}
+use Rattle.rg_commands.proofs.Laws.{line_of_status}
 
 -- Before a run.
 

@@ -6,7 +6,7 @@ use Rattle.rg_past.specs.Keeping.{HasCause}
 use Rattle.rg_past.specs.declared.past.PastFault.{PastFault}
 use Rattle.rg_past.specs.declared.past.PastFault.TheVariants.{Disk, Damaged, Full, Memory, Ended}
 use Rattle.rg_past.specs.declared.past.Spot.{Spot}
-use Rattle.rg_past.proofs.Kept.{kept-then}
+use Rattle.rg_past.proofs.Laws.{kept-then}
 use Rattle.rg_engine.specs.declared.fault.EngineFault.{EngineFault}
 use Rattle.rg_engine.specs.declared.fault.EngineFault.TheVariants as engine
 use Rattle.rg_restore.specs.Asked.{KeepsEvents, StaysNamed, IsRefused, IsUnmade}

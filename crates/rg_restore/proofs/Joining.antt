@@ -5,7 +5,7 @@ use Rattle.rg_past.specs.declared.past.Spot.{Spot}
 use Rattle.rg_plan.specs.Plans.{Tasks}
 use Rattle.rg_state.specs.Keeping.{TableKept}
 use Rattle.rg_engine.specs.Feeding.{IsFed}
-use Rattle.rg_engine.proofs.Taken.{told_later}
+use Rattle.rg_engine.proofs.Laws.{told_later}
 use Rattle.rg_checkpoint.specs.declared.base.Checkpoint.{Checkpoint}
 use Rattle.rg_restore.specs.Opening.{CanStand}
 use Rattle.rg_restore.specs.Truthful.{NodeIsTrue}

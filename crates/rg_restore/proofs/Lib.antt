@@ -1,5 +1,6 @@
 pub mod Asked
 pub mod Joining
+pub mod Laws
 pub mod Listing
 pub mod Looking
 pub mod Moving

@@ -10,7 +10,7 @@ use Rattle.std.proofs.lemmas.Bool.Decides.{Decides-eqb}
 use Rattle.std.proofs.lemmas.List.Elements.{Contains-append_left, Contains-append_right, Contains-append_cases}
 use Rattle.rg_agg.specs.Held.{Held}
 use Rattle.rg_state.specs.Rows.{Cells, Entry, IsBelow, AreRising, Lists, Others}
-use Rattle.rg_engine.proofs.Plain.{none_some, same_some}
+use Rattle.rg_engine.proofs.Laws.{none_some, same_some}
 use Rattle.rg_restore.specs.Opening.{IsEmpty}
 
 -- Rising rows

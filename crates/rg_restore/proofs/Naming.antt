@@ -10,14 +10,14 @@ use Rattle.rg_past.specs.Keeping.{HasCause}
 use Rattle.rg_past.specs.declared.past.Spot.{Spot}
 use Rattle.rg_past.specs.declared.past.PastFault.TheVariants as past
 use Rattle.rg_frame.specs.Frames.{HasPayloads}
-use Rattle.rg_frame.proofs.FrameLists.{payloads_one}
+use Rattle.rg_frame.proofs.Laws.{payloads_one}
 use Rattle.rg_reservoir.specs.declared.fault.ReservoirFault.{ReservoirFault}
 use Rattle.rg_reservoir.specs.declared.fault.ReservoirFault.TheVariants.{Disk, Damaged, Memory, Ended}
 use Rattle.rg_reservoir.specs.Attached.{IsBadFrame}
 use Rattle.rg_reservoir.specs.Faults.{to_past}
 use Rattle.rg_reservoir.specs.Kept.{Base}
 use Rattle.rg_reservoir.specs.Naming.{IsNamed}
-use Rattle.rg_reservoir.proofs.Seeking.{one_image}
+use Rattle.rg_reservoir.proofs.Laws.{one_image}
 use Rattle.rg_restore.specs.Naming.{IsListed, IsDamagedIn, HeadsName, NamesIn}
 
 -- the answer of a reservoir whose open chunk is empty and that hasn't ended

@@ -12,7 +12,7 @@ use Rattle.rg_state.specs.Rows.{Cells, Entry, Lists}
 use Rattle.rg_window.specs.Placed.{IsSpelledAt, numbers_of}
 use Rattle.rg_engine.specs.Passed.{AreAtPositions}
 use Rattle.rg_engine.specs.Standing.{RowIs, NodeStands, IsTold}
-use Rattle.rg_engine.proofs.Taken.{all_told}
+use Rattle.rg_engine.proofs.Laws.{all_told}
 use Rattle.rg_restore.specs.Truthful.{StandsFor, SpotsAt, position_in}
 use Rattle.rg_restore.proofs.Listing.{one_table}
 

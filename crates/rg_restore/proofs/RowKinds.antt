@@ -16,7 +16,7 @@ use Rattle.rg_event.specs.declared.value.Value.TheVariants.{Int, Id, Text, Flag}
 use Rattle.rg_keywords.specs.declared.func.Func.TheVariants.{Count}
 use Rattle.rg_metric.specs.Same.{same_value}
 use Rattle.rg_metric.specs.declared.query.Agg.{Agg}
-use Rattle.rg_metric.proofs.Same.{same_value-same}
+use Rattle.rg_metric.proofs.Laws.{same_value-same}
 use Rattle.rg_agg.specs.Held.{Held, counted, summed, averaged, squared, queued, ended, lowest, highest, varied, ranked}
 use Rattle.rg_agg.specs.Stands.{AreInts, last_behind, last_value}
 use Rattle.rg_agg.specs.Sharing.{kept_as}
@@ -31,10 +31,9 @@ use Rattle.rg_state.specs.States.{IsOfKind, HasKind}
 use Rattle.rg_engine.specs.Feeding.{IsServed, ColumnServes, Serves}
 use Rattle.rg_engine.specs.Standing.{RowIs}
 use Rattle.rg_engine.specs.Windows.{counts_at, node_values}
-use Rattle.rg_engine.proofs.Plain.{none_some, same_some}
+use Rattle.rg_engine.proofs.Laws.{none_some, same_some, AreOf, vals-kind}
 use Rattle.rg_engine.specs.Edges.{HandsOf}
 use Rattle.rg_metric.specs.Conditions.{value_in}
-use Rattle.rg_engine.proofs.Values.{AreOf, vals-kind}
 use Rattle.rg_checkpoint.specs.declared.base.Checkpoint.{Checkpoint}
 use Rattle.rg_restore.specs.Fit.{kind_at, IsFit, IsRowOf, AreRowsOf}
 use Rattle.rg_restore.specs.Truthful.{AreRowsFor, IsTruthful}

@@ -2,7 +2,7 @@
 use Rattle.std.proofs.Common.{List, sym, ◌∙◌, true≢false}
 use Rattle.rg_state.specs.Changes.{Marks, NoMarks}
 use Rattle.rg_state.specs.Rows.{Cells, Entry, Lists, Same, at_in}
-use Rattle.rg_state.proofs.Listed.{at_lists}
+use Rattle.rg_state.proofs.Laws.{at_lists}
 use Rattle.rg_restore.specs.Since.{IsMarkedAt}
 
 pub marked_at : (rows : List Entry) (named there : Marks) (cells cells' : Cells) → Lists cells rows → Same cells cells' → NoMarks named → IsMarkedAt rows named there cells'

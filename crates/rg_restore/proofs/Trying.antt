@@ -5,7 +5,7 @@ use Rattle.rg_event.specs.declared.schema.Field.{Field}
 use Rattle.rg_past.specs.declared.past.Spot.{Spot}
 use Rattle.rg_plan.specs.Plans.{Tasks}
 use Rattle.rg_window.specs.Placed.{AreWithin}
-use Rattle.rg_engine.proofs.Plain.{none_some, same_some}
+use Rattle.rg_engine.proofs.Laws.{none_some, same_some}
 use Rattle.rg_checkpoint.specs.declared.base.Checkpoint.{Checkpoint}
 use Rattle.rg_restore.specs.Choosing.{IsIn, AreIn, IsSecond, AreOrdered, IsJudged, IsChosen, candidate_of}
 use Rattle.rg_restore.specs.Fit.{IsFit}

@@ -5,14 +5,13 @@ use Rattle.rg_host.specs.Image.{Image}
 use Rattle.rg_event.specs.declared.event.Event.{Event}
 use Rattle.rg_past.specs.declared.past.Spot.{Spot}
 use Rattle.rg_frame.specs.Frames.{HasPayloads}
-use Rattle.rg_frame.proofs.FrameLists.{payloads_one}
+use Rattle.rg_frame.proofs.Laws.{payloads_one}
 use Rattle.rg_log.specs.Log.{joined}
-use Rattle.rg_log.proofs.Naming.{named_in}
+use Rattle.rg_log.proofs.Laws.{named_in}
 use Rattle.rg_reservoir.specs.declared.reservoir.Reservoir.{Reservoir}
 use Rattle.rg_reservoir.specs.Chain.{IsIllegalBy}
 use Rattle.rg_reservoir.specs.Kept.{Base, base, view_of, opened, next_of, time_of, cache_of, IsRight, IsSound, Spells}
-use Rattle.rg_reservoir.proofs.Seeking.{one_image}
-use Rattle.rg_reservoir.proofs.Spelled.{spelled_there, spelled_here}
+use Rattle.rg_reservoir.proofs.Laws.{one_image, spelled_there, spelled_here}
 use Rattle.rg_restore.specs.Naming.{IsListed, IsDamagedIn, HeadsName, NamesIn}
 
 pub illegal_damages : (now : Option Image) (b : Base) (place : ℕ) → ForSome now (λ v. IsIllegalBy (view_of b) place (v b.file)) → IsDamagedIn now b place

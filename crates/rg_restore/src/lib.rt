@@ -9,7 +9,7 @@ mod choosing;
 mod fitting;
 mod going;
 mod judging;
-mod laws;
+mod law;
 mod names;
 mod restoring;
 mod resuming;
@@ -20,7 +20,7 @@ mod vec_names;
 
 pub use choosing::Saved;
 pub use fitting::fits_plan;
-pub use laws::{law_carries, law_fit, law_saved, law_stands};
+pub use law::{law_carries, law_fit, law_saved, law_stands};
 pub use names::Names;
 pub use restoring::restore;
 pub use resuming::{Origin, resume};

@@ -7,7 +7,7 @@ use Rattle.rg_event.specs.Parsing.{value_of}
 use Rattle.rg_event.specs.declared.schema.Field.{Field}
 use Rattle.rg_event.specs.declared.value.Value.{Value}
 use Rattle.rg_event.specs.declared.event.Event.{Event}
-use Rattle.rg_event.proofs.Parsed.{value_fits}
+use Rattle.rg_event.proofs.Laws.{value_fits}
 use Rattle.rg_row.specs.Fields.{fields_of}
 use Rattle.std.specs.Prelude.{IfOk}
 use Rattle.rg_row.specs.Rows.{Agrees, time_most, value_or, onto, values_of, event_with, event_of, event_of_row, row_of}

@@ -1,6 +1,7 @@
 pub mod Bare
 pub mod Commas
 pub mod Grammar
+pub mod Laws
 pub mod Quoted
 pub mod Records
 pub mod Scans

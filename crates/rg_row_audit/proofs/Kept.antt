@@ -6,15 +6,14 @@ use Rattle.rg_event.specs.Tagged.{value_kind}
 use Rattle.rg_event.specs.declared.value.Value.{Value}
 use Rattle.rg_keywords.specs.declared.func.Func.{Func}
 use Rattle.rg_agg.specs.Held.{Held, Begins, held_bytes}
-use Rattle.rg_agg.proofs.Served.{admitted_kept}
+use Rattle.rg_agg.proofs.Laws.{admitted_kept}
 use Rattle.rg_agg.specs.Sharing.{kept_as}
 use Rattle.rg_agg.specs.Standing.{Stands, func_of, size_in}
 use Rattle.rg_state.specs.Rows.{AreLike, RowStands}
 use Rattle.rg_state.specs.States.{held_of, state_at}
 use Rattle.rg_metric.specs.Admitted.{IsAdmitted}
 use Rattle.rg_state.specs.declared.state.AggState.{AggState}
-use Rattle.rg_state.proofs.ReadBack.{state_read_back}
-use Rattle.rg_state.proofs.Settled.{keep_same}
+use Rattle.rg_state.proofs.Laws.{state_read_back, keep_same}
 use Rattle.rg_row_audit.proofs.Sizes.{none_left}
 use Rattle.rg_row_audit.specs.Gathering.{Suits, Holds}
 use Rattle.rg_row_audit.specs.declared.gathered.Gathered.{Gathered}

@@ -12,7 +12,7 @@ use Rattle.rg_plan.specs.Plans.{Tasks}
 use Rattle.rg_state.specs.Rows.{Entry, AreRising, Lists}
 use Rattle.rg_engine.specs.Standing.{RowIs}
 use Rattle.rg_restore.specs.Truthful.{AreRowsFor}
-use Rattle.rg_restore.proofs.Listing.{rising_front, free, one_more, none_listed, one_table}
+use Rattle.rg_restore.proofs.Laws.{rising_front, free, one_more, none_listed, one_table}
 use Rattle.rg_row_audit.specs.Rows.{row_in, AreAllRight}
 
 -- the row is of this node and key

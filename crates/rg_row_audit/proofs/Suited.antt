@@ -14,9 +14,7 @@ use Rattle.rg_plan.specs.Plans.{Tasks}
 use Rattle.rg_metric.specs.Admitted.{IsAdmitted}
 use Rattle.rg_engine.specs.Deeds.{handed}
 use Rattle.rg_engine.specs.Windows.{counts_at}
-use Rattle.rg_engine.proofs.Fed.{served_kind, hands_of}
-use Rattle.rg_engine.proofs.Plain.{same_some}
-use Rattle.rg_engine.proofs.Values.{vals-few}
+use Rattle.rg_engine.proofs.Laws.{served_kind, hands_of, same_some, vals-few}
 use Rattle.rg_row_audit.specs.Keeping.{AreSuited}
 use Rattle.rg_row_audit.specs.Rows.{AreServed}
 

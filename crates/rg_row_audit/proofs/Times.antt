@@ -2,7 +2,7 @@
 use Rattle.std.proofs.Common.{◌≡◌, ℕ, ◌+◌, List, [], ◌∷◌, length, get_or, refl, sym, arith}
 use Rattle.rg_event.specs.Rising.{last_time}
 use Rattle.rg_event.specs.declared.event.Event.{Event}
-use Rattle.rg_engine.proofs.Lasts.{last_at}
+use Rattle.rg_engine.proofs.Laws.{last_at}
 
 pub no_time : (events : List Event) → length events ≡ 0 → 0 ≡ last_time events
 no_time [] none = refl

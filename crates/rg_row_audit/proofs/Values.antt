@@ -9,7 +9,7 @@ use Rattle.rg_group.specs.Keys.{key_bytes}
 use Rattle.rg_plan.specs.Named.{Node}
 use Rattle.rg_engine.specs.Deeds.{handed}
 use Rattle.rg_engine.specs.Windows.{counts_at, node_values}
-use Rattle.rg_engine.proofs.Values.{vals-append}
+use Rattle.rg_engine.proofs.Laws.{vals-append}
 use Rattle.rg_row_audit.specs.Gathering.{is_counted}
 
 pub values_more : (node : Node) (key : List ℕ) (t : ℕ) (front : List Event) (x : Event) → node_values node key t (front ++ x ∷ []) ≡ node_values node key t front ++ node_values node key t (x ∷ [])

@@ -6,7 +6,7 @@ use Rattle.rg_host.specs.Lines.{ended}
 use Rattle.rg_host.specs.Moments.{Moment, Moments, LeavesFiles}
 use Rattle.rg_host.specs.Puts.{IsPrefix, IsPartWay, Puts}
 use Rattle.rg_host.specs.Reading.{Reading}
-use Rattle.rg_host.proofs.Runs.{moments-none, moments-weaker}
+use Rattle.rg_host.proofs.Laws.{moments-none, moments-weaker}
 use Rattle.rg_event.specs.declared.event.Event.{Event}
 use Rattle.rg_event.specs.Rising.{next_offset}
 use Rattle.rg_config.specs.Plans.{Planned}
@@ -15,11 +15,7 @@ use Rattle.rg_reply.specs.declared.mark.Mark.TheVariants.{Opened}
 use Rattle.rg_run_spec.specs.Output.{open_line, out}
 use Rattle.rg_run_spec.specs.Stores.{StaysOnCourse}
 use Rattle.rg_run_spec.specs.Turns.{IsBetween}
-use Rattle.rg_run_spec.proofs.Betweens.{between_first}
-use Rattle.rg_run_spec.proofs.Courses.{on_course_put}
-use Rattle.rg_run_spec.proofs.Hosts.{part_way_more, put as putting}
-use Rattle.rg_run_spec.proofs.Marking.{open_marks}
-use Rattle.rg_run_spec.proofs.Texts.{mark_no_lf}
+use Rattle.rg_run_spec.proofs.Laws.{between_first, on_course_put, part_way_more, put as putting, open_marks, mark_no_lf}
 use Rattle.rg_task.specs.Terms.{terms_of}
 use Rattle.rg_run.specs.Turning.{IsAwaiting}
 use Rattle.rg_run.proofs.Gathering.{between_at, put_apart}

@@ -5,7 +5,7 @@ use Rattle.rg_bytes.specs.Counts.{Rose}
 use Rattle.rg_host.specs.Moments.{Moments}
 use Rattle.rg_config.specs.Plans.{Planned}
 use Rattle.rg_run_spec.specs.Stores.{Course, StaysOnCourse}
-use Rattle.rg_run_spec.proofs.Steps.{Item}
+use Rattle.rg_run_spec.proofs.Laws.{Item}
 use Rattle.rg_task.specs.View.{View, OnlyNow, Sinks}
 use Rattle.rg_task.specs.declared.fault.TaskFault.{TaskFault}
 use Rattle.rg_task.specs.declared.fault.TaskFault.TheVariants as task

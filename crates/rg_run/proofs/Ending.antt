@@ -5,7 +5,7 @@ use Rattle.rg_host.specs.Image.{Image}
 use Rattle.rg_host.specs.Lines.{ended}
 use Rattle.rg_host.specs.Moments.{Moments, LeavesFiles}
 use Rattle.rg_host.specs.Puts.{IsPrefix, IsPartWay, Puts}
-use Rattle.rg_host.proofs.Runs.{moments_then}
+use Rattle.rg_host.proofs.Laws.{moments_then}
 use Rattle.rg_event.specs.declared.event.Event.{Event}
 use Rattle.rg_event.specs.Rising.{next_offset}
 use Rattle.rg_config.specs.Plans.{Planned}
@@ -14,15 +14,7 @@ use Rattle.rg_run_spec.specs.Laws.{IsPrefixOf}
 use Rattle.rg_run_spec.specs.Stores.{Course, StaysOnCourse}
 use Rattle.rg_run_spec.specs.Steps.{IsAtRest, IsMidStep, MarksHold}
 use Rattle.rg_run_spec.specs.Turns.{IsBetween, IsDone}
-use Rattle.rg_run_spec.proofs.Betweens.{between_done, events_begin, near_end}
-use Rattle.rg_run_spec.proofs.Courses.{on_course_put}
-use Rattle.rg_run_spec.proofs.Hosts.{told_moments, part_way_more, put as putting}
-use Rattle.rg_run_spec.proofs.Keeping.{after_step}
-use Rattle.rg_run_spec.proofs.Marking.{end_marks}
-use Rattle.rg_run_spec.proofs.Prefixes.{prefix_then}
-use Rattle.rg_run_spec.proofs.Runs.{end_stopped}
-use Rattle.rg_run_spec.proofs.Texts.{end_are_lines}
-use Rattle.rg_run_spec.proofs.Turns.{Stopped}
+use Rattle.rg_run_spec.proofs.Laws.{between_done, events_begin, near_end, on_course_put, told_moments, part_way_more, put as putting, after_step, end_marks, prefix_then, end_stopped, end_are_lines, Stopped}
 use Rattle.rg_run.specs.Due.{last_lines}
 use Rattle.rg_task.specs.Stepping.{IsWithinStep, IsStored, IsAllSaved}
 use Rattle.rg_task.specs.Terms.{terms_of}

@@ -7,8 +7,7 @@ use Rattle.rg_host.specs.Image.{Image}
 use Rattle.rg_host.specs.Lines.{ended}
 use Rattle.rg_host.specs.Moments.{Moment, Moments, LeavesFiles, LeavesAll}
 use Rattle.rg_host.specs.Puts.{IsPrefix, IsPartWay, Puts}
-use Rattle.rg_host.proofs.Endings.{ended-append}
-use Rattle.rg_host.proofs.Runs.{moments-weaker}
+use Rattle.rg_host.proofs.Laws.{ended-append, moments-weaker}
 use Rattle.rg_event.specs.declared.event.Event.{Event}
 use Rattle.rg_reply.specs.Texts.{mark_line}
 use Rattle.rg_reply.specs.declared.mark.Mark.TheVariants.{Stored, Saved}
@@ -20,10 +19,7 @@ use Rattle.rg_run_spec.specs.Pieces.{whole_pieces, AreLines}
 use Rattle.rg_run_spec.specs.Stores.{Store, Course, IsNear, IsKeptInStore, StaysOnCourse}
 use Rattle.rg_run_spec.specs.Steps.{IsAtRest, MarksHold}
 use Rattle.rg_run_spec.specs.Turns.{IsBetween}
-use Rattle.rg_run_spec.proofs.Hosts.{put as putting}
-use Rattle.rg_run_spec.proofs.Keeping.{rest_fewer, rest_kept, rest_more, marks_prefix}
-use Rattle.rg_run_spec.proofs.Steps.{Item}
-use Rattle.rg_run_spec.proofs.Texts.{are-append, pieces_then, pieces_prefix}
+use Rattle.rg_run_spec.proofs.Laws.{put as putting, rest_fewer, rest_kept, rest_more, marks_prefix, Item, are-append, pieces_then, pieces_prefix}
 use Rattle.rg_task.specs.State.{State}
 use Rattle.rg_task.specs.Terms.{terms_of}
 use Rattle.rg_task.specs.View.{View, Keeps}

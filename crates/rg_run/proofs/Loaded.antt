@@ -5,7 +5,7 @@ use Rattle.rg_event.specs.declared.event.Event.{Event}
 use Rattle.rg_config.specs.Plans.{Planned}
 use Rattle.rg_run_spec.specs.Stores.{Course, StaysOnCourse}
 use Rattle.rg_run_spec.specs.Turns.{IsBetween}
-use Rattle.rg_run_spec.proofs.Steps.{Item}
+use Rattle.rg_run_spec.proofs.Laws.{Item}
 use Rattle.rg_task.specs.Terms.{terms_of}
 use Rattle.rg_task.specs.View.{View}
 use Rattle.rg_run.specs.Turning.{IsGathered, IsAwaiting, IsHeld}

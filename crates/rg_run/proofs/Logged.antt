@@ -2,12 +2,12 @@
 use Rattle.std.proofs.Common.{inl, inr, ◌++◌, List}
 use Rattle.rg_host.specs.Image.{Image}
 use Rattle.rg_host.specs.Moments.{Moment, LeavesFiles, LeavesAll}
-use Rattle.rg_host.proofs.Runs.{leaves_files-none, leaves_files-then, moments_then, moments-weaker}
+use Rattle.rg_host.proofs.Laws.{leaves_files-none, leaves_files-then, moments_then, moments-weaker}
 use Rattle.rg_event.specs.declared.event.Event.{Event}
 use Rattle.rg_config.specs.Plans.{Planned}
 use Rattle.rg_run_spec.specs.Stores.{HasAtLeast}
 use Rattle.rg_run_spec.specs.Steps.{IsMidLog}
-use Rattle.rg_run_spec.proofs.Prefixes.{prefix_more}
+use Rattle.rg_run_spec.proofs.Laws.{prefix_more}
 use Rattle.rg_task.specs.Stepping.{IsWithinLog}
 use Rattle.rg_task.specs.View.{View, OnlyNow, Sinks}
 use Rattle.rg_run.specs.Logs.{Holds, StaysHeld}

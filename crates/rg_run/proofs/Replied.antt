@@ -3,7 +3,7 @@ use Rattle.std.proofs.Common.{◌≡◌, ◌⊎◌, inl, inr, ℕ, ◌+◌, ◌�
 use Rattle.rg_host.specs.Image.{Image}
 use Rattle.rg_host.specs.Lines.{ended}
 use Rattle.rg_host.specs.Moments.{Moments, LeavesAll}
-use Rattle.rg_host.proofs.Runs.{leaves_all-none}
+use Rattle.rg_host.proofs.Laws.{leaves_all-none}
 use Rattle.rg_event.specs.declared.event.Event.{Event}
 use Rattle.rg_event.specs.Rising.{next_offset}
 use Rattle.rg_reply.specs.declared.reply.Reply.{Reply}
@@ -18,9 +18,7 @@ use Rattle.rg_run_spec.specs.Accepted.{after_turn}
 use Rattle.rg_run_spec.specs.Ahead.{after_line, lines_for}
 use Rattle.rg_run_spec.specs.Stores.{Course, StaysOnCourse}
 use Rattle.rg_run_spec.specs.Steps.{MarksHold}
-use Rattle.rg_run_spec.proofs.Betweens.{between_passed}
-use Rattle.rg_run_spec.proofs.Lines.{looked_at}
-use Rattle.rg_run_spec.proofs.Steps.{Item, passed_over}
+use Rattle.rg_run_spec.proofs.Laws.{between_passed, looked_at, Item, passed_over}
 use Rattle.rg_run.specs.declared.due.Due.{Due}
 use Rattle.rg_run.specs.declared.due.Due.TheVariants.{Nothing}
 use Rattle.rg_run.specs.Due.{is_due, due_for, marks_for}

@@ -6,8 +6,7 @@ use Rattle.rg_event.specs.declared.event.Event.{Event}
 use Rattle.rg_config.specs.Plans.{Planned}
 use Rattle.rg_run_spec.specs.Stores.{Course}
 use Rattle.rg_run_spec.specs.Steps.{IsAtRest}
-use Rattle.rg_run_spec.proofs.Keeping.{after_save}
-use Rattle.rg_run_spec.proofs.Steps.{Item}
+use Rattle.rg_run_spec.proofs.Laws.{after_save, Item}
 use Rattle.rg_task.specs.Stepping.{IsStored, IsAllSaved}
 use Rattle.rg_task.specs.View.{View}
 use Rattle.rg_run.specs.Turning.{IsMidTurn}

@@ -4,7 +4,7 @@ use Rattle.std.proofs.lemmas.List.{append-nil}
 use Rattle.rg_host.specs.Image.{Image}
 use Rattle.rg_host.specs.Lines.{ended}
 use Rattle.rg_host.specs.Moments.{LeavesAll}
-use Rattle.rg_host.proofs.Endings.{ended-append}
+use Rattle.rg_host.proofs.Laws.{ended-append}
 use Rattle.rg_event.specs.declared.event.Event.{Event}
 use Rattle.rg_event.specs.Rising.{next_offset}
 use Rattle.rg_reply.specs.declared.reply.Reply.{Reply}
@@ -17,15 +17,7 @@ use Rattle.rg_run_spec.specs.Laws.{IsPrefixOf}
 use Rattle.rg_run_spec.specs.Stores.{Course}
 use Rattle.rg_run_spec.specs.Steps.{IsAtRest, IsMidStep, MarksHold}
 use Rattle.rg_run_spec.specs.Turns.{IsBetween}
-use Rattle.rg_run_spec.proofs.Betweens.{between_next, events_begin, near_next}
-use Rattle.rg_run_spec.proofs.Folds.{grown}
-use Rattle.rg_run_spec.proofs.Hosts.{told_moments}
-use Rattle.rg_run_spec.proofs.Keeping.{after_step}
-use Rattle.rg_run_spec.proofs.Lines.{looked_at}
-use Rattle.rg_run_spec.proofs.Prefixes.{prefix_then}
-use Rattle.rg_run_spec.proofs.Steps.{Item}
-use Rattle.rg_run_spec.proofs.Texts.{are-append, turn_are_lines}
-use Rattle.rg_run_spec.proofs.Turns.{Stopped, step_stopped}
+use Rattle.rg_run_spec.proofs.Laws.{between_next, events_begin, near_next, grown, told_moments, after_step, looked_at, prefix_then, Item, are-append, turn_are_lines, Stopped, step_stopped}
 use Rattle.rg_task.specs.Stepping.{IsWithinStep, IsStored}
 use Rattle.rg_task.specs.Terms.{terms_of, verdict_on}
 use Rattle.rg_task.specs.View.{View}

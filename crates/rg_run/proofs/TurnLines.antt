@@ -7,15 +7,12 @@ use Rattle.rg_reply.specs.declared.reply.Reply.{Reply}
 use Rattle.rg_config.specs.Plans.{Planned}
 use Rattle.rg_reply.specs.Texts.{reply_line}
 use Rattle.rg_run_spec.specs.Verdicts.{Verdict, accepted_after, reply_of, line_verdict}
-use Rattle.rg_run_spec.proofs.Events.{next_after}
+use Rattle.rg_run_spec.proofs.Laws.{next_after, looked_at, turn_marks, Item}
 use Rattle.rg_run_spec.specs.Accepted.{after_turn, verdict_from}
 use Rattle.rg_run_spec.specs.Output.{Terms, stores, saves, turn_lines}
 use Rattle.rg_run_spec.specs.Ahead.{lines_for}
 use Rattle.rg_run_spec.specs.Stores.{Course}
 use Rattle.rg_run_spec.specs.Steps.{MarksHold, HasInKept}
-use Rattle.rg_run_spec.proofs.Lines.{looked_at}
-use Rattle.rg_run_spec.proofs.Marking.{turn_marks}
-use Rattle.rg_run_spec.proofs.Steps.{Item}
 use Rattle.rg_run.specs.declared.due.Due.{Due}
 use Rattle.rg_run.specs.declared.due.Due.TheVariants.{Nothing, Commit, Save}
 use Rattle.rg_run.specs.Due.{marks_for}

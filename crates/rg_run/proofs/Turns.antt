@@ -16,8 +16,7 @@ use Rattle.rg_run_spec.specs.Ahead.{after_line, out_from}
 use Rattle.rg_run_spec.specs.Output.{open_line, put_before, out}
 use Rattle.rg_run_spec.specs.Stores.{StaysOnCourse}
 use Rattle.rg_run_spec.specs.Turns.{IsDone}
-use Rattle.rg_run_spec.proofs.Courses.{stopped_at_rest}
-use Rattle.rg_run_spec.proofs.Whole.{accepted_more, out_more}
+use Rattle.rg_run_spec.proofs.Laws.{stopped_at_rest, accepted_more, out_more}
 use Rattle.rg_task.specs.declared.fault.TaskFault.TheVariants as task
 use Rattle.rg_run.specs.declared.fault.TurnFault.{TurnFault}
 use Rattle.rg_run.specs.declared.fault.TurnFault.TheVariants as turn

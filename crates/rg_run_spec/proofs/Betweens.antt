@@ -14,7 +14,7 @@ use Rattle.rg_run_spec.specs.Steps.{IsAtRest, MarksHold}
 use Rattle.rg_run_spec.specs.Turns.{IsBetween, IsStopped, IsDone}
 use Rattle.rg_run_spec.proofs.Steps.{Item, passed_over}
 use Rattle.rg_run_spec.proofs.Folds.{accepted-all, accepted-goes, puts-goes, out-is, grown}
-use Rattle.rg_host.proofs.Endings.{ended-append}
+use Rattle.rg_host.proofs.Laws.{ended-append}
 use Rattle.rg_run_spec.proofs.Texts.{are-append, mark_no_lf, turn_are_lines}
 use Rattle.rg_run_spec.proofs.Keeping.{rest_fewer, rest_more}
 use Rattle.rg_run_spec.proofs.Marking.{open_marks, no_marks}

@@ -15,7 +15,7 @@ use Rattle.rg_run_spec.specs.Stores.{Store, Course, IsNear, IsKeptInStore, IsOnC
 use Rattle.rg_run_spec.specs.Steps.{IsAtRest, IsMidStep, MarksHold}
 use Rattle.rg_run_spec.specs.Turns.{IsStopped}
 use Rattle.rg_run_spec.proofs.Acknowledging.{line_among}
-use Rattle.rg_host.proofs.Endings.{ended-append}
+use Rattle.rg_host.proofs.Laws.{ended-append}
 use Rattle.rg_run_spec.proofs.Texts.{pieces_then, pieces_prefix, nil_prefix}
 use Rattle.rg_run_spec.proofs.Keeping.{rest_kept, mid_step_kept, put_kept, near_more}
 

@@ -10,7 +10,7 @@ use Rattle.rg_reply.specs.declared.reply.Reply.TheVariants.{Late, Full, Head}
 use Rattle.rg_row.specs.Fields.{fields_of, cleaned}
 use Rattle.rg_row.specs.Rows.{row_of}
 use Rattle.rg_row.specs.declared.fault.RowFault.{RowFault}
-use Rattle.rg_row.proofs.Fits.{Fits, row_fits, event_is}
+use Rattle.rg_row.proofs.Laws.{Fits, row_fits, event_is}
 use Rattle.rg_run_spec.specs.Verdicts.{Basis, control_at, event_at, read_as, or_reply, verdict_of, obeyed_or, accepted_after, line_verdict}
 use Rattle.rg_run_spec.specs.Verdicts.Verdict.{refused, accepted, moved}
 use Rattle.rg_run_spec.specs.declared.control.Control.{Control}

@@ -8,7 +8,7 @@ use Rattle.rg_run_spec.specs.Verdicts.{line_verdict}
 use Rattle.rg_run_spec.specs.Accepted.{verdict_from, after_turn, events_before, events_after}
 use Rattle.rg_run_spec.specs.Output.{turn_lines, put_at, put_before, out, end_lines, Terms}
 use Rattle.rg_run_spec.specs.Ahead.{after_line, lines_for, events_from, put_from}
-use Rattle.rg_event.proofs.Rising.{next_offset-push}
+use Rattle.rg_event.proofs.Laws.{next_offset-push}
 use Rattle.rg_run_spec.proofs.Offsets.{AreFrom, from_less}
 use Rattle.rg_run_spec.proofs.Steps.{Item, Adds, added}
 use Rattle.rg_run_spec.proofs.Steps.Adds.{none_below, none, one}

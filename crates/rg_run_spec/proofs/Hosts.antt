@@ -7,7 +7,7 @@ use Rattle.rg_event.specs.declared.event.Event.{Event}
 use Rattle.rg_host.specs.Image as host
 use Rattle.rg_host.specs.Moments.{Moment, Moments, LeavesFiles, LeavesAll}
 use Rattle.rg_host.specs.Puts.{IsPrefix, IsPartWay, Puts}
-use Rattle.rg_host.proofs.Runs.{moments-weaker, moments-both}
+use Rattle.rg_host.proofs.Laws.{moments-weaker, moments-both}
 use Rattle.rg_run_spec.specs.Stores.{Store}
 use Rattle.rg_run_spec.specs.Steps.{IsMidStep, IsStepped}
 

@@ -1,21 +1,19 @@
--- The laws, by names without a dash.
-use Rattle.std.proofs.Common.{◌≡◌, ◌≤◌, ◌<◌, ◌^◌, ◌+◌, ◌++◌, ℕ, List, Option, Ok, length}
-use Rattle.rg_event.specs.declared.event.Event.{Event}
-use Rattle.rg_event.specs.Codec.{IsEventOf}
-use Rattle.rg_event.specs.Rising.{next_offset}
-use Rattle.rg_row.proofs.Fits.{event_is}
-use Rattle.rg_run_spec.specs.Verdicts.{Basis, read_as, accepted_after, line_verdict, accepted_before, reply_to}
-use Rattle.rg_run_spec.proofs.Accepted.{accepted-first, reply-first}
-use Rattle.rg_run_spec.proofs.Events.{read_fits, next_after}
-
-pub accepted_first : (basis : Basis) (lines more : List (Option (List ℕ))) (i : ℕ) → i ≤ length lines → accepted_before basis (lines ++ more) i ≡ accepted_before basis lines i
-accepted_first basis lines more i h = accepted-first basis lines more i h
-
-pub reply_first : (basis : Basis) (lines more : List (Option (List ℕ))) (i : ℕ) → i < length lines → reply_to basis (lines ++ more) i ≡ reply_to basis lines i
-reply_first basis lines more i h = reply-first basis lines more i h
-
-pub read_event : (basis : Basis) (offset : ℕ) (line : Option (List ℕ)) (e : Event) → read_as basis offset line ≡ Ok e → offset < 2 ^ 62 → IsEventOf basis.fields e
-read_event basis offset line e is small = event_is basis.fields offset e small (read_fits basis offset line e is)
-
-pub next_after_line : (basis : Basis) (events : List Event) (offset : ℕ) (line : Option (List ℕ)) → next_offset events ≤ offset → next_offset (accepted_after events (line_verdict basis events offset line)) ≤ offset + 1
-next_after_line basis events offset line next = next_after events basis offset line next
+-- What other crates may cite of the lemmas of this one.
+pub use Rattle.rg_run_spec.proofs.Acknowledging.{line_among}
+pub use Rattle.rg_run_spec.proofs.Alike.{accepted_alike}
+pub use Rattle.rg_run_spec.proofs.Betweens.{at_rest_first, between_done, between_first, between_next, between_passed, events_begin, near_end, near_next}
+pub use Rattle.rg_run_spec.proofs.Courses.{last_saved, on_course_last, on_course_put, on_course_since_wider, promised, stopped_at_rest}
+pub use Rattle.rg_run_spec.proofs.Events.{next_after, read_fits}
+pub use Rattle.rg_run_spec.proofs.Folds.{accepted-all, grown, out-is}
+pub use Rattle.rg_run_spec.proofs.Hosts.{part_way_more, put, same_mid_step, same_stepped, stepped_then, stepped_then_mid_step, told_moments}
+pub use Rattle.rg_run_spec.proofs.Keeping.{after_save, after_step, marks_prefix, mid_step_kept, near_more, rest_fewer, rest_kept, rest_more}
+pub use Rattle.rg_run_spec.proofs.Lines.{looked_at}
+pub use Rattle.rg_run_spec.proofs.Marking.{end_marks, open_marks, turn_marks}
+pub use Rattle.rg_run_spec.proofs.Marks.{contains_none, contains_one, no_mark, stored_injective}
+pub use Rattle.rg_run_spec.proofs.Prefixes.{prefix_more, prefix_then}
+pub use Rattle.rg_run_spec.proofs.Runs.{end_stopped, told_since}
+pub use Rattle.rg_run_spec.proofs.Steps.{Item, passed_over}
+pub use Rattle.rg_run_spec.proofs.Texts.{are-append, end_are_lines, mark_no_lf, pieces_prefix, pieces_then, turn_are_lines}
+pub use Rattle.rg_run_spec.proofs.Turns.{Stopped, step_stopped}
+pub use Rattle.rg_run_spec.proofs.Verdicts.{is_accepted, is_full, is_late, is_moved}
+pub use Rattle.rg_run_spec.proofs.Whole.{accepted_again, accepted_more, left_below, may_leave, out_again, out_more}

@@ -1,6 +1,7 @@
 pub mod Verdicts
 pub mod Accepted
 pub mod Events
+pub mod LawNames
 pub mod Laws
 pub mod Controls
 pub mod Grace

@@ -5,7 +5,7 @@ use Rattle.std.proofs.lemmas.List.{append-nil}
 use Rattle.std.proofs.lemmas.Bool.{lt-ltb, le-ltb, ltb-false}
 use Rattle.rg_event.specs.declared.event.Event.{Event}
 use Rattle.rg_event.specs.Rising.{next_offset, IsRising}
-use Rattle.rg_event.proofs.Rising.{IsRising-push}
+use Rattle.rg_event.proofs.Laws.{IsRising-push}
 use Rattle.rg_run_spec.proofs.Offsets.{AreFrom, from_less, next_behind}
 use Rattle.rg_run_spec.specs.Output.{Terms}
 use Rattle.rg_run_spec.specs.Ahead.{after_line, events_from}

@@ -7,7 +7,7 @@ use Rattle.rg_host.specs.Image.{Image}
 use Rattle.rg_host.specs.Lines.{ended}
 use Rattle.rg_host.specs.Moments.{Moment, Moments, LeavesFiles, LeavesAll}
 use Rattle.rg_host.specs.Puts.{IsPartWay, Puts}
-use Rattle.rg_host.proofs.Runs.{moments_then}
+use Rattle.rg_host.proofs.Laws.{moments_then}
 use Rattle.rg_run_spec.specs.Accepted.{verdict_from}
 use Rattle.rg_run_spec.specs.Output.{Terms}
 use Rattle.rg_run_spec.specs.Ahead.{after_line, lines_for, out_from}

@@ -7,7 +7,7 @@ use Rattle.rg_event.specs.Rising.{next_offset}
 use Rattle.rg_host.specs.Image.{Image}
 use Rattle.rg_host.specs.Lines.{ended}
 use Rattle.rg_host.specs.Moments.{Moment, Moments}
-use Rattle.rg_host.proofs.Runs.{moments_then, moments-weaker}
+use Rattle.rg_host.proofs.Laws.{moments_then, moments-weaker}
 use Rattle.rg_host.specs.Puts.{IsPartWay}
 use Rattle.rg_run_spec.specs.Accepted.{verdict_from}
 use Rattle.rg_run_spec.specs.Output.{Terms}

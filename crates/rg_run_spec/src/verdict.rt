@@ -10,14 +10,14 @@ use rg_row::RowFault;
 
 /// What was accepted among the first lines, and the reply to each of them, doesn't depend on what
 /// comes behind them.
-#[tactic(auto, using(crate::proofs::Laws::accepted_first, crate::proofs::Laws::reply_first))]
+#[tactic(auto, using(crate::proofs::LawNames::accepted_first, crate::proofs::LawNames::reply_first))]
 pub fn law_before()
     ensures accepted { (basis : Basis) (lines more : List (Option (List ℕ))) (i : ℕ) → i ≤ length lines → accepted_before basis (lines ++ more) i ≡ accepted_before basis lines i }
     ensures reply { (basis : Basis) (lines more : List (Option (List ℕ))) (i : ℕ) → i < length lines → reply_to basis (lines ++ more) i ≡ reply_to basis lines i }
 {}
 
 /// The event that a line is read as is one of the columns, with the line's offset.
-#[tactic(auto, using(crate::proofs::Laws::read_event))]
+#[tactic(auto, using(crate::proofs::LawNames::read_event))]
 pub fn law_read()
     ensures { (basis : Basis) (offset : ℕ) (line : Option (List ℕ)) (e : TheEvent) → read_as basis offset line ≡ Ok e → offset < 2 ^ 62 → IsEventOf basis.fields e }
 {}
@@ -37,7 +37,7 @@ pub fn row_reply(fault: RowFault) -> Reply
 }
 
 /// The offsets of the accepted events are below that of the next line.
-#[tactic(auto, using(crate::proofs::Laws::next_after_line))]
+#[tactic(auto, using(crate::proofs::LawNames::next_after_line))]
 pub fn law_next()
     ensures { (basis : Basis) (events : List TheEvent) (offset : ℕ) (line : Option (List ℕ)) → next_offset events ≤ offset → next_offset (accepted_after events (line_verdict basis events offset line)) ≤ offset + 1 }
 {}

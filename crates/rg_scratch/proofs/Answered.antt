@@ -11,7 +11,7 @@ use Rattle.rg_metric.specs.Queries.{Asked}
 use Rattle.rg_metric.specs.Replies.{agg_answer, counts_for, answers_to}
 use Rattle.rg_plan.specs.Named.{node_at, node_of as asked_node, nodes_of}
 use Rattle.rg_plan.specs.Plans.{Tasks, plan_for}
-use Rattle.rg_plan.proofs.Compiled.{is_named}
+use Rattle.rg_plan.proofs.Laws.{is_named}
 use Rattle.rg_scratch.specs.Nodes.{node_answer, answers_of}
 
 module _ (events : List Event) (e : Event) where

@@ -26,7 +26,7 @@ use Rattle.rg_plan.specs.Named.{Node, node_at, under_agg, under_group, under_fil
 use Rattle.rg_plan.specs.declared.node.GroupNode.{GroupNode}
 use Rattle.rg_plan.specs.Nodes.{Filtered, same_agg}
 use Rattle.rg_plan.specs.Plans.{Tasks, plan_for, windows_of, filters_of, groups_of, aggs_of, aggs_in, agg_under, group_number}
-use Rattle.rg_plan.proofs.Members.{All-distinct}
+use Rattle.rg_plan.proofs.Laws.{All-distinct}
 use Rattle.rg_query.specs.Legal.{IsOperand, IsLegalAgg, AreLegalAggs, IsLegalQuery}
 use Rattle.rg_query.specs.Printing.{name_at}
 use Rattle.rg_metric.specs.Admitted.{takes}

@@ -1,7 +1,7 @@
 -- The input of a trial, line by line.
 use Rattle.std.proofs.Common.{◌≡◌, ℕ, zero, suc, ◌+◌, List, [], ◌∷◌, ◌++◌, refl, ap, sym, ◌∙◌, arith}
 use Rattle.rg_host.specs.Lines.{ended}
-use Rattle.rg_host.proofs.Endings.{ended-append}
+use Rattle.rg_host.proofs.Laws.{ended-append}
 use Rattle.rg_scratch.specs.Lines.{made_line}
 use Rattle.rg_selftest.specs.Trials.{made_lines}
 

@@ -8,7 +8,7 @@ use Rattle.rg_host.specs.Lines.{ended, lines_of}
 use Rattle.rg_config.specs.Plans.{Planned}
 use Rattle.rg_run_spec.specs.Accepted.{events_after}
 use Rattle.rg_run_spec.specs.Output.{open_line, put_before, stored_line, saved_line}
-use Rattle.rg_host.proofs.Endings.{ended-append}
+use Rattle.rg_host.proofs.Laws.{ended-append}
 use Rattle.rg_task.specs.Terms.{terms_of}
 use Rattle.rg_selftest.specs.Trials.{text_for, count_for}
 use Rattle.rg_selftest.proofs.Words.{snoc_front}

@@ -5,8 +5,7 @@ use Rattle.std.specs.Str.{all_ascii_digits}
 use Rattle.std.specs.List.{sum}
 use Rattle.std.proofs.lemmas.Fmt.{digits_decimal}
 use Rattle.std.proofs.lemmas.Grind.{common_steps}
-use Rattle.rg_bytes.proofs.Decimals.{whole_of-decimal}
-use Rattle.rg_bytes.proofs.Digits.{decimal_digits}
+use Rattle.rg_bytes.proofs.Laws.{whole_of-decimal, decimal_digits}
 use Rattle.rg_bytes.specs.Numbers.{whole_of}
 use Rattle.rg_selftest.specs.Words.{last_word}
 

@@ -4,13 +4,13 @@ use Rattle.std.specs.Prelude.{OnOk}
 use Rattle.rg_bytes.specs.Known.{IsAtEnd}
 use Rattle.rg_event.specs.Rising.{next_offset}
 use Rattle.rg_host.specs.Image.{Image}
-use Rattle.rg_host.proofs.Runs.{leaves_all-none}
+use Rattle.rg_host.proofs.Laws.{leaves_all-none}
 use Rattle.rg_config.specs.Plans.{Planned}
 use Rattle.rg_pipe.specs.Sent.{Sent}
 use Rattle.rg_pipe.specs.State.{PipeState}
 use Rattle.rg_pipe.specs.Streams.{IsStream, given_all, fresh}
 use Rattle.rg_pipe.specs.Handing.{Given}
-use Rattle.rg_run_spec.proofs.Keeping.{rest_kept}
+use Rattle.rg_run_spec.proofs.Laws.{rest_kept}
 use Rattle.rg_run.specs.Reading.{IsLonger, IsWithinLimit}
 use Rattle.rg_run.specs.declared.fault.TurnFault.{TurnFault}
 use Rattle.rg_task.specs.View.{View, OnlyNow, Sinks}

@@ -3,7 +3,7 @@ use Rattle.std.proofs.Common.{◌≡◌, ◌≢◌, ⊎_elim, ℕ, ◌+◌, ◌<
 use Rattle.std.proofs.lemmas.List.{take-append-drop}
 use Rattle.rg_bytes.specs.Known.{before, IsAtEnd}
 use Rattle.rg_bytes.specs.Reading.{list_bytes}
-use Rattle.rg_bytes.proofs.Lists.{list_bytes-more}
+use Rattle.rg_bytes.proofs.Laws.{list_bytes-more}
 use Rattle.rg_pipe.specs.Sent.{Sent, body_of, bytes_of}
 use Rattle.std.specs.Int.{w32, to_be_bytes}
 use Rattle.rg_pipe.specs.Sent.Sent.{commit}
@@ -13,8 +13,7 @@ use Rattle.rg_pipe.specs.Streams.{IsStream, given_all, expected_all, HandsNext}
 use Rattle.rg_pipe.specs.Handing.{Given, Hands, Ends, expected_after, given_for}
 use Rattle.rg_pipe.specs.declared.fault.PipeFault.{PipeFault}
 use Rattle.rg_pipe.specs.declared.fault.PipeFault.TheVariants.{Frame}
-use Rattle.rg_pipe.proofs.Chains.{stream_fed, stream_handed, stream_ended, stream_refused}
-use Rattle.rg_pipe.proofs.Requests.{part_short, length_of}
+use Rattle.rg_pipe.proofs.Laws.{stream_fed, stream_handed, stream_ended, stream_refused, part_short, length_of}
 use Rattle.rg_serve.specs.Coming.{IsComing, CanGoOn, FeedsHeld, IsTaken}
 use Rattle.std.specs.Prelude.{Bool, Result, IfOk}
 use Rattle.rg_host.specs.declared.lines.LineFault.{LineFault}

@@ -7,7 +7,7 @@ use Rattle.rg_config.specs.Plans.{Planned}
 use Rattle.rg_pipe.specs.Handing.{Given}
 use Rattle.rg_run_spec.specs.Output.{end_lines, open_line}
 use Rattle.rg_run_spec.specs.Steps.{MarksHold}
-use Rattle.rg_run_spec.proofs.Texts.{end_are_lines}
+use Rattle.rg_run_spec.proofs.Laws.{end_are_lines}
 use Rattle.rg_run.specs.declared.due.Due.TheVariants.{Save}
 use Rattle.rg_run.specs.Due.{last_lines}
 use Rattle.rg_run.specs.Turning.{IsDueDone}

@@ -6,7 +6,7 @@ use Rattle.rg_bytes.specs.Known.{IsAtEnd}
 use Rattle.rg_bytes.specs.Reading.{list_bytes}
 use Rattle.rg_event.specs.Rising.{next_offset}
 use Rattle.rg_host.specs.Moments.{Moments}
-use Rattle.rg_host.proofs.Runs.{moments_then}
+use Rattle.rg_host.proofs.Laws.{moments_then}
 use Rattle.rg_config.specs.Plans.{Planned}
 use Rattle.rg_pipe.specs.Sent.{Sent, bytes_of}
 use Rattle.rg_pipe.specs.Hand.{IsPart}
@@ -21,7 +21,7 @@ use Rattle.rg_run.specs.declared.fault.TurnFault.TheVariants as turn
 use Rattle.rg_serve_spec.specs.Frames.{Reply, frames_of, lines_in}
 use Rattle.rg_serve_spec.specs.Replies.{events_all, replies_to}
 use Rattle.rg_serve_spec.specs.Errands.{Errand, StaysOnErrand, course_of}
-use Rattle.rg_serve_spec.proofs.Joined.{next_within}
+use Rattle.rg_serve_spec.proofs.Laws.{next_within}
 use Rattle.rg_serve.specs.Serving.{IsWithin, IsAwaiting, HasHalted, HasServed}
 use Rattle.rg_serve.specs.Intaking.{Intaking, Takes, Drops}
 use Rattle.rg_serve.specs.Coming.{IsComing, CanGoOn, FeedsHeld, ComesTo}

@@ -8,7 +8,7 @@ use Rattle.rg_pipe.specs.declared.request.Request.{Request}
 use Rattle.rg_pipe.specs.declared.request.Request.TheVariants as request
 use Rattle.rg_pipe.specs.declared.fault.PipeFault.{PipeFault}
 use Rattle.rg_pipe.specs.declared.fault.PipeFault.TheVariants as pipe
-use Rattle.rg_pipe.proofs.Handings.{next_line}
+use Rattle.rg_pipe.proofs.Laws.{next_line}
 use Rattle.rg_task.specs.View.{View}
 use Rattle.rg_run.specs.declared.fault.TurnFault.{TurnFault}
 use Rattle.rg_serve.specs.Calls.{IsFit, IsDue, Answers}

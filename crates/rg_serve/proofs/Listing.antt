@@ -15,7 +15,7 @@ use Rattle.rg_run_spec.specs.Pieces.{AreLines}
 use Rattle.rg_run_spec.specs.Stores.{IsNear}
 use Rattle.rg_run_spec.specs.Verdicts.{Basis, Verdict, accepted_after, line_verdict}
 use Rattle.rg_run_spec.specs.Verdicts.Verdict.{refused, obeyed, accepted, moved}
-use Rattle.rg_run_spec.proofs.Texts.{mark_no_lf, turn_are_lines}
+use Rattle.rg_run_spec.proofs.Laws.{mark_no_lf, turn_are_lines}
 use Rattle.rg_serve_spec.specs.Frames.{Reply, lines_in}
 use Rattle.rg_serve_spec.specs.Replies.{events_with, reply_to, events_all, replies_to}
 use Rattle.rg_serve_spec.specs.Errands.{Errand, replies_of, course_of}

@@ -16,16 +16,14 @@ use Rattle.rg_run_spec.specs.Output.{stores, saves, stored_line, saved_line, ver
 use Rattle.rg_run_spec.specs.Stores.{Store, Course}
 use Rattle.rg_run_spec.specs.Steps.{MarksHold, HasInKept}
 use Rattle.rg_run_spec.specs.Verdicts.{Verdict, accepted_after, reply_of}
-use Rattle.rg_run_spec.proofs.Keeping.{marks_prefix}
-use Rattle.rg_run_spec.proofs.Marking.{turn_marks, end_marks}
-use Rattle.rg_run_spec.proofs.Marks.{contains_one, contains_none, stored_injective, no_mark}
+use Rattle.rg_run_spec.proofs.Laws.{marks_prefix, turn_marks, end_marks, contains_one, contains_none, stored_injective, no_mark}
 use Rattle.rg_task.specs.Terms.{terms_of}
 use Rattle.rg_task.specs.View.{View}
 use Rattle.rg_run.specs.declared.due.Due.{Due}
 use Rattle.rg_run.specs.declared.due.Due.TheVariants.{Nothing, Commit, Save}
 use Rattle.rg_run.specs.Due.{marks_for}
 use Rattle.rg_run.specs.Turning.{IsDueDone}
-use Rattle.rg_run.proofs.Marking.{due_on, marks_due, stores_due, saves_due}
+use Rattle.rg_run.proofs.Laws.{due_on, marks_due, stores_due, saves_due}
 
 -- where something was due, all events are stored
 pub done_stored : {K : Type 0} (view : View K) (due : Due) (plan : Planned) (t : K) → IsDueDone view due plan t → (due ≡ Nothing → ⊥) → (view.at t).stored ≡ (view.at t).events

@@ -9,9 +9,7 @@ use Rattle.rg_reply.specs.Texts.{mark_line}
 use Rattle.rg_reply.specs.declared.mark.Mark.TheVariants.{Opened}
 use Rattle.rg_run_spec.specs.Laws.{IsPrefixOf}
 use Rattle.rg_run_spec.specs.Output.{open_line, end_lines}
-use Rattle.rg_run_spec.proofs.Keeping.{rest_more}
-use Rattle.rg_run_spec.proofs.Marking.{open_marks}
-use Rattle.rg_run_spec.proofs.Texts.{mark_no_lf}
+use Rattle.rg_run_spec.proofs.Laws.{rest_more, open_marks, mark_no_lf}
 use Rattle.rg_task.specs.View.{View}
 use Rattle.rg_serve_spec.specs.Frames.{Reply, text_of, framed}
 use Rattle.rg_serve_spec.specs.Replies.{events_all, replies_to}

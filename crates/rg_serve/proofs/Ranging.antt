@@ -4,7 +4,7 @@ use Rattle.std.proofs.lemmas.List.{drop-drop, drop-take}
 use Rattle.std.specs.Prelude.{Option}
 use Rattle.rg_bytes.specs.Known.{before}
 use Rattle.rg_host.specs.Buffered.{ReadsPart}
-use Rattle.rg_host.proofs.Ranges.{length-slice_range}
+use Rattle.rg_host.proofs.Laws.{length-slice_range}
 use Rattle.rg_serve.specs.Intaking.{Takes}
 
 pub drop_range : (bytes : List ℕ) (start end n : ℕ) → end ≤ length bytes → n ≤ length (slice_range bytes start end) → drop n (slice_range bytes start end) ≡ slice_range bytes (start + n) end

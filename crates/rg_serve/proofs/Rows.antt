@@ -13,13 +13,12 @@ use Rattle.rg_run_spec.specs.Verdicts.{Verdict, accepted_after, reply_of, line_v
 use Rattle.rg_run_spec.specs.Verdicts.Verdict.{refused, obeyed}
 use Rattle.rg_run_spec.specs.Output.{verdict_lines}
 use Rattle.rg_run_spec.specs.Steps.{MarksHold}
-use Rattle.rg_run_spec.proofs.Events.{next_after}
+use Rattle.rg_run_spec.proofs.Laws.{next_after}
 use Rattle.rg_run.specs.declared.due.Due.{Due}
 use Rattle.rg_run.specs.Due.{is_due, marks_for}
 use Rattle.rg_run_spec.specs.Verdicts.{IsRow}
 use Rattle.rg_run.specs.Turning.{HasWay, IsDueDone}
-use Rattle.rg_run.proofs.Marking.{due_on, row_due, none_due}
-use Rattle.rg_run.proofs.Stepping.{row_verdict_is}
+use Rattle.rg_run.proofs.Laws.{due_on, row_due, none_due, row_verdict_is}
 use Rattle.rg_task.specs.Terms.{terms_of, verdict_on}
 use Rattle.rg_task.specs.View.{View}
 use Rattle.rg_serve_spec.specs.Frames.{text_of, framed, lines_in}

@@ -10,23 +10,20 @@ use Rattle.rg_config.specs.Plans.{Planned}
 use Rattle.rg_host.specs.Image.{Image}
 use Rattle.rg_host.specs.Moments.{Moment, Moments, LeavesFiles, LeavesAll}
 use Rattle.rg_host.specs.Puts.{IsPrefix, IsPartWay, Puts}
-use Rattle.rg_host.proofs.Runs.{moments-weaker, leaves_all-none}
+use Rattle.rg_host.proofs.Laws.{moments-weaker, leaves_all-none}
 use Rattle.rg_run_spec.specs.Laws.{IsPrefixOf}
 use Rattle.rg_run_spec.specs.Pieces.{AreLines}
 use Rattle.rg_run_spec.specs.Stores.{Store, Course, IsNear, IsKeptInStore}
 use Rattle.rg_run_spec.specs.Steps.{IsAtRest, IsMidStep, MarksHold}
-use Rattle.rg_run_spec.proofs.Hosts.{told_moments, put as putting}
-use Rattle.rg_run_spec.proofs.Keeping.{near_more, rest_kept, mid_step_kept, after_step, rest_fewer, rest_more}
-use Rattle.rg_run_spec.proofs.Texts.{are-append}
+use Rattle.rg_run_spec.proofs.Laws.{told_moments, put as putting, near_more, rest_kept, mid_step_kept, after_step, rest_fewer, rest_more, are-append}
 use Rattle.rg_task.specs.State.{State}
 use Rattle.rg_task.specs.Stepping.{IsWithinStep, IsStored, IsAllSaved}
 use Rattle.rg_task.specs.View.{View, Keeps, OnlyNow, Sinks}
 use Rattle.rg_run.specs.Turning.{HasWay}
-use Rattle.rg_run.proofs.Saving.{rest_saved}
+use Rattle.rg_run.proofs.Laws.{rest_saved}
 use Rattle.rg_serve_spec.specs.Frames.{Reply, text_of, framed, frames_of, lines_in, AreSmall}
 use Rattle.rg_serve_spec.specs.Errands.{Errand, replies_of, course_of, StaysOnErrand}
-use Rattle.rg_serve_spec.proofs.Reading.{lines_all}
-use Rattle.rg_serve_spec.proofs.Putting.{frames-append, lines-append, reads_some}
+use Rattle.rg_serve_spec.proofs.Laws.{lines_all, frames-append, lines-append, reads_some}
 use Rattle.rg_serve.specs.Serving.{IsSplit, IsHeld, IsWithin, HasHalted}
 
 no_frames : (replies : List Reply) → frames_of replies ≡ [] → replies ≡ []

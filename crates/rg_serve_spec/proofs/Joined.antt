@@ -12,9 +12,7 @@ use Rattle.rg_run_spec.specs.Verdicts.{accepted_after, line_verdict}
 use Rattle.rg_run_spec.specs.Accepted.{after_turn, verdict_from, events_after}
 use Rattle.rg_run_spec.specs.Ahead.{events_from, put_from}
 use Rattle.rg_run_spec.specs.Output.{Terms, turn_lines, end_lines, out}
-use Rattle.rg_run_spec.proofs.Events.{next_after}
-use Rattle.rg_run_spec.proofs.Folds.{accepted-all, out-is}
-use Rattle.rg_run_spec.proofs.Lines.{looked_at}
+use Rattle.rg_run_spec.proofs.Laws.{next_after, accepted-all, out-is, looked_at}
 use Rattle.rg_serve_spec.specs.Frames.{lines_in}
 use Rattle.rg_serve_spec.specs.Replies.{events_all, replies_to, row_replies, texts_of}
 

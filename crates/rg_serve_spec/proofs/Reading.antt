@@ -5,9 +5,9 @@ use Rattle.std.proofs.lemmas.List.{take_at, drop_at, take-append-le}
 use Rattle.std.proofs.lemmas.Nat.{from_be_bytes-to_be_bytes_4}
 use Rattle.std.specs.Int.{w32, from_be_bytes, to_be_bytes}
 use Rattle.rg_host.specs.Lines.{ended}
-use Rattle.rg_host.proofs.Endings.{ended-append}
+use Rattle.rg_host.proofs.Laws.{ended-append}
 use Rattle.rg_run_spec.specs.Pieces.{AreLines, whole_pieces}
-use Rattle.rg_run_spec.proofs.Texts.{pieces_then}
+use Rattle.rg_run_spec.proofs.Laws.{pieces_then}
 use Rattle.rg_serve_spec.specs.Frames.{Reply, text_of, framed, frames_of, lines_in, is_whole, texts_from, texts_in, texts_of_all, joined, lines_said, AreSmall}
 
 -- the number at the head of a frame

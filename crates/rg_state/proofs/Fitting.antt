@@ -14,9 +14,9 @@ use Rattle.rg_agg.specs.Standing.{func_of, AreThere, Stands, count_in, places}
 use Rattle.rg_agg.specs.Stands.{AreInts, last_behind, last_value}
 use Rattle.rg_agg.specs.Unbeaten.{is_less, is_greater, joined_to, unbeaten}
 use Rattle.rg_metric.specs.Same.{same_value}
-use Rattle.rg_metric.proofs.Same.{same_value-true, same_value-same}
+use Rattle.rg_metric.proofs.Laws.{same_value-true, same_value-same}
 use Rattle.rg_multiset.specs.Pairs.{once}
-use Rattle.rg_multiset.proofs.Places.{places_first}
+use Rattle.rg_multiset.proofs.Laws.{places_first}
 use Rattle.rg_state.specs.Rows.{RowStands}
 use Rattle.rg_state.specs.States.{HasKind, IsOfKind, IsFor}
 

@@ -7,7 +7,7 @@ use Rattle.std.proofs.lemmas.Bool.Decides.{Decides-eqb}
 use Rattle.rg_group.specs.Mixes.{mix}
 use Rattle.rg_key_index.specs.Index.{Holds}
 use Rattle.rg_state.specs.Cells.{count_at, key_at, slot_in, IsBound, AreHeld, AreHeldBelow, NoneGuessed}
-use Rattle.rg_key_index.proofs.Holding.{overflowed_where_not_guessed}
+use Rattle.rg_key_index.proofs.Laws.{overflowed_where_not_guessed}
 use Rattle.rg_state.specs.Slots.{no_slot, slot_filled, slot_key}
 use Rattle.rg_state.specs.declared.key_rows.KeyRows.{KeyRows}
 use Rattle.rg_state.proofs.Slotted.{count_beside, key_beside, key_there, key_set, key_more, is_apart, used_beside}

@@ -4,8 +4,7 @@ use Rattle.std.proofs.lemmas.List.{length-map}
 use Rattle.rg_agg.specs.Held.{held_bytes}
 use Rattle.rg_agg.specs.Numbers.{value_of}
 use Rattle.rg_agg.specs.Standing.{size_in}
-use Rattle.rg_agg.proofs.Fields.{counted_reads_back, summed_reads_back, averaged_reads_back, squared_reads_back, end_reads_back, number_value_reads_back}
-use Rattle.rg_agg.proofs.Queues.{queued_reads_back}
+use Rattle.rg_agg.proofs.Laws.{counted_reads_back, summed_reads_back, averaged_reads_back, squared_reads_back, end_reads_back, number_value_reads_back, queued_reads_back}
 use Rattle.rg_agg.specs.Held.{number_value_at, ranked, varied}
 use Rattle.rg_agg.specs.Stands.{IsNumber}
 use Rattle.rg_agg.specs.Unbeaten.{is_less}
@@ -13,9 +12,9 @@ use Rattle.rg_bytes.specs.Reading.{and_then}
 use Rattle.rg_event.specs.Tagged.{IsLegal}
 use Rattle.rg_multiset.specs.Reading.{any_value_at, is_before}
 use Rattle.rg_multiset.specs.ValueLaws.{value_reads_back}
-use Rattle.rg_multiset.proofs.ReadPairs.{tally_back}
+use Rattle.rg_multiset.proofs.Laws.{tally_back}
 use Rattle.rg_extreme.specs.States.{pairs_in}
-use Rattle.rg_extreme.proofs.ReadExtremes.{highest_back, lowest_back}
+use Rattle.rg_extreme.proofs.Laws.{highest_back, lowest_back}
 use Rattle.rg_state.specs.States.{held_of, state_at}
 use Rattle.rg_state.specs.declared.state.AggState.{AggState}
 use Rattle.rg_state.specs.declared.state.AggState.TheVariants.{Count, Sum, Avg, SumSq, Min, Max, Distinct, Rank, First, Last}

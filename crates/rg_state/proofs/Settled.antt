@@ -12,15 +12,15 @@ use Rattle.rg_keywords.specs.declared.func.Func.{Func}
 use Rattle.rg_keywords.specs.declared.func.Func.TheVariants as func
 use Rattle.rg_metric.specs.Answers.{numbers, total, total_of_squares}
 use Rattle.rg_metric.specs.Same.{same_value}
-use Rattle.rg_metric.proofs.Same.{same_value-true, same_value-same}
+use Rattle.rg_metric.proofs.Laws.{same_value-true, same_value-same}
 use Rattle.rg_agg.specs.Held.{Held, counted, summed, averaged, squared, queued, ended, lowest, highest, varied, ranked}
 use Rattle.rg_agg.specs.Standing.{func_of, AreThere, count_in, Stands}
 use Rattle.rg_agg.specs.Stands.{last_value}
 use Rattle.rg_agg.specs.Unbeaten.{is_less, is_greater, unbeaten}
 use Rattle.rg_multiset.specs.Pairs.{AreRising}
 use Rattle.rg_multiset.specs.Reading.{is_before}
-use Rattle.rg_multiset.proofs.Places.{other_way}
-use Rattle.rg_rank.proofs.Settled.{same_ranks}
+use Rattle.rg_multiset.proofs.Laws.{other_way}
+use Rattle.rg_rank.proofs.Laws.{same_ranks}
 use Rattle.rg_state.specs.States.{held_of}
 use Rattle.rg_state.specs.declared.state.AggState.{AggState}
 use Rattle.rg_state.specs.declared.state.AggState.TheVariants.{Count, Sum, Avg, SumSq, Min, Max, Distinct, Rank, First, Last}

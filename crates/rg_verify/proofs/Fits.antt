@@ -6,7 +6,7 @@ use Rattle.rg_event.specs.Shapes.{Shape}
 use Rattle.rg_event.specs.declared.event.Event.{Event}
 use Rattle.rg_event.specs.declared.schema.Field.{Field}
 use Rattle.rg_frame.specs.Frames.{HasPayloads}
-use Rattle.rg_frame.proofs.FrameLists.{payloads_one}
+use Rattle.rg_frame.proofs.Laws.{payloads_one}
 use Rattle.rg_plan.specs.Plans.{Tasks}
 use Rattle.rg_reservoir.specs.Naming.{IsNamed}
 use Rattle.rg_checkpoint.specs.declared.base.Checkpoint.{Checkpoint}

@@ -4,18 +4,18 @@ use Rattle.rg_event.specs.Shapes.{Shape}
 use Rattle.rg_event.specs.declared.event.Event.{Event}
 use Rattle.rg_event.specs.declared.value.Value.{Value}
 use Rattle.rg_frame.specs.Frames.{HasPayloads}
-use Rattle.rg_frame.proofs.FrameLists.{payloads_one}
+use Rattle.rg_frame.proofs.Laws.{payloads_one}
 use Rattle.rg_growth.specs.Filling.{Given, IsFilled, filled}
-use Rattle.rg_growth.proofs.Filled.{not_itself}
+use Rattle.rg_growth.proofs.Laws.{not_itself}
 use Rattle.rg_chunk.specs.Extended.{all_extended}
 use Rattle.rg_log.specs.Entries.{behind}
 use Rattle.rg_log.specs.Filled.{HasEventsFor}
 use Rattle.rg_log.specs.Log.{HasEvents, IsInForce}
 use Rattle.rg_log.specs.declared.summary.LogSummary.{LogSummary}
-use Rattle.rg_log.proofs.Growing.{in_force_of}
+use Rattle.rg_log.proofs.Laws.{in_force_of}
 use Rattle.rg_reservoir.specs.Attached.{IsForeign, IsOpened}
 use Rattle.rg_reservoir.specs.Views.{View}
-use Rattle.rg_reservoir.proofs.Legal.{said_in_force, not_other, is_foreign, not_to_grow, unframed_for}
+use Rattle.rg_reservoir.proofs.Laws.{said_in_force, not_other, is_foreign, not_to_grow, unframed_for}
 use Rattle.rg_verify.specs.Finding.{IsFurther, IsApart, IsFoundFor}
 use Rattle.rg_verify.specs.Payments.{payments_in}
 use Rattle.rg_verify.proofs.Logs.{payments_are}

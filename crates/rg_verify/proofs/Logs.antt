@@ -10,10 +10,10 @@ use Rattle.rg_growth.specs.Filling.{Given}
 use Rattle.rg_host.specs.Image.{Image}
 use Rattle.rg_log.specs.Filled.{HasEventsFor}
 use Rattle.rg_log.specs.Log.{HasEvents}
-use Rattle.rg_log.proofs.Filled.{of_for, few_for}
+use Rattle.rg_log.proofs.Laws.{of_for, few_for}
 use Rattle.rg_plan.specs.Plans.{Tasks}
 use Rattle.rg_dump.specs.Dump.{damage_of}
-use Rattle.rg_dump.proofs.Legal.{legal_read}
+use Rattle.rg_dump.proofs.Laws.{legal_read}
 use Rattle.rg_row_audit.specs.Rows.{AreServed}
 use Rattle.rg_verify.specs.Payments.{payments_in}
 use Rattle.rg_verify.specs.Verdicts.{Terms}

@@ -5,15 +5,14 @@ use Rattle.rg_event.specs.declared.event.Event.{Event}
 use Rattle.rg_chunk.specs.Extended.{all_extended}
 use Rattle.rg_frame.specs.Looks.{IsClosed}
 use Rattle.rg_log.specs.Entries.{nothing}
-use Rattle.rg_log.proofs.Extending.{extended-none}
+use Rattle.rg_log.proofs.Laws.{extended-none}
 use Rattle.rg_reservoir.specs.Walked.{place_of, schema_of as known_of, tally_of, IsNext, IsRefusedWalk}
 use Rattle.rg_reservoir.specs.declared.walk.Stage.{Stage}
 use Rattle.rg_reservoir.specs.declared.walk.Stage.TheVariants as stage
 use Rattle.rg_reservoir.specs.declared.walk.Walk.{Walk}
 use Rattle.rg_dump.specs.Behind.{stage_events, stage_values, events_in}
 use Rattle.rg_dump.specs.Dump.{damage_of}
-use Rattle.rg_dump.proofs.Behind.{events_push}
-use Rattle.rg_dump.proofs.Walking.{IsAt, at_start, at_next, at_end, at_damage}
+use Rattle.rg_dump.proofs.Laws.{events_push, IsAt, at_start, at_next, at_end, at_damage}
 use Rattle.rg_verify.specs.Payments.{events_after, has_frames, IsReadAll}
 
 -- a frame more, by cases

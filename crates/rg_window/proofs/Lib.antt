@@ -1,4 +1,5 @@
 pub mod Chains
+pub mod Laws
 pub mod Passes
 pub mod Runs
 pub mod Spelled

@@ -1,6 +1,6 @@
 use Rattle.std.proofs.Common.{inl, rules}
 use Rattle.rg_agg.specs.declared.fault.StateFault.TheVariants.{Memory}
-use Rattle.rg_bytes.proofs.Reading.{agrees_stopped}
+use Rattle.rg_bytes.proofs.Laws.{agrees_stopped}
 use Rattle.rg_agg.proofs.Queues.{next_read, next_bad, next_stops}
 use Rattle.rg_agg.proofs.first.read_next.Goals as goal
 

@@ -1,7 +1,7 @@
 use Rattle.std.proofs.Common.{◌≡◌, ◌∷◌, ◌++◌, [], length, length-append, map, ap, ◌∙◌, arith, rules}
 use Rattle.rg_agg.specs.Held.{next_at}
 use Rattle.rg_agg.specs.Numbers.{value_of}
-use Rattle.rg_bytes.proofs.Lists.{step_to_come, step_taken}
+use Rattle.rg_bytes.proofs.Laws.{step_to_come, step_taken}
 use Rattle.rg_event.specs.Tagged.{tagged_bytes}
 use Rattle.rg_agg.proofs.Queues.{alike_pushed, values_more}
 use Rattle.rg_agg.proofs.first.read_numbers.Goals as goal

@@ -2,7 +2,7 @@ use Rattle.std.proofs.Common.{◌≡◌, inl, refl, rules}
 use Rattle.rg_agg.specs.Numbers.{value_of}
 use Rattle.rg_agg.specs.declared.fault.StateFault.TheVariants.{Memory}
 use Rattle.rg_agg.proofs.Fields.{number_value_read, number_value_bad, number_value_stops, is_value_of, no_number}
-use Rattle.rg_bytes.proofs.Reading.{agrees_stopped}
+use Rattle.rg_bytes.proofs.Laws.{agrees_stopped}
 use Rattle.rg_agg.proofs.reading.read_number.Goals as goal
 
 pub returns-in_err-value-clause-agrees : goal.returns-in_err-value-clause-agrees

@@ -1,7 +1,7 @@
 use Rattle.std.proofs.Common.{rules, inl, ◌∙◌}
 use Rattle.rg_agg.specs.declared.fault.StateFault.TheVariants.{Short, Memory}
 use Rattle.rg_agg.proofs.Fields.{size_tag_short, size_tag_other, size_tag_read, size_short, size_bad, size_read}
-use Rattle.rg_bytes.proofs.Reading.{agrees_stopped}
+use Rattle.rg_bytes.proofs.Laws.{agrees_stopped}
 use Rattle.rg_agg.proofs.reading.read_size.Goals as goal
 
 pub returns-in_err-u8-clause-agrees : goal.returns-in_err-u8-clause-agrees

@@ -5,7 +5,7 @@ use Rattle.std.specs.Int.RustNames.{FitsSigned}
 use Rattle.rg_agg.specs.Held.{is_square_sum}
 use Rattle.rg_agg.specs.declared.fault.StateFault.TheVariants.{Short, Memory}
 use Rattle.rg_agg.proofs.Fields.{total_size_stops, total_sum_short, total_read, total_bad}
-use Rattle.rg_bytes.proofs.Reading.{agrees_stopped}
+use Rattle.rg_bytes.proofs.Laws.{agrees_stopped}
 use Rattle.rg_agg.proofs.sum_sq.read_squares.Goals as goal
 
 pub returns-in_err-count-clause-agrees : goal.returns-in_err-count-clause-agrees

@@ -1,5 +1,5 @@
 use Rattle.std.proofs.Common.{◌≡◌, ◌⊎◌, ◌++◌, ◌∷◌, [], List, Ok, Err, true, subst, rules}
-use Rattle.rg_bytes.proofs.Lists.{step_counted, step_to_come, step_stops, step_taken, step_legal}
+use Rattle.rg_bytes.proofs.Laws.{step_counted, step_to_come, step_stops, step_taken, step_legal}
 use Rattle.rg_state.specs.Rows.{entry_bytes}
 use Rattle.rg_checkpoint.specs.declared.base.Row.{Row}
 use Rattle.rg_checkpoint.specs.declared.fault.CheckpointFault.TheVariants.{Memory}

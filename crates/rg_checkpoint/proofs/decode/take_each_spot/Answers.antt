@@ -1,5 +1,5 @@
 use Rattle.std.proofs.Common.{◌≡◌, ◌++◌, ◌∷◌, [], rules}
-use Rattle.rg_bytes.proofs.Lists.{step_counted, step_to_come, step_stops, step_taken, step_legal}
+use Rattle.rg_bytes.proofs.Laws.{step_counted, step_to_come, step_stops, step_taken, step_legal}
 use Rattle.rg_checkpoint.specs.declared.fault.CheckpointFault.TheVariants.{Memory}
 use Rattle.rg_checkpoint.specs.Base.{spot_bytes, IsSpot}
 use Rattle.rg_checkpoint.specs.Reading.{next_spot_at}

@@ -1,5 +1,5 @@
 use Rattle.std.proofs.Common.{◌≡◌, ◌++◌, ◌∷◌, [], rules}
-use Rattle.rg_bytes.proofs.Lists.{step_counted, step_to_come, step_taken, step_legal}
+use Rattle.rg_bytes.proofs.Laws.{step_counted, step_to_come, step_taken, step_legal}
 use Rattle.rg_checkpoint.specs.Base.{text_bytes, IsText}
 use Rattle.rg_checkpoint.specs.Reading.{next_text_at}
 use Rattle.rg_checkpoint.proofs.decode.take_each_text.Goals as goal

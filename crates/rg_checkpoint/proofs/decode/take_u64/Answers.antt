@@ -1,5 +1,5 @@
 use Rattle.std.proofs.Common.{rules}
-use Rattle.rg_bytes.proofs.Reading.{u64_read}
+use Rattle.rg_bytes.proofs.Laws.{u64_read}
 use Rattle.rg_checkpoint.specs.declared.fault.CheckpointFault.TheVariants.{BadCheckpoint}
 use Rattle.rg_checkpoint.proofs.decode.take_u64.Goals as goal
 

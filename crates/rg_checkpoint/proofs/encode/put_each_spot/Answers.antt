@@ -1,5 +1,5 @@
 use Rattle.std.proofs.Common.{rules}
-use Rattle.rg_bytes.proofs.Keeping.{kept_added, kept_on}
+use Rattle.rg_bytes.proofs.Laws.{kept_added, kept_on}
 use Rattle.rg_checkpoint.specs.Base.{spot_bytes, IsSpot}
 use Rattle.rg_checkpoint.proofs.Puts.{item_put, item_legal, all_taken}
 use Rattle.rg_checkpoint.proofs.encode.put_each_spot.Goals as goal

@@ -1,6 +1,6 @@
 use Rattle.std.proofs.Common.{◌≡◌, ◌++◌, ◌∷◌, [], Ok, rules}
 use Rattle.rg_event.specs.Codec.{IsEventOf, event_bytes}
-use Rattle.rg_bytes.proofs.Lists.{step_counted, step_to_come, step_taken, step_legal}
+use Rattle.rg_bytes.proofs.Laws.{step_counted, step_to_come, step_taken, step_legal}
 use Rattle.rg_chunk.specs.Chunks.{next_event_at}
 use Rattle.rg_chunk.proofs.Chunks.{next_is, next_pushed, time_pushed, rising_pushed}
 use Rattle.rg_chunk.proofs.chunk.take_events.Goals as goal

@@ -1,7 +1,7 @@
 use Rattle.std.proofs.Common.{◌++◌, ◌∷◌, [], ap, ◌∙◌, rules}
 use Rattle.std.proofs.lemmas.Result.{IfOk-equal, on_err_weaker}
 use Rattle.std.specs.Int.{w32, to_be_bytes}
-use Rattle.rg_bytes.proofs.Keeping.{kept_through}
+use Rattle.rg_bytes.proofs.Laws.{kept_through}
 use Rattle.rg_chunk.specs.Heads.{head_bytes, stamp_bytes, tag_of}
 use Rattle.rg_chunk.proofs.Heads.{four_more}
 use Rattle.rg_chunk.proofs.head.put_head.Goals as goal

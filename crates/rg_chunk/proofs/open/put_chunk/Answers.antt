@@ -1,6 +1,6 @@
 use Rattle.std.proofs.Common.{◌++◌, rules}
 use Rattle.std.proofs.lemmas.Result.{IfOk-equal, on_err_weaker}
-use Rattle.rg_bytes.proofs.Keeping.{kept_through, kept_same}
+use Rattle.rg_bytes.proofs.Laws.{kept_through, kept_same}
 use Rattle.rg_column.specs.Columns.{columns_bytes}
 use Rattle.rg_chunk.specs.Heads.{head_bytes, head_for}
 use Rattle.rg_chunk.specs.Chunks.{chunk_bytes}

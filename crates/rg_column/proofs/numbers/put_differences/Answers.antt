@@ -1,6 +1,6 @@
 use Rattle.std.proofs.Common.{◌≡◌, ◌≤◌, ◌-◌, ◌<◌, map, get_or, length, arith, rules, ap, sym, ◌∙◌}
 use Rattle.rg_bytes.specs.Keeps.{Keeps}
-use Rattle.rg_bytes.proofs.Keeping.{kept_added, kept_on, kept_same}
+use Rattle.rg_bytes.proofs.Laws.{kept_added, kept_on, kept_same}
 use Rattle.rg_column.specs.Numbers.{number_of, least}
 use Rattle.rg_column.proofs.Packing.{put_more, number_within}
 use Rattle.rg_column.proofs.numbers.put_differences.Goals as goal

@@ -1,5 +1,5 @@
 use Rattle.std.proofs.Common.{◌≡◌, ◌++◌, ◌∷◌, [], Ok, inl, rules}
-use Rattle.rg_bytes.proofs.Lists.{step_counted, step_to_come, step_stops, step_taken}
+use Rattle.rg_bytes.proofs.Laws.{step_counted, step_to_come, step_stops, step_taken}
 use Rattle.rg_column.specs.Widths.{difference_at, difference_bytes}
 use Rattle.rg_column.specs.declared.fault.ColumnFault.TheVariants.{Short, Memory}
 use Rattle.rg_column.proofs.Widths.{difference_read, difference_short}

@@ -1,5 +1,5 @@
 use Rattle.std.proofs.Common.{◌≡◌, true, false, inl, arith, rules, ap, sym, ◌∙◌, Err, rules}
-use Rattle.rg_bytes.proofs.Reading.{agrees_stopped}
+use Rattle.rg_bytes.proofs.Laws.{agrees_stopped}
 use Rattle.rg_column.specs.Numbers.{is_packed, lowest, highest, greatest}
 use Rattle.rg_column.specs.declared.fault.ColumnFault.TheVariants.{Short, BadColumn, Memory}
 use Rattle.rg_column.proofs.Packing.{numbers_no_base, numbers_no_width, numbers_bad_width, numbers_stop, numbers_refused, numbers_read, numbers_taken, packed_parts, raised_are, packed_fits}

@@ -1,6 +1,6 @@
 use Rattle.std.proofs.Common.{◌++◌, List, ℕ, map, sym, ap, rules}
 use Rattle.std.proofs.lemmas.Result.{IfOk-equal, on_err_weaker}
-use Rattle.rg_bytes.proofs.Keeping.{kept_through}
+use Rattle.rg_bytes.proofs.Laws.{kept_through}
 use Rattle.rg_column.specs.Numbers.{value_number, value_of, number_of, numbers_bytes}
 use Rattle.rg_column.specs.declared.series.Series.TheVariants.{Int, Id}
 use Rattle.rg_column.proofs.Typed.{map_twice}

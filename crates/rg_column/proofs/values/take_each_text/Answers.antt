@@ -1,5 +1,5 @@
 use Rattle.std.proofs.Common.{◌≡◌, ◌++◌, ◌∷◌, [], length, get_or, Ok, rules}
-use Rattle.rg_bytes.proofs.Lists.{step_counted, step_to_come, step_stops, step_taken, step_legal}
+use Rattle.rg_bytes.proofs.Laws.{step_counted, step_to_come, step_stops, step_taken, step_legal}
 use Rattle.rg_event.specs.Codec.{IsValueOf}
 use Rattle.rg_event.specs.declared.value.Kind.TheVariants.{Text}
 use Rattle.rg_column.specs.Values.{text_in, next_text_at}

@@ -1,5 +1,5 @@
 use Rattle.std.proofs.Common.{rules, inl, ap, sym, ◌∙◌, ◌+◌, Err}
-use Rattle.rg_bytes.proofs.Reading.{agrees_stopped}
+use Rattle.rg_bytes.proofs.Laws.{agrees_stopped}
 use Rattle.rg_column.specs.declared.fault.ColumnFault.TheVariants.{Short, BadColumn, Memory}
 use Rattle.rg_column.proofs.Typed.{flag_false, flag_true, flag_bad, flag_short}
 use Rattle.rg_column.proofs.values.take_flag.Goals as goal

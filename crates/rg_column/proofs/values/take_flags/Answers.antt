@@ -1,5 +1,5 @@
 use Rattle.std.proofs.Common.{◌≡◌, ◌++◌, ◌∷◌, [], rules}
-use Rattle.rg_bytes.proofs.Lists.{step_counted, step_to_come, step_stops, step_legal}
+use Rattle.rg_bytes.proofs.Laws.{step_counted, step_to_come, step_stops, step_legal}
 use Rattle.rg_event.specs.Codec.{IsValueOf}
 use Rattle.rg_event.specs.declared.value.Kind.TheVariants.{Flag}
 use Rattle.rg_column.specs.Values.{flag_at}

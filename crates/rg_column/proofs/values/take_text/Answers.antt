@@ -1,7 +1,7 @@
 use Rattle.std.proofs.Common.{◌≡◌, ◌≤◌, false, length, IsTrue, inl, arith, rules, ap, sym, ◌∙◌, ◌+◌, Err}
-use Rattle.rg_bytes.proofs.Reading.{agrees_stopped}
+use Rattle.rg_bytes.proofs.Laws.{agrees_stopped}
 use Rattle.rg_event.specs.Words.{is_word}
-use Rattle.rg_event.proofs.Words.{text_of_word, no_text}
+use Rattle.rg_event.proofs.Laws.{text_of_word, no_text}
 use Rattle.rg_column.specs.declared.fault.ColumnFault.TheVariants.{Short, BadColumn, Memory}
 use Rattle.rg_column.proofs.Typed.{text_short, text_read, text_bad}
 use Rattle.rg_column.proofs.values.take_text.Goals as goal

@@ -1,5 +1,5 @@
 use Rattle.std.proofs.Common.{rules, inl}
-use Rattle.rg_bytes.proofs.Reading.{agrees_stopped}
+use Rattle.rg_bytes.proofs.Laws.{agrees_stopped}
 use Rattle.rg_column.specs.declared.fault.ColumnFault.TheVariants.{Short, Memory}
 use Rattle.rg_column.proofs.Typed.{texts_short, texts_agree}
 use Rattle.rg_column.proofs.values.take_texts.Goals as goal

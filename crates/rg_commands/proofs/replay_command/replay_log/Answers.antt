@@ -1,6 +1,6 @@
 use Rattle.std.proofs.Common.{◌≡◌, ℕ, List, Err, refl, ap, ◌∙◌, subst, arith}
 use Rattle.rg_config.specs.Plans.{planned}
-use Rattle.rg_engine.proofs.Legal.{serves}
+use Rattle.rg_engine.proofs.Laws.{serves}
 use Rattle.rg_replay.specs.declared.fault.ReplayFault.{ReplayFault}
 use Rattle.rg_messages.specs.declared.status.Status.TheVariants.{Ok, Memory}
 use Rattle.rg_commands.specs.Call.{ending_status, ending_line}

@@ -1,7 +1,7 @@
 use Rattle.std.proofs.Common.{true, false, Err, refl, ap, subst}
 use Rattle.rg_host.specs.Puts.{Puts}
 use Rattle.rg_config.specs.Plans.{planned}
-use Rattle.rg_engine.proofs.Legal.{serves}
+use Rattle.rg_engine.proofs.Laws.{serves}
 use Rattle.rg_verify.specs.declared.fault.VerifyFault.{VerifyFault}
 use Rattle.rg_verify.specs.Fitting.{terms_of}
 use Rattle.rg_verify.specs.Verify.{IsSaid, IsCut}

@@ -1,7 +1,7 @@
 use Rattle.std.proofs.Common.{◌≡◌, ◌∙◌, [], Err, ap, subst, arith}
 use Rattle.rg_host.specs.Lines.{ended}
 use Rattle.rg_host.specs.Puts.{Puts}
-use Rattle.rg_host.proofs.PutRuns.{puts-then}
+use Rattle.rg_host.proofs.Laws.{puts-then}
 use Rattle.rg_dump.specs.declared.fault.DumpFault.{DumpFault}
 use Rattle.rg_dump.specs.declared.fault.DumpFault.TheVariants.{Write}
 use Rattle.rg_dump.specs.declared.survey.Survey.{Survey}

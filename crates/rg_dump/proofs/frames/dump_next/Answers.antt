@@ -1,6 +1,6 @@
 use Rattle.std.proofs.Common.{rules, ◌≡◌, ◌∙◌, inl, inr, ⊎_elim, [], true, false, List, ℕ, Err, sym, ap, subst}
 use Rattle.rg_host.specs.Puts.{Puts}
-use Rattle.rg_host.proofs.PutRuns.{puts-then}
+use Rattle.rg_host.proofs.Laws.{puts-then}
 use Rattle.rg_reservoir.specs.declared.fault.ReservoirFault.{ReservoirFault}
 use Rattle.rg_dump.specs.declared.fault.DumpFault.{DumpFault}
 use Rattle.rg_dump.proofs.Dumping.{walk_damaged, walk_disk, walk_write, put_damaged, put_disk}

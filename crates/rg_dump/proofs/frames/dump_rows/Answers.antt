@@ -1,6 +1,6 @@
 use Rattle.std.proofs.Common.{rules, ◌≡◌, ◌∙◌, ⊎_elim, arith}
 use Rattle.rg_host.specs.Puts.{Puts}
-use Rattle.rg_host.proofs.PutRuns.{puts-nothing, puts-then}
+use Rattle.rg_host.proofs.Laws.{puts-nothing, puts-then}
 use Rattle.rg_dump.specs.declared.fault.DumpFault.TheVariants.{Damaged, Write}
 use Rattle.rg_dump.proofs.Dumping.{begin, step, finish, spoil, quiet, cut, quiet_damage}
 use Rattle.rg_dump.proofs.Leaves.{put-none, put-then}

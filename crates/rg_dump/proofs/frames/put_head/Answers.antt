@@ -1,6 +1,5 @@
 use Rattle.std.proofs.Common.{[], inl, refl, arith}
-use Rattle.rg_host.proofs.PutRuns.{puts-nothing}
-use Rattle.rg_host.proofs.Runs.{leaves_files-none}
+use Rattle.rg_host.proofs.Laws.{puts-nothing, leaves_files-none}
 use Rattle.rg_dump.proofs.frames.put_head.Goals as goal
 
 pub returns-in-Err-clause-part : goal.returns-in-Err-clause-part

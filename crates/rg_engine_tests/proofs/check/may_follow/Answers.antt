@@ -1,6 +1,6 @@
 use Rattle.std.proofs.Common.{◌≤◌, ap, arith}
 use Rattle.std.proofs.lemmas.Bool.{leb-true}
-use Rattle.rg_engine.proofs.Lasts.{last_at, not_empty}
+use Rattle.rg_engine.proofs.Laws.{last_at, not_empty}
 use Rattle.rg_engine_tests.proofs.check.may_follow.Goals as goal
 
 pub returns-then-last-event : goal.returns-then-last-event

@@ -1,7 +1,6 @@
 use Rattle.std.proofs.Common.{◌≡◌, []}
 use Rattle.rg_config.specs.Plans.{planned}
-use Rattle.rg_host.proofs.PutRuns.{puts-nothing}
-use Rattle.rg_host.proofs.Runs.{leaves_files-none}
+use Rattle.rg_host.proofs.Laws.{puts-nothing, leaves_files-none}
 use Rattle.rg_explain.specs.Listing.{check_text}
 use Rattle.rg_explain.specs.declared.fault.CheckFault.TheVariants.{Memory, Write}
 use Rattle.rg_explain.proofs.Stopped.{nothing_stops}

@@ -2,7 +2,7 @@ use Rattle.std.proofs.Common.{◌++◌, ◌∷◌, [], if◌then◌else◌, ap, 
 use Rattle.rg_agg.specs.Numbers.{value_of}
 use Rattle.rg_extreme.specs.Deques.{raised}
 use Rattle.rg_extreme.specs.States.{as_pairs}
-use Rattle.rg_multiset.proofs.Kept.{pairs_append}
+use Rattle.rg_multiset.proofs.Laws.{pairs_append}
 use Rattle.rg_extreme.proofs.pairs.join.Goals as goal
 
 pub returns-clause-ok : goal.returns-clause-ok

@@ -2,7 +2,7 @@ use Rattle.std.proofs.Common.{◌+◌, ap, sym, ◌∙◌}
 use Rattle.rg_agg.specs.Numbers.{value_of}
 use Rattle.rg_agg.specs.Standing.{counts_sum}
 use Rattle.rg_extreme.specs.States.{as_pairs, pairs_in}
-use Rattle.rg_multiset.proofs.Kept.{pairs_append, sum_append}
+use Rattle.rg_multiset.proofs.Laws.{pairs_append, sum_append}
 use Rattle.rg_extreme.proofs.reading.push.Goals as goal
 
 pub returns-clause-pairs : goal.returns-clause-pairs

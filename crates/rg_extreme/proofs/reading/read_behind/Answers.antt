@@ -1,7 +1,7 @@
 use Rattle.std.proofs.Common.{inl, rules}
 use Rattle.rg_agg.specs.declared.fault.StateFault.TheVariants.{Memory}
-use Rattle.rg_bytes.proofs.Reading.{agrees_stopped}
-use Rattle.rg_multiset.proofs.ReadPairs.{behind_stops, behind_read, behind_bad}
+use Rattle.rg_bytes.proofs.Laws.{agrees_stopped}
+use Rattle.rg_multiset.proofs.Laws.{behind_stops, behind_read, behind_bad}
 use Rattle.rg_extreme.proofs.reading.read_behind.Goals as goal
 
 pub returns-in_err-number-clause-agrees : goal.returns-in_err-number-clause-agrees

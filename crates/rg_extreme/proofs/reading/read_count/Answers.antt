@@ -1,8 +1,8 @@
 use Rattle.std.proofs.Common.{arith, inl, rules}
 use Rattle.std.proofs.lemmas.Grind.{common_steps}
 use Rattle.rg_agg.specs.declared.fault.StateFault.TheVariants.{Short, Memory}
-use Rattle.rg_bytes.proofs.Reading.{agrees_stopped}
-use Rattle.rg_multiset.proofs.ReadPairs.{count_short, count_read, count_bad}
+use Rattle.rg_bytes.proofs.Laws.{agrees_stopped}
+use Rattle.rg_multiset.proofs.Laws.{count_short, count_read, count_bad}
 use Rattle.rg_extreme.proofs.reading.read_count.Goals as goal
 
 pub returns-in_err-count-clause-agrees : goal.returns-in_err-count-clause-agrees

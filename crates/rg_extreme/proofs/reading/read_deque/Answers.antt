@@ -1,5 +1,5 @@
 use Rattle.rg_agg.specs.declared.fault.StateFault.TheVariants.{Memory}
-use Rattle.rg_bytes.proofs.Reading.{agrees_stopped}
+use Rattle.rg_bytes.proofs.Laws.{agrees_stopped}
 use Rattle.rg_extreme.proofs.ReadExtremes.{size_stops, length_stops, pairs_agree, if_ok_then}
 use Rattle.rg_extreme.proofs.reading.read_deque.Goals as goal
 

@@ -1,7 +1,7 @@
 use Rattle.std.proofs.Common.{inl, rules}
 use Rattle.rg_agg.specs.declared.fault.StateFault.TheVariants.{Short, Memory}
-use Rattle.rg_bytes.proofs.Reading.{agrees_stopped}
-use Rattle.rg_multiset.proofs.ReadPairs.{length_short, length_bad, length_read}
+use Rattle.rg_bytes.proofs.Laws.{agrees_stopped}
+use Rattle.rg_multiset.proofs.Laws.{length_short, length_bad, length_read}
 use Rattle.rg_extreme.proofs.reading.read_length.Goals as goal
 
 pub returns-in_err-count-clause-agrees : goal.returns-in_err-count-clause-agrees

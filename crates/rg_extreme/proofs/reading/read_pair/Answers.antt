@@ -1,6 +1,6 @@
 use Rattle.rg_agg.specs.declared.fault.StateFault.TheVariants.{Memory}
-use Rattle.rg_bytes.proofs.Reading.{agrees_stopped}
-use Rattle.rg_multiset.proofs.ReadPairs.{pair_value_stops, pair_count_stops, pair_read}
+use Rattle.rg_bytes.proofs.Laws.{agrees_stopped}
+use Rattle.rg_multiset.proofs.Laws.{pair_value_stops, pair_count_stops, pair_read}
 use Rattle.rg_extreme.proofs.reading.read_pair.Goals as goal
 
 pub returns-in_err-number-clause-agrees : goal.returns-in_err-number-clause-agrees

@@ -2,7 +2,7 @@ use Rattle.std.proofs.Common.{◌≡◌, ◌++◌, ◌∷◌, [], ℕ, ap, lengt
 use Rattle.rg_agg.specs.Held.{number_value_at}
 use Rattle.rg_agg.specs.Numbers.{value_of}
 use Rattle.rg_event.specs.declared.value.Value.{Value}
-use Rattle.rg_multiset.proofs.ReadPairs.{step_to_come, step_taken}
+use Rattle.rg_multiset.proofs.Laws.{step_to_come, step_taken}
 use Rattle.rg_extreme.specs.Sides.{beats}
 use Rattle.rg_extreme.specs.States.{pairs_in}
 use Rattle.rg_extreme.proofs.ReadExtremes.{pushed_tally}

@@ -1,6 +1,6 @@
 use Rattle.std.proofs.Common.{◌∙◌, arith, ◌≡◌, ◌≤◌, inl, length, Some, subst}
 use Rattle.rg_host.specs.Image.{Image}
-use Rattle.rg_host.proofs.Runs.{leaves_all-settled, becomes-before}
+use Rattle.rg_host.proofs.Laws.{leaves_all-settled, becomes-before}
 use Rattle.rg_frame.specs.Steps.{Brief}
 use Rattle.rg_frame.proofs.Gates.{brief-torn}
 use Rattle.rg_frame.proofs.Runs.{Same, writes-quiet, writes-weaker, writes-more, writes-sync, others-stay, others-then}

@@ -1,6 +1,6 @@
 use Rattle.std.proofs.Common.{◌≡◌, [], ◌∷◌, inl, inr, ℕ, get_or, drop, Option, Some, refl, subst, ◌∙◌, arith}
 use Rattle.rg_host.specs.Image.{Image, Becomes, InFile, Holds}
-use Rattle.rg_host.proofs.Runs.{leaves_all-settled, becomes-before}
+use Rattle.rg_host.proofs.Laws.{leaves_all-settled, becomes-before}
 use Rattle.rg_frame.specs.Frames.{HasPayloads}
 use Rattle.rg_frame.specs.Steps.{OldOrNone, Shut}
 use Rattle.rg_frame.proofs.Gates.{head-read, head-open, head-shut, head-none, none-closed, none-empty, none-torn, none-written}

@@ -2,7 +2,7 @@ use Rattle.rg_host.specs.Image.{Torn}
 use Rattle.rg_frame.proofs.Gates.{torn-same, torn-from}
 use Rattle.rg_frame.proofs.Runs.{Same, writes-none, writes-more, writes-sync, others-stay, others-then}
 use Rattle.std.proofs.Common.{◌∙◌, arith, refl}
-use Rattle.rg_host.proofs.Runs.{becomes-before}
+use Rattle.rg_host.proofs.Laws.{becomes-before}
 use Rattle.rg_frame.proofs.write.open_gate.Goals as goal
 
 pub returns-in_err-write_at-clause-wrote : goal.returns-in_err-write_at-clause-wrote

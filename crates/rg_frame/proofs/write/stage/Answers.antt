@@ -1,7 +1,7 @@
 use Rattle.std.proofs.Common.{◌∙◌, ◌+◌, ◌≤◌, List, ℕ, length, subst, arith, rules, refl}
 use Rattle.std.specs.Int.{to_be_bytes, w64}
 use Rattle.rg_host.specs.Image.{Holds, Becomes, InFile}
-use Rattle.rg_host.proofs.Runs.{becomes-before}
+use Rattle.rg_host.proofs.Laws.{becomes-before}
 use Rattle.rg_frame.specs.Steps.{Keeps, Staged}
 use Rattle.rg_frame.proofs.Gates.{ThreeWrites, staged-three, keeps-same, keeps-torn}
 use Rattle.rg_frame.proofs.Runs.{Same, writes-none, writes-more, writes-sync, in_file-then, in_file-where, others-stay, others-then}

@@ -1,6 +1,6 @@
 use Rattle.std.proofs.Common.{rules}
 use Rattle.rg_bytes.specs.Keeps.{Keeps}
-use Rattle.rg_bytes.proofs.Keeping.{kept_on, kept_same}
+use Rattle.rg_bytes.proofs.Laws.{kept_on, kept_same}
 use Rattle.rg_growth.proofs.values.put_values.Goals as goal
 
 pub returns-in_err-put_tagged-clause-err : goal.returns-in_err-put_tagged-clause-err

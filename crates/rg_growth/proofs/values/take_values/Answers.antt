@@ -1,6 +1,6 @@
-use Rattle.rg_bytes.proofs.Lists.{step_taken}
+use Rattle.rg_bytes.proofs.Laws.{step_taken}
 use Rattle.rg_event.specs.Tagged.{tagged_bytes}
-use Rattle.rg_event.proofs.ColumnValues.{one_value_more}
+use Rattle.rg_event.proofs.Laws.{one_value_more}
 use Rattle.rg_growth.proofs.Read.{values_more, values_stop, values_end}
 use Rattle.rg_growth.proofs.values.take_values.Goals as goal
 

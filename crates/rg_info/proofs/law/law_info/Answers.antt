@@ -1,4 +1,4 @@
-use Rattle.rg_info.proofs.Laws.{info_one, info_legal, info_empty}
+use Rattle.rg_info.proofs.InfoLaws.{info_one, info_legal, info_empty}
 use Rattle.rg_info.proofs.law.law_info.Goals as goal
 
 pub returns : goal.returns

@@ -1,7 +1,7 @@
 use Rattle.std.proofs.Common.{◌∙◌, [], List, ℕ, subst}
 use Rattle.rg_host.specs.Puts.{IsPrefix, Puts}
-use Rattle.rg_host.proofs.PutRuns.{puts-then}
-use Rattle.rg_dump.proofs.Quiet.{puts_nothing}
+use Rattle.rg_host.proofs.Laws.{puts-then}
+use Rattle.rg_dump.proofs.Laws.{puts_nothing}
 use Rattle.rg_info.proofs.print.info.Goals as goal
 
 pub returns-in-Ok-put_all-clause-completes : goal.returns-in-Ok-put_all-clause-completes

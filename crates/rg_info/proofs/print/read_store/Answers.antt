@@ -1,5 +1,5 @@
 use Rattle.std.proofs.Common.{◌∙◌, refl, ap}
-use Rattle.rg_dump.proofs.Leaves.{read-then}
+use Rattle.rg_dump.proofs.Laws.{read-then}
 use Rattle.rg_host.specs.Lines.{ended}
 use Rattle.rg_info.specs.Info.{info_lines}
 use Rattle.rg_info.specs.Summary.{summary_in}

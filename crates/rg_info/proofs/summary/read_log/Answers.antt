@@ -1,5 +1,5 @@
 use Rattle.std.proofs.Common.{◌≡◌, ◌∙◌, ℕ, Some, Err, refl, sym, ap, subst, arith}
-use Rattle.rg_dump.proofs.Leaves.{read-none, read-then}
+use Rattle.rg_dump.proofs.Laws.{read-none, read-then}
 use Rattle.rg_reservoir.specs.declared.fault.ReservoirFault.{ReservoirFault}
 use Rattle.rg_info.specs.declared.fault.InfoFault.TheVariants.{Damaged}
 use Rattle.rg_info.specs.declared.summary.Summary.{Summary}

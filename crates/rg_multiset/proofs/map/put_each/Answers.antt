@@ -1,4 +1,4 @@
-use Rattle.rg_bytes.proofs.Keeping.{kept_on, kept_same, kept_through}
+use Rattle.rg_bytes.proofs.Laws.{kept_on, kept_same, kept_through}
 use Rattle.rg_multiset.proofs.Kept.{on_err_of}
 use Rattle.rg_multiset.proofs.map.put_each.Goals as goal
 

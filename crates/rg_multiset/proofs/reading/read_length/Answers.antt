@@ -1,6 +1,6 @@
 use Rattle.std.proofs.Common.{rules, inl, ◌∙◌}
 use Rattle.rg_agg.specs.declared.fault.StateFault.TheVariants.{Short, Memory}
-use Rattle.rg_bytes.proofs.Reading.{agrees_stopped}
+use Rattle.rg_bytes.proofs.Laws.{agrees_stopped}
 use Rattle.rg_multiset.proofs.ReadPairs.{tag_short, tag_other, tag_read, length_short, length_bad, length_read}
 use Rattle.rg_multiset.proofs.reading.read_length.Goals as goal
 

@@ -1,5 +1,5 @@
 use Rattle.rg_agg.specs.declared.fault.StateFault.TheVariants.{Memory}
-use Rattle.rg_bytes.proofs.Reading.{agrees_stopped}
+use Rattle.rg_bytes.proofs.Laws.{agrees_stopped}
 use Rattle.rg_multiset.proofs.ReadPairs.{pairs_length_stops, pairs_behind, some_sum}
 use Rattle.rg_multiset.proofs.reading.read_tally.Goals as goal
 

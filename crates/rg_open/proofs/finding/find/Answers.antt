@@ -1,17 +1,15 @@
 use Rattle.std.proofs.Common.{◌∙◌, inl, List, ◌∷◌, Some, ap, sym, subst, arith, Err}
 use Rattle.rg_event.specs.Shapes.{Shape}
 use Rattle.rg_event.specs.declared.event.Event.{Event}
-use Rattle.rg_frame.proofs.FrameLists.{payloads_one}
+use Rattle.rg_frame.proofs.Laws.{payloads_one}
 use Rattle.rg_config.specs.Plans.{planned}
 use Rattle.rg_log.specs.Entries.{behind}
 use Rattle.rg_log.specs.declared.summary.LogSummary.{LogSummary}
-use Rattle.rg_log.proofs.Filled.{for_legal}
+use Rattle.rg_log.proofs.Laws.{for_legal}
 use Rattle.rg_host.specs.Image.{Image}
 use Rattle.rg_reservoir.specs.Attached.{Opens, LogOpens}
 use Rattle.rg_reservoir.specs.Kept.{base, next_of, time_of, all_events}
-use Rattle.rg_reservoir.proofs.Firsts.{quiet}
-use Rattle.rg_reservoir.proofs.Legal.{not_bad}
-use Rattle.rg_reservoir.proofs.Seeking.{one_image}
+use Rattle.rg_reservoir.proofs.Laws.{quiet, not_bad, one_image}
 use Rattle.rg_open.proofs.Blame.{list_opened}
 use Rattle.rg_open.proofs.Attached.{openable_still, pending_stays, sized_left, held_left, reach_left, found_by}
 use Rattle.rg_open.proofs.Causes.{log_damaged, log_differs, log_disk, log_neither, rose_last, slots_unread}

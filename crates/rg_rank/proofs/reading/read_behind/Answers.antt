@@ -2,9 +2,9 @@ use Rattle.std.proofs.Common.{inl, ap, sym, ◌∙◌}
 use Rattle.rg_agg.specs.Numbers.{value_of}
 use Rattle.rg_agg.specs.Unbeaten.{is_less}
 use Rattle.rg_agg.specs.declared.fault.StateFault.TheVariants.{Memory}
-use Rattle.rg_bytes.proofs.Reading.{agrees_stopped}
+use Rattle.rg_bytes.proofs.Laws.{agrees_stopped}
 use Rattle.rg_multiset.specs.Reading.{comes_behind}
-use Rattle.rg_multiset.proofs.ReadPairs.{behind_stops, behind_read, behind_bad}
+use Rattle.rg_multiset.proofs.Laws.{behind_stops, behind_read, behind_bad}
 use Rattle.rg_rank.proofs.reading.read_behind.Goals as goal
 
 pub returns-in_err-number-clause-agrees : goal.returns-in_err-number-clause-agrees

@@ -6,7 +6,7 @@ use Rattle.rg_agg.specs.Unbeaten.{is_less}
 use Rattle.rg_event.specs.declared.value.Value.{Value}
 use Rattle.rg_multiset.specs.Pairs.{IsTally}
 use Rattle.rg_multiset.specs.Reading.{last_kept}
-use Rattle.rg_multiset.proofs.ReadPairs.{step_to_come, step_taken}
+use Rattle.rg_multiset.proofs.Laws.{step_to_come, step_taken}
 use Rattle.rg_rank.proofs.ReadRanks.{last_append, pushed_tally}
 use Rattle.rg_rank.proofs.Tallies.{ranking_of}
 use Rattle.rg_rank.proofs.reading.read_pairs.Goals as goal

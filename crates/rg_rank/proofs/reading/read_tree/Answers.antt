@@ -2,8 +2,8 @@ use Rattle.rg_agg.specs.Held.{number_value_at}
 use Rattle.rg_agg.specs.Stands.{IsNumber}
 use Rattle.rg_agg.specs.Unbeaten.{is_less}
 use Rattle.rg_agg.specs.declared.fault.StateFault.TheVariants.{Memory}
-use Rattle.rg_bytes.proofs.Reading.{agrees_stopped}
-use Rattle.rg_multiset.proofs.ReadPairs.{pairs_length_stops, pairs_behind, some_sum}
+use Rattle.rg_bytes.proofs.Laws.{agrees_stopped}
+use Rattle.rg_multiset.proofs.Laws.{pairs_length_stops, pairs_behind, some_sum}
 use Rattle.rg_rank.proofs.reading.read_tree.Goals as goal
 
 pub returns-in_err-count-clause-agrees : goal.returns-in_err-count-clause-agrees

@@ -1,8 +1,8 @@
 use Rattle.std.proofs.Common.{inl, inr, refl, subst}
-use Rattle.rg_host.proofs.PutRuns.{puts-nothing}
+use Rattle.rg_host.proofs.Laws.{puts-nothing}
 use Rattle.rg_past.specs.declared.past.Spot.{Spot}
 use Rattle.rg_reservoir.specs.Kept.{base, opened, next_of, time_of, cache_of, Spells}
-use Rattle.rg_reservoir.proofs.Peeking.{started}
+use Rattle.rg_reservoir.proofs.Laws.{started}
 use Rattle.rg_state.specs.contracts.mem_table.MemTableTable.TheImpl.{ghosts as rows}
 use Rattle.rg_replay.specs.Playing.{HasBegun, start_of}
 use Rattle.rg_replay.proofs.Progress.{none_put}

@@ -4,7 +4,7 @@ use Rattle.rg_engine.specs.Feeding.{Serves}
 use Rattle.rg_event.specs.Shapes.{Shape}
 use Rattle.rg_event.specs.declared.event.Event.{Event}
 use Rattle.rg_host.specs.Puts.{Puts}
-use Rattle.rg_host.proofs.PutRuns.{puts-then}
+use Rattle.rg_host.proofs.Laws.{puts-then}
 use Rattle.std.specs.Option.{ForSome}
 use Rattle.rg_frame.specs.Frames.{HasPayloads}
 use Rattle.rg_host.specs.Image.{Image}

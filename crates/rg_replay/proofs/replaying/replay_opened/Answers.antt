@@ -1,7 +1,7 @@
 use Rattle.std.proofs.Common.{◌∙◌, [], ◌∷◌, ◌++◌, length, refl, ap, sym, subst}
 use Rattle.rg_event.specs.Rising.{next_offset}
 use Rattle.rg_host.specs.Puts.{Puts}
-use Rattle.rg_host.proofs.PutRuns.{puts-then}
+use Rattle.rg_host.proofs.Laws.{puts-then}
 use Rattle.rg_reservoir.specs.Kept.{base}
 use Rattle.rg_replay.specs.Playing.{IsWholeIn, PutsLines}
 use Rattle.rg_replay.proofs.Played.{if_err_of}

@@ -4,9 +4,9 @@ use Rattle.rg_event.specs.declared.event.Event.{Event}
 use Rattle.rg_metric.specs.Replies.{answers_to}
 use Rattle.rg_past.specs.declared.past.PastFault.TheVariants as past
 use Rattle.rg_past.specs.declared.past.Spot.{Spot}
-use Rattle.rg_past.proofs.Kept.{cause-within}
+use Rattle.rg_past.proofs.Laws.{cause-within}
 use Rattle.rg_engine.specs.declared.fault.EngineFault.TheVariants as fault
-use Rattle.rg_engine.proofs.Plain.{same_fault}
+use Rattle.rg_engine.proofs.Laws.{same_fault}
 use Rattle.rg_replay.proofs.Going.{carries, goes_on, stays_on, sound_front, all_front, outside_past}
 use Rattle.rg_replay.proofs.stepping.step.Goals as goal
 

@@ -1,7 +1,7 @@
 use Rattle.std.proofs.Common.{⊎_elim, inl, inr, ℕ, List, [], ◌++◌, MatchOption, ap, sym, subst}
 use Rattle.rg_host.specs.Lines.{ended}
 use Rattle.rg_host.specs.Puts.{IsPrefix, Puts}
-use Rattle.rg_host.proofs.PutRuns.{puts-then}
+use Rattle.rg_host.proofs.Laws.{puts-then}
 use Rattle.rg_reservoir.specs.Kept.{base}
 use Rattle.rg_state.specs.contracts.mem_table.MemTableTable.TheImpl.{ghosts as rows}
 use Rattle.rg_replay.specs.Going.{Came}

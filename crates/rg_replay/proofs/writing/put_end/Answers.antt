@@ -1,7 +1,6 @@
 use Rattle.std.proofs.Common.{◌≡◌, ◌∙◌, inl, [], ◌∷◌, ◌++◌, refl, ap, sym}
 use Rattle.rg_host.specs.Lines.{ended}
-use Rattle.rg_host.proofs.Endings.{ended-append}
-use Rattle.rg_host.proofs.PutRuns.{puts-nothing}
+use Rattle.rg_host.proofs.Laws.{ended-append, puts-nothing}
 use Rattle.rg_reply.specs.Texts.{mark_line}
 use Rattle.rg_reply.specs.declared.mark.Mark.TheVariants.{Finished}
 use Rattle.rg_replay.proofs.Quiet.{leaves_store-none}

@@ -2,8 +2,7 @@ use Rattle.std.proofs.Common.{rules, ◌≡◌, ◌∙◌, ◌<◌, ◌≤◌, i
 use Rattle.std.proofs.lemmas.List.{append-nil}
 use Rattle.rg_host.specs.Lines.{ended}
 use Rattle.rg_host.specs.Puts.{Puts}
-use Rattle.rg_host.proofs.Endings.{ended-append}
-use Rattle.rg_host.proofs.PutRuns.{puts-nothing}
+use Rattle.rg_host.proofs.Laws.{ended-append, puts-nothing}
 use Rattle.rg_reply.specs.Texts.{reply_line}
 use Rattle.rg_replay.specs.Playing.{AddsLines}
 use Rattle.rg_replay.proofs.Lines.{line_kept, line_left}

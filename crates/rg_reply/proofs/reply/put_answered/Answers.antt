@@ -1,6 +1,6 @@
 use Rattle.std.proofs.Common.{rules}
 use Rattle.rg_bytes.specs.Keeps.{Keeps}
-use Rattle.rg_bytes.proofs.Keeping.{kept_on, kept_through}
+use Rattle.rg_bytes.proofs.Laws.{kept_on, kept_through}
 use Rattle.rg_reply.proofs.reply.put_answered.Goals as goal
 
 pub returns-in_err-put_answer-clause-err : goal.returns-in_err-put_answer-clause-err

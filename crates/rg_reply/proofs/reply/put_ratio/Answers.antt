@@ -1,5 +1,5 @@
 use Rattle.std.proofs.lemmas.Result.{on_err_weaker}
-use Rattle.rg_bytes.proofs.Keeping.{kept_through}
+use Rattle.rg_bytes.proofs.Laws.{kept_through}
 use Rattle.rg_reply.proofs.reply.put_ratio.Goals as goal
 
 pub returns-clause-err : goal.returns-clause-err

@@ -1,6 +1,6 @@
 use Rattle.std.proofs.Common.{rules, ◌≡◌, ◌∙◌, ap, sym, List, ℕ, ◌∷◌}
 use Rattle.rg_event.specs.Shapes.{schema_text}
-use Rattle.rg_log.proofs.Shapes.{one_shape}
+use Rattle.rg_log.proofs.Laws.{one_shape}
 use Rattle.rg_reservoir.proofs.first.is_same.Goals as goal
 
 pub returns-clause-same : goal.returns-clause-same

@@ -2,7 +2,7 @@ use Rattle.std.proofs.Common.{◌≡◌, ◌∙◌, ap, sym, subst, ℕ, Err, ar
 use Rattle.rg_frame.specs.Frames.{IsLog, HasPayloads}
 use Rattle.rg_frame.specs.LogState.{LogState}
 use Rattle.rg_frame.specs.Looks.{IsTorn}
-use Rattle.rg_host.proofs.Runs.{leaves_all-then}
+use Rattle.rg_host.proofs.Laws.{leaves_all-then}
 use Rattle.rg_reservoir.specs.Heads.{IsBadFrame, Gathered, GrowsWith}
 use Rattle.rg_reservoir.specs.declared.fault.ReservoirFault.{ReservoirFault}
 use Rattle.rg_reservoir.specs.declared.fault.ReservoirFault.TheVariants.{Disk, Damaged}

@@ -2,7 +2,7 @@ use Rattle.std.proofs.Common.{◌≡◌, ◌∙◌, ◌-◌, ap, sym, subst, ℕ
 use Rattle.std.specs.Prelude.{count_by}
 use Rattle.rg_frame.specs.LogState.{LogState}
 use Rattle.rg_frame.specs.Looks.{IsTorn}
-use Rattle.rg_host.proofs.Runs.{leaves_all-then}
+use Rattle.rg_host.proofs.Laws.{leaves_all-then}
 use Rattle.rg_log.specs.Spots.{is_at_end}
 use Rattle.rg_reservoir.specs.Heads.{IsBadFrame}
 use Rattle.rg_reservoir.specs.Naming.{count_found}

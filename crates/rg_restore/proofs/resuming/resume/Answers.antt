@@ -2,7 +2,7 @@ use Rattle.std.proofs.Common.{inl, inr, ◌∙◌, ℕ, ◌+◌, take, length, a
 use Rattle.std.specs.Prelude.{All}
 use Rattle.std.proofs.lemmas.List.Elements.{All-weaker}
 use Rattle.rg_event.specs.Rising.{last_time}
-use Rattle.rg_past.proofs.Kept.{kept-then, cause-within}
+use Rattle.rg_past.proofs.Laws.{kept-then, cause-within}
 use Rattle.rg_window.specs.Placed.{numbers_of}
 use Rattle.rg_engine.specs.Passed.{passed_count}
 use Rattle.rg_restore.specs.Opening.{IsUsable}

@@ -1,4 +1,4 @@
-use Rattle.rg_group.proofs.KeyValues.{bytes_written}
+use Rattle.rg_group.proofs.Laws.{bytes_written}
 use Rattle.std.proofs.Common.{refl}
 use Rattle.rg_row_audit.proofs.counting.key_of.Goals as goal
 

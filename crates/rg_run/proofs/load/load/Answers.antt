@@ -1,6 +1,6 @@
 use Rattle.std.proofs.Common.{ℕ, [], Err, refl, sym, ◌∙◌, ap, subst, arith}
 use Rattle.rg_bytes.specs.Counts.{Rose}
-use Rattle.rg_host.proofs.Runs.{moments_then}
+use Rattle.rg_host.proofs.Laws.{moments_then}
 use Rattle.rg_task.specs.State.{State}
 use Rattle.rg_run_spec.specs.Stores.{StaysOnCourse}
 use Rattle.rg_task.specs.declared.fault.TaskFault.TheVariants as task

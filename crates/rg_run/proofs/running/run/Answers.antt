@@ -1,5 +1,5 @@
 use Rattle.std.proofs.Common.{Err, ℕ, List, [], ◌≤◌, inl, refl, sym, ◌∙◌, ap, subst, arith}
-use Rattle.rg_host.proofs.Runs.{moments_then}
+use Rattle.rg_host.proofs.Laws.{moments_then}
 use Rattle.rg_config.specs.Plans.{planned}
 use Rattle.rg_run_spec.specs.Stores.{StaysOnCourse}
 use Rattle.rg_task.specs.State.{State}

@@ -1,5 +1,5 @@
 use Rattle.std.proofs.Common.{◌≡◌, List, [], ℕ, Err, inl, inr, sym, ◌∙◌, subst, ap, arith}
-use Rattle.rg_host.proofs.Runs.{moments_then}
+use Rattle.rg_host.proofs.Laws.{moments_then}
 use Rattle.rg_task.specs.State.{State}
 use Rattle.rg_run_spec.specs.Stores.{StaysOnCourse}
 use Rattle.rg_run.specs.Turning.{IsMidTurn}

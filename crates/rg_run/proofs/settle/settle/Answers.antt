@@ -1,5 +1,5 @@
 use Rattle.std.proofs.Common.{refl, sym, subst}
-use Rattle.rg_host.proofs.Runs.{leaves_all-none}
+use Rattle.rg_host.proofs.Laws.{leaves_all-none}
 use Rattle.rg_run.specs.Calls.{Settles}
 use Rattle.rg_run.specs.declared.due.Due.{Due}
 use Rattle.rg_run.proofs.Called.{sustains_none, cause_none}

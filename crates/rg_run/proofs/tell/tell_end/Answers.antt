@@ -1,7 +1,6 @@
 use Rattle.std.proofs.Common.{[], List, ℕ, refl, ◌∙◌, subst}
 use Rattle.rg_host.specs.Puts.{IsPrefix, Puts}
-use Rattle.rg_host.proofs.Runs.{leaves_files-none}
-use Rattle.rg_host.proofs.PutRuns.{puts-nothing}
+use Rattle.rg_host.proofs.Laws.{leaves_files-none, puts-nothing}
 use Rattle.rg_run.proofs.Called.{only_none}
 use Rattle.rg_run.proofs.tell.tell_end.Goals as goal
 

@@ -1,7 +1,6 @@
 use Rattle.std.proofs.Common.{◌≡◌, [], ◌∷◌, ◌++◌, List, ℕ, refl, ap, ◌∙◌, subst, rules}
 use Rattle.rg_host.specs.Puts.{IsPrefix, Puts}
-use Rattle.rg_host.proofs.Runs.{leaves_files-none}
-use Rattle.rg_host.proofs.PutRuns.{puts-nothing}
+use Rattle.rg_host.proofs.Laws.{leaves_files-none, puts-nothing}
 use Rattle.rg_reply.specs.Texts.{mark_line}
 use Rattle.rg_run.proofs.Called.{only_none}
 use Rattle.rg_run.proofs.telling.put_mark.Goals as goal

@@ -1,4 +1,4 @@
-use Rattle.rg_run_spec.proofs.Laws.{read_event}
+use Rattle.rg_run_spec.proofs.LawNames.{read_event}
 use Rattle.rg_run_spec.proofs.verdict.law_read.Goals as goal
 
 pub returns : goal.returns

@@ -1,5 +1,5 @@
 use Rattle.std.proofs.Common.{List, [], ℕ, sym, subst}
-use Rattle.rg_host.proofs.Runs.{moments_then}
+use Rattle.rg_host.proofs.Laws.{moments_then}
 use Rattle.rg_pipe.specs.Handing.Given.{saves}
 use Rattle.rg_serve_spec.specs.Errands.{StaysOnErrand}
 use Rattle.rg_serve.specs.Serving.{IsHeld}

@@ -1,5 +1,5 @@
 use Rattle.std.proofs.Common.{List, [], ℕ, inl, sym, subst}
-use Rattle.rg_host.proofs.Runs.{moments_then}
+use Rattle.rg_host.proofs.Laws.{moments_then}
 use Rattle.rg_serve_spec.specs.Errands.{replies_of, StaysOnErrand}
 use Rattle.rg_serve.specs.Serving.{IsHeld, IsWithin}
 use Rattle.rg_serve.proofs.Ended.{replies, end_within, served}

@@ -3,7 +3,7 @@ use Rattle.std.specs.Prelude.{Some}
 use Rattle.std.specs.List.{list_any}
 use Rattle.rg_config.specs.Plans.{planned}
 use Rattle.rg_task.specs.Terms.{terms_of}
-use Rattle.rg_run.proofs.Texts.{no_lf_cleaned, as_header, as_row, as_control}
+use Rattle.rg_run.proofs.Laws.{no_lf_cleaned, as_header, as_row, as_control}
 use Rattle.rg_serve.proofs.line.answer_line.Goals as goal
 
 pub answer_row-requires-clause-one_line : goal.answer_row-requires-clause-one_line

@@ -1,5 +1,5 @@
 use Rattle.std.proofs.Common.{List, [], refl, sym, ◌∙◌, ap, subst}
-use Rattle.rg_host.proofs.Runs.{moments_then}
+use Rattle.rg_host.proofs.Laws.{moments_then}
 use Rattle.rg_event.specs.declared.event.Event.{Event}
 use Rattle.rg_run_spec.specs.Laws.{IsPrefixOf}
 use Rattle.rg_run_spec.specs.Stores.{IsNear}

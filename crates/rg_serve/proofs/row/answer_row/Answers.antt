@@ -1,6 +1,6 @@
 use Rattle.std.proofs.Common.{List, [], ℕ, inl, ◌≤◌, length, sym, ◌∙◌, ap, subst, arith}
 use Rattle.rg_host.specs.Moments.{Moments}
-use Rattle.rg_host.proofs.Runs.{moments_then}
+use Rattle.rg_host.proofs.Laws.{moments_then}
 use Rattle.rg_event.specs.declared.event.Event.{Event}
 use Rattle.rg_config.specs.Plans.{planned}
 use Rattle.rg_pipe.specs.Handing.Given.{row}

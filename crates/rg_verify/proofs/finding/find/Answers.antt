@@ -1,7 +1,7 @@
 use Rattle.std.specs.Option.{ForSome}
 use Rattle.rg_reservoir.specs.Attached.{IsForeign}
 use Rattle.rg_reservoir.specs.Kept.{base}
-use Rattle.rg_reservoir.proofs.Legal.{foreign_not_for}
+use Rattle.rg_reservoir.proofs.Laws.{foreign_not_for}
 use Rattle.rg_verify.specs.Causes.{IsOfOther}
 use Rattle.rg_verify.specs.Finding.{IsApart}
 use Rattle.rg_verify.proofs.Causes.{unjudged-within}

@@ -1,6 +1,6 @@
 use Rattle.std.proofs.Common.{ℕ, refl, sym, subst}
 use Rattle.std.specs.Prelude.{◌↔◌, IsTrue, All}
-use Rattle.rg_dump.proofs.Leaves.{read-none}
+use Rattle.rg_dump.proofs.Laws.{read-none}
 use Rattle.rg_reservoir.specs.Naming.{IsNamed}
 use Rattle.rg_verify.proofs.fitting.are_named.Goals as goal
 

@@ -1,7 +1,7 @@
 use Rattle.std.proofs.Common.{length, refl, sym, subst}
 use Rattle.std.specs.Prelude.{◌↔◌, IsTrue, All}
 use Rattle.std.proofs.lemmas.Result.{IfOk-weaker}
-use Rattle.rg_dump.proofs.Leaves.{read-none}
+use Rattle.rg_dump.proofs.Laws.{read-none}
 use Rattle.rg_reservoir.specs.Naming.{IsNamed}
 use Rattle.rg_verify.specs.Fitting.{FitsAmong}
 use Rattle.rg_verify.proofs.Fits.{is_false, among, not_among}

@@ -1,4 +1,4 @@
-use Rattle.rg_dump.proofs.Leaves.{read-none}
+use Rattle.rg_dump.proofs.Laws.{read-none}
 use Rattle.rg_verify.proofs.judging.judge.Goals as goal
 
 pub returns-in-Some-clause-verdict : goal.returns-in-Some-clause-verdict

@@ -1,7 +1,7 @@
 use Rattle.std.proofs.Common.{◌≡◌, ◌∙◌, Some, true, false, refl, sym, subst}
 use Rattle.std.specs.Prelude.{IsTrue}
 use Rattle.std.proofs.lemmas.Result.{IfOk-weaker, IfErr-weaker}
-use Rattle.rg_dump.proofs.Leaves.{read-none}
+use Rattle.rg_dump.proofs.Laws.{read-none}
 use Rattle.rg_verify.specs.Causes.{IsUnjudged}
 use Rattle.rg_verify.specs.Fitting.{terms_of, IsRowVerdict}
 use Rattle.rg_verify.specs.Verdicts.{IsVerdict}

@@ -1,5 +1,5 @@
 use Rattle.std.proofs.Common.{◌∙◌}
-use Rattle.rg_dump.proofs.Leaves.{read-then}
+use Rattle.rg_dump.proofs.Laws.{read-then}
 use Rattle.rg_verify.proofs.Causes.{unjudged-within}
 use Rattle.rg_verify.proofs.store.judge_both.Goals as goal
 

@@ -2,7 +2,7 @@ use Rattle.std.proofs.Common.{◌≡◌, ◌∙◌, List, ap, sym, subst}
 use Rattle.std.proofs.lemmas.Result.{IfOk-weaker, IfErr-weaker}
 use Rattle.rg_event.specs.declared.event.Event.{Event}
 use Rattle.rg_row_audit.specs.Rows.{AreServed}
-use Rattle.rg_dump.proofs.Leaves.{read-then}
+use Rattle.rg_dump.proofs.Laws.{read-then}
 use Rattle.rg_verify.specs.Causes.{IsOfOther}
 use Rattle.rg_verify.specs.Fitting.{terms_of}
 use Rattle.rg_verify.specs.Payments.{extended_by}

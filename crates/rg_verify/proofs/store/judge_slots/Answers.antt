@@ -1,7 +1,7 @@
 use Rattle.std.proofs.Common.{◌∙◌, Err, ap, sym, subst}
 use Rattle.std.proofs.lemmas.Result.{IfOk-weaker, IfErr-weaker}
 use Rattle.rg_checkpoint.specs.declared.fault.SlotFault.{SlotFault}
-use Rattle.rg_dump.proofs.Leaves.{read-then}
+use Rattle.rg_dump.proofs.Laws.{read-then}
 use Rattle.rg_verify.specs.Causes.{IsUnjudged}
 use Rattle.rg_verify.specs.Fitting.{AreVerdicts, terms_of}
 use Rattle.rg_verify.specs.Verify.{IsVerified}

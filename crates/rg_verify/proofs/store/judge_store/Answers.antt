@@ -1,6 +1,6 @@
 use Rattle.std.proofs.Common.{◌∙◌, arith}
 use Rattle.std.proofs.lemmas.Result.{on_ok_weaker, IfErr-weaker}
-use Rattle.rg_dump.proofs.Leaves.{read-then}
+use Rattle.rg_dump.proofs.Laws.{read-then}
 use Rattle.rg_verify.specs.Causes.{IsFirstDamage, IsOfOther, IsWholeOther}
 use Rattle.rg_verify.proofs.Causes.{on-ok, unjudged-within}
 use Rattle.rg_verify.proofs.store.judge_store.Goals as goal

@@ -2,8 +2,8 @@ use Rattle.std.proofs.Common.{◌≡◌, ◌∙◌, ◌⊎◌, inl, inr, ⊎_eli
 use Rattle.std.proofs.lemmas.Result.{IfOk-weaker, IfErr-weaker}
 use Rattle.rg_host.specs.Lines.{ended}
 use Rattle.rg_host.specs.Puts.{Puts}
-use Rattle.rg_host.proofs.PutRuns.{puts-then}
-use Rattle.rg_dump.proofs.Quiet.{puts_nothing}
+use Rattle.rg_host.proofs.Laws.{puts-then}
+use Rattle.rg_dump.proofs.Laws.{puts_nothing}
 use Rattle.rg_verify.specs.declared.fault.VerifyFault.TheVariants.{Disk, Damaged, SchemaDiffers, Memory, Write}
 use Rattle.rg_verify.specs.Faults.{IsFromOutside}
 use Rattle.rg_verify.specs.Fitting.{terms_of}

@@ -2,7 +2,7 @@ use Rattle.std.proofs.Common.{◌≡◌, ◌+◌, ◌<◌, ◌∙◌, ap, sym, a
 use Rattle.std.specs.Prelude.{slice_get}
 use Rattle.std.specs.Option.{option_copied}
 use Rattle.rg_past.specs.declared.past.PastFault.TheVariants.{Damaged}
-use Rattle.rg_past.proofs.Kept.{kept-then}
+use Rattle.rg_past.proofs.Laws.{kept-then}
 use Rattle.rg_window.specs.Passing.{passed}
 use Rattle.rg_window.proofs.Chains.{ok_err, past_err, Went-end, Went-more, Refused-next, passed-come, passed-stays, passed-end}
 use Rattle.rg_window.proofs.edges.move_edge.Goals as goal

@@ -3,7 +3,7 @@ use Rattle.std.proofs.lemmas.Grind.{common_steps}
 use Rattle.rg_agg.specs.Held.{averaged}
 use Rattle.rg_agg.specs.declared.fault.StateFault.TheVariants.{Memory}
 use Rattle.rg_agg.proofs.Fields.{averaged_reads_back}
-use Rattle.rg_bytes.proofs.Reading.{both_answers, memory_only}
+use Rattle.rg_bytes.proofs.Laws.{both_answers, memory_only}
 use Rattle.rg_agg.proofs.avg.AvgAggregate.decode.Goals as goal
 
 pub returns-in-Ok-clause-agrees : goal.returns-in-Ok-clause-agrees

@@ -3,7 +3,7 @@ use Rattle.std.proofs.lemmas.Grind.{common_steps}
 use Rattle.rg_agg.specs.Held.{counted}
 use Rattle.rg_agg.specs.declared.fault.StateFault.TheVariants.{Memory}
 use Rattle.rg_agg.proofs.Fields.{counted_reads_back}
-use Rattle.rg_bytes.proofs.Reading.{memory_only}
+use Rattle.rg_bytes.proofs.Laws.{memory_only}
 use Rattle.rg_agg.proofs.count.CountAggregate.decode.Goals as goal
 
 pub returns-in-Err-clause-agrees : goal.returns-in-Err-clause-agrees

@@ -4,7 +4,7 @@ use Rattle.std.proofs.lemmas.List.{length-map}
 use Rattle.rg_agg.specs.Held.{queued}
 use Rattle.rg_agg.specs.Numbers.{value_of}
 use Rattle.rg_agg.specs.declared.fault.StateFault.TheVariants.{Memory}
-use Rattle.rg_bytes.proofs.Reading.{both_answers, memory_only}
+use Rattle.rg_bytes.proofs.Laws.{both_answers, memory_only}
 use Rattle.rg_agg.proofs.Queues.{queued_reads_back}
 use Rattle.rg_agg.proofs.first.FirstAggregate.decode.Goals as goal
 

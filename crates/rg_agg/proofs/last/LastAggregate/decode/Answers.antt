@@ -2,7 +2,7 @@ use Rattle.std.proofs.Common.{arith}
 use Rattle.std.proofs.lemmas.Grind.{common_steps}
 use Rattle.rg_agg.specs.declared.fault.StateFault.TheVariants.{Memory}
 use Rattle.rg_agg.proofs.Fields.{end_reads_back}
-use Rattle.rg_bytes.proofs.Reading.{memory_only}
+use Rattle.rg_bytes.proofs.Laws.{memory_only}
 use Rattle.rg_agg.proofs.last.LastAggregate.decode.Goals as goal
 
 pub returns-in-Err-clause-agrees : goal.returns-in-Err-clause-agrees

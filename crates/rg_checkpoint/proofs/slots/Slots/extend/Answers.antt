@@ -2,7 +2,7 @@ use Rattle.std.proofs.Common.{◌≡◌, ◌+◌, ℕ, length, false, ap, sym, �
 use Rattle.std.specs.Prelude.{⊤}
 use Rattle.rg_host.specs.Image.{Becomes, InFile, NothingPending}
 use Rattle.rg_frame.specs.LogState.{LogState}
-use Rattle.rg_frame.proofs.Runs.{writes-others}
+use Rattle.rg_frame.proofs.Laws.{writes-others}
 use Rattle.rg_checkpoint.specs.declared.slot.SlotEnd.{SlotEnd}
 use Rattle.rg_checkpoint.specs.Sizes.{OfSizes, end_of}
 use Rattle.rg_checkpoint.specs.Slots.{Attached, Lengthens, sizes_in}

@@ -2,7 +2,7 @@ use Rattle.std.proofs.Common.{◌≡◌, ℕ, Some, false, ap, sym, ◌∙◌, s
 use Rattle.std.specs.Prelude.{⊤}
 use Rattle.rg_host.specs.Image.{Becomes, InFile, NothingPending}
 use Rattle.rg_frame.specs.Calls.{Writes}
-use Rattle.rg_frame.proofs.Runs.{writes-none, writes-weaker, writes-others}
+use Rattle.rg_frame.proofs.Laws.{writes-none, writes-weaker, writes-others}
 use Rattle.rg_checkpoint.specs.Slots.{Attached, IsOnly, Turns, other_of, with_sizes}
 use Rattle.rg_checkpoint.proofs.Lengthening.{reaches_put, only_written}
 use Rattle.rg_checkpoint.proofs.Rewriting.{kept_stays}

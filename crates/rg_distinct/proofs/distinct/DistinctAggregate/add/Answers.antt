@@ -1,7 +1,7 @@
 use Rattle.std.proofs.lemmas.Result.{on_ok_weaker}
 use Rattle.rg_event.specs.Tagged.{IsLegal}
 use Rattle.rg_multiset.specs.Reading.{is_before}
-use Rattle.rg_multiset.proofs.Places.{counts_more}
+use Rattle.rg_multiset.proofs.Laws.{counts_more}
 use Rattle.rg_distinct.proofs.distinct.DistinctAggregate.add.Goals as goal
 
 pub returns-clause-ok : goal.returns-clause-ok

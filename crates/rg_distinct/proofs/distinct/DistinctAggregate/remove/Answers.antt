@@ -1,8 +1,7 @@
 use Rattle.std.proofs.lemmas.Result.{on_err_weaker, on_ok_weaker}
 use Rattle.rg_event.specs.Tagged.{IsLegal}
 use Rattle.rg_multiset.specs.Reading.{is_before}
-use Rattle.rg_multiset.proofs.Listed.{counts_first}
-use Rattle.rg_multiset.proofs.Places.{counts_less, none_first}
+use Rattle.rg_multiset.proofs.Laws.{counts_first, counts_less, none_first}
 use Rattle.rg_distinct.proofs.distinct.DistinctAggregate.remove.Goals as goal
 
 pub returns-clause-ok : goal.returns-clause-ok

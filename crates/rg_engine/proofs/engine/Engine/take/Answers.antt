@@ -8,7 +8,7 @@ use Rattle.rg_engine.specs.Answering.{keys_for, node_answers}
 use Rattle.rg_window.specs.Placed.{numbers_of}
 use Rattle.rg_engine.specs.Standing.{IsAtPosition}
 use Rattle.rg_past.specs.declared.past.PastFault.TheVariants as past
-use Rattle.rg_past.proofs.Kept.{cause-within, kept-then}
+use Rattle.rg_past.proofs.Laws.{cause-within, kept-then}
 use Rattle.rg_engine.specs.Accepting.{IsRefusal}
 use Rattle.rg_engine.specs.Carrying.{is_ending}
 use Rattle.rg_engine.proofs.Taken.{not_bad, not_damaged, not_table, not_ended, refused_always, refused_cause, ends_true, edges_from, edges_still, last_of, stands_same, stands_events, row_stands, carried_on, spelled_later, spelled_at, numbers_same, front_and_more, answers_are, asked_within}

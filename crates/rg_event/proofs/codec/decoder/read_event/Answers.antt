@@ -1,4 +1,4 @@
-use Rattle.rg_bytes.proofs.Reading.{agrees_stopped}
+use Rattle.rg_bytes.proofs.Laws.{agrees_stopped}
 use Rattle.rg_event.proofs.Decoding.{event_offset_stops, event_time_stops, event_values_stop, event_read}
 use Rattle.rg_event.proofs.codec.decoder.read_event.Goals as goal
 

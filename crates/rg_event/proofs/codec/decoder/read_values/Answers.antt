@@ -1,6 +1,6 @@
 use Rattle.std.proofs.Common.{arith}
 use Rattle.std.proofs.lemmas.Grind.{common_steps}
-use Rattle.rg_bytes.proofs.Lists.{list_bytes-more}
+use Rattle.rg_bytes.proofs.Laws.{list_bytes-more}
 use Rattle.rg_event.specs.Codec.{value_bytes}
 use Rattle.rg_event.proofs.ColumnValues.{one_value_more}
 use Rattle.rg_event.proofs.codec.decoder.read_values.Goals as goal

@@ -2,7 +2,7 @@ use Rattle.std.proofs.Common.{◌++◌, rules}
 use Rattle.std.proofs.lemmas.Result.{IfOk-equal, on_err_weaker}
 use Rattle.std.specs.Int.{w64, to_be_bytes}
 use Rattle.rg_event.specs.Codec.{values_bytes, event_bytes}
-use Rattle.rg_bytes.proofs.Keeping.{kept_through}
+use Rattle.rg_bytes.proofs.Laws.{kept_through}
 use Rattle.rg_event.proofs.ColumnValues.{three_more}
 use Rattle.rg_event.proofs.codec.encoder.put_event.Goals as goal
 

@@ -3,8 +3,7 @@ use Rattle.rg_agg.specs.Numbers.{value_of}
 use Rattle.rg_agg.specs.Stands.{IsNumber}
 use Rattle.rg_event.specs.Tagged.{value_kind}
 use Rattle.rg_extreme.specs.States.{as_pairs, pairs_in}
-use Rattle.rg_multiset.proofs.Kept.{alike_with}
-use Rattle.rg_multiset.proofs.ReadPairs.{pairs_length}
+use Rattle.rg_multiset.proofs.Laws.{alike_with, pairs_length}
 use Rattle.rg_extreme.proofs.Additions.{added_deque, added_pairs, added_ticks}
 use Rattle.rg_extreme.proofs.deque.Deque.add.Goals as goal
 

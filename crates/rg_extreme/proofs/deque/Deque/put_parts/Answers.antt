@@ -1,10 +1,10 @@
 use Rattle.std.proofs.Common.{◌∷◌, sym, ◌∙◌}
 use Rattle.std.specs.Int.{w64, to_be_bytes}
 use Rattle.rg_agg.specs.Numbers.{value_of}
-use Rattle.rg_bytes.proofs.Keeping.{kept_through}
+use Rattle.rg_bytes.proofs.Laws.{kept_through}
 use Rattle.rg_extreme.specs.States.{pairs_in}
 use Rattle.rg_extreme.proofs.Ends.{parts_put}
-use Rattle.rg_multiset.proofs.ReadPairs.{all_ok, all_err, pairs_length}
+use Rattle.rg_multiset.proofs.Laws.{all_ok, all_err, pairs_length}
 use Rattle.rg_extreme.proofs.deque.Deque.put_parts.Goals as goal
 
 pub returns-clause-ok : goal.returns-clause-ok

@@ -1,7 +1,7 @@
 use Rattle.std.proofs.Common.{ap, ◌∙◌, arith}
 use Rattle.std.proofs.lemmas.Grind.{common_steps}
 use Rattle.rg_agg.specs.declared.fault.StateFault.TheVariants.{Memory}
-use Rattle.rg_bytes.proofs.Reading.{both_answers, memory_only}
+use Rattle.rg_bytes.proofs.Laws.{both_answers, memory_only}
 use Rattle.rg_extreme.specs.Extremes.{extreme_at}
 use Rattle.rg_extreme.specs.Sides.{beats}
 use Rattle.rg_extreme.specs.States.{kept_by}

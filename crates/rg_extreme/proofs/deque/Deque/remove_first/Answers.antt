@@ -1,6 +1,6 @@
 use Rattle.std.proofs.Common.{arith}
 use Rattle.rg_agg.specs.Stands.{IsNumber}
-use Rattle.rg_multiset.proofs.Places.{all_there}
+use Rattle.rg_multiset.proofs.Laws.{all_there}
 use Rattle.rg_extreme.specs.States.{pairs_in}
 use Rattle.rg_extreme.proofs.Removals.{fewer_deque}
 use Rattle.rg_extreme.proofs.deque.Deque.remove_first.Goals as goal

@@ -1,6 +1,6 @@
 use Rattle.std.proofs.Common.{◌∙◌, sym}
 use Rattle.rg_agg.specs.Numbers.{value_of}
-use Rattle.rg_multiset.proofs.ReadPairs.{pairs_length}
+use Rattle.rg_multiset.proofs.Laws.{pairs_length}
 use Rattle.rg_extreme.proofs.max.Max.pairs.Goals as goal
 
 pub returns : goal.returns

@@ -1,7 +1,7 @@
 use Rattle.std.proofs.Common.{◌∷◌, ◌++◌, length, ap, sym, ◌∙◌}
 use Rattle.rg_agg.specs.Held.{pairs_bytes}
 use Rattle.std.specs.Int.{w64, to_be_bytes}
-use Rattle.rg_bytes.proofs.Keeping.{kept_through}
+use Rattle.rg_bytes.proofs.Laws.{kept_through}
 use Rattle.rg_multiset.proofs.ReadPairs.{all_ok, all_err, pairs_length, parts_put}
 use Rattle.rg_multiset.proofs.tally.Tally.put_parts.Goals as goal
 

@@ -1,7 +1,7 @@
 use Rattle.std.proofs.Common.{ap, ◌∙◌, arith}
 use Rattle.std.proofs.lemmas.Grind.{common_steps}
 use Rattle.rg_agg.specs.declared.fault.StateFault.TheVariants.{Memory}
-use Rattle.rg_bytes.proofs.Reading.{both_answers, memory_only}
+use Rattle.rg_bytes.proofs.Laws.{both_answers, memory_only}
 use Rattle.rg_multiset.specs.Reading.{pairs_at}
 use Rattle.rg_multiset.proofs.ReadPairs.{tally_back}
 use Rattle.rg_multiset.proofs.tally.Tally.read.Goals as goal

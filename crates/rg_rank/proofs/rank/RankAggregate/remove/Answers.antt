@@ -5,7 +5,7 @@ use Rattle.rg_agg.specs.Stands.{IsNumber}
 use Rattle.rg_agg.specs.Unbeaten.{is_less}
 use Rattle.rg_event.specs.declared.value.Value.{Value}
 use Rattle.rg_multiset.specs.Pairs.{IsTally}
-use Rattle.rg_multiset.proofs.Places.{counts_less, legal_first}
+use Rattle.rg_multiset.proofs.Laws.{counts_less, legal_first}
 use Rattle.rg_rank.specs.Ranks.{IsTally-numbers}
 use Rattle.rg_rank.specs.declared.rank.Rank.{Rank}
 use Rattle.rg_rank.proofs.States.{IsRemoved, not_there, removed}

@@ -4,10 +4,10 @@ use Rattle.rg_agg.specs.Held.{number_value_at}
 use Rattle.rg_agg.specs.Stands.{IsNumber}
 use Rattle.rg_agg.specs.Unbeaten.{is_less}
 use Rattle.rg_agg.specs.declared.fault.StateFault.TheVariants.{Memory}
-use Rattle.rg_agg.proofs.Fields.{number_value_reads_back}
-use Rattle.rg_bytes.proofs.Reading.{both_answers, memory_only}
+use Rattle.rg_agg.proofs.Laws.{number_value_reads_back}
+use Rattle.rg_bytes.proofs.Laws.{both_answers, memory_only}
 use Rattle.rg_multiset.specs.Reading.{pairs_at}
-use Rattle.rg_multiset.proofs.ReadPairs.{tally_back}
+use Rattle.rg_multiset.proofs.Laws.{tally_back}
 use Rattle.rg_rank.proofs.tree.Tree.read.Goals as goal
 
 pub returns-in-Ok-clause-agrees : goal.returns-in-Ok-clause-agrees

@@ -1,8 +1,8 @@
 use Rattle.std.proofs.Common.{inl, inr, Err, refl, sym, ◌∙◌, ap, subst, arith}
 use Rattle.rg_reservoir.specs.Kept.{Base, view_of}
 use Rattle.rg_recover.proofs.TaskCauses.{same_fault, damaged_by, disk_by, ended_by, rose_first, ahead_faults, ahead_no_table}
-use Rattle.rg_reservoir.proofs.Peeking.{ok_not_err, err_is}
-use Rattle.rg_host.proofs.Runs.{leaves_all-none}
+use Rattle.rg_reservoir.proofs.Laws.{ok_not_err, err_is}
+use Rattle.rg_host.proofs.Laws.{leaves_all-none}
 use Rattle.rg_host.specs.Moments.{LeavesAll}
 use Rattle.rg_recover.specs.Living.{of_session, state_of}
 use Rattle.rg_recover.specs.declared.fault.TaskFault.TheVariants as session

@@ -4,8 +4,8 @@ use Rattle.rg_reservoir.specs.Kept.{Base, base, stored}
 use Rattle.rg_recover.specs.Sessions.{Sitting}
 use Rattle.rg_recover.proofs.TaskCauses.{same_fault, bad_by, damaged_by, disk_by, ended_by, rose_first, rose_second}
 use Rattle.rg_recover.proofs.Reaching.{reaching, slots_on}
-use Rattle.rg_reservoir.proofs.Peeking.{ok_not_err, err_is}
-use Rattle.rg_host.proofs.Runs.{leaves_all-none}
+use Rattle.rg_reservoir.proofs.Laws.{ok_not_err, err_is}
+use Rattle.rg_host.proofs.Laws.{leaves_all-none}
 use Rattle.rg_host.specs.Moments.{LeavesAll}
 use Rattle.rg_recover.specs.Living.{of_session, state_of}
 use Rattle.rg_recover.specs.declared.fault.TaskFault.TheVariants as session

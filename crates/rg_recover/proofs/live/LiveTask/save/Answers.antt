@@ -3,8 +3,8 @@ use Rattle.rg_recover.proofs.TaskCauses.{same_fault, disk_by, ended_by, rose_fir
 use Rattle.rg_recover.proofs.Sound.{long}
 use Rattle.rg_recover.proofs.AllSaved.{all_stored, all_saved}
 use Rattle.rg_recover.proofs.Reaching.{reaching}
-use Rattle.rg_reservoir.proofs.Peeking.{ok_not_err, err_is}
-use Rattle.rg_host.proofs.Runs.{leaves_all-none}
+use Rattle.rg_reservoir.proofs.Laws.{ok_not_err, err_is}
+use Rattle.rg_host.proofs.Laws.{leaves_all-none}
 use Rattle.rg_host.specs.Moments.{LeavesAll}
 use Rattle.rg_recover.specs.Living.{of_session, state_of}
 use Rattle.rg_recover.specs.declared.fault.TaskFault.TheVariants as session

@@ -3,7 +3,7 @@ use Rattle.std.specs.Prelude.{All}
 use Rattle.rg_past.specs.declared.past.Spot.{Spot}
 use Rattle.rg_reservoir.specs.Ahead.{all_ahead}
 use Rattle.rg_reservoir.specs.Kept.{Base, base, opened, cache_of, loads_of, stored, Spells, AllTouched}
-use Rattle.rg_reservoir.proofs.Loading.{some_none}
+use Rattle.rg_reservoir.proofs.Laws.{some_none}
 use Rattle.rg_open.specs.Stores.{store_of}
 use Rattle.rg_recover.specs.Sessions.{Sitting}
 use Rattle.rg_recover.proofs.Causes.{same_fault}

@@ -5,11 +5,11 @@ use Rattle.rg_event.specs.declared.event.Event.{Event}
 use Rattle.rg_reservoir.specs.Kept.{base, opened, stored}
 use Rattle.rg_reservoir.specs.declared.reservoir.Reservoir.{Reservoir}
 use Rattle.rg_run_spec.specs.Steps.{IsStepped}
-use Rattle.rg_run_spec.proofs.Hosts.{stepped_then}
+use Rattle.rg_run_spec.proofs.Laws.{stepped_then}
 use Rattle.rg_engine.specs.Seen.{Seen}
 use Rattle.rg_state.specs.Changes.{SameMarks}
 use Rattle.rg_host.specs.Image.{Image}
-use Rattle.rg_host.proofs.Runs.{becomes-same, becomes-weaker}
+use Rattle.rg_host.proofs.Laws.{becomes-same, becomes-weaker}
 use Rattle.rg_open.specs.Blame.{NodeRuns, IsPlaced}
 use Rattle.rg_open.specs.Stores.{store_of}
 use Rattle.rg_recover.specs.Saving.{IsSaved, SavesByRule}

@@ -1,5 +1,5 @@
 use Rattle.std.proofs.Common.{◌≡◌, ◌∙◌, ◌+◌, ◌≤◌, ℕ, List, [], length, Some, true, false, ap, sym, subst, refl, rules, arith}
-use Rattle.rg_host.proofs.Runs.{moments-weaker}
+use Rattle.rg_host.proofs.Laws.{moments-weaker}
 use Rattle.rg_event.specs.declared.event.Event.{Event}
 use Rattle.rg_frame.specs.LogState.{LogState}
 use Rattle.rg_frame.specs.Steps.{Leaves, From, Grown}

@@ -1,6 +1,6 @@
 use Rattle.std.proofs.Common.{◌≡◌, ◌∙◌, sym, subst, refl, rules, List, [], arith}
 use Rattle.std.proofs.lemmas.List.{take_all}
-use Rattle.rg_host.proofs.Runs.{leaves_all-none}
+use Rattle.rg_host.proofs.Laws.{leaves_all-none}
 use Rattle.rg_past.specs.declared.past.Spot.{Spot}
 use Rattle.rg_reservoir.specs.Ahead.{ahead_places, all_ahead, SomeTouched}
 use Rattle.rg_reservoir.specs.Kept.{Base, base, view_of, opened, IsCached, IsSound, SpellsSettled, AllTouched}

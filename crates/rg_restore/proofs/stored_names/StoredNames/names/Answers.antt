@@ -3,7 +3,7 @@ use Rattle.std.proofs.lemmas.List.{append-nil}
 use Rattle.rg_past.specs.Keeping.{HasCause}
 use Rattle.rg_past.specs.declared.past.PastFault.TheVariants as past
 use Rattle.rg_reservoir.specs.declared.fault.ReservoirFault.{ReservoirFault}
-use Rattle.rg_reservoir.proofs.Peeking.{err_is}
+use Rattle.rg_reservoir.proofs.Laws.{err_is}
 use Rattle.rg_reservoir.specs.Kept.{base, opened}
 use Rattle.rg_reservoir.specs.GoingLaws.{all_long}
 use Rattle.rg_restore.specs.Naming.{IsDamagedIn}

@@ -1,6 +1,6 @@
 use Rattle.std.proofs.Common.{◌≡◌, ap, refl, rules, subst, ◌∙◌}
 use Rattle.std.specs.Prelude.{Err, IfErr, Result}
-use Rattle.rg_agg.proofs.Served.{kept_own}
+use Rattle.rg_agg.proofs.Laws.{kept_own}
 use Rattle.rg_agg.specs.Sharing.{kept_as}
 use Rattle.rg_agg.specs.Standing.{func_of}
 use Rattle.rg_keywords.specs.declared.func.Func.{Func}

@@ -1,7 +1,7 @@
 use Rattle.std.proofs.Common.{◌≡◌, ◌∷◌, [], ◌≤◌, ◌+◌, ℕ, List, Err, true, false, arith, sym, ◌∙◌, ap, subst}
 use Rattle.std.proofs.lemmas.Bool.{ltb-true, ltb-false}
 use Rattle.rg_host.specs.Moments.{Moments, LeavesFiles}
-use Rattle.rg_host.proofs.Runs.{moments_then}
+use Rattle.rg_host.proofs.Laws.{moments_then}
 use Rattle.rg_config.specs.Plans.{planned}
 use Rattle.rg_run_spec.specs.Ahead.{after_line}
 use Rattle.rg_run_spec.specs.Stores.{StaysOnCourse}

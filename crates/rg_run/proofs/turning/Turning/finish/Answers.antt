@@ -2,7 +2,7 @@ use Rattle.std.proofs.Common.{◌≡◌, ◌⊎◌, ◌<◌, ◌^◌, [], Err, i
 use Rattle.std.proofs.lemmas.Result.{on_ok_weaker}
 use Rattle.rg_host.specs.Lines.{ended}
 use Rattle.rg_host.specs.Puts.{Puts}
-use Rattle.rg_host.proofs.Runs.{moments_then}
+use Rattle.rg_host.proofs.Laws.{moments_then}
 use Rattle.rg_task.specs.State.{State}
 use Rattle.rg_run_spec.specs.Stores.{StaysOnCourse}
 use Rattle.rg_task.specs.declared.fault.TaskFault.TheVariants as task

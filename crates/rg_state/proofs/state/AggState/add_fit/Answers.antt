@@ -2,7 +2,7 @@ use Rattle.std.proofs.Common.{◌≡◌, rules, subst, sym, ◌∙◌}
 use Rattle.rg_agg.specs.Sharing.{kept_as}
 use Rattle.rg_agg.specs.Standing.{func_of}
 use Rattle.rg_state.specs.States.{held_of}
-use Rattle.rg_agg.proofs.Served.{admitted_kept, kept_own}
+use Rattle.rg_agg.proofs.Laws.{admitted_kept, kept_own}
 use Rattle.rg_metric.specs.Admitted.{IsAdmitted}
 use Rattle.rg_state.proofs.Stepping.{comes_as, other_refused}
 use Rattle.rg_state.proofs.state.AggState.add_fit.Goals as goal

@@ -1,5 +1,5 @@
 use Rattle.rg_agg.specs.declared.fault.StateFault.TheVariants.{Memory}
-use Rattle.rg_bytes.proofs.Reading.{returns_it}
+use Rattle.rg_bytes.proofs.Laws.{returns_it}
 use Rattle.rg_state.proofs.ReadBack.{state_read_back}
 use Rattle.rg_state.specs.States.{held_of, state_at}
 use Rattle.rg_state.proofs.state.AggState.decode.Goals as goal

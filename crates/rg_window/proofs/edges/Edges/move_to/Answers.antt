@@ -2,7 +2,7 @@ use Rattle.std.proofs.Common.{◌≢◌, ◌≤◌, ◌<◌, ◌∙◌, ap, arit
 use Rattle.std.proofs.lemmas.List.{length-set}
 use Rattle.std.proofs.lemmas.List.Elements.{All-set}
 use Rattle.rg_past.specs.declared.past.Spot.{Spot}
-use Rattle.rg_past.proofs.Kept.{kept-then, cause-within}
+use Rattle.rg_past.proofs.Laws.{kept-then, cause-within}
 use Rattle.rg_window.proofs.Chains.{ok_err}
 use Rattle.rg_window.proofs.Runs.{Moved-more, HaltsAt-next, still-more, Next-edge, no_spot, Reaches-from_Moved, rises_moved, rises_halted}
 use Rattle.rg_window.proofs.Spelled.{spelled_of, spelled_here, spelled_set, spelled_within}

@@ -1,7 +1,7 @@
 use Rattle.std.proofs.Common.{refl}
 use Rattle.rg_restore.proofs.RowKinds.{truthful_fits}
 use Rattle.rg_restore.proofs.Trying.{fit_same}
-use Rattle.rg_restore.proofs.laws.law_fit.Goals as goal
+use Rattle.rg_restore.proofs.law.law_fit.Goals as goal
 
 pub returns : goal.returns
 returns g c = λ past queries fields plan checkpoint sound serves are same is.

@@ -8,10 +8,10 @@ use Rattle.rg_log.specs.Log.{IsInForce, IsLegalLog}
 use Rattle.rg_log.specs.Stages.{Stage as Said, logged}
 use Rattle.rg_checkpoint.specs.Slots.{IsSlot}
 use Rattle.rg_checkpoint.specs.declared.base.Checkpoint.{Checkpoint}
-use Rattle.rg_checkpoint.proofs.SlotLaws.{slot_told}
-use Rattle.rg_reservoir.proofs.Walking.{walked}
+use Rattle.rg_checkpoint.proofs.Laws.{slot_told}
+use Rattle.rg_reservoir.proofs.Laws.{walked}
 use Rattle.rg_dump.specs.Stages.{Stages, stages_of}
-use Rattle.rg_dump.proofs.Legal.{ReadsAs, legal_stages, empty_stages, read_events}
+use Rattle.rg_dump.proofs.Laws.{ReadsAs, legal_stages, empty_stages, read_events}
 use Rattle.rg_info.specs.Info.{slot_text, info_lines, IsInfo, LogSays}
 use Rattle.rg_info.specs.Summary.{summary_with, summary_of, summary_in}
 use Rattle.rg_info.specs.declared.summary.Summary.{Summary}

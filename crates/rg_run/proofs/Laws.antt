@@ -1,0 +1,5 @@
+-- What other crates may cite of the lemmas of this one.
+pub use Rattle.rg_run.proofs.Marking.{due_on, marks_due, none_due, row_due, saves_due, stores_due}
+pub use Rattle.rg_run.proofs.Saving.{rest_saved}
+pub use Rattle.rg_run.proofs.Stepping.{row_verdict_is}
+pub use Rattle.rg_run.proofs.Texts.{as_control, as_header, as_row, no_lf_cleaned}

@@ -2,10 +2,7 @@ ghost use Rattle.std.specs.Prelude.{◌≡◌, ◌≤◌, unsigned_abs, IfSome, 
 ghost use Rattle.rg_agg.specs.Stands.{IsInt};
 ghost use Rattle.rg_metric.specs.Answers.{number_of};
 
-use rg_event::Value;
-
-/// The greatest int of a column, and with a minus the least.
-pub const GREATEST_INT: u64 = 1_000_000_000_000;
+use rg_event::{MAX_INT, Value};
 
 /// The number of an int from -10^12 to 10^12; none for another value.
 pub(crate) fn amount(value: &Value) -> Option<i128>
@@ -16,7 +13,7 @@ pub(crate) fn amount(value: &Value) -> Option<i128>
 {
     match value {
         Value::Int(number) => {
-            if number.unsigned_abs() <= GREATEST_INT {
+            if number.unsigned_abs() <= MAX_INT {
                 Some(*number as i128)
             } else {
                 None

@@ -18,7 +18,6 @@ mod total;
 mod wide;
 
 pub use aggregate::Aggregate;
-pub use amount::GREATEST_INT;
 pub use avg::Avg;
 pub use count::Count;
 pub use fault::{StateFault, Unfit};
@@ -26,7 +25,7 @@ pub use first::First;
 pub use kinds::is_like;
 pub use last::Last;
 pub use number::Number;
-pub use reading::{GREATEST_SIZE, put_size, read_number, read_size};
+pub use reading::{put_size, read_number, read_size};
 pub use rg_metric::{Answer, Answers};
 pub use sharing::kept_as;
 pub use sum::Sum;

@@ -6,8 +6,7 @@ ghost use Rattle.rg_event.specs.Tagged.{value_kind};
 ghost use Rattle.rg_metric.specs.Answers.{number_of};
 ghost use Rattle.rg_metric.specs.Same.{same_value};
 
-use crate::amount::GREATEST_INT;
-use rg_event::{Kind, Value};
+use rg_event::{Kind, MAX_INT, Value};
 
 /// A value that is an int or an id. Those of one kind are ordered as numbers.
 #[derive(Clone, Copy, Debug, PartialEq, Eq, PartialOrd, Ord)]
@@ -25,7 +24,7 @@ impl Number {
     {
         match value {
             Value::Int(number) => {
-                if number.unsigned_abs() <= GREATEST_INT {
+                if number.unsigned_abs() <= MAX_INT {
                     Some(Number::Int(*number))
                 } else {
                     None

@@ -9,11 +9,8 @@ ghost use Rattle.rg_event.specs.Tagged.{tagged_bytes};
 use crate::fault::StateFault;
 use crate::number::Number;
 use rg_bytes::{ByteReader, Memory, put_u8, put_u64};
-use rg_event::get_tagged;
+use rg_event::{MAX_EVENTS, get_tagged};
 use std::alloc::Global;
-
-/// How many values a state stands for at most.
-pub const GREATEST_SIZE: u64 = 1_099_511_627_776;
 
 /// Writes a tag and the number of values at the end. Where memory runs out a front of it may stand there.
 pub fn put_size(tag: u8, size: u64, out: &mut Vec<u8>) -> Result<(), Memory>
@@ -35,7 +32,7 @@ pub fn read_size(tag: u8, from: &mut ByteReader<'_>) -> Result<u64, StateFault>
         return Err(StateFault::Unfit);
     }
     let size = from.u64()?;
-    if size == 0 || GREATEST_SIZE < size {
+    if size == 0 || MAX_EVENTS < size {
         return Err(StateFault::Unfit);
     }
     Ok(size)

@@ -19,7 +19,7 @@ use std::alloc::Global;
 const TAG: u8 = 4;
 
 /// The square of the greatest int of a column.
-const GREATEST_SQUARE: u128 = 1_000_000_000_000_000_000_000_000;
+const MAX_SQUARE: u128 = 1_000_000_000_000_000_000_000_000;
 
 /// The sum of the squares of ints.
 #[derive(Debug, Drop)]
@@ -154,7 +154,7 @@ fn is_within(count: u64, sum: i128) -> bool
     requires { count ≤ 2 ^ 40 }
     ensures { result ≡ is_square_sum count sum }
 {
-    0 <= sum && sum.unsigned_abs() <= count as u128 * GREATEST_SQUARE
+    0 <= sum && sum.unsigned_abs() <= count as u128 * MAX_SQUARE
 }
 
 /// Takes a sum of squares. A refusal may leave the reader in mid-way.

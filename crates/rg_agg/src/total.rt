@@ -5,12 +5,12 @@ ghost use Rattle.rg_agg.specs.Stands.{IsTotal};
 ghost use Rattle.rg_bytes.specs.Keeps.{Keeps};
 ghost use Rattle.rg_event.specs.declared.value.Value.{Value};
 
-use crate::amount::{GREATEST_INT, amount};
+use crate::amount::amount;
 use crate::fault::{StateFault, Unfit};
 use crate::reading::{put_size, read_size};
 use crate::wide::Wide;
 use rg_bytes::{ByteReader, Memory, put_i128};
-use rg_event::Value;
+use rg_event::{MAX_INT, Value};
 
 /// How many ints there are, and their sum.
 #[derive(Debug, Drop)]
@@ -110,7 +110,7 @@ fn is_within(count: u64, sum: i128) -> bool
     requires { count ≤ 2 ^ 40 }
     ensures { result ≡ is_sum count sum }
 {
-    sum.unsigned_abs() <= count as u128 * GREATEST_INT as u128
+    sum.unsigned_abs() <= count as u128 * MAX_INT as u128
 }
 
 /// Writes a tag, a count and a sum at the end. Where memory runs out a front of it may stand there.

@@ -9,10 +9,10 @@ use crate::put::put_bytes;
 use itoa::Buffer;
 
 /// The greatest number of digits whose every number is below 2^64.
-const SAFE_DIGITS: usize = 19;
+const MAX_SAFE_DIGITS: usize = 19;
 
 /// The greatest number that [`read_signed`] reads, without its sign.
-const SIGNED_MOST: u64 = i64::MAX as u64;
+const MAX_SIGNED: u64 = i64::MAX as u64;
 
 /// Reads a number below 2^64 of 1 to 20 ASCII digits, with leading zeros or without.
 pub fn read_whole(text: &[u8]) -> Option<u64>
@@ -28,9 +28,9 @@ pub fn read_signed(text: &[u8]) -> Option<i64>
     ensures { result ≡ signed_of text.now }
 {
     match text.split_first()? {
-        (b'-', digits) => Some(-(read_number(digits, SIGNED_MOST)? as i64)),
-        (b'+', digits) => Some(read_number(digits, SIGNED_MOST)? as i64),
-        _ => Some(read_number(text, SIGNED_MOST)? as i64),
+        (b'-', digits) => Some(-(read_number(digits, MAX_SIGNED)? as i64)),
+        (b'+', digits) => Some(read_number(digits, MAX_SIGNED)? as i64),
+        _ => Some(read_number(text, MAX_SIGNED)? as i64),
     }
 }
 
@@ -69,7 +69,7 @@ fn read_number(text: &[u8], most: u64) -> Option<u64>
     ensures { result ≡ number_of most text.now }
 {
     let (last, front) = text.split_last()?;
-    if front.len() > SAFE_DIGITS || !last.is_ascii_digit() {
+    if front.len() > MAX_SAFE_DIGITS || !last.is_ascii_digit() {
         return None;
     }
     let value = read_digits(front)?
@@ -80,7 +80,7 @@ fn read_number(text: &[u8], most: u64) -> Option<u64>
 
 /// Reads a number of digits so few that it is below 2^64.
 fn read_digits(digits: &[u8]) -> Option<u64>
-    requires { length digits.now ≤ SAFE_DIGITS }
+    requires { length digits.now ≤ MAX_SAFE_DIGITS }
     ensures { result ≡ (if all_ascii_digits digits.now then Some (value_of digits.now) else None) }
 {
     let mut value = 0;

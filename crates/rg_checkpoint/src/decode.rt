@@ -20,7 +20,7 @@ use rg_state::{AggState, Key};
 use std::alloc::Global;
 
 /// The greatest length of a key, in bytes.
-const MAX_KEY: u32 = 2_056;
+const MAX_KEY_BYTES: u32 = 2_056;
 
 /// The first byte of a base payload.
 pub(crate) const BASE_TAG: u8 = 0x42;
@@ -341,7 +341,7 @@ pub(crate) fn take_key(alloc: Global, from: &mut ByteReader<'_>) -> Result<Key, 
         Ok(count) => count,
         Err(fault) => return Err(fault),
     };
-    if count > MAX_KEY {
+    if count > MAX_KEY_BYTES {
         return Err(CheckpointFault::BadCheckpoint);
     }
     match take_bytes(alloc, count, from) {

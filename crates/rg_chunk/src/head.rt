@@ -6,10 +6,7 @@ ghost use Rattle.rg_chunk.specs.Chunks.{chunk_of};
 ghost use Rattle.rg_chunk.specs.Heads.{IsHead, Reads, layout_said, tag_of, is_count, stamp_at, stamp_bytes, head_at, head_of, head_bytes, head_for, first_stamp, last_stamp, is_head_of as head_test};
 
 use rg_bytes::{ByteReader, Memory, put_u8, put_u32, put_u64};
-use rg_event::{Event, EventFault};
-
-/// The greatest number of events in a chunk. The least is 1.
-pub const MAX_EVENTS: u32 = 4_096;
+use rg_event::{Event, EventFault, MAX_CHUNK_EVENTS};
 
 /// How the events of a chunk are written.
 #[derive(Clone, Copy, Debug, PartialEq, Eq)]
@@ -109,7 +106,7 @@ pub(crate) fn take_head(from: &mut ByteReader<'_>) -> Result<(Layout, ChunkHead)
 fn is_count_of_chunk(count: u32) -> bool
     ensures { result ≡ is_count count }
 {
-    1 <= count && count <= MAX_EVENTS
+    1 <= count && count <= MAX_CHUNK_EVENTS
 }
 
 /// Takes the offset and the time of an event.

@@ -3,14 +3,13 @@ ghost use Rattle.rg_event.specs.Codec.{AreValuesOf, IsEventOf, IsValueOf};
 ghost use Rattle.rg_chunk.specs.Chunks.{IsChunk};
 
 use crate::chunk::is_rising;
-use crate::head::MAX_EVENTS;
-use rg_event::{Event, Field, Kind, MAX_INT, MAX_OFFSET, MAX_TIME, Value};
+use rg_event::{Event, Field, Kind, MAX_CHUNK_EVENTS, MAX_INT, MAX_OFFSET, MAX_TIME, Value};
 
 /// Whether a chunk of these columns may have these events.
 pub(crate) fn is_chunk(fields: &[Field], events: &[Event]) -> bool
     ensures { IsTrue result → IsChunk fields.now events.now }
 {
-    if events.is_empty() || events.len() > MAX_EVENTS as usize {
+    if events.is_empty() || events.len() > MAX_CHUNK_EVENTS as usize {
         return false;
     }
     are_legal(fields, events) && is_rising(events)

@@ -14,6 +14,6 @@ mod written;
 
 pub use chunk::Chunk;
 pub use fault::ChunkFault;
-pub use head::{ChunkHead, Layout, MAX_EVENTS, read_head};
+pub use head::{ChunkHead, Layout, read_head};
 pub use open::OpenChunk;
 pub use written::Written;

@@ -5,7 +5,7 @@ ghost use Rattle.rg_commands.specs.Call.{command_of, with_file, with_two, with_f
 use rg_bytes::read_whole;
 
 /// The greatest offset that the first line of an input, or of a replay, may have.
-const GREATEST_FIRST: u64 = 1 << 61;
+const MAX_FIRST_OFFSET: u64 = 1 << 61;
 
 /// The greatest number of lines of a trial.
 const TRIAL_LINES: u64 = 200_000;
@@ -49,7 +49,7 @@ fn run_from(first: &[u8]) -> Option<Command>
     ensures { result ≡ run_at (whole_of first.now) }
 {
     match read_whole(first) {
-        Some(first) if first <= GREATEST_FIRST => Some(Command::Run(first)),
+        Some(first) if first <= MAX_FIRST_OFFSET => Some(Command::Run(first)),
         _ => None,
     }
 }
@@ -59,7 +59,7 @@ fn replay_from(first: &[u8]) -> Option<Command>
     ensures { result ≡ replay_at (whole_of first.now) }
 {
     match read_whole(first) {
-        Some(first) if first <= GREATEST_FIRST => Some(Command::Replay(first)),
+        Some(first) if first <= MAX_FIRST_OFFSET => Some(Command::Replay(first)),
         _ => None,
     }
 }

@@ -14,7 +14,7 @@ use rg_messages::{Refusal, Status, TomlFault};
 use std::alloc::Global;
 
 /// The greatest number of bytes of a plan.
-const PLAN_BYTES: usize = 65_536;
+const MAX_PLAN_BYTES: usize = 65_536;
 
 /// Writes the line that refuses a plan by its query with this number, with its LF.
 fn write_refused_query(line: &mut Vec<u8>, number: u32) -> Result<(), Memory>
@@ -68,7 +68,7 @@ pub(crate) fn load_plan<P: Source>(alloc: Global, plan: &mut P) -> Result<Plan, 
     ensures is_read { IfOk result IsReadPlan }
     ensures unread { IfErr result (λ ending. UnreadFor (source_outcome P.Source plan.old plan.new) (ending_line ending) (ending_refusal ending) (ending_status ending)) }
 {
-    let bytes = match read_all(alloc, plan, PLAN_BYTES) {
+    let bytes = match read_all(alloc, plan, MAX_PLAN_BYTES) {
         Ok(bytes) => bytes,
         Err(AllFault::Read) => return Err(Ending::Failed(Status::Read)),
         Err(AllFault::Limit) => return Err(Ending::Failed(Status::Limit)),

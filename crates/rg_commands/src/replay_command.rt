@@ -13,16 +13,13 @@ use crate::last_line::{end, refusal_after};
 use crate::load::load_plan;
 use crate::refused::{refuse_damage, refuse_schema, refuse_state};
 use rg_config::Plan;
-use rg_event::{Room, Steps};
+use rg_event::{MAX_EVENTS, Room, Steps};
 use rg_host::{Host, Source};
 use rg_messages::{Refusal, Status};
 use rg_replay::ReplayFault;
 use std::alloc::Global;
 use std::marker::Brand;
 use std::sync::ledger::{Blank, Ledger};
-
-/// The greatest number of events of a log.
-const GREATEST_LIMIT: u64 = 1 << 40;
 
 /// How a replay ends that met this fault.
 fn ending_of(alloc: Global, fault: ReplayFault) -> Ending
@@ -59,7 +56,7 @@ fn replay_log<H: Host, L: Ledger>(
     let room = Room {
         chunk: plan.room.chunk,
         cache: plan.room.cache,
-        limit: GREATEST_LIMIT,
+        limit: MAX_EVENTS,
     };
     let mut steps = Steps::<L>::new(blank);
     match rg_replay::replay(alloc, host, &plan.schema, room, task, first, &mut steps) {

@@ -13,14 +13,11 @@ use crate::last_line::{end, refusal_after};
 use crate::load::load_plan;
 use crate::refused::{refuse_damage, refuse_schema};
 use rg_config::Plan;
-use rg_event::Room;
+use rg_event::{MAX_EVENTS, Room};
 use rg_host::{Host, Source};
 use rg_messages::{Refusal, Status};
 use rg_verify::VerifyFault;
 use std::alloc::Global;
-
-/// The greatest number of events of a log.
-const GREATEST_LIMIT: u64 = 1 << 40;
 
 /// How a verify ends that met this fault.
 fn ending_of(alloc: Global, fault: VerifyFault) -> Ending
@@ -45,7 +42,7 @@ fn verify_slots<H: Host>(alloc: Global, plan: &Plan, host: &mut H) -> Result<(),
     let room = Room {
         chunk: plan.room.chunk,
         cache: plan.room.cache,
-        limit: GREATEST_LIMIT,
+        limit: MAX_EVENTS,
     };
     let differ = match rg_verify::verify(
         alloc,

@@ -6,7 +6,7 @@ ghost use Rattle.rg_config.specs.Reading.{settings_view, ReadsSettings};
 
 use crate::fault::SettingsFault;
 use crate::table::{has_only, value_at};
-use rg_event::Room;
+use rg_event::{MAX_CHUNK_EVENTS, MAX_EVENTS, MAX_TIME, Room};
 use toml::{Table, Value};
 
 /// The keys of the table of settings.
@@ -15,7 +15,7 @@ const SETTING_KEYS: [&str; 7] = [
 ];
 
 /// How many events the cache holds at most.
-const MOST_CACHED: u64 = 65_536;
+const MAX_CACHED_EVENTS: u64 = 65_536;
 
 /// The range of a number, and what stands for it where it is missing.
 #[derive(Clone, Copy, Debug)]
@@ -35,7 +35,7 @@ const CACHE: Range = Range {
 /// Events in a chunk.
 const CHUNK: Range = Range {
     least: 1,
-    most: 4_096,
+    most: MAX_CHUNK_EVENTS as u64,
     otherwise: 1_024,
 };
 
@@ -56,14 +56,14 @@ const SAVE: Range = Range {
 /// Events in all: at most 2^40.
 const EVENTS: Range = Range {
     least: 1,
-    most: 1_099_511_627_776,
-    otherwise: 1_099_511_627_776,
+    most: MAX_EVENTS,
+    otherwise: MAX_EVENTS,
 };
 
 /// By how many milliseconds an event may be earlier than the last one: at most 10^15.
 const GRACE: Range = Range {
     least: 0,
-    most: 1_000_000_000_000_000,
+    most: MAX_TIME,
     otherwise: 0,
 };
 
@@ -124,7 +124,7 @@ fn settings_in(table: &Table) -> Result<Settings, SettingsFault>
     let limit = number_at(table, "events", SettingsFault::Events, EVENTS)?;
     let header = flag_at(table, "header", SettingsFault::Header)?;
     let grace = number_at(table, "grace", SettingsFault::Grace, GRACE)?;
-    if cache * chunk > MOST_CACHED {
+    if cache * chunk > MAX_CACHED_EVENTS {
         return Err(SettingsFault::CachedEvents);
     }
     Ok(Settings {

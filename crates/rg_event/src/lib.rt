@@ -16,7 +16,7 @@ mod word;
 
 pub use codec::{EventFault, decode, encode};
 pub use event::Event;
-pub use limits::{MAX_INT, MAX_OFFSET, MAX_TIME};
+pub use limits::{MAX_CHUNK_EVENTS, MAX_EVENTS, MAX_INT, MAX_OFFSET, MAX_TIME};
 pub use lists::{Bytes, Events, Texts};
 pub use name::Name;
 pub use parse::parse_value;

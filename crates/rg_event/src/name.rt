@@ -26,7 +26,7 @@ const RESERVED: [&[u8]; 14] = [
 ];
 
 /// The greatest length of a name, in bytes.
-const LONGEST_NAME: usize = 64;
+const MAX_NAME_BYTES: usize = 64;
 
 /// A name of a stream or a column: a letter or `_`, and then letters, digits or `_`, all ASCII, at
 /// most 64 bytes; no word of the query language, in any case.
@@ -96,7 +96,7 @@ fn is_word(text: &[u8]) -> bool
     match text {
         [] => false,
         [first, others @ ..] => {
-            is_letter(*first) && are_word_bytes(others) && others.len() < LONGEST_NAME
+            is_letter(*first) && are_word_bytes(others) && others.len() < MAX_NAME_BYTES
         }
     }
 }

@@ -10,7 +10,7 @@ use std::cmp::Ordering;
 use std::marker::Model;
 
 /// The greatest length of a text, in bytes.
-const LONGEST_TEXT: usize = 255;
+const MAX_TEXT_BYTES: usize = 255;
 
 /// A text of a value: UTF-8 of at most 255 bytes. One of up to 16 bytes takes no memory of its own.
 #[derive(Debug, Drop)]
@@ -124,7 +124,7 @@ impl Word {
 fn is_word(text: &[u8]) -> bool
     ensures { result ≡ word_test text.now }
 {
-    text.len() <= LONGEST_TEXT && is_utf8(text)
+    text.len() <= MAX_TEXT_BYTES && is_utf8(text)
 }
 
 /// Whether bytes are UTF-8. Most texts are a few bytes of ASCII, for which a walk is less than a call.

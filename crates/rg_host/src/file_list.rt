@@ -6,7 +6,7 @@ use rg_bytes::Memory;
 use std::alloc::Global;
 
 /// The greatest length of a file.
-pub const MAX_LENGTH: usize = 1 << 62;
+pub const MAX_FILE_BYTES: usize = 1 << 62;
 
 /// A copy of these files, all eight of them. One longer than 2^62 bytes finds no memory.
 pub fn copy_files(alloc: Global, files: &[Vec<u8>]) -> Result<Vec<Vec<u8>>, Memory>
@@ -32,7 +32,7 @@ fn copy_file(alloc: Global, files: &[Vec<u8>], i: usize) -> Result<Vec<u8>, Memo
         return Ok(Vec::new(alloc));
     }
     let content = &files[i];
-    if content.len() > MAX_LENGTH {
+    if content.len() > MAX_FILE_BYTES {
         return Err(Memory);
     }
     let copy = content.to_vec(alloc)?;

@@ -12,7 +12,7 @@ ghost use Rattle.rg_host.specs.Puts.{Puts, put_of};
 
 use crate::call_trace::CallTrace;
 use crate::count::raise;
-use crate::file_list::{MAX_LENGTH, read_from};
+use crate::file_list::{MAX_FILE_BYTES, read_from};
 use crate::host::Host;
 use crate::image::Image;
 use crate::pick::Pick;
@@ -55,7 +55,7 @@ impl Model for MemHost {
 fn ends_past(at: u64, size: usize) -> bool
     ensures { IsTrue result ↔ (2 ^ 62 < at + size) }
 {
-    let most = MAX_LENGTH as u64;
+    let most = MAX_FILE_BYTES as u64;
     let size = size as u64;
     size > most || at > most - size
 }

@@ -12,7 +12,7 @@ use std::alloc::Global;
 use std::marker::Model;
 
 /// The greatest number of bytes that is taken from a source.
-const LIMIT: u64 = 1 << 50;
+const MAX_INPUT_BYTES: u64 = 1 << 50;
 
 /// What stands next in a source.
 #[derive(Clone, Copy, Debug, PartialEq, Eq)]
@@ -135,7 +135,7 @@ impl Scanner {
         ensures later { S.faults src.old ≤ S.faults src.new }
     {
         self.skipping = drop_long(&mut self.buffer, self.skipping);
-        match self.buffer.fill(src, LIMIT - self.taken) {
+        match self.buffer.fill(src, MAX_INPUT_BYTES - self.taken) {
             Err(_) => Err(LineFault::Read),
             Ok(0) => Ok(false),
             Ok(count) => {
@@ -174,7 +174,7 @@ impl Scanner {
         ensures cause { IsErrOf result LineFault.Read → Rose (S.faults src.old) (S.faults src.new) }
         ensures later { S.faults src.old ≤ S.faults src.new }
     {
-        if self.taken < LIMIT {
+        if self.taken < MAX_INPUT_BYTES {
             self.fill(src)
         } else {
             self.probe(src)
@@ -213,7 +213,7 @@ impl Scanner {
         if self.ended {
             return Ok(Found::End);
         }
-        if self.taken > LIMIT {
+        if self.taken > MAX_INPUT_BYTES {
             return Err(LineFault::Limit);
         }
         self.search(src)

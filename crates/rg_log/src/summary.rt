@@ -2,6 +2,7 @@ ghost use Rattle.std.specs.Prelude.{◌≡◌, ◌≤◌, ◌^◌, Some, IfSome}
 ghost use Rattle.rg_log.specs.Entries.{nothing, told_by};
 
 use rg_chunk::ChunkHead;
+use rg_event::MAX_EVENTS;
 
 /// What the heads of chunks say, one after another: how many events there are, the least offset of the next one, and the
 /// last time.
@@ -42,7 +43,7 @@ impl LogSummary {
         if head.first_time < self.time || head.last_time < head.first_time {
             return None;
         }
-        if self.count > 1_099_511_627_776 - u64::from(head.count) {
+        if self.count > MAX_EVENTS - u64::from(head.count) {
             return None;
         }
         Some(LogSummary {

@@ -8,8 +8,9 @@ ghost use Rattle.rg_multiset.specs.Reading.{behind_at, comes_behind, count_at, i
 
 use crate::ranked::Ranked;
 use crate::tally::Tally;
-use rg_agg::{GREATEST_SIZE, StateFault};
+use rg_agg::StateFault;
 use rg_bytes::ByteReader;
+use rg_event::MAX_EVENTS;
 use std::alloc::Global;
 
 /// Takes a tag and values with their counts. A refusal may leave the reader in mid-way.
@@ -100,7 +101,7 @@ fn read_count<K: Ranked>(tally: &Tally<K>, from: &mut ByteReader<'_>) -> Result<
     ensures counted { IfOk result (λ count. is_count 1099511627776 tally.now count ≡ true) }
 {
     let count = from.u64()?;
-    if count == 0 || GREATEST_SIZE - tally.size() < count {
+    if count == 0 || MAX_EVENTS - tally.size() < count {
         return Err(StateFault::Unfit);
     }
     Ok(count)

@@ -5,7 +5,7 @@ use std::io;
 use std::io::Write;
 
 /// The greatest length of the line that is kept, in bytes.
-const MAX_BYTES: usize = 4_096;
+const MAX_LINE_BYTES: usize = 4_096;
 
 /// A writer that keeps the first line, without its LF, and fails behind it.
 #[derive(Drop)]
@@ -35,7 +35,7 @@ impl FirstLine {
     }
 
     fn push(&mut self, byte: u8) -> io::Result<()> {
-        if self.is_whole || self.line.len() >= MAX_BYTES {
+        if self.is_whole || self.line.len() >= MAX_LINE_BYTES {
             return Err(io::Error::from(io::ErrorKind::WriteZero));
         }
         if byte == b'\n' {

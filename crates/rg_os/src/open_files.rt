@@ -6,7 +6,7 @@ use std::io;
 use std::os::unix::fs::FileExt;
 
 /// The greatest place that a file may end at, in bytes.
-const MOST_BYTES: u64 = 1 << 62;
+const MAX_FILE_BYTES: u64 = 1 << 62;
 
 /// What is known of a file's syncs.
 #[derive(Clone, Copy, PartialEq, Eq)]
@@ -34,7 +34,7 @@ fn measured(given: io::Result<u64>) -> io::Result<u64>
     ensures failed { IsErr given → IsErr result }
 {
     match given {
-        Ok(length) if length > MOST_BYTES => Err(io::Error::from(io::ErrorKind::FileTooLarge)),
+        Ok(length) if length > MAX_FILE_BYTES => Err(io::Error::from(io::ErrorKind::FileTooLarge)),
         given => given,
     }
 }
@@ -43,7 +43,7 @@ fn measured(given: io::Result<u64>) -> io::Result<u64>
 fn within(at: u64, length: usize) -> io::Result<()>
     ensures { OnOk result (at + length ≤ 2 ^ 62) }
 {
-    if at > MOST_BYTES || length as u64 > MOST_BYTES - at {
+    if at > MAX_FILE_BYTES || length as u64 > MAX_FILE_BYTES - at {
         return Err(io::Error::from(io::ErrorKind::FileTooLarge));
     }
     Ok(())

@@ -18,7 +18,7 @@ use rg_keywords::{Keyword, Op, Symbol};
 use std::alloc::Global;
 
 /// How deep NOT and parentheses may enclose each other.
-const DEEPEST: u32 = 32;
+const MAX_DEPTH: u32 = 32;
 
 /// An operand has come.
 fn take_operand(alloc: Global, before: Before, operand: Expr) -> Result<After, Memory>
@@ -61,7 +61,7 @@ fn negate(mut before: Before) -> Result<State, Refusal>
     ensures gives { (text : List ℕ) → Gives text result (deeper 32 (open_here (before_view text before)) (at_operand (one_not_more (before_view text before)))) }
     ensures made { (text : List ℕ) → IsBefore text before → IfOk result (λ state. IsState text state) }
 {
-    if before.depth >= DEEPEST {
+    if before.depth >= MAX_DEPTH {
         return Err(Refusal::TooDeep);
     }
     before.here.nots += 1;
@@ -74,7 +74,7 @@ fn open_group(before: Before) -> Result<State, Refusal>
     ensures gives { (text : List ℕ) → Gives text result (deeper 32 (open_here (before_view text before)) (at_operand (one_level_more (before_view text before)))) }
     ensures made { (text : List ℕ) → IsBefore text before → IfOk result (λ state. IsState text state) }
 {
-    if before.depth >= DEEPEST {
+    if before.depth >= MAX_DEPTH {
         return Err(Refusal::TooDeep);
     }
     let Before {

@@ -18,7 +18,7 @@ use rg_parse::{Raw, SyntaxFault, read_syntax};
 use std::alloc::Global;
 
 /// The most bytes of a query's text.
-const LONGEST_TEXT: usize = 4_096;
+const MAX_QUERY_BYTES: usize = 4_096;
 
 /// Reads the text of a query over a schema's stream.
 ///
@@ -36,7 +36,7 @@ pub fn parse(alloc: Global, schema: &Schema, text: &[u8]) -> Result<Query, Query
     // and each text says something
     ensures says { (any : List ℕ) → (said : Result Asked Fault) × Says schema.now any said }
 {
-    if text.len() > LONGEST_TEXT {
+    if text.len() > MAX_QUERY_BYTES {
         return Err(QueryFault::TooLarge);
     }
     match read_syntax(alloc, text) {

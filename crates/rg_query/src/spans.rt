@@ -11,7 +11,7 @@ use rg_metric::Window;
 use rg_parse::Duration;
 
 /// The longest span, in milliseconds.
-const LONGEST: u64 = 1_000_000_000_000_000;
+const MAX_SPAN_MS: u64 = 1_000_000_000_000_000;
 
 /// The window of a query.
 pub(crate) fn window(
@@ -51,7 +51,7 @@ fn millis_of(text: &[u8], least: u64, lasting: Duration) -> Option<u64>
 {
     let number = read_whole(bytes_at(text, lasting.number))?;
     let millis = number.checked_mul(lasting.unit.millis())?;
-    if least <= millis && millis <= LONGEST {
+    if least <= millis && millis <= MAX_SPAN_MS {
         Some(millis)
     } else {
         None

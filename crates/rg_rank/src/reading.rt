@@ -11,8 +11,9 @@ ghost use Rattle.rg_multiset.specs.Pairs.{IsTally};
 ghost use Rattle.rg_multiset.specs.Reading.{behind_at, comes_behind, count_at, is_count, last_kept, length_behind_at, more_pairs_at, pair_at, pairs_at};
 
 use crate::tree::{Tree, is_below};
-use rg_agg::{GREATEST_SIZE, Number, StateFault, read_number};
+use rg_agg::{Number, StateFault, read_number};
 use rg_bytes::ByteReader;
+use rg_event::MAX_EVENTS;
 use std::alloc::Global;
 
 impl Tree {
@@ -151,7 +152,7 @@ fn read_count(tree: &Tree, from: &mut ByteReader<'_>) -> Result<u64, StateFault>
     ensures counted { IfOk result (λ count. is_count 1099511627776 tree.now count ≡ true) }
 {
     let count = from.u64()?;
-    if count == 0 || GREATEST_SIZE - tree.values() < count {
+    if count == 0 || MAX_EVENTS - tree.values() < count {
         return Err(StateFault::Unfit);
     }
     Ok(count)

@@ -26,7 +26,7 @@ use crate::fault::TaskFault;
 use crate::session::Session;
 use crate::taking::take_in;
 use rg_bytes::Memory;
-use rg_event::{Event, Steps};
+use rg_event::{Event, MAX_TIME, Steps};
 use rg_host::Host;
 use rg_metric::Answers;
 use rg_reply::Reply;
@@ -35,9 +35,6 @@ use rg_row::{RowFault, read_row};
 use rg_run_spec::row_reply;
 use rg_state::Table;
 use std::sync::ledger::Ledger;
-
-/// The greatest time that a row may have, in milliseconds.
-const MOST_TIME: u64 = 1_000_000_000_000_000;
 
 /// What a session decides on a line.
 #[derive(Debug, Drop)]
@@ -76,7 +73,7 @@ fn is_late(time: u64, last: u64, grace: u64) -> bool
     ensures late { last ≤ 1000000000000000 → result ≡ nat_lt (time + grace) last }
     ensures small { result ≡ false → time < last → last ≤ 1000000000000000 }
 {
-    if last > MOST_TIME {
+    if last > MAX_TIME {
         return time < last;
     }
     last.saturating_sub(time) > grace

@@ -13,7 +13,7 @@ use rg_state::{Table, TableFault};
 use std::alloc::Global;
 
 /// How many change payloads a slot may have.
-const MOST_CHANGES: u64 = 64;
+const MAX_CHANGES: u64 = 64;
 
 /// What a save writes.
 #[derive(Debug, Drop)]
@@ -29,7 +29,7 @@ pub(crate) enum Payload {
 fn may_come(sizes: SlotSizes, change: u64) -> bool
     ensures { result ≡ may_extend sizes change }
 {
-    if sizes.frames >= MOST_CHANGES {
+    if sizes.frames >= MAX_CHANGES {
         return false;
     }
     if sizes.changes > sizes.base {

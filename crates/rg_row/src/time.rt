@@ -3,9 +3,7 @@ ghost use Rattle.rg_bytes.specs.Numbers.{whole_of};
 ghost use Rattle.rg_row.specs.Rows.{time_most};
 
 use rg_bytes::read_whole;
-
-/// The latest time of an event, in milliseconds.
-const LATEST_TIME: u64 = 1_000_000_000_000_000;
+use rg_event::MAX_TIME;
 
 /// The time that a text says, if it says one.
 #[inline(always)]
@@ -13,7 +11,7 @@ pub fn read_time(text: &[u8]) -> Option<u64>
     ensures { result ≡ time_most (whole_of text.now) }
 {
     match read_whole(text) {
-        Some(time) if time <= LATEST_TIME => Some(time),
+        Some(time) if time <= MAX_TIME => Some(time),
         _ => None,
     }
 }

@@ -34,7 +34,7 @@ pub struct Turning {
 }
 
 /// From how many bytes on what is gathered is put.
-const LONG: usize = 65_536;
+const MAX_GATHERED_BYTES: usize = 65_536;
 
 impl Turning {
     /// A run before the line with this offset.
@@ -53,7 +53,7 @@ impl Turning {
         // It tells whether 64 KiB are gathered.
         ensures { result ≡ nat_le 65536 (length self.now.gathered.items) }
     {
-        self.gathered.len() >= LONG
+        self.gathered.len() >= MAX_GATHERED_BYTES
     }
 
     /// Puts what is gathered.

@@ -4,8 +4,8 @@ ghost use Rattle.rg_metric.specs.Admitted.{IsAdmitted};
 ghost use Rattle.rg_state.specs.Kinds.{IsSame};
 ghost use Rattle.rg_state.specs.Stepping.{Comes, Drops, HasRoom};
 
-use rg_agg::{Aggregate, GREATEST_SIZE, is_like};
-use rg_event::{Kind, Value};
+use rg_agg::{Aggregate, is_like};
+use rg_event::{Kind, MAX_EVENTS, Value};
 
 /// Why a state stays as it is.
 #[derive(Clone, Copy, Debug, PartialEq, Eq, Hash)]
@@ -20,7 +20,7 @@ pub enum Refusal {
 fn has_room<A: Aggregate>(state: &A, value: &Value) -> bool
     ensures { HasRoom value.now (A.held state.now) result }
 {
-    if state.size() >= GREATEST_SIZE {
+    if state.size() >= MAX_EVENTS {
         return false;
     }
     is_like(state.kind(), value)

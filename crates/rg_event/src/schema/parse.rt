@@ -11,7 +11,7 @@ use std::alloc::Global;
 use std::marker::Model;
 
 /// The most columns of a schema after the time.
-const MOST_FIELDS: usize = 32;
+const MAX_FIELDS: usize = 32;
 
 /// The bytes of a schema's text that are not yet read.
 #[derive(Drop)]
@@ -120,7 +120,7 @@ impl<'a> Cursor<'a> {
         ensures { ReadsList (fields_at 32 self.old) result self.new }
     {
         let mut fields = Vec::new(alloc);
-        'columns: for _ in 0..MOST_FIELDS {
+        'columns: for _ in 0..MAX_FIELDS {
             if !self.is_at(b',') {
                 return Ok(fields);
             }

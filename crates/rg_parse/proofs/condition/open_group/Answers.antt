@@ -4,8 +4,8 @@ use Rattle.rg_parse.specs.Steps.{IsLevel}
 use Rattle.rg_parse.proofs.Levels.{no_deeper, one_deeper, levels_push, count_push}
 use Rattle.rg_parse.proofs.condition.open_group.Goals as goal
 
-pub returns-then-before-ge-DEEPEST-clause-gives : goal.returns-then-before-ge-DEEPEST-clause-gives
-returns-then-before-ge-DEEPEST-clause-gives c = λ text. no_deeper text c.args.before.outer.items c.args.before.here.nots c.args.before.depth _ c.args.before.counted (omega arith)
+pub returns-then-before-ge-MAX_DEPTH-clause-gives : goal.returns-then-before-ge-MAX_DEPTH-clause-gives
+returns-then-before-ge-MAX_DEPTH-clause-gives c = λ text. no_deeper text c.args.before.outer.items c.args.before.here.nots c.args.before.depth _ c.args.before.counted (omega arith)
 
 pub invariant_of-result-clause-counted : goal.invariant_of-result-clause-counted
 invariant_of-result-clause-counted c = rw (c.in-Ok.ensures.items, count_push) (omega arith)

@@ -1,6 +1,6 @@
 -- What is read of the state of an extreme.
 use Rattle.std.proofs.Common.{◌≡◌, ℕ, ◌+◌, ◌<◌, ◌≤◌, ◌^◌, Bool, true, List, [], ◌∷◌, ◌++◌, length, Ok, Err, ◌⊎◌, inl, inr, refl, ap, sym, ◌∙◌, arith, append_assoc}
-use Rattle.std.specs.Prelude.{Result, IfOk}
+use Rattle.std.specs.Prelude.{Result, IfOk, OnErr, OnOk}
 use Rattle.std.proofs.lemmas.Bool.{and_from, le-leb}
 use Rattle.std.specs.Int.{w64, to_be_bytes}
 use Rattle.rg_agg.specs.Held.{Agrees, extreme_bytes, held_bytes, highest, lowest, is_like, number_value_at, pairs_bytes, size_behind_at}
@@ -13,6 +13,7 @@ use Rattle.rg_agg.specs.declared.fault.StateFault.TheVariants.{Memory}
 use Rattle.rg_agg.specs.declared.number.Number.{Number}
 use Rattle.rg_agg.specs.declared.number.Number.TheVariants.{Int, Id}
 use Rattle.rg_agg.proofs.Laws.{number_value_reads_back, size_behind_read}
+use Rattle.rg_bytes.specs.declared.memory.Memory.{Memory as OutOfMemory}
 use Rattle.rg_event.specs.Tagged.{value_kind}
 use Rattle.rg_event.specs.declared.value.Value.{Value}
 use Rattle.rg_multiset.specs.Pairs.{IsTally}
@@ -80,19 +81,12 @@ lowest_back n kept pairs rest sound some = ap (λ read. and_then read (λ found 
 pub highest_back : (n kept : ℕ) (pairs : List (Value × ℕ)) (rest : List ℕ) → IsDeque is_greater n kept pairs → 0 < n → highest_at (held_bytes (highest n pairs) ++ rest) ≡ Ok (highest n pairs, rest)
 highest_back n kept pairs rest sound some = ap (λ read. and_then read (λ found left. Ok (highest found.0 found.1, left))) (extreme_back Greatest 22 n kept pairs rest sound some)
 
--- one pair more
-
-pub pushed_tally : (beats : Value → Value → Bool) (n : ℕ) (old new : List (Value × ℕ)) (value : Value) (count : ℕ) → n ≤ 2 ^ 40 → IsTally IsNumber beats old → IsNumber value → comes_behind beats (last_kept old) value ≡ true → 0 < count → counts_sum old + count ≤ n → new ≡ old ++ (value, count) ∷ [] → IsTally IsNumber beats new
-pushed_tally beats n old new value count few tally is behind some room put = record {
-  few = omega (arith, few, room, ap counts_sum put, sum_append old value count);
-  alike = alike_pushed IsNumber beats old new value count tally.alike is behind some put;
-  rising = rw put (pushed_rising beats old value count tally.rising behind);
-}
-
-pub counted : (most : ℕ) (so_far : List (Value × ℕ)) (n : ℕ) → 0 < n → counts_sum so_far + n ≤ most → is_count most so_far n ≡ true
-counted most so_far n some few = and_from _ _ (le-leb 1 n (omega (arith, some))) (le-leb (counts_sum so_far + n) most few)
-
 -- of a value that was read more is known
 pub if_ok_then : {A E : Type 0} {P Q : A → Type 0} (result : Result A E) → ((x : A) → P x → Q x) → IfOk result P → IfOk result Q
 if_ok_then (Ok x) then is = then x is
 if_ok_then (Err e) then is = tt
+
+-- what is kept stays within the number of values
+pub kept_within : (old new most most' n : ℕ) (result : Result (Unit {0}) OutOfMemory) → old ≤ most → old + n ≤ most → most' ≡ most → OnOk result (new ≡ old + n) → OnErr result (new ≡ old) → new ≤ most'
+kept_within old new most most' n (Ok x) before after same ok err = omega (arith, after, same, ok)
+kept_within old new most most' n (Err e) before after same ok err = omega (arith, before, same, err)

@@ -77,13 +77,6 @@ pub record DropsBeaten (side : Side) (value : Value) (old new : List (Number × 
   pub whole : length new ≡ length old → new ≡ old
   pub capacity : room' ≡ room
 
--- a pair may come behind those of a deque, of so many values
-pub record ComesNext (side : Side) (deque : Deque) (value : Value) (count : ℕ) : Type 0 where
-  pub legal : IsNumber value
-  pub behind : comes_behind (beats side) (last_kept (pairs_in deque)) value ≡ true
-  pub some : 0 < count
-  pub few : deque.kept + count ≤ deque.size
-
 -- a deque of so many pairs and values was read
 pub record IsMade (side : Side) (n pairs : ℕ) (deque : Deque) : Type 0 where
   pub size : deque.size ≡ n

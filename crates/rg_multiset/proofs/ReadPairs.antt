@@ -1,5 +1,5 @@
 -- What is read of values with their counts.
-use Rattle.std.proofs.Common.{◌≡◌, ℕ, suc, ◌+◌, ◌-◌, ◌<◌, ◌≤◌, ◌^◌, Bool, true, false, nat_le, List, [], ◌∷◌, ◌++◌, length, Some, Ok, Err, ◌⊎◌, inl, inr, refl, ap, sym, ◌∙◌, arith, append_assoc, append-nil}
+use Rattle.std.proofs.Common.{◌≡◌, ℕ, suc, ◌+◌, ◌-◌, ◌<◌, ◌≤◌, ◌^◌, Bool, true, false, nat_le, List, [], ◌∷◌, ◌++◌, length, Some, Ok, Err, ◌⊎◌, inl, inr, refl, ap, sym, ◌∙◌, subst, arith, append_assoc, append-nil}
 use Rattle.std.proofs.lemmas.Bool.{and_from, and_parts, eq-eqb, le-leb, leb-true}
 use Rattle.std.proofs.lemmas.Grind.{common_steps}
 use Rattle.std.specs.Prelude.{Result, IfOk, OnOk, OnErr}
@@ -142,7 +142,7 @@ pub some_pairs : (pairs : List (Value × ℕ)) → 0 < counts_sum pairs → 0 < 
 some_pairs [] some = absurd (omega (arith, some))
 some_pairs (pair ∷ pairs) some = omega arith
 
-last_append : (pairs : List (Value × ℕ)) (pair : Value × ℕ) → last_kept (pairs ++ pair ∷ []) ≡ Some pair.0
+pub last_append : (pairs : List (Value × ℕ)) (pair : Value × ℕ) → last_kept (pairs ++ pair ∷ []) ≡ Some pair.0
 last_append [] pair = refl
 last_append (first ∷ []) pair = refl
 last_append (first ∷ (next ∷ pairs)) pair = last_append (next ∷ pairs) pair
@@ -197,9 +197,9 @@ tally_back legal value_at below reads tag (pair ∷ pairs) rest sound some =
 
 -- what is behind a tally's first field
 
-pub some_sum : (legal : Value → Type 0) (below : Value → Value → Bool) (n : ℕ) (result : Result (List (Value × ℕ)) StateFault) → 0 < n → IfOk result (λ tally. length tally ≡ n) → IfOk result (IsTally legal below) → IfOk result (λ tally. 0 < counts_sum tally)
-some_sum legal below n (Ok tally) some count sound = omega (arith, some, count, length_most legal tally sound.alike)
-some_sum legal below n (Err fault) some count sound = tt
+pub some_sum : {A : Type 0} (legal : Value → Type 0) (below : Value → Value → Bool) (pairs : A → List (Value × ℕ)) (n : ℕ) (result : Result A StateFault) → 0 < n → IfOk result (λ made. length (pairs made) ≡ n) → IfOk result (λ made. IsTally legal below (pairs made)) → IfOk result (λ made. 0 < counts_sum (pairs made))
+some_sum legal below pairs n (Ok made) some count sound = omega (arith, some, count, length_most legal (pairs made) sound.alike)
+some_sum legal below pairs n (Err fault) some count sound = tt
 
 pub all_ok : {A E : Type 0} {P Q : Type 0} (result : Result A E) → OnOk result P → (P → Q) → OnOk result Q
 all_ok (Ok value) is then = then is
@@ -236,3 +236,24 @@ pushed_sized legal below now old new value n size seen sized is behind count pus
       few = omega (arith, facts.1, sized.size, ap counts_sum seen);
       alike = alike_pushed legal below old new value n sized.alike is goes facts.0 pushed;
     }
+
+pub pushed_rising : (below : Value → Value → Bool) (pairs : List (Value × ℕ)) (v : Value) (n : ℕ) → AreRising below pairs → comes_behind below (last_kept pairs) v ≡ true → AreRising below (pairs ++ (v, n) ∷ [])
+pushed_rising below [] v n rise behind = tt
+pushed_rising below (p ∷ []) v n rise behind = ((and_parts (same_kind p.0 v) (below p.0 v) behind).1, tt)
+pushed_rising below (p ∷ (q ∷ qs)) v n rise behind = (rise.0, pushed_rising below (q ∷ qs) v n rise.1 behind)
+
+-- a tally with one pair more at the back
+pub tally_pushed : (legal : Value → Type 0) (below : Value → Value → Bool) (most : ℕ) (old new : List (Value × ℕ)) (pair : Value × ℕ) → most ≤ 2 ^ 40 → IsTally legal below old → legal pair.0 → comes_behind below (last_kept old) pair.0 ≡ true → is_count most old pair.1 ≡ true → new ≡ old ++ pair ∷ [] → IsTally legal below new
+tally_pushed legal below most old new pair few tally is behind count put =
+    let facts = count_facts most old pair.1 count in
+    record {
+      few = omega (arith, few, facts.1, ap counts_sum put, sum_append old pair.0 pair.1);
+      alike = alike_pushed legal below old new pair.0 pair.1 tally.alike is behind facts.0 put;
+      rising = rw put (pushed_rising below old pair.0 pair.1 tally.rising behind);
+    }
+
+-- the same of a list whose order and room are those at first
+pub pushed_tally : {A : Type 0} (legal : Value → Type 0) (below : Value → Value → Bool) (order : A → Value → Value → Bool) (most : A → ℕ) (first made : A) (old new : List (Value × ℕ)) (pair : Value × ℕ) → order made ≡ below → most made ≡ most first → most first ≤ 2 ^ 40 → IsTally legal below old → legal pair.0
+    → comes_behind (order made) (last_kept old) pair.0 ≡ true → is_count (most made) old pair.1 ≡ true → new ≡ old ++ pair ∷ [] → IsTally legal below new
+pushed_tally legal below order most first made old new pair same room few tally is behind count put =
+    tally_pushed legal below (most made) old new pair (omega (arith, room, few)) tally is (subst (λ (b : Value → Value → Bool). comes_behind b (last_kept old) pair.0 ≡ true) same behind) count put

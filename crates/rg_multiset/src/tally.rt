@@ -7,14 +7,15 @@ ghost use Rattle.rg_event.specs.Tagged.{value_kind};
 ghost use Rattle.rg_event.specs.declared.value.Value.{Value};
 ghost use Rattle.rg_metric.specs.Answers.{distinct_after};
 ghost use Rattle.rg_multiset.specs.Pairs.{IsTally, OneMore};
-ghost use Rattle.rg_multiset.specs.Reading.{comes_behind, is_count, last_kept, pairs_at};
+ghost use Rattle.rg_multiset.specs.Reading.{pairs_at};
 
 use crate::map::{add_in, copy_in, is_behind, push_in, put_each, remove_in};
+use crate::pair_list::PairList;
 use crate::ranked::Ranked;
-use crate::reading::read_tally;
+use crate::reading::read_list;
 use rg_agg::{StateFault, Unfit, put_size};
 use rg_bytes::{ByteReader, Memory};
-use rg_event::Kind;
+use rg_event::{Kind, MAX_EVENTS};
 use std::alloc::Global;
 use std::collections::BTreeMap;
 use std::marker::Model;
@@ -73,11 +74,6 @@ impl<K: Ranked> Tally<K> {
         self.size
     }
 
-    /// Where its keys take memory.
-    pub(crate) fn alloc(&self) -> Global {
-        self.alloc
-    }
-
     /// How many values there are that differ.
     pub fn distinct(&self) -> u64
         // It tells how many different values it counts.
@@ -134,32 +130,6 @@ impl<K: Ranked> Tally<K> {
         Ok(())
     }
 
-    /// Whether a value may stand behind the others: it is of their kind and above the last one.
-    pub(crate) fn is_behind(&self, key: &K) -> bool
-        requires { K.legal (K.value_of key.now) }
-        ensures { result ≡ comes_behind K.below (last_kept self.now) (K.value_of key.now) }
-    {
-        is_behind(&self.map, key)
-    }
-
-    /// Puts a value behind the others, so often. Where memory runs out the tally is as before.
-    pub(crate) fn push(&mut self, key: K, count: u64) -> Result<(), Memory>
-        requires legal { K.legal (K.value_of key) }
-        requires behind { comes_behind K.below (last_kept self.old) (K.value_of key) ≡ true }
-        requires count { is_count 1099511627776 self.old count ≡ true }
-        ensures ok { OnOk result (self.new ≡ self.old ++ (K.value_of key, count) ∷ []) }
-        ensures err { OnErr result (self.new ≡ self.old) }
-        ensures sound { IsTally K.legal K.below self.new }
-    {
-        match push_in(&mut self.map, key, count) {
-            Ok(()) => {
-                self.size += count;
-                Ok(())
-            }
-            Err(memory) => Err(memory),
-        }
-    }
-
     /// Writes a tag and the values with their counts at the end. Where memory runs out `out` holds what it held.
     pub fn put(&self, tag: u8, out: &mut Vec<u8>) -> Result<(), Memory>
         // The pairs are written by their grammar, in rising order, or nothing is.
@@ -198,18 +168,44 @@ impl<K: Ranked> Tally<K> {
         ensures reads_back { (pairs : List (Value × ℕ)) (rest : List ℕ) → IsTally K.legal K.below pairs → 0 < counts_sum pairs → from.old ≡ counts_bytes tag pairs ++ rest → Returns (λ tally. tally) pairs rest result from.new }
         ensures err { OnErr result (from.new ≡ from.old) }
     {
-        // All that is left, so that a refusal can put it back.
-        let bytes = from.bytes(from.left())?;
-        let mut left = ByteReader::new(bytes);
-        match read_tally(alloc, tag, &mut left) {
-            Ok(tally) => {
-                *from = left;
-                Ok(tally)
+        read_list(Tally::new(alloc), tag, from)
+    }
+}
+
+impl<K: Ranked> PairList for Tally<K> {
+    type Key = K;
+
+    ghost value_of = { K.value_of };
+
+    ghost legal = { K.legal };
+
+    ghost value_at = { K.value_at };
+
+    ghost pairs = { λ tally. tally };
+
+    ghost below = { λ _. K.below };
+
+    ghost most = { λ _. 1099511627776 };
+
+    fn read_key(&self, from: &mut ByteReader<'_>) -> Result<K, StateFault> {
+        K::read(self.alloc, from)
+    }
+
+    fn is_behind(&self, key: &K) -> bool {
+        is_behind(&self.map, key)
+    }
+
+    fn room(&self) -> u64 {
+        MAX_EVENTS - self.size
+    }
+
+    fn push(&mut self, key: K, count: u64) -> Result<(), Memory> {
+        match push_in(&mut self.map, key, count) {
+            Ok(()) => {
+                self.size += count;
+                Ok(())
             }
-            Err(fault) => {
-                *from = ByteReader::new(bytes);
-                Err(fault)
-            }
+            Err(memory) => Err(memory),
         }
     }
 }

@@ -1,8 +1,8 @@
 -- The numbers of pairs in rising order, and the one at a place.
-use Rattle.std.proofs.Common.{◌≡◌, ℕ, zero, suc, ◌+◌, ◌-◌, ◌*◌, ◌/◌, ◌<◌, ◌≤◌, ◌==◌, ℤ, Bool, true, false, List, [], ◌∷◌, ◌++◌, length, Option, Some, None, if◌then◌else◌, refl, ap, sym, ◌∙◌, subst, arith}
-use Rattle.std.specs.Prelude.{int_lt, nat_le, nat_lt, ◌&&◌, map}
+use Rattle.std.proofs.Common.{◌≡◌, ℕ, zero, suc, ◌+◌, ◌-◌, ◌*◌, ◌/◌, ◌<◌, ◌≤◌, ◌==◌, ℤ, Bool, true, false, List, [], ◌∷◌, ◌++◌, length, Some, if◌then◌else◌, refl, ap, sym, ◌∙◌, arith}
+use Rattle.std.specs.Prelude.{int_lt, nat_le, nat_lt, ◌&&◌}
 use Rattle.std.proofs.Math.ListN.{replicate}
-use Rattle.std.proofs.lemmas.Bool.{true≢false, and_from, eqb-true, eqb-false, ltb-true, ltb-false, le-leb}
+use Rattle.std.proofs.lemmas.Bool.{true≢false, and_from, eqb-true, ltb-true, ltb-false, le-leb}
 use Rattle.std.proofs.lemmas.Grind.{common_steps}
 use Rattle.rg_agg.specs.Standing.{AreCounts, AreThere, IsLike, count_in, counts_sum, pairs_kind}
 use Rattle.rg_agg.specs.Stands.{IsNumber}
@@ -11,13 +11,12 @@ use Rattle.rg_event.specs.Tagged.{value_kind}
 use Rattle.rg_event.specs.declared.value.Kind.{Kind}
 use Rattle.rg_event.specs.declared.value.Value.{Value}
 use Rattle.rg_metric.specs.Answers.{in_order, number_at, number_of, numbers, percentile, put_in}
-use Rattle.rg_metric.specs.declared.answer.Answer.{Answer}
 use Rattle.rg_metric.specs.declared.answer.Answer.TheVariants.{Number, Dash}
 use Rattle.rg_multiset.specs.Pairs.{AreOf, IsTally}
 use Rattle.rg_metric.specs.Same.{same_value}
 use Rattle.rg_metric.proofs.Laws.{same_value-true}
 use Rattle.rg_multiset.proofs.Laws.{counts_less, first_place, legal_first, none_first}
-use Rattle.rg_rank.specs.Ranking.{AreAbove, IsRanking, Rise, is_there, lowered, put_first, value_at, without_one}
+use Rattle.rg_rank.specs.Ranking.{AreAbove, Rise, is_there, lowered, put_first, value_at, without_one}
 use Rattle.rg_rank.proofs.Order.{same_number}
 use Rattle.rg_rank.proofs.Tallies.{absent_counts, one_less, ranking_of, tally_less}
 

@@ -1,22 +1,21 @@
 -- Rising numbers of one kind as values with how often each is there.
-use Rattle.std.proofs.Common.{◌≡◌, ℕ, zero, suc, ◌+◌, ◌-◌, ◌<◌, ◌≤◌, ◌^◌, ◌==◌, Bool, true, false, List, [], ◌∷◌, ◌++◌, length, Option, Some, None, if◌then◌else◌, refl, ap, sym, ◌∙◌, subst, arith}
+use Rattle.std.proofs.Common.{◌≡◌, ℕ, zero, suc, ◌+◌, ◌<◌, ◌^◌, ◌==◌, Bool, true, false, List, [], ◌∷◌, ◌++◌, Option, Some, None, if◌then◌else◌, refl, ap, sym, ◌∙◌, subst, arith}
 use Rattle.std.specs.Prelude.{⊤}
 use Rattle.std.proofs.lemmas.Bool.{true≢false, eqb-true, eqb-false}
 use Rattle.std.proofs.Math.ListN.{replicate}
-use Rattle.std.proofs.lemmas.List.{length-replicate}
-use Rattle.rg_agg.specs.Standing.{AreCounts, AreThere, IsLike, count_in, counts_sum, pairs_kind, places}
+use Rattle.rg_agg.specs.Standing.{AreCounts, IsLike, count_in, counts_sum, pairs_kind, places}
 use Rattle.rg_agg.specs.Stands.{IsNumber}
 use Rattle.rg_agg.specs.Unbeaten.{is_less}
 use Rattle.rg_event.specs.Tagged.{value_kind}
 use Rattle.rg_event.specs.declared.value.Kind.{Kind}
 use Rattle.rg_event.specs.declared.value.Value.{Value}
-use Rattle.rg_event.specs.declared.value.Value.TheVariants.{Int, Id, Text, Flag}
+use Rattle.rg_event.specs.declared.value.Value.TheVariants.{Int, Id}
 use Rattle.rg_metric.specs.Answers.{number_of}
 use Rattle.rg_metric.specs.Same.{same_value}
-use Rattle.rg_metric.proofs.Laws.{same_value-same, same_value-true}
+use Rattle.rg_metric.proofs.Laws.{same_value-true}
 use Rattle.rg_multiset.specs.Pairs.{AreAlike, AreOf, AreRising, IsTally, OneMore, once}
 use Rattle.rg_multiset.proofs.Laws.{alike_of, alike_with, listed, listed_length, all_there, places_first}
-use Rattle.rg_rank.specs.Ranking.{AreAbove, IsRanking, Rise, changed, is_there, lowered, put_first, raised, with_one, without_one}
+use Rattle.rg_rank.specs.Ranking.{AreAbove, IsRanking, Rise, is_there, lowered, put_first, with_one, without_one}
 use Rattle.rg_rank.proofs.Changes.{above_through, less, less_sum, more, more_sum}
 use Rattle.rg_rank.proofs.Order.{less_not_back, same_number}
 

@@ -1,5 +1,5 @@
 -- The states of ranks.
-use Rattle.std.specs.Prelude.{Bool, ℕ, List, [], Ok}
+use Rattle.std.specs.Prelude.{ℕ, List, [], Ok}
 use Rattle.std.proofs.Props.{props}
 use Rattle.rg_agg.specs.Held.{Begins, Held, number_value_at, ranked}
 use Rattle.rg_agg.specs.Stands.{IsNumber}

@@ -1,14 +1,14 @@
-ghost use Rattle.std.specs.Prelude.{◌≡◌, ◌<◌, ◌≤◌, List, length, true, false, ◌++◌, IsTrue, OnOk, OnErr};
+ghost use Rattle.std.specs.Prelude.{◌≡◌, ◌<◌, ◌≤◌, List, length, true, false, ◌++◌, OnOk, OnErr};
 ghost use Rattle.rg_agg.specs.Held.{counts_bytes};
 ghost use Rattle.rg_agg.specs.Numbers.{value_of};
-ghost use Rattle.rg_agg.specs.Standing.{IsLike, Stands, count_in, pairs_kind};
+ghost use Rattle.rg_agg.specs.Standing.{IsLike, Stands, count_in, counts_sum, pairs_kind};
 ghost use Rattle.rg_agg.specs.Stands.{IsNumber};
 ghost use Rattle.rg_agg.specs.Unbeaten.{is_less};
 ghost use Rattle.rg_bytes.specs.Keeps.{Keeps};
 ghost use Rattle.rg_event.specs.declared.value.Value.{Value as TheValue};
 ghost use Rattle.rg_metric.specs.Answers.{answer_of};
-ghost use Rattle.rg_rank.specs.Ranking.{FewVisits};
 ghost use Rattle.rg_rank.specs.Ranks.{IsTally-numbers, ranked_pairs};
+ghost use Rattle.rg_rank.specs.Shapes.{AreVisits, listed, place_of};
 ghost use Rattle.rg_multiset.specs.Pairs.{AreAlike, IsTally};
 ghost use Rattle.rg_keywords.specs.declared.func.Func.TheVariants.{Pct};
 
@@ -30,7 +30,7 @@ const TAG: u8 = 0x17;
 pub struct Rank {
     tree: Tree,
     alloc: Global,
-    ghost sound: { IsTally IsNumber is_less tree } by { IsTally-numbers tree },
+    ghost sound: { IsTally IsNumber is_less (listed tree) } by { IsTally-numbers (listed tree) },
 }
 
 impl Rank {
@@ -47,7 +47,7 @@ impl Rank {
         requires some { 0 < percent }
         requires most { percent ≤ 100 }
         ensures answer { (values : List TheValue) → Stands (⟦<Rank as Aggregate>⟧.held self.now) values → result ≡ answer_of (Pct percent) values }
-        ensures visits { FewVisits (length (ranked_pairs (⟦<Rank as Aggregate>⟧.held self.now))) steps.old steps.new }
+        ensures visits { AreVisits (place_of percent (counts_sum (listed self.now.tree))) self.now.tree steps.old steps.new }
     {
         let size = self.tree.values();
         if size == 0 {
@@ -84,13 +84,14 @@ impl Aggregate for Rank {
     ghost use Rattle.rg_agg.specs.Stands.{IsNumber};
     ghost use Rattle.rg_agg.specs.Held.{ranked};
     ghost use Rattle.rg_rank.specs.Ranks.{ranked_at};
+    ghost use Rattle.rg_rank.specs.Shapes.{listed};
     ghost use Rattle.rg_keywords.specs.declared.func.Func.TheVariants.{Median};
 
     ghost func = { Median };
 
-    ghost grows = { λ state value. count_in value state.tree ≡ 0 };
+    ghost grows = { λ state value. count_in value (listed state.tree) ≡ 0 };
 
-    ghost held = { λ state. ranked state.tree };
+    ghost held = { λ state. ranked (listed state.tree) };
 
     ghost held_at = { ranked_at };
 
@@ -187,9 +188,9 @@ fn uncounted<L: Ledger>(state: &Rank, percent: u32, blank: Blank) -> Answer
 
 /// Whether a number is of the kind of those of a tree, if there are any.
 fn is_of_kind(tree: &Tree, number: Number) -> bool
-    requires { AreAlike IsNumber tree.now }
-    ensures like { result ≡ true → IsLike (pairs_kind tree.now) (value_of number) }
-    ensures other { result ≡ false → count_in (value_of number) tree.now ≡ 0 }
+    requires { AreAlike IsNumber (listed tree.now) }
+    ensures like { result ≡ true → IsLike (pairs_kind (listed tree.now)) (value_of number) }
+    ensures other { result ≡ false → count_in (value_of number) (listed tree.now) ≡ 0 }
 {
     match tree.some() {
         Some(some) => number.is_like(some),

@@ -1,19 +1,20 @@
-ghost use Rattle.std.specs.Prelude.{◌≡◌, true, List, ℕ, [], ◌<◌, ◌∷◌, ◌++◌, length, IfOk, OnErr};
-ghost use Rattle.std.specs.Int.{w64, to_be_bytes};
-ghost use Rattle.rg_agg.specs.Held.{Agrees, Returns, counts_bytes, number_value_at, pairs_bytes};
+ghost use Rattle.std.specs.Prelude.{◌≡◌, List, ℕ, ◌<◌, ◌++◌, IfOk, OnErr};
+ghost use Rattle.rg_agg.specs.Held.{Agrees, Returns, counts_bytes, number_value_at};
 ghost use Rattle.rg_agg.specs.Numbers.{seen, value_of};
 ghost use Rattle.rg_agg.specs.Standing.{counts_sum};
 ghost use Rattle.rg_agg.specs.Stands.{IsNumber};
 ghost use Rattle.rg_agg.specs.Unbeaten.{is_less};
-ghost use Rattle.rg_event.specs.Tagged.{tagged_bytes};
 ghost use Rattle.rg_event.specs.declared.value.Value.{Value};
 ghost use Rattle.rg_multiset.specs.Pairs.{IsTally};
-ghost use Rattle.rg_multiset.specs.Reading.{behind_at, comes_behind, count_at, is_count, last_kept, length_behind_at, more_pairs_at, pair_at, pairs_at};
+ghost use Rattle.rg_multiset.specs.Reading.{comes_behind, pairs_at};
+ghost use Rattle.rg_rank.specs.Ranks.{IsTally-numbers};
+ghost use Rattle.rg_rank.specs.Shapes.{listed};
 
 use crate::tree::{Tree, is_below};
 use rg_agg::{Number, StateFault, read_number};
-use rg_bytes::ByteReader;
+use rg_bytes::{ByteReader, Memory};
 use rg_event::MAX_EVENTS;
+use rg_multiset::{PairList, read_list};
 use std::alloc::Global;
 
 impl Tree {
@@ -24,113 +25,64 @@ impl Tree {
         tag: u8,
         from: &mut ByteReader<'_>,
     ) -> Result<Tree, StateFault>
-        ensures agrees { Agrees (λ tree. tree) (pairs_at number_value_at is_less tag from.old) result from.new }
-        ensures ok { IfOk result (λ tree. from.old ≡ counts_bytes tag tree ++ from.new) }
-        ensures some { IfOk result (λ tree. 0 < counts_sum tree) }
-        ensures sound { IfOk result (IsTally IsNumber is_less) }
-        ensures reads_back { (pairs : List (Value × ℕ)) (rest : List ℕ) → IsTally IsNumber is_less pairs → 0 < counts_sum pairs → from.old ≡ counts_bytes tag pairs ++ rest → Returns (λ tree. tree) pairs rest result from.new }
+        ensures agrees { Agrees listed (pairs_at number_value_at is_less tag from.old) result from.new }
+        ensures ok { IfOk result (λ tree. from.old ≡ counts_bytes tag (listed tree) ++ from.new) }
+        ensures some { IfOk result (λ tree. 0 < counts_sum (listed tree)) }
+        ensures sound { IfOk result (λ tree. IsTally IsNumber is_less (listed tree)) }
+        ensures reads_back { (pairs : List (Value × ℕ)) (rest : List ℕ) → IsTally IsNumber is_less pairs → 0 < counts_sum pairs → from.old ≡ counts_bytes tag pairs ++ rest → Returns listed pairs rest result from.new }
         ensures err { OnErr result (from.new ≡ from.old) }
     {
-        // All that is left, so that a refusal can put it back.
-        let bytes = from.bytes(from.left())?;
-        let mut left = ByteReader::new(bytes);
-        match read_tree(alloc, tag, &mut left) {
-            Ok(tree) => {
-                *from = left;
-                Ok(tree)
-            }
-            Err(fault) => {
-                *from = ByteReader::new(bytes);
-                Err(fault)
-            }
+        let tree = Tree::new();
+        match read_list(Filling { tree, alloc }, tag, from) {
+            Ok(filling) => Ok(filling.tree),
+            Err(fault) => Err(fault),
         }
     }
 }
 
-/// Takes a tag and numbers with their counts. A refusal may leave the reader in mid-way.
-fn read_tree(alloc: Global, tag: u8, from: &mut ByteReader<'_>) -> Result<Tree, StateFault>
-    ensures agrees { Agrees (λ tree. tree) (pairs_at number_value_at is_less tag from.old) result from.new }
-    ensures ok { IfOk result (λ tree. from.old ≡ counts_bytes tag tree ++ from.new) }
-    ensures some { IfOk result (λ tree. 0 < counts_sum tree) }
-    ensures sound { IfOk result (IsTally IsNumber is_less) }
-{
-    let count = read_length(tag, from)?;
-    read_pairs(alloc, count, from)
-}
-
-/// Takes a tag and the number of pairs, at least 1. A refusal may leave the reader in mid-way.
-fn read_length(tag: u8, from: &mut ByteReader<'_>) -> Result<u64, StateFault>
-    ensures agrees { Agrees (λ count. count) (length_behind_at tag from.old) result from.new }
-    ensures ok { IfOk result (λ count. from.old ≡ tag ∷ (to_be_bytes w64 count ++ from.new)) }
-    ensures some { IfOk result (λ count. 0 < count) }
-{
-    if from.u8()? != tag {
-        return Err(StateFault::Unfit);
-    }
-    let count = from.u64()?;
-    if count == 0 {
-        return Err(StateFault::Unfit);
-    }
-    Ok(count)
-}
-
-/// Takes so many numbers with their counts. A refusal may leave the reader in mid-way.
-fn read_pairs(alloc: Global, count: u64, from: &mut ByteReader<'_>) -> Result<Tree, StateFault>
-    ensures agrees { Agrees (λ tree. tree) (more_pairs_at number_value_at is_less 1099511627776 [] count from.old) result from.new }
-    ensures ok { IfOk result (λ tree. from.old ≡ pairs_bytes tree ++ from.new) }
-    ensures count { IfOk result (λ tree. length tree ≡ count) }
-    ensures sound { IfOk result (IsTally IsNumber is_less) }
-{
-    let mut tree = Tree::new();
-    let mut last: Option<Number> = None;
-    for done in 0..count {
-        let (number, often) = read_pair(alloc, last, &tree, from)?;
-        match tree.push(alloc, number, often) {
-            Ok(()) => {}
-            Err(_) => return Err(StateFault::Memory),
-        }
-        last = Some(number);
-    }
-    Ok(tree)
-}
-
-/// Takes one number more and its count. A refusal may leave the reader in mid-way.
-fn read_pair(
+/// A tree that is read pair by pair.
+#[derive(Drop)]
+struct Filling {
+    tree: Tree,
     alloc: Global,
-    last: Option<Number>,
-    tree: &Tree,
-    from: &mut ByteReader<'_>,
-) -> Result<(Number, u64), StateFault>
-    requires { seen last ≡ last_kept tree.now }
-    ensures agrees { Agrees (λ pair. (value_of pair.0, pair.1)) (pair_at number_value_at is_less 1099511627776 tree.now from.old) result from.new }
-    ensures ok { IfOk result (λ pair. from.old ≡ tagged_bytes (value_of pair.0) ++ (to_be_bytes w64 pair.1 ++ from.new)) }
-    ensures legal { IfOk result (λ pair. IsNumber (value_of pair.0)) }
-    ensures behind { IfOk result (λ pair. comes_behind is_less (last_kept tree.now) (value_of pair.0) ≡ true) }
-    ensures counted { IfOk result (λ pair. is_count 1099511627776 tree.now pair.1 ≡ true) }
-{
-    let number = read_behind(alloc, last, tree, from)?;
-    let count = read_count(tree, from)?;
-    Ok((number, count))
+    ghost sound: { IsTally IsNumber is_less (listed tree) } by { IsTally-numbers (listed tree) },
 }
 
-/// Takes a number that may stand behind the last one of a tree. A refusal may leave the reader in mid-way.
-fn read_behind(
-    alloc: Global,
-    last: Option<Number>,
-    tree: &Tree,
-    from: &mut ByteReader<'_>,
-) -> Result<Number, StateFault>
-    requires { seen last ≡ last_kept tree.now }
-    ensures agrees { Agrees value_of (behind_at number_value_at is_less tree.now from.old) result from.new }
-    ensures ok { IfOk result (λ number. from.old ≡ tagged_bytes (value_of number) ++ from.new) }
-    ensures legal { IfOk result (λ number. IsNumber (value_of number)) }
-    ensures behind { IfOk result (λ number. comes_behind is_less (last_kept tree.now) (value_of number) ≡ true) }
-{
-    let number = read_number(alloc, from)?;
-    if may_follow(last, number) {
-        Ok(number)
-    } else {
-        Err(StateFault::Unfit)
+impl PairList for Filling {
+    ghost use Rattle.rg_agg.specs.Held.{number_value_at};
+    ghost use Rattle.rg_agg.specs.Numbers.{value_of as value_of_number};
+    ghost use Rattle.rg_agg.specs.Stands.{IsNumber};
+    ghost use Rattle.rg_agg.specs.Unbeaten.{is_less};
+    ghost use Rattle.rg_rank.specs.Shapes.{listed};
+
+    type Key = Number;
+
+    ghost value_of = { value_of_number };
+
+    ghost legal = { IsNumber };
+
+    ghost value_at = { number_value_at };
+
+    ghost pairs = { λ filling. listed filling.tree };
+
+    ghost below = { λ _. is_less };
+
+    ghost most = { λ _. 1099511627776 };
+
+    fn read_key(&self, from: &mut ByteReader<'_>) -> Result<Number, StateFault> {
+        read_number(self.alloc, from)
+    }
+
+    fn is_behind(&self, key: &Number) -> bool {
+        may_follow(self.tree.last(), *key)
+    }
+
+    fn room(&self) -> u64 {
+        MAX_EVENTS - self.tree.values()
+    }
+
+    fn push(&mut self, key: Number, count: u64) -> Result<(), Memory> {
+        self.tree.push(self.alloc, key, count)
     }
 }
 
@@ -143,17 +95,4 @@ fn may_follow(last: Option<Number>, number: Number) -> bool
         Some(last) => last.is_like(number) && is_below(last, number),
         None => true,
     }
-}
-
-/// Takes how often a number more is there. A refusal may leave the reader in mid-way.
-fn read_count(tree: &Tree, from: &mut ByteReader<'_>) -> Result<u64, StateFault>
-    ensures agrees { Agrees (λ count. count) (count_at 1099511627776 tree.now from.old) result from.new }
-    ensures ok { IfOk result (λ count. from.old ≡ to_be_bytes w64 count ++ from.new) }
-    ensures counted { IfOk result (λ count. is_count 1099511627776 tree.now count ≡ true) }
-{
-    let count = from.u64()?;
-    if count == 0 || MAX_EVENTS - tree.values() < count {
-        return Err(StateFault::Unfit);
-    }
-    Ok(count)
 }

@@ -14,6 +14,7 @@ use Rattle.rg_multiset.specs.Reading.{any_value_at, is_before}
 use Rattle.rg_multiset.specs.ValueLaws.{value_reads_back}
 use Rattle.rg_multiset.proofs.Laws.{tally_back}
 use Rattle.rg_extreme.specs.States.{pairs_in}
+use Rattle.rg_rank.specs.Shapes.{listed}
 use Rattle.rg_extreme.proofs.Laws.{highest_back, lowest_back}
 use Rattle.rg_state.specs.States.{held_of, state_at}
 use Rattle.rg_state.specs.declared.state.AggState.{AggState}
@@ -27,6 +28,6 @@ state_read_back (SumSq state) rest some = squared_reads_back state.count state.s
 state_read_back (Min state) rest some = lowest_back state.value.deque.size state.value.deque.kept (pairs_in state.value.deque) rest state.value.sound some
 state_read_back (Max state) rest some = highest_back state.value.deque.size state.value.deque.kept (pairs_in state.value.deque) rest state.value.sound some
 state_read_back (Distinct state) rest some = ap (λ read. and_then read (λ pairs left. Ok (varied pairs, left))) (tally_back IsLegal any_value_at is_before value_reads_back 7 state.value.tally rest state.value.sound some)
-state_read_back (Rank state) rest some = ap (λ read. and_then read (λ pairs left. Ok (ranked pairs, left))) (tally_back IsNumber number_value_at is_less number_value_reads_back 23 state.value.tree rest state.value.sound some)
+state_read_back (Rank state) rest some = ap (λ read. and_then read (λ pairs left. Ok (ranked pairs, left))) (tally_back IsNumber number_value_at is_less number_value_reads_back 23 (listed state.value.tree) rest state.value.sound some)
 state_read_back (First state) rest some = queued_reads_back state.value.numbers.items rest (omega (arith, some, length-map state.value.numbers.items value_of)) state.value.few state.value.alike
 state_read_back (Last state) rest some = end_reads_back state.value.count state.value.last _ rest some state.value.few state.value.kept refl

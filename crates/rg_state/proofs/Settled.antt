@@ -21,6 +21,7 @@ use Rattle.rg_multiset.specs.Pairs.{AreRising}
 use Rattle.rg_multiset.specs.Reading.{is_before}
 use Rattle.rg_multiset.proofs.Laws.{other_way}
 use Rattle.rg_rank.proofs.Laws.{same_ranks}
+use Rattle.rg_rank.specs.Shapes.{listed}
 use Rattle.rg_state.specs.States.{held_of}
 use Rattle.rg_state.specs.declared.state.AggState.{AggState}
 use Rattle.rg_state.specs.declared.state.AggState.TheVariants.{Count, Sum, Avg, SumSq, Min, Max, Distinct, Rank, First, Last}
@@ -154,7 +155,7 @@ both_varied xs ys values rises rises' stands stands' = ap varied (one_list xs ys
 pub keep_same : (a b : AggState) (values : List Value) → func_of (held_of a) ≡ func_of (held_of b) → Stands (held_of a) values → Stands (held_of b) values → held_of a ≡ held_of b
 keep_same (Distinct state) (Distinct other) values same stands stands' = both_varied state.value.tally other.value.tally values state.value.sound.rising other.value.sound.rising stands stands'
 keep_same (Distinct state) b values same stands stands' = absurd (cc)
-keep_same (Rank state) (Rank other) values same stands stands' = same_ranks state.value.tree other.value.tree values state.value.sound other.value.sound stands stands'
+keep_same (Rank state) (Rank other) values same stands stands' = same_ranks (listed state.value.tree) (listed other.value.tree) values state.value.sound other.value.sound stands stands'
 keep_same (Rank state) b values same stands stands' = absurd (cc)
 keep_same (Count state) b values same stands stands' = by_func (held_of (Count state)) (held_of b) values same tt stands stands'
 keep_same (Sum state) b values same stands stands' = by_func (held_of (Sum state)) (held_of b) values same tt stands stands'

@@ -10,4 +10,4 @@ pub returns-in_err-count-clause-agrees : goal.returns-in_err-count-clause-agrees
 returns-in_err-count-clause-agrees c = agrees_stopped Memory _ _ c.from_residual-in_err-count.result _ _ c.from_residual-in_err-count.ensures.1 (length_stops _ _ _ _ _ _ c.in_ok-size.ensures.agrees c.in_err-count.ensures.agrees)
 
 pub returns-clause-agrees : goal.returns-clause-agrees
-returns-clause-agrees c = pairs_agree _ _ _ _ _ _ _ _ c.read_pairs.result c.in_ok-size.ensures.agrees c.in_ok-count.ensures.agrees (if_ok_then c.read_pairs.result (λ deque made. made.size) c.read_pairs.ensures.made) c.read_pairs.ensures.agrees
+returns-clause-agrees c = pairs_agree _ _ _ _ _ _ _ _ c.read_filled.result c.in_ok-size.ensures.agrees c.in_ok-count.ensures.agrees (if_ok_then c.read_filled.result (λ deque made. made.size) c.read_filled.ensures.made) c.read_filled.ensures.agrees

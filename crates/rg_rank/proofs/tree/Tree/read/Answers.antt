@@ -8,6 +8,7 @@ use Rattle.rg_agg.proofs.Laws.{number_value_reads_back}
 use Rattle.rg_bytes.proofs.Laws.{both_answers, memory_only}
 use Rattle.rg_multiset.specs.Reading.{pairs_at}
 use Rattle.rg_multiset.proofs.Laws.{tally_back}
+use Rattle.rg_rank.specs.Shapes.{listed}
 use Rattle.rg_rank.proofs.tree.Tree.read.Goals as goal
 
 pub returns-in-Ok-clause-agrees : goal.returns-in-Ok-clause-agrees
@@ -18,7 +19,7 @@ returns-in-Err-clause-agrees c = grind (arith, common_steps)
 
 pub returns-in-Ok-clause-reads_back : goal.returns-in-Ok-clause-reads_back
 returns-in-Ok-clause-reads_back c = λ pairs rest sound some stood.
-    both_answers (pairs_at number_value_at is_less c.args.tag c.args.from.now) c.in-Ok.tree pairs c.read_tree.new.from rest (returns-in-Ok-clause-agrees c)
+    both_answers (pairs_at number_value_at is_less c.args.tag c.args.from.now) (listed c.in-Ok.filling.tree) pairs c.read_list.new.from rest (returns-in-Ok-clause-agrees c)
     (ap (pairs_at number_value_at is_less c.args.tag) stood ∙ tally_back IsNumber number_value_at is_less number_value_reads_back c.args.tag pairs rest sound some)
 
 pub returns-in-Err-clause-reads_back : goal.returns-in-Err-clause-reads_back

@@ -3,6 +3,7 @@ use Rattle.rg_event.specs.Tagged.{IsLegal}
 use Rattle.std.proofs.Common.{map}
 use Rattle.rg_agg.specs.Numbers.{value_of}
 use Rattle.rg_extreme.specs.States.{pairs_in}
+use Rattle.rg_rank.specs.Shapes.{listed}
 use Rattle.rg_state.proofs.OneKind.{alike_same, all_first, pairs_same, pairs_first}
 use Rattle.rg_state.proofs.state.AggState.is_of.Goals as goal
 
@@ -28,5 +29,5 @@ returns-in-Distinct c =
 
 pub returns-in-Rank : goal.returns-in-Rank
 returns-in-Rank c =
-    let pairs = c.deref-in-Rank.result.now.tree in
+    let pairs = listed c.deref-in-Rank.result.now.tree in
     rw (c.in-Rank.is, ← c.deref-in-Rank.ensures) (λ yes. pairs_same IsNumber c.args.kind pairs c.deref-in-Rank.result.now.sound.alike (c.keeps_kind-in-Rank.ensures.0 yes), λ all. c.keeps_kind-in-Rank.ensures.1 (pairs_first c.args.kind pairs all))

@@ -12,11 +12,11 @@ use Rattle.rg_host.proofs.Laws.{moments-none}
 use Rattle.rg_run_spec.specs.Stores.{StaysOnCourseSince}
 use Rattle.rg_open.specs.Stores.{store_of}
 use Rattle.rg_open.specs.Opening.{IsFromIn}
-use Rattle.rg_recover.specs.Ran.{HasStopped}
+use Rattle.rg_run.specs.Turning.{HasStoppedIn}
 use Rattle.rg_run.specs.Begun.{Begun, course_for}
 use Rattle.rg_run.specs.Reading.{IsLonger}
-use Rattle.rg_run.specs.UnderWay.{HasAnswered}
-use Rattle.rg_recover.specs.Ran.{HasFinished, IsUnopened, IsLeft}
+use Rattle.rg_run.specs.UnderWay.{HasAnswered, HasFinishedIn}
+use Rattle.rg_recover.specs.Ran.{IsUnopened, IsLeft}
 use Rattle.rg_run.specs.declared.fault.RunFault.{RunFault}
 use Rattle.rg_run.specs.declared.fault.RunFault.TheVariants as run
 use Rattle.rg_commands.specs.Plan.{IsPlan}
@@ -43,7 +43,7 @@ module _ {H : Type 0} (g : HostMembers H) (plan : Planned) (b : Begun) (v : Imag
   OnCourse = Moments g.clock g.since old new (StaysOnCourseSince (store_of plan) (course_for plan b) (g.may old) [])
 
   -- it came to its end
-  pub went_ok : IsFromIn plan v b.from ⊎ (g.said new ≡ g.said old) → OnCourse → HasFinished plan b (g.may new) (g.said new) → b.first ≤ next_offset b.held → Went g plan b v left ⊥ Ok [] old new
+  pub went_ok : IsFromIn plan v b.from ⊎ (g.said new ≡ g.said old) → OnCourse → HasFinishedIn (store_of plan) (course_for plan b) (g.may new) (g.said new) → b.first ≤ next_offset b.held → Went g plan b v left ⊥ Ok [] old new
   went_ok is_from moments finished no_gap = record {
     is_from = is_from;
     moments = moments;
@@ -52,12 +52,11 @@ module _ {H : Type 0} (g : HostMembers H) (plan : Planned) (b : Begun) (v : Imag
     answered = λ is. absurd (⊎_elim (λ (e : Ok ≡ Read). absurd (cc e)) (λ (e : Ok ≡ Limit). absurd (cc e)) is);
     last_is = refl;
     no_gap = λ is. no_gap;
-    gap = λ is. absurd (cc is);
   }
 
   -- it ended at this fault
   module _ (cause : RunFault) (status : Status) (last : List ℕ) (ends : EndsRun b.first cause status last) where
-    left_by : (status ≡ Write → ⊥) → IsLeft g.may g.said plan b cause old new → HasStopped plan (course_for plan b) (g.may new) (g.said new) ⊎ IsUnopened g.may g.said plan b old new
+    left_by : (status ≡ Write → ⊥) → IsLeft g.may g.said plan b cause old new → HasStoppedIn (store_of plan) (course_for plan b) (g.may new) (g.said new) ⊎ IsUnopened g.may g.said plan b old new
     left_by not_write (inl is) = absurd (not_write (run_is b.first cause run.Write status Write last (λ e. e.0) ends is))
     left_by not_write (inr stop) = stop
 
@@ -66,8 +65,8 @@ module _ {H : Type 0} (g : HostMembers H) (plan : Planned) (b : Begun) (v : Imag
     answered_by answered (inr is) = answered_for plan b left (g.said new) (cause ≡ run.Limit) (status ≡ Limit) (λ e. is) (answered (inr (run_at b.first cause status last ends Limit is)))
 
     pub went_err : IsFromIn plan v b.from ⊎ (g.said new ≡ g.said old) → OnCourse → IsLeft g.may g.said plan b cause old new → ((cause ≡ run.Read) ⊎ (cause ≡ run.Limit) → HasAnswered plan b left (g.said new) (cause ≡ run.Limit)) →
-        (cause ≡ run.SchemaDiffers → ⊥) → ((n : ℕ) → cause ≡ run.BadState n → ⊥) → ((n : ℕ) → cause ≡ run.Gap n → n < b.first) → ((n : ℕ) → cause ≡ run.Gap n → n ≡ next_offset b.held) → Went g plan b v left ⊥ status last old new
-    went_err is_from moments stop answered differs bad behind next = record {
+        (cause ≡ run.SchemaDiffers → ⊥) → ((n : ℕ) → cause ≡ run.BadState n → ⊥) → ((n : ℕ) → cause ≡ run.Gap n → n ≡ next_offset b.held) → Went g plan b v left ⊥ status last old new
+    went_err is_from moments stop answered differs bad next = record {
       is_from = is_from;
       moments = moments;
       finished = λ is. absurd (run_at b.first cause status last ends Ok is);
@@ -75,7 +74,6 @@ module _ {H : Type 0} (g : HostMembers H) (plan : Planned) (b : Begun) (v : Imag
       answered = λ is. inl (answered_by answered is);
       last_is = run_last b cause status last ends differs bad next;
       no_gap = λ is. absurd (run_at b.first cause status last ends Ok is);
-      gap = λ is. let g = run_at b.first cause status last ends Gap is in omega (arith, behind g.0 g.1, next g.0 g.1);
     }
 
 -- the line of a refused store
@@ -134,7 +132,6 @@ went_for g plan b v left unread status last old new w = record {
   answered = λ is. ⊎_elim (λ a. inl a) (λ none. absurd none.0) (w.answered is);
   last_is = w.last_is;
   no_gap = w.no_gap;
-  gap = w.gap;
 }
 
 -- The plan was not read: the host is as it was.
@@ -163,7 +160,6 @@ module _ {H : Type 0} (g : HostMembers H) (only : (h : H) (m : Moment) → g.sin
         answered = λ is. inr ((same, fails_read is fails), refl);
         last_is = fails_last b fails;
         no_gap = λ ok. absurd (never_unread plan last refusal status u Ok ok);
-        gap = λ gap. absurd (never_unread plan last refusal status u Gap gap);
       }
 
 -- A run by the plan that was read, as one by the plan that is asked for.

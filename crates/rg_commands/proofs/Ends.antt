@@ -117,7 +117,7 @@ module _ {H : Type 0} (g : HostMembers H) (old mid new : H) (last : List ℕ) (e
   pub whole : Puts g.said g.clock g.since mid new last ⊎ Rose (g.out_faults old) (g.out_faults new)
   whole = ⊎_elim (λ is. inl (subst (λ v. Puts g.said g.clock g.since mid new v) is e.line.puts)) (λ rose. inr (last_rose rose)) e.line.whole
 
-  put_last : EndsWith (g.said new) last ⊎ Rose (g.out_faults old) (g.out_faults new)
+  pub put_last : EndsWith (g.said new) last ⊎ Rose (g.out_faults old) (g.out_faults new)
   put_last = ⊎_elim (λ all. inl (g.said mid, all.grows)) (λ rose. inr rose) whole
 
   -- nothing was put but the last line

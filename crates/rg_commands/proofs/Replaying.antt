@@ -31,12 +31,12 @@ use Rattle.rg_commands.specs.Plan.{IsPlan}
 use Rattle.rg_commands.specs.Call.{damage_line, schema_line, state_line}
 use Rattle.rg_commands.specs.Causes.{cause, causes, EndsFor}
 use Rattle.rg_commands.specs.Outcome.{SourceOutcome, HostOutcome, host_outcome, not_given, outcome}
-use Rattle.rg_commands.specs.Replays.{IsReadyReplay, ToldReplay, text_of_replay, EndsReplay, IsUnreplayable, IsReplayLine, IsReplayRefusal, ReplayEnds, ReplaysStore, PutsRefusal, ReplayPromises}
-use Rattle.rg_commands.specs.Texts.{PutsUpTo, PutsText, PutsLast, IsOwnLine}
+use Rattle.rg_commands.specs.Replays.{IsReadyReplay, ToldReplay, text_of_replay, EndsReplay, IsUnreplayable, IsReplayLine, IsReplayRefusal, ReplayEnds, ReplaysStore, ReplaysWhole, RefusesReplay, PutsRefusal, ReplayPromises}
+use Rattle.rg_commands.specs.Texts.{PutsUpTo, PutsText, PutsLast, EndsWith, IsOwnLine}
 use Rattle.rg_commands.specs.TurnedAway.{EndsFailed}
 use Rattle.rg_commands.specs.Unread.{UnreadFor, GoesBy}
 use Rattle.rg_commands.proofs.Plans.{legal_of, bytes_ask}
-use Rattle.rg_commands.proofs.Ends.{own_ok, put_rose, disk_rose, puts_line, puts_text, up_to_all}
+use Rattle.rg_commands.proofs.Ends.{own_ok, put_last, put_rose, disk_rose, puts_line, puts_text, up_to_all}
 use Rattle.rg_commands.proofs.Unread.{never_unread, unread_fails, idle_put, idle_later, idle_up_to, refuses_plan, ends_by}
 
 -- The fault, and what it is told by.
@@ -161,6 +161,18 @@ module _ {H : Type 0} (g : HostMembers H) (only : (h : H) (m : Moment) → g.sin
   replay_ends by = ends_by g only sinks old mid new plan last told status e own (Some (Replay first)) Goes tt by
       (λ asks legal goes. (row_cause first plan asks legal (host_outcome g old mid) last told status goes.why, goes.files, goes.later))
 
+  whole_by : By → status ≡ Ok → ReplaysWhole plan.told (g.now old)
+  whole_by (inl u) ok = absurd (never_unread plan last told status u.0 Ok ok)
+  whole_by (inr by) ok = record { asks = by.0; legal = by.1; whole = by.2.whole ok }
+
+  why_by : By → status ≡ Store → (l : List ℕ) × (EndsWith (g.said new) l ⊎ Rose (g.out_faults old) (g.out_faults new)) × RefusesReplay plan.told (g.now old) (g.may old) l
+  why_by (inl u) store = absurd (never_unread plan last told status u.0 Store store)
+  why_by (inr by) store = (
+    last,
+    put_last g old mid new last e by.2.later,
+    record { asks = by.0; legal = by.1; refusal = at_row (last ≡ []) by.0 (host_outcome g old mid) last status by.2.why Store store },
+  )
+
   -- over a store that is ready, by the plan that is told
   module _ (bytes : List ℕ) (asks : Planned) (is : plan.told ≡ Some bytes) (says : IsPlan bytes asks) where
     goes_at : (p : Planned) → IfSome plan.told (λ b. IsPlan b p) → Goes p → Goes asks
@@ -205,6 +217,8 @@ module _ {H : Type 0} (g : HostMembers H) (only : (h : H) (m : Moment) → g.sin
         ((put_by told.plan_bytes told.asks told.plan_is told.says by told.ready).complete ok);
     replay_put = λ told. put_by told.plan_bytes told.asks told.plan_is told.says by told.ready;
     replay_refused = λ bytes asks v is says now unfit. refused_by bytes asks is says by v now unfit;
+    whole = whole_by by;
+    refused_of = why_by by;
     replay_never = λ told store. never_by told.plan_bytes told.asks told.plan_is told.says by told.ready store;
     completes_replay = λ bytes asks is says none. completes_by bytes asks is says by none;
     refused_plan = refuses_plan g only sinks old mid new plan last told status e own (mid ≡ old) Goes (λ same. same) by;

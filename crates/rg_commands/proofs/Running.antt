@@ -24,7 +24,7 @@ use Rattle.rg_commands.specs.declared.command.Command.TheVariants.{Run}
 use Rattle.rg_commands.specs.Plan.{IsPlan}
 use Rattle.rg_commands.specs.Causes.{cause, causes, LimitCause, EndsFor}
 use Rattle.rg_commands.specs.Outcome.{SourceOutcome, host_outcome, Outcome, outcome}
-use Rattle.rg_commands.specs.Runs.{ToldRun, begun_in, Went, IsIdle, RunsStore, RunsBy, KeepsLog, RunPromises}
+use Rattle.rg_commands.specs.Runs.{ToldRun, ToldStore, told_store, begun_in, Went, IsIdle, RunsStore, RunsBy, KeepsLog, RunPromises}
 use Rattle.rg_commands.specs.Texts.{PutsLast, IsOwnLine}
 use Rattle.rg_commands.specs.TurnedAway.{EndsUnfit, EndsBehind}
 use Rattle.rg_commands.proofs.Plans.{not_refused}
@@ -65,15 +65,15 @@ module _ {H : Type 0} (g : HostMembers H) (now_may : (h : H) (w : Image) → g.n
   went_by (inl u) t = (0, subst (λ h. Went g t.asks (begun_in t 0 first) t.ready.openable.image input.left (input.stays × plan.failed) status last old h) (sym u.1.host) (went_unread g only sinks old plan input last told status u.0 new u.1.input t 0 first))
   went_by (inr by) t = went_at g first plan input status last old mid new by.0 by.1 by.2 t
 
-  behind_by : By → (t : ToldRun after) (keep : Option ℕ) → next_offset t.ready.held < first →
-      input.stays × IsWithinOpening g.may g.clock g.since g.said t.asks keep t.ready.openable.image old mid × EndsBehind first (next_offset t.ready.held) plan.failed status last
+  behind_by : By → (t : ToldStore after) (keep : Option ℕ) → next_offset t.store.held < first →
+      input.stays × IsWithinOpening g.may g.clock g.since g.said t.asks keep t.store.openable.image old mid × EndsBehind first (next_offset t.store.held) plan.failed status last
   behind_by (inl u) t keep late = (
     u.1.input,
-    subst (λ h. IsWithinOpening g.may g.clock g.since g.said t.asks keep t.ready.openable.image old h) (sym u.1.host) (none_within g.may g.clock g.since g.said only sinks t.asks keep t.ready.openable.image old),
+    subst (λ h. IsWithinOpening g.may g.clock g.since g.said t.asks keep t.store.openable.image old h) (sym u.1.host) (none_within g.may g.clock g.since g.said only sinks t.asks keep t.store.openable.image old),
     inr (unread_fails plan last told status u.0 t.plan_bytes t.plan_is t.asks t.says),
   )
   behind_by (inr by) t keep late =
-      let at = (goes_at g first plan input status last old mid new by.0 by.1 by.2 t.plan_bytes t.asks t.plan_is t.says).behind t.ready keep late in
+      let at = (goes_at g first plan input status last old mid new by.0 by.1 by.2 t.plan_bytes t.asks t.plan_is t.says).behind t.store keep late in
       (at.0, at.1, ⊎_elim (λ says. inl says) (λ failed. inr (failed_for plan.failed status last failed)) at.2)
 
   unfit_by : By → (bytes : List ℕ) (asks : Planned) (v : Image) → plan.told ≡ Some bytes → IsPlan bytes asks → g.now old ≡ Some v → IsUnfit asks v →
@@ -108,9 +108,13 @@ module _ {H : Type 0} (g : HostMembers H) (now_may : (h : H) (w : Image) → g.n
   gap_by (inl u) ok bytes asks v events is says now has = absurd (never_unread plan last told status u.0 Ok ok)
   gap_by (inr by) ok bytes asks v events is says now has = (goes_at g first plan input status last old mid new by.0 by.1 by.2 bytes asks is says).no_gap ok v events now has
 
-  never_by : By → (t : ToldRun after) → status ≡ Store → ⊥
+  late_by : By → status ≡ Gap → (bytes : List ℕ) (asks : Planned) (v : Image) (events : List Event) → plan.told ≡ Some bytes → IsPlan bytes asks → g.now old ≡ Some v → Has asks events v → next_offset events < first
+  late_by (inl u) gap bytes asks v events is says now has = absurd (never_unread plan last told status u.0 Gap gap)
+  late_by (inr by) gap bytes asks v events is says now has = (goes_at g first plan input status last old mid new by.0 by.1 by.2 bytes asks is says).gap gap v events now has
+
+  never_by : By → (t : ToldStore after) → status ≡ Store → ⊥
   never_by (inl u) t store = never_unread plan last told status u.0 Store store
-  never_by (inr by) t store = (goes_at g first plan input status last old mid new by.0 by.1 by.2 t.plan_bytes t.asks t.plan_is t.says).never_damaged t.ready t.input_bytes t.input_is store
+  never_by (inr by) t store = (goes_at g first plan input status last old mid new by.0 by.1 by.2 t.plan_bytes t.asks t.plan_is t.says).never_damaged t.store.openable store
 
   module _ (ends : EndsFor (Some (Run first)) (outcome plan input (host_outcome g old mid)) status last told) where
     why : cause (causes (Some (Run first)) after last told) status
@@ -130,11 +134,12 @@ module _ {H : Type 0} (g : HostMembers H) (now_may : (h : H) (w : Image) → g.n
       log_stays = λ bytes asks v events is says now has. log_kept asks events (log_by by bytes asks v events is says now has);
       input_read = λ ok. end_by by ok;
       no_gap = λ ok bytes asks v events is says now has. gap_by by ok bytes asks v events is says now has;
-      behind = λ t slot late. let at = behind_by by t (Some slot) late in (at.0, lies_behind g old mid new last e ends.later t.asks plan.failed status t.ready first slot at.1 at.2);
+      gap_never = λ gap bytes asks v events is says now has. late_by by gap bytes asks v events is says now has;
+      behind = λ t slot late. let at = behind_by by t (Some slot) late in (at.0, lies_behind g old mid new last e ends.later t.asks plan.failed status t.store first slot at.1 at.2);
       store_always = λ bytes asks v is says now unfit. let at = unfit_by by bytes asks v is says now unfit in (at.0, turned_away g old mid new last e ends.later asks plan.failed status v at.1 at.2);
       store_never = λ t store. never_by by t store;
-      completes_run = λ t within begins none. ends_well first after last told t within none status (λ store. never_by by t store) (λ gap. let late = (went_by by t).1.gap gap in omega (arith, late, begins)) why;
-      completes_gap = λ t late none. behind_status first (next_offset t.ready.held) plan.failed (Rose (g.disk_faults old) (g.disk_faults new)) status last (behind_by by t None late).2 disk none;
+      completes_run = λ t within begins none. ends_well first after last told t within none status (λ store. never_by by (told_store t) store) (λ gap. let late = late_by by gap t.plan_bytes t.asks t.ready.openable.image t.ready.held t.plan_is t.says t.ready.openable.told t.ready.has in omega (arith, late, begins)) why;
+      completes_gap = λ t late none. behind_status first (next_offset t.store.held) plan.failed (Rose (g.disk_faults old) (g.disk_faults new)) status last (behind_by by t None late).2 disk none;
       completes_store = λ bytes asks v is says now unfit none. unfit_status asks v plan.failed (Rose (g.disk_faults old) (g.disk_faults new)) status last (unfit_by by bytes asks v is says now unfit).2 disk none;
       refused_plan = refuses_plan g only sinks old mid new plan last told status e own (IsIdle (mid ≡ old) input.stays) (λ asks. RunsStore g first asks input status last old mid) (λ idle. idle.host) by;
     }

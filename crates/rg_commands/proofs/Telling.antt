@@ -28,7 +28,7 @@ use Rattle.rg_run_spec.proofs.Laws.{line_among, on_course_last, on_course_since_
 use Rattle.rg_open.specs.Stores.{store_of}
 use Rattle.rg_open.specs.Truth.{IsTruthfulImage}
 use Rattle.rg_open.specs.Opening.{IsFromIn}
-use Rattle.rg_recover.specs.Ran.{HasStopped}
+use Rattle.rg_run.specs.Turning.{HasStoppedIn}
 use Rattle.rg_task.specs.Terms.{terms_of}
 use Rattle.rg_run.specs.Begun.{Begun, course_for, lines_in}
 use Rattle.rg_recover.specs.Ran.{IsUnopened}
@@ -111,7 +111,7 @@ module _ {H : Type 0} (g : HostMembers H) (plan : Planned) (b : Begun) (v : Imag
         (moments-both clock since mid new (λ m. may mid m.image) (λ m. ForSome (said mid) (λ t. IsPartWay t part m.said)) leaves.moments puts.moments)
         (λ m h. (h.0, part_way_more s part last m.said front (h.1 s is)))
 
-    after_stop : HasStopped plan course (may mid) (said mid) → Moments clock since old new (P last)
+    after_stop : HasStoppedIn (store_of plan) course (may mid) (said mid) → Moments clock since old new (P last)
     after_stop stop =
         let line = line_of_status b status last went.last_is in
         subst (λ (l : List ℕ). Moments clock since old new (P l)) line.is
@@ -176,7 +176,7 @@ module _ {H : Type 0} (g : HostMembers H) (plan : Planned) (b : Begun) (v : Imag
     grown : Puts said clock since mid new last → (s : List ℕ) → said mid ≡ Some s → said new ≡ Some (s ++ last)
     grown whole s is = whole.grows ∙ ap (λ t. after t last) is
 
-    whole_stop : Puts said clock since mid new last → HasStopped plan course (may mid) (said mid) → EndsWhole plan b last (said new)
+    whole_stop : Puts said clock since mid new last → HasStoppedIn (store_of plan) course (may mid) (said mid) → EndsWhole plan b last (said new)
     whole_stop whole stop =
         let s = stop.stopped in
         record {
@@ -264,5 +264,4 @@ module _ {H : Type 0} (g : HostMembers H) (plan : Planned) (b : Begun) (v : Imag
         replies_put = λ is. ends_answered e.silent e.line.part e.line.front e.line.puts e.leaves (Rose (g.out_faults old) (g.out_faults new)) is all;
         resumes = λ ok zero held. subst (λ h. Resumes plan b (said h)) (sym (at_end ok)) (resumed ok zero held);
         gap_always = went.no_gap;
-        gap_never = went.gap;
       }

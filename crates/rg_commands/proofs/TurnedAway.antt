@@ -16,7 +16,7 @@ use Rattle.rg_config.specs.Plans.{Planned}
 use Rattle.rg_open.specs.Stores.{Has, HasSaved}
 use Rattle.rg_open.specs.Unfit.{IsLeftAlone}
 use Rattle.rg_open.specs.Within.{IsAsRead, IsInOpening, IsWithinOpening}
-use Rattle.rg_recover.specs.Ready.{IsReadyRun}
+use Rattle.rg_recover.specs.Ready.{IsReadyStore}
 use Rattle.rg_recover.specs.RunFaults.{SaysWhy, IsGapOrFailed}
 use Rattle.rg_run.specs.declared.fault.RunFault.{RunFault}
 use Rattle.rg_run.specs.declared.fault.RunFault.TheVariants as run
@@ -95,7 +95,7 @@ module _ {H : Type 0} (g : HostMembers H) (old mid new : H) (last : List ℕ) (e
     moments = moments_then g.clock g.since old mid new _ _ (λ m. g.may old m.image) alone.moments e.leaves.moments (λ m h. h.0) (λ m h. alone.fewer m.image h);
   }
 
-  module _ (ready : IsReadyRun plan (g.now old) (g.may old) (g.said old)) (first slot : ℕ) (within : IsWithinOpening g.may g.clock g.since g.said plan (Some slot) ready.openable.image old mid) (ends : EndsBehind first (next_offset ready.held) unread status last) where
+  module _ (ready : IsReadyStore plan (g.now old) (g.may old)) (first slot : ℕ) (within : IsWithinOpening g.may g.clock g.since g.said plan (Some slot) ready.openable.image old mid) (ends : EndsBehind first (next_offset ready.held) unread status last) where
     abbrev u0 : Image
     u0 = ready.openable.image
 

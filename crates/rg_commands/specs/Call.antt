@@ -76,9 +76,9 @@ with_two true replay verify trial lines seed = Some (Run 0)
 with_two false true verify trial lines seed = Some (Replay 0)
 with_two false false verify trial lines seed = when_verify verify trial lines seed
 
--- a replay from that offset on, which is at most 2^61
+-- a replay from that offset on, which is at most 2^62
 abbrev pub replay_at : Option ℕ → Option Command
-replay_at (Some first) = if nat_le first 2305843009213693952 then Some (Replay first) else None
+replay_at (Some first) = if nat_le first 4611686018427387904 then Some (Replay first) else None
 replay_at None = None
 
 -- the same, where the word names a replay

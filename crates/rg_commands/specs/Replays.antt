@@ -3,12 +3,14 @@ use Rattle.std.specs.Prelude.{◌≡◌, ◌≢◌, ◌⊎◌, ℕ, List, [], Op
 use Rattle.std.specs.Option.{ForSome}
 use Rattle.rg_event.specs.declared.event.Event.{Event}
 use Rattle.rg_config.specs.Plans.{Planned}
+use Rattle.rg_frame.specs.Frames.{HasPayloads}
 use Rattle.rg_host.specs.Image.{Image, NothingPending}
 use Rattle.rg_host.specs.Lines.{ended}
 use Rattle.rg_explain.specs.Stops.{StopsAt}
 use Rattle.rg_log.specs.Log.{HasEvents}
 use Rattle.rg_reservoir.specs.Attached.{IsOther, IsIllegalSince}
 use Rattle.rg_open.specs.Unfit.{HasBadFrame}
+use Rattle.rg_replay.specs.Playing.{IsLegalThrough}
 use Rattle.rg_replay.specs.Replay.{replay_text}
 use Rattle.rg_replay.specs.Runs.{text_of_left}
 use Rattle.rg_replay.specs.declared.fault.ReplayFault.{ReplayFault}
@@ -21,7 +23,7 @@ use Rattle.rg_messages.specs.declared.status.Status.TheVariants.{Ok, Store, Writ
 use Rattle.rg_commands.specs.Plan.{IsPlan}
 use Rattle.rg_commands.specs.Call.{damage_line, schema_line, state_line, Fails, SaysLine}
 use Rattle.rg_commands.specs.Outcome.{SourceOutcome, HostOutcome}
-use Rattle.rg_commands.specs.Texts.{PutsUpTo, PutsText, PutsLine, RefusesPlan}
+use Rattle.rg_commands.specs.Texts.{PutsUpTo, PutsText, PutsLine, EndsWith, RefusesPlan}
 
 -- The host tells its image, whose log is legal, of the plan's schema or without a frame, and has these events; nothing of it is pending. A replay
 -- writes nothing, so a log whose schema only grows to the plan's isn't ready.
@@ -57,6 +59,16 @@ EndsReplay replay.Write status last = Fails Write status last
 abbrev pub IsUnreplayable : Planned → Image → Type 0
 IsUnreplayable plan v = IsOther plan.shape (v 2) ⊎ ((place : ℕ) × HasBadFrame plan place v)
 
+-- The log has no frame; or its heads and growths are whole, the plan's schema is in force at its end, and none of the chunks that the heads count is illegal.
+abbrev pub IsWholeLog : Planned → Image → Type 0
+IsWholeLog plan v = HasPayloads [] (v 2) ⊎ IsLegalThrough plan.shape (v 2)
+
+-- The plan is legal, and the log is whole for it.
+pub record ReplaysWhole (plan : Option (List ℕ)) (now : Option Image) : Type 0 where
+  pub asks : Planned
+  pub legal : IfSome plan (λ bytes. IsPlan bytes asks)
+  pub whole : ForSome now (IsWholeLog asks)
+
 -- The line that refuses a store says why: another schema; a damaged place; or a node whose rows don't stand for the events.
 abbrev pub IsReplayLine : Planned → Option Image → List ℕ → Type 0
 IsReplayLine plan now last =
@@ -84,10 +96,11 @@ ReplayEnds ok plan h last Memory = last ≡ last_line Memory
 ReplayEnds ok plan h last Write = h.put_failed × (last ≡ last_line Write)
 ReplayEnds ok plan h last other = ⊥
 
--- How a replay by that plan went up to its last line: over a store that is ready, and over one that isn't fit; and why it ended.
+-- How a replay by that plan went up to its last line: over a store that is ready, over one that isn't fit, and where it ended well; and why it ended.
 pub record ReplaysStore (first : ℕ) (plan : Planned) (h : HostOutcome) (status : Status) (last : List ℕ) : Type 0 where
   pub put : (ready : IsReadyReplay plan h.image h.may) → PutsUpTo (replay_text plan.queries first ready.events) h status
   pub unfit : (v : Image) → h.image ≡ Some v → IsUnreplayable plan v → (status ≡ Ok → ⊥) × h.puts []
+  pub whole : status ≡ Ok → ForSome h.image (IsWholeLog plan)
   pub why : ReplayEnds (last ≡ []) plan h last status
   pub files : h.files_stay
   pub later : h.later
@@ -114,6 +127,11 @@ pub record ReplayPromises (first : ℕ) (plan : SourceOutcome) (h : HostOutcome)
   -- Over a store with a frame that its heads and growths show to be bad, or else of another schema, be it one that grows to the plan's, nothing
   -- was put but the last line, which says why.
   pub replay_refused : (bytes : List ℕ) (asks : Planned) (v : Image) → plan.told ≡ Some bytes → IsPlan bytes asks → h.image ≡ Some v → IsUnreplayable asks v → PutsRefusal asks h status
+  -- It ends well only over a whole log: never where a chunk that it had to read is illegal.
+  pub whole : status ≡ Ok → ReplaysWhole plan.told h.image
+  -- A replay that refuses the store names the cause in its last line, which was put unless a put failed: another schema, a bad frame, a chunk with a bad
+  -- inside, or a node whose rows don't stand for the events; and the store isn't ready then.
+  pub refused_of : status ≡ Store → (last : List ℕ) × (EndsWith h.said_after last ⊎ h.put_failed) × RefusesReplay plan.told h.image h.may last
   -- A store that is ready is never refused.
   pub replay_never : ToldReplay plan h → status ≢ Store
   -- By a legal plan, and where no read of it, no put and no call on a file failed, it ends well, for want of memory, or with the store's refusal.

@@ -18,15 +18,16 @@ use Rattle.rg_run_spec.specs.Pieces.{whole_pieces}
 use Rattle.rg_run_spec.specs.Stores.{HasAtLeast, IsNear, Promised, StaysOnCourseSince}
 use Rattle.rg_open.specs.Stores.{store_of, Has, HasSaved, IsGrownTo}
 use Rattle.rg_open.specs.Truth.{IsTruthfulImage}
-use Rattle.rg_open.specs.Opening.{IsFromIn}
+use Rattle.rg_open.specs.Opening.{IsOpenable, IsFromIn}
 use Rattle.rg_open.specs.Unfit.{IsUnfit, IsLeftAlone}
 use Rattle.rg_open.specs.Within.{IsWithinOpening}
 use Rattle.rg_task.specs.Terms.{terms_of}
-use Rattle.rg_recover.specs.Ready.{IsReadyRun, begun_by}
+use Rattle.rg_recover.specs.Ready.{IsReadyRun, IsReadyStore, begun_by, store_in}
 use Rattle.rg_recover.specs.Answered.{HoldsLog}
-use Rattle.rg_recover.specs.Ran.{HasFinished, HasStopped, IsUnopened}
+use Rattle.rg_recover.specs.Ran.{IsUnopened}
 use Rattle.rg_run.specs.Begun.{Begun, lines_in, course_for}
-use Rattle.rg_run.specs.UnderWay.{HasAnswered}
+use Rattle.rg_run.specs.Turning.{HasStoppedIn}
+use Rattle.rg_run.specs.UnderWay.{HasAnswered, HasFinishedIn}
 use Rattle.rg_messages.specs.Statuses.{last_line}
 use Rattle.rg_messages.specs.declared.refusal.Refusal.{Refusal}
 use Rattle.rg_messages.specs.declared.status.Status.{Status}
@@ -49,6 +50,18 @@ pub record ToldRun (o : Outcome) : Type 0 where
   pub input_bytes : List ℕ
   pub input_is : o.input.told ≡ Some input_bytes
   pub ready : IsReadyRun asks o.host.image o.host.may o.host.said
+
+-- What a run is told of its store: its plan, and a store that is ready for the plan, with the events of its log.
+pub record ToldStore (o : Outcome) : Type 0 where
+  pub plan_bytes : List ℕ
+  pub plan_is : o.plan.told ≡ Some plan_bytes
+  pub asks : Planned
+  pub says : IsPlan plan_bytes asks
+  pub store : IsReadyStore asks o.host.image o.host.may
+
+-- so it is where all is told
+abbrev pub told_store : {o : Outcome} → ToldRun o → ToldStore o
+told_store told = record { plan_bytes = told.plan_bytes; plan_is = told.plan_is; asks = told.asks; says = told.says; store = store_in told.ready }
 
 -- what a run begins with that goes on from a checkpoint of so many events, and whose first line has that offset
 abbrev pub begun_in : {o : Outcome} → ToldRun o → ℕ → ℕ → Begun
@@ -73,22 +86,22 @@ IsToldFrom plan v b last said = IsFromIn plan v b.from ⊎ ((part : List ℕ) ×
 pub record Went {H : Type 0} (g : HostMembers H) (plan : Planned) (b : Begun) (v : Image) (left : Option (List ℕ)) (unread : Type 0) (status : Status) (last : List ℕ) (old new : H) : Type 0 where
   pub is_from : IsFromIn plan v b.from ⊎ (g.said new ≡ g.said old)
   pub moments : Moments g.clock g.since old new (StaysOnCourseSince (store_of plan) (course_for plan b) (g.may old) [])
-  pub finished : status ≡ Ok → HasFinished plan b (g.may new) (g.said new)
-  pub stopped : (status ≡ Ok → ⊥) → (status ≡ Write → ⊥) → HasStopped plan (course_for plan b) (g.may new) (g.said new) ⊎ IsUnopened g.may g.said plan b old new
+  pub finished : status ≡ Ok → HasFinishedIn (store_of plan) (course_for plan b) (g.may new) (g.said new)
+  pub stopped : (status ≡ Ok → ⊥) → (status ≡ Write → ⊥) → HasStoppedIn (store_of plan) (course_for plan b) (g.may new) (g.said new) ⊎ IsUnopened g.may g.said plan b old new
   pub answered : (status ≡ Read) ⊎ (status ≡ Limit) → HasAnswered plan b left (g.said new) (status ≡ Limit) ⊎ (unread × (g.said new ≡ g.said old))
   pub last_is : IsLastOf status b last
   pub no_gap : status ≡ Ok → b.first ≤ next_offset b.held
-  pub gap : status ≡ Gap → next_offset b.held < b.first
 
 -- How a run by that plan went up to its last line, whose first line has that offset: over a store that is ready, over one that no run of the plan
 -- goes over, and where its input begins behind the store's end.
 pub record RunsStore {H : Type 0} (g : HostMembers H) (first : ℕ) (plan : Planned) (input : SourceOutcome) (status : Status) (last : List ℕ) (old new : H) : Type 0 where
   pub went : (ready : IsReadyRun plan (g.now old) (g.may old) (g.said old)) (all : List ℕ) → input.told ≡ Some all → (from : ℕ) × Went g plan (begun_by ready from first all) ready.openable.image input.left ⊥ status last old new
-  pub never_damaged : (ready : IsReadyRun plan (g.now old) (g.may old) (g.said old)) (all : List ℕ) → input.told ≡ Some all → status ≡ Store → ⊥
-  pub behind : (ready : IsReadyRun plan (g.now old) (g.may old) (g.said old)) (keep : Option ℕ) → next_offset ready.held < first →
-      input.stays × IsWithinOpening g.may g.clock g.since g.said plan keep ready.openable.image old new × EndsBehind first (next_offset ready.held) ⊥ status last
+  pub never_damaged : IsOpenable plan (g.now old) (g.may old) → status ≡ Store → ⊥
+  pub behind : (store : IsReadyStore plan (g.now old) (g.may old)) (keep : Option ℕ) → next_offset store.held < first →
+      input.stays × IsWithinOpening g.may g.clock g.since g.said plan keep store.openable.image old new × EndsBehind first (next_offset store.held) ⊥ status last
   pub unfit : (v : Image) → g.now old ≡ Some v → IsUnfit plan v → input.stays × IsLeftAlone g.now g.may g.clock g.since g.said v old new × EndsUnfit plan v ⊥ status last
   pub no_gap : status ≡ Ok → (v : Image) (events : List Event) → g.now old ≡ Some v → Has plan events v → first ≤ next_offset events
+  pub gap : status ≡ Gap → (v : Image) (events : List Event) → g.now old ≡ Some v → Has plan events v → next_offset events < first
   pub log : (v : Image) (events : List Event) → g.now old ≡ Some v → Has plan events v → HoldsLog g.may g.clock g.since plan events old new
   pub at_end : status ≡ Ok → IsAtEnd input.left
 
@@ -167,9 +180,8 @@ pub record RunsOn (plan : Planned) (b : Begun) (v : Image) (left : Option (List 
       ⊎ h.put_failed
   -- Over what an earlier run of the same input left it goes on with the text of one that is never stopped.
   pub resumes : status ≡ Ok → b.first ≡ 0 → b.held ≡ below (next_offset b.held) (events_after (terms_of plan).basis [] 0 (lines_in b)) → Resumes plan b h.said_after
-  -- It goes on only where its first line is at most the store's next one, and is refused for a gap only where it isn't.
+  -- It goes on only where its first line is at most the store's next one.
   pub gap_always : status ≡ Ok → b.first ≤ next_offset b.held
-  pub gap_never : status ≡ Gap → next_offset b.held < b.first
 
 -- Each image of a moment, and each that is left, might have been left at the start, or has these events, and maybe more behind them.
 pub record KeepsLog (plan : Planned) (held : List Event) (h : HostOutcome) : Type 0 where
@@ -190,21 +202,24 @@ pub record RunPromises (first : ℕ) (o : Outcome) (status : Status) : Type 0 wh
   pub input_read : status ≡ Ok → IsAtEnd o.input.left
   -- Its first line is then at most the store's next one, over any legal log, whatever the slots have and whatever the input and the output tell.
   pub no_gap : status ≡ Ok → (bytes : List ℕ) (asks : Planned) (v : Image) (events : List Event) → o.plan.told ≡ Some bytes → IsPlan bytes asks → o.host.image ≡ Some v → Has asks events v → first ≤ next_offset events
-  -- Where its first line is behind that, nothing is read, answered or stored: nothing is put but the last line.
-  pub behind : (told : ToldRun o) (slot : ℕ) → next_offset told.ready.held < first →
-      o.input.stays × IsBehind told.asks told.ready.held told.ready.openable.image first slot o.plan.failed o.host status
+  -- And it is refused for a gap only where its first line is behind that.
+  pub gap_never : status ≡ Gap → (bytes : List ℕ) (asks : Planned) (v : Image) (events : List Event) → o.plan.told ≡ Some bytes → IsPlan bytes asks → o.host.image ≡ Some v → Has asks events v → next_offset events < first
+  -- Over a store that is ready, whatever the input and the output tell: where its first line is behind that, nothing is read, answered or stored,
+  -- and nothing is put but the last line.
+  pub behind : (told : ToldStore o) (slot : ℕ) → next_offset told.store.held < first →
+      o.input.stays × IsBehind told.asks told.store.held told.store.openable.image first slot o.plan.failed o.host status
   -- Over a store with a bad frame, or else of another schema that doesn't grow to the plan's by its defaults, it says which, and leaves the
   -- input and the files alone.
   pub store_always : (bytes : List ℕ) (asks : Planned) (v : Image) → o.plan.told ≡ Some bytes → IsPlan bytes asks → o.host.image ≡ Some v → IsUnfit asks v →
       o.input.stays × IsTurnedAway asks v o.plan.failed o.host status
-  -- A store that is ready is never refused.
-  pub store_never : ToldRun o → status ≢ Store
+  -- A store that is ready is never refused, whatever the input and the output tell.
+  pub store_never : ToldStore o → status ≢ Store
   -- Where no count of faults rose, a run over a store that is ready ends well, or for want of memory, where its input isn't too long and begins
   -- early enough.
   pub completes_run : (told : ToldRun o) → length told.input_bytes ≤ 2 ^ 50 → first ≤ next_offset told.ready.held →
       (o.plan.failed ⊎ o.input.failed ⊎ o.host.put_failed ⊎ o.host.disk_failed → ⊥) → (status ≡ Ok) ⊎ (status ≡ Memory)
-  -- Where it begins behind the store's next offset, it then says so.
-  pub completes_gap : (told : ToldRun o) → next_offset told.ready.held < first → (o.plan.failed ⊎ o.host.disk_failed → ⊥) → (status ≡ Gap) ⊎ (status ≡ Memory)
+  -- Where it begins behind the store's next offset, it then says so, whatever the input and the output tell.
+  pub completes_gap : (told : ToldStore o) → next_offset told.store.held < first → (o.plan.failed ⊎ o.host.disk_failed → ⊥) → (status ≡ Gap) ⊎ (status ≡ Memory)
   -- Over a store with a bad frame, or else of another schema that doesn't grow to the plan's by its defaults, it then says so.
   pub completes_store : (bytes : List ℕ) (asks : Planned) (v : Image) → o.plan.told ≡ Some bytes → IsPlan bytes asks → o.host.image ≡ Some v → IsUnfit asks v →
       (o.plan.failed ⊎ o.host.disk_failed → ⊥) → (status ≡ Store) ⊎ (status ≡ Memory)

@@ -72,7 +72,7 @@ fn carry_out<P: Source, I: Source, H: Host>(
 /// against the log's events, and `self N SEED` says what is counted of a run on N made lines.
 ///
 /// Behind a run's store may stand the offset of the input's first line, at most 2^61, which must be at most
-/// the store's next one, and behind a replay's the least offset of an event whose line is put, at most 2^61,
+/// the store's next one, and behind a replay's the least offset of an event whose line is put, at most 2^62,
 /// 0 where it isn't said. At most 65,536 bytes of `plan` and 2^50 bytes of `input` are taken, and one more
 /// where there is one. What each command puts out stands at its own call. Another status than Ok and
 /// Differs puts its last line behind whole lines of that. Why a plan was refused is left in `refusal`.

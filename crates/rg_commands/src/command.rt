@@ -4,8 +4,11 @@ ghost use Rattle.rg_commands.specs.Call.{command_of, with_file, with_two, with_f
 
 use rg_bytes::read_whole;
 
-/// The greatest offset that the first line of an input, or of a replay, may have.
+/// The greatest offset that the first line of an input may have.
 const MAX_FIRST_OFFSET: u64 = 1 << 61;
+
+/// The greatest offset from which a replay may put lines. Each payment's is less, so there it puts none.
+const MAX_REPLAY_OFFSET: u64 = 1 << 62;
 
 /// The greatest number of lines of a trial.
 const TRIAL_LINES: u64 = 200_000;
@@ -59,7 +62,7 @@ fn replay_from(first: &[u8]) -> Option<Command>
     ensures { result ≡ replay_at (whole_of first.now) }
 {
     match read_whole(first) {
-        Some(first) if first <= MAX_FIRST_OFFSET => Some(Command::Replay(first)),
+        Some(first) if first <= MAX_REPLAY_OFFSET => Some(Command::Replay(first)),
         _ => None,
     }
 }

@@ -86,12 +86,12 @@ const REPLAYED: &[Scenario<'static>] = &[
                 ..REPLAY
             },
             Call {
-                words: &["replay", "plan", "store", "2305843009213693952"],
+                words: &["replay", "plan", "store", "4611686018427387904"],
                 wanted: "done 3 3\n",
                 ..REPLAY
             },
             Call {
-                words: &["replay", "plan", "store", "2305843009213693953"],
+                words: &["replay", "plan", "store", "4611686018427387905"],
                 ..REFUSED
             },
             Call {

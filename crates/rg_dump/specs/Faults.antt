@@ -4,7 +4,7 @@ use Rattle.rg_reservoir.specs.declared.fault.ReservoirFault.TheVariants as walk
 use Rattle.rg_dump.specs.declared.fault.DumpFault.{DumpFault}
 use Rattle.rg_dump.specs.declared.fault.DumpFault.TheVariants.{Disk, Damaged, Memory}
 
--- a walk answers neither of the last three, so each of them may be any
+-- a walk answers none of the last three, so each of them may be any
 abbrev pub of_walk : ReservoirFault → DumpFault
 of_walk walk.Disk = Disk
 of_walk (walk.Damaged place) = Damaged place

@@ -1,4 +1,8 @@
+ghost use Rattle.std.specs.Prelude.{◌≡◌};
+ghost use Rattle.rg_dump.specs.Faults.{of_walk};
+
 use rg_bytes::Memory;
+use rg_reservoir::ReservoirFault;
 use std::error::Error;
 use std::fmt;
 
@@ -37,5 +41,22 @@ impl From<Memory> for DumpFault {
 
     fn from(_memory: Memory) -> DumpFault {
         DumpFault::Memory
+    }
+}
+
+/// What a fault of a walk is to a dump: a walk compares no schema, appends nothing, and hasn't ended.
+pub(crate) fn walk_fault(fault: ReservoirFault) -> DumpFault
+    requires differs { fault ≡ ReservoirFault.SchemaDiffers → ⊥ }
+    requires full { fault ≡ ReservoirFault.Full → ⊥ }
+    requires ended { fault ≡ ReservoirFault.Ended → ⊥ }
+    ensures { result ≡ of_walk fault }
+{
+    match fault {
+        ReservoirFault::Disk => DumpFault::Disk,
+        ReservoirFault::Damaged(place) => DumpFault::Damaged(place),
+        ReservoirFault::SchemaDiffers => unreachable!(),
+        ReservoirFault::Full => unreachable!(),
+        ReservoirFault::Memory => DumpFault::Memory,
+        ReservoirFault::Ended => unreachable!(),
     }
 }

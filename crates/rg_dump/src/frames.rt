@@ -8,18 +8,17 @@ ghost use Rattle.rg_event.specs.Shapes.{schema_text};
 ghost use Rattle.rg_dump.specs.Behind.{values_of, behind_after};
 ghost use Rattle.rg_dump.specs.Dump.{head_lines, stage_rows, rows_of, dump_text, damage_of};
 ghost use Rattle.rg_dump.specs.Dumped.{IsCutIn, HasPutStage, HasDumped, IsNotDumped, HasAll, IsNotAll};
-ghost use Rattle.rg_dump.specs.Faults.{of_walk};
 ghost use Rattle.rg_dump.specs.Leaves.{LeavesPut};
 ghost use Rattle.rg_dump.specs.Stages.{stages_of};
 
-use crate::fault::DumpFault;
+use crate::fault::{DumpFault, walk_fault};
 use crate::row::extended_text;
 use crate::survey::read_log;
 use crate::values::values_behind;
 use rg_bytes::{Memory, put_bytes};
 use rg_event::{Schema, Values};
 use rg_host::{Failed, Host, put_all};
-use rg_reservoir::{ReservoirFault, Stage, Walk};
+use rg_reservoir::{Stage, Walk};
 use std::alloc::Global;
 
 /// The schema's text, and LF.
@@ -96,20 +95,6 @@ fn put_stage<H: Host>(
     match put_all(host, &text) {
         Ok(()) => Ok(()),
         Err(Failed) => Err(DumpFault::Write),
-    }
-}
-
-/// What a fault of a walk is to a dump. A walk answers none of the last three.
-fn walk_fault(fault: ReservoirFault) -> DumpFault
-    ensures { result ≡ of_walk fault }
-{
-    match fault {
-        ReservoirFault::Damaged(place) => DumpFault::Damaged(place),
-        ReservoirFault::Memory => DumpFault::Memory,
-        ReservoirFault::Disk
-        | ReservoirFault::SchemaDiffers
-        | ReservoirFault::Full
-        | ReservoirFault::Ended => DumpFault::Disk,
     }
 }
 

@@ -5,7 +5,7 @@ ghost use Rattle.rg_reservoir.specs.Walked.{IsNext};
 ghost use Rattle.rg_dump.specs.Leaves.{LeavesRead};
 ghost use Rattle.rg_dump.specs.Surveyed.{survey_in, with_stage, IsLast, HasPassed, IsUnsurveyed};
 
-use crate::fault::DumpFault;
+use crate::fault::{DumpFault, walk_fault};
 use crate::values::put_copies;
 use rg_bytes::Memory;
 use rg_event::{Schema, Values};
@@ -52,13 +52,7 @@ fn read_next<H: Host>(walk: &mut Walk, host: &mut H) -> Result<Option<Stage>, Du
     match walk.next(host) {
         Ok(found) => Ok(found),
         Err(ReservoirFault::Damaged(_)) => Ok(None),
-        Err(ReservoirFault::Memory) => Err(DumpFault::Memory),
-        Err(
-            ReservoirFault::Disk
-            | ReservoirFault::SchemaDiffers
-            | ReservoirFault::Full
-            | ReservoirFault::Ended,
-        ) => Err(DumpFault::Disk),
+        Err(fault) => Err(walk_fault(fault)),
     }
 }
 

@@ -6,7 +6,7 @@ use Rattle.rg_reservoir.specs.declared.fault.ReservoirFault.TheVariants as walk
 use Rattle.rg_info.specs.declared.fault.InfoFault.{InfoFault}
 use Rattle.rg_info.specs.declared.fault.InfoFault.TheVariants.{Disk, Damaged, Memory}
 
--- a walk answers neither of the last three, so each of them may be any
+-- a walk answers none of the last three, so each of them may be any
 abbrev pub of_walk : ReservoirFault → InfoFault
 of_walk walk.Disk = Disk
 of_walk (walk.Damaged place) = Damaged place
@@ -15,7 +15,7 @@ of_walk walk.SchemaDiffers = Disk
 of_walk walk.Full = Disk
 of_walk walk.Ended = Disk
 
--- reading the slots never answers the last one
+-- reading the slots never answers the last one, so it may be any
 abbrev pub of_slot : SlotFault → InfoFault
 of_slot slot.Disk = Disk
 of_slot slot.Memory = Memory

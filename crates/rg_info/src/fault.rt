@@ -1,3 +1,6 @@
+ghost use Rattle.std.specs.Prelude.{◌≡◌};
+ghost use Rattle.rg_info.specs.Faults.{of_walk, of_slot};
+
 use rg_bytes::Memory;
 use rg_checkpoint::SlotFault;
 use rg_reservoir::ReservoirFault;
@@ -42,36 +45,31 @@ impl From<Memory> for InfoFault {
     }
 }
 
-/// What a fault of a walk is here. A walk answers none of the last three.
-impl From<ReservoirFault> for InfoFault {
-    ghost use Rattle.std.specs.Prelude.{◌≡◌};
-    ghost use Rattle.rg_info.specs.Faults.{of_walk};
-
-    ghost from_gives = { λ old fault. fault ≡ of_walk old };
-
-    fn from(fault: ReservoirFault) -> InfoFault {
-        match fault {
-            ReservoirFault::Damaged(place) => InfoFault::Damaged(place),
-            ReservoirFault::Memory => InfoFault::Memory,
-            ReservoirFault::Disk
-            | ReservoirFault::SchemaDiffers
-            | ReservoirFault::Full
-            | ReservoirFault::Ended => InfoFault::Disk,
-        }
+/// What a fault of a walk is here: a walk compares no schema, appends nothing, and hasn't ended.
+pub(crate) fn walk_fault(fault: ReservoirFault) -> InfoFault
+    requires differs { fault ≡ ReservoirFault.SchemaDiffers → ⊥ }
+    requires full { fault ≡ ReservoirFault.Full → ⊥ }
+    requires ended { fault ≡ ReservoirFault.Ended → ⊥ }
+    ensures { result ≡ of_walk fault }
+{
+    match fault {
+        ReservoirFault::Disk => InfoFault::Disk,
+        ReservoirFault::Damaged(place) => InfoFault::Damaged(place),
+        ReservoirFault::SchemaDiffers => unreachable!(),
+        ReservoirFault::Full => unreachable!(),
+        ReservoirFault::Memory => InfoFault::Memory,
+        ReservoirFault::Ended => unreachable!(),
     }
 }
 
-/// What a fault of the slots is here. Reading them never answers the last one.
-impl From<SlotFault> for InfoFault {
-    ghost use Rattle.std.specs.Prelude.{◌≡◌};
-    ghost use Rattle.rg_info.specs.Faults.{of_slot};
-
-    ghost from_gives = { λ old fault. fault ≡ of_slot old };
-
-    fn from(fault: SlotFault) -> InfoFault {
-        match fault {
-            SlotFault::Memory => InfoFault::Memory,
-            SlotFault::Disk | SlotFault::Ended => InfoFault::Disk,
-        }
+/// What a fault of the slots is here: slots that are being attached haven't ended.
+pub(crate) fn slots_fault(fault: SlotFault) -> InfoFault
+    requires { fault ≡ SlotFault.Ended → ⊥ }
+    ensures { result ≡ of_slot fault }
+{
+    match fault {
+        SlotFault::Disk => InfoFault::Disk,
+        SlotFault::Memory => InfoFault::Memory,
+        SlotFault::Ended => unreachable!(),
     }
 }

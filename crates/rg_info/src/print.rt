@@ -8,7 +8,7 @@ ghost use Rattle.rg_host.specs.Moments.{LeavesFiles};
 ghost use Rattle.rg_host.specs.Puts.{IsPrefix, Puts};
 ghost use Rattle.rg_info.specs.Info.{IsInfo};
 
-use crate::fault::InfoFault;
+use crate::fault::{InfoFault, slots_fault};
 use crate::summary::read_log;
 use crate::text::store_text;
 use rg_bytes::Memory;
@@ -31,7 +31,7 @@ fn read_store<H: Host>(alloc: Global, host: &mut H) -> Result<Vec<u8>, InfoFault
     };
     let slots = match Slots::attach(alloc, host) {
         Ok(slots) => slots,
-        Err(fault) => return Err(InfoFault::from(fault)),
+        Err(fault) => return Err(slots_fault(fault)),
     };
     match store_text(alloc, &summary, &slots) {
         Ok(text) => Ok(text),

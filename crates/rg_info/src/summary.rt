@@ -7,7 +7,7 @@ ghost use Rattle.rg_dump.specs.Leaves.{LeavesRead};
 ghost use Rattle.rg_reservoir.specs.declared.walk.Stage.TheVariants as stage;
 ghost use Rattle.rg_info.specs.Summary.{summary_in, with_stage};
 
-use crate::fault::InfoFault;
+use crate::fault::{InfoFault, walk_fault};
 use rg_chunk::Chunk;
 use rg_host::Host;
 use rg_reservoir::{Stage, Walk};
@@ -90,7 +90,7 @@ pub(crate) fn read_log<H: Host>(alloc: Global, host: &mut H) -> Result<Summary, 
         let stage = match walk.next(host) {
             Ok(Some(stage)) => stage,
             Ok(None) => return Ok(summary),
-            Err(fault) => return Err(InfoFault::from(fault)),
+            Err(fault) => return Err(walk_fault(fault)),
         };
         summary = summary.with(&stage);
     }

@@ -1,5 +1,5 @@
 ghost use Rattle.std.specs.Prelude.{◌≡◌};
-ghost use Rattle.rg_open.specs.Faults.{of_slots, of_reservoir};
+ghost use Rattle.rg_open.specs.Faults.{of_slots, of_reservoir, of_engine};
 
 use rg_bytes::Memory;
 use rg_checkpoint::SlotFault;
@@ -84,25 +84,22 @@ pub(crate) fn reservoir_fault(fault: ReservoirFault) -> OpenFault
     }
 }
 
-/// The faults of an engine that goes on; that it or the past had ended, or that the past is full, isn't
-/// among them.
-impl From<EngineFault> for OpenFault {
-    ghost use Rattle.std.specs.Prelude.{◌≡◌};
-    ghost use Rattle.rg_open.specs.Faults.{of_engine};
-
-    ghost from_gives = { λ engine fault. fault ≡ of_engine engine };
-
-    fn from(engine: EngineFault) -> OpenFault {
-        match engine {
-            EngineFault::Past(PastFault::Disk) => OpenFault::Disk,
-            EngineFault::Past(PastFault::Damaged(place)) => OpenFault::Damaged(place),
-            EngineFault::Past(PastFault::Full) => OpenFault::Memory,
-            EngineFault::Past(PastFault::Memory) => OpenFault::Memory,
-            EngineFault::Past(PastFault::Ended) => OpenFault::Memory,
-            EngineFault::BadState(node) => OpenFault::BadState(node),
-            EngineFault::Memory => OpenFault::Memory,
-            EngineFault::Ended => OpenFault::Memory,
-            EngineFault::Table => OpenFault::Table,
-        }
+/// What a fault of resuming an engine is to an opening: nothing is appended, and neither the log nor the engine has ended.
+pub(crate) fn engine_fault(fault: EngineFault) -> OpenFault
+    requires full { fault ≡ EngineFault.Past PastFault.Full → ⊥ }
+    requires over { fault ≡ EngineFault.Past PastFault.Ended → ⊥ }
+    requires ended { fault ≡ EngineFault.Ended → ⊥ }
+    ensures { result ≡ of_engine fault }
+{
+    match fault {
+        EngineFault::Past(PastFault::Disk) => OpenFault::Disk,
+        EngineFault::Past(PastFault::Damaged(place)) => OpenFault::Damaged(place),
+        EngineFault::Past(PastFault::Full) => unreachable!(),
+        EngineFault::Past(PastFault::Memory) => OpenFault::Memory,
+        EngineFault::Past(PastFault::Ended) => unreachable!(),
+        EngineFault::BadState(node) => OpenFault::BadState(node),
+        EngineFault::Memory => OpenFault::Memory,
+        EngineFault::Ended => unreachable!(),
+        EngineFault::Table => OpenFault::Table,
     }
 }

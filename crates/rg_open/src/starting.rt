@@ -3,7 +3,7 @@ ghost use Rattle.rg_bytes.specs.Counts.{Rose};
 ghost use Rattle.rg_reservoir.specs.Kept.{base, opened, time_of};
 ghost use Rattle.rg_open.specs.Starts.{IsToStart, HasStarted, HasNotStarted, LeavesLog};
 
-use crate::fault::OpenFault;
+use crate::fault::{OpenFault, engine_fault};
 use rg_config::Plan;
 use rg_engine::Engine;
 use rg_event::Steps;
@@ -57,7 +57,7 @@ fn start_over<H: Host, T: Table, L: Ledger>(
         steps,
     ) {
         Ok(started) => Ok(started),
-        Err((fault, table)) => Err((OpenFault::from(fault), table)),
+        Err((fault, table)) => Err((engine_fault(fault), table)),
     }
 }
 

@@ -10,23 +10,21 @@ use Rattle.rg_state.specs.Rows.{Cells}
 use Rattle.rg_reservoir.specs.Chain.{IsIllegalBy}
 use Rattle.rg_reservoir.specs.Kept.{base, view_of, next_of}
 use Rattle.rg_reservoir.specs.Views.{View as LogView}
-use Rattle.rg_run_spec.specs.Stores.{Course, HasAtLeast, StaysOnCourse}
+use Rattle.rg_run_spec.specs.Stores.{HasAtLeast, StaysOnCourse}
 use Rattle.rg_open.specs.Stores.{store_of}
 use Rattle.rg_recover.specs.Sessions.{Sitting}
 use Rattle.rg_task.specs.View.{View}
 use Rattle.rg_run.specs.Answered as run
 use Rattle.rg_run.specs.Begun.{Begun, course_for}
 use Rattle.rg_run.specs.Logs as logs
-use Rattle.rg_run.specs.Turning as turning
-use Rattle.rg_run.specs.UnderWay as way
+use Rattle.rg_run.specs.Turning.{HasStoppedIn}
 use Rattle.rg_run.specs.declared.fault.RunFault.{RunFault}
 use Rattle.rg_run.specs.declared.fault.RunFault.TheVariants.{Write}
 use Rattle.rg_recover.specs.Answered.{StaysTrue, StaysHeld, Explains, CountsGrow}
 use Rattle.rg_recover.specs.Living.{SameLog}
 use Rattle.rg_recover.specs.LiveView.{live_view}
 use Rattle.rg_recover.specs.Opened.{IsToBegin}
-use Rattle.rg_recover.specs.Ran.{HasStopped, HasFinished}
-use Rattle.rg_recover.proofs.Openings.{on_ok_by, if_err_by}
+use Rattle.rg_recover.proofs.Openings.{if_err_by}
 
 module _ {P H T : Type 0} (old new : P) (host : P → H) (session : P → Sitting T) (names : P → P → Type 0) (same : (p : P) → names p p) (join : (p q r : P) → names p q → names q r → names p r)
     (now : H → Option Image) (may : H → Image → Type 0) (clock : H → ℕ) (since : H → ℕ → Moment → Type 0) (said : H → Option (List ℕ))
@@ -36,12 +34,6 @@ module _ {P H T : Type 0} (old new : P) (host : P → H) (session : P → Sittin
 
   moments_of : (Q : Moment → Type 0) → Moments V.clock V.since old new Q → Moments clock since (host old) (host new) Q
   moments_of Q m = record { later = m.later; each = m.each; nothing_else = m.nothing_else; keeps = m.keeps; adds = m.adds }
-
-  stopped_of : (plan : Planned) (course : Course) (t : P) → turning.HasStopped V plan course t → HasStopped plan course (may (host t)) (said (host t))
-  stopped_of plan course t s = record { put = s.put; told = s.told; stopped = s.stopped }
-
-  finished_of : (plan : Planned) (b : Begun) (t : P) → way.HasFinished V plan b t → HasFinished plan b (may (host t)) (said (host t))
-  finished_of plan b t f = record { put = f.put; told = f.told; done = f.done }
 
   pub to_begin : (plan : Planned) (b : Begun) (left : Option (List ℕ)) (next count from offset : ℕ)
       → IsToBegin plan b left next count from offset (now (host old)) (may (host old)) (said (host old)) tells cell named there (session old) → run.IsToBegin V plan b left from offset old
@@ -59,9 +51,9 @@ module _ {P H T : Type 0} (old new : P) (host : P → H) (session : P → Sittin
   pub true_of : {A : Type 0} (plan : Planned) (b : Begun) (left : Option (List ℕ)) (r : Result A RunFault) → run.StaysTrue V plan b left r old new → StaysTrue may clock since said plan b left r (host old) (host new)
   true_of plan b left r t = record {
     moments = moments_of (StaysOnCourse (store_of plan) (course_for plan b) []) t.moments;
-    finished = on_ok_by r (way.HasFinished V plan b new) (HasFinished plan b (may (host new)) (said (host new))) (finished_of plan b new) t.finished;
-    stopped = if_err_by r (λ f. (f ≡ Write) ⊎ (turning.HasStopped V plan (course_for plan b) new ⊎ (new ≡ old))) (λ f. (f ≡ Write) ⊎ (HasStopped plan (course_for plan b) (may (host new)) (said (host new)) ⊎ (host new ≡ host old)))
-        (λ f. ⊎_elim (λ write. inl write) (λ rest. inr (⊎_elim (λ stop. inl (stopped_of plan (course_for plan b) new stop)) (λ is. inr (ap host is)) rest))) t.stopped;
+    finished = t.finished;
+    stopped = if_err_by r (λ f. (f ≡ Write) ⊎ (HasStoppedIn (store_of plan) (course_for plan b) (may (host new)) (said (host new)) ⊎ (new ≡ old))) (λ f. (f ≡ Write) ⊎ (HasStoppedIn (store_of plan) (course_for plan b) (may (host new)) (said (host new)) ⊎ (host new ≡ host old)))
+        (λ f. ⊎_elim (λ write. inl write) (λ rest. inr (⊎_elim (λ stop. inl stop) (λ is. inr (ap host is)) rest))) t.stopped;
     answered = t.answered;
     never_bad = t.never_bad;
     never_damaged = t.never_damaged;

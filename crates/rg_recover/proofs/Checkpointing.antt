@@ -19,7 +19,7 @@ use Rattle.rg_open.specs.Stores.{store_of}
 use Rattle.rg_open.specs.Truth.{IsTrueOf, texts_of}
 use Rattle.rg_recover.specs.Saving.{Framed, HasWritten, IsChosen, IsMarked, IsOfKept, KeepsRows, Turned, Turning, WritesSlot, sizes_then, slot_for}
 use Rattle.rg_recover.specs.Sessions.{Sitting, HasKept, IsRunning, count_in}
-use Rattle.rg_recover.specs.Stepping.{IsWithinStep}
+use Rattle.rg_task.specs.Stepping.{IsWithinStep}
 use Rattle.rg_recover.specs.declared.payload.Payload.{Payload}
 use Rattle.rg_recover.proofs.Choosing.{keeps_then, slot_below}
 use Rattle.rg_recover.proofs.Keeping.{running_keeps}

@@ -1,5 +1,5 @@
 -- What is decided on a line.
-use Rattle.std.proofs.Common.{◌≡◌, ℕ, ◌<◌, ◌≤◌, ◌+◌, ◌-◌, nat_lt, Bool, true, false, List, [], ◌∷◌, ◌++◌, length, Option, Result, Ok, Err, inl, inr, refl, sym, ◌∙◌, ap, arith}
+use Rattle.std.proofs.Common.{◌≡◌, ℕ, ◌<◌, ◌≤◌, ◌+◌, ◌-◌, nat_lt, Bool, true, false, List, [], ◌∷◌, ◌++◌, length, Option, Result, Ok, Err, refl, sym, ◌∙◌, ap, subst, arith}
 use Rattle.std.specs.Prelude.{All}
 use Rattle.std.proofs.lemmas.Bool.{lt-ltb, le-ltb, ltb-true, ltb-false}
 use Rattle.std.proofs.lemmas.List.Elements.{All-head, All-tail}
@@ -17,12 +17,14 @@ use Rattle.rg_reply.specs.declared.reply.Reply.TheVariants.{Late, Full}
 use Rattle.rg_config.specs.Plans.{Planned}
 use Rattle.rg_row.specs.Rows.{row_of}
 use Rattle.rg_row.specs.declared.fault.RowFault.{RowFault}
+use Rattle.rg_row.specs.declared.fault.RowFault.TheVariants as rows
 use Rattle.rg_state.specs.Changes.{Marks}
 use Rattle.rg_state.specs.Rows.{Cells}
 use Rattle.rg_run_spec.specs.Verdicts.{Verdict, refused, accepted, moved, verdict_of, or_reply, fault_reply, accepted_after, reply_of}
 use Rattle.rg_run_spec.proofs.Laws.{is_late, is_full, is_moved, is_accepted}
 use Rattle.rg_reservoir.specs.Kept.{base}
-use Rattle.rg_recover.specs.Deciding.{verdict_on, as_verdict, answered_as, AreBefore, HasAnswers}
+use Rattle.rg_task.specs.Terms.{HasAnswers}
+use Rattle.rg_recover.specs.Deciding.{verdict_on, as_verdict, answered_as, AreBefore}
 use Rattle.rg_recover.specs.Sessions.{Sitting, IsRunning, events_of}
 use Rattle.rg_recover.specs.declared.line.Decision.TheVariants.{Accepted}
 use Rattle.rg_recover.proofs.Sound.{all_fit, time_is, long}
@@ -78,8 +80,16 @@ reply_accepted queries events event true = refl
 reply_accepted queries events event false = refl
 
 pub has_answers : (is_moved : Bool) (answers : List Answer) (reply : Reply) → reply ≡ answered_as is_moved answers → HasAnswers reply
-has_answers true answers reply is = (answers, inr is)
-has_answers false answers reply is = (answers, inl is)
+has_answers true answers reply is = subst HasAnswers (sym is) tt
+has_answers false answers reply is = subst HasAnswers (sym is) tt
+
+-- a reply that refuses a row answers none
+pub no_answers : (why : RowFault) (reply : Reply) → reply ≡ fault_reply why → HasAnswers reply → ⊥
+no_answers rows.Row reply is has = subst HasAnswers is has
+no_answers rows.Fields reply is has = subst HasAnswers is has
+no_answers rows.Time reply is has = subst HasAnswers is has
+no_answers (rows.Value column) reply is has = subst HasAnswers is has
+no_answers rows.Memory reply is has = subst HasAnswers is has
 
 pub after_accepted : (events : List Event) (event : Event) (is_moved : Bool) → events ++ event ∷ [] ≡ accepted_after events (as_verdict (Accepted event is_moved))
 after_accepted events event true = refl

@@ -12,9 +12,8 @@ use Rattle.rg_config.specs.Plans.{Planned}
 use Rattle.rg_log.specs.Filled.{HasEventsFor}
 use Rattle.rg_run_spec.specs.Stores.{Store}
 use Rattle.rg_run_spec.specs.Steps.{IsMidStep, IsMidLog}
-use Rattle.rg_task.specs.Stepping.{IsWithinLog}
+use Rattle.rg_task.specs.Stepping.{IsWithinLog, IsWithinStep}
 use Rattle.rg_open.specs.Stores.{store_of}
-use Rattle.rg_recover.specs.Stepping.{IsWithinStep}
 use Rattle.rg_recover.proofs.Within.{still_within}
 
 mid_log : (store : Store Image) (keep : Option ℕ) (chunk : List Event) (may : Image → Type 0) (u : Image) → IsMidStep store keep chunk may u → IsMidLog store chunk may u

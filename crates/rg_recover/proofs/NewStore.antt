@@ -17,12 +17,13 @@ use Rattle.rg_checkpoint.proofs.Laws.{none_slot}
 use Rattle.rg_config.specs.Plans.{Planned}
 use Rattle.rg_run_spec.specs.Output.{text_of_run}
 use Rattle.rg_open.specs.Opening.{IsFromIn}
-use Rattle.rg_open.specs.Stores.{Has, IsOfPlan}
+use Rattle.rg_open.specs.Stores.{Has, IsOfPlan, store_of}
 use Rattle.rg_restore.specs.Slots.{slot_in, IsFrom}
 use Rattle.rg_open.specs.Truth.{texts_of, IsTruthfulImage}
 use Rattle.rg_task.specs.Terms.{terms_of}
 use Rattle.rg_recover.specs.Ready.{IsReadyRun, begun_by}
-use Rattle.rg_recover.specs.Ran.{HasFinished}
+use Rattle.rg_run.specs.Begun.{course_for}
+use Rattle.rg_run.specs.UnderWay.{HasFinishedIn}
 use Rattle.rg_run.specs.declared.fault.RunFault.{RunFault}
 use Rattle.rg_run.specs.declared.fault.RunFault.TheVariants as run
 use Rattle.rg_run_spec.specs.Accepted.{events_after}
@@ -85,7 +86,7 @@ from_none plan from is = by_keep is.keep is.is
 
 -- what a run over it put, once it came to its end
 finished_anew : (plan : Planned) (schema : IsSchema plan.shape) (from : ℕ) (input : List ℕ) (h : Ledger) → IsFromIn plan bare from ⊎ (said_in h ≡ Some [])
-    → HasFinished plan (begun_by (ready_anew plan schema) from 0 input) (may_in h) (said_in h) → HasRun plan input (said_in h)
+    → HasFinishedIn (store_of plan) (course_for plan (begun_by (ready_anew plan schema) from 0 input)) (may_in h) (said_in h) → HasRun plan input (said_in h)
 finished_anew plan schema from input h is_from finished =
     let put_is : said_in h ≡ Some (ended (text_of_run (terms_of plan) [] from 0 (lines_of input))) = finished.told ∙ ap (λ (put : List ℕ). Some put) finished.done.said_is in
     let zero_from : from ≡ 0 = by_from is_from put_is in
@@ -104,7 +105,7 @@ finished_anew plan schema from input h is_from finished =
 abbrev pub Runs : Planned → List ℕ → Ledger → Ledger → Result Unit RunFault → Type 0
 Runs plan input h h' result =
     (ready : IsReadyRun plan (now_in h) (may_in h) (said_in h)) → (from : ℕ) × (IsFromIn plan ready.openable.image from ⊎ (said_in h' ≡ said_in h))
-    × OnOk result (HasFinished plan (begun_by ready from 0 input) (may_in h') (said_in h'))
+    × OnOk result (HasFinishedIn (store_of plan) (course_for plan (begun_by ready from 0 input)) (may_in h') (said_in h'))
 
 pub ran_anew : (plan : Planned) (input : List ℕ) (h h' : Ledger) (result : Result Unit RunFault) → IsSchema plan.shape → h ≡ new_host → Runs plan input h h' result → OnOk result (HasRun plan input (said_in h'))
 ran_anew plan input h h' result schema is runs =

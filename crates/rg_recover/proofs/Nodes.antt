@@ -21,6 +21,8 @@ use Rattle.rg_reservoir.specs.declared.reservoir.Reservoir.{Reservoir}
 use Rattle.rg_restore.specs.Truthful.{NodeGoes}
 use Rattle.rg_open.specs.Opened.{IsOpenedFor}
 use Rattle.rg_open.specs.Blame.{NodeRuns}
+use Rattle.rg_restore.proofs.Laws.{node_stands, node_told}
+use Rattle.rg_recover.specs.Sessions.{IsReady}
 use Rattle.rg_recover.specs.Stepping.{LogStays}
 use Rattle.rg_recover.proofs.Beside.{sound_beside, events_beside, spells_beside}
 use Rattle.rg_recover.proofs.Ready.{fed_with}
@@ -28,6 +30,20 @@ use Rattle.rg_recover.proofs.Ready.{fed_with}
 -- a node that stands, where more spots are spelled and the events are the same
 pub goes_still : (Spells Later : Spot → Type 0) (plan : Tasks) (n : ℕ) (events then : List Event) (cells : Cells) (spots : List Spot) → ((spot : Spot) → Spells spot → Later spot) → then ≡ events → NodeGoes Spells plan n events cells spots → NodeGoes Later plan n then cells spots
 goes_still Spells Later plan n events then cells spots spelled same goes = subst (λ (l : List Event). NodeGoes Later plan n l cells spots) (sym same) (record { told = told_later plan n Spells Later spots spelled goes.told; stands = goes.stands })
+
+-- each node of an engine that is ready can be carried on
+pub ready_node : {T : Type 0} (plan : Planned) (now : Option Image) (may : Image → Type 0) (is_told : Type 0) (cells : Cells) (r : Reservoir) (engine : Seen T) (texts : List (List ℕ)) → IsReady plan now may is_told cells r engine texts → (n : ℕ) → NodeRuns plan n now may is_told cells r engine
+ready_node plan now may is_told cells r engine texts ready n =
+    let events = all_events now (base r) (opened r) in
+    let spelled = Spells now (base r) (opened r) in
+    let stands = ready.in_step.stands in
+    record {
+      reservoir = ready.in_step.reservoir;
+      goes = record { told = node_told spelled (plan_for plan.queries) events engine.spots stands.spots n; stands = node_stands spelled (plan_for plan.queries) events cells engine.spots stands.rows stands.spots n };
+      tells = ready.tells;
+      serves = ready.serves;
+      plan_is = ready.plan_is;
+    }
 
 module _ {T : Type 0} (plan : Planned) (n : ℕ) (now : Option Image) (may : Image → Type 0) (is_told : Type 0) (cells : Cells) (r : Reservoir) (engine : Seen T) (runs : NodeRuns plan n now may is_told cells r engine) where
   abbrev before : List Event

@@ -19,10 +19,11 @@ use Rattle.rg_open.specs.Blame.{IsPlaced}
 use Rattle.rg_open.specs.Stores.{store_of}
 use Rattle.rg_open.specs.Within.{IsWithinOpening}
 use Rattle.rg_recover.specs.Sessions.{Sitting, events_of, stored_of}
-use Rattle.rg_recover.specs.Ran.{HasStopped}
 use Rattle.rg_recover.specs.Answered.{StaysTrue, StaysHeld, Explains, CountsGrow}
 use Rattle.rg_run.specs.Begun.{Begun, course_for}
-use Rattle.rg_recover.specs.Ready.{IsReadyRun, begun_by}
+use Rattle.rg_run.specs.Turning.{HasStoppedIn}
+use Rattle.rg_recover.specs.LivingLaws.{running_placed}
+use Rattle.rg_recover.specs.Ready.{IsReadyRun, IsReadyStore, begun_by}
 use Rattle.rg_recover.specs.RunFaults.{IsGapOrFailed}
 use Rattle.rg_recover.specs.Opened.{IsToBegin, IsOpened, IsTurnedAway, OpensOnly}
 use Rattle.rg_recover.specs.Runs.{RunsReady, RefusesUnfit, HasCause, IsWholeRun}
@@ -30,6 +31,7 @@ use Rattle.rg_recover.specs.Ran.{IsUnopened, IsLeft, Ran}
 use Rattle.rg_run.specs.declared.fault.RunFault.{RunFault}
 use Rattle.rg_run.specs.declared.fault.RunFault.TheVariants.{Damaged, SchemaDiffers, BadState, Gap, Read, Limit, Write, Disk}
 use Rattle.rg_recover.proofs.Beginning.{opening_moments, unopened, to_begin, numbers}
+use Rattle.rg_recover.proofs.Nodes.{ready_node}
 use Rattle.rg_recover.proofs.OpeningLog.{opening_log, opened_log}
 use Rattle.rg_recover.proofs.Openings.{err_is, on_ok_by, if_err_by}
 
@@ -59,10 +61,10 @@ module _ {H I : Type 0} (now : H → Option Image) (may : H → Image → Type 0
               answered = λ which. absurd (⊎_elim away.others.0 away.others.1 which);
             },
           );
-      behind = λ ready keep behind. (refl, only.within ready.openable.image keep ready.openable.told, away.over_ready ready.openable);
-      never_bad = λ ready all n comes is. not_bad fault (away.over_ready ready.openable) n (err_is fault (BadState n) is);
-      never_damaged = λ ready all p comes is. not_damaged fault (away.over_ready ready.openable) p (err_is fault (Damaged p) is);
-      never_differs = λ ready is. not_differs fault (away.over_ready ready.openable) (err_is fault SchemaDiffers is);
+      behind = λ store keep behind. (refl, only.within store.openable.image keep store.openable.told, away.over_ready store.openable);
+      never_bad = λ openable n is. not_bad fault (away.over_ready openable) n (err_is fault (BadState n) is);
+      never_damaged = λ openable p is. not_damaged fault (away.over_ready openable) p (err_is fault (Damaged p) is);
+      never_differs = λ openable is. not_differs fault (away.over_ready openable) (err_is fault SchemaDiffers is);
     }
 
     away_unfit : RefusesUnfit now may clock since said left {A = A} plan (Err fault) input input old mid
@@ -103,10 +105,19 @@ module _ {H I : Type 0} (now : H → Option Image) (may : H → Image → Type 0
   module _ {A T : Type 0} (next count from offset : ℕ) (Tells : T → Type 0) (cell : T → Cells) (named there : T → Marks) (s : Sitting T) (opened : IsOpened now may plan next count from Tells cell named there s old mid) (at : offset ≡ first) (r : Result A RunFault) (input_then : I) (new : H)
       (why : Explains now may disk_faults out_faults left faults plan next offset (Tells s.engine.table) (cell s.engine.table) s r input input_then mid new)
       (held : (es : List Event) → IsPlaced plan (now mid) (may mid) s.reservoir s.engine → ((u : Image) → may mid u → HasAtLeast (store_of plan) es u) → StaysHeld may clock since plan es mid new) where
-    left_by : (b : Begun) → IsUnopened may said plan b old mid → (f : RunFault) → (f ≡ Write) ⊎ (HasStopped plan (course_for plan b) (may new) (said new) ⊎ (new ≡ mid)) → IsLeft may said plan b f old new
+    left_by : (b : Begun) → IsUnopened may said plan b old mid → (f : RunFault) → (f ≡ Write) ⊎ (HasStoppedIn (store_of plan) (course_for plan b) (may new) (said new) ⊎ (new ≡ mid)) → IsLeft may said plan b f old new
     left_by b none f (inl write) = inl write
     left_by b none f (inr (inl stopped)) = inr (inl stopped)
     left_by b none f (inr (inr same)) = inr (inr (subst (λ (h : H). IsUnopened may said plan b old h) (sym same) none))
+
+    behind_of : (store : IsReadyStore plan (now old) (may old)) (keep : Option ℕ) → next_offset store.held < first → (input_then ≡ input) × IsWithinOpening may clock since said plan keep store.openable.image old new × IfErr r IsGapOrFailed
+    behind_of store keep behind =
+        let next_is = (opened.events store.openable.image store.held store.openable.told store.has).2 in
+        let at_gap = why.behind (omega (arith, behind, next_is, at)) in (
+          at_gap.0,
+          subst (λ (h : H). IsWithinOpening may clock since said plan keep store.openable.image old h) (sym at_gap.1) (only.within store.openable.image keep store.openable.told),
+          if_err_by r (λ f. f ≡ Gap next) IsGapOrFailed (λ f is. subst IsGapOrFailed (sym is) tt) at_gap.2,
+        )
 
     module _ (stays : (b : Begun) → IsToBegin plan b (left input) next count from offset (now mid) (may mid) (said mid) Tells cell named there s → StaysTrue may clock since said plan b (left input_then) r mid new) where
       module _ (ready : IsReadyRun plan (now old) (may old) (said old)) where
@@ -132,26 +143,18 @@ module _ {H I : Type 0} (now : H → Option Image) (may : H → Image → Type 0
             moments = moments_then clock since old mid new (StaysOnCourseSince (store_of plan) (course_for plan b) (may old) []) (StaysOnCourse (store_of plan) (course_for plan b) []) (StaysOnCourseSince (store_of plan) (course_for plan b) (may old) [])
                 (opening_moments now may clock since said plan old ready from first all s.keep mid within) true_of.moments (λ m h. h) (λ m h. inr h);
             finished = true_of.finished;
-            stopped = if_err_by r (λ f. (f ≡ Write) ⊎ (HasStopped plan (course_for plan b) (may new) (said new) ⊎ (new ≡ mid))) (λ f. IsLeft may said plan b f old new)
+            stopped = if_err_by r (λ f. (f ≡ Write) ⊎ (HasStoppedIn (store_of plan) (course_for plan b) (may new) (said new) ⊎ (new ≡ mid))) (λ f. IsLeft may said plan b f old new)
                 (left_by b (unopened now may clock since said plan old ready from first all s.keep mid within)) true_of.stopped;
             answered = true_of.answered;
           }
 
-        behind_of : (keep : Option ℕ) → next_offset ready.held < first → (input_then ≡ input) × IsWithinOpening may clock since said plan keep ready.openable.image old new × IfErr r IsGapOrFailed
-        behind_of keep behind =
-            let at_gap = why.behind (omega (arith, behind, events.2, at)) in (
-              at_gap.0,
-              subst (λ (h : H). IsWithinOpening may clock since said plan keep ready.openable.image old h) (sym at_gap.1) (only.within ready.openable.image keep ready.openable.told),
-              if_err_by r (λ f. f ≡ Gap next) IsGapOrFailed (λ f is. subst IsGapOrFailed (sym is) tt) at_gap.2,
-            )
-
       answered_ready : RunsReady now may clock since said left plan first r input input_then old new
       answered_ready = record {
         ran = λ ready all comes. (from, ran ready all comes);
-        behind = λ ready keep behind. behind_of ready keep behind;
-        never_bad = λ ready all n comes is. (true_of ready all comes).never_bad n is;
-        never_damaged = λ ready all p comes is. (true_of ready all comes).never_damaged p is;
-        never_differs = λ ready is. why.differs is;
+        behind = behind_of;
+        never_bad = λ openable n is. why.bad n (ready_node plan (now mid) (may mid) (Tells s.engine.table) (cell s.engine.table) s.reservoir s.engine s.texts (opened.running openable).ready n) is;
+        never_damaged = λ openable p is. why.undamaged p (running_placed plan (now mid) (may mid) Tells cell named there s (opened.running openable)) is;
+        never_differs = λ openable is. why.differs is;
       }
 
     answered_unfit : RefusesUnfit now may clock since said left plan r input input_then old new

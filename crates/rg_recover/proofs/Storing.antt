@@ -5,12 +5,14 @@ use Rattle.rg_host.specs.Image.{Image}
 use Rattle.rg_host.specs.Moments.{Moment, LeavesAll}
 use Rattle.rg_host.proofs.Laws.{leaves_all-none}
 use Rattle.rg_event.specs.declared.event.Event.{Event}
+use Rattle.rg_past.specs.declared.past.Spot.{Spot}
 use Rattle.rg_run_spec.specs.Stores.{Store}
 use Rattle.rg_open.specs.Stores.{store_of}
 use Rattle.rg_reservoir.specs.Kept.{Base, base, view_of, opened, room_of, cache_of, stored, all_events}
 use Rattle.rg_reservoir.specs.GoingLaws.{all_long}
+use Rattle.rg_reservoir.specs.Reached.{AsksIllegal}
 use Rattle.rg_reservoir.specs.declared.reservoir.Reservoir.{Reservoir}
-use Rattle.rg_recover.specs.Stepping.{IsWithinStep, IsStored}
+use Rattle.rg_task.specs.Stepping.{IsWithinStep, IsStored}
 use Rattle.rg_recover.specs.Storing.{HasStored, KeepsLog}
 use Rattle.rg_recover.proofs.Stays.{slots_quiet}
 use Rattle.rg_recover.proofs.Within.{quiet_within, within_more, still_stored}
@@ -44,6 +46,11 @@ module _ {H : Type 0} (now : H → Option Image) (may : H → Image → Type 0) 
   -- where nothing was stored before
   pub roomy_then : (r m s : Reservoir) (old mid new : H) → (m ≡ r) × (mid ≡ old) → LeavesAll now may clock since said mid new → base s ≡ base m → LeavesAll now may clock since said old new × (base s ≡ base r)
   roomy_then r m s old mid new same leaves stays = (subst (λ (h : H). LeavesAll now may clock since said h new) same.1 leaves, stays ∙ ap (λ (x : Reservoir). base x) same.0)
+
+-- then the look of an edge comes to an illegal chunk as before
+pub asks_still : {H : Type 0} (now : H → Option Image) (old mid : H) (r m : Reservoir) (spot : Spot) → (m ≡ r) × (mid ≡ old) → AsksIllegal (now old) (base r) (cache_of r) spot → AsksIllegal (now mid) (base m) (cache_of m) spot
+asks_still now old mid r m spot same asks =
+    subst (λ h. AsksIllegal (now h) (base m) (cache_of m) spot) (sym same.1) (subst (λ (x : Reservoir). AsksIllegal (now old) (base x) (cache_of x) spot) (sym same.0) asks)
 
 -- the stored events of a log that stays
 pub same_stored : (now then : Option Image) (m s : Reservoir) → then ≡ now → base s ≡ base m → stored then (base s) ≡ stored now (base m)

@@ -11,7 +11,7 @@ use Rattle.rg_frame.specs.Steps.{Leaves, OthersStay}
 use Rattle.rg_run_spec.specs.Stores.{Store}
 use Rattle.rg_run_spec.specs.Steps.{IsMidStep, IsStepped}
 use Rattle.rg_run_spec.proofs.Laws.{same_mid_step, same_stepped, stepped_then_mid_step}
-use Rattle.rg_recover.specs.Stepping.{IsWithinStep, IsStored}
+use Rattle.rg_task.specs.Stepping.{IsWithinStep, IsStored}
 
 -- an image after a step is one within it
 pub mid_of : (store : Store Image) (keep : Option ℕ) (chunk : List Event) (may : Image → Type 0) (u : Image) → IsStepped store keep chunk may u → IsMidStep store keep chunk may u

@@ -14,11 +14,10 @@ use Rattle.rg_run_spec.specs.Stores.{HasAtLeast, StaysOnCourse}
 use Rattle.rg_open.specs.Stores.{store_of}
 use Rattle.rg_open.specs.Blame.{NodeRuns, IsPlaced}
 use Rattle.rg_recover.specs.Sessions.{Sitting}
-use Rattle.rg_recover.specs.Ran.{HasStopped}
 use Rattle.rg_run.specs.Begun.{Begun, course_for}
 use Rattle.rg_run.specs.Reading.{IsLonger, IsWithinLimit}
-use Rattle.rg_run.specs.UnderWay.{HasAnswered}
-use Rattle.rg_recover.specs.Ran.{HasFinished}
+use Rattle.rg_run.specs.Turning.{HasStoppedIn}
+use Rattle.rg_run.specs.UnderWay.{HasAnswered, HasFinishedIn}
 use Rattle.rg_run.specs.declared.fault.RunFault.{RunFault}
 use Rattle.rg_run.specs.declared.fault.RunFault.TheVariants.{Disk, Damaged, SchemaDiffers, BadState, Gap, Read, Limit, Write}
 
@@ -27,8 +26,8 @@ module _ {H : Type 0} (may : H → Image → Type 0) (clock : H → ℕ) (since 
   -- lines were put, or nothing was done, unless a put failed; and at a read that failed all whole lines were answered.
   pub record StaysTrue {A : Type 0} (plan : Planned) (b : Begun) (left : Option (List ℕ)) (result : Result A RunFault) (old new : H) : Type 0 where
     pub moments : Moments clock since old new (StaysOnCourse (store_of plan) (course_for plan b) [])
-    pub finished : OnOk result (HasFinished plan b (may new) (said new))
-    pub stopped : IfErr result (λ fault. (fault ≡ Write) ⊎ (HasStopped plan (course_for plan b) (may new) (said new) ⊎ (new ≡ old)))
+    pub finished : OnOk result (HasFinishedIn (store_of plan) (course_for plan b) (may new) (said new))
+    pub stopped : IfErr result (λ fault. (fault ≡ Write) ⊎ (HasStoppedIn (store_of plan) (course_for plan b) (may new) (said new) ⊎ (new ≡ old)))
     pub answered : IfErr result (λ fault. (fault ≡ Read) ⊎ (fault ≡ Limit) → HasAnswered plan b left (said new) (fault ≡ Limit))
     pub never_bad : (n : ℕ) → IsErrOf result (BadState n) → ⊥
     pub never_damaged : (p : ℕ) → IsErrOf result (Damaged p) → ⊥

@@ -1,5 +1,5 @@
 -- What is decided on a line.
-use Rattle.std.specs.Prelude.{◌≡◌, ◌⊎◌, ◌<◌, ◌≤◌, ℕ, Bool, List, length, ⊤, if◌then◌else◌}
+use Rattle.std.specs.Prelude.{◌≡◌, ◌<◌, ◌≤◌, ℕ, Bool, List, length, if◌then◌else◌}
 use Rattle.rg_event.specs.Codec.{IsEventOf}
 use Rattle.rg_event.specs.Rising.{last_time}
 use Rattle.rg_event.specs.declared.event.Event.{Event}
@@ -11,6 +11,7 @@ use Rattle.rg_reservoir.specs.Kept.{base, time_of}
 use Rattle.rg_reservoir.specs.declared.reservoir.Reservoir.{Reservoir}
 use Rattle.rg_row.specs.Rows.{row_of}
 use Rattle.rg_run_spec.specs.Verdicts.{Verdict, refused, accepted, moved, verdict_of, or_reply}
+use Rattle.rg_task.specs.Terms.{HasAnswers}
 use Rattle.rg_recover.specs.Sessions.{count_in}
 use Rattle.rg_recover.specs.declared.line.Decision.{Decision}
 use Rattle.rg_recover.specs.declared.line.Decision.TheVariants.{Refused, Accepted}
@@ -37,15 +38,11 @@ pub record Follows (r : Reservoir) (offset : ℕ) (event : Event) : Type 0 where
   pub in_time : 0 < count_in r → time_of r ≤ event.time
   pub below : count_in r < (base r).limit
 
--- of the event, where one is accepted
-abbrev pub IfAccepted : Decision → (Event → Type 0) → Type 0
-IfAccepted (Accepted event is_moved) P = P event
-IfAccepted (Refused reply) P = ⊤
+-- an accepted event has that offset and may be taken, and a reply that refuses a line answers none
+abbrev pub MayBe : Reservoir → ℕ → Decision → Type 0
+MayBe r offset (Accepted event is_moved) = Follows r offset event
+MayBe r offset (Refused reply) = HasAnswers reply → ⊥
 
 -- the reply of these answers to an event, with the last time in place of its own or not
 abbrev pub answered_as : Bool → List Answer → Reply
 answered_as is_moved answers = if is_moved then Moved answers else Answered answers
-
--- it has the answers to an accepted event
-abbrev pub HasAnswers : Reply → Type 0
-HasAnswers reply = (answers : List Answer) × ((reply ≡ Answered answers) ⊎ (reply ≡ Moved answers))

@@ -10,6 +10,7 @@ use Rattle.rg_open.specs.Stores.{store_of}
 use Rattle.rg_recover.specs.Sessions.{Sitting, IsRunning}
 use Rattle.rg_task.specs.View.{View}
 use Rattle.rg_recover.specs.Living.{state_of, IsIllegalIn, SameLog}
+use Rattle.rg_recover.specs.Taking.{AsksIllegalChunk}
 use Rattle.rg_recover.specs.LivingLaws.{running_next, running_few, running_placed, log-then}
 
 -- How a contract sees what has a host and a session: by what it sees of these two. `names` says that the later one is of the same two.
@@ -29,6 +30,7 @@ live_view host session names same join now may clock since said tells cell named
   node = λ plan n p. NodeRuns plan n (now (host p)) (may (host p)) (tells (session p).engine.table) (cell (session p).engine.table) (session p).reservoir (session p).engine;
   placed = λ plan p. IsPlaced plan (now (host p)) (may (host p)) (session p).reservoir (session p).engine;
   illegal = λ place p. IsIllegalIn (now (host p)) (session p) place;
+  asks_illegal = λ p. AsksIllegalChunk (now (host p)) (session p).reservoir (session p).engine.spots;
   goes = λ p q. names p q × SameLog (session p) (session q);
   whole = λ p. refl;
   next_is = λ plan p runs. running_next plan (now (host p)) (may (host p)) tells cell named there (session p) runs;

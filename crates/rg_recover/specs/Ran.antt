@@ -1,28 +1,16 @@
 -- How a run over a store went.
-use Rattle.std.specs.Prelude.{◌≡◌, ◌⊎◌, ℕ, List, [], Option, Some, OnOk, IfErr, Result}
+use Rattle.std.specs.Prelude.{◌≡◌, ◌⊎◌, ℕ, List, [], Option, OnOk, IfErr, Result}
 use Rattle.rg_host.specs.Image.{Image}
 use Rattle.rg_host.specs.Moments.{Moment, Moments}
 use Rattle.rg_config.specs.Plans.{Planned}
-use Rattle.rg_run_spec.specs.Stores.{Course, IsKeptInStore, StaysOnCourseSince}
-use Rattle.rg_run_spec.specs.Turns.{IsDone, IsStopped}
+use Rattle.rg_run_spec.specs.Stores.{IsKeptInStore, StaysOnCourseSince}
 use Rattle.rg_open.specs.Stores.{store_of}
 use Rattle.rg_open.specs.Opening.{IsFromIn}
 use Rattle.rg_run.specs.Begun.{Begun, course_for}
-use Rattle.rg_run.specs.UnderWay.{HasAnswered}
+use Rattle.rg_run.specs.Turning.{HasStoppedIn}
+use Rattle.rg_run.specs.UnderWay.{HasAnswered, HasFinishedIn}
 use Rattle.rg_run.specs.declared.fault.RunFault.{RunFault}
 use Rattle.rg_run.specs.declared.fault.RunFault.TheVariants.{Read, Limit, Write}
-
--- The run stopped where only whole lines were put: the host tells them, and whatever image is left is kept.
-pub record HasStopped (plan : Planned) (course : Course) (may : Image → Type 0) (said : Option (List ℕ)) : Type 0 where
-  pub put : List ℕ
-  pub told : said ≡ Some put
-  pub stopped : IsStopped (store_of plan) course may put
-
--- All was put, and each image that might be left has all accepted events.
-pub record HasFinished (plan : Planned) (b : Begun) (may : Image → Type 0) (said : Option (List ℕ)) : Type 0 where
-  pub put : List ℕ
-  pub told : said ≡ Some put
-  pub done : IsDone (store_of plan) (course_for plan b) may put
 
 module _ {H : Type 0} (may : H → Image → Type 0) (said : H → Option (List ℕ)) where
   -- Nothing was put, and whatever image is left might have been left before, or is kept as by a run that has put nothing yet.
@@ -32,7 +20,7 @@ module _ {H : Type 0} (may : H → Image → Type 0) (said : H → Option (List 
 
   -- A run that ended with this fault: unless a put failed, whole lines were put and each image is kept, or the store was not opened.
   abbrev pub IsLeft : Planned → Begun → RunFault → H → H → Type 0
-  IsLeft plan b fault old new = (fault ≡ Write) ⊎ (HasStopped plan (course_for plan b) (may new) (said new) ⊎ IsUnopened plan b old new)
+  IsLeft plan b fault old new = (fault ≡ Write) ⊎ (HasStoppedIn (store_of plan) (course_for plan b) (may new) (said new) ⊎ IsUnopened plan b old new)
 
 module _ {H : Type 0} (may : H → Image → Type 0) (clock : H → ℕ) (since : H → ℕ → Moment → Type 0) (said : H → Option (List ℕ)) where
   -- How a run went that began so over an image v, and of whose input this is left: at each moment the image and what was put are on its course; at its
@@ -40,6 +28,6 @@ module _ {H : Type 0} (may : H → Image → Type 0) (clock : H → ℕ) (since 
   pub record Ran {A : Type 0} (plan : Planned) (b : Begun) (v : Image) (left : Option (List ℕ)) (result : Result A RunFault) (old new : H) : Type 0 where
     pub is_from : IsFromIn plan v b.from ⊎ (said new ≡ said old)
     pub moments : Moments clock since old new (StaysOnCourseSince (store_of plan) (course_for plan b) (may old) [])
-    pub finished : OnOk result (HasFinished plan b (may new) (said new))
+    pub finished : OnOk result (HasFinishedIn (store_of plan) (course_for plan b) (may new) (said new))
     pub stopped : IfErr result (λ fault. IsLeft may said plan b fault old new)
     pub answered : IfErr result (λ fault. (fault ≡ Read) ⊎ (fault ≡ Limit) → HasAnswered plan b left (said new) (fault ≡ Limit))

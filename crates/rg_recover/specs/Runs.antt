@@ -10,11 +10,12 @@ use Rattle.rg_event.specs.declared.event.Event.{Event}
 use Rattle.rg_config.specs.Plans.{Planned}
 use Rattle.rg_reservoir.specs.Attached.{IsIllegalOpened}
 use Rattle.rg_open.specs.Blame.{IsBlamed}
+use Rattle.rg_open.specs.Opening.{IsOpenable}
 use Rattle.rg_open.specs.Stores.{Has}
 use Rattle.rg_open.specs.Unfit.{HasOtherSchema, HasBadFrame, IsUnfit, IsLeftAlone}
 use Rattle.rg_open.specs.Within.{IsWithinOpening}
 use Rattle.rg_recover.specs.Answered.{CountsGrow, HoldsLog}
-use Rattle.rg_recover.specs.Ready.{IsReadyRun, begun_by}
+use Rattle.rg_recover.specs.Ready.{IsReadyRun, IsReadyStore, begun_by}
 use Rattle.rg_recover.specs.RunFaults.{SaysWhy, IsGapOrFailed}
 use Rattle.rg_run.specs.Reading.{IsLonger, IsWithinLimit}
 use Rattle.rg_recover.specs.Ran.{Ran}
@@ -22,13 +23,13 @@ use Rattle.rg_run.specs.declared.fault.RunFault.{RunFault}
 use Rattle.rg_run.specs.declared.fault.RunFault.TheVariants.{Disk, Damaged, SchemaDiffers, BadState, Gap, Read, Limit, Write}
 
 module _ {H I : Type 0} (now : H → Option Image) (may : H → Image → Type 0) (clock : H → ℕ) (since : H → ℕ → Moment → Type 0) (said : H → Option (List ℕ)) (left : I → Option (List ℕ)) where
-  -- A run over a store that is ready, whose input tells its bytes.
+  -- A run over a store that is ready; of one whose input tells its bytes, how it went.
   pub record RunsReady {A : Type 0} (plan : Planned) (first : ℕ) (result : Result A RunFault) (input input_then : I) (old new : H) : Type 0 where
     pub ran : (ready : IsReadyRun plan (now old) (may old) (said old)) (all : List ℕ) → left input ≡ Some all → (from : ℕ) × Ran may clock since said plan (begun_by ready from first all) ready.openable.image (left input_then) result old new
-    pub behind : (ready : IsReadyRun plan (now old) (may old) (said old)) (keep : Option ℕ) → next_offset ready.held < first → (input_then ≡ input) × IsWithinOpening may clock since said plan keep ready.openable.image old new × IfErr result IsGapOrFailed
-    pub never_bad : (ready : IsReadyRun plan (now old) (may old) (said old)) (all : List ℕ) (n : ℕ) → left input ≡ Some all → IsErrOf result (BadState n) → ⊥
-    pub never_damaged : (ready : IsReadyRun plan (now old) (may old) (said old)) (all : List ℕ) (p : ℕ) → left input ≡ Some all → IsErrOf result (Damaged p) → ⊥
-    pub never_differs : IsReadyRun plan (now old) (may old) (said old) → IsErrOf result SchemaDiffers → ⊥
+    pub behind : (store : IsReadyStore plan (now old) (may old)) (keep : Option ℕ) → next_offset store.held < first → (input_then ≡ input) × IsWithinOpening may clock since said plan keep store.openable.image old new × IfErr result IsGapOrFailed
+    pub never_bad : IsOpenable plan (now old) (may old) → (n : ℕ) → IsErrOf result (BadState n) → ⊥
+    pub never_damaged : IsOpenable plan (now old) (may old) → (p : ℕ) → IsErrOf result (Damaged p) → ⊥
+    pub never_differs : IsOpenable plan (now old) (may old) → IsErrOf result SchemaDiffers → ⊥
 
   -- A run over an image that isn't fit for its plan.
   pub record RefusesUnfit {A : Type 0} (plan : Planned) (result : Result A RunFault) (input input_then : I) (old new : H) : Type 0 where

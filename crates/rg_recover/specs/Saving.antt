@@ -22,7 +22,8 @@ use Rattle.rg_open.specs.Stores.{store_of}
 use Rattle.rg_open.specs.Truth.{texts_of, IsTrueOf}
 use Rattle.rg_recover.specs.Sessions.{Sitting, HasKept, IsRunning, count_in}
 use Rattle.rg_recover.specs.Sparing.{SparesOne}
-use Rattle.rg_recover.specs.Stepping.{IsWithinStep, LogStays}
+use Rattle.rg_task.specs.Stepping.{IsWithinStep}
+use Rattle.rg_recover.specs.Stepping.{LogStays}
 use Rattle.rg_recover.specs.declared.fault.TaskFault.{TaskFault}
 use Rattle.rg_recover.specs.declared.fault.TaskFault.TheVariants.{Disk, Memory, Table}
 use Rattle.rg_recover.specs.declared.payload.Payload.{Payload}

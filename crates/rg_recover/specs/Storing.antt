@@ -13,7 +13,8 @@ use Rattle.rg_open.specs.Stores.{store_of}
 use Rattle.rg_open.specs.Opened.{IsOpenedFor, IsInStep}
 use Rattle.rg_recover.specs.Sessions.{count_in}
 use Rattle.rg_recover.specs.Sparing.{IsSpared}
-use Rattle.rg_recover.specs.Stepping.{IsWithinStep, IsStored, SlotsStay}
+use Rattle.rg_task.specs.Stepping.{IsWithinStep, IsStored}
+use Rattle.rg_recover.specs.Stepping.{SlotsStay}
 use Rattle.rg_recover.specs.declared.fault.TaskFault.{TaskFault}
 use Rattle.rg_recover.specs.declared.fault.TaskFault.TheVariants.{Disk, Damaged, BadState, Memory, Ended, Table}
 

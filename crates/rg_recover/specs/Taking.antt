@@ -1,5 +1,5 @@
 -- What a call does that lets an engine take an event over a reservoir.
-use Rattle.std.specs.Prelude.{◌≡◌, ◌≤◌, ◌<◌, ◌++◌, [], ◌∷◌, ℕ, List, Option, Result, length, false, IfOk, OnOk, IsErrOf}
+use Rattle.std.specs.Prelude.{◌≡◌, ◌≤◌, ◌<◌, ◌++◌, [], ◌∷◌, ℕ, List, Option, Some, Result, length, slice_get, false, IfOk, OnOk, IsErrOf}
 use Rattle.std.specs.Option.{ForSome}
 use Rattle.rg_bytes.specs.Counts.{Rose}
 use Rattle.rg_host.specs.Image.{Image}
@@ -13,17 +13,20 @@ use Rattle.rg_config.specs.Plans.{Planned}
 use Rattle.rg_state.specs.Changes.{Marks}
 use Rattle.rg_state.specs.Keeping.{TableKept}
 use Rattle.rg_state.specs.Rows.{Cells}
+use Rattle.rg_past.specs.declared.past.Spot.{Spot}
 use Rattle.rg_window.specs.Placed.{AreWithin}
 use Rattle.rg_engine.specs.Seen.{Seen}
 use Rattle.rg_engine.specs.Since.{KeepsSince}
 use Rattle.rg_reservoir.specs.Chain.{IsIllegalBy}
-use Rattle.rg_reservoir.specs.Kept.{base, view_of, opened, room_of, log_of, next_of, time_of, stored, all_events}
+use Rattle.rg_reservoir.specs.Kept.{base, view_of, opened, room_of, cache_of, log_of, next_of, time_of, stored, all_events}
+use Rattle.rg_reservoir.specs.Reached.{AsksIllegal}
 use Rattle.rg_reservoir.specs.declared.reservoir.Reservoir.{Reservoir}
 use Rattle.rg_open.specs.Stores.{store_of}
 use Rattle.rg_open.specs.Blame.{NodeRuns, IsPlaced}
 use Rattle.rg_open.specs.Opened.{IsOpenedFor}
 use Rattle.rg_recover.specs.Sessions.{IsReady, count_in}
-use Rattle.rg_recover.specs.Stepping.{IsWithinStep, IsStored, SlotsStay}
+use Rattle.rg_task.specs.Stepping.{IsWithinStep, IsStored}
+use Rattle.rg_recover.specs.Stepping.{SlotsStay}
 use Rattle.rg_recover.specs.Storing.{CanStore, KeepsLog}
 use Rattle.rg_recover.specs.declared.fault.TaskFault.{TaskFault}
 use Rattle.rg_recover.specs.declared.fault.TaskFault.TheVariants.{Disk, Damaged, BadState, Ended, Table}
@@ -38,6 +41,13 @@ pub record CanTake {T : Type 0} (now : Option Image) (r : Reservoir) (engine : S
   pub below : count_in r < (base r).limit
   pub within : AreWithin engine.spots (count_in r)
   pub going : engine.ended ≡ false
+
+-- An edge stands at a spot whose look comes to an illegal chunk of the log, as reads give it.
+pub record AsksIllegalChunk (now : Option Image) (r : Reservoir) (spots : List Spot) : Type 0 where
+  pub edge : ℕ
+  pub spot : Spot
+  pub stands : slice_get spots edge ≡ Some spot
+  pub asks : AsksIllegal now (base r) (cache_of r) spot
 
 module _ {H T : Type 0} (now : H → Option Image) (may : H → Image → Type 0) (clock : H → ℕ) (since : H → ℕ → Moment → Type 0) (said : H → Option (List ℕ)) (tells : T → Type 0) (cells : T → Cells) where
   -- By a ready engine: the answers are those from scratch, and it is ready again, behind a step that stores the open chunk where there
@@ -61,11 +71,13 @@ module _ {H T : Type 0} (now : H → Option Image) (may : H → Image → Type 0
     pub undamaged : (plan : Planned) (p : ℕ) → IsPlaced plan (now old) (may old) r engine → IsErrOf result (Damaged p) → ⊥
 
 module _ {H T : Type 0} (now : H → Option Image) (may : H → Image → Type 0) (clock : H → ℕ) (since : H → ℕ → Moment → Type 0) (said : H → Option (List ℕ)) (disk_faults out_faults : H → ℕ) (tells : T → Type 0) (named there : T → Marks) (cells : T → Cells) (faults : T → ℕ) where
-  -- Of any engine and any log: what stays, what is written of a log of a plan, why an event was refused, and that no file is written where there is room.
+  -- Of any engine and any log: what stays, what is written of a log of a plan, why an event was refused, and that where there is room no file is written, and none is
+  -- taken where an edge comes to an illegal chunk.
   pub record TakesEvent {A : Type 0} (result : Result A TaskFault) (r s : Reservoir) (engine then : Seen T) (old new : H) : Type 0 where
     pub log : KeepsLog said disk_faults out_faults r s old new
     pub within_step : (plan : Planned) (keep : Option ℕ) → IsOpenedFor plan (now old) (may old) r → IsWithinStep may clock since said (store_of plan) keep (opened r) old new
     pub roomy : length (opened r) < room_of r → LeavesAll now may clock since said old new × (base s ≡ base r)
+    pub legal : length (opened r) < room_of r → AsksIllegalChunk (now old) r engine.spots → OnOk result ⊥
     pub fits : length (opened s) ≤ room_of s
     pub within : AreWithin then.spots (count_in s)
     pub plan_stays : then.plan ≡ engine.plan

@@ -12,7 +12,7 @@ ghost use Rattle.rg_reservoir.specs.Kept.{base, view_of, opened, cache_of, loads
 ghost use Rattle.rg_open.specs.Stores.{store_of};
 ghost use Rattle.rg_open.specs.Blame.{NodeRuns, IsPlaced};
 ghost use Rattle.rg_recover.specs.Sessions.{HasKept, IsRunning, events_of, stored_of};
-ghost use Rattle.rg_recover.specs.Stepping.{IsWithinStep, IsStored};
+ghost use Rattle.rg_task.specs.Stepping.{IsWithinStep, IsStored};
 
 use crate::fault::{TaskFault, reservoir_fault};
 use crate::session::Session;

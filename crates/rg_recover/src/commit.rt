@@ -7,10 +7,10 @@ ghost use Rattle.rg_reservoir.specs.Kept.{base, view_of, opened, room_of, cache_
 ghost use Rattle.rg_open.specs.Stores.{store_of};
 ghost use Rattle.rg_open.specs.Blame.{NodeRuns, IsPlaced};
 ghost use Rattle.rg_open.specs.Opened.{IsOpenedFor};
-ghost use Rattle.rg_task.specs.Stepping.{IsWithinLog};
+ghost use Rattle.rg_task.specs.Stepping.{IsWithinLog, IsWithinStep, IsStored};
 ghost use Rattle.rg_recover.specs.Sessions.{HasKept, IsRunning, count_in, events_of, stored_of};
 ghost use Rattle.rg_recover.specs.Sparing.{IsSpared};
-ghost use Rattle.rg_recover.specs.Stepping.{IsWithinStep, IsStored, SlotsStay};
+ghost use Rattle.rg_recover.specs.Stepping.{SlotsStay};
 ghost use Rattle.rg_recover.specs.Storing.{CanStore, StoresChunk, KeepsEvents, HasStoringCause};
 
 use crate::fault::{TaskFault, reservoir_fault};

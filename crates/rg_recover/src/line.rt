@@ -17,10 +17,11 @@ ghost use Rattle.rg_run_spec.specs.Verdicts.{accepted_after, fault_reply, or_rep
 ghost use Rattle.rg_open.specs.Stores.{store_of};
 ghost use Rattle.rg_open.specs.Blame.{NodeRuns, IsPlaced};
 ghost use Rattle.rg_open.specs.Opened.{IsOpenedFor};
-ghost use Rattle.rg_task.specs.Stepping.{IsWithinLog};
-ghost use Rattle.rg_recover.specs.Deciding.{verdict_on, as_verdict, answered_as, AreBefore, Follows, IfAccepted, HasAnswers};
+ghost use Rattle.rg_task.specs.Stepping.{IsWithinLog, IsWithinStep, IsStored};
+ghost use Rattle.rg_task.specs.Terms.{HasAnswers};
+ghost use Rattle.rg_recover.specs.Deciding.{verdict_on, as_verdict, answered_as, AreBefore, MayBe};
 ghost use Rattle.rg_recover.specs.Sessions.{HasKept, IsRunning, count_in, events_of, stored_of};
-ghost use Rattle.rg_recover.specs.Stepping.{IsWithinStep, IsStored};
+ghost use Rattle.rg_recover.specs.Taking.{AsksIllegalChunk};
 
 use crate::fault::TaskFault;
 use crate::session::Session;
@@ -84,7 +85,7 @@ fn is_late(time: u64, last: u64, grace: u64) -> bool
 fn judge(reservoir: &Reservoir, most: u64, grace: u64, event: Event) -> Decision
     requires fits { IsEventOf (base reservoir.now).shape.fields event }
     ensures says { (events : List TheEvent) → AreBefore events reservoir.now → as_verdict result ≡ verdict_of most grace events (Ok event) }
-    ensures accepts { most ≡ (base reservoir.now).limit → IfAccepted result (Follows reservoir.now event.offset) }
+    ensures accepts { most ≡ (base reservoir.now).limit → MayBe reservoir.now event.offset result }
 {
     let last = last_of(reservoir);
     if is_late(event.time, last, grace) {
@@ -114,7 +115,7 @@ impl<T: Table> Session<T> {
         requires small { offset < 2 ^ 62 }
         ensures says { (events : List TheEvent) → AreBefore events self.now.reservoir →
             IfOk result (λ decision. as_verdict decision ≡ verdict_of (base self.now.reservoir).limit self.now.grace events (or_reply (row_of (base self.now.reservoir).shape.fields offset line.now))) }
-        ensures accepts { IfOk result (λ decision. IfAccepted decision (Follows self.now.reservoir offset)) }
+        ensures accepts { IfOk result (MayBe self.now.reservoir offset) }
     {
         match read_row(self.alloc, &self.schema, offset, line) {
             Ok(event) => Ok(judge(&self.reservoir, self.most, self.grace, event)),
@@ -183,6 +184,11 @@ impl<T: Table> Session<T> {
 
         // Where there is room, no file is written.
         ensures roomy { length (opened self.old.reservoir) < room_of self.old.reservoir → LeavesAll H.now H.may H.clock H.since H.said host.old host.new × (base self.new.reservoir ≡ base self.old.reservoir) }
+
+        // Over a log that isn't legal: where there is room, and the look of an edge comes to an illegal chunk, no event is
+        // taken and none is answered.
+        ensures legal { length (opened self.old.reservoir) < room_of self.old.reservoir → AsksIllegalChunk (H.now host.old) self.old.reservoir self.old.engine.spots →
+            IfOk result (λ reply. (HasAnswers reply → ⊥) × (self.new ≡ self.old) × (host.new ≡ host.old)) }
 
         ensures refused { IfOk result (λ reply. HasAnswers reply ⊎ ((self.new ≡ self.old) × (host.new ≡ host.old) × (steps.new ≡ steps.old))) }
 

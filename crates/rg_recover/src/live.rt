@@ -54,6 +54,7 @@ impl<'a, H: Host, T: Table, L: Ledger> Task for Live<'a, H, T, L> {
     ghost use Rattle.rg_reservoir.specs.Kept.{opened, room_of};
     ghost use Rattle.rg_recover.specs.Sessions.{IsRunning};
     ghost use Rattle.rg_recover.specs.Living.{state_of, IsIllegalIn, SameLog};
+    ghost use Rattle.rg_recover.specs.Taking.{AsksIllegalChunk};
     ghost use Rattle.rg_recover.specs.LivingLaws.{running_next, running_few, running_placed, log-then};
 
     ghost view = { record {
@@ -69,6 +70,7 @@ impl<'a, H: Host, T: Table, L: Ledger> Task for Live<'a, H, T, L> {
       node = λ plan n p. NodeRuns plan n (H.now p.host.now) (H.may p.host.now) (T.tells p.session.now.engine.table) (T.cell p.session.now.engine.table) p.session.now.reservoir p.session.now.engine;
       placed = λ plan p. IsPlaced plan (H.now p.host.now) (H.may p.host.now) p.session.now.reservoir p.session.now.engine;
       illegal = λ place p. IsIllegalIn (H.now p.host.now) p.session.now place;
+      asks_illegal = λ p. AsksIllegalChunk (H.now p.host.now) p.session.now.reservoir p.session.now.engine.spots;
       goes = λ p q. ((q.session.ghost_name ≡ p.session.ghost_name) × (q.host.ghost_name ≡ p.host.ghost_name) × (q.steps.ghost_name ≡ p.steps.ghost_name)) × SameLog p.session.now q.session.now;
       whole = λ p. refl;
       next_is = λ plan p runs. running_next plan (H.now p.host.now) (H.may p.host.now) T.tells T.cell T.named T.there p.session.now runs;

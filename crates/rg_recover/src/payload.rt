@@ -1,4 +1,4 @@
-ghost use Rattle.std.specs.Prelude.{◌≡◌, ◌⊎◌, ◌<◌, [], length, true, false, IfOk, IfErr, OnOk, IfSome, IfNone, Some};
+ghost use Rattle.std.specs.Prelude.{◌≡◌, ◌⊎◌, ◌<◌, [], ℕ, length, true, false, IfOk, IfErr, OnOk, IfSome, IfNone, Some};
 ghost use Rattle.rg_bytes.specs.Counts.{Rose};
 ghost use Rattle.rg_checkpoint.specs.Slots.{ReachesSlots, sizes_in, with_sizes};
 ghost use Rattle.rg_checkpoint.specs.Writing.{Encodes, EncodesChanges};
@@ -51,13 +51,15 @@ fn kept_of(slots: &Slots, keep: Option<u32>) -> Option<(u32, SlotSizes)>
     }
 }
 
-/// The fault of a table that couldn't write its rows.
+/// What a fault of a table that writes its rows is to a session: no state is judged.
 fn want_of(fault: TableFault) -> TaskFault
+    requires { (n : ℕ) → fault ≡ TableFault.BadState n → ⊥ }
     ensures { (fault ≡ TableFault.Disk) × (result ≡ TaskFault.Table) ⊎ (result ≡ TaskFault.Memory) }
 {
     match fault {
+        TableFault::BadState(_) => unreachable!(),
+        TableFault::Memory => TaskFault::Memory,
         TableFault::Disk => TaskFault::Table,
-        _ => TaskFault::Memory,
     }
 }
 

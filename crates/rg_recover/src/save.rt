@@ -10,11 +10,10 @@ ghost use Rattle.rg_checkpoint.specs.Slots.{ReachesSlots, other_of};
 ghost use Rattle.rg_open.specs.Stores.{store_of};
 ghost use Rattle.rg_open.specs.Blame.{NodeRuns, IsPlaced};
 ghost use Rattle.rg_open.specs.Opened.{IsOpenedFor};
-ghost use Rattle.rg_task.specs.Stepping.{IsWithinLog};
+ghost use Rattle.rg_task.specs.Stepping.{IsWithinLog, IsWithinStep, IsStored};
 ghost use Rattle.rg_recover.specs.Saving.{IsSaved, SavesByRule, SavesExactly, IsExtended, RunsOn, IsBeside, IsSavedAs, IsSavedNow, IsLeft, IsToSave};
 ghost use Rattle.rg_recover.specs.Sessions.{HasKept, IsRunning, count_in, events_of, stored_of};
 ghost use Rattle.rg_recover.specs.Sparing.{IsSpared, SparesOne};
-ghost use Rattle.rg_recover.specs.Stepping.{IsWithinStep, IsStored};
 
 use crate::fault::TaskFault;
 use crate::payload::{choose_payload, mark, put_payload};

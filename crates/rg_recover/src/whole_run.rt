@@ -9,11 +9,12 @@ ghost use Rattle.rg_config.specs.Plans.{planned};
 ghost use Rattle.rg_config.specs.Read.{IsReadPlan};
 ghost use Rattle.rg_reservoir.specs.Attached.{IsForeign, IsBadFrame, IsIllegalOpened};
 ghost use Rattle.rg_open.specs.Blame.{IsBlamed};
+ghost use Rattle.rg_open.specs.Opening.{IsOpenable};
 ghost use Rattle.rg_open.specs.Stores.{Has};
 ghost use Rattle.rg_open.specs.Unfit.{IsUnfit, IsLeftAlone};
 ghost use Rattle.rg_open.specs.Within.{IsWithinOpening};
 ghost use Rattle.rg_recover.specs.Answered.{HoldsLog};
-ghost use Rattle.rg_recover.specs.Ready.{IsReadyRun, begun_by};
+ghost use Rattle.rg_recover.specs.Ready.{IsReadyRun, IsReadyStore, begun_by};
 ghost use Rattle.rg_recover.specs.RunFaults.{SaysWhy, IsGapOrFailed};
 ghost use Rattle.rg_run.specs.Answered.{IsFresh};
 ghost use Rattle.rg_run.specs.Reading.{IsLonger, IsWithinLimit};
@@ -46,13 +47,15 @@ pub fn run<I: Source, H: Host, L: Ledger>(
     // Over a store whose images are truthful, and an input that tells its bytes.
     ensures ran { (ready : IsReadyRun (planned plan.now) (H.now host.old) (H.may host.old) (H.said host.old)) (all : List ℕ) → I.left input.old ≡ Some all →
         (from : ℕ) × Ran H.may H.clock H.since H.said (planned plan.now) (begun_by ready from first all) ready.openable.image (I.left input.new) result host.old host.new }
-    ensures behind { (ready : IsReadyRun (planned plan.now) (H.now host.old) (H.may host.old) (H.said host.old)) (keep : Option ℕ) → next_offset ready.held < first →
-        (input.new ≡ input.old) × IsWithinOpening H.may H.clock H.since H.said (planned plan.now) keep ready.openable.image host.old host.new × IfErr result IsGapOrFailed }
 
-    // Over a ready store it is never refused for a bad state, for damage or for another schema.
-    ensures never_bad { (ready : IsReadyRun (planned plan.now) (H.now host.old) (H.may host.old) (H.said host.old)) (all : List ℕ) (n : ℕ) → I.left input.old ≡ Some all → IsErrOf result (RunFault.BadState n) → ⊥ }
-    ensures never_damaged { (ready : IsReadyRun (planned plan.now) (H.now host.old) (H.may host.old) (H.said host.old)) (all : List ℕ) (p : ℕ) → I.left input.old ≡ Some all → IsErrOf result (RunFault.Damaged p) → ⊥ }
-    ensures never_differs { IsReadyRun (planned plan.now) (H.now host.old) (H.may host.old) (H.said host.old) → IsErrOf result RunFault.SchemaDiffers → ⊥ }
+    // Over such a store, whatever input and output tell: where its first line is behind the store's next offset, nothing is read or put.
+    ensures behind { (store : IsReadyStore (planned plan.now) (H.now host.old) (H.may host.old)) (keep : Option ℕ) → next_offset store.held < first →
+        (input.new ≡ input.old) × IsWithinOpening H.may H.clock H.since H.said (planned plan.now) keep store.openable.image host.old host.new × IfErr result IsGapOrFailed }
+
+    // It is never refused for a bad state, for damage or for another schema.
+    ensures never_bad { IsOpenable (planned plan.now) (H.now host.old) (H.may host.old) → (n : ℕ) → IsErrOf result (RunFault.BadState n) → ⊥ }
+    ensures never_damaged { IsOpenable (planned plan.now) (H.now host.old) (H.may host.old) → (p : ℕ) → IsErrOf result (RunFault.Damaged p) → ⊥ }
+    ensures never_differs { IsOpenable (planned plan.now) (H.now host.old) (H.may host.old) → IsErrOf result RunFault.SchemaDiffers → ⊥ }
 
     // Over a legal log, whatever the slots hold: each image of a moment, and each that is left, might have been left at the start or has
     // the log's events, and maybe more behind them.

@@ -8,6 +8,7 @@ use Rattle.rg_engine.specs.declared.fault.EngineFault.TheVariants as engine
 use Rattle.rg_replay.specs.declared.fault.ReplayFault.{ReplayFault}
 use Rattle.rg_replay.specs.declared.fault.ReplayFault.TheVariants.{Disk, Damaged, SchemaDiffers, BadState, Memory}
 
+-- of a log that is opened to be read; that it is full or has ended never comes
 abbrev pub of_reservoir : ReservoirFault → ReplayFault
 of_reservoir log.Disk = Disk
 of_reservoir (log.Damaged place) = Damaged place
@@ -16,6 +17,7 @@ of_reservoir log.Full = Memory
 of_reservoir log.Memory = Memory
 of_reservoir log.Ended = Memory
 
+-- of the engine of a replay; that its past is full, that it or its past has ended, and that a call of its table failed never comes
 abbrev pub of_engine : EngineFault → ReplayFault
 of_engine (engine.Past past.Disk) = Disk
 of_engine (engine.Past (past.Damaged place)) = Damaged place

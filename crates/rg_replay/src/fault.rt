@@ -1,3 +1,6 @@
+ghost use Rattle.std.specs.Prelude.{◌≡◌};
+ghost use Rattle.rg_replay.specs.Faults.{of_reservoir, of_engine};
+
 use rg_bytes::Memory;
 use rg_engine::EngineFault;
 use rg_past::PastFault;
@@ -51,44 +54,40 @@ impl From<Memory> for ReplayFault {
     }
 }
 
-/// The faults of a log that is opened to be read; `Full` and `Ended` aren't among them.
-impl From<ReservoirFault> for ReplayFault {
-    ghost use Rattle.std.specs.Prelude.{◌≡◌};
-    ghost use Rattle.rg_replay.specs.Faults.{of_reservoir};
-
-    ghost from_gives = { λ reservoir fault. fault ≡ of_reservoir reservoir };
-
-    fn from(reservoir: ReservoirFault) -> ReplayFault {
-        match reservoir {
-            ReservoirFault::Disk => ReplayFault::Disk,
-            ReservoirFault::Damaged(place) => ReplayFault::Damaged(place),
-            ReservoirFault::SchemaDiffers => ReplayFault::SchemaDiffers,
-            ReservoirFault::Full => ReplayFault::Memory,
-            ReservoirFault::Memory => ReplayFault::Memory,
-            ReservoirFault::Ended => ReplayFault::Memory,
-        }
+/// What a fault of a log that is opened to be read is to a replay: nothing is appended, and the log hasn't ended.
+pub(crate) fn reservoir_fault(fault: ReservoirFault) -> ReplayFault
+    requires full { fault ≡ ReservoirFault.Full → ⊥ }
+    requires ended { fault ≡ ReservoirFault.Ended → ⊥ }
+    ensures { result ≡ of_reservoir fault }
+{
+    match fault {
+        ReservoirFault::Disk => ReplayFault::Disk,
+        ReservoirFault::Damaged(place) => ReplayFault::Damaged(place),
+        ReservoirFault::SchemaDiffers => ReplayFault::SchemaDiffers,
+        ReservoirFault::Full => unreachable!(),
+        ReservoirFault::Memory => ReplayFault::Memory,
+        ReservoirFault::Ended => unreachable!(),
     }
 }
 
-/// The faults of an engine over a table in memory and a past that is read alone: that it or the past had
-/// ended, that the past is full, and a failed call of the table aren't among them.
-impl From<EngineFault> for ReplayFault {
-    ghost use Rattle.std.specs.Prelude.{◌≡◌};
-    ghost use Rattle.rg_replay.specs.Faults.{of_engine};
-
-    ghost from_gives = { λ engine fault. fault ≡ of_engine engine };
-
-    fn from(engine: EngineFault) -> ReplayFault {
-        match engine {
-            EngineFault::Past(PastFault::Disk) => ReplayFault::Disk,
-            EngineFault::Past(PastFault::Damaged(place)) => ReplayFault::Damaged(place),
-            EngineFault::Past(PastFault::Full) => ReplayFault::Memory,
-            EngineFault::Past(PastFault::Memory) => ReplayFault::Memory,
-            EngineFault::Past(PastFault::Ended) => ReplayFault::Memory,
-            EngineFault::BadState(node) => ReplayFault::BadState(node),
-            EngineFault::Memory => ReplayFault::Memory,
-            EngineFault::Ended => ReplayFault::Memory,
-            EngineFault::Table => ReplayFault::Memory,
-        }
+/// What a fault of the engine is to a replay, whose past is only read: neither has ended, and no call of a table in
+/// memory fails.
+pub(crate) fn engine_fault(fault: EngineFault) -> ReplayFault
+    requires full { fault ≡ EngineFault.Past PastFault.Full → ⊥ }
+    requires over { fault ≡ EngineFault.Past PastFault.Ended → ⊥ }
+    requires ended { fault ≡ EngineFault.Ended → ⊥ }
+    requires table { fault ≡ EngineFault.Table → ⊥ }
+    ensures { result ≡ of_engine fault }
+{
+    match fault {
+        EngineFault::Past(PastFault::Disk) => ReplayFault::Disk,
+        EngineFault::Past(PastFault::Damaged(place)) => ReplayFault::Damaged(place),
+        EngineFault::Past(PastFault::Full) => unreachable!(),
+        EngineFault::Past(PastFault::Memory) => ReplayFault::Memory,
+        EngineFault::Past(PastFault::Ended) => unreachable!(),
+        EngineFault::BadState(node) => ReplayFault::BadState(node),
+        EngineFault::Memory => ReplayFault::Memory,
+        EngineFault::Ended => unreachable!(),
+        EngineFault::Table => unreachable!(),
     }
 }

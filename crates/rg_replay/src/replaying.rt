@@ -15,7 +15,7 @@ ghost use Rattle.rg_plan.specs.Plans.{plan_for};
 ghost use Rattle.rg_replay.specs.Playing.{IsPlaced, IsPlaying, IsReplayable, IsCaused, IsReachedAt, IsWholeIn, IsLegalThrough, IsRefusedOf, EndsOver, LeavesStore, StopsIn, IsExpected, Answered, Answering, HasBegun, HasRead, IsReadFor, start_of};
 ghost use Rattle.rg_replay.specs.Replay.{replay_lines, replay_text};
 
-use crate::fault::ReplayFault;
+use crate::fault::{ReplayFault, reservoir_fault};
 use crate::turning::turn;
 use crate::writing::put_end;
 use rg_engine::Engine;
@@ -226,7 +226,7 @@ fn replay_log<H: Host, L: Ledger>(
         }
         Err(fault) => {
             drop(plan);
-            Err(ReplayFault::from(fault))
+            Err(reservoir_fault(fault))
         }
     }
 }

@@ -7,7 +7,7 @@ ghost use Rattle.rg_replay.specs.Faults.{IsFromOutside};
 ghost use Rattle.rg_replay.specs.Going.{Came};
 ghost use Rattle.rg_replay.specs.Playing.{IsPlaced, IsPlaying, IsCaused, IsReachedAt, IsWholeIn, StaysQuiet};
 
-use crate::fault::ReplayFault;
+use crate::fault::{ReplayFault, engine_fault};
 use crate::stepping::{Told, step};
 use rg_engine::Engine;
 use rg_event::Steps;
@@ -45,6 +45,6 @@ pub(crate) fn step_stored<H: Host, L: Ledger>(
     let mut past = Shown::new(Stored::new(reservoir, host), spot.number);
     match step(alloc, engine, &mut past, spot, steps) {
         Ok(found) => Ok(found),
-        Err(fault) => Err(ReplayFault::from(fault)),
+        Err(fault) => Err(engine_fault(fault)),
     }
 }

@@ -109,3 +109,8 @@ look_fault f (inr (inr (inr is))) = (λ e. (let g : Ended ≡ SchemaDiffers = sy
 pub append_fault : (f : ReservoirFault) (r : PastFault) → (f ≡ Ended) ⊎ (f ≡ Full) → r ≡ to_past f → (r ≡ past.Ended) ⊎ (r ≡ past.Full)
 append_fault f r (inl is) e = inl (e ∙ ap to_past is)
 append_fault f r (inr is) e = inr (e ∙ ap to_past is)
+
+-- nor as another schema
+pub append_same : (f : ReservoirFault) → (f ≡ Ended) ⊎ (f ≡ Full) → f ≡ SchemaDiffers → ⊥
+append_same f (inl is) e = let g : Ended ≡ SchemaDiffers = sym is ∙ e in cc
+append_same f (inr is) e = let g : Full ≡ SchemaDiffers = sym is ∙ e in cc

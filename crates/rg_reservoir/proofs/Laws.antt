@@ -1,4 +1,5 @@
 -- What other crates may cite of the lemmas of this one.
+pub use Rattle.rg_reservoir.proofs.Causes.{look_fault}
 pub use Rattle.rg_reservoir.proofs.Committed.{ends_at, fewer, is_chunk, rises}
 pub use Rattle.rg_reservoir.proofs.Committing.{log_at}
 pub use Rattle.rg_reservoir.proofs.Firsts.{quiet}

@@ -13,7 +13,7 @@ of_frame (frame.Damaged place) = Damaged place
 of_frame frame.Memory = Memory
 of_frame frame.Ended = Ended
 
--- a fault of a reservoir, for a past; a look never answers that the schema differs, so that one may be any
+-- a fault of a reservoir that is open, for a past; no call on one tells that the schema differs, so that one may be any
 abbrev pub to_past : ReservoirFault → PastFault
 to_past Disk = past.Disk
 to_past (Damaged place) = past.Damaged place

@@ -1,3 +1,6 @@
+ghost use Rattle.std.specs.Prelude.{◌≡◌};
+ghost use Rattle.rg_reservoir.specs.Faults.{to_past};
+
 use rg_bytes::Memory;
 use rg_frame::FrameFault;
 use rg_past::PastFault;
@@ -65,20 +68,17 @@ impl From<FrameFault> for ReservoirFault {
     }
 }
 
-impl From<ReservoirFault> for PastFault {
-    ghost use Rattle.std.specs.Prelude.{◌≡◌};
-    ghost use Rattle.rg_reservoir.specs.Faults.{to_past};
-
-    ghost from_gives = { λ fault past. past ≡ to_past fault };
-
-    fn from(fault: ReservoirFault) -> PastFault {
-        match fault {
-            ReservoirFault::Disk => PastFault::Disk,
-            ReservoirFault::Damaged(place) => PastFault::Damaged(place),
-            ReservoirFault::SchemaDiffers => PastFault::Damaged(0),
-            ReservoirFault::Full => PastFault::Full,
-            ReservoirFault::Memory => PastFault::Memory,
-            ReservoirFault::Ended => PastFault::Ended,
-        }
+/// What a fault of a reservoir that is open is to a past: its schema was compared when it was opened.
+pub fn past_fault(fault: ReservoirFault) -> PastFault
+    requires { fault ≡ ReservoirFault.SchemaDiffers → ⊥ }
+    ensures { result ≡ to_past fault }
+{
+    match fault {
+        ReservoirFault::Disk => PastFault::Disk,
+        ReservoirFault::Damaged(place) => PastFault::Damaged(place),
+        ReservoirFault::SchemaDiffers => unreachable!(),
+        ReservoirFault::Full => PastFault::Full,
+        ReservoirFault::Memory => PastFault::Memory,
+        ReservoirFault::Ended => PastFault::Ended,
     }
 }

@@ -22,7 +22,7 @@ mod stored;
 mod view;
 mod walk;
 
-pub use fault::ReservoirFault;
+pub use fault::{ReservoirFault, past_fault};
 pub use law::{law_spells, law_views};
 pub use reservoir::Reservoir;
 pub use stored::Stored;

@@ -8,6 +8,7 @@ ghost use Rattle.rg_reservoir.specs.Kept.{base, settled, Looked};
 ghost use Rattle.rg_reservoir.specs.HeldLooks.{LooksHeld};
 ghost use Rattle.rg_reservoir.specs.contracts.stored.Stored.{the_row};
 
+use crate::fault::past_fault;
 use crate::reservoir::Reservoir;
 use rg_event::Event;
 use rg_host::Host;
@@ -76,7 +77,7 @@ impl<'a, H: Host> Past for Stored<'a, H> {
     fn append(&mut self, event: Event) -> Result<(), PastFault> {
         match self.reservoir.append(event) {
             Ok(()) => Ok(()),
-            Err(fault) => Err(PastFault::from(fault)),
+            Err(fault) => Err(past_fault(fault)),
         }
     }
 
@@ -110,7 +111,7 @@ impl<'a, H: Host> Past for Stored<'a, H> {
     {
         match self.reservoir.seek(self.host, spot) {
             Ok(()) => {}
-            Err(fault) => return Err(PastFault::from(fault)),
+            Err(fault) => return Err(past_fault(fault)),
         }
         Ok(self.reservoir.at(spot))
     }

@@ -1,7 +1,7 @@
 use crate::names::Names;
 use rg_host::Host;
 use rg_past::{PastFault, Spot};
-use rg_reservoir::Stored;
+use rg_reservoir::{Stored, past_fault};
 
 /// It can be asked while its open chunk is empty and nothing failed; it names by the heads of its
 /// chunks and its growths then.
@@ -22,7 +22,7 @@ impl<'a, H: Host> Names for Stored<'a, H> {
     fn names(&mut self, spots: &[Spot]) -> Result<bool, PastFault> {
         match self.reservoir.names(self.host, spots) {
             Ok(named) => Ok(named),
-            Err(fault) => Err(PastFault::from(fault)),
+            Err(fault) => Err(past_fault(fault)),
         }
     }
 

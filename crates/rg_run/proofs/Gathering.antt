@@ -302,4 +302,4 @@ module _ {K : Type 0} (view : View K) (plan : Planned) (course : Course) where
 
 -- nothing changed at all, or twice in turn
 pub keeps_none : {K : Type 0} (view : View K) (t : K) → Keeps view t t
-keeps_none view t = record { at_stays = refl; roomy = λ is. is; running = λ plan is. is; node = λ plan n is. is; placed = λ plan is. is; illegal = λ place is. is; goes = view.goes_same t }
+keeps_none view t = record { at_stays = refl; roomy = λ is. is; running = λ plan is. is; node = λ plan n is. is; placed = λ plan is. is; illegal = λ place is. is; asks_illegal = λ is. is; goes = view.goes_same t }

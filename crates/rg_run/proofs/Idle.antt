@@ -9,6 +9,7 @@ use Rattle.rg_run.specs.Due.{is_due}
 use Rattle.rg_run.specs.Idle.{IsIdle}
 use Rattle.rg_run.specs.declared.due.Due.{Due}
 use Rattle.rg_run.specs.declared.due.Due.TheVariants.{Nothing}
+use Rattle.rg_run.proofs.Marking.{none_due}
 
 module _ {K : Type 0} (view : View K) (plan : Planned) (offset : ℕ) (line : List ℕ) where
   -- so it is once lines are put
@@ -26,3 +27,10 @@ module _ {K : Type 0} (view : View K) (plan : Planned) (offset : ℕ) (line : Li
       let es = (view.at old).events in
       let last : count ≡ length (accepted_after es (verdict_on plan es offset line)) = count_is ∙ ap length events in
       due_is ∙ ap (λ n. is_due plan.settings.commit plan.settings.save n count) before_is ∙ ap (λ n. is_due plan.settings.commit plan.settings.save (length es) n) last ∙ idle.none_due
+
+-- nothing is due where no event was taken
+pub still_due : {K : Type 0} (view : View K) (old taken : K) (commit save : ℕ) (due : Due) (before count : ℕ) → due ≡ is_due commit save before count → before ≡ length (view.at old).events → count ≡ length (view.at taken).events
+    → view.at taken ≡ view.at old → due ≡ Nothing
+still_due view old taken commit save due before count due_is before_is count_is same =
+    let now : count ≡ before = count_is ∙ ap (λ (s : State). length s.events) same ∙ sym before_is in
+    due_is ∙ ap (λ n. is_due commit save before n) now ∙ sym (none_due commit save before)

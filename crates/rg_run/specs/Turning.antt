@@ -9,7 +9,7 @@ use Rattle.rg_run_spec.specs.Verdicts.{Basis, control_at, read_as}
 use Rattle.rg_run_spec.specs.Ahead.{after_line}
 use Rattle.rg_run_spec.specs.Laws.{IsPrefixOf}
 use Rattle.rg_run_spec.specs.Pieces.{AreLines}
-use Rattle.rg_run_spec.specs.Stores.{Course, IsNear, IsKeptInStore}
+use Rattle.rg_run_spec.specs.Stores.{Course, Store, IsNear, IsKeptInStore}
 use Rattle.rg_run_spec.specs.Steps.{IsAtRest}
 use Rattle.rg_run_spec.specs.Turns.{IsBetween, IsStopped}
 use Rattle.rg_task.specs.Stepping.{IsAllSaved}
@@ -22,6 +22,12 @@ use Rattle.rg_run.specs.declared.due.Due.TheVariants.{Nothing, Commit, Save}
 pub record IsRefused (basis : Basis) (offset : ℕ) (item : Option (List ℕ)) (reply : Reply) : Type 0 where
   pub asks_nothing : control_at basis offset item ≡ None
   pub reads : read_as basis offset item ≡ Err reply
+
+-- A run stopped where only whole lines were put: what was put is told, and whatever image is left is kept.
+pub record HasStoppedIn (store : Store Image) (course : Course) (may : Image → Type 0) (said : Option (List ℕ)) : Type 0 where
+  pub put : List ℕ
+  pub told : said ≡ Some put
+  pub stopped : IsStopped store course may put
 
 -- Of the lines of all turns so far, the first ones are put and the others are gathered, to be put together: the events that are stored came
 -- with at most one line more than was put.
@@ -63,11 +69,9 @@ module _ {K : Type 0} (view : View K) where
   IsDueDone Commit plan t = (view.at t).stored ≡ (view.at t).events
   IsDueDone Save plan t = IsAllSaved (view.store plan) (view.may t) (view.at t)
 
-  -- The run stopped where only whole lines were put: what was put is told, and whatever image is left is kept.
-  pub record HasStopped (plan : Planned) (course : Course) (t : K) : Type 0 where
-    pub put : List ℕ
-    pub told : view.said t ≡ Some put
-    pub stopped : IsStopped (view.store plan) course (view.may t) put
+  -- the run stopped where only whole lines were put
+  abbrev pub HasStopped : Planned → Course → K → Type 0
+  HasStopped plan course t = HasStoppedIn (view.store plan) course (view.may t) (view.said t)
 
   -- Whole lines were put, and others are gathered: whatever image is left is kept, however many of these are put.
   pub record IsHeld (plan : Planned) (course : Course) (t : K) (gathered : List ℕ) : Type 0 where

@@ -1,6 +1,7 @@
 -- A run of an input in mid-way, stopped at a read, and done.
 use Rattle.std.specs.Prelude.{◌≡◌, ◌⊎◌, ℕ, ◌+◌, ◌≤◌, List, [], ◌∷◌, ◌++◌, length, Option, Some, OnOk, IfErr, Result}
 use Rattle.rg_bytes.specs.Known.{before}
+use Rattle.rg_host.specs.Image.{Image}
 use Rattle.rg_host.specs.Lines.{ended, whole_lines}
 use Rattle.rg_host.specs.Moments.{Moments}
 use Rattle.rg_host.specs.Reading.{Reading}
@@ -8,7 +9,7 @@ use Rattle.rg_config.specs.Plans.{Planned}
 use Rattle.rg_run_spec.specs.Accepted.{events_after}
 use Rattle.rg_run_spec.specs.Ahead.{after_line}
 use Rattle.rg_run_spec.specs.Output.{open_line, put_before}
-use Rattle.rg_run_spec.specs.Stores.{Course, StaysOnCourse}
+use Rattle.rg_run_spec.specs.Stores.{Course, Store, StaysOnCourse}
 use Rattle.rg_run_spec.specs.Turns.{IsDone}
 use Rattle.rg_task.specs.Terms.{terms_of}
 use Rattle.rg_task.specs.View.{View}
@@ -28,6 +29,12 @@ pub record HasAnswered (plan : Planned) (b : Begun) (left : Option (List ℕ)) (
   pub one : length past ≤ 1
   pub none_past : (past ≡ []) ⊎ limit
   pub put : said ≡ Some (b.said ++ ended (open_line b.held b.from ∷ put_before (terms_of plan) b.held b.first (whole_lines got) (length (whole_lines got))))
+
+-- All of a run was put, and each image that might be left has all accepted events.
+pub record HasFinishedIn (store : Store Image) (course : Course) (may : Image → Type 0) (said : Option (List ℕ)) : Type 0 where
+  pub put : List ℕ
+  pub told : said ≡ Some put
+  pub done : IsDone store course may put
 
 module _ {K : Type 0} (view : View K) where
   -- Between two lines: these were handed out and answered, and these are still to come, the first of them at this offset.
@@ -49,8 +56,6 @@ module _ {K : Type 0} (view : View K) where
     pub never_damaged : (course : Course) (items : List (Option (List ℕ))) → IsAwaiting view plan course offset (item ∷ items) old gathered → IfErr result (λ fault. (p : ℕ) → fault ≡ turn.Task (task.Damaged p) → ⊥)
     pub never_bad : (course : Course) (items : List (Option (List ℕ))) → IsAwaiting view plan course offset (item ∷ items) old gathered → IfErr result (λ fault. (n : ℕ) → fault ≡ turn.Task (task.BadState n) → ⊥)
 
-  -- All was put, and each image that might be left has all accepted events.
-  pub record HasFinished (plan : Planned) (b : Begun) (t : K) : Type 0 where
-    pub put : List ℕ
-    pub told : view.said t ≡ Some put
-    pub done : IsDone (view.store plan) (course_for plan b) (view.may t) put
+  -- all was put, and each image that might be left has all accepted events
+  abbrev pub HasFinished : Planned → Begun → K → Type 0
+  HasFinished plan b t = HasFinishedIn (view.store plan) (course_for plan b) (view.may t) (view.said t)

@@ -148,6 +148,10 @@ impl Turning {
         ensures idle { IsIdle K.view (planned plan.now) self.old.offset line.now task.old → LeavesFiles K.view.now K.view.may K.view.clock K.view.since task.old task.new }
         ensures log_stays { KeepsLog K.view (planned plan.now) task.old task.new }
 
+        // Over a log that isn't legal: where there is room, and the look of an edge comes to an illegal chunk, a turn that ends
+        // well takes no event.
+        ensures legal { K.view.roomy task.old → K.view.asks_illegal task.old → OnOk result (K.view.at task.new ≡ K.view.at task.old) }
+
         // Each refusal has its cause.
         ensures damaged { (p : ℕ) → IsErrOf result (TurnFault.Task (TaskFault.Damaged p)) → K.view.illegal p task.new }
         ensures write { IsErrOf result TurnFault.Write → Rose (K.out_faults task.old) (K.out_faults task.new) }

@@ -1,8 +1,9 @@
 -- What a serve begins with, and what holds of the store and of what was put at each moment of it.
-use Rattle.std.specs.Prelude.{◌≡◌, ℕ, List, [], ◌∷◌, ◌++◌, length, take}
+use Rattle.std.specs.Prelude.{◌≡◌, ◌⊎◌, ℕ, List, [], ◌∷◌, ◌++◌, length, take}
 use Rattle.rg_event.specs.declared.event.Event.{Event}
 use Rattle.rg_host.specs.Image as host
 use Rattle.rg_host.specs.Moments.{Moment}
+use Rattle.rg_host.specs.Puts.{IsPrefix}
 use Rattle.rg_pipe.specs.Handing.{Given}
 use Rattle.rg_run_spec.specs.Output.{Terms, open_line}
 use Rattle.rg_run_spec.specs.Stores.{Store, Course, IsKeptInStore}
@@ -54,6 +55,8 @@ pub record IsOnErrand {Image : Type 0} (store : Store Image) (e : Errand) (last 
   pub since : said ≡ e.said ++ put
   pub framed : IsPutIn (replies_of e) last put
   pub kept : IsKeptInStore store (course_of e) (lines_said put) v
+  -- unless nothing but of the last reply was put
+  pub grown : store.IsGrown v ⊎ IsPrefix put last
 
 -- a moment of a serve on a host
 abbrev pub StaysOnErrand : Store host.Image → Errand → List ℕ → Moment → Type 0

@@ -34,6 +34,8 @@ pub record View (K : Type 0) : Type 1 where
   pub placed : Planned → K → Type 0
   -- what stands at that place of its log is damaged
   pub illegal : ℕ → K → Type 0
+  -- the look of an edge at its log comes to an illegal chunk
+  pub asks_illegal : K → Type 0
   -- from an earlier state of one task to a later one its log stays that of the same schema, in the same file
   pub goes : K → K → Type 0
   pub whole : (t : K) → (at t).stored ++ (at t).chunk ≡ (at t).events
@@ -70,4 +72,5 @@ pub record Keeps {K : Type 0} (view : View K) (old new : K) : Type 0 where
   pub node : (plan : Planned) (n : ℕ) → view.node plan n old → view.node plan n new
   pub placed : (plan : Planned) → view.placed plan old → view.placed plan new
   pub illegal : (place : ℕ) → view.illegal place old → view.illegal place new
+  pub asks_illegal : view.asks_illegal old → view.asks_illegal new
   pub goes : view.goes old new

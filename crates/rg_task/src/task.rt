@@ -5,7 +5,7 @@ ghost use Rattle.rg_host.specs.Moments.{LeavesFiles, LeavesAll};
 ghost use Rattle.rg_host.specs.Puts.{IsPrefix, Puts};
 ghost use Rattle.rg_config.specs.Plans.{Planned};
 ghost use Rattle.rg_run_spec.specs.Verdicts.{accepted_after, reply_of};
-ghost use Rattle.rg_task.specs.Terms.{verdict_on};
+ghost use Rattle.rg_task.specs.Terms.{verdict_on, HasAnswers};
 ghost use Rattle.rg_task.specs.Stepping.{IsWithinStep, IsWithinLog, IsStored, IsAllSaved};
 ghost use Rattle.rg_task.specs.View.{View, Keeps, StaysEnded, NowMay, OnlyNow, Sinks};
 
@@ -64,6 +64,10 @@ pub trait Task {
 
         // Where there is room, no file is written.
         ensures roomy { view.roomy self.old → LeavesAll view.now view.may view.clock view.since view.said self.old self.new × ((view.at self.new).stored ≡ (view.at self.old).stored) }
+
+        // Over a log that isn't legal: where there is room, and the look of an edge comes to an illegal chunk, no event is
+        // taken and none is answered.
+        ensures legal { view.roomy self.old → view.asks_illegal self.old → IfOk result (λ reply. (HasAnswers reply → ⊥) × (view.at self.new ≡ view.at self.old)) }
 
         ensures keep { (view.at self.new).keep ≡ (view.at self.old).keep }
         ensures damaged { (p : ℕ) → IsErrOf result (TaskFault.Damaged p) → view.illegal p self.new }

@@ -5,3 +5,4 @@ pub mod Fits
 pub mod Judged
 pub mod Chunks
 pub mod Causes
+pub mod Undamaged

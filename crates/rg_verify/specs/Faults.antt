@@ -7,7 +7,7 @@ use Rattle.rg_reservoir.specs.declared.fault.ReservoirFault.TheVariants as log
 use Rattle.rg_verify.specs.declared.fault.VerifyFault.{VerifyFault}
 use Rattle.rg_verify.specs.declared.fault.VerifyFault.TheVariants.{Disk, Damaged, SchemaDiffers, Memory, Write}
 
--- a log that is read is neither full nor has it ended, so each of these two may be any
+-- of reading a log: that it is of another schema, is full or has ended never comes
 abbrev pub of_log : ReservoirFault → VerifyFault
 of_log log.Disk = Disk
 of_log (log.Damaged place) = Damaged place
@@ -16,7 +16,7 @@ of_log log.SchemaDiffers = SchemaDiffers
 of_log log.Full = Memory
 of_log log.Ended = Memory
 
--- reading the slots never answers the last one
+-- of reading the slots: that they have ended never comes
 abbrev pub of_slot : SlotFault → VerifyFault
 of_slot slot.Disk = Disk
 of_slot slot.Memory = Memory

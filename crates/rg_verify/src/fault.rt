@@ -1,3 +1,6 @@
+ghost use Rattle.std.specs.Prelude.{◌≡◌};
+ghost use Rattle.rg_verify.specs.Faults.{of_log, of_slot};
+
 use rg_bytes::Memory;
 use rg_checkpoint::SlotFault;
 use rg_reservoir::ReservoirFault;
@@ -46,35 +49,31 @@ impl From<Memory> for VerifyFault {
     }
 }
 
-/// What a fault of a log that is read is here. None of the last two comes then.
-impl From<ReservoirFault> for VerifyFault {
-    ghost use Rattle.std.specs.Prelude.{◌≡◌};
-    ghost use Rattle.rg_verify.specs.Faults.{of_log};
-
-    ghost from_gives = { λ old fault. fault ≡ of_log old };
-
-    fn from(fault: ReservoirFault) -> VerifyFault {
-        match fault {
-            ReservoirFault::Disk => VerifyFault::Disk,
-            ReservoirFault::Damaged(place) => VerifyFault::Damaged(place),
-            ReservoirFault::Memory => VerifyFault::Memory,
-            ReservoirFault::SchemaDiffers => VerifyFault::SchemaDiffers,
-            ReservoirFault::Full | ReservoirFault::Ended => VerifyFault::Memory,
-        }
+/// What a fault of reading a log is here: no schema is compared, nothing is appended, and the log hasn't ended.
+pub(crate) fn walk_fault(fault: ReservoirFault) -> VerifyFault
+    requires differs { fault ≡ ReservoirFault.SchemaDiffers → ⊥ }
+    requires full { fault ≡ ReservoirFault.Full → ⊥ }
+    requires ended { fault ≡ ReservoirFault.Ended → ⊥ }
+    ensures { result ≡ of_log fault }
+{
+    match fault {
+        ReservoirFault::Disk => VerifyFault::Disk,
+        ReservoirFault::Damaged(place) => VerifyFault::Damaged(place),
+        ReservoirFault::SchemaDiffers => unreachable!(),
+        ReservoirFault::Full => unreachable!(),
+        ReservoirFault::Memory => VerifyFault::Memory,
+        ReservoirFault::Ended => unreachable!(),
     }
 }
 
-/// What a fault of the slots is here. Reading them never answers the last one.
-impl From<SlotFault> for VerifyFault {
-    ghost use Rattle.std.specs.Prelude.{◌≡◌};
-    ghost use Rattle.rg_verify.specs.Faults.{of_slot};
-
-    ghost from_gives = { λ old fault. fault ≡ of_slot old };
-
-    fn from(fault: SlotFault) -> VerifyFault {
-        match fault {
-            SlotFault::Disk => VerifyFault::Disk,
-            SlotFault::Memory | SlotFault::Ended => VerifyFault::Memory,
-        }
+/// What a fault of reading the slots is here: slots that are just attached haven't ended.
+pub(crate) fn slots_fault(fault: SlotFault) -> VerifyFault
+    requires ended { fault ≡ SlotFault.Ended → ⊥ }
+    ensures { result ≡ of_slot fault }
+{
+    match fault {
+        SlotFault::Disk => VerifyFault::Disk,
+        SlotFault::Memory => VerifyFault::Memory,
+        SlotFault::Ended => unreachable!(),
     }
 }

@@ -1,17 +1,18 @@
-ghost use Rattle.std.specs.Prelude.{◌≡◌, [], ℕ, IfOk, IfErr, IfSome};
+ghost use Rattle.std.specs.Prelude.{◌≡◌, [], ℕ, None, IfOk, IfErr, IfSome};
 ghost use Rattle.std.specs.Option.{ForSome};
+ghost use Rattle.rg_dump.specs.Dump.{damage_of};
 ghost use Rattle.rg_dump.specs.Leaves.{LeavesRead};
 ghost use Rattle.rg_growth.specs.Growing.{AreDefaultsOf};
 ghost use Rattle.rg_reservoir.specs.Kept.{base, opened};
-ghost use Rattle.rg_verify.specs.Causes.{IsOfOther, IsReadable, IsUnjudged};
+ghost use Rattle.rg_verify.specs.Causes.{IsFirstDamage, IsOfOther, IsReadable, IsUnjudged};
 ghost use Rattle.rg_verify.specs.Finding.{IsApart, IsFoundFor, IsFurther};
 
-use crate::fault::VerifyFault;
+use crate::fault::{VerifyFault, walk_fault};
 use rg_bytes::Memory;
 use rg_event::{Room, Schema, Values};
 use rg_growth::{Defaults, Growth};
 use rg_host::Host;
-use rg_reservoir::{Reservoir, ReservoirFault};
+use rg_reservoir::Reservoir;
 use std::alloc::Global;
 
 /// A log that was found by the heads of its chunks and by its growths.
@@ -49,8 +50,8 @@ fn further(
     }
 }
 
-/// The log of file 2 by the heads of its chunks and by its growths; none where it has no frame. One whose
-/// heads are bad is refused as want of memory: of a log that was walked to its end that doesn't come.
+/// The log of file 2 by the heads of its chunks and by its growths; none where it has no frame. It was walked to
+/// its end, so a bad head comes only where the host told other bytes then.
 pub(crate) fn find<H: Host>(
     alloc: Global,
     host: &mut H,
@@ -60,9 +61,10 @@ pub(crate) fn find<H: Host>(
 ) -> Result<Found, VerifyFault>
     requires room { IsReadable room }
     requires given { AreDefaultsOf schema.now.fields defaults.now }
+    requires undamaged { ForSome (H.now host.old) (λ v. damage_of (v 2) ≡ None) }
     ensures empty { IfOk result (λ found. IfSome found.log (λ r. opened r ≡ [])) }
     ensures found { IfOk result (λ found. ForSome (H.now host.old) (λ v. IsFoundFor schema.now defaults.now found.further (v 2))) }
-    ensures cause { IfErr result (IsUnjudged (λ _. ⊥) (IsOfOther schema.now defaults.now (H.now host.old)) (H.disk_faults host.old) (H.disk_faults host.new)) }
+    ensures cause { IfErr result (IsUnjudged (IsFirstDamage (H.now host.old)) (IsOfOther schema.now defaults.now (H.now host.old)) (H.disk_faults host.old) (H.disk_faults host.new)) }
     ensures leaves { LeavesRead H.now H.may H.clock H.since H.said H.disk_faults H.out_faults host.old host.new }
 {
     let log = match Reservoir::read(alloc, host, room) {
@@ -73,8 +75,7 @@ pub(crate) fn find<H: Host>(
                 further: None,
             });
         }
-        Err(ReservoirFault::Disk) => return Err(VerifyFault::Disk),
-        Err(_) => return Err(VerifyFault::Memory),
+        Err(fault) => return Err(walk_fault(fault)),
     };
     match further(alloc, &log, schema, defaults) {
         Ok(further) => Ok(Found {

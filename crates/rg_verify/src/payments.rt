@@ -6,7 +6,7 @@ ghost use Rattle.rg_reservoir.specs.declared.walk.Stage.TheVariants as stage;
 ghost use Rattle.rg_verify.specs.Causes.{IsFirstDamage, IsUnjudged};
 ghost use Rattle.rg_verify.specs.Payments.{events_after, IsReadAll};
 
-use crate::fault::VerifyFault;
+use crate::fault::{VerifyFault, walk_fault};
 use crate::longer::extend;
 use rg_bytes::Memory;
 use rg_chunk::Chunk;
@@ -73,7 +73,7 @@ pub(crate) fn read_log<H: Host>(alloc: Global, host: &mut H) -> Result<Payments,
         let stage = match walk.next(host) {
             Ok(Some(stage)) => stage,
             Ok(None) => return Ok(Payments { events, framed }),
-            Err(fault) => return Err(VerifyFault::from(fault)),
+            Err(fault) => return Err(walk_fault(fault)),
         };
         match push_stage(alloc, &mut events, &stage) {
             Ok(()) => {}

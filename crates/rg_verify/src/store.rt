@@ -20,7 +20,7 @@ ghost use Rattle.rg_verify.specs.Fitting.{AreVerdicts, terms_of};
 ghost use Rattle.rg_verify.specs.Payments.{is_framed, IsReadAll};
 ghost use Rattle.rg_verify.specs.Verify.{IsVerifiable, IsVerified, IsSaid, IsCut, verify_lines, one_differs};
 
-use crate::fault::VerifyFault;
+use crate::fault::{VerifyFault, slots_fault};
 use crate::finding::find;
 use crate::judging::{Wanted, judge_slot};
 use crate::longer::fill;
@@ -84,7 +84,7 @@ fn judge_slots<H: Host>(
 {
     match Slots::attach(alloc, host) {
         Ok(slots) => judge_both(alloc, host, found, wanted, log, &slots),
-        Err(fault) => Err(VerifyFault::from(fault)),
+        Err(fault) => Err(slots_fault(fault)),
     }
 }
 
@@ -126,10 +126,11 @@ fn judge_log<H: Host>(
 ) -> Result<Verdicts, VerifyFault>
     requires room { IsReadable room }
     requires given { AreDefaultsOf schema.now.fields defaults.now }
+    requires undamaged { ForSome (H.now host.old) (λ v. damage_of (v 2) ≡ None) }
     ensures verified { (v : Image) (events : List TheEvent) → H.now host.old ≡ Some v → IsReadAll (v 2) log.events log.framed → IsVerifiable (terms_of queries.now schema.now task.now) defaults.now v events →
         IfOk result (λ verdicts. IsVerified (terms_of queries.now schema.now task.now) v events verdicts.first verdicts.second) }
     ensures ours { OnOk result (ForSome (H.now host.old) (λ v. IsForeign schema.now defaults.now (v 2) → ⊥)) }
-    ensures cause { IfErr result (IsUnjudged (λ _. ⊥) (IsOfOther schema.now defaults.now (H.now host.old)) (H.disk_faults host.old) (H.disk_faults host.new)) }
+    ensures cause { IfErr result (IsUnjudged (IsFirstDamage (H.now host.old)) (IsOfOther schema.now defaults.now (H.now host.old)) (H.disk_faults host.old) (H.disk_faults host.new)) }
     ensures leaves { LeavesRead H.now H.may H.clock H.since H.said H.disk_faults H.out_faults host.old host.new }
 {
     let found = match find(alloc, host, schema, defaults, room) {

@@ -18,6 +18,7 @@ returns-in-Err g c = record {
   goes = record {
     put = λ ready. none_up_to g.H.Host g.met.H.Host.only_now g.met.H.Host.sinks c.args.host.now _ Memory (λ ok. absurd (let e : Memory ≡ Ok = ok in cc));
     unfit = λ v told unfit. ((λ ok. absurd (let e : Memory ≡ Ok = ok in cc)), nothing_put g.H.Host g.met.H.Host.only_now g.met.H.Host.sinks c.args.host.now);
+    whole = λ ok. absurd (let e : Memory ≡ Ok = ok in cc);
     why = refl;
     files = files_left g.H.Host g.met.H.Host.only_now g.met.H.Host.sinks c.args.host.now;
     later = omega arith;
@@ -32,6 +33,7 @@ returns-in-Ok-replay g c = record {
     put = λ ready. up_to_all _ _ Ok (c.in-Ok-replay.ensures.completes (planned c.args.plan.now).queries ready.events
         (replayable (planned c.args.plan.now) c.in-Ok.task _ _ (c.in-Ok.ensures ∙ c.requires.is_read.task) (serves (planned c.args.plan.now).shape (planned c.args.plan.now).queries c.requires.is_read.legal) ready));
     unfit = λ v told unfit. absurd (c.in-Ok-replay.ensures.refused v told unfit).0;
+    whole = λ ok. c.in-Ok-replay.ensures.whole;
     why = refl;
     files = c.in-Ok-replay.ensures.leaves;
     later = c.in-Ok-replay.ensures.out_faults;
@@ -54,6 +56,7 @@ returns g c = record {
       record {
         put = λ ready. stopped _ h c.in-Err-replay.fault (ending_status c.ending_of.result) (ending_line c.ending_of.result) c.ending_of.ensures not_ok (c.in-Err-replay.ensures.stops plan.queries ready.events (over ready));
         unfit = λ v told unfit. (not_ok, (c.in-Err-replay.ensures.refused v told unfit).1);
+        whole = λ ok. absurd (not_ok ok);
         why = row _;
         files = c.in-Err-replay.ensures.leaves;
         later = c.in-Err-replay.ensures.out_faults;

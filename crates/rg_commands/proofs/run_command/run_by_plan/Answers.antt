@@ -43,10 +43,11 @@ returns-in-Ok-done-clause-goes g c = inr (
     went = λ ready all left.
         let ran = c.in-Ok-done.ensures.ran ready all left in
         (ran.0, went_ok g.H.Host _ _ _ _ _ _ ran.1.is_from ran.1.moments ran.1.finished (c.in-Ok-done.ensures.no_gap ready.openable.image ready.held ready.openable.told ready.has));
-    never_damaged = λ ready all left is. absurd (let e : Ok ≡ Store = is in cc);
-    behind = λ ready keep late. absurd (omega (arith, late, c.in-Ok-done.ensures.no_gap ready.openable.image ready.held ready.openable.told ready.has));
+    never_damaged = λ openable is. absurd (let e : Ok ≡ Store = is in cc);
+    behind = λ store keep late. absurd (omega (arith, late, c.in-Ok-done.ensures.no_gap store.openable.image store.held store.openable.told store.has));
     unfit = λ v now unfit. absurd (c.in-Ok-done.ensures.exact v now unfit);
     no_gap = λ ok v events now has. c.in-Ok-done.ensures.no_gap v events now has;
+    gap = λ is. absurd (let e : Ok ≡ Gap = is in cc);
     log = c.in-Ok-done.ensures.log_stays;
     at_end = λ ok. c.in-Ok-done.ensures.at_end;
   },
@@ -75,22 +76,25 @@ returns-clause-goes g c =
             let ran = c.in-Err-done.ensures.ran ready all left in (
               ran.0,
               went_err g.H.Host _ _ _ _ _ _ fault status last ends ran.1.is_from ran.1.moments ran.1.stopped ran.1.answered
-                  (λ is. c.in-Err-done.ensures.never_differs ready (ap (λ (f : RunFault). Err f) is))
-                  (λ n is. c.in-Err-done.ensures.never_bad ready all n left (ap (λ (f : RunFault). Err f) is))
-                  (λ n is. c.in-Err-done.ensures.gap n (ap (λ (f : RunFault). Err f) is))
+                  (λ is. c.in-Err-done.ensures.never_differs ready.openable (ap (λ (f : RunFault). Err f) is))
+                  (λ n is. c.in-Err-done.ensures.never_bad ready.openable n (ap (λ (f : RunFault). Err f) is))
                   (λ n is. c.in-Err-done.ensures.gap_next ready.openable.image ready.held n ready.openable.told ready.has (ap (λ (f : RunFault). Err f) is)),
             );
-        never_damaged = λ ready all left is. never_store _ fault status last ends is
-            (λ e. c.in-Err-done.ensures.never_differs ready (ap (λ (f : RunFault). Err f) e))
-            (λ n e. c.in-Err-done.ensures.never_bad ready all n left (ap (λ (f : RunFault). Err f) e))
-            (λ p e. c.in-Err-done.ensures.never_damaged ready all p left (ap (λ (f : RunFault). Err f) e));
-        behind = λ ready keep late.
-            let at = c.in-Err-done.ensures.behind ready keep late in
-            (at.0, at.1, ends_behind _ _ fault status last ends at.2 (λ n is. c.in-Err-done.ensures.gap_next ready.openable.image ready.held n ready.openable.told ready.has (ap (λ (f : RunFault). Err f) is)));
+        never_damaged = λ openable is. never_store _ fault status last ends is
+            (λ e. c.in-Err-done.ensures.never_differs openable (ap (λ (f : RunFault). Err f) e))
+            (λ n e. c.in-Err-done.ensures.never_bad openable n (ap (λ (f : RunFault). Err f) e))
+            (λ p e. c.in-Err-done.ensures.never_damaged openable p (ap (λ (f : RunFault). Err f) e));
+        behind = λ store keep late.
+            let at = c.in-Err-done.ensures.behind store keep late in
+            (at.0, at.1, ends_behind _ _ fault status last ends at.2 (λ n is. c.in-Err-done.ensures.gap_next store.openable.image store.held n store.openable.told store.has (ap (λ (f : RunFault). Err f) is)));
         unfit = λ v now unfit.
             let at = c.in-Err-done.ensures.unfit v now unfit in
             (at.0, at.1, ends_unfit (planned c.in-Ok.asked) v _ fault status last ends at.2);
         no_gap = λ ok. absurd (run_at _ fault status last ends Ok ok);
+        gap = λ is v events now has.
+            let at = run_at _ fault status last ends Gap is in
+            let told = ap (λ (f : RunFault). Err f) at.1 in
+            omega (arith, c.in-Err-done.ensures.gap at.0 told, c.in-Err-done.ensures.gap_next v events at.0 now has told);
         log = c.in-Err-done.ensures.log_stays;
         at_end = λ ok. absurd (run_at _ fault status last ends Ok ok);
       },

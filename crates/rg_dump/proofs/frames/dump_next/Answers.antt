@@ -16,6 +16,15 @@ returns-in-Ok-None-clause-dumped g c =
       last = λ _. (none.1, puts_nothing g.H.Host.now g.H.Host.may g.H.Host.clock g.H.Host.since g.H.Host.said _ _ c.next.ensures.leaves);
     }
 
+pub walk_fault-requires : goal.walk_fault-requires
+walk_fault-requires g c =
+    let never = c.in-Err.ensures.neither in
+    record {
+      differs = λ is. never.0 (ap (λ (f : ReservoirFault). Err f) is);
+      full = λ is. never.1 (ap (λ (f : ReservoirFault). Err f) is);
+      ended = λ is. never.2 (ap (λ (f : ReservoirFault). Err f) is);
+    }
+
 pub returns-in-Err-clause-refused : goal.returns-in-Err-clause-refused
 returns-in-Err-clause-refused g c =
     let never = c.in-Err.ensures.neither in

@@ -24,10 +24,19 @@ returns-in-Ok-None-clause-undamaged g c = λ v told.
     let none = rw c.in-Ok-None.field-0-is at c.in-Ok-None.ensures.none in
     (summed_end (v 2) c.frames.walk c.frames.summary (c.frames.invariant.summed v told) (none.1 v (c.frames.invariant.leaves.leaves.now_stays ∙ told))).1
 
+pub walk_fault-requires : goal.walk_fault-requires
+walk_fault-requires g c =
+    let never = c.in-Err.ensures.neither in
+    record {
+      differs = λ is. never.0 (ap (λ (f : ReservoirFault). Err f) is);
+      full = λ is. never.1 (ap (λ (f : ReservoirFault). Err f) is);
+      ended = λ is. never.2 (ap (λ (f : ReservoirFault). Err f) is);
+    }
+
 pub returns-in-Err-clause-damaged : goal.returns-in-Err-clause-damaged
 returns-in-Err-clause-damaged g c = λ p e. λ v told.
-    let same : c.from.result ≡ Damaged p = cc in
-    let d = c.in-Err.ensures.damaged p (ap (λ (f : ReservoirFault). Err f) (walk_damaged c.in-Err.fault p (sym c.from.ensures ∙ same))) in
+    let same : c.walk_fault.result ≡ Damaged p = cc in
+    let d = c.in-Err.ensures.damaged p (ap (λ (f : ReservoirFault). Err f) (walk_damaged c.in-Err.fault p (sym c.walk_fault.ensures ∙ same))) in
     summed_damage (v 2) c.frames.walk c.frames.summary (c.frames.invariant.summed v told) (d.1 v (c.frames.invariant.leaves.leaves.now_stays ∙ told)) ∙ ap (λ (n : ℕ). Some n) (sym d.0)
 
 pub frames-preserved-in-Ok-Some : goal.frames-preserved-in-Ok-Some

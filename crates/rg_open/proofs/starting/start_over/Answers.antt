@@ -22,6 +22,15 @@ resume-requires-clause-ready g c = (c.requires.start.none, c.requires.start.goin
 pub resume-requires-clause-empty : goal.resume-requires-clause-empty
 resume-requires-clause-empty g c = c.requires.start.empty
 
+pub engine_fault-requires : goal.engine_fault-requires
+engine_fault-requires g c =
+    let runs : (base c.args.past.now.reservoir.now).ended ≡ true → ⊥ = λ e. (let x = sym e ∙ c.requires.start.going in cc) in
+    record {
+      full = λ is. c.in-Err.ensures.cause past.Full is;
+      over = λ is. runs (c.in-Err.ensures.cause past.Ended is);
+      ended = c.in-Err.ensures.not_ended;
+    }
+
 pub returns-in-Ok-clause-started : goal.returns-in-Ok-clause-started
 returns-in-Ok-clause-started g c =
     let given = c.args.plan.now in
@@ -115,17 +124,17 @@ returns-in-Err-clause-refused g c =
     let tasks_are = to.task ∙ c.requires.start.read.task in
     let tells = g.T.Table.tells c.args.table in
     record {
-      disk = λ is. c.in-Err.ensures.cause past.Disk (disk_by fault (sym c.from.ensures ∙ is));
-      damaged = λ n is. c.in-Err.ensures.cause (past.Damaged n) (damaged_by fault n (sym c.from.ensures ∙ is));
-      undamaged = λ n sound is. c.in-Err.ensures.never_damaged n sound runs (damaged_by fault n (sym c.from.ensures ∙ is));
-      same_schema = λ is. never_differs fault (sym c.from.ensures ∙ is);
+      disk = λ is. c.in-Err.ensures.cause past.Disk (disk_by fault (sym c.engine_fault.ensures ∙ is));
+      damaged = λ n is. c.in-Err.ensures.cause (past.Damaged n) (damaged_by fault n (sym c.engine_fault.ensures ∙ is));
+      undamaged = λ n sound is. c.in-Err.ensures.never_damaged n sound runs (damaged_by fault n (sym c.engine_fault.ensures ∙ is));
+      same_schema = λ is. never_differs fault (sym c.engine_fault.ensures ∙ is);
       bad = λ n log told is.
-          let blame = c.in-Err.ensures.bad n (can_stand plan now may r log to.none c.args.task tasks_are tells c.requires.start.read.legal told) runs (bad_by fault n (sym c.from.ensures ∙ is)) in
+          let blame = c.in-Err.ensures.bad n (can_stand plan now may r log to.none c.args.task tasks_are tells c.requires.start.read.legal told) runs (bad_by fault n (sym c.engine_fault.ensures ∙ is)) in
           amiss_by plan now may r log given.queries c.fields.result.now c.args.task c.args.saved n blame.0 blame.1 c.requires.start.read.printed c.fields.ensures.columns tasks_are blame.2 blame.3;
       never_bad = λ n found told is.
           c.in-Err.ensures.never_bad n (can_stand plan now may r found.reservoir found.empty c.args.task tasks_are tells c.requires.start.read.legal told) runs
-          (are_truthful plan now may r c.args.saved found c.args.task tasks_are given.queries c.requires.start.read.printed (g.met.H.Host.now_may p.host.now) c.requires.start.read.said) (bad_by fault n (sym c.from.ensures ∙ is));
-      table_disk = λ is. c.in-Err.ensures.disk (table_by fault (sym c.from.ensures ∙ is));
+          (are_truthful plan now may r c.args.saved found c.args.task tasks_are given.queries c.requires.start.read.printed (g.met.H.Host.now_may p.host.now) c.requires.start.read.said) (bad_by fault n (sym c.engine_fault.ensures ∙ is));
+      table_disk = λ is. c.in-Err.ensures.disk (table_by fault (sym c.engine_fault.ensures ∙ is));
       table_kept = c.in-Err.ensures.back;
     }
 

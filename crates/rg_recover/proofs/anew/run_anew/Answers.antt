@@ -16,9 +16,8 @@ pub returns-in-Err-run-clause-fault : goal.returns-in-Err-run-clause-fault
 returns-in-Err-run-clause-fault g c =
     let host_is : c.in-Ok.host ≡ new_host = c.in-Ok.ensures.begun ∙ (λ i. begun (c.new.ensures i) (c.new-2.ensures.items i)) in
     let ready = ready_new (planned c.args.plan.now) c.in-Ok.host c.requires.schema host_is in
-    let told = ap (λ (s : Supply). Some s.left) c.new-source.ensures in
     may_meet c.in-Err-run.fault
-    (λ p is. c.in-Err-run.ensures.never_damaged ready c.args.input.items p told (ap (λ (f : RunFault). Err f) is))
-    (λ is. c.in-Err-run.ensures.never_differs ready (ap (λ (f : RunFault). Err f) is))
-    (λ n is. c.in-Err-run.ensures.never_bad ready c.args.input.items n told (ap (λ (f : RunFault). Err f) is))
+    (λ p is. c.in-Err-run.ensures.never_damaged ready.openable p (ap (λ (f : RunFault). Err f) is))
+    (λ is. c.in-Err-run.ensures.never_differs ready.openable (ap (λ (f : RunFault). Err f) is))
+    (λ n is. c.in-Err-run.ensures.never_bad ready.openable n (ap (λ (f : RunFault). Err f) is))
     (λ n is. let below = c.in-Err-run.ensures.gap n (ap (λ (f : RunFault). Err f) is) in absurd (omega (arith, below)))

@@ -22,7 +22,7 @@ use Rattle.rg_recover.proofs.Placed.{placed_again, placed_stored}
 use Rattle.rg_recover.proofs.Ready.{carries_on, ready_again, ready_stepped}
 use Rattle.rg_recover.proofs.Sound.{long, moved, within_events, within_count, may_follow, reaches_still}
 use Rattle.rg_recover.proofs.Stays.{slots_quiet, slots_then}
-use Rattle.rg_recover.proofs.Storing.{leaves_same, within_left, stored_left, roomy_then, same_stored, log_then, fits_after}
+use Rattle.rg_recover.proofs.Storing.{leaves_same, within_left, stored_left, asks_still, roomy_then, same_stored, log_then, fits_after}
 use Rattle.rg_recover.proofs.taking.take_in.Goals as goal
 
 pub make_room-requires : goal.make_room-requires
@@ -106,6 +106,7 @@ returns-in-Err-clause-takes g c =
       roomy = λ room.
           let same = c.make_room.ensures.room.untouched room in
           (leaves_same g.H.Host.now g.H.Host.may g.H.Host.clock g.H.Host.since g.H.Host.said g.met.H.Host.only_now g.met.H.Host.sinks h k same.1, ap (λ (x : Reservoir). base x) same.0);
+      legal = λ room asks. tt;
       fits = omega (arith, keeps.fewer, keeps.log.room, can.log.fits);
       within = subst (λ (n : ℕ). AreWithin e.spots n) (sym keeps.count) can.within;
       plan_stays = refl;
@@ -220,6 +221,7 @@ returns-in-Ok-take-clause-takes g c =
           within_left g.H.Host.now g.H.Host.may g.H.Host.clock g.H.Host.since g.H.Host.said (store_of plan) keep (opened r) (stored (g.H.Host.now h) (base r)) (stored (g.H.Host.now k) (base m)) h k n (done.step plan keep log) goes.leaves
           (stores.within plan keep log);
       roomy = λ room. roomy_then g.H.Host.now g.H.Host.may g.H.Host.clock g.H.Host.since g.H.Host.said r m s h k n (room_made.untouched room) goes.leaves goes.base;
+      legal = λ room asks. c.in-Ok-take.ensures.legal asks.edge asks.spot asks.stands (asks_still g.H.Host.now h k r m asks.spot (room_made.untouched room) asks.asks);
       fits = fits_after (g.H.Host.now k) (g.H.Host.now n) m s c.args.event goes.base goes.room has_room (inr c.in-Ok-take.ensures.appends);
       within = within_count (g.H.Host.now n) s c.take.new.self.spots c.take.ensures.edges.within;
       plan_stays = c.take.ensures.plan;
@@ -332,6 +334,7 @@ returns-in-Err-take-clause-takes g c =
           within_left g.H.Host.now g.H.Host.may g.H.Host.clock g.H.Host.since g.H.Host.said (store_of plan) keep (opened r) (stored (g.H.Host.now h) (base r)) (stored (g.H.Host.now k) (base m)) h k n (done.step plan keep log) goes.leaves
           (stores.within plan keep log);
       roomy = λ room. roomy_then g.H.Host.now g.H.Host.may g.H.Host.clock g.H.Host.since g.H.Host.said r m s h k n (room_made.untouched room) goes.leaves goes.base;
+      legal = λ room asks. tt;
       fits = fits_after (g.H.Host.now k) (g.H.Host.now n) m s c.args.event goes.base goes.room has_room c.in-Err-take.ensures.appends;
       within = within_count (g.H.Host.now n) s c.take.new.self.spots c.take.ensures.edges.within;
       plan_stays = c.take.ensures.plan;

@@ -21,8 +21,8 @@ returns-in-Err-clause-ran g c = λ ready all left. (
 )
 
 pub returns-in-Err-clause-behind : goal.returns-in-Err-clause-behind
-returns-in-Err-clause-behind g c = λ ready keep behind.
-    (refl, none_within g.H.Host.may g.H.Host.clock g.H.Host.since g.H.Host.said g.met.H.Host.only_now g.met.H.Host.sinks (planned c.args.plan.now) keep ready.openable.image c.args.host.now, tt)
+returns-in-Err-clause-behind g c = λ store keep behind.
+    (refl, none_within g.H.Host.may g.H.Host.clock g.H.Host.since g.H.Host.said g.met.H.Host.only_now g.met.H.Host.sinks (planned c.args.plan.now) keep store.openable.image c.args.host.now, tt)
 
 pub returns-in-Err-clause-unfit : goal.returns-in-Err-clause-unfit
 returns-in-Err-clause-unfit g c = λ v told unfit.

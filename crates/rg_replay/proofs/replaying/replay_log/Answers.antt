@@ -72,12 +72,17 @@ returns-in-Ok-None-clause-ends g c = record {
 
 -- where the log is refused
 
+pub reservoir_fault-requires : goal.reservoir_fault-requires
+reservoir_fault-requires g c =
+    let never = c.in-Err.ensures.neither in
+    record { full = λ is. never.0 (ap Err is); ended = λ is. never.1 (ap Err is) }
+
 pub returns-in-Err-clause-answered : goal.returns-in-Err-clause-answered
 returns-in-Err-clause-answered g c = λ queries events is.
     let refused = c.in-Err.ensures in
     let why = log_expected c.in-Err.fault (λ p e. refused.legal is.image events p is.told is.has (ap Err e)) (λ e. refused.legal_ours is.image events is.told is.has (ap Err e)) in
-    let none = none_put (replay_text queries c.args.first events) (Puts g.H.Host.said g.H.Host.clock g.H.Host.since c.args.host.now c.view.new.host) c.from.result (puts_nothing g.H.Host.now g.H.Host.may g.H.Host.clock g.H.Host.since g.H.Host.said _ _ c.view.ensures.leaves) in
-    (rw (← c.from.ensures) at why, none)
+    let none = none_put (replay_text queries c.args.first events) (Puts g.H.Host.said g.H.Host.clock g.H.Host.since c.args.host.now c.view.new.host) c.reservoir_fault.result (puts_nothing g.H.Host.now g.H.Host.may g.H.Host.clock g.H.Host.since g.H.Host.said _ _ c.view.ensures.leaves) in
+    (rw (← c.reservoir_fault.ensures) at why, none)
 
 pub returns-in-Err-clause-refused : goal.returns-in-Err-clause-refused
 returns-in-Err-clause-refused g c = λ v told why. (tt, puts_nothing g.H.Host.now g.H.Host.may g.H.Host.clock g.H.Host.since g.H.Host.said _ _ c.view.ensures.leaves)
@@ -89,10 +94,10 @@ returns-in-Err-clause-ends g c = record {
       let refused = c.in-Err.ensures in
       let f = c.in-Err.fault in
       record {
-        disk = λ is. refused.disk (ap Err (log_disk f (sym c.from.ensures ∙ is)));
-        damaged = λ p is. inl (refused.damaged p (ap Err (log_damaged f p (sym c.from.ensures ∙ is))));
-        write = λ is. absurd (log_not_write f (sym c.from.ensures ∙ is));
-        differs = λ is. refused.differs (ap Err (log_differs f (sym c.from.ensures ∙ is)));
+        disk = λ is. refused.disk (ap Err (log_disk f (sym c.reservoir_fault.ensures ∙ is)));
+        damaged = λ p is. inl (refused.damaged p (ap Err (log_damaged f p (sym c.reservoir_fault.ensures ∙ is))));
+        write = λ is. absurd (log_not_write f (sym c.reservoir_fault.ensures ∙ is));
+        differs = λ is. refused.differs (ap Err (log_differs f (sym c.reservoir_fault.ensures ∙ is)));
       };
 }
 

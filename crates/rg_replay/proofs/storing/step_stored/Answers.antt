@@ -1,4 +1,7 @@
-use Rattle.std.proofs.Common.{rules, ◌∙◌, ◌≤◌, length, arith, refl, ap, subst, Err, MatchOption}
+use Rattle.std.proofs.Common.{rules, ◌≡◌, ◌∙◌, ◌≤◌, length, arith, refl, ap, subst, Err, MatchOption}
+use Rattle.rg_engine.specs.declared.fault.EngineFault.{EngineFault}
+use Rattle.rg_engine.specs.declared.fault.EngineFault.TheVariants as engine
+use Rattle.rg_past.specs.declared.past.PastFault.{PastFault}
 use Rattle.rg_past.specs.declared.past.PastFault.TheVariants as past
 use Rattle.rg_reservoir.specs.Chain.{IsIllegalBy}
 use Rattle.rg_reservoir.specs.Kept.{Base, base, view_of, opened, cache_of, all_events}
@@ -24,6 +27,18 @@ step-requires-clause-within g c =
     let need = within_front (g.H.Host.now c.args.host.now) c.args.reservoir.now c.args.spot.now.number c.args.engine.now.spots c.requires.placed.number c.requires.placed.within in
     rw (c.new-past.ensures.past, c.new-past.ensures.shown, c.new.ensures.reservoir, c.new.ensures.host) need
 
+pub engine_fault-requires : goal.engine_fault-requires
+engine_fault-requires g c =
+    let refused = c.in-Err.ensures in
+    let cause = rw (c.new-past.ensures.past, c.new.ensures.reservoir, c.new.ensures.host) at refused.cause in
+    let past_as = λ (f : PastFault) (is : c.in-Err.fault ≡ engine.Past f). cause f (ap (λ (e : EngineFault). Err e) is) in
+    record {
+      full = λ is. past_as past.Full is;
+      over = λ is. let ended = past_as past.Ended is in let runs = c.requires.placed.runs in absurd cc;
+      ended = λ is. let ended = refused.ended (ap (λ (e : EngineFault). Err e) is) in let going = c.requires.placed.going in absurd cc;
+      table = λ is. let rose = refused.table (ap (λ (e : EngineFault). Err e) is) in omega (arith, rose);
+    }
+
 pub returns-in-Ok-clause-came : goal.returns-in-Ok-clause-came
 returns-in-Ok-clause-came g c = λ queries events is.
     let went = rw (c.new-past.ensures.past, c.new-past.ensures.shown, c.new.ensures.reservoir, c.new.ensures.host) at c.in-Ok.ensures.came in
@@ -42,7 +57,7 @@ pub returns-in-Err-clause-came : goal.returns-in-Err-clause-came
 returns-in-Err-clause-came g c = λ queries events is.
     let went = rw (c.new-past.ensures.past, c.new-past.ensures.shown, c.new.ensures.reservoir, c.new.ensures.host) at c.in-Err.ensures.outside in
     let e = c.args.engine.now in
-    rw (← c.from.ensures) at (outside_by c.in-Err.fault (went queries (on_list queries events (g.H.Host.now c.args.host.now) (g.H.Host.may c.args.host.now) (rows.tells e.table) (rows.cell e.table) c.args.reservoir.now e c.args.spot.now is)))
+    rw (← c.engine_fault.ensures) at (outside_by c.in-Err.fault (went queries (on_list queries events (g.H.Host.now c.args.host.now) (g.H.Host.may c.args.host.now) (rows.tells e.table) (rows.cell e.table) c.args.reservoir.now e c.args.spot.now is)))
 
 pub returns-in-Ok-clause-placed : goal.returns-in-Ok-clause-placed
 returns-in-Ok-clause-placed g c =
@@ -72,6 +87,6 @@ returns-in-Err-clause-cause g c =
     let r = c.args.reservoir.now in
     let cause = rw (c.new-past.ensures.past, c.new.ensures.reservoir, c.new.ensures.host) at c.in-Err.ensures.cause in
     let goes = rw (c.new-past.ensures.past) at c.step.ensures.goes in
-    moved (λ (h : g.row.H.Denot) (f : ReplayFault). IsCaused g.H.Host.now g.H.Host.disk_faults g.H.Host.out_faults (base r) f old h) new _ (of_engine c.in-Err.fault) _ (search rules) c.from.ensures
+    moved (λ (h : g.row.H.Denot) (f : ReplayFault). IsCaused g.H.Host.now g.H.Host.disk_faults g.H.Host.out_faults (base r) f old h) new _ (of_engine c.in-Err.fault) _ (search rules) c.engine_fault.ensures
     (step_caused g.H.Host.now g.H.Host.disk_faults g.H.Host.out_faults (base r) c.in-Err.fault old new (λ is. cause past.Disk (ap Err is)) (λ p is v told.
     subst (λ (b : Base). IsIllegalBy (view_of b) p (v b.file)) (goes.base ∙ ap base c.new.ensures.reservoir) (cause (past.Damaged p) (ap Err is) v (goes.leaves.now_stays ∙ ap g.H.Host.now c.new.ensures.host ∙ told))))

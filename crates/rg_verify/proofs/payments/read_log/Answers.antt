@@ -27,12 +27,17 @@ returns-in-Err-clause-leaves g c = read-then g.H.Host.now g.H.Host.may g.H.Host.
 pub returns-in-Err-push_stage-clause-leaves : goal.returns-in-Err-push_stage-clause-leaves
 returns-in-Err-push_stage-clause-leaves g c = read-then g.H.Host.now g.H.Host.may g.H.Host.clock g.H.Host.since g.H.Host.said g.H.Host.disk_faults g.H.Host.out_faults _ _ _ c.frames.invariant.leaves (record { leaves = c.next.ensures.leaves; disk_faults = c.next.ensures.disk_faults; out_faults = c.next.ensures.out_faults })
 
+pub walk_fault-requires : goal.walk_fault-requires
+walk_fault-requires g c =
+    let never = c.in-Err.ensures.neither in
+    record { differs = λ is. never.0 (ap (λ (f : ReservoirFault). Err f) is); full = λ is. never.1 (ap (λ (f : ReservoirFault). Err f) is); ended = λ is. never.2 (ap (λ (f : ReservoirFault). Err f) is) }
+
 pub returns-in-Err-clause-cause : goal.returns-in-Err-clause-cause
 returns-in-Err-clause-cause g c =
     let left = c.frames.invariant.leaves in
     let never = c.in-Err.ensures.neither in
     let damage = IsFirstDamage (g.H.Host.now c.args.host.now) in
-    subst (IsUnjudged damage ⊥ (g.H.Host.disk_faults c.args.host.now) (g.H.Host.disk_faults c.next.new.host)) (sym c.from.ensures)
+    subst (IsUnjudged damage ⊥ (g.H.Host.disk_faults c.args.host.now) (g.H.Host.disk_faults c.next.new.host)) (sym c.walk_fault.ensures)
     (unjudged-log damage ⊥ _ _ c.in-Err.fault
     (λ is. let rose = c.in-Err.ensures.disk (ap (λ (f : ReservoirFault). Err f) is) in omega (arith, left.disk_faults, rose))
     (λ p is. λ v told.

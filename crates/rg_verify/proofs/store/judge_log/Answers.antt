@@ -3,7 +3,7 @@ use Rattle.std.proofs.lemmas.Result.{IfOk-weaker, IfErr-weaker}
 use Rattle.rg_event.specs.declared.event.Event.{Event}
 use Rattle.rg_row_audit.specs.Rows.{AreServed}
 use Rattle.rg_dump.proofs.Laws.{read-then}
-use Rattle.rg_verify.specs.Causes.{IsOfOther}
+use Rattle.rg_verify.specs.Causes.{IsFirstDamage, IsOfOther}
 use Rattle.rg_verify.specs.Fitting.{terms_of}
 use Rattle.rg_verify.specs.Payments.{extended_by}
 use Rattle.rg_verify.specs.Verify.{IsVerified}
@@ -31,4 +31,4 @@ returns-clause-leaves g c = read-then g.H.Host.now g.H.Host.may g.H.Host.clock g
 pub returns-clause-cause : goal.returns-clause-cause
 returns-clause-cause g c =
     IfErr-weaker c.judge_read.result _ _
-    (λ fault why. unjudged-within (λ _. ⊥) (λ _. ⊥) (IsOfOther c.args.schema.now c.args.defaults.now (g.H.Host.now c.args.host.now)) ⊥ _ _ _ fault c.find.ensures.leaves.disk_faults (λ place no. no) (λ no. absurd no) why) c.judge_read.ensures.cause
+    (λ fault why. unjudged-within (IsFirstDamage (g.H.Host.now c.args.host.now)) (λ _. ⊥) (IsOfOther c.args.schema.now c.args.defaults.now (g.H.Host.now c.args.host.now)) ⊥ _ _ _ fault c.find.ensures.leaves.disk_faults (λ place no. absurd no) (λ no. absurd no) why) c.judge_read.ensures.cause

@@ -30,9 +30,12 @@ pub returns-in-Ok-clause-cause : goal.returns-in-Ok-clause-cause
 returns-in-Ok-clause-cause g c =
     IfErr-weaker c.judge_both.result _ _ (λ fault why. unjudged-within (λ _. ⊥) (λ _. ⊥) ⊥ ⊥ _ _ _ fault c.attach.ensures.disk_faults (λ place no. no) (λ no. no) why) c.judge_both.ensures.cause
 
+pub slots_fault-requires : goal.slots_fault-requires
+slots_fault-requires g c = record { ended = λ is. c.in-Err.ensures.no_ended (ap (λ (f : SlotFault). Err f) is) }
+
 pub returns-in-Err-clause-cause : goal.returns-in-Err-clause-cause
 returns-in-Err-clause-cause g c =
-    subst (IsUnjudged (λ _. ⊥) ⊥ (g.H.Host.disk_faults c.args.host.now) (g.H.Host.disk_faults c.attach.new.host)) (sym c.from.ensures)
+    subst (IsUnjudged (λ _. ⊥) ⊥ (g.H.Host.disk_faults c.args.host.now) (g.H.Host.disk_faults c.attach.new.host)) (sym c.slots_fault.ensures)
     (unjudged-slot (λ _. ⊥) ⊥ _ _ c.in-Err.fault (λ is. c.in-Err.ensures.disk (ap (λ (f : SlotFault). Err f) is)))
 
 pub returns-in-Err-clause-leaves : goal.returns-in-Err-clause-leaves

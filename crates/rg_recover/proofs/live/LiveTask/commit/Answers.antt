@@ -12,6 +12,7 @@ use Rattle.rg_open.specs.Blame.{NodeRuns, IsPlaced}
 use Rattle.rg_reservoir.specs.Kept.{opened, room_of}
 use Rattle.rg_recover.specs.Sessions.{Sitting, IsRunning}
 use Rattle.rg_recover.specs.Living.{IsIllegalIn}
+use Rattle.rg_recover.specs.Taking.{AsksIllegalChunk}
 use Rattle.rg_recover.specs.declared.fault.TaskFault.{TaskFault as SessionFault}
 use Rattle.rg_recover.proofs.live.LiveTask.commit.Goals as goal
 
@@ -26,9 +27,7 @@ returns-in-Err-clause-within_step g c = λ plan keep runs.
     record { moments = record { later = w.moments.later; each = w.moments.each; nothing_else = w.moments.nothing_else; keeps = w.moments.keeps; adds = w.moments.adds }; left = w.left; said_stays = w.said_stays }
 
 pub returns-in-Ok-clause-stored : goal.returns-in-Ok-clause-stored
-returns-in-Ok-clause-stored g c = λ plan keep runs.
-    let d = c.in-Ok.ensures.stored plan keep runs in
-    record { more = d.more; whole = d.whole; grown = d.grown; left = d.left }
+returns-in-Ok-clause-stored g c = λ plan keep runs. c.in-Ok.ensures.stored plan keep runs
 
 pub returns-in-Ok-clause-events : goal.returns-in-Ok-clause-events
 returns-in-Ok-clause-events g c = λ plan runs. c.in-Ok.ensures.events plan runs
@@ -149,6 +148,7 @@ returns-in-Err-clause-memory g c = λ is.
         placed = λ plan r. subst (λ h. IsPlaced plan (g.H.Host.now h) (g.H.Host.may h) new.reservoir new.engine) (sym stays.1)
             (subst (λ s. IsPlaced plan (g.H.Host.now old) (g.H.Host.may old) s.reservoir s.engine) (sym stays.0) r);
         illegal = λ place r. subst (λ h. IsIllegalIn (g.H.Host.now h) new place) (sym stays.1) (subst (λ s. IsIllegalIn (g.H.Host.now old) s place) (sym stays.0) r);
+        asks_illegal = λ r. subst (λ h. AsksIllegalChunk (g.H.Host.now h) new.reservoir new.engine.spots) (sym stays.1) (subst (λ (s : Sitting g.row.T.Denot). AsksIllegalChunk (g.H.Host.now old) s.reservoir s.engine.spots) (sym stays.0) r);
         goes = ((refl, refl, refl), c.commit.ensures.log);
       },
       (let q = subst (λ h. LeavesAll g.H.Host.now g.H.Host.may g.H.Host.clock g.H.Host.since g.H.Host.said old h) (sym stays.1)

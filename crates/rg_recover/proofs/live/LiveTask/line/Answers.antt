@@ -32,9 +32,7 @@ returns-in-Err-clause-within_step g c = λ plan keep runs.
     record { moments = record { later = w.moments.later; each = w.moments.each; nothing_else = w.moments.nothing_else; keeps = w.moments.keeps; adds = w.moments.adds }; left = w.left; said_stays = w.said_stays }
 
 pub returns-in-Ok-clause-stored : goal.returns-in-Ok-clause-stored
-returns-in-Ok-clause-stored g c = λ plan keep runs.
-    let d = c.in-Ok.ensures.stored plan keep runs in
-    record { more = d.more; whole = d.whole; grown = d.grown; left = d.left }
+returns-in-Ok-clause-stored g c = λ plan keep runs. c.in-Ok.ensures.stored plan keep runs
 
 pub returns-in-Err-clause-never_bad : goal.returns-in-Err-clause-never_bad
 returns-in-Err-clause-never_bad g c = λ plan n runs is. c.line.ensures.never_bad plan n runs (c.in-Err.is ∙ ap (λ v. Err v) (bad_by c.in-Err.fault n (sym c.task_fault.ensures ∙ same_fault _ _ is)))
@@ -63,6 +61,12 @@ pub returns-in-Err-clause-roomy : goal.returns-in-Err-clause-roomy
 returns-in-Err-clause-roomy g c = λ room.
     let q = c.line.ensures.roomy room in
     (record { now_stays = q.0.now_stays; may_stays = q.0.may_stays; said_stays = q.0.said_stays; moments = record { later = q.0.moments.later; each = q.0.moments.each; nothing_else = q.0.moments.nothing_else; keeps = q.0.moments.keeps; adds = q.0.moments.adds } }, ap (λ (o : Option Image). stored o (base c.line.new.self.reservoir)) q.0.now_stays ∙ ap (λ (b : Base). stored (g.H.Host.now c.args.self.now.host.now) b) q.1)
+
+pub returns-in-Ok-clause-legal : goal.returns-in-Ok-clause-legal
+returns-in-Ok-clause-legal g c = λ room asks.
+    let q = c.in-Ok.ensures.legal room asks in
+    let old = c.args.self.now.host.now in
+    (q.0, ap (λ h. state_of (g.H.Host.now h) c.line.new.self) q.2 ∙ ap (λ s. state_of (g.H.Host.now old) s) q.1)
 
 pub returns-in-Ok-clause-keep : goal.returns-in-Ok-clause-keep
 returns-in-Ok-clause-keep g c = c.line.ensures.stays.1

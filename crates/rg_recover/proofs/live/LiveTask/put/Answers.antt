@@ -2,6 +2,7 @@ use Rattle.std.proofs.Common.{Option, refl, sym, ap, subst}
 use Rattle.std.proofs.lemmas.Result.{on_ok_weaker}
 use Rattle.rg_host.specs.Image.{Image}
 use Rattle.rg_recover.specs.Living.{state_of, IsIllegalIn}
+use Rattle.rg_recover.specs.Taking.{AsksIllegalChunk}
 use Rattle.rg_recover.proofs.NodesStill.{node_still, placed_still}
 use Rattle.rg_recover.proofs.Still.{running_still}
 use Rattle.rg_recover.proofs.live.LiveTask.put.Goals as goal
@@ -32,5 +33,6 @@ returns-clause-keeps g c =
       node = λ plan n is. node_still g.H.Host.now g.H.Host.may g.H.Host.clock g.H.Host.since plan n (g.T.Table.tells s.engine.table) (g.T.Table.cell s.engine.table) s.reservoir s.engine old new l is;
       placed = λ plan is. placed_still g.H.Host.now g.H.Host.may g.H.Host.clock g.H.Host.since plan s.reservoir s.engine old new l is;
       illegal = λ place is. subst (λ (o : Option Image). IsIllegalIn o s place) (sym l.now_stays) is;
+      asks_illegal = λ is. subst (λ (o : Option Image). AsksIllegalChunk o s.reservoir s.engine.spots) (sym l.now_stays) is;
       goes = ((refl, refl, refl), (refl, refl));
     }

@@ -22,9 +22,7 @@ returns-in-Err-clause-within_step g c = λ plan runs.
     record { moments = record { later = w.moments.later; each = w.moments.each; nothing_else = w.moments.nothing_else; keeps = w.moments.keeps; adds = w.moments.adds }; left = w.left; said_stays = w.said_stays }
 
 pub returns-in-Ok-clause-stored : goal.returns-in-Ok-clause-stored
-returns-in-Ok-clause-stored g c = λ plan runs.
-    let d = c.in-Ok.ensures.stored plan runs in
-    record { more = d.more; whole = d.whole; grown = d.grown; left = d.left }
+returns-in-Ok-clause-stored g c = λ plan runs. c.in-Ok.ensures.stored plan runs
 
 pub returns-in-Ok-clause-events : goal.returns-in-Ok-clause-events
 returns-in-Ok-clause-events g c = λ plan runs. c.in-Ok.ensures.events plan runs

@@ -126,6 +126,14 @@ returns-in-Err-take_in-clause-undamaged g c = rw (← c.self.view_is) (λ plan p
 pub returns-in-Ok-clause-refused : goal.returns-in-Ok-clause-refused
 returns-in-Ok-clause-refused g c = inl (has_answers c.in-Ok-Accepted.is_moved c.in-Ok.answers c.reply_with.result c.reply_with.ensures)
 
+pub returns-in-Ok-Refused-clause-legal : goal.returns-in-Ok-Refused-clause-legal
+returns-in-Ok-Refused-clause-legal g c =
+    let refuses = rw c.in-Ok-Refused.field-0-is at c.in-Ok-Refused.ensures.accepts in
+    λ room asks. (refuses, refl, refl)
+
+pub returns-in-Ok-clause-legal : goal.returns-in-Ok-clause-legal
+returns-in-Ok-clause-legal g c = rw (← c.self.view_is) (λ room asks. absurd (c.in-Ok.ensures.takes.legal room asks))
+
 pub returns-in-Ok-clause-roomy : goal.returns-in-Ok-clause-roomy
 returns-in-Ok-clause-roomy g c = rw (← c.self.view_is) c.take_in.ensures.takes.roomy
 

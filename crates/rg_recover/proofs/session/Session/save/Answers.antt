@@ -15,7 +15,7 @@ use Rattle.rg_open.specs.Stores.{store_of}
 use Rattle.rg_recover.specs.Saving.{IsSaved, SavesByRule}
 use Rattle.rg_recover.specs.Sessions.{Sitting, count_in, stored_of}
 use Rattle.rg_recover.specs.Sparing.{IsSpared}
-use Rattle.rg_recover.specs.Stepping.{IsWithinStep}
+use Rattle.rg_task.specs.Stepping.{IsWithinStep}
 use Rattle.rg_recover.proofs.Beside.{stored_beside}
 use Rattle.rg_recover.proofs.Choosing.{at_ok, exact_of, on_err_of, on_ok_of, rule_from, rule_of}
 use Rattle.rg_recover.proofs.Nodes.{node_beside}

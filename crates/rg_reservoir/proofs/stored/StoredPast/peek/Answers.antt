@@ -20,6 +20,9 @@ seek-requires g c = omega (arith, c.requires, all_long (g.H.Host.now c.args.self
 pub at-requires-clause-number : goal.at-requires-clause-number
 at-requires-clause-number g c = omega (arith, c.requires, c.seek.ensures.sought.number, all_long (g.H.Host.now c.args.self.now.host.now) (base c.args.self.now.reservoir.now) c.args.self.now.reservoir.now.open.events, ap (λ (b : Base). b.committed) c.seek.ensures.only.stays.base, ap length c.seek.ensures.only.stays.opened)
 
+pub past_fault-requires : goal.past_fault-requires
+past_fault-requires g c = (look_fault c.in-Err.fault c.in-Err.ensures.stops.faults).0
+
 pub returns-in-Err : goal.returns-in-Err
 returns-in-Err g c =
     let stays = c.seek.ensures.only.stays in
@@ -38,8 +41,8 @@ returns-in-Err g c =
           goes.sound,
           λ room. omega (arith, room, ap length stays.opened, stays.room),
           c.seek.ensures.only.disk_faults_rise,
-          λ e. c.in-Err.ensures.stops.disk (ap (λ (f : ReservoirFault). Err f) (past_disk c.in-Err.fault c.from.result c.from.ensures (err_is c.from.result past.Disk e))),
-          λ p e. illegal_stays (g.H.Host.now c.args.self.now.host.now) (g.H.Host.now c.seek.new.host) c.args.self.now.reservoir.now c.seek.new.self p same stays (c.in-Err.ensures.stops.damaged p (ap (λ (f : ReservoirFault). Err f) (past_damaged c.in-Err.fault c.from.result p c.from.ensures (look_fault c.in-Err.fault c.in-Err.ensures.stops.faults).0 (err_is c.from.result (past.Damaged p) e)))),
+          λ e. c.in-Err.ensures.stops.disk (ap (λ (f : ReservoirFault). Err f) (past_disk c.in-Err.fault c.past_fault.result c.past_fault.ensures (err_is c.past_fault.result past.Disk e))),
+          λ p e. illegal_stays (g.H.Host.now c.args.self.now.host.now) (g.H.Host.now c.seek.new.host) c.args.self.now.reservoir.now c.seek.new.self p same stays (c.in-Err.ensures.stops.damaged p (ap (λ (f : ReservoirFault). Err f) (past_damaged c.in-Err.fault c.past_fault.result p c.past_fault.ensures (look_fault c.in-Err.fault c.in-Err.ensures.stops.faults).0 (err_is c.past_fault.result (past.Damaged p) e)))),
           λ sound spells. (spells_stay (g.H.Host.now c.args.self.now.host.now) (g.H.Host.now c.seek.new.host) c.args.self.now.reservoir.now c.seek.new.self c.seek.new.spot same stays (spelled sound spells), tt),
           record { stays = stays; cached = c.seek.ensures.only.cached; inside = c.seek.ensures.only.inside; touched = c.seek.ensures.loads.touched; loaded = λ answered. absurd answered.2 },
           record {
@@ -55,14 +58,14 @@ returns-in-Err g c =
         within = tt;
         event = λ _ _. tt;
         ended = (
-          λ e. c.in-Err.ensures.stops.ended.0 (ap (λ (f : ReservoirFault). Err f) (past_ended c.in-Err.fault c.from.result c.from.ensures (err_is c.from.result past.Ended e))),
-          λ e. ap (λ (f : PastFault). Err f) (c.from.ensures ∙ ap to_past (err_is c.in-Err.fault Ended (c.in-Err.ensures.stops.ended.1 e))),
+          λ e. c.in-Err.ensures.stops.ended.0 (ap (λ (f : ReservoirFault). Err f) (past_ended c.in-Err.fault c.past_fault.result c.past_fault.ensures (err_is c.past_fault.result past.Ended e))),
+          λ e. ap (λ (f : PastFault). Err f) (c.past_fault.ensures ∙ ap to_past (err_is c.in-Err.fault Ended (c.in-Err.ensures.stops.ended.1 e))),
         );
-        never_damaged = λ p sound spells e. c.in-Err.ensures.stops.never_damaged p sound spells.there (ap (λ (f : ReservoirFault). Err f) (past_damaged c.in-Err.fault c.from.result p c.from.ensures (look_fault c.in-Err.fault c.in-Err.ensures.stops.faults).0 (err_is c.from.result (past.Damaged p) e)));
+        never_damaged = λ p sound spells e. c.in-Err.ensures.stops.never_damaged p sound spells.there (ap (λ (f : ReservoirFault). Err f) (past_damaged c.in-Err.fault c.past_fault.result p c.past_fault.ensures (look_fault c.in-Err.fault c.in-Err.ensures.stops.faults).0 (err_is c.past_fault.result (past.Damaged p) e)));
         legal = λ _. tt;
         reached = λ _. tt;
         whole = λ _. tt;
-        no_full = λ e. (look_fault c.in-Err.fault c.in-Err.ensures.stops.faults).1 (past_full c.in-Err.fault c.from.result c.from.ensures (err_is c.from.result past.Full e));
+        no_full = λ e. (look_fault c.in-Err.fault c.in-Err.ensures.stops.faults).1 (past_full c.in-Err.fault c.past_fault.result c.past_fault.ensures (err_is c.past_fault.result past.Full e));
       },
     )
 

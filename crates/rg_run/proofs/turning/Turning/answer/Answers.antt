@@ -16,7 +16,7 @@ use Rattle.rg_run.proofs.Faulting.{task_of, write_of, memory_of, memory_write, o
 use Rattle.rg_run.proofs.Gathering.{mid_held}
 use Rattle.rg_run.proofs.Replied.{still_on_course, passed, passed_events, taken_moments, taken_held, mid_taken, then_awaits}
 use Rattle.rg_run.specs.Logs.{StaysHeld}
-use Rattle.rg_run.proofs.Idle.{idle_still, idle_due}
+use Rattle.rg_run.proofs.Idle.{idle_still, idle_due, still_due}
 use Rattle.rg_run.proofs.Logged.{no_files, files_of, files_join, files_held, log_held, held_then}
 use Rattle.rg_run.proofs.turning.Turning.answer.Goals as goal
 
@@ -440,3 +440,14 @@ returns-in-Err-tell-clause-idle g c = λ idle.
     files_join g.K.Task.view old c.settle.new.task c.stop-in-Err-tell.new.task
     (subst (λ (x : g.row.K.Denot). LeavesFiles g.K.Task.view.now g.K.Task.view.may g.K.Task.view.clock g.K.Task.view.since old x) (sym (c.settle.ensures.settles.idle none).0) before)
     c.stop-in-Err-tell.ensures.only.files
+
+-- where an edge comes to an illegal chunk
+
+pub returns-in-Ok-tell-clause-legal : goal.returns-in-Ok-tell-clause-legal
+returns-in-Ok-tell-clause-legal g c = λ room asks.
+    let mid = c.make_way.new.task in
+    let taken = c.line.new.self in
+    let keeps = c.make_way.ensures.only.keeps in
+    let same = (c.in-Ok-line.ensures.legal (keeps.roomy room) (keeps.asks_illegal asks)).1 in
+    let none = still_due g.K.Task.view mid taken _ _ c.due_at-due.result c.count-before.result c.count.result c.due_at-due.ensures c.count-before.ensures c.count.ensures same in
+    ap (λ (x : g.row.K.Denot). g.K.Task.view.at x) (c.reuse.ensures ∙ (c.settle.ensures.settles.idle none).0) ∙ same ∙ keeps.at_stays
